@@ -10,7 +10,7 @@ pub fn caret(alloc: Global, code: Code, line: &[u8]) -> Option<usize> {
     let places = token_places(alloc, line).ok()?;
     let token = match code {
         Code::A1 | Code::A2 => misfit_in(alloc, line).ok()??.token,
-        // A target is its line's last token, and behind the last place nothing begins.
+        // A target is its line's last token, and after the last place nothing begins.
         Code::A3 | Code::A5 => places.len().checked_sub(2)?,
         Code::A4 => 0,
         _ => return None,

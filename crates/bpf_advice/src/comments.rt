@@ -3,7 +3,7 @@
 use bpf_text::{TextError, assemble};
 use std::alloc::{AllocError, Global};
 
-/// Whether a text is an instruction, perhaps behind a label.
+/// Whether a text is an instruction, perhaps after a label.
 fn is_instruction(alloc: Global, text: &str) -> bool {
     match assemble(alloc, text) {
         Ok(insns) => !insns.is_empty(),

@@ -66,7 +66,7 @@ fn insns_of_program(alloc: Global, file: &str, line: usize) -> Option<Vec<Insn>>
     }
 }
 
-/// What stands between blanks in a line, to its comment.
+/// What is between blanks in a line, to its comment.
 pub fn fields(line: &str) -> SplitAsciiWhitespace<'_> {
     line.split(';')
         .next()

@@ -12,7 +12,7 @@ pub struct Expectation {
     pub text: String,
 }
 
-/// The forms of lines. Pieces stand between blanks: `NAME`, `N` and `HEX` are a name, a number and
+/// The forms of lines. Pieces are between blanks: `NAME`, `N` and `HEX` are a name, a number and
 /// hex digits, any other is itself. The last two are of version 2 alone.
 const FORMS: [&str; 12] = [
     "cpus N",
@@ -78,7 +78,7 @@ fn fitting(form: &str, words: &[&str]) -> usize {
     count
 }
 
-/// The piece of a form behind so many, empty at its end.
+/// The piece of a form after this many, empty at its end.
 fn piece_at(form: &'static str, count: usize) -> &'static str {
     form.split(' ').nth(count).unwrap_or("")
 }
@@ -131,7 +131,7 @@ fn listing(alloc: Global, pieces: &[&'static str]) -> Result<String, AllocError>
     Ok(text)
 }
 
-/// Why a line that has a form is refused where it stands.
+/// Why a line that has a form is refused where it is.
 fn order_of_lines(first: &str) -> &'static str {
     match first {
         "cpus" => "`cpus` stands once, right behind the first line",
@@ -143,7 +143,7 @@ fn order_of_lines(first: &str) -> &'static str {
     }
 }
 
-/// The line behind which a file of the debugger has commands.
+/// The line after which a file of the debugger has commands.
 const COMMANDS: &str = "behind `---` stand commands, which `ebpf debug` alone takes";
 
 /// What is said of a line that has no form there (L2).
@@ -171,7 +171,7 @@ fn of_form(
     }
 }
 
-/// The greatest number behind a word.
+/// The greatest number after a word.
 fn most_behind(word: &str) -> Option<u64> {
     match word {
         "cpus" | "key" | "value" | "max" | "spare" | "mask" => Some(0xffff_ffff),

@@ -2,7 +2,7 @@
 
 use bpf_codes::{Code, code_named};
 
-/// What a printed line tells.
+/// What a printed line says.
 #[derive(Clone, Copy)]
 pub enum Told {
     /// A refusal or a fault.
@@ -10,7 +10,7 @@ pub enum Told {
     OutOfBudget,
 }
 
-/// What a printed line tells, and where that is.
+/// What a printed line says, and where that is.
 #[derive(Clone, Copy)]
 pub struct Finding {
     pub told: Told,
@@ -22,7 +22,7 @@ pub struct Finding {
     pub job: Option<usize>,
 }
 
-/// What a number behind a code counts.
+/// What a number after a code counts.
 #[derive(Clone, Copy)]
 enum Counts {
     Lines,
@@ -70,7 +70,7 @@ impl Numbers {
     }
 }
 
-/// What a line tells that has this code, or none.
+/// What a line with this code says, or none.
 fn told_by(line: &str, code: Option<Code>) -> Option<Told> {
     match code {
         Some(code) => Some(Told::Coded(code)),
@@ -79,7 +79,7 @@ fn told_by(line: &str, code: Option<Code>) -> Option<Told> {
     }
 }
 
-/// The refusal, the fault or the end of a budget that a printed line tells of, if it does.
+/// The refusal, the fault or the end of a budget that a printed line reports, if it does.
 pub fn finding_in(text: &str) -> Option<Finding> {
     let mut numbers = Numbers {
         line: None,

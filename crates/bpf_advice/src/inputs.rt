@@ -6,7 +6,7 @@ use std::alloc::{AllocError, Global};
 const WORDS_OF_OBJECTS: &str =
     "`llvm-objcopy -O binary --only-section=.text FILE f.bin` takes words out of an object, and `xxd -p f.bin` makes hex digits of them";
 
-/// Whether a line has an address before its words, as objdump prints them, or tells of an object.
+/// Whether a line has an address before its words, as objdump prints them, or is about an object.
 pub fn is_objdump(line: &str) -> bool {
     match line.trim().split_once(':') {
         Some((address, words)) => {

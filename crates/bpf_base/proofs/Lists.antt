@@ -74,7 +74,7 @@ module _ {A : Type 0} where
       let front : xs ≡ bs = same.0 in
       (cc, same.1)
 
-  -- equal lists have the same fronts of one length, and the same behind them
+  -- equal lists have the same fronts of one length, and the same after them
   pub same_fronts : (xs ys rest more : List A) → length xs ≡ length ys → xs ++ rest ≡ ys ++ more → (xs ≡ ys) × (rest ≡ more)
   same_fronts [] [] rest more n e = (refl, e)
   same_fronts [] (y ∷ ys) rest more n e = absurd (omega arith)

@@ -28,7 +28,7 @@ module _ (list : List ℕ) (i : ℕ) (others : List ℕ) (h : i + length others 
       ap (λ n. drop n (take i list ++ (others ++ drop (i + length others) list))) (sym front) ∙ drop-append_seam (take i list) (others ++ drop (i + length others) list) in
       ap (λ xs. take (length others) (drop i xs)) regrouped ∙ ap (take (length others)) dropped ∙ take-append_seam others (drop (i + length others) list)
 
-  -- what stays before it, and behind it
+  -- what stays before it, and after it
   pub slice_get-before_part : (k : ℕ) → k < i → slice_get (with_part list i others) k ≡ slice_get list k
   slice_get-before_part k below =
       slice_get-front (take i list ++ others) (drop (i + length others) list) k (omega (arith, front, both))

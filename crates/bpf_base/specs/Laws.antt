@@ -9,7 +9,7 @@ NumbersReadBack =
     × ((bytes : List ℕ) → All (λ byte. byte < 256) bytes
     → low_bytes (length bytes) (little_endian bytes) ≡ bytes)
 
--- where bytes are replaced, the new ones stand there, and each other byte stays
+-- where bytes are replaced, the new ones are there, and each other byte stays
 abbrev pub OnePartIsReplaced : Type 0
 OnePartIsReplaced = (bytes : List ℕ) (i : ℕ) (others : List ℕ) → i + length others ≤ length bytes
     → (length (with_part bytes i others) ≡ length bytes)

@@ -8,7 +8,7 @@ pub fn numbers_read_back()
     ensures { NumbersReadBack }
 {}
 
-/// Where bytes are replaced, the new ones stand there, and each other byte stays.
+/// Where bytes are replaced, the new ones are there, and each other byte stays.
 pub fn one_part_is_replaced()
     ensures { OnePartIsReplaced }
 {}

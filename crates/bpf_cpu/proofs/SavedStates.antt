@@ -41,7 +41,7 @@ pc_told x y rest more h k e =
     let cut = same_fronts (low_bytes 4 x) (low_bytes 4 y) rest more (length-low_bytes 4 x ∙ sym (length-low_bytes 4 y)) e in
     (sym (little_endian-low_bytes 4 x h) ∙ (ap little_endian cut.0 ∙ little_endian-low_bytes 4 y k), cut.1)
 
--- ---- the parts, one behind the other
+-- ---- the parts, one after the other
 regroup : (a b c d e more : List ℕ) → (a ++ b ++ c ++ d ++ e) ++ more ≡ a ++ (b ++ (c ++ (d ++ (e ++ more))))
 regroup a b c d e more = simp append_assoc
 

@@ -52,7 +52,7 @@ PlainStepsAreDetermined =
     → PlainlyLegal s (map (entry c) others) u
     → (events ≡ others) × (end ≡ last) × (new ≡ other) × (t ≡ u)
 
--- what a state is saved as tells it, among those of one CPU whose contexts are equally long, and
+-- what a state is saved as determines it, among those of one CPU whose contexts are equally long, and
 -- where it ends
 abbrev pub SavedTellsStates : Type 0
 SavedTellsStates =
@@ -61,7 +61,7 @@ SavedTellsStates =
     → cpu_saved cpu ++ rest ≡ cpu_saved other ++ more
     → (cpu ≡ other) × (rest ≡ more)
 
--- what an outcome is saved as tells it, and where it ends
+-- what an outcome is saved as determines it, and where it ends
 abbrev pub SavedTellsOutcomes : Type 0
 SavedTellsOutcomes =
     (outcome other : Outcome) (rest more : List ℕ)

@@ -1,4 +1,4 @@
--- What a CPU's state is saved as, bytes that tell all of it but the CPU's number; and how a job ended.
+-- What a CPU's state is saved as, bytes that determine all of it but the CPU's number; and how a job ended.
 use Rattle.std.specs.Prelude.{◌≡◌, ℕ, ◌^◌, ◌<◌, All, List, [], ◌∷◌, ◌++◌, length}
 use Rattle.bpf_base.specs.Bytes.{low_bytes}
 use Rattle.bpf_mem.specs.Saved.{IsSavable, IsWord, frames_saved, words_saved}
@@ -16,7 +16,7 @@ cpu_saved cpu =
     low_bytes 4 cpu.pc ++ words_saved 0 cpu.registers ++ frames_saved cpu.memory.frames
     ++ spans_saved cpu.held ++ cpu.memory.context
 
--- what is saved is told by its bytes, where its numbers fit
+-- what is saved is determined by its bytes, where its numbers fit
 pub record IsSavableState (cpu : Cpu) : Type 0 where
   pub pc : cpu.pc < 2 ^ 32
   pub count : length cpu.registers ≡ 11

@@ -72,7 +72,7 @@ fn outcome_of(kind: u64, number: u64) -> Option<Outcome>
     Some(Outcome::Fault(fault, pc))
 }
 
-/// An outcome is told by what it is saved as: says so, and does nothing.
+/// An outcome is determined by what it is saved as: says so, and does nothing.
 pub fn is_savable_outcome(outcome: Outcome)
     ensures { IsSavableOutcome outcome }
 {
@@ -83,7 +83,7 @@ pub fn is_savable_outcome(outcome: Outcome)
     }
 }
 
-/// Puts behind the bytes what an outcome is saved as.
+/// Appends to the bytes what an outcome is saved as.
 pub fn save_outcome(outcome: Outcome, out: &mut Vec<u8>) -> Result<(), AllocError>
     ensures ok { OnOk result (out.new.items ≡ out.old.items ++ outcome_saved outcome) }
     ensures err { OnErr result (StartsWith out.new.items out.old.items) }
@@ -91,7 +91,7 @@ pub fn save_outcome(outcome: Outcome, out: &mut Vec<u8>) -> Result<(), AllocErro
     save_words(&words_of(outcome), out)
 }
 
-/// The outcome whose saved form the bytes begin with; what comes behind it.
+/// The outcome whose saved form the bytes begin with; what comes after it.
 pub fn read_outcome(bytes: &[u8]) -> Option<(Outcome, &[u8])>
     ensures some { IfSome result (λ r. bytes.now ≡ outcome_saved r.0 ++ r.1.now) }
     ensures savable { IfSome result (λ r. IsSavableOutcome r.0) }

@@ -34,12 +34,12 @@ pub fn plain_steps_are_determined()
     bpf_shared::laws::calls_have_one_reply();
 }
 
-/// What a state is saved as tells it, among those of one CPU whose contexts are equally long.
+/// What a state is saved as determines it, among those of one CPU whose contexts are equally long.
 pub fn saved_tells_states()
     ensures { SavedTellsStates }
 {}
 
-/// What an outcome is saved as tells it.
+/// What an outcome is saved as determines it.
 pub fn saved_tells_outcomes()
     ensures { SavedTellsOutcomes }
 {}

@@ -58,7 +58,7 @@ pub enum Progress {
     Done(Outcome),
 }
 
-/// A step's answer in one byte: the rest of it stands in the CPU that the step leaves.
+/// A step's answer in one byte: the rest of it is in the CPU that the step leaves.
 #[derive(Clone, Copy)]
 pub(crate) enum Next {
     On,

@@ -30,7 +30,7 @@ impl Cpu {
         self.registers[10] == self.memory.frames.top()
     }
 
-    /// A program may be stepped from this state: the CPU stands at one of its instructions, and so
+    /// A program may be stepped from this state: the CPU is at one of its instructions, and so
     /// on.
     pub fn is_ready(&self, program: &Program) -> bool
         ensures { IsTrue result ↔ IsReady program.now self.now }

@@ -12,7 +12,7 @@ use bpf_base::bytes::load_word;
 use bpf_mem::{are_words, read_words, save_words};
 use std::alloc::AllocError;
 
-/// Puts bytes behind others.
+/// Appends bytes to others.
 fn save_bytes(bytes: &[u8], out: &mut Vec<u8>) -> Result<(), AllocError>
     ensures ok { OnOk result (out.new.items ≡ out.old.items ++ bytes.now) }
     ensures err { OnErr result (StartsWith out.new.items out.old.items) }
@@ -20,7 +20,7 @@ fn save_bytes(bytes: &[u8], out: &mut Vec<u8>) -> Result<(), AllocError>
     out.extend_from_slice(bytes)
 }
 
-/// Puts a pc's bytes behind others.
+/// Appends a pc's bytes to others.
 fn save_pc(pc: u32, out: &mut Vec<u8>) -> Result<(), AllocError>
     ensures ok { OnOk result (out.new.items ≡ out.old.items ++ low_bytes 4 pc) }
     ensures err { OnErr result (StartsWith out.new.items out.old.items) }
@@ -28,7 +28,7 @@ fn save_pc(pc: u32, out: &mut Vec<u8>) -> Result<(), AllocError>
     save_bytes(&pc.to_le_bytes(), out)
 }
 
-/// The pc that the bytes begin with; what comes behind it.
+/// The pc that the bytes begin with; what comes after it.
 fn read_pc(bytes: &[u8]) -> Option<(u32, &[u8])>
     ensures some { IfSome result (λ r. bytes.now ≡ low_bytes 4 r.0 ++ r.1.now) }
     ensures near { IfSome result (λ r. r.0 < 2 ^ 32) }
@@ -41,7 +41,7 @@ fn read_pc(bytes: &[u8]) -> Option<(u32, &[u8])>
 }
 
 impl Cpu {
-    /// The state is told by what it is saved as, and its run holds each value once: says so, and
+    /// The state is determined by what it is saved as, and its run holds each value once: says so, and
     /// does nothing.
     pub fn is_savable(&self)
         ensures savable { IsSavableState self.now }
@@ -53,7 +53,7 @@ impl Cpu {
         self.held.are_savable();
     }
 
-    /// Puts behind the bytes what the state is saved as. The CPU's number isn't in it.
+    /// Appends to the bytes what the state is saved as. The CPU's number isn't in it.
     pub fn save(&self, out: &mut Vec<u8>) -> Result<(), AllocError>
         ensures ok { OnOk result (out.new.items ≡ out.old.items ++ cpu_saved self.now) }
         ensures err { OnErr result (StartsWith out.new.items out.old.items) }
@@ -66,7 +66,7 @@ impl Cpu {
     }
 
     /// Becomes the state whose saved form the bytes begin with, of those whose context is as long;
-    /// what comes behind it. `None` where no state has such a form, and then it may be any. It
+    /// what comes after it. `None` where no state has such a form, and then it may be any. It
     /// takes no memory.
     pub fn restore<'a>(&mut self, bytes: &'a [u8]) -> Option<&'a [u8]>
         ensures some { IfSome result (λ rest. bytes.now ≡ cpu_saved self.new ++ rest.now) }

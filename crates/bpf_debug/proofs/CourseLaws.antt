@@ -79,7 +79,7 @@ one_run_more (run ∷ next ∷ runs) last c zero e is out = absurd (omega (arith
 one_run_more (run ∷ next ∷ runs) last c (suc n) e is out =
     ap (λ (rs : List (ℕ × ℕ)). run ∷ rs) (one_run_more (next ∷ runs) last c n (omega (arith, e)) is out)
 
--- ---- they tell their turns
+-- ---- they determine their turns
 longer : (run : ℕ × ℕ) (c : ℕ) (b : Bool) → ((run.0 == c) && nat_lt run.1 most_turns) ≡ b
     → unrolled (if b then (c, run.1 + 1) ∷ [] else run ∷ (c, 1) ∷ []) ≡ (replicate run.1 run.0 ++ []) ++ c ∷ []
 longer run c true e =

@@ -58,7 +58,7 @@ one_up jobs low high «from» c d a b = elim (cases_order c d) [
     ]
 
 -- ---- refusals
--- what is done isn't refused, want of memory aside
+-- what is done isn't refused, unless memory runs out
 no_cpu : (c cpus : ℕ) → c < cpus → nat_lt c cpus ≡ false → ⊥
 no_cpu c cpus less out = let both : true ≡ false = sym (lt-ltb c cpus less) ∙ out in cc
 
@@ -436,7 +436,7 @@ module _ (cpus : ℕ) (programs : List Loaded) (names : List (List ℕ)) (count 
 
 -- ---- what is done
 module _ (law : WritesAreDetermined) (begins : OneInstructionBegins) (replies : CallsHaveOneReply) where
-  -- a CPU that has made a turn, and stands at a breakpoint, makes no other
+  -- a CPU that has made a turn, and is at a breakpoint, makes no other
   stops_here : (breaks : List Breakpoint) (w : World) (gone : List ℕ) (c d p : ℕ) → IsWorld w → c ≡ d → has_gone gone c ≡ true → StandsAt w.jobs c p → has_break breaks c p ≡ true
       → (has_gone gone d ≡ false) ⊎ ((q : ℕ) × StandsAt w.jobs d q × (has_break breaks d q ≡ false)) → ⊥
   stops_here breaks w gone c d p world same went stands break (inl never) =

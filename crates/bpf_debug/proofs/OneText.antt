@@ -27,7 +27,7 @@ use Rattle.bpf_debug.specs.Laws.{KeysHaveOwnValues}
 use Rattle.bpf_debug.specs.Read.{MayRead, MayNotRead, AreBytesAt, IsUnreadable, ShowsBytes, IsMemoryText, IsNamed, IsMapText, IsKeysText, pair_lines, key_lines}
 use Rattle.bpf_debug.proofs.OwnValues.{one_key}
 
--- ---- where a CPU stands
+-- ---- where a CPU is
 
 -- the job that waits next is one
 pub one_next : (jobs : List Task) (c j k : ℕ) → IsNext jobs c j → IsNext jobs c k → j ≡ k

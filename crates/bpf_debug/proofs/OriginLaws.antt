@@ -15,7 +15,7 @@ use Rattle.bpf_machine.specs.Listings.{Listing}
 use Rattle.bpf_machine.specs.Parts.{CanStand, chosen, made_of, no_task}
 use Rattle.bpf_debug.specs.Origin.{OriginState, CanRewind, IsOfShape, first_of}
 
--- jobs behind others change none of those
+-- jobs after others change none of those
 chosen_front : (jobs more : List Task) (numbers : List ℕ) → All (λ n. n < length jobs) numbers → chosen (jobs ++ more) numbers ≡ chosen jobs numbers
 chosen_front jobs more [] within = refl
 chosen_front jobs more (n ∷ ns) within =

@@ -78,7 +78,7 @@ passed_turn start new d k c kept answer own is turns = (
       )),
 )
 
--- ---- what is told of it
+-- ---- what is printed of it
 kept_told : (kept : Recall) (c : ℕ) (old mid new : List ℕ) (jobs : List Task) → mid ≡ old ++ ended_text c kept.turn
     → ((was : List Task) → IsStand was c kept.stand → (text : List ℕ) × IsStandText was c text × (new ≡ mid ++ text))
     → (past : Option Past) → IsRecall c (Some kept) past → (text : List ℕ) × IsLastText c past jobs text × (new ≡ old ++ text)

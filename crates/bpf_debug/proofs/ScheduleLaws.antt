@@ -1,4 +1,4 @@
--- What the words behind `steps` spell, and which CPUs they name.
+-- What the words after `steps` spell, and which CPUs they name.
 use Rattle.std.proofs.Common.{◌≡◌, ℕ, zero, suc, ◌<◌, Bool, true, false, ◌&&◌, List, [], ◌∷◌, length, map, Option, Some, None, refl, sym, ap, ◌∙◌, arith, if◌then◌else◌}
 use Rattle.std.specs.Prelude.{Any, nat_lt, option_map, option_and_then}
 use Rattle.std.specs.List.{list_all}

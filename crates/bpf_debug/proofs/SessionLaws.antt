@@ -79,7 +79,7 @@ can_rewound o m n is can =
     let first : CanRewind o (first_of o m.programs) = record { lists = refl; shape = (λ c. refl, refl); within = can.within; stands = can.stands; shown = can.shown } in
     subst (CanRewind o) (sym is) first
 
--- ---- text behind an empty one
+-- ---- text after an empty one
 pub alone : (room last text : List ℕ) → room ≡ [] → last ≡ room ++ text → last ≡ text
 alone room last text empty e = e ∙ ap (λ (s : List ℕ). s ++ text) empty
 
@@ -449,7 +449,7 @@ line_done s t (f ∷ fs) order text e leaves x shown =
     (l.0, (order, sym e, l.1), λ course. (follows_on x order text l.0 l.1 course).0, l.2)
 
 -- ---- refusals
--- the turns that are told are as many as were made
+-- the turns that are kept are as many as were made
 fewer : (kept : Option (List (ℕ × ℕ))) (turns : List ℕ) (n : ℕ) → IsKept kept turns → AreFewer (count_of kept) n → length turns < n
 fewer None turns n is less = absurd less
 fewer (Some runs) turns n is less =

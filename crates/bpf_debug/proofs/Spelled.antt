@@ -52,7 +52,7 @@ turn_shape w z c answer (inr (inl (free, t))) =
     goes_shape (record w { store = t.3 }) z c t.0 t.1 _ _ answer t.7 ∙ event_shape w.store t.3 c Begin t.6.0
 turn_shape w z c answer (inr (inr t)) = ap (λ (x : World). x.store.shape) t.3
 
--- ---- each CPU stands somewhere
+-- ---- each CPU is somewhere
 abbrev Lowest : (Task → Type 0) → List Task → Type 0
 Lowest P jobs = (j : ℕ) × (task : Task) × (slice_get jobs j ≡ Some task) × P task × ((k : ℕ) (t : Task) → k < j → slice_get jobs k ≡ Some t → P t → ⊥)
 

@@ -1,4 +1,4 @@
--- What is told of the maps and of the jobs.
+-- What is printed of the maps and of the jobs.
 use Rattle.std.proofs.Common.{◌≡◌, ℕ, suc, ◌+◌, ◌<◌, List, [], ◌++◌, length, map, get_or, Option, Some, None, refl, sym, ap, subst, ◌∙◌, append_assoc, arith, String}
 use Rattle.std.specs.Prelude.{option_map, option_and_then, slice_get, string_bytes}
 use Rattle.std.specs.declared.alloc.Global.{Global}
@@ -38,6 +38,6 @@ one_map_more text new names maps i own inside is so_far more =
     (more ∙ ap (λ (t : List ℕ). t ++ named_line (string_bytes own) (slice_get maps i)) so_far
     ∙ ap (λ (n : List ℕ). shape_lines (map string_bytes names) maps i ++ named_line n (slice_get maps i)) (sym name))
 
--- ---- texts, one behind the other
+-- ---- texts, one after the other
 pub behind_both : (x y z a b : List ℕ) → y ≡ x ++ a → z ≡ y ++ b → z ≡ x ++ (a ++ b)
 behind_both x y z a b first second = second ∙ ap (λ (s : List ℕ). s ++ b) first ∙ append_assoc x a b

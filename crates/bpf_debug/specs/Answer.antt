@@ -10,7 +10,7 @@ use Rattle.bpf_machine.specs.Hands.{IsAt, IsFree, NoneWaits}
 use Rattle.bpf_machine.specs.Work.{IsNext}
 use Rattle.bpf_cpu.specs.Lines.{job_line}
 
--- ---- where a CPU stands
+-- ---- where a CPU is
 
 abbrev pub cpu_words : ℕ → List ℕ
 cpu_words c = codes "cpu " ++ decimal c
@@ -35,7 +35,7 @@ IsOff jobs c text =
     ((j : ℕ) × IsNext jobs c j × (text ≡ waiting_line c j))
     ⊎ (IsFree jobs c × NoneWaits jobs c × (text ≡ idle_line c))
 
--- the line says where the CPU stands
+-- the line says where the CPU is
 abbrev pub IsWhere : List Task → ℕ → List ℕ → Type 0
 IsWhere jobs c text =
     ((j : ℕ) × (task : Task) × (state : Cpu) × (left : ℕ) × IsAt jobs c j task (InHand state left)
@@ -52,7 +52,7 @@ abbrev pub register_lines : ℕ → List ℕ → List ℕ
 register_lines k [] = []
 register_lines k (n ∷ ns) = register_line k n ++ register_lines (suc k) ns
 
--- the registers of a CPU with a job in hand, or where it stands
+-- the registers of a CPU with a job in hand, or where it is
 abbrev pub IsRegisters : List Task → ℕ → List ℕ → Type 0
 IsRegisters jobs c text =
     ((j : ℕ) × (task : Task) × (state : Cpu) × (left : ℕ) × IsAt jobs c j task (InHand state left)

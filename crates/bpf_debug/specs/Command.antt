@@ -161,7 +161,7 @@ read_all f (w ∷ ws) =
 abbrev pub is_short : ℕ × ℕ → Bool
 is_short run = nat_le run.1 most_turns
 
--- one run or more, each of so many turns at most
+-- one run or more, each of this many turns at most
 abbrev pub steps_of : List (ℕ × ℕ) → Option Order
 steps_of runs = if nat_lt 0 (length runs) && list_all is_short runs then Some (Steps runs) else None
 

@@ -1,4 +1,4 @@
--- The turns that a session has made: its course, as it is told and kept (our own choice).
+-- The turns that a session has made: its course, as it is printed and kept (our own choice).
 use Rattle.std.specs.Prelude.{◌≡◌, ℕ, ◌+◌, ◌-◌, ◌<◌, ◌==◌, ◌&&◌, nat_lt, if◌then◌else◌, List, [], ◌∷◌, ◌++◌, Option, Some, None, codes, length, option_map, slice_index_or, take}
 use Rattle.bpf_schedule.specs.Spelling.{runs_text}
 use Rattle.bpf_machine.specs.Schedule.{unrolled}
@@ -21,7 +21,7 @@ with_turns runs (c ∷ turns) = with_turns (with_turn runs c) turns
 abbrev pub runs_of : List ℕ → List (ℕ × ℕ)
 runs_of turns = with_turns [] turns
 
--- they are told as the command that makes them
+-- they are reported as the command that makes them
 abbrev pub course_line : List ℕ → List ℕ
 course_line turns =
     codes "steps" ++ runs_text (length (runs_of turns)) (runs_of turns) ++ codes "\n"
@@ -32,7 +32,7 @@ abbrev pub IsKept : Option (List (ℕ × ℕ)) → List ℕ → Type 0
 IsKept None turns = Unit {0}
 IsKept (Some runs) turns = runs ≡ runs_of turns
 
--- whatever turns were kept, these behind them are kept then
+-- whatever turns were kept, these after them are kept then
 abbrev pub KeepsOn : Option (List (ℕ × ℕ)) → List ℕ → Option (List (ℕ × ℕ)) → Type 0
 KeepsOn old more new = (turns : List ℕ) → IsKept old turns → IsKept new (turns ++ more)
 
@@ -57,18 +57,18 @@ DropsTurn old new c =
     (runs : List (ℕ × ℕ)) (d : ℕ) → HaveTurns runs → old ≡ with_turn runs d
     → (new ≡ runs) × (c ≡ d)
 
--- of all turns that were told so, the last n are told no more, and this CPU is that of the first of
+-- of all turns that were kept so, the last n are kept no more, and this CPU is that of the first of
 -- them
 abbrev pub TakesBack : List (ℕ × ℕ) → ℕ → List (ℕ × ℕ) → ℕ → Type 0
 TakesBack old n new c =
     (turns more : List ℕ) → length more ≡ n → old ≡ runs_of (turns ++ more)
     → (new ≡ runs_of turns) × (c ≡ slice_index_or more 0 0)
 
--- how many turns are told, where they are
+-- how many turns are kept, where they are
 abbrev pub count_of : Option (List (ℕ × ℕ)) → Option ℕ
 count_of = option_map (λ runs. length (unrolled runs))
 
--- fewer than n turns are told
+-- fewer than n turns are kept
 abbrev pub AreFewer : Option ℕ → ℕ → Type 0
 AreFewer None n = ⊥
 AreFewer (Some count) n = count < n

@@ -39,7 +39,7 @@ pub record IsUp (jobs : List Task) (low high «from» c : ℕ) : Type 0 where
 
 -- ---- breakpoints
 
--- the pc of the CPU's next instruction: a job about to begin stands at pc 0
+-- the pc of the CPU's next instruction: a job about to begin is at pc 0
 abbrev pub StandsAt : List Task → ℕ → ℕ → Type 0
 StandsAt jobs c p =
     ((j : ℕ) × (task : Task) × (state : Cpu) × (left : ℕ) × IsAt jobs c j task (InHand state left)

@@ -58,7 +58,7 @@ TellsHeld names s state (suc n) text =
     (before : List ℕ) × (line : List ℕ) × TellsHeld names s state n before
     × IsHeldLine names s state (span_of state.held n) line × (text ≡ before ++ line)
 
--- those of a CPU with a job in hand, or where it stands
+-- those of a CPU with a job in hand, or where it is
 abbrev pub IsHeldText : List (List ℕ) → Plain → List Task → ℕ → List ℕ → Type 0
 IsHeldText names s jobs c text =
     ((j : ℕ) × (task : Task) × (state : Cpu) × (left : ℕ) × IsAt jobs c j task (InHand state left)

@@ -32,13 +32,13 @@ SchedulesAreSteps =
     → CarriesOut x (Steps runs) text y → (answers : List Answer)
     × RunsScript x (map step_line (unrolled runs)) answers y
 
--- the turns of a scene lead from its first machine to its own, and so they do behind any script
+-- the turns of a scene lead from its first machine to its own, and so they do after any script
 abbrev pub ScriptsMakeTurns : Type 0
 ScriptsMakeTurns =
     (x y : Scene) (lines : List (List ℕ)) (answers : List Answer) → RunsScript x lines answers y
     → IsCourse x → IsCourse y × (y.first ≡ x.first)
 
--- run lengths tell their turns, and `steps` takes them: no run is longer than one may be
+-- run lengths determine their turns, and `steps` takes them: no run is longer than one may be
 abbrev pub RunsTellTurns : Type 0
 RunsTellTurns =
     (turns : List ℕ) → (unrolled (runs_of turns) ≡ turns)

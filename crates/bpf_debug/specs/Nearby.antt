@@ -11,7 +11,7 @@ use Rattle.bpf_cpu.specs.Task.{Task, InHand}
 use Rattle.bpf_machine.specs.Hands.{IsAt}
 use Rattle.bpf_debug.specs.Answer.{IsOff}
 
--- the window: three words before the pc, its own, and five behind it
+-- the window: three words before the pc, its own, and five after it
 abbrev pub first_shown : ℕ → ℕ
 first_shown here = here - 3
 
@@ -26,20 +26,20 @@ abbrev pub nearby_line : ℕ → ℕ → Insn → List ℕ
 nearby_line here pc i = mark_at here pc ++ decimal pc ++ codes "  " ++ line_of i ++ codes "\n"
 
 -- the line of the instruction that begins at a pc; none where none does: at the second word of a
--- wide one, and behind the program
+-- wide one, and after the program
 abbrev pub IsLineAt : Loaded → ℕ → ℕ → List ℕ → Type 0
 IsLineAt program here pc text =
     ((i : Insn) × Begins program.instructions pc i × (text ≡ nearby_line here pc i))
     ⊎ ((IsStart program.instructions pc → ⊥) × (text ≡ []))
 
--- those of so many pcs from the first on
+-- those of this many pcs from the first on
 abbrev pub TellsLines : Loaded → ℕ → ℕ → ℕ → List ℕ → Type 0
 TellsLines program here first zero text = text ≡ []
 TellsLines program here first (suc n) text =
     (before : List ℕ) × (line : List ℕ) × TellsLines program here first n before
     × IsLineAt program here (first + n) line × (text ≡ before ++ line)
 
--- those of a CPU with a job in hand, or where it stands
+-- those of a CPU with a job in hand, or where it is
 abbrev pub IsNearbyText : List Loaded → List Task → ℕ → List ℕ → Type 0
 IsNearbyText programs jobs c text =
     ((j : ℕ) × (task : Task) × (state : Cpu) × (left : ℕ) × (program : Loaded)

@@ -49,7 +49,7 @@ ShowsBytes s state (Some a) n text =
     ((bytes : List ℕ) × AreBytesAt s state a n bytes × (text ≡ encode_lower bytes ++ codes "\n"))
     ⊎ (IsUnreadable s state a n × (text ≡ unreadable))
 
--- those of a CPU with a job in hand, or where it stands
+-- those of a CPU with a job in hand, or where it is
 abbrev pub IsMemoryText : Plain → List Task → ℕ → Option ℕ → ℕ → List ℕ → Type 0
 IsMemoryText s jobs c at n text =
     ((j : ℕ) × (task : Task) × (state : Cpu) × (left : ℕ) × IsAt jobs c j task (InHand state left)

@@ -29,13 +29,13 @@ pub record Past : Type 0 where
   pub before : World
   pub answer : Turn
 
--- the last of a CPU's turns of this kind, behind one turn more
+-- the last of a CPU's turns of this kind, after one turn more
 abbrev pub past_after : Kind → ℕ → World → ℕ → Turn → Option Past → Option Past
 past_after k c w d answer old =
     if (d == c) && is_of k answer then Some (record { before = w; answer = answer }) else old
 
 -- the turns lead from one machine to another; before them the last of the CPU's turns of this kind
--- was this one, and behind them it is that one
+-- was this one, and after them it is that one
 abbrev pub Recalls : Kind → ℕ → World → Option Past → List ℕ → Option Past → World → Type 0
 Recalls k c w old [] new z = (new ≡ old) × (z ≡ w)
 Recalls k c w old (d ∷ turns) new z =
@@ -69,7 +69,7 @@ IsStandText jobs c text =
     × (text ≡ in_hand_line c j state ++ register_lines 0 state.registers))
     ⊎ IsOff jobs c text
 
--- the line of the job that the turn ended, and how the CPU stood before that turn; where it stands,
+-- the line of the job that the turn ended, and how the CPU stood before that turn; where it is,
 -- if it has ended none
 abbrev pub IsLastText : ℕ → Option Past → List Task → List ℕ → Type 0
 IsLastText c None jobs text = IsWhere jobs c text

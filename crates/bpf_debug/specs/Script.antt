@@ -30,7 +30,7 @@ abbrev pub answer_text : Answer → List ℕ
 answer_text (Ok text) = text
 answer_text (Err e) = refusal_line e
 
--- the texts of some answers, one behind the other
+-- the texts of some answers, one after the other
 abbrev pub answers_text : List Answer → List ℕ
 answers_text [] = []
 answers_text (answer ∷ answers) = answer_text answer ++ answers_text answers

@@ -57,7 +57,7 @@ pub record IsShown (s : SessionState) (x : Scene) : Type 0 where
 abbrev pub IsCourse : Scene → Type 0
 IsCourse x = RunsSchedule x.first x.turns x.world
 
--- the scene behind some turns more, which lead to this machine
+-- the scene after some turns more, which lead to this machine
 abbrev pub behind : Scene → List ℕ → World → Scene
 behind x turns w = record x { world = w; turns = x.turns ++ turns }
 
@@ -127,32 +127,32 @@ RunsTo x c p text y =
     × Goes (record { cpu = c; pc = p } ∷ []) x.watch c (c + 1) x.world c [] turns text m
     × (y ≡ behind x turns m))
 
--- the last turns are undone, this many, and where the CPU of the first of them stands again
+-- the last turns are undone, this many, and where the CPU of the first of them is again
 abbrev pub GoesBack : Scene → ℕ → List ℕ → Scene → Type 0
 GoesBack x n text y =
     (n ≤ length x.turns) × ((m : World) × RunsSchedule x.first (turns_before x.turns n) m
     × IsWhere m.jobs (cpu_before x.turns n) text × (y ≡ undone x n m))
 
--- the turns are made again, and what the last of the CPU's that ended a job left is told
+-- the turns are made again, and what the last of the CPU's that ended a job left is printed
 abbrev pub TellsLast : Scene → ℕ → List ℕ → Scene → Type 0
 TellsLast x c text y =
     (past : Option Past) × (m : World) × Recalls kind.Ends c x.first None x.turns past m
     × IsLastText c past m.jobs text × (y ≡ record x { world = m })
 
--- the same, and what the last of the CPU's changed is told
+-- the same, and what the last of the CPU's changed is printed
 abbrev pub ShowsTurn : Scene → ℕ → List ℕ → Scene → Type 0
 ShowsTurn x c text y =
     (past : Option Past) × (m : World) × Recalls kind.Works c x.first None x.turns past m
     × IsShownText c x.names past x.world text × (y ≡ record x { world = m })
 
--- of a CPU with a job in hand, or where it stands
+-- of a CPU with a job in hand, or where it is
 abbrev pub ShowsCpu : Scene → ℕ → List ℕ → Scene → Type 0
 ShowsCpu x c text y = (IsOff x.world.jobs c text × (y ≡ x)) ⊎ ShowsTurn x c text y
 
 abbrev pub IsCpu : Scene → ℕ → Type 0
 IsCpu x c = c < x.world.store.shape.cpus
 
--- each CPU of a schedule is one of so many
+-- each CPU of a schedule is one of this many
 abbrev pub are_cpus : ℕ → List (ℕ × ℕ) → Bool
 are_cpus cpus runs = list_all (λ run. nat_lt run.0 cpus) runs
 
@@ -218,8 +218,8 @@ LeavesLine s fields text t =
     (x : Scene) → IsShown s x → (y : Scene) × Obeys x fields text y × (IsCourse x → IsCourse y)
     × IsShown t y
 
--- ---- refusals: G4 is tested first, then G1; of a machine with so many CPUs, these programs, maps of
--- these names, and so many turns, where they are told
+-- ---- refusals: G4 is tested first, then G1; of a machine with this many CPUs, these programs, maps of
+-- these names, and this many turns, where they are kept
 
 -- no CPU has this number
 abbrev pub IsNoCpu : ℕ → Option ℕ → Type 0
@@ -269,7 +269,7 @@ NamesNoMap names (Keys name) = IsNoName names name
 NamesNoMap names (Watch name digits) = IsNoName names name × IsOk (decode_of digits)
 NamesNoMap names order = ⊥
 
--- there are not so many turns, or the digits are no bytes
+-- there are not this many turns, or the digits are no bytes
 abbrev pub HasBadOperand : Option ℕ → Order → Type 0
 HasBadOperand count (Back n) = AreFewer count n
 HasBadOperand count (Watch name digits) = IsErr (decode_of digits)
@@ -290,7 +290,7 @@ abbrev pub RefusesHere : SessionState → Order → DebugError → Type 0
 RefusesHere s order e =
     RefusesOrder (length s.machine.store.runs) s.machine.programs s.names (count_of s.course) order e
 
--- why a line is refused; want of memory may stand in place of any answer
+-- why a line is refused; out of memory may take the place of any answer
 abbrev pub RefusesFields
     : ℕ → List Loaded → List (List ℕ) → Option ℕ → List (List ℕ) → DebugError → Type 0
 RefusesFields cpus programs names count fields error.BadCommand =

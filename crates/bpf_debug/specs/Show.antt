@@ -20,7 +20,7 @@ abbrev pub value_at : List Span → ℕ → Option Span
 value_at [] a = None
 value_at (p ∷ held) a = if is_in a p then Some p else value_at held a
 
--- a value's name, and how far behind its beginning
+-- a value's name, and how far past its beginning
 abbrev pub place_words : List ℕ → ℕ → List ℕ
 place_words name behind = codes " " ++ name ++ codes "+" ++ decimal behind
 
@@ -32,7 +32,7 @@ abbrev pub frame_words : ℕ → ℕ → List ℕ
 frame_words frame at =
     if nat_lt frame 8 then (if nat_le at 512 then below_words frame (512 - at) else []) else []
 
--- how far behind the context's beginning: it has 4,096 bytes at most
+-- how far past the context's beginning: it has 4,096 bytes at most
 abbrev pub context_words : ℕ → List ℕ
 context_words at = if nat_le at 4096 then codes " context + " ++ decimal at else []
 

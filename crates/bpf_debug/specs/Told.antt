@@ -1,4 +1,4 @@
--- What is told of the maps and of the jobs (our own choice).
+-- What is printed of the maps and of the jobs (our own choice).
 use Rattle.std.specs.Prelude.{ℕ, zero, suc, Bool, if◌then◌else◌, List, [], ◌++◌, Option, Some, None, codes, slice_get, slice_index_or}
 use Rattle.std.specs.Fmt.{decimal}
 use Rattle.bpf_shared.specs.declared.shapes.MapShape.{MapShape}

@@ -4,7 +4,7 @@ use Rattle.bpf_machine.specs.declared.machine.Turn.{Turn}
 use Rattle.bpf_machine.specs.Schedule.{World, TakesTurn}
 use Rattle.bpf_debug.specs.Answer.{ended_text}
 
--- so many turns of the CPU, with the lines of the jobs that end in them
+-- this many turns of the CPU, with the lines of the jobs that end in them
 abbrev pub MakesTurns : World → ℕ → ℕ → List ℕ → World → Type 0
 MakesTurns w c zero text z = (text ≡ []) × (z ≡ w)
 MakesTurns w c (suc n) text z = (m : World) × (before : List ℕ) × (answer : Turn)

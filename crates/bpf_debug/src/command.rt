@@ -15,15 +15,15 @@ pub enum Command<'a> {
     Delete(Option<u8>, Option<u32>),
     /// One turn of a CPU.
     Step(Option<u8>),
-    /// So many turns of a CPU.
+    /// This many turns of a CPU.
     StepTimes(Option<u8>, u64),
     /// Turns in rounds, up to a breakpoint or until no work is left.
     Go,
     /// A CPU's registers.
     Registers(Option<u8>),
-    /// Where a CPU stands.
+    /// Where a CPU is.
     Where(Option<u8>),
-    /// So many bytes at an address, as a CPU's program may read them.
+    /// This many bytes at an address, as a CPU's program may read them.
     Memory(Option<u8>, Option<u64>, usize),
     /// The keys of the map of this name, with their values.
     Map(&'a [u8]),
@@ -37,9 +37,9 @@ pub enum Command<'a> {
     Maps,
     /// The jobs, with how those that ended have ended.
     Jobs,
-    /// A number to be told again.
+    /// A number to be printed again.
     Mark(u64),
-    /// So many turns are undone.
+    /// This many turns are undone.
     Back(u64),
     /// The commands.
     Help,

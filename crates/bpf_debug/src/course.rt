@@ -52,7 +52,7 @@ fn lengthen_last(runs: &mut Vec<(u8, u64)>, cpu: u8) -> bool
     true
 }
 
-/// Puts one turn of a CPU behind the others.
+/// Appends one turn of a CPU to the others.
 fn add_turn(runs: &mut Vec<(u8, u64)>, cpu: u8) -> Result<(), AllocError>
     ensures { OnOk result (runs.new.items ≡ with_turn runs.old.items cpu) }
 {
@@ -90,7 +90,7 @@ fn take_back(runs: &mut Vec<(u8, u64)>, count: u64) -> u8
     first
 }
 
-/// Whether there are so many turns.
+/// Whether there are this many turns.
 pub fn has_turns(runs: &[(u8, u64)], count: u64) -> bool
     ensures yes { OnTrue result (count ≤ length (unrolled runs.now)) }
     ensures no { OnFalse result (length (unrolled runs.now) < count) }
@@ -145,7 +145,7 @@ impl Course {
         }
     }
 
-    /// Whether there is room for so many more runs, or for as many as are kept.
+    /// Whether there is room for this many more runs, or for as many as are kept.
     pub fn reserve(&mut self, count: usize) -> bool
         ensures { self.new ≡ self.old }
     {
@@ -179,7 +179,7 @@ impl Course {
         };
     }
 
-    /// So many turns of a CPU have been made.
+    /// This many turns of a CPU have been made.
     pub fn add_times(&mut self, cpu: u8, count: u64)
         ensures { KeepsOn self.old (replicate count cpu) self.new }
     {
@@ -188,7 +188,7 @@ impl Course {
         }
     }
 
-    /// Takes the last turns away, this many, where turns are told. Whose the first of them was.
+    /// Takes the last turns away, this many, where turns are kept. Whose the first of them was.
     pub fn take_back(&mut self, count: u64) -> u8
         ensures { (runs : List (ℕ × ℕ)) → self.old ≡ Some runs → (fewer : List (ℕ × ℕ))
             × (self.new ≡ Some fewer) × TakesBack runs count fewer result }
@@ -196,7 +196,7 @@ impl Course {
         take_back(&mut self.runs, count)
     }
 
-    /// Makes all turns, where they are told.
+    /// Makes all turns, where they are kept.
     pub fn repeat(&self, machine: &mut Machine)
         ensures turns { (runs : List (ℕ × ℕ)) → self.now ≡ Some runs
             → (w : World) → Shows machine.old w
@@ -206,7 +206,7 @@ impl Course {
         machine.turns_by(&self.runs);
     }
 
-    /// Makes all turns, where they are told, and says how a CPU stood before the last of its turns
+    /// Makes all turns, where they are kept, and says how a CPU stood before the last of its turns
     /// of a kind.
     pub fn recall(&self, machine: &mut Machine, cpu: u8, kind: Kind) -> Option<Recall>
         ensures turns { (runs : List (ℕ × ℕ)) → self.now ≡ Some runs

@@ -46,7 +46,7 @@ pub fn next_up(machine: &Machine, low: u8, high: u8, from: u8) -> Option<u8>
     }
 }
 
-/// The pc at which a CPU stands, where that is a breakpoint of it.
+/// The pc at which a CPU is, where that is a breakpoint of it.
 fn stop_at(machine: &Machine, breakpoints: &[Breakpoint], cpu: u8) -> Option<u32>
     requires { HasWork machine.now.jobs cpu }
     ensures stop { IfSome result (λ p. StandsAt machine.now.jobs cpu p
@@ -66,7 +66,7 @@ fn stop_at(machine: &Machine, breakpoints: &[Breakpoint], cpu: u8) -> Option<u32
     }
 }
 
-/// The pc before which a CPU stops: that of a breakpoint at which it stands, if it has made a turn.
+/// The pc before which a CPU stops: that of a breakpoint at which it is, if it has made a turn.
 fn stop_before(
     machine: &Machine,
     breakpoints: &[Breakpoint],
@@ -87,7 +87,7 @@ fn stop_before(
 }
 
 /// All turns of a `go` of the CPUs from a number on and below another, with the lines of the jobs
-/// that end and the last line. The watched value is told as it is before them.
+/// that end and the last line. The watched value is read as it is before them.
 pub fn go(
     machine: &mut Machine,
     breakpoints: &[Breakpoint],

@@ -13,7 +13,7 @@ pub fn schedules_are_steps()
     ensures { SchedulesAreSteps }
 {}
 
-/// The turns that are told lead from the first machine to the one that a script leaves.
+/// The turns that are kept lead from the first machine to the one that a script leaves.
 pub fn scripts_make_turns()
     ensures { ScriptsMakeTurns }
 {}
@@ -23,7 +23,7 @@ pub fn runs_tell_turns()
     ensures { RunsTellTurns }
 {}
 
-/// The beginning of a script is answered whatever comes behind it.
+/// The beginning of a script is answered whatever comes after it.
 pub fn beginnings_come_first()
     ensures { BeginningsComeFirst }
 {}
@@ -42,7 +42,7 @@ pub fn recalls_change_nothing()
     bpf_shared::laws::calls_have_one_reply();
 }
 
-/// Over a machine whose jobs all wait, a script has one list of answers, want of memory aside.
+/// Over a machine whose jobs all wait, a script has one list of answers, unless memory runs out.
 pub fn scripts_are_determined()
     ensures { ScriptsAreDetermined }
 {

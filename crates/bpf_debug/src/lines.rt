@@ -73,7 +73,7 @@ pub fn put_idle(out: &mut String, cpu: u8)
     put(out, " idle\n");
 }
 
-/// Puts the line of where a CPU stands.
+/// Puts the line of where a CPU is.
 pub fn put_where(out: &mut String, machine: &Machine, cpu: u8)
     requires { string_len out.old + 128 ≤ string_capacity out.old }
     ensures text { (text : List ℕ) × IsWhere machine.now.jobs cpu text
@@ -111,7 +111,7 @@ pub fn put_values(out: &mut String, values: &[u64])
     }
 }
 
-/// Puts the registers of a CPU that has a job in hand, or where it stands.
+/// Puts the registers of a CPU that has a job in hand, or where it is.
 pub fn put_registers(out: &mut String, machine: &Machine, cpu: u8)
     requires { string_len out.old + 1024 ≤ string_capacity out.old }
     ensures { (text : List ℕ) × IsRegisters machine.now.jobs cpu text
@@ -124,7 +124,7 @@ pub fn put_registers(out: &mut String, machine: &Machine, cpu: u8)
     }
 }
 
-/// Puts where a CPU stands that has no job in hand.
+/// Puts where a CPU is that has no job in hand.
 pub fn put_off(out: &mut String, machine: &Machine, cpu: u8)
     requires room { string_len out.old + 128 ≤ string_capacity out.old }
     requires free { IsFree machine.now.jobs cpu }

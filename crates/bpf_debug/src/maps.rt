@@ -21,7 +21,7 @@ pub fn map_named(names: &[String], name: &[u8]) -> Option<usize>
     None
 }
 
-/// Puts the line of a key behind the text.
+/// Appends the line of a key to the text.
 fn push_pair(alloc: Global, text: &mut String, key: &[u8], value: &[u8]) -> Result<(), AllocError>
     ensures { OnOk result (string_bytes text.new
         ≡ string_bytes text.old ++ pair_line (key.now, value.now)) }
@@ -52,7 +52,7 @@ pub fn map_lines(alloc: Global, store: &PlainStore, map: usize) -> Result<String
     pair_lines(alloc, &pairs)
 }
 
-/// Puts the line of a key without its value behind the text.
+/// Appends the line of a key without its value to the text.
 fn push_key(alloc: Global, text: &mut String, key: &[u8]) -> Result<(), AllocError>
     ensures { OnOk result ((value : List ℕ) → string_bytes text.new
         ≡ string_bytes text.old ++ key_line (key.now, value)) }

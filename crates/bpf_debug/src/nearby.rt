@@ -18,7 +18,7 @@ use std::alloc::{AllocError, Global};
 /// How many words before the pc are shown.
 const BEFORE: u32 = 3;
 
-/// How many words behind the pc are shown.
+/// How many words after the pc are shown.
 const BEHIND: u32 = 5;
 
 /// What a line begins with: the mark of the instruction that comes next, or blanks.
@@ -28,7 +28,7 @@ fn mark_at(here: u32, pc: u32) -> &'static str
     if pc == here { "> " } else { "  " }
 }
 
-/// Puts the line of an instruction behind the text.
+/// Appends the line of an instruction to the text.
 fn push_insn(
     alloc: Global,
     text: &mut String,
@@ -45,7 +45,7 @@ fn push_insn(
     text.push_str(line.as_str())
 }
 
-/// Puts the line of a pc behind the text, if an instruction begins there.
+/// Appends the line of a pc to the text, if an instruction begins there.
 fn push_pc(
     alloc: Global,
     text: &mut String,
@@ -120,7 +120,7 @@ fn lines_in_hand(
     program_lines(alloc, program, state.pc)
 }
 
-/// Where a CPU stands that has no job in hand.
+/// Where a CPU is that has no job in hand.
 fn line_off(alloc: Global, machine: &Machine, cpu: u8) -> Result<String, AllocError>
     requires { IsFree machine.now.jobs cpu }
     ensures { IfOk result (λ text. IsOff machine.now.jobs cpu (string_bytes text)) }
@@ -130,7 +130,7 @@ fn line_off(alloc: Global, machine: &Machine, cpu: u8) -> Result<String, AllocEr
     Ok(line)
 }
 
-/// The lines near the pc of a CPU, or where it stands, if it has no job in hand.
+/// The lines near the pc of a CPU, or where it is, if it has no job in hand.
 pub fn nearby_lines(alloc: Global, machine: &Machine, cpu: u8) -> Result<String, AllocError>
     ensures { IfOk result (λ text.
         IsNearbyText machine.now.programs machine.now.jobs cpu (string_bytes text)) }

@@ -31,14 +31,14 @@ impl Model for Origin {
     } };
 }
 
-/// The number in 32 bits. One that is greater counts as want of memory.
+/// The number in 32 bits. One that is greater counts as out of memory.
 fn number_of(count: usize) -> Result<u32, AllocError>
     ensures { IfOk result (λ n. n ≡ count) }
 {
     u32::try_from(count).map_err(|_| AllocError)
 }
 
-/// The jobs of a machine as they stand, and their numbers.
+/// The jobs of a machine as they are, and their numbers.
 fn keep_jobs(alloc: Global, machine: &Machine) -> Result<(Vec<KeptJob>, Vec<u32>), AllocError>
     ensures within { IfOk result (λ r. All (λ n. n < length r.0.items) r.1.items) }
     ensures jobs { IfOk result (λ r. chosen r.0.items r.1.items ≡ machine.now.jobs) }
@@ -73,7 +73,7 @@ impl Origin {
     ghost use Rattle.bpf_machine.specs.Schedule.{World};
     ghost use Rattle.bpf_debug.specs.Origin.{CanRewind, IsOfShape, first_of};
 
-    /// What is kept of a machine as it stands, whose store has this shape.
+    /// What is kept of a machine as it is, whose store has this shape.
     pub fn new(alloc: Global, shape: StoreShape, machine: &Machine) -> Result<Origin, AllocError>
         requires shown { (w : World) × Shows machine.now w }
         requires shape { IsOfShape shape machine.now.store }

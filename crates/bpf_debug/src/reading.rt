@@ -85,7 +85,7 @@ fn line_at(
     }
 }
 
-/// The line of so many bytes from an address on, in hex.
+/// The line of this many bytes from an address on, in hex.
 pub fn bytes_line(
     alloc: Global,
     store: &PlainStore,

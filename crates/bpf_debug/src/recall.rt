@@ -71,7 +71,7 @@ fn hand_of(job: usize, state: &Cpu) -> Hand
     }
 }
 
-/// How a CPU stands.
+/// How a CPU is.
 fn stand_of(machine: &Machine, cpu: u8) -> Stand
     ensures { IsStand machine.now.jobs cpu result }
 {
@@ -82,7 +82,7 @@ fn stand_of(machine: &Machine, cpu: u8) -> Stand
     }
 }
 
-/// One turn, and the last of this CPU's turns of a kind behind it.
+/// One turn, and the last of this CPU's turns of a kind after it.
 fn recall_turn(
     machine: &mut Machine,
     turns_of: u8,
@@ -109,7 +109,7 @@ fn recall_turn(
     }
 }
 
-/// So many turns of a CPU, in the same way.
+/// This many turns of a CPU, in the same way.
 fn recall_turns(
     machine: &mut Machine,
     turns_of: u8,
@@ -162,7 +162,7 @@ fn put_stand(out: &mut String, cpu: u8, stand: Stand)
 }
 
 /// Puts the line of the job that a turn of a CPU ended, and how the CPU stood before it; where it
-/// stands, if there is no such turn.
+/// is, if there is no such turn.
 pub fn put_last(out: &mut String, machine: &Machine, cpu: u8, recall: Option<Recall>)
     requires { string_len out.old + 960 ≤ string_capacity out.old }
     ensures { (past : Option Past) → IsRecall cpu recall past → (text : List ℕ)

@@ -32,7 +32,7 @@ pub fn is_schedule(word: &[u8], words: &[&[u8]]) -> bool
     is(word, "steps")
 }
 
-/// The runs of a schedule, as the words behind `steps` spell them; `None` where they spell none.
+/// The runs of a schedule, as the words after `steps` spell them; `None` where they spell none.
 pub fn schedule_in(alloc: Global, words: &[&[u8]]) -> Result<Option<Vec<(u8, u64)>>, AllocError>
     ensures said { IfOk result (λ found. IfSome found (λ runs.
         schedule_in (map (λ f. f.now) words.now) ≡ Some (Order.Steps runs.items))) }

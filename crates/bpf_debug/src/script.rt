@@ -73,7 +73,7 @@ fn follow_lines(
 }
 
 /// What the lines of a script are answered, in their order; without a script there are none. The
-/// room for all answers is made before the first line is followed, and want of memory for that is
+/// room for all answers is made before the first line is followed, and out of memory for that is
 /// the only refusal: the session is then as it was.
 pub fn run_script(
     alloc: Global,

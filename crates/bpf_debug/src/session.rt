@@ -81,14 +81,14 @@ fn is_pc(programs: &[Program], pc: u32) -> bool
     false
 }
 
-/// Whether each CPU of a schedule is one of so many.
+/// Whether each CPU of a schedule is one of this many.
 fn are_cpus(runs: &[(u8, u64)], cpus: u8) -> bool
     ensures { result ≡ are_cpus cpus runs.now }
 {
     runs.iter().all(|run| run.0 < cpus)
 }
 
-/// Room for so many lines and some more.
+/// Room for this many lines and some more.
 fn make_room(alloc: Global, lines: usize) -> Option<String>
     ensures empty { IfSome result (λ s. string_bytes s ≡ []) }
     ensures size { IfSome result (λ s. string_len s ≡ 0) }
@@ -102,7 +102,7 @@ fn make_room(alloc: Global, lines: usize) -> Option<String>
     }
 }
 
-/// The number behind a CPU's.
+/// The number after a CPU's.
 fn next_cpu(machine: &Machine, cpu: u8) -> u8
     requires { has_cpu machine.now.store cpu ≡ true }
     ensures { result ≡ cpu + 1 }
@@ -112,7 +112,7 @@ fn next_cpu(machine: &Machine, cpu: u8) -> u8
     cpu + 1
 }
 
-/// One turn of a CPU, with the line of the job that it ends and that of where the CPU stands then.
+/// One turn of a CPU, with the line of the job that it ends and that of where the CPU is then.
 fn take_turn(machine: &mut Machine, cpu: u8, out: &mut String)
     requires { string_len out.old + 256 ≤ string_capacity out.old }
     ensures made { (answer : Turn) × (place : List ℕ)
@@ -133,7 +133,7 @@ impl Session {
     ghost use Rattle.bpf_debug.specs.Session.{IsNoCpu, Leaves, LeavesLine, RefusesHere, RefusesLine};
 
     /// A session without breakpoints, with the maps' names by their numbers, over a machine whose
-    /// store has this shape. What it takes to make the machine again is kept: want of memory for
+    /// store has this shape. What it takes to make the machine again is kept: out of memory for
     /// that is the only refusal.
     pub fn new(
         alloc: Global,
@@ -545,7 +545,7 @@ impl Session {
         }
     }
 
-    /// Makes the turns that the words behind `steps` spell.
+    /// Makes the turns that the words after `steps` spell.
     fn obey_schedule(
         &mut self,
         alloc: Global,

@@ -46,7 +46,7 @@ fn hex_text(alloc: Global, number: u64) -> Result<String, AllocError>
     Ok(text)
 }
 
-/// A value's name, and how far behind its beginning.
+/// A value's name, and how far past its beginning.
 fn place_words(alloc: Global, name: &str, behind: u64) -> Result<String, AllocError>
     ensures { IfOk result (λ text. string_bytes text ≡ place_words name.now behind) }
 {
@@ -55,7 +55,7 @@ fn place_words(alloc: Global, name: &str, behind: u64) -> Result<String, AllocEr
     Ok(words)
 }
 
-/// How far an address is behind the beginning of a value.
+/// How far an address is after the beginning of a value.
 fn behind(span: Span, address: u64) -> u64
     ensures { result ≡ address - span.at }
 {
@@ -87,7 +87,7 @@ fn below_words(alloc: Global, frame: u64, below: u64) -> Result<String, AllocErr
     Ok(words)
 }
 
-/// An address in a frame, by how far it is behind its beginning.
+/// An address in a frame, by how far it is after its beginning.
 fn frame_words(alloc: Global, frame: u64, at: u64) -> Result<String, AllocError>
     ensures { IfOk result (λ text. string_bytes text ≡ frame_words frame at) }
 {
@@ -100,7 +100,7 @@ fn frame_words(alloc: Global, frame: u64, at: u64) -> Result<String, AllocError>
     below_words(alloc, frame, FRAME_BYTES as u64 - at)
 }
 
-/// An address in the context: how far behind its beginning.
+/// An address in the context: how far past its beginning.
 fn context_words(alloc: Global, at: u64) -> Result<String, AllocError>
     ensures { IfOk result (λ text. string_bytes text ≡ context_words at) }
 {

@@ -5,7 +5,7 @@ ghost use Rattle.std.specs.Fmt.{decimal};
 
 use itoa::Buffer;
 
-/// Puts a text behind another one, in its room.
+/// Appends a text to another one, in its room.
 pub fn put(out: &mut String, text: &str)
     requires { string_len out.old + length text.now ≤ string_capacity out.old }
     ensures text { string_bytes out.new ≡ string_bytes out.old ++ text.now }
@@ -18,7 +18,7 @@ pub fn put(out: &mut String, text: &str)
     }
 }
 
-/// Puts a number behind a text, in its room: it has 20 digits at most.
+/// Appends a number to a text, in its room: it has 20 digits at most.
 pub fn put_number(out: &mut String, number: u64)
     requires { string_len out.old + 20 ≤ string_capacity out.old }
     ensures text { string_bytes out.new ≡ string_bytes out.old ++ decimal number }

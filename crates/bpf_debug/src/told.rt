@@ -17,7 +17,7 @@ fn grow_word(grow: bool) -> &'static str
     if grow { " grow" } else { "" }
 }
 
-/// Puts a map's sizes behind a text, in its room.
+/// Appends a map's sizes to a text, in its room.
 fn put_sizes(out: &mut String, shape: MapShape)
     requires { string_len out.old + 128 ≤ string_capacity out.old }
     ensures { string_bytes out.new ≡ string_bytes out.old ++ sizes_text shape }
@@ -42,7 +42,7 @@ fn sizes(alloc: Global, shape: MapShape) -> Result<String, AllocError>
     Ok(text)
 }
 
-/// Puts the line of a map behind the text, as a run file has it.
+/// Appends the line of a map to the text, as a run file has it.
 fn push_shape(
     alloc: Global,
     text: &mut String,
@@ -57,7 +57,7 @@ fn push_shape(
     text.push_str(line.as_str())
 }
 
-/// Puts the line of the map of this number behind the text, if there is one.
+/// Appends the line of the map of this number to the text, if there is one.
 fn push_map(
     alloc: Global,
     text: &mut String,

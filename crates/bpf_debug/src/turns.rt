@@ -11,7 +11,7 @@ ghost use Rattle.bpf_debug.specs.Turns.{MakesRuns, MakesTurns, last_cpu};
 use crate::lines::{put_ended, put_where};
 use bpf_machine::Machine;
 
-/// So many turns of a CPU, with the lines of the jobs that end.
+/// This many turns of a CPU, with the lines of the jobs that end.
 fn make_turns(machine: &mut Machine, cpu: u8, count: u64, out: &mut String)
     requires shown { (w : World) × Shows machine.old w }
     requires room { string_len out.old + 128 * open_jobs machine.old.jobs + 128
@@ -30,7 +30,7 @@ fn make_turns(machine: &mut Machine, cpu: u8, count: u64, out: &mut String)
     }
 }
 
-/// So many turns of a CPU, with the lines of the jobs that end and that of where it stands then.
+/// This many turns of a CPU, with the lines of the jobs that end and that of where it is then.
 pub fn take_turns(machine: &mut Machine, cpu: u8, count: u64, out: &mut String)
     requires shown { (w : World) × Shows machine.old w }
     requires room { string_len out.old + 128 * open_jobs machine.old.jobs + 128
@@ -70,7 +70,7 @@ fn last_cpu(runs: &[(u8, u64)]) -> u8
 }
 
 /// The turns of a schedule, with the lines of the jobs that end and that of where the CPU of its
-/// last run stands then.
+/// last run is then.
 pub fn take_runs(machine: &mut Machine, runs: &[(u8, u64)], out: &mut String)
     requires some { 0 < length runs.now }
     requires shown { (w : World) × Shows machine.old w }

@@ -1,4 +1,4 @@
--- A listing has the lines that it lists, each with a comment behind it.
+-- A listing has the lines that it lists, each with a comment after it.
 use Rattle.std.proofs.Common.{◌≡◌, ℕ, zero, suc, ◌+◌, ◌*◌, ◌/◌, ◌%◌, ◌<◌, Bool, true, false, cond, ◌==◌, ◌&&◌, not, List, [], ◌∷◌, ◌++◌, length, append_assoc, append-nil, codes, drop, take, slice_index, refl, sym, ap, subst, ◌∙◌, arith}
 use Rattle.std.specs.Fmt.{decimal, digits, digits_onto, digit_glyph}
 use Rattle.std.specs.List.{list_all, onto_first}
@@ -17,7 +17,7 @@ use Rattle.bpf_disassembly.specs.Listing.Laws.{ListingsAssembleAlike}
 use Rattle.bpf_disassembly.specs.Listing.Program.{place_comment}
 use Rattle.bpf_disassembly.specs.Listing.Source.{IsSourceListing, behind_line}
 
--- ---- what stands behind a line has no line feed
+-- ---- what follows a line has no line feed
 
 both : (a b : Bool) → a ≡ true → b ≡ true → a && b ≡ true
 both true b e f = f

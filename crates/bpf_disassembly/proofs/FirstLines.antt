@@ -22,7 +22,7 @@ pub whole : (text : List ℕ) → position_or_len is_feed text ≡ length text �
 whole [] h = refl
 whole (b ∷ bs) h = whole_by b bs (is_feed b) refl h (whole bs)
 
--- what stands before the first line feed and behind it
+-- what is before the first line feed and after it
 pub cut : (text : List ℕ) → position_or_len is_feed text < length text → lines_of text ≡ before_first is_feed text ∷ lines_of (after_first is_feed text)
 cut text h = slice_split_first is_feed text 0 h
 

@@ -4,7 +4,7 @@ use Rattle.std.proofs.lemmas.List.{drop_all}
 use Rattle.bpf_insn.specs.declared.instruction.Insn.{Insn}
 use Rattle.bpf_spelling.specs.Form.{Item, item_text, text_of, line_of, canonical}
 
--- of one part of a line behind another
+-- of one part of a line after another
 pub append_texts : (is js : List Item) → text_of (is ++ js) ≡ text_of is ++ text_of js
 append_texts [] js = refl
 append_texts (i ∷ is) js = ap (λ t. item_text i ++ t) (append_texts is js) ∙ sym (append_assoc (item_text i) (text_of is) (text_of js))

@@ -43,7 +43,7 @@ use Rattle.std.specs.List.{onto_first}
 use Rattle.bpf_text.proofs.Complete.{line_complete}
 use Rattle.bpf_disassembly.proofs.Shown.{shown, form_in_line, is_apart, AreSmall, SmallInteger}
 
--- ---- each form's tokens stand apart, and its numbers are small
+-- ---- each form's tokens are apart, and its numbers are small
 
 alu_apart : (op : AluOp) (w : Width) (d : Reg) (s : Operand) → is_apart (form_of (insn.Alu w op d s) None) ≡ true
 alu_apart alu.Add w d (operand.Immediate n) = refl
@@ -123,7 +123,7 @@ no_jump : (us : List Tok) → (jump_at (Mark sign.Colon ∷ us) ≡ None) × (ju
 unfolding jump_at jump_long_at call_local_at
 no_jump us = let e = colon_target us in rw e (refl, refl, refl)
 
--- no form has a colon behind its first token
+-- no form has a colon after its first token
 no_colon : (t : Tok) (us : List Tok) → line_at (t ∷ Mark sign.Colon ∷ us) ≡ None
 unfolding line_at statement_at register_at operation_at operator_at operation_named lock_at branch_at store_at cell_at
 no_colon (Register w d) us = refl

@@ -18,7 +18,7 @@ pub no_bytes : (line : List ℕ) → length line ≡ 0 → line ≡ []
 no_bytes [] e = refl
 no_bytes (b ∷ bs) e = absurd (omega (arith, e))
 
--- a line of some words has its place behind it
+-- a line of some words has its place after it
 pub has_place : (pc size : ℕ) (bytes : List ℕ) → size ≢ 0 → behind_line pc size bytes ≡ place_comment pc (take (8 * size) bytes)
 has_place pc zero bytes some = absurd (some refl)
 has_place pc (suc size) bytes some = refl
@@ -27,7 +27,7 @@ feed_by : (lines : List (List ℕ)) → 0 < length lines → feed_before lines �
 feed_by [] some = absurd (omega arith)
 feed_by (line ∷ lines) some = refl
 
--- a line feed stands before the lines of any text
+-- a line feed is before the lines of any text
 pub has_feed : (text : List ℕ) → feed_before (lines_of text) ≡ codes "\n"
 has_feed text = feed_by (lines_of text) (omega (arith, length-slice_split (λ b. b == 10) text))
 

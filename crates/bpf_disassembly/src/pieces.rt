@@ -19,7 +19,7 @@ impl fmt::Display for Named {
     }
 }
 
-/// A number behind its sign and a blank.
+/// A number after its sign and a blank.
 #[derive(Drop)]
 pub struct Offset(pub i16);
 
@@ -39,7 +39,7 @@ impl fmt::Display for Offset {
     }
 }
 
-/// A jump's distance, behind its sign.
+/// A jump's distance, after its sign.
 #[derive(Drop)]
 pub struct Distance(pub i32);
 

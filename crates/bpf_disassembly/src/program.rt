@@ -10,7 +10,7 @@ use bpf_insn::Insn;
 use bpf_text::TextError;
 use std::alloc::Global;
 
-/// Puts an instruction's line behind the text.
+/// Appends an instruction's line to the text.
 fn push_line(text: &mut String, insn: Insn) -> Result<(), TextError>
     ensures fits { Fits insn }
     ensures ok { OnOk result (string_bytes text.new ≡ string_bytes text.old

@@ -1,4 +1,4 @@
--- Turns that are made one after the other, as they are told.
+-- Turns that are made one after the other, as they are printed.
 use Rattle.std.proofs.Common.{◌≡◌, ◌∙◌, Bool, false, Option, Some, ℕ, zero, suc, ◌+◌, ◌-◌, ◌<◌, ◌≤◌, List, [], ◌∷◌, ◌++◌, append_assoc, append-nil, length, take, replicate, get_or, map, inl, inr, refl, sym, ap, subst, arith}
 use Rattle.std.proofs.lemmas.List.{replicate-append-replicate, take_more, take_all}
 use Rattle.std.proofs.lemmas.Grind.{replicate_next}
@@ -96,7 +96,7 @@ nothing_more : (n : ℕ) (w : World) (c : ℕ) → IsFree w.jobs c → NoneWaits
 nothing_more zero w c free none = (refl, refl)
 nothing_more (suc n) w c free none = (Idle, w, [], [], inr (inr (free, none, refl, refl)), inr (inr (free, none, refl)), nothing_more n w c free none, refl)
 
--- behind an idle turn of it the others change nothing, and nothing happens in them
+-- after an idle turn of it the others change nothing, and nothing happens in them
 pub rest_idle : (k n c : ℕ) (answer : Turn) (names : List (List ℕ)) (old mid new : MachineState) (text between later : List ℕ) → k ≤ n → answer ≡ Idle
     → AreTold (Turns (replicate k c)) names old text mid between → AreTold (OneTurn c answer) names mid between new later → AreTold (Turns (replicate n c)) names old text new later
 rest_idle k n c answer names old mid new text between later within idle before after =

@@ -51,7 +51,7 @@ size_text size.Half = codes "2"
 size_text size.Word = codes "4"
 size_text size.Double = codes "8"
 
--- so many bytes, from an address on
+-- this many bytes, from an address on
 abbrev pub bytes_text : ℕ → Size → List ℕ
 bytes_text at size = size_text size ++ (codes " at " ++ address_text at)
 
@@ -77,7 +77,7 @@ atomic_text at size op operand expected found =
     change_text op ++ codes " " ++ bytes_text at size ++ codes " " ++ operand_text op operand expected
     ++ codes " = " ++ decimal found
 
--- a call with its reply behind '='
+-- a call with its reply after '='
 abbrev pub event_text : List (List ℕ) → Event → List ℕ
 event_text names event.Begin = codes "begin"
 event_text names event.End = codes "end"

@@ -3,6 +3,6 @@
 -- a plain store and the calls that one CPU has made of it; one over a store of this shape; the call
 -- that a note is of
 pub use Rattle.bpf_events.specs.Private.Recording.{Recording, IsRecorderOf, event_of}
--- what happens in a turn that comes to this, where these events were noted; whatever the CPU's next
--- turn comes to, this happens in it
+-- what happens in a turn with this result, where these events were noted; whatever the CPU's next
+-- turn leads to, this happens in it
 pub use Rattle.bpf_events.specs.Private.Watching.{noted, IsWatched}

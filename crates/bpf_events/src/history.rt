@@ -29,8 +29,8 @@ fn make_recorder(alloc: Global, shape: &StoreShape) -> Result<Recorder, AllocErr
 
 /// Runs jobs over a new store whose maps have these names: the turns of a schedule, CPUs, each with
 /// how many it takes before the next, and then rounds until each job has ended. The text has a line
-/// for each event at the store, in their order, and behind them what `run_jobs_by` of bpf_jobs
-/// tells. Want of memory is the only refusal.
+/// for each event at the store, in their order, and after them what `run_jobs_by` of bpf_jobs
+/// shows. Out of memory is the only refusal.
 pub fn run_with_history(
     alloc: Global,
     shape: StoreShape,

@@ -3,7 +3,7 @@
 //! The functions do nothing: their contracts are the laws.
 ghost use Rattle.bpf_events.specs.Reports.{HistoriesAreDetermined, HistoriesAreOfReports};
 
-/// Behind the lines of a history stands the report of its run.
+/// After the lines of a history is the report of its run.
 pub fn histories_are_of_reports()
     ensures { HistoriesAreOfReports }
 {

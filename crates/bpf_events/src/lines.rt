@@ -69,7 +69,7 @@ fn size_text(size: Size) -> &'static str
     }
 }
 
-/// Puts a word behind the text, and what follows it.
+/// Appends a word to the text, and what follows it.
 fn push_both(text: &mut String, word: &str, rest: &str) -> Result<(), AllocError>
     ensures { OnOk result (string_bytes text.new ≡ string_bytes text.old ++ word.now ++ rest.now) }
 {
@@ -77,7 +77,7 @@ fn push_both(text: &mut String, word: &str, rest: &str) -> Result<(), AllocError
     text.push_str(rest)
 }
 
-/// Puts so many bytes, from an address on, behind the text.
+/// Appends this many bytes, from an address on, to the text.
 fn push_bytes(alloc: Global, text: &mut String, at: u64, size: Size) -> Result<(), AllocError>
     ensures { OnOk result (string_bytes text.new ≡ string_bytes text.old ++ bytes_text at size) }
 {
@@ -124,7 +124,7 @@ fn lookup_text(
     format!(in alloc; "lookup {name} {key} = {place}")
 }
 
-/// Puts a value and the flags of its update behind the text.
+/// Appends a value and the flags of its update to the text.
 fn push_value(alloc: Global, text: &mut String, value: &[u8], flags: u64) -> Result<(), AllocError>
     ensures { OnOk result (string_bytes text.new
         ≡ string_bytes text.old ++ value_text value.now flags) }
@@ -245,7 +245,7 @@ fn note_text(alloc: Global, names: &[String], note: &Note) -> Result<String, All
     }
 }
 
-/// Puts the line of an event behind the text: a call of this CPU, of this job, at this pc.
+/// Appends the line of an event to the text: a call of this CPU, of this job, at this pc.
 pub(crate) fn push_note(
     alloc: Global,
     text: &mut String,

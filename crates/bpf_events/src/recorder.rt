@@ -82,7 +82,7 @@ impl Recorder {
         self.lost
     }
 
-    /// Puts a note of a CPU's call behind the others.
+    /// Appends a note of a CPU's call to the others.
     fn put(&mut self, cpu: u8, note: Result<Note, AllocError>)
         ensures store { self.new.store ≡ self.old.store }
         ensures cpu { self.new.cpu ≡ self.old.cpu }

@@ -1,4 +1,4 @@
-//! Turns that are made and told of.
+//! Turns that are made and printed.
 
 ghost use Rattle.std.specs.Prelude.{◌≡◌, ◌++◌, ℕ, false, IfOk, OnOk, Some, map, replicate, string_bytes};
 ghost use Rattle.bpf_plain.specs.Alike.{IsSameShape};
@@ -18,7 +18,7 @@ use crate::watching::watch;
 use bpf_machine::{Machine, Turn};
 use std::alloc::{AllocError, Global};
 
-/// Puts the lines of a CPU's calls behind the text, which were noted of a job at a pc.
+/// Appends the lines of a CPU's calls to the text, which were noted of a job at a pc.
 fn push_notes(
     alloc: Global,
     text: &mut String,
@@ -38,7 +38,7 @@ fn push_notes(
     Ok(())
 }
 
-/// Puts the line of a run's end behind the text, where a turn comes to that.
+/// Appends the line of a run's end to the text, where a turn leads to that.
 fn push_end(
     alloc: Global,
     text: &mut String,
@@ -61,7 +61,7 @@ fn push_end(
     }
 }
 
-/// Puts the lines of a turn that comes to this behind the text, of which these calls were noted.
+/// Appends the lines of a turn with this result to the text, of which these calls were noted.
 fn push_worked(
     alloc: Global,
     text: &mut String,
@@ -101,7 +101,7 @@ fn push_turn(
     }
 }
 
-/// Makes one turn of a CPU, and tells what happens in it.
+/// Makes one turn of a CPU, and says what happens in it.
 fn make_turn(
     alloc: Global,
     machine: &mut Machine,
@@ -122,7 +122,7 @@ fn make_turn(
     Ok(answer)
 }
 
-/// So many turns of a CPU. Those behind an idle one are idle too, and aren't made.
+/// This many turns of a CPU. Those after an idle one are idle too, and aren't made.
 fn make_run(
     alloc: Global,
     machine: &mut Machine,
@@ -219,6 +219,6 @@ pub(crate) fn make_rounds(
             return Ok(());
         }
     }
-    // Each round makes a step, and no jobs have budgets for so many.
+    // Each round makes a step, and no jobs have budgets for this many.
     Err(AllocError)
 }

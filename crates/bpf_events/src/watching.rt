@@ -50,7 +50,7 @@ fn note_begin(recorder: &mut Recorder, program: &Program, cpu: u8, context: Vec<
     note_step(recorder, program, state, budget);
 }
 
-/// Goes on with a CPU's job from this stage, as its next turn will. The pc at which the CPU stands.
+/// Goes on with a CPU's job from this stage, as its next turn will. The pc at which the CPU is.
 fn note_stage(
     recorder: &mut Recorder,
     program: &Program,
@@ -99,7 +99,7 @@ fn make_quiet_step(program: &Program, stage: &mut KeptStage) -> Option<u32>
 }
 
 /// Notes what a CPU's next turn does at the store, but for the end of its job. The job, and the pc
-/// at which the CPU stands; `None` of a CPU without work. The store is copied only for steps that it
+/// at which the CPU is; `None` of a CPU without work. The store is copied only for steps that it
 /// sees.
 pub fn watch(
     alloc: Global,

@@ -64,7 +64,7 @@ staged jobs j k task other stage listed at = elim (equal_or_not k j) [
   | inr ne ↦ inr (ne, sym (slice_get-set_other jobs j k (record task { stage = stage }) ne) ∙ at)
 ]
 
--- the stage in which a turn leaves its job is told by its answer
+-- the stage in which a turn leaves its job is determined by its answer
 abbrev IsAnswered : ℕ → Stage → Turn → Type 0
 IsAnswered j (Waiting context) answer = ⊥
 IsAnswered j (InHand state left) answer = answer ≡ turn.Ran
@@ -278,7 +278,7 @@ idle_rounds (suc n) w z idle runs =
     let same : runs.0 ≡ w = idle_rounds n w runs.0 idle runs.1 in
     idle_schedule (below w.store.shape.cpus) w z (idle_below w w.store.shape.cpus idle) (subst (λ (x : World). RunsRound x z) same runs.2)
 
--- ---- evidence that stand behind others
+-- ---- evidence that follow others
 pub adds_none : (P : Evidence → Type 0) (old : List Evidence) → AddsEvidence P old old
 adds_none P old = ([], sym (append-nil old), All-nil P)
 

@@ -11,7 +11,7 @@ use Rattle.bpf_cpu.specs.Row.{plain_size}
 use Rattle.bpf_faults.specs.declared.area.Region.{Region}
 use Rattle.bpf_faults.specs.declared.area.Region.TheVariants.{Context, Values, Other}
 
--- the instruction loads or stores bytes itself: so many, at this register's value and this offset
+-- the instruction loads or stores bytes itself: this many, at this register's value and this offset
 -- from it (RFC 9669, section 5)
 abbrev pub Accesses : Insn → (base : Reg) → (offset : ℤ) → (length : ℕ) → Type 0
 Accesses (insn.Load z d b o) base offset length =

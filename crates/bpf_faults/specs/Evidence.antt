@@ -1,4 +1,4 @@
--- What is told of a fault: the state from which its step was made.
+-- What is printed of a fault: the state from which its step was made.
 use Rattle.std.specs.Prelude.{◌≡◌, ◌⊎◌, ℕ, List, Some, length, slice_get}
 use Rattle.std.specs.List.{Contains}
 use Rattle.bpf_cpu.specs.declared.cpu.Cpu.{Cpu}

@@ -36,7 +36,7 @@ pub record AreWatched (jobs : List Task) (contexts : List ℕ) (evidence : List 
   pub one : HaveOneInHand jobs
   pub have : HaveEvidence jobs evidence
 
--- evidence of which this holds stands behind the rest
+-- evidence of which this holds follows the rest
 abbrev pub AddsEvidence : (Evidence → Type 0) → List Evidence → List Evidence → Type 0
 AddsEvidence P old new = (added : List Evidence) × (new ≡ old ++ added) × All P added
 

@@ -75,7 +75,7 @@ pub fn is_reached(seen: &Seen, address: u64, length: u64) -> bool {
         || in_values(seen, address, length)
 }
 
-/// Puts the line of an area behind the text, of which these are the first address and the size.
+/// Appends the line of an area to the text, of which these are the first address and the size.
 fn push_area(
     text: &mut String,
     head: &str,
@@ -87,7 +87,7 @@ fn push_area(
     write!(text, "{head}0x{first:x} to 0x{last:x}, {what}\n")
 }
 
-/// Puts a line for each area that is reached behind the text.
+/// Appends a line for each area that is reached to the text.
 pub fn push_areas(text: &mut String, seen: &Seen, maps: &Maps<'_>) -> Result<(), AllocError> {
     let mut head = "  reachable: ";
     let mut first = STACK_BASE;
@@ -109,7 +109,7 @@ pub fn push_areas(text: &mut String, seen: &Seen, maps: &Maps<'_>) -> Result<(),
     push_values(text, head, seen, maps)
 }
 
-/// Puts a line for each of the first held values behind the text, and how many more there are.
+/// Appends a line for each of the first held values to the text, and how many more there are.
 fn push_values(
     text: &mut String,
     head: &str,

@@ -54,7 +54,7 @@ impl Seen {
         self.held.extend_from_slice(state.held.spans())
     }
 
-    /// Sees the state in which a job starts on this CPU, with so many bytes of context.
+    /// Sees the state in which a job starts on this CPU, with this many bytes of context.
     pub(crate) fn see_start(
         &mut self,
         alloc: Global,

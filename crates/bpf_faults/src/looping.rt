@@ -16,7 +16,7 @@ struct Step {
     changed: [bool; REGISTERS],
 }
 
-/// The last steps of a CPU's job in hand. As long as there are fewer than `STEPS` they stand at the
+/// The last steps of a CPU's job in hand. As long as there are fewer than `STEPS` they are at the
 /// front, in their order.
 #[derive(Clone, Copy)]
 struct Trail {

@@ -209,8 +209,8 @@ fn watch(
 }
 
 /// Runs jobs in rounds over a new store, until each has ended: the machine that they leave, and of
-/// each job that ended in a fault what its CPU had before that step; and put behind the loops, of
-/// each that ended out of budget, its last steps. Want of memory is the only refusal.
+/// each job that ended in a fault what its CPU had before that step; and put after the loops, of
+/// each that ended out of budget, its last steps. Out of memory is the only refusal.
 pub fn evidence_of(
     alloc: Global,
     shape: StoreShape,

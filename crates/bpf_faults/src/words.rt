@@ -53,7 +53,7 @@ fn value_before(seen: &Seen, address: u64) -> Option<Span> {
     found
 }
 
-/// How far behind the end of a held value the bytes end, where that is what is wrong with them.
+/// How far past the end of a held value the bytes end, where that is what is wrong with them.
 fn push_behind(text: &mut String, span: Span, map: &str, end: u64) -> Result<(), AllocError> {
     let behind = end.saturating_sub(span.at.saturating_add(span.size));
     text.push_str("  hint: the access ends ")?;
@@ -143,7 +143,7 @@ fn push_access(
     push_hint(text, seen, maps, access.base, address, access.length)
 }
 
-/// The key or the value that a helper can't reach, of so many bytes.
+/// The key or the value that a helper can't reach, of this many bytes.
 fn push_argument(
     text: &mut String,
     seen: &Seen,

@@ -1,4 +1,4 @@
--- What a line says tells its first word, and so which lines may stand before it.
+-- What a line says determines its first word, and so which lines may be before it.
 use Rattle.std.proofs.Common.{◌≡◌, ℕ, zero, suc, ◌*◌, ◌-◌, ◌^◌, ◌<◌, ◌≤◌, ◌==◌, nat_lt, nat_le, Bool, true, false, not, ◌&&◌, ◌||◌, if◌then◌else◌, List, [], ◌∷◌, ◌++◌, length, Option, Some, None, Result, Ok, Err, ◌⊎◌, inl, inr, refl, sym, ap, subst, ◌∙◌, arith}
 use Rattle.std.specs.Prelude.{slice_get}
 use Rattle.std.proofs.lemmas.Bool.Decides.{nat_tests}
@@ -128,9 +128,9 @@ lines_tell may_grow f fs =
     maps_tell f (f ∷ fs) mask false (worded key.Map masked_map_form f fs 4 refl refl h)))
     (grows_tell may_grow f fs))))))
 
--- ---- where it may stand
+-- ---- where it may be
 
--- behind a group before its own, or behind its own where that has many lines
+-- after a group before its own, or after its own where that has many lines
 abbrev pub IsInPlace : ℕ → ℕ → Type 0
 IsInPlace last group = (last < group) ⊎ ((last ≡ group) × (4 ≤ group))
 

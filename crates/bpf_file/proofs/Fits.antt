@@ -64,7 +64,7 @@ no_work f e h =
     let M : List Loaded → Type 0 = λ ps. All (λ q. q.maps ≡ length f.maps) ps in
     record { jobs = subst J (sym e) (All-nil (IsJobFor f.cpus (length f.programs))); maps = subst M (sym h) (All-nil (λ q. q.maps ≡ length f.maps)) }
 
--- loaded for so many maps
+-- loaded for this many maps
 abbrev ForMaps : ℕ → Result Loaded FileError → Type 0
 ForMaps maps (Ok program) = program.maps ≡ maps
 ForMaps maps (Err e) = Unit {0}

@@ -1,4 +1,4 @@
--- What is left of a text behind its first lines.
+-- What is left of a text after its first lines.
 use Rattle.std.proofs.Common.{◌≡◌, ℕ, ◌+◌, ◌==◌, List, [], ◌∷◌, ◌++◌, length, length-append, take, append_assoc, append-nil, Option, Some, None, refl, sym, ap, ◌∙◌, arith}
 use Rattle.std.specs.List.{join_with_byte}
 use Rattle.std.proofs.Math.Seq.{take-append_seam}
@@ -6,7 +6,7 @@ use Rattle.std.proofs.lemmas.List.Splits.{join_with_byte-slice_split, length-sli
 use Rattle.bpf_lines.specs.Lines.{lines_of, lines_behind, rest_size}
 use Rattle.bpf_file.specs.Programs.{text_of_lines}
 
--- what stands behind a line, with its line feed
+-- what follows a line, with its line feed
 abbrev pub behind_line : Option (List ℕ) → List ℕ
 behind_line None = []
 behind_line (Some text) = 10 ∷ text
@@ -19,7 +19,7 @@ join_more line (l ∷ ls) text e = refl
 join_more line [] text e =
     absurd (omega (arith, ap length e, length-slice_split (λ b. b == 10) text))
 
--- a text is its first line and what stands behind it
+-- a text is its first line and what follows it
 pub line_cut : (left line : List ℕ) (behind : Option (List ℕ)) → lines_of left ≡ line ∷ lines_behind behind → left ≡ line ++ behind_line behind
 line_cut left line None e = sym (joined left) ∙ ap (join_with_byte 10) e ∙ sym (append-nil line)
 line_cut left line (Some text) e =

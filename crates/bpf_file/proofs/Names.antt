@@ -47,7 +47,7 @@ named_field p ps (f ∷ g ∷ fs) e =
     let word = and_both (is_name g) _ name.0 in
     name_is_text g word.0
 
--- behind a map's name
+-- after a map's name
 abbrev sizes : List Part
 sizes =
     Word key.KeySize ∷ Number ∷ Word key.ValueSize ∷ Number ∷ Word key.Max ∷ Number

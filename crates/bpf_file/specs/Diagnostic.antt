@@ -1,4 +1,4 @@
--- What is printed of a line of a run file, behind the line: L1 to L6, S1 to S6, H1, and the A and E
+-- What is printed of a line of a run file, after the line: L1 to L6, S1 to S6, H1, and the A and E
 -- codes of its programs. Our own choice.
 use Rattle.bpf_codes.specs.declared.code.Code.TheVariants as code
 use Rattle.bpf_codes.specs.declared.diagnostic.Diagnostic.{Diagnostic}

@@ -50,7 +50,7 @@ cpus_form = Word key.Cpus ∷ Number ∷ []
 abbrev pub seed_form : List Part
 seed_form = Word key.Seed ∷ Number ∷ []
 
--- `map NAME key K value V max M spare P`, and with `mask X` behind it
+-- `map NAME key K value V max M spare P`, and with `mask X` after it
 abbrev pub map_form : List Part
 map_form =
     Word key.Map ∷ Name ∷ Word key.KeySize ∷ Number ∷ Word key.ValueSize ∷ Number
@@ -59,7 +59,7 @@ map_form =
 abbrev pub masked_map_form : List Part
 masked_map_form = map_form ++ Word key.Mask ∷ Number ∷ []
 
--- in version 2 also with `grow` behind that
+-- in version 2 also with `grow` after that
 abbrev pub growing_map_form : List Part
 growing_map_form = map_form ++ Word key.Grow ∷ []
 
@@ -73,7 +73,7 @@ program_form = Word key.Program ∷ Name ∷ []
 abbrev pub words_form : List Part
 words_form = program_form ++ Word key.Hex ∷ Words ∷ []
 
--- `job CPU NAME`, with `budget N`, `ctx DIGITS`, or both behind it
+-- `job CPU NAME`, with `budget N`, `ctx DIGITS`, or both after it
 abbrev pub job_form : List Part
 job_form = Word key.Job ∷ Number ∷ Name ∷ []
 

@@ -16,7 +16,7 @@ use Rattle.bpf_file.specs.declared.error.FileError.{FileError}
 use Rattle.bpf_file.specs.declared.error.FileError.TheVariants.{Refused, OutOfMemory}
 use Rattle.bpf_file.specs.declared.error.Reason.TheVariants as reason
 
--- the program of these instructions, for so many maps; or its first refusal, at this line
+-- the program of these instructions, for this many maps; or its first refusal, at this line
 abbrev pub LoadsProgram : ℕ → ℕ → List Insn → Result Loaded FileError → Type 0
 LoadsProgram line maps is (Ok program) =
     (program ≡ record { instructions = is; maps = maps }) × IsSound maps is
@@ -49,7 +49,7 @@ abbrev pub text_of_lines : List (List ℕ) → List ℕ
 text_of_lines [] = []
 text_of_lines (l ∷ ls) = l ++ 10 ∷ text_of_lines ls
 
--- a refusal of assembly that stands behind this line of the file
+-- a refusal of assembly that follows this line of the file
 abbrev pub refusal_behind : ℕ → TextError → FileError
 refusal_behind line (text.BadLine n) = Refused (line + n) reason.BadInstruction
 refusal_behind line (text.BadNumber n) = Refused (line + n) reason.BadOperand
@@ -58,7 +58,7 @@ refusal_behind line (text.TwiceLabel n) = Refused (line + n) reason.TwiceLabel
 refusal_behind line (text.FarLabel n) = Refused (line + n) reason.FarLabel
 refusal_behind line text.OutOfMemory = OutOfMemory
 
--- the program in the assembly behind this line; or its refusal: of the first line that has one,
+-- the program in the assembly after this line; or its refusal: of the first line that has one,
 -- or else of the whole program, at the line of its `prog`
 abbrev pub OfAssembly : ℕ → ℕ → List ℕ → Result Loaded FileError → Type 0
 OfAssembly line maps assembly r =

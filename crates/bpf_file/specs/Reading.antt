@@ -1,5 +1,5 @@
 -- The relation between a text and the run file that it is, line by line (our own choice). A line
--- that is refused is the first; behind it nothing counts.
+-- that is refused is the first; after it nothing counts.
 use Rattle.std.specs.Prelude.{◌≡◌, ℕ, ◌+◌, ◌==◌, Bool, true, false, if◌then◌else◌, List, [], ◌∷◌, ◌++◌, length, Result, Ok, Err, MatchResult}
 use Rattle.bpf_lines.specs.Lines.{lines_of, fields_of}
 use Rattle.bpf_loader.specs.Loaded.{Loaded}
@@ -37,7 +37,7 @@ is_end_alone (f ∷ g ∷ fs) = false
 abbrev pub is_end : List ℕ → Bool
 is_end line = is_end_alone (fields_of line)
 
--- the end makes the lines behind `prog` a program; any other line is one of them
+-- the end makes the lines after `prog` a program; any other line is one of them
 abbrev pub Belongs : Bool → Part → ℕ → List ℕ → List (List ℕ) → List ℕ → Result State FileError
     → Type 0
 Belongs true p from name lines line r =
@@ -52,7 +52,7 @@ abbrev pub ReadsLine : ℕ → State → List ℕ → Result State FileError →
 ReadsLine n (Between p) line r = FieldsSay n p (fields_of line) r
 ReadsLine n (Within p from name lines) line r = Belongs (is_end line) p from name lines line r
 
--- what stands behind the last line: a file, where there was a first line and no program is open
+-- what follows the last line: a file, where there was a first line and no program is open
 abbrev pub finished : State → Result File FileError
 finished (Between p) = if p.group == 0 then Err (Refused 1 reason.BadFirstLine) else Ok p.file
 finished (Within p from name lines) = Err (Refused from reason.NoEnd)

@@ -27,7 +27,7 @@ abbrev pub unless : ℕ → Option Reason → Part → Result State FileError
 unless n None p = Ok (Between p)
 unless n (Some why) p = Err (Refused n why)
 
--- ---- which line may stand here
+-- ---- which line may be here
 
 -- the first line that says anything
 abbrev pub first_said : Result Said LineError → Result Said Reason
@@ -45,7 +45,7 @@ later_said (Err line.OutOfMemory) = Err reason.BadLine
 abbrev pub may_stand : Part → ℕ → Bool
 may_stand p group = is_in_order p.group group && not (is_full p group)
 
--- what a line says, by its first word and all of it, if it may stand here
+-- what a line says, by its first word and all of it, if it may be here
 abbrev pub placed : Part → List ℕ → Result Said LineError → Result Said Reason
 placed p word said =
     if p.group == 0 then first_said said
@@ -73,7 +73,7 @@ abbrev pub program_added : Part → List ℕ → Result Loaded FileError → Res
 program_added p name (Ok program) = Ok (Between (with_program p name program))
 program_added p name (Err e) = Err e
 
--- a program on one line, where it has a name that stands before, or a new one
+-- a program on one line, where it has a name that is before, or a new one
 abbrev pub WordsAdd : Option ℕ → ℕ → Part → List ℕ → List ℕ → Result State FileError → Type 0
 WordsAdd (Some k) n p name digits r = r ≡ Err (Refused n reason.TwiceName)
 WordsAdd None n p name digits r =

@@ -17,7 +17,7 @@ abbrev pub WaitsShort : Stage → Type 0
 WaitsShort (Waiting context) = length context ≤ max_context
 WaitsShort stage = ⊥
 
--- a job for so many CPUs, of one of so many programs, that waits
+-- a job for this many CPUs, of one of this many programs, that waits
 pub record IsJobFor (cpus programs : ℕ) (task : Task) : Type 0 where
   pub cpu : task.cpu < cpus
   pub program : task.program < programs

@@ -10,7 +10,7 @@ use Rattle.bpf_file.specs.declared.statement.Statement.{Statement}
 use Rattle.bpf_file.specs.declared.statement.Statement.TheVariants as statement
 use Rattle.bpf_file.specs.Form.{has_form, field_at, version_form, second_version_form, cpus_form, seed_form, map_form, masked_map_form, growing_map_form, growing_masked_map_form, program_form, words_form, job_form, budget_form, context_form}
 
--- the first line, and whether maps may grow behind it; how many CPUs there are; the seed of the
+-- the first line, and whether maps may grow after it; how many CPUs there are; the seed of the
 -- maps; a map by its name; a program by its name, its assembly following, or with its words as hex
 -- digits; a job: its CPU, where 64 bits hold its number, its program's name, and its budget and
 -- its context's digits, where the line has them

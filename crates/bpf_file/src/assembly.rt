@@ -10,7 +10,7 @@ use crate::key::Key;
 use bpf_lines::lines;
 use std::alloc::Global;
 
-/// The lines between `prog` and `end`, and what stands behind the `end`.
+/// The lines between `prog` and `end`, and what follows the `end`.
 #[derive(Clone, Copy)]
 pub struct Assembly<'a> {
     pub text: &'a [u8],

@@ -138,7 +138,7 @@ impl<'a> Draft<'a> {
         group::is_in_order(self.group, group) && !self.is_full(group)
     }
 
-    /// What a line of these fields says, if it may stand here.
+    /// What a line of these fields says, if it may be here.
     fn said<'b>(&self, fields: &[&'b [u8]]) -> Result<Statement<'b>, Reason>
         ensures { said_in result ≡ placed (part_of self.now)
             (field_at (map (λ f. f.now) fields.now) 0)
@@ -262,7 +262,7 @@ impl<'a> Draft<'a> {
         Ok(Next::Line)
     }
 
-    /// The assembly behind `prog NAME`, which stands at this line.
+    /// The assembly after `prog NAME`, which is at this line.
     pub fn add_assembly(
         &mut self,
         alloc: Global,
@@ -314,7 +314,7 @@ impl<'a> Draft<'a> {
         Ok(Next::Line)
     }
 
-    /// What a line that may stand here says.
+    /// What a line that may be here says.
     fn add(
         &mut self,
         alloc: Global,

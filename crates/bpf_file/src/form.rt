@@ -46,7 +46,7 @@ pub const MAP: [Part; 10] = [
     Part::Number,
 ];
 
-/// The same with `mask X` behind it.
+/// The same with `mask X` after it.
 pub const MASKED_MAP: [Part; 12] = [
     Part::Word(Key::Map),
     Part::Name,
@@ -62,7 +62,7 @@ pub const MASKED_MAP: [Part; 12] = [
     Part::Number,
 ];
 
-/// A map that grows, in version 2: `grow` behind the sizes.
+/// A map that grows, in version 2: `grow` after the sizes.
 pub const GROWING_MAP: [Part; 11] = [
     Part::Word(Key::Map),
     Part::Name,
@@ -77,7 +77,7 @@ pub const GROWING_MAP: [Part; 11] = [
     Part::Word(Key::Grow),
 ];
 
-/// `grow` behind the mask.
+/// `grow` after the mask.
 pub const GROWING_MASKED_MAP: [Part; 13] = [
     Part::Word(Key::Map),
     Part::Name,

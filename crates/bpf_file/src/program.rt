@@ -61,7 +61,7 @@ pub fn of_digits(
     }
 }
 
-/// A refusal of the assembly behind a line.
+/// A refusal of the assembly after a line.
 fn behind(line: usize, error: TextError) -> FileError
     requires { line + line_named error < 2 ^ 64 }
     ensures { result ≡ refusal_behind line error }
@@ -76,7 +76,7 @@ fn behind(line: usize, error: TextError) -> FileError
     }
 }
 
-/// The program in the assembly behind a line.
+/// The program in the assembly after a line.
 pub fn of_assembly(
     alloc: Global,
     line: usize,

@@ -18,8 +18,8 @@ use bpf_lines::lines;
 use std::alloc::Global;
 
 #[tactic(auto, using(crate::proofs::Sections::section_read, crate::proofs::Sections::section_refused, crate::proofs::Sections::section_unended, crate::proofs::Fits::section_fits))]
-/// The assembly behind the `prog` of this line: the number of the line behind its `end`, and what
-/// stands from there on.
+/// The assembly after the `prog` of this line: the number of the line after its `end`, and what
+/// is from there on.
 fn read_assembly<'a>(
     alloc: Global,
     draft: &mut Draft<'a>,
@@ -48,8 +48,8 @@ fn read_assembly<'a>(
 }
 
 #[tactic(auto, using(crate::proofs::Sections::goes_line, crate::proofs::Sections::goes_section, crate::proofs::Sections::goes_refused, crate::proofs::Fits::line_fits, crate::proofs::Fits::opening_fits))]
-/// One line, with the assembly behind it where it calls for some: the number of the next one, and
-/// what stands from there on.
+/// One line, with the assembly after it where it calls for some: the number of the next one, and
+/// what is from there on.
 fn read_line<'a>(
     alloc: Global,
     draft: &mut Draft<'a>,
@@ -75,7 +75,7 @@ fn read_line<'a>(
 }
 
 /// Reads a run file, the bytes of a text: what it says, or the first refusal in reading order.
-/// Lines count from 1. `OutOfMemory` may stand in place of either.
+/// Lines count from 1. `OutOfMemory` may take the place of either.
 #[tactic(auto, using(crate::proofs::Progress::progress_start, crate::proofs::Progress::progress_next, crate::proofs::Progress::progress_refused, crate::proofs::Progress::progress_end))]
 pub fn read_file(alloc: Global, text: &[u8]) -> Result<RunFile, FileError>
     ensures said { IfOk result (λ f. IsRunFile text.now (Ok (file_of f))) }

@@ -11,10 +11,10 @@ use bpf_base::MAX_BUDGET;
 use bpf_lines::words::{self, NumberError};
 use bpf_shared::MapShape;
 
-/// What one line says, where it isn't assembly. Names and digits are as they stand.
+/// What one line says, where it isn't assembly. Names and digits are as they are.
 #[derive(Clone, Copy)]
 pub enum Statement<'a> {
-    /// The first line, and whether maps may grow behind it.
+    /// The first line, and whether maps may grow after it.
     Version(bool),
     /// How many CPUs there are.
     Cpus(u64),

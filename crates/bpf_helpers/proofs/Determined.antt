@@ -33,7 +33,7 @@ nothing_behind (b ∷ bs) rest e = absurd cc
 pub asked-none : AreAskedAlike [] []
 asked-none before rest later g h = ap first_call (nothing_behind before rest g) ∙ sym (ap first_call (nothing_behind before later h))
 
--- loads of as many bytes, and what comes behind equal ones
+-- loads of as many bytes, and what comes after equal ones
 pub asked-loads : (a : ℕ) (bytes others : List ℕ) (es fs : List Event) → length bytes ≡ length others → (bytes ≡ others → AreAskedAlike es fs) → AreAskedAlike (loads a bytes ++ es) (loads a others ++ fs)
 asked-loads a [] [] es fs n behind = behind refl
 asked-loads a [] (y ∷ ys) es fs n behind = absurd (omega arith)
@@ -60,7 +60,7 @@ same_loads a (x ∷ xs) (y ∷ ys) es fs n e =
 -- ---- reading
 
 module _ (m : PrivateMemory) (held : List Span) (a n : ℕ) where
-  -- what is read behind equal replies is the same, and so is what comes behind it
+  -- what is read after equal replies is the same, and so is what comes after it
   pub asked-reads : (bytes others : List ℕ) (first second es fs : List Event) → Reads m held a n bytes first → Reads m held a n others second → (bytes ≡ others → AreAskedAlike es fs) → AreAskedAlike (first ++ es) (second ++ fs)
   asked-reads bytes others first second es fs (inl r) (inl s) behind =
       let same : bytes ≡ others = let e : Some bytes ≡ Some others = sym r.0 ∙ s.0 in cc in

@@ -5,7 +5,7 @@ use Rattle.bpf_shared.specs.declared.events.Span.{Span}
 use Rattle.bpf_shared.specs.Shape.{IsIn}
 use Rattle.bpf_helpers.specs.Private.Grid.{IsOffset, IsOnGrid, stride_of}
 
--- an address in a span is as far behind its map's first value as the span, and so far in it
+-- an address in a span is as far past its map's first value as the span, and so far in it
 pub within : (sizes : List ℕ) (p : Span) (a : ℕ) (on : IsOnGrid sizes p) → IsIn a p → IsOffset a on.map (on.element * stride_of p.size + (a - p.at))
 within sizes p a on inside =
     let from = inside.0 in

@@ -54,7 +54,7 @@ span_read bytes words rest size read = read ∙ ap (λ (l : List ℕ). words_sav
 pub span_is : (l : List ℕ) → length l ≡ 2 → All IsWord l → IsWide (span_of l)
 span_is l size fit = (All-get_or IsWord l 0 0 (omega arith) fit, All-get_or IsWord l 1 0 (omega arith) fit)
 
--- the number of spans is told by its two bytes
+-- the number of spans is determined by its two bytes
 count_told : (n m : ℕ) → n ≤ max_held → m ≤ max_held → low_bytes 2 n ≡ low_bytes 2 m → n ≡ m
 count_told n m h k e =
     let a : n < modulus 2 = omega arith in

@@ -30,7 +30,7 @@ CallsAreDetermined =
     → CallsHelper shapes n cpu registers memory held others end other
     → AreAskedAlike events others × (events ≡ others → (result ≡ end) × (after ≡ other))
 
--- what spans are saved as tells them, and where it ends
+-- what spans are saved as determines them, and where it ends
 abbrev pub SavedTellsSpans : Type 0
 SavedTellsSpans =
     (spans others : List Span) (rest more : List ℕ) → AreSavable spans → AreSavable others

@@ -14,7 +14,7 @@ span_saved p = words_saved 0 (p.at ∷ p.size ∷ [])
 abbrev pub spans_saved : List Span → List ℕ
 spans_saved spans = low_bytes 2 (length spans) ++ flat_map span_saved spans
 
--- ---- what is saved is told by its bytes, where its numbers are words
+-- ---- what is saved is determined by its bytes, where its numbers are words
 abbrev pub IsWide : Span → Type 0
 IsWide p = IsWord p.at × IsWord p.size
 

@@ -11,7 +11,7 @@ use bpf_shared::Span;
 
 /// Numbers of spans in bins by where the spans start, so that one is found among few.
 ///
-/// The first span has the number 0, which also stands where a bin has no further one: it is looked
+/// The first span has the number 0, which also is where a bin has no further one: it is looked
 /// at last.
 #[derive(Drop)]
 pub(crate) struct Bins {

@@ -1,6 +1,6 @@
 //! The calls of map helpers whose key or value may lie in held values, from which bytes are gathered.
 //! They have room for the bytes, which the calls of programs that keep both on their stacks don't
-//! pay for: so they stand out of line.
+//! pay for: so they are out of line.
 
 ghost use Rattle.std.specs.Prelude.{◌≡◌, ◌⊎◌, true, List};
 ghost use Rattle.bpf_shared.specs.declared.events.Event.{Event};

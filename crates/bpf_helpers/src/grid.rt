@@ -10,14 +10,14 @@ ghost use Rattle.bpf_helpers.specs.Private.Sizes.{AreSizesOf};
 use bpf_shared::{FIRST_VALUE, MAP_AREA, Span};
 
 /// The size of each map's values of which one is held. A map's elements lie side by side, so it
-/// tells which of them has an address.
+/// says which of them has an address.
 #[derive(Drop)]
 pub(crate) struct Grid {
     /// By map; 0 where no value of it is held.
     sizes: [u16; 16],
 }
 
-/// The map that has an address, and how far behind its first value the address is.
+/// The map that has an address, and how far past its first value the address is.
 #[inline]
 fn offset_of(address: u64) -> Option<(usize, u64)>
     ensures some { IfSome result (λ r. IsOffset address r.0 r.1) }

@@ -183,7 +183,7 @@ impl HeldSpans {
         }
     }
 
-    /// Holds this span behind the others, where it is none of them, there is room, and all may be
+    /// Holds this span after the others, where it is none of them, there is room, and all may be
     /// elements of the maps of one store. Whether it does.
     fn take_in(&mut self, span: Span) -> bool
         ensures held { result ≡ true → self.new ≡ self.old ++ span ∷ [] }

@@ -9,7 +9,7 @@ pub fn calls_are_determined()
     ensures { CallsAreDetermined }
 {}
 
-/// What spans are saved as tells them, and where it ends.
+/// What spans are saved as determines them, and where it ends.
 pub fn saved_tells_spans()
     ensures { SavedTellsSpans }
 {}

@@ -40,7 +40,7 @@ no_front : (rest : List ℕ) (more : List Insn) (f : Fault) → 8 ≤ length res
 no_front rest [] f l e c = let z : length rest ≡ 0 = ap length c in absurd (omega arith)
 no_front rest (j ∷ js) f l e c = none_wrong f j rest e c.0
 
--- ---- behind some instructions
+-- ---- after some instructions
 
 pub record Progress (bytes rest : List ℕ) (insns : List Insn) (pc : ℕ) : Type 0 where
   pub position : 8 * pc + length rest ≡ length bytes

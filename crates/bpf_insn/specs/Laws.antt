@@ -19,7 +19,7 @@ EncodingsAreDetermined =
     IsEncodedAs is a → IsEncodedAs is b → a ≡ b
 
 -- bytes are refused for one reason at most, and where they are instructions of the right length for
--- none; want of memory aside
+-- none; unless memory runs out
 abbrev pub RefusalsAreDetermined : Type 0
 RefusalsAreDetermined =
     ((bytes : List ℕ) (e f : InsnError) → e ≢ OutOfMemory → f ≢ OutOfMemory →
@@ -28,7 +28,7 @@ RefusalsAreDetermined =
     IsSized bytes → IsEncodedAs is bytes → ¬ IsRefused e bytes)
 
 -- The encoding of a list of 1 to max_words words is decoded as that list: its length is right, it
--- is the encoding of no other list, and it is refused for want of memory alone.
+-- is the encoding of no other list, and it is refused because memory ran out alone.
 abbrev pub EncodingsAreDecoded : Type 0
 EncodingsAreDecoded =
     (is : List Insn) (bytes : List ℕ) → 0 < word_length is → word_length is ≤ max_words →

@@ -103,7 +103,7 @@ error_number error.OutOfMemory = 14
 abbrev pub IsFirstAmiss : Window → Fault → Type 0
 IsFirstAmiss w f = IsFirst (λ (g : Fault). 0) (λ g. error_number (error_at g 0)) (IsAmiss w) f
 
--- at word pc, behind instructions that are spelled, something is wrong
+-- at word pc, after instructions that are spelled, something is wrong
 abbrev pub IsWrongAfter : List Insn → ℕ → Fault → List ℕ → Type 0
 IsWrongAfter [] pc f bytes = (pc ≡ 0) × (8 ≤ length bytes) × IsFirstAmiss (window_at bytes) f
 IsWrongAfter (i ∷ is) pc f bytes =

@@ -1,4 +1,4 @@
-//! Classes, modes, and the codes of rows that stand alone, and the opcodes made of them (RFC 9669,
+//! Classes, modes, and the codes of rows that are alone, and the opcodes made of them (RFC 9669,
 //! sections 3 to 5).
 
 ghost use Rattle.std.specs.Prelude.{◌≡◌, ◌<◌};
@@ -21,7 +21,7 @@ pub const JMP32: u8 = 6;
 
 pub const ALU64: u8 = 7;
 
-// The codes of rows that stand alone, in bits 4 to 7 (sections 4.1 to 4.3).
+// The codes of rows that are alone, in bits 4 to 7 (sections 4.1 to 4.3).
 pub const NEGATE: u8 = 0x8;
 
 pub const END: u8 = 0xd;

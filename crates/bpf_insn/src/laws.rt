@@ -14,7 +14,7 @@ pub fn encodings_are_determined()
 {}
 
 /// Bytes are refused for one reason at most, and where they are instructions of the right length
-/// for none; want of memory aside.
+/// for none; unless memory runs out.
 pub fn refusals_are_determined()
     ensures { RefusalsAreDetermined }
 {}

@@ -1,5 +1,5 @@
 //! What instructions do: the closed sets from which their rows are made (RFC 9669, sections 4 and
-//! 5), a file each, with the numbers by which words name its members. Each number stands once: the
+//! 5), a file each, with the numbers by which words name its members. Each number occurs once: the
 //! operation that has a number is found in the list of all.
 
 pub mod arithmetic;

@@ -14,7 +14,7 @@ use crate::word::{Window, Word};
 pub enum Field {
     /// It is zero.
     Unused,
-    /// This number tells the row from others.
+    /// This number distinguishes the row from others.
     Selects(u32),
     /// It holds this number of the instruction.
     Holds(u32),

@@ -63,7 +63,7 @@ fn next_word(bytes: &[u8]) -> Option<Word>
     }
 }
 
-/// A word and the one behind it, where there is one.
+/// A word and the one after it, where there is one.
 #[derive(Clone, Copy, PartialEq, Eq, Debug)]
 pub struct Window {
     pub word: Word,

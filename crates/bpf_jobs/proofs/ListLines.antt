@@ -41,7 +41,7 @@ one_cpu_more lists names c n found text new is many so_far more =
     (more ∙ (ap (λ (t : List ℕ). t ++ cpu_lines c names n found) so_far ∙ (ap (λ (k : ℕ). list_lines lists names c ++ cpu_lines c names k found) many
     ∙ ap (λ (x : List (List (List ℕ))). list_lines lists names c ++ cpu_lines c names (length x) x) is)))
 
--- what a machine tells of its lists is what the world that it shows has
+-- what a machine says of its lists is what the world that it shows has
 pub shown_lines : (m : MachineState) (w : World) (names : List (List ℕ)) (n : ℕ) → Shows m w → w.store.shape.cpus ≡ n → list_lines (λ c. made_keys (listing_at m.lists c)) names n ≡ lines_of_lists w names
 shown_lines m w names n shows cpus =
     ap (list_lines (λ c. made_keys (listing_at m.lists c)) names) (sym cpus)

@@ -1,4 +1,4 @@
--- What is told of a run is one text.
+-- What is printed of a run is one text.
 use Rattle.std.proofs.Common.{◌≡◌, ℕ, Bool, true, false, List, ◌++◌, length, sym, ap, subst, ◌∙◌}
 use Rattle.bpf_shared.specs.Store.{Plain}
 use Rattle.bpf_machine.specs.Machine.{MachineState, Shows}
@@ -13,7 +13,7 @@ one_asked : (maps : Bool) (s : Plain) (names : List (List ℕ)) (text other : Li
 one_asked false s names text other a b = a ∙ sym b
 one_asked true s names text other a b = one_map_text s names (length names) text other a b
 
--- what is told of one machine
+-- what is printed of one machine
 one_told : (z y : World) (names : List (List ℕ)) (maps : Bool) (text other : List ℕ) (stopped halted : Bool) → z ≡ y
     → TellsWith (lines_of_lists z names) z.store z.jobs names maps text stopped → TellsWith (lines_of_lists y names) y.store y.jobs names maps other halted
     → (text ≡ other) × (stopped ≡ halted)
@@ -27,7 +27,7 @@ pub reports_by_are_determined : RunsByAreDetermined → ReportsByAreDetermined
 reports_by_are_determined law w runs names maps text other stopped halted fresh a b =
     one_told a.0 b.0 names maps text other stopped halted (law w a.0 b.0 (unrolled runs) fresh a.1 b.1) a.2 b.2
 
--- what is told of a machine that rounds have left behind a schedule
+-- what is printed of a machine that rounds have left after a schedule
 pub told : (w y : World) (runs : List (ℕ × ℕ)) → RunsSchedule w (unrolled runs) y
     → (m : MachineState) (names : List (List ℕ)) (maps : Bool) (text : List ℕ) (stopped : Bool) → ((z : World) × RunsToEnd y z × Shows m z)
     → ((z : World) → Shows m z → TellsWith (lines_of_lists z names) z.store z.jobs names maps text stopped) → IsReportBy w runs names maps text stopped

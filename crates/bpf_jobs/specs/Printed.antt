@@ -121,8 +121,8 @@ Tells s jobs names maps text stopped = TellsWith [] s jobs names maps text stopp
 abbrev pub lines_of_lists : World → List (List ℕ) → List ℕ
 lines_of_lists z names = list_lines (λ c. made_keys (z.lists c)) names z.store.shape.cpus
 
--- the turns of a schedule, CPUs each with how many turns it takes before the next, and rounds behind
--- them lead to a last machine, of which this is told
+-- the turns of a schedule, CPUs each with how many turns it takes before the next, and rounds after
+-- them lead to a last machine, of which this is printed
 abbrev pub IsReportBy : World → List (ℕ × ℕ) → List (List ℕ) → Bool → List ℕ → Bool → Type 0
 IsReportBy w runs names maps text stopped = (z : World) × RunsBy w (unrolled runs) z
     × TellsWith (lines_of_lists z names) z.store z.jobs names maps text stopped

@@ -8,7 +8,7 @@ use bpf_cpu::Outcome;
 use std::alloc::{AllocError, Global};
 use std::fmt;
 
-/// How an outcome is told.
+/// How an outcome is printed.
 #[derive(Drop)]
 pub struct OutcomeText(pub Outcome);
 
@@ -52,7 +52,7 @@ impl fmt::Display for JobLine {
     }
 }
 
-/// Puts the line of a job that has ended behind the text.
+/// Appends the line of a job that has ended to the text.
 pub fn push_job(
     alloc: Global,
     text: &mut String,

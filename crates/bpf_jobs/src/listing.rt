@@ -8,7 +8,7 @@ use crate::line::{is_stop, push_job};
 use bpf_machine::Machine;
 use std::alloc::{AllocError, Global};
 
-/// Puts the line of a job behind the text, where the job has ended.
+/// Appends the line of a job to the text, where the job has ended.
 #[tactic(auto, using(crate::proofs::LineLaws::no_cpu, crate::proofs::LineLaws::no_outcome, crate::proofs::LineLaws::has_ended))]
 fn push_ended(
     alloc: Global,

@@ -9,7 +9,7 @@ use bpf_machine::Machine;
 use bpf_shared::KeyList;
 use std::alloc::{AllocError, Global};
 
-/// Puts a blank and a key behind the text.
+/// Appends a blank and a key to the text.
 fn push_word(alloc: Global, text: &mut String, key: &[u8]) -> Result<(), AllocError>
     ensures { OnOk result (string_bytes text.new ≡ string_bytes text.old ++ key_word key.now) }
 {
@@ -18,7 +18,7 @@ fn push_word(alloc: Global, text: &mut String, key: &[u8]) -> Result<(), AllocEr
     text.push_str(word.as_str())
 }
 
-/// Puts the keys of a list behind the text.
+/// Appends the keys of a list to the text.
 fn push_keys(alloc: Global, text: &mut String, list: &KeyList) -> Result<(), AllocError>
     ensures { OnOk result (string_bytes text.new
         ≡ string_bytes text.old ++ key_words (length list.now.keys) list.now.keys) }
@@ -33,7 +33,7 @@ fn push_keys(alloc: Global, text: &mut String, list: &KeyList) -> Result<(), All
     Err(AllocError)
 }
 
-/// Puts the line of a map's keys behind the text, as a CPU has listed them.
+/// Appends the line of a map's keys to the text, as a CPU has listed them.
 fn push_list(
     alloc: Global,
     text: &mut String,
@@ -60,7 +60,7 @@ fn name_at(names: &[String], number: usize) -> &str
     }
 }
 
-/// Puts the lines of all that a CPU has listed behind the text: one a map, in their order.
+/// Appends the lines of all that a CPU has listed to the text: one a map, in their order.
 pub fn push_lists(
     alloc: Global,
     text: &mut String,

@@ -10,7 +10,7 @@ ghost use Rattle.bpf_jobs.specs.Printed.{AreMapLines, key_lines, key_line};
 use bpf_plain::PlainStore;
 use std::alloc::{AllocError, Global};
 
-/// Puts the line of a key behind the text.
+/// Appends the line of a key to the text.
 fn push_key(
     alloc: Global,
     text: &mut String,
@@ -27,7 +27,7 @@ fn push_key(
     text.push_str(line.as_str())
 }
 
-/// Puts the lines of a map behind the text, of which these are the keys with their values.
+/// Appends the lines of a map to the text, of which these are the keys with their values.
 pub fn push_map(
     alloc: Global,
     text: &mut String,

@@ -20,7 +20,7 @@ use bpf_plain::PlainStore;
 use bpf_shared::StoreShape;
 use std::alloc::{AllocError, Global};
 
-/// What jobs have come to.
+/// How jobs have ended.
 #[derive(Drop)]
 pub struct Report {
     /// A line a job, then those of lists of keys and those of the maps, where they were asked for.
@@ -29,7 +29,7 @@ pub struct Report {
     pub stopped: bool,
 }
 
-/// A machine over a new store of this shape, whose jobs all wait. Want of memory is the only
+/// A machine over a new store of this shape, whose jobs all wait. Out of memory is the only
 /// refusal.
 pub fn make_machine(
     alloc: Global,

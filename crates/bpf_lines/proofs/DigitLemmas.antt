@@ -21,6 +21,6 @@ too_large_at base n ds i x some within value large =
     let step : digits_value_after base n (drop i ds) ≡ digits_value_after base (n * base + digit_value (get_or ds i 0)) (drop (suc i) ds) = ap (digits_value_after base n) (drop-cons ds i 0 within) in
     omega (arith, value, step, rest)
 
--- behind the last digit the number is read
+-- after the last digit the number is read
 pub at_end : (base n : ℕ) (ds : List ℕ) (i x : ℕ) → length ds ≤ i → digits_value_after base n (drop i ds) ≡ x → n ≡ x
 at_end base n ds i x end value = sym (ap (digits_value_after base n) (drop_all i ds end)) ∙ value

@@ -62,7 +62,7 @@ second_bad : (i a b n : ℕ) (ds : List ℕ) → hex_digit_value a ≡ Some n �
 unfolding decode_pairs
 second_bad i a b n ds some none = rw (some, none) refl
 
--- no digit stands where the first of a byte should
+-- no digit is where the first of a byte should
 pub no_first : (text bytes : List ℕ) (b : ℕ) (ds found : List ℕ) → hex_digit_value b ≡ None → IsReadTo text bytes (b ∷ ds) → IsHexOf text found → ⊥
 no_first text bytes b ds found none before spelled =
     let bad = first_bad before.at b ds none in
@@ -73,7 +73,7 @@ pub no_second : (text bytes : List ℕ) (a n b : ℕ) (ds found : List ℕ) → 
 no_second text bytes a n b ds found some none before spelled =
     refused text found _ (before.read ∙ ap (behind bytes) (second_bad before.at a b n ds some none)) spelled
 
--- ---- what stands ahead
+-- ---- what is ahead
 
 pub none_there : (text : List ℕ) (at : ℕ) → length text ≤ at → digits_of (drop at text) ≡ []
 none_there text at past = ap digits_of (drop_all at text past)
@@ -94,7 +94,7 @@ half_byte text bytes at high next ahead.Other found before first second none spe
     let both : digits_of (drop at text) ≡ first.0 ∷ second.0 ∷ second.1 = first.5 ∙ ap (λ (ds : List ℕ). first.0 ∷ ds) second.3 in
     no_second text bytes first.0 high second.0 second.1 found first.1 second.2 (subst (λ (ds : List ℕ). IsReadTo text bytes ds) both before) spelled
 
--- neither a digit stands there nor, when asked again, the end
+-- neither a digit is there nor, when asked again, the end
 pub no_byte : (text bytes : List ℕ) (at : ℕ) (there again : Ahead) (found : List ℕ) → IsReadTo text bytes (digits_of (drop at text)) → IsAhead text at there → IsAhead text at again → ((n to : ℕ) → there ≡ ahead.Digit n to → ⊥) → (again ≡ ahead.End → ⊥) → IsHexOf text found → ⊥
 no_byte text bytes at (ahead.Digit n to) again found before is then no_digit not_end spelled = no_digit n to refl
 no_byte text bytes at ahead.Other again found before is then no_digit not_end spelled =

@@ -27,6 +27,6 @@ uncommented line = take_while (λ b. not (b == 59)) line
 abbrev pub is_field : List ℕ → Bool
 is_field word = nat_lt 0 (length word)
 
--- what stands between blanks, before the comment
+-- what is between blanks, before the comment
 abbrev pub fields_of : List ℕ → List (List ℕ)
 fields_of line = filter is_field (slice_split is_blank (uncommented line))

@@ -62,17 +62,17 @@ pub fn to_hex(alloc: Global, bytes: &[u8]) -> Result<String, AllocError>
     hex::encode(alloc, bytes)
 }
 
-/// What stands ahead of a place of hex text, behind blanks.
+/// What is ahead of a place of hex text, after blanks.
 #[derive(Clone, Copy)]
 enum Ahead {
-    /// A digit, by its number, and the place behind it.
+    /// A digit, by its number, and the place after it.
     Digit(u8, usize),
     /// The end of the text.
     End,
     Other,
 }
 
-/// What stands ahead of a place. Digits are asked for first, since most bytes are digits.
+/// What is ahead of a place. Digits are asked for first, since most bytes are digits.
 #[inline(always)]
 fn look_ahead(text: &[u8], from: usize) -> Ahead
     requires { from ≤ length text.now }
@@ -90,8 +90,8 @@ fn look_ahead(text: &[u8], from: usize) -> Ahead
 }
 
 /// The bytes that the text's hex digits spell, of either case. Space, tab, CR and LF are passed
-/// over wherever they stand.
-/// `NotHex` where any other byte or half a byte stands; else it fails by `OutOfMemory` alone.
+/// over wherever they are.
+/// `NotHex` where any other byte or half a byte is; else it fails by `OutOfMemory` alone.
 pub fn from_hex(alloc: Global, text: &str) -> Result<Vec<u8>, HexError>
     ensures spelled { IfOk result (λ bytes. IsHexOf text.now bytes.items) }
     ensures not_hex { result ≡ Err HexError.NotHex → (bytes : List ℕ) → IsHexOf text.now bytes

@@ -51,7 +51,7 @@ fn uncommented<'a>(line: &'a [u8]) -> &'a [u8]
     &line[..uncommented_len(line)]
 }
 
-/// What stands between blanks.
+/// What is between blanks.
 fn between_blanks<'a>(alloc: Global, line: &'a [u8]) -> Result<Vec<&'a [u8]>, AllocError>
     ensures { IfOk result (λ fields. map (λ f. f.now) fields.items
         ≡ filter is_field (slice_split is_blank line.now)) }
@@ -61,7 +61,7 @@ fn between_blanks<'a>(alloc: Global, line: &'a [u8]) -> Result<Vec<&'a [u8]>, Al
         .collect(alloc)
 }
 
-/// What stands between blanks before a line's comment, as in a line that isn't assembly.
+/// What is between blanks before a line's comment, as in a line that isn't assembly.
 pub fn fields<'a>(alloc: Global, line: &'a [u8]) -> Result<Vec<&'a [u8]>, AllocError>
     ensures { IfOk result (λ fields. map (λ f. f.now) fields.items ≡ fields_of line.now) }
 {

@@ -37,7 +37,7 @@ error_at_code (error.UnknownHelper pc) = refl
 error_at_code (error.UnknownMap pc) = refl
 error_at_code error.OutOfMemory = refl
 
--- where the refusal with the next number doesn't apply, the checks go on to the one behind it
+-- where the refusal with the next number doesn't apply, the checks go on to the one after it
 pub clear_next : (maps : ℕ) (is : List Insn) (pc number : ℕ) → IsClearBelow maps is pc number → ¬ Applies maps is (error_at number pc) → IsClearBelow maps is pc (number + 1)
 clear_next maps is pc number clear not_here e applies at =
     let from = clear e applies at in

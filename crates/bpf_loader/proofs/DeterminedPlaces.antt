@@ -1,4 +1,4 @@
--- What stands at a place of a program is known by the place.
+-- What is at a place of a program is known by the place.
 use Rattle.std.proofs.Common.{◌≡◌, List, [], ◌∷◌, ◌++◌, sym, ap, ◌∙◌, arith}
 use Rattle.bpf_insn.specs.declared.instruction.Insn.{Insn}
 use Rattle.bpf_insn.specs.Table.{words}
@@ -6,7 +6,7 @@ use Rattle.bpf_insn.specs.Table.{word_length}
 use Rattle.bpf_loader.specs.Laws.{OneInstructionBegins}
 use Rattle.bpf_loader.proofs.WordLemmas.{words_some}
 
--- behind as many words stands the same instruction
+-- after as many words is the same instruction
 same_place : (before other : List Insn) (i j : Insn) (after rest : List Insn) → before ++ i ∷ after ≡ other ++ j ∷ rest → word_length before ≡ word_length other → i ≡ j
 same_place [] [] i j after rest e w = cc
 same_place [] (b ∷ other) i j after rest e w = absurd (omega (arith, words_some b))

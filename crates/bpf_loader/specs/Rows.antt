@@ -67,7 +67,7 @@ goes_on (insn.Atomic w op b o s) = true
 goes_on (insn.LoadNumber d n) = true
 goes_on (insn.LoadMap d m) = true
 
--- how many words further the next instruction begins, where a run may come to it
+-- how many words further the next instruction begins, where a run may reach it
 abbrev pub stride : Insn → Option ℕ
 stride i = if goes_on i then Some (words i) else None
 

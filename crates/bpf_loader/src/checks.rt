@@ -62,7 +62,7 @@ fn check_target(slots: &Slots, maps: usize, pc: u32, insn: Insn) -> Result<(), L
     }
 }
 
-/// Refuses a last instruction behind which a run would go on.
+/// Refuses a last instruction after which a run would go on.
 fn check_end(slots: &Slots, maps: usize, pc: u32, insn: Insn) -> Result<(), LoadError>
     requires begins { Begins slots.now pc insn }
     requires short { word_length slots.now ≤ max_words }

@@ -16,13 +16,13 @@ pub enum LoadError {
     /// E8: R10, the frame pointer, is the instruction's destination.
     #[error("The instruction at {0} writes R10, which is read-only.")]
     WritesR10(u32),
-    /// E9: a jump or local call leads before the first word or behind the last.
+    /// E9: a jump or local call leads before the first word or after the last.
     #[error("The instruction at {0} jumps out of the program.")]
     JumpOut(u32),
     /// E10: a jump or local call leads to a word in which no instruction begins.
     #[error("The instruction at {0} jumps into the second word of a wide instruction.")]
     JumpIntoWide(u32),
-    /// E11: a run would go on behind the last instruction.
+    /// E11: a run would go on after the last instruction.
     #[error("The last instruction, at {0}, is neither an exit nor a jump: the program runs past its end.")]
     FallsOff(u32),
     /// E12: the machine has no helper of this number.

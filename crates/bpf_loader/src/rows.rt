@@ -25,7 +25,7 @@ pub fn destination(insn: Insn) -> Option<Reg>
     }
 }
 
-/// By how many words an instruction may jump, from the word behind it.
+/// By how many words an instruction may jump, from the word after it.
 pub fn jump_offset(insn: Insn) -> Option<i32>
     ensures { result ≡ jump_offset insn }
 {

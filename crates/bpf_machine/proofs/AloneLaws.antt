@@ -28,7 +28,7 @@ use Rattle.bpf_machine.specs.Private.Turns.{IsAlone, Lasts}
 use Rattle.bpf_machine.proofs.OwnEvents.{RunsWithin, legal_shape}
 use Rattle.bpf_machine.proofs.TurnLaws.{begun_at, runs_more}
 
--- ---- CPUs without work stay so, whatever another CPU's job comes to
+-- ---- CPUs without work stay so, whatever another CPU's job leads to
 abbrev pub IsIdle : List Task → ℕ → Type 0
 IsIdle jobs d = IsFree jobs d × NoneWaits jobs d
 

@@ -32,7 +32,7 @@ pub left_falls : (program : Loaded) (c : ℕ) (s : Plain) (old : Cpu) (left : �
 left_falls program c s old zero t new rest a = let no : None ≡ Some (OutOfBudget old.pc) = a.0 in cc
 left_falls program c s old (suc n) t new rest a = let e : rest ≡ n = a.5 in omega arith
 
--- what a turn that goes on takes, from a job that may take so many turns
+-- what a turn that goes on takes, from a job that may take this many turns
 goes_falls : (w : World) (c j : ℕ) (task : Task) (old : Cpu) (left : ℕ) (answer : Turn) (z : World) → slice_get w.jobs j ≡ Some task
     → left < turns_before_end task.budget task.stage → open_in task.stage ≡ 1
     → GoesOn w c j task old left answer z → Falls answer w.jobs z.jobs × (length z.jobs ≡ length w.jobs) × (z.programs ≡ w.programs)

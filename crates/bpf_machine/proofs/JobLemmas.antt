@@ -41,7 +41,7 @@ saved_set bytes rest behind jobs n task within read more =
     subst (λ (l : List Task). bytes ≡ jobs_saved l ++ behind) (sym (take_more_set jobs n task within)) (saved_more bytes rest behind (take n jobs) task read more)
 
 -- ---- equal bytes are those of equal jobs
--- what comes behind the jobs that were read, of other jobs that are saved so
+-- what comes after the jobs that were read, of other jobs that are saved so
 pub jobs_behind : (fs gs ts os : List Task) (rest more : List ℕ) → AreLater fs ts → AreLater (fs ++ gs) os → HoldWhatMayBe os → jobs_saved ts ++ rest ≡ jobs_saved os ++ more
     → (ls : List Task) × AreLater gs ls × HoldWhatMayBe ls × (rest ≡ jobs_saved ls ++ more)
 jobs_behind [] gs [] os rest more read are may e = (os, are, may, e)
@@ -79,7 +79,7 @@ jobs_told (f ∷ fs) (t ∷ ts) (o ∷ os) rest more read are e =
     same_head : (f t o : Task) → IsLater f t → IsLater f o → t.stage ≡ o.stage → (ts os : List Task) → ts ≡ os → t ∷ ts ≡ o ∷ os
     same_head f t o x y s ts os e = ap (λ (u : Task). u ∷ ts) (same_task f t o x y s) ∙ ap (λ (l : List Task). o ∷ l) e
 
--- no stage of the next job stands there
+-- no stage of the next job is there
 pub reads_stop : (all jobs others : List Task) (n : ℕ) (d : Task) (bytes rest more : List ℕ) → n < length all → AreLater (take n all) jobs → bytes ≡ jobs_saved jobs ++ rest
     → ((task : Task) (last : List ℕ) → IsLater (get_or all n d) task → HoldsWhatMayBe task.stage → rest ≡ stage_saved task.stage ++ last → ⊥)
     → AreLater all others → HoldWhatMayBe others → bytes ≡ jobs_saved others ++ more → ⊥

@@ -1,4 +1,4 @@
--- Schedules that are told in run lengths.
+-- Schedules that are given in run lengths.
 use Rattle.std.proofs.Common.{◌≡◌, ◌∙◌, ℕ, zero, suc, ◌+◌, ◌-◌, ◌<◌, ◌≤◌, List, [], ◌∷◌, ◌++◌, append_assoc, append-nil, length, take, replicate, get_or, inr, refl, sym, ap, subst, arith}
 use Rattle.std.proofs.lemmas.List.{replicate-append-replicate, take_more, take_all}
 use Rattle.std.proofs.lemmas.Grind.{replicate_next}
@@ -29,7 +29,7 @@ idle_turns : (w : World) (c n : ℕ) → IsFree w.jobs c → NoneWaits w.jobs c 
 idle_turns w c zero free none = refl
 idle_turns w c (suc n) free none = (Idle, w, inr (inr (free, none, refl, refl)), idle_turns w c n free none)
 
--- behind an idle turn of it the others change nothing
+-- after an idle turn of it the others change nothing
 pub rest_idle : (old mid new : MachineState) (c k n : ℕ) (answer : Turn) → k ≤ n → Runs old (replicate k c) mid → ((w : World) → Shows mid w → (z : World) × TakesTurn w c answer z × Shows new z)
     → answer ≡ Idle → new ≡ mid → Runs old (replicate n c) new
 rest_idle old mid new c k n answer within runs turn idle stays w shows =

@@ -25,7 +25,7 @@ use Rattle.bpf_machine.proofs.WorkLaws.{IsBehind, behind}
 pub has_job : (s t : MachineState) (c : ℕ) → s ≡ t → HasJob t.jobs c → HasJob s.jobs c
 has_job s t c same has = subst (λ (m : MachineState). HasJob m.jobs c) (sym same) has
 
--- the board of a store that tells of its CPUs as another does
+-- the board of a store that says the same of its CPUs as another
 pub same_board : (store after : Contents) (programs : List Loaded) (jobs : List Listed) (lanes : List Lane) → has_cpu after ≡ has_cpu store → is_running after ≡ is_running store → held_spans after ≡ held_spans store
     → IsBoard (has_cpu store) (is_running store) (held_spans store) programs jobs lanes → IsBoard (has_cpu after) (is_running after) (held_spans after) programs jobs lanes
 same_board store after programs jobs lanes serves runs held board =

@@ -64,7 +64,7 @@ module _ (store : Contents) (programs : List Loaded) (parts : List Task) (number
       let same : entry_at jobs k ≡ x = cc in
       (within, subst (λ (y : Listed). IsEntryOf (chosen_at parts numbers k) y) same (each k within))
 
-  -- ---- where a CPU's jobs stand
+  -- ---- where a CPU's jobs are
   module _ (c : ℕ) (inside : c < cpus) where
     abbrev l : Lane
     l = lane_of lanes c
@@ -84,7 +84,7 @@ module _ (store : Contents) (programs : List Loaded) (parts : List Task) (number
             let that : HasInHand tasks c k = (chosen_at parts numbers k, state, left, is_at c k (InHand state left) within of is) in
             (h, some, stands.one c h.job k this that)
 
-    -- a job that doesn't wait stands before the next
+    -- a job that doesn't wait is before the next
     before_next : (k : ℕ) → k < length numbers → (chosen_at parts numbers k).cpu ≡ c → waits (chosen_at parts numbers k).stage ≡ false → k < l.next
     before_next k within of is = elim (cases_lt k l.next) [
       | inl less ↦ less

@@ -274,7 +274,7 @@ none_ran_before [] w z runs none = subst (λ (x : World). NoneRanOut x.jobs) run
 none_ran_before (c ∷ cs) w z runs none = λ j task pc at ended.
     none_ran_before cs runs.1 z runs.3 none j task pc (stays_ended w c runs.0 runs.1 j task (OutOfBudget pc) runs.2 at ended) ended
 
--- ---- richer ahead, richer behind
+-- ---- richer ahead, richer after
 module _ (programs : List Loaded) (turns : ℕ → ℕ) where
   behind_one : (old new rich : Task) → Precedes programs (turns old.cpu) old new → IsRicher new rich → (more : Task) × IsRicher old more × Precedes programs (turns more.cpu) more rich
   behind_one old new rich (inl a) richer =

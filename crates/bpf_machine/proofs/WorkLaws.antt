@@ -22,7 +22,7 @@ use Rattle.bpf_machine.specs.Hands.{IsAt, IsFree, NoneWaitsBelow, NoneWaits}
 use Rattle.bpf_machine.specs.Work.{HasInHand, IsState, IsNext, IsWork}
 use Rattle.bpf_machine.specs.Private.Lanes.{lane_of, no_lane, stage_of, task_of, tasks_of, FitsLane, IsHand, IsBoard}
 
--- the job behind a shown one
+-- the job after a shown one
 pub record IsBehind (jobs : List Listed) (lanes : List Lane) (c j : ℕ) (task : Task) : Type 0 where
   pub job : Listed
   pub listed : slice_get jobs j ≡ Some job
@@ -218,7 +218,7 @@ lane_there lanes read c l same test found =
     let within : c < length lanes = subst (λ (xs : List Lane). c < length xs) same (ltb-true c (length read) (sym test)) in
     (within, lane_read lanes c l within (subst (λ (xs : List Lane). l ≡ slice_index_or xs c l) same found))
 
--- what a lane that was read tells of its CPU
+-- what a lane that was read says of its CPU
 module _ (serves running : ℕ → Bool) (reach : ℕ → Span → Bool) (programs : List Loaded) (jobs : List Listed) (lanes : List Lane) (board : IsBoard serves running reach programs jobs lanes) (c : ℕ) (l : Lane) (within : c < length lanes) (was : lane_of lanes c ≡ l) where
   pub work_in_hand : (h : Hand) → l.hand ≡ Some h → HasInHand (tasks_of lanes jobs) c h.job
   work_in_hand h held = let has = has_hand serves running reach programs jobs lanes board c h within (ap (λ (x : Lane). x.hand) was ∙ held) in (has.0, h.cpu, h.left, has.1)
@@ -246,7 +246,7 @@ module _ (serves running : ℕ → Bool) (reach : ℕ → Span → Bool) (progra
     none_waits serves running reach programs jobs lanes board c (subst (λ (x : Lane). length jobs ≤ x.next) (sym was) past),
   )
 
--- ---- what is to do, by where the CPU stands
+-- ---- what is to do, by where the CPU is
 abbrev work_in : Standing → Work
 work_in (standing.InHand j state) = work.InHand j
 work_in (standing.Waiting j) = work.Waiting j
@@ -260,7 +260,7 @@ works jobs cpu told answer is stands = go answer (subst (IsStanding jobs cpu) is
     go (standing.Waiting j) s = s
     go standing.Idle s = s
 
--- the state that is told
+-- the state that is shown
 abbrev HasState : List Task → ℕ → Standing → Type 0
 HasState jobs cpu (standing.InHand j state) = IsState jobs cpu state.now
 HasState jobs cpu told = Unit {0}

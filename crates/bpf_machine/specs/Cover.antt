@@ -16,7 +16,7 @@ TurnsTo old c new =
     × ((w : World) → Shows old w → (z : World) × TakesTurn w c answer z × Shows mid z)
     × RunsAhead mid c headway new
 
--- the same where these are so many
+-- the same where these are this many
 abbrev pub TurnsAhead : MachineState → ℕ → ℕ → MachineState → Type 0
 TurnsAhead old c n new =
     (answer : Turn) × (mid : MachineState) × (headway : Headway)

@@ -1,4 +1,4 @@
--- Whether jobs can come to their ends, where they are given more steps on the way.
+-- Whether jobs can reach their ends, where they are given more steps on the way.
 use Rattle.std.specs.Prelude.{◌≡◌, ℕ, zero, suc, Bool, false, List, [], ◌∷◌, Some, slice_get}
 use Rattle.bpf_cpu.specs.Task.{Task}
 use Rattle.bpf_machine.specs.declared.machine.Turn.{Turn}
@@ -41,7 +41,7 @@ abbrev pub LeadsTo : List MachineState → ℕ → ℕ → ℕ → Type 0
 LeadsTo kept i c k = (m : MachineState) × (new : MachineState) × (slice_get kept i ≡ Some m)
     × TurnsTo m c new × IsKeptRichlyAt kept k new
 
--- so many such turns lead from the i-th to one without work in which no job is out of budget
+-- this many such turns lead from the i-th to one without work in which no job is out of budget
 abbrev pub EndsIn : List MachineState → ℕ → ℕ → Type 0
 EndsIn kept zero i = (m : MachineState) × (slice_get kept i ≡ Some m) × HaveEnded m.jobs
     × NoneRanOut m.jobs

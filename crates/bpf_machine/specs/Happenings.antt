@@ -40,14 +40,14 @@ end_events turn.Ran = []
 end_events (turn.Ended j end) = End ∷ []
 end_events turn.Idle = []
 
--- what happens where the CPU goes on with a job behind these events, and its turn comes to this
+-- what happens where the CPU goes on with a job after these events, and its turn leads to this
 abbrev pub HappensOn : World → ℕ → ℕ → Task → Cpu → ℕ → Turn → List Event → List Happening → Type 0
 HappensOn w c j task old left answer before log =
     (program : Loaded) × (events : List Event) × (slice_get w.programs task.program ≡ Some program)
     × HasEvents program c w.store old left events
     × (log ≡ map (happening c j old.pc) (before ++ (events ++ end_events answer)))
 
--- WHAT HAPPENS IN A TURN that comes to this: the job in hand goes on; or the lowest that waits
+-- WHAT HAPPENS IN A TURN that leads to this: the job in hand goes on; or the lowest that waits
 -- enters its run, and goes on; or nothing happens
 abbrev pub Happens : World → ℕ → Turn → List Happening → Type 0
 Happens w c answer log =
@@ -68,14 +68,14 @@ RunsWith w (c ∷ cs) log z =
     × TakesTurn w c answer m × Happens w c answer first × RunsWith m cs rest z
     × (log ≡ first ++ rest)
 
--- so many rounds
+-- this many rounds
 abbrev pub RunsRoundsWith : ℕ → World → List Happening → World → Type 0
 RunsRoundsWith zero w log z = (z ≡ w) × (log ≡ [])
 RunsRoundsWith (suc n) w log z =
     (m : World) × (before : List Happening) × (last : List Happening) × RunsRoundsWith n w before m
     × RunsWith m (below m.store.shape.cpus) last z × (log ≡ before ++ last)
 
--- the turns of a schedule, and behind them rounds until no CPU has work
+-- the turns of a schedule, and after them rounds until no CPU has work
 abbrev pub RunsByWith : World → List ℕ → List Happening → World → Type 0
 RunsByWith w schedule log z =
     (y : World) × (first : List Happening) × (n : ℕ) × (rest : List Happening)

@@ -1,4 +1,4 @@
--- Numbers by which jobs that stand alike are found. Our own choice.
+-- Numbers by which jobs that are alike are found. Our own choice.
 use Rattle.std.specs.Prelude.{ℕ, bit_xor, fold}
 use Rattle.bpf_base.specs.Hashes.{spread}
 use Rattle.bpf_cpu.specs.Task.{Stage, Task, Waiting, InHand, Ended}

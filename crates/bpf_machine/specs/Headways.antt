@@ -11,14 +11,14 @@ use Rattle.bpf_machine.specs.Schedule.{World, Advances}
 use Rattle.bpf_machine.specs.Machine.{MachineState}
 use Rattle.bpf_machine.specs.Work.{HasInHand, IsNext}
 
--- so many turns of a CPU that go on with the job in its hand, and leave any store as it is
+-- this many turns of a CPU that go on with the job in its hand, and leave any store as it is
 abbrev pub TakesQuietTurns : Loaded → ℕ → ℕ → Cpu → ℕ → Cpu → ℕ → Type 0
 TakesQuietTurns program c zero old left new rest = (new ≡ old) × (rest ≡ left)
 TakesQuietTurns program c (suc n) old left new rest =
     (mid : Cpu) × (more : ℕ) × ((s : Plain) → Advances program c s old left None s mid more)
     × TakesQuietTurns program c n mid more new rest
 
--- the CPU's j-th job, in hand, takes so many of them
+-- the CPU's j-th job, in hand, takes this many of them
 abbrev pub GoesAhead : MachineState → ℕ → ℕ → ℕ → MachineState → Type 0
 GoesAhead old c j n new =
     (task : Task) × (state : Cpu) × (left : ℕ) × (program : Loaded) × (later : Cpu) × (rest : ℕ)
@@ -43,7 +43,7 @@ abbrev pub turns_in : Headway → ℕ
 turns_in Idle = 0
 turns_in (Turns n) = n
 
--- a job, and where it stands when its CPU is so many turns ahead
+-- a job, and where it is when its CPU is this many turns ahead
 abbrev pub Precedes : List Loaded → ℕ → Task → Task → Type 0
 Precedes programs n old new =
     ((new ≡ old) × ((state : Cpu) (left : ℕ) → old.stage ≡ InHand state left → n ≡ 0))
@@ -58,7 +58,7 @@ BothPrecede programs turns None (Some new) = ⊥
 BothPrecede programs turns (Some old) None = ⊥
 BothPrecede programs turns (Some old) (Some new) = Precedes programs (turns old.cpu) old new
 
--- a CPU without work is told, and one that is ahead has one job in hand
+-- a CPU without work is marked, and one that is ahead has one job in hand
 abbrev pub FitsHeadway : List Task → ℕ → Headway → Type 0
 FitsHeadway jobs c Idle = IsFree jobs c × NoneWaits jobs c
 FitsHeadway jobs c (Turns zero) = IsFree jobs c → NoneWaits jobs c → ⊥

@@ -25,7 +25,7 @@ SchedulesAreDetermined =
 abbrev pub RoundsAreDetermined : Type 0
 RoundsAreDetermined = (w y z : World) → IsFresh w → RunsToEnd w y → RunsToEnd w z → y ≡ z
 
--- and so have rounds behind a schedule
+-- and so have rounds after a schedule
 abbrev pub RunsByAreDetermined : Type 0
 RunsByAreDetermined =
     (w y z : World) (schedule : List ℕ) → IsFresh w
@@ -37,7 +37,7 @@ HappeningsAreDetermined =
     (w y z : World) (schedule : List ℕ) (log other : List Happening) → IsFresh w
     → RunsByWith w schedule log y → RunsByWith w schedule other z → (log ≡ other) × (y ≡ z)
 
--- what a stage is saved as tells it, of a job whose CPU and context are known, and where it ends
+-- what a stage is saved as determines it, of a job whose CPU and context are known, and where it ends
 abbrev pub SavedTellsStages : Type 0
 SavedTellsStages =
     (cpu : ℕ) (context : List ℕ) (stage other : Stage) (rest more : List ℕ)

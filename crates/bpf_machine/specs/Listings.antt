@@ -25,7 +25,7 @@ listed_now s Never = Never
 listed_now s Due = Made (keys_by_map s)
 listed_now s (Made all) = Made (keys_by_map s)
 
--- by CPU, as a machine shows it: it tells of the first CPUs, where lists are asked for
+-- by CPU, as a machine shows it: it says of the first CPUs, where lists are asked for
 abbrev pub listing_at : Option (List Listing) → ℕ → Listing
 listing_at None c = Never
 listing_at (Some all) c = slice_index_or all c Due

@@ -1,4 +1,4 @@
--- Machines that are made again of parts: a store, programs, and each job as it stands.
+-- Machines that are made again of parts: a store, programs, and each job as it is.
 use Rattle.std.specs.Prelude.{◌≡◌, ℕ, ◌<◌, ◌≤◌, true, false, List, [], Some, None, length, map, slice_get, slice_index_or}
 use Rattle.bpf_mem.specs.Limits.{max_context}
 use Rattle.bpf_plain.specs.PlainStore.{Contents, has_cpu, is_running, held_spans}
@@ -12,7 +12,7 @@ use Rattle.bpf_machine.specs.Hands.{IsAt, IsFree}
 use Rattle.bpf_machine.specs.Machine.{MachineState}
 use Rattle.bpf_machine.specs.Work.{HasInHand}
 
--- a CPU with this state goes on with the job: it stands at an instruction of the program, and holds
+-- a CPU with this state goes on with the job: it is at an instruction of the program, and holds
 -- what the store says that its run holds
 pub record FitsHand (m : MachineState) (c : ℕ) (task : Task) (state : Cpu) : Type 0 where
   pub number : state.number ≡ c
@@ -34,7 +34,7 @@ pub record CanStand (m : MachineState) : Type 0 where
       → IsAt m.jobs c j task (InHand state left) → FitsHand m c task state
   pub one : (c j k : ℕ) → HasInHand m.jobs c j → HasInHand m.jobs c k → j ≡ k
   pub idle : (c : ℕ) → IsFree m.jobs c → is_running m.store c ≡ false
-  -- behind a job that waits all of its CPU wait
+  -- after a job that waits all of its CPU wait
   pub order : (c j k : ℕ) (task later : Task) (context : List ℕ)
       → IsAt m.jobs c j task (Waiting context) → j < k → slice_get m.jobs k ≡ Some later
       → later.cpu ≡ c → (more : List ℕ) × (later.stage ≡ Waiting more)

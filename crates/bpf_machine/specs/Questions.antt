@@ -1,4 +1,4 @@
--- What a machine tells of its CPUs, and how far its jobs are from their ends.
+-- What a machine says of its CPUs, and how far its jobs are from their ends.
 use Rattle.std.specs.Prelude.{◌≡◌, ℕ, ◌+◌, ◌<◌, List, length}
 use Rattle.std.specs.List.{sum_by}
 use Rattle.bpf_machine.specs.declared.machine.Turn.{Turn}

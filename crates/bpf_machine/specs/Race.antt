@@ -27,7 +27,7 @@ Touches (Atomic a size op operand expected found) b writes atomic =
     (a ≤ b) × (b < a + bytes_in size) × (writes ≡ true) × (atomic ≡ true)
 Touches _ b writes atomic = ⊥
 
--- the CPU's next step stands at this pc, and has this event at the store
+-- the CPU's next step is at this pc, and has this event at the store
 pub record HasNext (w : World) (c pc : ℕ) (event : Event) : Type 0 where
   pub job : ℕ
   pub task : Task
@@ -47,7 +47,7 @@ pub record HasNext (w : World) (c pc : ℕ) (event : Event) : Type 0 where
   pub place : ℕ
   pub among : slice_get events place ≡ Some event
 
--- the next steps of two CPUs, which stand at these pcs, touch the byte at this address so
+-- the next steps of two CPUs, which are at these pcs, touch the byte at this address so
 pub record IsRace (w : World) (c pc d qc b : ℕ) : Type 0 where
   pub apart : c ≢ d
   pub first : Event

@@ -15,7 +15,7 @@ below (suc n) = below n ++ n ∷ []
 abbrev pub RunsRound : World → World → Type 0
 RunsRound w z = RunsSchedule w (below w.store.shape.cpus) z
 
--- so many rounds, one after the other
+-- this many rounds, one after the other
 abbrev pub RunsRounds : ℕ → World → World → Type 0
 RunsRounds zero w z = z ≡ w
 RunsRounds (suc n) w z = (m : World) × RunsRounds n w m × RunsRound m z
@@ -29,6 +29,6 @@ HaveEnded jobs = (j : ℕ) (task : Task) → slice_get jobs j ≡ Some task
 abbrev pub RunsToEnd : World → World → Type 0
 RunsToEnd w z = (n : ℕ) × RunsRounds n w z × HaveEnded z.jobs
 
--- the turns of a schedule, and behind them rounds, from CPU 0 on
+-- the turns of a schedule, and after them rounds, from CPU 0 on
 abbrev pub RunsBy : World → List ℕ → World → Type 0
 RunsBy w schedule z = (y : World) × RunsSchedule w schedule y × RunsToEnd y z

@@ -1,11 +1,11 @@
--- What a job's stage is saved as: bytes that tell it of a job whose CPU and context are known.
+-- What a job's stage is saved as: bytes that determine it of a job whose CPU and context are known.
 use Rattle.std.specs.Prelude.{◌≡◌, ℕ, List, [], ◌∷◌, ◌++◌, length}
 use Rattle.bpf_mem.specs.Saved.{IsWord, words_saved}
 use Rattle.bpf_helpers.specs.Saved.{AreOnce, MayBeHeld}
 use Rattle.bpf_cpu.specs.Saved.{IsSavableOutcome, IsSavableState, cpu_saved, outcome_saved}
 use Rattle.bpf_cpu.specs.Task.{Stage, Task, Waiting, InHand, Ended}
 
--- it waits; it is in hand, with so many steps left; it has ended
+-- it waits; it is in hand, with this many steps left; it has ended
 abbrev pub stage_saved : Stage → List ℕ
 stage_saved (Waiting context) = 0 ∷ []
 stage_saved (InHand state left) = 1 ∷ words_saved 0 (left ∷ []) ++ cpu_saved state

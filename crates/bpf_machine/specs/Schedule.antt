@@ -56,7 +56,7 @@ Settles w c j task new left (Some end) answer z =
     (s : Plain) × PlainlyAllowed w.store c End s × (answer ≡ turn.Ended j end)
     × Lists (record w { store = s; jobs = with_stage w.jobs j task (Ended end) }) c z
 
--- the CPU goes on with a job, from this state and with so many steps left
+-- the CPU goes on with a job, from this state and with this many steps left
 abbrev pub GoesOn : World → ℕ → ℕ → Task → Cpu → ℕ → Turn → World → Type 0
 GoesOn w c j task old left answer z =
     (program : Loaded) × (end : Option Outcome) × (s : Plain) × (new : Cpu) × (rest : ℕ)
@@ -82,7 +82,7 @@ RunsSchedule w [] z = z ≡ w
 RunsSchedule w (c ∷ cs) z =
     (answer : Turn) × (m : World) × TakesTurn w c answer m × RunsSchedule m cs z
 
--- the schedule that is told by CPUs, each with how many turns it takes before the next
+-- the schedule that is given by CPUs, each with how many turns it takes before the next
 abbrev pub unrolled : List (ℕ × ℕ) → List ℕ
 unrolled [] = []
 unrolled (run ∷ runs) = replicate run.1 run.0 ++ unrolled runs

@@ -46,7 +46,7 @@ BeginsJob old cpu j new =
     × PlainlyAllowed s cpu Begin t × IsSoundStore t × plain_store.StandsFor new.store t)
     × (new.lists ≡ old.lists)
 
--- the CPU goes on with the j-th job, from this state and with so many steps left
+-- the CPU goes on with the j-th job, from this state and with this many steps left
 abbrev pub Proceeds : MachineState → ℕ → ℕ → Turn → MachineState → Type 0
 Proceeds old cpu j answer new =
     (task : Task) (state : Cpu) (left : ℕ) → IsAt old.jobs cpu j task (InHand state left)

@@ -34,7 +34,7 @@ pub fn rounds_are_determined()
     bpf_shared::laws::calls_have_one_reply();
 }
 
-/// So do rounds behind the turns of a schedule.
+/// So do rounds after the turns of a schedule.
 pub fn runs_by_are_determined()
     ensures { RunsByAreDetermined }
 {
@@ -43,7 +43,7 @@ pub fn runs_by_are_determined()
     bpf_shared::laws::calls_have_one_reply();
 }
 
-/// Rounds behind a schedule, with what happens in them, are rounds behind that schedule.
+/// Rounds after a schedule, with what happens in them, are rounds after that schedule.
 pub fn happenings_are_of_runs()
     ensures { HappeningsAreOfRuns }
 {}
@@ -132,7 +132,7 @@ pub fn budgets_suffice()
     bpf_shared::laws::calls_have_one_reply();
 }
 
-/// What a stage is saved as tells it, of a job whose CPU and context are known.
+/// What a stage is saved as determines it, of a job whose CPU and context are known.
 pub fn saved_tells_stages()
     ensures { SavedTellsStages }
 {}

@@ -41,7 +41,7 @@ pub struct Refused {
     pub jobs: Vec<Job>,
 }
 
-/// Where a CPU stands, with the number of the job.
+/// Where a CPU is, with the number of the job.
 #[derive(Clone, Copy)]
 pub enum Standing<'a> {
     /// It has this job in hand, and is in this state.
@@ -280,7 +280,7 @@ impl Machine {
         }
     }
 
-    /// Where a CPU stands.
+    /// Where a CPU is.
     pub fn standing(&self, cpu: u8) -> Standing<'_>
         ensures { IsStanding self.now.jobs cpu result }
     {

@@ -26,7 +26,7 @@ record IsFrame (n i : ℕ) (area : Area) : Type 0 where
   base : area.base ≡ frame_base i
   size : length area.bytes ≡ frame_bytes
 
--- what stands behind them
+-- what follows them
 record IsContext (n i : ℕ) (context : List ℕ) (area : Area) : Type 0 where
   last : i ≡ n
   base : area.base ≡ context_base

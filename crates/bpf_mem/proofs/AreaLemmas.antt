@@ -1,4 +1,4 @@
--- Which byte stands at an address, by the three parts of the address space: below the context, from the context to
+-- Which byte is at an address, by the three parts of the address space: below the context, from the context to
 -- the stack, and the stack's strides.
 use Rattle.std.proofs.Common.{◌≡◌, ℕ, zero, suc, ◌+◌, ◌-◌, ◌<◌, ◌≤◌, List, [], ◌∷◌, length, refl, ap, ◌∙◌, arith, nat_lt, false, get_or, ◌++◌, inl, inr, ◌⊎◌}
 use Rattle.std.specs.Prelude.{All, Option, Some, None, option_and_then, slice_get}

@@ -1,4 +1,4 @@
--- Lists whose elements are said by bytes, one behind the other.
+-- Lists whose elements are said by bytes, one after the other.
 use Rattle.std.proofs.Common.{◌≡◌, ℕ, suc, ◌+◌, ◌<◌, List, [], ◌∷◌, ◌++◌, length, take, drop, ◌≤◌, get_or, refl, sym, ap, subst, ◌∙◌, arith, append_assoc, drop-cons}
 use Rattle.std.specs.Prelude.{All, slice_set}
 use Rattle.std.specs.List.{flat_map}
@@ -6,7 +6,7 @@ use Rattle.std.proofs.lemmas.List.{append-nil, take-append-drop, take_more_set, 
 use Rattle.std.proofs.lemmas.List.Concat.{flat_map-append}
 use Rattle.std.proofs.lemmas.List.Elements.{All-head, All-tail, All-take, All-push, All-get_or}
 
--- each element is told by what it is said by, wherever that stands in front
+-- each element is determined by what it is said by, wherever that is in front
 module _ {X : Type 0} (P : X → Type 0) (f : X → List ℕ) (d : X) (told : (x y : X) (rest more : List ℕ) → P x → P y → f x ++ rest ≡ f y ++ more → (x ≡ y) × (rest ≡ more)) where
   -- so are as many of them
   pub flat_prefix : (xs ys : List X) (rest more : List ℕ) → length xs ≡ length ys → All P xs → All P ys → flat_map f xs ++ rest ≡ flat_map f ys ++ more → (xs ≡ ys) × (rest ≡ more)
@@ -27,7 +27,7 @@ module _ {X : Type 0} (P : X → Type 0) (f : X → List ℕ) (d : X) (told : (x
       let one : flat_map f (take i xs ++ x ∷ []) ≡ flat_map f (take i xs) ++ f x = flat_map-append f (take i xs) (x ∷ []) ∙ ap (λ (l : List ℕ). flat_map f (take i xs) ++ l) (append-nil (f x)) in
       e ∙ (ap (λ (l : List ℕ). flat_map f (take i xs) ++ l) here ∙ (sym (append_assoc (flat_map f (take i xs)) (f x) rest') ∙ ap (λ (l : List ℕ). l ++ rest') (sym one ∙ ap (flat_map f) (sym (take_more_set xs i x inside)))))
 
-  -- what the i-th and those behind it are said by
+  -- what the i-th and those after it are said by
   cut_at : (others : List X) (i : ℕ) (more : List ℕ) → i < length others
       → flat_map f others ++ more ≡ flat_map f (take i others) ++ (f (get_or others i d) ++ (flat_map f (drop (suc i) others) ++ more))
   cut_at others i more inside =
@@ -36,7 +36,7 @@ module _ {X : Type 0} (P : X → Type 0) (f : X → List ℕ) (d : X) (told : (x
       let cut : others ≡ take i others ++ x ∷ drop (suc i) others = sym (take-append-drop i others) ∙ ap (λ (l : List X). take i others ++ l) (drop-cons others i d inside) in
       ap (λ (l : List X). flat_map f l ++ more) cut ∙ (ap (λ (l : List ℕ). l ++ more) (flat_map-append f (take i others) (x ∷ drop (suc i) others)) ∙ (append_assoc (flat_map f (take i others)) (f x ++ behind) more ∙ ap (λ (l : List ℕ). flat_map f (take i others) ++ l) (append_assoc (f x) behind more)))
 
-  -- where none can be read, there is no list of so many
+  -- where none can be read, there is no list of this many
   pub reads_stop : (bytes : List ℕ) (xs : List X) (i n : ℕ) (rest : List ℕ) → i < n → n ≤ length xs → All P (take i xs) → bytes ≡ flat_map f (take i xs) ++ rest
       → ((x : X) (more : List ℕ) → P x → rest ≡ f x ++ more → ⊥)
       → (others : List X) (more : List ℕ) → length others ≡ n → All P others → bytes ≡ flat_map f others ++ more → ⊥
@@ -51,7 +51,7 @@ module _ {X : Type 0} (P : X → Type 0) (f : X → List ℕ) (d : X) (told : (x
   pub one_more : (xs : List X) (i : ℕ) (x : X) → i < length xs → All P (take i xs) → P x → All P (take (i + 1) (slice_set xs i x))
   one_more xs i x inside each here = subst (λ (l : List X). All P l) (sym (take_more_set xs i x inside)) (All-push P (take i xs) x each here)
 
-  -- bytes that go on behind those of some elements go on with the next one's
+  -- bytes that go on after those of some elements go on with the next one's
   pub goes_on : (bytes : List ℕ) (done : List X) (rest : List ℕ) → All P done → bytes ≡ flat_map f done ++ rest
       → (others : List X) (more : List ℕ) → length done < length others → All P others → bytes ≡ flat_map f others ++ more
       → (others ≡ done ++ get_or others (length done) d ∷ drop (suc (length done)) others)

@@ -42,7 +42,7 @@ stays old new a bytes m w =
 
 -- ---- the bytes are the same
 
--- what was read first, and behind it
+-- what was read first, and after it
 record Read (o : Option ℕ) (r : Option (List ℕ)) (bytes : List ℕ) : Type 0 where
   byte : ℕ
   rest : List ℕ

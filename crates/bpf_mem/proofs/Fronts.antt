@@ -1,4 +1,4 @@
--- Bytes that more was put behind begin with what was there.
+-- Bytes that more was put after begin with what was there.
 use Rattle.std.proofs.Common.{◌≡◌, ℕ, List, ◌++◌, Option, Some, None, Result, Ok, Err, OnErr, sym, subst}
 use Rattle.std.specs.Prelude.{IfNone}
 use Rattle.std.specs.Io.{StartsWith}

@@ -1,4 +1,4 @@
--- Which bytes stand from an address on.
+-- Which bytes are from an address on.
 use Rattle.std.proofs.Common.{◌≡◌, ℕ, zero, suc, ◌+◌, ◌-◌, ◌<◌, ◌≤◌, List, [], ◌∷◌, length, take, drop, get_or, true, false, refl, sym, ap, ◌∙◌, arith, nat_lt, nat_le, drop-cons, inl, inr}
 use Rattle.std.specs.Prelude.{Option, Some, None, option_and_then, option_map, slice_get, ◌&&◌, is_some}
 use Rattle.std.proofs.lemmas.Option.{slice_get_past, slice_get-get_or}
@@ -14,7 +14,7 @@ use Rattle.bpf_mem.proofs.AreaLemmas.{Sized, byte_at-below, by_le, byte_at-conte
 moved : (m : PrivateMemory) (a b : ℕ) (bytes : List ℕ) (i j : ℕ) → a ≡ b → i ≡ j → byte_at m b ≡ slice_get bytes j → byte_at m a ≡ slice_get bytes i
 moved m a b bytes i j ea ei e = rw (ea, ei) e
 
--- as many bytes as stand in a list
+-- as many bytes as are in a list
 pub bytes_at-list : (m : PrivateMemory) (a o n : ℕ) (bytes : List ℕ) → ((k : ℕ) → k < n → byte_at m (a + k) ≡ slice_get bytes (o + k)) → o + n ≤ length bytes → bytes_at m a n ≡ Some (take n (drop o bytes))
 unfolding bytes_at
 bytes_at-list m a o zero bytes each h = refl
@@ -57,7 +57,7 @@ pub context-bytes : (m : PrivateMemory) (a o n : ℕ) → a ≡ context_base + o
 context-bytes m a o n e low h =
     bytes_at-list m a o n m.context (λ k below. byte_at-context m (a + k) (o + k) (omega arith) (omega arith)) h
 
--- the byte past the context's end, or the first one where that is behind it
+-- the byte past the context's end, or the first one where that is after it
 context-past : (m : PrivateMemory) (a o n : ℕ) → length m.context ≤ max_context → a ≡ context_base + o → o < 0x100000000 → 1 ≤ n → length m.context < o + n → bytes_at m a n ≡ None
 context-past m a o n small e h some past =
     let k = length m.context - o in

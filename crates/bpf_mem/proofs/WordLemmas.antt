@@ -13,7 +13,7 @@ pub length-word_bytes : (x : ℕ) → length (word_bytes x) ≡ 8
 unfolding word_bytes
 length-word_bytes x = length-low_bytes 8 x
 
--- a word's bytes tell it
+-- a word's bytes determine it
 pub same_word : (x y : ℕ) → IsWord x → IsWord y → word_bytes x ≡ word_bytes y → x ≡ y
 unfolding word_bytes
 same_word x y h k e = sym (little_endian-low_bytes 8 x h) ∙ (ap little_endian e ∙ little_endian-low_bytes 8 y k)
@@ -69,7 +69,7 @@ words_prefix past (suc x ∷ words) (suc y ∷ others) rest more n h k e =
     (cc, same.1)
 
 -- ---- reading
--- the first i words were read, and what is left of the bytes is that of the others, behind so many
+-- the first i words were read, and what is left of the bytes is that of the others, after this many
 -- zeros
 pub record AreReadTo (bytes words : List ℕ) (i run past : ℕ) (rest : List ℕ) : Type 0 where
   pub few : past ≤ run
@@ -129,7 +129,7 @@ module _ (bytes words : List ℕ) (i run past : ℕ) (rest : List ℕ) (read : A
         ap (λ (n : ℕ). n ∷ rest) same_run ∙ (ap (λ (l : List ℕ). past ∷ l) (here ∙ (ap (λ (l : List ℕ). word_bytes x ++ l) e ∙ sym (append_assoc (word_bytes x) (words_saved 0 words') more)))
         ∙ ap (λ (l : List ℕ). l ++ more) (sym (saved_some past x words' some)))
 
-    -- what others' next word is, and what comes behind it
+    -- what others' next word is, and what comes after it
     other : (others more : List ℕ) → length others ≡ length words → All IsWord others → bytes ≡ words_saved 0 others ++ more
         → (0 < x) × (get_or others i 0 ≡ x) × (run' ∷ rest' ≡ words_saved 0 (drop (suc i) others) ++ more)
     other others more n h e =
@@ -153,7 +153,7 @@ module _ (bytes words : List ℕ) (i run past : ℕ) (rest : List ℕ) (read : A
           (front x others long was.0 is.1, is.2);
     }
 
-    -- a zero stands where none may
+    -- a zero is where none may
     pub no_zero : x ≡ 0 → (others more : List ℕ) → length others ≡ length words → All IsWord others → bytes ≡ words_saved 0 others ++ more → ⊥
     no_zero none others more n h e = let is = other others more n h e in let some = is.0 in omega arith
 

@@ -1,4 +1,4 @@
--- How words are read: so many zeros are to come, and then what the rest of the bytes tells.
+-- How words are read: this many zeros are to come, and then what the rest of the bytes shows.
 use Rattle.std.proofs.Common.{◌≡◌, ℕ, suc, ◌+◌, ◌-◌, ◌<◌, ◌≤◌, List, [], ◌∷◌, ◌++◌, length, take, drop, get_or, sym, ap, ◌∙◌, arith, length-append, length-drop, drop-cons, add-one}
 use Rattle.std.specs.Prelude.{All, slice_set}
 use Rattle.std.proofs.lemmas.List.{take-append-drop, length-take-le, take_all}
@@ -22,7 +22,7 @@ first_back bytes x long each e =
 abbrev pub HaveNone : List ℕ → ℕ → Type 0
 HaveNone bytes n = (others more : List ℕ) → length others ≡ n → All IsWord others → bytes ≡ words_saved 0 others ++ more → ⊥
 
--- the first i words were read, and so many zeros come before the rest
+-- the first i words were read, and this many zeros come before the rest
 abbrev pub AreLeft : List ℕ → List ℕ → ℕ → ℕ → List ℕ → Type 0
 AreLeft bytes words i left rest = (past : ℕ) × AreReadTo bytes words i (left + past) past rest
 

@@ -25,7 +25,7 @@ AreasAreApart =
     → IsMemory m → slice_get (areas m) i ≡ Some a → slice_get (areas m) j ≡ Some b
     → byte_in a address ≡ Some byte → byte_in b address ≡ Some other → i ≡ j
 
--- what so many words are saved as tells them, and where it ends
+-- what this many words are saved as determines them, and where it ends
 abbrev pub SavedTellsWords : Type 0
 SavedTellsWords =
     (words others rest more : List ℕ) → length words ≡ length others
@@ -33,7 +33,7 @@ SavedTellsWords =
     → words_saved 0 words ++ rest ≡ words_saved 0 others ++ more
     → (words ≡ others) × (rest ≡ more)
 
--- what frames are saved as tells them, and where it ends
+-- what frames are saved as determines them, and where it ends
 abbrev pub SavedTellsFrames : Type 0
 SavedTellsFrames =
     (stack other : Stack) (rest more : List ℕ) → IsSavable stack → IsSavable other

@@ -41,7 +41,7 @@ bytes_at m address (suc n) =
     option_and_then (λ byte. option_map (λ bytes. byte ∷ bytes) (bytes_at m (suc address) n))
     (byte_at m address)
 
--- the number whose n bytes stand at an address
+-- the number whose n bytes are at an address
 abbrev pub number_at : PrivateMemory → ℕ → ℕ → Option ℕ
 number_at m address n = option_map little_endian (bytes_at m address n)
 

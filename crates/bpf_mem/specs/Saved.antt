@@ -1,4 +1,4 @@
--- What a CPU's private memory is saved as: bytes that tell all of it.
+-- What a CPU's private memory is saved as: bytes that determine all of it.
 use Rattle.std.specs.Prelude.{◌≡◌, ℕ, zero, suc, ◌^◌, ◌<◌, List, [], ◌∷◌, ◌++◌, All, length, take, drop}
 use Rattle.std.specs.List.{flat_map}
 use Rattle.bpf_base.specs.Bytes.{little_endian, low_bytes}
@@ -14,7 +14,7 @@ IsWord x = x < 2 ^ 64
 unfoldable pub word_bytes : ℕ → List ℕ
 word_bytes x = low_bytes 8 x
 
--- words behind so many zeros: each that isn't zero, behind the number of zeros before it, and at
+-- words after this many zeros: each that isn't zero, after the number of zeros before it, and at
 -- the end the number of those there
 abbrev pub words_saved : ℕ → List ℕ → List ℕ
 words_saved n [] = n ∷ []
@@ -39,7 +39,7 @@ abbrev pub frames_saved : Stack → List ℕ
 frames_saved stack =
     (length stack.live ∷ flat_map frame_saved stack.live) ++ flat_map caller_saved stack.callers
 
--- ---- what is saved is told by its bytes, where it is made of bytes and words
+-- ---- what is saved is determined by its bytes, where it is made of bytes and words
 pub record IsFrame (frame : List ℕ) : Type 0 where
   pub size : length frame ≡ frame_bytes
   pub bytes : All (λ byte. byte < 256) frame

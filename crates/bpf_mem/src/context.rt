@@ -62,7 +62,7 @@ impl Context {
         self.bytes.as_slice() == other.bytes.as_slice()
     }
 
-    /// Becomes the bytes that others begin with, as many as it has; what comes behind them. `None`
+    /// Becomes the bytes that others begin with, as many as it has; what comes after them. `None`
     /// where there are fewer.
     pub fn restore<'a>(&mut self, bytes: &'a [u8]) -> Option<&'a [u8]>
         ensures some { IfSome result (λ rest. bytes.now ≡ self.new ++ rest.now) }

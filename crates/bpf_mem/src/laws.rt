@@ -30,12 +30,12 @@ pub fn writes_are_determined()
     ensures { WritesAreDetermined }
 {}
 
-/// What so many words are saved as tells them, and where it ends.
+/// What this many words are saved as determines them, and where it ends.
 pub fn saved_tells_words()
     ensures { SavedTellsWords }
 {}
 
-/// What frames are saved as tells them, and where it ends.
+/// What frames are saved as determines them, and where it ends.
 pub fn saved_tells_frames()
     ensures { SavedTellsFrames }
 {}

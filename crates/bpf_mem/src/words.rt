@@ -7,7 +7,7 @@ ghost use Rattle.bpf_mem.specs.Saved.{IsWord, word_bytes, words_saved};
 use bpf_base::bytes::load_double;
 use std::alloc::AllocError;
 
-/// Puts a word's bytes behind others.
+/// Appends a word's bytes to others.
 fn push_word(word: u64, out: &mut Vec<u8>) -> Result<(), AllocError>
     ensures ok { OnOk result (out.new.items ≡ out.old.items ++ word_bytes word) }
     ensures err { OnErr result (out.new.items ≡ out.old.items) }
@@ -30,7 +30,7 @@ pub fn are_words(words: &[u64])
     let _ = words;
 }
 
-/// Puts behind the bytes what the words are saved as.
+/// Appends to the bytes what the words are saved as.
 pub fn save_words(words: &[u64], out: &mut Vec<u8>) -> Result<(), AllocError>
     requires { length words.now < 256 }
     ensures ok { OnOk result (out.new.items ≡ out.old.items ++ words_saved 0 words.now) }
@@ -50,8 +50,8 @@ pub fn save_words(words: &[u64], out: &mut Vec<u8>) -> Result<(), AllocError>
     Ok(())
 }
 
-/// Sets the words to those whose saved form the bytes begin with; what comes behind it. `None`
-/// where so many words have no such form, and then the words may be any.
+/// Sets the words to those whose saved form the bytes begin with; what comes after it. `None`
+/// where this many words have no such form, and then the words may be any.
 pub fn read_words<'a>(words: &mut [u64], bytes: &'a [u8]) -> Option<&'a [u8]>
     ensures some { IfSome result (λ rest. bytes.now ≡ words_saved 0 words.new ++ rest.now) }
     ensures fit { IfSome result (λ _. All IsWord words.new) }

@@ -1,4 +1,4 @@
--- What an update and a deletion leave of a store, told by its parts and by what became of the one table.
+-- What an update and a deletion leave of a store, given by its parts and by what became of the one table.
 use Rattle.std.proofs.Common.{◌≡◌, ℕ, ◌<◌, true, List, length, get_or, sym, ap, ◌∙◌, subst}
 use Rattle.bpf_shared.specs.declared.events.MapAnswer.{MapAnswer}
 use Rattle.bpf_shared.specs.declared.events.Event.TheVariants.{Update, Delete}

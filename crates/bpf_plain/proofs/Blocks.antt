@@ -40,7 +40,7 @@ apart_blocks i j w ne = elim (cases_lt i j) [
   | inr l ↦ inr (next_block j i w (let n : i ≡ j → ⊥ = ne in elim (cases_lt j i) [ inl k ↦ k | inr k ↦ absurd (n (omega arith)) ]))
 ]
 
--- ---- what stands where after a part is replaced
+-- ---- what is where after a part is replaced
 module _ (bs others : List ℕ) (i : ℕ) (l : i + length others ≤ length bs) where
   front : length (take i bs) ≡ i
   front = length-take-le i bs (omega arith)

@@ -93,7 +93,7 @@ without_more e x xs ys d ne w = record {
   still = λ i h none. elim h [ inl s ↦ inl s | inr k ↦ inr (w.still i k none) ];
 }
 
--- the element before one leads to the one behind it
+-- the element before one leads to the one after it
 pub chain-cut : (nexts : List ℕ) (p e : ℕ) → p < length nexts → slice_index nexts p ≡ e + 1
     → (link : ℕ) (xs : List ℕ) → IsChain nexts link xs → IsDistinct xs → Has xs p
     → (ys : List ℕ) × IsChain (set nexts p (slice_index nexts e)) link ys × IsWithout e xs ys
@@ -162,7 +162,7 @@ chain_most x is b xs c =
     let same : own.0 ≡ xs = same_chain x.nexts (slice_index x.heads b) own.0 xs own.1 c in
     distinct_length xs (length x.nexts) (subst IsDistinct same own.2) (λ i h. is.inside b i (xs, c, h))
 
--- an element that the first one isn't is behind the first
+-- an element that the first one isn't is after the first
 pub later_still : (link e : ℕ) (xs : List ℕ) → link ≢ 0 → link ≢ e + 1 → Has ((link - 1) ∷ xs) e → Has xs e
 later_still link e xs some other h = elim h [
   | inl s ↦ absurd (other (let q : e ≡ link - 1 = s in let a : link ≡ 0 → ⊥ = some in omega arith))
@@ -314,7 +314,7 @@ module _ (x : Links) (is : IsLinks x) (b e : ℕ) (bi : b < length x.heads) (at 
   pub head_goes_links : IsLinks without_head
   head_goes_links = goes_links x without_head is b e at head_many (head_cut (is.chain b).0 (is.chain b).1 (is.chain b).2) head_others
 
--- one behind another element goes
+-- one after another element goes
 module _ (x : Links) (is : IsLinks x) (b p e : ℕ) (at : IsChainedAt x b e) (before : IsChainedAt x b p) (leads : slice_index x.nexts p ≡ e + 1) where
   abbrev pub without_link : Links
   without_link = record { heads = x.heads; nexts = set x.nexts p (slice_index x.nexts e) }

@@ -12,7 +12,7 @@ use Rattle.bpf_plain.specs.Private.Contents.{Contents, runs_of, rows, element_co
 use Rattle.bpf_shared.proofs.Puts.{equal_or_not}
 use Rattle.bpf_plain.proofs.AnyBelow.{any_below_same}
 
--- the spans that are held, by what each element tells
+-- the spans that are held, by what each element shows
 pub held-same : (p q : Contents) → length q.tables ≡ length p.tables → ((m : ℕ) → (rows q m).shape ≡ (rows p m).shape)
     → ((c m i : ℕ) → holds q c m i ≡ holds p c m i) → held_spans q ≡ held_spans p
 held-same p q count shape e = λ k c x. go c x k
@@ -61,7 +61,7 @@ module _ (p : Contents) (m : ℕ) (n : Rows) (mi : m < length p.tables) where
     | inr k ↦ ap (λ (t : Rows). t.shape) k.1
   ]
 
-  -- of what a table tells by element and CPU, where the new table tells the same
+  -- of what a table shows by element and CPU, where the new table shows the same
   pub tells-with : (f : Rows → ℕ → ℕ → ℕ) → ((i c : ℕ) → f n i c ≡ f (rows p m) i c) → (d i c : ℕ) → f (rows (with_table p m n) d) i c ≡ f (rows p d) i c
   tells-with f e d i c = elim (rows_cases d) [
     | inl k ↦ ap (λ (t : Rows). f t i c) k.1 ∙ (e i c ∙ ap (λ (x : ℕ). f (rows p x) i c) (sym k.0))

@@ -1,4 +1,4 @@
--- Bytes that more was put behind begin with what was there.
+-- Bytes that more was put after begin with what was there.
 use Rattle.std.proofs.Common.{◌≡◌, ℕ, List, ◌++◌, Result, Ok, Err, OnErr}
 use Rattle.std.specs.Io.{StartsWith}
 use Rattle.std.proofs.Transfers.{starts_with_of_append, starts_with_trans}

@@ -1,4 +1,4 @@
--- What a lookup that finds an element leaves of a store, told by its parts and by what became of the one table.
+-- What a lookup that finds an element leaves of a store, given by its parts and by what became of the one table.
 use Rattle.std.proofs.Common.{◌≡◌, ℕ, ◌<◌, true, List, length, get_or, Some, subst, ap, sym, ◌∙◌}
 use Rattle.std.proofs.lemmas.List.{get_or_read}
 use Rattle.bpf_shared.specs.declared.events.Span.{Span}

@@ -22,7 +22,7 @@ use Rattle.bpf_plain.proofs.Places.{linked_map, sized_map, linked_size}
 use Rattle.bpf_plain.proofs.SavedAlike.{key_size, bytes_size, used_in_use, singles, no_run}
 
 -- ---- blocks of one length
--- what is behind the first i of them
+-- what follows the first i of them
 pub behind : (f : ℕ → List ℕ) (n i : ℕ) → i < n → (rest : List ℕ) × (all_below f n ≡ all_below f i ++ (f i ++ rest))
 behind f zero i l = absurd (omega arith)
 behind f (suc n) i l = elim (cases_lt i n) [

@@ -49,12 +49,12 @@ same_high true false false true e = let no : 1 ≡ 2 = e in absurd (omega (arith
 same_high false false true true e = let no : 0 ≡ 3 = e in absurd (omega (arith, no))
 same_high false false false true e = let no : 0 ≡ 2 = e in absurd (omega (arith, no))
 
--- ---- lists one behind the other
+-- ---- lists one after the other
 front : (f : ℕ → List ℕ) (n : ℕ) → all_below f (suc n) ≡ f 0 ++ all_below (λ i. f (suc i)) n
 front f zero = sym (append-nil (f 0))
 front f (suc n) = ap (λ (bs : List ℕ). bs ++ f (suc n)) (front f n) ∙ append_assoc (f 0) (all_below (λ i. f (suc i)) n) (f (suc n))
 
--- each tells where it ends, so equal bytes are equal one by one
+-- each shows where it ends, so equal bytes are equal one by one
 abbrev TellsEnd : List ℕ → List ℕ → Type 0
 TellsEnd xs ys = (rest more : List ℕ) → xs ++ rest ≡ ys ++ more → (xs ≡ ys) × (rest ≡ more)
 
@@ -139,7 +139,7 @@ used_in_use p m i (inr (c, either)) = or_right (is_linked (rows p m) i) (is_note
       ]
     ]
 
--- equal lists, one behind the other
+-- equal lists, one after the other
 pub below_same : (f g : ℕ → List ℕ) (n : ℕ) → ((i : ℕ) → i < n → f i ≡ g i) → all_below f n ≡ all_below g n
 below_same f g zero same = refl
 below_same f g (suc n) same = ap (λ (bs : List ℕ). bs ++ f n) (below_same f g n (λ i l. same i (omega arith))) ∙ ap (λ (bs : List ℕ). all_below g n ++ bs) (same n (omega arith))
@@ -232,7 +232,7 @@ module _ (p q : Contents) (is : IsStore p) (too : IsStore q) (cpus : length q.ru
         ∙ (let k : length (key_part p m i) + length (value_part p m i) ≡ length (key_part q m i) + length (value_part q m i) = omega arith in k)
         ∙ sym (length-append (key_part q m i) (value_part q m i))
 
-  -- ---- blocks tell where they end
+  -- ---- blocks show where they end
   parts_of : (m i : ℕ) → i < element_count p m → (rest more : List ℕ) → block_of p.runs (rows p m) i ++ rest ≡ block_of q.runs (rows q m) i ++ more
       → (marks_of p.runs (rows p m) i ≡ marks_of q.runs (rows q m) i) × (content_of p.runs (rows p m) i ≡ content_of q.runs (rows q m) i) × (rest ≡ more)
   parts_of m i inside rest more e =

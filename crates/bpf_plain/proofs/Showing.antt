@@ -75,7 +75,7 @@ module _ (p q : Contents) (same : SameContent p q) where
     kept_back = kept_back;
   }
 
-  -- the spans that are held, by what each element tells
+  -- the spans that are held, by what each element shows
   pub held_spans-same : ((c m i : ℕ) → holds q c m i ≡ holds p c m i) → held_spans q ≡ held_spans p
   held_spans-same e = λ k c x. go c x k
     where

@@ -1,4 +1,4 @@
--- A walk along the chain of a home, told by the index's parts.
+-- A walk along the chain of a home, given by the index's parts.
 use Rattle.std.proofs.Common.{◌≡◌, ◌≢◌, ℕ, ◌-◌, ◌<◌, ◌≤◌, List, ◌∷◌, length, get_or, slice_index, ◌⊎◌, inl, inr, refl, sym, ap, subst, ◌∙◌, arith}
 use Rattle.std.proofs.lemmas.List.{get_or_read}
 use Rattle.bpf_plain.specs.Private.Chains.{Has, IsChain, chain_length, Links, IsChainedAt, IsLinks}

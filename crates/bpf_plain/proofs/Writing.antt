@@ -1,4 +1,4 @@
--- What an access to a held value reads and leaves, told by the store's parts and by what became of the one table.
+-- What an access to a held value reads and leaves, given by the store's parts and by what became of the one table.
 use Rattle.std.proofs.Common.{◌≡◌, ℕ, ◌+◌, ◌<◌, ◌≤◌, true, length, get_or, refl, sym, ap, ◌∙◌, subst}
 use Rattle.bpf_base.specs.Bytes.{little_endian, low_bytes, part}
 use Rattle.bpf_base.specs.Atomic.{number_after}

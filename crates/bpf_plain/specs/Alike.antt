@@ -1,4 +1,4 @@
--- Contents that differ only in what no call can tell: in numbers of runs, and in what is left in
+-- Contents that differ only in what no call can see: in numbers of runs, and in what is left in
 -- elements that are in no use.
 use Rattle.std.specs.Prelude.{◌≡◌, ℕ, ◌<◌, List, length}
 use Rattle.bpf_shared.specs.Store.{Plain}

@@ -1,4 +1,4 @@
--- What a `PlainStore` tells of each plain store that it shows.
+-- What a `PlainStore` says of each plain store that it shows.
 use Rattle.std.specs.Prelude.{◌≡◌, ℕ, List, Option, option_map}
 use Rattle.std.specs.FinMap.{get}
 use Rattle.bpf_shared.specs.Shape.{IsIn}

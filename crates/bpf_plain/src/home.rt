@@ -19,7 +19,7 @@ fn spread_key(key: &[u8]) -> u64
     }
 }
 
-/// The home of a key among so many.
+/// The home of a key among this many.
 #[tactic(auto, unfolding(crate::specs::Private::Home::hash_of))]
 pub fn home(key: &[u8], homes: usize) -> usize
     requires { homes ≤ 65536 }

@@ -27,7 +27,7 @@ impl Model for Index {
     ghost invariant = { λ x. IsLinks (record { heads = x.heads.items; nexts = x.nexts.items }) };
 }
 
-/// An element has this key, where all keys have one size and lie one behind the other.
+/// An element has this key, where all keys have one size and lie one after the other.
 fn is_key_of(element: usize, keys: &[u8], size: usize, key: &[u8]) -> bool
     requires { element * size + size ≤ length keys.now }
     ensures { IsTrue result ↔ (part keys.now (element * size) size ≡ key.now) }
@@ -36,7 +36,7 @@ fn is_key_of(element: usize, keys: &[u8], size: usize, key: &[u8]) -> bool
 }
 
 impl Index {
-    /// No elements, with so many homes and room for so many elements.
+    /// No elements, with this many homes and room for this many elements.
     pub fn new(alloc: Global, homes: usize, elements: usize) -> Result<Index, AllocError>
         requires { elements < 0x1_0000_0000 }
         ensures homes { IfOk result (λ x. length x.heads ≡ homes) }
@@ -59,7 +59,7 @@ impl Index {
         self.nexts.copy_from_slice(&other.nexts);
     }
 
-    /// The element of a home with a key, where all keys have one size and lie one behind the other.
+    /// The element of a home with a key, where all keys have one size and lie one after the other.
     pub fn find(&self, home: usize, keys: &[u8], size: usize, key: &[u8]) -> Option<usize>
         requires home { home < length self.now.heads }
         requires keys { length keys.now ≡ length self.now.nexts * size }
@@ -79,7 +79,7 @@ impl Index {
         None
     }
 
-    /// An element that is in no chain comes to a home.
+    /// An element that is in no chain is put into that of its home.
     pub fn insert(&mut self, home: usize, element: usize)
         requires home { home < length self.old.heads }
         requires element { element < length self.old.nexts }

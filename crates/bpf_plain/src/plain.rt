@@ -17,7 +17,7 @@ use bpf_shared::{
 use std::alloc::{AllocError, Global};
 use std::marker::Model;
 
-/// A store that serves all its CPUs on one thread: what the definitions allow, as it stands there,
+/// A store that serves all its CPUs on one thread: what the definitions allow, as it is there,
 /// with the choices that they leave to it. All its memory is taken when it is made.
 #[derive(Drop)]
 pub struct PlainStore {
@@ -84,7 +84,7 @@ impl PlainStore {
     ghost use Rattle.bpf_shared.specs.Listing.{listed};
     ghost use Rattle.bpf_plain.specs.Shows.{Lists, ShowsByte, ShowsKey, ShowsNoByte, ShowsNoKey, ShowsValue};
 
-    /// A store with no keys, and no CPU in a run. Want of memory is its only refusal.
+    /// A store with no keys, and no CPU in a run. Out of memory is its only refusal.
     pub fn new(alloc: Global, shape: StoreShape) -> Result<PlainStore, ShapeError>
         ensures made { IfOk result (IsMade shape) }
         ensures refused { IfErr result (λ e. e ≡ ShapeError.OutOfMemory) }

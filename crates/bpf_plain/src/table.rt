@@ -43,9 +43,9 @@ pub struct Table {
     passed: usize,
     /// By CPU, its runs when elements were passed.
     seen: Vec<Runs>,
-    /// The keys of the elements, one behind the other.
+    /// The keys of the elements, one after the other.
     keys: Vec<u8>,
-    /// The values of the elements, one behind the other.
+    /// The values of the elements, one after the other.
     values: Vec<u8>,
     /// By element and CPU, the run that looked the value up; 0 is no run.
     looked_up: Vec<u32>,
@@ -165,7 +165,7 @@ fn note_runs_at(notes: &mut [u32], first: usize, runs: &[Runs])
     note_runs(&mut notes[first..first + runs.len()], runs);
 }
 
-/// Puts others in place of as many bytes. Keys and values mostly have four or eight, and so many are
+/// Puts others in place of as many bytes. Keys and values mostly have four or eight, and this many are
 /// copied without a call.
 fn put_part(bytes: &mut [u8], first: usize, others: &[u8])
     requires { first + length others.now ≤ length bytes.old }
@@ -178,7 +178,7 @@ fn put_part(bytes: &mut [u8], first: usize, others: &[u8])
     }
 }
 
-/// Takes out the notes of one CPU in so many elements.
+/// Takes out the notes of one CPU in this many elements.
 #[tactic(auto, using(crate::proofs::Blocks::in_block))]
 fn erase(notes: &mut [u32], elements: usize, cpus: usize, cpu: usize)
     requires notes { length notes.old ≡ elements * cpus }
@@ -399,7 +399,7 @@ impl Table {
         put_part(&mut self.values, element * value.len(), value);
     }
 
-    /// A value is to stand under the key, as the flags say.
+    /// A value is to be under the key, as the flags say.
     pub fn put(&mut self, key: &[u8], value: &[u8], flags: u64, runs: &[Runs]) -> MapAnswer
         requires key { length key.now ≡ self.old.shape.key }
         requires value { length value.now ≡ self.old.shape.value }

@@ -161,7 +161,7 @@ uncut : (bs : List ℕ) → HasNoMark bs → uncommented bs ≡ bs
 uncut [] all = refl
 uncut (b ∷ bs) all = take_while-cons (λ x. not (x == 59)) b bs ∙ (rw all.0 (ap (λ xs. b ∷ xs) (uncut bs all.1)))
 
--- what stands between the blanks
+-- what is between the blanks
 parts : (r : ℕ × ℕ) (rs : List (ℕ × ℕ)) → IsRun r → AreRuns rs → slice_split is_blank (word r ++ spelled rs) ≡ word r ∷ map word rs
 parts r [] is all = ap (slice_split is_blank) (append-nil (word r)) ∙ slice_split_none is_blank (word r) (not_blank (word r) (word_bytes r is))
 parts r (s ∷ rs) is all =

@@ -6,7 +6,7 @@ use Rattle.std.specs.List.{before_first, after_first}
 use Rattle.bpf_lines.specs.Lines.{fields_of}
 use Rattle.bpf_lines.specs.Words.{written_number}
 
--- so many turns of a CPU
+-- this many turns of a CPU
 abbrev pub run_text : ℕ × ℕ → List ℕ
 run_text run = codes " " ++ decimal run.0 ++ codes "*" ++ decimal run.1
 

@@ -5,7 +5,7 @@ ghost use Rattle.bpf_schedule.specs.Spelling.{run_text, runs_text};
 
 use std::alloc::{AllocError, Global};
 
-/// Puts so many turns of a CPU behind the text.
+/// Appends this many turns of a CPU to the text.
 fn push_run(alloc: Global, text: &mut String, cpu: u8, turns: u64) -> Result<(), AllocError>
     ensures { OnOk result (string_bytes text.new
         ≡ string_bytes text.old ++ run_text (cpu, turns)) }
@@ -14,7 +14,7 @@ fn push_run(alloc: Global, text: &mut String, cpu: u8, turns: u64) -> Result<(),
     text.push_str(run.as_str())
 }
 
-/// Puts a schedule behind the text, each CPU with how many turns it makes before the next, behind
+/// Appends a schedule to the text, each CPU with how many turns it makes before the next, after
 /// a blank.
 pub fn push_runs(alloc: Global, text: &mut String, runs: &[(u8, u64)]) -> Result<(), AllocError>
     ensures { OnOk result (string_bytes text.new

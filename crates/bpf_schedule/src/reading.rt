@@ -25,7 +25,7 @@ fn turns_in(word: &[u8]) -> Option<u64>
     words::number(word).ok()
 }
 
-/// Where a word's first star stands; the word's length where it has none.
+/// Where a word's first star is; the word's length where it has none.
 fn star_in(word: &[u8]) -> usize
     ensures value { result ≡ length (before_first is_star word.now) }
     ensures bound { result ≤ length word.now }
@@ -33,14 +33,14 @@ fn star_in(word: &[u8]) -> usize
     word.iter().take_while(|byte| **byte != b'*').count()
 }
 
-/// What stands before a word's first star.
+/// What is before a word's first star.
 fn before_star<'a>(word: &'a [u8]) -> &'a [u8]
     ensures { result.now ≡ before_first is_star word.now }
 {
     &word[..star_in(word)]
 }
 
-/// What stands behind a word's first star.
+/// What follows a word's first star.
 fn behind_star<'a>(word: &'a [u8]) -> &'a [u8]
     ensures { result.now ≡ after_first is_star word.now }
 {

@@ -140,7 +140,7 @@ module _ (bs others : List ℕ) (i : ℕ) (l : i + length others ≤ length bs) 
   whole : length (take i bs ++ others) ≡ i + length others
   whole = length-append (take i bs) others ∙ ap (λ (n : ℕ). n + length others) front
 
-  -- a byte before them, a byte behind them, and they themselves
+  -- a byte before them, a byte after them, and they themselves
   byte_before : (k : ℕ) → k < i → slice_index (with_part bs i others) k ≡ slice_index bs k
   byte_before k h =
       get_or-append (take i bs ++ others) (drop (i + length others) bs) 0 k (omega (arith, whole))

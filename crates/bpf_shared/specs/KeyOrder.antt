@@ -18,7 +18,7 @@ alone k = (k, 0)
 abbrev pub in_order : List (List ℕ) → List (List ℕ)
 in_order ks = keys (from_entries {R = slice_cmp nat_cmp} (map alone ks))
 
--- no key stands twice
+-- no key occurs twice
 abbrev pub AreDistinct : List (List ℕ) → Type 0
 AreDistinct = IsDistinct (eq_by_cmp (slice_cmp nat_cmp))
 

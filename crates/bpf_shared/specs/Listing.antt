@@ -1,4 +1,4 @@
--- What a look at a store tells: a map's keys with their values, and the bytes of values.
+-- What a look at a store shows: a map's keys with their values, and the bytes of values.
 use Rattle.std.specs.Prelude.{◌≡◌, ℕ, ◌<◌, ◌⊎◌, List, [], length, slice_index_or, map, Vec}
 use Rattle.std.specs.declared.alloc.Global.{Global}
 use Rattle.std.specs.Ordering.{nat_cmp}

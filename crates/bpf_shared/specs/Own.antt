@@ -1,4 +1,4 @@
--- What a CPU's own events tell: whether it is in a run, and the spans that it holds.
+-- What a CPU's own events show: whether it is in a run, and the spans that it holds.
 use Rattle.std.specs.Prelude.{◌≡◌, ℕ, ◌+◌, ◌%◌, ◌==◌, ◌||◌, Bool, true, false, List, [], ◌∷◌, Some}
 use Rattle.bpf_shared.specs.declared.events.Span.{Span}
 use Rattle.bpf_shared.specs.declared.events.Event.{Event}
@@ -42,7 +42,7 @@ held_by = held_from no_span
 abbrev pub HoldsAll : ℕ → Plain → (Span → Bool) → Type 0
 HoldsAll c s f = (q : Span) → f q ≡ true → (v : ℕ) × (s.held c v ≡ true) × ((s.value v).span ≡ q)
 
--- whether a CPU runs is told by its own events, and each span that they hold is a held value's
+-- whether a CPU runs is determined by its own events, and each span that they hold is a held value's
 abbrev pub OwnEventsTell : Type 0
 OwnEventsTell = (h : Shape) (c : ℕ) (t : Plain) (log : List Entry) → Legal (as_made h) log t
     → (t.running c ≡ in_run (events_of c log)) × HoldsAll c t (held_by (events_of c log))

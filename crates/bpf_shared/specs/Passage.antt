@@ -6,7 +6,7 @@ use Rattle.bpf_shared.specs.declared.events.Entry.{Entry}
 use Rattle.bpf_shared.specs.Shape.{Covers}
 use Rattle.bpf_shared.specs.History.{events_of, entry}
 
--- a call is its event, behind events of CPUs that are not served
+-- a call is its event, after events of CPUs that are not served
 pub record Calls (passes : List Entry → Type 0) (serves : ℕ → Bool) (cpu : ℕ)
     (event : Event) : Type 0 where
   pub others : List Entry

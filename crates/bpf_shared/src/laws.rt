@@ -58,7 +58,7 @@ pub fn calls_have_one_reply()
     ensures { CallsHaveOneReply }
 {}
 
-/// In every legal history a CPU's own events tell whether it is in a run, and each span that they
+/// In every legal history a CPU's own events say whether it is in a run, and each span that they
 /// hold is that of a value that it holds.
 pub fn own_events_tell()
     ensures { OwnEventsTell }

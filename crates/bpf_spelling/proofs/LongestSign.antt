@@ -1,4 +1,4 @@
--- The first sign of the list that a text begins with is the longest one, since longer signs stand first.
+-- The first sign of the list that a text begins with is the longest one, since longer signs are first.
 use Rattle.std.proofs.Common.{◌≡◌, ℕ, Bool, true, false, cond, ◌&&◌, not, nat_eq, List, [], ◌∷◌, length, Option, Some, None, refl, sym}
 use Rattle.std.specs.Prelude.{IfSome, nat_lt, find, filter}
 use Rattle.std.specs.List.{starts_with, list_all}

@@ -29,9 +29,9 @@ use Rattle.bpf_spelling.specs.Signs.{sign_text}
 use Rattle.bpf_spelling.specs.Operators.{operator_of, comparison_of, atomic_form}
 use Rattle.bpf_spelling.specs.Token.{Tok, Register, Word, Name, Number, Mark, Junk}
 
--- one piece of a form: a token; a blank of the canonical text; a number that `-` may stand
+-- one piece of a form: a token; a blank of the canonical text; a number that `-` may be
 -- before; a number without a sign, in decimal or as sixteen hex digits; a number that `+` or `-`
--- stands before; a jump's target, which is such a number or a label's name; or what nothing
+-- is before; a jump's target, which is such a number or a label's name; or what nothing
 -- spells
 pub data Item : Type 0 where
   Is : Tok → Item
@@ -54,7 +54,7 @@ mark s = Is (Mark s)
 abbrev pub reg : Width → Reg → Item
 reg w r = Is (Register w r)
 
--- a sign, perhaps behind `s`
+-- a sign, perhaps after `s`
 abbrev pub operator_items : Operator → List Item
 operator_items (Plain s) = mark s ∷ []
 operator_items (SignedBy s) = word key.Signed ∷ mark s ∷ []
@@ -180,7 +180,7 @@ abbrev pub offset_text : List ℕ → ℤ → List ℕ
 offset_text blank (pos n) = 43 ∷ (blank ++ decimal n)
 offset_text blank (negsuc n) = 45 ∷ (blank ++ decimal (n + 1))
 
--- `0x` and sixteen hex digits in lower case: the shortest ones of the number, behind zeros
+-- `0x` and sixteen hex digits in lower case: the shortest ones of the number, after zeros
 abbrev pub wide_text : ℕ → List ℕ
 wide_text n = codes "0x" ++ (replicate (16 - length (digits 16 false n)) 48 ++ digits 16 false n)
 
@@ -202,7 +202,7 @@ text_of (i ∷ is) = item_text i ++ text_of is
 abbrev pub line_of : Insn → List ℕ
 line_of i = text_of (form_of i None)
 
--- the canonical text of a program: its lines, with a line feed behind each
+-- the canonical text of a program: its lines, with a line feed after each
 abbrev pub canonical : List Insn → List ℕ
 canonical [] = []
 canonical (i ∷ is) = line_of i ++ 10 ∷ canonical is

@@ -21,7 +21,7 @@ use Rattle.bpf_spelling.specs.declared.signs.Sign.TheVariants as sign
 use Rattle.bpf_spelling.specs.Names.{same_keyword}
 use Rattle.bpf_spelling.specs.Signs.{same_sign}
 
--- what stands between the two sides of an arithmetic operation
+-- what is between the two sides of an arithmetic operation
 abbrev pub operator_of : AluOp → Operator
 operator_of alu.Add = Plain sign.AddAssign
 operator_of alu.Sub = Plain sign.SubAssign
@@ -52,7 +52,7 @@ comparison_of cond.Le = Plain sign.AtMost
 comparison_of cond.Slt = Signed sign.Below
 comparison_of cond.Sle = Signed sign.AtMost
 
--- the form of an atomic operation: behind `lock`, with a sign; or as a call by a name
+-- the form of an atomic operation: after `lock`, with a sign; or as a call by a name
 abbrev pub atomic_form : AtomicOp → AtomicForm
 atomic_form atomic.Add = form.Locked sign.AddAssign
 atomic_form atomic.Or = form.Locked sign.OrAssign

@@ -17,7 +17,7 @@ pub enum Keyword {
     GotoLong,
     Call,
     Exit,
-    /// Behind a number of 64 bits.
+    /// After a number of 64 bits.
     Wide,
     Map,
     Lock,

@@ -8,12 +8,12 @@ use crate::signs::Sign;
 use bpf_insn::{ALU_OPS, AluOp, CONDITIONS, Condition};
 use std::fmt;
 
-/// What stands between two operands.
+/// What is between two operands.
 #[derive(Clone, Copy)]
 pub enum Operator {
     /// A sign.
     Plain(Sign),
-    /// A sign behind `s`.
+    /// A sign after `s`.
     Signed(Sign),
 }
 

@@ -118,7 +118,7 @@ impl fmt::Display for Sign {
     }
 }
 
-/// Whether the text begins with a sign. The first bytes tell most signs from it.
+/// Whether the text begins with a sign. The first bytes distinguish most signs from it.
 #[inline(always)]
 fn begins_with(text: &[u8], sign: Sign) -> bool
     ensures { result ≡ starts_with nat_eq text.now (sign_text sign) }

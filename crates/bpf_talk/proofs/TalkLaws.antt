@@ -1,4 +1,4 @@
--- Where a conversation stands, line by line and read by read.
+-- Where a conversation is, line by line and read by read.
 use Rattle.std.proofs.Common.{◌≡◌, ◌∙◌, ℕ, ◌+◌, ◌^◌, ◌≤◌, ◌⊎◌, inl, inr, Bool, true, false, List, [], ◌∷◌, ◌++◌, length, length-append, take, ap, refl, sym, subst, append_assoc, append-nil, arith}
 use Rattle.std.specs.Prelude.{◌||◌, All, IsUtf8}
 use Rattle.std.proofs.lemmas.List.{take_all}

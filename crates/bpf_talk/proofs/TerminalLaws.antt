@@ -40,7 +40,7 @@ flushed_more (Read bytes ∷ more) calls p q = flushed_more more calls p q
 flushed_more (Wrote bytes ∷ more) calls p q = cc
 flushed_more (Flushed ∷ more) calls p q = refl
 
--- one more write, of some of the bytes behind the first n
+-- one more write, of some of the bytes after the first n
 pub put_some : (bytes : List ℕ) (n more : ℕ) (calls : List Call) → IsPut (take n bytes) calls
     → IsPut (take (n + more) bytes) (Wrote (take more (take (length bytes - n) (drop n bytes))) ∷ calls)
 put_some bytes n more calls p = (
@@ -56,7 +56,7 @@ put_whole bytes n calls l p = (p.0, p.1 ∙ take_all n bytes l)
 pub put_as : (bytes : List ℕ) (calls : List Call) → IsPut bytes calls → IsPut (take (length bytes) bytes) calls
 put_as bytes calls p = (p.0, p.1 ∙ sym (take_all (length bytes) bytes (omega arith)))
 
--- texts behind each other
+-- texts after each other
 pub put_next : (before text : List ℕ) (calls more : List Call) → IsPut before calls → IsPut text more → IsPut (before ++ text) (more ++ calls)
 put_next before text calls more p q = (
   writes_more more calls q.0 p.0,

@@ -1,4 +1,4 @@
--- Texts that are written one behind the other.
+-- Texts that are written one after the other.
 use Rattle.std.proofs.Common.{◌≡◌, ◌∙◌, ℕ, ◌+◌, ◌<◌, List, [], ◌++◌, drop, take, get_or, length, map, Result, Ok, Err, ap, sym, append_assoc, append-nil, subst}
 use Rattle.std.specs.Prelude.{IfErr, IsErrAnd, OnErr, OnOk}
 use Rattle.std.specs.List.{concat}

@@ -57,14 +57,14 @@ IsCaughtUp answers echo x calls = (lines : List (List ℕ)) × (begun : List ℕ
     × (y : _) × (lines_of (bytes_read calls) ≡ lines ++ begun ∷ [])
     × AreTold answers echo x lines tolds y calls
 
--- so it stands wherever more is read
+-- so it is wherever more is read
 abbrev pub IsInTurn : {S : Type 0} → Answering S → (echo : Bool) → S → List Call → Type 0
 IsInTurn answers echo x calls = All (IsCaughtUp answers echo x) (before_reads calls)
 
 -- ---- within a conversation
 
 -- such calls were made that some of what was read is answered, and that these lines are left of it;
--- so many bytes were read, the last read found no more or did, and some command is refused or none
+-- this many bytes were read, the last read found no more or did, and some command is refused or none
 abbrev pub IsAt : {S : Type 0} → Answering S → (Reached : List Call → Type 0) → (echo : Bool)
     → (first now : S) → (left : List (List ℕ)) → (size : ℕ) → (ended refused : Bool) → Type 0
 IsAt answers Reached echo first now left size ended refused = (calls : List Call)

@@ -9,7 +9,7 @@ pub data Call : Type 0 where
   -- what was written was brought to its end
   Flushed : Call
 
--- ---- of calls, of which the latest stands first
+-- ---- of calls, of which the latest is first
 
 abbrev pub bytes_read : List Call → List ℕ
 bytes_read [] = []
@@ -23,7 +23,7 @@ bytes_written (Read bytes ∷ calls) = bytes_written calls
 bytes_written (Wrote bytes ∷ calls) = bytes_written calls ++ bytes
 bytes_written (Flushed ∷ calls) = bytes_written calls
 
--- nothing was written behind the last flush
+-- nothing was written after the last flush
 abbrev pub is_flushed : List Call → Bool
 is_flushed [] = true
 is_flushed (Read bytes ∷ calls) = is_flushed calls

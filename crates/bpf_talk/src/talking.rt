@@ -110,7 +110,7 @@ fn say<D: Terminal>(terminal: &mut D, texts: &[&[u8]]) -> io::Result<()>
     terminal.flush()
 }
 
-/// Writes what a line is answered, behind the line where lines are shown, and flushes it.
+/// Writes what a line is answered, after the line where lines are shown, and flushes it.
 fn tell<D: Terminal>(terminal: &mut D, echo: bool, line: &[u8], text: &str) -> io::Result<()>
     requires { D.has_failed terminal.old ≡ false }
     ensures said { OnOk result ((calls : List Call) × D.passes terminal.old terminal.new calls
@@ -167,7 +167,7 @@ fn answer_line<S: Respond, D: Terminal>(
     }
 }
 
-/// Answers the lines that end in a text; what stands behind them, and whether one is refused.
+/// Answers the lines that end in a text; what follows them, and whether one is refused.
 fn answer_lines<'a, S: Respond, D: Terminal>(
     alloc: Global,
     echo: bool,
@@ -200,7 +200,7 @@ fn answer_lines<'a, S: Respond, D: Terminal>(
     Ok((line, refused))
 }
 
-/// One read, whose bytes go behind those that are held. So many are read; none where there are no
+/// One read, whose bytes go after those that are held. This many are read; none where there are no
 /// more.
 fn hear<D: Terminal>(terminal: &mut D, held: &mut Vec<u8>, room: &mut [u8]) -> Result<usize, Stop>
     requires readable { D.is_unread terminal.old ≡ false }
@@ -222,7 +222,7 @@ fn hear<D: Terminal>(terminal: &mut D, held: &mut Vec<u8>, room: &mut [u8]) -> R
     Ok(count)
 }
 
-/// Answers the lines that end in what is held, and holds what stands behind them; whether one is
+/// Answers the lines that end in what is held, and holds what follows them; whether one is
 /// refused.
 fn answer_held<S: Respond, D: Terminal>(
     alloc: Global,
@@ -314,7 +314,7 @@ fn end_early<D: Terminal>(terminal: &mut D, why: Stop) -> Talked
 }
 
 /// A whole conversation with what answers lines. All that there is to say is written; what is given
-/// tells how it ended.
+/// says how it ended.
 pub fn talk<S: Respond, D: Terminal>(
     alloc: Global,
     echo: bool,

@@ -11,7 +11,7 @@ use std::io::{ErrorKind, Read, Write};
 /// calls: which lead from one value to another, each says by `passes`, and one that keeps no list
 /// lets any lead anywhere. A call that failed is in no list.
 pub trait Terminal {
-    /// These calls lead from the first value to the second; the latest stands first.
+    /// These calls lead from the first value to the second; the latest is first.
     ghost passes: { Self → Self → List Call → Type 0 };
 
     /// Whether a read failed.
@@ -57,7 +57,7 @@ pub trait Terminal {
 }
 
 /// Standard input and output. Each call is one call of the one or the other; before each read a
-/// prompt stands on standard error where somebody types.
+/// prompt is on standard error where somebody types.
 #[derive(Drop)]
 pub struct Console<'a, P: Eprint, R: Read, W: Write> {
     rt: &'a P,

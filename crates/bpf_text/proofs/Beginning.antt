@@ -1,4 +1,4 @@
--- Tokens begin a form of the table where some form of the language goes on behind them.
+-- Tokens begin a form of the table where some form of the language goes on after them.
 use Rattle.std.proofs.Common.{◌≡◌, ◌||◌, ℕ, Bool, true, false, List, [], ◌∷◌, ◌++◌, Option, Some, None, ◌⊎◌, inl, inr, refl, sym, ap, subst, ◌∙◌}
 use Rattle.std.specs.Prelude.{ℤ, IsTrue, ◌↔◌}
 use Rattle.std.specs.List.{list_any}

@@ -1,4 +1,4 @@
--- What stands behind a label, by what is read.
+-- What follows a label, by what is read.
 use Rattle.std.proofs.Common.{◌≡◌, ◌≢◌, List, [], Option, Some, None, Ok, Err, sym, ◌∙◌, subst}
 use Rattle.std.specs.Prelude.{IfSome, IsSomeAnd}
 use Rattle.bpf_insn.specs.Encoding.{Fits}

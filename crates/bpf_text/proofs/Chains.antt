@@ -18,7 +18,7 @@ pub IfSome-then : {A B : Type 0} (o : Option A) (f : A → Option B) (P : A → 
 IfSome-then None f P Q h k = tt
 IfSome-then (Some a) f P Q h k = k a h
 
--- behind a test
+-- after a test
 pub IfSome-if : {A : Type 0} (b : Bool) (o : Option A) (Q : A → Type 0) → (b ≡ true → IfSome o Q) → IfSome (cond b o None) Q
 IfSome-if true o Q h = h refl
 IfSome-if false o Q h = tt

@@ -131,7 +131,7 @@ spelling w r piece.Number = (0, Number 0 ∷ [], λ next ts h. (refl, h))
 spelling w r piece.Offset = (pos 0, Mark sign.Plus ∷ Number 0 ∷ [], λ next ts h. (refl, h))
 spelling w r piece.Target = ((pos 0, None), Mark sign.Plus ∷ Number 0 ∷ [], λ next ts h. (refl, h))
 
--- so many pieces with what they leave open, and tokens that spell them behind others
+-- this many pieces with what they leave open, and tokens that spell them after others
 abbrev pub Completed : Width → Reg → List Piece → List Tok → Type 0
 Completed w r ps ts = (c : Choices w ps) × (others : List Tok) × Spells (items_of w r ps c) (ts ++ others)
 

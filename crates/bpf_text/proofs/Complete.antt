@@ -74,7 +74,7 @@ abbrev pub either_sign : Bool → List Tok → List Tok
 either_sign true ts = Mark sign.Minus ∷ ts
 either_sign false ts = Mark sign.Plus ∷ ts
 
--- a number with what stands before it
+-- a number with what is before it
 pub record Written_number (before : Bool → List Tok → List Tok) (z : ℤ) (next : List Tok → Type 0) (ts : List Tok) : Type 0 where
   pub negative : Bool
   pub size : ℕ
@@ -206,7 +206,7 @@ full_mov w d (operand.Immediate z) ts s =
     let n = signed_then z (Spells []) ts s in
     ap (assigned_at w d) n.tokens ∙ full_moved w d z n.negative n.size n.rest n.value n.follows
 
--- behind another sign than `=`
+-- after another sign than `=`
 register_other : (w : Width) (d : Reg) (ts : List Tok) (m : Middle) → operator_at ts ≡ Some m → (m.operator ≡ Plain sign.Assign → ⊥) → register_at w d ts ≡ operation_at w d ts
 unfolding register_at operator_at
 register_other w d (Mark sign.Assign ∷ ts) m e n = absurd (n (let same : m ≡ record { operator = Plain sign.Assign; rest = ts } = cc in ap (λ x. x.operator) same))
@@ -242,7 +242,7 @@ full_locked k op w b o r ts e s =
     let place = full_cell (cell_size w) b o tail front.0 front.2 in
     ap line_at front.1 ∙ locked_by k op w b o r front.0 place.0 e place.1 (tokens_end (Mark k ∷ Register Bits64 r ∷ []) place.0 place.2)
 
--- behind `=` and the name of a fetching operation
+-- after `=` and the name of a fetching operation
 keyword_fetched : (k : Keyword) (op : AtomicOp) (w : Width) (d : Reg) (ts : List Tok) → fetched_op k ≡ Some op → keyword_at w d k ts ≡ fetch_at op w d ts
 unfolding keyword_at fetched_at fetched_op
 keyword_fetched (key.Swap swap.ToLittle bits.Bits16) op w d ts e = cc

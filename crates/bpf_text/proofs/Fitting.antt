@@ -1,4 +1,4 @@
--- Tokens fit pieces where those tokens, and others behind them, spell them; and only there.
+-- Tokens fit pieces where those tokens, and others after them, spell them; and only there.
 use Rattle.std.proofs.Common.{◌≡◌, ℕ, ◌<◌, Bool, true, false, ◌&&◌, List, [], ◌∷◌, ◌++◌, length, map, drop, drop-cons, Option, Some, None, is_some, ◌⊎◌, inl, inr, refl, sym, ap, subst, ◌∙◌}
 use Rattle.std.specs.Prelude.{IfSome, ℤ, pos, neg_ℤ}
 use Rattle.std.proofs.lemmas.Bool.{and_parts}
@@ -157,7 +157,7 @@ whole_spells w r piece.Offset (Mark sign.Minus) e = cc
 whole_spells w r piece.Offset t e = cc
 whole_spells w r piece.Target t e = target_whole t e
 
--- a sign spells a piece with any number behind it
+-- a sign spells a piece with any number after it
 abbrev SpelledBy : Width → Reg → Piece → Tok → ℕ → Type 1
 SpelledBy w r p t n = (c : Choice w p) × Opens w r p c (t ∷ Number n ∷ [])
 
@@ -184,7 +184,7 @@ sign_spells w r piece.Offset t n e = offset_sign t n e
 sign_spells w r piece.Target t n e = target_sign t n e
 sign_spells w r p t n e = absurd (whole-sign _ e)
 
--- ---- TOKENS THAT FIT PIECES spell them, with others behind them
+-- ---- TOKENS THAT FIT PIECES spell them, with others after them
 pub fits_sound : (w : Width) (r : Reg) (ps : List Piece) (ts : List Tok) → fits w r ps ts ≡ true → Completed w r ps ts
 fits_sound w r ps [] e = spelled w r ps
 fits_sound w r [] (t ∷ ts) e = cc
@@ -308,7 +308,7 @@ first_token t u ts us e = cc
 other_tokens : (t u : Tok) (ts us : List Tok) → t ∷ ts ≡ u ∷ us → us ≡ ts
 other_tokens t u ts us e = cc
 
--- what a fit comes to
+-- what a fit results in
 abbrev chosen : Width → Reg → List Piece → List Tok → Fit → Bool
 chosen w r ps ts f = elim f [ fitting.Not ↦ false | fitting.Whole ↦ fits w r ps ts | fitting.Sign ↦ fits w r (piece.Number ∷ ps) ts ]
 

@@ -20,7 +20,7 @@ kept f name q p e = by_test (bytes_eq name q) refl
     by_test true h = let same : name ≡ q = (bytes_eq-Decides name q).0 h in some_first (f q) (Some p) (ap (λ x. is_some (f x)) (sym same) ∙ e)
     by_test false h = sym (or_none (f q))
 
--- a new one is put behind the others
+-- a new one is put after the others
 pub added : (f : List ℕ → Option Place) (name q : List ℕ) (p : Place) → is_some (f name) ≡ false → cond (bytes_eq name q) (Some p) (f q) ≡ or_else (f q) (cond (bytes_eq name q) (Some p) None)
 added f name q p e = by_test (bytes_eq name q) refl
   where

@@ -38,7 +38,7 @@ length-sign_at text s e =
 
 -- ---- the loop
 
--- the line is these tokens, and then those of what stands at this place
+-- the line is these tokens, and then those of what is at this place
 pub record Reached (line : List ℕ) (done : List Tok) (at : ℕ) : Type 0 where
   pub on : (ts : List Tok) → AreTokens (drop at line) ts → IsTokens line (done ++ ts)
 
@@ -118,7 +118,7 @@ same_tokens (t ∷ ts) (u ∷ us) text a b =
 
 -- ---- the places of tokens
 
--- so many bytes stand before the tokens of what stands at this place, and these before those of
+-- this many bytes are before the tokens of what is at this place, and these before those of
 -- the whole line
 pub record Placed (line placed : List ℕ) (at : ℕ) : Type 0 where
   pub on : (ps : List ℕ) → StandBehind line (drop at line) ps → ArePlaces line (placed ++ ps)

@@ -1,4 +1,4 @@
--- No form has more than 40 tokens, so the first ones of a long line tell as much as all.
+-- No form has more than 40 tokens, so the first ones of a long line show as much as all.
 use Rattle.std.proofs.Common.{◌≡◌, ℕ, ◌+◌, ◌*◌, ◌≤◌, List, [], ◌∷◌, ◌++◌, length, Option, Some, None, inl, inr, Ok, Err, Result, refl, sym, ap, subst, ◌∙◌, arith, length-append, append-nil}
 use Rattle.std.specs.Prelude.{ℤ}
 use Rattle.bpf_insn.specs.declared.instruction.Insn.{Insn}

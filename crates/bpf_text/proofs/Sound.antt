@@ -208,7 +208,7 @@ atomic_end_sound : (op : AtomicOp) (w : Width) (b : Reg) (o : ℤ) (s : Reg) (ts
 unfolding atomic_end
 atomic_end_sound op w b o s ts whole h = IfSome-ends (insn.Atomic w op b o s) ts (λ i. IsSpelled i whole) h
 
--- behind the place of an operation that fetches, `, R)`
+-- after the place of an operation that fetches, `, R)`
 atomic_sound : (op : AtomicOp) (w : Width) (d b : Reg) (o : ℤ) (ts whole : List Tok) → (Spells (mark sign.Comma ∷ Blank ∷ reg w d ∷ mark sign.Close ∷ []) ts → Spells (atomic_items (atomic_form op) w b o d) whole) → Reads whole (atomic_at op w d b o ts)
 unfolding atomic_at
 atomic_sound op w d b o (Mark sign.Comma ∷ Register v s ∷ Mark sign.Close ∷ ts) whole h =
@@ -270,7 +270,7 @@ compare_exchange_sound w R0 (Mark sign.Open ∷ ts) =
     (λ s tail. (refl, (refl, (refl, (refl, h (mark sign.Comma ∷ Blank ∷ reg w R0 ∷ mark sign.Comma ∷ Blank ∷ reg w s ∷ mark sign.Close ∷ []) tail))))))
 compare_exchange_sound w d ts = tt
 
--- ---- behind `=`
+-- ---- after `=`
 
 swap_sound : (w : Width) (d : Reg) (k : ByteSwap) (z : SwapWidth) (ts : List Tok) → Reads (Register w d ∷ Mark sign.Assign ∷ Word (key.Swap k z) ∷ ts) (swap_at w d k z ts)
 unfolding swap_at

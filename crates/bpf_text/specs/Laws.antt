@@ -12,7 +12,7 @@ TextsAreDetermined =
     (text : List ℕ) (r q : Result (List Insn) TextError) → Assembles text r → Assembles text q
     → r ≡ q
 
--- what has no tokens, as blanks and a comment, may stand behind a line: it stays what it is
+-- what has no tokens, as blanks and a comment, may follow a line: it stays what it is
 abbrev pub CommentsSayNothing : Type 0
 CommentsSayNothing =
     (line behind : List ℕ) (s : Source) → IsTokens behind [] → IsLine line s

@@ -23,7 +23,7 @@ abbrev pub NaturalThen : ℤ → (List Tok → Type 0) → List Tok → Type 0
 NaturalThen z next (Number n ∷ ts) = (z ≡ pos n) × next ts
 NaturalThen z next ts = ⊥
 
--- a number behind `-`
+-- a number after `-`
 abbrev pub NegatedThen : ℤ → (List Tok → Type 0) → List Tok → Type 0
 NegatedThen z next (Number n ∷ ts) = (z ≡ neg_ℤ (pos n)) × next ts
 NegatedThen z next ts = ⊥
@@ -33,7 +33,7 @@ abbrev pub SignedThen : ℤ → (List Tok → Type 0) → List Tok → Type 0
 SignedThen z next (Mark Minus ∷ ts) = NegatedThen z next ts
 SignedThen z next ts = NaturalThen z next ts
 
--- a number behind `+` or `-`
+-- a number after `+` or `-`
 abbrev pub OffsetThen : ℤ → (List Tok → Type 0) → List Tok → Type 0
 OffsetThen z next (Mark Minus ∷ ts) = NegatedThen z next ts
 OffsetThen z next (Mark Plus ∷ ts) = NaturalThen z next ts

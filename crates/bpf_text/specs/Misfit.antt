@@ -11,11 +11,11 @@ use Rattle.bpf_text.specs.Assembly.{IsBody, IsLine, Source, unlabelled}
 
 -- ---- a line of no form
 
--- some form goes on behind these tokens: with others they spell an instruction
+-- some form goes on after these tokens: with others they spell an instruction
 abbrev pub GoesOn : List Tok → Type 0
 GoesOn ts = (i : Written) × (others : List Tok) × IsSpelled i (ts ++ others)
 
--- no form goes on at the token behind so many, or there is none
+-- no form goes on at the token after this many, or there is none
 abbrev pub IsLeftAt : ℕ → List Tok → Type 0
 IsLeftAt n ts =
     GoesOn (take n ts)
@@ -27,7 +27,7 @@ abbrev pub zeroed : Tok → Tok
 zeroed (Number n) = Number 0
 zeroed t = t
 
--- so many of the tokens, and the others with 0 for each of their numbers
+-- this many of the tokens, and the others with 0 for each of their numbers
 abbrev pub with_numbers : ℕ → List Tok → List Tok
 with_numbers n ts = take n ts ++ map zeroed (drop n ts)
 
@@ -35,7 +35,7 @@ with_numbers n ts = take n ts ++ map zeroed (drop n ts)
 abbrev pub IsUnfit : List Tok → Type 0
 IsUnfit ts = IsBody (Err BadNumber) ts
 
--- the first token with which one is, whatever numbers stand behind it
+-- the first token with which one is, whatever numbers follow it
 abbrev pub IsUnfitAt : ℕ → List Tok → Type 0
 IsUnfitAt n ts =
     (n < length ts) × IsUnfit (with_numbers (n + 1) ts)
@@ -51,7 +51,7 @@ pub record IsRefusedAt (line : List ℕ) (m : Misfit) : Type 0 where
   pub tokens : List Tok
   pub cut_up : IsTokens line tokens
   pub refused : IsBody (Err m.why) (unlabelled tokens)
-  -- how many tokens of the instruction stand before it, and how many of the line
+  -- how many tokens of the instruction are before it, and how many of the line
   pub behind : ℕ
   pub counted : m.token + length (unlabelled tokens) ≡ length tokens + behind
   pub stands : StandsAt m.why behind (unlabelled tokens)
@@ -63,7 +63,7 @@ IsMisfit line None = (s : Source) × IsLine line s × OnErr s.body ⊥
 
 -- ---- where the tokens of a line begin
 
--- so many bytes of the line stand before each token of a text that is left of it, and before its
+-- this many bytes of the line are before each token of a text that is left of it, and before its
 -- end
 abbrev pub StandBehind : List ℕ → List ℕ → List ℕ → Type 0
 StandBehind line text [] = ⊥

@@ -1,5 +1,5 @@
 -- The tokens of a line: the longest word, or the longest sign, one after the other. Blanks
--- (space, tab and CR) may stand between them, and a comment from `;` behind them (our own
+-- (space, tab and CR) may be between them, and a comment from `;` after them (our own
 -- choice).
 use Rattle.std.specs.Prelude.{◌≡◌, ℕ, nat_lt, if◌then◌else◌, List, [], ◌∷◌, length, take_while, take, drop, Option, Some, None}
 use Rattle.bpf_spelling.specs.declared.signs.Sign.{Sign}

@@ -16,7 +16,7 @@ use bpf_lines::lines;
 use std::alloc::Global;
 use std::collections::HashMap;
 
-/// A line that says something, and how many lines stand before it.
+/// A line that says something, and how many lines are before it.
 #[derive(Clone, Copy)]
 struct Kept<'a> {
     line: usize,
@@ -51,14 +51,14 @@ fn is_refused(body: &Body<'_>) -> bool
     matches!(body, Body::Refused(_))
 }
 
-/// Whether one of some lines is refused, or this one behind them.
+/// Whether one of some lines is refused, or this one after them.
 fn refuses(refused: bool, body: &Body<'_>) -> bool
     ensures { result ≡ (refused || is_refused (body_of body.now)) }
 {
     refused || is_refused(body)
 }
 
-/// Puts a line behind the others, if it says something: behind a refused line no other one.
+/// Appends a line to the others, if it says something: after a refused line no other one.
 fn keep<'a>(
     lines: &mut Vec<Kept<'a>>,
     line: usize,
@@ -104,7 +104,7 @@ fn gather<'a>(alloc: Global, text: &'a [u8]) -> Result<(Vec<Kept<'a>>, Labels<'a
     Ok((kept, labels))
 }
 
-/// Puts an instruction, if there is one, behind the others.
+/// Appends an instruction, if there is one, to the others.
 fn push_meant(insns: &mut Vec<Insn>, insn: Option<Insn>) -> Result<(), TextError>
     ensures ok { OnOk result (insns.new.items ≡ insns.old.items ++ option_to_list insn) }
     ensures memory { IsOkUnless result TextError.OutOfMemory }
@@ -135,7 +135,7 @@ fn program(alloc: Global, lines: &[Kept<'_>], labels: &Labels<'_>) -> Result<Vec
 
 /// The instructions that an assembly text of these bytes stands for, or its lowest line that is
 /// refused, for the lowest of its reasons.
-/// Lines count from 1. `OutOfMemory` may stand in place of either.
+/// Lines count from 1. `OutOfMemory` may take the place of either.
 pub fn assemble_bytes(alloc: Global, text: &[u8]) -> Result<Vec<Insn>, TextError>
     ensures assembled { IfOk result (λ program. Assembles text.now (Ok program.items)) }
     ensures refused { IfErr result (λ e. (e ≡ TextError.OutOfMemory) ⊎ Assembles text.now (Err e)) }

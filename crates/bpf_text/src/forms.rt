@@ -33,13 +33,13 @@ pub enum Piece {
     Zero,
     /// The sign of an arithmetic operation.
     Operation,
-    /// The same, behind `s`.
+    /// The same, after `s`.
     SignedOperation,
     /// The sign of a condition.
     Comparison,
-    /// The same, behind `s`.
+    /// The same, after `s`.
     SignedComparison,
-    /// The sign of an operation behind `lock`.
+    /// The sign of an operation after `lock`.
     LockSign,
     /// The name of an operation that fetches.
     FetchName,
@@ -63,7 +63,7 @@ pub enum Piece {
     CompareExchange,
     /// A number without a sign.
     Number,
-    /// A number behind `+` or `-`.
+    /// A number after `+` or `-`.
     Offset,
     /// The same, or a name.
     Target,
@@ -570,7 +570,7 @@ fn is_sign(fit: Fit) -> bool
     matches!(fit, Fit::Sign)
 }
 
-/// The piece that is left first, and those behind it. Behind a sign its number is left.
+/// The piece that is left first, and those after it. After a sign its number is left.
 fn first_left(signed: bool, left: &[Piece]) -> Option<(Piece, &[Piece])>
     ensures { MatchOption result (left_of signed left.now ≡ [])
         (λ f. left_of signed left.now ≡ f.0 ∷ f.1.now) }
@@ -620,7 +620,7 @@ fn begins(tokens: &[Token<'_>]) -> bool
         .any(|(width, register)| begins_form(*width, *register, tokens))
 }
 
-/// Whether some form goes on behind tokens.
+/// Whether some form goes on after tokens.
 pub fn goes_on(tokens: &[Token<'_>]) -> bool
     ensures { IsTrue result ↔ GoesOn (map look tokens.now) }
 {

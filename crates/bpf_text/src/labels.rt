@@ -1,4 +1,4 @@
-//! Where the lines with labels stand.
+//! Where the lines with labels are.
 
 ghost use Rattle.std.specs.Prelude.{◌≡◌, Some, None, OnOk, IsOkUnless, ℕ, List, Option, if◌then◌else◌};
 ghost use Rattle.std.specs.Str.{bytes_eq};
@@ -9,7 +9,7 @@ ghost use Rattle.bpf_text.specs.Assembly.{is_named, is_twice};
 use crate::error::TextError;
 use std::collections::HashMap;
 
-/// A line: how many lines and how many words stand before it.
+/// A line: how many lines and how many words are before it.
 #[derive(Clone, Copy)]
 pub struct Place {
     pub line: usize,

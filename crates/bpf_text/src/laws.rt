@@ -9,7 +9,7 @@ pub fn texts_are_determined()
     ensures { TextsAreDetermined }
 {}
 
-/// What has no tokens, as blanks and a comment, may stand behind a line: it stays what it is.
+/// What has no tokens, as blanks and a comment, may follow a line: it stays what it is.
 pub fn comments_say_nothing()
     ensures { CommentsSayNothing }
 {}

@@ -19,7 +19,7 @@ use std::alloc::Global;
 pub struct Misfit {
     /// Why the line is refused.
     pub why: LineError,
-    /// How many tokens of the line stand before it. There are no more where tokens lack at the
+    /// How many tokens of the line are before it. There are no more where tokens lack at the
     /// line's end.
     pub token: usize,
 }
@@ -33,7 +33,7 @@ fn zeroed<'a>(token: Token<'a>) -> Token<'a>
     }
 }
 
-/// So many of the tokens, and the others with 0 for each of their numbers.
+/// This many of the tokens, and the others with 0 for each of their numbers.
 fn with_numbers<'a>(
     alloc: Global,
     tokens: &[Token<'a>],
@@ -65,7 +65,7 @@ fn is_unfit(tokens: &[Token<'_>]) -> bool
     is_bad_number(&source::behind_label(tokens))
 }
 
-/// How many tokens stand before the first number that is out of its range.
+/// How many tokens are before the first number that is out of its range.
 fn unfit_at(alloc: Global, tokens: &[Token<'_>]) -> Result<usize, TextError>
     requires { IsUnfit (map look tokens.now) }
     ensures first { IfOk result (λ n. IsUnfitAt n (map look tokens.now)) }
@@ -81,7 +81,7 @@ fn unfit_at(alloc: Global, tokens: &[Token<'_>]) -> Result<usize, TextError>
     unreachable!()
 }
 
-/// Whether some form goes on behind so many of the tokens.
+/// Whether some form goes on after this many of the tokens.
 fn goes_on_behind(tokens: &[Token<'_>], count: usize) -> bool
     requires { count ≤ length tokens.now }
     ensures { IsTrue result ↔ GoesOn (take count (map look tokens.now)) }
@@ -89,7 +89,7 @@ fn goes_on_behind(tokens: &[Token<'_>], count: usize) -> bool
     goes_on(&tokens[..count])
 }
 
-/// How many tokens stand before the first at which no form goes on.
+/// How many tokens are before the first at which no form goes on.
 fn left_at(tokens: &[Token<'_>]) -> usize
     ensures first { IsLeftAt result (map look tokens.now) }
     ensures bound { result ≤ length tokens.now }
@@ -102,7 +102,7 @@ fn left_at(tokens: &[Token<'_>]) -> usize
     tokens.len()
 }
 
-/// How many tokens of an instruction stand before the one at which it is refused.
+/// How many tokens of an instruction are before the one at which it is refused.
 fn stands_at(alloc: Global, why: LineError, tokens: &[Token<'_>]) -> Result<usize, TextError>
     requires { IsBody (Err why) (map look tokens.now) }
     ensures first { IfOk result (λ n. StandsAt why n (map look tokens.now)) }

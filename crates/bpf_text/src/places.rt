@@ -7,7 +7,7 @@ use crate::error::TextError;
 use crate::token::{blank_len, ends_at, front_at, skip_blanks};
 use std::alloc::Global;
 
-/// How many bytes of a line stand before each of its tokens, and before what follows the last one:
+/// How many bytes of a line are before each of its tokens, and before what follows the last one:
 /// a comment, or the line's end. Fails by `OutOfMemory` alone.
 pub fn token_places(alloc: Global, line: &[u8]) -> Result<Vec<usize>, TextError>
     ensures places { IfOk result (λ places. ArePlaces line.now places.items) }

@@ -57,7 +57,7 @@ fn code<'a>(draft: Draft<'a>) -> Body<'a>
     }
 }
 
-/// What stands behind a line's label.
+/// What follows a line's label.
 pub(crate) fn behind_label<'a>(tokens: &[Token<'a>]) -> Body<'a>
     ensures { IsBody (body_of result) (map look tokens.now) }
 {

@@ -74,7 +74,7 @@ pub(crate) fn front_at<'a>(line: &'a [u8], at: usize) -> (Token<'a>, usize)
     front(&line[at..])
 }
 
-/// The place behind the blanks.
+/// The place after the blanks.
 pub(crate) fn skip_blanks(line: &[u8], at: usize) -> usize
     requires { at ≤ length line.now }
     ensures value { result ≡ at + length (take_while is_blank (drop at line.now)) }
@@ -104,7 +104,7 @@ pub(crate) fn ends_at(line: &[u8], at: usize) -> bool
 /// How many tokens of a line are kept: more than a label and any form have.
 const MAX_TOKENS: usize = 64;
 
-/// Puts a token behind the others, unless they are as many as are kept.
+/// Appends a token to the others, unless they are as many as are kept.
 fn keep<'a>(tokens: &mut Vec<Token<'a>>, token: Token<'a>) -> Result<(), TextError>
     ensures kept { OnOk result (KeepsToken tokens.old.items token.entry tokens.new.items) }
     ensures memory { IsOkUnless result TextError.OutOfMemory }

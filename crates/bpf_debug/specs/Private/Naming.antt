@@ -1,4 +1,4 @@
--- What is told of values, of each plain store that the machine's shows.
+-- What is printed of values, of each plain store that the machine's shows.
 use Rattle.std.specs.Prelude.{ℕ, List, Option}
 use Rattle.bpf_shared.specs.declared.events.Span.{Span}
 use Rattle.bpf_shared.specs.Sound.{IsSoundStore}

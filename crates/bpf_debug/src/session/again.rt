@@ -17,7 +17,7 @@ impl Session {
     ghost use Rattle.bpf_machine.specs.Hands.{IsFree};
     ghost use Rattle.bpf_debug.specs.Session.{Leaves, RefusesHere};
 
-    /// Undoes so many turns, which there are.
+    /// Undoes this many turns, which there are.
     fn back_by(&mut self, alloc: Global, count: u64) -> Result<String, DebugError>
         requires { (runs : List (ℕ × ℕ)) × (self.old.course ≡ Some runs)
             × (count ≤ length (unrolled runs)) }

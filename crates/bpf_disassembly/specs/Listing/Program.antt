@@ -1,4 +1,4 @@
--- A program's canonical lines, each with its pc and its words behind it, as a comment of the
+-- A program's canonical lines, each with its pc and its words after it, as a comment of the
 -- assembly language. Our own choice.
 use Rattle.std.specs.Prelude.{ℕ, ◌+◌, ◌*◌, ◌++◌, List, [], ◌∷◌, codes, drop, take}
 use Rattle.std.specs.Fmt.{decimal}

@@ -1,4 +1,4 @@
-//! The place of an instruction, as a comment behind its line.
+//! The place of an instruction, as a comment after its line.
 
 ghost use Rattle.std.specs.Prelude.{◌≡◌, ◌++◌, IsOkUnless, OnOk, string_bytes};
 ghost use Rattle.bpf_disassembly.specs.Listing.Program.{place_comment};
@@ -7,7 +7,7 @@ use bpf_lines::to_hex;
 use bpf_text::TextError;
 use std::alloc::Global;
 
-/// Puts a pc and its words behind the text. Fails by `OutOfMemory` alone.
+/// Appends a pc and its words to the text. Fails by `OutOfMemory` alone.
 pub fn push_place(
     alloc: Global,
     text: &mut String,

@@ -23,7 +23,7 @@ fn insn_line(alloc: Global, insn: Insn) -> Result<String, TextError>
     Ok(line)
 }
 
-/// Puts a line behind the text: the instruction, its pc and its words.
+/// Appends a line to the text: the instruction, its pc and its words.
 fn push_line(
     alloc: Global,
     text: &mut String,
@@ -42,7 +42,7 @@ fn push_line(
     text.push('\n').map_err(|_| TextError::OutOfMemory)
 }
 
-/// A program's canonical lines, each with its pc and its words behind it. Fails by `OutOfMemory`
+/// A program's canonical lines, each with its pc and its words after it. Fails by `OutOfMemory`
 /// alone.
 pub fn program_lines(alloc: Global, bytes: &[u8], program: &[Insn]) -> Result<String, TextError>
     requires { IsEncodedAs program.now bytes.now }

@@ -11,7 +11,7 @@ use crate::listing::place::push_place;
 use bpf_text::{TextError, line_size};
 use std::alloc::Global;
 
-/// A text's first line, and what stands behind its line feed, if it has one.
+/// A text's first line, and what follows its line feed, if it has one.
 #[tactic(auto, using(crate::proofs::FirstLines::cut, crate::proofs::FirstLines::whole))]
 fn first_line(text: &str) -> (&str, Option<&str>)
     ensures lines { lines_of text.now ≡ result.0.now ∷ lines_behind (option_copied result.1) }
@@ -36,7 +36,7 @@ fn size_of_line(alloc: Global, line: &str) -> Result<usize, TextError>
     line_size(alloc, line.as_bytes())
 }
 
-/// Puts a line behind the text, and the place of its instruction, if it has one: its words are
+/// Appends a line to the text, and the place of its instruction, if it has one: its words are
 /// those that the bytes begin with.
 fn push_line(
     alloc: Global,
@@ -59,7 +59,7 @@ fn push_line(
     push_place(alloc, text, pc, &bytes[..len])
 }
 
-/// Puts a line feed behind the text, if another line follows.
+/// Appends a line feed to the text, if another line follows.
 #[tactic(auto, using(crate::proofs::SourceLines::has_feed))]
 fn push_feed(text: &mut String, behind: Option<&str>) -> Result<(), TextError>
     ensures feed { OnOk result (string_bytes text.new
@@ -72,7 +72,7 @@ fn push_feed(text: &mut String, behind: Option<&str>) -> Result<(), TextError>
     }
 }
 
-/// The bytes behind so many words.
+/// The bytes after this many words.
 fn behind_words(bytes: &[u8], size: usize) -> &[u8]
     requires { size ≤ 2 }
     ensures { result.now ≡ drop (8 * size) bytes.now }
@@ -81,7 +81,7 @@ fn behind_words(bytes: &[u8], size: usize) -> &[u8]
     &bytes[len..]
 }
 
-/// A text's lines, each with the pc and the words of its instruction behind it, as a comment; the
+/// A text's lines, each with the pc and the words of its instruction after it, as a comment; the
 /// bytes are those of the words. Fails by `OutOfMemory` alone.
 pub fn source_lines(alloc: Global, bytes: &[u8], source: &str) -> Result<String, TextError>
     ensures listed { IfOk result (λ text.

@@ -1,4 +1,4 @@
--- Turns that are made and told of.
+-- Turns that are made and printed.
 use Rattle.std.specs.Prelude.{◌≡◌, ℕ, List, ◌++◌}
 use Rattle.bpf_machine.specs.declared.machine.Turn.{Turn}
 use Rattle.bpf_machine.specs.Happenings.{Happening, Happens, RunsWith, RunsRoundsWith}
@@ -8,7 +8,7 @@ use Rattle.bpf_machine.specs.Schedule.{World, TakesTurn}
 use Rattle.bpf_events.specs.Lines.{history_lines}
 
 -- what leads from the worlds that the first machine shows to those of the second, and happens
--- meanwhile, is told behind the first text
+-- meanwhile, is printed after the first text
 abbrev pub AreTold : (World → List Happening → World → Type 0) → List (List ℕ) → MachineState
     → List ℕ → MachineState → List ℕ → Type 0
 AreTold leads names old text new later = (w : World) → Shows old w → (z : World)

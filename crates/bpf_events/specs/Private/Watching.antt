@@ -34,7 +34,7 @@ NotesBegin program c context budget x y = y.lost ≡ false → (x.lost ≡ false
     × PlainlyAllowed s c Begin t × HasEvents program c t (start c context) budget events
     × (y.events ≡ x.events ++ Begin ∷ events))
 
--- the job of a CPU goes on from this stage; the pc at which the CPU stands
+-- the job of a CPU goes on from this stage; the pc at which the CPU is
 abbrev pub NotesStage : Loaded → ℕ → Stage → ℕ → Recording → Recording → ℕ → Type 0
 NotesStage program c (Waiting context) budget x y pc =
     (pc ≡ 0) × NotesBegin program c context budget x y
@@ -63,12 +63,12 @@ IsQuietAt program (InHand state left) pc = (pc ≡ state.pc) × (0 < left)
     × ((new : Cpu) × ((shapes : List MapShape) → Step shapes program state [] On new))
 IsQuietAt program (Ended outcome) pc = ⊥
 
--- what happens in a turn that comes to this, where these events were noted of a job at a pc
+-- what happens in a turn with this result, where these events were noted of a job at a pc
 abbrev pub noted : ℕ → Option (ℕ × ℕ) → List Event → Turn → List Happening
 noted c None events answer = []
 noted c (Some at) events answer = map (happening c at.0 at.1) (events ++ end_events answer)
 
--- whatever the CPU's next turn comes to, this happens in it
+-- whatever the CPU's next turn leads to, this happens in it
 abbrev pub IsWatched : MachineState → ℕ → Option (ℕ × ℕ) → List Event → Type 0
 IsWatched m c at events =
     (w : World) → Shows m w → (answer : Turn) → Happens w c answer (noted c at events answer)

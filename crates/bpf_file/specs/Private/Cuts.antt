@@ -11,7 +11,7 @@ abbrev pub AreOpen : List (List ℕ) → Type 0
 AreOpen [] = Unit {0}
 AreOpen (l ∷ ls) = (is_end l ≡ false) × AreOpen ls
 
--- of the text's lines the first that ends a program, and what stands before and behind it
+-- of the text's lines the first that ends a program, and what is before and after it
 pub record IsProgramCut (text : List ℕ) (a : Assembly) : Type 0 where
   pub body : List (List ℕ)
   pub last : List ℕ

@@ -71,7 +71,7 @@ Ends from p name text r =
     (o : Result Loaded FileError) × OfAssembly from (length p.file.maps) text o
     × (r ≡ program_added p name o)
 
--- what lines are read as follows of what those behind are, from there on
+-- what lines are read as follows of what those after are, from there on
 abbrev pub ReadsOnFrom : ℕ → State → List (List ℕ) → Part
     → Result (ℕ × Option (Bor (List ℕ))) FileError → Type 0
 ReadsOnFrom n s ls p (Ok r) =

@@ -18,7 +18,7 @@ pub record AreBinned (latest earlier : List ℕ) (spans : List Span) : Type 0 wh
   pub alike : (n : ℕ) (p q : Span) → slice_get spans n ≡ Some p
       → slice_get spans (slice_index earlier n) ≡ Some q → 0 < slice_index earlier n
       → bin_of q.at ≡ bin_of p.at
-  -- none is behind the latest one of its bin, and none of the bin is passed over
+  -- none is after the latest one of its bin, and none of the bin is passed over
   pub last : (k : ℕ) (p : Span) → slice_get spans k ≡ Some p → k ≤ slice_index latest (bin_of p.at)
   pub next : (k n : ℕ) (p q : Span) → slice_get spans k ≡ Some p → slice_get spans n ≡ Some q
       → k < n → bin_of p.at ≡ bin_of q.at → k ≤ slice_index earlier n

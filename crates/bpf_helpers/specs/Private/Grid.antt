@@ -3,7 +3,7 @@ use Rattle.std.specs.Prelude.{◌≡◌, ℕ, ◌+◌, ◌*◌, ◌/◌, ◌<◌
 use Rattle.bpf_shared.specs.declared.events.Span.{Span}
 use Rattle.bpf_shared.specs.Shape.{first_value, map_area}
 
--- the address is so far behind where the first value of the map begins
+-- the address is so far past where the first value of the map begins
 pub record IsOffset (address m offset : ℕ) : Type 0 where
   pub map : m < 16
   pub near : offset < map_area

@@ -12,7 +12,7 @@ use bpf_mem::{are_words, read_words, save_words};
 use bpf_shared::Span;
 use std::alloc::AllocError;
 
-/// Puts behind the bytes what spans are saved as.
+/// Appends to the bytes what spans are saved as.
 fn save_spans(spans: &[Span], out: &mut Vec<u8>) -> Result<(), AllocError>
     ensures ok { OnOk result (out.new.items ≡ out.old.items ++ flat_map span_saved spans.now) }
     ensures err { OnErr result (StartsWith out.new.items out.old.items) }
@@ -23,7 +23,7 @@ fn save_spans(spans: &[Span], out: &mut Vec<u8>) -> Result<(), AllocError>
     Ok(())
 }
 
-/// The span whose saved form the bytes begin with; what comes behind it.
+/// The span whose saved form the bytes begin with; what comes after it.
 fn read_span(bytes: &[u8]) -> Option<(Span, &[u8])>
     ensures some { IfSome result (λ r. bytes.now ≡ span_saved r.0 ++ r.1.now) }
     ensures wide { IfSome result (λ r. IsWide r.0) }
@@ -56,7 +56,7 @@ fn are_wide(spans: &[Span])
 }
 
 impl HeldSpans {
-    /// The spans are told by what they are saved as, and each is held once: says so, and does
+    /// The spans are determined by what they are saved as, and each is held once: says so, and does
     /// nothing.
     pub fn are_savable(&self)
         ensures savable { AreSavable self.now }
@@ -66,7 +66,7 @@ impl HeldSpans {
         are_wide(self.spans());
     }
 
-    /// Puts behind the bytes what the spans are saved as.
+    /// Appends to the bytes what the spans are saved as.
     pub fn save(&self, out: &mut Vec<u8>) -> Result<(), AllocError>
         ensures ok { OnOk result (out.new.items ≡ out.old.items ++ spans_saved self.now) }
         ensures err { OnErr result (StartsWith out.new.items out.old.items) }
@@ -75,7 +75,7 @@ impl HeldSpans {
         save_spans(self.spans(), out)
     }
 
-    /// Become so many spans whose saved forms the bytes begin with; what comes behind them.
+    /// Become this many spans whose saved forms the bytes begin with; what comes after them.
     fn read_spans<'a>(&mut self, count: usize, bytes: &'a [u8]) -> Option<&'a [u8]>
         ensures some { IfSome result
             (λ rest. bytes.now ≡ flat_map span_saved self.new ++ rest.now) }
@@ -98,7 +98,7 @@ impl HeldSpans {
         Some(rest)
     }
 
-    /// Become those whose saved form the bytes begin with; what comes behind it. `None` where no
+    /// Become those whose saved form the bytes begin with; what comes after it. `None` where no
     /// spans that a run may hold have such a form, and then they may be any.
     pub fn restore<'a>(&mut self, bytes: &'a [u8]) -> Option<&'a [u8]>
         ensures some { IfSome result (λ rest. bytes.now ≡ spans_saved self.new ++ rest.now) }

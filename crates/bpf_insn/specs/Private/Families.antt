@@ -1,4 +1,4 @@
--- The families of instructions whose rows stand in functions of their own.
+-- The families of instructions whose rows are in functions of their own.
 use Rattle.bpf_insn.specs.declared.instruction.Insn.{Insn}
 use Rattle.bpf_insn.specs.declared.instruction.Insn.TheVariants as insn
 

@@ -90,7 +90,7 @@ impl AluOp {
         }
     }
 
-    /// Its offset, which tells division from signed division.
+    /// Its offset, which distinguishes division from signed division.
     pub(crate) fn offset(self) -> Field
         ensures { result ≡ offset_k self }
     {
@@ -101,7 +101,7 @@ impl AluOp {
         }
     }
 
-    /// The same from a register, where it tells MOV from MOVSX too.
+    /// The same from a register, where it distinguishes MOV from MOVSX too.
     pub(crate) fn offset_from_register(self) -> Field
         ensures { result ≡ offset_x self }
     {

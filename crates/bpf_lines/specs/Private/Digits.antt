@@ -18,7 +18,7 @@ pub record IsReadTo (text bytes digits : List ℕ) : Type 0 where
   pub whole : length (digits_of text) ≡ 2 * pairs + length digits
   pub read : decode_pairs 0 (digits_of text) ≡ behind bytes (decode_pairs at digits)
 
--- what stands ahead of a place, behind blanks: a digit and the place behind it, the end of the
+-- what is ahead of a place, after blanks: a digit and the place after it, the end of the
 -- text, or another byte
 abbrev pub IsAhead : List ℕ → ℕ → Ahead → Type 0
 IsAhead text at (ahead.Digit n to) =

@@ -6,7 +6,7 @@ use Rattle.bpf_machine.specs.declared.machine.ahead.Headway.TheVariants.{Idle, T
 abbrev pub headway_at : List Headway → ℕ → Headway
 headway_at headways c = slice_index_or headways c Idle
 
--- so many turns later, of which none is made anew
+-- this many turns later, of which none is made anew
 abbrev pub spent : ℕ → Headway → Headway
 spent m Idle = Idle
 spent m (Turns n) = Turns (n - m)
@@ -15,7 +15,7 @@ abbrev pub HasSoMany : ℕ → Headway → Type 0
 HasSoMany m Idle = Unit {0}
 HasSoMany m (Turns n) = m ≤ n
 
--- what is found of the CPUs below a number: so many have work, and the least is so far ahead
+-- what is found of the CPUs below a number: this many have work, and the least is so far ahead
 pub record AreCounted (headways : List Headway) (c working least : ℕ) : Type 0 where
   pub most : (d k : ℕ) → d < c → headway_at headways d ≡ Turns k
       → (least ≤ k) × (1 ≤ working) × (working ≡ 1 → k ≡ least)

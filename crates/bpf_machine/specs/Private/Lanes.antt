@@ -56,7 +56,7 @@ tasks_of lanes jobs = map (task_of lanes) jobs
 
 -- ---- what they keep true
 
--- the CPU's jobs wait from its next on; the one in hand is told by its number
+-- the CPU's jobs wait from its next on; the one in hand is determined by its number
 abbrev pub FitsLane : Lane → ℕ → Phase → Type 0
 FitsLane l j (phase.Waiting context) = l.next ≤ j
 FitsLane l j phase.InHand = (j < l.next) × ((h : Hand) × (l.hand ≡ Some h) × (h.job ≡ j))

@@ -30,7 +30,7 @@ pub record FitsAlone (store : Contents) (programs : List Loaded) (task : Task) :
   pub loaded : task.program < length programs
   pub stage : FitsStage store programs task task.stage
 
--- a CPU has one job in hand at most, and behind one that waits each waits
+-- a CPU has one job in hand at most, and after one that waits each waits
 pub record Follows (first later : Task) : Type 0 where
   pub one : first.cpu ≡ later.cpu → in_hand first.stage ≡ true → in_hand later.stage ≡ false
   pub order : first.cpu ≡ later.cpu → waits first.stage ≡ true → waits later.stage ≡ true

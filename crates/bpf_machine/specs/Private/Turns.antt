@@ -21,7 +21,7 @@ with_worked Nobody cpu = One cpu
 with_worked (One other) cpu = More
 with_worked More cpu = More
 
--- a job in hand goes on for so many turns, and with the next one it ends so
+-- a job in hand goes on for this many turns, and with the next one it ends so
 abbrev pub Lasts : Loaded → ℕ → ℕ → Plain → Cpu → ℕ → Outcome → Plain → Type 0
 Lasts program c zero s old left end t =
     (new : Cpu) × (rest : ℕ) × Advances program c s old left (Some end) t new rest

@@ -76,7 +76,7 @@ pub(crate) fn count_cpus(jobs: &[Job]) -> usize
     count
 }
 
-/// Puts down what a CPU has in hand. It stands alone, or each turn would clear room on the stack
+/// Puts down what a CPU has in hand. It is alone, or each turn would clear room on the stack
 /// for the state that is dropped.
 #[cold]
 #[inline(never)]
@@ -86,7 +86,7 @@ pub(crate) fn put_down(lane: &mut Lane)
     lane.hand = None;
 }
 
-/// Room for so many jobs and CPUs.
+/// Room for this many jobs and CPUs.
 pub(crate) fn make_room(
     alloc: Global,
     jobs: usize,
@@ -129,7 +129,7 @@ pub(crate) fn list_jobs(jobs: Vec<Job>, room: Vec<Listed>) -> Vec<Listed>
     list
 }
 
-/// So many CPUs, with nothing in hand.
+/// This many CPUs, with nothing in hand.
 pub(crate) fn make_lanes(jobs: &[Listed], cpus: usize, room: Vec<Lane>) -> Vec<Lane>
     requires empty { room.items ≡ [] }
     requires room { cpus ≤ vec_capacity room }

@@ -1,4 +1,4 @@
-//! Schedules that are told in run lengths.
+//! Schedules that are given in run lengths.
 
 use super::{Machine, Turn};
 
@@ -8,7 +8,7 @@ impl Machine {
     ghost use Rattle.bpf_machine.specs.Machine.{Shows};
     ghost use Rattle.bpf_machine.specs.Parts.{IsSameHost};
 
-    /// So many turns of a CPU. Those behind an idle one are idle too, and aren't made.
+    /// This many turns of a CPU. Those after an idle one are idle too, and aren't made.
     fn repeat(&mut self, cpu: u8, turns: u64)
         ensures runs { (w : World) → Shows self.old w
             → (z : World) × RunsSchedule w (replicate turns cpu) z × Shows self.new z }
@@ -21,7 +21,7 @@ impl Machine {
         }
     }
 
-    /// The turns of a schedule that is told by CPUs, each with how many turns it takes before the
+    /// The turns of a schedule that is given by CPUs, each with how many turns it takes before the
     /// next.
     pub fn turns_by(&mut self, runs: &[(u8, u64)])
         ensures runs { (w : World) → Shows self.old w

@@ -1,4 +1,4 @@
-//! Jobs of a machine that are kept as they stand, and a machine that is made again of such jobs and
+//! Jobs of a machine that are kept as they are, and a machine that is made again of such jobs and
 //! a store.
 
 ghost use Rattle.std.specs.Prelude.{◌≡◌, ◌<◌, ◌≤◌, ℕ, true, false, All, IfOk, IfSome, IfNone, OnOk, OnErr, Some, None, length};
@@ -28,7 +28,7 @@ use std::marker::Model;
 pub enum KeptStage {
     /// It waits, with its context.
     Waiting(Vec<u8>),
-    /// It is in its CPU's hand, with so many steps left.
+    /// It is in its CPU's hand, with this many steps left.
     InHand(Cpu, u64),
     Ended(Outcome),
 }
@@ -89,7 +89,7 @@ fn keep_stage(alloc: Global, lane: &Lane, phase: &Phase) -> Result<KeptStage, Al
     }
 }
 
-/// Whether the job in a CPU's hand is in this state, with so many steps left.
+/// Whether the job in a CPU's hand is in this state, with this many steps left.
 fn is_in_hand(lane: &Lane, cpu: &Cpu, left: u64) -> bool
     ensures same { result ≡ true → kept_stage (KeptStage.InHand cpu.now left)
         ≡ stage_of lane.now.hand Phase.InHand }
@@ -233,7 +233,7 @@ impl KeptJob {
         listed.cpu == self.cpu && listed.program == self.program && listed.budget == self.budget
     }
 
-    /// Whether it is how a listed job stands on the CPU of this lane.
+    /// Whether it is how a listed job depends on the CPU of this lane.
     fn is_at(&self, lane: &Lane, listed: &Listed) -> bool
         ensures same { result ≡ true → IsReadAs lane.now listed.now self.now }
         ensures differs { result ≡ false → IsReadAs lane.now listed.now self.now → ⊥ }
@@ -341,7 +341,7 @@ fn make_lane(alloc: Global, parts: &[KeptJob], numbers: &[u32], cpu: u8) -> Resu
     Ok(Lane { hand, next })
 }
 
-/// The same of so many CPUs.
+/// The same of this many CPUs.
 fn lanes_of_kept(
     alloc: Global,
     parts: &[KeptJob],
@@ -502,7 +502,7 @@ fn mix(hash: u64, number: u64) -> u64
     spread(hash ^ number)
 }
 
-/// A number by which a job in hand is found, behind one of its own.
+/// A number by which a job in hand is found, after one of its own.
 fn hash_of_hand(first: u64, cpu: &Cpu, left: u64) -> u64
     ensures { result ≡ stage_hash first (InHand cpu.now left) }
 {
@@ -533,7 +533,7 @@ impl Machine {
     ghost use Rattle.bpf_machine.specs.Parts.{CanStand, made_of};
     ghost use Rattle.bpf_machine.specs.Hashes.{task_hash};
 
-    /// A job as it stands.
+    /// A job as it is.
     pub fn kept_job(&self, alloc: Global, job: usize) -> Result<KeptJob, AllocError>
         requires { job < length self.now.jobs }
         ensures { IfOk result (λ kept. slice_get self.now.jobs job ≡ Some kept) }
@@ -548,7 +548,7 @@ impl Machine {
         })
     }
 
-    /// Whether a job stands as a kept one stood.
+    /// Whether a job is as a kept one stood.
     pub fn is_kept_job(&self, job: usize, kept: &KeptJob) -> bool
         requires { job < length self.now.jobs }
         ensures same { result ≡ true → slice_get self.now.jobs job ≡ Some kept.now }
@@ -558,7 +558,7 @@ impl Machine {
         kept.is_at(&self.lanes[listed.cpu as usize], listed)
     }
 
-    /// A number by which jobs that stand alike are found.
+    /// A number by which jobs that are alike are found.
     pub fn hash_of_job(&self, job: usize) -> u64
         requires { job < length self.now.jobs }
         ensures { (task : Task) → slice_get self.now.jobs job ≡ Some task

@@ -13,7 +13,7 @@ use bpf_cpu::{Outcome, is_savable_outcome, save_outcome};
 use bpf_mem::save_words;
 use std::alloc::AllocError;
 
-/// Puts behind the bytes what a job that waits is saved as.
+/// Appends to the bytes what a job that waits is saved as.
 fn save_waiting(out: &mut Vec<u8>) -> Result<(), AllocError>
     ensures ok { OnOk result (out.new.items ≡ out.old.items ++ stage_saved (Waiting [])) }
     ensures err { OnErr result (StartsWith out.new.items out.old.items) }
@@ -95,7 +95,7 @@ impl Machine {
         stage_fits_bytes(&self.lanes[listed.cpu as usize], &listed.phase);
     }
 
-    /// Puts behind the bytes what a job's stage is saved as.
+    /// Appends to the bytes what a job's stage is saved as.
     pub fn save_job(&self, job: usize, out: &mut Vec<u8>) -> Result<(), AllocError>
         requires { job < length self.now.jobs }
         ensures ok { OnOk result ((task : Task) → slice_get self.now.jobs job ≡ Some task

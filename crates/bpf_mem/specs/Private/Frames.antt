@@ -1,4 +1,4 @@
--- The arrays behind the frames: as long as their types say, with at least one frame live.
+-- The arrays after the frames: as long as their types say, with at least one frame live.
 use Rattle.std.specs.Prelude.{◌≡◌, ◌≤◌, All, length}
 use Rattle.bpf_mem.specs.Limits.{max_frames, frame_bytes}
 use Rattle.bpf_mem.specs.declared.frames.Frames.TheInside.{Inside}

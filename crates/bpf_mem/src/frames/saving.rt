@@ -36,7 +36,7 @@ fn set_words(frame: &mut [u8; FRAME_BYTES], words: &[u64; FRAME_WORDS])
     }
 }
 
-/// Puts behind the bytes what a frame is saved as.
+/// Appends to the bytes what a frame is saved as.
 fn save_frame(frame: &[u8; FRAME_BYTES], out: &mut Vec<u8>) -> Result<(), AllocError>
     ensures ok { OnOk result (out.new.items ≡ out.old.items ++ frame_saved frame.now) }
     ensures err { OnErr result (StartsWith out.new.items out.old.items) }
@@ -44,7 +44,7 @@ fn save_frame(frame: &[u8; FRAME_BYTES], out: &mut Vec<u8>) -> Result<(), AllocE
     save_words(&words_of(frame), out)
 }
 
-/// Puts behind the bytes what frames are saved as.
+/// Appends to the bytes what frames are saved as.
 fn save_frames(frames: &[[u8; FRAME_BYTES]], out: &mut Vec<u8>) -> Result<(), AllocError>
     ensures ok { OnOk result (out.new.items ≡ out.old.items ++ flat_map frame_saved frames.now) }
     ensures err { OnErr result (StartsWith out.new.items out.old.items) }
@@ -55,7 +55,7 @@ fn save_frames(frames: &[[u8; FRAME_BYTES]], out: &mut Vec<u8>) -> Result<(), Al
     Ok(())
 }
 
-/// Sets a frame to the one whose saved form the bytes begin with; what comes behind it.
+/// Sets a frame to the one whose saved form the bytes begin with; what comes after it.
 fn read_frame<'a>(frame: &mut [u8; FRAME_BYTES], bytes: &'a [u8]) -> Option<&'a [u8]>
     ensures sized { length frame.new ≡ frame_bytes }
     ensures some { IfSome result (λ rest. bytes.now ≡ frame_saved frame.new ++ rest.now) }
@@ -69,7 +69,7 @@ fn read_frame<'a>(frame: &mut [u8; FRAME_BYTES], bytes: &'a [u8]) -> Option<&'a 
     Some(rest)
 }
 
-/// Sets so many frames to those whose saved forms the bytes begin with; what comes behind them.
+/// Sets this many frames to those whose saved forms the bytes begin with; what comes after them.
 fn read_frames<'a>(
     frames: &mut [[u8; FRAME_BYTES]],
     live: usize,
@@ -101,7 +101,7 @@ fn caller_words(caller: &Caller) -> [u64; 5]
     [pc, saved[0], saved[1], saved[2], saved[3]]
 }
 
-/// Puts behind the bytes what a caller is saved as.
+/// Appends to the bytes what a caller is saved as.
 fn save_caller(caller: &Caller, out: &mut Vec<u8>) -> Result<(), AllocError>
     ensures ok { OnOk result (out.new.items ≡ out.old.items ++ caller_saved caller.now) }
     ensures err { OnErr result (StartsWith out.new.items out.old.items) }
@@ -109,7 +109,7 @@ fn save_caller(caller: &Caller, out: &mut Vec<u8>) -> Result<(), AllocError>
     save_words(&caller_words(caller), out)
 }
 
-/// Puts behind the bytes what callers are saved as.
+/// Appends to the bytes what callers are saved as.
 fn save_callers(callers: &[Caller], out: &mut Vec<u8>) -> Result<(), AllocError>
     ensures ok { OnOk result (out.new.items ≡ out.old.items ++ flat_map caller_saved callers.now) }
     ensures err { OnErr result (StartsWith out.new.items out.old.items) }
@@ -120,7 +120,7 @@ fn save_callers(callers: &[Caller], out: &mut Vec<u8>) -> Result<(), AllocError>
     Ok(())
 }
 
-/// The caller whose saved form the bytes begin with; what comes behind it.
+/// The caller whose saved form the bytes begin with; what comes after it.
 fn read_caller(bytes: &[u8]) -> Option<(Caller, &[u8])>
     ensures some { IfSome result (λ r. bytes.now ≡ caller_saved r.0 ++ r.1.now) }
     ensures is_caller { IfSome result (λ r. IsCaller r.0) }
@@ -139,7 +139,7 @@ fn read_caller(bytes: &[u8]) -> Option<(Caller, &[u8])>
     Some((caller, rest))
 }
 
-/// Sets so many callers to those whose saved forms the bytes begin with; what comes behind them.
+/// Sets this many callers to those whose saved forms the bytes begin with; what comes after them.
 fn read_callers<'a>(callers: &mut [Caller], count: usize, bytes: &'a [u8]) -> Option<&'a [u8]>
     requires { count ≤ length callers.old }
     ensures some { IfSome result
@@ -199,7 +199,7 @@ fn are_callers(callers: &[Caller])
 }
 
 impl Frames {
-    /// The frames are told by what they are saved as: says so, and does nothing.
+    /// The frames are determined by what they are saved as: says so, and does nothing.
     pub fn are_savable(&self)
         ensures { IsSavable self.now }
     {
@@ -208,7 +208,7 @@ impl Frames {
         are_callers(self.callers());
     }
 
-    /// Puts behind the bytes what the frames are saved as.
+    /// Appends to the bytes what the frames are saved as.
     pub fn save(&self, out: &mut Vec<u8>) -> Result<(), AllocError>
         ensures ok { OnOk result (out.new.items ≡ out.old.items ++ frames_saved self.now) }
         ensures err { OnErr result (StartsWith out.new.items out.old.items) }
@@ -218,7 +218,7 @@ impl Frames {
         save_callers(self.callers(), out)
     }
 
-    /// Become those whose saved form the bytes begin with; what comes behind it. `None` where no
+    /// Become those whose saved form the bytes begin with; what comes after it. `None` where no
     /// frames have such a form, and then they may be any.
     pub fn restore<'a>(&mut self, bytes: &'a [u8]) -> Option<&'a [u8]>
         ensures some { IfSome result (λ rest. bytes.now ≡ frames_saved self.new ++ rest.now) }

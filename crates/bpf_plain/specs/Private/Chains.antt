@@ -6,7 +6,7 @@ abbrev pub Has : List ℕ → ℕ → Type 0
 Has [] i = ⊥
 Has (x ∷ xs) i = (i ≡ x) ⊎ Has xs i
 
--- no number stands twice
+-- no number occurs twice
 abbrev pub IsDistinct : List ℕ → Type 0
 IsDistinct [] = Unit {0}
 IsDistinct (x ∷ xs) = (Has xs x → ⊥) × IsDistinct xs

@@ -18,7 +18,7 @@ pub record IsReach (p : Contents) (a : ℕ) (r : Reach) : Type 0 where
   pub at : a ≡ (span_at p r.map r.element).at + r.offset
   pub inside : r.offset < (span_at p r.map r.element).size
 
--- as good as another store: it shows the same, and tells the same of runs and what they hold
+-- as good as another store: it shows the same, and shows the same of runs and what they hold
 pub record IsAlike (p q : Contents) : Type 0 where
   pub shows : (s : Plain) → StandsFor p s → StandsFor q s
   pub running : is_running q ≡ is_running p

@@ -19,6 +19,6 @@ spread_key key = spread_bytes (length key == 4 || length key == 8) key
 unfoldable pub hash_of : List ℕ → ℕ
 hash_of key = spread_key key / 2 ^ 32
 
--- one of so many homes
+-- one of this many homes
 abbrev pub home_of : ℕ → List ℕ → ℕ
 home_of homes key = hash_of key * homes / 2 ^ 32

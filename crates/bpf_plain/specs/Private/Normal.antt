@@ -102,7 +102,7 @@ pub record IsFilled (homes size : ℕ) (linked : List Bool) (keys : List ℕ) (n
 abbrev pub run_read : ℕ → Runs
 run_read byte = record { count = 1; running = byte == 1 }
 
--- the bytes begin with all elements of all maps, which have these shapes, for so many CPUs
+-- the bytes begin with all elements of all maps, which have these shapes, for this many CPUs
 pub record AreSavedTables (shapes : List MapShape) (cpus : ℕ) (bytes : List ℕ) (p : Contents)
     (more : List ℕ) : Type 0 where
   pub store : IsStore p

@@ -1,4 +1,4 @@
--- What the elements of a map of a `PlainStore` tell.
+-- What the elements of a map of a `PlainStore` show.
 use Rattle.std.specs.Prelude.{◌≡◌, ◌≢◌, ℕ, ◌+◌, ◌*◌, ◌<◌, ◌≤◌, ◌⊎◌, Bool, true, false, List, [], length, slice_index, slice_index_or, slice_set, map}
 use Rattle.std.specs.List.{count_by}
 use Rattle.bpf_base.specs.Bytes.{part, with_part}
@@ -9,7 +9,7 @@ use Rattle.bpf_shared.specs.declared.shapes.MapShape.{MapShape}
 use Rattle.bpf_plain.specs.Private.Runs.{run_of, count_of, is_run}
 use Rattle.bpf_shared.specs.Shape.{IsMapShape, elements}
 
--- the elements of a map, one behind the other
+-- the elements of a map, one after the other
 pub record Rows : Type 0 where
   pub shape : MapShape
   -- how many CPUs note their runs
@@ -146,7 +146,7 @@ unlinked_row runs i t = record t {
   left = with_part t.left (i * t.cpus) (map count_of runs);
 }
 
--- the notes of one of so many CPUs are taken out
+-- the notes of one of this many CPUs are taken out
 pub record Erases (cpus c : ℕ) (old new : List ℕ) : Type 0 where
   pub count : length new ≡ length old
   pub here : (i : ℕ) → slice_index new (i * cpus + c) ≡ 0

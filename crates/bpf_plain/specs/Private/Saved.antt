@@ -1,4 +1,4 @@
--- What a `PlainStore` is saved as: bytes that tell all of it that a call can tell.
+-- What a `PlainStore` is saved as: bytes that determine all of it that a call can see.
 use Rattle.std.specs.Prelude.{◌≡◌, ℕ, zero, suc, ◌+◌, Bool, false, ◌||◌, if◌then◌else◌, List, [], ◌∷◌, ◌++◌, length, map, slice_index_or}
 use Rattle.bpf_plain.specs.declared.runs.Runs.{Runs}
 use Rattle.bpf_shared.specs.Shape.{elements}
@@ -10,7 +10,7 @@ use Rattle.bpf_plain.specs.Private.Contents.{Contents, rows, any_below, IsStore}
 abbrev pub bit : ℕ → Bool → ℕ
 bit n b = if b then n else 0
 
--- one behind the other, those of the numbers below n
+-- one after the other, those of the numbers below n
 abbrev pub all_below : (ℕ → List ℕ) → ℕ → List ℕ
 all_below f zero = []
 all_below f (suc n) = all_below f n ++ f n

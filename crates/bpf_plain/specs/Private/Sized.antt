@@ -8,7 +8,7 @@ use Rattle.bpf_plain.specs.Private.Rows.{Rows, IsTable}
 abbrev pub AreFirst : List ℕ → Type 0
 AreFirst notes = (k : ℕ) → slice_index notes k ≤ 1
 
--- the parts of so many elements have their sizes
+-- the parts of this many elements have their sizes
 pub record AreSized (shape : MapShape) (cpus n : ℕ) (linked : List Bool)
     (keys values looked_up left : List ℕ) : Type 0 where
   pub linked_size : length linked ≡ n
@@ -25,7 +25,7 @@ AreApart size linked keys n = (i j : ℕ) → i < n → j < n → slice_index_or
     → slice_index_or linked j false ≡ true → part keys (i * size) size ≡ part keys (j * size) size
     → i ≡ j
 
--- a table for so many CPUs, in which no note is of a later run than the first
+-- a table for this many CPUs, in which no note is of a later run than the first
 pub record IsReadTable (cpus : ℕ) (t : Rows) : Type 0 where
   pub table : IsTable t
   pub noted : t.cpus ≡ cpus

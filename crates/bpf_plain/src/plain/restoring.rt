@@ -14,7 +14,7 @@ use crate::table::Table;
 use crate::table::restoring::past;
 use std::alloc::{AllocError, Global};
 
-/// The first run of so many CPUs. Which are in it, the bytes say.
+/// The first run of this many CPUs. Which are in it, the bytes say.
 fn read_runs(alloc: Global, count: usize, bytes: &[u8]) -> Result<Vec<Runs>, AllocError>
     requires { count ≤ length bytes.now }
     ensures { IfOk result (λ v. v.items ≡ map run_read (take count bytes.now)) }

@@ -25,7 +25,7 @@ fn copy_tables(tables: &mut [Table], others: &[Table])
 }
 
 impl PlainStore {
-    /// Puts behind the bytes which CPUs are in a run.
+    /// Appends to the bytes which CPUs are in a run.
     fn push_runs(&self, out: &mut Vec<u8>) -> Result<(), AllocError>
         ensures ok { OnOk result (out.new.items ≡ out.old.items ++ map is_in_run self.now.runs) }
         ensures err { OnErr result (StartsWith out.new.items out.old.items) }
@@ -60,7 +60,7 @@ impl PlainStore {
         Ok(())
     }
 
-    /// Puts all that a call can tell of the store behind the bytes. Stores of one shape that are
+    /// Appends all that a call can see of the store to the bytes. Stores of one shape that are
     /// saved as the same bytes look alike. The bytes stay as they were where there is no memory.
     pub fn save(&self, out: &mut Vec<u8>) -> Result<(), AllocError>
         ensures ok { OnOk result ((bytes : List ℕ) × (out.new.items ≡ out.old.items ++ bytes)

@@ -28,7 +28,7 @@ pub(crate) struct Parts {
     left: Vec<u32>,
 }
 
-/// Puts so many bytes behind: the first of these where they are there, else zeros.
+/// Puts this many bytes after: the first of these where they are there, else zeros.
 fn push_part(out: &mut Vec<u8>, present: bool, size: usize, rest: &[u8]) -> Result<(), AllocError>
     requires { present ≡ true → size ≤ length rest.now }
     ensures { OnOk result (out.new.items ≡ out.old.items
@@ -44,7 +44,7 @@ fn push_part(out: &mut Vec<u8>, present: bool, size: usize, rest: &[u8]) -> Resu
     Ok(())
 }
 
-/// Puts the notes of an element behind. Whether some CPU has anything to do with it.
+/// Puts the notes of an element after. Whether some CPU has anything to do with it.
 fn push_notes(
     notes: &[u8],
     looked_up: &mut Vec<u32>,
@@ -65,7 +65,7 @@ fn push_notes(
     Ok(noted)
 }
 
-/// So many bytes from the front.
+/// This many bytes from the front.
 fn front(bytes: &[u8], count: usize) -> &[u8]
     requires { count ≤ length bytes.now }
     ensures { result.now ≡ take count bytes.now }
@@ -73,7 +73,7 @@ fn front(bytes: &[u8], count: usize) -> &[u8]
     &bytes[..count]
 }
 
-/// What is behind so many.
+/// What is after this many.
 pub(crate) fn past(bytes: &[u8], count: usize) -> &[u8]
     requires { count ≤ length bytes.now }
     ensures { result.now ≡ drop count bytes.now }
@@ -179,7 +179,7 @@ fn read_parts(
     Ok(Some((parts, at)))
 }
 
-/// The key in an element, where all keys have one size and lie one behind the other.
+/// The key in an element, where all keys have one size and lie one after the other.
 #[tactic(auto, using(crate::proofs::Blocks::block_fits, crate::proofs::Blocks::in_block))]
 fn key_in(keys: &[u8], element: usize, elements: usize, size: usize) -> &[u8]
     requires keys { length keys.now ≡ elements * size }
@@ -189,7 +189,7 @@ fn key_in(keys: &[u8], element: usize, elements: usize, size: usize) -> &[u8]
     &keys[element * size..element * size + size]
 }
 
-/// An element comes to its key's home, if it is in the map. False where another one there has its
+/// An element is put into the chain of its key's home, if it is in the map. False where another one there has its
 /// key.
 fn insert_where(
     index: &mut Index,
@@ -226,7 +226,7 @@ fn insert_where(
     }
 }
 
-/// All elements that are in the map come to their homes. False where two have the same key.
+/// All elements that are in the map are put into the chains of their homes. False where two have the same key.
 fn fill_index(index: &mut Index, linked: &[bool], keys: &[u8], size: usize, homes: usize) -> bool
     requires homes { length index.old.heads ≡ homes }
     requires some { (0 < homes) × (homes ≤ 65536) }

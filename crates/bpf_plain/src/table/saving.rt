@@ -53,7 +53,7 @@ impl Table {
         bit(1, self.is_held_by(element, cpu, run)) + bit(2, self.is_kept_by(element, cpu, run))
     }
 
-    /// Puts behind the bytes whether an element is in the map, and what CPUs have to do with it.
+    /// Appends to the bytes whether an element is in the map, and what CPUs have to do with it.
     fn push_marks(&self, element: usize, runs: &[Runs], out: &mut Vec<u8>) -> Result<(), AllocError>
         requires element { element < elements self.now.shape }
         requires runs { length runs.now ≡ self.now.cpus }
@@ -83,7 +83,7 @@ impl Table {
         noted
     }
 
-    /// Puts an element's key and value behind the bytes, as far as they are in use.
+    /// Appends an element's key and value to the bytes, as far as they are in use.
     fn push_content(
         &self,
         element: usize,

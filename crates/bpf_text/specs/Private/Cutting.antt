@@ -9,7 +9,7 @@ abbrev pub BeginTokens : List ℕ → List Tok → Type 0
 BeginTokens line ts =
     (rest : List Tok) × IsTokens line (ts ++ rest) × ((rest ≡ []) ⊎ (64 ≤ length ts))
 
--- a token is put behind the others, unless there are that many
+-- a token is put after the others, unless there are that many
 abbrev pub KeepsToken : List Token → Token → List Token → Type 0
 KeepsToken old token new =
     ((length old < 64) × (new ≡ old ++ token ∷ [])) ⊎ ((64 ≤ length old) × (new ≡ old))

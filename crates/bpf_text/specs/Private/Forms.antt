@@ -158,7 +158,7 @@ abbrev pub is_sign : Fit → Bool
 is_sign fitting.Sign = true
 is_sign f = false
 
--- behind a sign its number is left too
+-- after a sign its number is left too
 abbrev pub left_of : Bool → List Piece → List Piece
 left_of true ps = piece.Number ∷ ps
 left_of false ps = ps

@@ -35,22 +35,22 @@ ends i (t ∷ ts) = None
 unfoldable pub alu_end : Width → Reg → AluOp → Operand → List Tok → Option Written
 alu_end w d op s ts = ends (insn.Alu w op d s) ts
 
--- behind an operation's sign
+-- after an operation's sign
 unfoldable pub alu_at : Width → Reg → AluOp → List Tok → Option Written
 alu_at w d op ts = operand_at w ts >>= λ s. alu_end w d op s.operand s.rest
 
--- behind a register
+-- after a register
 unfoldable pub operation_at : Width → Reg → List Tok → Option Written
 operation_at w d ts =
     operator_at ts >>= λ m. operation_named m.operator >>= λ op. alu_at w d op m.rest
 
--- behind `(`
+-- after `(`
 unfoldable pub extend_at : Width → Reg → List Tok → Option Written
 extend_at w d (Word (key.Extended z) ∷ Mark sign.Close ∷ Register v s ∷ ts) =
     if same_width v w then (extension_of w z >>= λ e. ends (insn.SignExtend e d s) ts) else None
 extend_at w d ts = None
 
--- behind `= *`
+-- after `= *`
 unfoldable pub loaded_at : Reg → Keyword → Reg → ℤ → List Tok → Option Written
 loaded_at d (key.Unsigned z) b o ts = ends (insn.Load z d b o) ts
 loaded_at d (key.Extended z) b o ts = ends (insn.LoadSigned z d b o) ts
@@ -63,38 +63,38 @@ load_at Bits64 d ts = cell_at ts >>= λ c. loaded_at d c.size c.base c.offset c.
 unfoldable pub atomic_end : AtomicOp → Width → Reg → ℤ → Reg → List Tok → Option Written
 atomic_end op w b o s ts = ends (insn.Atomic w op b o s) ts
 
--- behind an address, `, R)`
+-- after an address, `, R)`
 unfoldable pub atomic_at : AtomicOp → Width → Reg → Reg → ℤ → List Tok → Option Written
 atomic_at op w d b o (Mark sign.Comma ∷ Register v s ∷ Mark sign.Close ∷ ts) =
     if same_width v w && same_register s d then atomic_end op w b o d ts else None
 atomic_at op w d b o ts = None
 
--- behind `= atomic_fetch_add`
+-- after `= atomic_fetch_add`
 unfoldable pub fetch_at : AtomicOp → Width → Reg → List Tok → Option Written
 fetch_at op w d (Mark sign.Open ∷ ts) =
     cell_at ts >>= λ c. cell_width c.size >>= λ v. if same_width v w
     then atomic_at op w d c.base c.offset c.rest else None
 fetch_at op w d ts = None
 
--- behind `= xchg_64`
+-- after `= xchg_64`
 unfoldable pub exchange_at : Width → Reg → List Tok → Option Written
 exchange_at w d (Mark sign.Open ∷ ts) =
     address_at ts >>= λ a. atomic_at atomic.Exchange w d a.base a.offset a.rest
 exchange_at w d ts = None
 
--- behind `r0 = cmpxchg_64(R + n, r0`
+-- after `r0 = cmpxchg_64(R + n, r0`
 unfoldable pub compared_at : Width → Reg → ℤ → List Tok → Option Written
 compared_at w b o (Mark sign.Comma ∷ Register v s ∷ Mark sign.Close ∷ ts) =
     if same_width v w then atomic_end atomic.CompareExchange w b o s ts else None
 compared_at w b o ts = None
 
--- behind `r0 = cmpxchg_64(R + n`
+-- after `r0 = cmpxchg_64(R + n`
 unfoldable pub expected_at : Width → Reg → ℤ → List Tok → Option Written
 expected_at w b o (Mark sign.Comma ∷ Register v R0 ∷ ts) =
     if same_width v w then compared_at w b o ts else None
 expected_at w b o ts = None
 
--- behind `R = cmpxchg_64`
+-- after `R = cmpxchg_64`
 unfoldable pub compare_exchange_at : Width → Reg → List Tok → Option Written
 compare_exchange_at w R0 (Mark sign.Open ∷ ts) =
     address_at ts >>= λ a. expected_at w a.base a.offset a.rest
@@ -109,11 +109,11 @@ unfoldable pub map_at : Width → Reg → List Tok → Option Written
 map_at Bits64 d (Number n ∷ ts) = ends (insn.LoadMap d n) ts
 map_at w d ts = None
 
--- behind `=` and another keyword
+-- after `=` and another keyword
 unfoldable pub fetched_at : Width → Reg → Keyword → List Tok → Option Written
 fetched_at w d k ts = fetched_op k >>= λ op. fetch_at op w d ts
 
--- behind `=` and a keyword
+-- after `=` and a keyword
 unfoldable pub keyword_at : Width → Reg → Keyword → List Tok → Option Written
 keyword_at w d (key.Swap k z) ts = swap_at w d k z ts
 keyword_at w d key.Map ts = map_at w d ts
@@ -126,23 +126,23 @@ keyword_at w d k ts = fetched_at w d k ts
 unfoldable pub moved_at : Width → Reg → ℤ → List Tok → Option Written
 moved_at w d z ts = ends (insn.Alu w alu.Mov d (operand.Immediate z)) ts
 
--- behind `= n ll`
+-- after `= n ll`
 unfoldable pub wide_at : Reg → ℕ → List Tok → Option Written
 wide_at d n ts = ends (insn.LoadNumber d n) ts
 
--- behind `= -`
+-- after `= -`
 unfoldable pub negative_at : Width → Reg → List Tok → Option Written
 negative_at w d (Register v r ∷ ts) =
     if same_width v w && same_register r d then ends (insn.Negate w d) ts else None
 negative_at w d (Number n ∷ ts) = moved_at w d (neg_ℤ (pos n)) ts
 negative_at w d ts = None
 
--- behind `= n`
+-- after `= n`
 unfoldable pub number_at : Width → Reg → ℕ → List Tok → Option Written
 number_at Bits64 d n (Word key.Wide ∷ ts) = wide_at d n ts
 number_at w d n ts = moved_at w d (pos n) ts
 
--- behind `=`
+-- after `=`
 unfoldable pub assigned_at : Width → Reg → List Tok → Option Written
 assigned_at w d (Mark sign.Minus ∷ ts) = negative_at w d ts
 assigned_at w d (Mark sign.Open ∷ ts) = extend_at w d ts
@@ -151,12 +151,12 @@ assigned_at w d (Word k ∷ ts) = keyword_at w d k ts
 assigned_at w d (Number n ∷ ts) = number_at w d n ts
 assigned_at w d ts = alu_at w d alu.Mov ts
 
--- behind a register
+-- after a register
 unfoldable pub register_at : Width → Reg → List Tok → Option Written
 register_at w d (Mark sign.Assign ∷ ts) = assigned_at w d ts
 register_at w d ts = operation_at w d ts
 
--- behind `*(u8 *)(R + n) =`
+-- after `*(u8 *)(R + n) =`
 unfoldable pub stored_end : Keyword → Reg → ℤ → Operand → List Tok → Option Written
 stored_end (key.Unsigned z) b o (operand.Immediate n) ts = ends (insn.StoreImmediate z b o n) ts
 stored_end (key.Unsigned z) b o (operand.Register r) ts = ends (insn.Store z b o r) ts
@@ -167,16 +167,16 @@ stored_at k b o (Mark sign.Assign ∷ ts) =
     operand_at Bits64 ts >>= λ s. stored_end k b o s.operand s.rest
 stored_at k b o ts = None
 
--- behind `*`
+-- after `*`
 unfoldable pub store_at : List Tok → Option Written
 store_at ts = cell_at ts >>= λ c. stored_at c.size c.base c.offset c.rest
 
--- behind `lock *(u64 *)(R + n)`
+-- after `lock *(u64 *)(R + n)`
 unfoldable pub locked_at : Width → Reg → ℤ → List Tok → Option Written
 locked_at w b o (Mark s ∷ Register Bits64 r ∷ ts) = locked_op s >>= λ op. atomic_end op w b o r ts
 locked_at w b o ts = None
 
--- behind `lock`
+-- after `lock`
 unfoldable pub lock_at : List Tok → Option Written
 lock_at (Mark sign.Star ∷ ts) =
     cell_at ts >>= λ c. cell_width c.size >>= λ w. locked_at w c.base c.offset c.rest
@@ -192,12 +192,12 @@ jump_long_at ts =
 unfoldable pub branch_to : Width → Condition → Reg → Operand → Target → Option Written
 branch_to w c d s g = Some (record { insn = insn.JumpIf w c d s g.distance; name = g.name })
 
--- behind `if R C R`
+-- after `if R C R`
 unfoldable pub branch_end : Width → Condition → Reg → Operand → List Tok → Option Written
 branch_end w c d s (Word key.Goto ∷ ts) = target_at ts >>= λ g. branch_to w c d s g
 branch_end w c d s ts = None
 
--- behind `if`
+-- after `if`
 unfoldable pub branch_at : List Tok → Option Written
 branch_at (Register w d ∷ ts) =
     operator_at ts >>= λ m. condition_named m.operator >>= λ c. operand_at w m.rest
@@ -211,12 +211,12 @@ unfoldable pub call_local_at : List Tok → Option Written
 call_local_at ts =
     target_at ts >>= λ g. Some (record { insn = insn.CallLocal g.distance; name = g.name })
 
--- behind `call`
+-- after `call`
 unfoldable pub call_at : List Tok → Option Written
 call_at (Number n ∷ ts) = helper_at n ts
 call_at ts = call_local_at ts
 
--- behind a line's first word
+-- after a line's first word
 unfoldable pub statement_at : Keyword → List Tok → Option Written
 statement_at key.Lock ts = lock_at ts
 statement_at key.If ts = branch_at ts

@@ -64,12 +64,12 @@ address_at (Register Bits64 b ∷ Mark sign.Minus ∷ Number n ∷ ts) =
     Some (record { base = b; offset = neg_ℤ (pos n); rest = ts })
 address_at ts = None
 
--- behind `(u8 *)(R + n`
+-- after `(u8 *)(R + n`
 unfoldable pub closed_at : Keyword → Reg → ℤ → List Tok → Option Place
 closed_at k b o (Mark sign.Close ∷ ts) = Some (record { size = k; base = b; offset = o; rest = ts })
 closed_at k b o ts = None
 
--- behind `(u8 *`
+-- after `(u8 *`
 unfoldable pub pointer_at : Keyword → List Tok → Option Place
 pointer_at k (Mark sign.Close ∷ Mark sign.Open ∷ ts) =
     address_at ts >>= λ a. closed_at k a.base a.offset a.rest
@@ -99,7 +99,7 @@ target_at (Mark sign.Minus ∷ Number n ∷ []) =
 target_at (t ∷ []) = label_at (name_of t)
 target_at ts = None
 
--- a sign, perhaps behind `s`
+-- a sign, perhaps after `s`
 unfoldable pub operator_at : List Tok → Option Middle
 operator_at (Word key.Signed ∷ Mark s ∷ ts) = Some (record { operator = Signed s; rest = ts })
 operator_at (Mark s ∷ ts) = Some (record { operator = Plain s; rest = ts })

@@ -37,7 +37,7 @@ nothing_is label body = false
 abbrev pub nothing_said : Source → Bool
 nothing_said s = nothing_is s.label s.body
 
--- a line, and how many lines stand before it
+-- a line, and how many lines are before it
 pub record KeptLine : Type 0 where
   pub line : ℕ
   pub source : Source
@@ -45,7 +45,7 @@ pub record KeptLine : Type 0 where
 abbrev pub kept_view : Kept → KeptLine
 kept_view k = record { line = k.line; source = source_of k.source }
 
--- ---- lines that are kept: behind a line that is refused no other refused one counts
+-- ---- lines that are kept: after a line that is refused no other refused one counts
 
 abbrev pub is_refused : Result (Option Written) LineError → Bool
 is_refused (Ok o) = false

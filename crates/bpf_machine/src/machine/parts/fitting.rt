@@ -87,7 +87,7 @@ fn all_fit(store: &PlainStore, programs: &[Program], parts: &[KeptJob], numbers:
     true
 }
 
-/// Its CPU may have each job behind one of these besides.
+/// Its CPU may have each job after one of these besides.
 fn all_follow(parts: &[KeptJob], numbers: &[u32], first: usize) -> bool
     requires within { All (λ n. n < length parts.now) numbers.now }
     requires first { first < length numbers.now }

@@ -1,4 +1,4 @@
-//! Kept jobs from bytes. Each is read into the one that stands in its place, so that a state that
+//! Kept jobs from bytes. Each is read into the one that is in its place, so that a state that
 //! is in hand there is written over: to make one costs more than to read it.
 
 ghost use Rattle.std.specs.Prelude.{◌≡◌, ◌≤◌, true, List, ◌∷◌, ◌++◌, ℕ, All, OnOk, IfOk, IfSome, IfNone, length};
@@ -24,7 +24,7 @@ fn has_room(stage: &KeptStage, context: &[u8]) -> bool
     }
 }
 
-/// Puts a job in hand. It stands alone, or each call that reads one would clear room on the stack
+/// Puts a job in hand. It is alone, or each call that reads one would clear room on the stack
 /// for the state.
 #[cold]
 #[inline(never)]
@@ -59,7 +59,7 @@ fn make_room(
 }
 
 /// A stage becomes that of the job in hand, with its steps left, whose saved form the bytes begin
-/// with behind their first; what comes behind it.
+/// with after their first; what comes after it.
 fn read_hand<'a>(
     alloc: Global,
     cpu: u8,
@@ -117,7 +117,7 @@ fn wait_with(alloc: Global, context: &[u8], stage: &mut KeptStage) -> Result<(),
 }
 
 /// A stage becomes the one whose saved form the bytes begin with, of a job on this CPU that has
-/// this context; what comes behind it. `None` where no stage of such a job has such a form, and
+/// this context; what comes after it. `None` where no stage of such a job has such a form, and
 /// then it may be any.
 fn read_stage<'a>(
     alloc: Global,
@@ -158,7 +158,7 @@ fn read_stage<'a>(
 
 impl KeptJob {
     /// Becomes the job that one which waited is, whose saved form the bytes begin with; what comes
-    /// behind it. `None` where it has no stage of such a form, and then it may be any.
+    /// after it. `None` where it has no stage of such a form, and then it may be any.
     fn read<'a>(
         &mut self,
         alloc: Global,
@@ -184,7 +184,7 @@ impl KeptJob {
 }
 
 /// Jobs become those that these which waited are, whose saved forms the bytes begin with, one
-/// after the other; what comes behind them. `None` where none of their stages have such forms, and
+/// after the other; what comes after them. `None` where none of their stages have such forms, and
 /// then they may be any. No memory is taken where each that is to be in hand is so already.
 pub fn read_jobs<'a>(
     alloc: Global,

@@ -15,7 +15,7 @@ module _ (x seen : Links) (same : x ≡ seen) (is : IsLinks x) (b e : ℕ) (chai
   small : e + 1 < 0x1_0000_0000
   small = omega (arith, inside, is.fits)
 
-  -- where n is the link behind it
+  -- where n is the link after it
   module _ (n : ℕ) (behind : n ≡ get_or x.nexts e n) where
     next : n ≡ slice_index x.nexts e
     next = get_or_read x.nexts e n inside behind 0
@@ -31,7 +31,7 @@ module _ (x seen : Links) (same : x ≡ seen) (is : IsLinks x) (b e : ℕ) (chai
         subst (λ (l : ℕ). Goes (record { heads = set x.heads b l; nexts = x.nexts })) (sym next)
         (head_goes_links x is b e bi at first, subst (λ (y : Links). GetsUnchained e y (record { heads = set x.heads b (slice_index x.nexts e); nexts = x.nexts })) same (head_goes x is b e bi at first))
 
-    -- it is behind another one, p
+    -- it is after another one, p
     later_goes : (p : ℕ) → IsChainedAt seen b p → slice_index seen.nexts p ≡ e + 1 → Goes (record { heads = x.heads; nexts = set x.nexts p n })
     later_goes p chained_before leads_on =
         let before : IsChainedAt x b p = subst (λ (y : Links). IsChainedAt y b p) (sym same) chained_before in
