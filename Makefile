@@ -28,6 +28,7 @@ test: ## The whole gate: every proof, every must-fail edit, every test, then the
 	tests/streams ./ebpf
 	tests/hostile ./ebpf
 	tests/orders ./ebpf
+	tests/threads ./ebpf
 	tests/explore ./ebpf
 	tests/expand ./ebpf
 	tests/check ./ebpf

@@ -43,7 +43,7 @@ complete -c ebpf -n '__fish_seen_subcommand_from explore' -l patient -f -d 'Look
 complete -c ebpf -n '__fish_seen_subcommand_from explore' -l json -f -d 'Prints a JSON object in place of each line'
 complete -c ebpf -n '__fish_seen_subcommand_from explore' -l progress -f -d 'Tells how far the search is on standard error, also where that is no terminal'
 complete -c ebpf -n '__fish_seen_subcommand_from explore' -l races -f -d 'Prints the data races of all orders of turns in place of the outcomes'
-complete -c ebpf -n '__fish_seen_subcommand_from explore' -l sync -x -d 'With --races: leaves out races for this map'\''s values, as locks; may stand several times'
+complete -c ebpf -n '__fish_seen_subcommand_from explore' -l sync -x -d 'With --races: leaves out races for a map'\''s values (or NAME+AT:SIZE); may stand several times'
 complete -c ebpf -n '__fish_seen_subcommand_from explore' -l limit -x -d 'Ends the search once more states than this are kept, 0 to 1000000000'
 complete -c ebpf -n '__fish_seen_subcommand_from explore' -l show -x -d 'Prints what happens on the way to the K-th outcome, and no other outcome'
 complete -c ebpf -n '__fish_seen_subcommand_from explore' -s h -l help -f -d 'Print help'
@@ -52,6 +52,7 @@ complete -c ebpf -n '__fish_seen_subcommand_from check' -l explain -f -d 'Explai
 complete -c ebpf -n '__fish_seen_subcommand_from check' -l patient -f -d 'Looks for outcomes in which no budget is used up, as where CPUs wait for others'
 complete -c ebpf -n '__fish_seen_subcommand_from check' -l json -f -d 'Prints a JSON object in place of each line'
 complete -c ebpf -n '__fish_seen_subcommand_from check' -l progress -f -d 'Tells how far the search is on standard error, also where that is no terminal'
+complete -c ebpf -n '__fish_seen_subcommand_from check' -l lenient -f -d 'Passes over comments that are meant to expect something and can'\''t'
 complete -c ebpf -n '__fish_seen_subcommand_from check' -l limit -x -d 'Ends the search once more states than this are kept, 0 to 1000000000'
 complete -c ebpf -n '__fish_seen_subcommand_from check' -s h -l help -f -d 'Print help'
 complete -c ebpf -n '__fish_seen_subcommand_from check' -F

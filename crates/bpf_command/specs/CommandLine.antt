@@ -171,8 +171,15 @@ explore_options = with_rule (with_rule (with_rule (searching (codes "explore")) 
 abbrev pub explore : App
 explore = with_rule (with_rule explore_options show) file
 
+-- `--lenient`
+abbrev pub lenient : Rule
+lenient = record (new_rule (codes "lenient")) {
+  long = Some (codes "lenient");
+  action = Some SetTrue;
+}
+
 abbrev pub check : App
-check = with_rule (with_rule (searching (codes "check")) limit) files
+check = with_rule (with_rule (with_rule (searching (codes "check")) lenient) limit) files
 
 -- `--first`
 abbrev pub first : Rule

@@ -11,6 +11,7 @@ use Rattle.clap.specs.Takes.{is_given}
 use Rattle.clap.specs.Words.{Row, Text, fault_of, first_of, kind_of, subcommand_of}
 use Rattle.bpf_command.specs.CommandLine.{NamesBudget, NamesLimit, NamesShown, NamesWorkers, IsRunnerName, counts_alone, do_clash, do_part, do_part_races, ebpf, given_texts, names_several, wants_one}
 use Rattle.bpf_command.specs.declared.command.RunOptions.{RunOptions}
+use Rattle.bpf_command.specs.declared.command.CheckOptions.{CheckOptions}
 use Rattle.bpf_command.specs.declared.command.SearchOptions.{SearchOptions}
 use Rattle.bpf_command.specs.declared.command.RaceOptions.{RaceOptions}
 use Rattle.bpf_command.specs.declared.command.Command.{Command}
@@ -53,6 +54,11 @@ abbrev pub NamesSearch : List Row → SearchOptions → Type 0
 NamesSearch rows options = NamesLimit rows options.limit
     × (options.patient ≡ is_given (codes "patient") rows)
     × (options.progress ≡ is_given (codes "progress") rows)
+
+-- the options of a search whose outcomes are compared with what comments expect
+abbrev pub NamesCheck : List Row → CheckOptions → Type 0
+NamesCheck rows options = NamesSearch rows options.search
+    × (options.lenient ≡ is_given (codes "lenient") rows)
 
 -- the options of a search for races
 abbrev pub NamesRaces : List Row → RaceOptions → Type 0
@@ -99,7 +105,7 @@ Names (Some found) (command.Races options) = (found.0 ≡ codes "explore")
     × NamesRaces found.1 options
     × (do_part_races found.1 ≡ false) × (is_given (codes "races") found.1 ≡ true)
 Names (Some found) (command.Check options) = (found.0 ≡ codes "check")
-    × NamesSearch found.1 options
+    × NamesCheck found.1 options
 Names (Some found) (command.Expand first patient races) = (found.0 ≡ codes "expand")
     × (first ≡ is_given (codes "first") found.1) × (patient ≡ is_given (codes "patient") found.1)
     × (races ≡ is_given (codes "races") found.1)
@@ -122,8 +128,8 @@ Asks (Some found) (request.Perform command file explain json) = Names (Some foun
     × (found.0 ≡ codes "check" → names_several found.1 ≡ false)
     × (explain ≡ is_given (codes "explain") found.1)
     × (json ≡ is_given (codes "json") found.1)
-Asks (Some found) (request.CheckAll search files json) = (found.0 ≡ codes "check")
-    × NamesSearch found.1 search
+Asks (Some found) (request.CheckAll check files json) = (found.0 ≡ codes "check")
+    × NamesCheck found.1 check
     × (map string_bytes files.items ≡ given_texts (codes "file") found.1)
     × (names_several found.1 ≡ true) × (wants_one found.1 ≡ false)
     × (json ≡ is_given (codes "json") found.1)

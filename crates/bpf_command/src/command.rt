@@ -76,6 +76,14 @@ pub struct SearchOptions {
     ghost limited: { limit ≤ MAX_LIMIT },
 }
 
+/// The options of a search whose outcomes are compared with what comments of the file expect.
+#[derive(PartialEq, Eq, Debug, Drop)]
+pub struct CheckOptions {
+    pub search: SearchOptions,
+    /// To pass over comments that are meant to expect something and can't.
+    pub lenient: bool,
+}
+
 /// The options of a search of which one outcome is shown.
 #[derive(PartialEq, Eq, Debug, Drop)]
 pub struct ShowOptions {
@@ -122,7 +130,7 @@ pub enum Command {
     /// Find the data races of all schedules.
     Races(RaceOptions),
     /// Tell by every schedule whether a run file's outcomes are as its comments expect.
-    Check(SearchOptions),
+    Check(CheckOptions),
     /// Tell what each CPU's turn leads to from states that are read, each a line.
     Expand {
         /// To tell the first state in place of those that others lead to.
@@ -156,7 +164,7 @@ pub enum Request {
     },
     /// To check several files, one after the other.
     CheckAll {
-        search: SearchOptions,
+        check: CheckOptions,
         files: Vec<String>,
         /// To write JSON objects in place of lines.
         json: bool,

@@ -6,11 +6,11 @@ ghost use Rattle.clap.specs.Kinds.{FailsBy};
 ghost use Rattle.clap.specs.Takes.{is_given};
 ghost use Rattle.clap.specs.Words.{fault_of, first_of, first_value, found_of, rows_of, subcommand_name_of, subcommand_of, subcommand_rows_of};
 ghost use Rattle.bpf_command.specs.CommandLine.{ebpf, counts_alone, do_clash, do_part, do_part_races, HasBudget, HasLimit, HasShown, HasWorkers, IsCommandName, IsRunnerName, IsSearchName, IsWorkName, names_several, NamesBudget, NamesLimit, NamesShown, NamesWorkers, wants_one};
-ghost use Rattle.bpf_command.specs.Names.{Asks, AsksBy, file_in, IsContext, IsSchedule, Names, NamesRaces, NamesRun, NamesSearch, Refuses, RefusesContext, RefusesFlags, RefusesFound, RefusesSchedule, as_flags, flag_of};
+ghost use Rattle.bpf_command.specs.Names.{Asks, AsksBy, file_in, IsContext, IsSchedule, Names, NamesCheck, NamesRaces, NamesRun, NamesSearch, Refuses, RefusesContext, RefusesFlags, RefusesFound, RefusesSchedule, as_flags, flag_of};
 
 use crate::command::{
-    Command, FileOptions, HistoryOptions, JudgeOptions, MAX_LIMIT, MAX_WORKERS, RaceOptions,
-    Request, RunOptions, SearchOptions, ShowOptions,
+    CheckOptions, Command, FileOptions, HistoryOptions, JudgeOptions, MAX_LIMIT, MAX_WORKERS,
+    RaceOptions, Request, RunOptions, SearchOptions, ShowOptions,
 };
 use crate::given::{given_texts, names_input, names_several};
 use crate::options::ebpf_command;
@@ -290,6 +290,17 @@ fn search_of(options: &ArgMatches) -> SearchOptions
     }
 }
 
+/// The options of `check`.
+fn check_of(options: &ArgMatches) -> CheckOptions
+    requires limited { HasLimit (rows_of (found_of options.now)) }
+    ensures { NamesCheck (rows_of (found_of options.now)) result }
+{
+    CheckOptions {
+        search: search_of(options),
+        lenient: is_given(options, "lenient"),
+    }
+}
+
 /// The options of a search for races.
 fn races_of(alloc: Global, options: &ArgMatches) -> Result<RaceOptions, CommandError>
     requires limited { HasLimit (rows_of (found_of options.now)) }
@@ -366,7 +377,7 @@ fn named(alloc: Global, name: &str, options: &ArgMatches) -> Result<Command, Com
         }),
         "run" => run_of(alloc, options),
         "explore" => explore_of(alloc, options),
-        "check" => Ok(Command::Check(search_of(options))),
+        "check" => Ok(Command::Check(check_of(options))),
         "expand" => Ok(expand_of(options)),
         _ => Ok(Command::Debug {
             echo: is_given(options, "echo"),
@@ -424,7 +435,7 @@ fn check_all_of(alloc: Global, options: &ArgMatches) -> Result<Request, CommandE
     }
     let files = given_texts(alloc, options, "file")?;
     Ok(Request::CheckAll {
-        search: search_of(options),
+        check: check_of(options),
         files,
         json: is_given(options, "json"),
     })

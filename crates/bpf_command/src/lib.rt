@@ -7,7 +7,7 @@ mod given;
 mod options;
 
 pub use command::{
-    Command, FileOptions, HistoryOptions, JudgeOptions, MAX_LIMIT, MAX_WORKERS, RaceOptions,
-    Request, RunOptions, SearchOptions, ShowOptions,
+    CheckOptions, Command, FileOptions, HistoryOptions, JudgeOptions, MAX_LIMIT, MAX_WORKERS,
+    RaceOptions, Request, RunOptions, SearchOptions, ShowOptions,
 };
 pub use command_line::{CommandError, request_of};

@@ -3,7 +3,7 @@
 ghost use Rattle.std.specs.Prelude.{◌≡◌, false, IfOk};
 ghost use Rattle.clap.specs.Words.{app_of, rule_of, shape_of};
 ghost use Rattle.clap.specs.declared.builder.command.Command.TheViews.{out-Command as fields_of};
-ghost use Rattle.bpf_command.specs.CommandLine.{asm, asm_shows, bare, budget, check, code_rule, context, debug, debug_options, disasm, ebpf, echo, events, expand, expand_options, explain, explained, explore, explore_options, file, files, first, for_files, hex, hex_options, judged, json, keys, limit, listing, maps, one_program, patient, pc, progress, races, run, run_lists, run_options, run_shows, runs, schedule, searching, show, stats, strict, sync, workers, working};
+ghost use Rattle.bpf_command.specs.CommandLine.{asm, asm_shows, bare, budget, check, code_rule, context, debug, debug_options, disasm, ebpf, echo, events, expand, expand_options, explain, explained, explore, explore_options, file, files, first, for_files, hex, hex_options, judged, json, keys, lenient, limit, listing, maps, one_program, patient, pc, progress, races, run, run_lists, run_options, run_shows, runs, schedule, searching, show, stats, strict, sync, workers, working};
 
 use crate::command::{MAX_LIMIT, MAX_WORKERS};
 use bpf_base::MAX_BUDGET;
@@ -94,18 +94,26 @@ Prints each outcome once, in the order of its bytes: what 'run --maps' prints, b
 with a schedule that leads there, N turns of CPU C a word C*N. Then a line says whether these are
 all, whatever the order of turns, how many they are, and how many states were kept: 'not all' where
 more than --limit were kept. With --show K the K-th of them is printed alone, by its schedule, as
-'run --events --maps --by' does; where there are fewer, that is said with status 1.
+'run --events --maps --by' does, and 'not all' behind it where more than --limit states were kept;
+where there are fewer outcomes, that is said with status 1.
 
 With --patient outcomes are those in which no budget is used up: for CPUs that wait for each other.
 Behind them stands a line 'hung by' for each state from which no turns lead to an outcome, the first
 on its way, with a schedule that leads there; and 'budgets can run out' where some schedule uses a
 budget up, or 'budgets may run out' where that couldn't be told.
 
+Before the last line stands 'threads may run out of elements' where 'run --workers' may answer
+-ENOMEM though turns find an element, and 'threads may see keys or values in part' where a helper
+may read a key or a value from a map's value, which threads do byte by byte.
+
 With --races the data races of all these orders are printed in place of outcomes: two CPUs whose
 next steps touch one byte of a value, at least one to write it, and not both by an atomic operation.
-A line has the CPUs with their pcs, the map and the key ('deleted' where none leads to the value),
-and a schedule that leads there; the last one says whether these are all. Races for values of a map
-that --sync names are left out. --sync goes beside --races alone, and --show doesn't.
+A line has the CPUs, each with its program's number and its pc, the map and the key ('deleted' where
+none leads to the value), and a schedule that leads there; the last one says whether these are all.
+--sync NAME leaves out races for values of a map, --sync NAME+AT:SIZE those for SIZE bytes of them, from
+the byte AT on, alone. --sync goes beside --races alone, and --show doesn't.
+
+All orders are those of sequential consistency: a load sees the newest store. Processors show more.
 
 Each time that 131072 more states are done a line on standard error tells how far the search is, where
 that is a terminal or with --progress: 'N states, N to go, N MB', how many are kept, from how many of
@@ -123,9 +131,9 @@ For example
   map winner 00000000=0100000000000000
   all: 2 outcomes, 20 states
   $ ebpf explore --races examples/lost-update.run
-  race cpu 0 pc 18 cpu 1 pc 16 map counter 00000000 by 0*16 1*14
-  race cpu 0 pc 16 cpu 1 pc 18 map counter 00000000 by 0*14 1*16
-  race cpu 0 pc 18 cpu 1 pc 18 map counter 00000000 by 0*16 1*16
+  race cpu 0 prog 0 pc 18 cpu 1 prog 0 pc 16 map counter 00000000 by 0*16 1*14
+  race cpu 0 prog 0 pc 16 cpu 1 prog 0 pc 18 map counter 00000000 by 0*14 1*16
+  race cpu 0 prog 0 pc 18 cpu 1 prog 0 pc 18 map counter 00000000 by 0*16 1*16
   all: 3 races
 
 Exit status:
@@ -141,8 +149,15 @@ A comment of the run file says what is expected: '; always LINE', '; sometimes L
 LINE', where LINE is one that 'run --maps' prints. Each is a test, by every order of turns: 'ok', or
 'not ok' and on a line '# by' a schedule that shows it, which 'run --by' takes, or why it can't be
 told. The form is TAP; the exit status is 3 where an outcome isn't as expected, and 4 where all that
-was told is, but more than --limit states were kept. With --patient outcomes are those in which no
-budget is used up.
+was told is, but more than --limit states were kept.
+
+With --patient outcomes are those in which no budget is used up, and the first test is 'every schedule
+can end': 'not ok' with a line '# hung by' for each state from which no turns lead to an outcome.
+'; always ends' asks the same, and '; sometimes hung' that there is such a state.
+
+A comment of three words or more that begins with 'always', 'sometimes' or 'never', or a word one edit
+away, and has no line behind it that this file can print, is refused: L11. So are 'always ends' and
+'sometimes hung' without --patient. --lenient passes such comments over.
 
 The tests of several files are one list: their numbers go on, and each names its file. A file that is
 refused has a line 'refused CODE - FILE' and no test. The exit status is that of the worst file, where
@@ -156,7 +171,7 @@ For example
 
 Exit status:
   0  all tests are ok
-  1  the run file is refused, or the output failed
+  1  the run file or a comment is refused, or the output failed
   2  the command line is at fault
   3  a test isn't ok
   4  the search met its limit: not all tests could be told, and those that could are ok";
@@ -170,9 +185,10 @@ of FILE is answered 'refused X1 LINE', LINE counted from 1, and the next one is 
 answered before more is read. Where standard input is the run file itself, --first alone is of use.
 
 With --patient states that differ only in the steps that are left of budgets count as one. With
---races, lines 'race cpu C pc P cpu D pc Q map NAME KEY' stand before a state's others, by rising pair
-of CPUs: the next steps of the two touch one byte of that value, one of them writes it, and not both
-are atomic. KEY is 'deleted' where the value has left its map.
+--races, lines 'race cpu C prog N pc P cpu D prog M pc Q map NAME KEY' stand before a state's others,
+by rising pair of CPUs: the next steps of the two, at these pcs of the programs of these numbers, touch
+one byte of that value, one of them writes it, and not both are atomic. KEY is 'deleted' where the
+value has left its map.
 
 For example
   $ ebpf expand --first examples/first-insert.run > first
@@ -593,7 +609,7 @@ fn sync_option<'a>(alloc: Global) -> Arg<'a>
         .value_name("NAME")
         .action(ArgAction::Append)
         .help(
-            "With --races: leaves out races for this map's values, as locks; may stand several times",
+            "With --races: leaves out races for a map's values (or NAME+AT:SIZE); may stand several times",
         )
 }
 
@@ -619,6 +635,16 @@ fn explore_command<'a>(alloc: Global) -> Result<Command<'a>, AllocError>
         .arg(file_argument(alloc))
 }
 
+fn lenient_option<'a>(alloc: Global) -> Arg<'a>
+    ensures rule { rule_of result ≡ lenient }
+    ensures own { result.global ≡ false }
+{
+    Arg::new(alloc, "lenient")
+        .long("lenient")
+        .action(ArgAction::SetTrue)
+        .help("Passes over comments that are meant to expect something and can't")
+}
+
 fn check_command<'a>(alloc: Global) -> Result<Command<'a>, AllocError>
     ensures shape { IfOk result (λ c. shape_of c ≡ check.top) }
     ensures own { IfOk result (λ c. (fields_of c).has_globals ≡ false) }
@@ -626,6 +652,7 @@ fn check_command<'a>(alloc: Global) -> Result<Command<'a>, AllocError>
     searching(alloc, "check")?
         .about("Tells whether all that a run file's jobs can come to is as its comments expect")
         .after_help(CHECK_NOTES)
+        .arg(lenient_option(alloc))?
         .arg(limit_option(alloc))?
         .arg(files_argument(alloc))
 }

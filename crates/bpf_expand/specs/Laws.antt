@@ -11,7 +11,9 @@ use Rattle.bpf_machine.specs.Patient.{IsCoveredRichly, NoneRanOut}
 use Rattle.bpf_machine.specs.Cover.{IsShown, IsCovered}
 use Rattle.bpf_jobs.specs.Printed.{Tells}
 use Rattle.bpf_expand.specs.declared.successor.Successor.{Successor}
-use Rattle.bpf_races.specs.Races.{RaceFound, IsListed}
+use Rattle.bpf_shared.specs.Store.{Plain}
+use Rattle.bpf_races.specs.declared.found.Pair.{Pair}
+use Rattle.bpf_races.specs.Races.{RaceFound, IsTold}
 use Rattle.bpf_expand.specs.Filter.{AreRacesOf, IsReportIn}
 use Rattle.bpf_expand.specs.State.{Host, AreSuccessors, IsStateOf, IsIdleIn, IsSuccessor}
 
@@ -92,18 +94,19 @@ abbrev pub AreTold : Host → List (List ℕ) → (List ℕ → List RaceFound) 
 AreTold h lines told = (line : List ℕ) → IsAmong lines line
     → (bytes : List ℕ) × (decode_of line ≡ Ok bytes) × AreRacesOf h bytes (told line)
 
--- one of the lines is answered by a race of these CPUs at these pcs
-abbrev pub IsToldAmong : List (List ℕ) → (List ℕ → List RaceFound) → ℕ → ℕ → ℕ → ℕ → Type 0
-IsToldAmong lines told c p d q =
-    (line : List ℕ) × IsAmong lines line × IsListed (told line) c p d q
+-- one of the lines is answered by a race of these two, who stand there, for the map and the key of the
+-- value at the address
+abbrev pub IsToldAmong : List (List ℕ) → (List ℕ → List RaceFound) → Plain → Pair → ℕ → Type 0
+IsToldAmong lines told s pair b =
+    (line : List ℕ) × IsAmong lines line × IsTold (told line) s pair b
 
--- if races are told, such lines have all of them: whatever CPUs race at whatever pcs, wherever such a
--- schedule leads, the answer of one of the lines has it
+-- if races are told, such lines have all of them: whatever CPUs race wherever they stand, for whatever
+-- byte and wherever such a schedule leads, the answer of one of the lines has it
 abbrev pub LinesHaveRaces : Type 0
 LinesHaveRaces =
     (h : Host) (names lines : List (List ℕ)) (told : List ℕ → List RaceFound)
     (first : MachineState) (bytes : List ℕ) (w z : World) (schedule : List ℕ)
     → AreAnswered h names lines → AreTold h lines told → IsStateOf h first bytes
     → HasLine lines bytes → IsFresh w → Shows first w → RunsSchedule w schedule z
-    → FitBudgets h.patient z.jobs → (c p d q b : ℕ) → c < d → IsRace z c p d q b
-    → IsToldAmong lines told c p d q
+    → FitBudgets h.patient z.jobs → (pair : Pair) (b : ℕ) → pair.one.cpu < pair.other.cpu
+    → IsRace z pair.one pair.other b → IsToldAmong lines told z.store pair b

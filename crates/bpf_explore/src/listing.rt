@@ -8,6 +8,7 @@ use crate::budgets::Budgets;
 use crate::exploring::{Explored, ExploredPatiently};
 use crate::hung::Hung;
 use bpf_schedule::push_runs;
+use bpf_threads::{Threads, push_threads};
 use std::alloc::{AllocError, Global};
 
 /// Puts the schedule of an answer behind the text, and what is told.
@@ -44,7 +45,7 @@ fn push_counts(
 }
 
 /// Puts the last line behind the text.
-fn push_last(
+pub fn push_last(
     alloc: Global,
     text: &mut String,
     all: bool,
@@ -70,13 +71,19 @@ fn push_answers(alloc: Global, text: &mut String, answers: &[Answer]) -> Result<
     Ok(())
 }
 
-/// The answers, each behind its schedule, and a line that says whether they are all.
-pub fn list_explored(alloc: Global, explored: &Explored) -> Result<String, AllocError>
+/// The answers, each behind its schedule, what is said of threads, and a line that says whether the
+/// answers are all.
+pub fn list_explored(
+    alloc: Global,
+    explored: &Explored,
+    threads: Threads,
+) -> Result<String, AllocError>
     ensures { IfOk result (λ text. string_bytes text ≡ explored_text explored.now.answers.items
-        explored.now.all explored.now.states) }
+        threads explored.now.all explored.now.states) }
 {
     let mut text = String::new(alloc);
     push_answers(alloc, &mut text, &explored.answers)?;
+    push_threads(&mut text, threads)?;
     let outcomes = explored.answers.len();
     push_last(alloc, &mut text, explored.all, outcomes, explored.states)?;
     Ok(text)
@@ -122,15 +129,21 @@ fn push_budgets(text: &mut String, budgets: Budgets) -> Result<(), AllocError>
 }
 
 /// The answers of a patient search, each behind its schedule, a line for each hung state, one where
-/// budgets run out, and one that says whether the answers are all.
-pub fn list_patient(alloc: Global, explored: &ExploredPatiently) -> Result<String, AllocError>
+/// budgets run out, what is said of threads, and a line that says whether the answers are all.
+pub fn list_patient(
+    alloc: Global,
+    explored: &ExploredPatiently,
+    threads: Threads,
+) -> Result<String, AllocError>
     ensures { IfOk result (λ text. string_bytes text ≡ patient_text explored.now.answers.items
-        explored.now.hung.items explored.now.budgets explored.now.all explored.now.states) }
+        explored.now.hung.items explored.now.budgets threads explored.now.all
+        explored.now.states) }
 {
     let mut text = String::new(alloc);
     push_answers(alloc, &mut text, &explored.answers)?;
     push_all_hung(alloc, &mut text, &explored.hung)?;
     push_budgets(&mut text, explored.budgets)?;
+    push_threads(&mut text, threads)?;
     let outcomes = explored.answers.len();
     push_last(alloc, &mut text, explored.all, outcomes, explored.states)?;
     Ok(text)

@@ -6,6 +6,14 @@ ghost use Rattle.bpf_json.specs.Lines.{all_text, budget_text, by_text, digits_me
 use crate::digits::Digits;
 use std::alloc::{AllocError, Global};
 
+/// A CPU, the number of the program that it runs, and where it stands in that.
+#[derive(Clone, Copy, PartialEq, Eq, Debug)]
+pub struct Place {
+    pub cpu: u64,
+    pub program: u64,
+    pub pc: u64,
+}
+
 /// A line that `run --maps`, `explore` or `check` prints.
 #[derive(PartialEq, Eq, Debug, Drop)]
 pub enum Line {
@@ -43,13 +51,11 @@ pub enum Line {
         outcomes: u64,
         states: u64,
     },
-    /// Two CPUs that race where they stand at these pcs, the map and the key of the value for which
-    /// they do, if one leads to it, and a schedule that leads there.
+    /// Two CPUs that race where they stand, the map and the key of the value for which they do, if
+    /// one leads to it, and a schedule that leads there.
     Race {
-        cpu: u64,
-        pc: u64,
-        other: u64,
-        other_pc: u64,
+        one: Place,
+        other: Place,
         map: String,
         key: Option<Digits>,
         by: String,
@@ -172,18 +178,20 @@ fn job_text(alloc: Global, job: u64, cpu: u64, end: &str) -> Result<String, Allo
     format!(in alloc; "job {job} cpu {cpu} {end}")
 }
 
-/// A CPU, and where it stands.
-fn place_text(alloc: Global, cpu: u64, pc: u64) -> Result<String, AllocError>
-    ensures { IfOk result (λ s. string_bytes s ≡ place_text cpu pc) }
+/// A CPU, its program, and where it stands in that.
+fn place_text(alloc: Global, at: Place) -> Result<String, AllocError>
+    ensures { IfOk result (λ s. string_bytes s ≡ place_text at) }
 {
-    format!(in alloc; "cpu {cpu} pc {pc}")
+    let Place { cpu, program, pc } = at;
+    format!(in alloc; "cpu {cpu} prog {program} pc {pc}")
 }
 
 /// The same as a JSON object.
-fn place_object(alloc: Global, cpu: u64, pc: u64) -> Result<String, AllocError>
-    ensures { IfOk result (λ s. string_bytes s ≡ place_object cpu pc) }
+fn place_object(alloc: Global, at: Place) -> Result<String, AllocError>
+    ensures { IfOk result (λ s. string_bytes s ≡ place_object at) }
 {
-    format!(in alloc; "{{\"cpu\":{cpu},\"pc\":{pc}}}")
+    let Place { cpu, program, pc } = at;
+    format!(in alloc; "{{\"cpu\":{cpu},\"prog\":{program},\"pc\":{pc}}}")
 }
 
 /// A key in hex, or that none leads to the value any more.
@@ -256,16 +264,14 @@ impl Line {
                 format!(in alloc; "{head}: {outcomes} outcomes, {states} states")
             }
             Line::Race {
-                cpu,
-                pc,
+                one,
                 other,
-                other_pc,
                 map,
                 key,
                 by,
             } => {
-                let one = place_text(alloc, *cpu, *pc)?;
-                let other = place_text(alloc, *other, *other_pc)?;
+                let one = place_text(alloc, *one)?;
+                let other = place_text(alloc, *other)?;
                 let value = value_text(alloc, map.as_str(), key, by.as_str())?;
                 format!(in alloc; "race {one} {other} {value}")
             }
@@ -318,16 +324,14 @@ impl Line {
                 format!(in alloc; "{{\"all\":{all},\"outcomes\":{outcomes},\"states\":{states}}}")
             }
             Line::Race {
-                cpu,
-                pc,
+                one,
                 other,
-                other_pc,
                 map,
                 key,
                 by,
             } => {
-                let one = place_object(alloc, *cpu, *pc)?;
-                let other = place_object(alloc, *other, *other_pc)?;
+                let one = place_object(alloc, *one)?;
+                let other = place_object(alloc, *other)?;
                 let map = quoted(alloc, map.as_str())?;
                 let key = key_members(alloc, key)?;
                 let by = quoted(alloc, by.as_str())?;

@@ -1,4 +1,5 @@
 pub mod Lists
+pub mod Listed
 pub mod Clashing
 pub mod Accesses
 pub mod Touching

@@ -1,4 +1,5 @@
 pub mod Touch
+pub mod Parts
 pub mod Next
 pub mod Searched
 pub mod Races

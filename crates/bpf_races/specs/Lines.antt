@@ -4,13 +4,20 @@ use Rattle.std.specs.Fmt.{decimal}
 use Rattle.hex.specs.Hex.{encode_lower}
 use Rattle.bpf_schedule.specs.Spelling.{runs_text}
 use Rattle.bpf_explore.specs.Listing.{all_text}
-use Rattle.bpf_races.specs.Races.{RaceFound, map_at}
+use Rattle.bpf_machine.specs.declared.machine.Stand.{Stand}
+use Rattle.bpf_races.specs.declared.found.Pair.{Pair}
+use Rattle.bpf_races.specs.Races.{RaceFound}
+use Rattle.bpf_races.specs.Parts.{map_at}
+
+-- where a CPU stands
+abbrev pub stand_text : Stand → List ℕ
+stand_text at = codes "cpu " ++ (decimal at.cpu ++ (codes " prog " ++ (decimal at.program
+    ++ (codes " pc " ++ decimal at.pc))))
 
 -- two CPUs, and where they stand
-abbrev pub places_text : RaceFound → List ℕ
-places_text race =
-    codes "race cpu " ++ (decimal race.cpu ++ (codes " pc " ++ (decimal race.pc
-    ++ (codes " cpu " ++ (decimal race.other ++ (codes " pc " ++ decimal race.other_pc))))))
+abbrev pub places_text : Pair → List ℕ
+places_text pair =
+    codes "race " ++ (stand_text pair.one ++ (codes " " ++ stand_text pair.other))
 
 -- a key in lower case hex
 abbrev pub key_text : Option (List ℕ) → List ℕ
@@ -25,19 +32,19 @@ value_text names race =
 
 abbrev pub race_text : List (List ℕ) → RaceFound → List ℕ
 race_text names race =
-    ((places_text race ++ value_text names race) ++ codes " by")
+    ((places_text race.pair ++ value_text names race) ++ codes " by")
     ++ (runs_text (length race.by) race.by ++ codes "\n")
 
 -- of one in a machine as it stands
 abbrev pub here_text : List (List ℕ) → RaceFound → List ℕ
-here_text names race = (places_text race ++ value_text names race) ++ codes "\n"
+here_text names race = (places_text race.pair ++ value_text names race) ++ codes "\n"
+
+abbrev pub no_stand : Stand
+no_stand = record { cpu = 0; program = 0; pc = 0 }
 
 abbrev pub no_race : RaceFound
 no_race = record {
-  cpu = 0;
-  pc = 0;
-  other = 0;
-  other_pc = 0;
+  pair = record { one = no_stand; other = no_stand };
   at = 0;
   key = None;
   by = [];

@@ -14,11 +14,11 @@ mod sync;
 mod within;
 
 pub use access::Access;
-pub use found::Race;
+pub use found::{Pair, Race};
 pub use gathering::gather_races;
 pub use listing::{list_races, list_races_in};
 pub use next::{Next, Watcher};
 pub use search::{Races, find_races, find_races_patiently};
 pub use searched::Searched;
-pub use sync::synced_maps;
+pub use sync::{Part, synced_parts};
 pub use within::races_in;

@@ -1,12 +1,13 @@
 //! Races as they are printed.
 
 ghost use Rattle.std.specs.Prelude.{◌≡◌, ◌++◌, [], IfOk, OnOk, length, map, option_map, slice_index_or, string_bytes};
-ghost use Rattle.bpf_races.specs.Lines.{count_text, here_lines, here_text, key_text, last_line, places_text, race_text, races_text, value_text};
+ghost use Rattle.bpf_races.specs.Lines.{count_text, here_lines, here_text, key_text, last_line, places_text, race_text, races_text, stand_text, value_text};
 
 use crate::clash::map_at;
-use crate::found::Race;
+use crate::found::{Pair, Race};
 use crate::search::Races;
 use bpf_explore::whether_all;
+use bpf_machine::Stand;
 use bpf_schedule::push_runs;
 use std::alloc::{AllocError, Global};
 
@@ -31,15 +32,21 @@ fn key_text(alloc: Global, key: &Option<Vec<u8>>) -> Result<String, AllocError>
     }
 }
 
-/// Two CPUs, and where they stand.
-fn places_text(alloc: Global, race: &Race) -> Result<String, AllocError>
-    ensures { IfOk result (λ text. string_bytes text ≡ places_text race.now) }
+/// Where a CPU stands.
+fn stand_text(alloc: Global, at: Stand) -> Result<String, AllocError>
+    ensures { IfOk result (λ text. string_bytes text ≡ stand_text at) }
 {
-    let cpu = race.cpu;
-    let pc = race.pc;
-    let other = race.other;
-    let other_pc = race.other_pc;
-    format!(in alloc; "race cpu {cpu} pc {pc} cpu {other} pc {other_pc}")
+    let Stand { cpu, program, pc } = at;
+    format!(in alloc; "cpu {cpu} prog {program} pc {pc}")
+}
+
+/// Two CPUs, and where they stand.
+fn places_text(alloc: Global, pair: Pair) -> Result<String, AllocError>
+    ensures { IfOk result (λ text. string_bytes text ≡ places_text pair) }
+{
+    let one = stand_text(alloc, pair.one)?;
+    let other = stand_text(alloc, pair.other)?;
+    format!(in alloc; "race {one} {other}")
 }
 
 /// The map's name and the key.
@@ -52,6 +59,13 @@ fn value_text(alloc: Global, names: &[String], race: &Race) -> Result<String, Al
     format!(in alloc; " map {name} {key}")
 }
 
+/// Its places.
+fn pair_of(race: &Race) -> Pair
+    ensures { result ≡ race.now.pair }
+{
+    race.pair
+}
+
 /// Puts the places of a race and its value behind the text.
 fn push_places(
     alloc: Global,
@@ -60,9 +74,9 @@ fn push_places(
     race: &Race,
 ) -> Result<(), AllocError>
     ensures { OnOk result (string_bytes text.new ≡ string_bytes text.old
-        ++ (places_text race.now ++ value_text (map string_bytes names.now) race.now)) }
+        ++ (places_text race.now.pair ++ value_text (map string_bytes names.now) race.now)) }
 {
-    let places = places_text(alloc, race)?;
+    let places = places_text(alloc, pair_of(race))?;
     let value = value_text(alloc, names, race)?;
     text.push_str(places.as_str())?;
     text.push_str(value.as_str())?;

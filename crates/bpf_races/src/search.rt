@@ -9,6 +9,7 @@ ghost use Rattle.bpf_races.specs.Races.{AreRaces};
 use crate::found::Race;
 use crate::gathering::{both, gather_races};
 use crate::next::Watcher;
+use crate::sync::Part;
 use bpf_cpu::Job;
 use bpf_explore::{Explorer, Observer, PatientExplorer, copy_shape, explore};
 use bpf_jobs::make_machine;
@@ -19,7 +20,7 @@ use std::alloc::{AllocError, Global};
 /// The races that schedules lead to.
 #[derive(Drop)]
 pub struct Races {
-    /// In the order in which the search came to them, each between two places once.
+    /// In the order in which the search came to them, each between two places for one value once.
     pub list: Vec<Race>,
     /// Whether none is left out.
     pub all: bool,
@@ -34,7 +35,7 @@ fn make_watcher(alloc: Global, shape: &StoreShape) -> Result<Watcher, AllocError
 }
 
 /// Searches through all schedules of jobs over a new store, until no state is new, more than `limit`
-/// are kept or memory is refused to the search, for races at values of maps that aren't left out.
+/// are kept or memory is refused to the search, for races at bytes that aren't left out.
 /// Refused is want of memory before or behind it; cases that never come count as such, but no
 /// contract rules them out. The observer is told meanwhile how far the search is.
 pub fn find_races<O: Observer>(
@@ -42,7 +43,7 @@ pub fn find_races<O: Observer>(
     shape: StoreShape,
     programs: Vec<Program>,
     jobs: Vec<Job>,
-    sync: &[usize],
+    sync: &[Part],
     limit: usize,
     observer: &mut O,
 ) -> Result<Races, AllocError>
@@ -75,7 +76,7 @@ pub fn find_races_patiently<O: Observer>(
     shape: StoreShape,
     programs: Vec<Program>,
     jobs: Vec<Job>,
-    sync: &[usize],
+    sync: &[Part],
     limit: usize,
     observer: &mut O,
 ) -> Result<Races, AllocError>

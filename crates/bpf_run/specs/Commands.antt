@@ -12,8 +12,9 @@ use Rattle.bpf_cpu.specs.Step.{Explains}
 use Rattle.bpf_run.specs.Checking.{IsCheckedFile}
 use Rattle.bpf_run.specs.Expanding.{IsExpandedFile}
 use Rattle.bpf_run.specs.Exploring.{IsExploredFile, IsShownFile}
+use Rattle.bpf_run.specs.Judging.{IsJudgedOfFile}
 use Rattle.bpf_run.specs.Racing.{IsRacesFile}
-use Rattle.bpf_run.specs.Running.{IsHistoryOfFile, IsJudgedOfFile, IsRunBy}
+use Rattle.bpf_run.specs.Running.{IsHistoryOfFile, IsRunBy}
 use Rattle.bpf_run.specs.Script.{IsScriptOfFile}
 use Rattle.bpf_insn.specs.declared.error.InsnError.TheVariants as insn_error
 use Rattle.bpf_text.specs.Assembly.{Assembles}
@@ -138,7 +139,7 @@ IsAnswer (command.Show options) text r =
     IsShownFile options.search.patient options.search.limit options.outcome text r
 IsAnswer (command.Races options) text r =
     IsRacesFile options.search.patient options.search.limit (map string_bytes options.sync.items) text r
-IsAnswer (command.Check options) text r = IsCheckedFile options.patient options.limit text r
+IsAnswer (command.Check options) text r = IsCheckedFile options text r
 IsAnswer (command.Expand first patient races) text r = IsExpandedFile first text r
 
 -- it asks for no workers

@@ -67,10 +67,10 @@ Follows (request.Perform command file explain json) unread silent talks standard
     Does command json (option_map string_bytes file)
     (asked_talk command (option_map string_bytes file) json) silent talks standard files read_failed
     old new write_failed status stats
-Follows (request.CheckAll search names json) unread silent talks standard files read_failed old new
+Follows (request.CheckAll check names json) unread silent talks standard files read_failed old new
     write_failed status stats =
     silent × ((r : Reply)
-    × AreChecked search.patient search.limit files (map string_bytes names.items) r
+    × AreChecked check files (map string_bytes names.items) r
     × IsShown json (Prints r) old new write_failed status × (stats ≡ []))
 Follows (request.Page code) unread silent talks standard files read_failed old new write_failed
     status stats =

@@ -1,9 +1,7 @@
 -- What `run` replies: the jobs of a run file, in rounds or by workers.
-use Rattle.std.specs.Prelude.{◌≡◌, ℕ, Bool, true, List, Option, Some, None, Err, Ok, string_bytes}
+use Rattle.std.specs.Prelude.{ℕ, Bool, List, Option, Some, None, Err, Ok, string_bytes}
 use Rattle.bpf_jobs.specs.Printed.{IsReportBy}
 use Rattle.bpf_events.specs.Reports.{IsHistory}
-use Rattle.bpf_check.specs.Expectation.{expectations_of}
-use Rattle.bpf_check.specs.Single.{is_any_refuted, judged_text}
 use Rattle.bpf_workers.specs.Printed.{IsWorkersReport}
 use Rattle.bpf_file.specs.declared.error.FileError.TheVariants as FileError
 use Rattle.bpf_file.specs.File.{File}
@@ -45,18 +43,6 @@ IsHistoryBy by keys maps f printed stopped =
 
 abbrev pub IsHistoryOfFile : (by : List (ℕ × ℕ)) → (keys maps : Bool) → List ℕ → Reply → Type 0
 IsHistoryOfFile by keys maps = IsOfFile (IsHistoryBy by keys maps)
-
--- `run --check`: a test for each thing that the text expects, of the lines that these turns and
--- rounds come to, those of the maps among them; and whether one is refuted
-abbrev pub IsJudgedBy : (by : List (ℕ × ℕ)) → (keys : Bool) → (text : List ℕ) → File → List ℕ
-    → Bool → Type 0
-IsJudgedBy by keys text f printed refuted =
-    (lines : List ℕ) × (stopped : Bool) × IsToldBy by keys true f lines stopped
-    × (printed ≡ judged_text lines (expectations_of text))
-    × (refuted ≡ is_any_refuted lines (expectations_of text))
-
-abbrev pub IsJudgedOfFile : (by : List (ℕ × ℕ)) → (keys : Bool) → List ℕ → Reply → Type 0
-IsJudgedOfFile by keys text = IsOfFile (IsJudgedBy by keys text) text
 
 -- `run --workers`: the lines of the jobs that the file says, ended as one history of a new store of
 -- its maps explains; then, where they are asked for, those of the keys that each CPU lists in this

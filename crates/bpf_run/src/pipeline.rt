@@ -209,7 +209,7 @@ pub fn reply<O: Observer>(alloc: Global, command: Command, text: &str, observer:
             show_file(alloc, search, outcome, text, observer)
         }
         Command::Races(options) => race_file(alloc, options, text, observer),
-        Command::Check(search) => check_file(alloc, search, text, observer),
+        Command::Check(options) => check_file(alloc, &options, text, observer),
         Command::Expand { first, .. } => expand_file(alloc, first, text),
     }
 }

@@ -84,7 +84,7 @@ pub enum Ending {
 }
 
 const NO_CODE: &str = "\
-no such code is printed: there are A1 to A6, E1 to E14, F1 to F6, G1 to G5, H1, J1 to J4, L1 to L10, S1 to S7 and X1
+no such code is printed: there are A1 to A6, E1 to E14, F1 to F6, G1 to G5, H1, J1 to J4, L1 to L11, S1 to S7 and X1
 
 For more information, try 'ebpf explain --help'.";
 
@@ -232,15 +232,9 @@ fn follow<T: Threads + Wait + Sync + Aside, R: Source, W: Sink, D: Terminal>(
                 rt, alloc, command, file, explain, json, source, sink, terminal,
             );
         }
-        Ok(
-            Request::CheckAll {
-                search,
-                files,
-                json,
-            },
-        ) => {
-            let mut teller = Teller::new(rt, search.progress);
-            let reply = check_files(alloc, &search, &files, source, &mut teller);
+        Ok(Request::CheckAll { check, files, json }) => {
+            let mut teller = Teller::new(rt, check.search.progress);
+            let reply = check_files(alloc, &check, &files, source, &mut teller);
             return Ending::Exit(answer_as(json, alloc, &reply, sink));
         }
         Ok(Request::Page(code)) => return Ending::Exit(print_page(alloc, code, sink)),

@@ -17,7 +17,7 @@ use bpf_cpu::Job;
 use bpf_explore::Observer;
 use bpf_file::RunFile;
 use bpf_loader::Program;
-use bpf_races::{Races, find_races, find_races_patiently, list_races, synced_maps};
+use bpf_races::{Part, Races, find_races, find_races_patiently, list_races, synced_parts};
 use bpf_shared::StoreShape;
 use std::alloc::{AllocError, Global};
 
@@ -44,7 +44,7 @@ fn races_of<O: Observer>(
     shape: StoreShape,
     programs: Vec<Program>,
     jobs: Vec<Job>,
-    sync: &[usize],
+    sync: &[Part],
     observer: &mut O,
 ) -> Result<Races, AllocError>
     requires cpus { All (λ job. job.cpu < shape.cpus) jobs.items }
@@ -62,11 +62,11 @@ fn races_of<O: Observer>(
     }
 }
 
-/// What is told of the races of a file's jobs, but for those at values of these maps.
+/// What is told of the races of a file's jobs, but for those at bytes that are left out.
 fn tell_races<O: Observer>(
     alloc: Global,
     options: SearchOptions,
-    sync: &[usize],
+    sync: &[Part],
     file: RunFile,
     observer: &mut O,
 ) -> Result<Told, AllocError>
@@ -103,12 +103,12 @@ pub fn race_file<O: Observer>(
         Ok(file) => file,
         Err(refusal) => return Reply::Refused(refusal),
     };
-    let numbers = match synced_maps(alloc, &file.names, &options.sync) {
-        Ok(Some(numbers)) => numbers,
+    let parts = match synced_parts(alloc, &file.names, &file.shape, &options.sync) {
+        Ok(Some(parts)) => parts,
         Ok(None) => return Reply::Refused(Refusal::NoMap),
         Err(_) => return Reply::Refused(Refusal::OutOfMemory),
     };
-    match tell_races(alloc, options.search, &numbers, file, observer) {
+    match tell_races(alloc, options.search, &parts, file, observer) {
         Ok(Told { text, raced, all }) => Reply::Outcomes {
             text,
             stopped: raced,

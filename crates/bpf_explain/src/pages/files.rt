@@ -120,6 +120,22 @@ The longest program has 65,536 words, which are 1,114,112 bytes as lines of hex
 digits.",
 };
 
+pub const L11: Page = Page {
+    code: Code::L11,
+    meaning: "the comment of this line expects what no outcome of the file can have",
+    example: Some(Example {
+        command: "printf '; never job 5 cpu 0 r0=1\\nebpf-run 1\\nprog a\\nexit\\nend\\njob 0 a\\n' | \
+            ebpf check",
+        printed: "refused line 1 L11",
+    }),
+    advice: "\
+It begins with `always`, `sometimes` or `never`, or a word one edit away, and three
+words or more; but behind that stands no line that `run --maps` prints of this file: a
+job with its CPU, or a map with a key and a value of its sizes in lower case hex, and
+numbers without a 0 before them. `always ends` and `sometimes hung` take `--patient`,
+and lines `keys` take `run --check --keys`. `check --lenient` passes such comments over.",
+};
+
 pub const S1: Page = Page {
     code: Code::S1,
     meaning: "a map's keys have 1 to 64 bytes",

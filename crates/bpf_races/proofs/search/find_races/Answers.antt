@@ -45,4 +45,4 @@ returns g c =
     (first_fresh c.args.shape m programs jobs c.requires.contexts shows)
     (still_first c.in_ok-explorer.explorer.kept kept m w c.in_ok-explorer.ensures c.explore-extent.ensures.extends shows)
     c.in_ok-list.ensures.gathered c.in_ok-list.ensures.listed c.both-all.ensures.both c.is_whole-whole.ensures c.is_refused-refused.ensures c.races_are_kept.ensures (λ is. c.explore-extent.ensures.whole (whole_of c.explore-extent.result (sym c.is_whole-whole.ensures ∙ is)))
-    c.leads.ensures c.apart.ensures (c.in_ok-list.ensures.missed refl) c.both-all.ensures.not c.explore-extent.ensures.met
+    c.leads.ensures c.apart.ensures (c.in_ok-list.ensures.exact refl) c.both-all.ensures.not c.explore-extent.ensures.met
