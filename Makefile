@@ -28,6 +28,7 @@ test: ## The whole gate: every proof, every must-fail edit, every test, then the
 	tests/streams ./ebpf
 	tests/hostile ./ebpf
 	tests/orders ./ebpf
+	tests/threads ./ebpf
 	tests/explore ./ebpf
 	tests/expand ./ebpf
 	tests/check ./ebpf
@@ -40,6 +41,7 @@ test: ## The whole gate: every proof, every must-fail edit, every test, then the
 	tests/from-elf ./ebpf
 	tests/programs/compare ./ebpf
 	tests/dap ./ebpf
+	tests/debug ./ebpf
 	tests/page ./ebpf
 	$(MAKE) manual
 

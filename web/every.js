@@ -11,29 +11,34 @@ const DEADLOCK = 'a deadlock: no order of turns leads from here to an end';
 
 // What `explore` prints: a line `by` before the lines of each outcome; behind them, of a patient search, a line a
 // state from which no order of turns leads to an end, and whether budgets can be used up; or, with `--races`, a line a
-// race; and a last line.
+// race, or one where there is none on x86 either; and a last line.
 const FOUND = [
     ['outcome', /^by(?: (?<by>.*))?$/],
     ['deadlock', /^hung by(?: (?<by>.*))?$/],
-    ['race', /^race cpu (?<cpu>\d+) pc (?<pc>\d+) cpu (?<other>\d+) pc (?<other_pc>\d+) map (?<map>\S+) (?<key>\S+) by(?: (?<by>.*))?$/],
+    ['race', /^race cpu (?<cpu>\d+) prog (?<prog>\d+) pc (?<pc>\d+) cpu (?<other>\d+) prog (?<other_prog>\d+) pc (?<other_pc>\d+) map (?<map>\S+) (?<key>\S+) by(?: (?<by>.*))?$/],
 ];
 const LAST = /^(?<all>all|not all): (?:\d+ outcomes, (?<states>\d+) states|\d+ races)$/;
 
 const SAID_OF = {
     outcome: () => [],
     deadlock: () => [DEADLOCK],
-    race: ({ cpu, pc, other, other_pc, map, key }) => [`CPU ${cpu} at pc ${pc}, CPU ${other} at pc ${other_pc}: ${map} ${key}`],
+    race: ({ map, key, ...parts }) => [`${stands_in(parts).map(stand_text).join(', ')}: ${map} ${key}`],
 };
 
-// Where the CPUs of a race stand.
-const places_in = ({ cpu, pc, other, other_pc }) =>
-    [[cpu, pc], [other, other_pc]].map(([who, where]) => ({ cpu: Number(who), pc: Number(where) }));
+// Where the CPUs of a race stand: each in a program, by its number in the file, at a pc.
+const stands_in = ({ cpu, prog, pc, other, other_prog, other_pc }) =>
+    [[cpu, prog, pc], [other, other_prog, other_pc]].map((numbers) => {
+        const [cpu, program, pc] = numbers.map(Number);
+        return { cpu, program, pc };
+    });
+
+const stand_text = ({ cpu, program, pc }) => `CPU ${cpu} at prog ${program} pc ${pc}`;
 
 function found_in(line) {
     for (const [kind, form] of FOUND) {
         const parts = form.exec(line)?.groups;
         if (!parts) continue;
-        const places = kind === 'race' ? places_in(parts) : [];
+        const places = kind === 'race' ? stands_in(parts) : [];
         return { kind, schedule: parts.by ?? '', lines: SAID_OF[kind](parts), places };
     }
     return null;
@@ -45,13 +50,17 @@ function read_explored(printed) {
     if (!last) throw new Error(printed.trim());
     const found = [];
     let budgets = '';
+    let same = '';
+    const threads = [];
     for (const line of lines) {
         const one = found_in(line);
         if (one) found.push(one);
         else if (line.startsWith('budgets ')) budgets = line;
+        else if (line.startsWith('threads ')) threads.push(line);
+        else if (line.startsWith('no races: ')) same = line;
         else found.at(-1).lines.push(line);
     }
-    return { found, budgets, is_all: last.all === 'all', states: last.states && Number(last.states) };
+    return { found, budgets, same, threads, is_all: last.all === 'all', states: last.states && Number(last.states) };
 }
 
 // `stage` counts the limits that are searched through.
@@ -99,7 +108,8 @@ function counts_text({ found, states }, is_of_races) {
 }
 
 // What a whole search says of the orders of turns that aren't listed.
-function no_other_text(is_patient, is_of_races, { budgets }) {
+function no_other_text(is_patient, is_of_races, { budgets, same }) {
+    if (same) return 'No order of turns has another, and on x86 the outcomes are the same.';
     if (!is_patient) return 'No order of turns has another.';
     if (is_of_races) return 'No order of turns that uses no budget up has another.';
     if (!budgets) return 'No order of turns has another, and none uses a budget up.';
@@ -107,12 +117,17 @@ function no_other_text(is_patient, is_of_races, { budgets }) {
     return `No order of turns that uses no budget up has another. ${some} one up.`;
 }
 
+// In which ways worker threads may reach more.
+function threads_text({ threads }) {
+    return threads.map((line) => ` T${line.slice(1)}.`).join('');
+}
+
 function every_text({ came, is_on, is_patient, is_of_races, stage }) {
     const goes_on = is_on ? `Searching up to ${in_thousands(LIMITS[stage])} states…` : '';
     if (!came) return goes_on;
     const what = counts_text(came, is_of_races);
     if (!came.is_all) return is_on ? `So far: ${what}. ${goes_on}` : `Not all: ${what}, and there may be more.`;
-    return `All: ${what}. ${no_other_text(is_patient, is_of_races, came)}`;
+    return `All: ${what}. ${no_other_text(is_patient, is_of_races, came)}${threads_text(came)}`;
 }
 
 // What was found. In an outcome, the lines that not all of them have stand out.
@@ -160,15 +175,12 @@ function mark_found({ turns }) {
     });
 }
 
-// By program, the pcs at which CPUs race. A race says the CPU and not the job: of one that runs several programs,
-// nothing is marked.
+// By program, the pcs at which CPUs race.
 function raced_pcs(file) {
-    const pcs = new Map();
-    for (const { cpu, pc } of (search.came?.found ?? []).flatMap(({ places }) => places)) {
-        const programs = [...new Set(file.jobs.filter((job) => job.cpu === cpu).map(({ program }) => program))];
-        if (programs.length !== 1) continue;
-        const [program] = programs;
-        pcs.set(program, (pcs.get(program) ?? new Set()).add(pc));
+    const [pcs, names] = [new Map(), [...file.programs.keys()]];
+    for (const { program, pc } of (search.came?.found ?? []).flatMap(({ places }) => places)) {
+        const name = names[program];
+        pcs.set(name, (pcs.get(name) ?? new Set()).add(pc));
     }
     return pcs;
 }

@@ -1,6 +1,6 @@
 'use strict';
 
-// Twelve lessons. Each sets a run file and turns, asks for something, and says by what the program answers
+// Fourteen lessons. Each sets a run file and turns, asks for something, and says by what the program answers
 // whether it is met. In texts, what is between ` is code.
 
 const FIRST = `ebpf-run 1
@@ -244,6 +244,127 @@ job 0 send
 job 1 receive
 `;
 
+const FLAG = `ebpf-run 1
+cpus 2
+map flag key 4 value 8 max 1 spare 1
+
+prog set
+        *(u32 *)(r10 - 4) = 0
+        *(u64 *)(r10 - 16) = 0
+        r1 = map 0
+        r2 = r10
+        r2 += -4
+        r3 = r10
+        r3 += -16
+        r4 = 1
+        call 2
+        r1 = map 0
+        r2 = r10
+        r2 += -4
+        call 1
+        r7 = r0
+        r1 = 1
+        *(u64 *)(r7 + 0) = r1   ; sets the flag
+        r0 = 0
+        exit
+end
+
+prog look
+        *(u32 *)(r10 - 4) = 0
+        *(u64 *)(r10 - 16) = 0
+        r1 = map 0
+        r2 = r10
+        r2 += -4
+        r3 = r10
+        r3 += -16
+        r4 = 1
+        call 2
+        r1 = map 0
+        r2 = r10
+        r2 += -4
+        call 1
+        r7 = r0
+        r0 = 0
+        r0 = atomic_fetch_add((u64 *)(r7 + 0), r0) ; looks at it
+        exit
+end
+
+job 0 set
+job 1 look
+`;
+
+const STACK = `ebpf-run 1
+cpus 2
+map stack key 4 value 24 max 1 spare 1 ; the top, what is below node 1, and below node 2
+
+prog pop
+        *(u32 *)(r10 - 4) = 0
+        *(u64 *)(r10 - 32) = 1  ; the top is node 1,
+        *(u64 *)(r10 - 24) = 2  ; below node 1 is node 2,
+        *(u64 *)(r10 - 16) = 0  ; and below node 2 nothing
+        r1 = map 0
+        r2 = r10
+        r2 += -4
+        r3 = r10
+        r3 += -32
+        r4 = 1
+        call 2
+        r1 = map 0
+        r2 = r10
+        r2 += -4
+        call 1
+        r7 = r0
+again:  r1 = *(u64 *)(r7 + 0)   ; the top
+        r2 = r1
+        r2 <<= 3
+        r2 += r7
+        r2 = *(u64 *)(r2 + 0)   ; what is below it
+        r0 = r1
+        r0 = cmpxchg_64(r7 + 0, r0, r2) ; if the top is still the same
+        if r0 != r1 goto again
+        exit
+end
+
+; Takes both nodes, and gives node 1 back.
+prog busy
+        *(u32 *)(r10 - 4) = 0
+        *(u64 *)(r10 - 32) = 1
+        *(u64 *)(r10 - 24) = 2
+        *(u64 *)(r10 - 16) = 0
+        r1 = map 0
+        r2 = r10
+        r2 += -4
+        r3 = r10
+        r3 += -32
+        r4 = 1
+        call 2
+        r1 = map 0
+        r2 = r10
+        r2 += -4
+        call 1
+        r7 = r0
+one:    r0 = 1
+        r2 = *(u64 *)(r7 + 8)
+        r0 = cmpxchg_64(r7 + 0, r0, r2)
+        if r0 != 1 goto out
+        r0 = 2
+        r2 = *(u64 *)(r7 + 16)
+        r0 = cmpxchg_64(r7 + 0, r0, r2)
+        if r0 != 2 goto out
+        *(u64 *)(r7 + 8) = 0    ; nothing is below node 1 now
+        r0 = 0
+        r2 = 1
+        r0 = cmpxchg_64(r7 + 0, r0, r2)
+        r0 = 2                  ; it has node 2
+        exit
+out:    r0 = 0
+        exit
+end
+
+job 0 pop
+job 1 busy
+`;
+
 const HELD = `ebpf-run 1
 cpus 2
 map single key 4 value 8 max 1 spare 0
@@ -398,6 +519,25 @@ async function every_message_arrives({ file }, machine) {
     return is_kept ? met('Whoever sees that the message is there sees the message.') : not_yet('Both stores, and the question, have to stay.');
 }
 
+async function no_order_races({ file }, machine) {
+    const { stdout } = await machine.engine.call(['explore', '--races', '--limit', String(MOST_STATES)], file.text);
+    const { found, is_all } = read_explored(text_of(stdout));
+    if (found.length) {
+        const [{ lines, schedule }] = found;
+        return { ...not_yet(`A race: ${lines[0]}.`), turns: turns_of_schedule(schedule, MOST_TURNS) };
+    }
+    if (!is_all) return not_yet(`There are more than ${MOST_STATES} states: it can be said shorter.`);
+    const is_kept = /xchg_64\(r7 \+ 0|\(r7 \+ 0\) [|+]= r1/.test(file.text) && /= atomic_fetch_\w+\(\(u64 \*\)\(r7 \+ 0\)/.test(file.text);
+    return is_kept ? met('No order of turns has a race.') : not_yet('One CPU has to set the flag, and the other to look at it.');
+}
+
+function top_is_taken(state) {
+    if (ends_of(state).length < 2) return not_yet('Both jobs have to end.');
+    const top = number_in(state, 'stack');
+    if (end_of(state, 1).how !== 'r0=2') return not_yet(`CPU 1 didn't get node 2: ${end_of(state, 1).how}.`);
+    return top === 2n ? met('The top is node 2, which CPU 1 has taken: two own it.') : not_yet(`The top is ${top}, and nobody has that node.`);
+}
+
 function tries_in_vain(state) {
     const { file, turns, shown, known, views } = state;
     const listing = file.listings.get(file.jobs[1]?.program) ?? [];
@@ -521,6 +661,28 @@ const LESSONS = [
         file: MESSAGE,
         turns: times(15, 0),
         check: every_message_arrives,
+    },
+    {
+        title: 'A data race',
+        text:
+            'Two CPUs race where both may be about to touch the same bytes, one of them to write, and not ' +
+            'both by atomic operations. CPU 1 looks at the flag by one, an addition of 0; CPU 0 sets it by ' +
+            'a plain store. The page has the program look for races in every order of turns.',
+        task: 'Set the flag by an atomic operation, too: `r1 = xchg_64(r7 + 0, r1)` in place of the store.',
+        file: FLAG,
+        turns: [...times(14, 0), ...times(14, 1)],
+        check: no_order_races,
+    },
+    {
+        title: 'ABA',
+        text:
+            'A stack of two nodes, whose top is changed by `cmpxchg_64`. CPU 0 has read that the top is ' +
+            'node 1, and that node 2 is below it. CPU 1 takes both nodes and gives node 1 back: the top ' +
+            'is node 1 again, but nothing is below it any more, and CPU 0 can\'t see that.',
+        task: 'Find an order in which both jobs end, and the top is node 2, which CPU 1 has.',
+        file: STACK,
+        turns: times(21, 0),
+        check: top_is_taken,
     },
     {
         title: 'A pointer that outlives its run',

@@ -510,9 +510,15 @@ const SAID = {
     unproved: 'The program here is built without its proofs, for work on the page. What it prints is the same.',
 };
 
+async function begin() {
+    tell('');
+    await open_link();
+}
+
+window.ebpfIsThere = true;
 at('built').textContent = ebpfBuilt.program ? SAID.proved : SAID.unproved;
 listen();
-engine.ready.then(open_link, (error) => {
+engine.ready.then(begin, (error) => {
     const needs = 'which needs WebAssembly with 64-bit memory (Chromium 133, Firefox 134, or later)';
     document.body.classList.add('unable');
     tell(`This browser can't run the program, ${needs}: ${error.message}`, true);

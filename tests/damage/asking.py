@@ -60,6 +60,7 @@ class Documented:
 
 OUTCOME = rb"(r0=\d+|fault F[1-6] at \d+|out of budget at \d+)"
 KEYS = rb"(map \w+ ([0-9a-f]{2})+=([0-9a-f]{2})+\n)*"
+THREADS = rb"(threads may run out of elements\n)?(threads may see keys or values in part\n)?"
 FOUND = rb"(by( \d+\*\d+)*\n(job \d+ cpu \d+ " + OUTCOME + rb"\n)*" + KEYS + rb")*"
 LINE_OF_A_FILE = r"line \d+ (L[1-6]|S[1-6]|H1|A[1-5]|E1|E3|E2 \d+|E[4-9] \d+|E1[0-3] \d+)"
 DOCUMENTED = {
@@ -79,8 +80,8 @@ DOCUMENTED = {
         refused(LINE_OF_A_FILE, "L8"),
     ],
     "explore": [
-        *(Documented(status, FOUND + rb"all: \d+ outcomes, \d+ states\n") for status in (0, 3)),
-        Documented(4, FOUND + rb"not all: \d+ outcomes, \d+ states\n"),
+        *(Documented(status, FOUND + THREADS + rb"all: \d+ outcomes, \d+ states\n") for status in (0, 3)),
+        Documented(4, FOUND + THREADS + rb"not all: \d+ outcomes, \d+ states\n"),
         refused(LINE_OF_A_FILE, "L8"),
     ],
     "debug": [

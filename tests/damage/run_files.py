@@ -11,7 +11,7 @@ EDGES = ["0", "1", "8", "16", "17", "64", "65", "256", "257", "0x7", "-1", "4294
 LAST = re.compile(rb"[ \t\r]*end[ \t\r]*(;.*)?")
 # How many states of a file are searched, and what is told of them.
 STATES = "200"
-LAST_LINE = re.compile(rb"^all: .*\n", re.M)
+LAST_LINES = re.compile(rb"^(?:threads may .*|all: .*)\n", re.M)
 PUT = "*(u32 *)(r10 - 4) = 0|*(u64 *)(r10 - 16) = 7|r1 = map 0|r2 = r10|r2 += -4|r3 = r10|r3 += -16|r4 = 0|call 2|exit"
 FIND = "*(u32 *)(r10 - 4) = 0|r1 = map 0|r2 = r10|r2 += -4|call 1|if r0 == 0 goto none|r0 = *(u64 *)(r0 + 0)|none: exit"
 CONTEXT = "r0 = *(u8 *)(r1 + 0)|r2 = 9|r0 += r2|call f|exit|f: r0 += 1|exit"
@@ -118,7 +118,7 @@ class RunFiles:
         else:
             outcomes = re.split(rb"^by.*\n", b"\n" + explored.stdout, flags=re.M)[1:]
             holds = is_documented("explore", explored)
-            holds = holds and (explored.status == 4 or got.stdout in [LAST_LINE.sub(b"", it) for it in outcomes])
+            holds = holds and (explored.status == 4 or got.stdout in [LAST_LINES.sub(b"", it) for it in outcomes])
         self.tally.see(f"{name} is explored, or refused as by rounds", holds, (text, got, explored))
 
     def see_lowest(self, name, lines, line, code, got):

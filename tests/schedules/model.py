@@ -291,8 +291,8 @@ class File:
         return state
 
     def access(self, state, cpu):
-        """The pc at which the CPU stands, the element that its next step touches, whether it writes that, and whether
-        it is atomic; or none where it touches none."""
+        """The number of the program that the CPU runs, the pc at which it stands, the element that its next step touches,
+        whether it writes that, and whether it is atomic; or none where it touches none."""
         hand = state[1][cpu]
         if hand is None or not hand[4]:
             return None
@@ -304,15 +304,15 @@ class File:
         pointer = values[operands[1] if kind == "load" else operands[0]]
         if not isinstance(pointer, tuple) or pointer[1] not in held:
             return None
-        return pc, pointer[1], kind != "load", kind not in ("load", "store")
+        return job, pc, pointer[1], kind != "load", kind not in ("load", "store")
 
     def races_in(self, state):
-        """The races in a state: two CPUs, each with its pc, and the key of the value for which they race."""
+        """The races in a state: two CPUs, each with its program and its pc, and the key of the value for which they race."""
         keys = {place: key.to_bytes(4, "little").hex() for key, place in state[0][0]}
         touched = [(cpu, *access) for cpu in range(self.cpus) if (access := self.access(state, cpu))]
         return {
-            (cpu, pc, other, other_pc): keys.get(place, "deleted")
-            for (cpu, pc, place, writes, atomic), (other, other_pc, its, writes_too, atomic_too) in combinations(touched, 2)
+            (*one, *other, keys.get(place, "deleted"))
+            for (*one, place, writes, atomic), (*other, its, writes_too, atomic_too) in combinations(touched, 2)
             if place == its and (writes or writes_too) and not (atomic and atomic_too)
         }
 

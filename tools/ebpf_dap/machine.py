@@ -74,9 +74,15 @@ def ended_of(line):
 class Machine:
     """CPUs in a conversation with `ebpf debug`. Each turn is asked for by itself, so each is known."""
 
-    def __init__(self, ebpf, file, cpus):
+    def __init__(self, ebpf, file, cpus, alone=False):
+        # `alone`: Ctrl-C at a terminal is for who asks, and doesn't end the program.
         self.process = subprocess.Popen(
-            [ebpf, "debug", file], stdin=subprocess.PIPE, stdout=subprocess.PIPE, stderr=subprocess.DEVNULL, text=True
+            [ebpf, "debug", file],
+            stdin=subprocess.PIPE,
+            stdout=subprocess.PIPE,
+            stderr=subprocess.DEVNULL,
+            text=True,
+            start_new_session=alone,
         )
         self.marks, self.cpus = 0, cpus
         self.turns, self.callers, self.printed = [], [()] * cpus, 0

@@ -17,6 +17,14 @@ def number_of(data):
     return f"{int.from_bytes(data, 'little')} (0x{shown})" if len(data) in (1, 2, 4, 8) else shown
 
 
+def numbers_in(digits):
+    """Returns bytes as numbers of 8 bytes where they are as many, else as one number, else as they are."""
+    data = bytes.fromhex(digits)
+    if len(data) > 8 and len(data) % 8:
+        return digits
+    return " ".join(str(int.from_bytes(data[at : at + 8], "little")) for at in range(0, len(data), 8))
+
+
 class Variables:
     """Scopes and variables of one stop. Each that has parts has a number, which is good until the next stop."""
 

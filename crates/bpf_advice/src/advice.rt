@@ -1,12 +1,17 @@
 //! All that is said beside an answer.
 
+use crate::answers::push_answer;
 use crate::caret::caret;
-use crate::comments::push_warnings;
 use crate::excerpt::{Language, instruction_text, line_of};
 use crate::expected::expected;
 use crate::finding::{Finding, Told, finding_in};
-use crate::hints::{hint_of, hint_of_fault};
-use crate::inputs::push_input;
+use crate::hints::{hint_of, hint_of_fault, hint_of_program};
+use crate::inputs::{hint_of_file, push_input};
+use crate::labels::hint_of_names;
+use crate::places::{line_at, line_in_file};
+use crate::sights::push_sights;
+use crate::sources::{push_line, push_source};
+use crate::warnings::{push_answerless_programs, push_warnings};
 use bpf_codes::Code;
 use bpf_explain::page_of;
 use std::alloc::{AllocError, Global};
@@ -36,32 +41,6 @@ pub struct Details<'a> {
     pub otherwise: &'a str,
 }
 
-/// The line, and below it a caret at this byte, if there is one.
-fn push_line(
-    alloc: Global,
-    text: &mut String,
-    number: usize,
-    line: &str,
-    place: Option<usize>,
-) -> Result<(), AllocError> {
-    let head = format!(in alloc; "  line {number}: ")?;
-    write!(text, "{head}{line}\n")?;
-    let Some(place) = place else {
-        return Ok(());
-    };
-    for _ in 0..head.len() {
-        text.push(' ')?;
-    }
-    for byte in line.as_bytes().iter().take(place) {
-        if *byte == b'\t' {
-            text.push('\t')?;
-        } else if *byte & 0xc0 != 0x80 {
-            text.push(' ')?;
-        }
-    }
-    text.push_str("^\n")
-}
-
 /// The line that a finding is of, and what is said of it.
 fn push_found_line(
     alloc: Global,
@@ -80,9 +59,29 @@ fn push_found_line(
     }
     let place = caret(alloc, code, line.as_bytes());
     push_line(alloc, text, number, line, place)?;
-    match hint_of(code, line, place) {
+    if let Some(hint) = hint_of_names(alloc, code, input, number, place)? {
+        return write!(text, "  hint: {}\n", hint.as_str());
+    }
+    push_hint(
+        text,
+        hint_of(code, line, place).or(hint_of_file(code, input, line)),
+    )
+}
+
+/// A hint, where there is one.
+fn push_hint(text: &mut String, hint: Option<&str>) -> Result<(), AllocError> {
+    match hint {
         Some(hint) => write!(text, "  hint: {hint}\n"),
         None => Ok(()),
+    }
+}
+
+/// The line from which the instruction of a finding comes.
+fn line_of_instruction(alloc: Global, input: &Input<'_>, finding: &Finding) -> Option<usize> {
+    match input.language {
+        Language::Assembly => line_at(alloc, input.text, 0, finding.pc?),
+        Language::RunFile => line_in_file(alloc, input.text, finding),
+        Language::Words => None,
     }
 }
 
@@ -92,9 +91,11 @@ fn push_place(
     text: &mut String,
     input: &Input<'_>,
     code: Code,
-    line: Option<usize>,
+    finding: &Finding,
 ) -> Result<(), AllocError> {
-    if let Some(number) = line {
+    if let Some(number) = line_of_instruction(alloc, input, finding) {
+        push_source(alloc, text, input.text, number)
+    } else if let Some(number) = finding.line {
         push_found_line(alloc, text, input.text, number, code)
     } else if input.language != Language::RunFile || code == Code::L8 {
         push_input(text, code, input.text, input.bytes)
@@ -103,7 +104,7 @@ fn push_place(
     }
 }
 
-/// The instruction that a finding is of, where the input has it.
+/// The instruction that a finding is of, where the input has it, with its labels as distances.
 fn push_instruction(
     alloc: Global,
     text: &mut String,
@@ -144,10 +145,7 @@ fn push_fault(
 ) -> Result<(), AllocError> {
     let known = known_of(finding, details);
     text.push_str(known)?;
-    match hint_of_fault(code, known) {
-        Some(hint) => write!(text, "  hint: {hint}\n"),
-        None => Ok(()),
-    }
+    push_hint(text, hint_of_fault(code, known))
 }
 
 /// What there is to say of a refusal or a fault.
@@ -160,8 +158,9 @@ fn push_coded(
     details: &Details<'_>,
 ) -> Result<(), AllocError> {
     write!(text, "{}\n", page_of(code).meaning)?;
-    push_place(alloc, text, input, code, finding.line)?;
+    push_place(alloc, text, input, code, finding)?;
     push_instruction(alloc, text, input, finding)?;
+    push_hint(text, hint_of_program(code))?;
     if is_fault(code) {
         push_fault(text, finding, code, details)?;
     }
@@ -177,13 +176,31 @@ fn push_out_of_budget(
     details: &Details<'_>,
 ) -> Result<(), AllocError> {
     text.push_str("the steps of the budget are made, and this instruction would be the next\n")?;
+    if let Some(number) = line_of_instruction(alloc, input, finding) {
+        push_source(alloc, text, input.text, number)?;
+    }
     push_instruction(alloc, text, input, finding)?;
     text.push_str(known_of(finding, details))
 }
 
+/// What there is to say of a printed line that has no code.
+fn push_uncoded(
+    alloc: Global,
+    text: &mut String,
+    input: &Input<'_>,
+    line: &str,
+) -> Result<(), AllocError> {
+    push_answer(text, line)?;
+    if input.language == Language::RunFile {
+        push_sights(alloc, text, input.text, line)?;
+    }
+    Ok(())
+}
+
 /// What there is to say of each refusal and fault in what was printed, and of each job that is out
-/// of budget: the line or the instruction, what the code means, and what may be meant; and warnings
-/// of instructions in comments.
+/// of budget: the line or the instruction, what the code means, and what may be meant; of other
+/// lines, the error that an answer is, and the lines of the input from which their instructions
+/// come; and warnings of what is likely not meant.
 pub fn advise(
     alloc: Global,
     input: &Input<'_>,
@@ -193,6 +210,7 @@ pub fn advise(
     let mut text = String::new(alloc);
     for line in printed.split('\n') {
         let Some(finding) = finding_in(line) else {
+            push_uncoded(alloc, &mut text, input, line)?;
             continue;
         };
         write!(text, "{line}: ")?;
@@ -203,6 +221,10 @@ pub fn advise(
     }
     if input.language != Language::Words {
         push_warnings(alloc, &mut text, input.text)?;
+        if !printed.starts_with("refused") {
+            let is_file = input.language == Language::RunFile;
+            push_answerless_programs(alloc, &mut text, input.text, is_file)?;
+        }
     }
     Ok(text)
 }

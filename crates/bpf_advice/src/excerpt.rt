@@ -1,6 +1,7 @@
 //! The piece of the input that a refusal or a fault is of.
 
 use crate::finding::Finding;
+use crate::places::is_end;
 use bpf_disassembly::disassemble;
 use bpf_insn::{Insn, decode};
 use bpf_lines::from_hex;
@@ -42,10 +43,10 @@ fn insns_of_words(alloc: Global, digits: &str) -> Option<Vec<Insn>> {
 }
 
 /// The lines of the program that begins at this line of a run file.
-fn program_text(alloc: Global, file: &str, line: usize) -> Result<String, AllocError> {
+pub fn program_text(alloc: Global, file: &str, line: usize) -> Result<String, AllocError> {
     let mut text = String::new(alloc);
     for line in file.split('\n').skip(line) {
-        if line.trim() == "end" {
+        if is_end(line) {
             return Ok(text);
         }
         text.push_str(line)?;
@@ -110,10 +111,14 @@ fn line_of_program(file: &str, name: &str) -> Option<usize> {
     None
 }
 
+/// The line at which a job's program begins.
+pub fn line_of_job_program(file: &str, job: usize) -> Option<usize> {
+    line_of_program(file, program_of_job(file, job)?)
+}
+
 /// The instructions of a job's program.
 fn insns_of_job(alloc: Global, file: &str, job: usize) -> Option<Vec<Insn>> {
-    let name = program_of_job(file, job)?;
-    insns_of_program(alloc, file, line_of_program(file, name)?)
+    insns_of_program(alloc, file, line_of_job_program(file, job)?)
 }
 
 fn insn_of(alloc: Global, language: Language, input: &str, finding: &Finding) -> Option<Insn> {

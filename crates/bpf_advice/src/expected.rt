@@ -114,9 +114,14 @@ fn push_piece(text: &mut String, piece: &str) -> Result<(), AllocError> {
         "NAME" => text.push_str("a name"),
         "N" => text.push_str("a number"),
         "HEX" => text.push_str("hex digits"),
+        "spare" => text.push_str(SPARE),
         _ => write!(text, "`{piece}`"),
     }
 }
+
+/// What `spare` is, where a line ends before it.
+const SPARE: &str =
+    "`spare` and how many elements the map has beside `max`, for values that were replaced or deleted and that a job may still hold";
 
 /// "expected" and the pieces, with commas and 'or' between them.
 fn listing(alloc: Global, pieces: &[&'static str]) -> Result<String, AllocError> {

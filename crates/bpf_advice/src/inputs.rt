@@ -21,6 +21,23 @@ pub fn is_objdump(line: &str) -> bool {
     }
 }
 
+/// What an input is that is refused at its first line, or at one that another command would take.
+pub fn hint_of_file(code: Code, input: &str, line: &str) -> Option<&'static str> {
+    let begins = input
+        .split('\n')
+        .any(|line| line.trim_start().starts_with("ebpf-run "));
+    match code {
+        Code::L1 if input.trim().is_empty() => Some("the input is empty"),
+        Code::L1 if begins => Some("`ebpf-run 1` stands before all other lines"),
+        Code::L1 => Some(
+            "a run file begins with a line `ebpf-run 1`; a program alone is run by `ebpf asm --run FILE`",
+        ),
+        Code::L6 => Some("a line `end` closes the program"),
+        Code::H1 if line.contains("0x") => Some("hex digits have no `0x` before them: `ctx 01`"),
+        _ => None,
+    }
+}
+
 /// Says what an input is that isn't hex digits: a refusal of another command, or what objdump
 /// prints.
 fn push_digits(text: &mut String, input: &str) -> Result<(), AllocError> {
@@ -43,6 +60,10 @@ fn push_digits(text: &mut String, input: &str) -> Result<(), AllocError> {
             text,
             "  hint: the input is what objdump prints: {WORDS_OF_OBJECTS}\n"
         )
+    } else if input.contains("0x") {
+        text.push_str("  hint: two digits are a byte, with no `0x` before them\n")
+    } else if input.contains("exit") {
+        text.push_str("  hint: the input is assembly text: `ebpf asm --run` runs it\n")
     } else {
         Ok(())
     }
@@ -54,7 +75,7 @@ fn push_bytes(text: &mut String, bytes: &[u8]) -> Result<(), AllocError> {
         [0x7f, b'E', b'L', b'F', ..] => {
             write!(
                 text,
-                "  hint: the input is an ELF file: {WORDS_OF_OBJECTS}\n"
+                "  hint: the input is an ELF file: `tools/from-elf FILE` makes a run file of it; {WORDS_OF_OBJECTS}\n"
             )
         }
         _ => text.push_str("  hint: `xxd -p` makes hex digits of bytes\n"),

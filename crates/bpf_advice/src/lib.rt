@@ -4,13 +4,19 @@
 #![tactic(auto)]
 
 mod advice;
+mod answers;
 mod caret;
-mod comments;
 mod excerpt;
 mod expected;
 mod finding;
 mod hints;
 mod inputs;
+mod labels;
+mod places;
+mod sights;
+mod sources;
+mod warnings;
 
 pub use advice::{Detail, Details, Input, advise};
 pub use excerpt::Language;
+pub use warnings::warnings_of;

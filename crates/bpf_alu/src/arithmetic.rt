@@ -23,7 +23,7 @@ fn signed_quotient64(a: u64, b: u64) -> u64
         .cast_unsigned()
 }
 
-/// The same of 32 bits.
+/// The quotient of 32-bit signed readings, likewise.
 #[inline]
 #[tactic(auto, unfolding(crate::specs::Arithmetic::arithmetic))]
 fn signed_quotient32(x: u32, y: u32) -> u32
@@ -51,7 +51,7 @@ fn signed_remainder64(a: u64, b: u64) -> u64
         .cast_unsigned()
 }
 
-/// The same of 32 bits.
+/// The remainder of the division of 32-bit signed readings.
 #[inline]
 #[tactic(auto, unfolding(crate::specs::Arithmetic::arithmetic))]
 fn signed_remainder32(x: u32, y: u32) -> u32

@@ -1,16 +1,18 @@
 -- Verdicts by answers are true.
-use Rattle.std.proofs.Common.{◌≡◌, ℕ, zero, suc, ◌+◌, Bool, true, false, not, cond, List, [], ◌∷◌, Option, Some, None, refl, sym, subst, arith}
-use Rattle.std.specs.Prelude.{slice_get}
+use Rattle.std.proofs.Common.{◌≡◌, ℕ, zero, suc, ◌+◌, Bool, true, false, not, cond, List, [], ◌∷◌, Option, Some, None, length, refl, sym, subst, arith}
+use Rattle.std.specs.Prelude.{◌&&◌, slice_get}
 use Rattle.std.specs.List.{position, position_from}
+use Rattle.std.proofs.lemmas.Bool.{eqb-true}
 use Rattle.std.proofs.lemmas.Iterator.Adapters.{position_from-zero}
-use Rattle.bpf_machine.specs.Schedule.{unrolled}
-use Rattle.bpf_explore.specs.Outcomes.{EndsBy, Found}
-use Rattle.bpf_explore.specs.Patient.{EndsPatiently}
+use Rattle.bpf_machine.specs.Schedule.{World, unrolled}
+use Rattle.bpf_explore.specs.Outcomes.{AreOutcomes, EndsBy, Found, HaveAll}
+use Rattle.bpf_explore.specs.Patient.{EndsPatiently, HangsBy, NoneHangs}
 use Rattle.bpf_check.specs.declared.expectation.Often.{Often}
 use Rattle.bpf_check.specs.declared.expectation.Often.TheVariants as often
-use Rattle.bpf_check.specs.Expectation.{Expected, has_line}
-use Rattle.bpf_check.specs.Laws.{PatientVerdictsAreTrue, VerdictsAreTrue}
-use Rattle.bpf_check.specs.Verdict.{IsOutcomeText, IsPatientText, IsTrueOf, decides, decides_by, verdict_at}
+use Rattle.bpf_check.specs.Expectation.{Expected, asks_ends, asks_hung, has_line}
+use Rattle.bpf_check.specs.Findings.{Findings}
+use Rattle.bpf_check.specs.Laws.{ArePatientFindings, PatientVerdictsAreTrue, VerdictsAreTrue}
+use Rattle.bpf_check.specs.Verdict.{AreTrueEnds, Choose, IsOutcomeText, IsPatientText, IsTrueHang, IsTrueOf, IsTruePatiently, IsTrueVerdict, decides, decides_by, ends_verdict, hung_verdict, is_empty, outcome_verdict, verdict_at, verdict_of, verdict_of_ends, verdict_of_hung, verdict_of_none}
 
 -- ---- the first element that passes a test
 module _ {X : Type 0} (test : X → Bool) where
@@ -60,57 +62,128 @@ lie : (b : Bool) → b ≡ true → not b ≡ true → ⊥
 lie true has lacks = cc
 lie false has lacks = cc
 
+-- a list in which nothing is has no elements
+nothing : {X : Type 0} (xs : List X) → is_empty xs ≡ true → xs ≡ []
+nothing [] e = refl
+nothing (x ∷ xs) e = let none : length (x ∷ xs) ≡ 0 = eqb-true (length (x ∷ xs)) 0 e in absurd (omega (arith, none))
+
+first_of : {X : Type 0} (xs : List X) → is_empty xs ≡ false → (x : X) × (slice_get xs 0 ≡ Some x)
+first_of [] e = let no : true ≡ false = e in absurd cc
+first_of (x ∷ xs) e = (x, refl)
+
 -- answers show texts, each by its own schedule
-module _ (IsText : List ℕ → Type 0) (IsAnswer : Found → Type 0) (answers : List Found) (line : List ℕ)
+module _ (IsText : List ℕ → Type 0) (IsAnswer : Found → Type 0) (f : Findings) (line : List ℕ)
     (tells : (found : Found) → IsAnswer found → IsText found.text)
-    (each : (i : ℕ) (found : Found) → slice_get answers i ≡ Some found → IsAnswer found) where
+    (each : (i : ℕ) (found : Found) → slice_get f.answers i ≡ Some found → IsAnswer found) where
   abbrev told : Often → Found → Bool
   told o found = decides_by o (has_line line found.text)
 
   abbrev expects : Often → Expected
   expects o = record { often = o; line = line }
 
-  is_text : (i : ℕ) (found : Found) → slice_get answers i ≡ Some found → IsText found.text
+  is_text : (i : ℕ) (found : Found) → slice_get f.answers i ≡ Some found → IsText found.text
   is_text i found at = tells found (each i found at)
 
   -- none is left out
   abbrev AreAll : Type 0
-  AreAll = (text : List ℕ) → IsText text → (i : ℕ) × (found : Found) × (slice_get answers i ≡ Some found) × (found.text ≡ text)
+  AreAll = (text : List ℕ) → IsText text → (i : ℕ) × (found : Found) × (slice_get f.answers i ≡ Some found) × (found.text ≡ text)
 
   -- of each text holds what holds of each answer's
-  for_each : (P : List ℕ → Type 0) → AreAll → ((i : ℕ) (found : Found) → slice_get answers i ≡ Some found → P found.text)
+  for_each : (P : List ℕ → Type 0) → AreAll → ((i : ℕ) (found : Found) → slice_get f.answers i ≡ Some found → P found.text)
       → (text : List ℕ) → IsText text → P text
   for_each P have here text is = let there = have text is in subst P there.3 (here there.0 there.1 there.2)
 
-  decided : (o : Often) (all : Bool) (place : Option ℕ) → (all ≡ true → AreAll)
-      → Finds (told o) answers place → IsTrueOf IsText IsAnswer answers all (expects o) (verdict_at o place all)
-  decided often.Always all (Some i) have found = (
-    (λ met. let has = met found.0.text (is_text i found.0 found.1) in lie _ has found.2),
+  -- where there is no answer there is no text
+  no_text : AreAll → is_empty f.answers ≡ true → (text : List ℕ) → IsText text → ⊥
+  no_text have none text is =
+      let there = have text is in
+      let at : slice_get [] there.0 ≡ Some there.1 = subst (λ (xs : List Found). slice_get xs there.0 ≡ Some there.1) (nothing f.answers none) there.2 in
+      cc
+
+  some_text : is_empty f.answers ≡ false → (text : List ℕ) × IsText text
+  some_text some = let first = first_of f.answers some in (first.0.text, is_text 0 first.0 first.1)
+
+  -- by no answer
+  undecided : (o : Often) (all none : Bool) → f.all ≡ all → is_empty f.answers ≡ none → (all ≡ true → AreAll)
+      → ((j : ℕ) (found : Found) → slice_get f.answers j ≡ Some found → told o found ≡ false)
+      → IsTrueOf IsText IsAnswer f (expects o) (verdict_of_none o all none)
+  undecided often.Always false none found is have lacks = found
+  undecided often.Sometimes false none found is have lacks = found
+  undecided often.Never false none found is have lacks = found
+  undecided often.Always true true found is have lacks =
+      let no = no_text (have refl) is in ((λ met. no met.1.0 met.1.1), no)
+  undecided often.Always true false found is have lacks =
+      ((λ text there. for_each (λ t. has_line line t ≡ true) (have refl) (λ i answer at. has_it _ (lacks i answer at)) text there), some_text is)
+  undecided often.Sometimes true none found is have lacks =
+      λ met. let no = for_each (λ t. has_line line t ≡ false) (have refl) lacks met.0 met.1 in let has = met.2 in cc
+  undecided often.Never true none found is have lacks =
+      λ text there. for_each (λ t. has_line line t ≡ false) (have refl) lacks text there
+
+  decided : (o : Often) (place : Option ℕ) (all none : Bool) → f.all ≡ all → is_empty f.answers ≡ none → (all ≡ true → AreAll)
+      → Finds (told o) f.answers place → IsTrueOf IsText IsAnswer f (expects o) (verdict_at o place all none)
+  decided o None all none found is have lacks = undecided o all none found is have lacks
+  decided often.Always (Some i) all none whole is have found = (
+    (λ met. let has = met.0 found.0.text (is_text i found.0 found.1) in lie _ has found.2),
     (found.0, found.1, each i found.0 found.1, found.2),
   )
-  decided often.Always true None have none =
-      λ text is. for_each (λ t. has_line line t ≡ true) (have refl) (λ i found at. has_it _ (none i found at)) text is
-  decided often.Always false None have none = refl
-  decided often.Sometimes all (Some i) have found = (found.0.text, is_text i found.0 found.1, found.2)
-  decided often.Sometimes true None have none =
-      λ met. let lacks = for_each (λ t. has_line line t ≡ false) (have refl) none met.0 met.1 in let has = met.2 in cc
-  decided often.Sometimes false None have none = refl
-  decided often.Never all (Some i) have found = (
+  decided often.Sometimes (Some i) all none whole is have found = (found.0.text, is_text i found.0 found.1, found.2)
+  decided often.Never (Some i) all none whole is have found = (
     (λ met. let lacks = met found.0.text (is_text i found.0 found.1) in let has = found.2 in cc),
     (found.0, found.1, each i found.0 found.1, found.2),
   )
-  decided often.Never true None have none =
-      λ text is. for_each (λ t. has_line line t ≡ false) (have refl) none text is
-  decided often.Never false None have none = refl
+
+-- ---- of an exact search
+exact : (w : World) (names : List (List ℕ)) (f : Findings) (e : Expected) → AreOutcomes w names true f.answers
+    → (f.all ≡ true → HaveAll w names true f.answers) → IsTrueVerdict w names f e (outcome_verdict f e)
+exact w names f e are have =
+    decided (IsOutcomeText w names) (EndsBy w names true) f e.line (λ found ends. (found.stopped, (unrolled found.by, ends))) are.each
+    e.often _ f.all (is_empty f.answers) refl refl (λ whole text is. let there = have whole text is.0 is.1 in (there.0, there.1, there.2, there.3))
+    (finds (λ found. decides e found.text) f.answers)
 
 pub verdicts_true : VerdictsAreTrue
-verdicts_true w names answers all e are have =
-    decided (IsOutcomeText w names) (EndsBy w names true) answers e.line (λ found ends. (found.stopped, (unrolled found.by, ends))) are.each
-    e.often all _ (λ whole text is. let there = have whole text is.0 is.1 in (there.0, there.1, there.2, there.3))
-    (finds (λ found. decides e found.text) answers)
+verdicts_true w names f e exactly are have =
+    subst (λ (patient : Bool). IsTrueVerdict w names f e
+    (cond (patient && asks_ends e.often e.line) (ends_verdict f) (cond (patient && asks_hung e.often e.line) (hung_verdict f) (outcome_verdict f e))))
+    (sym exactly) (exact w names f e are have)
+
+-- ---- of a patient one
+patiently : (w : World) (names : List (List ℕ)) (f : Findings) (e : Expected) → ArePatientFindings w names f
+    → IsTrueOf (IsPatientText w names) (EndsPatiently w names true) f e (outcome_verdict f e)
+patiently w names f e are =
+    decided (IsPatientText w names) (EndsPatiently w names true) f e.line (λ found ends. (found.stopped, (unrolled found.by, ends.0, ends.1, ends.2, ends.3, ends.4))) are.outcomes.each
+    e.often _ f.all (is_empty f.answers) refl refl (λ whole text is. let there = are.complete whole text is.0 is.1 in (there.0, there.1, there.2, there.3))
+    (finds (λ found. decides e found.text) f.answers)
+
+hangs : (w : World) (by : List (ℕ × ℕ)) → HangsBy w by → NoneHangs w → ⊥
+hangs w by (z, runs, none, hung) ends = hung (ends (unrolled by) z runs none)
+
+true_ends : (w : World) (names : List (List ℕ)) (f : Findings) → ArePatientFindings w names f → (all none : Bool) → f.all ≡ all → is_empty f.hung ≡ none
+    → AreTrueEnds w f (verdict_of_ends all none)
+true_ends w names f are all false found is =
+    let first = first_of f.hung is in ((λ ends. hangs w first.0 (are.are_hung 0 first.0 first.1) ends), are.are_hung)
+true_ends w names f are true true found is = are.none_hangs found (nothing f.hung is)
+true_ends w names f are false true found is = found
+
+true_hang : (w : World) (names : List (List ℕ)) (f : Findings) → ArePatientFindings w names f → (all none : Bool) → f.all ≡ all → is_empty f.hung ≡ none
+    → IsTrueHang w f (verdict_of_hung all none)
+true_hang w names f are all false found is = let first = first_of f.hung is in (first.0, are.are_hung 0 first.0 first.1)
+true_hang w names f are true true found is = are.none_hangs found (nothing f.hung is)
+true_hang w names f are false true found is = found
+
+-- whichever is asked
+chosen : (w : World) (names : List (List ℕ)) (f : Findings) (e : Expected) → ArePatientFindings w names f → (ends hung : Bool)
+    → Choose ends (AreTrueEnds w f (cond ends (ends_verdict f) (cond hung (hung_verdict f) (outcome_verdict f e))))
+    (Choose hung (IsTrueHang w f (cond ends (ends_verdict f) (cond hung (hung_verdict f) (outcome_verdict f e))))
+    (IsTrueOf (IsPatientText w names) (EndsPatiently w names true) f e (cond ends (ends_verdict f) (cond hung (hung_verdict f) (outcome_verdict f e)))))
+chosen w names f e are true hung = true_ends w names f are f.all (is_empty f.hung) refl refl
+chosen w names f e are false true = true_hang w names f are f.all (is_empty f.hung) refl refl
+chosen w names f e are false false = patiently w names f e are
+
+patient_one : (w : World) (names : List (List ℕ)) (f : Findings) → ArePatientFindings w names f → (e : Expected) → IsTruePatiently w names f e (verdict_of f e)
+patient_one w names f are e =
+    subst (λ (patient : Bool). IsTruePatiently w names f e
+    (cond (patient && asks_ends e.often e.line) (ends_verdict f) (cond (patient && asks_hung e.often e.line) (hung_verdict f) (outcome_verdict f e))))
+    (sym are.patient) (chosen w names f e are (asks_ends e.often e.line) (asks_hung e.often e.line))
 
 pub patient_verdicts_true : PatientVerdictsAreTrue
-patient_verdicts_true w names answers all e are have =
-    decided (IsPatientText w names) (EndsPatiently w names true) answers e.line (λ found ends. (found.stopped, (unrolled found.by, ends.0, ends.1, ends.2, ends.3, ends.4))) are.each
-    e.often all _ (λ whole text is. let there = have whole text is.0 is.1 in (there.0, there.1, there.2, there.3))
-    (finds (λ found. decides e found.text) answers)
+patient_verdicts_true w names f are = (true_ends w names f are f.all (is_empty f.hung) refl refl, patient_one w names f are)

@@ -1,4 +1,7 @@
+pub mod Subjects
 pub mod Expectation
+pub mod Unexpected
+pub mod Findings
 pub mod Verdict
 pub mod Laws
 pub mod Listing

@@ -8,6 +8,8 @@ use Rattle.bpf_check.specs.declared.expectation.Often.TheVariants as often
 use Rattle.bpf_check.specs.declared.judging.Verdict.{Verdict}
 use Rattle.bpf_check.specs.declared.judging.Verdict.TheVariants as verdict
 use Rattle.bpf_check.specs.Expectation.{Expected, often_text}
+use Rattle.bpf_check.specs.Findings.{Findings}
+use Rattle.bpf_check.specs.Verdict.{ends_verdict}
 
 -- ---- the line that is expected
 
@@ -28,6 +30,9 @@ abbrev pub ok_text : Verdict → List ℕ
 ok_text verdict.Holds = codes "ok "
 ok_text (verdict.Shown i) = codes "not ok "
 ok_text verdict.Refuted = codes "not ok "
+ok_text verdict.NoOutcome = codes "not ok "
+ok_text verdict.Hangs = codes "not ok "
+ok_text verdict.NoneHangs = codes "not ok "
 ok_text verdict.Untold = codes "not ok "
 
 -- the schedule of an answer, on a line
@@ -35,59 +40,75 @@ abbrev pub schedule_text : Option Found → List ℕ
 schedule_text None = []
 schedule_text (Some found) = codes "# by" ++ runs_text (length found.by) found.by ++ codes "\n"
 
+-- a schedule to a state from which no end can be reached, on a line
+abbrev pub hung_text : List (ℕ × ℕ) → List ℕ
+hung_text by = codes "# hung by" ++ runs_text (length by) by ++ codes "\n"
+
+-- the first n of them
+abbrev pub hung_lines : ℕ → List (List (ℕ × ℕ)) → List ℕ
+hung_lines zero hung = []
+hung_lines (suc n) hung = hung_lines n hung ++ hung_text (slice_index_or hung n [])
+
 -- why it isn't ok
-abbrev pub reason_text : List Found → Verdict → List ℕ
-reason_text answers verdict.Holds = []
-reason_text answers (verdict.Shown i) = schedule_text (slice_get answers i)
-reason_text answers verdict.Refuted = codes "# no outcome has this line\n"
-reason_text answers verdict.Untold = codes "# not told: not all outcomes were found\n"
+abbrev pub reason_text : Findings → Verdict → List ℕ
+reason_text f verdict.Holds = []
+reason_text f (verdict.Shown i) = schedule_text (slice_get f.answers i)
+reason_text f verdict.Refuted = codes "# no outcome has this line\n"
+reason_text f verdict.NoOutcome = codes "# no outcome\n"
+reason_text f verdict.Hangs = hung_lines (length f.hung) f.hung
+reason_text f verdict.NoneHangs = codes "# every schedule can end\n"
+reason_text f verdict.Untold = codes "# not told: not all outcomes were found\n"
 
 abbrev pub number_text : ℕ → List ℕ
 number_text n = decimal n ++ codes " - "
 
--- a test of this number
-abbrev pub test_text : List Found → ℕ → Expected → Verdict → List ℕ
-test_text answers n e v =
-    ok_text v ++ number_text n ++ expected_text e ++ codes "\n" ++ reason_text answers v
+-- a test of this number, after this name of its file
+abbrev pub test_text : (name : List ℕ) → Findings → ℕ → (what : List ℕ) → Verdict → List ℕ
+test_text name f n what v =
+    ok_text v ++ number_text n ++ name ++ what ++ codes "\n" ++ reason_text f v
 
 abbrev pub no_expectation : Expected
 no_expectation = record { often = often.Always; line = [] }
 
--- the first n tests; they count from 1
-abbrev pub tests_text : List Found → ℕ → List Expected → List Verdict → List ℕ
-tests_text answers zero expected verdicts = []
-tests_text answers (suc n) expected verdicts =
-    tests_text answers n expected verdicts
-    ++ test_text answers (n + 1) (slice_index_or expected n no_expectation)
-    (slice_index_or verdicts n verdict.Untold)
-
--- ---- among the tests of several files
-
--- how a test of this number begins, of a file that has this name
-abbrev pub named_head : (name : List ℕ) → ℕ → Verdict → List ℕ
-named_head name n v = ok_text v ++ number_text n ++ name ++ codes ": "
-
--- a test of this number, behind so many of the files before it
-abbrev pub named_test : (name : List ℕ) → (before : ℕ) → List Found → ℕ → Expected → Verdict → List ℕ
-named_test name before answers n e v =
-    named_head name (before + n) v ++ expected_text e ++ codes "\n" ++ reason_text answers v
-
--- the first n of them
-abbrev pub named_tests : (name : List ℕ) → (before : ℕ) → List Found → ℕ → List Expected
+-- the first n tests, after some number of others
+abbrev pub tests_text : (name : List ℕ) → (before : ℕ) → Findings → ℕ → List Expected
     → List Verdict → List ℕ
-named_tests name before answers zero expected verdicts = []
-named_tests name before answers (suc n) expected verdicts =
-    named_tests name before answers n expected verdicts
-    ++ named_test name before answers (n + 1) (slice_index_or expected n no_expectation)
+tests_text name before f zero expected verdicts = []
+tests_text name before f (suc n) expected verdicts =
+    tests_text name before f n expected verdicts
+    ++ test_text name f (before + (n + 1)) (expected_text (slice_index_or expected n no_expectation))
     (slice_index_or verdicts n verdict.Untold)
+
+-- ---- the first test after a patient search
+
+abbrev pub first_count : Findings → ℕ
+first_count f = if f.patient then 1 else 0
+
+-- whether every schedule can end
+abbrev pub first_text : (name : List ℕ) → (before : ℕ) → Findings → List ℕ
+first_text name before f = if f.patient
+    then test_text name f (before + 1) (codes "every schedule can end") (ends_verdict f) else []
 
 -- ---- all of one file
 
 -- how many tests there are
+abbrev pub count_of : Findings → List Expected → ℕ
+count_of f expected = first_count f + length expected
+
+-- all of them, after the n tests of the files before it
+abbrev pub listed_text : (name : List ℕ) → (before : ℕ) → Findings → List Expected → List Verdict
+    → List ℕ
+listed_text name before f expected verdicts = first_text name before f
+    ++ tests_text name (before + first_count f) f (length expected) expected verdicts
+
 abbrev pub plan_text : ℕ → List ℕ
 plan_text count = codes "1.." ++ (decimal count ++ codes "\n")
 
 -- the plan, and each test
-abbrev pub checked_text : List Found → List Expected → List Verdict → List ℕ
-checked_text answers expected verdicts =
-    plan_text (length expected) ++ tests_text answers (length expected) expected verdicts
+abbrev pub checked_text : Findings → List Expected → List Verdict → List ℕ
+checked_text f expected verdicts =
+    plan_text (count_of f expected) ++ listed_text [] 0 f expected verdicts
+
+-- how a file's name is before what is expected, where it is one of several
+abbrev pub name_text : List ℕ → List ℕ
+name_text name = name ++ codes ": "

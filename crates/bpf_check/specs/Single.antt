@@ -1,10 +1,10 @@
 -- What a run file expects, against what one run of its jobs prints. Our own choice.
-use Rattle.std.specs.Prelude.{◌≡◌, ℕ, zero, suc, ◌+◌, Bool, true, false, not, ◌++◌, List, [], codes, if◌then◌else◌, length, slice_index_or}
+use Rattle.std.specs.Prelude.{◌≡◌, ℕ, zero, suc, ◌+◌, Bool, true, false, not, ◌&&◌, ◌||◌, ◌++◌, List, [], codes, if◌then◌else◌, length, slice_index_or}
 use Rattle.std.specs.List.{list_any}
 use Rattle.bpf_machine.specs.Schedule.{World}
 use Rattle.bpf_check.specs.declared.expectation.Often.{Often}
 use Rattle.bpf_check.specs.declared.expectation.Often.TheVariants as often
-use Rattle.bpf_check.specs.Expectation.{Expected, has_line}
+use Rattle.bpf_check.specs.Expectation.{Expected, asks_of_ends, has_line}
 use Rattle.bpf_check.specs.Listing.{expected_text, no_expectation, number_text, plan_text}
 use Rattle.bpf_check.specs.Verdict.{IsMet, IsOutcomeText, Meet}
 
@@ -17,19 +17,21 @@ is_refuted_by often.Sometimes has = false
 is_refuted_by often.Never has = has
 
 abbrev pub is_refuted : List ℕ → Expected → Bool
-is_refuted text e = is_refuted_by e.often (has_line e.line text)
+is_refuted text e =
+    not (asks_of_ends e.often e.line) && is_refuted_by e.often (has_line e.line text)
 
 abbrev pub is_any_refuted : List ℕ → List Expected → Bool
 is_any_refuted text expected = list_any (λ e. is_refuted text e) expected
 
--- nor does it show that they are: another outcome may have the line
+-- nor does it show that they are: another outcome may have the line; and if schedules can end, no
+-- single one decides
 abbrev pub is_open_by : Often → Bool → Bool
 is_open_by often.Always has = false
 is_open_by often.Sometimes has = not has
 is_open_by often.Never has = false
 
 abbrev pub is_open : List ℕ → Expected → Bool
-is_open text e = is_open_by e.often (has_line e.line text)
+is_open text e = asks_of_ends e.often e.line || is_open_by e.often (has_line e.line text)
 
 -- SO WHAT ONE RUN REFUTES DOESN'T HOLD of the outcomes of all schedules, of which its own is one;
 -- what it neither refutes nor leaves open would hold if there were no other
@@ -44,8 +46,10 @@ abbrev pub refuted_text : Bool → List ℕ
 refuted_text refuted = if refuted then codes "not ok " else codes "ok "
 
 -- a test that is left open is skipped, in TAP's form
-abbrev pub open_text : Bool → List ℕ
-open_text left = if left then codes " # SKIP this run doesn't print it\n" else codes "\n"
+abbrev pub open_text : (asks left : Bool) → List ℕ
+open_text asks false = codes "\n"
+open_text true true = codes " # SKIP one run can't tell it\n"
+open_text false true = codes " # SKIP this run doesn't print it\n"
 
 abbrev pub shown_text : Often → List ℕ
 shown_text often.Always = codes "# this run doesn't print it\n"
@@ -60,7 +64,7 @@ why_text o refuted = if refuted then shown_text o else []
 abbrev pub judged_test : List ℕ → ℕ → Expected → List ℕ
 judged_test text n e =
     refuted_text (is_refuted text e) ++ number_text n ++ expected_text e
-    ++ open_text (is_open text e) ++ why_text e.often (is_refuted text e)
+    ++ open_text (asks_of_ends e.often e.line) (is_open text e) ++ why_text e.often (is_refuted text e)
 
 -- the first n tests; they count from 1
 abbrev pub judged_tests : List ℕ → ℕ → List Expected → List ℕ

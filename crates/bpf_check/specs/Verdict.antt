@@ -1,25 +1,27 @@
--- Whether outcomes are as expected, and what answers of a search say of that.
-use Rattle.std.specs.Prelude.{◌≡◌, ℕ, Bool, true, false, not, List, Option, Some, None, map, slice_get}
+-- Whether outcomes are as expected, and what the findings of a search say of that.
+use Rattle.std.specs.Prelude.{◌≡◌, ℕ, ◌==◌, ◌&&◌, ◌||◌, Bool, true, false, not, if◌then◌else◌, List, Option, Some, None, length, map, slice_get}
 use Rattle.std.specs.List.{list_any, position}
 use Rattle.bpf_machine.specs.Schedule.{World}
 use Rattle.bpf_explore.specs.Outcomes.{Found, EndsBy, IsOutcome}
-use Rattle.bpf_explore.specs.Patient.{EndsPatiently, IsPatientOutcome}
+use Rattle.bpf_explore.specs.Patient.{AreHung, EndsPatiently, HangsBy, IsPatientOutcome, NoneHangs}
 use Rattle.bpf_check.specs.declared.expectation.Often.{Often}
 use Rattle.bpf_check.specs.declared.expectation.Often.TheVariants as often
 use Rattle.bpf_check.specs.declared.judging.Verdict.{Verdict}
 use Rattle.bpf_check.specs.declared.judging.Verdict.TheVariants as verdict
 use Rattle.bpf_check.specs.declared.judging.Conclusion.{Conclusion}
 use Rattle.bpf_check.specs.declared.judging.Conclusion.TheVariants as conclusion
-use Rattle.bpf_check.specs.Expectation.{Expected, has_line}
+use Rattle.bpf_check.specs.Expectation.{Expected, asks_ends, asks_hung, has_line}
+use Rattle.bpf_check.specs.Findings.{Findings}
 
 -- ---- what is expected
 
 abbrev pub MeetBy : (List ℕ → Type 0) → List ℕ → Often → Type 0
-MeetBy IsText line often.Always = (text : List ℕ) → IsText text → has_line line text ≡ true
+MeetBy IsText line often.Always =
+    ((text : List ℕ) → IsText text → has_line line text ≡ true) × ((text : List ℕ) × IsText text)
 MeetBy IsText line often.Sometimes = (text : List ℕ) × IsText text × (has_line line text ≡ true)
 MeetBy IsText line often.Never = (text : List ℕ) → IsText text → has_line line text ≡ false
 
--- the texts are as expected: each has the line, some has it, or none has
+-- the texts are as expected: each has the line, and there is one; some has it; or none has
 abbrev pub Meet : (List ℕ → Type 0) → Expected → Type 0
 Meet IsText e = MeetBy IsText e.line e.often
 
@@ -31,46 +33,86 @@ IsOutcomeText w names text = (stopped : Bool) × IsOutcome w names true text sto
 abbrev pub IsMet : World → List (List ℕ) → Expected → Type 0
 IsMet w names e = Meet (IsOutcomeText w names) e
 
--- ---- what answers say of it
+-- ---- what findings say of it
 
 abbrev pub decides_by : Often → Bool → Bool
 decides_by often.Always has = not has
 decides_by often.Sometimes has = has
 decides_by often.Never has = has
 
--- whether an outcome of this text alone tells whether they are: of `always`, one without the line; of
+-- whether an outcome of this text alone decides whether they are: of `always`, one without the line; of
 -- the others, one with it
 abbrev pub decides : Expected → List ℕ → Bool
 decides e text = decides_by e.often (has_line e.line text)
 
--- by the place of the first answer that tells it, and whether all are there
-abbrev pub verdict_at : Often → Option ℕ → Bool → Verdict
-verdict_at often.Sometimes (Some i) all = verdict.Holds
-verdict_at often.Sometimes None true = verdict.Refuted
-verdict_at often.Sometimes None false = verdict.Untold
-verdict_at o (Some i) all = verdict.Shown i
-verdict_at o None true = verdict.Holds
-verdict_at o None false = verdict.Untold
+-- where no answer decides: whether they are all, and whether there is one
+abbrev pub verdict_of_none : Often → (all none : Bool) → Verdict
+verdict_of_none o false none = verdict.Untold
+verdict_of_none often.Always true true = verdict.NoOutcome
+verdict_of_none often.Always true false = verdict.Holds
+verdict_of_none often.Sometimes true none = verdict.Refuted
+verdict_of_none often.Never true none = verdict.Holds
+
+-- by the place of the first answer that decides
+abbrev pub verdict_at : Often → Option ℕ → (all none : Bool) → Verdict
+verdict_at o None all none = verdict_of_none o all none
+verdict_at often.Always (Some i) all none = verdict.Shown i
+verdict_at often.Sometimes (Some i) all none = verdict.Holds
+verdict_at often.Never (Some i) all none = verdict.Shown i
+
+abbrev pub is_empty : {X : Type 0} → List X → Bool
+is_empty xs = length xs == 0
+
+-- of outcomes
+abbrev pub outcome_verdict : Findings → Expected → Verdict
+outcome_verdict f e =
+    verdict_at e.often (position (λ found. decides e found.text) f.answers) f.all (is_empty f.answers)
+
+-- whether each schedule can end: whether all was found, and nothing that hangs
+abbrev pub verdict_of_ends : (all none : Bool) → Verdict
+verdict_of_ends all false = verdict.Hangs
+verdict_of_ends true true = verdict.Holds
+verdict_of_ends false true = verdict.Untold
+
+abbrev pub ends_verdict : Findings → Verdict
+ends_verdict f = verdict_of_ends f.all (is_empty f.hung)
+
+-- whether some can't
+abbrev pub verdict_of_hung : (all none : Bool) → Verdict
+verdict_of_hung all false = verdict.Holds
+verdict_of_hung true true = verdict.NoneHangs
+verdict_of_hung false true = verdict.Untold
+
+abbrev pub hung_verdict : Findings → Verdict
+hung_verdict f = verdict_of_hung f.all (is_empty f.hung)
 
 -- THE VERDICT
-abbrev pub verdict_of : List Found → Bool → Expected → Verdict
-verdict_of answers all e = verdict_at e.often (position (λ found. decides e found.text) answers) all
+abbrev pub verdict_of : Findings → Expected → Verdict
+verdict_of f e =
+    if f.patient && asks_ends e.often e.line then ends_verdict f
+    else (if f.patient && asks_hung e.often e.line then hung_verdict f else outcome_verdict f e)
 
-abbrev pub verdicts_of : List Found → Bool → List Expected → List Verdict
-verdicts_of answers all expected = map (verdict_of answers all) expected
+abbrev pub verdicts_of : Findings → List Expected → List Verdict
+verdicts_of f expected = map (verdict_of f) expected
 
 -- ---- all of them
 
 abbrev pub is_refused : Verdict → Bool
 is_refused verdict.Holds = false
 is_refused (verdict.Shown i) = true
+is_refused verdict.Hangs = true
 is_refused verdict.Refuted = true
+is_refused verdict.NoOutcome = true
+is_refused verdict.NoneHangs = true
 is_refused verdict.Untold = false
 
 abbrev pub is_untold : Verdict → Bool
 is_untold verdict.Holds = false
 is_untold (verdict.Shown i) = false
+is_untold verdict.Hangs = false
 is_untold verdict.Refuted = false
+is_untold verdict.NoOutcome = false
+is_untold verdict.NoneHangs = false
 is_untold verdict.Untold = true
 
 abbrev pub concluded : Bool → Bool → Conclusion
@@ -78,9 +120,12 @@ concluded true untold = conclusion.Unmet
 concluded false true = conclusion.Untold
 concluded false false = conclusion.Met
 
--- one isn't met; none of them, but one couldn't be told; or all are met
-abbrev pub conclusion_of : List Verdict → Conclusion
-conclusion_of verdicts = concluded (list_any is_refused verdicts) (list_any is_untold verdicts)
+-- of the tests of a file, of which a patient search's first asks if each schedule can end: one isn't
+-- met; none of them, but one couldn't be decided; or all are met
+abbrev pub conclusion_of : Findings → List Verdict → Conclusion
+conclusion_of f verdicts = concluded
+    ((f.patient && is_refused (ends_verdict f)) || list_any is_refused verdicts)
+    ((f.patient && is_untold (ends_verdict f)) || list_any is_untold verdicts)
 
 -- ---- verdicts are true
 
@@ -90,23 +135,48 @@ IsShownAt IsAnswer answers e i = (found : Found) × (slice_get answers i ≡ Som
     × IsAnswer found × (decides e found.text ≡ true)
 
 -- what a verdict says of texts, of which answers by their schedules show some
-abbrev pub IsTrueOf : (IsText : List ℕ → Type 0) → (IsAnswer : Found → Type 0) → List Found → Bool
-    → Expected → Verdict → Type 0
-IsTrueOf IsText IsAnswer answers all e verdict.Holds = Meet IsText e
-IsTrueOf IsText IsAnswer answers all e (verdict.Shown i) =
-    (Meet IsText e → ⊥) × IsShownAt IsAnswer answers e i
-IsTrueOf IsText IsAnswer answers all e verdict.Refuted = Meet IsText e → ⊥
-IsTrueOf IsText IsAnswer answers all e verdict.Untold = all ≡ false
+abbrev pub IsTrueOf : (IsText : List ℕ → Type 0) → (IsAnswer : Found → Type 0) → Findings → Expected
+    → Verdict → Type 0
+IsTrueOf IsText IsAnswer f e verdict.Holds = Meet IsText e
+IsTrueOf IsText IsAnswer f e (verdict.Shown i) =
+    (Meet IsText e → ⊥) × IsShownAt IsAnswer f.answers e i
+IsTrueOf IsText IsAnswer f e verdict.Refuted = Meet IsText e → ⊥
+IsTrueOf IsText IsAnswer f e verdict.NoOutcome =
+    (Meet IsText e → ⊥) × ((text : List ℕ) → IsText text → ⊥)
+IsTrueOf IsText IsAnswer f e verdict.Untold = f.all ≡ false
+IsTrueOf IsText IsAnswer f e verdict.Hangs = ⊥
+IsTrueOf IsText IsAnswer f e verdict.NoneHangs = ⊥
 
 -- of all schedules
-abbrev pub IsTrueVerdict : World → List (List ℕ) → List Found → Bool → Expected → Verdict → Type 0
-IsTrueVerdict w names answers all e v =
-    IsTrueOf (IsOutcomeText w names) (EndsBy w names true) answers all e v
+abbrev pub IsTrueVerdict : World → List (List ℕ) → Findings → Expected → Verdict → Type 0
+IsTrueVerdict w names f e v = IsTrueOf (IsOutcomeText w names) (EndsBy w names true) f e v
 
 -- of those in which no job is out of budget
 abbrev pub IsPatientText : World → List (List ℕ) → List ℕ → Type 0
 IsPatientText w names text = (stopped : Bool) × IsPatientOutcome w names true text stopped
 
-abbrev pub IsTruePatiently : World → List (List ℕ) → List Found → Bool → Expected → Verdict → Type 0
-IsTruePatiently w names answers all e v =
-    IsTrueOf (IsPatientText w names) (EndsPatiently w names true) answers all e v
+-- of whether each of them can end: none hangs; some does, and each schedule that is shown leads to a
+-- state from which no end can be reached
+abbrev pub AreTrueEnds : World → Findings → Verdict → Type 0
+AreTrueEnds w f verdict.Holds = NoneHangs w
+AreTrueEnds w f verdict.Hangs = (NoneHangs w → ⊥) × AreHung w f.hung
+AreTrueEnds w f verdict.Untold = f.all ≡ false
+AreTrueEnds w f _ = ⊥
+
+-- of whether some can't
+abbrev pub IsTrueHang : World → Findings → Verdict → Type 0
+IsTrueHang w f verdict.Holds = (by : List (ℕ × ℕ)) × HangsBy w by
+IsTrueHang w f verdict.NoneHangs = NoneHangs w
+IsTrueHang w f verdict.Untold = f.all ≡ false
+IsTrueHang w f _ = ⊥
+
+-- one of both claims
+abbrev pub Choose : Bool → Type 0 → Type 0 → Type 0
+Choose true Claim Other = Claim
+Choose false Claim Other = Other
+
+-- whichever an expectation asks
+abbrev pub IsTruePatiently : World → List (List ℕ) → Findings → Expected → Verdict → Type 0
+IsTruePatiently w names f e v = Choose (asks_ends e.often e.line) (AreTrueEnds w f v)
+    (Choose (asks_hung e.often e.line) (IsTrueHang w f v)
+    (IsTrueOf (IsPatientText w names) (EndsPatiently w names true) f e v))

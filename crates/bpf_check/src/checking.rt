@@ -1,25 +1,24 @@
-//! What a run file expects, against what its jobs may come to.
+//! What a run file expects, against what its jobs can reach.
 
-ghost use Rattle.std.specs.Prelude.{◌≡◌, IfOk, length, string_bytes};
-ghost use Rattle.bpf_check.specs.Expectation.{expectations_of};
-ghost use Rattle.bpf_check.specs.Listing.{checked_text, named_tests};
+ghost use Rattle.std.specs.Prelude.{◌≡◌, ◌++◌, IfOk, string_bytes};
+ghost use Rattle.bpf_check.specs.Listing.{checked_text, count_of, listed_text, name_text, plan_text};
 ghost use Rattle.bpf_check.specs.Verdict.{conclusion_of, verdicts_of};
 
-use crate::expectation::expectations;
+use crate::expectation::Expectation;
+use crate::findings::Findings;
 use crate::judging::{Conclusion, conclusion_of, judge_all};
-use crate::listing::{list_checked, list_named};
-use bpf_explore::Explored;
+use crate::listing::{first_count, list_tests, plan};
 use std::alloc::{AllocError, Global};
 
-/// What is printed of a file's expectations, and what it comes to.
+/// What is printed of a file's expectations, and what it amounts to.
 #[derive(Drop)]
 pub struct Checked {
     pub text: String,
     pub conclusion: Conclusion,
 }
 
-/// What is printed of a file's expectations among those of several files, how many they are, and what
-/// it comes to.
+/// What is printed of a file's expectations among those of several files, how many tests they are, and
+/// what it amounts to.
 #[derive(Drop)]
 pub struct CheckedPart {
     pub text: String,
@@ -27,52 +26,83 @@ pub struct CheckedPart {
     pub conclusion: Conclusion,
 }
 
-/// The same of a file that has this name, behind so many tests of the files before it. Want of memory,
-/// or of numbers for tests, is the only refusal.
+/// The tests of a file, with this before what is expected, after the n tests of the files before it.
+/// Want of memory, or of numbers for tests, is the only refusal.
+fn check_part(
+    alloc: Global,
+    name: &str,
+    before: usize,
+    expectations: &[Expectation],
+    findings: &Findings,
+) -> Result<CheckedPart, AllocError>
+    ensures text { IfOk result (λ part. string_bytes part.text
+        ≡ listed_text name.now before findings.now expectations.now
+        (verdicts_of findings.now expectations.now)) }
+    ensures tests { IfOk result (λ part.
+        part.tests ≡ count_of findings.now expectations.now) }
+    ensures conclusion { IfOk result (λ part. part.conclusion
+        ≡ conclusion_of findings.now (verdicts_of findings.now expectations.now)) }
+{
+    let most = expectations.len().checked_add(1).ok_or(AllocError)?;
+    if before.checked_add(most).is_none() {
+        return Err(AllocError);
+    }
+    let verdicts = judge_all(alloc, findings, expectations)?;
+    let text = list_tests(alloc, name, before, findings, expectations, &verdicts)?;
+    Ok(CheckedPart {
+        text,
+        tests: first_count(findings) + expectations.len(),
+        conclusion: conclusion_of(findings, &verdicts),
+    })
+}
+
+/// The tests of a file of this name among several, after the n tests of the files before it. Want of
+/// memory, or of numbers for tests, is the only refusal.
 pub fn check_named(
     alloc: Global,
     name: &str,
     before: usize,
-    text: &[u8],
-    explored: &Explored,
+    expectations: &[Expectation],
+    findings: &Findings,
 ) -> Result<CheckedPart, AllocError>
     ensures text { IfOk result (λ part. string_bytes part.text
-        ≡ named_tests name.now before explored.now.answers.items (length (expectations_of text.now))
-        (expectations_of text.now)
-        (verdicts_of explored.now.answers.items explored.now.all (expectations_of text.now))) }
-    ensures tests { IfOk result (λ part. part.tests ≡ length (expectations_of text.now)) }
-    ensures conclusion { IfOk result (λ part. part.conclusion ≡ conclusion_of
-        (verdicts_of explored.now.answers.items explored.now.all (expectations_of text.now))) }
+        ≡ listed_text (name_text name.now) before findings.now expectations.now
+        (verdicts_of findings.now expectations.now)) }
+    ensures tests { IfOk result (λ part.
+        part.tests ≡ count_of findings.now expectations.now) }
+    ensures conclusion { IfOk result (λ part. part.conclusion
+        ≡ conclusion_of findings.now (verdicts_of findings.now expectations.now)) }
 {
-    let expected = expectations(alloc, text)?;
-    if before.checked_add(expected.len()).is_none() {
-        return Err(AllocError);
-    }
-    let verdicts = judge_all(alloc, &explored.answers, explored.all, &expected)?;
-    let text = list_named(alloc, name, before, &explored.answers, &expected, &verdicts)?;
-    Ok(CheckedPart {
-        text,
-        tests: expected.len(),
-        conclusion: conclusion_of(&verdicts),
-    })
+    let name = format!(in alloc; "{name}: ")?;
+    check_part(alloc, name.as_str(), before, expectations, findings)
 }
 
-/// Judges what the comments of a run file expect by what a search through its schedules found. Want
-/// of memory is the only refusal.
+/// The plan of some tests, and the tests.
+fn planned(alloc: Global, part: &CheckedPart) -> Result<String, AllocError>
+    ensures { IfOk result (λ text. string_bytes text
+        ≡ plan_text part.now.tests ++ string_bytes part.now.text) }
+{
+    let mut text = plan(alloc, part.tests)?;
+    text.push_str(part.text.as_str())?;
+    Ok(text)
+}
+
+/// Judges what is expected of a run file by what a search through its schedules found. Want of memory is
+/// the only refusal.
 pub fn check_explored(
     alloc: Global,
-    text: &[u8],
-    explored: &Explored,
+    expectations: &[Expectation],
+    findings: &Findings,
 ) -> Result<Checked, AllocError>
     ensures text { IfOk result (λ checked. string_bytes checked.text
-        ≡ checked_text explored.now.answers.items (expectations_of text.now)
-        (verdicts_of explored.now.answers.items explored.now.all (expectations_of text.now))) }
-    ensures conclusion { IfOk result (λ checked. checked.conclusion ≡ conclusion_of
-        (verdicts_of explored.now.answers.items explored.now.all (expectations_of text.now))) }
+        ≡ checked_text findings.now expectations.now (verdicts_of findings.now expectations.now)) }
+    ensures conclusion { IfOk result (λ checked. checked.conclusion
+        ≡ conclusion_of findings.now (verdicts_of findings.now expectations.now)) }
 {
-    let expected = expectations(alloc, text)?;
-    let verdicts = judge_all(alloc, &explored.answers, explored.all, &expected)?;
-    let text = list_checked(alloc, &explored.answers, &expected, &verdicts)?;
-    let conclusion = conclusion_of(&verdicts);
-    Ok(Checked { text, conclusion })
+    let part = check_part(alloc, "", 0, expectations, findings)?;
+    let text = planned(alloc, &part)?;
+    Ok(Checked {
+        text,
+        conclusion: part.conclusion,
+    })
 }

@@ -1,10 +1,11 @@
 //! What a run file expects of its outcomes, in its comments.
 
-ghost use Rattle.std.specs.Prelude.{◌≡◌, ◌≤◌, ◌++◌, IfOk, OnOk, length, map};
+ghost use Rattle.std.specs.Prelude.{◌≡◌, ◌≤◌, ◌++◌, false, IfErr, IfOk, IfSome, None, OnOk, length, map};
 ghost use Rattle.std.specs.List.{before_first};
-ghost use Rattle.bpf_lines.specs.Lines.{fields_of};
-ghost use Rattle.bpf_check.specs.Expectation.{Expected, begins_line, comment_of, expectations_of, expected_in, has_line, is_mark, is_often, often_in, often_text, words_behind};
+ghost use Rattle.bpf_check.specs.Expectation.{are_exchanged, asks_ends, asks_hung, asks_of_ends, can_expect, comment_of, expectations_of, expected_by, expected_in, first_amiss, is_amiss, is_claim, is_mark, is_near, is_often, often_in, often_text, seems_often, words_behind, words_of};
+ghost use Rattle.bpf_check.specs.Unexpected.{IsUnexpected};
 
+use crate::subjects::{Subjects, is};
 use bpf_lines::lines::{fields, first_line};
 use std::alloc::{AllocError, Global};
 use std::marker::Model;
@@ -86,13 +87,6 @@ impl Expectation {
     }
 }
 
-/// Whether a line of what is printed begins with a word.
-fn begins_line(word: &[u8]) -> bool
-    ensures { result ≡ begins_line word.now }
-{
-    "job".as_bytes() == word || "map".as_bytes() == word || "keys".as_bytes() == word
-}
-
 /// The line of these words, one blank between two.
 fn joined(alloc: Global, first: &[u8], more: &[&[u8]]) -> Result<Vec<u8>, AllocError>
     ensures { IfOk result (λ line. line.items
@@ -106,24 +100,128 @@ fn joined(alloc: Global, first: &[u8], more: &[&[u8]]) -> Result<Vec<u8>, AllocE
     Ok(line)
 }
 
-/// What the words of a comment expect, if they say so.
-fn expected_in(alloc: Global, words: &[&[u8]]) -> Result<Option<Expectation>, AllocError>
-    ensures { IfOk result (λ found. found ≡ expected_in (map (λ f. f.now) words.now)) }
+/// Whether a line asks if each schedule can end.
+pub(crate) fn asks_ends(often: Often, line: &[u8]) -> bool
+    ensures { result ≡ asks_ends often line.now }
 {
-    let [word, first, more @ ..] = words else {
-        return Ok(None);
-    };
-    if !begins_line(first) {
-        return Ok(None);
+    match often {
+        Often::Always => is(line, "ends"),
+        Often::Sometimes | Often::Never => false,
     }
+}
+
+/// Whether it asks if some schedule can't.
+pub(crate) fn asks_hung(often: Often, line: &[u8]) -> bool
+    ensures { result ≡ asks_hung often line.now }
+{
+    match often {
+        Often::Sometimes => is(line, "hung"),
+        Often::Always | Often::Never => false,
+    }
+}
+
+/// Whether it asks either.
+pub(crate) fn asks_of_ends(often: Often, line: &[u8]) -> bool
+    ensures { result ≡ asks_of_ends often line.now }
+{
+    asks_ends(often, line) || asks_hung(often, line)
+}
+
+/// Whether this can be expected of a file's outcomes.
+fn can_expect(subjects: &Subjects, often: Often, first: &[u8], more: &[&[u8]]) -> bool
+    ensures { result ≡ can_expect subjects.now often first.now (map (λ f. f.now) more.now) }
+{
+    match more {
+        [] => subjects.ends() && asks_of_ends(often, first),
+        _ => subjects.can_print(first, more),
+    }
+}
+
+/// What a word that may say how often and the words of a line expect, if they say so.
+#[tactic(auto, unfolding(crate::specs::Expectation::expected_by))]
+fn expected_by(
+    alloc: Global,
+    subjects: &Subjects,
+    word: &[u8],
+    first: &[u8],
+    more: &[&[u8]],
+) -> Result<Option<Expectation>, AllocError>
+    ensures { IfOk result (λ found. found
+        ≡ expected_by subjects.now word.now first.now (map (λ f. f.now) more.now)) }
+{
     let Some(often) = Often::spelled(word) else {
         return Ok(None);
     };
+    if !can_expect(subjects, often, first, more) {
+        return Ok(None);
+    }
     let line = joined(alloc, first, more)?;
     Ok(Some(Expectation { often, line }))
 }
 
-/// How much of a line stands before its first `;`.
+/// What the words of a comment expect, if they say so.
+fn expected_in(
+    alloc: Global,
+    subjects: &Subjects,
+    words: &[&[u8]],
+) -> Result<Option<Expectation>, AllocError>
+    ensures { IfOk result (λ found.
+        found ≡ expected_in subjects.now (map (λ f. f.now) words.now)) }
+{
+    match words {
+        [] | [_] => Ok(None),
+        [word, first, more @ ..] => expected_by(alloc, subjects, word, first, more),
+    }
+}
+
+/// Whether words begin with the same two bytes in the other order, and are else the same.
+fn are_exchanged(word: &[u8], other: &[u8]) -> bool
+    ensures { result ≡ are_exchanged word.now other.now }
+{
+    match (word, other) {
+        ([first, second, bytes @ ..], [own, next, others @ ..]) => {
+            first == next && second == own && bytes == others
+        }
+        _ => false,
+    }
+}
+
+/// Whether one edit at most makes a word of the other.
+fn is_near(word: &[u8], other: &[u8]) -> bool
+    ensures { result ≡ is_near word.now other.now }
+{
+    match (word, other) {
+        ([], _) => other.len() <= 1,
+        ([_, bytes @ ..], []) => bytes.is_empty(),
+        ([byte, bytes @ ..], [own, others @ ..]) => {
+            if byte == own {
+                is_near(bytes, others)
+            } else {
+                bytes == others || word == others || bytes == other || are_exchanged(word, other)
+            }
+        }
+    }
+}
+
+/// Whether a word seems to say how often.
+fn seems_often(word: &[u8]) -> bool
+    ensures { result ≡ seems_often word.now }
+{
+    is_near(word, b"always") || is_near(word, b"sometimes") || is_near(word, b"never")
+}
+
+/// Whether the words of a comment are meant to expect something.
+fn is_claim(words: &[&[u8]]) -> bool
+    ensures { result ≡ is_claim (map (λ f. f.now) words.now) }
+{
+    match words {
+        [] | [_] => false,
+        [word, second] => seems_often(word) && (is(second, "ends") || is(second, "hung")),
+        [word, ..] => seems_often(word),
+    }
+}
+
+/// How much of a line is before its first `;`.
 fn mark_in(line: &[u8]) -> usize
     ensures value { result ≡ length (before_first is_mark line.now) }
     ensures bound { result ≤ length line.now }
@@ -131,7 +229,7 @@ fn mark_in(line: &[u8]) -> usize
     line.iter().take_while(|byte| **byte != b';').count()
 }
 
-/// What stands behind a line's first `;`.
+/// What is after a line's first `;`.
 fn comment_of<'a>(line: &'a [u8]) -> &'a [u8]
     ensures { result.now ≡ comment_of line.now }
 {
@@ -144,25 +242,96 @@ fn comment_of<'a>(line: &'a [u8]) -> &'a [u8]
 }
 
 /// What the comment of a line expects, if it says so.
-fn expectation_in(alloc: Global, line: &[u8]) -> Result<Option<Expectation>, AllocError>
-    ensures { IfOk result (λ found. found ≡ expected_in (fields_of (comment_of line.now))) }
+fn expectation_in(
+    alloc: Global,
+    subjects: &Subjects,
+    line: &[u8],
+) -> Result<Option<Expectation>, AllocError>
+    ensures { IfOk result (λ found. found ≡ expected_in subjects.now (words_of line.now)) }
 {
     let words = fields(alloc, comment_of(line))?;
-    expected_in(alloc, &words)
+    expected_in(alloc, subjects, &words)
 }
 
-/// What the comments of a run file expect, in the order of its lines.
-pub fn expectations(alloc: Global, text: &[u8]) -> Result<Vec<Expectation>, AllocError>
-    ensures { IfOk result (λ found. found.items ≡ expectations_of text.now) }
+/// Whether the comment of a line is meant to expect something, and can't.
+fn is_amiss(alloc: Global, subjects: &Subjects, line: &[u8]) -> Result<bool, AllocError>
+    ensures { IfOk result (λ amiss. amiss ≡ is_amiss subjects.now (words_of line.now)) }
+{
+    let words = fields(alloc, comment_of(line))?;
+    if !is_claim(&words) {
+        return Ok(false);
+    }
+    let expected = expected_in(alloc, subjects, &words)?;
+    Ok(expected.is_none())
+}
+
+/// The first line whose comment is meant to expect something and can't, counted from 0.
+fn first_amiss(alloc: Global, subjects: &Subjects, text: &[u8]) -> Result<Option<usize>, AllocError>
+    ensures value { IfOk result (λ place. place ≡ first_amiss subjects.now text.now) }
+    ensures bound { IfOk result (λ place. IfSome place (λ n. n ≤ length text.now)) }
+{
+    let mut number = 0;
+    let mut rest = Some(text);
+    'lines: while let Some(left) = rest {
+        let (line, behind) = first_line(left);
+        if is_amiss(alloc, subjects, line)? {
+            return Ok(Some(number));
+        }
+        number += 1;
+        rest = behind;
+    }
+    Ok(None)
+}
+
+/// What the comments of a run file expect that outcomes can have, in the order of its lines.
+fn expected_of(
+    alloc: Global,
+    subjects: &Subjects,
+    text: &[u8],
+) -> Result<Vec<Expectation>, AllocError>
+    ensures { IfOk result (λ found. found.items ≡ expectations_of subjects.now text.now) }
 {
     let mut found = Vec::new(alloc);
     let mut rest = Some(text);
     'lines: while let Some(left) = rest {
         let (line, behind) = first_line(left);
-        if let Some(expectation) = expectation_in(alloc, line)? {
+        if let Some(expectation) = expectation_in(alloc, subjects, line)? {
             found.push(expectation)?;
         }
         rest = behind;
     }
     Ok(found)
+}
+
+/// Why a run file's comments aren't what its outcomes are compared with.
+#[derive(Clone, Copy)]
+pub enum Unexpected {
+    /// The comment of the line of this number, counted from 0, is meant to expect something, and can't.
+    At(usize),
+    OutOfMemory,
+}
+
+/// What the comments of a run file expect, in the order of its lines: a comment that is meant to expect
+/// something and can't is refused, or passed over where that is asked for.
+pub fn expectations(
+    alloc: Global,
+    subjects: &Subjects,
+    lenient: bool,
+    text: &[u8],
+) -> Result<Vec<Expectation>, Unexpected>
+    ensures found { IfOk result (λ found. found.items ≡ expectations_of subjects.now text.now) }
+    ensures none { OnOk result (lenient ≡ false → first_amiss subjects.now text.now ≡ None) }
+    ensures amiss { IfErr result (λ e. IsUnexpected subjects.now lenient text.now e) }
+{
+    if !lenient {
+        match first_amiss(alloc, subjects, text) {
+            Ok(Some(number)) => return Err(Unexpected::At(number)),
+            Ok(None) => {}
+            Err(_) => return Err(Unexpected::OutOfMemory),
+        }
+    }
+    match expected_of(alloc, subjects, text) {
+        Ok(found) => Ok(found),
+        Err(_) => Err(Unexpected::OutOfMemory),
+    }
 }

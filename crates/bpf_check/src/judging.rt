@@ -1,10 +1,11 @@
-//! What answers say of expectations.
+//! What the findings of a search say of expectations.
 
 ghost use Rattle.std.specs.Prelude.{◌≡◌, IfOk};
 ghost use Rattle.std.specs.List.{list_any, position};
-ghost use Rattle.bpf_check.specs.Verdict.{conclusion_of, decides, is_refused, is_untold, verdict_at, verdict_of, verdicts_of};
+ghost use Rattle.bpf_check.specs.Verdict.{conclusion_of, decides, ends_verdict, hung_verdict, is_refused, is_untold, outcome_verdict, verdict_at, verdict_of, verdict_of_ends, verdict_of_hung, verdict_of_none, verdicts_of};
 
-use crate::expectation::{Expectation, Often};
+use crate::expectation::{Expectation, Often, asks_ends, asks_hung};
+use crate::findings::Findings;
 use crate::lines::has_line;
 use bpf_explore::Answer;
 use std::alloc::{AllocError, Global};
@@ -17,22 +18,28 @@ pub enum Verdict {
     Shown(usize),
     /// They aren't: no outcome has the line.
     Refuted,
-    /// No answer tells it, and they aren't all.
+    /// They aren't: there is no outcome at all.
+    NoOutcome,
+    /// Not every schedule can end: what is hung shows it.
+    Hangs,
+    /// None is hung, where one is to be.
+    NoneHangs,
+    /// What was found doesn't decide it, and it isn't all.
     Untold,
 }
 
-/// What all verdicts come to.
+/// What all verdicts amount to.
 #[derive(Clone, Copy)]
 pub enum Conclusion {
     /// All is as expected.
     Met,
     /// Something isn't.
     Unmet,
-    /// Something couldn't be told, and all else is as expected.
+    /// Something couldn't be decided, and all else is as expected.
     Untold,
 }
 
-/// Whether an outcome of this text alone tells whether outcomes are as expected.
+/// Whether an outcome of this text alone says whether outcomes are as expected.
 fn decides(expectation: &Expectation, text: &str) -> bool
     ensures { result ≡ decides expectation.now text.now }
 {
@@ -43,7 +50,7 @@ fn decides(expectation: &Expectation, text: &str) -> bool
     }
 }
 
-/// The place of the first answer that tells it.
+/// The place of the first answer that says it.
 fn first_deciding(answers: &[Answer], expectation: &Expectation) -> Option<usize>
     ensures { result ≡ position (λ found. decides expectation.now found.text) answers.now }
 {
@@ -52,47 +59,121 @@ fn first_deciding(answers: &[Answer], expectation: &Expectation) -> Option<usize
         .position(|answer| decides(expectation, answer.text()))
 }
 
-/// The verdict by the place of the first answer that tells it, and whether all are there.
-fn verdict_at(often: Often, first: Option<usize>, all: bool) -> Verdict
-    ensures { result ≡ verdict_at often first all }
+/// The verdict where no answer decides: whether they are all, and whether there is one.
+fn verdict_of_none(often: Often, all: bool, none: bool) -> Verdict
+    ensures { result ≡ verdict_of_none often all none }
 {
-    match (often, first) {
-        (Often::Sometimes, Some(_)) => Verdict::Holds,
-        (Often::Sometimes, None) if all => Verdict::Refuted,
-        (_, Some(place)) => Verdict::Shown(place),
-        (_, None) if all => Verdict::Holds,
-        (_, None) => Verdict::Untold,
+    if !all {
+        return Verdict::Untold;
+    }
+    match often {
+        Often::Always if none => Verdict::NoOutcome,
+        Often::Sometimes => Verdict::Refuted,
+        Often::Always | Often::Never => Verdict::Holds,
     }
 }
 
-/// What answers say of an expectation, which are all outcomes or not.
-pub fn judge(answers: &[Answer], all: bool, expectation: &Expectation) -> Verdict
-    ensures { result ≡ verdict_of answers.now all expectation.now }
+/// The verdict by the place of the first answer that decides.
+fn verdict_at(often: Often, first: Option<usize>, all: bool, none: bool) -> Verdict
+    ensures { result ≡ verdict_at often first all none }
 {
+    let Some(place) = first else {
+        return verdict_of_none(often, all, none);
+    };
+    match often {
+        Often::Sometimes => Verdict::Holds,
+        Often::Always | Often::Never => Verdict::Shown(place),
+    }
+}
+
+/// What the outcomes say of an expectation.
+fn outcome_verdict(findings: &Findings, expectation: &Expectation) -> Verdict
+    ensures { result ≡ outcome_verdict findings.now expectation.now }
+{
+    let answers = findings.answers();
     let first = first_deciding(answers, expectation);
-    verdict_at(expectation.often(), first, all)
+    verdict_at(
+        expectation.often(),
+        first,
+        findings.all(),
+        answers.is_empty(),
+    )
+}
+
+fn verdict_of_ends(all: bool, none: bool) -> Verdict
+    ensures { result ≡ verdict_of_ends all none }
+{
+    match (all, none) {
+        (_, false) => Verdict::Hangs,
+        (true, true) => Verdict::Holds,
+        (false, true) => Verdict::Untold,
+    }
+}
+
+/// Whether each schedule can end.
+pub fn ends_verdict(findings: &Findings) -> Verdict
+    ensures { result ≡ ends_verdict findings.now }
+{
+    verdict_of_ends(findings.all(), findings.hung().is_empty())
+}
+
+fn verdict_of_hung(all: bool, none: bool) -> Verdict
+    ensures { result ≡ verdict_of_hung all none }
+{
+    match (all, none) {
+        (_, false) => Verdict::Holds,
+        (true, true) => Verdict::NoneHangs,
+        (false, true) => Verdict::Untold,
+    }
+}
+
+/// Whether some schedule can't end.
+fn hung_verdict(findings: &Findings) -> Verdict
+    ensures { result ≡ hung_verdict findings.now }
+{
+    verdict_of_hung(findings.all(), findings.hung().is_empty())
+}
+
+/// What the findings say of an expectation.
+pub fn judge(findings: &Findings, expectation: &Expectation) -> Verdict
+    ensures { result ≡ verdict_of findings.now expectation.now }
+{
+    let often = expectation.often();
+    if findings.is_patient() && asks_ends(often, expectation.line()) {
+        ends_verdict(findings)
+    } else if findings.is_patient() && asks_hung(often, expectation.line()) {
+        hung_verdict(findings)
+    } else {
+        outcome_verdict(findings, expectation)
+    }
 }
 
 /// What they say of each.
 pub(crate) fn judge_all(
     alloc: Global,
-    answers: &[Answer],
-    all: bool,
+    findings: &Findings,
     expectations: &[Expectation],
 ) -> Result<Vec<Verdict>, AllocError>
     ensures { IfOk result (λ verdicts. verdicts.items
-        ≡ verdicts_of answers.now all expectations.now) }
+        ≡ verdicts_of findings.now expectations.now) }
 {
     expectations
         .iter()
-        .map(|expectation| judge(answers, all, expectation))
+        .map(|expectation| judge(findings, expectation))
         .collect(alloc)
 }
 
 fn is_refused(verdict: Verdict) -> bool
     ensures { result ≡ is_refused verdict }
 {
-    matches!(verdict, Verdict::Shown(_) | Verdict::Refuted)
+    match verdict {
+        Verdict::Shown(_)
+        | Verdict::Refuted
+        | Verdict::NoOutcome
+        | Verdict::Hangs
+        | Verdict::NoneHangs => true,
+        Verdict::Holds | Verdict::Untold => false,
+    }
 }
 
 fn is_untold(verdict: Verdict) -> bool
@@ -113,13 +194,15 @@ fn is_any_untold(verdicts: &[Verdict]) -> bool
     verdicts.iter().any(|verdict| is_untold(*verdict))
 }
 
-/// What verdicts come to.
-pub fn conclusion_of(verdicts: &[Verdict]) -> Conclusion
-    ensures { result ≡ conclusion_of verdicts.now }
+/// What verdicts amount to, with that of a patient search's first test.
+pub fn conclusion_of(findings: &Findings, verdicts: &[Verdict]) -> Conclusion
+    ensures { result ≡ conclusion_of findings.now verdicts.now }
 {
-    if is_any_refused(verdicts) {
+    let patient = findings.is_patient();
+    let ends = ends_verdict(findings);
+    if patient && is_refused(ends) || is_any_refused(verdicts) {
         Conclusion::Unmet
-    } else if is_any_untold(verdicts) {
+    } else if patient && is_untold(ends) || is_any_untold(verdicts) {
         Conclusion::Untold
     } else {
         Conclusion::Met

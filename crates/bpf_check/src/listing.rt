@@ -1,11 +1,13 @@
 //! Verdicts as they are printed, in the form of TAP.
 
-ghost use Rattle.std.specs.Prelude.{◌≡◌, ◌<◌, ◌+◌, ◌^◌, ◌++◌, IfOk, OnOk, Some, length, map, string_bytes};
-ghost use Rattle.bpf_check.specs.Listing.{checked_text, expected_text, is_line_byte, named_head, named_test, named_tests, number_text, ok_text, plan_text, reason_text, schedule_text, shown_byte, test_text};
+ghost use Rattle.std.specs.Prelude.{◌≡◌, ◌<◌, ◌≤◌, ◌+◌, ◌^◌, ◌++◌, IfOk, OnOk, Some, codes, length, map, string_bytes};
+ghost use Rattle.bpf_check.specs.Listing.{expected_text, first_count, first_text, hung_lines, hung_text, is_line_byte, listed_text, number_text, ok_text, plan_text, reason_text, schedule_text, shown_byte, test_text, tests_text};
+ghost use Rattle.bpf_check.specs.Verdict.{ends_verdict};
 
 use crate::expectation::Expectation;
-use crate::judging::Verdict;
-use bpf_explore::Answer;
+use crate::findings::Findings;
+use crate::judging::{Verdict, ends_verdict};
+use bpf_explore::{Answer, Hung};
 use bpf_lines::words::is_word_byte;
 use bpf_schedule::push_runs;
 use std::alloc::{AllocError, Global};
@@ -25,7 +27,7 @@ fn shown_byte(byte: u8) -> u8
     if is_line_byte(byte) { byte } else { b'?' }
 }
 
-/// Puts a line that is expected behind the text.
+/// Appends a line that is expected to the text.
 fn push_line(text: &mut String, line: &[u8]) -> Result<(), AllocError>
     ensures { OnOk result (string_bytes text.new
         ≡ string_bytes text.old ++ map shown_byte line.now) }
@@ -36,7 +38,7 @@ fn push_line(text: &mut String, line: &[u8]) -> Result<(), AllocError>
     Ok(())
 }
 
-/// Puts an expectation behind the text.
+/// Appends an expectation to the text.
 pub(crate) fn push_expected(text: &mut String, expectation: &Expectation) -> Result<(), AllocError>
     ensures { OnOk result (string_bytes text.new
         ≡ string_bytes text.old ++ expected_text expectation.now) }
@@ -52,11 +54,16 @@ fn ok_text(verdict: Verdict) -> &'static str
 {
     match verdict {
         Verdict::Holds => "ok ",
-        Verdict::Shown(_) | Verdict::Refuted | Verdict::Untold => "not ok ",
+        Verdict::Shown(_)
+        | Verdict::Refuted
+        | Verdict::NoOutcome
+        | Verdict::Hangs
+        | Verdict::NoneHangs
+        | Verdict::Untold => "not ok ",
     }
 }
 
-/// Puts the number of a test behind the text.
+/// Appends the number of a test to the text.
 pub(crate) fn push_number(alloc: Global, text: &mut String, number: usize) -> Result<(), AllocError>
     ensures { OnOk result (string_bytes text.new ≡ string_bytes text.old ++ number_text number) }
 {
@@ -64,7 +71,7 @@ pub(crate) fn push_number(alloc: Global, text: &mut String, number: usize) -> Re
     text.push_str(number.as_str())
 }
 
-/// Puts the schedule of an answer behind the text, on a line.
+/// Appends the schedule of an answer to the text, on a line.
 fn push_schedule(alloc: Global, text: &mut String, answer: &Answer) -> Result<(), AllocError>
     ensures { OnOk result (string_bytes text.new
         ≡ string_bytes text.old ++ schedule_text (Some answer.now)) }
@@ -74,82 +81,151 @@ fn push_schedule(alloc: Global, text: &mut String, answer: &Answer) -> Result<()
     text.push_str("\n")
 }
 
-/// Puts behind the text why a test isn't ok.
+/// Appends a schedule to a hung state to the text, on a line.
+fn push_hung(alloc: Global, text: &mut String, hung: &Hung) -> Result<(), AllocError>
+    ensures { OnOk result (string_bytes text.new ≡ string_bytes text.old ++ hung_text hung.now) }
+{
+    text.push_str("# hung by")?;
+    push_runs(alloc, text, hung.by())?;
+    text.push_str("\n")
+}
+
+/// Appends the schedule to each hung state to the text, a line each.
+fn push_all_hung(alloc: Global, text: &mut String, hung: &[Hung]) -> Result<(), AllocError>
+    ensures { OnOk result (string_bytes text.new
+        ≡ string_bytes text.old ++ hung_lines (length hung.now) hung.now) }
+{
+    for found in hung {
+        push_hung(alloc, text, found)?;
+    }
+    Ok(())
+}
+
+/// Appends to the text why a test isn't ok.
 fn push_reason(
     alloc: Global,
     text: &mut String,
-    answers: &[Answer],
+    findings: &Findings,
     verdict: Verdict,
 ) -> Result<(), AllocError>
     ensures { OnOk result (string_bytes text.new
-        ≡ string_bytes text.old ++ reason_text answers.now verdict) }
+        ≡ string_bytes text.old ++ reason_text findings.now verdict) }
 {
     match verdict {
         Verdict::Holds => Ok(()),
-        Verdict::Shown(place) => match answers.get(place) {
+        Verdict::Shown(place) => match findings.answers().get(place) {
             Some(answer) => push_schedule(alloc, text, answer),
             None => Ok(()),
         },
         Verdict::Refuted => text.push_str("# no outcome has this line\n"),
+        Verdict::NoOutcome => text.push_str("# no outcome\n"),
+        Verdict::Hangs => push_all_hung(alloc, text, findings.hung()),
+        Verdict::NoneHangs => text.push_str("# every schedule can end\n"),
         Verdict::Untold => text.push_str("# not told: not all outcomes were found\n"),
     }
 }
 
-/// Puts the test of this number behind the text.
+/// Appends to the text how a test begins: whether it is ok, its number and its file's name.
+fn push_head(
+    alloc: Global,
+    text: &mut String,
+    name: &str,
+    number: usize,
+    verdict: Verdict,
+) -> Result<(), AllocError>
+    ensures { OnOk result (string_bytes text.new ≡ string_bytes text.old
+        ++ (ok_text verdict ++ number_text number ++ name.now)) }
+{
+    text.push_str(ok_text(verdict))?;
+    push_number(alloc, text, number)?;
+    text.push_str(name)
+}
+
+/// Appends the test of this number to the text.
 fn push_test(
     alloc: Global,
     text: &mut String,
-    answers: &[Answer],
+    name: &str,
+    findings: &Findings,
     number: usize,
     expectation: &Expectation,
     verdict: Verdict,
 ) -> Result<(), AllocError>
-    ensures { OnOk result (string_bytes text.new
-        ≡ string_bytes text.old ++ test_text answers.now number expectation.now verdict) }
-{
-    text.push_str(ok_text(verdict))?;
-    push_number(alloc, text, number)?;
-    push_expected(text, expectation)?;
-    text.push_str("\n")?;
-    push_reason(alloc, text, answers, verdict)
-}
-
-/// Puts behind the text how a test of a file among several begins.
-fn push_named_head(
-    alloc: Global,
-    text: &mut String,
-    name: &str,
-    number: usize,
-    verdict: Verdict,
-) -> Result<(), AllocError>
-    ensures { OnOk result (string_bytes text.new
-        ≡ string_bytes text.old ++ named_head name.now number verdict) }
-{
-    text.push_str(ok_text(verdict))?;
-    push_number(alloc, text, number)?;
-    text.push_str(name)?;
-    text.push_str(": ")
-}
-
-/// Puts a test of a file among several behind the text: its number, and the name of the file.
-fn push_named_test(
-    alloc: Global,
-    text: &mut String,
-    name: &str,
-    answers: &[Answer],
-    before: usize,
-    number: usize,
-    expectation: &Expectation,
-    verdict: Verdict,
-) -> Result<(), AllocError>
-    requires { before + number < 2 ^ 64 }
     ensures { OnOk result (string_bytes text.new ≡ string_bytes text.old
-        ++ named_test name.now before answers.now number expectation.now verdict) }
+        ++ test_text name.now findings.now number (expected_text expectation.now) verdict) }
 {
-    push_named_head(alloc, text, name, before + number, verdict)?;
+    push_head(alloc, text, name, number, verdict)?;
     push_expected(text, expectation)?;
     text.push_str("\n")?;
-    push_reason(alloc, text, answers, verdict)
+    push_reason(alloc, text, findings, verdict)
+}
+
+/// How many tests a search has before those of expectations: one after a patient search.
+pub fn first_count(findings: &Findings) -> usize
+    ensures count { result ≡ first_count findings.now }
+    ensures small { result ≤ 1 }
+{
+    if findings.is_patient() { 1 } else { 0 }
+}
+
+/// Appends the test of this number to the text, of what is stated.
+fn push_stated(
+    alloc: Global,
+    text: &mut String,
+    name: &str,
+    findings: &Findings,
+    number: usize,
+    what: &str,
+    verdict: Verdict,
+) -> Result<(), AllocError>
+    ensures { OnOk result (string_bytes text.new ≡ string_bytes text.old
+        ++ test_text name.now findings.now number what.now verdict) }
+{
+    push_head(alloc, text, name, number, verdict)?;
+    text.push_str(what)?;
+    text.push_str("\n")?;
+    push_reason(alloc, text, findings, verdict)
+}
+
+/// Appends the first test after a patient search to the text: whether every schedule can end.
+fn push_first(
+    alloc: Global,
+    text: &mut String,
+    name: &str,
+    findings: &Findings,
+    number: usize,
+) -> Result<(), AllocError>
+    ensures { OnOk result (string_bytes text.new ≡ string_bytes text.old
+        ++ test_text name.now findings.now number (codes "every schedule can end")
+        (ends_verdict findings.now)) }
+{
+    let verdict = ends_verdict(findings);
+    push_stated(
+        alloc,
+        text,
+        name,
+        findings,
+        number,
+        "every schedule can end",
+        verdict,
+    )
+}
+
+/// The text of the first test after a patient search; empty after another.
+fn first_text(
+    alloc: Global,
+    name: &str,
+    before: usize,
+    findings: &Findings,
+) -> Result<String, AllocError>
+    requires { before + 1 < 2 ^ 64 }
+    ensures { IfOk result (λ text. string_bytes text ≡ first_text name.now before findings.now) }
+{
+    let mut text = String::new(alloc);
+    if findings.is_patient() {
+        push_first(alloc, &mut text, name, findings, before + 1)?;
+    }
+    Ok(text)
 }
 
 /// The line that says how many tests there are.
@@ -159,61 +235,63 @@ pub fn plan(alloc: Global, count: usize) -> Result<String, AllocError>
     format!(in alloc; "1..{count}\n")
 }
 
-/// The text of all tests of a file among several: their numbers go on behind those of the files before
-/// it, and each names its file.
-pub fn list_named(
+/// Appends the tests of expectations to the text: an expectation a test, each with its verdict.
+fn push_tests(
     alloc: Global,
+    text: &mut String,
     name: &str,
     before: usize,
-    answers: &[Answer],
+    findings: &Findings,
     expectations: &[Expectation],
     verdicts: &[Verdict],
-) -> Result<String, AllocError>
+) -> Result<(), AllocError>
     requires same { length verdicts.now ≡ length expectations.now }
     requires room { before + length expectations.now < 2 ^ 64 }
-    ensures { IfOk result (λ text. string_bytes text ≡ named_tests name.now before answers.now
-        (length expectations.now) expectations.now verdicts.now) }
+    ensures { OnOk result (string_bytes text.new ≡ string_bytes text.old
+        ++ tests_text name.now before findings.now (length expectations.now) expectations.now
+        verdicts.now) }
 {
-    let mut text = String::new(alloc);
     for place in 0..expectations.len() {
         let expectation = &expectations[place];
-        let number = place + 1;
-        push_named_test(
+        let number = before + (place + 1);
+        push_test(
             alloc,
-            &mut text,
+            text,
             name,
-            answers,
-            before,
+            findings,
             number,
             expectation,
             verdicts[place],
         )?;
     }
-    Ok(text)
+    Ok(())
 }
 
-/// The text of all tests: an expectation a test, each with its verdict by these answers.
-pub fn list_checked(
+/// The text of all tests of a file, after the n tests of the files before it; each has the name before what
+/// is expected.
+pub fn list_tests(
     alloc: Global,
-    answers: &[Answer],
+    name: &str,
+    before: usize,
+    findings: &Findings,
     expectations: &[Expectation],
     verdicts: &[Verdict],
 ) -> Result<String, AllocError>
-    requires { length verdicts.now ≡ length expectations.now }
+    requires same { length verdicts.now ≡ length expectations.now }
+    requires room { before + (1 + length expectations.now) < 2 ^ 64 }
     ensures { IfOk result (λ text. string_bytes text
-        ≡ checked_text answers.now expectations.now verdicts.now) }
+        ≡ listed_text name.now before findings.now expectations.now verdicts.now) }
 {
-    let mut text = plan(alloc, expectations.len())?;
-    for place in 0..expectations.len() {
-        let expectation = &expectations[place];
-        push_test(
-            alloc,
-            &mut text,
-            answers,
-            place + 1,
-            expectation,
-            verdicts[place],
-        )?;
-    }
+    let mut text = first_text(alloc, name, before, findings)?;
+    let before = before + first_count(findings);
+    push_tests(
+        alloc,
+        &mut text,
+        name,
+        before,
+        findings,
+        expectations,
+        verdicts,
+    )?;
     Ok(text)
 }

@@ -1,10 +1,10 @@
 //! What a run file expects, against what one run of its jobs prints.
 
 ghost use Rattle.std.specs.Prelude.{◌≡◌, ◌++◌, IfOk, OnOk, string_bytes};
-ghost use Rattle.bpf_check.specs.Expectation.{expectations_of, has_line};
-ghost use Rattle.bpf_check.specs.Single.{is_any_refuted, is_open, is_refuted, judged_test, judged_text, open_text, refuted_text, shown_text, why_text};
+ghost use Rattle.bpf_check.specs.Expectation.{asks_of_ends, has_line};
+ghost use Rattle.bpf_check.specs.Single.{is_any_refuted, is_open, is_open_by, is_refuted, is_refuted_by, judged_test, judged_text, open_text, refuted_text, shown_text, why_text};
 
-use crate::expectation::{Expectation, Often, expectations};
+use crate::expectation::{self, Expectation, Often};
 use crate::lines::has_line;
 use crate::listing::{plan, push_expected, push_number};
 use std::alloc::{AllocError, Global};
@@ -22,27 +22,46 @@ fn has_expected(printed: &str, expectation: &Expectation) -> bool
     has_line(expectation.line(), printed.as_bytes())
 }
 
-/// Whether what is printed shows that outcomes aren't as expected.
-fn is_refuted(printed: &str, expectation: &Expectation) -> bool
-    ensures { result ≡ is_refuted printed.now expectation.now }
+/// Whether it is asked if schedules can end.
+fn asks_of_ends(expectation: &Expectation) -> bool
+    ensures { result ≡ asks_of_ends expectation.now.often expectation.now.line }
 {
-    let has = has_expected(printed, expectation);
-    match expectation.often() {
+    expectation::asks_of_ends(expectation.often(), expectation.line())
+}
+
+fn is_refuted_by(often: Often, has: bool) -> bool
+    ensures { result ≡ is_refuted_by often has }
+{
+    match often {
         Often::Always => !has,
         Often::Sometimes => false,
         Often::Never => has,
     }
 }
 
-/// Whether another outcome may have to tell it.
+/// Whether what is printed shows that outcomes aren't as expected.
+fn is_refuted(printed: &str, expectation: &Expectation) -> bool
+    ensures { result ≡ is_refuted printed.now expectation.now }
+{
+    let has = has_expected(printed, expectation);
+    !asks_of_ends(expectation) && is_refuted_by(expectation.often(), has)
+}
+
+fn is_open_by(often: Often, has: bool) -> bool
+    ensures { result ≡ is_open_by often has }
+{
+    match often {
+        Often::Sometimes => !has,
+        Often::Always | Often::Never => false,
+    }
+}
+
+/// Whether one outcome can't decide it.
 fn is_open(printed: &str, expectation: &Expectation) -> bool
     ensures { result ≡ is_open printed.now expectation.now }
 {
     let has = has_expected(printed, expectation);
-    match expectation.often() {
-        Often::Sometimes => !has,
-        Often::Always | Often::Never => false,
-    }
+    asks_of_ends(expectation) || is_open_by(expectation.often(), has)
 }
 
 fn is_any_refuted(printed: &str, expectations: &[Expectation]) -> bool
@@ -60,14 +79,14 @@ fn refuted_text(refuted: bool) -> &'static str
     if refuted { "not ok " } else { "ok " }
 }
 
-/// How it ends.
-fn open_text(left: bool) -> &'static str
-    ensures { result.now ≡ open_text left }
+/// How it ends: where one outcome doesn't decide it, that it is skipped.
+fn open_text(asks: bool, left: bool) -> &'static str
+    ensures { result.now ≡ open_text asks left }
 {
-    if left {
-        " # SKIP this run doesn't print it\n"
-    } else {
-        "\n"
+    match (left, asks) {
+        (true, true) => " # SKIP one run can't tell it\n",
+        (true, false) => " # SKIP this run doesn't print it\n",
+        (false, _) => "\n",
     }
 }
 
@@ -89,7 +108,7 @@ fn why_text(often: Often, refuted: bool) -> &'static str
     if refuted { shown_text(often) } else { "" }
 }
 
-/// Puts the test of this number behind the text.
+/// Appends the test of this number to the text.
 fn push_judged(
     alloc: Global,
     text: &mut String,
@@ -104,7 +123,8 @@ fn push_judged(
     text.push_str(refuted_text(refuted))?;
     push_number(alloc, text, number)?;
     push_expected(text, expectation)?;
-    text.push_str(open_text(is_open(printed, expectation)))?;
+    let left = is_open(printed, expectation);
+    text.push_str(open_text(asks_of_ends(expectation), left))?;
     text.push_str(why_text(expectation.often(), refuted))
 }
 
@@ -124,16 +144,19 @@ fn list_judged(
     Ok(text)
 }
 
-/// Judges what the comments of a run file expect by what a run of its jobs printed. Want of memory is
-/// the only refusal.
-pub fn check_printed(alloc: Global, text: &[u8], printed: &str) -> Result<Judged, AllocError>
+/// Judges what is expected of a run file by what a run of its jobs printed. Want of memory is the only
+/// refusal.
+pub fn check_printed(
+    alloc: Global,
+    expectations: &[Expectation],
+    printed: &str,
+) -> Result<Judged, AllocError>
     ensures text { IfOk result (λ judged. string_bytes judged.text
-        ≡ judged_text printed.now (expectations_of text.now)) }
+        ≡ judged_text printed.now expectations.now) }
     ensures refuted { IfOk result (λ judged. judged.refuted
-        ≡ is_any_refuted printed.now (expectations_of text.now)) }
+        ≡ is_any_refuted printed.now expectations.now) }
 {
-    let expected = expectations(alloc, text)?;
-    let text = list_judged(alloc, printed, &expected)?;
-    let refuted = is_any_refuted(printed, &expected);
+    let text = list_judged(alloc, printed, expectations)?;
+    let refuted = is_any_refuted(printed, expectations);
     Ok(Judged { text, refuted })
 }

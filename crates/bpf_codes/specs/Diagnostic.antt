@@ -1,4 +1,4 @@
--- What is printed of a refusal: its code and, behind it, the number of the place that it names. Our
+-- What is printed of a refusal: its code and, after it, the number of the place that it names. Our
 -- own choice.
 use Rattle.std.specs.Prelude.{ℕ, ◌++◌, List, [], codes}
 use Rattle.std.specs.Fmt.{decimal}

@@ -52,6 +52,7 @@ pub enum Code {
     L8,
     L9,
     L10,
+    L11,
     S1,
     S2,
     S3,
@@ -63,7 +64,7 @@ pub enum Code {
 }
 
 /// All codes.
-pub const CODES: [Code; 54] = [
+pub const CODES: [Code; 55] = [
     Code::A1,
     Code::A2,
     Code::A3,
@@ -110,6 +111,7 @@ pub const CODES: [Code; 54] = [
     Code::L8,
     Code::L9,
     Code::L10,
+    Code::L11,
     Code::S1,
     Code::S2,
     Code::S3,
@@ -175,6 +177,7 @@ impl Code {
             Code::L8 => "L8",
             Code::L9 => "L9",
             Code::L10 => "L10",
+            Code::L11 => "L11",
             Code::S1 => "S1",
             Code::S2 => "S2",
             Code::S3 => "S3",

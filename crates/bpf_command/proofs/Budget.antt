@@ -76,7 +76,7 @@ flags_fine rows fine =
     let listed = range.default_fine (codes "budget") 0 MAX_BUDGET (codes "listing") (codes "false" ∷ []) first refl (explained_fine rows fine) in
     range.default_fine (codes "budget") 0 MAX_BUDGET (codes "run") (codes "false" ∷ []) second refl listed
 
--- no option behind the budget has a default
+-- no option after the budget has a default
 behind_budget : (rows : List Row) → HasBudget rows → HasBudget (with_default (with_default rows (filled context)) (filled file))
 behind_budget rows has =
     let second = with_default rows (filled context) in

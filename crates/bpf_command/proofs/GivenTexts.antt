@@ -1,4 +1,4 @@
--- The texts that the matches' getters give are those that stand among the rows.
+-- The texts that the matches' getters give are those that are among the rows.
 use Rattle.std.proofs.Common.{◌≡◌, ◌∙◌, ap, List, [], ◌∷◌, Bool, ◌||◌, codes, map, refl, false, Option, Some, None, option_map, unwrap_or}
 use Rattle.clap.specs.Words.{Row, Text, all_of, matched_of, raw_values, rows_of}
 use Rattle.clap.specs.declared.parser.matches.Found.{Found}
@@ -11,7 +11,7 @@ use Rattle.bpf_command.specs.CommandLine.{names_input, given_texts}
 pub texts_in_rows : (f : Found) (id : Text) → option_map raw_values (matched_of f id) ≡ all_of id (rows_of f)
 texts_in_rows = raw_values-rows
 
--- texts that stand among the rows
+-- texts that are among the rows
 pub some_texts : (id : Text) (rows : List Row) (texts : List Text) → Some texts ≡ all_of id rows → texts ≡ given_texts id rows
 some_texts id rows texts is = ap (λ (o : Option (List Text)). unwrap_or o []) is
 

@@ -7,7 +7,7 @@ use Rattle.clap.specs.Faults.{level_fault}
 use Rattle.clap.specs.Walk.{with_default, values_or_missing, Held, Row, Rule, Text, answers_to, finished, has_row, nothing_held, rows_after, settled, walk}
 use Rattle.clap.specs.Words.{fault_of, subcommand_of}
 use Rattle.bpf_command.specs.declared.command.TheConstants.{MAX_LIMIT}
-use Rattle.bpf_command.specs.CommandLine.{HasLimit, IsSearchName, check, ebpf, explained, explore, file, files, json, limit, patient, progress, races, show, sync}
+use Rattle.bpf_command.specs.CommandLine.{HasLimit, IsSearchName, check, ebpf, explained, explore, file, files, json, lenient, limit, patient, progress, races, show, sync}
 use Rattle.bpf_command.proofs.Limited.{limited_keeps, with_limited}
 use Rattle.bpf_command.proofs.Ranges as range
 use Rattle.bpf_command.proofs.Ranges.{no_default}
@@ -73,13 +73,17 @@ explained_keeps : Keeps AreFine false (filled explained)
 explained_keeps values rows e fine =
     range.other_used_fine (codes "limit") 0 MAX_LIMIT (codes "explain") (values_or_missing (filled explained) values) rows refl fine
 
+lenient_keeps : Keeps AreFine false (filled lenient)
+lenient_keeps values rows e fine =
+    range.other_used_fine (codes "limit") 0 MAX_LIMIT (codes "lenient") (values_or_missing (filled lenient) values) rows refl fine
+
 explore_keeps : range.AllKeep (codes "limit") 0 MAX_LIMIT explore_rules
 explore_keeps =
     (explained_keeps, (patient_keeps, (json_keeps, (progress_keeps, (races_keep, (sync_keeps, (limit_keeps, (show_keeps, (file_keeps, ((λ values rows e fine. fine), tt))))))))))
 
 check_keeps : range.AllKeep (codes "limit") 0 MAX_LIMIT check_rules
 check_keeps =
-    (explained_keeps, (patient_keeps, (json_keeps, (progress_keeps, (limit_keeps, (files_keep, ((λ values rows e fine. fine), tt)))))))
+    (explained_keeps, (patient_keeps, (json_keeps, (progress_keeps, (lenient_keeps, (limit_keeps, (files_keep, ((λ values rows e fine. fine), tt))))))))
 
 -- ---- the rows
 
@@ -112,8 +116,16 @@ asking_fine rows fine =
 limited_asking : (rows : List Row) → AreFine rows → HasLimit (with_default (asking rows) (filled limit))
 limited_asking rows fine = with_limited (codes "limit") MAX_LIMIT refl refl (asking rows) (asking_fine rows fine)
 
-limited_fine : (rows : List Row) → AreFine rows → HasLimit (with_default (waiting rows) (filled limit))
-limited_fine rows fine = with_limited (codes "limit") MAX_LIMIT refl refl (waiting rows) (waiting_fine rows fine)
+-- or `--lenient`
+abbrev passing : List Row → List Row
+passing rows = with_default (waiting rows) (filled lenient)
+
+passing_fine : (rows : List Row) → AreFine rows → AreFine (passing rows)
+passing_fine rows fine =
+    range.default_fine (codes "limit") 0 MAX_LIMIT (codes "lenient") (codes "false" ∷ []) (waiting rows) refl (waiting_fine rows fine)
+
+limited_fine : (rows : List Row) → AreFine rows → HasLimit (with_default (passing rows) (filled limit))
+limited_fine rows fine = with_limited (codes "limit") MAX_LIMIT refl refl (passing rows) (passing_fine rows fine)
 
 finished_explore : (h : Held) → AreFine (settled explore_rules h).rows → HasLimit (finished explore_rules h)
 finished_explore h fine =
@@ -130,7 +142,7 @@ finished_explore h fine =
 finished_check : (h : Held) → AreFine (settled check_rules h).rows → HasLimit (finished check_rules h)
 finished_check h fine =
     let rows = (settled check_rules h).rows in
-    let first = with_default (waiting rows) (filled limit) in
+    let first = with_default (passing rows) (filled limit) in
     let second = with_default first (filled files) in
     let same = no_default (has_row (codes "help") second) second ∙ no_default (has_row (codes "file") first) first in
     subst HasLimit (sym same) (limited_fine rows fine)

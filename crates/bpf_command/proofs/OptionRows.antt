@@ -1,8 +1,8 @@
 -- An option's values among the rows that a parse found are those that the matches' getters give.
 use Rattle.std.proofs.Common.{cond, true, false, ◌≡◌, ◌<◌, ◌≤◌, ◌^◌, ◌∙◌, List, ℕ, Option, Some, None, Result, Ok, Err, codes, inr, refl, arith, subst, ap, sym}
 use Rattle.std.specs.Prelude.{IfSome, IsSomeAnd, option_and_then}
-use Rattle.bpf_codes.specs.Code.{code_of}
-use Rattle.bpf_codes.specs.declared.code.Code.{Code}
+use Rattle.bpf_explain.specs.Term.{topic_of}
+use Rattle.bpf_explain.specs.declared.topic.Topic.{Topic}
 use Rattle.std.specs.Str.{bytes_eq}
 use Rattle.std.specs.Str.Parse.{ParsesUnsigned}
 use Rattle.clap.specs.Matches.{ReadsOne}
@@ -102,7 +102,7 @@ pub limited : (id : Text) (most : ℕ) (rows : List Row) (n : Option ℕ) → Is
 limited id most rows None h = tt
 limited id most rows (Some n) h = named_limited most (one_of id rows) n h.0
 
--- what the getter gives of the file is what stands among the rows
+-- what the getter gives of the file is what is among the rows
 pub no_file : (f : Found) → first_value f (codes "file") ≡ None → None ≡ file_in (rows_of f)
 no_file f none = ap (option_and_then file_named) (sym none ∙ first_value-rows f (codes "file"))
 
@@ -117,10 +117,10 @@ pub name_in_rows : (f : Found) (word name : Text) → Some word ≡ first_value 
 name_in_rows f word name is other same = ap (λ (t : Text). Some t) same ∙ ap (λ b. cond b None (Some word)) other ∙ file_in_rows f word is
 
 -- an option was given where it has an entry that no default made
--- the code that a text among the rows spells
-pub code_in_rows : (f : Found) (c : Option Code) (given : Option Text) → given ≡ first_value f (codes "code") → c ≡ option_and_then code_of given
-    → c ≡ option_and_then code_of (first_of (codes "code") (rows_of f))
-code_in_rows f c given found is = is ∙ ap (λ (t : Option Text). option_and_then code_of t) (found ∙ first_value-rows f (codes "code"))
+-- what a text among the rows is a name of
+pub topic_in_rows : (f : Found) (t : Option Topic) (given : Option Text) → given ≡ first_value f (codes "code") → t ≡ option_and_then topic_of given
+    → t ≡ option_and_then topic_of (first_of (codes "code") (rows_of f))
+topic_in_rows f t given found is = is ∙ ap (λ (o : Option Text). option_and_then topic_of o) (found ∙ first_value-rows f (codes "code"))
 
 pub given_in_rows : (f : Found) (id : Text) → is_present f id ≡ is_given id (rows_of f)
 given_in_rows = present_row

@@ -128,10 +128,10 @@ name_known m words e found = by_name (out-ArgMatches m).subcommand (rw found (na
     by_name None h = h
     by_name (Some b) h = h
 
--- clap's contract tells what is found by such a command line
+-- clap's contract states what is found by such a command line
 pub is_matched : is_simple ebpf ≡ true
 is_matched = refl
 
--- clap's contract tells the faults of such a command line
+-- clap's contract states the faults of such a command line
 pub is_told : is_simple_and_free ebpf ≡ true
 is_told = refl

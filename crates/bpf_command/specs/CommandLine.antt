@@ -157,7 +157,7 @@ show = counted (codes "show") MAX_LIMIT
 abbrev pub races : Rule
 races = record (new_rule (codes "races")) { long = Some (codes "races"); action = Some SetTrue }
 
--- `--sync NAME`, which may stand several times
+-- `--sync NAME`, which may be several times
 abbrev pub sync : Rule
 sync = record (new_rule (codes "sync")) {
   long = Some (codes "sync");
@@ -171,8 +171,15 @@ explore_options = with_rule (with_rule (with_rule (searching (codes "explore")) 
 abbrev pub explore : App
 explore = with_rule (with_rule explore_options show) file
 
+-- `--lenient`
+abbrev pub lenient : Rule
+lenient = record (new_rule (codes "lenient")) {
+  long = Some (codes "lenient");
+  action = Some SetTrue;
+}
+
 abbrev pub check : App
-check = with_rule (with_rule (searching (codes "check")) limit) files
+check = with_rule (with_rule (with_rule (searching (codes "check")) lenient) limit) files
 
 -- `--first`
 abbrev pub first : Rule
@@ -225,7 +232,7 @@ abbrev pub for_files : App
 for_files = with_subcommand (with_subcommand (with_subcommand one_program run.top) explore.top)
     check.top
 
--- and `ebpf expand` for one with states beside it, and `ebpf debug` for one with commands behind it
+-- and `ebpf expand` for one with states beside it, and `ebpf debug` for one with commands after it
 abbrev pub working : App
 working = with_subcommand (with_subcommand for_files expand.top) debug.top
 
@@ -337,7 +344,7 @@ names_input rows = list_any (λ name. bytes_eq name (codes "-")) (given_texts (c
 abbrev pub wants_one : List Row → Bool
 wants_one rows = names_several rows && (names_input rows || is_given (codes "explain") rows)
 
--- what is counted of a run by workers is asked for without workers
+-- what is counted of a run on worker threads is asked for without workers
 abbrev pub counts_alone : List Row → Bool
 counts_alone rows = is_given (codes "stats") rows && not (is_given (codes "workers") rows)
 

@@ -1,7 +1,7 @@
 -- The command that words name, or why they name none. Our own choice.
 use Rattle.std.specs.Prelude.{◌≡◌, ◌<◌, ◌≤◌, ℕ, List, true, false, Option, Some, None, Ok, IfOk, IsSomeAnd, codes, [], ◌∷◌, cond, if◌then◌else◌, length, map, option_and_then, option_map, string_bytes}
 use Rattle.std.specs.Str.{bytes_eq}
-use Rattle.bpf_codes.specs.Code.{code_of}
+use Rattle.bpf_explain.specs.Term.{topic_of}
 use Rattle.bpf_lines.specs.Lines.{fields_of}
 use Rattle.bpf_schedule.specs.Spelling.{SpellNone, SpellRuns}
 use Rattle.bpf_mem.specs.Limits.{max_context}
@@ -11,6 +11,7 @@ use Rattle.clap.specs.Takes.{is_given}
 use Rattle.clap.specs.Words.{Row, Text, fault_of, first_of, kind_of, subcommand_of}
 use Rattle.bpf_command.specs.CommandLine.{NamesBudget, NamesLimit, NamesShown, NamesWorkers, IsRunnerName, counts_alone, do_clash, do_part, do_part_races, ebpf, given_texts, names_several, wants_one}
 use Rattle.bpf_command.specs.declared.command.RunOptions.{RunOptions}
+use Rattle.bpf_command.specs.declared.command.CheckOptions.{CheckOptions}
 use Rattle.bpf_command.specs.declared.command.SearchOptions.{SearchOptions}
 use Rattle.bpf_command.specs.declared.command.RaceOptions.{RaceOptions}
 use Rattle.bpf_command.specs.declared.command.Command.{Command}
@@ -25,7 +26,7 @@ abbrev pub IsContext : Option Text → List ℕ → Type 0
 IsContext None bytes = bytes ≡ []
 IsContext (Some digits) bytes = (decode_of digits ≡ Ok bytes) × (length bytes ≤ max_context)
 
--- the digits are refused as a context; want of memory may stand in place of any answer
+-- the digits are refused as a context; out of memory may take the place of any answer
 abbrev pub RefusesContext : Option Text → CommandError → Type 0
 RefusesContext (Some digits) error.NotHex =
     IfOk (decode_of digits) (λ bytes. max_context < length bytes)
@@ -53,6 +54,11 @@ abbrev pub NamesSearch : List Row → SearchOptions → Type 0
 NamesSearch rows options = NamesLimit rows options.limit
     × (options.patient ≡ is_given (codes "patient") rows)
     × (options.progress ≡ is_given (codes "progress") rows)
+
+-- the options of a search whose outcomes are compared with what comments expect
+abbrev pub NamesCheck : List Row → CheckOptions → Type 0
+NamesCheck rows options = NamesSearch rows options.search
+    × (options.lenient ≡ is_given (codes "lenient") rows)
 
 -- the options of a search for races
 abbrev pub NamesRaces : List Row → RaceOptions → Type 0
@@ -99,7 +105,7 @@ Names (Some found) (command.Races options) = (found.0 ≡ codes "explore")
     × NamesRaces found.1 options
     × (do_part_races found.1 ≡ false) × (is_given (codes "races") found.1 ≡ true)
 Names (Some found) (command.Check options) = (found.0 ≡ codes "check")
-    × NamesSearch found.1 options
+    × NamesCheck found.1 options
 Names (Some found) (command.Expand first patient races) = (found.0 ≡ codes "expand")
     × (first ≡ is_given (codes "first") found.1) × (patient ≡ is_given (codes "patient") found.1)
     × (races ≡ is_given (codes "races") found.1)
@@ -114,7 +120,7 @@ abbrev pub file_in : List Row → Option Text
 file_in rows = option_and_then file_named (first_of (codes "file") rows)
 
 -- what is asked for: a command of a file or of standard input, perhaps with `--explain`; the check
--- of several files; or the page of a code
+-- of several files; or the page of a code or another name
 abbrev pub Asks : Option (Text × List Row) → Request → Type 0
 Asks None _ = ⊥
 Asks (Some found) (request.Perform command file explain json) = Names (Some found) command
@@ -122,16 +128,16 @@ Asks (Some found) (request.Perform command file explain json) = Names (Some foun
     × (found.0 ≡ codes "check" → names_several found.1 ≡ false)
     × (explain ≡ is_given (codes "explain") found.1)
     × (json ≡ is_given (codes "json") found.1)
-Asks (Some found) (request.CheckAll search files json) = (found.0 ≡ codes "check")
-    × NamesSearch found.1 search
+Asks (Some found) (request.CheckAll check files json) = (found.0 ≡ codes "check")
+    × NamesCheck found.1 check
     × (map string_bytes files.items ≡ given_texts (codes "file") found.1)
     × (names_several found.1 ≡ true) × (wants_one found.1 ≡ false)
     × (json ≡ is_given (codes "json") found.1)
-Asks (Some found) (request.Page code) = (found.0 ≡ codes "explain")
-    × (option_and_then code_of (first_of (codes "code") found.1) ≡ Some code)
+Asks (Some found) (request.Page topic) = (found.0 ≡ codes "explain")
+    × (option_and_then topic_of (first_of (codes "code") found.1) ≡ Some topic)
 
 -- why what `clap` finds can't be done: a context or a schedule that is none, options of which one
--- rules out the other or wants another or one file alone, or a code that isn't printed
+-- rules out the other or wants another or one file alone, or a name that has no page
 abbrev pub RefusesFound : Text × List Row → CommandError → Type 0
 RefusesFound found error.NotHex = IsRunnerName found.0
     × RefusesContext (first_of (codes "ctx") found.1) error.NotHex
@@ -145,7 +151,7 @@ RefusesFound found error.OneFile = (found.0 ≡ codes "check") × (wants_one fou
 RefusesFound found error.NoRun = (found.0 ≡ codes "asm") × (do_part found.1 ≡ true)
 RefusesFound found error.NoRaces = (found.0 ≡ codes "explore") × (do_part_races found.1 ≡ true)
 RefusesFound found error.NoCode = (found.0 ≡ codes "explain")
-    × (option_and_then code_of (first_of (codes "code") found.1) ≡ None)
+    × (option_and_then topic_of (first_of (codes "code") found.1) ≡ None)
 RefusesFound found error.OutOfMemory = Unit {0}
 RefusesFound found (error.Shown shown) = ⊥
 

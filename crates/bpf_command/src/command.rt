@@ -7,7 +7,7 @@ ghost use Rattle.bpf_command.specs.Lemmas.Ranges.{few-prop, some-prop};
 ghost use Rattle.bpf_command.specs.declared.command.TheConstants.{MAX_LIMIT, MAX_WORKERS};
 
 use bpf_base::MAX_BUDGET;
-use bpf_codes::Code;
+use bpf_explain::Topic;
 
 /// The greatest number of worker threads that may be asked for.
 pub const MAX_WORKERS: u8 = 16;
@@ -28,7 +28,7 @@ pub struct RunOptions {
 /// The options of `run`, in their ranges.
 #[derive(PartialEq, Eq, Debug, Drop)]
 pub struct FileOptions {
-    /// To list the keys of all maps behind each CPU's last job, and to print the lists.
+    /// To list the keys of all maps after each CPU's last job, and to print the lists.
     pub keys: bool,
     /// To print the maps afterwards.
     pub maps: bool,
@@ -36,17 +36,16 @@ pub struct FileOptions {
     pub by: Vec<(u8, u64)>,
     /// The number of worker threads; without one the CPUs take turns on one thread.
     pub workers: Option<u8>,
-    /// To tell what workers came to at the maps, a line a map. Without workers there is nothing to
-    /// tell.
+    /// To print the maps' numbers as workers left them, a line a map. It needs workers.
     pub stats: bool,
     ghost some: { IfSome workers (λ n. 0 < n) } by { some-prop workers },
     ghost few: { IfSome workers (λ n. n ≤ MAX_WORKERS) } by { few-prop workers MAX_WORKERS },
 }
 
-/// The options of a run in turns on one thread that is told with all that happens in it.
+/// The options of a run in turns on one thread that prints all that happens in it.
 #[derive(PartialEq, Eq, Debug, Drop)]
 pub struct HistoryOptions {
-    /// To list the keys of all maps behind each CPU's last job, and to print the lists.
+    /// To list the keys of all maps after each CPU's last job, and to print the lists.
     pub keys: bool,
     /// To print the maps afterwards.
     pub maps: bool,
@@ -57,7 +56,7 @@ pub struct HistoryOptions {
 /// The options of a run in turns on one thread that is judged.
 #[derive(PartialEq, Eq, Debug, Drop)]
 pub struct JudgeOptions {
-    /// To list the keys of all maps behind each CPU's last job: what is expected of the lists is
+    /// To list the keys of all maps after each CPU's last job: what is expected of the lists is
     /// judged too.
     pub keys: bool,
     /// The turns that come before rounds: CPUs, each with how many it takes before the next.
@@ -71,9 +70,17 @@ pub struct SearchOptions {
     pub limit: u64,
     /// To look for outcomes in which no budget is used up.
     pub patient: bool,
-    /// To tell on standard error how far the search is. What is found doesn't depend on it.
+    /// To report on standard error how far the search is. What is found doesn't depend on it.
     pub progress: bool,
     ghost limited: { limit ≤ MAX_LIMIT },
+}
+
+/// The options of a search whose outcomes are compared with what comments of the file expect.
+#[derive(PartialEq, Eq, Debug, Drop)]
+pub struct CheckOptions {
+    pub search: SearchOptions,
+    /// To pass over comments that are meant to expect something and can't.
+    pub lenient: bool,
 }
 
 /// The options of a search of which one outcome is shown.
@@ -111,25 +118,25 @@ pub enum Command {
     },
     /// Run the jobs of a run file.
     Run(FileOptions),
-    /// Run them in turns, and tell all that happens.
+    /// Run them in turns, and print all that happens.
     History(HistoryOptions),
-    /// Run them in turns, and tell whether the outcome is as the comments of the file expect.
+    /// Run them in turns, and print whether the outcome is as the comments of the file expect.
     Judge(JudgeOptions),
-    /// Find what the jobs of a run file can come to, by every schedule.
+    /// Find what the jobs of a run file can reach, by every schedule.
     Explore(SearchOptions),
     /// Tell all that happens on the way to one of these outcomes.
     Show(ShowOptions),
     /// Find the data races of all schedules.
     Races(RaceOptions),
     /// Tell by every schedule whether a run file's outcomes are as its comments expect.
-    Check(SearchOptions),
+    Check(CheckOptions),
     /// Tell what each CPU's turn leads to from states that are read, each a line.
     Expand {
-        /// To tell the first state in place of those that others lead to.
+        /// To print the first state in place of those that others lead to.
         first: bool,
         /// To pass over how many steps are left of budgets.
         patient: bool,
-        /// To tell the data races of each state before what it leads to.
+        /// To print the data races of each state before what it leads to.
         races: bool,
     },
     /// Run the jobs of a run file by commands, and show what they ask for.
@@ -156,11 +163,11 @@ pub enum Request {
     },
     /// To check several files, one after the other.
     CheckAll {
-        search: SearchOptions,
+        check: CheckOptions,
         files: Vec<String>,
         /// To write JSON objects in place of lines.
         json: bool,
     },
-    /// To print the page of a code.
-    Page(Code),
+    /// To print the page of a code, or of an error, a flag or a helper.
+    Page(Topic),
 }

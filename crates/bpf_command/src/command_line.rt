@@ -1,21 +1,21 @@
 //! The command that words name: what `clap` finds in them, and what its options stand for.
 
 ghost use Rattle.std.specs.Prelude.{◌≡◌, ◌<◌, ◌≤◌, [], codes, IfErr, IfOk, IfSome, IsOkUnless, IsSomeAnd, map, OnOk, option_and_then, option_map, Some, string_bytes, true};
-ghost use Rattle.bpf_codes.specs.Code.{code_of};
+ghost use Rattle.bpf_explain.specs.Term.{topic_of};
 ghost use Rattle.clap.specs.Kinds.{FailsBy};
 ghost use Rattle.clap.specs.Takes.{is_given};
 ghost use Rattle.clap.specs.Words.{fault_of, first_of, first_value, found_of, rows_of, subcommand_name_of, subcommand_of, subcommand_rows_of};
 ghost use Rattle.bpf_command.specs.CommandLine.{ebpf, counts_alone, do_clash, do_part, do_part_races, HasBudget, HasLimit, HasShown, HasWorkers, IsCommandName, IsRunnerName, IsSearchName, IsWorkName, names_several, NamesBudget, NamesLimit, NamesShown, NamesWorkers, wants_one};
-ghost use Rattle.bpf_command.specs.Names.{Asks, AsksBy, file_in, IsContext, IsSchedule, Names, NamesRaces, NamesRun, NamesSearch, Refuses, RefusesContext, RefusesFlags, RefusesFound, RefusesSchedule, as_flags, flag_of};
+ghost use Rattle.bpf_command.specs.Names.{Asks, AsksBy, file_in, IsContext, IsSchedule, Names, NamesCheck, NamesRaces, NamesRun, NamesSearch, Refuses, RefusesContext, RefusesFlags, RefusesFound, RefusesSchedule, as_flags, flag_of};
 
 use crate::command::{
-    Command, FileOptions, HistoryOptions, JudgeOptions, MAX_LIMIT, MAX_WORKERS, RaceOptions,
-    Request, RunOptions, SearchOptions, ShowOptions,
+    CheckOptions, Command, FileOptions, HistoryOptions, JudgeOptions, MAX_LIMIT, MAX_WORKERS,
+    RaceOptions, Request, RunOptions, SearchOptions, ShowOptions,
 };
 use crate::given::{given_texts, names_input, names_several};
 use crate::options::ebpf_command;
 use bpf_base::MAX_BUDGET;
-use bpf_codes::{Code, code_named};
+use bpf_explain::{Topic, topic_named};
 use bpf_mem::context::MAX_CONTEXT;
 use clap::ArgMatches;
 use clap::error::ErrorKind;
@@ -33,18 +33,18 @@ pub enum CommandError {
     NotHex,
     /// The schedule isn't one.
     NoSchedule,
-    /// Options stand there of which one rules out the other: a schedule, events or a check beside
+    /// Options are there of which one rules out the other: a schedule, events or a check beside
     /// a number of workers, whose CPUs take no turns; or events beside a check.
     TwoWays,
-    /// What is counted of a run by workers is asked for without workers.
+    /// What is counted of a run on worker threads is asked for without workers.
     NoWorkers,
     /// Several files are named, and what goes with one alone: standard input, or to explain.
     OneFile,
-    /// What is asked of a run stands without `--run`, or the listing beside it.
+    /// What is asked of a run is there without `--run`, or the listing beside it.
     NoRun,
     /// Maps of locks are named without `--races`, or an outcome is asked for beside it.
     NoRaces,
-    /// The page is asked for of a code that the program doesn't print.
+    /// The page is asked for of what is no code that the program prints, nor another name with one.
     NoCode,
     OutOfMemory,
 }
@@ -185,7 +185,7 @@ fn is_given(options: &ArgMatches, id: &str) -> bool
     options.contains_id(id) && options.value_source(id) != Some(ValueSource::DefaultValue)
 }
 
-/// Whether what is asked of a run stands without `--run`, or the listing beside it.
+/// Whether what is asked of a run is there without `--run`, or the listing beside it.
 fn do_part(options: &ArgMatches) -> bool
     ensures { result ≡ do_part (rows_of (found_of options.now)) }
 {
@@ -241,7 +241,7 @@ fn do_clash(options: &ArgMatches) -> bool
     is_given(options, "workers") && turns || events && check
 }
 
-/// Whether what is counted of a run by workers is asked for without workers.
+/// Whether what is counted of a run on worker threads is asked for without workers.
 fn counts_alone(options: &ArgMatches) -> bool
     ensures { result ≡ counts_alone (rows_of (found_of options.now)) }
 {
@@ -290,6 +290,17 @@ fn search_of(options: &ArgMatches) -> SearchOptions
     }
 }
 
+/// The options of `check`.
+fn check_of(options: &ArgMatches) -> CheckOptions
+    requires limited { HasLimit (rows_of (found_of options.now)) }
+    ensures { NamesCheck (rows_of (found_of options.now)) result }
+{
+    CheckOptions {
+        search: search_of(options),
+        lenient: is_given(options, "lenient"),
+    }
+}
+
 /// The options of a search for races.
 fn races_of(alloc: Global, options: &ArgMatches) -> Result<RaceOptions, CommandError>
     requires limited { HasLimit (rows_of (found_of options.now)) }
@@ -335,7 +346,7 @@ fn explore_of(alloc: Global, options: &ArgMatches) -> Result<Command, CommandErr
     }
 }
 
-/// The command `expand` with what it is to tell.
+/// The command `expand` with what it is to print.
 fn expand_of(options: &ArgMatches) -> Command
     ensures { Names (Some (codes "expand", rows_of (found_of options.now))) result }
 {
@@ -366,7 +377,7 @@ fn named(alloc: Global, name: &str, options: &ArgMatches) -> Result<Command, Com
         }),
         "run" => run_of(alloc, options),
         "explore" => explore_of(alloc, options),
-        "check" => Ok(Command::Check(search_of(options))),
+        "check" => Ok(Command::Check(check_of(options))),
         "expand" => Ok(expand_of(options)),
         _ => Ok(Command::Debug {
             echo: is_given(options, "echo"),
@@ -375,13 +386,13 @@ fn named(alloc: Global, name: &str, options: &ArgMatches) -> Result<Command, Com
     }
 }
 
-/// The code that `explain` is asked for.
-fn asked_code(options: &ArgMatches) -> Option<Code>
-    ensures { result ≡ option_and_then code_of
+/// What `explain` is asked for.
+fn asked_topic(options: &ArgMatches) -> Option<Topic>
+    ensures { result ≡ option_and_then topic_of
         (first_of (codes "code") (rows_of (found_of options.now))) }
 {
     match options.get_str("code") {
-        Some(text) => code_named(text),
+        Some(text) => topic_named(text),
         None => None,
     }
 }
@@ -424,7 +435,7 @@ fn check_all_of(alloc: Global, options: &ArgMatches) -> Result<Request, CommandE
     }
     let files = given_texts(alloc, options, "file")?;
     Ok(Request::CheckAll {
-        search: search_of(options),
+        check: check_of(options),
         files,
         json: is_given(options, "json"),
     })
@@ -440,8 +451,8 @@ fn requested(alloc: Global, name: &str, options: &ArgMatches) -> Result<Request,
     ensures refused { IfErr result (RefusesFound (name.now, rows_of (found_of options.now))) }
 {
     if name == "explain" {
-        return match asked_code(options) {
-            Some(code) => Ok(Request::Page(code)),
+        return match asked_topic(options) {
+            Some(topic) => Ok(Request::Page(topic)),
             None => Err(CommandError::NoCode),
         };
     }

@@ -1,4 +1,4 @@
-//! The command line of `ebpf`: what `clap` is told of it, and the command that words name.
+//! The command line of `ebpf`: what `clap` knows of it, and the command that words name.
 #![tactic(auto)]
 
 pub mod command;
@@ -7,7 +7,7 @@ mod given;
 mod options;
 
 pub use command::{
-    Command, FileOptions, HistoryOptions, JudgeOptions, MAX_LIMIT, MAX_WORKERS, RaceOptions,
-    Request, RunOptions, SearchOptions, ShowOptions,
+    CheckOptions, Command, FileOptions, HistoryOptions, JudgeOptions, MAX_LIMIT, MAX_WORKERS,
+    RaceOptions, Request, RunOptions, SearchOptions, ShowOptions,
 };
 pub use command_line::{CommandError, request_of};

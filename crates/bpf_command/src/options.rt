@@ -1,9 +1,9 @@
-//! What `clap` is told of the command line.
+//! The command line as `clap` knows it.
 
 ghost use Rattle.std.specs.Prelude.{◌≡◌, false, IfOk};
 ghost use Rattle.clap.specs.Words.{app_of, rule_of, shape_of};
 ghost use Rattle.clap.specs.declared.builder.command.Command.TheViews.{out-Command as fields_of};
-ghost use Rattle.bpf_command.specs.CommandLine.{asm, asm_shows, bare, budget, check, code_rule, context, debug, debug_options, disasm, ebpf, echo, events, expand, expand_options, explain, explained, explore, explore_options, file, files, first, for_files, hex, hex_options, judged, json, keys, limit, listing, maps, one_program, patient, pc, progress, races, run, run_lists, run_options, run_shows, runs, schedule, searching, show, stats, strict, sync, workers, working};
+ghost use Rattle.bpf_command.specs.CommandLine.{asm, asm_shows, bare, budget, check, code_rule, context, debug, debug_options, disasm, ebpf, echo, events, expand, expand_options, explain, explained, explore, explore_options, file, files, first, for_files, hex, hex_options, judged, json, keys, lenient, limit, listing, maps, one_program, patient, pc, progress, races, run, run_lists, run_options, run_shows, runs, schedule, searching, show, stats, strict, sync, workers, working};
 
 use crate::command::{MAX_LIMIT, MAX_WORKERS};
 use bpf_base::MAX_BUDGET;
@@ -67,12 +67,12 @@ a schedule come first, N turns of CPU C a word C*N; those of a CPU without work 
 --workers the CPUs run at once, each its jobs in order, and what they do to shared values mixes as
 it comes. Then a line a job is printed: job J cpu C r0=N, fault Fk at PC or out of budget at PC.
 With --keys each CPU lists the keys of all maps with the end of its last job, each list as they were
-at one moment, and behind the lines of jobs stands one a list: keys cpu C NAME and the keys in hex.
+at one moment, and after the lines of jobs comes one a list: keys cpu C NAME and the keys in hex.
 With --events all that CPUs do at the maps comes first, a line an event: cpu C job J pc P, what is
-done, and behind = the answer. With --check the answer is that of 'ebpf check', for this order of
+done, and after = the answer. With --check the answer is that of 'ebpf check', for this order of
 turns alone. Neither goes beside --workers.
 
-With --workers and --stats a line a map is told on standard error: its segments, its keys, those on
+With --workers and --stats a line a map is printed on standard error: its segments, its keys, those on
 overflow lists and its free elements, as it is left; and how many segments were split, readings were
 disturbed and lookups took a lock. Standard output stays the same.
 
@@ -90,24 +90,32 @@ Exit status:
   3  a job ended in a fault or out of budget; with --check: a test isn't ok";
 
 const EXPLORE_NOTES: &str = "\
-Prints each outcome once, in the order of its bytes: what 'run --maps' prints, behind a line 'by'
+Prints each outcome once, in the order of its bytes: what 'run --maps' prints, after a line 'by'
 with a schedule that leads there, N turns of CPU C a word C*N. Then a line says whether these are
 all, whatever the order of turns, how many they are, and how many states were kept: 'not all' where
 more than --limit were kept. With --show K the K-th of them is printed alone, by its schedule, as
-'run --events --maps --by' does; where there are fewer, that is said with status 1.
+'run --events --maps --by' does, and 'not all' after it where more than --limit states were kept;
+where there are fewer outcomes, that is printed with status 1.
 
 With --patient outcomes are those in which no budget is used up: for CPUs that wait for each other.
-Behind them stands a line 'hung by' for each state from which no turns lead to an outcome, the first
+After them comes a line 'hung by' for each state from which no turns lead to an outcome, the first
 on its way, with a schedule that leads there; and 'budgets can run out' where some schedule uses a
-budget up, or 'budgets may run out' where that couldn't be told.
+budget up, or 'budgets may run out' where that isn't known.
+
+Before the last line comes 'threads may run out of elements' where 'run --workers' may answer
+-ENOMEM though turns find an element, and 'threads may see keys or values in part' where a helper
+may read a key or a value from a map's value, which threads do byte by byte.
 
 With --races the data races of all these orders are printed in place of outcomes: two CPUs whose
 next steps touch one byte of a value, at least one to write it, and not both by an atomic operation.
-A line has the CPUs with their pcs, the map and the key ('deleted' where none leads to the value),
-and a schedule that leads there; the last one says whether these are all. Races for values of a map
-that --sync names are left out. --sync goes beside --races alone, and --show doesn't.
+A line has the CPUs, each with its program's number and its pc, the map and the key ('deleted' where
+none leads to the value), and a schedule that leads there; the last one says whether these are all.
+--sync NAME leaves out races for values of a map, --sync NAME+AT:SIZE those for SIZE bytes of them, from
+the byte AT on, alone. --sync goes beside --races alone, and --show doesn't.
 
-Each time that 131072 more states are done a line on standard error tells how far the search is, where
+All orders are those of sequential consistency: a load sees the newest store. Processors show more.
+
+Each time that 131072 more states are done a line on standard error shows how far the search is, where
 that is a terminal or with --progress: 'N states, N to go, N MB', how many are kept, from how many of
 them turns are still to be made, and about how much memory they take. Standard output stays the same.
 
@@ -123,9 +131,9 @@ For example
   map winner 00000000=0100000000000000
   all: 2 outcomes, 20 states
   $ ebpf explore --races examples/lost-update.run
-  race cpu 0 pc 18 cpu 1 pc 16 map counter 00000000 by 0*16 1*14
-  race cpu 0 pc 16 cpu 1 pc 18 map counter 00000000 by 0*14 1*16
-  race cpu 0 pc 18 cpu 1 pc 18 map counter 00000000 by 0*16 1*16
+  race cpu 0 prog 0 pc 18 cpu 1 prog 0 pc 16 map counter 00000000 by 0*16 1*14
+  race cpu 0 prog 0 pc 16 cpu 1 prog 0 pc 18 map counter 00000000 by 0*14 1*16
+  race cpu 0 prog 0 pc 18 cpu 1 prog 0 pc 18 map counter 00000000 by 0*16 1*16
   all: 3 races
 
 Exit status:
@@ -140,14 +148,21 @@ const CHECK_NOTES: &str = "\
 A comment of the run file says what is expected: '; always LINE', '; sometimes LINE' or '; never
 LINE', where LINE is one that 'run --maps' prints. Each is a test, by every order of turns: 'ok', or
 'not ok' and on a line '# by' a schedule that shows it, which 'run --by' takes, or why it can't be
-told. The form is TAP; the exit status is 3 where an outcome isn't as expected, and 4 where all that
-was told is, but more than --limit states were kept. With --patient outcomes are those in which no
-budget is used up.
+decided. The form is TAP; the exit status is 3 where an outcome isn't as expected, and 4 where all that
+was decided is, but more than --limit states were kept.
+
+With --patient outcomes are those in which no budget is used up, and the first test is 'every schedule
+can end': 'not ok' with a line '# hung by' for each state from which no turns lead to an outcome.
+'; always ends' asks the same, and '; sometimes hung' that there is such a state.
+
+A comment of three words or more that begins with 'always', 'sometimes' or 'never', or a word one edit
+away, and has no line after it that this file can print, is refused: L11. So are 'always ends' and
+'sometimes hung' without --patient. --lenient passes such comments over.
 
 The tests of several files are one list: their numbers go on, and each names its file. A file that is
 refused has a line 'refused CODE - FILE' and no test. The exit status is that of the worst file, where
 1 is worse than 4, 4 than 3, and 3 than 0. '-' and --explain go with one FILE alone. How far a search
-is, is told as by 'ebpf explore'.
+is, is printed as by 'ebpf explore'.
 
 For example
   $ printf '; never job 0 cpu 0 r0=1\\nebpf-run 1\\nprog a\\nr0 = 5\\nexit\\nend\\njob 0 a\\n' | ebpf check
@@ -156,10 +171,10 @@ For example
 
 Exit status:
   0  all tests are ok
-  1  the run file is refused, or the output failed
+  1  the run file or a comment is refused, or the output failed
   2  the command line is at fault
   3  a test isn't ok
-  4  the search met its limit: not all tests could be told, and those that could are ok";
+  4  the search met its limit: not all tests could be decided, and those that could are ok";
 
 const EXPAND_NOTES: &str = "\
 Each line of standard input is a state, in lower case hex as --first prints the first one; an empty
@@ -170,9 +185,10 @@ of FILE is answered 'refused X1 LINE', LINE counted from 1, and the next one is 
 answered before more is read. Where standard input is the run file itself, --first alone is of use.
 
 With --patient states that differ only in the steps that are left of budgets count as one. With
---races, lines 'race cpu C pc P cpu D pc Q map NAME KEY' stand before a state's others, by rising pair
-of CPUs: the next steps of the two touch one byte of that value, one of them writes it, and not both
-are atomic. KEY is 'deleted' where the value has left its map.
+--races, lines 'race cpu C prog N pc P cpu D prog M pc Q map NAME KEY' come before a state's others,
+by rising pair of CPUs: the next steps of the two, at these pcs of the programs of these numbers, touch
+one byte of that value, one of them writes it, and not both are atomic. KEY is 'deleted' where the
+value has left its map.
 
 For example
   $ ebpf expand --first examples/first-insert.run > first
@@ -188,7 +204,7 @@ Exit status:
   2  the command line is at fault";
 
 const EXPLAIN_NOTES: &str = "\
-Nothing is read. The code is what stands behind 'refused' or 'fault', as in
+Nothing is read. The code is what follows 'refused' or 'fault', as in
   $ ebpf explain E1
   E1: a program of no instructions.
 
@@ -200,11 +216,12 @@ Nothing is read. The code is what stands behind 'refused' or 'fault', as in
 Exit status:
   0  the page is printed
   1  the output failed, or there was no memory for the page
-  2  the command line is at fault, or there is no such code";
+  2  the command line is at fault, or there is no such name";
 
 const DEBUG_NOTES: &str = "\
-Commands stand behind the run file and a line '---'. A FILE without that line has them from standard
-input, each answered before more is read.
+Commands come after the run file and a line '---'. A FILE without that line has them from standard
+input, each answered before more is read; at a terminal 'quit' or Ctrl-D leaves. tools/debug FILE (ebpf-debug)
+is the same with line editing, short commands, and faults explained where they come.
 
 The commands, one a line, with a CPU C, a pc P, an address A and a number N of bytes (1 to 256):
   break C P   'go' stops before C executes the instruction at P
@@ -238,7 +255,7 @@ nothing, and the next one is read. The input is a run file, a line '---' and the
   cpu 0 job 0 pc 1 depth 1
   job 0 cpu 0 r0=5
   done
-With --echo each line that isn't empty stands before its answer, behind '> ': > step 0
+With --echo each line that isn't empty comes before its answer, after '> ': > step 0
 
 Exit status:
   0  the answers are printed, and no job has ended in a fault or out of budget
@@ -257,7 +274,7 @@ Exit status:
   1  the input is refused, and the refusal printed, or the output failed
   2  the command line is at fault
   3  the program, or a job, ended in a fault or out of budget; of check: a test isn't ok
-  4  the search met its limit: not all outcomes or races are printed, or not all tests could be told";
+  4  the search met its limit: not all outcomes or races are printed, or not all tests could be decided";
 
 /// Where a command's input is read from.
 fn file_argument<'a>(alloc: Global) -> Arg<'a>
@@ -338,7 +355,7 @@ fn listing_option<'a>(alloc: Global) -> Arg<'a>
     Arg::new(alloc, "listing")
         .long("listing")
         .action(ArgAction::SetTrue)
-        .help("Prints the text with the pc and the words of each line behind it, as a comment")
+        .help("Prints the text with the pc and the words of each line after it, as a comment")
 }
 
 fn pc_option<'a>(alloc: Global) -> Arg<'a>
@@ -348,7 +365,7 @@ fn pc_option<'a>(alloc: Global) -> Arg<'a>
     Arg::new(alloc, "pc")
         .long("pc")
         .action(ArgAction::SetTrue)
-        .help("Prints the pc and the words of each line behind it, as a comment")
+        .help("Prints the pc and the words of each line after it, as a comment")
 }
 
 fn runs_option<'a>(alloc: Global) -> Arg<'a>
@@ -443,7 +460,7 @@ fn stats_option<'a>(alloc: Global) -> Arg<'a>
     Arg::new(alloc, "stats")
         .long("stats")
         .action(ArgAction::SetTrue)
-        .help("Tells on standard error what workers came to at the maps, a line a map")
+        .help("Prints on standard error the maps' numbers as workers left them, a line a map")
 }
 
 fn events_option<'a>(alloc: Global) -> Arg<'a>
@@ -559,7 +576,7 @@ fn progress_option<'a>(alloc: Global) -> Arg<'a>
     Arg::new(alloc, "progress")
         .long("progress")
         .action(ArgAction::SetTrue)
-        .help("Tells how far the search is on standard error, also where that is no terminal")
+        .help("Prints on standard error how far the search is, also where that is no terminal")
 }
 
 /// A command that searches, with the options of a search.
@@ -593,7 +610,7 @@ fn sync_option<'a>(alloc: Global) -> Arg<'a>
         .value_name("NAME")
         .action(ArgAction::Append)
         .help(
-            "With --races: leaves out races for this map's values, as locks; may stand several times",
+            "With --races: leaves out races for a map's values (or NAME+AT:SIZE); may be given several times",
         )
 }
 
@@ -603,7 +620,7 @@ fn explore_options<'a>(alloc: Global) -> Result<Command<'a>, AllocError>
     ensures own { IfOk result (λ c. (fields_of c).has_globals ≡ false) }
 {
     searching(alloc, "explore")?
-        .about("Finds all that the jobs of a run file can come to, by every order of turns")
+        .about("Finds all that the jobs of a run file can reach, by every order of turns")
         .after_help(EXPLORE_NOTES)
         .arg(races_option(alloc))?
         .arg(sync_option(alloc))?
@@ -619,13 +636,24 @@ fn explore_command<'a>(alloc: Global) -> Result<Command<'a>, AllocError>
         .arg(file_argument(alloc))
 }
 
+fn lenient_option<'a>(alloc: Global) -> Arg<'a>
+    ensures rule { rule_of result ≡ lenient }
+    ensures own { result.global ≡ false }
+{
+    Arg::new(alloc, "lenient")
+        .long("lenient")
+        .action(ArgAction::SetTrue)
+        .help("Passes over comments that are meant to expect something and can't")
+}
+
 fn check_command<'a>(alloc: Global) -> Result<Command<'a>, AllocError>
     ensures shape { IfOk result (λ c. shape_of c ≡ check.top) }
     ensures own { IfOk result (λ c. (fields_of c).has_globals ≡ false) }
 {
     searching(alloc, "check")?
-        .about("Tells whether all that a run file's jobs can come to is as its comments expect")
+        .about("Prints whether all that a run file's jobs can reach is as its comments expect")
         .after_help(CHECK_NOTES)
+        .arg(lenient_option(alloc))?
         .arg(limit_option(alloc))?
         .arg(files_argument(alloc))
 }
@@ -637,7 +665,7 @@ fn echo_option<'a>(alloc: Global) -> Arg<'a>
     Arg::new(alloc, "echo")
         .long("echo")
         .action(ArgAction::SetTrue)
-        .help("Prints each line of commands before its answer, behind '> '")
+        .help("Prints each line of commands before its answer, after '> '")
 }
 
 fn strict_option<'a>(alloc: Global) -> Arg<'a>
@@ -689,7 +717,7 @@ fn expand_options<'a>(alloc: Global) -> Result<Command<'a>, AllocError>
 {
     Command::new(alloc, "expand")
         .about(
-            "Tells what each CPU's turn leads to from states that are read, for searches by other programs",
+            "Prints what each CPU's turn leads to from states that are read, for searches by other programs",
         )
         .after_help(EXPAND_NOTES)
         .arg(explain_option(alloc))?
@@ -733,7 +761,7 @@ fn code_argument<'a>(alloc: Global) -> Arg<'a>
     Arg::new(alloc, "code")
         .value_name("CODE")
         .required(true)
-        .help("The code, a letter and a number")
+        .help("A code, an error as ENOMEM, a flag as BPF_ANY, or a helper as lookup")
 }
 
 fn explain_command<'a>(alloc: Global) -> Result<Command<'a>, AllocError>
@@ -741,7 +769,7 @@ fn explain_command<'a>(alloc: Global) -> Result<Command<'a>, AllocError>
     ensures own { IfOk result (λ c. (fields_of c).has_globals ≡ false) }
 {
     Command::new(alloc, "explain")
-        .about("Prints what a code means, an input that gives it, and what to do")
+        .about("Prints what a code, an error, a flag or a helper is, and what to do")
         .after_help(EXPLAIN_NOTES)
         .arg(code_argument(alloc))
 }

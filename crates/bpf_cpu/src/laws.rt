@@ -12,7 +12,7 @@ pub fn steps_are_determined()
     bpf_loader::laws::one_instruction_begins();
 }
 
-/// The same events explain one outcome of a job.
+/// A list of events explains one outcome of a job.
 pub fn outcomes_are_determined()
     ensures { OutcomesAreDetermined }
 {

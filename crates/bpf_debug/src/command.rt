@@ -27,7 +27,7 @@ pub enum Command<'a> {
     Memory(Option<u8>, Option<u64>, usize),
     /// The keys of the map of this name, with their values.
     Map(&'a [u8]),
-    /// The same without their values.
+    /// The keys of the map of this name, without their values.
     Keys(&'a [u8]),
     /// The turns made so far.
     Schedule,

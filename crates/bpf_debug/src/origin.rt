@@ -53,7 +53,7 @@ fn keep_jobs(alloc: Global, machine: &Machine) -> Result<(Vec<KeptJob>, Vec<u32>
     Ok((jobs, numbers))
 }
 
-/// The same store.
+/// A copy of a store of this shape.
 fn copy_store(
     alloc: Global,
     shape: StoreShape,

@@ -595,7 +595,7 @@ impl Session {
         self.command_bytes(alloc, line.as_bytes())
     }
 
-    /// The same of a line's bytes.
+    /// Does what a line of these bytes says, and answers its lines.
     pub fn command_bytes(&mut self, alloc: Global, line: &[u8]) -> Result<String, DebugError>
         ensures answered { IfOk result (λ text.
             LeavesLine self.old (fields_of line.now) (string_bytes text) self.new) }

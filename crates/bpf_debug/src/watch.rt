@@ -25,7 +25,7 @@ fn value_at<'s>(store: &'s PlainStore, watch: &Option<Watch>) -> Option<&'s [u8]
     }
 }
 
-/// The same in memory of its own.
+/// The value that is watched, copied, if one is and its key leads to it.
 pub fn watched_value(
     alloc: Global,
     store: &PlainStore,

@@ -1,17 +1,15 @@
 //! Jobs from their beginning to their history and what is printed of them.
 
-ghost use Rattle.std.specs.Prelude.{◌≡◌, ◌<◌, ◌≤◌, All, IfOk, map, string_bytes, vec_len};
-ghost use Rattle.bpf_mem.specs.Limits.{max_context};
-ghost use Rattle.bpf_cpu.specs.Task.{waiting};
-ghost use Rattle.bpf_jobs.specs.Printed.{asked_world};
+ghost use Rattle.std.specs.Prelude.{◌≡◌, IfOk, map, string_bytes};
+ghost use Rattle.bpf_cpu.specs.Setup.{IsRunnable};
+ghost use Rattle.bpf_jobs.specs.Printed.{asked_of};
 ghost use Rattle.bpf_events.specs.Private.Recording.{IsRecorderOf};
 ghost use Rattle.bpf_events.specs.Reports.{IsHistory};
 
 use crate::recorder::Recorder;
 use crate::telling::{make_rounds, make_turns};
-use bpf_cpu::Job;
+use bpf_cpu::Setup;
 use bpf_jobs::{Report, make_asked, tell};
-use bpf_loader::Program;
 use bpf_plain::PlainStore;
 use bpf_shared::StoreShape;
 use std::alloc::{AllocError, Global};
@@ -33,23 +31,18 @@ fn make_recorder(alloc: Global, shape: &StoreShape) -> Result<Recorder, AllocErr
 /// shows. Out of memory is the only refusal.
 pub fn run_with_history(
     alloc: Global,
-    shape: StoreShape,
+    setup: Setup,
     names: &[String],
-    programs: Vec<Program>,
-    jobs: Vec<Job>,
     schedule: &[(u8, u64)],
     keys: bool,
     maps: bool,
 ) -> Result<Report, AllocError>
-    requires cpus { All (λ job. job.cpu < shape.cpus) jobs.items }
-    requires programs { All (λ job. job.program < vec_len programs) jobs.items }
-    requires contexts { All (λ job. vec_len job.context ≤ max_context) jobs.items }
-    ensures { IfOk result (λ r. IsHistory
-        (asked_world keys shape programs.items (map waiting jobs.items)) schedule.now
+    requires { IsRunnable setup }
+    ensures { IfOk result (λ r. IsHistory (asked_of keys setup) schedule.now
         (map string_bytes names.now) maps (string_bytes r.text) r.stopped) }
 {
-    let mut recorder = make_recorder(alloc, &shape)?;
-    let mut machine = make_asked(alloc, shape, programs, jobs, keys)?;
+    let mut recorder = make_recorder(alloc, &setup.shape)?;
+    let mut machine = make_asked(alloc, setup, keys)?;
     let mut text = String::new(alloc);
     make_turns(
         alloc,

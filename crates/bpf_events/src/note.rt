@@ -49,7 +49,7 @@ pub enum Note {
     },
 }
 
-/// The same bytes.
+/// A copy of bytes.
 fn copy_bytes(alloc: Global, bytes: &[u8]) -> Result<Vec<u8>, AllocError>
     ensures { IfOk result (λ v. v.items ≡ bytes.now) }
 {

@@ -81,7 +81,7 @@ fn push_worked(
     Ok(())
 }
 
-/// The same where a CPU may have no work.
+/// Appends the lines of a CPU's turn to the text, which may have no work.
 fn push_turn(
     alloc: Global,
     text: &mut String,

@@ -4,7 +4,8 @@ use Rattle.std.specs.Prelude.{slice_get}
 use Rattle.bpf_plain.specs.Alike.{AlikeStandAlike, SavedAlikeLookAlike}
 use Rattle.bpf_machine.specs.Schedule.{World, RunsSchedule}
 use Rattle.bpf_machine.specs.Laws.{IsFresh}
-use Rattle.bpf_machine.specs.Race.{IsRace, RacesAreKept}
+use Rattle.bpf_machine.specs.declared.machine.Stand.{Stand}
+use Rattle.bpf_machine.specs.Race.{IsRace, IsRaceKept, RacesAreKept}
 use Rattle.bpf_machine.specs.Machine.{MachineState, Shows}
 use Rattle.bpf_machine.specs.Hands.{IsFree}
 use Rattle.bpf_machine.specs.Headways.{with_jobs}
@@ -53,8 +54,8 @@ fills_nothing false m c free = refl
 fills_nothing true m c free = inl (free, refl)
 
 -- the race is one in what a machine of one of the states shows
-abbrev pub IsRaceOf : Host → List (List ℕ) → ℕ → ℕ → ℕ → ℕ → ℕ → Type 0
-IsRaceOf h states c p d q b = (v : World) × (m : MachineState) × (bytes : List ℕ) × IsAmong states bytes × IsStateOf h m bytes × Shows m v × IsRace v c p d q b
+abbrev pub IsRaceOf : Host → List (List ℕ) → World → Stand → Stand → ℕ → Type 0
+IsRaceOf h states z one other b = (v : World) × (m : MachineState) × (bytes : List ℕ) × IsAmong states bytes × IsStateOf h m bytes × Shows m v × (v.store ≡ z.store) × IsRace v one other b
 
 -- ---- they are closed
 module _ (look : SavedAlikeLookAlike) (stand : AlikeStandAlike) (h : Host) (states : List (List ℕ)) (closed : AreClosed h states) where
@@ -114,9 +115,9 @@ module _ (look : SavedAlikeLookAlike) (stand : AlikeStandAlike) (h : Host) (stat
       shown_by : IsKeptAs kept first → IsShown kept w
       shown_by (i, one, at, too) = (i, one, at, too w shown)
 
-  of_race : (c p d q b : ℕ) → ((v : World) × IsShown kept v × IsRace v c p d q b) → IsRaceOf h states c p d q b
+  of_race : (z : World) (one other : Stand) (b : ℕ) → IsRaceKept kept z one other b → IsRaceOf h states z one other b
   unfolding kept
-  of_race c p d q b (v, (i, m, at, shows), race) = let s = machine_of h states each i m at in (v, m, s.0, (i, s.1), s.2, shows, race)
+  of_race z one other b (v, (i, m, at, shows), store, race) = let s = machine_of h states each i m at in (v, m, s.0, (i, s.1), s.2, shows, store, race)
 
 pub states_cover : SavedAlikeLookAlike → AlikeStandAlike → ClosedSetsCover → StatesCover
 states_cover look stand cover h states first bytes w z schedule exact closed is among fresh shown runs =
@@ -132,10 +133,10 @@ patient_states_cover look stand cover h states first bytes w z schedule passes c
 
 -- each race that schedules lead to is such a one
 pub race_of_state : SavedAlikeLookAlike → AlikeStandAlike → RacesAreKept → PatientRacesAreKept → (h : Host) (states : List (List ℕ)) (first : MachineState) (bytes : List ℕ) (w z : World) (schedule : List ℕ) (patient : Bool) → h.patient ≡ patient
-    → AreClosed h states → IsStateOf h first bytes → IsAmong states bytes → IsFresh w → Shows first w → RunsSchedule w schedule z → FitBudgets h.patient z.jobs → (c p d q b : ℕ) → IsRace z c p d q b → IsRaceOf h states c p d q b
-race_of_state look stand law patiently h states first bytes w z schedule false exact closed is among fresh shown runs fit c p d q b race =
-    of_race look stand h states closed c p d q b
-    (law (kept look stand h states closed) w z schedule (are_closed look stand h states closed exact) fresh (is_shown look stand h states closed first bytes w is among shown) runs c p d q b race)
-race_of_state look stand law patiently h states first bytes w z schedule true passes closed is among fresh shown runs fit c p d q b race =
-    of_race look stand h states closed c p d q b
-    (patiently (kept look stand h states closed) w z schedule (are_closed_richly look stand h states closed passes) fresh (is_shown look stand h states closed first bytes w is among shown) runs (fit passes) c p d q b race)
+    → AreClosed h states → IsStateOf h first bytes → IsAmong states bytes → IsFresh w → Shows first w → RunsSchedule w schedule z → FitBudgets h.patient z.jobs → (one other : Stand) (b : ℕ) → IsRace z one other b → IsRaceOf h states z one other b
+race_of_state look stand law patiently h states first bytes w z schedule false exact closed is among fresh shown runs fit one other b race =
+    of_race look stand h states closed z one other b
+    (law (kept look stand h states closed) w z schedule (are_closed look stand h states closed exact) fresh (is_shown look stand h states closed first bytes w is among shown) runs one other b race)
+race_of_state look stand law patiently h states first bytes w z schedule true passes closed is among fresh shown runs fit one other b race =
+    of_race look stand h states closed z one other b
+    (patiently (kept look stand h states closed) w z schedule (are_closed_richly look stand h states closed passes) fresh (is_shown look stand h states closed first bytes w is among shown) runs (fit passes) one other b race)

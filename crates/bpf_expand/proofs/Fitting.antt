@@ -37,7 +37,7 @@ module _ (m : MachineState) (bytes : List ℕ) (stands : CanStand m) (saved : Is
   pub hold : HoldWhatMayBe m.jobs
   hold = hold_all m.jobs (λ j task at. holds j task at task.stage refl (fit j task at))
 
--- the machine of an expander is told by its bytes
+-- the machine of an expander is determined by its bytes
 pub is_state_of : (patient : Bool) (h : Shape) (m : MachineState) (room : Contents) (first : List Task) (numbers bytes : List ℕ) (jobs : List Task) (read : Option (List ℕ)) (placed : Bool) → IsHome h m room first numbers jobs read placed → CanStand m → FitInBytes m.jobs → IsSavedState m bytes
     → IsStateOf (record { shape = h; programs = m.programs; jobs = first; patient = patient }) m bytes
 is_state_of patient h m room first numbers bytes jobs read placed home stands fit saved = record {

@@ -46,7 +46,7 @@ chosen_all parts numbers up =
 pub all_within : (numbers : List ℕ) (n : ℕ) → CountUp numbers n → All (λ k. k < n) numbers
 all_within numbers n up = All-from_get_or (λ k. k < n) numbers 0 (λ i inside. let less : i < n = subst (λ (k : ℕ). i < k) up.count inside in subst (λ (k : ℕ). k < n) (sym (up.each i less)) less)
 
--- ---- contexts of jobs that stand
+-- ---- contexts of jobs that are there
 pub are_short : (m : MachineState) → CanStand m → AreShort m.jobs
 are_short m stands = All-from_get_or (λ task. length (context_of task.stage) ≤ 4096) m.jobs no_task (λ i inside. short i (get_or m.jobs i no_task) (slice_get-get_or m.jobs i no_task inside))
   where

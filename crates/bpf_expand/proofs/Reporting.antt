@@ -61,7 +61,7 @@ no_work m c ended (j, inr (free, (task, context, here), none)) =
     let both : Waiting context ≡ Ended end.0 = sym here.at ∙ end.1 in cc
 
 module _ (h : Host) (bytes : List ℕ) where
-  -- of jobs that have ended, no CPU's turns are told
+  -- of jobs that have ended, no CPU's turns are printed
   none_found : (m : MachineState) → IsStateOf h m bytes → HaveEnded m.jobs → (found : List Successor) → AreSuccessors h bytes found → found ≢ [] → ⊥
   none_found m is ended [] are some = some refl
   none_found m is ended (s ∷ found) are some =

@@ -34,7 +34,7 @@ one_shape h p q a b = (λ c. b.1 c ∙ sym (a.1 c), b.0 ∙ sym a.0)
 pub shape_read : (h : Shape) (old new : Contents) (bytes : List ℕ) (n : ℕ) → IsOfShape h old → IsRead old bytes n new → IsOfShape h new
 shape_read h old new bytes n of read = (sym read.saved.shape.1 ∙ of.0, λ c. sym (read.saved.shape.0 c) ∙ of.1 c)
 
--- jobs that were read, and what is behind them
+-- jobs that were read, and what is after them
 module _ (h : Host) (jobs : List Task) (bytes rest : List ℕ) (later : AreLater h.jobs jobs) (read : bytes ≡ jobs_saved jobs ++ rest) where
   told : (m : MachineState) → IsStateOf h m bytes → (jobs ≡ m.jobs) × IsSavedAs m.store rest
   told m is =
@@ -47,7 +47,7 @@ module _ (h : Host) (jobs : List Task) (bytes rest : List ℕ) (later : AreLater
     saved = subst (λ (l : List ℕ). IsSavedAs m.store l) (sym (take-length rest)) (told m is).1;
   }
 
-  -- no store is behind them
+  -- no store is after them
   pub no_store : (old : Contents) → IsOfShape h.shape old → SavesNone old rest → (m : MachineState) → IsStateOf h m bytes → ⊥
   no_store old of none m is = none (length rest) m.store (first_saved old of m is)
 
@@ -70,7 +70,7 @@ module _ (h : Host) (jobs : List Task) (bytes rest : List ℕ) (later : AreLater
       pub jobs_are : chosen jobs numbers ≡ jobs
       jobs_are = chosen_all jobs numbers (subst (λ (n : ℕ). CountUp numbers n) (sym (later_count h.jobs jobs later)) up)
 
-      -- the machine can't stand
+      -- the machine can't be
       pub no_stand : (CanStand (made_of room h.programs jobs numbers) → ⊥) → (m : MachineState) → IsStateOf h m bytes → ⊥
       no_stand none m is =
           let t = told m is in

@@ -15,7 +15,7 @@ use Rattle.bpf_expand.specs.declared.successor.Successor.{Successor}
 use Rattle.bpf_expand.specs.State.{Host, AreSuccessors, IsNoState, IsStateOf, IsTold}
 use Rattle.bpf_expand.specs.Lines.{no_state_line, report_line, state_line, successor_lines}
 
--- a host whose maps have these names, and whether races are told; how many lines were answered,
+-- a host whose maps have these names, and whether races are printed; how many lines were answered,
 -- counted up to the greatest `u64`, and the last answer
 pub record FilterState : Type 0 where
   pub host : Host
@@ -45,12 +45,12 @@ IsFirstLine shape programs jobs line = (m : MachineState) × (bytes : List ℕ)
     × Shows m (first_world shape programs jobs)
     × IsStateOf (host_of false shape programs jobs) m bytes × (line ≡ state_line bytes)
 
--- no CPU has work, and this is told of the jobs and maps
+-- no CPU has work, and this is printed of the jobs and maps
 abbrev pub IsReportIn : Host → List (List ℕ) → List ℕ → List ℕ → Type 0
 IsReportIn h names bytes report =
     (m : MachineState) × IsStateOf h m bytes × HaveEnded m.jobs × IsTold m names report
 
--- what is told of a state: what CPUs' turns lead to, or the report where no CPU has work
+-- what is printed of a state: what CPUs' turns lead to, or the report where no CPU has work
 abbrev pub IsToldOf : Host → List (List ℕ) → List ℕ → List ℕ → Type 0
 IsToldOf h names bytes text =
     ((found : List Successor) × AreSuccessors h bytes found × (found ≢ [])
@@ -61,13 +61,13 @@ IsToldOf h names bytes text =
 abbrev pub AreRacesOf : Host → List ℕ → List RaceFound → Type 0
 AreRacesOf h bytes races = (m : MachineState) × IsStateOf h m bytes × AreRacesIn m [] races
 
--- the races of a state, a line each, if they are to be told
+-- the races of a state, a line each, if they are to be printed
 abbrev pub AreRacesTold : (races : Bool) → Host → List (List ℕ) → List ℕ → List ℕ → Type 0
 AreRacesTold false h names bytes text = text ≡ []
 AreRacesTold true h names bytes text = (races : List RaceFound) × AreRacesOf h bytes races
     × (text ≡ here_lines names (length races) races)
 
--- they stand before what is told of a state
+-- they are before what is printed of a state
 abbrev pub IsToldWith : (races : Bool) → Host → List (List ℕ) → List ℕ → List ℕ → Type 0
 IsToldWith races h names bytes text = (before rest : List ℕ)
     × AreRacesTold races h names bytes before × IsToldOf h names bytes rest
@@ -78,8 +78,8 @@ abbrev pub IsNoStateLine : Host → List ℕ → Type 0
 IsNoStateLine h line =
     (line ≢ []) × ((bytes : List ℕ) → decode_of line ≡ Ok bytes → IsNoState h bytes)
 
--- an empty line is passed over, a state is told, and what is none is refused by the line's number;
--- want of memory may stand in place of any answer
+-- an empty line is passed over, a state is printed, and what is none is refused by the line's number;
+-- out of memory may take the place of any answer
 abbrev pub IsLineTold : (races : Bool) → Host → List (List ℕ) → (number : ℕ)
     → (line text : List ℕ) → (refused : Bool) → Type 0
 IsLineTold races h names number line text false = ((line ≡ []) × (text ≡ []))

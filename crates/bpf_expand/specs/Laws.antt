@@ -11,7 +11,9 @@ use Rattle.bpf_machine.specs.Patient.{IsCoveredRichly, NoneRanOut}
 use Rattle.bpf_machine.specs.Cover.{IsShown, IsCovered}
 use Rattle.bpf_jobs.specs.Printed.{Tells}
 use Rattle.bpf_expand.specs.declared.successor.Successor.{Successor}
-use Rattle.bpf_races.specs.Races.{RaceFound, IsListed}
+use Rattle.bpf_shared.specs.Store.{Plain}
+use Rattle.bpf_races.specs.declared.found.Pair.{Pair}
+use Rattle.bpf_races.specs.Races.{RaceFound, IsTold}
 use Rattle.bpf_expand.specs.Filter.{AreRacesOf, IsReportIn}
 use Rattle.bpf_expand.specs.State.{Host, AreSuccessors, IsStateOf, IsIdleIn, IsSuccessor}
 
@@ -56,7 +58,7 @@ PatientStatesCover =
 abbrev pub HasLine : List (List ℕ) → List ℕ → Type 0
 HasLine lines bytes = (line : List ℕ) × IsAmong lines line × (decode_of line ≡ Ok bytes)
 
--- the line is told, and each state that it leads to has a line
+-- the line is printed, and each state that it leads to has a line
 abbrev pub IsAnswered : Host → List (List ℕ) → List (List ℕ) → List ℕ → Type 0
 IsAnswered h names lines line = (bytes : List ℕ) × (decode_of line ≡ Ok bytes)
     × (((found : List Successor) × AreSuccessors h bytes found × (found ≢ [])
@@ -67,7 +69,7 @@ IsAnswered h names lines line = (bytes : List ℕ) × (decode_of line ≡ Ok byt
 abbrev pub AreAnswered : Host → List (List ℕ) → List (List ℕ) → Type 0
 AreAnswered h names lines = (line : List ℕ) → IsAmong lines line → IsAnswered h names lines line
 
--- what is told of a world is the report of one of the lines
+-- what is printed of a world is the report of one of the lines
 abbrev pub IsReported : Host → List (List ℕ) → List (List ℕ) → World → Type 0
 IsReported h names lines z = (bytes report : List ℕ) × (stopped : Bool) × HasLine lines bytes
     × IsReportIn h names bytes report × Tells z.store z.jobs names true report stopped
@@ -77,7 +79,7 @@ abbrev pub FitBudgets : (patient : Bool) → List Task → Type 0
 FitBudgets patient jobs = patient ≡ true → NoneRanOut jobs
 
 -- lines that are closed so, the first state's among them, have all outcomes: whatever schedule leads
--- to an end from what a machine shows before its first turn, a line's report is told of it; of a
+-- to an end from what a machine shows before its first turn, a line's report is printed of it; of a
 -- patient host, whatever schedule in which no job runs out of budget
 abbrev pub LinesCover : Type 0
 LinesCover =
@@ -92,18 +94,19 @@ abbrev pub AreTold : Host → List (List ℕ) → (List ℕ → List RaceFound) 
 AreTold h lines told = (line : List ℕ) → IsAmong lines line
     → (bytes : List ℕ) × (decode_of line ≡ Ok bytes) × AreRacesOf h bytes (told line)
 
--- one of the lines is answered by a race of these CPUs at these pcs
-abbrev pub IsToldAmong : List (List ℕ) → (List ℕ → List RaceFound) → ℕ → ℕ → ℕ → ℕ → Type 0
-IsToldAmong lines told c p d q =
-    (line : List ℕ) × IsAmong lines line × IsListed (told line) c p d q
+-- one of the lines is answered by a race of these two, who are there, for the map and the key of the
+-- value at the address
+abbrev pub IsToldAmong : List (List ℕ) → (List ℕ → List RaceFound) → Plain → Pair → ℕ → Type 0
+IsToldAmong lines told s pair b =
+    (line : List ℕ) × IsAmong lines line × IsTold (told line) s pair b
 
--- if races are told, such lines have all of them: whatever CPUs race at whatever pcs, wherever such a
--- schedule leads, the answer of one of the lines has it
+-- if races are printed, such lines have all of them: whatever CPUs race wherever they are, for whatever
+-- byte and wherever such a schedule leads, the answer of one of the lines has it
 abbrev pub LinesHaveRaces : Type 0
 LinesHaveRaces =
     (h : Host) (names lines : List (List ℕ)) (told : List ℕ → List RaceFound)
     (first : MachineState) (bytes : List ℕ) (w z : World) (schedule : List ℕ)
     → AreAnswered h names lines → AreTold h lines told → IsStateOf h first bytes
     → HasLine lines bytes → IsFresh w → Shows first w → RunsSchedule w schedule z
-    → FitBudgets h.patient z.jobs → (c p d q b : ℕ) → c < d → IsRace z c p d q b
-    → IsToldAmong lines told c p d q
+    → FitBudgets h.patient z.jobs → (pair : Pair) (b : ℕ) → pair.one.cpu < pair.other.cpu
+    → IsRace z pair.one pair.other b → IsToldAmong lines told z.store pair b

@@ -27,7 +27,7 @@ abbrev pub successor_lines : ℕ → List Successor → List ℕ
 successor_lines zero found = []
 successor_lines (suc n) found = successor_lines n found ++ line_of (slice_get found n)
 
--- what is told of an end
+-- what is printed of an end
 abbrev pub report_line : List ℕ → List ℕ
 report_line report = codes "report " ++ (encode_lower report ++ codes "\n")
 

@@ -72,7 +72,7 @@ abbrev pub Fills : (patient : Bool) → MachineState → ℕ → MachineState �
 Fills false old c new = new ≡ old
 Fills true old c new = IsRefilled old c new
 
--- the CPU's turn, and so many of its turns behind it that no store sees
+-- the CPU's turn, and n of its turns after it that no store sees
 abbrev pub Leads : Host → MachineState → ℕ → ℕ → MachineState → Type 0
 Leads h old c n new = (mid : MachineState) × TurnsAhead old c n mid × Fills h.patient mid c new
 
@@ -85,7 +85,7 @@ IsSuccessor h bytes c n next =
 abbrev pub IsNoState : Host → List ℕ → Type 0
 IsNoState h bytes = (m : MachineState) → IsStateOf h m bytes → ⊥
 
--- this is told of the machine's jobs and maps, which have these names, whatever its store stands for
+-- this is printed of the machine's jobs and maps, which have these names, whatever its store stands for
 abbrev pub IsTold : MachineState → List (List ℕ) → List ℕ → Type 0
 IsTold m names text = (stopped : Bool) × ((s : Plain) → IsSoundStore s → StandsFor m.store s
     → Tells s m.jobs names true text stopped)

@@ -39,7 +39,7 @@ fn fill(machine: &mut Machine, patient: bool, cpu: u8)
     machine.refill(cpu);
 }
 
-/// What is told of a machine's jobs and maps, which have these names.
+/// What is printed of a machine's jobs and maps, which have these names.
 fn report(alloc: Global, machine: &Machine, names: &[String]) -> Result<String, AllocError>
     requires { machine.now.lists ≡ None }
     ensures { IfOk result (λ text. IsTold machine.now (map string_bytes names.now)
@@ -319,7 +319,7 @@ impl Expander {
         Ok(Some(found))
     }
 
-    /// What is told of the machine's jobs and maps, which have these names.
+    /// What is printed of the machine's jobs and maps, which have these names.
     pub fn report(&self, names: &[String]) -> Result<String, AllocError>
         ensures { IfOk result (λ text. IsTold self.now.machine (map string_bytes names.now)
             (string_bytes text)) }

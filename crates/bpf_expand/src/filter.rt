@@ -1,10 +1,10 @@
 //! A filter of lines: each is a state, and answered by what CPUs' turns lead to from it.
 
-ghost use Rattle.std.specs.Prelude.{◌≡◌, ◌<◌, ◌≤◌, ◌++◌, All, IfNone, IfOk, IfSome, false, is_some, map, string_bytes, true, vec_len};
-ghost use Rattle.bpf_mem.specs.Limits.{max_context};
+ghost use Rattle.std.specs.Prelude.{◌≡◌, ◌++◌, IfNone, IfOk, IfSome, false, is_some, map, string_bytes, true};
+ghost use Rattle.bpf_cpu.specs.Setup.{IsRunnable};
 ghost use Rattle.bpf_cpu.specs.Task.{waiting};
 ghost use Rattle.bpf_machine.specs.Machine.{Shows};
-ghost use Rattle.bpf_jobs.specs.Printed.{first_world};
+ghost use Rattle.bpf_jobs.specs.Printed.{first_of};
 ghost use Rattle.bpf_expand.specs.Filter.{IsFirstLine, host_of, new_filter};
 ghost use Rattle.bpf_expand.specs.Lines.{no_state_line};
 ghost use Rattle.bpf_expand.specs.Private.Races.{TellsRaces};
@@ -12,10 +12,9 @@ ghost use Rattle.bpf_expand.specs.Private.Races.{TellsRaces};
 use crate::digits::line_bytes;
 use crate::expander::Expander;
 use crate::lines::{no_state_line, report_line, state_line, successor_lines};
-use bpf_cpu::Job;
+use bpf_cpu::Setup;
 use bpf_explore::copy_shape;
 use bpf_jobs::make_machine;
-use bpf_loader::Program;
 use bpf_machine::Machine;
 use bpf_races::{Watcher, list_races_in, races_in};
 use bpf_shared::StoreShape;
@@ -26,12 +25,12 @@ use std::marker::Model;
 /// What is answered where there is no memory.
 const NO_MEMORY: &str = "refused L9\n";
 
-/// The jobs of a host, whose states are read from lines and told.
+/// The jobs of a host, whose states are read from lines and printed.
 #[derive(Drop)]
 pub struct Filter {
     expander: Expander,
     names: Vec<String>,
-    /// Where races are told: what tells them.
+    /// Where races are printed: what finds them.
     watcher: Option<Watcher>,
     /// How many lines were answered, counted up to the greatest `u64`.
     lines: u64,
@@ -53,7 +52,7 @@ impl Model for Filter {
     } };
 }
 
-/// What is printed of a line that is told, or that is no state; whether it is refused.
+/// What is printed of a line that is a state, or that is none; whether it is refused.
 fn shown(alloc: Global, told: Option<String>, line: u64) -> Result<(String, bool), AllocError>
     ensures some { IfOk result (λ r. IfSome told (λ text. (r.0 ≡ text) × (r.1 ≡ false))) }
     ensures none { IfOk result (λ r. IfNone told
@@ -66,27 +65,18 @@ fn shown(alloc: Global, told: Option<String>, line: u64) -> Result<(String, bool
 }
 
 /// The machine of jobs over a new store, to work with.
-fn open(
-    alloc: Global,
-    patient: bool,
-    shape: StoreShape,
-    programs: Vec<Program>,
-    jobs: Vec<Job>,
-) -> Result<Expander, AllocError>
-    requires cpus { All (λ job. job.cpu < shape.cpus) jobs.items }
-    requires programs { All (λ job. job.program < vec_len programs) jobs.items }
-    requires contexts { All (λ job. vec_len job.context ≤ max_context) jobs.items }
-    ensures host { IfOk result (λ e. e.host ≡ host_of patient shape programs.items
-        (map waiting jobs.items)) }
-    ensures machine { IfOk result (λ e. Shows e.machine
-        (first_world shape programs.items (map waiting jobs.items))) }
+fn open(alloc: Global, patient: bool, setup: Setup) -> Result<Expander, AllocError>
+    requires { IsRunnable setup }
+    ensures host { IfOk result (λ e. e.host ≡ host_of patient setup.shape setup.programs.items
+        (map waiting setup.jobs.items)) }
+    ensures machine { IfOk result (λ e. Shows e.machine (first_of setup)) }
 {
-    let copy = copy_shape(alloc, &shape)?;
-    let machine = make_machine(alloc, copy, programs, jobs)?;
-    Expander::new(alloc, patient, shape, machine)
+    let copy = copy_shape(alloc, &setup.shape)?;
+    let machine = make_machine(alloc, setup)?;
+    Expander::new(alloc, patient, copy, machine)
 }
 
-/// What tells races over stores of this shape, if they are to be told.
+/// What finds races over stores of this shape, if they are to be printed.
 fn watcher_of(alloc: Global, races: bool, shape: &StoreShape) -> Result<Option<Watcher>, AllocError>
     ensures { IfOk result (λ o. is_some o ≡ races) }
 {
@@ -113,7 +103,7 @@ fn race_lines(
     Ok(text)
 }
 
-/// The same where they are to be told.
+/// The lines of the races of a machine, if they are to be printed; else none.
 fn told_races(
     alloc: Global,
     watcher: &mut Option<Watcher>,
@@ -130,7 +120,7 @@ fn told_races(
     }
 }
 
-/// One text behind another.
+/// One text after another.
 fn joined(before: String, rest: String) -> Result<String, AllocError>
     ensures { IfOk result (λ text. string_bytes text ≡ string_bytes before ++ string_bytes rest) }
 {
@@ -147,24 +137,20 @@ impl Filter {
     ghost use Rattle.bpf_expand.specs.State.{AreSuccessors, IsNoState};
     ghost use Rattle.bpf_expand.specs.Filter.{AreRacesTold, IsLineTold, IsNoStateLine, IsToldOf, IsToldWith};
 
-    /// The filter of jobs over a new store whose maps have these names, which tells races or not.
+    /// The filter of jobs over a new store whose maps have these names, which prints races or not.
     pub fn new(
         alloc: Global,
         patient: bool,
         races: bool,
-        shape: StoreShape,
+        setup: Setup,
         names: Vec<String>,
-        programs: Vec<Program>,
-        jobs: Vec<Job>,
     ) -> Result<Filter, AllocError>
-        requires cpus { All (λ job. job.cpu < shape.cpus) jobs.items }
-        requires programs { All (λ job. job.program < vec_len programs) jobs.items }
-        requires contexts { All (λ job. vec_len job.context ≤ max_context) jobs.items }
-        ensures { IfOk result (λ f. f ≡ new_filter patient races shape
-            (map string_bytes names.items) programs.items (map waiting jobs.items)) }
+        requires { IsRunnable setup }
+        ensures { IfOk result (λ f. f ≡ new_filter patient races setup.shape
+            (map string_bytes names.items) setup.programs.items (map waiting setup.jobs.items)) }
     {
-        let watcher = watcher_of(alloc, races, &shape)?;
-        let expander = open(alloc, patient, shape, programs, jobs)?;
+        let watcher = watcher_of(alloc, races, &setup.shape)?;
+        let expander = open(alloc, patient, setup)?;
         Ok(Filter {
             expander,
             names,
@@ -190,7 +176,7 @@ impl Filter {
         Ok(Some(report_line(alloc, report.as_str())?))
     }
 
-    /// What is told of a state but for its races. `None` where the bytes are none.
+    /// What is printed of a state but for its races. `None` where the bytes are none.
     fn tell_turns(&mut self, alloc: Global, bytes: &[u8]) -> Result<Option<String>, AllocError>
         ensures some { IfOk result (λ o. IfSome o
             (λ text. IsToldOf self.new.host self.new.names bytes.now (string_bytes text))) }
@@ -207,7 +193,7 @@ impl Filter {
         Ok(Some(successor_lines(alloc, &found)?))
     }
 
-    /// What is told of the races of a state. `None` where the bytes are none.
+    /// What is printed of the races of a state. `None` where the bytes are none.
     fn tell_races(&mut self, alloc: Global, bytes: &[u8]) -> Result<Option<String>, AllocError>
         ensures some { IfOk result (λ o. IfSome o (λ text. AreRacesTold self.new.races
             self.new.host self.new.names bytes.now (string_bytes text))) }
@@ -230,7 +216,7 @@ impl Filter {
         Ok(Some(text))
     }
 
-    /// What is told of a state. `None` where the bytes are none.
+    /// What is printed of a state. `None` where the bytes are none.
     fn tell(&mut self, alloc: Global, bytes: &[u8]) -> Result<Option<String>, AllocError>
         ensures some { IfOk result (λ o. IfSome o (λ text. IsToldWith self.new.races
             self.new.host self.new.names bytes.now (string_bytes text))) }
@@ -248,7 +234,7 @@ impl Filter {
         Ok(Some(text))
     }
 
-    /// What is told of the state that a line is. `None` where it is none.
+    /// What is printed of the state that a line is. `None` where it is none.
     fn tell_line(&mut self, alloc: Global, line: &[u8]) -> Result<Option<String>, AllocError>
         requires { line.now ≢ [] }
         ensures some { IfOk result (λ o. IfSome o (λ text. (number : ℕ)
@@ -299,19 +285,12 @@ impl Filter {
 }
 
 /// The line of the first state of jobs over a new store.
-pub fn first_line(
-    alloc: Global,
-    shape: StoreShape,
-    programs: Vec<Program>,
-    jobs: Vec<Job>,
-) -> Result<String, AllocError>
-    requires cpus { All (λ job. job.cpu < shape.cpus) jobs.items }
-    requires programs { All (λ job. job.program < vec_len programs) jobs.items }
-    requires contexts { All (λ job. vec_len job.context ≤ max_context) jobs.items }
-    ensures { IfOk result (λ text. IsFirstLine shape programs.items (map waiting jobs.items)
-        (string_bytes text)) }
+pub fn first_line(alloc: Global, setup: Setup) -> Result<String, AllocError>
+    requires { IsRunnable setup }
+    ensures { IfOk result (λ text. IsFirstLine setup.shape setup.programs.items
+        (map waiting setup.jobs.items) (string_bytes text)) }
 {
-    let expander = open(alloc, false, shape, programs, jobs)?;
+    let expander = open(alloc, false, setup)?;
     let bytes = expander.state()?;
     state_line(alloc, &bytes)
 }

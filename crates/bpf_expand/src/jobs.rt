@@ -20,7 +20,7 @@ pub(crate) fn count_up(alloc: Global, count: usize) -> Result<Vec<u32>, AllocErr
     Ok(numbers)
 }
 
-/// A machine's jobs as they stand.
+/// A machine's jobs as they are.
 pub(crate) fn keep_jobs(alloc: Global, machine: &Machine) -> Result<Vec<KeptJob>, AllocError>
     ensures { IfOk result (λ v. v.items ≡ machine.now.jobs) }
 {
@@ -32,7 +32,7 @@ pub(crate) fn keep_jobs(alloc: Global, machine: &Machine) -> Result<Vec<KeptJob>
     Ok(jobs)
 }
 
-/// Puts behind the bytes what a machine's jobs are saved as.
+/// Appends to the bytes what a machine's jobs are saved as.
 pub(crate) fn save_jobs(machine: &Machine, out: &mut Vec<u8>) -> Result<(), AllocError>
     ensures { OnOk result (out.new.items ≡ out.old.items ++ jobs_saved machine.now.jobs) }
 {

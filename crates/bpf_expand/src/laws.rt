@@ -12,7 +12,8 @@ pub fn states_cover()
     bpf_machine::laws::closed_sets_cover();
 }
 
-/// The same of schedules in which no job runs out of budget, where how many steps are left of budgets
+/// Such states cover all schedules in which no job runs out of budget, where how many steps are left
+/// of budgets
 /// is passed over.
 pub fn patient_states_cover()
     ensures { PatientStatesCover }
@@ -33,7 +34,7 @@ pub fn lines_cover()
     bpf_plain::laws::alike_stand_alike();
 }
 
-/// Where the races of such lines are told, these are all to which those schedules lead.
+/// Where the races of such lines are printed, these are all to which those schedules lead.
 pub fn lines_have_races()
     ensures { LinesHaveRaces }
 {

@@ -8,7 +8,7 @@ use bpf_codes::Code;
 use bpf_lines::to_hex;
 use std::alloc::{AllocError, Global};
 
-/// How many bytes mostly stand round a state's digits in its line.
+/// How many bytes mostly surround a state's digits in its line.
 const AROUND: usize = 24;
 
 /// The CPU, and how many turns it made.
@@ -20,7 +20,7 @@ fn by_text(alloc: Global, successor: &Successor) -> Result<String, AllocError>
     format!(in alloc; " by {cpu}*{turns}\n")
 }
 
-/// Puts the line of a state behind the text.
+/// Appends the line of a state to the text.
 fn push_successor(alloc: Global, text: &mut String, successor: &Successor) -> Result<(), AllocError>
     ensures { OnOk result (string_bytes text.new
         ≡ string_bytes text.old ++ successor_line successor.now) }
@@ -32,7 +32,7 @@ fn push_successor(alloc: Global, text: &mut String, successor: &Successor) -> Re
     text.push_str(by.as_str())
 }
 
-/// How many bytes to make room for: two digits for each of the states' bytes, and what stands round
+/// How many bytes to make room for: two digits for each of the states' bytes, and what is round
 /// them.
 fn likely_size(found: &[Successor]) -> usize {
     let mut size: usize = 0;
@@ -64,7 +64,7 @@ pub(crate) fn state_line(alloc: Global, bytes: &[u8]) -> Result<String, AllocErr
     Ok(text)
 }
 
-/// The line of what is told of an end.
+/// The line of what is printed of an end.
 pub(crate) fn report_line(alloc: Global, report: &str) -> Result<String, AllocError>
     ensures { IfOk result (λ text. string_bytes text ≡ report_line report.now) }
 {

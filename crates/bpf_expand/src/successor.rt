@@ -4,7 +4,7 @@
 #[derive(Drop)]
 pub struct Successor {
     pub cpu: u8,
-    /// How many turns the CPU makes behind its first, which no store sees.
+    /// How many turns the CPU makes after its first, which no store sees.
     pub ahead: u64,
     pub bytes: Vec<u8>,
 }

@@ -5,5 +5,6 @@ pub mod files;
 pub mod program;
 pub mod running;
 pub mod states;
+pub mod terms;
 pub mod text;
 pub mod workers;

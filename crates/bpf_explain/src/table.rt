@@ -57,6 +57,7 @@ pub fn page_of(code: Code) -> Page
         Code::L8 => files::L8,
         Code::L9 => files::L9,
         Code::L10 => files::L10,
+        Code::L11 => files::L11,
         Code::S1 => files::S1,
         Code::S2 => files::S2,
         Code::S3 => files::S3,

@@ -34,7 +34,7 @@ one_shape h p q a b = (λ c. b.1 c ∙ sym (a.1 c), b.0 ∙ sym a.0)
 pub shape_still : (h : Shape) (old new : MachineState) → IsSameHost old new → IsOfShape h old.store → IsOfShape h new.store
 shape_still h old new same shape = (same.shape.1 ∙ shape.0, λ c. same.shape.0 c ∙ shape.1 c)
 
--- what is saved as the machine's store is, with jobs that stand as its jobs do
+-- what is saved as the machine's store is, with jobs that are as its jobs do
 module _ (h : Shape) (s : Shelf) (m : MachineState) (tuple bytes : List ℕ) (fits : FitsShelf h s m) (shapes : (n : ℕ) → n < length s.stores → IsOfShape h (slice_index_or s.stores n no_store))
     (stored : slice_index_or tuple 0 0 < length s.stores) (saved : IsSavedAs m.store bytes) (kept : IsSavedAs (slice_index_or s.stores (slice_index_or tuple 0 0) no_store) bytes)
     (within : All (λ n. n < length s.parts) (drop 1 tuple)) (jobs : chosen s.parts (drop 1 tuple) ≡ m.jobs) where
@@ -136,7 +136,7 @@ restored_fits h stores parts states m new place there read jobs is ready e =
     fits_with h stores parts states m new (ap (λ (n : MachineState). n.programs) e) is (subst (λ (n : MachineState). IsOfShape h n.store) (sym e) ready.shaped)
     (ready.width ∙ ap (λ (n : MachineState). length n.jobs + 1) (sym e)) (ap (λ (n : MachineState). n.lists) e)
 
--- the numbers of a store and of jobs, one behind the other
+-- the numbers of a store and of jobs, one after the other
 pub numbered_under : (stores : List Contents) (parts : List Task) (m : MachineState) (before new : List ℕ) (store : ℕ) → before ≡ store ∷ [] → store < length stores
     → ((saved : List ℕ) × IsSavedAs m.store saved × IsSavedAs (slice_index_or stores store no_store) saved) → ((more : List ℕ) × (new ≡ before ++ more) × AreNumbersOf parts more m.jobs) → AreKeptUnder stores parts m new
 numbered_under stores parts m before new store first stored alike numbered =

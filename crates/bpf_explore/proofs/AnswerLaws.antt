@@ -97,7 +97,7 @@ module _ (xs : List Found) (i : ℕ) (x : Found) (within : i ≤ length xs) wher
     ]
   ]
 
--- ---- where more answers stand
+-- ---- where more answers are
 pub answered_still : (kept : List MachineState) (names : List (List ℕ)) (maps : Bool) (old new : List Found) (i : ℕ) → KeepsAll old new → IsAnsweredAt kept names maps old i → IsAnsweredAt kept names maps new i
 answered_still kept names maps old new i keeps told m at ended =
     let a = told m at ended in
@@ -110,7 +110,7 @@ none_lost answers i found at = (i, at)
 pub more_kept : (old mid new : List Found) → KeepsAll old mid → KeepsAll mid new → KeepsAll old new
 more_kept old mid new a b i found at = let there = a i found at in b there.0 found there.1
 
--- behind an answer that is greater than a text all are
+-- after an answer that is greater than a text all are
 pub behind_all : (answers : List Found) (text : List ℕ) (i : ℕ) (here : Found) → AreSorted answers → slice_get answers i ≡ Some here → slice_cmp nat_cmp text here.text ≡ Less
     → (k : ℕ) (found : Found) → i ≤ k → slice_get answers k ≡ Some found → slice_cmp nat_cmp text found.text ≡ Less
 behind_all answers text i here sorted at less k found above there = elim (cases_lt i k) [
@@ -122,7 +122,7 @@ behind_all answers text i here sorted at less k found above there = elim (cases_
       subst (λ (y : Found). slice_cmp nat_cmp text y.text ≡ Less) one less
 ]
 
--- ---- where a text is to stand
+-- ---- where a text is to be
 module _ (answers : List Found) (i : ℕ) (x : Found) (text : List ℕ) (inside : i < length answers) (here : x ≡ get_or answers i x) where
   at_place : slice_get answers i ≡ Some x
   at_place = slice_get_read answers (length answers) i x refl inside here

@@ -72,7 +72,7 @@ pub this_edge : (cpus n place cpu to ahead : ℕ) → n / cpus ≡ place → n %
 this_edge cpus n place cpu to ahead here own P is =
     subst (λ (i : ℕ). P (record { «from» = i; to = to; ahead = ahead; cpu = n % cpus })) (sym here) (subst (λ (c : ℕ). P (record { «from» = place; to = to; ahead = ahead; cpu = c })) (sym own) is)
 
--- the turn by a CPU from a machine, with these told
+-- the turn by a CPU from a machine, with these given
 pub placed_edge : (kept : List MachineState) (i c : ℕ) (e : Edge) → IsEdgeOf kept i c e → IsEdgeOf kept i c (record { «from» = i; to = e.to; ahead = e.ahead; cpu = c })
 placed_edge kept i c e (from, own, is) = (
   refl,

@@ -9,16 +9,16 @@ use Rattle.bpf_machine.specs.Machine.{MachineState, Shows}
 use Rattle.bpf_machine.specs.Schedule.{World, RunsSchedule, unrolled}
 use Rattle.bpf_machine.specs.Cover.{TurnsAhead}
 use Rattle.bpf_machine.specs.Patient.{NoneRanOut}
-use Rattle.bpf_machine.specs.Ends.{AreStuck, StuckAreHung, FreeRunsAgree}
+use Rattle.bpf_machine.specs.Ends.{AreStuck, RunsFreely, StuckAreHung, FreeRunsAgree}
 use Rattle.bpf_machine.specs.Budgets.{depth_at, AreSparing, BudgetsSuffice}
 use Rattle.bpf_explore.specs.declared.turns.Edge.{Edge}
 use Rattle.bpf_explore.specs.Album.{LeadsFreely, HaveBudgets}
 use Rattle.bpf_explore.specs.Search.{IsIdleAt}
 use Rattle.bpf_explore.specs.Private.Edges.{IsEdgeOf}
 use Rattle.bpf_explore.specs.Private.Depths.{LeadsDeeperAt, IsSparingAt}
-use Rattle.bpf_explore.specs.Private.Ends.{AreMarked}
-use Rattle.bpf_explore.specs.Private.Hung.{Hangs, AllHang, AllLead, AllMarkedBelow}
+use Rattle.bpf_explore.specs.Private.Hung.{Hangs, AllHang, ComesTo, LeadsOn, IsBeyondOne, AllBeyondBelow}
 use Rattle.bpf_explore.specs.Private.Replays.{SomeRanOut, IsReplayed, IsReached, CanRunOut, NoneRunsOut}
+use Rattle.bpf_explore.proofs.TrailLaws.{free_runs_join, leads_both, leads_nowhere}
 use Rattle.bpf_explore.proofs.WayLaws.{agrees}
 
 -- ---- schedules that are tried
@@ -75,21 +75,47 @@ one_more_hung kept hung pushed by all is same k x at = elim (cases_lt k (length 
     there : slice_get (hung ++ by ∷ []) k ≡ Some x
     there = ap (λ (hs : List (List (ℕ × ℕ))). slice_get hs k) (sym same) ∙ at
 
-pub never_none : (hung pushed : List (List (ℕ × ℕ))) (by : List (ℕ × ℕ)) → pushed ≡ hung ++ by ∷ [] → pushed ≡ [] → ⊥
-never_none hung pushed by same none =
-    let both = length-append hung (by ∷ []) in
-    let size : length (hung ++ by ∷ []) ≡ 0 = ap (λ (hs : List (List (ℕ × ℕ))). length hs) (sym same ∙ none) in
-    absurd (omega arith)
+-- the schedule leads to the kept machine, but for steps that are left
+pub comes_to : FreeRunsAgree → (kept : List MachineState) (place : ℕ) (by : List (ℕ × ℕ)) (m : MachineState) → LeadsFreely kept 0 (unrolled by) place → IsReplayed kept (unrolled by) m → NoneRanOut m.jobs → ComesTo kept by place
+comes_to agree kept place by m leads tried none w fresh first =
+    let a = agrees agree kept by place m leads tried none w fresh first in
+    (a.z, a.runs, (a.jobs, a.shown.0, a.rich, a.shown.1, a.shown.2))
 
-pub one_of_marked : (marks : List Bool) (place : ℕ) → (slice_get marks place ≡ Some true) ⊎ ((i : ℕ) × (i < place) × (slice_get marks i ≡ Some false)) → AllMarkedBelow marks place → slice_get marks place ≡ Some true
-one_of_marked marks place (inl at) all = at
-one_of_marked marks place (inr (i, less, off)) all = let two : Some true ≡ Some false = sym (all i less) ∙ off in cc
+-- ---- what lies beyond what is listed
+-- turns lead on
+beyond_more : (kept : List MachineState) (hung : List (List (ℕ × ℕ))) (i place : ℕ) → IsBeyondOne kept hung i → LeadsOn kept i place → IsBeyondOne kept hung place
+beyond_more kept hung i place (k, by, j, at, comes, (cs, far)) (ds, leads) =
+    (k, by, j, at, comes, (cs ++ ds, leads_both RunsFreely free_runs_join kept j i place cs ds far leads))
 
-pub next_marked : (marks : List Bool) (n : ℕ) → AllMarkedBelow marks n → slice_get marks n ≡ Some true → AllMarkedBelow marks (n + 1)
-next_marked marks n far one i less = elim (cases_lt i n) [
-  | inl below ↦ far i below
-  | inr past ↦ let e : n ≡ i = omega arith in subst (λ (k : ℕ). slice_get marks k ≡ Some true) e one
+never_both : (marks : List Bool) (place : ℕ) → slice_get marks place ≡ Some true → slice_get marks place ≡ Some false → ⊥
+never_both marks place on off = let two : Some true ≡ Some false = sym on ∙ off in cc
+
+from_earlier : (kept : List MachineState) (marks : List Bool) (hung : List (List (ℕ × ℕ))) (place : ℕ) → (slice_get marks place ≡ Some true) ⊎ ((i : ℕ) × (i < place) × (slice_get marks i ≡ Some false) × LeadsOn kept i place)
+    → AllBeyondBelow kept marks hung place → slice_get marks place ≡ Some false → IsBeyondOne kept hung place
+from_earlier kept marks hung place (inl on) all off = absurd (never_both marks place on off)
+from_earlier kept marks hung place (inr (i, less, off, leads)) all here = beyond_more kept hung i place (all i less off) leads
+
+-- one more of the first
+below_next : (kept : List MachineState) (marks : List Bool) (hung : List (List (ℕ × ℕ))) (place : ℕ) → AllBeyondBelow kept marks hung place → (slice_get marks place ≡ Some false → IsBeyondOne kept hung place) → AllBeyondBelow kept marks hung (place + 1)
+below_next kept marks hung place all here i less off = elim (cases_lt i place) [
+  | inl below ↦ all i below off
+  | inr past ↦ let e : place ≡ i = omega arith in subst (λ (k : ℕ). slice_get marks k ≡ Some false → IsBeyondOne kept hung k) e here off
 ]
+
+pub none_new : (kept : List MachineState) (marks : List Bool) (hung : List (List (ℕ × ℕ))) (place : ℕ) → (slice_get marks place ≡ Some true) ⊎ ((i : ℕ) × (i < place) × (slice_get marks i ≡ Some false) × LeadsOn kept i place)
+    → AllBeyondBelow kept marks hung place → AllBeyondBelow kept marks hung (place + 1)
+none_new kept marks hung place later all = below_next kept marks hung place all (from_earlier kept marks hung place later all)
+
+beyond_still : (kept : List MachineState) (hung pushed : List (List (ℕ × ℕ))) (by : List (ℕ × ℕ)) (i : ℕ) → pushed ≡ hung ++ by ∷ [] → IsBeyondOne kept hung i → IsBeyondOne kept pushed i
+beyond_still kept hung pushed by i same (k, one, j, at, comes, leads) =
+    let inside = slice_get_within hung k one at in
+    (k, one, j, ap (λ (hs : List (List (ℕ × ℕ))). slice_get hs k) same ∙ (slice_get-front hung (by ∷ []) k inside ∙ at), comes, leads)
+
+pub next_beyond : (kept : List MachineState) (marks : List Bool) (hung pushed : List (List (ℕ × ℕ))) (by : List (ℕ × ℕ)) (place : ℕ) → ComesTo kept by place → pushed ≡ hung ++ by ∷ [] → AllBeyondBelow kept marks hung place → AllBeyondBelow kept marks pushed (place + 1)
+next_beyond kept marks hung pushed by place comes same all =
+    let at : slice_get pushed (length hung) ≡ Some by = ap (λ (hs : List (List (ℕ × ℕ))). slice_get hs (length hung)) same ∙ at_end hung by in
+    below_next kept marks pushed place (λ i less off. beyond_still kept hung pushed by i same (all i less off))
+    (λ off. (length hung, by, place, at, comes, ([], leads_nowhere RunsFreely free_runs_join kept place)))
 
 -- ---- depths
 pub edge_deeper : (kept : List MachineState) (depths : List ℕ) (i c : ℕ) (e : Edge) → IsEdgeOf kept i c e → depth_at depths i + e.ahead + 1 ≤ depth_at depths e.to → LeadsDeeperAt kept depths i c
@@ -139,9 +165,3 @@ are_sparing kept depths least n budgets past all i m at =
 pub none_runs_out : BudgetsSuffice → (kept : List MachineState) (depths : List ℕ) (least : ℕ) → AreSparing kept depths least → NoneRunsOut kept
 none_runs_out law kept depths least sparing w fresh first (schedule, z, runs, (j, task, pc, at, ended)) =
     law kept depths least w z schedule sparing fresh (0, first.0, first.1, first.2) runs j task pc at ended
-
--- ---- ends
-pub all_lead : (kept : List MachineState) (marks : List Bool) → AreMarked kept marks → ((i : ℕ) → i < length marks → slice_get marks i ≡ Some true) → AllLead kept
-all_lead kept marks marked all i m at =
-    let inside = slice_get_within kept i m at in
-    marked.lead i (all i (subst (λ (n : ℕ). i < n) (sym marked.count) inside))

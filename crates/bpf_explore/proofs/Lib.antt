@@ -21,4 +21,5 @@ pub mod TurnedLaws
 pub mod MarkLaws
 pub mod HungLaws
 pub mod ExploreLaws
+pub mod BeyondLaws
 pub mod PatienceLaws

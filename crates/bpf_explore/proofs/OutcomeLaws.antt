@@ -1,4 +1,4 @@
--- Where machines cover all schedules, what is told of them is all that can be told.
+-- Where machines cover all schedules, what is printed of them is all that can be printed.
 use Rattle.std.proofs.Common.{◌≡◌, ◌∙◌, ℕ, Bool, true, false, List, ◌++◌, Some, length, sym, ap, subst}
 use Rattle.std.specs.Prelude.{slice_get}
 use Rattle.bpf_shared.specs.Store.{Plain}
@@ -17,13 +17,13 @@ one_asked : (maps : Bool) (s : Plain) (names : List (List ℕ)) (text other : Li
 one_asked false s names text other a b = a ∙ sym b
 one_asked true s names text other a b = one_map_text s names (length names) text other a b
 
--- of a machine one text is told
+-- of a machine one text is printed
 one_told : (s : Plain) (jobs : List Task) (names : List (List ℕ)) (maps : Bool) (text other : List ℕ) (stopped halted : Bool) → Tells s jobs names maps text stopped → Tells s jobs names maps other halted → (text ≡ other) × (stopped ≡ halted)
 one_told s jobs names maps text other stopped halted a b =
     let lines = one_asked maps s names a.0 b.0 a.1 b.1 in
     (a.2 ∙ ap (λ (x : List ℕ). job_lines (length jobs) jobs ++ x) lines ∙ sym b.2, a.3 ∙ sym b.3)
 
--- what is told of a world that a kept machine shows is one of the answers
+-- what is printed of a world that a kept machine shows is one of the answers
 shown_is_told : (kept : List MachineState) (z : World) (names : List (List ℕ)) (maps : Bool) (answers : List Found) → IsShown kept z → HaveEnded z.jobs
     → ((i : ℕ) (m : MachineState) → slice_get kept i ≡ Some m → HaveEnded m.jobs → IsAnswered names maps answers m)
     → (text : List ℕ) (stopped : Bool) → Tells z.store z.jobs names maps text stopped → IsTold answers text stopped

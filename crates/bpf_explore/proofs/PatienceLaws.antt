@@ -7,7 +7,7 @@ use Rattle.bpf_cpu.specs.declared.outcome.Outcome.{Outcome}
 use Rattle.bpf_cpu.specs.declared.outcome.Outcome.TheVariants.{OutOfBudget}
 use Rattle.bpf_cpu.specs.Task.{Stage, Task, Waiting, InHand, Ended, ended, outcome_at}
 use Rattle.bpf_machine.specs.Machine.{MachineState}
-use Rattle.bpf_machine.specs.Patient.{NoneRanOut, IsClosedRichly}
+use Rattle.bpf_machine.specs.Patient.{NoneRanOut}
 use Rattle.bpf_machine.specs.Schedule.{World}
 use Rattle.bpf_explore.specs.Outcomes.{Found}
 use Rattle.bpf_machine.specs.Laws.{IsFresh}
@@ -16,13 +16,14 @@ use Rattle.bpf_explore.specs.Search.{CoversAll, is_whole, is_refused}
 use Rattle.bpf_explore.specs.declared.frontier.Extent.{Extent}
 use Rattle.bpf_explore.specs.declared.frontier.Extent.TheVariants.{Whole, Limited, Refused}
 use Rattle.bpf_explore.proofs.ExploreLaws.{whole_of, limited_of, refused_of, not_whole}
-use Rattle.bpf_machine.specs.Ends.{AllCanEnd}
+use Rattle.bpf_machine.specs.Ends.{CanEnd}
 use Rattle.bpf_explore.specs.declared.budgets.Budgets.{Budgets}
 use Rattle.bpf_explore.specs.declared.budgets.Budgets.TheVariants.{Suffice, RunOut}
 use Rattle.bpf_explore.specs.Album.{AreLedFreely, AreApart}
-use Rattle.bpf_explore.specs.Patient.{EndsPatiently, ArePatient, IsSearchedPatiently, PatientTellAll}
-use Rattle.bpf_explore.specs.Private.Hung.{Hangs, AllHang, AllLead}
+use Rattle.bpf_explore.specs.Patient.{EndsPatiently, ArePatient, LiesBeyondOne, NoOtherHangs, IsSearchedPatiently, PatientTellAll}
+use Rattle.bpf_explore.specs.Private.Hung.{Hangs, AllHang, ComesTo, AllLeadOrBeyond}
 use Rattle.bpf_explore.specs.Private.Replays.{SomeRanOut, CanRunOut, NoneRunsOut}
+use Rattle.bpf_explore.proofs.BeyondLaws.{ends_or_lies}
 use Rattle.bpf_explore.proofs.TrailLaws.{are_reached_freely}
 use Rattle.bpf_explore.specs.Private.Answers.{AreSorted, IsFirst, KeepsAll, IsAnsweredAt}
 use Rattle.bpf_explore.specs.Private.Patience.{AllEndPatiently}
@@ -41,6 +42,9 @@ some_by P o x e h = subst (λ (s : Option Found). IfSome s P) e h
 
 pub some_hung : (kept : List MachineState) (o : Option (List (ℕ × ℕ))) (x : List (ℕ × ℕ)) → o ≡ Some x → IfSome o (Hangs kept) → Hangs kept x
 some_hung kept o x e h = subst (λ (s : Option (List (ℕ × ℕ))). IfSome s (Hangs kept)) e h
+
+pub some_there : (kept : List MachineState) (place : ℕ) (o : Option (List (ℕ × ℕ))) (x : List (ℕ × ℕ)) → o ≡ Some x → IfSome o (λ by. ComesTo kept by place) → ComesTo kept x place
+some_there kept place o x e h = subst (λ (s : Option (List (ℕ × ℕ))). IfSome s (λ by. ComesTo kept by place)) e h
 
 -- ---- jobs that have ended
 read_outcome : (jobs : List Task) (j : ℕ) (task : Task) → slice_get jobs j ≡ Some task → outcome_at jobs j ≡ ended task.stage
@@ -66,7 +70,7 @@ next_none_out jobs n far here j task pc less at out = elim (cases_lt j n) [
 pub all_none_out : (jobs : List Task) (n : ℕ) → length jobs ≤ n → NoneOutBelow jobs n → NoneRanOut jobs
 all_none_out jobs n past far j task pc at out = let inside = slice_get_within jobs j task at in far j task pc (omega arith) at out
 
--- an outcome that is told
+-- an outcome that is printed
 pub told_out : (jobs : List Task) (n pc : ℕ) → Some (OutOfBudget pc) ≡ outcome_at jobs n → SomeRanOut jobs
 told_out jobs n pc e = go (slice_get jobs n) refl
   where
@@ -113,17 +117,24 @@ none_of_all : (all : Bool) → (all ≡ true → ⊥) → all ≡ false
 none_of_all true never = absurd (never refl)
 none_of_all false never = refl
 
-pub explored_patiently : PatientTellAll → AllCanEnd → (kept : List MachineState) (w : World) (names : List (List ℕ)) (maps : Bool) (answers : List Found) (extent : Extent) (whole told fit both all refused : Bool) (limit : ℕ) (hung : List (List (ℕ × ℕ))) (budgets : Budgets) → IsFresh w → IsFirst kept w
-    → whole ≡ is_whole extent → refused ≡ is_refused extent → (extent ≡ Whole → IsClosedRichly kept) → (extent ≡ Whole → CoversAll true kept) → (extent ≡ Limited → limit < length kept) → (extent ≡ Refused → length kept ≤ limit)
+none_of_none : (w : World) (hung : List (List (ℕ × ℕ))) (z : World) → hung ≡ [] → (CanEnd z ⊎ LiesBeyondOne w hung z) → CanEnd z
+none_of_none w hung z none (inl ends) = ends
+none_of_none w hung z none (inr (i, by, at, lies)) = let no : None ≡ Some by = ap (λ (hs : List (List (ℕ × ℕ))). slice_get hs i) (sym none) ∙ at in cc
+
+pub explored_patiently : PatientTellAll → (kept : List MachineState) (w : World) (names : List (List ℕ)) (maps : Bool) (answers : List Found) (extent : Extent) (whole told fit both all refused : Bool) (limit : ℕ) (hung : List (List (ℕ × ℕ))) (budgets : Budgets) → IsFresh w → IsFirst kept w
+    → whole ≡ is_whole extent → refused ≡ is_refused extent → (extent ≡ Whole → CoversAll true kept) → (extent ≡ Limited → limit < length kept) → (extent ≡ Refused → length kept ≤ limit)
     → ((u : World) → IsFirst kept u → ArePatient u names maps answers) → (told ≡ true → (i : ℕ) → IsAnsweredAt kept names maps answers i) → (told ≡ false → CanRunOut kept)
-    → AllHang kept hung → (whole ≡ true → fit ≡ true → hung ≡ [] → AllLead kept) → (fit ≡ false → CanRunOut kept)
+    → AllHang kept hung → (whole ≡ true → fit ≡ true → AllLeadOrBeyond kept hung) → (fit ≡ false → CanRunOut kept)
     → (both ≡ true → (told ≡ true) × (fit ≡ true)) → (both ≡ false → (told ≡ false) ⊎ (fit ≡ false)) → (all ≡ true → (whole ≡ true) × (both ≡ true)) → (all ≡ false → (whole ≡ false) ⊎ (both ≡ false))
     → (budgets ≡ Suffice → NoneRunsOut kept) → (budgets ≡ RunOut → CanRunOut kept)
     → AreLedFreely kept → AreApart kept → IsSearchedPatiently w names maps answers all refused limit (length kept) hung budgets
-explored_patiently law ends kept w names maps answers extent whole told fit both all refused limit hung budgets fresh first is_all is_cut closed covers met short outcomes answered untold hangs leads unfit two two_not every every_not suffice out led apart =
+explored_patiently law kept w names maps answers extent whole told fit both all refused limit hung budgets fresh first is_all is_cut covers met short outcomes answered untold hangs leads unfit two two_not every every_not suffice out led apart =
     let shown : IsShown kept w = (0, first.0, first.1, first.2) in
     let whole_then : whole ≡ true → extent ≡ Whole = λ is. whole_of extent (sym is_all ∙ is) in
     let not_then : refused ≡ true → whole ≡ false = λ is. is_all ∙ not_whole extent (sym is_cut ∙ is) in
+    let no_other : all ≡ true → NoOtherHangs w hung = λ is schedule z runs well. (
+    let a = every is in
+    ends_or_lies kept w z hung (leads a.0 (two a.1).1) fresh first (covers (whole_then a.0) w z schedule fresh shown runs well).0) in
     let no_fit : both ≡ false → CanRunOut kept = λ is. elim (two_not is) [ inl a ↦ untold a | inr a ↦ unfit a ] in
     record {
       outcomes = outcomes w first;
@@ -132,7 +143,8 @@ explored_patiently law ends kept w names maps answers extent whole told fit both
       met = λ is uncut. elim (every_not is) [ inl a ↦ inl (met (limited_of extent (sym is_all ∙ a) (sym is_cut ∙ uncut))) | inr a ↦ inr (no_fit a w first) ];
       short = λ is. (none_of_all all (λ yes. (let a : whole ≡ true = (every yes).0 in let b : whole ≡ false = not_then is in cc)), short (refused_of extent (sym is_cut ∙ is)));
       are_hung = λ i by at. hangs i by at w fresh first;
-      none_hangs = λ is none schedule z runs well. (let a = every is in ends kept w z schedule (closed (whole_then a.0)) (λ i m at. leads a.0 (two a.1).1 none i m at) fresh shown runs well);
+      no_other = no_other;
+      none_hangs = λ is none schedule z runs well. none_of_none w hung z none (no_other is schedule z runs well);
       suffice = λ is may. suffice is w fresh first may;
       run_out = λ is. out is w first;
     }

@@ -56,7 +56,7 @@ turned_richly old new place cpu n m after refilled at more turns refills kept ot
       λ w shows. (let r = richly_kept new after refilled cpu n refills kept w shows in (r.0, r.2, (n, r.1, r.3, r.4))),
     )
 
--- its turns, and steps that are given behind them
+-- its turns, and steps that are given after them
 gift_last : (cs : List ℕ) (w y : World) (jobs : List Task) → RunsSchedule w cs y → AsRich y.jobs jobs → RunsFreely w cs (with_jobs y jobs)
 gift_last [] w y jobs runs rich = (jobs, subst (λ (x : World). AsRich x.jobs jobs) runs rich, ap (λ (x : World). with_jobs x jobs) runs)
 gift_last (c ∷ cs) w y jobs (answer, m, progress, runs) rich = (w.jobs, answer, m, all_same w.jobs, progress, gift_last cs m y jobs runs rich)

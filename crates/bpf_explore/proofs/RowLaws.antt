@@ -21,7 +21,7 @@ one_more_turn first place n = append_assoc first (row_of place n) ((place, n) �
 pub one_more_row : (cpus n : ℕ) → rows_of cpus n ++ row_of n cpus ≡ rows_of cpus (n + 1)
 one_more_row cpus n = ap (rows_of cpus) (sym (add-one n))
 
--- ---- where each stands
+-- ---- where each is
 row_length : (i n : ℕ) → length (row_of i n) ≡ n
 row_length i zero = refl
 row_length i (suc n) =

@@ -1,4 +1,4 @@
--- A store that looks like a machine's can stand in its place.
+-- A store that looks like a machine's can be in its place.
 use Rattle.std.proofs.Common.{◌≡◌, ◌∙◌, ℕ, Bool, ◌&&◌, List, Option, length, sym, ap, subst}
 use Rattle.std.specs.Prelude.{nat_lt}
 use Rattle.std.proofs.lemmas.List.{length-map}

@@ -1,4 +1,4 @@
--- What is told of jobs that have ended tells whether one of them was stopped.
+-- What is printed of jobs that have ended says whether one of them was stopped.
 use Rattle.std.proofs.Common.{◌≡◌, ◌∙◌, ℕ, zero, suc, ◌+◌, ◌<◌, ◌≤◌, Bool, true, false, ◌||◌, if◌then◌else◌, List, [], ◌∷◌, ◌++◌, Option, Some, None, inl, inr, length, get_or, drop, refl, sym, ap, append_assoc, arith}
 use Rattle.std.specs.Prelude.{slice_get, option_and_then, ◌==◌, ◌/◌, ◌%◌, nat_lt, codes}
 use Rattle.std.specs.Fmt.{decimal, digits, digits_onto, digit_glyph}
@@ -44,7 +44,7 @@ decimal_high : (n : ℕ) → AreDigits (decimal n)
 unfolding AreDigits digits
 decimal_high n = digits_high 64 n [] tt
 
--- what is behind two numbers, and a sign that no digit is
+-- what is after two numbers, and a sign that no digit is
 ends_same : (xs ys : List ℕ) (s : ℕ) (a b : List ℕ) → s < 48 → AreDigits xs → AreDigits ys → xs ++ s ∷ a ≡ ys ++ s ∷ b → a ≡ b
 unfolding AreDigits
 ends_same [] [] s a b small p q e = cc

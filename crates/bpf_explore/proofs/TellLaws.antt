@@ -1,4 +1,4 @@
--- What is told of machines that list no keys, and which of them have ended.
+-- What is printed of machines that list no keys, and which of them have ended.
 use Rattle.std.proofs.Common.{◌≡◌, ◌∙◌, ℕ, zero, suc, ◌+◌, ◌<◌, ◌≤◌, Bool, List, [], Option, Some, None, inl, inr, length, refl, sym, ap, subst, append-nil, arith}
 use Rattle.std.specs.Prelude.{slice_get, slice_index_or}
 use Rattle.std.proofs.lemmas.Option.{slice_get_within, slice_get_read, get_or_from_slice_get}
@@ -41,7 +41,7 @@ tells_none m z names maps text stopped none shows told =
     let lists : z.lists ≡ listing_at None = shows.lists ∙ ap (λ (o : Option (List Listing)). listing_at o) none in
     subst (λ (lines : List ℕ). TellsWith lines z.store z.jobs names maps text stopped) (lines_none z names lists) told
 
--- of each store that a machine's stands for the same is told
+-- of each store that a machine's stands for the same is printed
 pub told_of : (m : MachineState) (names : List (List ℕ)) (maps : Bool) (text : List ℕ) (stopped : Bool) → m.lists ≡ None
     → ((w : World) → Shows m w → TellsWith (lines_of_lists w names) w.store w.jobs names maps text stopped)
     → (s : Plain) → IsSoundStore s → StandsFor m.store s → Tells s m.jobs names maps text stopped
@@ -50,7 +50,7 @@ told_of m names maps text stopped none told s sound stands =
     let shows : Shows m w = record { store = stands; sound = sound; programs = refl; jobs = refl; lists = refl } in
     tells_none m w names maps text stopped none shows (told w shows)
 
--- an answer that tells this
+-- an answer with this text
 pub answered_by : (kept : List MachineState) (m : MachineState) (names : List (List ℕ)) (maps : Bool) (answers : List Found) (place i : ℕ) (found : Found) (text : List ℕ) (stopped : Bool)
     → slice_get kept place ≡ Some m → m.lists ≡ None → ((w : World) → Shows m w → TellsWith (lines_of_lists w names) w.store w.jobs names maps text stopped)
     → slice_get answers i ≡ Some found → found.text ≡ text → found.stopped ≡ stopped → IsAnsweredAt kept names maps answers place
@@ -68,7 +68,7 @@ has_work kept names maps answers place works m at ended = absurd (works (λ othe
     let one : m ≡ other = cc in
     subst (λ (n : MachineState). HaveEnded n.jobs) one ended)))
 
--- ---- what is told of a kept machine without work
+-- ---- what is printed of a kept machine without work
 module _ (kept : List MachineState) (m : MachineState) (names : List (List ℕ)) (maps : Bool) (place : ℕ) (text : List ℕ) (stopped : Bool) (at : slice_get kept place ≡ Some m) (none : m.lists ≡ None) (ended : HaveEndedAt kept place)
     (told : (w : World) → Shows m w → TellsWith (lines_of_lists w names) w.store w.jobs names maps text stopped) where
   shown_is : (z : World) (other : MachineState) → slice_get kept place ≡ Some other → Shows other z → Shows m z
@@ -90,7 +90,7 @@ module _ (kept : List MachineState) (m : MachineState) (names : List (List ℕ))
       let shows = shown_is r.0 r.2.0 r.2.1 r.2.2 in
       (r.0, r.1, ended_in r.0 shows, tells_in r.0 shows)
 
-  -- an answer of the same text tells the same of stops
+  -- an answer of the same text has the same stops
   pub stopped_same : (answers : List Found) (i : ℕ) (found : Found) → AreLed kept → place < length kept → ((w : World) × IsFirst kept w) → ((w : World) → IsFirst kept w → AllEnd w names maps answers) → slice_get answers i ≡ Some found → found.text ≡ text → found.stopped ≡ stopped
   stopped_same answers i found led inside (w, first) all there same =
       let other = all w first i found there in

@@ -21,8 +21,8 @@ use Rattle.bpf_explore.specs.Patient.{AreReachedFreely}
 use Rattle.bpf_explore.specs.Private.Album.{AddsOne}
 use Rattle.bpf_explore.specs.Private.Trail.{no_origin, origin_at, IsOrigin, AreOrigins}
 
--- ---- schedules, one behind the other
--- no turn leads nowhere, and turns may come behind others
+-- ---- schedules, one after the other
+-- no turn leads nowhere, and turns may come after others
 abbrev pub StayAndJoin : (World → List ℕ → World → Type 0) → Type 0
 StayAndJoin runs = ((w : World) → runs w [] w) × ((w m z : World) (cs ds : List ℕ) → runs w cs m → runs m ds z → runs w (cs ++ ds) z)
 
@@ -34,7 +34,7 @@ pub schedules_join : StayAndJoin RunsSchedule
 schedules_join = (λ w. refl, λ w m z cs ds first second. runs_both w cs ds m z first second)
 
 -- the same where jobs are given steps: those at the end of the first are given before the second
-gift_first : (cs : List ℕ) (w z : World) (jobs : List Task) → AsRich w.jobs jobs → RunsFreely (with_jobs w jobs) cs z → RunsFreely w cs z
+pub gift_first : (cs : List ℕ) (w z : World) (jobs : List Task) → AsRich w.jobs jobs → RunsFreely (with_jobs w jobs) cs z → RunsFreely w cs z
 gift_first [] w z jobs rich (more, richer, same) = (more, rich_again w.jobs jobs more rich richer, same)
 gift_first (c ∷ cs) w z jobs rich (more, answer, m, richer, progress, runs) = (more, answer, m, rich_again w.jobs jobs more rich richer, progress, runs)
 
@@ -45,7 +45,7 @@ freely_both (c ∷ cs) ds w m z (jobs, answer, y, rich, progress, runs) freely =
 pub free_runs_join : StayAndJoin RunsFreely
 free_runs_join = (λ w. (w.jobs, all_same w.jobs, refl), λ w m z cs ds first second. freely_both cs ds w m z first second)
 
--- ---- run lengths that are told backwards
+-- ---- run lengths that are printed backwards
 pub one_back : (by : List (ℕ × ℕ)) (cpu turns : ℕ) → unrolled (reverse (by ++ (cpu, turns) ∷ [])) ≡ replicate turns cpu ++ unrolled (reverse by)
 one_back by cpu turns = ap unrolled (reverse-append by ((cpu, turns) ∷ []))
 

@@ -70,7 +70,7 @@ HaveEndedAt kept i = (m : MachineState) → slice_get kept i ≡ Some m → Have
 abbrev pub NoneRanOutAt : List MachineState → ℕ → Type 0
 NoneRanOutAt kept i = (m : MachineState) → slice_get kept i ≡ Some m → NoneRanOut m.jobs
 
--- each job of the kept machines has so many steps in its budget
+-- each job of the kept machines has n steps in its budget
 abbrev pub HaveBudgets : List MachineState → ℕ → Type 0
 HaveBudgets kept least = (i j : ℕ) (m : MachineState) (task : Task) → slice_get kept i ≡ Some m
     → slice_get m.jobs j ≡ Some task → least ≤ task.budget

@@ -12,14 +12,14 @@ use Rattle.bpf_jobs.specs.Printed.{Tells}
 use Rattle.bpf_explore.specs.Outcomes.{Found, HaveAll}
 use Rattle.bpf_explore.specs.Search.{CoversAll}
 
--- what is told of a machine is one of the answers
+-- what is printed of a machine is one of the answers
 abbrev pub IsAnswered : List (List ℕ) → Bool → List Found → MachineState → Type 0
 IsAnswered names maps answers m =
     (i : ℕ) × (found : Found) × (slice_get answers i ≡ Some found)
     × ((s : Plain) → IsSoundStore s → StandsFor m.store s
     → Tells s m.jobs names maps found.text found.stopped)
 
--- where machines cover all schedules, and what is told of each of them that has no work is an
+-- where machines cover all schedules, and what is printed of each of them that has no work is an
 -- answer, no outcome is left out
 abbrev pub CoverTellsAll : Type 0
 CoverTellsAll =

@@ -2,11 +2,13 @@
 use Rattle.std.specs.Prelude.{ℕ, zero, suc, ◌++◌, Bool, List, [], codes, length, slice_index_or, if◌then◌else◌, false}
 use Rattle.std.specs.Fmt.{decimal}
 use Rattle.bpf_schedule.specs.Spelling.{runs_text}
+use Rattle.bpf_threads.specs.declared.threads.Threads.{Threads}
+use Rattle.bpf_threads.specs.Lines.{threads_text}
 use Rattle.bpf_explore.specs.declared.budgets.Budgets.{Budgets}
 use Rattle.bpf_explore.specs.declared.budgets.Budgets.TheVariants.{Suffice, RunOut, Unknown}
 use Rattle.bpf_explore.specs.Outcomes.{Found}
 
--- the schedule on a line, and then what is told
+-- the schedule on a line, and then what is printed
 abbrev pub answer_text : Found → List ℕ
 answer_text found = codes "by" ++ runs_text (length found.by) found.by ++ codes "\n" ++ found.text
 
@@ -32,9 +34,11 @@ counts_text outcomes states =
 abbrev pub last_line : Bool → ℕ → ℕ → List ℕ
 last_line all outcomes states = all_text all ++ counts_text outcomes states
 
-abbrev pub explored_text : List Found → Bool → ℕ → List ℕ
-explored_text answers all states =
-    answers_text (length answers) answers ++ last_line all (length answers) states
+-- before the last line, what is said of threads
+abbrev pub explored_text : List Found → Threads → Bool → ℕ → List ℕ
+explored_text answers threads all states =
+    (answers_text (length answers) answers ++ threads_text threads)
+    ++ last_line all (length answers) states
 
 -- ---- after a patient search
 abbrev pub hung_text : List (ℕ × ℕ) → List ℕ
@@ -51,7 +55,7 @@ budgets_text Suffice = []
 budgets_text RunOut = codes "budgets can run out\n"
 budgets_text Unknown = codes "budgets may run out\n"
 
-abbrev pub patient_text : List Found → List (List (ℕ × ℕ)) → Budgets → Bool → ℕ → List ℕ
-patient_text answers hung budgets all states =
-    ((answers_text (length answers) answers ++ hung_lines (length hung) hung)
-    ++ budgets_text budgets) ++ last_line all (length answers) states
+abbrev pub patient_text : List Found → List (List (ℕ × ℕ)) → Budgets → Threads → Bool → ℕ → List ℕ
+patient_text answers hung budgets threads all states =
+    (((answers_text (length answers) answers ++ hung_lines (length hung) hung)
+    ++ budgets_text budgets) ++ threads_text threads) ++ last_line all (length answers) states

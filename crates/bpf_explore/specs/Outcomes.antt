@@ -1,4 +1,4 @@
--- What jobs may come to, whatever the order of the CPUs' turns.
+-- What jobs may reach, whatever the order of the CPUs' turns.
 use Rattle.std.specs.Prelude.{◌≡◌, ℕ, ◌<◌, ◌≤◌, Bool, true, false, List, Some, length, slice_get}
 use Rattle.std.specs.declared.cmp.Ordering.TheVariants.{Less}
 use Rattle.std.specs.Ordering.{nat_cmp}
@@ -7,7 +7,7 @@ use Rattle.bpf_machine.specs.Schedule.{World, RunsSchedule, unrolled}
 use Rattle.bpf_machine.specs.Rounds.{HaveEnded}
 use Rattle.bpf_jobs.specs.Printed.{Tells}
 
--- the schedule leads to a machine without work, of which this is told
+-- the schedule leads to a machine without work, of which this is printed
 abbrev pub LeadsTo : World → List (List ℕ) → Bool → List ℕ → List ℕ → Bool → Type 0
 LeadsTo w names maps schedule text stopped =
     (z : World) × RunsSchedule w schedule z × HaveEnded z.jobs
@@ -20,7 +20,7 @@ IsOutcome w names maps text stopped =
 
 -- ---- answers
 
--- what is told, whether some job ended in a fault or out of budget, and a schedule: CPUs, each with
+-- what is printed, whether some job ended in a fault or out of budget, and a schedule: CPUs, each with
 -- how many turns it makes before the next
 pub record Found : Type 0 where
   pub text : List ℕ
@@ -31,14 +31,14 @@ pub record Found : Type 0 where
 abbrev pub EndsBy : World → List (List ℕ) → Bool → Found → Type 0
 EndsBy w names maps found = LeadsTo w names maps (unrolled found.by) found.text found.stopped
 
--- each answer is one, and they stand in the order of their texts' bytes, none twice
+-- each answer is one, and they are in the order of their texts' bytes, none twice
 pub record AreOutcomes (w : World) (names : List (List ℕ)) (maps : Bool) (answers : List Found)
     : Type 0 where
   pub each : (i : ℕ) (found : Found) → slice_get answers i ≡ Some found → EndsBy w names maps found
   pub sorted : (i j : ℕ) (found later : Found) → i < j → slice_get answers i ≡ Some found
       → slice_get answers j ≡ Some later → slice_cmp nat_cmp found.text later.text ≡ Less
 
--- this is told by one of them
+-- this is printed by one of them
 abbrev pub IsTold : List Found → List ℕ → Bool → Type 0
 IsTold answers text stopped = (i : ℕ) × (found : Found) × (slice_get answers i ≡ Some found)
     × (found.text ≡ text) × (found.stopped ≡ stopped)
@@ -58,7 +58,7 @@ pub record AreReached (w : World) (states : ℕ) : Type 0 where
       → i ≡ j
 
 -- the answers, whether they are all, whether memory was refused to the search, and how many states were
--- kept: not all are told only where these are more than the limit, or where memory was refused before
+-- kept: not all are printed only where these are more than the limit, or where memory was refused before
 pub record IsExplored (w : World) (names : List (List ℕ)) (maps : Bool) (answers : List Found)
     (all refused : Bool) (limit states : ℕ) : Type 0 where
   pub outcomes : AreOutcomes w names maps answers

@@ -1,14 +1,14 @@
 -- Outcomes in which no job is out of budget.
-use Rattle.std.specs.Prelude.{◌≡◌, ℕ, ◌<◌, ◌≤◌, ◌⊎◌, Bool, true, false, List, [], Some, length, slice_get}
+use Rattle.std.specs.Prelude.{◌≡◌, ℕ, ◌<◌, ◌≤◌, ◌⊎◌, Bool, true, false, List, [], ◌∷◌, Some, length, slice_get}
 use Rattle.std.specs.declared.cmp.Ordering.TheVariants.{Less}
 use Rattle.std.specs.Ordering.{nat_cmp}
 use Rattle.std.specs.Cmp.Lexicographic.{slice_cmp}
 use Rattle.bpf_machine.specs.Schedule.{World, RunsSchedule, unrolled}
 use Rattle.bpf_machine.specs.Rounds.{HaveEnded}
 use Rattle.bpf_machine.specs.Laws.{IsFresh}
-use Rattle.bpf_machine.specs.Machine.{MachineState}
+use Rattle.bpf_machine.specs.Machine.{MachineState, Shows}
 use Rattle.bpf_machine.specs.Cover.{IsShown}
-use Rattle.bpf_machine.specs.Patient.{NoneRanOut}
+use Rattle.bpf_machine.specs.Patient.{NoneRanOut, IsCoveredRichly}
 use Rattle.bpf_machine.specs.Ends.{RunsFreely, CanEnd, IsHung}
 use Rattle.bpf_machine.specs.Budgets.{MayRunOut}
 use Rattle.bpf_jobs.specs.Printed.{Tells}
@@ -19,7 +19,7 @@ use Rattle.bpf_explore.specs.Search.{CoversAll}
 use Rattle.bpf_explore.specs.Laws.{IsAnswered}
 
 -- some schedule leads to a machine without work, in which no job is out of budget, and of which this
--- is told
+-- is printed
 abbrev pub IsPatientOutcome : World → List (List ℕ) → Bool → List ℕ → Bool → Type 0
 IsPatientOutcome w names maps text stopped =
     (schedule : List ℕ) × (z : World) × RunsSchedule w schedule z × HaveEnded z.jobs
@@ -36,7 +36,7 @@ EndsPatiently w names maps found =
     (z : World) × RunsSchedule w (unrolled found.by) z × HaveEnded z.jobs × NoneRanOut z.jobs
     × Tells z.store z.jobs names maps found.text found.stopped
 
--- each answer is one, and they stand in the order of their texts' bytes, none twice
+-- each answer is one, and they are in the order of their texts' bytes, none twice
 pub record ArePatient (w : World) (names : List (List ℕ)) (maps : Bool) (answers : List Found)
     : Type 0 where
   pub each : (i : ℕ) (found : Found) → slice_get answers i ≡ Some found
@@ -62,14 +62,35 @@ HangsBy w by = (z : World) × RunsSchedule w (unrolled by) z × NoneRanOut z.job
 abbrev pub AreHung : World → List (List (ℕ × ℕ)) → Type 0
 AreHung w hung = (i : ℕ) (by : List (ℕ × ℕ)) → slice_get hung i ≡ Some by → HangsBy w by
 
--- from all that schedules lead to before some job runs out of budget an end can be reached
+-- turns lead from where the schedule leads to what the machine shows, where jobs are given steps
+abbrev pub LeadsOnTo : World → List (ℕ × ℕ) → MachineState → Type 0
+LeadsOnTo w by m = (y : World) × (schedule : List ℕ) × (z : World) × RunsSchedule w (unrolled by) y
+    × RunsFreely y schedule z × Shows m z
+
+-- the world lies beyond: such a machine shows it, but for steps that are left and for turns that no
+-- store sees
+abbrev pub LiesBeyond : World → List (ℕ × ℕ) → World → Type 0
+LiesBeyond w by z = (m : MachineState) × LeadsOnTo w by m × IsCoveredRichly (m ∷ []) z
+
+-- so it does beyond one of these
+abbrev pub LiesBeyondOne : World → List (List (ℕ × ℕ)) → World → Type 0
+LiesBeyondOne w hung z = (i : ℕ) × (by : List (ℕ × ℕ)) × (slice_get hung i ≡ Some by)
+    × LiesBeyond w by z
+
+-- from all that schedules lead to before some job runs out of budget an end can be reached, but for
+-- what lies beyond one of these
+abbrev pub NoOtherHangs : World → List (List (ℕ × ℕ)) → Type 0
+NoOtherHangs w hung = (schedule : List ℕ) (z : World) → RunsSchedule w schedule z → NoneRanOut z.jobs
+    → CanEnd z ⊎ LiesBeyondOne w hung z
+
+-- from all of it
 abbrev pub NoneHangs : World → Type 0
 NoneHangs w = (schedule : List ℕ) (z : World) → RunsSchedule w schedule z → NoneRanOut z.jobs
     → CanEnd z
 
 -- ---- the result of a patient search
 -- the answers, whether they are all, whether memory was refused to the search, how many states were kept,
--- hung states, and whether some schedule uses a budget up. Not all are told only where the states are more
+-- hung states, and whether some schedule uses a budget up. Not all are printed only where the states are more
 -- than the limit, where memory was refused before, or where some schedule does
 pub record IsSearchedPatiently (w : World) (names : List (List ℕ)) (maps : Bool)
     (answers : List Found) (all refused : Bool) (limit states : ℕ) (hung : List (List (ℕ × ℕ)))
@@ -80,11 +101,12 @@ pub record IsSearchedPatiently (w : World) (names : List (List ℕ)) (maps : Boo
   pub met : all ≡ false → refused ≡ false → (limit < states) ⊎ MayRunOut w
   pub short : refused ≡ true → (all ≡ false) × (states ≤ limit)
   pub are_hung : AreHung w hung
+  pub no_other : all ≡ true → NoOtherHangs w hung
   pub none_hangs : all ≡ true → hung ≡ [] → NoneHangs w
   pub suffice : budgets ≡ Suffice → MayRunOut w → ⊥
   pub run_out : budgets ≡ RunOut → MayRunOut w
 
--- where kept machines cover all schedules in which no job runs out of budget, and what is told of each
+-- where kept machines cover all schedules in which no job runs out of budget, and what is printed of each
 -- of them that has no work is an answer, no outcome in which no job is out of budget is left out
 abbrev pub PatientTellAll : Type 0
 PatientTellAll =

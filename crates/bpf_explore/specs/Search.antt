@@ -46,12 +46,12 @@ abbrev pub row_of : ℕ → ℕ → List (ℕ × ℕ)
 row_of i zero = []
 row_of i (suc n) = row_of i n ++ (i, n) ∷ []
 
--- those of so many CPUs from each of the first n
+-- those of n CPUs from each of the first n
 abbrev pub rows_of : ℕ → ℕ → List (ℕ × ℕ)
 rows_of cpus zero = []
 rows_of cpus (suc n) = rows_of cpus n ++ row_of n cpus
 
--- more machines stand behind those that were there
+-- more machines are after those that were there
 abbrev pub Extends : List MachineState → List MachineState → Type 0
 Extends old new = (more : List MachineState) × (new ≡ old ++ more)
 

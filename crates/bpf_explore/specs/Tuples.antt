@@ -1,4 +1,4 @@
--- Tuples of numbers, all of one width, one behind the other.
+-- Tuples of numbers, all of one width, one after the other.
 use Rattle.std.specs.Prelude.{◌≡◌, ℕ, ◌+◌, ◌*◌, ◌<◌, ◌≤◌, List, ◌++◌, length}
 use Rattle.bpf_base.specs.Bytes.{part}
 
@@ -15,11 +15,11 @@ tuple_at t n = part t.numbers (n * t.width) t.width
 abbrev pub IsTuple : TupleList → ℕ → List ℕ → Type 0
 IsTuple t n tuple = (n < t.count) × (tuple_at t n ≡ tuple)
 
--- so many are whole
+-- n are whole
 abbrev pub AreWhole : TupleList → Type 0
 AreWhole t = (1 ≤ t.width) × (length t.numbers ≡ t.count * t.width)
 
--- one more stands behind those that were there
+-- one more is after those that were there
 abbrev pub with_tuple : TupleList → List ℕ → TupleList
 with_tuple t tuple =
     record { width = t.width; count = t.count + 1; numbers = t.numbers ++ tuple }

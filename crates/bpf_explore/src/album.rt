@@ -18,7 +18,7 @@ use bpf_shared::StoreShape;
 use std::alloc::{AllocError, Global};
 use std::marker::Model;
 
-/// The number in 32 bits. One that is greater counts as want of memory.
+/// The number in 32 bits. One that is greater counts as out of memory.
 pub(crate) fn number_of(count: usize) -> Result<u32, AllocError>
     ensures { IfOk result (λ n. n ≡ count) }
 {
@@ -40,7 +40,7 @@ fn keep_job(
     number_of(number)
 }
 
-/// Puts the numbers under which a machine's jobs are kept behind what is there.
+/// Puts the numbers under which a machine's jobs are kept after what is there.
 fn keep_jobs(
     alloc: Global,
     parts: &mut Parts,
@@ -60,7 +60,7 @@ fn keep_jobs(
 }
 
 /// Takes all bytes out. Called, and first of all, so that who calls it sets up its frame before that:
-/// LLVM would put it behind a few instructions, and lose a register there.
+/// LLVM would put it after a few instructions, and lose a register there.
 #[inline(never)]
 fn clear_bytes(bytes: &mut Vec<u8>)
     ensures { bytes.new.items ≡ [] }
@@ -68,7 +68,7 @@ fn clear_bytes(bytes: &mut Vec<u8>)
     bytes.clear();
 }
 
-/// The same of numbers.
+/// Takes all numbers out. Called, as above.
 #[inline(never)]
 fn clear_numbers(numbers: &mut Vec<u32>)
     ensures { numbers.new.items ≡ [] }
@@ -122,7 +122,7 @@ fn keep_machine(
     Ok(())
 }
 
-/// The numbers behind the first.
+/// The numbers after the first.
 fn behind_first(numbers: &[u32]) -> &[u32]
     requires { 1 ≤ length numbers.now }
     ensures { result.now ≡ drop 1 numbers.now }
@@ -318,7 +318,7 @@ impl Album {
         self.machine.refill(cpu);
     }
 
-    /// The turns of a schedule that is told by CPUs, each with how many turns it takes before the
+    /// The turns of a schedule that is printed by CPUs, each with how many turns it takes before the
     /// next.
     pub fn turns_by(&mut self, runs: &[(u8, u64)])
         ensures runs { (w : World) → Shows self.old.machine w → (z : World)

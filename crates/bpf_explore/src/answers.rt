@@ -1,4 +1,4 @@
-//! Answers: what is told of kept machines without work, each with a schedule that leads there.
+//! Answers: what is printed of kept machines without work, each with a schedule that leads there.
 
 ghost use Rattle.std.specs.Prelude.{◌≡◌, ◌<◌, ◌+◌, ℕ, Bool, List, Some, IfOk, IfErr, OnOk, length, map, slice_get, string_bytes};
 ghost use Rattle.std.specs.List.{list_any};
@@ -31,14 +31,14 @@ impl Model for Answer {
 }
 
 impl Answer {
-    /// What is told, with a schedule that leads there.
+    /// What is printed, with a schedule that leads there.
     pub(crate) fn new(text: String, stopped: bool, by: Vec<(u8, u64)>) -> Answer
         ensures { result ≡ record { text = string_bytes text; stopped = stopped; by = by.items } }
     {
         Answer { text, stopped, by }
     }
 
-    /// What is told: a line a job, and those of the maps where they are asked for.
+    /// What is printed: a line a job, and those of the maps where they are asked for.
     pub fn text(&self) -> &str
         ensures { result.now ≡ self.now.text }
     {
@@ -67,7 +67,7 @@ pub fn is_any_stopped(answers: &[Answer]) -> bool
     answers.iter().any(|answer| answer.stopped())
 }
 
-/// The place of a text among sorted answers: of the one that has it, or where it is to stand.
+/// The place of a text among sorted answers: of the one that has it, or where it is to be.
 pub(crate) fn place_of(answers: &[Answer], text: &str) -> Result<usize, usize>
     requires { AreSorted answers.now }
     ensures found { IfOk result (λ i. (found : Found) × (slice_get answers.now i ≡ Some found)
@@ -98,7 +98,7 @@ fn put_answer(answers: &mut Vec<Answer>, at: usize, answer: Answer) -> Result<()
     Ok(())
 }
 
-/// Puts what is told of a kept machine without work among the answers, if that isn't one of them
+/// Puts what is printed of a kept machine without work among the answers, if that isn't one of them
 /// yet.
 fn tell_ended(
     alloc: Global,
@@ -135,7 +135,7 @@ fn tell_ended(
     }
 }
 
-/// The same of a kept machine, if it has no work.
+/// Puts what is printed of a kept machine among the answers, if it has no work.
 fn tell_at(
     alloc: Global,
     explorer: &mut Explorer,
@@ -159,7 +159,7 @@ fn tell_at(
     Ok(())
 }
 
-/// The answers: what is told of each kept machine without work.
+/// The answers: what is printed of each kept machine without work.
 pub(crate) fn gather(
     alloc: Global,
     explorer: &mut Explorer,

@@ -16,7 +16,7 @@ use std::alloc::{AllocError, Global};
 pub(crate) struct Depths {
     /// How many steps lead at most to each: right where turns lead in no circle.
     pub steps: Vec<u64>,
-    /// How many turns lead to each from those that are in a circle, or behind one.
+    /// How many turns lead to each from those that are in a circle, or after one.
     pub waits: Vec<u32>,
 }
 
@@ -88,7 +88,7 @@ fn deepen(depths: &mut Vec<u64>, place: usize, depth: u64) {
     }
 }
 
-/// Passes a kept machine to which no more turns lead: those behind it are deeper, and some of them
+/// Passes a kept machine to which no more turns lead: those after it are deeper, and some of them
 /// can be passed next.
 fn pass(
     explorer: &PatientExplorer,
@@ -138,7 +138,7 @@ pub(crate) fn find_depths(
     Ok(depths)
 }
 
-/// Whether a depth is at least another one and so many steps more, and one.
+/// Whether a depth is at least another one and n steps more, and one.
 fn is_deeper(depth: u64, ahead: u32, next: u64) -> bool
     ensures { result ≡ true → depth + ahead + 1 ≤ next }
 {

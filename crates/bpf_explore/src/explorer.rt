@@ -11,8 +11,8 @@ use bpf_shared::StoreShape;
 use std::alloc::{AllocError, Global};
 use std::marker::Model;
 
-/// How a kept machine came about: by a CPU's turn from an earlier one, and so many of its turns
-/// behind it that no store sees.
+/// How a kept machine came about: by a CPU's turn from an earlier one, and n of its turns
+/// after it that no store sees.
 #[derive(Clone, Copy)]
 pub(crate) struct Origin {
     pub from: u32,
@@ -20,14 +20,14 @@ pub(crate) struct Origin {
     pub cpu: u8,
 }
 
-/// The number of turns in 32 bits. One that is greater counts as want of memory.
+/// The number of turns in 32 bits. One that is greater counts as out of memory.
 pub(crate) fn turns_of(count: u64) -> Result<u32, AllocError>
     ensures { IfOk result (λ n. n ≡ count) }
 {
     u32::try_from(count).map_err(|_| AllocError)
 }
 
-/// Puts turns of a CPU behind a schedule that is told backwards.
+/// Puts turns of a CPU after a schedule that is printed backwards.
 pub(crate) fn push_turns(by: &mut Vec<(u8, u64)>, cpu: u8, turns: u64) -> Result<(), AllocError>
     ensures { OnOk result (unrolled (reverse by.new.items)
         ≡ replicate turns cpu ++ unrolled (reverse by.old.items)) }

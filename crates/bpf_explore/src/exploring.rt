@@ -1,14 +1,13 @@
 //! Every outcome of jobs: the search from a shape and its jobs to the answers.
 
-ghost use Rattle.std.specs.Prelude.{◌≡◌, ◌<◌, ◌≤◌, [], true, false, All, IfOk, length, map, string_bytes, vec_len};
-ghost use Rattle.bpf_mem.specs.Limits.{max_context};
-ghost use Rattle.bpf_cpu.specs.Task.{waiting};
-ghost use Rattle.bpf_jobs.specs.Printed.{first_world};
+ghost use Rattle.std.specs.Prelude.{◌≡◌, ◌<◌, true, false, IfOk, length, map, string_bytes};
+ghost use Rattle.bpf_cpu.specs.Setup.{IsRunnable};
+ghost use Rattle.bpf_jobs.specs.Printed.{first_of};
 ghost use Rattle.bpf_explore.specs.Outcomes.{IsExplored};
 ghost use Rattle.bpf_explore.specs.Patient.{IsSearchedPatiently};
 ghost use Rattle.bpf_explore.specs.Private.Answers.{StartsFresh};
 ghost use Rattle.bpf_explore.specs.Private.Edges.{AreTurns};
-ghost use Rattle.bpf_explore.specs.Private.Hung.{AllHang, AllLead};
+ghost use Rattle.bpf_explore.specs.Private.Hung.{AllHang, AllLeadOrBeyond};
 ghost use Rattle.bpf_explore.specs.Private.Replays.{CanRunOut, NoneRunsOut};
 
 use crate::answers::{Answer, gather};
@@ -21,20 +20,18 @@ use crate::patience::{both, gather_patiently};
 use crate::patient::PatientExplorer;
 use crate::stores::copy_shape;
 use crate::turns::Turns;
-use bpf_cpu::Job;
+use bpf_cpu::Setup;
 use bpf_jobs::make_machine;
-use bpf_loader::Program;
-use bpf_shared::StoreShape;
 use std::alloc::{AllocError, Global};
 
-/// What jobs may come to.
+/// What jobs may reach.
 #[derive(Drop)]
 pub struct Explored {
     /// In the order of their texts' bytes, none twice.
     pub answers: Vec<Answer>,
     /// Whether no outcome is left out.
     pub all: bool,
-    /// Whether the search ended for want of memory.
+    /// Whether the search ended because memory ran out.
     pub refused: bool,
     /// How many states were kept: machines that schedules lead to, no two of them the same.
     pub states: usize,
@@ -42,28 +39,23 @@ pub struct Explored {
 
 /// Searches through all schedules of jobs over a new store whose maps have these names, until no
 /// state is new, more than `limit` are kept, or memory is refused to the search. Want of memory
-/// before or behind it is the only refusal. The observer is told meanwhile how far it is.
+/// before or after it is the only refusal. The observer learns meanwhile how far it is.
 pub fn explore_jobs<O: Observer>(
     alloc: Global,
-    shape: StoreShape,
+    setup: Setup,
     names: &[String],
-    programs: Vec<Program>,
-    jobs: Vec<Job>,
     maps: bool,
     limit: usize,
     observer: &mut O,
 ) -> Result<Explored, AllocError>
-    requires cpus { All (λ job. job.cpu < shape.cpus) jobs.items }
-    requires programs { All (λ job. job.program < vec_len programs) jobs.items }
-    requires contexts { All (λ job. vec_len job.context ≤ max_context) jobs.items }
-    ensures { IfOk result (λ e. IsExplored
-        (first_world shape programs.items (map waiting jobs.items))
+    requires { IsRunnable setup }
+    ensures { IfOk result (λ e. IsExplored (first_of setup)
         (map string_bytes names.now) maps e.answers.items e.all e.refused limit e.states) }
 {
     crate::laws::cover_tells_all();
-    let copy = copy_shape(alloc, &shape)?;
-    let machine = make_machine(alloc, copy, programs, jobs)?;
-    let mut explorer = Explorer::new(alloc, shape, machine)?;
+    let copy = copy_shape(alloc, &setup.shape)?;
+    let machine = make_machine(alloc, setup)?;
+    let mut explorer = Explorer::new(alloc, copy, machine)?;
     let extent = explore(&mut explorer, limit, observer);
     explorer.leads();
     explorer.apart();
@@ -77,14 +69,14 @@ pub fn explore_jobs<O: Observer>(
     })
 }
 
-/// What jobs may come to, but for how many steps are left of budgets.
+/// What jobs may reach, but for how many steps are left of budgets.
 #[derive(Drop)]
 pub struct ExploredPatiently {
     /// Outcomes in which no job is out of budget, in the order of their texts' bytes, none twice.
     pub answers: Vec<Answer>,
     /// Whether none of them is left out.
     pub all: bool,
-    /// Whether the search ended for want of memory.
+    /// Whether the search ended because memory ran out.
     pub refused: bool,
     /// How many states were kept, no two of them the same.
     pub states: usize,
@@ -94,7 +86,7 @@ pub struct ExploredPatiently {
     pub budgets: Budgets,
 }
 
-/// What is hung, and whether a schedule to it uses a budget up: nothing is told where states are
+/// What is hung, and whether a schedule to it uses a budget up: nothing is printed where states are
 /// left out.
 fn find_hung(
     alloc: Global,
@@ -106,8 +98,8 @@ fn find_hung(
     requires turns { whole ≡ true → AreTurns explorer.old.kept turns.now }
     ensures same { explorer.new.kept ≡ explorer.old.kept }
     ensures hung { IfOk result (λ r. AllHang explorer.old.kept r.0.items) }
-    ensures ends { IfOk result (λ r. whole ≡ true → r.1 ≡ true → r.0.items ≡ []
-        → AllLead explorer.old.kept) }
+    ensures ends { IfOk result (λ r. whole ≡ true → r.1 ≡ true
+        → AllLeadOrBeyond explorer.old.kept r.0.items) }
     ensures out { IfOk result (λ r. r.1 ≡ false → CanRunOut explorer.old.kept) }
 {
     if whole {
@@ -143,35 +135,29 @@ fn find_budgets(
     }
 }
 
-/// The same of outcomes in which no job is out of budget: machines that differ only in how many
+/// Searches for outcomes in which no job is out of budget: machines that differ only in how many
 /// steps are left of budgets count as one. The outcomes aren't all where more than `limit` are
 /// kept, where memory is refused to the search, or where a schedule that was found uses a budget up.
 /// Besides, states from which no end can
 /// be reached, however many steps jobs are given, and whether some schedule uses a budget up. Want of
-/// memory before or behind the search is the only refusal.
+/// memory before or after the search is the only refusal.
 pub fn search_patiently<O: Observer>(
     alloc: Global,
-    shape: StoreShape,
+    setup: Setup,
     names: &[String],
-    programs: Vec<Program>,
-    jobs: Vec<Job>,
     maps: bool,
     limit: usize,
     observer: &mut O,
 ) -> Result<ExploredPatiently, AllocError>
-    requires cpus { All (λ job. job.cpu < shape.cpus) jobs.items }
-    requires programs { All (λ job. job.program < vec_len programs) jobs.items }
-    requires contexts { All (λ job. vec_len job.context ≤ max_context) jobs.items }
-    ensures { IfOk result (λ e. IsSearchedPatiently
-        (first_world shape programs.items (map waiting jobs.items))
+    requires { IsRunnable setup }
+    ensures { IfOk result (λ e. IsSearchedPatiently (first_of setup)
         (map string_bytes names.now) maps e.answers.items e.all e.refused limit e.states
         e.hung.items e.budgets) }
 {
     crate::laws::patient_tell_all();
-    bpf_machine::laws::all_can_end();
-    let copy = copy_shape(alloc, &shape)?;
-    let machine = make_machine(alloc, copy, programs, jobs)?;
-    let mut explorer = PatientExplorer::new(alloc, shape, machine)?;
+    let copy = copy_shape(alloc, &setup.shape)?;
+    let machine = make_machine(alloc, setup)?;
+    let mut explorer = PatientExplorer::new(alloc, copy, machine)?;
     let extent = explore(&mut explorer, limit, observer);
     let whole = extent.is_whole();
     explorer.leads();

@@ -28,7 +28,7 @@ impl Extent {
         matches!(self, Extent::Whole)
     }
 
-    /// Whether it ended for want of memory.
+    /// Whether it ended because memory ran out.
     pub fn is_refused(self) -> bool
         ensures { result ≡ is_refused self }
     {
@@ -98,7 +98,7 @@ fn expand<F: Frontier>(frontier: &mut F, place: usize) -> Result<(), AllocError>
     Ok(())
 }
 
-/// How far a search came that was refused memory, where so many are kept.
+/// How far a search came that was refused memory, where n are kept.
 fn cut_short(count: usize, limit: usize) -> Extent
     ensures part { result ≡ Extent.Whole → ⊥ }
     ensures met { result ≡ Extent.Limited → limit < count }
@@ -112,7 +112,7 @@ fn cut_short(count: usize, limit: usize) -> Extent
 }
 
 /// Makes the turn of each CPU from each kept machine, until nothing is new, more than `limit` are
-/// kept, or memory is refused. How far it came: what is kept so far stays. The observer is told of it
+/// kept, or memory is refused. How far it came: what is kept so far stays. The observer learns of it
 /// meanwhile.
 pub fn explore<F: Frontier, O: Observer>(frontier: &mut F, limit: usize, observer: &mut O) -> Extent
     ensures whole { result ≡ Extent.Whole

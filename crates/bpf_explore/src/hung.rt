@@ -1,12 +1,12 @@
 //! States of a patient search from which no end can be reached.
 
-ghost use Rattle.std.specs.Prelude.{◌≡◌, ◌<◌, ◌⊎◌, ℕ, [], true, false, Some, IfOk, IfSome, IfNone, OnOk, length, slice_get};
+ghost use Rattle.std.specs.Prelude.{◌≡◌, ◌<◌, ◌⊎◌, ◌+◌, ℕ, true, false, Some, IfOk, IfSome, IfNone, OnOk, length, slice_get};
 ghost use Rattle.bpf_machine.specs.Ends.{AreStuck};
 ghost use Rattle.bpf_explore.specs.Album.{NoneRanOutAt};
 ghost use Rattle.bpf_explore.specs.Private.Answers.{StartsFresh};
 ghost use Rattle.bpf_explore.specs.Private.Edges.{AreTurns};
 ghost use Rattle.bpf_explore.specs.Private.Ends.{AllGoOn, AreMarked};
-ghost use Rattle.bpf_explore.specs.Private.Hung.{AllLead, AllMarkedBelow, Hangs, AllHang};
+ghost use Rattle.bpf_explore.specs.Private.Hung.{Hangs, AllHang, ComesTo, LeadsOn, AllBeyondBelow, AllLeadOrBeyond};
 ghost use Rattle.bpf_explore.specs.Private.Replays.{CanRunOut};
 
 use crate::ends::{mark_ends, mark_of};
@@ -78,7 +78,8 @@ fn is_first_hung(explorer: &PatientExplorer, marks: &[bool], place: usize) -> bo
     requires count { length marks.now ≡ length explorer.now.kept }
     ensures first { result ≡ true → slice_get marks.now place ≡ Some false }
     ensures later { result ≡ false → (slice_get marks.now place ≡ Some true)
-        ⊎ ((i : ℕ) × (i < place) × (slice_get marks.now i ≡ Some false)) }
+        ⊎ ((i : ℕ) × (i < place) × (slice_get marks.now i ≡ Some false)
+        × LeadsOn explorer.now.kept i place) }
 {
     if mark_of(marks, place) {
         return false;
@@ -89,7 +90,7 @@ fn is_first_hung(explorer: &PatientExplorer, marks: &[bool], place: usize) -> bo
     mark_of(marks, explorer.came_from(place))
 }
 
-/// What is told of a kept machine from which no end can be reached; `None` where the schedule to it
+/// What is printed of a kept machine from which no end can be reached; `None` where the schedule to it
 /// uses a budget up.
 fn hung_at(
     explorer: &mut PatientExplorer,
@@ -101,6 +102,7 @@ fn hung_at(
     requires unmarked { slice_get marks.now place ≡ Some false }
     ensures same { explorer.new.kept ≡ explorer.old.kept }
     ensures hung { IfOk result (λ found. IfSome found (Hangs explorer.old.kept)) }
+    ensures there { IfOk result (λ found. IfSome found (λ by. ComesTo explorer.old.kept by place)) }
     ensures out { IfOk result (λ found. IfNone found (CanRunOut explorer.old.kept)) }
 {
     bpf_machine::laws::stuck_are_hung();
@@ -113,7 +115,7 @@ fn hung_at(
     Ok(Some(Hung { by }))
 }
 
-/// Puts what is told of a kept machine behind the others, if it is the first on its way. Whether
+/// Appends what is printed of a kept machine to the others, if it is the first on its way. Whether
 /// that can be: not where the schedule to it uses a budget up.
 fn add_hung(
     explorer: &mut PatientExplorer,
@@ -126,9 +128,9 @@ fn add_hung(
     ensures same { explorer.new.kept ≡ explorer.old.kept }
     ensures hung { OnOk result (AllHang explorer.old.kept hung.old.items
         → AllHang explorer.old.kept hung.new.items) }
-    ensures listed { IfOk result (λ fits. fits ≡ true → hung.new.items ≡ []
-        → (hung.old.items ≡ []) × (AllMarkedBelow marks.now place
-        → slice_get marks.now place ≡ Some true)) }
+    ensures listed { IfOk result (λ fits. fits ≡ true
+        → AllBeyondBelow explorer.old.kept marks.now hung.old.items place
+        → AllBeyondBelow explorer.old.kept marks.now hung.new.items (place + 1)) }
     ensures out { IfOk result (λ fits. fits ≡ false → CanRunOut explorer.old.kept) }
 {
     if !is_first_hung(explorer, marks, place) {
@@ -151,8 +153,8 @@ fn list_hung(
     requires { AreMarked explorer.old.kept marks.now }
     ensures same { explorer.new.kept ≡ explorer.old.kept }
     ensures hung { IfOk result (λ r. AllHang explorer.old.kept r.0.items) }
-    ensures listed { IfOk result (λ r. r.1 ≡ true → r.0.items ≡ []
-        → AllMarkedBelow marks.now (length marks.now)) }
+    ensures listed { IfOk result (λ r. r.1 ≡ true
+        → AllBeyondBelow explorer.old.kept marks.now r.0.items (length marks.now)) }
     ensures out { IfOk result (λ r. r.1 ≡ false → CanRunOut explorer.old.kept) }
 {
     let mut hung = Vec::new(alloc);
@@ -164,8 +166,9 @@ fn list_hung(
     Ok((hung, fit))
 }
 
-/// The same, where no kept machine has a job that is out of budget. Where none is told and all
-/// schedules fit, each kept machine leads to an end.
+/// Those that are first on their ways, where no kept machine has a job that is out of budget. Where all
+/// schedules fit, each
+/// kept machine leads to an end, or turns lead to it from one that is printed.
 pub(crate) fn gather_hung(
     alloc: Global,
     explorer: &mut PatientExplorer,
@@ -175,7 +178,7 @@ pub(crate) fn gather_hung(
     requires turns { AreTurns explorer.old.kept turns.now }
     ensures same { explorer.new.kept ≡ explorer.old.kept }
     ensures hung { IfOk result (λ r. AllHang explorer.old.kept r.0.items) }
-    ensures ends { IfOk result (λ r. r.1 ≡ true → r.0.items ≡ [] → AllLead explorer.old.kept) }
+    ensures ends { IfOk result (λ r. r.1 ≡ true → AllLeadOrBeyond explorer.old.kept r.0.items) }
     ensures out { IfOk result (λ r. r.1 ≡ false → CanRunOut explorer.old.kept) }
 {
     if !all_go_on(explorer)? {

@@ -4,12 +4,12 @@
 ghost use Rattle.bpf_explore.specs.Laws.{CoverTellsAll};
 ghost use Rattle.bpf_explore.specs.Patient.{PatientTellAll};
 
-/// Where kept machines cover all schedules and are told, no outcome is left out.
+/// Where kept machines cover all schedules and are printed, no outcome is left out.
 pub fn cover_tells_all()
     ensures { CoverTellsAll }
 {}
 
-/// The same after a patient search, of outcomes in which no job is out of budget.
+/// After a patient search no outcome is left out in which no job is out of budget.
 pub fn patient_tell_all()
     ensures { PatientTellAll }
 {}

@@ -31,7 +31,7 @@ pub use explorer::Explorer;
 pub use exploring::{Explored, ExploredPatiently, explore_jobs, search_patiently};
 pub use frontier::{Extent, Frontier, explore};
 pub use hung::Hung;
-pub use listing::{list_explored, list_patient, whether_all};
+pub use listing::{list_explored, list_patient, push_last, whether_all};
 pub use observer::{Observer, Progress, Silent, TOLD_EVERY};
 pub use parts::Parts;
 pub use patient::PatientExplorer;

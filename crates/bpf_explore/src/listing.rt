@@ -8,9 +8,10 @@ use crate::budgets::Budgets;
 use crate::exploring::{Explored, ExploredPatiently};
 use crate::hung::Hung;
 use bpf_schedule::push_runs;
+use bpf_threads::{Threads, push_threads};
 use std::alloc::{AllocError, Global};
 
-/// Puts the schedule of an answer behind the text, and what is told.
+/// Appends the schedule of an answer to the text, and what is printed.
 fn push_answer(alloc: Global, text: &mut String, answer: &Answer) -> Result<(), AllocError>
     ensures { OnOk result (string_bytes text.new
         ≡ string_bytes text.old ++ answer_text answer.now) }
@@ -28,7 +29,7 @@ pub fn whether_all(all: bool) -> &'static str
     if all { "all" } else { "not all" }
 }
 
-/// Puts the end of the last line behind the text.
+/// Appends the end of the last line to the text.
 fn push_counts(
     alloc: Global,
     text: &mut String,
@@ -43,8 +44,8 @@ fn push_counts(
     Ok(())
 }
 
-/// Puts the last line behind the text.
-fn push_last(
+/// Appends the last line to the text.
+pub fn push_last(
     alloc: Global,
     text: &mut String,
     all: bool,
@@ -59,7 +60,7 @@ fn push_last(
     Ok(())
 }
 
-/// Puts answers, each behind its schedule, behind the text.
+/// Appends answers, each after its schedule, to the text.
 fn push_answers(alloc: Global, text: &mut String, answers: &[Answer]) -> Result<(), AllocError>
     ensures { OnOk result (string_bytes text.new
         ≡ string_bytes text.old ++ answers_text (length answers.now) answers.now) }
@@ -70,19 +71,25 @@ fn push_answers(alloc: Global, text: &mut String, answers: &[Answer]) -> Result<
     Ok(())
 }
 
-/// The answers, each behind its schedule, and a line that says whether they are all.
-pub fn list_explored(alloc: Global, explored: &Explored) -> Result<String, AllocError>
+/// The answers, each after its schedule, what is said of threads, and a line that says whether the
+/// answers are all.
+pub fn list_explored(
+    alloc: Global,
+    explored: &Explored,
+    threads: Threads,
+) -> Result<String, AllocError>
     ensures { IfOk result (λ text. string_bytes text ≡ explored_text explored.now.answers.items
-        explored.now.all explored.now.states) }
+        threads explored.now.all explored.now.states) }
 {
     let mut text = String::new(alloc);
     push_answers(alloc, &mut text, &explored.answers)?;
+    push_threads(&mut text, threads)?;
     let outcomes = explored.answers.len();
     push_last(alloc, &mut text, explored.all, outcomes, explored.states)?;
     Ok(text)
 }
 
-/// Puts the schedule to a hung state behind the text.
+/// Appends the schedule to a hung state to the text.
 fn push_hung(alloc: Global, text: &mut String, hung: &Hung) -> Result<(), AllocError>
     ensures { OnOk result (string_bytes text.new ≡ string_bytes text.old ++ hung_text hung.now) }
 {
@@ -91,7 +98,7 @@ fn push_hung(alloc: Global, text: &mut String, hung: &Hung) -> Result<(), AllocE
     text.push_str("\n")
 }
 
-/// The same of each.
+/// Appends the schedule to each hung state to the text.
 fn push_all_hung(alloc: Global, text: &mut String, hung: &[Hung]) -> Result<(), AllocError>
     ensures { OnOk result (string_bytes text.new
         ≡ string_bytes text.old ++ hung_lines (length hung.now) hung.now) }
@@ -113,7 +120,7 @@ fn budgets_text(budgets: Budgets) -> &'static str
     }
 }
 
-/// Puts that behind the text.
+/// Appends that to the text.
 fn push_budgets(text: &mut String, budgets: Budgets) -> Result<(), AllocError>
     ensures { OnOk result (string_bytes text.new
         ≡ string_bytes text.old ++ budgets_text budgets) }
@@ -121,16 +128,22 @@ fn push_budgets(text: &mut String, budgets: Budgets) -> Result<(), AllocError>
     text.push_str(budgets_text(budgets))
 }
 
-/// The answers of a patient search, each behind its schedule, a line for each hung state, one where
-/// budgets run out, and one that says whether the answers are all.
-pub fn list_patient(alloc: Global, explored: &ExploredPatiently) -> Result<String, AllocError>
+/// The answers of a patient search, each after its schedule, a line for each hung state, one where
+/// budgets run out, what is said of threads, and a line that says whether the answers are all.
+pub fn list_patient(
+    alloc: Global,
+    explored: &ExploredPatiently,
+    threads: Threads,
+) -> Result<String, AllocError>
     ensures { IfOk result (λ text. string_bytes text ≡ patient_text explored.now.answers.items
-        explored.now.hung.items explored.now.budgets explored.now.all explored.now.states) }
+        explored.now.hung.items explored.now.budgets threads explored.now.all
+        explored.now.states) }
 {
     let mut text = String::new(alloc);
     push_answers(alloc, &mut text, &explored.answers)?;
     push_all_hung(alloc, &mut text, &explored.hung)?;
     push_budgets(&mut text, explored.budgets)?;
+    push_threads(&mut text, threads)?;
     let outcomes = explored.answers.len();
     push_last(alloc, &mut text, explored.all, outcomes, explored.states)?;
     Ok(text)

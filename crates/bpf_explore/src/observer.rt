@@ -1,9 +1,9 @@
-//! Who is told how far a search is, while it works.
+//! Who learns how far a search is, while it works.
 
 use crate::frontier::Frontier;
 
-/// A search is told of each time that so many more states are done. It counts states and reads no
-/// clock, so what is told of one file is always the same.
+/// A search reports each time that n more states are done. It counts states and reads no
+/// clock, so what is printed of one file is always the same.
 pub const TOLD_EVERY: usize = 131_072;
 
 /// How far a search is.
@@ -17,13 +17,13 @@ pub struct Progress {
     pub bytes: usize,
 }
 
-/// Is told how far a search is. What is kept doesn't depend on it.
+/// Learns how far a search is. What is kept doesn't depend on it.
 pub trait Observer {
     /// The search is so far.
     fn see(&mut self, progress: Progress);
 }
 
-/// Passes over what it is told.
+/// Passes over what it learns.
 #[derive(Clone, Copy, PartialEq, Eq, Debug)]
 pub struct Silent;
 
@@ -31,7 +31,7 @@ impl Observer for Silent {
     fn see(&mut self, _progress: Progress) {}
 }
 
-/// How far a search is that has made the turns from so many of its states.
+/// How far a search is that has made the turns from n of its states.
 fn progress_of<F: Frontier>(frontier: &F, done: usize) -> Progress {
     let kept = frontier.count();
     Progress {
@@ -41,7 +41,7 @@ fn progress_of<F: Frontier>(frontier: &F, done: usize) -> Progress {
     }
 }
 
-/// Tells it, each time that so many more states are done.
+/// Reports it, each time that n more states are done.
 pub(crate) fn tell<F: Frontier, O: Observer>(frontier: &F, done: usize, observer: &mut O) {
     if done % TOLD_EVERY == 0 {
         observer.see(progress_of(frontier, done));

@@ -1,4 +1,4 @@
-//! Jobs as they stand, under numbers: one that stands as a kept one stood is found again.
+//! Jobs as they are, under numbers: one that is as a kept one stood is found again.
 
 ghost use Rattle.std.specs.Prelude.{◌≡◌, ◌<◌, ◌++◌, ◌∷◌, ◌⊎◌, ℕ, [], true, false, Some, IfOk, IfSome, IfNone, OnOk, OnErr, length, slice_get, slice_index_or};
 ghost use Rattle.bpf_cpu.specs.Task.{Task};
@@ -64,7 +64,7 @@ impl Parts {
         let _ = &self.kept;
     }
 
-    /// Whether the machine's job stands as that of this number stood.
+    /// Whether the machine's job is as that of this number stood.
     fn is_at(&self, number: usize, machine: &Machine, job: usize) -> bool
         requires { job < length machine.now.jobs }
         ensures within { result ≡ true → number < length self.now }
@@ -79,7 +79,7 @@ impl Parts {
         }
     }
 
-    /// The number under which a job stands so that has this hash, if it is kept.
+    /// The number under which a job is so that has this hash, if it is kept.
     fn find(&self, hash: u64, machine: &Machine, job: usize) -> Option<usize>
         requires job { job < length machine.now.jobs }
         requires hash { (task : Task) → slice_get machine.now.jobs job ≡ Some task
@@ -118,7 +118,7 @@ impl Parts {
         Ok(())
     }
 
-    /// Puts a job behind those that are kept, of which it is none. Its number.
+    /// Puts a job after those that are kept, of which it is none. Its number.
     fn add(&mut self, hash: u64, job: KeptJob) -> Result<usize, AllocError>
         requires hash { hash ≡ task_hash job }
         requires new { (n : ℕ) → n < length self.old → part_at self.old n ≡ job → ⊥ }
@@ -133,7 +133,7 @@ impl Parts {
         Ok(number)
     }
 
-    /// Keeps a machine's job as it stands, where none that stood so is kept. Its number. It stands
+    /// Keeps a machine's job as it is, where none that stood so is kept. Its number. It is
     /// alone, or each call of `keep` would clear room on the stack for all of a job.
     #[cold]
     #[inline(never)]
@@ -161,7 +161,7 @@ impl Parts {
         Ok(number)
     }
 
-    /// Keeps a machine's job as it stands, unless one that stood so is kept. Its number.
+    /// Keeps a machine's job as it is, unless one that stood so is kept. Its number.
     pub fn keep(
         &mut self,
         alloc: Global,

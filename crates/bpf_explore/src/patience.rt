@@ -51,7 +51,7 @@ fn put_patiently(answers: &mut Vec<Answer>, at: usize, answer: Answer) -> Result
     Ok(())
 }
 
-/// Puts what is told of a kept machine without work among the answers, if that isn't one of them
+/// Puts what is printed of a kept machine without work among the answers, if that isn't one of them
 /// yet. Whether it is one then: not where the schedule to it uses a budget up.
 fn tell_ended(
     alloc: Global,
@@ -91,7 +91,7 @@ fn tell_ended(
     }
 }
 
-/// The same of a kept machine, if it has no work.
+/// Puts what is printed of a kept machine among the answers, if it has no work.
 fn tell_at(
     alloc: Global,
     explorer: &mut PatientExplorer,
@@ -128,7 +128,7 @@ pub(crate) fn both(first: bool, second: bool) -> bool
     first && second
 }
 
-/// The answers, and whether what is told of each kept machine without work is one.
+/// The answers, and whether what is printed of each kept machine without work is one.
 pub(crate) fn gather_patiently(
     alloc: Global,
     explorer: &mut PatientExplorer,

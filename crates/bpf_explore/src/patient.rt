@@ -53,6 +53,7 @@ impl PatientExplorer {
     ghost use Rattle.bpf_explore.specs.Stores.{IsOfShape};
     ghost use Rattle.bpf_explore.specs.Album.{ShowsFirst, AreApart, AreLedFreely, LeadsFreely, HaveEndedAt, NoneRanOutAt, HaveBudgets};
     ghost use Rattle.bpf_explore.specs.Private.Edges.{AreTurns};
+    ghost use Rattle.bpf_explore.specs.Private.Hung.{LeadsOn};
 
     /// A search of which the first machine is kept.
     pub fn new(
@@ -137,7 +138,7 @@ impl PatientExplorer {
         self.album.restore(place)
     }
 
-    /// The turns of a schedule that is told by CPUs, each with how many turns it takes before the
+    /// The turns of a schedule that is printed by CPUs, each with how many turns it takes before the
     /// next.
     pub fn turns_by(&mut self, runs: &[(u8, u64)])
         ensures runs { (w : World) → Shows self.old.machine w → (z : World)
@@ -167,7 +168,8 @@ impl PatientExplorer {
     /// The kept machine from which the search came to this one.
     pub(crate) fn came_from(&self, place: usize) -> usize
         requires { (0 < place) × (place < length self.now.kept) }
-        ensures { result < place }
+        ensures before { result < place }
+        ensures leads { LeadsOn self.now.kept result place }
     {
         self.origins[place].from as usize
     }

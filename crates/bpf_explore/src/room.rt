@@ -1,4 +1,4 @@
-//! About how much memory things take: what is told of a search while it works, and no more.
+//! About how much memory things take: what is printed of a search while it works, and no more.
 
 use bpf_shared::{MapShape, StoreShape};
 

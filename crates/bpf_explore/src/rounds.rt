@@ -22,7 +22,7 @@ struct Circle {
     by: Vec<(u8, u64)>,
 }
 
-/// Whether turns lead to this kept machine from one that is in a circle, or behind one.
+/// Whether turns lead to this kept machine from one that is in a circle, or after one.
 fn waits_at(waits: &[u32], place: usize) -> bool {
     match waits.get(place) {
         Some(count) => *count > 0,
@@ -30,7 +30,7 @@ fn waits_at(waits: &[u32], place: usize) -> bool {
     }
 }
 
-/// Of each kept machine a turn that leads to it from one that is in a circle, or behind one.
+/// Of each kept machine a turn that leads to it from one that is in a circle, or after one.
 fn turns_before(
     alloc: Global,
     explorer: &PatientExplorer,

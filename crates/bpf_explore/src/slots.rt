@@ -5,7 +5,7 @@ ghost use Rattle.bpf_explore.specs.Private.Slots.{place_at, slot_at, IsMarked, I
 
 use std::alloc::{AllocError, Global};
 
-/// The place of a hash among so many, or one so many steps behind it.
+/// The place of a hash among n, or one n steps after it.
 pub(crate) fn place_of(hash: u64, step: usize, places: usize) -> usize
     requires { 0 < places }
     ensures within { result < places }
@@ -14,7 +14,7 @@ pub(crate) fn place_of(hash: u64, step: usize, places: usize) -> usize
     ((hash >> 32) as usize).wrapping_add(step) & (places - 1)
 }
 
-/// What stands there; 0 where nothing does.
+/// What is there; 0 where nothing is.
 pub(crate) fn slot_of(slots: &[u32], hash: u64, step: usize) -> u32
     requires { step < length slots.now }
     ensures { result ≡ slot_at slots.now hash step }
@@ -22,7 +22,7 @@ pub(crate) fn slot_of(slots: &[u32], hash: u64, step: usize) -> u32
     slots[place_of(hash, step, slots.len())]
 }
 
-/// Puts a mark at the first place from that of a hash on where nothing stands. Whether there was
+/// Puts a mark at the first place from that of a hash on where nothing is. Whether there was
 /// one.
 fn put(slots: &mut Vec<u32>, hash: u64, mark: u32) -> bool
     requires { 0 < mark }
@@ -47,7 +47,7 @@ fn mark_of(number: usize) -> Result<u32, AllocError>
     u32::try_from(mark).map_err(|_| AllocError)
 }
 
-/// Puts a number where it is found by its hash. A place that lacks counts as want of memory.
+/// Puts a number where it is found by its hash. A place that lacks counts as out of memory.
 pub(crate) fn note(slots: &mut Vec<u32>, hash: u64, number: usize) -> Result<(), AllocError>
     ensures put { OnOk result (IsPut slots.new.items hash number) }
     ensures keeps { (h n : ℕ) → IsPut slots.old.items h n → IsPut slots.new.items h n }

@@ -62,7 +62,7 @@ fn hash_of(bytes: &[u8]) -> u64
         .fold(0, |hash: u64, byte| spread(hash ^ u64::from(*byte)))
 }
 
-/// The same shape.
+/// A copy of a shape.
 pub fn copy_shape(alloc: Global, shape: &StoreShape) -> Result<StoreShape, AllocError>
     ensures { IfOk result (λ copy. copy ≡ shape.now) }
 {
@@ -71,7 +71,7 @@ pub fn copy_shape(alloc: Global, shape: &StoreShape) -> Result<StoreShape, Alloc
     StoreShape::new(u64::from(shape.cpus()), maps).map_err(|_| AllocError)
 }
 
-/// The same store.
+/// A copy of a store of this shape.
 fn copy_store(
     alloc: Global,
     shape: &StoreShape,
@@ -221,7 +221,7 @@ impl Stores {
         let _ = &self.kept;
     }
 
-    /// Puts a store behind those that are kept, none of which is saved as its bytes. Its number.
+    /// Puts a store after those that are kept, none of which is saved as its bytes. Its number.
     fn add(&mut self, hash: u64, bytes: &[u8], saved: Saved) -> Result<usize, AllocError>
         requires saved { IsSavedAs saved bytes.now }
         requires hash { hash ≡ hash_of bytes.now }
@@ -240,7 +240,7 @@ impl Stores {
     }
 
     /// Keeps a store that is saved as these bytes, where none that is saved so is kept. Its number.
-    /// It stands alone, or each call of `keep` would clear room on the stack for a store.
+    /// It is alone, or each call of `keep` would clear room on the stack for a store.
     #[cold]
     #[inline(never)]
     fn keep_new(

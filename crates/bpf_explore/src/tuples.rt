@@ -17,7 +17,7 @@ use std::marker::Model;
 pub struct Tuples {
     width: usize,
     count: usize,
-    /// All tuples, one behind the other.
+    /// All tuples, one after the other.
     numbers: Vec<u32>,
     /// By place, one more than the number of a tuple, from the place of its hash on; 0 where none
     /// is.
@@ -136,7 +136,7 @@ impl Tuples {
         let _ = &self.count;
     }
 
-    /// Puts a tuple behind those that are kept, of which it is none. Its number.
+    /// Puts a tuple after those that are kept, of which it is none. Its number.
     fn add(&mut self, hash: u64, tuple: &[u32]) -> Result<usize, AllocError>
         requires width { length tuple.now ≡ self.old.width }
         requires hash { hash ≡ hash_of tuple.now }

@@ -4,15 +4,15 @@ ghost use Rattle.std.specs.Prelude.{◌≡◌, ◌<◌, ◌/◌, ◌%◌, List, 
 ghost use Rattle.bpf_machine.specs.Machine.{MachineState};
 ghost use Rattle.bpf_explore.specs.Private.Edges.{AreTurns, IsEdgeOf};
 
-/// The kept machine that a turn led to, with so many turns behind it that no store sees. From which
-/// machine, and by which CPU, its place among the others tells.
+/// The kept machine that a turn led to, with n turns after it that no store sees. From which
+/// machine, and by which CPU, its place among the others says.
 #[derive(Clone, Copy)]
 pub(crate) struct Arrival {
     pub to: u32,
     pub ahead: u32,
 }
 
-/// A CPU's turn from a kept machine, with so many turns of it behind that no store sees, and the
+/// A CPU's turn from a kept machine, with n turns of it after that no store sees, and the
 /// kept machine that it led to.
 #[derive(Clone, Copy)]
 pub(crate) struct Edge {
@@ -22,7 +22,7 @@ pub(crate) struct Edge {
     pub cpu: u8,
 }
 
-/// The turns of so many CPUs from each kept machine.
+/// The turns of n CPUs from each kept machine.
 #[derive(Drop)]
 pub(crate) struct Turns {
     pub cpus: u8,
@@ -30,7 +30,7 @@ pub(crate) struct Turns {
     pub arrivals: Vec<Arrival>,
 }
 
-/// Whether a CPU's turn from a kept machine is the next in this order, where so many were made.
+/// Whether a CPU's turn from a kept machine is the next in this order, where n were made.
 pub(crate) fn is_next(made: usize, cpus: u8, place: usize, cpu: u8) -> bool
     ensures place { result ≡ true → made / cpus ≡ place }
     ensures cpu { result ≡ true → made % cpus ≡ cpu }

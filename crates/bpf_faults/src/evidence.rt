@@ -70,7 +70,7 @@ impl Seen {
         Ok(())
     }
 
-    /// The same once more.
+    /// A copy of what was seen.
     pub(crate) fn again(&self, alloc: Global) -> Result<Seen, AllocError>
         ensures { IfOk result (λ seen. (s : state.Cpu) → IsSeen s self.now → IsSeen s seen) }
     {

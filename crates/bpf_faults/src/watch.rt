@@ -1,26 +1,24 @@
 //! A run of a machine in rounds, watched for its faults.
 
-ghost use Rattle.std.specs.Prelude.{◌≡◌, ◌≢◌, ◌<◌, ◌≤◌, ℕ, true, false, All, IfOk, IfNone, IfSome, OnOk, Some, [], length, map, slice_get, vec_len};
+ghost use Rattle.std.specs.Prelude.{◌≡◌, ◌≢◌, ◌<◌, ℕ, true, false, All, IfOk, IfNone, IfSome, OnOk, Some, [], length, map, slice_get};
 ghost use Rattle.bpf_cpu.specs.declared.outcome.Fault.{Fault};
 ghost use Rattle.bpf_machine.specs.declared.machine.Turn.TheVariants as answers;
 ghost use Rattle.bpf_cpu.specs.declared.outcome.Outcome.TheVariants as outcome;
+ghost use Rattle.bpf_cpu.specs.Setup.{IsRunnable};
 ghost use Rattle.bpf_cpu.specs.Task.{waiting};
 ghost use Rattle.bpf_machine.specs.Schedule.{World};
 ghost use Rattle.bpf_machine.specs.Questions.{turns_left};
 ghost use Rattle.bpf_machine.specs.Rounds.{RunsRound};
 ghost use Rattle.bpf_machine.specs.Machine.{Shows};
-ghost use Rattle.bpf_mem.specs.Limits.{max_context};
-ghost use Rattle.bpf_jobs.specs.Printed.{first_world};
+ghost use Rattle.bpf_jobs.specs.Printed.{first_of};
 ghost use Rattle.bpf_faults.specs.Evidence.{AreSizes, HasEvidence, IsEvidenceIn, IsEvidenceOf, LeavesNoneOut};
 ghost use Rattle.bpf_faults.specs.Private.{AddsEvidence, AreWatched, HasNoWork, HaveOneInHand, IsEvidenceOfTurn, SeesNext, Watches, works};
 
 use crate::evidence::{Evidence, Seen};
 use crate::looping::{Loop, Loops};
-use bpf_cpu::{Fault, Job, Outcome};
+use bpf_cpu::{Fault, Job, Outcome, Setup};
 use bpf_jobs::make_machine;
-use bpf_loader::Program;
 use bpf_machine::{Machine, Standing, Turn};
-use bpf_shared::StoreShape;
 use std::alloc::{AllocError, Global};
 
 /// How many bytes of context a job has.
@@ -213,21 +211,15 @@ fn watch(
 /// each that ended out of budget, its last steps. Out of memory is the only refusal.
 pub fn evidence_of(
     alloc: Global,
-    shape: StoreShape,
-    programs: Vec<Program>,
-    jobs: Vec<Job>,
+    setup: Setup,
     loops: &mut Vec<Loop>,
 ) -> Result<(Machine, Vec<Evidence>), AllocError>
-    requires cpus { All (λ job. job.cpu < shape.cpus) jobs.items }
-    requires programs { All (λ job. job.program < vec_len programs) jobs.items }
-    requires contexts { All (λ job. vec_len job.context ≤ max_context) jobs.items }
-    ensures shown { IfOk result (λ r. All
-        (IsEvidenceOf (first_world shape programs.items (map waiting jobs.items))) r.1.items) }
-    ensures all { IfOk result (λ r. LeavesNoneOut
-        (first_world shape programs.items (map waiting jobs.items)) r.0 r.1.items) }
+    requires { IsRunnable setup }
+    ensures shown { IfOk result (λ r. All (IsEvidenceOf (first_of setup)) r.1.items) }
+    ensures all { IfOk result (λ r. LeavesNoneOut (first_of setup) r.0 r.1.items) }
 {
-    let sizes = context_sizes(alloc, &jobs)?;
-    let mut machine = make_machine(alloc, shape, programs, jobs)?;
+    let sizes = context_sizes(alloc, &setup.jobs)?;
+    let mut machine = make_machine(alloc, setup)?;
     let mut found = Loops::new(alloc, machine.cpus())?;
     let evidence = watch(alloc, &mut machine, &sizes, &mut found)?;
     loops.append(&mut found.found)?;

@@ -65,6 +65,20 @@ fn push_behind(text: &mut String, span: Span, map: &str, end: u64) -> Result<(),
     )
 }
 
+/// What may be meant by a register that is 0 where an address has to be.
+fn push_zero(text: &mut String, number: u8) -> Result<(), AllocError> {
+    write!(
+        text,
+        "  hint: r{number} is 0: so are registers at first, and the answer of a lookup that finds no key"
+    )?;
+    if matches!(number, 1 | 2 | 3 | 4 | 5) {
+        text.push_str(
+            "; a helper's call sets r1 to r5 to 0, and what is needed afterwards is kept in r6 to r9",
+        )?;
+    }
+    text.push('\n')
+}
+
 /// What may be meant by bytes that can't be reached.
 fn push_hint(
     text: &mut String,
@@ -74,12 +88,8 @@ fn push_hint(
     address: u64,
     length: u64,
 ) -> Result<(), AllocError> {
-    let number = base.number();
     if register(seen, base) == 0 {
-        return write!(
-            text,
-            "  hint: r{number} is 0: so are registers at first, and the answer of a lookup that finds no key\n"
-        );
+        return push_zero(text, base.number());
     }
     if let Region::Values(map) = region_of(address)
         && let Some(span) = value_before(seen, address)

@@ -10,7 +10,7 @@ use Rattle.bpf_text.specs.declared.reading.LineError.{LineError}
 use Rattle.bpf_text.specs.declared.reading.LineError.TheVariants.{BadLine, BadNumber}
 use Rattle.bpf_text.specs.Line.{Written}
 use Rattle.bpf_lines.specs.Lines.{lines_of}
-use Rattle.bpf_text.specs.Assembly.{Source, AreLines, Assembles, words_of, is_twice, first_place, or_far, unless_twice, at_target, named_meaning, body_meaning, meaning_of, then_meaning, program_of}
+use Rattle.bpf_text.specs.Assembly.{Source, AreLines, Assembles, words_of, is_twice, first_place, or_far, unless_twice, or_unknown, at_target, named_meaning, body_meaning, meaning_of, then_meaning, program_of}
 use Rattle.bpf_file.specs.Private.Lines.{line_named}
 
 -- a refusal names this line or one before it
@@ -26,13 +26,17 @@ unless_twice_up : (twice : Bool) (line : ℕ) (r : Result (Option Insn) TextErro
 unless_twice_up true line r h = omega arith
 unless_twice_up false line r h = h
 
-at_target_up : (twice : Bool) (line pc : ℕ) (i : Insn) (to : Option Place) → Up (line + 1) (at_target twice line pc i to)
-at_target_up twice line pc i None = omega arith
-at_target_up twice line pc i (Some to) = unless_twice_up twice line _ (or_far_up line _)
+or_unknown_up : (twice : Bool) (line : ℕ) (o : Option Insn) → Up (line + 1) (or_unknown twice line o)
+or_unknown_up twice line (Some i) = unless_twice_up twice line (Ok (Some i)) tt
+or_unknown_up twice line None = omega arith
+
+at_target_up : (twice : Bool) (line pc : ℕ) (i : Insn) (name : List ℕ) (to : Option Place) → Up (line + 1) (at_target twice line pc i name to)
+at_target_up twice line pc i name None = or_unknown_up twice line _
+at_target_up twice line pc i name (Some to) = unless_twice_up twice line _ (or_far_up line _)
 
 named_up : (labels : List ℕ → Option Place) (twice : Bool) (line pc : ℕ) (i : Insn) (name : Option (List ℕ)) → Up (line + 1) (named_meaning labels twice line pc i name)
 named_up labels twice line pc i None = unless_twice_up twice line (Ok (Some i)) tt
-named_up labels twice line pc i (Some name) = at_target_up twice line pc i (labels name)
+named_up labels twice line pc i (Some name) = at_target_up twice line pc i name (labels name)
 
 body_up : (labels : List ℕ → Option Place) (twice : Bool) (line pc : ℕ) (body : Result (Option Written) LineError) → Up (line + 1) (body_meaning labels twice line pc body)
 body_up labels twice line pc (Err BadLine) = omega arith

@@ -7,9 +7,10 @@ use Rattle.bpf_shared.specs.declared.shapes.MapShape.{MapShape}
 use Rattle.bpf_cpu.specs.declared.job.Job.{Job}
 use Rattle.bpf_cpu.specs.Task.{Task, waiting}
 use Rattle.bpf_loader.specs.Loaded.{Loaded}
-use Rattle.bpf_file.specs.declared.file.RunFile.{RunFile}
+use Rattle.bpf_cpu.specs.declared.setup.Setup.{Setup}
+use Rattle.bpf_cpu.specs.Setup.{IsRunnable}
 use Rattle.bpf_file.specs.File.{File}
-use Rattle.bpf_file.specs.Runnable.{IsRunnable, IsJobFor, CanRun}
+use Rattle.bpf_file.specs.Runnable.{IsJobFor, CanRun}
 
 at_job : (jobs : List Job) (k : ℕ) (d : Job) → get_or (map waiting jobs) k (waiting d) ≡ waiting (get_or jobs k d)
 at_job [] k d = refl
@@ -20,7 +21,7 @@ at_job (job ∷ jobs) (suc k) d = at_job jobs k d
 mapped : (P : Task → Type 0) (Q : Job → Type 0) → ((job : Job) → P (waiting job) → Q job) → (jobs : List Job) → All P (map waiting jobs) → All Q jobs
 mapped P Q f jobs all = λ k d h. f (get_or jobs k d) (subst P (at_job jobs k d) (all k (waiting d) (omega (arith, length-map jobs waiting, h))))
 
-pub runnable : (f : RunFile) (g : File) → f.shape.cpus ≡ g.cpus → f.shape.maps ≡ g.maps → f.programs.items ≡ g.programs → map waiting f.jobs.items ≡ g.jobs → CanRun g → IsRunnable f
+pub runnable : (f : Setup) (g : File) → f.shape.cpus ≡ g.cpus → f.shape.maps ≡ g.maps → f.programs.items ≡ g.programs → map waiting f.jobs.items ≡ g.jobs → CanRun g → IsRunnable f
 runnable f g ec em ep ej can =
     let n = length f.programs.items in
     let C : ℕ → Type 0 = λ c. All (IsJobFor c (length g.programs)) g.jobs in
@@ -37,7 +38,7 @@ runnable f g ec em ep ej can =
       maps = subst O (sym ep) (subst M (sym em) can.maps);
     }
   where
-    below : (f : RunFile) (job : Job) → job.program < length f.programs.items → job.program < vec_len f.programs
+    below : (f : Setup) (job : Job) → job.program < length f.programs.items → job.program < vec_len f.programs
     below f job h = let n = f.programs.ok.0 in omega (arith, n, h)
 
     short : (job : Job) → length job.context.items ≤ max_context → vec_len job.context ≤ max_context

@@ -18,10 +18,10 @@ pub record File : Type 0 where
 -- what a reader's answer says
 abbrev pub file_of : RunFile → File
 file_of f = record {
-  cpus = f.shape.cpus;
+  cpus = f.setup.shape.cpus;
   seed = f.seed;
   names = map string_bytes f.names.items;
-  maps = f.shape.maps;
-  programs = f.programs.items;
-  jobs = map waiting f.jobs.items;
+  maps = f.setup.shape.maps;
+  programs = f.setup.programs.items;
+  jobs = map waiting f.setup.jobs.items;
 }

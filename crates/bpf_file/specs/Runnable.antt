@@ -1,16 +1,8 @@
--- What a machine asks of the jobs and programs that it is made of, and has of every run file.
-use Rattle.std.specs.Prelude.{◌≡◌, ℕ, ◌<◌, ◌≤◌, All, length, vec_len}
+-- What every run file has of what a machine asks of its jobs and programs.
+use Rattle.std.specs.Prelude.{◌≡◌, ℕ, ◌<◌, ◌≤◌, All, length}
 use Rattle.bpf_mem.specs.Limits.{max_context}
 use Rattle.bpf_cpu.specs.Task.{Task, Stage, Waiting}
-use Rattle.bpf_file.specs.declared.file.RunFile.{RunFile}
 use Rattle.bpf_file.specs.File.{File}
-
--- of a file as a reader holds it
-pub record IsRunnable (f : RunFile) : Type 0 where
-  pub cpus : All (λ job. job.cpu < f.shape.cpus) f.jobs.items
-  pub programs : All (λ job. job.program < vec_len f.programs) f.jobs.items
-  pub contexts : All (λ job. vec_len job.context ≤ max_context) f.jobs.items
-  pub maps : All (λ program. program.maps ≡ length f.shape.maps) f.programs.items
 
 -- it waits, with a context of at most 4,096 bytes
 abbrev pub WaitsShort : Stage → Type 0

@@ -11,7 +11,7 @@ ghost use Rattle.bpf_file.specs.Statement.{said_by, statement_of};
 ghost use Rattle.bpf_file.specs.Statement as says;
 ghost use Rattle.bpf_file.specs.declared.statement.Statement.TheVariants as statement_kind;
 ghost use Rattle.bpf_file.specs.Private.Answers.{OrMemory};
-ghost use Rattle.bpf_file.specs.Runnable.{IsRunnable};
+ghost use Rattle.bpf_cpu.specs.Setup.{IsRunnable};
 ghost use Rattle.bpf_file.specs.Private.Fits.{IsFit};
 ghost use Rattle.bpf_file.specs.Private.Drafts.{part_of, said_in, after, Added, HasContext, Ends, closed, file_answer};
 
@@ -21,7 +21,7 @@ use crate::line::LineError;
 use crate::statement::{self, JobLine, Statement};
 use crate::{form, group, program};
 use bpf_base::DEFAULT_BUDGET;
-use bpf_cpu::Job;
+use bpf_cpu::{Job, Setup};
 use bpf_loader::Program;
 use bpf_shared::{MapShape, ShapeError, StoreShape};
 use hex::FromHexError;
@@ -363,18 +363,20 @@ impl<'a> Draft<'a> {
         requires { IsFit (part_of self) }
         ensures read { OrMemory (λ a. finished (Between (part_of self.entry)) ≡ file_answer a)
             result }
-        ensures fits { IfOk result IsRunnable }
+        ensures fits { IfOk result (λ f. IsRunnable f.setup) }
     {
         if self.group == 0 {
             return Err(FileError::Refused(1, Reason::BadFirstLine));
         }
         match StoreShape::new(self.cpus as u64, self.maps) {
             Ok(shape) => Ok(RunFile {
-                shape,
+                setup: Setup {
+                    shape,
+                    programs: self.programs,
+                    jobs: self.jobs,
+                },
                 seed: self.seed,
                 names: self.names,
-                programs: self.programs,
-                jobs: self.jobs,
             }),
             Err(_) => unreachable!(),
         }

@@ -13,13 +13,13 @@ pub enum Reason {
     #[error("a run file begins with `ebpf-run 1` or `ebpf-run 2`")]
     BadFirstLine,
     /// L2: its form, or its place among the others, or it is one too many.
-    #[error("no such line may stand here")]
+    #[error("no such line may be here")]
     BadLine,
     /// L3
     #[error("a number is out of its range")]
     BadNumber,
     /// L4: of two maps, or of two programs.
-    #[error("the name stands before")]
+    #[error("the name is there before")]
     TwiceName,
     /// L5
     #[error("a program or a CPU that isn't there")]

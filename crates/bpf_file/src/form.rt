@@ -46,7 +46,7 @@ pub const MAP: [Part; 10] = [
     Part::Number,
 ];
 
-/// The same with `mask X` after it.
+/// `map NAME key K value V max M spare P mask X`
 pub const MASKED_MAP: [Part; 12] = [
     Part::Word(Key::Map),
     Part::Name,

@@ -52,7 +52,7 @@ pub fn place_of(name: &[u8], names: &[&[u8]]) -> Option<usize>
     }
 }
 
-/// The same of texts.
+/// The number of the first text that is this name.
 pub fn place_in(name: &str, names: &[String]) -> Option<usize>
     ensures value { result ≡ place_of name.now (map string_bytes names.now) }
     ensures bound { IfSome result (λ k. k + 1 ≤ length names.now) }

@@ -6,7 +6,7 @@ ghost use Rattle.bpf_lines.specs.Lines.{lines_of, lines_behind, rest_size};
 ghost use Rattle.bpf_file.specs.File.{file_of};
 ghost use Rattle.bpf_file.specs.Parts.{Between, Within};
 ghost use Rattle.bpf_file.specs.Reading.{IsRunFile};
-ghost use Rattle.bpf_file.specs.Runnable.{IsRunnable};
+ghost use Rattle.bpf_cpu.specs.Setup.{IsRunnable};
 ghost use Rattle.bpf_file.specs.Private.Fits.{IsFit, IsFitState};
 ghost use Rattle.bpf_file.specs.Private.Drafts.{part_of, ReadsOnFrom};
 
@@ -79,7 +79,7 @@ fn read_line<'a>(
 #[tactic(auto, using(crate::proofs::Progress::progress_start, crate::proofs::Progress::progress_next, crate::proofs::Progress::progress_refused, crate::proofs::Progress::progress_end))]
 pub fn read_file(alloc: Global, text: &[u8]) -> Result<RunFile, FileError>
     ensures said { IfOk result (λ f. IsRunFile text.now (Ok (file_of f))) }
-    ensures fits { IfOk result IsRunnable }
+    ensures fits { IfOk result (λ f. IsRunnable f.setup) }
     ensures refused { IfErr result
         (λ e. (e ≡ FileError.OutOfMemory) ⊎ IsRunFile text.now (Err e)) }
 {

@@ -1,5 +1,5 @@
 -- What is printed of jobs that are run in rounds. Our own choice.
-use Rattle.std.specs.Prelude.{◌≡◌, ℕ, zero, suc, ◌++◌, ◌||◌, Bool, true, false, List, [], Option, Some, None, codes, length, slice_get, slice_index_or}
+use Rattle.std.specs.Prelude.{◌≡◌, ℕ, zero, suc, ◌++◌, ◌||◌, Bool, true, false, List, [], Option, Some, None, codes, length, map, slice_get, slice_index_or}
 use Rattle.std.specs.Fmt.{decimal}
 use Rattle.hex.specs.Hex.{encode_lower}
 use Rattle.bpf_shared.specs.Shape.{Shape}
@@ -9,7 +9,8 @@ use Rattle.bpf_loader.specs.Loaded.{Loaded}
 use Rattle.bpf_cpu.specs.declared.outcome.Outcome.{Outcome}
 use Rattle.bpf_cpu.specs.declared.outcome.Outcome.TheVariants as outcome
 use Rattle.bpf_cpu.specs.Lines.{job_line}
-use Rattle.bpf_cpu.specs.Task.{Task, ended, outcome_at}
+use Rattle.bpf_cpu.specs.declared.setup.Setup.{Setup}
+use Rattle.bpf_cpu.specs.Task.{Task, ended, outcome_at, waiting}
 use Rattle.bpf_machine.specs.Listings.{first_lists, made_keys}
 use Rattle.bpf_machine.specs.Schedule.{World, unrolled}
 use Rattle.bpf_machine.specs.Rounds.{RunsBy}
@@ -100,6 +101,13 @@ first_world h programs jobs =
 abbrev pub asked_world : Bool → Shape → List Loaded → List Task → World
 asked_world keys h programs jobs =
     record (first_world h programs jobs) { lists = first_lists keys }
+
+-- those of what a machine is made of
+abbrev pub first_of : Setup → World
+first_of s = first_world s.shape s.programs.items (map waiting s.jobs.items)
+
+abbrev pub asked_of : Bool → Setup → World
+asked_of keys s = asked_world keys s.shape s.programs.items (map waiting s.jobs.items)
 
 abbrev pub AreMapsAsked : Bool → Plain → List (List ℕ) → List ℕ → Type 0
 AreMapsAsked false s names text = text ≡ []

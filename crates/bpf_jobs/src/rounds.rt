@@ -1,23 +1,20 @@
 //! Jobs from their beginning to what is printed of them.
 
-ghost use Rattle.std.specs.Prelude.{◌<◌, ◌≤◌, All, IfOk, map, string_bytes, vec_len};
-ghost use Rattle.bpf_mem.specs.Limits.{max_context};
+ghost use Rattle.std.specs.Prelude.{IfOk, map, string_bytes};
 ghost use Rattle.bpf_shared.specs.Store.{Plain};
 ghost use Rattle.bpf_shared.specs.Sound.{IsSoundStore};
 ghost use Rattle.bpf_plain.specs.PlainStore.{StandsFor};
-ghost use Rattle.bpf_cpu.specs.Task.{waiting};
+ghost use Rattle.bpf_cpu.specs.Setup.{IsRunnable};
 ghost use Rattle.bpf_machine.specs.Machine.{Shows};
 ghost use Rattle.bpf_machine.specs.Schedule.{World};
-ghost use Rattle.bpf_jobs.specs.Printed.{asked_world, first_world, AreMapsAsked, IsReportBy, lines_of_lists, TellsWith};
+ghost use Rattle.bpf_jobs.specs.Printed.{asked_of, first_of, AreMapsAsked, IsReportBy, lines_of_lists, TellsWith};
 
 use crate::listing::{has_any_stopped, list_jobs};
 use crate::lists::list_keys;
 use crate::maps::list_maps;
-use bpf_cpu::Job;
-use bpf_loader::Program;
+use bpf_cpu::Setup;
 use bpf_machine::Machine;
 use bpf_plain::PlainStore;
-use bpf_shared::StoreShape;
 use std::alloc::{AllocError, Global};
 
 /// How jobs have ended.
@@ -29,37 +26,24 @@ pub struct Report {
     pub stopped: bool,
 }
 
-/// A machine over a new store of this shape, whose jobs all wait. Out of memory is the only
-/// refusal.
-pub fn make_machine(
-    alloc: Global,
-    shape: StoreShape,
-    programs: Vec<Program>,
-    jobs: Vec<Job>,
-) -> Result<Machine, AllocError>
-    requires cpus { All (λ job. job.cpu < shape.cpus) jobs.items }
-    requires programs { All (λ job. job.program < vec_len programs) jobs.items }
-    requires contexts { All (λ job. vec_len job.context ≤ max_context) jobs.items }
-    ensures { IfOk result (λ m. Shows m
-        (first_world shape programs.items (map waiting jobs.items))) }
+/// A machine over a new store, whose jobs all wait. Out of memory is the only refusal.
+pub fn make_machine(alloc: Global, setup: Setup) -> Result<Machine, AllocError>
+    requires { IsRunnable setup }
+    ensures { IfOk result (λ m. Shows m (first_of setup)) }
 {
-    make_asked(alloc, shape, programs, jobs, false)
+    make_asked(alloc, setup, false)
 }
 
-/// The same, which is to list keys or not.
-pub fn make_asked(
-    alloc: Global,
-    shape: StoreShape,
-    programs: Vec<Program>,
-    jobs: Vec<Job>,
-    keys: bool,
-) -> Result<Machine, AllocError>
-    requires cpus { All (λ job. job.cpu < shape.cpus) jobs.items }
-    requires programs { All (λ job. job.program < vec_len programs) jobs.items }
-    requires contexts { All (λ job. vec_len job.context ≤ max_context) jobs.items }
-    ensures { IfOk result (λ m. Shows m
-        (asked_world keys shape programs.items (map waiting jobs.items))) }
+/// A machine over a new store, whose jobs all wait, and which lists keys or doesn't.
+pub fn make_asked(alloc: Global, setup: Setup, keys: bool) -> Result<Machine, AllocError>
+    requires { IsRunnable setup }
+    ensures { IfOk result (λ m. Shows m (asked_of keys setup)) }
 {
+    let Setup {
+        shape,
+        programs,
+        jobs,
+    } = setup;
     let Ok(store) = PlainStore::new(alloc, shape) else {
         return Err(AllocError);
     };
@@ -120,22 +104,17 @@ pub fn tell(
 /// memory; all that the machine needs is there before its first turn.
 pub fn run_jobs_by(
     alloc: Global,
-    shape: StoreShape,
+    setup: Setup,
     names: &[String],
-    programs: Vec<Program>,
-    jobs: Vec<Job>,
     schedule: &[(u8, u64)],
     keys: bool,
     maps: bool,
 ) -> Result<Report, AllocError>
-    requires cpus { All (λ job. job.cpu < shape.cpus) jobs.items }
-    requires programs { All (λ job. job.program < vec_len programs) jobs.items }
-    requires contexts { All (λ job. vec_len job.context ≤ max_context) jobs.items }
-    ensures { IfOk result (λ r. IsReportBy
-        (asked_world keys shape programs.items (map waiting jobs.items)) schedule.now
+    requires { IsRunnable setup }
+    ensures { IfOk result (λ r. IsReportBy (asked_of keys setup) schedule.now
         (map string_bytes names.now) maps (string_bytes r.text) r.stopped) }
 {
-    let mut machine = make_asked(alloc, shape, programs, jobs, keys)?;
+    let mut machine = make_asked(alloc, setup, keys)?;
     machine.turns_by(schedule);
     machine.rounds();
     let report = tell(alloc, &machine, names, maps)?;

@@ -8,7 +8,7 @@ use Rattle.std.proofs.lemmas.List.Elements.{All-push}
 use Rattle.bpf_json.specs.declared.line.Line.{Line}
 use Rattle.bpf_json.specs.Lines.{IsRight, plain, object, lines_of, IsLineOf, AreObjectsOf}
 
--- so far these lines are told, and this is left
+-- so far these lines are printed, and this is left
 abbrev pub Told : (text rest objects : List ℕ) → Type 0
 Told text rest objects = (lines : List Line) × All IsRight lines
     × (text ≡ lines_of plain lines ++ rest) × (objects ≡ lines_of object lines)
@@ -19,7 +19,7 @@ told_nothing text objects e = ([], (λ k d l. absurd (omega arith)), refl, e)
 one_more : (write : Line → List ℕ) (lines : List Line) (l : Line) → lines_of write (lines ++ l ∷ []) ≡ lines_of write lines ++ (write l ++ codes "\n")
 one_more write lines l = flat_map-append (λ l. write l ++ codes "\n") lines (l ∷ []) ∙ ap (λ (x : List ℕ). lines_of write lines ++ x) (append-nil (write l ++ codes "\n"))
 
--- what is written before a line, and behind it
+-- what is written before a line, and after it
 told_so : (write : Line → List ℕ) (lines : List Line) (l : Line) (behind : List ℕ) → lines_of write lines ++ (write l ++ (10 ∷ behind)) ≡ lines_of write (lines ++ l ∷ []) ++ behind
 told_so write lines l behind =
     ap (λ (x : List ℕ). lines_of write lines ++ x) (sym (append_assoc (write l) (codes "\n") behind))

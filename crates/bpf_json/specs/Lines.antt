@@ -5,6 +5,7 @@ use Rattle.bpf_base.specs.Bytes.{little_endian}
 use Rattle.bpf_lines.specs.HexText.{IsHexOf}
 use Rattle.bpf_json.specs.declared.digits.Digits.{Digits}
 use Rattle.bpf_json.specs.declared.line.Line.{Line}
+use Rattle.bpf_json.specs.declared.line.Place.{Place}
 use Rattle.bpf_json.specs.declared.line.Line.TheVariants as line
 
 -- ---- numbers
@@ -16,10 +17,10 @@ IsNumberOf digits n = (bytes : List ℕ) × IsHexOf digits bytes × (n ≡ littl
 abbrev pub IsRightNumber : Digits → Type 0
 IsRightNumber d = (n : ℕ) → d.number ≡ Some n → IsNumberOf (string_bytes d.hex) n
 
--- numbers stand there beside digits that spell them
+-- numbers are there beside digits that spell them
 abbrev pub IsRight : Line → Type 0
 IsRight (line.Pair name key value) = IsRightNumber key × IsRightNumber value
-IsRight (line.Race cpu pc other other_pc map key by) = IfSome key IsRightNumber
+IsRight (line.Race one other map key by) = IfSome key IsRightNumber
 IsRight _ = Unit {0}
 
 -- ---- as it is printed
@@ -40,9 +41,10 @@ job_text j c end = codes "job " ++ (decimal j ++ (codes " cpu " ++ (decimal c ++
 abbrev pub budget_text : ℕ → List ℕ
 budget_text pc = codes "out of budget at " ++ decimal pc
 
--- a CPU, and where it stands
-abbrev pub place_text : ℕ → ℕ → List ℕ
-place_text cpu pc = codes "cpu " ++ (decimal cpu ++ (codes " pc " ++ decimal pc))
+-- a CPU, its program, and where it is in that
+abbrev pub place_text : Place → List ℕ
+place_text at = codes "cpu " ++ (decimal at.cpu ++ (codes " prog " ++ (decimal at.program
+    ++ (codes " pc " ++ decimal at.pc))))
 
 -- a key in hex, or that none leads to the value any more
 abbrev pub key_text : Option Digits → List ℕ
@@ -68,8 +70,8 @@ plain (line.Hung schedule) = codes "hung " ++ by_text (string_bytes schedule)
 plain (line.Counts all outcomes states) =
     all_text all ++ (codes ": " ++ (decimal outcomes ++ (codes " outcomes, " ++ (decimal states
     ++ codes " states"))))
-plain (line.Race cpu pc other other_pc name key schedule) =
-    codes "race " ++ (place_text cpu pc ++ (codes " " ++ (place_text other other_pc ++ (codes " "
+plain (line.Race one other name key schedule) =
+    codes "race " ++ (place_text one ++ (codes " " ++ (place_text other ++ (codes " "
     ++ value_text (string_bytes name) key (string_bytes schedule)))))
 plain (line.Races all races) =
     all_text all ++ (codes ": " ++ (decimal races ++ codes " races"))
@@ -82,7 +84,7 @@ plain (line.Other text) = string_bytes text
 
 -- ---- as JSON
 
--- a byte that stands between quotes as it is
+-- a byte that is between quotes as it is
 abbrev pub is_plain : ℕ → Bool
 is_plain b = nat_lt 31 b && (nat_lt b 127 && (not (b == 34) && not (b == 92)))
 
@@ -100,7 +102,7 @@ truth test = if test then codes "true" else codes "false"
 abbrev pub member : List ℕ → List ℕ → List ℕ
 member name text = codes "{\"" ++ (name ++ (codes "\":" ++ (quoted text ++ codes "}")))
 
--- the member for the number, behind a comma
+-- the member for the number, after a comma
 abbrev pub number_member : List ℕ → Option ℕ → List ℕ
 number_member name None = []
 number_member name (Some n) = codes ",\"" ++ (name ++ (codes "_number\":" ++ decimal n))
@@ -110,10 +112,11 @@ digits_members name d =
     codes "\"" ++ (name ++ (codes "\":" ++ (quoted (string_bytes d.hex)
     ++ number_member name d.number)))
 
--- a CPU, and where it stands
-abbrev pub place_object : ℕ → ℕ → List ℕ
-place_object cpu pc =
-    codes "{\"cpu\":" ++ (decimal cpu ++ (codes ",\"pc\":" ++ (decimal pc ++ codes "}")))
+-- a CPU, its program, and where it is in that
+abbrev pub place_object : Place → List ℕ
+place_object at =
+    codes "{\"cpu\":" ++ (decimal at.cpu ++ (codes ",\"prog\":" ++ (decimal at.program
+    ++ (codes ",\"pc\":" ++ (decimal at.pc ++ codes "}")))))
 
 -- the members for a key, if one leads to the value
 abbrev pub key_members : Option Digits → List ℕ
@@ -139,8 +142,8 @@ object (line.Hung schedule) = member (codes "hung_by") (string_bytes schedule)
 object (line.Counts all outcomes states) =
     codes "{\"all\":" ++ (truth all ++ (codes ",\"outcomes\":" ++ (decimal outcomes
     ++ (codes ",\"states\":" ++ (decimal states ++ codes "}")))))
-object (line.Race cpu pc other other_pc name key schedule) =
-    codes "{\"race\":[" ++ (place_object cpu pc ++ (codes "," ++ (place_object other other_pc
+object (line.Race one other name key schedule) =
+    codes "{\"race\":[" ++ (place_object one ++ (codes "," ++ (place_object other
     ++ (codes "],\"map\":" ++ (quoted (string_bytes name) ++ (codes "," ++ (key_members key
     ++ (codes ",\"by\":" ++ (quoted (string_bytes schedule) ++ codes "}")))))))))
 object (line.Races all races) =
@@ -159,7 +162,7 @@ object (line.Other text) = member (codes "line") (string_bytes text)
 abbrev pub IsObjectOf : (text made : List ℕ) → Type 0
 IsObjectOf text made = (l : Line) × IsRight l × (plain l ≡ text) × (made ≡ object l)
 
--- it is put behind
+-- it is appended
 abbrev pub IsLineOf : (text old new : List ℕ) → Type 0
 IsLineOf text old new = (made : List ℕ) × IsObjectOf text made × (new ≡ old ++ (made ++ codes "\n"))
 

@@ -7,5 +7,5 @@ mod objects;
 mod reading;
 
 pub use digits::Digits;
-pub use line::Line;
+pub use line::{Line, Place};
 pub use objects::objects_of;

@@ -6,6 +6,14 @@ ghost use Rattle.bpf_json.specs.Lines.{all_text, budget_text, by_text, digits_me
 use crate::digits::Digits;
 use std::alloc::{AllocError, Global};
 
+/// A CPU, the number of the program that it runs, and where it is in that.
+#[derive(Clone, Copy, PartialEq, Eq, Debug)]
+pub struct Place {
+    pub cpu: u64,
+    pub program: u64,
+    pub pc: u64,
+}
+
 /// A line that `run --maps`, `explore` or `check` prints.
 #[derive(PartialEq, Eq, Debug, Drop)]
 pub enum Line {
@@ -43,13 +51,11 @@ pub enum Line {
         outcomes: u64,
         states: u64,
     },
-    /// Two CPUs that race where they stand at these pcs, the map and the key of the value for which
-    /// they do, if one leads to it, and a schedule that leads there.
+    /// Two CPUs that race where they are, the map and the key of the value for which they do, if
+    /// one leads to it, and a schedule that leads there.
     Race {
-        cpu: u64,
-        pc: u64,
-        other: u64,
-        other_pc: u64,
+        one: Place,
+        other: Place,
         map: String,
         key: Option<Digits>,
         by: String,
@@ -92,7 +98,7 @@ fn all_text(all: bool) -> &'static str
     if all { "all" } else { "not all" }
 }
 
-/// Whether a byte stands in JSON text as it is.
+/// Whether a byte is in JSON text as it is.
 fn is_plain(byte: u8) -> bool
     ensures { result ≡ is_plain byte }
 {
@@ -107,7 +113,7 @@ fn shown_byte(byte: u8) -> u8
     if is_plain(byte) { byte } else { b'?' }
 }
 
-/// Puts bytes behind the text as they are shown.
+/// Appends bytes to the text as they are shown.
 fn push_shown(text: &mut String, bytes: &[u8]) -> Result<(), AllocError>
     ensures { OnOk result (string_bytes text.new
         ≡ string_bytes text.old ++ map shown_byte bytes.now) }
@@ -172,18 +178,20 @@ fn job_text(alloc: Global, job: u64, cpu: u64, end: &str) -> Result<String, Allo
     format!(in alloc; "job {job} cpu {cpu} {end}")
 }
 
-/// A CPU, and where it stands.
-fn place_text(alloc: Global, cpu: u64, pc: u64) -> Result<String, AllocError>
-    ensures { IfOk result (λ s. string_bytes s ≡ place_text cpu pc) }
+/// A CPU, its program, and where it is in that.
+fn place_text(alloc: Global, at: Place) -> Result<String, AllocError>
+    ensures { IfOk result (λ s. string_bytes s ≡ place_text at) }
 {
-    format!(in alloc; "cpu {cpu} pc {pc}")
+    let Place { cpu, program, pc } = at;
+    format!(in alloc; "cpu {cpu} prog {program} pc {pc}")
 }
 
-/// The same as a JSON object.
-fn place_object(alloc: Global, cpu: u64, pc: u64) -> Result<String, AllocError>
-    ensures { IfOk result (λ s. string_bytes s ≡ place_object cpu pc) }
+/// A CPU, its program and where it is in that, as a JSON object.
+fn place_object(alloc: Global, at: Place) -> Result<String, AllocError>
+    ensures { IfOk result (λ s. string_bytes s ≡ place_object at) }
 {
-    format!(in alloc; "{{\"cpu\":{cpu},\"pc\":{pc}}}")
+    let Place { cpu, program, pc } = at;
+    format!(in alloc; "{{\"cpu\":{cpu},\"prog\":{program},\"pc\":{pc}}}")
 }
 
 /// A key in hex, or that none leads to the value any more.
@@ -256,16 +264,14 @@ impl Line {
                 format!(in alloc; "{head}: {outcomes} outcomes, {states} states")
             }
             Line::Race {
-                cpu,
-                pc,
+                one,
                 other,
-                other_pc,
                 map,
                 key,
                 by,
             } => {
-                let one = place_text(alloc, *cpu, *pc)?;
-                let other = place_text(alloc, *other, *other_pc)?;
+                let one = place_text(alloc, *one)?;
+                let other = place_text(alloc, *other)?;
                 let value = value_text(alloc, map.as_str(), key, by.as_str())?;
                 format!(in alloc; "race {one} {other} {value}")
             }
@@ -284,7 +290,7 @@ impl Line {
         }
     }
 
-    /// The same as a JSON object.
+    /// The line as a JSON object.
     pub(crate) fn object(&self, alloc: Global) -> Result<String, AllocError>
         ensures { IfOk result (λ s. string_bytes s ≡ object self.now) }
     {
@@ -318,16 +324,14 @@ impl Line {
                 format!(in alloc; "{{\"all\":{all},\"outcomes\":{outcomes},\"states\":{states}}}")
             }
             Line::Race {
-                cpu,
-                pc,
+                one,
                 other,
-                other_pc,
                 map,
                 key,
                 by,
             } => {
-                let one = place_object(alloc, *cpu, *pc)?;
-                let other = place_object(alloc, *other, *other_pc)?;
+                let one = place_object(alloc, *one)?;
+                let other = place_object(alloc, *other)?;
                 let map = quoted(alloc, map.as_str())?;
                 let key = key_members(alloc, key)?;
                 let by = quoted(alloc, by.as_str())?;

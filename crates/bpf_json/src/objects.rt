@@ -13,7 +13,7 @@ fn object_of(alloc: Global, line: &str) -> Result<String, AllocError>
     line_of(alloc, line)?.object(alloc)
 }
 
-/// Puts it behind the text, on a line.
+/// Appends it to the text, on a line.
 fn push_object(alloc: Global, objects: &mut String, line: &str) -> Result<(), AllocError>
     ensures { OnOk result (IsLineOf line.now (string_bytes objects.old) (string_bytes objects.new)) }
 {

@@ -4,10 +4,10 @@ ghost use Rattle.std.specs.Prelude.{◌≡◌, IfOk, IfSome};
 ghost use Rattle.bpf_json.specs.Lines.{IsRight, IsRightNumber, plain};
 
 use crate::digits::Digits;
-use crate::line::Line;
+use crate::line::{Line, Place};
 use std::alloc::{AllocError, Global};
 
-/// A number, and what stands behind it.
+/// A number, and what is after it.
 fn number_in(text: &str) -> Option<(u64, &str)> {
     let end = text
         .as_bytes()
@@ -18,7 +18,7 @@ fn number_in(text: &str) -> Option<(u64, &str)> {
     Some((digits.parse().ok()?, rest))
 }
 
-/// A word, and what stands behind it.
+/// A word, and what is after it.
 fn word_in(text: &str) -> Option<(&str, &str)> {
     text.split_once(' ')
 }
@@ -100,11 +100,12 @@ fn races_in(text: &str) -> Option<Result<Line, AllocError>>
     }))
 }
 
-/// A CPU and where it stands, and what stands behind it.
-fn place_in(text: &str) -> Option<((u64, u64), &str)> {
+/// A CPU, its program and where it is in that, and what is after it.
+fn place_in(text: &str) -> Option<(Place, &str)> {
     let (cpu, rest) = number_in(text.strip_prefix("cpu ")?)?;
+    let (program, rest) = number_in(rest.strip_prefix(" prog ")?)?;
     let (pc, rest) = number_in(rest.strip_prefix(" pc ")?)?;
-    Some(((cpu, pc), rest.strip_prefix(" ")?))
+    Some((Place { cpu, program, pc }, rest.strip_prefix(" ")?))
 }
 
 /// The key of a value, if one leads to it.
@@ -120,22 +121,20 @@ fn key_of(alloc: Global, key: &str) -> Result<Option<Digits>, AllocError>
 
 fn race(
     alloc: Global,
-    places: ((u64, u64), (u64, u64)),
+    places: (Place, Place),
     map: &str,
     key: &str,
     by: &str,
 ) -> Result<Line, AllocError>
     ensures { IfOk result IsRight }
 {
-    let ((cpu, pc), (other, other_pc)) = places;
+    let (one, other) = places;
     let map = map.to_string(alloc)?;
     let key = key_of(alloc, key)?;
     let by = by.to_string(alloc)?;
     Ok(Line::Race {
-        cpu,
-        pc,
+        one,
         other,
-        other_pc,
         map,
         key,
         by,

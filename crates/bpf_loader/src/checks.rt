@@ -120,7 +120,7 @@ fn check_insn(slots: &Slots, maps: usize, pc: u32, insn: Insn) -> Result<(), Loa
     check_map(slots, maps, pc, insn)
 }
 
-/// The same at any word of the program.
+/// Refuses the word at a pc by the lowest number that applies, if an instruction begins there.
 fn check_word(slots: &Slots, maps: usize, pc: usize) -> Result<(), LoadError>
     requires inside { pc < word_length slots.now }
     requires short { word_length slots.now ≤ max_words }

@@ -149,7 +149,7 @@ module _ (kept : List MachineState) where
         λ y shown. (let q = is_kept y shown in (q.0, q.2, (q.1, q.3, q.4))),
       )
 
-  ends_from : (n i : ℕ) (z : World) → EndsIn kept n i → IsCoveredBy (IsShownAt kept i) z → CanEnd z
+  pub ends_from : (n i : ℕ) (z : World) → EndsIn kept n i → IsCoveredBy (IsShownAt kept i) z → CanEnd z
   ends_from zero i z (m, at, ended, none) (v, headways, (other, there, shows), same, ahead) =
       let one = one_machine i m other at there in
       let jobs : m.jobs ≡ v.jobs = ap (λ (x : MachineState). x.jobs) one ∙ sym shows.jobs in

@@ -6,6 +6,7 @@ use Rattle.bpf_shared.specs.declared.events.Event.{Event}
 use Rattle.bpf_loader.specs.Laws.{OneInstructionBegins}
 use Rattle.bpf_mem.specs.Laws.{WritesAreDetermined}
 use Rattle.bpf_cpu.specs.Task.{Task}
+use Rattle.bpf_machine.specs.declared.machine.Stand.{Stand}
 use Rattle.bpf_machine.specs.Schedule.{World, RunsSchedule}
 use Rattle.bpf_machine.specs.Headways.{with_jobs}
 use Rattle.bpf_machine.specs.Race.{HasNext, IsRace}
@@ -17,8 +18,8 @@ use Rattle.bpf_machine.proofs.PatientLaws.{all_same, rich_at, richer_hand, riche
 
 -- with more steps left a CPU's next step is the same
 module _ (w : World) (jobs : List Task) (rich : AsRich w.jobs jobs) where
-  next_rich : (c pc : ℕ) (event : Event) → HasNext w c pc event → HasNext (with_jobs w jobs) c pc event
-  next_rich c pc event next =
+  next_rich : (here : Stand) (event : Event) → HasNext w here event → HasNext (with_jobs w jobs) here event
+  next_rich here event next =
       let b = rich_at w.jobs jobs next.job next.task rich next.at.listed in
       let h = richer_hand next.task b.0 next.state next.left b.2 next.at.at in
       let may = next.may in
@@ -28,6 +29,7 @@ module _ (w : World) (jobs : List Task) (rich : AsRich w.jobs jobs) where
         state = next.state;
         left = next.left + h.0;
         at = record { listed = b.1; of = richer_cpu next.task b.0 b.2 ∙ next.at.of; at = ap (λ (t : Task). t.stage) h.1 };
+        runs = ap (λ (t : Task). t.program) h.1 ∙ next.runs;
         stands = next.stands;
         may = omega arith;
         program = next.program;
@@ -42,13 +44,13 @@ module _ (w : World) (jobs : List Task) (rich : AsRich w.jobs jobs) where
         among = next.among;
       }
 
-  race_rich : (c pc d qc b : ℕ) → IsRace w c pc d qc b → IsRace (with_jobs w jobs) c pc d qc b
-  race_rich c pc d qc b race = record {
+  race_rich : (one other : Stand) (b : ℕ) → IsRace w one other b → IsRace (with_jobs w jobs) one other b
+  race_rich one other b race = record {
     apart = race.apart;
     first = race.first;
     second = race.second;
-    next = next_rich c pc race.first race.next;
-    other = next_rich d qc race.second race.other;
+    next = next_rich one race.first race.next;
+    next_too = next_rich other race.second race.next_too;
     writes = race.writes;
     writes_too = race.writes_too;
     atomic = race.atomic;
@@ -65,10 +67,11 @@ module _ (law : WritesAreDetermined) (begins : OneInstructionBegins) (replies : 
   world_after (c ∷ cs) w z world runs = world_after cs runs.1 z (one_turn law begins replies w c runs.0 runs.0 runs.1 runs.1 world runs.2 runs.2).world runs.3
 
   pub patient_races_are_kept : PatientRacesAreKept
-  patient_races_are_kept kept w z schedule closed fresh shown runs none c pc d qc b race =
+  patient_races_are_kept kept w z schedule closed fresh shown runs none one other b race =
       let first = fresh_world law begins replies w fresh in
       let r = patient_run law begins replies kept closed schedule w z first (w.jobs, all_same w.jobs, shown_is_covered kept w shown) runs none in
       let jobs = r.0 in
       let covered = r.2 in
       let there = rich_world z jobs r.1 (world_after schedule w z first runs) in
-      (covered.0, covered.2, race_is_kept law begins (with_jobs z jobs) covered.0 covered.1 covered.3 covered.4 there c pc d qc b (race_rich z jobs r.1 c pc d qc b race))
+      let held = race_is_kept law begins (with_jobs z jobs) covered.0 covered.1 covered.3 covered.4 there one other b (race_rich z jobs r.1 one other b race) in
+      (covered.0, covered.2, held.0, held.1)

@@ -18,6 +18,7 @@ use Rattle.bpf_cpu.specs.Task.{Task, InHand}
 use Rattle.bpf_helpers.specs.Laws.{AreAskedAlike}
 use Rattle.bpf_cpu.proofs.Asking.{asks-end'}
 use Rattle.bpf_cpu.proofs.DeterminedRuns.{step_agrees}
+use Rattle.bpf_machine.specs.declared.machine.Stand.{Stand}
 use Rattle.bpf_machine.specs.declared.machine.ahead.Headway.{Headway}
 use Rattle.bpf_machine.specs.Schedule.{World, Advances}
 use Rattle.bpf_machine.specs.Headways.{TakesQuietTurns, turns_in, Precedes, with_jobs, IsAheadOf}
@@ -69,8 +70,8 @@ module _ (law : WritesAreDetermined) (begins : OneInstructionBegins) where
 
   -- ---- a CPU whose next step has an event isn't ahead
   module _ (z v : World) (headways : ℕ → Headway) (same : with_jobs v z.jobs ≡ z) (ahead : IsAheadOf (IsAhead headways) headways z.jobs v) (world : IsWorld z) where
-    next_is_kept : (c pc : ℕ) (event : Event) → HasNext z c pc event → HasNext v c pc event
-    next_is_kept c pc event next =
+    next_is_kept : (here : Stand) (event : Event) → HasNext z here event → HasNext v here event
+    next_is_kept here event next =
         let b = before v.programs (λ c. turns_in (headways c)) z.jobs v.jobs ahead.each next.job next.task next.at.listed in
         let store : z.store ≡ v.store = ap (λ (x : World). x.store) (sym same) in
         let programs : z.programs ≡ v.programs = ap (λ (x : World). x.programs) (sym same) in
@@ -83,6 +84,7 @@ module _ (law : WritesAreDetermined) (begins : OneInstructionBegins) where
           state = next.state;
           left = next.left;
           at = record { listed = b.1 ∙ ap Some kept; of = next.at.of; at = next.at.at };
+          runs = next.runs;
           stands = next.stands;
           may = next.may;
           program = next.program;
@@ -92,7 +94,7 @@ module _ (law : WritesAreDetermined) (begins : OneInstructionBegins) where
           after = next.after;
           step = step;
           store = next.store;
-          legal = subst (λ (s : Plain). PlainlyLegal s (map (entry c) next.events) next.store) store next.legal;
+          legal = subst (λ (s : Plain). PlainlyLegal s (map (entry here.cpu) next.events) next.store) store next.legal;
           place = next.place;
           among = next.among;
         }
@@ -109,30 +111,34 @@ module _ (law : WritesAreDetermined) (begins : OneInstructionBegins) where
             let n = turns_in (headways next.task.cpu) in
             let made' : TakesQuietTurns next.program next.task.cpu n next.state next.left later rest = subst (λ (p : Loaded). TakesQuietTurns p next.task.cpu n next.state next.left later rest) one
             (subst (λ (x : Cpu). TakesQuietTurns program next.task.cpu n x next.left later rest) states (subst (λ (i : ℕ). TakesQuietTurns program next.task.cpu n state i later rest) lefts made)) in
-            elim (quiet_has_none next.program next.task.cpu n v.store.shape next.state next.left later rest next.events next.answer next.after (world.memory c next.job next.task next.state next.left next.at) next.may made' step) [
+            elim (quiet_has_none next.program next.task.cpu n v.store.shape next.state next.left later rest next.events next.answer next.after (world.memory here.cpu next.job next.task next.state next.left next.at) next.may made' step) [
               | inl none ↦ not_ahead v.programs (λ c. turns_in (headways c)) n next.task new none (inr (program, state, left, later, rest, loaded', was, is, made))
               | inr none ↦ let no : None ≡ Some event = subst (λ (es : List Event). slice_get es next.place ≡ Some event) none next.among in cc
             ]
 
-    pub race_is_kept : (c pc d qc b : ℕ) → IsRace z c pc d qc b → IsRace v c pc d qc b
-    race_is_kept c pc d qc b race = record {
-      apart = race.apart;
-      first = race.first;
-      second = race.second;
-      next = next_is_kept c pc race.first race.next;
-      other = next_is_kept d qc race.second race.other;
-      writes = race.writes;
-      writes_too = race.writes_too;
-      atomic = race.atomic;
-      atomic_too = race.atomic_too;
-      touches = race.touches;
-      touches_too = race.touches_too;
-      one_writes = race.one_writes;
-      not_both = race.not_both;
-    }
+    pub race_is_kept : (one other : Stand) (b : ℕ) → IsRace z one other b → (v.store ≡ z.store) × IsRace v one other b
+    race_is_kept one other b race = (
+      ap (λ (x : World). x.store) same,
+      record {
+        apart = race.apart;
+        first = race.first;
+        second = race.second;
+        next = next_is_kept one race.first race.next;
+        next_too = next_is_kept other race.second race.next_too;
+        writes = race.writes;
+        writes_too = race.writes_too;
+        atomic = race.atomic;
+        atomic_too = race.atomic_too;
+        touches = race.touches;
+        touches_too = race.touches_too;
+        one_writes = race.one_writes;
+        not_both = race.not_both;
+      },
+    )
 
 pub races_are_kept : WritesAreDetermined → OneInstructionBegins → CallsHaveOneReply → RacesAreKept
-races_are_kept law begins replies kept w z schedule closed fresh shown runs c pc d qc b race =
+races_are_kept law begins replies kept w z schedule closed fresh shown runs one other b race =
     let r = covered_from law begins replies kept closed w z schedule fresh shown runs in
     let covered = r.0 in
-    (covered.0, covered.2, race_is_kept law begins z covered.0 covered.1 covered.3 covered.4 r.1 c pc d qc b race)
+    let held = race_is_kept law begins z covered.0 covered.1 covered.3 covered.4 r.1 one other b race in
+    (covered.0, covered.2, held.0, held.1)

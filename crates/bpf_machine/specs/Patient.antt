@@ -10,7 +10,8 @@ use Rattle.bpf_machine.specs.Machine.{MachineState, Shows}
 use Rattle.bpf_machine.specs.Laws.{IsFresh}
 use Rattle.bpf_machine.specs.Headways.{with_jobs}
 use Rattle.bpf_machine.specs.Cover.{TurnsTo, IsShown, IsCovered}
-use Rattle.bpf_machine.specs.Race.{IsRace}
+use Rattle.bpf_machine.specs.declared.machine.Stand.{Stand}
+use Rattle.bpf_machine.specs.Race.{IsRace, IsRaceKept}
 
 -- no job has ended out of budget
 abbrev pub NoneRanOut : List Task → Type 0
@@ -75,5 +76,4 @@ abbrev pub PatientRacesAreKept : Type 0
 PatientRacesAreKept =
     (kept : List MachineState) (w z : World) (schedule : List ℕ) → IsClosedRichly kept → IsFresh w
     → IsShown kept w → RunsSchedule w schedule z → NoneRanOut z.jobs
-    → (c pc d qc b : ℕ) → IsRace z c pc d qc b
-    → (v : World) × IsShown kept v × IsRace v c pc d qc b
+    → (one other : Stand) (b : ℕ) → IsRace z one other b → IsRaceKept kept z one other b

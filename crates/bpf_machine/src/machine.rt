@@ -51,6 +51,14 @@ pub enum Standing<'a> {
     Idle,
 }
 
+/// A CPU that has a job in hand, the number of the job's program, and the pc in it.
+#[derive(Clone, Copy, PartialEq, Eq, Debug)]
+pub struct Stand {
+    pub cpu: u8,
+    pub program: usize,
+    pub pc: u32,
+}
+
 /// What a CPU is to do, with the number of the job.
 #[derive(Clone, Copy)]
 pub(crate) enum Work {
@@ -131,7 +139,8 @@ impl Machine {
         Machine::make(alloc, store, programs, jobs, false)
     }
 
-    /// The same, in which each CPU lists the keys of all maps in the turn that ends its last job.
+    /// A machine whose jobs all wait, and whose CPUs list the keys of all maps in the turn that ends
+    /// their last job.
     pub fn with_keys(
         alloc: Global,
         store: PlainStore,
@@ -240,6 +249,13 @@ impl Machine {
         ensures { result ≡ option_map (λ task. task.cpu) (slice_get self.now.jobs job) }
     {
         Some(self.jobs.get(job)?.cpu)
+    }
+
+    /// The number of a job's program.
+    pub fn program_of(&self, job: usize) -> Option<usize>
+        ensures { result ≡ option_map (λ task. task.program) (slice_get self.now.jobs job) }
+    {
+        Some(self.jobs.get(job)?.program)
     }
 
     /// The store.

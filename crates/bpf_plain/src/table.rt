@@ -157,7 +157,7 @@ fn note_runs(notes: &mut [u32], runs: &[Runs])
     }
 }
 
-/// The same from one of the notes on.
+/// Notes for each CPU, from the first of these on, the run that it began last.
 fn note_runs_at(notes: &mut [u32], first: usize, runs: &[Runs])
     requires { first + length runs.now ≤ length notes.old }
     ensures { notes.new ≡ with_part notes.old first (map count_of runs.now) }

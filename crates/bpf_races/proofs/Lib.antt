@@ -1,4 +1,5 @@
 pub mod Lists
+pub mod Listed
 pub mod Clashing
 pub mod Accesses
 pub mod Touching
@@ -7,4 +8,5 @@ pub mod Syncs
 pub mod Nexts
 pub mod GatherLaws
 pub mod WithinLaws
+pub mod RaceFree
 pub mod Searching

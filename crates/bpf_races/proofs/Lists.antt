@@ -1,4 +1,4 @@
--- Lists, and what is put behind them.
+-- Lists, and what is appended to them.
 use Rattle.std.proofs.Common.{◌≡◌, ◌∙◌, ℕ, Bool, true, false, zero, suc, ◌<◌, ◌⊎◌, List, [], ◌∷◌, ◌++◌, Option, Some, None, length, inl, inr, refl, sym, ap, arith}
 use Rattle.std.specs.Prelude.{is_some, not, slice_get}
 use Rattle.bpf_races.specs.Touch.{IsAmong}
@@ -12,7 +12,7 @@ at_end : {A : Type 0} → (xs : List A) (y : A) → slice_get (xs ++ y ∷ []) (
 at_end [] y = refl
 at_end (x ∷ xs) y = at_end xs y
 
--- what stands there with one more
+-- what is there with one more
 pub at_cases : {A : Type 0} → (xs : List A) (y x : A) (i : ℕ) → slice_get (xs ++ y ∷ []) i ≡ Some x → (slice_get xs i ≡ Some x) ⊎ ((i ≡ length xs) × (x ≡ y))
 at_cases [] y x zero at = let same : y ≡ x = cc in inr (refl, sym same)
 at_cases [] y x (suc i) at = cc

@@ -1,71 +1,115 @@
--- Maps that are found by their names.
-use Rattle.std.proofs.Common.{◌≡◌, ◌∙◌, ℕ, ◌+◌, ◌<◌, ◌≤◌, String, List, [], ◌∷◌, ◌++◌, Option, Some, length, get_or, map, inl, inr, refl, sym, ap, subst, arith}
+-- Bytes that are named by texts.
+use Rattle.std.proofs.Common.{◌≡◌, ◌∙◌, ℕ, ◌+◌, ◌<◌, ◌≤◌, String, List, [], ◌∷◌, ◌++◌, Option, Some, None, length, get_or, map, false, inl, inr, refl, sym, ap, subst, arith}
 use Rattle.std.specs.declared.alloc.Global.{Global}
-use Rattle.std.specs.Prelude.{slice_get, option_map, string_bytes}
+use Rattle.std.specs.Prelude.{IfNone, IfSome, slice_get, option_map, string_bytes}
+use Rattle.std.specs.List.{before_first}
 use Rattle.std.proofs.lemmas.Bool.{cases_lt}
 use Rattle.std.proofs.lemmas.List.{length-map}
-use Rattle.std.proofs.lemmas.Option.{slice_get-map, slice_get_read, slice_get_within}
+use Rattle.std.proofs.lemmas.Option.{slice_get-get_or, slice_get-map, slice_get_read, slice_get_within}
+use Rattle.bpf_shared.specs.declared.shapes.MapShape.{MapShape}
+use Rattle.bpf_races.specs.declared.sync.Part.{Part}
 use Rattle.bpf_races.specs.Touch.{IsAmong}
-use Rattle.bpf_races.specs.Sync.{AreMapsOf}
+use Rattle.bpf_races.specs.Sync.{ArePartsOf, Says, is_mark, range_in}
+use Rattle.bpf_races.specs.Private.Parts.{IsPart}
 use Rattle.bpf_races.proofs.Lists.{in_front, in_last, in_cases}
 
--- the name that is read
+-- the text that is read
 pub name_there : (names : List (String Global)) (own : String Global) (m : ℕ) → m < length names → own ≡ get_or names m own → slice_get (map string_bytes names) m ≡ Some (string_bytes own)
 name_there names own m inside is =
     slice_get-map string_bytes names m ∙ ap (λ (o : Option (String Global)). option_map string_bytes o) (slice_get_read names (length names) m own refl inside is)
 
-pub name_not_there : (names : List (String Global)) (own : String Global) (name : List ℕ) (m : ℕ) → m < length names → own ≡ get_or names m own → (string_bytes own ≡ name → ⊥)
-    → ((k : ℕ) → k < m → slice_get (map string_bytes names) k ≡ Some name → ⊥) → (k : ℕ) → k < m + 1 → slice_get (map string_bytes names) k ≡ Some name → ⊥
-name_not_there names own name m inside is other before k less at = elim (cases_lt k m) [
-  | inl below ↦ before k below at
-  | inr past ↦
-      let here : k ≡ m = omega arith in
-      let P : ℕ → Type 0 = λ n. slice_get (map string_bytes names) n ≡ Some name in
-      let both : Some (string_bytes own) ≡ Some name = sym (name_there names own m inside is) ∙ subst P here at in
+module _ (names : List (List ℕ)) (maps : List MapShape) (text : List ℕ) where
+  -- no map has the number
+  pub none_beyond : (n : ℕ) → length maps ≤ n → (part : Part) → part.map ≡ n → Says names maps text part → ⊥
+  none_beyond n past part at says = let inside = slice_get_within maps part.map says.shape says.map in absurd (omega arith)
+
+  -- the map of the number has another name
+  pub none_named : (n : ℕ) (name : List ℕ) → slice_get names n ≡ Some name → (name ≡ before_first (is_mark 43) text → ⊥) → (part : Part) → part.map ≡ n → Says names maps text part → ⊥
+  none_named n name here other part at says =
+      let two : Some name ≡ Some (before_first (is_mark 43) text) = sym here ∙ (ap (λ (k : ℕ). slice_get names k) (sym at) ∙ says.named) in
       other cc
-]
 
-pub no_more_names : (names : List (String Global)) (name : List ℕ) (m : ℕ) → ((k : ℕ) → k < m → slice_get (map string_bytes names) k ≡ Some name → ⊥) → length names ≤ m
-    → IsAmong (map string_bytes names) name → ⊥
-no_more_names names name m before past (k, at) =
-    let inside = slice_get_within (map string_bytes names) k name at in
-    let count = length-map names string_bytes in
-    before k (omega arith) at
+  same_shape : (o : Option MapShape) (one other : MapShape) → o ≡ Some one → o ≡ Some other → one ≡ other
+  same_shape o one other a b = let both : Some one ≡ Some other = sym a ∙ b in cc
 
--- the maps of the first n names
-pub record MapsBelow (names sync : List (List ℕ)) (n : ℕ) (numbers : List ℕ) : Type 0 where
-  pub named : (number : ℕ) → IsAmong numbers number → (name : List ℕ) × IsAmong sync name × (slice_get names number ≡ Some name)
-  pub each : (k : ℕ) (name : List ℕ) → k < n → slice_get sync k ≡ Some name → (number : ℕ) × IsAmong numbers number × (slice_get names number ≡ Some name)
+  -- it has the name, and not the bytes
+  pub none_ranged : (n : ℕ) (sizes : MapShape) → slice_get maps n ≡ Some sizes → range_in text sizes.value ≡ None → (part : Part) → part.map ≡ n → Says names maps text part → ⊥
+  none_ranged n sizes here none part at says =
+      let same : sizes ≡ says.shape = same_shape (slice_get maps n) sizes says.shape here (ap (λ (k : ℕ). slice_get maps k) (sym at) ∙ says.map) in
+      let none_there : Option (ℕ × ℕ) = None in
+      let no_range : none_there ≡ Some (part.from, part.past) = sym none ∙ (ap (λ (h : MapShape). range_in text h.value) same ∙ says.range) in
+      cc
 
-pub none_below : (names sync : List (List ℕ)) → MapsBelow names sync 0 []
-none_below names sync = record { named = λ number (i, at). cc; each = λ k name less at. absurd (omega arith) }
+  -- it has both
+  pub one_said : (n : ℕ) (sizes : MapShape) → slice_get maps n ≡ Some sizes → slice_get names n ≡ Some (before_first (is_mark 43) text) → (part : Part) → IsPart sizes n text part → Says names maps text part
+  one_said n sizes here named part is = record {
+    shape = sizes;
+    map = ap (λ (k : ℕ). slice_get maps k) is.map ∙ here;
+    named = ap (λ (k : ℕ). slice_get names k) is.map ∙ named;
+    stride = is.stride;
+    range = is.range;
+  }
 
-same_name : (o : Option (List ℕ)) (name other : List ℕ) → o ≡ Some name → o ≡ Some other → name ≡ other
-same_name o name other a b = let both : Some name ≡ Some other = sym a ∙ b in cc
+  pub all_said : (n : ℕ) (sizes : MapShape) → slice_get maps n ≡ Some sizes → slice_get names n ≡ Some (before_first (is_mark 43) text) → (o : Option Part) → IfSome o (IsPart sizes n text) → IfSome o (Says names maps text)
+  all_said n sizes here named None is = tt
+  all_said n sizes here named (Some part) is = one_said n sizes here named part is
 
-pub one_more : (names sync : List (List ℕ)) (n : ℕ) (old new : List ℕ) (name : List ℕ) (number : ℕ) → MapsBelow names sync n old → slice_get sync n ≡ Some name → slice_get names number ≡ Some name
-    → new ≡ old ++ number ∷ [] → MapsBelow names sync (n + 1) new
-one_more names sync n old new name number far here has is = subst (MapsBelow names sync (n + 1)) (sym is) (record {
-  named = λ m there. elim (in_cases old number m there) [
-    | inl before ↦ far.named m before
-    | inr same ↦ (name, (n, here), ap (λ (x : ℕ). slice_get names x) same ∙ has)
-  ];
-  each = λ k other less at. elim (cases_lt k n) [
-    | inl below ↦
-        let found = far.each k other below at in
-        (found.0, in_front old number found.0 found.1, found.2)
-    | inr past ↦
-        let e : k ≡ n = omega arith in
-        let same : name ≡ other = same_name (slice_get sync n) name other here (ap (λ (i : ℕ). slice_get sync i) (sym e) ∙ at) in
-        (number, in_last old number, has ∙ ap (λ (x : List ℕ). Some x) same)
-  ];
-})
+  pub none_left : (n : ℕ) (sizes : MapShape) → slice_get maps n ≡ Some sizes → (o : Option Part) → IfNone o (range_in text sizes.value ≡ None) → IfNone o ((part : Part) → part.map ≡ n → Says names maps text part → ⊥)
+  none_left n sizes here None none = none_ranged n sizes here none
+  none_left n sizes here (Some part) none = tt
 
-pub all_below : (names : List (List ℕ)) (sync : List (String Global)) (n : ℕ) (numbers : List ℕ) → length sync ≤ n → MapsBelow names (map string_bytes sync) n numbers → AreMapsOf names (map string_bytes sync) numbers
-all_below names sync n numbers past far = record {
-  named = far.named;
-  each = λ name (k, at).
-      let inside = slice_get_within (map string_bytes sync) k name at in
+  -- none of the maps below the number
+  abbrev pub NoneBelow : ℕ → Type 0
+  NoneBelow n = (part : Part) → part.map < n → Says names maps text part → ⊥
+
+  pub none_more : (n : ℕ) → NoneBelow n → ((part : Part) → part.map ≡ n → Says names maps text part → ⊥) → NoneBelow (n + 1)
+  none_more n far here part less says = elim (cases_lt part.map n) [
+    | inl below ↦ far part below says
+    | inr past ↦ here part (omega arith) says
+  ]
+
+  pub none_at_all : (n : ℕ) → length names ≤ n → NoneBelow n → (part : Part) → Says names maps text part → ⊥
+  none_at_all n past far part says = let inside = slice_get_within names part.map (before_first (is_mark 43) text) says.named in far part (omega arith) says
+
+-- the sizes that are read
+abbrev pub no_sizes : MapShape
+no_sizes = record { key = 0; value = 0; max = 0; spare = 0; mask = 0; grow = false }
+
+pub sizes_there : (maps own : List MapShape) (n : ℕ) → own ≡ maps → n < length own → slice_get maps n ≡ Some (get_or own n no_sizes)
+sizes_there maps own n same inside = ap (λ (ms : List MapShape). slice_get ms n) (sym same) ∙ slice_get-get_or own n no_sizes inside
+
+-- the bytes of the first n texts
+pub record PartsBelow (names : List (List ℕ)) (maps : List MapShape) (sync : List (List ℕ)) (n : ℕ) (parts : List Part) : Type 0 where
+  pub said : (part : Part) → IsAmong parts part → (text : List ℕ) × IsAmong sync text × Says names maps text part
+  pub each : (k : ℕ) (text : List ℕ) → k < n → slice_get sync k ≡ Some text → (part : Part) × IsAmong parts part × Says names maps text part
+
+module _ (names : List (List ℕ)) (maps : List MapShape) (sync : List (List ℕ)) where
+  pub none_below : PartsBelow names maps sync 0 []
+  none_below = record { said = λ part (i, at). cc; each = λ k text less at. absurd (omega arith) }
+
+  same_text : (o : Option (List ℕ)) (one other : List ℕ) → o ≡ Some one → o ≡ Some other → one ≡ other
+  same_text o one other a b = let both : Some one ≡ Some other = sym a ∙ b in cc
+
+  pub one_more : (n : ℕ) (old new : List Part) (text : List ℕ) (part : Part) → PartsBelow names maps sync n old → slice_get sync n ≡ Some text → Says names maps text part → new ≡ old ++ part ∷ [] → PartsBelow names maps sync (n + 1) new
+  one_more n old new text part far here says is = subst (PartsBelow names maps sync (n + 1)) (sym is) (record {
+    said = λ one there. elim (in_cases old part one there) [
+      | inl before ↦ far.said one before
+      | inr same ↦ (text, (n, here), subst (λ (x : Part). Says names maps text x) (sym same) says)
+    ];
+    each = λ k other less at. elim (cases_lt k n) [
+      | inl below ↦ let found = far.each k other below at in (found.0, in_front old part found.0 found.1, found.2)
+      | inr past ↦
+          let e : k ≡ n = omega arith in
+          let same : text ≡ other = same_text (slice_get sync n) text other here (ap (λ (i : ℕ). slice_get sync i) (sym e) ∙ at) in
+          (part, in_last old part, subst (λ (x : List ℕ). Says names maps x part) same says)
+    ];
+  })
+
+pub all_below : (names : List (List ℕ)) (maps : List MapShape) (sync : List (String Global)) (n : ℕ) (parts : List Part) → length sync ≤ n → PartsBelow names maps (map string_bytes sync) n parts → ArePartsOf names maps (map string_bytes sync) parts
+all_below names maps sync n parts past far = record {
+  said = far.said;
+  each = λ text (k, at).
+      let inside = slice_get_within (map string_bytes sync) k text at in
       let count = length-map sync string_bytes in
-      far.each k name (omega arith) at;
+      far.each k text (omega arith) at;
 }

@@ -3,6 +3,7 @@ use Rattle.std.proofs.Common.{◌≡◌, ◌≢◌, ℕ, Bool, true, false, Some
 use Rattle.std.specs.Prelude.{◌||◌, ◌&&◌}
 use Rattle.bpf_shared.specs.declared.events.Event.{Event}
 use Rattle.bpf_shared.specs.declared.events.Event.TheVariants.{Begin, End, Lookup, Update, Delete, Keys, Load, Store, Atomic}
+use Rattle.bpf_machine.specs.declared.machine.Stand.{Stand}
 use Rattle.bpf_machine.specs.Schedule.{World}
 use Rattle.bpf_machine.specs.Race.{Touches, IsRace}
 use Rattle.bpf_races.specs.declared.access.Access.{Access}
@@ -35,8 +36,8 @@ access_touches (Update m key bytes flags answer) b a is hits = cc
 access_touches (Delete m key answer) b a is hits = cc
 access_touches (Keys m ks) b a is hits = cc
 
-module _ (w : World) (c d : ℕ) (first second : NextStep) (b : ℕ) (next : IsNext w c first) (next_too : IsNext w d second) where
-  pub clash_race : c ≢ d → Clash first.accesses second.accesses b → IsRace w c first.pc d second.pc b
+module _ (w : World) (first second : NextStep) (b : ℕ) (next : IsNext w first) (next_too : IsNext w second) where
+  pub clash_race : first.here.cpu ≢ second.here.cpu → Clash first.accesses second.accesses b → IsRace w first.here second.here b
   clash_race apart (one, two, here, there, odds) =
       let x = next.each one here in
       let y = next_too.each two there in
@@ -45,7 +46,7 @@ module _ (w : World) (c d : ℕ) (first second : NextStep) (b : ℕ) (next : IsN
         first = x.0;
         second = y.0;
         next = x.1;
-        other = y.1;
+        next_too = y.1;
         writes = one.writes;
         writes_too = two.writes;
         atomic = one.atomic;
@@ -56,12 +57,12 @@ module _ (w : World) (c d : ℕ) (first second : NextStep) (b : ℕ) (next : IsN
         not_both = odds.not_both;
       }
 
-  pub race_clash : (pc qc : ℕ) → IsRace w c pc d qc b → (pc ≡ first.pc) × (qc ≡ second.pc) × Clash first.accesses second.accesses b
-  race_clash pc qc race =
+  pub race_clash : (one other : Stand) → one.cpu ≡ first.here.cpu → other.cpu ≡ second.here.cpu → IsRace w one other b → (one ≡ first.here) × (other ≡ second.here) × Clash first.accesses second.accesses b
+  race_clash one other cpu other_cpu race =
       let x = touches_access race.first b race.writes race.atomic race.touches in
       let y = touches_access race.second b race.writes_too race.atomic_too race.touches_too in
-      let here = next.all pc race.first x.0 race.next x.1 in
-      let there = next_too.all qc race.second y.0 race.other y.1 in
+      let here = next.all one race.first x.0 cpu race.next x.1 in
+      let there = next_too.all other race.second y.0 other_cpu race.next_too y.1 in
       let odds : AreAtOdds x.0 y.0 b =
       record {
         hits = x.2;

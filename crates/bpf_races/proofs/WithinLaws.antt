@@ -1,18 +1,27 @@
 -- Races of one machine, by rising pair of CPUs.
-use Rattle.std.proofs.Common.{◌≡◌, ◌∙◌, ℕ, ◌+◌, ◌<◌, ◌≤◌, ◌⊎◌, List, [], ◌∷◌, ◌++◌, Option, Some, None, length, inl, inr, sym, subst, arith}
-use Rattle.std.specs.Prelude.{IfNone, IfSome, slice_get}
+use Rattle.std.proofs.Common.{◌≡◌, ◌≢◌, ◌∙◌, ℕ, ◌+◌, ◌<◌, ◌≤◌, ◌⊎◌, List, [], ◌∷◌, ◌++◌, Option, Some, length, get_or, inl, inr, refl, sym, ap, subst, arith}
+use Rattle.std.specs.Prelude.{slice_get}
 use Rattle.std.proofs.lemmas.Bool.{cases_lt}
-use Rattle.std.proofs.lemmas.Option.{slice_get_within}
-use Rattle.bpf_plain.proofs.Options.{at_some}
+use Rattle.std.proofs.lemmas.Option.{slice_get_read, slice_get_within}
+use Rattle.bpf_cpu.specs.Task.{Task, InHand}
+use Rattle.bpf_shared.specs.Store.{Plain}
+use Rattle.bpf_machine.specs.declared.machine.Stand.{Stand}
+use Rattle.bpf_machine.specs.Hands.{IsAt, IsFree}
 use Rattle.bpf_machine.specs.Machine.{MachineState, Shows}
+use Rattle.bpf_machine.specs.Race.{IsRace}
 use Rattle.bpf_machine.specs.Schedule.{World}
+use Rattle.bpf_races.specs.declared.found.Pair.{Pair}
+use Rattle.bpf_races.specs.declared.sync.Part.{Part}
 use Rattle.bpf_races.specs.Touch.{IsAmong, Clash}
-use Rattle.bpf_races.specs.Next.{NextStep}
-use Rattle.bpf_races.specs.Races.{RaceFound, RacesIn, IsBefore, IsBetween, IsLeftOut, AreRacesIn, AreRising}
-use Rattle.bpf_races.specs.Private.Searching.{AreNexts, AreListedOf, Keeps}
-use Rattle.bpf_races.specs.Private.Within.{IsPassed, IsThere, UpTo}
-use Rattle.bpf_races.proofs.Lists.{at_cases, in_cases}
-use Rattle.bpf_races.proofs.GatherLaws.{keeps_pushed, listed_pushed, none_of_free, none_of_two, of_still, one_of_two}
+use Rattle.bpf_races.specs.Next.{NextStep, IsNextIn}
+use Rattle.bpf_races.specs.Races.{RaceFound, RacesIn, AreListed, AreOnce, AreRacesIn, AreRising, IsBefore, IsKeyAt, IsListed, IsTold, Spot, spot_of}
+use Rattle.bpf_races.specs.Parts.{IsLeftOut, map_at}
+use Rattle.bpf_races.specs.Private.Clashes.{Collects}
+use Rattle.bpf_races.specs.Private.Searching.{AddsRace, AreNexts, IsNextOf, Keeps}
+use Rattle.bpf_races.specs.Private.Within.{Amid, AreListedOf, IsByteTold, IsFor, IsPassed, IsThere, UpTo}
+use Rattle.bpf_races.proofs.Lists.{at_cases, in_cases, in_front, in_last}
+use Rattle.bpf_races.proofs.Listed.{keeps_same, keeps_pushed, once_pushed}
+use Rattle.bpf_races.proofs.Touching.{clash_race, race_clash}
 
 -- ---- pairs of CPUs
 passed_more : (c d a b : ℕ) → IsPassed c d a b → IsPassed c (d + 1) a b
@@ -44,31 +53,40 @@ none_passed a b (inl less) = absurd (omega arith)
 none_passed a b (inr (same, less)) = absurd (omega arith)
 
 -- ---- what is gathered
-nothing_at : (i : ℕ) (race : RaceFound) → slice_get [] i ≡ Some race → ⊥
-nothing_at i race at = cc
+nothing_at : {A : Type 0} → (i : ℕ) (x : A) → slice_get [] i ≡ Some x → ⊥
+nothing_at i x at = cc
 
-module _ (m : MachineState) (sync : List ℕ) (nexts : List NextStep) where
+-- a CPU without a job in hand has no race
+none_of_free : (m : MachineState) (races : List RaceFound) (sync : List Part) (w : World) (pair : Pair) (b : ℕ) → IsFree m.jobs pair.other.cpu → Shows m w → IsRace w pair.one pair.other b → IsTold races w.store pair b ⊎ IsLeftOut sync b
+none_of_free m races sync w pair b free shows race =
+    let next = race.next_too in
+    absurd (free next.job next.task next.state next.left (subst (λ (jobs : List Task). IsAt jobs pair.other.cpu next.job next.task (InHand next.state next.left)) shows.jobs next.at))
+
+module _ (m : MachineState) (sync : List Part) (nexts : List NextStep) where
   pub none_yet : UpTo m sync nexts 0 0 []
   none_yet = record {
     each = λ race (i, at). absurd (nothing_at i race at);
     passed = λ race (i, at). absurd (nothing_at i race at);
     listed = λ a b order inside passed. absurd (none_passed a b passed);
+    once = λ i j one two at at_too. absurd (nothing_at i one at);
     rising = λ i j one two less at at_too. absurd (nothing_at i one at);
   }
 
   pub row_begins : (c : ℕ) (races : List RaceFound) → UpTo m sync nexts c 0 races → UpTo m sync nexts c (c + 1) races
   row_begins c races far = record {
     each = far.each;
-    passed = λ race there. row_passed c (c + 1) race.cpu race.other (far.passed race there);
+    passed = λ race there. row_passed c (c + 1) race.pair.one.cpu race.pair.other.cpu (far.passed race there);
     listed = λ a b order inside passed. far.listed a b order inside (passed_row c a b order passed);
+    once = far.once;
     rising = far.rising;
   }
 
   pub row_ends : (c d : ℕ) (races : List RaceFound) → length nexts ≤ d → UpTo m sync nexts c d races → UpTo m sync nexts (c + 1) 0 races
   row_ends c d races past far = record {
     each = far.each;
-    passed = λ race there. rows_passed c d race.cpu race.other (far.passed race there);
+    passed = λ race there. rows_passed c d race.pair.one.cpu race.pair.other.cpu (far.passed race there);
     listed = λ a b order inside passed. far.listed a b order inside (passed_rows c d a b (omega arith) passed);
+    once = far.once;
     rising = far.rising;
   }
 
@@ -78,86 +96,194 @@ module _ (m : MachineState) (sync : List ℕ) (nexts : List NextStep) where
     each = λ race there. (far.each race there).races;
     ordered = λ race there. (far.each race there).order;
     here = λ race there. (far.each race there).here;
+    once = far.once;
     rising = far.rising;
-    all = λ w shows c pc d qc b order race. elim (cases_lt d (length nexts)) [
-      | inl inside ↦ far.listed c d order inside (inl (omega arith)) w shows pc qc b race
-      | inr beyond ↦ none_of_free m races sync c d (are.none d (omega arith)) w shows pc qc b race
+    all = λ w shows pair b order race. elim (cases_lt pair.other.cpu (length nexts)) [
+      | inl inside ↦ far.listed pair.one.cpu pair.other.cpu order inside (inl (omega arith)) w shows pair b refl refl race
+      | inr beyond ↦ none_of_free m races sync w pair b (are.none pair.other.cpu (omega arith)) shows race
     ];
   }
+
+-- ---- one more race
+told_still : (old new : List RaceFound) (s : Plain) (pair : Pair) (b : ℕ) → Keeps old new → IsTold old s pair b → IsTold new s pair b
+told_still old new s pair b keeps (race, there, pairs, maps, key) = (race, keeps race there, pairs, maps, key)
+
+of_still : (old new : List RaceFound) (sync : List Part) (m : MachineState) (c d : ℕ) → Keeps old new → AreListedOf old sync m c d → AreListedOf new sync m c d
+of_still old new sync m c d keeps listed w shows pair b cpu other race = elim (listed w shows pair b cpu other race) [
+  | inl here ↦ inl (told_still old new w.store pair b keeps here)
+  | inr out ↦ inr out
+]
+
+adds_keeps : (old new : List RaceFound) (race : RaceFound) → AddsRace old race new → Keeps old new
+adds_keeps old new race (inl (listed, same)) = subst (Keeps old) (sym same) (keeps_same old)
+adds_keeps old new race (inr (not, is)) = keeps_pushed old new race is
+
+adds_cases : (old new : List RaceFound) (race one : RaceFound) → AddsRace old race new → IsAmong new one → IsAmong old one ⊎ (one ≡ race)
+adds_cases old new race one (inl (listed, same)) there = inl (subst (λ (xs : List RaceFound). IsAmong xs one) same there)
+adds_cases old new race one (inr (not, is)) there = in_cases old race one (subst (λ (xs : List RaceFound). IsAmong xs one) is there)
+
+adds_once : (old new : List RaceFound) (race : RaceFound) → AddsRace old race new → AreOnce old → AreOnce new
+adds_once old new race (inl (listed, same)) once = subst AreOnce (sym same) once
+adds_once old new race (inr (not, is)) once = subst AreOnce (sym is) (once_pushed old race once not)
+
+adds_rising : (old new : List RaceFound) (race : RaceFound) → ((one : RaceFound) → IsAmong old one → IsBefore one.pair race.pair) → AddsRace old race new → AreRising old → AreRising new
+adds_rising old new race before (inl (listed, same)) rising = subst AreRising (sym same) rising
+adds_rising old new race before (inr (not, is)) rising = subst AreRising (sym is) pushed
+  where
+    pushed : AreRising (old ++ race ∷ [])
+    pushed i j one two less at at_too = elim (at_cases old race one i at) [
+      | inl early ↦ elim (at_cases old race two j at_too) [
+        | inl late ↦ rising i j one two less early late
+        | inr (last, same) ↦ subst (λ (x : RaceFound). IsBefore one.pair x.pair) (sym same) (before one (i, early))
+      ]
+      | inr (end, same) ↦ elim (at_cases old race two j at_too) [
+        | inl late ↦ let inside = slice_get_within old j two late in absurd (omega arith)
+        | inr (last, too) ↦ absurd (omega arith)
+      ]
+    ]
+
+-- where such a race is listed or put there, the byte is printed
+adds_told : (m : MachineState) (old new : List RaceFound) (race : RaceFound) (pair : Pair) (b : ℕ) → IsFor m pair b race → AddsRace old race new → IsByteTold m pair new b
+adds_told m old new race pair b for (inl ((one, among, same), is)) w shows =
+    let keys : one.key ≡ race.key = ap (λ (s : Spot). s.key) same in (
+      one,
+      subst (λ (xs : List RaceFound). IsAmong xs one) (sym is) among,
+      ap (λ (s : Spot). s.pair) same ∙ for.pair,
+      ap (λ (s : Spot). s.map) same ∙ ap map_at for.at,
+      subst (λ (k : Option (List ℕ)). IsKeyAt w.store b k) (sym keys) (for.key w shows),
+    )
+adds_told m old new race pair b for (inr (not, is)) w shows =
+    (race, subst (λ (xs : List RaceFound). IsAmong xs race) (sym is) (in_last old race), for.pair, ap map_at for.at, for.key w shows)
 
 -- ---- two CPUs
-module _ (m : MachineState) (sync : List ℕ) (nexts : List NextStep) (c d : ℕ) (first second : NextStep) (are : AreNexts m nexts) (at : slice_get nexts c ≡ Some first) (at_too : slice_get nexts d ≡ Some second) where
-  pub none_here : (races : List RaceFound) → ((b : ℕ) → Clash first.accesses second.accesses b → IsLeftOut sync b) → UpTo m sync nexts c d races → UpTo m sync nexts c (d + 1) races
-  none_here races none far = record {
-    each = far.each;
-    passed = λ race there. passed_more c d race.cpu race.other (far.passed race there);
-    listed = λ a b order inside passed. elim (passed_cases c d a b passed) [
-      | inl before ↦ far.listed a b order inside before
-      | inr (cpu, other) ↦ subst (λ (x : ℕ). AreListedOf races sync m x b) cpu (subst (λ (y : ℕ). AreListedOf races sync m c y) other (none_of_two m nexts races sync c d first second are at at_too none))
-    ];
-    rising = far.rising;
-  }
+apart : (c d : ℕ) → c < d → c ≢ d
+apart c d less same = absurd (omega arith)
 
-  pub one_here : (old new : List RaceFound) (race : RaceFound) → new ≡ old ++ race ∷ [] → IsThere m sync race → IsBetween c first.pc d second.pc race → UpTo m sync nexts c d old → UpTo m sync nexts c (d + 1) new
-  one_here old new race is there between far = record {
-    each = λ one among. elim (in_cases old race one (subst (λ (xs : List RaceFound). IsAmong xs one) is among)) [
-      | inl before ↦ far.each one before
-      | inr same ↦ subst (IsThere m sync) (sym same) there
+module _ (m : MachineState) (sync : List Part) (nexts : List NextStep) (first second : NextStep) (pair : Pair) (one : pair.one ≡ first.here) (other : pair.other ≡ second.here) where
+  one_cpu : pair.one.cpu ≡ first.here.cpu
+  one_cpu = ap (λ (s : Stand). s.cpu) one
+
+  other_cpu : pair.other.cpu ≡ second.here.cpu
+  other_cpu = ap (λ (s : Stand). s.cpu) other
+
+  -- a byte for which their next steps are at odds is a race in what the machine shows
+  is_there : (race : RaceFound) (b : ℕ) → first.here.cpu < second.here.cpu → IsNextIn m first → IsNextIn m second → Clash first.accesses second.accesses b → (IsLeftOut sync b → ⊥) → IsFor m pair b race → IsThere m sync race
+  is_there race b order next next_too clash counts for = record {
+    races = λ w shows. record {
+      counts = subst (λ (x : ℕ). IsLeftOut sync x → ⊥) (sym for.at) counts;
+      race = subst (λ (x : ℕ). IsRace w race.pair.one race.pair.other x) (sym for.at) (subst (λ (p : Pair). IsRace w p.one p.other b) (sym for.pair) (here w shows));
+      key = subst (λ (x : ℕ). IsKeyAt w.store x race.key) (sym for.at) (for.key w shows);
+    };
+    order = subst (λ (p : Pair). p.one.cpu < p.other.cpu) (sym for.pair) (subst (λ (n : ℕ). n < pair.other.cpu) (sym one_cpu) (subst (λ (n : ℕ). first.here.cpu < n) (sym other_cpu) order));
+    here = for.by;
+  }
+    where
+      here : (w : World) → Shows m w → IsRace w pair.one pair.other b
+      here w shows = subst (λ (s : Stand). IsRace w s pair.other b) (sym one) (subst (λ (s : Stand). IsRace w first.here s b) (sym other)
+          (clash_race w first second b (next w shows) (next_too w shows) (apart first.here.cpu second.here.cpu order) clash))
+
+  pub amid_begins : (bytes : List ℕ) (races : List RaceFound) → UpTo m sync nexts first.here.cpu second.here.cpu races → Amid m sync nexts pair bytes 0 races
+  amid_begins bytes races far = record {
+    each = up.each;
+    passed = λ race there. passed_more pair.one.cpu pair.other.cpu race.pair.one.cpu race.pair.other.cpu (up.passed race there);
+    listed = up.listed;
+    once = up.once;
+    rising = up.rising;
+    told = λ i b less at. absurd (omega arith);
+  }
+    where
+      up : UpTo m sync nexts pair.one.cpu pair.other.cpu races
+      up = subst (λ (c : ℕ). UpTo m sync nexts c pair.other.cpu races) (sym one_cpu) (subst (λ (d : ℕ). UpTo m sync nexts first.here.cpu d races) (sym other_cpu) far)
+
+  pub amid_goes_on : (bytes : List ℕ) (k : ℕ) (b : ℕ) (race : RaceFound) (old new : List RaceFound) → first.here.cpu < second.here.cpu → IsNextIn m first → IsNextIn m second → Collects (Clash first.accesses second.accesses) sync [] bytes
+      → slice_get bytes k ≡ Some b → IsFor m pair b race → AddsRace old race new → Amid m sync nexts pair bytes k old → Amid m sync nexts pair bytes (k + 1) new
+  amid_goes_on bytes k b race old new order next next_too collects at for adds far = record {
+    each = λ x there. elim (adds_cases old new race x adds there) [
+      | inl before ↦ far.each x before
+      | inr same ↦ subst (IsThere m sync) (sym same) there_too
     ];
-    passed = λ one among. elim (in_cases old race one (subst (λ (xs : List RaceFound). IsAmong xs one) is among)) [
-      | inl before ↦ passed_more c d one.cpu one.other (far.passed one before)
-      | inr same ↦ subst (λ (x : RaceFound). IsPassed c (d + 1) x.cpu x.other) (sym same) last_passed
+    passed = λ x there. elim (adds_cases old new race x adds there) [
+      | inl before ↦ far.passed x before
+      | inr same ↦ subst (λ (y : RaceFound). IsPassed pair.one.cpu (pair.other.cpu + 1) y.pair.one.cpu y.pair.other.cpu) (sym same) last_passed
     ];
-    listed = λ a b order inside passed. elim (passed_cases c d a b passed) [
-      | inl before ↦ of_still old new sync m a b keeps (far.listed a b order inside before)
-      | inr (cpu, other) ↦ subst (λ (x : ℕ). AreListedOf new sync m x b) cpu (subst (λ (y : ℕ). AreListedOf new sync m c y) other here)
+    listed = λ a d order inside passed. of_still old new sync m a d keeps (far.listed a d order inside passed);
+    once = adds_once old new race adds far.once;
+    rising = adds_rising old new race before_last adds far.rising;
+    told = λ i x less there. elim (cases_lt i k) [
+      | inl below ↦ told_more x (far.told i x below there)
+      | inr past ↦
+          let e : i ≡ k = omega arith in
+          let two : Some b ≡ Some x = sym at ∙ (ap (λ (n : ℕ). slice_get bytes n) (sym e) ∙ there) in
+          let same : b ≡ x = cc in
+          subst (IsByteTold m pair new) same (adds_told m old new race pair b for adds)
     ];
-    rising = subst AreRising (sym is) rising;
   }
     where
       keeps : Keeps old new
-      keeps = keeps_pushed old new race is
+      keeps = adds_keeps old new race adds
 
-      last_passed : IsPassed c (d + 1) race.cpu race.other
-      last_passed = inr (between.cpu, subst (λ (x : ℕ). x < d + 1) (sym between.other) (omega arith))
+      told_more : (x : ℕ) → IsByteTold m pair old x → IsByteTold m pair new x
+      told_more x told w shows = told_still old new w.store pair x keeps (told w shows)
 
-      here : AreListedOf new sync m c d
-      here = one_of_two m nexts new sync c d first second are at at_too (listed_pushed old new race c first.pc d second.pc is between)
-
-      before_last : (one : RaceFound) → IsPassed c d one.cpu one.other → IsBefore one race
-      before_last one (inl less) = inl (subst (λ (x : ℕ). one.cpu < x) (sym between.cpu) less)
-      before_last one (inr (same, less)) = inr (same ∙ sym between.cpu, subst (λ (x : ℕ). one.other < x) (sym between.other) less)
-
-      rising : AreRising (old ++ race ∷ [])
-      rising i j one two less at at_too = elim (at_cases old race one i at) [
-        | inl early ↦ elim (at_cases old race two j at_too) [
-          | inl late ↦ far.rising i j one two less early late
-          | inr (last, same) ↦ subst (λ (x : RaceFound). IsBefore one x) (sym same) (before_last one (far.passed one (i, early)))
-        ]
-        | inr (end, same) ↦ elim (at_cases old race two j at_too) [
-          | inl late ↦ let inside = slice_get_within old j two late in absurd (omega arith)
-          | inr (last, too) ↦ absurd (omega arith)
-        ]
+      there_too : IsThere m sync race
+      there_too = elim (collects.each b (k, at)) [
+        | inl (i, none) ↦ absurd (nothing_at i b none)
+        | inr it ↦ is_there race b order next next_too it.0 it.1 for
       ]
 
--- ---- a race that is found
-ordered : (c p d q : ℕ) (race : RaceFound) → IsBetween c p d q race → c < d → race.cpu < race.other
-ordered c p d q race between order = subst (λ (x : ℕ). x < race.other) (sym between.cpu) (subst (λ (y : ℕ). c < y) (sym between.other) order)
+      last_passed : IsPassed pair.one.cpu (pair.other.cpu + 1) race.pair.one.cpu race.pair.other.cpu
+      last_passed = subst (λ (p : Pair). IsPassed pair.one.cpu (pair.other.cpu + 1) p.one.cpu p.other.cpu) (sym for.pair) (inr (refl, omega arith))
 
-pub is_there : (m : MachineState) (sync : List ℕ) (c p d q : ℕ) (by : List (ℕ × ℕ)) (o : Option RaceFound) (race : RaceFound) → o ≡ Some race → c < d → by ≡ [] → IfSome o (IsBetween c p d q) → IfSome o (λ found. found.by ≡ by)
-    → IfSome o (λ found. (w : World) → Shows m w → RacesIn w sync found) → IsThere m sync race
-is_there m sync c p d q by o race e order none between same races = record {
-  races = at_some (λ found. (w : World) → Shows m w → RacesIn w sync found) o race e races;
-  order = ordered c p d q race (at_some (IsBetween c p d q) o race e between) order;
-  here = at_some (λ found. found.by ≡ by) o race e same ∙ none;
-}
+      before_pair : (p : Pair) → IsPassed pair.one.cpu (pair.other.cpu + 1) p.one.cpu p.other.cpu → IsBefore p pair
+      before_pair p (inl less) = inl less
+      before_pair p (inr (same, less)) = inr (same, omega arith)
 
-pub is_between : (c e p d f q : ℕ) (o : Option RaceFound) (race : RaceFound) → o ≡ Some race → c ≡ e → d ≡ f → IfSome o (IsBetween c p d q) → IsBetween e p f q race
-is_between c e p d f q None race is cpu other between = cc
-is_between c e p d f q (Some found) race is cpu other between =
-    let it : found ≡ race = cc in
-    subst (IsBetween e p f q) it (record { cpu = between.cpu ∙ cpu; pc = between.pc; other = between.other ∙ other; other_pc = between.other_pc })
+      before_last : (x : RaceFound) → IsAmong old x → IsBefore x.pair race.pair
+      before_last x there = subst (IsBefore x.pair) (sym for.pair) (before_pair x.pair (far.passed x there))
 
-pub none_found : (o : Option RaceFound) (P : Type 0) → o ≡ None → IfNone o P → P
-none_found None P e h = h
-none_found (Some race) P e h = cc
+  pub amid_ends : (bytes : List ℕ) (k : ℕ) (races : List RaceFound) → IsNextIn m first → IsNextIn m second → Collects (Clash first.accesses second.accesses) sync [] bytes → length bytes ≤ k
+      → Amid m sync nexts pair bytes k races → UpTo m sync nexts first.here.cpu (second.here.cpu + 1) races
+  amid_ends bytes k races next next_too collects past far = subst (λ (c : ℕ). UpTo m sync nexts c (second.here.cpu + 1) races) one_cpu (subst (λ (d : ℕ). UpTo m sync nexts pair.one.cpu (d + 1) races) other_cpu up)
+    where
+      told : (w : World) → Shows m w → (own : Pair) (b : ℕ) → own ≡ pair → IsAmong bytes b → IsTold races w.store own b
+      told w shows own b same (i, at) =
+          let inside = slice_get_within bytes i b at in
+          subst (λ (p : Pair). IsTold races w.store p b) (sym same) (far.told i b (omega arith) at w shows)
+
+      same_pair : (own : Pair) → own.one ≡ first.here → own.other ≡ second.here → own ≡ pair
+      same_pair own a b = ap (λ (s : Stand). record { one = s; other = own.other }) (a ∙ sym one) ∙ ap (λ (s : Stand). record { one = pair.one; other = s }) (b ∙ sym other)
+
+      of_these : AreListedOf races sync m pair.one.cpu pair.other.cpu
+      of_these w shows own b cpu cpu_too race =
+          let r = race_clash w first second b (next w shows) (next_too w shows) own.one own.other (cpu ∙ one_cpu) (cpu_too ∙ other_cpu) race in
+          elim (collects.all b r.2) [
+            | inl among ↦ inl (told w shows own b (same_pair own r.0 r.1) among)
+            | inr out ↦ inr out
+          ]
+
+      up : UpTo m sync nexts pair.one.cpu (pair.other.cpu + 1) races
+      up = record {
+        each = far.each;
+        passed = far.passed;
+        listed = λ a b order inside passed. elim (passed_cases pair.one.cpu pair.other.cpu a b passed) [
+          | inl before ↦ far.listed a b order inside before
+          | inr (cpu, cpu_too) ↦ subst (λ (x : ℕ). AreListedOf races sync m x b) cpu (subst (λ (y : ℕ). AreListedOf races sync m pair.one.cpu y) cpu_too of_these)
+        ];
+        once = far.once;
+        rising = far.rising;
+      }
+
+pub next_read : (nexts : List NextStep) (n : ℕ) (next : NextStep) → n < length nexts → next ≡ get_or nexts n next → slice_get nexts n ≡ Some next
+next_read nexts n next inside read = slice_get_read nexts (length nexts) n next refl inside read
+
+-- a CPU's next step, by its own number
+pub own_next : (m : MachineState) (c : ℕ) (next : NextStep) → IsNextOf m c next → IsNextOf m next.here.cpu next
+own_next m c next is = record { of = refl; is = is.is }
+
+-- pairs of CPUs, by their own numbers
+module _ (m : MachineState) (sync : List Part) (nexts : List NextStep) (c d : ℕ) (first second : NextStep) (one : IsNextOf m c first) (two : IsNextOf m d second) where
+  pub own_up : (races : List RaceFound) → UpTo m sync nexts c d races → UpTo m sync nexts first.here.cpu second.here.cpu races
+  own_up races far = subst (λ (x : ℕ). UpTo m sync nexts x second.here.cpu races) (sym one.of) (subst (λ (y : ℕ). UpTo m sync nexts c y races) (sym two.of) far)
+
+  pub own_back : (races : List RaceFound) → UpTo m sync nexts first.here.cpu (second.here.cpu + 1) races → UpTo m sync nexts c (d + 1) races
+  own_back races far = subst (λ (x : ℕ). UpTo m sync nexts x (d + 1) races) one.of (subst (λ (y : ℕ). UpTo m sync nexts first.here.cpu (y + 1) races) two.of far)

@@ -1,7 +1,9 @@
 pub mod Touch
+pub mod Parts
 pub mod Next
 pub mod Searched
 pub mod Races
+pub mod OnX86
 pub mod Lines
 pub mod Sync
 pub mod Private

@@ -1,16 +1,24 @@
 -- How races are printed. Our own choice.
-use Rattle.std.specs.Prelude.{ℕ, zero, suc, ◌++◌, Bool, List, [], Option, Some, None, codes, length, slice_index_or}
+use Rattle.std.specs.Prelude.{ℕ, zero, suc, ◌++◌, Bool, if◌then◌else◌, List, [], Option, Some, None, codes, length, slice_index_or}
 use Rattle.std.specs.Fmt.{decimal}
 use Rattle.hex.specs.Hex.{encode_lower}
 use Rattle.bpf_schedule.specs.Spelling.{runs_text}
 use Rattle.bpf_explore.specs.Listing.{all_text}
-use Rattle.bpf_races.specs.Races.{RaceFound, map_at}
+use Rattle.bpf_machine.specs.declared.machine.Stand.{Stand}
+use Rattle.bpf_races.specs.declared.found.Pair.{Pair}
+use Rattle.bpf_races.specs.declared.sync.Part.{Part}
+use Rattle.bpf_races.specs.Races.{RaceFound, is_race_free}
+use Rattle.bpf_races.specs.Parts.{map_at}
 
--- two CPUs, and where they stand
-abbrev pub places_text : RaceFound → List ℕ
-places_text race =
-    codes "race cpu " ++ (decimal race.cpu ++ (codes " pc " ++ (decimal race.pc
-    ++ (codes " cpu " ++ (decimal race.other ++ (codes " pc " ++ decimal race.other_pc))))))
+-- where a CPU is
+abbrev pub stand_text : Stand → List ℕ
+stand_text at = codes "cpu " ++ (decimal at.cpu ++ (codes " prog " ++ (decimal at.program
+    ++ (codes " pc " ++ decimal at.pc))))
+
+-- two CPUs, and where they are
+abbrev pub places_text : Pair → List ℕ
+places_text pair =
+    codes "race " ++ (stand_text pair.one ++ (codes " " ++ stand_text pair.other))
 
 -- a key in lower case hex
 abbrev pub key_text : Option (List ℕ) → List ℕ
@@ -25,19 +33,19 @@ value_text names race =
 
 abbrev pub race_text : List (List ℕ) → RaceFound → List ℕ
 race_text names race =
-    ((places_text race ++ value_text names race) ++ codes " by")
+    ((places_text race.pair ++ value_text names race) ++ codes " by")
     ++ (runs_text (length race.by) race.by ++ codes "\n")
 
--- of one in a machine as it stands
+-- of one in a machine as it is
 abbrev pub here_text : List (List ℕ) → RaceFound → List ℕ
-here_text names race = (places_text race ++ value_text names race) ++ codes "\n"
+here_text names race = (places_text race.pair ++ value_text names race) ++ codes "\n"
+
+abbrev pub no_stand : Stand
+no_stand = record { cpu = 0; program = 0; pc = 0 }
 
 abbrev pub no_race : RaceFound
 no_race = record {
-  cpu = 0;
-  pc = 0;
-  other = 0;
-  other_pc = 0;
+  pair = record { one = no_stand; other = no_stand };
   at = 0;
   key = None;
   by = [];
@@ -61,7 +69,12 @@ count_text count = codes ": " ++ (decimal count ++ codes " races\n")
 abbrev pub last_line : Bool → ℕ → List ℕ
 last_line all count = all_text all ++ count_text count
 
--- a line a race, and the last one behind them
-abbrev pub races_text : List (List ℕ) → List RaceFound → Bool → List ℕ
-races_text names races all =
-    race_lines names (length races) races ++ last_line all (length races)
+-- where there is none at all, that x86 adds no outcome
+abbrev pub same_line : Bool → List ℕ
+same_line free = if free then codes "no races: on x86 the outcomes are the same\n" else []
+
+-- a line a race, and after them what follows for x86, and the last one
+abbrev pub races_text : List (List ℕ) → List Part → List RaceFound → Bool → List ℕ
+races_text names sync races all =
+    (race_lines names (length races) races ++ same_line (is_race_free sync races all))
+    ++ last_line all (length races)

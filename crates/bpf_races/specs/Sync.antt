@@ -1,14 +1,57 @@
--- Maps that are left out, by their names.
-use Rattle.std.specs.Prelude.{◌≡◌, ℕ, List, Some, slice_get}
+-- Bytes that are left out, by the texts that name them: `NAME`, or `NAME+AT:SIZE`. Our own choice.
+use Rattle.std.specs.Prelude.{◌≡◌, ℕ, ◌+◌, ◌^◌, ◌==◌, Bool, nat_le, nat_lt, if◌then◌else◌, List, Option, Some, None, option_and_then, option_map, length, slice_get}
+use Rattle.std.specs.List.{after_first, before_first}
+use Rattle.bpf_schedule.specs.Spelling.{number_below}
+use Rattle.bpf_shared.specs.declared.shapes.MapShape.{MapShape}
+use Rattle.bpf_shared.specs.Shape.{IsMap, element_stride}
+use Rattle.bpf_races.specs.declared.sync.Part.{Part}
 use Rattle.bpf_races.specs.Touch.{IsAmong}
 
--- of maps of these names, numbered in their order, the numbers are those of the maps that are named
-pub record AreMapsOf (names sync : List (List ℕ)) (numbers : List ℕ) : Type 0 where
-  pub named : (number : ℕ) → IsAmong numbers number
-      → (name : List ℕ) × IsAmong sync name × (slice_get names number ≡ Some name)
-  pub each : (name : List ℕ) → IsAmong sync name
-      → (number : ℕ) × IsAmong numbers number × (slice_get names number ≡ Some name)
+-- ---- texts
 
--- a name that no map has is among those
-abbrev pub IsAnyUnknown : (names sync : List (List ℕ)) → Type 0
-IsAnyUnknown names sync = (name : List ℕ) × IsAmong sync name × (IsAmong names name → ⊥)
+abbrev pub is_mark : ℕ → ℕ → Bool
+is_mark mark b = b == mark
+
+-- the mark is in the text
+abbrev pub has_mark : ℕ → List ℕ → Bool
+has_mark mark text = nat_lt (length (before_first (is_mark mark) text)) (length text)
+
+-- the bytes that a text spells by a number, `:` and a number: the first of them, and the one after the
+-- last
+abbrev pub range_of : List ℕ → Option (ℕ × ℕ)
+range_of text =
+    option_and_then (λ from. option_map (λ size. (from, from + size))
+    (number_below (2 ^ 32) (after_first (is_mark 58) text)))
+    (number_below (2 ^ 32) (before_first (is_mark 58) text))
+
+-- the bytes of values of this size that a text names: all of them; or those that it spells after its
+-- first `+`, if the values have them
+abbrev pub range_in : List ℕ → ℕ → Option (ℕ × ℕ)
+range_in text value = if has_mark 43 text
+    then option_and_then (λ range. if nat_le range.1 value then Some range else None)
+    (range_of (after_first (is_mark 43) text))
+    else Some (0, value)
+
+-- ---- of maps of these names and shapes, by their numbers
+
+-- the text names these bytes of this map
+pub record Says (names : List (List ℕ)) (maps : List MapShape) (text : List ℕ) (part : Part) : Type 0
+  where
+    pub shape : MapShape
+    pub map : IsMap maps part.map shape
+    pub named : slice_get names part.map ≡ Some (before_first (is_mark 43) text)
+    pub stride : part.stride ≡ element_stride shape
+    pub range : range_in text shape.value ≡ Some (part.from, part.past)
+
+-- these are the bytes that the texts name
+pub record ArePartsOf (names : List (List ℕ)) (maps : List MapShape) (sync : List (List ℕ))
+    (parts : List Part) : Type 0 where
+  pub said : (part : Part) → IsAmong parts part
+      → (text : List ℕ) × IsAmong sync text × Says names maps text part
+  pub each : (text : List ℕ) → IsAmong sync text
+      → (part : Part) × IsAmong parts part × Says names maps text part
+
+-- one of the texts names none
+abbrev pub IsAnyUnknown : List (List ℕ) → List MapShape → (sync : List (List ℕ)) → Type 0
+IsAnyUnknown names maps sync = (text : List ℕ) × IsAmong sync text
+    × ((part : Part) → Says names maps text part → ⊥)

@@ -15,7 +15,7 @@ use std::alloc::{AllocError, Global};
 pub struct Access {
     /// The address of the first.
     pub at: u64,
-    /// The address behind the last.
+    /// The address after the last.
     pub past: u64,
     pub writes: bool,
     pub atomic: bool,
@@ -32,7 +32,7 @@ fn bytes_in(size: Size) -> u64
     }
 }
 
-/// The bytes of a size from an address on. One that ends beyond 64 bits counts as want of memory.
+/// The bytes of a size from an address on. One that ends beyond 64 bits counts as out of memory.
 fn access_at(at: u64, size: Size, writes: bool, atomic: bool) -> Result<Access, AllocError>
     ensures { IfOk result (λ access. access ≡ access_at at size writes atomic) }
 {
@@ -58,7 +58,7 @@ fn access_of(note: &Note) -> Result<Option<Access>, AllocError>
     }
 }
 
-/// Puts what a call touches behind the others.
+/// Appends what a call touches to the others.
 fn add_access(accesses: &mut Vec<Access>, note: &Note) -> Result<(), AllocError>
     ensures { OnOk result (Adds accesses.old.items (access_of (event_of note.now))
         accesses.new.items) }

@@ -1,125 +1,94 @@
 //! The races of the machines that a search keeps.
 
-ghost use Rattle.std.specs.Prelude.{◌≡◌, ◌⊎◌, ◌<◌, ℕ, false, true, IfNone, IfOk, IfSome, OnOk, length};
+ghost use Rattle.std.specs.Prelude.{◌≡◌, ◌⊎◌, ◌<◌, ℕ, false, true, IfOk, OnOk, length, option_map};
+ghost use Rattle.bpf_machine.specs.Machine.{Shows};
 ghost use Rattle.bpf_machine.specs.Schedule.{World};
-ghost use Rattle.bpf_explore.specs.Album.{IsShownAt};
-ghost use Rattle.bpf_races.specs.Races.{IsBetween, IsListed, RacesBy};
-ghost use Rattle.bpf_races.specs.Private.Searching.{AreAllListed, AreListedAt, AreOrdered, AreRacesAt, AreRacing, AreShown, Gathered, IsUnshown, Keeps};
+ghost use Rattle.bpf_races.specs.Races.{IsListed, RacesIn, spot_of};
+ghost use Rattle.bpf_races.specs.Private.Searching.{AreAllListed, AreListedAt, AreOrdered, AreRacesAt, Gathered, IsRaceAt, Keeps};
 
-use crate::found::{Race, is_listed};
-use crate::next::{Next, Watcher};
+use crate::found::{Race, is_listed, is_one_of};
+use crate::next::{Watcher, copy_bytes};
 use crate::searched::Searched;
-use crate::within::{race_between, races_in};
+use crate::sync::Part;
+use crate::within::races_in;
 use std::alloc::{AllocError, Global};
 
-/// Whether a CPU stands at this pc.
-fn stands_at(next: &Next, pc: u32) -> bool
-    ensures there { result ≡ true → next.now.pc ≡ pc }
-    ensures elsewhere { result ≡ false → next.now.pc ≡ pc → ⊥ }
-{
-    next.pc() == pc
-}
-
-/// A race between these CPUs at these pcs, where the way to a kept machine leads; `None` where there
-/// is none.
-fn race_by<S: Searched>(
-    search: &mut S,
+/// Whether a race of a kept machine is one of the machine to work with, to which the way to the kept
+/// one leads. Of a search that isn't patient that is the kept one.
+fn is_there<S: Searched>(
+    alloc: Global,
+    search: &S,
     watcher: &mut Watcher,
-    sync: &[usize],
-    place: usize,
-    cpu: u8,
-    pc: u32,
-    other: u8,
-    other_pc: u32,
-) -> Result<Option<Race>, AllocError>
-    requires place { place < length (S.kept search.old) }
-    requires order { cpu < other }
-    ensures same { S.kept search.new ≡ S.kept search.old }
-    ensures between { IfOk result (λ found. IfSome found (IsBetween cpu pc other other_pc)) }
-    ensures races { IfOk result (λ found. IfSome found (λ race. (w : World)
-        → IsShownAt (S.kept search.old) 0 w → RacesBy w sync.now race)) }
-    ensures none { S.patient ≡ false → IfOk result (λ found. IfNone found
-        (AreRacing (S.kept search.old) sync.now place cpu pc other other_pc → ⊥)) }
-{
-    let by = search.witness(place)?;
-    let machine = search.current();
-    let first = watcher.next(machine, cpu)?;
-    let second = watcher.next(machine, other)?;
-    if !stands_at(&first, pc) {
-        return Ok(None);
-    }
-    if !stands_at(&second, other_pc) {
-        return Ok(None);
-    }
-    let found = race_between(watcher, machine, sync, cpu, &first, other, &second, by)?;
-    Ok(found)
-}
-
-/// Puts such a race behind the others, unless one between the same places is listed. Whether one is
-/// then.
-fn add_race<S: Searched>(
-    search: &mut S,
-    watcher: &mut Watcher,
-    sync: &[usize],
-    place: usize,
-    cpu: u8,
-    pc: u32,
-    other: u8,
-    other_pc: u32,
-    races: &mut Vec<Race>,
+    sync: &[Part],
+    found: &Race,
 ) -> Result<bool, AllocError>
-    requires place { place < length (S.kept search.old) }
-    requires order { cpu < other }
-    requires gathered { Gathered (S.kept search.old) sync.now races.old.items }
-    ensures same { S.kept search.new ≡ S.kept search.old }
-    ensures gathered { OnOk result (Gathered (S.kept search.old) sync.now races.new.items) }
-    ensures keeps { OnOk result (Keeps races.old.items races.new.items) }
-    ensures listed { IfOk result (λ listed. listed ≡ true
-        → IsListed races.new.items cpu pc other other_pc) }
-    ensures missed { S.patient ≡ false → IfOk result (λ listed. listed ≡ false
-        → AreRacing (S.kept search.old) sync.now place cpu pc other other_pc → ⊥) }
+    requires kept { S.patient ≡ false → (w : World) → Shows (S.working search.now) w
+        → RacesIn w sync.now found.now }
+    ensures there { IfOk result (λ there. there ≡ true → (w : World)
+        → Shows (S.working search.now) w → RacesIn w sync.now found.now) }
+    ensures exact { S.patient ≡ false → IfOk result (λ there. there ≡ true) }
 {
-    if is_listed(races, cpu, pc, other, other_pc) {
+    if !search.is_patient() {
         return Ok(true);
     }
-    match race_by(search, watcher, sync, place, cpu, pc, other, other_pc)? {
-        Some(race) => {
-            races.push(race)?;
-            Ok(true)
-        }
-        None => Ok(false),
+    let races = races_in(alloc, watcher, search.current(), sync)?;
+    Ok(is_one_of(&races, found))
+}
+
+/// A copy of a key, if it is one.
+fn copy_key(alloc: Global, key: &Option<Vec<u8>>) -> Result<Option<Vec<u8>>, AllocError>
+    ensures { IfOk result (λ copy. option_map (λ bytes. bytes.items) copy
+        ≡ option_map (λ bytes. bytes.items) key.now) }
+{
+    match key {
+        Some(key) => Ok(Some(copy_bytes(alloc, key)?)),
+        None => Ok(None),
     }
 }
 
-/// Lists a race of a kept machine, unless one between the same places is listed. Whether one is then.
+/// A copy of a race, with this schedule.
+fn with_way(alloc: Global, race: &Race, by: Vec<(u8, u64)>) -> Result<Race, AllocError>
+    ensures { IfOk result (λ new. new ≡ record race.now { by = by.items }) }
+{
+    let key = copy_key(alloc, &race.key)?;
+    Ok(Race {
+        pair: race.pair,
+        at: race.at,
+        key,
+        by,
+    })
+}
+
+/// Lists a race of a kept machine, unless such a one is listed. Whether one is then.
 fn add_found<S: Searched>(
+    alloc: Global,
     search: &mut S,
     watcher: &mut Watcher,
-    sync: &[usize],
+    sync: &[Part],
     place: usize,
     found: &Race,
     races: &mut Vec<Race>,
 ) -> Result<bool, AllocError>
     requires place { place < length (S.kept search.old) }
-    requires order { found.now.cpu < found.now.other }
+    requires order { found.now.pair.one.cpu < found.now.pair.other.cpu }
+    requires here { IsRaceAt (S.kept search.old) sync.now place found.now }
     requires gathered { Gathered (S.kept search.old) sync.now races.old.items }
     ensures same { S.kept search.new ≡ S.kept search.old }
     ensures gathered { OnOk result (Gathered (S.kept search.old) sync.now races.new.items) }
     ensures keeps { OnOk result (Keeps races.old.items races.new.items) }
     ensures listed { IfOk result (λ listed. listed ≡ true
-        → IsListed races.new.items found.now.cpu found.now.pc found.now.other found.now.other_pc) }
-    ensures missed { S.patient ≡ false → IfOk result (λ listed. listed ≡ false
-        → AreRacing (S.kept search.old) sync.now place found.now.cpu found.now.pc found.now.other
-        found.now.other_pc → ⊥) }
+        → IsListed races.new.items (spot_of found.now)) }
+    ensures exact { S.patient ≡ false → IfOk result (λ listed. listed ≡ true) }
 {
-    let cpu = found.cpu;
-    let pc = found.pc;
-    let other = found.other;
-    let other_pc = found.other_pc;
-    let listed = add_race(
-        search, watcher, sync, place, cpu, pc, other, other_pc, races,
-    )?;
-    Ok(listed)
+    if is_listed(races, found) {
+        return Ok(true);
+    }
+    let by = search.witness(place)?;
+    if !is_there(alloc, search, watcher, sync, found)? {
+        return Ok(false);
+    }
+    races.push(with_way(alloc, found, by)?)?;
+    Ok(true)
 }
 
 /// Whether both hold.
@@ -132,28 +101,28 @@ pub(crate) fn both(first: bool, second: bool) -> bool
 
 /// Lists races of a kept machine. Whether all are listed then.
 fn add_all<S: Searched>(
+    alloc: Global,
     search: &mut S,
     watcher: &mut Watcher,
-    sync: &[usize],
+    sync: &[Part],
     place: usize,
     found: &[Race],
     races: &mut Vec<Race>,
 ) -> Result<bool, AllocError>
     requires place { place < length (S.kept search.old) }
     requires order { AreOrdered found.now }
+    requires here { AreRacesAt (S.kept search.old) sync.now place found.now }
     requires gathered { Gathered (S.kept search.old) sync.now races.old.items }
     ensures same { S.kept search.new ≡ S.kept search.old }
     ensures gathered { OnOk result (Gathered (S.kept search.old) sync.now races.new.items) }
     ensures keeps { OnOk result (Keeps races.old.items races.new.items) }
     ensures listed { IfOk result (λ listed. listed ≡ true
         → AreAllListed races.new.items found.now) }
-    ensures missed { S.patient ≡ false → IfOk result (λ listed. listed ≡ false
-        → AreRacesAt (S.kept search.old) sync.now place found.now
-        → IsUnshown (S.kept search.old) place) }
+    ensures exact { S.patient ≡ false → IfOk result (λ listed. listed ≡ true) }
 {
     let mut all = true;
     for k in 0..found.len() {
-        let listed = add_found(search, watcher, sync, place, &found[k], races)?;
+        let listed = add_found(alloc, search, watcher, sync, place, &found[k], races)?;
         all = both(all, listed);
     }
     Ok(all)
@@ -164,7 +133,7 @@ fn add_at<S: Searched>(
     alloc: Global,
     search: &mut S,
     watcher: &mut Watcher,
-    sync: &[usize],
+    sync: &[Part],
     place: usize,
     races: &mut Vec<Race>,
 ) -> Result<bool, AllocError>
@@ -175,12 +144,11 @@ fn add_at<S: Searched>(
     ensures keeps { OnOk result (Keeps races.old.items races.new.items) }
     ensures listed { IfOk result (λ listed. listed ≡ true
         → AreListedAt (S.kept search.old) races.new.items sync.now place) }
-    ensures missed { S.patient ≡ false → IfOk result (λ listed. listed ≡ false
-        → IsUnshown (S.kept search.old) place) }
+    ensures exact { S.patient ≡ false → IfOk result (λ listed. listed ≡ true) }
 {
     search.take(place)?;
     let found = races_in(alloc, watcher, search.current(), sync)?;
-    let listed = add_all(search, watcher, sync, place, &found, races)?;
+    let listed = add_all(alloc, search, watcher, sync, place, &found, races)?;
     Ok(listed)
 }
 
@@ -190,14 +158,13 @@ pub fn gather_races<S: Searched>(
     alloc: Global,
     search: &mut S,
     watcher: &mut Watcher,
-    sync: &[usize],
+    sync: &[Part],
 ) -> Result<(Vec<Race>, bool), AllocError>
     ensures same { S.kept search.new ≡ S.kept search.old }
     ensures gathered { IfOk result (λ r. Gathered (S.kept search.old) sync.now r.0.items) }
     ensures listed { IfOk result (λ r. r.1 ≡ true → (i : ℕ)
         → AreListedAt (S.kept search.old) r.0.items sync.now i) }
-    ensures missed { S.patient ≡ false → IfOk result (λ r. r.1 ≡ false
-        → AreShown (S.kept search.old) → ⊥) }
+    ensures exact { S.patient ≡ false → IfOk result (λ r. r.1 ≡ true) }
 {
     let mut races = Vec::new(alloc);
     let mut all = true;

@@ -1,12 +1,15 @@
 //! Races as they are printed.
 
 ghost use Rattle.std.specs.Prelude.{◌≡◌, ◌++◌, [], IfOk, OnOk, length, map, option_map, slice_index_or, string_bytes};
-ghost use Rattle.bpf_races.specs.Lines.{count_text, here_lines, here_text, key_text, last_line, places_text, race_text, races_text, value_text};
+ghost use Rattle.bpf_races.specs.Lines.{count_text, here_lines, here_text, key_text, last_line, places_text, race_text, races_text, same_line, stand_text, value_text};
+ghost use Rattle.bpf_races.specs.Races.{is_race_free};
 
 use crate::clash::map_at;
-use crate::found::Race;
+use crate::found::{Pair, Race};
 use crate::search::Races;
+use crate::sync::Part;
 use bpf_explore::whether_all;
+use bpf_machine::Stand;
 use bpf_schedule::push_runs;
 use std::alloc::{AllocError, Global};
 
@@ -31,15 +34,21 @@ fn key_text(alloc: Global, key: &Option<Vec<u8>>) -> Result<String, AllocError>
     }
 }
 
-/// Two CPUs, and where they stand.
-fn places_text(alloc: Global, race: &Race) -> Result<String, AllocError>
-    ensures { IfOk result (λ text. string_bytes text ≡ places_text race.now) }
+/// Where a CPU is.
+fn stand_text(alloc: Global, at: Stand) -> Result<String, AllocError>
+    ensures { IfOk result (λ text. string_bytes text ≡ stand_text at) }
 {
-    let cpu = race.cpu;
-    let pc = race.pc;
-    let other = race.other;
-    let other_pc = race.other_pc;
-    format!(in alloc; "race cpu {cpu} pc {pc} cpu {other} pc {other_pc}")
+    let Stand { cpu, program, pc } = at;
+    format!(in alloc; "cpu {cpu} prog {program} pc {pc}")
+}
+
+/// Two CPUs, and where they are.
+fn places_text(alloc: Global, pair: Pair) -> Result<String, AllocError>
+    ensures { IfOk result (λ text. string_bytes text ≡ places_text pair) }
+{
+    let one = stand_text(alloc, pair.one)?;
+    let other = stand_text(alloc, pair.other)?;
+    format!(in alloc; "race {one} {other}")
 }
 
 /// The map's name and the key.
@@ -52,7 +61,14 @@ fn value_text(alloc: Global, names: &[String], race: &Race) -> Result<String, Al
     format!(in alloc; " map {name} {key}")
 }
 
-/// Puts the places of a race and its value behind the text.
+/// Its places.
+fn pair_of(race: &Race) -> Pair
+    ensures { result ≡ race.now.pair }
+{
+    race.pair
+}
+
+/// Appends the places of a race and its value to the text.
 fn push_places(
     alloc: Global,
     text: &mut String,
@@ -60,9 +76,9 @@ fn push_places(
     race: &Race,
 ) -> Result<(), AllocError>
     ensures { OnOk result (string_bytes text.new ≡ string_bytes text.old
-        ++ (places_text race.now ++ value_text (map string_bytes names.now) race.now)) }
+        ++ (places_text race.now.pair ++ value_text (map string_bytes names.now) race.now)) }
 {
-    let places = places_text(alloc, race)?;
+    let places = places_text(alloc, pair_of(race))?;
     let value = value_text(alloc, names, race)?;
     text.push_str(places.as_str())?;
     text.push_str(value.as_str())?;
@@ -76,7 +92,7 @@ fn way_of(race: &Race) -> &[(u8, u64)]
     &race.by
 }
 
-/// Puts the line of a race behind the text.
+/// Appends the line of a race to the text.
 fn push_race(
     alloc: Global,
     text: &mut String,
@@ -93,7 +109,7 @@ fn push_race(
     Ok(())
 }
 
-/// Puts the end of the last line behind the text.
+/// Appends the end of the last line to the text.
 fn push_count(alloc: Global, text: &mut String, count: usize) -> Result<(), AllocError>
     ensures { OnOk result (string_bytes text.new ≡ string_bytes text.old ++ count_text count) }
 {
@@ -102,7 +118,7 @@ fn push_count(alloc: Global, text: &mut String, count: usize) -> Result<(), Allo
     Ok(())
 }
 
-/// Puts the last line behind the text.
+/// Appends the last line to the text.
 fn push_last(alloc: Global, text: &mut String, all: bool, count: usize) -> Result<(), AllocError>
     ensures { OnOk result (string_bytes text.new ≡ string_bytes text.old ++ last_line all count) }
 {
@@ -111,20 +127,44 @@ fn push_last(alloc: Global, text: &mut String, all: bool, count: usize) -> Resul
     Ok(())
 }
 
-/// A line a race, and one that says whether they are all, and how many they are.
-pub fn list_races(alloc: Global, names: &[String], races: &Races) -> Result<String, AllocError>
-    ensures { IfOk result (λ text. string_bytes text
-        ≡ races_text (map string_bytes names.now) races.now.list.items races.now.all) }
+/// Whether there is no race at all, and no bytes were left out.
+fn is_race_free(sync: &[Part], races: &Races) -> bool
+    ensures { result ≡ is_race_free sync.now races.now.list.items races.now.all }
+{
+    races.all && sync.is_empty() && races.list.is_empty()
+}
+
+/// Appends what follows for x86 to the text.
+fn push_same(text: &mut String, free: bool) -> Result<(), AllocError>
+    ensures { OnOk result (string_bytes text.new ≡ string_bytes text.old ++ same_line free) }
+{
+    if free {
+        text.push_str("no races: on x86 the outcomes are the same\n")?;
+    }
+    Ok(())
+}
+
+/// A line a race; where there is none at all, that x86 adds no outcome; and a line that says whether
+/// they are all, and how many they are.
+pub fn list_races(
+    alloc: Global,
+    names: &[String],
+    sync: &[Part],
+    races: &Races,
+) -> Result<String, AllocError>
+    ensures { IfOk result (λ text. string_bytes text ≡ races_text (map string_bytes names.now)
+        sync.now races.now.list.items races.now.all) }
 {
     let mut text = String::new(alloc);
     for race in &races.list {
         push_race(alloc, &mut text, names, race)?;
     }
+    push_same(&mut text, is_race_free(sync, races))?;
     push_last(alloc, &mut text, races.all, races.list.len())?;
     Ok(text)
 }
 
-/// Puts the line of a race behind the text, but for its schedule.
+/// Appends the line of a race to the text, but for its schedule.
 fn push_here(
     alloc: Global,
     text: &mut String,

@@ -3,25 +3,25 @@
 ghost use Rattle.std.specs.Prelude.{◌≡◌, [], IfOk};
 ghost use Rattle.bpf_plain.specs.Alike.{IsSameShape};
 ghost use Rattle.bpf_mem.specs.Laws.{IsMemory};
-ghost use Rattle.bpf_machine.specs.Work.{IsState};
-ghost use Rattle.bpf_races.specs.Next.{IsNextIn};
+ghost use Rattle.bpf_machine.specs.Questions.{IsStanding};
 ghost use Rattle.bpf_races.specs.Private.Accesses.{AreAccesses, seen};
+ghost use Rattle.bpf_races.specs.Private.Searching.{IsNextOf};
 
 use crate::access::{Access, accesses_of};
 use crate::shape::has_shape;
 use bpf_cpu::Cpu;
 use bpf_events::{Recorder, watch};
 use bpf_explore::copy_shape;
-use bpf_machine::{Machine, Standing};
+use bpf_machine::{Machine, Stand, Standing};
 use bpf_plain::PlainStore;
 use bpf_shared::StoreShape;
 use std::alloc::{AllocError, Global};
 use std::marker::Model;
 
-/// Where a CPU stands, and what its next step touches of values.
+/// Where a CPU is, and what its next step touches of values.
 #[derive(Drop)]
 pub struct Next {
-    pc: u32,
+    here: Stand,
     accesses: Vec<Access>,
 }
 
@@ -30,15 +30,15 @@ impl Model for Next {
 
     ghost Value = { NextStep };
 
-    ghost view = { λ n. record { pc = n.pc; accesses = n.accesses.items } };
+    ghost view = { λ n. record { here = n.here; accesses = n.accesses.items } };
 }
 
 impl Next {
-    /// Where the CPU stands, if its step touches anything.
-    pub fn pc(&self) -> u32
-        ensures { result ≡ self.now.pc }
+    /// Where the CPU is, if its step touches anything.
+    pub fn here(&self) -> Stand
+        ensures { result ≡ self.now.here }
     {
-        self.pc
+        self.here
     }
 
     /// What its step touches.
@@ -77,11 +77,12 @@ fn next_in_hand(
     machine: &Machine,
     recorder: &mut Recorder,
     cpu: u8,
+    job: usize,
     state: &Cpu,
 ) -> Result<Next, AllocError>
     requires shape { IsSameShape machine.now.store recorder.old.store }
-    requires hand { IsState machine.now.jobs cpu state.now }
-    ensures next { IfOk result (IsNextIn machine.now cpu) }
+    requires hand { IsStanding machine.now.jobs cpu (Standing.InHand job state) }
+    ensures next { IfOk result (IsNextOf machine.now cpu) }
     ensures shape { IsSameShape machine.now.store recorder.new.store }
 {
     bpf_mem::laws::writes_are_determined();
@@ -89,18 +90,27 @@ fn next_in_hand(
     bpf_shared::laws::calls_have_one_reply();
     machine.stands();
     remember(state);
+    let Some(program) = machine.program_of(job) else {
+        return Ok(no_next(alloc, cpu));
+    };
     let pc = state.pc;
     let at = watch(alloc, machine, recorder, cpu)?;
     let accesses = seen(alloc, recorder, at)?;
-    Ok(Next { pc, accesses })
+    let here = Stand { cpu, program, pc };
+    Ok(Next { here, accesses })
 }
 
 /// A step that touches nothing.
-fn no_next(alloc: Global) -> Next
-    ensures { result ≡ record { pc = 0; accesses = [] } }
+fn no_next(alloc: Global, cpu: u8) -> Next
+    ensures { result ≡ record { here = record { cpu = cpu; program = 0; pc = 0 }; accesses = [] } }
 {
-    Next {
+    let here = Stand {
+        cpu,
+        program: 0,
         pc: 0,
+    };
+    Next {
+        here,
         accesses: Vec::new(alloc),
     }
 }
@@ -113,18 +123,18 @@ fn next_of(
     cpu: u8,
 ) -> Result<Next, AllocError>
     requires { IsSameShape machine.now.store recorder.old.store }
-    ensures next { IfOk result (IsNextIn machine.now cpu) }
+    ensures next { IfOk result (IsNextOf machine.now cpu) }
     ensures shape { IsSameShape machine.now.store recorder.new.store }
 {
     match machine.standing(cpu) {
-        Standing::InHand(_, state) => next_in_hand(alloc, machine, recorder, cpu, state),
-        Standing::Waiting(_) => Ok(no_next(alloc)),
-        Standing::Idle => Ok(no_next(alloc)),
+        Standing::InHand(job, state) => { next_in_hand(alloc, machine, recorder, cpu, job, state) }
+        Standing::Waiting(_) => Ok(no_next(alloc, cpu)),
+        Standing::Idle => Ok(no_next(alloc, cpu)),
     }
 }
 
-/// The same bytes.
-fn copy_bytes(alloc: Global, bytes: &[u8]) -> Result<Vec<u8>, AllocError>
+/// A copy of bytes.
+pub(crate) fn copy_bytes(alloc: Global, bytes: &[u8]) -> Result<Vec<u8>, AllocError>
     ensures { IfOk result (λ v. v.items ≡ bytes.now) }
 {
     let mut copy = Vec::with_capacity(alloc, bytes.len())?;
@@ -156,8 +166,7 @@ impl Watcher {
     ghost use Rattle.bpf_machine.specs.Machine.{Shows};
     ghost use Rattle.bpf_machine.specs.Schedule.{World};
     ghost use Rattle.bpf_races.specs.Races.{IsKeyAt};
-    ghost use Rattle.bpf_races.specs.Next.{IsNextIn};
-    ghost use Rattle.bpf_races.specs.Private.Searching.{AreNexts};
+    ghost use Rattle.bpf_races.specs.Private.Searching.{AreNexts, IsNextOf};
 
     /// For machines over stores of this shape.
     pub fn new(alloc: Global, shape: StoreShape) -> Result<Watcher, AllocError> {
@@ -173,7 +182,7 @@ impl Watcher {
     /// What a CPU's next step touches. A machine over a store of another shape counts as want of
     /// memory.
     pub fn next(&mut self, machine: &Machine, cpu: u8) -> Result<Next, AllocError>
-        ensures { IfOk result (IsNextIn machine.now cpu) }
+        ensures { IfOk result (IsNextOf machine.now cpu) }
     {
         if !has_shape(machine.store(), &self.shape) {
             return Err(AllocError);

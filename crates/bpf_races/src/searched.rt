@@ -20,6 +20,10 @@ pub trait Searched {
     /// The search is patient: what schedules lead to may have fewer steps left than what is kept.
     ghost patient: { Bool };
 
+    /// Whether it is.
+    fn is_patient(&self) -> bool
+        ensures { result ≡ patient };
+
     /// How many are kept.
     fn count(&self) -> usize
         ensures { result ≡ length (kept self.now) };
@@ -54,6 +58,10 @@ impl Searched for Explorer {
 
     ghost patient = { false };
 
+    fn is_patient(&self) -> bool {
+        false
+    }
+
     fn count(&self) -> usize {
         self.len()
     }
@@ -81,6 +89,10 @@ impl Searched for PatientExplorer {
     ghost working = { λ e. e.machine };
 
     ghost patient = { true };
+
+    fn is_patient(&self) -> bool {
+        true
+    }
 
     fn count(&self) -> usize {
         self.len()

@@ -1,115 +1,86 @@
 //! The races of one machine.
 
-ghost use Rattle.std.specs.Prelude.{◌≡◌, ◌<◌, ◌+◌, ℕ, IfNone, IfOk, IfSome, OnOk, length};
+ghost use Rattle.std.specs.Prelude.{◌≡◌, ◌<◌, ◌+◌, ℕ, [], IfOk, OnOk, length};
 ghost use Rattle.bpf_machine.specs.Machine.{Shows};
 ghost use Rattle.bpf_machine.specs.Schedule.{World};
 ghost use Rattle.bpf_races.specs.Touch.{Clash};
-ghost use Rattle.bpf_races.specs.Next.{IsNextIn};
-ghost use Rattle.bpf_races.specs.Races.{AreRacesIn, IsBetween, IsLeftOut, RacesIn};
-ghost use Rattle.bpf_races.specs.Private.Searching.{AreNexts};
-ghost use Rattle.bpf_races.specs.Private.Within.{UpTo};
+ghost use Rattle.bpf_races.specs.Races.{AreRacesIn};
+ghost use Rattle.bpf_races.specs.Private.Clashes.{Collects};
+ghost use Rattle.bpf_races.specs.Private.Searching.{AreNexts, IsNextOf};
+ghost use Rattle.bpf_races.specs.Private.Within.{Amid, IsFor, UpTo};
 
-use crate::clash::racing_byte;
-use crate::found::Race;
+use crate::clash::racing_bytes;
+use crate::found::{Pair, Race, add_race};
 use crate::next::{Next, Watcher};
+use crate::sync::Part;
 use bpf_machine::Machine;
 use std::alloc::{AllocError, Global};
 
-/// A byte for which two next steps race, but for values of these maps.
-fn byte_between(first: &Next, second: &Next, sync: &[usize]) -> Option<u64>
-    ensures found { IfSome result (Clash first.now.accesses second.now.accesses) }
-    ensures counts { IfSome result (λ b. IsLeftOut sync.now b → ⊥) }
-    ensures none { IfNone result ((b : ℕ) → Clash first.now.accesses second.now.accesses b
-        → IsLeftOut sync.now b) }
-{
-    racing_byte(first.accesses(), second.accesses(), sync)
-}
-
-/// The race of two CPUs of a machine, whose next steps are these, if they have one; with a schedule
-/// beside it.
-pub(crate) fn race_between(
-    watcher: &Watcher,
-    machine: &Machine,
-    sync: &[usize],
-    cpu: u8,
+/// The bytes for which two next steps race, but for those that are left out.
+fn bytes_between(
+    alloc: Global,
     first: &Next,
-    other: u8,
     second: &Next,
-    by: Vec<(u8, u64)>,
-) -> Result<Option<Race>, AllocError>
-    requires order { cpu < other }
-    requires next { IsNextIn machine.now cpu first.now }
-    requires next_too { IsNextIn machine.now other second.now }
-    ensures between { IfOk result (λ found. IfSome found
-        (IsBetween cpu first.now.pc other second.now.pc)) }
-    ensures way { IfOk result (λ found. IfSome found (λ race. race.by ≡ by.items)) }
-    ensures races { IfOk result (λ found. IfSome found (λ race. (w : World) → Shows machine.now w
-        → RacesIn w sync.now race)) }
-    ensures none { IfOk result (λ found. IfNone found ((b : ℕ)
-        → Clash first.now.accesses second.now.accesses b → IsLeftOut sync.now b)) }
+    sync: &[Part],
+) -> Result<Vec<u64>, AllocError>
+    ensures { IfOk result (λ v. Collects (Clash first.now.accesses second.now.accesses) sync.now []
+        v.items) }
 {
-    let Some(at) = byte_between(first, second, sync) else {
-        return Ok(None);
-    };
-    let key = watcher.key_at(machine, at)?;
-    let pc = first.pc();
-    let other_pc = second.pc();
-    Ok(Some(Race {
-        cpu,
-        pc,
-        other,
-        other_pc,
-        at,
-        key,
-        by,
-    }))
+    racing_bytes(alloc, first.accesses(), second.accesses(), sync)
 }
 
-/// The CPU of a number. One that is too great counts as want of memory.
-fn cpu_of(number: usize) -> Result<u8, AllocError>
-    ensures { IfOk result (λ cpu. cpu ≡ number) }
-{
-    u8::try_from(number).map_err(|_| AllocError)
-}
-
-/// Puts the race of two CPUs behind the others, if they have one.
-fn add_pair(
+/// A race of these two for a byte, in a machine.
+fn race_for(
     alloc: Global,
     watcher: &Watcher,
     machine: &Machine,
-    sync: &[usize],
-    nexts: &[Next],
-    cpu: usize,
-    other: usize,
-    races: &mut Vec<Race>,
-) -> Result<(), AllocError>
-    requires order { cpu < other }
-    requires within { other < length nexts.now }
-    requires nexts { AreNexts machine.now nexts.now }
-    requires before { UpTo machine.now sync.now nexts.now cpu other races.old.items }
-    ensures { OnOk result (UpTo machine.now sync.now nexts.now cpu (other + 1) races.new.items) }
+    pair: Pair,
+    at: u64,
+) -> Result<Race, AllocError>
+    ensures { IfOk result (IsFor machine.now pair at) }
 {
-    let first = &nexts[cpu];
-    let second = &nexts[other];
-    let cpu = cpu_of(cpu)?;
-    let other = cpu_of(other)?;
+    let key = watcher.key_at(machine, at)?;
     let by = Vec::new(alloc);
-    let found = race_between(watcher, machine, sync, cpu, first, other, second, by)?;
-    match found {
-        Some(race) => {
-            races.push(race)?;
-            Ok(())
-        }
-        None => Ok(()),
-    }
+    Ok(Race { pair, at, key, by })
 }
 
-/// Puts the races of a CPU with those of greater numbers behind the others.
+/// Appends the races of these two for some bytes to the others, each once.
+fn add_bytes(
+    alloc: Global,
+    watcher: &Watcher,
+    machine: &Machine,
+    sync: &[Part],
+    nexts: &[Next],
+    first: &Next,
+    second: &Next,
+    races: &mut Vec<Race>,
+) -> Result<(), AllocError>
+    requires order { first.now.here.cpu < second.now.here.cpu }
+    requires next { IsNextOf machine.now first.now.here.cpu first.now }
+    requires next_too { IsNextOf machine.now second.now.here.cpu second.now }
+    requires before { UpTo machine.now sync.now nexts.now first.now.here.cpu second.now.here.cpu
+        races.old.items }
+    ensures { OnOk result (UpTo machine.now sync.now nexts.now first.now.here.cpu
+        (second.now.here.cpu + 1) races.new.items) }
+{
+    let pair = Pair {
+        one: first.here(),
+        other: second.here(),
+    };
+    let bytes = bytes_between(alloc, first, second, sync)?;
+    for at in &bytes {
+        let race = race_for(alloc, watcher, machine, pair, *at)?;
+        add_race(races, race)?;
+    }
+    Ok(())
+}
+
+/// Appends the races of a CPU with those of greater numbers to the others.
 fn add_races_of(
     alloc: Global,
     watcher: &Watcher,
     machine: &Machine,
-    sync: &[usize],
+    sync: &[Part],
     nexts: &[Next],
     cpu: usize,
     races: &mut Vec<Race>,
@@ -120,7 +91,8 @@ fn add_races_of(
     ensures { OnOk result (UpTo machine.now sync.now nexts.now (cpu + 1) 0 races.new.items) }
 {
     for other in cpu + 1..nexts.len() {
-        add_pair(alloc, watcher, machine, sync, nexts, cpu, other, races)?;
+        let (first, second) = (&nexts[cpu], &nexts[other]);
+        add_bytes(alloc, watcher, machine, sync, nexts, first, second, races)?;
     }
     Ok(())
 }
@@ -130,7 +102,7 @@ fn races_of(
     alloc: Global,
     watcher: &Watcher,
     machine: &Machine,
-    sync: &[usize],
+    sync: &[Part],
     nexts: &[Next],
 ) -> Result<Vec<Race>, AllocError>
     requires { AreNexts machine.now nexts.now }
@@ -143,13 +115,13 @@ fn races_of(
     Ok(races)
 }
 
-/// The races of a machine, but for those at values of these maps: by rising pair of CPUs, one of each
-/// pair, and without a schedule.
+/// The races of a machine, but for those at bytes that are left out: by rising pair of CPUs, each
+/// once, and without a schedule.
 pub fn races_in(
     alloc: Global,
     watcher: &mut Watcher,
     machine: &Machine,
-    sync: &[usize],
+    sync: &[Part],
 ) -> Result<Vec<Race>, AllocError>
     ensures { IfOk result (λ races. AreRacesIn machine.now sync.now races.items) }
 {

@@ -48,10 +48,10 @@ is_new f can = record { fresh = fresh f can; own = made_own (record { cpus = f.c
 pub fresh_asked : (keys : Bool) (f : File) → CanRun f → IsFresh (asked_world_of keys f)
 fresh_asked keys f can = record { store = (fresh f can).store; waits = (fresh f can).waits }
 
--- what was told of the file that was read is what the text's file wants told
+-- what was printed of the file that was read is what is to be printed of the text's file
 pub told : (by : List (ℕ × ℕ)) (keys maps : Bool) (text : List ℕ) (file : RunFile) (r : Report)
     → IsRunFile text (Ok (file_of file))
-    → IsReportBy (asked_world keys file.shape file.programs.items (map waiting file.jobs.items))
+    → IsReportBy (asked_world keys file.setup.shape file.setup.programs.items (map waiting file.setup.jobs.items))
     by (map string_bytes file.names.items) maps (string_bytes r.text) r.stopped
     → (f : File) × IsRunFile text (Ok f) × IsToldBy by keys maps f (string_bytes r.text) r.stopped
 told by keys maps text file r said report = (file_of file, said, report)
@@ -59,7 +59,7 @@ told by keys maps text file r said report = (file_of file, said, report)
 -- and so with all that happens
 pub history : (by : List (ℕ × ℕ)) (keys maps : Bool) (text : List ℕ) (file : RunFile) (r : Report)
     → IsRunFile text (Ok (file_of file))
-    → IsHistory (asked_world keys file.shape file.programs.items (map waiting file.jobs.items))
+    → IsHistory (asked_world keys file.setup.shape file.setup.programs.items (map waiting file.setup.jobs.items))
     by (map string_bytes file.names.items) maps (string_bytes r.text) r.stopped
     → IsHistoryOfFile by keys maps text (reply.Jobs r.text r.stopped)
 history by keys maps text file r said report = (file_of file, said, report)

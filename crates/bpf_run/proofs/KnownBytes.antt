@@ -34,7 +34,7 @@ appended (Some x) None c xs ys p q = absurd p
 appended (Some x) (Some y) None xs ys p q = absurd q
 appended (Some x) (Some y) (Some z) xs ys p q = q ∙ ap (λ l. l ++ ys) p ∙ append_assoc x xs ys
 
--- one more write, of some of the bytes behind the first n
+-- one more write, of some of the bytes after the first n
 pub written_more : (a b c : Option (List ℕ)) (xs : List ℕ) (n more : ℕ) → Appends a b (take n xs)
     → Appends b c (take more (take (length xs - n) (drop n xs))) → Appends a c (take (n + more) xs)
 written_more a b c xs n more p q =

@@ -1,8 +1,9 @@
-mod FreshJudged
+mod Subjects
 mod ShownReplies
 mod SeveralFiles
 pub mod KnownBytes
 pub mod ReplyLemmas
+mod OneJudged
 pub mod OneReply
 pub mod OneExplored
 pub mod SeenAgain
@@ -16,3 +17,5 @@ pub mod WrittenAnswers
 pub mod ListedAgain
 mod Opened
 mod Talked
+mod Judged
+mod CheckedParts

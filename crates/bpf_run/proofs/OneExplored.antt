@@ -1,4 +1,4 @@
--- Searches of one input that both found all outcomes tell the same of them, in the same order.
+-- Searches of one input that both found all outcomes print the same of them, in the same order.
 use Rattle.std.proofs.Common.{◌≡◌, ◌∙◌, ℕ, zero, suc, ◌<◌, Bool, true, List, [], ◌∷◌, Some, Ok, inl, inr, ◌⊎◌, map, refl, sym, ap, subst, arith}
 use Rattle.std.specs.Prelude.{slice_get, ◌||◌}
 use Rattle.std.specs.List.{list_any}
@@ -30,7 +30,7 @@ abbrev AreSorted : List Found → Type 0
 AreSorted xs = (i j : ℕ) (found later : Found) → i < j → slice_get xs i ≡ Some found
     → slice_get xs j ≡ Some later → slice_cmp nat_cmp found.text later.text ≡ Less
 
--- what each of these tells, one of those tells
+-- what each of these prints, one of those prints
 abbrev AreTold : List Found → List Found → Type 0
 AreTold xs ys = (i : ℕ) (found : Found) → slice_get xs i ≡ Some found
     → IsTold ys found.text found.stopped
@@ -39,7 +39,7 @@ tail_sorted : (x : Found) (xs : List Found) → AreSorted (x ∷ xs) → AreSort
 tail_sorted x xs sorted i j found later less a b =
     sorted (suc i) (suc j) found later (omega arith) a b
 
--- the first answer tells this, or one behind it does, whose text is greater
+-- the first answer has this text, or one after it has, whose text is greater
 first_or_behind : (y : Found) (ys : List Found) (text : List ℕ) (stopped : Bool) → AreSorted (y ∷ ys)
     → (i : ℕ) (found : Found) → slice_get (y ∷ ys) i ≡ Some found → found.text ≡ text
     → found.stopped ≡ stopped
@@ -91,7 +91,7 @@ stopped_told : (xs : List Found) → any_stopped_of xs ≡ list_any (λ (p : Lis
 stopped_told [] = refl
 stopped_told (x ∷ xs) = ap (λ (b : Bool). x.stopped || b) (stopped_told xs)
 
--- what one search tells, the other does
+-- what one search prints, the other prints
 all_told : (w : World) (names : List (List ℕ)) (xs ys : List Found) (cut short : Bool) (limit states more others : ℕ)
     → IsExplored w names true xs true cut limit states → IsExplored w names true ys true short more others
     → AreTold xs ys

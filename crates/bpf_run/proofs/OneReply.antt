@@ -32,14 +32,13 @@ use Rattle.bpf_file.specs.Laws.{FilesAreDetermined, FilesCanRun}
 use Rattle.bpf_file.specs.Runnable.{CanRun}
 use Rattle.bpf_jobs.specs.Laws.{ReportsByAreDetermined}
 use Rattle.bpf_events.specs.Reports.{HistoriesAreDetermined}
-use Rattle.bpf_check.specs.Expectation.{expectations_of}
-use Rattle.bpf_check.specs.Single.{is_any_refuted, judged_text}
 use Rattle.bpf_debug.specs.Laws.{ScriptsAreDetermined}
 use Rattle.bpf_run.proofs.FreshFiles.{fresh_asked}
 use Rattle.bpf_run.proofs.OneDebug.{PrintsAs, one_debug}
+use Rattle.bpf_run.proofs.OneJudged.{one_judged}
 use Rattle.bpf_run.specs.Answer.{jobs_status, status_of, reply_text}
 use Rattle.bpf_run.specs.Commands.{IsAnswer, IsAssembled, IsAssembledRun, IsDisassembled, IsForOneSchedule, IsForOneThread, IsReply, IsRun, IsWordsOf, RefusesAssembly, RefusesInput, RefusesProgram, RefusesWords, ShowsWords, shown_program}
-use Rattle.bpf_run.specs.Running.{IsHistoryBy, IsJudgedBy, IsOfFile, IsRunBy, IsToldBy}
+use Rattle.bpf_run.specs.Running.{IsHistoryBy, IsOfFile, IsRunBy, IsToldBy}
 use Rattle.bpf_run.specs.Script.{asked_world_of}
 use Rattle.bpf_run.specs.declared.input.TheConstants.{MAX_INPUT}
 use Rattle.bpf_run.specs.Laws.{IsOfInput, IsForAnyInput, HasShortContext, RepliesAreDetermined}
@@ -173,7 +172,7 @@ of_file Told text (reply.Outcomes printed stopped all) h n = absurd h
 of_file Told text (reply.NoOutcome printed all) h n = absurd h
 of_file Told text (reply.Several printed refused unmet told) h n = absurd h
 
--- of a file that can run one text is told
+-- of a file that can run one text is printed
 abbrev IsOne : (File → List ℕ → Bool → Type 0) → Type 0
 IsOne Told = (f : File) → CanRun f → (p q : List ℕ) (x y : Bool) → Told f p x → Told f q y → (p ≡ q) × (x ≡ y)
 
@@ -292,11 +291,6 @@ module _ (words : WordsAreDetermined) (encodings : EncodingsAreDetermined) (refu
   one_history : (by : List (ℕ × ℕ)) (keys maps : Bool) → IsOne (IsHistoryBy by keys maps)
   one_history by keys maps f can p q x y a b = histories (asked_world_of keys f) by f.names maps p q x y (fresh_asked keys f can) a b
 
-  one_judged : (by : List (ℕ × ℕ)) (keys : Bool) (text : List ℕ) → IsOne (IsJudgedBy by keys text)
-  one_judged by keys text f can p q x y (lines, stopped, a, c, e) (others, halted, b, d, g) =
-      let same = (one_told by keys true f can lines others stopped halted a b).0 in
-      (c ∙ ap (λ (t : List ℕ). judged_text t (expectations_of text)) same ∙ sym d, e ∙ ap (λ (t : List ℕ). is_any_refuted t (expectations_of text)) same ∙ sym g)
-
   one_file : (Told : File → List ℕ → Bool → Type 0) → IsOne Told → (text : List ℕ) (r s : Reply) → OfFile Told text r → OfFile Told text s → PrintsAs r s
   one_file Told one text r s (Told_of p x a) (Told_of q y b) =
       let both : Ok a.0 ≡ Ok b.0 = files text (Ok a.0) (Ok b.0) a.1 b.1 in
@@ -310,7 +304,7 @@ module _ (words : WordsAreDetermined) (encodings : EncodingsAreDetermined) (refu
       let both = files text (Err (FileError.Refused line why)) (Err (FileError.Refused place reason)) a b in
       prints r s cc
 
-  -- and so to all that is told of a file
+  -- and so to all that is printed of a file
   one_of_file : (Told : File → List ℕ → Bool → Type 0) → IsOne Told → (text : List ℕ) (r s : Reply) → IsOfFile Told text r → IsOfFile Told text s → IsOfInput r → IsOfInput s → PrintsAs r s
   one_of_file Told one text r s a b n m = one_file Told one text r s (of_file Told text r a n) (of_file Told text s b m)
 
@@ -330,9 +324,7 @@ module _ (words : WordsAreDetermined) (encodings : EncodingsAreDetermined) (refu
   one_answer (command.History options) text r s h t o a b n m =
       let by = options.by.items in
       one_of_file (IsHistoryBy by options.keys options.maps) (one_history by options.keys options.maps) text r s a b n m
-  one_answer (command.Judge options) text r s h t o a b n m =
-      let by = options.by.items in
-      one_of_file (IsJudgedBy by options.keys text) (one_judged by options.keys text) text r s a b n m
+  one_answer (command.Judge options) text r s h t o a b n m = one_judged files runs reports options.by.items options.keys text r s a b n m
   one_answer (command.Debug echo strict) text r s h t o a b n m = one_debug files runs scripts echo strict text r s a b n m
   one_answer (command.Explore options) text r s h t o a b n m = absurd o
   one_answer (command.Show options) text r s h t o a b n m = absurd o

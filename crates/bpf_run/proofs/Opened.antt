@@ -1,4 +1,4 @@
--- What the text of a file comes to, and what is done of it.
+-- What the text of a file amounts to, and what is done of it.
 use Rattle.std.proofs.Common.{◌≡◌, ◌⊎◌, ◌≤◌, ◌<◌, ◌∙◌, inl, inr, Bool, true, false, ℕ, List, [], ◌∷◌, Option, Some, None, length, refl, sym, subst, ap, true≢false}
 use Rattle.std.specs.Prelude.{IfSome, IsUtf8, Vec, Ok, Err, ◌||◌}
 use Rattle.std.specs.List.{list_any}
@@ -50,7 +50,7 @@ pub some_ends : (lines : List (List ℕ)) → list_any ends_file lines ≡ true 
 some_ends [] e none = true≢false (sym e)
 some_ends (line ∷ lines) e none = some_ends lines (or_true (ends_file line) (list_any ends_file lines) none.0 e) none.1
 
--- ---- what a text comes to
+-- ---- what a text amounts to
 
 pub opened_script : (echo strict : Bool) (text : List ℕ) (r : Reply) → list_any ends_file (lines_of text) ≡ true → IsScriptOfFile echo strict text r → IsOpened echo strict text (opening.Reply r)
 opened_script echo strict text r ends said = (said, λ none. absurd (some_ends (lines_of text) ends none))

@@ -1,14 +1,15 @@
--- What is told of races is told of the file that the text says.
+-- What is printed of races is printed of the file that the text says.
 use Rattle.std.proofs.Common.{Bool, ℕ, List, Ok, map, string_bytes, String}
 use Rattle.std.specs.declared.alloc.Global.{Global}
 use Rattle.bpf_file.specs.declared.file.RunFile.{RunFile}
 use Rattle.bpf_file.specs.File.{file_of}
 use Rattle.bpf_file.specs.Reading.{IsRunFile}
-use Rattle.bpf_races.specs.Sync.{AreMapsOf}
+use Rattle.bpf_races.specs.declared.sync.Part.{Part}
+use Rattle.bpf_races.specs.Sync.{ArePartsOf}
 use Rattle.bpf_run.specs.Racing.{IsRacesFile, TellsRaces}
 use Rattle.bpf_run.specs.declared.reply.Reply.TheVariants as reply
 
-pub raced : (patient : Bool) (limit : ℕ) (sync : List (List ℕ)) (text : List ℕ) (file : RunFile) (numbers : List ℕ) (printed : String Global) (any all : Bool)
-    → IsRunFile text (Ok (file_of file)) → AreMapsOf (map string_bytes file.names.items) sync numbers → TellsRaces patient limit (file_of file) numbers (string_bytes printed) any all
+pub raced : (patient : Bool) (limit : ℕ) (sync : List (List ℕ)) (text : List ℕ) (file : RunFile) (parts : List Part) (printed : String Global) (any all : Bool)
+    → IsRunFile text (Ok (file_of file)) → ArePartsOf (map string_bytes file.names.items) file.setup.shape.maps sync parts → TellsRaces patient limit (file_of file) parts (string_bytes printed) any all
     → IsRacesFile patient limit sync text (reply.Outcomes printed any all)
-raced patient limit sync text file numbers printed any all said maps told = (file_of file, numbers, said, maps, told)
+raced patient limit sync text file parts printed any all said named told = (file_of file, parts, said, named, told)

@@ -1,4 +1,4 @@
--- What a search shows of an outcome, its schedule and rounds behind it show again.
+-- What a search shows of an outcome, its schedule and rounds after it show again.
 use Rattle.std.proofs.Common.{◌≡◌, ◌∙◌, ℕ, zero, suc, ◌==◌, Bool, true, false, List, [], ◌∷◌, ◌++◌, Option, Some, None, Ok, inl, inr, cond, length, refl, sym, ap, subst, string_bytes}
 use Rattle.std.specs.Prelude.{slice_get}
 use Rattle.bpf_shared.specs.Store.{Plain, put}

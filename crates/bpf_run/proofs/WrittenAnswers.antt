@@ -39,7 +39,7 @@ wrote_more old mid new all left part more w is put = record {
   whole = w.whole ∙ ap (λ (t : List ℕ). w.before ++ t) is ∙ sym (append_assoc w.before part more);
 }
 
--- some of the next part behind what is written is a beginning of all
+-- some of the next part after what is written is a beginning of all
 pub wrote_some : (old mid new : Option (List ℕ)) (all left part more : List ℕ) → Wrote old mid all left → left ≡ part ++ more
     → ((k : ℕ) × Appends mid new (take k part)) → (n : ℕ) × Appends old new (take n all)
 wrote_some old mid new all left part more w is (k, put) =
@@ -67,7 +67,7 @@ next_answer lines answers i a inside is =
     ap (λ (xs : Replies). shown_text lines (map answer_of xs))
     (drop_more answers i a inside ∙ ap (λ (b : Result (String Global) DebugError). b ∷ drop (i + 1) answers) (sym is))
 
--- a line that was made, with its status, or a refusal for want of memory
+-- a line that was made, with its status, or a refusal since memory ran out
 pub printed_line : {E : Type 0} {S : Type 0} (line : Result (String Global) E) (text : List ℕ) (given meant : S) (P : List ℕ → S → Type 0) (Q : Type 0) → given ≡ meant
     → IfOk line (λ t. string_bytes t ≡ text) → IfOk line (λ t. P (string_bytes t) given) → OnErr line Q → P text meant ⊎ Q
 printed_line (Ok t) text given meant P Q same is p q = inl (subst (P text) same (subst (λ (bs : List ℕ). P bs given) is p))

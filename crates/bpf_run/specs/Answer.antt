@@ -1,9 +1,13 @@
 -- What is printed of a reply, and the exit status. Our own choice.
 use Rattle.std.specs.Prelude.{◌≡◌, ℕ, ◌++◌, ◌⊎◌, List, [], ◌∷◌, Option, Bool, true, false, codes, map, option_map, string_bytes, take}
 use Rattle.std.specs.Io.KnownBytes.{Appends}
-use Rattle.bpf_explain.specs.Page.{page_text}
+use Rattle.bpf_explain.specs.Page.{definition_text, page_text}
 use Rattle.bpf_codes.specs.declared.code.Code.{Code}
+use Rattle.bpf_explain.specs.declared.definition.Definition.{Definition}
 use Rattle.bpf_explain.specs.declared.page.Page.{Page}
+use Rattle.bpf_explain.specs.declared.term.Term.{Term}
+use Rattle.bpf_explain.specs.declared.topic.Topic.{Topic}
+use Rattle.bpf_explain.specs.declared.topic.Topic.TheVariants as topic
 use Rattle.bpf_cpu.specs.declared.outcome.Outcome.{Outcome}
 use Rattle.bpf_cpu.specs.declared.outcome.Outcome.TheVariants as outcome
 use Rattle.bpf_cpu.specs.Lines.{outcome_text}
@@ -15,7 +19,7 @@ use Rattle.bpf_run.specs.declared.reply.Status.{Status}
 use Rattle.bpf_run.specs.declared.reply.Status.TheVariants as status
 use Rattle.bpf_run.specs.Diagnostic.{refusal_text}
 
--- some texts, one behind the other
+-- some texts, one after the other
 abbrev pub all_of : List (List ℕ) → List ℕ
 all_of [] = []
 all_of (text ∷ texts) = text ++ all_of texts
@@ -25,7 +29,7 @@ abbrev pub shown_line : List ℕ → List ℕ
 shown_line [] = []
 shown_line (b ∷ bs) = codes "> " ++ (b ∷ bs) ++ codes "\n"
 
--- what an answer prints, behind the first of some lines where there is one
+-- what an answer prints, after the first of some lines where there is one
 abbrev pub first_shown : (lines : List (List ℕ)) → Answer → List ℕ
 first_shown [] answer = answer_text answer
 first_shown (line ∷ lines) answer = shown_line line ++ answer_text answer
@@ -34,7 +38,7 @@ abbrev pub other_lines : List (List ℕ) → List (List ℕ)
 other_lines [] = []
 other_lines (line ∷ lines) = lines
 
--- what some answers print, each behind its line where lines are shown
+-- what some answers print, each after its line where lines are shown
 abbrev pub shown_text : (lines : List (List ℕ)) → List Answer → List ℕ
 shown_text lines [] = []
 shown_text lines (answer ∷ answers) =
@@ -96,7 +100,7 @@ status_of (reply.NoOutcome text all) = missing_status all
 status_of (reply.Several text refused unmet told) = several_status refused unmet told
 status_of (reply.Refused refusal) = status.Refused
 
--- what is told beside it, on standard error
+-- what is printed beside it, on standard error
 abbrev pub stats_of : Reply → List ℕ
 stats_of (reply.Counted text stopped stats) = string_bytes stats
 stats_of _ = []
@@ -138,8 +142,14 @@ Prints (reply.Script answers lines stopped refused) old new failed answered =
 Prints r old new failed answered = IsPrinted (reply_text r) (status_of r) old new failed answered
     ⊎ IsPrinted (codes "refused L9\n") status.Refused old new failed answered
 
--- the page of a code is written; or a refusal alone, where its text found no memory
-abbrev pub PrintsPage : Code → (old new : Option (List ℕ)) → (failed : Bool) → Status → Type 0
-PrintsPage code old new failed answered = (page : Page) × (page.code ≡ code)
-    × (IsPrinted (page_text page) status.Done old new failed answered
-    ⊎ IsPrinted (codes "refused L9\n") status.Refused old new failed answered)
+-- a page is written; or a refusal alone, where its text found no memory
+abbrev pub IsPage : (text : List ℕ) → (old new : Option (List ℕ)) → (failed : Bool) → Status → Type 0
+IsPage text old new failed answered = IsPrinted text status.Done old new failed answered
+    ⊎ IsPrinted (codes "refused L9\n") status.Refused old new failed answered
+
+-- the page of a code, or of another name
+abbrev pub PrintsPage : Topic → (old new : Option (List ℕ)) → (failed : Bool) → Status → Type 0
+PrintsPage (topic.Code code) old new failed answered = (page : Page) × (page.code ≡ code)
+    × IsPage (page_text page) old new failed answered
+PrintsPage (topic.Term term) old new failed answered = (d : Definition) × (d.term ≡ term)
+    × IsPage (definition_text d) old new failed answered

@@ -12,8 +12,9 @@ use Rattle.bpf_cpu.specs.Step.{Explains}
 use Rattle.bpf_run.specs.Checking.{IsCheckedFile}
 use Rattle.bpf_run.specs.Expanding.{IsExpandedFile}
 use Rattle.bpf_run.specs.Exploring.{IsExploredFile, IsShownFile}
+use Rattle.bpf_run.specs.Judging.{IsJudgedOfFile}
 use Rattle.bpf_run.specs.Racing.{IsRacesFile}
-use Rattle.bpf_run.specs.Running.{IsHistoryOfFile, IsJudgedOfFile, IsRunBy}
+use Rattle.bpf_run.specs.Running.{IsHistoryOfFile, IsRunBy}
 use Rattle.bpf_run.specs.Script.{IsScriptOfFile}
 use Rattle.bpf_insn.specs.declared.error.InsnError.TheVariants as insn_error
 use Rattle.bpf_text.specs.Assembly.{Assembles}
@@ -39,7 +40,7 @@ abbrev pub IsWordsOf : List ℕ → List Insn → Type 0
 IsWordsOf text is = (bytes : List ℕ) × IsHexOf text bytes × IsSized bytes × IsEncodedAs is bytes
 
 -- why it has not: it isn't the hex digits of bytes, or the bytes are no instructions; want of
--- memory may stand in place of any answer
+-- memory may take the place of any answer
 abbrev pub RefusesWords : List ℕ → Refusal → Type 0
 RefusesWords text (refusal.Hex hex_error.NotHex) = (bytes : List ℕ) → ¬ IsHexOf text bytes
 RefusesWords text (refusal.Hex hex_error.OutOfMemory) = Unit {0}
@@ -76,7 +77,7 @@ RefusesAssembly text (refusal.Text error) =
 RefusesAssembly text (refusal.Insn error) = error ≡ insn_error.OutOfMemory
 RefusesAssembly text _ = ⊥
 
--- and with `--listing`, the text's own lines with the pcs and the words behind them
+-- and with `--listing`, the text's own lines with the pcs and the words after them
 abbrev pub ShowsWords : (listing : Bool) → (text bytes printed : List ℕ) → Type 0
 ShowsWords false text bytes printed = printed ≡ word_lines (length bytes / 8) bytes
 ShowsWords true text bytes printed = IsSourceListing 0 bytes (lines_of text) printed
@@ -102,7 +103,7 @@ IsAssembledRun budget context text r =
     × IsRun budget context (string_bytes printed) r)
 
 -- `disasm`: the canonical text of the instructions, and with `--pc` each line with its pc and its
--- words behind it
+-- words after it
 abbrev pub shown_program : (pc : Bool) → (bytes : List ℕ) → List Insn → List ℕ
 shown_program false bytes is = canonical is
 shown_program true bytes is = program_lines 0 bytes is
@@ -138,7 +139,7 @@ IsAnswer (command.Show options) text r =
     IsShownFile options.search.patient options.search.limit options.outcome text r
 IsAnswer (command.Races options) text r =
     IsRacesFile options.search.patient options.search.limit (map string_bytes options.sync.items) text r
-IsAnswer (command.Check options) text r = IsCheckedFile options.patient options.limit text r
+IsAnswer (command.Check options) text r = IsCheckedFile options text r
 IsAnswer (command.Expand first patient races) text r = IsExpandedFile first text r
 
 -- it asks for no workers
@@ -146,7 +147,7 @@ abbrev pub IsForOneThread : Command → Type 0
 IsForOneThread (command.Run options) = options.workers ≡ None
 IsForOneThread _ = Unit {0}
 
--- it doesn't choose among schedules, nor tell of states
+-- it doesn't choose among schedules, nor print states
 abbrev pub IsForOneSchedule : Command → Type 0
 IsForOneSchedule (command.Explore options) = ⊥
 IsForOneSchedule (command.Show options) = ⊥
@@ -158,7 +159,7 @@ IsForOneSchedule _ = Unit {0}
 -- ---- input
 
 -- why there is no text: a read failed, there is too much, or (of what isn't too much) it isn't
--- UTF-8; want of memory may stand in place of any answer
+-- UTF-8; out of memory may take the place of any answer
 abbrev pub RefusesInput : List ℕ → Refusal → Type 0
 RefusesInput input (refusal.Input input_error.Unread) = Unit {0}
 RefusesInput input (refusal.Input input_error.TooLong) = MAX_INPUT < length input

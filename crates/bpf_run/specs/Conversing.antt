@@ -49,7 +49,7 @@ abbrev pub IsRefusal : Reply → Type 0
 IsRefusal (reply.Refused refusal) = Unit {0}
 IsRefusal _ = ⊥
 
--- what a conversation comes to: as a script does, or it is refused or couldn't be written
+-- what a conversation amounts to: as a script does, or it is refused or couldn't be written
 abbrev pub talk_status : (strict stopped : Bool) → Talked → Status
 talk_status strict stopped (talked.Over refused) = script_status stopped (strict && refused)
 talk_status strict stopped (talked.Refused why) = status.Refused
@@ -77,7 +77,7 @@ Converses passes unread unwritten (partner.Debugger echo strict) f answered =
 Converses passes unread unwritten (partner.States patient races) f answered =
     StatesFrom passes unread unwritten (filter_of patient races f) answered
 
--- what the file alone comes to is printed, and the terminal is left alone; or it is a run file that
+-- what the file alone amounts to is printed, and the terminal is left alone; or it is a run file that
 -- leaves lines, and a conversation over its jobs is held, and nothing else written
 abbrev pub Holds : Partner → (input : Option (List ℕ)) → (silent : Type 0)
     → (talks : File → Status → Type 0) → (read_failed : Bool)

@@ -1,4 +1,4 @@
--- What the text of a file comes to that `debug` is given.
+-- What the text of a file amounts to that `debug` is given.
 use Rattle.std.specs.Prelude.{ℕ, Bool, List, Ok}
 use Rattle.bpf_lines.specs.Lines.{lines_of}
 use Rattle.bpf_file.specs.File.{File}

@@ -29,6 +29,7 @@ refusal_diagnostic (refusal.Text error) = text_diagnostic error
 refusal_diagnostic (refusal.Insn error) = insn_diagnostic error
 refusal_diagnostic (refusal.Load error) = load_diagnostic error
 refusal_diagnostic (refusal.File line why) = reason_diagnostic why
+refusal_diagnostic (refusal.Comment line) = nowhere code.L11
 refusal_diagnostic refusal.NoMap = nowhere code.G3
 refusal_diagnostic refusal.JobsOutOfMemory = nowhere code.J4
 refusal_diagnostic refusal.OutOfMemory = nowhere code.L9
@@ -36,6 +37,7 @@ refusal_diagnostic refusal.OutOfMemory = nowhere code.L9
 -- the line of a run file
 abbrev pub line_text : Refusal → List ℕ
 line_text (refusal.File line why) = codes "line " ++ decimal line ++ codes " "
+line_text (refusal.Comment line) = codes "line " ++ decimal line ++ codes " "
 line_text r = []
 
 abbrev pub refusal_text : Refusal → List ℕ

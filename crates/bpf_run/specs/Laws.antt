@@ -63,14 +63,14 @@ ListingsAreAnsweredAlike = (text : List ℕ) (listing : String Global) (r : Repl
     → IsAssembled true text (reply.Text listing)
     → (IsAssembled false (string_bytes listing) r ↔ IsAssembled false text r)
 
--- what `disasm --pc` prints is assembled to the words that it was given, want of memory aside
+-- what `disasm --pc` prints is assembled to the words that it was given, unless memory runs out
 abbrev pub ListedWordsAreAnswered : Type 0
 ListedWordsAreAnswered = (text bytes : List ℕ) (listing : String Global) (r : Reply)
     → IsHexOf text bytes → IsDisassembled true text (reply.Text listing)
     → IsAssembled false (string_bytes listing) r → IsOfInput r
     → reply_text r ≡ word_lines (length bytes / 8) bytes
 
--- searches of one input that both found all outcomes tell the same of them, in the same order
+-- searches of one input that both found all outcomes print the same of them, in the same order
 abbrev pub OutcomesAreDetermined : Type 0
 OutcomesAreDetermined = (text : List ℕ) (xs ys : List Found) (limit states more others : ℕ)
     → AreAnswersTo text xs true limit states → AreAnswersTo text ys true more others
@@ -85,7 +85,7 @@ WitnessesAreSeenAgain =
     → IsRunOfFile found.by false true text (reply.Jobs printed stopped)
     → (string_bytes printed ≡ found.text) × (stopped ≡ found.stopped)
 
--- what is shown of an outcome, `explore --show` prints behind all that happens on the way there
+-- what is shown of an outcome, `explore --show` prints after all that happens on the way there
 abbrev pub ShownAreFound : Type 0
 ShownAreFound =
     (patient : Bool) (text : List ℕ) (answers : List Found) (all : Bool) (limit states i : ℕ)

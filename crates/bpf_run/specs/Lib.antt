@@ -3,6 +3,8 @@ pub mod Commands
 pub mod Running
 pub mod Exploring
 pub mod Racing
+pub mod Comments
+pub mod Judging
 pub mod Checking
 pub mod Several
 pub mod Script
@@ -16,3 +18,4 @@ pub mod Answering
 pub mod Conversing
 pub mod Debugging
 pub mod Expanding
+pub mod Threading

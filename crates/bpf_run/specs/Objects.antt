@@ -17,7 +17,7 @@ AreWritten printed cut meant old new failed answered =
     × AreObjectsOf text objects × IsPrinted objects meant old new failed answered)
     ⊎ IsPrinted lost_object status.Refused old new failed answered
 
--- what is printed so stands there as it is, or with `--json` as objects
+-- what is printed so is there as it is, or with `--json` as objects
 abbrev pub IsShown : (json : Bool)
     → (printing : (old new : Option (List ℕ)) → (failed : Bool) → Status → Type 0)
     → (old new : Option (List ℕ)) → (failed : Bool) → Status → Type 0

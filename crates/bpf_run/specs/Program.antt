@@ -27,7 +27,7 @@ use Rattle.bpf_run.specs.declared.refusal.Refusal.TheVariants as refusal
 use Rattle.bpf_run.specs.declared.reply.Reply.{Reply}
 use Rattle.bpf_run.specs.declared.reply.Status.{Status}
 
--- a reply to the input is answered: 'unread' exactly where a read failed; and what is told beside it
+-- a reply to the input is answered: 'unread' exactly where a read failed; and what is printed beside it
 abbrev pub Performs : Command → (input : Option (List ℕ)) → (read_failed : Bool)
     → (old new : Option (List ℕ)) → (write_failed : Bool) → Status → (stats : List ℕ) → Type 0
 Performs command input read_failed old new write_failed status stats = (r : Reply)
@@ -67,14 +67,14 @@ Follows (request.Perform command file explain json) unread silent talks standard
     Does command json (option_map string_bytes file)
     (asked_talk command (option_map string_bytes file) json) silent talks standard files read_failed
     old new write_failed status stats
-Follows (request.CheckAll search names json) unread silent talks standard files read_failed old new
+Follows (request.CheckAll check names json) unread silent talks standard files read_failed old new
     write_failed status stats =
     silent × ((r : Reply)
-    × AreChecked search.patient search.limit files (map string_bytes names.items) r
+    × AreChecked check files (map string_bytes names.items) r
     × IsShown json (Prints r) old new write_failed status × (stats ≡ []))
-Follows (request.Page code) unread silent talks standard files read_failed old new write_failed
+Follows (request.Page topic) unread silent talks standard files read_failed old new write_failed
     status stats =
-    silent × unread × PrintsPage code old new write_failed status × (stats ≡ [])
+    silent × unread × PrintsPage topic old new write_failed status × (stats ≡ [])
 
 -- the words ask for this, and `clap` finds no fault in them
 abbrev pub IsAsked : List Text → Request → Type 0
@@ -106,7 +106,7 @@ error_of misuse.Races = command_error.NoRaces
 
 -- ---- what is left to do
 
--- to exit with a status, once this is told on standard error
+-- to exit with a status, once this is printed on standard error
 abbrev pub IfExit : Ending → (Status → List ℕ → Type 0) → Type 0
 IfExit (ending.Exit status) P = P status []
 IfExit (ending.Performed done) P = P done.status (stats_of done.reply)

@@ -5,7 +5,8 @@ use Rattle.bpf_file.specs.File.{File}
 use Rattle.bpf_file.specs.Reading.{IsRunFile}
 use Rattle.bpf_races.specs.Lines.{races_text}
 use Rattle.bpf_races.specs.Races.{AreRaces, RaceFound}
-use Rattle.bpf_races.specs.Sync.{AreMapsOf, IsAnyUnknown}
+use Rattle.bpf_races.specs.declared.sync.Part.{Part}
+use Rattle.bpf_races.specs.Sync.{ArePartsOf, IsAnyUnknown}
 use Rattle.bpf_run.specs.Running.{RefusesFile}
 use Rattle.bpf_run.specs.Script.{first_world_of}
 use Rattle.bpf_run.specs.declared.refusal.Refusal.TheVariants as refusal
@@ -16,23 +17,23 @@ use Rattle.bpf_run.specs.declared.reply.Reply.TheVariants as reply
 abbrev pub is_any_race : List RaceFound → Bool
 is_any_race races = not (length races == 0)
 
--- what is told of the races of the file's jobs, run over a new store of its maps, but for those at
--- values of the maps of these numbers: the races and whether they are all, by this limit or where memory
+-- what is printed of the races of the file's jobs, run over a new store of its maps, but for those at
+-- these bytes: the races and whether they are all, by this limit or where memory
 -- was refused to the search, and whether there is one
-abbrev pub TellsRaces : (patient : Bool) → (limit : ℕ) → File → (numbers printed : List ℕ)
+abbrev pub TellsRaces : (patient : Bool) → (limit : ℕ) → File → List Part → (printed : List ℕ)
     → (raced all : Bool) → Type 0
-TellsRaces patient limit f numbers printed raced all = (races : List RaceFound) × (refused : Bool)
-    × AreRaces patient (first_world_of f) numbers races all refused limit
-    × (printed ≡ races_text f.names races all) × (raced ≡ is_any_race races)
+TellsRaces patient limit f parts printed raced all = (races : List RaceFound) × (refused : Bool)
+    × AreRaces patient (first_world_of f) parts races all refused limit
+    × (printed ≡ races_text f.names parts races all) × (raced ≡ is_any_race races)
 
--- `explore --races`: those of the jobs that the text says, but for values of the maps that are named;
--- or the file's first refusal; or that one of the names is no map's
+-- `explore --races`: those of the jobs that the text says, but for the bytes that are named; or the
+-- file's first refusal; or that something else is named than bytes of the file's maps
 abbrev pub IsRacesFile : (patient : Bool) → (limit : ℕ) → (sync : List (List ℕ)) → List ℕ → Reply
     → Type 0
-IsRacesFile patient limit sync text (reply.Outcomes printed raced all) = (f : File) × (numbers : List ℕ)
-    × IsRunFile text (Ok f) × AreMapsOf f.names sync numbers
-    × TellsRaces patient limit f numbers (string_bytes printed) raced all
+IsRacesFile patient limit sync text (reply.Outcomes printed raced all) = (f : File) × (parts : List Part)
+    × IsRunFile text (Ok f) × ArePartsOf f.names f.maps sync parts
+    × TellsRaces patient limit f parts (string_bytes printed) raced all
 IsRacesFile patient limit sync text (reply.Refused refusal.NoMap) =
-    (f : File) × IsRunFile text (Ok f) × IsAnyUnknown f.names sync
+    (f : File) × IsRunFile text (Ok f) × IsAnyUnknown f.names f.maps sync
 IsRacesFile patient limit sync text (reply.Refused r) = RefusesFile text r
 IsRacesFile patient limit sync text _ = ⊥

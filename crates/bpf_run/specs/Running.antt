@@ -1,9 +1,7 @@
--- What `run` replies: the jobs of a run file, in rounds or by workers.
-use Rattle.std.specs.Prelude.{◌≡◌, ℕ, Bool, true, List, Option, Some, None, Err, Ok, string_bytes}
+-- What `run` replies: the jobs of a run file, in rounds or on worker threads.
+use Rattle.std.specs.Prelude.{ℕ, Bool, List, Option, Some, None, Err, Ok, string_bytes}
 use Rattle.bpf_jobs.specs.Printed.{IsReportBy}
 use Rattle.bpf_events.specs.Reports.{IsHistory}
-use Rattle.bpf_check.specs.Expectation.{expectations_of}
-use Rattle.bpf_check.specs.Single.{is_any_refuted, judged_text}
 use Rattle.bpf_workers.specs.Printed.{IsWorkersReport}
 use Rattle.bpf_file.specs.declared.error.FileError.TheVariants as FileError
 use Rattle.bpf_file.specs.File.{File}
@@ -14,13 +12,13 @@ use Rattle.bpf_run.specs.declared.refusal.Refusal.TheVariants as refusal
 use Rattle.bpf_run.specs.declared.reply.Reply.{Reply}
 use Rattle.bpf_run.specs.declared.reply.Reply.TheVariants as reply
 
--- why a text is no run file: its first refusal; want of memory may stand in place of any answer
+-- why a text is no run file: its first refusal; out of memory may take the place of any answer
 abbrev pub RefusesFile : List ℕ → Refusal → Type 0
 RefusesFile text (refusal.File line why) = IsRunFile text (Err (FileError.Refused line why))
 RefusesFile text refusal.OutOfMemory = Unit {0}
 RefusesFile text _ = ⊥
 
--- what is told of the jobs of the file that the text says is of this kind; or the file's first
+-- what is printed of the jobs of the file that the text says is of this kind; or the file's first
 -- refusal
 abbrev pub IsOfFile : (Told : File → List ℕ → Bool → Type 0) → List ℕ → Reply → Type 0
 IsOfFile Told text (reply.Jobs printed stopped) = (f : File) × IsRunFile text (Ok f)
@@ -38,7 +36,7 @@ IsToldBy by keys maps f printed stopped =
 abbrev pub IsRunOfFile : (by : List (ℕ × ℕ)) → (keys maps : Bool) → List ℕ → Reply → Type 0
 IsRunOfFile by keys maps = IsOfFile (IsToldBy by keys maps)
 
--- `run --events`: these behind the lines of all that happens in these turns and rounds
+-- `run --events`: these after the lines of all that happens in these turns and rounds
 abbrev pub IsHistoryBy : (by : List (ℕ × ℕ)) → (keys maps : Bool) → File → List ℕ → Bool → Type 0
 IsHistoryBy by keys maps f printed stopped =
     IsHistory (asked_world_of keys f) by f.names maps printed stopped
@@ -46,21 +44,9 @@ IsHistoryBy by keys maps f printed stopped =
 abbrev pub IsHistoryOfFile : (by : List (ℕ × ℕ)) → (keys maps : Bool) → List ℕ → Reply → Type 0
 IsHistoryOfFile by keys maps = IsOfFile (IsHistoryBy by keys maps)
 
--- `run --check`: a test for each thing that the text expects, of the lines that these turns and
--- rounds come to, those of the maps among them; and whether one is refuted
-abbrev pub IsJudgedBy : (by : List (ℕ × ℕ)) → (keys : Bool) → (text : List ℕ) → File → List ℕ
-    → Bool → Type 0
-IsJudgedBy by keys text f printed refuted =
-    (lines : List ℕ) × (stopped : Bool) × IsToldBy by keys true f lines stopped
-    × (printed ≡ judged_text lines (expectations_of text))
-    × (refuted ≡ is_any_refuted lines (expectations_of text))
-
-abbrev pub IsJudgedOfFile : (by : List (ℕ × ℕ)) → (keys : Bool) → List ℕ → Reply → Type 0
-IsJudgedOfFile by keys text = IsOfFile (IsJudgedBy by keys text) text
-
 -- `run --workers`: the lines of the jobs that the file says, ended as one history of a new store of
 -- its maps explains; then, where they are asked for, those of the keys that each CPU lists in this
--- history behind its jobs, and those of the maps that it leaves; or the file's first refusal; or, of
+-- history after its jobs, and those of the maps that it leaves; or the file's first refusal; or, of
 -- a file that is accepted, out of memory for its jobs and lists; and beside them what is counted of
 -- the store that this history leaves, where that is asked for
 abbrev pub IsRunByWorkers : (stats keys maps : Bool) → List ℕ → Reply → Type 0
@@ -73,7 +59,7 @@ IsRunByWorkers stats keys maps text (reply.Refused refusal.JobsOutOfMemory) =
 IsRunByWorkers stats keys maps text (reply.Refused r) = RefusesFile text r
 IsRunByWorkers stats keys maps text _ = ⊥
 
--- by workers where they are asked for, and else by turns
+-- on worker threads where they are asked for, and else by turns
 abbrev pub IsRunBy : Option ℕ → (stats : Bool) → (by : List (ℕ × ℕ)) → (keys maps : Bool)
     → List ℕ → Reply → Type 0
 IsRunBy None stats by keys maps text r = IsRunOfFile by keys maps text r

@@ -1,4 +1,4 @@
--- What `debug` replies: a run file, a line `---`, and commands behind it.
+-- What `debug` replies: a run file, a line `---`, and commands after it.
 use Rattle.std.specs.Prelude.{◌≡◌, ◌⊎◌, ◌&&◌, ℕ, Bool, true, false, List, [], ◌∷◌, ◌++◌, Option, None, Ok, Err, Vec, codes, is_err, length, map, option_map}
 use Rattle.std.specs.List.{list_any}
 use Rattle.std.specs.declared.alloc.Global.{Global}
@@ -32,7 +32,7 @@ abbrev pub NoneEnds : List (List ℕ) → Type 0
 NoneEnds [] = Unit {0}
 NoneEnds (line ∷ lines) = (ends_file line ≡ false) × NoneEnds lines
 
--- what stands before the first such line is the run file, and the lines behind it are commands;
+-- what is before the first such line is the run file, and the lines after it are commands;
 -- without one all is the run file, and there are no commands
 abbrev pub IsCut : (input file : List ℕ) → (commands : List (List ℕ)) → Type 0
 IsCut input file commands =

@@ -30,7 +30,7 @@ pub enum Partner {
     States {
         /// How many steps are left of budgets is passed over.
         patient: bool,
-        /// The data races of each are told.
+        /// The data races of each are printed.
         races: bool,
     },
 }
@@ -113,7 +113,7 @@ fn refusal_of(why: Stop) -> Refusal {
     }
 }
 
-/// What a conversation comes to, with a reply that tells no more than how it ended.
+/// What a conversation amounts to, with a reply that says no more than how it ended.
 pub(crate) fn come_to(alloc: Global, strict: bool, stopped: bool, talked: Talked) -> (Status, Reply)
     ensures status { result.0 ≡ talk_status strict stopped talked }
     ensures stats { stats_of result.1 ≡ [] }
@@ -187,7 +187,7 @@ fn talk_bytes<W: Sink, D: Terminal>(
     }
 }
 
-/// What is done of the bytes of a file, with what that comes to.
+/// What is done of the bytes of a file, with what that amounts to.
 fn talk_input<W: Sink, D: Terminal>(
     alloc: Global,
     partner: Partner,

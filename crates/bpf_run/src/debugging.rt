@@ -1,4 +1,4 @@
-//! `ebpf debug FILE`: the commands behind the file, or a conversation where it has none.
+//! `ebpf debug FILE`: the commands after the file, or a conversation where it has none.
 
 ghost use Rattle.std.specs.Prelude.{◌≡◌, ◌≤◌, Bool, Some, [], false, IfOk, IsUtf8, length};
 ghost use Rattle.std.specs.List.{list_any};
@@ -40,7 +40,7 @@ fn is_ended(alloc: Global, input: &[u8]) -> Result<bool, AllocError>
     Ok(false)
 }
 
-/// What the text of a file comes to.
+/// What the text of a file amounts to.
 enum Opening {
     /// All that there is to say.
     Reply(Reply),
@@ -48,7 +48,7 @@ enum Opening {
     Talk(Session),
 }
 
-/// What a run file comes to that no line ends.
+/// What a run file amounts to that no line ends.
 fn open_file(alloc: Global, text: &str) -> Opening
     requires { list_any ends_file (lines_of text.now) ≡ false }
     ensures { (echo strict : Bool) → IsOpened echo strict text.now result }
@@ -70,7 +70,7 @@ fn open_file(alloc: Global, text: &str) -> Opening
     }
 }
 
-/// What a text comes to.
+/// What a text amounts to.
 fn open_text(alloc: Global, echo: bool, strict: bool, text: &str) -> Opening
     ensures { IsOpened echo strict text.now result }
 {

@@ -35,7 +35,7 @@ impl Engine for OneThread {
     }
 }
 
-/// Runs the jobs of a run file by workers, where a command asks for them.
+/// Runs the jobs of a run file on worker threads, where a command asks for them.
 #[derive(Drop)]
 pub struct WithWorkers<'a, T: Threads + Wait + Sync + Aside>(pub &'a T);
 

@@ -3,7 +3,7 @@
 ghost use Rattle.std.specs.Prelude.{◌≡◌, ◌≤◌, Ok, Some, [], false, true, IfErr, IfOk, IsUtf8, length, string_bytes};
 ghost use Rattle.bpf_file.specs.File.{File, file_of};
 ghost use Rattle.bpf_file.specs.Reading.{IsRunFile};
-ghost use Rattle.bpf_file.specs.Runnable.{IsRunnable};
+ghost use Rattle.bpf_cpu.specs.Setup.{IsRunnable};
 ghost use Rattle.bpf_run.specs.Answer.{stats_of};
 ghost use Rattle.bpf_run.specs.Conversing.{Converses, Holds, StatesFrom};
 ghost use Rattle.bpf_run.specs.Expanding.{IsExpandedFile, IsExpandedText, IsFilterOf};
@@ -29,20 +29,14 @@ fn open_filter(
     races: bool,
     file: RunFile,
 ) -> Result<Filter, AllocError>
-    requires { IsRunnable file }
+    requires { IsRunnable file.setup }
     ensures { IfOk result (IsFilterOf patient races (file_of file)) }
 {
-    let RunFile {
-        shape,
-        names,
-        programs,
-        jobs,
-        ..
-    } = file;
-    Filter::new(alloc, patient, races, shape, names, programs, jobs)
+    let RunFile { setup, names, .. } = file;
+    Filter::new(alloc, patient, races, setup, names)
 }
 
-/// The same of the run file that a text says.
+/// The filter of the states of the run file that a text is.
 fn filter_in(alloc: Global, patient: bool, races: bool, text: &str) -> Result<Filter, Refusal>
     ensures opened { IfOk result (λ x. (f : File) × IsRunFile text.now (Ok f)
         × IsFilterOf patient races f x) }
@@ -57,16 +51,10 @@ fn filter_in(alloc: Global, patient: bool, races: bool, text: &str) -> Result<Fi
 
 /// The line of the first state of a run file's jobs. Want of memory is the only refusal.
 fn first_of(alloc: Global, file: RunFile) -> Result<String, AllocError>
-    requires { IsRunnable file }
+    requires { IsRunnable file.setup }
     ensures { IfOk result (λ line. IsExpandedText true (file_of file) (string_bytes line)) }
 {
-    let RunFile {
-        shape,
-        programs,
-        jobs,
-        ..
-    } = file;
-    first_line(alloc, shape, programs, jobs)
+    first_line(alloc, file.setup)
 }
 
 /// `ebpf expand --first`.

@@ -3,7 +3,7 @@
 use crate::fault::{details_of_assembly, details_of_file, details_of_program};
 use crate::perform::Performed;
 use crate::reply::{Reply, Status};
-use bpf_advice::{Detail, Details, Input, Language, advise};
+use bpf_advice::{Detail, Details, Input, Language, advise, warnings_of};
 use bpf_command::{Command, FileOptions, HistoryOptions};
 use bpf_cpu::Outcome;
 use bpf_debug::Answer;
@@ -12,7 +12,7 @@ use std::alloc::{AllocError, Global};
 use std::io;
 
 const BY_WORKERS: &str =
-    "  no more is known of a run by workers; without them the CPUs take turns, and it is repeated\n";
+    "  no more is known of a run on worker threads; without them the CPUs take turns, and it is repeated\n";
 
 const BY_TURNS: &str =
     "  hint: 'steps' of 'ebpf debug' makes these turns; then 'regs' and 'mem' show what the CPU has\n";
@@ -33,13 +33,13 @@ pub enum Subject {
     Words,
     /// The run of a program that is given as words.
     Program { budget: u64, context: Vec<u8> },
-    /// The same of one that is given as assembly text.
+    /// The run of a program that is given as assembly text.
     AssembledProgram { budget: u64, context: Vec<u8> },
     /// The jobs of a run file, in rounds.
     Rounds,
-    /// The same behind turns that are given.
+    /// The jobs of a run file, by turns that are given, and then in rounds.
     Turns,
-    /// The same by workers.
+    /// The jobs of a run file, on worker threads.
     Workers,
     /// Commands of the debugger.
     Script,
@@ -128,7 +128,7 @@ impl Subject {
     }
 }
 
-/// The number of a script's first line in the input: that behind the line `---`.
+/// The number of a script's first line in the input: that after the line `---`.
 fn first_line_of_script(input: &str) -> usize {
     let ends = input.split('\n').position(|line| {
         let words = line.split(';').next().unwrap_or("");
@@ -137,7 +137,7 @@ fn first_line_of_script(input: &str) -> usize {
     ends.map_or(1, |place| place.saturating_add(2))
 }
 
-/// Puts what a line of a script is answered behind the text. A refusal is told with its line.
+/// Appends what a line of a script is answered to the text. A refusal is printed with its line.
 fn push_answer(text: &mut String, number: usize, answer: &Answer) -> Result<(), AllocError> {
     match answer {
         Ok(answer) => text.push_str(answer.as_str()),
@@ -202,6 +202,17 @@ fn explanation(alloc: Global, subject: &Subject, done: &Performed) -> Result<Str
         otherwise: subject.otherwise(),
     };
     advise(alloc, &input, printed.as_str(), &details)
+}
+
+/// Warns of instructions in comments of what was read, unless the answer couldn't be printed.
+pub fn warn<P: Eprint>(rt: &P, alloc: Global, done: &Performed) {
+    if done.status == Status::Failed {
+        return;
+    }
+    let text = str::from_utf8(&done.input).unwrap_or("");
+    if let Ok(text) = warnings_of(alloc, text) {
+        let _ = eprint!(rt; "{}", text.as_str());
+    }
 }
 
 /// Why reads failed, of those that did.

@@ -1,66 +1,58 @@
 //! `ebpf explore`: every outcome of a run file's jobs, whatever the order of the CPUs' turns.
 
-ghost use Rattle.std.specs.Prelude.{◌≡◌, ◌<◌, ◌||◌, false, true, Bool, IfErr, IfOk, length, ℕ};
+ghost use Rattle.std.specs.Prelude.{◌≡◌, ◌<◌, ◌++◌, ◌||◌, false, true, Bool, IfErr, IfOk, length, string_bytes, ℕ};
+ghost use Rattle.bpf_explore.specs.Listing.{last_line};
 ghost use Rattle.bpf_explore.specs.Outcomes.{IsExplored};
 ghost use Rattle.bpf_explore.specs.Patient.{IsSearchedPatiently};
 ghost use Rattle.bpf_file.specs.File.{file_of};
-ghost use Rattle.bpf_file.specs.Runnable.{IsRunnable};
-ghost use Rattle.bpf_run.specs.Exploring.{AreAnswersTo, AreFoundBy, ArePatientAnswersTo, IsExploredFile, IsMissing, IsShownFile, any_stopped_of, is_any_hung};
+ghost use Rattle.bpf_cpu.specs.Setup.{IsRunnable};
+ghost use Rattle.bpf_run.specs.Exploring.{AreAnswersTo, AreFindingsBy, AreFoundBy, ArePatientAnswersTo, IsExploredFile, IsMissing, IsShownBy, IsShownFile, any_stopped_of, is_any_hung};
 ghost use Rattle.bpf_run.specs.Running.{RefusesFile};
 ghost use Rattle.bpf_run.specs.Script.{first_world_of};
 
 use crate::refusal::Refusal;
 use crate::reply::Reply;
-use crate::running::{file_in, run_file_with_history};
+use crate::running::{file_in, history_by};
+use crate::threading::threads_in;
+use bpf_check::Findings;
 use bpf_command::SearchOptions;
 use bpf_explore::{
     Explored, ExploredPatiently, Hung, Observer, explore_jobs, is_any_stopped, list_explored,
-    list_patient, search_patiently,
+    list_patient, push_last, search_patiently,
 };
 use bpf_file::RunFile;
+use bpf_jobs::Report;
 use std::alloc::{AllocError, Global};
 
-/// Searches through all schedules of a file's jobs, and tells of the maps too.
+/// Searches through all schedules of a file's jobs, and prints the maps too.
 fn explore<O: Observer>(
     alloc: Global,
     file: RunFile,
     limit: usize,
     observer: &mut O,
 ) -> Result<Explored, AllocError>
-    requires { IsRunnable file }
+    requires { IsRunnable file.setup }
     ensures { IfOk result (λ e. IsExplored (first_world_of (file_of file)) (file_of file).names true
         e.answers.items e.all e.refused limit e.states) }
 {
-    let RunFile {
-        shape,
-        names,
-        programs,
-        jobs,
-        ..
-    } = file;
-    explore_jobs(alloc, shape, &names, programs, jobs, true, limit, observer)
+    let RunFile { setup, names, .. } = file;
+    explore_jobs(alloc, setup, &names, true, limit, observer)
 }
 
-/// The same but for how many steps are left of budgets.
+/// Searches through all schedules of a file's jobs, but for how many steps are left of budgets.
 fn explore_patient<O: Observer>(
     alloc: Global,
     file: RunFile,
     limit: usize,
     observer: &mut O,
 ) -> Result<ExploredPatiently, AllocError>
-    requires { IsRunnable file }
+    requires { IsRunnable file.setup }
     ensures { IfOk result (λ e. IsSearchedPatiently (first_world_of (file_of file))
         (file_of file).names true e.answers.items e.all e.refused limit e.states e.hung.items
         e.budgets) }
 {
-    let RunFile {
-        shape,
-        names,
-        programs,
-        jobs,
-        ..
-    } = file;
-    search_patiently(alloc, shape, &names, programs, jobs, true, limit, observer)
+    let RunFile { setup, names, .. } = file;
+    search_patiently(alloc, setup, &names, true, limit, observer)
 }
 
 /// What a search through all schedules of the jobs that a text says finds.
@@ -99,7 +91,7 @@ fn patient_in<O: Observer>(
 }
 
 /// The outcomes of either search.
-pub(crate) fn found_in<O: Observer>(
+fn found_in<O: Observer>(
     alloc: Global,
     options: SearchOptions,
     text: &str,
@@ -127,15 +119,38 @@ pub(crate) fn found_in<O: Observer>(
     })
 }
 
+/// What either search found, as far as tests rest on it.
+pub(crate) fn findings_in<O: Observer>(
+    alloc: Global,
+    options: &SearchOptions,
+    text: &str,
+    observer: &mut O,
+) -> Result<Findings, Refusal>
+    ensures found { IfOk result
+        (AreFindingsBy options.now.patient options.now.limit text.now) }
+    ensures refused { IfErr result (RefusesFile text.now) }
+{
+    if !options.patient {
+        let explored = explored_in(alloc, options.limit, text, observer)?;
+        return Ok(Findings::new(alloc, explored));
+    }
+    let explored = patient_in(alloc, options.limit, text, observer)?;
+    Ok(Findings::patient(explored))
+}
+
 /// `ebpf explore` of all outcomes.
 fn explore_all<O: Observer>(alloc: Global, limit: u64, text: &str, observer: &mut O) -> Reply
     ensures { IsExploredFile false limit text.now result }
 {
+    let threads = match threads_in(alloc, text) {
+        Ok(threads) => threads,
+        Err(refusal) => return Reply::Refused(refusal),
+    };
     let explored = match explored_in(alloc, limit, text, observer) {
         Ok(explored) => explored,
         Err(refusal) => return Reply::Refused(refusal),
     };
-    match list_explored(alloc, &explored) {
+    match list_explored(alloc, &explored, threads) {
         Ok(text) => Reply::Outcomes {
             text,
             stopped: is_any_stopped(&explored.answers),
@@ -164,13 +179,17 @@ fn is_stopped(explored: &ExploredPatiently) -> bool
 fn explore_patiently<O: Observer>(alloc: Global, limit: u64, text: &str, observer: &mut O) -> Reply
     ensures { IsExploredFile true limit text.now result }
 {
+    let threads = match threads_in(alloc, text) {
+        Ok(threads) => threads,
+        Err(refusal) => return Reply::Refused(refusal),
+    };
     let explored = match patient_in(alloc, limit, text, observer) {
         Ok(explored) => explored,
         Err(refusal) => return Reply::Refused(refusal),
     };
     let stopped = is_stopped(&explored);
     let all = explored.all;
-    match list_patient(alloc, &explored) {
+    match list_patient(alloc, &explored, threads) {
         Ok(text) => Reply::Outcomes { text, stopped, all },
         Err(_) => Reply::Refused(Refusal::OutOfMemory),
     }
@@ -204,6 +223,46 @@ fn missing(alloc: Global, outcome: u64, explored: &Explored) -> Reply
     }
 }
 
+/// A text, and after it how many outcomes a search found, which aren't all.
+fn with_last(alloc: Global, text: String, explored: &Explored) -> Result<String, AllocError>
+    ensures { IfOk result (λ new. string_bytes new ≡ string_bytes text
+        ++ last_line false (length explored.now.answers.items) explored.now.states) }
+{
+    let mut shown = text;
+    push_last(
+        alloc,
+        &mut shown,
+        false,
+        explored.answers.len(),
+        explored.states,
+    )?;
+    Ok(shown)
+}
+
+/// What happens by a schedule, and after it that there are more outcomes than a search found, if that
+/// may be.
+fn show_by(alloc: Global, by: &[(u8, u64)], explored: &Explored, text: &str) -> Reply
+    ensures { IsShownBy by.now explored.now.all (length explored.now.answers.items)
+        explored.now.states text.now result }
+{
+    let report = match history_by(alloc, by, false, true, text) {
+        Ok(report) => report,
+        Err(refusal) => return Reply::Refused(refusal),
+    };
+    let Report { text, stopped } = report;
+    if explored.all {
+        return Reply::Jobs(text, stopped);
+    }
+    match with_last(alloc, text, explored) {
+        Ok(text) => Reply::Outcomes {
+            text,
+            stopped,
+            all: false,
+        },
+        Err(_) => Reply::Refused(Refusal::OutOfMemory),
+    }
+}
+
 /// `ebpf explore --show`: all that happens on the way to the outcome of this number, counted from 1.
 /// Where memory was refused to the search the number may be another outcome's, so that is a refusal.
 pub fn show_file<O: Observer>(
@@ -224,7 +283,7 @@ pub fn show_file<O: Observer>(
         return Reply::Refused(Refusal::OutOfMemory);
     }
     match explored.answers.get(outcome as usize - 1) {
-        Some(answer) => run_file_with_history(alloc, answer.by(), false, true, text),
+        Some(answer) => show_by(alloc, answer.by(), &explored, text),
         None => missing(alloc, outcome, &explored),
     }
 }

@@ -40,7 +40,7 @@ fn details_of(
     Ok(details)
 }
 
-/// Puts behind the details those of each job that ended out of budget.
+/// Appends to the details those of each job that ended out of budget.
 fn add_loops(alloc: Global, details: &mut Vec<Detail>, loops: &[Loop]) -> Result<(), AllocError> {
     for one in loops {
         let text = describe_loop(alloc, one)?;
@@ -60,17 +60,11 @@ fn programs_of(alloc: Global, jobs: &[Job]) -> Result<Vec<usize>, AllocError> {
 
 /// What is known of the jobs of a run file that ended in a fault or out of budget.
 pub fn details_of_file(alloc: Global, text: &str) -> Option<Vec<Detail>> {
-    let RunFile {
-        shape,
-        names,
-        programs,
-        jobs,
-        ..
-    } = read_file(alloc, text.as_bytes()).ok()?;
-    let shapes = Vec::from_slice(alloc, shape.maps()).ok()?;
-    let numbers = programs_of(alloc, &jobs).ok()?;
+    let RunFile { setup, names, .. } = read_file(alloc, text.as_bytes()).ok()?;
+    let shapes = Vec::from_slice(alloc, setup.shape.maps()).ok()?;
+    let numbers = programs_of(alloc, &setup.jobs).ok()?;
     let mut loops = Vec::new(alloc);
-    let (machine, evidence) = evidence_of(alloc, shape, programs, jobs, &mut loops).ok()?;
+    let (machine, evidence) = evidence_of(alloc, setup, &mut loops).ok()?;
     let maps = Maps {
         shapes: &shapes,
         names: &names,

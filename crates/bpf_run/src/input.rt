@@ -38,7 +38,7 @@ impl InputError {
     }
 }
 
-/// One read, whose bytes go behind `input`.
+/// One read, whose bytes go after `input`.
 fn read_more<R: Source>(
     source: &mut R,
     input: &mut Vec<u8>,

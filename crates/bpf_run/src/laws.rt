@@ -3,8 +3,8 @@
 //! These functions do nothing: their contracts are the laws.
 ghost use Rattle.bpf_run.specs.Laws.{ListedWordsAreAnswered, ListingsAreAnsweredAlike, OutcomesAreDetermined, RepliesAreDetermined, ShownAreFound, WitnessesAreSeenAgain};
 
-/// What a command prints is a function of the bytes that it reads, want of memory and failing reads
-/// aside.
+/// What a command prints is a function of the bytes that it reads, unless memory runs out or a read
+/// fails.
 pub fn replies_are_determined()
     ensures { RepliesAreDetermined }
 {
@@ -22,7 +22,7 @@ pub fn replies_are_determined()
     bpf_debug::laws::scripts_are_determined();
 }
 
-/// Searches of one input that both found all outcomes tell the same of them, in the same order.
+/// Searches of one input that both found all outcomes print the same of them, in the same order.
 pub fn outcomes_are_determined()
     ensures { OutcomesAreDetermined }
 {
@@ -57,7 +57,7 @@ pub fn listings_are_answered_alike()
     bpf_disassembly::listing::laws::listings_assemble_alike();
 }
 
-/// What `disasm --pc` prints is assembled to the words that it was given, want of memory aside.
+/// What `disasm --pc` prints is assembled to the words that it was given, unless memory runs out.
 pub fn listed_words_are_answered()
     ensures { ListedWordsAreAnswered }
 {

@@ -8,7 +8,7 @@ use bpf_lines::to_hex;
 use bpf_text::TextError;
 use std::alloc::Global;
 
-/// Puts a word's digits and a line end behind the text.
+/// Appends a word's digits and a line end to the text.
 fn push_word(alloc: Global, text: &mut String, word: &[u8]) -> Result<(), TextError>
     ensures line { OnOk result (string_bytes text.new
         ≡ string_bytes text.old ++ (encode_lower word.now ++ 10 ∷ [])) }

@@ -3,6 +3,7 @@
 
 pub mod answering;
 pub mod checking;
+mod comments;
 pub mod conversing;
 pub mod debugging;
 pub mod engine;
@@ -28,6 +29,7 @@ pub mod running;
 pub mod script;
 pub mod several;
 pub mod stream;
+mod threading;
 
 use bpf_talk::Console;
 use explaining::Failures;

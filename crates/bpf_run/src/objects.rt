@@ -39,7 +39,7 @@ impl Kept {
     }
 
     /// The objects of the lines that were written. Lines are text, so that they are none counts as
-    /// want of memory, as that some are missing does.
+    /// out of memory, as that some are missing does.
     fn objects(&self, alloc: Global) -> Result<String, AllocError>
         ensures whole { IfOk result (λ _. self.now.cut ≡ false) }
         ensures objects { IfOk result (λ objects.

@@ -20,7 +20,7 @@ use crate::stream::{Sink, Source};
 use bpf_codes::Code;
 use bpf_command::Command;
 use bpf_debug::Answer;
-use bpf_explain::page_of;
+use bpf_explain::{Term, Topic, definition_of, page_of};
 use bpf_jobs::OutcomeText;
 use bpf_lines::lines::first_line;
 use std::alloc::{AllocError, Global};
@@ -48,7 +48,7 @@ pub fn write_text<W: Sink>(sink: &mut W, text: &str, status: Status) -> Status
     }
 }
 
-/// Prints a line that was made before its first byte is written, if there was memory for it.
+/// Prints a text that was made before its first byte is written, if there was memory for it.
 fn write_line<W: Sink>(line: Result<String, AllocError>, status: Status, sink: &mut W) -> Status
     requires { W.has_failed sink.old ≡ false }
     ensures line { IfOk line (λ text. IsPrinted (string_bytes text) status
@@ -105,7 +105,7 @@ fn write_pair<W: Sink>(line: &[u8], answer: &Answer, sink: &mut W) -> io::Result
     }
 }
 
-/// Prints an answer, behind the first of the lines where there are any, and gives what stands behind
+/// Prints an answer, after the first of the lines where there are any, and gives what is after
 /// that.
 fn write_next<'a, W: Sink>(
     lines: Option<&'a [u8]>,
@@ -130,7 +130,7 @@ fn write_next<'a, W: Sink>(
     Ok(behind)
 }
 
-/// Prints what the lines of a script are answered, one after the other, each behind its line where
+/// Prints what the lines of a script are answered, one after the other, each after its line where
 /// the lines are given.
 fn write_answers<W: Sink>(
     lines: Option<&[u8]>,
@@ -182,9 +182,9 @@ pub fn answer<W: Sink>(alloc: Global, reply: &Reply, sink: &mut W) -> Status
 }
 
 /// Prints the page of a code. Its whole text is made before its first byte is written.
-pub fn print_page<W: Sink>(alloc: Global, code: Code, sink: &mut W) -> Status
+fn print_code<W: Sink>(alloc: Global, code: Code, sink: &mut W) -> Status
     requires { W.has_failed sink.old ≡ false }
-    ensures { PrintsPage code (W.contents sink.old) (W.contents sink.new)
+    ensures { PrintsPage (Topic.Code code) (W.contents sink.old) (W.contents sink.new)
         (W.has_failed sink.new) result }
 {
     let page = page_of(code);
@@ -192,6 +192,30 @@ pub fn print_page<W: Sink>(alloc: Global, code: Code, sink: &mut W) -> Status
         return write_text(sink, "refused L9\n", Status::Refused);
     };
     write_text(sink, text.as_str(), Status::Done)
+}
+
+/// Prints what a name is that `explain` knows beside codes, likewise.
+fn print_term<W: Sink>(alloc: Global, term: Term, sink: &mut W) -> Status
+    requires { W.has_failed sink.old ≡ false }
+    ensures { PrintsPage (Topic.Term term) (W.contents sink.old) (W.contents sink.new)
+        (W.has_failed sink.new) result }
+{
+    let definition = definition_of(term);
+    let text = format!(in alloc; "{definition}");
+    write_line(text, Status::Done, sink)
+}
+
+/// Prints the page of a code or of another name. Its whole text is made before its first byte is
+/// written.
+pub fn print_page<W: Sink>(alloc: Global, topic: Topic, sink: &mut W) -> Status
+    requires { W.has_failed sink.old ≡ false }
+    ensures { PrintsPage topic (W.contents sink.old) (W.contents sink.new)
+        (W.has_failed sink.new) result }
+{
+    match topic {
+        Topic::Code(code) => print_code(alloc, code, sink),
+        Topic::Term(term) => print_term(alloc, term, sink),
+    }
 }
 
 fn reply_to<E: Engine>(engine: &E, alloc: Global, command: Command, input: &[u8]) -> Reply
@@ -281,7 +305,7 @@ pub fn perform<R: Source, W: Sink>(
     perform_by(&OneThread, alloc, command, source, sink)
 }
 
-/// The whole command, by workers where it asks for them: reads all input, and writes the reply.
+/// The whole command, on worker threads where it asks for them: reads all input, and writes the reply.
 pub fn perform_threads<T: Threads + Wait + Sync + Aside, R: Source, W: Sink>(
     rt: &T,
     alloc: Global,

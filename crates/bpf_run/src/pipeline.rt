@@ -173,7 +173,7 @@ fn disassembled(alloc: Global, pc: bool, text: &str) -> Reply
     }
 }
 
-/// What a command replies to the text that it read, on the thread that calls. The observer is told
+/// What a command replies to the text that it read, on the thread that calls. The observer hears
 /// how far a search is.
 pub fn reply<O: Observer>(alloc: Global, command: Command, text: &str, observer: &mut O) -> Reply
     requires { IsForOneThread command }
@@ -209,12 +209,12 @@ pub fn reply<O: Observer>(alloc: Global, command: Command, text: &str, observer:
             show_file(alloc, search, outcome, text, observer)
         }
         Command::Races(options) => race_file(alloc, options, text, observer),
-        Command::Check(search) => check_file(alloc, search, text, observer),
+        Command::Check(options) => check_file(alloc, &options, text, observer),
         Command::Expand { first, .. } => expand_file(alloc, first, text),
     }
 }
 
-/// What a command replies to the text that it read, by workers where it asks for them.
+/// What a command replies to the text that it read, on worker threads where it asks for them.
 pub fn reply_by_workers<T: Threads + Wait + Sync, O: Observer>(
     rt: &T,
     alloc: Global,

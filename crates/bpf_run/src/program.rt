@@ -14,7 +14,7 @@ ghost use Rattle.bpf_run.specs.declared.program.Misuse.{Misuse};
 ghost use Rattle.bpf_run.specs.declared.refusal.Refusal.{Refusal};
 
 use crate::conversing::{asked_talk, talk_named};
-use crate::explaining::{Failures, Question, Subject, explain};
+use crate::explaining::{Failures, Question, Subject, explain, warn};
 use crate::objects::{answer_as, perform_as};
 use crate::perform::{Performed, answer, print_page};
 use crate::progress::{Aside, Teller};
@@ -35,17 +35,17 @@ use std::thread::Threads;
 /// What is wrong with words that `clap` takes.
 #[derive(Clone, Copy, PartialEq, Eq, Debug)]
 pub enum Misuse {
-    /// The program doesn't print the code that is to be explained.
+    /// What is to be explained is no code that the program prints, nor another name with a page.
     Code,
     /// A text spells no schedule.
     Schedule,
-    /// Options stand there of which one rules out the other, as a schedule and workers.
+    /// Options are there of which one rules out the other, as a schedule and workers.
     TwoWays,
-    /// What is counted of a run by workers is asked for without workers.
+    /// What is counted of a run on worker threads is asked for without workers.
     Workers,
     /// Several files are named, and what goes with one alone.
     OneFile,
-    /// What is asked of a run stands without `--run`, or the listing beside it.
+    /// What is asked of a run is there without `--run`, or the listing beside it.
     Run,
     /// Maps of locks are named without `--races`, or an outcome is asked for beside it.
     Races,
@@ -71,9 +71,9 @@ impl Misuse {
 pub enum Ending {
     /// To exit with this status.
     Exit(Status),
-    /// The same, once what is told beside a command's answer is on standard error.
+    /// To exit with this status, once what is printed beside a command's answer is on standard error.
     Performed(Performed),
-    /// The same, and to explain what came of the command there.
+    /// To exit so, and to explain on standard error what came of the command.
     Explained(Question, Performed),
     /// To show what `clap` says: a fault of the words, help or the version.
     Shown(clap::Error),
@@ -84,7 +84,9 @@ pub enum Ending {
 }
 
 const NO_CODE: &str = "\
-no such code is printed: there are A1 to A6, E1 to E14, F1 to F6, G1 to G5, H1, J1 to J4, L1 to L10, S1 to S7 and X1
+no such code is printed: there are A1 to A6, E1 to E14, F1 to F6, G1 to G5, H1, J1 to J4, L1 to L11, S1 to S7 and X1;
+nor is it an error (ENOMEM, EEXIST, ENOENT, E2BIG, EINVAL, EBUSY), a flag (BPF_ANY, BPF_NOEXIST, BPF_EXIST),
+a helper (lookup, update, delete, cpu, or bpf_map_lookup_elem and the like) or `spare`
 
 For more information, try 'ebpf explain --help'.";
 
@@ -232,18 +234,12 @@ fn follow<T: Threads + Wait + Sync + Aside, R: Source, W: Sink, D: Terminal>(
                 rt, alloc, command, file, explain, json, source, sink, terminal,
             );
         }
-        Ok(
-            Request::CheckAll {
-                search,
-                files,
-                json,
-            },
-        ) => {
-            let mut teller = Teller::new(rt, search.progress);
-            let reply = check_files(alloc, &search, &files, source, &mut teller);
+        Ok(Request::CheckAll { check, files, json }) => {
+            let mut teller = Teller::new(rt, check.search.progress);
+            let reply = check_files(alloc, &check, &files, source, &mut teller);
             return Ending::Exit(answer_as(json, alloc, &reply, sink));
         }
-        Ok(Request::Page(code)) => return Ending::Exit(print_page(alloc, code, sink)),
+        Ok(Request::Page(topic)) => return Ending::Exit(print_page(alloc, topic, sink)),
         Err(CommandError::Shown(error)) => return Ending::Shown(error),
         Err(CommandError::NoCode) => return Ending::Misused(Misuse::Code),
         Err(CommandError::NoSchedule) => return Ending::Misused(Misuse::Schedule),
@@ -307,7 +303,7 @@ pub fn program<T: Threads + Wait + Sync + Aside, R: Source, W: Sink, D: Terminal
     }
 }
 
-/// Shows what `clap` says; the exit status, which tells a fault of the words whether or not it
+/// Shows what `clap` says; the exit status, which shows a fault of the words whether or not it
 /// could be shown.
 fn show<P: Print + Eprint>(rt: &P, error: &clap::Error) -> u8
     ensures fault { kind_of error.now ≢ kind.DisplayHelp → kind_of error.now ≢ kind.DisplayVersion
@@ -359,6 +355,7 @@ pub fn end<P: Print + Eprint>(rt: &P, alloc: Global, ending: Ending, failures: F
         Ending::Exit(status) => exit(rt, status),
         Ending::Performed(done) => {
             tell_stats(rt, &done);
+            warn(rt, alloc, &done);
             exit(rt, done.status)
         }
         Ending::Explained(question, done) => {

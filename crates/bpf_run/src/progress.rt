@@ -1,10 +1,10 @@
-//! How far a search is, told on standard error while it works.
+//! How far a search is, printed on standard error while it works.
 
 use bpf_command::Command;
 use bpf_explore::{Observer, Progress};
 use std::io::IsTerminal;
 
-/// Where something is told beside the answer.
+/// Where something is printed beside the answer.
 pub trait Aside {
     /// Whether somebody reads it as it comes.
     fn is_watched(&self) -> bool;
@@ -50,7 +50,8 @@ impl<T: Aside> Observer for Teller<'_, T> {
 /// Whether a command asks for it.
 pub(crate) fn asks_progress(command: &Command) -> bool {
     match command {
-        Command::Explore(search) | Command::Check(search) => search.progress,
+        Command::Explore(search) => search.progress,
+        Command::Check(options) => options.search.progress,
         Command::Show(options) => options.search.progress,
         Command::Races(options) => options.search.progress,
         _ => false,

@@ -1,11 +1,9 @@
 //! `ebpf explore --races`: every data race of a run file's jobs, whatever the order of the CPUs' turns.
 
-ghost use Rattle.std.specs.Prelude.{◌≡◌, ◌<◌, ◌≤◌, All, IfOk, map, string_bytes, vec_len};
-ghost use Rattle.bpf_mem.specs.Limits.{max_context};
-ghost use Rattle.bpf_cpu.specs.Task.{waiting};
+ghost use Rattle.std.specs.Prelude.{◌≡◌, IfOk, map, string_bytes};
 ghost use Rattle.bpf_file.specs.File.{file_of};
-ghost use Rattle.bpf_file.specs.Runnable.{IsRunnable};
-ghost use Rattle.bpf_jobs.specs.Printed.{first_world};
+ghost use Rattle.bpf_cpu.specs.Setup.{IsRunnable};
+ghost use Rattle.bpf_jobs.specs.Printed.{first_of};
 ghost use Rattle.bpf_races.specs.Races.{AreRaces};
 ghost use Rattle.bpf_run.specs.Racing.{IsRacesFile, TellsRaces, is_any_race};
 
@@ -13,15 +11,13 @@ use crate::refusal::Refusal;
 use crate::reply::Reply;
 use crate::running::file_in;
 use bpf_command::{RaceOptions, SearchOptions};
-use bpf_cpu::Job;
+use bpf_cpu::Setup;
 use bpf_explore::Observer;
 use bpf_file::RunFile;
-use bpf_loader::Program;
-use bpf_races::{Races, find_races, find_races_patiently, list_races, synced_maps};
-use bpf_shared::StoreShape;
+use bpf_races::{Part, Races, find_races, find_races_patiently, list_races, synced_parts};
 use std::alloc::{AllocError, Global};
 
-/// What is told of races.
+/// What is printed of races.
 struct Told {
     text: String,
     /// Whether there is one.
@@ -41,48 +37,37 @@ fn is_any_race(races: &Races) -> bool
 fn races_of<O: Observer>(
     alloc: Global,
     options: SearchOptions,
-    shape: StoreShape,
-    programs: Vec<Program>,
-    jobs: Vec<Job>,
-    sync: &[usize],
+    setup: Setup,
+    sync: &[Part],
     observer: &mut O,
 ) -> Result<Races, AllocError>
-    requires cpus { All (λ job. job.cpu < shape.cpus) jobs.items }
-    requires programs { All (λ job. job.program < vec_len programs) jobs.items }
-    requires contexts { All (λ job. vec_len job.context ≤ max_context) jobs.items }
-    ensures { IfOk result (λ r. AreRaces options.patient
-        (first_world shape programs.items (map waiting jobs.items)) sync.now r.list.items r.all
-        r.refused options.limit) }
+    requires { IsRunnable setup }
+    ensures { IfOk result (λ r. AreRaces options.patient (first_of setup) sync.now r.list.items
+        r.all r.refused options.limit) }
 {
     let limit = options.limit as usize;
     if options.patient {
-        find_races_patiently(alloc, shape, programs, jobs, sync, limit, observer)
+        find_races_patiently(alloc, setup, sync, limit, observer)
     } else {
-        find_races(alloc, shape, programs, jobs, sync, limit, observer)
+        find_races(alloc, setup, sync, limit, observer)
     }
 }
 
-/// What is told of the races of a file's jobs, but for those at values of these maps.
+/// What is printed of the races of a file's jobs, but for those at bytes that are left out.
 fn tell_races<O: Observer>(
     alloc: Global,
     options: SearchOptions,
-    sync: &[usize],
+    sync: &[Part],
     file: RunFile,
     observer: &mut O,
 ) -> Result<Told, AllocError>
-    requires { IsRunnable file }
+    requires { IsRunnable file.setup }
     ensures { IfOk result (λ told. TellsRaces options.patient options.limit (file_of file)
         sync.now (string_bytes told.text) told.raced told.all) }
 {
-    let RunFile {
-        shape,
-        names,
-        programs,
-        jobs,
-        ..
-    } = file;
-    let races = races_of(alloc, options, shape, programs, jobs, sync, observer)?;
-    let text = list_races(alloc, &names, &races)?;
+    let RunFile { setup, names, .. } = file;
+    let races = races_of(alloc, options, setup, sync, observer)?;
+    let text = list_races(alloc, &names, sync, &races)?;
     let raced = is_any_race(&races);
     let all = races.all;
     Ok(Told { text, raced, all })
@@ -103,12 +88,12 @@ pub fn race_file<O: Observer>(
         Ok(file) => file,
         Err(refusal) => return Reply::Refused(refusal),
     };
-    let numbers = match synced_maps(alloc, &file.names, &options.sync) {
-        Ok(Some(numbers)) => numbers,
+    let parts = match synced_parts(alloc, &file.names, &file.setup.shape, &options.sync) {
+        Ok(Some(parts)) => parts,
         Ok(None) => return Reply::Refused(Refusal::NoMap),
         Err(_) => return Reply::Refused(Refusal::OutOfMemory),
     };
-    match tell_races(alloc, options.search, &numbers, file, observer) {
+    match tell_races(alloc, options.search, &parts, file, observer) {
         Ok(Told { text, raced, all }) => Reply::Outcomes {
             text,
             stopped: raced,

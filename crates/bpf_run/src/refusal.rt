@@ -27,6 +27,8 @@ pub enum Refusal {
     Load(LoadError),
     /// A line of a run file, counted from 1.
     File(usize, Reason),
+    /// The comment of this line of a run file, counted from 1, is meant to expect something, and can't.
+    Comment(usize),
     /// No map of the run file has a name that was given.
     NoMap,
     /// The jobs that workers were to run found no memory before the first of them began.
@@ -50,6 +52,7 @@ impl Refusal {
             Refusal::Insn(error) => error.diagnostic(),
             Refusal::Load(error) => error.diagnostic(),
             Refusal::File(_, reason) => reason.diagnostic(),
+            Refusal::Comment(_) => Diagnostic::new(Code::L11),
             Refusal::NoMap => Diagnostic::new(Code::G3),
             Refusal::JobsOutOfMemory => Diagnostic::new(Code::J4),
             Refusal::OutOfMemory => Diagnostic::new(Code::L9),
@@ -66,6 +69,7 @@ impl fmt::Display for Refusal {
     fn fmt<W: fmt::Write>(&self, f: &mut fmt::Formatter<W>) -> fmt::Result {
         match *self {
             Refusal::File(line, reason) => write!(f, "line {line} {}", reason.diagnostic()),
+            Refusal::Comment(line) => write!(f, "line {line} {}", self.diagnostic()),
             other => f.write_fmt(other.diagnostic()),
         }
     }

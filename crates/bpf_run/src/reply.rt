@@ -15,7 +15,7 @@ pub enum Status {
     Failed,
     /// A program was run to a fault, or out of its budget; a test isn't ok; or a data race is there.
     Stopped,
-    /// Not all outcomes or races were found, or not all tests could be told.
+    /// Not all outcomes or races were found, or not all tests could be decided.
     Incomplete,
 }
 
@@ -36,7 +36,7 @@ impl Status {
     }
 }
 
-/// What a command comes to.
+/// What a command amounts to.
 #[derive(PartialEq, Eq, Debug, Drop)]
 pub enum Reply {
     /// A program was run.
@@ -70,7 +70,7 @@ pub enum Reply {
         /// Whether in one of them a job ended in a fault or out of budget, or a test isn't ok; of
         /// races whether there is one.
         stopped: bool,
-        /// Whether they are all, or all that tests ask was told.
+        /// Whether they are all, or all that tests ask was decided.
         all: bool,
     },
     /// The tests of several files.
@@ -80,7 +80,7 @@ pub enum Reply {
         refused: bool,
         /// Whether something isn't as expected.
         unmet: bool,
-        /// Whether all that is expected could be told.
+        /// Whether all that is expected could be decided.
         told: bool,
     },
     /// A search found no outcome of the number that was asked for.

@@ -1,12 +1,14 @@
-//! `ebpf run`: the jobs of a run file, in rounds on one thread or by workers.
+//! `ebpf run`: the jobs of a run file, in rounds on one thread or on worker threads.
 
 ghost use Rattle.std.specs.Prelude.{IfErr, IfOk, Ok, string_bytes};
 ghost use Rattle.bpf_file.specs.File.{File, file_of};
 ghost use Rattle.bpf_file.specs.Reading.{IsRunFile};
-ghost use Rattle.bpf_file.specs.Runnable.{IsRunnable};
+ghost use Rattle.bpf_cpu.specs.Setup.{IsRunnable};
 ghost use Rattle.bpf_sched.specs.Refusing.{AreWorkers};
-ghost use Rattle.bpf_run.specs.Running.{IsHistoryOfFile, IsJudgedOfFile, IsRunByWorkers, IsRunOfFile, IsToldBy, RefusesFile};
+ghost use Rattle.bpf_run.specs.Judging.{IsJudgedOfFile};
+ghost use Rattle.bpf_run.specs.Running.{IsHistoryBy, IsHistoryOfFile, IsRunByWorkers, IsRunOfFile, IsToldBy, RefusesFile};
 
+use crate::comments::{Reading, expected_in};
 use crate::refusal::Refusal;
 use crate::reply::Reply;
 use bpf_check::{Judged, check_printed};
@@ -21,7 +23,7 @@ use std::thread::Threads;
 /// The run file that a text says.
 pub(crate) fn file_in(alloc: Global, text: &str) -> Result<RunFile, Refusal>
     ensures said { IfOk result (λ f. IsRunFile text.now (Ok (file_of f))) }
-    ensures fits { IfOk result IsRunnable }
+    ensures fits { IfOk result (λ f. IsRunnable f.setup) }
     ensures refused { IfErr result (RefusesFile text.now) }
 {
     match read_file(alloc, text.as_bytes()) {
@@ -31,7 +33,7 @@ pub(crate) fn file_in(alloc: Global, text: &str) -> Result<RunFile, Refusal>
     }
 }
 
-/// What is told of the jobs that a text says, by these turns and then in rounds.
+/// What is printed of the jobs that a text says, by these turns and then in rounds.
 #[tactic(auto, using(crate::proofs::FreshFiles::told))]
 fn report_by(
     alloc: Global,
@@ -45,14 +47,8 @@ fn report_by(
     ensures refused { IfErr result (RefusesFile text.now) }
 {
     let file = file_in(alloc, text)?;
-    let RunFile {
-        shape,
-        names,
-        programs,
-        jobs,
-        ..
-    } = file;
-    match run_jobs_by(alloc, shape, &names, programs, jobs, by, keys, maps) {
+    let RunFile { setup, names, .. } = file;
+    match run_jobs_by(alloc, setup, &names, by, keys, maps) {
         Ok(report) => Ok(report),
         Err(_) => Err(Refusal::OutOfMemory),
     }
@@ -68,22 +64,51 @@ pub fn run_file(alloc: Global, by: &[(u8, u64)], keys: bool, maps: bool, text: &
     }
 }
 
-/// `ebpf run --check`: whether these turns and rounds come to what the file's comments expect.
+/// `ebpf run --check`: whether these turns and rounds give what the file's comments expect.
 pub fn judge_file(alloc: Global, by: &[(u8, u64)], keys: bool, text: &str) -> Reply
     ensures { IsJudgedOfFile by.now keys text.now result }
 {
+    let reading = Reading {
+        lists: keys,
+        ends: true,
+        lenient: false,
+    };
+    let expected = match expected_in(alloc, reading, text) {
+        Ok(expected) => expected,
+        Err(refusal) => return Reply::Refused(refusal),
+    };
     let report = match report_by(alloc, by, keys, true, text) {
         Ok(report) => report,
         Err(refusal) => return Reply::Refused(refusal),
     };
-    match check_printed(alloc, text.as_bytes(), report.text.as_str()) {
+    match check_printed(alloc, &expected, report.text.as_str()) {
         Ok(Judged { text, refuted }) => Reply::Jobs(text, refuted),
         Err(_) => Reply::Refused(Refusal::OutOfMemory),
     }
 }
 
-/// `ebpf run --events`: these turns and then rounds, with all that happens in them.
+/// All that happens in the turns of jobs that a text says, by these turns and then in rounds.
 #[tactic(auto, using(crate::proofs::FreshFiles::history))]
+pub(crate) fn history_by(
+    alloc: Global,
+    by: &[(u8, u64)],
+    keys: bool,
+    maps: bool,
+    text: &str,
+) -> Result<Report, Refusal>
+    ensures told { IfOk result (λ report. (f : File) × IsRunFile text.now (Ok f)
+        × IsHistoryBy by.now keys maps f (string_bytes report.text) report.stopped) }
+    ensures refused { IfErr result (RefusesFile text.now) }
+{
+    let file = file_in(alloc, text)?;
+    let RunFile { setup, names, .. } = file;
+    match run_with_history(alloc, setup, &names, by, keys, maps) {
+        Ok(report) => Ok(report),
+        Err(_) => Err(Refusal::OutOfMemory),
+    }
+}
+
+/// `ebpf run --events`: these turns and then rounds, with all that happens in them.
 pub fn run_file_with_history(
     alloc: Global,
     by: &[(u8, u64)],
@@ -93,21 +118,12 @@ pub fn run_file_with_history(
 ) -> Reply
     ensures { IsHistoryOfFile by.now keys maps text.now result }
 {
-    let file = match file_in(alloc, text) {
-        Ok(file) => file,
+    let report = match history_by(alloc, by, keys, maps, text) {
+        Ok(report) => report,
         Err(refusal) => return Reply::Refused(refusal),
     };
-    let RunFile {
-        shape,
-        names,
-        programs,
-        jobs,
-        ..
-    } = file;
-    match run_with_history(alloc, shape, &names, programs, jobs, by, keys, maps) {
-        Ok(Report { text, stopped }) => Reply::Jobs(text, stopped),
-        Err(_) => Reply::Refused(Refusal::OutOfMemory),
-    }
+    let Report { text, stopped } = report;
+    Reply::Jobs(text, stopped)
 }
 
 /// `ebpf run --workers`, and what workers came to at the maps, where that is asked for.

@@ -1,14 +1,12 @@
-//! `ebpf debug`: a run file, and commands behind it.
+//! `ebpf debug`: a run file, and commands after it.
 
-ghost use Rattle.std.specs.Prelude.{◌≡◌, ◌&&◌, ◌<◌, ◌≤◌, All, IfOk, IsOkUnless, None, Some, [], is_err, map, string_bytes, vec_len};
+ghost use Rattle.std.specs.Prelude.{◌≡◌, ◌&&◌, IfOk, IsOkUnless, None, Some, [], is_err, map, string_bytes};
 ghost use Rattle.std.specs.List.{list_any};
 ghost use Rattle.std.specs.Option.{option_copied};
 ghost use Rattle.bpf_lines.specs.Lines.{lines_behind};
-ghost use Rattle.bpf_mem.specs.Limits.{max_context};
-ghost use Rattle.bpf_cpu.specs.Task.{waiting};
 ghost use Rattle.bpf_machine.specs.Machine.{Shows};
-ghost use Rattle.bpf_jobs.specs.Printed.{first_world};
-ghost use Rattle.bpf_file.specs.Runnable.{IsRunnable};
+ghost use Rattle.bpf_jobs.specs.Printed.{first_of};
+ghost use Rattle.bpf_cpu.specs.Setup.{IsRunnable};
 ghost use Rattle.bpf_debug.specs.Script.{answer_of};
 ghost use Rattle.bpf_file.specs.File.{file_of};
 ghost use Rattle.bpf_debug.specs.Session.{IsShown};
@@ -16,21 +14,19 @@ ghost use Rattle.bpf_run.specs.Script.{AreShown, IsDebugReply, IsCut, IsScriptOf
 
 use crate::refusal::Refusal;
 use crate::reply::Reply;
-use bpf_cpu::Job;
+use bpf_cpu::Setup;
 use bpf_debug::{Answer, Session, run_script};
 use bpf_explore::copy_shape;
 use bpf_file::{FileError, RunFile, read_file};
 use bpf_jobs::{has_any_stopped, make_machine};
 use bpf_lines::lines::{fields, first_line};
-use bpf_loader::Program;
-use bpf_shared::StoreShape;
 use std::alloc::{AllocError, Global};
 
 /// An input that is cut in two.
 #[derive(Clone, Copy)]
 struct Parts<'a> {
     file: &'a [u8],
-    /// What stands behind the line that ends the file, if it has one and more lines follow.
+    /// What is after the line that ends the file, if it has one and more lines follow.
     commands: Option<&'a [u8]>,
 }
 
@@ -84,45 +80,30 @@ pub fn debug_file(alloc: Global, echo: bool, strict: bool, input: &str) -> Reply
     }
 }
 
-/// A session over a new store of this shape, whose maps have these names, and jobs that all wait.
+/// A session over a new store, whose maps have these names, and jobs that all wait.
 /// Want of memory is the only refusal.
-fn make_session(
-    alloc: Global,
-    shape: StoreShape,
-    names: Vec<String>,
-    programs: Vec<Program>,
-    jobs: Vec<Job>,
-) -> Result<Session, AllocError>
-    requires cpus { All (λ job. job.cpu < shape.cpus) jobs.items }
-    requires programs { All (λ job. job.program < vec_len programs) jobs.items }
-    requires contexts { All (λ job. vec_len job.context ≤ max_context) jobs.items }
-    ensures machine { IfOk result (λ s. Shows s.machine
-        (first_world shape programs.items (map waiting jobs.items))) }
+fn make_session(alloc: Global, setup: Setup, names: Vec<String>) -> Result<Session, AllocError>
+    requires { IsRunnable setup }
+    ensures machine { IfOk result (λ s. Shows s.machine (first_of setup)) }
     ensures first { IfOk result (λ s. s.first ≡ s.machine) }
     ensures names { IfOk result (λ s. s.names ≡ map (λ n. string_bytes n) names.items) }
     ensures breaks { IfOk result (λ s. s.breaks ≡ []) }
     ensures watch { IfOk result (λ s. s.watch ≡ None) }
     ensures course { IfOk result (λ s. s.course ≡ Some []) }
 {
-    let copy = copy_shape(alloc, &shape)?;
-    let machine = make_machine(alloc, copy, programs, jobs)?;
-    let session = Session::new(alloc, shape, machine, names)?;
+    let copy = copy_shape(alloc, &setup.shape)?;
+    let machine = make_machine(alloc, setup)?;
+    let session = Session::new(alloc, copy, machine, names)?;
     Ok(session)
 }
 
 /// The session over the machine of a run file, at its beginning. Want of memory is the only refusal.
 pub fn open_session(alloc: Global, file: RunFile) -> Result<Session, AllocError>
-    requires { IsRunnable file }
+    requires { IsRunnable file.setup }
     ensures { IfOk result (λ s. IsShown s (scene_of (file_of file))) }
 {
-    let RunFile {
-        shape,
-        names,
-        programs,
-        jobs,
-        ..
-    } = file;
-    let session = make_session(alloc, shape, names, programs, jobs)?;
+    let RunFile { setup, names, .. } = file;
+    let session = make_session(alloc, setup, names)?;
     Ok(session)
 }
 
@@ -157,17 +138,11 @@ fn shown_lines(
 
 /// What commands are answered over the machine of a run file.
 fn debug(alloc: Global, echo: bool, strict: bool, file: RunFile, commands: Option<&[u8]>) -> Reply
-    requires { IsRunnable file }
+    requires { IsRunnable file.setup }
     ensures { IsDebugReply echo strict file (lines_behind (option_copied commands.entry)) result }
 {
-    let RunFile {
-        shape,
-        names,
-        programs,
-        jobs,
-        ..
-    } = file;
-    let Ok(mut session) = make_session(alloc, shape, names, programs, jobs) else {
+    let RunFile { setup, names, .. } = file;
+    let Ok(mut session) = make_session(alloc, setup, names) else {
         return Reply::Refused(Refusal::OutOfMemory);
     };
     let Ok(lines) = shown_lines(alloc, echo, commands) else {

@@ -5,18 +5,20 @@ ghost use Rattle.bpf_check.specs.Listing.{plan_text};
 ghost use Rattle.bpf_run.specs.Commands.{RefusesInput};
 ghost use Rattle.bpf_run.specs.Several.{AreChecked, AreTold, IsPart, IsTextPart, counted, no_part, refused_part, seen, with_part};
 
-use crate::checking::{is_told, is_unmet};
-use crate::exploring::found_in;
+use crate::checking::{is_told, is_unmet, reading_of};
+use crate::comments::expected_in;
+use crate::exploring::findings_in;
 use crate::input::{InputError, MAX_INPUT, read_whole};
 use crate::refusal::Refusal;
 use crate::reply::Reply;
 use crate::stream::Source;
+use crate::threading::{threads_in, with_notes};
 use bpf_check::{CheckedPart, check_named, plan};
-use bpf_command::SearchOptions;
+use bpf_command::CheckOptions;
 use bpf_explore::Observer;
 use std::alloc::{AllocError, Global};
 
-/// What is told of a file among several.
+/// What is printed of a file among several.
 #[derive(Drop)]
 struct FilePart {
     text: String,
@@ -24,7 +26,7 @@ struct FilePart {
     refused: bool,
     /// Whether something isn't as expected.
     unmet: bool,
-    /// Whether all that is expected could be told.
+    /// Whether all that is expected could be decided.
     told: bool,
 }
 
@@ -42,27 +44,37 @@ fn refused_part(alloc: Global, name: &str, refusal: Refusal) -> Result<FilePart,
     })
 }
 
-/// The tests of a text, behind so many of the files before it, or its first refusal.
+/// The tests of a text, after the n tests of the files before it, or its first refusal.
 fn text_part<O: Observer>(
     alloc: Global,
-    options: SearchOptions,
+    options: &CheckOptions,
     name: &str,
     before: usize,
     text: &str,
     observer: &mut O,
 ) -> Result<FilePart, AllocError>
     ensures { IfOk result (λ p.
-        IsTextPart options.patient options.limit name.now before text.now (seen p)) }
+        IsTextPart options.now name.now before text.now (seen p)) }
 {
-    let explored = match found_in(alloc, options, text, observer) {
-        Ok(explored) => explored,
+    let expected = match expected_in(alloc, reading_of(options), text) {
+        Ok(expected) => expected,
+        Err(refusal) => return refused_part(alloc, name, refusal),
+    };
+    let threads = match threads_in(alloc, text) {
+        Ok(threads) => threads,
+        Err(refusal) => return refused_part(alloc, name, refusal),
+    };
+    let findings = match findings_in(alloc, &options.search, text, observer) {
+        Ok(findings) => findings,
         Err(refusal) => return refused_part(alloc, name, refusal),
     };
     let CheckedPart {
         text,
         tests,
         conclusion,
-    } = check_named(alloc, name, before, text.as_bytes(), &explored)?;
+    } = check_named(alloc, name, before, &expected, &findings)?;
+    let mark = format!(in alloc; "{name}: ")?;
+    let text = with_notes(alloc, &mark, threads, &text)?;
     Ok(FilePart {
         text,
         tests,
@@ -72,10 +84,10 @@ fn text_part<O: Observer>(
     })
 }
 
-/// What is told of a file of these bytes.
+/// What is printed of a file of these bytes.
 fn bytes_part<O: Observer>(
     alloc: Global,
-    options: SearchOptions,
+    options: &CheckOptions,
     name: &str,
     before: usize,
     bytes: &[u8],
@@ -83,7 +95,7 @@ fn bytes_part<O: Observer>(
 ) -> Result<FilePart, AllocError>
     requires { length bytes.now ≤ MAX_INPUT }
     ensures { IfOk result (λ p.
-        IsPart options.patient options.limit name.now before bytes.now (seen p)) }
+        IsPart options.now name.now before bytes.now (seen p)) }
 {
     match str::from_utf8(bytes) {
         Ok(text) => text_part(alloc, options, name, before, text, observer),
@@ -106,17 +118,17 @@ fn bytes_of<R: Source>(alloc: Global, name: &str, source: &mut R) -> Result<Vec<
     }
 }
 
-/// What is told of a file, behind so many tests of the files before it.
+/// What is printed of a file, after the n tests of the files before it.
 fn part_of<R: Source, O: Observer>(
     alloc: Global,
-    options: SearchOptions,
+    options: &CheckOptions,
     name: &str,
     before: usize,
     source: &mut R,
     observer: &mut O,
 ) -> Result<FilePart, AllocError>
     ensures part { IfOk result (λ p. IfSome (R.file source.old name.now)
-        (λ bytes. IsPart options.patient options.limit name.now before bytes (seen p))) }
+        (λ bytes. IsPart options.now name.now before bytes (seen p))) }
     ensures files { R.file source.new ≡ R.file source.old }
 {
     match bytes_of(alloc, name, source) {
@@ -125,7 +137,7 @@ fn part_of<R: Source, O: Observer>(
     }
 }
 
-/// What is told of some files.
+/// What is printed of some files.
 #[derive(Drop)]
 struct Tally {
     text: String,
@@ -136,7 +148,7 @@ struct Tally {
 }
 
 impl Tally {
-    /// Puts what is told of one more behind it.
+    /// Puts what is printed of one more after it.
     fn add(&mut self, part: &FilePart) -> Result<(), AllocError>
         ensures { OnOk result (counted self.new ≡ with_part (counted self.old) (seen part.now)) }
     {
@@ -150,15 +162,15 @@ impl Tally {
     }
 }
 
-/// What is told of all files.
+/// What is printed of all files.
 fn tell_all<R: Source, O: Observer>(
     alloc: Global,
-    options: &SearchOptions,
+    options: &CheckOptions,
     names: &[String],
     source: &mut R,
     observer: &mut O,
 ) -> Result<Tally, AllocError>
-    ensures { IfOk result (λ t. AreTold options.now.patient options.now.limit (R.file source.old)
+    ensures { IfOk result (λ t. AreTold options.now (R.file source.old)
         (map string_bytes names.now) no_part (counted t)) }
 {
     let mut tally = Tally {
@@ -169,11 +181,6 @@ fn tell_all<R: Source, O: Observer>(
         told: true,
     };
     for name in names {
-        let options = SearchOptions {
-            limit: options.limit,
-            patient: options.patient,
-            progress: options.progress,
-        };
         let part = part_of(alloc, options, name.as_str(), tally.tests, source, observer)?;
         tally.add(&part)?;
     }
@@ -193,12 +200,12 @@ fn planned(alloc: Global, tally: &Tally) -> Result<String, AllocError>
 /// `ebpf check` of several files.
 pub fn check_files<R: Source, O: Observer>(
     alloc: Global,
-    options: &SearchOptions,
+    options: &CheckOptions,
     names: &[String],
     source: &mut R,
     observer: &mut O,
 ) -> Reply
-    ensures { AreChecked options.now.patient options.now.limit (R.file source.old)
+    ensures { AreChecked options.now (R.file source.old)
         (map string_bytes names.now) result }
 {
     let Ok(tally) = tell_all(alloc, options, names, source, observer) else {

@@ -1,4 +1,4 @@
--- How the outcomes of one CPU's jobs come to their places.
+-- How the outcomes of one CPU's jobs get to their places.
 use Rattle.std.proofs.Common.{◌≡◌, ◌≢◌, ℕ, ◌+◌, ◌<◌, ◌==◌, Bool, true, false, List, [], ◌∷◌, ◌++◌, ap, sym, ◌∙◌, length, map, take, set, get_or, cond, arith}
 use Rattle.std.proofs.lemmas.List.{append-nil, get_or-map, length-map, map-append, length-set, take_more}
 use Rattle.std.proofs.lemmas.List.Filters.{length-filter_more}

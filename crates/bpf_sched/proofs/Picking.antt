@@ -36,7 +36,7 @@ module _ {A B : Type 0} (test : A → Bool) where
   picked-set (x ∷ xs) (z ∷ ys) (suc i) y d inside same off =
       ap (λ (l : List B). cond (test x) (z ∷ l) l) (picked-set xs ys i y d (omega arith) (omega arith) off)
 
-  -- of one place more, where what stands there is set
+  -- of one place more, where what is there is set
   pub picked_more_set : (xs : List A) (ys : List B) (i : ℕ) (y : B) (d : A) → i < length xs → length xs ≡ length ys
       → picked test (take (i + 1) xs) (take (i + 1) (set ys i y)) ≡ picked test (take i xs) (take i ys) ++ cond (test (get_or xs i d)) (y ∷ []) []
   picked_more_set xs ys i y d inside same =
@@ -60,6 +60,6 @@ module _ {A : Type 0} (test : A → Bool) where
     length-append (filter test (take n xs)) (filter test (drop n xs)),
   )
 
-  -- behind the places before it one more passes
+  -- after the places before it one more passes
   pub one_left : (xs : List A) (i : ℕ) (d : A) → i < length xs → test (get_or xs i d) ≡ true → length (filter test (take i xs)) < length (filter test xs)
   one_left xs i d inside passes = omega (arith, few xs (i + 1), length-filter_more test xs i d inside, ap (λ b. cond {A = ℕ} b 1 0) passes)

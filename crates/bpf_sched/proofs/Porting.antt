@@ -88,7 +88,7 @@ module _ {G : Type 0} (serving : G → Serving) (t : Shown) (cpu : ℕ) (program
       (notes-append t.about all.ran (keys_events 0 lists) (serving x).port.known (serving all.last).port.known (serving y).port.known
       (noted_by_all x all.last olds news all.ran of all.runs) (chain_notes all.last y (keys_events 0 lists) there all.way))
 
--- a worker whose port was behind a gate's store has worked
+-- a worker whose port was after a gate's store has worked
 pub worked : {G : Type 0} (x y : G) (serving : G → Serving) (t : Shown) (programs : List Loaded) (w v : Worker) (p q : Port) (events : List Event)
     → w.port ≡ Some p → v.port ≡ Some q → (serving x).table ≡ t → (serving x).port ≡ p → p.known.cpu ≡ w.workload.cpu → q ≡ (serving y).port → IsPortOf (serving y).table q
     → RunsAndLists (Chain (λ a b log. ExtendsHistory (serving a) (serving b) log) (λ a. serves (serving a)) w.workload.cpu) (λ a. IsPortWorn (serving a) w.workload.cpu) (serving x).table.about.shape.maps

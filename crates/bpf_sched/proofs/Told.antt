@@ -54,7 +54,7 @@ module _ {T U : Type 0} (is : T → Type 0) (seen_as : T → U) (moves : T → T
       let told = on all.last y (keys_events 0 lists) ran.0 all.way in
       (told.0, record { ran = all.ran; cut = all.cut; last = seen_as all.last; runs = ran.1; way = told.1 })
 
--- what a CPU did with its jobs explains how they ended, and other events may come behind
+-- what a CPU did with its jobs explains how they ended, and other events may come after
 pub explains_jobs : (shapes : List MapShape) (count : ℕ) (programs : List Loaded) (before after : List Event) (tasks : List Task) (news : List Assignment) (events last : List Event)
     → RunsAll extends (IsWorn count) shapes programs before (map assigned tasks) news events after
     → ExplainsJobs shapes count programs before tasks (map outcome_of news) last (events ++ last)
@@ -77,7 +77,7 @@ ran_all moves worn shapes programs x y [] (n ∷ news) events all = absurd all
 ran_all moves worn shapes programs x y (o ∷ olds) [] events all = absurd all
 ran_all moves worn shapes programs x y (o ∷ olds) (n ∷ news) events (z, mine, rest, cut, run, all) = omega (arith, ran_all moves worn shapes programs z y olds news rest all)
 
--- all of its events are behind those that it had before
+-- all of its events are after those that it had before
 pub all_behind : (worn : List Event → Type 0) (shapes : List MapShape) (programs : List Loaded) (before after : List Event) (olds news : List Assignment) (events : List Event)
     → RunsAll extends worn shapes programs before olds news events after → extends before after events
 all_behind worn shapes programs before after [] [] events all = all.1 ∙ (sym (append-nil before) ∙ ap (λ (l : List Event). before ++ l) (sym all.0))

@@ -27,7 +27,7 @@ waiting_context (Ended outcome) = []
 abbrev pub IsWorn : ℕ → List Event → Type 0
 IsWorn count before = count + turns_of before ≡ 2 ^ 64 - 2
 
--- these events of the job's CPU, behind those that it had before, explain how the job ended
+-- these events of the job's CPU, after those that it had before, explain how the job ended
 pub record ExplainsJob (shapes : List MapShape) (count : ℕ) (programs : List Loaded) (task : Task)
     (end : Outcome) (before events : List Event) : Type 0 where
   pub program : Loaded
@@ -37,7 +37,7 @@ pub record ExplainsJob (shapes : List MapShape) (count : ℕ) (programs : List L
 
 -- ---- lists of keys
 
--- listings of the maps from the m-th on, one behind the other, which find these keys
+-- listings of the maps from the m-th on, one after the other, which find these keys
 abbrev pub keys_events : ℕ → List (List (List ℕ)) → List Event
 keys_events m [] = []
 keys_events m (found ∷ more) = Keys m found ∷ keys_events (suc m) more
@@ -53,7 +53,7 @@ listed_maps true maps (task ∷ tasks) = maps
 abbrev pub jobs_of : ℕ → List Task → List Task
 jobs_of c tasks = filter (λ task. task.cpu == c) tasks
 
--- of the second list, what stands at the places where the first passes the test
+-- of the second list, what is at the places where the first passes the test
 abbrev pub picked : {A B : Type 0} → (A → Bool) → List A → List B → List B
 picked test [] ys = []
 picked test (x ∷ xs) [] = []

@@ -9,7 +9,7 @@ pub record AreWorkers (workers : ℕ) : Type 0 where
   pub some : 0 < workers
   pub few : workers ≤ 16
 
--- each job's CPU is one of so many
+-- each job's CPU is one of n
 abbrev pub AreHere : ℕ → List Job → Type 0
 AreHere cpus jobs = All (λ job. job.cpu < cpus) jobs
 

@@ -21,14 +21,14 @@ pub record IsFor (keys : Bool) (maps : List MapShape) (tasks : List Task) (cpu :
   pub lists : map (λ list. list.shape) w.workload.lists.items
       ≡ listed_maps keys maps (jobs_of cpu tasks)
 
--- so have these, each of the first so many CPUs
+-- so have these, each of the first n CPUs
 pub record AreFor (keys : Bool) (maps : List MapShape) (tasks : List Task) (cpus : ℕ)
     (workers : List Worker) : Type 0 where
   pub size : length workers ≡ cpus
   pub each : (c : ℕ) (d : Worker) → c < cpus
       → IsFor keys maps tasks c (slice_index_or workers c d)
 
--- the worker has the port of its CPU, which is in no run, and jobs of so many programs
+-- the worker has the port of its CPU, which is in no run, and jobs of n programs
 pub record IsReadyWorker (t : Shown) (programs : ℕ) (w : Worker) : Type 0 where
   pub port : Port
   pub has : w.port ≡ Some port
@@ -66,6 +66,6 @@ abbrev pub found_in : Option (Vec Listed Global) → List (List (List ℕ))
 found_in None = []
 found_in (Some lists) = map (λ list. list.keys) lists.items
 
--- what each CPU has listed, by map, where lists are told by CPU
+-- what each CPU has listed, by map, where lists are printed by CPU
 abbrev pub listed_by : List (Vec Listed Global) → ℕ → List (List (List ℕ))
 listed_by lists c = found_in (slice_get lists c)

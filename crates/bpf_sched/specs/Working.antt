@@ -24,7 +24,7 @@ assigned task = record {
 abbrev pub outcome_of : Assignment → Outcome
 outcome_of a = a.outcome
 
--- a job of this CPU that wasn't run yet, of one of so many programs
+-- a job of this CPU that wasn't run yet, of one of n programs
 pub record IsNew (cpu programs : ℕ) (a : Assignment) : Type 0 where
   pub context : List ℕ
   pub fresh : a.cpu ≡ start cpu context

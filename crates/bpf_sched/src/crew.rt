@@ -62,7 +62,7 @@ pub(crate) fn dismiss(
     (ports, lists)
 }
 
-/// Runs all workers, in so many threads at most. Where a thread can't be started, the others do its
+/// Runs all workers, in n threads at most. Where a thread can't be started, the others do its
 /// work.
 pub(crate) fn work_all<R: Threads + Wait + Sync, G: Gate + Sync>(
     rt: &R,
@@ -96,8 +96,8 @@ pub struct Report {
 }
 
 /// Runs all jobs over the ports of a store that no CPU has called yet, each CPU's in their order,
-/// by so many workers at most; and where lists are asked for, each CPU with jobs lists all maps'
-/// keys behind them. It takes no memory.
+/// by n workers at most; and where lists are asked for, each CPU with jobs lists all maps'
+/// keys after them. It takes no memory.
 pub fn run_ports<R: Threads + Wait + Sync, G: Gate + Sync>(
     rt: &R,
     table: HopTable,

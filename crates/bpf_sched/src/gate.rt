@@ -18,7 +18,7 @@ impl Gate for NoGate {
     fn after_helper(&self, _cpu: u8) {}
 }
 
-/// A store whose lookups, updates and deletions stand between two calls of a gate. All that a store
+/// A store whose lookups, updates and deletions are between two calls of a gate. All that a store
 /// promises of its events it promises too.
 pub struct Gated<'a, S: Shared, G: Gate> {
     store: S,
@@ -28,7 +28,7 @@ pub struct Gated<'a, S: Shared, G: Gate> {
 impl<'a, S: Shared, G: Gate> Gated<'a, S, G> {
     ghost use Rattle.std.specs.Prelude.{◌≡◌};
 
-    /// The store, behind the gate.
+    /// The store, after the gate.
     pub fn new(store: S, gate: &'a G) -> Gated<'a, S, G>
         ensures { result.store ≡ store }
     {

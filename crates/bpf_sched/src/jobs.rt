@@ -1,4 +1,4 @@
-//! Jobs over a store, by workers.
+//! Jobs over a store, on worker threads.
 
 ghost use Rattle.std.specs.Prelude.{◌≡◌, ◌<◌, ◌≤◌, All, IfErr, IfOk, IsFalse, IsTrue, OnOk, length, map, vec_len};
 ghost use Rattle.bpf_mem.specs.Limits.{max_context};
@@ -23,7 +23,7 @@ use std::thread::Threads;
 /// At most: a store has no more CPUs.
 const MAX_WORKERS: usize = 16;
 
-/// Whether each job's CPU is one of so many.
+/// Whether each job's CPU is one of n.
 fn are_here(cpus: u8, jobs: &[Job]) -> bool
     ensures here { IsTrue result → AreHere cpus jobs.now }
     ensures outside { IsFalse result → HasOutside cpus jobs.now }
@@ -36,7 +36,7 @@ fn are_here(cpus: u8, jobs: &[Job]) -> bool
     true
 }
 
-/// Why so many workers can't run these jobs on so many CPUs, but for want of memory.
+/// Why n workers can't run these jobs on n CPUs, but since memory ran out.
 fn check(cpus: u8, workers: usize, jobs: &[Job]) -> Result<(), SchedError>
     ensures workers { OnOk result (AreWorkers workers) }
     ensures cpus { OnOk result (AreHere cpus jobs.now) }
@@ -54,8 +54,8 @@ fn check(cpus: u8, workers: usize, jobs: &[Job]) -> Result<(), SchedError>
     Ok(())
 }
 
-/// Runs all jobs over the store, each CPU's in their order, by so many workers; and where lists of
-/// keys are asked for, each CPU with jobs lists all maps behind them. One history of the store
+/// Runs all jobs over the store, each CPU's in their order, by n workers; and where lists of
+/// keys are asked for, each CPU with jobs lists all maps after them. One history of the store
 /// explains how they all ended and what was listed. Where it is refused no job is begun, and the
 /// store is handed back as it was.
 pub fn run_jobs<R: Threads + Wait + Sync, G: Gate + Sync>(

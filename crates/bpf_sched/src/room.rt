@@ -83,7 +83,7 @@ fn assign_lists(
     }
 }
 
-/// A worker for each of so many CPUs.
+/// A worker for each of n CPUs.
 fn enlist(
     alloc: Global,
     cpus: u8,
@@ -106,7 +106,7 @@ fn enlist(
     Ok(workers)
 }
 
-/// Room for how so many jobs end.
+/// Room for how n jobs end.
 fn blank(alloc: Global, jobs: usize) -> Result<Vec<Outcome>, AllocError>
     ensures { IfOk result (λ v. vec_len v ≡ jobs) }
 {
@@ -118,7 +118,7 @@ fn blank(alloc: Global, jobs: usize) -> Result<Vec<Outcome>, AllocError>
 }
 
 impl Room {
-    /// All that these jobs take, on a store of so many CPUs with these maps; and all that lists of
+    /// All that these jobs take, on a store of n CPUs with these maps; and all that lists of
     /// the maps' keys take, where they are asked for.
     pub fn new(
         alloc: Global,

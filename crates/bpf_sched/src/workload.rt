@@ -1,4 +1,4 @@
-//! All jobs of one CPU, and the lists of keys that it makes behind them.
+//! All jobs of one CPU, and the lists of keys that it makes after them.
 
 ghost use Rattle.std.specs.Prelude.{◌≡◌, All, false, length, List, map, true};
 ghost use Rattle.bpf_shared.specs.declared.events.Event.{Event};

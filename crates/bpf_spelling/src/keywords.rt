@@ -23,7 +23,7 @@ pub enum Keyword {
     Lock,
     /// How many bytes are moved.
     Unsigned(Size),
-    /// The same, sign-extended.
+    /// How many bytes are moved, sign-extended.
     Extended(SignedSize),
     Swap(ByteSwap, SwapWidth),
     FetchAdd,

@@ -56,8 +56,19 @@ pub trait Terminal {
         → passes x z (ys ++ xs) };
 }
 
-/// Standard input and output. Each call is one call of the one or the other; before each read a
-/// prompt is on standard error where somebody types.
+/// What is said on standard error to somebody who types what is no command.
+const NO_COMMAND: &str =
+    "  `help` prints the commands: C is a CPU, as in `step 0`; `quit` or Ctrl-D leaves\n";
+
+/// Whether somebody who types this line leaves.
+fn is_leave(line: &[u8]) -> bool {
+    let word = line.trim_ascii();
+    word == b"quit".as_slice() || word == b"exit".as_slice() || word == b"q".as_slice()
+}
+
+/// Standard input and output. Each call is one call of the one or the other. Where somebody types,
+/// a prompt is on standard error before each read, a hint after a command that is none, and a line
+/// `quit`, `exit` or `q` is the end of what is read.
 #[derive(Drop)]
 pub struct Console<'a, P: Eprint, R: Read, W: Write> {
     rt: &'a P,
@@ -65,6 +76,8 @@ pub struct Console<'a, P: Eprint, R: Read, W: Write> {
     output: W,
     /// Whether somebody types.
     prompts: bool,
+    /// Whether what was typed is no command, which isn't said yet.
+    is_refused: bool,
     /// Why a read failed, if one did.
     failure: Option<io::Error>,
     failed: bool,
@@ -81,6 +94,7 @@ impl<'a, P: Eprint, R: Read, W: Write> Console<'a, P, R, W> {
             input,
             output,
             prompts,
+            is_refused: false,
             failure: None,
             failed: false,
         }
@@ -103,9 +117,15 @@ impl<P: Eprint, R: Read, W: Write> Terminal for Console<'_, P, R, W> {
         if self.prompts {
             let _ = eprint!(self.rt; "ebpf> ");
         }
-        let read = self.input.read(room);
+        let mut read = self.input.read(room);
         if let Err(error) = &read {
             self.failure = Some(*error);
+        }
+        if self.prompts
+            && let Ok(count) = read
+            && room.get(..count).is_some_and(is_leave)
+        {
+            read = Ok(0);
         }
         read
     }
@@ -116,12 +136,17 @@ impl<P: Eprint, R: Read, W: Write> Terminal for Console<'_, P, R, W> {
             written = Err(io::Error::from(ErrorKind::WriteZero));
         }
         self.failed = written.is_err();
+        self.is_refused = self.prompts && bytes == b"refused G4\n".as_slice();
         written
     }
 
     fn flush(&mut self) -> io::Result<()> {
         let flushed = self.output.flush();
         self.failed = flushed.is_err();
+        if self.is_refused {
+            self.is_refused = false;
+            let _ = eprint!(self.rt; "{NO_COMMAND}");
+        }
         flushed
     }
 

@@ -14,6 +14,8 @@ use Rattle.bpf_text.specs.declared.reading.LineError.TheVariants.{BadLine, BadNu
 use Rattle.bpf_spelling.specs.declared.signs.Sign.TheVariants.{Colon}
 use Rattle.bpf_lines.specs.Lines.{lines_of}
 use Rattle.bpf_spelling.specs.Token.{Tok, Mark}
+use Rattle.bpf_spelling.specs.Helpers.{helper_named, helper_number}
+use Rattle.bpf_spelling.specs.declared.helpers.Helper.{Helper}
 use Rattle.bpf_text.specs.Tokens.{IsTokens}
 use Rattle.bpf_text.specs.Line.{Written, IsSpelled, name_of}
 
@@ -119,15 +121,31 @@ abbrev pub unless_twice : Bool → ℕ → Result (Option Insn) TextError → Re
 unless_twice true line r = Err (refusal.TwiceLabel (line + 1))
 unless_twice false line r = r
 
-abbrev pub at_target : Bool → ℕ → ℕ → Insn → Option Place → Result (Option Insn) TextError
-at_target twice line pc i None = Err (refusal.UnknownLabel (line + 1))
-at_target twice line pc i (Some to) =
+-- the call of a helper that a call of a function stands for by the helper's name
+abbrev pub helper_call : Insn → Option Helper → Option Insn
+helper_call (insn.CallLocal o) (Some h) = Some (insn.CallHelper (helper_number h))
+helper_call i h = None
+
+-- what is called, if it is a helper; else the name is unknown
+abbrev pub or_unknown : Bool → ℕ → Option Insn → Result (Option Insn) TextError
+or_unknown twice line (Some i) = unless_twice twice line (Ok (Some i))
+or_unknown twice line None = Err (refusal.UnknownLabel (line + 1))
+
+abbrev pub at_label : Bool → ℕ → ℕ → Insn → Place → Result (Option Insn) TextError
+at_label twice line pc i to =
     unless_twice twice line (or_far line (targeted i (pc + words i) to.pc))
+
+-- a name is a label's where some line has it; else it may be that of a helper that is called
+abbrev pub at_target : Bool → ℕ → ℕ → Insn → List ℕ → Option Place
+    → Result (Option Insn) TextError
+at_target twice line pc i name None = or_unknown twice line (helper_call i (helper_named name))
+at_target twice line pc i name (Some to) = at_label twice line pc i to
 
 abbrev pub named_meaning : (List ℕ → Option Place) → Bool → ℕ → ℕ → Insn → Option (List ℕ)
     → Result (Option Insn) TextError
 named_meaning labels twice line pc i None = unless_twice twice line (Ok (Some i))
-named_meaning labels twice line pc i (Some name) = at_target twice line pc i (labels name)
+named_meaning labels twice line pc i (Some name) =
+    at_target twice line pc i name (labels name)
 
 abbrev pub body_meaning : (List ℕ → Option Place) → Bool → ℕ → ℕ
     → Result (Option Written) LineError → Result (Option Insn) TextError

@@ -147,7 +147,7 @@ pub fn assemble_bytes(alloc: Global, text: &[u8]) -> Result<Vec<Insn>, TextError
     program(alloc, &lines, &labels)
 }
 
-/// The same of a text.
+/// The instructions that an assembly text stands for, or its lowest line that is refused, as above.
 pub fn assemble(alloc: Global, text: &str) -> Result<Vec<Insn>, TextError>
     ensures assembled { IfOk result (λ program. Assembles text.now (Ok program.items)) }
     ensures refused { IfErr result (λ e. (e ≡ TextError.OutOfMemory) ⊎ Assembles text.now (Err e)) }

@@ -33,11 +33,11 @@ pub enum Piece {
     Zero,
     /// The sign of an arithmetic operation.
     Operation,
-    /// The same, after `s`.
+    /// The sign of a signed arithmetic operation, after `s`.
     SignedOperation,
     /// The sign of a condition.
     Comparison,
-    /// The same, after `s`.
+    /// The sign of a signed condition, after `s`.
     SignedComparison,
     /// The sign of an operation after `lock`.
     LockSign,
@@ -65,7 +65,7 @@ pub enum Piece {
     Number,
     /// A number after `+` or `-`.
     Offset,
-    /// The same, or a name.
+    /// A number after `+` or `-`, or a name.
     Target,
 }
 

@@ -1,7 +1,8 @@
 //! What a line means.
 
 ghost use Rattle.std.specs.Prelude.{◌≡◌, ◌+◌, ◌<◌, ◌^◌, Ok};
-ghost use Rattle.bpf_text.specs.Assembly.{at_target, unless_twice, meaning_of};
+ghost use Rattle.bpf_spelling.specs.Helpers.{helper_named};
+ghost use Rattle.bpf_text.specs.Assembly.{at_label, helper_call, or_unknown, unless_twice, meaning_of};
 ghost use Rattle.bpf_text.specs.Private.Labels.{found};
 ghost use Rattle.bpf_text.specs.Private.Sources.{source_of};
 
@@ -11,6 +12,7 @@ use crate::reading::LineError;
 use crate::source::{Body, SourceLine};
 use crate::targets;
 use bpf_insn::Insn;
+use bpf_spelling::helper_named;
 
 fn unless_twice(twice: bool, line: usize, insn: Option<Insn>) -> Result<Option<Insn>, TextError>
     requires { line < 2 ^ 63 }
@@ -23,21 +25,44 @@ fn unless_twice(twice: bool, line: usize, insn: Option<Insn>) -> Result<Option<I
     }
 }
 
-/// An instruction whose target names a label.
-fn at_target(
+/// The call of a helper that a call of a function of this name stands for.
+fn helper_call(insn: Insn, name: &[u8]) -> Option<Insn>
+    ensures { result ≡ helper_call insn (helper_named name.now) }
+{
+    match insn {
+        Insn::CallLocal { .. } => {
+            let helper = helper_named(name)?;
+            Some(Insn::CallHelper {
+                number: helper.number(),
+            })
+        }
+        _ => None,
+    }
+}
+
+/// What a name means that is no label: the call of a helper, or nothing.
+fn or_unknown(twice: bool, line: usize, insn: Option<Insn>) -> Result<Option<Insn>, TextError>
+    requires { line < 2 ^ 63 }
+    ensures { result ≡ or_unknown twice line insn }
+{
+    match insn {
+        Some(insn) => unless_twice(twice, line, Some(insn)),
+        None => Err(TextError::UnknownLabel(line + 1)),
+    }
+}
+
+/// An instruction whose target is a label.
+fn at_label(
     twice: bool,
     line: usize,
     pc: usize,
     insn: Insn,
-    place: Option<Place>,
+    to: Place,
 ) -> Result<Option<Insn>, TextError>
     requires short { line < 2 ^ 63 }
     requires room { pc + 2 < 2 ^ 64 }
-    ensures { result ≡ at_target twice line pc insn place }
+    ensures { result ≡ at_label twice line pc insn to }
 {
-    let Some(to) = place else {
-        return Err(TextError::UnknownLabel(line + 1));
-    };
     if twice {
         return Err(TextError::TwiceLabel(line + 1));
     }
@@ -66,9 +91,9 @@ pub fn meaning(
         Body::Refused(LineError::BadNumber) => Err(TextError::BadNumber(line + 1)),
         Body::Empty => unless_twice(twice, line, None),
         Body::Code(insn) => unless_twice(twice, line, Some(*insn)),
-        Body::Named(insn, name) => {
-            let place = labels::place_of(labels, name);
-            at_target(twice, line, pc, *insn, place)
-        }
+        Body::Named(insn, name) => match labels::place_of(labels, name) {
+            Some(to) => at_label(twice, line, pc, *insn, to),
+            None => or_unknown(twice, line, helper_call(*insn, name)),
+        },
     }
 }

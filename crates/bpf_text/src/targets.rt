@@ -18,7 +18,7 @@ fn near(next: usize, to: usize) -> Option<i16>
     }
 }
 
-/// The same, if 32 bits hold it.
+/// The distance to a word from the next instruction, if 32 bits hold it.
 fn far(next: usize, to: usize) -> Option<i32>
     ensures { result ≡ distance_to (2 ^ 31) next to }
 {

@@ -30,7 +30,7 @@ got [] j d inside = absurd (omega arith)
 got (y ∷ ys) zero d inside = refl
 got (y ∷ ys) (suc j) d inside = got ys j d (omega arith)
 
--- some task stands where an end does
+-- some task is where an end does
 there : (tasks : List Task) (j : ℕ) → j < length tasks → (task : Task) × (slice_get tasks j ≡ Some task)
 there [] j inside = absurd (omega arith)
 there (t ∷ ts) zero inside = (t, refl)
@@ -68,7 +68,7 @@ one_stop_more tasks ends j end so_far stop inside sizes before is =
     (ap (λ (b : Bool). b || stop) before ∙ ap (λ (b : Bool). any_stopped j all || b) is
     ∙ ap (λ (o : Option Task). any_stopped j all || is_stop (option_and_then (λ (task : Task). ended task.stage) o)) (sym found))
 
--- all that is told of jobs that have ended so
+-- all that is printed of jobs that have ended so
 pub told : (jobs : List Job) (ends : List Outcome) (last : Plain) (names : List (List ℕ)) (maps : Bool) (text listed keys lines both new : List ℕ) (stopped : Bool)
     → length ends ≡ length jobs → AreMapsAsked maps last names lines → text ≡ job_lines (length jobs) (as_ended (map waiting jobs) ends) → keys ≡ listed
     → both ≡ text ++ keys → new ≡ both ++ lines

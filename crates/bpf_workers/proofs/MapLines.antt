@@ -47,6 +47,6 @@ no_row_more e names m text outside before =
     let next : suc m ≡ m + 1 = omega arith in
     subst (λ (n : ℕ). AreStatsLines e (map string_bytes names) n text) next (text, None, before, outside, sym (append-nil text))
 
--- one piece behind others
+-- one piece after others
 pub behind : (start a b p q : List ℕ) → a ≡ start ++ p → b ≡ a ++ q → b ≡ start ++ (p ++ q)
 behind start a b p q first then = then ∙ (ap (λ (x : List ℕ). x ++ q) first ∙ append_assoc start p q)

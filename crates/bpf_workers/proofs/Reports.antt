@@ -1,4 +1,4 @@
--- What is told of a file's jobs, put together.
+-- What is printed of a file's jobs, put together.
 use Rattle.std.proofs.Common.{◌≡◌, ℕ, List, map, ap, subst, ◌∙◌, string_bytes, String, Global}
 use Rattle.std.specs.Prelude.{Vec}
 use Rattle.bpf_shared.specs.KeyOrder.{Listed}
@@ -22,29 +22,29 @@ use Rattle.bpf_workers.specs.Stats.{AreStatsAsked}
 
 pub reported : (file : RunFile) (asked : Asked) (r : Report) (counts : List ℕ) (a : About) (ends : List Outcome) (lists : List (Vec Listed Global)) (closed : Ending)
     (programs : List Loaded) (jobs told_jobs : List Job) (told_ends : List Outcome) (told_lists : List (Vec Listed Global)) (cpus : ℕ) (names : List (String Global))
-    → a ≡ record { shape = file.shape; seed = file.seed; version = 0; count = 0 } → closed.about ≡ a
+    → a ≡ record { shape = file.setup.shape; seed = file.seed; version = 0; count = 0 } → closed.about ≡ a
     → ((last : Plain) × IsLast closed last × LeadsTo closed.about.shape closed.about.version closed.history last)
     → IsExplained a.shape a.count programs (map waiting jobs) asked.keys ends (listed_by lists) closed.history
     → ((last : Plain) → IsLast closed last → TellsWith (list_lines (listed_by told_lists) (map string_bytes names) cpus) last (as_ended (map waiting told_jobs) told_ends) (map string_bytes names) asked.maps (string_bytes r.text) r.stopped)
     → AreStatsAsked asked.stats closed (map string_bytes names) counts
-    → programs ≡ file.programs.items → jobs ≡ file.jobs.items → told_jobs ≡ file.jobs.items → told_ends ≡ ends → told_lists ≡ lists → cpus ≡ file.shape.cpus
+    → programs ≡ file.setup.programs.items → jobs ≡ file.setup.jobs.items → told_jobs ≡ file.setup.jobs.items → told_ends ≡ ends → told_lists ≡ lists → cpus ≡ file.setup.shape.cpus
     → names ≡ file.names.items → IsWorkersReport (file_of file) asked (record { text = string_bytes r.text; stopped = r.stopped; counts = counts })
 reported file asked r counts a ends lists closed programs jobs told_jobs told_ends told_lists cpus names made about (last, known, leads) explains tells counted p j tj te tl cs n =
     let E : Shape → ℕ → List Loaded → List Job → Type 0 = λ h k ps js. IsExplained h k ps (map waiting js) asked.keys ends (listed_by lists) closed.history in
     let T : List (Vec Listed Global) → ℕ → List Outcome → List Job → List (String Global) → Type 0 = λ ls c os js ns.
     TellsWith (list_lines (listed_by ls) (map string_bytes ns) c) last (as_ended (map waiting js) os) (map string_bytes ns) asked.maps (string_bytes r.text) r.stopped in
-    let shape : a.shape ≡ file.shape = ap (λ (b : About). b.shape) made in
+    let shape : a.shape ≡ file.setup.shape = ap (λ (b : About). b.shape) made in
     let count : a.count ≡ 0 = ap (λ (b : About). b.count) made in
     let version : a.version ≡ 0 = ap (λ (b : About). b.version) made in
     let of_shape = subst (λ (h : Shape). E h a.count programs jobs) shape explains in
-    let of_count = subst (λ (k : ℕ). E file.shape k programs jobs) count of_shape in
-    let of_programs = subst (λ (ps : List Loaded). E file.shape 0 ps jobs) p of_count in
+    let of_count = subst (λ (k : ℕ). E file.setup.shape k programs jobs) count of_shape in
+    let of_programs = subst (λ (ps : List Loaded). E file.setup.shape 0 ps jobs) p of_count in
     let came : closed.about.version ≡ 0 = ap (λ (b : About). b.version) about ∙ version in
-    let way : closed.about.shape ≡ file.shape = ap (λ (b : About). b.shape) about ∙ shape in
+    let way : closed.about.shape ≡ file.setup.shape = ap (λ (b : About). b.shape) about ∙ shape in
     let of_ends = subst (λ (os : List Outcome). T told_lists cpus os told_jobs names) te (tells last known) in
     let of_jobs = subst (λ (js : List Job). T told_lists cpus ends js names) tj of_ends in
-    let of_lists = subst (λ (ls : List (Vec Listed Global)). T ls cpus ends file.jobs.items names) tl of_jobs in
-    let of_cpus = subst (λ (c : ℕ). T lists c ends file.jobs.items names) cs of_lists in
+    let of_lists = subst (λ (ls : List (Vec Listed Global)). T ls cpus ends file.setup.jobs.items names) tl of_jobs in
+    let of_cpus = subst (λ (c : ℕ). T lists c ends file.setup.jobs.items names) cs of_lists in
     record {
       ends = ends;
       lists = listed_by lists;
@@ -53,7 +53,7 @@ reported file asked r counts a ends lists closed programs jobs told_jobs told_en
       shape = way;
       is_last = known;
       counts = subst (λ (ns : List (String Global)). AreStatsAsked asked.stats closed (map string_bytes ns) counts) n counted;
-      explained = subst (λ (js : List Job). E file.shape 0 file.programs.items js) j of_programs;
-      leads = subst (λ (v : ℕ). LeadsTo file.shape v closed.history last) came (subst (λ (h : Shape). LeadsTo h closed.about.version closed.history last) way leads);
-      tells = subst (λ (ns : List (String Global)). T lists file.shape.cpus ends file.jobs.items ns) n of_cpus;
+      explained = subst (λ (js : List Job). E file.setup.shape 0 file.setup.programs.items js) j of_programs;
+      leads = subst (λ (v : ℕ). LeadsTo file.setup.shape v closed.history last) came (subst (λ (h : Shape). LeadsTo h closed.about.version closed.history last) way leads);
+      tells = subst (λ (ns : List (String Global)). T lists file.setup.shape.cpus ends file.setup.jobs.items ns) n of_cpus;
     }

@@ -1,4 +1,4 @@
--- What follows of a report by workers.
+-- What follows of a report on worker threads.
 use Rattle.std.specs.Prelude.{◌≡◌, ℕ, ◌≤◌, false, List, ◌∷◌, ◌++◌}
 use Rattle.bpf_shared.specs.declared.events.Entry.{Entry}
 use Rattle.bpf_shared.specs.Shape.{elements}

@@ -1,4 +1,4 @@
--- What is printed of a run file whose jobs are run by workers. Our own choice.
+-- What is printed of a run file whose jobs are run on worker threads. Our own choice.
 use Rattle.std.specs.Prelude.{◌≡◌, ℕ, Bool, List, [], ◌∷◌}
 use Rattle.bpf_shared.specs.Shape.{Shape}
 use Rattle.bpf_shared.specs.Store.{Plain}

@@ -9,7 +9,7 @@ use Rattle.hop_map.specs.Stats.{IsCounted}
 abbrev pub number_word : List ℕ → ℕ → List ℕ
 number_word name n = codes " " ++ name ++ codes "=" ++ decimal n
 
--- what a map's words tell, and what its ports counted
+-- what a map's words say, and what its ports counted
 abbrev pub words_told : MapStats → List ℕ
 words_told s =
     number_word (codes "segments") s.segments ++ number_word (codes "keys") s.keys
@@ -29,7 +29,7 @@ abbrev pub row_line : List ℕ → Option MapStats → List ℕ
 row_line name None = []
 row_line name (Some s) = stats_line name s
 
--- a line a map, of the first n, as the words of the store that is left tell its numbers
+-- a line a map, of the first n, as the words of the store that is left say its numbers
 abbrev pub AreStatsLines : Ending → List (List ℕ) → ℕ → List ℕ → Type 0
 AreStatsLines e names zero text = text ≡ []
 AreStatsLines e names (suc m) text = (before : List ℕ) × (row : Option MapStats)

@@ -1,4 +1,4 @@
-//! The jobs of a run file by workers on threads, over the concurrent store: what is printed of
+//! The jobs of a run file on worker threads, over the concurrent store: what is printed of
 //! them.
 #![tactic(auto)]
 

@@ -6,7 +6,7 @@ ghost use Rattle.bpf_workers.specs.Stats.{AreStatsAsked, AreStatsLines, counts_t
 use hop_map::{Closed, MapStats};
 use std::alloc::{AllocError, Global};
 
-/// Puts a number behind the text, with its name.
+/// Appends a number to the text, with its name.
 fn push_number(alloc: Global, text: &mut String, name: &str, number: u64) -> Result<(), AllocError>
     ensures { OnOk result (string_bytes text.new
         ≡ string_bytes text.old ++ number_word name.now number) }
@@ -15,7 +15,7 @@ fn push_number(alloc: Global, text: &mut String, name: &str, number: u64) -> Res
     text.push_str(word.as_str())
 }
 
-/// Puts what the words of a map tell behind the text.
+/// Appends what the words of a map say to the text.
 fn push_words(alloc: Global, text: &mut String, stats: &MapStats) -> Result<(), AllocError>
     ensures { OnOk result (string_bytes text.new ≡ string_bytes text.old ++ words_told stats.now) }
 {
@@ -26,7 +26,7 @@ fn push_words(alloc: Global, text: &mut String, stats: &MapStats) -> Result<(), 
     Ok(())
 }
 
-/// Puts what its ports counted behind the text.
+/// Appends what its ports counted to the text.
 fn push_counts(alloc: Global, text: &mut String, stats: &MapStats) -> Result<(), AllocError>
     ensures { OnOk result (string_bytes text.new ≡ string_bytes text.old ++ counts_told stats.now) }
 {
@@ -36,7 +36,7 @@ fn push_counts(alloc: Global, text: &mut String, stats: &MapStats) -> Result<(),
     Ok(())
 }
 
-/// Puts the line of a map behind the text.
+/// Appends the line of a map to the text.
 fn push_stats(
     alloc: Global,
     text: &mut String,

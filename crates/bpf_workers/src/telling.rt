@@ -17,7 +17,7 @@ use bpf_shared::KeyList;
 use hop_map::Closed;
 use std::alloc::{AllocError, Global};
 
-/// What is printed of a run file, and beside it what is told of its maps.
+/// What is printed of a run file, and beside it what is printed of its maps.
 pub struct Counted {
     pub report: Report,
     pub stats: String,
@@ -48,7 +48,7 @@ fn has_stopped(ends: &[Outcome]) -> bool
     stopped
 }
 
-/// Puts the lines of all that a CPU has listed behind the text, where lists are told by CPU.
+/// Appends the lines of all that a CPU has listed to the text, where lists are printed by CPU.
 fn push_listed(
     alloc: Global,
     text: &mut String,
@@ -113,7 +113,7 @@ fn asked_lines(
     }
 }
 
-/// What is printed of jobs that have ended so, of what so many CPUs have listed, and of what is left
+/// What is printed of jobs that have ended so, of what n CPUs have listed, and of what is left
 /// of their store.
 fn tell(
     alloc: Global,
@@ -140,7 +140,7 @@ fn tell(
     Ok(Report { text, stopped })
 }
 
-/// The same, and beside it the lines of the maps' numbers, where they are asked for.
+/// What is printed of such jobs, and beside it the lines of the maps' numbers, where they are asked for.
 pub(crate) fn tell_counted(
     alloc: Global,
     jobs: &[Job],

@@ -1,12 +1,13 @@
-//! A run file by workers.
+//! A run file on worker threads.
 
 ghost use Rattle.std.specs.Prelude.{IfOk, string_bytes};
+ghost use Rattle.bpf_cpu.specs.Setup.{IsRunnable};
 ghost use Rattle.bpf_file.specs.File.{file_of};
-ghost use Rattle.bpf_file.specs.Runnable.{IsRunnable};
 ghost use Rattle.bpf_sched.specs.Refusing.{AreWorkers};
 ghost use Rattle.bpf_workers.specs.Printed.{IsWorkersReport};
 
 use crate::telling::{Counted, tell_counted};
+use bpf_cpu::Setup;
 use bpf_file::RunFile;
 use bpf_sched::{NoGate, Refused, SchedError, run_jobs};
 use hop_map::HopStore;
@@ -26,7 +27,7 @@ pub enum WorkError {
     OutOfMemory,
 }
 
-/// Runs the jobs of a run file by so many workers, over a new store, and makes what is printed of
+/// Runs the jobs of a run file by n workers, over a new store, and makes what is printed of
 /// them. Where keys are asked for, each CPU with jobs lists those of all maps after them. Out of
 /// memory is the only refusal; all that the jobs and the lists need is there before the first
 /// begins.
@@ -43,7 +44,7 @@ pub fn run_counted<R: Threads + Wait + Sync>(
     maps: bool,
     stats: bool,
 ) -> Result<Counted, WorkError>
-    requires file { IsRunnable file }
+    requires file { IsRunnable file.setup }
     requires workers { AreWorkers workers }
     ensures { IfOk result (λ r. IsWorkersReport (file_of file)
         (record { keys = keys; maps = maps; stats = stats })
@@ -53,13 +54,12 @@ pub fn run_counted<R: Threads + Wait + Sync>(
           counts = string_bytes r.stats;
         })) }
 {
-    let RunFile {
+    let RunFile { setup, seed, names } = file;
+    let Setup {
         shape,
-        seed,
-        names,
         programs,
         jobs,
-    } = file;
+    } = setup;
     let cpus = shape.cpus();
     let Ok(store) = HopStore::new(alloc, shape, seed) else {
         return Err(WorkError::OutOfMemory);

@@ -31,7 +31,7 @@ impl Element {
         number
     }
 
-    /// Writes the key and the value into the element's words, with zeros behind the last bytes.
+    /// Writes the key and the value into the element's words, with zeros after the last bytes.
     pub fn fill(&self, lane: &mut Lane, table: &HopTable, key: &[u8], value: &[u8])
         requires table { lane.old.table ≡ table.now.id }
         requires element { HasElement table.now.about self.now.map self.now.number }

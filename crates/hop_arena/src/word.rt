@@ -5,7 +5,7 @@ ghost use Rattle.hop_layout.specs.Words.{word_of as word_from};
 use bpf_base::bytes::load_double;
 use hop_layout::word_of;
 
-/// Eight bytes, the lowest first, or those that are left, with zeros behind them, as `word_of`; where
+/// Eight bytes, the lowest first, or those that are left, with zeros after them, as `word_of`; where
 /// there are eight it is one load.
 #[inline(always)]
 pub fn word_at(bytes: &[u8], word: usize) -> u64

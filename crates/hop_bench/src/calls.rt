@@ -22,7 +22,7 @@ fn word_in(span: Span) -> Option<ValuePlace>
 }
 
 /// Looks a key up, and reads its value or adds to it. One place looks up for both, so that a call is
-/// small enough to stand in line in a run.
+/// small enough to be in line in a run.
 #[inline(always)]
 fn look<R: Wait>(rt: &R, table: &HopTable, port: &mut HopPort, key: &[u8; 8], adds: bool) -> u64
     requires fits { IsPortOf table.now port.old }
@@ -53,7 +53,7 @@ pub fn put<R: Wait>(rt: &R, table: &HopTable, port: &mut HopPort, key: &[u8; 8])
     matches!(port.update(rt, table, 0, key, key, 0), MapAnswer::NoMemory)
 }
 
-/// Adds or replaces a key, of a map that may grow: behind an insertion that went to an overflow list
+/// Adds or replaces a key, of a map that may grow: after an insertion that went to an overflow list
 /// one split is tried, as CPUs of programs do. Answers whether no element was to be had.
 pub fn put_growing<R: Wait>(
     rt: &R,

@@ -20,7 +20,7 @@ fn nanoseconds<R: Clock>(rt: &R, start: &Instant) -> io::Result<u64> {
     Ok(u64::try_from(passed).unwrap_or(u64::MAX))
 }
 
-// Keys of these numbers are added: so many, so far apart, from this one on, as far as there are keys.
+// Keys of these numbers are added: n, so far apart, from this one on, as far as there are keys.
 #[derive(Clone, Copy)]
 struct Part {
     count: u64,
@@ -28,7 +28,7 @@ struct Part {
     from: u64,
 }
 
-// Adds so many keys in one run. Answers how many no element was to be had for.
+// Adds n keys in one run. Answers how many no element was to be had for.
 fn put_run<R: Wait>(rt: &R, table: &HopTable, port: &mut HopPort, plan: Plan, part: Part) -> u64
     requires new { IsNewPort table.now port.old }
     ensures new { IsNewPort table.now port.new }
@@ -94,7 +94,7 @@ pub fn fill_timed<R: Wait + Clock>(
     put_all(rt, table, &mut port, plan, thread, plan.threads)
 }
 
-// Makes so many lookups in one run, and answers the last bits drawn.
+// Makes n lookups in one run, and answers the last bits drawn.
 #[inline(never)]
 fn look_up<R: Wait>(
     rt: &R,
@@ -131,7 +131,7 @@ fn is_there<R: Wait>(rt: &R, table: &HopTable, port: &mut HopPort, plan: Plan, n
 }
 
 // Looks keys up until so much time has passed or the key of this number is there, which is looked
-// for behind some 256 calls; and times that.
+// for after some 256 calls; and times that.
 fn look_until<R: Wait + Clock>(
     rt: &R,
     table: &HopTable,
@@ -203,9 +203,9 @@ fn wait_for_key<R: Wait + Clock>(
     Ok(())
 }
 
-/// CPU 0 waits for so long and then makes the map grow by all keys that aren't there; it tells what
+/// CPU 0 waits for so long and then makes the map grow by all keys that aren't there; it says what
 /// that took, twice. Each other CPU looks up keys that are there: for so long, and then while CPU 0
-/// adds keys; it tells of both.
+/// adds keys; it reports both.
 pub fn grow_or_look<R: Wait + Clock>(
     rt: &R,
     table: &HopTable,

@@ -2,9 +2,9 @@
 //!
 //! usage: hop_bench MIX KEYS MAX SPARE RUN THREADS MILLISECONDS MOST
 //!
-//! A line for each thread tells its calls, those refused for want of an element, and nanoseconds.
+//! A line for each thread has its calls, those refused for want of an element, and nanoseconds.
 //! Of MIX growth there are two for each: before the map grows, and meanwhile; the first thread makes
-//! it grow, and tells of that twice. Without words it does nothing.
+//! it grow, and reports that twice. Without words it does nothing.
 #![tactic(auto)]
 
 mod calls;

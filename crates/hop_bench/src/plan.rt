@@ -44,7 +44,7 @@ impl Mix {
 }
 
 /// How many keys there are to draw from, the sizes of the map, how many calls a run has, how many
-/// threads make them, and when a thread stops: after this time, or after so many calls.
+/// threads make them, and when a thread stops: after this time, or after n calls.
 #[derive(Clone, Copy)]
 pub struct Plan {
     pub mix: Mix,
@@ -57,7 +57,7 @@ pub struct Plan {
     pub most: u64,
 }
 
-/// The keys that a thread draws from: so many, so far apart, from this one on.
+/// The keys that a thread draws from: n, so far apart, from this one on.
 #[derive(Clone, Copy)]
 pub struct Keys {
     pub count: u64,

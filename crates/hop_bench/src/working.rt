@@ -50,7 +50,7 @@ pub fn fill<R: Wait>(rt: &R, table: &HopTable, port: HopPort, plan: Plan) -> Hop
     port
 }
 
-// The 64 bits behind these (Marsaglia, "Xorshift RNGs").
+// The 64 bits after these (Marsaglia, "Xorshift RNGs").
 #[inline]
 fn next(bits: u64) -> u64 {
     let a = bits ^ bits << 13;
@@ -58,7 +58,7 @@ fn next(bits: u64) -> u64 {
     b ^ b << 17
 }
 
-// Makes so many calls in one run, and answers the last bits drawn.
+// Makes n calls in one run, and answers the last bits drawn.
 #[inline(always)]
 pub(crate) fn make_run<R: Wait>(
     rt: &R,

@@ -1,4 +1,4 @@
--- An update, and a split behind it.
+-- An update, and a split after it.
 use Rattle.std.proofs.Common.{◌≡◌, ℕ, Bool, true, false, not, List, [], ◌∷◌, ◌++◌, refl, ap, sym, subst, ◌∙◌, append_assoc, Option, Some, None, IfSome, inl, inr, ⊎_elim}
 use Rattle.std.proofs.lemmas.List.{append_cancel_right}
 use Rattle.bpf_shared.specs.declared.events.Event.{Event}
@@ -60,7 +60,7 @@ grows_split a m home p q Worn spilled grow same (s, n, owns, less, version, is) 
   tried = λ t there _. (Worn, subst (λ (h : ℕ). SplitEnds a p.known m h Worn q.known) (some_is home t (sym spilled ∙ there)) (s, n, owns, less, version, is));
 }
 
--- ---- behind an update
+-- ---- after an update
 module _ (a : About) (m : ℕ) (p q r : Port) (g : Grows a m q r) where
   saw : r.known.seen ≡ q.known.seen
   saw = ap (λ (k : Known). k.seen) g.known

@@ -24,7 +24,7 @@ running x c = serves x c && runs x.port
 abbrev pub serves_span : Serving → ℕ → Span → Bool
 serves_span x c q = serves x c && port_holds x.port q
 
--- the CPU's run counter stands at its last even value
+-- the CPU's run counter is at its last even value
 abbrev pub IsPortWorn : Serving → ℕ → Type 0
 IsPortWorn x c = run_count x.table.about x.port.known ≡ 2 ^ 64 - 2
 

@@ -1,4 +1,4 @@
-//! Maps that grow: behind an update whose new key went to an overflow list one split is tried.
+//! Maps that grow: after an update whose new key went to an overflow list one split is tried.
 ghost use Rattle.std.specs.Prelude.{◌≡◌, ◌<◌, true, [], ◌∷◌, length};
 ghost use Rattle.bpf_shared.specs.declared.events.Event.TheVariants.{Update};
 ghost use Rattle.bpf_shared.specs.Shape.{IsPairOf};

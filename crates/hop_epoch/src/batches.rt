@@ -114,7 +114,7 @@ impl Batches {
         self.pass_on(lane, table);
     }
 
-    // The same out of line, where one of them isn't empty.
+    // Passes batches on, out of line, where one of them isn't empty.
     fn pass_on(&mut self, lane: &mut Lane, table: &HopTable)
         requires table { lane.old.table ≡ table.now.id }
         requires even { table.now.about.count % 2 ≡ 0 }

@@ -8,7 +8,7 @@ ghost use Rattle.bpf_shared.specs.Own.{in_run};
 use bpf_shared::Worn;
 use hop_words::{HopTable, Lane};
 
-/// The CPU enters a run, unless its counter stands at its last even value. Its own counter is read
+/// The CPU enters a run, unless its counter is at its last even value. Its own counter is read
 /// first, then counted up.
 #[tactic(auto, using(crate::proofs::Evenness::idle_even, crate::proofs::Evenness::last_even))]
 pub fn begin_run(lane: &mut Lane, table: &HopTable) -> Result<(), Worn>

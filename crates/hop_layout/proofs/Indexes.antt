@@ -1,4 +1,4 @@
--- In closed form, for the code that computes where a word stands.
+-- In closed form, for the code that computes where a word is.
 use Rattle.std.proofs.Common.{sym, [], ◌++◌, Some, ◌≡◌, ℕ, zero, suc, ◌+◌, ◌*◌, ◌<◌, true, List, ◌∷◌, length, ap, ◌∙◌, arith, nat_lt}
 use Rattle.std.proofs.lemmas.Bool.Decides.{nat_tests}
 use native.Mathlib.Decide.{dec_lt}

@@ -131,7 +131,7 @@ wrote h ws p n sized here = λ t q. go q (is_place h q) refl (same_place q p) re
     go q false b true c = absurd (true≢false (sym here ∙ (ap (is_place h) (sym (same_is q p c)) ∙ b)))
     go q false b false c = rw (b, c) refl
 
--- ---- in closed form, for the code that computes where a word stands
+-- ---- in closed form, for the code that computes where a word is
 pub sum_same : (n k : ℕ) → sum_below n (λ j. k) ≡ n * k
 sum_same zero k = omega arith
 sum_same (suc n) k = let r = sum_same n k in grind arith

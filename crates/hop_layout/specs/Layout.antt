@@ -1,11 +1,11 @@
--- Where each word of the store stands.
+-- Where each word of the store is.
 use Rattle.std.specs.Prelude.{ℕ, zero, suc, ◌+◌, ◌*◌, ◌/◌, ◌%◌, ◌-◌, nat_lt, Bool, true, false, ◌&&◌, List, [], ◌∷◌, ◌==◌, if◌then◌else◌, length, slice_index, slice_index_or}
 use Rattle.bpf_shared.specs.declared.shapes.MapShape.{MapShape}
 use Rattle.bpf_shared.specs.Shape.{Shape, elements}
 use Rattle.hop_layout.specs.declared.place.Place.{Place}
 use Rattle.hop_layout.specs.declared.place.Place.TheVariants.{RunCount, KeyCount, FreeBits, Stamp, Head, Hop, Slot, Link, KeyWord, ValueWord}
 
--- ---- layouts: one word, or so many layouts behind each other
+-- ---- layouts: one word, or n layouts after each other
 pub data Layout : Type 0 where
   Word : Layout
   Group : ℕ → (ℕ → Layout) → Layout
@@ -45,7 +45,7 @@ abbrev pub block : ℕ → Layout
 block n = Group n (λ i. Word)
 
 -- ---- the store's layout
--- the number of words for so many bytes
+-- the number of words for n bytes
 abbrev pub words_for : ℕ → ℕ
 words_for n = (n + 7) / 8
 
@@ -75,7 +75,7 @@ first_depth g = if g.grow then 0 else depth g
 abbrev pub gained : MapShape → ℕ
 gained g = if g.grow then depth g else 0
 
--- what is left of a line of eight words (64 bytes) behind so many words
+-- what is left of a line of eight words (64 bytes) after n words
 abbrev pub line_rest : ℕ → ℕ
 line_rest n = (8 - n % 8) % 8
 
@@ -125,7 +125,7 @@ path (Link m e) = 1 ∷ m ∷ 4 ∷ e ∷ []
 path (KeyWord m e k) = 1 ∷ m ∷ 5 ∷ e ∷ k ∷ []
 path (ValueWord m e k) = 1 ∷ m ∷ 6 ∷ e ∷ k ∷ []
 
--- where the word of a place stands. A place of the shape has its word to itself
+-- where the word of a place is. A place of the shape has its word to itself
 abbrev pub at : Shape → Place → ℕ
 at h p = word_at_path (layout h) (path p)
 

@@ -6,7 +6,7 @@ abbrev pub AreBytes : List ℕ → Type 0
 AreBytes [] = Unit {0}
 AreBytes (b ∷ bs) = (b < 256) × AreBytes bs
 
--- the k-th word of bytes: eight of them, the lowest first, and zeros behind the last
+-- the k-th word of bytes: eight of them, the lowest first, and zeros after the last
 abbrev pub word_of : List ℕ → ℕ → ℕ
 word_of bs k = little_endian (part bs (8 * k) 8)
 

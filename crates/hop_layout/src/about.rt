@@ -1,7 +1,7 @@
-//! What a store is told when it is made.
+//! What a store is given when it is made.
 use bpf_shared::StoreShape;
 
-/// What a store is told once: the shape, the hash's seed, and the version and the count as made.
+/// What a store is given once: the shape, the hash's seed, and the version and the count as made.
 #[derive(Drop)]
 pub struct About {
     pub shape: StoreShape,

@@ -2,7 +2,7 @@
 ghost use Rattle.std.specs.Prelude.{◌≡◌, ◌<◌, ◌*◌, length};
 ghost use Rattle.hop_layout.specs.Words.{word_of};
 
-/// Eight bytes, the lowest first, or those that are left, with zeros behind them.
+/// Eight bytes, the lowest first, or those that are left, with zeros after them.
 pub fn word_of(bytes: &[u8], word: usize) -> u64
     requires { 8 * word < length bytes.now }
     ensures { result ≡ word_of bytes.now word }

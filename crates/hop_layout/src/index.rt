@@ -1,4 +1,4 @@
-//! Where each word stands, as numbers that are computed once.
+//! Where each word is, as numbers that are computed once.
 ghost use Rattle.std.specs.Prelude.{◌≡◌, ◌+◌, ◌*◌, ◌%◌, ◌<◌, ◌≤◌, ◌^◌, true, length, IfOk};
 ghost use Rattle.hop_layout.specs.Layout.{is_place, at, size, line_rest, depth_from, segments, map_shape, words_for as word_count, power, first_depth};
 ghost use Rattle.bpf_shared.specs.Shape.{IsMapShape, elements as element_count};
@@ -24,7 +24,7 @@ struct Bases {
     first: u32,
 }
 
-/// Where the words of a store stand. It is seen as what the store was told when it was made.
+/// Where the words of a store are. It is seen as what the store was given when it was made.
 #[derive(Drop)]
 pub struct Index {
     about: About,
@@ -43,7 +43,7 @@ impl Model for Index {
     ghost invariant = { λ i. IsIndex i.about.shape i.maps.items i.words };
 }
 
-// How many words are left of a line of eight behind so many.
+// How many words are left of a line of eight after n.
 fn line_rest(words: u32) -> u32
     ensures { result ≡ line_rest words }
 {
@@ -100,7 +100,7 @@ pub fn elements(shape: &MapShape) -> u32
     (shape.max + shape.spare) as u32
 }
 
-// How many words so many bytes lie in.
+// How many words n bytes lie in.
 fn words_for(bytes: u64) -> u32
     requires { bytes ≤ 256 }
     ensures words { result ≡ word_count bytes }
@@ -109,7 +109,7 @@ fn words_for(bytes: u64) -> u32
     bytes.div_ceil(8) as u32
 }
 
-// How many words so many elements have.
+// How many words n elements have.
 fn product(elements: u32, words: u32) -> u32
     requires elements { elements ≤ 131072 }
     requires words { words ≤ 32 }
@@ -156,7 +156,7 @@ fn lay_out(start: u32, shape: &MapShape) -> (Bases, u32)
 }
 
 impl Index {
-    /// Where the words of a store of this shape stand.
+    /// Where the words of a store of this shape are.
     pub fn new(alloc: Global, about: About) -> Result<Index, AllocError>
         ensures { IfOk result (λ i. i ≡ about) }
     {
@@ -174,7 +174,7 @@ impl Index {
         })
     }
 
-    /// What the store was told when it was made.
+    /// What the store was given when it was made.
     pub fn about(&self) -> &About
         ensures { result.now ≡ self.now }
     {
@@ -188,7 +188,7 @@ impl Index {
         self.words
     }
 
-    /// Where the word of a place stands.
+    /// Where the word of a place is.
     #[inline(always)]
     #[tactic(auto, using(crate::proofs::Indexes::map_there))]
     pub fn word_of(&self, place: Place) -> usize

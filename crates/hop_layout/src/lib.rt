@@ -1,4 +1,4 @@
-//! Where the words of the concurrent store stand, and where a key belongs.
+//! Where the words of the concurrent store are, and where a key belongs.
 #![tactic(auto)]
 
 mod about;

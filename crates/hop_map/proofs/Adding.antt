@@ -47,7 +47,7 @@ module _ (a : About) (l : Known) (m s : ℕ) (c : LockShows a l m s) (last : Has
     leads : (c.content (key e) ≡ Some e) × (home_by a m (stamp_depth (lock_of l).stamp) (key e) ≡ s)
     leads = let q = share.each e r in let same : key e ≡ q.0 = spells a m x e q.0 q.1 in (ap c.content same ∙ q.3, ap (home_by a m (stamp_depth (lock_of l).stamp)) same ∙ q.2)
 
-    -- by what the lock tells
+    -- by what the lock says
     home_here : IsHomeIn a (lock_of l) (key e)
     home_here = ap (λ (i : ℕ). home_by a i (stamp_depth (lock_of l).stamp) (key e)) c.map ∙ (leads.1 ∙ sym c.segment)
 

@@ -171,7 +171,7 @@ pub bit_none : (d : ℕ → ℕ) (n s : ℕ) → power n ≤ s → d (s - power 
 bit_none d n s g flat = high_is d n s g ∙ ap (λ (b : Bool). b && is_born d n (s - power n)) (ge_is n (d (s - power n)) flat)
 
 module _ (e : Ending) (w : KeepsWholeHistory e.about (whole_view [] e.history) e.words) (m : ℕ) where
-  -- the stamps as they stand bear the segments that are born
+  -- the stamps as they are bear the segments that are born
   births_here : m < length e.about.shape.maps → (s : ℕ) → is_born (rest_depths e m) (depth (shape_at e.about m)) s ≡ is_born (w.ghost.depths m) (depth (shape_at e.about m)) s
   births_here there s = births_same (w.ghost.depths m) (rest_depths e m) (depth (shape_at e.about m)) s
       (λ t b. w.rule.deep.stamped m t (there, born_small (w.ghost.depths m) (depth (shape_at e.about m)) t b, b))

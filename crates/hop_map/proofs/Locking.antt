@@ -1,4 +1,4 @@
--- What the lock tells is what the code of a segment needs.
+-- What the lock says is what the code of a segment needs.
 use Rattle.std.proofs.Common.{true≢false, ◌≡◌, ℕ, ◌<◌, ◌≤◌, Bool, true, false, ◌||◌, ◌==◌, List, [], ◌∷◌, refl, ap, sym, subst, ◌∙◌, inl, inr, ◌%◌}
 use Rattle.atomic_table.specs.Seated.{TableId}
 use Rattle.bpf_shared.specs.Shape.{elements}

@@ -1,4 +1,4 @@
--- Where the lock's sight stands among those of a whole call.
+-- Where the lock's sight is among those of a whole call.
 use Rattle.std.proofs.Common.{◌≡◌, ℕ, ◌≤◌, List, [], ◌∷◌, ◌++◌, Option, Some, None, IfSome, append_assoc, refl, ap, sym, ◌∙◌, arith}
 use Rattle.bpf_shared.specs.declared.events.MapAnswer.{MapAnswer}
 use Rattle.bpf_shared.specs.declared.events.MapAnswer.TheVariants.{Done}

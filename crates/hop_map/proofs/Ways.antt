@@ -68,7 +68,7 @@ module _ (a : About) (l : Known) (m home s n : ℕ) (y : Known) (q : Sought a l 
   pub still : y ≡ record l { readings = y.readings }
   still = q.noted.after ∙ (λ j. record l { readings = sym (ap (λ (z : Known). z.readings) q.noted.after) j })
 
--- what a lock tells doesn't depend on what was read before
+-- what a lock says doesn't depend on what was read before
 pub locks_before : (a : About) (l y : Known) (m s n : ℕ) (z : Known) → y ≡ record l { readings = y.readings } → LocksSegment a y m s n z → LocksSegment a l m s n z
 locks_before a l y m s n z after k =
     let q = subst (λ (u : Known). LocksSegment a u m s n z) after k in

@@ -65,7 +65,7 @@ IsReclaimed m before l' =
     ∷ (sooner ++ before)))
     × (slice_index (limbo_at l'.limbo m).noted d % 2 ≡ 1))
 
--- Busy only at a segment's last version, which so many changes of the map have paid for; NoMemory
+-- Busy only at a segment's last version, which n changes of the map have paid for; NoMemory
 -- only where the call looked for a free element in vain
 abbrev pub IsShortage : About → Known → ℕ → MapAnswer → Known → Type 0
 IsShortage a l m Busy l' = 2 ^ 56 - 1 ≤ a.version + gained (shape_at a m) + done_in m l'.seen

@@ -13,7 +13,7 @@ use Rattle.hop_words.specs.Seats.{view, KeepsWholeHistory}
 abbrev pub IsLast : Ending → Plain → Type 0
 IsLast e last = (w : KeepsWholeHistory e.about (view [] e.history) e.words) × (last ≡ w.ghost.last)
 
--- the depths of segments, by the stamps as they stand
+-- the depths of segments, by the stamps as they are
 abbrev pub rest_depths : Ending → ℕ → ℕ → ℕ
 rest_depths e m s = stamp_depth (mem e.about.shape e.words (Stamp m s))
 

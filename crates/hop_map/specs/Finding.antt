@@ -100,7 +100,7 @@ abbrev pub most_loads : About → ℕ → ℕ
 most_loads a m = depth (shape_at a m) + 4
     + (32 + elements (shape_at a m)) * (1 + words_for (shape_at a m).key)
 
--- the CPU noted looks and nothing else, no more than so many
+-- the CPU noted looks and nothing else, at most n
 pub record LooksAtMost (most : ℕ) (l l' : Known) : Type 0 where
   pub sights : List Sight
   pub noted : l'.tally ≡ sights ++ l.tally

@@ -75,8 +75,8 @@ pub record IsPortOf (t : Shown) (p : Port) : Type 0 where
   pub arenas : AreArenas t.about (length t.about.shape.maps) p.arenas
   pub batches : AreBatches t.about p.known (length t.about.shape.maps) p.batches
 
--- the port's CPU does this: of what it has seen it is the last, behind all that it had seen and
--- behind events of others
+-- the port's CPU does this: of what it has seen it is the last, after all that it had seen and
+-- after events of others
 pub record PortDoes (a : About) (p : Port) (e : Event) (q : Port) : Type 0 where
   pub table : q.table ≡ p.table
   pub cpu : q.known.cpu ≡ p.known.cpu

@@ -33,7 +33,7 @@ free_below e m zero = 0
 free_below e m (suc n) =
     free_below e m n + bit_at (mem e.about.shape e.words (FreeBits m (n / 64))) (n % 64)
 
--- what the words tell of a map's numbers; what ports counted is told beside
+-- what the words say of a map's numbers; what ports counted is printed beside
 pub record IsCounted (e : Ending) (m : ℕ) (s : MapStats) : Type 0 where
   pub segments : s.segments ≡ born_below e m (segments_of (shape_at e.about m))
   pub keys : s.keys ≡ mem e.about.shape e.words (KeyCount m)

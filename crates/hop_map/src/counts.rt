@@ -1,4 +1,4 @@
-//! Numbers that a port keeps of each map for itself: how often it went rare ways, which is told to
+//! Numbers that a port keeps of each map for itself: how often it went rare ways, which is given to
 //! whoever sizes a map, and the key count that it left, which its next insertion tries first. Nothing
 //! rests on these numbers, and no contract speaks of them.
 
@@ -17,7 +17,7 @@ pub(crate) struct Counts {
     pub(crate) keys: u64,
 }
 
-/// The same by map, of which there are at most 16.
+/// The key counts and numbers of rare ways by map, of which there are at most 16.
 #[derive(Clone, Copy)]
 pub(crate) struct MapCounts {
     maps: [Counts; 16],

@@ -31,7 +31,7 @@ pub(crate) fn shape_of(rest: &Rest, map: u8) -> MapShape
     rest.about().shape.maps()[usize::from(map)]
 }
 
-// Puts the bytes of a word behind others, the lowest first.
+// Puts the bytes of a word after others, the lowest first.
 fn push_word(bytes: &mut Vec<u8>, word: u64) -> Result<(), AllocError>
     ensures { OnOk result (bytes.new.items ≡ bytes.old.items ++ low_bytes 8 word) }
 {

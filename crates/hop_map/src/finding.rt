@@ -192,7 +192,7 @@ pub(crate) enum Tried {
 }
 
 // A reading from the first segment on, which isn't the key's: only in a map that grows are there
-// others on the way. It stands out of line, so that a map that doesn't grow doesn't pay.
+// others on the way. It is out of line, so that a map that doesn't grow doesn't pay.
 #[inline(never)]
 fn try_on_way(
     table: &HopTable,
@@ -276,7 +276,7 @@ pub fn find_once(table: &HopTable, lane: Lane, map: u8, key: &[u8]) -> (Lane, On
 }
 
 // Further readings of a lookup, after one that was disturbed: up to seven. Where each of them was
-// too, the CPU waits for the lock. It is rare, and so stands out of line. Answers the word that
+// too, the CPU waits for the lock. It is rare, and so is out of line. Answers the word that
 // leads to the element, which goes by a register.
 #[cold]
 fn look_again<R: Wait>(
@@ -342,7 +342,7 @@ fn look_on_way<R: Wait>(
 }
 
 /// The key's element, if there is one. Up to eight readings take no lock; where each was disturbed,
-/// the CPU waits for the lock. The counts tell of both.
+/// the CPU waits for the lock. The counts have both.
 #[inline(always)]
 pub(crate) fn locate<R: Wait>(
     rt: &R,

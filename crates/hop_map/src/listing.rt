@@ -28,7 +28,7 @@ fn bytes_of(number: u64) -> [u8; 8]
     number.to_le_bytes()
 }
 
-/// Puts a word behind the words before it, its lowest byte first.
+/// Puts a word after the words before it, its lowest byte first.
 pub(crate) fn put_word(bytes: &mut [u8], word: usize, number: u64)
     requires fits { 8 * word + 8 ≤ length bytes.old }
     ensures size { length bytes.new ≡ length bytes.old }
@@ -108,7 +108,7 @@ fn add_segment(table: &HopTable, lane: &mut Lane, map: u8, segment: u32, list: &
     }
 }
 
-// Locks a segment as soon as nobody else has its lock, behind those with lower numbers, and adds
+// Locks a segment as soon as nobody else has its lock, after those with lower numbers, and adds
 // its keys to the list. One that isn't born it leaves.
 fn list_segment<R: Wait>(
     rt: &R,

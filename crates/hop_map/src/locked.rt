@@ -88,7 +88,7 @@ impl<'a> LockedWords<'a> {
         words
     }
 
-    /// The new key counts, if the map has so many: from here on the element is the map's. If it
+    /// The new key counts, if the map has n: from here on the element is the map's. If it
     /// hasn't, answers how many it has.
     pub(crate) fn count_up(
         &mut self,
@@ -119,7 +119,7 @@ impl<'a> LockedWords<'a> {
     }
 
     /// The key count to try: the one that is expected, if the map would have room for one key more
-    /// by it, or else the one that stands there. If that leaves no room, the update is answered with
+    /// by it, or else the one that is there. If that leaves no room, the update is answered with
     /// `Full`.
     fn see_room(&mut self, expected: u64, key: &[u8], value: &[u8], flags: u64) -> Option<u64>
         requires contents { LockShows self.old.about self.old.known self.old.map self.old.segment }
@@ -480,7 +480,7 @@ impl<'a> LockedWords<'a> {
         }
         true
     }
-    /// The bytes of an element's key, and what lies behind them.
+    /// The bytes of an element's key, and what lies after them.
     fn key_bytes(&mut self, element: u32, size: usize) -> [u8; 64]
         requires inside { element < elements_of (shape_at self.old.about self.old.map) }
         requires known { knows self.old.known self.old.map element ≡ true }

@@ -11,7 +11,7 @@ use bpf_shared::bytes::{load, store};
 use bpf_shared::{FIRST_VALUE, MAP_AREA, Size, ValuePlace};
 use hop_words::{HopTable, ValuePart};
 
-// Which value of so many bytes each a byte lies in, and where in it. Values of one word need no
+// Which value of n bytes each a byte lies in, and where in it. Values of one word need no
 // division.
 fn divided(within: u64, stride: u64) -> (u64, u64)
     requires { 0 < stride }

@@ -69,7 +69,7 @@ impl HopPort {
         table.about().shape.maps().get(map as usize).copied()
     }
 
-    /// The CPU enters a run, unless its run counter stands at its last value, 2^64 - 2.
+    /// The CPU enters a run, unless its run counter is at its last value, 2^64 - 2.
     pub fn begin(&mut self, table: &HopTable) -> Result<(), Worn>
         requires fits { IsPortOf table.now self.old }
         requires idle { runs self.old ≡ false }
@@ -203,7 +203,7 @@ impl HopPort {
         span_of(table, map, found)
     }
 
-    /// A value of these bytes is to stand under the key: always for the flags 0, where the key
+    /// A value of these bytes is to be under the key: always for the flags 0, where the key
     /// isn't there yet for 1, where it is there for 2 (bpf-helpers(7)).
     pub fn update<R: Wait>(
         &mut self,

@@ -15,7 +15,7 @@ use crate::numbers::item;
 use hop_layout::{Place, elements, segments};
 use hop_words::Rest;
 
-/// What a store at rest tells of one of its maps.
+/// What a store at rest says of one of its maps.
 #[derive(Clone, Copy, PartialEq, Eq, Debug)]
 pub struct MapStats {
     /// Its segments that are born.
@@ -105,7 +105,7 @@ fn count_free(rest: &Rest, map: u8) -> u32
 }
 
 impl Closed {
-    /// What is to be told of a map of this number; of no map there is nothing.
+    /// What is to be printed of a map of this number; of no map there is nothing.
     pub fn stats(&self, map: u64) -> Option<MapStats>
         ensures none { IfNone result (length self.now.about.shape.maps ≤ map) }
         ensures counted { IfSome result (IsCounted self.now map) }

@@ -107,7 +107,8 @@ impl HopStore {
         HopStore::aged(alloc, shape, seed, 0, 0)
     }
 
-    /// The same, with all segments' versions and all run counters as if they were counted before.
+    /// A store with no keys, with all segments' versions and all run counters as if they were counted
+    /// before.
     pub fn aged(
         alloc: Global,
         shape: StoreShape,
@@ -140,7 +141,7 @@ impl HopStore {
         Ok(HopStore { table, ports })
     }
 
-    /// What the store was told when it was made.
+    /// What the store was given when it was made.
     pub fn about(&self) -> &About
         ensures { result.now ≡ self.now.table.about }
     {

@@ -260,11 +260,11 @@ fn fill_and_put<R: Wait>(
     }
 }
 
-/// A value of these bytes is to stand under the key: always for the flags 0, where the key isn't
+/// A value of these bytes is to be under the key: always for the flags 0, where the key isn't
 /// there yet for 1, where it is there for 2 (bpf-helpers(7)). The value gets an element of its own,
 /// which is claimed and filled before the key's segment is locked, and given back where the update
 /// is refused. Answers too which segment's overflow list a new key went to. A new key is first
-/// counted by the key count that this CPU left; any number does, and the one left then stands there.
+/// counted by the key count that this CPU left; any number does, and the one left then is there.
 pub fn update<R: Wait>(
     rt: &R,
     table: &HopTable,

@@ -107,7 +107,8 @@ impl HopPort {
         number
     }
 
-    /// The same on the four or eight bytes there. Others may write the bytes beside them meanwhile:
+    /// An atomic operation on four or eight bytes of a held value. Others may write the bytes beside
+    /// them meanwhile:
     /// then it tries again.
     pub fn atomic_part<R: Wait>(
         &mut self,

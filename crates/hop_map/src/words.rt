@@ -38,7 +38,7 @@ pub(crate) fn head_place(map: u8, segment: u32) -> Place
     Place::Head { map, segment }
 }
 
-/// The word of the element behind an element.
+/// The word of the element after an element.
 #[inline(always)]
 pub(crate) fn link_place(map: u8, element: u32) -> Place
     ensures { result ≡ Link map element }

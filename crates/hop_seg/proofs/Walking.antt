@@ -6,7 +6,7 @@ use Rattle.hop_seg.specs.Content.{IsListed}
 use Rattle.hop_seg.specs.Spots.{IsLink}
 use Rattle.hop_seg.proofs.Lists.{chain_unique, steps, steps-chain, steps-within, length-within}
 
--- the walk has come to the link after `before`, which leads to `at`; P holds of what it passed
+-- the walk has reached the link after `before`, which leads to `at`; P holds of what it passed
 pub record Walk (w : Words) (P : ℕ → Type 0) (before at : Option ℕ) : Type 0 where
   pub rest : List ℕ
   pub chain : Chain w.next at rest
@@ -34,7 +34,7 @@ walk_begins w s P = record {
   link = refl;
 }
 
--- what is left of the walk: the element that it has come to, and the rest after it
+-- what is left of the walk: the element that it has reached, and the rest after it
 pub record Ahead (w : Words) (P : ℕ → Type 0) (before : Option ℕ) (e : ℕ) : Type 0 where
   pub rest : List ℕ
   pub chain : Chain w.next (w.next e) rest
@@ -100,7 +100,7 @@ walk_ends w P before k e l =
       | inr h ↦ h
     ]
 
--- a walk that has passed so many elements, and has no more to come than there are beyond these
+-- a walk that has passed n elements, and has no more to come than there are beyond these
 pub record Counted (w : Words) (P : ℕ → Type 0) (before at : Option ℕ) (passed : ℕ) : Type 0 where
   pub walk : Walk w P before at
   pub short : passed + steps w.fixed.limit w.next at ≤ w.fixed.limit

@@ -1,4 +1,4 @@
-//! Reads of words that nobody else writes: what is read is what stands there.
+//! Reads of words that nobody else writes: what is read is what is there.
 
 ghost use Rattle.std.specs.Prelude.{◌≡◌, ◌<◌, MatchOption};
 ghost use Rattle.hop_seg.specs.Words.{IsKnown};

@@ -27,7 +27,7 @@ pub fn remove<S: SegWords>(words: &mut S, key: &[u8], home: u32) -> u32
     remove_at(words, found, key, home)
 }
 
-/// The same where the words were seen to lead to the element so: there is no second search.
+/// Removes the element to which the words were seen to lead: there is no second search.
 pub fn remove_at<S: SegWords>(words: &mut S, found: Spot, key: &[u8], home: u32) -> u32
     requires sound { Sound (S.words words.old) }
     requires home { home ≡ (S.words words.old).fixed.home key.now }
@@ -66,7 +66,8 @@ pub fn replace<S: SegWords>(words: &mut S, key: &[u8], home: u32, new: u32) -> u
     replace_at(words, found, key, home, new)
 }
 
-/// The same where the words were seen to lead to the old element so: there is no second search.
+/// Puts a new element in the place of the old one to which the words were seen to lead: there is no
+/// second search.
 pub fn replace_at<S: SegWords>(words: &mut S, found: Spot, key: &[u8], home: u32, new: u32) -> u32
     requires sound { Sound (S.words words.old) }
     requires home { home ≡ (S.words words.old).fixed.home key.now }

@@ -20,7 +20,7 @@ pub trait SegReads {
     /// How many words were read so far: who counts none may say 0.
     ghost reads: { Self → ℕ };
 
-    /// To compare a key takes at most so many reads.
+    /// To compare a key takes at most n reads.
     ghost key_words: { Self → ℕ };
 
     /// Elements have numbers below it.

@@ -76,7 +76,7 @@ enum Access {
     AddOne,
 }
 
-/// Whether so many bytes lie at a place in a value, which is a multiple of their number.
+/// Whether n bytes lie at a place in a value, which is a multiple of their number.
 pub(crate) fn is_place(span: Span, place: u64, bytes: u64) -> bool
     requires some { 0 < bytes }
     requires in_range { IsValueSpan span }

@@ -16,7 +16,7 @@ use std::test::Fail;
 use std::thread;
 use std::thread::Threads;
 
-// Walks over so many keys of this CPU, and lists all keys behind each step.
+// Walks over n keys of this CPU, and lists all keys after each step.
 fn walk_and_list<R: Wait>(
     rt: &R,
     alloc: Global,

@@ -17,6 +17,8 @@ use std::thread::Threads;
 /// What a thread saw.
 #[derive(Clone, Copy, Drop)]
 struct Saw {
+    /// Lookups.
+    finds: u32,
     found: u32,
     absent: u32,
     /// Disturbed as is promised: the first stamp locked, or the two different.
@@ -26,6 +28,7 @@ struct Saw {
 }
 
 const NOTHING: Saw = Saw {
+    finds: 0,
     found: 0,
     absent: 0,
     disturbed: 0,
@@ -47,13 +50,28 @@ fn find_in_a_run(table: &HopTable, port: &mut HopPort) -> Option<Once>
     Some(once)
 }
 
-// 100,000 lookups of the key 0.
-fn find_often(table: &HopTable, port: HopPort, stop: &AtomicU64) -> Saw
+// What the two threads report to each other: how many changes were made, and that the lookups are.
+#[derive(Drop)]
+struct Signs {
+    changes: AtomicU64,
+    stop: AtomicU64,
+}
+
+// 100,000 lookups of the key 0, and more until the other thread has made 1,000 changes: on a full
+// machine it may begin late. After ten million lookups it gives up.
+fn find_often(table: &HopTable, port: HopPort, signs: &Signs) -> Saw
     requires idle { IsIdlePort table.now port }
 {
     let mut port = port;
     let mut saw = NOTHING;
-    'finds: for _ in 0..100_000u32 {
+    'finds: for find in 0..10_000_000u32 {
+        if find >= 100_000 {
+            if signs.changes.load(Ordering::SeqCst) >= 1_000 {
+                break;
+            }
+            thread::yield_now();
+        }
+        saw.finds = saw.finds.wrapping_add(1);
         match find_in_a_run(table, &mut port) {
             Some(Once::Found(_)) => saw.found = saw.found.wrapping_add(1),
             Some(Once::Disturbed(first, last)) if first % 2 == 1 || first != last => {
@@ -63,12 +81,12 @@ fn find_often(table: &HopTable, port: HopPort, stop: &AtomicU64) -> Saw
             _ => {}
         }
     }
-    stop.store(1, Ordering::SeqCst);
+    signs.stop.store(1, Ordering::SeqCst);
     saw
 }
 
 // Deletes and inserts the keys 1 to 39, each in a run of its own, until the other thread is done.
-fn change_often<R: Wait>(rt: &R, table: &HopTable, port: HopPort, stop: &AtomicU64) -> Saw
+fn change_often<R: Wait>(rt: &R, table: &HopTable, port: HopPort, signs: &Signs) -> Saw
     requires idle { IsIdlePort table.now port }
 {
     let mut port = port;
@@ -77,7 +95,7 @@ fn change_often<R: Wait>(rt: &R, table: &HopTable, port: HopPort, stop: &AtomicU
         return saw;
     }
     'changes: for change in 0..100_000_000u32 {
-        if stop.load(Ordering::SeqCst) != 0 {
+        if signs.stop.load(Ordering::SeqCst) != 0 {
             return saw;
         }
         let key = 1 + change / 2 % 39;
@@ -101,6 +119,7 @@ fn change_often<R: Wait>(rt: &R, table: &HopTable, port: HopPort, stop: &AtomicU
             return saw;
         }
         saw.changes = saw.changes.wrapping_add(1);
+        signs.changes.fetch_add(1, Ordering::SeqCst);
     }
     saw
 }
@@ -113,14 +132,17 @@ fn find_by_threads<R: Threads + Wait + Sync>(
 ) -> Result<Vec<Saw>, AllocError>
     requires idle { All (IsIdlePort table.now) ports.items }
 {
-    let stop = AtomicU64::new(0);
+    let signs = Signs {
+        changes: AtomicU64::new(0),
+        stop: AtomicU64::new(0),
+    };
     let each = |port: HopPort| -> Saw
         requires { IsIdlePort table.now port }
     {
         if port.cpu() == 0 {
-            change_often(rt, table, port, &stop)
+            change_often(rt, table, port, &signs)
         } else {
-            find_often(table, port, &stop)
+            find_often(table, port, &signs)
         }
     };
     thread::map_vec(rt, ports, &each)
@@ -132,8 +154,9 @@ fn a_key_that_stays_is_never_missed(rt: HostRuntime) -> Result<(), Fail> {
     put_zeros(&rt, &table, &mut ports, 40)?;
     let saw = find_by_threads(&rt, &table, ports)?;
     assert_eq!(rt; saw.len(), 2);
-    assert!(rt; saw[0].changes > 0);
+    assert!(rt; saw[0].changes >= 1_000);
+    assert!(rt; saw[1].finds >= 100_000);
     assert_eq!(rt; saw[1].absent, 0);
-    assert_eq!(rt; saw[1].found.wrapping_add(saw[1].disturbed), 100_000);
+    assert_eq!(rt; saw[1].found.wrapping_add(saw[1].disturbed), saw[1].finds);
     Ok(())
 }

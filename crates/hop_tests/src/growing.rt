@@ -1,11 +1,14 @@
 //! Maps that grow: their segments, and what they have, after calls of one port and of threads.
-ghost use Rattle.std.specs.Prelude.{◌<◌, ◌^◌};
+ghost use Rattle.std.specs.Prelude.{◌<◌, ◌^◌, IfSome};
+ghost use Rattle.hop_map.specs.Port.{IsPortOf};
+ghost use Rattle.hop_tests.specs.Trial.{IsIdlePort};
 
-use crate::asking::{Call, Reply};
+use crate::asking::{Call, Reply, ask_port};
 use crate::stores::{a_map, aged_ports, close, new_ports, pop_port, push_port};
-use crate::threads::{Work, close_all, put_zeros, work_by_threads};
-use bpf_shared::{MapAnswer, MapShape};
-use hop_map::{Growth, MapStats};
+use crate::threads::{Work, close_all, push_back, put_zeros, work_by_threads};
+use bpf_shared::MapShape;
+use hop_map::{Growth, HopPort, MapStats};
+use hop_words::HopTable;
 use std::alloc::Global;
 use std::sync::Wait;
 use std::test::Fail;
@@ -19,7 +22,7 @@ pub(crate) fn growing(max: u64, spare: u64, mask: u32) -> MapShape {
     }
 }
 
-// How many segments and how many keys a map has, into which one port has put so many.
+// How many segments and how many keys a map has, into which one port has put n.
 fn filled<R: Wait>(rt: &R, alloc: Global, map: MapShape, keys: u32) -> Result<(u32, usize), Fail> {
     let (table, mut ports) = new_ports(alloc, 1, map)?;
     put_zeros(rt, &table, &mut ports, keys)?;
@@ -90,7 +93,40 @@ fn a_split_ends_by_depth_before_version(rt: HostRuntime) -> Result<(), Fail> {
     Ok(())
 }
 
-// All keys are at home in one bucket: 32 stand in its neighbourhood, the others on the overflow list
+// How splits of the segments 0 and 1 end, in a map into which one port has put n keys, and how
+// many segments and keys there are then.
+fn split_both<R: Wait>(
+    rt: &R,
+    alloc: Global,
+    map: MapShape,
+    keys: u32,
+) -> Result<(Growth, Growth, u32, usize), Fail> {
+    let (table, mut ports) = new_ports(alloc, 1, map)?;
+    put_zeros(rt, &table, &mut ports, keys)?;
+    let Some(mut port) = pop_port(&table, &mut ports) else {
+        return Err(Fail::new("no port"));
+    };
+    let Some(_map) = port.shape(&table, 0) else {
+        return Err(Fail::new("no map"));
+    };
+    let parent = port.split(rt, &table, 0, 0);
+    let child = port.split(rt, &table, 0, 1);
+    push_port(&table, &mut ports, port)?;
+    let closed = close(table, ports)?;
+    let pairs = closed.dump(alloc, 0)?;
+    Ok((parent, child, closed.segments(0), pairs.len()))
+}
+
+// A map for 100 keys has two segments at its depth.
+#[test]
+fn a_full_map_at_its_depth_splits_no_more(rt: HostRuntime) -> Result<(), Fail> {
+    let deep = (Growth::AtDepth, Growth::AtDepth, 2, 100);
+    assert_eq!(rt; split_both(&rt, rt.alloc(), growing(100, 0, 0), 100)?, deep);
+    assert_eq!(rt; split_both(&rt, rt.alloc(), a_map(100, 0, 0), 100)?, deep);
+    Ok(())
+}
+
+// All keys are at home in one bucket: 32 are in its neighbourhood, the others on the overflow list
 // of the parent, since the child has none of them.
 #[test]
 fn numbers_of_a_map_that_has_grown(rt: HostRuntime) -> Result<(), Fail> {
@@ -111,26 +147,53 @@ fn numbers_of_a_map_that_has_grown(rt: HostRuntime) -> Result<(), Fail> {
     Ok(())
 }
 
-// How many segments and how many keys a map has, into which so many threads have put so many each.
+// How many of the keys 0 to 127 a port finds, in a run of its own.
+fn count_found<R: Wait>(rt: &R, table: &HopTable, port: HopPort) -> Option<(HopPort, u32)>
+    requires idle { IsIdlePort table.now port }
+    ensures fits { IfSome result (λ r. IsPortOf table.now r.0) }
+{
+    let mut port = port;
+    port.begin(table).ok()?;
+    let mut found = 0u32;
+    'keys: for key in 0..128 {
+        let (after, reply) = ask_port(rt, table, port, Call::Find { key });
+        port = after;
+        if matches!(reply?, Reply::Value(Some(_))) {
+            found = found.wrapping_add(1);
+        }
+    }
+    port.end(table);
+    Some((port, found))
+}
+
+// How many segments and how many keys a map has, into which n threads have put n each,
+// and how many of the first 128 another CPU finds after that.
 fn filled_by_threads<R: Threads + Wait + Sync>(
     rt: &R,
     alloc: Global,
     map: MapShape,
     threads: u32,
     keys: u32,
-) -> Result<(u32, usize), Fail> {
-    let (table, ports) = new_ports(alloc, u64::from(threads), map)?;
+) -> Result<(u32, usize, u32), Fail> {
+    let (table, mut ports) = new_ports(alloc, u64::from(threads) + 1, map)?;
+    let Some(onlooker) = pop_port(&table, &mut ports) else {
+        return Err(Fail::new("no port"));
+    };
     let work = Work::OwnKeys { cpus: threads };
-    let backs = work_by_threads(rt, alloc, &table, ports, work, keys)?;
+    let mut backs = work_by_threads(rt, alloc, &table, ports, work, keys)?;
+    let Some((port, found)) = count_found(rt, &table, onlooker) else {
+        return Err(Fail::new("no lookups"));
+    };
+    push_back(alloc, &table, &mut backs, port)?;
     let (closed, _notes) = close_all(alloc, table, backs)?;
-    Ok((closed.segments(0), closed.dump(alloc, 0)?.len()))
+    Ok((closed.segments(0), closed.dump(alloc, 0)?.len(), found))
 }
 
 #[test]
 fn threads_make_a_map_grow(rt: HostRuntime) -> Result<(), Fail> {
     let two = filled_by_threads(&rt, rt.alloc(), growing(128, 0, 1), 2, 64)?;
-    assert_eq!(rt; two, (2, 128));
-    let (segments, keys) = filled_by_threads(
+    assert_eq!(rt; two, (2, 128, 128));
+    let (segments, keys, found) = filled_by_threads(
         &rt,
         rt.alloc(),
         growing(65_536, 0, 0xffff_ffff),
@@ -138,6 +201,7 @@ fn threads_make_a_map_grow(rt: HostRuntime) -> Result<(), Fail> {
         16_384,
     )?;
     assert_eq!(rt; keys, 65_536);
+    assert_eq!(rt; found, 128);
     assert!(rt; (2..=1_024).contains(&segments));
     Ok(())
 }

@@ -1,4 +1,4 @@
-//! Jobs of real stores, by workers.
+//! Jobs of real stores, on worker threads.
 ghost use Rattle.std.specs.Prelude.{◌≤◌, ◌<◌, All, IfOk, vec_len};
 ghost use Rattle.bpf_mem.specs.Limits.{max_context};
 
@@ -37,7 +37,7 @@ fn programs(alloc: Global, texts: &[&str]) -> Result<Vec<Program>, Fail> {
     Ok(programs)
 }
 
-// A store of maps with so many spare elements.
+// A store of maps with n spare elements.
 fn store(alloc: Global, cpus: u64, spares: &[u64]) -> Result<HopStore, Fail> {
     let mut maps = Vec::new(alloc);
     for spare in spares {
@@ -46,7 +46,7 @@ fn store(alloc: Global, cpus: u64, spares: &[u64]) -> Result<HopStore, Fail> {
     Ok(HopStore::new(alloc, StoreShape::new(cpus, maps)?, 0)?)
 }
 
-// Jobs by their CPUs and programs, of which there are so many.
+// Jobs by their CPUs and programs, of which there are n.
 fn jobs(alloc: Global, list: &[(u8, usize)], programs: usize) -> Result<Vec<Job>, Fail>
     ensures programs { IfOk result (λ v. All (λ job. job.program < programs) v.items) }
     ensures contexts { IfOk result (λ v. All (λ job. vec_len job.context ≤ max_context) v.items) }

@@ -52,7 +52,7 @@ fn keys_of<R: Wait>(
     Ok(list)
 }
 
-// The keys of a new map into which so many numbers are inserted.
+// The keys of a new map into which n numbers are inserted.
 fn keys_after<R: Wait>(rt: &R, alloc: Global, map: MapShape, keys: u32) -> Result<KeyList, Fail> {
     let (table, mut ports) = new_ports(alloc, 1, map)?;
     put_zeros(rt, &table, &mut ports, keys)?;
@@ -69,7 +69,7 @@ fn an_empty_map_has_no_keys(rt: HostRuntime) -> Result<(), Fail> {
     Ok(())
 }
 
-// All keys have the home 0, so at most 32 of them stand at places.
+// All keys have the home 0, so at most 32 of them are at places.
 #[test]
 fn keys_of_one_segment_and_its_list_are_listed_once(rt: HostRuntime) -> Result<(), Fail> {
     let list = keys_after(&rt, rt.alloc(), a_map(100, 0, 0), 100)?;
@@ -95,7 +95,7 @@ fn wide_key(number: u32) -> [u8; 64] {
     key
 }
 
-// Inserts so many keys of 64 bytes, in falling order.
+// Inserts n keys of 64 bytes, in falling order.
 fn put_wide<R: Wait>(rt: &R, table: &HopTable, port: &mut HopPort, keys: u32) -> Result<(), Fail>
     requires idle { IsIdlePort table.now port.old }
     ensures idle { OnOk result (IsIdlePort table.now port.new) }
@@ -275,7 +275,7 @@ fn walk<R: Wait>(rt: &R, table: &HopTable, port: HopPort, last: u32) -> Back
 /// How many CPUs write at most beside a listing.
 pub(crate) const MOST_WRITERS: u32 = 4;
 
-/// Whether the list has of each of so many writers one key, or two of which one follows the other,
+/// Whether the list has of each of n writers one key, or two of which one follows the other,
 /// and no other key. A key is that of the writer whose number is left of it by a division by theirs,
 /// and the writer's next key is as many further.
 pub(crate) fn are_of_one_moment(list: &KeyList, writers: u32) -> bool
@@ -303,7 +303,7 @@ pub(crate) fn are_of_one_moment(list: &KeyList, writers: u32) -> bool
     false
 }
 
-/// Lists the keys so often, in no run, beside so many writers.
+/// Lists the keys so often, in no run, beside n writers.
 pub(crate) fn list_often<R: Wait>(
     rt: &R,
     alloc: Global,
@@ -334,7 +334,7 @@ pub(crate) fn list_often<R: Wait>(
     Back { port, wrong }
 }
 
-// CPU 0 walks over so many keys, the other lists so often, and they begin together.
+// CPU 0 walks over n keys, the other lists so often, and they begin together.
 fn walk_and_list<R: Threads + Wait + Sync>(
     rt: &R,
     alloc: Global,

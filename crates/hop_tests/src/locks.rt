@@ -101,7 +101,7 @@ fn key_at_home(table: &HopTable, wanted: u32) -> Option<u32> {
     None
 }
 
-// Waits until this isn't 0, for so many turns at most.
+// Waits until this isn't 0, for at most n turns.
 fn wait_for(told: &AtomicU64) -> bool {
     for _ in 0..10_000_000u32 {
         if told.load(Ordering::SeqCst) != 0 {
@@ -112,7 +112,7 @@ fn wait_for(told: &AtomicU64) -> bool {
     false
 }
 
-// What another thread is told that updates this key, and whether this one saw it answered in time.
+// What another thread is given that updates this key, and whether this one saw it answered in time.
 fn update_meanwhile<R: Threads + Wait + Sync>(
     rt: &R,
     table: &HopTable,

@@ -67,8 +67,8 @@ fn is_end(lists: &[Vec<Noted>], done: [u16; 4]) -> bool {
         .all(|(list, count)| list.len() == usize::from(count))
 }
 
-// One call more that changes nothing, if there is one. It may stand here in each order that it has
-// a place in behind this one.
+// One call more that changes nothing, if there is one. It may be here in each order that it has
+// a place in after this one.
 fn follow_quiet(lists: &[Vec<Noted>], at: Position) -> Option<Position> {
     for thread in 0..4usize {
         if let Some(next) = follow(lists, at, thread)
@@ -149,7 +149,7 @@ fn an_order_explains_the_calls_of_four_threads(rt: HostRuntime) -> Result<(), Fa
 }
 
 // Whether an order explains the calls of one key by four threads, of which one adds and deletes it
-// and the others look it up, in runs of so many calls.
+// and the others look it up, in runs of n calls.
 fn is_storm_explained<R: Threads + Wait + Sync>(
     rt: &R,
     alloc: Global,

@@ -86,7 +86,7 @@ fn a_port_answers_as_the_plain_store(rt: HostRuntime) -> Result<(), Fail> {
     Ok(())
 }
 
-// What comes of looking so many keys up in a run, over a port and over the plain store.
+// What comes of looking n keys up in a run, over a port and over the plain store.
 fn look_many_up<R: Wait>(rt: &R, alloc: Global, keys: u16) -> Result<(Outcome, Outcome), Fail> {
     let map = a_map(300, 0, 0xffff_ffff);
     let program = program(alloc, LOOK_UP)?;

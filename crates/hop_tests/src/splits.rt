@@ -141,7 +141,7 @@ fn split_beside_calls<R: Threads + Wait + Sync>(
     thread::map_vec(rt, ports, &each)
 }
 
-// Puts values of zeros under so many keys, by the last port, and splits nothing.
+// Puts values of zeros under n keys, by the last port, and splits nothing.
 fn put_unsplit<R: Wait>(
     rt: &R,
     table: &HopTable,

@@ -21,7 +21,7 @@ pub(crate) fn a_map(max: u64, spare: u64, mask: u32) -> MapShape {
     }
 }
 
-/// A store for so many CPUs, with this map.
+/// A store for n CPUs, with this map.
 pub(crate) fn a_shape(alloc: Global, cpus: u64, map: MapShape) -> Result<StoreShape, Fail> {
     Ok(StoreShape::new(cpus, vec![in alloc; map]?)?)
 }
@@ -63,7 +63,7 @@ pub(crate) fn pop_port(table: &HopTable, ports: &mut Vec<HopPort>) -> Option<Hop
     ports.pop()
 }
 
-/// A port goes behind the others.
+/// A port goes after the others.
 pub(crate) fn push_port(
     table: &HopTable,
     ports: &mut Vec<HopPort>,

@@ -43,9 +43,9 @@ pub(crate) enum Work {
     Bytes,
     /// Additions of 1 to a half of the key 0's value, each CPU to its own.
     Halves,
-    /// Lookups of the key 0, which CPU 0 adds and deletes in turn. A run has so many calls.
+    /// Lookups of the key 0, which CPU 0 adds and deletes in turn. A run has n calls.
     Storm { run: u32 },
-    /// All kinds of calls of so many keys, drawn from a sequence that this number begins.
+    /// All kinds of calls of n keys, drawn from a sequence that this number begins.
     All { keys: u64, from: u64 },
 }
 
@@ -135,7 +135,7 @@ fn calls_in_a_run(work: Work) -> u32
     }
 }
 
-// Makes so many calls, some in each run, and notes them.
+// Makes n calls, some in each run, and notes them.
 fn call_often<R: Wait>(
     rt: &R,
     table: &HopTable,
@@ -179,7 +179,7 @@ fn call_often<R: Wait>(
     port
 }
 
-/// Waits for the other threads, for so many turns at most.
+/// Waits for the other threads, for at most n turns.
 pub(crate) fn meet(arrived: &AtomicU64, threads: u64) {
     arrived.fetch_add(1, Ordering::SeqCst);
     for _ in 0..100_000u32 {
@@ -190,7 +190,7 @@ pub(crate) fn meet(arrived: &AtomicU64, threads: u64) {
     }
 }
 
-/// As many threads as ports make so many calls each, and begin together.
+/// As many threads as ports make n calls each, and begin together.
 pub(crate) fn work_by_threads<R: Threads + Wait + Sync>(
     rt: &R,
     alloc: Global,
@@ -216,6 +216,23 @@ pub(crate) fn work_by_threads<R: Threads + Wait + Sync>(
     thread::map_vec(rt, ports, &each)
 }
 
+/// A port that noted nothing goes after the others.
+pub(crate) fn push_back(
+    alloc: Global,
+    table: &HopTable,
+    backs: &mut Vec<Back>,
+    port: HopPort,
+) -> Result<(), AllocError>
+    requires fit { All (λ b. IsPortOf table.now b.port) backs.old.items }
+    requires port { IsPortOf table.now port }
+    ensures fit { OnOk result (All (λ b. IsPortOf table.now b.port) backs.new.items) }
+{
+    let _table = table;
+    let noted = Vec::new(alloc);
+    backs.push(Back { port, noted })?;
+    Ok(())
+}
+
 /// The ports go back, and the notes stay.
 pub(crate) fn close_all(
     alloc: Global,
@@ -234,7 +251,7 @@ pub(crate) fn close_all(
     Ok((close(table, ports)?, notes))
 }
 
-/// Puts values of zeros under so many keys, by the last port in a run of its own.
+/// Puts values of zeros under n keys, by the last port in a run of its own.
 pub(crate) fn put_zeros<R: Wait>(
     rt: &R,
     table: &HopTable,
@@ -265,7 +282,7 @@ pub(crate) fn put_zeros<R: Wait>(
     Ok(())
 }
 
-// The replies to so many calls of two threads each, and the pairs of the map when both have ended.
+// The replies to n calls of two threads each, and the pairs of the map when both have ended.
 fn two_threads<R: Threads + Wait + Sync>(
     rt: &R,
     alloc: Global,

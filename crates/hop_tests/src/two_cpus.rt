@@ -13,7 +13,7 @@ use std::alloc::Global;
 use std::sync::Wait;
 use std::test::Fail;
 
-// What a port is told, and the port.
+// What a port is given, and the port.
 fn tell<R: Wait>(rt: &R, table: &HopTable, port: HopPort, call: Call) -> Option<(HopPort, Reply)>
     requires running { IsRunning table.now port }
     ensures running { IfSome result (λ r. IsRunning table.now r.0) }
@@ -50,7 +50,7 @@ fn delete_while_another_runs<R: Wait>(
     Some([added, deleted, both_run, first_runs, next_run])
 }
 
-// What the first of two CPUs is told of a map with one element.
+// What the first of two CPUs is given of a map with one element.
 fn told_of_one_element<R: Wait>(
     rt: &R,
     alloc: Global,

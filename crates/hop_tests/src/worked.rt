@@ -123,7 +123,7 @@ fn one_run() -> [Row; 12] {
     ]
 }
 
-// With no element to spare, a replacement finds none, and the old value stands.
+// With no element to spare, a replacement finds none, and the old value stays.
 fn no_spare() -> [Row; 4] {
     [
         put(0, 7, 1, MapAnswer::Done),
@@ -206,7 +206,7 @@ fn place_in(order: Order, number: usize) -> usize {
     }
 }
 
-// The key at a place of the list; of the place behind it, one that is never put.
+// The key at a place of the list; of the place after it, one that is never put.
 fn key_at(keys: &[u32], place: usize) -> u32 {
     keys.get(place).copied().unwrap_or(u32::MAX)
 }
@@ -335,7 +335,7 @@ fn a_worn_store_refuses_changes(rt: HostRuntime) -> Result<(), Fail> {
     Ok(())
 }
 
-// Each row stands in a run of its own.
+// Each row is in a run of its own.
 fn two_runs() -> [Row; 3] {
     [find(0, None), next_run(), find(0, None)]
 }

@@ -28,7 +28,7 @@ use Rattle.hop_words.specs.Seats.{view, HasSeenBeginning, KeepsWholeHistory}
 use Rattle.hop_words.proofs.Histories.{rest_has_none, prefix_refl}
 use Rattle.hop_words.specs.Depths.{IsBorn, home_by}
 
--- a view behind the others
+-- a view after the others
 snoc_at : {A : Type 0} (xs : List A) (a b : A) (j : ℕ) → get_elem? (xs ++ a ∷ []) j ≡ some b → (get_elem? xs j ≡ some b) ⊎ ((j ≡ length xs) × (a ≡ b))
 snoc_at [] a b zero e = inr (refl, some-injective a b e)
 snoc_at [] a b (suc j) e = absurd (some-ne-none b (sym e))
@@ -144,7 +144,7 @@ deals a id l ls old s k at = record { sized = k.sized; ghost = k.ghost; rule = k
           (snoc_at (set s.views id (view ls old)) r u i is);
     }
 
--- the lanes of a second seat go behind those of a first
+-- the lanes of a second seat go after those of a first
 pub gathers : (a : About) (id other : ℕ) (v w : View) → Joins (Kept a) id v other w (gathered v w) empty_view
 gathers a id other v w s k at apart there = record { sized = k.sized; ghost = k.ghost; rule = k.rule; seats = now }
   where

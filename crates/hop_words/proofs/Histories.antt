@@ -31,7 +31,7 @@ turns_own c e log = ap turns_of (log_own c e log) ∙ turns_of-append (events_of
 pub turns_else : (c d : ℕ) (e : Event) (log : List Entry) → d ≢ c → turns_of (events_of d (log ++ entry c e ∷ [])) ≡ turns_of (events_of d log)
 turns_else c d e log ne = ap turns_of (log_other c d e log ne)
 
--- what stands behind a beginning that has all events of c has none of c
+-- what is after a beginning that has all events of c has none of c
 pub rest_has_none : (c : ℕ) (xs ys : List Entry) → events_of c xs ≡ events_of c (xs ++ ys) → events_of c ys ≡ []
 rest_has_none c xs ys e = append_cancel_left (events_of c xs) (events_of c ys) [] (sym (events_of-append c xs ys) ∙ (sym e ∙ sym (append-nil (events_of c xs))))
 
@@ -46,7 +46,7 @@ done_in-append m [] ys = omega arith
 done_in-append m (x ∷ xs) ys = let r = done_in-append m xs ys in omega arith
 
 -- ---- who runs, and the shape
--- who runs is told by the CPU's own events
+-- who runs is determined by the CPU's own events
 pub runs_as_known : (a : About) (c : ℕ) (t : Plain) (log seen : List Entry) → Legal (as_made a.shape) log t → events_of c seen ≡ events_of c log → t.running c ≡ in_run (events_of c seen)
 runs_as_known a c t log seen legal own = (own_events_tell a.shape c t log legal).0 ∙ ap in_run (sym own)
 

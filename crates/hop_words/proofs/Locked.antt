@@ -31,7 +31,7 @@ slot_there a m s b at_s few = rw (lt m (length a.shape.maps) at_s.0, lt s (segme
 pub link_there : (a : About) (m e : ℕ) → HasElement a m e → is_place a.shape (Link m e) ≡ true
 link_there a m e at_e = rw (lt m (length a.shape.maps) at_e.0, lt e (elements (shape_at a m)) at_e.1) refl
 
--- a look at any word tells nothing
+-- a look at any word says nothing
 pub looks : (a : About) (l : Known) (p : Place) → Steps a l p (λ n. n) (λ ws n l'. l' ≡ l)
 looks a l p ws g sized r is inside fits = stay a (mem a.shape ws) g l.cpu p (λ l'. l' ≡ l) r is
 

@@ -138,7 +138,7 @@ note_stamp a l m s in_m knows ws g sized r is inside fits =
         go true d = let z = seg.written d in omega arith
         go false d = let z = (seg.clean d).0 in omega arith
 
--- the words at rest are those that stand there, while the era is the stamp noted
+-- the words at rest are those that are there, while the era is the stamp noted
 pub at_era : (a : About) (w : Place → ℕ) (g : Ghost) (r : Rule a w g) (rd : Reading) → IsSoundReading a g.depths g.eras rd → rd.stamp ≡ (g.eras rd.map rd.segment).era
     → ((g.eras rd.map rd.segment).dirty ≡ false) × Agrees rd.map rd.segment (Reached (g.eras rd.map rd.segment).old rd.map rd.segment) (place_words w) (g.eras rd.map rd.segment).old
 at_era a w g r rd q same = (clean, (seg.clean clean).1)

@@ -1,4 +1,4 @@
--- What a shortage tells, as steps go on.
+-- What a shortage says, as steps go on.
 use Rattle.std.proofs.Common.{◌≡◌, ◌≢◌, ℕ, ◌+◌, ◌/◌, ◌%◌, ◌<◌, ◌≤◌, Bool, true, false, ◌&&◌, List, [], ◌∷◌, ◌++◌, ◌==◌, length, refl, ap, sym, subst, ◌∙◌, arith, eq-eqb, ne_eqb, ⊎_elim, inl, inr, ◌⊎◌}
 use Rattle.std.specs.Int.{bit_at}
 use native.Mathlib.Decide.{dec_lt}
@@ -223,7 +223,7 @@ had_write s v at n x p h = (
 unfoldable pub took_more : (a : About) (log log' : List Entry) (fresh fresh' : ℕ → List Fresh) (taker : ℕ → ℕ → ℕ → ℕ) (m e : ℕ) → ((m d : ℕ) → begun_in log fresh m d ≤ begun_in log' fresh' m d) → Took a log fresh taker m e → Took a log' fresh' taker m e
 took_more a log log' fresh fresh' taker m e more t = record { cpu = t.cpu; update = t.update; inside = t.inside; this = t.this; begun = (let b = t.begun in let k = more m t.cpu in omega arith) }
 
--- no element comes to be one that is filled, or one that isn't free
+-- no element becomes one that is filled, or one that isn't free
 abbrev pub Settles : (ℕ → ℕ → Holder) → (ℕ → ℕ → Holder) → Type 0
 Settles holder holder' = (m e : ℕ) → (holder' m e ≢ Free → holder m e ≢ Free) × ((c : ℕ) → holder' m e ≡ Filling c → holder m e ≡ Filling c)
 

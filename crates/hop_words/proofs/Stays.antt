@@ -48,7 +48,7 @@ stay a w g c p told r t = record {
   says = t;
 }
 
--- what a step tells may say less
+-- what a step reports may say less
 pub next_as : (a : About) (w : Place → ℕ) (g : Ghost) (c : ℕ) (told said : Known → Type 0) {sights : List Sight} → ((x : Known) → told x → said x) → Noted a w g c sights told → Noted a w g c sights said
 next_as a w g c told said less n = record { ghost = n.ghost; rule = n.rule; others = n.others; longer = n.longer; tally = n.tally; says = less (lane n.ghost.lanes c) n.says }
 

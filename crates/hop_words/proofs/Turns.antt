@@ -32,7 +32,7 @@ module _ (a : About) (l : Known) (w : Place → ℕ) (g : Ghost) (r : Rule a w g
   own : events_of l.cpu l.seen ≡ events_of l.cpu g.log
   own = ap (events_of l.cpu) (sym (ap (λ (x : Known). x.seen) is)) ∙ r.logged.own l.cpu inside
 
-  -- the own counter is the one that the own events tell
+  -- the CPU's counter is the one that its own events determine
   pub own_count : w (RunCount l.cpu) ≡ run_count a l
   own_count = r.runs l.cpu inside ∙ ap (λ es. a.count + turns_of es) (sym own)
 

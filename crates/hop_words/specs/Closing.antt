@@ -12,7 +12,7 @@ AreAllBack a lanes = (c : ℕ) → c < a.shape.cpus
     → (k : ℕ) × (l : Known) × (l.cpu ≡ c) × (get_elem? lanes k ≡ some l) × (l.locks ≡ [])
     × (l.fresh ≡ [])
 
--- what the store was told, its words, and the whole history
+-- what the store was given, its words, and the whole history
 pub record Ending : Type 0 where
   pub about : About
   pub words : List ℕ

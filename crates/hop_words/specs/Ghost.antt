@@ -1,4 +1,4 @@
--- What stands behind the words, and in no word: the history, what each CPU knows, and who has which
+-- What belongs to the words and is in no word: the history, what each CPU knows, and who has which
 -- element.
 use Rattle.std.specs.Prelude.{◌≡◌, ℕ, ◌+◌, ◌<◌, Bool, true, false, List, [], ◌∷◌, Option, length, ◌==◌, slice_index_or}
 use Rattle.bpf_shared.specs.declared.shapes.MapShape.{MapShape}
@@ -99,7 +99,7 @@ HasElement a m e = (m < length a.shape.maps) × (e < elements (shape_at a m))
 abbrev pub IsSegment : About → ℕ → ℕ → Type 0
 IsSegment a m s = (m < length a.shape.maps) × (s < segments (shape_at a m))
 
--- the segment that a key would be at home in, by the stamp that was locked: the lock alone tells
+-- the segment that a key would be at home in, by the stamp that was locked: the lock alone says
 abbrev pub lock_home : About → Lock → List ℕ → ℕ
 lock_home a k = home_by a k.map (stamp_depth k.stamp)
 

@@ -1,4 +1,4 @@
--- The kinds of step: what each asks of the lane that makes it, and what it tells.
+-- The kinds of step: what each asks of the lane that makes it, and what it says.
 use Rattle.std.specs.Prelude.{◌⊎◌, ◌≡◌, ◌≢◌, ℕ, ◌+◌, ◌-◌, ◌*◌, ◌/◌, ◌%◌, ◌^◌, ◌<◌, ◌≤◌, Bool, true, false, ◌||◌, List, [], ◌∷◌, ◌++◌, Option, Some, None, is_some, length, slice_index, slice_set, ◌==◌}
 use Rattle.bpf_shared.specs.declared.events.Entry.{Entry}
 use Rattle.bpf_shared.specs.declared.events.Event.{Event}
@@ -220,7 +220,7 @@ abbrev pub HasRoom : About → ℕ → List Lock → Type 0
 HasRoom a m ks = (keys : List (List ℕ)) → AreDistinct keys → AllByRecursion (IsShownIn a m ks) keys
     → length keys ≤ (shape_at a m).max
 
--- the segment is sound and has some content, and what the lane filled stands in the copy
+-- the segment is sound and has some content, and what the lane filled is in the copy
 pub record LocksSegment (a : About) (l : Known) (m s n : ℕ) (l' : Known) : Type 0 where
   pub deep : SaysDepth a m s n
   -- the elements to which keys lead here
@@ -359,7 +359,7 @@ pub record Answers (a : About) (l : Known) (k : Lock) (e : Event) : Type 0 where
       → ((q : List ℕ) → IsHomeIn a k q
       → get (s.maps k.map) q ≡ numbered number (before q)) → Allowed s l.cpu e s
 
--- and the version that was locked is paid for by Done events that were seen: so Busy tells of that
+-- and the version that was locked is paid for by Done events that were seen: so Busy shows that
 -- many
 pub record Answered (a : About) (l : Known) (k : Lock) (e : Event) (l' : Known) : Type 0 where
   pub seen : TakesEffect a l e l'.seen
@@ -374,7 +374,7 @@ pub record AnswersAll (a : About) (l : Known) (k : Lock) (rest : List Lock) (e :
     pub clean : Each (λ (j : Lock). j.dirty ≡ false) (k ∷ rest)
     pub elsewhere : AreElsewhere k rest
     pub quiet : turns_of (e ∷ []) ≡ 0
-    -- it tells of no shortage
+    -- it shows no shortage
     pub uncaused : (made : ℕ → ℕ → ℕ) (x : Moment) → HasCause a.version made x e
     pub allowed : (s : Plain) (linked : ℕ → List ℕ → Option ℕ) (number : ℕ → ℕ → ℕ)
         → s.shape ≡ a.shape → l.cpu < a.shape.cpus → Each (Shows a linked) (k ∷ rest)

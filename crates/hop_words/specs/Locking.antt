@@ -1,4 +1,4 @@
--- What the steps under a lock ask of what a CPU knows, and what they tell.
+-- What the steps under a lock ask of what a CPU knows, and what they say.
 use Rattle.std.specs.Prelude.{◌≡◌, ◌≢◌, ℕ, ◌<◌, List, [], ◌∷◌, slice_index_or, false}
 use Rattle.bpf_shared.specs.declared.events.Event.TheVariants.{Update}
 use Rattle.bpf_shared.specs.declared.events.MapAnswer.TheVariants.{Full, NoMemory}

@@ -1,4 +1,4 @@
--- Where the answers of a history may tell of a shortage.
+-- Where the answers of a history may report a shortage.
 use Rattle.std.specs.Prelude.{◌≡◌, ◌≢◌, ◌⊎◌, ℕ, ◌+◌, ◌-◌, ◌^◌, ◌<◌, ◌≤◌, Bool, true, false, List, [], ◌∷◌, ◌++◌, ◌==◌}
 use Rattle.bpf_shared.specs.declared.events.Entry.{Entry}
 use Rattle.bpf_shared.specs.declared.events.Event.{Event}
@@ -24,7 +24,7 @@ done_in m [] = 0
 done_in m (x ∷ xs) = one_if (is_done m x.event) + done_in m xs
 
 -- a segment's version goes up with each change and each split, from the one that the store was made
--- with to the last, 2 ^ 56 - 1: so many changes of the map may have used one up
+-- with to the last, 2 ^ 56 - 1: n changes of the map may have used one up
 abbrev pub MayBeWorn : Shape → ℕ → ℕ → List Entry → Type 0
 MayBeWorn h version m before = 2 ^ 56 - 1 ≤ version + gained (map_shape h m) + done_in m before
 

@@ -24,7 +24,7 @@ impl Play<(), View> for Comes {
     ghost then = { came };
 }
 
-// The CPUs of a second seat go behind those of a first.
+// The CPUs of a second seat go after those of a first.
 struct Gather;
 
 impl Join<View> for Gather {
@@ -164,7 +164,7 @@ impl HopTable {
 }
 
 impl Rest {
-    /// What the store was told when it was made.
+    /// What the store was given when it was made.
     pub fn about(&self) -> &About
         ensures about { result.now ≡ self.now.about }
         ensures whole { KeepsWholeHistory self.now.about (view [] self.now.history) self.now.words }

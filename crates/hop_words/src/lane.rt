@@ -54,7 +54,7 @@ impl Lane {
     }
 }
 
-// What a step tells: each kind picks it.
+// What a step says: each kind picks it.
 pub(crate) trait Tell {
     ghost use Rattle.hop_words.specs.declared.known.Known.{Known};
 
@@ -75,7 +75,7 @@ impl<E: Tell> Play<(), View> for Told<E> {
     ghost then = { tells E.told };
 }
 
-// Each takes what its kind says besides, which the choice of what it tells may name. A load of these
+// Each takes what its kind says besides, which the choice of what it says may name. A load of these
 // isn't noted. A kind of it asks for a lock, an old batch, a CPU in no run or a caller that may wait,
 // or it is an event: so all that a lookup without a lock loads is noted.
 impl Lane {
@@ -311,7 +311,7 @@ impl Lane {
 }
 
 // The noted steps: each puts itself in front of the lane's tally, with the number found and the
-// number left, whatever its kind tells. An exchange does so where it takes effect.
+// number left, whatever its kind says. An exchange does so where it takes effect.
 impl Lane {
     #[inline(always)]
     pub(crate) fn load_noted<E: Tell, T: Copy>(

@@ -18,7 +18,7 @@ impl TableRule<(), View, About> for OneRule {
     ghost first = { opens };
 }
 
-/// The words of a store, which CPUs share. It is seen as its number and what it was told when it
+/// The words of a store, which CPUs share. It is seen as its number and what it was given when it
 /// was made.
 #[derive(Drop)]
 pub struct HopTable {
@@ -45,7 +45,7 @@ impl HopTable {
     ghost use Rattle.hop_words.specs.Ghost.{shape_at, IsSegment};
     ghost use Rattle.hop_layout.specs.Layout.{is_place, at, first_depth};
 
-    /// What the store was told when it was made.
+    /// What the store was given when it was made.
     pub fn about(&self) -> &About
         ensures { result.now ≡ self.now.about }
     {
@@ -69,7 +69,7 @@ impl HopTable {
         }
     }
 
-    // Where the word of a place stands.
+    // Where the word of a place is.
     #[inline(always)]
     pub(crate) fn word_of(&self, place: Place) -> usize
         requires there { is_place self.now.about.shape place ≡ true }

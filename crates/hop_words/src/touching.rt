@@ -16,7 +16,7 @@ use hop_layout::Place;
 use std::marker::Brand;
 use std::sync::Wait;
 
-/// Bytes of a value that lie in one of its words: so far behind the word's first.
+/// Bytes of a value that lie in one of its words: so far after the word's first.
 #[derive(Clone, Copy, Drop)]
 pub struct ValuePart {
     pub map: u8,

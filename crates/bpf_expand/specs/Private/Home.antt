@@ -1,4 +1,4 @@
--- What stands in an expander fits each other.
+-- The parts of an expander fit each other.
 use Rattle.std.specs.Prelude.{◌≡◌, ℕ, Bool, true, ◌<◌, ◌≤◌, ◌++◌, All, IfSome, List, None, Option, length, slice_index_or}
 use Rattle.bpf_mem.specs.Limits.{max_context}
 use Rattle.bpf_shared.specs.Shape.{Shape}

@@ -11,12 +11,12 @@ pub const L1: Page = Page {
         printed: "refused line 1 L1",
     }),
     advice: "\
-Empty lines and comments may stand before it.",
+Empty lines and comments may come before it.",
 };
 
 pub const L2: Page = Page {
     code: Code::L2,
-    meaning: "a line of the run file has none of its forms, stands out of order, or is one too \
+    meaning: "a line of the run file has none of its forms, is out of order, or is one too \
         many",
     example: Some(Example {
         command: "printf 'ebpf-run 1\\nseed 5\\ncpus 2\\n' | ebpf run",
@@ -73,8 +73,8 @@ pub const L6: Page = Page {
         printed: "refused line 2 L6",
     }),
     advice: "\
-Behind its assembly a program has a line `end`; one given by `hex` has none, its
-digits stand on its own line.",
+After its assembly a program has a line `end`; one given by `hex` has none, its
+digits are on its own line.",
 };
 
 pub const L7: Page = Page {
@@ -118,6 +118,22 @@ pub const L10: Page = Page {
     advice: "\
 The longest program has 65,536 words, which are 1,114,112 bytes as lines of hex
 digits.",
+};
+
+pub const L11: Page = Page {
+    code: Code::L11,
+    meaning: "the comment of this line expects what no outcome of the file can have",
+    example: Some(Example {
+        command: "printf '; never job 5 cpu 0 r0=1\\nebpf-run 1\\nprog a\\nexit\\nend\\njob 0 a\\n' | \
+            ebpf check",
+        printed: "refused line 1 L11",
+    }),
+    advice: "\
+It begins with `always`, `sometimes` or `never`, or a word one edit away, and three
+words or more; but after that comes no line that `run --maps` prints of this file: a
+job with its CPU, or a map with a key and a value of its sizes in lower case hex, and
+numbers without a 0 before them. `always ends` and `sometimes hung` take `--patient`,
+and lines `keys` take `run --check --keys`. `check --lenient` passes such comments over.",
 };
 
 pub const S1: Page = Page {
@@ -173,7 +189,7 @@ pub const S5: Page = Page {
         printed: "refused line 18 S5",
     }),
     advice: "\
-Two maps of one shape can be one whose key has a byte more that tells them
+Two maps of one shape can be one whose key has a byte more that keeps them
 apart.",
 };
 

@@ -16,7 +16,7 @@ A program has 1 to 65,536 words. In a run file: lines of assembly before `end`."
 
 pub const E2: Page = Page {
     code: Code::E2,
-    meaning: "so many bytes, which are not whole words",
+    meaning: "n bytes, which are not whole words",
     example: Some(Example {
         command: "echo 'b7000000050000' | ebpf hex",
         printed: "refused E2 7",
@@ -69,7 +69,7 @@ pub const E6: Page = Page {
         printed: "refused E6 0",
     }),
     advice: "\
-Behind the first word of a 64-bit constant stands one with opcode 0, whose
+After the first word of a 64-bit constant comes one with opcode 0, whose
 immediate is the upper half.",
 };
 

@@ -12,6 +12,6 @@ pub const X1: Page = Page {
     }),
     advice: "\
 The number is the line's, counted from 1. A state is one line of lower case hex,
-as `expand --first` prints one, and `expand` behind the word `state`; those of
+as `expand --first` prints one, and `expand` after the word `state`; those of
 another file, or of other maps or jobs, are none of this file's.",
 };

@@ -14,7 +14,7 @@ pub const A1: Page = Page {
 The number is the line's, counted from 1. docs/reference/assembly.md has every
 form. Spellings of LLVM and of the kernel that differ: `r0 = 5` instead of
 `mov r0, 5`, `;` before a comment, `call 1` instead of a helper's name,
-`goto +3` instead of `goto pc+3`, and no `<LBB0_3>` behind a target.",
+`goto +3` instead of `goto pc+3`, and no `<LBB0_3>` after a target.",
 };
 
 pub const A2: Page = Page {
@@ -25,7 +25,7 @@ pub const A2: Page = Page {
         printed: "refused A2 1",
     }),
     advice: "\
-Constants have 32 bits, signed or not; one of 64 bits has `ll` behind it, as in
+Constants have 32 bits, signed or not; one of 64 bits has `ll` after it, as in
 `r0 = 4294967296 ll`. Offsets and jumps have 16 bits with a sign, `gotol` and
 calls 32.",
 };
@@ -38,7 +38,7 @@ pub const A3: Page = Page {
         printed: "refused A3 2",
     }),
     advice: "\
-A label stands before a colon, on a line of its own or before an instruction:
+A label comes before a colon, on a line of its own or before an instruction:
 `done: exit`.",
 };
 
@@ -50,7 +50,7 @@ pub const A4: Page = Page {
         printed: "refused A4 2",
     }),
     advice: "\
-Each label stands once in a program. The number is the second line's.",
+Each label is defined once in a program. The number is the second line's.",
 };
 
 pub const A5: Page = Page {
@@ -85,7 +85,7 @@ pub const H1: Page = Page {
         printed: "refused H1",
     }),
     advice: "\
-Two digits a byte, upper or lower case; blanks and line ends stand between
+Two digits a byte, upper or lower case; blanks and line ends may come between
 bytes. No `0x`, no addresses: of xxd take `xxd -p`. If it comes from `ebpf asm`,
 that printed a refusal instead of words.",
 };

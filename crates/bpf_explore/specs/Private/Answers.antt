@@ -33,7 +33,7 @@ abbrev pub KeepsAll : List Found → List Found → Type 0
 KeepsAll old new = (i : ℕ) (found : Found) → slice_get old i ≡ Some found
     → (j : ℕ) × (slice_get new j ≡ Some found)
 
--- here a text is to stand: those before are less, and those behind greater
+-- here a text is to be: those before are less, and those after greater
 pub record IsPlaceOf (answers : List Found) (text : List ℕ) (i : ℕ) : Type 0 where
   pub within : i ≤ length answers
   pub before : (k : ℕ) (found : Found) → k < i → slice_get answers k ≡ Some found
@@ -41,12 +41,12 @@ pub record IsPlaceOf (answers : List Found) (text : List ℕ) (i : ℕ) : Type 0
   pub behind : (k : ℕ) (found : Found) → i ≤ k → slice_get answers k ≡ Some found
       → slice_cmp nat_cmp text found.text ≡ Less
 
--- what is told of the i-th kept machine, if it has no work, is one of them
+-- what is printed of the i-th kept machine, if it has no work, is one of them
 abbrev pub IsAnsweredAt : List MachineState → List (List ℕ) → Bool → List Found → ℕ → Type 0
 IsAnsweredAt kept names maps answers i = (m : MachineState) → slice_get kept i ≡ Some m
     → HaveEnded m.jobs → IsAnswered names maps answers m
 
--- what is told of the kept machines below a number
+-- what is printed of the kept machines below a number
 pub record Gathered (kept : List MachineState) (names : List (List ℕ)) (maps : Bool) (place : ℕ)
     (answers : List Found) : Type 0 where
   pub sorted : AreSorted answers

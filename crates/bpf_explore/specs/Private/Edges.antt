@@ -8,7 +8,7 @@ use Rattle.bpf_explore.specs.declared.turns.Edge.{Edge}
 use Rattle.bpf_explore.specs.declared.turns.Turns.{Turns}
 use Rattle.bpf_explore.specs.Search.{IsIdleAt}
 
--- the CPU's turn, with so many more that no store sees, leads from the one kept machine to the other
+-- the CPU's turn, with n more that no store sees, leads from the one kept machine to the other
 pub record IsEdge (kept : List MachineState) (e : Edge) : Type 0 where
   pub inside : e.to < length kept
   pub old : MachineState
@@ -28,7 +28,7 @@ IsEdgeOf kept i c e = (e.«from» ≡ i) × (e.cpu ≡ c) × IsEdge kept e
 abbrev pub turn_of : Edge → ℕ × ℕ
 turn_of e = (e.«from», e.cpu)
 
--- the turn of this number, of so many CPUs, that led there
+-- the turn of this number, of n CPUs, that led there
 abbrev pub edge_of : ℕ → ℕ → Arrival → Edge
 edge_of cpus n a = record { «from» = n / cpus; to = a.to; ahead = a.ahead; cpu = n % cpus }
 
@@ -37,11 +37,11 @@ abbrev pub edges_from : ℕ → ℕ → List Arrival → List Edge
 edges_from cpus n [] = []
 edges_from cpus n (a ∷ rest) = edge_of cpus n a ∷ edges_from cpus (suc n) rest
 
--- those of so many CPUs from the first machine, and then those from the next
+-- those of n CPUs from the first machine, and then those from the next
 abbrev pub edges_of : ℕ → List Arrival → List Edge
 edges_of cpus arrivals = edges_from cpus zero arrivals
 
--- these are the turns of each CPU from each kept machine, in their order; no CPU behind them has work
+-- these are the turns of each CPU from each kept machine, in their order; no CPU after them has work
 pub record AreTurns (kept : List MachineState) (turns : Turns) : Type 0 where
   pub count : length turns.arrivals.items ≡ length kept * turns.cpus
   pub each : (i c : ℕ) (e : Edge) → i < length kept → c < turns.cpus

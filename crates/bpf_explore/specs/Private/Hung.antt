@@ -1,19 +1,13 @@
 -- States from which no end can be reached, while they are found.
-use Rattle.std.specs.Prelude.{◌≡◌, ℕ, ◌<◌, Bool, true, List, Some, slice_get}
+use Rattle.std.specs.Prelude.{◌≡◌, ℕ, ◌<◌, ◌⊎◌, Bool, false, List, Some, length, slice_get}
 use Rattle.bpf_machine.specs.Laws.{IsFresh}
 use Rattle.bpf_machine.specs.Machine.{MachineState}
-use Rattle.bpf_machine.specs.Schedule.{World}
+use Rattle.bpf_machine.specs.Schedule.{World, RunsSchedule, unrolled}
+use Rattle.bpf_machine.specs.Ends.{IsShownRichlyAt}
+use Rattle.bpf_explore.specs.Album.{LeadsFreely}
 use Rattle.bpf_explore.specs.Patient.{HangsBy}
 use Rattle.bpf_explore.specs.Private.Answers.{IsFirst}
 use Rattle.bpf_explore.specs.Private.Ends.{LeadsToEnd}
-
--- each kept machine leads to an end
-abbrev pub AllLead : List MachineState → Type 0
-AllLead kept = (i : ℕ) (m : MachineState) → slice_get kept i ≡ Some m → LeadsToEnd kept i
-
--- each of the first n is marked
-abbrev pub AllMarkedBelow : List Bool → ℕ → Type 0
-AllMarkedBelow marks n = (i : ℕ) → i < n → slice_get marks i ≡ Some true
 
 -- the schedule leads from the first to one from which no end can be reached
 abbrev pub Hangs : List MachineState → List (ℕ × ℕ) → Type 0
@@ -21,3 +15,26 @@ Hangs kept by = (w : World) → IsFresh w → IsFirst kept w → HangsBy w by
 
 abbrev pub AllHang : List MachineState → List (List (ℕ × ℕ)) → Type 0
 AllHang kept hung = (i : ℕ) (by : List (ℕ × ℕ)) → slice_get hung i ≡ Some by → Hangs kept by
+
+-- it leads to the i-th, but for steps that are left
+abbrev pub ComesTo : List MachineState → List (ℕ × ℕ) → ℕ → Type 0
+ComesTo kept by i = (w : World) → IsFresh w → IsFirst kept w
+    → (y : World) × RunsSchedule w (unrolled by) y × IsShownRichlyAt kept i y
+
+-- turns lead from the one to the other, where jobs are given steps
+abbrev pub LeadsOn : List MachineState → ℕ → ℕ → Type 0
+LeadsOn kept i j = (schedule : List ℕ) × LeadsFreely kept i schedule j
+
+-- one of these schedules leads to a machine from which turns lead to the i-th
+abbrev pub IsBeyondOne : List MachineState → List (List (ℕ × ℕ)) → ℕ → Type 0
+IsBeyondOne kept hung i = (k : ℕ) × (by : List (ℕ × ℕ)) × (j : ℕ) × (slice_get hung k ≡ Some by)
+    × ComesTo kept by j × LeadsOn kept j i
+
+-- so it is of each of the first n that isn't marked
+abbrev pub AllBeyondBelow : List MachineState → List Bool → List (List (ℕ × ℕ)) → ℕ → Type 0
+AllBeyondBelow kept marks hung n = (i : ℕ) → i < n → slice_get marks i ≡ Some false
+    → IsBeyondOne kept hung i
+
+-- each kept machine leads to an end, or is beyond one of them
+abbrev pub AllLeadOrBeyond : List MachineState → List (List (ℕ × ℕ)) → Type 0
+AllLeadOrBeyond kept hung = (i : ℕ) → i < length kept → LeadsToEnd kept i ⊎ IsBeyondOne kept hung i

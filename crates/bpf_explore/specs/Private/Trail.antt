@@ -11,7 +11,7 @@ no_origin = record { from = 0; ahead = 0; cpu = 0 }
 abbrev pub origin_at : List Origin → ℕ → Origin
 origin_at origins i = slice_index_or origins i no_origin
 
--- a turn of the CPU, and so many more, led to the i-th from an earlier one, by runs of this kind
+-- a turn of the CPU, and n more, led to the i-th from an earlier one, by runs of this kind
 pub record IsOrigin (runs : World → List ℕ → World → Type 0) (kept : List MachineState) (i : ℕ)
     (o : Origin) : Type 0 where
   pub before : o.«from» < i

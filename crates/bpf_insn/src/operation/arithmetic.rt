@@ -101,7 +101,7 @@ impl AluOp {
         }
     }
 
-    /// The same from a register, where it distinguishes MOV from MOVSX too.
+    /// Its offset where the operand is a register, which distinguishes MOV from MOVSX too.
     pub(crate) fn offset_from_register(self) -> Field
         ensures { result ≡ offset_x self }
     {

@@ -56,7 +56,7 @@ impl Model for KeptJob {
     } };
 }
 
-/// The same bytes.
+/// A copy of bytes.
 fn copy_bytes(alloc: Global, bytes: &[u8]) -> Result<Vec<u8>, AllocError>
     ensures { IfOk result (λ v. v.items ≡ bytes.now) }
 {
@@ -65,7 +65,7 @@ fn copy_bytes(alloc: Global, bytes: &[u8]) -> Result<Vec<u8>, AllocError>
     Ok(copy)
 }
 
-/// The same state.
+/// A copy of a CPU's state.
 fn copy_cpu(alloc: Global, cpu: &Cpu) -> Result<Cpu, AllocError>
     ensures { IfOk result (λ copy. copy ≡ cpu.now) }
 {
@@ -341,7 +341,7 @@ fn make_lane(alloc: Global, parts: &[KeptJob], numbers: &[u32], cpu: u8) -> Resu
     Ok(Lane { hand, next })
 }
 
-/// The same of this many CPUs.
+/// What a machine keeps of each of its CPUs, which have these jobs.
 fn lanes_of_kept(
     alloc: Global,
     parts: &[KeptJob],
@@ -392,7 +392,7 @@ fn can_fill(lane: &Lane, parts: &[KeptJob], numbers: &[u32], cpu: u8) -> bool
     }
 }
 
-/// The same of each CPU's.
+/// Whether each CPU's lane can become that of these jobs without memory.
 fn can_fill_all(lanes: &[Lane], parts: &[KeptJob], numbers: &[u32], cpus: u8) -> bool
     requires { All (λ n. n < length parts.now) numbers.now }
     ensures count { result ≡ true → length lanes.now ≡ cpus }
@@ -456,7 +456,7 @@ fn fill_lane(lane: &mut Lane, parts: &[KeptJob], numbers: &[u32], cpu: u8)
     lane.next = find_waiting(parts, numbers, cpu);
 }
 
-/// The same of each CPU's.
+/// Each CPU's lane becomes that of these jobs.
 fn fill_all(lanes: &mut Vec<Lane>, parts: &[KeptJob], numbers: &[u32], cpus: u8)
     requires within { All (λ n. n < length parts.now) numbers.now }
     requires count { length lanes.old.items ≡ cpus }
@@ -512,7 +512,7 @@ fn hash_of_hand(first: u64, cpu: &Cpu, left: u64) -> u64
         .fold(hash, |hash: u64, word| spread(hash ^ *word))
 }
 
-/// The same of a job in this phase on the CPU of this lane.
+/// A number by which a job in this phase is found, on the CPU of this lane.
 fn hash_of_stage(first: u64, lane: &Lane, phase: &Phase) -> u64
     ensures { result ≡ stage_hash first (stage_of lane.now.hand phase.now) }
 {

@@ -14,7 +14,7 @@ impl Worked {
     ghost use Rattle.std.specs.Prelude.{◌≡◌};
     ghost use Rattle.bpf_machine.specs.Private.Turns.{with_worked};
 
-    /// The same with one more CPU, which had some.
+    /// These CPUs and one more, which had work.
     fn with(self, cpu: u8) -> Worked
         ensures { result ≡ with_worked self cpu }
     {

@@ -22,7 +22,7 @@ fn save_waiting(out: &mut Vec<u8>) -> Result<(), AllocError>
     Ok(())
 }
 
-/// The same of a job in hand.
+/// Appends to the bytes what a job in hand is saved as.
 fn save_hand(hand: &Hand, out: &mut Vec<u8>) -> Result<(), AllocError>
     ensures ok { OnOk result
         (out.new.items ≡ out.old.items ++ stage_saved (InHand hand.now.cpu hand.now.left)) }
@@ -33,7 +33,7 @@ fn save_hand(hand: &Hand, out: &mut Vec<u8>) -> Result<(), AllocError>
     hand.cpu.save(out)
 }
 
-/// The same of a job that has ended.
+/// Appends to the bytes what a job that has ended is saved as.
 fn save_ended(outcome: Outcome, out: &mut Vec<u8>) -> Result<(), AllocError>
     ensures ok { OnOk result
         (out.new.items ≡ out.old.items ++ stage_saved (Ended outcome)) }
@@ -43,7 +43,7 @@ fn save_ended(outcome: Outcome, out: &mut Vec<u8>) -> Result<(), AllocError>
     save_outcome(outcome, out)
 }
 
-/// The same of a job in this phase on the CPU of this lane.
+/// Appends to the bytes what a job in this phase is saved as, on the CPU of this lane.
 fn save_stage(lane: &Lane, phase: &Phase, out: &mut Vec<u8>) -> Result<(), AllocError>
     ensures ok { OnOk result
         (out.new.items ≡ out.old.items ++ stage_saved (stage_of lane.now.hand phase.now)) }

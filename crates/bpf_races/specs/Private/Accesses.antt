@@ -13,7 +13,7 @@ seen (Some at) events = events
 abbrev pub IsTouched : List Event → Access → Type 0
 IsTouched events a = (event : Event) × IsAmong events event × (access_of event ≡ Some a)
 
--- one more stands behind them, if it is one
+-- one more is after them, if it is one
 abbrev pub Adds : List Access → Option Access → List Access → Type 0
 Adds old None new = new ≡ old
 Adds old (Some a) new = new ≡ old ++ a ∷ []

@@ -35,7 +35,7 @@ pub record IsHomed (a : About) (m : ℕ) (key : List ℕ) (at : KeyHome) : Type 
   pub small : at.key_size ≤ 64
   pub elements : at.elements ≡ elements_of (shape_at a m)
 
--- so many readings were disturbed, and nothing else came of them
+-- n readings were disturbed, and nothing else came of them
 pub record SeesDisturbances (a : About) (l : Known) (m : ℕ) (key : List ℕ) (n : ℕ) (l' : Known)
     : Type 0 where
   pub more : List (List Sight)

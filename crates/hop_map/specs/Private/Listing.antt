@@ -83,7 +83,7 @@ pub record Adds (a : About) (l : Known) (m : ℕ) (old new : List (List ℕ)) : 
   pub shown : AllByRecursion (IsShownIn a m l.locks) more
   pub distinct : AreDistinct new
 
--- of the elements of that segment, those that P speaks of are listed, behind the keys before
+-- of the elements of that segment, those that P speaks of are listed, after the keys before
 pub record Part (a : About) (l : Known) (m s : ℕ) (old now : List (List ℕ)) (P : ℕ → Type 0)
     : Type 0 where
   pub more : List (List ℕ)
@@ -94,7 +94,7 @@ pub record Part (a : About) (l : Known) (m s : ℕ) (old now : List (List ℕ)) 
       → is_among (spelled_key a m (image a (lock_of l).copy) e) more ≡ true
   pub distinct : AreDistinct now
 
--- the element stands at one of the first n places
+-- the element is at one of the first n places
 abbrev pub StandsBelow : About → Known → ℕ → ℕ → ℕ → ℕ → Type 0
 StandsBelow a l m s n e = (p : ℕ) × (p < n) × (p < 64)
     × (item ((image a (lock_of l).copy).slot m s p) ≡ Some e)

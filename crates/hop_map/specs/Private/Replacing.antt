@@ -16,7 +16,7 @@ pub record OffersReplacement (a : About) (l : Known) (m s : ℕ) (key bytes : Li
   pub filled : HandFilled a l m s key bytes element
   pub flags_known : (flags ≡ 0) ⊎ (flags ≡ 2)
   pub limbo : m < length l.limbo
-  -- by what the lock told
+  -- by what the lock said
   pub apart : has element (lock_of l).known ≡ false
 
 -- the replacement's event; the element that the key led to is in hand, and all else as it was

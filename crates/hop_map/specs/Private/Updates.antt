@@ -68,7 +68,7 @@ pub record Offers (a : About) (l : Known) (m s : ℕ) (key bytes : List ℕ) (fl
   pub number : (hand l).element ≡ element
   pub inside : element < elements (shape_at a m)
   pub keyed : HasKey (shape_at a m) (image a (lock_of l).first) m element key
-  -- by what the lock told
+  -- by what the lock said
   pub apart : has element (lock_of l).known ≡ false
 
 -- what the lock's words and the flags say of an update

@@ -5,7 +5,7 @@ use std::sync::atomic::{AtomicU64, Ordering};
 use std::thread;
 
 /// Holds CPU 0's first helper before its call until CPU 1's first was answered, and CPU 1's first
-/// before its call until CPU 0's first has come: each for so many turns at most.
+/// before its call until CPU 0's first has come: each for at most n turns.
 #[derive(Drop)]
 pub(super) struct Meeting {
     turns: u64,

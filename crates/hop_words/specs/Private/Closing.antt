@@ -10,7 +10,7 @@ use Rattle.hop_words.specs.Private.Seats.{Sat, empty_view, Learned}
 use Rattle.hop_words.specs.Seats.{view, KeepsWholeHistory}
 use Rattle.hop_words.specs.Closing.{Ending}
 
--- what a new seat and a seat that learns are told
+-- what a new seat and a seat that learns are given
 abbrev pub came : Step (Unit {0}) → Sat → ℕ → Sat → Type 0
 came st m n m' = m'.0 ≡ empty_view
 

@@ -20,7 +20,7 @@ dealer v = view (drop 1 v.lanes) v.kept
 abbrev pub dealt : View → View
 dealt v = view (take 1 v.lanes) []
 
--- the CPUs of a second seat go behind those of a first
+-- the CPUs of a second seat go after those of a first
 abbrev pub gathered : View → View → View
 gathered v w = view (v.lanes ++ w.lanes) v.kept
 

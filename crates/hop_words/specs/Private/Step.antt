@@ -1,5 +1,5 @@
 -- What a kind of step has to give: whatever the words and the ghost are, the step of one CPU at one
--- place keeps the rule, and its caller is told something.
+-- place keeps the rule, and its caller learns something.
 use Rattle.std.specs.Prelude.{◌≡◌, ◌≢◌, ℕ, ◌<◌, ◌==◌, if◌then◌else◌, List, [], ◌∷◌, ◌++◌, length, ◌⊎◌, ◌+◌, ◌%◌}
 use prog.Atomic.{either}
 use mathlib.Core.List.{IsPrefix}

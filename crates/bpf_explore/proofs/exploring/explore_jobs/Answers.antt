@@ -1,9 +1,7 @@
-use Rattle.std.proofs.Common.{◌≡◌, ◌∙◌, ◌<◌, Bool, List, length, map, string_bytes, sym, ap, subst}
-use Rattle.std.specs.Prelude.{All}
+use Rattle.std.proofs.Common.{◌≡◌, ◌∙◌, Bool, List, length, map, string_bytes, sym, ap, subst}
 use Rattle.bpf_shared.specs.Shape.{Shape}
-use Rattle.bpf_cpu.specs.declared.job.Job.{Job}
 use Rattle.bpf_cpu.specs.Task.{waiting}
-use Rattle.bpf_machine.specs.Machine.{MachineState, Shows}
+use Rattle.bpf_machine.specs.Machine.{MachineState}
 use Rattle.bpf_machine.specs.Schedule.{World}
 use Rattle.bpf_jobs.specs.Printed.{first_world}
 use Rattle.bpf_explore.specs.Outcomes.{IsExplored}
@@ -12,46 +10,33 @@ use Rattle.bpf_explore.specs.Stores.{IsOfShape}
 use Rattle.bpf_explore.proofs.ExploreLaws.{first_shape, first_lists_none, first_fresh, still_first, explored}
 use Rattle.bpf_explore.proofs.exploring.explore_jobs.Goals as goal
 
-pub make_machine-requires-clause-cpus : goal.make_machine-requires-clause-cpus
-make_machine-requires-clause-cpus g c =
-    let same : c.in_ok-copy.copy ≡ c.args.shape = c.in_ok-copy.ensures in
-    subst (λ (h : Shape). All (λ (job : Job). job.cpu < h.cpus) c.args.jobs.items) (sym same) c.requires.cpus
-
-pub make_machine-requires-clause-programs : goal.make_machine-requires-clause-programs
-make_machine-requires-clause-programs g c = c.requires.programs
-
-pub make_machine-requires-clause-contexts : goal.make_machine-requires-clause-contexts
-make_machine-requires-clause-contexts g c = c.requires.contexts
-
 pub new-requires-clause-shape : goal.new-requires-clause-shape
 new-requires-clause-shape g c =
-    let same : c.in_ok-copy.copy ≡ c.args.shape = c.in_ok-copy.ensures in
+    let same : c.in_ok-copy.copy ≡ c.args.setup.shape = c.in_ok-copy.ensures in
     let m = c.in_ok-machine.machine in
-    subst (λ (h : Shape). IsOfShape h m.store) same (first_shape c.in_ok-copy.copy m c.args.programs.items (map waiting c.args.jobs.items) c.in_ok-machine.ensures)
+    subst (λ (h : Shape). IsOfShape h m.store) (sym same) (first_shape c.args.setup.shape m c.args.setup.programs.items (map waiting c.args.setup.jobs.items) c.in_ok-machine.ensures)
 
 pub new-requires-clause-lists : goal.new-requires-clause-lists
 new-requires-clause-lists g c =
-    first_lists_none c.in_ok-copy.copy c.in_ok-machine.machine c.args.programs.items (map waiting c.args.jobs.items) c.in_ok-machine.ensures
+    first_lists_none c.args.setup.shape c.in_ok-machine.machine c.args.setup.programs.items (map waiting c.args.setup.jobs.items) c.in_ok-machine.ensures
 
 pub gather-requires : goal.gather-requires
 gather-requires g c =
-    let same : c.in_ok-copy.copy ≡ c.args.shape = c.in_ok-copy.ensures in
     let m = c.in_ok-machine.machine in
-    let programs = c.args.programs.items in
-    let jobs = c.args.jobs.items in
-    let w : World = first_world c.args.shape programs (map waiting jobs) in
-    let shows = subst (λ (h : Shape). Shows m (first_world h programs (map waiting jobs))) same c.in_ok-machine.ensures in
+    let programs = c.args.setup.programs.items in
+    let jobs = c.args.setup.jobs.items in
+    let w : World = first_world c.args.setup.shape programs (map waiting jobs) in
+    let shows = c.in_ok-machine.ensures in
     (w, still_first c.in_ok-explorer.explorer.kept c.explore-extent.new.frontier.kept m w c.in_ok-explorer.ensures c.explore-extent.ensures.extends shows)
 
 pub returns : goal.returns
 returns g c =
-    let same : c.in_ok-copy.copy ≡ c.args.shape = c.in_ok-copy.ensures in
     let m = c.in_ok-machine.machine in
-    let programs = c.args.programs.items in
-    let jobs = c.args.jobs.items in
+    let programs = c.args.setup.programs.items in
+    let jobs = c.args.setup.jobs.items in
     let names = map string_bytes c.args.names.now in
-    let w : World = first_world c.args.shape programs (map waiting jobs) in
-    let shows = subst (λ (h : Shape). Shows m (first_world h programs (map waiting jobs))) same c.in_ok-machine.ensures in
+    let w : World = first_world c.args.setup.shape programs (map waiting jobs) in
+    let shows = c.in_ok-machine.ensures in
     let kept = c.explore-extent.new.frontier.kept in
     let answers = c.in_ok-answers.answers.items in
     let count : c.len-states.result ≡ length kept = c.len-states.ensures ∙ ap (λ (ms : List MachineState). length ms) c.gather.ensures.same in
@@ -62,6 +47,6 @@ returns g c =
     (subst (λ (b : Bool). IsExplored w names c.args.maps answers (is_whole extent) b c.args.limit c.len-states.result) (sym refused)
     (subst (IsExplored w names c.args.maps answers (is_whole extent) (is_refused extent) c.args.limit) (sym count)
     (explored c.cover_tells_all.ensures kept w names c.args.maps answers extent c.args.limit
-    (first_fresh c.args.shape m programs jobs c.requires.contexts shows)
+    (first_fresh c.args.setup.shape m programs jobs c.requires.contexts shows)
     (still_first c.in_ok-explorer.explorer.kept kept m w c.in_ok-explorer.ensures c.explore-extent.ensures.extends shows)
     c.explore-extent.ensures.covers c.in_ok-answers.ensures.outcomes c.in_ok-answers.ensures.answered c.explore-extent.ensures.met c.explore-extent.ensures.short c.leads.ensures c.apart.ensures)))

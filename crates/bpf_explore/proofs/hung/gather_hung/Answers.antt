@@ -1,10 +1,9 @@
 use Rattle.std.proofs.Common.{List, Bool, length, sym, subst}
 use Rattle.bpf_machine.specs.Machine.{MachineState}
 use Rattle.bpf_explore.specs.Private.Edges.{AreTurns}
-use Rattle.bpf_explore.specs.Private.Ends.{AreMarked}
-use Rattle.bpf_explore.specs.Private.Hung.{AllHang, AllMarkedBelow}
+use Rattle.bpf_explore.specs.Private.Hung.{AllHang, AllBeyondBelow, AllLeadOrBeyond}
 use Rattle.bpf_explore.specs.Private.Replays.{CanRunOut}
-use Rattle.bpf_explore.proofs.HungLaws.{all_lead}
+use Rattle.bpf_explore.proofs.BeyondLaws.{all_lead_or_beyond}
 use Rattle.bpf_explore.proofs.hung.gather_hung.Goals as goal
 
 pub mark_ends-requires-clause-turns : goal.mark_ends-requires-clause-turns
@@ -17,7 +16,9 @@ pub returns-clause-out : goal.returns-clause-out
 returns-clause-out c is = subst CanRunOut c.all_go_on.ensures.same (c.in_ok-hung.ensures.out is)
 
 pub returns-clause-ends : goal.returns-clause-ends
-returns-clause-ends c fit none =
+returns-clause-ends c fit =
     let marks = c.in_ok-marks.marks.items in
-    let marked = subst (λ (kept : List MachineState). AreMarked kept marks) c.all_go_on.ensures.same c.in_ok-marks.ensures in
-    all_lead c.args.explorer.now.kept marks marked (subst (λ (ms : List Bool). AllMarkedBelow ms (length ms)) c.deref.ensures.value (c.in_ok-hung.ensures.listed fit none))
+    let hung = c.in_ok-hung.hung.items in
+    let kept = c.all_go_on.new.explorer.kept in
+    let listed = subst (λ (ms : List Bool). AllBeyondBelow kept ms hung (length ms)) c.deref.ensures.value (c.in_ok-hung.ensures.listed fit) in
+    subst (λ (k : List MachineState). AllLeadOrBeyond k hung) c.all_go_on.ensures.same (all_lead_or_beyond kept marks hung c.in_ok-marks.ensures listed)

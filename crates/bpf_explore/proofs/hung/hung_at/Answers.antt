@@ -1,7 +1,7 @@
 use Rattle.std.proofs.Common.{ℕ, List, subst}
 use Rattle.bpf_machine.specs.Schedule.{unrolled}
 use Rattle.bpf_explore.specs.Private.Replays.{IsReplayed}
-use Rattle.bpf_explore.proofs.HungLaws.{hangs}
+use Rattle.bpf_explore.proofs.HungLaws.{hangs, comes_to}
 use Rattle.bpf_explore.proofs.hung.hung_at.Goals as goal
 
 pub returns-then-branch-clause-out : goal.returns-then-branch-clause-out
@@ -12,4 +12,11 @@ returns-clause-hung c =
     let kept = c.args.explorer.now.kept in
     let m = c.replay.new.explorer.machine in
     hangs c.stuck_are_hung.ensures c.free_runs_agree.ensures kept c.args.marks.now c.args.place c.in_ok-by.by.items m c.requires.stuck c.requires.unmarked c.in_ok-by.ensures
+    (subst (λ (by : List (ℕ × ℕ)). IsReplayed kept (unrolled by) m) c.deref.ensures.value c.in_ok-replay.ensures.replayed) (c.in_ok-replay.ensures.none c.if-branch.false)
+
+pub returns-clause-there : goal.returns-clause-there
+returns-clause-there c =
+    let kept = c.args.explorer.now.kept in
+    let m = c.replay.new.explorer.machine in
+    comes_to c.free_runs_agree.ensures kept c.args.place c.in_ok-by.by.items m c.in_ok-by.ensures
     (subst (λ (by : List (ℕ × ℕ)). IsReplayed kept (unrolled by) m) c.deref.ensures.value c.in_ok-replay.ensures.replayed) (c.in_ok-replay.ensures.none c.if-branch.false)

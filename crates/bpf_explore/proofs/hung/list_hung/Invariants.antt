@@ -1,5 +1,5 @@
-use Rattle.std.proofs.Common.{◌≡◌, true, false, []}
-use Rattle.bpf_explore.specs.Private.Hung.{AllHang, AllMarkedBelow}
+use Rattle.std.proofs.Common.{◌≡◌, true, false}
+use Rattle.bpf_explore.specs.Private.Hung.{AllHang, AllBeyondBelow}
 use Rattle.bpf_explore.specs.Private.Replays.{CanRunOut}
 use Rattle.bpf_explore.proofs.hung.list_hung.Given as goal
 
@@ -7,6 +7,6 @@ abbrev pub invariant-loop-place : goal.invariant-loop-place
 invariant-loop-place l = record {
   same : l.explorer.kept ≡ l.fn.explorer.kept;
   hung : AllHang l.fn.explorer.kept l.hung.items;
-  listed : l.fit ≡ true → l.hung.items ≡ [] → AllMarkedBelow l.marks l.place;
+  listed : l.fit ≡ true → AllBeyondBelow l.fn.explorer.kept l.marks l.hung.items l.place;
   out : l.fit ≡ false → CanRunOut l.fn.explorer.kept;
 }

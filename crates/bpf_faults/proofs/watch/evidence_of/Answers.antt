@@ -10,15 +10,15 @@ use Rattle.bpf_faults.proofs.watch.evidence_of.Goals as goal
 
 pub watch-requires-clause-watched : goal.watch-requires-clause-watched
 watch-requires-clause-watched c =
-    let jobs : c.deref.result.now ≡ c.args.jobs.items = search rules in
+    let jobs : c.deref.result.now ≡ c.args.setup.jobs.items = search rules in
     let sizes : c.in_ok-sizes.sizes.items ≡ c.deref-2.result.now = search rules in
     let P : List Job → Type 0 = λ jobs. AreSizes (map waiting jobs) c.in_ok-sizes.sizes.items in
-    let Q : List ℕ → Type 0 = λ sizes. AreSizes (map waiting c.args.jobs.items) sizes in
+    let Q : List ℕ → Type 0 = λ sizes. AreSizes (map waiting c.args.setup.jobs.items) sizes in
     let R : List Task → Type 0 = λ tasks. AreWatched tasks c.deref-2.result.now [] in
-    subst R c.in_ok-machine.ensures.jobs (watched_first c.args.jobs.items c.deref-2.result.now (subst Q sizes (subst P jobs c.in_ok-sizes.ensures)))
+    subst R c.in_ok-machine.ensures.jobs (watched_first c.args.setup.jobs.items c.deref-2.result.now (subst Q sizes (subst P jobs c.in_ok-sizes.ensures)))
 
 pub returns-clause-shown : goal.returns-clause-shown
-returns-clause-shown c = c.in_ok-evidence.ensures.shown (first_world c.args.shape c.args.programs.items (map waiting c.args.jobs.items)) c.in_ok-machine.ensures
+returns-clause-shown c = c.in_ok-evidence.ensures.shown (first_world c.args.setup.shape c.args.setup.programs.items (map waiting c.args.setup.jobs.items)) c.in_ok-machine.ensures
 
 pub returns-clause-all : goal.returns-clause-all
-returns-clause-all c = c.in_ok-evidence.ensures.all (first_world c.args.shape c.args.programs.items (map waiting c.args.jobs.items)) c.in_ok-machine.ensures
+returns-clause-all c = c.in_ok-evidence.ensures.all (first_world c.args.setup.shape c.args.setup.programs.items (map waiting c.args.setup.jobs.items)) c.in_ok-machine.ensures

@@ -12,7 +12,7 @@ returns-in-Ok-clause-told c =
     let file = c.in_ok-file.file in
     let report = c.in-Ok.report in
     let said : IsRunFile c.args.text.now (Ok (file_of file)) = search rules in
-    let w = asked_world c.args.keys file.shape file.programs.items (map waiting file.jobs.items) in
+    let w = asked_world c.args.keys file.setup.shape file.setup.programs.items (map waiting file.setup.jobs.items) in
     let printed = subst (λ names. IsReportBy w c.args.by.now (map string_bytes names) c.args.maps (string_bytes report.text) report.stopped)
     c.deref.ensures.value c.in-Ok.ensures in
     told c.args.by.now c.args.keys c.args.maps c.args.text.now file report said printed

@@ -7,8 +7,6 @@ pub returns-clause-fits : goal.returns-clause-fits
 returns-clause-fits c =
     runnable (record {
       shape = c.in-Ok.shape;
-      seed = c.args.self.seed;
-      names = c.args.self.names;
       programs = c.args.self.programs;
       jobs = c.args.self.jobs;
     }) (part_of c.args.self).file (search rules) (search rules) refl refl c.requires.runs

@@ -1,0 +1,16 @@
+//! What a machine is made of.
+
+use crate::job::Job;
+use bpf_loader::Program;
+use bpf_shared::StoreShape;
+
+/// What a machine is made of, before its first turn.
+#[derive(Drop)]
+pub struct Setup {
+    /// How many CPUs there are, and the maps by their numbers.
+    pub shape: StoreShape,
+    /// The programs, by the numbers that jobs have.
+    pub programs: Vec<Program>,
+    /// The jobs, in their order.
+    pub jobs: Vec<Job>,
+}

@@ -1,0 +1,5 @@
+pub mod Standing
+pub mod Steps
+pub mod Runs
+pub mod Adding
+pub mod Straight

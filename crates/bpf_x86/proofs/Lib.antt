@@ -1,0 +1,16 @@
+pub mod Overlay
+pub mod Written
+pub mod Alike
+pub mod Buffers
+pub mod Calling
+pub mod Meeting
+pub mod Behind
+pub mod StepShapes
+pub mod Lagging
+pub mod Following
+pub mod Racing
+pub mod Turning
+pub mod Going
+pub mod Simulating
+pub mod KeptLaws
+pub mod OrderLaws

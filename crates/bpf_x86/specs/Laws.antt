@@ -1,0 +1,70 @@
+-- What store buffers add to sequential consistency: nothing, where no schedule leads to a data race.
+use Rattle.std.specs.Prelude.{◌≡◌, ℕ, suc, Bool, true, false, List, Some, map, slice_get}
+use Rattle.bpf_shared.specs.declared.events.Event.{Event}
+use Rattle.bpf_shared.specs.Store.{Plain}
+use Rattle.bpf_shared.specs.History.{PlainlyLegal, entry}
+use Rattle.bpf_loader.specs.Loaded.{Loaded}
+use Rattle.bpf_cpu.specs.declared.cpu.Cpu.{Cpu}
+use Rattle.bpf_cpu.specs.declared.outcome.Progress.{Progress}
+use Rattle.bpf_cpu.specs.Step.{Step}
+use Rattle.bpf_cpu.specs.Task.{Task, InHand}
+use Rattle.bpf_machine.specs.declared.machine.Stand.{Stand}
+use Rattle.bpf_machine.specs.Hands.{IsAt}
+use Rattle.bpf_machine.specs.Schedule.{World, RunsSchedule}
+use Rattle.bpf_machine.specs.Rounds.{HaveEnded}
+use Rattle.bpf_machine.specs.Laws.{IsFresh}
+use Rattle.bpf_machine.specs.Machine.{MachineState}
+use Rattle.bpf_machine.specs.Cover.{IsClosed, IsShown}
+use Rattle.bpf_machine.specs.Patient.{NoneRanOut, IsClosedRichly}
+use Rattle.bpf_machine.specs.Race.{IsRace}
+use Rattle.bpf_x86.specs.Machine.{X86, Move, RunsMoves, drained}
+
+-- machines that count: all; or, where one is patient, those in which no job is out of budget
+abbrev pub Counts : Bool → List Task → Type 0
+Counts false jobs = Unit {0}
+Counts true jobs = NoneRanOut jobs
+
+-- no schedule leads to a data race
+abbrev pub IsRaceFree : Bool → World → Type 0
+IsRaceFree patient w = (schedule : List ℕ) (z : World) → RunsSchedule w schedule z
+    → Counts patient z.jobs → (one other : Stand) (b : ℕ) → IsRace z one other b → ⊥
+
+-- what x86 reaches where all jobs have ended, sequential consistency reaches by a schedule
+abbrev pub IsSameOnX86 : Bool → World → Type 0
+IsSameOnX86 patient w = (moves : List Move) (z : X86) → RunsMoves (drained w) moves z
+    → HaveEnded z.world.jobs → Counts patient z.world.jobs
+    → (schedule : List ℕ) × RunsSchedule w schedule z.world
+
+-- each outcome of sequential consistency is one of x86
+abbrev pub OrdersAreX86s : Type 0
+OrdersAreX86s = (w z : World) (schedule : List ℕ) → RunsSchedule w schedule z
+    → (moves : List Move) × RunsMoves (drained w) moves (drained z)
+
+-- a CPU whose job in hand has a step left can make it
+abbrev pub CanStep : World → Type 0
+CanStep w = (c j : ℕ) (task : Task) (state : Cpu) (left : ℕ)
+    → IsAt w.jobs c j task (InHand state (suc left))
+    → (program : Loaded) × (events : List Event) × (answer : Progress) × (new : Cpu) × (s : Plain)
+    × (slice_get w.programs task.program ≡ Some program)
+    × Step w.store.shape.maps program state events answer new
+    × PlainlyLegal w.store (map (entry c) events) s
+
+-- so in each machine that schedules lead to
+abbrev pub StepsAreThere : Bool → World → Type 0
+StepsAreThere patient w = (schedule : List ℕ) (z : World) → RunsSchedule w schedule z
+    → Counts patient z.jobs → CanStep z
+
+-- THE LAW: where no schedule leads to a data race, x86 adds nothing
+abbrev pub RaceFreeIsSame : Type 0
+RaceFreeIsSame = (patient : Bool) (w : World) → IsFresh w → StepsAreThere patient w
+    → IsRaceFree patient w → IsSameOnX86 patient w
+
+-- the same where a closed list of machines shows the first one, or one that is closed but for budgets
+abbrev pub AreClosed : Bool → List MachineState → Type 0
+AreClosed false kept = IsClosed kept
+AreClosed true kept = IsClosedRichly kept
+
+abbrev pub KeptRaceFreeIsSame : Type 0
+KeptRaceFreeIsSame =
+    (patient : Bool) (kept : List MachineState) (w : World) → AreClosed patient kept → IsFresh w
+    → IsShown kept w → IsRaceFree patient w → IsSameOnX86 patient w

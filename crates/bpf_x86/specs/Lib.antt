@@ -1,0 +1,3 @@
+pub mod Buffers
+pub mod Machine
+pub mod Laws

@@ -1,0 +1,28 @@
+//! What follows from the definition of the x86 machine.
+//!
+//! The functions do nothing: their contracts are the laws.
+ghost use Rattle.bpf_x86.specs.Laws.{KeptRaceFreeIsSame, OrdersAreX86s, RaceFreeIsSame};
+
+/// Each outcome of sequential consistency is one of x86.
+pub fn orders_are_x86s()
+    ensures { OrdersAreX86s }
+{}
+
+/// Where no schedule leads to a data race, and each CPU can always take its turn, wherever x86
+/// reaches where all jobs have ended, sequential consistency reaches.
+pub fn race_free_is_same()
+    ensures { RaceFreeIsSame }
+{
+    bpf_mem::laws::writes_are_determined();
+    bpf_loader::laws::one_instruction_begins();
+    bpf_shared::laws::calls_have_one_reply();
+}
+
+/// Where a closed list of machines shows the first one, x86 adds nothing if no schedule leads to a data race.
+pub fn kept_race_free_is_same()
+    ensures { KeptRaceFreeIsSame }
+{
+    bpf_mem::laws::writes_are_determined();
+    bpf_loader::laws::one_instruction_begins();
+    bpf_shared::laws::calls_have_one_reply();
+}
