@@ -18,7 +18,8 @@ use Rattle.bpf_shared.specs.History.{PlainlyLegal, entry}
 use Rattle.bpf_shared.specs.Sound.{IsSoundStore}
 use Rattle.bpf_shared.proofs.Soundness.{allowed_sound, span-after_write}
 use Rattle.bpf_shared.proofs.Puts.{true_or_false, equal_or_not, put-same, put-other, put_pair-old}
-use Rattle.bpf_x86.proofs.Overlay.{within, written, hits, hits_any, not_written, last_missed, false_from}
+use Rattle.bpf_x86.specs.Forwarding.{within, written}
+use Rattle.bpf_x86.proofs.Overlay.{hits, hits_any, not_written, last_missed, false_from}
 use Rattle.bpf_x86.proofs.Written.{at, address, write_here, write_there, same_number}
 use Rattle.bpf_x86.proofs.Alike.{IsLike, HasValues, is_access, follow, held_others}
 

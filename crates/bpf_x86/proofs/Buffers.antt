@@ -14,7 +14,8 @@ use Rattle.bpf_shared.specs.Sound.{IsSoundStore}
 use Rattle.bpf_shared.proofs.Soundness.{span-after_write}
 use Rattle.bpf_shared.proofs.Puts.{true_or_false, equal_or_not, put-other}
 use Rattle.bpf_x86.specs.Buffers.{Buffered}
-use Rattle.bpf_x86.proofs.Overlay.{within, written, hits, hits_any, overlaid, not_written, missed, all_missed, false_from}
+use Rattle.bpf_x86.specs.Forwarding.{within, written, overlaid}
+use Rattle.bpf_x86.proofs.Overlay.{hits, hits_any, not_written, missed, all_missed, false_from}
 use Rattle.bpf_x86.proofs.Written.{at, address, write_live, write_unheld, apart_missed}
 use Rattle.bpf_x86.proofs.Alike.{IsLike}
 

@@ -16,7 +16,8 @@ use Rattle.bpf_shared.specs.Sound.{IsSoundStore}
 use Rattle.bpf_shared.proofs.Soundness.{span-after_write, after_write_sound}
 use Rattle.bpf_shared.proofs.Puts.{true_or_false, equal_or_not, put-same, put-other}
 use Rattle.bpf_x86.specs.Buffers.{Buffered, Sees, Flushes, Drains}
-use Rattle.bpf_x86.proofs.Overlay.{within, within_parts, hits, hits_any, byte_after, overlaid, missed, overlaid-last, last_missed, last_hits, false_from}
+use Rattle.bpf_x86.specs.Forwarding.{within, byte_after, overlaid}
+use Rattle.bpf_x86.proofs.Overlay.{within_parts, hits, hits_any, missed, overlaid-last, last_missed, last_hits, false_from}
 use Rattle.bpf_x86.proofs.Written.{at, address, write_live, write_unheld, same_number}
 use Rattle.bpf_x86.proofs.Alike.{IsLike, same_functions}
 use Rattle.bpf_x86.proofs.Buffers.{nobody, IsWaiting, AreWaiting, IsClean, IsAhead, still_waiting, waiting-last, flush_ahead}

@@ -1,5 +1,6 @@
 pub mod Overlay
 pub mod Written
+pub mod Forwarding
 pub mod Alike
 pub mod Buffers
 pub mod Calling

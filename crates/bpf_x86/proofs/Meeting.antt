@@ -16,7 +16,8 @@ use Rattle.bpf_shared.specs.Sound.{IsSoundStore}
 use Rattle.bpf_shared.proofs.Soundness.{allowed_sound}
 use Rattle.bpf_shared.proofs.Puts.{true_or_false, equal_or_not, put-same, put-other, put_pair, put_pair-old}
 use Rattle.bpf_x86.specs.Buffers.{Buffered, Drains, AsksMemory, Calls}
-use Rattle.bpf_x86.proofs.Overlay.{within, hits_any, overlaid, all_missed}
+use Rattle.bpf_x86.specs.Forwarding.{within, overlaid}
+use Rattle.bpf_x86.proofs.Overlay.{hits_any, all_missed}
 use Rattle.bpf_x86.proofs.Written.{at, address}
 use Rattle.bpf_x86.proofs.Alike.{HasValues, Follows, is_access, follow, held_others}
 use Rattle.bpf_x86.proofs.Buffers.{nobody, AreWaiting, IsClean, IsAhead, reaches_here, reaches_there, still_waiting, unheld_missed}

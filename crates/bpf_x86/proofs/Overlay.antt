@@ -8,10 +8,7 @@ use Rattle.bpf_shared.specs.Access.{bytes_in}
 use Rattle.bpf_shared.specs.declared.events.Event.{Event}
 use Rattle.bpf_shared.specs.declared.events.Event.TheVariants.{Load, Store, Atomic}
 use Rattle.bpf_shared.proofs.Puts.{true_or_false}
-
--- the address is one of the n from a on
-abbrev pub within : ℕ → ℕ → ℕ → Bool
-within a n b = nat_le a b && nat_lt b (a + n)
+use Rattle.bpf_x86.specs.Forwarding.{within, written, byte_after, overlaid}
 
 pub within_parts : (a n b : ℕ) → within a n b ≡ true → (a ≤ b) × (b < a + n)
 within_parts a n b h = (grind (arith, nat_tests), grind (arith, nat_tests))
@@ -21,10 +18,6 @@ within_from a n b h k = grind (arith, nat_tests)
 
 pub beside : (a n b : ℕ) → within a n b ≡ false → (b < a) ⊎ (a + n ≤ b)
 beside a n b h = grind (arith, nat_tests)
-
--- the byte after a store of n bytes at a
-abbrev pub written : ℕ → ℕ → ℕ → ℕ → Option ℕ → Option ℕ
-written a n x b old = if within a n b then slice_get (low_bytes n x) (b - a) else old
 
 -- the event touches the byte at this address
 abbrev pub hits : Event → ℕ → Bool
@@ -36,15 +29,6 @@ hits _ b = false
 abbrev pub hits_any : List Event → ℕ → Bool
 hits_any [] b = false
 hits_any (e ∷ es) b = hits e b || hits_any es b
-
--- the byte after a store, and after several
-abbrev pub byte_after : Event → ℕ → Option ℕ → Option ℕ
-byte_after (Store a size x) b old = written a (bytes_in size) x b old
-byte_after _ b old = old
-
-abbrev pub overlaid : List Event → ℕ → Option ℕ → Option ℕ
-overlaid [] b old = old
-overlaid (e ∷ es) b old = overlaid es b (byte_after e b old)
 
 pub not_written : (a n x b : ℕ) (old : Option ℕ) → within a n b ≡ false → written a n x b old ≡ old
 not_written a n x b old h = ap (λ (t : Bool). if t then slice_get (low_bytes n x) (b - a) else old) h

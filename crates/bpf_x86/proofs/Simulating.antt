@@ -33,7 +33,8 @@ use Rattle.bpf_machine.proofs.DeterminedTurns.{IsWorld, same_stage, fresh_world,
 use Rattle.bpf_x86.specs.Buffers.{Buffered, Flushes}
 use Rattle.bpf_x86.specs.Machine.{FlushOf, GoesOn, Move, Moves, RunsMoves, Settled, TakesTurn, TurnOf, X86, buffered, drained, with_buffered}
 use Rattle.bpf_x86.specs.Laws.{Counts, IsRaceFree, StepsAreThere, RaceFreeIsSame}
-use Rattle.bpf_x86.proofs.Overlay.{hits, hits_any, overlaid}
+use Rattle.bpf_x86.specs.Forwarding.{overlaid}
+use Rattle.bpf_x86.proofs.Overlay.{hits, hits_any}
 use Rattle.bpf_x86.proofs.Written.{at, address, same_list}
 use Rattle.bpf_x86.proofs.Alike.{same_functions, is_access}
 use Rattle.bpf_x86.proofs.Buffers.{IsClean, IsAhead}

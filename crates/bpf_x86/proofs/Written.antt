@@ -12,7 +12,8 @@ use Rattle.bpf_shared.specs.Store.{Value, Plain, IsLive}
 use Rattle.bpf_shared.specs.Events.{Reaches, after_write, number_in}
 use Rattle.bpf_shared.specs.Sound.{IsSoundStore}
 use Rattle.bpf_shared.proofs.Puts.{true_or_false, equal_or_not, put-same, put-other}
-use Rattle.bpf_x86.proofs.Overlay.{within, within_parts, within_from, beside, written, not_written, is_written, false_from}
+use Rattle.bpf_x86.specs.Forwarding.{within, written}
+use Rattle.bpf_x86.proofs.Overlay.{within_parts, within_from, beside, not_written, is_written, false_from}
 
 -- the i-th byte of a value, and its address
 abbrev pub at : Plain → ℕ → ℕ → Option ℕ

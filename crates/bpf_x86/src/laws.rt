@@ -1,7 +1,23 @@
 //! What follows from the definition of the x86 machine.
 //!
 //! The functions do nothing: their contracts are the laws.
+ghost use Rattle.bpf_x86.specs.Forwarding.{LoadsFindOwnStores, NewestStoresAreSeen, OthersDontSeeStores};
 ghost use Rattle.bpf_x86.specs.Laws.{KeptRaceFreeIsSame, OrdersAreX86s, RaceFreeIsSame};
+
+/// A CPU sees, of each byte, what its newest waiting store to it wrote, or else memory.
+pub fn newest_stores_are_seen()
+    ensures { NewestStoresAreSeen }
+{}
+
+/// A load of what the CPU stored last finds it, whatever waits.
+pub fn loads_find_own_stores()
+    ensures { LoadsFindOwnStores }
+{}
+
+/// No CPU sees a store that waits in another's buffer.
+pub fn others_dont_see_stores()
+    ensures { OthersDontSeeStores }
+{}
 
 /// Each outcome of sequential consistency is one of x86.
 pub fn orders_are_x86s()
