@@ -44,7 +44,7 @@ fn with_numbers<'a>(
     ensures memory { IsOkUnless result TextError.OutOfMemory }
 {
     let (front, others) = tokens.split_at(count);
-    let mut made = Vec::from_slice(alloc, front).map_err(|_| TextError::OutOfMemory)?;
+    let mut made = Vec::from_slice(alloc, front)?;
     for token in others {
         made.push(zeroed(*token))
             .map_err(|_| TextError::OutOfMemory)?;

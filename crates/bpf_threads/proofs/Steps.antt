@@ -11,6 +11,7 @@ use Rattle.bpf_shared.specs.declared.events.Size.TheVariants.{Byte}
 use Rattle.bpf_base.specs.declared.atomic.Change.{Change as AtomicOp}
 use Rattle.std.proofs.lemmas.Bool.Decides.{nat_tests}
 use Rattle.std.specs.Int.{w64, cast_unsigned}
+use Rattle.std.proofs.lemmas.Bool.{and_parts, and_from}
 use Rattle.bpf_insn.specs.Atomic.{change_of}
 use Rattle.bpf_insn.specs.declared.register.Reg.{Reg}
 use Rattle.bpf_insn.specs.declared.operation.widths.Width.{Width}
@@ -92,9 +93,6 @@ flags_seen : (known : Option ℕ) (flags : ℕ) → ((x : ℕ) → known ≡ Som
 flags_seen None flags is may = refl
 flags_seen (Some x) flags is may = subst (λ (y : ℕ). may_replace y ≡ true) (is x refl) may
 
-both_true : (a b : Bool) → a ≡ true → b ≡ true → a && b ≡ true
-both_true a b e f = ap (λ (x : Bool). x && b) e ∙ f
-
 at_most_one : (b : Bool) → one_if b ≤ 1
 at_most_one true = omega arith
 at_most_one false = omega arith
@@ -104,10 +102,6 @@ counted_weight : (b c : Bool) → (b ≡ true → c ≡ true) → one_if b ≤ o
 counted_weight false c is = omega arith
 counted_weight true c is = subst (λ (x : Bool). 1 ≤ one_if x) (sym (is refl)) (omega arith)
 
-and_parts : (a b : Bool) → a && b ≡ true → (a ≡ true) × (b ≡ true)
-and_parts true b e = (refl, e)
-and_parts false b e = absurd cc
-
 same_number : (a b : ℕ) → (a == b) ≡ true → a ≡ b
 same_number a b e = grind (arith, nat_tests)
 
@@ -116,14 +110,14 @@ module _ (q : Counted) (p : Spot) (registers : List ℕ) (h : Holds p.known regi
   here same = map_seen (known_at p 1) q.map (slice_index registers 1) (λ x e. read_known p registers h 1 x (omega arith) e) (is ∙ ap map_value same)
 
   update_weight : (k : Kind) (key bytes : List ℕ) (answer : MapAnswer) → is_counted k (Update m key bytes (slice_index registers 4) answer) q.map ≡ true → is_counted_call k update_number (known_at p 4) && may_be (known_at p 1) q.map ≡ true
-  update_weight Updates key bytes answer e = both_true true (may_be (known_at p 1) q.map) refl (here (same_number m q.map e))
+  update_weight Updates key bytes answer e = and_from true (may_be (known_at p 1) q.map) refl (here (same_number m q.map e))
   update_weight Removals key bytes answer e =
       let parts = and_parts (m == q.map) (may_replace (slice_index registers 4)) e in
-      both_true (may_replace_by (known_at p 4)) (may_be (known_at p 1) q.map) (flags_seen (known_at p 4) (slice_index registers 4) (λ x f. read_known p registers h 4 x (omega arith) f) parts.1) (here (same_number m q.map parts.0))
+      and_from (may_replace_by (known_at p 4)) (may_be (known_at p 1) q.map) (flags_seen (known_at p 4) (slice_index registers 4) (λ x f. read_known p registers h 4 x (omega arith) f) parts.1) (here (same_number m q.map parts.0))
 
   delete_weight : (k : Kind) (key : List ℕ) (answer : MapAnswer) → is_counted k (Delete m key answer) q.map ≡ true → is_counted_call k delete_number (known_at p 4) && may_be (known_at p 1) q.map ≡ true
   delete_weight Updates key answer e = absurd cc
-  delete_weight Removals key answer e = both_true true (may_be (known_at p 1) q.map) refl (here (same_number m q.map e))
+  delete_weight Removals key answer e = and_from true (may_be (known_at p 1) q.map) refl (here (same_number m q.map e))
 
   -- an event after some that aren't counted
   last_counts : (first events : List Event) (e : Event) → count_of q first ≡ 0 → events ≡ first ++ e ∷ [] → count_of q events ≡ one_if (is_counted q.kind e q.map)

@@ -3,6 +3,7 @@
 use Rattle.std.proofs.Common.{◌≡◌, ◌≢◌, ℕ, ◌+◌, Bool, true, false, List, [], ◌∷◌, ◌++◌, Option, Some, None, inl, inr, refl, sym, ap, subst, ◌∙◌}
 use Rattle.std.specs.Prelude.{map, slice_get}
 use Rattle.std.specs.FinMap.{get}
+use Rattle.std.proofs.lemmas.Bool.{false_from_ne_true}
 use Rattle.bpf_base.specs.Atomic.{number_after}
 use Rattle.bpf_shared.specs.Access.{bytes_in}
 use Rattle.bpf_shared.specs.declared.events.Size.{Size}
@@ -19,7 +20,7 @@ use Rattle.bpf_shared.specs.Sound.{IsSoundStore}
 use Rattle.bpf_shared.proofs.Soundness.{allowed_sound, span-after_write}
 use Rattle.bpf_shared.proofs.Puts.{true_or_false, equal_or_not, put-same, put-other, put_pair-old}
 use Rattle.bpf_x86.specs.Forwarding.{within, written}
-use Rattle.bpf_x86.proofs.Overlay.{hits, hits_any, not_written, last_missed, false_from}
+use Rattle.bpf_x86.proofs.Overlay.{hits, hits_any, not_written, last_missed}
 use Rattle.bpf_x86.proofs.Written.{at, address, write_here, write_there, same_number}
 use Rattle.bpf_x86.proofs.Alike.{IsLike, HasValues, is_access, follow, held_others}
 
@@ -62,7 +63,7 @@ module _ (d : ℕ) (lacking : List Event) (l s : Plain) (so_l : IsSoundStore l) 
 
   reads_l : (v a n : ℕ) → Reaches s c v a n → ((x : ℕ) → within a n x ≡ true → hits_any lacking x ≡ true → ⊥) → number_in s v a n ≡ number_in l v a n
   reads_l v a n r clear = same_number s l v a n (sym (behind.like.spans v)) r.covers.0 (λ i h.
-      sym (behind.bytes v i (λ held. false_from (hits_any lacking (address s v i)) (λ hit. clear (address s v i) h hit))))
+      sym (behind.bytes v i (λ held. false_from_ne_true (hits_any lacking (address s v i)) (λ hit. clear (address s v i) h hit))))
 
   -- the same bytes are written in both
   writes_l : (v a n x : ℕ) → Reaches s c v a n → IsBehind d lacking (after_write l v a n x) (after_write s v a n x)

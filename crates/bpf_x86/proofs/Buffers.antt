@@ -1,7 +1,7 @@
 -- Memory with buffers beside a store of sequential consistency, which makes each store at once: their
 -- bytes are equal but for what waits, and stay so.
 use Rattle.std.proofs.Common.{◌≡◌, ◌≢◌, ℕ, ◌+◌, ◌<◌, ◌≤◌, Bool, true, false, List, [], ◌∷◌, ◌++◌, Option, inl, inr, refl, sym, ap, subst, ◌∙◌, arith}
-use Rattle.std.proofs.lemmas.Bool.{or_from, or_left, or_right}
+use Rattle.std.proofs.lemmas.Bool.{or_from, or_left, or_right, false_from_ne_true}
 use Rattle.bpf_shared.specs.Access.{bytes_in}
 use Rattle.bpf_shared.specs.declared.events.Size.{Size}
 use Rattle.bpf_shared.specs.declared.events.Span.{Span}
@@ -15,7 +15,7 @@ use Rattle.bpf_shared.proofs.Soundness.{span-after_write}
 use Rattle.bpf_shared.proofs.Puts.{true_or_false, equal_or_not, put-other}
 use Rattle.bpf_x86.specs.Buffers.{Buffered}
 use Rattle.bpf_x86.specs.Forwarding.{within, written, overlaid}
-use Rattle.bpf_x86.proofs.Overlay.{hits, hits_any, not_written, missed, all_missed, false_from}
+use Rattle.bpf_x86.proofs.Overlay.{hits, hits_any, not_written, missed, all_missed}
 use Rattle.bpf_x86.proofs.Written.{at, address, write_live, write_unheld, apart_missed}
 use Rattle.bpf_x86.proofs.Alike.{IsLike}
 
@@ -167,7 +167,7 @@ module _ (b : Buffered) (s : Plain) (ahead : IsAhead b s) (c : ℕ) (a : ℕ) (s
     -- another CPU, where the flushed store wrote the byte
     module _ (d : ℕ) (ne : d ≢ c) (clean : IsClean buffers s d w i) where
       not_too : (k : ℕ) → k ≢ c → within a n b_at ≡ true → hits_any (b.buffers k) b_at ≡ false
-      not_too k other h = false_from (hits_any (b.buffers k) b_at) (λ too. ahead.apart c k b_at (λ e. other (sym e)) (oldest_hits b_at h) too)
+      not_too k other h = false_from_ne_true (hits_any (b.buffers k) b_at) (λ too. ahead.apart c k b_at (λ e. other (sym e)) (oldest_hits b_at h) too)
 
       wrote : s.held c w ≡ true → within a n b_at ≡ true → at s w i ≡ at after w i
       wrote h hit =

@@ -2,6 +2,7 @@
 -- no byte that another CPU's waiting store is to write.
 use Rattle.std.proofs.Common.{◌≡◌, ◌≢◌, ℕ, ◌+◌, ◌<◌, ◌≤◌, true, false, List, [], ◌∷◌, ◌++◌, ◌⊎◌, inl, inr, refl, sym, ap, subst, ◌∙◌, arith}
 use Rattle.std.specs.Prelude.{map}
+use Rattle.std.proofs.lemmas.Bool.{false_from_ne_true}
 use Rattle.bpf_shared.specs.Access.{bytes_in}
 use Rattle.bpf_shared.specs.declared.events.Size.{Size}
 use Rattle.bpf_shared.specs.declared.events.Span.{Span}
@@ -17,7 +18,7 @@ use Rattle.bpf_shared.proofs.Soundness.{span-after_write, after_write_sound}
 use Rattle.bpf_shared.proofs.Puts.{true_or_false, equal_or_not, put-same, put-other}
 use Rattle.bpf_x86.specs.Buffers.{Buffered, Sees, Flushes, Drains}
 use Rattle.bpf_x86.specs.Forwarding.{within, byte_after, overlaid}
-use Rattle.bpf_x86.proofs.Overlay.{within_parts, hits, hits_any, missed, overlaid-last, last_missed, last_hits, false_from}
+use Rattle.bpf_x86.proofs.Overlay.{within_parts, hits, hits_any, missed, overlaid-last, last_missed, last_hits}
 use Rattle.bpf_x86.proofs.Written.{at, address, write_live, write_unheld, same_number}
 use Rattle.bpf_x86.proofs.Alike.{IsLike, same_functions}
 use Rattle.bpf_x86.proofs.Buffers.{nobody, IsWaiting, AreWaiting, IsClean, IsAhead, still_waiting, waiting-last, flush_ahead}
@@ -79,7 +80,7 @@ same_read b s c v a n ahead none r clear =
     let to : a + n ≤ (s.value v).span.at + (s.value v).span.size = r.covers.1 in
     let most : (s.value v).span.at + i < a + n = in_it.1 in
     let inside : i < (s.value v).span.size = omega arith in
-    let clean : IsClean b.buffers s c v i = λ d ne held. false_from (hits_any (b.buffers d) (address s v i)) (λ hit. clear d (address s v i) ne h hit) in
+    let clean : IsClean b.buffers s c v i = λ d ne held. false_from_ne_true (hits_any (b.buffers d) (address s v i)) (λ hit. clear d (address s v i) ne h hit) in
     ahead.held c v i inside clean r.holds ∙ ap (λ (es : List Event). overlaid es (address s v i) (at b.memory v i)) none)
 
 -- others' buffers are as they were

@@ -2,7 +2,7 @@
 -- stores that wait in its buffer. Other CPUs' turns that touch none of their bytes are made there too.
 use Rattle.std.proofs.Common.{◌≡◌, ◌≢◌, ℕ, zero, suc, true, false, List, [], ◌∷◌, Option, Some, inl, inr, refl, sym, ap, subst, ◌∙◌}
 use Rattle.std.specs.Prelude.{slice_get, slice_set}
-use Rattle.std.proofs.lemmas.Bool.{or_right}
+use Rattle.std.proofs.lemmas.Bool.{or_right, or_cases}
 use Rattle.bpf_base.proofs.Lists.{slice_get-set_other}
 use Rattle.bpf_shared.specs.declared.events.Event.{Event}
 use Rattle.bpf_shared.specs.Store.{Plain}
@@ -18,7 +18,7 @@ use Rattle.bpf_machine.specs.Hands.{IsAt, IsFree, NoneWaitsBelow, NoneWaits, wit
 use Rattle.bpf_machine.specs.Listings.{Listing}
 use Rattle.bpf_machine.specs.Schedule.{World, Advances, RunsSchedule}
 use Rattle.bpf_machine.proofs.HeadwayLaws.{SameJobs, set_others}
-use Rattle.bpf_x86.proofs.Overlay.{hits, hits_any, one_hits}
+use Rattle.bpf_x86.proofs.Overlay.{hits, hits_any}
 use Rattle.bpf_x86.proofs.Written.{at}
 use Rattle.bpf_x86.proofs.Buffers.{IsWaiting}
 use Rattle.bpf_x86.proofs.Behind.{IsBehind, AllMiss, behind_events}
@@ -59,7 +59,7 @@ HasLags first d (e ∷ es) w = HasLag first d e es w × HasLags first d es w
 pub lag_at : (first : World) (d : ℕ) (es : List Event) (w : World) (x : ℕ) → HasLags first d es w → hits_any es x ≡ true
     → (e : Event) × (rest : List Event) × HasLag first d e rest w × (hits e x ≡ true) × ((y : ℕ) → hits_any (e ∷ rest) y ≡ true → hits_any es y ≡ true)
 lag_at first d [] w x lags h = absurd (let no : false ≡ true = h in cc)
-lag_at first d (e ∷ es) w x lags h = elim (one_hits (hits e x) (hits_any es x) h) [
+lag_at first d (e ∷ es) w x lags h = elim (or_cases (hits e x) (hits_any es x) h) [
   | inl here ↦ (e, es, lags.0, here, λ y k. k)
   | inr there ↦ (let r = lag_at first d es w x lags.1 there in (r.0, r.1, r.2, r.3, λ y k. or_right (hits e y) (hits_any es y) (r.4 y k)))
 ]

@@ -1,7 +1,7 @@
 -- What stores that wait make of a byte, the oldest first, and which addresses events touch.
 use Rattle.std.proofs.Common.{◌≡◌, ℕ, ◌+◌, ◌-◌, ◌<◌, ◌≤◌, nat_le, nat_lt, Bool, true, false, ◌&&◌, ◌||◌, if◌then◌else◌, List, [], ◌∷◌, ◌++◌, Option, ◌⊎◌, inl, inr, refl, ap, ◌∙◌, arith}
 use Rattle.std.specs.Prelude.{slice_get}
-use Rattle.std.proofs.lemmas.Bool.{or_parts, or_from, or_left, or_right}
+use Rattle.std.proofs.lemmas.Bool.{or_parts, or_from, or_left, or_right, false_from_ne_true, or_cases}
 use Rattle.std.proofs.lemmas.Bool.Decides.{nat_tests}
 use Rattle.bpf_base.specs.Bytes.{low_bytes}
 use Rattle.bpf_shared.specs.Access.{bytes_in}
@@ -55,18 +55,9 @@ last_missed (f ∷ fs) e b h =
     let rest = last_missed fs e b p.1 in
     (or_from (hits f b) (hits_any fs b) p.0 rest.0, rest.1)
 
--- one of them hits, or none does
-pub one_hits : (p q : Bool) → (p || q) ≡ true → (p ≡ true) ⊎ (q ≡ true)
-one_hits true q h = inl refl
-one_hits false q h = inr h
-
 pub last_hits : (es : List Event) (e : Event) (b : ℕ) → hits_any (es ++ e ∷ []) b ≡ true → (hits_any es b ≡ true) ⊎ (hits e b ≡ true)
-last_hits [] e b h = elim (one_hits (hits e b) false h) [ inl k ↦ inr k | inr k ↦ inl k ]
-last_hits (f ∷ fs) e b h = elim (one_hits (hits f b) (hits_any (fs ++ e ∷ []) b) h) [
+last_hits [] e b h = elim (or_cases (hits e b) false h) [ inl k ↦ inr k | inr k ↦ inl k ]
+last_hits (f ∷ fs) e b h = elim (or_cases (hits f b) (hits_any (fs ++ e ∷ []) b) h) [
   | inl k ↦ inl (or_left (hits f b) (hits_any fs b) k)
   | inr k ↦ elim (last_hits fs e b k) [ inl l ↦ inl (or_right (hits f b) (hits_any fs b) l) | inr l ↦ inr l ]
 ]
-
--- what isn't true is false
-pub false_from : (p : Bool) → (p ≡ true → ⊥) → p ≡ false
-false_from p h = elim (true_or_false p) [ inl k ↦ absurd (h k) | inr k ↦ k ]

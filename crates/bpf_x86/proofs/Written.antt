@@ -1,7 +1,7 @@
 -- What writes leave of the bytes of values, byte by byte.
 use Rattle.std.proofs.Common.{◌≡◌, ◌≢◌, ℕ, zero, suc, ◌+◌, ◌-◌, ◌<◌, ◌≤◌, true, false, List, [], ◌∷◌, ◌++◌, length, take, drop, Option, Some, None, inl, inr, refl, sym, ap, subst, ◌∙◌, arith, length-append}
 use Rattle.std.specs.Prelude.{slice_get}
-use Rattle.std.proofs.lemmas.Bool.{cases_lt}
+use Rattle.std.proofs.lemmas.Bool.{cases_lt, false_from_ne_true}
 use Rattle.std.proofs.lemmas.List.{length-take-le}
 use Rattle.bpf_base.specs.Bytes.{low_bytes, part, with_part, little_endian}
 use Rattle.bpf_base.proofs.Numbers.{length-low_bytes}
@@ -13,7 +13,7 @@ use Rattle.bpf_shared.specs.Events.{Reaches, after_write, number_in}
 use Rattle.bpf_shared.specs.Sound.{IsSoundStore}
 use Rattle.bpf_shared.proofs.Puts.{true_or_false, equal_or_not, put-same, put-other}
 use Rattle.bpf_x86.specs.Forwarding.{within, written}
-use Rattle.bpf_x86.proofs.Overlay.{within_parts, within_from, beside, not_written, is_written, false_from}
+use Rattle.bpf_x86.proofs.Overlay.{within_parts, within_from, beside, not_written, is_written}
 
 -- the i-th byte of a value, and its address
 abbrev pub at : Plain → ℕ → ℕ → Option ℕ
@@ -95,7 +95,7 @@ module _ (s : Plain) (c v a n : ℕ) (so : IsSoundStore s) (r : Reaches s c v a 
 
   -- the addresses of another live value aren't touched
   pub apart_missed : (w i : ℕ) → IsLive s w → w ≢ v → i < (s.value w).span.size → within a n (address s w i) ≡ false
-  apart_missed w i live ne inside = false_from (within a n (address s w i)) (λ h.
+  apart_missed w i live ne inside = false_from_ne_true (within a n (address s w i)) (λ h.
       let in_it = within_parts a n (address s w i) h in
       let from : (s.value v).span.at ≤ a = r.covers.0 in
       let to : a + n ≤ (s.value v).span.at + (s.value v).span.size = r.covers.1 in

@@ -2,6 +2,7 @@
 use Rattle.std.proofs.Common.{◌≡◌, ◌≢◌, inl, inr, ⊎_elim, append_assoc, ℕ, ◌+◌, ◌*◌, ◌/◌, ◌%◌, ◌^◌, ◌<◌, ◌≤◌, true, min, List, [], ◌∷◌, ◌++◌, bit_and, ap, sym, subst, ◌∙◌, arith}
 use Rattle.std.specs.Int.{bit_at, trailing_zeros, w64}
 use Rattle.std.proofs.lemmas.Nat.Bits.{bit_at_and, bit_at-lt, bit_at-trailing_zeros}
+use Rattle.std.proofs.lemmas.Bool.{cases_eq}
 use Rattle.bpf_shared.specs.History.{events_of}
 use Rattle.bpf_shared.specs.Own.{in_run}
 use Rattle.hop_words.specs.declared.known.Known.{Known}
@@ -9,7 +10,6 @@ use Rattle.hop_words.specs.declared.known.Sight.{Sight}
 use Rattle.hop_layout.specs.declared.place.Place.TheVariants.{FreeBits}
 use Rattle.hop_words.specs.Sights.{IsLook, ShowsTaken, look, sighted}
 use Rattle.hop_words.specs.Kinds.{holding}
-use Rattle.hop_words.proofs.Small.{equal}
 use Rattle.hop_words.proofs.Sighted.{each-append}
 use Rattle.hop_arena.specs.Claiming.{Sees, Looks, IsSeenTaken, AreSeenTaken}
 
@@ -36,7 +36,7 @@ look_on more m w i bits found same before j few zero = ⊎_elim
     (λ (z : bit_at bits j ≡ 0). inr (before j few z))
     (λ (nz : bit_at bits j ≢ 0). inl (subst (λ (k : ℕ). ShowsTaken (look (FreeBits m k) found) m (64 * w + j)) (sym same) (shows m w found j few
     (let b = bit_at-lt bits j in let f = bit_at-lt found j in let a : bit_at (bit_and bits found) j ≡ min (bit_at bits j) (bit_at found j) = bit_at_and bits found j in grind arith))))
-    (equal (bit_at bits j) 0)
+    (cases_eq (bit_at bits j) 0)
 
 -- a word whose bits are all cleared, or whose lowest bit left is past the elements
 pub all_taken : (more : List Sight) (m w count bits : ℕ) → Cleared more m w bits → ((j : ℕ) → j < 64 → 64 * w + j < count → bit_at bits j ≡ 0) → AreSeenTaken more m count w (w + 1)
@@ -52,7 +52,7 @@ pub fewer : (bits found j : ℕ) → bit_at bits j ≡ 1 → bit_at found j ≡ 
 fewer bits found j one zero most = ⊎_elim
     (λ (same : bit_and bits found ≡ bits). absurd (let a : bit_at (bit_and bits found) j ≡ min (bit_at bits j) (bit_at found j) = bit_at_and bits found j in let s = ap (λ (n : ℕ). bit_at n j) same in grind arith))
     (λ (ne : bit_and bits found ≢ bits). grind arith)
-    (equal (bit_and bits found) bits)
+    (cases_eq (bit_and bits found) bits)
 
 -- ---- passes over several words
 pub taken_more : (s more : List Sight) (m e : ℕ) → IsSeenTaken more m e → IsSeenTaken (s ++ more) m e
@@ -78,7 +78,7 @@ pub words_on : (s more : List Sight) (m count from w : ℕ) → AreSeenTaken mor
 words_on s more m count from w before now e few low high = ⊎_elim
     (λ (same : e / 64 ≡ w). taken_first s more m e (now e few (omega arith) (omega arith)))
     (λ (ne : e / 64 ≢ w). taken_more s more m e (before e few low (grind arith)))
-    (equal (e / 64) w)
+    (cases_eq (e / 64) w)
 
 pub words_kept : (s more : List Sight) (m count from to : ℕ) → AreSeenTaken more m count from to → AreSeenTaken (s ++ more) m count from to
 words_kept s more m count from to before e few low high = taken_more s more m e (before e few low high)

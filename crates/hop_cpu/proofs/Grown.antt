@@ -1,6 +1,7 @@
 -- An update, and a split after it.
 use Rattle.std.proofs.Common.{◌≡◌, ℕ, Bool, true, false, not, List, [], ◌∷◌, ◌++◌, refl, ap, sym, subst, ◌∙◌, append_assoc, Option, Some, None, IfSome, inl, inr, ⊎_elim}
 use Rattle.std.proofs.lemmas.List.{append_cancel_right}
+use Rattle.std.proofs.lemmas.Bool.{not-false}
 use Rattle.bpf_shared.specs.declared.events.Event.{Event}
 use Rattle.bpf_shared.specs.declared.events.MapAnswer.{MapAnswer}
 use Rattle.bpf_shared.specs.declared.events.MapAnswer.TheVariants.{Done}
@@ -112,10 +113,6 @@ module _ (a : About) (m : ℕ) (p q r : Port) (g : Grows a m q r) where
         refl,
       ),
     )
-
-pub was_true : (b : Bool) → not b ≡ false → b ≡ true
-was_true true is = refl
-was_true false is = cc
 
 pub was_false : (b : Bool) → not b ≡ true → b ≡ true → ⊥
 was_false true is on = cc

@@ -1,6 +1,7 @@
 -- What a step on the batches of a map leaves as it was.
 use Rattle.std.proofs.Common.{◌≡◌, ◌≢◌, inr, ⊎_elim, ℕ, suc, ◌+◌, ◌%◌, ◌<◌, List, [], ◌∷◌, ◌++◌, Option, Some, length, slice_index, set, length-set, get_or-set_same, get_or-set_other, append_assoc, nat_lt, true, refl, ap, sym, subst, ◌∙◌, arith}
 use Rattle.std.proofs.lemmas.Bool.Decides.{nat_tests}
+use Rattle.std.proofs.lemmas.Bool.{cases_eq}
 use Rattle.bpf_shared.specs.Shape.{Shape, IsShape, elements}
 use Rattle.hop_layout.specs.Layout.{map_shape}
 use Rattle.hop_layout.specs.declared.about.About.{About}
@@ -14,7 +15,6 @@ use Rattle.hop_words.specs.Ghost.{HasElement, Each, limbo_at, no_limbo}
 use Rattle.hop_words.specs.Rule.{link_to}
 use Rattle.hop_words.specs.Kinds.{limbo_set, cleared, giving_old}
 use Rattle.hop_words.specs.Owning.{tail_of}
-use Rattle.hop_words.proofs.Small.{equal}
 use Rattle.hop_layout.proofs.Maps.{map_is}
 use Rattle.hop_words.proofs.Sighted.{each-append}
 use Rattle.hop_words.proofs.Shares.{some_once}
@@ -90,20 +90,20 @@ notes_cleared a ks ns d few less p = (
   λ c lt. ⊎_elim
       (λ (t : c ≡ d). subst (λ (i : ℕ). slice_index (set ks d 0) i ≡ slice_index (set ns d 0) i) (sym t) (get_or-set_same ks d 0 0 less ∙ sym (get_or-set_same ns d 0 0 few)))
       (λ (ne : c ≢ d). get_or-set_other ks d c 0 0 ne ∙ (p.1 c lt ∙ sym (get_or-set_other ns d c 0 0 ne)))
-      (equal c d),
+      (cases_eq c d),
 )
 
 pub even_cleared : (ns : List ℕ) (d : ℕ) → d < length ns → AreEven d ns → AreEven (d + 1) (set ns d 0)
 even_cleared ns d few p c lt = ⊎_elim
     (λ (t : c ≡ d). subst (λ (i : ℕ). slice_index (set ns d 0) i % 2 ≡ 0) (sym t) (ap (λ (n : ℕ). n % 2) (get_or-set_same ns d 0 0 few)))
     (λ (ne : c ≢ d). ap (λ (n : ℕ). n % 2) (get_or-set_other ns d c 0 0 ne) ∙ p c (grind arith))
-    (equal c d)
+    (cases_eq c d)
 
 pub even_on : (ns : List ℕ) (d : ℕ) → slice_index ns d % 2 ≡ 0 → AreEven d ns → AreEven (d + 1) ns
 even_on ns d even p c lt = ⊎_elim
     (λ (t : c ≡ d). subst (λ (i : ℕ). slice_index ns i % 2 ≡ 0) (sym t) even)
     (λ (ne : c ≢ d). p c (grind arith))
-    (equal c d)
+    (cases_eq c d)
 
 -- ---- the old batch, an element less
 most : (h : Shape) (m e : ℕ) → IsShape h → m < length h.maps → e < elements (map_shape h m) → e < 4294967296

@@ -1,6 +1,7 @@
 -- In closed form, for the code that computes where a word is.
 use Rattle.std.proofs.Common.{sym, [], ◌++◌, Some, ◌≡◌, ℕ, zero, suc, ◌+◌, ◌*◌, ◌<◌, true, List, ◌∷◌, length, ap, ◌∙◌, arith, nat_lt}
 use Rattle.std.proofs.lemmas.Bool.Decides.{nat_tests}
+use Rattle.std.proofs.lemmas.Bool.{and_parts}
 use native.Mathlib.Decide.{dec_lt}
 use mathlib.Core.Logic.{dite}
 use Rattle.bpf_base.proofs.Lists.{slice_get-append, slice_get-front}
@@ -10,7 +11,6 @@ use Rattle.bpf_shared.specs.declared.shapes.MapShape.{MapShape}
 use Rattle.bpf_shared.specs.Shape.{Shape, elements}
 use Rattle.hop_layout.specs.declared.place.Place.TheVariants.{RunCount, KeyCount, FreeBits, Stamp, Head, Hop, Slot, Link, KeyWord, ValueWord}
 use Rattle.hop_layout.specs.Layout.{sum_below, layout_size, is_path, layout, at, size, words_for, free_words, segments, first_depth, map_shape, segment_layout, map_layout, map_words, line_rest}
-use Rattle.hop_layout.proofs.Layouts.{both}
 
 pub sum_same : (n k : ℕ) → sum_below n (λ j. k) ≡ n * k
 sum_same zero k = omega arith
@@ -81,7 +81,7 @@ at_start h = let z = sum_same h.cpus 8 in omega arith
 
 -- ---- the parts of a place of a map
 pub map_there : (h : Shape) (m : ℕ) (p : List ℕ) → is_path (layout h) (1 ∷ m ∷ p) ≡ true → m < length h.maps
-map_there h m p e = let b = both (nat_lt m (length h.maps)) (is_path (map_layout (map_shape h m)) p) e in (let t = b.0 in grind (arith, nat_tests))
+map_there h m p e = let b = and_parts (nat_lt m (length h.maps)) (is_path (map_layout (map_shape h m)) p) e in (let t = b.0 in grind (arith, nat_tests))
 
 -- a map's words begin where those of the map before it end
 pub bases_at : (h : Shape) (m start : ℕ) → start ≡ at h (KeyCount m) → bases_from start (map_shape h m) ≡ bases h m

@@ -1,16 +1,13 @@
 -- A place of the shape has its word to itself.
 use Rattle.std.proofs.Common.{◌≡◌, ◌≢◌, ℕ, zero, suc, ◌+◌, ◌*◌, ◌<◌, ◌≤◌, nat_lt, Bool, true, false, true≢false, ◌&&◌, List, [], ◌∷◌, ◌==◌, length, set, refl, ap, sym, subst, ◌∙◌, arith, eq-eqb, get_or-set_same, get_or-set_other}
 use Rattle.std.proofs.lemmas.Bool.Decides.{nat_tests}
+use Rattle.std.proofs.lemmas.Bool.{and_parts}
 use native.Mathlib.Decide.{ℕ_discrete, dec_lt}
 use mathlib.Core.Logic.{dite}
 use Rattle.bpf_shared.specs.Shape.{Shape}
 use Rattle.hop_layout.specs.declared.place.Place.{Place}
 use Rattle.hop_layout.specs.declared.place.Place.TheVariants.{RunCount, KeyCount, FreeBits, Stamp, Head, Hop, Slot, Link, KeyWord, ValueWord}
 use Rattle.hop_layout.specs.Layout.{Layout, Word, Group, sum_below, layout_size, word_at_path, is_path, layout, path, at, is_place, size, mem, same_place, put_at}
-
-pub both : (a b : Bool) → (a && b) ≡ true → (a ≡ true) × (b ≡ true)
-both true b e = (refl, e)
-both false b e = absurd (true≢false (sym e))
 
 -- ---- layouts
 sum_step : (f : ℕ → ℕ) (i j : ℕ) → i < j → sum_below i f + f i ≤ sum_below j f
@@ -24,7 +21,7 @@ offset_inside Word [] e = omega arith
 offset_inside Word (i ∷ p) e = absurd (true≢false (sym e))
 offset_inside (Group n f) [] e = absurd (true≢false (sym e))
 offset_inside (Group n f) (i ∷ p) e =
-    let b = both (nat_lt i n) (is_path (f i) p) e in
+    let b = and_parts (nat_lt i n) (is_path (f i) p) e in
     let k = offset_inside (f i) p b.1 in
     let l : i < n = (let t = b.0 in grind (arith, nat_tests)) in
     let s = sum_step (λ j. layout_size (f j)) i n l in
@@ -45,8 +42,8 @@ offset_once Word [] (j ∷ q) x y e = absurd (true≢false (sym y))
 offset_once (Group n f) [] q x y e = absurd (true≢false (sym x))
 offset_once (Group n f) (i ∷ p) [] x y e = absurd (true≢false (sym y))
 offset_once (Group n f) (i ∷ p) (j ∷ q) x y e =
-    let a = both (nat_lt i n) (is_path (f i) p) x in
-    let b = both (nat_lt j n) (is_path (f j) q) y in
+    let a = and_parts (nat_lt i n) (is_path (f i) p) x in
+    let b = and_parts (nat_lt j n) (is_path (f j) q) y in
     let s : i ≡ j = one_member (λ k. layout_size (f k)) i j (word_at_path (f i) p) (word_at_path (f j) q) (offset_inside (f i) p a.1) (offset_inside (f j) q b.1) e in
     let b' : is_path (f i) q ≡ true = subst (λ (k : ℕ). is_path (f k) q ≡ true) (sym s) b.1 in
     let e' : sum_below i (λ k. layout_size (f k)) + word_at_path (f i) p ≡ sum_below i (λ k. layout_size (f k)) + word_at_path (f i) q = subst (λ (k : ℕ). sum_below i (λ k. layout_size (f k)) + word_at_path (f i) p ≡ sum_below k (λ k. layout_size (f k)) + word_at_path (f k) q) (sym s) e in
@@ -89,10 +86,10 @@ pub one : (a b : ℕ) → (a == b) ≡ true → a ≡ b
 one a b e = grind (arith, nat_tests)
 
 two : (a b c d : ℕ) → ((a == b) && (c == d)) ≡ true → (a ≡ b) × (c ≡ d)
-two a b c d e = let t = both (a == b) (c == d) e in (one a b t.0, one c d t.1)
+two a b c d e = let t = and_parts (a == b) (c == d) e in (one a b t.0, one c d t.1)
 
 three : (a b c d i j : ℕ) → ((a == b) && (c == d) && (i == j)) ≡ true → (a ≡ b) × (c ≡ d) × (i ≡ j)
-three a b c d i j e = let t = both ((a == b) && (c == d)) (i == j) e in let u = two a b c d t.0 in (u.0, u.1, one i j t.1)
+three a b c d i j e = let t = and_parts ((a == b) && (c == d)) (i == j) e in let u = two a b c d t.0 in (u.0, u.1, one i j t.1)
 
 pub same_is : (p q : Place) → same_place p q ≡ true → p ≡ q
 same_is (RunCount c) (RunCount d) e = ap RunCount (one c d e)

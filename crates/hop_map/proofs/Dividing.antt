@@ -2,6 +2,7 @@
 use Rattle.std.proofs.Common.{◌≡◌, ℕ, ◌+◌, ◌-◌, ◌*◌, ◌/◌, ◌%◌, ◌^◌, ◌<◌, ◌≤◌, ◌≢◌, Bool, true, false, ◌||◌, ◌==◌, if◌then◌else◌, List, Option, length, refl, ap, sym, subst, ◌∙◌, arith, eq-eqb}
 use Rattle.std.specs.Prelude.{IfSome}
 use Rattle.std.proofs.lemmas.Bool.Decides.{nat_tests}
+use Rattle.std.proofs.lemmas.Bool.{lt-ltb}
 use Rattle.hop_layout.specs.declared.about.About.{About}
 use Rattle.hop_layout.specs.declared.place.Place.{Place}
 use Rattle.hop_layout.specs.declared.place.Place.TheVariants.{Head, Hop, Slot, Stamp}
@@ -31,7 +32,6 @@ use Rattle.hop_map.proofs.Writings.{item_word, segment_at}
 use Rattle.hop_words.proofs.Locks.{put_else}
 use Rattle.hop_layout.proofs.Births.{some_power, power_less, power_mono}
 use Rattle.hop_layout.proofs.Depths.{depth_most}
-use Rattle.hop_words.proofs.Locked.{lt}
 
 small_hop : (n : ℕ) → n < 2 ^ 32 → n % 2 ^ 32 ≡ n
 small_hop n l = omega arith
@@ -205,7 +205,7 @@ child_inside g s d room less =
     (omega arith, most, omega arith)
 
 pub stamp_place : (a : About) (m s : ℕ) → IsSegment a m s → is_place a.shape (Stamp m s) ≡ true
-stamp_place a m s at_s = rw (lt m (length a.shape.maps) at_s.0, lt s (segments (shape_at a m)) at_s.1) refl
+stamp_place a m s at_s = rw (lt-ltb m (length a.shape.maps) at_s.0, lt-ltb s (segments (shape_at a m)) at_s.1) refl
 
 pub child_deep : (w d : ℕ) → d < 31 → (w * 256 + 2 * (d + 1)) / 2 % 32 ≡ d + 1
 child_deep w d few = omega arith

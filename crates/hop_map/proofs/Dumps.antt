@@ -13,6 +13,7 @@ use Rattle.std.specs.FinMap.{get}
 use Rattle.std.specs.List.{AllByRecursion}
 use Rattle.std.specs.List.Sorted.{IsStrictlySortedBy}
 use Rattle.std.specs.Map.{keys_of}
+use Rattle.std.proofs.lemmas.Bool.{cases_lt, lt-ltb, and_from}
 use Rattle.bpf_base.specs.Bytes.{low_bytes}
 use Rattle.bpf_shared.specs.declared.events.Entry.{Entry}
 use Rattle.bpf_shared.specs.Store.{Plain, Value, Finds, as_made}
@@ -21,7 +22,7 @@ use Rattle.bpf_shared.specs.Listing.{Pair, pair_at, pair_of, IsListing, listed}
 use Rattle.hop_layout.specs.Home.{home_of}
 use Rattle.hop_layout.specs.Layout.{depth, power, segments}
 use Rattle.hop_layout.specs.Births.{is_born}
-use Rattle.hop_layout.proofs.Births.{low_is, high_is, lt_is, ge_is, both_and, power_mono, below_or, born_small, each_has_one_owner}
+use Rattle.hop_layout.proofs.Births.{low_is, high_is, ge_is, power_mono, born_small, each_has_one_owner}
 use Rattle.hop_layout.specs.Words.{bytes_of_words}
 use Rattle.hop_words.specs.Content.{IsOnList, IsShare, item}
 use Rattle.hop_words.specs.Depths.{IsBorn, home_by}
@@ -158,14 +159,14 @@ births_same d d' (suc n) s agree =
     ⊎_elim
     (λ (l : s < power n). low_is d' n s l ∙ (births_same d d' n s lower ∙ sym (low_is d n s l)))
     (λ (g : power n ≤ s). high_is d' n s g ∙ (high_same d d' n (s - power n) (is_born d n (s - power n)) refl (births_same d d' n (s - power n) lower) (lower (s - power n)) ∙ sym (high_is d n s g)))
-    (below_or s (power n))
+    (cases_lt s (power n))
 
 -- a segment's birth, a bit at a time
 pub bit_low : (d : ℕ → ℕ) (n s : ℕ) (o : Bool) → is_born d (suc n) s ≡ o → s < power n → is_born d n s ≡ o
 bit_low d n s o is l = sym (low_is d n s l) ∙ is
 
 pub bit_high : (d : ℕ → ℕ) (n s : ℕ) (o : Bool) → is_born d (suc n) s ≡ o → power n ≤ s → n < d (s - power n) → is_born d n (s - power n) ≡ o
-bit_high d n s o is g deep = sym (high_is d n s g ∙ ap (λ (b : Bool). b && is_born d n (s - power n)) (lt_is n (d (s - power n)) deep)) ∙ is
+bit_high d n s o is g deep = sym (high_is d n s g ∙ ap (λ (b : Bool). b && is_born d n (s - power n)) (lt-ltb n (d (s - power n)) deep)) ∙ is
 
 pub bit_none : (d : ℕ → ℕ) (n s : ℕ) → power n ≤ s → d (s - power n) ≤ n → is_born d (suc n) s ≡ false
 bit_none d n s g flat = high_is d n s g ∙ ap (λ (b : Bool). b && is_born d n (s - power n)) (ge_is n (d (s - power n)) flat)
@@ -195,8 +196,8 @@ module _ (e : Ending) (w : KeepsWholeHistory e.about (whole_view [] e.history) e
         (λ (high : power n ≤ s).
         let up = power_mono n (depth (shape_at e.about m)) (omega arith) in
         let z = w.rule.deep.whole m (s - power n) there (omega arith) fixed in
-        high_is (w.ghost.depths m) n s high ∙ both_and _ _ (lt_is n (w.ghost.depths m (s - power n)) (omega arith)) (born_fixed n (s - power n) (omega arith) (omega arith)))
-        (below_or s (power n))
+        high_is (w.ghost.depths m) n s high ∙ and_from _ _ (lt-ltb n (w.ghost.depths m (s - power n)) (omega arith)) (born_fixed n (s - power n) (omega arith) (omega arith)))
+        (cases_lt s (power n))
 
     born_all : (n : ℕ) → n ≤ segments (shape_at e.about m) → born_below e m n ≡ n
     born_all zero le = refl

@@ -20,6 +20,7 @@ use Rattle.hop_words.specs.Depths.{stamp_depth, home_by}
 use Rattle.hop_words.specs.Ghost.{shape_at, IsHomeIn, IsSegment, Each}
 use Rattle.hop_words.specs.Kinds.{SaysDepth, LocksSegment, locking, ShowsIn, IsShownIn, AreElsewhere, TakesEffect}
 use Rattle.std.specs.Prelude.{slice_index_or}
+use Rattle.std.proofs.lemmas.Bool.{false_from_ne_true}
 use Rattle.hop_words.specs.Locking.{lock_of, other_locks, unlocking_last, no_lock, HasLastLock}
 use Rattle.hop_words.specs.Owning.{tail_of}
 use Rattle.hop_words.specs.Listing.{ListsSegment, ListsMap, IsHomeAmong, lock_given, AnswersGiving}
@@ -113,10 +114,6 @@ found_first m s d (k ∷ ks) f owns h = ⊎_elim
     (λ (more : IsOwnedAmong s ks). absurd (let r = below m s k.segment d ks f.3 owns.1 more in let z = f.1 in omega arith))
     h
 
-pub not_true : (b : Bool) → (b ≡ true → ⊥) → b ≡ false
-not_true true h = absurd (h refl)
-not_true false h = refl
-
 -- ---- the lock
 module _ (a : About) (l : Known) (m s n : ℕ) (at_s : IsSegment a m s) (keys : List (List ℕ)) (g : Gathers a l m s keys) (l2 : Known) (t : LocksSegment a l m s n l2) where
   abbrev mine : Known
@@ -138,7 +135,7 @@ module _ (a : About) (l : Known) (m s n : ℕ) (at_s : IsSegment a m s) (keys : 
 
   -- none of the keys is at home here
   none_home : (q : List ℕ) → home_by a m (stamp_depth n) q ≡ s → is_among q keys ≡ false
-  none_home q home = not_true (is_among q keys) (λ h. shown_apart q l.locks t.others (at_key (IsShownIn a m l.locks) q keys g.shown h) home)
+  none_home q home = false_from_ne_true (is_among q keys) (λ h. shown_apart q l.locks t.others (at_key (IsShownIn a m l.locks) q keys g.shown h) home)
 
   pub opened : Opens a l2 m s keys
   opened = record {
@@ -168,7 +165,7 @@ module _ (a : About) (l : Known) (m s n : ℕ) (at_s : IsSegment a m s) (keys : 
     list_there [] apart of p = tt
     list_there (k ∷ ks) apart of p = (
       (λ f share q home.
-          let away : is_among q d.more ≡ false = not_true (is_among q d.more) (λ h. apart.0 of.0 q home (add_here q h)) in
+          let away : is_among q d.more ≡ false = false_from_ne_true (is_among q d.more) (λ h. apart.0 of.0 q home (add_here q h)) in
           p.0 f share q home ∙ sym (among-append q keys d.more ∙ (ap (λ (b : Bool). is_among q keys || b) away ∙ or_false (is_among q keys)))),
       list_there ks apart.1 of.1 p.1,
     )

@@ -1,6 +1,7 @@
 -- What a port holds lies in elements, and an access to it is one event more.
 use Rattle.std.proofs.Common.{◌≡◌, ℕ, ◌<◌, Bool, true, false, true≢false, List, [], ◌∷◌, Some, None, ◌⊎◌, inl, inr, ◌==◌, ◌&&◌, ◌||◌, length, refl, ap, sym, subst, ◌∙◌, arith}
 use Rattle.std.proofs.lemmas.Bool.Decides.{nat_tests}
+use Rattle.std.proofs.lemmas.Bool.{or_cases, and_parts}
 use Rattle.atomic_table.specs.Seated.{TableId}
 use Rattle.bpf_shared.specs.declared.events.Span.{Span}
 use Rattle.bpf_shared.specs.declared.events.Event.{Event}
@@ -21,18 +22,10 @@ use Rattle.hop_map.proofs.Spans.{held_spans_lie}
 use Rattle.hop_map.proofs.Ports.{map_inside, moved, room_stays}
 
 -- ---- the spans that a CPU's events hold are among those that it looked up
-and_both : (a b : Bool) → (a && b) ≡ true → (a ≡ true) × (b ≡ true)
-and_both true true h = (refl, refl)
-and_both true false h = absurd (true≢false (sym h))
-and_both false b h = absurd (true≢false (sym h))
-
-or_cases : (a b : Bool) → (a || b) ≡ true → (a ≡ true) ⊎ (b ≡ true)
-or_cases true b h = inl refl
-or_cases false b h = inr h
 
 same_spans : (q p : Span) → same_span q p ≡ true → q ≡ p
 same_spans q p h =
-    let b = and_both (q.at == p.at) (q.size == p.size) h in
+    let b = and_parts (q.at == p.at) (q.size == p.size) h in
     let x : q.at ≡ p.at = (let k = b.0 in grind (arith, nat_tests)) in
     let y : q.size ≡ p.size = (let k = b.1 in grind (arith, nat_tests)) in
     λ i. record { at = x i; size = y i }

@@ -1,5 +1,6 @@
 -- What the lock says is what the code of a segment needs.
 use Rattle.std.proofs.Common.{true≢false, ◌≡◌, ℕ, ◌<◌, ◌≤◌, Bool, true, false, ◌||◌, ◌==◌, List, [], ◌∷◌, refl, ap, sym, subst, ◌∙◌, inl, inr, ◌%◌}
+use Rattle.std.proofs.lemmas.Bool.{and_parts}
 use Rattle.atomic_table.specs.Seated.{TableId}
 use Rattle.bpf_shared.specs.Shape.{elements}
 use Rattle.hop_layout.specs.declared.about.About.{About}
@@ -10,7 +11,7 @@ use Rattle.hop_words.specs.Content.{MapWords, HasKey}
 use Rattle.hop_words.specs.Ghost.{shape_at, IsSegment, Each}
 use Rattle.hop_words.specs.Rule.{image, StartsWith}
 use Rattle.hop_words.specs.Kinds.{has, MayLink, LocksSegment, locking, AreElsewhere, unlocking, TakesEffect, with_gone}
-use Rattle.hop_layout.proofs.Layouts.{one, both}
+use Rattle.hop_layout.proofs.Layouts.{one}
 use Rattle.hop_words.specs.Locking.{lock_of, other_locks, unlocking_last, hand}
 use Rattle.hop_words.specs.Owning.{tail_of}
 use Rattle.hop_map.specs.LockedSegment.{Fits, Locked, Ready, knows, in_hand}
@@ -108,7 +109,7 @@ module _ (a : About) (l : Known) (m s n : ℕ) (at_s : IsSegment a m s) (key : L
 
   mine : (e : ℕ) → in_hand l.fresh m e ≡ true → MayLink a (locked a l m s n at_s l2 t) (lock_of (locked a l m s n at_s l2 t)) e × ((q : List ℕ) × HasKey (shape_at a m) y m e q)
   mine e k =
-      let both_are = both ((hand l).map == m) (e == (hand l).element) (subst (λ (fs : List Fresh). in_hand fs m e ≡ true) c.in_hand k) in
+      let both_are = and_parts ((hand l).map == m) (e == (hand l).element) (subst (λ (fs : List Fresh). in_hand fs m e ≡ true) c.in_hand k) in
       let same : element ≡ e = sym c.number ∙ sym (one e (hand l).element both_are.1) in (
         (subst (λ (i : ℕ). i < elements (shape_at a m)) same c.inside, inl (hand l, [], c.in_hand, c.map, c.number ∙ same)),
         (key, subst (λ (i : ℕ). HasKey (shape_at a m) y m i key) same own_key),

@@ -1,5 +1,6 @@
 -- A replacement: from the lock to the unlock.
 use Rattle.std.proofs.Common.{◌≡◌, ℕ, ◌<◌, ◌%◌, ◌^◌, eq-eqb, Bool, true, true≢false, ◌||◌, ◌&&◌, ◌==◌, List, [], ◌∷◌, Some, refl, ap, sym, subst, ◌∙◌}
+use Rattle.std.proofs.lemmas.Bool.{or_right}
 use Rattle.bpf_shared.specs.Shape.{elements}
 use Rattle.bpf_shared.specs.declared.events.Event.TheVariants.{Update}
 use Rattle.bpf_shared.specs.declared.events.MapAnswer.TheVariants.{Done}
@@ -21,7 +22,7 @@ use Rattle.hop_map.specs.Private.Replacing.{OffersReplacement, IsReplacement}
 use Rattle.hop_map.proofs.Keys.{spells}
 use Rattle.hop_map.proofs.Bridge.{replaced, reached_of, power_is}
 use Rattle.hop_map.proofs.Staying.{stays_is}
-use Rattle.hop_map.proofs.Puts.{sound_with, share, any_known, leads_with, known_by, here, or_last, was_inside}
+use Rattle.hop_map.proofs.Puts.{sound_with, share, any_known, leads_with, known_by, here, was_inside}
 use Rattle.hop_words.specs.Depths.{stamp_depth, home_by}
 
 module _ (x : Locked) (key bytes : List ℕ) (flags element : ℕ) (c : LockShows x.about x.known x.map x.segment) (b : OffersReplacement x.about x.known x.map x.segment key bytes flags element) where
@@ -52,7 +53,7 @@ module _ (x : Locked) (key bytes : List ℕ) (flags element : ℕ) (c : LockShow
 
   pub over_own : IsOwn (seen_words x).fixed element
   over_own = record {
-    known = (or_last (has element k.known) _ (or_last (is_put k.change element) _ held_here), b.filled.inside);
+    known = (or_right (has element k.known) _ (or_right (is_put k.change element) _ held_here), b.filled.inside);
     home = ap (λ (q : List ℕ). home x.about.seed (shape_at x.about x.map).mask q % 2 ^ (stamp_depth k.stamp)) over_spelt
         ∙ (ap (λ (n : ℕ). home x.about.seed (shape_at x.about x.map).mask key % n) (sym (power_is (stamp_depth k.stamp))) ∙ b.filled.home);
   }

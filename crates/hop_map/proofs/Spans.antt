@@ -4,6 +4,7 @@ use Rattle.std.proofs.lemmas.Bool.Decides.{nat_tests}
 use Rattle.std.specs.FinMap.{get, insert, remove, get-empty}
 use Rattle.std.specs.Ordering.{nat_cmp}
 use Rattle.std.specs.Cmp.Lexicographic.{slice_cmp}
+use Rattle.std.proofs.lemmas.Bool.{or_cases, and_parts}
 use Rattle.bpf_shared.specs.declared.events.Span.{Span}
 use Rattle.bpf_shared.specs.declared.events.Event.{Event}
 use Rattle.bpf_shared.specs.declared.events.Event.TheVariants.{Begin, End, Lookup, Update, Delete, Keys, Load, Store, Atomic}
@@ -141,18 +142,10 @@ last_found_lies h log others c m key (Some p) l =
     lookup_lies h.maps second.0 second.2.0 c m key p then_lie second.2.1
 
 -- ---- what a CPU's own events hold
-both : (a b : Bool) → (a && b) ≡ true → (a ≡ true) × (b ≡ true)
-both true true h = (refl, refl)
-both true false h = absurd (true≢false (sym h))
-both false b h = absurd (true≢false (sym h))
-
-either : (a b : Bool) → (a || b) ≡ true → (a ≡ true) ⊎ (b ≡ true)
-either true b h = inl refl
-either false b h = inr h
 
 same_spans : (q p : Span) → same_span q p ≡ true → q ≡ p
 same_spans q p h =
-    let b = both (q.at == p.at) (q.size == p.size) h in
+    let b = and_parts (q.at == p.at) (q.size == p.size) h in
     let x : q.at ≡ p.at = (let k = b.0 in grind (arith, nat_tests)) in
     let y : q.size ≡ p.size = (let k = b.1 in grind (arith, nat_tests)) in
     λ i. record { at = x i; size = y i }
@@ -164,7 +157,7 @@ since_lie : (maps : List MapShape) (s t : Plain) (c : ℕ) (e : Event) (f : Span
 since_lie maps s t c Begin f l a g = λ q h. absurd (true≢false (sym h))
 since_lie maps s t c End f l a g = λ q h. absurd (true≢false (sym h))
 since_lie maps s t c (Lookup m key None) f l a g = g
-since_lie maps s t c (Lookup m key (Some p)) f l a g = λ q h. elim (either (same_span q p) (f q) h) [
+since_lie maps s t c (Lookup m key (Some p)) f l a g = λ q h. elim (or_cases (same_span q p) (f q) h) [
   | inl k ↦ (m, subst (IsElementSpan maps m) (sym (same_spans q p k)) (lookup_lies maps s t c m key p l a))
   | inr k ↦ g q k
 ]

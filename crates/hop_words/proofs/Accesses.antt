@@ -1,5 +1,6 @@
 -- The steps on value words as code makes them.
 use Rattle.std.proofs.Common.{◌≡◌, ℕ, ◌+◌, ◌%◌, ◌<◌, true, false, Bool, ◌==◌, length, refl, ap, sym, subst, ◌∙◌, arith, bit_and, bit_or, bit_xor, if◌then◌else◌}
+use Rattle.std.proofs.lemmas.Bool.{lt-ltb}
 use prog.Atomic.{either}
 use Rattle.bpf_base.specs.Bytes.{low_bytes, with_part}
 use Rattle.bpf_base.specs.Atomic.{number_after}
@@ -18,12 +19,11 @@ use Rattle.hop_words.specs.Ghost.{shape_at, lane}
 use Rattle.hop_words.specs.Private.Step.{Steps}
 use Rattle.hop_words.specs.Kinds.{Touches, found_in, Told}
 use Rattle.hop_words.specs.Touching.{TouchesWord, part_address}
-use Rattle.hop_words.proofs.Locked.{lt}
 use Rattle.hop_layout.proofs.WordBytes.{whole_word}
 use Rattle.hop_words.proofs.Values.{value_store, value_fetch}
 
 pub value_there : (a : About) (l : Known) (m e k o n : ℕ) → Touches a l m e k o n → is_place a.shape (ValueWord m e k) ≡ true
-value_there a l m e k o n t = rw (lt m (length a.shape.maps) t.element.0, lt e (elements (shape_at a m)) t.element.1, lt k (words_for (shape_at a m).value) t.word) refl
+value_there a l m e k o n t = rw (lt-ltb m (length a.shape.maps) t.element.0, lt-ltb e (elements (shape_at a m)) t.element.1, lt-ltb k (words_for (shape_at a m).value) t.word) refl
 
 -- a word read whole
 pub found_whole : (n : ℕ) → n < 18446744073709551616 → found_in n 0 8 ≡ n
@@ -64,22 +64,22 @@ module _ (a : About) (l : Known) (p : ValuePart) (t : TouchesWord a l p) where
     whole = omega arith
 
     pub adds : Steps a l (ValueWord p.map p.element p.word) (λ n. (n + operand) % 18446744073709551616) (λ ws n l'. Told a l (Atomic (part_address a p) Double Add operand expected n) l')
-    adds = changes Add operand expected (λ n. (n + operand) % 18446744073709551616) (λ n lt. refl)
+    adds = changes Add operand expected (λ n. (n + operand) % 18446744073709551616) (λ n lt-ltb. refl)
 
     pub ors : Steps a l (ValueWord p.map p.element p.word) (λ n. bit_or n operand) (λ ws n l'. Told a l (Atomic (part_address a p) Double Or operand expected n) l')
-    ors = changes Or operand expected (λ n. bit_or n operand) (λ n lt. ap (bit_or n) (sym whole))
+    ors = changes Or operand expected (λ n. bit_or n operand) (λ n lt-ltb. ap (bit_or n) (sym whole))
 
     pub ands : Steps a l (ValueWord p.map p.element p.word) (λ n. bit_and n operand) (λ ws n l'. Told a l (Atomic (part_address a p) Double And operand expected n) l')
-    ands = changes And operand expected (λ n. bit_and n operand) (λ n lt. ap (bit_and n) (sym whole))
+    ands = changes And operand expected (λ n. bit_and n operand) (λ n lt-ltb. ap (bit_and n) (sym whole))
 
     pub xors : Steps a l (ValueWord p.map p.element p.word) (λ n. bit_xor n operand) (λ ws n l'. Told a l (Atomic (part_address a p) Double Xor operand expected n) l')
-    xors = changes Xor operand expected (λ n. bit_xor n operand) (λ n lt. ap (bit_xor n) (sym whole))
+    xors = changes Xor operand expected (λ n. bit_xor n operand) (λ n lt-ltb. ap (bit_xor n) (sym whole))
 
     pub swaps : Steps a l (ValueWord p.map p.element p.word) (λ n. operand) (λ ws n l'. Told a l (Atomic (part_address a p) Double Exchange operand expected n) l')
-    swaps = changes Exchange operand expected (λ n. operand) (λ n lt. sym whole)
+    swaps = changes Exchange operand expected (λ n. operand) (λ n lt-ltb. sym whole)
 
     pub exchanges : Steps a l (ValueWord p.map p.element p.word) (λ n. either (n == expected) operand n) (λ ws n l'. Told a l (Atomic (part_address a p) Double CompareExchange operand expected n) l')
-    exchanges = changes CompareExchange operand expected (λ n. either (n == expected) operand n) (λ n lt. tests n)
+    exchanges = changes CompareExchange operand expected (λ n. either (n == expected) operand n) (λ n lt-ltb. tests n)
       where
         expects : expected % 18446744073709551616 ≡ expected
         expects = omega arith

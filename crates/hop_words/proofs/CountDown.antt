@@ -5,6 +5,7 @@ use mathlib.Core.Logic.{dite}
 use Rattle.std.specs.FinMap.{get, len, empty, empty_of_len, get-empty}
 use Rattle.std.specs.Ordering.{nat_cmp}
 use Rattle.std.specs.Cmp.Lexicographic.{slice_cmp}
+use Rattle.std.proofs.lemmas.Bool.{cases_eq}
 use Rattle.bpf_shared.specs.declared.events.Event.{Event}
 use Rattle.bpf_shared.specs.declared.events.Event.TheVariants.{Delete}
 use Rattle.bpf_shared.specs.declared.events.Entry.{Entry}
@@ -27,7 +28,7 @@ use Rattle.hop_words.specs.Ghost.{Holder, Free, Leaving, Within, lane, Ghost, sh
 use Rattle.hop_words.specs.Rule.{Rule, Minded, put_key, changed, Holds, numbered}
 use Rattle.hop_words.specs.Private.Step.{Next, Steps}
 use Rattle.hop_words.specs.Kinds.{Removes, Removed, with_gone}
-use Rattle.hop_words.proofs.Small.{equal_keys, equal, here_or, put2-same, put2-other, put_key-same, put_key-other}
+use Rattle.hop_words.proofs.Small.{equal_keys, here_or, put2-same, put2-other, put_key-same, put_key-other}
 use Rattle.hop_words.proofs.Histories.{logged_event}
 use Rattle.hop_words.proofs.Shortages.{begun_event, causes_on, run_quiet, settles_put, shown_step}
 use Rattle.hop_words.proofs.Goes.{with_used, owned_goes, cut_old, linked_goes, keyed_goes, batched_goes, valued_goes}
@@ -89,7 +90,7 @@ module _ (a : About) (l : Known) (k : Lock) (key : List ℕ) (e : ℕ) (i : Remo
     mine = λ d mind. ⊎_elim
         (λ (u : d ≡ e). subst (Minded (lock_home a k) l.cpu s) (sym (ap (g.holder m) u ∙ was)) i.home)
         (λ (nu : d ≢ e). subst (Minded (lock_home a k) l.cpu s) (put2-other g.holder m e m d (Leaving l.cpu) (λ _. nu)) mind)
-        (equal d e);
+        (cases_eq d e);
     due = λ before same q home. ⊎_elim
         (λ (u : q ≡ key). ap (λ (f : List ℕ → Option ℕ). f q) (put-same g.linked m m (put_key (g.linked m) key None) refl) ∙ (put_key-same (g.linked m) key q None u ∙ sym (put_key-same before key q None u)))
         (λ (u : q ≢ key). cut_old a l.cpu m e s key g.holder was g.linked m q (λ _. u) ∙ (same q home ∙ sym (put_key-other before key q None u)))

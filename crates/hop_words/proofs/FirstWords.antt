@@ -12,12 +12,8 @@ use Rattle.hop_words.specs.Ghost.{shape_at}
 use Rattle.hop_words.specs.Private.Made.{IsPartly, AreNewWords}
 use Rattle.std.specs.Int.{bit_at}
 use Rattle.std.proofs.lemmas.Nat.Bits.{bit_at_ones}
-use Rattle.hop_layout.proofs.Layouts.{both}
-use Rattle.hop_words.proofs.Small.{equal}
+use Rattle.std.proofs.lemmas.Bool.{lt-ltb, and_parts, cases_eq}
 use Rattle.hop_layout.proofs.Depths.{first_most}
-
-yes : (m n : ℕ) → m < n → nat_lt m n ≡ true
-yes m n l = grind (arith, nat_tests)
 
 no : (m n : ℕ) → n ≤ m → nat_lt m n ≡ false
 no m n l = grind (arith, nat_tests)
@@ -25,17 +21,17 @@ no m n l = grind (arith, nat_tests)
 -- one more, for another number than the next
 lt_on : (d c : ℕ) → d ≢ c → nat_lt d (c + 1) ≡ nat_lt d c
 lt_on d c ne = dite (dec_lt d c)
-    (λ (l : d < c). yes d (c + 1) (omega arith) ∙ sym (yes d c l))
+    (λ (l : d < c). lt-ltb d (c + 1) (omega arith) ∙ sym (lt-ltb d c l))
     (λ nl. no d (c + 1) (grind arith) ∙ sym (no d c (grind arith)))
 
 lt_now : (d c : ℕ) → d ≡ c → nat_lt d (c + 1) ≡ true
-lt_now d c e = yes d (c + 1) (omega arith)
+lt_now d c e = lt-ltb d (c + 1) (omega arith)
 
 pub runs_on : (a : About) (w : Place → ℕ) (c m i s : ℕ) → IsPartly a w c m i s → IsPartly a (put_at w (RunCount c) a.count) (c + 1) m i s
 runs_on a w c m i s p (RunCount d) there = ⊎_elim
     (λ (e : d ≡ c). rw (eq-eqb d c e, lt_now d c e) refl)
     (λ (ne : d ≢ c). rw (ne_eqb d c ne, lt_on d c ne) (p (RunCount d) there))
-    (equal d c)
+    (cases_eq d c)
 runs_on a w c m i s p (KeyCount n) there = p (KeyCount n) there
 runs_on a w c m i s p (FreeBits n j) there = p (FreeBits n j) there
 runs_on a w c m i s p (Stamp n t) there = p (Stamp n t) there
@@ -53,9 +49,9 @@ bits_on a w c m i s p (FreeBits n j) there = ⊎_elim
     (λ (e : n ≡ m). ⊎_elim
     (λ (f : j ≡ i). rw (eq-eqb n m e, eq-eqb j i f, no n m (omega arith), lt_now j i f) refl)
     (λ (nf : j ≢ i). rw (eq-eqb n m e, ne_eqb j i nf, no n m (omega arith), lt_on j i nf) (let q = p (FreeBits n j) there in let z : (nat_lt n m || ((n == m) && nat_lt j i)) ≡ nat_lt j i = rw (eq-eqb n m e, no n m (omega arith)) refl in subst (λ (b : Bool). w (FreeBits n j) ≡ (if b then 2 ^ 64 - 1 else 0)) z q))
-    (equal j i))
+    (cases_eq j i))
     (λ (ne : n ≢ m). rw (ne_eqb n m ne) (let q = p (FreeBits n j) there in let z : (nat_lt n m || ((n == m) && nat_lt j i)) ≡ (nat_lt n m || false) = rw (ne_eqb n m ne) refl in subst (λ (b : Bool). w (FreeBits n j) ≡ (if b then 2 ^ 64 - 1 else 0)) z q))
-    (equal n m)
+    (cases_eq n m)
 bits_on a w c m i s p (Stamp n t) there = p (Stamp n t) there
 bits_on a w c m i s p (Head n t) there = p (Head n t) there
 bits_on a w c m i s p (Hop n t b) there = p (Hop n t b) there
@@ -75,9 +71,9 @@ stamps_on a w c m i s p (Stamp n t) there = ⊎_elim
     (λ (e : n ≡ m). ⊎_elim
     (λ (f : t ≡ s). rw (eq-eqb n m e, eq-eqb t s f, no n m (omega arith), lt_now t s f) (ap (fresh_stamp a) (sym e)))
     (λ (nf : t ≢ s). rw (eq-eqb n m e, ne_eqb t s nf, no n m (omega arith), lt_on t s nf) (let q = p (Stamp n t) there in let z : (nat_lt n m || ((n == m) && nat_lt t s)) ≡ nat_lt t s = rw (eq-eqb n m e, no n m (omega arith)) refl in subst (λ (b : Bool). w (Stamp n t) ≡ (if b then fresh_stamp a n else 0)) z q))
-    (equal t s))
+    (cases_eq t s))
     (λ (ne : n ≢ m). rw (ne_eqb n m ne) (let q = p (Stamp n t) there in let z : (nat_lt n m || ((n == m) && nat_lt t s)) ≡ (nat_lt n m || false) = rw (ne_eqb n m ne) refl in subst (λ (b : Bool). w (Stamp n t) ≡ (if b then fresh_stamp a n else 0)) z q))
-    (equal n m)
+    (cases_eq n m)
 stamps_on a w c m i s p (Head n t) there = p (Head n t) there
 stamps_on a w c m i s p (Hop n t b) there = p (Hop n t b) there
 stamps_on a w c m i s p (Slot n t b) there = p (Slot n t b) there
@@ -87,7 +83,7 @@ stamps_on a w c m i s p (ValueWord n e k) there = p (ValueWord n e k) there
 
 -- the parts of a place
 inner : (x y z : Bool) → (x && (y && z)) ≡ true → y ≡ true
-inner x y z e = (both y z (both x (y && z) e).1).0
+inner x y z e = (and_parts y z (and_parts x (y && z) e).1).0
 
 less : (m n : ℕ) → nat_lt m n ≡ true → m < n
 less m n e = grind (arith, nat_tests)
@@ -95,9 +91,9 @@ less m n e = grind (arith, nat_tests)
 -- a map whose words are all as made comes before the next
 whole_map : (n m j k : ℕ) → (n ≡ m → j < k) → (nat_lt n m || ((n == m) && nat_lt j k)) ≡ (nat_lt n (m + 1) || ((n == (m + 1)) && nat_lt j 0))
 whole_map n m j k inside = ⊎_elim
-    (λ (e : n ≡ m). rw (eq-eqb n m e, yes j k (inside e), yes n (m + 1) (omega arith), no n m (omega arith)) refl)
+    (λ (e : n ≡ m). rw (eq-eqb n m e, lt-ltb j k (inside e), lt-ltb n (m + 1) (omega arith), no n m (omega arith)) refl)
     (λ (ne : n ≢ m). rw (ne_eqb n m ne, no j 0 (omega arith), lt_on n m ne) (go (n == (m + 1)) (nat_lt n m)))
-    (equal n m)
+    (cases_eq n m)
   where
     go : (x y : Bool) → (y || false) ≡ (y || (x && false))
     go true true = refl
@@ -149,13 +145,13 @@ all_bits j few = bit_at_ones 64 j few
 pub whole : (a : About) (w : Place → ℕ) → IsShape a.shape → IsPartly a w a.shape.cpus (length a.shape.maps) 0 0 → AreNewWords a w
 whole a w shaped p = record {
   shaped = shaped;
-  counts = λ c l. p (RunCount c) (rw (yes c a.shape.cpus l) refl) ∙ rw (yes c a.shape.cpus l) refl;
-  keys = λ m l. p (KeyCount m) (rw (yes m (length a.shape.maps) l) refl);
-  bits = λ m e at_e. ap (λ (n : ℕ). bit_at n (e % 64)) (p (FreeBits m (e / 64)) (rw (yes m (length a.shape.maps) at_e.0, yes (e / 64) (free_words (shape_at a m)) (omega (arith, at_e.1))) refl) ∙ rw (yes m (length a.shape.maps) at_e.0) refl) ∙ all_bits (e % 64) (omega arith);
-  stamps = λ m s at_s. let z : w (Stamp m s) ≡ a.version * 256 + 2 * first_depth (shape_at a m) = p (Stamp m s) (rw (yes m (length a.shape.maps) at_s.0, yes s (segments (shape_at a m)) at_s.1) refl) ∙ rw (yes m (length a.shape.maps) at_s.0) refl in let d = first_most (shape_at a m) in (omega arith, omega arith, omega arith);
-  heads = λ m s at_s. p (Head m s) (rw (yes m (length a.shape.maps) at_s.0, yes s (segments (shape_at a m)) at_s.1) refl);
-  slots = λ m s b at_s lb. p (Slot m s b) (rw (yes m (length a.shape.maps) at_s.0, yes s (segments (shape_at a m)) at_s.1, yes b 64 lb) refl);
-  hops = λ m s b at_s lb. p (Hop m s b) (rw (yes m (length a.shape.maps) at_s.0, yes s (segments (shape_at a m)) at_s.1, yes b 64 lb) refl);
+  counts = λ c l. p (RunCount c) (rw (lt-ltb c a.shape.cpus l) refl) ∙ rw (lt-ltb c a.shape.cpus l) refl;
+  keys = λ m l. p (KeyCount m) (rw (lt-ltb m (length a.shape.maps) l) refl);
+  bits = λ m e at_e. ap (λ (n : ℕ). bit_at n (e % 64)) (p (FreeBits m (e / 64)) (rw (lt-ltb m (length a.shape.maps) at_e.0, lt-ltb (e / 64) (free_words (shape_at a m)) (omega (arith, at_e.1))) refl) ∙ rw (lt-ltb m (length a.shape.maps) at_e.0) refl) ∙ all_bits (e % 64) (omega arith);
+  stamps = λ m s at_s. let z : w (Stamp m s) ≡ a.version * 256 + 2 * first_depth (shape_at a m) = p (Stamp m s) (rw (lt-ltb m (length a.shape.maps) at_s.0, lt-ltb s (segments (shape_at a m)) at_s.1) refl) ∙ rw (lt-ltb m (length a.shape.maps) at_s.0) refl in let d = first_most (shape_at a m) in (omega arith, omega arith, omega arith);
+  heads = λ m s at_s. p (Head m s) (rw (lt-ltb m (length a.shape.maps) at_s.0, lt-ltb s (segments (shape_at a m)) at_s.1) refl);
+  slots = λ m s b at_s lb. p (Slot m s b) (rw (lt-ltb m (length a.shape.maps) at_s.0, lt-ltb s (segments (shape_at a m)) at_s.1, lt-ltb b 64 lb) refl);
+  hops = λ m s b at_s lb. p (Hop m s b) (rw (lt-ltb m (length a.shape.maps) at_s.0, lt-ltb s (segments (shape_at a m)) at_s.1, lt-ltb b 64 lb) refl);
 }
 
 -- a row of zeros

@@ -2,6 +2,7 @@
 use Rattle.std.proofs.Common.{◌≡◌, ◌≢◌, ℕ, zero, suc, ◌+◌, ◌/◌, ◌%◌, ◌^◌, ◌<◌, ◌≤◌, Bool, true, false, true≢false, List, [], ◌∷◌, Option, ◌==◌, length, set, slice_index, refl, ap, sym, subst, ◌∙◌, arith, eq-eqb, ne_eqb, ⊎_elim, inl, inr, ◌⊎◌, bit_or}
 use Rattle.std.proofs.lemmas.Bool.Decides.{nat_tests}
 use Rattle.std.proofs.lemmas.Nat.Bits.{bit_at_or, bit_at-lt, bit_at-pow_same, bit_at-pow_other}
+use Rattle.std.proofs.lemmas.Bool.{cases_lt, cases_eq}
 use Rattle.bpf_shared.specs.Store.{put, as_made}
 use Rattle.bpf_shared.proofs.Puts.{true_or_false}
 use Rattle.bpf_shared.specs.Sound.{IsSoundStore}
@@ -20,7 +21,7 @@ use Rattle.hop_words.specs.Rule.{Rule, Chained, link_to, times_limbo, Linked, Se
 use Rattle.bpf_shared.specs.Own.{turns_of, in_run}
 use Rattle.hop_words.specs.Private.Step.{Steps}
 use Rattle.hop_words.specs.Kinds.{retiring, Passed, giving_old}
-use Rattle.hop_words.proofs.Small.{equal, put2-same, put2-other}
+use Rattle.hop_words.proofs.Small.{put2-same, put2-other}
 use Rattle.hop_words.proofs.Histories.{prefix_refl, runs_as_known}
 use Rattle.hop_words.proofs.Shortages.{settles_put, shown_step}
 use Rattle.hop_words.proofs.Comes.{moved, in_limbo}
@@ -62,12 +63,7 @@ holder_odd a w g r even d v h = (in_shape, odd)
     in_shape = ⊎_elim
         (λ (t : d < a.shape.cpus). t)
         (λ (f : a.shape.cpus ≤ d). absurd (let z : turns_of (events_of d g.log) ≡ 0 = ap turns_of (r.logged.others d f) in let o = turns_odd in omega arith))
-        (below d a.shape.cpus)
-      where
-        below : (i j : ℕ) → (i < j) ⊎ (j ≤ i)
-        below i zero = inr (omega arith)
-        below zero (suc j) = inl (omega arith)
-        below (suc i) (suc j) = ⊎_elim (λ t. inl (omega arith)) (λ t. inr (omega arith)) (below i j)
+        (cases_lt d a.shape.cpus)
 
     odd : w (RunCount d) % 2 ≡ 1
     odd = let c = r.runs d in_shape in let o = turns_odd in let e = even in omega arith
@@ -99,7 +95,7 @@ give_old a l m e es even at_e room i ws g sized r is inside fits = record {
           (λ b n ne inb at_n. r.owned.limbo_is b n d inb at_n ∙ ⊎_elim
           (λ (t : b ≡ l.cpu). ap (λ z. one_if (is_leaving b z)) (sym (put2-other g.holder m e n d Free (λ u. absurd (ne t u)))))
           (λ (nb : b ≢ l.cpu). sym (moved (λ z. one_if (is_leaving b z)) g.holder m e (Leaving l.cpu) Free was (sym (ap one_if (ne_eqb l.cpu b (λ (z : l.cpu ≡ b). nb (sym z))))) n d))
-          (equal b l.cpu))
+          (cases_eq b l.cpu))
           b n inb at_d;
     };
     linked = linked_outside a g.holder m e (Leaving l.cpu) Free was g.linked (λ s z. cc) (λ s z. cc) r.linked;
@@ -176,7 +172,7 @@ give_old a l m e es even at_e room i ws g sized r is inside fits = record {
         let one = times_else e d es ne in
         let new : one_if (is_leaving l.cpu (holder2 m d)) ≡ one_if (is_leaving l.cpu (g.holder m d)) = ap (λ h. one_if (is_leaving l.cpu h)) (put2-other g.holder m e m d Free (λ _. ne)) in
         omega arith)
-        (equal d e)
+        (cases_eq d e)
 
 -- ---- words of elements that the lane has: nobody else minds them
 -- the segments, where links and keys of linked elements are as they were
@@ -204,7 +200,7 @@ pub locking_words : (a : About) (depths : ℕ → ℕ → ℕ) (x x' : MapWords)
 locking_words a depths x x' stamp eras linked holder locks c none head hop slot minded p b = ⊎_elim
     (λ (t : b ≡ c). subst (Each (Holds a depths x' stamp eras linked holder b)) (sym (ap locks t ∙ none)) tt)
     (λ (ne : b ≢ c). go ne (locks b) (p b))
-    (equal b c)
+    (cases_eq b c)
   where
     go : b ≢ c → (ks : List Lock) → Each (Holds a depths x stamp eras linked holder b) ks → Each (Holds a depths x' stamp eras linked holder b) ks
     go ne [] q = tt

@@ -1,5 +1,6 @@
 -- Lock, read under lock, write under lock, unlock.
 use Rattle.std.proofs.Common.{◌≡◌, ◌≢◌, ℕ, zero, suc, ◌+◌, ◌/◌, ◌%◌, ◌<◌, ◌≤◌, Bool, true, false, true≢false, ◌||◌, List, [], ◌∷◌, ◌==◌, if◌then◌else◌, length, refl, ap, sym, subst, ◌∙◌, arith, eq-eqb, ne_eqb, ⊎_elim, ◌-◌}
+use Rattle.std.proofs.lemmas.Bool.{cases_lt, lt-ltb, and_from, cases_eq}
 use Rattle.atomic_table.proofs.Lists.{exchanged}
 use Rattle.bpf_shared.specs.Shape.{elements}
 use prog.Atomic.{either}
@@ -20,7 +21,7 @@ use Rattle.hop_words.specs.Sights.{sighted, lock_taken}
 use Rattle.hop_words.specs.Private.Step.{Next, Steps}
 use Rattle.hop_words.specs.Kinds.{has, locking, LocksSegment, HasRoom, IsWritten, AreElsewhere, KnowsBorn, First, Whole, Seen, Child}
 use Rattle.hop_layout.proofs.Layouts.{same_is, same_self, one}
-use Rattle.hop_words.proofs.Small.{here_or, put2-same, put2-other, equal}
+use Rattle.hop_words.proofs.Small.{here_or, put2-same, put2-other}
 use Rattle.hop_words.proofs.Histories.{prefix_refl}
 use Rattle.hop_words.proofs.Segs.{share_same, Elsewhere, only_stamp, segments_step, locking_step, readings_step, held_step, lock_once, lock_else, each_else, each_apart, one_home}
 use Rattle.hop_words.proofs.Shares.{share_agrees}
@@ -31,7 +32,7 @@ use Rattle.bpf_shared.proofs.Puts.{put-same, put-other}
 use Rattle.hop_words.specs.Depths.{stamp_depth, IsBorn, home_by, Deep}
 use Rattle.hop_layout.specs.Births.{is_born}
 use Rattle.hop_words.specs.Ghost.{child}
-use Rattle.hop_layout.proofs.Births.{born_first, born_child, born_small, power_mono, low_is, high_is, both_and, lt_is, below_or}
+use Rattle.hop_layout.proofs.Births.{born_first, born_child, born_small, power_mono, low_is, high_is}
 use Rattle.hop_layout.proofs.Births.{some_power}
 
 -- ---- words at a place, and at others
@@ -292,8 +293,8 @@ known_born a w g r l is m s in_m (Whole all few) = (in_m, few, go (depth (shape_
         (λ (high : power n ≤ t).
         let up = power_mono n (depth (shape_at a m)) (omega arith) in
         let z = r.deep.whole m (t - power n) in_m (omega arith) all in
-        high_is (g.depths m) n t high ∙ both_and _ _ (lt_is n (g.depths m (t - power n)) (omega arith)) (go n (t - power n) (omega arith) (omega arith)))
-        (below_or t (power n))
+        high_is (g.depths m) n t high ∙ and_from _ _ (lt-ltb n (g.depths m (t - power n)) (omega arith)) (go n (t - power n) (omega arith) (omega arith)))
+        (cases_lt t (power n))
 known_born a w g r l is m s in_m (Seen rd h e f) =
     let q = (subst (Each (IsSoundReading a g.depths g.eras)) (ap (λ (x : Known). x.readings) is ∙ h) (r.reading l.cpu)).0 in
     subst (λ (i : ℕ). IsBorn a g.depths i s) e (subst (λ (j : ℕ). IsBorn a g.depths rd.map j) f q.inside)
@@ -379,7 +380,7 @@ module _ (a : About) (l : Known) (m s old : ℕ) (in_m : m < length a.shape.maps
   none_read p d = ⊎_elim
       (λ (t : d ≡ l.cpu). subst (Each (IsSoundReading a g.depths locked_ghost.eras)) (sym (put-same g.lanes.readings l.cpu d [] t)) tt)
       (λ (ne : d ≢ l.cpu). subst (Each (IsSoundReading a g.depths locked_ghost.eras)) (sym (put-other g.lanes.readings l.cpu d [] ne)) (p d))
-      (equal d l.cpu)
+      (cases_eq d l.cpu)
 
   lock_rule : Rule a lw' locked_ghost
   lock_rule = record {

@@ -27,9 +27,10 @@ use Rattle.hop_words.specs.Opens.{no_limbos, new_lane, lanes_from, opens}
 use Rattle.hop_words.proofs.CountDown.{nothing_in}
 use Rattle.hop_words.specs.Depths.{home_by}
 use Rattle.hop_layout.specs.Births.{is_born, AreDepths}
-use Rattle.hop_layout.proofs.Births.{born_small, below_or, low_is, high_is}
+use Rattle.hop_layout.proofs.Births.{born_small, low_is, high_is}
 use Rattle.bpf_shared.specs.declared.shapes.MapShape.{MapShape}
 use Rattle.std.proofs.lemmas.Bool.Decides.{nat_tests}
+use Rattle.std.proofs.lemmas.Bool.{cases_lt}
 
 limbo_none : (n m : ℕ) → limbo_at (no_limbos n) m ≡ no_limbo
 limbo_none zero m = refl
@@ -42,7 +43,7 @@ no_depth limit zero s b = let z = b in grind (arith, nat_tests)
 no_depth limit (suc n) s b = ⊎_elim
     (λ (l : s < power n). no_depth limit n s (sym (low_is (λ t. 0) n s l) ∙ b))
     (λ (h : power n ≤ s). let z : nat_lt n 0 && is_born (λ t. 0) n (s - power n) ≡ true = sym (high_is (λ t. 0) n s h) ∙ b in let y : nat_lt n 0 ≡ false = (grind (arith, nat_tests)) in absurd (true≢false (sym z ∙ ap (λ (x : Bool). x && is_born (λ t. 0) n (s - power n)) y)))
-    (below_or s (power n))
+    (cases_lt s (power n))
 
 first_sound : (g : MapShape) → AreDepths (λ s. first_depth g) (depth g)
 first_sound g s b = go (g.grow) refl

@@ -1,5 +1,6 @@
 -- Publish split: the parent's unlocking store, by which its child is born.
 use Rattle.std.proofs.Common.{◌≡◌, ◌≢◌, ℕ, suc, ◌+◌, ◌/◌, ◌%◌, ◌<◌, ◌≤◌, Bool, true, false, true≢false, List, [], ◌∷◌, Some, if◌then◌else◌, refl, ap, sym, subst, ◌∙◌, arith, eq-eqb, ne_eqb, ⊎_elim, inl, inr, ◌⊎◌}
+use Rattle.std.proofs.lemmas.Bool.{cases_eq}
 use Rattle.bpf_shared.specs.Store.{put}
 use Rattle.bpf_shared.proofs.Puts.{put-same, put-other}
 use Rattle.hop_layout.specs.declared.place.Place.{Place}
@@ -20,7 +21,7 @@ use Rattle.hop_words.specs.Rule.{Rule, Worn, Segment, Segments, Minded, Holds, L
 use Rattle.hop_words.specs.Shortage.{done_in}
 use Rattle.hop_words.specs.Private.Step.{Steps}
 use Rattle.hop_words.specs.Kinds.{Splits, unlocking}
-use Rattle.hop_words.proofs.Small.{equal, here_or}
+use Rattle.hop_words.proofs.Small.{here_or}
 use Rattle.hop_words.proofs.Histories.{prefix_refl}
 use Rattle.hop_layout.proofs.Births.{some_power}
 use Rattle.hop_layout.proofs.Births.{mod_low, mod_small, mod_once, still_born, born_before, depths_after, parent_depth, child_depth, elsewhere}
@@ -113,13 +114,13 @@ module _ (a : About) (l : Known) (k : Lock) (n : ℕ) (i : Splits a l k n) (w : 
     depth_same = ⊎_elim
         (λ (e : x ≡ m). ap (λ (f : ℕ → ℕ). f t) (put-same g.depths m x (split_depths (g.depths m) s) e) ∙ (elsewhere (g.depths m) (depth (shape_at a m)) s h.inside.2 room few t (off e).1 (off e).0 ∙ ap (λ (j : ℕ). g.depths j t) (sym e)))
         (λ (ne : x ≢ m). ap (λ (f : ℕ → ℕ). f t) (put-other g.depths m x (split_depths (g.depths m) s) ne))
-        (equal x m)
+        (cases_eq x m)
 
     era_same : eras' x t ≡ g.eras x t
     era_same = ⊎_elim
         (λ (e : x ≡ m). ap (λ (f : ℕ → Era). f t) (put-same g.eras m x _ e) ∙ (put-other (put (g.eras m) s era_s) c t era_c (off e).1 ∙ (put-other (g.eras m) s t era_s (off e).0 ∙ ap (λ (j : ℕ). g.eras j t) (sym e))))
         (λ (ne : x ≢ m). ap (λ (f : ℕ → Era). f t) (put-other g.eras m x _ ne))
-        (equal x m)
+        (cases_eq x m)
 
     stamp_same : w' (Stamp x t) ≡ w (Stamp x t)
     stamp_same = put_else w (Stamp m s) (Stamp x t) v (stamp_apart m s x t (λ e. (off e).0))
@@ -131,7 +132,7 @@ module _ (a : About) (l : Known) (k : Lock) (n : ℕ) (i : Splits a l k n) (w : 
     ⊎_elim
         (λ (e : x ≡ m). ap (λ (f : ℕ → ℕ). is_born f (depth (shape_at a x)) t) (put-same g.depths m x (split_depths (g.depths m) s) e) ∙ (ap (λ (j : ℕ). is_born (split_depths (g.depths m) s) (depth (shape_at a j)) t) e ∙ still_born (g.depths m) (depth (shape_at a m)) s h.inside.2 room few (depth (shape_at a m)) h.inside.2 t ((λ q. is_born (g.depths (sym e q)) (depth (shape_at a (sym e q))) t) ∙ b.2)))
         (λ (ne : x ≢ m). ap (λ (f : ℕ → ℕ). is_born f (depth (shape_at a x)) t) (put-other g.depths m x (split_depths (g.depths m) s) ne) ∙ b.2)
-        (equal x m),
+        (cases_eq x m),
   )
 
   -- a segment is the parent, the child, or one that was born before
@@ -146,10 +147,10 @@ module _ (a : About) (l : Known) (k : Lock) (n : ℕ) (i : Splits a l k n) (w : 
       (λ (old : is_born (g.depths m) (depth (shape_at a m)) t ≡ true). inr (inr (record { born = (b.0, b.1, (λ q. is_born (g.depths (e q)) (depth (shape_at a (e q))) t) ∙ old); off = λ _. (ns, nc) })))
       (born_before (g.depths m) (depth (shape_at a m)) s h.inside.2 room few (depth (shape_at a m)) t
       (ap (λ (j : ℕ). is_born (split_depths (g.depths m) s) (depth (shape_at a j)) t) (sym e) ∙ (ap (λ (f : ℕ → ℕ). is_born f (depth (shape_at a x)) t) (sym (put-same g.depths m x (split_depths (g.depths m) s) e)) ∙ b.2))))
-      (equal t c))
-      (equal t s))
+      (cases_eq t c))
+      (cases_eq t s))
       (λ (ne : x ≢ m). inr (inr (record { born = (b.0, b.1, ap (λ (f : ℕ → ℕ). is_born f (depth (shape_at a x)) t) (sym (put-other g.depths m x (split_depths (g.depths m) s) ne)) ∙ b.2); off = λ e. absurd (ne e) })))
-      (equal x m)
+      (cases_eq x m)
 
   -- who was born is one of the others, or the parent
   old_off : (x t : ℕ) → IsBorn a g.depths x t → (x ≡ m → t ≢ s) → x ≡ m → (t ≢ s) × (t ≢ c)
@@ -285,7 +286,7 @@ module _ (a : About) (l : Known) (k : Lock) (n : ℕ) (i : Splits a l k n) (w : 
     sound = λ x in_x. ⊎_elim
         (λ (e : x ≡ m). subst (λ (j : ℕ). AreDepths (depths' j) (depth (shape_at a j))) (sym e) (subst (λ (f : ℕ → ℕ). AreDepths f (depth (shape_at a m))) (sym (put-same g.depths m m (split_depths (g.depths m) s) refl)) (depths_after (g.depths m) (depth (shape_at a m)) s h.inside.2 room few (r.deep.sound m h.inside.0))))
         (λ (ne : x ≢ m). subst (λ (f : ℕ → ℕ). AreDepths f (depth (shape_at a x))) (sym (put-other g.depths m x (split_depths (g.depths m) s) ne)) (r.deep.sound x in_x))
-        (equal x m);
+        (cases_eq x m);
     stamped = λ x t b. ⊎_elim
         (λ (e : (x ≡ m) × (t ≡ s)). at x t m s e.0 e.1 (ap stamp_depth stamp_s ∙ ((let z = h.even in let y = i.room in let ten = depth_most (shape_at a m) in let q : stamp_depth v ≡ stamp_depth k.stamp + 1 = omega arith in q) ∙ (depth_up ∙ sym depth_s))))
         (λ (f : ((x ≡ m) × (t ≡ c)) ⊎ Else x t). ⊎_elim
@@ -296,7 +297,7 @@ module _ (a : About) (l : Known) (k : Lock) (n : ℕ) (i : Splits a l k n) (w : 
     whole = λ x t in_x in_t no. ⊎_elim
         (λ (e : x ≡ m). absurd (true≢false (sym growing ∙ (ap (λ (j : ℕ). (shape_at a j).grow) (sym e) ∙ no))))
         (λ (ne : x ≢ m). depth_same x t (λ e. absurd (ne e)) ∙ r.deep.whole x t in_x in_t no)
-        (equal x m);
+        (cases_eq x m);
   }
     where
       at : (x t y u : ℕ) → x ≡ y → t ≡ u → stamp_depth (w' (Stamp y u)) ≡ depths' y u → stamp_depth (w' (Stamp x t)) ≡ depths' x t
@@ -340,7 +341,7 @@ module _ (a : About) (l : Known) (k : Lock) (n : ℕ) (i : Splits a l k n) (w : 
   locking b = ⊎_elim
       (λ (e : b ≡ l.cpu). subst (λ (ks : List Lock). Each (Holds a depths' (place_words w') (λ x t. w' (Stamp x t)) eras' g.linked g.holder b) ks) (sym (put-same g.lanes.locks l.cpu b [] e)) tt)
       (λ (ne : b ≢ l.cpu). subst (λ (ks : List Lock). Each (Holds a depths' (place_words w') (λ x t. w' (Stamp x t)) eras' g.linked g.holder b) ks) (sym (put-other g.lanes.locks l.cpu b [] ne)) (other_locks b ne (g.lanes.locks b) (r.locking b)))
-      (equal b l.cpu)
+      (cases_eq b l.cpu)
 
   held : Held a depths' (λ x t. w' (Stamp x t)) eras' (put g.lanes.locks l.cpu [])
   held x t b odd = ⊎_elim

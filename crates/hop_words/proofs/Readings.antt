@@ -3,6 +3,7 @@ use Rattle.std.proofs.Common.{◌≡◌, ◌≢◌, ℕ, ◌%◌, ◌<◌, Bool,
 use native.Mathlib.Decide.{ℕ_discrete}
 use mathlib.Core.Logic.{dite}
 use Rattle.std.specs.FinMap.{get}
+use Rattle.std.proofs.lemmas.Bool.{cases_eq}
 use Rattle.bpf_shared.specs.declared.events.Event.{Event}
 use Rattle.bpf_shared.specs.declared.events.Event.TheVariants.{Lookup}
 use Rattle.bpf_shared.specs.declared.events.Span.{Span}
@@ -24,7 +25,6 @@ use Rattle.hop_words.specs.Rule.{Rule, Segment, Holds, IsSoundReading, Readings,
 use Rattle.hop_words.specs.Shortage.{HasHadValue}
 use Rattle.hop_words.specs.Private.Step.{Next, Steps}
 use Rattle.hop_words.specs.Kinds.{TakesEffect, noting, FindsByPeeks, found_span, KnowsBorn, SaysDepth, StampNoted}
-use Rattle.hop_words.proofs.Small.{equal}
 use Rattle.hop_words.proofs.Histories.{logged_event, prefix_refl}
 use Rattle.hop_words.proofs.Shortages.{shown_more}
 use Rattle.hop_words.proofs.Comes.{in_limbo}
@@ -42,7 +42,7 @@ module _ (a : About) (w : Place → ℕ) (g : Ghost) (r : Rule a w g) (c : ℕ) 
   put_readings rs own d = ⊎_elim
       (λ (t : d ≡ c). subst (Each (IsSoundReading a g.depths g.eras)) (sym (put-same g.lanes.readings c d rs t)) own)
       (λ (ne : d ≢ c). subst (Each (IsSoundReading a g.depths g.eras)) (sym (put-other g.lanes.readings c d rs ne)) (r.reading d))
-      (equal d c)
+      (cases_eq d c)
 
   read_rule : (rs : List Reading) → Each (IsSoundReading a g.depths g.eras) rs → Rule a w (with_readings rs)
   read_rule rs own = record {

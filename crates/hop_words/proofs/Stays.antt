@@ -1,5 +1,6 @@
 -- What every kind of step uses.
 use Rattle.std.proofs.Common.{◌≡◌, ◌≢◌, ℕ, ◌+◌, ◌<◌, Bool, true, false, List, [], ◌∷◌, ◌++◌, Option, Some, None, length, refl, ap, sym, subst, ◌∙◌, arith, append_assoc, ⊎_elim, inl, inr}
+use Rattle.std.proofs.lemmas.Bool.{cases_eq}
 use mathlib.Core.List.{IsPrefix}
 use Rattle.bpf_shared.specs.declared.events.Entry.{Entry}
 use Rattle.bpf_shared.specs.declared.events.Event.{Event}
@@ -19,7 +20,7 @@ use Rattle.hop_words.specs.Private.Step.{Noted, Next}
 use Rattle.hop_words.specs.Kinds.{TakesEffect}
 use Rattle.hop_layout.proofs.Layouts.{same_is}
 use Rattle.hop_layout.proofs.Maps.{map_is, spans_apart}
-use Rattle.hop_words.proofs.Small.{equal, here_or}
+use Rattle.hop_words.proofs.Small.{here_or}
 use Rattle.hop_words.proofs.Histories.{rest_has_none, turns_own, turns_else, runs_as_known, shape_after, prefix_refl, done_in-append}
 
 -- the counters after an event that turns no run
@@ -27,7 +28,7 @@ pub quiet_after : (a : About) (counts : ℕ → ℕ) (log : List Entry) (c : ℕ
 quiet_after a counts log c e p quiet d h = p d h ∙ ap (λ (n : ℕ). a.count + n) (sym (⊎_elim
     (λ (t : d ≡ c). subst (λ (x : ℕ). turns_of (events_of x (log ++ entry c e ∷ [])) ≡ turns_of (events_of x log)) (sym t) (omega (arith, turns_own c e log, quiet)))
     (λ (ne : d ≢ c). turns_else c d e log ne)
-    (equal d c)))
+    (cases_eq d c)))
 
 -- a word that is written as it was
 pub put_again : (w : Place → ℕ) (p : Place) → put_at w p (w p) ≡ w

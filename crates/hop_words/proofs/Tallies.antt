@@ -1,6 +1,7 @@
 -- A step of any kind, as the lane notes it.
 use Rattle.std.proofs.Common.{◌≡◌, ◌≢◌, ℕ, ◌+◌, ◌<◌, ◌/◌, ◌%◌, ◌^◌, ◌-◌, ◌==◌, if◌then◌else◌, Bool, true, List, [], ◌∷◌, Option, length, slice_index, bit_and, bit_or, refl, ap, sym, subst, ◌∙◌, eq-eqb, ne_eqb, ⊎_elim, arith}
 use Rattle.std.specs.Int.{bit_at}
+use Rattle.std.proofs.lemmas.Bool.{cases_eq}
 use prog.Atomic.{either}
 use Rattle.bpf_shared.specs.Store.{put}
 use Rattle.bpf_shared.specs.History.{events_of}
@@ -18,7 +19,6 @@ use Rattle.hop_words.specs.Private.Step.{Noted, Next, Steps, Notes, NotesTaken}
 use Rattle.hop_words.specs.Kinds.{holding, cleared, noting, peeking, giving_old, Passed, StampSeen, StampSeenAgain, FindsByPeeks, LocksSegment, SaysDepth, KnowsBorn, Splits, unlocking}
 use Rattle.hop_words.specs.Locking.{lock_of, HasLock}
 use Rattle.hop_words.specs.Owning.{IsAnswered, ClaimsBit, GivesFresh, IsInHand, LooksAgain}
-use Rattle.hop_words.proofs.Small.{equal}
 use Rattle.hop_words.proofs.Shortages.{shown_noted}
 use Rattle.hop_words.proofs.Locks.{put_here, lock}
 use Rattle.hop_words.proofs.Stays.{next_as, stay}
@@ -85,7 +85,7 @@ module _ (a : About) (l : Known) (p : Place) (old new : ℕ) (told said : List �
       (noted_next a w g l.cpu (told ws n) (said ws n) (sight p n new) (λ x. took ws n x same) (put_here (mem a.shape ws) p (either (n == old) new n) ∙ ap (λ (b : Bool). either b new n) (eq-eqb n old same)) next))
       (λ (ne : n ≢ old). subst (λ (z : List Sight). Noted a w g l.cpu z (said ws n)) (sym (ap (λ b. if b then sight p n new ∷ [] else []) (ne_eqb n old ne)))
       (next_as a w g l.cpu (told ws n) (said ws n) (λ x. missed ws n x ne) next))
-      (equal n old)
+      (cases_eq n old)
 
 -- ---- the kinds that are noted
 pub looks_at : (a : About) (l : Known) (p : Place) → Notes a l p (λ n. n) (λ ws n l'. l' ≡ sighted l (look p n))

@@ -1,5 +1,6 @@
 -- Count run: begin and end of a run. See counter.
 use Rattle.std.proofs.Common.{◌≡◌, ◌≢◌, ℕ, zero, suc, ◌+◌, ◌%◌, ◌^◌, ◌<◌, ◌≤◌, Bool, true, false, true≢false, List, [], ◌∷◌, ◌++◌, length, set, slice_index, get_or, get_or-set_other, refl, ap, sym, subst, ◌∙◌, arith, length-set, eq-eqb, ne_eqb, ⊎_elim, inl, inr, ◌⊎◌}
+use Rattle.std.proofs.lemmas.Bool.{cases_eq}
 use native.Mathlib.Decide.{ℕ_discrete}
 use mathlib.Core.Logic.{dite}
 use Rattle.bpf_shared.specs.declared.events.Event.{Event}
@@ -21,7 +22,6 @@ use Rattle.bpf_shared.specs.Own.{turns_of, in_run}
 use Rattle.hop_words.specs.Shortage.{HasCause}
 use Rattle.hop_words.specs.Private.Step.{Next, Steps}
 use Rattle.hop_words.specs.Kinds.{run_count, Told, noting_next, ageing, cleared, limbo_set}
-use Rattle.hop_words.proofs.Small.{equal}
 use Rattle.hop_words.proofs.Shortages.{begun_event, causes_on, run_else, settled, shown_step}
 use Rattle.hop_words.proofs.Histories.{logged_event, runs_as_known, turns_own, turns_else, prefix_refl}
 use Rattle.hop_words.proofs.Goes.{limbo_put}
@@ -58,14 +58,14 @@ module _ (a : About) (l : Known) (w : Place → ℕ) (g : Ghost) (r : Rule a w g
         (λ (s : d ≡ l.cpu). subst (λ (x : ℕ). counts2 x ≡ a.count + turns_of (events_of x (g.log ++ entry l.cpu e ∷ []))) (sym s)
         (let b = r.runs l.cpu inside in let z = turns_own l.cpu e g.log in counts_here ∙ (up ∙ omega arith)))
         (λ (ne : d ≢ l.cpu). counts_else d ne ∙ (r.runs d h ∙ ap (λ (x : ℕ). a.count + x) (sym (turns_else l.cpu d e g.log ne))))
-        (equal d l.cpu)
+        (cases_eq d l.cpu)
 
     -- who holds a value after the turn held it before, and is another CPU
     still : (d v : ℕ) → t.held d v ≡ true → (d ≢ l.cpu) × (g.last.held d v ≡ true)
     still d v h = ⊎_elim
         (λ (s : d ≡ l.cpu). absurd (true≢false (sym h ∙ (ap (λ (f : ℕ → ℕ → Bool). f d v) holds ∙ ap (λ (f : ℕ → Bool). f v) (put-same g.last.held l.cpu d never s)))))
         (λ (ne : d ≢ l.cpu). (ne, sym (ap (λ (f : ℕ → ℕ → Bool). f d v) holds ∙ ap (λ (f : ℕ → Bool). f v) (put-other g.last.held l.cpu d never ne)) ∙ h))
-        (equal d l.cpu)
+        (cases_eq d l.cpu)
 
     turn_rule : Rule a (put_at w (RunCount l.cpu) n) g2
     turn_rule = record {
@@ -96,7 +96,7 @@ module _ (a : About) (l : Known) (w : Place → ℕ) (g : Ghost) (r : Rule a w g
           (causes_on a g.log g.last t g.lanes.fresh g.lanes.fresh l.cpu e (begun_event g.log g.lanes.fresh l.cpu e) r.logged.legal may r.shown.causes cause)
           (λ d p. ⊎_elim (λ (s : d ≡ l.cpu). inl (ap g.lanes.fresh s ∙ empty))
           (λ (ne : d ≢ l.cpu). ⊎_elim (λ (none : g.lanes.fresh d ≡ []). inl none) (λ (run : in_run (events_of d g.log) ≡ true). inr (run_else l.cpu d e g.log ne run)) p)
-          (equal d l.cpu))
+          (cases_eq d l.cpu))
           (λ p h. (h.0, subst (λ (k : ℕ). h.0 < k) (sym made) h.1, ap (λ (f : ℕ → Value). (f h.0).span) value ∙ h.2)) (settled g.holder) (λ c m x inb at_x h. inr h) r.shown;
     }
 
@@ -255,5 +255,5 @@ see_counter_again a l m d room few ws g sized r is inside fits = dite (ℕ_discr
         (λ e c at_e has lt h. ⊎_elim
         (λ (t : c ≡ d). absurd (ne (ap (λ (k : ℕ). w (RunCount k)) (sym t) ∙ (sym (old_noted e c at_e has (subst (λ (k : ℕ). k < length y.noted) (sym t) few) h) ∙ ap (λ (k : ℕ). slice_index y.noted k) t))))
         (λ (nd : c ≢ d). get_or-set_other y.noted d c 0 0 nd ∙ old_noted e c at_e has (subst (λ (k : ℕ). c < k) (length-set y.noted d 0) lt) h)
-        (equal c d)) in
+        (cases_eq c d)) in
         record { ghost = n.ghost; rule = n.rule; others = n.others; longer = n.longer; tally = n.tally; says = ((λ _. n.says), (λ e. absurd (ne e))) }

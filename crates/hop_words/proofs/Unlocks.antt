@@ -3,6 +3,7 @@ use Rattle.std.proofs.Common.{◌≡◌, ◌≢◌, ℕ, ◌+◌, ◌/◌, ◌<�
 use Rattle.std.proofs.lemmas.Bool.Decides.{nat_tests}
 use Rattle.std.proofs.lemmas.Cmp.{nat_list_cmp_total}
 use Rattle.std.specs.FinMap.{get, insert, len, len-insert}
+use Rattle.std.proofs.lemmas.Bool.{cases_eq}
 use Rattle.bpf_shared.specs.declared.events.Event.{Event}
 use Rattle.bpf_shared.specs.declared.events.Event.TheVariants.{Update, Lookup, Delete}
 use Rattle.bpf_shared.specs.declared.events.Entry.{Entry}
@@ -29,7 +30,7 @@ use Rattle.hop_words.specs.Rule.{Rule, times_fresh, begun_in, Minded, put_key, c
 use Rattle.bpf_shared.specs.Own.{turns_of, in_run}
 use Rattle.hop_words.specs.Private.Step.{Next, Steps}
 use Rattle.hop_words.specs.Kinds.{AreElsewhere, AnswersAll, AnsweredAll, Replaces, Replaced, Answers, Answered, ShowsShortage, IsWritten, unlocking, with_gone, LooksUpLocked, LookedUp, found_span}
-use Rattle.hop_words.proofs.Small.{equal_keys, equal, here_or, put2-same, put2-other, put_key-same, put_key-other}
+use Rattle.hop_words.proofs.Small.{equal_keys, here_or, put2-same, put2-other, put_key-same, put_key-other}
 use Rattle.hop_words.proofs.Spelling.{value_spelled}
 use Rattle.hop_words.proofs.Histories.{logged_event, prefix_refl, done_in-append}
 use Rattle.hop_words.proofs.Shortages.{begun_answer, causes_on, empty_still, run_quiet, had_update, new_update, settles_put, shown_step, shown_more, hand_held, hand_rest, lack_cause}
@@ -357,7 +358,7 @@ module _ (a : About) (l : Known) (k : Lock) (f : Fresh) (rest : List Fresh) (key
     counted = λ n lt. ⊎_elim
         (λ (t : n ≡ m). r.keyed.counted n lt ∙ (ap (λ j. len (g.last.maps j)) t ∙ (sym as_many ∙ ap (λ (y : KeyMap). len y) (sym (put-same g.last.maps m n (insert (g.last.maps m) key g.last.made) t)))))
         (λ (ne : n ≢ m). r.keyed.counted n lt ∙ ap (λ (y : KeyMap). len y) (sym (put-other g.last.maps m n (insert (g.last.maps m) key g.last.made) ne)))
-        (equal n m);
+        (cases_eq n m);
     leads = λ n q. ⊎_elim
         (λ (t : n ≡ m). ap (λ (y : KeyMap). get y q) (put-same g.last.maps m n (insert (g.last.maps m) key g.last.made) t) ∙ ⊎_elim
         (λ (u : q ≡ key). ap (get (insert (g.last.maps m) key g.last.made)) u ∙ (leads_new (g.last.maps m) key g.last.made ∙ (ap Some (sym (put2-same g.number m e n e g.last.made t refl)) ∙ ap (numbered (number2 n)) (sym (linked_new n q t u)))))
@@ -367,7 +368,7 @@ module _ (a : About) (l : Known) (k : Lock) (f : Fresh) (rest : List Fresh) (key
         (insert_cases (g.last.maps m) key g.last.made q) ∙ (ap (λ j. get (g.last.maps j) q) (sym t) ∙ old_leads n q (λ _. u)))
         (equal_keys q key))
         (λ (ne : n ≢ m). ap (λ (y : KeyMap). get y q) (put-other g.last.maps m n (insert (g.last.maps m) key g.last.made) ne) ∙ old_leads n q (λ t. absurd (ne t)))
-        (equal n m);
+        (cases_eq n m);
   }
     where
       as_many : len (insert (g.last.maps m) key g.last.made) ≡ len (g.last.maps m)
@@ -403,8 +404,8 @@ module _ (a : About) (l : Known) (k : Lock) (f : Fresh) (rest : List Fresh) (key
         (λ (nu : d ≢ e). ⊎_elim
         (λ (u : d ≡ o). subst (Minded (lock_home a k) l.cpu s) (sym (ap (g.holder m) u ∙ was_o)) i.filled.home)
         (λ (no : d ≢ o). subst (Minded (lock_home a k) l.cpu s) (put2-other g.holder m o m d (Leaving l.cpu) (λ _. no)) (subst (Minded (lock_home a k) l.cpu s) (put2-other holder1 m e m d (Within key) (λ _. nu)) mind))
-        (equal d o))
-        (equal d e);
+        (cases_eq d o))
+        (cases_eq d e);
     due = λ before same q home. ⊎_elim
         (λ (u : q ≡ key). linked_new m q refl u ∙ sym (put_key-same before key q (Some e) u))
         (λ (u : q ≢ key). linked_old m q (λ _. u) ∙ (same q home ∙ sym (put_key-other before key q (Some e) u)))
