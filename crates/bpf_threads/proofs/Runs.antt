@@ -20,9 +20,9 @@ use Rattle.bpf_cpu.proofs.RowLaws.{start_ready}
 use Rattle.bpf_cpu.proofs.ValueLaws.{executes_ready}
 use Rattle.bpf_threads.specs.declared.counting.Counted.{Counted}
 use Rattle.bpf_threads.specs.declared.spot.Spot.{Spot}
-use Rattle.bpf_threads.specs.Chart.{Follows, IsChart, IsSpot}
-use Rattle.bpf_threads.specs.Counting.{count_of, weight, HasNumber, LeavesEnough, AreNumbers, HasAtMost}
-use Rattle.bpf_threads.specs.Outside.{IsOutside, ReadsOutside, LeadsTo, AllReadOutside}
+use Rattle.bpf_threads.specs.Chart.{FollowsSpots, IsChart, IsCharted}
+use Rattle.bpf_threads.specs.Counting.{how_many, weight, HasNumber, LeavesEnough, AreAllBounds, HasAtMost}
+use Rattle.bpf_threads.specs.Outside.{IsOutsideValues, ReadsOutside, LeadsInSteps, AllReadOutside}
 use Rattle.bpf_threads.specs.Private.Outside.{PlaceReadsOutside, ReadsOutsideAt}
 use Rattle.bpf_threads.proofs.Standing.{Stands, Arrives, Comes, comes, knows}
 use Rattle.bpf_threads.proofs.Steps.{step_counts, append_counts}
@@ -34,11 +34,11 @@ module _ (program : Loaded) (spots : List Spot) (chart : IsChart program spots) 
       one_instruction_begins program.instructions p.pc i j here (subst (λ (pc : ℕ). Begins program.instructions pc j) at.here there)
 
   -- what the instruction of a step is, whatever comes of the step
-  follows_at : (p : Spot) (old : Cpu) → Stands program p old → (spot : IsSpot program spots p) → (i : Insn) → Begins program.instructions old.pc i → Follows spots p i
+  follows_at : (p : Spot) (old : Cpu) → Stands program p old → (spot : IsCharted program spots p) → (i : Insn) → Begins program.instructions old.pc i → FollowsSpots spots p i
   follows_at p old at spot i begins =
-      subst (Follows spots p) (same_instruction p old at spot.instruction i spot.begins begins) spot.follows
+      subst (FollowsSpots spots p) (same_instruction p old at spot.instruction i spot.begins begins) spot.follows
 
-  ready_after : (p : Spot) (old new : Cpu) (shapes : List MapShape) (events : List Event) → Stands program p old → IsSpot program spots p → Step shapes program old events On new → IsReady program new
+  ready_after : (p : Spot) (old new : Cpu) (shapes : List MapShape) (events : List Event) → Stands program p old → IsCharted program spots p → Step shapes program old events On new → IsReady program new
   ready_after p old new shapes events at spot step =
       let same = same_instruction p old at spot.instruction step.instruction spot.begins step.begins in
       let safe = subst (λ (i : Insn). IsSafe program.maps program.instructions p.pc i) same spot.safe in
@@ -46,7 +46,7 @@ module _ (program : Loaded) (spots : List Spot) (chart : IsChart program spots) 
       executes_ready program old new at.ready shapes step.instruction events On here step.row
 
   -- a step that goes on leads to a spot that comes next
-  step_comes : (p : Spot) (old new : Cpu) (shapes : List MapShape) (events : List Event) → Stands program p old → IsSpot program spots p → Step shapes program old events On new → Comes program spots p new
+  step_comes : (p : Spot) (old new : Cpu) (shapes : List MapShape) (events : List Event) → Stands program p old → IsCharted program spots p → Step shapes program old events On new → Comes program spots p new
   step_comes p old new shapes events at spot step =
       comes program p old at spots new (ready_after p old new shapes events at spot step) shapes step.instruction events (follows_at p old at spot step.instruction step.begins) step.row
 
@@ -63,7 +63,7 @@ module _ (program : Loaded) (spots : List Spot) (chart : IsChart program spots) 
       start_ready program (start number context) context refl here
 
   -- ---- what is counted
-  module _ (q : Counted) (most : List (Option ℕ)) (numbers : AreNumbers q program spots most) where
+  module _ (q : Counted) (most : List (Option ℕ)) (numbers : AreAllBounds q program spots most) where
     -- where a way leads, less is left
     left_there : (place : Option ℕ) (own n : ℕ) (new : Cpu) → LeavesEnough most place own n → Arrives program spots new place → (j : ℕ) × (r : Spot) × (m : ℕ) × (slice_get spots j ≡ Some r) × Stands program r new × HasNumber most j m × (own + m ≤ n)
     left_there None own n new left arrives = absurd (let place = arrives.2 in cc)
@@ -76,8 +76,8 @@ module _ (program : Loaded) (spots : List Spot) (chart : IsChart program spots) 
     left_next p own n new next jump (inr arrives) = left_there p.jump own n new jump arrives
 
     counts_from : (shapes : List MapShape) (steps k n : ℕ) (p : Spot) (old : Cpu) (events : List Event) (end : Outcome) (last : Cpu)
-        → slice_get spots k ≡ Some p → HasNumber most k n → Stands program p old → MakesSteps shapes program steps old events end last → count_of q events ≤ n
-    counts_from shapes zero k n p old events end last here number at made = subst (λ (es : List Event). count_of q es ≤ n) (sym made.0) (omega arith)
+        → slice_get spots k ≡ Some p → HasNumber most k n → Stands program p old → MakesSteps shapes program steps old events end last → how_many q events ≤ n
+    counts_from shapes zero k n p old events end last here number at made = subst (λ (es : List Event). how_many q es ≤ n) (sym made.0) (omega arith)
     counts_from shapes (suc steps) k n p old events end last here number at (inl step) =
         let spot = chart.each k p here in
         let begins_here = subst (λ (pc : ℕ). Begins program.instructions pc step.instruction) at.here step.begins in
@@ -91,7 +91,7 @@ module _ (program : Loaded) (spots : List Spot) (chart : IsChart program spots) 
         let own = step_counts q p old at.known shapes step.instruction first On mid step.row in
         let next = left_next p (weight q p step.instruction) n mid falls.1 falls.2 (step_comes p old mid shapes first at spot step) in
         let behind = counts_from shapes steps next.0 next.2 next.1 mid rest end last next.3 next.5 next.4 made in
-        let all : count_of q events ≡ count_of q first + count_of q rest = ap (count_of q) parts ∙ append_counts q first rest in
+        let all : how_many q events ≡ how_many q first + how_many q rest = ap (how_many q) parts ∙ append_counts q first rest in
         omega (arith, own, behind, next.6, all)
 
     pub has_at_most : (n : ℕ) → HasNumber most 0 n → HasAtMost q program n
@@ -103,8 +103,8 @@ module _ (program : Loaded) (spots : List Spot) (chart : IsChart program spots) 
     lies : (p : Spot) (now : Cpu) (at : Stands program p now) (n : ℕ) → ReadsOutsideAt p (CallHelper n) → (n ≡ processor_number) ⊎ ReadsOutside n now.registers
     lies p now at n (inl own) = inl own
     lies p now at n (inr (key, value)) = inr (record {
-      key = subst (λ (a : ℕ). IsOutside a 64) (sym (knows program p now at R2 key.0 key.1)) key.2;
-      value = λ update. let v = value update in subst (λ (a : ℕ). IsOutside a 256) (sym (knows program p now at R3 v.0 v.1)) v.2;
+      key = subst (λ (a : ℕ). IsOutsideValues a 64) (sym (knows program p now at R2 key.0 key.1)) key.2;
+      value = λ update. let v = value update in subst (λ (a : ℕ). IsOutsideValues a 256) (sym (knows program p now at R3 v.0 v.1)) v.2;
     })
 
     reads_here : (k : ℕ) (p : Spot) (old now : Cpu) (helper : ℕ) → slice_get spots k ≡ Some p → Stands program p old → now ≡ old
@@ -113,7 +113,7 @@ module _ (program : Loaded) (spots : List Spot) (chart : IsChart program spots) 
         let moved = subst (λ (c : Cpu). Stands program p c) (sym same) at in
         lies p now moved helper (outside k p here (CallHelper helper) (subst (λ (pc : ℕ). Begins program.instructions pc (CallHelper helper)) moved.here begins))
 
-    reads_from : (shapes : List MapShape) (steps k : ℕ) (p : Spot) (old now : Cpu) (helper : ℕ) → slice_get spots k ≡ Some p → Stands program p old → LeadsTo shapes program steps old now
+    reads_from : (shapes : List MapShape) (steps k : ℕ) (p : Spot) (old now : Cpu) (helper : ℕ) → slice_get spots k ≡ Some p → Stands program p old → LeadsInSteps shapes program steps old now
         → Begins program.instructions now.pc (CallHelper helper) → (helper ≡ processor_number) ⊎ ReadsOutside helper now.registers
     reads_from shapes zero k p old now helper here at same begins = reads_here k p old now helper here at same begins
     reads_from shapes (suc steps) k p old now helper here at (inl same) begins = reads_here k p old now helper here at same begins
@@ -128,6 +128,6 @@ module _ (program : Loaded) (spots : List Spot) (chart : IsChart program spots) 
     all_read_outside shapes cpu steps context now helper leads begins_there =
         reads_from shapes steps 0 chart.first.0 (start cpu context) now helper chart.first.1 (begins cpu context (start_there cpu context)) leads begins_there
 
-pub found_at_most : (program : Loaded) (spots : List Spot) → IsChart program spots → (q : Counted) (most : List (Option ℕ)) → AreNumbers q program spots most → (o : Option ℕ) → IfSome o (HasNumber most 0) → IfSome o (HasAtMost q program)
+pub found_at_most : (program : Loaded) (spots : List Spot) → IsChart program spots → (q : Counted) (most : List (Option ℕ)) → AreAllBounds q program spots most → (o : Option ℕ) → IfSome o (HasNumber most 0) → IfSome o (HasAtMost q program)
 found_at_most program spots chart q most numbers None has = has
 found_at_most program spots chart q most numbers (Some n) has = has_at_most program spots chart q most numbers n has

@@ -35,11 +35,11 @@ use Rattle.bpf_threads.specs.declared.counting.Kind.{Kind}
 use Rattle.bpf_threads.specs.declared.counting.Kind.TheVariants.{Updates, Removals}
 use Rattle.bpf_threads.specs.declared.counting.Counted.{Counted}
 use Rattle.bpf_threads.specs.declared.spot.Spot.{Spot}
-use Rattle.bpf_threads.specs.Chart.{Holds}
-use Rattle.bpf_threads.specs.Counting.{may_replace, is_counted, one_if, count_of, may_be, may_replace_by, is_counted_call, known_in, known_at, weight}
+use Rattle.bpf_threads.specs.Chart.{IsKnownOf}
+use Rattle.bpf_threads.specs.Counting.{may_replace, is_counted, one_if, how_many, may_be, may_replace_by, is_counted_call, known_in, known_at, weight}
 
 -- ---- events
-count-append : (q : Counted) (xs ys : List Event) → count_of q (xs ++ ys) ≡ count_of q xs + count_of q ys
+count-append : (q : Counted) (xs ys : List Event) → how_many q (xs ++ ys) ≡ how_many q xs + how_many q ys
 count-append q [] ys = omega arith
 count-append q (x ∷ xs) ys = omega (arith, count-append q xs ys)
 
@@ -60,19 +60,19 @@ lookup_uncounted : (k : Kind) (n : ℕ) (key : List ℕ) (answer : Option Span) 
 lookup_uncounted Updates n key answer m = refl
 lookup_uncounted Removals n key answer m = refl
 
-one_uncounted : (q : Counted) (e : Event) → is_counted q.kind e q.map ≡ false → count_of q (e ∷ []) ≡ 0
+one_uncounted : (q : Counted) (e : Event) → is_counted q.kind e q.map ≡ false → how_many q (e ∷ []) ≡ 0
 one_uncounted q e unseen = ap (λ (b : Bool). one_if b + 0) unseen
 
-none_loaded : (q : Counted) (a : ℕ) (bytes : List ℕ) → count_of q (loads a bytes) ≡ 0
+none_loaded : (q : Counted) (a : ℕ) (bytes : List ℕ) → how_many q (loads a bytes) ≡ 0
 none_loaded q a [] = refl
 none_loaded q a (b ∷ bytes) =
     let first : one_if (is_counted q.kind (Load a Byte b) q.map) ≡ 0 = ap one_if (load_uncounted q.kind a Byte b q.map) in
     omega (arith, first, none_loaded q (suc a) bytes)
 
 -- reading a key or a value has no counted event
-none_read : (q : Counted) (memory : PrivateMemory) (held : List Span) (a n : ℕ) (bytes : List ℕ) (events : List Event) → Reads memory held a n bytes events → count_of q events ≡ 0
-none_read q memory held a n bytes events (inl own) = ap (count_of q) own.1
-none_read q memory held a n bytes events (inr held_bytes) = ap (count_of q) held_bytes.3 ∙ none_loaded q a bytes
+none_read : (q : Counted) (memory : PrivateMemory) (held : List Span) (a n : ℕ) (bytes : List ℕ) (events : List Event) → Reads memory held a n bytes events → how_many q events ≡ 0
+none_read q memory held a n bytes events (inl own) = ap (how_many q) own.1
+none_read q memory held a n bytes events (inr held_bytes) = ap (how_many q) held_bytes.3 ∙ none_loaded q a bytes
 
 -- ---- a helper's call
 known_there : (o : Option (Option ℕ)) (x : ℕ) → known_in o ≡ Some x → o ≡ Some (Some x)
@@ -80,7 +80,7 @@ known_there None x e = absurd cc
 known_there (Some y) x e = ap (λ (z : Option ℕ). Some z) e
 
 -- what is known of a register is so
-read_known : (p : Spot) (registers : List ℕ) → Holds p.known registers → (n x : ℕ) → n < 10 → known_at p n ≡ Some x → slice_index registers n ≡ x
+read_known : (p : Spot) (registers : List ℕ) → IsKnownOf p.known registers → (n x : ℕ) → n < 10 → known_at p n ≡ Some x → slice_index registers n ≡ x
 read_known p registers h n x below e = h n x below (known_there (slice_get p.known n) x e)
 
 -- the call's map is the one that is known
@@ -105,7 +105,7 @@ counted_weight true c is = subst (λ (x : Bool). 1 ≤ one_if x) (sym (is refl))
 same_number : (a b : ℕ) → (a == b) ≡ true → a ≡ b
 same_number a b e = grind (arith, nat_tests)
 
-module _ (q : Counted) (p : Spot) (registers : List ℕ) (h : Holds p.known registers) (shapes : List MapShape) (m : ℕ) (is : slice_index registers 1 ≡ map_value m) where
+module _ (q : Counted) (p : Spot) (registers : List ℕ) (h : IsKnownOf p.known registers) (shapes : List MapShape) (m : ℕ) (is : slice_index registers 1 ≡ map_value m) where
   here : m ≡ q.map → may_be (known_at p 1) q.map ≡ true
   here same = map_seen (known_at p 1) q.map (slice_index registers 1) (λ x e. read_known p registers h 1 x (omega arith) e) (is ∙ ap map_value same)
 
@@ -120,68 +120,68 @@ module _ (q : Counted) (p : Spot) (registers : List ℕ) (h : Holds p.known regi
   delete_weight Removals key answer e = and_from true (may_be (known_at p 1) q.map) refl (here (same_number m q.map e))
 
   -- an event after some that aren't counted
-  last_counts : (first events : List Event) (e : Event) → count_of q first ≡ 0 → events ≡ first ++ e ∷ [] → count_of q events ≡ one_if (is_counted q.kind e q.map)
+  last_counts : (first events : List Event) (e : Event) → how_many q first ≡ 0 → events ≡ first ++ e ∷ [] → how_many q events ≡ one_if (is_counted q.kind e q.map)
   last_counts first events e none is_last =
-      ap (count_of q) is_last ∙ omega (arith, count-append q first (e ∷ []), none)
+      ap (how_many q) is_last ∙ omega (arith, count-append q first (e ∷ []), none)
 
   module _ (memory : PrivateMemory) (shape : MapShape) (held after : List Span) (events : List Event) (result : Result ℕ HelperFault) where
-    lookup_counts : LooksUp memory registers m shape held events result after → count_of q events ≤ weight q p (insn.CallHelper lookup_number)
-    lookup_counts (inl stops) = subst (λ (es : List Event). count_of q es ≤ weight q p (insn.CallHelper lookup_number)) (sym stops.1.0) (omega arith)
+    lookup_counts : LooksUp memory registers m shape held events result after → how_many q events ≤ weight q p (insn.CallHelper lookup_number)
+    lookup_counts (inl stops) = subst (λ (es : List Event). how_many q es ≤ weight q p (insn.CallHelper lookup_number)) (sym stops.1.0) (omega arith)
     lookup_counts (inr (key, first, answer, reads, e, takes)) =
         let none = none_read q memory held (slice_index registers 2) shape.key key first reads in
-        let last : count_of q events ≡ 0 = last_counts first events (Lookup m key answer) none e ∙ ap one_if (lookup_uncounted q.kind m key answer q.map) in
+        let last : how_many q events ≡ 0 = last_counts first events (Lookup m key answer) none e ∙ ap one_if (lookup_uncounted q.kind m key answer q.map) in
         omega (arith, last)
 
-    update_counts : UpdatesMap memory registers m shape held events result after → count_of q events ≤ weight q p (insn.CallHelper update_number)
-    update_counts (inl stops) = subst (λ (es : List Event). count_of q es ≤ weight q p (insn.CallHelper update_number)) (sym stops.1.0) (omega arith)
+    update_counts : UpdatesMap memory registers m shape held events result after → how_many q events ≤ weight q p (insn.CallHelper update_number)
+    update_counts (inl stops) = subst (λ (es : List Event). how_many q es ≤ weight q p (insn.CallHelper update_number)) (sym stops.1.0) (omega arith)
     update_counts (inr (key, bytes, first, second, answer, reads, more, e, number, same)) =
         let none = none_read q memory held (slice_index registers 2) shape.key key first reads in
         let nor = none_read q memory held (slice_index registers 3) shape.value bytes second more in
-        let both : count_of q (first ++ second) ≡ 0 = omega (arith, count-append q first second, none, nor) in
+        let both : how_many q (first ++ second) ≡ 0 = omega (arith, count-append q first second, none, nor) in
         let last = last_counts (first ++ second) events (Update m key bytes (slice_index registers 4) answer) both e in
         let most = counted_weight _ _ (update_weight q.kind key bytes answer) in
         omega (arith, last, most)
 
-    delete_counts : DeletesKey memory registers m shape held events result after → count_of q events ≤ weight q p (insn.CallHelper delete_number)
-    delete_counts (inl stops) = subst (λ (es : List Event). count_of q es ≤ weight q p (insn.CallHelper delete_number)) (sym stops.1.0) (omega arith)
+    delete_counts : DeletesKey memory registers m shape held events result after → how_many q events ≤ weight q p (insn.CallHelper delete_number)
+    delete_counts (inl stops) = subst (λ (es : List Event). how_many q es ≤ weight q p (insn.CallHelper delete_number)) (sym stops.1.0) (omega arith)
     delete_counts (inr (key, first, answer, reads, e, number, same)) =
         let none = none_read q memory held (slice_index registers 2) shape.key key first reads in
         let last = last_counts first events (Delete m key answer) none e in
         let most = counted_weight _ _ (delete_weight q.kind key answer) in
         omega (arith, last, most)
 
-    map_counts : (n : ℕ) → CallsMap memory registers m shape held n events result after → count_of q events ≤ weight q p (insn.CallHelper n)
-    map_counts n (inl (e, row)) = subst (λ (k : ℕ). count_of q events ≤ weight q p (insn.CallHelper k)) (sym e) (lookup_counts row)
-    map_counts n (inr (inl (e, row))) = subst (λ (k : ℕ). count_of q events ≤ weight q p (insn.CallHelper k)) (sym e) (update_counts row)
-    map_counts n (inr (inr (e, row))) = subst (λ (k : ℕ). count_of q events ≤ weight q p (insn.CallHelper k)) (sym e) (delete_counts row)
+    map_counts : (n : ℕ) → CallsMap memory registers m shape held n events result after → how_many q events ≤ weight q p (insn.CallHelper n)
+    map_counts n (inl (e, row)) = subst (λ (k : ℕ). how_many q events ≤ weight q p (insn.CallHelper k)) (sym e) (lookup_counts row)
+    map_counts n (inr (inl (e, row))) = subst (λ (k : ℕ). how_many q events ≤ weight q p (insn.CallHelper k)) (sym e) (update_counts row)
+    map_counts n (inr (inr (e, row))) = subst (λ (k : ℕ). how_many q events ≤ weight q p (insn.CallHelper k)) (sym e) (delete_counts row)
 
-module _ (q : Counted) (p : Spot) (old : Cpu) (h : Holds p.known old.registers) where
-  none_at_all : (events : List Event) (i : Insn) → events ≡ [] → count_of q events ≤ weight q p i
-  none_at_all events i e = subst (λ (es : List Event). count_of q es ≤ weight q p i) (sym e) (omega arith)
+module _ (q : Counted) (p : Spot) (old : Cpu) (h : IsKnownOf p.known old.registers) where
+  none_at_all : (events : List Event) (i : Insn) → events ≡ [] → how_many q events ≤ weight q p i
+  none_at_all events i e = subst (λ (es : List Event). how_many q es ≤ weight q p i) (sym e) (omega arith)
 
   call_counts : (shapes : List MapShape) (n : ℕ) (events : List Event) (result : Result ℕ HelperFault) (after : List Span)
-      → CallsHelper shapes n old.number old.registers old.memory old.held events result after → count_of q events ≤ weight q p (insn.CallHelper n)
+      → CallsHelper shapes n old.number old.registers old.memory old.held events result after → how_many q events ≤ weight q p (insn.CallHelper n)
   call_counts shapes n events result after (inl own) = none_at_all events (insn.CallHelper n) own.1
   call_counts shapes n events result after (inr (inl none)) = none_at_all events (insn.CallHelper n) none.2.0
   call_counts shapes n events result after (inr (inr (m, shape, is, calls))) = map_counts q p old.registers h shapes m is.0 old.memory shape old.held after events result n calls
 
-  single : (i : Insn) (events : List Event) (e : Event) → is_counted q.kind e q.map ≡ false → events ≡ e ∷ [] → count_of q events ≤ weight q p i
-  single i events e unseen is = let none : count_of q events ≡ 0 = ap (count_of q) is ∙ one_uncounted q e unseen in omega (arith, none)
+  single : (i : Insn) (events : List Event) (e : Event) → is_counted q.kind e q.map ≡ false → events ≡ e ∷ [] → how_many q events ≤ weight q p i
+  single i events e unseen is = let none : how_many q events ≡ 0 = ap (how_many q) is ∙ one_uncounted q e unseen in omega (arith, none)
 
   module _ (i : Insn) (events : List Event) (progress : Progress) (new : Cpu) where
-    loads_count : (z : size.Size) (reading : ℕ → ℕ) (d : Reg) (a : ℕ) → LoadsValue z reading d a old events progress new → count_of q events ≤ weight q p i
+    loads_count : (z : size.Size) (reading : ℕ → ℕ) (d : Reg) (a : ℕ) → LoadsValue z reading d a old events progress new → how_many q events ≤ weight q p i
     loads_count z reading d a (inl odd) = none_at_all events i odd.1
     loads_count z reading d a (inr row) = single i events (Load a (event_size_of z) row.1.0) (load_uncounted q.kind a (event_size_of z) row.1.0 q.map) row.1.1
 
-    stores_count : (z : size.Size) (a x : ℕ) → StoresValue z a x old events progress new → count_of q events ≤ weight q p i
+    stores_count : (z : size.Size) (a x : ℕ) → StoresValue z a x old events progress new → how_many q events ≤ weight q p i
     stores_count z a x (inl odd) = none_at_all events i odd.1
     stores_count z a x (inr row) = single i events (Store a (event_size_of z) x) (store_uncounted q.kind a (event_size_of z) x q.map) row.1
 
-    changes_count : (w : Width) (op : ops.AtomicOp) (s : Reg) (a : ℕ) → ChangesValue w op s a old events progress new → count_of q events ≤ weight q p i
+    changes_count : (w : Width) (op : ops.AtomicOp) (s : Reg) (a : ℕ) → ChangesValue w op s a old events progress new → how_many q events ≤ weight q p i
     changes_count w op s a (inl odd) = none_at_all events i odd.1
     changes_count w op s a (inr row) = single i events _ (atomic_uncounted q.kind a (event_size_of (size_of w)) (change_of op) (value old s) (slice_index old.registers 0) row.1.0 q.map) row.1.1
 
-  asks_count : (i : Insn) (events : List Event) (progress : Progress) (new : Cpu) → AsksValue i old events progress new → count_of q events ≤ weight q p i
+  asks_count : (i : Insn) (events : List Event) (progress : Progress) (new : Cpu) → AsksValue i old events progress new → how_many q events ≤ weight q p i
   asks_count (insn.Load z d b o) events progress new row = loads_count (insn.Load z d b o) events progress new z (λ x. x) d (effective_address old b o) row
   asks_count (insn.LoadSigned z d b o) events progress new row = loads_count (insn.LoadSigned z d b o) events progress new (plain_size z) (sign_extended (extension_of z)) d (effective_address old b o) row
   asks_count (insn.StoreImmediate z b o n) events progress new row = stores_count (insn.StoreImmediate z b o n) events progress new z (effective_address old b o) (cast_unsigned w64 n) row
@@ -190,11 +190,11 @@ module _ (q : Counted) (p : Spot) (old : Cpu) (h : Holds p.known old.registers) 
   asks_count _ events progress new row = absurd row
 
   -- a step has at most the counted events of its instruction's weight
-  pub step_counts : (shapes : List MapShape) (i : Insn) (events : List Event) (progress : Progress) (new : Cpu) → Executes shapes i old events progress new → count_of q events ≤ weight q p i
+  pub step_counts : (shapes : List MapShape) (i : Insn) (events : List Event) (progress : Progress) (new : Cpu) → Executes shapes i old events progress new → how_many q events ≤ weight q p i
   step_counts shapes i events progress new (inl row) = none_at_all events i row.1
   step_counts shapes i events progress new (inr (inl (n, e, call))) =
-      subst (λ (j : Insn). count_of q events ≤ weight q p j) (sym e) (call_counts shapes n events call.0 call.1 call.2)
+      subst (λ (j : Insn). how_many q events ≤ weight q p j) (sym e) (call_counts shapes n events call.0 call.1 call.2)
   step_counts shapes i events progress new (inr (inr row)) = asks_count i events progress new row.1
 
-pub append_counts : (q : Counted) (xs ys : List Event) → count_of q (xs ++ ys) ≡ count_of q xs + count_of q ys
+pub append_counts : (q : Counted) (xs ys : List Event) → how_many q (xs ++ ys) ≡ how_many q xs + how_many q ys
 append_counts q xs ys = count-append q xs ys

@@ -13,26 +13,26 @@ use Rattle.bpf_cpu.specs.State.{start}
 use Rattle.bpf_cpu.specs.Step.{Step}
 
 -- n bytes from the address on lie where no value of a map does
-abbrev pub IsOutside : ℕ → ℕ → Type 0
-IsOutside a n = (a + n ≤ first_value) ⊎ (first_value + map_area * 16 ≤ a)
+abbrev pub IsOutsideValues : ℕ → ℕ → Type 0
+IsOutsideValues a n = (a + n ≤ first_value) ⊎ (first_value + map_area * 16 ≤ a)
 
 -- a call's key does, and an update's value: they have at most 64 and 256 bytes
 pub record ReadsOutside (number : ℕ) (registers : List ℕ) : Type 0 where
-  pub key : IsOutside (slice_index registers 2) 64
-  pub value : number ≡ update_number → IsOutside (slice_index registers 3) 256
+  pub key : IsOutsideValues (slice_index registers 2) 64
+  pub value : number ≡ update_number → IsOutsideValues (slice_index registers 3) 256
 
 -- at most n steps lead from the one state to the other
-abbrev pub LeadsTo : List MapShape → Loaded → ℕ → Cpu → Cpu → Type 0
-LeadsTo shapes program zero old now = now ≡ old
-LeadsTo shapes program (suc n) old now =
+abbrev pub LeadsInSteps : List MapShape → Loaded → ℕ → Cpu → Cpu → Type 0
+LeadsInSteps shapes program zero old now = now ≡ old
+LeadsInSteps shapes program (suc n) old now =
     (now ≡ old)
     ⊎ ((events : List Event) × (mid : Cpu) × Step shapes program old events On mid
-    × LeadsTo shapes program n mid now)
+    × LeadsInSteps shapes program n mid now)
 
 -- however a store answers, it is so of each call of a map that a run makes
 abbrev pub AllReadOutside : Loaded → Type 0
 AllReadOutside program =
     (shapes : List MapShape) (number steps : ℕ) (context : List ℕ) (now : Cpu) (helper : ℕ)
-    → LeadsTo shapes program steps (start number context) now
+    → LeadsInSteps shapes program steps (start number context) now
     → Begins program.instructions now.pc (CallHelper helper)
     → (helper ≡ processor_number) ⊎ ReadsOutside helper now.registers

@@ -60,11 +60,11 @@ RaceFreeIsSame = (patient : Bool) (w : World) → IsFresh w → StepsAreThere pa
     → IsRaceFree patient w → IsSameOnX86 patient w
 
 -- the same where a closed list of machines shows the first one, or one that is closed but for budgets
-abbrev pub AreClosed : Bool → List MachineState → Type 0
-AreClosed false kept = IsClosed kept
-AreClosed true kept = IsClosedRichly kept
+abbrev pub AreClosedMachines : Bool → List MachineState → Type 0
+AreClosedMachines false kept = IsClosed kept
+AreClosedMachines true kept = IsClosedRichly kept
 
 abbrev pub KeptRaceFreeIsSame : Type 0
 KeptRaceFreeIsSame =
-    (patient : Bool) (kept : List MachineState) (w : World) → AreClosed patient kept → IsFresh w
+    (patient : Bool) (kept : List MachineState) (w : World) → AreClosedMachines patient kept → IsFresh w
     → IsShown kept w → IsRaceFree patient w → IsSameOnX86 patient w

@@ -11,7 +11,7 @@ use Rattle.hop_layout.specs.declared.place.Place.TheVariants.{FreeBits}
 use Rattle.hop_words.specs.Sights.{IsLook, ShowsTaken, look, sighted}
 use Rattle.hop_words.specs.Kinds.{holding}
 use Rattle.hop_words.proofs.Sighted.{each-append}
-use Rattle.hop_arena.specs.Claiming.{Sees, Looks, IsSeenTaken, AreSeenTaken}
+use Rattle.hop_arena.specs.Claiming.{NotesSights, OnlyLooks, IsSeenTaken, AreSeenTaken}
 
 -- the elements of the word whose bits aren't among these were seen not free
 abbrev pub Cleared : List Sight → ℕ → ℕ → ℕ → Type 0
@@ -25,10 +25,10 @@ pub first_look : (m w found : ℕ) → Cleared (look (FreeBits m w) found ∷ []
 first_look m w found j few zero = inl (shows m w found j few zero)
 
 -- one look more
-pub looks_on : (l x l' : Known) (more : List Sight) (s : Sight) → IsLook s → Looks l more x → l' ≡ sighted x s → Looks l (s ∷ more) l'
+pub looks_on : (l x l' : Known) (more : List Sight) (s : Sight) → IsLook s → OnlyLooks l more x → l' ≡ sighted x s → OnlyLooks l (s ∷ more) l'
 looks_on l x l' more s is before now = (now ∙ ap (λ (y : Known). sighted y s) before.0, (is, before.1))
 
-pub holds_on : (l x l' : Known) (more : List Sight) (s : Sight) (m e : ℕ) → Looks l more x → l' ≡ sighted (holding x m e) s → Sees (holding l m e) (s ∷ more) l'
+pub holds_on : (l x l' : Known) (more : List Sight) (s : Sight) (m e : ℕ) → OnlyLooks l more x → l' ≡ sighted (holding x m e) s → NotesSights (holding l m e) (s ∷ more) l'
 holds_on l x l' more s m e before now = now ∙ ap (λ (y : Known). sighted (holding y m e) s) before.0
 
 pub look_on : (more : List Sight) (m w i bits found : ℕ) → i ≡ w → Cleared more m w bits → Cleared (look (FreeBits m i) found ∷ more) m w (bit_and bits found)
@@ -64,13 +64,13 @@ taken_first [] more m e t = absurd t
 taken_first (x ∷ s) more m e (inl t) = inl t
 taken_first (x ∷ s) more m e (inr t) = inr (taken_first s more m e t)
 
-pub looks_then : (l x l' : Known) (more s : List Sight) → Looks l more x → Looks x s l' → Looks l (s ++ more) l'
+pub looks_then : (l x l' : Known) (more s : List Sight) → OnlyLooks l more x → OnlyLooks x s l' → OnlyLooks l (s ++ more) l'
 looks_then l x l' more s before now = (
   now.0 ∙ (ap (λ (y : Known). record y { tally = s ++ y.tally }) before.0 ∙ ap (λ (z : List Sight). record l { tally = z }) (sym (append_assoc s more l.tally))),
   each-append IsLook s more now.1 before.1,
 )
 
-pub holds_then : (l x l' : Known) (more s : List Sight) (m e : ℕ) → Looks l more x → Sees (holding x m e) s l' → Sees (holding l m e) (s ++ more) l'
+pub holds_then : (l x l' : Known) (more s : List Sight) (m e : ℕ) → OnlyLooks l more x → NotesSights (holding x m e) s l' → NotesSights (holding l m e) (s ++ more) l'
 holds_then l x l' more s m e before now = now ∙ (ap (λ (y : Known). record (holding y m e) { tally = s ++ y.tally }) before.0 ∙ ap (λ (z : List Sight). record (holding l m e) { tally = z }) (sym (append_assoc s more l.tally)))
 
 -- one word more
@@ -84,5 +84,5 @@ pub words_kept : (s more : List Sight) (m count from to : ℕ) → AreSeenTaken 
 words_kept s more m count from to before e few low high = taken_more s more m e (before e few low high)
 
 -- who looks is in a run as before
-pub looks_runs : (l x : Known) (more : List Sight) → Looks l more x → in_run (events_of l.cpu l.seen) ≡ true → in_run (events_of x.cpu x.seen) ≡ true
+pub looks_runs : (l x : Known) (more : List Sight) → OnlyLooks l more x → in_run (events_of l.cpu l.seen) ≡ true → in_run (events_of x.cpu x.seen) ≡ true
 looks_runs l x more is runs = ap (λ (y : Known). in_run (events_of y.cpu y.seen)) is.0 ∙ runs

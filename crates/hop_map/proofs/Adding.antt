@@ -17,7 +17,7 @@ use Rattle.hop_words.specs.Content.{MapWords, Reached, IsShare, IsSegmentSound, 
 use Rattle.hop_words.specs.Depths.{stamp_depth, home_by}
 use Rattle.hop_words.specs.Ghost.{IsHomeIn, shape_at}
 use Rattle.hop_words.specs.Rule.{image, changed}
-use Rattle.hop_words.specs.Kinds.{MayLink, IsShownIn, HasRoom}
+use Rattle.hop_words.specs.Kinds.{MayLink, IsShownIn, KeysHaveRoom}
 use Rattle.hop_words.specs.Locking.{lock_of, HasLastLock}
 use Rattle.hop_words.specs.Listing.{ListsSegment}
 use Rattle.hop_map.specs.Private.UnderLock.{LockShows}
@@ -82,7 +82,7 @@ module _ (a : About) (l : Known) (m s : ℕ) (c : LockShows a l m s) (last : Has
   one_element : (e d : ℕ) → Reached x m s e → Reached x m s d → key e ≡ key d → e ≡ d
   one_element e d r q same = let z : Some e ≡ Some d = sym (leads e r).0 ∙ (ap c.content same ∙ (leads d q).0) in cc
 
-  module _ (old : List (List ℕ)) (none : (q : List ℕ) → IsHomeIn a (lock_of l) q → is_among q old ≡ false) (before : AllByRecursion (IsShownIn a m l.locks) old) (room : HasRoom a m l.locks) where
+  module _ (old : List (List ℕ)) (none : (q : List ℕ) → IsHomeIn a (lock_of l) q → is_among q old ≡ false) (before : AllByRecursion (IsShownIn a m l.locks) old) (room : KeysHaveRoom a m l.locks) where
     part_none : AreDistinct old → Part a l m s old old (λ e. ⊥)
     part_none apart = record { more = []; is = sym (append-nil old); from = tt; all = λ e r p. absurd p; distinct = apart }
 

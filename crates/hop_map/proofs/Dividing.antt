@@ -11,7 +11,7 @@ use Rattle.hop_layout.specs.Layout.{power, depth, segments, mem, is_place, put_a
 use Rattle.hop_layout.proofs.Layouts.{wrote}
 use Rattle.hop_words.specs.declared.known.Known.{Known}
 use Rattle.hop_words.specs.declared.known.Lock.{Lock}
-use Rattle.hop_words.specs.Content.{MapWords, place_words, item, HasKey, IsShare}
+use Rattle.hop_words.specs.Content.{MapWords, words_by_place, item, HasKey, IsShare}
 use Rattle.hop_words.specs.Depths.{stamp_depth, home_by}
 use Rattle.hop_words.specs.Ghost.{shape_at, child, IsSegment}
 use Rattle.hop_words.specs.Rule.{image}
@@ -21,7 +21,7 @@ use Rattle.hop_seg.specs.Words.{Words as SegWords, Fixed, replace_at}
 use Rattle.hop_seg.specs.Segment.{Sound as SegSound}
 use Rattle.hop_seg.specs.Split.{Front, Splits as SegSplits, front_with_hop, front_with_slot}
 use Rattle.hop_epoch.specs.Batch.{link_word}
-use Rattle.hop_map.specs.LockedSegment.{Locked, Ready, StaysBeside, is_put, in_hand, knows, front_view, child_front}
+use Rattle.hop_map.specs.LockedSegment.{Locked, Ready, StaysBeside, is_put, fills_element, knows, front_view, child_front}
 use Rattle.hop_map.specs.Private.LockedSegment.{segment_view, seen_words, locked_view, written}
 use Rattle.hop_map.specs.Private.Splitting.{IsParted}
 use Rattle.hop_map.specs.Private.UnderLock.{LockShows}
@@ -45,7 +45,7 @@ module _ (x : Locked) (r : Ready x.about x.known x.map x.segment) where
   w = mem x.about.shape (lock_of x.known).copy
 
   front : (Place → ℕ) → Front
-  front v = front_view x.map c (place_words v)
+  front v = front_view x.map c (words_by_place v)
 
   now : (p : Place) (n : ℕ) → is_place x.about.shape p ≡ true → child_front (written x p n) ≡ front (put_at w p n)
   unfolding front w
@@ -78,7 +78,7 @@ module _ (x : Locked) (r : Ready x.about x.known x.map x.segment) where
 
   -- a word of the child is none of the segment's
   seen : (Place → ℕ) → SegWords
-  seen v = segment_view x.about x.map x.segment (stamp_depth (lock_of x.known).stamp) (knows x.known x.map) (place_words v)
+  seen v = segment_view x.about x.map x.segment (stamp_depth (lock_of x.known).stamp) (knows x.known x.map) (words_by_place v)
 
   after : (p : Place) (n : ℕ) → is_place x.about.shape p ≡ true → seen_words (written x p n) ≡ seen (put_at w p n)
   unfolding seen w
@@ -113,7 +113,7 @@ module _ (x : Locked) (r : Ready x.about x.known x.map x.segment) where
 
   pub stamp_image : (n : ℕ) → is_place x.about.shape (Stamp x.map c) ≡ true → image x.about (lock_of (written x (Stamp x.map c) n).known).copy ≡ image x.about (lock_of x.known).copy
   unfolding w
-  stamp_image n there = ap place_words (wrote x.about.shape (lock_of x.known).copy (Stamp x.map c) n r.sized there)
+  stamp_image n there = ap words_by_place (wrote x.about.shape (lock_of x.known).copy (Stamp x.map c) n r.sized there)
 
   -- what publishing asks for
   pub splits_after : IsParted x.about (lock_of x.known) → (n : ℕ) (z : Locked) → is_place x.about.shape (Stamp x.map c) ≡ true → z ≡ written x (Stamp x.map c) n → n % 2 ≡ 0 → stamp_depth n ≡ stamp_depth (lock_of x.known).stamp + 1 → n / 256 ≤ x.about.version
@@ -139,7 +139,7 @@ module _ (a : About) (l : Known) (m s : ℕ) (c : LockShows a l m s) (room : s <
   d = stamp_depth (lock_of l).stamp
 
   more : ℕ → Bool
-  more e = is_put (lock_of l).change e || in_hand l.fresh m e
+  more e = is_put (lock_of l).change e || fills_element l.fresh m e
 
   -- the segment is sound before
   pub sound_locked : SegSound (locked_view a l m s)

@@ -32,7 +32,7 @@ use Rattle.hop_words.specs.Seats.{view as whole_view, KeepsWholeHistory}
 use Rattle.hop_words.specs.Closing.{Ending}
 use Rattle.hop_seg.specs.Words.{Words as SegWords}
 use Rattle.hop_seg.specs.Segment.{Sound as SegSound}
-use Rattle.hop_seg.specs.Content.{IsListed}
+use Rattle.hop_seg.specs.Content.{IsInOverflow}
 use Rattle.hop_seg.proofs.Walking.{Counted}
 use Rattle.hop_map.specs.Private.LockedSegment.{segment_view}
 use Rattle.hop_map.specs.Private.Dumping.{words_in, key_in, IsReached, IsKeyAmong, IsPairFound, AreFound, AddsPairs}
@@ -274,10 +274,10 @@ module _ (e : Ending) (w : KeepsWholeHistory e.about (whole_view [] e.history) e
     pub sound : SegSound seen
     sound = seg_sound e.about m s (rest_depths e m s) (λ i. true) (words_in e) (w.ghost.linked m) (shows_here s inside) (λ key i is home. ((w.rule.linked.within m key i is).0.1, refl))
 
-    pub listed_reached : (i : ℕ) → IsListed seen i → IsReached e m s i
+    pub listed_reached : (i : ℕ) → IsInOverflow seen i → IsReached e m s i
     listed_reached i l = reached_of e.about m s (rest_depths e m s) (λ i. true) (words_in e) i (inr l)
 
-    pub on_list : (i : ℕ) → IsOnList (words_in e) m s i → IsListed seen i
+    pub on_list : (i : ℕ) → IsOnList (words_in e) m s i → IsInOverflow seen i
     on_list i h = (h.0, chain_of ((words_in e).link m) ((words_in e).head m s) h.0 h.1, among_of i h.0 h.2)
 
     -- the elements at places

@@ -26,7 +26,7 @@ use Rattle.hop_words.specs.Owning.{tail_of}
 use Rattle.hop_words.specs.Listing.{ListsSegment, ListsMap, IsHomeAmong, lock_given, AnswersGiving}
 use Rattle.hop_words.specs.declared.known.Sight.{Sight}
 use Rattle.hop_words.specs.Sights.{sight, sighted, lock_taken}
-use Rattle.hop_map.specs.Noting.{undone, TakesLocks}
+use Rattle.hop_map.specs.Noting.{steps_undone, TakesLocks}
 use Rattle.hop_map.specs.Private.Listing.{Falls, IsOwnedAmong, Covers, Gathers, Opens, Adds, taken_by, given_back, NotesLock, NotesLocks, LocksMore, ReadsMore, Listed}
 use Rattle.hop_map.specs.Private.Locks.{Sought, IsUnborn}
 use Rattle.hop_map.proofs.Locking.{locked_contents}
@@ -307,12 +307,12 @@ notes_read a l m n x y h q =
       takes = subst (λ (ks : List Lock). TakesLocks a m n (taken_by ks)) (sym locks) h.takes;
     }
 
-undone-append : (xs ys zs : List Sight) → undone xs (ys ++ zs) ≡ undone xs ys ++ zs
+undone-append : (xs ys zs : List Sight) → steps_undone xs (ys ++ zs) ≡ steps_undone xs ys ++ zs
 undone-append [] ys zs = refl
 undone-append (x ∷ xs) ys zs = undone-append xs (sight x.place x.left x.found ∷ ys) zs
 
 -- the locks are given back, each with the number at which it was taken
-given_undone : (ks : List Lock) (sights : List Sight) → given_back ks sights ≡ undone (taken_by ks) sights
+given_undone : (ks : List Lock) (sights : List Sight) → given_back ks sights ≡ steps_undone (taken_by ks) sights
 given_undone [] sights = refl
 given_undone (k ∷ ks) sights = given_undone ks (lock_given k ∷ sights)
 
@@ -321,7 +321,7 @@ pub listed_whole : (a : About) (l l1 l2 l3 : Known) (m : ℕ) (keys : List (List
     → l3 ≡ record l2 { locks = l3.locks; readings = l3.readings; tally = l3.tally } → given_back l3.locks l3.tally ≡ given_back l2.locks l2.tally → l3.locks ≡ [] → Listed a l m keys l3
 listed_whole a l l1 l2 l3 m keys idle locked noted last (x, p, is) kept gives none = record {
   seen = subst (TakesEffect a l (Keys m keys)) (sym (ap (λ (u : Known). u.seen) whole)) (let w = subst (λ (u : Known). TakesEffect a u (Keys m keys) x.seen) locked p.seen in record { others = w.others; foreign = w.foreign; after = w.after; legal = w.legal });
-  noted = (undone ts ts, tally, (ts, noted.takes, refl));
+  noted = (steps_undone ts ts, tally, (ts, noted.takes, refl));
   after = whole ∙ (λ j. record l { seen = sym (ap (λ (u : Known). u.seen) whole) j; locks = (none ∙ sym idle) j; readings = l3.readings; tally = l3.tally });
 }
   where
@@ -340,11 +340,11 @@ listed_whole a l l1 l2 l3 m keys idle locked noted last (x, p, is) kept gives no
         ∙ (ap (λ (u : Known). given_back u.locks (lock_given (lock_of l1) ∷ u.tally)) p.after
         ∙ ap (λ (ks : List Lock). given_back ks l1.tally) (sym last))
 
-    tally : l3.tally ≡ undone ts ts ++ l.tally
+    tally : l3.tally ≡ steps_undone ts ts ++ l.tally
     tally =
         ap (λ (ks : List Lock). given_back ks l3.tally) (sym none)
         ∙ (gives ∙ (first ∙ (given_undone l1.locks l1.tally
-        ∙ (ap (undone ts) noted.tally ∙ undone-append ts ts l.tally))))
+        ∙ (ap (steps_undone ts) noted.tally ∙ undone-append ts ts l.tally))))
 
 pub locked_on : (l l1 l2 : Known) → LocksMore l l1 → LocksMore l1 l2 → LocksMore l l2
 locked_on l l1 l2 p q = q ∙ ap (λ (x : Known). record x { locks = l2.locks; readings = l2.readings; tally = l2.tally }) p

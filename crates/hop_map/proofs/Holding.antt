@@ -14,7 +14,7 @@ use Rattle.bpf_shared.specs.Passage.{same_span, IsHeldPlace}
 use Rattle.hop_words.specs.declared.known.Known.{Known}
 use Rattle.hop_words.specs.Ghost.{shape_at}
 use Rattle.hop_words.specs.Inside.{Shown}
-use Rattle.hop_words.specs.Kinds.{spans_of, IsAmong, Told}
+use Rattle.hop_words.specs.Kinds.{spans_of, IsAmongSpans, AddsEvent}
 use Rattle.hop_layout.proofs.Maps.{map_is}
 use Rattle.hop_map.specs.Private.Accesses.{IsHeldAt}
 use Rattle.hop_map.specs.Port.{Port, IsPortOf, runs, port_holds}
@@ -31,7 +31,7 @@ same_spans q p h =
     λ i. record { at = x i; size = y i }
 
 abbrev Among : (Span → Bool) → List Span → Type 0
-Among f ps = (p : Span) → f p ≡ true → IsAmong p ps
+Among f ps = (p : Span) → f p ≡ true → IsAmongSpans p ps
 
 held_among : (f : Span → Bool) (ps : List Span) (es : List Event) → Among f ps → Among (held_from f es) (spans_of ps es)
 held_among f ps [] all = all
@@ -56,7 +56,7 @@ held_at t p at n fits running h = record {
     covers = subst (λ (q : Span). Covers q at n) is h.covers;
     aligned = h.aligned;
   };
-  held = subst (λ (q : Span). IsAmong q (spans_of [] (events_of p.known.cpu p.known.seen))) is
+  held = subst (λ (q : Span). IsAmongSpans q (spans_of [] (events_of p.known.cpu p.known.seen))) is
       (held_among no_span [] (events_of p.known.cpu p.known.seen) (λ q no. absurd (true≢false (sym no))) h.span h.holds);
   runs = running;
 }
@@ -80,7 +80,7 @@ held_at t p at n fits running h = record {
     is = lies.1.4 ∙ ap (λ (z : MapShape). element_span m z e) shape
 
 -- ---- one event more
-pub told_fits : (t : Shown) (p : Port) (z : TableId) (l : Known) (e : Event) → IsPortOf t p → z ≡ p.table → turns_of (e ∷ []) ≡ 0 → Told t.about p.known e l
+pub told_fits : (t : Shown) (p : Port) (z : TableId) (l : Known) (e : Event) → IsPortOf t p → z ≡ p.table → turns_of (e ∷ []) ≡ 0 → AddsEvent t.about p.known e l
     → IsPortOf t (record { table = z; known = l; arenas = p.arenas; batches = p.batches; spilled = p.spilled })
 told_fits t p z l e h table quiet c =
     let cpu = ap (λ (k : Known). k.cpu) c.after in

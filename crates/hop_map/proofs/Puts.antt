@@ -12,7 +12,7 @@ use Rattle.hop_map.specs.Private.LockedSegment.{segment_view, locked_view, seen_
 use Rattle.hop_words.specs.Content.{MapWords, IsShare, HasKey}
 use Rattle.hop_words.specs.Ghost.{shape_at, lock_home}
 use Rattle.hop_words.specs.Rule.{image, put_key}
-use Rattle.hop_words.specs.Kinds.{has, Inserted, IsKeyAbsent, IsWritten, LeadsTo}
+use Rattle.hop_words.specs.Kinds.{has, Inserted, IsKeyAbsent, IsWritten, LeadsToElement}
 use Rattle.hop_seg.specs.Words.{Fixed}
 use Rattle.hop_seg.specs.Segment.{Sound as SegSound, IsOwn, element_key}
 use Rattle.hop_seg.specs.Content.{IsAbsent as SegAbsent, HasPair, Gains}
@@ -64,7 +64,7 @@ module _ (a : About) (l : Known) (m s : ℕ) (c : LockShows a l m s) where
       pub absent_with : SegAbsent (segment_view a m s (stamp_depth (lock_of l).stamp) (λ e. has e (lock_of l).known || more e) x) key → IsKeyAbsent a (lock_of l) key
       absent_with gone f p = none_with gone f (here f p)
 
-      pub leads_with : (e : ℕ) → HasPair (segment_view a m s (stamp_depth (lock_of l).stamp) (λ e. has e (lock_of l).known || more e) x) key e → LeadsTo a (lock_of l) key e
+      pub leads_with : (e : ℕ) → HasPair (segment_view a m s (stamp_depth (lock_of l).stamp) (λ e. has e (lock_of l).known || more e) x) key e → LeadsToElement a (lock_of l) key e
       leads_with e h f p = (pair_leads a m s (stamp_depth (lock_of l).stamp) (λ e. has e (lock_of l).known || more e) x f (here f p) (known_by f (here f p)) key e h).0
 
       -- an element that a key leads to is one of the map's

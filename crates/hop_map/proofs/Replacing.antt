@@ -8,7 +8,7 @@ use Rattle.hop_layout.specs.declared.about.About.{About}
 use Rattle.hop_words.specs.declared.known.Known.{Known}
 use Rattle.hop_words.specs.declared.known.Lock.{Lock}
 use Rattle.hop_words.specs.declared.known.Fresh.{Fresh}
-use Rattle.hop_map.specs.LockedSegment.{home, Locked, Stays, Ready, in_hand, is_put}
+use Rattle.hop_map.specs.LockedSegment.{home, Locked, Stays, Ready, fills_element, is_put}
 use Rattle.hop_map.specs.Private.LockedSegment.{seen_words}
 use Rattle.hop_words.specs.Content.{IsShare, HasKey}
 use Rattle.hop_words.specs.Ghost.{shape_at, lock_home}
@@ -30,7 +30,7 @@ module _ (x : Locked) (key bytes : List ℕ) (flags element : ℕ) (c : LockShow
   k = lock_of x.known
 
   more : ℕ → Bool
-  more e = is_put k.change e || in_hand x.known.fresh x.map e
+  more e = is_put k.change e || fills_element x.known.fresh x.map e
 
   pub over_sound : SegSound (seen_words x)
   unfolding more
@@ -47,8 +47,8 @@ module _ (x : Locked) (key bytes : List ℕ) (flags element : ℕ) (c : LockShow
       let q = any_known x.about x.known x.map x.segment c c.content p t.0 element t.3 t.2 in
       true≢false (sym q.1 ∙ b.apart)
 
-  held_here : in_hand x.known.fresh x.map element ≡ true
-  held_here = subst (λ (fs : List Fresh). in_hand fs x.map element ≡ true) (sym b.filled.in_hand)
+  held_here : fills_element x.known.fresh x.map element ≡ true
+  held_here = subst (λ (fs : List Fresh). fills_element fs x.map element ≡ true) (sym b.filled.in_hand)
       ((λ j. eq-eqb (hand x.known).map x.map b.filled.map j && (element == (hand x.known).element)) ∙ eq-eqb element (hand x.known).element (sym b.filled.number))
 
   pub over_own : IsOwn (seen_words x).fixed element

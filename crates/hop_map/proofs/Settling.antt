@@ -25,7 +25,7 @@ use Rattle.hop_words.specs.Shortage.{updates_of}
 use Rattle.hop_words.specs.Kinds.{TakesEffect, retiring, with_gone}
 use Rattle.hop_words.proofs.Shortages.{updates_of-append}
 use Rattle.bpf_shared.specs.Own.{in_run}
-use Rattle.hop_words.specs.Owning.{tail_of, IsInHand, IsAnswered, update_in_hand}
+use Rattle.hop_words.specs.Owning.{tail_of, IsInHand, IsUpdateAnswered, update_in_hand}
 use Rattle.hop_arena.specs.Filling.{with_words, word_list}
 use Rattle.hop_arena.proofs.Filling.{word_count}
 use Rattle.hop_epoch.proofs.Batching.{at_set}
@@ -110,7 +110,7 @@ module _ (a : About) (l : Known) (m e : ℕ) (new : HoldsNew l m e) (key bytes :
       refused_hand = (whole, refused_fresh ∙ ap (λ (fs : List Fresh). whole ∷ fs) (sym (ap tail_of refused_fresh)), refl, refl)
 
       -- the update that took it is answered
-      pub refused_answered : IsAnswered l2 m
+      pub refused_answered : IsUpdateAnswered l2 m
       refused_answered =
           let s = saw_as a l (locked_with l1 k) (Update m key bytes flags r) l2.seen (ap (λ (q : Known). q.cpu) filled_is) (ap (λ (q : Known). q.seen) filled_is) p.seen in
           let same : l2.cpu ≡ l.cpu = ap (λ (q : Known). q.cpu) p.after ∙ ap (λ (q : Known). q.cpu) filled_is in

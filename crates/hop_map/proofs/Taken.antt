@@ -7,7 +7,7 @@ use Rattle.bpf_shared.specs.Own.{turns_of, in_run}
 use Rattle.bpf_shared.specs.Passage.{IsHeldPlace}
 use Rattle.hop_words.specs.declared.known.Known.{Known}
 use Rattle.hop_words.specs.Inside.{Shown, Standing}
-use Rattle.hop_words.specs.Kinds.{Told}
+use Rattle.hop_words.specs.Kinds.{AddsEvent}
 use Rattle.hop_map.specs.declared.port.HopPort.TheInside.{Inside as InPort}
 use Rattle.hop_map.specs.Private.Accesses.{IsHeldAt}
 use Rattle.hop_map.specs.Port.{Port, port_holds, runs, IsPortOf}
@@ -33,7 +33,7 @@ module _ (i : InPort) (o : Option Standing) (s : Standing) («from» : o ≡ i.l
   held_there at n h = held_at t taken at n taken_fits taken_runs (subst (λ (p : Port). IsHeldPlace (port_holds p) at n) (sym is) h)
 
   -- after one event of the CPU that neither begins nor ends a run
-  module _ (l : Known) (e : Event) (quiet : turns_of (e ∷ []) ≡ 0) (told : Told t.about s.known e l) where
+  module _ (l : Known) (e : Event) (quiet : turns_of (e ∷ []) ≡ 0) (told : AddsEvent t.about s.known e l) where
     pub fits_after : (z : TableId) → z ≡ s.table → IsPortOf t (port_with (record { table = z; known = l }) i.arenas.items i.batches.items i.spilled)
     fits_after z table = told_fits t taken z l e taken_fits table quiet told
 

@@ -4,7 +4,7 @@ ghost use Rattle.bpf_base.specs.Bytes.{modulus};
 ghost use Rattle.bpf_shared.specs.Access.{bytes_in};
 ghost use Rattle.bpf_shared.specs.declared.events.Event.TheVariants.{Load, Store, Atomic};
 ghost use Rattle.bpf_shared.specs.declared.events.Size.TheVariants.{Double};
-ghost use Rattle.hop_words.specs.Kinds.{Told};
+ghost use Rattle.hop_words.specs.Kinds.{AddsEvent};
 ghost use Rattle.hop_map.specs.Private.Accesses.{IsHeldAt};
 
 use crate::parts::{number_in, part_at, with_number};
@@ -18,7 +18,7 @@ pub(crate) fn load_at(table: &HopTable, lane: &mut Lane, at: ValuePlace, size: S
     requires table { lane.old.table ≡ table.now.id }
     requires held { IsHeldAt table.now.about lane.old.known at.at (bytes_in size) }
     ensures table { lane.new.table ≡ lane.old.table }
-    ensures loaded { Told table.now.about lane.old.known (Load at.at size result) lane.new.known }
+    ensures loaded { AddsEvent table.now.about lane.old.known (Load at.at size result) lane.new.known }
     ensures small { result < modulus (bytes_in size) }
 {
     let part = part_at(table, at, size);
@@ -30,7 +30,7 @@ pub(crate) fn store_word_at(table: &HopTable, lane: &mut Lane, at: ValuePlace, w
     requires table { lane.old.table ≡ table.now.id }
     requires held { IsHeldAt table.now.about lane.old.known at.at 8 }
     ensures table { lane.new.table ≡ lane.old.table }
-    ensures stored { Told table.now.about lane.old.known (Store at.at Double word) lane.new.known }
+    ensures stored { AddsEvent table.now.about lane.old.known (Store at.at Double word) lane.new.known }
 {
     let part = part_at(table, at, Size::Double);
     lane.store_value(table, part, word);
@@ -49,7 +49,7 @@ pub(crate) fn store_part_at<R: Wait>(
     requires table { lane.old.table ≡ table.now.id }
     requires held { IsHeldAt table.now.about lane.old.known at.at (bytes_in size) }
     ensures table { lane.new.table ≡ lane.old.table }
-    ensures stored { Told table.now.about lane.old.known (Store at.at size word) lane.new.known }
+    ensures stored { AddsEvent table.now.about lane.old.known (Store at.at size word) lane.new.known }
 {
     let part = part_at(table, at, size);
     let mut old = lane.look_at_value(rt, table, part);
@@ -76,7 +76,7 @@ pub(crate) fn change_word_at(
     requires table { lane.old.table ≡ table.now.id }
     requires held { IsHeldAt table.now.about lane.old.known at.at 8 }
     ensures table { lane.new.table ≡ lane.old.table }
-    ensures changed { Told table.now.about lane.old.known
+    ensures changed { AddsEvent table.now.about lane.old.known
         (Atomic at.at Double op operand expected result) lane.new.known }
 {
     let part = part_at(table, at, Size::Double);
@@ -98,7 +98,7 @@ pub(crate) fn change_part_at<R: Wait>(
     requires held { IsHeldAt table.now.about lane.old.known at.at (bytes_in size) }
     requires wide { 4 ≤ bytes_in size }
     ensures table { lane.new.table ≡ lane.old.table }
-    ensures changed { Told table.now.about lane.old.known
+    ensures changed { AddsEvent table.now.about lane.old.known
         (Atomic at.at size op operand expected result) lane.new.known }
     ensures small { result < modulus (bytes_in size) }
 {

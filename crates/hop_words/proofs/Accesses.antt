@@ -17,27 +17,27 @@ use Rattle.hop_words.specs.declared.touching.ValuePart.{ValuePart}
 use Rattle.hop_layout.specs.Layout.{is_place, mem, words_for}
 use Rattle.hop_words.specs.Ghost.{shape_at, lane}
 use Rattle.hop_words.specs.Private.Step.{Steps}
-use Rattle.hop_words.specs.Kinds.{Touches, found_in, Told}
+use Rattle.hop_words.specs.Kinds.{TouchesHeldValue, number_in_word, AddsEvent}
 use Rattle.hop_words.specs.Touching.{TouchesWord, part_address}
 use Rattle.hop_layout.proofs.WordBytes.{whole_word}
 use Rattle.hop_words.proofs.Values.{value_store, value_fetch}
 
-pub value_there : (a : About) (l : Known) (m e k o n : ℕ) → Touches a l m e k o n → is_place a.shape (ValueWord m e k) ≡ true
+pub value_there : (a : About) (l : Known) (m e k o n : ℕ) → TouchesHeldValue a l m e k o n → is_place a.shape (ValueWord m e k) ≡ true
 value_there a l m e k o n t = rw (lt-ltb m (length a.shape.maps) t.element.0, lt-ltb e (elements (shape_at a m)) t.element.1, lt-ltb k (words_for (shape_at a m).value) t.word) refl
 
 -- a word read whole
-pub found_whole : (n : ℕ) → n < 18446744073709551616 → found_in n 0 8 ≡ n
+pub found_whole : (n : ℕ) → n < 18446744073709551616 → number_in_word n 0 8 ≡ n
 found_whole n small = little_endian-low_bytes 8 n small
 
 module _ (a : About) (l : Known) (p : ValuePart) (t : TouchesWord a l p) where
   first : p.offset ≡ 0
   first = let z = t.fits in omega arith
 
-  pub stores : (x : ℕ) → Steps a l (ValueWord p.map p.element p.word) (λ _. x) (λ ws n l'. Told a l (Store (part_address a p) Double x) l')
+  pub stores : (x : ℕ) → Steps a l (ValueWord p.map p.element p.word) (λ _. x) (λ ws n l'. AddsEvent a l (Store (part_address a p) Double x) l')
   stores x = value_store a l p.map p.element p.word p.offset Double x x t (λ n. subst (λ (i : ℕ). low_bytes 8 x ≡ with_part (low_bytes 8 n) i (low_bytes 8 x)) (sym first) (whole_word n x))
 
   changes : (op : Change) (operand expected : ℕ) (f : ℕ → ℕ) → ((n : ℕ) → n < 18446744073709551616 → f n ≡ number_after op 8 n operand expected)
-      → Steps a l (ValueWord p.map p.element p.word) f (λ ws n l'. Told a l (Atomic (part_address a p) Double op operand expected n) l')
+      → Steps a l (ValueWord p.map p.element p.word) f (λ ws n l'. AddsEvent a l (Atomic (part_address a p) Double op operand expected n) l')
   changes op operand expected f same ws g sized r is inside fits =
       let n = mem a.shape ws (ValueWord p.map p.element p.word) in
       let next = value_fetch a l p.map p.element p.word p.offset Double op operand expected f t splices ws g sized r is inside fits in
@@ -47,38 +47,38 @@ module _ (a : About) (l : Known) (p : ValuePart) (t : TouchesWord a l p) where
         others = next.others;
         longer = next.longer;
         tally = next.tally;
-        says = subst (λ (i : ℕ). Told a l (Atomic (part_address a p) Double op operand expected i) (lane next.ghost.lanes l.cpu)) (found n fits) next.says;
+        says = subst (λ (i : ℕ). AddsEvent a l (Atomic (part_address a p) Double op operand expected i) (lane next.ghost.lanes l.cpu)) (found n fits) next.says;
       }
     where
-      found : (i : ℕ) → i < 18446744073709551616 → found_in i p.offset 8 ≡ i
-      found i small = ap (λ (o : ℕ). found_in i o 8) first ∙ found_whole i small
+      found : (i : ℕ) → i < 18446744073709551616 → number_in_word i p.offset 8 ≡ i
+      found i small = ap (λ (o : ℕ). number_in_word i o 8) first ∙ found_whole i small
 
-      splices : (i : ℕ) → i < 18446744073709551616 → low_bytes 8 (f i) ≡ with_part (low_bytes 8 i) p.offset (low_bytes 8 (number_after op 8 (found_in i p.offset 8) operand expected))
+      splices : (i : ℕ) → i < 18446744073709551616 → low_bytes 8 (f i) ≡ with_part (low_bytes 8 i) p.offset (low_bytes 8 (number_after op 8 (number_in_word i p.offset 8) operand expected))
       splices i small =
           whole_word i (f i)
           ∙ (ap (λ (z : ℕ). with_part (low_bytes 8 i) 0 (low_bytes 8 z)) (same i small ∙ ap (λ (z : ℕ). number_after op 8 z operand expected) (sym (found i small)))
-          ∙ ap (λ (o : ℕ). with_part (low_bytes 8 i) o (low_bytes 8 (number_after op 8 (found_in i p.offset 8) operand expected))) (sym first))
+          ∙ ap (λ (o : ℕ). with_part (low_bytes 8 i) o (low_bytes 8 (number_after op 8 (number_in_word i p.offset 8) operand expected))) (sym first))
 
   module _ (operand expected : ℕ) (small : operand < 18446744073709551616) (few : expected < 18446744073709551616) where
     whole : operand % 18446744073709551616 ≡ operand
     whole = omega arith
 
-    pub adds : Steps a l (ValueWord p.map p.element p.word) (λ n. (n + operand) % 18446744073709551616) (λ ws n l'. Told a l (Atomic (part_address a p) Double Add operand expected n) l')
+    pub adds : Steps a l (ValueWord p.map p.element p.word) (λ n. (n + operand) % 18446744073709551616) (λ ws n l'. AddsEvent a l (Atomic (part_address a p) Double Add operand expected n) l')
     adds = changes Add operand expected (λ n. (n + operand) % 18446744073709551616) (λ n lt-ltb. refl)
 
-    pub ors : Steps a l (ValueWord p.map p.element p.word) (λ n. bit_or n operand) (λ ws n l'. Told a l (Atomic (part_address a p) Double Or operand expected n) l')
+    pub ors : Steps a l (ValueWord p.map p.element p.word) (λ n. bit_or n operand) (λ ws n l'. AddsEvent a l (Atomic (part_address a p) Double Or operand expected n) l')
     ors = changes Or operand expected (λ n. bit_or n operand) (λ n lt-ltb. ap (bit_or n) (sym whole))
 
-    pub ands : Steps a l (ValueWord p.map p.element p.word) (λ n. bit_and n operand) (λ ws n l'. Told a l (Atomic (part_address a p) Double And operand expected n) l')
+    pub ands : Steps a l (ValueWord p.map p.element p.word) (λ n. bit_and n operand) (λ ws n l'. AddsEvent a l (Atomic (part_address a p) Double And operand expected n) l')
     ands = changes And operand expected (λ n. bit_and n operand) (λ n lt-ltb. ap (bit_and n) (sym whole))
 
-    pub xors : Steps a l (ValueWord p.map p.element p.word) (λ n. bit_xor n operand) (λ ws n l'. Told a l (Atomic (part_address a p) Double Xor operand expected n) l')
+    pub xors : Steps a l (ValueWord p.map p.element p.word) (λ n. bit_xor n operand) (λ ws n l'. AddsEvent a l (Atomic (part_address a p) Double Xor operand expected n) l')
     xors = changes Xor operand expected (λ n. bit_xor n operand) (λ n lt-ltb. ap (bit_xor n) (sym whole))
 
-    pub swaps : Steps a l (ValueWord p.map p.element p.word) (λ n. operand) (λ ws n l'. Told a l (Atomic (part_address a p) Double Exchange operand expected n) l')
+    pub swaps : Steps a l (ValueWord p.map p.element p.word) (λ n. operand) (λ ws n l'. AddsEvent a l (Atomic (part_address a p) Double Exchange operand expected n) l')
     swaps = changes Exchange operand expected (λ n. operand) (λ n lt-ltb. sym whole)
 
-    pub exchanges : Steps a l (ValueWord p.map p.element p.word) (λ n. either (n == expected) operand n) (λ ws n l'. Told a l (Atomic (part_address a p) Double CompareExchange operand expected n) l')
+    pub exchanges : Steps a l (ValueWord p.map p.element p.word) (λ n. either (n == expected) operand n) (λ ws n l'. AddsEvent a l (Atomic (part_address a p) Double CompareExchange operand expected n) l')
     exchanges = changes CompareExchange operand expected (λ n. either (n == expected) operand n) (λ n lt-ltb. tests n)
       where
         expects : expected % 18446744073709551616 ≡ expected

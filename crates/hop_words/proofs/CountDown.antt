@@ -23,7 +23,7 @@ use Rattle.hop_words.specs.declared.known.Limbo.{Limbo}
 use Rattle.hop_words.specs.declared.known.Lock.{Lock}
 use Rattle.hop_words.specs.declared.known.Change.TheVariants.{Drops}
 use Rattle.hop_layout.specs.Layout.{mem, put_at}
-use Rattle.hop_words.specs.Content.{place_words}
+use Rattle.hop_words.specs.Content.{words_by_place}
 use Rattle.hop_words.specs.Ghost.{Holder, Free, Leaving, Within, lane, Ghost, shape_at, HasElement, limbo_at, lock_home}
 use Rattle.hop_words.specs.Rule.{Rule, Minded, put_key, changed, Holds, numbered}
 use Rattle.hop_words.specs.Private.Step.{Next, Steps}
@@ -49,7 +49,7 @@ module _ (a : About) (l : Known) (k : Lock) (key : List ℕ) (e : ℕ) (i : Remo
   abbrev s : ℕ
   s = k.segment
 
-  h : Holds a g.depths (place_words w) (λ n t. w (Stamp n t)) g.eras g.linked g.holder l.cpu k
+  h : Holds a g.depths (words_by_place w) (λ n t. w (Stamp n t)) g.eras g.linked g.holder l.cpu k
   h = holds a l k i.lock w g r is
 
   there : g.linked m key ≡ Some e

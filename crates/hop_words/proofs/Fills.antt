@@ -17,7 +17,7 @@ use Rattle.hop_words.specs.declared.known.Fresh.{Fresh}
 use Rattle.hop_words.specs.declared.known.Sight.{Sight}
 use Rattle.hop_layout.specs.Layout.{mem, put_at, words_for}
 use Rattle.hop_layout.specs.Words.{bytes_of_words}
-use Rattle.hop_words.specs.Content.{place_words, one_if}
+use Rattle.hop_words.specs.Content.{words_by_place, one_if}
 use Rattle.hop_words.specs.Ghost.{Holder, Free, Filling, Within, is_free, is_filling, is_leaving, Carries, lane, Ghost, shape_at, HasElement, Each}
 use Rattle.hop_words.specs.Rule.{Rule, times_fresh, begun_in, StartsWith, Minded}
 use Rattle.hop_words.specs.Shortage.{updates_of}
@@ -124,9 +124,9 @@ module _ (a : About) (l : Known) (f : Fresh) (rest : List Fresh) (hand : l.fresh
       };
       linked = r.linked;
       filled = filled_on (f.key ++ n ∷ []) f.value w2 keep (own_new, own_list.0.1);
-      segments = segments_words a g.depths (place_words w) (place_words w2) (λ m t. w (Stamp m t)) g.eras g.linked g.holder r.linked (λ m t. refl) (λ m t b. refl) (λ m t b. refl)
+      segments = segments_words a g.depths (words_by_place w) (words_by_place w2) (λ m t. w (Stamp m t)) g.eras g.linked g.holder r.linked (λ m t. refl) (λ m t b. refl) (λ m t b. refl)
           (λ m d q h. (refl, λ k. elsewhere m d k (λ u v. let z : Within q ≡ Filling l.cpu = sym h ∙ ((λ j. g.holder (u j) (v j)) ∙ filling) in cc))) r.segments;
-      locking = locking_words a g.depths (place_words w) (place_words w2) (λ m t. w (Stamp m t)) g.eras g.linked g.holder g.lanes.locks l.cpu (ap (λ (z : Known). z.locks) is ∙ unlocked) (λ m t. refl) (λ m t b. refl) (λ m t b. refl)
+      locking = locking_words a g.depths (words_by_place w) (words_by_place w2) (λ m t. w (Stamp m t)) g.eras g.linked g.holder g.lanes.locks l.cpu (ap (λ (z : Known). z.locks) is ∙ unlocked) (λ m t. refl) (λ m t b. refl) (λ m t b. refl)
           (λ home m t d b ne on. (refl, λ k. elsewhere m d k (λ u v. ne (sym (subst (Minded home b t) ((λ j. g.holder (u j) (v j)) ∙ filling) on))))) r.locking;
       reading = r.reading;
       held = r.held;
@@ -288,7 +288,7 @@ give_fresh a l f rest hand at_e answered ws g sized r is inside fits = record {
         (λ (ne : b ≢ l.cpu). subst (Each (IsFilled w)) (sym (put-other g.lanes.fresh l.cpu b rest ne)) (r.filled b inb))
         (cases_eq b l.cpu);
     segments = r.segments;
-    locking = locking_outside a g.holder f.map f.element (Filling l.cpu) Free filling g.depths (place_words w) (λ n t. w (Stamp n t)) g.eras g.linked g.lanes.locks (λ b. inr (λ home t z. absurd z)) r.locking;
+    locking = locking_outside a g.holder f.map f.element (Filling l.cpu) Free filling g.depths (words_by_place w) (λ n t. w (Stamp n t)) g.eras g.linked g.lanes.locks (λ b. inr (λ home t z. absurd z)) r.locking;
     reading = r.reading;
     held = r.held;
     valued = valued_outside a g.holder f.map f.element (Filling l.cpu) Free filling _ g.last.made g.last.value g.last.held g.number (λ z. z) (λ c h z. z) r.valued;

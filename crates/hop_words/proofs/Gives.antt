@@ -15,7 +15,7 @@ use Rattle.hop_words.specs.declared.known.Known.{Known}
 use Rattle.hop_words.specs.declared.known.Limbo.{Limbo}
 use Rattle.hop_words.specs.declared.known.Lock.{Lock}
 use Rattle.hop_layout.specs.Layout.{mem, put_at}
-use Rattle.hop_words.specs.Content.{MapWords, place_words, one_if, times}
+use Rattle.hop_words.specs.Content.{MapWords, words_by_place, one_if, times}
 use Rattle.hop_words.specs.Ghost.{Holder, Free, Leaving, Within, is_filling, is_leaving, lane, Era, Ghost, HasElement, Each, limbo_at, lock_home}
 use Rattle.hop_words.specs.Rule.{Rule, Chained, link_to, times_limbo, Linked, Segment, Segments, Minded, Holds, Locking}
 use Rattle.bpf_shared.specs.Own.{turns_of, in_run}
@@ -101,7 +101,7 @@ give_old a l m e es even at_e room i ws g sized r is inside fits = record {
     linked = linked_outside a g.holder m e (Leaving l.cpu) Free was g.linked (λ s z. cc) (λ s z. cc) r.linked;
     filled = r.filled;
     segments = r.segments;
-    locking = locking_outside a g.holder m e (Leaving l.cpu) Free was g.depths (place_words w) (λ n t. w (Stamp n t)) g.eras g.linked g.lanes.locks (λ b. inr (λ home t z. absurd z)) r.locking;
+    locking = locking_outside a g.holder m e (Leaving l.cpu) Free was g.depths (words_by_place w) (λ n t. w (Stamp n t)) g.eras g.linked g.lanes.locks (λ b. inr (λ home t z. absurd z)) r.locking;
     reading = r.reading;
     held = r.held;
     valued = valued_outside a g.holder m e (Leaving l.cpu) Free was _ g.last.made g.last.value g.last.held g.number (λ z. z) (λ c h _. nobody c h) r.valued;
@@ -254,9 +254,9 @@ retire a l m e us at_e room unlocked used ws g sized r is inside fits = record {
     };
     linked = r.linked;
     filled = r.filled;
-    segments = segments_words a g.depths (place_words w) (place_words w2) (λ n t. w (Stamp n t)) g.eras g.linked g.holder r.linked (λ n t. refl) (λ n t b. refl) (λ n t b. refl)
+    segments = segments_words a g.depths (words_by_place w) (words_by_place w2) (λ n t. w (Stamp n t)) g.eras g.linked g.holder r.linked (λ n t. refl) (λ n t b. refl) (λ n t b. refl)
         (λ n d q h. (link_else n d (λ u v. let z : Within q ≡ Leaving l.cpu = sym h ∙ ((λ j. g.holder (u j) (v j)) ∙ was) in cc), λ k. refl)) r.segments;
-    locking = locking_words a g.depths (place_words w) (place_words w2) (λ n t. w (Stamp n t)) g.eras g.linked g.holder g.lanes.locks l.cpu (ap (λ (z : Known). z.locks) is ∙ unlocked) (λ n t. refl) (λ n t b. refl) (λ n t b. refl)
+    locking = locking_words a g.depths (words_by_place w) (words_by_place w2) (λ n t. w (Stamp n t)) g.eras g.linked g.holder g.lanes.locks l.cpu (ap (λ (z : Known). z.locks) is ∙ unlocked) (λ n t. refl) (λ n t b. refl) (λ n t b. refl)
         (λ home n t d b ne on. (link_else n d (λ u v. ne (sym (subst (Minded home b t) ((λ j. g.holder (u j) (v j)) ∙ was) on))), λ k. refl)) r.locking;
     reading = r.reading;
     held = r.held;

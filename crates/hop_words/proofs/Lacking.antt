@@ -11,7 +11,7 @@ use Rattle.bpf_shared.specs.History.{events_of}
 use Rattle.bpf_shared.proofs.Chains.{events_of-append}
 use Rattle.hop_layout.specs.Layout.{map_shape}
 use Rattle.hop_words.specs.Content.{one_if, times}
-use Rattle.hop_words.specs.Shortage.{is_update, updates_of, updates_in, IsTaken, Moment, MayLack, HasCause, HaveCauses}
+use Rattle.hop_words.specs.Shortage.{is_update, updates_of, updates_in, IsTakenByUpdate, Moment, EachMayBeTaken, HasCause, HaveCauses}
 use Rattle.hop_words.specs.Laws.{all_updates, lacks, FewUpdatesSuffice, LacksComeLate}
 use Rattle.hop_words.proofs.Shortages.{updates_of-append, one_most}
 
@@ -169,7 +169,7 @@ updates_in-append m c xs ys = ap (updates_of m) (events_of-append c xs ys) ∙ u
 
 -- ---- where an element may be lacked
 -- there are as many elements as such updates at most
-few_elements : (x : Moment) (made most : ℕ → ℕ) (m : ℕ) (may : MayLack x made m) → ((e : ℕ) (t : IsTaken x made may.0 m e) → t.update < most t.cpu) → elements (map_shape x.shape m) ≤ sum_first most x.shape.cpus
+few_elements : (x : Moment) (made most : ℕ → ℕ) (m : ℕ) (may : EachMayBeTaken x made m) → ((e : ℕ) (t : IsTakenByUpdate x made may.0 m e) → t.update < most t.cpu) → elements (map_shape x.shape m) ≤ sum_first most x.shape.cpus
 few_elements x made most m may bound =
     let n = x.shape.cpus in
     let all = all_first may.0 most n in
@@ -177,15 +177,15 @@ few_elements x made most m may bound =
     let size = all_length may.0 most n in
     omega arith
 
-lack_of : (version : ℕ) (made : ℕ → ℕ → ℕ) (x : Moment) (m : ℕ) (e : Event) → lacks m e ≡ true → HasCause version made x e → MayLack x (made m) m × (is_update m e ≡ true)
-lack_of version made x m (Update n key bytes flags NoMemory) is cause = (subst (λ (i : ℕ). MayLack x (made i) i) (same n m is) cause, is)
+lack_of : (version : ℕ) (made : ℕ → ℕ → ℕ) (x : Moment) (m : ℕ) (e : Event) → lacks m e ≡ true → HasCause version made x e → EachMayBeTaken x (made m) m × (is_update m e ≡ true)
+lack_of version made x m (Update n key bytes flags NoMemory) is cause = (subst (λ (i : ℕ). EachMayBeTaken x (made i) i) (same n m is) cause, is)
   where
     same : (a b : ℕ) → (a == b) ≡ true → a ≡ b
     same a b t = ⊎_elim (λ (q : a ≡ b). q) (λ (ne : a ≢ b). absurd (true≢false (sym t ∙ ne_eqb a b ne))) (cases_eq a b)
 lack_of version made x m e is cause = absurd (true≢false (sym is))
 
 module _ (h : Shape) (version : ℕ) (history : List Entry) (last : Plain) (m : ℕ) (causes : HaveCauses h version history last) (before after : List Entry) (x : Entry) (is : history ≡ before ++ (x ∷ after)) (lack : lacks m x.event ≡ true) where
-  cause_there : (s : Plain) × MayLack (record { shape = h; before = before; store = s; cpu = x.cpu }) (updates_in history m) m × (is_update m x.event ≡ true)
+  cause_there : (s : Plain) × EachMayBeTaken (record { shape = h; before = before; store = s; cpu = x.cpu }) (updates_in history m) m × (is_update m x.event ≡ true)
   cause_there =
       let k = causes before after x is in
       let l = lack_of version (updates_in history) (record { shape = h; before = before; store = k.0; cpu = x.cpu }) m x.event lack k.3 in

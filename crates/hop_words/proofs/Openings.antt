@@ -18,7 +18,7 @@ use Rattle.hop_layout.specs.declared.about.About.{About}
 use Rattle.hop_words.specs.declared.known.Known.{Known}
 use Rattle.hop_words.specs.declared.known.View.{View}
 use Rattle.hop_layout.specs.Layout.{mem, size, first_depth, depth, power}
-use Rattle.hop_words.specs.Content.{item, place_words, times, Reached, LinksThrough, IsShare}
+use Rattle.hop_words.specs.Content.{item, words_by_place, times, Reached, LinksThrough, IsShare}
 use Rattle.hop_words.specs.Ghost.{Free, Lanes, lane, Era, Ghost, shape_at, IsSegment, limbo_at, no_limbo}
 use Rattle.hop_words.specs.Shortage.{HasCause}
 use Rattle.hop_words.specs.Rule.{Rule, Kept, begun_in, times_limbo, Chained}
@@ -61,7 +61,7 @@ module _ (a : About) (w : Place → ℕ) (i : AreNewWords a w) where
   new_lanes = record { seen = λ c. []; fresh = λ c. []; limbo = λ c. no_limbos (length a.shape.maps); locks = λ c. []; readings = λ c. []; tally = λ c. [] }
 
   new_era : ℕ → ℕ → Era
-  new_era m s = record { era = w (Stamp m s); writer = 0; dirty = false; credit = 0; old = place_words w }
+  new_era m s = record { era = w (Stamp m s); writer = 0; dirty = false; credit = 0; old = words_by_place w }
 
   abbrev new_ghost : Ghost
   new_ghost = record {
@@ -73,13 +73,13 @@ module _ (a : About) (w : Place → ℕ) (i : AreNewWords a w) where
     taker = λ m c n. 0;
     linked = λ m key. None;
     depths = λ m s. first_depth (shape_at a m);
-    eras = λ m s. record { era = w (Stamp m s); writer = 0; dirty = false; credit = 0; old = place_words w };
+    eras = λ m s. record { era = w (Stamp m s); writer = 0; dirty = false; credit = 0; old = words_by_place w };
   }
 
   no_bit : (m s b d : ℕ) → IsSegment a m s → b < 64 → bit_at (w (Hop m s b)) d ≡ 1 → ⊥
   no_bit m s b d at_s lb one = let z : bit_at (w (Hop m s b)) d ≡ 0 = ap (λ (n : ℕ). bit_at n d) (i.hops m s b at_s lb) ∙ bit_at-zero d in omega arith
 
-  nothing_reached : (m s e : ℕ) → IsSegment a m s → Reached (place_words w) m s e → ⊥
+  nothing_reached : (m s e : ℕ) → IsSegment a m s → Reached (words_by_place w) m s e → ⊥
   nothing_reached m s e at_s (inl h) = no_bit m s h.0 h.1 at_s h.2.0 h.2.2
   nothing_reached m s e at_s (inr h) = go h.0 h.1 h.2
     where
@@ -87,7 +87,7 @@ module _ (a : About) (w : Place → ℕ) (i : AreNewWords a w) where
       go [] f has = omega arith
       go (x ∷ xs) f has = let z : None ≡ Some x = ap item (sym (i.heads m s at_s)) ∙ f.0 in cc
 
-  empty_share : (m s : ℕ) → IsSegment a m s → IsShare a.seed (shape_at a m) (home_by a m (first_depth (shape_at a m))) (place_words w) m s (λ key. None)
+  empty_share : (m s : ℕ) → IsSegment a m s → IsShare a.seed (shape_at a m) (home_by a m (first_depth (shape_at a m))) (words_by_place w) m s (λ key. None)
   empty_share m s at_s = record {
     sound = record {
       leads = λ b d lb ld one. absurd (no_bit m s b d at_s lb one);

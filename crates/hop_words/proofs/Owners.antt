@@ -19,7 +19,7 @@ use Rattle.hop_words.specs.declared.known.Known.{Known}
 use Rattle.hop_words.specs.declared.known.Fresh.{Fresh}
 use Rattle.hop_words.specs.declared.known.Lock.{Lock}
 use Rattle.hop_layout.specs.Layout.{mem, put_at}
-use Rattle.hop_words.specs.Content.{MapWords, place_words, one_if}
+use Rattle.hop_words.specs.Content.{MapWords, words_by_place, one_if}
 use Rattle.hop_words.specs.Ghost.{Holder, Free, Filling, Leaving, Within, is_free, is_filling, is_leaving, Carries, lane, Era, Ghost, shape_at, HasElement, Each, lock_home}
 use Rattle.hop_words.specs.Rule.{Rule, Took, times_fresh, taken_at, begun_in, Linked, StartsWith, Minded, Holds, Locking, Valued}
 use Rattle.hop_words.specs.Shortage.{updates_of, updates_in, HasHadValue}
@@ -186,7 +186,7 @@ module _ (a : About) (l : Known) (m e : ℕ) (at_e : HasElement a m e) (ws : Lis
           (λ (ne : c ≢ l.cpu). subst (Each Has) (sym (put-other g.lanes.fresh l.cpu c fresh2 ne)) (r.filled c inc))
           (cases_eq c l.cpu);
       segments = r.segments;
-      locking = locking_outside a g.holder m e Free (Filling l.cpu) was g.depths (place_words cw) (λ n t. cw (Stamp n t)) g.eras g.linked g.lanes.locks
+      locking = locking_outside a g.holder m e Free (Filling l.cpu) was g.depths (words_by_place cw) (λ n t. cw (Stamp n t)) g.eras g.linked g.lanes.locks
           (λ b. ⊎_elim (λ (t : b ≡ l.cpu). inl (ap g.lanes.locks t ∙ (ap (λ (z : Known). z.locks) is ∙ unlocked))) (λ (ne : b ≢ l.cpu). inr (λ home t on. absurd (ne (sym on)))) (cases_eq b l.cpu)) r.locking;
       reading = r.reading;
       held = r.held;

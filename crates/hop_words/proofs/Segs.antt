@@ -8,7 +8,7 @@ use Rattle.hop_layout.specs.declared.about.About.{About}
 use Rattle.hop_words.specs.declared.known.Lock.{Lock}
 use Rattle.hop_words.specs.declared.known.Reading.{Reading}
 use Rattle.hop_words.specs.declared.known.Peek.{Peek}
-use Rattle.hop_words.specs.Content.{one_if, MapWords, IsShare, Agrees}
+use Rattle.hop_words.specs.Content.{one_if, MapWords, IsShare, AgreesInSegment}
 use Rattle.hop_words.specs.Ghost.{Holder, Within, Era, shape_at, Each}
 use Rattle.hop_words.specs.Rule.{Segment, Segments, Minded, Holds, Locking, IsPeek, IsSoundReading, Readings, Linked, Held, times_lock}
 use Rattle.hop_words.proofs.Small.{here_or}
@@ -26,8 +26,8 @@ share_same seed g home x m s f f' same p = record {
   all = λ q e is here. p.all q e (sym (same q here) ∙ is) here;
 }
 
-pub agrees_on : (m s : ℕ) (on on' : ℕ → Type 0) (x x' y : MapWords) → Agrees m s on x y → x'.head m s ≡ x.head m s → ((b : ℕ) → x'.hop m s b ≡ x.hop m s b) → ((b : ℕ) → x'.slot m s b ≡ x.slot m s b)
-    → ((e : ℕ) → on' e → on e × (x'.link m e ≡ x.link m e) × ((k : ℕ) → x'.key m e k ≡ x.key m e k)) → Agrees m s on' x' y
+pub agrees_on : (m s : ℕ) (on on' : ℕ → Type 0) (x x' y : MapWords) → AgreesInSegment m s on x y → x'.head m s ≡ x.head m s → ((b : ℕ) → x'.hop m s b ≡ x.hop m s b) → ((b : ℕ) → x'.slot m s b ≡ x.slot m s b)
+    → ((e : ℕ) → on' e → on e × (x'.link m e ≡ x.link m e) × ((k : ℕ) → x'.key m e k ≡ x.key m e k)) → AgreesInSegment m s on' x' y
 agrees_on m s on on' x x' y p head hop slot el = record {
   head = head ∙ p.head;
   hop = λ b. hop b ∙ p.hop b;

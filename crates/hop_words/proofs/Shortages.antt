@@ -24,7 +24,7 @@ use Rattle.hop_words.specs.declared.known.Fresh.{Fresh}
 use Rattle.hop_words.specs.declared.known.Sight.{Sight}
 use Rattle.hop_words.specs.Content.{one_if}
 use Rattle.hop_words.specs.Ghost.{Holder, Free, Filling, Leaving, Within, is_free, is_filling, Carries, lane, Ghost, shape_at, HasElement}
-use Rattle.hop_words.specs.Shortage.{is_update, updates_of, updates_in, HasHadValue, Moment, MayLack, HasCause, HaveCausesBy}
+use Rattle.hop_words.specs.Shortage.{is_update, updates_of, updates_in, HasHadValue, Moment, EachMayBeTaken, HasCause, HaveCausesBy}
 use Rattle.hop_words.specs.Sights.{LeavesElements, ShowsTaken, IsTakenSince}
 use Rattle.hop_words.specs.Rule.{Rule, Shown, Took, times_fresh, taken_at, begun_in}
 use Rattle.hop_words.specs.Kinds.{SawAllTaken}
@@ -356,7 +356,7 @@ module _ (a : About) (w : Place → ℕ) (g : Ghost) (r : Rule a w g) where
   }
 
   -- a lane with no element in hand, which saw each element of the map not free
-  pub lack_cause : (l : Known) (m : ℕ) → lane g.lanes l.cpu ≡ l → l.cpu < a.shape.cpus → m < length a.shape.maps → SawAllTaken a l m → MayLack (record { shape = a.shape; before = g.log; store = g.last; cpu = l.cpu }) (begun_in g.log g.lanes.fresh m) m
+  pub lack_cause : (l : Known) (m : ℕ) → lane g.lanes l.cpu ≡ l → l.cpu < a.shape.cpus → m < length a.shape.maps → SawAllTaken a l m → EachMayBeTaken (record { shape = a.shape; before = g.log; store = g.last; cpu = l.cpu }) (begun_in g.log g.lanes.fresh m) m
   lack_cause l m is inside in_map saw = (
     g.taker m,
     λ e few. ⊎_elim

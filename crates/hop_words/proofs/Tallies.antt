@@ -18,7 +18,7 @@ use Rattle.hop_words.specs.Sights.{sight, look, lock_taken, split_made, bit_clea
 use Rattle.hop_words.specs.Private.Step.{Noted, Next, Steps, Notes, NotesTaken}
 use Rattle.hop_words.specs.Kinds.{holding, cleared, noting, peeking, giving_old, Passed, StampSeen, StampSeenAgain, FindsByPeeks, LocksSegment, SaysDepth, KnowsBorn, Splits, unlocking}
 use Rattle.hop_words.specs.Locking.{lock_of, HasLock}
-use Rattle.hop_words.specs.Owning.{IsAnswered, ClaimsBit, GivesFresh, IsInHand, LooksAgain}
+use Rattle.hop_words.specs.Owning.{IsUpdateAnswered, ClaimsBit, GivesFresh, IsInHand, LooksAgain}
 use Rattle.hop_words.proofs.Shortages.{shown_noted}
 use Rattle.hop_words.proofs.Locks.{put_here, lock}
 use Rattle.hop_words.proofs.Stays.{next_as, stay}
@@ -103,7 +103,7 @@ claims a l m e at_e empty unlocked runs = noted_as a l (FreeBits m (e / 64)) (λ
     Told : ℕ → Known → Type 0
     Told n y = (bit_at n (e % 64) ≡ 1 → y ≡ holding l m e) × (bit_at n (e % 64) ≡ 0 → y ≡ l)
 
-pub gives_fresh : (a : About) (l : Known) (m e : ℕ) → HasElement a m e → IsInHand l m e → IsAnswered l m → Notes a l (FreeBits m (e / 64)) (λ n. bit_or n (2 ^ (e % 64))) (λ ws n l'. GivesFresh l m e n l')
+pub gives_fresh : (a : About) (l : Known) (m e : ℕ) → HasElement a m e → IsInHand l m e → IsUpdateAnswered l m → Notes a l (FreeBits m (e / 64)) (λ n. bit_or n (2 ^ (e % 64))) (λ ws n l'. GivesFresh l m e n l')
 gives_fresh a l m e at_e hand answered = gives a l m e at_e hand answered
 
 pub gives_old : (a : About) (l : Known) (m e : ℕ) (es : List ℕ) → a.count % 2 ≡ 0 → HasElement a m e → m < length l.limbo → Passed a l m e es → Notes a l (FreeBits m (e / 64)) (λ n. bit_or n (2 ^ (e % 64))) (λ ws n l'. l' ≡ sighted (giving_old l m es) (bit_set m e n))

@@ -21,7 +21,7 @@ use Rattle.hop_words.specs.Rule.{Rule, begun_in, Runs, Chained, times_limbo}
 use Rattle.bpf_shared.specs.Own.{turns_of, in_run}
 use Rattle.hop_words.specs.Shortage.{HasCause}
 use Rattle.hop_words.specs.Private.Step.{Next, Steps}
-use Rattle.hop_words.specs.Kinds.{run_count, Told, noting_next, ageing, cleared, limbo_set}
+use Rattle.hop_words.specs.Kinds.{run_count, AddsEvent, noting_next, ageing, cleared, limbo_set}
 use Rattle.hop_words.proofs.Shortages.{begun_event, causes_on, run_else, settled, shown_step}
 use Rattle.hop_words.proofs.Histories.{logged_event, runs_as_known, turns_own, turns_else, prefix_refl}
 use Rattle.hop_words.proofs.Goes.{limbo_put}
@@ -100,17 +100,17 @@ module _ (a : About) (l : Known) (w : Place → ℕ) (g : Ghost) (r : Rule a w g
           (λ p h. (h.0, subst (λ (k : ℕ). h.0 < k) (sym made) h.1, ap (λ (f : ℕ → Value). (f h.0).span) value ∙ h.2)) (settled g.holder) (λ c m x inb at_x h. inr h) r.shown;
     }
 
-    pub turn_next : Next a (put_at w (RunCount l.cpu) n) g l.cpu (Told a l e)
+    pub turn_next : Next a (put_at w (RunCount l.cpu) n) g l.cpu (AddsEvent a l e)
     turn_next = record {
       ghost = g2;
       rule = turn_rule;
       others = λ d ne. rw (ne_eqb d l.cpu ne) refl;
       longer = (entry l.cpu e ∷ [], refl);
       tally = refl;
-      says = subst (Told a l e) (sym (rw (eq-eqb l.cpu l.cpu refl) (ap (λ (z : Known). record z { seen = g.log ++ entry l.cpu e ∷ [] }) is))) (record { seen = saw a w g r l is inside e t may turn_rule.logged; after = refl });
+      says = subst (AddsEvent a l e) (sym (rw (eq-eqb l.cpu l.cpu refl) (ap (λ (z : Known). record z { seen = g.log ++ entry l.cpu e ∷ [] }) is))) (record { seen = saw a w g r l is inside e t may turn_rule.logged; after = refl });
     }
 
-pub count_begin : (a : About) (l : Known) → in_run (events_of l.cpu l.seen) ≡ false → run_count a l + 1 < 2 ^ 64 → Steps a l (RunCount l.cpu) (λ n. (n + 1) % 2 ^ 64) (λ ws n l'. Told a l Begin l')
+pub count_begin : (a : About) (l : Known) → in_run (events_of l.cpu l.seen) ≡ false → run_count a l + 1 < 2 ^ 64 → Steps a l (RunCount l.cpu) (λ n. (n + 1) % 2 ^ 64) (λ ws n l'. AddsEvent a l Begin l')
 count_begin a l idle room ws g sized r is inside fits =
     let w = mem a.shape ws in
     let c = own_count a l w g r is inside in
@@ -118,7 +118,7 @@ count_begin a l idle room ws g sized r is inside fits =
     (⊎_elim (λ (none : g.lanes.fresh l.cpu ≡ []). none) (λ (run : in_run (events_of l.cpu g.log) ≡ true). absurd (true≢false (sym run ∙ (ap in_run (sym (own a l w g r is inside)) ∙ idle)))) (r.shown.running l.cpu))
     ((w (RunCount l.cpu) + 1) % 2 ^ 64) (omega arith) refl refl refl refl
 
-pub count_end : (a : About) (l : Known) → l.fresh ≡ [] → in_run (events_of l.cpu l.seen) ≡ true → run_count a l + 1 < 2 ^ 64 → Steps a l (RunCount l.cpu) (λ n. (n + 1) % 2 ^ 64) (λ ws n l'. Told a l End l')
+pub count_end : (a : About) (l : Known) → l.fresh ≡ [] → in_run (events_of l.cpu l.seen) ≡ true → run_count a l + 1 < 2 ^ 64 → Steps a l (RunCount l.cpu) (λ n. (n + 1) % 2 ^ 64) (λ ws n l'. AddsEvent a l End l')
 count_end a l empty running room ws g sized r is inside fits =
     let w = mem a.shape ws in
     let c = own_count a l w g r is inside in

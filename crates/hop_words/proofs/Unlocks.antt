@@ -23,13 +23,13 @@ use Rattle.hop_words.specs.declared.known.Lock.{Lock}
 use Rattle.hop_words.specs.declared.known.Change.TheVariants.{Puts}
 use Rattle.hop_layout.specs.Layout.{mem, put_at, words_for, depth, first_depth, gained}
 use Rattle.hop_layout.specs.Words.{bytes_of_words}
-use Rattle.hop_words.specs.Content.{place_words}
+use Rattle.hop_words.specs.Content.{words_by_place}
 use Rattle.hop_words.specs.Ghost.{Holder, Free, Filling, Leaving, Within, lane, Era, Ghost, shape_at, HasElement, limbo_at, lock_home}
 use Rattle.hop_words.specs.Shortage.{done_in, is_update, HasHadValue, HasCause}
 use Rattle.hop_words.specs.Rule.{Rule, times_fresh, begun_in, Minded, put_key, changed, owed, Holds, numbered, Keyed, Owned, Linked}
 use Rattle.bpf_shared.specs.Own.{turns_of, in_run}
 use Rattle.hop_words.specs.Private.Step.{Next, Steps}
-use Rattle.hop_words.specs.Kinds.{AreElsewhere, AnswersAll, AnsweredAll, Replaces, Replaced, Answers, Answered, ShowsShortage, IsWritten, unlocking, with_gone, LooksUpLocked, LookedUp, found_span}
+use Rattle.hop_words.specs.Kinds.{AreElsewhere, AnswersAll, AnsweredAll, Replaces, Replaced, AnswersUnderLock, Answered, ShowsShortage, IsWritten, unlocking, with_gone, LooksUpLocked, LookedUp, found_span}
 use Rattle.hop_words.proofs.Small.{equal_keys, here_or, put2-same, put2-other, put_key-same, put_key-other}
 use Rattle.hop_words.proofs.Spelling.{value_spelled}
 use Rattle.hop_words.proofs.Histories.{logged_event, prefix_refl, done_in-append}
@@ -113,7 +113,7 @@ shortage_cause a w g r l k is inside in_map paid (Update m key bytes flags NoMem
 shortage_cause a w g r l k is inside in_map paid (Delete m key Busy) s = let d : gained (shape_at a m) + done_in m g.log ≡ gained (shape_at a k.map) + done_in k.map g.log = ap (λ (j : ℕ). gained (shape_at a j) + done_in j g.log) s.0 in let t = s.1 in omega arith
 shortage_cause a w g r l k is inside in_map paid e s = tt
 
-pub unlock_answer : (a : About) (l : Known) (k : Lock) (e : Event) → Answers a l k e → Steps a l (Stamp k.map k.segment) (λ _. k.stamp) (λ ws n l'. Answered a l k e l')
+pub unlock_answer : (a : About) (l : Known) (k : Lock) (e : Event) → AnswersUnderLock a l k e → Steps a l (Stamp k.map k.segment) (λ _. k.stamp) (λ ws n l'. Answered a l k e l')
 unlock_answer a l k e i ws g sized r is inside fits = record {
   ghost = unlocked a l2 k i.lock w g1 r1 is1 inside tt u.0 k.stamp;
   rule = u.1;
@@ -126,7 +126,7 @@ unlock_answer a l k e i ws g sized r is inside fits = record {
     w : Place → ℕ
     w = mem a.shape ws
 
-    h : Holds a g.depths (place_words w) (λ n t. w (Stamp n t)) g.eras g.linked g.holder l.cpu k
+    h : Holds a g.depths (words_by_place w) (λ n t. w (Stamp n t)) g.eras g.linked g.holder l.cpu k
     h = holds a l k i.lock w g r is
 
     may : Allowed g.last l.cpu e g.last
@@ -179,11 +179,11 @@ module _ (a : About) (l : Known) (k : Lock) (rest : List Lock) (e : Event) (i : 
   several_words = mem a.shape ws
 
   abbrev HoldsHere : Lock → Type 0
-  HoldsHere = Holds a g.depths (place_words (mem a.shape ws)) (λ n t. mem a.shape ws (Stamp n t)) g.eras g.linked g.holder l.cpu
+  HoldsHere = Holds a g.depths (words_by_place (mem a.shape ws)) (λ n t. mem a.shape ws (Stamp n t)) g.eras g.linked g.holder l.cpu
 
   several_may : Allowed g.last l.cpu e g.last
   several_may = i.allowed g.last g.linked g.number (shape_is a (mem a.shape ws) g r l is inside) inside
-      (shares_of a g.depths l.cpu (place_words (mem a.shape ws)) (λ n t. mem a.shape ws (Stamp n t)) g.eras g.linked g.holder (k ∷ rest) (holds a l k i.lock (mem a.shape ws) g r is, rest_holds a l k i.lock (mem a.shape ws) g r is) i.clean) r.keyed.leads
+      (shares_of a g.depths l.cpu (words_by_place (mem a.shape ws)) (λ n t. mem a.shape ws (Stamp n t)) g.eras g.linked g.holder (k ∷ rest) (holds a l k i.lock (mem a.shape ws) g r is, rest_holds a l k i.lock (mem a.shape ws) g r is) i.clean) r.keyed.leads
 
   abbrev several_log : List Entry
   several_log = g.log ++ entry l.cpu e ∷ []
@@ -229,7 +229,7 @@ unlock_lookup a l k key o i ws g sized r is inside fits = record {
     w : Place → ℕ
     w = mem a.shape ws
 
-    h : Holds a g.depths (place_words w) (λ n t. w (Stamp n t)) g.eras g.linked g.holder l.cpu k
+    h : Holds a g.depths (words_by_place w) (λ n t. w (Stamp n t)) g.eras g.linked g.holder l.cpu k
     h = holds a l k i.lock w g r is
 
     event : Event
@@ -274,7 +274,7 @@ module _ (a : About) (l : Known) (k : Lock) (f : Fresh) (rest : List Fresh) (key
   abbrev e : ℕ
   e = f.element
 
-  h : Holds a g.depths (place_words w) (λ n t. w (Stamp n t)) g.eras g.linked g.holder l.cpu k
+  h : Holds a g.depths (words_by_place w) (λ n t. w (Stamp n t)) g.eras g.linked g.holder l.cpu k
   h = holds a l k i.filled.lock w g r is
 
   there : g.linked m key ≡ Some o

@@ -8,7 +8,7 @@ use Rattle.hop_words.specs.declared.known.Known.{Known}
 use Rattle.hop_words.specs.declared.known.Fresh.{Fresh}
 use Rattle.hop_words.specs.declared.known.Lock.{Lock}
 use Rattle.hop_layout.specs.Layout.{mem, at, is_place, put_at, power}
-use Rattle.hop_words.specs.Content.{place_words, one_if, times, Agrees, AgreesFront}
+use Rattle.hop_words.specs.Content.{words_by_place, one_if, times, AgreesInSegment, AgreesFront}
 use Rattle.hop_words.specs.Ghost.{Filling, Leaving, Within, lane, Era, Ghost, HasElement, limbo_at, lock_home}
 use Rattle.hop_words.specs.Rule.{Rule, Segment, Minded, Holds, image, Runs, Keyed, Batched, Chained, times_limbo, Owned, Filled, Valued, times_lock}
 use Rattle.hop_words.specs.Private.Step.{Next, Steps}
@@ -66,16 +66,16 @@ module _ (a : About) (l : Known) (k : Lock) (held : l.locks ≡ k ∷ []) (p : P
   abbrev pub g' : Ghost
   g' = record g { lanes = record g.lanes { locks = put g.lanes.locks l.cpu (k' ∷ []) }; eras = put g.eras k.map (put (g.eras k.map) k.segment era') }
 
-  h : Holds a g.depths (place_words w) (stamps w) g.eras g.linked g.holder l.cpu k
+  h : Holds a g.depths (words_by_place w) (stamps w) g.eras g.linked g.holder l.cpu k
   h = holds a l k held w g r is
 
   now_era : g'.eras k.map k.segment ≡ era'
   now_era = put2-same g.eras k.map k.segment k.map k.segment era' refl refl
 
-  copy_is : image a (slice_set k.copy (at a.shape p) n) ≡ place_words (put_at (mem a.shape k.copy) p n)
-  copy_is = ap place_words (wrote a.shape k.copy p n h.sized there)
+  copy_is : image a (slice_set k.copy (at a.shape p) n) ≡ words_by_place (put_at (mem a.shape k.copy) p n)
+  copy_is = ap words_by_place (wrote a.shape k.copy p n h.sized there)
 
-  own_lock : stamps w' k.map k.segment ≡ stamps w k.map k.segment → Holds a g.depths (place_words w') (stamps w') g'.eras g.linked g.holder l.cpu k'
+  own_lock : stamps w' k.map k.segment ≡ stamps w k.map k.segment → Holds a g.depths (words_by_place w') (stamps w') g'.eras g.linked g.holder l.cpu k'
   own_lock same = record {
     inside = h.inside;
     deep = h.deep;
@@ -86,14 +86,14 @@ module _ (a : About) (l : Known) (k : Lock) (held : l.locks ≡ k ∷ []) (p : P
     credit = ap (λ (y : Era). y.credit) now_era ∙ h.credit;
     untouched = λ d. absurd (true≢false d);
     sized = length-set k.copy (at a.shape p) n ∙ h.sized;
-    copied = subst (Agrees k.map k.segment (λ e. Minded (lock_home a k) l.cpu k.segment (g.holder k.map e)) (place_words w')) (sym copy_is) (record {
+    copied = subst (AgreesInSegment k.map k.segment (λ e. Minded (lock_home a k) l.cpu k.segment (g.holder k.map e)) (words_by_place w')) (sym copy_is) (record {
       head = put_alike w (mem a.shape k.copy) p (Head k.map k.segment) n h.copied.head;
       hop = λ b. put_alike w (mem a.shape k.copy) p (Hop k.map k.segment b) n (h.copied.hop b);
       slot = λ b. put_alike w (mem a.shape k.copy) p (Slot k.map k.segment b) n (h.copied.slot b);
       link = λ e on. put_alike w (mem a.shape k.copy) p (Link k.map e) n (h.copied.link e on);
       key = λ e j on. put_alike w (mem a.shape k.copy) p (KeyWord k.map e j) n (h.copied.key e j on);
     });
-    beside = subst (AgreesFront k.map (child k) (place_words w')) (sym copy_is) (record {
+    beside = subst (AgreesFront k.map (child k) (words_by_place w')) (sym copy_is) (record {
       head = put_alike w (mem a.shape k.copy) p (Head k.map (child k)) n h.beside.head;
       hop = λ b. put_alike w (mem a.shape k.copy) p (Hop k.map (child k) b) n (h.beside.hop b);
       slot = λ b. put_alike w (mem a.shape k.copy) p (Slot k.map (child k) b) n (h.beside.slot b);
@@ -103,7 +103,7 @@ module _ (a : About) (l : Known) (k : Lock) (held : l.locks ≡ k ∷ []) (p : P
   }
 
   -- after a write of a word that nobody else minds
-  pub write_next : Alone w w' → stamps w' k.map k.segment ≡ stamps w k.map k.segment → Elsewhere a g.depths k.map k.segment l.cpu (place_words w) (place_words w') (stamps w) (stamps w') g.eras g'.eras g.linked g.linked g.holder g.holder
+  pub write_next : Alone w w' → stamps w' k.map k.segment ≡ stamps w k.map k.segment → Elsewhere a g.depths k.map k.segment l.cpu (words_by_place w) (words_by_place w') (stamps w) (stamps w') g.eras g'.eras g.linked g.linked g.holder g.holder
       → Batched a (λ m e. w' (Link m e)) (run_counts w) g.lanes.limbo g.last.held g.number → l.cpu < a.shape.cpus → Next a w' g l.cpu (λ l'. l' ≡ writing a l k p n)
   write_next same own_stamp apart links inside = record {
     ghost = g';
@@ -121,14 +121,14 @@ module _ (a : About) (l : Known) (k : Lock) (held : l.locks ≡ k ∷ []) (p : P
       owned = subst (λ x. Owned a x g.lanes.fresh g.lanes.limbo g.holder) (sym same.free_same) r.owned;
       linked = r.linked;
       filled = subst (λ x. Filled a x (value_words w') g.lanes.fresh) (sym same.keys_same) (subst (λ x. Filled a (key_words w) x g.lanes.fresh) (sym same.values_same) r.filled);
-      segments = segments_step a g.depths k.map k.segment l.cpu (place_words w) (place_words w') (stamps w) (stamps w') g.eras g'.eras g.linked g.linked g.holder g.holder apart r.deep.sound h.inside r.segments r.linked
-          (subst (λ (i : ℕ). Segment a g.depths (place_words w') i (g'.eras k.map k.segment) k.map k.segment (g.linked k.map)) (sym own_stamp) (subst (λ (y : Era). Segment a g.depths (place_words w') (w (Stamp k.map k.segment)) y k.map k.segment (g.linked k.map)) (sym now_era) (record {
+      segments = segments_step a g.depths k.map k.segment l.cpu (words_by_place w) (words_by_place w') (stamps w) (stamps w') g.eras g'.eras g.linked g.linked g.holder g.holder apart r.deep.sound h.inside r.segments r.linked
+          (subst (λ (i : ℕ). Segment a g.depths (words_by_place w') i (g'.eras k.map k.segment) k.map k.segment (g.linked k.map)) (sym own_stamp) (subst (λ (y : Era). Segment a g.depths (words_by_place w') (w (Stamp k.map k.segment)) y k.map k.segment (g.linked k.map)) (sym now_era) (record {
             at_rest = λ even. absurd (let o = is_odd a l k held w g r is in omega arith);
             clean = λ d. absurd (true≢false d);
             written = λ d. refl;
             shows = λ d. absurd (true≢false d);
           })));
-      locking = locking_step a g.depths k.map k.segment l.cpu (place_words w) (place_words w') (stamps w) (stamps w') g.eras g'.eras g.linked g.linked g.holder g.holder apart r.deep.sound h.inside g.lanes.locks (k' ∷ []) r.locking (alone a l k held w g r is) (own_lock own_stamp, tt);
+      locking = locking_step a g.depths k.map k.segment l.cpu (words_by_place w) (words_by_place w') (stamps w) (stamps w') g.eras g'.eras g.linked g.linked g.holder g.holder apart r.deep.sound h.inside g.lanes.locks (k' ∷ []) r.locking (alone a l k held w g r is) (own_lock own_stamp, tt);
       held = held_step a g.depths k.map k.segment l.cpu (stamps w) (stamps w') g.eras g'.eras g.lanes.locks (k' ∷ []) inside r.held (λ odd. (ap (λ (y : Era). y.writer) now_era, (let z = lock_once k' in omega arith)))
           (λ n t b ne. (apart.stamps n t (off_born a g.depths k.map k.segment n t r.deep.sound h.inside b ne), put2-other g.eras k.map k.segment n t era' ne, ap (times_lock n t) (sym (ap (λ (z : Known). z.locks) is ∙ held))));
       reading = readings_step a g.depths k.map k.segment g.eras g'.eras g.lanes.readings (record {
@@ -252,7 +252,7 @@ write_link a l k e n held there may ws g sized r is inside fits = write_next a l
     at_e : HasElement a k.map e
     at_e = ((holds a l k held w g r is).inside.0, may.0)
 
-    h : Holds a g.depths (place_words w) (stamps w) g.eras g.linked g.holder l.cpu k
+    h : Holds a g.depths (words_by_place w) (stamps w) g.eras g.linked g.holder l.cpu k
     h = holds a l k held w g r is
 
     Mine : Type 0

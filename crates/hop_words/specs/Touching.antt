@@ -4,20 +4,20 @@ use Rattle.bpf_shared.specs.Access.{bytes_in}
 use Rattle.hop_layout.specs.declared.about.About.{About}
 use Rattle.hop_words.specs.declared.known.Known.{Known}
 use Rattle.hop_words.specs.declared.touching.ValuePart.{ValuePart}
-use Rattle.hop_words.specs.Kinds.{Touches, value_at, found_in}
+use Rattle.hop_words.specs.Kinds.{TouchesHeldValue, value_address, number_in_word}
 
 -- the CPU holds the value that the bytes are of
 abbrev pub TouchesPart : About → Known → ValuePart → Type 0
-TouchesPart a l p = Touches a l p.map p.element p.word p.offset (bytes_in p.size)
+TouchesPart a l p = TouchesHeldValue a l p.map p.element p.word p.offset (bytes_in p.size)
 
 -- they are a whole word
 abbrev pub TouchesWord : About → Known → ValuePart → Type 0
-TouchesWord a l p = Touches a l p.map p.element p.word p.offset 8
+TouchesWord a l p = TouchesHeldValue a l p.map p.element p.word p.offset 8
 
 -- the address of the first byte
 abbrev pub part_address : About → ValuePart → ℕ
-part_address a p = value_at a p.map p.element p.word p.offset
+part_address a p = value_address a p.map p.element p.word p.offset
 
 -- the number that the bytes read as, where the word is this one
 abbrev pub found_part : ValuePart → ℕ → ℕ
-found_part p n = found_in n p.offset (bytes_in p.size)
+found_part p n = number_in_word n p.offset (bytes_in p.size)

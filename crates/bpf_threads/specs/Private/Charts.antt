@@ -6,17 +6,17 @@ use Rattle.bpf_cpu.specs.Task.{waiting}
 use Rattle.bpf_threads.specs.declared.chart.Drawn.{Drawn}
 use Rattle.bpf_threads.specs.declared.spot.Spot.{Spot}
 use Rattle.bpf_threads.specs.declared.counting.Counted.{Counted}
-use Rattle.bpf_threads.specs.Chart.{IsChart, IsFirst, IsSpot}
+use Rattle.bpf_threads.specs.Chart.{IsChart, IsFirstSpot, IsCharted}
 use Rattle.bpf_threads.specs.Counting.{AddUp, HasAtMost}
 use Rattle.bpf_threads.specs.Outside.{AllReadOutside}
 
 -- the spot of this number is one, if there is one
 abbrev pub IsSpotFrom : Loaded → List Spot → ℕ → Type 0
-IsSpotFrom program spots i = (p : Spot) → slice_get spots i ≡ Some p → IsSpot program spots p
+IsSpotFrom program spots i = (p : Spot) → slice_get spots i ≡ Some p → IsCharted program spots p
 
 -- runs begin at the first of them
 abbrev pub Begin : List Spot → Type 0
-Begin spots = (p : Spot) × (slice_get spots 0 ≡ Some p) × IsFirst p
+Begin spots = (p : Spot) × (slice_get spots 0 ≡ Some p) × IsFirstSpot p
 
 -- what was drawn of a program is a chart of it, where it says so
 abbrev pub IsChartOf : Loaded → Drawn → Type 0

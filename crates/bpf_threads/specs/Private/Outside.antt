@@ -9,11 +9,11 @@ use Rattle.bpf_loader.specs.Places.{Begins}
 use Rattle.bpf_helpers.specs.Calls.{update_number, processor_number}
 use Rattle.bpf_threads.specs.declared.spot.Spot.{Spot}
 use Rattle.bpf_threads.specs.Chart.{Knows}
-use Rattle.bpf_threads.specs.Outside.{IsOutside}
+use Rattle.bpf_threads.specs.Outside.{IsOutsideValues}
 
 -- the register is known to hold an address from which n bytes do
 abbrev pub LiesOutside : Spot → Reg → ℕ → Type 0
-LiesOutside p r size = (a : ℕ) × Knows p r a × IsOutside a size
+LiesOutside p r size = (a : ℕ) × Knows p r a × IsOutsideValues a size
 
 -- the key and the value of a call do
 abbrev pub ReadsOutsideAt : Spot → Insn → Type 0

@@ -5,7 +5,7 @@ use Rattle.bpf_shared.specs.History.{events_of}
 use Rattle.hop_layout.specs.declared.about.About.{About}
 use Rattle.hop_words.specs.declared.known.Known.{Known}
 use Rattle.hop_words.specs.Ghost.{shape_at, HasElement}
-use Rattle.hop_words.specs.Kinds.{spans_of, IsAmong}
+use Rattle.hop_words.specs.Kinds.{spans_of, IsAmongSpans}
 use Rattle.bpf_shared.specs.Own.{in_run}
 
 -- the n bytes from the address p on are in an element's value, and p is a multiple of n
@@ -19,6 +19,6 @@ pub record IsValuePlace (a : About) (p n : ℕ) : Type 0 where
 -- and the CPU holds that value
 pub record IsHeldAt (a : About) (l : Known) (p n : ℕ) : Type 0 where
   pub place : IsValuePlace a p n
-  pub held : IsAmong (element_span place.map (shape_at a place.map) place.element)
+  pub held : IsAmongSpans (element_span place.map (shape_at a place.map) place.element)
       (spans_of [] (events_of l.cpu l.seen))
   pub runs : in_run (events_of l.cpu l.seen) ≡ true
