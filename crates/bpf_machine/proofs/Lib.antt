@@ -24,6 +24,7 @@ pub mod PatientLaws
 pub mod PatientRaceLaws
 pub mod EndLaws
 pub mod SpareLaws
+pub mod RefillLaws
 pub mod HostLaws
 pub mod StandLaws
 mod FillLaws
