@@ -17,6 +17,7 @@ pub mod TellLaws
 pub mod EachLaws
 pub mod RichLaws
 pub mod EdgeLaws
+pub mod RefilledLaws
 pub mod TurnedLaws
 pub mod MarkLaws
 pub mod HungLaws

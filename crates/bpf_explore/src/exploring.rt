@@ -78,7 +78,8 @@ pub struct ExploredPatiently {
     pub all: bool,
     /// Whether the search ended because memory ran out.
     pub refused: bool,
-    /// How many states were kept, no two of them the same.
+    /// How many states were kept, no two of them the same where each job in hand has its whole budget
+    /// left.
     pub states: usize,
     /// States from which no end can be reached, each but for those that it leads to.
     pub hung: Vec<Hung>,
@@ -122,6 +123,7 @@ fn find_budgets(
     requires turns { whole ≡ true → AreTurns explorer.old.kept turns.now }
     requires out { fit ≡ false → CanRunOut explorer.old.kept }
     ensures same { explorer.new.kept ≡ explorer.old.kept }
+    ensures unfit { IfOk result (λ b. fit ≡ false → b ≡ Budgets.RunOut) }
     ensures suffice { IfOk result (λ b. b ≡ Budgets.Suffice → NoneRunsOut explorer.old.kept) }
     ensures out { IfOk result (λ b. b ≡ Budgets.RunOut → CanRunOut explorer.old.kept) }
 {
@@ -137,7 +139,8 @@ fn find_budgets(
 
 /// Searches for outcomes in which no job is out of budget: machines that differ only in how many
 /// steps are left of budgets count as one. The outcomes aren't all where more than `limit` are
-/// kept, where memory is refused to the search, or where a schedule that was found uses a budget up.
+/// kept, where memory is refused to the search, or where a schedule that was found uses a budget up,
+/// which is reported then.
 /// Besides, states from which no end can
 /// be reached, however many steps jobs are given, and whether some schedule uses a budget up. Want of
 /// memory before or after the search is the only refusal.
@@ -162,6 +165,7 @@ pub fn search_patiently<O: Observer>(
     let whole = extent.is_whole();
     explorer.leads();
     explorer.apart();
+    explorer.refilled();
     let turns = explorer.take_turns();
     let (answers, told) = gather_patiently(alloc, &mut explorer, names, maps)?;
     let (hung, fit) = find_hung(alloc, &mut explorer, &turns, whole)?;

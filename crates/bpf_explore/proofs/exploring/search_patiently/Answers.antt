@@ -99,11 +99,9 @@ returns g c =
     c.is_whole-whole.ensures c.is_refused.ensures c.explore-extent.ensures.covers c.explore-extent.ensures.met c.explore-extent.ensures.short
     (subst (λ (ms : List MachineState). (u : World) → IsFirst ms u → ArePatient u names c.args.maps answers) taken c.in_ok-answers.ensures.outcomes)
     (λ is. subst (λ (ms : List MachineState). (i : ℕ) → IsAnsweredAt ms names c.args.maps answers i) taken (c.in_ok-answers.ensures.answered is))
-    (λ is. subst CanRunOut taken (c.in_ok-answers.ensures.out is))
     (subst (λ (ms : List MachineState). AllHang ms hung) gathered c.in_ok-hung.ensures.hung)
     (λ is fits. subst (λ (ms : List MachineState). AllLeadOrBeyond ms hung) gathered (c.in_ok-hung.ensures.ends is fits))
-    (λ is. subst CanRunOut gathered (c.in_ok-hung.ensures.out is))
-    c.both-all_fit.ensures.both c.both-all_fit.ensures.not c.both-all.ensures.both c.both-all.ensures.not
+    c.both-all_fit.ensures.both c.both-all.ensures.both c.both-all.ensures.not c.in_ok-budgets.ensures.unfit
     (λ is. subst NoneRunsOut found (c.in_ok-budgets.ensures.suffice is))
     (λ is. subst CanRunOut found (c.in_ok-budgets.ensures.out is))
-    c.leads.ensures c.apart.ensures)
+    c.leads.ensures c.apart.ensures c.refilled.ensures)
