@@ -153,16 +153,26 @@ fn push_access(
     push_hint(text, seen, maps, access.base, address, access.length)
 }
 
-/// The key or the value that a helper can't reach, of this many bytes.
+/// An argument of a helper that points to bytes.
+#[derive(Clone, Copy)]
+struct Argument<'a> {
+    /// What the bytes are, a key or a value.
+    what: &'a str,
+    /// The register that has their address.
+    base: Reg,
+    /// How many they are.
+    length: u64,
+}
+
+/// The key or the value of a map that a helper can't reach.
 fn push_argument(
     text: &mut String,
     seen: &Seen,
     maps: &Maps<'_>,
-    what: &str,
     map: usize,
-    base: Reg,
-    length: u64,
+    argument: Argument,
 ) -> Result<(), AllocError> {
+    let Argument { what, base, length } = argument;
     let address = register(seen, base);
     write!(text, "  at fault: the {what} for {}, ", maps.name(map))?;
     push_count(text, length)?;
@@ -179,11 +189,20 @@ fn push_helper(text: &mut String, seen: &Seen, maps: &Maps<'_>) -> Result<(), Al
     let Some(shape) = maps.shapes.get(map) else {
         return Ok(());
     };
-    if is_reached(seen, register(seen, Reg::R2), shape.key) {
-        push_argument(text, seen, maps, "value", map, Reg::R3, shape.value)
+    let argument = if is_reached(seen, register(seen, Reg::R2), shape.key) {
+        Argument {
+            what: "value",
+            base: Reg::R3,
+            length: shape.value,
+        }
     } else {
-        push_argument(text, seen, maps, "key", map, Reg::R2, shape.key)
-    }
+        Argument {
+            what: "key",
+            base: Reg::R2,
+            length: shape.key,
+        }
+    };
+    push_argument(text, seen, maps, map, argument)
 }
 
 /// F1.
