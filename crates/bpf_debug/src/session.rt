@@ -89,17 +89,14 @@ fn are_cpus(runs: &[(u8, u64)], cpus: u8) -> bool
 }
 
 /// Room for this many lines and some more.
-fn make_room(alloc: Global, lines: usize) -> Option<String>
-    ensures empty { IfSome result (λ s. string_bytes s ≡ []) }
-    ensures size { IfSome result (λ s. string_len s ≡ 0) }
-    ensures room { IfSome result (λ s. 128 * lines + 1024 ≤ string_capacity s) }
+fn make_room(alloc: Global, lines: usize) -> Result<String, AllocError>
+    ensures empty { IfOk result (λ s. string_bytes s ≡ []) }
+    ensures size { IfOk result (λ s. string_len s ≡ 0) }
+    ensures room { IfOk result (λ s. 128 * lines + 1024 ≤ string_capacity s) }
 {
-    let bytes = lines.checked_mul(LINE)?;
-    let bytes = bytes.checked_add(1024)?;
-    match String::with_capacity(alloc, bytes) {
-        Ok(room) => Some(room),
-        Err(_) => None,
-    }
+    let bytes = lines.checked_mul(LINE).ok_or(AllocError)?;
+    let bytes = bytes.checked_add(1024).ok_or(AllocError)?;
+    String::with_capacity(alloc, bytes)
 }
 
 /// The number after a CPU's.
@@ -194,12 +191,8 @@ impl Session {
         ensures refused { IfErr result (λ e. e ≡ DebugError.OutOfMemory) }
         ensures unchanged { OnErr result (self.new ≡ self.old) }
     {
-        let Some(mut out) = make_room(alloc, 2) else {
-            return Err(DebugError::OutOfMemory);
-        };
-        if !self.course.reserve(1) {
-            return Err(DebugError::OutOfMemory);
-        }
+        let mut out = make_room(alloc, 2)?;
+        self.course.reserve(1)?;
         take_turn(&mut self.machine, cpu, &mut out);
         self.course.add(cpu);
         Ok(out)
@@ -224,12 +217,8 @@ impl Session {
         ensures refused { IfErr result (λ e. e ≡ DebugError.OutOfMemory) }
         ensures unchanged { OnErr result (self.new ≡ self.old) }
     {
-        let Some(mut out) = make_room(alloc, self.machine.jobs()) else {
-            return Err(DebugError::OutOfMemory);
-        };
-        if !self.course.reserve(2) {
-            return Err(DebugError::OutOfMemory);
-        }
+        let mut out = make_room(alloc, self.machine.jobs())?;
+        self.course.reserve(2)?;
         take_turns(&mut self.machine, cpu, count, &mut out);
         self.course.add_times(cpu, count);
         Ok(out)
@@ -268,12 +257,8 @@ impl Session {
         ensures refused { IfErr result (λ e. e ≡ DebugError.OutOfMemory) }
         ensures unchanged { OnErr result (self.new ≡ self.old) }
     {
-        let Some(mut out) = make_room(alloc, self.machine.jobs()) else {
-            return Err(DebugError::OutOfMemory);
-        };
-        if !self.course.reserve(runs.len().saturating_mul(2)) {
-            return Err(DebugError::OutOfMemory);
-        }
+        let mut out = make_room(alloc, self.machine.jobs())?;
+        self.course.reserve(runs.len().saturating_mul(2))?;
         take_runs(&mut self.machine, runs, &mut out);
         self.course.add_runs(runs);
         Ok(out)
@@ -299,15 +284,9 @@ impl Session {
         ensures refused { IfErr result (λ e. RefusesHere self.old Order.Go e) }
         ensures unchanged { OnErr result (self.new ≡ self.old) }
     {
-        let Some(mut out) = make_room(alloc, self.machine.jobs()) else {
-            return Err(DebugError::OutOfMemory);
-        };
-        if !self.course.reserve(usize::MAX) {
-            return Err(DebugError::OutOfMemory);
-        }
-        let Ok(before) = watched_value(alloc, self.machine.store(), &self.watch) else {
-            return Err(DebugError::OutOfMemory);
-        };
+        let mut out = make_room(alloc, self.machine.jobs())?;
+        self.course.reserve(usize::MAX)?;
+        let before = watched_value(alloc, self.machine.store(), &self.watch)?;
         let cpus = self.machine.cpus();
         going::go(
             &mut self.machine,
@@ -331,15 +310,9 @@ impl Session {
         ensures refused { IfErr result (λ e. e ≡ DebugError.OutOfMemory) }
         ensures unchanged { OnErr result (self.new ≡ self.old) }
     {
-        let Some(mut out) = make_room(alloc, self.machine.jobs()) else {
-            return Err(DebugError::OutOfMemory);
-        };
-        if !self.course.reserve(usize::MAX) {
-            return Err(DebugError::OutOfMemory);
-        }
-        let Ok(before) = watched_value(alloc, self.machine.store(), &self.watch) else {
-            return Err(DebugError::OutOfMemory);
-        };
+        let mut out = make_room(alloc, self.machine.jobs())?;
+        self.course.reserve(usize::MAX)?;
+        let before = watched_value(alloc, self.machine.store(), &self.watch)?;
         let place = [Breakpoint { cpu, pc }];
         let next = next_cpu(&self.machine, cpu);
         going::go(
@@ -398,17 +371,13 @@ impl Session {
         ensures refused { IfErr result (λ e. e ≡ DebugError.OutOfMemory) }
         ensures unchanged { OnErr result (self.new ≡ self.old) }
     {
-        let Some(mut out) = make_room(alloc, 1) else {
-            return Err(DebugError::OutOfMemory);
-        };
+        let mut out = make_room(alloc, 1)?;
         put_break(&mut out, cpu, pc);
         if has_break(&self.breakpoints, cpu, pc) {
             return Ok(out);
         }
-        match self.breakpoints.push(Breakpoint { cpu, pc }) {
-            Ok(()) => Ok(out),
-            Err(_) => Err(DebugError::OutOfMemory),
-        }
+        self.breakpoints.push(Breakpoint { cpu, pc })?;
+        Ok(out)
     }
 
     fn break_at(&mut self, alloc: Global, cpu: u8, pc: Option<u32>) -> Result<String, DebugError>
@@ -454,9 +423,7 @@ impl Session {
         ensures refused { IfErr result (λ e. e ≡ DebugError.OutOfMemory) }
         ensures unchanged { OnErr result (self.new ≡ self.old) }
     {
-        let Some(mut out) = make_room(alloc, 1) else {
-            return Err(DebugError::OutOfMemory);
-        };
+        let mut out = make_room(alloc, 1)?;
         put_deleted(&mut out, cpu, pc);
         remove_break(&mut self.breakpoints, cpu, pc);
         Ok(out)
@@ -560,11 +527,10 @@ impl Session {
         ensures refused { IfErr result (λ e. RefusesLine self.old (map (λ f. f.now) fields.now) e) }
         ensures unchanged { OnErr result (self.new ≡ self.old) }
     {
-        match schedule_in(alloc, words) {
-            Ok(Some(runs)) => self.steps(alloc, &runs),
-            Ok(None) => Err(DebugError::BadCommand),
-            Err(_) => Err(DebugError::OutOfMemory),
-        }
+        let Some(runs) = schedule_in(alloc, words)? else {
+            return Err(DebugError::BadCommand);
+        };
+        self.steps(alloc, &runs)
     }
 
     fn obey(&mut self, alloc: Global, fields: &[&[u8]]) -> Result<String, DebugError>
@@ -602,9 +568,7 @@ impl Session {
         ensures refused { IfErr result (λ e. RefusesLine self.old (fields_of line.now) e) }
         ensures unchanged { OnErr result (self.new ≡ self.old) }
     {
-        match lines::fields(alloc, line) {
-            Ok(fields) => self.obey(alloc, &fields),
-            Err(_) => Err(DebugError::OutOfMemory),
-        }
+        let fields = lines::fields(alloc, line)?;
+        self.obey(alloc, &fields)
     }
 }
