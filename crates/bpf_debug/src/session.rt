@@ -19,7 +19,7 @@ use crate::breakpoint::{Breakpoint, has_break, remove_break};
 use crate::command::{Command, command_of};
 use crate::course::Course;
 use crate::error::DebugError;
-use crate::going;
+use crate::going::{self, Cpus, Watching};
 use crate::lines::{LINE, put_break, put_deleted, put_ended, put_where};
 use crate::origin::Origin;
 use crate::schedule::{is_schedule, schedule_in};
@@ -291,10 +291,11 @@ impl Session {
         going::go(
             &mut self.machine,
             &self.breakpoints,
-            &self.watch,
-            &before,
-            0,
-            cpus,
+            Watching {
+                watch: &self.watch,
+                before: &before,
+            },
+            Cpus { low: 0, high: cpus },
             &mut self.course,
             &mut out,
         );
@@ -318,10 +319,14 @@ impl Session {
         going::go(
             &mut self.machine,
             &place,
-            &self.watch,
-            &before,
-            cpu,
-            next,
+            Watching {
+                watch: &self.watch,
+                before: &before,
+            },
+            Cpus {
+                low: cpu,
+                high: next,
+            },
             &mut self.course,
             &mut out,
         );
