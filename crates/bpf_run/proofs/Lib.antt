@@ -19,3 +19,4 @@ mod Opened
 mod Talked
 mod Judged
 mod CheckedParts
+mod Replied

@@ -1,10 +1,12 @@
 -- What `debug` replies, put together.
-use Rattle.std.proofs.Common.{Ok, Err, Result, String, Global, ◌≡◌, ℕ, List, [], ◌∷◌, length, map, Bool, Option, Some, None, refl, sym, subst}
+use Rattle.std.proofs.Common.{Ok, Err, Result, String, Global, ◌≡◌, ◌⊎◌, inl, inr, ℕ, List, [], ◌∷◌, length, map, Bool, Option, Some, None, refl, sym, subst}
 use Rattle.std.specs.Prelude.{◌&&◌, Vec, is_err}
 use Rattle.std.specs.List.{list_any}
 use Rattle.bpf_cpu.specs.Task.{Task}
 use Rattle.bpf_machine.specs.Machine.{Shows}
 use Rattle.bpf_jobs.specs.Printed.{any_stopped}
+use Rattle.bpf_file.specs.declared.error.FileError.{FileError}
+use Rattle.bpf_file.specs.declared.error.FileError.TheVariants as file_error
 use Rattle.bpf_file.specs.declared.file.RunFile.{RunFile}
 use Rattle.bpf_file.specs.File.{file_of}
 use Rattle.bpf_file.specs.Reading.{IsRunFile}
@@ -12,8 +14,8 @@ use Rattle.bpf_debug.specs.Course.{IsKept}
 use Rattle.bpf_debug.specs.Session.{SessionState, Scene, IsShown}
 use Rattle.bpf_debug.specs.declared.error.DebugError.{DebugError}
 use Rattle.bpf_debug.specs.Script.{Answer, RunsScript, answer_of}
+use Rattle.bpf_run.specs.Refusals.{file_refusal}
 use Rattle.bpf_run.specs.Script.{AreShown, IsCut, IsDebugReply, IsScriptOfFile, any_refused, first_world_of, scene_of}
-use Rattle.bpf_run.specs.declared.refusal.Refusal.TheVariants as refusal
 use Rattle.bpf_run.specs.declared.reply.Reply.{Reply}
 use Rattle.bpf_run.specs.declared.reply.Reply.TheVariants as reply
 
@@ -21,7 +23,6 @@ use Rattle.bpf_run.specs.declared.reply.Reply.TheVariants as reply
 pub of_file : (echo strict : Bool) (input file : List ℕ) (commands : List (List ℕ)) (f : RunFile) (r : Reply) → IsCut input file commands → IsRunFile file (Ok (file_of f))
     → IsDebugReply echo strict f commands r → IsScriptOfFile echo strict input r
 of_file echo strict input file commands f (reply.Script answers lines stopped refused) cut said h = (file, commands, file_of f, h.0, cut, said, h.1, h.2, h.3, h.4)
-of_file echo strict input file commands f (reply.Refused refusal.OutOfMemory) cut said h = tt
 of_file echo strict input file commands f (reply.Refused r) cut said h = absurd h
 of_file echo strict input file commands f (reply.Ended outcome) cut said h = absurd h
 of_file echo strict input file commands f (reply.Text text) cut said h = absurd h
@@ -30,6 +31,13 @@ of_file echo strict input file commands f (reply.Counted text stopped stats) cut
 of_file echo strict input file commands f (reply.Outcomes text stopped all) cut said h = absurd h
 of_file echo strict input file commands f (reply.NoOutcome text all) cut said h = absurd h
 of_file echo strict input file commands f (reply.Several text refused unmet told) cut said h = absurd h
+
+-- that of a file that isn't read
+pub of_no_file : (echo strict : Bool) (input file : List ℕ) (commands : List (List ℕ)) (e : FileError) → IsCut input file commands → (e ≡ file_error.OutOfMemory) ⊎ IsRunFile file (Err e)
+    → IsScriptOfFile echo strict input (reply.Refused (file_refusal e))
+of_no_file echo strict input file commands (file_error.Refused line why) cut (inl lacks) = absurd (let wrong : ⊥ = cc in wrong)
+of_no_file echo strict input file commands (file_error.Refused line why) cut (inr said) = (file, commands, cut, said)
+of_no_file echo strict input file commands file_error.OutOfMemory cut h = tt
 
 -- refusals are those of the answers as they are read
 pub refused_alike : (answers : List (Result (String Global) DebugError)) → list_any is_err answers ≡ any_refused (map answer_of answers)

@@ -1,5 +1,5 @@
 -- What is printed of a reply, and the exit status. Our own choice.
-use Rattle.std.specs.Prelude.{◌≡◌, ℕ, ◌++◌, ◌⊎◌, List, [], ◌∷◌, Option, Bool, true, false, codes, map, option_map, string_bytes, take}
+use Rattle.std.specs.Prelude.{◌≡◌, ℕ, ◌++◌, ◌⊎◌, List, [], ◌∷◌, Option, Result, MatchResult, Bool, true, false, codes, map, option_map, string_bytes, take}
 use Rattle.std.specs.Io.KnownBytes.{Appends}
 use Rattle.bpf_explain.specs.Page.{definition_text, page_text}
 use Rattle.bpf_codes.specs.declared.code.Code.{Code}
@@ -13,11 +13,16 @@ use Rattle.bpf_cpu.specs.declared.outcome.Outcome.TheVariants as outcome
 use Rattle.bpf_cpu.specs.Lines.{outcome_text}
 use Rattle.bpf_lines.specs.Lines.{lines_behind}
 use Rattle.bpf_debug.specs.Script.{Answer, answer_of, answer_text}
+use Rattle.bpf_run.specs.declared.refusal.Refusal.{Refusal}
 use Rattle.bpf_run.specs.declared.reply.Reply.{Reply}
 use Rattle.bpf_run.specs.declared.reply.Reply.TheVariants as reply
 use Rattle.bpf_run.specs.declared.reply.Status.{Status}
 use Rattle.bpf_run.specs.declared.reply.Status.TheVariants as status
 use Rattle.bpf_run.specs.Diagnostic.{refusal_text}
+
+-- what is replied is of this kind; so is a refusal, as a reply
+abbrev pub Replies : (Reply → Type 0) → Result Reply Refusal → Type 0
+Replies Kind replied = MatchResult replied Kind (λ r. Kind (reply.Refused r))
 
 -- some texts, one after the other
 abbrev pub all_of : List (List ℕ) → List ℕ

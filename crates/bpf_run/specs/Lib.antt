@@ -1,4 +1,5 @@
 pub mod Answer
+pub mod Refusals
 pub mod Commands
 pub mod Running
 pub mod Exploring

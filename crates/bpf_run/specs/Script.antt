@@ -88,12 +88,11 @@ IsScriptOfFile echo strict input (reply.Refused (refusal.File line why)) =
     × IsRunFile file (Err (FileError.Refused line why))
 IsScriptOfFile echo strict input _ = ⊥
 
--- the same of a file that was read
+-- the same of a file that was read, but for refusals
 abbrev pub IsDebugReply : (echo strict : Bool) → RunFile → List (List ℕ) → Reply → Type 0
 IsDebugReply echo strict f commands (reply.Script answers lines stopped refused) =
     (y : Scene) × RunsScript (scene_of (file_of f)) commands (map answer_of answers.items) y
     × AreShown echo commands lines
     × (stopped ≡ any_stopped (length y.world.jobs) y.world.jobs)
     × (refused ≡ (strict && any_refused (map answer_of answers.items)))
-IsDebugReply echo strict f commands (reply.Refused refusal.OutOfMemory) = Unit {0}
 IsDebugReply echo strict f commands _ = ⊥

@@ -1,18 +1,22 @@
 //! `ebpf check`: whether a run file's outcomes are as its comments expect, whatever the order of the
 //! CPUs' turns.
 
-ghost use Rattle.std.specs.Prelude.{◌≡◌};
-ghost use Rattle.bpf_run.specs.Comments.{for_check};
+ghost use Rattle.std.specs.Prelude.{◌≡◌, IfErr, IfOk};
+ghost use Rattle.bpf_run.specs.Answer.{Replies};
+ghost use Rattle.bpf_run.specs.Comments.{IsExpectedIn, RefusesComments, for_check};
 ghost use Rattle.bpf_run.specs.Checking.{IsCheckedFile, is_told, is_unmet};
+ghost use Rattle.bpf_run.specs.Exploring.{AreFindingsBy};
+ghost use Rattle.bpf_run.specs.Threading.{AreThreadsOf};
 
 use crate::comments::{Reading, expected_in};
 use crate::exploring::findings_in;
 use crate::refusal::Refusal;
 use crate::reply::Reply;
 use crate::threading::{threads_in, with_notes};
-use bpf_check::{Conclusion, check_explored};
+use bpf_check::{Conclusion, Expectation, Findings, check_explored};
 use bpf_command::CheckOptions;
 use bpf_explore::Observer;
+use bpf_threads::Threads;
 use std::alloc::Global;
 
 pub(crate) fn is_unmet(conclusion: Conclusion) -> bool
@@ -38,36 +42,59 @@ pub(crate) fn reading_of(options: &CheckOptions) -> Reading
     }
 }
 
+/// What the tests of a text rest on.
+#[derive(Drop)]
+pub(crate) struct Grounds {
+    /// What its comments expect.
+    pub expected: Vec<Expectation>,
+    /// In which ways threads may reach more outcomes.
+    pub threads: Threads,
+    /// What a search through all schedules found.
+    pub findings: Findings,
+}
+
+/// What the tests of a text rest on, or why there are none.
+pub(crate) fn grounds_in<O: Observer>(
+    alloc: Global,
+    options: &CheckOptions,
+    text: &str,
+    observer: &mut O,
+) -> Result<Grounds, Refusal>
+    ensures expected { IfOk result (λ grounds.
+        IsExpectedIn (for_check options.now.search.patient options.now.lenient) text.now
+        grounds.expected.items) }
+    ensures threads { IfOk result (λ grounds. AreThreadsOf text.now grounds.threads) }
+    ensures findings { IfOk result (λ grounds.
+        AreFindingsBy options.now.search.patient options.now.search.limit text.now
+        grounds.findings) }
+    ensures refused { IfErr result
+        (RefusesComments (for_check options.now.search.patient options.now.lenient) text.now) }
+{
+    let expected = expected_in(alloc, reading_of(options), text)?;
+    let threads = threads_in(alloc, text)?;
+    let findings = findings_in(alloc, &options.search, text, observer)?;
+    Ok(Grounds {
+        expected,
+        threads,
+        findings,
+    })
+}
+
 /// `ebpf check`.
 pub fn check_file<O: Observer>(
     alloc: Global,
     options: &CheckOptions,
     text: &str,
     observer: &mut O,
-) -> Reply
-    ensures { IsCheckedFile options.now text.now result }
+) -> Result<Reply, Refusal>
+    ensures { Replies (IsCheckedFile options.now text.now) result }
 {
-    let expected = match expected_in(alloc, reading_of(options), text) {
-        Ok(expected) => expected,
-        Err(refusal) => return Reply::Refused(refusal),
-    };
-    let threads = match threads_in(alloc, text) {
-        Ok(threads) => threads,
-        Err(refusal) => return Reply::Refused(refusal),
-    };
-    let findings = match findings_in(alloc, &options.search, text, observer) {
-        Ok(findings) => findings,
-        Err(refusal) => return Reply::Refused(refusal),
-    };
-    let Ok(checked) = check_explored(alloc, &expected, &findings) else {
-        return Reply::Refused(Refusal::OutOfMemory);
-    };
-    match with_notes(alloc, "", threads, &checked.text) {
-        Ok(text) => Reply::Outcomes {
-            text,
-            stopped: is_unmet(checked.conclusion),
-            all: is_told(checked.conclusion),
-        },
-        Err(_) => Reply::Refused(Refusal::OutOfMemory),
-    }
+    let grounds = grounds_in(alloc, options, text, observer)?;
+    let checked = check_explored(alloc, &grounds.expected, &grounds.findings)?;
+    let text = with_notes(alloc, "", grounds.threads, &checked.text)?;
+    Ok(Reply::Outcomes {
+        text,
+        stopped: is_unmet(checked.conclusion),
+        all: is_told(checked.conclusion),
+    })
 }

@@ -52,9 +52,7 @@ pub(crate) fn expected_in(
     ensures refused { IfErr result (RefusesComments reading text.now) }
 {
     let file = file_in(alloc, text)?;
-    let Ok(subjects) = subjects_of(alloc, reading, file) else {
-        return Err(Refusal::OutOfMemory);
-    };
+    let subjects = subjects_of(alloc, reading, file)?;
     match expectations(alloc, &subjects, reading.lenient, text.as_bytes()) {
         Ok(found) => Ok(found),
         Err(Unexpected::At(number)) => Err(Refusal::Comment(number + 1)),

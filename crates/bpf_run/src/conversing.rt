@@ -82,10 +82,8 @@ fn read_named<R: Source>(alloc: Global, name: &str, source: &mut R) -> Result<Ve
         → IfSome (R.file source.old name.now) (λ input. MAX_INPUT < length input) }
     ensures unread { R.has_failed source.new ≡ is_failed_read result }
 {
-    match source.open(name) {
-        Ok(()) => read_whole(alloc, source),
-        Err(_) => Err(InputError::Unread),
-    }
+    source.open(name)?;
+    read_whole(alloc, source)
 }
 
 /// Prints a reply to a file.

@@ -6,6 +6,7 @@ ghost use Rattle.bpf_explore.specs.Outcomes.{IsExplored};
 ghost use Rattle.bpf_explore.specs.Patient.{IsSearchedPatiently};
 ghost use Rattle.bpf_file.specs.File.{file_of};
 ghost use Rattle.bpf_cpu.specs.Setup.{IsRunnable};
+ghost use Rattle.bpf_run.specs.Answer.{Replies};
 ghost use Rattle.bpf_run.specs.Exploring.{AreAnswersTo, AreFindingsBy, AreFoundBy, ArePatientAnswersTo, IsExploredFile, IsMissing, IsShownBy, IsShownFile, any_stopped_of, is_any_hung};
 ghost use Rattle.bpf_run.specs.Running.{RefusesFile};
 ghost use Rattle.bpf_run.specs.Script.{first_world_of};
@@ -66,10 +67,8 @@ fn explored_in<O: Observer>(
     ensures refused { IfErr result (RefusesFile text.now) }
 {
     let file = file_in(alloc, text)?;
-    match explore(alloc, file, limit as usize, observer) {
-        Ok(explored) => Ok(explored),
-        Err(_) => Err(Refusal::OutOfMemory),
-    }
+    let explored = explore(alloc, file, limit as usize, observer)?;
+    Ok(explored)
 }
 
 /// What a patient search finds.
@@ -84,10 +83,8 @@ fn patient_in<O: Observer>(
     ensures refused { IfErr result (RefusesFile text.now) }
 {
     let file = file_in(alloc, text)?;
-    match explore_patient(alloc, file, limit as usize, observer) {
-        Ok(explored) => Ok(explored),
-        Err(_) => Err(Refusal::OutOfMemory),
-    }
+    let explored = explore_patient(alloc, file, limit as usize, observer)?;
+    Ok(explored)
 }
 
 /// The outcomes of either search.
@@ -139,25 +136,22 @@ pub(crate) fn findings_in<O: Observer>(
 }
 
 /// `ebpf explore` of all outcomes.
-fn explore_all<O: Observer>(alloc: Global, limit: u64, text: &str, observer: &mut O) -> Reply
-    ensures { IsExploredFile false limit text.now result }
+fn explore_all<O: Observer>(
+    alloc: Global,
+    limit: u64,
+    text: &str,
+    observer: &mut O,
+) -> Result<Reply, Refusal>
+    ensures { Replies (IsExploredFile false limit text.now) result }
 {
-    let threads = match threads_in(alloc, text) {
-        Ok(threads) => threads,
-        Err(refusal) => return Reply::Refused(refusal),
-    };
-    let explored = match explored_in(alloc, limit, text, observer) {
-        Ok(explored) => explored,
-        Err(refusal) => return Reply::Refused(refusal),
-    };
-    match list_explored(alloc, &explored, threads) {
-        Ok(text) => Reply::Outcomes {
-            text,
-            stopped: is_any_stopped(&explored.answers),
-            all: explored.all,
-        },
-        Err(_) => Reply::Refused(Refusal::OutOfMemory),
-    }
+    let threads = threads_in(alloc, text)?;
+    let explored = explored_in(alloc, limit, text, observer)?;
+    let text = list_explored(alloc, &explored, threads)?;
+    Ok(Reply::Outcomes {
+        text,
+        stopped: is_any_stopped(&explored.answers),
+        all: explored.all,
+    })
 }
 
 /// Whether some state is hung.
@@ -176,23 +170,22 @@ fn is_stopped(explored: &ExploredPatiently) -> bool
 }
 
 /// `ebpf explore --patient`.
-fn explore_patiently<O: Observer>(alloc: Global, limit: u64, text: &str, observer: &mut O) -> Reply
-    ensures { IsExploredFile true limit text.now result }
+fn explore_patiently<O: Observer>(
+    alloc: Global,
+    limit: u64,
+    text: &str,
+    observer: &mut O,
+) -> Result<Reply, Refusal>
+    ensures { Replies (IsExploredFile true limit text.now) result }
 {
-    let threads = match threads_in(alloc, text) {
-        Ok(threads) => threads,
-        Err(refusal) => return Reply::Refused(refusal),
-    };
-    let explored = match patient_in(alloc, limit, text, observer) {
-        Ok(explored) => explored,
-        Err(refusal) => return Reply::Refused(refusal),
-    };
-    let stopped = is_stopped(&explored);
-    let all = explored.all;
-    match list_patient(alloc, &explored, threads) {
-        Ok(text) => Reply::Outcomes { text, stopped, all },
-        Err(_) => Reply::Refused(Refusal::OutOfMemory),
-    }
+    let threads = threads_in(alloc, text)?;
+    let explored = patient_in(alloc, limit, text, observer)?;
+    let text = list_patient(alloc, &explored, threads)?;
+    Ok(Reply::Outcomes {
+        text,
+        stopped: is_stopped(&explored),
+        all: explored.all,
+    })
 }
 
 /// `ebpf explore`.
@@ -201,8 +194,8 @@ pub fn explore_file<O: Observer>(
     options: SearchOptions,
     text: &str,
     observer: &mut O,
-) -> Reply
-    ensures { IsExploredFile options.patient options.limit text.now result }
+) -> Result<Reply, Refusal>
+    ensures { Replies (IsExploredFile options.patient options.limit text.now) result }
 {
     if options.patient {
         explore_patiently(alloc, options.limit, text, observer)
@@ -212,15 +205,16 @@ pub fn explore_file<O: Observer>(
 }
 
 /// That there is no outcome of this number, counted from 1.
-fn missing(alloc: Global, outcome: u64, explored: &Explored) -> Reply
-    ensures { IsMissing outcome (length explored.now.answers.items) explored.now.all result }
+fn missing(alloc: Global, outcome: u64, explored: &Explored) -> Result<Reply, AllocError>
+    ensures { IfOk result
+        (IsMissing outcome (length explored.now.answers.items) explored.now.all) }
 {
     let found = explored.answers.len();
-    let all = explored.all;
-    match format!(in alloc; "no outcome {outcome}: {found} were found\n") {
-        Ok(text) => Reply::NoOutcome { text, all },
-        Err(_) => Reply::Refused(Refusal::OutOfMemory),
-    }
+    let text = format!(in alloc; "no outcome {outcome}: {found} were found\n")?;
+    Ok(Reply::NoOutcome {
+        text,
+        all: explored.all,
+    })
 }
 
 /// A text, and after it how many outcomes a search found, which aren't all.
@@ -241,26 +235,25 @@ fn with_last(alloc: Global, text: String, explored: &Explored) -> Result<String,
 
 /// What happens by a schedule, and after it that there are more outcomes than a search found, if that
 /// may be.
-fn show_by(alloc: Global, by: &[(u8, u64)], explored: &Explored, text: &str) -> Reply
-    ensures { IsShownBy by.now explored.now.all (length explored.now.answers.items)
-        explored.now.states text.now result }
+fn show_by(
+    alloc: Global,
+    by: &[(u8, u64)],
+    explored: &Explored,
+    text: &str,
+) -> Result<Reply, Refusal>
+    ensures { Replies (IsShownBy by.now explored.now.all (length explored.now.answers.items)
+        explored.now.states text.now) result }
 {
-    let report = match history_by(alloc, by, false, true, text) {
-        Ok(report) => report,
-        Err(refusal) => return Reply::Refused(refusal),
-    };
-    let Report { text, stopped } = report;
+    let Report { text, stopped } = history_by(alloc, by, false, true, text)?;
     if explored.all {
-        return Reply::Jobs(text, stopped);
+        return Ok(Reply::Jobs(text, stopped));
     }
-    match with_last(alloc, text, explored) {
-        Ok(text) => Reply::Outcomes {
-            text,
-            stopped,
-            all: false,
-        },
-        Err(_) => Reply::Refused(Refusal::OutOfMemory),
-    }
+    let text = with_last(alloc, text, explored)?;
+    Ok(Reply::Outcomes {
+        text,
+        stopped,
+        all: false,
+    })
 }
 
 /// `ebpf explore --show`: all that happens on the way to the outcome of this number, counted from 1.
@@ -271,19 +264,16 @@ pub fn show_file<O: Observer>(
     outcome: u64,
     text: &str,
     observer: &mut O,
-) -> Reply
+) -> Result<Reply, Refusal>
     requires { 0 < outcome }
-    ensures { IsShownFile options.patient options.limit outcome text.now result }
+    ensures { Replies (IsShownFile options.patient options.limit outcome text.now) result }
 {
-    let explored = match found_in(alloc, options, text, observer) {
-        Ok(explored) => explored,
-        Err(refusal) => return Reply::Refused(refusal),
-    };
+    let explored = found_in(alloc, options, text, observer)?;
     if explored.refused {
-        return Reply::Refused(Refusal::OutOfMemory);
+        return Err(Refusal::OutOfMemory);
     }
-    match explored.answers.get(outcome as usize - 1) {
-        Some(answer) => show_by(alloc, answer.by(), &explored, text),
-        None => missing(alloc, outcome, &explored),
-    }
+    let Some(answer) = explored.answers.get(outcome as usize - 1) else {
+        return Ok(missing(alloc, outcome, &explored)?);
+    };
+    show_by(alloc, answer.by(), &explored, text)
 }

@@ -6,7 +6,8 @@ ghost use Rattle.bpf_run.specs.Input.{is_failed_read};
 
 use crate::stream::Source;
 use bpf_codes::{Code, Diagnostic};
-use std::alloc::Global;
+use std::alloc::{AllocError, Global};
+use std::io;
 
 /// The greatest number of bytes that are read as input.
 pub const MAX_INPUT: usize = 16_777_216;
@@ -38,6 +39,26 @@ impl InputError {
     }
 }
 
+impl From<io::Error> for InputError {
+    ghost use Rattle.bpf_run.specs.declared.input.InputError.TheVariants.{Unread};
+
+    ghost from_gives = { λ _ e. e ≡ Unread };
+
+    fn from(_error: io::Error) -> InputError {
+        InputError::Unread
+    }
+}
+
+impl From<AllocError> for InputError {
+    ghost use Rattle.bpf_run.specs.declared.input.InputError.TheVariants.{OutOfMemory};
+
+    ghost from_gives = { λ _ e. e ≡ OutOfMemory };
+
+    fn from(_error: AllocError) -> InputError {
+        InputError::OutOfMemory
+    }
+}
+
 /// One read, whose bytes go after `input`.
 fn read_more<R: Source>(
     source: &mut R,
@@ -57,10 +78,8 @@ fn read_more<R: Source>(
     ensures unread { R.has_failed source.new ≡ is_failed_read result }
     ensures reads { R.reads source.new ≤ R.reads source.old + 1 }
 {
-    let count = source.read(room).map_err(|_| InputError::Unread)?;
-    input
-        .extend_from_slice(&room[..count])
-        .map_err(|_| InputError::OutOfMemory)?;
+    let count = source.read(room)?;
+    input.extend_from_slice(&room[..count])?;
     Ok(count)
 }
 

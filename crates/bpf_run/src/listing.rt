@@ -1,30 +1,26 @@
 //! Words as text, a line each.
 
-ghost use Rattle.std.specs.Prelude.{◌≡◌, ◌<◌, ◌++◌, ◌∷◌, ◌/◌, [], All, IfOk, IsOkUnless, OnOk, length, string_bytes};
+ghost use Rattle.std.specs.Prelude.{◌≡◌, ◌<◌, ◌++◌, ◌∷◌, ◌/◌, [], All, IfOk, OnOk, length, string_bytes};
 ghost use Rattle.hex.specs.Hex.{encode_lower};
 ghost use Rattle.bpf_run.specs.Listing.{word_lines};
 
 use bpf_lines::to_hex;
-use bpf_text::TextError;
-use std::alloc::Global;
+use std::alloc::{AllocError, Global};
 
 /// Appends a word's digits and a line end to the text.
-fn push_word(alloc: Global, text: &mut String, word: &[u8]) -> Result<(), TextError>
-    ensures line { OnOk result (string_bytes text.new
+fn push_word(alloc: Global, text: &mut String, word: &[u8]) -> Result<(), AllocError>
+    ensures { OnOk result (string_bytes text.new
         ≡ string_bytes text.old ++ (encode_lower word.now ++ 10 ∷ [])) }
-    ensures memory { IsOkUnless result TextError.OutOfMemory }
 {
-    let digits = to_hex(alloc, word).map_err(|_| TextError::OutOfMemory)?;
-    text.push_str(digits.as_str())
-        .map_err(|_| TextError::OutOfMemory)?;
-    text.push('\n').map_err(|_| TextError::OutOfMemory)
+    let digits = to_hex(alloc, word)?;
+    text.push_str(digits.as_str())?;
+    text.push('\n')
 }
 
-/// The words that the bytes make, a line of 16 hex digits each. Fails by `OutOfMemory` alone.
-pub fn word_lines(alloc: Global, bytes: &[u8]) -> Result<String, TextError>
+/// The words that the bytes make, a line of 16 hex digits each.
+pub fn word_lines(alloc: Global, bytes: &[u8]) -> Result<String, AllocError>
     ensures lines { IfOk result (λ text.
         string_bytes text ≡ word_lines (length bytes.now / 8) bytes.now) }
-    ensures memory { IsOkUnless result TextError.OutOfMemory }
     // Only what the type of the slice says: a caller's proof doesn't get it of a vector.
     ensures bytes { All (λ b. b < 256) bytes.now }
 {

@@ -131,24 +131,38 @@ fn perform_objects<T: Threads + Wait + Sync + Aside, R: Source, W: Sink>(
     }
 }
 
+/// A command, and what it is asked of.
+#[derive(Drop)]
+pub struct Errand<'a> {
+    pub command: Command,
+    /// The file that is read in place of standard input.
+    pub file: Option<&'a str>,
+    /// Whether objects are written in place of lines.
+    pub json: bool,
+}
+
 /// The whole command, of the file where one is named; its objects are written in place of lines where
 /// that is asked for.
 pub fn perform_as<T: Threads + Wait + Sync + Aside, R: Source, W: Sink>(
-    json: bool,
     rt: &T,
     alloc: Global,
-    command: Command,
-    file: Option<&str>,
+    errand: Errand,
     source: &mut R,
     sink: &mut W,
 ) -> Performed
     requires readable { R.has_failed source.old ≡ false }
     requires writable { W.has_failed sink.old ≡ false }
-    ensures replies { IsShown json (λ old new failed status. Performs command
-        (input_of (R.remaining source.old) (R.file source.old) (option_map (λ s. s.now) file.entry))
+    ensures replies { IsShown errand.entry.json (λ old new failed status.
+        Performs errand.entry.command (input_of (R.remaining source.old) (R.file source.old)
+        (option_map (λ s. s.now) errand.entry.file))
         (R.has_failed source.new) old new failed status (stats_of result.reply))
         (W.contents sink.old) (W.contents sink.new) (W.has_failed sink.new) result.status }
 {
+    let Errand {
+        command,
+        file,
+        json,
+    } = errand;
     if json {
         perform_objects(rt, alloc, command, file, source, sink)
     } else {

@@ -5,6 +5,7 @@ ghost use Rattle.bpf_insn.specs.Encoding.{IsEncodedAs};
 ghost use Rattle.bpf_insn.specs.declared.instruction.Insn.{Insn};
 ghost use Rattle.bpf_loader.specs.Sound.{IsSound};
 ghost use Rattle.bpf_plain.specs.PlainStore.{has_cpu, is_running, shapes_of};
+ghost use Rattle.bpf_run.specs.Answer.{Replies};
 ghost use Rattle.bpf_run.specs.Commands.{IsAnswer, IsAssembled, IsAssembledRun, IsDisassembled, IsForOneThread, IsRun, IsWordsOf, RefusesAssembly, RefusesProgram, RefusesWords, ShowsWords, shown_program};
 ghost use Rattle.bpf_run.specs.declared.reply.Reply.{Reply};
 
@@ -15,7 +16,7 @@ use crate::listing::word_lines;
 use crate::racing::race_file;
 use crate::refusal::Refusal;
 use crate::reply::Reply;
-use crate::running::{judge_file, run_file, run_file_by_workers, run_file_with_history};
+use crate::running::{Extras, judge_file, run_file, run_file_by_workers, run_file_with_history};
 use crate::script::debug_file;
 use bpf_command::{Command, FileOptions, HistoryOptions, JudgeOptions, RunOptions, ShowOptions};
 use bpf_cpu::Cpu;
@@ -36,8 +37,9 @@ fn instructions(alloc: Global, text: &str) -> Result<Vec<Insn>, Refusal>
     ensures found { IfOk result (λ v. IsWordsOf text.now v.items) }
     ensures refused { IfErr result (RefusesWords text.now) }
 {
-    let bytes = from_hex(alloc, text).map_err(Refusal::Hex)?;
-    decode(alloc, &bytes).map_err(Refusal::Insn)
+    let bytes = from_hex(alloc, text)?;
+    let insns = decode(alloc, &bytes)?;
+    Ok(insns)
 }
 
 /// The program whose words the text has as hex digits, for a store of no maps.
@@ -47,7 +49,8 @@ fn program(alloc: Global, text: &str) -> Result<Program, Refusal>
     ensures refused { IfErr result (RefusesProgram text.now) }
 {
     let insns = instructions(alloc, text)?;
-    load(alloc, insns, 0).map_err(Refusal::Load)
+    let program = load(alloc, insns, 0)?;
+    Ok(program)
 }
 
 /// A store of no maps for one CPU.
@@ -63,19 +66,16 @@ fn no_maps(alloc: Global) -> Result<PlainStore, ShapeError>
 }
 
 /// `ebpf hex`.
-fn run(alloc: Global, options: RunOptions, text: &str) -> Reply
-    ensures { IsRun options.budget options.context.items text.now result }
+fn run(alloc: Global, options: RunOptions, text: &str) -> Result<Reply, Refusal>
+    ensures { Replies (IsRun options.budget options.context.items text.now) result }
 {
-    let program = match program(alloc, text) {
-        Ok(program) => program,
-        Err(refusal) => return Reply::Refused(refusal),
-    };
+    let program = program(alloc, text)?;
     let Ok(mut store) = no_maps(alloc) else {
-        return Reply::Refused(Refusal::OutOfMemory);
+        return Err(Refusal::OutOfMemory);
     };
     let RunOptions { budget, context } = options;
     let mut cpu = Cpu::new(0, context);
-    Reply::Ended(cpu.run(&program, &mut store, budget))
+    Ok(Reply::Ended(cpu.run(&program, &mut store, budget)))
 }
 
 /// What `ebpf asm` prints of a text's words.
@@ -89,7 +89,7 @@ fn shown_words(alloc: Global, listing: bool, text: &str, bytes: &[u8]) -> Result
     if listing {
         source_lines(alloc, bytes, text)
     } else {
-        word_lines(alloc, bytes)
+        word_lines(alloc, bytes).map_err(|_| TextError::OutOfMemory)
     }
 }
 
@@ -98,38 +98,26 @@ fn assembly(alloc: Global, listing: bool, text: &str) -> Result<String, Refusal>
     ensures shown { IfOk result (λ printed. IsAssembled listing text.now (Reply.Text printed)) }
     ensures refused { IfErr result (RefusesAssembly text.now) }
 {
-    let insns = match assemble(alloc, text) {
-        Ok(insns) => insns,
-        Err(error) => return Err(Refusal::Text(error)),
-    };
-    let bytes = match encode(alloc, &insns) {
-        Ok(bytes) => bytes,
-        Err(error) => return Err(Refusal::Insn(error)),
-    };
-    match shown_words(alloc, listing, text, &bytes) {
-        Ok(lines) => Ok(lines),
-        Err(error) => Err(Refusal::Text(error)),
-    }
+    let insns = assemble(alloc, text)?;
+    let bytes = encode(alloc, &insns)?;
+    let lines = shown_words(alloc, listing, text, &bytes)?;
+    Ok(lines)
 }
 
 /// `ebpf asm`.
-fn assembled(alloc: Global, listing: bool, text: &str) -> Reply
-    ensures { IsAssembled listing text.now result }
+fn assembled(alloc: Global, listing: bool, text: &str) -> Result<Reply, Refusal>
+    ensures { Replies (IsAssembled listing text.now) result }
 {
-    match assembly(alloc, listing, text) {
-        Ok(lines) => Reply::Text(lines),
-        Err(refusal) => Reply::Refused(refusal),
-    }
+    let lines = assembly(alloc, listing, text)?;
+    Ok(Reply::Text(lines))
 }
 
 /// `ebpf asm --run`: what `ebpf hex` replies to the words that `ebpf asm` prints.
-fn assembled_run(alloc: Global, options: RunOptions, text: &str) -> Reply
-    ensures { IsAssembledRun options.budget options.context.items text.now result }
+fn assembled_run(alloc: Global, options: RunOptions, text: &str) -> Result<Reply, Refusal>
+    ensures { Replies (IsAssembledRun options.budget options.context.items text.now) result }
 {
-    match assembly(alloc, false, text) {
-        Ok(words) => run(alloc, options, words.as_str()),
-        Err(refusal) => Reply::Refused(refusal),
-    }
+    let words = assembly(alloc, false, text)?;
+    run(alloc, options, words.as_str())
 }
 
 /// What `ebpf disasm` prints of a program's words.
@@ -157,27 +145,30 @@ fn disassembly(alloc: Global, pc: bool, text: &str) -> Result<String, Refusal>
         × (string_bytes printed ≡ shown_program pc found.0 is)) }
     ensures refused { IfErr result (RefusesWords text.now) }
 {
-    let bytes = from_hex(alloc, text).map_err(Refusal::Hex)?;
-    let program = decode(alloc, &bytes).map_err(Refusal::Insn)?;
-    let shown = shown_program(alloc, pc, &bytes, &program).map_err(Refusal::Text)?;
+    let bytes = from_hex(alloc, text)?;
+    let program = decode(alloc, &bytes)?;
+    let shown = shown_program(alloc, pc, &bytes, &program)?;
     Ok(shown)
 }
 
 /// `ebpf disasm`.
-fn disassembled(alloc: Global, pc: bool, text: &str) -> Reply
-    ensures { IsDisassembled pc text.now result }
+fn disassembled(alloc: Global, pc: bool, text: &str) -> Result<Reply, Refusal>
+    ensures { Replies (IsDisassembled pc text.now) result }
 {
-    match disassembly(alloc, pc, text) {
-        Ok(text) => Reply::Text(text),
-        Err(refusal) => Reply::Refused(refusal),
-    }
+    let text = disassembly(alloc, pc, text)?;
+    Ok(Reply::Text(text))
 }
 
-/// What a command replies to the text that it read, on the thread that calls. The observer hears
-/// how far a search is.
-pub fn reply<O: Observer>(alloc: Global, command: Command, text: &str, observer: &mut O) -> Reply
+/// What a command replies to the text that it read, or why it has no answer, on the thread that
+/// calls. The observer hears how far a search is.
+fn answer_to<O: Observer>(
+    alloc: Global,
+    command: Command,
+    text: &str,
+    observer: &mut O,
+) -> Result<Reply, Refusal>
     requires { IsForOneThread command }
-    ensures { IsAnswer command text.now result }
+    ensures { Replies (IsAnswer command text.now) result }
 {
     match command {
         Command::Hex(options) => run(alloc, options, text),
@@ -214,15 +205,24 @@ pub fn reply<O: Observer>(alloc: Global, command: Command, text: &str, observer:
     }
 }
 
-/// What a command replies to the text that it read, on worker threads where it asks for them.
-pub fn reply_by_workers<T: Threads + Wait + Sync, O: Observer>(
+/// What a command replies to the text that it read, on the thread that calls.
+pub fn reply<O: Observer>(alloc: Global, command: Command, text: &str, observer: &mut O) -> Reply
+    requires { IsForOneThread command }
+    ensures { IsAnswer command text.now result }
+{
+    Reply::of(answer_to(alloc, command, text, observer))
+}
+
+/// What a command replies to the text that it read, or why it has no answer, on worker threads
+/// where it asks for them.
+fn answer_by_workers<T: Threads + Wait + Sync, O: Observer>(
     rt: &T,
     alloc: Global,
     command: Command,
     text: &str,
     observer: &mut O,
-) -> Reply
-    ensures { IsAnswer command text.now result }
+) -> Result<Reply, Refusal>
+    ensures { Replies (IsAnswer command text.now) result }
 {
     match command {
         Command::Run(
@@ -233,7 +233,20 @@ pub fn reply_by_workers<T: Threads + Wait + Sync, O: Observer>(
                 stats,
                 ..
             },
-        ) => run_file_by_workers(rt, alloc, workers, stats, keys, maps, text),
-        command => reply(alloc, command, text, observer),
+        ) => run_file_by_workers(rt, alloc, workers, Extras { keys, maps, stats }, text),
+        command => answer_to(alloc, command, text, observer),
     }
+}
+
+/// What a command replies to the text that it read, on worker threads where it asks for them.
+pub fn reply_by_workers<T: Threads + Wait + Sync, O: Observer>(
+    rt: &T,
+    alloc: Global,
+    command: Command,
+    text: &str,
+    observer: &mut O,
+) -> Reply
+    ensures { IsAnswer command text.now result }
+{
+    Reply::of(answer_by_workers(rt, alloc, command, text, observer))
 }

@@ -15,7 +15,7 @@ ghost use Rattle.bpf_run.specs.declared.refusal.Refusal.{Refusal};
 
 use crate::conversing::{asked_talk, talk_named};
 use crate::explaining::{Failures, Question, Subject, explain, warn};
-use crate::objects::{answer_as, perform_as};
+use crate::objects::{Errand, answer_as, perform_as};
 use crate::perform::{Performed, answer, print_page};
 use crate::progress::{Aside, Teller};
 use crate::refusal::Refusal;
@@ -127,9 +127,7 @@ pub const USAGE: u8 = 2;
 fn perform_command<T: Threads + Wait + Sync + Aside, R: Source, W: Sink, D: Terminal>(
     rt: &T,
     alloc: Global,
-    command: Command,
-    file: Option<&str>,
-    json: bool,
+    errand: Errand,
     source: &mut R,
     sink: &mut W,
     terminal: &mut D,
@@ -138,28 +136,39 @@ fn perform_command<T: Threads + Wait + Sync + Aside, R: Source, W: Sink, D: Term
     requires writable { W.has_failed sink.old ≡ false }
     requires hears { D.is_unread terminal.old ≡ false }
     requires tells { D.has_failed terminal.old ≡ false }
-    ensures { Does command json (option_map (λ s. s.now) file.entry)
-        (asked_talk command (option_map (λ s. s.now) file.entry) json)
+    ensures { Does errand.entry.command errand.entry.json
+        (option_map (λ s. s.now) errand.entry.file)
+        (asked_talk errand.entry.command (option_map (λ s. s.now) errand.entry.file)
+        errand.entry.json)
         (terminal.new ≡ terminal.old) (Converses (D.passes terminal.old terminal.new)
         (D.is_unread terminal.new) (D.has_failed terminal.new))
         (R.remaining source.old) (R.file source.old) (R.has_failed source.new)
         (W.contents sink.old) (W.contents sink.new) (W.has_failed sink.new) result.status
         (stats_of result.reply) }
 {
-    match asked_talk(&command, file, json) {
+    match asked_talk(&errand.command, errand.file, errand.json) {
         Some(asked) => talk_named(alloc, asked, source, sink, terminal),
-        None => perform_as(json, rt, alloc, command, file, source, sink),
+        None => perform_as(rt, alloc, errand, source, sink),
     }
+}
+
+/// A command as the words ask for it.
+#[derive(Drop)]
+struct Wish {
+    command: Command,
+    /// The file that is read in place of standard input.
+    file: Option<String>,
+    /// Whether its answer is explained.
+    explain: bool,
+    /// Whether objects are written in place of lines.
+    json: bool,
 }
 
 /// Performs a command. What it writes and its status don't depend on whether it is explained.
 fn perform_for<T: Threads + Wait + Sync + Aside, R: Source, W: Sink, D: Terminal>(
     rt: &T,
     alloc: Global,
-    command: Command,
-    file: Option<String>,
-    explain: bool,
-    json: bool,
+    wish: Wish,
     source: &mut R,
     sink: &mut W,
     terminal: &mut D,
@@ -168,8 +177,9 @@ fn perform_for<T: Threads + Wait + Sync + Aside, R: Source, W: Sink, D: Terminal
     requires writable { W.has_failed sink.old ≡ false }
     requires hears { D.is_unread terminal.old ≡ false }
     requires tells { D.has_failed terminal.old ≡ false }
-    ensures performed { IfExit result (λ status stats. Does command json
-        (option_map string_bytes file) (asked_talk command (option_map string_bytes file) json)
+    ensures performed { IfExit result (λ status stats. Does wish.command wish.json
+        (option_map string_bytes wish.file)
+        (asked_talk wish.command (option_map string_bytes wish.file) wish.json)
         (terminal.new ≡ terminal.old) (Converses (D.passes terminal.old terminal.new)
         (D.is_unread terminal.new) (D.has_failed terminal.new))
         (R.remaining source.old) (R.file source.old) (R.has_failed source.new)
@@ -178,13 +188,23 @@ fn perform_for<T: Threads + Wait + Sync + Aside, R: Source, W: Sink, D: Terminal
     ensures text { IfNotText result ⊥ }
     ensures misused { IfMisused result (λ _. ⊥) }
 {
+    let Wish {
+        command,
+        file,
+        explain,
+        json,
+    } = wish;
     let subject = if explain {
         Some(Subject::of(&command))
     } else {
         None
     };
-    let name = file.as_ref().map(String::as_str);
-    let done = perform_command(rt, alloc, command, name, json, source, sink, terminal);
+    let errand = Errand {
+        command,
+        file: file.as_ref().map(String::as_str),
+        json,
+    };
+    let done = perform_command(rt, alloc, errand, source, sink, terminal);
     match subject {
         Some(subject) => Ending::Explained(Question { subject, file }, done),
         None => Ending::Performed(done),
@@ -230,9 +250,13 @@ fn follow<T: Threads + Wait + Sync + Aside, R: Source, W: Sink, D: Terminal>(
                 json,
             },
         ) => {
-            return perform_for(
-                rt, alloc, command, file, explain, json, source, sink, terminal,
-            );
+            let wish = Wish {
+                command,
+                file,
+                explain,
+                json,
+            };
+            return perform_for(rt, alloc, wish, source, sink, terminal);
         }
         Ok(Request::CheckAll { check, files, json }) => {
             let mut teller = Teller::new(rt, check.search.progress);

@@ -5,6 +5,7 @@ ghost use Rattle.bpf_file.specs.File.{file_of};
 ghost use Rattle.bpf_cpu.specs.Setup.{IsRunnable};
 ghost use Rattle.bpf_jobs.specs.Printed.{first_of};
 ghost use Rattle.bpf_races.specs.Races.{AreRaces};
+ghost use Rattle.bpf_run.specs.Answer.{Replies};
 ghost use Rattle.bpf_run.specs.Racing.{IsRacesFile, TellsRaces, is_any_race};
 
 use crate::refusal::Refusal;
@@ -80,25 +81,18 @@ pub fn race_file<O: Observer>(
     options: RaceOptions,
     text: &str,
     observer: &mut O,
-) -> Reply
-    ensures { IsRacesFile options.search.patient options.search.limit
-        (map string_bytes options.sync.items) text.now result }
+) -> Result<Reply, Refusal>
+    ensures { Replies (IsRacesFile options.search.patient options.search.limit
+        (map string_bytes options.sync.items) text.now) result }
 {
-    let file = match file_in(alloc, text) {
-        Ok(file) => file,
-        Err(refusal) => return Reply::Refused(refusal),
+    let file = file_in(alloc, text)?;
+    let Some(parts) = synced_parts(alloc, &file.names, &file.setup.shape, &options.sync)? else {
+        return Err(Refusal::NoMap);
     };
-    let parts = match synced_parts(alloc, &file.names, &file.setup.shape, &options.sync) {
-        Ok(Some(parts)) => parts,
-        Ok(None) => return Reply::Refused(Refusal::NoMap),
-        Err(_) => return Reply::Refused(Refusal::OutOfMemory),
-    };
-    match tell_races(alloc, options.search, &parts, file, observer) {
-        Ok(Told { text, raced, all }) => Reply::Outcomes {
-            text,
-            stopped: raced,
-            all,
-        },
-        Err(_) => Reply::Refused(Refusal::OutOfMemory),
-    }
+    let Told { text, raced, all } = tell_races(alloc, options.search, &parts, file, observer)?;
+    Ok(Reply::Outcomes {
+        text,
+        stopped: raced,
+        all,
+    })
 }

@@ -4,11 +4,13 @@ ghost use Rattle.std.specs.Prelude.{◌≡◌};
 
 use crate::input::InputError;
 use bpf_codes::{Code, Diagnostic};
-use bpf_file::Reason;
+use bpf_file::{FileError, Reason};
 use bpf_insn::InsnError;
 use bpf_lines::HexError;
 use bpf_loader::LoadError;
 use bpf_text::TextError;
+use bpf_workers::WorkError;
+use std::alloc::AllocError;
 use std::fmt;
 
 /// Why a command has no answer.
@@ -71,6 +73,92 @@ impl fmt::Display for Refusal {
             Refusal::File(line, reason) => write!(f, "line {line} {}", reason.diagnostic()),
             Refusal::Comment(line) => write!(f, "line {line} {}", self.diagnostic()),
             other => f.write_fmt(other.diagnostic()),
+        }
+    }
+}
+
+impl From<AllocError> for Refusal {
+    ghost use Rattle.bpf_run.specs.declared.refusal.Refusal.TheVariants.{OutOfMemory};
+
+    ghost from_gives = { λ _ r. r ≡ OutOfMemory };
+
+    fn from(_error: AllocError) -> Refusal {
+        Refusal::OutOfMemory
+    }
+}
+
+impl From<InputError> for Refusal {
+    ghost use Rattle.bpf_run.specs.declared.refusal.Refusal.TheVariants.{Input};
+
+    ghost from_gives = { λ error r. r ≡ Input error };
+
+    fn from(error: InputError) -> Refusal {
+        Refusal::Input(error)
+    }
+}
+
+impl From<HexError> for Refusal {
+    ghost use Rattle.bpf_run.specs.declared.refusal.Refusal.TheVariants.{Hex};
+
+    ghost from_gives = { λ error r. r ≡ Hex error };
+
+    fn from(error: HexError) -> Refusal {
+        Refusal::Hex(error)
+    }
+}
+
+impl From<TextError> for Refusal {
+    ghost use Rattle.bpf_run.specs.declared.refusal.Refusal.TheVariants.{Text};
+
+    ghost from_gives = { λ error r. r ≡ Text error };
+
+    fn from(error: TextError) -> Refusal {
+        Refusal::Text(error)
+    }
+}
+
+impl From<InsnError> for Refusal {
+    ghost use Rattle.bpf_run.specs.declared.refusal.Refusal.TheVariants.{Insn};
+
+    ghost from_gives = { λ error r. r ≡ Insn error };
+
+    fn from(error: InsnError) -> Refusal {
+        Refusal::Insn(error)
+    }
+}
+
+impl From<LoadError> for Refusal {
+    ghost use Rattle.bpf_run.specs.declared.refusal.Refusal.TheVariants.{Load};
+
+    ghost from_gives = { λ error r. r ≡ Load error };
+
+    fn from(error: LoadError) -> Refusal {
+        Refusal::Load(error)
+    }
+}
+
+impl From<FileError> for Refusal {
+    ghost use Rattle.bpf_run.specs.Refusals.{file_refusal};
+
+    ghost from_gives = { λ error r. r ≡ file_refusal error };
+
+    fn from(error: FileError) -> Refusal {
+        match error {
+            FileError::Refused(line, reason) => Refusal::File(line, reason),
+            FileError::OutOfMemory => Refusal::OutOfMemory,
+        }
+    }
+}
+
+impl From<WorkError> for Refusal {
+    ghost use Rattle.bpf_run.specs.Refusals.{work_refusal};
+
+    ghost from_gives = { λ error r. r ≡ work_refusal error };
+
+    fn from(error: WorkError) -> Refusal {
+        match error {
+            WorkError::Jobs => Refusal::JobsOutOfMemory,
+            WorkError::OutOfMemory => Refusal::OutOfMemory,
         }
     }
 }

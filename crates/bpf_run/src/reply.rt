@@ -94,7 +94,17 @@ pub enum Reply {
 
 impl Reply {
     ghost use Rattle.std.specs.Prelude.{◌≡◌};
-    ghost use Rattle.bpf_run.specs.Answer.{status_of};
+    ghost use Rattle.bpf_run.specs.Answer.{Replies, status_of};
+
+    /// What is replied, or a refusal as a reply.
+    pub fn of(replied: Result<Reply, Refusal>) -> Reply
+        ensures { Replies (λ reply. result ≡ reply) replied }
+    {
+        match replied {
+            Ok(reply) => reply,
+            Err(refusal) => Reply::Refused(refusal),
+        }
+    }
 
     pub fn status(&self) -> Status
         ensures { result ≡ status_of self.now }

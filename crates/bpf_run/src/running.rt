@@ -5,6 +5,7 @@ ghost use Rattle.bpf_file.specs.File.{File, file_of};
 ghost use Rattle.bpf_file.specs.Reading.{IsRunFile};
 ghost use Rattle.bpf_cpu.specs.Setup.{IsRunnable};
 ghost use Rattle.bpf_sched.specs.Refusing.{AreWorkers};
+ghost use Rattle.bpf_run.specs.Answer.{Replies};
 ghost use Rattle.bpf_run.specs.Judging.{IsJudgedOfFile};
 ghost use Rattle.bpf_run.specs.Running.{IsHistoryBy, IsHistoryOfFile, IsRunByWorkers, IsRunOfFile, IsToldBy, RefusesFile};
 
@@ -13,9 +14,9 @@ use crate::refusal::Refusal;
 use crate::reply::Reply;
 use bpf_check::{Judged, check_printed};
 use bpf_events::run_with_history;
-use bpf_file::{FileError, RunFile, read_file};
+use bpf_file::{RunFile, read_file};
 use bpf_jobs::{Report, run_jobs_by};
-use bpf_workers::{Counted, WorkError, run_counted};
+use bpf_workers::{Counted, run_counted};
 use std::alloc::Global;
 use std::sync::Wait;
 use std::thread::Threads;
@@ -26,11 +27,8 @@ pub(crate) fn file_in(alloc: Global, text: &str) -> Result<RunFile, Refusal>
     ensures fits { IfOk result (λ f. IsRunnable f.setup) }
     ensures refused { IfErr result (RefusesFile text.now) }
 {
-    match read_file(alloc, text.as_bytes()) {
-        Ok(file) => Ok(file),
-        Err(FileError::Refused(line, reason)) => Err(Refusal::File(line, reason)),
-        Err(FileError::OutOfMemory) => Err(Refusal::OutOfMemory),
-    }
+    let file = read_file(alloc, text.as_bytes())?;
+    Ok(file)
 }
 
 /// What is printed of the jobs that a text says, by these turns and then in rounds.
@@ -48,43 +46,37 @@ fn report_by(
 {
     let file = file_in(alloc, text)?;
     let RunFile { setup, names, .. } = file;
-    match run_jobs_by(alloc, setup, &names, by, keys, maps) {
-        Ok(report) => Ok(report),
-        Err(_) => Err(Refusal::OutOfMemory),
-    }
+    let report = run_jobs_by(alloc, setup, &names, by, keys, maps)?;
+    Ok(report)
 }
 
 /// `ebpf run`: these turns, and then rounds.
-pub fn run_file(alloc: Global, by: &[(u8, u64)], keys: bool, maps: bool, text: &str) -> Reply
-    ensures { IsRunOfFile by.now keys maps text.now result }
+pub fn run_file(
+    alloc: Global,
+    by: &[(u8, u64)],
+    keys: bool,
+    maps: bool,
+    text: &str,
+) -> Result<Reply, Refusal>
+    ensures { Replies (IsRunOfFile by.now keys maps text.now) result }
 {
-    match report_by(alloc, by, keys, maps, text) {
-        Ok(Report { text, stopped }) => Reply::Jobs(text, stopped),
-        Err(refusal) => Reply::Refused(refusal),
-    }
+    let Report { text, stopped } = report_by(alloc, by, keys, maps, text)?;
+    Ok(Reply::Jobs(text, stopped))
 }
 
 /// `ebpf run --check`: whether these turns and rounds give what the file's comments expect.
-pub fn judge_file(alloc: Global, by: &[(u8, u64)], keys: bool, text: &str) -> Reply
-    ensures { IsJudgedOfFile by.now keys text.now result }
+pub fn judge_file(alloc: Global, by: &[(u8, u64)], keys: bool, text: &str) -> Result<Reply, Refusal>
+    ensures { Replies (IsJudgedOfFile by.now keys text.now) result }
 {
     let reading = Reading {
         lists: keys,
         ends: true,
         lenient: false,
     };
-    let expected = match expected_in(alloc, reading, text) {
-        Ok(expected) => expected,
-        Err(refusal) => return Reply::Refused(refusal),
-    };
-    let report = match report_by(alloc, by, keys, true, text) {
-        Ok(report) => report,
-        Err(refusal) => return Reply::Refused(refusal),
-    };
-    match check_printed(alloc, &expected, report.text.as_str()) {
-        Ok(Judged { text, refuted }) => Reply::Jobs(text, refuted),
-        Err(_) => Reply::Refused(Refusal::OutOfMemory),
-    }
+    let expected = expected_in(alloc, reading, text)?;
+    let report = report_by(alloc, by, keys, true, text)?;
+    let Judged { text, refuted } = check_printed(alloc, &expected, report.text.as_str())?;
+    Ok(Reply::Jobs(text, refuted))
 }
 
 /// All that happens in the turns of jobs that a text says, by these turns and then in rounds.
@@ -102,10 +94,8 @@ pub(crate) fn history_by(
 {
     let file = file_in(alloc, text)?;
     let RunFile { setup, names, .. } = file;
-    match run_with_history(alloc, setup, &names, by, keys, maps) {
-        Ok(report) => Ok(report),
-        Err(_) => Err(Refusal::OutOfMemory),
-    }
+    let report = run_with_history(alloc, setup, &names, by, keys, maps)?;
+    Ok(report)
 }
 
 /// `ebpf run --events`: these turns and then rounds, with all that happens in them.
@@ -115,15 +105,22 @@ pub fn run_file_with_history(
     keys: bool,
     maps: bool,
     text: &str,
-) -> Reply
-    ensures { IsHistoryOfFile by.now keys maps text.now result }
+) -> Result<Reply, Refusal>
+    ensures { Replies (IsHistoryOfFile by.now keys maps text.now) result }
 {
-    let report = match history_by(alloc, by, keys, maps, text) {
-        Ok(report) => report,
-        Err(refusal) => return Reply::Refused(refusal),
-    };
-    let Report { text, stopped } = report;
-    Reply::Jobs(text, stopped)
+    let Report { text, stopped } = history_by(alloc, by, keys, maps, text)?;
+    Ok(Reply::Jobs(text, stopped))
+}
+
+/// What is printed of a run beside the lines of its jobs.
+#[derive(Clone, Copy)]
+pub struct Extras {
+    /// The keys that each CPU lists.
+    pub keys: bool,
+    /// The maps.
+    pub maps: bool,
+    /// What workers came to at the maps.
+    pub stats: bool,
 }
 
 /// `ebpf run --workers`, and what workers came to at the maps, where that is asked for.
@@ -131,30 +128,19 @@ pub fn run_file_by_workers<T: Threads + Wait + Sync>(
     rt: &T,
     alloc: Global,
     workers: u8,
-    stats: bool,
-    keys: bool,
-    maps: bool,
+    extras: Extras,
     text: &str,
-) -> Reply
+) -> Result<Reply, Refusal>
     requires { AreWorkers workers }
-    ensures { IsRunByWorkers stats keys maps text.now result }
+    ensures { Replies (IsRunByWorkers extras.stats extras.keys extras.maps text.now) result }
 {
-    let file = match file_in(alloc, text) {
-        Ok(file) => file,
-        Err(reason) => return Reply::Refused(reason),
-    };
-    match run_counted(rt, alloc, file, workers, keys, maps, stats) {
-        Ok(
-            Counted {
-                report: Report { text, stopped },
-                stats,
-            },
-        ) => Reply::Counted {
-            text,
-            stopped,
-            stats,
-        },
-        Err(WorkError::Jobs) => Reply::Refused(Refusal::JobsOutOfMemory),
-        Err(WorkError::OutOfMemory) => Reply::Refused(Refusal::OutOfMemory),
-    }
+    let Extras { keys, maps, stats } = extras;
+    let file = file_in(alloc, text)?;
+    let Counted { report, stats } = run_counted(rt, alloc, file, workers, keys, maps, stats)?;
+    let Report { text, stopped } = report;
+    Ok(Reply::Counted {
+        text,
+        stopped,
+        stats,
+    })
 }

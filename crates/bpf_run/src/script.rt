@@ -10,6 +10,7 @@ ghost use Rattle.bpf_cpu.specs.Setup.{IsRunnable};
 ghost use Rattle.bpf_debug.specs.Script.{answer_of};
 ghost use Rattle.bpf_file.specs.File.{file_of};
 ghost use Rattle.bpf_debug.specs.Session.{IsShown};
+ghost use Rattle.bpf_run.specs.Answer.{Replies};
 ghost use Rattle.bpf_run.specs.Script.{AreShown, IsDebugReply, IsCut, IsScriptOfFile, any_refused, ends_file, scene_of};
 
 use crate::refusal::Refusal;
@@ -17,7 +18,7 @@ use crate::reply::Reply;
 use bpf_cpu::Setup;
 use bpf_debug::{Answer, Session, run_script};
 use bpf_explore::copy_shape;
-use bpf_file::{FileError, RunFile, read_file};
+use bpf_file::{RunFile, read_file};
 use bpf_jobs::{has_any_stopped, make_machine};
 use bpf_lines::lines::{fields, first_line};
 use std::alloc::{AllocError, Global};
@@ -67,17 +68,13 @@ fn cut<'a>(alloc: Global, input: &'a [u8]) -> Result<Parts<'a>, AllocError>
 }
 
 /// What `debug` replies to an input.
-pub fn debug_file(alloc: Global, echo: bool, strict: bool, input: &str) -> Reply
-    ensures { IsScriptOfFile echo strict input.now result }
+pub fn debug_file(alloc: Global, echo: bool, strict: bool, input: &str) -> Result<Reply, Refusal>
+    ensures { Replies (IsScriptOfFile echo strict input.now) result }
 {
-    let Ok(parts) = cut(alloc, input.as_bytes()) else {
-        return Reply::Refused(Refusal::OutOfMemory);
-    };
-    match read_file(alloc, parts.file) {
-        Ok(file) => debug(alloc, echo, strict, file, parts.commands),
-        Err(FileError::Refused(line, reason)) => Reply::Refused(Refusal::File(line, reason)),
-        Err(FileError::OutOfMemory) => Reply::Refused(Refusal::OutOfMemory),
-    }
+    let parts = cut(alloc, input.as_bytes())?;
+    let file = read_file(alloc, parts.file)?;
+    let reply = debug(alloc, echo, strict, file, parts.commands)?;
+    Ok(reply)
 }
 
 /// A session over a new store, whose maps have these names, and jobs that all wait.
@@ -137,27 +134,26 @@ fn shown_lines(
 }
 
 /// What commands are answered over the machine of a run file.
-fn debug(alloc: Global, echo: bool, strict: bool, file: RunFile, commands: Option<&[u8]>) -> Reply
+fn debug(
+    alloc: Global,
+    echo: bool,
+    strict: bool,
+    file: RunFile,
+    commands: Option<&[u8]>,
+) -> Result<Reply, AllocError>
     requires { IsRunnable file.setup }
-    ensures { IsDebugReply echo strict file (lines_behind (option_copied commands.entry)) result }
+    ensures { IfOk result
+        (IsDebugReply echo strict file (lines_behind (option_copied commands.entry))) }
 {
     let RunFile { setup, names, .. } = file;
-    let Ok(mut session) = make_session(alloc, setup, names) else {
-        return Reply::Refused(Refusal::OutOfMemory);
-    };
-    let Ok(lines) = shown_lines(alloc, echo, commands) else {
-        return Reply::Refused(Refusal::OutOfMemory);
-    };
-    match run_script(alloc, &mut session, commands) {
-        Ok(answers) => {
-            let refused = is_refused(strict, &answers);
-            Reply::Script {
-                answers,
-                lines,
-                stopped: has_any_stopped(session.machine()),
-                refused,
-            }
-        }
-        Err(_) => Reply::Refused(Refusal::OutOfMemory),
-    }
+    let mut session = make_session(alloc, setup, names)?;
+    let lines = shown_lines(alloc, echo, commands)?;
+    let answers = run_script(alloc, &mut session, commands)?;
+    let refused = is_refused(strict, &answers);
+    Ok(Reply::Script {
+        answers,
+        lines,
+        stopped: has_any_stopped(session.machine()),
+        refused,
+    })
 }

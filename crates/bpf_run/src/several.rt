@@ -2,17 +2,16 @@
 
 ghost use Rattle.std.specs.Prelude.{◌≡◌, ◌≤◌, ◌++◌, IfErr, IfOk, IfSome, OnOk, length, map, string_bytes};
 ghost use Rattle.bpf_check.specs.Listing.{plan_text};
+ghost use Rattle.bpf_run.specs.Answer.{Replies};
 ghost use Rattle.bpf_run.specs.Commands.{RefusesInput};
 ghost use Rattle.bpf_run.specs.Several.{AreChecked, AreTold, IsPart, IsTextPart, counted, no_part, refused_part, seen, with_part};
 
-use crate::checking::{is_told, is_unmet, reading_of};
-use crate::comments::expected_in;
-use crate::exploring::findings_in;
+use crate::checking::{grounds_in, is_told, is_unmet};
 use crate::input::{InputError, MAX_INPUT, read_whole};
 use crate::refusal::Refusal;
 use crate::reply::Reply;
 use crate::stream::Source;
-use crate::threading::{threads_in, with_notes};
+use crate::threading::with_notes;
 use bpf_check::{CheckedPart, check_named, plan};
 use bpf_command::CheckOptions;
 use bpf_explore::Observer;
@@ -56,25 +55,17 @@ fn text_part<O: Observer>(
     ensures { IfOk result (λ p.
         IsTextPart options.now name.now before text.now (seen p)) }
 {
-    let expected = match expected_in(alloc, reading_of(options), text) {
-        Ok(expected) => expected,
-        Err(refusal) => return refused_part(alloc, name, refusal),
-    };
-    let threads = match threads_in(alloc, text) {
-        Ok(threads) => threads,
-        Err(refusal) => return refused_part(alloc, name, refusal),
-    };
-    let findings = match findings_in(alloc, &options.search, text, observer) {
-        Ok(findings) => findings,
+    let grounds = match grounds_in(alloc, options, text, observer) {
+        Ok(grounds) => grounds,
         Err(refusal) => return refused_part(alloc, name, refusal),
     };
     let CheckedPart {
         text,
         tests,
         conclusion,
-    } = check_named(alloc, name, before, &expected, &findings)?;
+    } = check_named(alloc, name, before, &grounds.expected, &grounds.findings)?;
     let mark = format!(in alloc; "{name}: ")?;
-    let text = with_notes(alloc, &mark, threads, &text)?;
+    let text = with_notes(alloc, &mark, grounds.threads, &text)?;
     Ok(FilePart {
         text,
         tests,
@@ -112,10 +103,8 @@ fn bytes_of<R: Source>(alloc: Global, name: &str, source: &mut R) -> Result<Vec<
         IfSome (R.file source.old name.now) (λ bytes. RefusesInput bytes (Refusal.Input e))) }
     ensures files { R.file source.new ≡ R.file source.old }
 {
-    match source.open(name) {
-        Ok(()) => read_whole(alloc, source),
-        Err(_) => Err(InputError::Unread),
-    }
+    source.open(name)?;
+    read_whole(alloc, source)
 }
 
 /// What is printed of a file, after the n tests of the files before it.
@@ -197,6 +186,27 @@ fn planned(alloc: Global, tally: &Tally) -> Result<String, AllocError>
     Ok(text)
 }
 
+/// The tests of several files, and their plan.
+fn checked<R: Source, O: Observer>(
+    alloc: Global,
+    options: &CheckOptions,
+    names: &[String],
+    source: &mut R,
+    observer: &mut O,
+) -> Result<Reply, Refusal>
+    ensures { Replies (AreChecked options.now (R.file source.old) (map string_bytes names.now))
+        result }
+{
+    let tally = tell_all(alloc, options, names, source, observer)?;
+    let text = planned(alloc, &tally)?;
+    Ok(Reply::Several {
+        text,
+        refused: tally.refused,
+        unmet: tally.unmet,
+        told: tally.told,
+    })
+}
+
 /// `ebpf check` of several files.
 pub fn check_files<R: Source, O: Observer>(
     alloc: Global,
@@ -208,16 +218,5 @@ pub fn check_files<R: Source, O: Observer>(
     ensures { AreChecked options.now (R.file source.old)
         (map string_bytes names.now) result }
 {
-    let Ok(tally) = tell_all(alloc, options, names, source, observer) else {
-        return Reply::Refused(Refusal::OutOfMemory);
-    };
-    match planned(alloc, &tally) {
-        Ok(text) => Reply::Several {
-            text,
-            refused: tally.refused,
-            unmet: tally.unmet,
-            told: tally.told,
-        },
-        Err(_) => Reply::Refused(Refusal::OutOfMemory),
-    }
+    Reply::of(checked(alloc, options, names, source, observer))
 }

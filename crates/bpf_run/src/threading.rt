@@ -30,10 +30,8 @@ pub(crate) fn threads_in(alloc: Global, text: &str) -> Result<Threads, Refusal>
     ensures refused { IfErr result (RefusesFile text.now) }
 {
     let file = file_in(alloc, text)?;
-    match threads_of(alloc, &file) {
-        Ok(threads) => Ok(threads),
-        Err(_) => Err(Refusal::OutOfMemory),
-    }
+    let threads = threads_of(alloc, &file)?;
+    Ok(threads)
 }
 
 /// What is printed of tests, after comments that say these ways.

@@ -8,12 +8,12 @@ use Rattle.bpf_events.specs.Reports.{IsHistory}
 use Rattle.bpf_run.proofs.FreshFiles.{history}
 use Rattle.bpf_run.proofs.running.history_by.Goals as goal
 
-pub returns-in-Ok-clause-told : goal.returns-in-Ok-clause-told
-returns-in-Ok-clause-told c =
+pub returns-clause-told : goal.returns-clause-told
+returns-clause-told c =
     let file = c.in_ok-file.file in
-    let report = c.in-Ok.report in
+    let report = c.in_ok-report.report in
     let said : IsRunFile c.args.text.now (Ok (file_of file)) = search rules in
     let w = asked_world c.args.keys file.setup.shape file.setup.programs.items (map waiting file.setup.jobs.items) in
     let printed = subst (λ names. IsHistory w c.args.by.now (map string_bytes names) c.args.maps (string_bytes report.text) report.stopped)
-    c.deref.ensures.value c.in-Ok.ensures in
+    c.deref.ensures.value c.in_ok-report.ensures in
     history c.args.by.now c.args.keys c.args.maps c.args.text.now file report said printed

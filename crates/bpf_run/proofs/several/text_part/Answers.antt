@@ -1,29 +1,27 @@
-use Rattle.std.proofs.Common.{◌∙◌, ◌++◌, List, ℕ, inr, ap, subst}
+use Rattle.std.proofs.Common.{◌∙◌, ◌++◌, List, ℕ, inr, ap}
 use Rattle.std.specs.Prelude.{string_bytes}
 use Rattle.bpf_threads.specs.Lines.{notes_text}
-use Rattle.bpf_run.specs.declared.comments.Reading.{Reading}
-use Rattle.bpf_run.specs.Comments.{IsExpectedIn}
 use Rattle.bpf_run.proofs.CheckedParts.{part_made}
 use Rattle.bpf_run.proofs.several.text_part.Goals as goal
 
 pub returns : goal.returns
 returns g c =
     let name = c.args.name.now in
-    let expected = c.in-Ok.expected.items in
-    let f = c.in-Ok-findings_in.findings in
-    let threads = c.in-Ok-threads_in.threads in
+    let grounds = c.in-Ok.grounds in
+    let expected = grounds.expected.items in
+    let f = grounds.findings in
+    let threads = grounds.threads in
     let tests = c.in_ok-text.field-0 in
     let mark = string_bytes c.in_ok-mark.mark in
     let told = string_bytes tests.text in
-    let is = subst (λ (r : Reading). IsExpectedIn r c.args.text.now expected) c.reading_of.ensures c.in-Ok.ensures.found in
     let made = c.in_ok-text-2.ensures ∙ (ap (λ (t : List ℕ). notes_text t threads ++ c.deref-3.result.now) c.deref-2.ensures ∙ ap (λ (t : List ℕ). notes_text mark threads ++ t) c.deref-3.ensures) in
     inr (
       expected,
       f,
-      is,
-      c.in-Ok-findings_in.ensures.found,
+      c.in-Ok.ensures.expected,
+      c.in-Ok.ensures.findings,
       threads,
-      c.in-Ok-threads_in.ensures.found,
+      c.in-Ok.ensures.threads,
       part_made name c.args.before f threads expected c.deref.result.now (string_bytes c.in_ok-text-2.text) told mark tests.tests tests.conclusion c.is_unmet.result c.is_told.result
           c.deref.ensures.value c.in_ok-text.ensures.text c.in_ok-text.ensures.tests c.in_ok-text.ensures.conclusion c.in_ok-mark.ensures.ok made c.is_unmet.ensures c.is_told.ensures,
     )
