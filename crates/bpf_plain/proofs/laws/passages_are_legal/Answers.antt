@@ -1,5 +1,0 @@
-use Rattle.bpf_plain.proofs.Passages.{passages_are_legal as law}
-use Rattle.bpf_plain.proofs.laws.passages_are_legal.Goals as goal
-
-pub returns : goal.returns
-returns c = law

@@ -1,5 +1,0 @@
-use Rattle.bpf_plain.proofs.SavedNormal.{one_reading}
-use Rattle.bpf_plain.proofs.laws.readings_are_determined.Goals as goal
-
-pub returns : goal.returns
-returns c = one_reading

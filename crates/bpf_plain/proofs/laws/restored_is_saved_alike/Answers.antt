@@ -1,5 +1,0 @@
-use Rattle.bpf_plain.proofs.SavedNormal.{normal_saved}
-use Rattle.bpf_plain.proofs.laws.restored_is_saved_alike.Goals as goal
-
-pub returns : goal.returns
-returns c = normal_saved
