@@ -1,0 +1,35 @@
+-- A `PlainStore` as made shows the plain store as made.
+use Rattle.std.proofs.Common.{ℕ, List, refl, ap, ◌∙◌}
+use Rattle.bpf_shared.specs.Shape.{Shape, IsShape}
+use Rattle.bpf_shared.specs.Store.{Value, array_of, copy_of, index_of}
+use Rattle.bpf_shared.proofs.Fixed.{fixed_is}
+use Rattle.bpf_hash.specs.HashStore as hash
+use Rattle.bpf_plain.specs.Private.Contents.{Contents, bytes_of, AreAsMade, IsStore, IsMade}
+use Rattle.bpf_plain.proofs.Filling.{value_made}
+
+module _ (h : Shape) (is : IsShape h) (maps : hash.Contents) (arrays : List (List ℕ)) (made : hash.IsMade h maps) (filled : AreAsMade h arrays) where
+  abbrev new : Contents
+  new = record { shape = h; maps = maps; arrays = arrays }
+
+  pub new_store : IsStore new
+  new_store = record {
+    shape = is;
+    maps = made.shapes;
+    cpus = made.serves;
+    count = filled.count;
+    sizes = λ a g there. (filled.each a g there).size;
+    frozen = λ a g there frozen. filled.each a g there;
+  }
+
+  pub new_made : IsMade h new
+  new_made = record {
+    shape = refl;
+    serves = made.serves;
+    idle = made.idle;
+    holds_nothing = made.holds_nothing;
+    shows = record {
+      shape = refl;
+      maps = made.shows;
+      fixed = λ v f. ap (λ (x : Value). x.bytes) (fixed_is h v f) ∙ value_made h.cpus (copy_of v) (index_of v) f.array _ (bytes_of new (array_of v)) f.copy f.index (filled.each (array_of v) f.array f.is);
+    };
+  }
