@@ -13,8 +13,7 @@ use crate::digits::line_bytes;
 use crate::expander::Expander;
 use crate::lines::{no_state_line, report_line, state_line, successor_lines};
 use bpf_cpu::Setup;
-use bpf_explore::copy_shape;
-use bpf_jobs::make_machine;
+use bpf_explore::{copy_shape, first_machine};
 use bpf_machine::Machine;
 use bpf_races::{Watcher, list_races_in, races_in};
 use bpf_shared::StoreShape;
@@ -71,9 +70,8 @@ fn open(alloc: Global, patient: bool, setup: Setup) -> Result<Expander, AllocErr
         (map waiting setup.jobs.items)) }
     ensures machine { IfOk result (λ e. Shows e.machine (first_of setup)) }
 {
-    let copy = copy_shape(alloc, &setup.shape)?;
-    let machine = make_machine(alloc, setup)?;
-    Expander::new(alloc, patient, copy, machine)
+    let (shape, machine) = first_machine(alloc, setup)?;
+    Expander::new(alloc, patient, shape, machine)
 }
 
 /// What finds races over stores of this shape, if they are to be printed.

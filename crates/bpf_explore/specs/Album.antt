@@ -31,6 +31,10 @@ ShowsFirst kept m = (one : MachineState) × (slice_get kept 0 ≡ Some one)
 abbrev pub IsShownAt : List MachineState → ℕ → World → Type 0
 IsShownAt kept i w = (m : MachineState) × (slice_get kept i ≡ Some m) × Shows m w
 
+-- the first shows the world, which is before its first turn
+abbrev pub BeginsAt : List MachineState → World → Type 0
+BeginsAt kept w = IsFresh w × IsShownAt kept 0 w
+
 -- all that the machine shows, the i-th kept machine shows
 abbrev pub IsKeptAt : List MachineState → ℕ → MachineState → Type 0
 IsKeptAt kept i m = (one : MachineState) × (slice_get kept i ≡ Some one)

@@ -76,7 +76,7 @@ abbrev pub IsBefore : Pair → Pair → Type 0
 IsBefore p q = (p.one.cpu < q.one.cpu)
     ⊎ ((p.one.cpu ≡ q.one.cpu) × (p.other.cpu ≤ q.other.cpu))
 
--- they stand by rising pair of CPUs
+-- they are in the order of their pairs of CPUs
 abbrev pub AreRising : List RaceFound → Type 0
 AreRising races = (i j : ℕ) (one two : RaceFound) → i < j → slice_get races i ≡ Some one
     → slice_get races j ≡ Some two → IsBefore one.pair two.pair

@@ -179,7 +179,7 @@ impl Watcher {
         })
     }
 
-    /// What a CPU's next step touches. A machine over a store of another shape counts as want of
+    /// What a CPU's next step touches. A machine over a store of another shape counts as out of
     /// memory.
     pub fn next(&mut self, machine: &Machine, cpu: u8) -> Result<Next, AllocError>
         ensures { IfOk result (IsNextOf machine.now cpu) }
