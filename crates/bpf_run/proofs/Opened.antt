@@ -1,5 +1,5 @@
 -- What the text of a file amounts to, and what is done of it.
-use Rattle.std.proofs.Common.{◌≡◌, ◌⊎◌, ◌≤◌, ◌<◌, ◌∙◌, inl, inr, Bool, true, false, ℕ, List, [], ◌∷◌, Option, Some, None, length, refl, sym, subst, ap, true≢false}
+use Rattle.std.proofs.Common.{◌≡◌, ◌≤◌, ◌<◌, ◌∙◌, inl, inr, Bool, true, false, ℕ, List, [], ◌∷◌, Option, Some, None, length, refl, sym, subst, ap, true≢false}
 use Rattle.std.proofs.lemmas.Bool.{or_parts}
 use Rattle.std.specs.Prelude.{IfSome, IsUtf8, Vec, Ok, Err, ◌||◌}
 use Rattle.std.specs.List.{list_any}
@@ -8,24 +8,25 @@ use Rattle.bpf_lines.specs.Lines.{lines_of}
 use Rattle.bpf_file.specs.File.{File}
 use Rattle.bpf_file.specs.Reading.{IsRunFile}
 use Rattle.bpf_debug.specs.Session.{SessionState, IsShown}
-use Rattle.bpf_run.specs.Answer.{Prints, stats_of}
-use Rattle.bpf_run.specs.Commands.{IsReply, is_unread}
-use Rattle.bpf_run.specs.Input.{is_failed_read}
-use Rattle.bpf_run.specs.Script.{IsScriptOfFile, NoneEnds, ends_file, scene_of}
+use Rattle.bpf_replies.specs.Answer.{Prints, stats_of}
+use Rattle.bpf_run.specs.Commands.{IsReply}
+use Rattle.bpf_replies.specs.Input.{is_unread}
+use Rattle.bpf_replies.specs.Input.{is_failed_read}
+use Rattle.bpf_replies.specs.Script.{IsScriptOfFile, NoneEnds, ends_file, scene_of}
 use Rattle.bpf_run.specs.Conversing.{Holds, IsRefusal, LeavesLines, command_of}
 use Rattle.bpf_run.specs.Debugging.{IsOpened}
 use Rattle.bpf_run.specs.declared.conversing.Partner.{Partner}
 use Rattle.bpf_run.specs.declared.conversing.Partner.TheVariants as partner
 use Rattle.bpf_run.specs.declared.debugging.Opening.TheVariants as opening
-use Rattle.bpf_run.specs.declared.input.InputError.{InputError}
-use Rattle.bpf_run.specs.declared.input.InputError.TheVariants as input_error
-use Rattle.bpf_run.specs.declared.input.TheConstants.{MAX_INPUT}
-use Rattle.bpf_run.specs.Running.{RefusesFile}
-use Rattle.bpf_run.specs.declared.refusal.Refusal.{Refusal}
-use Rattle.bpf_run.specs.declared.refusal.Refusal.TheVariants as refusal
-use Rattle.bpf_run.specs.declared.reply.Reply.{Reply}
-use Rattle.bpf_run.specs.declared.reply.Reply.TheVariants as reply
-use Rattle.bpf_run.specs.declared.reply.Status.{Status}
+use Rattle.bpf_replies.specs.declared.input.InputError.{InputError}
+use Rattle.bpf_replies.specs.declared.input.InputError.TheVariants as input_error
+use Rattle.bpf_replies.specs.declared.input.TheConstants.{MAX_INPUT}
+use Rattle.bpf_replies.specs.Running.{RefusesFile}
+use Rattle.bpf_replies.specs.declared.refusal.Refusal.{Refusal}
+use Rattle.bpf_replies.specs.declared.refusal.Refusal.TheVariants as refusal
+use Rattle.bpf_replies.specs.declared.reply.Reply.{Reply}
+use Rattle.bpf_replies.specs.declared.reply.Reply.TheVariants as reply
+use Rattle.bpf_replies.specs.declared.reply.Status.{Status}
 use Rattle.bpf_run.proofs.ReplyLemmas.{unread}
 
 -- ---- whether a line ends the file

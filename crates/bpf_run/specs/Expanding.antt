@@ -4,9 +4,9 @@ use Rattle.bpf_shared.specs.Shape.{Shape}
 use Rattle.bpf_file.specs.File.{File}
 use Rattle.bpf_file.specs.Reading.{IsRunFile}
 use Rattle.bpf_expand.specs.Filter.{FilterState, IsFirstLine, new_filter}
-use Rattle.bpf_run.specs.Running.{RefusesFile}
-use Rattle.bpf_run.specs.declared.reply.Reply.{Reply}
-use Rattle.bpf_run.specs.declared.reply.Reply.TheVariants as reply
+use Rattle.bpf_replies.specs.Running.{RefusesFile}
+use Rattle.bpf_replies.specs.declared.reply.Reply.{Reply}
+use Rattle.bpf_replies.specs.declared.reply.Reply.TheVariants as reply
 
 abbrev pub shape_of : File → Shape
 shape_of f = record { cpus = f.cpus; maps = f.maps }

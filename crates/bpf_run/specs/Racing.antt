@@ -7,11 +7,11 @@ use Rattle.bpf_races.specs.Lines.{races_text}
 use Rattle.bpf_races.specs.Races.{AreRaces, RaceFound}
 use Rattle.bpf_races.specs.declared.sync.Part.{Part}
 use Rattle.bpf_races.specs.Sync.{ArePartsOf, IsAnyUnknown}
-use Rattle.bpf_run.specs.Running.{RefusesFile}
-use Rattle.bpf_run.specs.Script.{first_world_of}
-use Rattle.bpf_run.specs.declared.refusal.Refusal.TheVariants as refusal
-use Rattle.bpf_run.specs.declared.reply.Reply.{Reply}
-use Rattle.bpf_run.specs.declared.reply.Reply.TheVariants as reply
+use Rattle.bpf_replies.specs.Running.{RefusesFile}
+use Rattle.bpf_replies.specs.Script.{first_world_of}
+use Rattle.bpf_replies.specs.declared.refusal.Refusal.TheVariants as refusal
+use Rattle.bpf_replies.specs.declared.reply.Reply.{Reply}
+use Rattle.bpf_replies.specs.declared.reply.Reply.TheVariants as reply
 
 -- whether there is some race
 abbrev pub is_any_race : List RaceFound → Bool

@@ -2,16 +2,17 @@
 
 ghost use Rattle.std.specs.Prelude.{◌≡◌, ◌≤◌, ◌+◌, [], Some, false, true, option_map, IfOk, string_bytes};
 ghost use Rattle.bpf_json.specs.Lines.{AreObjectsOf};
-ghost use Rattle.bpf_run.specs.Answer.{Prints, stats_of};
+ghost use Rattle.bpf_replies.specs.Answer.{Prints, stats_of};
 ghost use Rattle.bpf_run.specs.Objects.{AreWritten, IsShown};
 ghost use Rattle.bpf_run.specs.Program.{input_of, Performs};
 
-use crate::perform::{Performed, answer, perform_of, write_text};
+use crate::perform::{Performed, perform_of};
 use crate::progress::Aside;
-use crate::reply::{Reply, Status};
-use crate::stream::{Sink, Source};
 use bpf_command::Command;
 use bpf_json::objects_of;
+use bpf_replies::printing::{answer, write_text};
+use bpf_replies::reply::{Reply, Status};
+use bpf_replies::stream::{Sink, Source};
 use std::alloc::{AllocError, Global};
 use std::io;
 use std::io::ErrorKind;

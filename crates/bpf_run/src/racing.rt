@@ -5,17 +5,17 @@ ghost use Rattle.bpf_file.specs.File.{file_of};
 ghost use Rattle.bpf_cpu.specs.Setup.{IsRunnable};
 ghost use Rattle.bpf_jobs.specs.Printed.{first_of};
 ghost use Rattle.bpf_races.specs.Races.{AreRaces};
-ghost use Rattle.bpf_run.specs.Answer.{Replies};
+ghost use Rattle.bpf_replies.specs.Answer.{Replies};
 ghost use Rattle.bpf_run.specs.Racing.{IsRacesFile, TellsRaces, is_any_race};
 
-use crate::refusal::Refusal;
-use crate::reply::Reply;
-use crate::running::file_in;
 use bpf_command::{RaceOptions, SearchOptions};
 use bpf_cpu::Setup;
 use bpf_explore::Observer;
 use bpf_file::RunFile;
 use bpf_races::{Part, Races, find_races, find_races_patiently, list_races, synced_parts};
+use bpf_replies::refusal::Refusal;
+use bpf_replies::reply::Reply;
+use bpf_replies::running::file_in;
 use std::alloc::{AllocError, Global};
 
 /// What is printed of races.

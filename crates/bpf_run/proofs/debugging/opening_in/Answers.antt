@@ -2,11 +2,11 @@ use Rattle.std.proofs.Common.{◌≡◌, ◌∙◌, ℕ, List, Bool, false, true
 use Rattle.std.specs.List.{list_any}
 use Rattle.bpf_lines.specs.Lines.{lines_of}
 use Rattle.bpf_run.specs.Debugging.{IsOpened}
-use Rattle.bpf_run.specs.Script.{ends_file}
+use Rattle.bpf_replies.specs.Script.{ends_file}
 use Rattle.bpf_run.specs.declared.debugging.Opening.TheVariants as opening
-use Rattle.bpf_run.specs.declared.reply.Reply.TheVariants as reply
+use Rattle.bpf_replies.specs.declared.reply.Reply.TheVariants as reply
 use Rattle.bpf_run.proofs.Opened.{opened_refusal, opened_script, opened_talk}
-use Rattle.bpf_run.proofs.Replied.{given}
+use Rattle.bpf_replies.proofs.Replied.{given}
 use Rattle.bpf_run.proofs.debugging.opening_in.Goals as goal
 
 pub returns-in_err-reply-clause-refused : goal.returns-in_err-reply-clause-refused

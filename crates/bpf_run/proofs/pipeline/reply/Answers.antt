@@ -1,5 +1,5 @@
 use Rattle.bpf_run.specs.Commands.{IsAnswer}
-use Rattle.bpf_run.proofs.Replied.{replied}
+use Rattle.bpf_replies.proofs.Replied.{replied}
 use Rattle.bpf_run.proofs.pipeline.reply.Goals as goal
 
 pub returns : goal.returns

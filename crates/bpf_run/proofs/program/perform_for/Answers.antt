@@ -1,5 +1,5 @@
 use Rattle.std.proofs.Common.{◌≡◌, option_map, rules, string_bytes}
-use Rattle.bpf_run.specs.Answer.{stats_of}
+use Rattle.bpf_replies.specs.Answer.{stats_of}
 use Rattle.bpf_run.specs.Conversing.{Converses}
 use Rattle.bpf_run.proofs.Talked.{renamed}
 use Rattle.bpf_run.proofs.program.perform_for.Goals as goal
