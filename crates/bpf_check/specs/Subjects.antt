@@ -142,3 +142,7 @@ can_print s first more =
     if bytes_eq first (codes "job") then is_job_line s more
     else (if bytes_eq first (codes "map") then is_map_line s more
     else (s.lists && (bytes_eq first (codes "keys") && is_keys_line s more)))
+
+abbrev pub can_print_all : Subjects → List (List ℕ) → Bool
+can_print_all s [] = false
+can_print_all s (first ∷ more) = can_print s first more

@@ -4,7 +4,7 @@ ghost use Rattle.std.specs.Prelude.{◌≡◌, ◌==◌, ◌+◌, ◌%◌, ◌�
 ghost use Rattle.std.specs.List.{after_first, before_first, list_all};
 ghost use Rattle.std.specs.Option.{option_copied};
 ghost use Rattle.std.specs.Str.{bytes_eq};
-ghost use Rattle.bpf_check.specs.Subjects.{are_bytes, are_keys, at, can_print, cpu_of, has_jobs, has_plain_digits, is_budget_end, is_end, is_equals, is_exit, is_fault, is_fault_end, is_hex_digit, is_job_line, is_keys_line, is_map_line, is_number, is_pair, is_result, is_same, map_of, number_in, place_of, stands};
+ghost use Rattle.bpf_check.specs.Subjects.{are_bytes, are_keys, at, can_print, can_print_all, cpu_of, has_jobs, has_plain_digits, is_budget_end, is_end, is_equals, is_exit, is_fault, is_fault_end, is_hex_digit, is_job_line, is_keys_line, is_map_line, is_number, is_pair, is_result, is_same, map_of, number_in, place_of, stands};
 
 use bpf_lines::numbers::{self, Radix};
 use bpf_shared::{MapShape, StoreShape};
@@ -54,7 +54,7 @@ fn has_plain_digits(word: &[u8]) -> bool
 }
 
 /// The number that a word is, as numbers are printed.
-fn number_in(word: &[u8]) -> Option<u64>
+pub(crate) fn number_in(word: &[u8]) -> Option<u64>
     ensures { result ≡ number_in word.now }
 {
     if !has_plain_digits(word) {
@@ -180,7 +180,7 @@ fn are_keys(shape: Option<&MapShape>, words: &[&[u8]]) -> bool
 }
 
 /// The word at place `n`; none where there are fewer.
-fn word_at<'a>(words: &[&'a [u8]], n: usize) -> &'a [u8]
+pub(crate) fn word_at<'a>(words: &[&'a [u8]], n: usize) -> &'a [u8]
     ensures { result.now ≡ at (map (λ f. f.now) words.now) n }
 {
     match words.get(n) {
@@ -190,7 +190,7 @@ fn word_at<'a>(words: &[&'a [u8]], n: usize) -> &'a [u8]
 }
 
 /// Whether it is this one.
-fn stands(words: &[&[u8]], n: usize, text: &str) -> bool
+pub(crate) fn stands(words: &[&[u8]], n: usize, text: &str) -> bool
     ensures { result ≡ stands (map (λ f. f.now) words.now) n text.now }
 {
     is(word_at(words, n), text)
@@ -278,7 +278,7 @@ impl Subjects {
     }
 
     /// The CPU of the job of this number.
-    fn cpu_of(&self, job: Option<u64>) -> Option<u64>
+    pub(crate) fn cpu_of(&self, job: Option<u64>) -> Option<u64>
         ensures { result ≡ cpu_of self.now job }
     {
         match job {
@@ -300,7 +300,7 @@ impl Subjects {
     }
 
     /// The sizes of the map of this name.
-    fn map_of(&self, name: &[u8]) -> Option<&MapShape>
+    pub(crate) fn map_of(&self, name: &[u8]) -> Option<&MapShape>
         ensures { option_copied result ≡ map_of self.now name.now }
     {
         match place_of(name, &self.names) {
@@ -347,7 +347,7 @@ impl Subjects {
 
     /// Whether an outcome can have the line of these words.
     #[tactic(auto, unfolding(crate::specs::Subjects::can_print))]
-    pub(crate) fn can_print(&self, first: &[u8], more: &[&[u8]]) -> bool
+    fn can_print(&self, first: &[u8], more: &[&[u8]]) -> bool
         ensures { result ≡ can_print self.now first.now (map (λ f. f.now) more.now) }
     {
         if is(first, "job") {
@@ -356,6 +356,16 @@ impl Subjects {
             self.is_map_line(more)
         } else {
             self.lists && is(first, "keys") && self.is_keys_line(more)
+        }
+    }
+
+    /// Whether words are a line that an outcome can have.
+    pub(crate) fn can_print_all(&self, words: &[&[u8]]) -> bool
+        ensures { result ≡ can_print_all self.now (map (λ f. f.now) words.now) }
+    {
+        match words {
+            [] => false,
+            [first, more @ ..] => self.can_print(first, more),
         }
     }
 }
