@@ -39,7 +39,8 @@ pub fn search_of(alloc: Global, setup: Setup) -> Result<Explorer, AllocError>
     Explorer::new(alloc, shape, machine)
 }
 
-/// The same of a patient search, which has made no turn.
+/// A patient search that begins with the machine of jobs, and has made no turn. Out of memory is the
+/// only refusal.
 pub fn patient_search_of(alloc: Global, setup: Setup) -> Result<PatientExplorer, AllocError>
     requires { IsRunnable setup }
     ensures begins { IfOk result (λ e. BeginsAt e.kept (first_of setup)) }

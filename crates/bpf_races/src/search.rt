@@ -46,7 +46,7 @@ fn begin(alloc: Global, setup: Setup) -> Result<(Watcher, Explorer), AllocError>
     Ok((watcher, explorer))
 }
 
-/// The same of a patient search.
+/// A patient search that begins with the machine of jobs, and what watches its machines.
 fn begin_patiently(alloc: Global, setup: Setup) -> Result<(Watcher, PatientExplorer), AllocError>
     requires { IsRunnable setup }
     ensures { IfOk result (λ r. BeginsAt r.1.kept (first_of setup)) }
@@ -81,7 +81,7 @@ fn conclude(
     })
 }
 
-/// The same of a patient search.
+/// The races of the machines that a patient search keeps which came this far.
 fn conclude_patiently(
     alloc: Global,
     explorer: &mut PatientExplorer,
