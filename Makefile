@@ -1,4 +1,4 @@
-.PHONY: run build try web test check edits soak manual bench dist install uninstall help
+.PHONY: run build try web test format check edits soak manual bench dist install uninstall help
 
 PREFIX ?= /usr/local
 
@@ -17,7 +17,8 @@ web: build ## Make the page that steps the proved program in a browser: out/web/
 	tools/web
 
 # rt ci sets aside what was built before, and leaves the program that it proved, built and ran: the cases take that one.
-test: ## The whole gate: every proof, every must-fail edit, every test, then the cases, refused memory, failing reads and writes, and damaged input and hosts
+test: ## The whole gate: the layout of the sources, every proof, every must-fail edit, every test, then the cases, refused memory, failing reads and writes, and damaged input and hosts
+	tests/format
 	rt ci
 	install -m 755 crates/bpf_run/out/bpf_run ebpf
 	tests/probes ./ebpf
@@ -47,6 +48,9 @@ test: ## The whole gate: every proof, every must-fail edit, every test, then the
 
 manual: ## Look for mistakes in the manual page with mandoc, where that is installed
 	@if command -v mandoc >/dev/null; then mandoc -T lint ebpf.1; else echo "mandoc isn't installed: ebpf.1 isn't looked at"; fi
+
+format: ## Lay out the sources of all crates as rt fmt does, which the gate asks for
+	for crate in crates/*/; do (cd "$$crate" && rt fmt) || exit 1; done
 
 check: ## The quick check while one writes: what changed is proved again
 	rt all check

@@ -43,7 +43,7 @@ fn place_of_instruction(line: &str) -> usize {
     code.len().saturating_sub(insn.len()).saturating_add(blanks)
 }
 
-/// The line of this number with a caret below its instruction, behind the line of C from which it
+/// The line of this number with a caret below its instruction, after the line of C from which it
 /// comes, where a comment has that.
 pub fn push_source(
     alloc: Global,

@@ -1,15 +1,15 @@
 -- A signed quotient or remainder of numbers of a width, taken modulo 2 ^ bits, is its two's complement.
 use Rattle.std.proofs.Common.{◌≡◌, ℕ, suc, zero, ◌+◌, ◌%◌, ◌/◌, ◌^◌, ◌<◌, ◌≤◌, ℤ, pos, arith, sym, ◌∙◌, ◌≢◌, eqb, false}
-use Rattle.std.specs.Prelude.{negsuc, neg_ℤ, int_div, FitsSigned}
+use Rattle.std.specs.Prelude.{negsuc, neg_ℤ, int_div, int_rem, FitsSigned}
 use Rattle.std.specs.Int.{Width as Number, w8, w16, w32, w64, w128, cast_signed, cast_unsigned}
 use mir.Val.{bits, hbits}
-use lib.Signed.{mag}
+use lib.Signed.{mag, mag_rem}
 use Rattle.std.proofs.lemmas.Bool.{ne_eqb}
 use Rattle.std.proofs.lemmas.Int.{of_z-to_z}
 use Rattle.std.proofs.Math.Nat.{mod-eq_of_lt, div-le_self}
 use Rattle.bpf_alu.specs.Width.{low, signed, modulo}
 use Rattle.bpf_alu.specs.Arithmetic.{whole}
-use Rattle.bpf_insn.specs.declared.operation.arithmetic.AluOp.TheVariants.{Sdiv}
+use Rattle.bpf_insn.specs.declared.operation.arithmetic.AluOp.TheVariants.{Sdiv, Smod}
 
 -- a number whose size is below 2 ^ bits is its two's complement, modulo 2 ^ bits
 modulo-cast : (w : Number) (z : ℤ) → mag z < 2 ^ bits w → modulo w z ≡ cast_unsigned w z
@@ -49,3 +49,15 @@ quotient_value w a b r x y la lb nz ex ey fx er =
     let test : eqb b 0 ≡ false = ne_eqb b 0 nz in
     let small = fits-int_div w x y fx in
     rw (ea, eb, test, ← ex, ← ey) (er ∙ of_z-to_z w _ (cast-below w (int_div x y) small) ∙ sym (modulo-cast w (int_div x y) small))
+
+fits-int_rem : (w : Number) (x y : ℤ) → FitsSigned w x → mag (int_rem x y) < 2 ^ bits w
+fits-int_rem w x y h = omega (arith, h.sfits, mag_rem x y, half-below w)
+
+-- what the code's signed remainder gives, where the divisor isn't zero
+pub remainder_value : (w : Number) (a b r : ℕ) (x y : ℤ) → a < 2 ^ bits w → b < 2 ^ bits w → b ≢ 0 → x ≡ signed w a → y ≡ signed w b → FitsSigned w x → r ≡ cast_unsigned w (cast_signed w (cast_unsigned w (int_rem x y))) → r ≡ modulo w (whole w Smod (low w a) (low w b))
+remainder_value w a b r x y la lb nz ex ey fx er =
+    let ea : a % 2 ^ bits w ≡ a = mod-eq_of_lt la in
+    let eb : b % 2 ^ bits w ≡ b = mod-eq_of_lt lb in
+    let test : eqb b 0 ≡ false = ne_eqb b 0 nz in
+    let small = fits-int_rem w x y fx in
+    rw (ea, eb, test, ← ex, ← ey) (er ∙ of_z-to_z w _ (cast-below w (int_rem x y) small) ∙ sym (modulo-cast w (int_rem x y) small))

@@ -1,3 +1,5 @@
+mod Held
+mod Joints
 mod TestLines
 mod Verdicts
 mod SingleRuns

@@ -4,7 +4,7 @@ use Rattle.std.proofs.lemmas.List.{get_or_read_under}
 use Rattle.std.specs.Prelude.{◌&&◌, ◌||◌}
 use Rattle.bpf_check.specs.declared.expectation.Often.{Often}
 use Rattle.bpf_check.specs.declared.expectation.Often.TheVariants as often
-use Rattle.bpf_check.specs.Expectation.{Expected, asks_of_ends, has_line}
+use Rattle.bpf_check.specs.Expectation.{Expected, agrees, asks_of_ends}
 use Rattle.bpf_check.specs.Listing.{no_expectation}
 use Rattle.bpf_check.specs.Single.{RunsAreJudged, is_open_by, is_refuted_by, judged_test, judged_tests}
 use Rattle.bpf_check.specs.Verdict.{IsOutcomeText, MeetBy}
@@ -20,15 +20,15 @@ kept false e = cc
 never_both : (b : Bool) → b ≡ true → b ≡ false → ⊥
 never_both b has lacks = let both : true ≡ false = sym has ∙ lacks in cc
 
-refutes : (IsText : List ℕ → Type 0) (text line : List ℕ) (o : Often) → IsText text → is_refuted_by o (has_line line text) ≡ true → MeetBy IsText line o → ⊥
-refutes IsText text line often.Always is e all = never_both (has_line line text) (all.0 text is) (turned (has_line line text) e)
-refutes IsText text line often.Sometimes is e one = cc
-refutes IsText text line often.Never is e none = never_both (has_line line text) e (none text is)
+refutes : (IsText : List ℕ → Type 0) (so : List ℕ → Bool) (text : List ℕ) (o : Often) → IsText text → is_refuted_by o (so text) ≡ true → MeetBy IsText so o → ⊥
+refutes IsText so text often.Always is e all = never_both (so text) (all.0 text is) (turned (so text) e)
+refutes IsText so text often.Sometimes is e one = cc
+refutes IsText so text often.Never is e none = never_both (so text) e (none text is)
 
-meets : (text line : List ℕ) (o : Often) → is_refuted_by o (has_line line text) ≡ false → is_open_by o (has_line line text) ≡ false → MeetBy (λ t. t ≡ text) line o
-meets text line often.Always e left = ((λ t same. ap (has_line line) same ∙ kept (has_line line text) e), (text, refl))
-meets text line often.Sometimes e left = (text, refl, kept (has_line line text) left)
-meets text line often.Never e left = λ t same. ap (has_line line) same ∙ e
+meets : (so : List ℕ → Bool) (text : List ℕ) (o : Often) → is_refuted_by o (so text) ≡ false → is_open_by o (so text) ≡ false → MeetBy (λ t. t ≡ text) so o
+meets so text often.Always e left = ((λ t same. ap so same ∙ kept (so text) e), (text, refl))
+meets so text often.Sometimes e left = (text, refl, kept (so text) left)
+meets so text often.Never e left = λ t same. ap so same ∙ e
 
 -- where it isn't asked if schedules can end
 by_line : (asks refuted : Bool) → not asks && refuted ≡ true → refuted ≡ true
@@ -42,9 +42,9 @@ not_open false left refuted e f = (e, f)
 pub judged : RunsAreJudged
 judged w names text e is =
     let asks = asks_of_ends e.often e.line in
-    let has = has_line e.line text in (
-      (λ refuted. refutes (IsOutcomeText w names) text e.line e.often is (by_line asks (is_refuted_by e.often has) refuted)),
-      (λ stays left. let both = not_open asks (is_open_by e.often has) (is_refuted_by e.often has) left stays in meets text e.line e.often both.1 both.0),
+    let so = agrees e text in (
+      (λ refuted. refutes (IsOutcomeText w names) (agrees e) text e.often is (by_line asks (is_refuted_by e.often so) refuted)),
+      (λ stays left. let both = not_open asks (is_open_by e.often so) (is_refuted_by e.often so) left stays in meets (agrees e) text e.often both.1 both.0),
     )
 
 -- one test more

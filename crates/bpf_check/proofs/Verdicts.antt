@@ -9,7 +9,7 @@ use Rattle.bpf_explore.specs.Outcomes.{AreOutcomes, EndsBy, Found, HaveAll}
 use Rattle.bpf_explore.specs.Patient.{EndsPatiently, HangsBy, NoneHangs}
 use Rattle.bpf_check.specs.declared.expectation.Often.{Often}
 use Rattle.bpf_check.specs.declared.expectation.Often.TheVariants as often
-use Rattle.bpf_check.specs.Expectation.{Expected, asks_ends, asks_hung, has_line}
+use Rattle.bpf_check.specs.Expectation.{Expected, agrees, asks_ends, asks_hung}
 use Rattle.bpf_check.specs.Findings.{Findings}
 use Rattle.bpf_check.specs.Laws.{ArePatientFindings, PatientVerdictsAreTrue, VerdictsAreTrue}
 use Rattle.bpf_check.specs.Verdict.{AreTrueEnds, Choose, IsOutcomeText, IsPatientText, IsTrueHang, IsTrueOf, IsTruePatiently, IsTrueVerdict, decides, decides_by, ends_verdict, hung_verdict, is_empty, outcome_verdict, verdict_at, verdict_of, verdict_of_ends, verdict_of_hung, verdict_of_none}
@@ -72,14 +72,14 @@ first_of [] e = let no : true ≡ false = e in absurd cc
 first_of (x ∷ xs) e = (x, refl)
 
 -- answers show texts, each by its own schedule
-module _ (IsText : List ℕ → Type 0) (IsAnswer : Found → Type 0) (f : Findings) (line : List ℕ)
+module _ (IsText : List ℕ → Type 0) (IsAnswer : Found → Type 0) (f : Findings) (e : Expected)
     (tells : (found : Found) → IsAnswer found → IsText found.text)
     (each : (i : ℕ) (found : Found) → slice_get f.answers i ≡ Some found → IsAnswer found) where
   abbrev told : Often → Found → Bool
-  told o found = decides_by o (has_line line found.text)
+  told o found = decides_by o (agrees e found.text)
 
   abbrev expects : Often → Expected
-  expects o = record { often = o; line = line }
+  expects o = record { often = o; line = e.line; join = e.join; parts = e.parts }
 
   is_text : (i : ℕ) (found : Found) → slice_get f.answers i ≡ Some found → IsText found.text
   is_text i found at = tells found (each i found at)
@@ -113,11 +113,11 @@ module _ (IsText : List ℕ → Type 0) (IsAnswer : Found → Type 0) (f : Findi
   undecided often.Always true true found is have lacks =
       let no = no_text (have refl) is in ((λ met. no met.1.0 met.1.1), no)
   undecided often.Always true false found is have lacks =
-      ((λ text there. for_each (λ t. has_line line t ≡ true) (have refl) (λ i answer at. has_it _ (lacks i answer at)) text there), some_text is)
+      ((λ text there. for_each (λ t. agrees e t ≡ true) (have refl) (λ i answer at. has_it _ (lacks i answer at)) text there), some_text is)
   undecided often.Sometimes true none found is have lacks =
-      λ met. let no = for_each (λ t. has_line line t ≡ false) (have refl) lacks met.0 met.1 in let has = met.2 in cc
+      λ met. let no = for_each (λ t. agrees e t ≡ false) (have refl) lacks met.0 met.1 in let has = met.2 in cc
   undecided often.Never true none found is have lacks =
-      λ text there. for_each (λ t. has_line line t ≡ false) (have refl) lacks text there
+      λ text there. for_each (λ t. agrees e t ≡ false) (have refl) lacks text there
 
   decided : (o : Often) (place : Option ℕ) (all none : Bool) → f.all ≡ all → is_empty f.answers ≡ none → (all ≡ true → AreAll)
       → Finds (told o) f.answers place → IsTrueOf IsText IsAnswer f (expects o) (verdict_at o place all none)
@@ -136,7 +136,7 @@ module _ (IsText : List ℕ → Type 0) (IsAnswer : Found → Type 0) (f : Findi
 exact : (w : World) (names : List (List ℕ)) (f : Findings) (e : Expected) → AreOutcomes w names true f.answers
     → (f.all ≡ true → HaveAll w names true f.answers) → IsTrueVerdict w names f e (outcome_verdict f e)
 exact w names f e are have =
-    decided (IsOutcomeText w names) (EndsBy w names true) f e.line (λ found ends. (found.stopped, (unrolled found.by, ends))) are.each
+    decided (IsOutcomeText w names) (EndsBy w names true) f e (λ found ends. (found.stopped, (unrolled found.by, ends))) are.each
     e.often _ f.all (is_empty f.answers) refl refl (λ whole text is. let there = have whole text is.0 is.1 in (there.0, there.1, there.2, there.3))
     (finds (λ found. decides e found.text) f.answers)
 
@@ -150,7 +150,7 @@ verdicts_true w names f e exactly are have =
 patiently : (w : World) (names : List (List ℕ)) (f : Findings) (e : Expected) → ArePatientFindings w names f
     → IsTrueOf (IsPatientText w names) (EndsPatiently w names true) f e (outcome_verdict f e)
 patiently w names f e are =
-    decided (IsPatientText w names) (EndsPatiently w names true) f e.line (λ found ends. (found.stopped, (unrolled found.by, ends.0, ends.1, ends.2, ends.3, ends.4))) are.outcomes.each
+    decided (IsPatientText w names) (EndsPatiently w names true) f e (λ found ends. (found.stopped, (unrolled found.by, ends.0, ends.1, ends.2, ends.3, ends.4))) are.outcomes.each
     e.often _ f.all (is_empty f.answers) refl refl (λ whole text is. let there = are.complete whole text is.0 is.1 in (there.0, there.1, there.2, there.3))
     (finds (λ found. decides e found.text) f.answers)
 

@@ -1,17 +1,27 @@
 -- What a run file expects of its outcomes, in its comments. Our own choice.
-use Rattle.std.specs.Prelude.{ℕ, zero, suc, Bool, false, ◌==◌, ◌&&◌, ◌||◌, ◌++◌, List, [], ◌∷◌, Option, Some, None, if◌then◌else◌, is_none, option_and_then, codes, length, nat_le, slice_index_or}
-use Rattle.std.specs.List.{after_first, filter_map, list_any, position}
+use Rattle.std.specs.Prelude.{ℕ, Bool, false, ◌==◌, ◌&&◌, ◌||◌, List, [], ◌∷◌, Option, Some, None, if◌then◌else◌, is_none, option_and_then, option_map, codes, length, nat_le}
+use Rattle.std.specs.List.{after_first, filter_map, position}
 use Rattle.std.specs.Str.{bytes_eq}
 use Rattle.bpf_lines.specs.Lines.{fields_of, lines_of}
 use Rattle.bpf_check.specs.declared.expectation.Often.{Often}
 use Rattle.bpf_check.specs.declared.expectation.Often.TheVariants as often
-use Rattle.bpf_check.specs.Subjects.{Subjects, can_print}
+use Rattle.bpf_check.specs.Claim.{Part, has_part, joined}
+use Rattle.bpf_check.specs.Parts.{join_in, joint_of, line_of, line_part, parts_in}
+use Rattle.bpf_check.specs.Subjects.{Subjects, can_print_all}
+use Rattle.bpf_check.specs.declared.claim.Join.{Join}
+use Rattle.bpf_check.specs.declared.claim.Join.TheVariants as join
 
--- how often outcomes are to have a line; or, where the line is `ends` or `hung`, that each schedule can
--- end, or that some can't
+-- how often outcomes are to be as a line of words claims, and what that is: its parts, and how they are
+-- joined. Or, where the line is `ends` or `hung`, that each schedule can end, or that some can't
 pub record Expected : Type 0 where
   pub often : Often
   pub line : List ℕ
+  pub join : Join
+  pub parts : List Part
+
+-- AN OUTCOME'S TEXT IS AS IT CLAIMS
+abbrev pub agrees : Expected → List ℕ → Bool
+agrees e text = joined e.join (λ p. has_part p text) e.parts
 
 abbrev pub often_text : Often → List ℕ
 often_text often.Always = codes "always"
@@ -26,11 +36,6 @@ often_in word =
     if is_often often.Always word then Some often.Always
     else (if is_often often.Sometimes word then Some often.Sometimes
     else (if is_often often.Never word then Some often.Never else None))
-
--- the first n words, each after a blank
-abbrev pub words_behind : ℕ → List (List ℕ) → List ℕ
-words_behind zero words = []
-words_behind (suc n) words = words_behind n words ++ (32 ∷ slice_index_or words n [])
 
 -- ---- what asks if schedules can end
 
@@ -57,22 +62,33 @@ asks_of_ends o line = asks_ends o line || asks_hung o line
 
 -- ---- a comment
 
--- this can be expected of the file: a line that its outcomes can have, or that schedules can end
-abbrev pub can_expect : Subjects → Often → (first : List ℕ) → List (List ℕ) → Bool
-can_expect s o first [] = s.ends && asks_of_ends o first
-can_expect s o first (word ∷ more) = can_print s first (word ∷ more)
+-- that schedules can end, or not, where that may be asked
+abbrev pub can_ask : Subjects → Often → List (List ℕ) → Bool
+can_ask s o words = s.ends && (length words == 1 && asks_of_ends o (line_of words))
 
--- what the words of a comment expect: how often, and then the words of a line
-unfoldable pub expected_by : Subjects → (word first : List ℕ) → List (List ℕ) → Option Expected
-expected_by s word first more =
-    option_and_then (λ o. if can_expect s o first more
-    then Some (record { often = o; line = first ++ words_behind (length more) more }) else None)
-    (often_in word)
+-- the words are one line, or ask that; so a map may have the name `and` or `or`
+abbrev pub is_whole : Subjects → Often → List (List ℕ) → Bool
+is_whole s o words = can_print_all s words || can_ask s o words
+
+abbrev pub whole : Often → (line : List ℕ) → Expected
+whole o line = record { often = o; line = line; join = join.All; parts = line_part line ∷ [] }
+
+abbrev pub claimed : Often → (line : List ℕ) → Join → List Part → Expected
+claimed o line j parts = record { often = o; line = line; join = j; parts = parts }
+
+abbrev pub claim_of : Subjects → Often → List (List ℕ) → Option Expected
+claim_of s o words = option_map (claimed o (line_of words) (join_in words))
+    (parts_in s (joint_of (join_in words)) words)
+
+-- what the words of a comment expect: how often, and then a line, or parts
+unfoldable pub expected_by : Subjects → (word : List ℕ) → List (List ℕ) → Option Expected
+expected_by s word words = option_and_then (λ o. if is_whole s o words
+    then Some (whole o (line_of words)) else claim_of s o words) (often_in word)
 
 abbrev pub expected_in : Subjects → List (List ℕ) → Option Expected
 expected_in s [] = None
 expected_in s (word ∷ []) = None
-expected_in s (word ∷ first ∷ more) = expected_by s word first more
+expected_in s (word ∷ first ∷ more) = expected_by s word (first ∷ more)
 
 -- they begin with the same two bytes in the other order, and are else the same
 abbrev pub are_exchanged : List ℕ → List ℕ → Bool
@@ -93,13 +109,16 @@ abbrev pub seems_often : List ℕ → Bool
 seems_often word =
     is_near word (codes "always") || (is_near word (codes "sometimes") || is_near word (codes "never"))
 
--- the words are meant to expect something: three or more after such a word, or it and one that asks
--- of ends
+-- a word that expects something alone
+abbrev pub is_alone : List ℕ → Bool
+is_alone word = bytes_eq word ends_line || (bytes_eq word hung_line || bytes_eq word (codes "fault"))
+
+-- the words are meant to expect something: such a word and two more, or it and one of those
 abbrev pub is_claim : List (List ℕ) → Bool
 is_claim [] = false
 is_claim (word ∷ []) = false
 is_claim (word ∷ second ∷ []) =
-    seems_often word && (bytes_eq second ends_line || bytes_eq second hung_line)
+    seems_often word && is_alone second
 is_claim (word ∷ second ∷ third ∷ more) = seems_often word
 
 -- and they can't
@@ -125,7 +144,3 @@ expectations_of s text = filter_map (λ line. expected_in s (words_of line)) (li
 -- the first line whose comment is meant to expect something and can't, counted from 0
 abbrev pub first_amiss : Subjects → List ℕ → Option ℕ
 first_amiss s text = position (λ line. is_amiss s (words_of line)) (lines_of text)
-
--- the text has this line
-abbrev pub has_line : List ℕ → List ℕ → Bool
-has_line line text = list_any (λ l. bytes_eq l line) (lines_of text)

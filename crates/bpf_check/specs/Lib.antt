@@ -1,4 +1,6 @@
 pub mod Subjects
+pub mod Claim
+pub mod Parts
 pub mod Expectation
 pub mod Unexpected
 pub mod Findings
@@ -6,3 +8,4 @@ pub mod Verdict
 pub mod Laws
 pub mod Listing
 pub mod Single
+pub mod Private

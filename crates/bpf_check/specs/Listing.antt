@@ -1,9 +1,10 @@
 -- How verdicts are printed: in the form of TAP, a test an expectation. Our own choice.
-use Rattle.std.specs.Prelude.{ℕ, zero, suc, ◌+◌, Bool, ◌==◌, ◌||◌, ◌++◌, List, [], Option, Some, None, if◌then◌else◌, codes, length, map, slice_get, slice_index_or}
+use Rattle.std.specs.Prelude.{ℕ, zero, suc, ◌+◌, Bool, false, true, ◌==◌, ◌&&◌, ◌||◌, ◌++◌, List, [], Option, Some, None, if◌then◌else◌, codes, length, map, nat_le, slice_get, slice_index_or}
 use Rattle.std.specs.Fmt.{decimal}
 use Rattle.bpf_lines.specs.Words.{is_word_byte}
 use Rattle.bpf_schedule.specs.Spelling.{runs_text}
 use Rattle.bpf_explore.specs.Outcomes.{Found}
+use Rattle.bpf_check.specs.declared.claim.Join.TheVariants as join
 use Rattle.bpf_check.specs.declared.expectation.Often.TheVariants as often
 use Rattle.bpf_check.specs.declared.judging.Verdict.{Verdict}
 use Rattle.bpf_check.specs.declared.judging.Verdict.TheVariants as verdict
@@ -13,9 +14,13 @@ use Rattle.bpf_check.specs.Verdict.{ends_verdict}
 
 -- ---- the line that is expected
 
--- a letter, a digit, `_`, `=` or a blank: no line that is printed has another byte
+-- one of `!`, `+`, `<`, `=`, `>`, `[` and `]`
+abbrev pub is_claim_mark : ℕ → Bool
+is_claim_mark b = (b == 33) || ((b == 43) || ((nat_le 60 b && nat_le b 62) || ((b == 91) || (b == 93))))
+
+-- a letter, a digit, `_`, a blank or such a mark: no claim has another byte
 abbrev pub is_line_byte : ℕ → Bool
-is_line_byte b = is_word_byte b || ((b == 61) || (b == 32))
+is_line_byte b = is_word_byte b || ((b == 32) || is_claim_mark b)
 
 -- any other is shown as `?`
 abbrev pub shown_byte : ℕ → ℕ
@@ -49,15 +54,21 @@ abbrev pub hung_lines : ℕ → List (List (ℕ × ℕ)) → List ℕ
 hung_lines zero hung = []
 hung_lines (suc n) hung = hung_lines n hung ++ hung_text (slice_index_or hung n [])
 
+-- that not all outcomes were found, and what may find more
+abbrev pub untold_text : (patient : Bool) → List ℕ
+untold_text false =
+    codes "# not decided: not all outcomes were found; --limit N looks at more states, --patient has fewer\n"
+untold_text true = codes "# not decided: not all outcomes were found; --limit N looks at more states\n"
+
 -- why it isn't ok
 abbrev pub reason_text : Findings → Verdict → List ℕ
 reason_text f verdict.Holds = []
 reason_text f (verdict.Shown i) = schedule_text (slice_get f.answers i)
-reason_text f verdict.Refuted = codes "# no outcome has this line\n"
+reason_text f verdict.Refuted = codes "# it is so in no outcome\n"
 reason_text f verdict.NoOutcome = codes "# no outcome\n"
 reason_text f verdict.Hangs = hung_lines (length f.hung) f.hung
 reason_text f verdict.NoneHangs = codes "# every schedule can end\n"
-reason_text f verdict.Untold = codes "# not told: not all outcomes were found\n"
+reason_text f verdict.Untold = untold_text f.patient
 
 abbrev pub number_text : ℕ → List ℕ
 number_text n = decimal n ++ codes " - "
@@ -68,7 +79,7 @@ test_text name f n what v =
     ok_text v ++ number_text n ++ name ++ what ++ codes "\n" ++ reason_text f v
 
 abbrev pub no_expectation : Expected
-no_expectation = record { often = often.Always; line = [] }
+no_expectation = record { often = often.Always; line = []; join = join.All; parts = [] }
 
 -- the first n tests, after some number of others
 abbrev pub tests_text : (name : List ℕ) → (before : ℕ) → Findings → ℕ → List Expected

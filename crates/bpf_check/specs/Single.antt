@@ -4,34 +4,34 @@ use Rattle.std.specs.List.{list_any}
 use Rattle.bpf_machine.specs.Schedule.{World}
 use Rattle.bpf_check.specs.declared.expectation.Often.{Often}
 use Rattle.bpf_check.specs.declared.expectation.Often.TheVariants as often
-use Rattle.bpf_check.specs.Expectation.{Expected, asks_of_ends, has_line}
+use Rattle.bpf_check.specs.Expectation.{Expected, agrees, asks_of_ends}
 use Rattle.bpf_check.specs.Listing.{expected_text, no_expectation, number_text, plan_text}
 use Rattle.bpf_check.specs.Verdict.{IsMet, IsOutcomeText, Meet}
 
 -- ---- the one text
 
--- it shows that outcomes aren't as expected: the line isn't there, or one is that none is to have
-abbrev pub is_refuted_by : Often → Bool → Bool
-is_refuted_by often.Always has = not has
-is_refuted_by often.Sometimes has = false
-is_refuted_by often.Never has = has
+-- it shows that outcomes aren't as expected: it isn't as each is to be, or as none is to be
+abbrev pub is_refuted_by : Often → (so : Bool) → Bool
+is_refuted_by often.Always so = not so
+is_refuted_by often.Sometimes so = false
+is_refuted_by often.Never so = so
 
 abbrev pub is_refuted : List ℕ → Expected → Bool
 is_refuted text e =
-    not (asks_of_ends e.often e.line) && is_refuted_by e.often (has_line e.line text)
+    not (asks_of_ends e.often e.line) && is_refuted_by e.often (agrees e text)
 
 abbrev pub is_any_refuted : List ℕ → List Expected → Bool
 is_any_refuted text expected = list_any (λ e. is_refuted text e) expected
 
--- nor does it show that they are: another outcome may have the line; and if schedules can end, no
--- single one decides
-abbrev pub is_open_by : Often → Bool → Bool
-is_open_by often.Always has = false
-is_open_by often.Sometimes has = not has
-is_open_by often.Never has = false
+-- nor does it show that they are: another outcome may be so; and if schedules can end, no single one
+-- decides
+abbrev pub is_open_by : Often → (so : Bool) → Bool
+is_open_by often.Always so = false
+is_open_by often.Sometimes so = not so
+is_open_by often.Never so = false
 
 abbrev pub is_open : List ℕ → Expected → Bool
-is_open text e = asks_of_ends e.often e.line || is_open_by e.often (has_line e.line text)
+is_open text e = asks_of_ends e.often e.line || is_open_by e.often (agrees e text)
 
 -- SO WHAT ONE RUN REFUTES DOESN'T HOLD of the outcomes of all schedules, of which its own is one;
 -- what it neither refutes nor leaves open would hold if there were no other
@@ -49,12 +49,12 @@ refuted_text refuted = if refuted then codes "not ok " else codes "ok "
 abbrev pub open_text : (asks left : Bool) → List ℕ
 open_text asks false = codes "\n"
 open_text true true = codes " # SKIP one run can't tell it\n"
-open_text false true = codes " # SKIP this run doesn't print it\n"
+open_text false true = codes " # SKIP it isn't so in this run\n"
 
 abbrev pub shown_text : Often → List ℕ
-shown_text often.Always = codes "# this run doesn't print it\n"
+shown_text often.Always = codes "# it isn't so in this run\n"
 shown_text often.Sometimes = []
-shown_text often.Never = codes "# this run prints it\n"
+shown_text often.Never = codes "# it is so in this run\n"
 
 -- why it isn't ok
 abbrev pub why_text : Often → Bool → List ℕ

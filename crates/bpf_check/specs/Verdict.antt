@@ -10,20 +10,20 @@ use Rattle.bpf_check.specs.declared.judging.Verdict.{Verdict}
 use Rattle.bpf_check.specs.declared.judging.Verdict.TheVariants as verdict
 use Rattle.bpf_check.specs.declared.judging.Conclusion.{Conclusion}
 use Rattle.bpf_check.specs.declared.judging.Conclusion.TheVariants as conclusion
-use Rattle.bpf_check.specs.Expectation.{Expected, asks_ends, asks_hung, has_line}
+use Rattle.bpf_check.specs.Expectation.{Expected, agrees, asks_ends, asks_hung}
 use Rattle.bpf_check.specs.Findings.{Findings}
 
 -- ---- what is expected
 
-abbrev pub MeetBy : (List ℕ → Type 0) → List ℕ → Often → Type 0
-MeetBy IsText line often.Always =
-    ((text : List ℕ) → IsText text → has_line line text ≡ true) × ((text : List ℕ) × IsText text)
-MeetBy IsText line often.Sometimes = (text : List ℕ) × IsText text × (has_line line text ≡ true)
-MeetBy IsText line often.Never = (text : List ℕ) → IsText text → has_line line text ≡ false
+abbrev pub MeetBy : (IsText : List ℕ → Type 0) → (so : List ℕ → Bool) → Often → Type 0
+MeetBy IsText so often.Always =
+    ((text : List ℕ) → IsText text → so text ≡ true) × ((text : List ℕ) × IsText text)
+MeetBy IsText so often.Sometimes = (text : List ℕ) × IsText text × (so text ≡ true)
+MeetBy IsText so often.Never = (text : List ℕ) → IsText text → so text ≡ false
 
--- the texts are as expected: each has the line, and there is one; some has it; or none has
+-- the texts are as expected: each is as it claims, and there is one; some is; or none is
 abbrev pub Meet : (List ℕ → Type 0) → Expected → Type 0
-Meet IsText e = MeetBy IsText e.line e.often
+Meet IsText e = MeetBy IsText (agrees e) e.often
 
 -- some schedule leads to this text
 abbrev pub IsOutcomeText : World → List (List ℕ) → List ℕ → Type 0
@@ -36,14 +36,14 @@ IsMet w names e = Meet (IsOutcomeText w names) e
 -- ---- what findings say of it
 
 abbrev pub decides_by : Often → Bool → Bool
-decides_by often.Always has = not has
-decides_by often.Sometimes has = has
-decides_by often.Never has = has
+decides_by often.Always so = not so
+decides_by often.Sometimes so = so
+decides_by often.Never so = so
 
--- whether an outcome of this text alone decides whether they are: of `always`, one without the line; of
--- the others, one with it
+-- whether an outcome of this text alone decides whether they are: of `always`, one that isn't as it
+-- claims; of the others, one that is
 abbrev pub decides : Expected → List ℕ → Bool
-decides e text = decides_by e.often (has_line e.line text)
+decides e text = decides_by e.often (agrees e text)
 
 -- where no answer decides: whether they are all, and whether there is one
 abbrev pub verdict_of_none : Often → (all none : Bool) → Verdict

@@ -7,7 +7,7 @@ ghost use Rattle.bpf_check.specs.Verdict.{conclusion_of, verdicts_of};
 use crate::expectation::Expectation;
 use crate::findings::Findings;
 use crate::judging::{Conclusion, conclusion_of, judge_all};
-use crate::listing::{first_count, list_tests, plan};
+use crate::listing::{Tested, first_count, list_tests, plan};
 use std::alloc::{AllocError, Global};
 
 /// What is printed of a file's expectations, and what it amounts to.
@@ -27,7 +27,7 @@ pub struct CheckedPart {
 }
 
 /// The tests of a file, with this before what is expected, after the n tests of the files before it.
-/// Want of memory, or of numbers for tests, is the only refusal.
+/// The only refusal is that memory, or numbers for tests, ran out.
 fn check_part(
     alloc: Global,
     name: &str,
@@ -48,7 +48,8 @@ fn check_part(
         return Err(AllocError);
     }
     let verdicts = judge_all(alloc, findings, expectations)?;
-    let text = list_tests(alloc, name, before, findings, expectations, &verdicts)?;
+    let file = Tested { name, findings };
+    let text = list_tests(alloc, file, before, expectations, &verdicts)?;
     Ok(CheckedPart {
         text,
         tests: first_count(findings) + expectations.len(),
@@ -56,7 +57,7 @@ fn check_part(
     })
 }
 
-/// The tests of a file of this name among several, after the n tests of the files before it. Want of
+/// The tests of a file of this name among several, after the n tests of the files before it. Out of
 /// memory, or of numbers for tests, is the only refusal.
 pub fn check_named(
     alloc: Global,
@@ -87,7 +88,7 @@ fn planned(alloc: Global, part: &CheckedPart) -> Result<String, AllocError>
     Ok(text)
 }
 
-/// Judges what is expected of a run file by what a search through its schedules found. Want of memory is
+/// Judges what is expected of a run file by what a search through its schedules found. Out of memory is
 /// the only refusal.
 pub fn check_explored(
     alloc: Global,

@@ -2,10 +2,13 @@
 
 ghost use Rattle.std.specs.Prelude.{◌≡◌, ◌≤◌, ◌++◌, false, IfErr, IfOk, IfSome, None, OnOk, length, map};
 ghost use Rattle.std.specs.List.{before_first};
-ghost use Rattle.bpf_check.specs.Expectation.{are_exchanged, asks_ends, asks_hung, asks_of_ends, can_expect, comment_of, expectations_of, expected_by, expected_in, first_amiss, is_amiss, is_claim, is_mark, is_near, is_often, often_in, often_text, seems_often, words_behind, words_of};
+ghost use Rattle.bpf_check.specs.Expectation.{agrees, are_exchanged, asks_ends, asks_hung, asks_of_ends, can_ask, claim_of, comment_of, expectations_of, expected_by, expected_in, first_amiss, is_alone, is_amiss, is_claim, is_mark, is_near, is_often, often_in, often_text, seems_often, whole, words_of};
+ghost use Rattle.bpf_check.specs.Parts.{line_of};
 ghost use Rattle.bpf_check.specs.Unexpected.{IsUnexpected};
 
-use crate::subjects::{Subjects, is};
+use crate::claim::{Join, Part, is_joined};
+use crate::parts::{line_of, line_part, parts_in};
+use crate::subjects::{Subjects, is, word_at};
 use bpf_lines::lines::{fields, first_line};
 use std::alloc::{AllocError, Global};
 use std::marker::Model;
@@ -56,11 +59,14 @@ impl Often {
     }
 }
 
-/// A line, and how often outcomes are to have it.
+/// What is claimed of outcomes, and how often they are to be so.
 #[derive(Drop)]
 pub struct Expectation {
     often: Often,
+    /// The claim as it is written.
     line: Vec<u8>,
+    join: Join,
+    parts: Vec<Part>,
 }
 
 impl Model for Expectation {
@@ -68,36 +74,35 @@ impl Model for Expectation {
 
     ghost Value = { Expected };
 
-    ghost view = { λ e. record { often = e.often; line = e.line.items } };
+    ghost view = { λ e. record {
+      often = e.often;
+      line = e.line.items;
+      join = e.join;
+      parts = e.parts.items;
+    } };
 }
 
 impl Expectation {
-    /// How often outcomes are to have the line.
+    /// How often outcomes are to be so.
     pub fn often(&self) -> Often
         ensures { result ≡ self.now.often }
     {
         self.often
     }
 
-    /// The line, with one blank between words.
+    /// The claim, with one blank between words.
     pub fn line(&self) -> &[u8]
         ensures { result.now ≡ self.now.line }
     {
         &self.line
     }
-}
 
-/// The line of these words, one blank between two.
-fn joined(alloc: Global, first: &[u8], more: &[&[u8]]) -> Result<Vec<u8>, AllocError>
-    ensures { IfOk result (λ line. line.items
-        ≡ first.now ++ words_behind (length more.now) (map (λ f. f.now) more.now)) }
-{
-    let mut line = first.to_vec(alloc)?;
-    for word in more {
-        line.push(b' ')?;
-        line.extend_from_slice(word)?;
+    /// Whether an outcome of this text is as it claims.
+    pub(crate) fn agrees(&self, text: &[u8]) -> bool
+        ensures { result ≡ agrees self.now text.now }
+    {
+        is_joined(self.join, &self.parts, text)
     }
-    Ok(line)
 }
 
 /// Whether a line asks if each schedule can end.
@@ -127,36 +132,70 @@ pub(crate) fn asks_of_ends(often: Often, line: &[u8]) -> bool
     asks_ends(often, line) || asks_hung(often, line)
 }
 
-/// Whether this can be expected of a file's outcomes.
-fn can_expect(subjects: &Subjects, often: Often, first: &[u8], more: &[&[u8]]) -> bool
-    ensures { result ≡ can_expect subjects.now often first.now (map (λ f. f.now) more.now) }
+/// Whether words ask if schedules can end, where that may be asked.
+fn can_ask(subjects: &Subjects, often: Often, words: &[&[u8]]) -> bool
+    ensures { result ≡ can_ask subjects.now often (map (λ f. f.now) words.now) }
 {
-    match more {
-        [] => subjects.ends() && asks_of_ends(often, first),
-        _ => subjects.can_print(first, more),
-    }
+    subjects.ends() && words.len() == 1 && asks_of_ends(often, word_at(words, 0))
 }
 
-/// What a word that may say how often and the words of a line expect, if they say so.
+/// The expectation of these words, which are one line.
+fn whole(alloc: Global, often: Often, words: &[&[u8]]) -> Result<Expectation, AllocError>
+    ensures { IfOk result (λ found. found ≡ whole often (line_of (map (λ f. f.now) words.now))) }
+{
+    let line = line_of(alloc, words)?;
+    let mut parts = Vec::new(alloc);
+    parts.push(line_part(line.clone()?))?;
+    Ok(Expectation {
+        often,
+        line,
+        join: Join::All,
+        parts,
+    })
+}
+
+/// The expectation of these words, if they are parts of a claim.
+fn claim_of(
+    alloc: Global,
+    subjects: &Subjects,
+    often: Often,
+    words: &[&[u8]],
+) -> Result<Option<Expectation>, AllocError>
+    ensures { IfOk result (λ found. found
+        ≡ claim_of subjects.now often (map (λ f. f.now) words.now)) }
+{
+    let join = Join::of(words);
+    let Some(parts) = parts_in(alloc, subjects, join.joint(), words)? else {
+        return Ok(None);
+    };
+    let line = line_of(alloc, words)?;
+    Ok(Some(Expectation {
+        often,
+        line,
+        join,
+        parts,
+    }))
+}
+
+/// What a word that may say how often and the words of a claim expect, if they say so.
 #[tactic(auto, unfolding(crate::specs::Expectation::expected_by))]
 fn expected_by(
     alloc: Global,
     subjects: &Subjects,
     word: &[u8],
-    first: &[u8],
-    more: &[&[u8]],
+    words: &[&[u8]],
 ) -> Result<Option<Expectation>, AllocError>
     ensures { IfOk result (λ found. found
-        ≡ expected_by subjects.now word.now first.now (map (λ f. f.now) more.now)) }
+        ≡ expected_by subjects.now word.now (map (λ f. f.now) words.now)) }
 {
     let Some(often) = Often::spelled(word) else {
         return Ok(None);
     };
-    if !can_expect(subjects, often, first, more) {
-        return Ok(None);
+    if subjects.can_print_all(words) || can_ask(subjects, often, words) {
+        Ok(Some(whole(alloc, often, words)?))
+    } else {
+        claim_of(alloc, subjects, often, words)
     }
-    let line = joined(alloc, first, more)?;
-    Ok(Some(Expectation { often, line }))
 }
 
 /// What the words of a comment expect, if they say so.
@@ -170,7 +209,7 @@ fn expected_in(
 {
     match words {
         [] | [_] => Ok(None),
-        [word, first, more @ ..] => expected_by(alloc, subjects, word, first, more),
+        [word, claim @ ..] => expected_by(alloc, subjects, word, claim),
     }
 }
 
@@ -210,13 +249,20 @@ fn seems_often(word: &[u8]) -> bool
     is_near(word, b"always") || is_near(word, b"sometimes") || is_near(word, b"never")
 }
 
+/// Whether a word expects something alone.
+fn is_alone(word: &[u8]) -> bool
+    ensures { result ≡ is_alone word.now }
+{
+    is(word, "ends") || is(word, "hung") || is(word, "fault")
+}
+
 /// Whether the words of a comment are meant to expect something.
 fn is_claim(words: &[&[u8]]) -> bool
     ensures { result ≡ is_claim (map (λ f. f.now) words.now) }
 {
     match words {
         [] | [_] => false,
-        [word, second] => seems_often(word) && (is(second, "ends") || is(second, "hung")),
+        [word, second] => seems_often(word) && is_alone(second),
         [word, ..] => seems_often(word),
     }
 }

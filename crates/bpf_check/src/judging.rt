@@ -6,7 +6,6 @@ ghost use Rattle.bpf_check.specs.Verdict.{conclusion_of, decides, ends_verdict, 
 
 use crate::expectation::{Expectation, Often, asks_ends, asks_hung};
 use crate::findings::Findings;
-use crate::lines::has_line;
 use bpf_explore::Answer;
 use std::alloc::{AllocError, Global};
 
@@ -43,10 +42,10 @@ pub enum Conclusion {
 fn decides(expectation: &Expectation, text: &str) -> bool
     ensures { result ≡ decides expectation.now text.now }
 {
-    let has = has_line(expectation.line(), text.as_bytes());
+    let agrees = expectation.agrees(text.as_bytes());
     match expectation.often() {
-        Often::Always => !has,
-        Often::Sometimes | Often::Never => has,
+        Often::Always => !agrees,
+        Often::Sometimes | Often::Never => agrees,
     }
 }
 

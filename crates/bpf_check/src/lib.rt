@@ -2,19 +2,21 @@
 #![tactic(auto)]
 
 mod checking;
+mod claim;
 mod expectation;
 mod findings;
 mod judging;
 pub mod laws;
-mod lines;
 mod listing;
+mod parts;
 mod single;
 mod subjects;
 
 pub use checking::{Checked, CheckedPart, check_explored, check_named};
+pub use claim::{Comparison, Field, Join, Kind, Relation};
 pub use expectation::{Expectation, Often, Unexpected, expectations};
 pub use findings::Findings;
 pub use judging::{Conclusion, Verdict, conclusion_of, ends_verdict, judge};
-pub use listing::{first_count, list_tests, plan};
+pub use listing::{first_count, plan};
 pub use single::{Judged, check_printed};
 pub use subjects::Subjects;

@@ -1,7 +1,7 @@
 //! Verdicts as they are printed, in the form of TAP.
 
 ghost use Rattle.std.specs.Prelude.{◌≡◌, ◌<◌, ◌≤◌, ◌+◌, ◌^◌, ◌++◌, IfOk, OnOk, Some, codes, length, map, string_bytes};
-ghost use Rattle.bpf_check.specs.Listing.{expected_text, first_count, first_text, hung_lines, hung_text, is_line_byte, listed_text, number_text, ok_text, plan_text, reason_text, schedule_text, shown_byte, test_text, tests_text};
+ghost use Rattle.bpf_check.specs.Listing.{expected_text, first_count, first_text, hung_lines, hung_text, is_claim_mark, is_line_byte, listed_text, number_text, ok_text, plan_text, reason_text, schedule_text, shown_byte, test_text, tests_text, untold_text};
 ghost use Rattle.bpf_check.specs.Verdict.{ends_verdict};
 
 use crate::expectation::Expectation;
@@ -12,11 +12,25 @@ use bpf_lines::words::is_word_byte;
 use bpf_schedule::push_runs;
 use std::alloc::{AllocError, Global};
 
-/// Whether a line that is printed may have this byte.
+/// A file whose tests are listed: what is before the claims of its tests, and what a search found of it.
+#[derive(Clone, Copy)]
+pub(crate) struct Tested<'a> {
+    pub(crate) name: &'a str,
+    pub(crate) findings: &'a Findings,
+}
+
+/// Whether a claim may have this byte beside those of words.
+fn is_claim_mark(byte: u8) -> bool
+    ensures { result ≡ is_claim_mark byte }
+{
+    matches!(byte, b'!' | b'+' | b'<'..=b'>' | b'[' | b']')
+}
+
+/// Whether a claim may have this byte.
 fn is_line_byte(byte: u8) -> bool
     ensures { result ≡ is_line_byte byte }
 {
-    is_word_byte(byte) || byte == b'=' || byte == b' '
+    is_word_byte(byte) || byte == b' ' || is_claim_mark(byte)
 }
 
 /// A byte of a line as it is shown.
@@ -101,6 +115,17 @@ fn push_all_hung(alloc: Global, text: &mut String, hung: &[Hung]) -> Result<(), 
     Ok(())
 }
 
+/// The line that not all outcomes were found, and what may find more.
+fn untold_text(patient: bool) -> &'static str
+    ensures { result.now ≡ untold_text patient }
+{
+    if patient {
+        "# not decided: not all outcomes were found; --limit N looks at more states\n"
+    } else {
+        "# not decided: not all outcomes were found; --limit N looks at more states, --patient has fewer\n"
+    }
+}
+
 /// Appends to the text why a test isn't ok.
 fn push_reason(
     alloc: Global,
@@ -117,11 +142,11 @@ fn push_reason(
             Some(answer) => push_schedule(alloc, text, answer),
             None => Ok(()),
         },
-        Verdict::Refuted => text.push_str("# no outcome has this line\n"),
+        Verdict::Refuted => text.push_str("# it is so in no outcome\n"),
         Verdict::NoOutcome => text.push_str("# no outcome\n"),
         Verdict::Hangs => push_all_hung(alloc, text, findings.hung()),
         Verdict::NoneHangs => text.push_str("# every schedule can end\n"),
-        Verdict::Untold => text.push_str("# not told: not all outcomes were found\n"),
+        Verdict::Untold => text.push_str(untold_text(findings.is_patient())),
     }
 }
 
@@ -145,19 +170,19 @@ fn push_head(
 fn push_test(
     alloc: Global,
     text: &mut String,
-    name: &str,
-    findings: &Findings,
+    file: Tested<'_>,
     number: usize,
     expectation: &Expectation,
     verdict: Verdict,
 ) -> Result<(), AllocError>
     ensures { OnOk result (string_bytes text.new ≡ string_bytes text.old
-        ++ test_text name.now findings.now number (expected_text expectation.now) verdict) }
+        ++ test_text file.entry.name.now file.entry.findings.now number (expected_text expectation.now)
+        verdict) }
 {
-    push_head(alloc, text, name, number, verdict)?;
+    push_head(alloc, text, file.name, number, verdict)?;
     push_expected(text, expectation)?;
     text.push_str("\n")?;
-    push_reason(alloc, text, findings, verdict)
+    push_reason(alloc, text, file.findings, verdict)
 }
 
 /// How many tests a search has before those of expectations: one after a patient search.
@@ -172,58 +197,44 @@ pub fn first_count(findings: &Findings) -> usize
 fn push_stated(
     alloc: Global,
     text: &mut String,
-    name: &str,
-    findings: &Findings,
+    file: Tested<'_>,
     number: usize,
     what: &str,
     verdict: Verdict,
 ) -> Result<(), AllocError>
     ensures { OnOk result (string_bytes text.new ≡ string_bytes text.old
-        ++ test_text name.now findings.now number what.now verdict) }
+        ++ test_text file.entry.name.now file.entry.findings.now number what.now verdict) }
 {
-    push_head(alloc, text, name, number, verdict)?;
+    push_head(alloc, text, file.name, number, verdict)?;
     text.push_str(what)?;
     text.push_str("\n")?;
-    push_reason(alloc, text, findings, verdict)
+    push_reason(alloc, text, file.findings, verdict)
 }
 
 /// Appends the first test after a patient search to the text: whether every schedule can end.
 fn push_first(
     alloc: Global,
     text: &mut String,
-    name: &str,
-    findings: &Findings,
+    file: Tested<'_>,
     number: usize,
 ) -> Result<(), AllocError>
     ensures { OnOk result (string_bytes text.new ≡ string_bytes text.old
-        ++ test_text name.now findings.now number (codes "every schedule can end")
-        (ends_verdict findings.now)) }
+        ++ test_text file.entry.name.now file.entry.findings.now number (codes "every schedule can end")
+        (ends_verdict file.entry.findings.now)) }
 {
-    let verdict = ends_verdict(findings);
-    push_stated(
-        alloc,
-        text,
-        name,
-        findings,
-        number,
-        "every schedule can end",
-        verdict,
-    )
+    let verdict = ends_verdict(file.findings);
+    push_stated(alloc, text, file, number, "every schedule can end", verdict)
 }
 
 /// The text of the first test after a patient search; empty after another.
-fn first_text(
-    alloc: Global,
-    name: &str,
-    before: usize,
-    findings: &Findings,
-) -> Result<String, AllocError>
+fn first_text(alloc: Global, file: Tested<'_>, before: usize) -> Result<String, AllocError>
     requires { before + 1 < 2 ^ 64 }
-    ensures { IfOk result (λ text. string_bytes text ≡ first_text name.now before findings.now) }
+    ensures { IfOk result (λ text. string_bytes text
+        ≡ first_text file.entry.name.now before file.entry.findings.now) }
 {
     let mut text = String::new(alloc);
-    if findings.is_patient() {
-        push_first(alloc, &mut text, name, findings, before + 1)?;
+    if file.findings.is_patient() {
+        push_first(alloc, &mut text, file, before + 1)?;
     }
     Ok(text)
 }
@@ -239,59 +250,41 @@ pub fn plan(alloc: Global, count: usize) -> Result<String, AllocError>
 fn push_tests(
     alloc: Global,
     text: &mut String,
-    name: &str,
+    file: Tested<'_>,
     before: usize,
-    findings: &Findings,
     expectations: &[Expectation],
     verdicts: &[Verdict],
 ) -> Result<(), AllocError>
     requires same { length verdicts.now ≡ length expectations.now }
     requires room { before + length expectations.now < 2 ^ 64 }
     ensures { OnOk result (string_bytes text.new ≡ string_bytes text.old
-        ++ tests_text name.now before findings.now (length expectations.now) expectations.now
-        verdicts.now) }
+        ++ tests_text file.entry.name.now before file.entry.findings.now (length expectations.now)
+        expectations.now verdicts.now) }
 {
     for place in 0..expectations.len() {
         let expectation = &expectations[place];
         let number = before + (place + 1);
-        push_test(
-            alloc,
-            text,
-            name,
-            findings,
-            number,
-            expectation,
-            verdicts[place],
-        )?;
+        push_test(alloc, text, file, number, expectation, verdicts[place])?;
     }
     Ok(())
 }
 
 /// The text of all tests of a file, after the n tests of the files before it; each has the name before what
 /// is expected.
-pub fn list_tests(
+pub(crate) fn list_tests(
     alloc: Global,
-    name: &str,
+    file: Tested<'_>,
     before: usize,
-    findings: &Findings,
     expectations: &[Expectation],
     verdicts: &[Verdict],
 ) -> Result<String, AllocError>
     requires same { length verdicts.now ≡ length expectations.now }
     requires room { before + (1 + length expectations.now) < 2 ^ 64 }
     ensures { IfOk result (λ text. string_bytes text
-        ≡ listed_text name.now before findings.now expectations.now verdicts.now) }
+        ≡ listed_text file.entry.name.now before file.entry.findings.now expectations.now verdicts.now) }
 {
-    let mut text = first_text(alloc, name, before, findings)?;
-    let before = before + first_count(findings);
-    push_tests(
-        alloc,
-        &mut text,
-        name,
-        before,
-        findings,
-        expectations,
-        verdicts,
-    )?;
+    let mut text = first_text(alloc, file, before)?;
+    let before = before + first_count(file.findings);
+    push_tests(alloc, &mut text, file, before, expectations, verdicts)?;
     Ok(text)
 }

@@ -1,11 +1,10 @@
 //! What a run file expects, against what one run of its jobs prints.
 
 ghost use Rattle.std.specs.Prelude.{◌≡◌, ◌++◌, IfOk, OnOk, string_bytes};
-ghost use Rattle.bpf_check.specs.Expectation.{asks_of_ends, has_line};
+ghost use Rattle.bpf_check.specs.Expectation.{asks_of_ends};
 ghost use Rattle.bpf_check.specs.Single.{is_any_refuted, is_open, is_open_by, is_refuted, is_refuted_by, judged_test, judged_text, open_text, refuted_text, shown_text, why_text};
 
 use crate::expectation::{self, Expectation, Often};
-use crate::lines::has_line;
 use crate::listing::{plan, push_expected, push_number};
 use std::alloc::{AllocError, Global};
 
@@ -16,12 +15,6 @@ pub struct Judged {
     pub refuted: bool,
 }
 
-fn has_expected(printed: &str, expectation: &Expectation) -> bool
-    ensures { result ≡ has_line expectation.now.line printed.now }
-{
-    has_line(expectation.line(), printed.as_bytes())
-}
-
 /// Whether it is asked if schedules can end.
 fn asks_of_ends(expectation: &Expectation) -> bool
     ensures { result ≡ asks_of_ends expectation.now.often expectation.now.line }
@@ -29,13 +22,13 @@ fn asks_of_ends(expectation: &Expectation) -> bool
     expectation::asks_of_ends(expectation.often(), expectation.line())
 }
 
-fn is_refuted_by(often: Often, has: bool) -> bool
-    ensures { result ≡ is_refuted_by often has }
+fn is_refuted_by(often: Often, agrees: bool) -> bool
+    ensures { result ≡ is_refuted_by often agrees }
 {
     match often {
-        Often::Always => !has,
+        Often::Always => !agrees,
         Often::Sometimes => false,
-        Often::Never => has,
+        Often::Never => agrees,
     }
 }
 
@@ -43,15 +36,15 @@ fn is_refuted_by(often: Often, has: bool) -> bool
 fn is_refuted(printed: &str, expectation: &Expectation) -> bool
     ensures { result ≡ is_refuted printed.now expectation.now }
 {
-    let has = has_expected(printed, expectation);
-    !asks_of_ends(expectation) && is_refuted_by(expectation.often(), has)
+    let agrees = expectation.agrees(printed.as_bytes());
+    !asks_of_ends(expectation) && is_refuted_by(expectation.often(), agrees)
 }
 
-fn is_open_by(often: Often, has: bool) -> bool
-    ensures { result ≡ is_open_by often has }
+fn is_open_by(often: Often, agrees: bool) -> bool
+    ensures { result ≡ is_open_by often agrees }
 {
     match often {
-        Often::Sometimes => !has,
+        Often::Sometimes => !agrees,
         Often::Always | Often::Never => false,
     }
 }
@@ -60,8 +53,8 @@ fn is_open_by(often: Often, has: bool) -> bool
 fn is_open(printed: &str, expectation: &Expectation) -> bool
     ensures { result ≡ is_open printed.now expectation.now }
 {
-    let has = has_expected(printed, expectation);
-    asks_of_ends(expectation) || is_open_by(expectation.often(), has)
+    let agrees = expectation.agrees(printed.as_bytes());
+    asks_of_ends(expectation) || is_open_by(expectation.often(), agrees)
 }
 
 fn is_any_refuted(printed: &str, expectations: &[Expectation]) -> bool
@@ -85,7 +78,7 @@ fn open_text(asks: bool, left: bool) -> &'static str
 {
     match (left, asks) {
         (true, true) => " # SKIP one run can't tell it\n",
-        (true, false) => " # SKIP this run doesn't print it\n",
+        (true, false) => " # SKIP it isn't so in this run\n",
         (false, _) => "\n",
     }
 }
@@ -95,9 +88,9 @@ fn shown_text(often: Often) -> &'static str
     ensures { result.now ≡ shown_text often }
 {
     match often {
-        Often::Always => "# this run doesn't print it\n",
+        Often::Always => "# it isn't so in this run\n",
         Often::Sometimes => "",
-        Often::Never => "# this run prints it\n",
+        Often::Never => "# it is so in this run\n",
     }
 }
 
@@ -144,7 +137,7 @@ fn list_judged(
     Ok(text)
 }
 
-/// Judges what is expected of a run file by what a run of its jobs printed. Want of memory is the only
+/// Judges what is expected of a run file by what a run of its jobs printed. Out of memory is the only
 /// refusal.
 pub fn check_printed(
     alloc: Global,

@@ -10,3 +10,4 @@ pub mod Counted
 pub mod Workers
 pub mod Shown
 pub mod Flags
+pub mod Adding

@@ -151,12 +151,16 @@ LINE', where LINE is one that 'run --maps' prints. Each is a test, by every orde
 decided. The form is TAP; the exit status is 3 where an outcome isn't as expected, and 4 where all that
 was decided is, but more than --limit states were kept.
 
+In place of LINE there may be 'fault', that a job ended in one; 'r0 of job J < N'; or 'map NAME[K]+AT of
+u64 = N', the number at a place of the value that key K has, K a number too; by =, !=, <, <=, > or >=,
+and of u8, u16, u32 or u64. Any of these, and lines, are joined by 'and', or by 'or'.
+
 With --patient outcomes are those in which no budget is used up, and the first test is 'every schedule
 can end': 'not ok' with a line '# hung by' for each state from which no turns lead to an outcome.
 '; always ends' asks the same, and '; sometimes hung' that there is such a state.
 
 A comment of three words or more that begins with 'always', 'sometimes' or 'never', or a word one edit
-away, and has no line after it that this file can print, is refused: L11. So are 'always ends' and
+away, and can't be expected of this file, is refused: L11. So are 'always ends' and
 'sometimes hung' without --patient. --lenient passes such comments over.
 
 The tests of several files are one list: their numbers go on, and each names its file. A file that is

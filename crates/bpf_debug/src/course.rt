@@ -145,15 +145,15 @@ impl Course {
         }
     }
 
-    /// Whether there is room for this many more runs, or for as many as are kept.
-    pub fn reserve(&mut self, count: usize) -> bool
+    /// Makes room for this many more runs, or for as many as are kept.
+    pub fn reserve(&mut self, count: usize) -> Result<(), AllocError>
         ensures { self.new ≡ self.old }
     {
         if !self.is_whole {
-            return true;
+            return Ok(());
         }
         let count = count.min(MOST_RUNS.saturating_sub(self.runs.len()));
-        self.runs.reserve(count).is_ok()
+        self.runs.reserve(count)
     }
 
     /// Forgets the turns: there is no room for them.

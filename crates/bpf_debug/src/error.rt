@@ -1,6 +1,7 @@
 //! Why a command is refused.
 
 use bpf_codes::Code;
+use std::alloc::{AllocError, AllocFailed};
 use thiserror::Error;
 
 /// Why a command is refused. The session is then as it was.
@@ -56,5 +57,27 @@ impl DebugError {
             DebugError::OutOfMemory => "refused G5\n",
             DebugError::BadOperand => "refused G4\n",
         }
+    }
+}
+
+impl From<AllocError> for DebugError {
+    ghost use Rattle.std.specs.Prelude.{◌≡◌};
+    ghost use Rattle.bpf_debug.specs.declared.error.DebugError.TheVariants.{OutOfMemory};
+
+    ghost from_gives = { λ _ e. e ≡ OutOfMemory };
+
+    fn from(_error: AllocError) -> DebugError {
+        DebugError::OutOfMemory
+    }
+}
+
+impl<T: Drop> From<AllocFailed<T>> for DebugError {
+    ghost use Rattle.std.specs.Prelude.{◌≡◌};
+    ghost use Rattle.bpf_debug.specs.declared.error.DebugError.TheVariants.{OutOfMemory};
+
+    ghost from_gives = { λ _ e. e ≡ OutOfMemory };
+
+    fn from(_error: AllocFailed<T>) -> DebugError {
+        DebugError::OutOfMemory
     }
 }

@@ -86,32 +86,47 @@ fn stop_before(
     }
 }
 
-/// All turns of a `go` of the CPUs from a number on and below another, with the lines of the jobs
-/// that end and the last line. The watched value is read as it is before them.
+/// Which CPUs make turns: those from a number on and below another.
+#[derive(Clone, Copy)]
+pub struct Cpus {
+    pub low: u8,
+    pub high: u8,
+}
+
+/// The watched value, and its bytes before the first turn.
+#[derive(Clone, Copy)]
+pub struct Watching<'a> {
+    pub watch: &'a Option<Watch>,
+    pub before: &'a Option<Vec<u8>>,
+}
+
+/// All turns of a `go` of some CPUs, with the lines of the jobs that end and the last line.
 pub fn go(
     machine: &mut Machine,
     breakpoints: &[Breakpoint],
-    watch: &Option<Watch>,
-    before: &Option<Vec<u8>>,
-    low: u8,
-    high: u8,
+    watching: Watching,
+    cpus: Cpus,
     course: &mut Course,
     out: &mut String,
 )
     requires shown { (w : World) × Shows machine.old w }
     requires room { string_len out.old + 128 * open_jobs machine.old.jobs + 128
         ≤ string_capacity out.old }
-    requires watched { ShowsWatched machine.old.store (option_map watched watch.now)
-        (option_map (λ bytes. bytes.items) before.now) }
+    requires watched { ShowsWatched machine.old.store
+        (option_map watched watching.watch.now)
+        (option_map (λ bytes. bytes.items) watching.before.now) }
     ensures goes { (w : World) → Shows machine.old w → (z : World) × (turns : List ℕ)
         × (text : List ℕ)
-        × Goes breakpoints.now (option_map watched watch.now) low high w low [] turns text z
+        × Goes breakpoints.now (option_map watched watching.entry.watch.now) cpus.low cpus.high w
+        cpus.low [] turns text z
         × Shows machine.new z
         × KeepsOn course.old turns course.new
         × (string_bytes out.new ≡ string_bytes out.old ++ text) }
     ensures same { IsSameHost machine.old machine.new }
 {
     bpf_machine::laws::turns_fall();
+    let Watching { watch, before } = watching;
+    let Cpus { low, high } = cpus;
     let mut gone = [false; 256];
     let mut from = low;
     while let Some(cpu) = next_up(machine, low, high, from) {

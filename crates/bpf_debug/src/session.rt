@@ -19,7 +19,7 @@ use crate::breakpoint::{Breakpoint, has_break, remove_break};
 use crate::command::{Command, command_of};
 use crate::course::Course;
 use crate::error::DebugError;
-use crate::going;
+use crate::going::{self, Cpus, Watching};
 use crate::lines::{LINE, put_break, put_deleted, put_ended, put_where};
 use crate::origin::Origin;
 use crate::schedule::{is_schedule, schedule_in};
@@ -89,17 +89,14 @@ fn are_cpus(runs: &[(u8, u64)], cpus: u8) -> bool
 }
 
 /// Room for this many lines and some more.
-fn make_room(alloc: Global, lines: usize) -> Option<String>
-    ensures empty { IfSome result (λ s. string_bytes s ≡ []) }
-    ensures size { IfSome result (λ s. string_len s ≡ 0) }
-    ensures room { IfSome result (λ s. 128 * lines + 1024 ≤ string_capacity s) }
+fn make_room(alloc: Global, lines: usize) -> Result<String, AllocError>
+    ensures empty { IfOk result (λ s. string_bytes s ≡ []) }
+    ensures size { IfOk result (λ s. string_len s ≡ 0) }
+    ensures room { IfOk result (λ s. 128 * lines + 1024 ≤ string_capacity s) }
 {
-    let bytes = lines.checked_mul(LINE)?;
-    let bytes = bytes.checked_add(1024)?;
-    match String::with_capacity(alloc, bytes) {
-        Ok(room) => Some(room),
-        Err(_) => None,
-    }
+    let bytes = lines.checked_mul(LINE).ok_or(AllocError)?;
+    let bytes = bytes.checked_add(1024).ok_or(AllocError)?;
+    String::with_capacity(alloc, bytes)
 }
 
 /// The number after a CPU's.
@@ -173,7 +170,7 @@ impl Session {
     fn cpu(&self, number: Option<u8>) -> Option<u8>
         ensures some { IfSome result (λ c. (number ≡ Some c)
             × (has_cpu self.now.machine.store c ≡ true)) }
-        ensures none { IfNone result (IsNoCpu (length self.now.machine.store.runs) number) }
+        ensures none { IfNone result (IsNoCpu (length self.now.machine.store.maps.runs) number) }
     {
         match number {
             Some(cpu) => {
@@ -194,12 +191,8 @@ impl Session {
         ensures refused { IfErr result (λ e. e ≡ DebugError.OutOfMemory) }
         ensures unchanged { OnErr result (self.new ≡ self.old) }
     {
-        let Some(mut out) = make_room(alloc, 2) else {
-            return Err(DebugError::OutOfMemory);
-        };
-        if !self.course.reserve(1) {
-            return Err(DebugError::OutOfMemory);
-        }
+        let mut out = make_room(alloc, 2)?;
+        self.course.reserve(1)?;
         take_turn(&mut self.machine, cpu, &mut out);
         self.course.add(cpu);
         Ok(out)
@@ -224,12 +217,8 @@ impl Session {
         ensures refused { IfErr result (λ e. e ≡ DebugError.OutOfMemory) }
         ensures unchanged { OnErr result (self.new ≡ self.old) }
     {
-        let Some(mut out) = make_room(alloc, self.machine.jobs()) else {
-            return Err(DebugError::OutOfMemory);
-        };
-        if !self.course.reserve(2) {
-            return Err(DebugError::OutOfMemory);
-        }
+        let mut out = make_room(alloc, self.machine.jobs())?;
+        self.course.reserve(2)?;
         take_turns(&mut self.machine, cpu, count, &mut out);
         self.course.add_times(cpu, count);
         Ok(out)
@@ -255,25 +244,21 @@ impl Session {
 
     /// Whether each CPU of a schedule is one of the machine's.
     fn has_cpus(&self, runs: &[(u8, u64)]) -> bool
-        ensures { result ≡ are_cpus (length self.now.machine.store.runs) runs.now }
+        ensures { result ≡ are_cpus (length self.now.machine.store.maps.runs) runs.now }
     {
         are_cpus(runs, self.machine.cpus())
     }
 
     fn steps_at(&mut self, alloc: Global, runs: &[(u8, u64)]) -> Result<String, DebugError>
         requires some { 0 < length runs.now }
-        requires served { are_cpus (length self.old.machine.store.runs) runs.now ≡ true }
+        requires served { are_cpus (length self.old.machine.store.maps.runs) runs.now ≡ true }
         ensures answered { IfOk result
             (λ text. Leaves self.old (Order.Steps runs.now) (string_bytes text) self.new) }
         ensures refused { IfErr result (λ e. e ≡ DebugError.OutOfMemory) }
         ensures unchanged { OnErr result (self.new ≡ self.old) }
     {
-        let Some(mut out) = make_room(alloc, self.machine.jobs()) else {
-            return Err(DebugError::OutOfMemory);
-        };
-        if !self.course.reserve(runs.len().saturating_mul(2)) {
-            return Err(DebugError::OutOfMemory);
-        }
+        let mut out = make_room(alloc, self.machine.jobs())?;
+        self.course.reserve(runs.len().saturating_mul(2))?;
         take_runs(&mut self.machine, runs, &mut out);
         self.course.add_runs(runs);
         Ok(out)
@@ -299,23 +284,18 @@ impl Session {
         ensures refused { IfErr result (λ e. RefusesHere self.old Order.Go e) }
         ensures unchanged { OnErr result (self.new ≡ self.old) }
     {
-        let Some(mut out) = make_room(alloc, self.machine.jobs()) else {
-            return Err(DebugError::OutOfMemory);
-        };
-        if !self.course.reserve(usize::MAX) {
-            return Err(DebugError::OutOfMemory);
-        }
-        let Ok(before) = watched_value(alloc, self.machine.store(), &self.watch) else {
-            return Err(DebugError::OutOfMemory);
-        };
+        let mut out = make_room(alloc, self.machine.jobs())?;
+        self.course.reserve(usize::MAX)?;
+        let before = watched_value(alloc, self.machine.store(), &self.watch)?;
         let cpus = self.machine.cpus();
         going::go(
             &mut self.machine,
             &self.breakpoints,
-            &self.watch,
-            &before,
-            0,
-            cpus,
+            Watching {
+                watch: &self.watch,
+                before: &before,
+            },
+            Cpus { low: 0, high: cpus },
             &mut self.course,
             &mut out,
         );
@@ -331,24 +311,22 @@ impl Session {
         ensures refused { IfErr result (λ e. e ≡ DebugError.OutOfMemory) }
         ensures unchanged { OnErr result (self.new ≡ self.old) }
     {
-        let Some(mut out) = make_room(alloc, self.machine.jobs()) else {
-            return Err(DebugError::OutOfMemory);
-        };
-        if !self.course.reserve(usize::MAX) {
-            return Err(DebugError::OutOfMemory);
-        }
-        let Ok(before) = watched_value(alloc, self.machine.store(), &self.watch) else {
-            return Err(DebugError::OutOfMemory);
-        };
+        let mut out = make_room(alloc, self.machine.jobs())?;
+        self.course.reserve(usize::MAX)?;
+        let before = watched_value(alloc, self.machine.store(), &self.watch)?;
         let place = [Breakpoint { cpu, pc }];
         let next = next_cpu(&self.machine, cpu);
         going::go(
             &mut self.machine,
             &place,
-            &self.watch,
-            &before,
-            cpu,
-            next,
+            Watching {
+                watch: &self.watch,
+                before: &before,
+            },
+            Cpus {
+                low: cpu,
+                high: next,
+            },
             &mut self.course,
             &mut out,
         );
@@ -398,17 +376,13 @@ impl Session {
         ensures refused { IfErr result (λ e. e ≡ DebugError.OutOfMemory) }
         ensures unchanged { OnErr result (self.new ≡ self.old) }
     {
-        let Some(mut out) = make_room(alloc, 1) else {
-            return Err(DebugError::OutOfMemory);
-        };
+        let mut out = make_room(alloc, 1)?;
         put_break(&mut out, cpu, pc);
         if has_break(&self.breakpoints, cpu, pc) {
             return Ok(out);
         }
-        match self.breakpoints.push(Breakpoint { cpu, pc }) {
-            Ok(()) => Ok(out),
-            Err(_) => Err(DebugError::OutOfMemory),
-        }
+        self.breakpoints.push(Breakpoint { cpu, pc })?;
+        Ok(out)
     }
 
     fn break_at(&mut self, alloc: Global, cpu: u8, pc: Option<u32>) -> Result<String, DebugError>
@@ -454,9 +428,7 @@ impl Session {
         ensures refused { IfErr result (λ e. e ≡ DebugError.OutOfMemory) }
         ensures unchanged { OnErr result (self.new ≡ self.old) }
     {
-        let Some(mut out) = make_room(alloc, 1) else {
-            return Err(DebugError::OutOfMemory);
-        };
+        let mut out = make_room(alloc, 1)?;
         put_deleted(&mut out, cpu, pc);
         remove_break(&mut self.breakpoints, cpu, pc);
         Ok(out)
@@ -560,11 +532,10 @@ impl Session {
         ensures refused { IfErr result (λ e. RefusesLine self.old (map (λ f. f.now) fields.now) e) }
         ensures unchanged { OnErr result (self.new ≡ self.old) }
     {
-        match schedule_in(alloc, words) {
-            Ok(Some(runs)) => self.steps(alloc, &runs),
-            Ok(None) => Err(DebugError::BadCommand),
-            Err(_) => Err(DebugError::OutOfMemory),
-        }
+        let Some(runs) = schedule_in(alloc, words)? else {
+            return Err(DebugError::BadCommand);
+        };
+        self.steps(alloc, &runs)
     }
 
     fn obey(&mut self, alloc: Global, fields: &[&[u8]]) -> Result<String, DebugError>
@@ -602,9 +573,7 @@ impl Session {
         ensures refused { IfErr result (λ e. RefusesLine self.old (fields_of line.now) e) }
         ensures unchanged { OnErr result (self.new ≡ self.old) }
     {
-        match lines::fields(alloc, line) {
-            Ok(fields) => self.obey(alloc, &fields),
-            Err(_) => Err(DebugError::OutOfMemory),
-        }
+        let fields = lines::fields(alloc, line)?;
+        self.obey(alloc, &fields)
     }
 }

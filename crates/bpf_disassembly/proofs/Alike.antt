@@ -2,7 +2,7 @@
 use Rattle.std.proofs.Common.{◌≡◌, ℕ, zero, suc, ◌+◌, ◌*◌, ◌/◌, ◌%◌, ◌<◌, Bool, true, false, cond, ◌==◌, ◌&&◌, not, List, [], ◌∷◌, ◌++◌, length, append_assoc, append-nil, codes, drop, take, slice_index, refl, sym, ap, subst, ◌∙◌, arith}
 use Rattle.std.specs.Fmt.{decimal, digits, digits_onto, digit_glyph}
 use Rattle.std.specs.List.{list_all, onto_first}
-use Rattle.std.proofs.lemmas.Bool.{and_parts}
+use Rattle.std.proofs.lemmas.Bool.{and_parts, and_from}
 use Rattle.std.proofs.lemmas.Bool.Decides.{nat_tests}
 use Rattle.std.proofs.lemmas.List.Folds.{list_all-append}
 use Rattle.std.proofs.lemmas.List.Splits.{length-slice_split}
@@ -19,15 +19,11 @@ use Rattle.bpf_disassembly.specs.Listing.Source.{IsSourceListing, behind_line}
 
 -- ---- what follows a line has no line feed
 
-both : (a b : Bool) → a ≡ true → b ≡ true → a && b ≡ true
-both true b e f = f
-both false b e f = e
-
 abbrev in_lines : List ℕ → Bool
 in_lines bytes = list_all in_line bytes
 
 in_lines-append : (xs ys : List ℕ) → in_lines xs ≡ true → in_lines ys ≡ true → in_lines (xs ++ ys) ≡ true
-in_lines-append xs ys h k = list_all-append in_line xs ys ∙ both (in_lines xs) (in_lines ys) h k
+in_lines-append xs ys h k = list_all-append in_line xs ys ∙ and_from (in_lines xs) (in_lines ys) h k
 
 digit_in_line : (t : List ℕ) (k : ℕ) → in_lines t ≡ true → in_line (slice_index t k) ≡ true
 digit_in_line [] k h = refl
@@ -38,7 +34,7 @@ hex_in_line : (t bytes : List ℕ) → in_lines t ≡ true → in_lines (encode_
 unfolding encode_with
 hex_in_line t [] h = refl
 hex_in_line t (b ∷ bytes) h =
-    both (in_line (slice_index t (b / 16))) _ (digit_in_line t (b / 16) h) (both (in_line (slice_index t (b % 16))) _ (digit_in_line t (b % 16) h) (hex_in_line t bytes h))
+    and_from (in_line (slice_index t (b / 16))) _ (digit_in_line t (b / 16) h) (and_from (in_line (slice_index t (b % 16))) _ (digit_in_line t (b % 16) h) (hex_in_line t bytes h))
 
 glyph_in_line : (d : ℕ) → in_line (digit_glyph false d) ≡ true
 glyph_in_line d = grind (arith, nat_tests)
@@ -46,7 +42,7 @@ glyph_in_line d = grind (arith, nat_tests)
 onto_in_line : (k n : ℕ) (acc : List ℕ) → in_lines acc ≡ true → in_lines (digits_onto k 10 false n acc) ≡ true
 onto_in_line zero n acc h = h
 onto_in_line (suc k) n acc h =
-    let more = both (in_line (digit_glyph false (n % 10))) (in_lines acc) (glyph_in_line (n % 10)) h in
+    let more = and_from (in_line (digit_glyph false (n % 10))) (in_lines acc) (glyph_in_line (n % 10)) h in
     by_test (n / 10 == 0) more (onto_in_line k (n / 10) (digit_glyph false (n % 10) ∷ acc) more)
   where
     by_test : (t : Bool) → in_lines (digit_glyph false (n % 10) ∷ acc) ≡ true
@@ -83,8 +79,8 @@ AreLone [] = Unit {0}
 AreLone (line ∷ lines) = (in_lines line ≡ true) × AreLone lines
 
 onto_lone : (b : ℕ) (lines : List (List ℕ)) → in_line b ≡ true → AreLone lines → AreLone (onto_first b lines)
-onto_lone b [] e h = (both (in_line b) true e refl, tt)
-onto_lone b (line ∷ lines) e h = (both (in_line b) (in_lines line) e h.0, h.1)
+onto_lone b [] e h = (and_from (in_line b) true e refl, tt)
+onto_lone b (line ∷ lines) e h = (and_from (in_line b) (in_lines line) e h.0, h.1)
 
 lone_lines : (text : List ℕ) → AreLone (lines_of text)
 lone_lines [] = (refl, tt)

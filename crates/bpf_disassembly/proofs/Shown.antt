@@ -7,7 +7,7 @@ use Rattle.std.specs.Char.{digit_value}
 use Rattle.std.specs.Str.Parse.{digits_value, AllDigits, IsNumeral}
 use Rattle.std.specs.Fmt.{decimal, digits}
 use Rattle.std.proofs.lemmas.Fmt.{decimal_is_IsNumeral, digits_is_IsNumeral}
-use Rattle.std.proofs.lemmas.Bool.{and_parts, eqb-true, lt-ltb, ltb-true}
+use Rattle.std.proofs.lemmas.Bool.{and_parts, eqb-true, lt-ltb, ltb-true, and_from}
 use Rattle.std.proofs.lemmas.Bool.Decides.{nat_tests}
 use Rattle.bpf_insn.specs.declared.register.Reg.{Reg}
 use Rattle.bpf_insn.specs.declared.register.Reg.TheVariants.{R0}
@@ -414,20 +414,16 @@ shown is apart small = cc
 abbrev in_lines : List ℕ → Bool
 in_lines bs = list_all in_line bs
 
-both : (a b : Bool) → a ≡ true → b ≡ true → a && b ≡ true
-both true b e f = f
-both false b e f = e
-
 in_lines-append : (xs ys : List ℕ) → in_lines xs ≡ true → in_lines ys ≡ true → in_lines (xs ++ ys) ≡ true
 in_lines-append [] ys h k = k
-in_lines-append (x ∷ xs) ys h k = let p = and_parts (in_line x) (in_lines xs) h in both (in_line x) (in_lines (xs ++ ys)) p.0 (in_lines-append xs ys p.1 k)
+in_lines-append (x ∷ xs) ys h k = let p = and_parts (in_line x) (in_lines xs) h in and_from (in_line x) (in_lines (xs ++ ys)) p.0 (in_lines-append xs ys p.1 k)
 
 byte_in_line : (b : ℕ) → is_word_byte b ≡ true → in_line b ≡ true
 byte_in_line b e = grind (arith, nat_tests)
 
 word_in_lines : (w : List ℕ) → list_all is_word_byte w ≡ true → in_lines w ≡ true
 word_in_lines [] h = refl
-word_in_lines (b ∷ w) h = let p = and_parts (is_word_byte b) (list_all is_word_byte w) h in both (in_line b) (in_lines w) (byte_in_line b p.0) (word_in_lines w p.1)
+word_in_lines (b ∷ w) h = let p = and_parts (is_word_byte b) (list_all is_word_byte w) h in and_from (in_line b) (in_lines w) (byte_in_line b p.0) (word_in_lines w p.1)
 
 sign_in_lines : (s : Sign) → in_lines (sign_text s) ≡ true
 sign_in_lines sign.ShlAssign = refl

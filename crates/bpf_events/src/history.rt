@@ -1,7 +1,10 @@
 //! Jobs from their beginning to their history and what is printed of them.
 
 ghost use Rattle.std.specs.Prelude.{◌≡◌, IfOk, map, string_bytes};
+ghost use Rattle.bpf_plain.specs.Alike.{IsSameShape};
 ghost use Rattle.bpf_cpu.specs.Setup.{IsRunnable};
+ghost use Rattle.bpf_machine.specs.Machine.{Shows};
+ghost use Rattle.bpf_machine.specs.Schedule.{World};
 ghost use Rattle.bpf_jobs.specs.Printed.{asked_of};
 ghost use Rattle.bpf_events.specs.Private.Recording.{IsRecorderOf};
 ghost use Rattle.bpf_events.specs.Reports.{IsHistory};
@@ -10,7 +13,8 @@ use crate::recorder::Recorder;
 use crate::telling::{make_rounds, make_turns};
 use bpf_cpu::Setup;
 use bpf_jobs::{Report, make_asked, tell};
-use bpf_plain::PlainStore;
+use bpf_machine::Machine;
+use bpf_plain::{PlainStore, copy_shape};
 use bpf_shared::StoreShape;
 use std::alloc::{AllocError, Global};
 
@@ -18,11 +22,43 @@ use std::alloc::{AllocError, Global};
 fn make_recorder(alloc: Global, shape: &StoreShape) -> Result<Recorder, AllocError>
     ensures { IfOk result (IsRecorderOf shape.now) }
 {
-    let mut maps = Vec::with_capacity(alloc, shape.maps().len())?;
-    maps.extend_from_slice(shape.maps())?;
-    let copy = StoreShape::new(u64::from(shape.cpus()), maps).map_err(|_| AllocError)?;
+    let copy = copy_shape(alloc, shape)?;
     let store = PlainStore::new(alloc, copy).map_err(|_| AllocError)?;
     Ok(Recorder::new(alloc, store))
+}
+
+/// The machine of jobs over a new store, and a recorder over another of its shape.
+fn begin(alloc: Global, setup: Setup, keys: bool) -> Result<(Machine, Recorder), AllocError>
+    requires { IsRunnable setup }
+    ensures shows { IfOk result (λ r. Shows r.0 (asked_of keys setup)) }
+    ensures shape { IfOk result (λ r. IsSameShape r.0.store r.1.store) }
+{
+    let recorder = make_recorder(alloc, &setup.shape)?;
+    let machine = make_asked(alloc, setup, keys)?;
+    Ok((machine, recorder))
+}
+
+/// The history of a machine, and after it what is printed of its jobs.
+fn history_of(
+    alloc: Global,
+    machine: &mut Machine,
+    recorder: &mut Recorder,
+    names: &[String],
+    schedule: &[(u8, u64)],
+    maps: bool,
+) -> Result<Report, AllocError>
+    requires shape { IsSameShape machine.old.store recorder.old.store }
+    requires shows { (w : World) × Shows machine.old w }
+    ensures { IfOk result (λ r. (w : World) → Shows machine.old w → IsHistory w schedule.now
+        (map string_bytes names.now) maps (string_bytes r.text) r.stopped) }
+{
+    let mut text = String::new(alloc);
+    make_turns(alloc, machine, recorder, &mut text, names, schedule)?;
+    make_rounds(alloc, machine, recorder, &mut text, names)?;
+    let report = tell(alloc, machine, names, maps)?;
+    text.push_str(report.text.as_str())?;
+    let stopped = report.stopped;
+    Ok(Report { text, stopped })
 }
 
 /// Runs jobs over a new store whose maps have these names: the turns of a schedule, CPUs, each with
@@ -41,20 +77,6 @@ pub fn run_with_history(
     ensures { IfOk result (λ r. IsHistory (asked_of keys setup) schedule.now
         (map string_bytes names.now) maps (string_bytes r.text) r.stopped) }
 {
-    let mut recorder = make_recorder(alloc, &setup.shape)?;
-    let mut machine = make_asked(alloc, setup, keys)?;
-    let mut text = String::new(alloc);
-    make_turns(
-        alloc,
-        &mut machine,
-        &mut recorder,
-        &mut text,
-        names,
-        schedule,
-    )?;
-    make_rounds(alloc, &mut machine, &mut recorder, &mut text, names)?;
-    let report = tell(alloc, &machine, names, maps)?;
-    text.push_str(report.text.as_str())?;
-    let stopped = report.stopped;
-    Ok(Report { text, stopped })
+    let (mut machine, mut recorder) = begin(alloc, setup, keys)?;
+    history_of(alloc, &mut machine, &mut recorder, names, schedule, maps)
 }

@@ -6,7 +6,7 @@ ghost use Rattle.bpf_machine.specs.Happenings.{happening};
 ghost use Rattle.bpf_events.specs.Private.Recording.{event_of};
 ghost use Rattle.bpf_events.specs.Lines.{answer_text, atomic_text, bytes_text, change_text, event_text, happening_line, load_text, name_of, operand_text, place_text, size_text, store_text, value_text};
 
-use crate::note::Note;
+use crate::note::{Note, Place};
 use bpf_shared::{AtomicOp, MapAnswer, Size, Span};
 use std::alloc::{AllocError, Global};
 
@@ -95,14 +95,24 @@ fn exchanged_text(alloc: Global, operand: u64, expected: u64) -> Result<String, 
     Ok(text)
 }
 
-fn operand_text(
-    alloc: Global,
+/// What an atomic access does to the word.
+#[derive(Clone, Copy)]
+struct Change {
     op: AtomicOp,
     operand: u64,
+    /// What a compare-and-exchange compares the word with.
     expected: u64,
-) -> Result<String, AllocError>
-    ensures { IfOk result (λ text. string_bytes text ≡ operand_text op operand expected) }
+}
+
+fn operand_text(alloc: Global, change: Change) -> Result<String, AllocError>
+    ensures { IfOk result (λ text. string_bytes text
+        ≡ operand_text change.op change.operand change.expected) }
 {
+    let Change {
+        op,
+        operand,
+        expected,
+    } = change;
     match op {
         AtomicOp::CompareExchange => exchanged_text(alloc, operand, expected),
         _ => format!(in alloc; "{operand}"),
@@ -193,18 +203,16 @@ fn atomic_text(
     alloc: Global,
     at: u64,
     size: Size,
-    op: AtomicOp,
-    operand: u64,
-    expected: u64,
+    change: Change,
     found: u64,
 ) -> Result<String, AllocError>
     ensures { IfOk result (λ text. string_bytes text
-        ≡ atomic_text at size op operand expected found) }
+        ≡ atomic_text at size change.op change.operand change.expected found) }
 {
     let mut text = String::new(alloc);
-    push_both(&mut text, change_text(op), " ")?;
+    push_both(&mut text, change_text(change.op), " ")?;
     push_bytes(alloc, &mut text, at, size)?;
-    let operand = operand_text(alloc, op, operand, expected)?;
+    let operand = operand_text(alloc, change)?;
     push_both(&mut text, " ", operand.as_str())?;
     let reply = format!(in alloc; " = {found}")?;
     text.push_str(reply.as_str())?;
@@ -241,24 +249,31 @@ fn note_text(alloc: Global, names: &[String], note: &Note) -> Result<String, All
             operand,
             expected,
             found,
-        } => atomic_text(alloc, *at, *size, *op, *operand, *expected, *found),
+        } => {
+            let change = Change {
+                op: *op,
+                operand: *operand,
+                expected: *expected,
+            };
+            atomic_text(alloc, *at, *size, change, *found)
+        }
     }
 }
 
-/// Appends the line of an event to the text: a call of this CPU, of this job, at this pc.
+/// Appends the line of an event to the text: a call of a CPU, of the job that it runs, at a pc.
 pub(crate) fn push_note(
     alloc: Global,
     text: &mut String,
     names: &[String],
-    cpu: u8,
-    job: usize,
-    pc: u32,
+    place: Place,
     note: &Note,
 ) -> Result<(), AllocError>
     ensures { OnOk result (string_bytes text.new ≡ string_bytes text.old
-        ++ happening_line (map string_bytes names.now) (happening cpu job pc (event_of note.now))) }
+        ++ happening_line (map string_bytes names.now)
+        (happening place.cpu place.job place.pc (event_of note.now))) }
 {
     let call = note_text(alloc, names, note)?;
+    let Place { cpu, job, pc } = place;
     let line = format!(in alloc; "cpu {cpu} job {job} pc {pc} {call}\n")?;
     text.push_str(line.as_str())
 }

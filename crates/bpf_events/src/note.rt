@@ -7,6 +7,14 @@ ghost use Rattle.bpf_events.specs.Private.Recording.{event_of};
 use bpf_shared::{AtomicOp, MapAnswer, Size, Span};
 use std::alloc::{AllocError, Global};
 
+/// Where a CPU is: in which job, and at which pc of its program.
+#[derive(Clone, Copy)]
+pub(crate) struct Place {
+    pub cpu: u8,
+    pub job: usize,
+    pub pc: u32,
+}
+
 /// A call of a store with its reply.
 #[derive(Drop)]
 pub enum Note {

@@ -12,28 +12,37 @@ ghost use Rattle.bpf_events.specs.Private.Told.{ARound, AreTold, OneTurn, SomeRo
 ghost use Rattle.bpf_events.specs.Private.Watching.{noted};
 
 use crate::lines::push_note;
-use crate::note::Note;
+use crate::note::{Note, Place};
 use crate::recorder::Recorder;
 use crate::watching::watch;
 use bpf_machine::{Machine, Turn};
 use std::alloc::{AllocError, Global};
 
-/// Appends the lines of a CPU's calls to the text, which were noted of a job at a pc.
+/// A turn of a CPU, as its lines show it.
+#[derive(Clone, Copy)]
+struct Shown<'a> {
+    cpu: u8,
+    /// The CPU's job and the pc before the turn, if it had work.
+    at: Option<(usize, u32)>,
+    /// The calls that were noted of it.
+    notes: &'a [Note],
+    answer: Turn,
+}
+
+/// Appends the lines of a CPU's calls to the text.
 fn push_notes(
     alloc: Global,
     text: &mut String,
     names: &[String],
-    cpu: u8,
-    job: usize,
-    pc: u32,
+    place: Place,
     notes: &[Note],
 ) -> Result<(), AllocError>
     ensures { OnOk result (string_bytes text.new ≡ string_bytes text.old
         ++ history_lines (map string_bytes names.now)
-        (map (happening cpu job pc) (map event_of notes.now))) }
+        (map (happening place.cpu place.job place.pc) (map event_of notes.now))) }
 {
     for note in notes {
-        push_note(alloc, text, names, cpu, job, pc, note)?;
+        push_note(alloc, text, names, place, note)?;
     }
     Ok(())
 }
@@ -43,18 +52,16 @@ fn push_end(
     alloc: Global,
     text: &mut String,
     names: &[String],
-    cpu: u8,
-    job: usize,
-    pc: u32,
+    place: Place,
     answer: Turn,
 ) -> Result<(), AllocError>
     ensures { OnOk result (string_bytes text.new ≡ string_bytes text.old
         ++ history_lines (map string_bytes names.now)
-        (map (happening cpu job pc) (end_events answer))) }
+        (map (happening place.cpu place.job place.pc) (end_events answer))) }
 {
     match answer {
         Turn::Ended(_, _) => {
-            push_note(alloc, text, names, cpu, job, pc, &Note::End)?;
+            push_note(alloc, text, names, place, &Note::End)?;
             Ok(())
         }
         Turn::Ran | Turn::Idle => Ok(()),
@@ -66,18 +73,16 @@ fn push_worked(
     alloc: Global,
     text: &mut String,
     names: &[String],
-    cpu: u8,
-    job: usize,
-    pc: u32,
+    place: Place,
     notes: &[Note],
     answer: Turn,
 ) -> Result<(), AllocError>
     ensures { OnOk result (string_bytes text.new ≡ string_bytes text.old
         ++ history_lines (map string_bytes names.now)
-        (noted cpu (Some (job, pc)) (map event_of notes.now) answer)) }
+        (noted place.cpu (Some (place.job, place.pc)) (map event_of notes.now) answer)) }
 {
-    push_notes(alloc, text, names, cpu, job, pc, notes)?;
-    push_end(alloc, text, names, cpu, job, pc, answer)?;
+    push_notes(alloc, text, names, place, notes)?;
+    push_end(alloc, text, names, place, answer)?;
     Ok(())
 }
 
@@ -86,17 +91,21 @@ fn push_turn(
     alloc: Global,
     text: &mut String,
     names: &[String],
-    cpu: u8,
-    at: Option<(usize, u32)>,
-    notes: &[Note],
-    answer: Turn,
+    turn: Shown,
 ) -> Result<(), AllocError>
     ensures { OnOk result (string_bytes text.new ≡ string_bytes text.old
         ++ history_lines (map string_bytes names.now)
-        (noted cpu at (map event_of notes.now) answer)) }
+        (noted turn.entry.cpu turn.entry.at (map event_of turn.entry.notes.now)
+        turn.entry.answer)) }
 {
+    let Shown {
+        cpu,
+        at,
+        notes,
+        answer,
+    } = turn;
     match at {
-        Some((job, pc)) => push_worked(alloc, text, names, cpu, job, pc, notes, answer),
+        Some((job, pc)) => push_worked(alloc, text, names, Place { cpu, job, pc }, notes, answer),
         None => Ok(()),
     }
 }
@@ -118,25 +127,32 @@ fn make_turn(
 {
     let at = watch(alloc, machine, recorder, cpu)?;
     let answer = machine.turn(cpu);
-    push_turn(alloc, text, names, cpu, at, recorder.notes(), answer)?;
+    let turn = Shown {
+        cpu,
+        at,
+        notes: recorder.notes(),
+        answer,
+    };
+    push_turn(alloc, text, names, turn)?;
     Ok(answer)
 }
 
-/// This many turns of a CPU. Those after an idle one are idle too, and aren't made.
+/// Turns of a CPU, as many as are given with it. Those after an idle one are idle too, and aren't
+/// made.
 fn make_run(
     alloc: Global,
     machine: &mut Machine,
     recorder: &mut Recorder,
     text: &mut String,
     names: &[String],
-    cpu: u8,
-    turns: u64,
+    run: (u8, u64),
 ) -> Result<(), AllocError>
     requires { IsSameShape machine.old.store recorder.old.store }
-    ensures told { OnOk result (AreTold (Turns (replicate turns cpu)) (map string_bytes names.now)
+    ensures told { OnOk result (AreTold (Turns (replicate run.1 run.0)) (map string_bytes names.now)
         machine.old (string_bytes text.old) machine.new (string_bytes text.new)) }
     ensures shape { OnOk result (IsSameShape machine.new.store recorder.new.store) }
 {
+    let (cpu, turns) = run;
     for _ in 0..turns {
         if let Turn::Idle = make_turn(alloc, machine, recorder, text, names, cpu)? {
             break;
@@ -160,7 +176,7 @@ pub(crate) fn make_turns(
     ensures shape { OnOk result (IsSameShape machine.new.store recorder.new.store) }
 {
     for (cpu, turns) in schedule {
-        make_run(alloc, machine, recorder, text, names, *cpu, *turns)?;
+        make_run(alloc, machine, recorder, text, names, (*cpu, *turns))?;
     }
     Ok(())
 }

@@ -17,17 +17,17 @@ use Rattle.bpf_machine.specs.Cover.{IsShown}
 use Rattle.bpf_jobs.specs.Printed.{first_world}
 use Rattle.bpf_explore.specs.Laws.{CoverTellsAll}
 use Rattle.bpf_explore.specs.Outcomes.{Found, AreOutcomes, IsExplored}
-use Rattle.bpf_explore.specs.Search.{CoversAll, Extends, is_whole, is_refused}
+use Rattle.bpf_explore.specs.Search.{CameTo, Extends, is_whole, is_refused}
 use Rattle.bpf_explore.specs.declared.frontier.Extent.{Extent}
 use Rattle.bpf_explore.specs.declared.frontier.Extent.TheVariants.{Whole, Limited, Refused}
 use Rattle.bpf_explore.specs.Stores.{IsOfShape}
-use Rattle.bpf_explore.specs.Album.{ShowsFirst, AreApart, AreLed}
+use Rattle.bpf_explore.specs.Album.{BeginsAt, IsShownAt, ShowsFirst, AreApart, AreLed}
 use Rattle.bpf_explore.proofs.TrailLaws.{are_reached}
-use Rattle.bpf_explore.specs.Private.Answers.{IsFirst, IsAnsweredAt}
+use Rattle.bpf_explore.specs.Private.Answers.{IsFirst, IsAnsweredAt, StartsFresh}
 
 -- ---- the first machine
 pub first_shape : (h : Shape) (m : MachineState) (programs : List Loaded) (jobs : List Task) → Shows m (first_world h programs jobs) → IsOfShape h m.store
-first_shape h m programs jobs shows = (sym shows.store.maps, λ c. ap (λ (n : ℕ). nat_lt c n) (sym shows.store.cpus))
+first_shape h m programs jobs shows = (sym shows.store.shape, λ c. ap (λ (n : ℕ). nat_lt c n) (sym shows.store.maps.cpus))
 
 none_of : (o : Option (List Listing)) → first_lists false ≡ listing_at o → o ≡ None
 none_of None e = refl
@@ -52,14 +52,19 @@ job_waits (x ∷ xs) all (suc j) task at = job_waits xs (λ k d h. all (suc k) d
 pub first_fresh : (h : Shape) (m : MachineState) (programs : List Loaded) (jobs : List Job) → All (λ job. vec_len job.context ≤ max_context) jobs → Shows m (first_world h programs (map waiting jobs)) → IsFresh (first_world h programs (map waiting jobs))
 first_fresh h m programs jobs short shows = record { store = shows.sound; waits = job_waits jobs short }
 
--- ---- what is kept first stays first
-pub still_first : (old new : List MachineState) (m : MachineState) (w : World) → ShowsFirst old m → Extends old new → Shows m w → IsFirst new w
-still_first old new m w (one, at, shows) more here =
-    (one, ap (λ (ms : List MachineState). slice_get ms 0) more.1 ∙ (slice_get-front old more.0 0 (slice_get_within old 0 one at) ∙ at), shows w here)
+-- ---- what is kept first
+pub first_shown : (kept : List MachineState) (m : MachineState) (w : World) → ShowsFirst kept m → Shows m w → IsShownAt kept 0 w
+first_shown kept m w (one, at, shows) here = (one, at, shows w here)
 
-pub still_there : (old new : List MachineState) (m : MachineState) → ShowsFirst old m → Extends old new → 0 < length new
-still_there old new m (one, at, shows) more =
-    slice_get_within new 0 one (ap (λ (ms : List MachineState). slice_get ms 0) more.1 ∙ (slice_get-front old more.0 0 (slice_get_within old 0 one at) ∙ at))
+-- it stays first
+pub still_begins : (old new : List MachineState) (w : World) → BeginsAt old w → Extends old new → BeginsAt new w
+still_begins old new w (fresh, (one, at, here)) more = (fresh, (one, ap (λ (ms : List MachineState). slice_get ms 0) more.1 ∙ (slice_get-front old more.0 0 (slice_get_within old 0 one at) ∙ at), here))
+
+pub starts_fresh : (kept : List MachineState) (w : World) → BeginsAt kept w → StartsFresh kept
+starts_fresh kept w begins = (w, begins.0, begins.1)
+
+pub one_there : (kept : List MachineState) → StartsFresh kept → 0 < length kept
+one_there kept (w, fresh, (one, at, here)) = slice_get_within kept 0 one at
 
 -- ---- how far the search came
 pub whole_of : (e : Extent) → is_whole e ≡ true → e ≡ Whole
@@ -82,14 +87,15 @@ not_whole Whole h = cc
 not_whole Limited h = refl
 not_whole Refused h = refl
 
-pub explored : CoverTellsAll → (kept : List MachineState) (w : World) (names : List (List ℕ)) (maps : Bool) (answers : List Found) (extent : Extent) (limit : ℕ) → IsFresh w → IsFirst kept w
-    → (extent ≡ Whole → CoversAll false kept) → ((u : World) → IsFirst kept u → AreOutcomes u names maps answers) → ((i : ℕ) → IsAnsweredAt kept names maps answers i)
-    → (extent ≡ Limited → limit < length kept) → (extent ≡ Refused → length kept ≤ limit) → AreLed kept → AreApart kept → IsExplored w names maps answers (is_whole extent) (is_refused extent) limit (length kept)
-explored law kept w names maps answers extent limit fresh first covers outcomes answered met short led apart = record {
-  outcomes = outcomes w first;
-  complete = λ is. (let shown : IsShown kept w = (0, first.0, first.1, first.2) in
-      law kept w names maps answers (covers (whole_of extent is)) fresh shown (λ i m at ended. answered i m at ended));
-  counted = are_reached kept w first led apart;
-  met = λ is uncut. met (limited_of extent is uncut);
-  short = λ is. (not_whole extent is, short (refused_of extent is));
-}
+pub explored : CoverTellsAll → (kept : List MachineState) (w : World) (names : List (List ℕ)) (maps : Bool) (answers : List Found) (extent : Extent) (limit : ℕ) → BeginsAt kept w → CameTo false kept extent limit
+    → ((u : World) → IsFirst kept u → AreOutcomes u names maps answers) → ((i : ℕ) → IsAnsweredAt kept names maps answers i) → AreLed kept → AreApart kept → IsExplored w names maps answers (is_whole extent) (is_refused extent) limit (length kept)
+explored law kept w names maps answers extent limit begins came outcomes answered led apart =
+    let first = begins.1 in
+    record {
+      outcomes = outcomes w first;
+      complete = λ is. (let shown : IsShown kept w = (0, first.0, first.1, first.2) in
+          law kept w names maps answers (came.covers (whole_of extent is)) begins.0 shown (λ i m at ended. answered i m at ended));
+      counted = are_reached kept w first led apart;
+      met = λ is uncut. came.met (limited_of extent is uncut);
+      short = λ is. (not_whole extent is, came.short (refused_of extent is));
+    }

@@ -7,7 +7,6 @@ pub mod StandAlike
 pub mod ShelfLaws
 pub mod KeepLaws
 pub mod AlbumLaws
-pub mod OneStore
 pub mod ApartLaws
 pub mod StopLaws
 pub mod WayLaws
@@ -17,6 +16,7 @@ pub mod TellLaws
 pub mod EachLaws
 pub mod RichLaws
 pub mod EdgeLaws
+pub mod RefilledLaws
 pub mod TurnedLaws
 pub mod MarkLaws
 pub mod HungLaws

@@ -10,16 +10,15 @@ use Rattle.bpf_machine.specs.Machine.{MachineState}
 use Rattle.bpf_machine.specs.Patient.{NoneRanOut}
 use Rattle.bpf_machine.specs.Schedule.{World}
 use Rattle.bpf_explore.specs.Outcomes.{Found}
-use Rattle.bpf_machine.specs.Laws.{IsFresh}
 use Rattle.bpf_machine.specs.Cover.{IsShown}
-use Rattle.bpf_explore.specs.Search.{CoversAll, is_whole, is_refused}
+use Rattle.bpf_explore.specs.Search.{CameTo, is_whole, is_refused}
 use Rattle.bpf_explore.specs.declared.frontier.Extent.{Extent}
-use Rattle.bpf_explore.specs.declared.frontier.Extent.TheVariants.{Whole, Limited, Refused}
+use Rattle.bpf_explore.specs.declared.frontier.Extent.TheVariants.{Whole}
 use Rattle.bpf_explore.proofs.ExploreLaws.{whole_of, limited_of, refused_of, not_whole}
 use Rattle.bpf_machine.specs.Ends.{CanEnd}
 use Rattle.bpf_explore.specs.declared.budgets.Budgets.{Budgets}
 use Rattle.bpf_explore.specs.declared.budgets.Budgets.TheVariants.{Suffice, RunOut}
-use Rattle.bpf_explore.specs.Album.{AreLedFreely, AreApart}
+use Rattle.bpf_explore.specs.Album.{BeginsAt, AreLedFreely, AreApart, HaveWholeBudgets}
 use Rattle.bpf_explore.specs.Patient.{EndsPatiently, ArePatient, LiesBeyondOne, NoOtherHangs, IsSearchedPatiently, PatientTellAll}
 use Rattle.bpf_explore.specs.Private.Hung.{Hangs, AllHang, ComesTo, AllLeadOrBeyond}
 use Rattle.bpf_explore.specs.Private.Replays.{SomeRanOut, CanRunOut, NoneRunsOut}
@@ -121,27 +120,26 @@ none_of_none : (w : World) (hung : List (List (ℕ × ℕ))) (z : World) → hun
 none_of_none w hung z none (inl ends) = ends
 none_of_none w hung z none (inr (i, by, at, lies)) = let no : None ≡ Some by = ap (λ (hs : List (List (ℕ × ℕ))). slice_get hs i) (sym none) ∙ at in cc
 
-pub explored_patiently : PatientTellAll → (kept : List MachineState) (w : World) (names : List (List ℕ)) (maps : Bool) (answers : List Found) (extent : Extent) (whole told fit both all refused : Bool) (limit : ℕ) (hung : List (List (ℕ × ℕ))) (budgets : Budgets) → IsFresh w → IsFirst kept w
-    → whole ≡ is_whole extent → refused ≡ is_refused extent → (extent ≡ Whole → CoversAll true kept) → (extent ≡ Limited → limit < length kept) → (extent ≡ Refused → length kept ≤ limit)
-    → ((u : World) → IsFirst kept u → ArePatient u names maps answers) → (told ≡ true → (i : ℕ) → IsAnsweredAt kept names maps answers i) → (told ≡ false → CanRunOut kept)
-    → AllHang kept hung → (whole ≡ true → fit ≡ true → AllLeadOrBeyond kept hung) → (fit ≡ false → CanRunOut kept)
-    → (both ≡ true → (told ≡ true) × (fit ≡ true)) → (both ≡ false → (told ≡ false) ⊎ (fit ≡ false)) → (all ≡ true → (whole ≡ true) × (both ≡ true)) → (all ≡ false → (whole ≡ false) ⊎ (both ≡ false))
-    → (budgets ≡ Suffice → NoneRunsOut kept) → (budgets ≡ RunOut → CanRunOut kept)
-    → AreLedFreely kept → AreApart kept → IsSearchedPatiently w names maps answers all refused limit (length kept) hung budgets
-explored_patiently law kept w names maps answers extent whole told fit both all refused limit hung budgets fresh first is_all is_cut covers met short outcomes answered untold hangs leads unfit two two_not every every_not suffice out led apart =
+pub explored_patiently : PatientTellAll → (kept : List MachineState) (w : World) (names : List (List ℕ)) (maps : Bool) (answers : List Found) (extent : Extent) (whole fit all refused : Bool) (limit : ℕ) (hung : List (List (ℕ × ℕ))) (budgets : Budgets) → BeginsAt kept w → CameTo true kept extent limit
+    → whole ≡ is_whole extent → refused ≡ is_refused extent
+    → ((u : World) → IsFirst kept u → ArePatient u names maps answers) → (fit ≡ true → (i : ℕ) → IsAnsweredAt kept names maps answers i)
+    → AllHang kept hung → (whole ≡ true → fit ≡ true → AllLeadOrBeyond kept hung)
+    → (all ≡ true → (whole ≡ true) × (fit ≡ true)) → (all ≡ false → (whole ≡ false) ⊎ (fit ≡ false))
+    → (fit ≡ false → budgets ≡ RunOut) → (budgets ≡ Suffice → NoneRunsOut kept) → (budgets ≡ RunOut → CanRunOut kept)
+    → AreLedFreely kept → AreApart kept → HaveWholeBudgets kept → IsSearchedPatiently w names maps answers all refused limit (length kept) hung budgets
+explored_patiently law kept w names maps answers extent whole fit all refused limit hung budgets (fresh, first) came is_all is_cut outcomes answered hangs leads every every_not unfit suffice out led apart budgeted =
     let shown : IsShown kept w = (0, first.0, first.1, first.2) in
     let whole_then : whole ≡ true → extent ≡ Whole = λ is. whole_of extent (sym is_all ∙ is) in
     let not_then : refused ≡ true → whole ≡ false = λ is. is_all ∙ not_whole extent (sym is_cut ∙ is) in
     let no_other : all ≡ true → NoOtherHangs w hung = λ is schedule z runs well. (
     let a = every is in
-    ends_or_lies kept w z hung (leads a.0 (two a.1).1) fresh first (covers (whole_then a.0) w z schedule fresh shown runs well).0) in
-    let no_fit : both ≡ false → CanRunOut kept = λ is. elim (two_not is) [ inl a ↦ untold a | inr a ↦ unfit a ] in
+    ends_or_lies kept w z hung (leads a.0 a.1) fresh first (came.covers (whole_then a.0) w z schedule fresh shown runs well).0) in
     record {
       outcomes = outcomes w first;
-      complete = λ is. (let a = every is in law kept w names maps answers (covers (whole_then a.0)) fresh shown (λ i m at ended. answered (two a.1).0 i m at ended));
-      counted = are_reached_freely kept w first led apart;
-      met = λ is uncut. elim (every_not is) [ inl a ↦ inl (met (limited_of extent (sym is_all ∙ a) (sym is_cut ∙ uncut))) | inr a ↦ inr (no_fit a w first) ];
-      short = λ is. (none_of_all all (λ yes. (let a : whole ≡ true = (every yes).0 in let b : whole ≡ false = not_then is in cc)), short (refused_of extent (sym is_cut ∙ is)));
+      complete = λ is. (let a = every is in law kept w names maps answers (came.covers (whole_then a.0)) fresh shown (λ i m at ended. answered a.1 i m at ended));
+      counted = are_reached_freely kept w first led (budgeted w fresh first) apart;
+      met = λ is uncut. elim (every_not is) [ inl a ↦ inl (came.met (limited_of extent (sym is_all ∙ a) (sym is_cut ∙ uncut))) | inr a ↦ inr (unfit a) ];
+      short = λ is. (none_of_all all (λ yes. (let a : whole ≡ true = (every yes).0 in let b : whole ≡ false = not_then is in cc)), came.short (refused_of extent (sym is_cut ∙ is)));
       are_hung = λ i by at. hangs i by at w fresh first;
       no_other = no_other;
       none_hangs = λ is none schedule z runs well. none_of_none w hung z none (no_other is schedule z runs well);

@@ -11,7 +11,7 @@ use Rattle.bpf_machine.specs.Machine.{MachineState, Shows}
 use Rattle.bpf_machine.specs.Schedule.{World, RunsSchedule, unrolled}
 use Rattle.bpf_machine.specs.Ends.{RunsFreely}
 use Rattle.bpf_machine.specs.Headways.{with_jobs}
-use Rattle.bpf_machine.specs.Patient.{AsRich}
+use Rattle.bpf_machine.specs.Patient.{AsRich, AreRefilled}
 use Rattle.bpf_machine.proofs.PatientLaws.{all_same, rich_again}
 use Rattle.bpf_cpu.specs.Task.{Task}
 use Rattle.bpf_explore.specs.declared.explorer.Origin.{Origin}
@@ -207,13 +207,17 @@ are_reached kept w first led apart =
       apart = λ i j z at there. apart i j z (all.each i z at).0 (all.each j z there).0;
     }
 
--- the same where jobs are given steps on the way
-pub are_reached_freely : (kept : List MachineState) (w : World) → IsShownAt kept 0 w → AreLedFreely kept → ((i j : ℕ) (z : World) → IsShownAt kept i z → IsShownAt kept j z → i ≡ j) → AreReachedFreely w (length kept)
-are_reached_freely kept w first led apart =
+-- the same where jobs are given steps on the way, and each in hand has its whole budget left
+refilled_there : (kept : List MachineState) (i : ℕ) (z : World) → ((j : ℕ) (m : MachineState) → slice_get kept j ≡ Some m → AreRefilled m.jobs) → IsShownAt kept i z → AreRefilled z.jobs
+refilled_there kept i z whole (m, at, shows) = subst AreRefilled (sym shows.jobs) (whole i m at)
+
+pub are_reached_freely : (kept : List MachineState) (w : World) → IsShownAt kept 0 w → AreLedFreely kept → ((i : ℕ) (m : MachineState) → slice_get kept i ≡ Some m → AreRefilled m.jobs) → ((i j : ℕ) (z : World) → IsShownAt kept i z → IsShownAt kept j z → i ≡ j)
+    → AreReachedFreely w (length kept)
+are_reached_freely kept w first led whole apart =
     let all = reached_below RunsFreely free_runs_join kept w first led (length kept) (omega arith) in
     record {
       worlds = all.worlds;
       count = all.count;
-      reached = λ i z at. (all.each i z at).1;
+      reached = λ i z at. (let r = all.each i z at in (r.1.0, r.1.1, refilled_there kept i z whole r.0));
       apart = λ i j z at there. apart i j z (all.each i z at).0 (all.each j z there).0;
     }

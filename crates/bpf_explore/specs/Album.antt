@@ -1,10 +1,11 @@
 -- Machines that a search keeps.
 use Rattle.std.specs.Prelude.{◌≡◌, ℕ, ◌<◌, ◌≤◌, List, Some, length, slice_get}
 use Rattle.bpf_cpu.specs.Task.{Task}
+use Rattle.bpf_machine.specs.Laws.{IsFresh}
 use Rattle.bpf_machine.specs.Schedule.{World, RunsSchedule}
 use Rattle.bpf_machine.specs.Rounds.{HaveEnded}
 use Rattle.bpf_machine.specs.Machine.{MachineState, Shows}
-use Rattle.bpf_machine.specs.Patient.{NoneRanOut}
+use Rattle.bpf_machine.specs.Patient.{NoneRanOut, AreRefilled}
 use Rattle.bpf_machine.specs.Ends.{RunsFreely}
 
 -- a machine to work with, the kept ones, and how many CPUs their host has
@@ -29,6 +30,10 @@ ShowsFirst kept m = (one : MachineState) × (slice_get kept 0 ≡ Some one)
 -- the i-th kept machine shows the world
 abbrev pub IsShownAt : List MachineState → ℕ → World → Type 0
 IsShownAt kept i w = (m : MachineState) × (slice_get kept i ≡ Some m) × Shows m w
+
+-- the first shows the world, which is before its first turn
+abbrev pub BeginsAt : List MachineState → World → Type 0
+BeginsAt kept w = IsFresh w × IsShownAt kept 0 w
 
 -- all that the machine shows, the i-th kept machine shows
 abbrev pub IsKeptAt : List MachineState → ℕ → MachineState → Type 0
@@ -74,3 +79,9 @@ NoneRanOutAt kept i = (m : MachineState) → slice_get kept i ≡ Some m → Non
 abbrev pub HaveBudgets : List MachineState → ℕ → Type 0
 HaveBudgets kept least = (i j : ℕ) (m : MachineState) (task : Task) → slice_get kept i ≡ Some m
     → slice_get m.jobs j ≡ Some task → least ≤ task.budget
+
+-- each job in hand of all kept machines has its whole budget left, where the first shows a machine
+-- before its first turn
+abbrev pub HaveWholeBudgets : List MachineState → Type 0
+HaveWholeBudgets kept = (w : World) → IsFresh w → IsShownAt kept 0 w
+    → (i : ℕ) (m : MachineState) → slice_get kept i ≡ Some m → AreRefilled m.jobs

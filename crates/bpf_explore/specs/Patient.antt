@@ -8,7 +8,7 @@ use Rattle.bpf_machine.specs.Rounds.{HaveEnded}
 use Rattle.bpf_machine.specs.Laws.{IsFresh}
 use Rattle.bpf_machine.specs.Machine.{MachineState, Shows}
 use Rattle.bpf_machine.specs.Cover.{IsShown}
-use Rattle.bpf_machine.specs.Patient.{NoneRanOut, IsCoveredRichly}
+use Rattle.bpf_machine.specs.Patient.{NoneRanOut, AreRefilled, IsCoveredRichly}
 use Rattle.bpf_machine.specs.Ends.{RunsFreely, CanEnd, IsHung}
 use Rattle.bpf_machine.specs.Budgets.{MayRunOut}
 use Rattle.bpf_jobs.specs.Printed.{Tells}
@@ -44,13 +44,14 @@ pub record ArePatient (w : World) (names : List (List ℕ)) (maps : Bool) (answe
   pub sorted : (i j : ℕ) (found later : Found) → i < j → slice_get answers i ≡ Some found
       → slice_get answers j ≡ Some later → slice_cmp nat_cmp found.text later.text ≡ Less
 
--- schedules lead to so many machines, of which no two are the same, where jobs in hand are given steps
--- on the way
+-- schedules lead to this many machines, where jobs in hand are given steps on the way. In each of them
+-- jobs in hand have their whole budgets left, and no two are the same: so no two differ only in how many
+-- steps are left
 pub record AreReachedFreely (w : World) (states : ℕ) : Type 0 where
   pub worlds : List World
   pub count : length worlds ≡ states
   pub reached : (i : ℕ) (z : World) → slice_get worlds i ≡ Some z
-      → (schedule : List ℕ) × RunsFreely w schedule z
+      → (schedule : List ℕ) × RunsFreely w schedule z × AreRefilled z.jobs
   pub apart : (i j : ℕ) (z : World) → slice_get worlds i ≡ Some z → slice_get worlds j ≡ Some z
       → i ≡ j
 
@@ -91,14 +92,14 @@ NoneHangs w = (schedule : List ℕ) (z : World) → RunsSchedule w schedule z �
 -- ---- the result of a patient search
 -- the answers, whether they are all, whether memory was refused to the search, how many states were kept,
 -- hung states, and whether some schedule uses a budget up. Not all are printed only where the states are more
--- than the limit, where memory was refused before, or where some schedule does
+-- than the limit, where memory was refused before, or where it is reported that some schedule does
 pub record IsSearchedPatiently (w : World) (names : List (List ℕ)) (maps : Bool)
     (answers : List Found) (all refused : Bool) (limit states : ℕ) (hung : List (List (ℕ × ℕ)))
     (budgets : Budgets) : Type 0 where
   pub outcomes : ArePatient w names maps answers
   pub complete : all ≡ true → HaveAllPatient w names maps answers
   pub counted : AreReachedFreely w states
-  pub met : all ≡ false → refused ≡ false → (limit < states) ⊎ MayRunOut w
+  pub met : all ≡ false → refused ≡ false → (limit < states) ⊎ (budgets ≡ RunOut)
   pub short : refused ≡ true → (all ≡ false) × (states ≤ limit)
   pub are_hung : AreHung w hung
   pub no_other : all ≡ true → NoOtherHangs w hung

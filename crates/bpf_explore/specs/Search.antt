@@ -1,5 +1,5 @@
 -- The search through the machines that turns lead to: exact, or but for budgets.
-use Rattle.std.specs.Prelude.{◌≡◌, ℕ, zero, suc, Bool, true, false, List, [], ◌∷◌, ◌++◌, Some, slice_get}
+use Rattle.std.specs.Prelude.{◌≡◌, ℕ, zero, suc, ◌<◌, ◌≤◌, Bool, true, false, List, [], ◌∷◌, ◌++◌, Some, length, slice_get}
 use Rattle.bpf_machine.specs.Schedule.{World, RunsSchedule}
 use Rattle.bpf_machine.specs.Rounds.{HaveEnded}
 use Rattle.bpf_machine.specs.Laws.{IsFresh}
@@ -69,3 +69,11 @@ CoversAll false kept =
 CoversAll true kept =
     (w z : World) (schedule : List ℕ) → IsFresh w → IsShown kept w → RunsSchedule w schedule z
     → NoneRanOut z.jobs → IsCoveredRichly kept z × (HaveEnded z.jobs → IsShown kept z)
+
+-- the search came this far, where these are kept
+pub record CameTo (patient : Bool) (kept : List MachineState) (extent : Extent) (limit : ℕ) : Type 0
+  where
+    pub whole : extent ≡ Whole → IsWhole patient kept
+    pub covers : extent ≡ Whole → CoversAll patient kept
+    pub met : extent ≡ Limited → limit < length kept
+    pub short : extent ≡ Refused → length kept ≤ limit

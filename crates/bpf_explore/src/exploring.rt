@@ -1,11 +1,14 @@
 //! Every outcome of jobs: the search from a shape and its jobs to the answers.
 
-ghost use Rattle.std.specs.Prelude.{◌≡◌, ◌<◌, true, false, IfOk, length, map, string_bytes};
+ghost use Rattle.std.specs.Prelude.{◌≡◌, ◌<◌, ℕ, true, false, IfOk, length, map, string_bytes};
 ghost use Rattle.bpf_cpu.specs.Setup.{IsRunnable};
+ghost use Rattle.bpf_machine.specs.Schedule.{World};
 ghost use Rattle.bpf_jobs.specs.Printed.{first_of};
+ghost use Rattle.bpf_explore.specs.Album.{BeginsAt};
 ghost use Rattle.bpf_explore.specs.Outcomes.{IsExplored};
 ghost use Rattle.bpf_explore.specs.Patient.{IsSearchedPatiently};
-ghost use Rattle.bpf_explore.specs.Private.Answers.{StartsFresh};
+ghost use Rattle.bpf_explore.specs.Search.{CameTo, rows_of};
+ghost use Rattle.bpf_explore.specs.Private.Answers.{IsFirst, StartsFresh};
 ghost use Rattle.bpf_explore.specs.Private.Edges.{AreTurns};
 ghost use Rattle.bpf_explore.specs.Private.Hung.{AllHang, AllLeadOrBeyond};
 ghost use Rattle.bpf_explore.specs.Private.Replays.{CanRunOut, NoneRunsOut};
@@ -13,15 +16,14 @@ ghost use Rattle.bpf_explore.specs.Private.Replays.{CanRunOut, NoneRunsOut};
 use crate::answers::{Answer, gather};
 use crate::budgets::{Budgets, judge_budgets};
 use crate::explorer::Explorer;
-use crate::frontier::explore;
+use crate::frontier::{Extent, explore};
 use crate::hung::{Hung, gather_hung};
 use crate::observer::Observer;
+use crate::opening::{patient_search_of, search_of};
 use crate::patience::{both, gather_patiently};
 use crate::patient::PatientExplorer;
-use crate::stores::copy_shape;
 use crate::turns::Turns;
 use bpf_cpu::Setup;
-use bpf_jobs::make_machine;
 use std::alloc::{AllocError, Global};
 
 /// What jobs may reach.
@@ -37,9 +39,36 @@ pub struct Explored {
     pub states: usize,
 }
 
-/// Searches through all schedules of jobs over a new store whose maps have these names, until no
-/// state is new, more than `limit` are kept, or memory is refused to the search. Want of memory
-/// before or after it is the only refusal. The observer learns meanwhile how far it is.
+/// What a search found that came this far.
+fn conclude(
+    alloc: Global,
+    explorer: &mut Explorer,
+    names: &[String],
+    maps: bool,
+    extent: Extent,
+) -> Result<Explored, AllocError>
+    requires { (w : World) × IsFirst explorer.old.kept w }
+    ensures { IfOk result (λ e. (w : World) (limit : ℕ) → BeginsAt explorer.old.kept w
+        → CameTo false explorer.old.kept extent limit
+        → IsExplored w (map string_bytes names.now) maps e.answers.items e.all e.refused limit
+        e.states) }
+{
+    crate::laws::cover_tells_all();
+    explorer.leads();
+    explorer.apart();
+    let answers = gather(alloc, explorer, names, maps)?;
+    let states = explorer.len();
+    Ok(Explored {
+        answers,
+        all: extent.is_whole(),
+        refused: extent.is_refused(),
+        states,
+    })
+}
+
+/// Searches through all schedules of jobs over a new store whose maps, and then arrays, have these
+/// names, until no state is new, more than `limit` are kept, or memory is refused to the search. Out
+/// of memory before or after it is the only refusal. The observer learns meanwhile how far it is.
 pub fn explore_jobs<O: Observer>(
     alloc: Global,
     setup: Setup,
@@ -52,21 +81,9 @@ pub fn explore_jobs<O: Observer>(
     ensures { IfOk result (λ e. IsExplored (first_of setup)
         (map string_bytes names.now) maps e.answers.items e.all e.refused limit e.states) }
 {
-    crate::laws::cover_tells_all();
-    let copy = copy_shape(alloc, &setup.shape)?;
-    let machine = make_machine(alloc, setup)?;
-    let mut explorer = Explorer::new(alloc, copy, machine)?;
+    let mut explorer = search_of(alloc, setup)?;
     let extent = explore(&mut explorer, limit, observer);
-    explorer.leads();
-    explorer.apart();
-    let answers = gather(alloc, &mut explorer, names, maps)?;
-    let states = explorer.len();
-    Ok(Explored {
-        answers,
-        all: extent.is_whole(),
-        refused: extent.is_refused(),
-        states,
-    })
+    conclude(alloc, &mut explorer, names, maps, extent)
 }
 
 /// What jobs may reach, but for how many steps are left of budgets.
@@ -78,7 +95,8 @@ pub struct ExploredPatiently {
     pub all: bool,
     /// Whether the search ended because memory ran out.
     pub refused: bool,
-    /// How many states were kept, no two of them the same.
+    /// How many states were kept, no two of them the same where each job in hand has its whole budget
+    /// left.
     pub states: usize,
     /// States from which no end can be reached, each but for those that it leads to.
     pub hung: Vec<Hung>,
@@ -122,6 +140,7 @@ fn find_budgets(
     requires turns { whole ≡ true → AreTurns explorer.old.kept turns.now }
     requires out { fit ≡ false → CanRunOut explorer.old.kept }
     ensures same { explorer.new.kept ≡ explorer.old.kept }
+    ensures unfit { IfOk result (λ b. fit ≡ false → b ≡ Budgets.RunOut) }
     ensures suffice { IfOk result (λ b. b ≡ Budgets.Suffice → NoneRunsOut explorer.old.kept) }
     ensures out { IfOk result (λ b. b ≡ Budgets.RunOut → CanRunOut explorer.old.kept) }
 {
@@ -135,12 +154,75 @@ fn find_budgets(
     }
 }
 
+/// What is hung, whether all schedules that are printed fit the budgets, and whether some schedule
+/// uses a budget up.
+fn judge(
+    alloc: Global,
+    explorer: &mut PatientExplorer,
+    turns: &Turns,
+    whole: bool,
+    told: bool,
+) -> Result<(Vec<Hung>, bool, Budgets), AllocError>
+    requires fresh { StartsFresh explorer.old.kept }
+    requires turns { whole ≡ true → AreTurns explorer.old.kept turns.now }
+    requires out { told ≡ false → CanRunOut explorer.old.kept }
+    ensures same { explorer.new.kept ≡ explorer.old.kept }
+    ensures hung { IfOk result (λ r. AllHang explorer.old.kept r.0.items) }
+    ensures told { IfOk result (λ r. r.1 ≡ true → told ≡ true) }
+    ensures ends { IfOk result (λ r. whole ≡ true → r.1 ≡ true
+        → AllLeadOrBeyond explorer.old.kept r.0.items) }
+    ensures unfit { IfOk result (λ r. r.1 ≡ false → r.2 ≡ Budgets.RunOut) }
+    ensures suffice { IfOk result (λ r. r.2 ≡ Budgets.Suffice → NoneRunsOut explorer.old.kept) }
+    ensures out { IfOk result (λ r. r.2 ≡ Budgets.RunOut → CanRunOut explorer.old.kept) }
+{
+    let (hung, fit) = find_hung(alloc, explorer, turns, whole)?;
+    let all_fit = both(told, fit);
+    let budgets = find_budgets(alloc, explorer, turns, whole, all_fit)?;
+    Ok((hung, all_fit, budgets))
+}
+
+/// What a patient search found that came this far.
+fn conclude_patiently(
+    alloc: Global,
+    explorer: &mut PatientExplorer,
+    names: &[String],
+    maps: bool,
+    extent: Extent,
+) -> Result<ExploredPatiently, AllocError>
+    requires fresh { StartsFresh explorer.old.kept }
+    requires made { extent ≡ Extent.Whole
+        → explorer.old.made ≡ rows_of explorer.old.cpus (length explorer.old.kept) }
+    ensures { IfOk result (λ e. (w : World) (limit : ℕ) → BeginsAt explorer.old.kept w
+        → CameTo true explorer.old.kept extent limit
+        → IsSearchedPatiently w (map string_bytes names.now) maps e.answers.items e.all e.refused
+        limit e.states e.hung.items e.budgets) }
+{
+    crate::laws::patient_tell_all();
+    explorer.leads();
+    explorer.apart();
+    explorer.refilled();
+    let whole = extent.is_whole();
+    let turns = explorer.take_turns();
+    let (answers, told) = gather_patiently(alloc, explorer, names, maps)?;
+    let (hung, fit, budgets) = judge(alloc, explorer, &turns, whole, told)?;
+    let all = both(whole, fit);
+    let states = explorer.len();
+    Ok(ExploredPatiently {
+        answers,
+        all,
+        refused: extent.is_refused(),
+        states,
+        hung,
+        budgets,
+    })
+}
+
 /// Searches for outcomes in which no job is out of budget: machines that differ only in how many
 /// steps are left of budgets count as one. The outcomes aren't all where more than `limit` are
-/// kept, where memory is refused to the search, or where a schedule that was found uses a budget up.
-/// Besides, states from which no end can
-/// be reached, however many steps jobs are given, and whether some schedule uses a budget up. Want of
-/// memory before or after the search is the only refusal.
+/// kept, where memory is refused to the search, or where a schedule that was found uses a budget up,
+/// which is reported then. Besides, states from which no end can be reached, however many steps jobs
+/// are given, and whether some schedule uses a budget up. Out of memory before or after the search is
+/// the only refusal.
 pub fn search_patiently<O: Observer>(
     alloc: Global,
     setup: Setup,
@@ -154,27 +236,7 @@ pub fn search_patiently<O: Observer>(
         (map string_bytes names.now) maps e.answers.items e.all e.refused limit e.states
         e.hung.items e.budgets) }
 {
-    crate::laws::patient_tell_all();
-    let copy = copy_shape(alloc, &setup.shape)?;
-    let machine = make_machine(alloc, setup)?;
-    let mut explorer = PatientExplorer::new(alloc, copy, machine)?;
+    let mut explorer = patient_search_of(alloc, setup)?;
     let extent = explore(&mut explorer, limit, observer);
-    let whole = extent.is_whole();
-    explorer.leads();
-    explorer.apart();
-    let turns = explorer.take_turns();
-    let (answers, told) = gather_patiently(alloc, &mut explorer, names, maps)?;
-    let (hung, fit) = find_hung(alloc, &mut explorer, &turns, whole)?;
-    let all_fit = both(told, fit);
-    let budgets = find_budgets(alloc, &mut explorer, &turns, whole, all_fit)?;
-    let all = both(whole, all_fit);
-    let states = explorer.len();
-    Ok(ExploredPatiently {
-        answers,
-        all,
-        refused: extent.is_refused(),
-        states,
-        hung,
-        budgets,
-    })
+    conclude_patiently(alloc, &mut explorer, names, maps, extent)
 }

@@ -28,7 +28,7 @@ pub struct PatientExplorer {
 impl Model for PatientExplorer {
     ghost use Rattle.std.specs.Prelude.{map};
     ghost use Rattle.bpf_machine.specs.Ends.{RunsFreely};
-    ghost use Rattle.bpf_explore.specs.Album.{PatientState};
+    ghost use Rattle.bpf_explore.specs.Album.{PatientState, HaveWholeBudgets};
     ghost use Rattle.bpf_explore.specs.Private.Trail.{AreOrigins};
     ghost use Rattle.bpf_explore.specs.Private.Edges.{AreEdges, edges_of, turn_of};
 
@@ -42,7 +42,8 @@ impl Model for PatientExplorer {
     } };
 
     ghost invariant = { λ e. AreOrigins RunsFreely e.album.kept e.origins.items
-        × AreEdges e.album.kept (edges_of e.album.cpus e.arrivals.items) };
+        × AreEdges e.album.kept (edges_of e.album.cpus e.arrivals.items)
+        × HaveWholeBudgets e.album.kept };
 }
 
 impl PatientExplorer {
@@ -51,7 +52,7 @@ impl PatientExplorer {
     ghost use Rattle.bpf_machine.specs.Schedule.{World, RunsSchedule, unrolled};
     ghost use Rattle.bpf_explore.specs.Search.{IsIdleAt, rows_of};
     ghost use Rattle.bpf_explore.specs.Stores.{IsOfShape};
-    ghost use Rattle.bpf_explore.specs.Album.{ShowsFirst, AreApart, AreLedFreely, LeadsFreely, HaveEndedAt, NoneRanOutAt, HaveBudgets};
+    ghost use Rattle.bpf_explore.specs.Album.{ShowsFirst, AreApart, AreLedFreely, LeadsFreely, HaveEndedAt, NoneRanOutAt, HaveBudgets, HaveWholeBudgets};
     ghost use Rattle.bpf_explore.specs.Private.Edges.{AreTurns};
     ghost use Rattle.bpf_explore.specs.Private.Hung.{LeadsOn};
 
@@ -198,6 +199,14 @@ impl PatientExplorer {
         ensures { AreApart self.now.kept }
     {
         self.album.apart();
+    }
+
+    /// Each job in hand of theirs has its whole budget left, so no two differ only in how many steps
+    /// are left.
+    pub fn refilled(&self)
+        ensures { HaveWholeBudgets self.now.kept }
+    {
+        let _ = &self.origins;
     }
 }
 

@@ -126,27 +126,42 @@ fn works(turn: Turn) -> bool
     !matches!(turn, Turn::Idle)
 }
 
+/// What is watched for in a run, so far.
+#[derive(Drop)]
+struct Findings {
+    /// The state before the last step.
+    seen: Seen,
+    loops: Loops,
+    /// Of each job that ended in a fault.
+    evidence: Vec<Evidence>,
+}
+
 /// Makes a CPU's turn, with its evidence where the turn ends a job in a fault. Whether it had work.
 fn watch_turn(
     alloc: Global,
     machine: &mut Machine,
     cpu: u8,
     contexts: &[usize],
-    seen: &mut Seen,
-    loops: &mut Loops,
-    evidence: &mut Vec<Evidence>,
+    findings: &mut Findings,
 ) -> Result<bool, AllocError>
     requires shown { (w : World) × Shows machine.old w }
     requires sizes { AreSizes machine.old.jobs contexts.now }
     requires one { HaveOneInHand machine.old.jobs }
-    ensures { IfOk result (λ busy. Watches machine.old cpu evidence.old.items busy
-        machine.new evidence.new.items) }
+    ensures { IfOk result (λ busy. Watches machine.old cpu findings.old.evidence.items busy
+        machine.new findings.new.evidence.items) }
 {
-    let job = see_next(alloc, machine, cpu, contexts, seen)?;
-    loops.note(alloc, machine, cpu);
+    let job = see_next(alloc, machine, cpu, contexts, &mut findings.seen)?;
+    findings.loops.note(alloc, machine, cpu);
     let turn = machine.turn(cpu);
-    add_evidence(alloc, cpu, job, turn, seen, evidence)?;
-    loops.add(alloc, cpu, turn)?;
+    add_evidence(
+        alloc,
+        cpu,
+        job,
+        turn,
+        &findings.seen,
+        &mut findings.evidence,
+    )?;
+    findings.loops.add(alloc, cpu, turn)?;
     Ok(works(turn))
 }
 
@@ -155,17 +170,15 @@ fn watch_round(
     alloc: Global,
     machine: &mut Machine,
     contexts: &[usize],
-    seen: &mut Seen,
-    loops: &mut Loops,
-    evidence: &mut Vec<Evidence>,
+    findings: &mut Findings,
 ) -> Result<bool, AllocError>
     requires shown { (w : World) × Shows machine.old w }
-    requires watched { AreWatched machine.old.jobs contexts.now evidence.old.items }
+    requires watched { AreWatched machine.old.jobs contexts.now findings.old.evidence.items }
     ensures round { OnOk result ((w : World) → Shows machine.old w
         → (z : World) × RunsRound w z × Shows machine.new z
-        × AddsEvidence (IsEvidenceIn w) evidence.old.items evidence.new.items) }
+        × AddsEvidence (IsEvidenceIn w) findings.old.evidence.items findings.new.evidence.items) }
     ensures watched { OnOk result
-        (AreWatched machine.new.jobs contexts.now evidence.new.items) }
+        (AreWatched machine.new.jobs contexts.now findings.new.evidence.items) }
     ensures falls { IfOk result (λ worked. worked ≡ true
         → turns_left machine.new.jobs < turns_left machine.old.jobs) }
     ensures idle { IfOk result (λ worked. worked ≡ false
@@ -174,34 +187,38 @@ fn watch_round(
     let mut worked = false;
     let end = machine.cpus();
     for cpu in 0..end {
-        let busy = watch_turn(alloc, machine, cpu, contexts, seen, loops, evidence)?;
+        let busy = watch_turn(alloc, machine, cpu, contexts, findings)?;
         worked |= busy;
     }
     Ok(worked)
 }
 
-/// Runs a machine in rounds until no CPU has work: the evidence of each job that ends in a fault.
+/// Runs a machine in rounds until no CPU has work: the evidence of each job that ends in a fault,
+/// and the last steps of those that end out of budget.
 fn watch(
     alloc: Global,
     machine: &mut Machine,
     contexts: &[usize],
-    loops: &mut Loops,
-) -> Result<Vec<Evidence>, AllocError>
+    loops: Loops,
+) -> Result<Findings, AllocError>
     requires shown { (w : World) × Shows machine.old w }
     requires watched { AreWatched machine.old.jobs contexts.now [] }
-    ensures shown { IfOk result (λ evidence. (w : World) → Shows machine.old w
-        → All (IsEvidenceOf w) evidence.items) }
-    ensures all { IfOk result (λ evidence. (w : World) → Shows machine.old w
-        → LeavesNoneOut w machine.new evidence.items) }
+    ensures shown { IfOk result (λ findings. (w : World) → Shows machine.old w
+        → All (IsEvidenceOf w) findings.evidence.items) }
+    ensures all { IfOk result (λ findings. (w : World) → Shows machine.old w
+        → LeavesNoneOut w machine.new findings.evidence.items) }
 {
-    let mut evidence = Vec::new(alloc);
-    let mut seen = Seen::nothing(alloc);
+    let mut findings = Findings {
+        seen: Seen::nothing(alloc),
+        loops,
+        evidence: Vec::new(alloc),
+    };
     'watching: loop {
-        let worked = watch_round(alloc, machine, contexts, &mut seen, loops, &mut evidence)?;
+        let worked = watch_round(alloc, machine, contexts, &mut findings)?;
         if !worked {
             // Nothing is left to do, which is to say that each job has ended.
             machine.rounds();
-            return Ok(evidence);
+            return Ok(findings);
         }
     }
 }
@@ -220,8 +237,8 @@ pub fn evidence_of(
 {
     let sizes = context_sizes(alloc, &setup.jobs)?;
     let mut machine = make_machine(alloc, setup)?;
-    let mut found = Loops::new(alloc, machine.cpus())?;
-    let evidence = watch(alloc, &mut machine, &sizes, &mut found)?;
-    loops.append(&mut found.found)?;
-    Ok((machine, evidence))
+    let found = Loops::new(alloc, machine.cpus())?;
+    let mut findings = watch(alloc, &mut machine, &sizes, found)?;
+    loops.append(&mut findings.loops.found)?;
+    Ok((machine, findings.evidence))
 }

@@ -36,3 +36,5 @@ pub mod Served
 pub mod Holding
 pub mod Elements
 pub mod KeyRows
+pub mod OneStore
+pub mod HeldAlike

@@ -2,7 +2,7 @@
 -- is read-only is the calling convention of Linux; that a jump into a wide instruction has no
 -- meaning is RFC 9669's (section 4.3). That a run may not leave the program by a jump or past its
 -- end, the limits, the numbers of the refusals and their order are our own choice.
-use Rattle.std.specs.Prelude.{◌≡◌, ◌≢◌, ℕ, ◌+◌, ◌<◌, ◌≤◌, IsTrue, List, [], Some, IsSomeAnd, IfSome}
+use Rattle.std.specs.Prelude.{◌≡◌, ◌≢◌, ℕ, ◌+◌, ◌<◌, IsTrue, List, [], Some, IsSomeAnd, IfSome}
 use Rattle.bpf_insn.specs.declared.register.Reg.TheVariants.{R10}
 use Rattle.bpf_insn.specs.declared.instruction.Insn.{Insn}
 use Rattle.bpf_loader.specs.declared.refusal.LoadError.{LoadError}

@@ -92,7 +92,7 @@ fn check_helper(slots: &Slots, named: Named, pc: u32, insn: Insn) -> Result<(), 
     Ok(())
 }
 
-/// Refuses a map that there isn't.
+/// Refuses a map or an array that there isn't.
 fn check_map(slots: &Slots, named: Named, pc: u32, insn: Insn) -> Result<(), LoadError>
     requires begins { Begins slots.now pc insn }
     requires clear { IsClearBelow named slots.now pc 13 }

@@ -1,3 +1,4 @@
+pub mod NoStore
 pub mod OwnEvents
 pub mod AdvanceLaws
 pub mod ListLaws
@@ -24,6 +25,7 @@ pub mod PatientLaws
 pub mod PatientRaceLaws
 pub mod EndLaws
 pub mod SpareLaws
+pub mod RefillLaws
 pub mod HostLaws
 pub mod StandLaws
 mod FillLaws

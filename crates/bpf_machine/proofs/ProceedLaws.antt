@@ -1,6 +1,6 @@
 -- The job in a CPU's hand goes on, or ends.
 use Rattle.std.proofs.Common.{◌≡◌, ◌≢◌, inl, inr, ℕ, suc, ◌+◌, ◌<◌, ◌≤◌, arith, Bool, true, false, List, Option, Some, None, is_some, length, refl, sym, ap, subst, ◌∙◌}
-use Rattle.std.specs.Prelude.{slice_get, slice_set, slice_index_or}
+use Rattle.std.specs.Prelude.{max, slice_get, slice_set, slice_index_or}
 use Rattle.std.proofs.lemmas.Bool.{ltb-true}
 use Rattle.std.proofs.lemmas.Option.{slice_get_within, slice_get_read, get_or_from_slice_get}
 use Rattle.bpf_shared.proofs.Puts.{put-same, put-other}
@@ -270,9 +270,9 @@ module _ (store : Contents) (programs : List Loaded) (jobs : List Listed) (lanes
                 )
 
             -- it has more steps left
-            kept_refills : (lists : Option (List Listing)) (more : ℕ) → h'.cpu ≡ h.cpu → h'.left ≡ h.left + more → e.budget ≤ h.left + more
+            kept_refills : (lists : Option (List Listing)) (more : ℕ) → h'.cpu ≡ h.cpu → h'.left ≡ h.left + more → h.left + more ≡ max h.left e.budget
                 → Refills (record { store = store; programs = programs; jobs = tasks_of lanes jobs; lists = lists }) c j (record { store = store; programs = programs; jobs = tasks_of (slice_set lanes c l') (slice_set jobs j e); lists = lists })
-            kept_refills lists more same grown enough =
+            kept_refills lists more same grown whole =
                 let at_stage : Stage → List Task = λ s. with_stage (tasks_of lanes jobs) j task s in
                 let cpus : at_stage (InHand h'.cpu h'.left) ≡ at_stage (InHand state h'.left) = ap (λ (x : Cpu). at_stage (InHand x h'.left)) (same ∙ state_is) in
                 let lefts : at_stage (InHand state h'.left) ≡ at_stage (InHand state (left + more)) = ap (λ (n : ℕ). at_stage (InHand state n)) (grown ∙ ap (λ (n : ℕ). n + more) left_is) in (
@@ -281,16 +281,16 @@ module _ (store : Contents) (programs : List Loaded) (jobs : List Listed) (lanes
                   left,
                   more,
                   in_hand,
-                  subst (λ (t : Task). t.budget ≤ left + more) (sym shown) (subst (λ (n : ℕ). e.budget ≤ n + more) left_is enough),
+                  subst (λ (t : Task). left + more ≡ max left t.budget) (sym shown) (subst (λ (n : ℕ). n + more ≡ max n e.budget) left_is whole),
                   ap (λ (ts : List Task). record { store = store; programs = programs; jobs = ts; lists = lists }) (kept_tasks ∙ (cpus ∙ lefts)),
                 )
 
-            pub refills : (lists : Option (List Listing)) (view : MachineState) → record { store = store; programs = programs; jobs = tasks_of lanes jobs; lists = lists } ≡ view → (more : ℕ) → h'.cpu ≡ h.cpu → h'.left ≡ h.left + more → e.budget ≤ h.left + more
+            pub refills : (lists : Option (List Listing)) (view : MachineState) → record { store = store; programs = programs; jobs = tasks_of lanes jobs; lists = lists } ≡ view → (more : ℕ) → h'.cpu ≡ h.cpu → h'.left ≡ h.left + more → h.left + more ≡ max h.left e.budget
                 → Refills view c j (record { store = store; programs = programs; jobs = tasks_of (slice_set lanes c l') jobs; lists = lists })
-            refills lists view view_is more same grown enough =
+            refills lists view view_is more same grown whole =
                 let new : List Listed → MachineState = λ js. record { store = store; programs = programs; jobs = tasks_of (slice_set lanes c l') js; lists = lists } in
                 subst (λ (s : MachineState). Refills s c j (new jobs)) view_is
-                (subst (λ (js : List Listed). Refills (record { store = store; programs = programs; jobs = tasks_of lanes jobs; lists = lists }) c j (new js)) unchanged (kept_refills lists more same grown enough))
+                (subst (λ (js : List Listed). Refills (record { store = store; programs = programs; jobs = tasks_of lanes jobs; lists = lists }) c j (new js)) unchanged (kept_refills lists more same grown whole))
 
             pub ahead_one : h'.cpu.held ≡ h.cpu.held → IsOnlyOne (tasks_of (slice_set lanes c l') jobs) c j
             ahead_one same_held = subst (λ (js : List Listed). IsOnlyOne (tasks_of (slice_set lanes c l') js) c j) unchanged (kept_one store (still_kept same_held))
@@ -384,7 +384,7 @@ module _ (store : Contents) (programs : List Loaded) (jobs : List Listed) (lanes
                 let q = end r.0 r.3 r.4 in
                 let l = listing (with_end w j task outcome q.0) (shown_end lists after w q.0 shows q.2 q.3) in
                 let there : IsAt w.jobs c j task (InHand state left) = subst (λ (ts : List Task). IsAt ts c j task (InHand state left)) (sym shows.jobs) in_hand in
-                let inside : c < w.store.shape.cpus = subst (λ (n : ℕ). c < n) (sym shows.store.cpus) (ltb-true c (length store.runs) serves) in
+                let inside : c < w.store.shape.cpus = subst (λ (n : ℕ). c < n) (sym shows.store.maps.cpus) (ltb-true c (length store.maps.runs) serves) in
                 let few : IsAlone w.jobs c = subst (λ (ts : List Task). IsAlone ts c) (sym shows.jobs) alone_here in (
                   l.0,
                   (suc r.1, rounds_left c j program outcome r.0 q.0 q.1 r.1 w l.0 task state left (shown_within store w.store shows.store) inside few (loaded_there w shows.programs) there (lasts_here r.1 w.store r.0 outcome r.2) l.1),

@@ -1,5 +1,5 @@
 -- Lists of machines that cover schedules but for how many steps are left of budgets.
-use Rattle.std.specs.Prelude.{◌≡◌, ℕ, ◌+◌, ◌≤◌, List, [], ◌∷◌, ◌⊎◌, Some, slice_get}
+use Rattle.std.specs.Prelude.{◌≡◌, ℕ, ◌+◌, List, [], ◌∷◌, ◌⊎◌, Some, max, slice_get}
 use Rattle.bpf_cpu.specs.declared.cpu.Cpu.{Cpu}
 use Rattle.bpf_cpu.specs.declared.outcome.Outcome.TheVariants.{OutOfBudget}
 use Rattle.bpf_cpu.specs.Task.{Task, InHand, Ended}
@@ -32,17 +32,22 @@ AsRich [] (new ∷ news) = ⊥
 AsRich (old ∷ olds) [] = ⊥
 AsRich (old ∷ olds) (new ∷ news) = IsRicher old new × AsRich olds news
 
--- the j-th job, in the CPU's hand, has its whole budget left, or more where it had
+-- the j-th job, in the CPU's hand, has its whole budget left, or what it had where that is more
 abbrev pub Refills : MachineState → ℕ → ℕ → MachineState → Type 0
 Refills old c j new =
     (task : Task) × (state : Cpu) × (left : ℕ) × (more : ℕ)
-    × IsAt old.jobs c j task (InHand state left) × (task.budget ≤ left + more)
+    × IsAt old.jobs c j task (InHand state left) × (left + more ≡ max left task.budget)
     × (new ≡ record old { jobs = with_stage old.jobs j task (InHand state (left + more)) })
 
 -- so has the job that the CPU has in hand, if it has one
 abbrev pub IsRefilled : MachineState → ℕ → MachineState → Type 0
 IsRefilled old c new =
     (IsFree old.jobs c × (new ≡ old)) ⊎ ((j : ℕ) × Refills old c j new)
+
+-- each job in hand has its whole budget left, and no more
+abbrev pub AreRefilled : List Task → Type 0
+AreRefilled jobs = (c j : ℕ) (task : Task) (state : Cpu) (left : ℕ)
+    → IsAt jobs c j task (InHand state left) → left ≡ task.budget
 
 -- a kept machine shows the world, but for richer jobs
 abbrev pub IsShownRichly : List MachineState → World → Type 0

@@ -1,5 +1,5 @@
 -- Accesses to fixed values.
-use Rattle.std.proofs.Common.{◌≡◌, ◌≢◌, ℕ, ◌+◌, ◌-◌, ◌*◌, ◌<◌, ◌≤◌, true, false, true≢false, List, [], length, inl, inr, ◌⊎◌, refl, ap, sym, subst, ◌∙◌, arith}
+use Rattle.std.proofs.Common.{◌≡◌, ◌≢◌, ℕ, ◌+◌, ◌-◌, ◌*◌, ◌<◌, ◌≤◌, true, false, true≢false, List, [], length, get_or, inl, inr, ◌⊎◌, refl, ap, sym, subst, ◌∙◌, arith}
 use Rattle.std.proofs.lemmas.Bool.{cases_lt}
 use Rattle.std.proofs.lemmas.List.{get_or-set_same, get_or-set_other, length-set}
 use Rattle.bpf_base.specs.Bytes.{little_endian, low_bytes, part, with_part}
@@ -13,7 +13,7 @@ use Rattle.bpf_shared.specs.declared.events.Size.{Size}
 use Rattle.bpf_shared.specs.declared.events.Event.TheVariants.{Load, Store, Atomic}
 use Rattle.bpf_shared.specs.declared.shapes.ArrayShape.{ArrayShape}
 use Rattle.bpf_shared.specs.Access.{bytes_in}
-use Rattle.bpf_shared.specs.Shape.{Shape, IsArray, IsApart, Covers, copies, copy_stride, contents_of, fixed_span}
+use Rattle.bpf_shared.specs.Shape.{Shape, IsArray, IsApart, IsWithin, Covers, copies, copy_stride, contents_of, fixed_span}
 use Rattle.bpf_shared.specs.Store.{Plain, Value, IsFixed, IsFrozen, array_of, copy_of, index_of, fixed_value}
 use Rattle.bpf_shared.specs.Events.{Allowed, Reaches, MayWrite, number_in, after_write}
 use Rattle.bpf_shared.specs.Sound.{IsSoundStore}
@@ -22,8 +22,8 @@ use Rattle.bpf_shared.proofs.Puts.{equal_or_not, put-same, put-other}
 use Rattle.bpf_shared.proofs.Soundness.{allowed_sound}
 use Rattle.bpf_shared.proofs.Fixed.{fixed_apart, fixed_below, fixed_is, place_array, place_copy, place_frozen, place_index, place_is, place_number, place_span}
 use Rattle.bpf_hash.proofs.Beside.{stands_beside}
-use Rattle.bpf_hash.proofs.Blocks.{part-beside, part-within}
-use Rattle.bpf_plain.specs.Private.Contents.{Contents, bytes_of, fixed_bytes, offset_in, value_in, is_running, StandsFor, Makes, IsAsMade, IsStore, with_array}
+use Rattle.bpf_hash.proofs.Blocks.{get_or-before, get_or-behind, part-beside, part-within}
+use Rattle.bpf_plain.specs.Private.Contents.{Contents, bytes_of, fixed_bytes, offset_in, value_in, is_running, StandsFor, Makes, IsAsMade, IsStore, first_at, with_array}
 use Rattle.bpf_plain.specs.Private.Places.{array_at, offset_at}
 use Rattle.bpf_plain.proofs.Lifting.{same_fixed}
 use Rattle.bpf_plain.proofs.Places.{part-part, value_inside, array-is, offset-is, within, inside, array_there}
@@ -112,21 +112,56 @@ module _ (p : Contents) (is : IsStore p) (c a n : ℕ) (some : 0 < n) (place : I
       | inr ne ↦ ap (λ (bs : List ℕ). length bs) (else b ne)
     ]
 
+    is_here : (b : ℕ) (g : ArrayShape) → IsArray p.shape.arrays b g → b ≡ array_at a → g ≡ place.array
+    is_here b g at e =
+        let there : b ≡ place.number = e ∙ array-is p is a n some place in
+        Rattle.bpf_shared.proofs.Fixed.same_array p.shape.arrays place.number g place.array (subst (λ (x : ℕ). IsArray p.shape.arrays x g) there at) place.is
+
+    -- what is in no value stays
+    padded_here : (x : ℕ) → (IsWithin p.shape.cpus place.array x 1 → ⊥) → get_or bytes-new x 0 ≡ get_or (bytes_of p (array_at a)) x 0
+    padded_here x none = elim (cases_lt x (offset_at a)) [
+      | inl l ↦ get_or-before (bytes_of p (array_at a)) low (offset_at a) fits x l
+      | inr l ↦ elim (cases_lt x (offset_at a + n)) [
+        | inl m ↦ absurd (
+            let offset = offset-is p is a n some place in
+            let room = within p is a n some place in
+            none (record {
+              copy = place.copy;
+              index = place.index;
+              has_copy = place.has_copy;
+              has_index = place.has_index;
+              from = omega arith;
+              to = omega arith;
+            }))
+        | inr m ↦ get_or-behind (bytes_of p (array_at a)) low (offset_at a) fits x (omega arith)
+      ]
+    ]
+
     pub is_store : place.array.frozen ≡ false → IsStore after
     is_store thawed = record {
       shape = is.shape;
       maps = is.maps;
       cpus = is.cpus;
-      count = length-set p.arrays (array_at a) bytes-new ∙ is.count;
-      sizes = λ b g at. size-new b ∙ is.sizes b g at;
-      frozen = λ b g at frozen. elim (equal_or_not b (array_at a)) [
-        | inl e ↦ absurd (
-            let there : b ≡ place.number = e ∙ array-is p is a n some place in
-            let same : g ≡ place.array = Rattle.bpf_shared.proofs.Fixed.same_array p.shape.arrays place.number g place.array (subst (λ (x : ℕ). IsArray p.shape.arrays x g) there at) place.is in
-            true≢false (sym frozen ∙ (ap (λ (k : ArrayShape). k.frozen) same ∙ thawed))
-            )
-        | inr ne ↦ subst (IsAsMade p.shape.cpus g (contents_of p.shape b)) (sym (else b ne)) (is.frozen b g at frozen)
-      ];
+      arrays = record {
+        count = length-set p.arrays (array_at a) bytes-new ∙ is.arrays.count;
+        each = λ b g at. record {
+          size = size-new b ∙ (is.arrays.each b g at).size;
+          frozen = λ frozen. elim (equal_or_not b (array_at a)) [
+            | inl e ↦ absurd (true≢false (sym frozen ∙ (ap (λ (k : ArrayShape). k.frozen) (is_here b g at e) ∙ thawed)))
+            | inr ne ↦ subst (IsAsMade p.shape.cpus g (contents_of p.shape b)) (sym (else b ne)) ((is.arrays.each b g at).frozen frozen)
+          ];
+          padded = λ x l none. (
+              let size = size-new b in
+              let was : get_or (bytes_of p b) x 0 ≡ first_at p.shape b g x = (is.arrays.each b g at).padded x (omega arith) none in
+              elim (equal_or_not b (array_at a)) [
+                | inl e ↦
+                    ap (λ (y : ℕ). get_or (bytes_of after y) x 0) e
+                    ∙ (ap (λ (bs : List ℕ). get_or bs x 0) here
+                    ∙ (padded_here x (subst (λ (k : ArrayShape). IsWithin p.shape.cpus k x 1 → ⊥) (is_here b g at e) none) ∙ (ap (λ (y : ℕ). get_or (bytes_of p y) x 0) (sym e) ∙ was)))
+                | inr ne ↦ ap (λ (bs : List ℕ). get_or bs x 0) (else b ne) ∙ was
+              ]);
+        };
+      };
     }
 
     -- the value's bytes are written
@@ -135,7 +170,7 @@ module _ (p : Contents) (is : IsStore p) (c a n : ℕ) (some : 0 < n) (place : I
         let at = offset_in place.array place.copy place.index in
         let same = array-is p is a n some place in
         let fit = value_inside p.shape.cpus place.copy place.index place.array place.has_copy place.has_index in
-        let size = is.sizes place.number place.array place.is in
+        let size = (is.arrays.each place.number place.array place.is).size in
         let w = within p is a n some place in
         ap (λ (b : ℕ). value_in (bytes_of after b) place.array place.copy place.index) (sym same)
         ∙ (ap (λ (bs : List ℕ). value_in bs place.array place.copy place.index) here
@@ -163,7 +198,7 @@ module _ (p : Contents) (is : IsStore p) (c a n : ℕ) (some : 0 < n) (place : I
           let beside : (x + f.array.value ≤ offset_at a) ⊎ (offset_at a + n ≤ x) =
           apart_runs x f.array.value (offset_at a) n base wide some (λ k l m i j. apart k (omega arith, omega arith) (omega arith, omega arith)) in
           let fit = value_inside p.shape.cpus (copy_of w) (index_of w) f.array f.copy f.index in
-          let size = is.sizes (array_of w) f.array f.is in
+          let size = (is.arrays.each (array_of w) f.array f.is).size in
           let same : bytes_of p (array_of w) ≡ bytes_of p (array_at a) = ap (bytes_of p) e in
           let long_w : length (bytes_of p (array_at a)) ≡ copies p.shape.cpus f.array * copy_stride f.array = ap (λ (bs : List ℕ). length bs) (sym same) ∙ size in
           ap (λ (b : ℕ). value_in (bytes_of after b) f.array (copy_of w) (index_of w)) e

@@ -1,7 +1,8 @@
 -- Arrays' bytes as they are at first.
-use Rattle.std.proofs.Common.{◌≡◌, ℕ, zero, suc, ◌+◌, ◌-◌, ◌*◌, ◌<◌, ◌≤◌, List, ◌++◌, length, drop, replicate, get_or, inl, inr, refl, ap, sym, ◌∙◌, arith}
+use Rattle.std.proofs.Common.{◌≡◌, ℕ, zero, suc, ◌+◌, ◌-◌, ◌*◌, ◌/◌, ◌%◌, ◌<◌, ◌≤◌, List, ◌++◌, length, drop, replicate, get_or, inl, inr, refl, ap, sym, ◌∙◌, arith}
 use Rattle.std.proofs.lemmas.Bool.{cases_lt}
 use Rattle.std.proofs.lemmas.List.{ext_get_or, get_or_past, get_or-take, get_or-drop, get_or_append_left, get_or-append_right}
+use Rattle.std.proofs.lemmas.Nat.{div-add-mod', div_below, mod_below}
 use Rattle.bpf_base.specs.Bytes.{with_part}
 use Rattle.bpf_base.proofs.Parts.{length-with_part}
 use Rattle.bpf_shared.specs.declared.shapes.ArrayShape.{ArrayShape}
@@ -10,7 +11,7 @@ use Rattle.bpf_shared.specs.Store.{first_bytes}
 use Rattle.bpf_shared.proofs.Puts.{equal_or_not}
 use Rattle.bpf_shared.proofs.Fixed.{copy_fits, value_fits, length-first_bytes}
 use Rattle.bpf_hash.proofs.Blocks.{block_fits, next_block, suc-mul, get_or-before, get_or-inside, get_or-behind, get_or-part, length-part}
-use Rattle.bpf_plain.specs.Private.Contents.{IsAsMade, offset_in, value_in}
+use Rattle.bpf_plain.specs.Private.Contents.{IsAsMade, IsFilled, offset_in, value_in}
 use Rattle.bpf_plain.proofs.Places.{value_inside}
 
 pub zeros : (n k : ℕ) → get_or {A = ℕ} (replicate n 0) k 0 ≡ 0
@@ -87,3 +88,21 @@ value_made cpus k i g first bytes has_copy has_index made =
         let row = block_fits i g.max s has_index in
         let turned : g.max * s ≡ s * g.max = grind arith in
         omega arith
+
+-- ---- each byte
+pub filled_at : (stride : ℕ) (first : List ℕ) (count : ℕ) (bytes : List ℕ) → IsFilled stride first count bytes → (x : ℕ) → x < length bytes → get_or bytes x 0 ≡ get_or first (x % stride) 0
+filled_at stride first count bytes filled x l =
+    let size = filled.size in
+    let some : 0 < stride = elim (cases_lt 0 stride) [
+      | inl m ↦ m
+      | inr m ↦ absurd (let none : count * stride ≡ count * 0 = ap (λ (s : ℕ). count * s) (let z : stride ≡ 0 = omega arith in z) in omega arith)
+    ] in
+    let below : x < count * stride = omega arith in
+    ap (λ (y : ℕ). get_or bytes y 0) (sym (div-add-mod' x stride)) ∙ filled.each (x / stride) (x % stride) (div_below x stride count some below) (mod_below x stride some)
+
+-- there is one such list
+pub filled_one : (stride : ℕ) (first : List ℕ) (count : ℕ) (bytes others : List ℕ) → IsFilled stride first count bytes → IsFilled stride first count others → bytes ≡ others
+filled_one stride first count bytes others one two = ext_get_or 0 bytes others (one.size ∙ sym two.size) (λ x l.
+    let s = one.size in
+    let t = two.size in
+    filled_at stride first count bytes one x (omega arith) ∙ sym (filled_at stride first count others two x (omega arith)))

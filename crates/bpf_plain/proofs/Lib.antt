@@ -6,3 +6,14 @@ pub mod Filling
 pub mod Making
 pub mod Vectors
 pub mod Growing
+pub mod Served
+pub mod Changed
+pub mod Alike
+pub mod SavedAlike
+pub mod Restoring
+pub mod Stepping
+pub mod Arrays
+pub mod Showing
+pub mod Elements
+pub mod Options
+pub mod OneStore

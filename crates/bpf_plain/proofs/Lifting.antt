@@ -84,9 +84,7 @@ maps_store parts maps is shapes serves = record {
   shape = is.shape;
   maps = shapes ∙ is.maps;
   cpus = λ c. ap (λ (f : ℕ → Bool). f c) serves ∙ is.cpus c;
-  count = is.count;
-  sizes = is.sizes;
-  frozen = is.frozen;
+  arrays = is.arrays;
 }
 
 pub lacks : (p : Contents) (maps : hash.Contents) (m : ℕ) (key : List ℕ) (answer : MapAnswer) → hash.MayLack p.maps maps m key answer → MayLack p (with_maps p maps) m key answer

@@ -118,7 +118,7 @@ module _ (p : Contents) (is : IsStore p) (a : ℕ) (above : first_fixed ≤ a) (
     pub offset_inside : offset_at a < length (bytes_of p (array_at a))
     offset_inside =
         let fits = Rattle.bpf_plain.proofs.Places.value_inside p.shape.cpus w.copy w.index g w.has_copy w.has_index in
-        let size = is.sizes (array_at a) g here in
+        let size = (is.arrays.each (array_at a) g here).size in
         let to = w.to in
         omega arith
 

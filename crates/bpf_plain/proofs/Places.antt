@@ -59,6 +59,16 @@ array_sized h is gs same n cpus d served l =
     let sized = is.arrays n (get_or gs n d) there in
     (there, subst (λ (k : ℕ). IsArrayShape k (get_or gs n d)) (sym served) sized.0, sized.1)
 
+-- a CPU's values take some bytes
+pub stride_some : (cpus : ℕ) (g : ArrayShape) → IsArrayShape cpus g → 0 < copy_stride g
+stride_some cpus g sized = go (array_stride g) (value_fits cpus g) (copy_fits cpus g)
+  where
+    go : (s : ℕ) → g.value ≤ s → s * g.max ≤ copy_stride g → 0 < copy_stride g
+    go s wide block =
+        let some = sized.value.0 in
+        let row : s * 1 ≤ s * g.max = Rattle.std.proofs.Math.Nat.mul-le-mul_left s sized.max.0 in
+        omega arith
+
 pub if_none : {X P Q : Type 0} (o : Option X) → IfNone o P → (P → Q) → IfNone o Q
 if_none None p f = f p
 if_none (Some x) p f = tt
@@ -107,7 +117,7 @@ module _ (p : Contents) (is : IsStore p) (a n : ℕ) (some : 0 < n) (place : IsF
   within = let from = place.covers.0 in let to = place.covers.1 in omega arith
 
   size : length (bytes_of p place.number) ≡ copies p.shape.cpus place.array * copy_stride place.array
-  size = is.sizes place.number place.array place.is
+  size = (is.arrays.each place.number place.array place.is).size
 
   pub inside : offset_at a + n ≤ length (bytes_of p (array_at a))
   inside =
@@ -118,5 +128,5 @@ module _ (p : Contents) (is : IsStore p) (a n : ℕ) (some : 0 < n) (place : IsF
   array_there =
       let l = slice_get_within p.shape.arrays place.number place.array place.is in
       let same = array-is in
-      let count = is.count in
+      let count = is.arrays.count in
       omega arith

@@ -1,8 +1,8 @@
 -- The vectors of arrays' bytes.
-use Rattle.std.proofs.Common.{◌≡◌, ℕ, zero, suc, ◌<◌, List, [], ◌∷◌, ◌++◌, length, get_or, set, refl, ap, sym, ◌∙◌, arith}
+use Rattle.std.proofs.Common.{◌≡◌, ◌≢◌, ℕ, zero, suc, ◌<◌, List, [], ◌∷◌, ◌++◌, length, get_or, set, refl, ap, sym, ◌∙◌, arith}
 use Rattle.std.specs.Prelude.{Vec}
 use Rattle.std.specs.declared.alloc.Global.{Global}
-use Rattle.std.proofs.lemmas.List.{length-map}
+use Rattle.std.proofs.lemmas.List.{get_or-set_same, get_or-set_other, length-map}
 use Rattle.bpf_base.specs.Bytes.{with_part}
 use Rattle.bpf_shared.specs.Contents.{bytes_of, bytes_of_all}
 use Rattle.bpf_shared.specs.Shape.{Shape}
@@ -42,3 +42,10 @@ stored_is shape maps items p view a k o ek eo l v w ev now enow low ew =
     in
     ap (λ (bs : List (List ℕ)). let x : Contents = record { shape = shape; maps = maps; arrays = bs } in x) (one ∙ two)
     ∙ ap (λ (q : Contents). with_array q (array_at a) (with_part (bytes_in q (array_at a)) (offset_at a) low)) view
+
+-- one vector put in the place of another
+pub bytes_put : (vs : List (Vec ℕ Global)) (i : ℕ) (v : Vec ℕ Global) → i < length vs → get_or (bytes_of_all (set vs i v)) i [] ≡ v.items
+bytes_put vs i v l = let all = count_all vs in ap (λ (bs : List (List ℕ)). get_or bs i []) (set_bytes vs i v) ∙ get_or-set_same (bytes_of_all vs) i v.items [] (omega arith)
+
+pub bytes_kept : (vs : List (Vec ℕ Global)) (i j : ℕ) (v : Vec ℕ Global) → j ≢ i → get_or (bytes_of_all (set vs i v)) j [] ≡ get_or (bytes_of_all vs) j []
+bytes_kept vs i j v ne = ap (λ (bs : List (List ℕ)). get_or bs j []) (set_bytes vs i v) ∙ get_or-set_other (bytes_of_all vs) i j v.items [] ne

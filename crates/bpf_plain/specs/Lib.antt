@@ -1,4 +1,6 @@
 pub mod PlainStore
+pub mod Alike
+pub mod Read
 pub mod Shows
 pub mod Legality
 pub mod Lemmas

@@ -7,3 +7,7 @@ pub use Rattle.bpf_plain.specs.Private.Contents.{Contents, IsMade, shape_of, sha
 -- the plain stores that it stands for; what calls do to it, said of these; when a call may lack
 -- room
 pub use Rattle.bpf_plain.specs.Private.Contents.{StandsFor, Passes, MayLack}
+-- the bytes that it is saved as
+pub use Rattle.bpf_plain.specs.Private.Saved.{IsSavedAs}
+-- what it is restored to: the same contents in their normal form
+pub use Rattle.bpf_plain.specs.Private.Normal.{normal}

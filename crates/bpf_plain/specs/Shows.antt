@@ -1,6 +1,8 @@
 -- What a `PlainStore` says of each plain store that it shows.
-use Rattle.std.specs.Prelude.{◌≡◌, ℕ, List, Option}
-use Rattle.bpf_shared.specs.Store.{Plain}
+use Rattle.std.specs.Prelude.{◌≡◌, ℕ, nat_lt, ◌&&◌, List, Option, Some, None, slice_get, if◌then◌else◌}
+use Rattle.bpf_shared.specs.declared.shapes.ArrayShape.{ArrayShape}
+use Rattle.bpf_shared.specs.Shape.{copies}
+use Rattle.bpf_shared.specs.Store.{Plain, fixed_number}
 use Rattle.bpf_shared.specs.Sound.{IsSoundStore}
 use Rattle.bpf_plain.specs.PlainStore.{Contents, StandsFor}
 use Rattle.bpf_shared.specs.Listing.{Pair, IsListing, IsByteAt, IsOnlyByteAt}
@@ -23,6 +25,23 @@ ShowsNoByte p a = (s : Plain) → IsSoundStore s → StandsFor p s → (b : ℕ)
 -- the key leads to these bytes in the map, or to none
 abbrev pub ShowsValue : Contents → ℕ → List ℕ → Option (List ℕ) → Type 0
 ShowsValue p m key value = (s : Plain) → IsSoundStore s → StandsFor p s → value_of s m key ≡ value
+
+-- the bytes of the value of an index of an array, of the k-th CPU if each has its own, if it is
+-- there
+abbrev pub indexed : Plain → ℕ → ℕ → ℕ → Option ArrayShape → Option (List ℕ)
+indexed s a k i None = None
+indexed s a k i (Some g) =
+    if nat_lt k (copies s.shape.cpus g) && nat_lt i g.max
+    then Some (s.value (fixed_number a k i)).bytes
+    else None
+
+abbrev pub fixed_of : Plain → ℕ → ℕ → ℕ → Option (List ℕ)
+fixed_of s a k i = indexed s a k i (slice_get s.shape.arrays a)
+
+-- these are they
+abbrev pub ShowsFixed : Contents → ℕ → ℕ → ℕ → Option (List ℕ) → Type 0
+ShowsFixed p a k i value =
+    (s : Plain) → IsSoundStore s → StandsFor p s → fixed_of s a k i ≡ value
 
 -- the key leads to a value that has a byte at the address
 abbrev pub ShowsKey : Contents → ℕ → List ℕ → Type 0

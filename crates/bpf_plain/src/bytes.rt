@@ -1,5 +1,5 @@
 //! The bytes of an array's values, each at its offset from the first value.
-ghost use Rattle.std.specs.Prelude.{◌≡◌, ◌+◌, ◌*◌, ◌≤◌, ℕ, [], IfOk, length, slice_index, slice_index_or};
+ghost use Rattle.std.specs.Prelude.{◌≡◌, ◌+◌, ◌*◌, ◌<◌, ◌≤◌, ℕ, [], IfOk, length, slice_index, slice_index_or};
 ghost use Rattle.bpf_base.specs.Bytes.{with_part};
 ghost use Rattle.bpf_shared.specs.Contents.{bytes_of_all};
 ghost use Rattle.bpf_shared.specs.Shape.{Shape, IsShape, IsArrayShape, copies, copy_size, copy_stride};
@@ -48,7 +48,7 @@ fn new_array(
 }
 
 /// What an array of this number has at first.
-fn first_bytes(contents: &[Vec<u8>], array: usize) -> &[u8]
+pub fn first_bytes(contents: &[Vec<u8>], array: usize) -> &[u8]
     ensures { result.now ≡ slice_index_or (bytes_of_all contents.now) array [] }
 {
     match contents.get(array) {
@@ -68,4 +68,25 @@ pub fn new_arrays(alloc: Global, shape: &StoreShape) -> Result<Vec<Vec<u8>>, All
         arrays.push(new_array(alloc, array, cpus, first)?)?;
     }
     Ok(arrays)
+}
+
+/// These bytes become others, which are as many.
+fn copy_bytes(bytes: &mut Vec<u8>, others: &[u8])
+    requires { length others.now ≡ length bytes.old.items }
+    ensures { bytes.new.items ≡ others.now }
+{
+    bytes.copy_from_slice(others);
+}
+
+/// These arrays' bytes become those of others of the same sizes.
+pub fn copy_arrays(arrays: &mut [Vec<u8>], others: &[Vec<u8>])
+    requires count { length others.now ≡ length arrays.old }
+    requires sizes { (a : ℕ) → a < length arrays.old
+        → length (slice_index_or (bytes_of_all others.now) a [])
+        ≡ length (slice_index_or (bytes_of_all arrays.old) a []) }
+    ensures { bytes_of_all arrays.new ≡ bytes_of_all others.now }
+{
+    for number in 0..arrays.len() {
+        copy_bytes(&mut arrays[number], &others[number]);
+    }
 }

@@ -3,7 +3,11 @@
 #![tactic(auto)]
 
 mod bytes;
+mod changes;
+mod copying;
 pub mod laws;
 mod plain;
+mod reading;
 
+pub use copying::copy_shape;
 pub use plain::PlainStore;

@@ -4,6 +4,8 @@ ghost use Rattle.bpf_shared.specs.Shape.{IsValueSpan};
 
 mod calls;
 mod places;
+mod restoring;
+mod saving;
 
 use crate::bytes::new_arrays;
 use bpf_hash::HashStore;
@@ -36,6 +38,7 @@ impl PlainStore {
     ghost use Rattle.bpf_shared.specs.Listing.{listed};
     ghost use Rattle.bpf_plain.specs.Private.Contents.{IsMade, has_cpu, is_running, held_spans};
     ghost use Rattle.bpf_plain.specs.Shows.{Lists, ShowsKey, ShowsNoKey, ShowsValue};
+    ghost use Rattle.bpf_plain.specs.Private.Contents.{shape_of};
 
     /// A store with no keys, and no CPU in a run. Out of memory is its only refusal.
     pub fn new(alloc: Global, shape: StoreShape) -> Result<PlainStore, ShapeError>
@@ -55,6 +58,13 @@ impl PlainStore {
             maps,
             arrays,
         })
+    }
+
+    /// What the store was made with.
+    pub fn store_shape(&self) -> &StoreShape
+        ensures { result.now ≡ shape_of self.now }
+    {
+        &self.shape
     }
 
     /// How many CPUs the store has: those of the numbers below it.

@@ -1,25 +1,22 @@
 -- From a shape and its jobs to the races.
-use Rattle.std.proofs.Common.{subst, ◌≡◌, ◌∙◌, ℕ, ◌<◌, ◌⊎◌, Bool, true, false, List, Some, length, inl, inr, refl, sym}
-use Rattle.std.specs.Prelude.{slice_get}
-use Rattle.bpf_machine.specs.Cover.{IsClosed}
-use Rattle.bpf_machine.specs.Laws.{IsFresh}
+use Rattle.std.proofs.Common.{subst, ◌≡◌, ◌∙◌, ℕ, ◌<◌, ◌⊎◌, Bool, true, false, List, length, inl, inr, refl, sym}
 use Rattle.bpf_machine.specs.Machine.{MachineState}
-use Rattle.bpf_machine.specs.Patient.{IsClosedRichly, PatientRacesAreKept}
+use Rattle.bpf_machine.specs.Patient.{PatientRacesAreKept}
 use Rattle.bpf_machine.specs.Race.{IsRaceKept, RacesAreKept}
 use Rattle.bpf_machine.specs.Schedule.{World}
-use Rattle.bpf_explore.specs.Album.{IsShownAt}
 use Rattle.bpf_shared.specs.Store.{Plain}
 use Rattle.bpf_races.specs.declared.found.Pair.{Pair}
 use Rattle.bpf_races.specs.declared.sync.Part.{Part}
 use Rattle.bpf_races.specs.Races.{RaceFound, HaveAllRaces, AreRaces, IsTold}
-use Rattle.bpf_races.proofs.RaceFree.{free_parts, is_race_free_so}
+use Rattle.bpf_cpu.specs.Setup.{named_in}
+use Rattle.bpf_races.proofs.RaceFree.{free_parts, is_race_free_so, nothing_added, no_arrays}
 use Rattle.bpf_x86.specs.Laws.{KeptRaceFreeIsSame}
 use Rattle.bpf_races.specs.Parts.{IsLeftOut}
-use Rattle.bpf_explore.specs.Album.{AreApart, AreLed}
-use Rattle.bpf_explore.specs.Search.{is_whole, is_refused}
+use Rattle.bpf_explore.specs.Album.{BeginsAt, AreApart, AreLed}
+use Rattle.bpf_explore.specs.Search.{CameTo, is_whole, is_refused}
 use Rattle.bpf_explore.specs.declared.frontier.Extent.{Extent}
-use Rattle.bpf_explore.specs.declared.frontier.Extent.TheVariants.{Limited}
-use Rattle.bpf_explore.proofs.ExploreLaws.{limited_of, not_whole}
+use Rattle.bpf_explore.specs.declared.frontier.Extent.TheVariants.{Whole}
+use Rattle.bpf_explore.proofs.ExploreLaws.{whole_of, limited_of, not_whole}
 use Rattle.bpf_explore.proofs.TrailLaws.{are_reached}
 use Rattle.bpf_races.specs.Private.Searching.{Gathered, AreListedAt}
 
@@ -28,8 +25,11 @@ kept_listed : (kept : List MachineState) (races : List RaceFound) (sync : List P
     → IsRaceKept kept z pair.one pair.other b → IsTold races z.store pair b ⊎ IsLeftOut sync b
 kept_listed kept races sync listed z pair b order (v, (i, m, at, shows), store, race) = subst (λ (s : Plain). IsTold races s pair b ⊎ IsLeftOut sync b) store (listed i m at v shows pair b order race)
 
-module _ (kept : List MachineState) (w : World) (sync : List Part) (races : List RaceFound) (extent : Extent) (limit : ℕ) (whole refused told all : Bool) (fresh : IsFresh w) (first : IsShownAt kept 0 w) (gathered : Gathered kept sync races)
+module _ (kept : List MachineState) (w : World) (sync : List Part) (races : List RaceFound) (extent : Extent) (limit : ℕ) (whole refused told all : Bool) (begins : BeginsAt kept w) (gathered : Gathered kept sync races)
     (listed : told ≡ true → (i : ℕ) → AreListedAt kept races sync i) (joined : all ≡ true → (whole ≡ true) × (told ≡ true)) (is_so : whole ≡ is_whole extent) (cut : refused ≡ is_refused extent) where
+  whole_then : whole ≡ true → extent ≡ Whole
+  whole_then is = whole_of extent (sym is_so ∙ is)
+
   -- where memory was refused, they aren't all
   cut_short : (b : Bool) → (b ≡ true → whole ≡ true) → refused ≡ true → b ≡ false
   cut_short true h is =
@@ -37,40 +37,44 @@ module _ (kept : List MachineState) (w : World) (sync : List Part) (races : List
       cc
   cut_short false h is = refl
 
-  pub are_races : RacesAreKept → KeptRaceFreeIsSame → (whole ≡ true → IsClosed kept) → AreLed kept → AreApart kept → told ≡ true → (all ≡ false → (whole ≡ false) ⊎ (told ≡ false)) → (extent ≡ Limited → limit < length kept)
+  pub are_races : RacesAreKept → KeptRaceFreeIsSame → CameTo false kept extent limit → AreLed kept → AreApart kept → told ≡ true → (all ≡ false → (whole ≡ false) ⊎ (told ≡ false))
       → AreRaces false w sync races all refused limit
-  are_races law x86 closed led apart sure split met = record {
-    same = λ free. (let whole_it = (free_parts sync races all free).0 in
-        x86 false kept w (closed (joined whole_it).0) fresh (0, first.0, first.1, first.2) (is_race_free_so false w sync races all complete free));
+  are_races law x86 came led apart sure split = record {
+    same = λ adds. (let parts = nothing_added (named_in w.store.shape) sync races all adds in
+        let free = parts.0 in
+        let whole_it = (free_parts sync races all free).0 in
+        x86 false kept w (no_arrays w.store.shape parts.1) (came.whole (whole_then (joined whole_it).0)) begins.0 (0, begins.1.0, begins.1.1, begins.1.2) (is_race_free_so false w sync races all complete free));
     met = λ exact is uncut. (
       length kept,
-      are_reached kept w first led apart,
+      are_reached kept w begins.1 led apart,
       elim (split is) [
-        | inl part ↦ met (limited_of extent (sym is_so ∙ part) (sym cut ∙ uncut))
+        | inl part ↦ came.met (limited_of extent (sym is_so ∙ part) (sym cut ∙ uncut))
         | inr lacking ↦ let no : true ≡ false = sym sure ∙ lacking in cc
       ],
     );
     short = cut_short all (λ is. (joined is).0);
-    each = λ race there. gathered.each race there w first;
+    each = λ race there. gathered.each race there w begins.1;
     once = gathered.once;
     complete = complete;
   }
     where
       complete : all ≡ true → HaveAllRaces false w sync races
       complete is schedule z runs pair b order race =
-          kept_listed kept races sync (listed (joined is).1) z pair b order (law kept w z schedule (closed (joined is).0) fresh (0, first.0, first.1, first.2) runs pair.one pair.other b race)
+          kept_listed kept races sync (listed (joined is).1) z pair b order (law kept w z schedule (came.whole (whole_then (joined is).0)) begins.0 (0, begins.1.0, begins.1.1, begins.1.2) runs pair.one pair.other b race)
 
-  pub are_races_patiently : PatientRacesAreKept → KeptRaceFreeIsSame → (whole ≡ true → IsClosedRichly kept) → AreRaces true w sync races all refused limit
-  are_races_patiently law x86 closed = record {
-    same = λ free. (let whole_it = (free_parts sync races all free).0 in
-        x86 true kept w (closed (joined whole_it).0) fresh (0, first.0, first.1, first.2) (is_race_free_so true w sync races all complete free));
+  pub are_races_patiently : PatientRacesAreKept → KeptRaceFreeIsSame → CameTo true kept extent limit → AreRaces true w sync races all refused limit
+  are_races_patiently law x86 came = record {
+    same = λ adds. (let parts = nothing_added (named_in w.store.shape) sync races all adds in
+        let free = parts.0 in
+        let whole_it = (free_parts sync races all free).0 in
+        x86 true kept w (no_arrays w.store.shape parts.1) (came.whole (whole_then (joined whole_it).0)) begins.0 (0, begins.1.0, begins.1.1, begins.1.2) (is_race_free_so true w sync races all complete free));
     met = λ exact. cc;
     short = cut_short all (λ is. (joined is).0);
-    each = λ race there. gathered.each race there w first;
+    each = λ race there. gathered.each race there w begins.1;
     once = gathered.once;
     complete = complete;
   }
     where
       complete : all ≡ true → HaveAllRaces true w sync races
       complete is schedule z runs none pair b order race =
-          kept_listed kept races sync (listed (joined is).1) z pair b order (law kept w z schedule (closed (joined is).0) fresh (0, first.0, first.1, first.2) runs none pair.one pair.other b race)
+          kept_listed kept races sync (listed (joined is).1) z pair b order (law kept w z schedule (came.whole (whole_then (joined is).0)) begins.0 (0, begins.1.0, begins.1.1, begins.1.2) runs none pair.one pair.other b race)

@@ -1,8 +1,11 @@
 //! Every race of jobs: the search from a shape and its jobs.
 
-ghost use Rattle.std.specs.Prelude.{true, false, IfOk};
+ghost use Rattle.std.specs.Prelude.{◌≡◌, [], false, true, ℕ, IfOk};
 ghost use Rattle.bpf_cpu.specs.Setup.{IsRunnable};
+ghost use Rattle.bpf_machine.specs.Schedule.{World};
 ghost use Rattle.bpf_jobs.specs.Printed.{first_of};
+ghost use Rattle.bpf_explore.specs.Album.{BeginsAt};
+ghost use Rattle.bpf_explore.specs.Search.{CameTo};
 ghost use Rattle.bpf_races.specs.Races.{AreRaces};
 
 use crate::found::Race;
@@ -10,8 +13,10 @@ use crate::gathering::{both, gather_races};
 use crate::next::Watcher;
 use crate::sync::Part;
 use bpf_cpu::Setup;
-use bpf_explore::{Explorer, Observer, PatientExplorer, copy_shape, explore};
-use bpf_jobs::make_machine;
+use bpf_explore::{
+    Explorer, Extent, Observer, PatientExplorer, explore, patient_search_of, search_of,
+};
+use bpf_plain::copy_shape;
 use bpf_shared::StoreShape;
 use std::alloc::{AllocError, Global};
 
@@ -32,6 +37,74 @@ fn make_watcher(alloc: Global, shape: &StoreShape) -> Result<Watcher, AllocError
     Watcher::new(alloc, copy)
 }
 
+/// A search that begins with the machine of jobs, and one for its machines.
+fn begin(alloc: Global, setup: Setup) -> Result<(Watcher, Explorer), AllocError>
+    requires { IsRunnable setup }
+    ensures { IfOk result (λ r. BeginsAt r.1.kept (first_of setup)) }
+{
+    let watcher = make_watcher(alloc, &setup.shape)?;
+    let explorer = search_of(alloc, setup)?;
+    Ok((watcher, explorer))
+}
+
+/// The same of a patient search.
+fn begin_patiently(alloc: Global, setup: Setup) -> Result<(Watcher, PatientExplorer), AllocError>
+    requires { IsRunnable setup }
+    ensures { IfOk result (λ r. BeginsAt r.1.kept (first_of setup)) }
+{
+    let watcher = make_watcher(alloc, &setup.shape)?;
+    let explorer = patient_search_of(alloc, setup)?;
+    Ok((watcher, explorer))
+}
+
+/// The races of the machines that a search keeps which came this far.
+fn conclude(
+    alloc: Global,
+    explorer: &mut Explorer,
+    watcher: &mut Watcher,
+    sync: &[Part],
+    extent: Extent,
+) -> Result<Races, AllocError>
+    ensures { IfOk result (λ r. (w : World) (limit : ℕ) → BeginsAt explorer.old.kept w
+        → CameTo false explorer.old.kept extent limit
+        → AreRaces false w sync.now r.list.items r.all r.refused limit) }
+{
+    bpf_machine::laws::races_are_kept();
+    bpf_x86::laws::kept_race_free_is_same();
+    explorer.leads();
+    explorer.apart();
+    let (list, listed) = gather_races(alloc, explorer, watcher, sync)?;
+    let all = both(extent.is_whole(), listed);
+    Ok(Races {
+        list,
+        all,
+        refused: extent.is_refused(),
+    })
+}
+
+/// The same of a patient search.
+fn conclude_patiently(
+    alloc: Global,
+    explorer: &mut PatientExplorer,
+    watcher: &mut Watcher,
+    sync: &[Part],
+    extent: Extent,
+) -> Result<Races, AllocError>
+    ensures { IfOk result (λ r. (w : World) (limit : ℕ) → BeginsAt explorer.old.kept w
+        → CameTo true explorer.old.kept extent limit
+        → AreRaces true w sync.now r.list.items r.all r.refused limit) }
+{
+    bpf_machine::laws::patient_races_are_kept();
+    bpf_x86::laws::kept_race_free_is_same();
+    let (list, listed) = gather_races(alloc, explorer, watcher, sync)?;
+    let all = both(extent.is_whole(), listed);
+    Ok(Races {
+        list,
+        all,
+        refused: extent.is_refused(),
+    })
+}
+
 /// Searches through all schedules of jobs over a new store, until no state is new, more than `limit`
 /// are kept or memory is refused to the search, for races at bytes that aren't left out.
 /// Refused means out of memory before or after it; cases that never come count as such, but no
@@ -47,25 +120,13 @@ pub fn find_races<O: Observer>(
     ensures { IfOk result (λ r. AreRaces false (first_of setup) sync.now r.list.items r.all
         r.refused limit) }
 {
-    bpf_machine::laws::races_are_kept();
-    bpf_x86::laws::kept_race_free_is_same();
-    let mut watcher = make_watcher(alloc, &setup.shape)?;
-    let copy = copy_shape(alloc, &setup.shape)?;
-    let machine = make_machine(alloc, setup)?;
-    let mut explorer = Explorer::new(alloc, copy, machine)?;
+    let (mut watcher, mut explorer) = begin(alloc, setup)?;
     let extent = explore(&mut explorer, limit, observer);
-    let whole = extent.is_whole();
-    let refused = extent.is_refused();
-    explorer.leads();
-    explorer.apart();
-    let (list, listed) = gather_races(alloc, &mut explorer, &mut watcher, sync)?;
-    let all = both(whole, listed);
-    Ok(Races { list, all, refused })
+    conclude(alloc, &mut explorer, &mut watcher, sync, extent)
 }
 
 /// Searches likewise through what schedules lead to while no job runs out of budget: machines that
-/// differ only in
-/// how many steps are left of budgets count as one.
+/// differ only in how many steps are left of budgets count as one.
 pub fn find_races_patiently<O: Observer>(
     alloc: Global,
     setup: Setup,
@@ -77,16 +138,7 @@ pub fn find_races_patiently<O: Observer>(
     ensures { IfOk result (λ r. AreRaces true (first_of setup) sync.now r.list.items r.all
         r.refused limit) }
 {
-    bpf_machine::laws::patient_races_are_kept();
-    bpf_x86::laws::kept_race_free_is_same();
-    let mut watcher = make_watcher(alloc, &setup.shape)?;
-    let copy = copy_shape(alloc, &setup.shape)?;
-    let machine = make_machine(alloc, setup)?;
-    let mut explorer = PatientExplorer::new(alloc, copy, machine)?;
+    let (mut watcher, mut explorer) = begin_patiently(alloc, setup)?;
     let extent = explore(&mut explorer, limit, observer);
-    let whole = extent.is_whole();
-    let refused = extent.is_refused();
-    let (list, listed) = gather_races(alloc, &mut explorer, &mut watcher, sync)?;
-    let all = both(whole, listed);
-    Ok(Races { list, all, refused })
+    conclude_patiently(alloc, &mut explorer, &mut watcher, sync, extent)
 }

@@ -10,7 +10,7 @@ use Rattle.bpf_command.specs.declared.command_line.CommandError.TheVariants as e
 use Rattle.bpf_run.specs.Program.{error_of, IfExit, IfShown, IfMisused, IsAsked}
 use Rattle.bpf_run.specs.declared.program.Ending.{Ending}
 use Rattle.bpf_run.specs.declared.program.Ending.TheVariants as ending
-use Rattle.bpf_run.specs.declared.reply.Status.{Status}
+use Rattle.bpf_replies.specs.declared.reply.Status.{Status}
 
 -- what is asked for is done, or the refusal of the words is printed
 abbrev Exits : List Text → Ending → (Request → Status → List ℕ → Type 0) → Type 0 → (CommandError → Status → Type 0) → Type 0

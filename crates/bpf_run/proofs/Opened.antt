@@ -1,71 +1,59 @@
 -- What the text of a file amounts to, and what is done of it.
-use Rattle.std.proofs.Common.{◌≡◌, ◌⊎◌, ◌≤◌, ◌<◌, ◌∙◌, inl, inr, Bool, true, false, ℕ, List, [], ◌∷◌, Option, Some, None, length, refl, sym, subst, ap, true≢false}
+use Rattle.std.proofs.Common.{◌≡◌, ◌≤◌, ◌<◌, ◌∙◌, inl, inr, Bool, true, false, ℕ, List, [], ◌∷◌, Option, Some, None, length, refl, sym, subst, ap, true≢false}
+use Rattle.std.proofs.lemmas.Bool.{or_parts}
 use Rattle.std.specs.Prelude.{IfSome, IsUtf8, Vec, Ok, Err, ◌||◌}
 use Rattle.std.specs.List.{list_any}
 use Rattle.std.specs.declared.alloc.Global.{Global}
 use Rattle.bpf_lines.specs.Lines.{lines_of}
 use Rattle.bpf_file.specs.File.{File}
 use Rattle.bpf_file.specs.Reading.{IsRunFile}
-use Rattle.bpf_file.specs.declared.error.FileError.{FileError}
-use Rattle.bpf_file.specs.declared.error.FileError.TheVariants as file_error
-use Rattle.bpf_file.specs.declared.error.Reason.{Reason}
 use Rattle.bpf_debug.specs.Session.{SessionState, IsShown}
-use Rattle.bpf_run.specs.Answer.{Prints, stats_of}
-use Rattle.bpf_run.specs.Commands.{IsReply, is_unread}
-use Rattle.bpf_run.specs.Input.{is_failed_read}
-use Rattle.bpf_run.specs.Script.{IsScriptOfFile, NoneEnds, ends_file, scene_of}
+use Rattle.bpf_replies.specs.Answer.{Prints, stats_of}
+use Rattle.bpf_run.specs.Commands.{IsReply}
+use Rattle.bpf_replies.specs.Input.{is_unread}
+use Rattle.bpf_replies.specs.Input.{is_failed_read}
+use Rattle.bpf_replies.specs.Script.{IsScriptOfFile, NoneEnds, ends_file, scene_of}
 use Rattle.bpf_run.specs.Conversing.{Holds, IsRefusal, LeavesLines, command_of}
 use Rattle.bpf_run.specs.Debugging.{IsOpened}
 use Rattle.bpf_run.specs.declared.conversing.Partner.{Partner}
 use Rattle.bpf_run.specs.declared.conversing.Partner.TheVariants as partner
 use Rattle.bpf_run.specs.declared.debugging.Opening.TheVariants as opening
-use Rattle.bpf_run.specs.declared.input.InputError.{InputError}
-use Rattle.bpf_run.specs.declared.input.InputError.TheVariants as input_error
-use Rattle.bpf_run.specs.declared.input.TheConstants.{MAX_INPUT}
-use Rattle.bpf_run.specs.Running.{RefusesFile}
-use Rattle.bpf_run.specs.declared.refusal.Refusal.{Refusal}
-use Rattle.bpf_run.specs.declared.refusal.Refusal.TheVariants as refusal
-use Rattle.bpf_run.specs.declared.reply.Reply.{Reply}
-use Rattle.bpf_run.specs.declared.reply.Reply.TheVariants as reply
-use Rattle.bpf_run.specs.declared.reply.Status.{Status}
+use Rattle.bpf_replies.specs.declared.input.InputError.{InputError}
+use Rattle.bpf_replies.specs.declared.input.InputError.TheVariants as input_error
+use Rattle.bpf_replies.specs.declared.input.TheConstants.{MAX_INPUT}
+use Rattle.bpf_replies.specs.Running.{RefusesFile}
+use Rattle.bpf_replies.specs.declared.refusal.Refusal.{Refusal}
+use Rattle.bpf_replies.specs.declared.refusal.Refusal.TheVariants as refusal
+use Rattle.bpf_replies.specs.declared.reply.Reply.{Reply}
+use Rattle.bpf_replies.specs.declared.reply.Reply.TheVariants as reply
+use Rattle.bpf_replies.specs.declared.reply.Status.{Status}
 use Rattle.bpf_run.proofs.ReplyLemmas.{unread}
 
 -- ---- whether a line ends the file
 
-or_false : (a b : Bool) → (a || b) ≡ false → (a ≡ false) × (b ≡ false)
-or_false true b e = absurd (true≢false e)
-or_false false b e = (refl, e)
-
-or_true : (a b : Bool) → a ≡ false → (a || b) ≡ true → b ≡ true
-or_true true b off e = absurd (true≢false off)
-or_true false b off e = e
-
 pub none_ends : (lines : List (List ℕ)) → list_any ends_file lines ≡ false → NoneEnds lines
 none_ends [] e = tt
 none_ends (line ∷ lines) e =
-    let both = or_false (ends_file line) (list_any ends_file lines) e in
+    let both = or_parts (ends_file line) (list_any ends_file lines) e in
     (both.0, none_ends lines both.1)
 
 pub some_ends : (lines : List (List ℕ)) → list_any ends_file lines ≡ true → NoneEnds lines → ⊥
 some_ends [] e none = true≢false (sym e)
-some_ends (line ∷ lines) e none = some_ends lines (or_true (ends_file line) (list_any ends_file lines) none.0 e) none.1
+some_ends (line ∷ lines) e none = some_ends lines (subst (λ (ends : Bool). (ends || list_any ends_file lines) ≡ true) none.0 e) none.1
 
 -- ---- what a text amounts to
 
 pub opened_script : (echo strict : Bool) (text : List ℕ) (r : Reply) → list_any ends_file (lines_of text) ≡ true → IsScriptOfFile echo strict text r → IsOpened echo strict text (opening.Reply r)
 opened_script echo strict text r ends said = (said, λ none. absurd (some_ends (lines_of text) ends none))
 
-pub opened_refusal : (echo strict : Bool) (text bytes : List ℕ) (e : FileError) (line : ℕ) (why : Reason) → list_any ends_file (lines_of text) ≡ false → bytes ≡ text → e ≡ file_error.Refused line why
-    → (e ≡ file_error.OutOfMemory) ⊎ IsRunFile bytes (Err e) → IsOpened echo strict text (opening.Reply (reply.Refused (refusal.File line why)))
-opened_refusal echo strict text bytes e line why none same is (inl lacks) = absurd (let wrong : ⊥ = cc in wrong)
-opened_refusal echo strict text bytes e line why none same is (inr said) =
-    let told = subst (λ (t : List ℕ). IsRunFile t (Err (file_error.Refused line why))) same (subst (λ (e : FileError). IsRunFile bytes (Err e)) is said) in
-    ((text, [], inr (none_ends (lines_of text) none, refl, refl), told), λ n. tt)
+pub opened_refusal : (echo strict : Bool) (text : List ℕ) (e : Refusal) → list_any ends_file (lines_of text) ≡ false → RefusesFile text e → IsOpened echo strict text (opening.Reply (reply.Refused e))
+opened_refusal echo strict text (refusal.File line why) none said = ((text, [], inr (none_ends (lines_of text) none, refl, refl), said), λ n. tt)
+opened_refusal echo strict text refusal.OutOfMemory none said = (tt, λ n. tt)
+opened_refusal echo strict text e none said = absurd said
 
-pub opened_talk : (echo strict : Bool) (text bytes : List ℕ) (s : SessionState) (f : File) → list_any ends_file (lines_of text) ≡ false → bytes ≡ text → IsRunFile bytes (Ok f) → IsShown s (scene_of f)
+pub opened_talk : (echo strict : Bool) (text : List ℕ) (s : SessionState) (f : File) → list_any ends_file (lines_of text) ≡ false → IsRunFile text (Ok f) → IsShown s (scene_of f)
     → IsOpened echo strict text (opening.Talk s)
-opened_talk echo strict text bytes s f none same said shown =
-    (none_ends (lines_of text) none, (f, subst (λ (t : List ℕ). IsRunFile t (Ok f)) same said, shown))
+opened_talk echo strict text s f none said shown = (none_ends (lines_of text) none, (f, said, shown))
 
 -- ---- what is done
 

@@ -7,7 +7,7 @@ use Rattle.bpf_file.specs.Reading.{IsRunFile}
 use Rattle.bpf_races.specs.declared.sync.Part.{Part}
 use Rattle.bpf_races.specs.Sync.{ArePartsOf}
 use Rattle.bpf_run.specs.Racing.{IsRacesFile, TellsRaces}
-use Rattle.bpf_run.specs.declared.reply.Reply.TheVariants as reply
+use Rattle.bpf_replies.specs.declared.reply.Reply.TheVariants as reply
 
 pub raced : (patient : Bool) (limit : ℕ) (sync : List (List ℕ)) (text : List ℕ) (file : RunFile) (parts : List Part) (printed : String Global) (any all : Bool)
     → IsRunFile text (Ok (file_of file)) → ArePartsOf (map string_bytes file.names.items) file.setup.shape.maps sync parts → TellsRaces patient limit (file_of file) parts (string_bytes printed) any all

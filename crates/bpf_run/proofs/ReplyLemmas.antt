@@ -3,15 +3,15 @@ use Rattle.std.proofs.Common.{◌≡◌, ◌<◌, ℕ, List, [], Bool, true, Opt
 use Rattle.std.specs.Prelude.{IfSome}
 use Rattle.bpf_run.specs.Commands.{IsReply}
 use Rattle.bpf_run.specs.Program.{Performs}
-use Rattle.bpf_run.specs.Answer.{Prints}
-use Rattle.bpf_run.specs.declared.reply.Status.{Status}
-use Rattle.bpf_run.specs.declared.input.TheConstants.{MAX_INPUT}
+use Rattle.bpf_replies.specs.Answer.{Prints}
+use Rattle.bpf_replies.specs.declared.reply.Status.{Status}
+use Rattle.bpf_replies.specs.declared.input.TheConstants.{MAX_INPUT}
 use Rattle.bpf_command.specs.declared.command.Command.{Command}
-use Rattle.bpf_run.specs.declared.input.InputError.{InputError}
-use Rattle.bpf_run.specs.declared.input.InputError.TheVariants as input_error
-use Rattle.bpf_run.specs.declared.refusal.Refusal.TheVariants as refusal
-use Rattle.bpf_run.specs.declared.reply.Reply.{Reply}
-use Rattle.bpf_run.specs.declared.reply.Reply.TheVariants as reply
+use Rattle.bpf_replies.specs.declared.input.InputError.{InputError}
+use Rattle.bpf_replies.specs.declared.input.InputError.TheVariants as input_error
+use Rattle.bpf_replies.specs.declared.refusal.Refusal.TheVariants as refusal
+use Rattle.bpf_replies.specs.declared.reply.Reply.{Reply}
+use Rattle.bpf_replies.specs.declared.reply.Reply.TheVariants as reply
 
 pub replied : (known : Option (List ℕ)) (c : Command) (read : List ℕ) (r : Reply) → IfSome known (λ input. read ≡ input) → IsReply c read r → IfSome known (λ input. IsReply c input r)
 replied None c read r whole h = tt

@@ -21,7 +21,7 @@ use Rattle.bpf_run.specs.declared.conversing.Partner.{Partner}
 use Rattle.bpf_run.specs.Objects.{IsShown as IsShownAs}
 use Rattle.bpf_run.specs.Program.{Does, Performs, input_of}
 use Rattle.bpf_run.specs.declared.answering.Answering.{Answering}
-use Rattle.bpf_run.specs.declared.reply.Status.{Status}
+use Rattle.bpf_replies.specs.declared.reply.Status.{Status}
 
 -- a line is refused as its answer says
 pub refused_as : (answer : Result (String Global) DebugError) (refused : Bool) → refused ≡ is_err answer → refused ≡ is_err (answer_of answer)

@@ -14,17 +14,18 @@ use Rattle.bpf_talk.specs.declared.talking.Talked.TheVariants as talked
 use Rattle.bpf_jobs.specs.Printed.{any_stopped}
 use Rattle.bpf_expand.specs.Filter.{FilterState, AnswersState}
 use Rattle.bpf_run.specs.Answering.{AnswersText}
-use Rattle.bpf_run.specs.Answer.{Prints, script_status, stats_of}
-use Rattle.bpf_run.specs.Commands.{IsReply, is_unread}
+use Rattle.bpf_replies.specs.Answer.{Prints, script_status, stats_of}
+use Rattle.bpf_run.specs.Commands.{IsReply}
+use Rattle.bpf_replies.specs.Input.{is_unread}
 use Rattle.bpf_run.specs.Expanding.{filter_of}
-use Rattle.bpf_run.specs.Script.{NoneEnds, scene_of}
+use Rattle.bpf_replies.specs.Script.{NoneEnds, scene_of}
 use Rattle.bpf_run.specs.declared.conversing.Partner.{Partner}
 use Rattle.bpf_run.specs.declared.conversing.Partner.TheVariants as partner
-use Rattle.bpf_run.specs.declared.input.TheConstants.{MAX_INPUT}
-use Rattle.bpf_run.specs.declared.reply.Reply.{Reply}
-use Rattle.bpf_run.specs.declared.reply.Reply.TheVariants as reply
-use Rattle.bpf_run.specs.declared.reply.Status.{Status}
-use Rattle.bpf_run.specs.declared.reply.Status.TheVariants as status
+use Rattle.bpf_replies.specs.declared.input.TheConstants.{MAX_INPUT}
+use Rattle.bpf_replies.specs.declared.reply.Reply.{Reply}
+use Rattle.bpf_replies.specs.declared.reply.Reply.TheVariants as reply
+use Rattle.bpf_replies.specs.declared.reply.Status.{Status}
+use Rattle.bpf_replies.specs.declared.reply.Status.TheVariants as status
 
 -- with what lines may be exchanged, and the file, of a command of a FILE that isn't answered in
 -- objects

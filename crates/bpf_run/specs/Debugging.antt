@@ -5,7 +5,7 @@ use Rattle.bpf_file.specs.File.{File}
 use Rattle.bpf_file.specs.Reading.{IsRunFile}
 use Rattle.bpf_debug.specs.Session.{IsShown}
 use Rattle.bpf_run.specs.Conversing.{IsRefusal}
-use Rattle.bpf_run.specs.Script.{IsScriptOfFile, NoneEnds, scene_of}
+use Rattle.bpf_replies.specs.Script.{IsScriptOfFile, NoneEnds, scene_of}
 use Rattle.bpf_run.specs.declared.debugging.Opening.{Opening}
 use Rattle.bpf_run.specs.declared.debugging.Opening.TheVariants as opening
 

@@ -1,46 +1,12 @@
--- What follows from the definitions: what a command prints is a function of the bytes that it
--- reads, and listings are assembled again.
-use Rattle.std.specs.Prelude.{◌≡◌, ◌↔◌, ℕ, ◌≤◌, ◌/◌, ◌++◌, false, true, Bool, List, Some, String, length, map, slice_get, string_bytes}
-use Rattle.std.specs.declared.alloc.Global.{Global}
-use Rattle.bpf_insn.specs.declared.error.InsnError.TheVariants as insn_error
-use Rattle.bpf_loader.specs.declared.refusal.LoadError.TheVariants as load_error
-use Rattle.bpf_lines.specs.HexText.{IsHexOf}
-use Rattle.bpf_lines.specs.declared.hex_text.HexError.TheVariants as hex_error
-use Rattle.bpf_text.specs.declared.error.TextError.TheVariants as text_error
+-- What follows from the definitions: what a command prints is a function of the bytes that it reads.
+use Rattle.std.specs.Prelude.{◌≡◌, ℕ, ◌≤◌, List, length}
 use Rattle.bpf_mem.specs.Limits.{max_context}
-use Rattle.bpf_explore.specs.Outcomes.{Found}
-use Rattle.bpf_debug.specs.Laws.{HadMemory}
-use Rattle.bpf_debug.specs.Script.{answer_of}
-use Rattle.bpf_run.specs.Answer.{status_of, reply_text}
-use Rattle.bpf_run.specs.Commands.{IsAssembled, IsDisassembled, IsForOneSchedule, IsForOneThread, IsReply}
-use Rattle.bpf_run.specs.Exploring.{AreAnswersTo, AreFoundBy, any_stopped_of, told_of}
-use Rattle.bpf_run.specs.Listing.{word_lines}
-use Rattle.bpf_run.specs.Running.{IsHistoryOfFile, IsRunOfFile}
+use Rattle.bpf_replies.specs.Answer.{status_of, reply_text}
+use Rattle.bpf_replies.specs.Laws.{IsOfInput}
+use Rattle.bpf_run.specs.Commands.{IsForOneSchedule, IsForOneThread, IsReply}
 use Rattle.bpf_command.specs.declared.command.Command.{Command}
 use Rattle.bpf_command.specs.declared.command.Command.TheVariants as command
-use Rattle.bpf_run.specs.declared.input.InputError.TheVariants as input_error
-use Rattle.bpf_run.specs.declared.refusal.Refusal.{Refusal}
-use Rattle.bpf_run.specs.declared.refusal.Refusal.TheVariants as refusal
-use Rattle.bpf_run.specs.declared.reply.Reply.{Reply}
-use Rattle.bpf_run.specs.declared.reply.Reply.TheVariants as reply
-
--- a refusal that any input may get: a read failed, or memory was refused
-abbrev pub IsForAnyInput : Refusal → Type 0
-IsForAnyInput (refusal.Input input_error.Unread) = Unit {0}
-IsForAnyInput (refusal.Input input_error.OutOfMemory) = Unit {0}
-IsForAnyInput (refusal.Hex hex_error.OutOfMemory) = Unit {0}
-IsForAnyInput (refusal.Text text_error.OutOfMemory) = Unit {0}
-IsForAnyInput (refusal.Insn insn_error.OutOfMemory) = Unit {0}
-IsForAnyInput (refusal.Load load_error.OutOfMemory) = Unit {0}
-IsForAnyInput refusal.JobsOutOfMemory = Unit {0}
-IsForAnyInput refusal.OutOfMemory = Unit {0}
-IsForAnyInput _ = ⊥
-
--- the reply is of the input: no read failed, and memory was refused for no part of it
-abbrev pub IsOfInput : Reply → Type 0
-IsOfInput (reply.Refused r) = ¬ IsForAnyInput r
-IsOfInput (reply.Script answers lines stopped refused) = HadMemory (map answer_of answers.items)
-IsOfInput _ = Unit {0}
+use Rattle.bpf_replies.specs.declared.reply.Reply.{Reply}
 
 -- the context has its greatest length at most
 abbrev pub HasShortContext : Command → Type 0
@@ -55,42 +21,3 @@ RepliesAreDetermined = (c : Command) (input : List ℕ) (r s : Reply) → HasSho
     → IsForOneThread c → IsForOneSchedule c → IsReply c input r → IsReply c input s
     → IsOfInput r → IsOfInput s
     → (reply_text r ≡ reply_text s) × (status_of r ≡ status_of s)
-
--- what `asm --listing` prints is assembled as the text that is listed: `asm` has the same replies
--- to both
-abbrev pub ListingsAreAnsweredAlike : Type 0
-ListingsAreAnsweredAlike = (text : List ℕ) (listing : String Global) (r : Reply)
-    → IsAssembled true text (reply.Text listing)
-    → (IsAssembled false (string_bytes listing) r ↔ IsAssembled false text r)
-
--- what `disasm --pc` prints is assembled to the words that it was given, unless memory runs out
-abbrev pub ListedWordsAreAnswered : Type 0
-ListedWordsAreAnswered = (text bytes : List ℕ) (listing : String Global) (r : Reply)
-    → IsHexOf text bytes → IsDisassembled true text (reply.Text listing)
-    → IsAssembled false (string_bytes listing) r → IsOfInput r
-    → reply_text r ≡ word_lines (length bytes / 8) bytes
-
--- searches of one input that both found all outcomes print the same of them, in the same order
-abbrev pub OutcomesAreDetermined : Type 0
-OutcomesAreDetermined = (text : List ℕ) (xs ys : List Found) (limit states more others : ℕ)
-    → AreAnswersTo text xs true limit states → AreAnswersTo text ys true more others
-    → (map told_of xs ≡ map told_of ys) × (any_stopped_of xs ≡ any_stopped_of ys)
-
--- what a search shows of an outcome, `run --by` with its schedule prints
-abbrev pub WitnessesAreSeenAgain : Type 0
-WitnessesAreSeenAgain =
-    (patient : Bool) (text : List ℕ) (answers : List Found) (all : Bool) (limit states i : ℕ)
-    (found : Found) (printed : String Global) (stopped : Bool)
-    → AreFoundBy patient text answers all limit states → slice_get answers i ≡ Some found
-    → IsRunOfFile found.by false true text (reply.Jobs printed stopped)
-    → (string_bytes printed ≡ found.text) × (stopped ≡ found.stopped)
-
--- what is shown of an outcome, `explore --show` prints after all that happens on the way there
-abbrev pub ShownAreFound : Type 0
-ShownAreFound =
-    (patient : Bool) (text : List ℕ) (answers : List Found) (all : Bool) (limit states i : ℕ)
-    (found : Found) (printed : String Global) (stopped : Bool)
-    → AreFoundBy patient text answers all limit states → slice_get answers i ≡ Some found
-    → IsHistoryOfFile found.by false true text (reply.Jobs printed stopped)
-    → (lines : List ℕ) × (string_bytes printed ≡ lines ++ found.text)
-    × (stopped ≡ found.stopped)

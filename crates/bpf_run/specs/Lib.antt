@@ -1,16 +1,5 @@
-pub mod Answer
 pub mod Commands
-pub mod Running
-pub mod Exploring
 pub mod Racing
-pub mod Comments
-pub mod Judging
-pub mod Checking
-pub mod Several
-pub mod Script
-pub mod Listing
-pub mod Input
-pub mod Diagnostic
 pub mod Laws
 pub mod Objects
 pub mod Program
@@ -18,4 +7,3 @@ pub mod Answering
 pub mod Conversing
 pub mod Debugging
 pub mod Expanding
-pub mod Threading

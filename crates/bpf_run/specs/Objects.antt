@@ -1,9 +1,9 @@
 -- What is written as JSON in place of printed lines: an object a line.
 use Rattle.std.specs.Prelude.{◌≡◌, ◌⊎◌, ℕ, Bool, true, false, List, [], Option, Some, codes}
 use Rattle.bpf_json.specs.Lines.{AreObjectsOf}
-use Rattle.bpf_run.specs.Answer.{IsPrinted}
-use Rattle.bpf_run.specs.declared.reply.Status.{Status}
-use Rattle.bpf_run.specs.declared.reply.Status.TheVariants as status
+use Rattle.bpf_replies.specs.Answer.{IsPrinted}
+use Rattle.bpf_replies.specs.declared.reply.Status.{Status}
+use Rattle.bpf_replies.specs.declared.reply.Status.TheVariants as status
 
 abbrev pub lost_object : List ℕ
 lost_object = codes "{\"refused\":\"L9\"}\n"

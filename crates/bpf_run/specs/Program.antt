@@ -12,20 +12,21 @@ use Rattle.bpf_command.specs.declared.command.Request.{Request}
 use Rattle.bpf_command.specs.declared.command.Request.TheVariants as request
 use Rattle.bpf_command.specs.declared.command_line.CommandError.{CommandError}
 use Rattle.bpf_command.specs.declared.command_line.CommandError.TheVariants as command_error
-use Rattle.bpf_run.specs.Answer.{Prints, PrintsPage, stats_of}
-use Rattle.bpf_run.specs.Commands.{IsReply, is_unread}
+use Rattle.bpf_replies.specs.Answer.{Prints, PrintsPage, stats_of}
+use Rattle.bpf_run.specs.Commands.{IsReply}
+use Rattle.bpf_replies.specs.Input.{is_unread}
 use Rattle.bpf_run.specs.Conversing.{Holds, asked_talk}
 use Rattle.bpf_run.specs.declared.conversing.Partner.{Partner}
 use Rattle.bpf_run.specs.Objects.{IsShown}
-use Rattle.bpf_run.specs.Several.{AreChecked}
+use Rattle.bpf_replies.specs.Several.{AreChecked}
 use Rattle.bpf_run.specs.declared.program.Ending.{Ending}
 use Rattle.bpf_run.specs.declared.program.Ending.TheVariants as ending
 use Rattle.bpf_run.specs.declared.program.Misuse.{Misuse}
 use Rattle.bpf_run.specs.declared.program.Misuse.TheVariants as misuse
-use Rattle.bpf_run.specs.declared.refusal.Refusal.{Refusal}
-use Rattle.bpf_run.specs.declared.refusal.Refusal.TheVariants as refusal
-use Rattle.bpf_run.specs.declared.reply.Reply.{Reply}
-use Rattle.bpf_run.specs.declared.reply.Status.{Status}
+use Rattle.bpf_replies.specs.declared.refusal.Refusal.{Refusal}
+use Rattle.bpf_replies.specs.declared.refusal.Refusal.TheVariants as refusal
+use Rattle.bpf_replies.specs.declared.reply.Reply.{Reply}
+use Rattle.bpf_replies.specs.declared.reply.Status.{Status}
 
 -- a reply to the input is answered: 'unread' exactly where a read failed; and what is printed beside it
 abbrev pub Performs : Command → (input : Option (List ℕ)) → (read_failed : Bool)

@@ -2,8 +2,8 @@
 
 ghost use Rattle.std.specs.Prelude.{◌≡◌};
 
-use crate::perform::answer_text;
 use bpf_debug::{Answer, Session, answer};
+use bpf_replies::printing::answer_text;
 use bpf_talk::Respond;
 use std::alloc::Global;
 

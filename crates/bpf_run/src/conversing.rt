@@ -1,18 +1,19 @@
 //! Commands that may hold a conversation: `ebpf debug FILE` and `ebpf expand FILE`.
 
 ghost use Rattle.std.specs.Prelude.{◌≡◌, ◌&&◌, ◌<◌, ◌≤◌, [], Err, Some, false, IfOk, IfSome, IsUtf8, length, option_map};
-ghost use Rattle.bpf_run.specs.Answer.{Prints, stats_of};
+ghost use Rattle.bpf_replies.specs.Answer.{Prints, stats_of};
 ghost use Rattle.bpf_run.specs.Conversing.{Converses, Holds, asked_talk, talk_status};
-ghost use Rattle.bpf_run.specs.Input.{is_failed_read};
+ghost use Rattle.bpf_replies.specs.Input.{is_failed_read};
 
 use crate::debugging::debug_text;
 use crate::expanding::expand_text;
-use crate::input::{InputError, MAX_INPUT, read_whole};
-use crate::perform::{Performed, answer};
-use crate::refusal::Refusal;
-use crate::reply::{Reply, Status};
-use crate::stream::{Sink, Source};
+use crate::perform::Performed;
 use bpf_command::Command;
+use bpf_replies::input::{InputError, MAX_INPUT, read_whole};
+use bpf_replies::printing::answer;
+use bpf_replies::refusal::Refusal;
+use bpf_replies::reply::{Reply, Status};
+use bpf_replies::stream::{Sink, Source};
 use bpf_talk::{Stop, Talked, Terminal};
 use std::alloc::Global;
 
@@ -82,10 +83,8 @@ fn read_named<R: Source>(alloc: Global, name: &str, source: &mut R) -> Result<Ve
         → IfSome (R.file source.old name.now) (λ input. MAX_INPUT < length input) }
     ensures unread { R.has_failed source.new ≡ is_failed_read result }
 {
-    match source.open(name) {
-        Ok(()) => read_whole(alloc, source),
-        Err(_) => Err(InputError::Unread),
-    }
+    source.open(name)?;
+    read_whole(alloc, source)
 }
 
 /// Prints a reply to a file.

@@ -1,27 +1,30 @@
 //! `ebpf debug FILE`: the commands after the file, or a conversation where it has none.
 
-ghost use Rattle.std.specs.Prelude.{◌≡◌, ◌≤◌, Bool, Some, [], false, IfOk, IsUtf8, length};
+ghost use Rattle.std.specs.Prelude.{◌≡◌, ◌≤◌, Ok, Some, [], false, IfErr, IfOk, IsUtf8, length};
 ghost use Rattle.std.specs.List.{list_any};
 ghost use Rattle.bpf_lines.specs.Lines.{lines_of};
+ghost use Rattle.bpf_file.specs.File.{File};
+ghost use Rattle.bpf_file.specs.Reading.{IsRunFile};
 ghost use Rattle.bpf_debug.specs.Session.{Scene, IsShown};
-ghost use Rattle.bpf_run.specs.Answer.{stats_of};
+ghost use Rattle.bpf_replies.specs.Answer.{stats_of};
 ghost use Rattle.bpf_run.specs.Conversing.{Converses, DebugsFrom, Holds};
-ghost use Rattle.bpf_run.specs.Script.{ends_file};
+ghost use Rattle.bpf_replies.specs.Running.{RefusesFile};
+ghost use Rattle.bpf_replies.specs.Script.{ends_file, scene_of};
 ghost use Rattle.bpf_run.specs.Debugging.{IsOpened};
 ghost use Rattle.bpf_run.specs.declared.conversing.Partner.{Partner};
 
 use crate::answering::Answering;
 use crate::conversing::come_to;
-use crate::input::MAX_INPUT;
-use crate::perform::answer;
-use crate::refusal::Refusal;
-use crate::reply::{Reply, Status};
-use crate::script::{debug_file, ends_file, open_session};
-use crate::stream::Sink;
 use bpf_debug::Session;
-use bpf_file::{FileError, read_file};
 use bpf_jobs::has_any_stopped;
 use bpf_lines::lines::first_line;
+use bpf_replies::input::MAX_INPUT;
+use bpf_replies::printing::answer;
+use bpf_replies::refusal::Refusal;
+use bpf_replies::reply::{Reply, Status};
+use bpf_replies::running::file_in;
+use bpf_replies::script::{debug_file, ends_file, open_session};
+use bpf_replies::stream::Sink;
 use bpf_talk::{Terminal, talk};
 use std::alloc::{AllocError, Global};
 
@@ -48,39 +51,39 @@ enum Opening {
     Talk(Session),
 }
 
-/// What a run file amounts to that no line ends.
-fn open_file(alloc: Global, text: &str) -> Opening
-    requires { list_any ends_file (lines_of text.now) ≡ false }
-    ensures { (echo strict : Bool) → IsOpened echo strict text.now result }
+/// The session over the jobs that a text says.
+fn open_file(alloc: Global, text: &str) -> Result<Session, Refusal>
+    ensures opened { IfOk result (λ session. (f : File) × IsRunFile text.now (Ok f)
+        × IsShown session (scene_of f)) }
+    ensures refused { IfErr result (RefusesFile text.now) }
 {
-    let file = match read_file(alloc, text.as_bytes()) {
-        Ok(file) => file,
-        Err(error) => match error {
-            FileError::Refused(line, reason) => {
-                return Opening::Reply(Reply::Refused(Refusal::File(line, reason)));
-            }
-            FileError::OutOfMemory => {
-                return Opening::Reply(Reply::Refused(Refusal::OutOfMemory));
-            }
-        },
-    };
-    match open_session(alloc, file) {
-        Ok(session) => Opening::Talk(session),
-        Err(_) => Opening::Reply(Reply::Refused(Refusal::OutOfMemory)),
+    let file = file_in(alloc, text)?;
+    let session = open_session(alloc, file)?;
+    Ok(session)
+}
+
+/// What a text amounts to, or why it is refused.
+fn opening_in(alloc: Global, echo: bool, strict: bool, text: &str) -> Result<Opening, Refusal>
+    ensures opened { IfOk result (IsOpened echo strict text.now) }
+    ensures refused { IfErr result
+        (λ why. IsOpened echo strict text.now (Opening.Reply (Reply.Refused why))) }
+{
+    let ends = is_ended(alloc, text.as_bytes())?;
+    if ends {
+        let reply = debug_file(alloc, echo, strict, text)?;
+        return Ok(Opening::Reply(reply));
     }
+    let session = open_file(alloc, text)?;
+    Ok(Opening::Talk(session))
 }
 
 /// What a text amounts to.
 fn open_text(alloc: Global, echo: bool, strict: bool, text: &str) -> Opening
     ensures { IsOpened echo strict text.now result }
 {
-    let Ok(ends) = is_ended(alloc, text.as_bytes()) else {
-        return Opening::Reply(Reply::Refused(Refusal::OutOfMemory));
-    };
-    if ends {
-        Opening::Reply(debug_file(alloc, echo, strict, text))
-    } else {
-        open_file(alloc, text)
+    match opening_in(alloc, echo, strict, text) {
+        Ok(opening) => opening,
+        Err(refusal) => Opening::Reply(Reply::Refused(refusal)),
     }
 }
 

@@ -5,9 +5,9 @@ ghost use Rattle.bpf_run.specs.Commands.{IsAnswer, IsForOneThread};
 
 use crate::pipeline::{reply, reply_by_workers};
 use crate::progress::{Aside, Teller, asks_progress};
-use crate::reply::Reply;
 use bpf_command::Command;
 use bpf_explore::Silent;
+use bpf_replies::reply::Reply;
 use std::alloc::Global;
 use std::sync::Wait;
 use std::thread::Threads;

@@ -4,25 +4,25 @@ ghost use Rattle.std.specs.Prelude.{◌≡◌, ◌≤◌, Ok, Some, [], false, t
 ghost use Rattle.bpf_file.specs.File.{File, file_of};
 ghost use Rattle.bpf_file.specs.Reading.{IsRunFile};
 ghost use Rattle.bpf_cpu.specs.Setup.{IsRunnable};
-ghost use Rattle.bpf_run.specs.Answer.{stats_of};
+ghost use Rattle.bpf_replies.specs.Answer.{Replies, stats_of};
 ghost use Rattle.bpf_run.specs.Conversing.{Converses, Holds, StatesFrom};
 ghost use Rattle.bpf_run.specs.Expanding.{IsExpandedFile, IsExpandedText, IsFilterOf};
-ghost use Rattle.bpf_run.specs.Running.{RefusesFile};
+ghost use Rattle.bpf_replies.specs.Running.{RefusesFile};
 ghost use Rattle.bpf_run.specs.declared.conversing.Partner.{Partner};
 
 use crate::conversing::come_to;
-use crate::input::MAX_INPUT;
-use crate::perform::answer;
-use crate::refusal::Refusal;
-use crate::reply::{Reply, Status};
-use crate::running::file_in;
-use crate::stream::Sink;
 use bpf_expand::{Filter, first_line};
 use bpf_file::RunFile;
+use bpf_replies::input::MAX_INPUT;
+use bpf_replies::printing::answer;
+use bpf_replies::refusal::Refusal;
+use bpf_replies::reply::{Reply, Status};
+use bpf_replies::running::file_in;
+use bpf_replies::stream::Sink;
 use bpf_talk::{Terminal, talk};
 use std::alloc::{AllocError, Global};
 
-/// The filter of the states of a run file's jobs. Want of memory is the only refusal.
+/// The filter of the states of a run file's jobs. Out of memory is the only refusal.
 fn open_filter(
     alloc: Global,
     patient: bool,
@@ -43,13 +43,11 @@ fn filter_in(alloc: Global, patient: bool, races: bool, text: &str) -> Result<Fi
     ensures refused { IfErr result (RefusesFile text.now) }
 {
     let file = file_in(alloc, text)?;
-    match open_filter(alloc, patient, races, file) {
-        Ok(filter) => Ok(filter),
-        Err(_) => Err(Refusal::OutOfMemory),
-    }
+    let filter = open_filter(alloc, patient, races, file)?;
+    Ok(filter)
 }
 
-/// The line of the first state of a run file's jobs. Want of memory is the only refusal.
+/// The line of the first state of a run file's jobs. Out of memory is the only refusal.
 fn first_of(alloc: Global, file: RunFile) -> Result<String, AllocError>
     requires { IsRunnable file.setup }
     ensures { IfOk result (λ line. IsExpandedText true (file_of file) (string_bytes line)) }
@@ -58,30 +56,23 @@ fn first_of(alloc: Global, file: RunFile) -> Result<String, AllocError>
 }
 
 /// `ebpf expand --first`.
-fn expand_first(alloc: Global, text: &str) -> Reply
-    ensures { IsExpandedFile true text.now result }
+fn expand_first(alloc: Global, text: &str) -> Result<Reply, Refusal>
+    ensures { Replies (IsExpandedFile true text.now) result }
 {
-    let file = match file_in(alloc, text) {
-        Ok(file) => file,
-        Err(refusal) => return Reply::Refused(refusal),
-    };
-    match first_of(alloc, file) {
-        Ok(line) => Reply::Text(line),
-        Err(_) => Reply::Refused(Refusal::OutOfMemory),
-    }
+    let file = file_in(alloc, text)?;
+    let line = first_of(alloc, file)?;
+    Ok(Reply::Text(line))
 }
 
 /// `ebpf expand` where no states are read: the first one, where that is asked for, or nothing.
-pub fn expand_file(alloc: Global, first: bool, text: &str) -> Reply
-    ensures { IsExpandedFile first text.now result }
+pub fn expand_file(alloc: Global, first: bool, text: &str) -> Result<Reply, Refusal>
+    ensures { Replies (IsExpandedFile first text.now) result }
 {
     if first {
         return expand_first(alloc, text);
     }
-    match file_in(alloc, text) {
-        Ok(_) => Reply::Text(String::new(alloc)),
-        Err(refusal) => Reply::Refused(refusal),
-    }
+    file_in(alloc, text)?;
+    Ok(Reply::Text(String::new(alloc)))
 }
 
 /// A conversation with a filter of states.

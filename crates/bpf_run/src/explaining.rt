@@ -2,12 +2,12 @@
 
 use crate::fault::{details_of_assembly, details_of_file, details_of_program};
 use crate::perform::Performed;
-use crate::reply::{Reply, Status};
 use bpf_advice::{Detail, Details, Input, Language, advise, warnings_of};
 use bpf_command::{Command, FileOptions, HistoryOptions};
 use bpf_cpu::Outcome;
 use bpf_debug::Answer;
 use bpf_jobs::OutcomeText;
+use bpf_replies::reply::{Reply, Status};
 use std::alloc::{AllocError, Global};
 use std::io;
 

@@ -1,7 +1,7 @@
-//! What follows from the definitions of replies.
+//! What follows from the definitions of commands.
 //!
-//! These functions do nothing: their contracts are the laws.
-ghost use Rattle.bpf_run.specs.Laws.{ListedWordsAreAnswered, ListingsAreAnsweredAlike, OutcomesAreDetermined, RepliesAreDetermined, ShownAreFound, WitnessesAreSeenAgain};
+//! This function does nothing: its contract is the law.
+ghost use Rattle.bpf_run.specs.Laws.{RepliesAreDetermined};
 
 /// What a command prints is a function of the bytes that it reads, unless memory runs out or a read
 /// fails.
@@ -20,48 +20,4 @@ pub fn replies_are_determined()
     bpf_jobs::laws::reports_by_are_determined();
     bpf_events::laws::histories_are_determined();
     bpf_debug::laws::scripts_are_determined();
-}
-
-/// Searches of one input that both found all outcomes print the same of them, in the same order.
-pub fn outcomes_are_determined()
-    ensures { OutcomesAreDetermined }
-{
-    bpf_file::laws::files_are_determined();
-}
-
-/// What a search shows of an outcome, `run --by` with its schedule prints.
-pub fn witnesses_are_seen_again()
-    ensures { WitnessesAreSeenAgain }
-{
-    bpf_file::laws::files_are_determined();
-    bpf_file::laws::files_can_run();
-    bpf_jobs::laws::reports_by_are_determined();
-}
-
-/// What `explore --show` prints ends with the outcome that it shows.
-pub fn shown_are_found()
-    ensures { ShownAreFound }
-{
-    bpf_file::laws::files_are_determined();
-    bpf_file::laws::files_can_run();
-    bpf_jobs::laws::reports_by_are_determined();
-    bpf_events::laws::histories_are_of_reports();
-}
-
-/// What `asm --listing` prints is assembled as the text that is listed: `asm` has the same replies
-/// to both.
-pub fn listings_are_answered_alike()
-    ensures { ListingsAreAnsweredAlike }
-{
-    bpf_text::laws::texts_are_determined();
-    bpf_disassembly::listing::laws::listings_assemble_alike();
-}
-
-/// What `disasm --pc` prints is assembled to the words that it was given, unless memory runs out.
-pub fn listed_words_are_answered()
-    ensures { ListedWordsAreAnswered }
-{
-    bpf_insn::laws::encodings_are_determined();
-    bpf_text::laws::texts_are_determined();
-    bpf_disassembly::listing::laws::program_lines_assemble_to_their_words();
 }

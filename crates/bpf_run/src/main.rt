@@ -2,20 +2,14 @@
 #![tactic(auto)]
 
 pub mod answering;
-pub mod checking;
-mod comments;
 pub mod conversing;
 pub mod debugging;
 pub mod engine;
 pub mod expanding;
 mod explaining;
-pub mod exploring;
 mod fault;
-pub mod input;
 pub mod laws;
-pub mod listing;
 pub mod objects;
-pub mod output;
 pub mod perform;
 pub mod pipeline;
 pub mod program;
@@ -23,13 +17,6 @@ pub mod progress;
 pub mod racing;
 pub mod reader;
 pub mod recorder;
-pub mod refusal;
-pub mod reply;
-pub mod running;
-pub mod script;
-pub mod several;
-pub mod stream;
-mod threading;
 
 use bpf_talk::Console;
 use explaining::Failures;

@@ -2,16 +2,17 @@
 
 ghost use Rattle.std.specs.Prelude.{◌≡◌, ◌≤◌, ◌+◌, [], Some, false, true, option_map, IfOk, string_bytes};
 ghost use Rattle.bpf_json.specs.Lines.{AreObjectsOf};
-ghost use Rattle.bpf_run.specs.Answer.{Prints, stats_of};
+ghost use Rattle.bpf_replies.specs.Answer.{Prints, stats_of};
 ghost use Rattle.bpf_run.specs.Objects.{AreWritten, IsShown};
 ghost use Rattle.bpf_run.specs.Program.{input_of, Performs};
 
-use crate::perform::{Performed, answer, perform_of, write_text};
+use crate::perform::{Performed, perform_of};
 use crate::progress::Aside;
-use crate::reply::{Reply, Status};
-use crate::stream::{Sink, Source};
 use bpf_command::Command;
 use bpf_json::objects_of;
+use bpf_replies::printing::{answer, write_text};
+use bpf_replies::reply::{Reply, Status};
+use bpf_replies::stream::{Sink, Source};
 use std::alloc::{AllocError, Global};
 use std::io;
 use std::io::ErrorKind;
@@ -131,24 +132,38 @@ fn perform_objects<T: Threads + Wait + Sync + Aside, R: Source, W: Sink>(
     }
 }
 
+/// A command, and what it is asked of.
+#[derive(Drop)]
+pub struct Errand<'a> {
+    pub command: Command,
+    /// The file that is read in place of standard input.
+    pub file: Option<&'a str>,
+    /// Whether objects are written in place of lines.
+    pub json: bool,
+}
+
 /// The whole command, of the file where one is named; its objects are written in place of lines where
 /// that is asked for.
 pub fn perform_as<T: Threads + Wait + Sync + Aside, R: Source, W: Sink>(
-    json: bool,
     rt: &T,
     alloc: Global,
-    command: Command,
-    file: Option<&str>,
+    errand: Errand,
     source: &mut R,
     sink: &mut W,
 ) -> Performed
     requires readable { R.has_failed source.old ≡ false }
     requires writable { W.has_failed sink.old ≡ false }
-    ensures replies { IsShown json (λ old new failed status. Performs command
-        (input_of (R.remaining source.old) (R.file source.old) (option_map (λ s. s.now) file.entry))
+    ensures replies { IsShown errand.entry.json (λ old new failed status.
+        Performs errand.entry.command (input_of (R.remaining source.old) (R.file source.old)
+        (option_map (λ s. s.now) errand.entry.file))
         (R.has_failed source.new) old new failed status (stats_of result.reply))
         (W.contents sink.old) (W.contents sink.new) (W.has_failed sink.new) result.status }
 {
+    let Errand {
+        command,
+        file,
+        json,
+    } = errand;
     if json {
         perform_objects(rt, alloc, command, file, source, sink)
     } else {

@@ -1,183 +1,35 @@
 //! From the text that was read to the reply: each command over the crates below.
 
-ghost use Rattle.std.specs.Prelude.{◌≡◌, ◌<◌, [], All, false, IfErr, IfOk, IsOkUnless, List, string_bytes, true};
-ghost use Rattle.bpf_insn.specs.Encoding.{IsEncodedAs};
-ghost use Rattle.bpf_insn.specs.declared.instruction.Insn.{Insn};
-ghost use Rattle.bpf_loader.specs.Sound.{IsSound};
-ghost use Rattle.bpf_plain.specs.PlainStore.{has_cpu, is_running, shapes_of};
-ghost use Rattle.bpf_run.specs.Commands.{IsAnswer, IsAssembled, IsAssembledRun, IsDisassembled, IsForOneThread, IsRun, IsWordsOf, RefusesAssembly, RefusesProgram, RefusesWords, ShowsWords, shown_program};
-ghost use Rattle.bpf_run.specs.declared.reply.Reply.{Reply};
+ghost use Rattle.bpf_replies.specs.Answer.{Replies};
+ghost use Rattle.bpf_run.specs.Commands.{IsAnswer, IsForOneThread};
 
-use crate::checking::check_file;
 use crate::expanding::expand_file;
-use crate::exploring::{explore_file, show_file};
-use crate::listing::word_lines;
 use crate::racing::race_file;
-use crate::refusal::Refusal;
-use crate::reply::Reply;
-use crate::running::{judge_file, run_file, run_file_by_workers, run_file_with_history};
-use crate::script::debug_file;
-use bpf_command::{Command, FileOptions, HistoryOptions, JudgeOptions, RunOptions, ShowOptions};
-use bpf_cpu::Cpu;
-use bpf_disassembly::{disassemble, program_lines, source_lines};
+use bpf_command::{Command, FileOptions, HistoryOptions, JudgeOptions, ShowOptions};
 use bpf_explore::Observer;
-use bpf_insn::{Insn, decode, encode};
-use bpf_lines::from_hex;
-use bpf_loader::{Program, load};
-use bpf_plain::PlainStore;
-use bpf_shared::{ShapeError, StoreShape};
-use bpf_text::{TextError, assemble};
+use bpf_replies::checking::check_file;
+use bpf_replies::exploring::{explore_file, show_file};
+use bpf_replies::programs::{assembled, assembled_run, disassembled, run};
+use bpf_replies::refusal::Refusal;
+use bpf_replies::reply::Reply;
+use bpf_replies::running::{
+    Extras, judge_file, run_file, run_file_by_workers, run_file_with_history,
+};
+use bpf_replies::script::debug_file;
 use std::alloc::Global;
 use std::sync::Wait;
 use std::thread::Threads;
 
-/// The instructions whose words the text has as hex digits.
-fn instructions(alloc: Global, text: &str) -> Result<Vec<Insn>, Refusal>
-    ensures found { IfOk result (λ v. IsWordsOf text.now v.items) }
-    ensures refused { IfErr result (RefusesWords text.now) }
-{
-    let bytes = from_hex(alloc, text).map_err(Refusal::Hex)?;
-    decode(alloc, &bytes).map_err(Refusal::Insn)
-}
-
-/// The program whose words the text has as hex digits, for a store of no maps.
-fn program(alloc: Global, text: &str) -> Result<Program, Refusal>
-    ensures found { IfOk result (λ p. IsWordsOf text.now p.instructions
-        × IsSound 0 p.instructions × (p.maps ≡ 0)) }
-    ensures refused { IfErr result (RefusesProgram text.now) }
-{
-    let insns = instructions(alloc, text)?;
-    load(alloc, insns, 0).map_err(Refusal::Load)
-}
-
-/// A store of no maps for one CPU.
-fn no_maps(alloc: Global) -> Result<PlainStore, ShapeError>
-    ensures maps { IfOk result (λ s. shapes_of s ≡ []) }
-    ensures serves { IfOk result (λ s. has_cpu s 0 ≡ true) }
-    ensures idle { IfOk result (λ s. is_running s 0 ≡ false) }
-    ensures memory { IfErr result (λ e. e ≡ ShapeError.OutOfMemory) }
-{
-    let shape = StoreShape::new(1, Vec::new(alloc))?;
-    let store = PlainStore::new(alloc, shape)?;
-    Ok(store)
-}
-
-/// `ebpf hex`.
-fn run(alloc: Global, options: RunOptions, text: &str) -> Reply
-    ensures { IsRun options.budget options.context.items text.now result }
-{
-    let program = match program(alloc, text) {
-        Ok(program) => program,
-        Err(refusal) => return Reply::Refused(refusal),
-    };
-    let Ok(mut store) = no_maps(alloc) else {
-        return Reply::Refused(Refusal::OutOfMemory);
-    };
-    let RunOptions { budget, context } = options;
-    let mut cpu = Cpu::new(0, context);
-    Reply::Ended(cpu.run(&program, &mut store, budget))
-}
-
-/// What `ebpf asm` prints of a text's words.
-fn shown_words(alloc: Global, listing: bool, text: &str, bytes: &[u8]) -> Result<String, TextError>
-    ensures shown { IfOk result (λ printed.
-        ShowsWords listing text.now bytes.now (string_bytes printed)) }
-    ensures memory { IsOkUnless result TextError.OutOfMemory }
-    // Only what the type of the slice says: a caller's proof doesn't get it of a vector.
-    ensures bytes { All (λ b. b < 256) bytes.now }
-{
-    if listing {
-        source_lines(alloc, bytes, text)
-    } else {
-        word_lines(alloc, bytes)
-    }
-}
-
-/// What `ebpf asm` prints of a text, or why it prints nothing.
-fn assembly(alloc: Global, listing: bool, text: &str) -> Result<String, Refusal>
-    ensures shown { IfOk result (λ printed. IsAssembled listing text.now (Reply.Text printed)) }
-    ensures refused { IfErr result (RefusesAssembly text.now) }
-{
-    let insns = match assemble(alloc, text) {
-        Ok(insns) => insns,
-        Err(error) => return Err(Refusal::Text(error)),
-    };
-    let bytes = match encode(alloc, &insns) {
-        Ok(bytes) => bytes,
-        Err(error) => return Err(Refusal::Insn(error)),
-    };
-    match shown_words(alloc, listing, text, &bytes) {
-        Ok(lines) => Ok(lines),
-        Err(error) => Err(Refusal::Text(error)),
-    }
-}
-
-/// `ebpf asm`.
-fn assembled(alloc: Global, listing: bool, text: &str) -> Reply
-    ensures { IsAssembled listing text.now result }
-{
-    match assembly(alloc, listing, text) {
-        Ok(lines) => Reply::Text(lines),
-        Err(refusal) => Reply::Refused(refusal),
-    }
-}
-
-/// `ebpf asm --run`: what `ebpf hex` replies to the words that `ebpf asm` prints.
-fn assembled_run(alloc: Global, options: RunOptions, text: &str) -> Reply
-    ensures { IsAssembledRun options.budget options.context.items text.now result }
-{
-    match assembly(alloc, false, text) {
-        Ok(words) => run(alloc, options, words.as_str()),
-        Err(refusal) => Reply::Refused(refusal),
-    }
-}
-
-/// What `ebpf disasm` prints of a program's words.
-fn shown_program(
+/// What a command replies to the text that it read, or why it has no answer, on the thread that
+/// calls. The observer hears how far a search is.
+fn answer_to<O: Observer>(
     alloc: Global,
-    pc: bool,
-    bytes: &[u8],
-    program: &[Insn],
-) -> Result<String, TextError>
-    requires { IsEncodedAs program.now bytes.now }
-    ensures shown { IfOk result (λ printed.
-        string_bytes printed ≡ shown_program pc bytes.now program.now) }
-    ensures memory { IsOkUnless result TextError.OutOfMemory }
-{
-    if pc {
-        program_lines(alloc, bytes, program)
-    } else {
-        disassemble(alloc, program)
-    }
-}
-
-/// The text of the words that the text has as hex digits.
-fn disassembly(alloc: Global, pc: bool, text: &str) -> Result<String, Refusal>
-    ensures shown { IfOk result (λ printed. (is : List Insn) × (found : IsWordsOf text.now is)
-        × (string_bytes printed ≡ shown_program pc found.0 is)) }
-    ensures refused { IfErr result (RefusesWords text.now) }
-{
-    let bytes = from_hex(alloc, text).map_err(Refusal::Hex)?;
-    let program = decode(alloc, &bytes).map_err(Refusal::Insn)?;
-    let shown = shown_program(alloc, pc, &bytes, &program).map_err(Refusal::Text)?;
-    Ok(shown)
-}
-
-/// `ebpf disasm`.
-fn disassembled(alloc: Global, pc: bool, text: &str) -> Reply
-    ensures { IsDisassembled pc text.now result }
-{
-    match disassembly(alloc, pc, text) {
-        Ok(text) => Reply::Text(text),
-        Err(refusal) => Reply::Refused(refusal),
-    }
-}
-
-/// What a command replies to the text that it read, on the thread that calls. The observer hears
-/// how far a search is.
-pub fn reply<O: Observer>(alloc: Global, command: Command, text: &str, observer: &mut O) -> Reply
+    command: Command,
+    text: &str,
+    observer: &mut O,
+) -> Result<Reply, Refusal>
     requires { IsForOneThread command }
-    ensures { IsAnswer command text.now result }
+    ensures { Replies (IsAnswer command text.now) result }
 {
     match command {
         Command::Hex(options) => run(alloc, options, text),
@@ -214,15 +66,24 @@ pub fn reply<O: Observer>(alloc: Global, command: Command, text: &str, observer:
     }
 }
 
-/// What a command replies to the text that it read, on worker threads where it asks for them.
-pub fn reply_by_workers<T: Threads + Wait + Sync, O: Observer>(
+/// What a command replies to the text that it read, on the thread that calls.
+pub fn reply<O: Observer>(alloc: Global, command: Command, text: &str, observer: &mut O) -> Reply
+    requires { IsForOneThread command }
+    ensures { IsAnswer command text.now result }
+{
+    Reply::of(answer_to(alloc, command, text, observer))
+}
+
+/// What a command replies to the text that it read, or why it has no answer, on worker threads
+/// where it asks for them.
+fn answer_by_workers<T: Threads + Wait + Sync, O: Observer>(
     rt: &T,
     alloc: Global,
     command: Command,
     text: &str,
     observer: &mut O,
-) -> Reply
-    ensures { IsAnswer command text.now result }
+) -> Result<Reply, Refusal>
+    ensures { Replies (IsAnswer command text.now) result }
 {
     match command {
         Command::Run(
@@ -233,7 +94,20 @@ pub fn reply_by_workers<T: Threads + Wait + Sync, O: Observer>(
                 stats,
                 ..
             },
-        ) => run_file_by_workers(rt, alloc, workers, stats, keys, maps, text),
-        command => reply(alloc, command, text, observer),
+        ) => run_file_by_workers(rt, alloc, workers, Extras { keys, maps, stats }, text),
+        command => answer_to(alloc, command, text, observer),
     }
+}
+
+/// What a command replies to the text that it read, on worker threads where it asks for them.
+pub fn reply_by_workers<T: Threads + Wait + Sync, O: Observer>(
+    rt: &T,
+    alloc: Global,
+    command: Command,
+    text: &str,
+    observer: &mut O,
+) -> Reply
+    ensures { IsAnswer command text.now result }
+{
+    Reply::of(answer_by_workers(rt, alloc, command, text, observer))
 }

@@ -7,23 +7,24 @@ ghost use Rattle.bpf_command.specs.Names.{Refuses};
 ghost use Rattle.bpf_command.specs.declared.command.Request.{Request};
 ghost use Rattle.bpf_command.specs.declared.command_line.CommandError.{CommandError};
 ghost use Rattle.bpf_run.specs.Objects.{IsShown};
-ghost use Rattle.bpf_run.specs.Answer.{Prints, exit_status, stats_of};
+ghost use Rattle.bpf_replies.specs.Answer.{Prints, exit_status, stats_of};
 ghost use Rattle.bpf_run.specs.Conversing.{Converses, asked_talk};
 ghost use Rattle.bpf_run.specs.Program.{Does, Follows, error_of, IfExit, IfNotText, IfShown, IfMisused, IsAsked, IsPrintedAs};
 ghost use Rattle.bpf_run.specs.declared.program.Misuse.{Misuse};
-ghost use Rattle.bpf_run.specs.declared.refusal.Refusal.{Refusal};
+ghost use Rattle.bpf_replies.specs.declared.refusal.Refusal.{Refusal};
 
 use crate::conversing::{asked_talk, talk_named};
 use crate::explaining::{Failures, Question, Subject, explain, warn};
-use crate::objects::{answer_as, perform_as};
-use crate::perform::{Performed, answer, print_page};
+use crate::objects::{Errand, answer_as, perform_as};
+use crate::perform::Performed;
 use crate::progress::{Aside, Teller};
-use crate::refusal::Refusal;
-use crate::reply::{Reply, Status};
-use crate::several::check_files;
-use crate::stream::{Sink, Source};
 use bpf_command::{Command, CommandError, Request, request_of};
 use bpf_lines::HexError;
+use bpf_replies::printing::{answer, print_page};
+use bpf_replies::refusal::Refusal;
+use bpf_replies::reply::{Reply, Status};
+use bpf_replies::several::check_files;
+use bpf_replies::stream::{Sink, Source};
 use bpf_talk::Terminal;
 use clap::error;
 use std::alloc::Global;
@@ -84,8 +85,8 @@ pub enum Ending {
 }
 
 const NO_CODE: &str = "\
-no such code is printed: there are A1 to A6, E1 to E14, F1 to F6, G1 to G5, H1, J1 to J4, L1 to L11, S1 to S7 and X1;
-nor is it an error (ENOMEM, EEXIST, ENOENT, E2BIG, EINVAL, EBUSY), a flag (BPF_ANY, BPF_NOEXIST, BPF_EXIST),
+no such code is printed: there are A1 to A6, E1 to E14, F1 to F7, G1 to G5, H1, J1 to J4, L1 to L11, S1 to S12 and X1;
+nor is it an error (ENOMEM, EEXIST, ENOENT, E2BIG, EINVAL, EPERM, EBUSY), a flag (BPF_ANY, BPF_NOEXIST, BPF_EXIST),
 a helper (lookup, update, delete, cpu, or bpf_map_lookup_elem and the like) or `spare`
 
 For more information, try 'ebpf explain --help'.";
@@ -127,9 +128,7 @@ pub const USAGE: u8 = 2;
 fn perform_command<T: Threads + Wait + Sync + Aside, R: Source, W: Sink, D: Terminal>(
     rt: &T,
     alloc: Global,
-    command: Command,
-    file: Option<&str>,
-    json: bool,
+    errand: Errand,
     source: &mut R,
     sink: &mut W,
     terminal: &mut D,
@@ -138,28 +137,39 @@ fn perform_command<T: Threads + Wait + Sync + Aside, R: Source, W: Sink, D: Term
     requires writable { W.has_failed sink.old ≡ false }
     requires hears { D.is_unread terminal.old ≡ false }
     requires tells { D.has_failed terminal.old ≡ false }
-    ensures { Does command json (option_map (λ s. s.now) file.entry)
-        (asked_talk command (option_map (λ s. s.now) file.entry) json)
+    ensures { Does errand.entry.command errand.entry.json
+        (option_map (λ s. s.now) errand.entry.file)
+        (asked_talk errand.entry.command (option_map (λ s. s.now) errand.entry.file)
+        errand.entry.json)
         (terminal.new ≡ terminal.old) (Converses (D.passes terminal.old terminal.new)
         (D.is_unread terminal.new) (D.has_failed terminal.new))
         (R.remaining source.old) (R.file source.old) (R.has_failed source.new)
         (W.contents sink.old) (W.contents sink.new) (W.has_failed sink.new) result.status
         (stats_of result.reply) }
 {
-    match asked_talk(&command, file, json) {
+    match asked_talk(&errand.command, errand.file, errand.json) {
         Some(asked) => talk_named(alloc, asked, source, sink, terminal),
-        None => perform_as(json, rt, alloc, command, file, source, sink),
+        None => perform_as(rt, alloc, errand, source, sink),
     }
+}
+
+/// A command as the words ask for it.
+#[derive(Drop)]
+struct Wish {
+    command: Command,
+    /// The file that is read in place of standard input.
+    file: Option<String>,
+    /// Whether its answer is explained.
+    explain: bool,
+    /// Whether objects are written in place of lines.
+    json: bool,
 }
 
 /// Performs a command. What it writes and its status don't depend on whether it is explained.
 fn perform_for<T: Threads + Wait + Sync + Aside, R: Source, W: Sink, D: Terminal>(
     rt: &T,
     alloc: Global,
-    command: Command,
-    file: Option<String>,
-    explain: bool,
-    json: bool,
+    wish: Wish,
     source: &mut R,
     sink: &mut W,
     terminal: &mut D,
@@ -168,8 +178,9 @@ fn perform_for<T: Threads + Wait + Sync + Aside, R: Source, W: Sink, D: Terminal
     requires writable { W.has_failed sink.old ≡ false }
     requires hears { D.is_unread terminal.old ≡ false }
     requires tells { D.has_failed terminal.old ≡ false }
-    ensures performed { IfExit result (λ status stats. Does command json
-        (option_map string_bytes file) (asked_talk command (option_map string_bytes file) json)
+    ensures performed { IfExit result (λ status stats. Does wish.command wish.json
+        (option_map string_bytes wish.file)
+        (asked_talk wish.command (option_map string_bytes wish.file) wish.json)
         (terminal.new ≡ terminal.old) (Converses (D.passes terminal.old terminal.new)
         (D.is_unread terminal.new) (D.has_failed terminal.new))
         (R.remaining source.old) (R.file source.old) (R.has_failed source.new)
@@ -178,13 +189,23 @@ fn perform_for<T: Threads + Wait + Sync + Aside, R: Source, W: Sink, D: Terminal
     ensures text { IfNotText result ⊥ }
     ensures misused { IfMisused result (λ _. ⊥) }
 {
+    let Wish {
+        command,
+        file,
+        explain,
+        json,
+    } = wish;
     let subject = if explain {
         Some(Subject::of(&command))
     } else {
         None
     };
-    let name = file.as_ref().map(String::as_str);
-    let done = perform_command(rt, alloc, command, name, json, source, sink, terminal);
+    let errand = Errand {
+        command,
+        file: file.as_ref().map(String::as_str),
+        json,
+    };
+    let done = perform_command(rt, alloc, errand, source, sink, terminal);
     match subject {
         Some(subject) => Ending::Explained(Question { subject, file }, done),
         None => Ending::Performed(done),
@@ -230,9 +251,13 @@ fn follow<T: Threads + Wait + Sync + Aside, R: Source, W: Sink, D: Terminal>(
                 json,
             },
         ) => {
-            return perform_for(
-                rt, alloc, command, file, explain, json, source, sink, terminal,
-            );
+            let wish = Wish {
+                command,
+                file,
+                explain,
+                json,
+            };
+            return perform_for(rt, alloc, wish, source, sink, terminal);
         }
         Ok(Request::CheckAll { check, files, json }) => {
             let mut teller = Teller::new(rt, check.search.progress);

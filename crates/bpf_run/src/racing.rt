@@ -5,16 +5,18 @@ ghost use Rattle.bpf_file.specs.File.{file_of};
 ghost use Rattle.bpf_cpu.specs.Setup.{IsRunnable};
 ghost use Rattle.bpf_jobs.specs.Printed.{first_of};
 ghost use Rattle.bpf_races.specs.Races.{AreRaces};
+ghost use Rattle.bpf_replies.specs.Answer.{Replies};
 ghost use Rattle.bpf_run.specs.Racing.{IsRacesFile, TellsRaces, is_any_race};
 
-use crate::refusal::Refusal;
-use crate::reply::Reply;
-use crate::running::file_in;
 use bpf_command::{RaceOptions, SearchOptions};
 use bpf_cpu::Setup;
 use bpf_explore::Observer;
 use bpf_file::RunFile;
+use bpf_loader::Named;
 use bpf_races::{Part, Races, find_races, find_races_patiently, list_races, synced_parts};
+use bpf_replies::refusal::Refusal;
+use bpf_replies::reply::Reply;
+use bpf_replies::running::file_in;
 use std::alloc::{AllocError, Global};
 
 /// What is printed of races.
@@ -66,8 +68,12 @@ fn tell_races<O: Observer>(
         sync.now (string_bytes told.text) told.raced told.all) }
 {
     let RunFile { setup, names, .. } = file;
+    let named = Named {
+        maps: setup.shape.maps().len(),
+        arrays: setup.shape.arrays().len(),
+    };
     let races = races_of(alloc, options, setup, sync, observer)?;
-    let text = list_races(alloc, &names, sync, &races)?;
+    let text = list_races(alloc, named, &names, sync, &races)?;
     let raced = is_any_race(&races);
     let all = races.all;
     Ok(Told { text, raced, all })
@@ -80,25 +86,18 @@ pub fn race_file<O: Observer>(
     options: RaceOptions,
     text: &str,
     observer: &mut O,
-) -> Reply
-    ensures { IsRacesFile options.search.patient options.search.limit
-        (map string_bytes options.sync.items) text.now result }
+) -> Result<Reply, Refusal>
+    ensures { Replies (IsRacesFile options.search.patient options.search.limit
+        (map string_bytes options.sync.items) text.now) result }
 {
-    let file = match file_in(alloc, text) {
-        Ok(file) => file,
-        Err(refusal) => return Reply::Refused(refusal),
+    let file = file_in(alloc, text)?;
+    let Some(parts) = synced_parts(alloc, &file.names, &file.setup.shape, &options.sync)? else {
+        return Err(Refusal::NoMap);
     };
-    let parts = match synced_parts(alloc, &file.names, &file.setup.shape, &options.sync) {
-        Ok(Some(parts)) => parts,
-        Ok(None) => return Reply::Refused(Refusal::NoMap),
-        Err(_) => return Reply::Refused(Refusal::OutOfMemory),
-    };
-    match tell_races(alloc, options.search, &parts, file, observer) {
-        Ok(Told { text, raced, all }) => Reply::Outcomes {
-            text,
-            stopped: raced,
-            all,
-        },
-        Err(_) => Reply::Refused(Refusal::OutOfMemory),
-    }
+    let Told { text, raced, all } = tell_races(alloc, options.search, &parts, file, observer)?;
+    Ok(Reply::Outcomes {
+        text,
+        stopped: raced,
+        all,
+    })
 }

@@ -3,7 +3,7 @@
 ghost use Rattle.std.specs.Prelude.{◌≡◌, None, is_some};
 ghost use Rattle.std.specs.Option.{option_map_or};
 
-use crate::stream::Source;
+use bpf_replies::stream::Source;
 use std::fs::{File, Files};
 use std::io;
 use std::io::Read;

@@ -2,7 +2,7 @@
 
 ghost use Rattle.std.specs.Prelude.{◌≡◌, false};
 
-use crate::stream::Sink;
+use bpf_replies::stream::Sink;
 use std::io;
 use std::io::{ErrorKind, Write};
 

@@ -27,7 +27,7 @@ use Rattle.bpf_spelling.specs.Operators.{operator_of, comparison_of, atomic_form
 use Rattle.bpf_spelling.specs.Token.{Tok}
 use Rattle.bpf_text.specs.declared.forms.TheConstants.{FORMS}
 use Rattle.bpf_text.specs.Line.{Spells}
-use Rattle.bpf_text.specs.Misfit.{GoesOn}
+use Rattle.bpf_text.specs.Misfit.{FormGoesOn}
 use Rattle.bpf_text.specs.Private.Forms.{fits, pieces, begins_form, begins}
 use Rattle.bpf_text.proofs.Fitting.{fits_sound, fits_complete}
 
@@ -133,7 +133,7 @@ language_begun i (Some name) ts others s = absurd s
 
 -- ---- and each form of the table is one of the language
 
-spelled_by : (ts : List Tok) (i : Insn) (name : Option (List ℕ)) (others : List Tok) → Spells (form_of i name) (ts ++ others) → GoesOn ts
+spelled_by : (ts : List Tok) (i : Insn) (name : Option (List ℕ)) (others : List Tok) → Spells (form_of i name) (ts ++ others) → FormGoesOn ts
 spelled_by ts i name others s = (record { insn = i; name = name }, others, s)
 
 by_operator : (w : Width) (d : Reg) (src : Operand) (a b : Operator) (us : List Tok) → a ≡ b → Spells (reg w d ∷ Blank ∷ (operator_items b ++ Blank ∷ operand_item w src ∷ [])) us → Spells (reg w d ∷ Blank ∷ (operator_items a ++ Blank ∷ operand_item w src ∷ [])) us
@@ -151,11 +151,11 @@ by_atomic w b z d f g us e s = let P : AtomicForm → Type 0 = λ x. Spells (ato
 by_extension : (w v : Width) (z : Item) (d r : Reg) (us : List Tok) → v ≡ w → Spells (reg w d ∷ mark sign.Assign ∷ mark sign.Open ∷ z ∷ mark sign.Close ∷ reg w r ∷ []) us → Spells (reg v d ∷ mark sign.Assign ∷ mark sign.Open ∷ z ∷ mark sign.Close ∷ reg v r ∷ []) us
 by_extension w v z d r us e s = let P : Width → Type 0 = λ x. Spells (reg x d ∷ mark sign.Assign ∷ mark sign.Open ∷ z ∷ mark sign.Close ∷ reg x r ∷ []) us in subst P (sym e) s
 
-stored : (z : Size) (b : Reg) (o : ℤ) (src : Operand) (ts others : List Tok) → Spells (mark sign.Star ∷ cell_items (key.Unsigned z) b o (Blank ∷ mark sign.Assign ∷ Blank ∷ operand_item Bits64 src ∷ [])) (ts ++ others) → GoesOn ts
+stored : (z : Size) (b : Reg) (o : ℤ) (src : Operand) (ts others : List Tok) → Spells (mark sign.Star ∷ cell_items (key.Unsigned z) b o (Blank ∷ mark sign.Assign ∷ Blank ∷ operand_item Bits64 src ∷ [])) (ts ++ others) → FormGoesOn ts
 stored z b o (operand.Immediate v) ts others s = spelled_by ts (insn.StoreImmediate z b o v) None others s
 stored z b o (operand.Register r) ts others s = spelled_by ts (insn.Store z b o r) None others s
 
-in_table : (w : Width) (r : Reg) (ts : List Tok) → InTable w r ts → GoesOn ts
+in_table : (w : Width) (r : Reg) (ts : List Tok) → InTable w r ts → FormGoesOn ts
 in_table w r ts (inl h) = let f = fits_sound w r _ ts h in spelled_by ts (insn.Alu w f.0.1.0.0 r f.0.1.1.0) None f.1 (by_operator w r f.0.1.1.0 (operator_of f.0.1.0.0) (Plain f.0.1.0.1) (ts ++ f.1) f.0.1.0.2 f.2)
 in_table w r ts (inr (inl h)) = let f = fits_sound w r _ ts h in spelled_by ts (insn.Alu w f.0.1.1.0.0 r f.0.1.1.1.0) None f.1 (by_operator w r f.0.1.1.1.0 (operator_of f.0.1.1.0.0) (SignedBy f.0.1.1.0.1) (ts ++ f.1) f.0.1.1.0.2 f.2)
 in_table w r ts (inr (inr (inl h))) = let f = fits_sound w r _ ts h in spelled_by ts (insn.Negate w r) None f.1 f.2
@@ -179,13 +179,13 @@ in_table w r ts (inr (inr (inr (inr (inr (inr (inr (inr (inr (inr (inr (inr (inr
 in_table w r ts (inr (inr (inr (inr (inr (inr (inr (inr (inr (inr (inr (inr (inr (inr (inr (inr (inr (inr (inr (inr (inl h))))))))))))))))))))) = let f = fits_sound w r _ ts h in spelled_by ts (insn.Exit) None f.1 f.2
 in_table w r ts (inr (inr (inr (inr (inr (inr (inr (inr (inr (inr (inr (inr (inr (inr (inr (inr (inr (inr (inr (inr (inr x))))))))))))))))))))) = elim x [ ]
 
-pub begun_goes_on : (ts : List Tok) → begins ts ≡ true → GoesOn ts
+pub begun_goes_on : (ts : List Tok) → begins ts ≡ true → FormGoesOn ts
 begun_goes_on ts e =
     let with = some_of (λ x. begins_form x.0 x.1 ts ≡ true) REGISTERS (of_any (λ x. begins_form x.0 x.1 ts) REGISTERS e) in
     in_table with.0.0 with.0.1 ts (of_any (λ f. fits with.0.0 with.0.1 (pieces f) ts) FORMS with.1)
 
-pub goes_on_begun : (ts : List Tok) → GoesOn ts → begins ts ≡ true
+pub goes_on_begun : (ts : List Tok) → FormGoesOn ts → begins ts ≡ true
 goes_on_begun ts g = language_begun g.0.insn g.0.name ts g.1 g.2
 
-pub goes_on_is : (b : Bool) (ts : List Tok) → b ≡ begins ts → IsTrue b ↔ GoesOn ts
+pub goes_on_is : (b : Bool) (ts : List Tok) → b ≡ begins ts → IsTrue b ↔ FormGoesOn ts
 goes_on_is b ts e = (λ h. begun_goes_on ts (sym e ∙ h), λ g. e ∙ goes_on_begun ts g)

@@ -15,7 +15,7 @@ use Rattle.bpf_text.specs.declared.source.Body.TheVariants.{Empty, Code, Named, 
 use Rattle.bpf_text.specs.declared.token.Token.{Token}
 use Rattle.bpf_text.specs.Line.{Written, name_of}
 use Rattle.bpf_text.specs.Assembly.{IsBody, Source, label_of, unlabelled, cut}
-use Rattle.bpf_text.specs.Misfit.{GoesOn, IsMisfit, IsRefusedAt, IsUnfit, StandsAt, with_numbers, zeroed}
+use Rattle.bpf_text.specs.Misfit.{FormGoesOn, IsMisfit, IsLineRefusedAt, IsUnfit, StandsAt, with_numbers, zeroed}
 use Rattle.bpf_text.specs.Tokens.{IsTokens}
 use Rattle.bpf_text.specs.Private.Cutting.{BeginTokens}
 use Rattle.bpf_text.specs.Private.Look.{look}
@@ -60,10 +60,10 @@ some_unfit (t ∷ ts) u none = none (length ts) (omega arith) (subst IsUnfit (sy
 
 -- ---- tokens at which no form goes on
 
-pub nothing_goes_on : GoesOn []
+pub nothing_goes_on : FormGoesOn []
 nothing_goes_on = (record { insn = insn.Exit; name = None }, Word key.Exit ∷ [], (refl, refl))
 
-pub goes_on_short : (n : ℕ) (ts : List Tok) → n ≤ length ts → GoesOn (take n ts) → n ≤ 40
+pub goes_on_short : (n : ℕ) (ts : List Tok) → n ≤ length ts → FormGoesOn (take n ts) → n ≤ 40
 goes_on_short n ts le g =
     let short = spelled_short g.0 (take n ts ++ g.1) g.2 in
     omega (arith, short, length-append (take n ts) g.1, length-take n ts)
@@ -87,9 +87,9 @@ long_stands BadLine n us rest long body (goes, inl same) = absurd (let short = g
 long_stands BadLine n us rest long body (goes, inr (lt, left)) =
     let front : take n (us ++ rest) ≡ take n us = take-append-le n us rest (omega arith) in
     let more : take (n + 1) (us ++ rest) ≡ take (n + 1) us = take-append-le (n + 1) us rest (omega arith) in
-    (subst GoesOn (sym front) goes, inr (omega (arith, length-append us rest), λ g. left (subst GoesOn more g)))
+    (subst FormGoesOn (sym front) goes, inr (omega (arith, length-append us rest), λ g. left (subst FormGoesOn more g)))
 
-refused_long : (line : List ℕ) (ts rest : List Tok) (m : Misfit) (n : ℕ) → IsTokens line (ts ++ rest) → 64 ≤ length ts → IsBody (Err m.why) (unlabelled ts) → StandsAt m.why n (unlabelled ts) → m.token + length (unlabelled ts) ≡ length ts + n → IsRefusedAt line m
+refused_long : (line : List ℕ) (ts rest : List Tok) (m : Misfit) (n : ℕ) → IsTokens line (ts ++ rest) → 64 ≤ length ts → IsBody (Err m.why) (unlabelled ts) → StandsAt m.why n (unlabelled ts) → m.token + length (unlabelled ts) ≡ length ts + n → IsLineRefusedAt line m
 refused_long line [] rest m n cut_up long body stands counted = absurd (omega arith)
 refused_long line (a ∷ []) rest m n cut_up long body stands counted = absurd (omega arith)
 refused_long line (a ∷ b ∷ ts) rest m n cut_up long body stands counted =
@@ -107,7 +107,7 @@ refused_long line (a ∷ b ∷ ts) rest m n cut_up long body stands counted =
       stands = subst Q (sym same) (long_stands m.why n us rest (omega arith) body stands);
     }
 
-pub refused_at : (line : List ℕ) (ts : List Tok) (m : Misfit) (n : ℕ) → BeginTokens line ts → IsBody (Err m.why) (unlabelled ts) → StandsAt m.why n (unlabelled ts) → m.token + length (unlabelled ts) ≡ length ts + n → IsRefusedAt line m
+pub refused_at : (line : List ℕ) (ts : List Tok) (m : Misfit) (n : ℕ) → BeginTokens line ts → IsBody (Err m.why) (unlabelled ts) → StandsAt m.why n (unlabelled ts) → m.token + length (unlabelled ts) ≡ length ts + n → IsLineRefusedAt line m
 refused_at line ts m n (rest, cut_up, inl none) body stands counted = record {
   tokens = ts;
   cut_up = subst (λ (us : List Tok). IsTokens line us) (ap (λ (r : List Tok). ts ++ r) none ∙ append-nil ts) cut_up;
@@ -136,7 +136,7 @@ pub seen_within : (tokens seen rest : List Token) (len : ℕ) → seen ≡ token
 seen_within tokens seen rest len same label l = omega (arith, ap length label, unlabelled_within (map look seen), length-map rest look, length-map seen look, ap length same, l)
 
 pub misfit_found : (line : List ℕ) (tokens seen rest : List Token) (why : LineError) (len n : ℕ) → BeginTokens line (map look tokens) → seen ≡ tokens → map look rest ≡ unlabelled (map look seen)
-    → IsBody (Err why) (map look rest) → StandsAt why n (map look rest) → len ≡ length tokens → IsRefusedAt line (record { why = why; token = (len - length rest) + n })
+    → IsBody (Err why) (map look rest) → StandsAt why n (map look rest) → len ≡ length tokens → IsLineRefusedAt line (record { why = why; token = (len - length rest) + n })
 misfit_found line tokens seen rest why len n begin same label body stands l =
     let le = seen_within tokens seen rest len same label l in
     let B : List Token → Type 0 = λ ts. BeginTokens line (map look ts) in
@@ -165,5 +165,5 @@ none_unfit ts made seen n b before same with none is k lt u = by_place (eq-or-lt
         let same_tokens : map look seen ≡ with_numbers (k + 1) ts = ap (map look) same ∙ with ∙ ap (λ m. with_numbers (m + 1) ts) (sym here) in
         false_true (sym none ∙ is.1 (subst IsUnfit (sym same_tokens) u))
 
-pub goes_on_of : (b : Bool) (n : ℕ) (tokens : List Token) → (IsTrue b ↔ GoesOn (map look (take n tokens))) → IsTrue b ↔ GoesOn (take n (map look tokens))
-goes_on_of b n tokens h = let P : List Tok → Type 0 = λ ts. IsTrue b ↔ GoesOn ts in subst P (map-take look n tokens) h
+pub goes_on_of : (b : Bool) (n : ℕ) (tokens : List Token) → (IsTrue b ↔ FormGoesOn (map look (take n tokens))) → IsTrue b ↔ FormGoesOn (take n (map look tokens))
+goes_on_of b n tokens h = let P : List Tok → Type 0 = λ ts. IsTrue b ↔ FormGoesOn ts in subst P (map-take look n tokens) h

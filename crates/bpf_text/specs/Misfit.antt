@@ -12,14 +12,14 @@ use Rattle.bpf_text.specs.Assembly.{IsBody, IsLine, Source, unlabelled}
 -- ---- a line of no form
 
 -- some form goes on after these tokens: with others they spell an instruction
-abbrev pub GoesOn : List Tok → Type 0
-GoesOn ts = (i : Written) × (others : List Tok) × IsSpelled i (ts ++ others)
+abbrev pub FormGoesOn : List Tok → Type 0
+FormGoesOn ts = (i : Written) × (others : List Tok) × IsSpelled i (ts ++ others)
 
 -- no form goes on at the token after this many, or there is none
 abbrev pub IsLeftAt : ℕ → List Tok → Type 0
 IsLeftAt n ts =
-    GoesOn (take n ts)
-    × ((n ≡ length ts) ⊎ ((n < length ts) × (GoesOn (take (n + 1) ts) → ⊥)))
+    FormGoesOn (take n ts)
+    × ((n ≡ length ts) ⊎ ((n < length ts) × (FormGoesOn (take (n + 1) ts) → ⊥)))
 
 -- ---- a number that is out of its range
 
@@ -47,7 +47,7 @@ abbrev pub StandsAt : LineError → ℕ → List Tok → Type 0
 StandsAt BadLine n ts = IsLeftAt n ts
 StandsAt BadNumber n ts = IsUnfitAt n ts
 
-pub record IsRefusedAt (line : List ℕ) (m : Misfit) : Type 0 where
+pub record IsLineRefusedAt (line : List ℕ) (m : Misfit) : Type 0 where
   pub tokens : List Tok
   pub cut_up : IsTokens line tokens
   pub refused : IsBody (Err m.why) (unlabelled tokens)
@@ -58,7 +58,7 @@ pub record IsRefusedAt (line : List ℕ) (m : Misfit) : Type 0 where
 
 -- a line that is refused by itself is so somewhere
 abbrev pub IsMisfit : List ℕ → Option Misfit → Type 0
-IsMisfit line (Some m) = IsRefusedAt line m
+IsMisfit line (Some m) = IsLineRefusedAt line m
 IsMisfit line None = (s : Source) × IsLine line s × OnErr s.body ⊥
 
 -- ---- where the tokens of a line begin

@@ -72,9 +72,8 @@ fn keep<'a>(
     if says_nothing(&source) || (refused && is_refused(&source.body)) {
         return Ok(());
     }
-    lines
-        .push(Kept { line, source })
-        .map_err(|_| TextError::OutOfMemory)
+    lines.push(Kept { line, source })?;
+    Ok(())
 }
 
 /// A text's lines that are kept, and the first line with each label.
@@ -109,10 +108,10 @@ fn push_meant(insns: &mut Vec<Insn>, insn: Option<Insn>) -> Result<(), TextError
     ensures ok { OnOk result (insns.new.items ≡ insns.old.items ++ option_to_list insn) }
     ensures memory { IsOkUnless result TextError.OutOfMemory }
 {
-    match insn {
-        Some(insn) => insns.push(insn).map_err(|_| TextError::OutOfMemory),
-        None => Ok(()),
+    if let Some(insn) = insn {
+        insns.push(insn)?;
     }
+    Ok(())
 }
 
 /// What lines mean, or the first refusal.

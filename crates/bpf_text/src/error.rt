@@ -1,6 +1,10 @@
 //! Why a text is refused.
 
+ghost use Rattle.std.specs.Prelude.{◌≡◌};
+ghost use Rattle.bpf_text.specs.declared.error.TextError.TheVariants.{OutOfMemory};
+
 use bpf_codes::{Code, Diagnostic};
+use std::alloc::{AllocError, AllocFailed};
 use thiserror::Error;
 
 /// Why a text is refused. Lines count from 1.
@@ -20,8 +24,23 @@ pub enum TextError {
     OutOfMemory,
 }
 
+impl From<AllocError> for TextError {
+    ghost from_gives = { λ _ e. e ≡ OutOfMemory };
+
+    fn from(_: AllocError) -> TextError {
+        TextError::OutOfMemory
+    }
+}
+
+impl<T: Drop> From<AllocFailed<T>> for TextError {
+    ghost from_gives = { λ _ e. e ≡ OutOfMemory };
+
+    fn from(_: AllocFailed<T>) -> TextError {
+        TextError::OutOfMemory
+    }
+}
+
 impl TextError {
-    ghost use Rattle.std.specs.Prelude.{◌≡◌};
     ghost use Rattle.bpf_text.specs.Diagnostic.{text_diagnostic};
 
     /// What is printed of it: its code, and where it is.

@@ -1,7 +1,7 @@
 //! The forms of the language, each as its pieces, and whether tokens begin one.
 
 ghost use Rattle.std.specs.Prelude.{◌≡◌, ◌∷◌, ◌↔◌, [], map, IsTrue, MatchOption};
-ghost use Rattle.bpf_text.specs.Misfit.{GoesOn};
+ghost use Rattle.bpf_text.specs.Misfit.{FormGoesOn};
 ghost use Rattle.bpf_text.specs.Private.Look.{look};
 ghost use Rattle.bpf_text.specs.Private.Forms.{fit_of, fits, whole_if, operand_fit, offset_fit, target_fit, is_register, is_of_width, is_word, is_mark, is_operation, is_signed_operation, is_comparison, is_signed_comparison, is_lock_sign, is_fetch_name, is_extended, is_swap, is_unsigned, is_signed_size, is_number, begins, begins_form, is_not, is_sign, left_of, pieces};
 ghost use Rattle.bpf_spelling.specs.Form.{cell_size};
@@ -622,7 +622,7 @@ fn begins(tokens: &[Token<'_>]) -> bool
 
 /// Whether some form goes on after tokens.
 pub fn goes_on(tokens: &[Token<'_>]) -> bool
-    ensures { IsTrue result ↔ GoesOn (map look tokens.now) }
+    ensures { IsTrue result ↔ FormGoesOn (map look tokens.now) }
 {
     begins(tokens)
 }

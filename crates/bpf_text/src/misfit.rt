@@ -2,7 +2,7 @@
 
 ghost use Rattle.std.specs.Prelude.{◌≡◌, ◌≤◌, ◌↔◌, length, map, take, Err, IfOk, IsOkUnless, IsTrue};
 ghost use Rattle.bpf_text.specs.Assembly.{IsBody};
-ghost use Rattle.bpf_text.specs.Misfit.{GoesOn, IsLeftAt, IsMisfit, IsUnfit, IsUnfitAt, StandsAt, with_numbers, zeroed};
+ghost use Rattle.bpf_text.specs.Misfit.{FormGoesOn, IsLeftAt, IsMisfit, IsUnfit, IsUnfitAt, StandsAt, with_numbers, zeroed};
 ghost use Rattle.bpf_text.specs.Private.Sources.{body_of, is_bad_number};
 ghost use Rattle.bpf_text.specs.Private.Look.{look};
 
@@ -44,7 +44,7 @@ fn with_numbers<'a>(
     ensures memory { IsOkUnless result TextError.OutOfMemory }
 {
     let (front, others) = tokens.split_at(count);
-    let mut made = Vec::from_slice(alloc, front).map_err(|_| TextError::OutOfMemory)?;
+    let mut made = Vec::from_slice(alloc, front)?;
     for token in others {
         made.push(zeroed(*token))
             .map_err(|_| TextError::OutOfMemory)?;
@@ -84,7 +84,7 @@ fn unfit_at(alloc: Global, tokens: &[Token<'_>]) -> Result<usize, TextError>
 /// Whether some form goes on after this many of the tokens.
 fn goes_on_behind(tokens: &[Token<'_>], count: usize) -> bool
     requires { count ≤ length tokens.now }
-    ensures { IsTrue result ↔ GoesOn (take count (map look tokens.now)) }
+    ensures { IsTrue result ↔ FormGoesOn (take count (map look tokens.now)) }
 {
     goes_on(&tokens[..count])
 }

@@ -16,10 +16,10 @@ pub fn token_places(alloc: Global, line: &[u8]) -> Result<Vec<usize>, TextError>
     let mut places = Vec::new(alloc);
     let mut at = blank_len(line);
     'line: while !ends_at(line, at) {
-        places.push(at).map_err(|_| TextError::OutOfMemory)?;
+        places.push(at)?;
         let (_, len) = front_at(line, at);
         at = skip_blanks(line, at + len);
     }
-    places.push(at).map_err(|_| TextError::OutOfMemory)?;
+    places.push(at)?;
     Ok(places)
 }

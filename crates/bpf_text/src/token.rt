@@ -110,10 +110,9 @@ fn keep<'a>(tokens: &mut Vec<Token<'a>>, token: Token<'a>) -> Result<(), TextErr
     ensures memory { IsOkUnless result TextError.OutOfMemory }
 {
     if tokens.len() < MAX_TOKENS {
-        tokens.push(token).map_err(|_| TextError::OutOfMemory)
-    } else {
-        Ok(())
+        tokens.push(token)?;
     }
+    Ok(())
 }
 
 /// The tokens of a line, or the first ones where it has more than any form. Fails by `OutOfMemory`

@@ -1,5 +1,6 @@
 -- A CPU that is at a spot of a chart is at one after each step.
 use Rattle.std.proofs.Common.{◌≡◌, ℕ, zero, suc, ◌+◌, ◌<◌, ◌≤◌, ℤ, pos, Bool, true, false, List, [], ◌∷◌, ◌++◌, length, map, Option, Some, None, Result, Ok, Err, ◌⊎◌, inl, inr, refl, sym, ap, subst, ◌∙◌, arith, get_or-set_same, get_or-set_other}
+use Rattle.bpf_shared.specs.Shape.{Shape}
 use Rattle.std.specs.Prelude.{IfSome, slice_get, slice_set, slice_index}
 use Rattle.std.proofs.lemmas.List.{length-map, map_push, length-set}
 use Rattle.std.proofs.lemmas.Option.{slice_get_within}
@@ -26,7 +27,6 @@ use Rattle.bpf_mem.specs.Limits.{max_frames}
 use Rattle.bpf_mem.specs.declared.frames.Caller.{Caller}
 use Rattle.bpf_shared.specs.declared.events.Event.{Event}
 use Rattle.bpf_shared.specs.declared.events.Span.{Span}
-use Rattle.bpf_shared.specs.declared.shapes.MapShape.{MapShape}
 use Rattle.bpf_shared.proofs.Puts.{equal_or_not}
 use Rattle.bpf_loader.specs.Loaded.{Loaded}
 use Rattle.bpf_loader.specs.Places.{target}
@@ -39,7 +39,7 @@ use Rattle.bpf_cpu.specs.Row.{Quiet, Jumps, JumpsIf, CallsLocal, Exits, Loads, S
 use Rattle.bpf_cpu.specs.Values.{LoadsValue, StoresValue, ChangesValue, AsksValue}
 use Rattle.bpf_cpu.specs.Step.{IsReady, Executes}
 use Rattle.bpf_threads.specs.declared.spot.Spot.{Spot}
-use Rattle.bpf_threads.specs.Chart.{Holds, Knows, KnowsOperand, forgetting, after_helper, IsResult, IsThere, MayBe, Follows}
+use Rattle.bpf_threads.specs.Chart.{IsKnownOf, Knows, KnowsOperand, forgetting, known_after_helper, IsResult, IsSpotThere, MayBe, FollowsSpots}
 
 abbrev pub backs : List Caller → List ℕ
 backs callers = map (λ (c : Caller). c.return_pc) callers
@@ -48,7 +48,7 @@ backs callers = map (λ (c : Caller). c.return_pc) callers
 pub record Stands (program : Loaded) (p : Spot) (cpu : Cpu) : Type 0 where
   pub ready : IsReady program cpu
   pub here : cpu.pc ≡ p.pc
-  pub known : Holds p.known cpu.registers
+  pub known : IsKnownOf p.known cpu.registers
   pub back : backs cpu.memory.frames.callers ≡ p.callers.items
 
 -- it is at the spot of this number
@@ -66,7 +66,7 @@ within (r ∷ registers) zero some = omega arith
 within (r ∷ registers) (suc i) some = omega (arith, within registers i some)
 
 -- a number that is known and written
-set_holds : (known : List (Option ℕ)) (registers : List ℕ) (d x : ℕ) → 10 < length registers → Holds known registers → Holds (slice_set known d (Some x)) (slice_set registers d x)
+set_holds : (known : List (Option ℕ)) (registers : List ℕ) (d x : ℕ) → 10 < length registers → IsKnownOf known registers → IsKnownOf (slice_set known d (Some x)) (slice_set registers d x)
 set_holds known registers d x long h n y below e = elim (equal_or_not n d) [
   | inl same ↦
       let inside : n < length (slice_set known d (Some x)) = slice_get_within (slice_set known d (Some x)) n (Some y) e in
@@ -81,7 +81,7 @@ set_holds known registers d x long h n y below e = elim (equal_or_not n d) [
 ]
 
 -- nothing is known of what is written
-forget_holds : (known : List (Option ℕ)) (registers : List ℕ) (d x : ℕ) → Holds known registers → Holds (slice_set known d None) (slice_set registers d x)
+forget_holds : (known : List (Option ℕ)) (registers : List ℕ) (d x : ℕ) → IsKnownOf known registers → IsKnownOf (slice_set known d None) (slice_set registers d x)
 forget_holds known registers d x h n y below e = elim (equal_or_not n d) [
   | inl same ↦
       let inside : n < length (slice_set known d None) = slice_get_within (slice_set known d None) n (Some y) e in
@@ -94,14 +94,14 @@ forget_holds known registers d x h n y below e = elim (equal_or_not n d) [
 ]
 
 -- R10 is looked up elsewhere
-top_holds : (known : List (Option ℕ)) (registers : List ℕ) (x : ℕ) → Holds known registers → Holds known (slice_set registers 10 x)
+top_holds : (known : List (Option ℕ)) (registers : List ℕ) (x : ℕ) → IsKnownOf known registers → IsKnownOf known (slice_set registers 10 x)
 top_holds known registers x h n y below e = get_or-set_other registers 10 n x 0 (λ same. omega (arith, same, below)) ∙ h n y below e
 
-fetch_holds : (known : List (Option ℕ)) (registers : List ℕ) (into : Option Reg) (x : ℕ) → Holds known registers → Holds (forgetting into known) (fetching into x registers)
+fetch_holds : (known : List (Option ℕ)) (registers : List ℕ) (into : Option Reg) (x : ℕ) → IsKnownOf known registers → IsKnownOf (forgetting into known) (fetching into x registers)
 fetch_holds known registers None x h = h
 fetch_holds known registers (Some r) x h = forget_holds known registers (register_number r) x h
 
-helper_holds : (known : List (Option ℕ)) (registers : List ℕ) (x : ℕ) → Holds known registers → Holds (after_helper known) (slice_set (with_arguments_cleared registers) 0 x)
+helper_holds : (known : List (Option ℕ)) (registers : List ℕ) (x : ℕ) → IsKnownOf known registers → IsKnownOf (known_after_helper known) (slice_set (with_arguments_cleared registers) 0 x)
 helper_holds known registers x h =
     forget_holds _ _ 0 x (forget_holds _ _ 5 0 (forget_holds _ _ 4 0 (forget_holds _ _ 3 0 (forget_holds _ _ 2 0 (forget_holds known registers 1 0 h)))))
 
@@ -146,15 +146,15 @@ module _ (program : Loaded) (p : Spot) (old : Cpu) (at : Stands program p old) w
       ] in
       ap (arithmetic w op (value old d)) second ∙ (moved ∙ sym e)
 
-  operation_holds : (w : Width) (op : AluOp) (d : Reg) (s : Operand) (x : Option ℕ) → IfSome x (IsResult p w op d s) → Holds (slice_set p.known (register_number d) x) (slice_set old.registers (register_number d) (arithmetic w op (value old d) (operand_value old s)))
+  operation_holds : (w : Width) (op : AluOp) (d : Reg) (s : Operand) (x : Option ℕ) → IfSome x (IsResult p w op d s) → IsKnownOf (slice_set p.known (register_number d) x) (slice_set old.registers (register_number d) (arithmetic w op (value old d) (operand_value old s)))
   operation_holds w op d s None is = forget_holds p.known old.registers (register_number d) _ at.known
   operation_holds w op d s (Some x) is =
-      subst (λ (y : ℕ). Holds (slice_set p.known (register_number d) (Some x)) (slice_set old.registers (register_number d) y)) (sym (result_is w op d s x is)) (set_holds p.known old.registers (register_number d) x long at.known)
+      subst (λ (y : ℕ). IsKnownOf (slice_set p.known (register_number d) (Some x)) (slice_set old.registers (register_number d) y)) (sym (result_is w op d s x is)) (set_holds p.known old.registers (register_number d) x long at.known)
 
   -- ---- where the CPU gets to
   module _ (spots : List Spot) (new : Cpu) (ready : IsReady program new) where
-    arrive : (place : Option ℕ) (pc : ℤ) (callers : List ℕ) (known : List (Option ℕ)) → IsThere spots place pc callers known
-        → pos new.pc ≡ pc → backs new.memory.frames.callers ≡ callers → Holds known new.registers → Arrives program spots new place
+    arrive : (place : Option ℕ) (pc : ℤ) (callers : List ℕ) (known : List (Option ℕ)) → IsSpotThere spots place pc callers known
+        → pos new.pc ≡ pc → backs new.memory.frames.callers ≡ callers → IsKnownOf known new.registers → Arrives program spots new place
     arrive place pc callers known there here back h =
         let q = there.1 in
         let same : pos new.pc ≡ pos q.pc = here ∙ sym there.4.here in (
@@ -171,20 +171,20 @@ module _ (program : Loaded) (p : Spot) (old : Cpu) (at : Stands program p old) w
         )
 
     -- the same callers, and the next pc
-    on : (made : Cpu) (k : ℕ) (known : List (Option ℕ)) → new ≡ made → made.pc ≡ old.pc + k → made.memory.frames.callers ≡ old.memory.frames.callers → Holds known made.registers
-        → IsThere spots p.next (pos (p.pc + k)) p.callers.items known → Arrives program spots new p.next
+    on : (made : Cpu) (k : ℕ) (known : List (Option ℕ)) → new ≡ made → made.pc ≡ old.pc + k → made.memory.frames.callers ≡ old.memory.frames.callers → IsKnownOf known made.registers
+        → IsSpotThere spots p.next (pos (p.pc + k)) p.callers.items known → Arrives program spots new p.next
     on made k known e here callers h there =
         let pc : new.pc ≡ p.pc + k = ap (λ (c : Cpu). c.pc) e ∙ (here ∙ ap (λ (x : ℕ). x + k) at.here) in
         let back : backs new.memory.frames.callers ≡ p.callers.items = ap (λ (c : Cpu). backs c.memory.frames.callers) e ∙ (ap backs callers ∙ at.back) in
-        arrive p.next (pos (p.pc + k)) p.callers.items known there (ap pos pc) back (subst (λ (c : Cpu). Holds known c.registers) (sym e) h)
+        arrive p.next (pos (p.pc + k)) p.callers.items known there (ap pos pc) back (subst (λ (c : Cpu). IsKnownOf known c.registers) (sym e) h)
 
-    jumped : (by : ℤ) → IsThere spots p.jump (target p.pc by) p.callers.items p.known → Jumps old by new → Arrives program spots new p.jump
+    jumped : (by : ℤ) → IsSpotThere spots p.jump (target p.pc by) p.callers.items p.known → Jumps old by new → Arrives program spots new p.jump
     jumped by there jumps =
         let here : pos new.pc ≡ target p.pc by = ap (λ (c : Cpu). pos c.pc) jumps.2 ∙ (jumps.1 ∙ ap (λ (x : ℕ). target x by) at.here) in
         let back : backs new.memory.frames.callers ≡ p.callers.items = ap (λ (c : Cpu). backs c.memory.frames.callers) jumps.2 ∙ at.back in
-        arrive p.jump (target p.pc by) p.callers.items p.known there here back (subst (λ (c : Cpu). Holds p.known c.registers) (sym jumps.2) at.known)
+        arrive p.jump (target p.pc by) p.callers.items p.known there here back (subst (λ (c : Cpu). IsKnownOf p.known c.registers) (sym jumps.2) at.known)
 
-    branched : (by : ℤ) (b : Bool) → (b ≡ true → IsThere spots p.jump (target p.pc by) p.callers.items p.known) → (b ≡ false → IsThere spots p.next (pos (p.pc + 1)) p.callers.items p.known) → JumpsIf b old by new → Comes program spots p new
+    branched : (by : ℤ) (b : Bool) → (b ≡ true → IsSpotThere spots p.jump (target p.pc by) p.callers.items p.known) → (b ≡ false → IsSpotThere spots p.next (pos (p.pc + 1)) p.callers.items p.known) → JumpsIf b old by new → Comes program spots p new
     branched by true jump next jumps = inr (jumped by (jump refl) jumps)
     branched by false jump next e = inl (on _ 1 p.known e refl refl at.known (next refl))
 
@@ -192,7 +192,7 @@ module _ (program : Loaded) (p : Spot) (old : Cpu) (at : Stands program p old) w
     maybe w c d s b e x y left right =
         ap (λ (k : ℕ). holds w c k y) (sym (knows d x left)) ∙ (ap (holds w c (value old d)) (sym (knows_operand s y right)) ∙ e)
 
-    called : (by : ℤ) → (max_frames ≤ length p.callers.items + 1) ⊎ IsThere spots p.jump (target p.pc by) (p.callers.items ++ (p.pc + 1) ∷ []) p.known → CallsLocal by old On new → Comes program spots p new
+    called : (by : ℤ) → (max_frames ≤ length p.callers.items + 1) ⊎ IsSpotThere spots p.jump (target p.pc by) (p.callers.items ++ (p.pc + 1) ∷ []) p.known → CallsLocal by old On new → Comes program spots p new
     called by there (inl full) = absurd (let no : On ≡ Done _ = full.1.0 in cc)
     called by (inl deepest) (inr call) = absurd (omega (arith, deepest, call.0, deep))
     called by (inr there) (inr call) =
@@ -202,16 +202,16 @@ module _ (program : Loaded) (p : Spot) (old : Cpu) (at : Stands program p old) w
         map_push (λ (c : Caller). c.return_pc) old.memory.frames.callers (caller_of old)
         ∙ (ap (λ (xs : List ℕ). xs ++ (old.pc + 1) ∷ []) at.back ∙ ap (λ (x : ℕ). p.callers.items ++ (x + 1) ∷ []) at.here) in
         let back : backs new.memory.frames.callers ≡ p.callers.items ++ (p.pc + 1) ∷ [] = ap (λ (c : Cpu). backs c.memory.frames.callers) jumps.2 ∙ pushed in
-        inr (arrive p.jump (target p.pc by) (p.callers.items ++ (p.pc + 1) ∷ []) p.known there here back (subst (λ (c : Cpu). Holds p.known c.registers) (sym jumps.2) (top_holds p.known old.registers _ at.known)))
+        inr (arrive p.jump (target p.pc by) (p.callers.items ++ (p.pc + 1) ∷ []) p.known there here back (subst (λ (c : Cpu). IsKnownOf p.known c.registers) (sym jumps.2) (top_holds p.known old.registers _ at.known)))
 
     none_behind : (xs : List ℕ) (x : ℕ) → xs ++ x ∷ [] ≡ [] → ⊥
     none_behind [] x e = cc
     none_behind (y ∷ xs) x e = cc
 
-    nothing_holds : (registers : List ℕ) → Holds [] registers
+    nothing_holds : (registers : List ℕ) → IsKnownOf [] registers
     nothing_holds registers n x below e = absurd cc
 
-    exited : Follows spots p insn.Exit → Exits old On new → Comes program spots p new
+    exited : FollowsSpots spots p insn.Exit → Exits old On new → Comes program spots p new
     exited follows (inl ends) = absurd (let no : On ≡ Done _ = ends.1 in cc)
     exited follows (inr exit) =
         let others = exit.0 in
@@ -227,35 +227,35 @@ module _ (program : Loaded) (p : Spot) (old : Cpu) (at : Stands program p old) w
         ]
 
     -- ---- rows that no store sees
-    loaded : (size : Size) (reading : ℕ → ℕ) (d : Reg) (a : ℕ) (there : IsThere spots p.next (pos (p.pc + 1)) p.callers.items (slice_set p.known (register_number d) None)) → Loads size reading d a old On new → Comes program spots p new
+    loaded : (size : Size) (reading : ℕ → ℕ) (d : Reg) (a : ℕ) (there : IsSpotThere spots p.next (pos (p.pc + 1)) p.callers.items (slice_set p.known (register_number d) None)) → Loads size reading d a old On new → Comes program spots p new
     loaded size reading d a there (inl out) = absurd (let no : On ≡ Done _ = out.1.0 in cc)
     loaded size reading d a there (inr row) = inl (on _ 1 _ row.3 refl refl (forget_holds p.known old.registers (register_number d) _ at.known) there)
 
-    stored : (size : Size) (a x : ℕ) → IsThere spots p.next (pos (p.pc + 1)) p.callers.items p.known → Stores size a x old On new → Comes program spots p new
+    stored : (size : Size) (a x : ℕ) → IsSpotThere spots p.next (pos (p.pc + 1)) p.callers.items p.known → Stores size a x old On new → Comes program spots p new
     stored size a x there (inl out) = absurd (let no : On ≡ Done _ = out.1.0 in cc)
     stored size a x there (inr row) = inl (on _ 1 _ row.2.2 refl row.2.1.callers at.known there)
 
-    operated : (w : Width) (op : AtomicOp) (s : Reg) (a : ℕ) → IsThere spots p.next (pos (p.pc + 1)) p.callers.items (forgetting (fetched_into op s) p.known) → Atomics w op s a old On new → Comes program spots p new
+    operated : (w : Width) (op : AtomicOp) (s : Reg) (a : ℕ) → IsSpotThere spots p.next (pos (p.pc + 1)) p.callers.items (forgetting (fetched_into op s) p.known) → Atomics w op s a old On new → Comes program spots p new
     operated w op s a there (inl out) = absurd (let no : On ≡ Done _ = out.1.0 in cc)
     operated w op s a there (inr (inl odd)) = absurd (let no : On ≡ Done _ = odd.2.0 in cc)
     operated w op s a there (inr (inr row)) = inl (on _ 1 _ row.4.2 refl row.4.1.callers (fetch_holds p.known old.registers (fetched_into op s) row.0 at.known) there)
 
-    put : (d : Reg) (x k : ℕ) (known : List (Option ℕ)) → known ≡ slice_set p.known (register_number d) None → new ≡ with_register old d x (old.pc + k) → IsThere spots p.next (pos (p.pc + k)) p.callers.items known → Comes program spots p new
+    put : (d : Reg) (x k : ℕ) (known : List (Option ℕ)) → known ≡ slice_set p.known (register_number d) None → new ≡ with_register old d x (old.pc + k) → IsSpotThere spots p.next (pos (p.pc + k)) p.callers.items known → Comes program spots p new
     put d x k known e made there =
-        inl (on _ k known made refl refl (subst (λ (ks : List (Option ℕ)). Holds ks (slice_set old.registers (register_number d) x)) (sym e) (forget_holds p.known old.registers (register_number d) x at.known)) there)
+        inl (on _ k known made refl refl (subst (λ (ks : List (Option ℕ)). IsKnownOf ks (slice_set old.registers (register_number d) x)) (sym e) (forget_holds p.known old.registers (register_number d) x at.known)) there)
 
-    put_known : (d : Reg) (x k : ℕ) (known : List (Option ℕ)) → known ≡ slice_set p.known (register_number d) (Some x) → new ≡ with_register old d x (old.pc + k) → IsThere spots p.next (pos (p.pc + k)) p.callers.items known → Comes program spots p new
+    put_known : (d : Reg) (x k : ℕ) (known : List (Option ℕ)) → known ≡ slice_set p.known (register_number d) (Some x) → new ≡ with_register old d x (old.pc + k) → IsSpotThere spots p.next (pos (p.pc + k)) p.callers.items known → Comes program spots p new
     put_known d x k known e made there =
-        inl (on _ k known made refl refl (subst (λ (ks : List (Option ℕ)). Holds ks (slice_set old.registers (register_number d) x)) (sym e) (set_holds p.known old.registers (register_number d) x long at.known)) there)
+        inl (on _ k known made refl refl (subst (λ (ks : List (Option ℕ)). IsKnownOf ks (slice_set old.registers (register_number d) x)) (sym e) (set_holds p.known old.registers (register_number d) x long at.known)) there)
 
     abbrev Leads : ℕ → List (Option ℕ) → Type 0
-    Leads k known = IsThere spots p.next (pos (p.pc + k)) p.callers.items known
+    Leads k known = IsSpotThere spots p.next (pos (p.pc + k)) p.callers.items known
 
-    quiet : (i : Insn) → Follows spots p i → Quiet i old On new → Comes program spots p new
+    quiet : (i : Insn) → FollowsSpots spots p i → Quiet i old On new → Comes program spots p new
     quiet (insn.Alu w op d (Immediate n)) (known, (x, is, e), there) row =
-        inl (on _ 1 known row.1 refl refl (subst (λ (ks : List (Option ℕ)). Holds ks (slice_set old.registers (register_number d) (arithmetic w op (value old d) (operand_value old (Immediate n))))) (sym e) (operation_holds w op d (Immediate n) x is)) there)
+        inl (on _ 1 known row.1 refl refl (subst (λ (ks : List (Option ℕ)). IsKnownOf ks (slice_set old.registers (register_number d) (arithmetic w op (value old d) (operand_value old (Immediate n))))) (sym e) (operation_holds w op d (Immediate n) x is)) there)
     quiet (insn.Alu w op d (Register r)) (known, (x, is, e), there) row =
-        inl (on _ 1 known row.1 refl refl (subst (λ (ks : List (Option ℕ)). Holds ks (slice_set old.registers (register_number d) (arithmetic w op (value old d) (operand_value old (Register r))))) (sym e) (operation_holds w op d (Register r) x is)) there)
+        inl (on _ 1 known row.1 refl refl (subst (λ (ks : List (Option ℕ)). IsKnownOf ks (slice_set old.registers (register_number d) (arithmetic w op (value old d) (operand_value old (Register r))))) (sym e) (operation_holds w op d (Register r) x is)) there)
     quiet (insn.Negate w d) (known, e, there) row = put d _ 1 known e row.1 there
     quiet (insn.SignExtend x d s) (known, e, there) row = put d _ 1 known e row.1 there
     quiet (insn.SwapBytes k w d) (known, e, there) row = put d _ 1 known e row.1 there
@@ -276,34 +276,34 @@ module _ (program : Loaded) (p : Spot) (old : Cpu) (at : Stands program p old) w
     quiet (insn.Atomic w op b o s) (known, e, there) row = operated w op s (effective_address old b o) (subst (Leads 1) e there) row
 
     -- ---- accesses to held values
-    value_loaded : (z : Size) (reading : ℕ → ℕ) (d : Reg) (a : ℕ) (events : List Event) → Leads 1 (slice_set p.known (register_number d) None) → LoadsValue z reading d a old events On new → Comes program spots p new
-    value_loaded z reading d a events there (inl odd) = absurd (let no : On ≡ Done _ = odd.2.0 in cc)
-    value_loaded z reading d a events there (inr row) = inl (on _ 1 _ row.1.3 refl refl (forget_holds p.known old.registers (register_number d) _ at.known) there)
+    value_loaded : (shape : Shape) (z : Size) (reading : ℕ → ℕ) (d : Reg) (a : ℕ) (events : List Event) → Leads 1 (slice_set p.known (register_number d) None) → LoadsValue shape z reading d a old events On new → Comes program spots p new
+    value_loaded shape z reading d a events there (inl odd) = absurd (let no : On ≡ Done _ = odd.3.0 in cc)
+    value_loaded shape z reading d a events there (inr row) = inl (on _ 1 _ row.1.3 refl refl (forget_holds p.known old.registers (register_number d) _ at.known) there)
 
-    value_stored : (z : Size) (a x : ℕ) (events : List Event) → Leads 1 p.known → StoresValue z a x old events On new → Comes program spots p new
-    value_stored z a x events there (inl odd) = absurd (let no : On ≡ Done _ = odd.2.0 in cc)
-    value_stored z a x events there (inr row) = inl (on _ 1 _ row.3 refl refl at.known there)
+    value_stored : (shape : Shape) (z : Size) (a x : ℕ) (events : List Event) → Leads 1 p.known → StoresValue shape z a x old events On new → Comes program spots p new
+    value_stored shape z a x events there (inl odd) = absurd (let no : On ≡ Done _ = odd.3.0 in cc)
+    value_stored shape z a x events there (inr row) = inl (on _ 1 _ row.3 refl refl at.known there)
 
-    value_changed : (w : Width) (op : AtomicOp) (s : Reg) (a : ℕ) (events : List Event) → Leads 1 (forgetting (fetched_into op s) p.known) → ChangesValue w op s a old events On new → Comes program spots p new
-    value_changed w op s a events there (inl odd) = absurd (let no : On ≡ Done _ = odd.2.0 in cc)
-    value_changed w op s a events there (inr row) = inl (on _ 1 _ row.1.3 refl refl (fetch_holds p.known old.registers (fetched_into op s) row.1.0 at.known) there)
+    value_changed : (shape : Shape) (w : Width) (op : AtomicOp) (s : Reg) (a : ℕ) (events : List Event) → Leads 1 (forgetting (fetched_into op s) p.known) → ChangesValue shape w op s a old events On new → Comes program spots p new
+    value_changed shape w op s a events there (inl odd) = absurd (let no : On ≡ Done _ = odd.3.0 in cc)
+    value_changed shape w op s a events there (inr row) = inl (on _ 1 _ row.1.3 refl refl (fetch_holds p.known old.registers (fetched_into op s) row.1.0 at.known) there)
 
-    asked : (i : Insn) (events : List Event) → Follows spots p i → AsksValue i old events On new → Comes program spots p new
-    asked (insn.Load z d b o) events (known, e, there) row = value_loaded z (λ x. x) d (effective_address old b o) events (subst (Leads 1) e there) row
-    asked (insn.LoadSigned z d b o) events (known, e, there) row = value_loaded (plain_size z) (sign_extended (extension_of z)) d (effective_address old b o) events (subst (Leads 1) e there) row
-    asked (insn.StoreImmediate z b o n) events (known, e, there) row = value_stored z (effective_address old b o) (cast_unsigned w64 n) events (subst (Leads 1) e there) row
-    asked (insn.Store z b o s) events (known, e, there) row = value_stored z (effective_address old b o) (value old s) events (subst (Leads 1) e there) row
-    asked (insn.Atomic w op b o s) events (known, e, there) row = value_changed w op s (effective_address old b o) events (subst (Leads 1) e there) row
-    asked _ events follows row = absurd row
+    asked : (shape : Shape) (i : Insn) (events : List Event) → FollowsSpots spots p i → AsksValue shape i old events On new → Comes program spots p new
+    asked shape (insn.Load z d b o) events (known, e, there) row = value_loaded shape z (λ x. x) d (effective_address old b o) events (subst (Leads 1) e there) row
+    asked shape (insn.LoadSigned z d b o) events (known, e, there) row = value_loaded shape (plain_size z) (sign_extended (extension_of z)) d (effective_address old b o) events (subst (Leads 1) e there) row
+    asked shape (insn.StoreImmediate z b o n) events (known, e, there) row = value_stored shape z (effective_address old b o) (cast_unsigned w64 n) events (subst (Leads 1) e there) row
+    asked shape (insn.Store z b o s) events (known, e, there) row = value_stored shape z (effective_address old b o) (value old s) events (subst (Leads 1) e there) row
+    asked shape (insn.Atomic w op b o s) events (known, e, there) row = value_changed shape w op s (effective_address old b o) events (subst (Leads 1) e there) row
+    asked shape _ events follows row = absurd row
 
     -- ---- a helper's call
-    taken : (result : Result ℕ HelperFault) (held : List Span) (n : ℕ) → Follows spots p (insn.CallHelper n) → TakesResult result held old On new → Comes program spots p new
+    taken : (result : Result ℕ HelperFault) (held : List Span) (n : ℕ) → FollowsSpots spots p (insn.CallHelper n) → TakesResult result held old On new → Comes program spots p new
     taken (Ok x) held n (known, e, there) row =
-        inl (on _ 1 known row.1 refl refl (subst (λ (ks : List (Option ℕ)). Holds ks (slice_set (with_arguments_cleared old.registers) 0 x)) (sym e) (helper_holds p.known old.registers x at.known)) there)
+        inl (on _ 1 known row.1 refl refl (subst (λ (ks : List (Option ℕ)). IsKnownOf ks (slice_set (with_arguments_cleared old.registers) 0 x)) (sym e) (helper_holds p.known old.registers x at.known)) there)
     taken (Err fault) held n follows row = absurd (let no : On ≡ Done _ = row.0 in cc)
 
     -- after a step that goes on the CPU is at a spot that comes next
-    pub comes : (shapes : List MapShape) (i : Insn) (events : List Event) → Follows spots p i → Executes shapes i old events On new → Comes program spots p new
-    comes shapes i events follows (inl row) = quiet i follows row.2
-    comes shapes i events follows (inr (inl call)) = taken call.2.0 call.2.1 call.0 (subst (Follows spots p) call.1 follows) call.2.3
-    comes shapes i events follows (inr (inr row)) = asked i events follows row.1
+    pub comes : (shape : Shape) (i : Insn) (events : List Event) → FollowsSpots spots p i → Executes shape i old events On new → Comes program spots p new
+    comes shape i events follows (inl row) = quiet i follows row.2
+    comes shape i events follows (inr (inl call)) = taken call.2.0 call.2.1 call.0 (subst (FollowsSpots spots p) call.1 follows) call.2.3
+    comes shape i events follows (inr (inr row)) = asked shape i events follows row.1

@@ -29,13 +29,13 @@ use Rattle.bpf_threads.specs.declared.spot.Spot.{Spot}
 -- ---- what is known of registers
 
 -- what is known of R0 to R9 is so of these registers
-abbrev pub Holds : List (Option ℕ) → List ℕ → Type 0
-Holds known registers = (n x : ℕ) → n < 10 → slice_get known n ≡ Some (Some x)
+abbrev pub IsKnownOf : List (Option ℕ) → List ℕ → Type 0
+IsKnownOf known registers = (n x : ℕ) → n < 10 → slice_get known n ≡ Some (Some x)
     → slice_index registers n ≡ x
 
 -- no more is known than there
-abbrev pub Agrees : List (Option ℕ) → List (Option ℕ) → Type 0
-Agrees known there = (n x : ℕ) → n < 10 → slice_get known n ≡ Some (Some x)
+abbrev pub KnowsNoMore : List (Option ℕ) → List (Option ℕ) → Type 0
+KnowsNoMore known there = (n x : ℕ) → n < 10 → slice_get known n ≡ Some (Some x)
     → slice_get there n ≡ Some (Some x)
 
 -- at this spot the register holds this number: R10 has the end of the newest frame
@@ -55,8 +55,8 @@ forgetting None known = known
 forgetting (Some d) known = slice_set known (register_number d) None
 
 -- nor is of R0 to R5 after a helper
-abbrev pub after_helper : List (Option ℕ) → List (Option ℕ)
-after_helper known =
+abbrev pub known_after_helper : List (Option ℕ) → List (Option ℕ)
+known_after_helper known =
     slice_set (slice_set (slice_set (slice_set (slice_set (slice_set known 1 None) 2 None) 3 None)
     4 None) 5 None) 0 None
 
@@ -82,7 +82,7 @@ IsAfter p (insn.Alu w op d s) known =
 IsAfter p (insn.LoadNumber d n) known = known ≡ slice_set p.known (register_number d) (Some n)
 IsAfter p (insn.LoadMap d m) known =
     known ≡ slice_set p.known (register_number d) (Some (map_value m))
-IsAfter p (insn.CallHelper n) known = known ≡ after_helper p.known
+IsAfter p (insn.CallHelper n) known = known ≡ known_after_helper p.known
 IsAfter p i known = known ≡ forgetting (destination i) p.known
 
 -- ---- where runs go
@@ -91,11 +91,11 @@ IsAfter p i known = known ≡ forgetting (destination i) p.known
 pub record IsSpotAt (pc : ℤ) (callers : List ℕ) (known : List (Option ℕ)) (q : Spot) : Type 0 where
   pub here : pos q.pc ≡ pc
   pub back : q.callers.items ≡ callers
-  pub less : Agrees q.known known
+  pub less : KnowsNoMore q.known known
 
 -- the spot of this number is one
-abbrev pub IsThere : List Spot → Option ℕ → ℤ → List ℕ → List (Option ℕ) → Type 0
-IsThere spots place pc callers known = (j : ℕ) × (q : Spot) × (place ≡ Some j)
+abbrev pub IsSpotThere : List Spot → Option ℕ → ℤ → List ℕ → List (Option ℕ) → Type 0
+IsSpotThere spots place pc callers known = (j : ℕ) × (q : Spot) × (place ≡ Some j)
     × (slice_get spots j ≡ Some q) × IsSpotAt pc callers known q
 
 -- what is known doesn't say that the condition holds otherwise
@@ -103,36 +103,36 @@ abbrev pub MayBe : Spot → Width → Condition → Reg → Operand → Bool →
 MayBe p w c d s taken = (x y : ℕ) → Knows p d x → KnowsOperand p s y → holds w c x y ≡ taken
 
 -- from this spot, where this instruction is, each step that goes on leads to a spot
-abbrev pub Follows : List Spot → Spot → Insn → Type 0
-Follows spots p insn.Exit =
+abbrev pub FollowsSpots : List Spot → Spot → Insn → Type 0
+FollowsSpots spots p insn.Exit =
     (p.callers.items ≡ [])
     ⊎ ((others : List ℕ) × (back : ℕ) × (p.callers.items ≡ others ++ back ∷ [])
-    × IsThere spots p.next (pos back) others [])
-Follows spots p (insn.CallLocal by) =
+    × IsSpotThere spots p.next (pos back) others [])
+FollowsSpots spots p (insn.CallLocal by) =
     (max_frames ≤ length p.callers.items + 1)
-    ⊎ IsThere spots p.jump (target p.pc by) (p.callers.items ++ (p.pc + 1) ∷ []) p.known
-Follows spots p (insn.Jump by) = IsThere spots p.jump (target p.pc by) p.callers.items p.known
-Follows spots p (insn.JumpLong by) = IsThere spots p.jump (target p.pc by) p.callers.items p.known
-Follows spots p (insn.JumpIf w c d s by) =
-    (MayBe p w c d s true → IsThere spots p.jump (target p.pc by) p.callers.items p.known)
-    × (MayBe p w c d s false → IsThere spots p.next (pos (p.pc + 1)) p.callers.items p.known)
-Follows spots p i = (known : List (Option ℕ)) × IsAfter p i known
-    × IsThere spots p.next (pos (p.pc + words i)) p.callers.items known
+    ⊎ IsSpotThere spots p.jump (target p.pc by) (p.callers.items ++ (p.pc + 1) ∷ []) p.known
+FollowsSpots spots p (insn.Jump by) = IsSpotThere spots p.jump (target p.pc by) p.callers.items p.known
+FollowsSpots spots p (insn.JumpLong by) = IsSpotThere spots p.jump (target p.pc by) p.callers.items p.known
+FollowsSpots spots p (insn.JumpIf w c d s by) =
+    (MayBe p w c d s true → IsSpotThere spots p.jump (target p.pc by) p.callers.items p.known)
+    × (MayBe p w c d s false → IsSpotThere spots p.next (pos (p.pc + 1)) p.callers.items p.known)
+FollowsSpots spots p i = (known : List (Option ℕ)) × IsAfter p i known
+    × IsSpotThere spots p.next (pos (p.pc + words i)) p.callers.items known
 
 -- an instruction of the program is there, from which it is so
-pub record IsSpot (program : Loaded) (spots : List Spot) (p : Spot) : Type 0 where
+pub record IsCharted (program : Loaded) (spots : List Spot) (p : Spot) : Type 0 where
   pub instruction : Insn
   pub begins : Begins program.instructions p.pc instruction
-  pub safe : IsSafe program.maps program.instructions p.pc instruction
-  pub follows : Follows spots p instruction
+  pub safe : IsSafe program.named program.instructions p.pc instruction
+  pub follows : FollowsSpots spots p instruction
 
 -- runs begin at this spot
-pub record IsFirst (p : Spot) : Type 0 where
+pub record IsFirstSpot (p : Spot) : Type 0 where
   pub here : p.pc ≡ 0
   pub back : p.callers.items ≡ []
-  pub known : Holds p.known (start 0 []).registers
+  pub known : IsKnownOf p.known (start 0 []).registers
 
 -- the spots, of which runs begin at the first
 pub record IsChart (program : Loaded) (spots : List Spot) : Type 0 where
-  pub each : (i : ℕ) (p : Spot) → slice_get spots i ≡ Some p → IsSpot program spots p
-  pub first : (p : Spot) × (slice_get spots 0 ≡ Some p) × IsFirst p
+  pub each : (i : ℕ) (p : Spot) → slice_get spots i ≡ Some p → IsCharted program spots p
+  pub first : (p : Spot) × (slice_get spots 0 ≡ Some p) × IsFirstSpot p

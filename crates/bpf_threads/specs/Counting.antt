@@ -1,10 +1,10 @@
 -- How many events of a kind a program's run has at most.
 use Rattle.std.specs.Prelude.{◌≡◌, ℕ, ◌+◌, ◌≤◌, ◌==◌, Bool, true, false, not, ◌&&◌, ◌||◌, if◌then◌else◌, List, [], ◌∷◌, Option, Some, None, slice_get}
+use Rattle.bpf_shared.specs.Shape.{Shape}
 use Rattle.bpf_insn.specs.declared.instruction.Insn.{Insn}
 use Rattle.bpf_insn.specs.declared.instruction.Insn.TheVariants.{CallHelper}
 use Rattle.bpf_shared.specs.declared.events.Event.{Event}
 use Rattle.bpf_shared.specs.declared.events.Event.TheVariants.{Update, Delete}
-use Rattle.bpf_shared.specs.declared.shapes.MapShape.{MapShape}
 use Rattle.bpf_loader.specs.Loaded.{Loaded}
 use Rattle.bpf_loader.specs.Places.{Begins}
 use Rattle.bpf_helpers.specs.Calls.{update_number, delete_number, map_value}
@@ -37,19 +37,19 @@ abbrev pub one_if : Bool → ℕ
 one_if b = if b then 1 else 0
 
 -- how many of these are
-abbrev pub count_of : Counted → List Event → ℕ
-count_of q [] = 0
-count_of q (e ∷ es) = one_if (is_counted q.kind e q.map) + count_of q es
+abbrev pub how_many : Counted → List Event → ℕ
+how_many q [] = 0
+how_many q (e ∷ es) = one_if (is_counted q.kind e q.map) + how_many q es
 
 -- ---- runs
 
 -- however a store answers, a run of the program has at most n
 abbrev pub HasAtMost : Counted → Loaded → ℕ → Type 0
 HasAtMost q program most =
-    (shapes : List MapShape) (number steps : ℕ) (context : List ℕ) (events : List Event)
+    (shape : Shape) (number steps : ℕ) (context : List ℕ) (events : List Event)
     (end : Outcome) (last : Cpu)
-    → MakesSteps shapes program steps (start number context) events end last
-    → count_of q events ≤ most
+    → MakesSteps shape program steps (start number context) events end last
+    → how_many q events ≤ most
 
 -- so it is of each program that has a number here
 abbrev pub AreBounds : Counted → List Loaded → List (Option ℕ) → Type 0
@@ -117,9 +117,9 @@ FallsFrom q program p most n = (insn : Insn) → Begins program.instructions p.p
     → FallsBy p most (weight q p insn) n
 
 -- each number is at least that of each spot that comes next with what the spot itself has
-abbrev pub Falls : Counted → Loaded → List Spot → List (Option ℕ) → ℕ → Type 0
-Falls q program spots most i = (p : Spot) (n : ℕ) → slice_get spots i ≡ Some p → HasNumber most i n
+abbrev pub FallsAlong : Counted → Loaded → List Spot → List (Option ℕ) → ℕ → Type 0
+FallsAlong q program spots most i = (p : Spot) (n : ℕ) → slice_get spots i ≡ Some p → HasNumber most i n
     → FallsFrom q program p most n
 
-abbrev pub AreNumbers : Counted → Loaded → List Spot → List (Option ℕ) → Type 0
-AreNumbers q program spots most = (i : ℕ) → Falls q program spots most i
+abbrev pub AreAllBounds : Counted → Loaded → List Spot → List (Option ℕ) → Type 0
+AreAllBounds q program spots most = (i : ℕ) → FallsAlong q program spots most i

@@ -2,7 +2,7 @@
 ghost use Rattle.std.specs.Prelude.{◌≡◌, IfSome, slice_set};
 ghost use Rattle.bpf_insn.specs.Register.{register_number};
 ghost use Rattle.bpf_insn.specs.declared.instruction.Insn.{Insn};
-ghost use Rattle.bpf_threads.specs.Chart.{IsAfter, IsResult, after_helper, forgetting, goes_straight};
+ghost use Rattle.bpf_threads.specs.Chart.{IsAfter, IsResult, known_after_helper, forgetting, goes_straight};
 
 use crate::spot::Spot;
 use bpf_alu::{alu32, alu64};
@@ -47,8 +47,8 @@ fn without(known: Known, register: Option<Reg>) -> Known
 }
 
 /// Nothing is known of R0 to R5 after a helper.
-fn after_helper(known: Known) -> Known
-    ensures { result ≡ after_helper known }
+fn known_after_helper(known: Known) -> Known
+    ensures { result ≡ known_after_helper known }
 {
     let mut known = known;
     known[1] = None;
@@ -74,7 +74,7 @@ pub(crate) fn after(spot: &Spot, insn: Insn) -> Known
         } => with(spot.known, dst, value_of(spot, width, op, dst, src)),
         Insn::LoadNumber { dst, number } => with(spot.known, dst, Some(number)),
         Insn::LoadMap { dst, map } => with(spot.known, dst, Some(MAPS + u64::from(map))),
-        Insn::CallHelper { .. } => after_helper(spot.known),
+        Insn::CallHelper { .. } => known_after_helper(spot.known),
         Insn::Negate { dst, .. }
         | Insn::SignExtend { dst, .. }
         | Insn::SwapBytes { dst, .. }

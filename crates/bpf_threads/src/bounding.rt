@@ -1,7 +1,7 @@
 //! Bounds on what is counted of a program's runs.
 ghost use Rattle.std.specs.Prelude.{◌≡◌, ◌<◌, ℕ, IsTrue, IfOk, IfSome, Some, length, slice_get};
 ghost use Rattle.bpf_threads.specs.Chart.{IsChart};
-ghost use Rattle.bpf_threads.specs.Counting.{AreNumbers, Falls, FallsBy, FallsFrom, HasAtMost, HasNumber, LeavesEnough, known_in, weight};
+ghost use Rattle.bpf_threads.specs.Counting.{AreAllBounds, FallsAlong, FallsBy, FallsFrom, HasAtMost, HasNumber, LeavesEnough, known_in, weight};
 
 use crate::counting::{Counted, weight};
 use crate::spot::{Spot, spot_at};
@@ -148,7 +148,7 @@ fn falls(
     place: usize,
 ) -> bool
     requires { place < length spots.now }
-    ensures { IsTrue result → Falls counted program.now spots.now most.now place }
+    ensures { IsTrue result → FallsAlong counted program.now spots.now most.now place }
 {
     let number = number_at(most, place);
     may_fall(program, spot_at(spots, place), most, counted, number)
@@ -156,7 +156,7 @@ fn falls(
 
 /// Whether it is so of each spot.
 fn all_fall(program: &Program, spots: &[Spot], most: &[Option<u64>], counted: Counted) -> bool
-    ensures { IsTrue result → AreNumbers counted program.now spots.now most.now }
+    ensures { IsTrue result → AreAllBounds counted program.now spots.now most.now }
 {
     for place in 0..spots.len() {
         if !falls(program, spots, most, counted, place) {

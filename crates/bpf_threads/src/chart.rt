@@ -1,7 +1,7 @@
 //! Charts of programs: whether a list of spots has all that a run may reach.
 ghost use Rattle.std.specs.Prelude.{◌≡◌, ◌<◌, IsTrue, IfOk, [], length, slice_index};
 ghost use Rattle.bpf_cpu.specs.State.{start};
-ghost use Rattle.bpf_threads.specs.Chart.{IsChart, IsFirst, IsSpot};
+ghost use Rattle.bpf_threads.specs.Chart.{IsChart, IsFirstSpot, IsCharted};
 ghost use Rattle.bpf_threads.specs.Private.Charts.{Begin, IsChartOf, IsSpotFrom};
 
 use crate::drawing::{Care, draw};
@@ -13,7 +13,7 @@ use std::alloc::{AllocError, Global};
 
 /// Whether an instruction is there, from which each step leads to a spot.
 fn is_spot(program: &Program, spots: &[Spot], spot: &Spot) -> bool
-    ensures { IsTrue result → IsSpot program.now spots.now spot.now }
+    ensures { IsTrue result → IsCharted program.now spots.now spot.now }
 {
     if !program.is_start(spot.pc) {
         return false;
@@ -39,7 +39,7 @@ fn first_number(register: usize) -> u64
 
 /// Whether runs may begin at a spot.
 fn is_first(spot: &Spot) -> bool
-    ensures { IsTrue result → IsFirst spot.now }
+    ensures { IsTrue result → IsFirstSpot spot.now }
 {
     if spot.pc != 0 || !spot.callers.is_empty() {
         return false;

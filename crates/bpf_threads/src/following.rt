@@ -1,7 +1,7 @@
 //! Whether each step from a spot leads to a spot of the list.
 ghost use Rattle.std.specs.Prelude.{◌≡◌, ◌+◌, ◌<◌, ℕ, pos, true, false, IsTrue, IfSome, Some, Bool, length, slice_get, ◌++◌, ◌∷◌, []};
 ghost use Rattle.bpf_loader.specs.Places.{target};
-ghost use Rattle.bpf_threads.specs.Chart.{Agrees, Follows, IsSpotAt, IsThere, MayBe, goes_straight};
+ghost use Rattle.bpf_threads.specs.Chart.{KnowsNoMore, FollowsSpots, IsSpotAt, IsSpotThere, MayBe, goes_straight};
 
 use crate::after::{Known, after};
 use crate::spot::{Spot, spot_at};
@@ -11,7 +11,7 @@ use bpf_mem::frames::MAX_FRAMES;
 
 /// Whether no more is known than there.
 pub(crate) fn agrees(known: &Known, there: &Known) -> bool
-    ensures { IsTrue result → Agrees known.now there.now }
+    ensures { IsTrue result → KnowsNoMore known.now there.now }
 {
     for register in 0..10 {
         if let Some(number) = known[register]
@@ -38,7 +38,7 @@ fn stands(spot: &Spot, pc: i64, callers: &[u32], known: &Known) -> bool
 
 /// Whether the spot of a number does.
 fn is_there(spots: &[Spot], place: Option<usize>, pc: i64, callers: &[u32], known: &Known) -> bool
-    ensures { IsTrue result → IsThere spots.now place pc callers.now known.now }
+    ensures { IsTrue result → IsSpotThere spots.now place pc callers.now known.now }
 {
     let Some(place) = place else {
         return false;
@@ -66,7 +66,7 @@ fn further(pc: u32, words: u32) -> i64
 
 /// Whether a jump leads to a spot.
 fn jumps(spots: &[Spot], spot: &Spot, by: i32) -> bool
-    ensures { IsTrue result → IsThere spots.now spot.now.jump (target spot.now.pc by)
+    ensures { IsTrue result → IsSpotThere spots.now spot.now.jump (target spot.now.pc by)
         spot.now.callers.items spot.now.known }
 {
     let to = target(spot.pc, by);
@@ -75,7 +75,7 @@ fn jumps(spots: &[Spot], spot: &Spot, by: i32) -> bool
 
 /// Whether the next instruction is at a spot.
 fn passes(spots: &[Spot], spot: &Spot) -> bool
-    ensures { IsTrue result → IsThere spots.now spot.now.next (pos (spot.now.pc + 1))
+    ensures { IsTrue result → IsSpotThere spots.now spot.now.next (pos (spot.now.pc + 1))
         spot.now.callers.items spot.now.known }
 {
     let to = further(spot.pc, 1);
@@ -103,9 +103,9 @@ pub(crate) fn decision(
 
 /// Whether what a conditional jump may do leads to spots.
 fn branches(spots: &[Spot], spot: &Spot, by: i32, decided: Option<bool>) -> bool
-    ensures jump { IsTrue result → (decided ≡ Some false → ⊥) → IsThere spots.now spot.now.jump
+    ensures jump { IsTrue result → (decided ≡ Some false → ⊥) → IsSpotThere spots.now spot.now.jump
         (target spot.now.pc by) spot.now.callers.items spot.now.known }
-    ensures next { IsTrue result → (decided ≡ Some true → ⊥) → IsThere spots.now spot.now.next
+    ensures next { IsTrue result → (decided ≡ Some true → ⊥) → IsSpotThere spots.now spot.now.next
         (pos (spot.now.pc + 1)) spot.now.callers.items spot.now.known }
 {
     match decided {
@@ -117,7 +117,7 @@ fn branches(spots: &[Spot], spot: &Spot, by: i32, decided: Option<bool>) -> bool
 
 /// Whether nothing is known.
 fn is_blank(known: &Known) -> bool
-    ensures { IsTrue result → Agrees known.now [] }
+    ensures { IsTrue result → KnowsNoMore known.now [] }
 {
     for register in 0..10 {
         if known[register].is_some() {
@@ -154,7 +154,7 @@ fn is_entry(entry: &Spot, spot: &Spot, by: i32) -> bool
 
 /// Whether a local call leads to a spot.
 fn enters(spots: &[Spot], spot: &Spot, by: i32) -> bool
-    ensures { IsTrue result → IsThere spots.now spot.now.jump (target spot.now.pc by)
+    ensures { IsTrue result → IsSpotThere spots.now spot.now.jump (target spot.now.pc by)
         (spot.now.callers.items ++ (spot.now.pc + 1) ∷ []) spot.now.known }
 {
     let Some(place) = spot.jump else {
@@ -182,7 +182,7 @@ fn stands_blank(spot: &Spot, pc: u32, callers: &[u32]) -> bool
 
 /// Whether the spot of a number does.
 fn is_blank_there(spots: &[Spot], place: Option<usize>, pc: u32, callers: &[u32]) -> bool
-    ensures { IsTrue result → IsThere spots.now place (pos pc) callers.now [] }
+    ensures { IsTrue result → IsSpotThere spots.now place (pos pc) callers.now [] }
 {
     let Some(place) = place else {
         return false;
@@ -196,7 +196,7 @@ fn is_blank_there(spots: &[Spot], place: Option<usize>, pc: u32, callers: &[u32]
 
 /// Whether an exit leads to where the caller goes on, if there is one.
 fn returns(spots: &[Spot], spot: &Spot) -> bool
-    ensures { IsTrue result → Follows spots.now spot.now Insn.Exit }
+    ensures { IsTrue result → FollowsSpots spots.now spot.now Insn.Exit }
 {
     match spot.callers.split_last() {
         Some((back, others)) => is_blank_there(spots, spot.next, *back, others),
@@ -206,7 +206,7 @@ fn returns(spots: &[Spot], spot: &Spot) -> bool
 
 /// Whether an instruction n words further is at a spot, where no more is known than this.
 fn passes_with(spots: &[Spot], spot: &Spot, words: u32, known: &Known) -> bool
-    ensures { IsTrue result → IsThere spots.now spot.now.next (pos (spot.now.pc + words))
+    ensures { IsTrue result → IsSpotThere spots.now spot.now.next (pos (spot.now.pc + words))
         spot.now.callers.items known.now }
 {
     let to = further(spot.pc, words);
@@ -216,7 +216,7 @@ fn passes_with(spots: &[Spot], spot: &Spot, words: u32, known: &Known) -> bool
 /// Whether an instruction that goes on to the next leads to a spot.
 fn goes_on(spots: &[Spot], spot: &Spot, insn: Insn) -> bool
     requires { goes_straight insn ≡ true }
-    ensures { IsTrue result → Follows spots.now spot.now insn }
+    ensures { IsTrue result → FollowsSpots spots.now spot.now insn }
 {
     let known = after(spot, insn);
     passes_with(spots, spot, insn.words(), &known)
@@ -224,7 +224,7 @@ fn goes_on(spots: &[Spot], spot: &Spot, insn: Insn) -> bool
 
 /// Whether each step of this instruction that goes on leads to a spot.
 pub(crate) fn follows(spots: &[Spot], spot: &Spot, insn: Insn) -> bool
-    ensures { IsTrue result → Follows spots.now spot.now insn }
+    ensures { IsTrue result → FollowsSpots spots.now spot.now insn }
 {
     match insn {
         Insn::Exit => returns(spots, spot),

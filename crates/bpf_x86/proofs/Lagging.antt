@@ -2,7 +2,7 @@
 -- stores that wait in its buffer. Other CPUs' turns that touch none of their bytes are made there too.
 use Rattle.std.proofs.Common.{◌≡◌, ◌≢◌, ℕ, zero, suc, true, false, List, [], ◌∷◌, Option, Some, inl, inr, refl, sym, ap, subst, ◌∙◌}
 use Rattle.std.specs.Prelude.{slice_get, slice_set}
-use Rattle.std.proofs.lemmas.Bool.{or_right}
+use Rattle.std.proofs.lemmas.Bool.{or_right, or_cases}
 use Rattle.bpf_base.proofs.Lists.{slice_get-set_other}
 use Rattle.bpf_shared.specs.declared.events.Event.{Event}
 use Rattle.bpf_shared.specs.Store.{Plain}
@@ -18,7 +18,7 @@ use Rattle.bpf_machine.specs.Hands.{IsAt, IsFree, NoneWaitsBelow, NoneWaits, wit
 use Rattle.bpf_machine.specs.Listings.{Listing}
 use Rattle.bpf_machine.specs.Schedule.{World, Advances, RunsSchedule}
 use Rattle.bpf_machine.proofs.HeadwayLaws.{SameJobs, set_others}
-use Rattle.bpf_x86.proofs.Overlay.{hits, hits_any, one_hits}
+use Rattle.bpf_x86.proofs.Overlay.{hits, hits_any}
 use Rattle.bpf_x86.proofs.Written.{at}
 use Rattle.bpf_x86.proofs.Buffers.{IsWaiting}
 use Rattle.bpf_x86.proofs.Behind.{IsBehind, AllMiss, behind_events}
@@ -39,7 +39,7 @@ pub record IsLagging (d : ℕ) (oldest : Event) (lacking : List Event) (l w : Wo
   pub loaded : slice_get l.programs task.program ≡ Some program
   pub answer : Progress
   pub after : Cpu
-  pub step : Step l.store.shape.maps program state (oldest ∷ []) answer after
+  pub step : Step l.store.shape program state (oldest ∷ []) answer after
   pub waits : IsWaiting l.store d oldest
   pub behind : IsBehind d (oldest ∷ lacking) l.store w.store
 
@@ -59,7 +59,7 @@ HasLags first d (e ∷ es) w = HasLag first d e es w × HasLags first d es w
 pub lag_at : (first : World) (d : ℕ) (es : List Event) (w : World) (x : ℕ) → HasLags first d es w → hits_any es x ≡ true
     → (e : Event) × (rest : List Event) × HasLag first d e rest w × (hits e x ≡ true) × ((y : ℕ) → hits_any (e ∷ rest) y ≡ true → hits_any es y ≡ true)
 lag_at first d [] w x lags h = absurd (let no : false ≡ true = h in cc)
-lag_at first d (e ∷ es) w x lags h = elim (one_hits (hits e x) (hits_any es x) h) [
+lag_at first d (e ∷ es) w x lags h = elim (or_cases (hits e x) (hits_any es x) h) [
   | inl here ↦ (e, es, lags.0, here, λ y k. k)
   | inr there ↦ (let r = lag_at first d es w x lags.1 there in (r.0, r.1, r.2, r.3, λ y k. or_right (hits e y) (hits_any es y) (r.4 y k)))
 ]
@@ -94,7 +94,7 @@ module _ (d : ℕ) (e : Event) (es : List Event) (c : ℕ) (ne : c ≢ d) where
   lag_advances program l s old (suc n) end t new rest so_l so_s behind a miss =
       let r = behind_events d c ne (e ∷ es) a.0 l s t so_l so_s behind miss a.3 in
       let shape : s.shape ≡ l.shape = sym (ap (λ (z : Plain). z.shape) behind.like.same) in
-      (r.0, (a.0, a.1, subst (λ (h : Shape). Step h.maps program old a.0 a.1 new) shape a.2, r.1, a.4, a.5), r.2)
+      (r.0, (a.0, a.1, subst (λ (h : Shape). Step h program old a.0 a.1 new) shape a.2, r.1, a.4, a.5), r.2)
 
   -- the job of the CPU that lags stays as it is, and the other CPU's are the same in both
   module _ (l w : World) (lag : IsLagging d e es l w) where
@@ -152,7 +152,7 @@ module _ (d : ℕ) (e : Event) (es : List Event) (c : ℕ) (ne : c ≢ d) where
           loaded = lag.loaded;
           answer = lag.answer;
           after = lag.after;
-          step = subst (λ (h : Shape). Step h.maps lag.program lag.state (e ∷ []) lag.answer lag.after) (sym shape) lag.step;
+          step = subst (λ (h : Shape). Step h lag.program lag.state (e ∷ []) lag.answer lag.after) (sym shape) lag.step;
           waits = waits;
           behind = behind;
         }

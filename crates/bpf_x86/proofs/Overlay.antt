@@ -1,17 +1,13 @@
 -- What stores that wait make of a byte, the oldest first, and which addresses events touch.
-use Rattle.std.proofs.Common.{◌≡◌, ℕ, ◌+◌, ◌-◌, ◌<◌, ◌≤◌, nat_le, nat_lt, Bool, true, false, ◌&&◌, ◌||◌, if◌then◌else◌, List, [], ◌∷◌, ◌++◌, Option, ◌⊎◌, inl, inr, refl, ap, ◌∙◌, arith}
+use Rattle.std.proofs.Common.{◌≡◌, ℕ, ◌+◌, ◌-◌, ◌<◌, ◌≤◌, Bool, true, false, ◌||◌, if◌then◌else◌, List, [], ◌∷◌, ◌++◌, Option, ◌⊎◌, inl, inr, refl, ap, ◌∙◌, arith}
 use Rattle.std.specs.Prelude.{slice_get}
-use Rattle.std.proofs.lemmas.Bool.{or_parts, or_from, or_left, or_right}
+use Rattle.std.proofs.lemmas.Bool.{or_parts, or_from, or_left, or_right, or_cases}
 use Rattle.std.proofs.lemmas.Bool.Decides.{nat_tests}
 use Rattle.bpf_base.specs.Bytes.{low_bytes}
 use Rattle.bpf_shared.specs.Access.{bytes_in}
 use Rattle.bpf_shared.specs.declared.events.Event.{Event}
 use Rattle.bpf_shared.specs.declared.events.Event.TheVariants.{Load, Store, Atomic}
-use Rattle.bpf_shared.proofs.Puts.{true_or_false}
-
--- the address is one of the n from a on
-abbrev pub within : ℕ → ℕ → ℕ → Bool
-within a n b = nat_le a b && nat_lt b (a + n)
+use Rattle.bpf_x86.specs.Forwarding.{within, written, byte_after, overlaid}
 
 pub within_parts : (a n b : ℕ) → within a n b ≡ true → (a ≤ b) × (b < a + n)
 within_parts a n b h = (grind (arith, nat_tests), grind (arith, nat_tests))
@@ -21,10 +17,6 @@ within_from a n b h k = grind (arith, nat_tests)
 
 pub beside : (a n b : ℕ) → within a n b ≡ false → (b < a) ⊎ (a + n ≤ b)
 beside a n b h = grind (arith, nat_tests)
-
--- the byte after a store of n bytes at a
-abbrev pub written : ℕ → ℕ → ℕ → ℕ → Option ℕ → Option ℕ
-written a n x b old = if within a n b then slice_get (low_bytes n x) (b - a) else old
 
 -- the event touches the byte at this address
 abbrev pub hits : Event → ℕ → Bool
@@ -36,15 +28,6 @@ hits _ b = false
 abbrev pub hits_any : List Event → ℕ → Bool
 hits_any [] b = false
 hits_any (e ∷ es) b = hits e b || hits_any es b
-
--- the byte after a store, and after several
-abbrev pub byte_after : Event → ℕ → Option ℕ → Option ℕ
-byte_after (Store a size x) b old = written a (bytes_in size) x b old
-byte_after _ b old = old
-
-abbrev pub overlaid : List Event → ℕ → Option ℕ → Option ℕ
-overlaid [] b old = old
-overlaid (e ∷ es) b old = overlaid es b (byte_after e b old)
 
 pub not_written : (a n x b : ℕ) (old : Option ℕ) → within a n b ≡ false → written a n x b old ≡ old
 not_written a n x b old h = ap (λ (t : Bool). if t then slice_get (low_bytes n x) (b - a) else old) h
@@ -71,18 +54,9 @@ last_missed (f ∷ fs) e b h =
     let rest = last_missed fs e b p.1 in
     (or_from (hits f b) (hits_any fs b) p.0 rest.0, rest.1)
 
--- one of them hits, or none does
-pub one_hits : (p q : Bool) → (p || q) ≡ true → (p ≡ true) ⊎ (q ≡ true)
-one_hits true q h = inl refl
-one_hits false q h = inr h
-
 pub last_hits : (es : List Event) (e : Event) (b : ℕ) → hits_any (es ++ e ∷ []) b ≡ true → (hits_any es b ≡ true) ⊎ (hits e b ≡ true)
-last_hits [] e b h = elim (one_hits (hits e b) false h) [ inl k ↦ inr k | inr k ↦ inl k ]
-last_hits (f ∷ fs) e b h = elim (one_hits (hits f b) (hits_any (fs ++ e ∷ []) b) h) [
+last_hits [] e b h = elim (or_cases (hits e b) false h) [ inl k ↦ inr k | inr k ↦ inl k ]
+last_hits (f ∷ fs) e b h = elim (or_cases (hits f b) (hits_any (fs ++ e ∷ []) b) h) [
   | inl k ↦ inl (or_left (hits f b) (hits_any fs b) k)
   | inr k ↦ elim (last_hits fs e b k) [ inl l ↦ inl (or_right (hits f b) (hits_any fs b) l) | inr l ↦ inr l ]
 ]
-
--- what isn't true is false
-pub false_from : (p : Bool) → (p ≡ true → ⊥) → p ≡ false
-false_from p h = elim (true_or_false p) [ inl k ↦ absurd (h k) | inr k ↦ k ]

@@ -1,3 +1,4 @@
 pub mod Buffers
+pub mod Forwarding
 pub mod Machine
 pub mod Laws

@@ -1,15 +1,31 @@
 //! What follows from the definition of the x86 machine.
 //!
 //! The functions do nothing: their contracts are the laws.
+ghost use Rattle.bpf_x86.specs.Forwarding.{LoadsFindOwnStores, NewestStoresAreSeen, OthersDontSeeStores};
 ghost use Rattle.bpf_x86.specs.Laws.{KeptRaceFreeIsSame, OrdersAreX86s, RaceFreeIsSame};
+
+/// A CPU sees, of each byte, what its newest waiting store to it wrote, or else memory.
+pub fn newest_stores_are_seen()
+    ensures { NewestStoresAreSeen }
+{}
+
+/// A load of what the CPU stored last finds it, whatever waits.
+pub fn loads_find_own_stores()
+    ensures { LoadsFindOwnStores }
+{}
+
+/// No CPU sees a store that waits in another's buffer.
+pub fn others_dont_see_stores()
+    ensures { OthersDontSeeStores }
+{}
 
 /// Each outcome of sequential consistency is one of x86.
 pub fn orders_are_x86s()
     ensures { OrdersAreX86s }
 {}
 
-/// Where no schedule leads to a data race, and each CPU can always take its turn, wherever x86
-/// reaches where all jobs have ended, sequential consistency reaches.
+/// Where there are no arrays, no schedule leads to a data race, and each CPU can always take its turn,
+/// what x86 reaches where all jobs have ended, sequential consistency reaches.
 pub fn race_free_is_same()
     ensures { RaceFreeIsSame }
 {
@@ -18,7 +34,8 @@ pub fn race_free_is_same()
     bpf_shared::laws::calls_have_one_reply();
 }
 
-/// Where a closed list of machines shows the first one, x86 adds nothing if no schedule leads to a data race.
+/// Where there are no arrays and a closed list of machines shows the first one, x86 adds nothing if no
+/// schedule leads to a data race.
 pub fn kept_race_free_is_same()
     ensures { KeptRaceFreeIsSame }
 {

@@ -10,12 +10,12 @@ use Rattle.hop_words.specs.Kinds.{holding}
 use Rattle.hop_arena.specs.declared.element.Element.{Element}
 
 -- nothing changed but what was seen: these sights, the last first
-abbrev pub Sees : Known → List Sight → Known → Type 0
-Sees l more l' = l' ≡ record l { tally = more ++ l.tally }
+abbrev pub NotesSights : Known → List Sight → Known → Type 0
+NotesSights l more l' = l' ≡ record l { tally = more ++ l.tally }
 
 -- and they are looks: no step among them took an element or gave one back
-abbrev pub Looks : Known → List Sight → Known → Type 0
-Looks l more l' = Sees l more l' × Each IsLook more
+abbrev pub OnlyLooks : Known → List Sight → Known → Type 0
+OnlyLooks l more l' = NotesSights l more l' × Each IsLook more
 
 abbrev pub IsSeenTaken : List Sight → ℕ → ℕ → Type 0
 IsSeenTaken [] m e = ⊥
@@ -28,17 +28,17 @@ AreSeenTaken more m count from to = (e : ℕ) → e < count → from ≤ e / 64 
 
 -- nothing was taken: of these words each element was seen not free, at a moment of its own
 abbrev pub TakesNothing : About → Known → ℕ → ℕ → ℕ → Known → Type 0
-TakesNothing a l m from to l' = (more : List Sight) × Looks l more l'
+TakesNothing a l m from to l' = (more : List Sight) × OnlyLooks l more l'
     × AreSeenTaken more m (elements (shape_at a m)) from to
 
 -- nothing was taken: each element of the map was seen not free, at a moment of its own
 abbrev pub Misses : About → Known → ℕ → Known → Type 0
-Misses a l m l' = (more : List Sight) × Looks l more l'
+Misses a l m l' = (more : List Sight) × OnlyLooks l more l'
     × ((e : ℕ) → e < elements (shape_at a m) → IsSeenTaken more m e)
 
 -- the element is in hand from now on, and no lock was taken
 abbrev pub Claims : About → Known → ℕ → Element → Known → Type 0
-Claims a l m x l' = (more : List Sight) × Sees (holding l m x.number) more l' × (x.map ≡ m)
+Claims a l m x l' = (more : List Sight) × NotesSights (holding l m x.number) more l' × (x.map ≡ m)
     × (x.number < elements (shape_at a m)) × Each LeavesLocks more
 
 -- the pass begins at one of the map's words

@@ -2,7 +2,7 @@
 ghost use Rattle.std.specs.Prelude.{ℕ, ◌≡◌, ◌⊎◌, ◌+◌, ◌*◌, ◌/◌, ◌<◌, true, [], length, MatchOption, IsTrue, IsFalse};
 ghost use Rattle.std.specs.Int.{bit_at};
 ghost use Rattle.hop_words.specs.Ghost.{shape_at, HasElement};
-ghost use Rattle.hop_words.specs.Owning.{IsAnswered, IsInHand, GivesFresh};
+ghost use Rattle.hop_words.specs.Owning.{IsUpdateAnswered, IsInHand, GivesFresh};
 ghost use Rattle.bpf_shared.specs.Shape.{elements};
 ghost use Rattle.bpf_shared.specs.History.{events_of};
 ghost use Rattle.bpf_shared.specs.Own.{in_run};
@@ -70,7 +70,7 @@ impl Arena {
         requires element { HasElement table.now.about element.map element.number }
         requires map { element.map ≡ self.old.map }
         requires hand { IsInHand lane.old.known element.map element.number }
-        requires answered { IsAnswered lane.old.known element.map }
+        requires answered { IsUpdateAnswered lane.old.known element.map }
         ensures table { lane.new.table ≡ lane.old.table }
         ensures given { (found : ℕ) × GivesFresh lane.old.known element.map element.number found
             lane.new.known }

@@ -19,7 +19,7 @@ use Rattle.hop_map.specs.Splitting.{SplitEnds}
 use Rattle.hop_map.specs.Port.{Port, PortDoes, runs}
 use Rattle.hop_map.specs.Call.{IsShortage}
 use Rattle.hop_map.specs.Noting.{MayNote, CallNotes, CallsNote, IsGrowth, LocksLast, LockedLast}
-use Rattle.hop_cpu.specs.Growing.{Grows, HasTriedSplit}
+use Rattle.hop_cpu.specs.Growing.{GrowsMap, HasTriedSplit}
 
 some_is : (s t : ℕ) → Some s ≡ Some t → s ≡ t
 some_is s t is = cc
@@ -28,10 +28,10 @@ pub none_some : {A : Type 0} {x : A} → None ≡ Some x → ⊥
 none_some is = cc
 
 -- ---- a split that was tried, or none
-pub grows_none : (a : About) (m : ℕ) (p : Port) → ((s : ℕ) → p.spilled ≡ Some s → (shape_at a m).grow ≡ true → ⊥) → Grows a m p p
+pub grows_none : (a : About) (m : ℕ) (p : Port) → ((s : ℕ) → p.spilled ≡ Some s → (shape_at a m).grow ≡ true → ⊥) → GrowsMap a m p p
 grows_none a m p never = record { more = []; notes = inl refl; tally = refl; known = refl; same = refl; untried = λ _. refl; tried = λ s is grow. absurd (never s is grow) }
 
-pub grows_split : (a : About) (m home : ℕ) (p q : Port) (g : Growth) → p.spilled ≡ Some home → (shape_at a m).grow ≡ true → q ≡ record p { known = q.known } → SplitEnds a p.known m home g q.known → Grows a m p q
+pub grows_split : (a : About) (m home : ℕ) (p q : Port) (g : Growth) → p.spilled ≡ Some home → (shape_at a m).grow ≡ true → q ≡ record p { known = q.known } → SplitEnds a p.known m home g q.known → GrowsMap a m p q
 grows_split a m home p q Grown spilled grow same (s, n, owns, less, version, is) = record {
   more = split_made m s n ∷ (lock_taken m s n ∷ []);
   notes = inr (grow, (home, spilled, (s, n, owns.here, inr refl)));
@@ -61,7 +61,7 @@ grows_split a m home p q Worn spilled grow same (s, n, owns, less, version, is) 
 }
 
 -- ---- after an update
-module _ (a : About) (m : ℕ) (p q r : Port) (g : Grows a m q r) where
+module _ (a : About) (m : ℕ) (p q r : Port) (g : GrowsMap a m q r) where
   saw : r.known.seen ≡ q.known.seen
   saw = ap (λ (k : Known). k.seen) g.known
 
@@ -112,10 +112,6 @@ module _ (a : About) (m : ℕ) (p q r : Port) (g : Grows a m q r) where
         refl,
       ),
     )
-
-pub was_true : (b : Bool) → not b ≡ false → b ≡ true
-was_true true is = refl
-was_true false is = cc
 
 pub was_false : (b : Bool) → not b ≡ true → b ≡ true → ⊥
 was_false true is on = cc

@@ -18,7 +18,7 @@ NotesGrowth a m spilled sights = (sights ≡ [])
 -- of what the port has only what its CPU read and noted is another. Where the last update's new key
 -- went to the overflow list of a segment, and the map grows, that segment was to split; where it went
 -- to none, nothing was
-pub record Grows (a : About) (m : ℕ) (p q : Port) : Type 0 where
+pub record GrowsMap (a : About) (m : ℕ) (p q : Port) : Type 0 where
   pub more : List Sight
   pub notes : NotesGrowth a m p.spilled more
   pub tally : q.known.tally ≡ more ++ p.known.tally

@@ -5,7 +5,7 @@ ghost use Rattle.bpf_shared.specs.Shape.{IsPairOf};
 ghost use Rattle.hop_map.specs.Call.{IsShortage};
 ghost use Rattle.hop_map.specs.Noting.{CallsNote};
 ghost use Rattle.hop_map.specs.Port.{IsPortOf, PortDoes, runs};
-ghost use Rattle.hop_cpu.specs.Growing.{Grows, HasTriedSplit};
+ghost use Rattle.hop_cpu.specs.Growing.{GrowsMap, HasTriedSplit};
 
 use bpf_shared::MapAnswer;
 use hop_map::HopPort;
@@ -17,7 +17,7 @@ use std::sync::Wait;
 fn grow<R: Wait>(rt: &R, table: &HopTable, port: &mut HopPort, map: u8)
     requires fits { IsPortOf table.now port.old }
     requires map { map < length table.now.about.shape.maps }
-    ensures grows { Grows table.now.about map port.old port.new }
+    ensures grows { GrowsMap table.now.about map port.old port.new }
     ensures fits { IsPortOf table.now port.new }
 {
     let Some(shape) = port.shape(table, u64::from(map)) else {

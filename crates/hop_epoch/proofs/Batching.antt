@@ -1,6 +1,7 @@
 -- What a step on the batches of a map leaves as it was.
 use Rattle.std.proofs.Common.{◌≡◌, ◌≢◌, inr, ⊎_elim, ℕ, suc, ◌+◌, ◌%◌, ◌<◌, List, [], ◌∷◌, ◌++◌, Option, Some, length, slice_index, set, length-set, get_or-set_same, get_or-set_other, append_assoc, nat_lt, true, refl, ap, sym, subst, ◌∙◌, arith}
 use Rattle.std.proofs.lemmas.Bool.Decides.{nat_tests}
+use Rattle.std.proofs.lemmas.Bool.{cases_eq}
 use Rattle.bpf_shared.specs.Shape.{Shape, IsShape, elements}
 use Rattle.hop_layout.specs.Layout.{map_shape}
 use Rattle.hop_layout.specs.declared.about.About.{About}
@@ -14,16 +15,15 @@ use Rattle.hop_words.specs.Ghost.{HasElement, Each, limbo_at, no_limbo}
 use Rattle.hop_words.specs.Rule.{link_to}
 use Rattle.hop_words.specs.Kinds.{limbo_set, cleared, giving_old}
 use Rattle.hop_words.specs.Owning.{tail_of}
-use Rattle.hop_words.proofs.Small.{equal}
 use Rattle.hop_layout.proofs.Maps.{map_is}
 use Rattle.hop_words.proofs.Sighted.{each-append}
 use Rattle.hop_words.proofs.Shares.{some_once}
-use Rattle.hop_epoch.specs.Batch.{front, Notes, Tracks, Keeps, Looks, AreEven, SeesRunning}
+use Rattle.hop_epoch.specs.Batch.{front, Notes, Tracks, KeepsBatches, LooksAtCounters, AreEven, SeesRunning}
 
 pub at_set : (l : Known) (m : ℕ) (x : Limbo) → m < length l.limbo → limbo_at (limbo_set l m x).limbo m ≡ x
 at_set l m x room = get_or-set_same l.limbo m x no_limbo room
 
-pub keeps_then : (m : ℕ) (l k l' : Known) → Keeps m l k → Keeps m k l' → Keeps m l l'
+pub keeps_then : (m : ℕ) (l k l' : Known) → KeepsBatches m l k → KeepsBatches m k l' → KeepsBatches m l l'
 keeps_then m l k l' p q = record {
   cpu = q.cpu ∙ p.cpu;
   seen = q.seen ∙ p.seen;
@@ -40,10 +40,10 @@ keeps_then m l k l' p q = record {
   );
 }
 
-pub keeps_itself : (m : ℕ) (l : Known) → Keeps m l l
+pub keeps_itself : (m : ℕ) (l : Known) → KeepsBatches m l l
 keeps_itself m l = record { cpu = refl; seen = refl; fresh = refl; locks = refl; readings = refl; size = refl; others = λ n ne. refl; used = refl; sights = ([], refl, tt) }
 
-pub keeps_set : (m : ℕ) (l : Known) (x : Limbo) → m < length l.limbo → x.used ≡ (limbo_at l.limbo m).used → Keeps m l (limbo_set l m x)
+pub keeps_set : (m : ℕ) (l : Known) (x : Limbo) → m < length l.limbo → x.used ≡ (limbo_at l.limbo m).used → KeepsBatches m l (limbo_set l m x)
 keeps_set m l x room same = record {
   cpu = refl;
   seen = refl;
@@ -56,12 +56,12 @@ keeps_set m l x room same = record {
   sights = ([], refl, tt);
 }
 
-pub keeps_sighted : (m : ℕ) (l k : Known) (s : Sight) → LeavesLocks s → Keeps m l k → Keeps m l (sighted k s)
+pub keeps_sighted : (m : ℕ) (l k : Known) (s : Sight) → LeavesLocks s → KeepsBatches m l k → KeepsBatches m l (sighted k s)
 keeps_sighted m l k s leaves p = record { cpu = p.cpu; seen = p.seen; fresh = p.fresh; locks = p.locks; readings = p.readings; size = p.size; others = p.others; used = p.used; sights = (s ∷ p.sights.0, ap (λ (z : List Sight). s ∷ z) p.sights.1, (leaves, p.sights.2)) }
 
 -- ---- a look at a counter
-pub looks_same : (m : ℕ) (l k k' : Known) (s : Sight) → IsLook s → Looks m l k → k' ≡ sighted k s → Looks m l k'
-looks_same m l k k' s is p e = subst (Looks m l) (sym e) (record {
+pub looks_same : (m : ℕ) (l k k' : Known) (s : Sight) → IsLook s → LooksAtCounters m l k → k' ≡ sighted k s → LooksAtCounters m l k'
+looks_same m l k k' s is p e = subst (LooksAtCounters m l) (sym e) (record {
   keeps = keeps_sighted m l k s (λ n i _. is) p.keeps;
   young = p.young;
   old = p.old;
@@ -69,10 +69,10 @@ looks_same m l k k' s is p e = subst (Looks m l) (sym e) (record {
   sights = ap (λ (z : List Sight). s ∷ z) p.sights;
 })
 
-pub looks_cleared : (m d : ℕ) (l k k' : Known) (s : Sight) → IsLook s → m < length k.limbo → Looks m l k → k' ≡ sighted (cleared k m d) s → Looks m l k'
+pub looks_cleared : (m d : ℕ) (l k k' : Known) (s : Sight) → IsLook s → m < length k.limbo → LooksAtCounters m l k → k' ≡ sighted (cleared k m d) s → LooksAtCounters m l k'
 looks_cleared m d l k k' s is room p e =
     let x : Limbo = record (limbo_at k.limbo m) { noted = set (limbo_at k.limbo m).noted d 0 } in
-    subst (Looks m l) (sym e) (record {
+    subst (LooksAtCounters m l) (sym e) (record {
       keeps = keeps_sighted m l (cleared k m d) s (λ n i _. is) (keeps_then m l k (cleared k m d) p.keeps (keeps_set m k x room refl));
       young = ap (λ (y : Limbo). y.young) (at_set k m x room) ∙ p.young;
       old = ap (λ (y : Limbo). y.old) (at_set k m x room) ∙ p.old;
@@ -90,20 +90,20 @@ notes_cleared a ks ns d few less p = (
   λ c lt. ⊎_elim
       (λ (t : c ≡ d). subst (λ (i : ℕ). slice_index (set ks d 0) i ≡ slice_index (set ns d 0) i) (sym t) (get_or-set_same ks d 0 0 less ∙ sym (get_or-set_same ns d 0 0 few)))
       (λ (ne : c ≢ d). get_or-set_other ks d c 0 0 ne ∙ (p.1 c lt ∙ sym (get_or-set_other ns d c 0 0 ne)))
-      (equal c d),
+      (cases_eq c d),
 )
 
 pub even_cleared : (ns : List ℕ) (d : ℕ) → d < length ns → AreEven d ns → AreEven (d + 1) (set ns d 0)
 even_cleared ns d few p c lt = ⊎_elim
     (λ (t : c ≡ d). subst (λ (i : ℕ). slice_index (set ns d 0) i % 2 ≡ 0) (sym t) (ap (λ (n : ℕ). n % 2) (get_or-set_same ns d 0 0 few)))
     (λ (ne : c ≢ d). ap (λ (n : ℕ). n % 2) (get_or-set_other ns d c 0 0 ne) ∙ p c (grind arith))
-    (equal c d)
+    (cases_eq c d)
 
 pub even_on : (ns : List ℕ) (d : ℕ) → slice_index ns d % 2 ≡ 0 → AreEven d ns → AreEven (d + 1) ns
 even_on ns d even p c lt = ⊎_elim
     (λ (t : c ≡ d). subst (λ (i : ℕ). slice_index ns i % 2 ≡ 0) (sym t) even)
     (λ (ne : c ≢ d). p c (grind arith))
-    (equal c d)
+    (cases_eq c d)
 
 -- ---- the old batch, an element less
 most : (h : Shape) (m e : ℕ) → IsShape h → m < length h.maps → e < elements (map_shape h m) → e < 4294967296

@@ -28,7 +28,7 @@ pub record Tracks (a : About) (l : Known) (m : ℕ) (young old : Option ℕ) (no
     pub counters : ((limbo_at l.limbo m).old ≡ []) ⊎ Notes a (limbo_at l.limbo m).noted noted
 
 -- of what the CPU knows only its batches of the map changed, and what it noted
-pub record Keeps (m : ℕ) (l l' : Known) : Type 0 where
+pub record KeepsBatches (m : ℕ) (l l' : Known) : Type 0 where
   pub cpu : l'.cpu ≡ l.cpu
   pub seen : l'.seen ≡ l.seen
   pub fresh : l'.fresh ≡ l.fresh
@@ -46,8 +46,8 @@ link_word None = 0
 link_word (Some e) = e + 1
 
 -- the batches are as they were, but for the counters noted, and something more was noted
-pub record Looks (m : ℕ) (l l' : Known) : Type 0 where
-  pub keeps : Keeps m l l'
+pub record LooksAtCounters (m : ℕ) (l l' : Known) : Type 0 where
+  pub keeps : KeepsBatches m l l'
   pub young : (limbo_at l'.limbo m).young ≡ (limbo_at l.limbo m).young
   pub old : (limbo_at l'.limbo m).old ≡ (limbo_at l.limbo m).old
   pub more : List Sight

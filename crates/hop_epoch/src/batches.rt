@@ -4,7 +4,7 @@ ghost use Rattle.bpf_shared.specs.Shape.{IsShape};
 ghost use Rattle.hop_words.specs.Ghost.{HasElement, limbo_at};
 ghost use Rattle.hop_words.specs.Kinds.{retiring, run_count};
 ghost use Rattle.hop_words.specs.Owning.{tail_of};
-ghost use Rattle.hop_epoch.specs.Batch.{Tracks, Keeps, Notes, Looks, AreEven, SeesRunning, WaitsForOthers, link_word};
+ghost use Rattle.hop_epoch.specs.Batch.{Tracks, KeepsBatches, Notes, LooksAtCounters, AreEven, SeesRunning, WaitsForOthers, link_word};
 ghost use Rattle.hop_words.specs.Content.{item};
 
 use hop_words::{HopTable, Lane};
@@ -102,7 +102,7 @@ impl Batches {
         ensures map { self.new.map ≡ self.old.map }
         ensures tracks { Tracks table.now.about lane.new.known self.new.map self.new.young
             self.new.aged self.new.noted }
-        ensures keeps { Keeps self.old.map lane.old.known lane.new.known }
+        ensures keeps { KeepsBatches self.old.map lane.old.known lane.new.known }
         ensures empty { (limbo_at lane.new.known.limbo self.old.map).old ≡ []
             → (limbo_at lane.new.known.limbo self.old.map).young ≡ [] }
         ensures blocked { ((limbo_at lane.new.known.limbo self.old.map).old ≡ [])
@@ -124,7 +124,7 @@ impl Batches {
         ensures map { self.new.map ≡ self.old.map }
         ensures tracks { Tracks table.now.about lane.new.known self.new.map self.new.young
             self.new.aged self.new.noted }
-        ensures keeps { Keeps self.old.map lane.old.known lane.new.known }
+        ensures keeps { KeepsBatches self.old.map lane.old.known lane.new.known }
         ensures empty { (limbo_at lane.new.known.limbo self.old.map).old ≡ []
             → (limbo_at lane.new.known.limbo self.old.map).young ≡ [] }
         ensures blocked { ((limbo_at lane.new.known.limbo self.old.map).old ≡ [])
@@ -176,7 +176,7 @@ impl Batches {
         ensures table { lane.new.table ≡ lane.old.table }
         ensures same { (self.new.map ≡ self.old.map) × (self.new.young ≡ self.old.young)
             × (self.new.aged ≡ self.old.aged) }
-        ensures looks { Looks self.old.map lane.old.known lane.new.known }
+        ensures looks { LooksAtCounters self.old.map lane.old.known lane.new.known }
         ensures notes { Notes table.now.about (limbo_at lane.new.known.limbo self.old.map).noted
             self.new.noted }
         ensures past { IsTrue result → AreEven table.now.about.shape.cpus self.new.noted }
@@ -208,7 +208,7 @@ impl Batches {
         ensures table { lane.new.table ≡ lane.old.table }
         ensures same { (self.new.map ≡ self.old.map) × (self.new.young ≡ self.old.young)
             × (self.new.aged ≡ None) }
-        ensures keeps { Keeps self.old.map lane.old.known lane.new.known }
+        ensures keeps { KeepsBatches self.old.map lane.old.known lane.new.known }
         ensures young { (limbo_at lane.new.known.limbo self.old.map).young
             ≡ (limbo_at lane.old.known.limbo self.old.map).young }
         ensures freed { (limbo_at lane.new.known.limbo self.old.map).old ≡ [] }
@@ -231,7 +231,7 @@ impl Batches {
         ensures table { lane.new.table ≡ lane.old.table }
         ensures same { (self.new.map ≡ self.old.map) × (self.new.young ≡ None)
             × (self.new.aged ≡ self.old.young) }
-        ensures keeps { Keeps self.old.map lane.old.known lane.new.known }
+        ensures keeps { KeepsBatches self.old.map lane.old.known lane.new.known }
         ensures sights { lane.new.known.tally ≡ lane.old.known.tally }
         ensures young { (limbo_at lane.new.known.limbo self.old.map).young ≡ [] }
         ensures aged { (limbo_at lane.new.known.limbo self.old.map).old

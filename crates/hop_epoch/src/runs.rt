@@ -2,7 +2,7 @@
 ghost use Rattle.std.specs.Prelude.{◌≡◌, ◌+◌, ◌-◌, ◌%◌, ◌<◌, ◌^◌, [], true, false, OnOk, OnErr};
 ghost use Rattle.bpf_shared.specs.History.{events_of};
 ghost use Rattle.bpf_shared.specs.declared.events.Event.TheVariants.{Begin, End};
-ghost use Rattle.hop_words.specs.Kinds.{run_count, Told};
+ghost use Rattle.hop_words.specs.Kinds.{run_count, AddsEvent};
 ghost use Rattle.bpf_shared.specs.Own.{in_run};
 
 use bpf_shared::Worn;
@@ -17,7 +17,7 @@ pub fn begin_run(lane: &mut Lane, table: &HopTable) -> Result<(), Worn>
     requires even { table.now.about.count % 2 ≡ 0 }
     requires idle { in_run (events_of lane.old.known.cpu lane.old.known.seen) ≡ false }
     ensures table { lane.new.table ≡ lane.old.table }
-    ensures begun { OnOk result (Told table.now.about lane.old.known Begin lane.new.known) }
+    ensures begun { OnOk result (AddsEvent table.now.about lane.old.known Begin lane.new.known) }
     ensures room { OnOk result (run_count table.now.about lane.old.known + 2 < 2 ^ 64) }
     ensures worn { OnErr result (run_count table.now.about lane.old.known ≡ 2 ^ 64 - 2) }
     ensures unchanged { OnErr result (lane.new.known ≡ lane.old.known) }
@@ -38,7 +38,7 @@ pub fn end_run(lane: &mut Lane, table: &HopTable)
     requires running { in_run (events_of lane.old.known.cpu lane.old.known.seen) ≡ true }
     requires room { run_count table.now.about lane.old.known + 1 < 2 ^ 64 }
     ensures table { lane.new.table ≡ lane.old.table }
-    ensures ended { Told table.now.about lane.old.known End lane.new.known }
+    ensures ended { AddsEvent table.now.about lane.old.known End lane.new.known }
 {
     lane.count_end(table);
 }

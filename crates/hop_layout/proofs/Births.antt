@@ -3,8 +3,7 @@ use Rattle.std.proofs.Common.{◌≡◌, ◌≢◌, ℕ, zero, suc, ◌+◌, ◌
 use Rattle.std.proofs.lemmas.Bool.Decides.{nat_tests}
 use Rattle.std.proofs.Math.Nat.{add-mul-mod_self_left, mod-eq_of_lt}
 use Rattle.std.proofs.lemmas.Nat.{mod_below, div-add-mod', mod-mul-add}
-use mathlib.Core.Logic.{dite}
-use native.Mathlib.Decide.{ℕ_discrete, dec_lt}
+use Rattle.std.proofs.lemmas.Bool.{false_from_ne_true, cases_eq, cases_lt, lt-ltb, and_from, and_parts}
 use Rattle.bpf_shared.specs.Store.{put}
 use Rattle.hop_layout.specs.Layout.{power}
 use Rattle.hop_layout.specs.Births.{is_born, Owns, AreDepths, child_of, split_depths, EachHasOneOwner, SplitsBearOneChild}
@@ -57,50 +56,30 @@ if_true b x y e = ap (λ z. if z then x else y) e
 if_false : {A : Type 0} (b : Bool) (x y : A) → b ≡ false → (if b then x else y) ≡ y
 if_false b x y e = ap (λ z. if z then x else y) e
 
-and_both : (a b : Bool) → a && b ≡ true → (a ≡ true) × (b ≡ true)
-and_both true b e = (refl, e)
-and_both false b e = absurd (true≢false (sym e))
-
-pub both_and : (a b : Bool) → a ≡ true → b ≡ true → a && b ≡ true
-both_and a b p q = (λ i. p i && b) ∙ q
-
-pub lt_is : (m n : ℕ) → m < n → nat_lt m n ≡ true
-lt_is m n l = grind (arith, nat_tests)
-
 pub ge_is : (m n : ℕ) → n ≤ m → nat_lt m n ≡ false
 ge_is m n l = grind (arith, nat_tests)
 
 is_lt : (m n : ℕ) → nat_lt m n ≡ true → m < n
 is_lt m n e = grind (arith, nat_tests)
 
-pub below_or : (m n : ℕ) → (m < n) ⊎ (n ≤ m)
-below_or m n = dite (dec_lt m n) (λ l. inl l) (λ nl. inr (grind arith))
-
-equal : (i j : ℕ) → (i ≡ j) ⊎ (i ≢ j)
-equal i j = dite (ℕ_discrete i j) (λ e. inl e) (λ ne. inr ne)
-
-not_true : (b : Bool) → (b ≡ true → ⊥) → b ≡ false
-not_true true n = absurd (n refl)
-not_true false n = refl
-
 -- ---- born segments, a level at a time
 module _ (d : ℕ → ℕ) where
   pub low_is : (n s : ℕ) → s < power n → is_born d (suc n) s ≡ is_born d n s
-  low_is n s l = if_true (nat_lt s (power n)) _ _ (lt_is s (power n) l)
+  low_is n s l = if_true (nat_lt s (power n)) _ _ (lt-ltb s (power n) l)
 
   pub high_is : (n s : ℕ) → power n ≤ s → is_born d (suc n) s ≡ nat_lt n (d (s - power n)) && is_born d n (s - power n)
   high_is n s l = if_false (nat_lt s (power n)) _ _ (ge_is s (power n) l)
 
   -- a segment with a top bit: its parent is born, and deep enough
   parted : (n s : ℕ) → power n ≤ s → is_born d (suc n) s ≡ true → (n < d (s - power n)) × (is_born d n (s - power n) ≡ true)
-  parted n s l b = let t = and_both (nat_lt n (d (s - power n))) (is_born d n (s - power n)) (sym (high_is n s l) ∙ b) in (is_lt n (d (s - power n)) t.0, t.1)
+  parted n s l b = let t = and_parts (nat_lt n (d (s - power n))) (is_born d n (s - power n)) (sym (high_is n s l) ∙ b) in (is_lt n (d (s - power n)) t.0, t.1)
 
   pub born_small : (n s : ℕ) → is_born d n s ≡ true → s < power n
   born_small zero s b = let e : s ≡ 0 = (let z = b in grind (arith, nat_tests)) in omega arith
   born_small (suc n) s b = ⊎_elim
       (λ (l : s < power n). omega arith)
       (λ (g : power n ≤ s). let t = parted n s g b in let r = born_small n (s - power n) t.1 in omega arith)
-      (below_or s (power n))
+      (cases_lt s (power n))
 
   -- segment 0 is born
   pub born_first : (n : ℕ) → is_born d n 0 ≡ true
@@ -121,30 +100,30 @@ module _ (d : ℕ → ℕ) where
       let same : s + power u ≡ s + power n = ap (λ (k : ℕ). s + power k) e in
       let back : s + power n - power n ≡ s = omega arith in
       ap (is_born d (suc n)) same ∙ (high_is n (s + power n) (omega arith)
-      ∙ both_and _ _ (lt_is n (d (s + power n - power n)) (let z = ap d back in let y = e in omega arith)) (ap (is_born d n) back ∙ (sym (low_is n s low) ∙ b))))
-      (below_or u n)
+      ∙ and_from _ _ (lt-ltb n (d (s + power n - power n)) (let z = ap d back in let y = e in omega arith)) (ap (is_born d n) back ∙ (sym (low_is n s low) ∙ b))))
+      (cases_lt u n)
 
   -- the child of its depth isn't
   pub child_unborn : (n s : ℕ) → is_born d n s ≡ true → s < power (d s) → is_born d n (s + power (d s)) ≡ false
-  child_unborn zero s b l = not_true _ (λ e. let z : s + power (d s) ≡ 0 = (let y = e in grind (arith, nat_tests)) in let o = some_power (d s) in omega arith)
+  child_unborn zero s b l = false_from_ne_true _ (λ e. let z : s + power (d s) ≡ 0 = (let y = e in grind (arith, nat_tests)) in let o = some_power (d s) in omega arith)
   child_unborn (suc n) s b l = ⊎_elim
       (λ (t : d s < n).
       let two = power_less (d s) n t in
       let low : s < power n = omega arith in
       low_is n (s + power (d s)) (omega arith) ∙ child_unborn n s (sym (low_is n s low) ∙ b) l)
-      (λ (ge : n ≤ d s). not_true _ (λ e.
+      (λ (ge : n ≤ d s). false_from_ne_true _ (λ e.
       let small = born_small (suc n) (s + power (d s)) e in
       let up = power_mono n (d s) ge in
       let t = parted n (s + power (d s)) (omega arith) e in
       let same : power (d s) ≡ power n = ⊎_elim
       (λ (u : n < d s). absurd (let two = power_less n (d s) u in omega arith))
       (λ (u : d s ≤ n). ap power (let z : d s ≡ n = omega arith in z))
-      (below_or n (d s)) in
+      (cases_lt n (d s)) in
       let back : s + power (d s) - power n ≡ s = omega arith in
       let deep : n < d s = subst (λ (i : ℕ). n < d i) back t.0 in
       let two = power_less n (d s) deep in
       omega arith))
-      (below_or (d s) n)
+      (cases_lt (d s) n)
 
   -- no two born segments own one home
   pub one_owner : (n s t home : ℕ) → is_born d n s ≡ true → is_born d n t ≡ true → home % power (d s) ≡ s → home % power (d t) ≡ t → s ≡ t
@@ -153,7 +132,7 @@ module _ (d : ℕ → ℕ) where
       (λ (ls : s < power n). ⊎_elim
       (λ (lt : t < power n). one_owner n s t home (sym (low_is n s ls) ∙ bs) (sym (low_is n t lt) ∙ bt) hs ht)
       (λ (gt : power n ≤ t). absurd (apart s t ls gt bs bt hs ht (one_owner n s (t - power n) (home % power n))))
-      (below_or t (power n)))
+      (cases_lt t (power n)))
       (λ (gs : power n ≤ s). ⊎_elim
       (λ (lt : t < power n). absurd (apart t s lt gs bt bs ht hs (one_owner n t (s - power n) (home % power n))))
       (λ (gt : power n ≤ t).
@@ -161,15 +140,15 @@ module _ (d : ℕ → ℕ) where
       let f = bits t gt bt ht in
       let z = e ∙ sym f in
       omega arith)
-      (below_or t (power n)))
-      (below_or s (power n))
+      (cases_lt t (power n)))
+      (cases_lt s (power n))
     where
       -- a depth above n
       deep : (s : ℕ) → power n ≤ s → home % power (d s) ≡ s → n < d s
       deep s gs hs = ⊎_elim
           (λ (l : n < d s). l)
           (λ (ge : d s ≤ n). absurd (let m = power_mono (d s) n ge in let o = some_power (d s) in let z : home % power (d s) < power (d s) = omega arith in omega arith))
-          (below_or n (d s))
+          (cases_lt n (d s))
 
       -- a segment with bit n: the parent has the home's low bits
       bits : (s : ℕ) → power n ≤ s → is_born d (suc n) s ≡ true → home % power (d s) ≡ s → s - power n ≡ home % power n
@@ -205,7 +184,7 @@ module _ (d : ℕ → ℕ) where
           let z : d s ≡ d (t - power n) = ap d same in
           let y = p.0 in
           omega arith)
-          (below_or n (d s))
+          (cases_lt n (d s))
 
   -- from a born segment that has the low bits of a home on, down to the home's owner
   find_owner : (limit home : ℕ) → AreDepths d limit → (fuel level s : ℕ) → fuel + level ≡ limit → is_born d limit s ≡ true → level ≤ d s → s ≡ home % power level → (t : ℕ) × Owns d limit t home
@@ -233,10 +212,10 @@ module _ (d : ℕ → ℕ) where
       let dc : level < d (s + power level) = ⊎_elim
       (λ (y : level < d (s + power level)). y)
       (λ (y : d (s + power level) ≤ level). absurd (let u = power_mono (d (s + power level)) level y in let z = kc.0 in omega arith))
-      (below_or level (d (s + power level))) in
+      (cases_lt level (d (s + power level))) in
       find_owner limit home are fuel (suc level) (s + power level) (omega arith) bc dc (sym c))
-      (below_or (home % power (suc level)) (power level)))
-      (equal (d s) level)
+      (cases_lt (home % power (suc level)) (power level)))
+      (cases_eq (d s) level)
 
 -- ---- a split
 module _ (d : ℕ → ℕ) (limit s : ℕ) (b : is_born d limit s ≡ true) (room : s < power (d s)) (few : d s < limit) where
@@ -277,24 +256,24 @@ module _ (d : ℕ → ℕ) (limit s : ℕ) (b : is_born d limit s ≡ true) (roo
       (λ (l : t < power n). low_is d' n t l ∙ ⊎_elim
       (λ (ls : s < power n). still_born n (sym (low_is d n s ls) ∙ bs) t (sym (low_is d n t l) ∙ bt))
       (λ (gs : power n ≤ s). same_low n t l gs (sym (low_is d n t l) ∙ bt))
-      (below_or s (power n)))
-      (λ (g : power n ≤ t). let p = parted d n t g bt in high_is d' n t g ∙ both_and _ _ (lt_is n (d' (t - power n)) (deeper (t - power n) p.0 p.1)) (⊎_elim
+      (cases_lt s (power n)))
+      (λ (g : power n ≤ t). let p = parted d n t g bt in high_is d' n t g ∙ and_from _ _ (lt-ltb n (d' (t - power n)) (deeper (t - power n) p.0 p.1)) (⊎_elim
       (λ (ls : s < power n). still_born n (sym (low_is d n s ls) ∙ bs) (t - power n) p.1)
       (λ (gs : power n ≤ s). same_low n (t - power n) (born_small d n (t - power n) p.1) gs p.1)
-      (below_or s (power n))))
-      (below_or t (power n))
+      (cases_lt s (power n))))
+      (cases_lt t (power n))
     where
       deeper : (p : ℕ) → n < d p → is_born d n p ≡ true → n < d' p
       deeper p l bp = ⊎_elim
           (λ (e : p ≡ c). let z = at_child p e in let small = born_small d n p bp in ⊎_elim
           (λ (y : n < k + 1). omega arith)
           (λ (y : k + 1 ≤ n). absurd (true≢false (sym (ap (is_born d n) (sym e) ∙ bp) ∙ child_unborn d n s (let two = power_less k n (omega arith) in sym (low_is d n s (omega arith)) ∙ bs) room)))
-          (below_or n (k + 1)))
+          (cases_lt n (k + 1)))
           (λ (nc : p ≢ c). ⊎_elim
           (λ (e : p ≡ s). let z = at_parent p e in let y : d p ≡ k = ap d e in omega arith)
           (λ (ns : p ≢ s). let z = elsewhere p nc ns in omega arith)
-          (equal p s))
-          (equal p c)
+          (cases_eq p s))
+          (cases_eq p c)
 
       same_low : (n t : ℕ) → t < power n → power n ≤ s → is_born d n t ≡ true → is_born d' n t ≡ true
       same_low zero t l gs bt = bt
@@ -302,8 +281,8 @@ module _ (d : ℕ → ℕ) (limit s : ℕ) (b : is_born d limit s ≡ true) (roo
           (λ (lt : t < power n). low_is d' n t lt ∙ same_low n t lt (let o = some_power n in omega arith) (sym (low_is d n t lt) ∙ bt))
           (λ (gt : power n ≤ t). let p = parted d n t gt bt in let small = born_small d n (t - power n) p.1 in
           let z = elsewhere (t - power n) (λ (q : t - power n ≡ c). omega arith) (λ (q : t - power n ≡ s). let o = some_power n in omega arith) in
-          high_is d' n t gt ∙ both_and _ _ (lt_is n (d' (t - power n)) (let y = p.0 in omega arith)) (same_low n (t - power n) small (let o = some_power n in omega arith) p.1))
-          (below_or t (power n))
+          high_is d' n t gt ∙ and_from _ _ (lt-ltb n (d' (t - power n)) (let y = p.0 in omega arith)) (same_low n (t - power n) small (let o = some_power n in omega arith) p.1))
+          (cases_lt t (power n))
 
   -- nobody but the child is born
   pub born_before : (n t : ℕ) → is_born d' n t ≡ true → (t ≡ c) ⊎ (is_born d n t ≡ true)
@@ -322,16 +301,16 @@ module _ (d : ℕ → ℕ) (limit s : ℕ) (b : is_born d limit s ≡ true) (roo
       let z = at_parent (t - power n) e in
       let y = p.0 in
       ⊎_elim
-      (λ (less : n < k). inr (high_is d n t g ∙ both_and _ _ (lt_is n (d (t - power n)) (let x : d (t - power n) ≡ k = ap d e in omega arith)) r))
+      (λ (less : n < k). inr (high_is d n t g ∙ and_from _ _ (lt-ltb n (d (t - power n)) (let x : d (t - power n) ≡ k = ap d e in omega arith)) r))
       (λ (more : k ≤ n). inl (let x : n ≡ k = omega arith in let w = ap power x in omega arith))
-      (below_or n k))
+      (cases_lt n k))
       (λ (ns : t - power n ≢ s).
       let z = elsewhere (t - power n) nc ns in
-      inr (high_is d n t g ∙ both_and _ _ (lt_is n (d (t - power n)) (let y = p.0 in omega arith)) r))
-      (equal (t - power n) s))
+      inr (high_is d n t g ∙ and_from _ _ (lt-ltb n (d (t - power n)) (let y = p.0 in omega arith)) r))
+      (cases_eq (t - power n) s))
       (born_before n (t - power n) p.1))
-      (equal (t - power n) c))
-      (below_or t (power n))
+      (cases_eq (t - power n) c))
+      (cases_lt t (power n))
 
   pub child_is_born : is_born d' limit c ≡ true
   child_is_born = born_child d' limit s k (still_born limit b s b) room (let z = parent_depth in omega arith) few
@@ -346,8 +325,8 @@ module _ (d : ℕ → ℕ) (limit s : ℕ) (b : is_born d limit s ≡ true) (roo
       (λ (e : t ≡ c). absurd (nc e))
       (λ (r : is_born d limit t ≡ true). let y = are t r in let p : power (d' t) ≡ power (d t) = ap power z in (omega arith, omega arith))
       (born_before limit t bt))
-      (equal t s))
-      (equal t c)
+      (cases_eq t s))
+      (cases_eq t c)
 
 -- two segments have no child in common
 pub one_parent : (d : ℕ → ℕ) (s t : ℕ) → s < power (d s) → t < power (d t) → child_of d s ≡ child_of d t → s ≡ t
@@ -356,8 +335,8 @@ one_parent d s t ls lt e = ⊎_elim
     (λ (ge : d t ≤ d s). ⊎_elim
     (λ (l : d t < d s). absurd (let z = power_less (d t) (d s) l in omega arith))
     (λ (ge2 : d s ≤ d t). let z : power (d s) ≡ power (d t) = ap power (let y : d s ≡ d t = omega arith in y) in omega arith)
-    (below_or (d t) (d s)))
-    (below_or (d s) (d t))
+    (cases_lt (d t) (d s)))
+    (cases_lt (d s) (d t))
 
 pub each_has_one_owner : EachHasOneOwner
 each_has_one_owner d limit home are =

@@ -7,6 +7,7 @@ use Rattle.std.specs.Cmp.{eq_by_cmp_equiv}
 use Rattle.std.specs.Cmp.Lexicographic.{slice_cmp}
 use Rattle.std.proofs.lemmas.Cmp.{nat_list_cmp_total}
 use Rattle.std.proofs.lemmas.Map.Keys.{IsDistinct-push}
+use Rattle.std.proofs.lemmas.Bool.{false_from_ne_true}
 use Rattle.bpf_shared.specs.Shape.{elements}
 use Rattle.bpf_shared.specs.KeyOrder.{is_among, AreDistinct}
 use Rattle.hop_layout.specs.declared.about.About.{About}
@@ -16,7 +17,7 @@ use Rattle.hop_words.specs.Content.{MapWords, Reached, IsShare, IsSegmentSound, 
 use Rattle.hop_words.specs.Depths.{stamp_depth, home_by}
 use Rattle.hop_words.specs.Ghost.{IsHomeIn, shape_at}
 use Rattle.hop_words.specs.Rule.{image, changed}
-use Rattle.hop_words.specs.Kinds.{MayLink, IsShownIn, HasRoom}
+use Rattle.hop_words.specs.Kinds.{MayLink, IsShownIn, KeysHaveRoom}
 use Rattle.hop_words.specs.Locking.{lock_of, HasLastLock}
 use Rattle.hop_words.specs.Listing.{ListsSegment}
 use Rattle.hop_map.specs.Private.UnderLock.{LockShows}
@@ -24,7 +25,7 @@ use Rattle.hop_map.specs.Private.LockedSegment.{spelled_key}
 use Rattle.hop_map.specs.Private.Listing.{Adds, Part, Opens, StandsBelow, StandsOr}
 use Rattle.hop_map.proofs.Keys.{spells}
 use Rattle.hop_map.proofs.Ports.{by_equal}
-use Rattle.hop_map.proofs.Gathering.{among-append, at_key, all_append, not_true}
+use Rattle.hop_map.proofs.Gathering.{among-append, at_key, all_append}
 
 itself : (q : List ℕ) → eq_by_cmp (slice_cmp nat_cmp) q q ≡ true
 itself q = (eq_by_cmp_equiv nat_list_cmp_total).refl q
@@ -81,7 +82,7 @@ module _ (a : About) (l : Known) (m s : ℕ) (c : LockShows a l m s) (last : Has
   one_element : (e d : ℕ) → Reached x m s e → Reached x m s d → key e ≡ key d → e ≡ d
   one_element e d r q same = let z : Some e ≡ Some d = sym (leads e r).0 ∙ (ap c.content same ∙ (leads d q).0) in cc
 
-  module _ (old : List (List ℕ)) (none : (q : List ℕ) → IsHomeIn a (lock_of l) q → is_among q old ≡ false) (before : AllByRecursion (IsShownIn a m l.locks) old) (room : HasRoom a m l.locks) where
+  module _ (old : List (List ℕ)) (none : (q : List ℕ) → IsHomeIn a (lock_of l) q → is_among q old ≡ false) (before : AllByRecursion (IsShownIn a m l.locks) old) (room : KeysHaveRoom a m l.locks) where
     part_none : AreDistinct old → Part a l m s old old (λ e. ⊥)
     part_none apart = record { more = []; is = sym (append-nil old); from = tt; all = λ e r p. absurd p; distinct = apart }
 
@@ -91,7 +92,7 @@ module _ (a : About) (l : Known) (m s : ℕ) (c : LockShows a l m s) (last : Has
       from_more q h = at_key (λ q. (d : ℕ) × Reached x m s d × P d × (q ≡ key d)) q p.more p.from h
 
       not_more : is_among (key e) p.more ≡ false
-      not_more = not_true (is_among (key e) p.more) (λ h. (let d = from_more (key e) h in fresh (subst P (sym (one_element e d.0 r d.1 d.3)) d.2)))
+      not_more = false_from_ne_true (is_among (key e) p.more) (λ h. (let d = from_more (key e) h in fresh (subst P (sym (one_element e d.0 r d.1 d.3)) d.2)))
 
       not_now : is_among (key e) now ≡ false
       not_now = ap (is_among (key e)) p.is ∙ (among-append (key e) old p.more ∙ (ap (λ (b : Bool). b || is_among (key e) p.more) (none (key e) (home_here e r)) ∙ not_more))
@@ -153,7 +154,7 @@ module _ (a : About) (l : Known) (m s : ℕ) (c : LockShows a l m s) (last : Has
             let t = sh.all q e is home in
             let same : key e ≡ q = spells a m x e q t.1 in
             sym (ap (λ (z : List ℕ). is_among z p.more) (sym same) ∙ p.all e t.0 (every e t.0))
-        lists_here f sh q home None is = sym (not_true (is_among q p.more) (λ h.
+        lists_here f sh q home None is = sym (false_from_ne_true (is_among q p.more) (λ h.
             (let d = at_key (λ q. (d : ℕ) × Reached x m s d × P d × (q ≡ key d)) q p.more p.from h in
             let z : Some d.0 ≡ None = sym (shows_it d.0 d.1 f sh) ∙ (ap f (sym d.3) ∙ is) in cc)))
 

@@ -1,5 +1,6 @@
 -- The count goes up, and the words remain to be written.
-use Rattle.std.proofs.Common.{◌≡◌, ℕ, ◌<◌, ◌==◌, ◌||◌, Bool, true, false, true≢false, if◌then◌else◌, List, [], ◌∷◌, Some, None, slice_index_or, Result, Ok, Err, IsOk, IsErr, refl, ap, sym, subst, ◌∙◌, arith, ⊎_elim, inr}
+use Rattle.std.proofs.Common.{◌≡◌, ℕ, ◌<◌, ◌==◌, ◌||◌, Bool, true, false, if◌then◌else◌, List, [], ◌∷◌, Some, None, slice_index_or, Result, Ok, Err, IsOk, IsErr, refl, ap, sym, subst, ◌∙◌, arith, ⊎_elim, inr}
+use Rattle.std.proofs.lemmas.Bool.{or_left}
 use Rattle.bpf_shared.specs.Shape.{elements}
 use Rattle.bpf_shared.specs.declared.events.Entry.{Entry}
 use Rattle.hop_layout.specs.declared.about.About.{About}
@@ -17,10 +18,6 @@ use Rattle.hop_words.proofs.Small.{key_self, key_apart}
 use Rattle.hop_words.specs.Locking.{lock_of, hand, nothing_in_hand}
 use Rattle.hop_map.specs.LockedSegment.{Ready, knows}
 use Rattle.hop_map.specs.Private.UnderLock.{LockShows, OffersInsertion}
-
-pub or_true : (x y : Bool) → x ≡ true → (x || y) ≡ true
-or_true true y is = refl
-or_true false y is = absurd (true≢false (sym is))
 
 pub or_false : (x : Bool) → (x || false) ≡ true → x ≡ true
 or_false true is = refl
@@ -92,7 +89,7 @@ module _ (a : About) (l : Known) (m s : ℕ) (r : Ready a l m s) where
       counted_known e is = go (has e k.known) refl
         where
           go : (x : Bool) → has e k.known ≡ x → MayLink a counted (lock_of counted) e × ((q : List ℕ) × HasKey (shape_at a m) (image a k.copy) m e q)
-          go true h = let t = r.known_is e (or_true (has e k.known) _ h) in (link_on e t.0, t.1)
+          go true h = let t = r.known_is e (or_left (has e k.known) _ h) in (link_on e t.0, t.1)
           go false h =
               let same : (hand l).element ≡ e = sym (one e (hand l).element (or_false (e == (hand l).element) (subst (λ (x : Bool). (x || ((e == (hand l).element) || false)) ≡ true) h is))) in
               (own_link e same, own_key e same)

@@ -2,6 +2,7 @@
 use Rattle.std.proofs.Common.{◌≡◌, ℕ, ◌+◌, ◌-◌, ◌*◌, ◌/◌, ◌%◌, ◌^◌, ◌<◌, ◌≤◌, ◌≢◌, Bool, true, false, ◌||◌, ◌==◌, if◌then◌else◌, List, Option, length, refl, ap, sym, subst, ◌∙◌, arith, eq-eqb}
 use Rattle.std.specs.Prelude.{IfSome}
 use Rattle.std.proofs.lemmas.Bool.Decides.{nat_tests}
+use Rattle.std.proofs.lemmas.Bool.{lt-ltb}
 use Rattle.hop_layout.specs.declared.about.About.{About}
 use Rattle.hop_layout.specs.declared.place.Place.{Place}
 use Rattle.hop_layout.specs.declared.place.Place.TheVariants.{Head, Hop, Slot, Stamp}
@@ -10,7 +11,7 @@ use Rattle.hop_layout.specs.Layout.{power, depth, segments, mem, is_place, put_a
 use Rattle.hop_layout.proofs.Layouts.{wrote}
 use Rattle.hop_words.specs.declared.known.Known.{Known}
 use Rattle.hop_words.specs.declared.known.Lock.{Lock}
-use Rattle.hop_words.specs.Content.{MapWords, place_words, item, HasKey, IsShare}
+use Rattle.hop_words.specs.Content.{MapWords, words_by_place, item, HasKey, IsShare}
 use Rattle.hop_words.specs.Depths.{stamp_depth, home_by}
 use Rattle.hop_words.specs.Ghost.{shape_at, child, IsSegment}
 use Rattle.hop_words.specs.Rule.{image}
@@ -20,7 +21,7 @@ use Rattle.hop_seg.specs.Words.{Words as SegWords, Fixed, replace_at}
 use Rattle.hop_seg.specs.Segment.{Sound as SegSound}
 use Rattle.hop_seg.specs.Split.{Front, Splits as SegSplits, front_with_hop, front_with_slot}
 use Rattle.hop_epoch.specs.Batch.{link_word}
-use Rattle.hop_map.specs.LockedSegment.{Locked, Ready, StaysBeside, is_put, in_hand, knows, front_view, child_front}
+use Rattle.hop_map.specs.LockedSegment.{Locked, Ready, StaysBeside, is_put, fills_element, knows, front_view, child_front}
 use Rattle.hop_map.specs.Private.LockedSegment.{segment_view, seen_words, locked_view, written}
 use Rattle.hop_map.specs.Private.Splitting.{IsParted}
 use Rattle.hop_map.specs.Private.UnderLock.{LockShows}
@@ -31,7 +32,6 @@ use Rattle.hop_map.proofs.Writings.{item_word, segment_at}
 use Rattle.hop_words.proofs.Locks.{put_else}
 use Rattle.hop_layout.proofs.Births.{some_power, power_less, power_mono}
 use Rattle.hop_layout.proofs.Depths.{depth_most}
-use Rattle.hop_words.proofs.Locked.{lt}
 
 small_hop : (n : ℕ) → n < 2 ^ 32 → n % 2 ^ 32 ≡ n
 small_hop n l = omega arith
@@ -45,7 +45,7 @@ module _ (x : Locked) (r : Ready x.about x.known x.map x.segment) where
   w = mem x.about.shape (lock_of x.known).copy
 
   front : (Place → ℕ) → Front
-  front v = front_view x.map c (place_words v)
+  front v = front_view x.map c (words_by_place v)
 
   now : (p : Place) (n : ℕ) → is_place x.about.shape p ≡ true → child_front (written x p n) ≡ front (put_at w p n)
   unfolding front w
@@ -78,7 +78,7 @@ module _ (x : Locked) (r : Ready x.about x.known x.map x.segment) where
 
   -- a word of the child is none of the segment's
   seen : (Place → ℕ) → SegWords
-  seen v = segment_view x.about x.map x.segment (stamp_depth (lock_of x.known).stamp) (knows x.known x.map) (place_words v)
+  seen v = segment_view x.about x.map x.segment (stamp_depth (lock_of x.known).stamp) (knows x.known x.map) (words_by_place v)
 
   after : (p : Place) (n : ℕ) → is_place x.about.shape p ≡ true → seen_words (written x p n) ≡ seen (put_at w p n)
   unfolding seen w
@@ -113,7 +113,7 @@ module _ (x : Locked) (r : Ready x.about x.known x.map x.segment) where
 
   pub stamp_image : (n : ℕ) → is_place x.about.shape (Stamp x.map c) ≡ true → image x.about (lock_of (written x (Stamp x.map c) n).known).copy ≡ image x.about (lock_of x.known).copy
   unfolding w
-  stamp_image n there = ap place_words (wrote x.about.shape (lock_of x.known).copy (Stamp x.map c) n r.sized there)
+  stamp_image n there = ap words_by_place (wrote x.about.shape (lock_of x.known).copy (Stamp x.map c) n r.sized there)
 
   -- what publishing asks for
   pub splits_after : IsParted x.about (lock_of x.known) → (n : ℕ) (z : Locked) → is_place x.about.shape (Stamp x.map c) ≡ true → z ≡ written x (Stamp x.map c) n → n % 2 ≡ 0 → stamp_depth n ≡ stamp_depth (lock_of x.known).stamp + 1 → n / 256 ≤ x.about.version
@@ -139,7 +139,7 @@ module _ (a : About) (l : Known) (m s : ℕ) (c : LockShows a l m s) (room : s <
   d = stamp_depth (lock_of l).stamp
 
   more : ℕ → Bool
-  more e = is_put (lock_of l).change e || in_hand l.fresh m e
+  more e = is_put (lock_of l).change e || fills_element l.fresh m e
 
   -- the segment is sound before
   pub sound_locked : SegSound (locked_view a l m s)
@@ -205,7 +205,7 @@ child_inside g s d room less =
     (omega arith, most, omega arith)
 
 pub stamp_place : (a : About) (m s : ℕ) → IsSegment a m s → is_place a.shape (Stamp m s) ≡ true
-stamp_place a m s at_s = rw (lt m (length a.shape.maps) at_s.0, lt s (segments (shape_at a m)) at_s.1) refl
+stamp_place a m s at_s = rw (lt-ltb m (length a.shape.maps) at_s.0, lt-ltb s (segments (shape_at a m)) at_s.1) refl
 
 pub child_deep : (w d : ℕ) → d < 31 → (w * 256 + 2 * (d + 1)) / 2 % 32 ≡ d + 1
 child_deep w d few = omega arith

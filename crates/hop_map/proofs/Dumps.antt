@@ -13,6 +13,7 @@ use Rattle.std.specs.FinMap.{get}
 use Rattle.std.specs.List.{AllByRecursion}
 use Rattle.std.specs.List.Sorted.{IsStrictlySortedBy}
 use Rattle.std.specs.Map.{keys_of}
+use Rattle.std.proofs.lemmas.Bool.{cases_lt, lt-ltb, and_from}
 use Rattle.bpf_base.specs.Bytes.{low_bytes}
 use Rattle.bpf_shared.specs.declared.events.Entry.{Entry}
 use Rattle.bpf_shared.specs.Store.{Plain, Value, Finds, as_made}
@@ -21,7 +22,7 @@ use Rattle.bpf_shared.specs.Listing.{Pair, pair_at, pair_of, IsListing, listed}
 use Rattle.hop_layout.specs.Home.{home_of}
 use Rattle.hop_layout.specs.Layout.{depth, power, segments}
 use Rattle.hop_layout.specs.Births.{is_born}
-use Rattle.hop_layout.proofs.Births.{low_is, high_is, lt_is, ge_is, both_and, power_mono, below_or, born_small, each_has_one_owner}
+use Rattle.hop_layout.proofs.Births.{low_is, high_is, ge_is, power_mono, born_small, each_has_one_owner}
 use Rattle.hop_layout.specs.Words.{bytes_of_words}
 use Rattle.hop_words.specs.Content.{IsOnList, IsShare, item}
 use Rattle.hop_words.specs.Depths.{IsBorn, home_by}
@@ -31,7 +32,7 @@ use Rattle.hop_words.specs.Seats.{view as whole_view, KeepsWholeHistory}
 use Rattle.hop_words.specs.Closing.{Ending}
 use Rattle.hop_seg.specs.Words.{Words as SegWords}
 use Rattle.hop_seg.specs.Segment.{Sound as SegSound}
-use Rattle.hop_seg.specs.Content.{IsListed}
+use Rattle.hop_seg.specs.Content.{IsInOverflow}
 use Rattle.hop_seg.proofs.Walking.{Counted}
 use Rattle.hop_map.specs.Private.LockedSegment.{segment_view}
 use Rattle.hop_map.specs.Private.Dumping.{words_in, key_in, IsReached, IsKeyAmong, IsPairFound, AreFound, AddsPairs}
@@ -158,14 +159,14 @@ births_same d d' (suc n) s agree =
     ⊎_elim
     (λ (l : s < power n). low_is d' n s l ∙ (births_same d d' n s lower ∙ sym (low_is d n s l)))
     (λ (g : power n ≤ s). high_is d' n s g ∙ (high_same d d' n (s - power n) (is_born d n (s - power n)) refl (births_same d d' n (s - power n) lower) (lower (s - power n)) ∙ sym (high_is d n s g)))
-    (below_or s (power n))
+    (cases_lt s (power n))
 
 -- a segment's birth, a bit at a time
 pub bit_low : (d : ℕ → ℕ) (n s : ℕ) (o : Bool) → is_born d (suc n) s ≡ o → s < power n → is_born d n s ≡ o
 bit_low d n s o is l = sym (low_is d n s l) ∙ is
 
 pub bit_high : (d : ℕ → ℕ) (n s : ℕ) (o : Bool) → is_born d (suc n) s ≡ o → power n ≤ s → n < d (s - power n) → is_born d n (s - power n) ≡ o
-bit_high d n s o is g deep = sym (high_is d n s g ∙ ap (λ (b : Bool). b && is_born d n (s - power n)) (lt_is n (d (s - power n)) deep)) ∙ is
+bit_high d n s o is g deep = sym (high_is d n s g ∙ ap (λ (b : Bool). b && is_born d n (s - power n)) (lt-ltb n (d (s - power n)) deep)) ∙ is
 
 pub bit_none : (d : ℕ → ℕ) (n s : ℕ) → power n ≤ s → d (s - power n) ≤ n → is_born d (suc n) s ≡ false
 bit_none d n s g flat = high_is d n s g ∙ ap (λ (b : Bool). b && is_born d n (s - power n)) (ge_is n (d (s - power n)) flat)
@@ -195,8 +196,8 @@ module _ (e : Ending) (w : KeepsWholeHistory e.about (whole_view [] e.history) e
         (λ (high : power n ≤ s).
         let up = power_mono n (depth (shape_at e.about m)) (omega arith) in
         let z = w.rule.deep.whole m (s - power n) there (omega arith) fixed in
-        high_is (w.ghost.depths m) n s high ∙ both_and _ _ (lt_is n (w.ghost.depths m (s - power n)) (omega arith)) (born_fixed n (s - power n) (omega arith) (omega arith)))
-        (below_or s (power n))
+        high_is (w.ghost.depths m) n s high ∙ and_from _ _ (lt-ltb n (w.ghost.depths m (s - power n)) (omega arith)) (born_fixed n (s - power n) (omega arith) (omega arith)))
+        (cases_lt s (power n))
 
     born_all : (n : ℕ) → n ≤ segments (shape_at e.about m) → born_below e m n ≡ n
     born_all zero le = refl
@@ -273,10 +274,10 @@ module _ (e : Ending) (w : KeepsWholeHistory e.about (whole_view [] e.history) e
     pub sound : SegSound seen
     sound = seg_sound e.about m s (rest_depths e m s) (λ i. true) (words_in e) (w.ghost.linked m) (shows_here s inside) (λ key i is home. ((w.rule.linked.within m key i is).0.1, refl))
 
-    pub listed_reached : (i : ℕ) → IsListed seen i → IsReached e m s i
+    pub listed_reached : (i : ℕ) → IsInOverflow seen i → IsReached e m s i
     listed_reached i l = reached_of e.about m s (rest_depths e m s) (λ i. true) (words_in e) i (inr l)
 
-    pub on_list : (i : ℕ) → IsOnList (words_in e) m s i → IsListed seen i
+    pub on_list : (i : ℕ) → IsOnList (words_in e) m s i → IsInOverflow seen i
     on_list i h = (h.0, chain_of ((words_in e).link m) ((words_in e).head m s) h.0 h.1, among_of i h.0 h.2)
 
     -- the elements at places

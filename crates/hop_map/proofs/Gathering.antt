@@ -20,12 +20,13 @@ use Rattle.hop_words.specs.Depths.{stamp_depth, home_by}
 use Rattle.hop_words.specs.Ghost.{shape_at, IsHomeIn, IsSegment, Each}
 use Rattle.hop_words.specs.Kinds.{SaysDepth, LocksSegment, locking, ShowsIn, IsShownIn, AreElsewhere, TakesEffect}
 use Rattle.std.specs.Prelude.{slice_index_or}
+use Rattle.std.proofs.lemmas.Bool.{false_from_ne_true}
 use Rattle.hop_words.specs.Locking.{lock_of, other_locks, unlocking_last, no_lock, HasLastLock}
 use Rattle.hop_words.specs.Owning.{tail_of}
 use Rattle.hop_words.specs.Listing.{ListsSegment, ListsMap, IsHomeAmong, lock_given, AnswersGiving}
 use Rattle.hop_words.specs.declared.known.Sight.{Sight}
 use Rattle.hop_words.specs.Sights.{sight, sighted, lock_taken}
-use Rattle.hop_map.specs.Noting.{undone, TakesLocks}
+use Rattle.hop_map.specs.Noting.{steps_undone, TakesLocks}
 use Rattle.hop_map.specs.Private.Listing.{Falls, IsOwnedAmong, Covers, Gathers, Opens, Adds, taken_by, given_back, NotesLock, NotesLocks, LocksMore, ReadsMore, Listed}
 use Rattle.hop_map.specs.Private.Locks.{Sought, IsUnborn}
 use Rattle.hop_map.proofs.Locking.{locked_contents}
@@ -113,10 +114,6 @@ found_first m s d (k ∷ ks) f owns h = ⊎_elim
     (λ (more : IsOwnedAmong s ks). absurd (let r = below m s k.segment d ks f.3 owns.1 more in let z = f.1 in omega arith))
     h
 
-pub not_true : (b : Bool) → (b ≡ true → ⊥) → b ≡ false
-not_true true h = absurd (h refl)
-not_true false h = refl
-
 -- ---- the lock
 module _ (a : About) (l : Known) (m s n : ℕ) (at_s : IsSegment a m s) (keys : List (List ℕ)) (g : Gathers a l m s keys) (l2 : Known) (t : LocksSegment a l m s n l2) where
   abbrev mine : Known
@@ -138,7 +135,7 @@ module _ (a : About) (l : Known) (m s n : ℕ) (at_s : IsSegment a m s) (keys : 
 
   -- none of the keys is at home here
   none_home : (q : List ℕ) → home_by a m (stamp_depth n) q ≡ s → is_among q keys ≡ false
-  none_home q home = not_true (is_among q keys) (λ h. shown_apart q l.locks t.others (at_key (IsShownIn a m l.locks) q keys g.shown h) home)
+  none_home q home = false_from_ne_true (is_among q keys) (λ h. shown_apart q l.locks t.others (at_key (IsShownIn a m l.locks) q keys g.shown h) home)
 
   pub opened : Opens a l2 m s keys
   opened = record {
@@ -168,7 +165,7 @@ module _ (a : About) (l : Known) (m s n : ℕ) (at_s : IsSegment a m s) (keys : 
     list_there [] apart of p = tt
     list_there (k ∷ ks) apart of p = (
       (λ f share q home.
-          let away : is_among q d.more ≡ false = not_true (is_among q d.more) (λ h. apart.0 of.0 q home (add_here q h)) in
+          let away : is_among q d.more ≡ false = false_from_ne_true (is_among q d.more) (λ h. apart.0 of.0 q home (add_here q h)) in
           p.0 f share q home ∙ sym (among-append q keys d.more ∙ (ap (λ (b : Bool). is_among q keys || b) away ∙ or_false (is_among q keys)))),
       list_there ks apart.1 of.1 p.1,
     )
@@ -310,12 +307,12 @@ notes_read a l m n x y h q =
       takes = subst (λ (ks : List Lock). TakesLocks a m n (taken_by ks)) (sym locks) h.takes;
     }
 
-undone-append : (xs ys zs : List Sight) → undone xs (ys ++ zs) ≡ undone xs ys ++ zs
+undone-append : (xs ys zs : List Sight) → steps_undone xs (ys ++ zs) ≡ steps_undone xs ys ++ zs
 undone-append [] ys zs = refl
 undone-append (x ∷ xs) ys zs = undone-append xs (sight x.place x.left x.found ∷ ys) zs
 
 -- the locks are given back, each with the number at which it was taken
-given_undone : (ks : List Lock) (sights : List Sight) → given_back ks sights ≡ undone (taken_by ks) sights
+given_undone : (ks : List Lock) (sights : List Sight) → given_back ks sights ≡ steps_undone (taken_by ks) sights
 given_undone [] sights = refl
 given_undone (k ∷ ks) sights = given_undone ks (lock_given k ∷ sights)
 
@@ -324,7 +321,7 @@ pub listed_whole : (a : About) (l l1 l2 l3 : Known) (m : ℕ) (keys : List (List
     → l3 ≡ record l2 { locks = l3.locks; readings = l3.readings; tally = l3.tally } → given_back l3.locks l3.tally ≡ given_back l2.locks l2.tally → l3.locks ≡ [] → Listed a l m keys l3
 listed_whole a l l1 l2 l3 m keys idle locked noted last (x, p, is) kept gives none = record {
   seen = subst (TakesEffect a l (Keys m keys)) (sym (ap (λ (u : Known). u.seen) whole)) (let w = subst (λ (u : Known). TakesEffect a u (Keys m keys) x.seen) locked p.seen in record { others = w.others; foreign = w.foreign; after = w.after; legal = w.legal });
-  noted = (undone ts ts, tally, (ts, noted.takes, refl));
+  noted = (steps_undone ts ts, tally, (ts, noted.takes, refl));
   after = whole ∙ (λ j. record l { seen = sym (ap (λ (u : Known). u.seen) whole) j; locks = (none ∙ sym idle) j; readings = l3.readings; tally = l3.tally });
 }
   where
@@ -343,11 +340,11 @@ listed_whole a l l1 l2 l3 m keys idle locked noted last (x, p, is) kept gives no
         ∙ (ap (λ (u : Known). given_back u.locks (lock_given (lock_of l1) ∷ u.tally)) p.after
         ∙ ap (λ (ks : List Lock). given_back ks l1.tally) (sym last))
 
-    tally : l3.tally ≡ undone ts ts ++ l.tally
+    tally : l3.tally ≡ steps_undone ts ts ++ l.tally
     tally =
         ap (λ (ks : List Lock). given_back ks l3.tally) (sym none)
         ∙ (gives ∙ (first ∙ (given_undone l1.locks l1.tally
-        ∙ (ap (undone ts) noted.tally ∙ undone-append ts ts l.tally))))
+        ∙ (ap (steps_undone ts) noted.tally ∙ undone-append ts ts l.tally))))
 
 pub locked_on : (l l1 l2 : Known) → LocksMore l l1 → LocksMore l1 l2 → LocksMore l l2
 locked_on l l1 l2 p q = q ∙ ap (λ (x : Known). record x { locks = l2.locks; readings = l2.readings; tally = l2.tally }) p

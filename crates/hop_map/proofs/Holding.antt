@@ -1,6 +1,7 @@
 -- What a port holds lies in elements, and an access to it is one event more.
-use Rattle.std.proofs.Common.{◌≡◌, ℕ, ◌<◌, Bool, true, false, true≢false, List, [], ◌∷◌, Some, None, ◌⊎◌, inl, inr, ◌==◌, ◌&&◌, ◌||◌, length, refl, ap, sym, subst, ◌∙◌, arith}
+use Rattle.std.proofs.Common.{◌≡◌, ℕ, ◌<◌, Bool, true, true≢false, List, [], ◌∷◌, Some, None, inl, inr, ◌==◌, ◌||◌, length, ap, sym, subst, ◌∙◌, arith}
 use Rattle.std.proofs.lemmas.Bool.Decides.{nat_tests}
+use Rattle.std.proofs.lemmas.Bool.{or_cases, and_parts}
 use Rattle.atomic_table.specs.Seated.{TableId}
 use Rattle.bpf_shared.specs.declared.events.Span.{Span}
 use Rattle.bpf_shared.specs.declared.events.Event.{Event}
@@ -13,7 +14,7 @@ use Rattle.bpf_shared.specs.Passage.{same_span, IsHeldPlace}
 use Rattle.hop_words.specs.declared.known.Known.{Known}
 use Rattle.hop_words.specs.Ghost.{shape_at}
 use Rattle.hop_words.specs.Inside.{Shown}
-use Rattle.hop_words.specs.Kinds.{spans_of, IsAmong, Told}
+use Rattle.hop_words.specs.Kinds.{spans_of, IsAmongSpans, AddsEvent}
 use Rattle.hop_layout.proofs.Maps.{map_is}
 use Rattle.hop_map.specs.Private.Accesses.{IsHeldAt}
 use Rattle.hop_map.specs.Port.{Port, IsPortOf, runs, port_holds}
@@ -21,24 +22,16 @@ use Rattle.hop_map.proofs.Spans.{held_spans_lie}
 use Rattle.hop_map.proofs.Ports.{map_inside, moved, room_stays}
 
 -- ---- the spans that a CPU's events hold are among those that it looked up
-and_both : (a b : Bool) → (a && b) ≡ true → (a ≡ true) × (b ≡ true)
-and_both true true h = (refl, refl)
-and_both true false h = absurd (true≢false (sym h))
-and_both false b h = absurd (true≢false (sym h))
-
-or_cases : (a b : Bool) → (a || b) ≡ true → (a ≡ true) ⊎ (b ≡ true)
-or_cases true b h = inl refl
-or_cases false b h = inr h
 
 same_spans : (q p : Span) → same_span q p ≡ true → q ≡ p
 same_spans q p h =
-    let b = and_both (q.at == p.at) (q.size == p.size) h in
+    let b = and_parts (q.at == p.at) (q.size == p.size) h in
     let x : q.at ≡ p.at = (let k = b.0 in grind (arith, nat_tests)) in
     let y : q.size ≡ p.size = (let k = b.1 in grind (arith, nat_tests)) in
     λ i. record { at = x i; size = y i }
 
 abbrev Among : (Span → Bool) → List Span → Type 0
-Among f ps = (p : Span) → f p ≡ true → IsAmong p ps
+Among f ps = (p : Span) → f p ≡ true → IsAmongSpans p ps
 
 held_among : (f : Span → Bool) (ps : List Span) (es : List Event) → Among f ps → Among (held_from f es) (spans_of ps es)
 held_among f ps [] all = all
@@ -63,7 +56,7 @@ held_at t p at n fits running h = record {
     covers = subst (λ (q : Span). Covers q at n) is h.covers;
     aligned = h.aligned;
   };
-  held = subst (λ (q : Span). IsAmong q (spans_of [] (events_of p.known.cpu p.known.seen))) is
+  held = subst (λ (q : Span). IsAmongSpans q (spans_of [] (events_of p.known.cpu p.known.seen))) is
       (held_among no_span [] (events_of p.known.cpu p.known.seen) (λ q no. absurd (true≢false (sym no))) h.span h.holds);
   runs = running;
 }
@@ -87,7 +80,7 @@ held_at t p at n fits running h = record {
     is = lies.1.4 ∙ ap (λ (z : MapShape). element_span m z e) shape
 
 -- ---- one event more
-pub told_fits : (t : Shown) (p : Port) (z : TableId) (l : Known) (e : Event) → IsPortOf t p → z ≡ p.table → turns_of (e ∷ []) ≡ 0 → Told t.about p.known e l
+pub told_fits : (t : Shown) (p : Port) (z : TableId) (l : Known) (e : Event) → IsPortOf t p → z ≡ p.table → turns_of (e ∷ []) ≡ 0 → AddsEvent t.about p.known e l
     → IsPortOf t (record { table = z; known = l; arenas = p.arenas; batches = p.batches; spilled = p.spilled })
 told_fits t p z l e h table quiet c =
     let cpu = ap (λ (k : Known). k.cpu) c.after in

@@ -1,5 +1,6 @@
 -- What the lock says is what the code of a segment needs.
 use Rattle.std.proofs.Common.{true≢false, ◌≡◌, ℕ, ◌<◌, ◌≤◌, Bool, true, false, ◌||◌, ◌==◌, List, [], ◌∷◌, refl, ap, sym, subst, ◌∙◌, inl, inr, ◌%◌}
+use Rattle.std.proofs.lemmas.Bool.{and_parts}
 use Rattle.atomic_table.specs.Seated.{TableId}
 use Rattle.bpf_shared.specs.Shape.{elements}
 use Rattle.hop_layout.specs.declared.about.About.{About}
@@ -10,10 +11,10 @@ use Rattle.hop_words.specs.Content.{MapWords, HasKey}
 use Rattle.hop_words.specs.Ghost.{shape_at, IsSegment, Each}
 use Rattle.hop_words.specs.Rule.{image, StartsWith}
 use Rattle.hop_words.specs.Kinds.{has, MayLink, LocksSegment, locking, AreElsewhere, unlocking, TakesEffect, with_gone}
-use Rattle.hop_layout.proofs.Layouts.{one, both}
+use Rattle.hop_layout.proofs.Layouts.{one}
 use Rattle.hop_words.specs.Locking.{lock_of, other_locks, unlocking_last, hand}
 use Rattle.hop_words.specs.Owning.{tail_of}
-use Rattle.hop_map.specs.LockedSegment.{Fits, Locked, Ready, knows, in_hand}
+use Rattle.hop_map.specs.LockedSegment.{Fits, Locked, Ready, knows, fills_element}
 use Rattle.hop_map.specs.Private.UnderLock.{LockShows}
 use Rattle.bpf_shared.specs.declared.events.Event.TheVariants.{Update, Delete}
 use Rattle.bpf_shared.specs.declared.events.Entry.{Entry}
@@ -74,13 +75,13 @@ module _ (a : About) (l : Known) (m s n : ℕ) (at_s : IsSegment a m s) (l2 : Kn
   locked_contents = subst (λ (l : Known). LockShows a l m s) (sym t.after) contents
 
   -- where the elements in hand may be read too
-  module _ (mine : (e : ℕ) → in_hand l.fresh m e ≡ true → MayLink a locked (lock_of locked) e × ((q : List ℕ) × HasKey (shape_at a m) x m e q)) where
+  module _ (mine : (e : ℕ) → fills_element l.fresh m e ≡ true → MayLink a locked (lock_of locked) e × ((q : List ℕ) × HasKey (shape_at a m) x m e q)) where
     locked_known : (e : ℕ) → knows locked m e ≡ true → MayLink a locked (lock_of locked) e × ((q : List ℕ) × HasKey (shape_at a m) x m e q)
     locked_known e k = go (has e t.known) refl
       where
         go : (b : Bool) → has e t.known ≡ b → MayLink a locked (lock_of locked) e × ((q : List ℕ) × HasKey (shape_at a m) x m e q)
         go true h = linked e h
-        go false h = mine e (subst (λ (b : Bool). (b || (false || in_hand l.fresh m e)) ≡ true) h k)
+        go false h = mine e (subst (λ (b : Bool). (b || (false || fills_element l.fresh m e)) ≡ true) h k)
 
     pub ready_with : l.locks ≡ [] → Ready a l2 m s
     ready_with idle = subst (λ (l : Known). Ready a l m s) (sym t.after) (record { held = ap (λ (ks : List Lock). lock_of locked ∷ ks) idle; map = refl; segment = refl; inside = at_s; sized = t.sized; known_is = locked_known })
@@ -88,7 +89,7 @@ module _ (a : About) (l : Known) (m s n : ℕ) (at_s : IsSegment a m s) (l2 : Kn
 -- no element is in hand
 pub empty_ready : (a : About) (l : Known) (m s n : ℕ) (at_s : IsSegment a m s) (l2 : Known) (t : LocksSegment a l m s n l2) → l.fresh ≡ [] → l.locks ≡ [] → Ready a l2 m s
 empty_ready a l m s n at_s l2 t none idle = ready_with a l m s n at_s l2 t (λ e k.
-    let z : false ≡ true = subst (λ (fs : List Fresh). in_hand fs m e ≡ true) none k in
+    let z : false ≡ true = subst (λ (fs : List Fresh). fills_element fs m e ≡ true) none k in
     absurd (true≢false (sym z))) idle
 
 -- so with it the words of the segment fit the table
@@ -106,9 +107,9 @@ module _ (a : About) (l : Known) (m s n : ℕ) (at_s : IsSegment a m s) (key : L
       let f : StartsWith (hand l).key (y.key (hand l).map (hand l).element) = (subst (Each (λ (f : Fresh). StartsWith f.key (y.key f.map f.element))) c.in_hand t.filled).0 in
       (c.size, c.are_bytes, λ j lt. (λ i. y.key (sym c.map i) (sym c.number i) j) ∙ (f j (subst (λ (i : ℕ). j < i) (sym c.filled) lt) ∙ c.spelled j lt))
 
-  mine : (e : ℕ) → in_hand l.fresh m e ≡ true → MayLink a (locked a l m s n at_s l2 t) (lock_of (locked a l m s n at_s l2 t)) e × ((q : List ℕ) × HasKey (shape_at a m) y m e q)
+  mine : (e : ℕ) → fills_element l.fresh m e ≡ true → MayLink a (locked a l m s n at_s l2 t) (lock_of (locked a l m s n at_s l2 t)) e × ((q : List ℕ) × HasKey (shape_at a m) y m e q)
   mine e k =
-      let both_are = both ((hand l).map == m) (e == (hand l).element) (subst (λ (fs : List Fresh). in_hand fs m e ≡ true) c.in_hand k) in
+      let both_are = and_parts ((hand l).map == m) (e == (hand l).element) (subst (λ (fs : List Fresh). fills_element fs m e ≡ true) c.in_hand k) in
       let same : element ≡ e = sym c.number ∙ sym (one e (hand l).element both_are.1) in (
         (subst (λ (i : ℕ). i < elements (shape_at a m)) same c.inside, inl (hand l, [], c.in_hand, c.map, c.number ∙ same)),
         (key, subst (λ (i : ℕ). HasKey (shape_at a m) y m i key) same own_key),

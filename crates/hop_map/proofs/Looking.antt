@@ -12,7 +12,7 @@ use Rattle.hop_words.specs.Kinds.{LooksUpLocked, LookedUp, TakesEffect, LocksSeg
 use Rattle.hop_words.specs.Locking.{lock_of}
 use Rattle.hop_seg.specs.Segment.{Sound as SegSound}
 use Rattle.hop_seg.specs.Content.{IsAbsent as SegAbsent, HasPair}
-use Rattle.hop_map.specs.LockedSegment.{Locked, Ready, in_hand, is_put}
+use Rattle.hop_map.specs.LockedSegment.{Locked, Ready, fills_element, is_put}
 use Rattle.hop_map.specs.Private.LockedSegment.{seen_words}
 use Rattle.hop_map.specs.Private.UnderLock.{LockShows}
 use Rattle.hop_words.specs.Sights.{lock_taken}
@@ -27,7 +27,7 @@ module _ (x : Locked) (key : List ℕ) (c : LockShows x.about x.known x.map x.se
   k = lock_of x.known
 
   more : ℕ → Bool
-  more e = is_put k.change e || in_hand x.known.fresh x.map e
+  more e = is_put k.change e || fills_element x.known.fresh x.map e
 
   pub look_sound : SegSound (seen_words x)
   unfolding more

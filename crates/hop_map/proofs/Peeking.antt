@@ -1,6 +1,7 @@
 -- Words that were read while others may have been writing them.
 use Rattle.std.proofs.Common.{◌≡◌, ℕ, zero, suc, ◌+◌, ◌%◌, ◌<◌, ◌≤◌, ◌↔◌, Bool, true, false, true≢false, IsTrue, ◌||◌, ◌==◌, nat_lt, List, [], ◌∷◌, length, Option, Some, None, MatchOption, refl, ap, sym, subst, ◌∙◌, arith, ⊎_elim, inl, inr, ◌⊎◌}
 use Rattle.std.proofs.lemmas.Bool.Decides.{nat_tests}
+use Rattle.std.proofs.lemmas.Bool.{or_right, or_left, or_cases}
 use Rattle.bpf_shared.specs.Shape.{elements}
 use Rattle.hop_layout.specs.declared.about.About.{About}
 use Rattle.hop_layout.specs.declared.place.Place.{Place}
@@ -68,18 +69,6 @@ is_item_is : (o : Option ℕ) (e : ℕ) → is_item o e ≡ true → o ≡ Some 
 is_item_is None e h = absurd (true≢false (sym h))
 is_item_is (Some d) e h = let z : d ≡ e = grind (arith, nat_tests) in ap Some z
 
-or_cases : (x y : Bool) → (x || y) ≡ true → (x ≡ true) ⊎ (y ≡ true)
-or_cases true y h = inl refl
-or_cases false y h = inr h
-
-or_first : (x y : Bool) → x ≡ true → (x || y) ≡ true
-or_first true y h = refl
-or_first false y h = absurd (true≢false (sym h))
-
-or_second : (x y : Bool) → y ≡ true → (x || y) ≡ true
-or_second true y h = refl
-or_second false y h = h
-
 at_place : (slot : ℕ → ℕ) (n e : ℕ) → at_places slot n e ≡ true → (p : ℕ) × (p < n) × (item (slot p) ≡ Some e)
 at_place slot zero e h = absurd (true≢false (sym h))
 at_place slot (suc n) e h = ⊎_elim
@@ -93,8 +82,8 @@ item_is o e h = ap (λ (i : Option ℕ). is_item i e) h ∙ (let z : e == e ≡ 
 place_at : (slot : ℕ → ℕ) (n p e : ℕ) → p < n → item (slot p) ≡ Some e → at_places slot n e ≡ true
 place_at slot zero p e l h = absurd (omega arith)
 place_at slot (suc n) p e l h = ⊎_elim
-    (λ (t : p ≡ n). or_first (is_item (item (slot n)) e) (at_places slot n e) (item_is (item (slot n)) e (ap (λ (i : ℕ). item (slot i)) (sym t) ∙ h)))
-    (λ (t : p < n). or_second (is_item (item (slot n)) e) (at_places slot n e) (place_at slot n p e t h))
+    (λ (t : p ≡ n). or_left (is_item (item (slot n)) e) (at_places slot n e) (item_is (item (slot n)) e (ap (λ (i : ℕ). item (slot i)) (sym t) ∙ h)))
+    (λ (t : p < n). or_right (is_item (item (slot n)) e) (at_places slot n e) (place_at slot n p e t h))
     (last p n l)
   where
     last : (p n : ℕ) → p < suc n → (p ≡ n) ⊎ (p < n)
@@ -115,11 +104,11 @@ module _ (a : About) (m s dp : ℕ) (w : MapWords) (f : List ℕ → Option ℕ)
 
   reached_known : (e : ℕ) → Reached w m s e → leads_to e ≡ true
   reached_known e r = ⊎_elim
-      (λ (h : (b : ℕ) × (d : ℕ) × HopsTo w m s b d e). or_first (at_places (w.slot m s) 64 e) (nat_lt 0 (times e share.sound.list)) (place_at (w.slot m s) 64 ((h.0 + h.1) % 64) e (omega arith) h.2.3))
+      (λ (h : (b : ℕ) × (d : ℕ) × HopsTo w m s b d e). or_left (at_places (w.slot m s) 64 e) (nat_lt 0 (times e share.sound.list)) (place_at (w.slot m s) 64 ((h.0 + h.1) % 64) e (omega arith) h.2.3))
       (λ (o : IsOnList w m s e).
       let same : o.0 ≡ share.sound.list = one_list (w.link m) (w.head m s) o.0 share.sound.list o.1 share.sound.follows in
       let few : 1 ≤ times e share.sound.list = subst (λ (es : List ℕ). 1 ≤ times e es) same o.2 in
-      or_second (at_places (w.slot m s) 64 e) (nat_lt 0 (times e share.sound.list)) (grind (arith, nat_tests)))
+      or_right (at_places (w.slot m s) 64 e) (nat_lt 0 (times e share.sound.list)) (grind (arith, nat_tests)))
       r
 
   module _ (within : AreWithin a m f) where

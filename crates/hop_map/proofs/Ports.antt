@@ -18,9 +18,9 @@ use Rattle.hop_words.proofs.Sighted.{each-append}
 use Rattle.hop_words.specs.Ghost.{HasElement, Each, limbo_at}
 use Rattle.hop_words.specs.Inside.{Shown, Standing}
 use Rattle.bpf_shared.specs.Own.{turns_of, in_run}
-use Rattle.hop_words.specs.Kinds.{run_count, TakesEffect, Told}
+use Rattle.hop_words.specs.Kinds.{run_count, TakesEffect, AddsEvent}
 use Rattle.hop_epoch.specs.declared.batches.Batches.{Batches}
-use Rattle.hop_epoch.specs.Batch.{front, Notes, Tracks, Keeps, SeesRunning}
+use Rattle.hop_epoch.specs.Batch.{front, Notes, Tracks, KeepsBatches, SeesRunning}
 use Rattle.hop_arena.specs.declared.arena.Arena.{Arena}
 use Rattle.hop_map.specs.declared.port.HopPort.TheInside.{Inside as InPort}
 use Rattle.bpf_shared.specs.declared.events.Span.{Span}
@@ -129,7 +129,7 @@ moved t p z l h table cpu limbo room legal = record {
   batches = batches_stay t.about p.known l (length t.about.shape.maps) p.batches limbo h.batches;
 }
 
-pub begins : (t : Shown) (p : Port) (z : TableId) (l : Known) (r : Result (Unit {0}) Worn) → IsPortOf t p → z ≡ p.table → OnOk r (Told t.about p.known Begin l) → OnOk r (run_count t.about p.known + 2 < 2 ^ 64)
+pub begins : (t : Shown) (p : Port) (z : TableId) (l : Known) (r : Result (Unit {0}) Worn) → IsPortOf t p → z ≡ p.table → OnOk r (AddsEvent t.about p.known Begin l) → OnOk r (run_count t.about p.known + 2 < 2 ^ 64)
     → OnErr r (l ≡ p.known) → IsPortOf t (record { table = z; known = l; arenas = p.arenas; batches = p.batches; spilled = p.spilled })
 begins t p z l (Ok u) h table told room same = moved t p z l h table (ap (λ (k : Known). k.cpu) told.after) (ap (λ (k : Known). k.limbo) told.after)
     (λ now. let n = turned t.about p.known l Begin told.seen (ap (λ (k : Known). k.cpu) told.after) in omega (arith, room)) told.seen.legal
@@ -139,7 +139,7 @@ begins t p z l (Err e) h table told room same = moved t p z l h table (ap (λ (k
 
 -- ---- the end of a run
 
-pub reclaims : (t : Shown) (ended l l' : Known) (m : ℕ) (bs : List Batches) (b : Batches) → m < length t.about.shape.maps → b.map ≡ m → Keeps m l l' → Tracks t.about l' m b.young b.aged b.noted → IsEnding t ended l bs → IsEnding t ended l' (set bs m b)
+pub reclaims : (t : Shown) (ended l l' : Known) (m : ℕ) (bs : List Batches) (b : Batches) → m < length t.about.shape.maps → b.map ≡ m → KeepsBatches m l l' → Tracks t.about l' m b.young b.aged b.noted → IsEnding t ended l bs → IsEnding t ended l' (set bs m b)
 reclaims t ended l l' m bs b here name keeps tracks i = record {
   cpu = keeps.cpu ∙ i.cpu;
   seen = keeps.seen ∙ i.seen;
@@ -160,7 +160,7 @@ reclaims t ended l l' m bs b here name keeps tracks i = record {
 }
 
 -- the run has ended
-pub ends_last : (t : Shown) (p : Port) (z : TableId) (ended l : Known) (bs : List Batches) (o : Option ℕ) → IsPortOf t p → runs p ≡ true → z ≡ t.id → Told t.about p.known End ended → IsEnding t ended l bs → IsPortOf t (record { table = z; known = l; arenas = p.arenas; batches = bs; spilled = o })
+pub ends_last : (t : Shown) (p : Port) (z : TableId) (ended l : Known) (bs : List Batches) (o : Option ℕ) → IsPortOf t p → runs p ≡ true → z ≡ t.id → AddsEvent t.about p.known End ended → IsEnding t ended l bs → IsPortOf t (record { table = z; known = l; arenas = p.arenas; batches = bs; spilled = o })
 ends_last t p z ended l bs o h running table told i =
     let cpu = i.cpu ∙ ap (λ (k : Known). k.cpu) told.after in record {
       table = table;
@@ -241,22 +241,22 @@ still_runs a l l' e s same quiet runs' =
     let turns : turns_of (events_of l'.cpu l'.seen) ≡ turns_of (events_of l.cpu l.seen) = let n = turned a l l' e s same in omega (arith, quiet) in
     ap (λ (k : ℕ). k % 2 == 1) turns ∙ runs'
 
-pub begun_runs : (a : About) (l l' : Known) (r : Result (Unit {0}) Worn) → OnOk r (Told a l Begin l') → in_run (events_of l.cpu l.seen) ≡ false → OnOk r (in_run (events_of l'.cpu l'.seen) ≡ true)
+pub begun_runs : (a : About) (l l' : Known) (r : Result (Unit {0}) Worn) → OnOk r (AddsEvent a l Begin l') → in_run (events_of l.cpu l.seen) ≡ false → OnOk r (in_run (events_of l'.cpu l'.seen) ≡ true)
 begun_runs a l l' (Ok u) told idle = let n = turned a l l' Begin told.seen (ap (λ (k : Known). k.cpu) told.after) in grind (arith, nat_tests)
 begun_runs a l l' (Err e) told idle = tt
 
-pub ended_idle : (t : Shown) (p : Port) (ended l : Known) (bs : List Batches) → Told t.about p.known End ended → IsEnding t ended l bs → runs p ≡ true → in_run (events_of l.cpu l.seen) ≡ false
+pub ended_idle : (t : Shown) (p : Port) (ended l : Known) (bs : List Batches) → AddsEvent t.about p.known End ended → IsEnding t ended l bs → runs p ≡ true → in_run (events_of l.cpu l.seen) ≡ false
 ended_idle t p ended l bs told i running =
     let cpu = i.cpu ∙ ap (λ (k : Known). k.cpu) told.after in
     let n = turned t.about p.known l End (subst (TakesEffect t.about p.known End) (sym i.seen) told.seen) cpu in
     grind (arith, nat_tests)
 
 -- ---- what a beginning and an end note
-pub begun_notes : (a : About) (l l' : Known) (r : Result (Unit {0}) Worn) → OnOk r (Told a l Begin l') → OnOk r (CallNotes a Begin l l')
+pub begun_notes : (a : About) (l l' : Known) (r : Result (Unit {0}) Worn) → OnOk r (AddsEvent a l Begin l') → OnOk r (CallNotes a Begin l l')
 begun_notes a l l' (Ok u) told = ([], ap (λ (k : Known). k.tally) told.after, refl)
 begun_notes a l l' (Err e) told = tt
 
-pub ended_notes : (t : Shown) (p : Port) (ended l : Known) (bs : List Batches) → Told t.about p.known End ended → IsEnding t ended l bs → CallNotes t.about End p.known l
+pub ended_notes : (t : Shown) (p : Port) (ended l : Known) (bs : List Batches) → AddsEvent t.about p.known End ended → IsEnding t ended l bs → CallNotes t.about End p.known l
 ended_notes t p ended l bs told i = (i.sights.0, i.sights.1 ∙ ap (λ (k : Known). i.sights.0 ++ k.tally) told.after, i.sights.2)
 
 -- ---- batches that were looked at
@@ -271,7 +271,7 @@ reclaimed_now m before l l' (more, is, leave) empty (inr (d, sooner, seen, odd))
   odd,
 )
 
-pub reclaimed_still : (m k : ℕ) (before : List Sight) (l l' : Known) → m ≢ k → Keeps k l l' → IsReclaimed m before l → IsReclaimed m before l'
+pub reclaimed_still : (m k : ℕ) (before : List Sight) (l l' : Known) → m ≢ k → KeepsBatches k l l' → IsReclaimed m before l → IsReclaimed m before l'
 reclaimed_still m k before l l' ne keeps (inl (old, young)) = inl (ap (λ (x : Limbo). x.old) (keeps.others m ne) ∙ old, ap (λ (x : Limbo). x.young) (keeps.others m ne) ∙ young)
 reclaimed_still m k before l l' ne keeps (inr (d, later, sooner, is, odd)) =
     let same : slice_index (limbo_at l'.limbo m).noted d ≡ slice_index (limbo_at l.limbo m).noted d = ap (λ (x : Limbo). slice_index x.noted d) (keeps.others m ne) in
@@ -287,12 +287,12 @@ reclaimed_still m k before l l' ne keeps (inr (d, later, sooner, is, odd)) =
     )
 
 -- of each map so far, and of one more
-pub reclaimed_more : (n : ℕ) (before : List Sight) (l l' : Known) → Keeps n l l' → ((m : ℕ) → m < n → IsReclaimed m before l) → IsReclaimed n before l' → (m : ℕ) → m < n + 1 → IsReclaimed m before l'
+pub reclaimed_more : (n : ℕ) (before : List Sight) (l l' : Known) → KeepsBatches n l l' → ((m : ℕ) → m < n → IsReclaimed m before l) → IsReclaimed n before l' → (m : ℕ) → m < n + 1 → IsReclaimed m before l'
 reclaimed_more n before l l' keeps all here m inside = by_equal m n
     (λ e. subst (λ (k : ℕ). IsReclaimed k before l') (sym e) here)
     (λ ne. reclaimed_still m n before l l' ne keeps (all m (less m n inside ne)))
 
-pub ended_reclaimed : (t : Shown) (p : Port) (ended l : Known) (m : ℕ) → Told t.about p.known End ended → IsReclaimed m ended.tally l → IsReclaimed m p.known.tally l
+pub ended_reclaimed : (t : Shown) (p : Port) (ended l : Known) (m : ℕ) → AddsEvent t.about p.known End ended → IsReclaimed m ended.tally l → IsReclaimed m p.known.tally l
 ended_reclaimed t p ended l m told is = subst (λ (z : List Sight). IsReclaimed m z l) (ap (λ (k : Known). k.tally) told.after) is
 
 -- a listing turns no run

@@ -1,5 +1,6 @@
 -- A new element: from the lock to the unlock.
 use Rattle.std.proofs.Common.{◌≡◌, ℕ, ◌<◌, ◌%◌, ◌^◌, eq-eqb, Bool, true, false, ◌||◌, ◌==◌, List, [], ◌∷◌, Option, Some, None, refl, ap, sym, subst, ◌∙◌}
+use Rattle.std.proofs.lemmas.Bool.{or_right, or_left}
 use Rattle.bpf_shared.specs.Shape.{elements}
 use Rattle.hop_layout.specs.declared.about.About.{About}
 use Rattle.hop_words.specs.declared.known.Known.{Known}
@@ -11,13 +12,12 @@ use Rattle.hop_map.specs.Private.LockedSegment.{segment_view, locked_view, seen_
 use Rattle.hop_words.specs.Content.{MapWords, IsShare, HasKey}
 use Rattle.hop_words.specs.Ghost.{shape_at, lock_home}
 use Rattle.hop_words.specs.Rule.{image, put_key}
-use Rattle.hop_words.specs.Kinds.{has, Inserted, IsKeyAbsent, IsWritten, LeadsTo}
+use Rattle.hop_words.specs.Kinds.{has, Inserted, IsKeyAbsent, IsWritten, LeadsToElement}
 use Rattle.hop_seg.specs.Words.{Fixed}
 use Rattle.hop_seg.specs.Segment.{Sound as SegSound, IsOwn, element_key}
 use Rattle.hop_seg.specs.Content.{IsAbsent as SegAbsent, HasPair, Gains}
 use Rattle.hop_map.specs.Private.UnderLock.{LockShows, OffersInsertion}
 use Rattle.hop_map.proofs.Keys.{spells}
-use Rattle.hop_map.proofs.Counted.{or_true}
 use Rattle.hop_map.proofs.Bridge.{seg_sound, pair_leads, leads_pair, inserted, power_is}
 use Rattle.hop_words.specs.Depths.{stamp_depth, home_by}
 use Rattle.hop_map.specs.LockedSegment.{locked_home}
@@ -48,7 +48,7 @@ module _ (a : About) (l : Known) (m s : ℕ) (c : LockShows a l m s) where
     kn e = has e (lock_of l).known || more e
 
     pub known_by : (f : List ℕ → Option ℕ) → IsShare a.seed (shape_at a m) (home_by a m (stamp_depth (lock_of l).stamp)) x m s f → (key : List ℕ) (e : ℕ) → f key ≡ Some e → locked_home a l m key ≡ s → (e < elements (shape_at a m)) × (has e (lock_of l).known || more e ≡ true)
-    known_by f p key e is at_home = let t = any_known f p key e is at_home in (t.0, or_true (has e (lock_of l).known) (more e) t.1)
+    known_by f p key e is at_home = let t = any_known f p key e is at_home in (t.0, or_left (has e (lock_of l).known) (more e) t.1)
 
     pub sound_with : SegSound (segment_view a m s (stamp_depth (lock_of l).stamp) (λ e. has e (lock_of l).known || more e) x)
     sound_with = seg_sound a m s (stamp_depth (lock_of l).stamp) (λ e. has e (lock_of l).known || more e) x c.content share (known_by c.content share)
@@ -64,16 +64,12 @@ module _ (a : About) (l : Known) (m s : ℕ) (c : LockShows a l m s) where
       pub absent_with : SegAbsent (segment_view a m s (stamp_depth (lock_of l).stamp) (λ e. has e (lock_of l).known || more e) x) key → IsKeyAbsent a (lock_of l) key
       absent_with gone f p = none_with gone f (here f p)
 
-      pub leads_with : (e : ℕ) → HasPair (segment_view a m s (stamp_depth (lock_of l).stamp) (λ e. has e (lock_of l).known || more e) x) key e → LeadsTo a (lock_of l) key e
+      pub leads_with : (e : ℕ) → HasPair (segment_view a m s (stamp_depth (lock_of l).stamp) (λ e. has e (lock_of l).known || more e) x) key e → LeadsToElement a (lock_of l) key e
       leads_with e h f p = (pair_leads a m s (stamp_depth (lock_of l).stamp) (λ e. has e (lock_of l).known || more e) x f (here f p) (known_by f (here f p)) key e h).0
 
       -- an element that a key leads to is one of the map's
       pub was_inside : (e : ℕ) → HasPair (segment_view a m s (stamp_depth (lock_of l).stamp) (λ e. has e (lock_of l).known || more e) x) key e → e < elements (shape_at a m)
       was_inside e h = (known_by c.content share key e (pair_leads a m s (stamp_depth (lock_of l).stamp) (λ e. has e (lock_of l).known || more e) x c.content share (known_by c.content share) key e h).0 at_home).0
-
-pub or_last : (x y : Bool) → y ≡ true → (x || y) ≡ true
-or_last true y is = refl
-or_last false y is = is
 
 -- after the count has gone up
 module _ (x : Locked) (key bytes : List ℕ) (flags element : ℕ) (c : LockShows x.about x.known x.map x.segment) (b : OffersInsertion x.about x.known x.map x.segment key bytes flags element) (gone : SegAbsent (seen_words x) key)
@@ -110,7 +106,7 @@ module _ (x : Locked) (key bytes : List ℕ) (flags element : ℕ) (c : LockShow
   own : IsOwn (seen_words x1).fixed element
   unfolding more
   own = record {
-    known = (or_last (has element (lock_of x.known).known) ((element == o) || false) (or_true (element == o) false (eq-eqb element o (sym b.filled.number))), b.filled.inside);
+    known = (or_right (has element (lock_of x.known).known) ((element == o) || false) (or_left (element == o) false (eq-eqb element o (sym b.filled.number))), b.filled.inside);
     home = ap (λ (q : List ℕ). home x.about.seed (shape_at x.about x.map).mask q % 2 ^ (stamp_depth (lock_of x.known).stamp)) spelt
         ∙ (ap (λ (n : ℕ). home x.about.seed (shape_at x.about x.map).mask key % n) (sym (power_is (stamp_depth (lock_of x.known).stamp))) ∙ b.filled.home);
   }

@@ -9,7 +9,7 @@ use Rattle.hop_words.specs.declared.known.Change.TheVariants.{Drops}
 use Rattle.hop_words.specs.Content.{IsShare}
 use Rattle.hop_words.specs.Ghost.{shape_at}
 use Rattle.hop_words.specs.Rule.{image, put_key, numbered}
-use Rattle.hop_words.specs.Kinds.{has, IsKeyAbsent, Answers, Removes, IsWritten, TakesEffect, with_gone}
+use Rattle.hop_words.specs.Kinds.{has, IsKeyAbsent, AnswersUnderLock, Removes, IsWritten, TakesEffect, with_gone}
 use Rattle.hop_words.specs.Locking.{lock_of}
 use Rattle.hop_layout.proofs.Maps.{map_is}
 use Rattle.bpf_shared.specs.Shape.{Shape, IsMap, elements}
@@ -17,7 +17,7 @@ use Rattle.std.specs.FinMap.{get}
 use Rattle.std.specs.Prelude.{is_some}
 use Rattle.hop_seg.specs.Segment.{Sound as SegSound}
 use Rattle.hop_seg.specs.Content.{IsAbsent as SegAbsent, HasPair, Loses}
-use Rattle.hop_map.specs.LockedSegment.{Locked, Stays, Ready, in_hand, is_put}
+use Rattle.hop_map.specs.LockedSegment.{Locked, Stays, Ready, fills_element, is_put}
 use Rattle.hop_map.specs.Private.LockedSegment.{seen_words}
 use Rattle.hop_map.specs.Private.UnderLock.{LockShows}
 use Rattle.hop_map.specs.Private.Removals.{NamesKey, Dropped}
@@ -35,7 +35,7 @@ module _ (x : Locked) (key : List ℕ) (c : LockShows x.about x.known x.map x.se
   k = lock_of x.known
 
   more : ℕ → Bool
-  more e = is_put k.change e || in_hand x.known.fresh x.map e
+  more e = is_put k.change e || fills_element x.known.fresh x.map e
 
   pub drop_inside : (e : ℕ) → HasPair (seen_words x) key e → e < elements (shape_at x.about x.map)
   unfolding more
@@ -46,7 +46,7 @@ module _ (x : Locked) (key : List ℕ) (c : LockShows x.about x.known x.map x.se
   drop_sound = sound_with x.about x.known x.map x.segment c more
 
   -- the key isn't there, so the answer is allowed
-  pub drop_answers : SegAbsent (seen_words x) key → Ready x.about x.known x.map x.segment → Answers x.about x.known k (Delete x.map key Absent)
+  pub drop_answers : SegAbsent (seen_words x) key → Ready x.about x.known x.map x.segment → AnswersUnderLock x.about x.known k (Delete x.map key Absent)
   unfolding more
   drop_answers gone r =
       let absent : IsKeyAbsent x.about k key = absent_with x.about x.known x.map x.segment c more key b.home gone in
@@ -70,7 +70,7 @@ module _ (x : Locked) (key : List ℕ) (c : LockShows x.about x.known x.map x.se
       }
 
   -- a deletion may always be refused with Busy where the segment has its last version
-  pub worn_answers : 2 ^ 56 - 1 ≤ k.stamp / 256 → Ready x.about x.known x.map x.segment → Answers x.about x.known k (Delete x.map key Busy)
+  pub worn_answers : 2 ^ 56 - 1 ≤ k.stamp / 256 → Ready x.about x.known x.map x.segment → AnswersUnderLock x.about x.known k (Delete x.map key Busy)
   worn_answers worn r = record {
     lock = r.held;
     clean = c.clean;

@@ -1,5 +1,6 @@
 -- A replacement: from the lock to the unlock.
 use Rattle.std.proofs.Common.{◌≡◌, ℕ, ◌<◌, ◌%◌, ◌^◌, eq-eqb, Bool, true, true≢false, ◌||◌, ◌&&◌, ◌==◌, List, [], ◌∷◌, Some, refl, ap, sym, subst, ◌∙◌}
+use Rattle.std.proofs.lemmas.Bool.{or_right}
 use Rattle.bpf_shared.specs.Shape.{elements}
 use Rattle.bpf_shared.specs.declared.events.Event.TheVariants.{Update}
 use Rattle.bpf_shared.specs.declared.events.MapAnswer.TheVariants.{Done}
@@ -7,7 +8,7 @@ use Rattle.hop_layout.specs.declared.about.About.{About}
 use Rattle.hop_words.specs.declared.known.Known.{Known}
 use Rattle.hop_words.specs.declared.known.Lock.{Lock}
 use Rattle.hop_words.specs.declared.known.Fresh.{Fresh}
-use Rattle.hop_map.specs.LockedSegment.{home, Locked, Stays, Ready, in_hand, is_put}
+use Rattle.hop_map.specs.LockedSegment.{home, Locked, Stays, Ready, fills_element, is_put}
 use Rattle.hop_map.specs.Private.LockedSegment.{seen_words}
 use Rattle.hop_words.specs.Content.{IsShare, HasKey}
 use Rattle.hop_words.specs.Ghost.{shape_at, lock_home}
@@ -21,7 +22,7 @@ use Rattle.hop_map.specs.Private.Replacing.{OffersReplacement, IsReplacement}
 use Rattle.hop_map.proofs.Keys.{spells}
 use Rattle.hop_map.proofs.Bridge.{replaced, reached_of, power_is}
 use Rattle.hop_map.proofs.Staying.{stays_is}
-use Rattle.hop_map.proofs.Puts.{sound_with, share, any_known, leads_with, known_by, here, or_last, was_inside}
+use Rattle.hop_map.proofs.Puts.{sound_with, share, any_known, leads_with, known_by, here, was_inside}
 use Rattle.hop_words.specs.Depths.{stamp_depth, home_by}
 
 module _ (x : Locked) (key bytes : List ℕ) (flags element : ℕ) (c : LockShows x.about x.known x.map x.segment) (b : OffersReplacement x.about x.known x.map x.segment key bytes flags element) where
@@ -29,7 +30,7 @@ module _ (x : Locked) (key bytes : List ℕ) (flags element : ℕ) (c : LockShow
   k = lock_of x.known
 
   more : ℕ → Bool
-  more e = is_put k.change e || in_hand x.known.fresh x.map e
+  more e = is_put k.change e || fills_element x.known.fresh x.map e
 
   pub over_sound : SegSound (seen_words x)
   unfolding more
@@ -46,13 +47,13 @@ module _ (x : Locked) (key bytes : List ℕ) (flags element : ℕ) (c : LockShow
       let q = any_known x.about x.known x.map x.segment c c.content p t.0 element t.3 t.2 in
       true≢false (sym q.1 ∙ b.apart)
 
-  held_here : in_hand x.known.fresh x.map element ≡ true
-  held_here = subst (λ (fs : List Fresh). in_hand fs x.map element ≡ true) (sym b.filled.in_hand)
+  held_here : fills_element x.known.fresh x.map element ≡ true
+  held_here = subst (λ (fs : List Fresh). fills_element fs x.map element ≡ true) (sym b.filled.in_hand)
       ((λ j. eq-eqb (hand x.known).map x.map b.filled.map j && (element == (hand x.known).element)) ∙ eq-eqb element (hand x.known).element (sym b.filled.number))
 
   pub over_own : IsOwn (seen_words x).fixed element
   over_own = record {
-    known = (or_last (has element k.known) _ (or_last (is_put k.change element) _ held_here), b.filled.inside);
+    known = (or_right (has element k.known) _ (or_right (is_put k.change element) _ held_here), b.filled.inside);
     home = ap (λ (q : List ℕ). home x.about.seed (shape_at x.about x.map).mask q % 2 ^ (stamp_depth k.stamp)) over_spelt
         ∙ (ap (λ (n : ℕ). home x.about.seed (shape_at x.about x.map).mask key % n) (sym (power_is (stamp_depth k.stamp))) ∙ b.filled.home);
   }

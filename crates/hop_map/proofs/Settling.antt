@@ -2,6 +2,7 @@
 use Rattle.std.proofs.Common.{◌≡◌, eq-eqb, ◌==◌, ◌++◌, ◌+◌, ◌≢◌, ℕ, zero, suc, ◌<◌, ◌≤◌, true, List, [], ◌∷◌, length, slice_index, length-set, get_or-set_other, ⊎_elim, refl, ap, sym, subst, ◌∙◌, arith}
 use Rattle.std.proofs.lemmas.List.{get_or_append_left}
 use Rattle.std.proofs.Math.Seq.{get_or-append_seam}
+use Rattle.std.proofs.lemmas.Bool.{cases_eq}
 use Rattle.bpf_shared.specs.Shape.{elements}
 use Rattle.bpf_shared.specs.History.{events_of, entry}
 use Rattle.bpf_shared.proofs.Chains.{events_of-append, events_of-own}
@@ -24,8 +25,7 @@ use Rattle.hop_words.specs.Shortage.{updates_of}
 use Rattle.hop_words.specs.Kinds.{TakesEffect, retiring, with_gone}
 use Rattle.hop_words.proofs.Shortages.{updates_of-append}
 use Rattle.bpf_shared.specs.Own.{in_run}
-use Rattle.hop_words.specs.Owning.{tail_of, IsInHand, IsAnswered, update_in_hand}
-use Rattle.hop_words.proofs.Small.{equal}
+use Rattle.hop_words.specs.Owning.{tail_of, IsInHand, IsUpdateAnswered, update_in_hand}
 use Rattle.hop_arena.specs.Filling.{with_words, word_list}
 use Rattle.hop_arena.proofs.Filling.{word_count}
 use Rattle.hop_epoch.proofs.Batching.{at_set}
@@ -43,7 +43,7 @@ words_at (suc n) bs i less = ⊎_elim
     (λ (t : i ≡ n). subst (λ (k : ℕ). slice_index (word_list (suc n) bs) k ≡ word_of bs k) (sym t)
     (ap (slice_index (word_list (suc n) bs)) (sym (word_count n bs)) ∙ get_or-append_seam (word_list n bs) (word_of bs n) [] 0))
     (λ (ne : i ≢ n). get_or_append_left (word_list n bs) (word_of bs n ∷ []) 0 i (let c = word_count n bs in omega arith) ∙ words_at n bs i (omega arith))
-    (equal i n)
+    (cases_eq i n)
 
 -- an update that took effect is one more of the CPU's
 one_more : {a : About} (m : ℕ) (l : Known) (key bytes : List ℕ) (flags : ℕ) (r : MapAnswer) (seen : List Entry) → TakesEffect a l (Update m key bytes flags r) seen → updates_of m (events_of l.cpu l.seen) < updates_of m (events_of l.cpu seen)
@@ -110,7 +110,7 @@ module _ (a : About) (l : Known) (m e : ℕ) (new : HoldsNew l m e) (key bytes :
       refused_hand = (whole, refused_fresh ∙ ap (λ (fs : List Fresh). whole ∷ fs) (sym (ap tail_of refused_fresh)), refl, refl)
 
       -- the update that took it is answered
-      pub refused_answered : IsAnswered l2 m
+      pub refused_answered : IsUpdateAnswered l2 m
       refused_answered =
           let s = saw_as a l (locked_with l1 k) (Update m key bytes flags r) l2.seen (ap (λ (q : Known). q.cpu) filled_is) (ap (λ (q : Known). q.seen) filled_is) p.seen in
           let same : l2.cpu ≡ l.cpu = ap (λ (q : Known). q.cpu) p.after ∙ ap (λ (q : Known). q.cpu) filled_is in

@@ -11,7 +11,7 @@ use Rattle.hop_layout.specs.declared.about.About.{About}
 use Rattle.hop_words.specs.declared.known.Known.{Known}
 use Rattle.hop_layout.specs.Layout.{words_for}
 use Rattle.hop_words.specs.Ghost.{shape_at}
-use Rattle.hop_words.specs.Kinds.{Touches}
+use Rattle.hop_words.specs.Kinds.{TouchesHeldValue}
 use Rattle.hop_layout.proofs.Maps.{map_is}
 use Rattle.hop_map.specs.Private.Accesses.{IsValuePlace, IsHeldAt}
 
@@ -66,7 +66,7 @@ module _ (a : About) (s : IsShape a.shape) (p : ℕ) (z : Size) (v : IsValuePlac
   fits = in_word z words off (ap (λ (n : ℕ). n % bytes_in z) (sym by_words) ∙ v.aligned)
 
 touched : (a : About) (s : IsShape a.shape) (p : ℕ) (z : Size) (l : Known) (h : IsHeldAt a l p (bytes_in z))
-    → Touches a l h.place.map h.place.element (off a s p z h.place / 8) (off a s p z h.place % 8) (bytes_in z)
+    → TouchesHeldValue a l h.place.map h.place.element (off a s p z h.place / 8) (off a s p z h.place % 8) (bytes_in z)
 touched a s p z l h = record {
   element = h.place.inside;
   word = (let c = h.place.covers.1 in let d = h.place.covers.0 in let n = some_bytes z in omega arith);
@@ -79,13 +79,13 @@ touched a s p z l h = record {
 -- what the code computes of the address
 pub touches : (a : About) (s : IsShape a.shape) (p : ℕ) (z : Size) (f : MapShape) (stride : ℕ) → f ≡ shape_at a ((p - 0x10_0000_0000) / 0x1000_0000) → stride ≡ element_stride f
     → (l : Known) → IsHeldAt a l p (bytes_in z)
-    → Touches a l ((p - 0x10_0000_0000) / 0x1000_0000) ((p - 0x10_0000_0000) % 0x1000_0000 / stride) ((p - 0x10_0000_0000) % 0x1000_0000 % stride / 8) ((p - 0x10_0000_0000) % 0x1000_0000 % stride % 8) (bytes_in z)
+    → TouchesHeldValue a l ((p - 0x10_0000_0000) / 0x1000_0000) ((p - 0x10_0000_0000) % 0x1000_0000 / stride) ((p - 0x10_0000_0000) % 0x1000_0000 % stride / 8) ((p - 0x10_0000_0000) % 0x1000_0000 % stride % 8) (bytes_in z)
 touches a s p z f stride shape is l h =
     let v = h.place in
     let r = reach a s p z v in
     let same : stride ≡ element_stride (g a s p z v) = is ∙ ap element_stride (shape ∙ ap (shape_at a) r.0) in
     let n : ℕ = (p - 0x10_0000_0000) % 0x1000_0000 in
     let t = touched a s p z l h in
-    subst (λ (m : ℕ). Touches a l m (n / stride) (n % stride / 8) (n % stride % 8) (bytes_in z)) (sym r.0)
-    (subst (λ (e : ℕ). Touches a l v.map e (n % stride / 8) (n % stride % 8) (bytes_in z)) (sym (ap (λ (k : ℕ). n / k) same ∙ r.1))
-    (subst (λ (o : ℕ). Touches a l v.map v.element (o / 8) (o % 8) (bytes_in z)) (sym (ap (λ (k : ℕ). n % k) same ∙ r.2)) t))
+    subst (λ (m : ℕ). TouchesHeldValue a l m (n / stride) (n % stride / 8) (n % stride % 8) (bytes_in z)) (sym r.0)
+    (subst (λ (e : ℕ). TouchesHeldValue a l v.map e (n % stride / 8) (n % stride % 8) (bytes_in z)) (sym (ap (λ (k : ℕ). n / k) same ∙ r.1))
+    (subst (λ (o : ℕ). TouchesHeldValue a l v.map v.element (o / 8) (o % 8) (bytes_in z)) (sym (ap (λ (k : ℕ). n % k) same ∙ r.2)) t))

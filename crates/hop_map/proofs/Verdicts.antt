@@ -14,13 +14,13 @@ use Rattle.hop_words.specs.declared.known.Lock.{Lock}
 use Rattle.hop_words.specs.Content.{IsShare}
 use Rattle.hop_words.specs.Ghost.{shape_at, lock_home}
 use Rattle.hop_words.specs.Rule.{image, numbered}
-use Rattle.hop_words.specs.Kinds.{IsKeyAbsent, LeadsTo, Answers, ShowsShortage, SawAllTaken}
+use Rattle.hop_words.specs.Kinds.{IsKeyAbsent, LeadsToElement, AnswersUnderLock, ShowsShortage, SawAllTaken}
 use Rattle.hop_words.specs.Locking.{lock_of}
 use Rattle.hop_layout.proofs.Maps.{map_is}
 use Rattle.hop_words.proofs.CountUp.{four, and_false}
 use Rattle.hop_seg.specs.Segment.{Sound as SegSound}
 use Rattle.hop_seg.specs.Content.{HasPair, IsAbsent as SegAbsent}
-use Rattle.hop_map.specs.LockedSegment.{Locked, Ready, in_hand, is_put}
+use Rattle.hop_map.specs.LockedSegment.{Locked, Ready, fills_element, is_put}
 use Rattle.hop_map.specs.Private.LockedSegment.{seen_words}
 use Rattle.hop_map.specs.Private.UnderLock.{LockShows}
 use Rattle.hop_map.specs.Private.Updates.{Wants}
@@ -51,7 +51,7 @@ module _ (x : Locked) (key bytes : List ℕ) (flags : ℕ) (c : LockShows x.abou
   k = lock_of x.known
 
   more : ℕ → Bool
-  more e = is_put k.change e || in_hand x.known.fresh x.map e
+  more e = is_put k.change e || fills_element x.known.fresh x.map e
 
   pub judge_sound : SegSound (seen_words x)
   unfolding more
@@ -61,7 +61,7 @@ module _ (x : Locked) (key bytes : List ℕ) (flags : ℕ) (c : LockShows x.abou
   unfolding more
   judge_absent gone = absent_with x.about x.known x.map x.segment c more key w.home gone
 
-  pub judge_leads : (e : ℕ) → HasPair (seen_words x) key e → LeadsTo x.about k key e
+  pub judge_leads : (e : ℕ) → HasPair (seen_words x) key e → LeadsToElement x.about k key e
   unfolding more
   judge_leads e h = leads_with x.about x.known x.map x.segment c more key w.home e h
 
@@ -69,7 +69,7 @@ module _ (x : Locked) (key bytes : List ℕ) (flags : ℕ) (c : LockShows x.abou
   answers : (r : MapAnswer) → r ≢ Done → ShowsShortage x.about x.known k (Update x.map key bytes flags r)
       → ((s : Plain) (before : List ℕ → Option ℕ) → IsShare x.about.seed (shape_at x.about k.map) (lock_home x.about k) (image x.about k.first) k.map k.segment before
       → is_some (get (s.maps x.map) key) ≡ is_some (before key) → MayRefuse s x.map (shape_at x.about x.map) key flags r)
-      → Ready x.about x.known x.map x.segment → Answers x.about x.known k (Update x.map key bytes flags r)
+      → Ready x.about x.known x.map x.segment → AnswersUnderLock x.about x.known k (Update x.map key bytes flags r)
   answers r undone short may ready =
       let w' : Wants x.about x.known k.map k.segment key bytes flags = subst (λ (t : ℕ). Wants x.about x.known k.map t key bytes flags) (sym c.segment) (subst (λ (n : ℕ). Wants x.about x.known n x.segment key bytes flags) (sym c.map) w) in
       record {
@@ -94,19 +94,19 @@ module _ (x : Locked) (key bytes : List ℕ) (flags : ℕ) (c : LockShows x.abou
   known_flags : nat_lt 2 flags ≡ false
   known_flags = let t = w.flags_known in grind (arith, nat_tests)
 
-  pub busy_answers : 2 ^ 56 - 1 ≤ k.stamp / 256 → Ready x.about x.known x.map x.segment → Answers x.about x.known k (Update x.map key bytes flags Busy)
+  pub busy_answers : 2 ^ 56 - 1 ≤ k.stamp / 256 → Ready x.about x.known x.map x.segment → AnswersUnderLock x.about x.known k (Update x.map key bytes flags Busy)
   busy_answers worn = answers Busy (λ z. cc) (sym c.map, worn) (λ s before share is. w.flags_known)
 
-  pub exists_answers : flags ≡ 1 → (e : ℕ) → HasPair (seen_words x) key e → Ready x.about x.known x.map x.segment → Answers x.about x.known k (Update x.map key bytes flags Exists)
+  pub exists_answers : flags ≡ 1 → (e : ℕ) → HasPair (seen_words x) key e → Ready x.about x.known x.map x.segment → AnswersUnderLock x.about x.known k (Update x.map key bytes flags Exists)
   exists_answers one e h = answers Exists (λ z. cc) tt (λ s before share is.
       second_true _ _ _ _ known_flags ((λ j. (eq-eqb flags 1 one j) && (is ∙ ap is_some (judge_leads e h before share)) j)))
 
-  pub absent_answers : flags ≡ 2 → SegAbsent (seen_words x) key → Ready x.about x.known x.map x.segment → Answers x.about x.known k (Update x.map key bytes flags Absent)
+  pub absent_answers : flags ≡ 2 → SegAbsent (seen_words x) key → Ready x.about x.known x.map x.segment → AnswersUnderLock x.about x.known k (Update x.map key bytes flags Absent)
   absent_answers two gone = answers Absent (λ z. cc) tt (λ s before share is.
       let none : is_some (get (s.maps x.map) key) ≡ false = is ∙ ap is_some (judge_absent gone before share) in
       third_true _ _ _ _ known_flags ((λ j. (flags == 1) && none j) ∙ and_false (flags == 1)) (λ j. (eq-eqb flags 2 two j) && not (none j)))
 
-  pub lacking_answers : SawAllTaken x.about x.known x.map → flags ≢ 1 → (e : ℕ) → HasPair (seen_words x) key e → Ready x.about x.known x.map x.segment → Answers x.about x.known k (Update x.map key bytes flags NoMemory)
+  pub lacking_answers : SawAllTaken x.about x.known x.map → flags ≢ 1 → (e : ℕ) → HasPair (seen_words x) key e → Ready x.about x.known x.map x.segment → AnswersUnderLock x.about x.known k (Update x.map key bytes flags NoMemory)
   lacking_answers saw other e h = answers NoMemory (λ z. cc) (sym c.map, saw) (λ s before share is.
       let there : is_some (get (s.maps x.map) key) ≡ true = is ∙ ap is_some (judge_leads e h before share) in
       four _ _ _ _ known_flags (λ j. ne_eqb flags 1 other j && is_some (get (s.maps x.map) key))

@@ -11,7 +11,7 @@ use Rattle.hop_words.specs.declared.known.Lock.{Lock}
 use Rattle.hop_words.specs.declared.known.Reading.{Reading}
 use Rattle.hop_words.specs.declared.known.Sight.{Sight}
 use Rattle.hop_words.specs.declared.walking.Way.{Way}
-use Rattle.hop_words.specs.Walking.{IsOnWay, IsNext}
+use Rattle.hop_words.specs.Walking.{IsOnWay, IsNextSegment}
 use Rattle.hop_words.specs.Depths.{stamp_depth}
 use Rattle.hop_words.specs.Ghost.{shape_at, IsSegment, Each}
 use Rattle.hop_words.specs.Sights.{look, sighted}
@@ -27,7 +27,7 @@ pub small : (a : About) (m s n : ℕ) → SaysDepth a m s n → n / 2 % 32 ≤ 1
 small a m s n d = let z = d.most in let y = depth_most (shape_at a m) in omega arith
 
 -- the next segment is one of the map's
-pub next_inside : (a : About) (m n : ℕ) (w next : Way) → IsSegment a m w.segment → SaysDepth a m w.segment n → IsNext w (stamp_depth n) next → IsSegment a m next.segment
+pub next_inside : (a : About) (m n : ℕ) (w next : Way) → IsSegment a m w.segment → SaysDepth a m w.segment n → IsNextSegment w (stamp_depth n) next → IsSegment a m next.segment
 next_inside a m n w next inside d e = (inside.0, (let p = power_less e.0 (depth (shape_at a m)) (let z = d.most in let y = e.2 in omega arith) in let s = e.5 in let o = e.4 in omega arith))
 
 module _ (a : About) (l : Known) (m home n i : ℕ) (w : Way) (x y : Known) (t : Walking a l m home w i x) (noted : StampNoted a x m w.segment n y) where
@@ -40,7 +40,7 @@ module _ (a : About) (l : Known) (m home n i : ℕ) (w : Way) (x y : Known) (t :
   whole : y ≡ noting l m w.segment (n - n % 2)
   whole = noted.after ∙ ap (λ (z : Known). noting z m w.segment (n - n % 2)) t.after
 
-  pub goes : (next : Way) → IsOnWay home next → IsNext w (stamp_depth n) next → Walking a l m home next (i + 1) y
+  pub goes : (next : Way) → IsOnWay home next → IsNextSegment w (stamp_depth n) next → Walking a l m home next (i + 1) y
   goes next way e = record {
     after = whole ∙ (λ j. record l { readings = sym reads j });
     inside = next_inside a m n w next t.inside noted.deep e;
@@ -139,7 +139,7 @@ module _ (a : About) (l : Known) (m home n : ℕ) (w : Way) (way : List Sight) (
   pub near_there : (shape_at a m).grow ≡ true → home % power (stamp_depth n) ≡ w.segment → Walked a l m home w.segment n x
   near_there grows here = record { way = way; is_way = grown grows w.segment way t.leads; short = t.short; inside = t.inside; free = λ _. (t.after, here); locked = λ odd. absurd (let z = t.even in omega arith) }
 
-  module _ (next : Way) (on_way : IsOnWay home next) (e : IsNext w (stamp_depth n) next) where
+  module _ (next : Way) (on_way : IsOnWay home next) (e : IsNextSegment w (stamp_depth n) next) where
     pub near_inside : IsSegment a m next.segment
     near_inside = next_inside a m n w next t.inside t.deep e
 

@@ -22,9 +22,9 @@ use Rattle.bpf_shared.specs.Own.{in_run}
 use Rattle.hop_words.specs.Owning.{tail_of}
 use Rattle.hop_layout.proofs.Maps.{map_of}
 use Rattle.hop_words.proofs.Sighted.{looks_leave}
-use Rattle.hop_arena.specs.Claiming.{Sees, IsSeenTaken, Misses, Claims}
+use Rattle.hop_arena.specs.Claiming.{NotesSights, IsSeenTaken, Misses, Claims}
 use Rattle.hop_arena.specs.declared.element.Element.{Element}
-use Rattle.hop_epoch.specs.Batch.{Keeps, SeesRunning}
+use Rattle.hop_epoch.specs.Batch.{KeepsBatches, SeesRunning}
 use Rattle.hop_epoch.proofs.Batching.{at_set, keeps_then}
 use Rattle.hop_map.specs.Private.Locks.{locked_with}
 use Rattle.hop_map.specs.Private.Removals.{Dropped, Kept}
@@ -47,14 +47,14 @@ pair_at a m key bytes p =
     (t.0, p.2 ∙ ap (λ (g : MapShape). g.key) (sym t.1), p.3 ∙ ap (λ (g : MapShape). g.value) (sym t.1))
 
 -- ---- looking for a free element
-pub keeps_sees : (m : ℕ) (l l1 : Known) (more : List Sight) → Each LeavesLocks more → Sees l more l1 → Keeps m l l1
-keeps_sees m l l1 more leave s = subst (Keeps m l) (sym s) (record { cpu = refl; seen = refl; fresh = refl; locks = refl; readings = refl; size = refl; others = λ n ne. refl; used = refl; sights = (more, refl, leave) })
+pub keeps_sees : (m : ℕ) (l l1 : Known) (more : List Sight) → Each LeavesLocks more → NotesSights l more l1 → KeepsBatches m l l1
+keeps_sees m l l1 more leave s = subst (KeepsBatches m l) (sym s) (record { cpu = refl; seen = refl; fresh = refl; locks = refl; readings = refl; size = refl; others = λ n ne. refl; used = refl; sights = (more, refl, leave) })
 
-pub keeps_holding : (m e : ℕ) (l l1 : Known) → Keeps m l l1 → Keeps m (holding l m e) (holding l1 m e)
+pub keeps_holding : (m e : ℕ) (l l1 : Known) → KeepsBatches m l l1 → KeepsBatches m (holding l m e) (holding l1 m e)
 keeps_holding m e l l1 p = record { cpu = p.cpu; seen = p.seen; fresh = λ j. record { map = m; element = e; update = updates_of m (events_of (p.cpu j) (p.seen j)); key = []; value = [] } ∷ p.fresh j; locks = p.locks; readings = p.readings; size = p.size; others = p.others; used = p.used; sights = p.sights }
 
 -- what was claimed with an empty hand is for the next update
-pub holds_new : (l l' : Known) (m e : ℕ) → l.fresh ≡ [] → Keeps m (holding l m e) l' → HoldsNew l' m e
+pub holds_new : (l l' : Known) (m e : ℕ) → l.fresh ≡ [] → KeepsBatches m (holding l m e) l' → HoldsNew l' m e
 holds_new l l' m e none p = p.fresh ∙ (λ j. record { map = m; element = e; update = updates_of m (events_of (sym p.cpu j) (sym p.seen j)); key = []; value = [] } ∷ none j)
 
 each_still : (m : ℕ) (ss : List Sight) → Each IsLook ss → Each (LeavesElements m) ss
@@ -62,7 +62,7 @@ each_still m [] t = tt
 each_still m (s ∷ ss) t = ((λ i _. t.0), each_still m ss t.1)
 
 -- the two steps that find none
-pub short : (a : About) (m : ℕ) (l l2 l3 : Known) → Keeps m l l2 → ((limbo_at l2.limbo m).old ≡ [] → (limbo_at l2.limbo m).young ≡ [])
+pub short : (a : About) (m : ℕ) (l l2 l3 : Known) → KeepsBatches m l l2 → ((limbo_at l2.limbo m).old ≡ [] → (limbo_at l2.limbo m).young ≡ [])
     → ((limbo_at l2.limbo m).old ≡ []) ⊎ SeesRunning m l l2 → Misses a l2 m l3 → SearchesInVain a l m l3
 short a m l l2 l3 kept empty blocked last = subst (SearchesInVain a l m) (sym last.1.0) (⊎_elim
     (λ (none : (limbo_at l2.limbo m).old ≡ []). record {
@@ -84,7 +84,7 @@ short a m l l2 l3 kept empty blocked last = subst (SearchesInVain a l m) (sym la
     blocked)
 
 -- what was noted before such a search
-pub in_vain_after : (a : About) (m : ℕ) (l k l' : Known) → Keeps m l k → SearchesInVain a k m l' → SearchesInVain a l m l'
+pub in_vain_after : (a : About) (m : ℕ) (l k l' : Known) → KeepsBatches m l k → SearchesInVain a k m l' → SearchesInVain a l m l'
 in_vain_after a m l k l' kept p = record {
   sooner = p.sooner ++ kept.sights.0;
   later = p.later;
@@ -128,16 +128,16 @@ saw_all a l m l1 empty p = record {
 pub saw_locked : (a : About) (l : Known) (m s n : ℕ) (l2 : Known) → LocksSegment a l m s n l2 → SawAllTaken a l m → SawAllTaken a l2 m
 saw_locked a l m s n l2 t p = subst (λ (q : Known). SawAllTaken a q m) (sym t.after) (record { hand = p.hand; taken = λ e few. (lock_leaves m m s n, inr (p.taken e few)) })
 
-pub missed_keeps : (a : About) (m : ℕ) (l l1 : Known) → Misses a l m l1 → Keeps m l l1
+pub missed_keeps : (a : About) (m : ℕ) (l l1 : Known) → Misses a l m l1 → KeepsBatches m l l1
 missed_keeps a m l l1 p = keeps_sees m l l1 p.0 (looks_leave p.0 p.1.1) p.1.0
 
-pub claimed_keeps : (a : About) (m : ℕ) (l l1 : Known) (x : Element) → Claims a l m x l1 → Keeps m (holding l m x.number) l1
+pub claimed_keeps : (a : About) (m : ℕ) (l l1 : Known) (x : Element) → Claims a l m x l1 → KeepsBatches m (holding l m x.number) l1
 claimed_keeps a m l l1 x p = keeps_sees m (holding l m x.number) l1 p.0 p.4 p.1
 
 pub found_at_once : (a : About) (m : ℕ) (l l1 : Known) (x : Element) → Claims a l m x l1 → ClaimsOrLacks a l m (Some x) l1
 found_at_once a m l l1 x p = (claimed_keeps a m l l1 x p, p.2, p.3)
 
-pub found_after : (a : About) (m : ℕ) (l l2 l3 : Known) → Keeps m l l2 → ((limbo_at l2.limbo m).old ≡ [] → (limbo_at l2.limbo m).young ≡ [])
+pub found_after : (a : About) (m : ℕ) (l l2 l3 : Known) → KeepsBatches m l l2 → ((limbo_at l2.limbo m).old ≡ [] → (limbo_at l2.limbo m).young ≡ [])
     → ((limbo_at l2.limbo m).old ≡ []) ⊎ SeesRunning m l l2 → (o : Option Element) → MatchOption o (Misses a l2 m l3) (λ (x : Element). Claims a l2 m x l3)
     → ClaimsOrLacks a l m o l3
 found_after a m l l2 l3 kept empty blocked None p = (
@@ -151,7 +151,7 @@ found_after a m l l2 l3 kept empty blocked (Some x) p = (
 )
 
 -- the same, seen from before
-pub found_later : (a : About) (m : ℕ) (l k l' : Known) → Keeps m l k → (o : Option Element) → ClaimsOrLacks a k m o l' → ClaimsOrLacks a l m o l'
+pub found_later : (a : About) (m : ℕ) (l k l' : Known) → KeepsBatches m l k → (o : Option Element) → ClaimsOrLacks a k m o l' → ClaimsOrLacks a l m o l'
 found_later a m l k l' kept None p = (keeps_then m l k l' kept p.0, in_vain_after a m l k l' kept p.1)
 found_later a m l k l' kept (Some x) p = (
   keeps_then m (holding l m x.number) (holding k m x.number) l' (keeps_holding m x.number l k kept) p.0,
@@ -159,7 +159,7 @@ found_later a m l k l' kept (Some x) p = (
   p.2,
 )
 
-pub kept_runs : (m : ℕ) (l l1 : Known) → Keeps m l l1 → in_run (events_of l.cpu l.seen) ≡ true → in_run (events_of l1.cpu l1.seen) ≡ true
+pub kept_runs : (m : ℕ) (l l1 : Known) → KeepsBatches m l l1 → in_run (events_of l.cpu l.seen) ≡ true → in_run (events_of l1.cpu l1.seen) ≡ true
 kept_runs m l l1 k runs = (λ j. in_run (events_of (k.cpu j) (k.seen j))) ∙ runs
 
 -- ---- the answer

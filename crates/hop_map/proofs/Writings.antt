@@ -5,7 +5,7 @@ use Rattle.std.proofs.lemmas.Bool.Decides.{nat_tests}
 use Rattle.hop_layout.specs.declared.place.Place.{Place}
 use Rattle.hop_layout.specs.declared.place.Place.TheVariants.{Head, Hop, Slot, Link}
 use Rattle.hop_layout.specs.Layout.{mem, is_place, put_at}
-use Rattle.hop_words.specs.Content.{place_words, item}
+use Rattle.hop_words.specs.Content.{words_by_place, item}
 use Rattle.hop_layout.proofs.Layouts.{wrote}
 use Rattle.hop_seg.specs.Words.{Words as SegWords, with_hop, with_slot, with_head, with_next, replace_at}
 use Rattle.hop_words.specs.Locking.{lock_of}
@@ -38,7 +38,7 @@ module _ (x : Locked) (r : Ready x.about x.known x.map x.segment) where
   w = mem x.about.shape (lock_of x.known).copy
 
   seen : (Place → ℕ) → SegWords
-  seen v = segment_view x.about x.map x.segment (stamp_depth (lock_of x.known).stamp) (knows x.known x.map) (place_words v)
+  seen v = segment_view x.about x.map x.segment (stamp_depth (lock_of x.known).stamp) (knows x.known x.map) (words_by_place v)
 
   after : (p : Place) (n : ℕ) → is_place x.about.shape p ≡ true → seen_words (written x p n) ≡ seen (put_at w p n)
   unfolding seen w
@@ -91,7 +91,7 @@ module _ (x : Locked) (r : Ready x.about x.known x.map x.segment) (p : Place) (n
   wc = mem x.about.shape (lock_of x.known).copy
 
   front : (Place → ℕ) → Front
-  front v = front_view x.map (c_of x) (place_words v)
+  front v = front_view x.map (c_of x) (words_by_place v)
 
   now : child_front (written x p n) ≡ front (put_at wc p n)
   unfolding front wc

@@ -28,13 +28,13 @@ is_put (Puts key d) e = e == d
 is_put (Drops key) e = false
 
 -- the element that the lane fills
-abbrev pub in_hand : List Fresh → ℕ → ℕ → Bool
-in_hand [] m e = false
-in_hand (f ∷ fs) m e = (f.map == m) && (e == f.element)
+abbrev pub fills_element : List Fresh → ℕ → ℕ → Bool
+fills_element [] m e = false
+fills_element (f ∷ fs) m e = (f.map == m) && (e == f.element)
 
 -- the elements whose words the lane may read: those linked in the segment, and its own new one
 abbrev pub knows : Known → ℕ → ℕ → Bool
-knows l m e = has e (lock_of l).known || (is_put (lock_of l).change e || in_hand l.fresh m e)
+knows l m e = has e (lock_of l).known || (is_put (lock_of l).change e || fills_element l.fresh m e)
 
 -- the lane has the segment's lock, and knows the key words of the elements that it may read
 pub record Ready (a : About) (l : Known) (m s : ℕ) : Type 0 where

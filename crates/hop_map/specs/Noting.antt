@@ -41,17 +41,17 @@ TakesLocks a m (suc n) sights =
     × (sights ≡ lock_taken m n stamp ∷ sooner) × TakesLocks a m n sooner)
     ⊎ (((shape_at a m).grow ≡ true) × TakesLocks a m n sights)
 
--- these steps, and then each undone, the last made first: each finds the number that it had left, and
+-- these steps, and then each steps_undone, the last made first: each finds the number that it had left, and
 -- leaves the number that it had found
-abbrev pub undone : List Sight → List Sight → List Sight
-undone [] sights = sights
-undone (s ∷ ss) sights = undone ss (sight s.place s.left s.found ∷ sights)
+abbrev pub steps_undone : List Sight → List Sight → List Sight
+steps_undone [] sights = sights
+steps_undone (s ∷ ss) sights = steps_undone ss (sight s.place s.left s.found ∷ sights)
 
 -- the locks of all born segments of the map were taken, and then given back, the last first, each
 -- with the number that it was taken at. A version never goes down: so none changed meanwhile
 abbrev pub HoldsLocks : About → ℕ → List Sight → Type 0
 HoldsLocks a m sights = (taken : List Sight) × TakesLocks a m (segments (shape_at a m)) taken
-    × (sights ≡ undone taken taken)
+    × (sights ≡ steps_undone taken taken)
 
 -- what a call with this event may note, the last first. An update with flags that are none of those
 -- known notes nothing, nor does a beginning, or an access to a value; an end takes no lock, a

@@ -1,10 +1,10 @@
-//! Accesses to values: each takes effect at one step on the word that its bytes lie in.
+//! Accesses to held values: each takes effect at one step on the word that its bytes lie in.
 ghost use Rattle.std.specs.Prelude.{◌≡◌, ◌<◌, ◌≤◌};
 ghost use Rattle.bpf_base.specs.Bytes.{modulus};
 ghost use Rattle.bpf_shared.specs.Access.{bytes_in};
 ghost use Rattle.bpf_shared.specs.declared.events.Event.TheVariants.{Load, Store, Atomic};
 ghost use Rattle.bpf_shared.specs.declared.events.Size.TheVariants.{Double};
-ghost use Rattle.hop_words.specs.Kinds.{Told};
+ghost use Rattle.hop_words.specs.Kinds.{AddsEvent};
 ghost use Rattle.hop_map.specs.Private.Accesses.{IsHeldAt};
 
 use crate::parts::{number_in, part_at, with_number};
@@ -18,11 +18,11 @@ pub(crate) fn load_at(table: &HopTable, lane: &mut Lane, at: ValuePlace, size: S
     requires table { lane.old.table ≡ table.now.id }
     requires held { IsHeldAt table.now.about lane.old.known at.at (bytes_in size) }
     ensures table { lane.new.table ≡ lane.old.table }
-    ensures loaded { Told table.now.about lane.old.known (Load at.at size result) lane.new.known }
+    ensures loaded { AddsEvent table.now.about lane.old.known (Load at.at size result) lane.new.known }
     ensures small { result < modulus (bytes_in size) }
 {
     let part = part_at(table, at, size);
-    number_in(lane.load_value(table, part), part)
+    number_in(lane.load_value(table, part), part.offset, size)
 }
 
 /// The eight bytes become the word.
@@ -30,7 +30,7 @@ pub(crate) fn store_word_at(table: &HopTable, lane: &mut Lane, at: ValuePlace, w
     requires table { lane.old.table ≡ table.now.id }
     requires held { IsHeldAt table.now.about lane.old.known at.at 8 }
     ensures table { lane.new.table ≡ lane.old.table }
-    ensures stored { Told table.now.about lane.old.known (Store at.at Double word) lane.new.known }
+    ensures stored { AddsEvent table.now.about lane.old.known (Store at.at Double word) lane.new.known }
 {
     let part = part_at(table, at, Size::Double);
     lane.store_value(table, part, word);
@@ -49,12 +49,12 @@ pub(crate) fn store_part_at<R: Wait>(
     requires table { lane.old.table ≡ table.now.id }
     requires held { IsHeldAt table.now.about lane.old.known at.at (bytes_in size) }
     ensures table { lane.new.table ≡ lane.old.table }
-    ensures stored { Told table.now.about lane.old.known (Store at.at size word) lane.new.known }
+    ensures stored { AddsEvent table.now.about lane.old.known (Store at.at size word) lane.new.known }
 {
     let part = part_at(table, at, size);
     let mut old = lane.look_at_value(rt, table, part);
     'tries: for _ in rt.forever() {
-        let new = with_number(old, part, word);
+        let new = with_number(old, part.offset, size, word);
         let found = lane.exchange_value(table, part, old, new, word);
         if found == old {
             return;
@@ -76,7 +76,7 @@ pub(crate) fn change_word_at(
     requires table { lane.old.table ≡ table.now.id }
     requires held { IsHeldAt table.now.about lane.old.known at.at 8 }
     ensures table { lane.new.table ≡ lane.old.table }
-    ensures changed { Told table.now.about lane.old.known
+    ensures changed { AddsEvent table.now.about lane.old.known
         (Atomic at.at Double op operand expected result) lane.new.known }
 {
     let part = part_at(table, at, Size::Double);
@@ -98,16 +98,16 @@ pub(crate) fn change_part_at<R: Wait>(
     requires held { IsHeldAt table.now.about lane.old.known at.at (bytes_in size) }
     requires wide { 4 ≤ bytes_in size }
     ensures table { lane.new.table ≡ lane.old.table }
-    ensures changed { Told table.now.about lane.old.known
+    ensures changed { AddsEvent table.now.about lane.old.known
         (Atomic at.at size op operand expected result) lane.new.known }
     ensures small { result < modulus (bytes_in size) }
 {
     let part = part_at(table, at, size);
     let mut old = lane.look_at_value(rt, table, part);
     'tries: for _ in rt.forever() {
-        let number = number_in(old, part);
+        let number = number_in(old, part.offset, size);
         let left = change(op, size, number, operand, expected);
-        let new = with_number(old, part, left);
+        let new = with_number(old, part.offset, size, left);
         let found = lane.exchange_value_by(table, part, op, operand, expected, old, new);
         if found == old {
             return number;

@@ -7,7 +7,7 @@ ghost use Rattle.hop_layout.specs.Layout.{is_place, mem};
 ghost use Rattle.hop_words.specs.Ghost.{shape_at, IsSegment};
 ghost use Rattle.bpf_shared.specs.declared.events.Event.TheVariants.{Delete, Update};
 ghost use Rattle.bpf_shared.specs.declared.events.MapAnswer.TheVariants.{Full, NoMemory};
-ghost use Rattle.hop_words.specs.Kinds.{Inserted, IsKeyAbsent, IsWritten, unlocking, Splits, Replaces, Replaced, Removes, Answers, Answered, LooksUpLocked, LookedUp, Told, SawAllTaken};
+ghost use Rattle.hop_words.specs.Kinds.{Inserted, IsKeyAbsent, IsWritten, unlocking, Splits, Replaces, Replaced, Removes, AnswersUnderLock, Answered, LooksUpLocked, LookedUp, AddsEvent, SawAllTaken};
 ghost use Rattle.hop_words.specs.Locking.{lock_of, hand};
 ghost use Rattle.hop_words.specs.Guarded.{IsGuarded, MayWrite, IsGuardedBeside, IsWordBeside, IsStampBeside};
 ghost use Rattle.hop_words.specs.Sights.{sighted, split_made};
@@ -128,7 +128,7 @@ impl<'a> LockedWords<'a> {
         requires absent { IsKeyAbsent self.old.about (lock_of self.old.known) key.now }
         requires new { flags ≢ 2 }
         ensures full { result ≡ None →
-            Told self.old.about self.old.known (Update self.old.map key.now value.now flags Full)
+            AddsEvent self.old.about self.old.known (Update self.old.map key.now value.now flags Full)
             self.new.known }
         ensures room { IfSome result (λ n. (self.new ≡ self.old)
             × (n < (shape_at self.old.about self.old.map).max)) }
@@ -168,7 +168,7 @@ impl<'a> LockedWords<'a> {
             IsTrue result →
             Inserted self.old.about l (lock_of l) (hand l) [] key.now value.now flags self.new.known }
         ensures full { IsFalse result →
-            Told self.old.about self.old.known (Update self.old.map key.now value.now flags Full)
+            AddsEvent self.old.about self.old.known (Update self.old.map key.now value.now flags Full)
             self.new.known }
         ensures table { self.new.table ≡ self.old.table }
         ensures about { self.new.about ≡ self.old.about }
@@ -199,7 +199,7 @@ impl<'a> LockedWords<'a> {
         requires absent { IsKeyAbsent self.old.about (lock_of self.old.known) key.now }
         requires new { flags ≢ 2 }
         requires lacks { SawAllTaken self.old.about self.old.known self.old.map }
-        ensures told { Told self.old.about self.old.known
+        ensures told { AddsEvent self.old.about self.old.known
             (Update self.old.map key.now value.now flags result) self.new.known }
         ensures answer { (result ≡ Full) ⊎ (result ≡ NoMemory) }
         ensures table { self.new.table ≡ self.old.table }
@@ -285,7 +285,7 @@ impl<'a> LockedWords<'a> {
         requires stamp { stamp ≡ (lock_of self.known).stamp }
         requires answers { let l = self.known in
             Ready self.about l self.map self.segment →
-            Answers self.about l (lock_of l) (Delete self.map key.now answer) }
+            AnswersUnderLock self.about l (lock_of l) (Delete self.map key.now answer) }
         ensures table { result.table ≡ self.entry.table }
         ensures answered { let l = self.entry.known in
             Answered self.entry.about l (lock_of l) (Delete self.entry.map key.now answer)
@@ -309,7 +309,7 @@ impl<'a> LockedWords<'a> {
         requires stamp { stamp ≡ (lock_of self.known).stamp }
         requires answers { let l = self.known in
             Ready self.about l self.map self.segment →
-            Answers self.about l (lock_of l) (Update self.map key.now value.now flags answer) }
+            AnswersUnderLock self.about l (lock_of l) (Update self.map key.now value.now flags answer) }
         ensures table { result.table ≡ self.entry.table }
         ensures answered { let l = self.entry.known in
             Answered self.entry.about l (lock_of l)

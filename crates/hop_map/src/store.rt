@@ -98,7 +98,7 @@ fn deal_ports(alloc: Global, table: &HopTable, lanes: Lanes) -> Result<Vec<HopPo
 }
 
 impl HopStore {
-    /// A store with no keys, and no CPU in a run. Want of memory is its only refusal.
+    /// A store with no keys, and no CPU in a run. Running out of memory is its only refusal.
     pub fn new(alloc: Global, shape: StoreShape, seed: u64) -> Result<HopStore, ShapeError>
         ensures made { IfOk result (λ s. s.table.about
             ≡ record { shape = shape; seed = seed; version = 0; count = 0 }) }

@@ -9,7 +9,7 @@ ghost use Rattle.hop_words.specs.Ghost.{shape_at, limbo_at};
 ghost use Rattle.hop_words.specs.Kinds.{SawAllTaken, holding};
 ghost use Rattle.bpf_shared.specs.Own.{in_run};
 ghost use Rattle.hop_arena.specs.Claiming.{Claims, Misses, IsArena};
-ghost use Rattle.hop_epoch.specs.Batch.{Keeps};
+ghost use Rattle.hop_epoch.specs.Batch.{KeepsBatches};
 ghost use Rattle.hop_map.specs.Finding.{OwnsKey};
 ghost use Rattle.hop_map.specs.Private.Locks.{Readies, with_lock};
 ghost use Rattle.hop_map.specs.Noting.{BusyFirst, CallNotes, LockedLast};

@@ -2,7 +2,7 @@
 use Rattle.std.proofs.Common.{◌≡◌, ℕ, suc, ◌+◌, ◌≤◌, List, [], ◌∷◌, Option, Some, None, ◌⊎◌, inl, inr, length, refl, ap, sym, subst, arith, MatchOption}
 use Rattle.hop_seg.specs.Words.{Words, IsKnown}
 use Rattle.hop_seg.specs.Segment.{Sound, Chain, Among, KeysDiffer}
-use Rattle.hop_seg.specs.Content.{IsListed}
+use Rattle.hop_seg.specs.Content.{IsInOverflow}
 use Rattle.hop_seg.specs.Spots.{IsLink}
 use Rattle.hop_seg.proofs.Lists.{chain_unique, steps, steps-chain, steps-within, length-within}
 
@@ -11,17 +11,17 @@ pub record Walk (w : Words) (P : ℕ → Type 0) (before at : Option ℕ) : Type
   pub rest : List ℕ
   pub chain : Chain w.next at rest
   pub differ : KeysDiffer w.fixed.key rest
-  pub listed : (e : ℕ) → Among e rest → IsListed w e
-  pub passed : (e : ℕ) → IsListed w e → Among e rest ⊎ P e
-  pub link : MatchOption before (w.head ≡ at) (λ p. IsListed w p × (w.next p ≡ at) × (Among p rest → ⊥))
+  pub listed : (e : ℕ) → Among e rest → IsInOverflow w e
+  pub passed : (e : ℕ) → IsInOverflow w e → Among e rest ⊎ P e
+  pub link : MatchOption before (w.head ≡ at) (λ p. IsInOverflow w p × (w.next p ≡ at) × (Among p rest → ⊥))
 
-pub listed_among : (w : Words) (s : Sound w) (e : ℕ) → IsListed w e → Among e s.list
+pub listed_among : (w : Words) (s : Sound w) (e : ℕ) → IsInOverflow w e → Among e s.list
 listed_among w s e l = subst (λ (xs : List ℕ). Among e xs) (chain_unique w.next w.head l.0 s.list l.1 s.chain) l.2
 
-pub among_listed : (w : Words) (s : Sound w) (e : ℕ) → Among e s.list → IsListed w e
+pub among_listed : (w : Words) (s : Sound w) (e : ℕ) → Among e s.list → IsInOverflow w e
 among_listed w s e m = (s.list, s.chain, m)
 
-pub listed_known : (w : Words) (s : Sound w) (e : ℕ) → IsListed w e → IsKnown w.fixed e
+pub listed_known : (w : Words) (s : Sound w) (e : ℕ) → IsInOverflow w e → IsKnown w.fixed e
 listed_known w s e l = (s.listed_own e (listed_among w s e l)).known
 
 pub walk_begins : (w : Words) (s : Sound w) (P : ℕ → Type 0) → Walk w P None w.head
@@ -39,20 +39,20 @@ pub record Ahead (w : Words) (P : ℕ → Type 0) (before : Option ℕ) (e : ℕ
   pub rest : List ℕ
   pub chain : Chain w.next (w.next e) rest
   pub differ : KeysDiffer w.fixed.key (e ∷ rest)
-  pub listed : (x : ℕ) → Among x (e ∷ rest) → IsListed w x
-  pub passed : (x : ℕ) → IsListed w x → Among x (e ∷ rest) ⊎ P x
+  pub listed : (x : ℕ) → Among x (e ∷ rest) → IsInOverflow w x
+  pub passed : (x : ℕ) → IsInOverflow w x → Among x (e ∷ rest) ⊎ P x
   pub link : IsLink w before e
-  pub beyond : MatchOption before (w.head ≡ Some e) (λ p. IsListed w p × (w.next p ≡ Some e) × (Among p (e ∷ rest) → ⊥))
+  pub beyond : MatchOption before (w.head ≡ Some e) (λ p. IsInOverflow w p × (w.next p ≡ Some e) × (Among p (e ∷ rest) → ⊥))
   pub long : steps w.fixed.limit w.next (Some e) ≡ suc (length rest)
   pub onward : steps w.fixed.limit w.next (w.next e) ≡ length rest
   pub short : length rest ≤ w.fixed.limit
 
-link_of : (w : Words) (before : Option ℕ) (e : ℕ) (rest : List ℕ) → IsListed w e → MatchOption before (w.head ≡ Some e) (λ p. IsListed w p × (w.next p ≡ Some e) × (Among p rest → ⊥)) → IsLink w before e
+link_of : (w : Words) (before : Option ℕ) (e : ℕ) (rest : List ℕ) → IsInOverflow w e → MatchOption before (w.head ≡ Some e) (λ p. IsInOverflow w p × (w.next p ≡ Some e) × (Among p rest → ⊥)) → IsLink w before e
 link_of w None e rest l h = record { leads = h; listed = l }
 link_of w (Some p) e rest l h = record { leads = (h.0, h.1); listed = l }
 
-ahead : (w : Words) (s : Sound w) (P : ℕ → Type 0) (before : Option ℕ) (e : ℕ) (xs : List ℕ) → Chain w.next (Some e) xs → KeysDiffer w.fixed.key xs → ((x : ℕ) → Among x xs → IsListed w x)
-    → ((x : ℕ) → IsListed w x → Among x xs ⊎ P x) → MatchOption before (w.head ≡ Some e) (λ p. IsListed w p × (w.next p ≡ Some e) × (Among p xs → ⊥)) → Ahead w P before e
+ahead : (w : Words) (s : Sound w) (P : ℕ → Type 0) (before : Option ℕ) (e : ℕ) (xs : List ℕ) → Chain w.next (Some e) xs → KeysDiffer w.fixed.key xs → ((x : ℕ) → Among x xs → IsInOverflow w x)
+    → ((x : ℕ) → IsInOverflow w x → Among x xs ⊎ P x) → MatchOption before (w.head ≡ Some e) (λ p. IsInOverflow w p × (w.next p ≡ Some e) × (Among p xs → ⊥)) → Ahead w P before e
 ahead w s P before e [] c d l p k = let no : ◌≡◌ {A = Option ℕ} (Some e) None = c in cc
 ahead w s P before e (x ∷ xs) c d l p k =
     let both : ◌≡◌ {A = Option ℕ} (Some e) (Some x) = c.0 in
@@ -64,10 +64,10 @@ ahead w s P before e (x ∷ xs) c d l p k =
       rest = xs;
       chain = onward;
       differ = subst (KeysDiffer w.fixed.key) list d;
-      listed = subst (λ (ys : List ℕ). (y : ℕ) → Among y ys → IsListed w y) list l;
-      passed = subst (λ (ys : List ℕ). (y : ℕ) → IsListed w y → Among y ys ⊎ P y) list p;
+      listed = subst (λ (ys : List ℕ). (y : ℕ) → Among y ys → IsInOverflow w y) list l;
+      passed = subst (λ (ys : List ℕ). (y : ℕ) → IsInOverflow w y → Among y ys ⊎ P y) list p;
       link = link_of w before e (x ∷ xs) (l e (inl same)) k;
-      beyond = subst (λ (ys : List ℕ). MatchOption before (w.head ≡ Some e) (λ p. IsListed w p × (w.next p ≡ Some e) × (Among p ys → ⊥))) list k;
+      beyond = subst (λ (ys : List ℕ). MatchOption before (w.head ≡ Some e) (λ p. IsInOverflow w p × (w.next p ≡ Some e) × (Among p ys → ⊥))) list k;
       long = steps-chain w.fixed.limit w.next (Some e) (x ∷ xs) c fits;
       onward = steps-chain w.fixed.limit w.next (w.next e) xs onward (omega arith);
       short = omega arith;
@@ -90,7 +90,7 @@ walk_on w P before e a holds = record {
   link = (a.link.listed, refl, λ m. a.differ.0 e m refl);
 }
 
-pub walk_ends : (w : Words) (P : ℕ → Type 0) (before : Option ℕ) → Walk w P before None → (e : ℕ) → IsListed w e → P e
+pub walk_ends : (w : Words) (P : ℕ → Type 0) (before : Option ℕ) → Walk w P before None → (e : ℕ) → IsInOverflow w e → P e
 walk_ends w P before k e l =
     elim (k.passed e l) [
       | inl m ↦ elim k.rest as (λ xs. Chain w.next None xs → Among e xs → P e) [
@@ -114,6 +114,6 @@ counted_on w s P before e passed k holds =
     record { walk = walk_on w P before e here holds; short = omega (arith, here.long, here.onward, k.short) }
 
 -- as many as there are elements are all
-pub counted_ends : (w : Words) (s : Sound w) (P : ℕ → Type 0) (before at : Option ℕ) (passed : ℕ) → w.fixed.limit ≤ passed → Counted w P before at passed → (e : ℕ) → IsListed w e → P e
+pub counted_ends : (w : Words) (s : Sound w) (P : ℕ → Type 0) (before at : Option ℕ) (passed : ℕ) → w.fixed.limit ≤ passed → Counted w P before at passed → (e : ℕ) → IsInOverflow w e → P e
 counted_ends w s P before None passed all k e l = walk_ends w P before k.walk e l
 counted_ends w s P before (Some x) passed all k e l = let here = walk_at w s P before x k.walk in absurd (omega (arith, here.long, k.short))

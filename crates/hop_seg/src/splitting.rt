@@ -4,7 +4,7 @@
 ghost use Rattle.std.specs.Prelude.{◌≡◌, ◌<◌, ◌/◌, ◌%◌, ◌^◌, ℕ, IsTrue, false, Some};
 ghost use Rattle.hop_seg.specs.Words.{IsKnown};
 ghost use Rattle.hop_seg.specs.Segment.{Sound, element_key};
-ghost use Rattle.hop_seg.specs.Content.{IsListed};
+ghost use Rattle.hop_seg.specs.Content.{IsInOverflow};
 ghost use Rattle.hop_seg.specs.Spots.{IsLink};
 ghost use Rattle.hop_seg.specs.Edits.{item_taken};
 ghost use Rattle.hop_seg.specs.Split.{Front, IsEmpty, Remains, Splits, Parted, Hands, front_with_hop, front_with_slot, front_put, handed};
@@ -156,7 +156,7 @@ fn split_list<C: ChildWords>(words: &mut C, depth: u32)
     requires small { depth < 32 }
     ensures hands { Hands (C.words words.old) (C.child words.old) (C.words words.new)
         (C.child words.new) }
-    ensures none { (e : ℕ) → IsListed (C.words words.new) e → Remains (C.words words.new).fixed e }
+    ensures none { (e : ℕ) → IsInOverflow (C.words words.new) e → Remains (C.words words.new).fixed e }
     ensures stays { C.stays_beside words.old words.new }
 {
     let mut before = None;

@@ -7,7 +7,7 @@ use Rattle.bpf_shared.specs.History.{events_of}
 use Rattle.hop_layout.specs.declared.about.About.{About}
 use Rattle.hop_words.specs.declared.known.Known.{Known}
 use Rattle.hop_words.specs.Ghost.{IsSegment, shape_at}
-use Rattle.hop_words.specs.Kinds.{KnowsBorn, First, Told}
+use Rattle.hop_words.specs.Kinds.{KnowsBorn, First, AddsEvent}
 use Rattle.bpf_shared.specs.Own.{in_run}
 use Rattle.hop_layout.specs.Layout.{depth}
 use Rattle.hop_words.specs.Opens.{lanes_from}
@@ -28,7 +28,7 @@ first_new a l old rest is all = All-head (IsNewLane a) l rest (subst (All (IsNew
 pub rest_new : (a : About) (l : Known) (old rest : List Known) → old ≡ l ∷ rest → All (IsNewLane a) old → All (IsNewLane a) rest
 rest_new a l old rest is all = All-tail (IsNewLane a) l rest (subst (All (IsNewLane a)) is all)
 
-pub running : (a : About) (l l' : Known) → IsNewLane a l → Told a l Begin l' → in_run (events_of l'.cpu l'.seen) ≡ true
+pub running : (a : About) (l l' : Known) → IsNewLane a l → AddsEvent a l Begin l' → in_run (events_of l'.cpu l'.seen) ≡ true
 running a l l' new begun =
     let none : events_of l.cpu l.seen ≡ [] = ap (λ (k : Known). events_of l.cpu k.seen) new.1 in
     let same : l'.cpu ≡ l.cpu = ap (λ (k : Known). k.cpu) begun.after in

@@ -5,6 +5,7 @@ use Rattle.std.proofs.lemmas.Cmp.{nat_list_cmp_total}
 use Rattle.std.specs.FinMap.{get, insert, len, len-insert, get-insert}
 use Rattle.std.specs.Cmp.{tied_itself}
 use Rattle.std.specs.Ordering.{is_eq}
+use Rattle.std.proofs.lemmas.Bool.{cases_eq}
 use Rattle.bpf_shared.specs.Shape.{element_span}
 use Rattle.bpf_shared.specs.Store.{KeyMap, Value, put}
 use Rattle.bpf_shared.proofs.Puts.{put-same, put-other, insert_cases}
@@ -16,7 +17,7 @@ use Rattle.hop_layout.specs.Words.{bytes_of_words}
 use Rattle.hop_words.specs.Content.{one_if}
 use Rattle.hop_words.specs.Ghost.{Holder, Free, Filling, Leaving, Within, is_free, is_filling, is_leaving, Carries, shape_at, HasElement, limbo_at, Each}
 use Rattle.hop_words.specs.Rule.{put_key, numbered, Keyed, Batched, Owned, times_fresh, times_limbo, Linked, StartsWith, Filled, Valued}
-use Rattle.hop_words.proofs.Small.{put_key-same, put_key-other, equal_keys, equal, here_or, put2-same, put2-other}
+use Rattle.hop_words.proofs.Small.{put_key-same, put_key-other, equal_keys, here_or, put2-same, put2-other}
 
 pub leads_new : (k : KeyMap) (key : List ℕ) (n : ℕ) → get (insert k key n) key ≡ Some n
 leads_new k key n = get-insert nat_list_cmp_total k key n key ∙ ap (λ (b : Bool). cond b (Some n) (get k key)) (ap is_eq (tied_itself nat_list_cmp_total key))
@@ -86,7 +87,7 @@ module _ (a : About) (c m e s : ℕ) (key : List ℕ) (holder : ℕ → ℕ → 
         (λ (t : b ≡ c). subst (λ x. times_fresh n d (put fresh c rest x) ≡ one_if (is_filling x (held' n d))) (sym t) (ap (times_fresh n d) (put-same fresh c c rest refl) ∙ own n d l))
         (λ (ne : b ≢ c). ap (times_fresh n d) (put-other fresh c b rest ne) ∙ (p.fresh_is b n d inb l ∙ sym (moved (λ x. one_if (is_filling b x)) holder m e (Filling c) (Within key) was
         (sym (ap (one_if) (ne_eqb c b (λ (q : c ≡ b). ne (sym q))))) n d)))
-        (equal b c);
+        (cases_eq b c);
   }
     where
       own : (n d : ℕ) → HasElement a n d → times_fresh n d rest ≡ one_if (is_filling c (held' n d))
@@ -110,7 +111,7 @@ module _ (a : About) (c m e s : ℕ) (key : List ℕ) (holder : ℕ → ℕ → 
           differ n d ne = ⊎_elim
               (λ (t : n ≡ m). ap (λ (x : Bool). (f.map == n) && x) (ne_eqb f.element d (λ (q : f.element ≡ d). ne t (sym q ∙ fe))) ∙ and_false (f.map == n))
               (λ (d' : n ≢ m). ap (λ (x : Bool). x && (f.element == d)) (ne_eqb f.map n (λ (q : f.map ≡ n). d' (sym q ∙ fm))))
-              (equal n m)
+              (cases_eq n m)
             where
               and_false : (x : Bool) → x && false ≡ false
               and_false true = refl
@@ -128,13 +129,13 @@ module _ (a : About) (c m e s : ℕ) (key : List ℕ) (holder : ℕ → ℕ → 
     now_old n q ne = ⊎_elim
         (λ (t : n ≡ m). ap (λ (f : List ℕ → Option ℕ). f q) (put-same linked m n (put_key (linked m) key (Some e)) t) ∙ (put_key-other (linked m) key q (Some e) (ne t) ∙ ap (λ (k : ℕ). linked k q) (sym t)))
         (λ (t : n ≢ m). ap (λ (f : List ℕ → Option ℕ). f q) (put-other linked m n (put_key (linked m) key (Some e)) t))
-        (equal n m)
+        (cases_eq n m)
 
     here_key : (n : ℕ) (q : List ℕ) → ((n ≡ m) × (q ≡ key)) ⊎ (n ≡ m → q ≢ key)
     here_key n q = ⊎_elim
         (λ (t : n ≡ m). ⊎_elim (λ (u : q ≡ key). inl (t, u)) (λ (u : q ≢ key). inr (λ _. u)) (equal_keys q key))
         (λ (t : n ≢ m). inr (λ u. absurd (t u)))
-        (equal n m)
+        (cases_eq n m)
 
     -- an element that a key leads to isn't the new one
     module _ (p : Linked a linked holder) where
@@ -170,7 +171,7 @@ module _ (a : About) (c m e s : ℕ) (key : List ℕ) (holder : ℕ → ℕ → 
             (λ (t : n ≡ m). put-same counts m n (counts m + 1) t ∙ (ap (λ (x : ℕ). x + 1) (k.counted m (subst (λ (x : ℕ). x < length a.shape.maps) t l))
             ∙ (sym longer ∙ ap (λ (x : KeyMap). len x) (sym (put-same maps m n (insert (maps m) key v) t)))))
             (λ (ne : n ≢ m). put-other counts m n (counts m + 1) ne ∙ (k.counted n l ∙ ap (λ (x : KeyMap). len x) (sym (put-other maps m n (insert (maps m) key v) ne))))
-            (equal n m);
+            (cases_eq n m);
         leads = λ n q. ⊎_elim
             (λ (t : (n ≡ m) × (q ≡ key)). ap (λ (x : KeyMap). get x q) (put-same maps m n (insert (maps m) key v) t.0) ∙ (new_at q t.1
             ∙ (ap Some (sym (put2-same number m e n e v t.0 refl)) ∙ ap (numbered (number' n)) (sym (now_new n q t.0 t.1)))))
@@ -201,7 +202,7 @@ module _ (a : About) (c m e s : ℕ) (key : List ℕ) (holder : ℕ → ℕ → 
               (λ (h : get (insert (maps m) key v) q ≡ get (maps m) q). h)
               (insert_cases (maps m) key v q) ∙ ap (λ (x : ℕ). get (maps x) q) (sym t)))
               (λ (d : n ≢ m). ap (λ (x : KeyMap). get x q) (put-other maps m n (insert (maps m) key v) d))
-              (equal n m)
+              (cases_eq n m)
 
   -- ---- batches
   pub batched_comes : (free link : ℕ → ℕ → ℕ) (counts : ℕ → ℕ) (fresh : ℕ → List Fresh) (limbo : ℕ → List Limbo) (held : ℕ → ℕ → Bool) (number : ℕ → ℕ → ℕ) (v : ℕ) → Owned a free fresh limbo holder → Batched a link counts limbo held number
@@ -218,7 +219,7 @@ module _ (a : About) (c m e s : ℕ) (key : List ℕ) (holder : ℕ → ℕ → 
   filled_rest kw vw fresh f rest p is inc b inb = ⊎_elim
       (λ (t : b ≡ c). subst (Each Has) (sym (put-same fresh c b rest t)) (subst (Each Has) is (p c inc)).1)
       (λ (ne : b ≢ c). subst (Each Has) (sym (put-other fresh c b rest ne)) (p b inb))
-      (equal b c)
+      (cases_eq b c)
     where
       Has : Fresh → Type 0
       Has g = StartsWith g.key (kw g.map g.element) × StartsWith g.value (vw g.map g.element)

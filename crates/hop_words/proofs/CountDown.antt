@@ -5,6 +5,7 @@ use mathlib.Core.Logic.{dite}
 use Rattle.std.specs.FinMap.{get, len, empty, empty_of_len, get-empty}
 use Rattle.std.specs.Ordering.{nat_cmp}
 use Rattle.std.specs.Cmp.Lexicographic.{slice_cmp}
+use Rattle.std.proofs.lemmas.Bool.{cases_eq}
 use Rattle.bpf_shared.specs.declared.events.Event.{Event}
 use Rattle.bpf_shared.specs.declared.events.Event.TheVariants.{Delete}
 use Rattle.bpf_shared.specs.declared.events.Entry.{Entry}
@@ -22,12 +23,12 @@ use Rattle.hop_words.specs.declared.known.Limbo.{Limbo}
 use Rattle.hop_words.specs.declared.known.Lock.{Lock}
 use Rattle.hop_words.specs.declared.known.Change.TheVariants.{Drops}
 use Rattle.hop_layout.specs.Layout.{mem, put_at}
-use Rattle.hop_words.specs.Content.{place_words}
+use Rattle.hop_words.specs.Content.{words_by_place}
 use Rattle.hop_words.specs.Ghost.{Holder, Free, Leaving, Within, lane, Ghost, shape_at, HasElement, limbo_at, lock_home}
 use Rattle.hop_words.specs.Rule.{Rule, Minded, put_key, changed, Holds, numbered}
 use Rattle.hop_words.specs.Private.Step.{Next, Steps}
 use Rattle.hop_words.specs.Kinds.{Removes, Removed, with_gone}
-use Rattle.hop_words.proofs.Small.{equal_keys, equal, here_or, put2-same, put2-other, put_key-same, put_key-other}
+use Rattle.hop_words.proofs.Small.{equal_keys, here_or, put2-same, put2-other, put_key-same, put_key-other}
 use Rattle.hop_words.proofs.Histories.{logged_event}
 use Rattle.hop_words.proofs.Shortages.{begun_event, causes_on, run_quiet, settles_put, shown_step}
 use Rattle.hop_words.proofs.Goes.{with_used, owned_goes, cut_old, linked_goes, keyed_goes, batched_goes, valued_goes}
@@ -48,7 +49,7 @@ module _ (a : About) (l : Known) (k : Lock) (key : List ℕ) (e : ℕ) (i : Remo
   abbrev s : ℕ
   s = k.segment
 
-  h : Holds a g.depths (place_words w) (λ n t. w (Stamp n t)) g.eras g.linked g.holder l.cpu k
+  h : Holds a g.depths (words_by_place w) (λ n t. w (Stamp n t)) g.eras g.linked g.holder l.cpu k
   h = holds a l k i.lock w g r is
 
   there : g.linked m key ≡ Some e
@@ -89,7 +90,7 @@ module _ (a : About) (l : Known) (k : Lock) (key : List ℕ) (e : ℕ) (i : Remo
     mine = λ d mind. ⊎_elim
         (λ (u : d ≡ e). subst (Minded (lock_home a k) l.cpu s) (sym (ap (g.holder m) u ∙ was)) i.home)
         (λ (nu : d ≢ e). subst (Minded (lock_home a k) l.cpu s) (put2-other g.holder m e m d (Leaving l.cpu) (λ _. nu)) mind)
-        (equal d e);
+        (cases_eq d e);
     due = λ before same q home. ⊎_elim
         (λ (u : q ≡ key). ap (λ (f : List ℕ → Option ℕ). f q) (put-same g.linked m m (put_key (g.linked m) key None) refl) ∙ (put_key-same (g.linked m) key q None u ∙ sym (put_key-same before key q None u)))
         (λ (u : q ≢ key). cut_old a l.cpu m e s key g.holder was g.linked m q (λ _. u) ∙ (same q home ∙ sym (put_key-other before key q None u)))
@@ -135,6 +136,7 @@ module _ (a : About) (l : Known) (k : Lock) (key : List ℕ) (e : ℕ) (i : Remo
   down_rule : Rule a (put_at w (KeyCount m) (w (KeyCount m) - 1)) g'
   down_rule = record {
     shaped = r.shaped;
+    fixed = r.fixed;
     deep = r.deep;
     logged = logged_event a g.lanes.seen g.log g.last last' l.cpu event r.logged inside may;
     keyed = keyed_goes a l.cpu m e s key g.holder was g.linked (λ j. w (KeyCount j)) g.last.maps g.number r.keyed there;

@@ -10,13 +10,13 @@ use Rattle.bpf_shared.specs.declared.events.Entry.{Entry}
 use Rattle.bpf_shared.specs.declared.events.MapAnswer.TheVariants.{Done, Invalid, Exists, Absent, Full}
 use Rattle.bpf_shared.specs.First.{first_of}
 use Rattle.bpf_shared.specs.Shape.{element_span}
-use Rattle.bpf_shared.specs.Store.{Plain, Value, put}
+use Rattle.bpf_shared.specs.Store.{Plain, Value, put, fixed_count}
 use Rattle.bpf_shared.specs.Events.{Allowed, after_update}
 use Rattle.bpf_shared.specs.History.{entry, events_of}
 use Rattle.bpf_shared.specs.Own.{in_run}
 use Rattle.bpf_shared.proofs.Puts.{put-same}
 use Rattle.hop_layout.specs.declared.place.Place.{Place}
-use Rattle.hop_layout.specs.declared.place.Place.TheVariants.{RunCount, KeyCount, Stamp, ValueWord}
+use Rattle.hop_layout.specs.declared.place.Place.TheVariants.{RunCount, KeyCount, Stamp, ValueWord, FixedWord}
 use Rattle.hop_layout.specs.declared.about.About.{About}
 use Rattle.hop_words.specs.declared.known.Known.{Known}
 use Rattle.hop_words.specs.declared.known.Fresh.{Fresh}
@@ -25,7 +25,7 @@ use Rattle.hop_words.specs.declared.known.Change.TheVariants.{Puts}
 use Rattle.hop_layout.specs.Layout.{mem, put_at, words_for}
 use Rattle.hop_words.specs.Shortage.{is_update, HasHadValue}
 use Rattle.hop_layout.specs.Words.{bytes_of_words}
-use Rattle.hop_words.specs.Content.{place_words, one_if}
+use Rattle.hop_words.specs.Content.{words_by_place, one_if}
 use Rattle.hop_words.specs.Ghost.{Free, Filling, Within, lane, Era, Ghost, shape_at, HasElement, Each, lock_home}
 use Rattle.hop_words.specs.Rule.{times_fresh, Rule, Worn, Minded, put_key, changed, Holds, Segment, numbered, owed, Keyed, times_lock}
 use Rattle.hop_words.specs.Private.Step.{Next, Steps}
@@ -36,8 +36,9 @@ use Rattle.hop_words.proofs.Histories.{logged_event, done_in-append}
 use Rattle.hop_words.proofs.Shortages.{begun_answer, causes_on, empty_still, run_quiet, had_update, new_update, settles_put, shown_step, hand_held, hand_rest}
 use Rattle.hop_words.proofs.Comes.{in_hand, now_old, linked_comes, owned_comes, keyed_comes, batched_comes, filled_rest, valued_comes}
 use Rattle.hop_words.proofs.Segs.{Elsewhere, segments_step, locking_step, Upward, readings_step, held_step, lock_once, one_home}
-use Rattle.hop_words.proofs.Stays.{stay, next_as, saw, running_is, map_there, runs_quiet, place_for}
+use Rattle.hop_words.proofs.Stays.{stay, next_as, saw, running_is, map_there, runs_quiet, place_for, shape_is}
 use Rattle.hop_words.specs.Depths.{home_by}
+use Rattle.hop_words.proofs.FixedPlaces.{fixed_later, sound}
 
 pub four : (b0 b1 b2 b3 : Bool) → b0 ≡ false → b1 ≡ false → b2 ≡ false → b3 ≡ false → first_of ((Invalid, b0) ∷ (Exists, b1) ∷ (Absent, b2) ∷ (Full, b3) ∷ []) ≡ None
 four b0 b1 b2 b3 e0 e1 e2 e3 = rw (e0, e1, e2, e3) refl
@@ -63,8 +64,8 @@ module _ (a : About) (l : Known) (k : Lock) (f : Fresh) (rest : List Fresh) (key
   abbrev e : ℕ
   e = f.element
 
-  holds : Holds a g.depths (place_words w) (λ n t. w (Stamp n t)) g.eras g.linked g.holder l.cpu k
-  holds = (subst (Each (Holds a g.depths (place_words w) (λ n t. w (Stamp n t)) g.eras g.linked g.holder l.cpu)) (ap (λ (x : Known). x.locks) is ∙ i.filled.lock) (r.locking l.cpu)).0
+  holds : Holds a g.depths (words_by_place w) (λ n t. w (Stamp n t)) g.eras g.linked g.holder l.cpu k
+  holds = (subst (Each (Holds a g.depths (words_by_place w) (λ n t. w (Stamp n t)) g.eras g.linked g.holder l.cpu)) (ap (λ (x : Known). x.locks) is ∙ i.filled.lock) (r.locking l.cpu)).0
 
   at_e : HasElement a m e
   at_e = (holds.inside.0, i.filled.element)
@@ -136,7 +137,7 @@ module _ (a : About) (l : Known) (k : Lock) (f : Fresh) (rest : List Fresh) (key
   low : (g.eras m s).era ≤ w (Stamp m s)
   low = go (g.eras m s).dirty refl
     where
-      seg : Segment a g.depths (place_words w) (w (Stamp m s)) (g.eras m s) m s (g.linked m)
+      seg : Segment a g.depths (words_by_place w) (w (Stamp m s)) (g.eras m s) m s (g.linked m)
       seg = r.segments m s holds.inside
 
       go : (b : Bool) → (g.eras m s).dirty ≡ b → (g.eras m s).era ≤ w (Stamp m s)
@@ -153,7 +154,7 @@ module _ (a : About) (l : Known) (k : Lock) (f : Fresh) (rest : List Fresh) (key
   home_is : home_by a m (g.depths m s) key ≡ s
   home_is = ap (λ (i : ℕ). home_by a m i key) (sym holds.deep) ∙ i.filled.home
 
-  elsewhere : Elsewhere a g.depths m s l.cpu (place_words w) (place_words w) (λ n t. w (Stamp n t)) (λ n t. w (Stamp n t)) g.eras g'.eras g.linked g'.linked g.holder g'.holder
+  elsewhere : Elsewhere a g.depths m s l.cpu (words_by_place w) (words_by_place w) (λ n t. w (Stamp n t)) (λ n t. w (Stamp n t)) g.eras g'.eras g.linked g'.linked g.holder g'.holder
   elsewhere = record {
     stamps = λ n t off. refl;
     same_eras = λ n t ne. put2-other g.eras m s n t era' ne;
@@ -173,21 +174,21 @@ module _ (a : About) (l : Known) (k : Lock) (f : Fresh) (rest : List Fresh) (key
   }
 
   -- nobody else has this lock
-  alone : (d : ℕ) (k2 : Lock) → d ≢ l.cpu → Holds a g.depths (place_words w) (λ n t. w (Stamp n t)) g.eras g.linked g.holder d k2 → k2.map ≡ m → k2.segment ≢ s
+  alone : (d : ℕ) (k2 : Lock) → d ≢ l.cpu → Holds a g.depths (words_by_place w) (λ n t. w (Stamp n t)) g.eras g.linked g.holder d k2 → k2.map ≡ m → k2.segment ≢ s
   alone d k2 apart p h u = apart (sym p.writer ∙ (ap (λ (y : Era). y.writer) (λ j. g.eras (h j) (u j)) ∙ holds.writer))
 
   now_era : g'.eras m s ≡ era'
   now_era = put2-same g.eras m s m s era' refl refl
 
-  own_segment : Segment a g.depths (place_words w) (w (Stamp m s)) (g'.eras m s) m s (g'.linked m)
-  own_segment = subst (λ (y : Era). Segment a g.depths (place_words w) (w (Stamp m s)) y m s (g'.linked m)) (sym now_era) (record {
+  own_segment : Segment a g.depths (words_by_place w) (w (Stamp m s)) (g'.eras m s) m s (g'.linked m)
+  own_segment = subst (λ (y : Era). Segment a g.depths (words_by_place w) (w (Stamp m s)) y m s (g'.linked m)) (sym now_era) (record {
     at_rest = λ even. absurd (let o = is_segment_odd in omega arith);
     clean = λ d. absurd (true≢false d);
     written = λ d. refl;
     shows = λ d. absurd (true≢false d);
   })
 
-  own_lock : Holds a g.depths (place_words w) (λ n t. w (Stamp n t)) g'.eras g'.linked g'.holder l.cpu k'
+  own_lock : Holds a g.depths (words_by_place w) (λ n t. w (Stamp n t)) g'.eras g'.linked g'.holder l.cpu k'
   own_lock = record {
     inside = holds.inside;
     deep = holds.deep;
@@ -259,11 +260,12 @@ module _ (a : About) (l : Known) (k : Lock) (f : Fresh) (rest : List Fresh) (key
     owned = owned_comes a l.cpu m e s key g.holder was _ g.lanes.fresh g.lanes.limbo f rest r.owned i.filled.map refl hand inside;
     linked = linked_comes a l.cpu m e s key g.holder was g.linked r.linked none at_e;
     filled = filled_rest a l.cpu m e s key g.holder was _ _ g.lanes.fresh f rest r.filled hand inside;
-    segments = segments_step a g.depths m s l.cpu (place_words w) (place_words w) _ _ g.eras g'.eras g.linked g'.linked g.holder g'.holder elsewhere r.deep.sound holds.inside r.segments r.linked own_segment;
-    locking = locking_step a g.depths m s l.cpu (place_words w) (place_words w) _ _ g.eras g'.eras g.linked g'.linked g.holder g'.holder elsewhere r.deep.sound holds.inside g.lanes.locks (k' ∷ []) r.locking alone (own_lock, tt);
+    segments = segments_step a g.depths m s l.cpu (words_by_place w) (words_by_place w) _ _ g.eras g'.eras g.linked g'.linked g.holder g'.holder elsewhere r.deep.sound holds.inside r.segments r.linked own_segment;
+    locking = locking_step a g.depths m s l.cpu (words_by_place w) (words_by_place w) _ _ g.eras g'.eras g.linked g'.linked g.holder g'.holder elsewhere r.deep.sound holds.inside g.lanes.locks (k' ∷ []) r.locking alone (own_lock, tt);
     reading = readings_step a g.depths m s g.eras g'.eras g.lanes.readings upward r.reading;
     held = held_step a g.depths m s l.cpu _ _ g.eras g'.eras g.lanes.locks (k' ∷ []) inside r.held (λ odd. (ap (λ (y : Era). y.writer) now_era, (let z = lock_once k' in omega arith)))
         (λ n t _ ne. (refl, put2-other g.eras m s n t era' ne, ap (times_lock n t) (sym (ap (λ (z : Known). z.locks) is ∙ i.filled.lock))));
+    fixed = fixed_later a r.shaped (λ b k. w (FixedWord b k)) g.last.value g.last.made x (subst (λ h. fixed_count h ≤ g.last.made) (shape_is a w g r l is inside) (sound a w g r).fixed.made) r.fixed;
     valued = valued_comes a l.cpu m e s key g.holder was _ g.last.made g.last.value g.last.held g.number x r.valued spelled_is;
     shown = shown_step a g.log log' g.last last' g.lanes.fresh g'.lanes.fresh g.lanes.tally g.holder g'.holder g.taker (begun_answer g.log g.lanes.fresh l.cpu f rest event hand updates)
         (causes_on a g.log g.last last' g.lanes.fresh g'.lanes.fresh l.cpu event (begun_answer g.log g.lanes.fresh l.cpu f rest event hand updates) r.logged.legal (may found) r.shown.causes tt)

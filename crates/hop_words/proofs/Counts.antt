@@ -18,13 +18,13 @@ use Rattle.hop_layout.specs.declared.about.About.{About}
 use Rattle.hop_words.specs.declared.known.Known.{Known}
 use Rattle.hop_words.specs.declared.known.Lock.{Lock}
 use Rattle.hop_layout.specs.Layout.{mem, put_at}
-use Rattle.hop_words.specs.Content.{place_words}
+use Rattle.hop_words.specs.Content.{words_by_place}
 use Rattle.hop_words.specs.Ghost.{lane, Ghost, shape_at}
 use Rattle.hop_words.specs.Rule.{begun_in, Rule, Holds, changed, numbered, image}
 use Rattle.bpf_shared.specs.Own.{turns_of}
 use Rattle.hop_words.specs.Shortage.{HasCause}
 use Rattle.hop_words.specs.Private.Step.{Next, Steps}
-use Rattle.hop_words.specs.Kinds.{Told, Counts, Misflagged, SawAllTaken}
+use Rattle.hop_words.specs.Kinds.{AddsEvent, CountsUnderLock, Misflagged, SawAllTaken}
 use Rattle.hop_words.proofs.CountUp.{four, and_false}
 use Rattle.hop_words.proofs.Locks.{holds}
 use Rattle.hop_words.proofs.Shortages.{lack_cause}
@@ -33,7 +33,7 @@ use Rattle.hop_words.proofs.Stays.{put_again, stay, next_as, saw, running_is, ma
 
 -- a load at which an event takes effect that leaves the store as it is
 pub event_next : (a : About) (w : Place → ℕ) (g : Ghost) (r : Rule a w g) (l : Known) (is : lane g.lanes l.cpu ≡ l) (inside : l.cpu < a.shape.cpus) (p : Place) (ev : Event) → turns_of (ev ∷ []) ≡ 0 → HasCause a.version (begun_in g.log g.lanes.fresh) (record { shape = a.shape; before = g.log; store = g.last; cpu = l.cpu }) ev → Allowed g.last l.cpu ev g.last
-    → Next a (put_at w p (w p)) g l.cpu (Told a l ev)
+    → Next a (put_at w p (w p)) g l.cpu (AddsEvent a l ev)
 event_next a w g r l is inside p ev quiet cause may =
     let rule = event_rule a w g r l inside ev quiet cause may in
     record {
@@ -42,7 +42,7 @@ event_next a w g r l is inside p ev quiet cause may =
       others = λ d ne. rw (ne_eqb d l.cpu ne) refl;
       longer = (entry l.cpu ev ∷ [], refl);
       tally = refl;
-      says = subst (Told a l ev) (sym (rw (eq-eqb l.cpu l.cpu refl) (ap (λ (z : Known). record z { seen = g.log ++ entry l.cpu ev ∷ [] }) is))) (record { seen = saw a w g r l is inside ev g.last may rule.logged; after = refl });
+      says = subst (AddsEvent a l ev) (sym (rw (eq-eqb l.cpu l.cpu refl) (ap (λ (z : Known). record z { seen = g.log ++ entry l.cpu ev ∷ [] }) is))) (record { seen = saw a w g r l is inside ev g.last may rule.logged; after = refl });
     }
 
 last_true : (b0 b1 b2 b3 : Bool) → b0 ≡ false → b1 ≡ false → b2 ≡ false → b3 ≡ true → first_of ((Invalid, b0) ∷ (Exists, b1) ∷ (Absent, b2) ∷ (Full, b3) ∷ []) ≡ Some Full
@@ -51,8 +51,8 @@ last_true b0 b1 b2 b3 e0 e1 e2 e3 = rw (e0, e1, e2, e3) refl
 first_true : (b0 b1 b2 b3 : Bool) → b0 ≡ true → first_of ((Invalid, b0) ∷ (Exists, b1) ∷ (Absent, b2) ∷ (Full, b3) ∷ []) ≡ Some Invalid
 first_true b0 b1 b2 b3 e0 = rw e0 refl
 
-module _ (a : About) (l : Known) (k : Lock) (key bytes : List ℕ) (flags : ℕ) (i : Counts a l k key bytes flags) (w : Place → ℕ) (g : Ghost) (r : Rule a w g) (is : lane g.lanes l.cpu ≡ l) (inside : l.cpu < a.shape.cpus) where
-  h : Holds a g.depths (place_words w) (λ n t. w (Stamp n t)) g.eras g.linked g.holder l.cpu k
+module _ (a : About) (l : Known) (k : Lock) (key bytes : List ℕ) (flags : ℕ) (i : CountsUnderLock a l k key bytes flags) (w : Place → ℕ) (g : Ghost) (r : Rule a w g) (is : lane g.lanes l.cpu ≡ l) (inside : l.cpu < a.shape.cpus) where
+  h : Holds a g.depths (words_by_place w) (λ n t. w (Stamp n t)) g.eras g.linked g.holder l.cpu k
   h = holds a l k i.lock w g r is
 
   get_none : get (g.last.maps k.map) key ≡ None
@@ -62,7 +62,7 @@ module _ (a : About) (l : Known) (k : Lock) (key bytes : List ℕ) (flags : ℕ)
   count_is = r.keyed.counted k.map h.inside.0
 
   pub most : w (KeyCount k.map) ≤ (shape_at a k.map).max
-  most = let z = (legal_sound (as_made a.shape) g.last g.log (as_made_sound a.shape) r.logged.legal).keys k.map (shape_at a k.map) (map_there a w g r l is inside k.map h.inside.0) in let c = count_is in omega arith
+  most = let z = (legal_sound (as_made a.shape) g.last g.log (as_made_sound a.shape r.shaped) r.logged.legal).keys k.map (shape_at a k.map) (map_there a w g r l is inside k.map h.inside.0) in let c = count_is in omega arith
 
   invalid_false : nat_lt 2 flags ≡ false
   invalid_false = let t = i.flags_known in grind (arith, nat_tests)
@@ -104,8 +104,8 @@ module _ (a : About) (l : Known) (k : Lock) (key bytes : List ℕ) (flags : ℕ)
   )
 
 -- with an element in hand: full, or there is room
-pub see_count : (a : About) (l : Known) (k : Lock) (key bytes : List ℕ) (flags : ℕ) → Counts a l k key bytes flags
-    → Steps a l (KeyCount k.map) (λ n. n) (λ ws n l'. (n ≡ (shape_at a k.map).max → Told a l (Update k.map key bytes flags Full) l') × (n ≢ (shape_at a k.map).max → (l' ≡ l) × (n < (shape_at a k.map).max)))
+pub see_count : (a : About) (l : Known) (k : Lock) (key bytes : List ℕ) (flags : ℕ) → CountsUnderLock a l k key bytes flags
+    → Steps a l (KeyCount k.map) (λ n. n) (λ ws n l'. (n ≡ (shape_at a k.map).max → AddsEvent a l (Update k.map key bytes flags Full) l') × (n ≢ (shape_at a k.map).max → (l' ≡ l) × (n < (shape_at a k.map).max)))
 see_count a l k key bytes flags i ws g sized r is inside fits =
     let w = mem a.shape ws in
     dite (ℕ_discrete (w (KeyCount k.map)) (shape_at a k.map).max)
@@ -113,15 +113,15 @@ see_count a l k key bytes flags i ws g sized r is inside fits =
     (λ less. stay a w g l.cpu (KeyCount k.map) _ r ((λ full. absurd (less full)), (λ _. (is, (let z = most a l k key bytes flags i w g r is inside in grind arith)))))
 
 -- without one: full, or no memory
-pub see_count_lacking : (a : About) (l : Known) (k : Lock) (key bytes : List ℕ) (flags : ℕ) → Counts a l k key bytes flags → SawAllTaken a l k.map
-    → Steps a l (KeyCount k.map) (λ n. n) (λ ws n l'. (n ≡ (shape_at a k.map).max → Told a l (Update k.map key bytes flags Full) l') × (n ≢ (shape_at a k.map).max → Told a l (Update k.map key bytes flags NoMemory) l'))
+pub see_count_lacking : (a : About) (l : Known) (k : Lock) (key bytes : List ℕ) (flags : ℕ) → CountsUnderLock a l k key bytes flags → SawAllTaken a l k.map
+    → Steps a l (KeyCount k.map) (λ n. n) (λ ws n l'. (n ≡ (shape_at a k.map).max → AddsEvent a l (Update k.map key bytes flags Full) l') × (n ≢ (shape_at a k.map).max → AddsEvent a l (Update k.map key bytes flags NoMemory) l'))
 see_count_lacking a l k key bytes flags i saw ws g sized r is inside fits =
     let w = mem a.shape ws in
     dite (ℕ_discrete (w (KeyCount k.map)) (shape_at a k.map).max)
     (λ full. next_as _ _ _ _ _ _ (λ q t. ((λ _. t), (λ ne. absurd (ne full)))) (event_next a w g r l is inside (KeyCount k.map) (Update k.map key bytes flags Full) refl tt (may_full a l k key bytes flags i w g r is inside full)))
     (λ less. next_as _ _ _ _ _ _ (λ q t. ((λ full. absurd (less full)), (λ _. t))) (event_next a w g r l is inside (KeyCount k.map) (Update k.map key bytes flags NoMemory) refl (lack_cause a w g r l k.map is inside (in_map a l k key bytes flags i w g r is inside) saw) (may_lack a l k key bytes flags i w g r is inside less)))
 
-pub see_count_misflagged : (a : About) (l : Known) (m : ℕ) (key bytes : List ℕ) (flags : ℕ) → Misflagged a l m key bytes flags → Steps a l (KeyCount m) (λ n. n) (λ ws n l'. Told a l (Update m key bytes flags Invalid) l')
+pub see_count_misflagged : (a : About) (l : Known) (m : ℕ) (key bytes : List ℕ) (flags : ℕ) → Misflagged a l m key bytes flags → Steps a l (KeyCount m) (λ n. n) (λ ws n l'. AddsEvent a l (Update m key bytes flags Invalid) l')
 see_count_misflagged a l m key bytes flags i ws g sized r is inside fits =
     let w = mem a.shape ws in
     event_next a w g r l is inside (KeyCount m) (Update m key bytes flags Invalid) refl tt

@@ -10,7 +10,7 @@ use Rattle.hop_words.specs.declared.known.Known.{Known}
 use Rattle.hop_words.specs.declared.known.Lock.{Lock}
 use Rattle.hop_words.specs.declared.known.Change.{Change}
 use Rattle.hop_words.specs.declared.known.Change.TheVariants.{Nothing}
-use Rattle.hop_words.specs.Content.{place_words, one_if}
+use Rattle.hop_words.specs.Content.{words_by_place, one_if}
 use Rattle.hop_words.specs.Ghost.{Holder, lane, Era, Ghost, lock_home, IsHomeIn}
 use Rattle.hop_words.specs.Shortage.{is_done}
 use Rattle.hop_words.specs.Rule.{Rule, Segment, Segments, Locking, Readings, Minded, Holds, changed, owed, Worn, Held, times_lock}
@@ -40,10 +40,10 @@ module _ (a : About) (l : Known) (k : Lock) (held : l.locks ≡ k ∷ []) (w : P
   abbrev pub lock' : Lock
   lock' = record k { change = change; dirty = true }
 
-  h : Holds a g.depths (place_words w) (λ n t. w (Stamp n t)) g.eras g.linked g.holder l.cpu k
+  h : Holds a g.depths (words_by_place w) (λ n t. w (Stamp n t)) g.eras g.linked g.holder l.cpu k
   h = holds a l k held w g r is
 
-  elsewhere : Elsewhere a g.depths k.map k.segment l.cpu (place_words w) (place_words w) (λ n t. w (Stamp n t)) (λ n t. w (Stamp n t)) g.eras eras' g.linked linked' g.holder holder'
+  elsewhere : Elsewhere a g.depths k.map k.segment l.cpu (words_by_place w) (words_by_place w) (λ n t. w (Stamp n t)) (λ n t. w (Stamp n t)) g.eras eras' g.linked linked' g.holder holder'
   elsewhere = record {
     stamps = λ n t off. refl;
     same_eras = λ n t ne. put2-other g.eras k.map k.segment n t owing ne;
@@ -58,7 +58,7 @@ module _ (a : About) (l : Known) (k : Lock) (held : l.locks ≡ k ∷ []) (w : P
   now_era : eras' k.map k.segment ≡ owing
   now_era = put2-same g.eras k.map k.segment k.map k.segment owing refl refl
 
-  own_lock : Holds a g.depths (place_words w) (λ n t. w (Stamp n t)) eras' linked' holder' l.cpu lock'
+  own_lock : Holds a g.depths (words_by_place w) (λ n t. w (Stamp n t)) eras' linked' holder' l.cpu lock'
   own_lock = record {
     inside = h.inside;
     deep = h.deep;
@@ -81,17 +81,17 @@ module _ (a : About) (l : Known) (k : Lock) (held : l.locks ≡ k ∷ []) (w : P
     due = (h.due.0, h.due.1, λ q home. ef.due h.due.0 (λ p there. h.due.2 p there ∙ ap (λ y. changed y h.due.0 p) none) q home);
   }
 
-  pub effect_segments : Segments a g.depths (place_words w) (λ n t. w (Stamp n t)) eras' linked'
-  effect_segments = segments_step a g.depths k.map k.segment l.cpu (place_words w) (place_words w) _ _ g.eras eras' g.linked linked' g.holder holder' elsewhere r.deep.sound h.inside r.segments r.linked
-      (subst (λ (y : Era). Segment a g.depths (place_words w) (w (Stamp k.map k.segment)) y k.map k.segment (linked' k.map)) (sym now_era) (record {
+  pub effect_segments : Segments a g.depths (words_by_place w) (λ n t. w (Stamp n t)) eras' linked'
+  effect_segments = segments_step a g.depths k.map k.segment l.cpu (words_by_place w) (words_by_place w) _ _ g.eras eras' g.linked linked' g.holder holder' elsewhere r.deep.sound h.inside r.segments r.linked
+      (subst (λ (y : Era). Segment a g.depths (words_by_place w) (w (Stamp k.map k.segment)) y k.map k.segment (linked' k.map)) (sym now_era) (record {
         at_rest = λ even. absurd (let o = is_odd a l k held w g r is in omega arith);
         clean = λ d. absurd (true≢false d);
         written = λ d. refl;
         shows = λ d. absurd (true≢false d);
       }))
 
-  pub effect_locking : Locking a g.depths (place_words w) (λ n t. w (Stamp n t)) eras' linked' holder' (put g.lanes.locks l.cpu (lock' ∷ []))
-  effect_locking = locking_step a g.depths k.map k.segment l.cpu (place_words w) (place_words w) _ _ g.eras eras' g.linked linked' g.holder holder' elsewhere r.deep.sound h.inside g.lanes.locks (lock' ∷ []) r.locking (alone a l k held w g r is) (own_lock, tt)
+  pub effect_locking : Locking a g.depths (words_by_place w) (λ n t. w (Stamp n t)) eras' linked' holder' (put g.lanes.locks l.cpu (lock' ∷ []))
+  effect_locking = locking_step a g.depths k.map k.segment l.cpu (words_by_place w) (words_by_place w) _ _ g.eras eras' g.linked linked' g.holder holder' elsewhere r.deep.sound h.inside g.lanes.locks (lock' ∷ []) r.locking (alone a l k held w g r is) (own_lock, tt)
 
   pub effect_reading : Readings a g.depths eras' g.lanes.readings
   effect_reading = readings_step a g.depths k.map k.segment g.eras eras' g.lanes.readings (record {

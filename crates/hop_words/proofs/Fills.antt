@@ -2,6 +2,7 @@
 use Rattle.std.proofs.Common.{◌≡◌, ◌≢◌, ℕ, zero, suc, ◌+◌, ◌/◌, ◌%◌, ◌^◌, ◌<◌, ◌≤◌, Bool, true, false, ◌&&◌, List, [], ◌∷◌, ◌++◌, ◌==◌, length, take, slice_index, bit_or, refl, ap, sym, subst, ◌∙◌, arith, eq-eqb, ne_eqb, ⊎_elim, inl, inr, ◌⊎◌}
 use Rattle.std.proofs.lemmas.Nat.Bits.{bit_at_or, bit_at-lt, bit_at-pow_same, bit_at-pow_other}
 use Rattle.std.specs.Int.{bit_at}
+use Rattle.std.proofs.lemmas.Bool.{cases_eq}
 use Rattle.bpf_shared.specs.declared.events.Event.{Event}
 use Rattle.bpf_shared.specs.Store.{put}
 use Rattle.bpf_shared.specs.History.{events_of}
@@ -16,14 +17,14 @@ use Rattle.hop_words.specs.declared.known.Fresh.{Fresh}
 use Rattle.hop_words.specs.declared.known.Sight.{Sight}
 use Rattle.hop_layout.specs.Layout.{mem, put_at, words_for}
 use Rattle.hop_layout.specs.Words.{bytes_of_words}
-use Rattle.hop_words.specs.Content.{place_words, one_if}
+use Rattle.hop_words.specs.Content.{words_by_place, one_if}
 use Rattle.hop_words.specs.Ghost.{Holder, Free, Filling, Within, is_free, is_filling, is_leaving, Carries, lane, Ghost, shape_at, HasElement, Each}
 use Rattle.hop_words.specs.Rule.{Rule, times_fresh, begun_in, StartsWith, Minded}
 use Rattle.hop_words.specs.Shortage.{updates_of}
 use Rattle.hop_words.specs.Sights.{LeavesElements, ShowsTaken, IsTakenSince, bit_set, sighted}
 use Rattle.hop_words.specs.Private.Step.{Next, Steps, Notes}
 use Rattle.hop_words.specs.Private.Kinds.{filling_key, filling_value}
-use Rattle.hop_words.proofs.Small.{equal, here_or, put2-same, put2-other}
+use Rattle.hop_words.proofs.Small.{here_or, put2-same, put2-other}
 use Rattle.hop_words.proofs.Spelling.{IsFilled}
 use Rattle.hop_words.proofs.Shortages.{begun_fill, IsAnothers, begun_give, causes_made, empty_still, took_more, settled, settles_put, shown_step, hand_rest}
 use Rattle.hop_words.proofs.Histories.{prefix_refl}
@@ -94,7 +95,7 @@ module _ (a : About) (l : Known) (f : Fresh) (rest : List Fresh) (hand : l.fresh
     fresh_on b m e inb l2 = ⊎_elim
         (λ (t : b ≡ l.cpu). ap (times_fresh m e) (put-same g.lanes.fresh l.cpu b (other ∷ rest) t) ∙ (ap (times_fresh m e) (sym (ap g.lanes.fresh t ∙ mine)) ∙ r.owned.fresh_is b m e inb l2))
         (λ (ne : b ≢ l.cpu). ap (times_fresh m e) (put-other g.lanes.fresh l.cpu b (other ∷ rest) ne) ∙ r.owned.fresh_is b m e inb l2)
-        (equal b l.cpu)
+        (cases_eq b l.cpu)
 
     filled_on : (w2 : Place → ℕ) → ((d : Fresh) → (d.map ≡ f.map → d.element ≢ f.element) → IsFilled w d → IsFilled w2 d) → IsFilled w2 other
         → (b : ℕ) → b < a.shape.cpus → Each (IsFilled w2) (put g.lanes.fresh l.cpu (other ∷ rest) b)
@@ -103,13 +104,14 @@ module _ (a : About) (l : Known) (f : Fresh) (rest : List Fresh) (hand : l.fresh
         (own, each_by (IsFilled w) (IsFilled w2) rest rest (λ d h. h) (λ d h p. keep d (rest_apart a w g r l.cpu inside f rest mine at_e d h) p) own_list.1))
         (λ (ne : b ≢ l.cpu). subst (Each (IsFilled w2)) (sym (put-other g.lanes.fresh l.cpu b (other ∷ rest) ne))
         (each_by (IsFilled w) (IsFilled w2) (g.lanes.fresh b) (g.lanes.fresh b) (λ d h. h) (λ d h p. keep d (other_apart a w g r l.cpu inside f rest mine at_e b d inb ne h) p) (r.filled b inb)))
-        (equal b l.cpu)
+        (cases_eq b l.cpu)
 
   key_step : Next a (put_at w (KeyWord f.map f.element (length f.key)) n) g l.cpu (λ l'. l' ≡ filling_key l f rest n)
   key_step = record {
     ghost = g2;
     rule = record {
       shaped = r.shaped;
+      fixed = r.fixed;
       deep = r.deep;
       logged = r.logged;
       keyed = r.keyed;
@@ -123,9 +125,9 @@ module _ (a : About) (l : Known) (f : Fresh) (rest : List Fresh) (hand : l.fresh
       };
       linked = r.linked;
       filled = filled_on (f.key ++ n ∷ []) f.value w2 keep (own_new, own_list.0.1);
-      segments = segments_words a g.depths (place_words w) (place_words w2) (λ m t. w (Stamp m t)) g.eras g.linked g.holder r.linked (λ m t. refl) (λ m t b. refl) (λ m t b. refl)
+      segments = segments_words a g.depths (words_by_place w) (words_by_place w2) (λ m t. w (Stamp m t)) g.eras g.linked g.holder r.linked (λ m t. refl) (λ m t b. refl) (λ m t b. refl)
           (λ m d q h. (refl, λ k. elsewhere m d k (λ u v. let z : Within q ≡ Filling l.cpu = sym h ∙ ((λ j. g.holder (u j) (v j)) ∙ filling) in cc))) r.segments;
-      locking = locking_words a g.depths (place_words w) (place_words w2) (λ m t. w (Stamp m t)) g.eras g.linked g.holder g.lanes.locks l.cpu (ap (λ (z : Known). z.locks) is ∙ unlocked) (λ m t. refl) (λ m t b. refl) (λ m t b. refl)
+      locking = locking_words a g.depths (words_by_place w) (words_by_place w2) (λ m t. w (Stamp m t)) g.eras g.linked g.holder g.lanes.locks l.cpu (ap (λ (z : Known). z.locks) is ∙ unlocked) (λ m t. refl) (λ m t b. refl) (λ m t b. refl)
           (λ home m t d b ne on. (refl, λ k. elsewhere m d k (λ u v. ne (sym (subst (Minded home b t) ((λ j. g.holder (u j) (v j)) ∙ filling) on))))) r.locking;
       reading = r.reading;
       held = r.held;
@@ -180,6 +182,7 @@ module _ (a : About) (l : Known) (f : Fresh) (rest : List Fresh) (hand : l.fresh
     ghost = g2;
     rule = record {
       shaped = r.shaped;
+      fixed = r.fixed;
       deep = r.deep;
       logged = r.logged;
       keyed = r.keyed;
@@ -264,6 +267,7 @@ give_fresh a l f rest hand at_e answered ws g sized r is inside fits = record {
   ghost = g2;
   rule = record {
     shaped = r.shaped;
+    fixed = r.fixed;
     deep = r.deep;
     logged = r.logged;
     keyed = r.keyed;
@@ -278,16 +282,16 @@ give_fresh a l f rest hand at_e answered ws g sized r is inside fits = record {
           (λ (t : b ≡ l.cpu). ap (times_fresh n d) (put-same g.lanes.fresh l.cpu b rest t) ∙ subst (λ z. times_fresh n d rest ≡ one_if (is_filling z (holder2 n d))) (sym t) (own n d l2))
           (λ (ne : b ≢ l.cpu). ap (times_fresh n d) (put-other g.lanes.fresh l.cpu b rest ne) ∙ (r.owned.fresh_is b n d inb l2 ∙ sym (moved (λ z. one_if (is_filling b z)) g.holder f.map f.element (Filling l.cpu) Free filling
           (sym (ap one_if (ne_eqb l.cpu b (λ (q : l.cpu ≡ b). ne (sym q))))) n d)))
-          (equal b l.cpu);
+          (cases_eq b l.cpu);
       limbo_is = λ b n d inb l2. r.owned.limbo_is b n d inb l2 ∙ sym (moved (λ z. one_if (is_leaving b z)) g.holder f.map f.element (Filling l.cpu) Free filling refl n d);
     };
     linked = linked_outside a g.holder f.map f.element (Filling l.cpu) Free filling g.linked (λ s z. cc) (λ s z. cc) r.linked;
     filled = λ b inb. ⊎_elim
         (λ (t : b ≡ l.cpu). subst (Each (IsFilled w)) (sym (put-same g.lanes.fresh l.cpu b rest t)) (subst (Each (IsFilled w)) mine (r.filled l.cpu inside)).1)
         (λ (ne : b ≢ l.cpu). subst (Each (IsFilled w)) (sym (put-other g.lanes.fresh l.cpu b rest ne)) (r.filled b inb))
-        (equal b l.cpu);
+        (cases_eq b l.cpu);
     segments = r.segments;
-    locking = locking_outside a g.holder f.map f.element (Filling l.cpu) Free filling g.depths (place_words w) (λ n t. w (Stamp n t)) g.eras g.linked g.lanes.locks (λ b. inr (λ home t z. absurd z)) r.locking;
+    locking = locking_outside a g.holder f.map f.element (Filling l.cpu) Free filling g.depths (words_by_place w) (λ n t. w (Stamp n t)) g.eras g.linked g.lanes.locks (λ b. inr (λ home t z. absurd z)) r.locking;
     reading = r.reading;
     held = r.held;
     valued = valued_outside a g.holder f.map f.element (Filling l.cpu) Free filling _ g.last.made g.last.value g.last.held g.number (λ z. z) (λ c h z. z) r.valued;
@@ -300,7 +304,7 @@ give_fresh a l f rest hand at_e answered ws g sized r is inside fits = record {
       taken = λ b n d inb at_d seen. ⊎_elim
           (λ (t : b ≡ l.cpu). still b n d inb at_d t (subst (λ (z : List Sight). IsTakenSince z n d) (put-same g.lanes.tally l.cpu b (given ∷ g.lanes.tally l.cpu) t) seen))
           (λ (ne : b ≢ l.cpu). kept b n d (λ q. absurd (ne q)) (r.shown.taken b n d inb at_d (subst (λ (z : List Sight). IsTakenSince z n d) (put-other g.lanes.tally l.cpu b (given ∷ g.lanes.tally l.cpu) ne) seen)))
-          (equal b l.cpu);
+          (cases_eq b l.cpu);
     };
   };
   others = λ d ne. rw (ne_eqb d l.cpu ne) refl;
@@ -354,7 +358,7 @@ give_fresh a l f rest hand at_e answered ws g sized r is inside fits = record {
         (λ (h : 1 ≤ times_fresh n d (put g.lanes.fresh l.cpu rest b)). inr h)
         (hand_rest g.lanes.fresh l.cpu f rest mine b n d has))
         (λ (ne : b ≢ l.cpu). inr (subst (λ (z : List Fresh). 1 ≤ times_fresh n d z) (sym (put-other g.lanes.fresh l.cpu b rest ne)) has))
-        (equal b l.cpu))
+        (cases_eq b l.cpu))
         was_so
 
     still : (b n d : ℕ) → b < a.shape.cpus → HasElement a n d → b ≡ l.cpu → LeavesElements n given × (ShowsTaken given n d ⊎ IsTakenSince (g.lanes.tally l.cpu) n d)
@@ -382,4 +386,4 @@ give_fresh a l f rest hand at_e answered ws g sized r is inside fits = record {
         differ n d ne = ap one_if (⊎_elim
             (λ (t : n ≡ f.map). ap (λ (z : Bool). (f.map == n) && z) (ne_eqb f.element d (λ (q : f.element ≡ d). ne t (sym q))) ∙ and_false (f.map == n))
             (λ (nd : n ≢ f.map). ap (λ (z : Bool). z && (f.element == d)) (ne_eqb f.map n (λ (q : f.map ≡ n). nd (sym q))))
-            (equal n f.map))
+            (cases_eq n f.map))

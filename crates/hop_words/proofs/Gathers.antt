@@ -19,7 +19,7 @@ use Rattle.hop_layout.specs.Layout.{mem}
 use Rattle.hop_words.specs.Ghost.{Ghost, lane, shape_at}
 use Rattle.hop_layout.specs.declared.place.Place.{Place}
 use Rattle.hop_layout.specs.declared.place.Place.TheVariants.{Stamp}
-use Rattle.hop_words.specs.Content.{place_words, IsShare}
+use Rattle.hop_words.specs.Content.{words_by_place, IsShare}
 use Rattle.hop_words.specs.Rule.{Seats, Kept, Rule, Segment, image, times_lock}
 use Rattle.hop_words.proofs.Shares.{share_agrees}
 use Rattle.hop_words.proofs.Readings.{even_or_odd}
@@ -296,15 +296,15 @@ front_nil [] ys e = refl
 front_nil (x ∷ xs) ys e = absurd (cc)
 
 -- where nobody has a lock, each segment shows its share
-at_rest_shows : (a : About) (w : Place → ℕ) (g : Ghost) (r : Rule a w g) → ((c : ℕ) → c < a.shape.cpus → g.lanes.locks c ≡ []) → (m s : ℕ) → IsBorn a g.depths m s → IsShare a.seed (shape_at a m) (home_by a m (g.depths m s)) (place_words w) m s (g.linked m)
+at_rest_shows : (a : About) (w : Place → ℕ) (g : Ghost) (r : Rule a w g) → ((c : ℕ) → c < a.shape.cpus → g.lanes.locks c ≡ []) → (m s : ℕ) → IsBorn a g.depths m s → IsShare a.seed (shape_at a m) (home_by a m (g.depths m s)) (words_by_place w) m s (g.linked m)
 at_rest_shows a w g r idle m s at_s =
-    let seg : Segment a g.depths (place_words w) (w (Stamp m s)) (g.eras m s) m s (g.linked m) = r.segments m s at_s in
+    let seg : Segment a g.depths (words_by_place w) (w (Stamp m s)) (g.eras m s) m s (g.linked m) = r.segments m s at_s in
     let even : w (Stamp m s) % 2 ≡ 0 = ⊎_elim
     (λ (e : w (Stamp m s) % 2 ≡ 0). e)
     (λ (o : w (Stamp m s) % 2 ≡ 1). absurd (let h = r.held m s at_s o in let z : times_lock m s (g.lanes.locks (g.eras m s).writer) ≡ 0 = ap (times_lock m s) (idle (g.eras m s).writer h.0) in let y = h.1 in omega arith))
     (even_or_odd (w (Stamp m s))) in
     let d = seg.at_rest even in
-    share_agrees a.seed (shape_at a m) (home_by a m (g.depths m s)) (place_words w) (g.eras m s).old m s (g.linked m) (seg.clean d).1 (seg.shows d)
+    share_agrees a.seed (shape_at a m) (home_by a m (g.depths m s)) (words_by_place w) (g.eras m s).old m s (g.linked m) (seg.clean d).1 (seg.shows d)
 
 -- where all lanes are in one seat that has learned the history, it is the whole, and the words keep the rule with it
 pub closes : (a : About) (id : ℕ) (v : View) (ws : List ℕ) (xs : List (Unit {0})) → Final (Seen (Kept a) id v) ws xs

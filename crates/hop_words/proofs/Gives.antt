@@ -1,7 +1,8 @@
 -- Give bit of the old batch, retire, fill word.
-use Rattle.std.proofs.Common.{◌≡◌, ◌≢◌, ℕ, zero, suc, ◌+◌, ◌/◌, ◌%◌, ◌^◌, ◌<◌, ◌≤◌, Bool, true, false, true≢false, List, [], ◌∷◌, Option, ◌==◌, length, set, slice_index, refl, ap, sym, subst, ◌∙◌, arith, eq-eqb, ne_eqb, ⊎_elim, inl, inr, ◌⊎◌, bit_or}
+use Rattle.std.proofs.Common.{◌≡◌, ◌≢◌, ℕ, ◌+◌, ◌/◌, ◌%◌, ◌^◌, ◌<◌, ◌≤◌, Bool, true, false, true≢false, List, [], ◌∷◌, Option, ◌==◌, length, set, slice_index, refl, ap, sym, subst, ◌∙◌, arith, eq-eqb, ne_eqb, ⊎_elim, inr, bit_or}
 use Rattle.std.proofs.lemmas.Bool.Decides.{nat_tests}
 use Rattle.std.proofs.lemmas.Nat.Bits.{bit_at_or, bit_at-lt, bit_at-pow_same, bit_at-pow_other}
+use Rattle.std.proofs.lemmas.Bool.{cases_lt, cases_eq}
 use Rattle.bpf_shared.specs.Store.{put, as_made}
 use Rattle.bpf_shared.proofs.Puts.{true_or_false}
 use Rattle.bpf_shared.specs.Sound.{IsSoundStore}
@@ -14,13 +15,13 @@ use Rattle.hop_words.specs.declared.known.Known.{Known}
 use Rattle.hop_words.specs.declared.known.Limbo.{Limbo}
 use Rattle.hop_words.specs.declared.known.Lock.{Lock}
 use Rattle.hop_layout.specs.Layout.{mem, put_at}
-use Rattle.hop_words.specs.Content.{MapWords, place_words, one_if, times}
+use Rattle.hop_words.specs.Content.{MapWords, words_by_place, one_if, times}
 use Rattle.hop_words.specs.Ghost.{Holder, Free, Leaving, Within, is_filling, is_leaving, lane, Era, Ghost, HasElement, Each, limbo_at, lock_home}
 use Rattle.hop_words.specs.Rule.{Rule, Chained, link_to, times_limbo, Linked, Segment, Segments, Minded, Holds, Locking}
 use Rattle.bpf_shared.specs.Own.{turns_of, in_run}
 use Rattle.hop_words.specs.Private.Step.{Steps}
 use Rattle.hop_words.specs.Kinds.{retiring, Passed, giving_old}
-use Rattle.hop_words.proofs.Small.{equal, put2-same, put2-other}
+use Rattle.hop_words.proofs.Small.{put2-same, put2-other}
 use Rattle.hop_words.proofs.Histories.{prefix_refl, runs_as_known}
 use Rattle.hop_words.proofs.Shortages.{settles_put, shown_step}
 use Rattle.hop_words.proofs.Comes.{moved, in_limbo}
@@ -47,13 +48,13 @@ holder_odd : (a : About) (w : Place → ℕ) (g : Ghost) → Rule a w g → a.co
 holder_odd a w g r even d v h = (in_shape, odd)
   where
     so : IsSoundStore g.last
-    so = legal_sound (as_made a.shape) g.last g.log (as_made_sound a.shape) r.logged.legal
+    so = legal_sound (as_made a.shape) g.last g.log (as_made_sound a.shape r.shaped) r.logged.legal
 
     running : g.last.running d ≡ true
     running = ⊎_elim (λ (t : g.last.running d ≡ true). t) (λ (f : g.last.running d ≡ false). absurd (true≢false (sym h ∙ (so.idle d f v).0))) (true_or_false (g.last.running d))
 
     known : in_run (events_of d g.log) ≡ true
-    known = sym (runs_as_known a d g.last g.log g.log r.logged.legal refl) ∙ running
+    known = sym (runs_as_known a d g.last g.log g.log r.shaped r.logged.legal refl) ∙ running
 
     turns_odd : turns_of (events_of d g.log) % 2 ≡ 1
     turns_odd = let k = known in grind (arith, nat_tests)
@@ -62,12 +63,7 @@ holder_odd a w g r even d v h = (in_shape, odd)
     in_shape = ⊎_elim
         (λ (t : d < a.shape.cpus). t)
         (λ (f : a.shape.cpus ≤ d). absurd (let z : turns_of (events_of d g.log) ≡ 0 = ap turns_of (r.logged.others d f) in let o = turns_odd in omega arith))
-        (below d a.shape.cpus)
-      where
-        below : (i j : ℕ) → (i < j) ⊎ (j ≤ i)
-        below i zero = inr (omega arith)
-        below zero (suc j) = inl (omega arith)
-        below (suc i) (suc j) = ⊎_elim (λ t. inl (omega arith)) (λ t. inr (omega arith)) (below i j)
+        (cases_lt d a.shape.cpus)
 
     odd : w (RunCount d) % 2 ≡ 1
     odd = let c = r.runs d in_shape in let o = turns_odd in let e = even in omega arith
@@ -78,6 +74,7 @@ give_old a l m e es even at_e room i ws g sized r is inside fits = record {
   ghost = g2;
   rule = record {
     shaped = r.shaped;
+    fixed = r.fixed;
     deep = r.deep;
     logged = r.logged;
     keyed = r.keyed;
@@ -99,13 +96,13 @@ give_old a l m e es even at_e room i ws g sized r is inside fits = record {
           (λ b n ne inb at_n. r.owned.limbo_is b n d inb at_n ∙ ⊎_elim
           (λ (t : b ≡ l.cpu). ap (λ z. one_if (is_leaving b z)) (sym (put2-other g.holder m e n d Free (λ u. absurd (ne t u)))))
           (λ (nb : b ≢ l.cpu). sym (moved (λ z. one_if (is_leaving b z)) g.holder m e (Leaving l.cpu) Free was (sym (ap one_if (ne_eqb l.cpu b (λ (z : l.cpu ≡ b). nb (sym z))))) n d))
-          (equal b l.cpu))
+          (cases_eq b l.cpu))
           b n inb at_d;
     };
     linked = linked_outside a g.holder m e (Leaving l.cpu) Free was g.linked (λ s z. cc) (λ s z. cc) r.linked;
     filled = r.filled;
     segments = r.segments;
-    locking = locking_outside a g.holder m e (Leaving l.cpu) Free was g.depths (place_words w) (λ n t. w (Stamp n t)) g.eras g.linked g.lanes.locks (λ b. inr (λ home t z. absurd z)) r.locking;
+    locking = locking_outside a g.holder m e (Leaving l.cpu) Free was g.depths (words_by_place w) (λ n t. w (Stamp n t)) g.eras g.linked g.lanes.locks (λ b. inr (λ home t z. absurd z)) r.locking;
     reading = r.reading;
     held = r.held;
     valued = valued_outside a g.holder m e (Leaving l.cpu) Free was _ g.last.made g.last.value g.last.held g.number (λ z. z) (λ c h _. nobody c h) r.valued;
@@ -176,7 +173,7 @@ give_old a l m e es even at_e room i ws g sized r is inside fits = record {
         let one = times_else e d es ne in
         let new : one_if (is_leaving l.cpu (holder2 m d)) ≡ one_if (is_leaving l.cpu (g.holder m d)) = ap (λ h. one_if (is_leaving l.cpu h)) (put2-other g.holder m e m d Free (λ _. ne)) in
         omega arith)
-        (equal d e)
+        (cases_eq d e)
 
 -- ---- words of elements that the lane has: nobody else minds them
 -- the segments, where links and keys of linked elements are as they were
@@ -204,7 +201,7 @@ pub locking_words : (a : About) (depths : ℕ → ℕ → ℕ) (x x' : MapWords)
 locking_words a depths x x' stamp eras linked holder locks c none head hop slot minded p b = ⊎_elim
     (λ (t : b ≡ c). subst (Each (Holds a depths x' stamp eras linked holder b)) (sym (ap locks t ∙ none)) tt)
     (λ (ne : b ≢ c). go ne (locks b) (p b))
-    (equal b c)
+    (cases_eq b c)
   where
     go : b ≢ c → (ks : List Lock) → Each (Holds a depths x stamp eras linked holder b) ks → Each (Holds a depths x' stamp eras linked holder b) ks
     go ne [] q = tt
@@ -234,6 +231,7 @@ retire a l m e us at_e room unlocked used ws g sized r is inside fits = record {
   ghost = g2;
   rule = record {
     shaped = r.shaped;
+    fixed = r.fixed;
     deep = r.deep;
     logged = r.logged;
     keyed = r.keyed;
@@ -258,9 +256,9 @@ retire a l m e us at_e room unlocked used ws g sized r is inside fits = record {
     };
     linked = r.linked;
     filled = r.filled;
-    segments = segments_words a g.depths (place_words w) (place_words w2) (λ n t. w (Stamp n t)) g.eras g.linked g.holder r.linked (λ n t. refl) (λ n t b. refl) (λ n t b. refl)
+    segments = segments_words a g.depths (words_by_place w) (words_by_place w2) (λ n t. w (Stamp n t)) g.eras g.linked g.holder r.linked (λ n t. refl) (λ n t b. refl) (λ n t b. refl)
         (λ n d q h. (link_else n d (λ u v. let z : Within q ≡ Leaving l.cpu = sym h ∙ ((λ j. g.holder (u j) (v j)) ∙ was) in cc), λ k. refl)) r.segments;
-    locking = locking_words a g.depths (place_words w) (place_words w2) (λ n t. w (Stamp n t)) g.eras g.linked g.holder g.lanes.locks l.cpu (ap (λ (z : Known). z.locks) is ∙ unlocked) (λ n t. refl) (λ n t b. refl) (λ n t b. refl)
+    locking = locking_words a g.depths (words_by_place w) (words_by_place w2) (λ n t. w (Stamp n t)) g.eras g.linked g.holder g.lanes.locks l.cpu (ap (λ (z : Known). z.locks) is ∙ unlocked) (λ n t. refl) (λ n t b. refl) (λ n t b. refl)
         (λ home n t d b ne on. (link_else n d (λ u v. ne (sym (subst (Minded home b t) ((λ j. g.holder (u j) (v j)) ∙ was) on))), λ k. refl)) r.locking;
     reading = r.reading;
     held = r.held;

@@ -4,6 +4,7 @@ use Rattle.std.proofs.lemmas.Cmp.{nat_list_cmp_total}
 use Rattle.std.specs.FinMap.{get, remove, len, len-remove, get-remove}
 use Rattle.std.specs.Cmp.{tied_itself}
 use Rattle.std.specs.Ordering.{is_eq}
+use Rattle.std.proofs.lemmas.Bool.{cases_eq}
 use Rattle.bpf_shared.specs.Store.{KeyMap, Value, put}
 use Rattle.bpf_shared.proofs.Puts.{put-same, put-other, remove_cases}
 use Rattle.hop_layout.specs.declared.about.About.{About}
@@ -12,7 +13,7 @@ use Rattle.hop_words.specs.declared.known.Limbo.{Limbo}
 use Rattle.hop_words.specs.Content.{one_if, times}
 use Rattle.hop_words.specs.Ghost.{Holder, Leaving, Within, is_free, is_filling, is_leaving, Carries, HasElement, limbo_at, no_limbo}
 use Rattle.hop_words.specs.Rule.{put_key, numbered, Keyed, Batched, Chained, Owned, times_limbo, Linked, Valued}
-use Rattle.hop_words.proofs.Small.{put_key-same, put_key-other, equal_keys, equal, here_or, put2-same, put2-other}
+use Rattle.hop_words.proofs.Small.{put_key-same, put_key-other, equal_keys, here_or, put2-same, put2-other}
 use Rattle.hop_words.proofs.Comes.{moved, within_once}
 
 -- ---- what a CPU has of one map
@@ -28,9 +29,9 @@ limbo_put P limbo c m y l own others b n = ⊎_elim
     (λ (t : b ≡ c). subst (λ (xs : List Limbo). P b n (limbo_at xs n)) (sym (put-same limbo c b (set (limbo c) m y) t)) (⊎_elim
     (λ (u : n ≡ m). subst (P b n) (ap (λ (i : ℕ). limbo_at (set (limbo c) m y) i) (sym u)) (subst (P b n) (sym (limbo_same (limbo c) m y l)) (subst (λ (i : ℕ). P i n y) (sym t) (subst (λ (i : ℕ). P c i y) (sym u) own))))
     (λ (u : n ≢ m). subst (P b n) (sym (limbo_other (limbo c) m n y u)) (subst (λ (i : ℕ). P b n (limbo_at (limbo i) n)) t (others b n (λ _. u))))
-    (equal n m)))
+    (cases_eq n m)))
     (λ (ne : b ≢ c). subst (λ (xs : List Limbo). P b n (limbo_at xs n)) (sym (put-other limbo c b (set (limbo c) m y) ne)) (others b n (λ e. absurd (ne e))))
-    (equal b c)
+    (cases_eq b c)
 
 abbrev pub with_used : Limbo → ℕ → Limbo
 with_used x e = record x { used = e ∷ x.used }
@@ -57,11 +58,11 @@ module _ (a : About) (c m e s : ℕ) (key : List ℕ) (holder : ℕ → ℕ → 
         let y : one_if (is_leaving c (gone' m d)) ≡ one_if (is_leaving c (holder m d)) = ap (λ x. one_if (is_leaving c x)) (put2-other holder m e m d (Leaving c) (λ _. ne)) in
         let o : one_if (e == d) ≡ 0 = ap one_if (ne_eqb e d (λ (i : e ≡ d). ne (sym i))) in
         omega arith)
-        (equal d e))
+        (cases_eq d e))
         (λ b n ne inb l. p.limbo_is b n d inb l ∙ ⊎_elim
         (λ (t : b ≡ c). ap (λ x. one_if (is_leaving b x)) (sym (put2-other holder m e n d (Leaving c) (λ u. absurd (ne t u)))))
         (λ (nb : b ≢ c). sym (moved (λ x. one_if (is_leaving b x)) holder m e (Within key) (Leaving c) was (ap one_if (ne_eqb c b (λ (i : c ≡ b). nb (sym i)))) n d))
-        (equal b c))
+        (cases_eq b c))
         b n inb l;
   }
 
@@ -77,13 +78,13 @@ module _ (a : About) (c m e s : ℕ) (key : List ℕ) (holder : ℕ → ℕ → 
     cut_old n q ne = ⊎_elim
         (λ (t : n ≡ m). ap (λ (f : List ℕ → Option ℕ). f q) (put-same linked m n (put_key (linked m) key None) t) ∙ (put_key-other (linked m) key q None (ne t) ∙ ap (λ (k : ℕ). linked k q) (sym t)))
         (λ (t : n ≢ m). ap (λ (f : List ℕ → Option ℕ). f q) (put-other linked m n (put_key (linked m) key None) t))
-        (equal n m)
+        (cases_eq n m)
 
     here_key : (n : ℕ) (q : List ℕ) → ((n ≡ m) × (q ≡ key)) ⊎ (n ≡ m → q ≢ key)
     here_key n q = ⊎_elim
         (λ (t : n ≡ m). ⊎_elim (λ (u : q ≡ key). inl (t, u)) (λ (u : q ≢ key). inr (λ _. u)) (equal_keys q key))
         (λ (t : n ≢ m). inr (λ u. absurd (t u)))
-        (equal n m)
+        (cases_eq n m)
 
     still : (n d : ℕ) (q : List ℕ) → cut' n q ≡ Some d → (n ≡ m → q ≢ key) × (linked n q ≡ Some d)
     still n d q is = ⊎_elim
@@ -109,7 +110,7 @@ module _ (a : About) (c m e s : ℕ) (key : List ℕ) (holder : ℕ → ℕ → 
           (λ (t : n ≡ m). put-same counts m n (counts m - 1) t ∙ (ap (λ (x : ℕ). x - 1) (k.counted m (subst (λ (x : ℕ). x < length a.shape.maps) t l))
           ∙ (sym shorter ∙ ap (λ (x : KeyMap). len x) (sym (put-same maps m n (remove (maps m) key) t)))))
           (λ (ne : n ≢ m). put-other counts m n (counts m - 1) ne ∙ (k.counted n l ∙ ap (λ (x : KeyMap). len x) (sym (put-other maps m n (remove (maps m) key) ne))))
-          (equal n m);
+          (cases_eq n m);
       leads = λ n q. ⊎_elim
           (λ (t : (n ≡ m) × (q ≡ key)). ap (λ (x : KeyMap). get x q) (put-same maps m n (remove (maps m) key) t.0) ∙ (removed_at q t.1 ∙ ap (numbered (number n)) (sym (cut_new n q t.0 t.1))))
           (λ (ne : n ≡ m → q ≢ key). old_at n q ne ∙ (k.leads n q ∙ ap (numbered (number n)) (sym (cut_old n q ne))))
@@ -136,7 +137,7 @@ module _ (a : About) (c m e s : ℕ) (key : List ℕ) (holder : ℕ → ℕ → 
             (λ (h : get (remove (maps m) key) q ≡ get (maps m) q). h)
             (remove_cases (maps m) key q) ∙ ap (λ (x : ℕ). get (maps x) q) (sym t)))
             (λ (d : n ≢ m). ap (λ (x : KeyMap). get x q) (put-other maps m n (remove (maps m) key) d))
-            (equal n m)
+            (cases_eq n m)
 
   -- ---- batches
   pub batched_goes : (link : ℕ → ℕ → ℕ) (counts : ℕ → ℕ) (limbo : ℕ → List Limbo) (held : ℕ → ℕ → Bool) (number : ℕ → ℕ → ℕ) → Batched a link counts limbo held number → m < length (limbo c) → c < a.shape.cpus

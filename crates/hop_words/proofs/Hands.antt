@@ -10,7 +10,7 @@ use Rattle.hop_words.specs.Sights.{bit_set, sighted}
 use Rattle.hop_words.specs.Private.Step.{Steps, Notes}
 use Rattle.bpf_shared.specs.History.{events_of}
 use Rattle.hop_words.specs.Shortage.{updates_of}
-use Rattle.hop_words.specs.Owning.{IsInHand, IsAnswered, update_in_hand, tail_of, key_filled, value_filled, with_key_word, with_value_word}
+use Rattle.hop_words.specs.Owning.{IsInHand, IsUpdateAnswered, update_in_hand, tail_of, key_filled, value_filled, with_key_word, with_value_word}
 use Rattle.hop_words.proofs.Fills.{fill_key, fill_value, give_fresh}
 
 module _ (a : About) (l : Known) (m e : ℕ) (at_e : HasElement a m e) (h : IsInHand l m e) where
@@ -20,7 +20,7 @@ module _ (a : About) (l : Known) (m e : ℕ) (at_e : HasElement a m e) (h : IsIn
   at_f : HasElement a f.map f.element
   at_f = subst (λ (n : ℕ). HasElement a n f.element) (sym h.2) (subst (HasElement a m) (sym h.3) at_e)
 
-  pub gives : IsAnswered l m → Notes a l (FreeBits m (e / 64)) (λ n. bit_or n (2 ^ (e % 64))) (λ ws n l'. l' ≡ sighted (record l { fresh = tail_of l.fresh }) (bit_set m e n))
+  pub gives : IsUpdateAnswered l m → Notes a l (FreeBits m (e / 64)) (λ n. bit_or n (2 ^ (e % 64))) (λ ws n l'. l' ≡ sighted (record l { fresh = tail_of l.fresh }) (bit_set m e n))
   gives answered =
       subst (λ (n : ℕ). Notes a l (FreeBits n (e / 64)) (λ n. bit_or n (2 ^ (e % 64))) (λ ws i l'. l' ≡ sighted (record l { fresh = tail_of l.fresh }) (bit_set n e i))) h.2
       (subst (λ (d : ℕ). Notes a l (FreeBits f.map (d / 64)) (λ n. bit_or n (2 ^ (d % 64))) (λ ws i l'. l' ≡ sighted (record l { fresh = tail_of l.fresh }) (bit_set f.map d i))) h.3

@@ -1,5 +1,6 @@
 -- An update that lacks an element comes after as many updates as there are elements.
 use Rattle.std.proofs.Common.{◌≡◌, ◌≢◌, ℕ, zero, suc, ◌+◌, ◌<◌, ◌≤◌, Bool, true, false, List, [], ◌∷◌, ◌++◌, ◌==◌, if◌then◌else◌, length, length-append, refl, ap, sym, subst, ◌∙◌, arith, eq-eqb, ne_eqb, true≢false, ⊎_elim}
+use Rattle.std.proofs.lemmas.Bool.{cases_eq}
 use Rattle.bpf_shared.specs.declared.events.Entry.{Entry}
 use Rattle.bpf_shared.specs.declared.events.Event.{Event}
 use Rattle.bpf_shared.specs.declared.events.Event.TheVariants.{Update}
@@ -10,9 +11,8 @@ use Rattle.bpf_shared.specs.History.{events_of}
 use Rattle.bpf_shared.proofs.Chains.{events_of-append}
 use Rattle.hop_layout.specs.Layout.{map_shape}
 use Rattle.hop_words.specs.Content.{one_if, times}
-use Rattle.hop_words.specs.Shortage.{is_update, updates_of, updates_in, IsTaken, Moment, MayLack, HasCause, HaveCauses}
+use Rattle.hop_words.specs.Shortage.{is_update, updates_of, updates_in, IsTakenByUpdate, Moment, EachMayBeTaken, HasCause, HaveCauses}
 use Rattle.hop_words.specs.Laws.{all_updates, lacks, FewUpdatesSuffice, LacksComeLate}
-use Rattle.hop_words.proofs.Small.{equal}
 use Rattle.hop_words.proofs.Shortages.{updates_of-append, one_most}
 
 -- ---- sums
@@ -59,7 +59,7 @@ sum_once x (suc n) = ⊎_elim
     let z : one_if (x == n) ≡ 0 = ap one_if (ne_eqb x n ne) in
     let r = sum_once x n in
     omega arith)
-    (equal x n)
+    (cases_eq x n)
 
 -- ---- as many as are among a list
 sum_times : (xs : List ℕ) (n : ℕ) → sum_first (λ e. times e xs) n ≤ length xs
@@ -93,7 +93,7 @@ first_there take zero k e less is = absurd (omega arith)
 first_there take (suc n) k e less is = ⊎_elim
     (λ (q : k ≡ n). let z : one_if (take n == e) ≡ 1 = ap one_if (eq-eqb (take n) e (ap take (sym q) ∙ is)) in omega arith)
     (λ (ne : k ≢ n). let r = first_there take n k e (grind arith) is in omega arith)
-    (equal k n)
+    (cases_eq k n)
 
 all_first : (ℕ → ℕ → ℕ) → (ℕ → ℕ) → ℕ → List ℕ
 all_first takes most zero = []
@@ -116,7 +116,7 @@ all_there takes most (suc n) c k e inside less is = ⊎_elim
     let r = all_there takes most n c k e (grind arith) less is in
     let a = times-append e (first_of (takes n) (most n)) (all_first takes most n) in
     omega arith)
-    (equal c n)
+    (cases_eq c n)
 
 -- ---- updates of all CPUs
 -- the entry is an update by this CPU
@@ -169,7 +169,7 @@ updates_in-append m c xs ys = ap (updates_of m) (events_of-append c xs ys) ∙ u
 
 -- ---- where an element may be lacked
 -- there are as many elements as such updates at most
-few_elements : (x : Moment) (made most : ℕ → ℕ) (m : ℕ) (may : MayLack x made m) → ((e : ℕ) (t : IsTaken x made may.0 m e) → t.update < most t.cpu) → elements (map_shape x.shape m) ≤ sum_first most x.shape.cpus
+few_elements : (x : Moment) (made most : ℕ → ℕ) (m : ℕ) (may : EachMayBeTaken x made m) → ((e : ℕ) (t : IsTakenByUpdate x made may.0 m e) → t.update < most t.cpu) → elements (map_shape x.shape m) ≤ sum_first most x.shape.cpus
 few_elements x made most m may bound =
     let n = x.shape.cpus in
     let all = all_first may.0 most n in
@@ -177,15 +177,15 @@ few_elements x made most m may bound =
     let size = all_length may.0 most n in
     omega arith
 
-lack_of : (version : ℕ) (made : ℕ → ℕ → ℕ) (x : Moment) (m : ℕ) (e : Event) → lacks m e ≡ true → HasCause version made x e → MayLack x (made m) m × (is_update m e ≡ true)
-lack_of version made x m (Update n key bytes flags NoMemory) is cause = (subst (λ (i : ℕ). MayLack x (made i) i) (same n m is) cause, is)
+lack_of : (version : ℕ) (made : ℕ → ℕ → ℕ) (x : Moment) (m : ℕ) (e : Event) → lacks m e ≡ true → HasCause version made x e → EachMayBeTaken x (made m) m × (is_update m e ≡ true)
+lack_of version made x m (Update n key bytes flags NoMemory) is cause = (subst (λ (i : ℕ). EachMayBeTaken x (made i) i) (same n m is) cause, is)
   where
     same : (a b : ℕ) → (a == b) ≡ true → a ≡ b
-    same a b t = ⊎_elim (λ (q : a ≡ b). q) (λ (ne : a ≢ b). absurd (true≢false (sym t ∙ ne_eqb a b ne))) (equal a b)
+    same a b t = ⊎_elim (λ (q : a ≡ b). q) (λ (ne : a ≢ b). absurd (true≢false (sym t ∙ ne_eqb a b ne))) (cases_eq a b)
 lack_of version made x m e is cause = absurd (true≢false (sym is))
 
 module _ (h : Shape) (version : ℕ) (history : List Entry) (last : Plain) (m : ℕ) (causes : HaveCauses h version history last) (before after : List Entry) (x : Entry) (is : history ≡ before ++ (x ∷ after)) (lack : lacks m x.event ≡ true) where
-  cause_there : (s : Plain) × MayLack (record { shape = h; before = before; store = s; cpu = x.cpu }) (updates_in history m) m × (is_update m x.event ≡ true)
+  cause_there : (s : Plain) × EachMayBeTaken (record { shape = h; before = before; store = s; cpu = x.cpu }) (updates_in history m) m × (is_update m x.event ≡ true)
   cause_there =
       let k = causes before after x is in
       let l = lack_of version (updates_in history) (record { shape = h; before = before; store = k.0; cpu = x.cpu }) m x.event lack k.3 in

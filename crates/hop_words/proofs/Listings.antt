@@ -13,7 +13,7 @@ use Rattle.hop_layout.specs.declared.place.Place.TheVariants.{Stamp}
 use Rattle.hop_words.specs.Ghost.{IsHomeIn, Each}
 use Rattle.hop_words.specs.Rule.{numbered}
 use Rattle.hop_words.specs.Private.Step.{Steps}
-use Rattle.hop_words.specs.Kinds.{Shows, AnswersAll, AnsweredAll}
+use Rattle.hop_words.specs.Kinds.{ShowsLinks, AnswersAll, AnsweredAll}
 use Rattle.hop_words.specs.Locking.{lock_of, other_locks}
 use Rattle.hop_words.specs.Listing.{ListsSegment, IsHomeAmong, ListsMap}
 use Rattle.hop_words.proofs.Unlocks.{unlock_several}
@@ -24,7 +24,7 @@ some_if_numbered f (Some e) = refl
 
 -- by the lock of the key's segment, in a list that has it
 module _ (a : About) (linked : ℕ → List ℕ → Option ℕ) (m : ℕ) (keys : List (List ℕ)) (q : List ℕ) where
-  at_home : (ks : List Lock) → IsHomeAmong a q ks → Each (λ (k : Lock). k.map ≡ m) ks → Each (Shows a linked) ks → Each (ListsSegment a keys) ks → is_some (linked m q) ≡ is_among q keys
+  at_home : (ks : List Lock) → IsHomeAmong a q ks → Each (λ (k : Lock). k.map ≡ m) ks → Each (ShowsLinks a linked) ks → Each (ListsSegment a keys) ks → is_some (linked m q) ≡ is_among q keys
   at_home [] some of shows lists = absurd some
   at_home (k ∷ ks) some of shows lists = ⊎_elim
       (λ (home : IsHomeIn a k q). subst (λ (i : ℕ). is_some (linked i q) ≡ is_among q keys) of.0 (lists.0 (linked k.map) shows.0 q home))
@@ -39,7 +39,7 @@ module _ (a : About) (l : Known) (m : ℕ) (keys : List (List ℕ)) (i : ListsMa
   rest = other_locks l
 
   -- the contents together are the map
-  pub listed : (s : Plain) (linked : ℕ → List ℕ → Option ℕ) (number : ℕ → ℕ → ℕ) → Each (Shows a linked) (k ∷ rest)
+  pub listed : (s : Plain) (linked : ℕ → List ℕ → Option ℕ) (number : ℕ → ℕ → ℕ) → Each (ShowsLinks a linked) (k ∷ rest)
       → ((n : ℕ) (q : List ℕ) → get (s.maps n) q ≡ numbered (number n) (linked n q)) → in_order keys ≡ Rattle.std.specs.FinMap.keys (s.maps m)
   listed s linked number shows leads = in_order_is (s.maps m) keys (λ q.
       ap is_some (leads m q) ∙ (some_if_numbered (number m) (linked m q)

@@ -1,6 +1,6 @@
 -- The steps under the lock that a lane took last, named by map and segment.
-use Rattle.std.proofs.Common.{◌≡◌, ℕ, ◌+◌, ◌<◌, true, nat_lt, List, ◌∷◌, length, refl, ap, sym, subst, ◌∙◌, arith}
-use Rattle.std.proofs.lemmas.Bool.Decides.{nat_tests}
+use Rattle.std.proofs.Common.{◌≡◌, ℕ, ◌+◌, ◌<◌, true, List, ◌∷◌, length, refl, ap, sym, subst, ◌∙◌}
+use Rattle.std.proofs.lemmas.Bool.{lt-ltb}
 use Rattle.bpf_shared.specs.Shape.{elements}
 use Rattle.hop_layout.specs.declared.place.Place.{Place}
 use Rattle.hop_layout.specs.declared.place.Place.TheVariants.{Stamp, Head, Hop, Slot, Link, KeyCount}
@@ -15,21 +15,18 @@ use Rattle.hop_words.specs.Owning.{tail_of}
 use Rattle.hop_words.proofs.Stays.{stay}
 use Rattle.hop_words.proofs.Counts.{read_stamp}
 
-pub lt : (m n : ℕ) → m < n → nat_lt m n ≡ true
-lt m n l = grind (arith, nat_tests)
-
 -- the places of a segment are the shape's
 pub head_there : (a : About) (m s : ℕ) → IsSegment a m s → is_place a.shape (Head m s) ≡ true
-head_there a m s at_s = rw (lt m (length a.shape.maps) at_s.0, lt s (segments (shape_at a m)) at_s.1) refl
+head_there a m s at_s = rw (lt-ltb m (length a.shape.maps) at_s.0, lt-ltb s (segments (shape_at a m)) at_s.1) refl
 
 pub hop_there : (a : About) (m s b : ℕ) → IsSegment a m s → b < 64 → is_place a.shape (Hop m s b) ≡ true
-hop_there a m s b at_s few = rw (lt m (length a.shape.maps) at_s.0, lt s (segments (shape_at a m)) at_s.1, lt b 64 few) refl
+hop_there a m s b at_s few = rw (lt-ltb m (length a.shape.maps) at_s.0, lt-ltb s (segments (shape_at a m)) at_s.1, lt-ltb b 64 few) refl
 
 pub slot_there : (a : About) (m s b : ℕ) → IsSegment a m s → b < 64 → is_place a.shape (Slot m s b) ≡ true
-slot_there a m s b at_s few = rw (lt m (length a.shape.maps) at_s.0, lt s (segments (shape_at a m)) at_s.1, lt b 64 few) refl
+slot_there a m s b at_s few = rw (lt-ltb m (length a.shape.maps) at_s.0, lt-ltb s (segments (shape_at a m)) at_s.1, lt-ltb b 64 few) refl
 
 pub link_there : (a : About) (m e : ℕ) → HasElement a m e → is_place a.shape (Link m e) ≡ true
-link_there a m e at_e = rw (lt m (length a.shape.maps) at_e.0, lt e (elements (shape_at a m)) at_e.1) refl
+link_there a m e at_e = rw (lt-ltb m (length a.shape.maps) at_e.0, lt-ltb e (elements (shape_at a m)) at_e.1) refl
 
 -- a look at any word says nothing
 pub looks : (a : About) (l : Known) (p : Place) → Steps a l p (λ n. n) (λ ws n l'. l' ≡ l)

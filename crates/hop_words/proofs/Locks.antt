@@ -1,5 +1,6 @@
 -- Lock, read under lock, write under lock, unlock.
 use Rattle.std.proofs.Common.{◌≡◌, ◌≢◌, ℕ, zero, suc, ◌+◌, ◌/◌, ◌%◌, ◌<◌, ◌≤◌, Bool, true, false, true≢false, ◌||◌, List, [], ◌∷◌, ◌==◌, if◌then◌else◌, length, refl, ap, sym, subst, ◌∙◌, arith, eq-eqb, ne_eqb, ⊎_elim, ◌-◌}
+use Rattle.std.proofs.lemmas.Bool.{cases_lt, lt-ltb, and_from, cases_eq}
 use Rattle.atomic_table.proofs.Lists.{exchanged}
 use Rattle.bpf_shared.specs.Shape.{elements}
 use prog.Atomic.{either}
@@ -12,15 +13,15 @@ use Rattle.hop_words.specs.declared.known.Fresh.{Fresh}
 use Rattle.hop_words.specs.declared.known.Lock.{Lock}
 use Rattle.hop_words.specs.declared.known.Change.TheVariants.{Nothing}
 use Rattle.hop_layout.specs.Layout.{mem, same_place, put_at, size, first_depth, depth, power}
-use Rattle.hop_words.specs.Content.{place_words, Reached, IsShare}
+use Rattle.hop_words.specs.Content.{words_by_place, Reached, IsShare}
 use Rattle.hop_words.specs.Ghost.{Holder, Free, Filling, Leaving, Within, lane, Era, Ghost, shape_at, HasElement, Each, lock_home, IsHomeIn}
 use Rattle.hop_words.specs.Shortage.{done_in}
 use Rattle.hop_words.specs.Rule.{Rule, Segment, Minded, Holds, image, changed, owed, StartsWith, times_lock, IsSoundReading, Readings}
 use Rattle.hop_words.specs.Sights.{sighted, lock_taken}
 use Rattle.hop_words.specs.Private.Step.{Next, Steps}
-use Rattle.hop_words.specs.Kinds.{has, locking, LocksSegment, HasRoom, IsWritten, AreElsewhere, KnowsBorn, First, Whole, Seen, Child}
+use Rattle.hop_words.specs.Kinds.{has, locking, LocksSegment, KeysHaveRoom, IsWritten, AreElsewhere, KnowsBorn, First, Whole, Seen, Child}
 use Rattle.hop_layout.proofs.Layouts.{same_is, same_self, one}
-use Rattle.hop_words.proofs.Small.{here_or, put2-same, put2-other, equal}
+use Rattle.hop_words.proofs.Small.{here_or, put2-same, put2-other}
 use Rattle.hop_words.proofs.Histories.{prefix_refl}
 use Rattle.hop_words.proofs.Segs.{share_same, Elsewhere, only_stamp, segments_step, locking_step, readings_step, held_step, lock_once, lock_else, each_else, each_apart, one_home}
 use Rattle.hop_words.proofs.Shares.{share_agrees}
@@ -31,7 +32,7 @@ use Rattle.bpf_shared.proofs.Puts.{put-same, put-other}
 use Rattle.hop_words.specs.Depths.{stamp_depth, IsBorn, home_by, Deep}
 use Rattle.hop_layout.specs.Births.{is_born}
 use Rattle.hop_words.specs.Ghost.{child}
-use Rattle.hop_layout.proofs.Births.{born_first, born_child, born_small, power_mono, low_is, high_is, both_and, lt_is, below_or}
+use Rattle.hop_layout.proofs.Births.{born_first, born_child, born_small, power_mono, low_is, high_is}
 use Rattle.hop_layout.proofs.Births.{some_power}
 
 -- ---- words at a place, and at others
@@ -74,13 +75,13 @@ deep_step a depths m s stamp stamp' p same own = record {
 
 -- ---- what a holder of a lock knows
 module _ (a : About) (l : Known) (k : Lock) {rest : List Lock} (held : l.locks ≡ k ∷ rest) (w : Place → ℕ) (g : Ghost) (r : Rule a w g) (is : lane g.lanes l.cpu ≡ l) where
-  pub holds : Holds a g.depths (place_words w) (λ n t. w (Stamp n t)) g.eras g.linked g.holder l.cpu k
-  holds = (subst (Each (Holds a g.depths (place_words w) (λ n t. w (Stamp n t)) g.eras g.linked g.holder l.cpu)) (ap (λ (x : Known). x.locks) is ∙ held) (r.locking l.cpu)).0
+  pub holds : Holds a g.depths (words_by_place w) (λ n t. w (Stamp n t)) g.eras g.linked g.holder l.cpu k
+  holds = (subst (Each (Holds a g.depths (words_by_place w) (λ n t. w (Stamp n t)) g.eras g.linked g.holder l.cpu)) (ap (λ (x : Known). x.locks) is ∙ held) (r.locking l.cpu)).0
 
-  pub rest_holds : Each (Holds a g.depths (place_words w) (λ n t. w (Stamp n t)) g.eras g.linked g.holder l.cpu) rest
-  rest_holds = (subst (Each (Holds a g.depths (place_words w) (λ n t. w (Stamp n t)) g.eras g.linked g.holder l.cpu)) (ap (λ (x : Known). x.locks) is ∙ held) (r.locking l.cpu)).1
+  pub rest_holds : Each (Holds a g.depths (words_by_place w) (λ n t. w (Stamp n t)) g.eras g.linked g.holder l.cpu) rest
+  rest_holds = (subst (Each (Holds a g.depths (words_by_place w) (λ n t. w (Stamp n t)) g.eras g.linked g.holder l.cpu)) (ap (λ (x : Known). x.locks) is ∙ held) (r.locking l.cpu)).1
 
-  pub segment : Segment a g.depths (place_words w) (w (Stamp k.map k.segment)) (g.eras k.map k.segment) k.map k.segment (g.linked k.map)
+  pub segment : Segment a g.depths (words_by_place w) (w (Stamp k.map k.segment)) (g.eras k.map k.segment) k.map k.segment (g.linked k.map)
   segment = r.segments k.map k.segment holds.inside
 
   pub is_odd : w (Stamp k.map k.segment) % 2 ≡ 1
@@ -93,7 +94,7 @@ module _ (a : About) (l : Known) (k : Lock) {rest : List Lock} (held : l.locks �
       go true d = let z = segment.written d in omega arith
       go false d = let z = (segment.clean d).0 in omega arith
 
-  pub alone : (d : ℕ) (k2 : Lock) → d ≢ l.cpu → Holds a g.depths (place_words w) (λ n t. w (Stamp n t)) g.eras g.linked g.holder d k2 → k2.map ≡ k.map → k2.segment ≢ k.segment
+  pub alone : (d : ℕ) (k2 : Lock) → d ≢ l.cpu → Holds a g.depths (words_by_place w) (λ n t. w (Stamp n t)) g.eras g.linked g.holder d k2 → k2.map ≡ k.map → k2.segment ≢ k.segment
   alone d k2 apart p h u = apart (sym p.writer ∙ (ap (λ (y : Era). y.writer) (λ j. g.eras (h j) (u j)) ∙ holds.writer))
 
 -- ---- unlock with the next version
@@ -104,21 +105,22 @@ module _ (a : About) (l : Known) (k : Lock) {rest : List Lock} (held : l.locks �
   abbrev pub w' : Place → ℕ
   w' = put_at w (Stamp k.map k.segment) v
 
-  unlock_elsewhere : Elsewhere a g.depths k.map k.segment l.cpu (place_words w) (place_words w) (λ n t. w (Stamp n t)) (λ n t. w' (Stamp n t)) g.eras unlocked.eras g.linked g.linked g.holder g.holder
+  unlock_elsewhere : Elsewhere a g.depths k.map k.segment l.cpu (words_by_place w) (words_by_place w) (λ n t. w (Stamp n t)) (λ n t. w' (Stamp n t)) g.eras unlocked.eras g.linked g.linked g.holder g.holder
   unlock_elsewhere = only_stamp _ _ _ _ _ _ _ _ _ _ _ _ (λ n t ne. put_else w (Stamp k.map k.segment) (Stamp n t) v (stamp_apart k.map k.segment n t ne)) (λ n t ne. put2-other g.eras k.map k.segment n t era' ne)
 
   -- the other locks of the lane: a stamp is all that changes, so they stay as those of others do
-  rest_stays : Each (Holds a g.depths (place_words w) (λ n t. w' (Stamp n t)) unlocked.eras g.linked g.holder l.cpu) rest
-  rest_stays = each_apart a g.depths k.map k.segment (suc l.cpu) (place_words w) (place_words w) _ _ g.eras unlocked.eras g.linked g.linked g.holder g.holder
+  rest_stays : Each (Holds a g.depths (words_by_place w) (λ n t. w' (Stamp n t)) unlocked.eras g.linked g.holder l.cpu) rest
+  rest_stays = each_apart a g.depths k.map k.segment (suc l.cpu) (words_by_place w) (words_by_place w) _ _ g.eras unlocked.eras g.linked g.linked g.holder g.holder
       (only_stamp _ _ _ _ _ _ _ _ _ _ _ _ (λ n t ne. put_else w (Stamp k.map k.segment) (Stamp n t) v (stamp_apart k.map k.segment n t ne)) (λ n t ne. put2-other g.eras k.map k.segment n t era' ne))
       r.deep.sound (holds a l k held w g r is).inside l.cpu rest (λ (e : l.cpu ≡ suc l.cpu). omega arith) elsewhere (rest_holds a l k held w g r is)
 
   -- a segment that is given back as it was, or with what was written
-  unlock_rule : v % 2 ≡ 0 → stamp_depth v ≡ g.depths k.map k.segment → Segment a g.depths (place_words w) v era' k.map k.segment (g.linked k.map) → (g.eras k.map k.segment).era ≤ era'.era
+  unlock_rule : v % 2 ≡ 0 → stamp_depth v ≡ g.depths k.map k.segment → Segment a g.depths (words_by_place w) v era' k.map k.segment (g.linked k.map) → (g.eras k.map k.segment).era ≤ era'.era
       → ((i : ℕ) → i % 2 ≡ 0 → i ≤ (g.eras k.map k.segment).era → i ≡ era'.era → (i ≡ (g.eras k.map k.segment).era) × (era'.old ≡ (g.eras k.map k.segment).old))
       → (v / 256 + era'.credit + first_depth (shape_at a k.map) ≤ a.version + g.depths k.map k.segment + done_in k.map g.log) → Rule a w' unlocked
   unlock_rule at_rest deep own up stays fair = record {
     shaped = r.shaped;
+    fixed = r.fixed;
     deep = deep_step a g.depths k.map k.segment _ _ r.deep (λ n t ne. put_else w (Stamp k.map k.segment) (Stamp n t) v (stamp_apart k.map k.segment n t ne)) (ap stamp_depth (put_here w (Stamp k.map k.segment) v) ∙ deep);
     logged = r.logged;
     keyed = r.keyed;
@@ -143,10 +145,10 @@ module _ (a : About) (l : Known) (k : Lock) {rest : List Lock} (held : l.locks �
     owned = r.owned;
     linked = r.linked;
     filled = r.filled;
-    segments = segments_step a g.depths k.map k.segment l.cpu (place_words w) (place_words w) _ _ g.eras unlocked.eras g.linked g.linked g.holder g.holder unlock_elsewhere r.deep.sound (holds a l k held w g r is).inside r.segments r.linked
-        (subst (λ (e : Era). Segment a g.depths (place_words w) (w' (Stamp k.map k.segment)) e k.map k.segment (g.linked k.map)) (sym (put2-same g.eras k.map k.segment k.map k.segment era' refl refl))
-        (subst (λ (n : ℕ). Segment a g.depths (place_words w) n era' k.map k.segment (g.linked k.map)) (sym (put_here w (Stamp k.map k.segment) v)) own));
-    locking = locking_step a g.depths k.map k.segment l.cpu (place_words w) (place_words w) _ _ g.eras unlocked.eras g.linked g.linked g.holder g.holder unlock_elsewhere r.deep.sound (holds a l k held w g r is).inside g.lanes.locks rest r.locking (alone a l k held w g r is) rest_stays;
+    segments = segments_step a g.depths k.map k.segment l.cpu (words_by_place w) (words_by_place w) _ _ g.eras unlocked.eras g.linked g.linked g.holder g.holder unlock_elsewhere r.deep.sound (holds a l k held w g r is).inside r.segments r.linked
+        (subst (λ (e : Era). Segment a g.depths (words_by_place w) (w' (Stamp k.map k.segment)) e k.map k.segment (g.linked k.map)) (sym (put2-same g.eras k.map k.segment k.map k.segment era' refl refl))
+        (subst (λ (n : ℕ). Segment a g.depths (words_by_place w) n era' k.map k.segment (g.linked k.map)) (sym (put_here w (Stamp k.map k.segment) v)) own));
+    locking = locking_step a g.depths k.map k.segment l.cpu (words_by_place w) (words_by_place w) _ _ g.eras unlocked.eras g.linked g.linked g.holder g.holder unlock_elsewhere r.deep.sound (holds a l k held w g r is).inside g.lanes.locks rest r.locking (alone a l k held w g r is) rest_stays;
     held = held_step a g.depths k.map k.segment l.cpu _ _ g.eras unlocked.eras g.lanes.locks rest inside r.held (λ odd. absurd (let z : w' (Stamp k.map k.segment) % 2 ≡ v % 2 = ap (λ (n : ℕ). n % 2) (put_here w (Stamp k.map k.segment) v) in let e = at_rest in omega arith))
         (λ n t _ ne. (
           put_else w (Stamp k.map k.segment) (Stamp n t) v (stamp_apart k.map k.segment n t ne),
@@ -175,7 +177,7 @@ unlock_new a l k held w g r is inside owes written = (
       let y : w (Stamp k.map k.segment) / 256 ≡ (k.stamp + 1) / 256 = ap (λ (i : ℕ). i / 256) o in omega arith),
 )
   where
-    h : Holds a g.depths (place_words w) (λ n t. w (Stamp n t)) g.eras g.linked g.holder l.cpu k
+    h : Holds a g.depths (words_by_place w) (λ n t. w (Stamp n t)) g.eras g.linked g.holder l.cpu k
     h = holds a l k held w g r is
 
     era' : Era
@@ -184,7 +186,7 @@ unlock_new a l k held w g r is inside owes written = (
     share : IsShare a.seed (shape_at a k.map) (lock_home a k) (image a k.copy) k.map k.segment (g.linked k.map)
     share = share_same a.seed (shape_at a k.map) (lock_home a k) (image a k.copy) k.map k.segment (changed k.change h.due.0) (g.linked k.map) (λ q home. h.due.2 q home) (written h.due.0 h.due.1)
 
-    own : Segment a g.depths (place_words w) (k.stamp + 256) era' k.map k.segment (g.linked k.map)
+    own : Segment a g.depths (words_by_place w) (k.stamp + 256) era' k.map k.segment (g.linked k.map)
     own = record {
       at_rest = λ _. refl;
       clean = λ _. (
@@ -215,10 +217,10 @@ unlock_same a l k held w g r is inside elsewhere none = (
       let y : w (Stamp k.map k.segment) / 256 ≡ (k.stamp + 1) / 256 = ap (λ (i : ℕ). i / 256) o in omega arith),
 )
   where
-    h : Holds a g.depths (place_words w) (λ n t. w (Stamp n t)) g.eras g.linked g.holder l.cpu k
+    h : Holds a g.depths (words_by_place w) (λ n t. w (Stamp n t)) g.eras g.linked g.holder l.cpu k
     h = holds a l k held w g r is
 
-    seg : Segment a g.depths (place_words w) (w (Stamp k.map k.segment)) (g.eras k.map k.segment) k.map k.segment (g.linked k.map)
+    seg : Segment a g.depths (words_by_place w) (w (Stamp k.map k.segment)) (g.eras k.map k.segment) k.map k.segment (g.linked k.map)
     seg = segment a l k held w g r is
 
     clean : (g.eras k.map k.segment).dirty ≡ false
@@ -227,7 +229,7 @@ unlock_same a l k held w g r is inside elsewhere none = (
     era' : Era
     era' = record { era = (g.eras k.map k.segment).era; writer = l.cpu; dirty = false; credit = 0; old = (g.eras k.map k.segment).old }
 
-    own : Segment a g.depths (place_words w) k.stamp era' k.map k.segment (g.linked k.map)
+    own : Segment a g.depths (words_by_place w) k.stamp era' k.map k.segment (g.linked k.map)
     own = record {
       at_rest = λ _. refl;
       clean = λ _. ((let z = (seg.clean clean).0 in let o = h.locked in let e = h.even in omega arith), (seg.clean clean).1);
@@ -292,8 +294,8 @@ known_born a w g r l is m s in_m (Whole all few) = (in_m, few, go (depth (shape_
         (λ (high : power n ≤ t).
         let up = power_mono n (depth (shape_at a m)) (omega arith) in
         let z = r.deep.whole m (t - power n) in_m (omega arith) all in
-        high_is (g.depths m) n t high ∙ both_and _ _ (lt_is n (g.depths m (t - power n)) (omega arith)) (go n (t - power n) (omega arith) (omega arith)))
-        (below_or t (power n))
+        high_is (g.depths m) n t high ∙ and_from _ _ (lt-ltb n (g.depths m (t - power n)) (omega arith)) (go n (t - power n) (omega arith) (omega arith)))
+        (cases_lt t (power n))
 known_born a w g r l is m s in_m (Seen rd h e f) =
     let q = (subst (Each (IsSoundReading a g.depths g.eras)) (ap (λ (x : Known). x.readings) is ∙ h) (r.reading l.cpu)).0 in
     subst (λ (i : ℕ). IsBorn a g.depths i s) e (subst (λ (j : ℕ). IsBorn a g.depths rd.map j) f q.inside)
@@ -330,17 +332,17 @@ module _ (a : About) (l : Known) (m s old : ℕ) (in_m : m < length a.shape.maps
     eras = put g.eras m (put (g.eras m) s lock_era);
   }
 
-  lock_elsewhere : Elsewhere a g.depths m s l.cpu (place_words lw) (place_words lw) (λ n t. lw (Stamp n t)) (λ n t. lw' (Stamp n t)) g.eras locked_ghost.eras g.linked g.linked g.holder g.holder
+  lock_elsewhere : Elsewhere a g.depths m s l.cpu (words_by_place lw) (words_by_place lw) (λ n t. lw (Stamp n t)) (λ n t. lw' (Stamp n t)) g.eras locked_ghost.eras g.linked g.linked g.holder g.holder
   lock_elsewhere = only_stamp _ _ _ _ _ _ _ _ _ _ _ _ (λ n t ne. put_else lw (Stamp m s) (Stamp n t) (old + 1) (stamp_apart m s n t ne)) (λ n t ne. put2-other g.eras m s n t lock_era ne)
 
-  lock_seg : Segment a g.depths (place_words lw) (lw (Stamp m s)) (g.eras m s) m s (g.linked m)
+  lock_seg : Segment a g.depths (words_by_place lw) (lw (Stamp m s)) (g.eras m s) m s (g.linked m)
   lock_seg = r.segments m s at_s
 
   at_rest : (g.eras m s).dirty ≡ false
   at_rest = lock_seg.at_rest (ap (λ (n : ℕ). n % 2) found ∙ even)
 
   lock_share : IsShare a.seed (shape_at a m) (home_by a m (stamp_depth old)) (image a ws) m s (g.linked m)
-  lock_share = subst (λ (i : ℕ). IsShare a.seed (shape_at a m) (home_by a m i) (image a ws) m s (g.linked m)) (sym says) (share_agrees a.seed (shape_at a m) (home_by a m (g.depths m s)) (place_words lw) (g.eras m s).old m s (g.linked m) (lock_seg.clean at_rest).1 (lock_seg.shows at_rest))
+  lock_share = subst (λ (i : ℕ). IsShare a.seed (shape_at a m) (home_by a m i) (image a ws) m s (g.linked m)) (sym says) (share_agrees a.seed (shape_at a m) (home_by a m (g.depths m s)) (words_by_place lw) (g.eras m s).old m s (g.linked m) (lock_seg.clean at_rest).1 (lock_seg.shows at_rest))
 
   era_now : locked_ghost.eras m s ≡ lock_era
   era_now = put2-same g.eras m s m s lock_era refl refl
@@ -348,7 +350,7 @@ module _ (a : About) (l : Known) (m s old : ℕ) (in_m : m < length a.shape.maps
   stamp_now : lw' (Stamp m s) ≡ old + 1
   stamp_now = put_here lw (Stamp m s) (old + 1)
 
-  lock_held : Holds a g.depths (place_words lw) (λ n t. lw' (Stamp n t)) locked_ghost.eras g.linked g.holder l.cpu new_lock
+  lock_held : Holds a g.depths (words_by_place lw) (λ n t. lw' (Stamp n t)) locked_ghost.eras g.linked g.holder l.cpu new_lock
   lock_held = record {
     inside = at_s;
     deep = says;
@@ -365,25 +367,26 @@ module _ (a : About) (l : Known) (m s old : ℕ) (in_m : m < length a.shape.maps
     due = (g.linked m, lock_share, λ q home. refl);
   }
 
-  nobody : (d : ℕ) (k2 : Lock) → Holds a g.depths (place_words lw) (λ n t. lw (Stamp n t)) g.eras g.linked g.holder d k2 → k2.map ≡ m → k2.segment ≢ s
+  nobody : (d : ℕ) (k2 : Lock) → Holds a g.depths (words_by_place lw) (λ n t. lw (Stamp n t)) g.eras g.linked g.holder d k2 → k2.map ≡ m → k2.segment ≢ s
   nobody d k2 p h u = let o : lw (Stamp k2.map k2.segment) ≡ k2.stamp + 1 = p.locked in let z = p.even in let y : lw (Stamp k2.map k2.segment) ≡ lw (Stamp m s) = λ j. lw (Stamp (h j) (u j)) in let f = found in let e = even in omega arith
 
   -- the locks that the lane has already
-  own_stay : Each (Holds a g.depths (place_words lw) (λ n t. lw' (Stamp n t)) locked_ghost.eras g.linked g.holder l.cpu) l.locks
-  own_stay = each_else a g.depths m s (suc l.cpu) (place_words lw) (place_words lw) _ _ g.eras locked_ghost.eras g.linked g.linked g.holder g.holder
+  own_stay : Each (Holds a g.depths (words_by_place lw) (λ n t. lw' (Stamp n t)) locked_ghost.eras g.linked g.holder l.cpu) l.locks
+  own_stay = each_else a g.depths m s (suc l.cpu) (words_by_place lw) (words_by_place lw) _ _ g.eras locked_ghost.eras g.linked g.linked g.holder g.holder
       (only_stamp _ _ _ _ _ _ _ _ _ _ _ _ (λ n t ne. put_else lw (Stamp m s) (Stamp n t) (old + 1) (stamp_apart m s n t ne)) (λ n t ne. put2-other g.eras m s n t lock_era ne))
       r.deep.sound at_s l.cpu l.locks (λ (e : l.cpu ≡ suc l.cpu). omega arith) (λ k2 p. nobody l.cpu k2 p)
-      (subst (Each (Holds a g.depths (place_words lw) (λ n t. lw (Stamp n t)) g.eras g.linked g.holder l.cpu)) (ap (λ (x : Known). x.locks) is) (r.locking l.cpu))
+      (subst (Each (Holds a g.depths (words_by_place lw) (λ n t. lw (Stamp n t)) g.eras g.linked g.holder l.cpu)) (ap (λ (x : Known). x.locks) is) (r.locking l.cpu))
 
   none_read : Readings a g.depths locked_ghost.eras g.lanes.readings → Readings a g.depths locked_ghost.eras (put g.lanes.readings l.cpu [])
   none_read p d = ⊎_elim
       (λ (t : d ≡ l.cpu). subst (Each (IsSoundReading a g.depths locked_ghost.eras)) (sym (put-same g.lanes.readings l.cpu d [] t)) tt)
       (λ (ne : d ≢ l.cpu). subst (Each (IsSoundReading a g.depths locked_ghost.eras)) (sym (put-other g.lanes.readings l.cpu d [] ne)) (p d))
-      (equal d l.cpu)
+      (cases_eq d l.cpu)
 
   lock_rule : Rule a lw' locked_ghost
   lock_rule = record {
     shaped = r.shaped;
+    fixed = r.fixed;
     deep = deep_step a g.depths m s _ _ r.deep (λ n t ne. put_else lw (Stamp m s) (Stamp n t) (old + 1) (stamp_apart m s n t ne)) (ap stamp_depth stamp_now ∙ ((let z = even in let q : stamp_depth (old + 1) ≡ stamp_depth old = omega arith in q) ∙ says));
     logged = r.logged;
     keyed = r.keyed;
@@ -408,14 +411,14 @@ module _ (a : About) (l : Known) (m s old : ℕ) (in_m : m < length a.shape.maps
     owned = r.owned;
     linked = r.linked;
     filled = r.filled;
-    segments = segments_step a g.depths m s l.cpu (place_words lw) (place_words lw) _ _ g.eras locked_ghost.eras g.linked g.linked g.holder g.holder lock_elsewhere r.deep.sound at_s r.segments r.linked
-        (subst (λ (e : Era). Segment a g.depths (place_words lw) (lw' (Stamp m s)) e m s (g.linked m)) (sym era_now) (record {
+    segments = segments_step a g.depths m s l.cpu (words_by_place lw) (words_by_place lw) _ _ g.eras locked_ghost.eras g.linked g.linked g.holder g.holder lock_elsewhere r.deep.sound at_s r.segments r.linked
+        (subst (λ (e : Era). Segment a g.depths (words_by_place lw) (lw' (Stamp m s)) e m s (g.linked m)) (sym era_now) (record {
           at_rest = λ _. refl;
           clean = λ _. ((let z = (lock_seg.clean at_rest).0 in let f = found in let y = stamp_now in let e = even in omega arith), (lock_seg.clean at_rest).1);
           written = λ d. absurd (true≢false (sym d));
           shows = λ _. lock_seg.shows at_rest;
         }));
-    locking = locking_step a g.depths m s l.cpu (place_words lw) (place_words lw) _ _ g.eras locked_ghost.eras g.linked g.linked g.holder g.holder lock_elsewhere r.deep.sound at_s g.lanes.locks (new_lock ∷ l.locks) r.locking (λ d k2 apart p. nobody d k2 p) (lock_held, own_stay);
+    locking = locking_step a g.depths m s l.cpu (words_by_place lw) (words_by_place lw) _ _ g.eras locked_ghost.eras g.linked g.linked g.holder g.holder lock_elsewhere r.deep.sound at_s g.lanes.locks (new_lock ∷ l.locks) r.locking (λ d k2 apart p. nobody d k2 p) (lock_held, own_stay);
     held = held_step a g.depths m s l.cpu _ _ g.eras locked_ghost.eras g.lanes.locks (new_lock ∷ l.locks) inside r.held (λ odd. (ap (λ (y : Era). y.writer) era_now, (let z = lock_once new_lock in omega arith)))
         (λ n t _ ne. (
           put_else lw (Stamp m s) (Stamp n t) (old + 1) (stamp_apart m s n t ne),
@@ -452,7 +455,7 @@ module _ (a : About) (l : Known) (m s old : ℕ) (in_m : m < length a.shape.maps
   locked_lane = rw (eq-eqb l.cpu l.cpu refl) (ap (λ (x : Known). record x { locks = new_lock ∷ l.locks; readings = []; tally = lock_taken m s old ∷ x.tally }) is)
 
   -- no key is at home in two of the lane's segments
-  lock_others : (ks : List Lock) → Each (Holds a g.depths (place_words lw) (λ n t. lw (Stamp n t)) g.eras g.linked g.holder l.cpu) ks
+  lock_others : (ks : List Lock) → Each (Holds a g.depths (words_by_place lw) (λ n t. lw (Stamp n t)) g.eras g.linked g.holder l.cpu) ks
       → Each (λ (k2 : Lock). k2.map ≡ m → (key : List ℕ) → IsHomeIn a k2 key → home_by a m (stamp_depth old) key ≢ s) ks
   lock_others [] p = tt
   lock_others (k2 ∷ ks) p = (
@@ -480,9 +483,9 @@ module _ (a : About) (l : Known) (m s old : ℕ) (in_m : m < length a.shape.maps
     is_known = λ key e is home.
         let q = r.linked.within m key e is in
         (q.0.1, has_listing (elements (shape_at a m)) (λ e. is_within (home_by a m (stamp_depth old)) s (g.holder m e)) e q.0.1 (ap (is_within (home_by a m (stamp_depth old)) s) q.1 ∙ eq-eqb _ _ home));
-    others = lock_others l.locks (subst (Each (Holds a g.depths (place_words lw) (λ n t. lw (Stamp n t)) g.eras g.linked g.holder l.cpu)) (ap (λ (x : Known). x.locks) is) (r.locking l.cpu));
-    room = λ clean. subst (HasRoom a m) (sym (ap (λ (x : Known). x.locks) locked_lane)) (room_for a lw' locked_ghost lock_rule (lane locked_ghost.lanes l.cpu) refl inside m at_s.0 (new_lock ∷ l.locks)
-        (shares_of a g.depths l.cpu (place_words lw) (λ n t. lw' (Stamp n t)) locked_ghost.eras g.linked g.holder (new_lock ∷ l.locks) (lock_held, own_stay) (refl, clean)));
+    others = lock_others l.locks (subst (Each (Holds a g.depths (words_by_place lw) (λ n t. lw (Stamp n t)) g.eras g.linked g.holder l.cpu)) (ap (λ (x : Known). x.locks) is) (r.locking l.cpu));
+    room = λ clean. subst (KeysHaveRoom a m) (sym (ap (λ (x : Known). x.locks) locked_lane)) (room_for a lw' locked_ghost lock_rule (lane locked_ghost.lanes l.cpu) refl inside m at_s.0 (new_lock ∷ l.locks)
+        (shares_of a g.depths l.cpu (words_by_place lw) (λ n t. lw' (Stamp n t)) locked_ghost.eras g.linked g.holder (new_lock ∷ l.locks) (lock_held, own_stay) (refl, clean)));
   }
 
 pub lock : (a : About) (l : Known) (m s old : ℕ) → m < length a.shape.maps → KnowsBorn a l m s → old % 2 ≡ 0

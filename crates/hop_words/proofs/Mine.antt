@@ -7,7 +7,7 @@ use Rattle.hop_words.specs.declared.known.Fresh.{Fresh}
 use Rattle.hop_words.specs.declared.known.Lock.{Lock}
 use Rattle.hop_layout.specs.declared.place.Place.{Place}
 use Rattle.hop_layout.specs.Layout.{mem}
-use Rattle.hop_words.specs.Content.{place_words}
+use Rattle.hop_words.specs.Content.{words_by_place}
 use Rattle.hop_words.specs.Ghost.{Filling, lane, Ghost, HasElement, lock_home}
 use Rattle.hop_words.specs.Rule.{Rule, Holds, Minded, image}
 use Rattle.hop_words.specs.Private.Step.{Steps}
@@ -18,7 +18,7 @@ use Rattle.hop_words.proofs.Stays.{stay}
 
 module _ (a : About) (l : Known) (k : Lock) {rest : List Lock} (held : l.locks ≡ k ∷ rest) (e : ℕ) (may : MayLink a l k e) where
   module _ (w : Place → ℕ) (g : Ghost) (r : Rule a w g) (is : lane g.lanes l.cpu ≡ l) (inside : l.cpu < a.shape.cpus) where
-    h : Holds a g.depths (place_words w) (λ n t. w (Stamp n t)) g.eras g.linked g.holder l.cpu k
+    h : Holds a g.depths (words_by_place w) (λ n t. w (Stamp n t)) g.eras g.linked g.holder l.cpu k
     h = holds a l k held w g r is
 
     mine : Minded (lock_home a k) l.cpu k.segment (g.holder k.map e)

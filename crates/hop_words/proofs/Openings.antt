@@ -18,18 +18,20 @@ use Rattle.hop_layout.specs.declared.about.About.{About}
 use Rattle.hop_words.specs.declared.known.Known.{Known}
 use Rattle.hop_words.specs.declared.known.View.{View}
 use Rattle.hop_layout.specs.Layout.{mem, size, first_depth, depth, power}
-use Rattle.hop_words.specs.Content.{item, place_words, times, Reached, LinksThrough, IsShare}
+use Rattle.hop_words.specs.Content.{item, words_by_place, times, Reached, LinksThrough, IsShare}
 use Rattle.hop_words.specs.Ghost.{Free, Lanes, lane, Era, Ghost, shape_at, IsSegment, limbo_at, no_limbo}
 use Rattle.hop_words.specs.Shortage.{HasCause}
 use Rattle.hop_words.specs.Rule.{Rule, Kept, begun_in, times_limbo, Chained}
 use Rattle.hop_words.specs.Private.Made.{AreNewWords}
 use Rattle.hop_words.specs.Opens.{no_limbos, new_lane, lanes_from, opens}
 use Rattle.hop_words.proofs.CountDown.{nothing_in}
+use Rattle.hop_words.proofs.FirstBytes.{shows_first}
 use Rattle.hop_words.specs.Depths.{home_by}
 use Rattle.hop_layout.specs.Births.{is_born, AreDepths}
-use Rattle.hop_layout.proofs.Births.{born_small, below_or, low_is, high_is}
+use Rattle.hop_layout.proofs.Births.{born_small, low_is, high_is}
 use Rattle.bpf_shared.specs.declared.shapes.MapShape.{MapShape}
 use Rattle.std.proofs.lemmas.Bool.Decides.{nat_tests}
+use Rattle.std.proofs.lemmas.Bool.{cases_lt}
 
 limbo_none : (n m : ℕ) → limbo_at (no_limbos n) m ≡ no_limbo
 limbo_none zero m = refl
@@ -42,7 +44,7 @@ no_depth limit zero s b = let z = b in grind (arith, nat_tests)
 no_depth limit (suc n) s b = ⊎_elim
     (λ (l : s < power n). no_depth limit n s (sym (low_is (λ t. 0) n s l) ∙ b))
     (λ (h : power n ≤ s). let z : nat_lt n 0 && is_born (λ t. 0) n (s - power n) ≡ true = sym (high_is (λ t. 0) n s h) ∙ b in let y : nat_lt n 0 ≡ false = (grind (arith, nat_tests)) in absurd (true≢false (sym z ∙ ap (λ (x : Bool). x && is_born (λ t. 0) n (s - power n)) y)))
-    (below_or s (power n))
+    (cases_lt s (power n))
 
 first_sound : (g : MapShape) → AreDepths (λ s. first_depth g) (depth g)
 first_sound g s b = go (g.grow) refl
@@ -60,7 +62,7 @@ module _ (a : About) (w : Place → ℕ) (i : AreNewWords a w) where
   new_lanes = record { seen = λ c. []; fresh = λ c. []; limbo = λ c. no_limbos (length a.shape.maps); locks = λ c. []; readings = λ c. []; tally = λ c. [] }
 
   new_era : ℕ → ℕ → Era
-  new_era m s = record { era = w (Stamp m s); writer = 0; dirty = false; credit = 0; old = place_words w }
+  new_era m s = record { era = w (Stamp m s); writer = 0; dirty = false; credit = 0; old = words_by_place w }
 
   abbrev new_ghost : Ghost
   new_ghost = record {
@@ -72,13 +74,13 @@ module _ (a : About) (w : Place → ℕ) (i : AreNewWords a w) where
     taker = λ m c n. 0;
     linked = λ m key. None;
     depths = λ m s. first_depth (shape_at a m);
-    eras = λ m s. record { era = w (Stamp m s); writer = 0; dirty = false; credit = 0; old = place_words w };
+    eras = λ m s. record { era = w (Stamp m s); writer = 0; dirty = false; credit = 0; old = words_by_place w };
   }
 
   no_bit : (m s b d : ℕ) → IsSegment a m s → b < 64 → bit_at (w (Hop m s b)) d ≡ 1 → ⊥
   no_bit m s b d at_s lb one = let z : bit_at (w (Hop m s b)) d ≡ 0 = ap (λ (n : ℕ). bit_at n d) (i.hops m s b at_s lb) ∙ bit_at-zero d in omega arith
 
-  nothing_reached : (m s e : ℕ) → IsSegment a m s → Reached (place_words w) m s e → ⊥
+  nothing_reached : (m s e : ℕ) → IsSegment a m s → Reached (words_by_place w) m s e → ⊥
   nothing_reached m s e at_s (inl h) = no_bit m s h.0 h.1 at_s h.2.0 h.2.2
   nothing_reached m s e at_s (inr h) = go h.0 h.1 h.2
     where
@@ -86,7 +88,7 @@ module _ (a : About) (w : Place → ℕ) (i : AreNewWords a w) where
       go [] f has = omega arith
       go (x ∷ xs) f has = let z : None ≡ Some x = ap item (sym (i.heads m s at_s)) ∙ f.0 in cc
 
-  empty_share : (m s : ℕ) → IsSegment a m s → IsShare a.seed (shape_at a m) (home_by a m (first_depth (shape_at a m))) (place_words w) m s (λ key. None)
+  empty_share : (m s : ℕ) → IsSegment a m s → IsShare a.seed (shape_at a m) (home_by a m (first_depth (shape_at a m))) (words_by_place w) m s (λ key. None)
   empty_share m s at_s = record {
     sound = record {
       leads = λ b d lb ld one. absurd (no_bit m s b d at_s lb one);
@@ -140,6 +142,7 @@ module _ (a : About) (w : Place → ℕ) (i : AreNewWords a w) where
     locking = λ c. tt;
     reading = λ c. tt;
     held = λ m s b odd. absurd (let z = (i.stamps m s (b.0, b.1)).0 in omega arith);
+    fixed = shows_first a i.shaped i.bytes w i.fixed;
     valued = record { lies = λ m e l has. absurd has; older = λ m e l has. absurd has; held_in = λ c v h. absurd (true≢false (sym h)) };
     shown = record { causes = λ before after x e. none_before before after x e; running = λ c. inl refl; took = λ m e at_e held. absurd (held refl); taken = λ c m e l at_e seen. absurd seen };
   }

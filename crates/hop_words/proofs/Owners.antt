@@ -3,6 +3,7 @@ use Rattle.std.proofs.Common.{◌≡◌, ◌≢◌, ℕ, ◌-◌, ◌/◌, ◌%�
 use Rattle.std.proofs.lemmas.Nat.Bits.{bit_at_and, bit_at-lt, bit_at-pow_same, bit_at-pow_other, bit_at_not, bit_at_above, same_from_bits}
 use Rattle.std.proofs.Math.Pow.{pow-lt}
 use Rattle.std.specs.Int.{bit_at, w64}
+use Rattle.std.proofs.lemmas.Bool.{cases_eq}
 use native.Mathlib.Decide.{ℕ_discrete, dec_lt}
 use mathlib.Core.Logic.{dite}
 use Rattle.bpf_shared.specs.declared.events.Event.{Event}
@@ -18,13 +19,13 @@ use Rattle.hop_words.specs.declared.known.Known.{Known}
 use Rattle.hop_words.specs.declared.known.Fresh.{Fresh}
 use Rattle.hop_words.specs.declared.known.Lock.{Lock}
 use Rattle.hop_layout.specs.Layout.{mem, put_at}
-use Rattle.hop_words.specs.Content.{MapWords, place_words, one_if}
+use Rattle.hop_words.specs.Content.{MapWords, words_by_place, one_if}
 use Rattle.hop_words.specs.Ghost.{Holder, Free, Filling, Leaving, Within, is_free, is_filling, is_leaving, Carries, lane, Era, Ghost, shape_at, HasElement, Each, lock_home}
 use Rattle.hop_words.specs.Rule.{Rule, Took, times_fresh, taken_at, begun_in, Linked, StartsWith, Minded, Holds, Locking, Valued}
 use Rattle.hop_words.specs.Shortage.{updates_of, updates_in, HasHadValue}
 use Rattle.hop_words.specs.Private.Step.{Next, Steps}
 use Rattle.hop_words.specs.Kinds.{holding}
-use Rattle.hop_words.proofs.Small.{equal, here_or, put2-same, put2-other}
+use Rattle.hop_words.proofs.Small.{here_or, put2-same, put2-other}
 use Rattle.hop_words.proofs.Histories.{prefix_refl}
 use Rattle.hop_words.proofs.Shortages.{begun_take, causes_made, hand_more}
 use Rattle.hop_words.proofs.Stays.{next_as}
@@ -140,7 +141,7 @@ mask_kept n b fits lb none = same_from_bits (bit_and n (2 ^ 64 - 1 - 2 ^ b)) n b
         (λ (ne : i ≢ b). dite (dec_lt i 64)
         (λ (few : i < 64). mask_other n (2 ^ 64 - 1 - 2 ^ b) i (mask_bits b i lb few ∙ (let z = bit_at-pow_other b i ne in omega arith)))
         (λ many. let z : bit_at n i ≡ 0 = bit_at_above n 64 i fits (omega arith) in bit_at_and n (2 ^ 64 - 1 - 2 ^ b) i ∙ (omega arith)))
-        (equal i b)
+        (cases_eq i b)
 
 module _ (a : About) (l : Known) (m e : ℕ) (at_e : HasElement a m e) (ws : List ℕ) (g : Ghost) (r : Rule a (mem a.shape ws) g) (is : lane g.lanes l.cpu ≡ l) (inside : l.cpu < a.shape.cpus) where
   abbrev cw : Place → ℕ
@@ -162,6 +163,7 @@ module _ (a : About) (l : Known) (m e : ℕ) (at_e : HasElement a m e) (ws : Lis
     ghost = g2;
     rule = record {
       shaped = r.shaped;
+      fixed = r.fixed;
       deep = r.deep;
       logged = r.logged;
       keyed = r.keyed;
@@ -176,17 +178,17 @@ module _ (a : About) (l : Known) (m e : ℕ) (at_e : HasElement a m e) (ws : Lis
             (λ (t : b ≡ l.cpu). subst (λ z. times_fresh n d (put g.lanes.fresh l.cpu fresh2 z) ≡ one_if (is_filling z (holder2 n d))) (sym t) (ap (times_fresh n d) (put-same g.lanes.fresh l.cpu l.cpu fresh2 refl) ∙ own n d l2))
             (λ (ne : b ≢ l.cpu). ap (times_fresh n d) (put-other g.lanes.fresh l.cpu b fresh2 ne) ∙ (r.owned.fresh_is b n d inb l2 ∙ sym (moved (λ z. one_if (is_filling b z)) g.holder m e Free (Filling l.cpu) was
             (ap one_if (ne_eqb l.cpu b (λ (q : l.cpu ≡ b). ne (sym q)))) n d)))
-            (equal b l.cpu);
+            (cases_eq b l.cpu);
         limbo_is = λ b n d inb l2. r.owned.limbo_is b n d inb l2 ∙ sym (moved (λ z. one_if (is_leaving b z)) g.holder m e Free (Filling l.cpu) was refl n d);
       };
       linked = linked_outside a g.holder m e Free (Filling l.cpu) was g.linked (λ s q. cc) (λ s q. cc) r.linked;
       filled = λ c inc. ⊎_elim
           (λ (t : c ≡ l.cpu). subst (Each Has) (sym (put-same g.lanes.fresh l.cpu c fresh2 t)) (((λ j lt. absurd (omega arith)), (λ j lt. absurd (omega arith))), r.filled l.cpu inside))
           (λ (ne : c ≢ l.cpu). subst (Each Has) (sym (put-other g.lanes.fresh l.cpu c fresh2 ne)) (r.filled c inc))
-          (equal c l.cpu);
+          (cases_eq c l.cpu);
       segments = r.segments;
-      locking = locking_outside a g.holder m e Free (Filling l.cpu) was g.depths (place_words cw) (λ n t. cw (Stamp n t)) g.eras g.linked g.lanes.locks
-          (λ b. ⊎_elim (λ (t : b ≡ l.cpu). inl (ap g.lanes.locks t ∙ (ap (λ (z : Known). z.locks) is ∙ unlocked))) (λ (ne : b ≢ l.cpu). inr (λ home t on. absurd (ne (sym on)))) (equal b l.cpu)) r.locking;
+      locking = locking_outside a g.holder m e Free (Filling l.cpu) was g.depths (words_by_place cw) (λ n t. cw (Stamp n t)) g.eras g.linked g.lanes.locks
+          (λ b. ⊎_elim (λ (t : b ≡ l.cpu). inl (ap g.lanes.locks t ∙ (ap (λ (z : Known). z.locks) is ∙ unlocked))) (λ (ne : b ≢ l.cpu). inr (λ home t on. absurd (ne (sym on)))) (cases_eq b l.cpu)) r.locking;
       reading = r.reading;
       held = r.held;
       valued = valued_outside a g.holder m e Free (Filling l.cpu) was _ g.last.made g.last.value g.last.held g.number (λ z. z) (λ c h z. z) r.valued;
@@ -195,7 +197,7 @@ module _ (a : About) (l : Known) (m e : ℕ) (at_e : HasElement a m e) (ws : Lis
         running = λ d. ⊎_elim
             (λ (t : d ≡ l.cpu). inr (subst (λ (i : ℕ). in_run (events_of i g.log) ≡ true) (sym t) run))
             (λ (ne : d ≢ l.cpu). subst (λ (fs : List Fresh). (fs ≡ []) ⊎ (in_run (events_of d g.log) ≡ true)) (sym (put-other g.lanes.fresh l.cpu d fresh2 ne)) (r.shown.running d))
-            (equal d l.cpu);
+            (cases_eq d l.cpu);
         took = λ n d at_d held. ⊎_elim
             (λ (h : (n ≡ m) × (d ≡ e)). (own_took n d h.0 h.1, λ c q. let who : Filling l.cpu ≡ Filling c = sym (put2-same g.holder m e n d (Filling l.cpu) h.0 h.1) ∙ q in let same : l.cpu ≡ c = cc in same))
             (λ (ne : n ≡ m → d ≢ e).
@@ -303,7 +305,7 @@ module _ (a : About) (l : Known) (m e : ℕ) (at_e : HasElement a m e) (ws : Lis
           differ n d ne = ap one_if (⊎_elim
               (λ (t : n ≡ m). ap (λ (z : Bool). (m == n) && z) (ne_eqb e d (λ (q : e ≡ d). ne t (sym q))) ∙ and_false (m == n))
               (λ (nd : n ≢ m). ap (λ (z : Bool). z && (e == d)) (ne_eqb m n (λ (q : m ≡ n). nd (sym q))))
-              (equal n m))
+              (cases_eq n m))
 
   free_or : bit_at (cw (FreeBits m (e / 64))) (e % 64) ≡ 1 → g.holder m e ≡ Free
   free_or one = go (g.holder m e) refl (sym (r.owned.bits m e at_e) ∙ one)
@@ -320,6 +322,7 @@ module _ (a : About) (l : Known) (m e : ℕ) (at_e : HasElement a m e) (ws : Lis
     ghost = g;
     rule = record {
       shaped = r.shaped;
+      fixed = r.fixed;
       deep = r.deep;
       logged = r.logged;
       keyed = r.keyed;

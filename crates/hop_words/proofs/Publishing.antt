@@ -1,5 +1,6 @@
 -- Publish split: the parent's unlocking store, by which its child is born.
 use Rattle.std.proofs.Common.{◌≡◌, ◌≢◌, ℕ, suc, ◌+◌, ◌/◌, ◌%◌, ◌<◌, ◌≤◌, Bool, true, false, true≢false, List, [], ◌∷◌, Some, if◌then◌else◌, refl, ap, sym, subst, ◌∙◌, arith, eq-eqb, ne_eqb, ⊎_elim, inl, inr, ◌⊎◌}
+use Rattle.std.proofs.lemmas.Bool.{cases_eq}
 use Rattle.bpf_shared.specs.Store.{put}
 use Rattle.bpf_shared.proofs.Puts.{put-same, put-other}
 use Rattle.hop_layout.specs.declared.place.Place.{Place}
@@ -10,7 +11,7 @@ use Rattle.hop_words.specs.declared.known.Lock.{Lock}
 use Rattle.hop_words.specs.declared.known.Reading.{Reading}
 use Rattle.hop_words.specs.declared.known.Peek.{Peek}
 use Rattle.hop_layout.specs.Layout.{mem, put_at, power, depth, first_depth}
-use Rattle.hop_words.specs.Content.{place_words, IsShare}
+use Rattle.hop_words.specs.Content.{words_by_place, IsShare}
 use Rattle.hop_words.specs.Depths.{stamp_depth, IsBorn, home_by, Deep}
 use Rattle.hop_layout.specs.Births.{is_born, AreDepths, child_of, split_depths}
 use Rattle.hop_words.specs.Ghost.{child}
@@ -20,7 +21,7 @@ use Rattle.hop_words.specs.Rule.{Rule, Worn, Segment, Segments, Minded, Holds, L
 use Rattle.hop_words.specs.Shortage.{done_in}
 use Rattle.hop_words.specs.Private.Step.{Steps}
 use Rattle.hop_words.specs.Kinds.{Splits, unlocking}
-use Rattle.hop_words.proofs.Small.{equal, here_or}
+use Rattle.hop_words.proofs.Small.{here_or}
 use Rattle.hop_words.proofs.Histories.{prefix_refl}
 use Rattle.hop_layout.proofs.Births.{some_power}
 use Rattle.hop_layout.proofs.Births.{mod_low, mod_small, mod_once, still_born, born_before, depths_after, parent_depth, child_depth, elsewhere}
@@ -51,7 +52,7 @@ module _ (a : About) (l : Known) (k : Lock) (n : ℕ) (i : Splits a l k n) (w : 
   abbrev v : ℕ
   v = k.stamp + 258
 
-  h : Holds a g.depths (place_words w) (λ n t. w (Stamp n t)) g.eras g.linked g.holder l.cpu k
+  h : Holds a g.depths (words_by_place w) (λ n t. w (Stamp n t)) g.eras g.linked g.holder l.cpu k
   h = holds a l k i.lock w g r is
 
   room : s < power d
@@ -113,13 +114,13 @@ module _ (a : About) (l : Known) (k : Lock) (n : ℕ) (i : Splits a l k n) (w : 
     depth_same = ⊎_elim
         (λ (e : x ≡ m). ap (λ (f : ℕ → ℕ). f t) (put-same g.depths m x (split_depths (g.depths m) s) e) ∙ (elsewhere (g.depths m) (depth (shape_at a m)) s h.inside.2 room few t (off e).1 (off e).0 ∙ ap (λ (j : ℕ). g.depths j t) (sym e)))
         (λ (ne : x ≢ m). ap (λ (f : ℕ → ℕ). f t) (put-other g.depths m x (split_depths (g.depths m) s) ne))
-        (equal x m)
+        (cases_eq x m)
 
     era_same : eras' x t ≡ g.eras x t
     era_same = ⊎_elim
         (λ (e : x ≡ m). ap (λ (f : ℕ → Era). f t) (put-same g.eras m x _ e) ∙ (put-other (put (g.eras m) s era_s) c t era_c (off e).1 ∙ (put-other (g.eras m) s t era_s (off e).0 ∙ ap (λ (j : ℕ). g.eras j t) (sym e))))
         (λ (ne : x ≢ m). ap (λ (f : ℕ → Era). f t) (put-other g.eras m x _ ne))
-        (equal x m)
+        (cases_eq x m)
 
     stamp_same : w' (Stamp x t) ≡ w (Stamp x t)
     stamp_same = put_else w (Stamp m s) (Stamp x t) v (stamp_apart m s x t (λ e. (off e).0))
@@ -131,7 +132,7 @@ module _ (a : About) (l : Known) (k : Lock) (n : ℕ) (i : Splits a l k n) (w : 
     ⊎_elim
         (λ (e : x ≡ m). ap (λ (f : ℕ → ℕ). is_born f (depth (shape_at a x)) t) (put-same g.depths m x (split_depths (g.depths m) s) e) ∙ (ap (λ (j : ℕ). is_born (split_depths (g.depths m) s) (depth (shape_at a j)) t) e ∙ still_born (g.depths m) (depth (shape_at a m)) s h.inside.2 room few (depth (shape_at a m)) h.inside.2 t ((λ q. is_born (g.depths (sym e q)) (depth (shape_at a (sym e q))) t) ∙ b.2)))
         (λ (ne : x ≢ m). ap (λ (f : ℕ → ℕ). is_born f (depth (shape_at a x)) t) (put-other g.depths m x (split_depths (g.depths m) s) ne) ∙ b.2)
-        (equal x m),
+        (cases_eq x m),
   )
 
   -- a segment is the parent, the child, or one that was born before
@@ -146,10 +147,10 @@ module _ (a : About) (l : Known) (k : Lock) (n : ℕ) (i : Splits a l k n) (w : 
       (λ (old : is_born (g.depths m) (depth (shape_at a m)) t ≡ true). inr (inr (record { born = (b.0, b.1, (λ q. is_born (g.depths (e q)) (depth (shape_at a (e q))) t) ∙ old); off = λ _. (ns, nc) })))
       (born_before (g.depths m) (depth (shape_at a m)) s h.inside.2 room few (depth (shape_at a m)) t
       (ap (λ (j : ℕ). is_born (split_depths (g.depths m) s) (depth (shape_at a j)) t) (sym e) ∙ (ap (λ (f : ℕ → ℕ). is_born f (depth (shape_at a x)) t) (sym (put-same g.depths m x (split_depths (g.depths m) s) e)) ∙ b.2))))
-      (equal t c))
-      (equal t s))
+      (cases_eq t c))
+      (cases_eq t s))
       (λ (ne : x ≢ m). inr (inr (record { born = (b.0, b.1, ap (λ (f : ℕ → ℕ). is_born f (depth (shape_at a x)) t) (sym (put-other g.depths m x (split_depths (g.depths m) s) ne)) ∙ b.2); off = λ e. absurd (ne e) })))
-      (equal x m)
+      (cases_eq x m)
 
   -- who was born is one of the others, or the parent
   old_off : (x t : ℕ) → IsBorn a g.depths x t → (x ≡ m → t ≢ s) → x ≡ m → (t ≢ s) × (t ≢ c)
@@ -191,7 +192,7 @@ module _ (a : About) (l : Known) (k : Lock) (n : ℕ) (i : Splits a l k n) (w : 
   mind e key leads home = subst (Minded (lock_home a k) l.cpu s) (sym (r.linked.within m key e leads).1) home
 
   -- ---- the segments
-  own_s : Segment a depths' (place_words w) v era_s m s (g.linked m)
+  own_s : Segment a depths' (words_by_place w) v era_s m s (g.linked m)
   own_s = record {
     at_rest = λ _. refl;
     clean = λ _. (
@@ -208,15 +209,15 @@ module _ (a : About) (l : Known) (k : Lock) (n : ℕ) (i : Splits a l k n) (w : 
     shows = λ _. subst (λ (j : ℕ). IsShare a.seed (shape_at a m) (home_by a m j) (image a k.copy) m s (g.linked m)) (sym depth_s) share_s;
   }
 
-  own_c : Segment a depths' (place_words w) n era_c m c (g.linked m)
+  own_c : Segment a depths' (words_by_place w) n era_c m c (g.linked m)
   own_c = record {
     at_rest = λ _. refl;
     clean = λ _. (
       (let z = i.even in omega arith),
       record {
-        head = ap (λ (j : ℕ). (place_words w).head m j) (sym child_is) ∙ (h.beside.head ∙ ap (λ (j : ℕ). (image a k.copy).head m j) child_is);
-        hop = λ b. ap (λ (j : ℕ). (place_words w).hop m j b) (sym child_is) ∙ (h.beside.hop b ∙ ap (λ (j : ℕ). (image a k.copy).hop m j b) child_is);
-        slot = λ b. ap (λ (j : ℕ). (place_words w).slot m j b) (sym child_is) ∙ (h.beside.slot b ∙ ap (λ (j : ℕ). (image a k.copy).slot m j b) child_is);
+        head = ap (λ (j : ℕ). (words_by_place w).head m j) (sym child_is) ∙ (h.beside.head ∙ ap (λ (j : ℕ). (image a k.copy).head m j) child_is);
+        hop = λ b. ap (λ (j : ℕ). (words_by_place w).hop m j b) (sym child_is) ∙ (h.beside.hop b ∙ ap (λ (j : ℕ). (image a k.copy).hop m j b) child_is);
+        slot = λ b. ap (λ (j : ℕ). (words_by_place w).slot m j b) (sym child_is) ∙ (h.beside.slot b ∙ ap (λ (j : ℕ). (image a k.copy).slot m j b) child_is);
         link = λ e on. h.copied.link e (let t = share_c.each e on in mind e t.0 t.3 (at_child t.0 t.2));
         key = λ e j on. h.copied.key e j (let t = share_c.each e on in mind e t.0 t.3 (at_child t.0 t.2));
       },
@@ -225,13 +226,13 @@ module _ (a : About) (l : Known) (k : Lock) (n : ℕ) (i : Splits a l k n) (w : 
     shows = λ _. subst (λ (j : ℕ). IsShare a.seed (shape_at a m) (home_by a m j) (image a k.copy) m c (g.linked m)) (sym depth_c) share_c;
   }
 
-  segments : Segments a depths' (place_words w') (λ x t. w' (Stamp x t)) eras' g.linked
+  segments : Segments a depths' (words_by_place w') (λ x t. w' (Stamp x t)) eras' g.linked
   segments x t b = ⊎_elim
-      (λ (e : (x ≡ m) × (t ≡ s)). at x t m s e.0 e.1 (subst (λ (j : ℕ). Segment a depths' (place_words w) j (eras' m s) m s (g.linked m)) (sym stamp_s) (subst (λ (y : Era). Segment a depths' (place_words w) v y m s (g.linked m)) (sym era_s_is) own_s)))
+      (λ (e : (x ≡ m) × (t ≡ s)). at x t m s e.0 e.1 (subst (λ (j : ℕ). Segment a depths' (words_by_place w) j (eras' m s) m s (g.linked m)) (sym stamp_s) (subst (λ (y : Era). Segment a depths' (words_by_place w) v y m s (g.linked m)) (sym era_s_is) own_s)))
       (λ (f : ((x ≡ m) × (t ≡ c)) ⊎ Else x t). ⊎_elim
-      (λ (e : (x ≡ m) × (t ≡ c)). at x t m c e.0 e.1 (subst (λ (j : ℕ). Segment a depths' (place_words w) j (eras' m c) m c (g.linked m)) (sym stamp_c) (subst (λ (y : Era). Segment a depths' (place_words w) n y m c (g.linked m)) (sym era_c_is) own_c)))
+      (λ (e : (x ≡ m) × (t ≡ c)). at x t m c e.0 e.1 (subst (λ (j : ℕ). Segment a depths' (words_by_place w) j (eras' m c) m c (g.linked m)) (sym stamp_c) (subst (λ (y : Era). Segment a depths' (words_by_place w) n y m c (g.linked m)) (sym era_c_is) own_c)))
       (λ (o : Else x t). let q = r.segments x t o.born in
-      subst (λ (j : ℕ). Segment a depths' (place_words w) j (eras' x t) x t (g.linked x)) (sym (stamp_same x t o.off)) (subst (λ (y : Era). Segment a depths' (place_words w) (w (Stamp x t)) y x t (g.linked x)) (sym (era_same x t o.off)) (record {
+      subst (λ (j : ℕ). Segment a depths' (words_by_place w) j (eras' x t) x t (g.linked x)) (sym (stamp_same x t o.off)) (subst (λ (y : Era). Segment a depths' (words_by_place w) (w (Stamp x t)) y x t (g.linked x)) (sym (era_same x t o.off)) (record {
         at_rest = q.at_rest;
         clean = q.clean;
         written = q.written;
@@ -240,8 +241,8 @@ module _ (a : About) (l : Known) (k : Lock) (n : ℕ) (i : Splits a l k n) (w : 
       f)
       (sort x t b)
     where
-      at : (x t y u : ℕ) → x ≡ y → t ≡ u → Segment a depths' (place_words w) (w' (Stamp y u)) (eras' y u) y u (g.linked y) → Segment a depths' (place_words w) (w' (Stamp x t)) (eras' x t) x t (g.linked x)
-      at x t y u e f p = subst (λ (z : ℕ). Segment a depths' (place_words w) (w' (Stamp z t)) (eras' z t) z t (g.linked z)) (sym e) (subst (λ (z : ℕ). Segment a depths' (place_words w) (w' (Stamp y z)) (eras' y z) y z (g.linked y)) (sym f) p)
+      at : (x t y u : ℕ) → x ≡ y → t ≡ u → Segment a depths' (words_by_place w) (w' (Stamp y u)) (eras' y u) y u (g.linked y) → Segment a depths' (words_by_place w) (w' (Stamp x t)) (eras' x t) x t (g.linked x)
+      at x t y u e f p = subst (λ (z : ℕ). Segment a depths' (words_by_place w) (w' (Stamp z t)) (eras' z t) z t (g.linked z)) (sym e) (subst (λ (z : ℕ). Segment a depths' (words_by_place w) (w' (Stamp y z)) (eras' y z) y z (g.linked y)) (sym f) p)
 
   worn : Worn a depths' (λ x t. w' (Stamp x t)) eras' g.log
   worn x t b = ⊎_elim
@@ -285,7 +286,7 @@ module _ (a : About) (l : Known) (k : Lock) (n : ℕ) (i : Splits a l k n) (w : 
     sound = λ x in_x. ⊎_elim
         (λ (e : x ≡ m). subst (λ (j : ℕ). AreDepths (depths' j) (depth (shape_at a j))) (sym e) (subst (λ (f : ℕ → ℕ). AreDepths f (depth (shape_at a m))) (sym (put-same g.depths m m (split_depths (g.depths m) s) refl)) (depths_after (g.depths m) (depth (shape_at a m)) s h.inside.2 room few (r.deep.sound m h.inside.0))))
         (λ (ne : x ≢ m). subst (λ (f : ℕ → ℕ). AreDepths f (depth (shape_at a x))) (sym (put-other g.depths m x (split_depths (g.depths m) s) ne)) (r.deep.sound x in_x))
-        (equal x m);
+        (cases_eq x m);
     stamped = λ x t b. ⊎_elim
         (λ (e : (x ≡ m) × (t ≡ s)). at x t m s e.0 e.1 (ap stamp_depth stamp_s ∙ ((let z = h.even in let y = i.room in let ten = depth_most (shape_at a m) in let q : stamp_depth v ≡ stamp_depth k.stamp + 1 = omega arith in q) ∙ (depth_up ∙ sym depth_s))))
         (λ (f : ((x ≡ m) × (t ≡ c)) ⊎ Else x t). ⊎_elim
@@ -296,14 +297,14 @@ module _ (a : About) (l : Known) (k : Lock) (n : ℕ) (i : Splits a l k n) (w : 
     whole = λ x t in_x in_t no. ⊎_elim
         (λ (e : x ≡ m). absurd (true≢false (sym growing ∙ (ap (λ (j : ℕ). (shape_at a j).grow) (sym e) ∙ no))))
         (λ (ne : x ≢ m). depth_same x t (λ e. absurd (ne e)) ∙ r.deep.whole x t in_x in_t no)
-        (equal x m);
+        (cases_eq x m);
   }
     where
       at : (x t y u : ℕ) → x ≡ y → t ≡ u → stamp_depth (w' (Stamp y u)) ≡ depths' y u → stamp_depth (w' (Stamp x t)) ≡ depths' x t
       at x t y u e f p = (λ q. stamp_depth (w' (Stamp (e q) (f q)))) ∙ (p ∙ (λ q. depths' (sym e q) (sym f q)))
 
   -- ---- locks of others
-  other_lock : (b : ℕ) (k2 : Lock) → b ≢ l.cpu → Holds a g.depths (place_words w) (λ x t. w (Stamp x t)) g.eras g.linked g.holder b k2 → Holds a depths' (place_words w') (λ x t. w' (Stamp x t)) eras' g.linked g.holder b k2
+  other_lock : (b : ℕ) (k2 : Lock) → b ≢ l.cpu → Holds a g.depths (words_by_place w) (λ x t. w (Stamp x t)) g.eras g.linked g.holder b k2 → Holds a depths' (words_by_place w') (λ x t. w' (Stamp x t)) eras' g.linked g.holder b k2
   other_lock b k2 ne p = record {
     inside = still k2.map k2.segment p.inside;
     deep = p.deep ∙ sym (depth_same k2.map k2.segment off);
@@ -332,15 +333,15 @@ module _ (a : About) (l : Known) (k : Lock) (n : ℕ) (i : Splits a l k n) (w : 
       beside_off : k2.map ≡ m → (child k2 ≢ s) × (child k2 ≢ c)
       beside_off = subst (λ (j : ℕ). k2.map ≡ m → (k2.segment + power j ≢ s) × (k2.segment + power j ≢ c)) (sym p.deep) (off_child a g.depths m s k2.map k2.segment r.deep.sound h.inside p.inside away)
 
-  other_locks : (b : ℕ) → b ≢ l.cpu → (ks : List Lock) → Each (Holds a g.depths (place_words w) (λ x t. w (Stamp x t)) g.eras g.linked g.holder b) ks → Each (Holds a depths' (place_words w') (λ x t. w' (Stamp x t)) eras' g.linked g.holder b) ks
+  other_locks : (b : ℕ) → b ≢ l.cpu → (ks : List Lock) → Each (Holds a g.depths (words_by_place w) (λ x t. w (Stamp x t)) g.eras g.linked g.holder b) ks → Each (Holds a depths' (words_by_place w') (λ x t. w' (Stamp x t)) eras' g.linked g.holder b) ks
   other_locks b ne [] p = tt
   other_locks b ne (k2 ∷ ks) p = (other_lock b k2 ne p.0, other_locks b ne ks p.1)
 
-  locking : Locking a depths' (place_words w') (λ x t. w' (Stamp x t)) eras' g.linked g.holder (put g.lanes.locks l.cpu [])
+  locking : Locking a depths' (words_by_place w') (λ x t. w' (Stamp x t)) eras' g.linked g.holder (put g.lanes.locks l.cpu [])
   locking b = ⊎_elim
-      (λ (e : b ≡ l.cpu). subst (λ (ks : List Lock). Each (Holds a depths' (place_words w') (λ x t. w' (Stamp x t)) eras' g.linked g.holder b) ks) (sym (put-same g.lanes.locks l.cpu b [] e)) tt)
-      (λ (ne : b ≢ l.cpu). subst (λ (ks : List Lock). Each (Holds a depths' (place_words w') (λ x t. w' (Stamp x t)) eras' g.linked g.holder b) ks) (sym (put-other g.lanes.locks l.cpu b [] ne)) (other_locks b ne (g.lanes.locks b) (r.locking b)))
-      (equal b l.cpu)
+      (λ (e : b ≡ l.cpu). subst (λ (ks : List Lock). Each (Holds a depths' (words_by_place w') (λ x t. w' (Stamp x t)) eras' g.linked g.holder b) ks) (sym (put-same g.lanes.locks l.cpu b [] e)) tt)
+      (λ (ne : b ≢ l.cpu). subst (λ (ks : List Lock). Each (Holds a depths' (words_by_place w') (λ x t. w' (Stamp x t)) eras' g.linked g.holder b) ks) (sym (put-other g.lanes.locks l.cpu b [] ne)) (other_locks b ne (g.lanes.locks b) (r.locking b)))
+      (cases_eq b l.cpu)
 
   held : Held a depths' (λ x t. w' (Stamp x t)) eras' (put g.lanes.locks l.cpu [])
   held x t b odd = ⊎_elim
@@ -398,6 +399,7 @@ module _ (a : About) (l : Known) (k : Lock) (n : ℕ) (i : Splits a l k n) (w : 
   published : Rule a w' g'
   published = record {
     shaped = r.shaped;
+    fixed = r.fixed;
     logged = r.logged;
     keyed = r.keyed;
     worn = worn;

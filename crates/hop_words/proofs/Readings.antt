@@ -3,6 +3,7 @@ use Rattle.std.proofs.Common.{◌≡◌, ◌≢◌, ℕ, ◌%◌, ◌<◌, Bool,
 use native.Mathlib.Decide.{ℕ_discrete}
 use mathlib.Core.Logic.{dite}
 use Rattle.std.specs.FinMap.{get}
+use Rattle.std.proofs.lemmas.Bool.{cases_eq}
 use Rattle.bpf_shared.specs.declared.events.Event.{Event}
 use Rattle.bpf_shared.specs.declared.events.Event.TheVariants.{Lookup}
 use Rattle.bpf_shared.specs.declared.events.Span.{Span}
@@ -12,19 +13,18 @@ use Rattle.bpf_shared.specs.Events.{Allowed, after_lookup, span_of}
 use Rattle.bpf_shared.specs.History.{entry}
 use Rattle.bpf_shared.proofs.Puts.{put-same, put-other, put_pair}
 use Rattle.hop_layout.specs.declared.place.Place.{Place}
-use Rattle.hop_layout.specs.declared.place.Place.TheVariants.{RunCount, KeyCount, FreeBits, Stamp, Head, Hop, Slot, Link, KeyWord, ValueWord}
+use Rattle.hop_layout.specs.declared.place.Place.TheVariants.{RunCount, KeyCount, FreeBits, Stamp, Head, Hop, Slot, Link, KeyWord, ValueWord, FixedWord}
 use Rattle.hop_layout.specs.declared.about.About.{About}
 use Rattle.hop_words.specs.declared.known.Known.{Known}
 use Rattle.hop_words.specs.declared.known.Lock.{Lock}
 use Rattle.hop_words.specs.declared.known.Reading.{Reading}
 use Rattle.hop_layout.specs.Layout.{mem, put_at, size, power, depth}
-use Rattle.hop_words.specs.Content.{MapWords, place_words, Agrees, Reached, IsShare}
+use Rattle.hop_words.specs.Content.{MapWords, words_by_place, AgreesInSegment, Reached, IsShare}
 use Rattle.hop_words.specs.Ghost.{Leaving, Within, Carries, lane, Ghost, shape_at, Each, Era}
-use Rattle.hop_words.specs.Rule.{Rule, Segment, Holds, IsSoundReading, Readings, IsPeek, numbered, Runs, Batched, Valued}
+use Rattle.hop_words.specs.Rule.{Rule, Segment, Holds, IsSoundReading, Readings, IsPeek, numbered, Runs, Batched, Valued, ShowsFixed}
 use Rattle.hop_words.specs.Shortage.{HasHadValue}
 use Rattle.hop_words.specs.Private.Step.{Next, Steps}
 use Rattle.hop_words.specs.Kinds.{TakesEffect, noting, FindsByPeeks, found_span, KnowsBorn, SaysDepth, StampNoted}
-use Rattle.hop_words.proofs.Small.{equal}
 use Rattle.hop_words.proofs.Histories.{logged_event, prefix_refl}
 use Rattle.hop_words.proofs.Shortages.{shown_more}
 use Rattle.hop_words.proofs.Comes.{in_limbo}
@@ -42,11 +42,12 @@ module _ (a : About) (w : Place → ℕ) (g : Ghost) (r : Rule a w g) (c : ℕ) 
   put_readings rs own d = ⊎_elim
       (λ (t : d ≡ c). subst (Each (IsSoundReading a g.depths g.eras)) (sym (put-same g.lanes.readings c d rs t)) own)
       (λ (ne : d ≢ c). subst (Each (IsSoundReading a g.depths g.eras)) (sym (put-other g.lanes.readings c d rs ne)) (r.reading d))
-      (equal d c)
+      (cases_eq d c)
 
   read_rule : (rs : List Reading) → Each (IsSoundReading a g.depths g.eras) rs → Rule a w (with_readings rs)
   read_rule rs own = record {
     shaped = r.shaped;
+    fixed = r.fixed;
     deep = r.deep;
     logged = r.logged;
     keyed = r.keyed;
@@ -93,7 +94,7 @@ see_stamp a l m s in_m knows ws g sized r is inside fits =
     let n = w (Stamp m s) in
     let at_s = known_born a w g r l is m s in_m knows in
     let says = says_depth a w g r m s at_s in
-    let seg : Segment a g.depths (place_words w) n (g.eras m s) m s (g.linked m) = r.segments m s at_s in
+    let seg : Segment a g.depths (words_by_place w) n (g.eras m s) m s (g.linked m) = r.segments m s at_s in
     ⊎_elim
     (λ (even : n % 2 ≡ 0). read_next a w g r l.cpu (Stamp m s) _ (record { map = m; segment = s; stamp = n; peeks = [] } ∷ [])
     (record { inside = at_s; deep = (let z = r.deep.stamped m s at_s in omega arith); even = even; behind = (let z = (seg.clean (seg.at_rest even)).0 in omega arith); stays = λ _. tt }, tt)
@@ -103,7 +104,7 @@ see_stamp a l m s in_m knows ws g sized r is inside fits =
 
 -- two born segments that own one home are one
 owned_once : (a : About) (w : Place → ℕ) (g : Ghost) (r : Rule a w g) (c m s home : ℕ) → IsBorn a g.depths m s → home % power (g.depths m s) ≡ s
-    → (ks : List Lock) → Each (Holds a g.depths (place_words w) (λ i j. w (Stamp i j)) g.eras g.linked g.holder c) ks
+    → (ks : List Lock) → Each (Holds a g.depths (words_by_place w) (λ i j. w (Stamp i j)) g.eras g.linked g.holder c) ks
     → Each (λ (k : Lock). k.map ≡ m → home % power (stamp_depth k.stamp) ≡ k.segment → (k.segment ≡ s) × (stamp_depth k.stamp ≡ stamp_depth (w (Stamp m s)))) ks
 owned_once a w g r c m s home at_s own [] p = tt
 owned_once a w g r c m s home at_s own (k ∷ ks) p = (
@@ -121,17 +122,17 @@ note_stamp a l m s in_m knows ws g sized r is inside fits =
     let w = mem a.shape ws in
     let n = w (Stamp m s) in
     let at_s = known_born a w g r l is m s in_m knows in
-    let seg : Segment a g.depths (place_words w) n (g.eras m s) m s (g.linked m) = r.segments m s at_s in
+    let seg : Segment a g.depths (words_by_place w) n (g.eras m s) m s (g.linked m) = r.segments m s at_s in
     read_next a w g r l.cpu (Stamp m s) _ (record { map = m; segment = s; stamp = n - n % 2; peeks = [] } ∷ [])
     (record { inside = at_s; deep = (let z = r.deep.stamped m s at_s in omega arith); even = (omega arith); behind = behind n (g.eras m s) seg; stays = λ _. tt }, tt)
     (record {
       deep = says_depth a w g r m s at_s;
       owns = λ home own. owned_once a w g r l.cpu m s home at_s (ap (λ (i : ℕ). home % power i) (sym (r.deep.stamped m s at_s)) ∙ own) l.locks
-          (subst (Each (Holds a g.depths (place_words w) (λ i j. w (Stamp i j)) g.eras g.linked g.holder l.cpu)) (ap (λ (x : Known). x.locks) is) (r.locking l.cpu));
+          (subst (Each (Holds a g.depths (words_by_place w) (λ i j. w (Stamp i j)) g.eras g.linked g.holder l.cpu)) (ap (λ (x : Known). x.locks) is) (r.locking l.cpu));
       after = ap (λ (x : Known). record x { readings = record { map = m; segment = s; stamp = n - n % 2; peeks = [] } ∷ [] }) is;
     })
   where
-    behind : (n : ℕ) (e : Era) → Segment a g.depths (place_words (mem a.shape ws)) n e m s (g.linked m) → n - n % 2 ≤ e.era
+    behind : (n : ℕ) (e : Era) → Segment a g.depths (words_by_place (mem a.shape ws)) n e m s (g.linked m) → n - n % 2 ≤ e.era
     behind n e seg = go e.dirty refl
       where
         go : (b : Bool) → e.dirty ≡ b → n - n % 2 ≤ e.era
@@ -140,10 +141,10 @@ note_stamp a l m s in_m knows ws g sized r is inside fits =
 
 -- the words at rest are those that are there, while the era is the stamp noted
 pub at_era : (a : About) (w : Place → ℕ) (g : Ghost) (r : Rule a w g) (rd : Reading) → IsSoundReading a g.depths g.eras rd → rd.stamp ≡ (g.eras rd.map rd.segment).era
-    → ((g.eras rd.map rd.segment).dirty ≡ false) × Agrees rd.map rd.segment (Reached (g.eras rd.map rd.segment).old rd.map rd.segment) (place_words w) (g.eras rd.map rd.segment).old
+    → ((g.eras rd.map rd.segment).dirty ≡ false) × AgreesInSegment rd.map rd.segment (Reached (g.eras rd.map rd.segment).old rd.map rd.segment) (words_by_place w) (g.eras rd.map rd.segment).old
 at_era a w g r rd q same = (clean, (seg.clean clean).1)
   where
-    seg : Segment a g.depths (place_words w) (w (Stamp rd.map rd.segment)) (g.eras rd.map rd.segment) rd.map rd.segment (g.linked rd.map)
+    seg : Segment a g.depths (words_by_place w) (w (Stamp rd.map rd.segment)) (g.eras rd.map rd.segment) rd.map rd.segment (g.linked rd.map)
     seg = r.segments rd.map rd.segment q.inside
 
     go : (b : Bool) → (g.eras rd.map rd.segment).dirty ≡ b → b ≡ false
@@ -153,7 +154,7 @@ at_era a w g r rd q same = (clean, (seg.clean clean).1)
     clean : (g.eras rd.map rd.segment).dirty ≡ false
     clean = let d = go (g.eras rd.map rd.segment).dirty refl in d
 
-is_peek : (m s : ℕ) (w : Place → ℕ) (x : MapWords) → Agrees m s (Reached x m s) (place_words w) x → (p : Place) → IsPeek x m s p (w p)
+is_peek : (m s : ℕ) (w : Place → ℕ) (x : MapWords) → AgreesInSegment m s (Reached x m s) (words_by_place w) x → (p : Place) → IsPeek x m s p (w p)
 is_peek m s w x k (RunCount c) = tt
 is_peek m s w x k (KeyCount n) = tt
 is_peek m s w x k (FreeBits n i) = tt
@@ -164,6 +165,7 @@ is_peek m s w x k (Slot n t b) = λ h u. sym (k.slot b) ∙ (λ j. w (Slot (sym 
 is_peek m s w x k (Link n e) = λ h u. sym (k.link e u) ∙ (λ j. w (Link (sym h j) e))
 is_peek m s w x k (KeyWord n e i) = λ h u. sym (k.key e i u) ∙ (λ j. w (KeyWord (sym h j) e i))
 is_peek m s w x k (ValueWord n e i) = tt
+is_peek m s w x k (FixedWord b i) = tt
 
 -- the reading has one word more
 abbrev pub read_more : Known → Reading → Place → ℕ → Known
@@ -218,6 +220,10 @@ module _ (a : About) (w : Place → ℕ) (g : Ghost) (r : Rule a w g) (c m : ℕ
         (put_pair g.last.held c (g.number m e) x v holds);
   }
 
+  values_still : (o : Option ℕ) → (looking o).value ≡ g.last.value
+  values_still None = refl
+  values_still (Some e) = refl
+
   pub maps_same : (o : Option ℕ) → (looking o).maps ≡ g.last.maps
   maps_same None = refl
   maps_same (Some e) = refl
@@ -243,6 +249,7 @@ module _ (a : About) (w : Place → ℕ) (g : Ghost) (r : Rule a w g) (c m : ℕ
     locking = r.locking;
     reading = r.reading;
     held = r.held;
+    fixed = subst (ShowsFixed a (λ b k. w (FixedWord b k))) (sym (values_still o)) r.fixed;
     valued = looked_valued o key is;
     shown = shown_more a g.log c (Lookup m key sp) g.last (looking o) g.lanes.fresh g.lanes.tally g.holder g.taker refl r.logged.legal may tt (looked_had o) r.shown;
   }
@@ -282,7 +289,7 @@ see_again a l rd key o f ws g sized r is inside fits = dite (ℕ_discrete (w (St
     q : IsSoundReading a g.depths g.eras rd
     q = (subst (Each (IsSoundReading a g.depths g.eras)) (ap (λ (x : Known). x.readings) is ∙ f.reading) (r.reading l.cpu)).0
 
-    seg : Segment a g.depths (place_words w) (w (Stamp rd.map rd.segment)) (g.eras rd.map rd.segment) rd.map rd.segment (g.linked rd.map)
+    seg : Segment a g.depths (words_by_place w) (w (Stamp rd.map rd.segment)) (g.eras rd.map rd.segment) rd.map rd.segment (g.linked rd.map)
     seg = r.segments rd.map rd.segment q.inside
 
     miss : w (Stamp rd.map rd.segment) ≢ rd.stamp → Next a (put_at w (Stamp rd.map rd.segment) (w (Stamp rd.map rd.segment))) g l.cpu told

@@ -1,5 +1,6 @@
 -- Segments, locks and readings: what a step at one segment leaves of the others.
 use Rattle.std.proofs.Common.{◌≡◌, ◌≢◌, ℕ, ◌%◌, ◌<◌, ◌≤◌, Bool, true, false, List, [], ◌∷◌, Option, ◌==◌, ◌&&◌, eq-eqb, ne_eqb, refl, ap, sym, subst, ◌∙◌, arith, ⊎_elim, ◌+◌, true≢false, length}
+use Rattle.std.proofs.lemmas.Bool.{cases_eq}
 use Rattle.bpf_shared.specs.declared.shapes.MapShape.{MapShape}
 use Rattle.bpf_shared.specs.Store.{put}
 use Rattle.bpf_shared.proofs.Puts.{put-same, put-other}
@@ -7,10 +8,10 @@ use Rattle.hop_layout.specs.declared.about.About.{About}
 use Rattle.hop_words.specs.declared.known.Lock.{Lock}
 use Rattle.hop_words.specs.declared.known.Reading.{Reading}
 use Rattle.hop_words.specs.declared.known.Peek.{Peek}
-use Rattle.hop_words.specs.Content.{one_if, MapWords, IsShare, Agrees}
+use Rattle.hop_words.specs.Content.{one_if, MapWords, IsShare, AgreesInSegment}
 use Rattle.hop_words.specs.Ghost.{Holder, Within, Era, shape_at, Each}
 use Rattle.hop_words.specs.Rule.{Segment, Segments, Minded, Holds, Locking, IsPeek, IsSoundReading, Readings, Linked, Held, times_lock}
-use Rattle.hop_words.proofs.Small.{equal, here_or}
+use Rattle.hop_words.proofs.Small.{here_or}
 use Rattle.hop_words.specs.Depths.{stamp_depth, IsBorn, home_by}
 use Rattle.hop_layout.specs.Births.{is_born, AreDepths, child_of}
 use Rattle.hop_words.specs.Ghost.{child}
@@ -25,8 +26,8 @@ share_same seed g home x m s f f' same p = record {
   all = λ q e is here. p.all q e (sym (same q here) ∙ is) here;
 }
 
-pub agrees_on : (m s : ℕ) (on on' : ℕ → Type 0) (x x' y : MapWords) → Agrees m s on x y → x'.head m s ≡ x.head m s → ((b : ℕ) → x'.hop m s b ≡ x.hop m s b) → ((b : ℕ) → x'.slot m s b ≡ x.slot m s b)
-    → ((e : ℕ) → on' e → on e × (x'.link m e ≡ x.link m e) × ((k : ℕ) → x'.key m e k ≡ x.key m e k)) → Agrees m s on' x' y
+pub agrees_on : (m s : ℕ) (on on' : ℕ → Type 0) (x x' y : MapWords) → AgreesInSegment m s on x y → x'.head m s ≡ x.head m s → ((b : ℕ) → x'.hop m s b ≡ x.hop m s b) → ((b : ℕ) → x'.slot m s b ≡ x.slot m s b)
+    → ((e : ℕ) → on' e → on e × (x'.link m e ≡ x.link m e) × ((k : ℕ) → x'.key m e k ≡ x.key m e k)) → AgreesInSegment m s on' x' y
 agrees_on m s on on' x x' y p head hop slot el = record {
   head = head ∙ p.head;
   hop = λ b. hop b ∙ p.hop b;
@@ -173,7 +174,7 @@ module _ (a : About) (depths : ℕ → ℕ → ℕ) (m s c : ℕ) (x x' : MapWor
   locking_step locks ks p alone own d = ⊎_elim
       (λ (t : d ≡ c). subst (λ (y : List Lock). Each (Holds a depths x' stamp' eras' linked' holder' d) y) (sym (put-same locks c d ks t)) (subst (λ (i : ℕ). Each (Holds a depths x' stamp' eras' linked' holder' i) ks) (sym t) own))
       (λ (ne : d ≢ c). subst (λ (y : List Lock). Each (Holds a depths x' stamp' eras' linked' holder' d) y) (sym (put-other locks c d ks ne)) (each_else d (locks d) ne (λ k. alone d k ne) (p d)))
-      (equal d c)
+      (cases_eq d c)
 
 -- ---- readings
 -- the segment's era goes up, or stays with its words
@@ -228,7 +229,7 @@ held_step a depths m s c stamp stamp' eras eras' locks ks inside p own same n t 
       subst (λ (b : ℕ). 1 ≤ times_lock n t (put locks c ks b)) (sym w) (⊎_elim
           (λ (e : (eras n t).writer ≡ c). subst (λ (y : List Lock). 1 ≤ times_lock n t y) (sym (put-same locks c (eras n t).writer ks e)) (let y = q.1 in let z : times_lock n t (locks (eras n t).writer) ≡ times_lock n t (locks c) = ap (λ (b : ℕ). times_lock n t (locks b)) e in let x = k.2 in omega arith))
           (λ (d : (eras n t).writer ≢ c). subst (λ (y : List Lock). 1 ≤ times_lock n t y) (sym (put-other locks c (eras n t).writer ks d)) q.1)
-          (equal (eras n t).writer c)),
+          (cases_eq (eras n t).writer c)),
     ))
     (here_or m n s t)
 
@@ -240,7 +241,7 @@ pub lock_else : (m s n t : ℕ) → (n ≡ m → t ≢ s) → one_if ((m == n) &
 lock_else m s n t ne = ap one_if (⊎_elim
     (λ (e : n ≡ m). ap (λ (z : Bool). (m == n) && z) (ne_eqb s t (λ (q : s ≡ t). ne e (sym q))) ∙ and_false (m == n))
     (λ (d : n ≢ m). ap (λ (z : Bool). z && (s == t)) (ne_eqb m n (λ (q : m ≡ n). d (sym q))))
-    (equal n m))
+    (cases_eq n m))
   where
     and_false : (z : Bool) → z && false ≡ false
     and_false true = refl

@@ -2,7 +2,7 @@
 use Rattle.std.proofs.Common.{◌≡◌, ℕ, ◌≤◌, List, [], ◌∷◌, Option, Some, None, ◌==◌, refl, ap, sym, subst, ◌∙◌, arith, eq-eqb, inl, inr}
 use Rattle.std.specs.Int.{bit_at}
 use Rattle.bpf_shared.specs.declared.shapes.MapShape.{MapShape}
-use Rattle.hop_words.specs.Content.{MapWords, one_if, times, item, HopsTo, LinksThrough, Reached, HasKey, IsShare, Agrees}
+use Rattle.hop_words.specs.Content.{MapWords, one_if, times, item, HopsTo, LinksThrough, Reached, HasKey, IsShare, AgreesInSegment}
 
 pub times_head : (e : ℕ) (es : List ℕ) → 1 ≤ times e (e ∷ es)
 times_head e es = let z : one_if (e == e) ≡ 1 = ap one_if (eq-eqb e e refl) in omega arith
@@ -26,7 +26,7 @@ one_list link n (e ∷ es) (f ∷ fs) p q =
     let t = one_list link (link e) es fs p.1 (subst (λ (k : ℕ). LinksThrough link (link k) fs) (sym h) q.1) in
     λ i. h i ∷ t i
 
-module _ (seed : ℕ) (g : MapShape) (home : List ℕ → ℕ) (x y : MapWords) (m s : ℕ) (f : List ℕ → Option ℕ) (k : Agrees m s (Reached y m s) x y) (p : IsShare seed g home y m s f) where
+module _ (seed : ℕ) (g : MapShape) (home : List ℕ → ℕ) (x y : MapWords) (m s : ℕ) (f : List ℕ → Option ℕ) (k : AgreesInSegment m s (Reached y m s) x y) (p : IsShare seed g home y m s f) where
   hops_back : (b d e : ℕ) → HopsTo x m s b d e → HopsTo y m s b d e
   hops_back b d e h = (h.0, h.1, sym (ap (λ n. bit_at n d) (k.hop b)) ∙ h.2, ap item (sym (k.slot _)) ∙ h.3)
 

@@ -1,6 +1,7 @@
 -- What a shortage says, as steps go on.
 use Rattle.std.proofs.Common.{◌≡◌, ◌≢◌, ℕ, ◌+◌, ◌/◌, ◌%◌, ◌<◌, ◌≤◌, Bool, true, false, ◌&&◌, List, [], ◌∷◌, ◌++◌, ◌==◌, length, refl, ap, sym, subst, ◌∙◌, arith, eq-eqb, ne_eqb, ⊎_elim, inl, inr, ◌⊎◌}
 use Rattle.std.specs.Int.{bit_at}
+use Rattle.std.proofs.lemmas.Bool.{cases_eq}
 use native.Mathlib.Decide.{dec_lt}
 use mathlib.Core.Logic.{dite}
 use Rattle.bpf_shared.specs.declared.events.Entry.{Entry}
@@ -23,11 +24,11 @@ use Rattle.hop_words.specs.declared.known.Fresh.{Fresh}
 use Rattle.hop_words.specs.declared.known.Sight.{Sight}
 use Rattle.hop_words.specs.Content.{one_if}
 use Rattle.hop_words.specs.Ghost.{Holder, Free, Filling, Leaving, Within, is_free, is_filling, Carries, lane, Ghost, shape_at, HasElement}
-use Rattle.hop_words.specs.Shortage.{is_update, updates_of, updates_in, HasHadValue, Moment, MayLack, HasCause, HaveCausesBy}
+use Rattle.hop_words.specs.Shortage.{is_update, updates_of, updates_in, HasHadValue, Moment, EachMayBeTaken, HasCause, HaveCausesBy}
 use Rattle.hop_words.specs.Sights.{LeavesElements, ShowsTaken, IsTakenSince}
 use Rattle.hop_words.specs.Rule.{Rule, Shown, Took, times_fresh, taken_at, begun_in}
 use Rattle.hop_words.specs.Kinds.{SawAllTaken}
-use Rattle.hop_words.proofs.Small.{equal, here_or, put2-same, put2-other}
+use Rattle.hop_words.proofs.Small.{here_or, put2-same, put2-other}
 use Rattle.hop_words.proofs.Histories.{log_own, log_other, turns_own, turns_else}
 
 -- ---- updates that were begun
@@ -61,7 +62,7 @@ begun_event log fresh c e m d = ⊎_elim
     (λ (t : d ≡ c). subst (λ (i : ℕ). begun_in log fresh m i ≤ begun_in (log ++ entry c e ∷ []) fresh m i) (sym t)
     (begun_grows m (updates_in log m c) (updates_in (log ++ entry c e ∷ []) m c) (fresh c) (is_update m e) (updates_own m c e log)))
     (λ (ne : d ≢ c). begun_grows m (updates_in log m d) (updates_in (log ++ entry c e ∷ []) m d) (fresh d) false (let z = updates_other m c d e log ne in omega arith))
-    (equal d c)
+    (cases_eq d c)
 
 -- the hand of one CPU is another
 begun_hand : (log : List Entry) (fresh : ℕ → List Fresh) (c : ℕ) (fs : List Fresh) → ((m : ℕ) → taken_at m (updates_in log m c) (fresh c) ≤ taken_at m (updates_in log m c) fs) → (m d : ℕ) → begun_in log fresh m d ≤ begun_in log (put fresh c fs) m d
@@ -71,7 +72,7 @@ begun_hand log fresh c fs less m d = ⊎_elim
     let q : taken_at m (updates_in log m d) (fresh d) ≤ taken_at m (updates_in log m d) fs = subst (λ (i : ℕ). taken_at m (updates_in log m i) (fresh i) ≤ taken_at m (updates_in log m i) fs) (sym t) (less m) in
     omega arith)
     (λ (ne : d ≢ c). let p : taken_at m (updates_in log m d) (put fresh c fs d) ≡ taken_at m (updates_in log m d) (fresh d) = ap (taken_at m (updates_in log m d)) (put-other fresh c d fs ne) in omega arith)
-    (equal d c)
+    (cases_eq d c)
 
 -- one is taken into an empty hand
 pub begun_take : (log : List Entry) (fresh : ℕ → List Fresh) (c : ℕ) (fs : List Fresh) → fresh c ≡ [] → (m d : ℕ) → begun_in log fresh m d ≤ begun_in log (put fresh c fs) m d
@@ -88,7 +89,7 @@ not_taken_at : (m n : ℕ) (f : Fresh) (rest : List Fresh) → (f.map ≡ m → 
 not_taken_at m n f rest ne = ⊎_elim
     (λ (t : f.map ≡ m). ap one_if (ap (λ (z : Bool). (f.map == m) && z) (ne_eqb f.update n (ne t)) ∙ and_false (f.map == m)))
     (λ (nm : f.map ≢ m). ap one_if (ap (λ (z : Bool). z && (f.update == n)) (ne_eqb f.map m nm)))
-    (equal f.map m)
+    (cases_eq f.map m)
   where
     and_false : (z : Bool) → z && false ≡ false
     and_false true = refl
@@ -104,12 +105,12 @@ begun_give log fresh c f rest is less = begun_hand log fresh c rest (λ m.
 -- the update that took one is answered, and the element is the map's
 pub begun_answer : (log : List Entry) (fresh : ℕ → List Fresh) (c : ℕ) (f : Fresh) (rest : List Fresh) (e : Event) → fresh c ≡ f ∷ rest → is_update f.map e ≡ true → (m d : ℕ) → begun_in log fresh m d ≤ begun_in (log ++ entry c e ∷ []) (put fresh c rest) m d
 begun_answer log fresh c f rest e is updates m d = ⊎_elim
-    (λ (t : d ≡ c). subst (λ (i : ℕ). begun_in log fresh m i ≤ begun_in log' (put fresh c rest) m i) (sym t) (here (equal f.map m)))
+    (λ (t : d ≡ c). subst (λ (i : ℕ). begun_in log fresh m i ≤ begun_in log' (put fresh c rest) m i) (sym t) (here (cases_eq f.map m)))
     (λ (ne : d ≢ c).
     let p : taken_at m (updates_in log' m d) (put fresh c rest d) ≡ taken_at m (updates_in log' m d) (fresh d) = ap (taken_at m (updates_in log' m d)) (put-other fresh c d rest ne) in
     let q = begun_event log fresh c e m d in
     omega arith)
-    (equal d c)
+    (cases_eq d c)
   where
     log' : List Entry
     log' = log ++ entry c e ∷ []
@@ -130,7 +131,7 @@ pub empty_still : (fresh : ℕ → List Fresh) (c : ℕ) (f : Fresh) (rest fs : 
 empty_still fresh c f rest fs is d none = ⊎_elim
     (λ (t : d ≡ c). let z : f ∷ rest ≡ [] = sym is ∙ (ap fresh (sym t) ∙ none) in cc)
     (λ (ne : d ≢ c). put-other fresh c d fs ne ∙ none)
-    (equal d c)
+    (cases_eq d c)
 
 -- ---- who is in a run
 pub run_else : (c d : ℕ) (e : Event) (log : List Entry) → d ≢ c → in_run (events_of d log) ≡ true → in_run (events_of d (log ++ entry c e ∷ [])) ≡ true
@@ -141,7 +142,7 @@ run_quiet c d e log quiet r = ⊎_elim
     (λ (t : d ≡ c). subst (λ (i : ℕ). in_run (events_of i (log ++ entry c e ∷ [])) ≡ true) (sym t)
     (ap (λ (n : ℕ). n % 2 == 1) (turns_own c e log ∙ (let z : turns_of (events_of c log) + turns_of (e ∷ []) ≡ turns_of (events_of c log) = omega arith in z)) ∙ subst (λ (i : ℕ). in_run (events_of i log) ≡ true) t r))
     (λ (ne : d ≢ c). run_else c d e log ne r)
-    (equal d c)
+    (cases_eq d c)
 
 -- ---- causes
 cause_more : (version : ℕ) (made most : ℕ → ℕ → ℕ) (x : Moment) (e : Event) → ((m c : ℕ) → c < x.shape.cpus → made m c ≤ most m c) → HasCause version made x e → HasCause version most x e
@@ -215,7 +216,7 @@ had_write s v at n x p h = (
   ⊎_elim
       (λ (e : h.0 ≡ v). ap (λ (y : Value). y.span) (put-same s.value v h.0 _ e) ∙ (ap (λ (i : ℕ). (s.value i).span) (sym e) ∙ h.2))
       (λ (ne : h.0 ≢ v). ap (λ (y : Value). y.span) (put-other s.value v h.0 _ ne) ∙ h.2)
-      (equal h.0 v),
+      (cases_eq h.0 v),
 )
 
 -- ---- what stays true
@@ -284,7 +285,7 @@ differ : (f : Fresh) (n d : ℕ) → (n ≡ f.map → d ≢ f.element) → one_i
 differ f n d ne = ap one_if (⊎_elim
     (λ (t : n ≡ f.map). ap (λ (z : Bool). (f.map == n) && z) (ne_eqb f.element d (λ (q : f.element ≡ d). ne t (sym q))) ∙ and_false (f.map == n))
     (λ (nd : n ≢ f.map). ap (λ (z : Bool). z && (f.element == d)) (ne_eqb f.map n (λ (q : f.map ≡ n). nd (sym q))))
-    (equal n f.map))
+    (cases_eq n f.map))
 
 -- the first element leaves a hand: any other is there as before
 pub hand_rest : (fresh : ℕ → List Fresh) (c : ℕ) (f : Fresh) (rest : List Fresh) → fresh c ≡ f ∷ rest → (b n d : ℕ) → 1 ≤ times_fresh n d (fresh b) → ((n ≡ f.map) × (d ≡ f.element)) ⊎ (1 ≤ times_fresh n d (put fresh c rest b))
@@ -298,7 +299,7 @@ hand_rest fresh c f rest is b n d has = ⊎_elim
     inr (omega arith))
     (here_or f.map n f.element d))
     (λ (ne : b ≢ c). let u : times_fresh n d (put fresh c rest b) ≡ times_fresh n d (fresh b) = ap (times_fresh n d) (put-other fresh c b rest ne) in inr (omega arith))
-    (equal b c)
+    (cases_eq b c)
 
 pub hand_more : (fresh : ℕ → List Fresh) (c : ℕ) (f : Fresh) (b n d : ℕ) → 1 ≤ times_fresh n d (fresh b) → 1 ≤ times_fresh n d (put fresh c (f ∷ fresh c) b)
 hand_more fresh c f b n d has = ⊎_elim
@@ -307,7 +308,7 @@ hand_more fresh c f b n d has = ⊎_elim
     let u : times_fresh n d (put fresh c (f ∷ fresh c) b) ≡ times_fresh n d (f ∷ fresh c) = ap (times_fresh n d) (put-same fresh c b (f ∷ fresh c) t) in
     omega arith)
     (λ (ne : b ≢ c). let u : times_fresh n d (put fresh c (f ∷ fresh c) b) ≡ times_fresh n d (fresh b) = ap (times_fresh n d) (put-other fresh c b (f ∷ fresh c) ne) in omega arith)
-    (equal b c)
+    (cases_eq b c)
 
 -- ---- a sight more
 -- the element was taken by an update that was begun, of another CPU, or it has had a value
@@ -330,7 +331,7 @@ module _ (a : About) (w : Place → ℕ) (g : Ghost) (r : Rule a w g) where
       go (Filling d) is = ⊎_elim
           (λ (t : d ≡ c). let z = r.owned.fresh_is c m e inside at in let y : one_if (is_filling c (g.holder m e)) ≡ 1 = ap (λ (x : Holder). one_if (is_filling c x)) is ∙ ap one_if (eq-eqb d c t) in inr (omega arith))
           (λ (ne : d ≢ c). let k = held (Filling d) is (λ (q : Filling d ≡ Free). cc) in inl (k.0, inr (λ (q : k.0.cpu ≡ c). ne (sym (k.1 d is) ∙ q))))
-          (equal d c)
+          (cases_eq d c)
       go (Leaving d) is = inl ((held (Leaving d) is (λ (q : Leaving d ≡ Free). cc)).0, inl (carried (subst Carries (sym is) tt)))
       go (Within d) is = inl ((held (Within d) is (λ (q : Within d ≡ Free). cc)).0, inl (carried (subst Carries (sym is) tt)))
 
@@ -351,11 +352,11 @@ module _ (a : About) (w : Place → ℕ) (g : Ghost) (r : Rule a w g) where
         (λ (before : IsTakenSince (g.lanes.tally c) m e). r.shown.taken b m e inside at (subst (λ (i : ℕ). IsTakenSince (g.lanes.tally i) m e) (sym t) before))
         here.1)
         (λ (ne : b ≢ c). r.shown.taken b m e inside at (subst (λ (z : List Sight). IsTakenSince z m e) (put-other g.lanes.tally c b (s ∷ g.lanes.tally c) ne) seen))
-        (equal b c);
+        (cases_eq b c);
   }
 
   -- a lane with no element in hand, which saw each element of the map not free
-  pub lack_cause : (l : Known) (m : ℕ) → lane g.lanes l.cpu ≡ l → l.cpu < a.shape.cpus → m < length a.shape.maps → SawAllTaken a l m → MayLack (record { shape = a.shape; before = g.log; store = g.last; cpu = l.cpu }) (begun_in g.log g.lanes.fresh m) m
+  pub lack_cause : (l : Known) (m : ℕ) → lane g.lanes l.cpu ≡ l → l.cpu < a.shape.cpus → m < length a.shape.maps → SawAllTaken a l m → EachMayBeTaken (record { shape = a.shape; before = g.log; store = g.last; cpu = l.cpu }) (begun_in g.log g.lanes.fresh m) m
   lack_cause l m is inside in_map saw = (
     g.taker m,
     λ e few. ⊎_elim

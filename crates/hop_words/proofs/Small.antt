@@ -1,12 +1,10 @@
 -- Keys, and functions of two numbers.
 use Rattle.std.proofs.Common.{◌≡◌, ◌≢◌, ℕ, Bool, true, false, true≢false, List, [], ◌∷◌, Option, ◌==◌, if◌then◌else◌, refl, ap, sym, ◌∙◌, arith, eq-eqb, ⊎_elim, inl, inr, ◌⊎◌}
 use Rattle.std.proofs.lemmas.Bool.Decides.{nat_tests}
-use mathlib.Core.Logic.{dite}
-use native.Mathlib.Decide.{ℕ_discrete}
+use Rattle.std.proofs.lemmas.Bool.{cases_eq, and_parts}
 use Rattle.bpf_shared.specs.Store.{put}
 use Rattle.bpf_shared.proofs.Puts.{put-same, put-other}
 use Rattle.hop_words.specs.Rule.{key_is, put_key}
-use Rattle.hop_layout.proofs.Layouts.{both}
 
 -- ---- keys
 pub key_same : (p q : List ℕ) → key_is p q ≡ true → p ≡ q
@@ -14,7 +12,7 @@ key_same [] [] e = refl
 key_same [] (y ∷ ys) e = absurd (true≢false (sym e))
 key_same (x ∷ xs) [] e = absurd (true≢false (sym e))
 key_same (x ∷ xs) (y ∷ ys) e =
-    let t = both (x == y) (key_is xs ys) e in
+    let t = and_parts (x == y) (key_is xs ys) e in
     let h : x ≡ y = (let u = t.0 in grind (arith, nat_tests)) in
     let r = key_same xs ys t.1 in
     λ i. h i ∷ r i
@@ -44,15 +42,13 @@ pub put_key-other : (f : List ℕ → Option ℕ) (key q : List ℕ) (o : Option
 put_key-other f key q o ne = ap (λ (b : Bool). if b then o else f q) (key_apart q key ne)
 
 -- ---- functions of two numbers
-pub equal : (i j : ℕ) → (i ≡ j) ⊎ (i ≢ j)
-equal i j = dite (ℕ_discrete i j) (λ e. inl e) (λ ne. inr ne)
 
 -- a pair of numbers is this one, or it isn't
 pub here_or : (m n i j : ℕ) → ((n ≡ m) × (j ≡ i)) ⊎ ((n ≡ m) → j ≢ i)
 here_or m n i j = ⊎_elim
-    (λ (e : n ≡ m). ⊎_elim (λ (f : j ≡ i). inl (e, f)) (λ (ne : j ≢ i). inr (λ _. ne)) (equal j i))
+    (λ (e : n ≡ m). ⊎_elim (λ (f : j ≡ i). inl (e, f)) (λ (ne : j ≢ i). inr (λ _. ne)) (cases_eq j i))
     (λ (ne : n ≢ m). inr (λ e. absurd (ne e)))
-    (equal n m)
+    (cases_eq n m)
 
 pub put2-same : {A : Type 0} (f : ℕ → ℕ → A) (m i n j : ℕ) (x : A) → n ≡ m → j ≡ i → put f m (put (f m) i x) n j ≡ x
 put2-same f m i n j x e d = ap (λ g. g j) (put-same f m n (put (f m) i x) e) ∙ put-same (f m) i j x d
@@ -61,4 +57,4 @@ pub put2-other : {A : Type 0} (f : ℕ → ℕ → A) (m i n j : ℕ) (x : A) �
 put2-other f m i n j x ne = ⊎_elim
     (λ (e : n ≡ m). ap (λ g. g j) (put-same f m n (put (f m) i x) e) ∙ (put-other (f m) i j x (ne e) ∙ ap (λ k. f k j) (sym e)))
     (λ (d : n ≢ m). ap (λ g. g j) (put-other f m n (put (f m) i x) d))
-    (equal n m)
+    (cases_eq n m)

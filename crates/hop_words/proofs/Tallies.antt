@@ -1,6 +1,7 @@
 -- A step of any kind, as the lane notes it.
 use Rattle.std.proofs.Common.{◌≡◌, ◌≢◌, ℕ, ◌+◌, ◌<◌, ◌/◌, ◌%◌, ◌^◌, ◌-◌, ◌==◌, if◌then◌else◌, Bool, true, List, [], ◌∷◌, Option, length, slice_index, bit_and, bit_or, refl, ap, sym, subst, ◌∙◌, eq-eqb, ne_eqb, ⊎_elim, arith}
 use Rattle.std.specs.Int.{bit_at}
+use Rattle.std.proofs.lemmas.Bool.{cases_eq}
 use prog.Atomic.{either}
 use Rattle.bpf_shared.specs.Store.{put}
 use Rattle.bpf_shared.specs.History.{events_of}
@@ -17,8 +18,7 @@ use Rattle.hop_words.specs.Sights.{sight, look, lock_taken, split_made, bit_clea
 use Rattle.hop_words.specs.Private.Step.{Noted, Next, Steps, Notes, NotesTaken}
 use Rattle.hop_words.specs.Kinds.{holding, cleared, noting, peeking, giving_old, Passed, StampSeen, StampSeenAgain, FindsByPeeks, LocksSegment, SaysDepth, KnowsBorn, Splits, unlocking}
 use Rattle.hop_words.specs.Locking.{lock_of, HasLock}
-use Rattle.hop_words.specs.Owning.{IsAnswered, ClaimsBit, GivesFresh, IsInHand, LooksAgain}
-use Rattle.hop_words.proofs.Small.{equal}
+use Rattle.hop_words.specs.Owning.{IsUpdateAnswered, ClaimsBit, GivesFresh, IsInHand, LooksAgain}
 use Rattle.hop_words.proofs.Shortages.{shown_noted}
 use Rattle.hop_words.proofs.Locks.{put_here, lock}
 use Rattle.hop_words.proofs.Stays.{next_as, stay}
@@ -43,6 +43,7 @@ module _ (a : About) (w : Place → ℕ) (g : Ghost) (c : ℕ) (told said : Know
     ghost = noted_ghost;
     rule = record {
       shaped = n.rule.shaped;
+      fixed = n.rule.fixed;
       deep = n.rule.deep;
       logged = n.rule.logged;
       keyed = n.rule.keyed;
@@ -85,7 +86,7 @@ module _ (a : About) (l : Known) (p : Place) (old new : ℕ) (told said : List �
       (noted_next a w g l.cpu (told ws n) (said ws n) (sight p n new) (λ x. took ws n x same) (put_here (mem a.shape ws) p (either (n == old) new n) ∙ ap (λ (b : Bool). either b new n) (eq-eqb n old same)) next))
       (λ (ne : n ≢ old). subst (λ (z : List Sight). Noted a w g l.cpu z (said ws n)) (sym (ap (λ b. if b then sight p n new ∷ [] else []) (ne_eqb n old ne)))
       (next_as a w g l.cpu (told ws n) (said ws n) (λ x. missed ws n x ne) next))
-      (equal n old)
+      (cases_eq n old)
 
 -- ---- the kinds that are noted
 pub looks_at : (a : About) (l : Known) (p : Place) → Notes a l p (λ n. n) (λ ws n l'. l' ≡ sighted l (look p n))
@@ -103,7 +104,7 @@ claims a l m e at_e empty unlocked runs = noted_as a l (FreeBits m (e / 64)) (λ
     Told : ℕ → Known → Type 0
     Told n y = (bit_at n (e % 64) ≡ 1 → y ≡ holding l m e) × (bit_at n (e % 64) ≡ 0 → y ≡ l)
 
-pub gives_fresh : (a : About) (l : Known) (m e : ℕ) → HasElement a m e → IsInHand l m e → IsAnswered l m → Notes a l (FreeBits m (e / 64)) (λ n. bit_or n (2 ^ (e % 64))) (λ ws n l'. GivesFresh l m e n l')
+pub gives_fresh : (a : About) (l : Known) (m e : ℕ) → HasElement a m e → IsInHand l m e → IsUpdateAnswered l m → Notes a l (FreeBits m (e / 64)) (λ n. bit_or n (2 ^ (e % 64))) (λ ws n l'. GivesFresh l m e n l')
 gives_fresh a l m e at_e hand answered = gives a l m e at_e hand answered
 
 pub gives_old : (a : About) (l : Known) (m e : ℕ) (es : List ℕ) → a.count % 2 ≡ 0 → HasElement a m e → m < length l.limbo → Passed a l m e es → Notes a l (FreeBits m (e / 64)) (λ n. bit_or n (2 ^ (e % 64))) (λ ws n l'. l' ≡ sighted (giving_old l m es) (bit_set m e n))

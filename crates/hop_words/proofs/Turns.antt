@@ -1,10 +1,11 @@
 -- Count run: begin and end of a run. See counter.
 use Rattle.std.proofs.Common.{◌≡◌, ◌≢◌, ℕ, zero, suc, ◌+◌, ◌%◌, ◌^◌, ◌<◌, ◌≤◌, Bool, true, false, true≢false, List, [], ◌∷◌, ◌++◌, length, set, slice_index, get_or, get_or-set_other, refl, ap, sym, subst, ◌∙◌, arith, length-set, eq-eqb, ne_eqb, ⊎_elim, inl, inr, ◌⊎◌}
+use Rattle.std.proofs.lemmas.Bool.{cases_eq}
 use native.Mathlib.Decide.{ℕ_discrete}
 use mathlib.Core.Logic.{dite}
 use Rattle.bpf_shared.specs.declared.events.Event.{Event}
 use Rattle.bpf_shared.specs.declared.events.Event.TheVariants.{Begin, End}
-use Rattle.bpf_shared.specs.Store.{Value, Plain, put, never}
+use Rattle.bpf_shared.specs.Store.{Value, Plain, put, never, fixed_number}
 use Rattle.bpf_shared.specs.Events.{Allowed, after_begin, after_end}
 use Rattle.bpf_shared.specs.History.{entry, events_of}
 use Rattle.bpf_shared.proofs.Puts.{put-same, put-other}
@@ -20,8 +21,7 @@ use Rattle.hop_words.specs.Rule.{Rule, begun_in, Runs, Chained, times_limbo}
 use Rattle.bpf_shared.specs.Own.{turns_of, in_run}
 use Rattle.hop_words.specs.Shortage.{HasCause}
 use Rattle.hop_words.specs.Private.Step.{Next, Steps}
-use Rattle.hop_words.specs.Kinds.{run_count, Told, noting_next, ageing, cleared, limbo_set}
-use Rattle.hop_words.proofs.Small.{equal}
+use Rattle.hop_words.specs.Kinds.{run_count, AddsEvent, noting_next, ageing, cleared, limbo_set}
 use Rattle.hop_words.proofs.Shortages.{begun_event, causes_on, run_else, settled, shown_step}
 use Rattle.hop_words.proofs.Histories.{logged_event, runs_as_known, turns_own, turns_else, prefix_refl}
 use Rattle.hop_words.proofs.Goes.{limbo_put}
@@ -37,7 +37,7 @@ module _ (a : About) (l : Known) (w : Place → ℕ) (g : Ghost) (r : Rule a w g
   own_count = r.runs l.cpu inside ∙ ap (λ es. a.count + turns_of es) (sym own)
 
   pub runs_now : g.last.running l.cpu ≡ in_run (events_of l.cpu l.seen)
-  runs_now = runs_as_known a l.cpu g.last g.log l.seen r.logged.legal own
+  runs_now = runs_as_known a l.cpu g.last g.log l.seen r.shaped r.logged.legal own
 
   module _ (e : Event) (once : turns_of (e ∷ []) ≡ 1) (t : Plain) (may : Allowed g.last l.cpu e t) (cause : HasCause a.version (begun_in g.log g.lanes.fresh) (record { shape = a.shape; before = g.log; store = g.last; cpu = l.cpu }) e) (empty : g.lanes.fresh l.cpu ≡ []) (n : ℕ) (up : n ≡ w (RunCount l.cpu) + 1)
       (maps : t.maps ≡ g.last.maps) (made : t.made ≡ g.last.made) (value : t.value ≡ g.last.value) (holds : t.held ≡ put g.last.held l.cpu never) where
@@ -58,18 +58,19 @@ module _ (a : About) (l : Known) (w : Place → ℕ) (g : Ghost) (r : Rule a w g
         (λ (s : d ≡ l.cpu). subst (λ (x : ℕ). counts2 x ≡ a.count + turns_of (events_of x (g.log ++ entry l.cpu e ∷ []))) (sym s)
         (let b = r.runs l.cpu inside in let z = turns_own l.cpu e g.log in counts_here ∙ (up ∙ omega arith)))
         (λ (ne : d ≢ l.cpu). counts_else d ne ∙ (r.runs d h ∙ ap (λ (x : ℕ). a.count + x) (sym (turns_else l.cpu d e g.log ne))))
-        (equal d l.cpu)
+        (cases_eq d l.cpu)
 
     -- who holds a value after the turn held it before, and is another CPU
     still : (d v : ℕ) → t.held d v ≡ true → (d ≢ l.cpu) × (g.last.held d v ≡ true)
     still d v h = ⊎_elim
         (λ (s : d ≡ l.cpu). absurd (true≢false (sym h ∙ (ap (λ (f : ℕ → ℕ → Bool). f d v) holds ∙ ap (λ (f : ℕ → Bool). f v) (put-same g.last.held l.cpu d never s)))))
         (λ (ne : d ≢ l.cpu). (ne, sym (ap (λ (f : ℕ → ℕ → Bool). f d v) holds ∙ ap (λ (f : ℕ → Bool). f v) (put-other g.last.held l.cpu d never ne)) ∙ h))
-        (equal d l.cpu)
+        (cases_eq d l.cpu)
 
     turn_rule : Rule a (put_at w (RunCount l.cpu) n) g2
     turn_rule = record {
       shaped = r.shaped;
+      fixed = λ b k i has. ap (λ f. f (fixed_number b k i)) value ∙ r.fixed b k i has;
       deep = r.deep;
       logged = logged_event a g.lanes.seen g.log g.last t l.cpu e r.logged inside may;
       keyed = rw maps r.keyed;
@@ -96,21 +97,21 @@ module _ (a : About) (l : Known) (w : Place → ℕ) (g : Ghost) (r : Rule a w g
           (causes_on a g.log g.last t g.lanes.fresh g.lanes.fresh l.cpu e (begun_event g.log g.lanes.fresh l.cpu e) r.logged.legal may r.shown.causes cause)
           (λ d p. ⊎_elim (λ (s : d ≡ l.cpu). inl (ap g.lanes.fresh s ∙ empty))
           (λ (ne : d ≢ l.cpu). ⊎_elim (λ (none : g.lanes.fresh d ≡ []). inl none) (λ (run : in_run (events_of d g.log) ≡ true). inr (run_else l.cpu d e g.log ne run)) p)
-          (equal d l.cpu))
+          (cases_eq d l.cpu))
           (λ p h. (h.0, subst (λ (k : ℕ). h.0 < k) (sym made) h.1, ap (λ (f : ℕ → Value). (f h.0).span) value ∙ h.2)) (settled g.holder) (λ c m x inb at_x h. inr h) r.shown;
     }
 
-    pub turn_next : Next a (put_at w (RunCount l.cpu) n) g l.cpu (Told a l e)
+    pub turn_next : Next a (put_at w (RunCount l.cpu) n) g l.cpu (AddsEvent a l e)
     turn_next = record {
       ghost = g2;
       rule = turn_rule;
       others = λ d ne. rw (ne_eqb d l.cpu ne) refl;
       longer = (entry l.cpu e ∷ [], refl);
       tally = refl;
-      says = subst (Told a l e) (sym (rw (eq-eqb l.cpu l.cpu refl) (ap (λ (z : Known). record z { seen = g.log ++ entry l.cpu e ∷ [] }) is))) (record { seen = saw a w g r l is inside e t may turn_rule.logged; after = refl });
+      says = subst (AddsEvent a l e) (sym (rw (eq-eqb l.cpu l.cpu refl) (ap (λ (z : Known). record z { seen = g.log ++ entry l.cpu e ∷ [] }) is))) (record { seen = saw a w g r l is inside e t may turn_rule.logged; after = refl });
     }
 
-pub count_begin : (a : About) (l : Known) → in_run (events_of l.cpu l.seen) ≡ false → run_count a l + 1 < 2 ^ 64 → Steps a l (RunCount l.cpu) (λ n. (n + 1) % 2 ^ 64) (λ ws n l'. Told a l Begin l')
+pub count_begin : (a : About) (l : Known) → in_run (events_of l.cpu l.seen) ≡ false → run_count a l + 1 < 2 ^ 64 → Steps a l (RunCount l.cpu) (λ n. (n + 1) % 2 ^ 64) (λ ws n l'. AddsEvent a l Begin l')
 count_begin a l idle room ws g sized r is inside fits =
     let w = mem a.shape ws in
     let c = own_count a l w g r is inside in
@@ -118,7 +119,7 @@ count_begin a l idle room ws g sized r is inside fits =
     (⊎_elim (λ (none : g.lanes.fresh l.cpu ≡ []). none) (λ (run : in_run (events_of l.cpu g.log) ≡ true). absurd (true≢false (sym run ∙ (ap in_run (sym (own a l w g r is inside)) ∙ idle)))) (r.shown.running l.cpu))
     ((w (RunCount l.cpu) + 1) % 2 ^ 64) (omega arith) refl refl refl refl
 
-pub count_end : (a : About) (l : Known) → l.fresh ≡ [] → in_run (events_of l.cpu l.seen) ≡ true → run_count a l + 1 < 2 ^ 64 → Steps a l (RunCount l.cpu) (λ n. (n + 1) % 2 ^ 64) (λ ws n l'. Told a l End l')
+pub count_end : (a : About) (l : Known) → l.fresh ≡ [] → in_run (events_of l.cpu l.seen) ≡ true → run_count a l + 1 < 2 ^ 64 → Steps a l (RunCount l.cpu) (λ n. (n + 1) % 2 ^ 64) (λ ws n l'. AddsEvent a l End l')
 count_end a l empty running room ws g sized r is inside fits =
     let w = mem a.shape ws in
     let c = own_count a l w g r is inside in
@@ -150,6 +151,7 @@ module _ (a : About) (l : Known) (m : ℕ) (room : m < length l.limbo) (x : Limb
     ghost = g3;
     rule = subst (λ (v : Place → ℕ). Rule a v g3) (sym (put_again w p)) (record {
       shaped = r.shaped;
+      fixed = r.fixed;
       deep = r.deep;
       logged = r.logged;
       keyed = r.keyed;
@@ -255,5 +257,5 @@ see_counter_again a l m d room few ws g sized r is inside fits = dite (ℕ_discr
         (λ e c at_e has lt h. ⊎_elim
         (λ (t : c ≡ d). absurd (ne (ap (λ (k : ℕ). w (RunCount k)) (sym t) ∙ (sym (old_noted e c at_e has (subst (λ (k : ℕ). k < length y.noted) (sym t) few) h) ∙ ap (λ (k : ℕ). slice_index y.noted k) t))))
         (λ (nd : c ≢ d). get_or-set_other y.noted d c 0 0 nd ∙ old_noted e c at_e has (subst (λ (k : ℕ). c < k) (length-set y.noted d 0) lt) h)
-        (equal c d)) in
+        (cases_eq c d)) in
         record { ghost = n.ghost; rule = n.rule; others = n.others; longer = n.longer; tally = n.tally; says = ((λ _. n.says), (λ e. absurd (ne e))) }

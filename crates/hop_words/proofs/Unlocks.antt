@@ -3,17 +3,18 @@ use Rattle.std.proofs.Common.{◌≡◌, ◌≢◌, ℕ, ◌+◌, ◌/◌, ◌<�
 use Rattle.std.proofs.lemmas.Bool.Decides.{nat_tests}
 use Rattle.std.proofs.lemmas.Cmp.{nat_list_cmp_total}
 use Rattle.std.specs.FinMap.{get, insert, len, len-insert}
+use Rattle.std.proofs.lemmas.Bool.{cases_eq}
 use Rattle.bpf_shared.specs.declared.events.Event.{Event}
 use Rattle.bpf_shared.specs.declared.events.Event.TheVariants.{Update, Lookup, Delete}
 use Rattle.bpf_shared.specs.declared.events.Entry.{Entry}
 use Rattle.bpf_shared.specs.declared.events.MapAnswer.TheVariants.{Done, Busy, NoMemory}
 use Rattle.bpf_shared.specs.Shape.{element_span}
-use Rattle.bpf_shared.specs.Store.{Plain, KeyMap, Value, put}
+use Rattle.bpf_shared.specs.Store.{Plain, KeyMap, Value, put, fixed_count}
 use Rattle.bpf_shared.specs.Events.{Allowed, after_update}
 use Rattle.bpf_shared.specs.History.{entry, events_of}
 use Rattle.bpf_shared.proofs.Puts.{put-same, put-other, insert_cases}
 use Rattle.hop_layout.specs.declared.place.Place.{Place}
-use Rattle.hop_layout.specs.declared.place.Place.TheVariants.{RunCount, KeyCount, FreeBits, Stamp, ValueWord}
+use Rattle.hop_layout.specs.declared.place.Place.TheVariants.{RunCount, KeyCount, FreeBits, Stamp, ValueWord, FixedWord}
 use Rattle.hop_layout.specs.declared.about.About.{About}
 use Rattle.hop_words.specs.declared.known.Known.{Known}
 use Rattle.hop_words.specs.declared.known.Fresh.{Fresh}
@@ -22,14 +23,14 @@ use Rattle.hop_words.specs.declared.known.Lock.{Lock}
 use Rattle.hop_words.specs.declared.known.Change.TheVariants.{Puts}
 use Rattle.hop_layout.specs.Layout.{mem, put_at, words_for, depth, first_depth, gained}
 use Rattle.hop_layout.specs.Words.{bytes_of_words}
-use Rattle.hop_words.specs.Content.{place_words}
+use Rattle.hop_words.specs.Content.{words_by_place}
 use Rattle.hop_words.specs.Ghost.{Holder, Free, Filling, Leaving, Within, lane, Era, Ghost, shape_at, HasElement, limbo_at, lock_home}
 use Rattle.hop_words.specs.Shortage.{done_in, is_update, HasHadValue, HasCause}
 use Rattle.hop_words.specs.Rule.{Rule, times_fresh, begun_in, Minded, put_key, changed, owed, Holds, numbered, Keyed, Owned, Linked}
 use Rattle.bpf_shared.specs.Own.{turns_of, in_run}
 use Rattle.hop_words.specs.Private.Step.{Next, Steps}
-use Rattle.hop_words.specs.Kinds.{AreElsewhere, AnswersAll, AnsweredAll, Replaces, Replaced, Answers, Answered, ShowsShortage, IsWritten, unlocking, with_gone, LooksUpLocked, LookedUp, found_span}
-use Rattle.hop_words.proofs.Small.{equal_keys, equal, here_or, put2-same, put2-other, put_key-same, put_key-other}
+use Rattle.hop_words.specs.Kinds.{AreElsewhere, AnswersAll, AnsweredAll, Replaces, Replaced, AnswersUnderLock, Answered, ShowsShortage, IsWritten, unlocking, with_gone, LooksUpLocked, LookedUp, found_span}
+use Rattle.hop_words.proofs.Small.{equal_keys, here_or, put2-same, put2-other, put_key-same, put_key-other}
 use Rattle.hop_words.proofs.Spelling.{value_spelled}
 use Rattle.hop_words.proofs.Histories.{logged_event, prefix_refl, done_in-append}
 use Rattle.hop_words.proofs.Shortages.{begun_answer, causes_on, empty_still, run_quiet, had_update, new_update, settles_put, shown_step, shown_more, hand_held, hand_rest, lack_cause}
@@ -43,6 +44,7 @@ use Rattle.hop_words.proofs.Readings.{looking, looked_rule, may_look}
 use Rattle.hop_words.proofs.Stays.{saw, running_is, map_there, quiet_after, runs_quiet, place_for, shape_is, worn_more}
 use Rattle.hop_words.specs.Depths.{IsBorn, home_by}
 use Rattle.hop_words.proofs.Segs.{one_home}
+use Rattle.hop_words.proofs.FixedPlaces.{fixed_later, sound}
 
 -- ---- how far splits took a segment's version
 gains : (a : About) (w : Place → ℕ) (g : Ghost) (r : Rule a w g) (m s : ℕ) → IsBorn a g.depths m s → g.depths m s ≤ gained (shape_at a m) + first_depth (shape_at a m)
@@ -87,6 +89,7 @@ noted_event g c e = record g { log = g.log ++ entry c e ∷ []; lanes = record g
 pub event_rule : (a : About) (w : Place → ℕ) (g : Ghost) (r : Rule a w g) (l : Known) (inside : l.cpu < a.shape.cpus) (e : Event) → turns_of (e ∷ []) ≡ 0 → HasCause a.version (begun_in g.log g.lanes.fresh) (record { shape = a.shape; before = g.log; store = g.last; cpu = l.cpu }) e → Allowed g.last l.cpu e g.last → Rule a w (noted_event g l.cpu e)
 event_rule a w g r l inside e quiet cause may = record {
   shaped = r.shaped;
+  fixed = r.fixed;
   deep = r.deep;
   logged = logged_event a g.lanes.seen g.log g.last g.last l.cpu e r.logged inside may;
   keyed = r.keyed;
@@ -112,7 +115,7 @@ shortage_cause a w g r l k is inside in_map paid (Update m key bytes flags NoMem
 shortage_cause a w g r l k is inside in_map paid (Delete m key Busy) s = let d : gained (shape_at a m) + done_in m g.log ≡ gained (shape_at a k.map) + done_in k.map g.log = ap (λ (j : ℕ). gained (shape_at a j) + done_in j g.log) s.0 in let t = s.1 in omega arith
 shortage_cause a w g r l k is inside in_map paid e s = tt
 
-pub unlock_answer : (a : About) (l : Known) (k : Lock) (e : Event) → Answers a l k e → Steps a l (Stamp k.map k.segment) (λ _. k.stamp) (λ ws n l'. Answered a l k e l')
+pub unlock_answer : (a : About) (l : Known) (k : Lock) (e : Event) → AnswersUnderLock a l k e → Steps a l (Stamp k.map k.segment) (λ _. k.stamp) (λ ws n l'. Answered a l k e l')
 unlock_answer a l k e i ws g sized r is inside fits = record {
   ghost = unlocked a l2 k i.lock w g1 r1 is1 inside tt u.0 k.stamp;
   rule = u.1;
@@ -125,7 +128,7 @@ unlock_answer a l k e i ws g sized r is inside fits = record {
     w : Place → ℕ
     w = mem a.shape ws
 
-    h : Holds a g.depths (place_words w) (λ n t. w (Stamp n t)) g.eras g.linked g.holder l.cpu k
+    h : Holds a g.depths (words_by_place w) (λ n t. w (Stamp n t)) g.eras g.linked g.holder l.cpu k
     h = holds a l k i.lock w g r is
 
     may : Allowed g.last l.cpu e g.last
@@ -178,11 +181,11 @@ module _ (a : About) (l : Known) (k : Lock) (rest : List Lock) (e : Event) (i : 
   several_words = mem a.shape ws
 
   abbrev HoldsHere : Lock → Type 0
-  HoldsHere = Holds a g.depths (place_words (mem a.shape ws)) (λ n t. mem a.shape ws (Stamp n t)) g.eras g.linked g.holder l.cpu
+  HoldsHere = Holds a g.depths (words_by_place (mem a.shape ws)) (λ n t. mem a.shape ws (Stamp n t)) g.eras g.linked g.holder l.cpu
 
   several_may : Allowed g.last l.cpu e g.last
   several_may = i.allowed g.last g.linked g.number (shape_is a (mem a.shape ws) g r l is inside) inside
-      (shares_of a g.depths l.cpu (place_words (mem a.shape ws)) (λ n t. mem a.shape ws (Stamp n t)) g.eras g.linked g.holder (k ∷ rest) (holds a l k i.lock (mem a.shape ws) g r is, rest_holds a l k i.lock (mem a.shape ws) g r is) i.clean) r.keyed.leads
+      (shares_of a g.depths l.cpu (words_by_place (mem a.shape ws)) (λ n t. mem a.shape ws (Stamp n t)) g.eras g.linked g.holder (k ∷ rest) (holds a l k i.lock (mem a.shape ws) g r is, rest_holds a l k i.lock (mem a.shape ws) g r is) i.clean) r.keyed.leads
 
   abbrev several_log : List Entry
   several_log = g.log ++ entry l.cpu e ∷ []
@@ -228,7 +231,7 @@ unlock_lookup a l k key o i ws g sized r is inside fits = record {
     w : Place → ℕ
     w = mem a.shape ws
 
-    h : Holds a g.depths (place_words w) (λ n t. w (Stamp n t)) g.eras g.linked g.holder l.cpu k
+    h : Holds a g.depths (words_by_place w) (λ n t. w (Stamp n t)) g.eras g.linked g.holder l.cpu k
     h = holds a l k i.lock w g r is
 
     event : Event
@@ -273,7 +276,7 @@ module _ (a : About) (l : Known) (k : Lock) (f : Fresh) (rest : List Fresh) (key
   abbrev e : ℕ
   e = f.element
 
-  h : Holds a g.depths (place_words w) (λ n t. w (Stamp n t)) g.eras g.linked g.holder l.cpu k
+  h : Holds a g.depths (words_by_place w) (λ n t. w (Stamp n t)) g.eras g.linked g.holder l.cpu k
   h = holds a l k i.filled.lock w g r is
 
   there : g.linked m key ≡ Some o
@@ -357,7 +360,7 @@ module _ (a : About) (l : Known) (k : Lock) (f : Fresh) (rest : List Fresh) (key
     counted = λ n lt. ⊎_elim
         (λ (t : n ≡ m). r.keyed.counted n lt ∙ (ap (λ j. len (g.last.maps j)) t ∙ (sym as_many ∙ ap (λ (y : KeyMap). len y) (sym (put-same g.last.maps m n (insert (g.last.maps m) key g.last.made) t)))))
         (λ (ne : n ≢ m). r.keyed.counted n lt ∙ ap (λ (y : KeyMap). len y) (sym (put-other g.last.maps m n (insert (g.last.maps m) key g.last.made) ne)))
-        (equal n m);
+        (cases_eq n m);
     leads = λ n q. ⊎_elim
         (λ (t : n ≡ m). ap (λ (y : KeyMap). get y q) (put-same g.last.maps m n (insert (g.last.maps m) key g.last.made) t) ∙ ⊎_elim
         (λ (u : q ≡ key). ap (get (insert (g.last.maps m) key g.last.made)) u ∙ (leads_new (g.last.maps m) key g.last.made ∙ (ap Some (sym (put2-same g.number m e n e g.last.made t refl)) ∙ ap (numbered (number2 n)) (sym (linked_new n q t u)))))
@@ -367,7 +370,7 @@ module _ (a : About) (l : Known) (k : Lock) (f : Fresh) (rest : List Fresh) (key
         (insert_cases (g.last.maps m) key g.last.made q) ∙ (ap (λ j. get (g.last.maps j) q) (sym t) ∙ old_leads n q (λ _. u)))
         (equal_keys q key))
         (λ (ne : n ≢ m). ap (λ (y : KeyMap). get y q) (put-other g.last.maps m n (insert (g.last.maps m) key g.last.made) ne) ∙ old_leads n q (λ t. absurd (ne t)))
-        (equal n m);
+        (cases_eq n m);
   }
     where
       as_many : len (insert (g.last.maps m) key g.last.made) ≡ len (g.last.maps m)
@@ -403,8 +406,8 @@ module _ (a : About) (l : Known) (k : Lock) (f : Fresh) (rest : List Fresh) (key
         (λ (nu : d ≢ e). ⊎_elim
         (λ (u : d ≡ o). subst (Minded (lock_home a k) l.cpu s) (sym (ap (g.holder m) u ∙ was_o)) i.filled.home)
         (λ (no : d ≢ o). subst (Minded (lock_home a k) l.cpu s) (put2-other g.holder m o m d (Leaving l.cpu) (λ _. no)) (subst (Minded (lock_home a k) l.cpu s) (put2-other holder1 m e m d (Within key) (λ _. nu)) mind))
-        (equal d o))
-        (equal d e);
+        (cases_eq d o))
+        (cases_eq d e);
     due = λ before same q home. ⊎_elim
         (λ (u : q ≡ key). linked_new m q refl u ∙ sym (put_key-same before key q (Some e) u))
         (λ (u : q ≢ key). linked_old m q (λ _. u) ∙ (same q home ∙ sym (put_key-other before key q (Some e) u)))
@@ -473,6 +476,7 @@ module _ (a : About) (l : Known) (k : Lock) (f : Fresh) (rest : List Fresh) (key
     locking = effect_locking a l k i.filled.lock w g r is i.filled.nothing (Puts key e) linked2 holder2 effect;
     reading = effect_reading a l k i.filled.lock w g r is i.filled.nothing (Puts key e) linked2 holder2 effect;
     held = effect_held a l k i.filled.lock w g r is i.filled.nothing (Puts key e) linked2 holder2 effect inside;
+    fixed = fixed_later a r.shaped (λ b k. w (FixedWord b k)) g.last.value g.last.made x (subst (λ h. fixed_count h ≤ g.last.made) (shape_is a w g r l is inside) (sound a w g r).fixed.made) r.fixed;
     valued = valued_comes a l.cpu m e s key holder1 was1 _ g.last.made g.last.value g.last.held g.number x
         (valued_goes a l.cpu m o s key g.holder was_o _ g.last.made g.last.value g.last.held g.number r.valued) spelled_is;
     shown = shown_step a g.log log' g.last last' g.lanes.fresh (put g.lanes.fresh l.cpu rest) g.lanes.tally g.holder holder2 g.taker (begun_answer g.log g.lanes.fresh l.cpu f rest event hand updates)

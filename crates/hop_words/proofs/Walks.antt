@@ -10,7 +10,7 @@ use Rattle.hop_layout.specs.Layout.{depth, first_depth}
 use Rattle.hop_words.specs.declared.known.Known.{Known}
 use Rattle.hop_words.specs.Ghost.{shape_at}
 use Rattle.hop_words.specs.Kinds.{KnowsBorn, First, Whole}
-use Rattle.hop_words.specs.Walking.{IsOnWay, IsNext}
+use Rattle.hop_words.specs.Walking.{IsOnWay, IsNextSegment}
 use Rattle.std.proofs.Math.Nat.{div-le_self}
 use Rattle.hop_layout.proofs.Depths.{power_is, low_power}
 use Rattle.hop_layout.proofs.Births.{mod_low, mod_small, power_mono}
@@ -88,7 +88,7 @@ stays_whole home level depth segment low room none =
     ap (λ (i : ℕ). i % power depth) e ∙ mod_small segment (power depth) room
 
 pub goes_on : (home : ℕ) (way next : Way) (depth : ℕ) → IsOnWay home way → 0 < home / 2 ^ way.level → home / 2 ^ way.level < 2 ^ 32 → way.level + trailing_zeros w32 (home / 2 ^ way.level) < depth
-    → next.level ≡ way.level + trailing_zeros w32 (home / 2 ^ way.level) + 1 → next.segment ≡ way.segment + 2 ^ (way.level + trailing_zeros w32 (home / 2 ^ way.level)) → IsOnWay home next × IsNext way depth next
+    → next.level ≡ way.level + trailing_zeros w32 (home / 2 ^ way.level) + 1 → next.segment ≡ way.segment + 2 ^ (way.level + trailing_zeros w32 (home / 2 ^ way.level)) → IsOnWay home next × IsNextSegment way depth next
 goes_on home way next depth on some fits less lev seg = ((small, here), (u, lev, less, omega arith, below, seg ∙ ap (λ (i : ℕ). way.segment + i) (sym (power_is u))))
   where
     u : ℕ

@@ -2,15 +2,15 @@
 use Rattle.std.proofs.Common.{◌≡◌, ◌≢◌, ℕ, ◌<◌, ◌≤◌, true, true≢false, List, [], ◌∷◌, ◌==◌, length-set, slice_set, refl, ap, sym, subst, ◌∙◌, arith, eq-eqb, ne_eqb, ⊎_elim, inl, inr, ◌⊎◌, ◌+◌, ◌/◌}
 use Rattle.bpf_shared.specs.Store.{put}
 use Rattle.hop_layout.specs.declared.place.Place.{Place}
-use Rattle.hop_layout.specs.declared.place.Place.TheVariants.{RunCount, KeyCount, FreeBits, Stamp, Head, Hop, Slot, Link, KeyWord, ValueWord}
+use Rattle.hop_layout.specs.declared.place.Place.TheVariants.{RunCount, KeyCount, FreeBits, Stamp, Head, Hop, Slot, Link, KeyWord, ValueWord, FixedWord}
 use Rattle.hop_layout.specs.declared.about.About.{About}
 use Rattle.hop_words.specs.declared.known.Known.{Known}
 use Rattle.hop_words.specs.declared.known.Fresh.{Fresh}
 use Rattle.hop_words.specs.declared.known.Lock.{Lock}
 use Rattle.hop_layout.specs.Layout.{mem, at, is_place, put_at, power}
-use Rattle.hop_words.specs.Content.{place_words, one_if, times, Agrees, AgreesFront}
+use Rattle.hop_words.specs.Content.{words_by_place, one_if, times, AgreesInSegment, AgreesFront}
 use Rattle.hop_words.specs.Ghost.{Filling, Leaving, Within, lane, Era, Ghost, HasElement, limbo_at, lock_home}
-use Rattle.hop_words.specs.Rule.{Rule, Segment, Minded, Holds, image, Runs, Keyed, Batched, Chained, times_limbo, Owned, Filled, Valued, times_lock}
+use Rattle.hop_words.specs.Rule.{Rule, Segment, Minded, Holds, image, Runs, Keyed, Batched, Chained, times_limbo, Owned, Filled, Valued, ShowsFixed, times_lock}
 use Rattle.hop_words.specs.Private.Step.{Next, Steps}
 use Rattle.hop_words.specs.Kinds.{writing, MayLink}
 use Rattle.hop_layout.proofs.Layouts.{wrote}
@@ -43,12 +43,16 @@ key_words w = λ m e k. w (KeyWord m e k)
 abbrev pub value_words : (Place → ℕ) → ℕ → ℕ → ℕ → ℕ
 value_words w = λ m e k. w (ValueWord m e k)
 
+abbrev pub fixed_words : (Place → ℕ) → ℕ → ℕ → ℕ
+fixed_words w = λ b k. w (FixedWord b k)
+
 pub record Alone (w w' : Place → ℕ) : Type 0 where
   pub key_counts_same : key_counts w' ≡ key_counts w
   pub run_counts_same : run_counts w' ≡ run_counts w
   pub free_same : free_bits w' ≡ free_bits w
   pub keys_same : key_words w' ≡ key_words w
   pub values_same : value_words w' ≡ value_words w
+  pub fixed_same : fixed_words w' ≡ fixed_words w
 
 module _ (a : About) (l : Known) (k : Lock) (held : l.locks ≡ k ∷ []) (p : Place) (there : is_place a.shape p ≡ true) (n : ℕ) (ws : List ℕ) (g : Ghost) (r : Rule a (mem a.shape ws) g) (is : lane g.lanes l.cpu ≡ l) where
   abbrev pub w : Place → ℕ
@@ -66,16 +70,16 @@ module _ (a : About) (l : Known) (k : Lock) (held : l.locks ≡ k ∷ []) (p : P
   abbrev pub g' : Ghost
   g' = record g { lanes = record g.lanes { locks = put g.lanes.locks l.cpu (k' ∷ []) }; eras = put g.eras k.map (put (g.eras k.map) k.segment era') }
 
-  h : Holds a g.depths (place_words w) (stamps w) g.eras g.linked g.holder l.cpu k
+  h : Holds a g.depths (words_by_place w) (stamps w) g.eras g.linked g.holder l.cpu k
   h = holds a l k held w g r is
 
   now_era : g'.eras k.map k.segment ≡ era'
   now_era = put2-same g.eras k.map k.segment k.map k.segment era' refl refl
 
-  copy_is : image a (slice_set k.copy (at a.shape p) n) ≡ place_words (put_at (mem a.shape k.copy) p n)
-  copy_is = ap place_words (wrote a.shape k.copy p n h.sized there)
+  copy_is : image a (slice_set k.copy (at a.shape p) n) ≡ words_by_place (put_at (mem a.shape k.copy) p n)
+  copy_is = ap words_by_place (wrote a.shape k.copy p n h.sized there)
 
-  own_lock : stamps w' k.map k.segment ≡ stamps w k.map k.segment → Holds a g.depths (place_words w') (stamps w') g'.eras g.linked g.holder l.cpu k'
+  own_lock : stamps w' k.map k.segment ≡ stamps w k.map k.segment → Holds a g.depths (words_by_place w') (stamps w') g'.eras g.linked g.holder l.cpu k'
   own_lock same = record {
     inside = h.inside;
     deep = h.deep;
@@ -86,14 +90,14 @@ module _ (a : About) (l : Known) (k : Lock) (held : l.locks ≡ k ∷ []) (p : P
     credit = ap (λ (y : Era). y.credit) now_era ∙ h.credit;
     untouched = λ d. absurd (true≢false d);
     sized = length-set k.copy (at a.shape p) n ∙ h.sized;
-    copied = subst (Agrees k.map k.segment (λ e. Minded (lock_home a k) l.cpu k.segment (g.holder k.map e)) (place_words w')) (sym copy_is) (record {
+    copied = subst (AgreesInSegment k.map k.segment (λ e. Minded (lock_home a k) l.cpu k.segment (g.holder k.map e)) (words_by_place w')) (sym copy_is) (record {
       head = put_alike w (mem a.shape k.copy) p (Head k.map k.segment) n h.copied.head;
       hop = λ b. put_alike w (mem a.shape k.copy) p (Hop k.map k.segment b) n (h.copied.hop b);
       slot = λ b. put_alike w (mem a.shape k.copy) p (Slot k.map k.segment b) n (h.copied.slot b);
       link = λ e on. put_alike w (mem a.shape k.copy) p (Link k.map e) n (h.copied.link e on);
       key = λ e j on. put_alike w (mem a.shape k.copy) p (KeyWord k.map e j) n (h.copied.key e j on);
     });
-    beside = subst (AgreesFront k.map (child k) (place_words w')) (sym copy_is) (record {
+    beside = subst (AgreesFront k.map (child k) (words_by_place w')) (sym copy_is) (record {
       head = put_alike w (mem a.shape k.copy) p (Head k.map (child k)) n h.beside.head;
       hop = λ b. put_alike w (mem a.shape k.copy) p (Hop k.map (child k) b) n (h.beside.hop b);
       slot = λ b. put_alike w (mem a.shape k.copy) p (Slot k.map (child k) b) n (h.beside.slot b);
@@ -103,7 +107,7 @@ module _ (a : About) (l : Known) (k : Lock) (held : l.locks ≡ k ∷ []) (p : P
   }
 
   -- after a write of a word that nobody else minds
-  pub write_next : Alone w w' → stamps w' k.map k.segment ≡ stamps w k.map k.segment → Elsewhere a g.depths k.map k.segment l.cpu (place_words w) (place_words w') (stamps w) (stamps w') g.eras g'.eras g.linked g.linked g.holder g.holder
+  pub write_next : Alone w w' → stamps w' k.map k.segment ≡ stamps w k.map k.segment → Elsewhere a g.depths k.map k.segment l.cpu (words_by_place w) (words_by_place w') (stamps w) (stamps w') g.eras g'.eras g.linked g.linked g.holder g.holder
       → Batched a (λ m e. w' (Link m e)) (run_counts w) g.lanes.limbo g.last.held g.number → l.cpu < a.shape.cpus → Next a w' g l.cpu (λ l'. l' ≡ writing a l k p n)
   write_next same own_stamp apart links inside = record {
     ghost = g';
@@ -121,14 +125,14 @@ module _ (a : About) (l : Known) (k : Lock) (held : l.locks ≡ k ∷ []) (p : P
       owned = subst (λ x. Owned a x g.lanes.fresh g.lanes.limbo g.holder) (sym same.free_same) r.owned;
       linked = r.linked;
       filled = subst (λ x. Filled a x (value_words w') g.lanes.fresh) (sym same.keys_same) (subst (λ x. Filled a (key_words w) x g.lanes.fresh) (sym same.values_same) r.filled);
-      segments = segments_step a g.depths k.map k.segment l.cpu (place_words w) (place_words w') (stamps w) (stamps w') g.eras g'.eras g.linked g.linked g.holder g.holder apart r.deep.sound h.inside r.segments r.linked
-          (subst (λ (i : ℕ). Segment a g.depths (place_words w') i (g'.eras k.map k.segment) k.map k.segment (g.linked k.map)) (sym own_stamp) (subst (λ (y : Era). Segment a g.depths (place_words w') (w (Stamp k.map k.segment)) y k.map k.segment (g.linked k.map)) (sym now_era) (record {
+      segments = segments_step a g.depths k.map k.segment l.cpu (words_by_place w) (words_by_place w') (stamps w) (stamps w') g.eras g'.eras g.linked g.linked g.holder g.holder apart r.deep.sound h.inside r.segments r.linked
+          (subst (λ (i : ℕ). Segment a g.depths (words_by_place w') i (g'.eras k.map k.segment) k.map k.segment (g.linked k.map)) (sym own_stamp) (subst (λ (y : Era). Segment a g.depths (words_by_place w') (w (Stamp k.map k.segment)) y k.map k.segment (g.linked k.map)) (sym now_era) (record {
             at_rest = λ even. absurd (let o = is_odd a l k held w g r is in omega arith);
             clean = λ d. absurd (true≢false d);
             written = λ d. refl;
             shows = λ d. absurd (true≢false d);
           })));
-      locking = locking_step a g.depths k.map k.segment l.cpu (place_words w) (place_words w') (stamps w) (stamps w') g.eras g'.eras g.linked g.linked g.holder g.holder apart r.deep.sound h.inside g.lanes.locks (k' ∷ []) r.locking (alone a l k held w g r is) (own_lock own_stamp, tt);
+      locking = locking_step a g.depths k.map k.segment l.cpu (words_by_place w) (words_by_place w') (stamps w) (stamps w') g.eras g'.eras g.linked g.linked g.holder g.holder apart r.deep.sound h.inside g.lanes.locks (k' ∷ []) r.locking (alone a l k held w g r is) (own_lock own_stamp, tt);
       held = held_step a g.depths k.map k.segment l.cpu (stamps w) (stamps w') g.eras g'.eras g.lanes.locks (k' ∷ []) inside r.held (λ odd. (ap (λ (y : Era). y.writer) now_era, (let z = lock_once k' in omega arith)))
           (λ n t b ne. (apart.stamps n t (off_born a g.depths k.map k.segment n t r.deep.sound h.inside b ne), put2-other g.eras k.map k.segment n t era' ne, ap (times_lock n t) (sym (ap (λ (z : Known). z.locks) is ∙ held))));
       reading = readings_step a g.depths k.map k.segment g.eras g'.eras g.lanes.readings (record {
@@ -136,6 +140,7 @@ module _ (a : About) (l : Known) (k : Lock) (held : l.locks ≡ k ∷ []) (p : P
         up = subst (λ (y : Era). (g.eras k.map k.segment).era ≤ y.era) (sym now_era) (low a l k held w g r is);
         stays = λ i even le eq. absurd (let o = is_odd a l k held w g r is in let z = eq ∙ ap (λ (y : Era). y.era) now_era in omega arith);
       }) r.reading;
+      fixed = subst (λ x. ShowsFixed a x g.last.value) (sym same.fixed_same) r.fixed;
       valued = subst (λ x. Valued a x g.last.made g.last.value g.last.held g.holder g.number) (sym same.values_same) r.valued;
       shown = r.shown;
     };
@@ -168,6 +173,7 @@ write_own a l k p n own held there ws g sized r is inside fits = write_next a l 
       free_same = λ j m i. same (FreeBits m i) (λ o. o) j;
       keys_same = λ j m e i. same (KeyWord m e i) (λ o. o) j;
       values_same = λ j m e i. same (ValueWord m e i) (λ o. o) j;
+      fixed_same = λ j b i. same (FixedWord b i) (λ o. o) j;
     })
     (same (Stamp k.map k.segment) (λ o. let z = o.1 in let y = some_power (stamp_depth k.stamp) in omega arith))
     (record {
@@ -219,7 +225,7 @@ chained_same link link' (e ∷ es) same p = (same e (times_one e es) ∙ p.0, ch
 
 pub write_link : (a : About) (l : Known) (k : Lock) (e n : ℕ) → l.locks ≡ k ∷ [] → is_place a.shape (Link k.map e) ≡ true → MayLink a l k e → Steps a l (Link k.map e) (λ _. n) (λ ws found l'. l' ≡ writing a l k (Link k.map e) n)
 write_link a l k e n held there may ws g sized r is inside fits = write_next a l k held (Link k.map e) there n ws g r is
-    (record { key_counts_same = refl; run_counts_same = refl; free_same = refl; keys_same = refl; values_same = refl })
+    (record { key_counts_same = refl; run_counts_same = refl; free_same = refl; keys_same = refl; values_same = refl; fixed_same = refl })
     refl
     (record {
       stamps = λ m s off. refl;
@@ -252,7 +258,7 @@ write_link a l k e n held there may ws g sized r is inside fits = write_next a l
     at_e : HasElement a k.map e
     at_e = ((holds a l k held w g r is).inside.0, may.0)
 
-    h : Holds a g.depths (place_words w) (stamps w) g.eras g.linked g.holder l.cpu k
+    h : Holds a g.depths (words_by_place w) (stamps w) g.eras g.linked g.holder l.cpu k
     h = holds a l k held w g r is
 
     Mine : Type 0

@@ -17,8 +17,8 @@ pub record MapWords : Type 0 where
   pub link : ℕ → ℕ → ℕ
   pub key : ℕ → ℕ → ℕ → ℕ
 
-abbrev pub place_words : (Place → ℕ) → MapWords
-place_words w = record {
+abbrev pub words_by_place : (Place → ℕ) → MapWords
+words_by_place w = record {
   head = λ m s. w (Head m s);
   hop = λ m s b. w (Hop m s b);
   slot = λ m s b. w (Slot m s b);
@@ -94,7 +94,7 @@ pub record AgreesFront (m s : ℕ) (x y : MapWords) : Type 0 where
   pub slot : (b : ℕ) → x.slot m s b ≡ y.slot m s b
 
 -- the same words in a segment, and in the elements that are meant
-pub record Agrees (m s : ℕ) (on : ℕ → Type 0) (x y : MapWords) : Type 0 where
+pub record AgreesInSegment (m s : ℕ) (on : ℕ → Type 0) (x y : MapWords) : Type 0 where
   pub head : x.head m s ≡ y.head m s
   pub hop : (b : ℕ) → x.hop m s b ≡ y.hop m s b
   pub slot : (b : ℕ) → x.slot m s b ≡ y.slot m s b

@@ -5,7 +5,7 @@ use Rattle.bpf_shared.specs.declared.events.Event.{Event}
 use Rattle.bpf_shared.specs.declared.events.Event.TheVariants.{Begin, End, Lookup, Update, Delete}
 use Rattle.bpf_shared.specs.declared.events.MapAnswer.TheVariants.{Done, Busy, NoMemory}
 use Rattle.bpf_shared.specs.declared.events.Span.{Span}
-use Rattle.bpf_shared.specs.Shape.{elements, element_span}
+use Rattle.bpf_shared.specs.Shape.{elements, element_span, first_value, map_area, IsWithin}
 use Rattle.std.specs.FinMap.{get}
 use Rattle.std.specs.List.{AllByRecursion}
 use Rattle.bpf_shared.specs.KeyOrder.{AreDistinct}
@@ -27,7 +27,7 @@ use Rattle.hop_layout.specs.Layout.{words_for, at, size, mem, power, depth, gain
 use Rattle.hop_words.specs.Sights.{IsTakenSince, look, lock_taken, sighted}
 use Rattle.hop_layout.specs.Words.{word_of, AreBytes}
 use Rattle.hop_words.specs.Content.{MapWords, IsShare}
-use Rattle.hop_words.specs.Ghost.{lock_home, IsHomeIn, child, shape_at, HasElement, Each, limbo_at}
+use Rattle.hop_words.specs.Ghost.{lock_home, IsHomeIn, child, shape_at, HasElement, array_at, Each, limbo_at}
 use Rattle.hop_words.specs.Shortage.{done_in, updates_of, Moment, HasCause}
 use Rattle.hop_words.specs.Rule.{image, IsPeek, StartsWith, changed, numbered}
 use Rattle.bpf_shared.specs.Own.{turns_of, in_run}
@@ -147,8 +147,8 @@ reading_home a r = home_by a r.map (stamp_depth r.stamp)
 
 -- what was peeked shows where the key leads: so it does in every segment of which all this was
 -- peeked
-abbrev pub ShowsKey : About → Reading → List ℕ → Option ℕ → Type 0
-ShowsKey a r key o = (x : MapWords) (f : List ℕ → Option ℕ)
+abbrev pub ShowsLinkOf : About → Reading → List ℕ → Option ℕ → Type 0
+ShowsLinkOf a r key o = (x : MapWords) (f : List ℕ → Option ℕ)
     → IsShare a.seed (shape_at a r.map) (reading_home a r) x r.map r.segment f
     → AreWithin a r.map f → AllPeeks x r → f key ≡ o
 
@@ -162,7 +162,7 @@ pub record FindsByPeeks (a : About) (l : Known) (r : Reading) (key : List ℕ) (
   pub reading : l.readings ≡ r ∷ []
   pub key_size : length key ≡ (shape_at a r.map).key
   pub home : reading_home a r key ≡ r.segment
-  pub shown : ShowsKey a r key o
+  pub shown : ShowsLinkOf a r key o
   pub runs : in_run (events_of l.cpu l.seen) ≡ true
 
 pub record Found (a : About) (l : Known) (r : Reading) (key : List ℕ) (o : Option ℕ) (l' : Known)
@@ -202,8 +202,8 @@ locking l m s n ws es = record l {
 }
 
 -- the words at the lock show of the keys of the segment where they lead
-abbrev pub Shows : About → (ℕ → List ℕ → Option ℕ) → Lock → Type 0
-Shows a linked k = MayShow a k (linked k.map)
+abbrev pub ShowsLinks : About → (ℕ → List ℕ → Option ℕ) → Lock → Type 0
+ShowsLinks a linked k = MayShow a k (linked k.map)
 
 -- by all that a lock's words can show, the key is in the map
 abbrev pub ShowsIn : About → ℕ → List ℕ → Lock → Type 0
@@ -216,8 +216,8 @@ IsShownIn a m [] key = ⊥
 IsShownIn a m (k ∷ ks) key = ShowsIn a m key k ⊎ IsShownIn a m ks key
 
 -- of the keys that these locks show in the map there are no more than the map may have
-abbrev pub HasRoom : About → ℕ → List Lock → Type 0
-HasRoom a m ks = (keys : List (List ℕ)) → AreDistinct keys → AllByRecursion (IsShownIn a m ks) keys
+abbrev pub KeysHaveRoom : About → ℕ → List Lock → Type 0
+KeysHaveRoom a m ks = (keys : List (List ℕ)) → AreDistinct keys → AllByRecursion (IsShownIn a m ks) keys
     → length keys ≤ (shape_at a m).max
 
 -- the segment is sound and has some content, and what the lane filled is in the copy
@@ -243,7 +243,7 @@ pub record LocksSegment (a : About) (l : Known) (m s n : ℕ) (l' : Known) : Typ
   pub others : Each (λ (k : Lock). k.map ≡ m → (key : List ℕ) → IsHomeIn a k key
       → home_by a m (stamp_depth n) key ≢ s) l.locks
   -- where nothing has changed under the other locks
-  pub room : Each (λ (j : Lock). j.dirty ≡ false) l.locks → HasRoom a m l'.locks
+  pub room : Each (λ (j : Lock). j.dirty ≡ false) l.locks → KeysHaveRoom a m l'.locks
 
 -- ---- write under lock
 abbrev pub writing : About → Known → Lock → Place → ℕ → Known
@@ -279,8 +279,8 @@ MayLink a l k e = (e < elements (shape_at a k.map))
     × (IsHomeIn a k key)))
 
 -- by all that the lock's words can show, the key leads to this element
-abbrev pub LeadsTo : About → Lock → List ℕ → ℕ → Type 0
-LeadsTo a k key e = (before : List ℕ → Option ℕ)
+abbrev pub LeadsToElement : About → Lock → List ℕ → ℕ → Type 0
+LeadsToElement a k key e = (before : List ℕ → Option ℕ)
     → MayShow a k before → before key ≡ Some e
 
 -- what the lane has of the map, with one more element in hand
@@ -297,7 +297,7 @@ pub record Removes (a : About) (l : Known) (k : Lock) (key : List ℕ) (e : ℕ)
   pub nothing : k.change ≡ Nothing
   pub home : IsHomeIn a k key
   pub key_size : length key ≡ (shape_at a k.map).key
-  pub there : LeadsTo a k key e
+  pub there : LeadsToElement a k key e
   pub room : k.map < length l.limbo
   pub runs : in_run (events_of l.cpu l.seen) ≡ true
 
@@ -314,7 +314,7 @@ pub record Removed (a : About) (l : Known) (k : Lock) (key : List ℕ) (e : ℕ)
 pub record Replaces (a : About) (l : Known) (k : Lock) (f : Fresh) (rest : List Fresh)
     (key bytes : List ℕ) (flags e : ℕ) : Type 0 where
   pub filled : HasFilled a l k f rest key bytes
-  pub there : LeadsTo a k key e
+  pub there : LeadsToElement a k key e
   pub written : (before : List ℕ → Option ℕ)
       → MayShow a k before
       → ShowsNow a k (changed (Puts key f.element) before)
@@ -347,7 +347,7 @@ ShowsShortage a l k e = Unit {0}
 
 -- ---- unlock with the same version: an answer that changed nothing takes effect, whatever the
 -- store is that the lock's words can show
-pub record Answers (a : About) (l : Known) (k : Lock) (e : Event) : Type 0 where
+pub record AnswersUnderLock (a : About) (l : Known) (k : Lock) (e : Event) : Type 0 where
   pub lock : l.locks ≡ k ∷ []
   pub clean : k.dirty ≡ false
   pub quiet : turns_of (e ∷ []) ≡ 0
@@ -377,7 +377,7 @@ pub record AnswersAll (a : About) (l : Known) (k : Lock) (rest : List Lock) (e :
     -- it shows no shortage
     pub uncaused : (made : ℕ → ℕ → ℕ) (x : Moment) → HasCause a.version made x e
     pub allowed : (s : Plain) (linked : ℕ → List ℕ → Option ℕ) (number : ℕ → ℕ → ℕ)
-        → s.shape ≡ a.shape → l.cpu < a.shape.cpus → Each (Shows a linked) (k ∷ rest)
+        → s.shape ≡ a.shape → l.cpu < a.shape.cpus → Each (ShowsLinks a linked) (k ∷ rest)
         → ((m : ℕ) (q : List ℕ) → get (s.maps m) q ≡ numbered (number m) (linked m q))
         → Allowed s l.cpu e s
 
@@ -412,28 +412,43 @@ spans_of ps (End ∷ es) = spans_of [] es
 spans_of ps (Lookup m key (Some p) ∷ es) = spans_of (p ∷ ps) es
 spans_of ps (e ∷ es) = spans_of ps es
 
-abbrev pub IsAmong : Span → List Span → Type 0
-IsAmong p [] = ⊥
-IsAmong p (q ∷ qs) = (p ≡ q) ⊎ IsAmong p qs
+abbrev pub IsAmongSpans : Span → List Span → Type 0
+IsAmongSpans p [] = ⊥
+IsAmongSpans p (q ∷ qs) = (p ≡ q) ⊎ IsAmongSpans p qs
 
 -- the lane holds the value in this element, and these bytes of it lie in one word
-pub record Touches (a : About) (l : Known) (m e k o n : ℕ) : Type 0 where
+pub record TouchesHeldValue (a : About) (l : Known) (m e k o n : ℕ) : Type 0 where
   pub element : HasElement a m e
   pub word : k < words_for (shape_at a m).value
   pub fits : o + n ≤ 8
   pub within : 8 * k + o + n ≤ (shape_at a m).value
-  pub held : IsAmong (element_span m (shape_at a m) e) (spans_of [] (events_of l.cpu l.seen))
+  pub held : IsAmongSpans (element_span m (shape_at a m) e) (spans_of [] (events_of l.cpu l.seen))
   pub runs : in_run (events_of l.cpu l.seen) ≡ true
 
-abbrev pub value_at : About → ℕ → ℕ → ℕ → ℕ → ℕ
-value_at a m e k o = (element_span m (shape_at a m) e).at + (8 * k + o)
+abbrev pub value_address : About → ℕ → ℕ → ℕ → ℕ → ℕ
+value_address a m e k o = (element_span m (shape_at a m) e).at + (8 * k + o)
 
 -- the number that some bytes of a word read as
-abbrev pub found_in : ℕ → ℕ → ℕ → ℕ
-found_in x o n = little_endian (part (low_bytes 8 x) o n)
+abbrev pub number_in_word : ℕ → ℕ → ℕ → ℕ
+number_in_word x o n = little_endian (part (low_bytes 8 x) o n)
+
+-- in a run, these bytes of a fixed value lie in one word of its array
+pub record TouchesFixedValue (a : About) (l : Known) (b k o n : ℕ) : Type 0 where
+  pub array : b < length a.shape.arrays
+  pub within : IsWithin a.shape.cpus (array_at a b) (8 * k + o) n
+  pub fits : o + n ≤ 8
+  pub runs : in_run (events_of l.cpu l.seen) ≡ true
+
+-- and they may be written
+pub record ChangesFixedValue (a : About) (l : Known) (b k o n : ℕ) : Type 0 where
+  pub touches : TouchesFixedValue a l b k o n
+  pub writable : (array_at a b).frozen ≡ false
+
+abbrev pub fixed_address : ℕ → ℕ → ℕ → ℕ
+fixed_address b k o = first_value + map_area * (16 + b) + (8 * k + o)
 
 -- the event is this lane's last, and all else is as it was
-pub record Told (a : About) (l : Known) (e : Event) (l' : Known) : Type 0 where
+pub record AddsEvent (a : About) (l : Known) (e : Event) (l' : Known) : Type 0 where
   pub seen : TakesEffect a l e l'.seen
   pub after : l' ≡ record l { seen = l'.seen }
 
@@ -494,7 +509,7 @@ holding l m e = record l {
 }
 
 -- ---- see count, under the lock of a segment where the key isn't: at max the map is full
-pub record Counts (a : About) (l : Known) (k : Lock) (key bytes : List ℕ) (flags : ℕ) : Type 0 where
+pub record CountsUnderLock (a : About) (l : Known) (k : Lock) (key bytes : List ℕ) (flags : ℕ) : Type 0 where
   pub lock : l.locks ≡ k ∷ []
   pub nothing : k.change ≡ Nothing
   pub home : IsHomeIn a k key

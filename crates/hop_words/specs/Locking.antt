@@ -8,7 +8,7 @@ use Rattle.hop_words.specs.declared.known.Fresh.{Fresh}
 use Rattle.hop_words.specs.declared.known.Lock.{Lock}
 use Rattle.hop_words.specs.declared.known.Change.TheVariants.{Nothing}
 use Rattle.hop_words.specs.Ghost.{shape_at}
-use Rattle.hop_words.specs.Kinds.{Told}
+use Rattle.hop_words.specs.Kinds.{AddsEvent}
 use Rattle.hop_words.specs.Owning.{tail_of}
 
 abbrev pub no_lock : Lock
@@ -55,13 +55,13 @@ unlocking_last l = record l { locks = other_locks l }
 abbrev pub SeesRoom : About → Known → List ℕ → List ℕ → ℕ → ℕ → Known → Type 0
 SeesRoom a l key bytes flags n l' =
     (n ≡ (shape_at a (lock_of l).map).max
-    → Told a l (Update (lock_of l).map key bytes flags Full) l')
+    → AddsEvent a l (Update (lock_of l).map key bytes flags Full) l')
     × (n ≢ (shape_at a (lock_of l).map).max → (l' ≡ l) × (n < (shape_at a (lock_of l).map).max))
 
 -- a count at the map's most keys is the answer Full, any other NoMemory
 abbrev pub SeesLack : About → Known → List ℕ → List ℕ → ℕ → ℕ → Known → Type 0
 SeesLack a l key bytes flags n l' =
     (n ≡ (shape_at a (lock_of l).map).max
-    → Told a l (Update (lock_of l).map key bytes flags Full) l')
+    → AddsEvent a l (Update (lock_of l).map key bytes flags Full) l')
     × (n ≢ (shape_at a (lock_of l).map).max
-    → Told a l (Update (lock_of l).map key bytes flags NoMemory) l')
+    → AddsEvent a l (Update (lock_of l).map key bytes flags NoMemory) l')

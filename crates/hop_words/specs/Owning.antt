@@ -47,8 +47,8 @@ update_in_hand [] = 0
 update_in_hand (f ∷ fs) = f.update
 
 -- an update of the map was answered since the element in hand was taken
-abbrev pub IsAnswered : Known → ℕ → Type 0
-IsAnswered l m = update_in_hand l.fresh < updates_of m (events_of l.cpu l.seen)
+abbrev pub IsUpdateAnswered : Known → ℕ → Type 0
+IsUpdateAnswered l m = update_in_hand l.fresh < updates_of m (events_of l.cpu l.seen)
 
 -- how many words of its key, and of its value, the first element in hand has
 abbrev pub key_filled : List Fresh → ℕ

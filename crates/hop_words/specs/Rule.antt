@@ -8,12 +8,12 @@ use mathlib.Core.List.{IsPrefix}
 use lib.ListN.{get_elem?}
 use Rattle.atomic_table.specs.Table.{State}
 use Rattle.bpf_shared.specs.declared.events.Entry.{Entry}
-use Rattle.bpf_shared.specs.Shape.{element_span, IsShape}
-use Rattle.bpf_shared.specs.Store.{KeyMap, Value, Plain, as_made}
+use Rattle.bpf_shared.specs.Shape.{element_span, fixed_span, IsShape}
+use Rattle.bpf_shared.specs.Store.{KeyMap, Value, Plain, as_made, fixed_number}
 use Rattle.bpf_shared.specs.History.{Legal, events_of}
 use Rattle.bpf_shared.specs.Own.{turns_of, in_run}
 use Rattle.hop_layout.specs.declared.place.Place.{Place}
-use Rattle.hop_layout.specs.declared.place.Place.TheVariants.{RunCount, KeyCount, FreeBits, Stamp, Head, Hop, Slot, Link, KeyWord, ValueWord}
+use Rattle.hop_layout.specs.declared.place.Place.TheVariants.{RunCount, KeyCount, FreeBits, Stamp, Head, Hop, Slot, Link, KeyWord, ValueWord, FixedWord}
 use Rattle.hop_layout.specs.declared.about.About.{About}
 use Rattle.hop_words.specs.declared.known.Known.{Known}
 use Rattle.hop_words.specs.declared.known.View.{View}
@@ -27,10 +27,10 @@ use Rattle.hop_words.specs.declared.known.Change.{Change}
 use Rattle.hop_words.specs.declared.known.Change.TheVariants.{Nothing, Puts, Drops}
 use Rattle.hop_layout.specs.Layout.{size, mem, words_for, first_depth}
 use Rattle.hop_layout.specs.Words.{bytes_of_words}
-use Rattle.hop_words.specs.Content.{one_if, MapWords, place_words, times, Reached, IsShare, Agrees, AgreesFront}
+use Rattle.hop_words.specs.Content.{one_if, MapWords, words_by_place, times, Reached, IsShare, AgreesInSegment, AgreesFront}
 use Rattle.hop_words.specs.Shortage.{done_in, updates_in, HasHadValue, HaveCausesBy}
 use Rattle.hop_words.specs.Sights.{IsTakenSince}
-use Rattle.hop_words.specs.Ghost.{Holder, Free, Filling, Leaving, Within, is_free, is_filling, is_leaving, Carries, lane, Era, Ghost, shape_at, HasElement, limbo_at, lock_home, IsHomeIn, child, Each}
+use Rattle.hop_words.specs.Ghost.{Holder, Free, Filling, Leaving, Within, is_free, is_filling, is_leaving, Carries, lane, Era, Ghost, shape_at, HasElement, array_at, HasFixed, fixed_word, limbo_at, lock_home, IsHomeIn, child, Each}
 use Rattle.hop_words.specs.Depths.{stamp_depth, IsBorn, home_by, Deep}
 
 -- ======== history
@@ -127,7 +127,7 @@ Filled a key value fresh = (c : ℕ) → c < a.shape.cpus
 pub record Segment (a : About) (depths : ℕ → ℕ → ℕ) (x : MapWords) (stamp : ℕ) (r : Era)
     (m s : ℕ) (f : List ℕ → Option ℕ) : Type 0 where
   pub at_rest : stamp % 2 ≡ 0 → r.dirty ≡ false
-  pub clean : r.dirty ≡ false → (r.era + stamp % 2 ≡ stamp) × Agrees m s (Reached r.old m s) x r.old
+  pub clean : r.dirty ≡ false → (r.era + stamp % 2 ≡ stamp) × AgreesInSegment m s (Reached r.old m s) x r.old
   pub written : r.dirty ≡ true → r.era ≡ stamp
   pub shows : r.dirty ≡ false → IsShare a.seed (shape_at a m) (home_by a m (depths m s)) r.old m s f
 
@@ -164,7 +164,7 @@ owed (Puts key e) = 1
 owed (Drops key) = 1
 
 abbrev pub image : About → List ℕ → MapWords
-image a ws = place_words (mem a.shape ws)
+image a ws = words_by_place (mem a.shape ws)
 
 -- the keys lead where the words at the lock said, but for what took effect since: that remains to
 -- be written
@@ -186,7 +186,7 @@ pub record Holds (a : About) (depths : ℕ → ℕ → ℕ) (x : MapWords) (stam
   pub credit : (eras k.map k.segment).credit ≡ owed k.change
   pub untouched : k.dirty ≡ false → (k.copy ≡ k.first) × (k.change ≡ Nothing)
   pub sized : length k.copy ≡ size a.shape
-  pub copied : Agrees k.map k.segment (λ e. Minded (lock_home a k) c k.segment (holder k.map e)) x
+  pub copied : AgreesInSegment k.map k.segment (λ e. Minded (lock_home a k) c k.segment (holder k.map e)) x
       (image a k.copy)
   -- and so are the words of the segment that would be born here
   pub beside : AgreesFront k.map (child k) x (image a k.copy)
@@ -249,6 +249,17 @@ pub record Valued (a : About) (words : ℕ → ℕ → ℕ → ℕ) (made : ℕ)
   pub held_in : (c v : ℕ) → held c v ≡ true → (m : ℕ) × (e : ℕ) × HasElement a m e
       × Carries (holder m e) × (number m e ≡ v)
 
+-- a fixed value's bytes are those that its words spell
+abbrev pub ShowsFixed : About → (ℕ → ℕ → ℕ) → (ℕ → Value) → Type 0
+ShowsFixed a words value = (b k i : ℕ) → HasFixed a b k i
+    → value (fixed_number b k i)
+    ≡ record {
+      bytes = take (array_at a b).value
+          (bytes_of_words (words_for (array_at a b).value)
+          (λ j. words b (fixed_word (array_at a b) k i + j)));
+      span = fixed_span b (array_at a b) k i;
+    }
+
 -- ======== shortage
 
 -- 1 where the first element in hand was taken by the CPU's n-th update of the map
@@ -303,14 +314,15 @@ pub record Rule (a : About) (w : Place → ℕ) (g : Ghost) : Type 0 where
   pub filled : Filled a (λ m e k. w (KeyWord m e k)) (λ m e k. w (ValueWord m e k)) g.lanes.fresh
   -- segments
   pub deep : Deep a (λ m s. w (Stamp m s)) g.depths
-  pub segments : Segments a g.depths (place_words w) (λ m s. w (Stamp m s)) g.eras g.linked
-  pub locking : Locking a g.depths (place_words w) (λ m s. w (Stamp m s)) g.eras g.linked
+  pub segments : Segments a g.depths (words_by_place w) (λ m s. w (Stamp m s)) g.eras g.linked
+  pub locking : Locking a g.depths (words_by_place w) (λ m s. w (Stamp m s)) g.eras g.linked
       g.holder g.lanes.locks
   pub held : Held a g.depths (λ m s. w (Stamp m s)) g.eras g.lanes.locks
   pub reading : Readings a g.depths g.eras g.lanes.readings
   -- values
   pub valued : Valued a (λ m e k. w (ValueWord m e k)) g.last.made g.last.value g.last.held g.holder
       g.number
+  pub fixed : ShowsFixed a (λ b k. w (FixedWord b k)) g.last.value
   -- shortage
   pub shown : Shown a g.log g.last g.lanes.fresh g.lanes.tally g.holder g.taker
 

@@ -62,7 +62,7 @@ IsBegun x m c n = (n < updates_in x.before m c)
 -- an element that isn't free was taken by an update of its own: `takes` says by CPU and number which
 -- element an update took. By CPU, `made` says how many updates of the map it makes in the end. What
 -- the CPU that asks took itself has had a value
-pub record IsTaken (x : Moment) (made : ℕ → ℕ) (takes : ℕ → ℕ → ℕ) (m e : ℕ) : Type 0 where
+pub record IsTakenByUpdate (x : Moment) (made : ℕ → ℕ) (takes : ℕ → ℕ → ℕ) (m e : ℕ) : Type 0 where
   pub cpu : ℕ
   pub update : ℕ
   pub inside : cpu < x.shape.cpus
@@ -72,16 +72,16 @@ pub record IsTaken (x : Moment) (made : ℕ → ℕ) (takes : ℕ → ℕ → �
   pub valued : HasHadValue x.store (element_span m (map_shape x.shape m) e) ⊎ (cpu ≢ x.cpu)
 
 -- so may each element of the map be
-abbrev pub MayLack : Moment → (ℕ → ℕ) → ℕ → Type 0
-MayLack x made m = (takes : ℕ → ℕ → ℕ)
-    × ((e : ℕ) → e < elements (map_shape x.shape m) → IsTaken x made takes m e)
+abbrev pub EachMayBeTaken : Moment → (ℕ → ℕ) → ℕ → Type 0
+EachMayBeTaken x made m = (takes : ℕ → ℕ → ℕ)
+    × ((e : ℕ) → e < elements (map_shape x.shape m) → IsTakenByUpdate x made takes m e)
 
 -- ---- causes
 -- at this moment the CPU's event may be: Busy is answered only where a version may be used up,
 -- NoMemory only where each element of the map may be taken
 abbrev pub HasCause : ℕ → (ℕ → ℕ → ℕ) → Moment → Event → Type 0
 HasCause version made x (Update m key bytes flags Busy) = MayBeWorn x.shape version m x.before
-HasCause version made x (Update m key bytes flags NoMemory) = MayLack x (made m) m
+HasCause version made x (Update m key bytes flags NoMemory) = EachMayBeTaken x (made m) m
 HasCause version made x (Delete m key Busy) = MayBeWorn x.shape version m x.before
 HasCause version made x e = Unit {0}
 

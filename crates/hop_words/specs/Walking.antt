@@ -8,7 +8,7 @@ abbrev pub IsOnWay : ℕ → Way → Type 0
 IsOnWay home w = (w.segment < power w.level) × (home % power w.level ≡ w.segment)
 
 -- the next segment has one bit more, below the depth
-abbrev pub IsNext : Way → ℕ → Way → Type 0
-IsNext w depth next = (u : ℕ) × (next.level ≡ u + 1) × (u < depth) × (w.level ≤ u)
+abbrev pub IsNextSegment : Way → ℕ → Way → Type 0
+IsNextSegment w depth next = (u : ℕ) × (next.level ≡ u + 1) × (u < depth) × (w.level ≤ u)
     × (w.segment < power u)
     × (next.segment ≡ w.segment + power u)

@@ -4,7 +4,7 @@ ghost use Rattle.bpf_shared.specs.declared.events.Event.TheVariants.{Update, Del
 ghost use Rattle.bpf_shared.specs.KeyOrder.{in_order};
 ghost use Rattle.hop_words.specs.Ghost.{IsSegment};
 ghost use Rattle.hop_words.specs.Rule.{owed};
-ghost use Rattle.hop_words.specs.Kinds.{Inserts, Inserted, Removes, Removed, Counts, Misflagged, Told, IsWritten, unlocking, AreElsewhere, Answers, Answered, LooksUpLocked, LookedUp, Replaces, Replaced, SawAllTaken};
+ghost use Rattle.hop_words.specs.Kinds.{Inserts, Inserted, Removes, Removed, CountsUnderLock, Misflagged, AddsEvent, IsWritten, unlocking, AreElsewhere, AnswersUnderLock, Answered, LooksUpLocked, LookedUp, Replaces, Replaced, SawAllTaken};
 ghost use Rattle.hop_words.specs.Owning.{tail_of};
 ghost use Rattle.hop_words.specs.Listing.{AnswersGiving, ListsMap, lock_given};
 ghost use Rattle.hop_words.specs.Sights.{sighted};
@@ -52,7 +52,7 @@ impl Lane {
     }
 
     /// The key count goes down by one: the deletion is done, and the element is in hand, used.
-    /// Answers the count that is left.
+    /// AnswersUnderLock the count that is left.
     pub fn count_down(&mut self, table: &HopTable, map: u8, key: &[u8], element: u32) -> u64
         requires table { self.old.table ≡ table.now.id }
         requires inside { map < length table.now.about.shape.maps }
@@ -81,7 +81,7 @@ impl Lane {
         requires table { self.old.table ≡ table.now.id }
         requires inside { map < length table.now.about.shape.maps }
         requires map { (lock_of self.old.known).map ≡ map }
-        requires counts { Counts table.now.about self.old.known (lock_of self.old.known) key.now
+        requires counts { CountsUnderLock table.now.about self.old.known (lock_of self.old.known) key.now
             value.now flags }
         ensures table { self.new.table ≡ self.old.table }
         ensures seen { SeesRoom table.now.about self.old.known key.now value.now flags result
@@ -102,7 +102,7 @@ impl Lane {
         requires table { self.old.table ≡ table.now.id }
         requires inside { map < length table.now.about.shape.maps }
         requires map { (lock_of self.old.known).map ≡ map }
-        requires counts { Counts table.now.about self.old.known (lock_of self.old.known) key.now
+        requires counts { CountsUnderLock table.now.about self.old.known (lock_of self.old.known) key.now
             value.now flags }
         requires lacks { SawAllTaken table.now.about self.old.known map }
         ensures table { self.new.table ≡ self.old.table }
@@ -125,7 +125,7 @@ impl Lane {
         requires misflagged { Misflagged table.now.about self.old.known map key.now value.now
             flags }
         ensures table { self.new.table ≡ self.old.table }
-        ensures answered { Told table.now.about self.old.known
+        ensures answered { AddsEvent table.now.about self.old.known
             (Update map key.now value.now flags MapAnswer.Invalid) self.new.known }
     {
         self.load_by::<Brand, _>(table, Place::KeyCount { map }, (map, key, value, flags));
@@ -216,7 +216,7 @@ impl Lane {
         requires inside { IsSegment table.now.about map segment }
         requires lock { HasLock self.old.known map segment }
         requires stamp { stamp ≡ (lock_of self.old.known).stamp }
-        requires answers { Answers table.now.about self.old.known (lock_of self.old.known)
+        requires answers { AnswersUnderLock table.now.about self.old.known (lock_of self.old.known)
             (Update map key.now value.now flags answer) }
         ensures table { self.new.table ≡ self.old.table }
         ensures answered { Answered table.now.about self.old.known (lock_of self.old.known)
@@ -240,7 +240,7 @@ impl Lane {
         requires inside { IsSegment table.now.about map segment }
         requires lock { HasLock self.old.known map segment }
         requires stamp { stamp ≡ (lock_of self.old.known).stamp }
-        requires answers { Answers table.now.about self.old.known (lock_of self.old.known)
+        requires answers { AnswersUnderLock table.now.about self.old.known (lock_of self.old.known)
             (Delete map key.now answer) }
         ensures table { self.new.table ≡ self.old.table }
         ensures answered { Answered table.now.about self.old.known (lock_of self.old.known)

@@ -9,7 +9,7 @@ ghost use Rattle.hop_layout.specs.Layout.{words_for};
 ghost use Rattle.hop_words.specs.Ghost.{shape_at, HasElement, limbo_at};
 ghost use Rattle.hop_words.specs.Rule.{link_to};
 ghost use Rattle.hop_words.specs.Kinds.{Passed, retiring};
-ghost use Rattle.hop_words.specs.Owning.{IsAnswered, IsFreeWord, ClaimsBit, GivesFresh, GivesOld, IsInHand, tail_of, key_filled, value_filled, with_key_word, with_value_word};
+ghost use Rattle.hop_words.specs.Owning.{IsUpdateAnswered, IsFreeWord, ClaimsBit, GivesFresh, GivesOld, IsInHand, tail_of, key_filled, value_filled, with_key_word, with_value_word};
 
 use crate::lane::Lane;
 use crate::table::HopTable;
@@ -63,7 +63,7 @@ impl Lane {
         requires table { self.old.table ≡ table.now.id }
         requires element { HasElement table.now.about map element }
         requires hand { IsInHand self.old.known map element }
-        requires answered { IsAnswered self.old.known map }
+        requires answered { IsUpdateAnswered self.old.known map }
         ensures table { self.new.table ≡ self.old.table }
         ensures given { (found : ℕ) × GivesFresh self.old.known map element found self.new.known }
     {

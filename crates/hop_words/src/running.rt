@@ -3,7 +3,7 @@ ghost use Rattle.std.specs.Prelude.{◌≡◌, ◌<◌, ◌+◌, ◌^◌, true, 
 ghost use Rattle.bpf_shared.specs.History.{events_of};
 ghost use Rattle.bpf_shared.specs.declared.events.Event.TheVariants.{Begin, End};
 ghost use Rattle.hop_words.specs.Ghost.{limbo_at};
-ghost use Rattle.hop_words.specs.Kinds.{run_count, Told, noting_next, ageing};
+ghost use Rattle.hop_words.specs.Kinds.{run_count, AddsEvent, noting_next, ageing};
 ghost use Rattle.bpf_shared.specs.Own.{in_run};
 ghost use Rattle.hop_words.specs.Owning.{IsIdleOrKeeps, LooksAgain};
 
@@ -41,7 +41,7 @@ impl Lane {
         requires idle { in_run (events_of self.old.known.cpu self.old.known.seen) ≡ false }
         requires room { run_count table.now.about self.old.known + 1 < 2 ^ 64 }
         ensures table { self.new.table ≡ self.old.table }
-        ensures begun { Told table.now.about self.old.known Begin self.new.known }
+        ensures begun { AddsEvent table.now.about self.old.known Begin self.new.known }
     {
         let cpu = self.cpu();
         self.add_by::<Brand, _>(table, Place::RunCount { cpu }, 1, ());
@@ -55,7 +55,7 @@ impl Lane {
         requires running { in_run (events_of self.old.known.cpu self.old.known.seen) ≡ true }
         requires room { run_count table.now.about self.old.known + 1 < 2 ^ 64 }
         ensures table { self.new.table ≡ self.old.table }
-        ensures ended { Told table.now.about self.old.known End self.new.known }
+        ensures ended { AddsEvent table.now.about self.old.known End self.new.known }
     {
         let cpu = self.cpu();
         self.add_by::<Brand, _>(table, Place::RunCount { cpu }, 1, ());

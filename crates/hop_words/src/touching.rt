@@ -6,7 +6,7 @@ ghost use Rattle.bpf_base.specs.Atomic.{number_after};
 ghost use Rattle.bpf_shared.specs.Access.{bytes_in};
 ghost use Rattle.bpf_shared.specs.declared.events.Event.TheVariants.{Load, Store, Atomic};
 ghost use Rattle.bpf_shared.specs.declared.events.Size.TheVariants.{Double};
-ghost use Rattle.hop_words.specs.Kinds.{Told};
+ghost use Rattle.hop_words.specs.Kinds.{AddsEvent};
 ghost use Rattle.hop_words.specs.Touching.{TouchesPart, TouchesWord, part_address, found_part};
 
 use crate::lane::Lane;
@@ -48,7 +48,7 @@ impl Lane {
         requires table { self.old.table ≡ table.now.id }
         requires touches { TouchesPart table.now.about self.old.known part }
         ensures table { self.new.table ≡ self.old.table }
-        ensures loaded { Told table.now.about self.old.known
+        ensures loaded { AddsEvent table.now.about self.old.known
             (Load (part_address table.now.about part) part.size (found_part part result))
             self.new.known }
     {
@@ -65,7 +65,7 @@ impl Lane {
         requires table { self.old.table ≡ table.now.id }
         requires touches { TouchesWord table.now.about self.old.known part }
         ensures table { self.new.table ≡ self.old.table }
-        ensures stored { Told table.now.about self.old.known
+        ensures stored { AddsEvent table.now.about self.old.known
             (Store (part_address table.now.about part) Double number) self.new.known }
     {
         let place = Place::ValueWord {
@@ -92,7 +92,7 @@ impl Lane {
             ≡ with_part (low_bytes 8 old) part.offset (low_bytes (bytes_in part.size) stored) }
         ensures table { self.new.table ≡ self.old.table }
         ensures stored { result ≡ old
-            → Told table.now.about self.old.known
+            → AddsEvent table.now.about self.old.known
             (Store (part_address table.now.about part) part.size stored) self.new.known }
         ensures missed { result ≢ old → self.new.known ≡ self.old.known }
     {
@@ -124,7 +124,7 @@ impl Lane {
             (found_part part old) operand expected)) }
         ensures table { self.new.table ≡ self.old.table }
         ensures made { result ≡ old
-            → Told table.now.about self.old.known
+            → AddsEvent table.now.about self.old.known
             (Atomic (part_address table.now.about part) part.size op operand expected
             (found_part part old)) self.new.known }
         ensures missed { result ≢ old → self.new.known ≡ self.old.known }
@@ -150,7 +150,7 @@ impl Lane {
         requires table { self.old.table ≡ table.now.id }
         requires touches { TouchesWord table.now.about self.old.known part }
         ensures table { self.new.table ≡ self.old.table }
-        ensures made { Told table.now.about self.old.known
+        ensures made { AddsEvent table.now.about self.old.known
             (Atomic (part_address table.now.about part) Double op operand expected result)
             self.new.known }
     {

@@ -1,7 +1,7 @@
 //! The way from segment 0 to the segment that a key is at home in.
 ghost use Rattle.std.specs.Prelude.{◌≡◌, ◌<◌, ◌≤◌, ◌%◌, MatchOption};
 ghost use Rattle.hop_layout.specs.Layout.{power};
-ghost use Rattle.hop_words.specs.Walking.{IsOnWay, IsNext};
+ghost use Rattle.hop_words.specs.Walking.{IsOnWay, IsNextSegment};
 
 /// A segment, and how many low bits of a home it was reached by.
 #[derive(Clone, Copy)]
@@ -19,7 +19,7 @@ pub fn towards(home: u32, way: Way, depth: u32) -> Option<Way>
     requires room { way.segment < power depth }
     requires small { depth ≤ 10 }
     ensures way { MatchOption result (home % power depth ≡ way.segment)
-        (λ next. IsOnWay home next × IsNext way depth next) }
+        (λ next. IsOnWay home next × IsNextSegment way depth next) }
 {
     let rest = home >> way.level;
     if rest == 0 {

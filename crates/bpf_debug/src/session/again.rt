@@ -26,12 +26,8 @@ impl Session {
         ensures refused { IfErr result (λ e. e ≡ DebugError.OutOfMemory) }
         ensures unchanged { OnErr result (self.new ≡ self.old) }
     {
-        let Some(mut out) = make_room(alloc, 1) else {
-            return Err(DebugError::OutOfMemory);
-        };
-        let Ok(()) = self.origin.rewind(alloc, &mut self.machine) else {
-            return Err(DebugError::OutOfMemory);
-        };
+        let mut out = make_room(alloc, 1)?;
+        self.origin.rewind(alloc, &mut self.machine)?;
         let cpu = self.course.take_back(count);
         self.course.repeat(&mut self.machine);
         put_where(&mut out, &self.machine, cpu);
@@ -63,12 +59,8 @@ impl Session {
         ensures refused { IfErr result (λ e. e ≡ DebugError.OutOfMemory) }
         ensures unchanged { OnErr result (self.new ≡ self.old) }
     {
-        let Some(mut out) = make_room(alloc, 1) else {
-            return Err(DebugError::OutOfMemory);
-        };
-        let Ok(()) = self.origin.rewind(alloc, &mut self.machine) else {
-            return Err(DebugError::OutOfMemory);
-        };
+        let mut out = make_room(alloc, 1)?;
+        self.origin.rewind(alloc, &mut self.machine)?;
         let recall = self.course.recall(&mut self.machine, cpu, Kind::Ends);
         put_last(&mut out, &self.machine, cpu, recall);
         Ok(out)
@@ -97,9 +89,7 @@ impl Session {
             Leaves self.now (Order.Show (Some cpu)) (string_bytes text) self.now) }
         ensures refused { IfErr result (λ e. e ≡ DebugError.OutOfMemory) }
     {
-        let Some(mut out) = make_room(alloc, 1) else {
-            return Err(DebugError::OutOfMemory);
-        };
+        let mut out = make_room(alloc, 1)?;
         put_off(&mut out, &self.machine, cpu);
         Ok(out)
     }
@@ -116,12 +106,8 @@ impl Session {
         let Some(state) = self.machine.cpu(cpu) else {
             return self.shows_nothing(alloc, cpu);
         };
-        let Ok(shown) = shown_of(alloc, self.machine.store(), &self.names, state) else {
-            return Err(DebugError::OutOfMemory);
-        };
-        let Ok(()) = self.origin.rewind(alloc, &mut self.machine) else {
-            return Err(DebugError::OutOfMemory);
-        };
+        let shown = shown_of(alloc, self.machine.store(), &self.names, state)?;
+        self.origin.rewind(alloc, &mut self.machine)?;
         let recall = self.course.recall(&mut self.machine, cpu, Kind::Works);
         Ok(changed(shown, &recall))
     }

@@ -26,9 +26,7 @@ impl Session {
             Leaves self.now (Order.Registers (Some cpu)) (string_bytes text) self.now) }
         ensures refused { IfErr result (λ e. e ≡ DebugError.OutOfMemory) }
     {
-        let Some(mut out) = make_room(alloc, 0) else {
-            return Err(DebugError::OutOfMemory);
-        };
+        let mut out = make_room(alloc, 0)?;
         put_registers(&mut out, &self.machine, cpu);
         Ok(out)
     }
@@ -50,9 +48,7 @@ impl Session {
             Leaves self.now (Order.Where (Some cpu)) (string_bytes text) self.now) }
         ensures refused { IfErr result (λ e. e ≡ DebugError.OutOfMemory) }
     {
-        let Some(mut out) = make_room(alloc, 1) else {
-            return Err(DebugError::OutOfMemory);
-        };
+        let mut out = make_room(alloc, 1)?;
         put_where(&mut out, &self.machine, cpu);
         Ok(out)
     }
@@ -82,9 +78,7 @@ impl Session {
             Leaves self.now (Order.Memory (Some cpu) address count) (string_bytes text) self.now) }
         ensures refused { IfErr result (λ e. e ≡ DebugError.OutOfMemory) }
     {
-        let Some(mut out) = make_room(alloc, 1) else {
-            return Err(DebugError::OutOfMemory);
-        };
+        let mut out = make_room(alloc, 1)?;
         put_off(&mut out, &self.machine, cpu);
         Ok(out)
     }
@@ -104,10 +98,8 @@ impl Session {
         let Some(state) = self.machine.cpu(cpu) else {
             return self.off_at(alloc, cpu, address, count);
         };
-        match bytes_line(alloc, self.machine.store(), state, address, count) {
-            Ok(text) => Ok(text),
-            Err(_) => Err(DebugError::OutOfMemory),
-        }
+        let text = bytes_line(alloc, self.machine.store(), state, address, count)?;
+        Ok(text)
     }
 
     pub(super) fn memory(
@@ -136,10 +128,8 @@ impl Session {
         let Some(map) = map_named(&self.names, name) else {
             return Err(DebugError::NoMap);
         };
-        match map_lines(alloc, self.machine.store(), map) {
-            Ok(text) => Ok(text),
-            Err(_) => Err(DebugError::OutOfMemory),
-        }
+        let text = map_lines(alloc, self.machine.store(), map)?;
+        Ok(text)
     }
 
     pub(super) fn keys(&self, alloc: Global, name: &[u8]) -> Result<String, DebugError>
@@ -150,10 +140,8 @@ impl Session {
         let Some(map) = map_named(&self.names, name) else {
             return Err(DebugError::NoMap);
         };
-        match key_lines_of(alloc, self.machine.store(), map) {
-            Ok(text) => Ok(text),
-            Err(_) => Err(DebugError::OutOfMemory),
-        }
+        let text = key_lines_of(alloc, self.machine.store(), map)?;
+        Ok(text)
     }
 
     pub(super) fn schedule(&self, alloc: Global) -> Result<String, DebugError>
@@ -164,10 +152,8 @@ impl Session {
         let Some(runs) = self.course.runs() else {
             return Err(DebugError::OutOfMemory);
         };
-        match course_line(alloc, runs) {
-            Ok(text) => Ok(text),
-            Err(_) => Err(DebugError::OutOfMemory),
-        }
+        let text = course_line(alloc, runs)?;
+        Ok(text)
     }
 
     pub(super) fn maps(&self, alloc: Global) -> Result<String, DebugError>
@@ -175,10 +161,8 @@ impl Session {
             (λ text. Leaves self.now Order.Maps (string_bytes text) self.now) }
         ensures refused { IfErr result (λ e. RefusesHere self.now Order.Maps e) }
     {
-        match shape_lines(alloc, self.machine.store(), &self.names) {
-            Ok(text) => Ok(text),
-            Err(_) => Err(DebugError::OutOfMemory),
-        }
+        let text = shape_lines(alloc, self.machine.store(), &self.names)?;
+        Ok(text)
     }
 
     pub(super) fn jobs(&self, alloc: Global) -> Result<String, DebugError>
@@ -186,9 +170,7 @@ impl Session {
             (λ text. Leaves self.now Order.Jobs (string_bytes text) self.now) }
         ensures refused { IfErr result (λ e. RefusesHere self.now Order.Jobs e) }
     {
-        let Some(mut out) = make_room(alloc, self.machine.jobs()) else {
-            return Err(DebugError::OutOfMemory);
-        };
+        let mut out = make_room(alloc, self.machine.jobs())?;
         put_jobs(&mut out, &self.machine);
         Ok(out)
     }
@@ -198,9 +180,7 @@ impl Session {
             (λ text. Leaves self.now (Order.Mark number) (string_bytes text) self.now) }
         ensures refused { IfErr result (λ e. RefusesHere self.now (Order.Mark number) e) }
     {
-        let Some(mut out) = make_room(alloc, 1) else {
-            return Err(DebugError::OutOfMemory);
-        };
+        let mut out = make_room(alloc, 1)?;
         put_mark(&mut out, number);
         Ok(out)
     }
@@ -213,9 +193,7 @@ impl Session {
             Leaves self.now (Order.Held (Some cpu)) (string_bytes text) self.now) }
         ensures refused { IfErr result (λ e. e ≡ DebugError.OutOfMemory) }
     {
-        let Some(mut out) = make_room(alloc, 1) else {
-            return Err(DebugError::OutOfMemory);
-        };
+        let mut out = make_room(alloc, 1)?;
         put_off(&mut out, &self.machine, cpu);
         Ok(out)
     }
@@ -229,10 +207,8 @@ impl Session {
         let Some(state) = self.machine.cpu(cpu) else {
             return self.holds_nothing(alloc, cpu);
         };
-        match held_lines(alloc, self.machine.store(), state, &self.names) {
-            Ok(text) => Ok(text),
-            Err(_) => Err(DebugError::OutOfMemory),
-        }
+        let text = held_lines(alloc, self.machine.store(), state, &self.names)?;
+        Ok(text)
     }
 
     pub(super) fn held(&self, alloc: Global, number: Option<u8>) -> Result<String, DebugError>
@@ -251,10 +227,8 @@ impl Session {
             (λ text. Leaves self.now Order.Help (string_bytes text) self.now) }
         ensures refused { IfErr result (λ e. RefusesHere self.now Order.Help e) }
     {
-        match help_text(alloc) {
-            Ok(text) => Ok(text),
-            Err(_) => Err(DebugError::OutOfMemory),
-        }
+        let text = help_text(alloc)?;
+        Ok(text)
     }
 
     fn nearby_at(&self, alloc: Global, cpu: u8) -> Result<String, DebugError>
@@ -263,10 +237,8 @@ impl Session {
             Leaves self.now (Order.Nearby (Some cpu)) (string_bytes text) self.now) }
         ensures refused { IfErr result (λ e. e ≡ DebugError.OutOfMemory) }
     {
-        match nearby_lines(alloc, &self.machine, cpu) {
-            Ok(text) => Ok(text),
-            Err(_) => Err(DebugError::OutOfMemory),
-        }
+        let text = nearby_lines(alloc, &self.machine, cpu)?;
+        Ok(text)
     }
 
     pub(super) fn nearby(&self, alloc: Global, number: Option<u8>) -> Result<String, DebugError>

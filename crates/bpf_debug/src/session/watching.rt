@@ -35,9 +35,7 @@ impl Session {
         let Some(map) = map_named(&self.names, name) else {
             return Err(DebugError::NoMap);
         };
-        let Ok(text) = watch_line(alloc, name_at(&self.names, map), &key) else {
-            return Err(DebugError::OutOfMemory);
-        };
+        let text = watch_line(alloc, name_at(&self.names, map), &key)?;
         self.watch = Some(Watch { map, key });
         Ok(text)
     }
@@ -49,9 +47,7 @@ impl Session {
         ensures refused { IfErr result (λ e. e ≡ DebugError.OutOfMemory) }
         ensures unchanged { OnErr result (self.new ≡ self.old) }
     {
-        let Ok(text) = "watch deleted\n".to_string(alloc) else {
-            return Err(DebugError::OutOfMemory);
-        };
+        let text = "watch deleted\n".to_string(alloc)?;
         self.watch = None;
         Ok(text)
     }

@@ -18,6 +18,6 @@ pub fn push_place(
         ≡ string_bytes text.old ++ place_comment pc bytes.now) }
     ensures memory { IsOkUnless result TextError.OutOfMemory }
 {
-    let digits = to_hex(alloc, bytes).map_err(|_| TextError::OutOfMemory)?;
+    let digits = to_hex(alloc, bytes)?;
     write!(text, " ; {pc}: {digits}").map_err(|_| TextError::OutOfMemory)
 }

@@ -36,10 +36,10 @@ fn push_line(
     ensures memory { IsOkUnless result TextError.OutOfMemory }
 {
     let line = insn_line(alloc, insn)?;
-    text.push_str(line.as_str())
-        .map_err(|_| TextError::OutOfMemory)?;
+    text.push_str(line.as_str())?;
     push_place(alloc, text, pc, bytes)?;
-    text.push('\n').map_err(|_| TextError::OutOfMemory)
+    text.push('\n')?;
+    Ok(())
 }
 
 /// A program's canonical lines, each with its pc and its words after it. Fails by `OutOfMemory`

@@ -51,7 +51,7 @@ fn push_line(
         ≡ string_bytes text.old ++ (line.now ++ behind_line pc size bytes.now)) }
     ensures memory { IsOkUnless result TextError.OutOfMemory }
 {
-    text.push_str(line).map_err(|_| TextError::OutOfMemory)?;
+    text.push_str(line)?;
     if size == 0 {
         return Ok(());
     }
@@ -66,10 +66,10 @@ fn push_feed(text: &mut String, behind: Option<&str>) -> Result<(), TextError>
         ≡ string_bytes text.old ++ feed_before (lines_behind (option_copied behind.entry))) }
     ensures memory { IsOkUnless result TextError.OutOfMemory }
 {
-    match behind {
-        Some(_) => text.push('\n').map_err(|_| TextError::OutOfMemory),
-        None => Ok(()),
+    if behind.is_some() {
+        text.push('\n')?;
     }
+    Ok(())
 }
 
 /// The bytes after this many words.

@@ -132,8 +132,10 @@ pub const L11: Page = Page {
 It begins with `always`, `sometimes` or `never`, or a word one edit away, and three
 words or more; but after that comes no line that `run --maps` prints of this file: a
 job with its CPU, or a map with a key and a value of its sizes in lower case hex, and
-numbers without a 0 before them. `always ends` and `sometimes hung` take `--patient`,
-and lines `keys` take `run --check --keys`. `check --lenient` passes such comments over.",
+numbers without a 0 before them; nor `fault`, `r0 of job J < N`, `map NAME[K]+AT of
+u64 = N`, or several of these joined by `and`, or by `or`. `always ends` and
+`sometimes hung` take `--patient`, and lines `keys` take `run --check --keys`.
+`check --lenient` passes such comments over.",
 };
 
 pub const S1: Page = Page {

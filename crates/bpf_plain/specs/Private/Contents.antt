@@ -1,5 +1,5 @@
 -- What a `PlainStore` is to its callers, and its passages.
-use Rattle.std.specs.Prelude.{◌≡◌, ℕ, ◌+◌, ◌*◌, ◌<◌, nat_lt, Bool, true, false, List, [], ◌∷◌, length, slice_index, slice_index_or, slice_set}
+use Rattle.std.specs.Prelude.{◌≡◌, ℕ, ◌+◌, ◌*◌, ◌%◌, ◌<◌, nat_lt, Bool, true, false, List, [], ◌∷◌, length, slice_index, slice_index_or, slice_set}
 use Rattle.bpf_base.specs.Bytes.{part}
 use Rattle.bpf_shared.specs.declared.events.Span.{Span}
 use Rattle.bpf_shared.specs.declared.events.Event.{Event}
@@ -8,7 +8,7 @@ use Rattle.bpf_shared.specs.declared.events.MapAnswer.{MapAnswer}
 use Rattle.bpf_shared.specs.declared.events.MapAnswer.TheVariants.{Busy, NoMemory}
 use Rattle.bpf_shared.specs.declared.shapes.ArrayShape.{ArrayShape}
 use Rattle.bpf_shared.specs.declared.shapes.MapShape.{MapShape}
-use Rattle.bpf_shared.specs.Shape.{Shape, IsShape, IsMap, IsArray, copies, array_stride, copy_stride, contents_of}
+use Rattle.bpf_shared.specs.Shape.{Shape, IsShape, IsMap, IsArray, IsWithin, copies, array_stride, copy_stride, contents_of}
 use Rattle.bpf_shared.specs.Store.{Plain, as_made, IsFixed, array_of, copy_of, index_of}
 use Rattle.bpf_shared.specs.Choice.{IsShort}
 use Rattle.bpf_shared.specs.History.{PlainlyLegal, entry}
@@ -58,6 +58,15 @@ pub record IsFilled (stride : ℕ) (first : List ℕ) (count : ℕ) (bytes : Lis
   pub each : (k o : ℕ) → k < count → o < stride
       → slice_index bytes (k * stride + o) ≡ slice_index first o
 
+-- the byte at an offset in an array at first: each CPU's values have the same bytes
+abbrev pub first_at : Shape → ℕ → ArrayShape → ℕ → ℕ
+first_at h a g x = slice_index (contents_of h a) (x % copy_stride g)
+
+-- each byte that is in no value is as at first
+abbrev pub IsPadded : ℕ → ArrayShape → (ℕ → ℕ) → List ℕ → Type 0
+IsPadded cpus g first bytes =
+    (x : ℕ) → x < length bytes → (IsWithin cpus g x 1 → ⊥) → slice_index bytes x ≡ first x
+
 -- an array's bytes as they are at first
 abbrev pub IsAsMade : ℕ → ArrayShape → List ℕ → List ℕ → Type 0
 IsAsMade cpus g first bytes = IsFilled (copy_stride g) first (copies cpus g) bytes
@@ -94,17 +103,26 @@ MayLack old new m key NoMemory =
     → (h : MapShape) × IsMap s.shape.maps m h × IsShort s m h
 MayLack old new m key answer = Unit {0}
 
+-- the bytes of an array of a store of this shape
+pub record IsArrayOf (h : Shape) (a : ℕ) (g : ArrayShape) (bytes : List ℕ) : Type 0 where
+  pub size : length bytes ≡ copies h.cpus g * copy_stride g
+  -- what may only be read is as it was made
+  pub frozen : g.frozen ≡ true → IsAsMade h.cpus g (contents_of h a) bytes
+  -- and so is what is between the values
+  pub padded : IsPadded h.cpus g (first_at h a g) bytes
+
+-- of all its arrays
+pub record AreArrays (h : Shape) (arrays : List (List ℕ)) : Type 0 where
+  pub count : length arrays ≡ length h.arrays
+  pub each : (a : ℕ) (g : ArrayShape) → IsArray h.arrays a g
+      → IsArrayOf h a g (slice_index_or arrays a [])
+
 -- what each `PlainStore` keeps true
 pub record IsStore (p : Contents) : Type 0 where
   pub shape : IsShape p.shape
   pub maps : hash.shapes_of p.maps ≡ p.shape.maps
   pub cpus : (c : ℕ) → has_cpu p c ≡ nat_lt c p.shape.cpus
-  pub count : length p.arrays ≡ length p.shape.arrays
-  pub sizes : (a : ℕ) (g : ArrayShape) → IsArray p.shape.arrays a g
-      → length (bytes_of p a) ≡ copies p.shape.cpus g * copy_stride g
-  -- what may only be read is as it was made
-  pub frozen : (a : ℕ) (g : ArrayShape) → IsArray p.shape.arrays a g → g.frozen ≡ true
-      → IsAsMade p.shape.cpus g (contents_of p.shape a) (bytes_of p a)
+  pub arrays : AreArrays p.shape p.arrays
 
 -- a store that was made with this shape
 pub record IsMade (h : Shape) (p : Contents) : Type 0 where

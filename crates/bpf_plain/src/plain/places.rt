@@ -1,11 +1,11 @@
 //! The fixed values of a `PlainStore`, by their addresses.
-ghost use Rattle.std.specs.Prelude.{◌≡◌, ◌+◌, ◌<◌, ◌≤◌, false, IfSome, IfNone, length};
+ghost use Rattle.std.specs.Prelude.{◌≡◌, ◌+◌, ◌<◌, ◌≤◌, false, IfSome, IfNone, length, option_map};
 ghost use Rattle.bpf_base.specs.Bytes.{little_endian, low_bytes, modulus, part, with_part};
 ghost use Rattle.bpf_shared.specs.Access.{bytes_in};
 ghost use Rattle.bpf_shared.specs.Passage.{IsFixedPlace};
 ghost use Rattle.bpf_plain.specs.Private.Contents.{shape_of, bytes_of, with_array};
 ghost use Rattle.bpf_plain.specs.Private.Places.{array_at, offset_at};
-ghost use Rattle.bpf_plain.specs.Shows.{ShowsByte, ShowsNoByte};
+ghost use Rattle.bpf_plain.specs.Shows.{ShowsByte, ShowsFixed, ShowsNoByte};
 
 use super::PlainStore;
 use bpf_shared::bytes::{load, store};
@@ -19,6 +19,14 @@ pub(super) const FIRST_FIXED: u64 = FIRST_VALUE + MAP_AREA * FIRST_ARRAY;
 struct Place {
     array: usize,
     offset: usize,
+}
+
+/// As many bytes from an offset on.
+fn bytes_from(bytes: &[u8], first: usize, count: usize) -> &[u8]
+    requires { first + count ≤ length bytes.now }
+    ensures { result.now ≡ part bytes.now first count }
+{
+    &bytes[first..first + count]
 }
 
 impl PlainStore {
@@ -89,5 +97,22 @@ impl PlainStore {
         } else {
             self.peek_fixed(address)
         }
+    }
+
+    /// The bytes of the value of an index of an array, of a CPU if each has its own; else it is that
+    /// of CPU 0. None where there is no such value.
+    pub fn fixed(&self, array: u64, copy: u8, index: u64) -> Option<&[u8]>
+        ensures { ShowsFixed self.now array copy index (option_map (λ value. value.now) result) }
+    {
+        let shape = self.shape.arrays().get(array as usize)?;
+        if u64::from(copy) >= shape.copies(self.shape.cpus()) {
+            return None;
+        }
+        if index >= shape.max {
+            return None;
+        }
+        let at = u64::from(copy) * shape.copy_stride() + index * shape.stride();
+        let bytes = self.arrays[array as usize].as_slice();
+        Some(bytes_from(bytes, at as usize, shape.value as usize))
     }
 }

@@ -13,7 +13,7 @@ use Rattle.hop_words.specs.Depths.{stamp_depth}
 use Rattle.hop_words.specs.Content.{Reached, item, times}
 use Rattle.hop_words.specs.Ghost.{IsHomeIn, shape_at, Each}
 use Rattle.hop_words.specs.Rule.{image}
-use Rattle.hop_words.specs.Kinds.{TakesEffect, IsShownIn, HasRoom, SaysDepth}
+use Rattle.hop_words.specs.Kinds.{TakesEffect, IsShownIn, KeysHaveRoom, SaysDepth}
 use Rattle.hop_words.specs.Locking.{lock_of, HasLastLock}
 use Rattle.hop_words.specs.Listing.{ListsSegment, lock_given}
 use Rattle.hop_map.specs.Noting.{TakesLocks, CallNotes}
@@ -71,7 +71,7 @@ pub record Opens (a : About) (l : Known) (m s : ℕ) (old : List (List ℕ)) : T
   pub last : HasLastLock l m s
   pub none : (key : List ℕ) → IsHomeIn a (lock_of l) key → is_among key old ≡ false
   pub shown : AllByRecursion (IsShownIn a m l.locks) old
-  pub room : HasRoom a m l.locks
+  pub room : KeysHaveRoom a m l.locks
   pub distinct : AreDistinct old
 
 -- what that segment adds to the list, whose keys were of other segments

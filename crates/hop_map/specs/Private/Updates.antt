@@ -13,7 +13,7 @@ use Rattle.hop_words.specs.Content.{HasKey}
 use Rattle.hop_words.specs.Ghost.{shape_at}
 use Rattle.hop_words.specs.Rule.{image}
 use Rattle.hop_words.specs.Shortage.{done_in}
-use Rattle.hop_words.specs.Kinds.{has, holding, TakesEffect, Answers}
+use Rattle.hop_words.specs.Kinds.{has, holding, TakesEffect, AnswersUnderLock}
 use Rattle.bpf_shared.specs.Own.{in_run}
 use Rattle.hop_words.specs.Locking.{lock_of, hand}
 use Rattle.hop_seg.specs.Content.{IsAbsent as SegAbsent}
@@ -27,7 +27,7 @@ use Rattle.hop_map.specs.Private.LockedSegment.{seen_words}
 use Rattle.hop_map.specs.Noting.{BusyFirst}
 use Rattle.hop_map.specs.Call.{SearchesInVain}
 use Rattle.hop_arena.specs.declared.element.Element.{Element}
-use Rattle.hop_epoch.specs.Batch.{Keeps}
+use Rattle.hop_epoch.specs.Batch.{KeepsBatches}
 use Rattle.hop_map.specs.Private.UnderLock.{IsInsertion}
 use Rattle.hop_map.specs.Private.Replacing.{IsReplacement}
 use Rattle.hop_layout.specs.Layout.{gained}
@@ -76,7 +76,7 @@ abbrev pub DecidesUpdate : Locked → List ℕ → List ℕ → ℕ → Finding 
 DecidesUpdate x key bytes flags (Refuses r) =
     (r ≢ Done) × (r ≢ NoMemory) × BusyFirst (lock_of x.known).stamp r
     × (Ready x.about x.known x.map x.segment →
-    Answers x.about x.known (lock_of x.known) (Update x.map key bytes flags r))
+    AnswersUnderLock x.about x.known (lock_of x.known) (Update x.map key bytes flags r))
 DecidesUpdate x key bytes flags (There found) =
     ((lock_of x.known).stamp + 256 < 2 ^ 64) × (flags ≢ 1) × IsSpot (seen_words x) key found
 DecidesUpdate x key bytes flags Missing =
@@ -110,6 +110,6 @@ SpillsTo s (Refused r) = Unit {0}
 
 -- the element in hand is new, or each was looked for in vain
 abbrev pub ClaimsOrLacks : About → Known → ℕ → Option Element → Known → Type 0
-ClaimsOrLacks a l m None l' = Keeps m l l' × SearchesInVain a l m l'
-ClaimsOrLacks a l m (Some x) l' = Keeps m (holding l m x.number) l' × (x.map ≡ m)
+ClaimsOrLacks a l m None l' = KeepsBatches m l l' × SearchesInVain a l m l'
+ClaimsOrLacks a l m (Some x) l' = KeepsBatches m (holding l m x.number) l' × (x.map ≡ m)
     × (x.number < elements (shape_at a m))

@@ -11,7 +11,7 @@ use Rattle.bpf_debug.proofs.going.go.Goals as goal
 
 pub loop-cpu-init : goal.loop-cpu-init
 loop-cpu-init c = record {
-  comes = starts c.args.breakpoints.now (option_map watched c.args.watch.now) c.args.low c.args.high c.args.course.now c.args.machine.now (string_bytes c.args.out.now);
+  comes = starts c.args.breakpoints.now (option_map watched c.args.watching.watch.now) c.args.cpus.low c.args.cpus.high c.args.course.now c.args.machine.now (string_bytes c.args.out.now);
   watched = c.requires.watched;
   same = same_host c.args.machine.now;
   room = c.requires.room;
@@ -22,9 +22,9 @@ loop-cpu-init c = record {
 pub returns-in-Some-stop_before-clause-goes : goal.returns-in-Some-stop_before-clause-goes
 returns-in-Some-stop_before-clause-goes c =
     let breaks = c.args.breakpoints.now in
-    let watch = option_map watched c.args.watch.now in
-    let low = c.args.low in
-    let high = c.args.high in
+    let watch = option_map watched c.args.watching.watch.now in
+    let low = c.args.cpus.low in
+    let high = c.args.cpus.high in
     let noted = c.args.course.now in
     let notes = c.loop-cpu.course in
     let old = c.args.machine.now in
@@ -38,9 +38,9 @@ returns-in-Some-stop_before-clause-goes c =
 pub loop-cpu-smaller : goal.loop-cpu-smaller
 loop-cpu-smaller c =
     let breaks = c.args.breakpoints.now in
-    let watch = option_map watched c.args.watch.now in
-    let low = c.args.low in
-    let high = c.args.high in
+    let watch = option_map watched c.args.watching.watch.now in
+    let low = c.args.cpus.low in
+    let high = c.args.cpus.high in
     let noted = c.args.course.now in
     let notes = c.loop-cpu.course in
     let old = c.args.machine.now in
@@ -57,9 +57,9 @@ loop-cpu-smaller c =
 pub loop-cpu-preserved : goal.loop-cpu-preserved
 loop-cpu-preserved c =
     let breaks = c.args.breakpoints.now in
-    let watch = option_map watched c.args.watch.now in
-    let low = c.args.low in
-    let high = c.args.high in
+    let watch = option_map watched c.args.watching.watch.now in
+    let low = c.args.cpus.low in
+    let high = c.args.cpus.high in
     let noted = c.args.course.now in
     let notes = c.loop-cpu.course in
     let old = c.args.machine.now in
@@ -79,7 +79,7 @@ loop-cpu-preserved c =
     in
     let fall = falls c.turns_fall.ensures breaks watch low high noted notes old new next before after c.loop-cpu.from marks cpu c.turn-turn.result w shows comes c.turn-turn.ensures.turn in
     let works = not_idle breaks watch low high noted notes old new next before after c.loop-cpu.from marks cpu c.turn-turn.result w shows comes c.in-Some.ensures.up.works c.turn-turn.ensures.turn in
-    let value = option_map (λ (b : Vec ℕ Global). b.items) c.args.before.now in
+    let value = option_map (λ (b : Vec ℕ Global). b.items) c.args.watching.before.now in
     let now : ShowsWatched next.store watch value = subst (λ (p : Contents). ShowsWatched p watch value) c.store.ensures (c.has_changed.ensures.same c.if-has_changed.false) in
     let T : List ℕ → Type 0 = λ s. Comes breaks watch low high noted old before next (cpu + 1) (slice_set marks cpu true) c.add.new.self s in
     record {
@@ -94,9 +94,9 @@ loop-cpu-preserved c =
 pub returns-clause-goes : goal.returns-clause-goes
 returns-clause-goes c =
     let breaks = c.args.breakpoints.now in
-    let watch = option_map watched c.args.watch.now in
-    let low = c.args.low in
-    let high = c.args.high in
+    let watch = option_map watched c.args.watching.watch.now in
+    let low = c.args.cpus.low in
+    let high = c.args.cpus.high in
     let noted = c.args.course.now in
     let notes = c.loop-cpu.course in
     let old = c.args.machine.now in
@@ -112,9 +112,9 @@ returns-clause-goes c =
 pub put_changed-requires : goal.put_changed-requires
 put_changed-requires c =
     let breaks = c.args.breakpoints.now in
-    let watch = option_map watched c.args.watch.now in
-    let low = c.args.low in
-    let high = c.args.high in
+    let watch = option_map watched c.args.watching.watch.now in
+    let low = c.args.cpus.low in
+    let high = c.args.cpus.high in
     let noted = c.args.course.now in
     let notes = c.loop-cpu.course in
     let old = c.args.machine.now in
@@ -138,9 +138,9 @@ returns-then-has_changed-clause-same c = same_host_still c.args.machine.now c.lo
 pub returns-then-has_changed-clause-goes : goal.returns-then-has_changed-clause-goes
 returns-then-has_changed-clause-goes c =
     let breaks = c.args.breakpoints.now in
-    let watch = option_map watched c.args.watch.now in
-    let low = c.args.low in
-    let high = c.args.high in
+    let watch = option_map watched c.args.watching.watch.now in
+    let low = c.args.cpus.low in
+    let high = c.args.cpus.high in
     let noted = c.args.course.now in
     let notes = c.loop-cpu.course in
     let old = c.args.machine.now in
@@ -157,7 +157,7 @@ returns-then-has_changed-clause-goes c =
     let may : (get_or marks cpu false ≡ false) ⊎ ((p : ℕ) × StandsAt new.jobs cpu p × (has_break breaks cpu p ≡ false)) =
     none_is _ c.stop_before.result c.stop_before.ensures.free c.in_default-stop_before.not-Some
     in
-    let value = option_map (λ (b : Vec ℕ Global). b.items) c.args.before.now in
+    let value = option_map (λ (b : Vec ℕ Global). b.items) c.args.watching.before.now in
     let other : ShowsOther next.store watch value = subst (λ (p : Contents). ShowsOther p watch value) c.store.ensures (c.has_changed.ensures.changed c.if-has_changed.true) in
     let L : List ℕ → Type 0 = Leads breaks watch low high noted old new before c.loop-cpu.from marks notes after comes next c.add.new.self in
     let put = c.put_changed.ensures ∙ ap (λ (s : List ℕ). s ++ changed_line cpu) c.put_ended.ensures.text in

@@ -1,24 +1,22 @@
-use Rattle.std.proofs.Common.{◌∙◌, ◌++◌, List, ℕ, map, refl, ap}
+use Rattle.std.proofs.Common.{map}
 use Rattle.std.specs.Prelude.{string_bytes}
-use Rattle.bpf_cpu.specs.Task.{waiting}
-use Rattle.bpf_jobs.specs.Printed.{asked_world}
-use Rattle.bpf_events.proofs.Histories.{history_told, same_shape}
+use Rattle.std.proofs.lemmas.Result.{IfOk-weaker}
+use Rattle.bpf_machine.specs.Machine.{Shows}
+use Rattle.bpf_machine.specs.Schedule.{World}
+use Rattle.bpf_jobs.specs.declared.rounds.Report.{Report}
+use Rattle.bpf_jobs.specs.Printed.{asked_of}
+use Rattle.bpf_events.specs.Reports.{IsHistory}
 use Rattle.bpf_events.proofs.history.run_with_history.Goals as goal
 
-pub make_turns-requires : goal.make_turns-requires
-make_turns-requires c =
-    same_shape c.args.setup.shape c.in_ok-machine.machine (asked_world c.args.keys c.args.setup.shape c.args.setup.programs.items (map waiting c.args.setup.jobs.items)) c.in_ok-recorder.recorder c.in_ok-machine.ensures refl c.in_ok-recorder.ensures
-
-pub make_rounds-requires-clause-shows : goal.make_rounds-requires-clause-shows
-make_rounds-requires-clause-shows c =
-    let r = c.in_ok-make_turns.ensures.told (asked_world c.args.keys c.args.setup.shape c.args.setup.programs.items (map waiting c.args.setup.jobs.items)) c.in_ok-machine.ensures in
-    (r.0, r.3)
+pub history_of-requires-clause-shows : goal.history_of-requires-clause-shows
+history_of-requires-clause-shows c = (asked_of c.args.keys c.args.setup, c.in_ok-machine.ensures.shows)
 
 pub returns : goal.returns
 returns c =
-    let later = string_bytes c.make_rounds.new.text in
-    let report = c.in_ok-report.report in
-    history_told (asked_world c.args.keys c.args.setup.shape c.args.setup.programs.items (map waiting c.args.setup.jobs.items)) c.in_ok-machine.machine c.make_turns.new.machine c.make_rounds.new.machine (map string_bytes c.args.names.now)
-    c.args.schedule.now c.args.maps (string_bytes c.new-text.result) (string_bytes c.make_turns.new.text) later (string_bytes report.text) (string_bytes c.push_str.new.self) report.stopped c.in_ok-machine.ensures c.new-text.ensures.bytes
-    c.in_ok-make_turns.ensures.told c.in_ok-make_rounds.ensures.told c.in_ok-make_rounds.ensures.ended c.in_ok-report.ensures
-    (c.in_ok-push_str.ensures.bytes ∙ ap (λ (x : List ℕ). later ++ x) c.as_str.ensures.value)
+    let w = asked_of c.args.keys c.args.setup in
+    let names = map string_bytes c.args.names.now in
+    let runs = c.args.schedule.now in
+    let maps = c.args.maps in
+    let m = c.in_ok-machine.machine in
+    IfOk-weaker c.history_of.result (λ (r : Report). (v : World) → Shows m v → IsHistory v runs names maps (string_bytes r.text) r.stopped) (λ (r : Report). IsHistory w runs names maps (string_bytes r.text) r.stopped)
+    (λ r told. told w c.in_ok-machine.ensures.shows) c.history_of.ensures

@@ -1,4 +1,4 @@
-use Rattle.std.proofs.Common.{◌≡◌, ◌∙◌, ◌+◌, List, true, inl, inr, refl, sym, subst, arith}
+use Rattle.std.proofs.Common.{◌∙◌, ◌+◌, List, inl, inr, refl, sym, subst, arith}
 use Rattle.bpf_machine.specs.Machine.{MachineState}
 use Rattle.bpf_explore.specs.Private.Ends.{AreMarked}
 use Rattle.bpf_explore.specs.Private.Hung.{AllHang, AllBeyondBelow}

@@ -1,32 +1,23 @@
-use Rattle.std.proofs.Common.{◌≡◌, ◌∙◌, map, sym, subst}
-use Rattle.bpf_shared.specs.Shape.{Shape}
-use Rattle.bpf_cpu.specs.Task.{waiting}
+use Rattle.std.proofs.Common.{ℕ, true}
+use Rattle.std.proofs.lemmas.Result.{IfOk-weaker}
 use Rattle.bpf_machine.specs.Schedule.{World}
-use Rattle.bpf_jobs.specs.Printed.{first_world}
-use Rattle.bpf_explore.specs.Stores.{IsOfShape}
-use Rattle.bpf_explore.proofs.ExploreLaws.{whole_of, first_shape, first_lists_none, first_fresh, still_first}
-use Rattle.bpf_races.proofs.Searching.{are_races_patiently}
+use Rattle.bpf_jobs.specs.Printed.{first_of}
+use Rattle.bpf_explore.specs.Album.{BeginsAt}
+use Rattle.bpf_explore.specs.Search.{CameTo}
+use Rattle.bpf_explore.proofs.ExploreLaws.{still_begins}
+use Rattle.bpf_races.specs.declared.search.Races.{Races}
+use Rattle.bpf_races.specs.Races.{AreRaces}
 use Rattle.bpf_races.proofs.search.find_races_patiently.Goals as goal
-
-pub new-requires-clause-shape : goal.new-requires-clause-shape
-new-requires-clause-shape g c =
-    let same : c.in_ok-copy.copy ≡ c.args.setup.shape = c.in_ok-copy.ensures in
-    let m = c.in_ok-machine.machine in
-    subst (λ (h : Shape). IsOfShape h m.store) (sym same) (first_shape c.args.setup.shape m c.args.setup.programs.items (map waiting c.args.setup.jobs.items) c.in_ok-machine.ensures)
-
-pub new-requires-clause-lists : goal.new-requires-clause-lists
-new-requires-clause-lists g c =
-    first_lists_none c.args.setup.shape c.in_ok-machine.machine c.args.setup.programs.items (map waiting c.args.setup.jobs.items) c.in_ok-machine.ensures
 
 pub returns : goal.returns
 returns g c =
-    let m = c.in_ok-machine.machine in
-    let programs = c.args.setup.programs.items in
-    let jobs = c.args.setup.jobs.items in
-    let w : World = first_world c.args.setup.shape programs (map waiting jobs) in
-    let shows = c.in_ok-machine.ensures in
+    let w = first_of c.args.setup in
+    let sync = c.args.sync.now in
+    let limit = c.args.limit in
     let kept = c.explore-extent.new.frontier.kept in
-    are_races_patiently kept w c.args.sync.now c.in_ok-list.list.items c.explore-extent.result c.args.limit c.is_whole-whole.result c.is_refused-refused.result c.in_ok-list.listed c.both-all.result
-    (first_fresh c.args.setup.shape m programs jobs c.requires.contexts shows)
-    (still_first c.in_ok-explorer.explorer.kept kept m w c.in_ok-explorer.ensures.first c.explore-extent.ensures.extends shows)
-    c.in_ok-list.ensures.gathered c.in_ok-list.ensures.listed c.both-all.ensures.both c.is_whole-whole.ensures c.is_refused-refused.ensures c.patient_races_are_kept.ensures c.kept_race_free_is_same.ensures (λ is. c.explore-extent.ensures.whole (whole_of c.explore-extent.result (sym c.is_whole-whole.ensures ∙ is)))
+    let extent = c.explore-extent.result in
+    let searched = c.explore-extent.ensures in
+    let begins : BeginsAt kept w = still_begins c.in_ok-watcher.explorer.kept kept w c.in_ok-watcher.ensures searched.extends in
+    let came : CameTo true kept extent limit = record { whole = searched.whole; covers = searched.covers; met = searched.met; short = searched.short } in
+    IfOk-weaker c.conclude_patiently.result (λ (r : Races). (v : World) (n : ℕ) → BeginsAt kept v → CameTo true kept extent n → AreRaces true v sync r.list.items r.all r.refused n) (λ (r : Races). AreRaces true w sync r.list.items r.all r.refused limit)
+    (λ r found. found w limit begins came) c.conclude_patiently.ensures

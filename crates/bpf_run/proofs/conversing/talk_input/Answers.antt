@@ -1,5 +1,5 @@
 use Rattle.std.proofs.Common.{◌≡◌, ℕ, List, Some, false, subst}
-use Rattle.bpf_run.specs.Answer.{stats_of}
+use Rattle.bpf_replies.specs.Answer.{stats_of}
 use Rattle.bpf_run.specs.Conversing.{Converses, Holds}
 use Rattle.bpf_run.proofs.conversing.talk_input.Goals as goal
 

@@ -1,7 +1,7 @@
 use Rattle.std.proofs.Common.{◌≡◌, Err, ap, refl}
-use Rattle.bpf_run.specs.Answer.{stats_of}
+use Rattle.bpf_replies.specs.Answer.{stats_of}
 use Rattle.bpf_run.specs.Conversing.{Converses}
-use Rattle.bpf_run.specs.declared.input.InputError.{InputError}
+use Rattle.bpf_replies.specs.declared.input.InputError.{InputError}
 use Rattle.bpf_run.proofs.Opened.{not_read, was_read}
 use Rattle.bpf_run.proofs.conversing.talk_named.Goals as goal
 

@@ -1,7 +1,7 @@
 use Rattle.std.proofs.Common.{◌≡◌, refl}
-use Rattle.bpf_run.specs.Answer.{stats_of}
+use Rattle.bpf_replies.specs.Answer.{stats_of}
 use Rattle.bpf_run.specs.Conversing.{Converses}
-use Rattle.bpf_run.specs.Script.{scene_of}
+use Rattle.bpf_replies.specs.Script.{scene_of}
 use Rattle.bpf_run.specs.declared.conversing.Partner.TheVariants as partner
 use Rattle.bpf_run.proofs.Opened.{replied, talked}
 use Rattle.bpf_run.proofs.debugging.debug_text.Goals as goal

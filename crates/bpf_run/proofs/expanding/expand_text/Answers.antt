@@ -1,6 +1,6 @@
 use Rattle.std.proofs.Common.{◌≡◌, refl, subst}
 use Rattle.bpf_expand.specs.Filter.{FilterState}
-use Rattle.bpf_run.specs.Answer.{stats_of}
+use Rattle.bpf_replies.specs.Answer.{stats_of}
 use Rattle.bpf_run.specs.Conversing.{Converses, StatesFrom}
 use Rattle.bpf_run.specs.declared.conversing.Partner.TheVariants as partner
 use Rattle.bpf_run.proofs.Opened.{states_refused, states_talked}

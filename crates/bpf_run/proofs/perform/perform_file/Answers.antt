@@ -1,4 +1,4 @@
-use Rattle.bpf_run.specs.Answer.{stats_of}
+use Rattle.bpf_replies.specs.Answer.{stats_of}
 use Rattle.bpf_run.proofs.ReplyLemmas.{opened, unopened}
 use Rattle.bpf_run.proofs.perform.perform_file.Goals as goal
 

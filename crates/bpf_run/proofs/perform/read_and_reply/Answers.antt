@@ -1,6 +1,6 @@
 use Rattle.std.proofs.Common.{ℕ, List, Err, ap, subst}
 use Rattle.bpf_run.specs.Commands.{IsReply}
-use Rattle.bpf_run.specs.declared.input.InputError.{InputError}
+use Rattle.bpf_replies.specs.declared.input.InputError.{InputError}
 use Rattle.bpf_run.proofs.ReplyLemmas.{replied, unread}
 use Rattle.bpf_run.proofs.perform.read_and_reply.Goals as goal
 

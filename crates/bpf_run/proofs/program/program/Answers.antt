@@ -1,12 +1,12 @@
 use Rattle.std.proofs.Common.{◌≡◌, ℕ, List, string_bytes}
 use Rattle.bpf_command.specs.declared.command.Request.{Request}
 use Rattle.bpf_command.specs.declared.command_line.CommandError.{CommandError}
-use Rattle.bpf_run.specs.Answer.{Prints}
+use Rattle.bpf_replies.specs.Answer.{Prints}
 use Rattle.bpf_run.specs.Program.{Follows, IsPrintedAs}
 use Rattle.bpf_run.specs.Conversing.{Converses}
-use Rattle.bpf_run.specs.declared.refusal.Refusal.{Refusal}
-use Rattle.bpf_run.specs.declared.reply.Reply.TheVariants as reply
-use Rattle.bpf_run.specs.declared.reply.Status.{Status}
+use Rattle.bpf_replies.specs.declared.refusal.Refusal.{Refusal}
+use Rattle.bpf_replies.specs.declared.reply.Reply.TheVariants as reply
+use Rattle.bpf_replies.specs.declared.reply.Status.{Status}
 use Rattle.bpf_run.proofs.Followed.{followed, lacked, shown_of}
 use Rattle.bpf_run.proofs.program.program.Goals as goal
 

@@ -1,7 +1,7 @@
 use Rattle.std.proofs.Common.{◌≡◌, ℕ, sym, ap, ◌∙◌, arith, ⊎_elim}
+use Rattle.std.proofs.lemmas.Bool.{cases_eq}
 use Rattle.bpf_shared.specs.Listing.{listed}
 use Rattle.hop_words.specs.Content.{item}
-use Rattle.hop_words.proofs.Small.{equal}
 use Rattle.hop_map.specs.Private.Dumping.{words_in, key_in}
 use Rattle.hop_map.proofs.Dumps.{adds_on}
 use Rattle.hop_map.proofs.dumping.add_placed.Goals as goal
@@ -18,7 +18,7 @@ places-preserved c =
       keys = λ p i l is. ⊎_elim
           (λ (at : p ≡ c.places.place). c.in_ok-add_at.ensures.key i (ap (λ (q : ℕ). item ((words_in e).slot m s q)) (sym at) ∙ is))
           (λ ne. c.in_ok-add_at.ensures.adds.kept (key_in e m i) (c.places.invariant.keys p i (omega arith) is))
-          (equal p c.places.place);
+          (cases_eq p c.places.place);
     }
 
 pub returns-clause-keys : goal.returns-clause-keys

@@ -1,5 +1,5 @@
 use Rattle.std.proofs.Common.{◌≡◌, sym, ◌∙◌, ⊎_elim}
-use Rattle.hop_words.proofs.Small.{equal}
+use Rattle.std.proofs.lemmas.Bool.{cases_eq}
 use Rattle.hop_map.proofs.Peeking.{finds}
 use Rattle.hop_map.proofs.Onces.{asks_there, begun, home_there, disturbed_last, found_once, read_stamp, reads_once, walked_home, way_of}
 use Rattle.hop_map.proofs.Loads.{loads_found, loads_last}
@@ -102,4 +102,4 @@ returns-clause-loads c = λ l asks walked.
     ⊎_elim
     (λ (same : c.see_again-lane.result.1 ≡ n). loads_found a l m h s n c.args.lane.known walked c.requires.even x.result y x.ensures.about x.ensures.known x.ensures.map c.find-found.ensures.rests c.find-found.ensures.reads key c.find-found.result c.see_again-lane.result.1 l3 c.see_again-lane.ensures.seen (same ∙ sym stamp))
     (λ ne. loads_last a l m h s n c.args.lane.known walked c.requires.even x.result y x.ensures.about x.ensures.known x.ensures.map c.find-found.ensures.rests c.find-found.ensures.reads key c.find-found.result c.see_again-lane.result.1 l3 c.see_again-lane.ensures.seen (λ e. ne (e ∙ stamp)))
-    (equal c.see_again-lane.result.1 n)
+    (cases_eq c.see_again-lane.result.1 n)

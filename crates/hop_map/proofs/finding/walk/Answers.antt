@@ -4,7 +4,7 @@ use Rattle.hop_layout.specs.Layout.{power}
 use Rattle.hop_words.specs.declared.known.Known.{Known}
 use Rattle.hop_words.specs.Depths.{stamp_depth}
 use Rattle.hop_words.specs.Sights.{look}
-use Rattle.hop_words.specs.Walking.{IsNext}
+use Rattle.hop_words.specs.Walking.{IsNextSegment}
 use Rattle.hop_map.proofs.Ways.{small, near_there, near_inside, near_born, nearer, near_stopped}
 use Rattle.hop_map.proofs.finding.walk.Goals as goal
 
@@ -50,7 +50,7 @@ see_stamp-stamp-requires-clause-inside c =
     let t = i.near b.0 b.1 in
     let d = c.depth_of.ensures in
     let e = c.in-Some.ensures.way in
-    let on : IsNext c.way.way (stamp_depth c.way.stamp) c.in-Some.next = subst (λ (i : ℕ). IsNext c.way.way i c.in-Some.next) d e.1 in
+    let on : IsNextSegment c.way.way (stamp_depth c.way.stamp) c.in-Some.next = subst (λ (i : ℕ). IsNextSegment c.way.way i c.in-Some.next) d e.1 in
     near_inside a b.0 m home c.way.stamp c.way.way t.0 c.way.lane.known t.1 c.in-Some.next e.0 on
 
 pub see_stamp-stamp-requires-clause-born : goal.see_stamp-stamp-requires-clause-born
@@ -63,7 +63,7 @@ see_stamp-stamp-requires-clause-born c =
     let t = i.near b.0 b.1 in
     let d = c.depth_of.ensures in
     let e = c.in-Some.ensures.way in
-    let on : IsNext c.way.way (stamp_depth c.way.stamp) c.in-Some.next = subst (λ (i : ℕ). IsNext c.way.way i c.in-Some.next) d e.1 in
+    let on : IsNextSegment c.way.way (stamp_depth c.way.stamp) c.in-Some.next = subst (λ (i : ℕ). IsNextSegment c.way.way i c.in-Some.next) d e.1 in
     near_born a b.0 m home c.way.stamp c.way.way t.0 c.way.lane.known t.1 c.in-Some.next e.0 on
 
 pub returns-then-stamp-eq1-clause-walked : goal.returns-then-stamp-eq1-clause-walked
@@ -77,7 +77,7 @@ returns-then-stamp-eq1-clause-walked c = λ k begins.
     let d = c.depth_of.ensures in
     let u = i.near k begins in
     let e = c.in-Some.ensures.way in
-    let on : IsNext c.way.way (stamp_depth c.way.stamp) c.in-Some.next = subst (λ (i : ℕ). IsNext c.way.way i c.in-Some.next) d e.1 in
+    let on : IsNextSegment c.way.way (stamp_depth c.way.stamp) c.in-Some.next = subst (λ (i : ℕ). IsNextSegment c.way.way i c.in-Some.next) d e.1 in
     near_stopped a k m home c.way.stamp c.way.way u.0 c.way.lane.known u.1 c.in-Some.next e.0 on c.see_stamp-stamp.result c.see_stamp-stamp.new.self.known c.see_stamp-stamp.ensures.seen c.requires.grows c.if-stamp-eq1.true
 
 pub way-preserved : goal.way-preserved
@@ -90,7 +90,7 @@ way-preserved c =
     let t = i.near b.0 b.1 in
     let d = c.depth_of.ensures in
     let e = c.in-Some.ensures.way in
-    let on : IsNext c.way.way (stamp_depth c.way.stamp) c.in-Some.next = subst (λ (i : ℕ). IsNext c.way.way i c.in-Some.next) d e.1 in
+    let on : IsNextSegment c.way.way (stamp_depth c.way.stamp) c.in-Some.next = subst (λ (i : ℕ). IsNextSegment c.way.way i c.in-Some.next) d e.1 in
     let even : c.see_stamp-stamp.result % 2 ≡ 0 = (let z = c.if-stamp-eq1.false in omega arith) in
     record {
       table = c.see_stamp-stamp.ensures.table ∙ i.table;

@@ -6,7 +6,7 @@ use Rattle.bpf_shared.specs.Access.{bytes_in}
 use Rattle.bpf_shared.specs.Shape.{IsShape, element_stride}
 use Rattle.hop_layout.specs.declared.about.About.{About}
 use Rattle.hop_words.specs.Ghost.{shape_at}
-use Rattle.hop_words.specs.Kinds.{Touches}
+use Rattle.hop_words.specs.Kinds.{TouchesHeldValue}
 use Rattle.hop_map.proofs.Touching.{map_there, touches}
 use Rattle.hop_map.proofs.parts.part_at.Goals as goal
 
@@ -42,9 +42,9 @@ returns-clause-touches c = λ l h.
     let q : ℕ = (c.shape_of.result.value + 7) / 8 in
     let b = bytes_in c.args.size in
     let t = touches a s c.args.at.at c.args.size c.shape_of.result (q * 8) c.shape_of.ensures.shape (omega arith) l h in
-    subst (λ (e : ℕ). Touches a l m e (c.divided-element.result.1 / 8) (n % 8) b) (sym c.divided-element.ensures.value)
-    (subst (λ (r : ℕ). Touches a l m (n / (q * 8)) (r / 8) (n % 8) b) (sym c.divided-element.ensures.place)
-    (subst (λ (k : ℕ). Touches a l m (n / (q * 8)) (n % (q * 8) / 8) k b) (whole n q) t))
+    subst (λ (e : ℕ). TouchesHeldValue a l m e (c.divided-element.result.1 / 8) (n % 8) b) (sym c.divided-element.ensures.value)
+    (subst (λ (r : ℕ). TouchesHeldValue a l m (n / (q * 8)) (r / 8) (n % 8) b) (sym c.divided-element.ensures.place)
+    (subst (λ (k : ℕ). TouchesHeldValue a l m (n / (q * 8)) (n % (q * 8) / 8) k b) (whole n q) t))
 
 pub returns-clause-at : goal.returns-clause-at
 returns-clause-at c =

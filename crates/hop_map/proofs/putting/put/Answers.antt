@@ -1,6 +1,6 @@
 use Rattle.std.proofs.Common.{sym, subst}
 use Rattle.bpf_shared.specs.declared.events.Event.TheVariants.{Update}
-use Rattle.hop_words.specs.Kinds.{Answers}
+use Rattle.hop_words.specs.Kinds.{AnswersUnderLock}
 use Rattle.hop_words.specs.Locking.{lock_of}
 use Rattle.hop_seg.specs.Content.{IsAbsent}
 use Rattle.hop_seg.specs.Spots.{IsSpot}
@@ -10,7 +10,7 @@ use Rattle.hop_map.proofs.putting.put.Goals as goal
 
 pub unlock_update-requires-clause-answers : goal.unlock_update-requires-clause-answers
 unlock_update-requires-clause-answers g c =
-    subst (λ (z : Locked). Ready z.about z.known z.map z.segment → Answers z.about z.known (lock_of z.known) (Update z.map c.args.key.now c.args.value.now c.args.flags c.in-Refuses.answer)) (sym c.judge.ensures.same)
+    subst (λ (z : Locked). Ready z.about z.known z.map z.segment → AnswersUnderLock z.about z.known (lock_of z.known) (Update z.map c.args.key.now c.args.value.now c.args.flags c.in-Refuses.answer)) (sym c.judge.ensures.same)
     c.in-Refuses.ensures.judges.3
 
 pub put_over-lane-requires-clause-there : goal.put_over-lane-requires-clause-there

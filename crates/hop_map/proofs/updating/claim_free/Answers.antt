@@ -1,7 +1,7 @@
 use Rattle.std.proofs.Common.{ℕ, Some, None, Option, sym, subst, ◌∙◌}
 use Rattle.hop_words.specs.declared.known.Known.{Known}
 use Rattle.hop_arena.specs.declared.element.Element.{Element}
-use Rattle.hop_epoch.specs.Batch.{Keeps}
+use Rattle.hop_epoch.specs.Batch.{KeepsBatches}
 use Rattle.hop_epoch.proofs.Batching.{keeps_then}
 use Rattle.hop_map.specs.Call.{Searches, AreBatchesOf}
 use Rattle.hop_map.specs.Private.Updates.{ClaimsOrLacks}
@@ -46,7 +46,7 @@ patience-preserved c =
     let found : ClaimsOrLacks a k c.patience.arena.map None l' = subst (λ (o : Option Element). ClaimsOrLacks a k c.patience.arena.map o l') c.in_default-reclaim_and_claim.is e.claimed in
     record {
       table = c.waits_for_others.ensures.table ∙ (e.table ∙ i.table);
-      keeps = subst (Keeps m l) same (keeps_then m l k l' i.keeps (subst (λ (n : ℕ). Keeps n k l') i.arena.0 found.0));
+      keeps = subst (KeepsBatches m l) same (keeps_then m l k l' i.keeps (subst (λ (n : ℕ). KeepsBatches n k l') i.arena.0 found.0));
       arena = subst (λ (n : ℕ). Searches a n c.reclaim_and_claim.new.arena) i.arena.0 e.arena;
       batches = subst (λ (z : Known). AreBatchesOf a z m c.reclaim_and_claim.new.batches) same (subst (λ (n : ℕ). AreBatchesOf a l' n c.reclaim_and_claim.new.batches) i.arena.0 e.batches);
     }

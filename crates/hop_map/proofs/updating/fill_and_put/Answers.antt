@@ -10,7 +10,7 @@ use Rattle.hop_words.specs.Ghost.{shape_at, limbo_at}
 use Rattle.bpf_shared.specs.History.{events_of}
 use Rattle.hop_words.specs.Shortage.{done_in, updates_of}
 use Rattle.hop_words.specs.Kinds.{retiring}
-use Rattle.hop_words.specs.Owning.{tail_of, IsInHand, IsAnswered}
+use Rattle.hop_words.specs.Owning.{tail_of, IsInHand, IsUpdateAnswered}
 use Rattle.hop_map.specs.declared.ending.Ending.{Ending}
 use Rattle.hop_map.specs.Private.Replacing.{IsReplacement}
 use Rattle.hop_words.specs.Sights.{lock_taken, bit_set}
@@ -87,7 +87,7 @@ give_back-requires-clause-answered g c =
     let room : m < length l.limbo = subst (λ (i : ℕ). i < length l.limbo) c.requires.batches.0 c.requires.batches.1.room in
     let k = lock_taken m c.lock_and_put-lane.ensures.ends.0 c.lock_and_put-lane.ensures.ends.1 in
     let p : Refusal a (locked_with c.fill.new.lane.known k) m key bytes c.args.flags c.in-Refused.answer c.lock_and_put-lane.result.0.known × (c.in-Refused.answer ≢ NoMemory) = subst (λ (q : Ending). UpdateEnds a (locked_with c.fill.new.lane.known k) m key bytes c.args.flags q c.lock_and_put-lane.result.0.known) c.in-Refused.is c.lock_and_put-lane.ensures.ends.3 in
-    subst (λ (i : ℕ). IsAnswered c.lock_and_put-lane.result.0.known i) (sym c.requires.map) (refused_answered a l m e c.requires.new key bytes c.fill.new.lane.known c.fill.ensures.filled c.requires.used room c.args.flags k c.lock_and_put-lane.result.0.known c.in-Refused.answer p.0)
+    subst (λ (i : ℕ). IsUpdateAnswered c.lock_and_put-lane.result.0.known i) (sym c.requires.map) (refused_answered a l m e c.requires.new key bytes c.fill.new.lane.known c.fill.ensures.filled c.requires.used room c.args.flags k c.lock_and_put-lane.result.0.known c.in-Refused.answer p.0)
 
 pub returns-in-Replaced-clause-called : goal.returns-in-Replaced-clause-called
 returns-in-Replaced-clause-called g c =

@@ -1,6 +1,6 @@
 use Rattle.std.proofs.Common.{ℕ, ◌⊎◌, [], ◌≡◌, subst}
 use Rattle.hop_words.specs.Ghost.{limbo_at}
-use Rattle.hop_epoch.specs.Batch.{Keeps, SeesRunning}
+use Rattle.hop_epoch.specs.Batch.{KeepsBatches, SeesRunning}
 use Rattle.hop_map.proofs.Wholes.{found_after, kept_runs}
 use Rattle.hop_map.proofs.updating.reclaim_and_claim.Goals as goal
 
@@ -13,7 +13,7 @@ returns-clause-claimed c =
     let l3 = c.claim_near.new.lane.known in
     let same = c.requires.batches.0 in
     found_after a m l l2 l3
-    (subst (λ (i : ℕ). Keeps i l l2) same c.reclaim.ensures.keeps)
+    (subst (λ (i : ℕ). KeepsBatches i l l2) same c.reclaim.ensures.keeps)
     (subst (λ (i : ℕ). (limbo_at l2.limbo i).old ≡ [] → (limbo_at l2.limbo i).young ≡ []) same c.reclaim.ensures.empty)
     (subst (λ (i : ℕ). ((limbo_at l2.limbo i).old ≡ []) ⊎ SeesRunning i l l2) same c.reclaim.ensures.blocked)
     c.claim_near.result c.claim_near.ensures.claimed

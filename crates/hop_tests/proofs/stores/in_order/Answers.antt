@@ -1,8 +1,8 @@
 use Rattle.std.proofs.Common.{◌≡◌, ℕ, ◌<◌, sym, ap, ◌∙◌, arith, ⊎_elim, length}
+use Rattle.std.proofs.lemmas.Bool.{cases_eq}
 use lib.ListN.{get_elem?}
 use Rattle.atomic_table.proofs.Lists.{at_index}
 use Rattle.hop_layout.specs.declared.about.About.{About}
-use Rattle.hop_words.proofs.Small.{equal}
 use Rattle.hop_tests.proofs.stores.in_order.Goals as goal
 
 pub ports-preserved : goal.ports-preserved
@@ -14,7 +14,7 @@ ports-preserved c = λ k l. ⊎_elim
     let same : p.known.cpu ≡ k = sym c.cpu.ensures ∙ (sym c.from.ensures ∙ (c.if-from-place.false ∙ sym e)) in
     (p, ap (λ (i : ℕ). get_elem? ports i) e ∙ at_index ports c.ports.place p inside c.index-ports-place.is, same))
     (λ ne. c.ports.invariant k (omega arith))
-    (equal k c.ports.place)
+    (cases_eq k c.ports.place)
 
 pub returns : goal.returns
 returns c = λ yes. record {

@@ -8,12 +8,12 @@ use Rattle.bpf_debug.specs.Session.{SessionState, Leaves}
 use Rattle.bpf_debug.proofs.SessionLaws.{told_nearby}
 use Rattle.bpf_debug.proofs.session.Session.nearby_at.Goals as goal
 
-pub returns-in-Ok-clause-answered : goal.returns-in-Ok-clause-answered
-returns-in-Ok-clause-answered c =
+pub returns-clause-answered : goal.returns-clause-answered
+returns-clause-answered c =
     let m = c.self.inside in
     let names : List (List ℕ) = map (λ n. string_bytes n) m.names.items in
     let s : SessionState = record { machine = m.machine; first = first_of m.origin m.machine.programs; names = names; breaks = m.breakpoints.items; watch = option_map watched m.watch; course = m.course } in
-    let last = string_bytes c.in-Ok.text in
+    let last = string_bytes c.in_ok-text.text in
     let P : SessionState → Type 0 = λ t. Leaves t (Nearby (Some c.args.cpu)) last t in
     let H : SessionState → Type 0 = λ t. has_cpu t.machine.store c.args.cpu ≡ true in
-    subst P c.self.view_is (told_nearby s c.args.cpu last (subst H (sym c.self.view_is) c.requires) c.in-Ok.ensures)
+    subst P c.self.view_is (told_nearby s c.args.cpu last (subst H (sym c.self.view_is) c.requires) c.in_ok-text.ensures)

@@ -16,4 +16,4 @@ returns-clause-answered c =
     let last = string_bytes c.put_registers.new.out in
     let P : SessionState → Type 0 = λ t. Leaves t (Registers (Some c.args.cpu)) last t in
     let H : SessionState → Type 0 = λ t. has_cpu t.machine.store c.args.cpu ≡ true in
-    subst P c.self.view_is (told_registers s c.args.cpu (string_bytes c.in-Some.out) last (subst H (sym c.self.view_is) c.requires) c.in-Some.ensures.empty c.put_registers.ensures)
+    subst P c.self.view_is (told_registers s c.args.cpu (string_bytes c.in_ok-out.out) last (subst H (sym c.self.view_is) c.requires) c.in_ok-out.ensures.empty c.put_registers.ensures)

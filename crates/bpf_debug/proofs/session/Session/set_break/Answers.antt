@@ -1,15 +1,13 @@
-use Rattle.std.proofs.Common.{◌≡◌, ℕ, List, Some, sym, subst, ◌∙◌, map, Result, String, Global}
-use Rattle.std.specs.Prelude.{true, false, IfOk, string_bytes, option_map}
+use Rattle.std.proofs.Common.{◌≡◌, ℕ, List, Some, sym, subst, ◌∙◌, map}
+use Rattle.std.specs.Prelude.{true, false, string_bytes, option_map}
 use Rattle.bpf_plain.specs.PlainStore.{has_cpu}
 use Rattle.bpf_debug.specs.Origin.{first_of}
 use Rattle.bpf_debug.specs.Command.{Break}
 use Rattle.bpf_debug.specs.Session.{SessionState, Leaves, IsPc}
-use Rattle.bpf_debug.specs.declared.error.DebugError.{DebugError}
 use Rattle.bpf_debug.specs.declared.breakpoint.Breakpoint.{Breakpoint}
 use Rattle.bpf_debug.specs.Go.{has_break, watched}
 use Rattle.bpf_debug.proofs.SessionLaws.{broken, is_kept, is_added}
 use Rattle.bpf_debug.proofs.session.Session.set_break.Goals as goal
-use Rattle.bpf_debug.proofs.session.Session.set_break.Goals.{in-Ok, in-Err}
 
 pub returns-then-has_break-clause-answered : goal.returns-then-has_break-clause-answered
 returns-then-has_break-clause-answered c =
@@ -23,7 +21,7 @@ returns-then-has_break-clause-answered c =
     let P : SessionState → Type 0 = λ s. Leaves s order last s in
     let H : SessionState → Type 0 = λ s. has_cpu s.machine.store c.args.cpu ≡ true in
     let I : SessionState → Type 0 = λ s. IsPc s.machine.programs c.args.pc in
-    subst P c.self.view_is (broken m.machine m.origin names breaks (option_map watched m.watch) m.course c.args.cpu c.args.pc breaks (string_bytes c.in-Some.out) last (subst H (sym c.self.view_is) c.requires.served) (subst I (sym c.self.view_is) c.requires.begins) (is_kept breaks c.args.cpu c.args.pc there) c.in-Some.ensures.empty c.put_break.ensures)
+    subst P c.self.view_is (broken m.machine m.origin names breaks (option_map watched m.watch) m.course c.args.cpu c.args.pc breaks (string_bytes c.in_ok-out.out) last (subst H (sym c.self.view_is) c.requires.served) (subst I (sym c.self.view_is) c.requires.begins) (is_kept breaks c.args.cpu c.args.pc there) c.in_ok-out.ensures.empty c.put_break.ensures)
 
 pub returns-clause-answered : goal.returns-clause-answered
 returns-clause-answered c =
@@ -35,12 +33,7 @@ returns-clause-answered c =
     let B : List Breakpoint → Type 0 = λ bs. false ≡ has_break bs c.args.cpu c.args.pc in
     let absent = subst B c.deref.ensures.value (sym c.if-has_break.false ∙ c.has_break.ensures) in
     let more = c.push.new.self.items in
-    let R : Result (String Global) DebugError → Type 0 = λ r. IfOk r (λ text. Leaves c.args.self.now order (string_bytes text) (record { machine = m.machine; first = first_of m.origin m.machine.programs; names = names; breaks = more; watch = option_map watched m.watch; course = m.course })) in
     let P : SessionState → Type 0 = λ s. Leaves s order last (record { machine = m.machine; first = first_of m.origin m.machine.programs; names = names; breaks = more; watch = option_map watched m.watch; course = m.course }) in
     let H : SessionState → Type 0 = λ s. has_cpu s.machine.store c.args.cpu ≡ true in
     let I : SessionState → Type 0 = λ s. IsPc s.machine.programs c.args.pc in
-    elim c.match-push.branch [
-      | in-Ok w ↦
-          subst R (sym w.result-is) (subst P c.self.view_is (broken m.machine m.origin names breaks (option_map watched m.watch) m.course c.args.cpu c.args.pc more (string_bytes c.in-Some.out) last (subst H (sym c.self.view_is) c.requires.served) (subst I (sym c.self.view_is) c.requires.begins) (w.in-Ok.ensures.items ∙ is_added breaks c.args.cpu c.args.pc absent) c.in-Some.ensures.empty c.put_break.ensures))
-      | in-Err w ↦ subst R (sym w.result-is) tt
-    ]
+    subst P c.self.view_is (broken m.machine m.origin names breaks (option_map watched m.watch) m.course c.args.cpu c.args.pc more (string_bytes c.in_ok-out.out) last (subst H (sym c.self.view_is) c.requires.served) (subst I (sym c.self.view_is) c.requires.begins) (c.in_ok-push.ensures.items ∙ is_added breaks c.args.cpu c.args.pc absent) c.in_ok-out.ensures.empty c.put_break.ensures)

@@ -16,4 +16,4 @@ returns-clause-answered c =
     let last = string_bytes c.put_off.new.out in
     let P : SessionState → Type 0 = λ t. Leaves t (Show (Some c.args.cpu)) last t in
     let H : SessionState → Type 0 = λ t. has_cpu t.machine.store c.args.cpu ≡ true in
-    subst P c.self.view_is (told_no_shown s c.args.cpu (string_bytes c.in-Some.out) last (subst H (sym c.self.view_is) c.requires.served) c.in-Some.ensures.empty c.put_off.ensures)
+    subst P c.self.view_is (told_no_shown s c.args.cpu (string_bytes c.in_ok-out.out) last (subst H (sym c.self.view_is) c.requires.served) c.in_ok-out.ensures.empty c.put_off.ensures)

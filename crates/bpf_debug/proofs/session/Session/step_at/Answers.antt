@@ -23,4 +23,4 @@ returns-clause-answered c =
     let last = string_bytes c.take_turn.new.out in
     let P : SessionState → Type 0 = λ s. Leaves s (Step (Some c.args.cpu)) last (record { machine = n; first = first_of m.origin n.programs; names = names; breaks = m.breakpoints.items; watch = option_map watched m.watch; course = k }) in
     let H : SessionState → Type 0 = λ s. has_cpu s.machine.store c.args.cpu ≡ true in
-    subst P c.self.view_is (stepped m.machine m.origin names m.breakpoints.items (option_map watched m.watch) m.course n k c.args.cpu t.0 (string_bytes c.in-Some.out) t.1 last (subst H (sym c.self.view_is) c.requires) c.in-Some.ensures.empty t.2 t.3 t.4 (subst N c.reserve.ensures c.add.ensures) c.take_turn.ensures.same)
+    subst P c.self.view_is (stepped m.machine m.origin names m.breakpoints.items (option_map watched m.watch) m.course n k c.args.cpu t.0 (string_bytes c.in_ok-out.out) t.1 last (subst H (sym c.self.view_is) c.requires) c.in_ok-out.ensures.empty t.2 t.3 t.4 (subst N c.reserve.ensures c.add.ensures) c.take_turn.ensures.same)

@@ -11,7 +11,7 @@ use Rattle.bpf_explore.proofs.patient.PatientExplorer.take_turns.Goals as goal
 pub invariant_of-self : goal.invariant_of-self
 invariant_of-self c =
     let album = c.self.inside.album in
-    (c.self.invariant.0, subst (λ (xs : List Arrival). AreEdges album.kept (edges_of album.cpus xs)) (sym (ap (λ (v : Vec Arrival Global). v.items) c.replace-arrivals.ensures.after ∙ c.new.ensures.items)) (no_edges album.kept))
+    (c.self.invariant.0, subst (λ (xs : List Arrival). AreEdges album.kept (edges_of album.cpus xs)) (sym (ap (λ (v : Vec Arrival Global). v.items) c.replace-arrivals.ensures.after ∙ c.new.ensures.items)) (no_edges album.kept), c.self.invariant.2)
 
 pub returns-clause-turns : goal.returns-clause-turns
 returns-clause-turns c made =

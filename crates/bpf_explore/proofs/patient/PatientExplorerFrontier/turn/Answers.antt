@@ -42,7 +42,7 @@ invariant_of-self-in_err-number c =
     let m = c.self.inside in
     turn_kept m.album.kept c.keep-kept.new.self.kept c.restore.new.self.machine c.turn_ahead-made.new.self.machine c.refill.new.self.machine m.origins.items c.push.new.self.items c.truncate.new.self.items m.arrivals.items m.album.cpus c.keep-kept.new.self.cpus c.in_ok-from.from c.args.place c.in_ok-ahead.ahead c.turn_ahead-made.result c.args.cpu c.len.result c.in_ok-restore.ensures.ok c.in_ok-from.ensures c.in_ok-ahead.ensures
     (subst (λ (a : PatientState). c.args.place < length a.kept) (sym c.self.view_is) c.requires)
-    (c.keep-kept.ensures.cpus ∙ (c.refill.ensures.cpus ∙ (c.turn_ahead-made.ensures.cpus ∙ c.restore.ensures.cpus))) c.turn_ahead-made.ensures.runs c.refill.ensures.refills
+    (c.keep-kept.ensures.cpus ∙ (c.refill.ensures.cpus ∙ (c.turn_ahead-made.ensures.cpus ∙ c.restore.ensures.cpus))) c.turn_ahead-made.ensures.runs c.turn_ahead-made.ensures.ahead c.refill.ensures.refills
     (subst (λ (ms : List MachineState). AddsOne ms c.refill.new.self.machine c.keep-kept.new.self.kept) (c.refill.ensures.same ∙ (c.turn_ahead-made.ensures.same ∙ c.restore.ensures.same)) c.keep-kept.ensures.adds)
     c.in_ok-push.ensures.items c.len.ensures c.truncate.ensures.items c.self.invariant
 
@@ -51,7 +51,7 @@ invariant_of-self-in_err-to c =
     let m = c.self.inside in
     turn_kept m.album.kept c.keep-kept.new.self.kept c.restore.new.self.machine c.turn_ahead-made.new.self.machine c.refill.new.self.machine m.origins.items c.push.new.self.items c.truncate.new.self.items m.arrivals.items m.album.cpus c.keep-kept.new.self.cpus c.in_ok-from.from c.args.place c.in_ok-ahead.ahead c.turn_ahead-made.result c.args.cpu c.len.result c.in_ok-restore.ensures.ok c.in_ok-from.ensures c.in_ok-ahead.ensures
     (subst (λ (a : PatientState). c.args.place < length a.kept) (sym c.self.view_is) c.requires)
-    (c.keep-kept.ensures.cpus ∙ (c.refill.ensures.cpus ∙ (c.turn_ahead-made.ensures.cpus ∙ c.restore.ensures.cpus))) c.turn_ahead-made.ensures.runs c.refill.ensures.refills
+    (c.keep-kept.ensures.cpus ∙ (c.refill.ensures.cpus ∙ (c.turn_ahead-made.ensures.cpus ∙ c.restore.ensures.cpus))) c.turn_ahead-made.ensures.runs c.turn_ahead-made.ensures.ahead c.refill.ensures.refills
     (subst (λ (ms : List MachineState). AddsOne ms c.refill.new.self.machine c.keep-kept.new.self.kept) (c.refill.ensures.same ∙ (c.turn_ahead-made.ensures.same ∙ c.restore.ensures.same)) c.keep-kept.ensures.adds)
     c.in_ok-push.ensures.items c.len.ensures c.truncate.ensures.items c.self.invariant
 
@@ -61,7 +61,7 @@ invariant_of-self-in_err-push-2 c =
     subst (λ (arrivals : List Arrival). IsTracked c.keep-kept.new.self.kept c.keep-kept.new.self.cpus c.truncate.new.self.items arrivals) (sym c.in_err-push-2.ensures.items)
     (turn_kept m.album.kept c.keep-kept.new.self.kept c.restore.new.self.machine c.turn_ahead-made.new.self.machine c.refill.new.self.machine m.origins.items c.push.new.self.items c.truncate.new.self.items m.arrivals.items m.album.cpus c.keep-kept.new.self.cpus c.in_ok-from.from c.args.place c.in_ok-ahead.ahead c.turn_ahead-made.result c.args.cpu c.len.result c.in_ok-restore.ensures.ok c.in_ok-from.ensures c.in_ok-ahead.ensures
     (subst (λ (a : PatientState). c.args.place < length a.kept) (sym c.self.view_is) c.requires)
-    (c.keep-kept.ensures.cpus ∙ (c.refill.ensures.cpus ∙ (c.turn_ahead-made.ensures.cpus ∙ c.restore.ensures.cpus))) c.turn_ahead-made.ensures.runs c.refill.ensures.refills
+    (c.keep-kept.ensures.cpus ∙ (c.refill.ensures.cpus ∙ (c.turn_ahead-made.ensures.cpus ∙ c.restore.ensures.cpus))) c.turn_ahead-made.ensures.runs c.turn_ahead-made.ensures.ahead c.refill.ensures.refills
     (subst (λ (ms : List MachineState). AddsOne ms c.refill.new.self.machine c.keep-kept.new.self.kept) (c.refill.ensures.same ∙ (c.turn_ahead-made.ensures.same ∙ c.restore.ensures.same)) c.keep-kept.ensures.adds)
     c.in_ok-push.ensures.items c.len.ensures c.truncate.ensures.items c.self.invariant)
 
@@ -73,7 +73,7 @@ invariant_of-self-2 c =
     let refilled = c.refill.new.self.machine in
     let tracked = turn_kept m.album.kept c.keep-kept.new.self.kept c.restore.new.self.machine c.turn_ahead-made.new.self.machine c.refill.new.self.machine m.origins.items c.push.new.self.items c.truncate.new.self.items m.arrivals.items m.album.cpus c.keep-kept.new.self.cpus c.in_ok-from.from c.args.place c.in_ok-ahead.ahead c.turn_ahead-made.result c.args.cpu c.len.result c.in_ok-restore.ensures.ok c.in_ok-from.ensures c.in_ok-ahead.ensures
     (subst (λ (a : PatientState). c.args.place < length a.kept) (sym c.self.view_is) c.requires)
-    (c.keep-kept.ensures.cpus ∙ (c.refill.ensures.cpus ∙ (c.turn_ahead-made.ensures.cpus ∙ c.restore.ensures.cpus))) c.turn_ahead-made.ensures.runs c.refill.ensures.refills
+    (c.keep-kept.ensures.cpus ∙ (c.refill.ensures.cpus ∙ (c.turn_ahead-made.ensures.cpus ∙ c.restore.ensures.cpus))) c.turn_ahead-made.ensures.runs c.turn_ahead-made.ensures.ahead c.refill.ensures.refills
     (subst (λ (ms : List MachineState). AddsOne ms c.refill.new.self.machine c.keep-kept.new.self.kept) (c.refill.ensures.same ∙ (c.turn_ahead-made.ensures.same ∙ c.restore.ensures.same)) c.keep-kept.ensures.adds)
     c.in_ok-push.ensures.items c.len.ensures c.truncate.ensures.items c.self.invariant in
     let more = subst (λ (ms : List MachineState). Extends ms new) same (adds_extends c.refill.new.self.kept new refilled c.keep-kept.ensures.adds) in
@@ -83,7 +83,7 @@ invariant_of-self-2 c =
     let size : vec_len m.arrivals ≡ length m.arrivals.items = omega (arith, m.arrivals.ok.0) in
     let here : length m.arrivals.items / m.album.cpus ≡ c.args.place = subst (λ (n : ℕ). n / m.album.cpus ≡ c.args.place) (c.len-number.ensures ∙ size) (subst (λ (n : ℕ). c.len-number.result / n ≡ c.args.place) c.cpus-cpus.ensures.cpus (c.if-not-is_next.ensures.place refl)) in
     let own : length m.arrivals.items % m.album.cpus ≡ c.args.cpu = subst (λ (n : ℕ). n % m.album.cpus ≡ c.args.cpu) (c.len-number.ensures ∙ size) (subst (λ (n : ℕ). c.len-number.result % n ≡ c.args.cpu) c.cpus-cpus.ensures.cpus (c.if-not-is_next.ensures.cpu refl)) in
-    (tracked.0, one_more_placed new m.album.cpus c.keep-kept.new.self.cpus m.arrivals.items c.push-2.new.self.items c.args.place c.args.cpu c.in_ok-to.to c.in_ok-ahead.ahead here own (c.keep-kept.ensures.cpus ∙ (c.refill.ensures.cpus ∙ (c.turn_ahead-made.ensures.cpus ∙ c.restore.ensures.cpus))) tracked.1 edge c.in_ok-push-2.ensures.items)
+    (tracked.0, one_more_placed new m.album.cpus c.keep-kept.new.self.cpus m.arrivals.items c.push-2.new.self.items c.args.place c.args.cpu c.in_ok-to.to c.in_ok-ahead.ahead here own (c.keep-kept.ensures.cpus ∙ (c.refill.ensures.cpus ∙ (c.turn_ahead-made.ensures.cpus ∙ c.restore.ensures.cpus))) tracked.1 edge c.in_ok-push-2.ensures.items, tracked.2)
 
 pub returns-clause-turned : goal.returns-clause-turned
 returns-clause-turned c =

@@ -1,4 +1,4 @@
-use Rattle.std.proofs.Common.{◌≡◌, ◌∙◌, ◌+◌, ◌-◌, ◌≤◌, ℕ, sym, ap, subst, arith}
+use Rattle.std.proofs.Common.{◌≡◌, ◌∙◌, ◌+◌, ◌-◌, ℕ, sym, ap, subst, arith}
 use Rattle.std.specs.Prelude.{max}
 use Rattle.bpf_cpu.specs.Step.{IsReady}
 use Rattle.bpf_machine.specs.declared.machine.lane.Hand.{Hand}
@@ -7,9 +7,6 @@ use Rattle.bpf_machine.proofs.ProceedLaws.{job_in_hand, lane_within, job_within,
 use Rattle.bpf_machine.proofs.machine.Machine.refill_job.Goals as goal
 
 -- as many more as a budget has
-enough_more : (left budget : ℕ) → budget ≤ left + (max left budget - left)
-enough_more left budget = omega arith
-
 all_more : (left budget : ℕ) → max left budget ≡ left + (max left budget - left)
 all_more left budget = omega arith
 
@@ -51,4 +48,4 @@ returns-clause-refills c =
     let budget : ℕ = c.index-listed.result.now.budget in
     let more : ℕ = max left budget - left in
     refills m.store m.programs.items m.jobs.items m.lanes.items c.self.invariant.0 c.args.cpu c.args.job has _ c.index_mut-lane.ensures.value _ c.in-Some.is _ c.index-listed.ensures _ (program_there m.store m.programs.items m.jobs.items m.lanes.items c.self.invariant.0 c.args.cpu c.args.job has _ c.index_mut-lane.ensures.value _ c.in-Some.is _ c.index-listed.ensures) c.refill.new.self (ap (λ (x : Hand). x.job) c.refill.ensures) (ap (λ (x : Hand). x.cpu.number) c.refill.ensures) still (listings m.keys m.lists.items) c.args.self.now c.self.view_is more
-    (ap (λ (x : Hand). x.cpu) c.refill.ensures) (ap (λ (x : Hand). x.left) c.refill.ensures ∙ all_more left budget) (enough_more left budget)
+    (ap (λ (x : Hand). x.cpu) c.refill.ensures) (ap (λ (x : Hand). x.left) c.refill.ensures ∙ all_more left budget) (sym (all_more left budget))

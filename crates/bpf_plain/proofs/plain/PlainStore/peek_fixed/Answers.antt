@@ -43,7 +43,7 @@ index-requires-then-has c =
     let here : IsArray c.self.inside.shape.arrays n c.in_ok-array.array.now = subst (IsArray c.self.inside.shape.arrays n) (sym item) sized.0 in
     let within : IsWithin c.self.inside.shape.cpus c.in_ok-array.array.now (offset_at c.args.address) 1 = subst (λ (k : ℕ). IsWithin k c.in_ok-array.array.now (offset_at c.args.address) 1) c.cpus.ensures.cpus (c.if-has.ensures.0 refl) in
     let inside = offset_inside (record { shape = c.self.inside.shape; maps = c.self.inside.maps; arrays = bytes_of_all c.self.inside.arrays.items }) c.self.invariant c.args.address c.requires (λ s so h. c.values_are_low.ensures.shown s so h.maps) c.in_ok-array.array.now here within in
-    let count = c.self.invariant.count in
+    let count = c.self.invariant.arrays.count in
     let all = count_all c.self.inside.arrays.items in
     let same = ap (λ (gs : List ArrayShape). length gs) c.arrays.ensures.arrays in
     let at : bytes_of (record { shape = c.self.inside.shape; maps = c.self.inside.maps; arrays = bytes_of_all c.self.inside.arrays.items }) n ≡ c.index.result.now.items = bytes_at c.self.inside.arrays.items n c.index.result.now (omega arith) ∙ ap (λ (v : Vec ℕ Global). v.items) (sym c.index.ensures) in
@@ -60,7 +60,7 @@ returns-then-has-clause-found c =
     let sized = array_sized c.self.inside.shape c.self.invariant.shape gs c.arrays.ensures.arrays n c.cpus.result none c.cpus.ensures.cpus l in
     let here : IsArray c.self.inside.shape.arrays n c.in_ok-array.array.now = subst (IsArray c.self.inside.shape.arrays n) (sym item) sized.0 in
     let within : IsWithin c.self.inside.shape.cpus c.in_ok-array.array.now (offset_at c.args.address) 1 = subst (λ (k : ℕ). IsWithin k c.in_ok-array.array.now (offset_at c.args.address) 1) c.cpus.ensures.cpus (c.if-has.ensures.0 refl) in
-    let count = c.self.invariant.count in
+    let count = c.self.invariant.arrays.count in
     let all = count_all c.self.inside.arrays.items in
     let same = ap (λ (gs : List ArrayShape). length gs) c.arrays.ensures.arrays in
     let at : bytes_of (record { shape = c.self.inside.shape; maps = c.self.inside.maps; arrays = bytes_of_all c.self.inside.arrays.items }) n ≡ c.index.result.now.items = bytes_at c.self.inside.arrays.items n c.index.result.now (omega arith) ∙ ap (λ (v : Vec ℕ Global). v.items) (sym c.index.ensures) in

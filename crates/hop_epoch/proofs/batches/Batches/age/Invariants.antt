@@ -1,6 +1,6 @@
 use Rattle.std.specs.Prelude.{◌≡◌, ℕ, ◌<◌, [], length, slice_index}
 use Rattle.hop_words.specs.Ghost.{limbo_at}
-use Rattle.hop_epoch.specs.Batch.{Keeps}
+use Rattle.hop_epoch.specs.Batch.{KeepsBatches}
 use Rattle.hop_epoch.proofs.batches.Batches.age.Given as goal
 
 abbrev pub invariant-loop-cpu : goal.invariant-loop-cpu
@@ -8,7 +8,7 @@ invariant-loop-cpu l =
     (l.lane.table ≡ l.fn.table.id)
     × (l.self.map ≡ l.fn.self.map) × (l.self.young ≡ l.fn.self.young)
     × (l.fn.self.map < length l.lane.known.limbo)
-    × Keeps l.fn.self.map l.fn.lane.known l.lane.known
+    × KeepsBatches l.fn.self.map l.fn.lane.known l.lane.known
     × (l.lane.known.tally ≡ l.fn.lane.known.tally)
     × ((limbo_at l.lane.known.limbo l.fn.self.map).young ≡ [])
     × ((limbo_at l.lane.known.limbo l.fn.self.map).old ≡ (limbo_at l.fn.lane.known.limbo l.fn.self.map).young)

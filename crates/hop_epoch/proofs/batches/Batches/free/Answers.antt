@@ -6,7 +6,7 @@ use Rattle.hop_words.specs.Ghost.{limbo_at}
 use Rattle.hop_words.specs.Rule.{link_to}
 use Rattle.hop_words.specs.Kinds.{giving_old}
 use Rattle.hop_words.specs.Owning.{tail_of, GivesOld}
-use Rattle.hop_epoch.specs.Batch.{Notes, Tracks, Keeps}
+use Rattle.hop_epoch.specs.Batch.{Notes, Tracks, KeepsBatches}
 use Rattle.hop_epoch.proofs.Batching.{at_set, keeps_then, keeps_set, keeps_sighted, gives_on}
 use Rattle.hop_words.proofs.Sighted.{set_leaves}
 use Rattle.hop_epoch.proofs.batches.Batches.free.Goals as goal
@@ -34,7 +34,7 @@ loop-self-preserved c =
       i.3,
       subst (λ (o : Option ℕ). Tracks a new m c.loop-self.self.young o c.loop-self.self.noted) (sym c.element_of-self.ensures)
           (gives_on a m e c.args.lane.now.known k new s c.loop-self.self.young c.loop-self.self.noted c.read_old_link-link.result c.requires.shape tracks notes given linked),
-      keeps_then m c.args.lane.now.known k new i.5 (subst (Keeps m k) (sym given) (keeps_sighted m k (giving_old k m x.old) s (set_leaves m e found) (keeps_set m k x i.4.room refl))),
+      keeps_then m c.args.lane.now.known k new i.5 (subst (KeepsBatches m k) (sym given) (keeps_sighted m k (giving_old k m x.old) s (set_leaves m e found) (keeps_set m k x i.4.room refl))),
       ap (λ (y : Known). (limbo_at y.limbo m).young) given ∙ (ap (λ (y : Limbo). y.young) now ∙ i.6),
       ap (λ (y : Known). (limbo_at y.limbo m).noted) given ∙ (ap (λ (y : Limbo). y.noted) now ∙ i.7),
     )

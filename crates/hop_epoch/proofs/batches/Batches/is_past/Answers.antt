@@ -7,7 +7,7 @@ use Rattle.hop_words.specs.Inside.{Standing}
 use Rattle.hop_words.specs.Ghost.{limbo_at}
 use Rattle.hop_words.specs.Owning.{LooksAgain}
 use Rattle.hop_epoch.specs.declared.batches.Batches.{Batches}
-use Rattle.hop_epoch.specs.Batch.{Notes, Looks, AreEven}
+use Rattle.hop_epoch.specs.Batch.{Notes, LooksAtCounters, AreEven}
 use Rattle.hop_epoch.proofs.Batching.{looks_same, looks_cleared, noted_cleared, notes_cleared, even_cleared, even_on}
 use Rattle.hop_epoch.proofs.batches.Batches.is_past.Goals as goal
 use Rattle.hop_epoch.proofs.batches.Batches.is_past.Goals.{then-noted-eq1+else-found-noted, else-noted-eq1}
@@ -43,7 +43,7 @@ loop-cpu-preserved c = elim c.if-noted-eq1.branch [
         ap (λ (x : Batches). x.young) w.self-is ∙ i.2,
         ap (λ (x : Batches). x.aged) w.self-is ∙ i.3,
         subst (λ (l : Known). m < length l.limbo) (sym lane) (subst (λ (n : ℕ). m < n) (sym (ap (λ (l : Known). length l.limbo) cleared ∙ length-set k.limbo m _)) i.4),
-        subst (Looks m c.args.lane.now.known) (sym lane) (looks_cleared m d c.args.lane.now.known k new s refl i.4 i.5 cleared),
+        subst (LooksAtCounters m c.args.lane.now.known) (sym lane) (looks_cleared m d c.args.lane.now.known k new s refl i.4 i.5 cleared),
         subst (λ (l : Known). Notes a (limbo_at l.limbo m).noted c.if-noted-eq1.self.noted) (sym lane)
             (subst (λ (ks : List ℕ). Notes a ks c.if-noted-eq1.self.noted) (sym (noted_cleared m d k new s i.4 cleared))
             (subst (λ (zs : List ℕ). Notes a (set (limbo_at k.limbo m).noted d 0) zs) (sym ns)
@@ -62,7 +62,7 @@ loop-cpu-preserved c = elim c.if-noted-eq1.branch [
         ap (λ (x : Batches). x.young) self ∙ i.2,
         ap (λ (x : Batches). x.aged) self ∙ i.3,
         subst (λ (l : Known). m < length l.limbo) (sym lane) i.4,
-        subst (Looks m c.args.lane.now.known) (sym lane) i.5,
+        subst (LooksAtCounters m c.args.lane.now.known) (sym lane) i.5,
         subst (λ (l : Known). Notes a (limbo_at l.limbo m).noted c.if-noted-eq1.self.noted) (sym lane) (subst (λ (x : Batches). Notes a (limbo_at c.loop-cpu.lane.known.limbo m).noted x.noted) (sym self) i.6),
         subst (λ (x : Batches). AreEven (c.loop-cpu.cpu + 1) x.noted) (sym self) (even_on c.loop-cpu.self.noted c.loop-cpu.cpu
             (subst (λ (j : ℕ). slice_index c.loop-cpu.self.noted j % 2 ≡ 0) c.from.ensures (let f = w.if-noted-eq1.false in grind arith)) i.7),

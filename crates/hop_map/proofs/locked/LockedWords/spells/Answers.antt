@@ -1,11 +1,11 @@
 use Rattle.std.proofs.Common.{◌≡◌, true, ℕ, ap, sym, subst, ◌∙◌, arith, ⊎_elim}
+use Rattle.std.proofs.lemmas.Bool.{cases_eq}
 use Rattle.hop_layout.specs.declared.place.Place.{Place}
 use Rattle.hop_layout.specs.declared.place.Place.TheVariants.{KeyWord}
 use Rattle.hop_layout.specs.Layout.{mem}
 use Rattle.hop_layout.specs.Words.{word_of}
 use Rattle.hop_words.specs.Locking.{lock_of}
 use Rattle.hop_words.specs.Guarded.{IsGuarded}
-use Rattle.hop_words.proofs.Small.{equal}
 use Rattle.hop_map.specs.LockedSegment.{Locked, knows}
 use Rattle.hop_map.proofs.Written.{mine}
 use Rattle.hop_map.proofs.locked.LockedWords.spells.Goals as goal
@@ -43,5 +43,5 @@ words-preserved c = record {
       (λ (e : j ≡ c.words.word). subst (λ (i : ℕ). mem x.about.shape (lock_of x.known).copy (KeyWord x.map c.args.element i) ≡ word_of c.args.key.now i) (sym e)
       (sym word ∙ (c.if-read-word_at.false ∙ c.word_at.ensures)))
       (λ ne. c.words.invariant.spelled k j (omega arith))
-      (equal j c.words.word);
+      (cases_eq j c.words.word);
 }

@@ -1,7 +1,7 @@
 use Rattle.std.proofs.Common.{◌≡◌, ℕ, ap, sym, subst, ◌∙◌, arith, ⊎_elim}
+use Rattle.std.proofs.lemmas.Bool.{cases_eq}
 use Rattle.hop_layout.specs.declared.place.Place.TheVariants.{KeyWord}
 use Rattle.hop_layout.specs.Words.{word_of}
-use Rattle.hop_words.proofs.Small.{equal}
 use Rattle.hop_map.specs.Private.Peeks.{Peeked, OnlyReads}
 use Rattle.hop_map.specs.Lemmas.Resting.{rested_on, had_peeks}
 use Rattle.hop_map.proofs.Peeking.{rested_as, spelled_on}
@@ -31,5 +31,5 @@ words-preserved c =
           (spelled_on x c.words.self c.read.new.self c.self.inside.map c.args.element c.words.word c.read.result c.words.invariant.rests c.read.ensures.peeked (ap (λ (x : Peeked). x.map) c.self.view_is) w all reached
           ∙ (c.if-read-word_at.false ∙ c.word_at.ensures)))
           (λ ne. c.words.invariant.spelled w (had_peeks c.words.self c.read.new.self on w all) reached j (omega arith))
-          (equal j c.words.word);
+          (cases_eq j c.words.word);
     }

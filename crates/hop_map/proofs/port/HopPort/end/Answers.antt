@@ -3,7 +3,7 @@ use Rattle.hop_arena.specs.declared.arena.Arena.{Arena}
 use Rattle.std.proofs.lemmas.List.{get_or_default}
 use Rattle.hop_epoch.specs.declared.batches.Batches.{Batches}
 use Rattle.hop_words.specs.Ghost.{limbo_at}
-use Rattle.hop_epoch.specs.Batch.{Keeps, Tracks, SeesRunning}
+use Rattle.hop_epoch.specs.Batch.{KeepsBatches, Tracks, SeesRunning}
 use Rattle.bpf_shared.specs.declared.events.Event.TheVariants.{End}
 use Rattle.hop_map.specs.Call.{IsReclaimed}
 use Rattle.hop_map.specs.Noting.{CallNotes}
@@ -22,7 +22,7 @@ maps-preserved c =
     let b = c.reclaim.new.self in
     let old : c.index_mut.result.now ≡ batches_at bs c.maps.map = c.index_mut.ensures.value ∙ get_or_default bs c.maps.map c.index_mut.result.now no_batches (let n = i.1.batches.size in omega arith) in
     let name : c.index_mut.result.now.map ≡ c.maps.map = ap (λ (x : Batches). x.map) old ∙ i.1.batches.map c.maps.map here in
-    let keeps : Keeps c.maps.map l l2 = subst (λ (k : ℕ). Keeps k l l2) name e.keeps in (
+    let keeps : KeepsBatches c.maps.map l l2 = subst (λ (k : ℕ). KeepsBatches k l l2) name e.keeps in (
       e.table ∙ i.0,
       reclaims c.args.table.now c.end_run.new.lane.known l l2 c.maps.map bs b here (e.map ∙ name)
           keeps

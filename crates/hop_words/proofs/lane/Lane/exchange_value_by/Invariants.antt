@@ -1,8 +1,8 @@
 use Rattle.std.specs.Prelude.{◌≡◌, ◌≢◌}
 use Rattle.bpf_shared.specs.declared.events.Event.TheVariants.{Atomic}
-use Rattle.hop_words.specs.Kinds.{Told}
+use Rattle.hop_words.specs.Kinds.{AddsEvent}
 use Rattle.hop_words.specs.Touching.{part_address, found_part}
 use Rattle.hop_words.proofs.lane.Lane.exchange_value_by.Given as goal
 
 abbrev pub ghosts-exchange_by : goal.ghosts-exchange_by
-ghosts-exchange_by a = record { told = λ n l. (n ≡ a.old → Told a.table.now.about a.self.now.known (Atomic (part_address a.table.now.about a._said.0) a._said.0.size a._said.1 a._said.2 a._said.3 (found_part a._said.0 a.old)) l) × (n ≢ a.old → l ≡ a.self.now.known) }
+ghosts-exchange_by a = record { told = λ n l. (n ≡ a.old → AddsEvent a.table.now.about a.self.now.known (Atomic (part_address a.table.now.about a._said.0) a._said.0.size a._said.1 a._said.2 a._said.3 (found_part a._said.0 a.old)) l) × (n ≢ a.old → l ≡ a.self.now.known) }

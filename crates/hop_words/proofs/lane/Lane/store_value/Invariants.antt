@@ -1,8 +1,8 @@
 use Rattle.bpf_shared.specs.declared.events.Event.TheVariants.{Store}
 use Rattle.bpf_shared.specs.declared.events.Size.TheVariants.{Double}
-use Rattle.hop_words.specs.Kinds.{Told}
+use Rattle.hop_words.specs.Kinds.{AddsEvent}
 use Rattle.hop_words.specs.Touching.{part_address}
 use Rattle.hop_words.proofs.lane.Lane.store_value.Given as goal
 
 abbrev pub ghosts-store_by : goal.ghosts-store_by
-ghosts-store_by a = record { told = λ n l. Told a.table.now.about a.self.now.known (Store (part_address a.table.now.about a._said) Double n) l }
+ghosts-store_by a = record { told = λ n l. AddsEvent a.table.now.about a.self.now.known (Store (part_address a.table.now.about a._said) Double n) l }

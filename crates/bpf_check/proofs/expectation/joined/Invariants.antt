@@ -1,6 +1,0 @@
-use Rattle.std.proofs.Common.{◌≡◌, ◌++◌, map}
-use Rattle.bpf_check.specs.Expectation.{words_behind}
-use Rattle.bpf_check.proofs.expectation.joined.Given as goal
-
-abbrev pub invariant-loop-word : goal.invariant-loop-word
-invariant-loop-word l = l.line.items ≡ l.first ++ words_behind l.word-index (map (λ f. f.now) l.more)

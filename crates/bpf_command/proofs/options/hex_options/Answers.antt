@@ -1,0 +1,24 @@
+-- The command has the arguments of its definition, in their order, and none is global.
+use Rattle.std.proofs.Common.{◌∙◌, ap, codes}
+use Rattle.clap.specs.Words.{App}
+use Rattle.clap.specs.Simple.{Shape, new_shape, shape_of_fields}
+use Rattle.bpf_command.specs.CommandLine.{budget, context, explained}
+use Rattle.bpf_command.proofs.Adding.{Made, added, last, owns, shapes, with_one}
+use Rattle.bpf_command.proofs.options.hex_options.Goals as goal
+
+pub returns : goal.returns
+returns c =
+    let shape : Shape = new_shape (codes "hex") in
+    let begun : Made c.after_help.result shape = record {
+      shape = ap shape_of_fields c.after_help.ensures ∙ ap shape_of_fields c.about.ensures ∙ ap (λ (a : App). a.top) c.new.ensures.app;
+      own = ap (λ f. f.has_globals) c.after_help.ensures ∙ ap (λ f. f.has_globals) c.about.ensures ∙ c.new.ensures.local;
+    } in
+    let shape1 : Shape = with_one shape explained in
+    let one : Made c.in_ok-arg.field-0 shape1 =
+    added _ _ c.in_ok-arg.field-0 shape explained begun c.explain_option.ensures.rule c.explain_option.ensures.own c.in_ok-arg.ensures in
+    let shape2 : Shape = with_one shape1 budget in
+    let two : Made c.in_ok-arg-2.field-0 shape2 =
+    added _ _ c.in_ok-arg-2.field-0 shape1 budget one c.budget_option.ensures.rule c.budget_option.ensures.own c.in_ok-arg-2.ensures in
+    let all : Shape = with_one shape2 context in
+    let made = last _ _ c.arg-3.result shape2 context two c.context_option.ensures.rule c.context_option.ensures.own c.arg-3.ensures in
+    record { shape = shapes c.arg-3.result all made; own = owns c.arg-3.result all made }

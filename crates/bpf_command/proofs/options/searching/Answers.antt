@@ -1,0 +1,24 @@
+-- The command has the arguments of its definition, in their order, and none is global.
+use Rattle.std.proofs.Common.{ap}
+use Rattle.clap.specs.Words.{App}
+use Rattle.clap.specs.Simple.{Shape, new_shape}
+use Rattle.bpf_command.specs.CommandLine.{explained, json, patient, progress}
+use Rattle.bpf_command.proofs.Adding.{Made, added, last, owns, shapes, with_one}
+use Rattle.bpf_command.proofs.options.searching.Goals as goal
+
+pub returns : goal.returns
+returns c =
+    let shape : Shape = new_shape c.args.name.now in
+    let begun : Made c.new.result shape = record { shape = ap (λ (a : App). a.top) c.new.ensures.app; own = c.new.ensures.local } in
+    let shape1 : Shape = with_one shape explained in
+    let one : Made c.in_ok-arg.field-0 shape1 =
+    added _ _ c.in_ok-arg.field-0 shape explained begun c.explain_option.ensures.rule c.explain_option.ensures.own c.in_ok-arg.ensures in
+    let shape2 : Shape = with_one shape1 patient in
+    let two : Made c.in_ok-arg-2.field-0 shape2 =
+    added _ _ c.in_ok-arg-2.field-0 shape1 patient one c.patient_option.ensures.rule c.patient_option.ensures.own c.in_ok-arg-2.ensures in
+    let shape3 : Shape = with_one shape2 json in
+    let three : Made c.in_ok-arg-3.field-0 shape3 =
+    added _ _ c.in_ok-arg-3.field-0 shape2 json two c.json_option.ensures.rule c.json_option.ensures.own c.in_ok-arg-3.ensures in
+    let all : Shape = with_one shape3 progress in
+    let made = last _ _ c.arg-4.result shape3 progress three c.progress_option.ensures.rule c.progress_option.ensures.own c.arg-4.ensures in
+    record { shape = shapes c.arg-4.result all made; own = owns c.arg-4.result all made }

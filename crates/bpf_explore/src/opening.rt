@@ -1,0 +1,50 @@
+//! Searches before their first turn.
+
+ghost use Rattle.std.specs.Prelude.{◌≡◌, [], IfOk, None};
+ghost use Rattle.bpf_cpu.specs.Setup.{IsRunnable};
+ghost use Rattle.bpf_machine.specs.Machine.{Shows};
+ghost use Rattle.bpf_jobs.specs.Printed.{first_of};
+ghost use Rattle.bpf_explore.specs.Album.{BeginsAt};
+ghost use Rattle.bpf_explore.specs.Stores.{IsOfShape};
+
+use crate::explorer::Explorer;
+use crate::patient::PatientExplorer;
+use bpf_cpu::Setup;
+use bpf_jobs::make_machine;
+use bpf_machine::Machine;
+use bpf_plain::copy_shape;
+use bpf_shared::StoreShape;
+use std::alloc::{AllocError, Global};
+
+/// The machine of jobs over a new store, in which they all wait, and a copy of the store's shape.
+/// Out of memory is the only refusal.
+pub fn first_machine(alloc: Global, setup: Setup) -> Result<(StoreShape, Machine), AllocError>
+    requires { IsRunnable setup }
+    ensures copy { IfOk result (λ r. r.0 ≡ setup.shape) }
+    ensures shape { IfOk result (λ r. IsOfShape r.0 r.1.store) }
+    ensures lists { IfOk result (λ r. r.1.lists ≡ None) }
+    ensures machine { IfOk result (λ r. Shows r.1 (first_of setup)) }
+{
+    let shape = copy_shape(alloc, &setup.shape)?;
+    let machine = make_machine(alloc, setup)?;
+    Ok((shape, machine))
+}
+
+/// A search that begins with the machine of jobs. Out of memory is the only refusal.
+pub fn search_of(alloc: Global, setup: Setup) -> Result<Explorer, AllocError>
+    requires { IsRunnable setup }
+    ensures { IfOk result (λ e. BeginsAt e.kept (first_of setup)) }
+{
+    let (shape, machine) = first_machine(alloc, setup)?;
+    Explorer::new(alloc, shape, machine)
+}
+
+/// The same of a patient search, which has made no turn.
+pub fn patient_search_of(alloc: Global, setup: Setup) -> Result<PatientExplorer, AllocError>
+    requires { IsRunnable setup }
+    ensures begins { IfOk result (λ e. BeginsAt e.kept (first_of setup)) }
+    ensures none { IfOk result (λ e. e.made ≡ []) }
+{
+    let (shape, machine) = first_machine(alloc, setup)?;
+    PatientExplorer::new(alloc, shape, machine)
+}

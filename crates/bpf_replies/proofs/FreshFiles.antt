@@ -1,0 +1,66 @@
+-- The machine of a run file is one before its first turn.
+use Rattle.std.proofs.Common.{Bool, Ok, string_bytes, ◌≡◌, ◌≤◌, ℕ, zero, suc, List, [], ◌∷◌, Some, map, length, refl, subst, arith}
+use Rattle.std.specs.Prelude.{All, slice_get}
+use Rattle.bpf_mem.specs.Limits.{max_context}
+use Rattle.bpf_shared.proofs.Soundness.{as_made_sound}
+use Rattle.bpf_shared.specs.Shape.{IsShape}
+use Rattle.bpf_cpu.specs.Task.{Task, Stage, Waiting, InHand, Ended, waiting}
+use Rattle.bpf_machine.specs.Laws.{IsFresh}
+use Rattle.bpf_jobs.specs.declared.rounds.Report.{Report}
+use Rattle.bpf_jobs.specs.Printed.{asked_world, IsReportBy}
+use Rattle.bpf_events.specs.Reports.{IsHistory}
+use Rattle.bpf_debug.specs.Laws.{IsNew}
+use Rattle.bpf_debug.proofs.OwnValues.{made_own}
+use Rattle.bpf_file.specs.declared.file.RunFile.{RunFile}
+use Rattle.bpf_file.specs.File.{File, file_of, shape_of}
+use Rattle.bpf_file.specs.Reading.{IsRunFile}
+use Rattle.bpf_file.specs.Runnable.{WaitsShort, IsJobFor, CanRun}
+use Rattle.bpf_replies.specs.Running.{IsHistoryOfFile, IsToldBy}
+use Rattle.bpf_replies.specs.Script.{asked_world_of, first_world_of}
+use Rattle.bpf_replies.specs.declared.reply.Reply.TheVariants as reply
+
+each : (P : Task → Type 0) (tasks : List Task) → All P tasks → (j : ℕ) (task : Task)
+    → slice_get tasks j ≡ Some task → P task
+each P [] all j task at = cc
+each P (t ∷ ts) all zero task at =
+    let same : t ≡ task = cc in
+    subst P same (all 0 t (omega arith))
+each P (t ∷ ts) all (suc j) task at = each P ts (λ k d h. all (suc k) d (omega arith)) j task at
+
+waits : (task : Task) (stage : Stage) → task.stage ≡ stage → WaitsShort stage
+    → (context : List ℕ) × (task.stage ≡ Waiting context) × (length context ≤ max_context)
+waits task (Waiting context) e h = (context, e, h)
+waits task (InHand state left) e h = absurd h
+waits task (Ended outcome) e h = absurd h
+
+pub fresh : (f : File) → IsShape (shape_of f) → CanRun f → IsFresh (first_world_of f)
+fresh f shape can = record {
+  store = as_made_sound (shape_of f) shape;
+  waits = λ j task at.
+      let job : IsJobFor f.cpus (length f.programs) task =
+      each (IsJobFor f.cpus (length f.programs)) f.jobs can.jobs j task at in
+      waits task task.stage refl job.stage;
+}
+
+-- and no two keys lead to one value
+pub is_new : (f : File) → IsShape (shape_of f) → CanRun f → IsNew (first_world_of f)
+is_new f shape can = record { fresh = fresh f shape can; own = made_own (shape_of f) }
+
+pub fresh_asked : (keys : Bool) (f : File) → IsShape (shape_of f) → CanRun f → IsFresh (asked_world_of keys f)
+fresh_asked keys f shape can = record { store = (fresh f shape can).store; waits = (fresh f shape can).waits }
+
+-- what was printed of the file that was read is what is to be printed of the text's file
+pub told : (by : List (ℕ × ℕ)) (keys maps : Bool) (text : List ℕ) (file : RunFile) (r : Report)
+    → IsRunFile text (Ok (file_of file))
+    → IsReportBy (asked_world keys file.setup.shape file.setup.programs.items (map waiting file.setup.jobs.items))
+    by (map string_bytes file.names.items) maps (string_bytes r.text) r.stopped
+    → (f : File) × IsRunFile text (Ok f) × IsToldBy by keys maps f (string_bytes r.text) r.stopped
+told by keys maps text file r said report = (file_of file, said, report)
+
+-- and so with all that happens
+pub history : (by : List (ℕ × ℕ)) (keys maps : Bool) (text : List ℕ) (file : RunFile) (r : Report)
+    → IsRunFile text (Ok (file_of file))
+    → IsHistory (asked_world keys file.setup.shape file.setup.programs.items (map waiting file.setup.jobs.items))
+    by (map string_bytes file.names.items) maps (string_bytes r.text) r.stopped
+    → IsHistoryOfFile by keys maps text (reply.Jobs r.text r.stopped)
+history by keys maps text file r said report = (file_of file, said, report)

@@ -1,0 +1,18 @@
+mod Subjects
+mod ShownReplies
+mod SeveralFiles
+pub mod KnownBytes
+pub mod OneJudged
+pub mod OneExplored
+pub mod SeenAgain
+pub mod OneDebug
+pub mod Shaped
+pub mod FreshFiles
+pub mod Cutting
+pub mod ScriptReplies
+pub mod WrittenAnswers
+pub mod ListedAgain
+mod Judged
+mod CheckedParts
+pub mod Replied
+pub mod OneText

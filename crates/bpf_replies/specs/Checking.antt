@@ -1,0 +1,44 @@
+-- What `check` replies: whether a run file's outcomes are as its comments expect.
+use Rattle.std.specs.Prelude.{◌≡◌, ◌++◌, ℕ, Bool, true, false, List, [], string_bytes}
+use Rattle.bpf_command.specs.declared.command.CheckOptions.{CheckOptions}
+use Rattle.bpf_check.specs.Expectation.{Expected}
+use Rattle.bpf_check.specs.Findings.{Findings}
+use Rattle.bpf_check.specs.Listing.{checked_text}
+use Rattle.bpf_check.specs.Verdict.{conclusion_of, verdicts_of}
+use Rattle.bpf_check.specs.declared.judging.Conclusion.{Conclusion}
+use Rattle.bpf_check.specs.declared.judging.Conclusion.TheVariants as conclusion
+use Rattle.bpf_threads.specs.Lines.{notes_text}
+use Rattle.bpf_threads.specs.declared.threads.Threads.{Threads}
+use Rattle.bpf_replies.specs.Comments.{IsExpectedIn, RefusesComments, for_check}
+use Rattle.bpf_replies.specs.Exploring.{AreFindingsBy}
+use Rattle.bpf_replies.specs.Threading.{AreThreadsOf}
+use Rattle.bpf_replies.specs.declared.reply.Reply.{Reply}
+use Rattle.bpf_replies.specs.declared.reply.Reply.TheVariants as reply
+
+-- the exit status shows what verdicts amount to: something isn't as expected, or couldn't be decided
+abbrev pub is_unmet : Conclusion → Bool
+is_unmet conclusion.Met = false
+is_unmet conclusion.Unmet = true
+is_unmet conclusion.Untold = false
+
+abbrev pub is_told : Conclusion → Bool
+is_told conclusion.Met = true
+is_told conclusion.Unmet = true
+is_told conclusion.Untold = false
+
+-- `check`: comments that say in which ways threads may have more outcomes; a test an expectation, each
+-- with its verdict by the findings of a search through all schedules, and of a patient one first if each
+-- can end; or the first refusal of the file or its comments
+abbrev pub IsCheckedFile : CheckOptions → List ℕ → Reply → Type 0
+IsCheckedFile o text (reply.Outcomes printed unmet told) =
+    (expected : List Expected) × (f : Findings)
+    × IsExpectedIn (for_check o.search.patient o.lenient) text expected
+    × AreFindingsBy o.search.patient o.search.limit text f
+    × (threads : Threads) × AreThreadsOf text threads
+    × (string_bytes printed ≡ notes_text [] threads
+    ++ checked_text f expected (verdicts_of f expected))
+    × (unmet ≡ is_unmet (conclusion_of f (verdicts_of f expected)))
+    × (told ≡ is_told (conclusion_of f (verdicts_of f expected)))
+IsCheckedFile o text (reply.Refused r) =
+    RefusesComments (for_check o.search.patient o.lenient) text r
+IsCheckedFile o text _ = ⊥

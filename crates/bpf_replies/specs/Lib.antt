@@ -1,0 +1,15 @@
+pub mod Answer
+pub mod Refusals
+pub mod Programs
+pub mod Running
+pub mod Exploring
+pub mod Comments
+pub mod Judging
+pub mod Checking
+pub mod Several
+pub mod Script
+pub mod Listing
+pub mod Input
+pub mod Diagnostic
+pub mod Threading
+pub mod Laws

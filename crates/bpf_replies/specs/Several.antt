@@ -1,0 +1,124 @@
+-- What `check` replies to several files: one list of tests over all of them.
+use Rattle.std.specs.Prelude.{◌≡◌, ◌⊎◌, ◌≤◌, ◌+◌, ◌++◌, ◌&&◌, ◌||◌, ℕ, Bool, true, false, List, [], ◌∷◌, Option, IfSome, IsUtf8, codes, length, string_bytes}
+use Rattle.bpf_command.specs.declared.command.CheckOptions.{CheckOptions}
+use Rattle.bpf_check.specs.Expectation.{Expected}
+use Rattle.bpf_check.specs.Findings.{Findings}
+use Rattle.bpf_check.specs.Listing.{count_of, listed_text, name_text, plan_text}
+use Rattle.bpf_check.specs.Verdict.{conclusion_of, verdicts_of}
+use Rattle.bpf_replies.specs.Checking.{is_told, is_unmet}
+use Rattle.bpf_replies.specs.Input.{RefusesInput}
+use Rattle.bpf_replies.specs.Diagnostic.{refusal_text}
+use Rattle.bpf_replies.specs.Comments.{IsExpectedIn, RefusesComments, for_check}
+use Rattle.bpf_replies.specs.Exploring.{AreFindingsBy}
+use Rattle.bpf_replies.specs.Threading.{AreThreadsOf}
+use Rattle.bpf_threads.specs.Lines.{notes_text}
+use Rattle.bpf_threads.specs.declared.threads.Threads.{Threads}
+use Rattle.bpf_replies.specs.declared.input.TheConstants.{MAX_INPUT}
+use Rattle.bpf_replies.specs.declared.refusal.Refusal.{Refusal}
+use Rattle.bpf_replies.specs.declared.refusal.Refusal.TheVariants as refusal
+use Rattle.bpf_replies.specs.declared.several.FilePart.{FilePart}
+use Rattle.bpf_replies.specs.declared.several.Tally.{Tally}
+use Rattle.bpf_replies.specs.declared.reply.Reply.{Reply}
+use Rattle.bpf_replies.specs.declared.reply.Reply.TheVariants as reply
+
+-- what is printed of a file among several: its lines, how many tests they have, and whether it is
+-- refused, something isn't as expected, and all that is expected could be decided
+pub record Part : Type 0 where
+  pub text : List ℕ
+  pub tests : ℕ
+  pub refused : Bool
+  pub unmet : Bool
+  pub told : Bool
+
+-- of a file that is refused: why, and its name
+abbrev pub refused_part : (name : List ℕ) → Refusal → Part
+refused_part name r = record {
+  text = codes "refused " ++ refusal_text r ++ codes " - " ++ name ++ codes "\n";
+  tests = 0;
+  refused = true;
+  unmet = false;
+  told = true;
+}
+
+-- of one whose outcomes a search found: comments that say of threads, and its tests, after this many of
+-- the files before it
+abbrev pub checked_part : (name : List ℕ) → (before : ℕ) → Findings → Threads → List Expected → Part
+checked_part name before f threads expected = record {
+  text = notes_text (name ++ codes ": ") threads
+      ++ listed_text (name_text name) before f expected (verdicts_of f expected);
+  tests = count_of f expected;
+  refused = false;
+  unmet = is_unmet (conclusion_of f (verdicts_of f expected));
+  told = is_told (conclusion_of f (verdicts_of f expected));
+}
+
+-- the part of a text: its tests, or the first refusal of the file or its comments
+abbrev pub IsTextPart : CheckOptions → (name : List ℕ) → (before : ℕ) → List ℕ → Part → Type 0
+IsTextPart o name before text part =
+    ((r : Refusal) × RefusesComments (for_check o.search.patient o.lenient) text r
+    × (part ≡ refused_part name r))
+    ⊎ ((expected : List Expected) × (f : Findings)
+    × IsExpectedIn (for_check o.search.patient o.lenient) text expected
+    × AreFindingsBy o.search.patient o.search.limit text f
+    × (threads : Threads) × AreThreadsOf text threads
+    × (part ≡ checked_part name before f threads expected))
+
+-- the part of a file of these bytes
+abbrev pub IsPart : CheckOptions → (name : List ℕ) → (before : ℕ) → List ℕ → Part → Type 0
+IsPart o name before bytes part =
+    ((r : Refusal) × RefusesInput bytes r × (part ≡ refused_part name r))
+    ⊎ ((length bytes ≤ MAX_INPUT) × IsUtf8 bytes × IsTextPart o name before bytes part)
+
+-- ---- all files
+
+-- one after others
+abbrev pub with_part : Part → Part → Part
+with_part all part = record {
+  text = all.text ++ part.text;
+  tests = all.tests + part.tests;
+  refused = all.refused || part.refused;
+  unmet = all.unmet || part.unmet;
+  told = all.told && part.told;
+}
+
+abbrev pub no_part : Part
+no_part = record { text = []; tests = 0; refused = false; unmet = false; told = true }
+
+-- what is printed of the files of these names, where their bytes are known, after what is printed of those
+-- before them
+abbrev pub AreTold : CheckOptions → (files : List ℕ → Option (List ℕ)) → List (List ℕ)
+    → (so_far all : Part) → Type 0
+AreTold o files [] so_far all = all ≡ so_far
+AreTold o files (name ∷ names) so_far all = (part : Part)
+    × IfSome (files name) (λ bytes. IsPart o name so_far.tests bytes part)
+    × AreTold o files names (with_part so_far part) all
+
+-- `check` of several files: how many tests there are, and what is printed of all; or out of memory
+abbrev pub AreChecked : CheckOptions → (files : List ℕ → Option (List ℕ)) → List (List ℕ) → Reply
+    → Type 0
+AreChecked o files names (reply.Several printed refused unmet told) = (all : Part)
+    × AreTold o files names no_part all
+    × (string_bytes printed ≡ plan_text all.tests ++ all.text)
+    × (refused ≡ all.refused) × (unmet ≡ all.unmet) × (told ≡ all.told)
+AreChecked o files names (reply.Refused refusal.OutOfMemory) = Unit {0}
+AreChecked o files names _ = ⊥
+
+-- ---- the same as the program keeps them
+
+abbrev pub seen : FilePart → Part
+seen p = record {
+  text = string_bytes p.text;
+  tests = p.tests;
+  refused = p.refused;
+  unmet = p.unmet;
+  told = p.told;
+}
+
+abbrev pub counted : Tally → Part
+counted t = record {
+  text = string_bytes t.text;
+  tests = t.tests;
+  refused = t.refused;
+  unmet = t.unmet;
+  told = t.told;
+}

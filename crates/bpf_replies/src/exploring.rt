@@ -1,0 +1,279 @@
+//! `ebpf explore`: every outcome of a run file's jobs, whatever the order of the CPUs' turns.
+
+ghost use Rattle.std.specs.Prelude.{◌≡◌, ◌<◌, ◌++◌, ◌||◌, false, true, Bool, IfErr, IfOk, length, string_bytes, ℕ};
+ghost use Rattle.bpf_explore.specs.Listing.{last_line};
+ghost use Rattle.bpf_explore.specs.Outcomes.{IsExplored};
+ghost use Rattle.bpf_explore.specs.Patient.{IsSearchedPatiently};
+ghost use Rattle.bpf_file.specs.File.{file_of};
+ghost use Rattle.bpf_cpu.specs.Setup.{IsRunnable};
+ghost use Rattle.bpf_replies.specs.Answer.{Replies};
+ghost use Rattle.bpf_replies.specs.Exploring.{AreAnswersTo, AreFindingsBy, AreFoundBy, ArePatientAnswersTo, IsExploredFile, IsMissing, IsShownBy, IsShownFile, any_stopped_of, is_any_hung};
+ghost use Rattle.bpf_replies.specs.Running.{RefusesFile};
+ghost use Rattle.bpf_replies.specs.Script.{first_world_of};
+
+use crate::refusal::Refusal;
+use crate::reply::Reply;
+use crate::running::{file_in, history_by};
+use crate::threading::threads_in;
+use bpf_check::Findings;
+use bpf_command::SearchOptions;
+use bpf_explore::{
+    Explored, ExploredPatiently, Hung, Observer, explore_jobs, is_any_stopped, list_explored,
+    list_patient, push_last, search_patiently,
+};
+use bpf_file::RunFile;
+use bpf_jobs::Report;
+use std::alloc::{AllocError, Global};
+
+/// Searches through all schedules of a file's jobs, and prints the maps too.
+fn explore<O: Observer>(
+    alloc: Global,
+    file: RunFile,
+    limit: usize,
+    observer: &mut O,
+) -> Result<Explored, AllocError>
+    requires { IsRunnable file.setup }
+    ensures { IfOk result (λ e. IsExplored (first_world_of (file_of file)) (file_of file).names true
+        e.answers.items e.all e.refused limit e.states) }
+{
+    let RunFile { setup, names, .. } = file;
+    explore_jobs(alloc, setup, &names, true, limit, observer)
+}
+
+/// Searches through all schedules of a file's jobs, but for how many steps are left of budgets.
+fn explore_patient<O: Observer>(
+    alloc: Global,
+    file: RunFile,
+    limit: usize,
+    observer: &mut O,
+) -> Result<ExploredPatiently, AllocError>
+    requires { IsRunnable file.setup }
+    ensures { IfOk result (λ e. IsSearchedPatiently (first_world_of (file_of file))
+        (file_of file).names true e.answers.items e.all e.refused limit e.states e.hung.items
+        e.budgets) }
+{
+    let RunFile { setup, names, .. } = file;
+    search_patiently(alloc, setup, &names, true, limit, observer)
+}
+
+/// What a search through all schedules of the jobs that a text says finds.
+fn explored_in<O: Observer>(
+    alloc: Global,
+    limit: u64,
+    text: &str,
+    observer: &mut O,
+) -> Result<Explored, Refusal>
+    ensures found { IfOk result (λ e. AreAnswersTo text.now e.answers.items e.all limit e.states) }
+    ensures refused { IfErr result (RefusesFile text.now) }
+{
+    let file = file_in(alloc, text)?;
+    let explored = explore(alloc, file, limit as usize, observer)?;
+    Ok(explored)
+}
+
+/// What a patient search finds.
+fn patient_in<O: Observer>(
+    alloc: Global,
+    limit: u64,
+    text: &str,
+    observer: &mut O,
+) -> Result<ExploredPatiently, Refusal>
+    ensures found { IfOk result (λ e. ArePatientAnswersTo text.now e.answers.items e.all limit
+        e.states e.hung.items e.budgets) }
+    ensures refused { IfErr result (RefusesFile text.now) }
+{
+    let file = file_in(alloc, text)?;
+    let explored = explore_patient(alloc, file, limit as usize, observer)?;
+    Ok(explored)
+}
+
+/// The outcomes of either search.
+fn found_in<O: Observer>(
+    alloc: Global,
+    options: SearchOptions,
+    text: &str,
+    observer: &mut O,
+) -> Result<Explored, Refusal>
+    ensures found { IfOk result (λ e. AreFoundBy options.patient text.now e.answers.items e.all
+        options.limit e.states) }
+    ensures refused { IfErr result (RefusesFile text.now) }
+{
+    if !options.patient {
+        return explored_in(alloc, options.limit, text, observer);
+    }
+    let ExploredPatiently {
+        answers,
+        all,
+        refused,
+        states,
+        ..
+    } = patient_in(alloc, options.limit, text, observer)?;
+    Ok(Explored {
+        answers,
+        all,
+        refused,
+        states,
+    })
+}
+
+/// What either search found, as far as tests rest on it.
+pub(crate) fn findings_in<O: Observer>(
+    alloc: Global,
+    options: &SearchOptions,
+    text: &str,
+    observer: &mut O,
+) -> Result<Findings, Refusal>
+    ensures found { IfOk result
+        (AreFindingsBy options.now.patient options.now.limit text.now) }
+    ensures refused { IfErr result (RefusesFile text.now) }
+{
+    if !options.patient {
+        let explored = explored_in(alloc, options.limit, text, observer)?;
+        return Ok(Findings::new(alloc, explored));
+    }
+    let explored = patient_in(alloc, options.limit, text, observer)?;
+    Ok(Findings::patient(explored))
+}
+
+/// `ebpf explore` of all outcomes.
+fn explore_all<O: Observer>(
+    alloc: Global,
+    limit: u64,
+    text: &str,
+    observer: &mut O,
+) -> Result<Reply, Refusal>
+    ensures { Replies (IsExploredFile false limit text.now) result }
+{
+    let threads = threads_in(alloc, text)?;
+    let explored = explored_in(alloc, limit, text, observer)?;
+    let text = list_explored(alloc, &explored, threads)?;
+    Ok(Reply::Outcomes {
+        text,
+        stopped: is_any_stopped(&explored.answers),
+        all: explored.all,
+    })
+}
+
+/// Whether some state is hung.
+fn is_any_hung(hung: &[Hung]) -> bool
+    ensures { result ≡ is_any_hung hung.now }
+{
+    !hung.is_empty()
+}
+
+/// Whether some outcome has a job that ended in a fault, or some state is hung.
+fn is_stopped(explored: &ExploredPatiently) -> bool
+    ensures { result ≡ (any_stopped_of explored.now.answers.items
+        || is_any_hung explored.now.hung.items) }
+{
+    is_any_stopped(&explored.answers) || is_any_hung(&explored.hung)
+}
+
+/// `ebpf explore --patient`.
+fn explore_patiently<O: Observer>(
+    alloc: Global,
+    limit: u64,
+    text: &str,
+    observer: &mut O,
+) -> Result<Reply, Refusal>
+    ensures { Replies (IsExploredFile true limit text.now) result }
+{
+    let threads = threads_in(alloc, text)?;
+    let explored = patient_in(alloc, limit, text, observer)?;
+    let text = list_patient(alloc, &explored, threads)?;
+    Ok(Reply::Outcomes {
+        text,
+        stopped: is_stopped(&explored),
+        all: explored.all,
+    })
+}
+
+/// `ebpf explore`.
+pub fn explore_file<O: Observer>(
+    alloc: Global,
+    options: SearchOptions,
+    text: &str,
+    observer: &mut O,
+) -> Result<Reply, Refusal>
+    ensures { Replies (IsExploredFile options.patient options.limit text.now) result }
+{
+    if options.patient {
+        explore_patiently(alloc, options.limit, text, observer)
+    } else {
+        explore_all(alloc, options.limit, text, observer)
+    }
+}
+
+/// That there is no outcome of this number, counted from 1.
+fn missing(alloc: Global, outcome: u64, explored: &Explored) -> Result<Reply, AllocError>
+    ensures { IfOk result
+        (IsMissing outcome (length explored.now.answers.items) explored.now.all) }
+{
+    let found = explored.answers.len();
+    let text = format!(in alloc; "no outcome {outcome}: {found} were found\n")?;
+    Ok(Reply::NoOutcome {
+        text,
+        all: explored.all,
+    })
+}
+
+/// A text, and after it how many outcomes a search found, which aren't all.
+fn with_last(alloc: Global, text: String, explored: &Explored) -> Result<String, AllocError>
+    ensures { IfOk result (λ new. string_bytes new ≡ string_bytes text
+        ++ last_line false (length explored.now.answers.items) explored.now.states) }
+{
+    let mut shown = text;
+    push_last(
+        alloc,
+        &mut shown,
+        false,
+        explored.answers.len(),
+        explored.states,
+    )?;
+    Ok(shown)
+}
+
+/// What happens by a schedule, and after it that there are more outcomes than a search found, if that
+/// may be.
+fn show_by(
+    alloc: Global,
+    by: &[(u8, u64)],
+    explored: &Explored,
+    text: &str,
+) -> Result<Reply, Refusal>
+    ensures { Replies (IsShownBy by.now explored.now.all (length explored.now.answers.items)
+        explored.now.states text.now) result }
+{
+    let Report { text, stopped } = history_by(alloc, by, false, true, text)?;
+    if explored.all {
+        return Ok(Reply::Jobs(text, stopped));
+    }
+    let text = with_last(alloc, text, explored)?;
+    Ok(Reply::Outcomes {
+        text,
+        stopped,
+        all: false,
+    })
+}
+
+/// `ebpf explore --show`: all that happens on the way to the outcome of this number, counted from 1.
+/// Where memory was refused to the search the number may be another outcome's, so that is a refusal.
+pub fn show_file<O: Observer>(
+    alloc: Global,
+    options: SearchOptions,
+    outcome: u64,
+    text: &str,
+    observer: &mut O,
+) -> Result<Reply, Refusal>
+    requires { 0 < outcome }
+    ensures { Replies (IsShownFile options.patient options.limit outcome text.now) result }
+{
+    let explored = found_in(alloc, options, text, observer)?;
+    if explored.refused {
+        return Err(Refusal::OutOfMemory);
+    }
+    let Some(answer) = explored.answers.get(outcome as usize - 1) else {
+        return Ok(missing(alloc, outcome, &explored)?);
+    };
+    show_by(alloc, answer.by(), &explored, text)
+}

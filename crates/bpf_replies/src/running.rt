@@ -1,0 +1,146 @@
+//! `ebpf run`: the jobs of a run file, in rounds on one thread or on worker threads.
+
+ghost use Rattle.std.specs.Prelude.{IfErr, IfOk, Ok, string_bytes};
+ghost use Rattle.bpf_file.specs.File.{File, file_of};
+ghost use Rattle.bpf_file.specs.Reading.{IsRunFile};
+ghost use Rattle.bpf_cpu.specs.Setup.{IsRunnable};
+ghost use Rattle.bpf_sched.specs.Refusing.{AreWorkers};
+ghost use Rattle.bpf_replies.specs.Answer.{Replies};
+ghost use Rattle.bpf_replies.specs.Judging.{IsJudgedOfFile};
+ghost use Rattle.bpf_replies.specs.Running.{IsHistoryBy, IsHistoryOfFile, IsRunByWorkers, IsRunOfFile, IsToldBy, RefusesFile};
+
+use crate::comments::{Reading, expected_in};
+use crate::refusal::Refusal;
+use crate::reply::Reply;
+use bpf_check::{Judged, check_printed};
+use bpf_events::run_with_history;
+use bpf_file::{RunFile, read_file};
+use bpf_jobs::{Report, run_jobs_by};
+use bpf_workers::{Counted, run_counted};
+use std::alloc::Global;
+use std::sync::Wait;
+use std::thread::Threads;
+
+/// The run file that a text says.
+pub fn file_in(alloc: Global, text: &str) -> Result<RunFile, Refusal>
+    ensures said { IfOk result (λ f. IsRunFile text.now (Ok (file_of f))) }
+    ensures fits { IfOk result (λ f. IsRunnable f.setup) }
+    ensures refused { IfErr result (RefusesFile text.now) }
+{
+    let file = read_file(alloc, text.as_bytes())?;
+    Ok(file)
+}
+
+/// What is printed of the jobs that a text says, by these turns and then in rounds.
+#[tactic(auto, using(crate::proofs::FreshFiles::told))]
+fn report_by(
+    alloc: Global,
+    by: &[(u8, u64)],
+    keys: bool,
+    maps: bool,
+    text: &str,
+) -> Result<Report, Refusal>
+    ensures told { IfOk result (λ report. (f : File) × IsRunFile text.now (Ok f)
+        × IsToldBy by.now keys maps f (string_bytes report.text) report.stopped) }
+    ensures refused { IfErr result (RefusesFile text.now) }
+{
+    let file = file_in(alloc, text)?;
+    let RunFile { setup, names, .. } = file;
+    let report = run_jobs_by(alloc, setup, &names, by, keys, maps)?;
+    Ok(report)
+}
+
+/// `ebpf run`: these turns, and then rounds.
+pub fn run_file(
+    alloc: Global,
+    by: &[(u8, u64)],
+    keys: bool,
+    maps: bool,
+    text: &str,
+) -> Result<Reply, Refusal>
+    ensures { Replies (IsRunOfFile by.now keys maps text.now) result }
+{
+    let Report { text, stopped } = report_by(alloc, by, keys, maps, text)?;
+    Ok(Reply::Jobs(text, stopped))
+}
+
+/// `ebpf run --check`: whether these turns and rounds give what the file's comments expect.
+pub fn judge_file(alloc: Global, by: &[(u8, u64)], keys: bool, text: &str) -> Result<Reply, Refusal>
+    ensures { Replies (IsJudgedOfFile by.now keys text.now) result }
+{
+    let reading = Reading {
+        lists: keys,
+        ends: true,
+        lenient: false,
+    };
+    let expected = expected_in(alloc, reading, text)?;
+    let report = report_by(alloc, by, keys, true, text)?;
+    let Judged { text, refuted } = check_printed(alloc, &expected, report.text.as_str())?;
+    Ok(Reply::Jobs(text, refuted))
+}
+
+/// All that happens in the turns of jobs that a text says, by these turns and then in rounds.
+#[tactic(auto, using(crate::proofs::FreshFiles::history))]
+pub(crate) fn history_by(
+    alloc: Global,
+    by: &[(u8, u64)],
+    keys: bool,
+    maps: bool,
+    text: &str,
+) -> Result<Report, Refusal>
+    ensures told { IfOk result (λ report. (f : File) × IsRunFile text.now (Ok f)
+        × IsHistoryBy by.now keys maps f (string_bytes report.text) report.stopped) }
+    ensures refused { IfErr result (RefusesFile text.now) }
+{
+    let file = file_in(alloc, text)?;
+    let RunFile { setup, names, .. } = file;
+    let report = run_with_history(alloc, setup, &names, by, keys, maps)?;
+    Ok(report)
+}
+
+/// `ebpf run --events`: these turns and then rounds, with all that happens in them.
+pub fn run_file_with_history(
+    alloc: Global,
+    by: &[(u8, u64)],
+    keys: bool,
+    maps: bool,
+    text: &str,
+) -> Result<Reply, Refusal>
+    ensures { Replies (IsHistoryOfFile by.now keys maps text.now) result }
+{
+    let Report { text, stopped } = history_by(alloc, by, keys, maps, text)?;
+    Ok(Reply::Jobs(text, stopped))
+}
+
+/// What is printed of a run beside the lines of its jobs.
+#[derive(Clone, Copy)]
+pub struct Extras {
+    /// The keys that each CPU lists.
+    pub keys: bool,
+    /// The maps.
+    pub maps: bool,
+    /// What workers came to at the maps.
+    pub stats: bool,
+}
+
+/// `ebpf run --workers`, and what workers came to at the maps, where that is asked for.
+pub fn run_file_by_workers<T: Threads + Wait + Sync>(
+    rt: &T,
+    alloc: Global,
+    workers: u8,
+    extras: Extras,
+    text: &str,
+) -> Result<Reply, Refusal>
+    requires { AreWorkers workers }
+    ensures { Replies (IsRunByWorkers extras.stats extras.keys extras.maps text.now) result }
+{
+    let Extras { keys, maps, stats } = extras;
+    let file = file_in(alloc, text)?;
+    let Counted { report, stats } = run_counted(rt, alloc, file, workers, keys, maps, stats)?;
+    let Report { text, stopped } = report;
+    Ok(Reply::Counted {
+        text,
+        stopped,
+        stats,
+    })
+}

@@ -1,0 +1,222 @@
+//! `ebpf check` of several files: one list of tests over all of them.
+
+ghost use Rattle.std.specs.Prelude.{◌≡◌, ◌≤◌, ◌++◌, IfErr, IfOk, IfSome, OnOk, length, map, string_bytes};
+ghost use Rattle.bpf_check.specs.Listing.{plan_text};
+ghost use Rattle.bpf_replies.specs.Answer.{Replies};
+ghost use Rattle.bpf_replies.specs.Input.{RefusesInput};
+ghost use Rattle.bpf_replies.specs.Several.{AreChecked, AreTold, IsPart, IsTextPart, counted, no_part, refused_part, seen, with_part};
+
+use crate::checking::{grounds_in, is_told, is_unmet};
+use crate::input::{InputError, MAX_INPUT, read_whole};
+use crate::refusal::Refusal;
+use crate::reply::Reply;
+use crate::stream::Source;
+use crate::threading::with_notes;
+use bpf_check::{CheckedPart, check_named, plan};
+use bpf_command::CheckOptions;
+use bpf_explore::Observer;
+use std::alloc::{AllocError, Global};
+
+/// What is printed of a file among several.
+#[derive(Drop)]
+struct FilePart {
+    text: String,
+    tests: usize,
+    refused: bool,
+    /// Whether something isn't as expected.
+    unmet: bool,
+    /// Whether all that is expected could be decided.
+    told: bool,
+}
+
+/// That a file is refused.
+fn refused_part(alloc: Global, name: &str, refusal: Refusal) -> Result<FilePart, AllocError>
+    ensures { IfOk result (λ p. seen p ≡ refused_part name.now refusal) }
+{
+    let text = format!(in alloc; "refused {refusal} - {name}\n")?;
+    Ok(FilePart {
+        text,
+        tests: 0,
+        refused: true,
+        unmet: false,
+        told: true,
+    })
+}
+
+/// The tests of a text, after the n tests of the files before it, or its first refusal.
+fn text_part<O: Observer>(
+    alloc: Global,
+    options: &CheckOptions,
+    name: &str,
+    before: usize,
+    text: &str,
+    observer: &mut O,
+) -> Result<FilePart, AllocError>
+    ensures { IfOk result (λ p.
+        IsTextPart options.now name.now before text.now (seen p)) }
+{
+    let grounds = match grounds_in(alloc, options, text, observer) {
+        Ok(grounds) => grounds,
+        Err(refusal) => return refused_part(alloc, name, refusal),
+    };
+    let CheckedPart {
+        text,
+        tests,
+        conclusion,
+    } = check_named(alloc, name, before, &grounds.expected, &grounds.findings)?;
+    let mark = format!(in alloc; "{name}: ")?;
+    let text = with_notes(alloc, &mark, grounds.threads, &text)?;
+    Ok(FilePart {
+        text,
+        tests,
+        refused: false,
+        unmet: is_unmet(conclusion),
+        told: is_told(conclusion),
+    })
+}
+
+/// What is printed of a file of these bytes.
+fn bytes_part<O: Observer>(
+    alloc: Global,
+    options: &CheckOptions,
+    name: &str,
+    before: usize,
+    bytes: &[u8],
+    observer: &mut O,
+) -> Result<FilePart, AllocError>
+    requires { length bytes.now ≤ MAX_INPUT }
+    ensures { IfOk result (λ p.
+        IsPart options.now name.now before bytes.now (seen p)) }
+{
+    match str::from_utf8(bytes) {
+        Ok(text) => text_part(alloc, options, name, before, text, observer),
+        Err(_) => refused_part(alloc, name, Refusal::NotText),
+    }
+}
+
+/// All bytes of a file.
+fn bytes_of<R: Source>(alloc: Global, name: &str, source: &mut R) -> Result<Vec<u8>, InputError>
+    ensures whole { IfOk result (λ v.
+        IfSome (R.file source.old name.now) (λ bytes. v.items ≡ bytes)) }
+    ensures short { IfOk result (λ v. length v.items ≤ MAX_INPUT) }
+    ensures refused { IfErr result (λ e.
+        IfSome (R.file source.old name.now) (λ bytes. RefusesInput bytes (Refusal.Input e))) }
+    ensures files { R.file source.new ≡ R.file source.old }
+{
+    source.open(name)?;
+    read_whole(alloc, source)
+}
+
+/// What is printed of a file, after the n tests of the files before it.
+fn part_of<R: Source, O: Observer>(
+    alloc: Global,
+    options: &CheckOptions,
+    name: &str,
+    before: usize,
+    source: &mut R,
+    observer: &mut O,
+) -> Result<FilePart, AllocError>
+    ensures part { IfOk result (λ p. IfSome (R.file source.old name.now)
+        (λ bytes. IsPart options.now name.now before bytes (seen p))) }
+    ensures files { R.file source.new ≡ R.file source.old }
+{
+    match bytes_of(alloc, name, source) {
+        Ok(bytes) => bytes_part(alloc, options, name, before, &bytes, observer),
+        Err(error) => refused_part(alloc, name, Refusal::Input(error)),
+    }
+}
+
+/// What is printed of some files.
+#[derive(Drop)]
+struct Tally {
+    text: String,
+    tests: usize,
+    refused: bool,
+    unmet: bool,
+    told: bool,
+}
+
+impl Tally {
+    /// Puts what is printed of one more after it.
+    fn add(&mut self, part: &FilePart) -> Result<(), AllocError>
+        ensures { OnOk result (counted self.new ≡ with_part (counted self.old) (seen part.now)) }
+    {
+        let tests = self.tests.checked_add(part.tests).ok_or(AllocError)?;
+        self.text.push_str(part.text.as_str())?;
+        self.tests = tests;
+        self.refused |= part.refused;
+        self.unmet |= part.unmet;
+        self.told &= part.told;
+        Ok(())
+    }
+}
+
+/// What is printed of all files.
+fn tell_all<R: Source, O: Observer>(
+    alloc: Global,
+    options: &CheckOptions,
+    names: &[String],
+    source: &mut R,
+    observer: &mut O,
+) -> Result<Tally, AllocError>
+    ensures { IfOk result (λ t. AreTold options.now (R.file source.old)
+        (map string_bytes names.now) no_part (counted t)) }
+{
+    let mut tally = Tally {
+        text: String::new(alloc),
+        tests: 0,
+        refused: false,
+        unmet: false,
+        told: true,
+    };
+    for name in names {
+        let part = part_of(alloc, options, name.as_str(), tally.tests, source, observer)?;
+        tally.add(&part)?;
+    }
+    Ok(tally)
+}
+
+/// The plan of all tests, and the tests.
+fn planned(alloc: Global, tally: &Tally) -> Result<String, AllocError>
+    ensures { IfOk result (λ text. string_bytes text
+        ≡ plan_text tally.now.tests ++ string_bytes tally.now.text) }
+{
+    let mut text = plan(alloc, tally.tests)?;
+    text.push_str(tally.text.as_str())?;
+    Ok(text)
+}
+
+/// The tests of several files, and their plan.
+fn checked<R: Source, O: Observer>(
+    alloc: Global,
+    options: &CheckOptions,
+    names: &[String],
+    source: &mut R,
+    observer: &mut O,
+) -> Result<Reply, Refusal>
+    ensures { Replies (AreChecked options.now (R.file source.old) (map string_bytes names.now))
+        result }
+{
+    let tally = tell_all(alloc, options, names, source, observer)?;
+    let text = planned(alloc, &tally)?;
+    Ok(Reply::Several {
+        text,
+        refused: tally.refused,
+        unmet: tally.unmet,
+        told: tally.told,
+    })
+}
+
+/// `ebpf check` of several files.
+pub fn check_files<R: Source, O: Observer>(
+    alloc: Global,
+    options: &CheckOptions,
+    names: &[String],
+    source: &mut R,
+    observer: &mut O,
+) -> Reply
+    ensures { AreChecked options.now (R.file source.old)
+        (map string_bytes names.now) result }
+{
+    Reply::of(checked(alloc, options, names, source, observer))
+}

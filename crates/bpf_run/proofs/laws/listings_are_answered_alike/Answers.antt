@@ -1,5 +1,0 @@
-use Rattle.bpf_run.proofs.ListedAgain.{listing_answered}
-use Rattle.bpf_run.proofs.laws.listings_are_answered_alike.Goals as goal
-
-pub returns : goal.returns
-returns c = listing_answered c.texts_are_determined.ensures c.listings_assemble_alike.ensures

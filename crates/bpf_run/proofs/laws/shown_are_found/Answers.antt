@@ -1,5 +1,0 @@
-use Rattle.bpf_run.proofs.SeenAgain.{shown_are_found as law}
-use Rattle.bpf_run.proofs.laws.shown_are_found.Goals as goal
-
-pub returns : goal.returns
-returns c = law c.files_are_determined.ensures c.files_can_run.ensures c.reports_by_are_determined.ensures c.histories_are_of_reports.ensures
