@@ -17,14 +17,13 @@ web: build ## Make the page that steps the proved program in a browser: out/web/
 	tools/web
 
 # rt ci sets aside what was built before, and leaves the program that it proved, built and ran: the cases take that one.
-test: ## The whole gate: the layout of the sources and of the manual page, every proof, every must-fail edit, every test, then the cases, refused memory, failing reads and writes, and damaged input and hosts
+test: ## The whole gate: the layout of the sources, every proof, every must-fail edit, every test, then the cases, refused memory, failing reads and writes, and damaged input and hosts
 	tests/format
-	$(MAKE) manual
-	tests/segments.py --check
-	tests/edits.py --check
 	rt ci
 	install -m 755 crates/bpf_run/out/bpf_run ebpf
 	tests/probes ./ebpf
+	tests/segments.py --check
+	tests/edits.py --check
 	tests/run ./ebpf
 	tests/memory ./ebpf
 	tests/streams ./ebpf
@@ -45,6 +44,7 @@ test: ## The whole gate: the layout of the sources and of the manual page, every
 	tests/dap ./ebpf
 	tests/debug ./ebpf
 	tests/page ./ebpf
+	$(MAKE) manual
 
 manual: ## Look for mistakes in the manual page with mandoc, where that is installed
 	@if command -v mandoc >/dev/null; then mandoc -T lint ebpf.1; else echo "mandoc isn't installed: ebpf.1 isn't looked at"; fi

@@ -58,7 +58,7 @@ class Documented:
         return got.status == self.status and not got.stderr and self.pattern.fullmatch(got.stdout) is not None
 
 
-OUTCOME = rb"(r0=\d+|fault F[1-6] at \d+|out of budget at \d+)"
+OUTCOME = rb"(r0=\d+|fault F[1-7] at \d+|out of budget at \d+)"
 KEYS = rb"(map \w+ ([0-9a-f]{2})+=([0-9a-f]{2})+\n)*"
 THREADS = rb"(threads may run out of elements\n)?(threads may see keys or values in part\n)?"
 FOUND = rb"(by( \d+\*\d+)*\n(job \d+ cpu \d+ " + OUTCOME + rb"\n)*" + KEYS + rb")*"
@@ -66,7 +66,7 @@ LINE_OF_A_FILE = r"line \d+ (L[1-6]|S[1-6]|H1|A[1-5]|E1|E3|E2 \d+|E[4-9] \d+|E1[
 DOCUMENTED = {
     "hex": [
         Documented(0, rb"r0=\d+\n"),
-        Documented(3, rb"(fault F[1-6] at \d+|out of budget at \d+)\n"),
+        Documented(3, rb"(fault F[1-7] at \d+|out of budget at \d+)\n"),
         refused("E1", "E3", r"E2 \d+", r"E[4-9] \d+", r"E1[0-3] \d+", "H1", "L8"),
     ],
     "disasm": [

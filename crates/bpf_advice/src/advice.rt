@@ -123,7 +123,7 @@ fn push_instruction(
 fn is_fault(code: Code) -> bool {
     matches!(
         code,
-        Code::F1 | Code::F2 | Code::F3 | Code::F4 | Code::F5 | Code::F6
+        Code::F1 | Code::F2 | Code::F3 | Code::F4 | Code::F5 | Code::F6 | Code::F7
     )
 }
 

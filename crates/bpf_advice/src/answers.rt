@@ -3,7 +3,8 @@
 use std::alloc::AllocError;
 
 /// What is known of an error that a helper answers.
-const ERRORS: [(u64, &str, &str); 6] = [
+const ERRORS: [(u64, &str, &str); 7] = [
+    (1, "EPERM", "an update of a frozen array"),
     (
         2,
         "ENOENT",

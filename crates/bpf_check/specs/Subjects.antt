@@ -4,14 +4,18 @@ use Rattle.std.specs.List.{after_first, before_first, list_all, list_any, starts
 use Rattle.std.specs.Str.{bytes_eq}
 use Rattle.std.specs.Str.Parse.{digits_value}
 use Rattle.bpf_lines.specs.Words.{is_numeral}
+use Rattle.bpf_shared.specs.declared.shapes.ArrayShape.{ArrayShape}
 use Rattle.bpf_shared.specs.declared.shapes.MapShape.{MapShape}
 
--- what lines speak of: the CPU of each job, the maps' names and sizes by their numbers, whether lists of
--- keys are among the lines, and whether it may be asked if schedules can end
+-- what lines speak of: the CPU of each job, how many CPUs there are, the names of the maps by their
+-- numbers and after them those of the arrays, the sizes of both, whether lists of keys are among the lines,
+-- and whether it may be asked if schedules can end
 pub record Subjects : Type 0 where
   pub jobs : List ℕ
+  pub cpus : ℕ
   pub names : List (List ℕ)
   pub maps : List MapShape
+  pub arrays : List ArrayShape
   pub lists : Bool
   pub ends : Bool
 
@@ -44,9 +48,9 @@ is_same (Some a) None = false
 abbrev pub is_result : List ℕ → Bool
 is_result word = starts_with nat_eq word (codes "r0=") && is_number (drop 3 word)
 
--- F1 to F6
+-- F1 to F7
 abbrev pub is_fault : List ℕ → Bool
-is_fault (f ∷ n ∷ []) = f == 70 && (nat_le 49 n && nat_le n 54)
+is_fault (f ∷ n ∷ []) = f == 70 && (nat_le 49 n && nat_le n 55)
 is_fault [] = false
 is_fault (f ∷ []) = false
 is_fault (f ∷ n ∷ b ∷ more) = false
@@ -67,6 +71,23 @@ abbrev pub is_pair : Option MapShape → List ℕ → Bool
 is_pair None word = false
 is_pair (Some m) word =
     are_bytes m.key (before_first is_equals word) && are_bytes m.value (after_first is_equals word)
+
+abbrev pub is_zero : ℕ → Bool
+is_zero b = b == 48
+
+-- n bytes that aren't all zeros: no other value of an array has a line
+abbrev pub is_value : ℕ → List ℕ → Bool
+is_value count word = are_bytes count word && not (list_all is_zero word)
+
+abbrev pub is_below : ℕ → Option ℕ → Bool
+is_below limit None = false
+is_below limit (Some n) = nat_lt n limit
+
+-- `N=VALUE`, of a number below this and so many bytes
+abbrev pub is_numbered : (limit count : ℕ) → List ℕ → Bool
+is_numbered limit count word =
+    is_below limit (number_in (before_first is_equals word))
+    && is_value count (after_first is_equals word)
 
 abbrev pub are_keys : Option MapShape → List (List ℕ) → Bool
 are_keys None words = false
@@ -91,6 +112,11 @@ place_of name (known ∷ names) =
 -- the sizes of the map of this name
 abbrev pub map_of : Subjects → List ℕ → Option MapShape
 map_of s name = option_and_then (slice_get s.maps) (place_of name s.names)
+
+-- the sizes of the array of this name
+abbrev pub array_of : Subjects → List ℕ → Option ArrayShape
+array_of s name =
+    option_and_then (slice_get s.arrays) (place_of name (drop (length s.maps) s.names))
 
 -- ---- lines
 
@@ -130,6 +156,25 @@ is_job_line s words = stands words 1 (codes "cpu")
 abbrev pub is_map_line : Subjects → List (List ℕ) → Bool
 is_map_line s words = length words == 2 && is_pair (map_of s (at words 0)) (at words 1)
 
+-- after `array`: NAME and INDEX=VALUE
+abbrev pub is_shared_value : ArrayShape → List (List ℕ) → Bool
+is_shared_value g words = length words == 2 && is_numbered g.max g.value (at words 1)
+
+-- NAME, INDEX, `cpu` and CPU=VALUE, where each CPU has values of its own
+abbrev pub is_own_value : (cpus : ℕ) → ArrayShape → List (List ℕ) → Bool
+is_own_value cpus g words = length words == 4 && (is_below g.max (number_in (at words 1))
+    && (stands words 2 (codes "cpu") && is_numbered cpus g.value (at words 3)))
+
+-- of an array of these sizes; nothing of one that may only be read
+abbrev pub is_array_value : (cpus : ℕ) → Option ArrayShape → List (List ℕ) → Bool
+is_array_value cpus None words = false
+is_array_value cpus (Some g) words =
+    if g.frozen then false
+    else (if g.per_cpu then is_own_value cpus g words else is_shared_value g words)
+
+abbrev pub is_array_line : Subjects → List (List ℕ) → Bool
+is_array_line s words = is_array_value s.cpus (array_of s (at words 0)) words
+
 -- after `keys`: `cpu`, C, NAME and keys, of a CPU that has jobs
 abbrev pub is_keys_line : Subjects → List (List ℕ) → Bool
 is_keys_line s (cpu ∷ c ∷ name ∷ keys) =
@@ -141,7 +186,8 @@ unfoldable pub can_print : Subjects → (first : List ℕ) → List (List ℕ) �
 can_print s first more =
     if bytes_eq first (codes "job") then is_job_line s more
     else (if bytes_eq first (codes "map") then is_map_line s more
-    else (s.lists && (bytes_eq first (codes "keys") && is_keys_line s more)))
+    else (if bytes_eq first (codes "array") then is_array_line s more
+    else (s.lists && (bytes_eq first (codes "keys") && is_keys_line s more))))
 
 abbrev pub can_print_all : Subjects → List (List ℕ) → Bool
 can_print_all s [] = false

@@ -1,13 +1,13 @@
 //! The lines that a file's outcomes can have.
 
-ghost use Rattle.std.specs.Prelude.{◌≡◌, ◌==◌, ◌+◌, ◌%◌, ◌≤◌, IfSome, length, map, string_bytes};
+ghost use Rattle.std.specs.Prelude.{◌≡◌, ◌==◌, ◌+◌, ◌%◌, ◌≤◌, IfSome, drop, length, map, string_bytes};
 ghost use Rattle.std.specs.List.{after_first, before_first, list_all};
 ghost use Rattle.std.specs.Option.{option_copied};
 ghost use Rattle.std.specs.Str.{bytes_eq};
-ghost use Rattle.bpf_check.specs.Subjects.{are_bytes, are_keys, at, can_print, can_print_all, cpu_of, has_jobs, has_plain_digits, is_budget_end, is_end, is_equals, is_exit, is_fault, is_fault_end, is_hex_digit, is_job_line, is_keys_line, is_map_line, is_number, is_pair, is_result, is_same, map_of, number_in, place_of, stands};
+ghost use Rattle.bpf_check.specs.Subjects.{are_bytes, are_keys, array_of, at, can_print, can_print_all, cpu_of, has_jobs, has_plain_digits, is_array_line, is_array_value, is_below, is_budget_end, is_end, is_equals, is_exit, is_fault, is_fault_end, is_hex_digit, is_job_line, is_keys_line, is_map_line, is_number, is_numbered, is_own_value, is_pair, is_result, is_same, is_shared_value, is_value, is_zero, map_of, number_in, place_of, stands};
 
 use bpf_lines::numbers::{self, Radix};
-use bpf_shared::{MapShape, StoreShape};
+use bpf_shared::{ArrayShape, MapShape, StoreShape};
 use std::marker::Model;
 
 /// What the lines of a file's outcomes speak of, and what may be asked of them.
@@ -15,9 +15,9 @@ use std::marker::Model;
 pub struct Subjects {
     /// The CPU of each job.
     jobs: Vec<u8>,
-    /// The maps' names, by their numbers.
+    /// The maps' names, by their numbers, and then the arrays'.
     names: Vec<String>,
-    /// The maps' sizes, by their numbers.
+    /// The sizes of both, by their numbers.
     shape: StoreShape,
     /// Whether lists of keys are among the lines.
     lists: bool,
@@ -33,8 +33,10 @@ impl Model for Subjects {
 
     ghost view = { λ s. record {
       jobs = s.jobs.items;
+      cpus = s.shape.cpus;
       names = map string_bytes s.names.items;
       maps = s.shape.maps;
+      arrays = s.shape.arrays;
       lists = s.lists;
       ends = s.ends;
     } };
@@ -92,7 +94,7 @@ fn is_fault(word: &[u8]) -> bool
     ensures { result ≡ is_fault word.now }
 {
     match word {
-        [letter, number] => *letter == b'F' && b'1' <= *number && *number <= b'6',
+        [letter, number] => *letter == b'F' && b'1' <= *number && *number <= b'7',
         _ => false,
     }
 }
@@ -157,6 +159,41 @@ fn is_pair(shape: Option<&MapShape>, word: &[u8]) -> bool
         Some(shape) => are_bytes(shape.key, key_of(word)) && are_bytes(shape.value, value_of(word)),
         None => false,
     }
+}
+
+fn is_zero(byte: u8) -> bool
+    ensures { result ≡ is_zero byte }
+{
+    byte == b'0'
+}
+
+fn are_zeros(word: &[u8]) -> bool
+    ensures { result ≡ list_all is_zero word.now }
+{
+    word.iter().all(|byte| is_zero(*byte))
+}
+
+/// Whether a word is n bytes that aren't all zeros, in lower case hex.
+fn is_value(count: u64, word: &[u8]) -> bool
+    ensures { result ≡ is_value count word.now }
+{
+    are_bytes(count, word) && !are_zeros(word)
+}
+
+fn is_below(limit: u64, number: Option<u64>) -> bool
+    ensures { result ≡ is_below limit number }
+{
+    match number {
+        Some(number) => number < limit,
+        None => false,
+    }
+}
+
+/// Whether a word is a number below a limit and a value of n bytes.
+fn is_numbered(limit: u64, count: u64, word: &[u8]) -> bool
+    ensures { result ≡ is_numbered limit count word.now }
+{
+    is_below(limit, number_in(key_of(word))) && is_value(count, value_of(word))
 }
 
 /// Whether words are n bytes each, in lower case hex.
@@ -233,6 +270,46 @@ fn is_end(words: &[&[u8]]) -> bool
     is_exit(words) || is_fault_end(words) || is_budget_end(words)
 }
 
+/// Whether a word after an array's name is an index with its value.
+fn is_shared_value(shape: &ArrayShape, words: &[&[u8]]) -> bool
+    ensures { result ≡ is_shared_value shape.now (map (λ f. f.now) words.now) }
+{
+    words.len() == 2 && is_numbered(shape.max, shape.value, word_at(words, 1))
+}
+
+/// Whether words after it are an index and a CPU with its value.
+fn is_own_value(cpus: u8, shape: &ArrayShape, words: &[&[u8]]) -> bool
+    ensures { result ≡ is_own_value cpus shape.now (map (λ f. f.now) words.now) }
+{
+    words.len() == 4
+        && is_below(shape.max, number_in(word_at(words, 1)))
+        && stands(words, 2, "cpu")
+        && is_numbered(u64::from(cpus), shape.value, word_at(words, 3))
+}
+
+/// Whether words after it are a value of an array of these sizes.
+fn is_array_value(cpus: u8, shape: Option<&ArrayShape>, words: &[&[u8]]) -> bool
+    ensures { result ≡ is_array_value cpus (option_copied shape.entry) (map (λ f. f.now) words.now) }
+{
+    match shape {
+        Some(shape) if shape.frozen => false,
+        Some(shape) if shape.per_cpu => is_own_value(cpus, shape, words),
+        Some(shape) => is_shared_value(shape, words),
+        None => false,
+    }
+}
+
+/// The names after the first n.
+fn names_after(names: &[String], count: usize) -> &[String]
+    ensures { map string_bytes result.now ≡ drop count (map string_bytes names.now) }
+{
+    if count <= names.len() {
+        &names[count..]
+    } else {
+        &[]
+    }
+}
+
 /// The number of the first of this name.
 fn place_of(name: &[u8], names: &[String]) -> Option<usize>
     ensures value { result ≡ place_of name.now (map string_bytes names.now) }
@@ -252,7 +329,8 @@ fn place_of(name: &[u8], names: &[String]) -> Option<usize>
 }
 
 impl Subjects {
-    /// What lines of a file's outcomes speak of: jobs on these CPUs, and maps of these names and sizes.
+    /// What lines of a file's outcomes speak of: jobs on these CPUs, and maps and then arrays of these
+    /// names and sizes.
     pub fn new(
         jobs: Vec<u8>,
         names: Vec<String>,
@@ -262,8 +340,10 @@ impl Subjects {
     ) -> Subjects
         ensures { result ≡ record {
           jobs = jobs.items;
+          cpus = shape.cpus;
           names = map string_bytes names.items;
           maps = shape.maps;
+          arrays = shape.arrays;
           lists = lists;
           ends = ends;
         } }
@@ -309,6 +389,16 @@ impl Subjects {
         }
     }
 
+    /// The sizes of the array of this name.
+    fn array_of(&self, name: &[u8]) -> Option<&ArrayShape>
+        ensures { option_copied result ≡ array_of self.now name.now }
+    {
+        match place_of(name, names_after(&self.names, self.shape.maps().len())) {
+            Some(place) => self.shape.arrays().get(place),
+            None => None,
+        }
+    }
+
     /// Whether words after `job` make a line with it.
     fn is_job_line(&self, words: &[&[u8]]) -> bool
         ensures { result ≡ is_job_line self.now (map (λ f. f.now) words.now) }
@@ -326,6 +416,14 @@ impl Subjects {
         ensures { result ≡ is_map_line self.now (map (λ f. f.now) words.now) }
     {
         words.len() == 2 && is_pair(self.map_of(word_at(words, 0)), word_at(words, 1))
+    }
+
+    /// Whether words after `array` do.
+    fn is_array_line(&self, words: &[&[u8]]) -> bool
+        ensures { result ≡ is_array_line self.now (map (λ f. f.now) words.now) }
+    {
+        let shape = self.array_of(word_at(words, 0));
+        is_array_value(self.shape.cpus(), shape, words)
     }
 
     /// Whether words after `keys` do.
@@ -354,6 +452,8 @@ impl Subjects {
             self.is_job_line(more)
         } else if is(first, "map") {
             self.is_map_line(more)
+        } else if is(first, "array") {
+            self.is_array_line(more)
         } else {
             self.lists && is(first, "keys") && self.is_keys_line(more)
         }

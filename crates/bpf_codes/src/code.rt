@@ -32,6 +32,7 @@ pub enum Code {
     F4,
     F5,
     F6,
+    F7,
     G1,
     G2,
     G3,
@@ -60,11 +61,16 @@ pub enum Code {
     S5,
     S6,
     S7,
+    S8,
+    S9,
+    S10,
+    S11,
+    S12,
     X1,
 }
 
 /// All codes.
-pub const CODES: [Code; 55] = [
+pub const CODES: [Code; 61] = [
     Code::A1,
     Code::A2,
     Code::A3,
@@ -91,6 +97,7 @@ pub const CODES: [Code; 55] = [
     Code::F4,
     Code::F5,
     Code::F6,
+    Code::F7,
     Code::G1,
     Code::G2,
     Code::G3,
@@ -119,6 +126,11 @@ pub const CODES: [Code; 55] = [
     Code::S5,
     Code::S6,
     Code::S7,
+    Code::S8,
+    Code::S9,
+    Code::S10,
+    Code::S11,
+    Code::S12,
     Code::X1,
 ];
 
@@ -157,6 +169,7 @@ impl Code {
             Code::F4 => "F4",
             Code::F5 => "F5",
             Code::F6 => "F6",
+            Code::F7 => "F7",
             Code::G1 => "G1",
             Code::G2 => "G2",
             Code::G3 => "G3",
@@ -185,6 +198,11 @@ impl Code {
             Code::S5 => "S5",
             Code::S6 => "S6",
             Code::S7 => "S7",
+            Code::S8 => "S8",
+            Code::S9 => "S9",
+            Code::S10 => "S10",
+            Code::S11 => "S11",
+            Code::S12 => "S12",
             Code::X1 => "X1",
         }
     }

@@ -11,7 +11,7 @@ use Rattle.bpf_alu.specs.Arithmetic.{sign_extended}
 use Rattle.bpf_alu.specs.Comparison.{holds}
 use Rattle.bpf_shared.specs.declared.events.Event.{Event}
 use Rattle.bpf_shared.specs.declared.events.Span.{Span}
-use Rattle.bpf_shared.specs.declared.shapes.MapShape.{MapShape}
+use Rattle.bpf_shared.specs.Shape.{Shape}
 use Rattle.bpf_loader.specs.Loaded.{Loaded}
 use Rattle.bpf_helpers.specs.declared.fault.HelperFault.{HelperFault}
 use Rattle.bpf_cpu.specs.declared.cpu.Cpu.{Cpu}
@@ -72,46 +72,46 @@ module _ (old new : Cpu) (progress : Progress) where
   quiet_row (insn.Atomic w op b o s) row = operated w op s (effective_address old b o) row
 
   -- ---- accesses to held values
-  value_loaded : (z : Size) (reading : ℕ → ℕ) (d : Reg) (a : ℕ) (events : List Event) → LoadsValue z reading d a old events progress new → IsOfOneJob old new
-  value_loaded z reading d a events (inl odd) = made _ odd.2.1 (refl, refl)
-  value_loaded z reading d a events (inr row) = made _ row.1.3 (refl, refl)
+  value_loaded : (h : Shape) (z : Size) (reading : ℕ → ℕ) (d : Reg) (a : ℕ) (events : List Event) → LoadsValue h z reading d a old events progress new → IsOfOneJob old new
+  value_loaded h z reading d a events (inl refused) = made _ refused.3.1 (refl, refl)
+  value_loaded h z reading d a events (inr row) = made _ row.1.3 (refl, refl)
 
-  value_stored : (z : Size) (a x : ℕ) (events : List Event) → StoresValue z a x old events progress new → IsOfOneJob old new
-  value_stored z a x events (inl odd) = made _ odd.2.1 (refl, refl)
-  value_stored z a x events (inr row) = made _ row.3 (refl, refl)
+  value_stored : (h : Shape) (z : Size) (a x : ℕ) (events : List Event) → StoresValue h z a x old events progress new → IsOfOneJob old new
+  value_stored h z a x events (inl refused) = made _ refused.3.1 (refl, refl)
+  value_stored h z a x events (inr row) = made _ row.3 (refl, refl)
 
-  value_changed : (w : Width) (op : AtomicOp) (s : Reg) (a : ℕ) (events : List Event) → ChangesValue w op s a old events progress new → IsOfOneJob old new
-  value_changed w op s a events (inl odd) = made _ odd.2.1 (refl, refl)
-  value_changed w op s a events (inr row) = made _ row.1.3 (refl, refl)
+  value_changed : (h : Shape) (w : Width) (op : AtomicOp) (s : Reg) (a : ℕ) (events : List Event) → ChangesValue h w op s a old events progress new → IsOfOneJob old new
+  value_changed h w op s a events (inl refused) = made _ refused.3.1 (refl, refl)
+  value_changed h w op s a events (inr row) = made _ row.1.3 (refl, refl)
 
-  value_row : (i : Insn) (events : List Event) → AsksValue i old events progress new → IsOfOneJob old new
-  value_row (insn.Alu w op d s) events row = absurd row
-  value_row (insn.Negate w d) events row = absurd row
-  value_row (insn.SignExtend e d s) events row = absurd row
-  value_row (insn.SwapBytes k w d) events row = absurd row
-  value_row (insn.Jump by) events row = absurd row
-  value_row (insn.JumpLong by) events row = absurd row
-  value_row (insn.JumpIf w c d s by) events row = absurd row
-  value_row insn.Exit events row = absurd row
-  value_row (insn.LoadNumber d n) events row = absurd row
-  value_row (insn.LoadMap d m) events row = absurd row
-  value_row (insn.CallHelper n) events row = absurd row
-  value_row (insn.CallLocal by) events row = absurd row
-  value_row (insn.Load z d b o) events row = value_loaded z (λ x. x) d (effective_address old b o) events row
-  value_row (insn.LoadSigned z d b o) events row = value_loaded (plain_size z) (sign_extended (extension_of z)) d (effective_address old b o) events row
-  value_row (insn.StoreImmediate z b o n) events row = value_stored z (effective_address old b o) (cast_unsigned w64 n) events row
-  value_row (insn.Store z b o s) events row = value_stored z (effective_address old b o) (value old s) events row
-  value_row (insn.Atomic w op b o s) events row = value_changed w op s (effective_address old b o) events row
+  value_row : (h : Shape) (i : Insn) (events : List Event) → AsksValue h i old events progress new → IsOfOneJob old new
+  value_row h (insn.Alu w op d s) events row = absurd row
+  value_row h (insn.Negate w d) events row = absurd row
+  value_row h (insn.SignExtend e d s) events row = absurd row
+  value_row h (insn.SwapBytes k w d) events row = absurd row
+  value_row h (insn.Jump by) events row = absurd row
+  value_row h (insn.JumpLong by) events row = absurd row
+  value_row h (insn.JumpIf w c d s by) events row = absurd row
+  value_row h insn.Exit events row = absurd row
+  value_row h (insn.LoadNumber d n) events row = absurd row
+  value_row h (insn.LoadMap d m) events row = absurd row
+  value_row h (insn.CallHelper n) events row = absurd row
+  value_row h (insn.CallLocal by) events row = absurd row
+  value_row h (insn.Load z d b o) events row = value_loaded h z (λ x. x) d (effective_address old b o) events row
+  value_row h (insn.LoadSigned z d b o) events row = value_loaded h (plain_size z) (sign_extended (extension_of z)) d (effective_address old b o) events row
+  value_row h (insn.StoreImmediate z b o n) events row = value_stored h z (effective_address old b o) (cast_unsigned w64 n) events row
+  value_row h (insn.Store z b o s) events row = value_stored h z (effective_address old b o) (value old s) events row
+  value_row h (insn.Atomic w op b o s) events row = value_changed h w op s (effective_address old b o) events row
 
   -- ---- a helper's call
   taken : (result : Result ℕ HelperFault) (held : List Span) → TakesResult result held old progress new → IsOfOneJob old new
   taken (Ok x) held row = made _ row.1 (refl, refl)
   taken (Err fault) held row = made _ row.1 (refl, refl)
 
-  executed : (shapes : List MapShape) (i : Insn) (events : List Event) → Executes shapes i old events progress new → IsOfOneJob old new
-  executed shapes i events (inl quiet) = quiet_row i quiet.2
-  executed shapes i events (inr (inl call)) = taken call.2.0 call.2.1 call.2.3
-  executed shapes i events (inr (inr asks)) = value_row i events asks.1
+  executed : (shape : Shape) (i : Insn) (events : List Event) → Executes shape i old events progress new → IsOfOneJob old new
+  executed shape i events (inl quiet) = quiet_row i quiet.2
+  executed shape i events (inr (inl call)) = taken call.2.0 call.2.1 call.2.3
+  executed shape i events (inr (inr asks)) = value_row shape i events asks.1
 
-  pub step_keeps : (shapes : List MapShape) (program : Loaded) (events : List Event) → Step shapes program old events progress new → IsOfOneJob old new
-  step_keeps shapes program events step = executed shapes step.instruction events step.row
+  pub step_keeps : (shape : Shape) (program : Loaded) (events : List Event) → Step shape program old events progress new → IsOfOneJob old new
+  step_keeps shape program events step = executed shape step.instruction events step.row

@@ -16,7 +16,7 @@ use Rattle.bpf_alu.specs.Comparison.{holds}
 use Rattle.bpf_shared.specs.declared.events.Span.{Span}
 use Rattle.bpf_shared.specs.declared.events.Event.{Event}
 use Rattle.bpf_shared.specs.declared.events.Event.TheVariants as event
-use Rattle.bpf_shared.specs.declared.shapes.MapShape.{MapShape}
+use Rattle.bpf_shared.specs.Shape.{Shape}
 use Rattle.bpf_mem.specs.declared.frames.Caller.{Caller}
 use Rattle.bpf_mem.specs.declared.memory.PrivateMemory.{PrivateMemory}
 use Rattle.bpf_base.specs.Bytes.{low_bytes}
@@ -37,7 +37,8 @@ use Rattle.bpf_helpers.specs.Laws.{AreAskedAlike}
 use Rattle.bpf_helpers.proofs.Determined.{calls_are_determined}
 use Rattle.bpf_cpu.proofs.Asking.{asks-nothing, asks-one}
 use Rattle.bpf_cpu.specs.Row.{Faults, Quiet, Jumps, JumpsIf, CallsLocal, Exits, Loads, Stores, Atomics, plain_size, extension_of, fetching, remembering, TakesResult, Helper}
-use Rattle.bpf_cpu.specs.Values.{asks_value, event_size_of, IsOdd, LoadsValue, StoresValue, ChangesValue, AsksValue}
+use Rattle.bpf_cpu.specs.declared.outcome.Fault.TheVariants.{BadAddress, Misaligned, ReadOnly}
+use Rattle.bpf_cpu.specs.Values.{asks_value, event_size_of, MayNotRead, MayNotWrite, IsRefused, IsPlace, IsPlaceToWrite, LoadsValue, StoresValue, ChangesValue, AsksValue}
 use Rattle.bpf_cpu.specs.Step.{Executes}
 
 -- the same end, with the memory of a CPU
@@ -50,6 +51,44 @@ pub record Same (progress end : Progress) (new other : Cpu) : Type 0 where
 pub record Agrees (events others : List Event) (progress end : Progress) (new other : Cpu) : Type 0 where
   pub asks : AreAskedAlike events others
   pub replied : events ≡ others → Same progress end new other
+
+-- ---- why an access to a value is refused
+
+module _ (h : Shape) (z : Size) (a : ℕ) (cpu : Cpu) where
+  same_why_read : (f g : Fault) → MayNotRead h z a cpu f → MayNotRead h z a cpu g → f ≡ g
+  same_why_read BadAddress BadAddress w v = refl
+  same_why_read BadAddress Misaligned w v = absurd (w v.0)
+  same_why_read Misaligned BadAddress w v = absurd (v w.0)
+  same_why_read Misaligned Misaligned w v = refl
+  same_why_read BadAddress _ w v = absurd v
+  same_why_read Misaligned _ w v = absurd v
+  same_why_read _ g w v = absurd w
+
+  same_why_write : (f g : Fault) → MayNotWrite h z a cpu f → MayNotWrite h z a cpu g → f ≡ g
+  same_why_write ReadOnly ReadOnly w v = refl
+  same_why_write ReadOnly BadAddress w v = absurd (v (inr w.0.1.0))
+  same_why_write ReadOnly Misaligned w v = absurd (v.1 w.1)
+  same_why_write BadAddress ReadOnly w v = absurd (w (inr v.0.1.0))
+  same_why_write Misaligned ReadOnly w v = absurd (w.1 v.1)
+  same_why_write BadAddress BadAddress w v = refl
+  same_why_write BadAddress Misaligned w v = absurd (w v.0)
+  same_why_write Misaligned BadAddress w v = absurd (v w.0)
+  same_why_write Misaligned Misaligned w v = refl
+  same_why_write ReadOnly _ w v = absurd v
+  same_why_write BadAddress _ w v = absurd v
+  same_why_write Misaligned _ w v = absurd v
+  same_why_write _ g w v = absurd w
+
+  no_place_to_read : (f : Fault) → MayNotRead h z a cpu f → IsPlace h z a cpu → ⊥
+  no_place_to_read BadAddress w k = w k.0
+  no_place_to_read Misaligned w k = w.1 k.1
+  no_place_to_read _ w k = w
+
+  no_place_to_write : (f : Fault) → MayNotWrite h z a cpu f → IsPlaceToWrite h z a cpu → ⊥
+  no_place_to_write ReadOnly w k = k.1 w.0
+  no_place_to_write BadAddress w k = w k.0.0
+  no_place_to_write Misaligned w k = w.1 k.0.1
+  no_place_to_write _ w k = w
 
 -- ---- lists
 
@@ -194,9 +233,9 @@ module _ (law : WritesAreDetermined) (old new other : Cpu) (progress end : Progr
   unasked : (events others : List Event) → events ≡ [] → others ≡ [] → Same progress end new other → Agrees events others progress end new other
   unasked events others e f same = record { asks = asks-nothing events others e f; replied = λ _. same }
 
-  helper_agrees : (shapes : List MapShape) (number : ℕ) (events others : List Event) → Helper shapes number old events progress new → Helper shapes number old others end other → Agrees events others progress end new other
-  helper_agrees shapes number events others j k =
-      let calls = calls_are_determined shapes number old.number old.registers old.memory old.held j.1 k.1 events others j.0 k.0 j.2 k.2 in
+  helper_agrees : (shape : Shape) (number : ℕ) (events others : List Event) → Helper shape number old events progress new → Helper shape number old others end other → Agrees events others progress end new other
+  helper_agrees shape number events others j k =
+      let calls = calls_are_determined shape number old.number old.registers old.memory old.held j.1 k.1 events others j.0 k.0 j.2 k.2 in
       record {
         asks = calls.0;
         replied = λ same.
@@ -206,16 +245,16 @@ module _ (law : WritesAreDetermined) (old new other : Cpu) (progress end : Progr
             resulted j.0 j.1 j.3 (subst Q (sym results.1) (subst P (sym results.0) k.3));
       }
 
-  -- ---- accesses to held values
+  -- ---- accesses to values
 
-  odd_agrees : (z : Size) (a : ℕ) (events others : List Event) → IsOdd z a old events progress new → IsOdd z a old others end other → Agrees events others progress end new other
-  odd_agrees z a events others f g = unasked events others f.1 g.1 (faults _ f.2 g.2)
+  refused_agrees : (why : Fault → Type 0) → ((f g : Fault) → why f → why g → f ≡ g) → (events others : List Event) → IsRefused why old events progress new → IsRefused why old others end other → Agrees events others progress end new other
+  refused_agrees why same events others f g = unasked events others f.2 g.2 (faults _ f.3 (subst (λ (x : Fault). Faults x old end other) (same g.0 f.0 g.1 f.1) g.3))
 
-  value_loaded : (z : Size) (reading : ℕ → ℕ) (d : Reg) (a : ℕ) (events others : List Event) → LoadsValue z reading d a old events progress new → LoadsValue z reading d a old others end other → Agrees events others progress end new other
-  value_loaded z reading d a events others (inl f) (inl g) = odd_agrees z a events others f g
-  value_loaded z reading d a events others (inl f) (inr k) = absurd (f.0 k.0)
-  value_loaded z reading d a events others (inr j) (inl g) = absurd (g.0 j.0)
-  value_loaded z reading d a events others (inr j) (inr k) = record {
+  value_loaded : (h : Shape) (z : Size) (reading : ℕ → ℕ) (d : Reg) (a : ℕ) (events others : List Event) → LoadsValue h z reading d a old events progress new → LoadsValue h z reading d a old others end other → Agrees events others progress end new other
+  value_loaded h z reading d a events others (inl f) (inl g) = refused_agrees (MayNotRead h z a old) (same_why_read h z a old) events others f g
+  value_loaded h z reading d a events others (inl f) (inr k) = absurd (no_place_to_read h z a old f.0 f.1 k.0)
+  value_loaded h z reading d a events others (inr j) (inl g) = absurd (no_place_to_read h z a old g.0 g.1 j.0)
+  value_loaded h z reading d a events others (inr j) (inr k) = record {
     asks = asks-one events others (event.Load a (event_size_of z) j.1.0) (event.Load a (event_size_of z) k.1.0) j.1.1 k.1.1 refl;
     replied = λ same.
         let lists : event.Load a (event_size_of z) j.1.0 ∷ [] ≡ event.Load a (event_size_of z) k.1.0 ∷ [] = sym j.1.1 ∙ same ∙ k.1.1 in
@@ -223,20 +262,20 @@ module _ (law : WritesAreDetermined) (old new other : Cpu) (progress end : Progr
         makes (with_register old d (reading j.1.0) (old.pc + 1)) j.1.2 k.1.2 j.1.3 (k.1.3 ∙ ap (λ n. with_register old d (reading n) (old.pc + 1)) x) sound;
   }
 
-  value_stored : (z : Size) (a x : ℕ) (events others : List Event) → StoresValue z a x old events progress new → StoresValue z a x old others end other → Agrees events others progress end new other
-  value_stored z a x events others (inl f) (inl g) = odd_agrees z a events others f g
-  value_stored z a x events others (inl f) (inr k) = absurd (f.0 k.0)
-  value_stored z a x events others (inr j) (inl g) = absurd (g.0 j.0)
-  value_stored z a x events others (inr j) (inr k) = record {
+  value_stored : (h : Shape) (z : Size) (a x : ℕ) (events others : List Event) → StoresValue h z a x old events progress new → StoresValue h z a x old others end other → Agrees events others progress end new other
+  value_stored h z a x events others (inl f) (inl g) = refused_agrees (MayNotWrite h z a old) (same_why_write h z a old) events others f g
+  value_stored h z a x events others (inl f) (inr k) = absurd (no_place_to_write h z a old f.0 f.1 k.0)
+  value_stored h z a x events others (inr j) (inl g) = absurd (no_place_to_write h z a old g.0 g.1 j.0)
+  value_stored h z a x events others (inr j) (inr k) = record {
     asks = asks-one events others (event.Store a (event_size_of z) x) (event.Store a (event_size_of z) x) j.1 k.1 refl;
     replied = λ same. makes _ j.2 k.2 j.3 k.3 sound;
   }
 
-  value_changed : (w : Width) (op : AtomicOp) (s : Reg) (a : ℕ) (events others : List Event) → ChangesValue w op s a old events progress new → ChangesValue w op s a old others end other → Agrees events others progress end new other
-  value_changed w op s a events others (inl f) (inl g) = odd_agrees (size_of w) a events others f g
-  value_changed w op s a events others (inl f) (inr k) = absurd (f.0 k.0)
-  value_changed w op s a events others (inr j) (inl g) = absurd (g.0 j.0)
-  value_changed w op s a events others (inr j) (inr k) =
+  value_changed : (h : Shape) (w : Width) (op : AtomicOp) (s : Reg) (a : ℕ) (events others : List Event) → ChangesValue h w op s a old events progress new → ChangesValue h w op s a old others end other → Agrees events others progress end new other
+  value_changed h w op s a events others (inl f) (inl g) = refused_agrees (MayNotWrite h (size_of w) a old) (same_why_write h (size_of w) a old) events others f g
+  value_changed h w op s a events others (inl f) (inr k) = absurd (no_place_to_write h (size_of w) a old f.0 f.1 k.0)
+  value_changed h w op s a events others (inr j) (inl g) = absurd (no_place_to_write h (size_of w) a old g.0 g.1 j.0)
+  value_changed h w op s a events others (inr j) (inr k) =
       let asked : ℕ → Event = λ n. event.Atomic a (event_size_of (size_of w)) (change_of op) (value old s) (slice_index old.registers 0) n in
       let done : ℕ → Cpu = λ n. record old { registers = fetching (fetched_into op s) n old.registers; pc = old.pc + 1 } in
       record {
@@ -247,13 +286,13 @@ module _ (law : WritesAreDetermined) (old new other : Cpu) (progress end : Progr
             makes (done j.1.0) j.1.2 k.1.2 j.1.3 (k.1.3 ∙ ap done x) sound;
       }
 
-  value_agrees : (i : Insn) (events others : List Event) → AsksValue i old events progress new → AsksValue i old others end other → Agrees events others progress end new other
-  value_agrees (insn.Load z d b o) events others j k = value_loaded z (λ x. x) d (effective_address old b o) events others j k
-  value_agrees (insn.LoadSigned z d b o) events others j k = value_loaded (plain_size z) (sign_extended (extension_of z)) d (effective_address old b o) events others j k
-  value_agrees (insn.StoreImmediate z b o n) events others j k = value_stored z (effective_address old b o) (cast_unsigned w64 n) events others j k
-  value_agrees (insn.Store z b o s) events others j k = value_stored z (effective_address old b o) (value old s) events others j k
-  value_agrees (insn.Atomic w op b o s) events others j k = value_changed w op s (effective_address old b o) events others j k
-  value_agrees _ events others j k = absurd j
+  value_agrees : (h : Shape) (i : Insn) (events others : List Event) → AsksValue h i old events progress new → AsksValue h i old others end other → Agrees events others progress end new other
+  value_agrees h (insn.Load z d b o) events others j k = value_loaded h z (λ x. x) d (effective_address old b o) events others j k
+  value_agrees h (insn.LoadSigned z d b o) events others j k = value_loaded h (plain_size z) (sign_extended (extension_of z)) d (effective_address old b o) events others j k
+  value_agrees h (insn.StoreImmediate z b o n) events others j k = value_stored h z (effective_address old b o) (cast_unsigned w64 n) events others j k
+  value_agrees h (insn.Store z b o s) events others j k = value_stored h z (effective_address old b o) (value old s) events others j k
+  value_agrees h (insn.Atomic w op b o s) events others j k = value_changed h w op s (effective_address old b o) events others j k
+  value_agrees h _ events others j k = absurd j
 
   -- ---- any row
 
@@ -263,16 +302,16 @@ module _ (law : WritesAreDetermined) (old new other : Cpu) (progress end : Progr
   helper_value : (i : Insn) (number : ℕ) → i ≡ insn.CallHelper number → asks_value i old ≡ true → ⊥
   helper_value i number e asks = false≢true (subst (λ (j : Insn). asks_value j old ≡ true) e asks)
 
-  pub row_agrees : (shapes : List MapShape) (i : Insn) (events others : List Event) → Executes shapes i old events progress new → Executes shapes i old others end other → Agrees events others progress end new other
-  row_agrees shapes i events others (inl j) (inl k) = unasked events others j.1 k.1 (quiet_same i j.2 k.2)
-  row_agrees shapes i events others (inl j) (inr (inl k)) = absurd (quiet_helper i k.0 progress new k.1 j.2)
-  row_agrees shapes i events others (inl j) (inr (inr k)) = absurd (false≢true (sym j.0 ∙ k.0))
-  row_agrees shapes i events others (inr (inl j)) (inl k) = absurd (quiet_helper i j.0 end other j.1 k.2)
-  row_agrees shapes i events others (inr (inl j)) (inr (inl k)) =
+  pub row_agrees : (shape : Shape) (i : Insn) (events others : List Event) → Executes shape i old events progress new → Executes shape i old others end other → Agrees events others progress end new other
+  row_agrees shape i events others (inl j) (inl k) = unasked events others j.1 k.1 (quiet_same i j.2 k.2)
+  row_agrees shape i events others (inl j) (inr (inl k)) = absurd (quiet_helper i k.0 progress new k.1 j.2)
+  row_agrees shape i events others (inl j) (inr (inr k)) = absurd (false≢true (sym j.0 ∙ k.0))
+  row_agrees shape i events others (inr (inl j)) (inl k) = absurd (quiet_helper i j.0 end other j.1 k.2)
+  row_agrees shape i events others (inr (inl j)) (inr (inl k)) =
       let number : k.0 ≡ j.0 = cc (j.1, k.1) in
-      let P : ℕ → Type 0 = λ n. Helper shapes n old others end other in
-      helper_agrees shapes j.0 events others j.2 (subst P number k.2)
-  row_agrees shapes i events others (inr (inl j)) (inr (inr k)) = absurd (helper_value i j.0 j.1 k.0)
-  row_agrees shapes i events others (inr (inr j)) (inl k) = absurd (false≢true (sym k.0 ∙ j.0))
-  row_agrees shapes i events others (inr (inr j)) (inr (inl k)) = absurd (helper_value i k.0 k.1 j.0)
-  row_agrees shapes i events others (inr (inr j)) (inr (inr k)) = value_agrees i events others j.1 k.1
+      let P : ℕ → Type 0 = λ n. Helper shape n old others end other in
+      helper_agrees shape j.0 events others j.2 (subst P number k.2)
+  row_agrees shape i events others (inr (inl j)) (inr (inr k)) = absurd (helper_value i j.0 j.1 k.0)
+  row_agrees shape i events others (inr (inr j)) (inl k) = absurd (false≢true (sym k.0 ∙ j.0))
+  row_agrees shape i events others (inr (inr j)) (inr (inl k)) = absurd (helper_value i k.0 k.1 j.0)
+  row_agrees shape i events others (inr (inr j)) (inr (inr k)) = value_agrees shape i events others j.1 k.1

@@ -6,7 +6,7 @@ use Rattle.bpf_mem.specs.Saved.{IsWord, words_saved}
 use Rattle.bpf_mem.proofs.WordLemmas.{words_prefix}
 use Rattle.bpf_helpers.proofs.SpanLemmas.{two_words}
 use Rattle.bpf_cpu.specs.declared.outcome.Fault.{Fault as Reason}
-use Rattle.bpf_cpu.specs.declared.outcome.Fault.TheVariants.{BadAddress, Misaligned, CallDepth, NotAMap, TooManyHeld, Worn}
+use Rattle.bpf_cpu.specs.declared.outcome.Fault.TheVariants.{BadAddress, Misaligned, CallDepth, NotAMap, TooManyHeld, Worn, ReadOnly}
 use Rattle.bpf_cpu.specs.declared.outcome.Outcome.{Outcome}
 use Rattle.bpf_cpu.specs.declared.outcome.Outcome.TheVariants.{Exit, Fault, OutOfBudget}
 use Rattle.bpf_cpu.specs.Saved.{fault_number, outcome_saved, outcome_words, IsSavableOutcome}
@@ -18,14 +18,26 @@ from_one CallDepth = omega arith
 from_one NotAMap = omega arith
 from_one TooManyHeld = omega arith
 from_one Worn = omega arith
+from_one ReadOnly = omega arith
 
-below_seven : (f : Reason) → fault_number f < 7
-below_seven BadAddress = omega arith
-below_seven Misaligned = omega arith
-below_seven CallDepth = omega arith
-below_seven NotAMap = omega arith
-below_seven TooManyHeld = omega arith
-below_seven Worn = omega arith
+low_number : (f : Reason) → fault_number f < 9
+low_number BadAddress = omega arith
+low_number Misaligned = omega arith
+low_number CallDepth = omega arith
+low_number NotAMap = omega arith
+low_number TooManyHeld = omega arith
+low_number Worn = omega arith
+low_number ReadOnly = omega arith
+
+-- 7 is no fault's number, but that of a budget that ran out
+not_seven : (f : Reason) → fault_number f ≡ 7 → ⊥
+not_seven BadAddress e = cc
+not_seven Misaligned e = cc
+not_seven CallDepth e = cc
+not_seven NotAMap e = cc
+not_seven TooManyHeld e = cc
+not_seven Worn e = cc
+not_seven ReadOnly e = cc
 
 pub two_long : (o : Outcome) → length (outcome_words o) ≡ 2
 two_long (Exit number) = refl
@@ -37,7 +49,7 @@ both a b h k = All-cons IsWord a (b ∷ []) h (All-cons IsWord b [] k (All-nil I
 
 pub outcome_fits : (o : Outcome) → IsSavableOutcome o → All IsWord (outcome_words o)
 outcome_fits (Exit number) h = both 0 number (omega arith) h
-outcome_fits (Fault f pc) h = let k = below_seven f in both (fault_number f) pc (omega arith) (omega arith)
+outcome_fits (Fault f pc) h = let k = low_number f in both (fault_number f) pc (omega arith) (omega arith)
 outcome_fits (OutOfBudget pc) h = both 7 pc (omega arith) (omega arith)
 
 -- ---- which outcome two words are
@@ -71,7 +83,7 @@ no_outcome bytes words rest size fit read none other more h e =
 
 -- ---- equal bytes are those of equal outcomes
 named : ℕ → Reason
-named n = if n == 1 then BadAddress else if n == 2 then Misaligned else if n == 3 then CallDepth else if n == 4 then NotAMap else if n == 5 then TooManyHeld else Worn
+named n = if n == 1 then BadAddress else if n == 2 then Misaligned else if n == 3 then CallDepth else if n == 4 then NotAMap else if n == 5 then TooManyHeld else if n == 6 then Worn else ReadOnly
 
 named_back : (f : Reason) → named (fault_number f) ≡ f
 unfolding named
@@ -81,6 +93,7 @@ named_back CallDepth = refl
 named_back NotAMap = refl
 named_back TooManyHeld = refl
 named_back Worn = refl
+named_back ReadOnly = refl
 
 same_fault : (f g : Reason) → fault_number f ≡ fault_number g → f ≡ g
 same_fault f g e = sym (named_back f) ∙ (ap named e ∙ named_back g)
@@ -97,9 +110,9 @@ same_outcome (Exit a) (Fault g b) e = let k = first 0 a (fault_number g) b e in 
 same_outcome (Exit a) (OutOfBudget b) e = let k = first 0 a 7 b e in absurd (omega arith)
 same_outcome (Fault f a) (Exit b) e = let k = first (fault_number f) a 0 b e in let l = from_one f in absurd (omega arith)
 same_outcome (Fault f a) (Fault g b) e = ap (λ (r : Reason). Fault r a) (same_fault f g (first (fault_number f) a (fault_number g) b e)) ∙ ap (λ (n : ℕ). Fault g n) (second (fault_number f) a (fault_number g) b e)
-same_outcome (Fault f a) (OutOfBudget b) e = let k = first (fault_number f) a 7 b e in let l = below_seven f in absurd (omega arith)
+same_outcome (Fault f a) (OutOfBudget b) e = absurd (not_seven f (first (fault_number f) a 7 b e))
 same_outcome (OutOfBudget a) (Exit b) e = let k = first 7 a 0 b e in absurd (omega arith)
-same_outcome (OutOfBudget a) (Fault g b) e = let k = first 7 a (fault_number g) b e in let l = below_seven g in absurd (omega arith)
+same_outcome (OutOfBudget a) (Fault g b) e = absurd (not_seven g (sym (first 7 a (fault_number g) b e)))
 same_outcome (OutOfBudget a) (OutOfBudget b) e = ap (λ (n : ℕ). OutOfBudget n) (second 7 a 7 b e)
 
 pub outcomes_told : (x y : Outcome) (rest more : List ℕ) → IsSavableOutcome x → IsSavableOutcome y → outcome_saved x ++ rest ≡ outcome_saved y ++ more → (x ≡ y) × (rest ≡ more)

@@ -3,7 +3,7 @@
 use Rattle.std.specs.Prelude.{◌≡◌, ℕ, ◌≤◌, List, [], ◌∷◌, ◌++◌, length, map}
 use Rattle.bpf_shared.specs.declared.events.Event.{Event}
 use Rattle.bpf_shared.specs.declared.events.Event.TheVariants.{Begin, End}
-use Rattle.bpf_shared.specs.declared.shapes.MapShape.{MapShape}
+use Rattle.bpf_shared.specs.Shape.{Shape, without_arrays}
 use Rattle.bpf_shared.specs.Store.{Plain}
 use Rattle.bpf_shared.specs.History.{PlainlyLegal, entry}
 use Rattle.bpf_shared.specs.Sound.{IsSoundStore}
@@ -22,33 +22,33 @@ use Rattle.bpf_cpu.specs.Step.{Step, MakesSteps, Explains}
 -- determine
 abbrev pub StepsAreDetermined : Type 0
 StepsAreDetermined =
-    (shapes : List MapShape) (program : Loaded) (old new other : Cpu) (events others : List Event)
+    (shape : Shape) (program : Loaded) (old new other : Cpu) (events others : List Event)
     (progress end : Progress) → IsMemory old.memory
-    → Step shapes program old events progress new → Step shapes program old others end other
+    → Step shape program old events progress new → Step shape program old others end other
     → AreAskedAlike events others × (events ≡ others → (progress ≡ end) × (new ≡ other))
 
 -- the same events explain one outcome, whether or not the run counter may be worn
 abbrev pub OutcomesAreDetermined : Type 0
 OutcomesAreDetermined =
-    (shapes : List MapShape) (program : Loaded) (budget number : ℕ) (context : List ℕ)
+    (shape : Shape) (program : Loaded) (budget number : ℕ) (context : List ℕ)
     (events : List Event) (end other : Outcome) → length context ≤ max_context
-    → Explains (Unit {0}) shapes program budget (start number context) events end
-    → Explains (Unit {0}) shapes program budget (start number context) events other
+    → Explains (Unit {0}) shape program budget (start number context) events end
+    → Explains (Unit {0}) shape program budget (start number context) events other
     → end ≡ other
 
--- where there is no map, a job's run that is not worn out has no events but its begin and its end
+-- where there is no map and no array, a job's run that is not worn out has no events but its begin and its end
 abbrev pub NoMapsNoEvents : Type 0
 NoMapsNoEvents =
-    (program : Loaded) (budget number : ℕ) (context : List ℕ) (events : List Event) (end : Outcome)
-    → Explains ⊥ [] program budget (start number context) events end → events ≡ Begin ∷ End ∷ []
+    (cpus : ℕ) (program : Loaded) (budget number : ℕ) (context : List ℕ) (events : List Event)
+    (end : Outcome) → Explains ⊥ (without_arrays cpus []) program budget (start number context) events end → events ≡ Begin ∷ End ∷ []
 
 -- over a plain store, which no other CPU changes meanwhile, the steps of a run have one course
 abbrev pub PlainStepsAreDetermined : Type 0
 PlainStepsAreDetermined =
-    (shapes : List MapShape) (program : Loaded) (budget c : ℕ) (s t u : Plain) (old new other : Cpu)
+    (shape : Shape) (program : Loaded) (budget c : ℕ) (s t u : Plain) (old new other : Cpu)
     (events others : List Event) (end last : Outcome) → IsSoundStore s → IsMemory old.memory
-    → MakesSteps shapes program budget old events end new → PlainlyLegal s (map (entry c) events) t
-    → MakesSteps shapes program budget old others last other
+    → MakesSteps shape program budget old events end new → PlainlyLegal s (map (entry c) events) t
+    → MakesSteps shape program budget old others last other
     → PlainlyLegal s (map (entry c) others) u
     → (events ≡ others) × (end ≡ last) × (new ≡ other) × (t ≡ u)
 

@@ -9,7 +9,7 @@ use Rattle.bpf_cpu.specs.declared.outcome.Fault.TheVariants as fault
 use Rattle.bpf_cpu.specs.declared.outcome.Outcome.{Outcome}
 use Rattle.bpf_cpu.specs.declared.outcome.Outcome.TheVariants as outcome
 
--- F1 to F6
+-- F1 to F7
 abbrev pub fault_code : Fault → Code
 fault_code fault.BadAddress = code.F1
 fault_code fault.Misaligned = code.F2
@@ -17,6 +17,7 @@ fault_code fault.CallDepth = code.F3
 fault_code fault.NotAMap = code.F4
 fault_code fault.TooManyHeld = code.F5
 fault_code fault.Worn = code.F6
+fault_code fault.ReadOnly = code.F7
 
 -- how a job ended
 abbrev pub outcome_text : Outcome → List ℕ

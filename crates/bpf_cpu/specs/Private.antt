@@ -1,3 +1,3 @@
 -- What private functions promise each other: no public clause speaks of it.
 pub mod Execute
-pub mod Tries
+pub mod Refused

@@ -5,7 +5,7 @@ use Rattle.bpf_mem.specs.Saved.{IsSavable, IsWord, frames_saved, words_saved}
 use Rattle.bpf_helpers.specs.Saved.{AreSavable, spans_saved}
 use Rattle.bpf_cpu.specs.declared.cpu.Cpu.{Cpu}
 use Rattle.bpf_cpu.specs.declared.outcome.Fault.{Fault as Reason}
-use Rattle.bpf_cpu.specs.declared.outcome.Fault.TheVariants.{BadAddress, Misaligned, CallDepth, NotAMap, TooManyHeld, Worn}
+use Rattle.bpf_cpu.specs.declared.outcome.Fault.TheVariants.{BadAddress, Misaligned, CallDepth, NotAMap, TooManyHeld, Worn, ReadOnly}
 use Rattle.bpf_cpu.specs.declared.outcome.Outcome.{Outcome}
 use Rattle.bpf_cpu.specs.declared.outcome.Outcome.TheVariants.{Exit, Fault, OutOfBudget}
 
@@ -37,6 +37,7 @@ fault_number CallDepth = 3
 fault_number NotAMap = 4
 fault_number TooManyHeld = 5
 fault_number Worn = 6
+fault_number ReadOnly = 8
 
 -- two words: which way, and R0 or the pc
 abbrev pub outcome_words : Outcome → List ℕ

@@ -21,6 +21,7 @@ fn number_of(fault: Fault) -> u64
         Fault::NotAMap => 4,
         Fault::TooManyHeld => 5,
         Fault::Worn => 6,
+        Fault::ReadOnly => 8,
     }
 }
 
@@ -36,6 +37,7 @@ fn fault_of(number: u64) -> Option<Fault>
         4 => Some(Fault::NotAMap),
         5 => Some(Fault::TooManyHeld),
         6 => Some(Fault::Worn),
+        8 => Some(Fault::ReadOnly),
         _ => None,
     }
 }

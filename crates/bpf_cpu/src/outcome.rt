@@ -2,21 +2,23 @@
 
 use bpf_codes::Code;
 
-/// Why a job can't go on. The printed codes F1 to F6 are those of the program `ebpf`.
+/// Why a job can't go on. The printed codes F1 to F7 are those of the program `ebpf`.
 #[derive(Clone, Copy, PartialEq, Eq, Debug)]
 pub enum Fault {
-    /// F1: an accessed byte lies outside the context and the live frames.
+    /// F1: an accessed byte lies outside the context, the live frames, and the values that may be reached.
     BadAddress,
     /// F2: the bytes are good, but the address isn't a multiple of the access's size.
     Misaligned,
     /// F3: a local call where eight frames are live.
     CallDepth,
-    /// F4: a map helper whose R1 is no map.
+    /// F4: a map helper whose R1 is no map and no array.
     NotAMap,
     /// F5: a lookup answered the 257th distinct value of the run.
     TooManyHeld,
     /// F6: the run can't begin, since the CPU's run counter has its last value.
     Worn,
+    /// F7: a store or an atomic operation to a value of an array that is read only.
+    ReadOnly,
 }
 
 impl Fault {
@@ -34,6 +36,7 @@ impl Fault {
             Fault::NotAMap => Code::F4,
             Fault::TooManyHeld => Code::F5,
             Fault::Worn => Code::F6,
+            Fault::ReadOnly => Code::F7,
         }
     }
 }
@@ -68,6 +71,7 @@ pub(crate) enum Next {
     CallDepth,
     NotAMap,
     TooManyHeld,
+    ReadOnly,
 }
 
 /// What executing an instruction came to.

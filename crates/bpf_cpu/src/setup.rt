@@ -7,7 +7,7 @@ use bpf_shared::StoreShape;
 /// What a machine is made of, before its first turn.
 #[derive(Drop)]
 pub struct Setup {
-    /// How many CPUs there are, and the maps by their numbers.
+    /// How many CPUs there are, the maps and the arrays by their numbers.
     pub shape: StoreShape,
     /// The programs, by the numbers that jobs have.
     pub programs: Vec<Program>,

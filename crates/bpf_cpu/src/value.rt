@@ -1,24 +1,25 @@
-//! Loads, stores and atomic operations on held map values: each is a call of the store.
+//! Loads, stores and atomic operations on values of maps and arrays: each is a call of the store.
 
-ghost use Rattle.std.specs.Prelude.{◌≡◌, ◌≢◌, ◌<◌, ◌%◌, ◌+◌, true, false, List, IfOk, IfErr, ◌⊎◌};
+ghost use Rattle.std.specs.Prelude.{◌≡◌, ◌≢◌, ◌<◌, ◌%◌, ◌+◌, true, false, List, IfOk, IfErr, IfSome, IfNone};
 ghost use Rattle.bpf_shared.specs.declared.events.Event.{Event};
 ghost use Rattle.bpf_shared.specs.Chain.{Chain};
 ghost use Rattle.bpf_mem.specs.Bytes.{length_of, size_of};
-ghost use Rattle.bpf_helpers.specs.Held.{AreHeld, is_covered, KeepsRun};
+ghost use Rattle.bpf_helpers.specs.Held.{AreHeld, KeepsRun};
 ghost use Rattle.bpf_cpu.specs.Row.{Quiet};
-ghost use Rattle.bpf_cpu.specs.Values.{event_size_of, LoadsValue, StoresValue, ChangesValue};
+ghost use Rattle.bpf_cpu.specs.Values.{event_size_of, IsThere, IsPlace, IsPlaceToWrite, MayNotRead, MayNotWrite, LoadsValue, StoresValue, ChangesValue};
 ghost use Rattle.bpf_cpu.specs.Step.{Executes};
 ghost use Rattle.bpf_cpu.specs.State.{with_register};
 ghost use Rattle.bpf_cpu.specs.Private.Execute.{progress_of};
-ghost use Rattle.bpf_cpu.specs.Private.Tries.{Tries, reading_of};
+ghost use Rattle.bpf_cpu.specs.Private.Refused.{IsFaultOf, IsHolder, is_read_only, reading_of};
 
 use crate::access::{extension_of, plain_size};
 use crate::cpu::{Cpu, widened};
 use crate::outcome::Next;
 use bpf_alu::sign_extend;
+use bpf_helpers::array_with;
 use bpf_insn::{AtomicOp, Insn, Reg, SignExtension, Size, Width};
 use bpf_mem::{is_aligned, length, size_of_width};
-use bpf_shared::{Shared, ValuePlace};
+use bpf_shared::{ArrayShape, Shared, ValuePlace};
 
 /// A size as the store's calls name it.
 fn event_size_of(size: Size) -> bpf_shared::Size
@@ -42,23 +43,79 @@ fn read_as(extension: Option<SignExtension>, number: u64) -> u64
     }
 }
 
-impl Cpu {
-    /// Where an access to a held value lies, or why it is a fault.
-    fn value_place(&self, address: u64, size: Size) -> Result<ValuePlace, Next>
-        ensures place { IfOk result (λ p. p ≡ record { at = address }) }
-        ensures covered { IfOk result
-            (λ p. is_covered self.now.held address (length_of size) ≡ true) }
-        ensures aligned { IfOk result (λ p. address % length_of size ≡ 0) }
-        ensures refused { IfErr result (λ next.
-            ((next ≡ Next.BadAddress) × (is_covered self.now.held address (length_of size) ≡ false))
-            ⊎ ((next ≡ Next.Misaligned) × (is_covered self.now.held address (length_of size) ≡ true)
-            × (address % length_of size ≢ 0))) }
+/// What has the bytes of a value: it is held by the CPU's run, or an array has it.
+#[derive(Clone, Copy)]
+enum Holder {
+    Run,
+    Array(ArrayShape),
+}
+
+impl Holder {
+    /// Whether they may only be read.
+    fn is_read_only(self) -> bool
+        ensures { result ≡ is_read_only self }
     {
-        if !self.held.covers(address, length(size) as u64) {
-            return Err(Next::BadAddress);
+        match self {
+            Holder::Run => false,
+            Holder::Array(array) => array.frozen,
         }
+    }
+}
+
+impl Cpu {
+    /// What has the bytes of an access that isn't private; `None` where no value that may be reached
+    /// has them.
+    fn find_value<S: Shared>(&self, shared: &S, address: u64, size: Size) -> Option<Holder>
+        ensures found { IfSome result (IsHolder (S.shapes shared.now) self.now address size) }
+        ensures none { IfNone result (¬ IsThere (S.shapes shared.now) self.now address size) }
+    {
+        let count = length(size) as u64;
+        if self.held.covers(address, count) {
+            return Some(Holder::Run);
+        }
+        let array = array_with(shared, address, count)?;
+        Some(Holder::Array(array))
+    }
+
+    /// Where an access that isn't private may read, or why it is a fault.
+    fn place_to_read<S: Shared>(
+        &self,
+        shared: &S,
+        address: u64,
+        size: Size,
+    ) -> Result<ValuePlace, Next>
+        ensures at { IfOk result (λ p. p ≡ record { at = address }) }
+        ensures place { IfOk result (λ _. IsPlace (S.shapes shared.now) size address self.now) }
+        ensures refused { IfErr result (IsFaultOf (MayNotRead (S.shapes shared.now) size address self.now)) }
+    {
+        let Some(_holder) = self.find_value(shared, address, size) else {
+            return Err(Next::BadAddress);
+        };
         if !is_aligned(address, size) {
             return Err(Next::Misaligned);
+        }
+        Ok(ValuePlace { at: address })
+    }
+
+    /// Where it may write, or why it is a fault.
+    fn place_to_write<S: Shared>(
+        &self,
+        shared: &S,
+        address: u64,
+        size: Size,
+    ) -> Result<ValuePlace, Next>
+        ensures at { IfOk result (λ p. p ≡ record { at = address }) }
+        ensures place { IfOk result (λ _. IsPlaceToWrite (S.shapes shared.now) size address self.now) }
+        ensures refused { IfErr result (IsFaultOf (MayNotWrite (S.shapes shared.now) size address self.now)) }
+    {
+        let Some(holder) = self.find_value(shared, address, size) else {
+            return Err(Next::BadAddress);
+        };
+        if !is_aligned(address, size) {
+            return Err(Next::Misaligned);
+        }
+        if holder.is_read_only() {
+            return Err(Next::ReadOnly);
         }
         Ok(ValuePlace { at: address })
     }
@@ -87,12 +144,12 @@ impl Cpu {
         requires held { AreHeld (S.held shared.old self.old.number) self.old.held }
         ensures load { (events : List Event) ×
             Chain S.passes S.serves self.old.number shared.old shared.new events ×
-            Tries (LoadsValue size (reading_of extension) dst address self.old) address size self.old events (progress_of result self.new) self.new }
+            LoadsValue (S.shapes shared.old) size (reading_of extension) dst address self.old events (progress_of result self.new) self.new }
         ensures number { self.new.number ≡ self.old.number }
         ensures held { AreHeld (S.held shared.new self.old.number) self.new.held }
         ensures keeps { KeepsRun S.shapes S.running S.held self.old.number shared.old shared.new }
     {
-        match self.value_place(address, size) {
+        match self.place_to_read(shared, address, size) {
             Ok(place) => {
                 let found = shared.value_load(self.number, place, event_size_of(size));
                 self.put_found(dst, read_as(extension, found));
@@ -116,12 +173,12 @@ impl Cpu {
         requires held { AreHeld (S.held shared.old self.old.number) self.old.held }
         ensures store { (events : List Event) ×
             Chain S.passes S.serves self.old.number shared.old shared.new events ×
-            Tries (StoresValue size address number self.old) address size self.old events (progress_of result self.new) self.new }
+            StoresValue (S.shapes shared.old) size address number self.old events (progress_of result self.new) self.new }
         ensures number { self.new.number ≡ self.old.number }
         ensures held { AreHeld (S.held shared.new self.old.number) self.new.held }
         ensures keeps { KeepsRun S.shapes S.running S.held self.old.number shared.old shared.new }
     {
-        match self.value_place(address, size) {
+        match self.place_to_write(shared, address, size) {
             Ok(place) => {
                 shared.value_store(self.number, place, event_size_of(size), number);
                 self.pc += 1;
@@ -146,13 +203,13 @@ impl Cpu {
         requires held { AreHeld (S.held shared.old self.old.number) self.old.held }
         ensures change { (events : List Event) ×
             Chain S.passes S.serves self.old.number shared.old shared.new events ×
-            Tries (ChangesValue width op src address self.old) address (size_of width) self.old events (progress_of result self.new) self.new }
+            ChangesValue (S.shapes shared.old) width op src address self.old events (progress_of result self.new) self.new }
         ensures number { self.new.number ≡ self.old.number }
         ensures held { AreHeld (S.held shared.new self.old.number) self.new.held }
         ensures keeps { KeepsRun S.shapes S.running S.held self.old.number shared.old shared.new }
     {
         let size = size_of_width(width);
-        match self.value_place(address, size) {
+        match self.place_to_write(shared, address, size) {
             Ok(place) => {
                 let operand = self.value(src);
                 let expected = self.registers[0];
@@ -172,8 +229,8 @@ impl Cpu {
         }
     }
 
-    /// Executes an instruction that accesses memory which isn't private: where a held value has the
-    /// bytes, that is a call of the store, and else a fault.
+    /// Executes an instruction that accesses memory which isn't private: where a value has the
+    /// bytes that it may reach, that is a call of the store, and else a fault.
     #[cold]
     #[inline(never)]
     pub(crate) fn access_value<S: Shared>(&mut self, insn: &Insn, shared: &mut S) -> Next

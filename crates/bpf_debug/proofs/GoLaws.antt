@@ -52,8 +52,8 @@ same_count a b same = elim (cases_order a b) [
   ]
 ]
 
-pub count_is : (m : MachineState) (n : ℕ) → ((c : ℕ) → has_cpu m.store c ≡ nat_lt c n) → n ≡ length m.store.runs
-count_is m n same = sym (same_count (length m.store.runs) n same)
+pub count_is : (m : MachineState) (n : ℕ) → ((c : ℕ) → has_cpu m.store c ≡ nat_lt c n) → n ≡ length m.store.maps.runs
+count_is m n same = sym (same_count (length m.store.maps.runs) n same)
 
 pub up_here : (jobs : List Task) (low high «from» c : ℕ) → low ≤ «from» → («from» ≤ c) × (c < high) × HasWork jobs c × AreIdle jobs «from» c → IsUp jobs low high «from» c
 up_here jobs low high «from» c below found = record { above = omega (arith, found.0); within = found.1; works = found.2; first = inl (found.0, found.3) }

@@ -58,7 +58,7 @@ one_read s state a b other (inr held) (inr held') = held'.2.1 b held.2.0
 
 not_both : (s : Plain) (state : Cpu) (a b : ℕ) → MayRead s state a b → MayNotRead s state a → ⊥
 not_both s state a b (inl own) none = let both : Some b ≡ None = sym own ∙ none.0 in cc
-not_both s state a b (inr held) (own, inl out) = let both : true ≡ false = sym held.1 ∙ out in cc
+not_both s state a b (inr held) (own, inl out) = out held.1
 not_both s state a b (inr held) (own, inr none) = none b held.2.0
 
 unreadable_not : (s : Plain) (state : Cpu) (a n : ℕ) (bytes : List ℕ) → AreBytesAt s state a n bytes → IsUnreadable s state a n → ⊥

@@ -6,7 +6,7 @@ use Rattle.std.proofs.lemmas.List.{get_or_append_left, length-append, map-append
 use Rattle.std.proofs.lemmas.List.Elements.{All-append}
 use Rattle.std.proofs.lemmas.Option.{get_or_from_slice_get, slice_get_within}
 use Rattle.bpf_shared.specs.Shape.{Shape}
-use Rattle.bpf_plain.specs.PlainStore.{Contents, has_cpu, shapes_of}
+use Rattle.bpf_plain.specs.PlainStore.{Contents, has_cpu, shape_of}
 use Rattle.bpf_plain.specs.Alike.{IsSameShape}
 use Rattle.bpf_cpu.specs.Task.{Task}
 use Rattle.bpf_machine.specs.Machine.{MachineState, Shows}
@@ -70,7 +70,7 @@ pub can_again : (h : Shape) (o : OriginState) (m : MachineState) → ((w : World
     → o.store ≡ m.store → chosen o.jobs o.numbers ≡ m.jobs → m.lists ≡ None → CanRewind o m
 can_again h o m shown shape stands within stored jobs lists = record {
   lists = lists;
-  shape = (λ c. ap (λ (s : Contents). has_cpu s c) (sym stored), ap (λ (s : Contents). shapes_of s) (sym stored));
+  shape = (λ c. ap (λ (s : Contents). has_cpu s c) (sym stored), ap (λ (s : Contents). shape_of s) (sym stored));
   within = within;
   stands = subst CanStand (sym (made_again o m stored jobs lists)) stands;
   shown = (shown.0, subst (λ (n : MachineState). Shows n shown.0) (sym (made_again o m stored jobs lists)) shown.1);

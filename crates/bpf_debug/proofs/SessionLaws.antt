@@ -9,6 +9,7 @@ use Rattle.hex.specs.Hex.{decode_of}
 use Rattle.bpf_schedule.specs.Spelling.{runs_text}
 use Rattle.bpf_loader.specs.Loaded.{Loaded}
 use Rattle.bpf_shared.specs.declared.shapes.MapShape.{MapShape}
+use Rattle.bpf_shared.specs.Shape.{Shape}
 use Rattle.bpf_plain.specs.PlainStore.{has_cpu, shapes_of}
 use Rattle.bpf_machine.specs.declared.machine.Turn.{Turn}
 use Rattle.bpf_cpu.specs.Task.{Stage, Task, Waiting, InHand, Ended}
@@ -61,7 +62,7 @@ enough jobs count room counted fits =
 
 -- ---- a CPU that the store has
 pub is_cpu : (m : MachineState) (w : World) (c : ℕ) → has_cpu m.store c ≡ true → Shows m w → c < w.store.shape.cpus
-is_cpu m w c has shows = let below : c < length m.store.runs = ltb-true c (length m.store.runs) has in omega (arith, shows.store.cpus)
+is_cpu m w c has shows = let below : c < length m.store.maps.runs = ltb-true c (length m.store.maps.runs) has in omega (arith, shows.store.maps.cpus)
 
 -- ---- a machine that can be made what it was
 pub can_still : (o : OriginState) (m n : MachineState) → IsSameHost m n → CanRewind o m → CanRewind o n
@@ -119,7 +120,7 @@ module _ (m : MachineState) (o : OriginState) (names : List (List ℕ)) (breaks 
         record { world = t.3; first = still_first n x.first same shown.first; names = shown.names; breaks = shown.breaks; watch = shown.watch; turns = keeps x.turns shown.turns },
       )
 
-  pub stepped_runs : (n : MachineState) (more : Option (List (ℕ × ℕ))) (runs : List (ℕ × ℕ)) (room place last : List ℕ) → are_cpus (length m.store.runs) runs ≡ true → room ≡ [] → IsWhere n.jobs (last_cpu runs) place
+  pub stepped_runs : (n : MachineState) (more : Option (List (ℕ × ℕ))) (runs : List (ℕ × ℕ)) (room place last : List ℕ) → are_cpus (length m.store.maps.runs) runs ≡ true → room ≡ [] → IsWhere n.jobs (last_cpu runs) place
       → ((w : World) → Shows m w → (z : World) × (before : List ℕ) × MakesRuns w runs before z × Shows n z × (last ≡ (room ++ before) ++ place))
       → KeepsOn kept (unrolled runs) more → IsSameHost m n → Leaves session (Steps runs) last (moved_on n more)
   stepped_runs n more runs room place last has empty stands turns keeps same x shown =
@@ -128,11 +129,11 @@ module _ (m : MachineState) (o : OriginState) (names : List (List ℕ)) (breaks 
       let H : ℕ → Type 0 = λ cpus. are_cpus cpus runs ≡ true in
       let whole : last ≡ t.1 ++ place = t.4 ∙ ap (λ (s : List ℕ). (s ++ t.1) ++ place) empty in (
         behind x (unrolled runs) t.0,
-        (subst H (sym shown.world.store.cpus) has, (t.0, t.1, place, t.2, subst J (sym t.3.jobs) stands, whole, refl)),
+        (subst H (sym shown.world.store.maps.cpus) has, (t.0, t.1, place, t.2, subst J (sym t.3.jobs) stands, whole, refl)),
         record { world = t.3; first = still_first n x.first same shown.first; names = shown.names; breaks = shown.breaks; watch = shown.watch; turns = keeps x.turns shown.turns },
       )
 
-  pub went : (n : MachineState) (more : Option (List (ℕ × ℕ))) (cpus : ℕ) (room last : List ℕ) → room ≡ [] → cpus ≡ length m.store.runs
+  pub went : (n : MachineState) (more : Option (List (ℕ × ℕ))) (cpus : ℕ) (room last : List ℕ) → room ≡ [] → cpus ≡ length m.store.maps.runs
       → ((w : World) → Shows m w → (z : World) × (turns : List ℕ) × (text : List ℕ) × Goes breaks watch 0 cpus w 0 [] turns text z × Shows n z × KeepsOn kept turns more × (last ≡ room ++ text))
       → IsSameHost m n → Leaves session Go last (moved_on n more)
   went n more cpus room last empty count goes same x shown =
@@ -141,7 +142,7 @@ module _ (m : MachineState) (o : OriginState) (names : List (List ℕ)) (breaks 
       let B : List Breakpoint → Type 0 = λ bs. Goes bs watch 0 x.world.store.shape.cpus x.world 0 [] g.1 last g.0 in
       let C : ℕ → Type 0 = λ h. Goes breaks watch 0 h x.world 0 [] g.1 last g.0 in
       let T : List ℕ → Type 0 = λ text. Goes breaks watch 0 cpus x.world 0 [] g.1 text g.0 in
-      let all = subst W (sym shown.watch) (subst B (sym shown.breaks) (subst C (count ∙ sym shown.world.store.cpus) (subst T (sym (alone room last g.2 empty g.6)) g.3))) in
+      let all = subst W (sym shown.watch) (subst B (sym shown.breaks) (subst C (count ∙ sym shown.world.store.maps.cpus) (subst T (sym (alone room last g.2 empty g.6)) g.3))) in
       (behind x g.1 g.0, (g.0, g.1, all, refl), record { world = g.4; first = still_first n x.first same shown.first; names = shown.names; breaks = shown.breaks; watch = shown.watch; turns = g.5 x.turns shown.turns })
 
   pub went_to : (n : MachineState) (more : Option (List (ℕ × ℕ))) (c p : ℕ) (room last : List ℕ) → room ≡ [] → has_cpu m.store c ≡ true → IsPc m.programs p
@@ -372,7 +373,7 @@ pub told_maps : (s : SessionState) (last : List ℕ) → last ≡ shape_lines s.
 told_maps s last put x shown =
     let N : List (List ℕ) → Type 0 = λ ns. last ≡ shape_lines ns x.world.store.shape.maps (length ns) in
     let M : List MapShape → Type 0 = λ maps. last ≡ shape_lines s.names maps (length s.names) in
-    (x, (subst N (sym shown.names) (subst M (sym shown.world.store.maps) put), refl), shown)
+    (x, (subst N (sym shown.names) (subst M (sym (ap (λ (s : Shape). s.maps) shown.world.store.shape)) put), refl), shown)
 
 pub told_of_jobs : (s : SessionState) (room last : List ℕ) → room ≡ [] → last ≡ room ++ told_jobs (length s.machine.jobs) s.machine.jobs → Leaves s Jobs last s
 told_of_jobs s room last empty put x shown =
@@ -496,9 +497,9 @@ module _ (s : SessionState) (x : Scene) (shown : IsShown s x) where
   moved : (order : Order) (e : DebugError) → RefusesHere s order e → RefusesOrder x.world.store.shape.cpus x.world.programs x.names (Some (length x.turns)) order e
   moved order e here =
       let C : ℕ → Type 0 = λ cpus. RefusesOrder cpus x.world.programs x.names (Some (length x.turns)) order e in
-      let P : List Loaded → Type 0 = λ programs. RefusesOrder (length s.machine.store.runs) programs x.names (Some (length x.turns)) order e in
-      let N : List (List ℕ) → Type 0 = λ names. RefusesOrder (length s.machine.store.runs) s.machine.programs names (Some (length x.turns)) order e in
-      subst C (sym shown.world.store.cpus) (subst P (sym shown.world.programs) (subst N (sym shown.names) (counted (length s.machine.store.runs) s.machine.programs s.names s.course x.turns order e shown.turns here)))
+      let P : List Loaded → Type 0 = λ programs. RefusesOrder (length s.machine.store.maps.runs) programs x.names (Some (length x.turns)) order e in
+      let N : List (List ℕ) → Type 0 = λ names. RefusesOrder (length s.machine.store.maps.runs) s.machine.programs names (Some (length x.turns)) order e in
+      subst C (sym shown.world.store.maps.cpus) (subst P (sym shown.world.programs) (subst N (sym shown.names) (counted (length s.machine.store.maps.runs) s.machine.programs s.names s.course x.turns order e shown.turns here)))
 
 pub line_refused : (s : SessionState) (fields : List (List ℕ)) (order : Order) (e : DebugError) → Some order ≡ order_of fields → RefusesHere s order e → RefusesLine s fields e
 line_refused s fields order error.NoCpu is here x shown = (order, sym is, moved s x shown order error.NoCpu here)

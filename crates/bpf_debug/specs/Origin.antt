@@ -1,7 +1,7 @@
 -- What is kept of a machine before its first turn, and the machine that it is made again of.
 use Rattle.std.specs.Prelude.{◌≡◌, ℕ, ◌<◌, List, None, All, length, nat_lt}
 use Rattle.bpf_shared.specs.Shape.{Shape}
-use Rattle.bpf_plain.specs.PlainStore.{Contents, shapes_of, has_cpu}
+use Rattle.bpf_plain.specs.PlainStore.{Contents, shape_of, has_cpu}
 use Rattle.bpf_plain.specs.Alike.{IsSameShape}
 use Rattle.bpf_loader.specs.Loaded.{Loaded}
 use Rattle.bpf_cpu.specs.Task.{Task}
@@ -29,4 +29,4 @@ pub record CanRewind (o : OriginState) (m : MachineState) : Type 0 where
 
 -- the store has the maps and CPUs of this shape
 abbrev pub IsOfShape : Shape → Contents → Type 0
-IsOfShape h p = (shapes_of p ≡ h.maps) × ((c : ℕ) → has_cpu p c ≡ nat_lt c h.cpus)
+IsOfShape h p = (shape_of p ≡ h) × ((c : ℕ) → has_cpu p c ≡ nat_lt c h.cpus)

@@ -7,6 +7,7 @@ use Rattle.bpf_shared.specs.Store.{Plain}
 use Rattle.bpf_shared.specs.Sound.{IsSoundStore}
 use Rattle.bpf_plain.specs.PlainStore.{Contents, StandsFor}
 use Rattle.bpf_shared.specs.Listing.{Pair, pair_at, IsListing, IsByteAt, IsOnlyByteAt}
+use Rattle.bpf_helpers.specs.Arrays.{IsInArray}
 use Rattle.bpf_helpers.specs.Held.{reaches}
 use Rattle.bpf_cpu.specs.declared.cpu.Cpu.{Cpu}
 use Rattle.bpf_cpu.specs.Task.{Task, InHand}
@@ -15,18 +16,22 @@ use Rattle.bpf_debug.specs.Answer.{IsOff}
 
 -- ---- bytes
 
+-- the address is in a value that the run may reach: one that it holds, or an array's
+abbrev pub MayReach : Plain → Cpu → ℕ → Type 0
+MayReach s state a = (reaches state.held a ≡ true) ⊎ IsInArray s.shape a 1
+
 -- the program in this state may read this byte at the address: it is the CPU's own, or it lies in
--- a value that the run holds
+-- a value that the run may reach
 abbrev pub MayRead : Plain → Cpu → ℕ → ℕ → Type 0
 MayRead s state a b =
     (byte_at state.memory a ≡ Some b)
-    ⊎ ((byte_at state.memory a ≡ None) × (reaches state.held a ≡ true) × IsOnlyByteAt s a b)
+    ⊎ ((byte_at state.memory a ≡ None) × MayReach s state a × IsOnlyByteAt s a b)
 
 -- it may read none there
 abbrev pub MayNotRead : Plain → Cpu → ℕ → Type 0
 MayNotRead s state a =
     (byte_at state.memory a ≡ None)
-    × ((reaches state.held a ≡ false) ⊎ ((b : ℕ) → IsByteAt s a b → ⊥))
+    × ((¬ MayReach s state a) ⊎ ((b : ℕ) → IsByteAt s a b → ⊥))
 
 -- the bytes from the address on, this many, are these
 pub record AreBytesAt (s : Plain) (state : Cpu) (a n : ℕ) (bytes : List ℕ) : Type 0 where
@@ -57,6 +62,12 @@ IsMemoryText s jobs c at n text =
     ⊎ IsOff jobs c text
 
 -- ---- of each plain store that the machine's shows
+
+abbrev pub ReachesByte : Contents → Cpu → ℕ → Type 0
+ReachesByte p state a = (s : Plain) → IsSoundStore s → StandsFor p s → MayReach s state a
+
+abbrev pub ReachesNoByte : Contents → Cpu → ℕ → Type 0
+ReachesNoByte p state a = (s : Plain) → IsSoundStore s → StandsFor p s → ¬ MayReach s state a
 
 abbrev pub ReadsByte : Contents → Cpu → ℕ → ℕ → Type 0
 ReadsByte p state a b = (s : Plain) → IsSoundStore s → StandsFor p s → MayRead s state a b

@@ -288,7 +288,7 @@ RefusesOrder cpus programs names count order error.BadOperand = HasBadOperand co
 -- the same of what a session shows
 abbrev pub RefusesHere : SessionState → Order → DebugError → Type 0
 RefusesHere s order e =
-    RefusesOrder (length s.machine.store.runs) s.machine.programs s.names (count_of s.course) order e
+    RefusesOrder (length s.machine.store.maps.runs) s.machine.programs s.names (count_of s.course) order e
 
 -- why a line is refused; out of memory may take the place of any answer
 abbrev pub RefusesFields

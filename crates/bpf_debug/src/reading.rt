@@ -1,11 +1,12 @@
 //! Bytes, as a CPU's program may read them.
 
-ghost use Rattle.std.specs.Prelude.{◌≡◌, ◌++◌, codes, IfSome, IfNone, IfOk, Some, string_bytes};
+ghost use Rattle.std.specs.Prelude.{◌≡◌, ◌++◌, true, false, codes, IfSome, IfNone, IfOk, Some, string_bytes};
 ghost use Rattle.hex.specs.Hex.{encode_lower};
 ghost use Rattle.bpf_mem.specs.Memory.{byte_at};
-ghost use Rattle.bpf_debug.specs.Read.{ReadsByte, ReadsNoByte, ReadsBytes, ReadsNoBytes, TellsBytes};
+ghost use Rattle.bpf_debug.specs.Read.{ReachesByte, ReachesNoByte, ReadsByte, ReadsNoByte, ReadsBytes, ReadsNoBytes, TellsBytes};
 
 use bpf_cpu::Cpu;
+use bpf_helpers::array_with;
 use bpf_mem::PrivateMemory;
 use bpf_plain::PlainStore;
 use std::alloc::{AllocError, Global};
@@ -20,7 +21,18 @@ fn own_byte(memory: &PrivateMemory, address: u64) -> Option<u8>
     Some(memory.bytes(place, 1)[0])
 }
 
-/// The byte at an address: a CPU's own, or one of a value that its run holds.
+/// Whether an address is in a value that a CPU's run may reach: one that it holds, or an array's.
+fn may_reach(store: &PlainStore, state: &Cpu, address: u64) -> bool
+    ensures yes { result ≡ true → ReachesByte store.now state.now address }
+    ensures no { result ≡ false → ReachesNoByte store.now state.now address }
+{
+    if state.held.reaches(address) {
+        return true;
+    }
+    array_with(store, address, 1).is_some()
+}
+
+/// The byte at an address: a CPU's own, or one of a value that its run may reach.
 fn byte(store: &PlainStore, state: &Cpu, address: u64) -> Option<u8>
     ensures read { IfSome result (ReadsByte store.now state.now address) }
     ensures none { IfNone result (ReadsNoByte store.now state.now address) }
@@ -28,7 +40,7 @@ fn byte(store: &PlainStore, state: &Cpu, address: u64) -> Option<u8>
     if let Some(byte) = own_byte(&state.memory, address) {
         return Some(byte);
     }
-    if state.held.reaches(address) {
+    if may_reach(store, state, address) {
         store.peek(address)
     } else {
         None

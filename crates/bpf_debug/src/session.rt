@@ -170,7 +170,7 @@ impl Session {
     fn cpu(&self, number: Option<u8>) -> Option<u8>
         ensures some { IfSome result (λ c. (number ≡ Some c)
             × (has_cpu self.now.machine.store c ≡ true)) }
-        ensures none { IfNone result (IsNoCpu (length self.now.machine.store.runs) number) }
+        ensures none { IfNone result (IsNoCpu (length self.now.machine.store.maps.runs) number) }
     {
         match number {
             Some(cpu) => {
@@ -244,14 +244,14 @@ impl Session {
 
     /// Whether each CPU of a schedule is one of the machine's.
     fn has_cpus(&self, runs: &[(u8, u64)]) -> bool
-        ensures { result ≡ are_cpus (length self.now.machine.store.runs) runs.now }
+        ensures { result ≡ are_cpus (length self.now.machine.store.maps.runs) runs.now }
     {
         are_cpus(runs, self.machine.cpus())
     }
 
     fn steps_at(&mut self, alloc: Global, runs: &[(u8, u64)]) -> Result<String, DebugError>
         requires some { 0 < length runs.now }
-        requires served { are_cpus (length self.old.machine.store.runs) runs.now ≡ true }
+        requires served { are_cpus (length self.old.machine.store.maps.runs) runs.now ≡ true }
         ensures answered { IfOk result
             (λ text. Leaves self.old (Order.Steps runs.now) (string_bytes text) self.new) }
         ensures refused { IfErr result (λ e. e ≡ DebugError.OutOfMemory) }

@@ -20,8 +20,8 @@ use Rattle.bpf_events.proofs.Told.{history-append}
 -- a recorder over a store of the machine's shape
 pub same_shape : (h : Shape) (m : MachineState) (w : World) (r : Recording) → Shows m w → w.store.shape ≡ h → IsRecorderOf h r → IsSameShape m.store r.store
 same_shape h m w r shows shape made =
-    let cpus : (c : ℕ) → has_cpu m.store c ≡ nat_lt c h.cpus = λ c. ap (λ (n : ℕ). nat_lt c n) (sym shows.store.cpus ∙ ap (λ (s : Shape). s.cpus) shape) in
-    (λ c. made.0 c ∙ sym (cpus c), made.1 ∙ (sym (ap (λ (s : Shape). s.maps) shape) ∙ shows.store.maps))
+    let cpus : (c : ℕ) → has_cpu m.store c ≡ nat_lt c h.cpus = λ c. ap (λ (n : ℕ). nat_lt c n) (sym shows.store.maps.cpus ∙ ap (λ (s : Shape). s.cpus) shape) in
+    (λ c. made.0 c ∙ sym (cpus c), made.1 ∙ (sym shape ∙ shows.store.shape))
 
 pub history_told : (w : World) (old mid new : MachineState) (names : List (List ℕ)) (runs : List (ℕ × ℕ)) (maps : Bool) (start between later told text : List ℕ) (stopped : Bool) → Shows old w → start ≡ []
     → AreTold (Turns (unrolled runs)) names old start mid between → AreTold SomeRounds names mid between new later → HaveEnded new.jobs

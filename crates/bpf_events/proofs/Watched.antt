@@ -1,17 +1,17 @@
 -- What a recorder notes of a turn that is to be made.
 use Rattle.std.proofs.Common.{◌≡◌, ◌∙◌, ℕ, suc, Bool, true, false, List, [], ◌∷◌, ◌++◌, append_assoc, append-nil, length, get_or, ◌⊎◌, ◌<◌, zero, arith, Some, None, map, inl, inr, refl, sym, ap, subst}
+use Rattle.bpf_shared.specs.Shape.{Shape}
 use Rattle.std.specs.Prelude.{slice_get}
 use Rattle.std.proofs.lemmas.Option.{slice_get_read}
 use Rattle.bpf_shared.specs.declared.events.Event.{Event}
 use Rattle.bpf_shared.specs.declared.events.Event.TheVariants.{Begin}
-use Rattle.bpf_shared.specs.declared.shapes.MapShape.{MapShape}
 use Rattle.bpf_shared.specs.History.{events_of}
 use Rattle.bpf_shared.specs.Passage.{Calls}
 use Rattle.bpf_shared.specs.Chain.{Chain}
 use Rattle.bpf_shared.specs.Store.{put}
 use Rattle.bpf_shared.proofs.Puts.{put-same}
 use Rattle.bpf_shared.proofs.Chains.{events_of-append, events_of-own}
-use Rattle.bpf_plain.specs.PlainStore.{Contents, Passes, StandsFor, has_cpu, is_running, held_spans, shapes_of}
+use Rattle.bpf_plain.specs.PlainStore.{Contents, Passes, StandsFor, has_cpu, is_running, held_spans, shape_of}
 use Rattle.bpf_helpers.specs.Held.{AreHeld}
 use Rattle.bpf_loader.specs.Loaded.{Loaded}
 use Rattle.bpf_cpu.specs.declared.cpu.Cpu.{Cpu}
@@ -38,7 +38,7 @@ pub none_noted : (program : Loaded) (old : Cpu) (left : ℕ) (x : Recording) →
 none_noted program old left x none = subst (λ (n : ℕ). NotesStep program old n x x) (sym none) (λ kept. (kept, λ s sound shows. ([], refl, sym (append-nil x.events))))
 
 pub step_noted : (program : Loaded) (old new : Cpu) (left m : ℕ) (answer : Progress) (x y : Recording) → left ≡ suc m → old.number ≡ x.cpu
-    → (events : List Event) × Chain PassesNoted serves old.number x y events × Step (shapes_of x.store) program old events answer new
+    → (events : List Event) × Chain PassesNoted serves old.number x y events × Step (shape_of x.store) program old events answer new
     → NotesStep program old left x y
 step_noted program old new left m answer x y more own step =
     subst (λ (n : ℕ). NotesStep program old n x y) (sym more) (λ kept.
@@ -51,8 +51,8 @@ step_noted program old new left m answer x y more own step =
       note.0,
       λ s sound shows.
           let r = chain_leads x.store y.store old.number step.0 plain s sound shows in
-          let Q : List MapShape → Type 0 = λ h. Step h program old step.0 answer new in
-          (step.0, (answer, new, r.0, subst Q (sym shows.maps) step.2, r.1), note.1 ∙ ap (λ (es : List Event). x.events ++ es) mine),
+          let Q : Shape → Type 0 = λ h. Step h program old step.0 answer new in
+          (step.0, (answer, new, r.0, subst Q (sym shows.shape) step.2, r.1), note.1 ∙ ap (λ (es : List Event). x.events ++ es) mine),
     ))
 
 -- a step that no store sees
@@ -65,7 +65,7 @@ quiet_noted program (InHand state left) pc c budget x y (at, more, (new, step)) 
   where
     quiet : (left : ℕ) → 0 < left → NotesStep program state left x y
     quiet zero more = absurd (omega arith)
-    quiet (suc n) more = λ fine. (kept, λ s sound shows. ([], (On, new, s, step s.shape.maps, refl), same ∙ sym (append-nil x.events)))
+    quiet (suc n) more = λ fine. (kept, λ s sound shows. ([], (On, new, s, step s.shape, refl), same ∙ sym (append-nil x.events)))
 
 -- ---- the beginning of a run
 pub begin_serves : (state : Cpu) (c : ℕ) (context : List ℕ) (x m : Recording) → state ≡ start c context → serves m ≡ serves x → has_cpu x.store c ≡ true → has_cpu m.store state.number ≡ true

@@ -14,7 +14,7 @@ use crate::telling::{make_rounds, make_turns};
 use bpf_cpu::Setup;
 use bpf_jobs::{Report, make_asked, tell};
 use bpf_machine::Machine;
-use bpf_plain::PlainStore;
+use bpf_plain::{PlainStore, copy_shape};
 use bpf_shared::StoreShape;
 use std::alloc::{AllocError, Global};
 
@@ -22,9 +22,7 @@ use std::alloc::{AllocError, Global};
 fn make_recorder(alloc: Global, shape: &StoreShape) -> Result<Recorder, AllocError>
     ensures { IfOk result (IsRecorderOf shape.now) }
 {
-    let mut maps = Vec::with_capacity(alloc, shape.maps().len())?;
-    maps.extend_from_slice(shape.maps())?;
-    let copy = StoreShape::new(u64::from(shape.cpus()), maps).map_err(|_| AllocError)?;
+    let copy = copy_shape(alloc, shape)?;
     let store = PlainStore::new(alloc, copy).map_err(|_| AllocError)?;
     Ok(Recorder::new(alloc, store))
 }

@@ -2,7 +2,9 @@
 
 use crate::note::{Note, note_delete, note_lookup, note_update};
 use bpf_plain::PlainStore;
-use bpf_shared::{AtomicOp, KeyList, MapAnswer, MapShape, Shared, Size, Span, ValuePlace, Worn};
+use bpf_shared::{
+    ArrayShape, AtomicOp, KeyList, MapAnswer, MapShape, Shared, Size, Span, ValuePlace, Worn,
+};
 use std::alloc::{AllocError, Global};
 use std::marker::Model;
 
@@ -102,11 +104,11 @@ impl Recorder {
 
 #[tactic(auto, using(crate::proofs::Noting::noted_call, crate::proofs::Noting::lost_call))]
 impl Shared for Recorder {
-    ghost use Rattle.bpf_plain.specs.PlainStore.{has_cpu, shapes_of, is_running, held_spans, MayLack};
+    ghost use Rattle.bpf_plain.specs.PlainStore.{has_cpu, shape_of, is_running, held_spans, MayLack};
     ghost use Rattle.bpf_events.specs.Private.Recording.{PassesNoted};
     ghost use Rattle.bpf_events.specs.Lemmas.Passages.{passes_nothing, passes_follow};
 
-    ghost shapes = { λ r. shapes_of r.store };
+    ghost shapes = { λ r. shape_of r.store };
 
     ghost serves = { λ r. has_cpu r.store };
 
@@ -122,6 +124,14 @@ impl Shared for Recorder {
 
     fn shape(&self, map: u64) -> Option<MapShape> {
         self.store.shape(map)
+    }
+
+    fn array(&self, array: u64) -> Option<ArrayShape> {
+        self.store.array(array)
+    }
+
+    fn cpus(&self) -> u8 {
+        Shared::cpus(&self.store)
     }
 
     fn begin(&mut self, cpu: u8) -> Result<(), Worn> {

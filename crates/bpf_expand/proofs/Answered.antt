@@ -1,8 +1,11 @@
 -- What a line is answered, put together.
-use Rattle.std.proofs.Common.{◌≡◌, inl, inr, Bool, true, false, ℕ, List, [], Option, Some, None, Result, Ok, Err, String, Global, string_bytes, codes, sym, subst}
+use Rattle.std.proofs.Common.{◌≡◌, ◌∙◌, inl, inr, Bool, true, false, ℕ, List, [], Option, Some, None, Result, Ok, Err, String, Global, string_bytes, codes, length, ap, sym, subst}
 use Rattle.std.specs.Prelude.{IfNone, IfOk, IfSome, OnErr}
 use Rattle.std.specs.declared.alloc.AllocError.{AllocError}
+use Rattle.bpf_shared.specs.Shape.{Shape}
+use Rattle.bpf_cpu.specs.Setup.{named_in}
 use Rattle.bpf_machine.specs.Machine.{MachineState}
+use Rattle.bpf_races.specs.Lines.{here_lines}
 use Rattle.bpf_expand.specs.State.{Host, IsStateOf}
 use Rattle.bpf_expand.specs.Lines.{no_state_line}
 use Rattle.bpf_expand.specs.Filter.{AreRacesTold, IsLineTold, IsNoStateLine}
@@ -12,7 +15,7 @@ use Rattle.bpf_expand.specs.Private.Races.{TellsRaces}
 -- those of the machine of a state are those of the state
 pub races_told : (races : Bool) (h : Host) (names : List (List ℕ)) (bytes text : List ℕ) (m : MachineState) → IsStateOf h m bytes → TellsRaces races m names text → AreRacesTold races h names bytes text
 races_told false h names bytes text m is told = told
-races_told true h names bytes text m is (found, are, lines) = (found, (m, is, are), lines)
+races_told true h names bytes text m is (found, are, lines) = (found, (m, is, are), lines ∙ ap (λ (s : Shape). here_lines (named_in s) names (length found) found) is.of.shape.0)
 
 pub none_told : (races : Bool) (h : Host) (names : List (List ℕ)) (bytes text : List ℕ) → races ≡ false → text ≡ [] → AreRacesTold races h names bytes text
 none_told races h names bytes text is none = subst (λ (b : Bool). AreRacesTold b h names bytes text) (sym is) none

@@ -28,7 +28,7 @@ module _ (m : MachineState) (bytes : List ℕ) (stands : CanStand m) (saved : Is
       let hand = stands.hand task.cpu j task state left (record { listed = at; of = refl; at = is }) in
       record {
         savable = fits.1.held;
-        elements = (shapes_of m.store, are_maps m.store saved.0, All-weaker (λ p. (held_spans m.store task.cpu p ≡ true) × IsValueSpan p) (IsElement (shapes_of m.store)) (λ p h. held_is_element m.store task.cpu p h.0) state.held hand.held);
+        elements = (shapes_of m.store, are_maps m.store saved.0, All-weaker (λ p. (held_spans m.store task.cpu p ≡ true) × IsValueSpan p) (IsElement (shapes_of m.store)) (λ p h. held_is_element m.store saved.0 task.cpu p h.0) state.held hand.held);
         once = fits.2;
       }
   holds j task at (Ended end) is fits = tt

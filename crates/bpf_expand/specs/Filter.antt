@@ -5,6 +5,7 @@ use Rattle.std.specs.declared.alloc.AllocError.{AllocError}
 use Rattle.hex.specs.Hex.{decode_of}
 use Rattle.bpf_shared.specs.Shape.{Shape}
 use Rattle.bpf_loader.specs.Loaded.{Loaded}
+use Rattle.bpf_cpu.specs.Setup.{named_in}
 use Rattle.bpf_cpu.specs.Task.{Task}
 use Rattle.bpf_machine.specs.Machine.{MachineState, Shows}
 use Rattle.bpf_machine.specs.Rounds.{HaveEnded}
@@ -15,7 +16,7 @@ use Rattle.bpf_expand.specs.declared.successor.Successor.{Successor}
 use Rattle.bpf_expand.specs.State.{Host, AreSuccessors, IsNoState, IsStateOf, IsTold}
 use Rattle.bpf_expand.specs.Lines.{no_state_line, report_line, state_line, successor_lines}
 
--- a host whose maps have these names, and whether races are printed; how many lines were answered,
+-- a host whose maps and arrays have these names, and whether races are printed; how many lines were answered,
 -- counted up to the greatest `u64`, and the last answer
 pub record FilterState : Type 0 where
   pub host : Host
@@ -45,7 +46,7 @@ IsFirstLine shape programs jobs line = (m : MachineState) × (bytes : List ℕ)
     × Shows m (first_world shape programs jobs)
     × IsStateOf (host_of false shape programs jobs) m bytes × (line ≡ state_line bytes)
 
--- no CPU has work, and this is printed of the jobs and maps
+-- no CPU has work, and this is printed of the jobs, maps and arrays
 abbrev pub IsReportIn : Host → List (List ℕ) → List ℕ → List ℕ → Type 0
 IsReportIn h names bytes report =
     (m : MachineState) × IsStateOf h m bytes × HaveEnded m.jobs × IsTold m names report
@@ -65,7 +66,7 @@ AreRacesOf h bytes races = (m : MachineState) × IsStateOf h m bytes × AreRaces
 abbrev pub AreRacesTold : (races : Bool) → Host → List (List ℕ) → List ℕ → List ℕ → Type 0
 AreRacesTold false h names bytes text = text ≡ []
 AreRacesTold true h names bytes text = (races : List RaceFound) × AreRacesOf h bytes races
-    × (text ≡ here_lines names (length races) races)
+    × (text ≡ here_lines (named_in h.shape) names (length races) races)
 
 -- they are before what is printed of a state
 abbrev pub IsToldWith : (races : Bool) → Host → List (List ℕ) → List ℕ → List ℕ → Type 0

@@ -94,8 +94,8 @@ abbrev pub AreTold : Host → List (List ℕ) → (List ℕ → List RaceFound) 
 AreTold h lines told = (line : List ℕ) → IsAmong lines line
     → (bytes : List ℕ) × (decode_of line ≡ Ok bytes) × AreRacesOf h bytes (told line)
 
--- one of the lines is answered by a race of these two, who are there, for the map and the key of the
--- value at the address
+-- one of the lines is answered by a race of these two, who are there, for the map or array and the
+-- key or index of the value at the address
 abbrev pub IsToldAmong : List (List ℕ) → (List ℕ → List RaceFound) → Plain → Pair → ℕ → Type 0
 IsToldAmong lines told s pair b =
     (line : List ℕ) × IsAmong lines line × IsTold (told line) s pair b

@@ -17,7 +17,7 @@ use Rattle.bpf_machine.specs.Saved.{jobs_saved, AreLater, HoldWhatMayBe}
 use Rattle.bpf_explore.specs.Stores.{IsOfShape}
 use Rattle.bpf_expand.specs.declared.successor.Successor.{Successor}
 
--- what all of its machines have: the maps and CPUs of their stores, their programs, and their jobs
+-- what all of its machines have: the maps, arrays and CPUs of their stores, their programs, and their jobs
 -- as these wait at first; and whether how many steps are left of budgets is passed over
 pub record Host : Type 0 where
   pub shape : Shape
@@ -85,7 +85,8 @@ IsSuccessor h bytes c n next =
 abbrev pub IsNoState : Host → List ℕ → Type 0
 IsNoState h bytes = (m : MachineState) → IsStateOf h m bytes → ⊥
 
--- this is printed of the machine's jobs and maps, which have these names, whatever its store stands for
+-- this is printed of the machine's jobs, maps and arrays, which have these names, whatever its store
+-- stands for
 abbrev pub IsTold : MachineState → List (List ℕ) → List ℕ → Type 0
 IsTold m names text = (stopped : Bool) × ((s : Plain) → IsSoundStore s → StandsFor m.store s
     → Tells s m.jobs names true text stopped)

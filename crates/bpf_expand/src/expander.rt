@@ -8,10 +8,9 @@ ghost use Rattle.bpf_expand.specs.State.{Fills, IsTold};
 
 use crate::jobs::{count_up, jobs_fit_bytes, keep_jobs, save_jobs};
 use crate::successor::Successor;
-use bpf_explore::copy_shape;
 use bpf_jobs::tell;
 use bpf_machine::{KeptJob, Machine, read_jobs};
-use bpf_plain::PlainStore;
+use bpf_plain::{PlainStore, copy_shape};
 use bpf_shared::StoreShape;
 use std::alloc::{AllocError, Global};
 use std::marker::Model;
@@ -39,7 +38,7 @@ fn fill(machine: &mut Machine, patient: bool, cpu: u8)
     machine.refill(cpu);
 }
 
-/// What is printed of a machine's jobs and maps, which have these names.
+/// What is printed of a machine's jobs, maps and arrays, which have these names.
 fn report(alloc: Global, machine: &Machine, names: &[String]) -> Result<String, AllocError>
     requires { machine.now.lists ≡ None }
     ensures { IfOk result (λ text. IsTold machine.now (map string_bytes names.now)
@@ -319,7 +318,7 @@ impl Expander {
         Ok(Some(found))
     }
 
-    /// What is printed of the machine's jobs and maps, which have these names.
+    /// What is printed of the machine's jobs, maps and arrays, which have these names.
     pub fn report(&self, names: &[String]) -> Result<String, AllocError>
         ensures { IfOk result (λ text. IsTold self.now.machine (map string_bytes names.now)
             (string_bytes text)) }

@@ -1,7 +1,7 @@
 //! A filter of lines: each is a state, and answered by what CPUs' turns lead to from it.
 
 ghost use Rattle.std.specs.Prelude.{◌≡◌, ◌++◌, IfNone, IfOk, IfSome, false, is_some, map, string_bytes, true};
-ghost use Rattle.bpf_cpu.specs.Setup.{IsRunnable};
+ghost use Rattle.bpf_cpu.specs.Setup.{IsRunnable, named_in};
 ghost use Rattle.bpf_cpu.specs.Task.{waiting};
 ghost use Rattle.bpf_machine.specs.Machine.{Shows};
 ghost use Rattle.bpf_jobs.specs.Printed.{first_of};
@@ -13,8 +13,10 @@ use crate::digits::line_bytes;
 use crate::expander::Expander;
 use crate::lines::{no_state_line, report_line, state_line, successor_lines};
 use bpf_cpu::Setup;
-use bpf_explore::{copy_shape, first_machine};
+use bpf_explore::first_machine;
+use bpf_loader::Named;
 use bpf_machine::Machine;
+use bpf_plain::copy_shape;
 use bpf_races::{Watcher, list_races_in, races_in};
 use bpf_shared::StoreShape;
 use bpf_talk::Respond;
@@ -86,7 +88,17 @@ fn watcher_of(alloc: Global, races: bool, shape: &StoreShape) -> Result<Option<W
     Ok(Some(watcher))
 }
 
-/// The lines of the races of a machine, whose maps have these names.
+/// How many maps and arrays a store of this shape has.
+fn named_of(shape: &StoreShape) -> Named
+    ensures { result ≡ named_in shape.now }
+{
+    Named {
+        maps: shape.maps().len(),
+        arrays: shape.arrays().len(),
+    }
+}
+
+/// The lines of the races of a machine, whose maps and arrays have these names.
 fn race_lines(
     alloc: Global,
     watcher: &mut Watcher,
@@ -97,7 +109,8 @@ fn race_lines(
         (string_bytes text)) }
 {
     let races = races_in(alloc, watcher, machine, &[])?;
-    let text = list_races_in(alloc, names, &races)?;
+    let named = named_of(machine.store().store_shape());
+    let text = list_races_in(alloc, named, names, &races)?;
     Ok(text)
 }
 
@@ -135,7 +148,8 @@ impl Filter {
     ghost use Rattle.bpf_expand.specs.State.{AreSuccessors, IsNoState};
     ghost use Rattle.bpf_expand.specs.Filter.{AreRacesTold, IsLineTold, IsNoStateLine, IsToldOf, IsToldWith};
 
-    /// The filter of jobs over a new store whose maps have these names, which prints races or not.
+    /// The filter of jobs over a new store whose maps and arrays have these names, which prints
+    /// races or not.
     pub fn new(
         alloc: Global,
         patient: bool,

@@ -39,6 +39,7 @@ pub fn definition_of(term: Term) -> Definition
         Term::Ebusy => terms::EBUSY,
         Term::Eexist => terms::EEXIST,
         Term::Einval => terms::EINVAL,
+        Term::Eperm => terms::EPERM,
         Term::Any => terms::ANY,
         Term::NoExist => terms::NO_EXIST,
         Term::Exist => terms::EXIST,

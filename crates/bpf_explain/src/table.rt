@@ -37,6 +37,7 @@ pub fn page_of(code: Code) -> Page
         Code::F4 => running::F4,
         Code::F5 => running::F5,
         Code::F6 => running::F6,
+        Code::F7 => running::F7,
         Code::G1 => debugger::G1,
         Code::G2 => debugger::G2,
         Code::G3 => debugger::G3,
@@ -65,6 +66,11 @@ pub fn page_of(code: Code) -> Page
         Code::S5 => files::S5,
         Code::S6 => files::S6,
         Code::S7 => files::S7,
+        Code::S8 => files::S8,
+        Code::S9 => files::S9,
+        Code::S10 => files::S10,
+        Code::S11 => files::S11,
+        Code::S12 => files::S12,
         Code::X1 => states::X1,
     }
 }

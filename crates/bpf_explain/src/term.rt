@@ -12,6 +12,7 @@ pub enum Term {
     Ebusy,
     Eexist,
     Einval,
+    Eperm,
     Any,
     NoExist,
     Exist,
@@ -23,13 +24,14 @@ pub enum Term {
 }
 
 /// All of them.
-pub const TERMS: [Term; 14] = [
+pub const TERMS: [Term; 15] = [
     Term::Enoent,
     Term::TooBig,
     Term::Enomem,
     Term::Ebusy,
     Term::Eexist,
     Term::Einval,
+    Term::Eperm,
     Term::Any,
     Term::NoExist,
     Term::Exist,
@@ -52,6 +54,7 @@ impl Term {
             Term::Ebusy => "EBUSY",
             Term::Eexist => "EEXIST",
             Term::Einval => "EINVAL",
+            Term::Eperm => "EPERM",
             Term::Any => "BPF_ANY",
             Term::NoExist => "BPF_NOEXIST",
             Term::Exist => "BPF_EXIST",

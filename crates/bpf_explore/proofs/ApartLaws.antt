@@ -3,8 +3,8 @@ use Rattle.std.proofs.Common.{◌≡◌, ◌∙◌, ℕ, suc, ◌*◌, ◌<◌, 
 use Rattle.std.specs.Prelude.{All, slice_index_or}
 use Rattle.std.proofs.lemmas.Bool.{cases_lt}
 use Rattle.bpf_shared.specs.Shape.{Shape}
-use Rattle.bpf_plain.specs.PlainStore.{Contents, IsSavedAs, shapes_of}
-use Rattle.bpf_plain.proofs.Blocks.{block_fits, length-part}
+use Rattle.bpf_plain.specs.PlainStore.{Contents, IsSavedAs}
+use Rattle.bpf_hash.proofs.Blocks.{block_fits, length-part}
 use Rattle.bpf_cpu.specs.Task.{Task}
 use Rattle.bpf_machine.specs.Machine.{MachineState, Shows}
 use Rattle.bpf_machine.specs.Parts.{chosen}
@@ -14,7 +14,7 @@ use Rattle.bpf_explore.specs.Tuples.{tuple_at}
 use Rattle.bpf_explore.specs.Private.Kept.{AreTuplesApart, part_at, ArePartsApart, store_at, AreStoresApart}
 use Rattle.bpf_explore.specs.Private.Album.{Shelf, machine_at, machines, IsShelf}
 use Rattle.bpf_explore.proofs.AlbumLaws.{kept_is}
-use Rattle.bpf_explore.proofs.OneStore.{one_saving}
+use Rattle.bpf_plain.proofs.OneStore.{one_saving}
 
 -- ---- numbers of what is kept once
 one_part : (parts : List Task) → ArePartsApart parts → (n m : ℕ) → n < length parts → m < length parts → part_at parts n ≡ part_at parts m → n ≡ m
@@ -74,8 +74,7 @@ module _ (h : Shape) (s : Shelf) (is : IsShelf h s) (stores : AreStoresApart s.s
       let sj = is.states j b in
       let p = saved n si.stored in
       let q = saved m sj.stored in
-      let shapes : shapes_of (store_at s.stores m) ≡ shapes_of (store_at s.stores n) = (is.shapes m sj.stored).0 ∙ sym (is.shapes n si.stored).0 in
-      let bytes : p.0 ≡ q.0 = one_saving (store_at s.stores n) (store_at s.stores m) w.store p.0 q.0 shapes first.store second.store p.1 q.1 in
+      let bytes : p.0 ≡ q.0 = one_saving (store_at s.stores n) (store_at s.stores m) w.store p.0 q.0 first.store second.store p.1 q.1 in
       let number : n ≡ m = one_store s.stores stores n m q.0 si.stored sj.stored (subst (IsSavedAs (store_at s.stores n)) bytes p.1) q.1 in
       let jobs : chosen s.parts (drop 1 t) ≡ chosen s.parts (drop 1 u) = sym first.jobs ∙ second.jobs in
       both_same t u (tuple_size i a) (tuple_size j b) number (chosen_once s.parts parts (drop 1 t) (drop 1 u) si.within sj.within jobs)

@@ -27,7 +27,7 @@ use Rattle.bpf_explore.specs.Private.Answers.{IsFirst, IsAnsweredAt, StartsFresh
 
 -- ---- the first machine
 pub first_shape : (h : Shape) (m : MachineState) (programs : List Loaded) (jobs : List Task) → Shows m (first_world h programs jobs) → IsOfShape h m.store
-first_shape h m programs jobs shows = (sym shows.store.maps, λ c. ap (λ (n : ℕ). nat_lt c n) (sym shows.store.cpus))
+first_shape h m programs jobs shows = (sym shows.store.shape, λ c. ap (λ (n : ℕ). nat_lt c n) (sym shows.store.maps.cpus))
 
 none_of : (o : Option (List Listing)) → first_lists false ≡ listing_at o → o ≡ None
 none_of None e = refl

@@ -7,7 +7,7 @@ use Rattle.std.proofs.lemmas.Bool.{cases_lt}
 use Rattle.std.proofs.lemmas.List.{length-drop, take_all, take-append-le, drop-append-le}
 use Rattle.std.proofs.lemmas.Option.{slice_get_read, get_or_from_slice_get}
 use Rattle.bpf_plain.specs.PlainStore.{Contents, IsSavedAs}
-use Rattle.bpf_plain.proofs.Blocks.{block_fits, suc-mul}
+use Rattle.bpf_hash.proofs.Blocks.{block_fits, suc-mul}
 use Rattle.bpf_cpu.specs.Task.{Task}
 use Rattle.bpf_machine.specs.Hashes.{task_hash}
 use Rattle.bpf_machine.specs.Parts.{no_task}

@@ -7,7 +7,6 @@ pub mod StandAlike
 pub mod ShelfLaws
 pub mod KeepLaws
 pub mod AlbumLaws
-pub mod OneStore
 pub mod ApartLaws
 pub mod StopLaws
 pub mod WayLaws

@@ -1,5 +1,5 @@
 -- Where machines cover all schedules, what is printed of them is all that can be printed.
-use Rattle.std.proofs.Common.{◌≡◌, ◌∙◌, ℕ, Bool, true, false, List, ◌++◌, Some, length, sym, ap, subst}
+use Rattle.std.proofs.Common.{◌≡◌, ◌∙◌, ℕ, Bool, List, ◌++◌, Some, length, sym, ap, subst}
 use Rattle.std.specs.Prelude.{slice_get}
 use Rattle.bpf_shared.specs.Store.{Plain}
 use Rattle.bpf_cpu.specs.Task.{Task}
@@ -7,15 +7,11 @@ use Rattle.bpf_machine.specs.Schedule.{World}
 use Rattle.bpf_machine.specs.Rounds.{HaveEnded}
 use Rattle.bpf_machine.specs.Machine.{MachineState}
 use Rattle.bpf_machine.specs.Cover.{IsShown}
-use Rattle.bpf_jobs.specs.Printed.{job_lines, AreMapsAsked, Tells}
-use Rattle.bpf_jobs.proofs.OneListing.{one_map_text}
+use Rattle.bpf_jobs.specs.Printed.{job_lines, Tells}
+use Rattle.bpf_jobs.proofs.OneListing.{one_asked}
 use Rattle.bpf_explore.specs.Outcomes.{Found, IsTold}
 use Rattle.bpf_explore.specs.Laws.{IsAnswered, CoverTellsAll}
 use Rattle.bpf_explore.specs.Patient.{PatientTellAll}
-
-one_asked : (maps : Bool) (s : Plain) (names : List (List ℕ)) (text other : List ℕ) → AreMapsAsked maps s names text → AreMapsAsked maps s names other → text ≡ other
-one_asked false s names text other a b = a ∙ sym b
-one_asked true s names text other a b = one_map_text s names (length names) text other a b
 
 -- of a machine one text is printed
 one_told : (s : Plain) (jobs : List Task) (names : List (List ℕ)) (maps : Bool) (text other : List ℕ) (stopped halted : Bool) → Tells s jobs names maps text stopped → Tells s jobs names maps other halted → (text ≡ other) × (stopped ≡ halted)

@@ -38,7 +38,7 @@ impl Answer {
         Answer { text, stopped, by }
     }
 
-    /// What is printed: a line a job, and those of the maps where they are asked for.
+    /// What is printed: a line a job, and those of the maps and arrays where they are asked for.
     pub fn text(&self) -> &str
         ensures { result.now ≡ self.now.text }
     {

@@ -66,9 +66,9 @@ fn conclude(
     })
 }
 
-/// Searches through all schedules of jobs over a new store whose maps have these names, until no
-/// state is new, more than `limit` are kept, or memory is refused to the search. Out of memory
-/// before or after it is the only refusal. The observer learns meanwhile how far it is.
+/// Searches through all schedules of jobs over a new store whose maps, and then arrays, have these
+/// names, until no state is new, more than `limit` are kept, or memory is refused to the search. Out
+/// of memory before or after it is the only refusal. The observer learns meanwhile how far it is.
 pub fn explore_jobs<O: Observer>(
     alloc: Global,
     setup: Setup,

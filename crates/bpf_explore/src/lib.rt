@@ -37,5 +37,5 @@ pub use observer::{Observer, Progress, Silent, TOLD_EVERY};
 pub use opening::{first_machine, patient_search_of, search_of};
 pub use parts::Parts;
 pub use patient::PatientExplorer;
-pub use stores::{Stores, copy_shape};
+pub use stores::Stores;
 pub use tuples::Tuples;

@@ -9,10 +9,10 @@ ghost use Rattle.bpf_explore.specs.Stores.{IsOfShape};
 
 use crate::explorer::Explorer;
 use crate::patient::PatientExplorer;
-use crate::stores::copy_shape;
 use bpf_cpu::Setup;
 use bpf_jobs::make_machine;
 use bpf_machine::Machine;
+use bpf_plain::copy_shape;
 use bpf_shared::StoreShape;
 use std::alloc::{AllocError, Global};
 

@@ -9,7 +9,7 @@ ghost use Rattle.bpf_explore.specs.Private.Kept.{store_at, AreStoresApart, Holds
 use crate::room::{bytes_of, store_bytes};
 use crate::slots::{note, room_for, slot_of};
 use bpf_base::spread;
-use bpf_plain::PlainStore;
+use bpf_plain::{PlainStore, copy_shape};
 use bpf_shared::StoreShape;
 use std::alloc::{AllocError, Global};
 use std::marker::Model;
@@ -60,15 +60,6 @@ fn hash_of(bytes: &[u8]) -> u64
     bytes
         .iter()
         .fold(0, |hash: u64, byte| spread(hash ^ u64::from(*byte)))
-}
-
-/// A copy of a shape.
-pub fn copy_shape(alloc: Global, shape: &StoreShape) -> Result<StoreShape, AllocError>
-    ensures { IfOk result (λ copy. copy ≡ shape.now) }
-{
-    let mut maps = Vec::with_capacity(alloc, shape.maps().len())?;
-    maps.extend_from_slice(shape.maps())?;
-    StoreShape::new(u64::from(shape.cpus()), maps).map_err(|_| AllocError)
 }
 
 /// A copy of a store of this shape.

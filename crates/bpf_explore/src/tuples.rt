@@ -86,7 +86,7 @@ impl Tuples {
     }
 
     /// Whether a tuple is kept under this number.
-    #[tactic(auto, using(bpf_plain::proofs::Blocks::block_fits))]
+    #[tactic(auto, using(bpf_hash::proofs::Blocks::block_fits))]
     fn is_at(&self, number: usize, tuple: &[u32]) -> bool
         ensures same { result ≡ true → IsTuple self.now number tuple.now }
         ensures differs { result ≡ false → IsTuple self.now number tuple.now → ⊥ }
@@ -114,7 +114,7 @@ impl Tuples {
     }
 
     /// Makes more places where half of them are taken.
-    #[tactic(auto, using(bpf_plain::proofs::Blocks::block_fits))]
+    #[tactic(auto, using(bpf_hash::proofs::Blocks::block_fits))]
     fn widen(&mut self, alloc: Global) -> Result<(), AllocError>
         ensures { self.new ≡ self.old }
     {

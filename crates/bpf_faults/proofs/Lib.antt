@@ -1,1 +1,2 @@
+pub mod ArrayPlaces
 pub mod Watching

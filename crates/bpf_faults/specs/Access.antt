@@ -6,10 +6,12 @@ use Rattle.bpf_insn.specs.declared.instruction.Insn.TheVariants as insn
 use Rattle.bpf_mem.specs.Addresses.{context_base}
 use Rattle.bpf_mem.specs.Bytes.{length_of, size_of}
 use Rattle.bpf_mem.specs.Limits.{max_context}
-use Rattle.bpf_shared.specs.Shape.{first_value, map_area}
+use Rattle.bpf_helpers.specs.Arrays.{array_start}
+use Rattle.bpf_shared.specs.declared.shapes.ArrayShape.{ArrayShape}
+use Rattle.bpf_shared.specs.Shape.{array_stride, copies, first_value, fixed_span, map_area}
 use Rattle.bpf_cpu.specs.Row.{plain_size}
 use Rattle.bpf_faults.specs.declared.area.Region.{Region}
-use Rattle.bpf_faults.specs.declared.area.Region.TheVariants.{Context, Values, Other}
+use Rattle.bpf_faults.specs.declared.area.Region.TheVariants.{Array, Context, Values, Other}
 
 -- the instruction loads or stores bytes itself: this many, at this register's value and this offset
 -- from it (RFC 9669, section 5)
@@ -30,9 +32,20 @@ Accesses _ base offset length = ⊥
 abbrev pub IsOfContext : ℕ → Type 0
 IsOfContext address = (context_base ≤ address) × (address < context_base + max_context)
 
--- what an address is for: maps are counted on past the last one that may be there
+-- what an address is for: areas of arrays follow those of sixteen maps, and are counted on past the
+-- last one that may be there
 abbrev pub IsInRegion : ℕ → Region → Type 0
 IsInRegion address Context = IsOfContext address
 IsInRegion address (Values map) = (first_value + map_area * map ≤ address)
-    × (address < first_value + map_area * (map + 1))
+    × (address < first_value + map_area * (map + 1)) × (map < 16)
+IsInRegion address (Array array) = (array_start array ≤ address) × (address < array_start (array + 1))
 IsInRegion address Other = (address < first_value) × (IsOfContext address → ⊥)
+
+-- the value of the i-th index of the k-th CPU, which begins at this place, has the byte at the
+-- address or ends last before it
+pub record IsAt (cpus a : ℕ) (g : ArrayShape) (k i at address : ℕ) : Type 0 where
+  pub has_copy : k < copies cpus g
+  pub has_index : i < g.max
+  pub is : at ≡ (fixed_span a g k i).at
+  pub from : at ≤ address
+  pub to : address < at + array_stride g

@@ -2,16 +2,22 @@
 
 ghost use Rattle.bpf_faults.specs.Access.{IsInRegion};
 
+use crate::arrays::{array_of, ends_of};
 use crate::evidence::Seen;
-use crate::words::Maps;
+use crate::named::Maps;
+use bpf_helpers::array_with;
 use bpf_mem::addresses::{CONTEXT_BASE, FRAME_STRIDE, STACK_BASE};
 use bpf_mem::context::MAX_CONTEXT;
 use bpf_mem::frames::FRAME_BYTES;
-use bpf_shared::{FIRST_VALUE, MAP_AREA};
+use bpf_plain::PlainStore;
+use bpf_shared::{ArrayShape, FIRST_ARRAY, FIRST_VALUE, MAP_AREA};
 use std::alloc::AllocError;
 
 /// How many held values are named.
 const NAMED_VALUES: usize = 8;
+
+/// Before each line of a list but the first.
+pub(crate) const INDENT: &str = "             ";
 
 /// What an address is for.
 #[derive(Clone, Copy, PartialEq, Eq, Debug)]
@@ -19,6 +25,8 @@ pub enum Region {
     Context,
     /// Values of the map of this number.
     Values(usize),
+    /// Values of the array of this number.
+    Array(usize),
     Other,
 }
 
@@ -27,7 +35,12 @@ pub fn region_of(address: u64) -> Region
     ensures { IsInRegion address result }
 {
     if address >= FIRST_VALUE {
-        Region::Values(((address - FIRST_VALUE) / MAP_AREA) as usize)
+        let area = (address - FIRST_VALUE) / MAP_AREA;
+        if area < FIRST_ARRAY {
+            Region::Values(area as usize)
+        } else {
+            Region::Array((area - FIRST_ARRAY) as usize)
+        }
     } else if address >= CONTEXT_BASE && address - CONTEXT_BASE < MAX_CONTEXT as u64 {
         Region::Context
     } else {
@@ -52,15 +65,18 @@ fn in_frame(seen: &Seen, address: u64, length: u64) -> bool {
     false
 }
 
-/// Whether each of some bytes lies in a held value.
-fn in_values(seen: &Seen, address: u64, length: u64) -> bool {
+/// Whether a byte lies in a held value.
+fn is_held(seen: &Seen, at: u64) -> bool {
+    seen.held
+        .iter()
+        .any(|span| at >= span.at && at - span.at < span.size)
+}
+
+/// Whether each of some bytes lies in a held value, or in an array's.
+fn in_values(seen: &Seen, store: &PlainStore, address: u64, length: u64) -> bool {
     let mut at = address;
     for _ in 0..length {
-        if !seen
-            .held
-            .iter()
-            .any(|span| at >= span.at && at - span.at < span.size)
-        {
+        if !is_held(seen, at) && array_with(store, at, 1).is_none() {
             return false;
         }
         at = at.wrapping_add(1);
@@ -69,10 +85,10 @@ fn in_values(seen: &Seen, address: u64, length: u64) -> bool {
 }
 
 /// Whether some bytes can be read from an address on.
-pub fn is_reached(seen: &Seen, address: u64, length: u64) -> bool {
+pub fn is_reached(seen: &Seen, store: &PlainStore, address: u64, length: u64) -> bool {
     covers(CONTEXT_BASE, seen.context as u64, address, length)
         || in_frame(seen, address, length)
-        || in_values(seen, address, length)
+        || in_values(seen, store, address, length)
 }
 
 /// Appends the line of an area to the text, of which these are the first address and the size.
@@ -99,14 +115,22 @@ pub fn push_areas(text: &mut String, seen: &Seen, maps: &Maps<'_>) -> Result<(),
             first,
             FRAME_BYTES as u64,
         )?;
-        head = "             ";
+        head = INDENT;
         first = first.wrapping_add(FRAME_STRIDE);
     }
     if seen.context > 0 {
         push_area(text, head, "the context", CONTEXT_BASE, seen.context as u64)?;
-        head = "             ";
+        head = INDENT;
     }
-    push_values(text, head, seen, maps)
+    push_values(text, head, seen, maps)?;
+    if !seen.held.is_empty() {
+        head = INDENT;
+    }
+    for array in 0..maps.array_count() {
+        push_array(text, head, maps, array)?;
+        head = INDENT;
+    }
+    Ok(())
 }
 
 /// Appends a line for each of the first held values to the text, and how many more there are.
@@ -130,4 +154,38 @@ fn push_values(
         write!(text, "{head}and {more} more values\n")?;
     }
     Ok(())
+}
+
+/// "1 value of a", "2 values of a for each CPU" and so on.
+fn push_number(text: &mut String, array: ArrayShape, name: &str) -> Result<(), AllocError> {
+    match array.max {
+        1 => write!(text, "1 value of {name}")?,
+        number => write!(text, "{number} values of {name}")?,
+    }
+    if array.per_cpu {
+        text.push_str(" for each CPU")?;
+    }
+    Ok(())
+}
+
+/// Appends a line for the values of an array to the text, which are always reached.
+fn push_array(
+    text: &mut String,
+    head: &str,
+    maps: &Maps<'_>,
+    number: usize,
+) -> Result<(), AllocError> {
+    let shape = maps.store.store_shape();
+    let Some((first, last)) = ends_of(shape, number) else {
+        return Ok(());
+    };
+    let Some(array) = array_of(shape, number) else {
+        return Ok(());
+    };
+    write!(text, "{head}0x{first:x} to 0x{last:x}, ")?;
+    push_number(text, array, maps.array_name(number))?;
+    if array.frozen {
+        text.push_str(", which may only be read")?;
+    }
+    text.push('\n')
 }

@@ -5,13 +5,16 @@
 #![tactic(auto)]
 
 mod area;
+mod arrays;
 mod evidence;
 mod looping;
+mod named;
 mod operand;
 mod watch;
 mod words;
 
 pub use evidence::{Evidence, Seen};
 pub use looping::{Loop, describe_loop};
+pub use named::Maps;
 pub use watch::evidence_of;
-pub use words::{Maps, describe};
+pub use words::describe;

@@ -1,45 +1,15 @@
 //! The words in which a fault is explained.
 
-use crate::area::{Region, is_reached, push_areas, region_of};
+use crate::area::{INDENT, Region, is_reached, push_areas, region_of};
+use crate::arrays::{ArrayValue, array_of, value_at};
 use crate::evidence::{Evidence, Seen};
+use crate::named::{Given, Maps};
 use crate::operand::{Access, access_of, register};
 use bpf_cpu::Fault;
 use bpf_helpers::calls::MAPS;
 use bpf_insn::{Insn, Reg};
-use bpf_shared::{MapShape, Span};
+use bpf_shared::{ArrayShape, FIRST_ARRAY, Span};
 use std::alloc::{AllocError, Global};
-
-/// The maps that a program may be given, by their numbers.
-#[derive(Clone, Copy)]
-pub struct Maps<'a> {
-    pub shapes: &'a [MapShape],
-    pub names: &'a [String],
-}
-
-impl Maps<'_> {
-    /// The name of a map.
-    fn name(&self, map: usize) -> &str {
-        match self.names.get(map) {
-            Some(name) => name.as_str(),
-            None => "no map",
-        }
-    }
-
-    /// The name of the map of which values lie at an address.
-    pub fn name_at(&self, address: u64) -> &str {
-        match region_of(address) {
-            Region::Values(map) => self.name(map),
-            _ => "no map",
-        }
-    }
-
-    /// The number of the map that a register's value stands for.
-    fn number_of(&self, value: u64) -> Option<usize> {
-        let number = value.checked_sub(MAPS)? as usize;
-        self.shapes.get(number)?;
-        Some(number)
-    }
-}
 
 /// The held value that begins last before an address, unless the address is another value's.
 fn value_before(seen: &Seen, address: u64) -> Option<Span> {
@@ -79,6 +49,53 @@ fn push_zero(text: &mut String, number: u8) -> Result<(), AllocError> {
     text.push('\n')
 }
 
+/// How far past the end of a value of an array the bytes end, where that is what is wrong with them.
+fn push_after(
+    text: &mut String,
+    value: ArrayValue,
+    array: ArrayShape,
+    name: &str,
+    end: u64,
+) -> Result<(), AllocError> {
+    let after = end.saturating_sub(value.at.saturating_add(array.value));
+    text.push_str("  hint: the access ends ")?;
+    push_count(text, after)?;
+    write!(
+        text,
+        " after value {} of {name} at 0x{:x}, which has {}\n",
+        value.place, value.at, array.value
+    )
+}
+
+/// What may be meant by bytes in an array's area that aren't those of a value.
+fn push_outside(
+    text: &mut String,
+    maps: &Maps<'_>,
+    number: usize,
+    address: u64,
+    length: u64,
+) -> Result<(), AllocError> {
+    let shape = maps.store.store_shape();
+    let Some(array) = array_of(shape, number) else {
+        return Ok(());
+    };
+    let name = maps.array_name(number);
+    if let Some(value) = value_at(shape, number, address) {
+        return push_after(text, value, array, name, address.saturating_add(length));
+    }
+    write!(
+        text,
+        "  hint: the access begins after the last value of {name}, which has {} of ",
+        array.max
+    )?;
+    push_count(text, array.value)?;
+    text.push_str(if array.per_cpu {
+        " for each CPU\n"
+    } else {
+        "\n"
+    })
+}
+
 /// What may be meant by bytes that can't be reached.
 fn push_hint(
     text: &mut String,
@@ -97,11 +114,12 @@ fn push_hint(
         return push_behind(text, span, maps.name(map), address.saturating_add(length));
     }
     match region_of(address) {
-        Region::Values(map) if map < maps.shapes.len() => write!(
+        Region::Values(map) if map < maps.map_count() => write!(
             text,
             "  hint: values of {} lie there, but a run reaches those only that its own lookups found\n",
             maps.name(map)
         ),
+        Region::Array(number) => push_outside(text, maps, number, address, length),
         Region::Context if seen.context == 0 => {
             write!(
                 text,
@@ -136,6 +154,16 @@ fn push_count(text: &mut String, length: u64) -> Result<(), AllocError> {
     }
 }
 
+/// The bytes that an instruction loads or stores itself.
+fn push_bytes(text: &mut String, seen: &Seen, access: &Access) -> Result<(), AllocError> {
+    let address = access.address(seen);
+    text.push_str("  at fault: ")?;
+    push_count(text, access.length)?;
+    write!(text, " at 0x{address:x} (")?;
+    push_place(text, access)?;
+    text.push(')')
+}
+
 /// The bytes that an instruction can't reach itself.
 fn push_access(
     text: &mut String,
@@ -144,11 +172,8 @@ fn push_access(
     access: Access,
 ) -> Result<(), AllocError> {
     let address = access.address(seen);
-    text.push_str("  at fault: ")?;
-    push_count(text, access.length)?;
-    write!(text, " at 0x{address:x} (")?;
-    push_place(text, &access)?;
-    text.push_str(")\n")?;
+    push_bytes(text, seen, &access)?;
+    text.push('\n')?;
     push_areas(text, seen, maps)?;
     push_hint(text, seen, maps, access.base, address, access.length)
 }
@@ -164,17 +189,17 @@ struct Argument<'a> {
     length: u64,
 }
 
-/// The key or the value of a map that a helper can't reach.
+/// The key or the value that a helper can't reach, of the map or array of this name.
 fn push_argument(
     text: &mut String,
     seen: &Seen,
     maps: &Maps<'_>,
-    map: usize,
+    name: &str,
     argument: Argument,
 ) -> Result<(), AllocError> {
     let Argument { what, base, length } = argument;
     let address = register(seen, base);
-    write!(text, "  at fault: the {what} for {}, ", maps.name(map))?;
+    write!(text, "  at fault: the {what} for {name}, ")?;
     push_count(text, length)?;
     write!(text, " at 0x{address:x} (r{})\n", base.number())?;
     push_areas(text, seen, maps)?;
@@ -183,26 +208,24 @@ fn push_argument(
 
 /// Which argument of a helper can't be reached: the key is tried before the value.
 fn push_helper(text: &mut String, seen: &Seen, maps: &Maps<'_>) -> Result<(), AllocError> {
-    let Some(map) = maps.number_of(register(seen, Reg::R1)) else {
+    let Some(given) = maps.given(register(seen, Reg::R1)) else {
         return Ok(());
     };
-    let Some(shape) = maps.shapes.get(map) else {
-        return Ok(());
-    };
-    let argument = if is_reached(seen, register(seen, Reg::R2), shape.key) {
+    let Given { name, key, value } = given;
+    let argument = if is_reached(seen, maps.store, register(seen, Reg::R2), key) {
         Argument {
             what: "value",
             base: Reg::R3,
-            length: shape.value,
+            length: value,
         }
     } else {
         Argument {
             what: "key",
             base: Reg::R2,
-            length: shape.key,
+            length: key,
         }
     };
-    push_argument(text, seen, maps, map, argument)
+    push_argument(text, seen, maps, name, argument)
 }
 
 /// F1.
@@ -218,10 +241,28 @@ fn push_unreached(
     }
 }
 
-/// F2.
-fn push_misaligned(text: &mut String, seen: &Seen, insn: Insn) -> Result<(), AllocError> {
-    let Some(access) = access_of(insn) else {
+/// The key of an array that lies in values, where a helper loads it at once.
+fn push_odd_key(text: &mut String, seen: &Seen, maps: &Maps<'_>) -> Result<(), AllocError> {
+    let Some(given) = maps.given(register(seen, Reg::R1)) else {
         return Ok(());
+    };
+    let at = register(seen, Reg::R2);
+    write!(
+        text,
+        "  at fault: the key for {} at 0x{at:x} (r2), which isn't a multiple of {}\n",
+        given.name, given.key
+    )
+}
+
+/// F2.
+fn push_misaligned(
+    text: &mut String,
+    seen: &Seen,
+    maps: &Maps<'_>,
+    insn: Insn,
+) -> Result<(), AllocError> {
+    let Some(access) = access_of(insn) else {
+        return push_odd_key(text, seen, maps);
     };
     write!(text, "  at fault: 0x{:x} (", access.address(seen))?;
     push_place(text, &access)?;
@@ -237,23 +278,27 @@ fn push_depth(text: &mut String, seen: &Seen) -> Result<(), AllocError> {
     )
 }
 
+/// Appends the line of a map or an array to the text, of the number that a program names it by.
+fn push_named(text: &mut String, head: &str, number: u64, name: &str) -> Result<(), AllocError> {
+    let value = MAPS.wrapping_add(number);
+    write!(text, "{head}map {number} at 0x{value:x}, {name}\n")
+}
+
 /// F4.
 fn push_no_map(text: &mut String, seen: &Seen, maps: &Maps<'_>) -> Result<(), AllocError> {
     let found = register(seen, Reg::R1);
     write!(text, "  at fault: r1, which holds 0x{found:x}\n")?;
     let mut head = "  reachable: ";
-    let mut map = MAPS;
-    for name in maps.names {
-        write!(
-            text,
-            "{head}map {} at 0x{map:x}, {}\n",
-            map.wrapping_sub(MAPS),
-            name.as_str()
-        )?;
-        head = "             ";
-        map = map.wrapping_add(1);
+    for map in 0..maps.map_count() {
+        push_named(text, head, map as u64, maps.name(map))?;
+        head = INDENT;
     }
-    if maps.names.is_empty() {
+    for array in 0..maps.array_count() {
+        let number = FIRST_ARRAY.wrapping_add(array as u64);
+        push_named(text, head, number, maps.array_name(array))?;
+        head = INDENT;
+    }
+    if head != INDENT {
         write!(text, "{head}no map\n")?;
     }
     Ok(())
@@ -262,15 +307,39 @@ fn push_no_map(text: &mut String, seen: &Seen, maps: &Maps<'_>) -> Result<(), Al
 /// F5.
 fn push_too_many(text: &mut String, seen: &Seen, maps: &Maps<'_>) -> Result<(), AllocError> {
     let count = seen.held.len();
-    match maps.number_of(register(seen, Reg::R1)) {
-        Some(map) => write!(
+    if let Some(given) = maps.given(register(seen, Reg::R1)) {
+        write!(
             text,
             "  at fault: the value that is found in {}, since {count} others are held\n",
-            maps.name(map)
-        )?,
-        None => {}
+            given.name
+        )?;
     }
     push_areas(text, seen, maps)
+}
+
+/// F7.
+fn push_read_only(
+    text: &mut String,
+    seen: &Seen,
+    maps: &Maps<'_>,
+    insn: Insn,
+) -> Result<(), AllocError> {
+    let Some(access) = access_of(insn) else {
+        return Ok(());
+    };
+    let address = access.address(seen);
+    push_bytes(text, seen, &access)?;
+    if let Region::Array(number) = region_of(address)
+        && let Some(value) = value_at(maps.store.store_shape(), number, address)
+    {
+        let name = maps.array_name(number);
+        write!(
+            text,
+            ", in value {} of {name}, which may only be read",
+            value.place
+        )?;
+    }
+    text.push('\n')
 }
 
 /// What there is to say of a fault of this instruction: the address or the register that is at
@@ -285,11 +354,12 @@ pub fn describe(
     let seen = &evidence.seen;
     match evidence.fault {
         Fault::BadAddress => push_unreached(&mut text, seen, maps, insn)?,
-        Fault::Misaligned => push_misaligned(&mut text, seen, insn)?,
+        Fault::Misaligned => push_misaligned(&mut text, seen, maps, insn)?,
         Fault::CallDepth => push_depth(&mut text, seen)?,
         Fault::NotAMap => push_no_map(&mut text, seen, maps)?,
         Fault::TooManyHeld => push_too_many(&mut text, seen, maps)?,
         Fault::Worn => text.push_str("  at fault: the CPU's counter of runs\n")?,
+        Fault::ReadOnly => push_read_only(&mut text, seen, maps, insn)?,
     }
     Ok(text)
 }

@@ -13,9 +13,11 @@ use Rattle.bpf_file.specs.declared.key.Key.TheVariants as key
 use Rattle.bpf_file.specs.declared.line.LineError.{LineError}
 use Rattle.bpf_file.specs.declared.line.LineError.TheVariants as line
 use Rattle.bpf_file.specs.Key.{key_text, is_key}
-use Rattle.bpf_file.specs.Form.{is_part, has_form, field_at, version_form, second_version_form, cpus_form, seed_form, map_form, masked_map_form, growing_map_form, growing_masked_map_form, program_form, words_form, job_form, budget_form, context_form}
+use Rattle.bpf_file.specs.Form.{is_part, has_form, field_at, version_form, second_version_form, third_version_form, cpus_form, seed_form, map_form, masked_map_form, growing_map_form, growing_masked_map_form, array_form, per_cpu_form, frozen_form, data_form, program_form, words_form, job_form, budget_form, context_form}
 use Rattle.bpf_base.specs.declared.budget.TheConstants.{MAX_BUDGET}
-use Rattle.bpf_file.specs.Statement.{Said, Version, Cpus, Seed, Map, Program, Words, Job, most_count, count_at, with_number, map_said, work_of, growing_of, statement_of}
+use Rattle.bpf_file.specs.declared.version.Version.{Version as Edition}
+use Rattle.bpf_file.specs.Version.{may_grow, has_arrays}
+use Rattle.bpf_file.specs.Statement.{Said, Version, Cpus, Seed, Map, Array, Data, Program, Words, Job, most_count, count_at, with_number, map_said, array_said, work_of, arrays_of, growing_of, statement_of}
 use Rattle.bpf_file.specs.Parts.{Part, group_of, is_in_order, is_full}
 use Rattle.bpf_file.specs.Rows.{first_said, later_said, may_stand, placed}
 use Rattle.bpf_file.proofs.Names.{and_both}
@@ -23,13 +25,15 @@ use Rattle.bpf_file.proofs.Names.{and_both}
 -- ---- the group of what a line says
 
 abbrev pub said_group : Said → ℕ
-said_group (Version may_grow) = 1
+said_group (Version version) = 1
 said_group (Cpus n) = 2
 said_group (Seed n) = 3
 said_group (Map name h) = 4
-said_group (Program name) = 5
-said_group (Words name digits) = 5
-said_group (Job cpu name steps context) = 6
+said_group (Array name g) = 5
+said_group (Data name at digits) = 6
+said_group (Program name) = 7
+said_group (Words name digits) = 7
+said_group (Job cpu name steps context) = 8
 
 -- no more digits than a context may have
 abbrev pub IsShort : Option (List ℕ) → Type 0
@@ -86,37 +90,56 @@ maps_tell f fields mask grow e =
     numbered f (count_at fields 7 most_count) _ (λ max.
     numbered f (count_at fields 9 most_count) _ (λ spare. (e, tt)))))
 
+arrays_tell : (f : List ℕ) (fields : List (List ℕ)) (per_cpu frozen : Bool) → group_of f ≡ 5 → TellsAll f (array_said fields per_cpu frozen)
+arrays_tell f fields per_cpu frozen e =
+    numbered f (count_at fields 3 most_count) _ (λ value.
+    numbered f (count_at fields 5 most_count) _ (λ max. (e, tt)))
+
 short_at : (ps : List Piece) (fs : List (List ℕ)) (i : ℕ) → has_form ps fs ≡ true → slice_get ps i ≡ Some Context → length (field_at fs i) ≤ 2 * max_context
 short_at ps fs i e h = let d = part_at ps fs i Context e h in grind (arith, nat_tests)
 
 jobs_tell : (f : List ℕ) (fs : List (List ℕ)) → TellsAll f (work_of (f ∷ fs))
 jobs_tell f fs =
-    either f (has_form program_form (f ∷ fs)) _ _ (λ h. (worded key.Program program_form f fs 5 refl refl h, tt))
-    (either f (has_form words_form (f ∷ fs)) _ _ (λ h. (worded key.Program words_form f fs 5 refl refl h, tt))
-    (either f (has_form job_form (f ∷ fs)) _ _ (λ h. (worded key.Job job_form f fs 6 refl refl h, tt))
+    either f (has_form program_form (f ∷ fs)) _ _ (λ h. (worded key.Program program_form f fs 7 refl refl h, tt))
+    (either f (has_form words_form (f ∷ fs)) _ _ (λ h. (worded key.Program words_form f fs 7 refl refl h, tt))
+    (either f (has_form job_form (f ∷ fs)) _ _ (λ h. (worded key.Job job_form f fs 8 refl refl h, tt))
     (either f (has_form (job_form ++ budget_form) (f ∷ fs)) _ _ (λ h.
-    numbered f (count_at (f ∷ fs) 4 MAX_BUDGET) _ (λ n. (worded key.Job (job_form ++ budget_form) f fs 6 refl refl h, tt)))
+    numbered f (count_at (f ∷ fs) 4 MAX_BUDGET) _ (λ n. (worded key.Job (job_form ++ budget_form) f fs 8 refl refl h, tt)))
     (either f (has_form (job_form ++ context_form) (f ∷ fs)) _ _ (λ h.
-    (worded key.Job (job_form ++ context_form) f fs 6 refl refl h, short_at (job_form ++ context_form) (f ∷ fs) 4 h refl))
+    (worded key.Job (job_form ++ context_form) f fs 8 refl refl h, short_at (job_form ++ context_form) (f ∷ fs) 4 h refl))
     (either f (has_form (job_form ++ budget_form ++ context_form) (f ∷ fs)) _ _ (λ h.
     numbered f (count_at (f ∷ fs) 4 MAX_BUDGET) _ (λ n.
-    (worded key.Job (job_form ++ budget_form ++ context_form) f fs 6 refl refl h, short_at (job_form ++ budget_form ++ context_form) (f ∷ fs) 6 h refl)))
+    (worded key.Job (job_form ++ budget_form ++ context_form) f fs 8 refl refl h, short_at (job_form ++ budget_form ++ context_form) (f ∷ fs) 6 h refl)))
     tt)))))
 
-grows_tell : (may_grow : Bool) (f : List ℕ) (fs : List (List ℕ)) → TellsAll f (growing_of may_grow (f ∷ fs))
-grows_tell false f fs = jobs_tell f fs
-grows_tell true f fs =
+all_arrays_tell : (f : List ℕ) (fs : List (List ℕ)) → TellsAll f (arrays_of (f ∷ fs))
+all_arrays_tell f fs =
+    either f (has_form array_form (f ∷ fs)) _ _ (λ h.
+    arrays_tell f (f ∷ fs) false false (worded key.Array array_form f fs 5 refl refl h))
+    (either f (has_form (array_form ++ per_cpu_form) (f ∷ fs)) _ _ (λ h.
+    arrays_tell f (f ∷ fs) true false (worded key.Array (array_form ++ per_cpu_form) f fs 5 refl refl h))
+    (either f (has_form (array_form ++ frozen_form) (f ∷ fs)) _ _ (λ h.
+    arrays_tell f (f ∷ fs) false true (worded key.Array (array_form ++ frozen_form) f fs 5 refl refl h))
+    (either f (has_form (array_form ++ per_cpu_form ++ frozen_form) (f ∷ fs)) _ _ (λ h.
+    arrays_tell f (f ∷ fs) true true (worded key.Array (array_form ++ per_cpu_form ++ frozen_form) f fs 5 refl refl h))
+    (either f (has_form data_form (f ∷ fs)) _ _ (λ h.
+    numbered f (count_at (f ∷ fs) 2 most_count) _ (λ at. (worded key.Data data_form f fs 6 refl refl h, tt)))
+    (jobs_tell f fs)))))
+
+grows_tell : (version : Edition) (f : List ℕ) (fs : List (List ℕ)) → TellsAll f (growing_of version (f ∷ fs))
+grows_tell version f fs =
     either f (has_form growing_map_form (f ∷ fs)) _ _ (λ h.
     maps_tell f (f ∷ fs) (2 ^ 32 - 1) true (worded key.Map growing_map_form f fs 4 refl refl h))
     (either f (has_form growing_masked_map_form (f ∷ fs)) _ _ (λ h.
     numbered f (count_at (f ∷ fs) 11 most_count) _ (λ mask.
     maps_tell f (f ∷ fs) mask true (worded key.Map growing_masked_map_form f fs 4 refl refl h)))
-    (jobs_tell f fs))
+    (either f (has_arrays version) _ _ (λ h. all_arrays_tell f fs) (jobs_tell f fs)))
 
-lines_tell : (may_grow : Bool) (f : List ℕ) (fs : List (List ℕ)) → TellsAll f (statement_of may_grow (f ∷ fs))
-lines_tell may_grow f fs =
+lines_tell : (version : Edition) (f : List ℕ) (fs : List (List ℕ)) → TellsAll f (statement_of version (f ∷ fs))
+lines_tell version f fs =
     either f (has_form version_form (f ∷ fs)) _ _ (λ h. (worded key.RunFile version_form f fs 1 refl refl h, tt))
     (either f (has_form second_version_form (f ∷ fs)) _ _ (λ h. (worded key.RunFile second_version_form f fs 1 refl refl h, tt))
+    (either f (has_form third_version_form (f ∷ fs)) _ _ (λ h. (worded key.RunFile third_version_form f fs 1 refl refl h, tt))
     (either f (has_form cpus_form (f ∷ fs)) _ _ (λ h.
     numbered f (count_at (f ∷ fs) 1 most_count) _ (λ n. (worded key.Cpus cpus_form f fs 2 refl refl h, tt)))
     (either f (has_form seed_form (f ∷ fs)) _ _ (λ h.
@@ -126,7 +149,7 @@ lines_tell may_grow f fs =
     (either f (has_form masked_map_form (f ∷ fs)) _ _ (λ h.
     numbered f (count_at (f ∷ fs) 11 most_count) _ (λ mask.
     maps_tell f (f ∷ fs) mask false (worded key.Map masked_map_form f fs 4 refl refl h)))
-    (grows_tell may_grow f fs))))))
+    (either f (may_grow version) _ _ (λ h. grows_tell version f fs) (jobs_tell f fs))))))))
 
 -- ---- where it may be
 
@@ -154,11 +177,13 @@ before last group n (inr (h, k)) g = omega arith
 no_said : (r : Result Said Reason) (s : Said) → r ≡ Err reason.BadFirstLine → r ≡ Ok s → ⊥
 no_said r s e f = cc
 
-only_version : (r : Result Said LineError) (s : Said) → first_said r ≡ Ok s → (may_grow : Bool) × (s ≡ Version may_grow)
-only_version (Ok (Version may_grow)) s e = (may_grow, cc)
+only_version : (r : Result Said LineError) (s : Said) → first_said r ≡ Ok s → (version : Edition) × (s ≡ Version version)
+only_version (Ok (Version version)) s e = (version, cc)
 only_version (Ok (Cpus c)) s e = absurd (no_said (first_said (Ok (Cpus c))) s refl e)
 only_version (Ok (Seed n)) s e = absurd (no_said (first_said (Ok (Seed n))) s refl e)
 only_version (Ok (Map name h)) s e = absurd (no_said (first_said (Ok (Map name h))) s refl e)
+only_version (Ok (Array name g)) s e = absurd (no_said (first_said (Ok (Array name g))) s refl e)
+only_version (Ok (Data name at digits)) s e = absurd (no_said (first_said (Ok (Data name at digits))) s refl e)
 only_version (Ok (Program name)) s e = absurd (no_said (first_said (Ok (Program name))) s refl e)
 only_version (Ok (Words name digits)) s e = absurd (no_said (first_said (Ok (Words name digits))) s refl e)
 only_version (Ok (Job cpu name steps context)) s e = absurd (no_said (first_said (Ok (Job cpu name steps context))) s refl e)
@@ -191,5 +216,5 @@ placed_comes p f r s tells e = by_first (p.group == 0) refl e
         subst C (sym (only_version r s e).1) (inl (no_group p.group h), tt)
     by_first false h e = by_stand (may_stand p (group_of f)) refl e
 
-pub comes : (p : Part) (f : List ℕ) (fs : List (List ℕ)) (s : Said) → placed p f (statement_of p.may_grow (f ∷ fs)) ≡ Ok s → Comes p s
-comes p f fs s e = placed_comes p f (statement_of p.may_grow (f ∷ fs)) s (lines_tell p.may_grow f fs) e
+pub comes : (p : Part) (f : List ℕ) (fs : List (List ℕ)) (s : Said) → placed p f (statement_of p.version (f ∷ fs)) ≡ Ok s → Comes p s
+comes p f fs s e = placed_comes p f (statement_of p.version (f ∷ fs)) s (lines_tell p.version f fs) e

@@ -1,8 +1,9 @@
 -- The sizes of a file stay in their ranges, and its jobs and programs those of a machine, line by
 -- line.
-use Rattle.std.proofs.Common.{◌≡◌, ℕ, ◌+◌, ◌*◌, ◌<◌, ◌≤◌, ◌==◌, nat_lt, nat_le, add-zero, Bool, true, false, if◌then◌else◌, List, [], ◌∷◌, ◌++◌, length, length-append, append_assoc, append-nil, Option, Some, None, Result, Ok, Err, refl, sym, ap, subst, ◌∙◌, arith}
+use Rattle.std.proofs.Common.{◌≡◌, ℕ, ◌+◌, ◌*◌, ◌/◌, ◌<◌, ◌≤◌, ◌==◌, nat_lt, nat_le, add-zero, Bool, true, false, if◌then◌else◌, List, [], ◌∷◌, ◌++◌, length, length-append, get_or, append_assoc, append-nil, Option, Some, None, Result, Ok, Err, refl, sym, ap, subst, ◌∙◌, arith}
 use Rattle.std.proofs.lemmas.Bool.Decides.{nat_tests}
-use Rattle.std.specs.Prelude.{All, OnOk, MatchResult}
+use Rattle.std.specs.Prelude.{All, OnOk, MatchResult, slice_get}
+use Rattle.std.proofs.lemmas.List.{length-set}
 use Rattle.std.specs.Str.{bytes_eq}
 use Rattle.std.proofs.lemmas.List.Elements.{All-nil, All-cons, All-append}
 use Rattle.hex.specs.Hex.{decode_of}
@@ -14,26 +15,31 @@ use Rattle.bpf_lines.specs.Lines.{lines_of, fields_of}
 use Rattle.std.specs.Option.{option_map}
 use Rattle.hex.specs.declared.error.FromHexError.{FromHexError}
 use Rattle.bpf_shared.specs.First.{first_of}
-use Rattle.bpf_shared.specs.Refusals.{outside, map_tests, maps_tests, shape_tests}
+use Rattle.bpf_shared.specs.Refusals.{outside, map_tests, maps_tests, shape_tests, array_tests, each_array_tests}
+use Rattle.bpf_shared.specs.declared.shapes.ArrayShape.{ArrayShape}
 use Rattle.bpf_shared.specs.declared.shapes.MapShape.{MapShape}
 use Rattle.bpf_shared.specs.declared.shapes.ShapeError.{ShapeError}
-use Rattle.bpf_shared.specs.declared.shapes.ShapeError.TheVariants.{CpuCount, TooManyMaps}
+use Rattle.bpf_shared.specs.declared.shapes.ShapeError.TheVariants.{CpuCount, TooManyMaps, TooManyArrays}
+use Rattle.bpf_loader.specs.declared.named.Named.{Named}
 use Rattle.bpf_loader.specs.Loaded.{Loaded}
+use Rattle.bpf_file.specs.declared.version.Version.{Version as Edition}
 use Rattle.bpf_file.specs.declared.error.FileError.{FileError}
 use Rattle.bpf_file.specs.declared.error.FileError.TheVariants.{Refused}
 use Rattle.bpf_file.specs.declared.error.Reason.{Reason}
 use Rattle.bpf_file.specs.declared.error.Reason.TheVariants as reason
 use Rattle.bpf_file.specs.Form.{is_there}
-use Rattle.bpf_file.specs.Statement.{Said, Version, Cpus, Seed, Map, Program, Words, Job, statement_of}
-use Rattle.bpf_file.specs.File.{File}
-use Rattle.bpf_file.specs.Parts.{Part, State, Between, Within, nothing, place_of, with_first, with_cpus, with_seed, with_map, with_program, with_job}
+use Rattle.bpf_file.specs.Statement.{Said, Version, Cpus, Seed, Map, Array, Data, Program, Words, Job, statement_of}
+use Rattle.bpf_file.specs.File.{File, named_by}
+use Rattle.bpf_file.specs.Contents.{laid}
+use Rattle.bpf_file.specs.Parts.{Part, State, Between, Within, nothing, place_of, array_place, with_first, with_cpus, with_seed, with_map, with_array, with_data, with_program, with_job}
 use Rattle.bpf_file.specs.Programs.{LoadsProgram, OfBytes, OfAssembly, refusal_behind, text_of_lines}
-use Rattle.bpf_file.specs.Rows.{unless, cpus_refusal, map_refusal, program_added, WordsAdd, served, steps_of, context_of, job_added, placed, AddsLine}
+use Rattle.bpf_file.specs.Rows.{unless, cpus_refusal, map_refusal, array_refusal, size_refusal, data_refusal, data_laid, or_refused, data_added, program_added, WordsAdd, served, steps_of, context_of, job_added, placed, AddsLine}
 use Rattle.bpf_file.specs.Reading.{AddsOrRefuses, FieldsSay, is_end, Belongs, ReadsLine, finished, AreRead}
 use Rattle.bpf_file.specs.Runnable.{IsJobFor, CanRun}
 use Rattle.bpf_file.specs.Laws.{FilesCanRun}
 use Rattle.bpf_file.specs.Private.Drafts.{Ends}
 use Rattle.bpf_file.specs.Private.Fits.{IsFit, IsFitState, IsFitResult}
+use Rattle.bpf_file.proofs.Arrays.{arrays_with_new, arrays_with_data}
 use Rattle.bpf_file.proofs.Comes.{IsShort, IsInPlace, Comes, before, comes}
 
 -- ---- tests of maps
@@ -61,34 +67,34 @@ maps_tests-append (g ∷ hs) m h =
 no_work : (f : File) → f.jobs ≡ [] → f.programs ≡ [] → CanRun f
 no_work f e h =
     let J : List Task → Type 0 = λ ts. All (IsJobFor f.cpus (length f.programs)) ts in
-    let M : List Loaded → Type 0 = λ ps. All (λ q. q.maps ≡ length f.maps) ps in
-    record { jobs = subst J (sym e) (All-nil (IsJobFor f.cpus (length f.programs))); maps = subst M (sym h) (All-nil (λ q. q.maps ≡ length f.maps)) }
+    let M : List Loaded → Type 0 = λ ps. All (λ q. q.named ≡ named_by f) ps in
+    record { jobs = subst J (sym e) (All-nil (IsJobFor f.cpus (length f.programs))); named = subst M (sym h) (All-nil (λ q. q.named ≡ named_by f)) }
 
--- loaded for this many maps
-abbrev ForMaps : ℕ → Result Loaded FileError → Type 0
-ForMaps maps (Ok program) = program.maps ≡ maps
-ForMaps maps (Err e) = Unit {0}
+-- loaded for these maps and arrays
+abbrev LoadedFor : Named → Result Loaded FileError → Type 0
+LoadedFor named (Ok program) = program.named ≡ named
+LoadedFor named (Err e) = Unit {0}
 
-loads_for : (line maps : ℕ) (is : List Insn) (o : Result Loaded FileError) → LoadsProgram line maps is o → ForMaps maps o
-loads_for line maps is (Ok program) (e, s) = ap (λ q. q.maps) e
-loads_for line maps is (Err e) l = tt
+loads_for : (line : ℕ) (named : Named) (is : List Insn) (o : Result Loaded FileError) → LoadsProgram line named is o → LoadedFor named o
+loads_for line named is (Ok program) (e, s) = ap (λ q. q.named) e
+loads_for line named is (Err e) l = tt
 
-refused_for : (maps : ℕ) (e : FileError) (o : Result Loaded FileError) → o ≡ Err e → ForMaps maps o
-refused_for maps e o h = subst (ForMaps maps) (sym h) tt
+refused_for : (named : Named) (e : FileError) (o : Result Loaded FileError) → o ≡ Err e → LoadedFor named o
+refused_for named e o h = subst (LoadedFor named) (sym h) tt
 
-insns_for : {E : Type 0} (line maps : ℕ) (why : E → FileError) (is : Result (List Insn) E) (o : Result Loaded FileError) → MatchResult is (λ js. LoadsProgram line maps js o) (λ e. o ≡ Err (why e)) → ForMaps maps o
-insns_for line maps why (Ok js) o l = loads_for line maps js o l
-insns_for line maps why (Err e) o h = refused_for maps (why e) o h
+insns_for : {E : Type 0} (line : ℕ) (named : Named) (why : E → FileError) (is : Result (List Insn) E) (o : Result Loaded FileError) → MatchResult is (λ js. LoadsProgram line named js o) (λ e. o ≡ Err (why e)) → LoadedFor named o
+insns_for line named why (Ok js) o l = loads_for line named js o l
+insns_for line named why (Err e) o h = refused_for named (why e) o h
 
-bytes_for : (line maps : ℕ) (bytes : List ℕ) (o : Result Loaded FileError) → OfBytes line maps bytes o → ForMaps maps o
-bytes_for line maps bytes o (is, d, l) = insns_for line maps (λ e. Refused line (reason.Insn e)) is o l
+bytes_for : (line : ℕ) (named : Named) (bytes : List ℕ) (o : Result Loaded FileError) → OfBytes line named bytes o → LoadedFor named o
+bytes_for line named bytes o (is, d, l) = insns_for line named (λ e. Refused line (reason.Insn e)) is o l
 
-digits_for : (line maps : ℕ) (d : Result (List ℕ) FromHexError) (o : Result Loaded FileError) → MatchResult d (λ bytes. OfBytes line maps bytes o) (λ e. o ≡ Err (Refused line reason.NotHex)) → ForMaps maps o
-digits_for line maps (Ok bytes) o l = bytes_for line maps bytes o l
-digits_for line maps (Err e) o h = refused_for maps (Refused line reason.NotHex) o h
+digits_for : (line : ℕ) (named : Named) (d : Result (List ℕ) FromHexError) (o : Result Loaded FileError) → MatchResult d (λ bytes. OfBytes line named bytes o) (λ e. o ≡ Err (Refused line reason.NotHex)) → LoadedFor named o
+digits_for line named (Ok bytes) o l = bytes_for line named bytes o l
+digits_for line named (Err e) o h = refused_for named (Refused line reason.NotHex) o h
 
-assembly_for : (line maps : ℕ) (text : List ℕ) (o : Result Loaded FileError) → OfAssembly line maps text o → ForMaps maps o
-assembly_for line maps text o (is, a, l) = insns_for line maps (refusal_behind line) is o l
+assembly_for : (line : ℕ) (named : Named) (text : List ℕ) (o : Result Loaded FileError) → OfAssembly line named text o → LoadedFor named o
+assembly_for line named text o (is, a, l) = insns_for line named (refusal_behind line) is o l
 
 served_below : (cpus : ℕ) (o : Option ℕ) (c : ℕ) → served cpus o ≡ Some c → c < cpus
 served_below cpus None c e = cc
@@ -118,8 +124,12 @@ fit_nothing = record {
   cpus = refl;
   count = refl;
   maps = refl;
+  array_count = refl;
+  arrays = refl;
+  contents = refl;
   titles = refl;
   runs = no_work nothing.file refl refl;
+  no_arrays = λ h. refl;
   no_programs = λ h. refl;
   no_jobs = λ h. refl;
 }
@@ -136,47 +146,64 @@ cpus_in_range false e = refl
 abbrev IsIdle : Part → Type 0
 IsIdle p = (p.file.jobs ≡ []) × (p.file.programs ≡ [])
 
-idle : (p : Part) (group : ℕ) → IsFit p → IsInPlace p.group group → group < 5 → IsIdle p
-idle p group f h g = (f.no_jobs (before p.group group 6 h (omega arith)), f.no_programs (before p.group group 5 h g))
+idle : (p : Part) (group : ℕ) → IsFit p → IsInPlace p.group group → group < 7 → IsIdle p
+idle p group f h g = (f.no_jobs (before p.group group 8 h (omega arith)), f.no_programs (before p.group group 7 h g))
 
-fit_first : (p : Part) (may_grow : Bool) → IsFit p → IsIdle p → IsFit (with_first p may_grow)
-fit_first p may_grow f i = record {
+no_arrays_at : (p : Part) (group : ℕ) → IsFit p → IsInPlace p.group group → group < 5 → p.file.arrays ≡ []
+no_arrays_at p group f h g = f.no_arrays (before p.group group 5 h g)
+
+fit_first : (p : Part) (version : Edition) → IsFit p → IsIdle p → p.file.arrays ≡ [] → IsFit (with_first p version)
+fit_first p version f i a = record {
   cpus = f.cpus;
   count = f.count;
   maps = f.maps;
+  array_count = f.array_count;
+  arrays = f.arrays;
+  contents = f.contents;
   titles = f.titles;
   runs = f.runs;
+  no_arrays = λ h. a;
   no_programs = λ h. i.1;
   no_jobs = λ h. i.0;
 }
 
-fit_cpus : (p : Part) (c : ℕ) → IsFit p → IsIdle p → cpus_refusal c ≡ None → IsFit (with_cpus p c)
-fit_cpus p c f i e = record {
-  cpus = cpus_in_range (outside 1 16 c) e;
-  count = f.count;
-  maps = f.maps;
-  titles = f.titles;
-  runs = no_work (with_cpus p c).file i.0 i.1;
-  no_programs = λ h. i.1;
-  no_jobs = λ h. i.0;
-}
+fit_cpus : (p : Part) (c : ℕ) → IsFit p → IsIdle p → p.file.arrays ≡ [] → cpus_refusal c ≡ None → IsFit (with_cpus p c)
+fit_cpus p c f i a e =
+    let A : List ArrayShape → Type 0 = λ gs. first_of (each_array_tests c p.file.contents 0 gs) ≡ None in
+    record {
+      cpus = cpus_in_range (outside 1 16 c) e;
+      count = f.count;
+      maps = f.maps;
+      array_count = f.array_count;
+      arrays = subst A (sym a) refl;
+      contents = f.contents;
+      titles = f.titles;
+      runs = no_work (with_cpus p c).file i.0 i.1;
+      no_arrays = λ h. a;
+      no_programs = λ h. i.1;
+      no_jobs = λ h. i.0;
+    }
 
-fit_seed : (p : Part) (s : ℕ) → IsFit p → IsIdle p → IsFit (with_seed p s)
-fit_seed p s f i = record {
+fit_seed : (p : Part) (s : ℕ) → IsFit p → IsIdle p → p.file.arrays ≡ [] → IsFit (with_seed p s)
+fit_seed p s f i a = record {
   cpus = f.cpus;
   count = f.count;
   maps = f.maps;
+  array_count = f.array_count;
+  arrays = f.arrays;
+  contents = f.contents;
   titles = f.titles;
   runs = no_work (with_seed p s).file i.0 i.1;
+  no_arrays = λ h. a;
   no_programs = λ h. i.1;
   no_jobs = λ h. i.0;
 }
 
-map_passes : (named full : Bool) (o : Option ShapeError) → (if named then Some reason.TwiceName else (if full then Some (reason.Shape TooManyMaps) else option_map reason.Shape o)) ≡ None → (full ≡ false) × (o ≡ None)
-map_passes true full o e = cc
-map_passes false true o e = cc
-map_passes false false None e = (refl, refl)
-map_passes false false (Some x) e = cc
+one_passes : (named full : Bool) (many : ShapeError) (o : Option ShapeError) → (if named then Some reason.TwiceName else (if full then Some (reason.Shape many) else option_map reason.Shape o)) ≡ None → (full ≡ false) × (o ≡ None)
+one_passes true full many o e = cc
+one_passes false true many o e = cc
+one_passes false false many None e = (refl, refl)
+one_passes false false many (Some x) e = cc
 
 one_more : (n m : ℕ) → nat_le 16 n ≡ false → m ≡ n + 1 → nat_lt 16 m ≡ false
 one_more n m e h = grind (arith, nat_tests)
@@ -184,51 +211,116 @@ one_more n m e h = grind (arith, nat_tests)
 from_zero : (n : ℕ) → 0 + n ≡ n
 from_zero n = omega arith
 
-fit_map : (p : Part) (name : List ℕ) (h : MapShape) → IsFit p → IsIdle p → map_refusal p name h ≡ None → IsFit (with_map p name h)
-fit_map p name h f i e =
-    let passed = map_passes (is_there (place_of name p.file.names)) (nat_le 16 (length p.file.maps)) (first_of (map_tests (length p.file.maps) h)) e in
+fit_map : (p : Part) (name : List ℕ) (h : MapShape) → IsFit p → IsIdle p → p.file.arrays ≡ [] → map_refusal p name h ≡ None → IsFit (with_map p name h)
+fit_map p name h f i a e =
+    let passed = one_passes (is_there (place_of name p.file.names)) (nat_le 16 (length p.file.maps)) TooManyMaps (first_of (map_tests (length p.file.maps) h)) e in
     record {
       cpus = f.cpus;
       count = one_more (length p.file.maps) (length (p.file.maps ++ h ∷ [])) passed.0 (length-append p.file.maps (h ∷ []));
       maps = ap first_of (maps_tests-append p.file.maps 0 h)
           ∙ ap (λ k. first_of (maps_tests 0 p.file.maps ++ map_tests k h)) (from_zero (length p.file.maps))
           ∙ first_of-append (maps_tests 0 p.file.maps) (map_tests (length p.file.maps) h) f.maps passed.1;
+      array_count = f.array_count;
+      arrays = f.arrays;
+      contents = f.contents;
       titles = f.titles;
       runs = no_work (with_map p name h).file i.0 i.1;
+      no_arrays = λ h. a;
       no_programs = λ h. i.1;
       no_jobs = λ h. i.0;
     }
+
+fit_array : (p : Part) (name : List ℕ) (g : ArrayShape) → IsFit p → IsIdle p → array_refusal p name g ≡ None → IsFit (with_array p name g)
+fit_array p name g f i e =
+    let passed = one_passes (is_there (place_of name p.file.names)) (nat_le 16 (length p.file.arrays)) TooManyArrays (first_of (array_tests p.file.cpus 0 (length p.file.arrays) g)) e in
+    let more = length-append p.file.arrays (g ∷ []) in
+    let bytes = length-append p.file.contents ([] ∷ []) in
+    record {
+      cpus = f.cpus;
+      count = f.count;
+      maps = f.maps;
+      array_count = one_more (length p.file.arrays) (length (p.file.arrays ++ g ∷ [])) passed.0 more;
+      arrays = arrays_with_new p.file.cpus p.file.contents p.file.arrays g f.contents f.arrays passed.1;
+      contents = let counted = f.contents in omega (arith, more, bytes, counted);
+      titles = f.titles;
+      runs = no_work (with_array p name g).file i.0 i.1;
+      no_arrays = λ h. absurd (omega arith);
+      no_programs = λ h. i.1;
+      no_jobs = λ h. i.0;
+    }
+
+fit_laid : (p : Part) (a at filled : ℕ) (bytes : List ℕ) → filled ≡ at + length bytes → IsFit p → IsIdle p → data_refusal p.file a filled ≡ None → IsFit (with_data p a at bytes)
+fit_laid p a at filled bytes counted f i e = by_array (slice_get p.file.arrays a) refl e
+  where
+    none_passes : (o : Option ShapeError) → option_map reason.Shape o ≡ None → o ≡ None
+    none_passes None e = refl
+    none_passes (Some x) e = cc
+
+    by_array : (o : Option ArrayShape) → slice_get p.file.arrays a ≡ o → size_refusal p.file.cpus filled a o ≡ None → IsFit (with_data p a at bytes)
+    by_array None h e = cc
+    by_array (Some g) h e = record {
+      cpus = f.cpus;
+      count = f.count;
+      maps = f.maps;
+      array_count = f.array_count;
+      arrays = arrays_with_data p.file.cpus p.file.contents p.file.arrays a g at filled bytes f.contents f.arrays h counted (none_passes _ e);
+      contents = length-set p.file.contents a (laid (get_or p.file.contents a []) at bytes) ∙ f.contents;
+      titles = f.titles;
+      runs = no_work (with_data p a at bytes).file i.0 i.1;
+      no_arrays = λ h. absurd (omega arith);
+      no_programs = λ h. i.1;
+      no_jobs = λ h. i.0;
+    }
+
+fit_data : (n : ℕ) (p : Part) (k : Option ℕ) (at : ℕ) (digits : List ℕ) → IsFit p → IsIdle p → IsFitResult (data_added n p k at digits)
+fit_data n p None at digits f i = tt
+fit_data n p (Some a) at digits f i = by_refusal (data_refusal p.file a (at + length digits / 2)) refl
+  where
+    by_digits : (d : Result (List ℕ) FromHexError) → decode_of digits ≡ d → data_refusal p.file a (at + length digits / 2) ≡ None → IsFitResult (data_laid n p a at d)
+    by_digits (Ok bytes) h e =
+        let sizes = decode_of-ok digits bytes h in
+        let twice : length digits ≡ 2 * length bytes = sizes.2 in
+        fit_laid p a at (at + length digits / 2) bytes (ap (λ m. at + m / 2) twice ∙ omega arith) f i e
+    by_digits (Err x) h e = tt
+
+    by_refusal : (o : Option Reason) → data_refusal p.file a (at + length digits / 2) ≡ o → IsFitResult (or_refused n o (data_laid n p a at (decode_of digits)))
+    by_refusal None e = by_digits (decode_of digits) refl e
+    by_refusal (Some why) e = tt
 
 fit_new : (b : Bool) (n : ℕ) (r : Result State FileError) → IsFitResult r → IsFitResult (if b then Err (Refused n reason.TwiceName) else r)
 fit_new true n r f = tt
 fit_new false n r f = f
 
-fit_loaded : (p : Part) (name : List ℕ) (program : Loaded) → program.maps ≡ length p.file.maps → IsFit p → p.file.jobs ≡ [] → IsFit (with_program p name program)
+fit_loaded : (p : Part) (name : List ℕ) (program : Loaded) → program.named ≡ named_by p.file → IsFit p → p.file.jobs ≡ [] → IsFit (with_program p name program)
 fit_loaded p name program e f j =
     let q = with_program p name program in
-    let M : Loaded → Type 0 = λ x. x.maps ≡ length p.file.maps in
+    let M : Loaded → Type 0 = λ x. x.named ≡ named_by p.file in
     let J : List Task → Type 0 = λ ts. All (IsJobFor q.file.cpus (length q.file.programs)) ts in
     record {
       cpus = f.cpus;
       count = f.count;
       maps = f.maps;
+      array_count = f.array_count;
+      arrays = f.arrays;
+      contents = f.contents;
       titles = let a = length-append p.titles (name ∷ []) in let b = length-append p.file.programs (program ∷ []) in let c = f.titles in omega (arith, a, b, c);
       runs = record {
         jobs = subst J (sym j) (All-nil (IsJobFor q.file.cpus (length q.file.programs)));
-        maps = All-append M p.file.programs (program ∷ []) f.runs.maps (All-cons M program [] e (All-nil M));
+        named = All-append M p.file.programs (program ∷ []) f.runs.named (All-cons M program [] e (All-nil M));
       };
+      no_arrays = λ h. absurd (omega arith);
       no_programs = λ h. absurd (omega arith);
       no_jobs = λ h. j;
     }
 
-fit_program : (p : Part) (name : List ℕ) (o : Result Loaded FileError) → ForMaps (length p.file.maps) o → IsFit p → p.file.jobs ≡ [] → IsFitResult (program_added p name o)
+fit_program : (p : Part) (name : List ℕ) (o : Result Loaded FileError) → LoadedFor (named_by p.file) o → IsFit p → p.file.jobs ≡ [] → IsFitResult (program_added p name o)
 fit_program p name (Ok program) e f j = fit_loaded p name program e f j
 fit_program p name (Err x) e f j = tt
 
 fit_words : (k : Option ℕ) (n : ℕ) (p : Part) (name digits : List ℕ) (r : Result State FileError) → WordsAdd k n p name digits r → IsFit p → p.file.jobs ≡ [] → IsFitResult r
 fit_words (Some k) n p name digits r e f j = subst IsFitResult (sym e) tt
 fit_words None n p name digits r (o, of, e) f j =
-    subst IsFitResult (sym e) (fit_program p name o (digits_for n (length p.file.maps) (decode_of digits) o of) f j)
+    subst IsFitResult (sym e) (fit_program p name o (digits_for n (named_by p.file) (decode_of digits) o of) f j)
 
 fit_listed : (p : Part) (task : Task) → IsJobFor p.file.cpus (length p.file.programs) task → IsFit p → IsFit (with_job p task)
 fit_listed p task t f =
@@ -237,11 +329,15 @@ fit_listed p task t f =
       cpus = f.cpus;
       count = f.count;
       maps = f.maps;
+      array_count = f.array_count;
+      arrays = f.arrays;
+      contents = f.contents;
       titles = f.titles;
       runs = record {
         jobs = All-append P p.file.jobs (task ∷ []) f.runs.jobs (All-cons P task [] t (All-nil P));
-        maps = f.runs.maps;
+        named = f.runs.named;
       };
+      no_arrays = λ h. absurd (omega arith);
       no_programs = λ h. absurd (omega arith);
       no_jobs = λ h. absurd (omega arith);
     }
@@ -257,15 +353,17 @@ fit_job n p (Some c) None steps context hc hk hb f = tt
 fit_job n p None k steps context hc hk hb f = tt
 
 adds_fit : (n : ℕ) (p : Part) (s : Said) (r : Result State FileError) → AddsLine n p s r → Comes p s → IsFit p → IsFitResult r
-adds_fit n p (Version may_grow) r e c f = subst IsFitResult (sym e) (fit_first p may_grow f (idle p 1 f c.0 (omega arith)))
-adds_fit n p (Cpus k) r e c f = subst IsFitResult (sym e) (fit_unless n (cpus_refusal k) _ (fit_cpus p k f (idle p 2 f c.0 (omega arith))))
-adds_fit n p (Seed s) r e c f = subst IsFitResult (sym e) (fit_seed p s f (idle p 3 f c.0 (omega arith)))
-adds_fit n p (Map name h) r e c f = subst IsFitResult (sym e) (fit_unless n (map_refusal p name h) _ (fit_map p name h f (idle p 4 f c.0 (omega arith))))
+adds_fit n p (Version version) r e c f = subst IsFitResult (sym e) (fit_first p version f (idle p 1 f c.0 (omega arith)) (no_arrays_at p 1 f c.0 (omega arith)))
+adds_fit n p (Cpus k) r e c f = subst IsFitResult (sym e) (fit_unless n (cpus_refusal k) _ (fit_cpus p k f (idle p 2 f c.0 (omega arith)) (no_arrays_at p 2 f c.0 (omega arith))))
+adds_fit n p (Seed s) r e c f = subst IsFitResult (sym e) (fit_seed p s f (idle p 3 f c.0 (omega arith)) (no_arrays_at p 3 f c.0 (omega arith)))
+adds_fit n p (Map name h) r e c f = subst IsFitResult (sym e) (fit_unless n (map_refusal p name h) _ (fit_map p name h f (idle p 4 f c.0 (omega arith)) (no_arrays_at p 4 f c.0 (omega arith))))
+adds_fit n p (Array name g) r e c f = subst IsFitResult (sym e) (fit_unless n (array_refusal p name g) _ (fit_array p name g f (idle p 5 f c.0 (omega arith))))
+adds_fit n p (Data name at digits) r e c f = subst IsFitResult (sym e) (fit_data n p (array_place p.file name) at digits f (idle p 6 f c.0 (omega arith)))
 adds_fit n p (Program name) r e c f =
     subst IsFitResult (sym e) (fit_new (is_there (place_of name p.titles)) n (Ok (Within p n name []))
-    (f, f.no_jobs (before p.group 5 6 c.0 (omega arith))))
+    (f, f.no_jobs (before p.group 7 8 c.0 (omega arith))))
 adds_fit n p (Words name digits) r w c f =
-    fit_words (place_of name p.titles) n p name digits r w f (f.no_jobs (before p.group 5 6 c.0 (omega arith)))
+    fit_words (place_of name p.titles) n p name digits r w f (f.no_jobs (before p.group 7 8 c.0 (omega arith)))
 adds_fit n p (Job cpu name steps context) r e c f =
     subst IsFitResult (sym e)
     (fit_job n p (served p.file.cpus cpu) (place_of name p.titles) (steps_of steps) (context_of context)
@@ -278,7 +376,7 @@ says_fit n p (Err why) r e c f = subst IsFitResult (sym e) tt
 fields_fit : (n : ℕ) (p : Part) (fs : List (List ℕ)) (r : Result State FileError) → FieldsSay n p fs r → IsFit p → IsFitResult r
 fields_fit n p [] r e f = subst IsFitResult (sym e) f
 fields_fit n p (g ∷ gs) r a f =
-    says_fit n p (placed p g (statement_of p.may_grow (g ∷ gs))) r a (λ s e. comes p g gs s e) f
+    says_fit n p (placed p g (statement_of p.version (g ∷ gs))) r a (λ s e. comes p g gs s e) f
 
 -- ---- as the reader meets them
 
@@ -290,7 +388,7 @@ opening_fits n p q fs name a f = fields_fit n p fs (Ok (Within q n name [])) a f
 
 pub section_fits : (line : ℕ) (p q : Part) (name text : List ℕ) → Ends line p name text (Ok (Between q)) → IsFitState (Within p line name []) → IsFit q
 section_fits line p q name text (o, of, e) (f, j) =
-    let F : IsFitResult (Ok (Between q)) = subst IsFitResult (sym e) (fit_program p name o (assembly_for line (length p.file.maps) text o of) f j) in F
+    let F : IsFitResult (Ok (Between q)) = subst IsFitResult (sym e) (fit_program p name o (assembly_for line (named_by p.file) text o of) f j) in F
 
 -- after one answer, and then another
 pub then_fits : {X : Type 0} (r : Result X FileError) (P Q S : Type 0) → (P → Q) → OnOk r (Q → S) → OnOk r (P → S)
@@ -301,7 +399,7 @@ then_fits (Err e) P Q S f g = g
 
 belongs_fit : (end : Bool) (p : Part) (from : ℕ) (name : List ℕ) (ls : List (List ℕ)) (l : List ℕ) (r : Result State FileError) → Belongs end p from name ls l r → IsFit p → p.file.jobs ≡ [] → IsFitResult r
 belongs_fit true p from name ls l r (o, of, e) f j =
-    subst IsFitResult (sym e) (fit_program p name o (assembly_for from (length p.file.maps) (text_of_lines ls) o of) f j)
+    subst IsFitResult (sym e) (fit_program p name o (assembly_for from (named_by p.file) (text_of_lines ls) o of) f j)
 belongs_fit false p from name ls l r e f j = subst IsFitResult (sym e) (f, j)
 
 reads_fit : (n : ℕ) (s : State) (l : List ℕ) (r : Result State FileError) → ReadsLine n s l r → IsFitState s → IsFitResult r

@@ -4,6 +4,7 @@ pub mod Cutting
 pub mod Sections
 pub mod Names
 pub mod Comes
+pub mod Arrays
 pub mod Fits
 pub mod Progress
 pub mod Runs

@@ -7,9 +7,9 @@ use Rattle.std.proofs.lemmas.Str.{IsUtf8-from_ascii}
 use Rattle.std.proofs.lemmas.Str.Ascii.{IsAscii-nil}
 use Rattle.bpf_lines.specs.Words.{is_word_byte, is_word, is_name}
 use Rattle.bpf_file.specs.declared.form.Part.{Part}
-use Rattle.bpf_file.specs.declared.form.Part.TheVariants.{Word, Name, Number}
+use Rattle.bpf_file.specs.declared.form.Part.TheVariants.{Word, Name, Number, Words}
 use Rattle.bpf_file.specs.declared.key.Key.TheVariants as key
-use Rattle.bpf_file.specs.Form.{is_part, has_form, field_at, map_form, masked_map_form, growing_map_form, growing_masked_map_form}
+use Rattle.bpf_file.specs.Form.{is_part, has_form, field_at, map_form, masked_map_form, growing_map_form, growing_masked_map_form, array_form, per_cpu_form, frozen_form, data_form}
 
 pub and_both : (a b : Bool) → (a && b) ≡ true → (a ≡ true) × (b ≡ true)
 and_both true b e = (refl, e)
@@ -64,3 +64,22 @@ growing_map_named fs e = named_field (Word key.Map) (sizes ++ Word key.Grow ∷ 
 
 pub growing_masked_map_named : (fs : List (List ℕ)) → has_form growing_masked_map_form fs ≡ true → IsUtf8 (field_at fs 1)
 growing_masked_map_named fs e = named_field (Word key.Map) (sizes ++ Word key.Mask ∷ Number ∷ Word key.Grow ∷ []) fs e
+
+-- after an array's name
+abbrev array_sizes : List Part
+array_sizes = Word key.ValueSize ∷ Number ∷ Word key.Max ∷ Number ∷ []
+
+pub array_named : (fs : List (List ℕ)) → has_form array_form fs ≡ true → IsUtf8 (field_at fs 1)
+array_named fs e = named_field (Word key.Array) array_sizes fs e
+
+pub per_cpu_named : (fs : List (List ℕ)) → has_form (array_form ++ per_cpu_form) fs ≡ true → IsUtf8 (field_at fs 1)
+per_cpu_named fs e = named_field (Word key.Array) (array_sizes ++ Word key.PerCpu ∷ []) fs e
+
+pub frozen_named : (fs : List (List ℕ)) → has_form (array_form ++ frozen_form) fs ≡ true → IsUtf8 (field_at fs 1)
+frozen_named fs e = named_field (Word key.Array) (array_sizes ++ Word key.Frozen ∷ []) fs e
+
+pub frozen_per_cpu_named : (fs : List (List ℕ)) → has_form (array_form ++ per_cpu_form ++ frozen_form) fs ≡ true → IsUtf8 (field_at fs 1)
+frozen_per_cpu_named fs e = named_field (Word key.Array) (array_sizes ++ Word key.PerCpu ∷ Word key.Frozen ∷ []) fs e
+
+pub data_named : (fs : List (List ℕ)) → has_form data_form fs ≡ true → IsUtf8 (field_at fs 1)
+data_named fs e = named_field (Word key.Data) (Number ∷ Words ∷ []) fs e

@@ -1,5 +1,5 @@
--- What is printed of a line of a run file, after the line: L1 to L6, S1 to S6, H1, and the A and E
--- codes of its programs. Our own choice.
+-- What is printed of a line of a run file, after the line: L1 to L6, S1 to S6, S8 to S12, H1, and
+-- the A and E codes of its programs. Our own choice.
 use Rattle.bpf_codes.specs.declared.code.Code.TheVariants as code
 use Rattle.bpf_codes.specs.declared.diagnostic.Diagnostic.{Diagnostic}
 use Rattle.bpf_codes.specs.Diagnostic.{nowhere}

@@ -1,17 +1,25 @@
--- What a run file says: CPUs, maps, programs and jobs (our own choice).
+-- What a run file says: CPUs, maps, arrays, programs and jobs (our own choice).
 use Rattle.std.specs.Prelude.{ℕ, List, map, string_bytes}
+use Rattle.bpf_shared.specs.declared.shapes.ArrayShape.{ArrayShape}
 use Rattle.bpf_shared.specs.declared.shapes.MapShape.{MapShape}
+use Rattle.bpf_shared.specs.Shape.{Shape}
+use Rattle.bpf_loader.specs.declared.named.Named.{Named}
 use Rattle.bpf_loader.specs.Loaded.{Loaded}
+use Rattle.bpf_cpu.specs.Setup.{named_in}
 use Rattle.bpf_cpu.specs.Task.{Task, waiting}
 use Rattle.bpf_file.specs.declared.file.RunFile.{RunFile}
 
--- how many CPUs there are, the seed of the maps' hashes, the maps' names and shapes by their
--- numbers, the programs by theirs, and the jobs, which all wait
+-- how many CPUs there are; the seed of the maps' hashes; the names of the maps by their numbers,
+-- and after them those of the arrays; the shapes of both; by array the bytes that it has at first,
+-- from its first value on, which zeros follow; the programs by their numbers; and the jobs, which
+-- all wait
 pub record File : Type 0 where
   pub cpus : ℕ
   pub seed : ℕ
   pub names : List (List ℕ)
   pub maps : List MapShape
+  pub arrays : List ArrayShape
+  pub contents : List (List ℕ)
   pub programs : List Loaded
   pub jobs : List Task
 
@@ -22,6 +30,21 @@ file_of f = record {
   seed = f.seed;
   names = map string_bytes f.names.items;
   maps = f.setup.shape.maps;
+  arrays = f.setup.shape.arrays;
+  contents = f.setup.shape.contents;
   programs = f.setup.programs.items;
   jobs = map waiting f.setup.jobs.items;
 }
+
+-- the shape of its store
+abbrev pub shape_of : File → Shape
+shape_of f = record {
+  cpus = f.cpus;
+  maps = f.maps;
+  arrays = f.arrays;
+  contents = f.contents;
+}
+
+-- what its programs may name
+abbrev pub named_by : File → Named
+named_by f = named_in (shape_of f)

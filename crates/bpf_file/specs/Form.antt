@@ -42,6 +42,10 @@ version_form = Word key.RunFile ∷ Word key.One ∷ []
 abbrev pub second_version_form : List Part
 second_version_form = Word key.RunFile ∷ Word key.Two ∷ []
 
+-- `ebpf-run 3`
+abbrev pub third_version_form : List Part
+third_version_form = Word key.RunFile ∷ Word key.Three ∷ []
+
 -- `cpus N`
 abbrev pub cpus_form : List Part
 cpus_form = Word key.Cpus ∷ Number ∷ []
@@ -59,12 +63,27 @@ map_form =
 abbrev pub masked_map_form : List Part
 masked_map_form = map_form ++ Word key.Mask ∷ Number ∷ []
 
--- in version 2 also with `grow` after that
+-- from version 2 on also with `grow` after that
 abbrev pub growing_map_form : List Part
 growing_map_form = map_form ++ Word key.Grow ∷ []
 
 abbrev pub growing_masked_map_form : List Part
 growing_masked_map_form = masked_map_form ++ Word key.Grow ∷ []
+
+-- in version 3: `array NAME value V max M`, with `percpu`, `frozen`, or both after it
+abbrev pub array_form : List Part
+array_form =
+    Word key.Array ∷ Name ∷ Word key.ValueSize ∷ Number ∷ Word key.Max ∷ Number ∷ []
+
+abbrev pub per_cpu_form : List Part
+per_cpu_form = Word key.PerCpu ∷ []
+
+abbrev pub frozen_form : List Part
+frozen_form = Word key.Frozen ∷ []
+
+-- in version 3: `data NAME AT DIGITS`
+abbrev pub data_form : List Part
+data_form = Word key.Data ∷ Name ∷ Number ∷ Words ∷ []
 
 -- `prog NAME`, and `prog NAME hex DIGITS`
 abbrev pub program_form : List Part

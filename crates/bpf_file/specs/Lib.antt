@@ -1,8 +1,10 @@
 pub mod Limits
 pub mod Key
 pub mod Form
+pub mod Version
 pub mod Statement
 pub mod File
+pub mod Contents
 pub mod Parts
 pub mod Programs
 pub mod Rows

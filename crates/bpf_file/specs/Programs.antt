@@ -10,18 +10,20 @@ use Rattle.bpf_text.specs.declared.error.TextError.{TextError}
 use Rattle.bpf_text.specs.declared.error.TextError.TheVariants as text
 use Rattle.bpf_text.specs.Assembly.{Assembles}
 use Rattle.bpf_loader.specs.declared.refusal.LoadError.{LoadError}
+use Rattle.bpf_loader.specs.declared.named.Named.{Named}
 use Rattle.bpf_loader.specs.Loaded.{Loaded}
 use Rattle.bpf_loader.specs.Sound.{IsSound, IsFirstRefusal}
 use Rattle.bpf_file.specs.declared.error.FileError.{FileError}
 use Rattle.bpf_file.specs.declared.error.FileError.TheVariants.{Refused, OutOfMemory}
 use Rattle.bpf_file.specs.declared.error.Reason.TheVariants as reason
 
--- the program of these instructions, for this many maps; or its first refusal, at this line
-abbrev pub LoadsProgram : ℕ → ℕ → List Insn → Result Loaded FileError → Type 0
-LoadsProgram line maps is (Ok program) =
-    (program ≡ record { instructions = is; maps = maps }) × IsSound maps is
-LoadsProgram line maps is (Err e) =
-    (why : LoadError) × (e ≡ Refused line (reason.Load why)) × IsFirstRefusal maps is why
+-- the program of these instructions, where these maps and arrays may be named; or its first
+-- refusal, at this line
+abbrev pub LoadsProgram : ℕ → Named → List Insn → Result Loaded FileError → Type 0
+LoadsProgram line named is (Ok program) =
+    (program ≡ record { instructions = is; named = named }) × IsSound named is
+LoadsProgram line named is (Err e) =
+    (why : LoadError) × (e ≡ Refused line (reason.Load why)) × IsFirstRefusal named is why
 
 -- ---- as hex digits
 
@@ -30,16 +32,16 @@ abbrev pub Decodes : List ℕ → Result (List Insn) InsnError → Type 0
 Decodes bytes (Ok is) = IsSized bytes × IsEncodedAs is bytes
 Decodes bytes (Err e) = IsRefused e bytes × (e ≢ insn.OutOfMemory)
 
-abbrev pub OfBytes : ℕ → ℕ → List ℕ → Result Loaded FileError → Type 0
-OfBytes line maps bytes r =
+abbrev pub OfBytes : ℕ → Named → List ℕ → Result Loaded FileError → Type 0
+OfBytes line named bytes r =
     (o : Result (List Insn) InsnError) × Decodes bytes o
-    × MatchResult o (λ is. LoadsProgram line maps is r)
+    × MatchResult o (λ is. LoadsProgram line named is r)
     (λ e. r ≡ Err (Refused line (reason.Insn e)))
 
 -- the program in this line's digits; or its refusal
-abbrev pub OfDigits : ℕ → ℕ → List ℕ → Result Loaded FileError → Type 0
-OfDigits line maps digits r =
-    MatchResult (decode_of digits) (λ bytes. OfBytes line maps bytes r)
+abbrev pub OfDigits : ℕ → Named → List ℕ → Result Loaded FileError → Type 0
+OfDigits line named digits r =
+    MatchResult (decode_of digits) (λ bytes. OfBytes line named bytes r)
     (λ e. r ≡ Err (Refused line reason.NotHex))
 
 -- ---- as assembly
@@ -60,7 +62,7 @@ refusal_behind line text.OutOfMemory = OutOfMemory
 
 -- the program in the assembly after this line; or its refusal: of the first line that has one,
 -- or else of the whole program, at the line of its `prog`
-abbrev pub OfAssembly : ℕ → ℕ → List ℕ → Result Loaded FileError → Type 0
-OfAssembly line maps assembly r =
+abbrev pub OfAssembly : ℕ → Named → List ℕ → Result Loaded FileError → Type 0
+OfAssembly line named assembly r =
     (o : Result (List Insn) TextError) × Assembles assembly o
-    × MatchResult o (λ is. LoadsProgram line maps is r) (λ e. r ≡ Err (refusal_behind line e))
+    × MatchResult o (λ is. LoadsProgram line named is r) (λ e. r ≡ Err (refusal_behind line e))

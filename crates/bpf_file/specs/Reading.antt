@@ -1,6 +1,6 @@
 -- The relation between a text and the run file that it is, line by line (our own choice). A line
 -- that is refused is the first; after it nothing counts.
-use Rattle.std.specs.Prelude.{◌≡◌, ℕ, ◌+◌, ◌==◌, Bool, true, false, if◌then◌else◌, List, [], ◌∷◌, ◌++◌, length, Result, Ok, Err, MatchResult}
+use Rattle.std.specs.Prelude.{◌≡◌, ℕ, ◌+◌, ◌==◌, Bool, true, false, if◌then◌else◌, List, [], ◌∷◌, ◌++◌, Result, Ok, Err, MatchResult}
 use Rattle.bpf_lines.specs.Lines.{lines_of, fields_of}
 use Rattle.bpf_loader.specs.Loaded.{Loaded}
 use Rattle.bpf_file.specs.declared.error.FileError.{FileError}
@@ -10,7 +10,7 @@ use Rattle.bpf_file.specs.declared.error.Reason.TheVariants as reason
 use Rattle.bpf_file.specs.declared.key.Key.TheVariants as key
 use Rattle.bpf_file.specs.Key.{is_key}
 use Rattle.bpf_file.specs.Statement.{Said, statement_of}
-use Rattle.bpf_file.specs.File.{File}
+use Rattle.bpf_file.specs.File.{File, named_by}
 use Rattle.bpf_file.specs.Parts.{Part, State, Between, Within, nothing}
 use Rattle.bpf_file.specs.Programs.{text_of_lines, OfAssembly}
 use Rattle.bpf_file.specs.Rows.{placed, program_added, AddsLine}
@@ -24,7 +24,7 @@ AddsOrRefuses n p (Err why) r = r ≡ Err (Refused n why)
 -- by its fields: a line without any says nothing
 abbrev pub FieldsSay : ℕ → Part → List (List ℕ) → Result State FileError → Type 0
 FieldsSay n p [] r = r ≡ Ok (Between p)
-FieldsSay n p (f ∷ fs) r = AddsOrRefuses n p (placed p f (statement_of p.may_grow (f ∷ fs))) r
+FieldsSay n p (f ∷ fs) r = AddsOrRefuses n p (placed p f (statement_of p.version (f ∷ fs))) r
 
 -- ---- one line of a program
 
@@ -41,7 +41,7 @@ is_end line = is_end_alone (fields_of line)
 abbrev pub Belongs : Bool → Part → ℕ → List ℕ → List (List ℕ) → List ℕ → Result State FileError
     → Type 0
 Belongs true p from name lines line r =
-    (o : Result Loaded FileError) × OfAssembly from (length p.file.maps) (text_of_lines lines) o
+    (o : Result Loaded FileError) × OfAssembly from (named_by p.file) (text_of_lines lines) o
     × (r ≡ program_added p name o)
 Belongs false p from name lines line r = r ≡ Ok (Within p from name (lines ++ line ∷ []))
 

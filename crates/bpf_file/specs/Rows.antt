@@ -1,11 +1,12 @@
 -- What one line adds to a run file, a row for each thing that it may say; or why it is refused
 -- (our own choice).
-use Rattle.std.specs.Prelude.{◌≡◌, ℕ, ◌==◌, ◌&&◌, not, nat_le, nat_lt, Bool, if◌then◌else◌, List, [], length, Option, Some, None, Result, Ok, Err}
+use Rattle.std.specs.Prelude.{◌≡◌, ℕ, ◌+◌, ◌/◌, ◌==◌, ◌&&◌, not, nat_le, nat_lt, Bool, if◌then◌else◌, List, [], length, slice_get, Option, Some, None, Result, Ok, Err}
 use Rattle.std.specs.Option.{option_map}
 use Rattle.hex.specs.Hex.{decode_of}
 use Rattle.hex.specs.declared.error.FromHexError.{FromHexError}
 use Rattle.bpf_shared.specs.First.{first_of}
-use Rattle.bpf_shared.specs.Refusals.{map_tests, outside}
+use Rattle.bpf_shared.specs.Refusals.{map_tests, array_tests, outside}
+use Rattle.bpf_shared.specs.declared.shapes.ArrayShape.{ArrayShape}
 use Rattle.bpf_shared.specs.declared.shapes.MapShape.{MapShape}
 use Rattle.bpf_shared.specs.declared.shapes.ShapeError.TheVariants as shape
 use Rattle.bpf_loader.specs.Loaded.{Loaded}
@@ -18,8 +19,9 @@ use Rattle.bpf_file.specs.declared.error.Reason.TheVariants as reason
 use Rattle.bpf_file.specs.declared.line.LineError.{LineError}
 use Rattle.bpf_file.specs.declared.line.LineError.TheVariants as line
 use Rattle.bpf_file.specs.Form.{is_there}
-use Rattle.bpf_file.specs.Statement.{Said, Version, Cpus, Seed, Map, Program, Words, Job}
-use Rattle.bpf_file.specs.Parts.{Part, State, Between, Within, group_of, is_in_order, is_full, place_of, with_first, with_cpus, with_seed, with_map, with_program, with_job}
+use Rattle.bpf_file.specs.Statement.{Said, Version, Cpus, Seed, Map, Array, Data, Program, Words, Job}
+use Rattle.bpf_file.specs.File.{File, named_by}
+use Rattle.bpf_file.specs.Parts.{Part, State, Between, Within, group_of, is_in_order, is_full, place_of, array_place, with_first, with_cpus, with_seed, with_map, with_array, with_data, with_program, with_job}
 use Rattle.bpf_file.specs.Programs.{OfDigits}
 
 -- the file goes on, or the line is refused for this reason
@@ -31,7 +33,7 @@ unless n (Some why) p = Err (Refused n why)
 
 -- the first line that says anything
 abbrev pub first_said : Result Said LineError → Result Said Reason
-first_said (Ok (Version may_grow)) = Ok (Version may_grow)
+first_said (Ok (Version version)) = Ok (Version version)
 first_said said = Err reason.BadFirstLine
 
 -- any other
@@ -62,6 +64,38 @@ map_refusal p name h =
     else (if nat_le 16 (length p.file.maps) then Some (reason.Shape shape.TooManyMaps)
     else option_map reason.Shape (first_of (map_tests (length p.file.maps) h)))
 
+-- ---- arrays
+
+abbrev pub array_refusal : Part → List ℕ → ArrayShape → Option Reason
+array_refusal p name g =
+    if is_there (place_of name p.file.names) then Some reason.TwiceName
+    else (if nat_le 16 (length p.file.arrays) then Some (reason.Shape shape.TooManyArrays)
+    else option_map reason.Shape (first_of (array_tests p.file.cpus 0 (length p.file.arrays) g)))
+
+-- of an array of this shape, which is to have so many bytes at first
+abbrev pub size_refusal : ℕ → ℕ → ℕ → Option ArrayShape → Option Reason
+size_refusal cpus filled a (Some g) =
+    option_map reason.Shape (first_of (array_tests cpus filled a g))
+size_refusal cpus filled a None = Some reason.Unknown
+
+abbrev pub data_refusal : File → ℕ → ℕ → Option Reason
+data_refusal f a filled = size_refusal f.cpus filled a (slice_get f.arrays a)
+
+abbrev pub data_laid : ℕ → Part → ℕ → ℕ → Result (List ℕ) FromHexError → Result State FileError
+data_laid n p a at (Ok bytes) = Ok (Between (with_data p a at bytes))
+data_laid n p a at (Err e) = Err (Refused n reason.NotHex)
+
+abbrev pub or_refused : ℕ → Option Reason → Result State FileError → Result State FileError
+or_refused n None r = r
+or_refused n (Some why) r = Err (Refused n why)
+
+-- bytes that end past the array are refused before their digits are looked at
+abbrev pub data_added : ℕ → Part → Option ℕ → ℕ → List ℕ → Result State FileError
+data_added n p (Some a) at digits =
+    or_refused n (data_refusal p.file a (at + length digits / 2))
+    (data_laid n p a at (decode_of digits))
+data_added n p None at digits = Err (Refused n reason.Unknown)
+
 -- ---- programs
 
 -- a name that no program has yet
@@ -77,7 +111,7 @@ program_added p name (Err e) = Err e
 abbrev pub WordsAdd : Option ℕ → ℕ → Part → List ℕ → List ℕ → Result State FileError → Type 0
 WordsAdd (Some k) n p name digits r = r ≡ Err (Refused n reason.TwiceName)
 WordsAdd None n p name digits r =
-    (o : Result Loaded FileError) × OfDigits n (length p.file.maps) digits o
+    (o : Result Loaded FileError) × OfDigits n (named_by p.file) digits o
     × (r ≡ program_added p name o)
 
 -- ---- jobs
@@ -108,10 +142,12 @@ job_added n p None program steps context = Err (Refused n reason.Unknown)
 
 -- after so much of the file its n-th line says this: then the file goes on so, or is refused
 abbrev pub AddsLine : ℕ → Part → Said → Result State FileError → Type 0
-AddsLine n p (Version may_grow) r = r ≡ Ok (Between (with_first p may_grow))
+AddsLine n p (Version version) r = r ≡ Ok (Between (with_first p version))
 AddsLine n p (Cpus c) r = r ≡ unless n (cpus_refusal c) (with_cpus p c)
 AddsLine n p (Seed s) r = r ≡ Ok (Between (with_seed p s))
 AddsLine n p (Map name h) r = r ≡ unless n (map_refusal p name h) (with_map p name h)
+AddsLine n p (Array name g) r = r ≡ unless n (array_refusal p name g) (with_array p name g)
+AddsLine n p (Data name at digits) r = r ≡ data_added n p (array_place p.file name) at digits
 AddsLine n p (Program name) r = r ≡ if_new n p name (Ok (Within p n name []))
 AddsLine n p (Words name digits) r = WordsAdd (place_of name p.titles) n p name digits r
 AddsLine n p (Job cpu name steps context) r =

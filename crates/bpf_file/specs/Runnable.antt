@@ -2,7 +2,7 @@
 use Rattle.std.specs.Prelude.{◌≡◌, ℕ, ◌<◌, ◌≤◌, All, length}
 use Rattle.bpf_mem.specs.Limits.{max_context}
 use Rattle.bpf_cpu.specs.Task.{Task, Stage, Waiting}
-use Rattle.bpf_file.specs.File.{File}
+use Rattle.bpf_file.specs.File.{File, named_by}
 
 -- it waits, with a context of at most 4,096 bytes
 abbrev pub WaitsShort : Stage → Type 0
@@ -18,4 +18,4 @@ pub record IsJobFor (cpus programs : ℕ) (task : Task) : Type 0 where
 -- of what a text says
 pub record CanRun (f : File) : Type 0 where
   pub jobs : All (IsJobFor f.cpus (length f.programs)) f.jobs
-  pub maps : All (λ program. program.maps ≡ length f.maps) f.programs
+  pub named : All (λ program. program.named ≡ named_by f) f.programs

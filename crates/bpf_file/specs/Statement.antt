@@ -2,30 +2,37 @@
 use Rattle.std.specs.Prelude.{◌≡◌, ℕ, ◌-◌, ◌^◌, nat_le, nat_lt, Bool, true, false, if◌then◌else◌, List, ◌++◌, Option, Some, None, Result, Ok, Err}
 use Rattle.std.specs.Option.{option_copied}
 use Rattle.bpf_base.specs.declared.budget.TheConstants.{MAX_BUDGET}
+use Rattle.bpf_shared.specs.declared.shapes.ArrayShape.{ArrayShape}
 use Rattle.bpf_shared.specs.declared.shapes.MapShape.{MapShape}
 use Rattle.bpf_lines.specs.Words.{written_number}
 use Rattle.bpf_file.specs.declared.line.LineError.{LineError}
 use Rattle.bpf_file.specs.declared.line.LineError.TheVariants.{BadForm, BadNumber}
 use Rattle.bpf_file.specs.declared.statement.Statement.{Statement}
 use Rattle.bpf_file.specs.declared.statement.Statement.TheVariants as statement
-use Rattle.bpf_file.specs.Form.{has_form, field_at, version_form, second_version_form, cpus_form, seed_form, map_form, masked_map_form, growing_map_form, growing_masked_map_form, program_form, words_form, job_form, budget_form, context_form}
+use Rattle.bpf_file.specs.declared.version.Version.{Version as Edition}
+use Rattle.bpf_file.specs.declared.version.Version.TheVariants.{First, Second, Third}
+use Rattle.bpf_file.specs.Version.{may_grow, has_arrays}
+use Rattle.bpf_file.specs.Form.{has_form, field_at, version_form, second_version_form, third_version_form, cpus_form, seed_form, map_form, masked_map_form, growing_map_form, growing_masked_map_form, array_form, per_cpu_form, frozen_form, data_form, program_form, words_form, job_form, budget_form, context_form}
 
--- the first line, and whether maps may grow after it; how many CPUs there are; the seed of the
--- maps; a map by its name; a program by its name, its assembly following, or with its words as hex
+-- the first line, by the version that it says; how many CPUs there are; the seed of the maps; a map
+-- by its name; an array by its name; bytes that an array has at first: its name, where they begin,
+-- and their hex digits; a program by its name, its assembly following, or with its words as hex
 -- digits; a job: its CPU, where 64 bits hold its number, its program's name, and its budget and
 -- its context's digits, where the line has them
 pub data Said : Type 0 where
-  Version : Bool → Said
+  Version : Edition → Said
   Cpus : ℕ → Said
   Seed : ℕ → Said
   Map : List ℕ → MapShape → Said
+  Array : List ℕ → ArrayShape → Said
+  Data : List ℕ → ℕ → List ℕ → Said
   Program : List ℕ → Said
   Words : List ℕ → List ℕ → Said
   Job : Option ℕ → List ℕ → Option ℕ → Option (List ℕ) → Said
 
 -- ---- numbers
 
--- the greatest size or number of CPUs that a line may have
+-- the greatest size, offset or number of CPUs that a line may have
 abbrev pub most_count : ℕ
 most_count = 2 ^ 32 - 1
 
@@ -70,6 +77,18 @@ abbrev pub masked_said : List (List ℕ) → Bool → Result Said LineError
 masked_said fields grow =
     with_number (count_at fields 11 most_count) (λ mask. map_said fields mask grow)
 
+abbrev pub array_said : List (List ℕ) → Bool → Bool → Result Said LineError
+array_said fields per_cpu frozen =
+    with_number (count_at fields 3 most_count) (λ value.
+    with_number (count_at fields 5 most_count) (λ max.
+    Ok (Array (field_at fields 1)
+    (record { value = value; max = max; per_cpu = per_cpu; frozen = frozen }))))
+
+abbrev pub data_said : List (List ℕ) → Result Said LineError
+data_said fields =
+    with_number (count_at fields 2 most_count) (λ at.
+    Ok (Data (field_at fields 1) at (field_at fields 3)))
+
 abbrev pub job_said : List (List ℕ) → Option ℕ → Option (List ℕ) → Result Said LineError
 job_said fields budget context = Ok (Job (held_at fields 1) (field_at fields 2) budget context)
 
@@ -90,32 +109,48 @@ work_of fields =
     then budgeted_said fields (Some (field_at fields 6))
     else Err BadForm)))))
 
--- a line about a map that grows, where there may be such, or about a program or a job
-abbrev pub growing_of : Bool → List (List ℕ) → Result Said LineError
-growing_of false fields = work_of fields
-growing_of true fields =
+-- a line about an array, or about a program or a job
+abbrev pub arrays_of : List (List ℕ) → Result Said LineError
+arrays_of fields =
+    if has_form array_form fields then array_said fields false false
+    else (if has_form (array_form ++ per_cpu_form) fields then array_said fields true false
+    else (if has_form (array_form ++ frozen_form) fields then array_said fields false true
+    else (if has_form (array_form ++ per_cpu_form ++ frozen_form) fields
+    then array_said fields true true
+    else (if has_form data_form fields then data_said fields
+    else work_of fields))))
+
+-- a line about a map that grows, about an array, where there may be such, or about a program or
+-- a job
+abbrev pub growing_of : Edition → List (List ℕ) → Result Said LineError
+growing_of version fields =
     if has_form growing_map_form fields then map_said fields (2 ^ 32 - 1) true
     else (if has_form growing_masked_map_form fields then masked_said fields true
-    else work_of fields)
+    else (if has_arrays version then arrays_of fields
+    else work_of fields))
 
--- WHAT A LINE SAYS, by whether maps may grow and by its fields
-abbrev pub statement_of : Bool → List (List ℕ) → Result Said LineError
-statement_of may_grow fields =
-    if has_form version_form fields then Ok (Version false)
-    else (if has_form second_version_form fields then Ok (Version true)
+-- WHAT A LINE SAYS, by the file's version and its fields
+abbrev pub statement_of : Edition → List (List ℕ) → Result Said LineError
+statement_of version fields =
+    if has_form version_form fields then Ok (Version First)
+    else (if has_form second_version_form fields then Ok (Version Second)
+    else (if has_form third_version_form fields then Ok (Version Third)
     else (if has_form cpus_form fields then cpus_said fields
     else (if has_form seed_form fields then seed_said fields
     else (if has_form map_form fields then map_said fields (2 ^ 32 - 1) false
     else (if has_form masked_map_form fields then masked_said fields false
-    else growing_of may_grow fields)))))
+    else (if may_grow version then growing_of version fields
+    else work_of fields)))))))
 
 -- ---- what a reader answers
 
 abbrev pub said_by : Statement → Said
-said_by (statement.Version may_grow) = Version may_grow
+said_by (statement.Version version) = Version version
 said_by (statement.Cpus n) = Cpus n
 said_by (statement.Seed n) = Seed n
 said_by (statement.Map name shape) = Map name.now shape
+said_by (statement.Array name shape) = Array name.now shape
+said_by (statement.Data d) = Data d.array.now d.at d.digits.now
 said_by (statement.Program name) = Program name.now
 said_by (statement.Words name digits) = Words name.now digits.now
 said_by (statement.Job j) = Job j.cpu j.program.now j.budget (option_copied j.context)

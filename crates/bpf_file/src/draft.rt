@@ -1,12 +1,14 @@
 //! What the lines of a run file have said so far.
 
-ghost use Rattle.std.specs.Prelude.{◌≡◌, ◌<◌, ◌+◌, ◌^◌, length, map, IfOk, OnOk, IsOkUnless};
+ghost use Rattle.std.specs.Prelude.{◌≡◌, ◌<◌, ◌≤◌, ◌+◌, ◌/◌, ◌^◌, length, map, IfOk, OnOk, IsOkUnless};
 ghost use Rattle.std.specs.Option.{option_copied};
+ghost use Rattle.hex.specs.Hex.{decode_of};
 ghost use Rattle.bpf_cpu.specs.Task.{waiting};
-ghost use Rattle.bpf_file.specs.Form.{field_at};
-ghost use Rattle.bpf_file.specs.Parts.{Between, nothing, is_full, with_map, with_program, with_job};
+ghost use Rattle.bpf_file.specs.Form.{field_at, is_there};
+ghost use Rattle.bpf_file.specs.File.{named_by};
+ghost use Rattle.bpf_file.specs.Parts.{Between, nothing, is_full, place_of, array_place, with_map, with_array, with_data, with_program, with_job};
 ghost use Rattle.bpf_file.specs.Reading.{FieldsSay, finished};
-ghost use Rattle.bpf_file.specs.Rows.{first_said, later_said, may_stand, placed, map_refusal, served, context_of};
+ghost use Rattle.bpf_file.specs.Rows.{first_said, later_said, may_stand, placed, map_refusal, array_refusal, data_refusal, served, context_of};
 ghost use Rattle.bpf_file.specs.Statement.{said_by, statement_of};
 ghost use Rattle.bpf_file.specs.Statement as says;
 ghost use Rattle.bpf_file.specs.declared.statement.Statement.TheVariants as statement_kind;
@@ -18,19 +20,22 @@ ghost use Rattle.bpf_file.specs.Private.Drafts.{part_of, said_in, after, Added, 
 use crate::error::{FileError, Reason};
 use crate::file::RunFile;
 use crate::line::LineError;
-use crate::statement::{self, JobLine, Statement};
-use crate::{form, group, program};
+use crate::statement::{self, DataLine, JobLine, Statement};
+use crate::version::Version;
+use crate::{contents, form, group, program};
 use bpf_base::DEFAULT_BUDGET;
 use bpf_cpu::{Job, Setup};
-use bpf_loader::Program;
-use bpf_shared::{MapShape, ShapeError, StoreShape};
+use bpf_loader::{Named, Program};
+use bpf_shared::{ArrayShape, MapShape, ShapeError, StoreShape};
 use hex::FromHexError;
 use std::alloc::Global;
 
-/// The most programs, maps and jobs of a file.
+/// The most programs, maps, arrays and jobs of a file.
 const MOST_PROGRAMS: usize = 256;
 
 const MOST_MAPS: usize = 16;
+
+const MOST_ARRAYS: usize = 16;
 
 const MOST_JOBS: usize = 4_096;
 
@@ -39,12 +44,16 @@ const MOST_JOBS: usize = 4_096;
 pub struct Draft<'a> {
     /// The group of the last line that said something, 0 before the first.
     pub group: u8,
-    /// Whether maps may grow, by the first line.
-    pub may_grow: bool,
+    /// The version, by the first line.
+    pub version: Version,
     pub cpus: u8,
     pub seed: u64,
+    /// The maps' names, and after them the arrays'.
     pub names: Vec<String>,
     pub maps: Vec<MapShape>,
+    pub arrays: Vec<ArrayShape>,
+    /// What each array has at first, as far as lines say it.
+    pub contents: Vec<Vec<u8>>,
     /// The programs' names.
     pub titles: Vec<&'a [u8]>,
     pub programs: Vec<Program>,
@@ -63,7 +72,7 @@ fn first_said<'a>(said: Result<Statement<'a>, LineError>) -> Result<Statement<'a
     ensures { said_in result ≡ first_said (said_in said.entry) }
 {
     match said {
-        Ok(Statement::Version(may_grow)) => Ok(Statement::Version(may_grow)),
+        Ok(Statement::Version(version)) => Ok(Statement::Version(version)),
         _ => Err(Reason::BadFirstLine),
     }
 }
@@ -91,17 +100,24 @@ fn served(cpus: u8, cpu: Option<u64>) -> Option<u8>
     }
 }
 
-/// The bytes of a context.
-fn context_of(alloc: Global, line: usize, digits: Option<&[u8]>) -> Result<Vec<u8>, FileError>
-    ensures { HasContext (λ v. v.items) line (context_of (option_copied digits.entry)) result }
+/// The bytes of a line's hex digits.
+fn decoded(alloc: Global, line: usize, digits: &[u8]) -> Result<Vec<u8>, FileError>
+    ensures { HasContext (λ v. v.items) line (decode_of digits.now) result }
 {
-    let Some(digits) = digits else {
-        return Ok(Vec::new(alloc));
-    };
     match hex::decode(alloc, digits) {
         Ok(bytes) => Ok(bytes),
         Err(FromHexError::OutOfMemory) => Err(FileError::OutOfMemory),
         Err(_) => Err(FileError::Refused(line, Reason::NotHex)),
+    }
+}
+
+/// The bytes of a context.
+fn context_of(alloc: Global, line: usize, digits: Option<&[u8]>) -> Result<Vec<u8>, FileError>
+    ensures { HasContext (λ v. v.items) line (context_of (option_copied digits.entry)) result }
+{
+    match digits {
+        Some(digits) => decoded(alloc, line, digits),
+        None => Ok(Vec::new(alloc)),
     }
 }
 
@@ -112,11 +128,13 @@ impl<'a> Draft<'a> {
     {
         Draft {
             group: 0,
-            may_grow: false,
+            version: Version::First,
             cpus: 1,
             seed: 0,
             names: Vec::new(alloc),
             maps: Vec::new(alloc),
+            arrays: Vec::new(alloc),
+            contents: Vec::new(alloc),
             titles: Vec::new(alloc),
             programs: Vec::new(alloc),
             jobs: Vec::new(alloc),
@@ -127,8 +145,8 @@ impl<'a> Draft<'a> {
     fn is_full(&self, group: u8) -> bool
         ensures { result ≡ is_full (part_of self.now) group }
     {
-        (group == 5 && self.titles.len() >= MOST_PROGRAMS)
-            || (group == 6 && self.jobs.len() >= MOST_JOBS)
+        (group == 7 && self.titles.len() >= MOST_PROGRAMS)
+            || (group == 8 && self.jobs.len() >= MOST_JOBS)
     }
 
     /// Whether a line of this group may come next.
@@ -142,9 +160,9 @@ impl<'a> Draft<'a> {
     fn said<'b>(&self, fields: &[&'b [u8]]) -> Result<Statement<'b>, Reason>
         ensures { said_in result ≡ placed (part_of self.now)
             (field_at (map (λ f. f.now) fields.now) 0)
-            (statement_of self.now.may_grow (map (λ f. f.now) fields.now)) }
+            (statement_of self.now.version (map (λ f. f.now) fields.now)) }
     {
-        let said = statement::said(self.may_grow, fields);
+        let said = statement::said(self.version, fields);
         if self.group == 0 {
             first_said(said)
         } else if self.may_stand(group::group_of(form::field_at(fields, 0))) {
@@ -175,11 +193,18 @@ impl<'a> Draft<'a> {
         Ok(Next::Line)
     }
 
+    /// Whether a map or an array has this name.
+    fn has_name(&self, name: &str) -> bool
+        ensures { result ≡ is_there (place_of name.now (part_of self.now).file.names) }
+    {
+        group::place_in(name, &self.names).is_some()
+    }
+
     /// Why there can't be one more map, of this name and shape.
     fn map_refusal(&self, name: &str, shape: MapShape) -> Option<Reason>
         ensures { result ≡ map_refusal (part_of self.now) name.now shape }
     {
-        if group::place_in(name, &self.names).is_some() {
+        if self.has_name(name) {
             return Some(Reason::TwiceName);
         }
         if self.maps.len() >= MOST_MAPS {
@@ -220,6 +245,128 @@ impl<'a> Draft<'a> {
         Ok(Next::Line)
     }
 
+    /// Why there can't be one more array, of this name and shape.
+    fn array_refusal(&self, name: &str, shape: ArrayShape) -> Option<Reason>
+        requires { self.now.cpus ≤ 16 }
+        ensures { result ≡ array_refusal (part_of self.now) name.now shape }
+    {
+        if self.has_name(name) {
+            return Some(Reason::TwiceName);
+        }
+        if self.arrays.len() >= MOST_ARRAYS {
+            return Some(Reason::Shape(ShapeError::TooManyArrays));
+        }
+        match shape.refusal(self.arrays.len(), self.cpus, 0) {
+            Some(error) => Some(Reason::Shape(error)),
+            None => None,
+        }
+    }
+
+    fn push_array(&mut self, alloc: Global, name: &str, shape: ArrayShape) -> Result<(), FileError>
+        ensures ok { OnOk result
+            (part_of self.new ≡ with_array (part_of self.old) name.now shape) }
+        ensures memory { IsOkUnless result FileError.OutOfMemory }
+    {
+        let text = String::from_str(alloc, name).map_err(|_| FileError::OutOfMemory)?;
+        self.names.push(text).map_err(|_| FileError::OutOfMemory)?;
+        self.arrays.push(shape).map_err(|_| FileError::OutOfMemory)?;
+        self.contents
+            .push(Vec::new(alloc))
+            .map_err(|_| FileError::OutOfMemory)?;
+        self.group = 5;
+        Ok(())
+    }
+
+    /// `array NAME ..`
+    fn add_array(
+        &mut self,
+        alloc: Global,
+        line: usize,
+        name: &str,
+        shape: ArrayShape,
+    ) -> Result<Next<'a>, FileError>
+        requires { self.old.cpus ≤ 16 }
+        ensures { Added line (part_of self.old) (says.Array name.now shape)
+            (part_of self.new) result }
+    {
+        if let Some(reason) = self.array_refusal(name, shape) {
+            return Err(FileError::Refused(line, reason));
+        }
+        self.push_array(alloc, name, shape)?;
+        Ok(Next::Line)
+    }
+
+    /// The number of the array of this name.
+    fn array_place(&self, name: &str) -> Option<usize>
+        ensures { result ≡ array_place (part_of self.now).file name.now }
+    {
+        let place = group::place_in(name, &self.names)?;
+        if place < self.maps.len() {
+            None
+        } else {
+            Some(place - self.maps.len())
+        }
+    }
+
+    /// Why the array of this number can't have so many bytes at first.
+    fn data_refusal(&self, number: usize, filled: usize) -> Option<Reason>
+        requires { self.now.cpus ≤ 16 }
+        ensures { result ≡ data_refusal (part_of self.now).file number filled }
+    {
+        let Some(shape) = self.arrays.get(number) else {
+            return Some(Reason::Unknown);
+        };
+        match shape.refusal(number, self.cpus, filled) {
+            Some(error) => Some(Reason::Shape(error)),
+            None => None,
+        }
+    }
+
+    fn put_data(&mut self, number: usize, at: usize, bytes: &[u8]) -> Result<(), FileError>
+        requires number { number < length self.old.contents.items }
+        requires room { at + length bytes.now < 2 ^ 64 }
+        ensures ok { OnOk result
+            (part_of self.new ≡ with_data (part_of self.old) number at bytes.now) }
+        ensures memory { IsOkUnless result FileError.OutOfMemory }
+    {
+        contents::put(&mut self.contents[number], at, bytes)?;
+        self.group = 6;
+        Ok(())
+    }
+
+    /// `data NAME AT DIGITS`. Bytes that end past the array are refused before they take memory.
+    fn add_data(
+        &mut self,
+        alloc: Global,
+        line: usize,
+        said: DataLine<'_>,
+    ) -> Result<Next<'a>, FileError>
+        requires { IsFit (part_of self.old) }
+        ensures { Added line (part_of self.old) (said_by (statement_kind.Data said.entry))
+            (part_of self.new) result }
+    {
+        let Some(number) = self.array_place(said.array) else {
+            return Err(FileError::Refused(line, Reason::Unknown));
+        };
+        let at = said.at as usize;
+        if let Some(reason) = self.data_refusal(number, at + said.digits.len() / 2) {
+            return Err(FileError::Refused(line, reason));
+        }
+        let bytes = decoded(alloc, line, said.digits)?;
+        self.put_data(number, at, &bytes)?;
+        Ok(Next::Line)
+    }
+
+    /// What programs may name.
+    fn named(&self) -> Named
+        ensures { result ≡ named_by (part_of self.now).file }
+    {
+        Named {
+            maps: self.maps.len(),
+            arrays: self.arrays.len(),
+        }
+    }
+
     fn push_program(&mut self, name: &'a [u8], program: Program) -> Result<(), FileError>
         ensures ok { OnOk result
             (part_of self.new ≡ with_program (part_of self.old) name.now program) }
@@ -229,7 +376,7 @@ impl<'a> Draft<'a> {
         self.programs
             .push(program)
             .map_err(|_| FileError::OutOfMemory)?;
-        self.group = 5;
+        self.group = 7;
         Ok(())
     }
 
@@ -257,7 +404,7 @@ impl<'a> Draft<'a> {
         if group::place_of(name, &self.titles).is_some() {
             return Err(FileError::Refused(line, Reason::TwiceName));
         }
-        let program = program::of_digits(alloc, line, digits, &self.maps)?;
+        let program = program::of_digits(alloc, line, digits, self.named())?;
         self.push_program(name, program)?;
         Ok(Next::Line)
     }
@@ -274,7 +421,7 @@ impl<'a> Draft<'a> {
         ensures { OrMemory (λ a. Ends line (part_of self.old) name.now text.now
             (closed (part_of self.new) a)) result }
     {
-        let program = program::of_assembly(alloc, line, text, &self.maps)?;
+        let program = program::of_assembly(alloc, line, text, self.named())?;
         self.push_program(name, program)
     }
 
@@ -283,7 +430,7 @@ impl<'a> Draft<'a> {
         ensures memory { IsOkUnless result FileError.OutOfMemory }
     {
         self.jobs.push(job).map_err(|_| FileError::OutOfMemory)?;
-        self.group = 6;
+        self.group = 8;
         Ok(())
     }
 
@@ -321,17 +468,20 @@ impl<'a> Draft<'a> {
         line: usize,
         said: Statement<'a>,
     ) -> Result<Next<'a>, FileError>
+        requires { IsFit (part_of self.old) }
         ensures { Added line (part_of self.old) (said_by said.entry) (part_of self.new) result }
     {
         match said {
-            Statement::Version(may_grow) => {
+            Statement::Version(version) => {
                 self.group = 1;
-                self.may_grow = may_grow;
+                self.version = version;
                 Ok(Next::Line)
             }
             Statement::Cpus(cpus) => self.set_cpus(line, cpus),
             Statement::Seed(seed) => self.set_seed(line, seed),
             Statement::Map(name, shape) => self.add_map(alloc, line, name, shape),
+            Statement::Array(name, shape) => self.add_array(alloc, line, name, shape),
+            Statement::Data(data) => self.add_data(alloc, line, data),
             Statement::Program(name) => self.open(line, name),
             Statement::Words(name, digits) => self.add_words(alloc, line, name, digits),
             Statement::Job(job) => self.add_job(alloc, line, job),
@@ -345,6 +495,7 @@ impl<'a> Draft<'a> {
         line: usize,
         fields: &[&'a [u8]],
     ) -> Result<Next<'a>, FileError>
+        requires { IsFit (part_of self.old) }
         ensures { OrMemory (λ a. FieldsSay line (part_of self.old) (map (λ f. f.now) fields.now)
             (after line (part_of self.new) a)) result }
     {
@@ -368,17 +519,20 @@ impl<'a> Draft<'a> {
         if self.group == 0 {
             return Err(FileError::Refused(1, Reason::BadFirstLine));
         }
-        match StoreShape::new(self.cpus as u64, self.maps) {
-            Ok(shape) => Ok(RunFile {
-                setup: Setup {
-                    shape,
-                    programs: self.programs,
-                    jobs: self.jobs,
-                },
-                seed: self.seed,
-                names: self.names,
-            }),
-            Err(_) => unreachable!(),
-        }
+        let Ok(shape) = StoreShape::new(self.cpus as u64, self.maps) else {
+            unreachable!()
+        };
+        let Ok(shape) = shape.with_arrays(self.arrays, self.contents) else {
+            unreachable!()
+        };
+        Ok(RunFile {
+            setup: Setup {
+                shape,
+                programs: self.programs,
+                jobs: self.jobs,
+            },
+            seed: self.seed,
+            names: self.names,
+        })
     }
 }

@@ -10,7 +10,7 @@ use thiserror::Error;
 #[derive(Clone, Copy, PartialEq, Eq, Debug, Error)]
 pub enum Reason {
     /// L1: the first line that says anything, or line 1 where none does.
-    #[error("a run file begins with `ebpf-run 1` or `ebpf-run 2`")]
+    #[error("a run file begins with `ebpf-run 1`, `ebpf-run 2` or `ebpf-run 3`")]
     BadFirstLine,
     /// L2: its form, or its place among the others, or it is one too many.
     #[error("no such line may be here")]
@@ -18,16 +18,16 @@ pub enum Reason {
     /// L3
     #[error("a number is out of its range")]
     BadNumber,
-    /// L4: of two maps, or of two programs.
+    /// L4: of two maps or arrays, or of two programs.
     #[error("the name is there before")]
     TwiceName,
     /// L5
-    #[error("a program or a CPU that isn't there")]
+    #[error("a program, a CPU or an array that isn't there")]
     Unknown,
     /// L6: the line of a `prog`.
     #[error("the program has no end")]
     NoEnd,
-    /// S1 to S6
+    /// S1 to S6, and S8 to S12
     #[error("{0}")]
     Shape(ShapeError),
     /// H1

@@ -2,14 +2,14 @@
 
 use bpf_cpu::Setup;
 
-/// A run file: what a machine is made of, with its maps' names.
+/// A run file: what a machine is made of, with the names of its maps and arrays.
 #[derive(Drop)]
 pub struct RunFile {
-    /// How many CPUs there are, the maps, the programs by the numbers that jobs have, and the jobs in
-    /// the file's order.
+    /// How many CPUs there are, the maps, the arrays and what they have at first, the programs by
+    /// the numbers that jobs have, and the jobs in the file's order.
     pub setup: Setup,
     /// The seed of the maps' hashes.
     pub seed: u64,
-    /// The maps' names, by their numbers.
+    /// The names of the maps by their numbers, and after them those of the arrays.
     pub names: Vec<String>,
 }

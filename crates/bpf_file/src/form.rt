@@ -16,7 +16,7 @@ pub enum Part {
     Number,
     /// Hex digits, which are looked at when the context is made; 4,096 bytes at most.
     Context,
-    /// Hex digits of a program, of any length.
+    /// Hex digits of a program or of an array, of any length.
     Words,
 }
 
@@ -25,6 +25,9 @@ pub const VERSION: [Part; 2] = [Part::Word(Key::RunFile), Part::Word(Key::One)];
 
 /// `ebpf-run 2`
 pub const SECOND_VERSION: [Part; 2] = [Part::Word(Key::RunFile), Part::Word(Key::Two)];
+
+/// `ebpf-run 3`
+pub const THIRD_VERSION: [Part; 2] = [Part::Word(Key::RunFile), Part::Word(Key::Three)];
 
 /// `cpus N`
 pub const CPUS: [Part; 2] = [Part::Word(Key::Cpus), Part::Number];
@@ -62,7 +65,7 @@ pub const MASKED_MAP: [Part; 12] = [
     Part::Number,
 ];
 
-/// A map that grows, in version 2: `grow` after the sizes.
+/// A map that grows, from version 2 on: `grow` after the sizes.
 pub const GROWING_MAP: [Part; 11] = [
     Part::Word(Key::Map),
     Part::Name,
@@ -93,6 +96,53 @@ pub const GROWING_MASKED_MAP: [Part; 13] = [
     Part::Number,
     Part::Word(Key::Grow),
 ];
+
+/// `array NAME value V max M`, in version 3.
+pub const ARRAY: [Part; 6] = [
+    Part::Word(Key::Array),
+    Part::Name,
+    Part::Word(Key::ValueSize),
+    Part::Number,
+    Part::Word(Key::Max),
+    Part::Number,
+];
+
+/// `percpu` after the sizes.
+pub const PER_CPU_ARRAY: [Part; 7] = [
+    Part::Word(Key::Array),
+    Part::Name,
+    Part::Word(Key::ValueSize),
+    Part::Number,
+    Part::Word(Key::Max),
+    Part::Number,
+    Part::Word(Key::PerCpu),
+];
+
+/// `frozen` after the sizes.
+pub const FROZEN_ARRAY: [Part; 7] = [
+    Part::Word(Key::Array),
+    Part::Name,
+    Part::Word(Key::ValueSize),
+    Part::Number,
+    Part::Word(Key::Max),
+    Part::Number,
+    Part::Word(Key::Frozen),
+];
+
+/// Both after the sizes.
+pub const FROZEN_PER_CPU_ARRAY: [Part; 8] = [
+    Part::Word(Key::Array),
+    Part::Name,
+    Part::Word(Key::ValueSize),
+    Part::Number,
+    Part::Word(Key::Max),
+    Part::Number,
+    Part::Word(Key::PerCpu),
+    Part::Word(Key::Frozen),
+];
+
+/// `data NAME AT DIGITS`, in version 3.
+pub const DATA: [Part; 4] = [Part::Word(Key::Data), Part::Name, Part::Number, Part::Words];
 
 /// `prog NAME`, before lines of assembly.
 pub const PROGRAM: [Part; 2] = [Part::Word(Key::Program), Part::Name];

@@ -5,10 +5,10 @@ ghost use Rattle.bpf_file.specs.Parts.{group_of, is_in_order, place_of};
 
 use crate::key::Key;
 
-/// The group of a line, by its first word: 1 to 6, or 7 for a word that begins none.
+/// The group of a line, by its first word: 1 to 8, or 9 for a word that begins none.
 pub fn group_of(word: &[u8]) -> u8
     ensures value { result ≡ group_of word.now }
-    ensures small { result ≤ 7 }
+    ensures small { result ≤ 9 }
 {
     if Key::RunFile.is(word) {
         1
@@ -18,12 +18,16 @@ pub fn group_of(word: &[u8]) -> u8
         3
     } else if Key::Map.is(word) {
         4
-    } else if Key::Program.is(word) {
+    } else if Key::Array.is(word) {
         5
-    } else if Key::Job.is(word) {
+    } else if Key::Data.is(word) {
         6
-    } else {
+    } else if Key::Program.is(word) {
         7
+    } else if Key::Job.is(word) {
+        8
+    } else {
+        9
     }
 }
 

@@ -12,6 +12,8 @@ pub enum Key {
     One,
     /// `2`, the version in which maps may grow
     Two,
+    /// `3`, the version in which there may be arrays
+    Three,
     Cpus,
     Seed,
     Map,
@@ -21,14 +23,20 @@ pub enum Key {
     Max,
     Spare,
     Mask,
-    /// Behind a map that begins with one segment and splits it as keys come.
+    /// After a map that begins with one segment and splits it as keys come.
     Grow,
+    Array,
+    /// After an array of which each CPU has values of its own.
+    PerCpu,
+    /// After an array whose values may only be read.
+    Frozen,
+    Data,
     Program,
     Hex,
     Job,
     Budget,
     Context,
-    /// Behind a program's assembly, alone.
+    /// After a program's assembly, alone.
     End,
 }
 
@@ -41,6 +49,7 @@ impl Key {
             Key::RunFile => "ebpf-run",
             Key::One => "1",
             Key::Two => "2",
+            Key::Three => "3",
             Key::Cpus => "cpus",
             Key::Seed => "seed",
             Key::Map => "map",
@@ -50,6 +59,10 @@ impl Key {
             Key::Spare => "spare",
             Key::Mask => "mask",
             Key::Grow => "grow",
+            Key::Array => "array",
+            Key::PerCpu => "percpu",
+            Key::Frozen => "frozen",
+            Key::Data => "data",
             Key::Program => "prog",
             Key::Hex => "hex",
             Key::Job => "job",

@@ -14,7 +14,8 @@ pub fn files_are_determined()
 }
 
 /// A machine can be made of every file that a text says: its jobs wait with short contexts, each on
-/// a CPU and with a program of the file, and each program was loaded for the file's maps.
+/// a CPU and with a program of the file, and each program was loaded for the file's maps and
+/// arrays.
 pub fn files_can_run()
     ensures { FilesCanRun }
 {}

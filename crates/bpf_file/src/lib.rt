@@ -1,7 +1,8 @@
-//! Run files: CPUs, maps, programs and jobs in one text.
+//! Run files: CPUs, maps, arrays, programs and jobs in one text.
 #![tactic(auto)]
 
 mod assembly;
+mod contents;
 mod draft;
 pub mod error;
 pub mod file;
@@ -13,6 +14,7 @@ mod line;
 mod program;
 mod reader;
 mod statement;
+mod version;
 
 pub use error::{FileError, Reason};
 pub use file::RunFile;

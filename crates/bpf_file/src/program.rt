@@ -7,22 +7,16 @@ ghost use Rattle.bpf_file.specs.Private.Lines.{line_named};
 
 use crate::error::{FileError, Reason};
 use bpf_insn::{Insn, InsnError, decode};
-use bpf_loader::{LoadError, Program, load};
-use bpf_shared::MapShape;
+use bpf_loader::{LoadError, Named, Program, load};
 use bpf_text::{TextError, assemble_bytes};
 use hex::FromHexError;
 use std::alloc::Global;
 
 /// The program of these instructions.
-fn loaded(
-    alloc: Global,
-    line: usize,
-    insns: Vec<Insn>,
-    maps: &[MapShape],
-) -> Result<Program, FileError>
-    ensures { OrMemory (LoadsProgram line (length maps.now) insns.items) result }
+fn loaded(alloc: Global, line: usize, insns: Vec<Insn>, named: Named) -> Result<Program, FileError>
+    ensures { OrMemory (LoadsProgram line named insns.items) result }
 {
-    match load(alloc, insns, maps.len()) {
+    match load(alloc, insns, named) {
         Ok(program) => Ok(program),
         Err(LoadError::OutOfMemory) => Err(FileError::OutOfMemory),
         Err(error) => Err(FileError::Refused(line, Reason::Load(error))),
@@ -30,16 +24,11 @@ fn loaded(
 }
 
 /// The program in these bytes.
-fn of_bytes(
-    alloc: Global,
-    line: usize,
-    bytes: &[u8],
-    maps: &[MapShape],
-) -> Result<Program, FileError>
-    ensures { OrMemory (OfBytes line (length maps.now) bytes.now) result }
+fn of_bytes(alloc: Global, line: usize, bytes: &[u8], named: Named) -> Result<Program, FileError>
+    ensures { OrMemory (OfBytes line named bytes.now) result }
 {
     match decode(alloc, bytes) {
-        Ok(insns) => loaded(alloc, line, insns, maps),
+        Ok(insns) => loaded(alloc, line, insns, named),
         Err(InsnError::OutOfMemory) => Err(FileError::OutOfMemory),
         Err(error) => Err(FileError::Refused(line, Reason::Insn(error))),
     }
@@ -50,12 +39,12 @@ pub fn of_digits(
     alloc: Global,
     line: usize,
     digits: &[u8],
-    maps: &[MapShape],
+    named: Named,
 ) -> Result<Program, FileError>
-    ensures { OrMemory (OfDigits line (length maps.now) digits.now) result }
+    ensures { OrMemory (OfDigits line named digits.now) result }
 {
     match hex::decode(alloc, digits) {
-        Ok(bytes) => of_bytes(alloc, line, &bytes, maps),
+        Ok(bytes) => of_bytes(alloc, line, &bytes, named),
         Err(FromHexError::OutOfMemory) => Err(FileError::OutOfMemory),
         Err(_) => Err(FileError::Refused(line, Reason::NotHex)),
     }
@@ -81,13 +70,13 @@ pub fn of_assembly(
     alloc: Global,
     line: usize,
     text: &[u8],
-    maps: &[MapShape],
+    named: Named,
 ) -> Result<Program, FileError>
     requires { line + length text.now + 2 < 2 ^ 64 }
-    ensures { OrMemory (OfAssembly line (length maps.now) text.now) result }
+    ensures { OrMemory (OfAssembly line named text.now) result }
 {
     match assemble_bytes(alloc, text) {
-        Ok(insns) => loaded(alloc, line, insns, maps),
+        Ok(insns) => loaded(alloc, line, insns, named),
         Err(error) => Err(behind(line, error)),
     }
 }

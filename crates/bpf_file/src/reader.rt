@@ -57,6 +57,7 @@ fn read_line<'a>(
     text: &'a [u8],
 ) -> Result<(usize, Option<&'a [u8]>), FileError>
     requires room { line + length text.now + 2 < 2 ^ 64 }
+    requires fit { IsFit (part_of draft.old) }
     ensures goes { ReadsOnFrom line (Between (part_of draft.old)) (lines_of text.now)
         (part_of draft.new) result }
     ensures fit { OnOk result (IsFit (part_of draft.old) → IsFit (part_of draft.new)) }

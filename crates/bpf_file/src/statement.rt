@@ -1,32 +1,47 @@
 //! What a line of a run file says.
 
-ghost use Rattle.std.specs.Prelude.{◌≡◌, ◌≤◌, true, map, IfOk, IsUtf8};
+ghost use Rattle.std.specs.Prelude.{◌≡◌, ◌≤◌, map, IfOk, IsUtf8};
 ghost use Rattle.std.specs.Option.{option_copied};
 ghost use Rattle.bpf_file.specs.Form.{field_at};
-ghost use Rattle.bpf_file.specs.Statement.{count_at, held_at, Says, cpus_said, seed_said, map_said, masked_said, job_said, budgeted_said, work_of, growing_of, statement_of};
+ghost use Rattle.bpf_file.specs.Statement.{count_at, held_at, Says, cpus_said, seed_said, map_said, masked_said, array_said, data_said, job_said, budgeted_said, work_of, arrays_of, growing_of, statement_of};
 
 use crate::form;
 use crate::line::LineError;
+use crate::version::Version;
 use bpf_base::MAX_BUDGET;
 use bpf_lines::words::{self, NumberError};
-use bpf_shared::MapShape;
+use bpf_shared::{ArrayShape, MapShape};
 
 /// What one line says, where it isn't assembly. Names and digits are as they are.
 #[derive(Clone, Copy)]
 pub enum Statement<'a> {
-    /// The first line, and whether maps may grow after it.
-    Version(bool),
+    /// The first line, by the version that it says.
+    Version(Version),
     /// How many CPUs there are.
     Cpus(u64),
     /// The seed of the maps' hashes.
     Seed(u64),
     /// A map by its name.
     Map(&'a str, MapShape),
+    /// An array by its name.
+    Array(&'a str, ArrayShape),
+    Data(DataLine<'a>),
     /// A program's name; its assembly lines follow.
     Program(&'a [u8]),
     /// A program's name, and its words as hex digits.
     Words(&'a [u8], &'a [u8]),
     Job(JobLine<'a>),
+}
+
+/// Bytes that an array has at first, as their line says them.
+#[derive(Clone, Copy)]
+pub struct DataLine<'a> {
+    /// The array's name.
+    pub array: &'a str,
+    /// Where they begin, counted from the array's first byte.
+    pub at: u32,
+    /// The bytes as hex digits.
+    pub digits: &'a [u8],
 }
 
 /// A job as its line says it.
@@ -42,7 +57,7 @@ pub struct JobLine<'a> {
     pub context: Option<&'a [u8]>,
 }
 
-/// The greatest size of a map, and number of CPUs, that a line may have.
+/// The greatest size of a map or an array, offset, and number of CPUs that a line may have.
 const MOST: u64 = 0xffff_ffff;
 
 /// The number that a field is, if it is in its range.
@@ -120,6 +135,43 @@ fn masked_map<'a>(fields: &[&'a [u8]], grow: bool) -> Result<Statement<'a>, Line
     map(fields, mask as u32, grow)
 }
 
+/// An array, whose second field is a name.
+fn array<'a>(fields: &[&'a [u8]], per_cpu: bool, frozen: bool) -> Result<Statement<'a>, LineError>
+    requires { IsUtf8 (field_at (map (λ f. f.now) fields.now) 1) }
+    ensures { Says result (array_said (map (λ f. f.now) fields.now) per_cpu frozen) }
+{
+    let value = count_at(fields, 3, MOST)?;
+    let max = count_at(fields, 5, MOST)?;
+    let Ok(name) = str::from_utf8(form::field_at(fields, 1)) else {
+        unreachable!()
+    };
+    Ok(Statement::Array(
+        name,
+        ArrayShape {
+            value,
+            max,
+            per_cpu,
+            frozen,
+        },
+    ))
+}
+
+/// Bytes of an array, whose second field is a name.
+fn data<'a>(fields: &[&'a [u8]]) -> Result<Statement<'a>, LineError>
+    requires { IsUtf8 (field_at (map (λ f. f.now) fields.now) 1) }
+    ensures { Says result (data_said (map (λ f. f.now) fields.now)) }
+{
+    let at = count_at(fields, 2, MOST)?;
+    let Ok(array) = str::from_utf8(form::field_at(fields, 1)) else {
+        unreachable!()
+    };
+    Ok(Statement::Data(DataLine {
+        array,
+        at: at as u32,
+        digits: form::field_at(fields, 3),
+    }))
+}
+
 /// A job with this budget and context.
 fn job<'a>(
     fields: &[&'a [u8]],
@@ -169,27 +221,50 @@ fn work<'a>(fields: &[&'a [u8]]) -> Result<Statement<'a>, LineError>
     }
 }
 
-/// A line about a map that grows, or about a program or a job.
-fn growing<'a>(fields: &[&'a [u8]]) -> Result<Statement<'a>, LineError>
-    ensures { Says result (growing_of true (map (λ f. f.now) fields.now)) }
+/// A line about an array, or about a program or a job.
+fn arrays<'a>(fields: &[&'a [u8]]) -> Result<Statement<'a>, LineError>
+    ensures { Says result (arrays_of (map (λ f. f.now) fields.now)) }
 {
-    if form::has_form(&form::GROWING_MAP, fields) {
-        map(fields, u32::MAX, true)
-    } else if form::has_form(&form::GROWING_MASKED_MAP, fields) {
-        masked_map(fields, true)
+    if form::has_form(&form::ARRAY, fields) {
+        array(fields, false, false)
+    } else if form::has_form(&form::PER_CPU_ARRAY, fields) {
+        array(fields, true, false)
+    } else if form::has_form(&form::FROZEN_ARRAY, fields) {
+        array(fields, false, true)
+    } else if form::has_form(&form::FROZEN_PER_CPU_ARRAY, fields) {
+        array(fields, true, true)
+    } else if form::has_form(&form::DATA, fields) {
+        data(fields)
     } else {
         work(fields)
     }
 }
 
-/// What a line with these fields says, where maps may grow or may not.
-pub fn said<'a>(may_grow: bool, fields: &[&'a [u8]]) -> Result<Statement<'a>, LineError>
-    ensures { Says result (statement_of may_grow (map (λ f. f.now) fields.now)) }
+/// A line about a map that grows, or about an array, a program or a job.
+fn growing<'a>(version: Version, fields: &[&'a [u8]]) -> Result<Statement<'a>, LineError>
+    ensures { Says result (growing_of version (map (λ f. f.now) fields.now)) }
+{
+    if form::has_form(&form::GROWING_MAP, fields) {
+        map(fields, u32::MAX, true)
+    } else if form::has_form(&form::GROWING_MASKED_MAP, fields) {
+        masked_map(fields, true)
+    } else if version.has_arrays() {
+        arrays(fields)
+    } else {
+        work(fields)
+    }
+}
+
+/// What a line with these fields says in a file of this version.
+pub fn said<'a>(version: Version, fields: &[&'a [u8]]) -> Result<Statement<'a>, LineError>
+    ensures { Says result (statement_of version (map (λ f. f.now) fields.now)) }
 {
     if form::has_form(&form::VERSION, fields) {
-        Ok(Statement::Version(false))
+        Ok(Statement::Version(Version::First))
     } else if form::has_form(&form::SECOND_VERSION, fields) {
-        Ok(Statement::Version(true))
+        Ok(Statement::Version(Version::Second))
+    } else if form::has_form(&form::THIRD_VERSION, fields) {
+        Ok(Statement::Version(Version::Third))
     } else if form::has_form(&form::CPUS, fields) {
         cpus(fields)
     } else if form::has_form(&form::SEED, fields) {
@@ -198,8 +273,8 @@ pub fn said<'a>(may_grow: bool, fields: &[&'a [u8]]) -> Result<Statement<'a>, Li
         map(fields, u32::MAX, false)
     } else if form::has_form(&form::MASKED_MAP, fields) {
         masked_map(fields, false)
-    } else if may_grow {
-        growing(fields)
+    } else if version.may_grow() {
+        growing(version, fields)
     } else {
         work(fields)
     }

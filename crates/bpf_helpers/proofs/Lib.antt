@@ -1,10 +1,16 @@
+pub mod ArrayPlaces
+pub mod Asking
+pub mod AskingIndexed
 pub mod Binned
 pub mod Covering
 pub mod Determined
 pub mod HeldLaws
+pub mod IndexCalls
 pub mod Leaving
+pub mod Long
 pub mod Noting
 pub mod OnGrid
+pub mod Parted
 pub mod Reaching
 pub mod Sized
 pub mod SpanLemmas

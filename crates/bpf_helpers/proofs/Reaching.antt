@@ -10,7 +10,7 @@ use Rattle.bpf_shared.specs.declared.events.Event.{Event}
 use Rattle.bpf_shared.specs.declared.events.Event.TheVariants.{Load}
 use Rattle.bpf_shared.specs.Shape.{IsValueSpan}
 use Rattle.bpf_shared.specs.Passage.{IsHeldPlace}
-use Rattle.bpf_helpers.specs.Held.{AreHeld, AreReached, covers, is_covered, is_in, reaches}
+use Rattle.bpf_helpers.specs.Held.{AreHeld, covers, is_covered, is_in, reaches}
 use Rattle.bpf_helpers.specs.Reads.{loads}
 
 -- a span that has an address
@@ -105,6 +105,6 @@ all_reached : (held : List Span) (a n k : ℕ) → k < n → list_any (covers a 
 all_reached [] a n k l e = cc
 all_reached (p ∷ held) a n k l e = next_reached p held a n k l (covers a n p) refl e (all_reached held a n k l)
 
-pub covered_reached : (held : List Span) (a n : ℕ) → is_covered held a n ≡ true → AreReached held a n
+pub covered_reached : (held : List Span) (a n k : ℕ) → is_covered held a n ≡ true → k < n → reaches held (a + k) ≡ true
 unfolding reaches
-covered_reached held a n e k l = all_reached held a n k l e
+covered_reached held a n k e l = all_reached held a n k l e

@@ -1,9 +1,9 @@
 -- The values that a run holds, as their spans: each once, and not too many.
-use Rattle.std.specs.Prelude.{◌≡◌, ◌≢◌, ℕ, ◌+◌, ◌-◌, ◌<◌, ◌≤◌, nat_lt, nat_le, Bool, true, false, ◌&&◌, All, List, [], ◌∷◌, ◌++◌, length, if◌then◌else◌}
+use Rattle.std.specs.Prelude.{◌≡◌, ◌≢◌, ℕ, ◌-◌, ◌≤◌, nat_lt, nat_le, Bool, true, false, ◌&&◌, All, List, [], ◌∷◌, ◌++◌, length, if◌then◌else◌}
 use Rattle.std.specs.List.{list_any}
 use Rattle.bpf_shared.specs.declared.events.Span.{Span}
 use Rattle.bpf_shared.specs.declared.shapes.MapShape.{MapShape}
-use Rattle.bpf_shared.specs.Shape.{AreMaps, IsElement, IsValueSpan}
+use Rattle.bpf_shared.specs.Shape.{Shape, AreMaps, IsElement, IsValueSpan}
 use Rattle.bpf_shared.specs.Passage.{same_span}
 
 -- how many spans a run holds at most (our own choice)
@@ -38,10 +38,6 @@ is_in a p = nat_le p.at a && nat_lt (a - p.at) p.size
 unfoldable pub reaches : List Span → ℕ → Bool
 reaches held a = list_any (is_in a) held
 
--- each of the n bytes from the address a on is
-abbrev pub AreReached : List Span → ℕ → ℕ → Type 0
-AreReached held a n = (k : ℕ) → k < n → reaches held (a + k) ≡ true
-
 -- whether the n bytes from an address on are in a span
 abbrev pub covers : ℕ → ℕ → Span → Bool
 covers a n p = nat_le p.at a && (nat_le n p.size && nat_le (a - p.at) (p.size - n))
@@ -51,7 +47,7 @@ abbrev pub is_covered : List Span → ℕ → ℕ → Bool
 is_covered spans a n = list_any (covers a n) spans
 
 -- what the calls of one CPU's run leave of a store: its shapes, who is in a run, what others hold
-pub record KeepsRun {S : Type 0} (shapes : S → List MapShape) (running : S → ℕ → Bool)
+pub record KeepsRun {S : Type 0} (shapes : S → Shape) (running : S → ℕ → Bool)
     (held : S → ℕ → Span → Bool) (cpu : ℕ) (old new : S) : Type 0 where
   pub shape : shapes new ≡ shapes old
   pub runs : running new ≡ running old

@@ -4,7 +4,7 @@ use Rattle.bpf_mem.specs.declared.memory.PrivateMemory.{PrivateMemory}
 use Rattle.bpf_shared.specs.Laws.{asked}
 use Rattle.bpf_shared.specs.declared.events.Event.{Event}
 use Rattle.bpf_shared.specs.declared.events.Span.{Span}
-use Rattle.bpf_shared.specs.declared.shapes.MapShape.{MapShape}
+use Rattle.bpf_shared.specs.Shape.{Shape}
 use Rattle.bpf_helpers.specs.declared.fault.HelperFault.{HelperFault}
 use Rattle.bpf_helpers.specs.Calls.{CallsHelper}
 use Rattle.bpf_helpers.specs.Saved.{AreSavable, spans_saved}
@@ -24,10 +24,10 @@ AreAskedAlike events others =
 -- are what all of them determine
 abbrev pub CallsAreDetermined : Type 0
 CallsAreDetermined =
-    (shapes : List MapShape) (n cpu : ℕ) (registers : List ℕ) (memory : PrivateMemory)
+    (shape : Shape) (n cpu : ℕ) (registers : List ℕ) (memory : PrivateMemory)
     (held after other : List Span) (events others : List Event) (result end : Result ℕ HelperFault)
-    → CallsHelper shapes n cpu registers memory held events result after
-    → CallsHelper shapes n cpu registers memory held others end other
+    → CallsHelper shape n cpu registers memory held events result after
+    → CallsHelper shape n cpu registers memory held others end other
     → AreAskedAlike events others × (events ≡ others → (result ≡ end) × (after ≡ other))
 
 -- what spans are saved as determines them, and where it ends

@@ -54,7 +54,7 @@ pub(crate) fn look_up<S: Shared>(
 ) -> Result<u64, HelperFault>
     requires serves { S.serves shared.old cpu ≡ true }
     requires in_run { S.running shared.old cpu ≡ true }
-    requires key { IsKeyOf (S.shapes shared.old) map key.now }
+    requires key { IsKeyOf (S.shapes shared.old).maps map key.now }
     requires held { AreHeld (S.held shared.old cpu) held.old }
     ensures call { (answer : Option Span)
         × Chain S.passes S.serves cpu shared.old shared.new (Event.Lookup map key.now answer ∷ [])

@@ -10,6 +10,7 @@ use crate::answers::{look_up, number_of_answer};
 use crate::fault::HelperFault;
 use crate::gathered::call_map;
 use crate::held::HeldSpans;
+use crate::indexed::call_array;
 pub use crate::numbers::{
     GET_SMP_PROCESSOR_ID, MAP_DELETE_ELEM, MAP_LOOKUP_ELEM, MAP_UPDATE_ELEM, MAPS,
 };
@@ -44,7 +45,7 @@ pub fn call<S: Shared>(
         return Err(HelperFault::NotAMap);
     };
     let Some(shape) = shared.shape(map) else {
-        return Err(HelperFault::NotAMap);
+        return call_array(number, cpu, map, registers, memory, held, shared);
     };
     let map = map as u8;
     let Some(key) = own_bytes(memory, registers[2], shape.key as usize) else {

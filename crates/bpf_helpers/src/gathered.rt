@@ -1,4 +1,4 @@
-//! The calls of map helpers whose key or value may lie in held values, from which bytes are gathered.
+//! The calls of map helpers whose key or value may lie in values, from which bytes are gathered.
 //! They have room for the bytes, which the calls of programs that keep both on their stacks don't
 //! pay for: so they are out of line.
 
@@ -32,26 +32,27 @@ pub(crate) fn call_map<S: Shared>(
 ) -> Result<u64, HelperFault>
     requires number { (number ≡ lookup_number) ⊎ (number ≡ update_number)
         ⊎ (number ≡ delete_number) }
-    requires map { IsMapAt (S.shapes shared.old) registers.now map shape }
+    requires map { IsMapAt (S.shapes shared.old).maps registers.now map shape }
     requires shape { IsMapShape shape }
     requires serves { S.serves shared.old cpu ≡ true }
     requires in_run { S.running shared.old cpu ≡ true }
     requires held { AreHeld (S.held shared.old cpu) held.old }
     ensures call { (events : List Event) × Chain S.passes S.serves cpu shared.old shared.new events
-        × CallsMap memory.now registers.now map shape held.old number events result held.new }
+        × CallsMap (S.shapes shared.old) memory.now registers.now held.old map shape number events
+        result held.new }
     ensures held { AreHeld (S.held shared.new cpu) held.new }
     ensures keeps { KeepsRun S.shapes S.running S.held cpu shared.old shared.new }
 {
     let key_at = registers[2];
     let key_count = shape.key as usize;
-    let Some(key_place) = find_source(memory, held, key_at, key_count) else {
+    let Some(key_place) = find_source(memory, held, shared, key_at, key_count) else {
         return Err(HelperFault::BadAddress);
     };
     let mut key_room = Bytes::new();
     if number == MAP_UPDATE_ELEM {
         let value_at = registers[3];
         let value_count = shape.value as usize;
-        let Some(value_place) = find_source(memory, held, value_at, value_count) else {
+        let Some(value_place) = find_source(memory, held, shared, value_at, value_count) else {
             return Err(HelperFault::BadAddress);
         };
         let mut value_room = Bytes::new();

@@ -1,8 +1,8 @@
 //! The values that a CPU's run holds.
 
 ghost use Rattle.std.specs.Prelude.{◌≡◌, ◌<◌, ◌≤◌, [], ◌∷◌, ◌++◌, ◌↔◌, All, length, IsTrue, true, false};
-ghost use Rattle.bpf_shared.specs.Shape.{IsValueSpan};
-ghost use Rattle.bpf_helpers.specs.Held.{AreElements, AreReached, covers, has_span, is_covered, max_held, reaches, with_span};
+ghost use Rattle.bpf_helpers.specs.Private.Grid.{IsAligned};
+ghost use Rattle.bpf_helpers.specs.Held.{AreElements, covers, has_span, is_covered, max_held, reaches, with_span};
 
 mod saving;
 
@@ -89,24 +89,11 @@ impl HeldSpans {
         self.covers(address, 1)
     }
 
-    /// Whether each of some bytes from an address on is in one of them.
-    pub fn reach_all(&self, at: u64, length: usize) -> bool
-        requires some { 1 ≤ length }
-        requires values { All IsValueSpan self.now }
-        ensures { IsTrue result ↔ AreReached self.now at length }
+    /// Each of them begins at a multiple of eight: says so, and does nothing.
+    pub(crate) fn are_aligned(&self)
+        ensures { All IsAligned self.now }
     {
-        if self.covers(at, length as u64) {
-            return true;
-        }
-        let Some(end) = at.checked_add(length as u64) else {
-            return false;
-        };
-        for address in at..end {
-            if !self.reaches(address) {
-                return false;
-            }
-        }
-        true
+        let _spans = &self.spans;
     }
 
     /// Whether one of them has all bytes from an address on, this many.

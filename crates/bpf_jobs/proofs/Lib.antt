@@ -1,4 +1,6 @@
+pub mod ArrayLines
 pub mod LineLaws
 pub mod ListLines
+pub mod MapLines
 pub mod OneListing
 pub mod OneReport

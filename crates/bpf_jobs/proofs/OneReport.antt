@@ -1,17 +1,12 @@
 -- What is printed of a run is one text.
-use Rattle.std.proofs.Common.{◌≡◌, ℕ, Bool, true, false, List, ◌++◌, length, sym, ap, subst, ◌∙◌}
-use Rattle.bpf_shared.specs.Store.{Plain}
+use Rattle.std.proofs.Common.{◌≡◌, ℕ, Bool, List, ◌++◌, length, sym, ap, subst, ◌∙◌}
 use Rattle.bpf_machine.specs.Machine.{MachineState, Shows}
 use Rattle.bpf_machine.specs.Rounds.{RunsToEnd}
 use Rattle.bpf_machine.specs.Laws.{RunsByAreDetermined}
 use Rattle.bpf_machine.specs.Schedule.{World, RunsSchedule, unrolled}
-use Rattle.bpf_jobs.specs.Printed.{job_lines, lines_of_lists, AreMapsAsked, TellsWith, IsReportBy}
+use Rattle.bpf_jobs.specs.Printed.{job_lines, lines_of_lists, TellsWith, IsReportBy}
 use Rattle.bpf_jobs.specs.Laws.{ReportsByAreDetermined}
-use Rattle.bpf_jobs.proofs.OneListing.{one_map_text}
-
-one_asked : (maps : Bool) (s : Plain) (names : List (List ℕ)) (text other : List ℕ) → AreMapsAsked maps s names text → AreMapsAsked maps s names other → text ≡ other
-one_asked false s names text other a b = a ∙ sym b
-one_asked true s names text other a b = one_map_text s names (length names) text other a b
+use Rattle.bpf_jobs.proofs.OneListing.{one_asked}
 
 -- what is printed of one machine
 one_told : (z y : World) (names : List (List ℕ)) (maps : Bool) (text other : List ℕ) (stopped halted : Bool) → z ≡ y

@@ -1,9 +1,11 @@
 -- What is printed of jobs that are run in rounds. Our own choice.
-use Rattle.std.specs.Prelude.{◌≡◌, ℕ, zero, suc, ◌++◌, ◌||◌, Bool, true, false, List, [], Option, Some, None, codes, length, map, slice_get, slice_index_or}
+use Rattle.std.specs.Prelude.{◌≡◌, ℕ, zero, suc, ◌+◌, ◌++◌, ◌||◌, ◌==◌, Bool, true, false, not, if◌then◌else◌, List, [], Option, Some, None, codes, length, map, slice_get, slice_index_or}
 use Rattle.std.specs.Fmt.{decimal}
+use Rattle.std.specs.List.{list_any}
 use Rattle.hex.specs.Hex.{encode_lower}
-use Rattle.bpf_shared.specs.Shape.{Shape}
-use Rattle.bpf_shared.specs.Store.{Plain, as_made}
+use Rattle.bpf_shared.specs.declared.shapes.ArrayShape.{ArrayShape}
+use Rattle.bpf_shared.specs.Shape.{Shape, copies}
+use Rattle.bpf_shared.specs.Store.{Plain, as_made, fixed_number}
 use Rattle.bpf_shared.specs.Listing.{Pair, pair_at, IsListing}
 use Rattle.bpf_loader.specs.Loaded.{Loaded}
 use Rattle.bpf_cpu.specs.declared.outcome.Outcome.{Outcome}
@@ -62,6 +64,50 @@ AreMapLines s names (suc m) text = (before : List ℕ) × (pairs : List Pair)
     × AreMapLines s names m before × IsListing s m pairs
     × (text ≡ before ++ key_lines (slice_index_or names m []) (length pairs) pairs)
 
+-- ---- arrays
+-- some byte isn't zero
+abbrev pub is_set : List ℕ → Bool
+is_set bytes = list_any (λ byte. not (byte == 0)) bytes
+
+-- which of an array's values: its index, and the CPU's number where each CPU has its own
+abbrev pub place_text : Bool → ℕ → ℕ → List ℕ
+place_text per_cpu i k =
+    if per_cpu then decimal i ++ codes " cpu " ++ decimal k else decimal i
+
+-- the line of a value, in lower case hex; none where all its bytes are zero
+abbrev pub value_line : List ℕ → Bool → ℕ → ℕ → List ℕ → List ℕ
+value_line name per_cpu i k bytes =
+    if is_set bytes
+    then codes "array " ++ name ++ codes " " ++ place_text per_cpu i k ++ codes "="
+    ++ encode_lower bytes ++ codes "\n"
+    else []
+
+-- of an index of the a-th array, of the first n CPUs
+abbrev pub index_lines : Plain → List ℕ → ℕ → ArrayShape → ℕ → ℕ → List ℕ
+index_lines s name a g i zero = []
+index_lines s name a g i (suc k) =
+    index_lines s name a g i k
+    ++ value_line name g.per_cpu i k (s.value (fixed_number a k i)).bytes
+
+-- of its first n indices, each CPU's value
+abbrev pub value_lines : Plain → List ℕ → ℕ → ArrayShape → ℕ → List ℕ
+value_lines s name a g zero = []
+value_lines s name a g (suc i) =
+    value_lines s name a g i ++ index_lines s name a g i (copies s.shape.cpus g)
+
+-- of all of them; none of an array that may only be read
+abbrev pub array_text : Plain → List ℕ → ℕ → Option ArrayShape → List ℕ
+array_text s name a None = []
+array_text s name a (Some g) = if g.frozen then [] else value_lines s name a g g.max
+
+-- of the first n arrays, whose names follow those of the maps
+abbrev pub array_lines : Plain → List (List ℕ) → ℕ → List ℕ
+array_lines s names zero = []
+array_lines s names (suc a) =
+    array_lines s names a
+    ++ array_text s (slice_index_or names (length s.shape.maps + a) []) a
+    (slice_get s.shape.arrays a)
+
 -- ---- lists of keys
 -- a blank and the key in lower case hex
 abbrev pub key_word : List ℕ → List ℕ
@@ -109,12 +155,15 @@ first_of s = first_world s.shape s.programs.items (map waiting s.jobs.items)
 abbrev pub asked_of : Bool → Setup → World
 asked_of keys s = asked_world keys s.shape s.programs.items (map waiting s.jobs.items)
 
+-- the lines of the maps, which have the first of these names, and then those of the arrays
 abbrev pub AreMapsAsked : Bool → Plain → List (List ℕ) → List ℕ → Type 0
 AreMapsAsked false s names text = text ≡ []
-AreMapsAsked true s names text = AreMapLines s names (length names) text
+AreMapsAsked true s names text =
+    (lines : List ℕ) × AreMapLines s names (length s.shape.maps) lines
+    × (text ≡ lines ++ array_lines s names (length s.shape.arrays))
 
 -- the text has the lines of the jobs, then these of lists, and then, where they are asked for, those
--- of the maps; and whether some job ended in a fault or out of budget
+-- of the maps and arrays; and whether some job ended in a fault or out of budget
 abbrev pub TellsWith : List ℕ → Plain → List Task → List (List ℕ) → Bool → List ℕ → Bool → Type 0
 TellsWith lists s jobs names maps text stopped =
     (lines : List ℕ) × AreMapsAsked maps s names lines

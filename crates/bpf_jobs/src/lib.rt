@@ -1,7 +1,8 @@
-//! What is printed of jobs that are run in rounds over a plain store: their ends, and the maps that
-//! they leave.
+//! What is printed of jobs that are run in rounds over a plain store: their ends, and the maps and
+//! arrays that they leave.
 #![tactic(auto)]
 
+mod arrays;
 pub mod laws;
 mod line;
 mod listing;
@@ -9,6 +10,7 @@ mod lists;
 mod maps;
 mod rounds;
 
+pub use arrays::{ArrayPlace, push_value};
 pub use line::{OutcomeText, is_stop, push_job};
 pub use listing::has_any_stopped;
 pub use lists::push_lists;

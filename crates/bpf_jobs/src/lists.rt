@@ -50,8 +50,9 @@ fn push_list(
     text.push_str("\n")
 }
 
-/// The name of a map by its number; none for no map's.
-fn name_at(names: &[String], number: usize) -> &str
+/// The name of a map by its number, or of an array by the number of maps and its own; none where
+/// none is given.
+pub(crate) fn name_at(names: &[String], number: usize) -> &str
     ensures { result.now ≡ slice_index_or (map string_bytes names.now) number [] }
 {
     match names.get(number) {

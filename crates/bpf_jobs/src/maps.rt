@@ -7,6 +7,7 @@ ghost use Rattle.bpf_plain.specs.PlainStore.{StandsFor};
 ghost use Rattle.bpf_shared.specs.Listing.{listed};
 ghost use Rattle.bpf_jobs.specs.Printed.{AreMapLines, key_lines, key_line};
 
+use crate::lists::name_at;
 use bpf_plain::PlainStore;
 use std::alloc::{AllocError, Global};
 
@@ -43,19 +44,19 @@ pub fn push_map(
     Ok(())
 }
 
-/// The lines of all maps, which have these names, in the order of their numbers.
+/// The lines of all maps in the order of their numbers. They have the first of these names.
 pub(crate) fn list_maps(
     alloc: Global,
     store: &PlainStore,
     names: &[String],
 ) -> Result<String, AllocError>
     ensures { IfOk result (λ text. (s : Plain) → IsSoundStore s → StandsFor store.now s
-        → AreMapLines s (map string_bytes names.now) (length names.now) (string_bytes text)) }
+        → AreMapLines s (map string_bytes names.now) (length s.shape.maps) (string_bytes text)) }
 {
     let mut text = String::new(alloc);
-    for map in 0..names.len() {
+    for map in 0..store.store_shape().maps().len() {
         let pairs = store.dump(alloc, map as u64)?;
-        push_map(alloc, &mut text, names[map].as_str(), &pairs)?;
+        push_map(alloc, &mut text, name_at(names, map), &pairs)?;
     }
     Ok(text)
 }

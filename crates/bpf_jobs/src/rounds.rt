@@ -9,6 +9,7 @@ ghost use Rattle.bpf_machine.specs.Machine.{Shows};
 ghost use Rattle.bpf_machine.specs.Schedule.{World};
 ghost use Rattle.bpf_jobs.specs.Printed.{asked_of, first_of, AreMapsAsked, IsReportBy, lines_of_lists, TellsWith};
 
+use crate::arrays::list_arrays;
 use crate::listing::{has_any_stopped, list_jobs};
 use crate::lists::list_keys;
 use crate::maps::list_maps;
@@ -20,7 +21,8 @@ use std::alloc::{AllocError, Global};
 /// How jobs have ended.
 #[derive(Drop)]
 pub struct Report {
-    /// A line a job, then those of lists of keys and those of the maps, where they were asked for.
+    /// A line a job, then those of lists of keys and those of the maps and arrays, where they were
+    /// asked for.
     pub text: String,
     /// Whether some job ended in a fault or out of budget.
     pub stopped: bool,
@@ -44,6 +46,8 @@ pub fn make_asked(alloc: Global, setup: Setup, keys: bool) -> Result<Machine, Al
         programs,
         jobs,
     } = setup;
+    // The call says that the shape is in range, and so that a store as made is sound.
+    let _ = shape.cpus();
     let Ok(store) = PlainStore::new(alloc, shape) else {
         return Err(AllocError);
     };
@@ -60,7 +64,7 @@ pub fn make_asked(alloc: Global, setup: Setup, keys: bool) -> Result<Machine, Al
     }
 }
 
-/// The lines of the maps, where they are asked for.
+/// The lines of the maps and then of the arrays, where they are asked for.
 fn asked_lines(
     alloc: Global,
     store: &PlainStore,
@@ -71,7 +75,10 @@ fn asked_lines(
         → AreMapsAsked maps s (map string_bytes names.now) (string_bytes text)) }
 {
     if maps {
-        list_maps(alloc, store, names)
+        let mut text = list_maps(alloc, store, names)?;
+        let arrays = list_arrays(alloc, store, names)?;
+        text.push_str(arrays.as_str())?;
+        Ok(text)
     } else {
         Ok(String::new(alloc))
     }
@@ -97,7 +104,7 @@ pub fn tell(
     Ok(Report { text, stopped })
 }
 
-/// Runs jobs over a new store whose maps have these names: first the turns of a schedule (CPUs, each
+/// Runs jobs over a new store whose maps, and then arrays, have these names: first the turns of a schedule (CPUs, each
 /// with how many turns it takes before the next), then rounds until each job has ended. Turns of a CPU
 /// without work change nothing, and neither do those of a CPU that the store hasn't. Where keys are
 /// asked for, each CPU lists those of all maps with the end of its last job. The only refusal is out of

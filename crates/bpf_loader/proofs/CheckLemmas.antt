@@ -3,6 +3,7 @@ use Rattle.std.proofs.Common.{◌≡◌, ◌≢◌, ℕ, ◌+◌, ◌<◌, ◌�
 use Rattle.std.proofs.lemmas.Int.{ints}
 use Rattle.std.specs.Prelude.{ℤ, pos, IsSomeAnd}
 use Rattle.std.proofs.lemmas.Bool.{cases_eq}
+use Rattle.bpf_loader.specs.declared.named.Named.{Named}
 use Rattle.bpf_insn.specs.declared.instruction.Insn.{Insn}
 use Rattle.bpf_insn.specs.Refusal.{max_words}
 use Rattle.bpf_loader.specs.declared.refusal.LoadError.{LoadError}
@@ -38,20 +39,20 @@ error_at_code (error.UnknownMap pc) = refl
 error_at_code error.OutOfMemory = refl
 
 -- where the refusal with the next number doesn't apply, the checks go on to the one after it
-pub clear_next : (maps : ℕ) (is : List Insn) (pc number : ℕ) → IsClearBelow maps is pc number → ¬ Applies maps is (error_at number pc) → IsClearBelow maps is pc (number + 1)
-clear_next maps is pc number clear not_here e applies at =
+pub clear_next : (named : Named) (is : List Insn) (pc number : ℕ) → IsClearBelow named is pc number → ¬ Applies named is (error_at number pc) → IsClearBelow named is pc (number + 1)
+clear_next named is pc number clear not_here e applies at =
     let from = clear e applies at in
     elim (cases_eq number (refusal_number e)) [
       | inl same ↦
           let this : e ≡ error_at number pc = sym (error_at_code e) ∙ cc in
-          absurd (not_here (subst (Applies maps is) this applies))
+          absurd (not_here (subst (Applies named is) this applies))
       | inr other ↦ omega arith
     ]
 
 -- or doesn't hold of the instruction that begins there
-pub clear_past : (maps : ℕ) (is : List Insn) (pc number : ℕ) (i : Insn) (P : Insn → Type 0) → Begins is pc i → IsClearBelow maps is pc number → (Applies maps is (error_at number pc) → HasAt is pc P) → ¬ P i → IsClearBelow maps is pc (number + 1)
-clear_past maps is pc number i P b clear means not_it =
-    clear_next maps is pc number clear (λ applies. let has = means applies in not_it (subst P (begins_unique is pc has.0 i has.1 b) has.2))
+pub clear_past : (named : Named) (is : List Insn) (pc number : ℕ) (i : Insn) (P : Insn → Type 0) → Begins is pc i → IsClearBelow named is pc number → (Applies named is (error_at number pc) → HasAt is pc P) → ¬ P i → IsClearBelow named is pc (number + 1)
+clear_past named is pc number i P b clear means not_it =
+    clear_next named is pc number clear (λ applies. let has = means applies in not_it (subst P (begins_unique is pc has.0 i has.1 b) has.2))
 
 -- a fact that doesn't hold of the value in an option, or of which there is no value
 pub none_and_at : {A : Type 0} (P : A → Type 0) (o : Option A) (x : A) → Some x ≡ o → ¬ P x → ¬ IsSomeAnd o P
@@ -72,30 +73,30 @@ pub some_of_begins : (is : List Insn) (pc : ℕ) (i : Insn) → Begins is pc i �
 some_of_begins is pc i b e = omega (arith, start_inside is pc i b, words_some i, ap word_length e)
 
 -- refusals of a whole list come first
-pub clear_from : (maps : ℕ) (is : List Insn) (pc : ℕ) → is ≢ [] → word_length is ≤ max_words → IsClearBelow maps is pc 8
-clear_from maps is pc some short error.Empty applies at = absurd (some applies)
-clear_from maps is pc some short error.TooLong applies at = absurd (omega (arith, applies))
-clear_from maps is pc some short (error.WritesR10 q) applies at = omega arith
-clear_from maps is pc some short (error.JumpOut q) applies at = omega arith
-clear_from maps is pc some short (error.JumpIntoWide q) applies at = omega arith
-clear_from maps is pc some short (error.FallsOff q) applies at = omega arith
-clear_from maps is pc some short (error.UnknownHelper q) applies at = omega arith
-clear_from maps is pc some short (error.UnknownMap q) applies at = omega arith
-clear_from maps is pc some short error.OutOfMemory applies at = absurd applies
+pub clear_from : (named : Named) (is : List Insn) (pc : ℕ) → is ≢ [] → word_length is ≤ max_words → IsClearBelow named is pc 8
+clear_from named is pc some short error.Empty applies at = absurd (some applies)
+clear_from named is pc some short error.TooLong applies at = absurd (omega (arith, applies))
+clear_from named is pc some short (error.WritesR10 q) applies at = omega arith
+clear_from named is pc some short (error.JumpOut q) applies at = omega arith
+clear_from named is pc some short (error.JumpIntoWide q) applies at = omega arith
+clear_from named is pc some short (error.FallsOff q) applies at = omega arith
+clear_from named is pc some short (error.UnknownHelper q) applies at = omega arith
+clear_from named is pc some short (error.UnknownMap q) applies at = omega arith
+clear_from named is pc some short error.OutOfMemory applies at = absurd applies
 
 -- a refusal that applies speaks of a word of the program
-within : (maps : ℕ) (is : List Insn) (e : LoadError) → is ≢ [] → word_length is ≤ max_words → Applies maps is e → place e < word_length is
-within maps is error.Empty some short applies = absurd (some applies)
-within maps is error.TooLong some short applies = absurd (omega (arith, applies))
-within maps is (error.WritesR10 q) some short applies = omega (arith, start_inside is q applies.0 applies.1, words_some applies.0)
-within maps is (error.JumpOut q) some short applies = omega (arith, start_inside is q applies.0 applies.1, words_some applies.0)
-within maps is (error.JumpIntoWide q) some short applies = omega (arith, start_inside is q applies.0 applies.1, words_some applies.0)
-within maps is (error.FallsOff q) some short applies = omega (arith, start_inside is q applies.0 applies.1, words_some applies.0)
-within maps is (error.UnknownHelper q) some short applies = omega (arith, start_inside is q applies.0 applies.1, words_some applies.0)
-within maps is (error.UnknownMap q) some short applies = omega (arith, start_inside is q applies.0 applies.1, words_some applies.0)
-within maps is error.OutOfMemory some short applies = absurd applies
+within : (named : Named) (is : List Insn) (e : LoadError) → is ≢ [] → word_length is ≤ max_words → Applies named is e → place e < word_length is
+within named is error.Empty some short applies = absurd (some applies)
+within named is error.TooLong some short applies = absurd (omega (arith, applies))
+within named is (error.WritesR10 q) some short applies = omega (arith, start_inside is q applies.0 applies.1, words_some applies.0)
+within named is (error.JumpOut q) some short applies = omega (arith, start_inside is q applies.0 applies.1, words_some applies.0)
+within named is (error.JumpIntoWide q) some short applies = omega (arith, start_inside is q applies.0 applies.1, words_some applies.0)
+within named is (error.FallsOff q) some short applies = omega (arith, start_inside is q applies.0 applies.1, words_some applies.0)
+within named is (error.UnknownHelper q) some short applies = omega (arith, start_inside is q applies.0 applies.1, words_some applies.0)
+within named is (error.UnknownMap q) some short applies = omega (arith, start_inside is q applies.0 applies.1, words_some applies.0)
+within named is error.OutOfMemory some short applies = absurd applies
 
 -- a program that is clear at each of its words is sound
-pub sound_of_clear : (maps : ℕ) (is : List Insn) → is ≢ [] → word_length is ≤ max_words → IsClearBefore maps is (word_length is) → IsSound maps is
-sound_of_clear maps is some short clear e applies =
-    absurd (omega (arith, clear e applies, within maps is e some short applies))
+pub sound_of_clear : (named : Named) (is : List Insn) → is ≢ [] → word_length is ≤ max_words → IsClearBefore named is (word_length is) → IsSound named is
+sound_of_clear named is some short clear e applies =
+    absurd (omega (arith, clear e applies, within named is e some short applies))

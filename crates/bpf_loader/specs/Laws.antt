@@ -1,5 +1,6 @@
 -- What follows from the definitions of places and sound programs, of all lists of instructions.
 use Rattle.std.specs.Prelude.{◌≡◌, ℕ, List}
+use Rattle.bpf_loader.specs.declared.named.Named.{Named}
 use Rattle.bpf_insn.specs.declared.instruction.Insn.{Insn}
 use Rattle.bpf_loader.specs.declared.refusal.LoadError.{LoadError}
 use Rattle.bpf_loader.specs.Places.{Begins}
@@ -13,6 +14,6 @@ OneInstructionBegins = (is : List Insn) (pc : ℕ) (i j : Insn) → Begins is pc
 -- a list has one first refusal at most, and a sound one has none
 abbrev pub FirstIsDetermined : Type 0
 FirstIsDetermined =
-    ((maps : ℕ) (is : List Insn) (e f : LoadError) → IsFirstRefusal maps is e
-    → IsFirstRefusal maps is f → e ≡ f)
-    × ((maps : ℕ) (is : List Insn) (e : LoadError) → IsSound maps is → ¬ IsFirstRefusal maps is e)
+    ((named : Named) (is : List Insn) (e f : LoadError) → IsFirstRefusal named is e
+    → IsFirstRefusal named is f → e ≡ f)
+    × ((named : Named) (is : List Insn) (e : LoadError) → IsSound named is → ¬ IsFirstRefusal named is e)

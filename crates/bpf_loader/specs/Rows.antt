@@ -76,7 +76,7 @@ abbrev pub helper_of : Insn → Option ℕ
 helper_of (insn.CallHelper number) = Some number
 helper_of _ = None
 
--- the number of the map that is named
+-- the number of the map or array that is named
 abbrev pub map_of : Insn → Option ℕ
 map_of (insn.LoadMap d map) = Some map
 map_of _ = None

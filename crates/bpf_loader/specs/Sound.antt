@@ -2,7 +2,7 @@
 -- is read-only is the calling convention of Linux; that a jump into a wide instruction has no
 -- meaning is RFC 9669's (section 4.3). That a run may not leave the program by a jump or past its
 -- end, the limits, the numbers of the refusals and their order are our own choice.
-use Rattle.std.specs.Prelude.{◌≡◌, ◌≢◌, ℕ, ◌+◌, ◌<◌, ◌≤◌, IsTrue, List, [], Some, IsSomeAnd, IfSome}
+use Rattle.std.specs.Prelude.{◌≡◌, ◌≢◌, ℕ, ◌+◌, ◌<◌, IsTrue, List, [], Some, IsSomeAnd, IfSome}
 use Rattle.bpf_insn.specs.declared.register.Reg.TheVariants.{R10}
 use Rattle.bpf_insn.specs.declared.instruction.Insn.{Insn}
 use Rattle.bpf_loader.specs.declared.refusal.LoadError.{LoadError}
@@ -11,6 +11,8 @@ use Rattle.bpf_insn.specs.Table.{words}
 use Rattle.bpf_insn.specs.First.{IsFirst}
 use Rattle.bpf_insn.specs.Refusal.{max_words}
 use Rattle.bpf_insn.specs.Table.{word_length}
+use Rattle.bpf_loader.specs.declared.named.Named.{Named}
+use Rattle.bpf_loader.specs.Named.{IsNamed, IsUnknown}
 use Rattle.bpf_loader.specs.Places.{Begins, IsStart, target, IsOutside, IsSecondWord, Leads}
 use Rattle.bpf_loader.specs.Rows.{destination, jump_offset, goes_on, helper_of, map_of, IsHelper, stride}
 
@@ -18,25 +20,25 @@ use Rattle.bpf_loader.specs.Rows.{destination, jump_offset, goes_on, helper_of, 
 abbrev pub HasAt : List Insn → ℕ → (Insn → Type 0) → Type 0
 HasAt is pc P = (i : Insn) × Begins is pc i × P i
 
--- what each refusal says of the list, where this many maps are given
-abbrev pub Applies : ℕ → List Insn → LoadError → Type 0
-Applies maps is Empty = is ≡ []
-Applies maps is TooLong = max_words < word_length is
-Applies maps is (WritesR10 pc) = HasAt is pc (λ i. destination i ≡ Some R10)
-Applies maps is (JumpOut pc) =
+-- what each refusal says of the list, where these maps and arrays may be named
+abbrev pub Applies : Named → List Insn → LoadError → Type 0
+Applies named is Empty = is ≡ []
+Applies named is TooLong = max_words < word_length is
+Applies named is (WritesR10 pc) = HasAt is pc (λ i. destination i ≡ Some R10)
+Applies named is (JumpOut pc) =
     HasAt is pc (λ i. IsSomeAnd (jump_offset i) (λ offset. IsOutside is (target pc offset)))
-Applies maps is (JumpIntoWide pc) =
+Applies named is (JumpIntoWide pc) =
     HasAt is pc (λ i. IsSomeAnd (jump_offset i) (λ offset. IsSecondWord is (target pc offset)))
-Applies maps is (FallsOff pc) =
+Applies named is (FallsOff pc) =
     HasAt is pc (λ i. IsTrue (goes_on i) × (pc + words i ≡ word_length is))
-Applies maps is (UnknownHelper pc) =
+Applies named is (UnknownHelper pc) =
     HasAt is pc (λ i. IsSomeAnd (helper_of i) (λ number. ¬ IsHelper number))
-Applies maps is (UnknownMap pc) = HasAt is pc (λ i. IsSomeAnd (map_of i) (λ map. maps ≤ map))
-Applies maps is OutOfMemory = ⊥
+Applies named is (UnknownMap pc) = HasAt is pc (λ i. IsSomeAnd (map_of i) (IsUnknown named))
+Applies named is OutOfMemory = ⊥
 
 -- a list that no refusal applies to
-abbrev pub IsSound : ℕ → List Insn → Type 0
-IsSound maps is = (e : LoadError) → ¬ Applies maps is e
+abbrev pub IsSound : Named → List Insn → Type 0
+IsSound named is = (e : LoadError) → ¬ Applies named is e
 
 -- the refusal's number
 abbrev pub refusal_number : LoadError → ℕ
@@ -63,14 +65,14 @@ place (UnknownMap pc) = pc
 place OutOfMemory = 0
 
 -- this refusal is the first that applies, by places and then by numbers
-pub record IsFirstRefusal (maps : ℕ) (is : List Insn) (e : LoadError) : Type 0 where
-  pub first : IsFirst place refusal_number (Applies maps is) e
+pub record IsFirstRefusal (named : Named) (is : List Insn) (e : LoadError) : Type 0 where
+  pub first : IsFirst place refusal_number (Applies named is) e
 
 -- what a run may rely on at an instruction of a sound program
-pub record IsSafe (maps : ℕ) (is : List Insn) (pc : ℕ) (i : Insn) : Type 0 where
+pub record IsSafe (named : Named) (is : List Insn) (pc : ℕ) (i : Insn) : Type 0 where
   pub short : pc < max_words
   pub writes : IfSome (destination i) (λ r. r ≢ R10)
   pub next : IfSome (stride i) (λ n. IsStart is (pc + n))
   pub jumps : IfSome (jump_offset i) (Leads is pc)
   pub helper : IfSome (helper_of i) IsHelper
-  pub map : IfSome (map_of i) (λ map. map < maps)
+  pub map : IfSome (map_of i) (IsNamed named)

@@ -7,6 +7,7 @@ ghost use Rattle.bpf_loader.specs.Sound.{IsSound, IsFirstRefusal};
 
 use crate::checks::check;
 use crate::loaded::Program;
+use crate::named::Named;
 use crate::refusal::LoadError;
 use crate::slots::Slots;
 use bpf_insn::instruction::Insn;
@@ -30,14 +31,14 @@ fn word_count(insns: &[Insn]) -> Option<usize>
     Some(words)
 }
 
-/// The program of these instructions, which may name this many maps: those with the numbers below it.
-pub fn load(alloc: Global, insns: Vec<Insn>, maps: usize) -> Result<Program, LoadError>
+/// The program of these instructions, which may name these maps and arrays.
+pub fn load(alloc: Global, insns: Vec<Insn>, named: Named) -> Result<Program, LoadError>
     ensures instructions { IfOk result (λ p. p.instructions ≡ insns.items) }
-    ensures maps { IfOk result (λ p. p.maps ≡ maps) }
-    ensures sound { OnOk result (IsSound maps insns.items) }
+    ensures named { IfOk result (λ p. p.named ≡ named) }
+    ensures sound { OnOk result (IsSound named insns.items) }
     ensures refused { IfErr result
-        (λ e. e ≢ LoadError.OutOfMemory → IsFirstRefusal maps insns.items e) }
-    ensures accepted { IsSound maps insns.items
+        (λ e. e ≢ LoadError.OutOfMemory → IsFirstRefusal named insns.items e) }
+    ensures accepted { IsSound named insns.items
         → IsOkUnless result LoadError.OutOfMemory }
     // Memory is asked for where the list is neither empty nor too long.
     ensures memory { IfErr result (λ e. e ≡ LoadError.OutOfMemory
@@ -50,6 +51,6 @@ pub fn load(alloc: Global, insns: Vec<Insn>, maps: usize) -> Result<Program, Loa
         return Err(LoadError::TooLong);
     };
     let slots = Slots::new(alloc, &insns, words).map_err(|_| LoadError::OutOfMemory)?;
-    check(&slots, maps)?;
-    Ok(Program::new(slots, maps))
+    check(&slots, named)?;
+    Ok(Program::new(slots, named))
 }

@@ -28,7 +28,7 @@ pub enum LoadError {
     /// E12: the machine has no helper of this number.
     #[error("The instruction at {0} calls an unknown helper.")]
     UnknownHelper(u32),
-    /// E13: there is no map of this number.
+    /// E13: there is neither a map nor an array of this number.
     #[error("The instruction at {0} names an unknown map.")]
     UnknownMap(u32),
     /// E14: memory was refused.

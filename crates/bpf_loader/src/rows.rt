@@ -55,7 +55,7 @@ pub fn helper_of(insn: Insn) -> Option<u32>
     }
 }
 
-/// The number of the map that is named.
+/// The number of the map or array that is named.
 pub fn map_of(insn: Insn) -> Option<u32>
     ensures { result ≡ map_of insn }
 {

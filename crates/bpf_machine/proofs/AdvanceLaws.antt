@@ -1,11 +1,11 @@
 -- One step of a job in hand, over a `PlainStore`.
 use Rattle.std.proofs.Common.{◌≡◌, ◌≢◌, ◌+◌, ◌<◌, ℕ, zero, suc, List, [], Option, Some, None, refl, sym, subst, arith}
+use Rattle.bpf_shared.specs.Shape.{Shape}
 use Rattle.bpf_shared.specs.declared.events.Event.{Event}
-use Rattle.bpf_shared.specs.declared.shapes.MapShape.{MapShape}
 use Rattle.bpf_shared.specs.Store.{Plain}
 use Rattle.bpf_shared.specs.Sound.{IsSoundStore}
 use Rattle.bpf_shared.specs.Chain.{Chain}
-use Rattle.bpf_plain.specs.PlainStore.{Contents, has_cpu, shapes_of, StandsFor, Passes}
+use Rattle.bpf_plain.specs.PlainStore.{Contents, has_cpu, shape_of, StandsFor, Passes}
 use Rattle.bpf_loader.specs.Loaded.{Loaded}
 use Rattle.bpf_cpu.specs.declared.cpu.Cpu.{Cpu}
 use Rattle.bpf_cpu.specs.declared.outcome.Progress.{Progress}
@@ -27,14 +27,14 @@ module _ (program : Loaded) (x y : Contents) (old new : Cpu) where
   no_step_leads n e = let P : ℕ → Type 0 = λ k. StepLeads program x x old k (Some (OutOfBudget old.pc)) old k in subst P (sym e) (λ s sound shows. (s, (refl, refl, refl, refl), sound, shows))
 
   pub step_leads : (progress : Progress) (n m : ℕ) (end : Option Outcome) → n ≡ suc m → end ≡ outcome_after progress m new
-      → (events : List Event) × Chain Passes has_cpu old.number x y events × Step (shapes_of x) program old events progress new
+      → (events : List Event) × Chain Passes has_cpu old.number x y events × Step (shape_of x) program old events progress new
       → StepLeads program x y old n end new m
   step_leads progress n m end e is step =
       let P : ℕ → Type 0 = λ k. StepLeads program x y old k end new m in
       subst P (sym e) (λ s sound shows.
       let r = chain_leads x y old.number step.0 step.1 s sound shows in
-      let Q : List MapShape → Type 0 = λ h. Step h program old step.0 progress new in
-      (r.0, (step.0, progress, subst Q (sym shows.maps) step.2, r.1, is, refl), r.2, r.3))
+      let Q : Shape → Type 0 = λ h. Step h program old step.0 progress new in
+      (r.0, (step.0, progress, subst Q (sym shows.shape) step.2, r.1, is, refl), r.2, r.3))
 
 -- the outcome of a job that goes on
 pub last_step : (m : ℕ) (new : Cpu) → m ≡ 0 → Some (OutOfBudget new.pc) ≡ outcome_after On m new
@@ -60,7 +60,7 @@ quiet_turns program c (suc n) old left new rest made e = (
     left_is = omega arith
 
     one : (s : Plain) → Advances program c s old (suc (n + suc rest)) None s made.0 (n + suc rest)
-    one s = ([], On, made.1 s.shape.maps, refl, not_last (n + suc rest) (omega arith), refl)
+    one s = ([], On, made.1 s.shape, refl, not_last (n + suc rest) (omega arith), refl)
       where
         not_last : (k : ℕ) → 0 < k → None ≡ outcome_after On k made.0
         not_last zero less = absurd (omega arith)

@@ -7,7 +7,6 @@ use Rattle.bpf_shared.proofs.Puts.{equal_or_not}
 use Rattle.bpf_shared.specs.declared.events.Event.{Event}
 use Rattle.bpf_shared.specs.declared.events.Event.TheVariants.{End}
 use Rattle.bpf_shared.specs.declared.events.Entry.{Entry}
-use Rattle.bpf_shared.specs.declared.shapes.MapShape.{MapShape}
 use Rattle.bpf_shared.specs.Shape.{Shape}
 use Rattle.bpf_shared.specs.Store.{Plain}
 use Rattle.bpf_shared.specs.Choice.{PlainlyAllowed}
@@ -136,29 +135,29 @@ map_entries : (c : ℕ) (xs ys : List Event) → map (entry c) (xs ++ ys) ≡ ma
 map_entries c [] ys = refl
 map_entries c (x ∷ xs) ys = ap (λ (es : List Entry). entry c x ∷ es) (map_entries c xs ys)
 
-pub lasts : (program : Loaded) (maps : List MapShape) (c n : ℕ) (old : Cpu) (events : List Event) (end : Outcome) (new : Cpu) (s t : Plain) → RunsWithin s → s.shape.maps ≡ maps
-    → MakesSteps maps program n old events end new → PlainlyLegal s (map (entry c) events) t → (k : ℕ) × Lasts program c k s old n end t
-lasts program maps c zero old events end new s t within same steps legal =
+pub lasts : (program : Loaded) (shape : Shape) (c n : ℕ) (old : Cpu) (events : List Event) (end : Outcome) (new : Cpu) (s t : Plain) → RunsWithin s → s.shape ≡ shape
+    → MakesSteps shape program n old events end new → PlainlyLegal s (map (entry c) events) t → (k : ℕ) × Lasts program c k s old n end t
+lasts program shape c zero old events end new s t within same steps legal =
     let none : s ≡ t = subst (λ (es : List Event). PlainlyLegal s (map (entry c) es) t) steps.0 legal in
     (0, (old, 0, (ap Some steps.1, sym none, refl, refl)))
-lasts program maps c (suc n) old events end new s t within same (inl step) legal =
-    let P : List MapShape → Type 0 = λ h. Step h program old events (Done end) new in
+lasts program shape c (suc n) old events end new s t within same (inl step) legal =
+    let P : Shape → Type 0 = λ h. Step h program old events (Done end) new in
     (0, (new, n, (events, Done end, subst P (sym same) step, legal, refl, refl)))
-lasts program maps c (suc n) old events end new s t within same (inr (first, rest, mid, parts, step, steps)) legal =
-    let P : List MapShape → Type 0 = λ h. Step h program old first On mid in
+lasts program shape c (suc n) old events end new s t within same (inr (first, rest, mid, parts, step, steps)) legal =
+    let P : Shape → Type 0 = λ h. Step h program old first On mid in
     let here = subst P (sym same) step in
     let both = subst (λ (es : List Entry). PlainlyLegal s es t) (ap (map (entry c)) parts ∙ map_entries c first rest) legal in
     let split = legal_parts s t (map (entry c) first) (map (entry c) rest) both in
-    goes_on n split.0 split.1 split.2 here steps (λ m inside maps_same steps legal. lasts program maps c n mid rest end new m t inside maps_same steps legal)
+    goes_on n split.0 split.1 split.2 here steps (λ m inside shape_same steps legal. lasts program shape c n mid rest end new m t inside shape_same steps legal)
   where
-    goes_on : (n : ℕ) (m : Plain) → PlainlyLegal s (map (entry c) first) m → PlainlyLegal m (map (entry c) rest) t → Step s.shape.maps program old first On mid → MakesSteps maps program n mid rest end new
-        → ((m : Plain) → RunsWithin m → m.shape.maps ≡ maps → MakesSteps maps program n mid rest end new → PlainlyLegal m (map (entry c) rest) t → (k : ℕ) × Lasts program c k m mid n end t)
+    goes_on : (n : ℕ) (m : Plain) → PlainlyLegal s (map (entry c) first) m → PlainlyLegal m (map (entry c) rest) t → Step s.shape program old first On mid → MakesSteps shape program n mid rest end new
+        → ((m : Plain) → RunsWithin m → m.shape ≡ shape → MakesSteps shape program n mid rest end new → PlainlyLegal m (map (entry c) rest) t → (k : ℕ) × Lasts program c k m mid n end t)
         → (k : ℕ) × Lasts program c k s old (suc n) end t
     goes_on zero m before after here steps again =
         let none : m ≡ t = subst (λ (es : List Event). PlainlyLegal m (map (entry c) es) t) steps.0 after in
         (0, (mid, 0, (first, On, here, subst (λ (x : Plain). PlainlyLegal s (map (entry c) first) x) none before, ap Some steps.1, refl)))
     goes_on (suc n) m before after here steps again =
         let kept = legal_shape s m (map (entry c) first) within before in
-        let maps_same : m.shape.maps ≡ maps = ap (λ (h : Shape). h.maps) kept.0 ∙ same in
-        let rest_lasts = again m kept.1 maps_same steps after in
+        let shape_same : m.shape ≡ shape = kept.0 ∙ same in
+        let rest_lasts = again m kept.1 shape_same steps after in
         (suc rest_lasts.0, (m, mid, suc n, (first, On, here, before, refl, refl), rest_lasts.1))

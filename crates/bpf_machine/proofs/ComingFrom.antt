@@ -1,6 +1,7 @@
 -- Whatever jobs a machine's come from, those after a turn come from the same.
-use Rattle.std.proofs.Common.{◌≡◌, ℕ, zero, suc, List, [], ◌∷◌, ◌⊎◌, Some, None, inl, inr, length, refl, sym, ap, subst, ◌∙◌, ◌+◌}
+use Rattle.std.proofs.Common.{◌≡◌, ℕ, zero, suc, List, [], ◌∷◌, Some, None, inl, inr, length, refl, sym, ap, subst, ◌∙◌, ◌+◌}
 use Rattle.std.specs.Prelude.{slice_get}
+use Rattle.bpf_shared.specs.Shape.{without_arrays}
 use Rattle.bpf_shared.specs.Store.{Plain, as_made}
 use Rattle.bpf_loader.specs.Loaded.{Loaded}
 use Rattle.bpf_cpu.specs.declared.cpu.Cpu.{Cpu}
@@ -16,7 +17,7 @@ use Rattle.bpf_machine.specs.Machine.{MachineState}
 use Rattle.bpf_machine.specs.Work.{BeginsJob}
 use Rattle.bpf_machine.specs.Headways.{TakesQuietTurns, RunsAhead}
 use Rattle.bpf_machine.specs.Patient.{IsRefilled}
-use Rattle.bpf_machine.specs.Saved.{context_of, AreLater, ComeFrom, ComeFromSame, ComesFrom, FitsBytes, IsLater, IsSavableStage, IsStageOf}
+use Rattle.bpf_machine.specs.Saved.{context_of, AreLater, ComeFrom, ComeFromSame, ComesFrom, FitsBytes, IsSavableStage, IsStageOf}
 use Rattle.bpf_machine.specs.Private.Turns.{StaysOrEnds}
 
 -- ---- one of the jobs in another stage
@@ -53,11 +54,11 @@ stays_same old new c j (task, state, left, at, inr (end, is)) first come =
 
 -- ---- turns that no store sees
 any_store : Plain
-any_store = as_made (record { cpus = 0; maps = [] })
+any_store = as_made (without_arrays 0 [])
 
 advanced : (program : Loaded) (c : ℕ) (s t : Plain) (old new : Cpu) (left rest : ℕ) → Advances program c s old left None t new rest → IsOfOneJob old new
 advanced program c s t old new zero rest made = (let P : Cpu → Type 0 = IsOfOneJob old in subst P (sym made.2) (refl, refl))
-advanced program c s t old new (suc left) rest made = step_keeps old new made.1 s.shape.maps program made.0 made.2
+advanced program c s t old new (suc left) rest made = step_keeps old new made.1 s.shape program made.0 made.2
 
 quiet : (n : ℕ) (program : Loaded) (c : ℕ) (old new : Cpu) (left rest : ℕ) → TakesQuietTurns program c n old left new rest → IsOfOneJob old new
 quiet zero program c old new left rest made = (let P : Cpu → Type 0 = IsOfOneJob old in subst P (sym made.0) (refl, refl))

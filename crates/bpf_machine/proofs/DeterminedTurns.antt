@@ -75,15 +75,15 @@ module _ (law : WritesAreDetermined) (begins : OneInstructionBegins) (replies : 
       let Q : Cpu → Type 0 = λ c. IsMemory c.memory in
       record { ends = a.0 ∙ sym b.0; stores = a.1 ∙ sym b.1; states = a.2 ∙ sym b.2; lefts = a.3 ∙ sym b.3; store = subst P (sym a.1) store; memory = subst Q (sym a.2) sound }
   one_advance program c s old (suc n) end last t u new other left rest store sound a b =
-      let agrees = step_agrees law begins s.shape.maps program old new other a.1 b.1 a.0 b.0 sound a.2 b.2 in
-      let one = same_replies law begins s.shape.maps program replies c a.0 b.0 s t u store a.3 b.3 agrees.asks in
+      let agrees = step_agrees law begins s.shape program old new other a.1 b.1 a.0 b.0 sound a.2 b.2 in
+      let one = same_replies law begins s.shape program replies c a.0 b.0 s t u store a.3 b.3 agrees.asks in
       let same = agrees.replied one.0 in
       record {
         ends = a.4 ∙ ap (λ (progress : Progress). outcome_after progress n new) same.turns ∙ ap (outcome_after b.1 n) same.states ∙ sym b.4;
         stores = one.1;
         states = same.states;
         lefts = a.5 ∙ sym b.5;
-        store = stays_sound law begins s.shape.maps program replies c a.0 s t store a.3;
+        store = stays_sound law begins s.shape program replies c a.0 s t store a.3;
         memory = same.sound;
       }
 

@@ -23,7 +23,7 @@ hand_or_not (InHand state left) is = (state, left, refl)
 hand_or_not (Ended outcome) is = cc
 
 abbrev no_program : Loaded
-no_program = record { instructions = []; maps = 0 }
+no_program = record { instructions = []; named = record { maps = 0; arrays = 0 } }
 
 module _ (store : Contents) (programs : List Loaded) (parts : List Task) (numbers : List ℕ) where
   abbrev m : MachineState

@@ -47,8 +47,8 @@ module _ (law : WritesAreDetermined) (begins : OneInstructionBegins) (replies : 
       → HasEvents program c s old n events → HasEvents program c s old n others → events ≡ others
   one_events program c s old zero events others store sound a b = a ∙ sym b
   one_events program c s old (suc n) events others store sound a b =
-      let agrees = step_agrees law begins s.shape.maps program old a.1 b.1 a.0 b.0 events others sound a.3 b.3 in
-      (same_replies law begins s.shape.maps program replies c events others s a.2 b.2 store a.4 b.4 agrees.asks).0
+      let agrees = step_agrees law begins s.shape program old a.1 b.1 a.0 b.0 events others sound a.3 b.3 in
+      (same_replies law begins s.shape program replies c events others s a.2 b.2 store a.4 b.4 agrees.asks).0
 
   -- ---- a turn
   one_going : (w : World) (c j : ℕ) (task : Task) (old : Cpu) (left : ℕ) (answer : Turn) (before : List Event) (log other : List Happening) → IsSoundStore w.store → IsMemory old.memory

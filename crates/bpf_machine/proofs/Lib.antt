@@ -1,3 +1,4 @@
+pub mod NoStore
 pub mod OwnEvents
 pub mod AdvanceLaws
 pub mod ListLaws

@@ -140,7 +140,7 @@ pub chain_leads : (x y : Contents) (c : ℕ) (events : List Event) → Chain Pas
 chain_leads x y c events chain s sound shows =
     let end = chain.passage s sound shows in
     let foreign : (d : ℕ) → d < s.shape.cpus → d ≢ c → events_of d chain.log ≡ [] =
-    λ d l ne. chain.foreign d (lt-ltb d (length x.runs) (subst (λ (n : ℕ). d < n) shows.cpus l)) ne
+    λ d l ne. chain.foreign d (lt-ltb d (length x.maps.runs) (subst (λ (n : ℕ). d < n) shows.maps.cpus l)) ne
     in
     let own : chain.log ≡ map (entry c) events = history_is_own s end.0 c chain.log (shown_within x s shows) end.1 foreign ∙ ap (λ (es : List Event). map (entry c) es) chain.own in
     (end.0, subst (λ (l : List Entry). PlainlyLegal s l end.0) own end.1, end.2, end.3)

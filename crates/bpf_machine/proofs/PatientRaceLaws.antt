@@ -14,7 +14,7 @@ use Rattle.bpf_machine.specs.Patient.{AsRich, PatientRacesAreKept}
 use Rattle.bpf_machine.proofs.DeterminedTurns.{IsWorld, one_turn, fresh_world}
 use Rattle.bpf_machine.proofs.CoverLaws.{shown_is_covered}
 use Rattle.bpf_machine.proofs.RaceLaws.{race_is_kept}
-use Rattle.bpf_machine.proofs.PatientLaws.{all_same, rich_at, richer_hand, richer_cpu, rich_world, patient_run}
+use Rattle.bpf_machine.proofs.PatientLaws.{all_same, rich_at, richer_hand, richer_cpu, patient_run}
 
 -- with more steps left a CPU's next step is the same
 module _ (w : World) (jobs : List Task) (rich : AsRich w.jobs jobs) where
@@ -72,6 +72,5 @@ module _ (law : WritesAreDetermined) (begins : OneInstructionBegins) (replies : 
       let r = patient_run law begins replies kept closed schedule w z first (w.jobs, all_same w.jobs, shown_is_covered kept w shown) runs none in
       let jobs = r.0 in
       let covered = r.2 in
-      let there = rich_world z jobs r.1 (world_after schedule w z first runs) in
-      let held = race_is_kept law begins (with_jobs z jobs) covered.0 covered.1 covered.3 covered.4 there one other b (race_rich z jobs r.1 one other b race) in
+      let held = race_is_kept begins (with_jobs z jobs) covered.0 covered.1 covered.3 covered.4 one other b (race_rich z jobs r.1 one other b race) in
       (covered.0, covered.2, held.0, held.1)

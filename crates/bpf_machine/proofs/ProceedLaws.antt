@@ -384,7 +384,7 @@ module _ (store : Contents) (programs : List Loaded) (jobs : List Listed) (lanes
                 let q = end r.0 r.3 r.4 in
                 let l = listing (with_end w j task outcome q.0) (shown_end lists after w q.0 shows q.2 q.3) in
                 let there : IsAt w.jobs c j task (InHand state left) = subst (λ (ts : List Task). IsAt ts c j task (InHand state left)) (sym shows.jobs) in_hand in
-                let inside : c < w.store.shape.cpus = subst (λ (n : ℕ). c < n) (sym shows.store.cpus) (ltb-true c (length store.runs) serves) in
+                let inside : c < w.store.shape.cpus = subst (λ (n : ℕ). c < n) (sym shows.store.maps.cpus) (ltb-true c (length store.maps.runs) serves) in
                 let few : IsAlone w.jobs c = subst (λ (ts : List Task). IsAlone ts c) (sym shows.jobs) alone_here in (
                   l.0,
                   (suc r.1, rounds_left c j program outcome r.0 q.0 q.1 r.1 w l.0 task state left (shown_within store w.store shows.store) inside few (loaded_there w shows.programs) there (lasts_here r.1 w.store r.0 outcome r.2) l.1),

@@ -3,6 +3,7 @@
 use Rattle.std.proofs.Common.{◌≡◌, ◌≢◌, ◌∙◌, ℕ, zero, suc, ◌+◌, ◌≤◌, ◌⊎◌, List, [], Option, Some, None, inl, inr, sym, ap, subst, arith}
 use Rattle.std.specs.Prelude.{slice_get}
 use Rattle.bpf_base.proofs.Lists.{slice_get-set_known}
+use Rattle.bpf_shared.specs.Shape.{without_arrays}
 use Rattle.bpf_shared.specs.Store.{Plain, as_made}
 use Rattle.bpf_loader.specs.Loaded.{Loaded}
 use Rattle.bpf_cpu.specs.declared.cpu.Cpu.{Cpu}
@@ -87,7 +88,7 @@ turn_spent w c answer z whole (inr (inr (free, none, is, same))) = set_as w.jobs
 
 -- ---- turns that no store sees
 any_store : Plain
-any_store = as_made (record { cpus = 0; maps = [] })
+any_store = as_made (without_arrays 0 [])
 
 quiet_less : (n : ℕ) (program : Loaded) (c : ℕ) (old new : Cpu) (left rest : ℕ) → TakesQuietTurns program c n old left new rest → rest ≤ left
 quiet_less zero program c old new left rest made = let same : rest ≡ left = made.1 in omega arith

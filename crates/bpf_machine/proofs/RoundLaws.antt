@@ -31,7 +31,7 @@ same_count a b same = elim (cases_order a b) [
 ]
 
 pub cpus_shown : (m : MachineState) (w : World) (n : ℕ) → ((c : ℕ) → has_cpu m.store c ≡ nat_lt c n) → Shows m w → w.store.shape.cpus ≡ n
-cpus_shown m w n same shows = shows.store.cpus ∙ same_count (length m.store.runs) n same
+cpus_shown m w n same shows = shows.store.maps.cpus ∙ same_count (length m.store.maps.runs) n same
 
 -- ---- turns without work
 settles_worked : (w : World) (c j : ℕ) (task : Task) (new : Cpu) (left : ℕ) (end : Option Outcome) (answer : Turn) (z : World) → Settles w c j task new left end answer z → answer ≡ turn.Idle → ⊥

@@ -1,10 +1,10 @@
 -- Where turns lead ever deeper, and no machine is as deep as a budget, none is used up.
 use Rattle.std.proofs.Common.{◌≡◌, ◌≢◌, ◌∙◌, ◌+◌, ◌<◌, ◌≤◌, ◌⊎◌, ℕ, zero, suc, List, [], ◌∷◌, Option, Some, None, inl, inr, refl, sym, ap, subst, arith}
+use Rattle.bpf_shared.specs.Shape.{Shape}
 use Rattle.std.specs.Prelude.{slice_get}
 use Rattle.bpf_base.proofs.Lists.{slice_get-set_known}
 use Rattle.bpf_shared.specs.Laws.{CallsHaveOneReply}
 use Rattle.bpf_shared.specs.declared.events.Event.{Event}
-use Rattle.bpf_shared.specs.declared.shapes.MapShape.{MapShape}
 use Rattle.bpf_loader.specs.Loaded.{Loaded}
 use Rattle.bpf_loader.specs.Laws.{OneInstructionBegins}
 use Rattle.bpf_mem.specs.Laws.{WritesAreDetermined}
@@ -44,13 +44,13 @@ Went jobs j task left news =
     ((new : Cpu) × (rest : ℕ) × (rest + 1 ≡ left) × (news ≡ with_stage jobs j task (InHand new rest)))
     ⊎ ((end : Outcome) × ((pc : ℕ) → end ≡ OutOfBudget pc → ⊥) × (news ≡ with_stage jobs j task (Ended end)))
 
-not_none : (answer : Progress) (n : ℕ) (new old : Cpu) (end : Outcome) (shapes : List MapShape) (program : Loaded) (events : List Event) → Step shapes program old events answer new → 0 < n → Some end ≡ outcome_after answer n new → (pc : ℕ) → end ≡ OutOfBudget pc → ⊥
-not_none (Done other) n new old end shapes program events step some e pc out =
+not_none : (answer : Progress) (n : ℕ) (new old : Cpu) (end : Outcome) (shape : Shape) (program : Loaded) (events : List Event) → Step shape program old events answer new → 0 < n → Some end ≡ outcome_after answer n new → (pc : ℕ) → end ≡ OutOfBudget pc → ⊥
+not_none (Done other) n new old end shape program events step some e pc out =
     let both : Some end ≡ Some other = e in
     let same : other ≡ OutOfBudget pc = cc in
-    step_never_out old new pc shapes program events (subst (λ (o : Outcome). Step shapes program old events (Done o) new) same step)
-not_none On zero new old end shapes program events step some e pc out = absurd (omega arith)
-not_none On (suc n) new old end shapes program events step some e pc out = let no : Some end ≡ None = e in cc
+    step_never_out old new pc shape program events (subst (λ (o : Outcome). Step shape program old events (Done o) new) same step)
+not_none On zero new old end shape program events step some e pc out = absurd (omega arith)
+not_none On (suc n) new old end shape program events step some e pc out = let no : Some end ≡ None = e in cc
 
 went : (w : World) (c j : ℕ) (task : Task) (state : Cpu) (left : ℕ) (answer : Turn) (z : World) → 2 ≤ left → GoesOn w c j task state left answer z → Went w.jobs j task left z.jobs
 went w c j task state left answer z two g = settle g.1 left two g.6 g.7
@@ -63,7 +63,7 @@ went w c j task state left answer z two g = settle g.1 left two g.6 g.7
         inl (g.3, g.4, sum, ap (λ (x : World). x.jobs) s.1)
     settle (Some end) (suc n) two' a s =
         let some : 0 < n = omega arith in
-        inr (end, not_none a.1 n g.3 state end w.store.shape.maps g.0 a.0 a.2 some a.4, lists_jobs (with_end (record w { store = g.2 }) j task end s.0) c z s.3)
+        inr (end, not_none a.1 n g.3 state end w.store.shape g.0 a.0 a.2 some a.4, lists_jobs (with_end (record w { store = g.2 }) j task end s.0) c z s.3)
 
 -- ---- steps left, of each job in hand
 abbrev HasSteps : List Task → (ℕ → ℕ) → ℕ → Type 0

@@ -31,7 +31,7 @@ happening c j pc e = record { cpu = c; job = j; pc = pc; event = e }
 abbrev pub HasEvents : Loaded → ℕ → Plain → Cpu → ℕ → List Event → Type 0
 HasEvents program c s old zero events = events ≡ []
 HasEvents program c s old (suc n) events =
-    (answer : Progress) × (new : Cpu) × (t : Plain) × Step s.shape.maps program old events answer new
+    (answer : Progress) × (new : Cpu) × (t : Plain) × Step s.shape program old events answer new
     × PlainlyLegal s (map (entry c) events) t
 
 -- a job that ends leaves its run

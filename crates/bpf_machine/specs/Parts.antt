@@ -56,8 +56,7 @@ abbrev pub made_of : Contents → List Loaded → List Task → List ℕ → Mac
 made_of store programs parts numbers =
     record { store = store; programs = programs; jobs = chosen parts numbers; lists = None }
 
--- the same programs, as many jobs, a store of the same maps and CPUs, and no lists where there were
--- none
+-- the same programs, as many jobs, a store of the same shape, and no lists where there were none
 pub record IsSameHost (old new : MachineState) : Type 0 where
   pub programs : new.programs ≡ old.programs
   pub jobs : length new.jobs ≡ length old.jobs

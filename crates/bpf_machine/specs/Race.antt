@@ -43,7 +43,7 @@ pub record HasNext (w : World) (here : Stand) (event : Event) : Type 0 where
   pub events : List Event
   pub answer : Progress
   pub after : Cpu
-  pub step : Step w.store.shape.maps program state events answer after
+  pub step : Step w.store.shape program state events answer after
   pub store : Plain
   pub legal : PlainlyLegal w.store (map (entry here.cpu) events) store
   pub place : ℕ

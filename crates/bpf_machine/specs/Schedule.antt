@@ -37,7 +37,7 @@ abbrev pub Advances : Loaded → ℕ → Plain → Cpu → ℕ → Option Outcom
 Advances program c s old zero end t new left =
     (end ≡ Some (OutOfBudget old.pc)) × (t ≡ s) × (new ≡ old) × (left ≡ 0)
 Advances program c s old (suc n) end t new left =
-    (events : List Event) × (answer : Progress) × Step s.shape.maps program old events answer new
+    (events : List Event) × (answer : Progress) × Step s.shape program old events answer new
     × PlainlyLegal s (map (entry c) events) t
     × (end ≡ outcome_after answer n new) × (left ≡ n)
 

@@ -1,138 +1,132 @@
--- Where values lie: an address is in one element at most, and what is in use is taken.
-use Rattle.std.proofs.Common.{◌≡◌, ℕ, ◌<◌, true, false, length, inl, inr, ap, sym, ◌∙◌, subst, arith}
-use Rattle.std.proofs.lemmas.Bool.{cases_lt}
-use Rattle.std.proofs.lemmas.List.{get_or_past}
-use Rattle.bpf_shared.specs.declared.shapes.MapShape.{MapShape}
-use Rattle.bpf_plain.specs.declared.runs.Runs.{Runs}
-use Rattle.bpf_shared.specs.Shape.{IsMapShape, IsIn, IsApart, elements, element_span, element_stride}
-use Rattle.bpf_shared.specs.Store.{Plain, Value, IsLive}
-use Rattle.bpf_shared.specs.Choice.{IsTaken, IsLowestFree}
-use Rattle.bpf_shared.specs.Sound.{IsSoundStore}
-use Rattle.bpf_plain.specs.Private.Runs.{no_runs, is_run}
-use Rattle.bpf_plain.specs.Private.Rows.{Rows, no_rows, run_left, IsLinked, IsTakenRow, IsLowestFreeRow}
-use Rattle.bpf_plain.specs.Private.Contents.{Contents, rows, element_count, span_at, holds, keeps, IsUsed, StandsFor, IsStore}
-use Rattle.bpf_shared.proofs.Puts.{equal_or_not}
-use Rattle.bpf_shared.proofs.Places.{stride_most, reach_most}
-use Rattle.bpf_plain.proofs.Blocks.{apart_blocks}
-use Rattle.bpf_plain.proofs.Linking.{linked_inside}
+-- Places in fixed values, and where their bytes are.
+use Rattle.std.proofs.Common.{◌≡◌, ℕ, Bool, true, false, ◌+◌, ◌-◌, ◌*◌, ◌<◌, ◌≤◌, List, length, take, drop, get_or, Option, Some, None, slice_get, inl, inr, ap, sym, subst, ◌∙◌, arith}
+use Rattle.std.proofs.lemmas.List.{take-take, drop-drop, drop-take}
+use Rattle.std.proofs.lemmas.Option.{slice_get_within, slice_get-get_or}
+use Rattle.std.specs.Option.{IfNone}
+use Rattle.std.specs.Prelude.{IfSome}
+use Rattle.bpf_shared.specs.declared.events.Size.{Size}
+use Rattle.bpf_shared.specs.declared.events.Size.TheVariants.{Byte, Half, Word, Double}
+use Rattle.bpf_shared.specs.Access.{bytes_in}
+use Rattle.bpf_base.specs.Bytes.{part}
+use Rattle.bpf_shared.specs.declared.events.Span.{Span}
+use Rattle.bpf_shared.specs.declared.shapes.ArrayShape.{ArrayShape}
+use Rattle.bpf_shared.specs.Shape.{Shape, IsShape, IsArray, IsArrayShape, IsValueSpan, contents_of, array_stride, copies, copy_size, copy_stride, fixed_span}
+use Rattle.bpf_shared.specs.Passage.{IsHeldPlace, IsFixedPlace, IsReadable, IsWritable}
+use Rattle.bpf_shared.proofs.Fixed.{IsReached, copy_fits, fixed_reached, value_fits}
+use Rattle.bpf_plain.specs.Private.Contents.{Contents, bytes_of, offset_in, IsStore}
+use Rattle.bpf_plain.specs.Private.Places.{array_at, offset_at}
 
-pub one_map : (m n i j : ℕ) (g h : MapShape) (a : ℕ) → IsMapShape g → IsMapShape h → i < elements g → j < elements h → IsIn a (element_span m g i) → IsIn a (element_span n h j) → m ≡ n
-one_map m n i j g h a sg sh li lj x y =
-    let bm = reach_most g i sg li in
-    let bn = reach_most h j sh lj in
-    let vm = (stride_most g sg).1 in
-    let vn = (stride_most h sh).1 in
-    let wm = (stride_most g sg).0 in
-    let wn = (stride_most h sh).0 in
-    let x0 = x.0 in let x1 = x.1 in let y0 = y.0 in let y1 = y.1 in
-    elim (equal_or_not m n) [
-      | inl e ↦ e
-      | inr ne ↦ elim (cases_lt m n) [
-        | inl l ↦ absurd (omega arith)
-        | inr l ↦ elim (cases_lt n m) [ inl k ↦ absurd (omega arith) | inr k ↦ omega arith ]
-      ]
-    ]
+-- a part of a part
+pub part-part : (xs : List ℕ) (x m y n : ℕ) → y + n ≤ m → part (part xs x m) y n ≡ part xs (x + y) n
+part-part xs x m y n l =
+    let whole : y + (m - y) ≡ m = omega arith in
+    ap (λ (k : ℕ). take n (drop y (take k (drop x xs)))) (sym whole)
+    ∙ (ap (take n) (drop-take y (m - y) (drop x xs))
+    ∙ (take-take n (m - y) (drop y (drop x xs)) (omega arith) ∙ ap (take n) (drop-drop y x xs)))
 
-pub one_element : (m i j : ℕ) (g : MapShape) (a : ℕ) → IsMapShape g → IsIn a (element_span m g i) → IsIn a (element_span m g j) → i ≡ j
-one_element m i j g a sg x y =
-    let v = (stride_most g sg).1 in
-    let x0 = x.0 in let x1 = x.1 in let y0 = y.0 in let y1 = y.1 in
-    elim (equal_or_not i j) [
-      | inl e ↦ e
-      | inr ne ↦ elim (apart_blocks i j (element_stride g) ne) [ inl k ↦ absurd (omega arith) | inr k ↦ absurd (omega arith) ]
-    ]
+-- the value of an index lies within an array's bytes
+pub value_inside : (cpus k i : ℕ) (g : ArrayShape) → k < copies cpus g → i < g.max → offset_in g k i + g.value ≤ copies cpus g * copy_stride g
+value_inside cpus k i g has_copy has_index = go (array_stride g) (copy_stride g) (copies cpus g) (value_fits cpus g) (copy_fits cpus g) has_copy
+  where
+    go : (s c j : ℕ) → g.value ≤ s → s * g.max ≤ c → k < j → k * c + i * s + g.value ≤ j * c
+    go s c j fits block below =
+        let row : (i + 1) * s ≤ g.max * s = Rattle.std.proofs.Math.Nat.mul-le-mul_right s (let l : i + 1 ≤ g.max = omega arith in l) in
+        let up : (k + 1) * c ≤ j * c = Rattle.std.proofs.Math.Nat.mul-le-mul_right c (let l : k + 1 ≤ j = omega arith in l) in
+        let one : (i + 1) * s ≡ i * s + s = grind arith in
+        let two : (k + 1) * c ≡ k * c + c = grind arith in
+        let turned : g.max * s ≡ s * g.max = grind arith in
+        omega arith
 
--- ---- elements of a store
-pub linked_map : (p : Contents) (m i : ℕ) → IsLinked (rows p m) i → m < length p.tables
-linked_map p m i l = elim (cases_lt m (length p.tables)) [
-  | inl k ↦ k
-  | inr k ↦ absurd (let none : false ≡ true = subst (λ (t : Rows). IsLinked t i) (get_or_past p.tables m no_rows k) l in cc)
-]
+pub some_bytes : (size : Size) → 0 < bytes_in size
+some_bytes Byte = omega arith
+some_bytes Half = omega arith
+some_bytes Word = omega arith
+some_bytes Double = omega arith
 
-pub sized_map : (p : Contents) (m i : ℕ) → i < element_count p m → m < length p.tables
-sized_map p m i l = elim (cases_lt m (length p.tables)) [
-  | inl k ↦ k
-  | inr k ↦ absurd (let none : i < 0 = subst (λ (t : Rows). i < elements t.shape) (get_or_past p.tables m no_rows k) l in omega arith)
-]
+-- what a store's shape says of one of its arrays
+pub array_in_range : (h : Shape) → IsShape h → (a : ℕ) (o : Option ArrayShape) → o ≡ slice_get h.arrays a → IfSome o (λ g. (a < 16) × IsArrayShape h.cpus g)
+array_in_range h is a None e = tt
+array_in_range h is a (Some g) e =
+    let there : IsArray h.arrays a g = sym e in
+    let inside = slice_get_within h.arrays a g there in
+    let few = is.array_count in
+    (omega arith, (is.arrays a g there).0)
 
-pub keeps_cpu : (p : Contents) (c m i : ℕ) → keeps p c m i ≡ true → c < length p.runs
-keeps_cpu p c m i e = elim (cases_lt c (length p.runs)) [
-  | inl k ↦ k
-  | inr k ↦ absurd (let none : false ≡ true = sym (ap (λ (x : Runs). is_run x (run_left (rows p m) i c)) (get_or_past p.runs c no_runs k)) ∙ e in cc)
-]
+pub array_sized : (h : Shape) → IsShape h → (gs : List ArrayShape) → gs ≡ h.arrays → (n cpus : ℕ) (d : ArrayShape) → cpus ≡ h.cpus → n < length gs
+    → IsArray h.arrays n (get_or gs n d) × IsArrayShape cpus (get_or gs n d) × (length (contents_of h n) ≤ copy_size (get_or gs n d))
+array_sized h is gs same n cpus d served l =
+    let there : IsArray h.arrays n (get_or gs n d) = subst (λ (xs : List ArrayShape). slice_get xs n ≡ Some (get_or gs n d)) same (slice_get-get_or gs n d l) in
+    let sized = is.arrays n (get_or gs n d) there in
+    (there, subst (λ (k : ℕ). IsArrayShape k (get_or gs n d)) (sym served) sized.0, sized.1)
 
-module _ (p : Contents) (is : IsStore p) where
-  shape_is : (m i : ℕ) → i < element_count p m → IsMapShape (rows p m).shape
-  shape_is m i l = (is.tables m (sized_map p m i l)).0.shape
+-- a CPU's values take some bytes
+pub stride_some : (cpus : ℕ) (g : ArrayShape) → IsArrayShape cpus g → 0 < copy_stride g
+stride_some cpus g sized = go (array_stride g) (value_fits cpus g) (copy_fits cpus g)
+  where
+    go : (s : ℕ) → g.value ≤ s → s * g.max ≤ copy_stride g → 0 < copy_stride g
+    go s wide block =
+        let some = sized.value.0 in
+        let row : s * 1 ≤ s * g.max = Rattle.std.proofs.Math.Nat.mul-le-mul_left s sized.max.0 in
+        omega arith
 
-  pub linked_size : (m i : ℕ) → IsLinked (rows p m) i → i < element_count p m
-  linked_size m i l = linked_inside (rows p m) (is.tables m (linked_map p m i l)).0 i l
+pub if_none : {X P Q : Type 0} (o : Option X) → IfNone o P → (P → Q) → IfNone o Q
+if_none None p f = f p
+if_none (Some x) p f = tt
 
-  pub one_at : (m n i j a : ℕ) → i < element_count p m → j < element_count p n → IsIn a (span_at p m i) → IsIn a (span_at p n j) → (m ≡ n) × (i ≡ j)
-  one_at m n i j a li lj x y =
-      let map : m ≡ n = one_map m n i j (rows p m).shape (rows p n).shape a (shape_is m i li) (shape_is n j lj) li lj x y in
-      let here : IsIn a (span_at p m j) = subst (λ (k : ℕ). IsIn a (span_at p k j)) (sym map) y in
-      (map, one_element m i j (rows p m).shape a (shape_is m i li) x here)
+-- ---- which places are held, and which are fixed
+pub fixed_high : (h : Shape) (a n : ℕ) → IsFixedPlace h a n → 0x10_0000_0000 + 0x1000_0000 * 16 ≤ a
+fixed_high h a n place = let from = place.covers.0 in omega arith
 
-  pub first_in : (m i : ℕ) → i < element_count p m → IsIn (span_at p m i).at (span_at p m i)
-  first_in m i l = let v = (shape_is m i l).value.0 in (omega arith, omega arith)
+pub held_low : (held : Span → Bool) (a n : ℕ) → 0 < n → ((q : Span) → held q ≡ true → IsValueSpan q) → IsHeldPlace held a n → a < 0x10_0000_0000 + 0x1000_0000 * 16
+held_low held a n some low place = let to = (low place.span place.holds).to in let end = place.covers.1 in omega arith
 
-  pub one_span : (m n i j : ℕ) → i < element_count p m → j < element_count p n → span_at p m i ≡ span_at p n j → (m ≡ n) × (i ≡ j)
-  one_span m n i j li lj e = one_at m n i j (span_at p m i).at li lj (first_in m i li) (subst (IsIn (span_at p m i).at) e (first_in m i li))
+module _ (h : Shape) (held : Span → Bool) (a n : ℕ) where
+  pub held_read : a < 0x10_0000_0000 + 0x1000_0000 * 16 → IsReadable h held a n → IsHeldPlace held a n
+  held_read below (inl place) = place
+  held_read below (inr place) = absurd (let above = fixed_high h a n place in omega arith)
 
-  module _ (s : Plain) (so : IsSoundStore s) (h : StandsFor p s) where
-    pub span-number : (m i : ℕ) → i < element_count p m → IsUsed p m i → (s.value (h.number m i)).span ≡ span_at p m i
-    span-number m i l u = ap (λ (x : Value). x.span) (h.values m i l u)
+  pub held_write : a < 0x10_0000_0000 + 0x1000_0000 * 16 → IsWritable h held a n → IsHeldPlace held a n
+  held_write below (inl place) = place
+  held_write below (inr place) = absurd (let above = fixed_high h a n place.0 in omega arith)
 
-    pub one_number : (m n i j : ℕ) → i < element_count p m → j < element_count p n → IsUsed p m i → IsUsed p n j → h.number m i ≡ h.number n j → (m ≡ n) × (i ≡ j)
-    one_number m n i j li lj u w e =
-        one_span m n i j li lj (sym (span-number m i li u) ∙ (ap (λ (v : ℕ). (s.value v).span) e ∙ span-number n j lj w))
+  pub fixed_read : 0 < n → ((q : Span) → held q ≡ true → IsValueSpan q) → 0x10_0000_0000 + 0x1000_0000 * 16 ≤ a → IsReadable h held a n → IsFixedPlace h a n
+  fixed_read some low above (inl place) = absurd (let below = held_low held a n some low place in omega arith)
+  fixed_read some low above (inr place) = place
 
-    -- what is held is in its map, or kept
-    pub held_taken : (c m i : ℕ) → i < element_count p m → holds p c m i ≡ true → IsTakenRow p.runs (rows p m) i
-    held_taken c m i l e = elim (so.held c (h.number m i) (h.held_back c m i l e)) [
-      | inl k ↦
-          let f = h.found k.0 k.1.0 (h.number m i) k.1.1 in
-          let at = one_number m k.0 i f.0 l (linked_size k.0 f.0 f.1) (inr (c, inr e)) (inl f.1) f.3 in
-          inl (subst (λ (x : ℕ). IsLinked (rows p x) i) (sym at.0) (subst (IsLinked (rows p k.0)) (sym at.1) f.1))
-      | inr k ↦
-          let f = h.kept c (h.number m i) k in
-          let at = one_number m f.0 i f.1 l f.2 (inr (c, inr e)) (inr (c, inl f.3)) f.4 in
-          let here : keeps p c m i ≡ true = ap (λ (x : ℕ). keeps p c x i) at.0 ∙ (ap (keeps p c f.0) at.1 ∙ f.3) in
-          inr (c, keeps_cpu p c m i here, here)
-    ]
+  pub fixed_write : 0 < n → ((q : Span) → held q ≡ true → IsValueSpan q) → 0x10_0000_0000 + 0x1000_0000 * 16 ≤ a → IsWritable h held a n → (p : IsFixedPlace h a n) × (p.array.frozen ≡ false)
+  fixed_write some low above (inl place) = absurd (let below = held_low held a n some low place in omega arith)
+  fixed_write some low above (inr place) = place
 
-    pub taken_up : (m i : ℕ) → i < element_count p m → IsTakenRow p.runs (rows p m) i → IsTaken s m (rows p m).shape i
-    taken_up m i l (inl k) = (h.number m i, inl (_, h.leads m i k), span-number m i l (inl k))
-    taken_up m i l (inr k) = (h.number m i, inr (k.0, h.kept_back k.0 m i l k.2), span-number m i l (inr (k.0, inl k.2)))
+module _ (p : Contents) (is : IsStore p) (a n : ℕ) (some : 0 < n) (place : IsFixedPlace p.shape a n) where
+  abbrev span : Span
+  span = fixed_span place.number place.array place.copy place.index
 
-    pub taken_down : (m i : ℕ) → i < element_count p m → IsTaken s m (rows p m).shape i → IsTakenRow p.runs (rows p m) i
-    taken_down m i l (v, inl k, e) =
-        let f = h.found m k.0 v k.1 in
-        let there = linked_size m f.0 f.1 in
-        let at = one_span m m f.0 i there l (sym (span-number m f.0 there (inl f.1)) ∙ (ap (λ (x : ℕ). (s.value x).span) (sym f.3) ∙ e)) in
-        inl (subst (IsLinked (rows p m)) at.1 f.1)
-    taken_down m i l (v, inr k, e) =
-        let f = h.kept k.0 v k.1 in
-        let at = one_span f.0 m f.1 i f.2 l (sym (span-number f.0 f.1 f.2 (inr (k.0, inl f.3))) ∙ (ap (λ (x : ℕ). (s.value x).span) (sym f.4) ∙ e)) in
-        let here : keeps p k.0 m i ≡ true = ap (λ (x : ℕ). keeps p k.0 x i) (sym at.0) ∙ (ap (keeps p k.0 f.0) (sym at.1) ∙ f.3) in
-        inr (k.0, keeps_cpu p k.0 m i here, here)
+  reached_there : IsReached place.number place.copy place.index a place.array
+  reached_there =
+      let from = place.covers.0 in
+      let to = place.covers.1 in
+      fixed_reached p.shape.cpus place.number place.copy place.index a place.array is.shape.cpus.1 (is.shape.arrays place.number place.array place.is).0 place.has_copy place.has_index (from, omega arith)
 
-    pub lowest_up : (m i : ℕ) → IsLowestFreeRow p.runs (rows p m) i → IsLowestFree s m (rows p m).shape i
-    lowest_up m i f = record {
-      inside = f.inside;
-      free = λ t. f.free (taken_down m i f.inside t);
-      lowest = λ j l. taken_up m j (let k = f.inside in omega arith) (f.lowest j l);
-    }
+  pub array-is : array_at a ≡ place.number
+  array-is = let area = reached_there.area in omega arith
 
-    -- a free element's span overlaps no live value
-    pub free_apart : (m i : ℕ) → i < element_count p m → (IsTakenRow p.runs (rows p m) i → ⊥) → (v : ℕ) → IsLive s v → IsApart (span_at p m i) (s.value v).span
-    free_apart m i l free v (inl k) a x y =
-        let f = h.found k.0 k.1.0 v k.1.1 in
-        let there = linked_size k.0 f.0 f.1 in
-        let at = one_at m k.0 i f.0 a l there x (subst (IsIn a) (ap (λ (z : ℕ). (s.value z).span) f.3 ∙ span-number k.0 f.0 there (inl f.1)) y) in
-        free (inl (subst (λ (z : ℕ). IsLinked (rows p z) i) (sym at.0) (subst (IsLinked (rows p k.0)) (sym at.1) f.1)))
-    free_apart m i l free v (inr k) a x y =
-        let f = h.held k.0 v k.1 in
-        let at = one_at m f.0 i f.1 a l f.2 x (subst (IsIn a) (ap (λ (z : ℕ). (s.value z).span) f.4 ∙ span-number f.0 f.1 f.2 (inr (k.0, inr f.3))) y) in
-        free (held_taken k.0 m i l (ap (λ (z : ℕ). holds p k.0 z i) at.0 ∙ (ap (holds p k.0 f.0) at.1 ∙ f.3)))
+  pub offset-is : offset_at a ≡ offset_in place.array place.copy place.index + (a - span.at)
+  offset-is = let within = reached_there.within in omega arith
+
+  pub within : a - span.at + n ≤ place.array.value
+  within = let from = place.covers.0 in let to = place.covers.1 in omega arith
+
+  size : length (bytes_of p place.number) ≡ copies p.shape.cpus place.array * copy_stride place.array
+  size = (is.arrays.each place.number place.array place.is).size
+
+  pub inside : offset_at a + n ≤ length (bytes_of p (array_at a))
+  inside =
+      let fits = value_inside p.shape.cpus place.copy place.index place.array place.has_copy place.has_index in
+      subst (λ (b : ℕ). offset_at a + n ≤ length (bytes_of p b)) (sym array-is) (let w = within in let o = offset-is in let z = size in omega arith)
+
+  pub array_there : array_at a < length p.arrays
+  array_there =
+      let l = slice_get_within p.shape.arrays place.number place.array place.is in
+      let same = array-is in
+      let count = is.arrays.count in
+      omega arith

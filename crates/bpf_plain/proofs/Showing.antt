@@ -1,114 +1,71 @@
--- What a store shows after a call that leaves keys, bytes and places as they are.
-use Rattle.std.proofs.Common.{◌≡◌, ◌≢◌, ℕ, ◌<◌, Bool, true, false, ◌&&◌, ◌==◌, if◌then◌else◌, List, inl, inr, length, slice_index_or, ap, sym, ◌∙◌, subst, eq-eqb, ne_eqb}
-use Rattle.std.specs.List.{count_by}
-use Rattle.bpf_shared.specs.declared.events.Span.{Span}
-use Rattle.bpf_shared.specs.declared.shapes.MapShape.{MapShape}
-use Rattle.bpf_shared.specs.Shape.{elements, element_span}
-use Rattle.bpf_shared.specs.Store.{Plain, Finds}
-use Rattle.bpf_shared.specs.Passage.{same_span, held_without}
-use Rattle.bpf_shared.proofs.Puts.{equal_or_not}
-use Rattle.bpf_plain.specs.Private.Rows.{Rows, key_of, bytes_of, IsLinked}
-use Rattle.bpf_plain.specs.Private.Contents.{Contents, rows, element_count, span_at, shapes_of, is_running, holds, keeps, any_below, held_spans, IsUsed, StandsFor}
-use Rattle.bpf_plain.proofs.AnyBelow.{any_below_same, any_below_none}
+-- The bytes of one fixed value.
+use Rattle.std.proofs.Common.{◌≡◌, ℕ, ◌+◌, ◌*◌, ◌<◌, ◌≤◌, nat_lt, Bool, true, false, ◌&&◌, if◌then◌else◌, List, length, Some, None, slice_get, get_or, refl, sym, ap, subst, ◌∙◌, arith}
+use Rattle.std.proofs.lemmas.Bool.{lt-ltb}
+use Rattle.bpf_shared.specs.declared.shapes.ArrayShape.{ArrayShape}
+use Rattle.bpf_shared.specs.Shape.{Shape, IsShape, IsArray, IsArrayShape, copies, array_stride, copy_stride}
+use Rattle.bpf_shared.specs.Store.{Plain, IsFixed, array_of, copy_of, index_of, fixed_number}
+use Rattle.bpf_shared.proofs.Fixed.{array_of-number, copy_of-number, index_of-number, copies_most}
+use Rattle.bpf_plain.specs.Private.Contents.{Contents, StandsFor, IsStore, bytes_of, offset_in, value_in}
+use Rattle.bpf_plain.proofs.Places.{array_sized, value_inside}
+use Rattle.bpf_plain.proofs.SavedAlike.{few_bytes}
+use Rattle.bpf_plain.specs.Shows.{indexed, ShowsFixed}
 
--- the same keys, bytes and places
-pub record SameContent (p q : Contents) : Type 0 where
-  pub cpus : length q.runs ≡ length p.runs
-  pub tables : length q.tables ≡ length p.tables
-  pub shapes : shapes_of q ≡ shapes_of p
-  pub shape : (m : ℕ) → (rows q m).shape ≡ (rows p m).shape
-  pub linked : (m : ℕ) → (rows q m).linked ≡ (rows p m).linked
-  pub key : (m i : ℕ) → key_of (rows q m) i ≡ key_of (rows p m) i
-  pub bytes : (m i : ℕ) → bytes_of (rows q m) i ≡ bytes_of (rows p m) i
+both : (x y : Bool) → x ≡ true → y ≡ true → (x && y) ≡ true
+both true true e f = refl
+both false y e f = cc
+both true false e f = cc
 
-pub same_tables : (p : Contents) (q : Contents) → length q.runs ≡ length p.runs → q.tables ≡ p.tables → SameContent p q
-same_tables p q cpus e = record {
-  cpus = cpus;
-  tables = ap (length {A = Rows}) e;
-  shapes = ap (λ (ts : List Rows). shapes_of (record p { tables = ts })) e;
-  shape = λ m. ap (λ (ts : List Rows). (rows (record p { tables = ts }) m).shape) e;
-  linked = λ m. ap (λ (ts : List Rows). (rows (record p { tables = ts }) m).linked) e;
-  key = λ m i. ap (λ (ts : List Rows). key_of (rows (record p { tables = ts }) m) i) e;
-  bytes = λ m i. ap (λ (ts : List Rows). bytes_of (rows (record p { tables = ts }) m) i) e;
-}
+module _ (p : Contents) (a k i : ℕ) where
+  module _ (g : ArrayShape) (there : IsArray p.shape.arrays a g) where
+    in_s : (s : Plain) → StandsFor p s → indexed s a k i (slice_get s.shape.arrays a) ≡ (if nat_lt k (copies p.shape.cpus g) && nat_lt i g.max then Some (s.value (fixed_number a k i)).bytes else None)
+    in_s s h =
+        ap (indexed s a k i) (ap (λ (x : Shape). slice_get x.arrays a) h.shape ∙ there)
+        ∙ ap (λ (x : Shape). if nat_lt k (copies x.cpus g) && nat_lt i g.max then Some (s.value (fixed_number a k i)).bytes else None) h.shape
 
-module _ (p q : Contents) (same : SameContent p q) where
-  pub span-same : (m i : ℕ) → span_at q m i ≡ span_at p m i
-  span-same m i = ap (λ (h : MapShape). element_span m h i) (same.shape m)
+    pub value_shown : IsStore p → k < copies p.shape.cpus g → i < g.max → (s : Plain) → StandsFor p s → (s.value (fixed_number a k i)).bytes ≡ value_in (bytes_of p a) g k i
+    value_shown is has_copy has_index s h =
+        let few : k < 16 = (let most = copies_most p.shape.cpus g is.shape.cpus.1 in omega arith) in
+        let low : i < 0x1_0000 = (let most = (is.shape.arrays a g there).0.max.1 in omega arith) in
+        let v = fixed_number a k i in
+        let array : array_of v ≡ a = array_of-number a k i few low in
+        let copy : copy_of v ≡ k = copy_of-number a k i few low in
+        let index : index_of v ≡ i = index_of-number a k i low in
+        let f : IsFixed p.shape v = record {
+          array = g;
+          is = subst (λ (x : ℕ). IsArray p.shape.arrays x g) (sym array) there;
+          copy = subst (λ (x : ℕ). x < copies p.shape.cpus g) (sym copy) has_copy;
+          index = subst (λ (x : ℕ). x < g.max) (sym index) has_index;
+        } in
+        h.fixed v f
+        ∙ (ap (λ (x : ℕ). value_in (bytes_of p x) g (copy_of v) (index_of v)) array
+        ∙ (ap (λ (x : ℕ). value_in (bytes_of p a) g x (index_of v)) copy ∙ ap (λ (x : ℕ). value_in (bytes_of p a) g k x) index))
 
-  pub linked_was : (m i : ℕ) → IsLinked (rows q m) i → IsLinked (rows p m) i
-  linked_was m i l = subst (λ (ms : List Bool). slice_index_or ms i false ≡ true) (same.linked m) l
+    pub shown : IsStore p → k < copies p.shape.cpus g → i < g.max → ShowsFixed p a k i (Some (value_in (bytes_of p a) g k i))
+    shown is has_copy has_index s so h =
+        in_s s h
+        ∙ (ap (λ (b : Bool). if b then Some (s.value (fixed_number a k i)).bytes else None) (both (nat_lt k (copies p.shape.cpus g)) (nat_lt i g.max) (lt-ltb k (copies p.shape.cpus g) has_copy) (lt-ltb i g.max has_index))
+        ∙ ap Some (value_shown is has_copy has_index s h))
 
-  pub linked_still : (m i : ℕ) → IsLinked (rows p m) i → IsLinked (rows q m) i
-  linked_still m i l = subst (λ (ms : List Bool). slice_index_or ms i false ≡ true) (sym (same.linked m)) l
+-- ---- what the code finds of the array
+abbrev pub blank : ArrayShape
+blank = record { value = 0; max = 0; per_cpu = false; frozen = false }
 
-  pub within_was : (m i : ℕ) → i < element_count q m → i < element_count p m
-  within_was m i l = subst (λ (n : ℕ). i < n) (ap elements (same.shape m)) l
+module _ (h : Shape) (is : IsShape h) (gs : List ArrayShape) (same : gs ≡ h.arrays) (n : ℕ) (l : n < length gs) (g : ArrayShape) (item : g ≡ get_or gs n blank) where
+  pub here : IsArray h.arrays n g
+  here = subst (IsArray h.arrays n) (sym item) (array_sized h is gs same n h.cpus blank refl l).0
 
-  pub within_still : (m i : ℕ) → i < element_count p m → i < element_count q m
-  within_still m i l = subst (λ (n : ℕ). i < n) (sym (ap elements (same.shape m))) l
+  pub shaped : IsArrayShape h.cpus g
+  shaped = subst (IsArrayShape h.cpus) (sym item) (array_sized h is gs same n h.cpus blank refl l).1
 
-  -- who runs, holds and keeps what is all that can change
-  pub shows_after : (s : Plain) (h : StandsFor p s) (running : ℕ → Bool) (held kept : ℕ → ℕ → Bool)
-      → ((c : ℕ) → running c ≡ is_running q c)
-      → ((m i : ℕ) → IsUsed q m i → IsUsed p m i)
-      → ((c v : ℕ) → held c v ≡ true → (m : ℕ) × (i : ℕ) × (i < element_count q m) × (holds q c m i ≡ true) × (v ≡ h.number m i))
-      → ((c m i : ℕ) → i < element_count q m → holds q c m i ≡ true → held c (h.number m i) ≡ true)
-      → ((c v : ℕ) → kept c v ≡ true → (m : ℕ) × (i : ℕ) × (i < element_count q m) × (keeps q c m i ≡ true) × (v ≡ h.number m i))
-      → ((c m i : ℕ) → i < element_count q m → keeps q c m i ≡ true → kept c (h.number m i) ≡ true)
-      → StandsFor q (record s { running = running; held = held; kept = kept })
-  shows_after s h running held kept runs used held_at held_back kept_at kept_back = record {
-    cpus = h.cpus ∙ sym same.cpus;
-    maps = h.maps ∙ sym same.shapes;
-    running = runs;
-    number = h.number;
-    leads = λ m i l. subst (λ (key : List ℕ). Finds s m key (h.number m i)) (sym (same.key m i)) (h.leads m i (linked_was m i l));
-    found = λ m key v l. (let f = h.found m key v l in (f.0, linked_still m f.0 f.1, same.key m f.0 ∙ f.2, f.3));
-    counts = λ m. h.counts m ∙ ap (count_by (λ b. b)) (sym (same.linked m));
-    values = λ m i l u.
-        h.values m i (within_was m i l) (used m i u)
-        ∙ (ap (λ (b : List ℕ). record { bytes = b; span = span_at p m i }) (sym (same.bytes m i))
-        ∙ ap (λ (x : Span). record { bytes = bytes_of (rows q m) i; span = x }) (sym (span-same m i)));
-    held = held_at;
-    held_back = held_back;
-    kept = kept_at;
-    kept_back = kept_back;
-  }
+  module _ (k i cpus from all : ℕ) (served : cpus ≡ h.cpus) (is_from : from ≡ k) (is_all : all ≡ copies cpus g) (less : from < all) (has_index : i < g.max) where
+    pub copy_there : k < copies h.cpus g
+    copy_there = subst (λ (x : ℕ). k < copies x g) served (omega arith)
 
-  -- the spans that are held, by what each element shows
-  pub held_spans-same : ((c m i : ℕ) → holds q c m i ≡ holds p c m i) → held_spans q ≡ held_spans p
-  held_spans-same e = λ k c x. go c x k
-    where
-      inner : (c : ℕ) (x : Span) (m : ℕ) → any_below (element_count q m) (λ i. holds q c m i && same_span x (span_at q m i)) ≡ any_below (element_count p m) (λ i. holds p c m i && same_span x (span_at p m i))
-      inner c x m =
-          ap (λ (n : ℕ). any_below n (λ i. holds q c m i && same_span x (span_at q m i))) (ap elements (same.shape m))
-          ∙ any_below_same (element_count p m) (λ i. holds p c m i && same_span x (span_at p m i)) (λ i. holds q c m i && same_span x (span_at q m i))
-          (λ i l. ap (λ (b : Bool). b && same_span x (span_at q m i)) (e c m i) ∙ ap (λ (y : Span). holds p c m i && same_span x y) (span-same m i))
+    pub room : offset_in g k i + g.value ≤ copies h.cpus g * copy_stride g
+    room = value_inside h.cpus k i g copy_there has_index
 
-      go : (c : ℕ) (x : Span) → held_spans q c x ≡ held_spans p c x
-      go c x =
-          ap (λ (n : ℕ). any_below n (λ m. any_below (element_count q m) (λ i. holds q c m i && same_span x (span_at q m i)))) same.tables
-          ∙ any_below_same (length p.tables) (λ m. any_below (element_count p m) (λ i. holds p c m i && same_span x (span_at p m i))) (λ m. any_below (element_count q m) (λ i. holds q c m i && same_span x (span_at q m i))) (λ m l. inner c x m)
+    pub few : offset_in g k i + g.value ≤ 0x1000_0000
+    few = let r = room in let f = few_bytes h.cpus g is.cpus.1 shaped in omega arith
 
-  -- one CPU holds nothing any more
-  pub held_spans-without : (c : ℕ) → ((d m i : ℕ) → d ≢ c → holds q d m i ≡ holds p d m i) → ((m i : ℕ) → holds q c m i ≡ false) → held_spans q ≡ held_without (held_spans p) c
-  held_spans-without c other own = λ k d x. go d x k
-    where
-      inner : (d : ℕ) (x : Span) → d ≢ c → (m : ℕ) → any_below (element_count q m) (λ i. holds q d m i && same_span x (span_at q m i)) ≡ any_below (element_count p m) (λ i. holds p d m i && same_span x (span_at p m i))
-      inner d x ne m =
-          ap (λ (n : ℕ). any_below n (λ i. holds q d m i && same_span x (span_at q m i))) (ap elements (same.shape m))
-          ∙ any_below_same (element_count p m) (λ i. holds p d m i && same_span x (span_at p m i)) (λ i. holds q d m i && same_span x (span_at q m i))
-          (λ i l. ap (λ (b : Bool). b && same_span x (span_at q m i)) (other d m i ne) ∙ ap (λ (y : Span). holds p d m i && same_span x y) (span-same m i))
-
-      nothing : (x : Span) (d : ℕ) → d ≡ c → held_spans q d x ≡ false
-      nothing x d e = any_below_none (length q.tables) (λ m. any_below (element_count q m) (λ i. holds q d m i && same_span x (span_at q m i)))
-          (λ m l. any_below_none (element_count q m) (λ i. holds q d m i && same_span x (span_at q m i)) (λ i k. ap (λ (b : Bool). b && same_span x (span_at q m i)) (ap (λ (z : ℕ). holds q z m i) e ∙ own m i)))
-
-      go : (d : ℕ) (x : Span) → held_spans q d x ≡ (if d == c then false else held_spans p d x)
-      go d x = elim (equal_or_not d c) [
-        | inl e ↦ nothing x d e ∙ sym (ap (λ (b : Bool). if b then false else held_spans p d x) (eq-eqb d c e))
-        | inr ne ↦
-            ap (λ (n : ℕ). any_below n (λ m. any_below (element_count q m) (λ i. holds q d m i && same_span x (span_at q m i)))) same.tables
-            ∙ (any_below_same (length p.tables) (λ m. any_below (element_count p m) (λ i. holds p d m i && same_span x (span_at p m i))) (λ m. any_below (element_count q m) (λ i. holds q d m i && same_span x (span_at q m i))) (λ m l. inner d x ne m)
-            ∙ sym (ap (λ (b : Bool). if b then false else held_spans p d x) (ne_eqb d c ne)))
-      ]
+pub same_offset : (g : ArrayShape) (k i from block row : ℕ) → from ≡ k → block ≡ copy_stride g → row ≡ array_stride g → from * block + i * row ≡ offset_in g k i
+same_offset g k i from block row e f d = ap (λ (x : ℕ). x * block + i * row) e ∙ (ap (λ (x : ℕ). k * x + i * row) f ∙ ap (λ (x : ℕ). k * copy_stride g + i * x) d)

@@ -1,26 +1,19 @@
--- Contents that differ only in what no call can see: in numbers of runs, and in what is left in
--- elements that are in no use.
-use Rattle.std.specs.Prelude.{◌≡◌, ℕ, ◌<◌, List, length}
+-- Contents that differ only in what no call can see: their maps may, and arrays don't.
+use Rattle.std.specs.Prelude.{◌≡◌, ℕ, List}
 use Rattle.bpf_shared.specs.Store.{Plain}
-use Rattle.bpf_plain.specs.Private.Rows.{key_of, bytes_of, IsLinked}
-use Rattle.bpf_plain.specs.Private.Contents.{Contents, rows, element_count, shapes_of, has_cpu, is_running, holds, keeps, IsUsed, StandsFor}
+use Rattle.bpf_hash.specs.Alike as hash
+use Rattle.bpf_plain.specs.Private.Contents.{Contents, shape_of, has_cpu, StandsFor}
 use Rattle.bpf_plain.specs.Private.Saved.{IsSavedAs}
 use Rattle.bpf_plain.specs.Private.Normal.{normal}
 
 pub record LookAlike (p q : Contents) : Type 0 where
-  pub cpus : length q.runs ≡ length p.runs
-  pub maps : shapes_of q ≡ shapes_of p
-  pub running : (c : ℕ) → is_running q c ≡ is_running p c
-  pub linked : (m : ℕ) → (rows q m).linked ≡ (rows p m).linked
-  pub keys : (m i : ℕ) → IsLinked (rows p m) i → key_of (rows q m) i ≡ key_of (rows p m) i
-  pub bytes : (m i : ℕ) → i < element_count p m → IsUsed p m i
-      → bytes_of (rows q m) i ≡ bytes_of (rows p m) i
-  pub holds : (c m i : ℕ) → i < element_count p m → holds q c m i ≡ holds p c m i
-  pub keeps : (c m i : ℕ) → i < element_count p m → keeps q c m i ≡ keeps p c m i
+  pub shape : shape_of q ≡ shape_of p
+  pub maps : hash.LookAlike p.maps q.maps
+  pub arrays : q.arrays ≡ p.arrays
 
--- the same maps and CPUs
+-- the same CPUs, and the same maps and arrays
 abbrev pub IsSameShape : Contents → Contents → Type 0
-IsSameShape p q = ((c : ℕ) → has_cpu q c ≡ has_cpu p c) × (shapes_of q ≡ shapes_of p)
+IsSameShape p q = ((c : ℕ) → has_cpu q c ≡ has_cpu p c) × (shape_of q ≡ shape_of p)
 
 -- contents of one shape that are saved as the same bytes look alike
 abbrev pub SavedAlikeLookAlike : Type 0

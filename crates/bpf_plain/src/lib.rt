@@ -1,13 +1,13 @@
 //! The plain store: a shared store of one thread, which answers what the definitions allow, with
-//! the choices that they leave to it.
+//! the choices that they leave to it. It has hash maps and, beside them, the bytes of arrays.
 #![tactic(auto)]
 
-mod home;
-mod index;
+mod bytes;
+mod changes;
+mod copying;
 pub mod laws;
-mod marks;
 mod plain;
-mod runs;
-mod table;
+mod reading;
 
+pub use copying::copy_shape;
 pub use plain::PlainStore;

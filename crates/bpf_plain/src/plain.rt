@@ -1,19 +1,15 @@
 //! The plain store: the shared store of one thread.
-ghost use Rattle.std.specs.Prelude.{◌≡◌, ◌+◌, ◌<◌, ◌≤◌, ℕ, true, false, IsTrue, IfOk, IfErr, IfSome, IfNone, length, map, nat_lt, option_map, slice_index_or};
-ghost use Rattle.bpf_shared.specs.Shape.{IsMap, IsMapShape, IsValueSpan};
-ghost use Rattle.bpf_plain.specs.Private.Rows.{no_rows, shape_of, IsBlank, IsTable};
-ghost use Rattle.bpf_plain.specs.Private.Runs.{no_runs};
+ghost use Rattle.std.specs.Prelude.{◌≡◌, ◌≤◌, ◌<◌, ℕ, true, false, IsTrue, IfOk, IfErr, IfSome, IfNone, nat_lt, option_map};
+ghost use Rattle.bpf_shared.specs.Shape.{IsValueSpan};
 
+mod calls;
+mod places;
 mod restoring;
 mod saving;
 
-use crate::runs::Runs;
-use crate::table::Table;
-use bpf_shared::bytes::change;
-use bpf_shared::{
-    AtomicOp, FIRST_VALUE, KeyList, MAP_AREA, MapAnswer, MapShape, ShapeError, Shared, Size, Span,
-    StoreShape, ValuePlace, Worn,
-};
+use crate::bytes::new_arrays;
+use bpf_hash::HashStore;
+use bpf_shared::{ShapeError, Span, StoreShape};
 use std::alloc::{AllocError, Global};
 use std::marker::Model;
 
@@ -21,99 +17,75 @@ use std::marker::Model;
 /// with the choices that they leave to it. All its memory is taken when it is made.
 #[derive(Drop)]
 pub struct PlainStore {
-    /// By CPU.
-    runs: Vec<Runs>,
-    /// By map.
-    tables: Vec<Table>,
+    shape: StoreShape,
+    maps: HashStore,
+    /// By array, the bytes of its values, each at its offset from the first.
+    arrays: Vec<Vec<u8>>,
 }
 
 impl Model for PlainStore {
+    ghost use Rattle.bpf_shared.specs.Contents.{bytes_of_all};
     ghost use Rattle.bpf_plain.specs.Private.Contents.{Contents, IsStore};
 
     ghost Value = { Contents };
 
-    ghost view = { λ p. record { runs = p.runs.items; tables = p.tables.items } };
+    ghost view = { λ p. record { shape = p.shape; maps = p.maps; arrays = bytes_of_all p.arrays.items } };
 
-    ghost invariant = { λ p. IsStore (record { runs = p.runs.items; tables = p.tables.items }) };
-}
-
-/// No CPU has begun a run.
-fn new_runs(alloc: Global, cpus: u8) -> Result<Vec<Runs>, AllocError>
-    ensures cpus { IfOk result (λ v. length v.items ≡ cpus) }
-    ensures idle { IfOk result (λ v. (c : ℕ) → slice_index_or v.items c no_runs ≡ no_runs) }
-{
-    let mut runs = Vec::with_capacity(alloc, cpus as usize)?;
-    for _ in 0..cpus {
-        runs.push(Runs {
-            count: 0,
-            running: false,
-        })?;
-    }
-    Ok(runs)
-}
-
-/// No map has a key.
-fn new_tables(alloc: Global, maps: &[MapShape], cpus: u8) -> Result<Vec<Table>, AllocError>
-    requires maps { (m : ℕ) (h : _) → IsMap maps.now m h → IsMapShape h }
-    requires cpus { cpus ≤ 16 }
-    ensures shapes { IfOk result (λ v. map shape_of v.items ≡ maps.now) }
-    ensures blank { IfOk result (λ v. (m : ℕ) → IsBlank (slice_index_or v.items m no_rows)) }
-    ensures tables { IfOk result (λ v. (m : ℕ) → m < length v.items
-        → IsTable (slice_index_or v.items m no_rows)
-        × ((slice_index_or v.items m no_rows).cpus ≡ cpus)) }
-{
-    let mut tables = Vec::with_capacity(alloc, maps.len())?;
-    for map in maps {
-        tables.push(Table::new(alloc, *map, cpus)?)?;
-    }
-    Ok(tables)
-}
-
-/// Where in a store's tables a byte of a value is.
-#[derive(Clone, Copy)]
-struct Reach {
-    map: usize,
-    element: usize,
-    offset: usize,
+    ghost invariant = { λ p. IsStore (record { shape = p.shape; maps = p.maps; arrays = bytes_of_all p.arrays.items }) };
 }
 
 impl PlainStore {
-    ghost use Rattle.bpf_plain.specs.Private.Contents.{IsMade, has_cpu, is_running, held_spans, holds, runs_of, element_count, span_at};
-    ghost use Rattle.bpf_shared.specs.Passage.{same_span};
-    ghost use Rattle.bpf_plain.specs.Private.Changes.{IsAtValue, IsAlike, IsReach};
     ghost use Rattle.bpf_shared.specs.Listing.{listed};
-    ghost use Rattle.bpf_plain.specs.Shows.{Lists, ShowsByte, ShowsKey, ShowsNoByte, ShowsNoKey, ShowsValue};
+    ghost use Rattle.bpf_plain.specs.Private.Contents.{IsMade, has_cpu, is_running, held_spans};
+    ghost use Rattle.bpf_plain.specs.Shows.{Lists, ShowsKey, ShowsNoKey, ShowsValue};
+    ghost use Rattle.bpf_plain.specs.Private.Contents.{shape_of};
 
     /// A store with no keys, and no CPU in a run. Out of memory is its only refusal.
     pub fn new(alloc: Global, shape: StoreShape) -> Result<PlainStore, ShapeError>
         ensures made { IfOk result (IsMade shape) }
         ensures refused { IfErr result (λ e. e ≡ ShapeError.OutOfMemory) }
     {
-        Self::allocate(alloc, &shape).map_err(|_| ShapeError::OutOfMemory)
+        Self::allocate(alloc, shape).map_err(|_| ShapeError::OutOfMemory)
+    }
+
+    fn allocate(alloc: Global, shape: StoreShape) -> Result<PlainStore, AllocError>
+        ensures { IfOk result (IsMade shape) }
+    {
+        let maps = HashStore::new(alloc, &shape)?;
+        let arrays = new_arrays(alloc, &shape)?;
+        Ok(PlainStore {
+            shape,
+            maps,
+            arrays,
+        })
+    }
+
+    /// What the store was made with.
+    pub fn store_shape(&self) -> &StoreShape
+        ensures { result.now ≡ shape_of self.now }
+    {
+        &self.shape
     }
 
     /// How many CPUs the store has: those of the numbers below it.
     pub fn cpus(&self) -> u8
         ensures { (c : ℕ) → has_cpu self.now c ≡ nat_lt c result }
     {
-        self.runs.len() as u8
+        self.maps.cpus()
     }
 
     /// Only CPUs that the store has are in a run: says so, and does nothing.
     pub fn runs_are_served(&self)
         ensures { (c : ℕ) → is_running self.now c ≡ true → has_cpu self.now c ≡ true }
     {
-        let _ = &self.runs;
+        self.maps.runs_are_served();
     }
 
     /// The CPU of this number is in a run.
     pub fn is_running(&self, cpu: u8) -> bool
         ensures { result ≡ is_running self.now cpu }
     {
-        match self.runs.get(cpu as usize) {
-            Some(runs) => runs.running,
-            None => false,
-        }
+        self.maps.is_running(cpu)
     }
 
     /// The run of the CPU of this number holds the value of a span.
@@ -121,32 +93,15 @@ impl PlainStore {
         ensures holds { result ≡ held_spans self.now cpu span }
         ensures value { IsTrue result → IsValueSpan span }
     {
-        let _ = &self.runs;
-        match self.place(span.at) {
-            Some(reach) => self.holds_element(cpu, reach) && self.is_span(reach, span),
-            None => false,
-        }
+        self.maps.holds(cpu, span)
     }
 
-    /// The keys of a map with their values, in the keys' order; of no map there are none. Want of
+    /// The keys of a map with their values, in the keys' order; of no map there are none. Out of
     /// memory is the only refusal.
     pub fn dump(&self, alloc: Global, map: u64) -> Result<Vec<(Vec<u8>, Vec<u8>)>, AllocError>
         ensures listed { IfOk result (λ pairs. Lists self.now map (listed pairs.items)) }
     {
-        match self.tables.get(map as usize) {
-            Some(table) => table.pairs(alloc),
-            None => Ok(Vec::new(alloc)),
-        }
-    }
-
-    /// The byte at an address, of the one value there that is in a map or kept.
-    pub fn peek(&self, address: u64) -> Option<u8>
-        ensures found { IfSome result (ShowsByte self.now address) }
-        ensures none { IfNone result (ShowsNoByte self.now address) }
-    {
-        let runs = self.runs.as_slice();
-        let reach = self.place(address)?;
-        self.tables[reach.map].byte(reach.element, reach.offset, runs)
+        self.maps.dump(alloc, map)
     }
 
     /// The key that leads to the value at an address. None where no map has a value there, as of a
@@ -155,193 +110,13 @@ impl PlainStore {
         ensures found { IfSome result (λ key. ShowsKey self.now address key.now) }
         ensures none { IfNone result (ShowsNoKey self.now address) }
     {
-        let tables = self.tables.as_slice();
-        let reach = self.place(address)?;
-        tables[reach.map].linked_key(reach.element)
+        self.maps.key_at(address)
     }
 
     /// The value of a key of a map. None where the map doesn't have the key, or there is no such map.
     pub fn value(&self, map: u64, key: &[u8]) -> Option<&[u8]>
         ensures { ShowsValue self.now map key.now (option_map (λ value. value.now) result) }
     {
-        match self.tables.get(map as usize) {
-            Some(table) => table.value_of(key),
-            None => None,
-        }
+        self.maps.value(map, key)
     }
-
-    fn allocate(alloc: Global, shape: &StoreShape) -> Result<PlainStore, AllocError>
-        ensures { IfOk result (IsMade shape.now) }
-    {
-        Ok(PlainStore {
-            runs: new_runs(alloc, shape.cpus())?,
-            tables: new_tables(alloc, shape.maps(), shape.cpus())?,
-        })
-    }
-
-    /// Makes sure that the CPU's runs can be counted up once more. After 2^32 - 1 runs that takes a
-    /// new count, from 0 on, and every run of the old one is forgotten.
-    fn make_countable(&mut self, cpu: u8)
-        requires serves { has_cpu self.old cpu ≡ true }
-        requires idle { is_running self.old cpu ≡ false }
-        ensures countable { (runs_of self.new cpu).count < u32.MAX }
-        ensures alike { IsAlike self.old self.new }
-    {
-        if self.runs[cpu as usize].count < u32::MAX {
-            return;
-        }
-        self.runs[cpu as usize].count = 0;
-        for table in self.tables.iter_mut() {
-            table.forget(cpu);
-        }
-    }
-
-    /// The CPU's run looked the element of a place up.
-    fn holds_element(&self, cpu: u8, reach: Reach) -> bool
-        requires map { reach.map < length self.now.tables }
-        requires element { reach.element < element_count self.now reach.map }
-        ensures { result ≡ holds self.now cpu reach.map reach.element }
-    {
-        match self.runs.get(cpu as usize) {
-            Some(runs) => self.tables[reach.map].is_held_by(reach.element, cpu as usize, *runs),
-            None => false,
-        }
-    }
-
-    /// A span is that of the element of a place.
-    fn is_span(&self, reach: Reach, span: Span) -> bool
-        requires { IsReach self.now span.at reach }
-        ensures { result ≡ same_span span (span_at self.now reach.map reach.element) }
-    {
-        reach.offset == 0 && span.size == self.tables[reach.map].shape().value
-    }
-
-    /// Where the byte at an address is, if it is one of an element's value.
-    fn place(&self, address: u64) -> Option<Reach>
-        ensures found { IfSome result (IsReach self.now address) }
-        ensures none { IfNone result (IsAtValue self.now address → ⊥) }
-    {
-        let above = address.checked_sub(FIRST_VALUE)?;
-        let map = (above / MAP_AREA) as usize;
-        let table = self.tables.get(map)?;
-        let within = above % MAP_AREA;
-        let stride = table.stride();
-        let element = within / stride;
-        let offset = within % stride;
-        if element < table.elements() && offset < table.shape().value {
-            Some(Reach {
-                map,
-                element: element as usize,
-                offset: offset as usize,
-            })
-        } else {
-            None
-        }
-    }
-
-    /// Where the byte at an address in a value is.
-    fn reach(&self, at: u64) -> Reach
-        requires { IsAtValue self.now at }
-        ensures map { result.map < length self.now.tables }
-        ensures element { result.element < element_count self.now result.map }
-        ensures at { at ≡ (span_at self.now result.map result.element).at + result.offset }
-        ensures inside { result.offset < (span_at self.now result.map result.element).size }
-    {
-        let above = at - FIRST_VALUE;
-        let map = (above / MAP_AREA) as usize;
-        let within = above % MAP_AREA;
-        let stride = self.tables[map].stride();
-        Reach {
-            map,
-            element: (within / stride) as usize,
-            offset: (within % stride) as usize,
-        }
-    }
-}
-
-impl Shared for PlainStore {
-    ghost use Rattle.bpf_plain.specs.Private.Contents.{shapes_of, has_cpu, is_running, held_spans, Passes, MayLack};
-    ghost use Rattle.bpf_plain.specs.Lemmas.Passages.{passes_nothing, passes_follow};
-
-    ghost shapes = { shapes_of };
-
-    ghost serves = { has_cpu };
-
-    ghost running = { is_running };
-
-    ghost held = { held_spans };
-
-    ghost passes = { Passes };
-
-    ghost may_wear = { λ _ _. ⊥ };
-
-    ghost may_lack = { MayLack };
-
-    fn shape(&self, map: u64) -> Option<MapShape> {
-        Some(self.tables.get(map as usize)?.shape())
-    }
-
-    fn begin(&mut self, cpu: u8) -> Result<(), Worn> {
-        self.make_countable(cpu);
-        let runs = &mut self.runs[cpu as usize];
-        runs.count += 1;
-        runs.running = true;
-        Ok(())
-    }
-
-    fn lookup(&mut self, cpu: u8, map: u8, key: &[u8]) -> Option<Span> {
-        let run = self.runs[cpu as usize].count;
-        let table = &self.tables[map as usize];
-        let element = table.find(key)?;
-        let span = table.span(map, element);
-        self.tables[map as usize].look_up(element, cpu, run);
-        Some(span)
-    }
-
-    fn update(&mut self, _cpu: u8, map: u8, key: &[u8], value: &[u8], flags: u64) -> MapAnswer {
-        self.tables[map as usize].put(key, value, flags, &self.runs)
-    }
-
-    fn delete(&mut self, _cpu: u8, map: u8, key: &[u8]) -> MapAnswer {
-        self.tables[map as usize].take(key, &self.runs)
-    }
-
-    fn keys(&mut self, _cpu: u8, map: u8, list: &mut KeyList) {
-        self.tables[map as usize].list_keys(list);
-    }
-
-    fn value_load(&mut self, _cpu: u8, at: ValuePlace, size: Size) -> u64 {
-        let reach = self.reach(at.at);
-        self.tables[reach.map].load(reach.element, reach.offset, size)
-    }
-
-    fn value_store(&mut self, _cpu: u8, at: ValuePlace, size: Size, word: u64) {
-        let reach = self.reach(at.at);
-        self.tables[reach.map].store(reach.element, reach.offset, size, word);
-    }
-
-    fn value_atomic(
-        &mut self,
-        _cpu: u8,
-        at: ValuePlace,
-        size: Size,
-        op: AtomicOp,
-        operand: u64,
-        expected: u64,
-    ) -> u64 {
-        let reach = self.reach(at.at);
-        let table = &mut self.tables[reach.map];
-        let found = table.load(reach.element, reach.offset, size);
-        let word = change(op, size, found, operand, expected);
-        table.store(reach.element, reach.offset, size, word);
-        found
-    }
-
-    fn end(&mut self, cpu: u8) {
-        self.runs[cpu as usize].running = false;
-    }
-
-    ghost nothing = { passes_nothing };
-
-    ghost follows = { passes_follow };
 }

@@ -1,9 +1,12 @@
 -- Races that are gathered of kept machines.
 use Rattle.std.proofs.Common.{◌≡◌, ◌∙◌, ℕ, ◌+◌, ◌<◌, ◌≤◌, ◌⊎◌, Bool, true, false, List, [], ◌∷◌, ◌++◌, Option, Some, None, length, get_or, inl, inr, refl, sym, ap, subst, arith}
-use Rattle.std.specs.Prelude.{slice_get}
+use Rattle.std.specs.Prelude.{slice_get, option_map, IfSome, IfNone, Vec}
+use Rattle.std.specs.declared.alloc.Global.{Global}
+use Rattle.bpf_shared.specs.Shape.{Shape}
+use Rattle.bpf_helpers.specs.Arrays.{IsInArray}
 use Rattle.std.proofs.lemmas.Bool.{cases_lt}
 use Rattle.std.proofs.lemmas.Option.{slice_get_read, slice_get_within}
-use Rattle.bpf_plain.specs.PlainStore.{Contents, StandsFor}
+use Rattle.bpf_plain.specs.PlainStore.{Contents, StandsFor, shape_of}
 use Rattle.bpf_plain.specs.Shows.{LeadsTo, ShowsKey, ShowsNoKey}
 use Rattle.bpf_machine.specs.Machine.{MachineState, Shows}
 use Rattle.bpf_machine.specs.Race.{IsRace}
@@ -13,7 +16,7 @@ use Rattle.bpf_races.specs.declared.found.Pair.{Pair}
 use Rattle.bpf_races.specs.declared.sync.Part.{Part}
 use Rattle.bpf_races.specs.Touch.{IsAmong}
 use Rattle.bpf_races.specs.Searched.{IsLedTo}
-use Rattle.bpf_races.specs.Races.{RaceFound, RacesBy, RacesIn, AreListed, AreOnce, AreRacesIn, IsKeyAt, IsListed, IsTold, Spot, spot_of}
+use Rattle.bpf_races.specs.Races.{RaceFound, RacesBy, RacesIn, AreListed, AreOnce, AreRacesIn, IsIndexAt, IsKeyAt, IsListed, IsTold, Spot, spot_of}
 use Rattle.bpf_races.specs.Parts.{IsLeftOut, map_at}
 use Rattle.bpf_races.specs.Private.Searching.{AreAllListed, AreListedAt, AreRacesAt, Gathered, IsOneOf, IsRaceAt, IsSame, Keeps}
 use Rattle.bpf_races.proofs.Lists.{in_cases}
@@ -165,10 +168,19 @@ all_kept kept races sync n past far i m at = let inside = slice_get_within kept 
 -- ---- keys
 pub key_shown : (m : MachineState) (p : Contents) (at : ℕ) (key bytes : List ℕ) → p ≡ m.store → ShowsKey p at key → bytes ≡ key → (w : World) → Shows m w → IsKeyAt w.store at (Some bytes)
 key_shown m p at key bytes same shown is w shows =
-    subst (λ (k : List ℕ). LeadsTo w.store at k) (sym is) (shown w.store shows.sound (subst (λ (q : Contents). StandsFor q w.store) (sym same) shows.store))
+    inl (subst (λ (k : List ℕ). LeadsTo w.store at k) (sym is) (shown w.store shows.sound (subst (λ (q : Contents). StandsFor q w.store) (sym same) shows.store)))
 
-pub no_key_shown : (m : MachineState) (p : Contents) (at : ℕ) → p ≡ m.store → ShowsNoKey p at → (w : World) → Shows m w → IsKeyAt w.store at None
-no_key_shown m p at same shown w shows key leads = shown w.store shows.sound (subst (λ (q : Contents). StandsFor q w.store) (sym same) shows.store) key leads
+-- no key of a map leads there, and this is the index in an array, if there is one
+pub index_shown : (m : MachineState) (p q : Contents) (at : ℕ) (index : Option (Vec ℕ Global)) → p ≡ m.store → q ≡ m.store → ShowsNoKey p at → IfSome index (λ bytes. IsIndexAt (shape_of q) at bytes.items) → IfNone index (¬ IsInArray (shape_of q) at 1)
+    → (w : World) → Shows m w → IsKeyAt w.store at (option_map (λ bytes. bytes.items) index)
+index_shown m p q at None same too shown some none w shows =
+    let shape : shape_of q ≡ w.store.shape = ap shape_of too ∙ sym shows.store.shape in (
+      λ key leads. shown w.store shows.sound (subst (λ (x : Contents). StandsFor x w.store) (sym same) shows.store) key leads,
+      λ there. none (subst (λ (h : Shape). IsInArray h at 1) (sym shape) there),
+    )
+index_shown m p q at (Some bytes) same too shown some none w shows =
+    let shape : shape_of q ≡ w.store.shape = ap shape_of too ∙ sym shows.store.shape in
+    inr (subst (λ (h : Shape). IsIndexAt h at bytes.items) shape some)
 
 -- ---- ways
 pub led_from : (kept : List MachineState) (schedule : List ℕ) (place : ℕ) (m : MachineState) → LeadsFrom kept 0 schedule place → slice_get kept place ≡ Some m → IsLedTo kept schedule m

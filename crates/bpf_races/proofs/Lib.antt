@@ -10,3 +10,4 @@ pub mod GatherLaws
 pub mod WithinLaws
 pub mod RaceFree
 pub mod Searching
+pub mod ArrayKeys

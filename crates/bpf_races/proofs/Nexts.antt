@@ -117,10 +117,10 @@ HasState m c j state = (task : Task) × (left : ℕ) × IsAt m.jobs c j task (In
 
 module _ (law : WritesAreDetermined) (begins : OneInstructionBegins) (replies : CallsHaveOneReply) where
   one_events : (program : Loaded) (c : ℕ) (s : Plain) (old new other : Cpu) (events others : List Event) (answer end : Progress) (t u : Plain) → IsSoundStore s → IsMemory old.memory
-      → Step s.shape.maps program old events answer new → PlainlyLegal s (map (entry c) events) t → Step s.shape.maps program old others end other → PlainlyLegal s (map (entry c) others) u → events ≡ others
+      → Step s.shape program old events answer new → PlainlyLegal s (map (entry c) events) t → Step s.shape program old others end other → PlainlyLegal s (map (entry c) others) u → events ≡ others
   one_events program c s old new other events others answer end t u store sound a legal b legal_too =
-      let agrees = step_agrees law begins s.shape.maps program old new other answer end events others sound a b in
-      (same_replies law begins s.shape.maps program replies c events others s t u store legal legal_too agrees.asks).0
+      let agrees = step_agrees law begins s.shape program old new other answer end events others sound a b in
+      (same_replies law begins s.shape program replies c events others s t u store legal legal_too agrees.asks).0
 
   -- and what is next is one of them
   next_among : (w : World) (c j : ℕ) (task : Task) (state : Cpu) (left : ℕ) (program : Loaded) (ys : List Event) → IsSoundStore w.store → IsMemory state.memory → ((k : ℕ) → HasInHand w.jobs c k → k ≡ j)
@@ -134,12 +134,12 @@ module _ (law : WritesAreDetermined) (begins : OneInstructionBegins) (replies : 
       let lefts : next.left ≡ left = cc in
       let programs : Some next.program ≡ Some program = sym next.loaded ∙ (ap (λ (t : Task). slice_get w.programs t.program) same.0 ∙ loaded) in
       let program' : next.program ≡ program = cc in
-      let step : Step w.store.shape.maps program state next.events next.answer next.after =
-      subst (λ (p : Loaded). Step w.store.shape.maps p state next.events next.answer next.after) program' (subst (λ (x : Cpu). Step w.store.shape.maps next.program x next.events next.answer next.after) states next.step)
+      let step : Step w.store.shape program state next.events next.answer next.after =
+      subst (λ (p : Loaded). Step w.store.shape p state next.events next.answer next.after) program' (subst (λ (x : Cpu). Step w.store.shape next.program x next.events next.answer next.after) states next.step)
       in
       (sym next.runs ∙ ap (λ (t : Task). t.program) same.0, sym next.stands ∙ ap (λ (x : Cpu). x.pc) states, among left (subst (λ (n : ℕ). 0 < n) lefts next.may) has step)
     where
-      among : (left : ℕ) → 0 < left → HasEvents program c w.store state left ys → Step w.store.shape.maps program state next.events next.answer next.after → IsAmong ys event
+      among : (left : ℕ) → 0 < left → HasEvents program c w.store state left ys → Step w.store.shape program state next.events next.answer next.after → IsAmong ys event
       among zero may has step = absurd (omega arith)
       among (suc n) may (answer, new, t, made, legal) step =
           let same : ys ≡ next.events = one_events program c w.store state new next.after ys next.events answer next.answer t next.store store sound made legal step next.legal in

@@ -1,13 +1,14 @@
 -- How races are printed. Our own choice.
-use Rattle.std.specs.Prelude.{ℕ, zero, suc, ◌++◌, Bool, if◌then◌else◌, List, [], Option, Some, None, codes, length, slice_index_or}
+use Rattle.std.specs.Prelude.{ℕ, zero, suc, ◌+◌, ◌-◌, nat_lt, ◌++◌, Bool, if◌then◌else◌, List, [], Option, Some, None, codes, length, slice_index_or}
 use Rattle.std.specs.Fmt.{decimal}
 use Rattle.hex.specs.Hex.{encode_lower}
 use Rattle.bpf_schedule.specs.Spelling.{runs_text}
 use Rattle.bpf_explore.specs.Listing.{all_text}
+use Rattle.bpf_loader.specs.declared.named.Named.{Named}
 use Rattle.bpf_machine.specs.declared.machine.Stand.{Stand}
 use Rattle.bpf_races.specs.declared.found.Pair.{Pair}
 use Rattle.bpf_races.specs.declared.sync.Part.{Part}
-use Rattle.bpf_races.specs.Races.{RaceFound, is_race_free}
+use Rattle.bpf_races.specs.Races.{RaceFound, adds_nothing}
 use Rattle.bpf_races.specs.Parts.{map_at}
 
 -- where a CPU is
@@ -25,20 +26,26 @@ abbrev pub key_text : Option (List ℕ) → List ℕ
 key_text None = codes "deleted"
 key_text (Some key) = encode_lower key
 
--- the map's name and the key
-abbrev pub value_text : List (List ℕ) → RaceFound → List ℕ
-value_text names race =
-    codes " map " ++ (slice_index_or names (map_at race.at) []
-    ++ (codes " " ++ key_text race.key))
+-- the name of the map or the array of this number: arrays have numbers from 16 on, and their names
+-- are after those of the maps
+abbrev pub place_text : Named → List (List ℕ) → ℕ → List ℕ
+place_text named names m =
+    if nat_lt m 16 then codes " map " ++ slice_index_or names m []
+    else codes " array " ++ slice_index_or names (named.maps + (m - 16)) []
 
-abbrev pub race_text : List (List ℕ) → RaceFound → List ℕ
-race_text names race =
-    ((places_text race.pair ++ value_text names race) ++ codes " by")
+-- that name and the key
+abbrev pub value_text : Named → List (List ℕ) → RaceFound → List ℕ
+value_text named names race =
+    place_text named names (map_at race.at) ++ (codes " " ++ key_text race.key)
+
+abbrev pub race_text : Named → List (List ℕ) → RaceFound → List ℕ
+race_text named names race =
+    ((places_text race.pair ++ value_text named names race) ++ codes " by")
     ++ (runs_text (length race.by) race.by ++ codes "\n")
 
 -- of one in a machine as it is
-abbrev pub here_text : List (List ℕ) → RaceFound → List ℕ
-here_text names race = (places_text race.pair ++ value_text names race) ++ codes "\n"
+abbrev pub here_text : Named → List (List ℕ) → RaceFound → List ℕ
+here_text named names race = (places_text race.pair ++ value_text named names race) ++ codes "\n"
 
 abbrev pub no_stand : Stand
 no_stand = record { cpu = 0; program = 0; pc = 0 }
@@ -52,15 +59,15 @@ no_race = record {
 }
 
 -- the first n of them
-abbrev pub race_lines : List (List ℕ) → ℕ → List RaceFound → List ℕ
-race_lines names zero races = []
-race_lines names (suc n) races =
-    race_lines names n races ++ race_text names (slice_index_or races n no_race)
+abbrev pub race_lines : Named → List (List ℕ) → ℕ → List RaceFound → List ℕ
+race_lines named names zero races = []
+race_lines named names (suc n) races =
+    race_lines named names n races ++ race_text named names (slice_index_or races n no_race)
 
-abbrev pub here_lines : List (List ℕ) → ℕ → List RaceFound → List ℕ
-here_lines names zero races = []
-here_lines names (suc n) races =
-    here_lines names n races ++ here_text names (slice_index_or races n no_race)
+abbrev pub here_lines : Named → List (List ℕ) → ℕ → List RaceFound → List ℕ
+here_lines named names zero races = []
+here_lines named names (suc n) races =
+    here_lines named names n races ++ here_text named names (slice_index_or races n no_race)
 
 -- whether they are all, and how many they are
 abbrev pub count_text : ℕ → List ℕ
@@ -69,12 +76,13 @@ count_text count = codes ": " ++ (decimal count ++ codes " races\n")
 abbrev pub last_line : Bool → ℕ → List ℕ
 last_line all count = all_text all ++ count_text count
 
--- where there is none at all, that x86 adds no outcome
+-- where that is so, that x86 adds no outcome
 abbrev pub same_line : Bool → List ℕ
-same_line free = if free then codes "no races: on x86 the outcomes are the same\n" else []
+same_line same = if same then codes "no races: on x86 the outcomes are the same\n" else []
 
 -- a line a race, and after them what follows for x86, and the last one
-abbrev pub races_text : List (List ℕ) → List Part → List RaceFound → Bool → List ℕ
-races_text names sync races all =
-    (race_lines names (length races) races ++ same_line (is_race_free sync races all))
+abbrev pub races_text : Named → List (List ℕ) → List Part → List RaceFound → Bool → List ℕ
+races_text named names sync races all =
+    (race_lines named names (length races) races
+    ++ same_line (adds_nothing named sync races all))
     ++ last_line all (length races)

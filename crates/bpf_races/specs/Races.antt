@@ -1,6 +1,11 @@
 -- The data races that schedules lead to.
-use Rattle.std.specs.Prelude.{◌≡◌, ℕ, ◌<◌, ◌≤◌, ◌⊎◌, ◌==◌, ◌&&◌, Bool, true, false, List, [], Option, Some, None, length, slice_get}
+use Rattle.std.specs.Prelude.{◌≡◌, ℕ, ◌/◌, ◌%◌, ◌<◌, ◌≤◌, ◌⊎◌, ◌==◌, ◌&&◌, Bool, true, false, List, [], Option, Some, None, length, slice_get}
+use Rattle.bpf_base.specs.Bytes.{low_bytes}
+use Rattle.bpf_shared.specs.Shape.{Shape, array_stride, copy_stride}
 use Rattle.bpf_shared.specs.Store.{Plain}
+use Rattle.bpf_loader.specs.declared.named.Named.{Named}
+use Rattle.bpf_helpers.specs.Arrays.{IsInArray, offset_of}
+use Rattle.bpf_cpu.specs.Setup.{named_in}
 use Rattle.bpf_plain.specs.Shows.{LeadsTo}
 use Rattle.bpf_machine.specs.Machine.{MachineState, Shows}
 use Rattle.bpf_machine.specs.Schedule.{World, RunsSchedule, unrolled}
@@ -13,10 +18,17 @@ use Rattle.bpf_races.specs.declared.sync.Part.{Part}
 use Rattle.bpf_races.specs.Touch.{IsAmong}
 use Rattle.bpf_races.specs.Parts.{IsLeftOut, map_at}
 
--- the key that leads to the value at the address, if one does: none where it has left its map
+-- the index of the value of an array at the address, as a key: four bytes
+abbrev pub IsIndexAt : Shape → ℕ → List ℕ → Type 0
+IsIndexAt h a key =
+    (there : IsInArray h a 1)
+    × (key ≡ low_bytes 4 (offset_of a % copy_stride there.array / array_stride there.array))
+
+-- the key that leads to the value at the address, or its index in an array: none where the value has
+-- left its map
 abbrev pub IsKeyAt : Plain → ℕ → Option (List ℕ) → Type 0
-IsKeyAt s a None = (key : List ℕ) → LeadsTo s a key → ⊥
-IsKeyAt s a (Some key) = LeadsTo s a key
+IsKeyAt s a None = ((key : List ℕ) → LeadsTo s a key → ⊥) × (¬ IsInArray s.shape a 1)
+IsKeyAt s a (Some key) = LeadsTo s a key ⊎ IsIndexAt s.shape a key
 
 -- ---- races
 
@@ -105,6 +117,10 @@ HaveAllRaces true w sync races =
 abbrev pub is_race_free : List Part → List RaceFound → Bool → Bool
 is_race_free sync races all = all && (length sync == 0 && length races == 0)
 
+-- then x86 adds no outcome, as far as that is proved: where there are no arrays
+abbrev pub adds_nothing : Named → List Part → List RaceFound → Bool → Bool
+adds_nothing named sync races all = is_race_free sync races all && named.arrays == 0
+
 -- the races, whether they are all, and whether the search counts as refused memory, which is its own to
 -- say. Else, of a search that isn't patient, not all are printed only where schedules lead to more machines
 -- than the limit
@@ -116,4 +132,4 @@ pub record AreRaces (patient : Bool) (w : World) (sync : List Part) (races : Lis
   pub met : patient ≡ false → all ≡ false → refused ≡ false
       → (states : ℕ) × AreReached w states × (limit < states)
   pub short : refused ≡ true → all ≡ false
-  pub same : is_race_free sync races all ≡ true → IsSameOnX86 patient w
+  pub same : adds_nothing (named_in w.store.shape) sync races all ≡ true → IsSameOnX86 patient w

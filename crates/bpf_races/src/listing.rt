@@ -1,16 +1,18 @@
 //! Races as they are printed.
 
-ghost use Rattle.std.specs.Prelude.{◌≡◌, ◌++◌, [], IfOk, OnOk, length, map, option_map, slice_index_or, string_bytes};
-ghost use Rattle.bpf_races.specs.Lines.{count_text, here_lines, here_text, key_text, last_line, places_text, race_text, races_text, same_line, stand_text, value_text};
-ghost use Rattle.bpf_races.specs.Races.{is_race_free};
+ghost use Rattle.std.specs.Prelude.{◌≡◌, ◌+◌, ◌++◌, [], IfOk, OnOk, length, map, option_map, slice_index_or, string_bytes};
+ghost use Rattle.bpf_races.specs.Lines.{count_text, here_lines, here_text, key_text, last_line, place_text, places_text, race_text, races_text, same_line, stand_text, value_text};
+ghost use Rattle.bpf_races.specs.Races.{adds_nothing};
 
 use crate::clash::map_at;
 use crate::found::{Pair, Race};
 use crate::search::Races;
 use crate::sync::Part;
 use bpf_explore::whether_all;
+use bpf_loader::Named;
 use bpf_machine::Stand;
 use bpf_schedule::push_runs;
+use bpf_shared::FIRST_ARRAY;
 use std::alloc::{AllocError, Global};
 
 /// The name of a map by its number; none for no map's.
@@ -19,6 +21,16 @@ fn name_at(names: &[String], number: usize) -> &str
 {
     match names.get(number) {
         Some(name) => name.as_str(),
+        None => "",
+    }
+}
+
+/// The name of an array, whose names are after those of the maps; none for no array's.
+fn array_name(named: Named, names: &[String], array: usize) -> &str
+    ensures { result.now ≡ slice_index_or (map string_bytes names.now) (named.maps + array) [] }
+{
+    match named.maps.checked_add(array) {
+        Some(number) => name_at(names, number),
         None => "",
     }
 }
@@ -51,14 +63,37 @@ fn places_text(alloc: Global, pair: Pair) -> Result<String, AllocError>
     format!(in alloc; "race {one} {other}")
 }
 
-/// The map's name and the key.
-fn value_text(alloc: Global, names: &[String], race: &Race) -> Result<String, AllocError>
+/// The name of the map or the array of a number.
+fn place_text(
+    alloc: Global,
+    named: Named,
+    names: &[String],
+    number: usize,
+) -> Result<String, AllocError>
     ensures { IfOk result (λ text. string_bytes text
-        ≡ value_text (map string_bytes names.now) race.now) }
+        ≡ place_text named (map string_bytes names.now) number) }
 {
-    let name = name_at(names, map_at(race.at));
+    if number < FIRST_ARRAY as usize {
+        let name = name_at(names, number);
+        return format!(in alloc; " map {name}");
+    }
+    let name = array_name(named, names, number - FIRST_ARRAY as usize);
+    format!(in alloc; " array {name}")
+}
+
+/// That name and the key.
+fn value_text(
+    alloc: Global,
+    named: Named,
+    names: &[String],
+    race: &Race,
+) -> Result<String, AllocError>
+    ensures { IfOk result (λ text. string_bytes text
+        ≡ value_text named (map string_bytes names.now) race.now) }
+{
+    let place = place_text(alloc, named, names, map_at(race.at))?;
     let key = key_text(alloc, &race.key)?;
-    format!(in alloc; " map {name} {key}")
+    format!(in alloc; "{place} {key}")
 }
 
 /// Its places.
@@ -72,14 +107,15 @@ fn pair_of(race: &Race) -> Pair
 fn push_places(
     alloc: Global,
     text: &mut String,
+    named: Named,
     names: &[String],
     race: &Race,
 ) -> Result<(), AllocError>
     ensures { OnOk result (string_bytes text.new ≡ string_bytes text.old
-        ++ (places_text race.now.pair ++ value_text (map string_bytes names.now) race.now)) }
+        ++ (places_text race.now.pair ++ value_text named (map string_bytes names.now) race.now)) }
 {
     let places = places_text(alloc, pair_of(race))?;
-    let value = value_text(alloc, names, race)?;
+    let value = value_text(alloc, named, names, race)?;
     text.push_str(places.as_str())?;
     text.push_str(value.as_str())?;
     Ok(())
@@ -96,13 +132,14 @@ fn way_of(race: &Race) -> &[(u8, u64)]
 fn push_race(
     alloc: Global,
     text: &mut String,
+    named: Named,
     names: &[String],
     race: &Race,
 ) -> Result<(), AllocError>
     ensures { OnOk result (string_bytes text.new
-        ≡ string_bytes text.old ++ race_text (map string_bytes names.now) race.now) }
+        ≡ string_bytes text.old ++ race_text named (map string_bytes names.now) race.now) }
 {
-    push_places(alloc, text, names, race)?;
+    push_places(alloc, text, named, names, race)?;
     text.push_str(" by")?;
     push_runs(alloc, text, way_of(race))?;
     text.push_str("\n")?;
@@ -127,39 +164,40 @@ fn push_last(alloc: Global, text: &mut String, all: bool, count: usize) -> Resul
     Ok(())
 }
 
-/// Whether there is no race at all, and no bytes were left out.
-fn is_race_free(sync: &[Part], races: &Races) -> bool
-    ensures { result ≡ is_race_free sync.now races.now.list.items races.now.all }
+/// Whether there is no race at all, no bytes were left out, and there are no arrays.
+fn adds_nothing(named: Named, sync: &[Part], races: &Races) -> bool
+    ensures { result ≡ adds_nothing named sync.now races.now.list.items races.now.all }
 {
-    races.all && sync.is_empty() && races.list.is_empty()
+    races.all && sync.is_empty() && races.list.is_empty() && named.arrays == 0
 }
 
 /// Appends what follows for x86 to the text.
-fn push_same(text: &mut String, free: bool) -> Result<(), AllocError>
-    ensures { OnOk result (string_bytes text.new ≡ string_bytes text.old ++ same_line free) }
+fn push_same(text: &mut String, same: bool) -> Result<(), AllocError>
+    ensures { OnOk result (string_bytes text.new ≡ string_bytes text.old ++ same_line same) }
 {
-    if free {
+    if same {
         text.push_str("no races: on x86 the outcomes are the same\n")?;
     }
     Ok(())
 }
 
-/// A line a race; where there is none at all, that x86 adds no outcome; and a line that says whether
+/// A line a race; where there is none at all, and no array, that x86 adds no outcome; and a line that says whether
 /// they are all, and how many they are.
 pub fn list_races(
     alloc: Global,
+    named: Named,
     names: &[String],
     sync: &[Part],
     races: &Races,
 ) -> Result<String, AllocError>
-    ensures { IfOk result (λ text. string_bytes text ≡ races_text (map string_bytes names.now)
+    ensures { IfOk result (λ text. string_bytes text ≡ races_text named (map string_bytes names.now)
         sync.now races.now.list.items races.now.all) }
 {
     let mut text = String::new(alloc);
     for race in &races.list {
-        push_race(alloc, &mut text, names, race)?;
+        push_race(alloc, &mut text, named, names, race)?;
     }
-    push_same(&mut text, is_race_free(sync, races))?;
+    push_same(&mut text, adds_nothing(named, sync, races))?;
     push_last(alloc, &mut text, races.all, races.list.len())?;
     Ok(text)
 }
@@ -168,25 +206,31 @@ pub fn list_races(
 fn push_here(
     alloc: Global,
     text: &mut String,
+    named: Named,
     names: &[String],
     race: &Race,
 ) -> Result<(), AllocError>
     ensures { OnOk result (string_bytes text.new
-        ≡ string_bytes text.old ++ here_text (map string_bytes names.now) race.now) }
+        ≡ string_bytes text.old ++ here_text named (map string_bytes names.now) race.now) }
 {
-    push_places(alloc, text, names, race)?;
+    push_places(alloc, text, named, names, race)?;
     text.push_str("\n")?;
     Ok(())
 }
 
 /// A line a race, without its schedule.
-pub fn list_races_in(alloc: Global, names: &[String], races: &[Race]) -> Result<String, AllocError>
+pub fn list_races_in(
+    alloc: Global,
+    named: Named,
+    names: &[String],
+    races: &[Race],
+) -> Result<String, AllocError>
     ensures { IfOk result (λ text. string_bytes text
-        ≡ here_lines (map string_bytes names.now) (length races.now) races.now) }
+        ≡ here_lines named (map string_bytes names.now) (length races.now) races.now) }
 {
     let mut text = String::new(alloc);
     for race in races {
-        push_here(alloc, &mut text, names, race)?;
+        push_here(alloc, &mut text, named, names, race)?;
     }
     Ok(text)
 }

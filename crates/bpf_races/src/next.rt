@@ -1,6 +1,9 @@
 //! What CPUs' next steps touch of values: the steps are made on copies.
 
-ghost use Rattle.std.specs.Prelude.{◌≡◌, [], IfOk};
+ghost use Rattle.std.specs.Prelude.{◌≡◌, [], IfOk, IfSome, IfNone};
+ghost use Rattle.bpf_helpers.specs.Arrays.{IsInArray};
+ghost use Rattle.bpf_plain.specs.PlainStore.{shape_of};
+ghost use Rattle.bpf_races.specs.Races.{IsIndexAt};
 ghost use Rattle.bpf_plain.specs.Alike.{IsSameShape};
 ghost use Rattle.bpf_mem.specs.Laws.{IsMemory};
 ghost use Rattle.bpf_machine.specs.Questions.{IsStanding};
@@ -11,10 +14,10 @@ use crate::access::{Access, accesses_of};
 use crate::shape::has_shape;
 use bpf_cpu::Cpu;
 use bpf_events::{Recorder, watch};
-use bpf_explore::copy_shape;
+use bpf_helpers::array_with;
 use bpf_machine::{Machine, Stand, Standing};
-use bpf_plain::PlainStore;
-use bpf_shared::StoreShape;
+use bpf_plain::{PlainStore, copy_shape};
+use bpf_shared::{FIRST_ARRAY, FIRST_VALUE, MAP_AREA, StoreShape};
 use std::alloc::{AllocError, Global};
 use std::marker::Model;
 
@@ -161,6 +164,20 @@ impl Model for Watcher {
     ghost invariant = { λ s. IsRecorderOf s.shape s.recorder };
 }
 
+/// The index of the value of an array at an address, as a key.
+fn index_at(alloc: Global, store: &PlainStore, at: u64) -> Result<Option<Vec<u8>>, AllocError>
+    ensures some { IfOk result (λ key. IfSome key (λ bytes. IsIndexAt (shape_of store.now) at bytes.items)) }
+    ensures none { IfOk result (λ key. IfNone key (¬ IsInArray (shape_of store.now) at 1)) }
+{
+    let _arrays = store.store_shape().arrays();
+    let Some(array) = array_with(store, at, 1) else {
+        return Ok(None);
+    };
+    let offset = (at - FIRST_VALUE - MAP_AREA * FIRST_ARRAY) % MAP_AREA;
+    let index = (offset % array.copy_stride() / array.stride()) as u32;
+    Ok(Some(copy_bytes(alloc, &index.to_le_bytes())?))
+}
+
 impl Watcher {
     ghost use Rattle.std.specs.Prelude.{IfOk, option_map};
     ghost use Rattle.bpf_machine.specs.Machine.{Shows};
@@ -190,14 +207,17 @@ impl Watcher {
         next_of(self.alloc, machine, &mut self.recorder, cpu)
     }
 
-    /// The key of the value at an address, if it is in its map.
+    /// The key of the value at an address, if it is in its map, or its index in an array.
     pub(crate) fn key_at(&self, machine: &Machine, at: u64) -> Result<Option<Vec<u8>>, AllocError>
         ensures { IfOk result (λ key. (w : World) → Shows machine.now w
             → IsKeyAt w.store at (option_map (λ bytes. bytes.items) key)) }
     {
         match machine.store().key_at(at) {
             Some(key) => Ok(Some(copy_bytes(self.alloc, key)?)),
-            None => Ok(None),
+            None => {
+                let index = index_at(self.alloc, machine.store(), at)?;
+                Ok(index)
+            }
         }
     }
 

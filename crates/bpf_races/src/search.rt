@@ -14,8 +14,9 @@ use crate::next::Watcher;
 use crate::sync::Part;
 use bpf_cpu::Setup;
 use bpf_explore::{
-    Explorer, Extent, Observer, PatientExplorer, copy_shape, explore, patient_search_of, search_of,
+    Explorer, Extent, Observer, PatientExplorer, explore, patient_search_of, search_of,
 };
+use bpf_plain::copy_shape;
 use bpf_shared::StoreShape;
 use std::alloc::{AllocError, Global};
 

@@ -3,6 +3,7 @@ use Rattle.std.proofs.Common.{Bool, Ok, string_bytes, ◌≡◌, ◌≤◌, ℕ,
 use Rattle.std.specs.Prelude.{All, slice_get}
 use Rattle.bpf_mem.specs.Limits.{max_context}
 use Rattle.bpf_shared.proofs.Soundness.{as_made_sound}
+use Rattle.bpf_shared.specs.Shape.{IsShape}
 use Rattle.bpf_cpu.specs.Task.{Task, Stage, Waiting, InHand, Ended, waiting}
 use Rattle.bpf_machine.specs.Laws.{IsFresh}
 use Rattle.bpf_jobs.specs.declared.rounds.Report.{Report}
@@ -11,7 +12,7 @@ use Rattle.bpf_events.specs.Reports.{IsHistory}
 use Rattle.bpf_debug.specs.Laws.{IsNew}
 use Rattle.bpf_debug.proofs.OwnValues.{made_own}
 use Rattle.bpf_file.specs.declared.file.RunFile.{RunFile}
-use Rattle.bpf_file.specs.File.{File, file_of}
+use Rattle.bpf_file.specs.File.{File, file_of, shape_of}
 use Rattle.bpf_file.specs.Reading.{IsRunFile}
 use Rattle.bpf_file.specs.Runnable.{WaitsShort, IsJobFor, CanRun}
 use Rattle.bpf_replies.specs.Running.{IsHistoryOfFile, IsToldBy}
@@ -32,9 +33,9 @@ waits task (Waiting context) e h = (context, e, h)
 waits task (InHand state left) e h = absurd h
 waits task (Ended outcome) e h = absurd h
 
-pub fresh : (f : File) → CanRun f → IsFresh (first_world_of f)
-fresh f can = record {
-  store = as_made_sound (record { cpus = f.cpus; maps = f.maps });
+pub fresh : (f : File) → IsShape (shape_of f) → CanRun f → IsFresh (first_world_of f)
+fresh f shape can = record {
+  store = as_made_sound (shape_of f) shape;
   waits = λ j task at.
       let job : IsJobFor f.cpus (length f.programs) task =
       each (IsJobFor f.cpus (length f.programs)) f.jobs can.jobs j task at in
@@ -42,11 +43,11 @@ fresh f can = record {
 }
 
 -- and no two keys lead to one value
-pub is_new : (f : File) → CanRun f → IsNew (first_world_of f)
-is_new f can = record { fresh = fresh f can; own = made_own (record { cpus = f.cpus; maps = f.maps }) }
+pub is_new : (f : File) → IsShape (shape_of f) → CanRun f → IsNew (first_world_of f)
+is_new f shape can = record { fresh = fresh f shape can; own = made_own (shape_of f) }
 
-pub fresh_asked : (keys : Bool) (f : File) → CanRun f → IsFresh (asked_world_of keys f)
-fresh_asked keys f can = record { store = (fresh f can).store; waits = (fresh f can).waits }
+pub fresh_asked : (keys : Bool) (f : File) → IsShape (shape_of f) → CanRun f → IsFresh (asked_world_of keys f)
+fresh_asked keys f shape can = record { store = (fresh f shape can).store; waits = (fresh f shape can).waits }
 
 -- what was printed of the file that was read is what is to be printed of the text's file
 pub told : (by : List (ℕ × ℕ)) (keys maps : Bool) (text : List ℕ) (file : RunFile) (r : Report)

@@ -6,6 +6,7 @@ pub mod OneJudged
 pub mod OneExplored
 pub mod SeenAgain
 pub mod OneDebug
+pub mod Shaped
 pub mod FreshFiles
 pub mod Cutting
 pub mod ScriptReplies

@@ -19,6 +19,7 @@ use Rattle.bpf_replies.specs.declared.refusal.Refusal.TheVariants as refusal
 use Rattle.bpf_replies.specs.declared.reply.Reply.{Reply}
 use Rattle.bpf_replies.specs.declared.reply.Reply.TheVariants as reply
 use Rattle.bpf_replies.proofs.FreshFiles.{is_new}
+use Rattle.bpf_replies.proofs.Shaped.{shaped}
 
 -- ---- the line that ends the file is the first of its kind
 never_ends : (line : List ℕ) → ends_file line ≡ false → ends_file line ≡ true → ⊥
@@ -92,7 +93,8 @@ module _ (files : FilesAreDetermined) (runs : FilesCanRun) (scripts : ScriptsAre
       let file : a.2 ≡ b.2 = cc in
       let Q : List (List ℕ) → Type 0 = λ lines. RunsScript (scene_of b.2) lines (map answer_of others.items) b.3 in
       let R : File → Type 0 = λ f. RunsScript (scene_of f) a.1 (map answer_of others.items) b.3 in
-      let one = scripts (scene_of a.2) a.3 b.3 a.1 (map answer_of answers.items) (map answer_of others.items) (is_new a.2 (runs a.0 a.2 a.5)) (is_new a.2 (runs a.0 a.2 a.5)) a.6
+      let new = is_new a.2 (shaped a.0 a.2 a.5) (runs a.0 a.2 a.5) in
+      let one = scripts (scene_of a.2) a.3 b.3 a.1 (map answer_of answers.items) (map answer_of others.items) new new a.6
       (subst R (sym file) (subst Q (sym cut.1) b.6)) had held in
       let told : any_stopped (length a.3.world.jobs) a.3.world.jobs ≡ any_stopped (length b.3.world.jobs) b.3.world.jobs =
       ap (λ (y : Scene). any_stopped (length y.world.jobs) y.world.jobs) one.1 in

@@ -9,6 +9,7 @@ use Rattle.bpf_file.specs.File.{File}
 use Rattle.bpf_file.specs.Laws.{FilesAreDetermined, FilesCanRun}
 use Rattle.bpf_file.specs.Reading.{IsRunFile}
 use Rattle.bpf_replies.proofs.FreshFiles.{fresh_asked}
+use Rattle.bpf_replies.proofs.Shaped.{shaped}
 use Rattle.bpf_replies.proofs.OneDebug.{PrintsAs}
 use Rattle.bpf_replies.specs.Answer.{jobs_status, status_of, reply_text}
 use Rattle.bpf_replies.specs.Comments.{RefusesComments, for_run, subjects_of}
@@ -81,7 +82,7 @@ module _ (files : FilesAreDetermined) (runs : FilesCanRun) (reports : ReportsByA
       let file = one_file text k g seen read in
       let there = subst (λ (m : File). IsToldBy by keys true m others halted) file heard in
       let w = asked_world_of keys g in
-      let line : lines ≡ others = (reports w by g.names true lines others stopped halted (fresh_asked keys g (runs text g read)) told there).0 in (
+      let line : lines ≡ others = (reports w by g.names true lines others stopped halted (fresh_asked keys g (shaped text g read) (runs text g read)) told there).0 in (
         shows ∙ (ap (λ (t : List ℕ). judged_text t expected) line ∙ (ap (λ (es : List Expected). judged_text others es) want ∙ sym shown)),
         ap jobs_status (refutes ∙ (ap (λ (t : List ℕ). is_any_refuted t expected) line ∙ (ap (λ (es : List Expected). is_any_refuted others es) want ∙ sym denied))),
       )

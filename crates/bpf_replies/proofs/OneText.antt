@@ -1,5 +1,5 @@
 -- The replies of one command to one text print the same.
-use Rattle.std.proofs.Common.{Bool, true, false, string_bytes, ◌≡◌, ◌≢◌, ◌≤◌, ℕ, List, [], length, inl, inr, refl, sym, ap, subst, ◌∙◌, Ok, Err}
+use Rattle.std.proofs.Common.{Bool, true, false, string_bytes, ◌≡◌, ◌≢◌, ◌≤◌, ℕ, List, length, inl, inr, refl, sym, ap, subst, ◌∙◌, Ok, Err}
 use Rattle.bpf_insn.specs.declared.instruction.Insn.{Insn}
 use Rattle.bpf_insn.specs.Encoding.{IsEncodedAs}
 use Rattle.bpf_insn.specs.Refusal.{IsRefused}
@@ -11,6 +11,7 @@ use Rattle.bpf_loader.specs.Sound.{IsFirstRefusal, IsSound}
 use Rattle.bpf_loader.specs.Laws.{FirstIsDetermined}
 use Rattle.bpf_loader.specs.declared.refusal.LoadError.{LoadError}
 use Rattle.bpf_loader.specs.declared.refusal.LoadError.TheVariants as load_error
+use Rattle.bpf_shared.specs.Shape.{IsShape}
 use Rattle.bpf_shared.specs.declared.events.Event.{Event}
 use Rattle.bpf_cpu.specs.declared.outcome.Outcome.{Outcome}
 use Rattle.bpf_cpu.specs.declared.cpu.Cpu.{Cpu}
@@ -25,7 +26,7 @@ use Rattle.bpf_lines.specs.declared.hex_text.HexError.TheVariants as hex_error
 use Rattle.bpf_text.specs.declared.error.TextError.TheVariants as text_error
 use Rattle.bpf_file.specs.declared.error.FileError.TheVariants as FileError
 use Rattle.bpf_file.specs.declared.error.Reason.{Reason}
-use Rattle.bpf_file.specs.File.{File}
+use Rattle.bpf_file.specs.File.{File, shape_of}
 use Rattle.bpf_file.specs.Reading.{IsRunFile}
 use Rattle.bpf_file.specs.Laws.{FilesAreDetermined, FilesCanRun}
 use Rattle.bpf_file.specs.Runnable.{CanRun}
@@ -33,9 +34,10 @@ use Rattle.bpf_jobs.specs.Laws.{ReportsByAreDetermined}
 use Rattle.bpf_events.specs.Reports.{HistoriesAreDetermined}
 use Rattle.bpf_debug.specs.Laws.{ScriptsAreDetermined}
 use Rattle.bpf_replies.proofs.FreshFiles.{fresh_asked}
+use Rattle.bpf_replies.proofs.Shaped.{shaped}
 use Rattle.bpf_replies.proofs.OneDebug.{PrintsAs}
 use Rattle.bpf_replies.specs.Answer.{jobs_status, status_of, reply_text}
-use Rattle.bpf_replies.specs.Programs.{IsAssembled, IsAssembledRun, IsDisassembled, IsRun, IsWordsOf, RefusesAssembly, RefusesProgram, RefusesWords, ShowsWords, shown_program}
+use Rattle.bpf_replies.specs.Programs.{IsAssembled, IsAssembledRun, IsDisassembled, IsRun, IsWordsOf, RefusesAssembly, RefusesProgram, RefusesWords, ShowsWords, shown_program, no_names, bare_shape}
 use Rattle.bpf_replies.specs.Running.{IsHistoryBy, IsOfFile, IsToldBy}
 use Rattle.bpf_replies.specs.Script.{asked_world_of}
 use Rattle.bpf_replies.specs.Laws.{IsOfInput, IsForAnyInput}
@@ -53,10 +55,10 @@ pub prints : (r s : Reply) → r ≡ s → PrintsAs r s
 prints r s e = (ap reply_text e, ap status_of e)
 
 abbrev pub loaded : List Insn → Loaded
-loaded is = record { instructions = is; maps = 0 }
+loaded is = record { instructions = is; named = no_names }
 
 -- a run whose counter can't be worn is one whose counter may be
-unworn : (program : Loaded) (budget : ℕ) (old : Cpu) (events : List Event) (outcome : Outcome) → Explains ⊥ [] program budget old events outcome → Explains (Unit {0}) [] program budget old events outcome
+unworn : (program : Loaded) (budget : ℕ) (old : Cpu) (events : List Event) (outcome : Outcome) → Explains ⊥ bare_shape program budget old events outcome → Explains (Unit {0}) bare_shape program budget old events outcome
 unworn program budget old events outcome (inl runs) = inl runs
 unworn program budget old events outcome (inr worn) = absurd worn.2
 
@@ -67,9 +69,9 @@ pub data OfWords (text : List ℕ) : Refusal → Type 0 where
   NoWords : (error : InsnError) (bytes : List ℕ) → IsHexOf text bytes → IsRefused error bytes → error ≢ insn_error.OutOfMemory → OfWords text (refusal.Insn error)
 
 pub data OfRun (budget : ℕ) (context text : List ℕ) : Reply → Type 0 where
-  Ran : (outcome : Outcome) (is : List Insn) (events : List Event) → IsWordsOf text is → IsSound 0 is
-      → Explains ⊥ [] (record { instructions = is; maps = 0 }) budget (start 0 context) events outcome → OfRun budget context text (reply.Ended outcome)
-  Unsound : (error : LoadError) (is : List Insn) → IsWordsOf text is → IsFirstRefusal 0 is error → OfRun budget context text (reply.Refused (refusal.Load error))
+  Ran : (outcome : Outcome) (is : List Insn) (events : List Event) → IsWordsOf text is → IsSound no_names is
+      → Explains ⊥ bare_shape (record { instructions = is; named = no_names }) budget (start 0 context) events outcome → OfRun budget context text (reply.Ended outcome)
+  Unsound : (error : LoadError) (is : List Insn) → IsWordsOf text is → IsFirstRefusal no_names is error → OfRun budget context text (reply.Refused (refusal.Load error))
   Unread : (r : Refusal) → OfWords text r → OfRun budget context text (reply.Refused r)
 
 pub data OfAssembly (listing : Bool) (text : List ℕ) : Reply → Type 0 where
@@ -168,7 +170,7 @@ of_file Told text (reply.Several printed refused unmet told) h n = absurd h
 
 -- of a file that can run one text is printed
 abbrev pub IsOne : (File → List ℕ → Bool → Type 0) → Type 0
-IsOne Told = (f : File) → CanRun f → (p q : List ℕ) (x y : Bool) → Told f p x → Told f q y → (p ≡ q) × (x ≡ y)
+IsOne Told = (f : File) → IsShape (shape_of f) → CanRun f → (p q : List ℕ) (x y : Bool) → Told f p x → Told f q y → (p ≡ q) × (x ≡ y)
 
 -- words are shown in one way
 one_showing : (listing : Bool) (text bytes p q : List ℕ) → ShowsWords listing text bytes p → ShowsWords listing text bytes q → p ≡ q
@@ -202,23 +204,23 @@ module _ (words : WordsAreDetermined) (encodings : EncodingsAreDetermined) (refu
 
   pub one_run : (budget : ℕ) (context text : List ℕ) (r s : Reply) → length context ≤ 4096 → OfRun budget context text r → OfRun budget context text s → r ≡ s
   one_run budget context text r s h (Ran x is es a sound runs) (Ran y js fs b safe goes) =
-      let P : List Insn → Type 0 = λ is. Explains ⊥ [] (loaded is) budget (start 0 context) fs y in
+      let P : List Insn → Type 0 = λ is. Explains ⊥ bare_shape (loaded is) budget (start 0 context) fs y in
       let other = subst P (same_words text js is b a) goes in
-      let alone = events (loaded is) budget 0 context es x runs in
-      let alone' = events (loaded is) budget 0 context fs y other in
-      let Q : List Event → Type 0 = λ es. Explains ⊥ [] (loaded is) budget (start 0 context) es y in
-      ap reply.Ended (outcomes [] (loaded is) budget 0 context es x y h (unworn (loaded is) budget (start 0 context) es x runs)
+      let alone = events 1 (loaded is) budget 0 context es x runs in
+      let alone' = events 1 (loaded is) budget 0 context fs y other in
+      let Q : List Event → Type 0 = λ es. Explains ⊥ bare_shape (loaded is) budget (start 0 context) es y in
+      ap reply.Ended (outcomes bare_shape (loaded is) budget 0 context es x y h (unworn (loaded is) budget (start 0 context) es x runs)
       (unworn (loaded is) budget (start 0 context) es y (subst Q (alone' ∙ sym alone) other)))
   one_run budget context text r s h (Ran x is es a sound runs) (Unsound error js b first) =
-      let P : List Insn → Type 0 = λ is. IsFirstRefusal 0 is error in
-      absurd (firsts.1 0 is error sound (subst P (same_words text js is b a) first))
+      let P : List Insn → Type 0 = λ is. IsFirstRefusal no_names is error in
+      absurd (firsts.1 no_names is error sound (subst P (same_words text js is b a) first))
   one_run budget context text r s h (Ran x is es a sound runs) (Unread e b) = absurd (no_words text is e b a)
   one_run budget context text r s h (Unsound error js b first) (Ran x is es a sound runs) =
-      let P : List Insn → Type 0 = λ is. IsFirstRefusal 0 is error in
-      absurd (firsts.1 0 is error sound (subst P (same_words text js is b a) first))
+      let P : List Insn → Type 0 = λ is. IsFirstRefusal no_names is error in
+      absurd (firsts.1 no_names is error sound (subst P (same_words text js is b a) first))
   one_run budget context text r s h (Unsound e is a first) (Unsound f js b lowest) =
-      let P : List Insn → Type 0 = λ is. IsFirstRefusal 0 is f in
-      ap (λ error. reply.Refused (refusal.Load error)) (firsts.0 0 is e f first (subst P (same_words text js is b a) lowest))
+      let P : List Insn → Type 0 = λ is. IsFirstRefusal no_names is f in
+      ap (λ error. reply.Refused (refusal.Load error)) (firsts.0 no_names is e f first (subst P (same_words text js is b a) lowest))
   one_run budget context text r s h (Unsound error is a first) (Unread e b) = absurd (no_words text is e b a)
   one_run budget context text r s h (Unread e b) (Ran x is es a sound runs) = absurd (no_words text is e b a)
   one_run budget context text r s h (Unread e b) (Unsound error is a first) = absurd (no_words text is e b a)
@@ -262,17 +264,17 @@ module _ (words : WordsAreDetermined) (encodings : EncodingsAreDetermined) (refu
       prints r s (one_run budget context (string_bytes p) r s h (of_run budget context (string_bytes p) r run n) (of_run budget context (string_bytes p) s again m))
 
   pub one_told : (by : List (ℕ × ℕ)) (keys maps : Bool) → IsOne (IsToldBy by keys maps)
-  one_told by keys maps f can p q x y a b = reports (asked_world_of keys f) by f.names maps p q x y (fresh_asked keys f can) a b
+  one_told by keys maps f shape can p q x y a b = reports (asked_world_of keys f) by f.names maps p q x y (fresh_asked keys f shape can) a b
 
   pub one_history : (by : List (ℕ × ℕ)) (keys maps : Bool) → IsOne (IsHistoryBy by keys maps)
-  one_history by keys maps f can p q x y a b = histories (asked_world_of keys f) by f.names maps p q x y (fresh_asked keys f can) a b
+  one_history by keys maps f shape can p q x y a b = histories (asked_world_of keys f) by f.names maps p q x y (fresh_asked keys f shape can) a b
 
   one_file : (Told : File → List ℕ → Bool → Type 0) → IsOne Told → (text : List ℕ) (r s : Reply) → OfFile Told text r → OfFile Told text s → PrintsAs r s
   one_file Told one text r s (Told_of p x a) (Told_of q y b) =
       let both : Ok a.0 ≡ Ok b.0 = files text (Ok a.0) (Ok b.0) a.1 b.1 in
       let same : a.0 ≡ b.0 = cc in
       let P : File → Type 0 = λ f. Told f (string_bytes q) y in
-      let told = one a.0 (runs text a.0 a.1) (string_bytes p) (string_bytes q) x y a.2 (subst P (sym same) b.2) in
+      let told = one a.0 (shaped text a.0 a.1) (runs text a.0 a.1) (string_bytes p) (string_bytes q) x y a.2 (subst P (sym same) b.2) in
       (told.0, ap jobs_status told.1)
   one_file Told one text r s (Told_of p x a) (NoFile line why b) = let both : Ok a.0 ≡ Err (FileError.Refused line why) = files text (Ok a.0) (Err (FileError.Refused line why)) a.1 b in absurd cc
   one_file Told one text r s (NoFile line why b) (Told_of p x a) = let both : Ok a.0 ≡ Err (FileError.Refused line why) = files text (Ok a.0) (Err (FileError.Refused line why)) a.1 b in absurd cc

@@ -15,6 +15,7 @@ use Rattle.bpf_file.specs.File.{File}
 use Rattle.bpf_file.specs.Laws.{FilesAreDetermined, FilesCanRun}
 use Rattle.bpf_file.specs.Reading.{IsRunFile}
 use Rattle.bpf_replies.proofs.FreshFiles.{fresh}
+use Rattle.bpf_replies.proofs.Shaped.{shaped}
 use Rattle.bpf_events.specs.Reports.{HistoriesAreOfReports}
 use Rattle.bpf_replies.specs.Exploring.{AreFoundBy}
 use Rattle.bpf_replies.specs.Laws.{ShownAreFound, WitnessesAreSeenAgain}
@@ -95,7 +96,7 @@ one_report files runs reports text found g printed stopped (f, said, ends) read 
     let same : g ≡ f = cc in
     let w = first_world_of f in
     let known = subst (λ (h : File). IsReportBy (first_world_of h) found.by h.names true printed stopped) same report in
-    reports w found.by f.names true printed found.text stopped found.stopped (fresh f (runs text f said)) known (reported w f.names true found (λ c. refl) ends)
+    reports w found.by f.names true printed found.text stopped found.stopped (fresh f (shaped text f said) (runs text f said)) known (reported w f.names true found (λ c. refl) ends)
 
 pub witnesses_are_seen_again : FilesAreDetermined → FilesCanRun → ReportsByAreDetermined → WitnessesAreSeenAgain
 witnesses_are_seen_again files runs reports patient text answers all limit states i found printed stopped explored at (g, read, report) =

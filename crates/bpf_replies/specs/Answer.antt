@@ -2,10 +2,8 @@
 use Rattle.std.specs.Prelude.{◌≡◌, ℕ, ◌++◌, ◌⊎◌, List, [], ◌∷◌, Option, Result, MatchResult, Bool, true, false, codes, map, option_map, string_bytes, take}
 use Rattle.std.specs.Io.KnownBytes.{Appends}
 use Rattle.bpf_explain.specs.Page.{definition_text, page_text}
-use Rattle.bpf_codes.specs.declared.code.Code.{Code}
 use Rattle.bpf_explain.specs.declared.definition.Definition.{Definition}
 use Rattle.bpf_explain.specs.declared.page.Page.{Page}
-use Rattle.bpf_explain.specs.declared.term.Term.{Term}
 use Rattle.bpf_explain.specs.declared.topic.Topic.{Topic}
 use Rattle.bpf_explain.specs.declared.topic.Topic.TheVariants as topic
 use Rattle.bpf_cpu.specs.declared.outcome.Outcome.{Outcome}

@@ -17,8 +17,10 @@ cpus_of jobs = map (λ job. job.cpu) jobs
 abbrev pub subjects_of : Reading → File → Subjects
 subjects_of r f = record {
   jobs = cpus_of f.jobs;
+  cpus = f.cpus;
   names = f.names;
   maps = f.maps;
+  arrays = f.arrays;
   lists = r.lists;
   ends = r.ends;
 }

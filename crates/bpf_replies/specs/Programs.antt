@@ -4,6 +4,8 @@ use Rattle.std.specs.declared.alloc.Global.{Global}
 use Rattle.bpf_insn.specs.declared.instruction.Insn.{Insn}
 use Rattle.bpf_insn.specs.Encoding.{IsEncodedAs}
 use Rattle.bpf_insn.specs.Refusal.{IsRefused, IsSized}
+use Rattle.bpf_shared.specs.Shape.{Shape, without_arrays}
+use Rattle.bpf_loader.specs.declared.named.Named.{Named}
 use Rattle.bpf_loader.specs.Sound.{IsFirstRefusal, IsSound}
 use Rattle.bpf_loader.specs.declared.refusal.LoadError.TheVariants as load_error
 use Rattle.bpf_shared.specs.declared.events.Event.{Event}
@@ -38,17 +40,25 @@ RefusesWords text (refusal.Insn error) =
     (bytes : List ℕ) × IsHexOf text bytes × IsRefused error bytes
 RefusesWords text _ = ⊥
 
+-- what programs may name here: no map and no array
+abbrev pub no_names : Named
+no_names = record { maps = 0; arrays = 0 }
+
+-- a store for one CPU that has neither
+abbrev pub bare_shape : Shape
+bare_shape = without_arrays 1 []
+
 -- `hex`: the first refusal that applies to the program, for no maps; else what explains how its
 -- run ends, on CPU 0
 abbrev pub RefusesProgram : List ℕ → Refusal → Type 0
 RefusesProgram text (refusal.Load error) = (is : List Insn) × IsWordsOf text is
-    × (error ≢ load_error.OutOfMemory → IsFirstRefusal 0 is error)
+    × (error ≢ load_error.OutOfMemory → IsFirstRefusal no_names is error)
 RefusesProgram text r = RefusesWords text r
 
 abbrev pub IsRun : ℕ → List ℕ → List ℕ → Reply → Type 0
 IsRun budget context text (reply.Ended outcome) = (is : List Insn) × IsWordsOf text is
-    × IsSound 0 is × (events : List Event)
-    × Explains ⊥ [] (record { instructions = is; maps = 0 }) budget (start 0 context) events outcome
+    × IsSound no_names is × (events : List Event)
+    × Explains ⊥ bare_shape (record { instructions = is; named = no_names }) budget (start 0 context) events outcome
 IsRun budget context text (reply.Refused refusal.OutOfMemory) = Unit {0}
 IsRun budget context text (reply.Refused r) = RefusesProgram text r
 IsRun budget context text (reply.Text printed) = ⊥

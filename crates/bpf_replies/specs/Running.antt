@@ -26,9 +26,9 @@ IsOfFile Told text (reply.Jobs printed stopped) = (f : File) × IsRunFile text (
 IsOfFile Told text (reply.Refused r) = RefusesFile text r
 IsOfFile Told text _ = ⊥
 
--- `run`: the lines of the jobs, run over a new store of the file's maps, first by these turns of CPUs
--- and then in rounds; then where they are asked for, those of the keys that each CPU lists with the
--- end of its last job, and those of the maps
+-- `run`: the lines of the jobs, run over a new store of the file's maps and arrays, first by these
+-- turns of CPUs and then in rounds; then where they are asked for, those of the keys that each CPU
+-- lists with the end of its last job, and those of the maps and arrays
 abbrev pub IsToldBy : (by : List (ℕ × ℕ)) → (keys maps : Bool) → File → List ℕ → Bool → Type 0
 IsToldBy by keys maps f printed stopped =
     IsReportBy (asked_world_of keys f) by f.names maps printed stopped
@@ -45,10 +45,10 @@ abbrev pub IsHistoryOfFile : (by : List (ℕ × ℕ)) → (keys maps : Bool) →
 IsHistoryOfFile by keys maps = IsOfFile (IsHistoryBy by keys maps)
 
 -- `run --workers`: the lines of the jobs that the file says, ended as one history of a new store of
--- its maps explains; then, where they are asked for, those of the keys that each CPU lists in this
--- history after its jobs, and those of the maps that it leaves; or the file's first refusal; or, of
--- a file that is accepted, out of memory for its jobs and lists; and beside them what is counted of
--- the store that this history leaves, where that is asked for
+-- its maps and arrays explains; then, where they are asked for, those of the keys that each CPU lists
+-- in this history after its jobs, and those of the maps and arrays that it leaves; or the
+-- file's first refusal; or, of a file that is accepted, out of memory for its jobs and lists; and
+-- beside them what is counted of the store that this history leaves, where that is asked for
 abbrev pub IsRunByWorkers : (stats keys maps : Bool) → List ℕ → Reply → Type 0
 IsRunByWorkers stats keys maps text (reply.Counted printed stopped counts) =
     (f : File) × IsRunFile text (Ok f)

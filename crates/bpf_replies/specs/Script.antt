@@ -8,7 +8,7 @@ use Rattle.bpf_machine.specs.Schedule.{World}
 use Rattle.bpf_jobs.specs.Printed.{any_stopped, asked_world, first_world}
 use Rattle.bpf_file.specs.declared.error.FileError.TheVariants as FileError
 use Rattle.bpf_file.specs.declared.file.RunFile.{RunFile}
-use Rattle.bpf_file.specs.File.{File, file_of}
+use Rattle.bpf_file.specs.File.{File, file_of, shape_of}
 use Rattle.bpf_file.specs.Programs.{text_of_lines}
 use Rattle.bpf_file.specs.Reading.{IsRunFile}
 use Rattle.bpf_debug.specs.Session.{Scene}
@@ -44,12 +44,12 @@ IsCut input file commands =
 
 -- the machine of a run file before its first turn
 abbrev pub first_world_of : File → World
-first_world_of f = first_world (record { cpus = f.cpus; maps = f.maps }) f.programs f.jobs
+first_world_of f = first_world (shape_of f) f.programs f.jobs
 
 -- the same, in which lists of keys are asked for or not
 abbrev pub asked_world_of : Bool → File → World
 asked_world_of keys f =
-    asked_world keys (record { cpus = f.cpus; maps = f.maps }) f.programs f.jobs
+    asked_world keys (shape_of f) f.programs f.jobs
 
 -- the first of these, without breakpoints, a watch or turns
 abbrev pub scene_of : File → Scene

@@ -4,9 +4,9 @@ ghost use Rattle.std.specs.Prelude.{◌≡◌, ◌<◌, [], All, false, IfErr, I
 ghost use Rattle.bpf_insn.specs.Encoding.{IsEncodedAs};
 ghost use Rattle.bpf_insn.specs.declared.instruction.Insn.{Insn};
 ghost use Rattle.bpf_loader.specs.Sound.{IsSound};
-ghost use Rattle.bpf_plain.specs.PlainStore.{has_cpu, is_running, shapes_of};
+ghost use Rattle.bpf_plain.specs.PlainStore.{has_cpu, is_running, shape_of};
 ghost use Rattle.bpf_replies.specs.Answer.{Replies};
-ghost use Rattle.bpf_replies.specs.Programs.{IsAssembled, IsAssembledRun, IsDisassembled, IsRun, IsWordsOf, RefusesAssembly, RefusesProgram, RefusesWords, ShowsWords, shown_program};
+ghost use Rattle.bpf_replies.specs.Programs.{IsAssembled, IsAssembledRun, IsDisassembled, IsRun, IsWordsOf, RefusesAssembly, RefusesProgram, RefusesWords, ShowsWords, no_names, bare_shape, shown_program};
 ghost use Rattle.bpf_replies.specs.declared.reply.Reply.{Reply};
 
 use crate::listing::word_lines;
@@ -17,11 +17,14 @@ use bpf_cpu::Cpu;
 use bpf_disassembly::{disassemble, program_lines, source_lines};
 use bpf_insn::{Insn, decode, encode};
 use bpf_lines::from_hex;
-use bpf_loader::{Program, load};
+use bpf_loader::{Named, Program, load};
 use bpf_plain::PlainStore;
 use bpf_shared::{ShapeError, StoreShape};
 use bpf_text::{TextError, assemble};
 use std::alloc::Global;
+
+/// What programs may name where there is no map and no array.
+const NONE: Named = Named { maps: 0, arrays: 0 };
 
 /// The instructions whose words the text has as hex digits.
 fn instructions(alloc: Global, text: &str) -> Result<Vec<Insn>, Refusal>
@@ -36,17 +39,17 @@ fn instructions(alloc: Global, text: &str) -> Result<Vec<Insn>, Refusal>
 /// The program whose words the text has as hex digits, for a store of no maps.
 fn program(alloc: Global, text: &str) -> Result<Program, Refusal>
     ensures found { IfOk result (λ p. IsWordsOf text.now p.instructions
-        × IsSound 0 p.instructions × (p.maps ≡ 0)) }
+        × IsSound no_names p.instructions × (p.named ≡ no_names)) }
     ensures refused { IfErr result (RefusesProgram text.now) }
 {
     let insns = instructions(alloc, text)?;
-    let program = load(alloc, insns, 0)?;
+    let program = load(alloc, insns, NONE)?;
     Ok(program)
 }
 
 /// A store of no maps for one CPU.
 fn no_maps(alloc: Global) -> Result<PlainStore, ShapeError>
-    ensures maps { IfOk result (λ s. shapes_of s ≡ []) }
+    ensures shape { IfOk result (λ s. shape_of s ≡ bare_shape) }
     ensures serves { IfOk result (λ s. has_cpu s 0 ≡ true) }
     ensures idle { IfOk result (λ s. is_running s 0 ≡ false) }
     ensures memory { IfErr result (λ e. e ≡ ShapeError.OutOfMemory) }

@@ -1,15 +1,11 @@
 -- What `expand` replies: states of a run file's jobs.
 use Rattle.std.specs.Prelude.{◌≡◌, ℕ, Bool, true, false, List, [], Ok, string_bytes}
-use Rattle.bpf_shared.specs.Shape.{Shape}
-use Rattle.bpf_file.specs.File.{File}
+use Rattle.bpf_file.specs.File.{File, shape_of}
 use Rattle.bpf_file.specs.Reading.{IsRunFile}
 use Rattle.bpf_expand.specs.Filter.{FilterState, IsFirstLine, new_filter}
 use Rattle.bpf_replies.specs.Running.{RefusesFile}
 use Rattle.bpf_replies.specs.declared.reply.Reply.{Reply}
 use Rattle.bpf_replies.specs.declared.reply.Reply.TheVariants as reply
-
-abbrev pub shape_of : File → Shape
-shape_of f = record { cpus = f.cpus; maps = f.maps }
 
 -- the filter of the states of a file's jobs, that has answered nothing
 abbrev pub filter_of : (patient races : Bool) → File → FilterState

@@ -1,7 +1,7 @@
 -- What `explore --races` replies: every data race of a run file's jobs, whatever the order of the CPUs'
 -- turns.
 use Rattle.std.specs.Prelude.{◌≡◌, ◌==◌, ℕ, Bool, not, List, Ok, length, string_bytes}
-use Rattle.bpf_file.specs.File.{File}
+use Rattle.bpf_file.specs.File.{File, named_by}
 use Rattle.bpf_file.specs.Reading.{IsRunFile}
 use Rattle.bpf_races.specs.Lines.{races_text}
 use Rattle.bpf_races.specs.Races.{AreRaces, RaceFound}
@@ -24,7 +24,7 @@ abbrev pub TellsRaces : (patient : Bool) → (limit : ℕ) → File → List Par
     → (raced all : Bool) → Type 0
 TellsRaces patient limit f parts printed raced all = (races : List RaceFound) × (refused : Bool)
     × AreRaces patient (first_world_of f) parts races all refused limit
-    × (printed ≡ races_text f.names parts races all) × (raced ≡ is_any_race races)
+    × (printed ≡ races_text (named_by f) f.names parts races all) × (raced ≡ is_any_race races)
 
 -- `explore --races`: those of the jobs that the text says, but for the bytes that are named; or the
 -- file's first refusal; or that something else is named than bytes of the file's maps

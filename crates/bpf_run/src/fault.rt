@@ -61,12 +61,11 @@ fn programs_of(alloc: Global, jobs: &[Job]) -> Result<Vec<usize>, AllocError> {
 /// What is known of the jobs of a run file that ended in a fault or out of budget.
 pub fn details_of_file(alloc: Global, text: &str) -> Option<Vec<Detail>> {
     let RunFile { setup, names, .. } = read_file(alloc, text.as_bytes()).ok()?;
-    let shapes = Vec::from_slice(alloc, setup.shape.maps()).ok()?;
     let numbers = programs_of(alloc, &setup.jobs).ok()?;
     let mut loops = Vec::new(alloc);
     let (machine, evidence) = evidence_of(alloc, setup, &mut loops).ok()?;
     let maps = Maps {
-        shapes: &shapes,
+        store: machine.store(),
         names: &names,
     };
     let mut details = details_of(alloc, &machine, &evidence, &numbers, &maps).ok()?;

@@ -12,6 +12,7 @@ use bpf_command::{RaceOptions, SearchOptions};
 use bpf_cpu::Setup;
 use bpf_explore::Observer;
 use bpf_file::RunFile;
+use bpf_loader::Named;
 use bpf_races::{Part, Races, find_races, find_races_patiently, list_races, synced_parts};
 use bpf_replies::refusal::Refusal;
 use bpf_replies::reply::Reply;
@@ -67,8 +68,12 @@ fn tell_races<O: Observer>(
         sync.now (string_bytes told.text) told.raced told.all) }
 {
     let RunFile { setup, names, .. } = file;
+    let named = Named {
+        maps: setup.shape.maps().len(),
+        arrays: setup.shape.arrays().len(),
+    };
     let races = races_of(alloc, options, setup, sync, observer)?;
-    let text = list_races(alloc, &names, sync, &races)?;
+    let text = list_races(alloc, named, &names, sync, &races)?;
     let raced = is_any_race(&races);
     let all = races.all;
     Ok(Told { text, raced, all })

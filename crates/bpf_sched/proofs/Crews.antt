@@ -143,7 +143,7 @@ module _ {keys : Bool} (t : Shown) (jobs : List Job) (programs : List Loaded) (p
       all_run i d inside =
           let at : i < cpus = omega (arith, long, size, for_jobs.size) in
           let w = did i d at in
-          ran_all extends (IsWorn t.about.count) t.about.shape.maps programs (own_events w.before) w.ran.last (get_or equipped i d).workload.jobs.items (get_or vs i d).workload.jobs.items w.ran.ran w.ran.runs
+          ran_all extends (IsWorn t.about.count) t.about.shape programs (own_events w.before) w.ran.last (get_or equipped i d).workload.jobs.items (get_or vs i d).workload.jobs.items w.ran.ran w.ran.runs
           ∙ (ap length (given_at i d at) ∙ length-map (jobs_of i tasks) assigned)
 
       pub all_have_ports : All (λ (w : Worker). IsSome w.port) vs
@@ -212,19 +212,19 @@ module _ {keys : Bool} (t : Shown) (jobs : List Job) (programs : List Loaded) (p
               ∙ (length-map v (λ (l : Listed). l.keys)
               ∙ (sym (length-map v (λ (l : Listed). l.shape)) ∙ ap length ((did c d inside).same ∙ lists_at c d inside)))
 
-          explained_at : (c : ℕ) → c < cpus → ExplainsJobs t.about.shape.maps t.about.count programs [] (jobs_of c tasks) (ends_of c tasks ends) (keys_events 0 (listed_by (map (λ (w : Worker). w.workload.lists) vs) c)) (events_of c history)
+          explained_at : (c : ℕ) → c < cpus → ExplainsJobs t.about.shape t.about.count programs [] (jobs_of c tasks) (ends_of c tasks ends) (keys_events 0 (listed_by (map (λ (w : Worker). w.workload.lists) vs) c)) (events_of c history)
           explained_at c inside =
               let d = worker_at c inside in
               let w = did c d inside in
               let news = (get_or vs c d).workload.jobs.items in
               let found = map (λ list. list.keys) (get_or vs c d).workload.lists.items in
-              let from_none : RunsAndLists extends (IsWorn t.about.count) t.about.shape.maps programs [] (map assigned (jobs_of c tasks)) news found w.events (own_events w.after) =
-              subst (λ (l : List Assignment). RunsAndLists extends (IsWorn t.about.count) t.about.shape.maps programs [] l news found w.events (own_events w.after)) (given_at c d inside)
-              (subst (λ (l : List Event). RunsAndLists extends (IsWorn t.about.count) t.about.shape.maps programs l (get_or equipped c d).workload.jobs.items news found w.events (own_events w.after)) (ap own_events (was_at c d inside) ∙ nothing_seen c inside) w.ran) in
-              subst (λ (l : List Event). ExplainsJobs t.about.shape.maps t.about.count programs [] (jobs_of c tasks) (ends_of c tasks ends) (keys_events 0 (listed_by (map (λ (w : Worker). w.workload.lists) vs) c)) l) (sym (own_at c d inside))
-              (subst (λ (l : List (List (List ℕ))). ExplainsJobs t.about.shape.maps t.about.count programs [] (jobs_of c tasks) (ends_of c tasks ends) (keys_events 0 l) w.events) (sym (found_at c d inside))
-              (subst (λ (l : List Outcome). ExplainsJobs t.about.shape.maps t.about.count programs [] (jobs_of c tasks) l (keys_events 0 found) w.events) (sym (noted c d (omega (arith, long, size, for_jobs.size))))
-              (explains_lists t.about.shape.maps t.about.count programs [] (own_events w.after) (jobs_of c tasks) news found w.events from_none)))
+              let from_none : RunsAndLists extends (IsWorn t.about.count) t.about.shape programs [] (map assigned (jobs_of c tasks)) news found w.events (own_events w.after) =
+              subst (λ (l : List Assignment). RunsAndLists extends (IsWorn t.about.count) t.about.shape programs [] l news found w.events (own_events w.after)) (given_at c d inside)
+              (subst (λ (l : List Event). RunsAndLists extends (IsWorn t.about.count) t.about.shape programs l (get_or equipped c d).workload.jobs.items news found w.events (own_events w.after)) (ap own_events (was_at c d inside) ∙ nothing_seen c inside) w.ran) in
+              subst (λ (l : List Event). ExplainsJobs t.about.shape t.about.count programs [] (jobs_of c tasks) (ends_of c tasks ends) (keys_events 0 (listed_by (map (λ (w : Worker). w.workload.lists) vs) c)) l) (sym (own_at c d inside))
+              (subst (λ (l : List (List (List ℕ))). ExplainsJobs t.about.shape t.about.count programs [] (jobs_of c tasks) (ends_of c tasks ends) (keys_events 0 l) w.events) (sym (found_at c d inside))
+              (subst (λ (l : List Outcome). ExplainsJobs t.about.shape t.about.count programs [] (jobs_of c tasks) l (keys_events 0 found) w.events) (sym (noted c d (omega (arith, long, size, for_jobs.size))))
+              (explains_lists t.about.shape t.about.count programs [] (own_events w.after) (jobs_of c tasks) news found w.events from_none)))
 
           pub all_explained : IsExplained t.about.shape t.about.count programs tasks keys ends (listed_by (map (λ (w : Worker). w.workload.lists) vs)) history
           all_explained = record {

@@ -43,18 +43,18 @@ module _ {G : Type 0} (serving : G → Serving) (t : Shown) (cpu : ℕ) (program
   is_worn x of worn = subst (λ (s : Shown). explained.IsWorn s.about.count (own_of x)) of.0 worn
 
   over_port : (x y : G) (olds news : List Assignment) (events : List Event) → IsOf x
-      → RunsAll (Chain (λ a b log. ExtendsHistory (serving a) (serving b) log) (λ a. serves (serving a)) cpu) (λ a. IsPortWorn (serving a) cpu) t.about.shape.maps programs x olds news events y
-      → IsOf y × RunsAll extends (explained.IsWorn t.about.count) t.about.shape.maps programs (own_of x) olds news events (own_of y)
+      → RunsAll (Chain (λ a b log. ExtendsHistory (serving a) (serving b) log) (λ a. serves (serving a)) cpu) (λ a. IsPortWorn (serving a) cpu) t.about.shape programs x olds news events y
+      → IsOf y × RunsAll extends (explained.IsWorn t.about.count) t.about.shape programs (own_of x) olds news events (own_of y)
   over_port x y olds news events of all =
       carried IsOf own_of (Chain (λ a b log. ExtendsHistory (serving a) (serving b) log) (λ a. serves (serving a)) cpu) (λ a. IsPortWorn (serving a) cpu) extends (explained.IsWorn t.about.count)
-      moves_on is_worn t.about.shape.maps programs x y olds news events of all
+      moves_on is_worn t.about.shape programs x y olds news events of all
 
   pub lists_over_port : (x y : G) (olds news : List Assignment) (lists : List (List (List ℕ))) (events : List Event) → IsOf x
-      → RunsAndLists (Chain (λ a b log. ExtendsHistory (serving a) (serving b) log) (λ a. serves (serving a)) cpu) (λ a. IsPortWorn (serving a) cpu) t.about.shape.maps programs x olds news lists events y
-      → IsOf y × RunsAndLists extends (explained.IsWorn t.about.count) t.about.shape.maps programs (own_of x) olds news lists events (own_of y)
+      → RunsAndLists (Chain (λ a b log. ExtendsHistory (serving a) (serving b) log) (λ a. serves (serving a)) cpu) (λ a. IsPortWorn (serving a) cpu) t.about.shape programs x olds news lists events y
+      → IsOf y × RunsAndLists extends (explained.IsWorn t.about.count) t.about.shape programs (own_of x) olds news lists events (own_of y)
   lists_over_port x y olds news lists events of all =
       carried_lists IsOf own_of (Chain (λ a b log. ExtendsHistory (serving a) (serving b) log) (λ a. serves (serving a)) cpu) (λ a. IsPortWorn (serving a) cpu) extends (explained.IsWorn t.about.count)
-      moves_on is_worn t.about.shape.maps programs x y olds news lists events of all
+      moves_on is_worn t.about.shape programs x y olds news lists events of all
 
   -- what the port's CPU noted on a way
   chain_notes : (x z : G) (mine : List Event) → IsOf x → Chain (λ a b log. ExtendsHistory (serving a) (serving b) log) (λ a. serves (serving a)) cpu x z mine
@@ -66,7 +66,7 @@ module _ {G : Type 0} (serving : G → Serving) (t : Shown) (cpu : ℕ) (program
 
   -- what the port's CPU noted at the calls of all jobs
   noted_by_all : (x y : G) (olds news : List Assignment) (events : List Event) → IsOf x
-      → RunsAll (Chain (λ a b log. ExtendsHistory (serving a) (serving b) log) (λ a. serves (serving a)) cpu) (λ a. IsPortWorn (serving a) cpu) t.about.shape.maps programs x olds news events y
+      → RunsAll (Chain (λ a b log. ExtendsHistory (serving a) (serving b) log) (λ a. serves (serving a)) cpu) (λ a. IsPortWorn (serving a) cpu) t.about.shape programs x olds news events y
       → CallsNote t.about events (serving x).port.known (serving y).port.known
   noted_by_all x y [] [] events of (none, same) =
       subst (λ (es : List Event). CallsNote t.about es (serving x).port.known (serving y).port.known) (sym none)
@@ -80,7 +80,7 @@ module _ {G : Type 0} (serving : G → Serving) (t : Shown) (cpu : ℕ) (program
       (noted_by_all z y olds news rest (moves_on x z mine of ran.way).0 others))
 
   pub noted_by_lists : (x y : G) (olds news : List Assignment) (lists : List (List (List ℕ))) (events : List Event) → IsOf x
-      → RunsAndLists (Chain (λ a b log. ExtendsHistory (serving a) (serving b) log) (λ a. serves (serving a)) cpu) (λ a. IsPortWorn (serving a) cpu) t.about.shape.maps programs x olds news lists events y
+      → RunsAndLists (Chain (λ a b log. ExtendsHistory (serving a) (serving b) log) (λ a. serves (serving a)) cpu) (λ a. IsPortWorn (serving a) cpu) t.about.shape programs x olds news lists events y
       → CallsNote t.about events (serving x).port.known (serving y).port.known
   noted_by_lists x y olds news lists events of all =
       let there = (over_port x all.last olds news all.ran of all.runs).0 in
@@ -91,7 +91,7 @@ module _ {G : Type 0} (serving : G → Serving) (t : Shown) (cpu : ℕ) (program
 -- a worker whose port was after a gate's store has worked
 pub worked : {G : Type 0} (x y : G) (serving : G → Serving) (t : Shown) (programs : List Loaded) (w v : Worker) (p q : Port) (events : List Event)
     → w.port ≡ Some p → v.port ≡ Some q → (serving x).table ≡ t → (serving x).port ≡ p → p.known.cpu ≡ w.workload.cpu → q ≡ (serving y).port → IsPortOf (serving y).table q
-    → RunsAndLists (Chain (λ a b log. ExtendsHistory (serving a) (serving b) log) (λ a. serves (serving a)) w.workload.cpu) (λ a. IsPortWorn (serving a) w.workload.cpu) (serving x).table.about.shape.maps
+    → RunsAndLists (Chain (λ a b log. ExtendsHistory (serving a) (serving b) log) (λ a. serves (serving a)) w.workload.cpu) (λ a. IsPortWorn (serving a) w.workload.cpu) (serving x).table.about.shape
     programs x w.workload.jobs.items v.workload.jobs.items (map (λ list. list.keys) v.workload.lists.items) events y
     → map (λ list. list.shape) v.workload.lists.items ≡ map (λ list. list.shape) w.workload.lists.items
     → Worked t programs w v
@@ -99,9 +99,9 @@ worked {G} x y serving t programs w v p q events was is table at cpu out fits al
     let c = w.workload.cpu in
     let of : ((serving x).table ≡ t) × ((serving x).port.known.cpu ≡ c) = (table, ap (λ (r : Port). r.known.cpu) at ∙ cpu) in
     let told = lists_over_port serving t c programs x y w.workload.jobs.items v.workload.jobs.items (map (λ list. list.keys) v.workload.lists.items) events of
-    (subst (λ (s : Shown). RunsAndLists (Chain (λ a b log. ExtendsHistory (serving a) (serving b) log) (λ a. serves (serving a)) c) (λ a. IsPortWorn (serving a) c) s.about.shape.maps programs x w.workload.jobs.items v.workload.jobs.items (map (λ list. list.keys) v.workload.lists.items) events y) table all) in
-    let ran = subst (λ (r : Port). RunsAndLists extends (explained.IsWorn t.about.count) t.about.shape.maps programs (own_events r) w.workload.jobs.items v.workload.jobs.items (map (λ list. list.keys) v.workload.lists.items) events (own_events q)) at
-    (subst (λ (r : Port). RunsAndLists extends (explained.IsWorn t.about.count) t.about.shape.maps programs (own_events (serving x).port) w.workload.jobs.items v.workload.jobs.items (map (λ list. list.keys) v.workload.lists.items) events (own_events r)) (sym out) told.1) in
+    (subst (λ (s : Shown). RunsAndLists (Chain (λ a b log. ExtendsHistory (serving a) (serving b) log) (λ a. serves (serving a)) c) (λ a. IsPortWorn (serving a) c) s.about.shape programs x w.workload.jobs.items v.workload.jobs.items (map (λ list. list.keys) v.workload.lists.items) events y) table all) in
+    let ran = subst (λ (r : Port). RunsAndLists extends (explained.IsWorn t.about.count) t.about.shape programs (own_events r) w.workload.jobs.items v.workload.jobs.items (map (λ list. list.keys) v.workload.lists.items) events (own_events q)) at
+    (subst (λ (r : Port). RunsAndLists extends (explained.IsWorn t.about.count) t.about.shape programs (own_events (serving x).port) w.workload.jobs.items v.workload.jobs.items (map (λ list. list.keys) v.workload.lists.items) events (own_events r)) (sym out) told.1) in
     record {
       before = p;
       after = q;
@@ -110,11 +110,11 @@ worked {G} x y serving t programs w v p q events was is table at cpu out fits al
       fits = subst (λ (s : Shown). IsPortOf s q) told.0.0 fits;
       cpu = ap (λ (r : Port). r.known.cpu) out ∙ (told.0.1 ∙ sym cpu);
       events = events;
-      more = lists_behind (explained.IsWorn t.about.count) t.about.shape.maps programs (own_events p) (own_events q) w.workload.jobs.items v.workload.jobs.items (map (λ list. list.keys) v.workload.lists.items) events ran;
+      more = lists_behind (explained.IsWorn t.about.count) t.about.shape programs (own_events p) (own_events q) w.workload.jobs.items v.workload.jobs.items (map (λ list. list.keys) v.workload.lists.items) events ran;
       ran = ran;
       same = same;
       noted = subst (λ (r : Port). CallsNote t.about events r.known q.known) at
           (subst (λ (r : Port). CallsNote t.about events (serving x).port.known r.known) (sym out)
           (noted_by_lists serving t c programs x y w.workload.jobs.items v.workload.jobs.items (map (λ list. list.keys) v.workload.lists.items) events of
-          (subst (λ (s : Shown). RunsAndLists (Chain (λ a b log. ExtendsHistory (serving a) (serving b) log) (λ a. serves (serving a)) c) (λ a. IsPortWorn (serving a) c) s.about.shape.maps programs x w.workload.jobs.items v.workload.jobs.items (map (λ list. list.keys) v.workload.lists.items) events y) table all)));
+          (subst (λ (s : Shown). RunsAndLists (Chain (λ a b log. ExtendsHistory (serving a) (serving b) log) (λ a. serves (serving a)) c) (λ a. IsPortWorn (serving a) c) s.about.shape programs x w.workload.jobs.items v.workload.jobs.items (map (λ list. list.keys) v.workload.lists.items) events y) table all)));
     }

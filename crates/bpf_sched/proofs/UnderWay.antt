@@ -1,10 +1,10 @@
 -- A CPU that has run some of its jobs.
 use Rattle.std.proofs.Common.{◌≡◌, ℕ, ◌+◌, ◌<◌, Bool, true, false, List, ◌∷◌, ◌++◌, [], All, ap, sym, subst, ◌∙◌, length, get_or, take, drop, set, arith}
+use Rattle.bpf_shared.specs.Shape.{Shape}
 use Rattle.std.proofs.lemmas.List.{drop-set-lt, drop-drop, length-set, take_more, take_more_set}
 use Rattle.bpf_shared.specs.declared.events.Event.{Event}
 use Rattle.bpf_shared.specs.declared.events.Entry.{Entry}
 use Rattle.bpf_shared.specs.declared.events.Span.{Span}
-use Rattle.bpf_shared.specs.declared.shapes.MapShape.{MapShape}
 use Rattle.bpf_shared.specs.Chain.{Chain}
 use Rattle.bpf_helpers.specs.Held.{KeepsRun}
 use Rattle.bpf_loader.specs.Loaded.{Loaded}
@@ -12,7 +12,7 @@ use Rattle.bpf_sched.specs.declared.assignment.Assignment.{Assignment}
 use Rattle.bpf_sched.specs.Working.{IsNew, Runs, RunsAll}
 use Rattle.bpf_sched.proofs.Working.{one_more, number_is, own_number, still_there}
 
-module _ {T : Type 0} (passes : T → T → List Entry → Type 0) (serves running : T → ℕ → Bool) (held : T → ℕ → Span → Bool) (may_wear : T → ℕ → Type 0) (shapes : T → List MapShape)
+module _ {T : Type 0} (passes : T → T → List Entry → Type 0) (serves running : T → ℕ → Bool) (held : T → ℕ → Span → Bool) (may_wear : T → ℕ → Type 0) (shapes : T → Shape)
     (programs : List Loaded) (cpu : ℕ) (x : T) (olds : List Assignment) where
   -- the first k jobs are run, and the others are as they were
   pub record IsUnderWay (k : ℕ) (y : T) (number : ℕ) (news : List Assignment) : Type 0 where

@@ -1,20 +1,20 @@
 -- One job more of those that a CPU has run.
 use Rattle.std.proofs.Common.{◌≡◌, ℕ, ◌+◌, List, [], ◌∷◌, ◌++◌, refl, ap, sym, subst, ◌∙◌, append_assoc, get_or, drop, arith}
+use Rattle.bpf_shared.specs.Shape.{Shape}
 use Rattle.std.proofs.lemmas.List.{append-nil, get_or-drop}
 use Rattle.bpf_shared.specs.declared.events.Event.{Event}
-use Rattle.bpf_shared.specs.declared.shapes.MapShape.{MapShape}
 use Rattle.bpf_loader.specs.Loaded.{Loaded}
 use Rattle.bpf_cpu.specs.declared.cpu.Cpu.{Cpu}
 use Rattle.bpf_cpu.specs.State.{start}
 use Rattle.bpf_sched.specs.declared.assignment.Assignment.{Assignment}
 use Rattle.bpf_sched.specs.Working.{IsNew, Runs, RunsAll}
 
-module _ {T : Type 0} (moves : T → T → List Event → Type 0) (worn : T → Type 0) (shapes : List MapShape) (programs : List Loaded) where
+module _ {T : Type 0} (moves : T → T → List Event → Type 0) (worn : T → Type 0) (shape : Shape) (programs : List Loaded) where
   pub one_more : (x y z : T) (olds news : List Assignment) (old new : Assignment) (events mine : List Event)
-      → RunsAll moves worn shapes programs x olds news events y → Runs moves worn shapes programs y old new mine z
-      → RunsAll moves worn shapes programs x (olds ++ old ∷ []) (news ++ new ∷ []) (events ++ mine) z
+      → RunsAll moves worn shape programs x olds news events y → Runs moves worn shape programs y old new mine z
+      → RunsAll moves worn shape programs x (olds ++ old ∷ []) (news ++ new ∷ []) (events ++ mine) z
   one_more x y z [] [] old new events mine all run =
-      (z, mine, [], ap (λ (es : List Event). es ++ mine) all.0 ∙ sym (append-nil mine), subst (λ (w : T). Runs moves worn shapes programs w old new mine z) all.1 run, (refl, refl))
+      (z, mine, [], ap (λ (es : List Event). es ++ mine) all.0 ∙ sym (append-nil mine), subst (λ (w : T). Runs moves worn shape programs w old new mine z) all.1 run, (refl, refl))
   one_more x y z [] (n ∷ news) old new events mine all run = absurd all
   one_more x y z (o ∷ olds) [] old new events mine all run = absurd all
   one_more x y z (o ∷ olds) (n ∷ news) old new events mine (w, first, rest, cut, here, all) run =

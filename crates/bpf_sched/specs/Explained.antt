@@ -28,11 +28,11 @@ abbrev pub IsWorn : ℕ → List Event → Type 0
 IsWorn count before = count + turns_of before ≡ 2 ^ 64 - 2
 
 -- these events of the job's CPU, after those that it had before, explain how the job ended
-pub record ExplainsJob (shapes : List MapShape) (count : ℕ) (programs : List Loaded) (task : Task)
+pub record ExplainsJob (shape : Shape) (count : ℕ) (programs : List Loaded) (task : Task)
     (end : Outcome) (before events : List Event) : Type 0 where
   pub program : Loaded
   pub listed : slice_get programs task.program ≡ Some program
-  pub explained : Explains (IsWorn count before) shapes program task.budget
+  pub explained : Explains (IsWorn count before) shape program task.budget
       (start task.cpu (waiting_context task.stage)) events end
 
 -- ---- lists of keys
@@ -65,14 +65,14 @@ ends_of c tasks ends = picked (λ task. task.cpu == c) tasks ends
 
 -- the events are those of these jobs, in the jobs' order, and explain how each ended; and then
 -- these last ones
-abbrev pub ExplainsJobs : List MapShape → ℕ → List Loaded → List Event → List Task → List Outcome
+abbrev pub ExplainsJobs : Shape → ℕ → List Loaded → List Event → List Task → List Outcome
     → List Event → List Event → Type 0
-ExplainsJobs shapes count programs before [] [] last events = events ≡ last
-ExplainsJobs shapes count programs before (task ∷ tasks) (end ∷ ends) last events =
+ExplainsJobs shape count programs before [] [] last events = events ≡ last
+ExplainsJobs shape count programs before (task ∷ tasks) (end ∷ ends) last events =
     (mine : List Event) × (rest : List Event) × (events ≡ mine ++ rest)
-    × ExplainsJob shapes count programs task end before mine
-    × ExplainsJobs shapes count programs (before ++ mine) tasks ends last rest
-ExplainsJobs shapes count programs before _ _ last events = ⊥
+    × ExplainsJob shape count programs task end before mine
+    × ExplainsJobs shape count programs (before ++ mine) tasks ends last rest
+ExplainsJobs shape count programs before _ _ last events = ⊥
 
 -- ---- all jobs
 
@@ -88,7 +88,7 @@ pub record IsExplained (h : Shape) (count : ℕ) (programs : List Loaded) (tasks
   pub each_has_cpu : (task : Task) (j : ℕ) → slice_get tasks j ≡ Some task → task.cpu < h.cpus
   pub each_listed : (c : ℕ) → c < h.cpus
       → length (lists c) ≡ length (listed_maps keys h.maps (jobs_of c tasks))
-  pub explained : (c : ℕ) → c < h.cpus → ExplainsJobs h.maps count programs [] (jobs_of c tasks)
+  pub explained : (c : ℕ) → c < h.cpus → ExplainsJobs h count programs [] (jobs_of c tasks)
       (ends_of c tasks ends) (keys_events 0 (lists c)) (events_of c history)
 
 -- ---- the last store

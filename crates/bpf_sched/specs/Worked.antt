@@ -55,7 +55,7 @@ pub record Worked (t : Shown) (programs : List Loaded) (w v : Worker) : Type 0 w
   pub events : List Event
   pub more : extends (own_events before) (own_events after) events
   pub noted : CallsNote t.about events before.known after.known
-  pub ran : RunsAndLists extends (IsWorn t.about.count) t.about.shape.maps programs
+  pub ran : RunsAndLists extends (IsWorn t.about.count) t.about.shape programs
       (own_events before) w.workload.jobs.items v.workload.jobs.items
       (map (λ list. list.keys) v.workload.lists.items) events (own_events after)
   pub same : map (λ list. list.shape) v.workload.lists.items

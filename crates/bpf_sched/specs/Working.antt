@@ -2,6 +2,7 @@
 use Rattle.std.specs.Prelude.{◌≡◌, ℕ, ◌<◌, ◌≤◌, List, [], ◌∷◌, ◌++◌, Some, length, slice_get}
 use Rattle.bpf_shared.specs.declared.events.Event.{Event}
 use Rattle.bpf_shared.specs.declared.shapes.MapShape.{MapShape}
+use Rattle.bpf_shared.specs.Shape.{Shape}
 use Rattle.bpf_shared.specs.KeyOrder.{Listed}
 use Rattle.bpf_loader.specs.Loaded.{Loaded}
 use Rattle.bpf_cpu.specs.declared.outcome.Outcome.{Outcome}
@@ -33,31 +34,31 @@ pub record IsNew (cpu programs : ℕ) (a : Assignment) : Type 0 where
 -- a job is run from the state x to the state y with these events, which explain how it ended:
 -- `moves` says what a way from state to state is, and `worn` where the CPU's next run can't begin
 pub record Runs {T : Type 0} (moves : T → T → List Event → Type 0) (worn : T → Type 0)
-    (shapes : List MapShape) (programs : List Loaded) (x : T) (old new : Assignment)
+    (shape : Shape) (programs : List Loaded) (x : T) (old new : Assignment)
     (events : List Event) (y : T) : Type 0 where
   pub program : Loaded
   pub listed : slice_get programs old.program ≡ Some program
   pub way : moves x y events
-  pub explained : Explains (worn x) shapes program old.budget old.cpu events new.outcome
+  pub explained : Explains (worn x) shape program old.budget old.cpu events new.outcome
 
 -- so are these jobs, one after the other
-abbrev pub RunsAll : {T : Type 0} → (T → T → List Event → Type 0) → (T → Type 0) → List MapShape
+abbrev pub RunsAll : {T : Type 0} → (T → T → List Event → Type 0) → (T → Type 0) → Shape
     → List Loaded → T → List Assignment → List Assignment → List Event → T → Type 0
-RunsAll {T} moves worn shapes programs x [] [] events y = (events ≡ []) × (y ≡ x)
-RunsAll {T} moves worn shapes programs x (old ∷ olds) (new ∷ news) events y =
+RunsAll {T} moves worn shape programs x [] [] events y = (events ≡ []) × (y ≡ x)
+RunsAll {T} moves worn shape programs x (old ∷ olds) (new ∷ news) events y =
     (z : T) × (mine : List Event) × (rest : List Event) × (events ≡ mine ++ rest)
-    × Runs moves worn shapes programs x old new mine z
-    × RunsAll moves worn shapes programs z olds news rest y
-RunsAll {T} moves worn shapes programs x _ _ events y = ⊥
+    × Runs moves worn shape programs x old new mine z
+    × RunsAll moves worn shape programs z olds news rest y
+RunsAll {T} moves worn shape programs x _ _ events y = ⊥
 
 -- and then all maps are listed that the CPU has lists for: these are the keys that are found
 pub record RunsAndLists {T : Type 0} (moves : T → T → List Event → Type 0) (worn : T → Type 0)
-    (shapes : List MapShape) (programs : List Loaded) (x : T) (olds news : List Assignment)
+    (shape : Shape) (programs : List Loaded) (x : T) (olds news : List Assignment)
     (lists : List (List (List ℕ))) (events : List Event) (y : T) : Type 0 where
   pub ran : List Event
   pub cut : events ≡ ran ++ keys_events 0 lists
   pub last : T
-  pub runs : RunsAll moves worn shapes programs x olds news ran last
+  pub runs : RunsAll moves worn shape programs x olds news ran last
   pub way : moves last y (keys_events 0 lists)
 
 -- each list was made for the map of its number; they are few

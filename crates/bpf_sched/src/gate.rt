@@ -1,6 +1,8 @@
 //! Calls of one's own round each helper's call: a test can hold a CPU there until another has come.
 
-use bpf_shared::{AtomicOp, KeyList, MapAnswer, MapShape, Shared, Size, Span, ValuePlace, Worn};
+use bpf_shared::{
+    ArrayShape, AtomicOp, KeyList, MapAnswer, MapShape, Shared, Size, Span, ValuePlace, Worn,
+};
 
 /// What is called round each lookup, update and deletion.
 pub trait Gate {
@@ -61,6 +63,14 @@ impl<S: Shared, G: Gate> Shared for Gated<'_, S, G> {
 
     fn shape(&self, map: u64) -> Option<MapShape> {
         self.store.shape(map)
+    }
+
+    fn array(&self, array: u64) -> Option<ArrayShape> {
+        self.store.array(array)
+    }
+
+    fn cpus(&self) -> u8 {
+        self.store.cpus()
     }
 
     fn begin(&mut self, cpu: u8) -> Result<(), Worn> {

@@ -23,7 +23,7 @@ pub struct Workload {
 /// Lists the keys of each map that there is a list for.
 fn list_keys<S: Shared>(shared: &mut S, cpu: u8, lists: &mut [KeyList])
     requires serves { S.serves shared.old cpu ≡ true }
-    requires lists { AreListsFor (S.shapes shared.old) lists.old }
+    requires lists { AreListsFor (S.shapes shared.old).maps lists.old }
     ensures chain { Chain S.passes S.serves cpu shared.old shared.new
         (keys_events 0 (map (λ list. list.keys) lists.new)) }
     ensures lists { map (λ list. list.shape) lists.new ≡ map (λ list. list.shape) lists.old }
@@ -59,7 +59,7 @@ impl Workload {
         requires new { All (IsNew self.old.cpu (length programs.now)) self.old.jobs.items }
         requires serves { S.serves shared.old self.old.cpu ≡ true }
         requires idle { S.running shared.old self.old.cpu ≡ false }
-        requires lists { AreListsFor (S.shapes shared.old) self.old.lists.items }
+        requires lists { AreListsFor (S.shapes shared.old).maps self.old.lists.items }
         ensures runs { (events : List Event) ×
             RunsAndLists (Chain S.passes S.serves self.old.cpu) (λ x. S.may_wear x self.old.cpu)
             (S.shapes shared.old) programs.now shared.old self.old.jobs.items self.new.jobs.items

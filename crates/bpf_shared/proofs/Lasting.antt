@@ -8,16 +8,18 @@ use Rattle.bpf_shared.specs.declared.events.Event.TheVariants.{Begin, End, Looku
 use Rattle.bpf_shared.specs.declared.events.MapAnswer.{MapAnswer}
 use Rattle.bpf_shared.specs.declared.events.MapAnswer.TheVariants.{Done, Invalid, Busy, Exists, Absent, Full, NoMemory}
 use Rattle.bpf_shared.specs.declared.events.Entry.{Entry}
-use Rattle.bpf_shared.specs.Shape.{IsIn, IsApart}
+use Rattle.bpf_shared.specs.Shape.{Shape, IsIn, IsApart}
 use Rattle.bpf_shared.specs.Access.{bytes_in}
-use Rattle.bpf_shared.specs.Store.{KeyMap, Value, Plain, put, never}
+use Rattle.bpf_shared.specs.Store.{KeyMap, Value, Plain, put, never, IsFrozen, fixed_value}
 use Rattle.bpf_shared.specs.Events.{after_lookup, after_write, span_of, Reaches, Allowed}
 use Rattle.bpf_shared.specs.History.{Legal}
 use Rattle.bpf_shared.specs.Sound.{IsSoundStore}
 use Rattle.bpf_shared.specs.Laws.{byte_at, MakesValue}
-use Rattle.bpf_shared.specs.Lasting.{ChangesKey, WritesAt, EndsRun, Without, UpdatesAreFound, DeletionsAreFound, HeldValuesStay}
+use Rattle.bpf_shared.specs.Lasting.{ChangesKey, WritesAt, EndsRun, Without, UpdatesAreFound, DeletionsAreFound, HeldValuesStay, FixedValuesStay}
 use Rattle.bpf_shared.proofs.Puts.{true_or_false, equal_or_not, put-same, put-other, put_cases, put_pair-old, insert_cases, remove_cases, gone_key}
-use Rattle.bpf_shared.proofs.Soundness.{allowed_sound}
+use Rattle.bpf_shared.proofs.Soundness.{allowed_sound, legal_sound}
+use Rattle.bpf_shared.proofs.Fixed.{fixed_below}
+use Rattle.bpf_shared.proofs.Leaving.{history_shape}
 use Rattle.bpf_shared.proofs.Lawful.{refusals_change_nothing, updates_make_values, values_stay, writes_touch_named_bytes}
 
 -- ---- what a key leads to
@@ -126,8 +128,8 @@ module _ (s t : Plain) (c v b : ℕ) (so : IsSoundStore s) (there : v < s.made) 
   event_byte (Delete m key answer) a without = deleted_byte m key answer a
   event_byte (Keys m ks) a without = ap byte_in a.3
   event_byte (Load at size found) a without = ap byte_in a.1.3
-  event_byte (Store at size word) a without = ap byte_in a.1.2 ∙ written_byte a.1.0 at (bytes_in size) word a.1.1 without
-  event_byte (Atomic at size op operand expected found) a without = ap byte_in a.1.3 ∙ written_byte a.1.0 at (bytes_in size) _ a.1.1 without
+  event_byte (Store at size word) a without = ap byte_in a.1.2 ∙ written_byte a.1.0 at (bytes_in size) word a.1.1.reaches without
+  event_byte (Atomic at size op operand expected found) a without = ap byte_in a.1.3 ∙ written_byte a.1.0 at (bytes_in size) _ a.1.1.reaches without
 
 bytes_last : (s t : Plain) (v b : ℕ) (log : List Entry) → IsSoundStore s → v < s.made → IsIn b (s.value v).span → Legal s log t → Without (WritesAt b) log → byte_at t v b ≡ byte_at s v b
 bytes_last s t v b [] so there inside h without = ap (λ (z : Plain). byte_at z v b) (sym h)
@@ -228,7 +230,7 @@ module _ (s t : Plain) (c v : ℕ) (going : s.running c ≡ true) (holds : s.hel
       let next : t.made ≡ s.made + 1 = ap (λ (z : Plain). z.made) a.1.4.1.2 in
       let here : w ≡ s.made = omega arith in
       let placed : (t.value w).span ≡ a.1.4.1.0 = ap (λ (z : Plain). (z.value w).span) a.1.4.1.2 ∙ ap (λ (x : Value). x.span) (put-same s.value s.made w (record { bytes = bytes; span = a.1.4.1.0 }) here) in
-      subst (λ (p : Span). IsApart p (s.value v).span) (sym placed) (a.1.4.1.1.apart v (inr (c, holds)))
+      subst (λ (p : Span). IsApart p (s.value v).span) (sym placed) (a.1.4.1.1.apart v (inr (inl (c, holds))))
   updated_apart d m key bytes flags Invalid w a l k = none_new w (ap (λ (z : Plain). z.made) (refusals_change_nothing.0 s t d m key bytes flags Invalid (λ e. cc) a)) l k
   updated_apart d m key bytes flags Busy w a l k = none_new w (ap (λ (z : Plain). z.made) (refusals_change_nothing.0 s t d m key bytes flags Busy (λ e. cc) a)) l k
   updated_apart d m key bytes flags Exists w a l k = none_new w (ap (λ (z : Plain). z.made) (refusals_change_nothing.0 s t d m key bytes flags Exists (λ e. cc) a)) l k
@@ -265,7 +267,7 @@ held_stay s t c v [] so going holds h without = (
 )
 held_stay s t c v (e ∷ es) so going holds h without =
     let x = h.0 in
-    let there : v < s.made = so.live_made v (inr (c, holds)) in
+    let there : v < s.made = so.live_made v (inr (inl (c, holds))) in
     let kept = event_held s x c v going holds e.cpu e.event h.1 without.0 in
     let first = values_stay s x (e ∷ []) v (x, h.1, refl) there in
     let rest = held_stay x t c v es (allowed_sound s x e.cpu e.event so h.1) kept.0 kept.1 h.2 without.1 in (
@@ -287,3 +289,15 @@ held_values_stay s t c v log so holds h without =
       | inr none ↦ absurd (let clash : true ≡ false = sym holds ∙ (so.idle c none v).0 in cc)
     ] in
     held_stay s t c v log so going holds h without
+
+-- ---- fixed values
+pub fixed_values_stay : FixedValuesStay
+fixed_values_stay s t v log so l f =
+    let there : v < s.made = (let below = fixed_below s.shape v f in let made = so.fixed.made in omega arith) in
+    let sound : IsSoundStore t = legal_sound s t log so l in
+    let shape : t.shape ≡ s.shape = history_shape Allowed (λ x y c e a. a) s t log l in
+    record {
+      span = (values_stay s t log v l there).1 ∙ so.fixed.spans v f;
+      bytes_there = λ b inside without. bytes_last s t v b log so there inside l without;
+      frozen = λ z. sound.fixed.frozen v (subst (λ (h : Shape). IsFrozen h v) (sym shape) z) ∙ ap (λ (h : Shape). fixed_value h v) shape;
+    }

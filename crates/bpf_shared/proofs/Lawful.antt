@@ -28,12 +28,12 @@ use Rattle.bpf_shared.specs.Store.{KeyMap, Value, Plain}
 use Rattle.bpf_shared.specs.Events.{after_lookup, refusals, after_update, Updates, Deletes, Reaches, after_write, number_in, Allowed}
 use Rattle.bpf_shared.specs.Choice.{IsShort, IsLowestFree, Chosen, PlainlyAllowed}
 use Rattle.bpf_shared.specs.Sound.{IsSoundStore}
-use Rattle.bpf_shared.proofs.Soundness.{as_made_sound, legal_sound, span-after_write}
+use Rattle.bpf_shared.proofs.Soundness.{as_made_sound, legal_sound, reached_live, span-after_write}
 use Rattle.bpf_shared.proofs.Puts.{equal_or_not, put-same, put-other}
 use Rattle.bpf_shared.specs.Laws.{LegalIsSound, ValuesStay, RefusalsChangeNothing, MakesValue, UpdatesMakeValues, OneValueIsReached, WritesTouchNamedBytes, asked, CallsHaveOneReply}
 
 pub legal_is_sound : LegalIsSound
-legal_is_sound h log s l = legal_sound _ s log (as_made_sound h) l
+legal_is_sound h log s is l = legal_sound _ s log (as_made_sound h is) l
 
 -- ---- refusals
 refused_update : (s t : Plain) (m : ℕ) (h : MapShape) (key bytes : List ℕ) (flags : ℕ) (answer : MapAnswer) → answer ≢ Done → Updates s m h key bytes flags answer t → t ≡ s
@@ -129,7 +129,7 @@ values_stay s t (e ∷ es) v h l =
 pub one_value_is_reached : OneValueIsReached
 one_value_is_reached s c d v w a n so l p q = elim (equal_or_not v w) [
   | inl e ↦ e
-  | inr ne ↦ absurd (so.apart v w (inr (c, p.holds)) (inr (d, q.holds)) ne a (p.covers.0, (let k = p.covers.1 in omega arith)) (q.covers.0, (let k = q.covers.1 in omega arith)))
+  | inr ne ↦ absurd (so.apart v w (reached_live s c v a n p) (reached_live s d w a n q) ne a (p.covers.0, (let k = p.covers.1 in omega arith)) (q.covers.0, (let k = q.covers.1 in omega arith)))
 ]
 
 -- ---- writes
@@ -157,7 +157,7 @@ writes_touch_named_bytes s c v a n x so r =
     let i = a - (s.value v).span.at in
     let low = low_bytes n x in
     let low_size : length low ≡ n = length-low_bytes n x in
-    let size : length bs ≡ (s.value v).span.size = so.sizes v (so.live_made v (inr (c, r.holds))) in
+    let size : length bs ≡ (s.value v).span.size = so.sizes v (so.live_made v (reached_live s c v a n r)) in
     let from : (s.value v).span.at ≤ a = r.covers.0 in
     let to : a + n ≤ (s.value v).span.at + (s.value v).span.size = r.covers.1 in
     let fits : i + length low ≤ length bs = omega arith in
@@ -277,11 +277,11 @@ module _ (s : Plain) (so : IsSoundStore s) (c : ℕ) (at : ℕ) (size : Size) wh
   )
 
   stores_once : (t u : Plain) (x : ℕ) → Allowed s c (Store at size x) t → Allowed s c (Store at size x) u → t ≡ u
-  stores_once t u x p q = p.1.2 ∙ (ap (λ (v : ℕ). after_write s v at (bytes_in size) x) (sym (one_reached p.1.0 q.1.0 p.1.1 q.1.1)) ∙ sym q.1.2)
+  stores_once t u x p q = p.1.2 ∙ (ap (λ (v : ℕ). after_write s v at (bytes_in size) x) (sym (one_reached p.1.0 q.1.0 p.1.1.reaches q.1.1.reaches)) ∙ sym q.1.2)
 
   atomics_once : (t u : Plain) (op : Change) (operand expected x y : ℕ) → Allowed s c (Atomic at size op operand expected x) t → Allowed s c (Atomic at size op operand expected y) u → (x ≡ y) × (t ≡ u)
   atomics_once t u op operand expected x y p q =
-      let reached = one_reached p.1.0 q.1.0 p.1.1 q.1.1 in
+      let reached = one_reached p.1.0 q.1.0 p.1.1.reaches q.1.1.reaches in
       let found : x ≡ y = p.1.2 ∙ (ap (λ (v : ℕ). number_in s v at (bytes_in size)) (sym reached) ∙ sym q.1.2) in (
         found,
         p.1.3

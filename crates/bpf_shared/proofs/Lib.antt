@@ -1,4 +1,6 @@
 pub mod Puts
+pub mod Places
+pub mod Fixed
 pub mod Soundness
 pub mod Lawful
 pub mod Chains
@@ -9,5 +11,5 @@ pub mod OneListing
 pub mod KeyOrder
 pub mod KeyLists
 pub mod Lasting
+pub mod Values
 pub mod Histories
-pub mod Places

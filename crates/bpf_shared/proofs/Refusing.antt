@@ -1,12 +1,13 @@
 -- No test of a store's shape applies exactly where the shape is in range.
-use Rattle.std.proofs.Common.{◌≡◌, ℕ, zero, suc, ◌+◌, ◌<◌, ◌≤◌, nat_lt, Bool, true, false, List, [], ◌∷◌, ◌++◌, length, drop, get_or, Some, None, slice_get, refl, ap, sym, ◌∙◌, arith}
+use Rattle.std.proofs.Common.{◌≡◌, ℕ, zero, suc, ◌+◌, ◌*◌, ◌<◌, ◌≤◌, nat_lt, Bool, true, false, List, [], ◌∷◌, ◌++◌, length, drop, get_or, Option, Some, None, slice_get, slice_index_or, refl, ap, sym, subst, ◌∙◌, arith}
 use Rattle.std.proofs.lemmas.Bool.Decides.{nat_tests}
+use Rattle.bpf_shared.specs.declared.shapes.ArrayShape.{ArrayShape}
 use Rattle.bpf_shared.specs.declared.shapes.MapShape.{MapShape}
 use Rattle.bpf_shared.specs.declared.shapes.ShapeError.{ShapeError}
-use Rattle.bpf_shared.specs.declared.shapes.ShapeError.TheVariants.{KeySize, ValueSize, KeyCount, SpareCount, TooManyMaps, CpuCount}
+use Rattle.bpf_shared.specs.declared.shapes.ShapeError.TheVariants.{KeySize, ValueSize, KeyCount, SpareCount, TooManyMaps, CpuCount, ArrayValueSize, ArrayCount, ArraySize, ArrayContents}
 use Rattle.bpf_shared.specs.First.{first_of}
-use Rattle.bpf_shared.specs.Shape.{Shape, IsMapShape, IsMap, IsShape}
-use Rattle.bpf_shared.specs.Refusals.{outside, map_tests, maps_tests, shape_tests}
+use Rattle.bpf_shared.specs.Shape.{Shape, IsMapShape, IsMap, IsShape, IsArray, IsArrayShape, copies, copy_size, without_arrays}
+use Rattle.bpf_shared.specs.Refusals.{outside, map_tests, maps_tests, shape_tests, array_tests, each_array_tests}
 
 pub first_of-append_none : (xs ys : List (ShapeError × Bool)) → first_of xs ≡ None → first_of (xs ++ ys) ≡ first_of ys
 first_of-append_none [] ys e = refl
@@ -77,6 +78,9 @@ maps_pass m (x ∷ xs) is =
     first_of-append_none (map_tests m x) (maps_tests (m + 1) xs) (map_passes m x (is 0 x refl)) ∙ maps_pass (m + 1) xs (λ k h e. is (suc k) h e)
 
 -- ---- a store
+pub no_arrays : (cpus : ℕ) (maps : List MapShape) → (1 ≤ cpus) × (cpus ≤ 16) → length maps ≤ 16 → ((m : ℕ) (h : MapShape) → IsMap maps m h → IsMapShape h) → IsShape (without_arrays cpus maps)
+no_arrays cpus maps served count each = record { cpus = served; count = count; each = each; array_count = omega arith; arrays = λ a g is. absurd (cc) }
+
 pub shape_passes : (s : Shape) → IsShape s → first_of (shape_tests s.cpus s.maps) ≡ None
 shape_passes s is =
     let cpus = inside_false 1 16 s.cpus is.cpus.0 is.cpus.1 in
@@ -106,3 +110,74 @@ all_passed hs items m e l so_far =
     drop_past [] (suc n) k = refl
     drop_past (x ∷ xs) zero k = absurd (omega arith)
     drop_past (x ∷ xs) (suc n) k = drop_past xs n (omega arith)
+
+-- ---- one array
+abbrev pub IsGood : ℕ → ℕ → ArrayShape → Type 0
+IsGood cpus filled g = IsArrayShape cpus g × (filled ≤ copy_size g)
+
+at_most : (n most : ℕ) → nat_lt most n ≡ false → n ≤ most
+at_most n most e = grind (arith, nat_tests)
+
+none_over : (n most : ℕ) → n ≤ most → nat_lt most n ≡ false
+none_over n most l = grind (arith, nat_tests)
+
+pub array_in_range : (cpus filled a : ℕ) (g : ArrayShape) → first_of (array_tests cpus filled a g) ≡ None → IsGood cpus filled g
+array_in_range cpus filled a g e =
+    let f = all_false (outside 1 65536 g.value) (outside 1 65536 g.max) (nat_lt 0x100_0000 (copy_size g * copies cpus g)) (nat_lt (copy_size g) filled) (ArrayValueSize a) (ArrayCount a) (ArraySize a) (ArrayContents a) e in (
+      record {
+        value = outside_false 1 65536 g.value f.0;
+        max = outside_false 1 65536 g.max f.1;
+        whole = at_most (copy_size g * copies cpus g) 0x100_0000 f.2;
+      },
+      at_most filled (copy_size g) f.3,
+    )
+
+pub array_passes : (cpus filled a : ℕ) (g : ArrayShape) → IsGood cpus filled g → first_of (array_tests cpus filled a g) ≡ None
+array_passes cpus filled a g is =
+    none_of (outside 1 65536 g.value) (outside 1 65536 g.max) (nat_lt 0x100_0000 (copy_size g * copies cpus g)) (nat_lt (copy_size g) filled) (ArrayValueSize a) (ArrayCount a) (ArraySize a) (ArrayContents a)
+    (inside_false 1 65536 g.value is.0.value.0 is.0.value.1) (inside_false 1 65536 g.max is.0.max.0 is.0.max.1)
+    (none_over (copy_size g * copies cpus g) 0x100_0000 is.0.whole) (none_over filled (copy_size g) is.1)
+
+-- ---- all arrays
+module _ (cpus : ℕ) (contents : List (List ℕ)) where
+  abbrev pub filled_at : ℕ → ℕ
+  filled_at a = length (slice_index_or contents a [])
+
+  pub arrays_in_range : (a : ℕ) (gs : List ArrayShape) → first_of (each_array_tests cpus contents a gs) ≡ None → (k n : ℕ) (g : ArrayShape) → n ≡ a + k → IsArray gs k g → IsGood cpus (filled_at n) g
+  arrays_in_range a [] e k n g at is = cc
+  arrays_in_range a (x ∷ xs) e zero n g at is =
+      let same : x ≡ g = cc in
+      let here : n ≡ a = omega arith in
+      subst (λ (m : ℕ). IsGood cpus (filled_at m) g) (sym here)
+      (array_in_range cpus (filled_at a) a g (ap (λ (y : ArrayShape). first_of (array_tests cpus (filled_at a) a y)) (sym same) ∙ first_part (array_tests cpus (filled_at a) a x) (each_array_tests cpus contents (a + 1) xs) e))
+  arrays_in_range a (x ∷ xs) e (suc k) n g at is =
+      let first = first_part (array_tests cpus (filled_at a) a x) (each_array_tests cpus contents (a + 1) xs) e in
+      arrays_in_range (a + 1) xs (sym (first_of-append_none (array_tests cpus (filled_at a) a x) (each_array_tests cpus contents (a + 1) xs) first) ∙ e) k n g (omega arith) is
+
+  pub arrays_pass : (a : ℕ) (gs : List ArrayShape) → ((k n : ℕ) (g : ArrayShape) → n ≡ a + k → IsArray gs k g → IsGood cpus (filled_at n) g) → first_of (each_array_tests cpus contents a gs) ≡ None
+  arrays_pass a [] is = refl
+  arrays_pass a (x ∷ xs) is =
+      first_of-append_none (array_tests cpus (filled_at a) a x) (each_array_tests cpus contents (a + 1) xs) (array_passes cpus (filled_at a) a x (is 0 a x (omega arith) refl))
+      ∙ arrays_pass (a + 1) xs (λ k n g at e. is (suc k) n g (omega arith) e)
+
+-- ---- a store with arrays
+-- the arrays are those of a store exactly where no test applies
+pub arrays_shape : (cpus : ℕ) (maps : List MapShape) (arrays : List ArrayShape) (contents : List (List ℕ)) (old : Shape) → old.cpus ≡ cpus → old.maps ≡ maps → IsShape old → length arrays ≤ 16
+    → None ≡ first_of (each_array_tests cpus contents 0 arrays) → IsShape (record { cpus = cpus; maps = maps; arrays = arrays; contents = contents })
+arrays_shape cpus maps arrays contents old same_cpus same_maps is few none = record {
+  cpus = subst (λ (n : ℕ). (1 ≤ n) × (n ≤ 16)) same_cpus is.cpus;
+  count = subst (λ (ms : List MapShape). length ms ≤ 16) same_maps is.count;
+  each = subst (λ (ms : List MapShape). (m : ℕ) (h : MapShape) → IsMap ms m h → IsMapShape h) same_maps is.each;
+  array_count = few;
+  arrays = λ a g there. arrays_in_range cpus contents 0 arrays (sym none) a a g (omega arith) there;
+}
+
+pub arrays_refused : (s : Shape) (r : ShapeError) → IsShape s → Some r ≡ first_of (each_array_tests s.cpus s.contents 0 s.arrays) → ⊥
+arrays_refused s r is e =
+    let none = arrays_pass s.cpus s.contents 0 s.arrays (λ k n g at there. let same : n ≡ k = omega arith in subst (λ (a : ℕ). IsGood s.cpus (length (slice_index_or s.contents a [])) g) (sym same) (is.arrays k g there)) in
+    let both : Some r ≡ None = e ∙ none in cc
+
+-- the same tests of what the code read
+pub same_tests : (o : Option ShapeError) (k n : ℕ) (cs ds : List (List ℕ)) (gs hs : List ArrayShape) → k ≡ n → cs ≡ ds → gs ≡ hs → o ≡ first_of (each_array_tests k cs 0 gs) → o ≡ first_of (each_array_tests n ds 0 hs)
+same_tests o k n cs ds gs hs e f g is =
+    is ∙ (ap (λ (x : ℕ). first_of (each_array_tests x cs 0 gs)) e ∙ (ap (λ (x : List (List ℕ)). first_of (each_array_tests n x 0 gs)) f ∙ ap (λ (x : List ArrayShape). first_of (each_array_tests n ds 0 x)) g))

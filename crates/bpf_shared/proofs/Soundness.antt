@@ -13,34 +13,50 @@ use Rattle.bpf_shared.specs.declared.events.MapAnswer.{MapAnswer}
 use Rattle.bpf_shared.specs.declared.events.MapAnswer.TheVariants.{Done, Invalid, Busy, Exists, Absent, Full, NoMemory}
 use Rattle.bpf_shared.specs.declared.shapes.MapShape.{MapShape}
 use Rattle.bpf_shared.specs.First.{first_of}
-use Rattle.bpf_shared.specs.Shape.{Shape, IsMap, IsApart}
+use Rattle.bpf_shared.specs.Shape.{Shape, IsShape, IsMap, IsApart}
 use Rattle.bpf_base.specs.Bytes.{low_bytes, with_part}
 use Rattle.bpf_base.proofs.Numbers.{length-low_bytes}
 use Rattle.bpf_base.proofs.Parts.{length-with_part}
-use Rattle.bpf_shared.specs.Store.{KeyMap, Value, Plain, put, never, as_made, Finds, IsInMap, IsLive}
-use Rattle.bpf_shared.specs.Events.{after_begin, after_end, after_lookup, has_key, refusals, kept_after, after_update, Updates, after_delete, Deletes, Reaches, after_write, Allowed}
+use Rattle.bpf_shared.specs.Store.{KeyMap, Value, Plain, put, never, as_made, Finds, IsInMap, IsKept, IsLive, IsFixed, IsFrozen, fixed_count}
+use Rattle.bpf_shared.specs.Events.{after_begin, after_end, after_lookup, has_key, refusals, kept_after, after_update, Updates, after_delete, Deletes, Reaches, MayWrite, after_write, Allowed}
 use Rattle.bpf_shared.specs.History.{Legal, PlainlyLegal}
 use Rattle.bpf_shared.specs.Sound.{IsSoundStore}
+use Rattle.bpf_shared.proofs.Fixed.{fixed_below, frozen_below, fixed_size, fixed_apart}
 use Rattle.bpf_shared.proofs.Puts.{true_or_false, equal_or_not, put-same, put-other, put_cases, put_pair, insert_cases, remove_cases}
 
 holder_runs : (s : Plain) → IsSoundStore s → (c v : ℕ) → s.held c v ≡ true → s.running c ≡ true
 holder_runs s so c v h = elim (true_or_false (s.running c)) [ inl r ↦ r | inr r ↦ let k = (so.idle c r v).0 in cc ]
 
 -- ---- as made
-pub as_made_sound : (h : Shape) → IsSoundStore (as_made h)
-as_made_sound h = record {
+no_key : (h : Shape) (m v : ℕ) → IsInMap (as_made h) m v → ⊥
+no_key h m v p = let k = sym (get-empty {X = ℕ} (slice_cmp nat_cmp) p.0) ∙ p.1 in cc
+
+no_one : (h : Shape) (v : ℕ) → IsKept (as_made h) v → ⊥
+no_one h v k = let e : false ≡ true = k.1 in cc
+
+fixed_alone : (h : Shape) (v : ℕ) → IsLive (as_made h) v → IsFixed h v
+fixed_alone h v (inl p) = absurd (no_key h p.0 v p.1)
+fixed_alone h v (inr (inl p)) = absurd (let e : false ≡ true = p.1 in cc)
+fixed_alone h v (inr (inr f)) = f
+
+pub as_made_sound : (h : Shape) → IsShape h → IsSoundStore (as_made h)
+as_made_sound h is = record {
+  fixed = record {
+    shape = is;
+    made = omega arith;
+    in_map = λ m v p. absurd (no_key h m v p);
+    kept = λ v k. absurd (no_one h v k);
+    spans = λ v f. refl;
+    frozen = λ v f. refl;
+  };
   held = λ c v e. cc;
   idle = λ c r v. (refl, refl);
   keys = λ m h is. (let e = len-empty (slice_cmp nat_cmp) ℕ in omega arith);
-  live_made = λ v l. absurd (nothing_live v l);
-  sizes = λ v l. absurd (omega arith);
-  kept_made = λ v k. (let e : false ≡ true = k.1 in cc);
-  apart = λ v w p q ne. absurd (nothing_live v p);
+  live_made = λ v l. fixed_below h v (fixed_alone h v l);
+  sizes = λ v l. fixed_size h v;
+  kept_made = λ v k. absurd (no_one h v k);
+  apart = λ v w p q ne. fixed_apart h is v w (fixed_alone h v p) (fixed_alone h w q) ne;
 }
-  where
-    nothing_live : (v : ℕ) → IsLive (as_made h) v → ⊥
-    nothing_live v (inl p) = let k = sym (get-empty {X = ℕ} (slice_cmp nat_cmp) p.1.0) ∙ p.1.1 in cc
-    nothing_live v (inr p) = let e : false ≡ true = p.1 in cc
 
 -- ---- begin and end
 -- what is held or kept by none more, since this CPU's are gone
@@ -61,10 +77,19 @@ none_of f c v = ap (λ (g : ℕ → Bool). g v) (put-same f c c never refl)
 
 after_begin_live : (s : Plain) (c v : ℕ) → IsLive (after_begin s c) v → IsLive s v
 after_begin_live s c v (inl p) = inl p
-after_begin_live s c v (inr p) = inr (p.0, (still s.held c p.0 v p.1).1)
+after_begin_live s c v (inr (inl p)) = inr (inl (p.0, (still s.held c p.0 v p.1).1))
+after_begin_live s c v (inr (inr f)) = inr (inr f)
 
 pub after_begin_sound : (s : Plain) (c : ℕ) → IsSoundStore s → IsSoundStore (after_begin s c)
 after_begin_sound s c so = record {
+  fixed = record {
+    shape = so.fixed.shape;
+    made = so.fixed.made;
+    in_map = so.fixed.in_map;
+    kept = so.fixed.kept;
+    spans = so.fixed.spans;
+    frozen = so.fixed.frozen;
+  };
   held = λ d v h. so.held d v (still s.held c d v h).1;
   idle = λ d r v. elim (put_cases s.running c d true) [
     | inl k ↦ absurd (let e : true ≡ false = sym k.1 ∙ r in cc)
@@ -79,10 +104,19 @@ after_begin_sound s c so = record {
 
 after_end_live : (s : Plain) (c v : ℕ) → IsLive (after_end s c) v → IsLive s v
 after_end_live s c v (inl p) = inl p
-after_end_live s c v (inr p) = inr (p.0, (still s.held c p.0 v p.1).1)
+after_end_live s c v (inr (inl p)) = inr (inl (p.0, (still s.held c p.0 v p.1).1))
+after_end_live s c v (inr (inr f)) = inr (inr f)
 
 pub after_end_sound : (s : Plain) (c : ℕ) → IsSoundStore s → IsSoundStore (after_end s c)
 after_end_sound s c so = record {
+  fixed = record {
+    shape = so.fixed.shape;
+    made = so.fixed.made;
+    in_map = so.fixed.in_map;
+    kept = λ v k. so.fixed.kept v (k.0, (still s.kept c k.0 v k.1).1);
+    spans = so.fixed.spans;
+    frozen = so.fixed.frozen;
+  };
   held = λ d v h. (let was = still s.held c d v h in elim (so.held d v was.1) [ inl p ↦ inl p | inr k ↦ inr (others s.kept c d v was.0 k) ]);
   idle = λ d r v. elim (put_cases s.running c d false) [
     | inl k ↦ (
@@ -101,10 +135,19 @@ after_end_sound s c so = record {
 -- ---- lookups
 looked_live : (s : Plain) (c m v : ℕ) → IsInMap s m v → (w : ℕ) → IsLive (after_lookup s c (Some v)) w → IsLive s w
 looked_live s c m v i w (inl p) = inl p
-looked_live s c m v i w (inr p) = elim (put_pair s.held c v p.0 w p.1) [ inl e ↦ inl (m, subst (IsInMap s m) (sym e.1) i) | inr h ↦ inr (p.0, h) ]
+looked_live s c m v i w (inr (inl p)) = elim (put_pair s.held c v p.0 w p.1) [ inl e ↦ inl (m, subst (IsInMap s m) (sym e.1) i) | inr h ↦ inr (inl (p.0, h)) ]
+looked_live s c m v i w (inr (inr f)) = inr (inr f)
 
 looked_sound : (s : Plain) (c m v : ℕ) → IsInMap s m v → s.running c ≡ true → IsSoundStore s → IsSoundStore (after_lookup s c (Some v))
 looked_sound s c m v i r so = record {
+  fixed = record {
+    shape = so.fixed.shape;
+    made = so.fixed.made;
+    in_map = so.fixed.in_map;
+    kept = so.fixed.kept;
+    spans = so.fixed.spans;
+    frozen = so.fixed.frozen;
+  };
   held = λ d w h. elim (put_pair s.held c v d w h) [ inl e ↦ inl (m, subst (IsInMap s m) (sym e.1) i) | inr k ↦ so.held d w k ];
   idle = λ d h w. (
     let ne : d ≢ c = λ e. (let k : s.running d ≡ true = ap s.running e ∙ r in cc) in
@@ -195,8 +238,20 @@ module _ (s : Plain) (m : ℕ) (key : List ℕ) (so : IsSoundStore s) where
       go true e l = omega arith
       go false e l = omega arith
 
+  -- what is kept was in a map, or kept before
+  keeps_later : (w : ℕ) → (c : ℕ) × (kept_after s (get (s.maps m) key) c w ≡ true) → fixed_count s.shape ≤ w
+  keeps_later w k = elim (kept_from s (get (s.maps m) key) k.0 w k.1) [ inl e ↦ so.fixed.in_map m w (key, e) | inr e ↦ so.fixed.kept w (k.0, e) ]
+
   pub after_delete_sound : IsSoundStore (after_delete s m key)
   after_delete_sound = record {
+    fixed = record {
+      shape = so.fixed.shape;
+      made = so.fixed.made;
+      in_map = λ d w p. so.fixed.in_map d w (after_delete_was d w p);
+      kept = keeps_later;
+      spans = so.fixed.spans;
+      frozen = so.fixed.frozen;
+    };
     held = λ c w h. elim (so.held c w h) [
       | inr k ↦ inr (kept_still s (get (s.maps m) key) c w k)
       | inl p ↦ elim (stays s m key (remove (s.maps m) key) (λ q. elim (remove_cases (s.maps m) key q) [ inl e ↦ inl e.0 | inr e ↦ inr e ]) p.0 p.1.0 w p.1.1) [
@@ -226,6 +281,9 @@ module _ (s : Plain) (m : ℕ) (key : List ℕ) (so : IsSoundStore s) where
     old_value : (w : ℕ) → IsLive s w → put s.value s.made x w ≡ s.value w
     old_value w l = put-other s.value s.made w x (λ e. let k = so.live_made w l in omega arith)
 
+    first_value : (w : ℕ) → w < fixed_count s.shape → put s.value s.made x w ≡ s.value w
+    first_value w l = put-other s.value s.made w x (λ e. let k = so.fixed.made in omega arith)
+
     back : (p q : Span) → IsApart p q → IsApart q p
     back p q h = λ a i j. h a j i
 
@@ -239,6 +297,14 @@ module _ (s : Plain) (m : ℕ) (key : List ℕ) (so : IsSoundStore s) where
 
     pub after_update_sound : ((v : ℕ) → IsLive s v → IsApart x.span (s.value v).span) → length x.bytes ≡ x.span.size → ((h : MapShape) → IsMap s.shape.maps m h → is_some (get (s.maps m) key) ≡ false → len (s.maps m) < h.max) → IsSoundStore (after_update s m key x)
     after_update_sound free size room = record {
+      fixed = record {
+        shape = so.fixed.shape;
+        made = (let l = so.fixed.made in omega arith);
+        in_map = λ d w p. elim (after_update_was d w p) [ inl e ↦ (let l = so.fixed.made in omega arith) | inr h ↦ so.fixed.in_map d w h ];
+        kept = keeps_later;
+        spans = λ w f. ap (λ (y : Value). y.span) (first_value w (fixed_below s.shape w f)) ∙ so.fixed.spans w f;
+        frozen = λ w f. first_value w (frozen_below s.shape w f) ∙ so.fixed.frozen w f;
+      };
       keys = λ d h is. elim (put_cases s.maps m d (insert (s.maps m) key s.made)) [
         | inl k ↦ (let here = subst (λ (z : ℕ). IsMap s.shape.maps z h) k.0 is in subst (λ (z : KeyMap). len z ≤ h.max) (sym k.1) (more h (room h here) (so.keys m h here)))
         | inr k ↦ subst (λ (z : KeyMap). len z ≤ h.max) (sym k.1) (so.keys d h is)
@@ -280,21 +346,44 @@ span-after_write s v a n x w = go (equal_or_not w v)
     go (inl e) = ap (λ (y : Value). y.span) (put-same s.value v w _ e) ∙ ap (λ (k : ℕ). (s.value k).span) (sym e)
     go (inr ne) = ap (λ (y : Value). y.span) (put-other s.value v w _ ne)
 
+-- what is held was made after the fixed values
+pub held_later : (s : Plain) → IsSoundStore s → (c v : ℕ) → s.held c v ≡ true → fixed_count s.shape ≤ v
+held_later s so c v h = elim (so.held c v h) [ inl p ↦ so.fixed.in_map p.0 v p.1 | inr k ↦ so.fixed.kept v (c, k) ]
+
+-- so it may be written
+pub held_writable : (s : Plain) → IsSoundStore s → (c v : ℕ) → s.held c v ≡ true → IsFrozen s.shape v → ⊥
+held_writable s so c v h f = let later = held_later s so c v h in let below = frozen_below s.shape v f in absurd (omega arith)
+
+pub reached_live : (s : Plain) (c v a n : ℕ) → Reaches s c v a n → IsLive s v
+reached_live s c v a n r = go r.holds
+  where
+    go : (s.held c v ≡ true) ⊎ IsFixed s.shape v → IsLive s v
+    go (inl h) = inr (inl (c, h))
+    go (inr f) = inr (inr f)
+
 length-after_write : (s : Plain) (v a n x : ℕ) → IsSoundStore s → (c : ℕ) → Reaches s c v a n → length (with_part (s.value v).bytes (a - (s.value v).span.at) (low_bytes n x)) ≡ (s.value v).span.size
 length-after_write s v a n x so c r =
-    let size : length (s.value v).bytes ≡ (s.value v).span.size = so.sizes v (so.live_made v (inr (c, r.holds))) in
+    let size : length (s.value v).bytes ≡ (s.value v).span.size = so.sizes v (so.live_made v (reached_live s c v a n r)) in
     let low : length (low_bytes n x) ≡ n = length-low_bytes n x in
     let from : (s.value v).span.at ≤ a = r.covers.0 in
     let to : a + n ≤ (s.value v).span.at + (s.value v).span.size = r.covers.1 in
     length-with_part (s.value v).bytes (a - (s.value v).span.at) (low_bytes n x) (omega arith) ∙ size
 
-pub after_write_sound : (s : Plain) (c v a n x : ℕ) → IsSoundStore s → Reaches s c v a n → IsSoundStore (after_write s v a n x)
+pub after_write_sound : (s : Plain) (c v a n x : ℕ) → IsSoundStore s → MayWrite s c v a n → IsSoundStore (after_write s v a n x)
 after_write_sound s c v a n x so r = record {
+  fixed = record {
+    shape = so.fixed.shape;
+    made = so.fixed.made;
+    in_map = so.fixed.in_map;
+    kept = so.fixed.kept;
+    spans = λ w f. span-after_write s v a n x w ∙ so.fixed.spans w f;
+    frozen = λ w f. put-other s.value v w _ (λ e. r.writable (subst (IsFrozen s.shape) e f)) ∙ so.fixed.frozen w f;
+  };
   held = so.held;
   idle = so.idle;
   keys = so.keys;
   sizes = λ w l. elim (put_cases s.value v w (record (s.value v) { bytes = with_part (s.value v).bytes (a - (s.value v).span.at) (low_bytes n x) })) [
-    | inl k ↦ subst (λ (y : Value). length y.bytes ≡ y.span.size) (sym k.1) (length-after_write s v a n x so c r)
+    | inl k ↦ subst (λ (y : Value). length y.bytes ≡ y.span.size) (sym k.1) (length-after_write s v a n x so c r.reaches)
     | inr k ↦ subst (λ (y : Value). length y.bytes ≡ y.span.size) (sym k.1) (so.sizes w l)
   ];
   live_made = so.live_made;

@@ -7,7 +7,7 @@ use Rattle.bpf_shared.specs.declared.events.MapAnswer.TheVariants.{Done}
 use Rattle.bpf_shared.specs.declared.events.Entry.{Entry}
 use Rattle.bpf_shared.specs.Shape.{IsIn, IsApart}
 use Rattle.bpf_shared.specs.Access.{bytes_in}
-use Rattle.bpf_shared.specs.Store.{Plain}
+use Rattle.bpf_shared.specs.Store.{Plain, IsFixed, IsFrozen, fixed_value}
 use Rattle.bpf_shared.specs.Events.{Allowed}
 use Rattle.bpf_shared.specs.History.{Legal}
 use Rattle.bpf_shared.specs.Sound.{IsSoundStore}
@@ -64,3 +64,15 @@ HeldValuesStay = (s t : Plain) (c v : ℕ) (log : List Entry) → IsSoundStore s
     → Legal s log t → Without (EndsRun c) log
     → (t.held c v ≡ true) × ((t.value v).span ≡ (s.value v).span)
     × ((w : ℕ) → s.made ≤ w → w < t.made → IsApart (t.value w).span (t.value v).span)
+
+-- a fixed value stays in its place, and a byte of it until somebody writes there; one that may only
+-- be read has its first bytes
+pub record IsFixedStill (s t : Plain) (v : ℕ) (log : List Entry) : Type 0 where
+  pub span : (t.value v).span ≡ (fixed_value s.shape v).span
+  pub bytes_there : (b : ℕ) → IsIn b (s.value v).span → Without (WritesAt b) log
+      → byte_at t v b ≡ byte_at s v b
+  pub frozen : IsFrozen s.shape v → t.value v ≡ fixed_value s.shape v
+
+abbrev pub FixedValuesStay : Type 0
+FixedValuesStay = (s t : Plain) (v : ℕ) (log : List Entry) → IsSoundStore s → Legal s log t
+    → IsFixed s.shape v → IsFixedStill s t v log

@@ -1,4 +1,5 @@
 pub mod First
+pub mod Contents
 pub mod Shape
 pub mod Refusals
 pub mod Access

@@ -5,7 +5,7 @@ use Rattle.std.specs.Ordering.{nat_cmp}
 use Rattle.std.specs.declared.cmp.Ordering.TheVariants.{Less}
 use Rattle.std.specs.Cmp.Lexicographic.{slice_cmp}
 use Rattle.bpf_shared.specs.Shape.{IsIn}
-use Rattle.bpf_shared.specs.Store.{Plain, Finds, IsInMap, IsKept}
+use Rattle.bpf_shared.specs.Store.{Plain, Finds, IsInMap, IsKept, IsFixed}
 use Rattle.bpf_shared.specs.Laws.{byte_at}
 
 -- a key, and the bytes of its value
@@ -25,12 +25,21 @@ pub record IsListing (s : Plain) (m : ℕ) (pairs : List Pair) : Type 0 where
       → (k : ℕ) × (k < length pairs) × ((pair_at pairs k).0 ≡ key)
 
 -- the byte at the address, in a value that is in a map or kept
-abbrev pub IsByteAt : Plain → ℕ → ℕ → Type 0
-IsByteAt s a b =
+abbrev pub IsElementByteAt : Plain → ℕ → ℕ → Type 0
+IsElementByteAt s a b =
     (v : ℕ) × (((m : ℕ) × IsInMap s m v) ⊎ IsKept s v) × IsIn a (s.value v).span
     × (b ≡ byte_at s v a)
 
--- it is the only one there: values that are in a map or kept have no address in common
+-- the byte at the address, in a fixed value
+abbrev pub IsFixedByteAt : Plain → ℕ → ℕ → Type 0
+IsFixedByteAt s a b =
+    (v : ℕ) × IsFixed s.shape v × IsIn a (s.value v).span × (b ≡ byte_at s v a)
+
+-- either
+abbrev pub IsByteAt : Plain → ℕ → ℕ → Type 0
+IsByteAt s a b = IsElementByteAt s a b ⊎ IsFixedByteAt s a b
+
+-- it is the only one there: no two of these values have an address in common
 abbrev pub IsOnlyByteAt : Plain → ℕ → ℕ → Type 0
 IsOnlyByteAt s a b = IsByteAt s a b × ((other : ℕ) → IsByteAt s a other → other ≡ b)
 

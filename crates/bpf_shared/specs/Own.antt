@@ -4,7 +4,7 @@ use Rattle.bpf_shared.specs.declared.events.Span.{Span}
 use Rattle.bpf_shared.specs.declared.events.Event.{Event}
 use Rattle.bpf_shared.specs.declared.events.Event.TheVariants.{Begin, End, Lookup}
 use Rattle.bpf_shared.specs.declared.events.Entry.{Entry}
-use Rattle.bpf_shared.specs.Shape.{Shape}
+use Rattle.bpf_shared.specs.Shape.{Shape, IsShape}
 use Rattle.bpf_shared.specs.Store.{Plain, as_made}
 use Rattle.bpf_shared.specs.History.{Legal, events_of}
 use Rattle.bpf_shared.specs.Passage.{same_span}
@@ -44,5 +44,6 @@ HoldsAll c s f = (q : Span) → f q ≡ true → (v : ℕ) × (s.held c v ≡ tr
 
 -- whether a CPU runs is determined by its own events, and each span that they hold is a held value's
 abbrev pub OwnEventsTell : Type 0
-OwnEventsTell = (h : Shape) (c : ℕ) (t : Plain) (log : List Entry) → Legal (as_made h) log t
+OwnEventsTell = (h : Shape) (c : ℕ) (t : Plain) (log : List Entry) → IsShape h
+    → Legal (as_made h) log t
     → (t.running c ≡ in_run (events_of c log)) × HoldsAll c t (held_by (events_of c log))

@@ -1,9 +1,10 @@
 -- What a call of a shared store is, and what it asks and changes.
-use Rattle.std.specs.Prelude.{◌≡◌, ℕ, ◌%◌, Bool, true, false, ◌||◌, ◌&&◌, List, [], ◌∷◌, ◌++◌, Option, Some, None, ◌==◌, if◌then◌else◌}
+use Rattle.std.specs.Prelude.{◌≡◌, ℕ, ◌%◌, ◌<◌, Bool, true, false, ◌||◌, ◌&&◌, List, [], ◌∷◌, ◌++◌, Option, Some, None, ◌⊎◌, ◌==◌, if◌then◌else◌}
 use Rattle.bpf_shared.specs.declared.events.Span.{Span}
 use Rattle.bpf_shared.specs.declared.events.Event.{Event}
 use Rattle.bpf_shared.specs.declared.events.Entry.{Entry}
-use Rattle.bpf_shared.specs.Shape.{Covers}
+use Rattle.bpf_shared.specs.declared.shapes.ArrayShape.{ArrayShape}
+use Rattle.bpf_shared.specs.Shape.{Shape, IsArray, Covers, copies, fixed_span}
 use Rattle.bpf_shared.specs.History.{events_of, entry}
 
 -- a call is its event, after events of CPUs that are not served
@@ -31,3 +32,24 @@ pub record IsHeldPlace (held : Span → Bool) (a n : ℕ) : Type 0 where
   pub holds : held span ≡ true
   pub covers : Covers span a n
   pub aligned : a % n ≡ 0
+
+-- the n bytes from the address a on are in a fixed value, and a is a multiple of n
+pub record IsFixedPlace (h : Shape) (a n : ℕ) : Type 0 where
+  pub number : ℕ
+  pub array : ArrayShape
+  pub copy : ℕ
+  pub index : ℕ
+  pub is : IsArray h.arrays number array
+  pub has_copy : copy < copies h.cpus array
+  pub has_index : index < array.max
+  pub covers : Covers (fixed_span number array copy index) a n
+  pub aligned : a % n ≡ 0
+
+-- the CPU that holds these spans may read there
+abbrev pub IsReadable : Shape → (Span → Bool) → ℕ → ℕ → Type 0
+IsReadable h held a n = IsHeldPlace held a n ⊎ IsFixedPlace h a n
+
+-- and it may write there
+abbrev pub IsWritable : Shape → (Span → Bool) → ℕ → ℕ → Type 0
+IsWritable h held a n =
+    IsHeldPlace held a n ⊎ ((p : IsFixedPlace h a n) × (p.array.frozen ≡ false))

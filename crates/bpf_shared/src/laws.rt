@@ -2,12 +2,12 @@
 //!
 //! These functions do nothing: their contracts are the laws, which a proof cites.
 ghost use Rattle.bpf_shared.specs.Laws.{LegalIsSound, ValuesStay, RefusalsChangeNothing, UpdatesMakeValues, OneValueIsReached, WritesTouchNamedBytes, CallsHaveOneReply};
-ghost use Rattle.bpf_shared.specs.Lasting.{UpdatesAreFound, DeletionsAreFound, HeldValuesStay};
+ghost use Rattle.bpf_shared.specs.Lasting.{UpdatesAreFound, DeletionsAreFound, HeldValuesStay, FixedValuesStay};
 ghost use Rattle.bpf_shared.specs.Own.{OwnEventsTell};
 ghost use Rattle.bpf_shared.specs.Listing.{ListingsAreDetermined};
 
 /// Each store that a legal history leads to is sound: a held value is in a map or kept for the CPU
-/// that holds it, no two live values overlap, no map has too many keys.
+/// that holds it, no two live values overlap, no map has too many keys, and fixed values are there.
 pub fn legal_is_sound()
     ensures { LegalIsSound }
 {}
@@ -43,7 +43,13 @@ pub fn held_values_stay()
     ensures { HeldValuesStay }
 {}
 
-/// The bytes of one access lie in one held value.
+/// A fixed value stays in its place. A byte of it changes only by a write there, and a value that may
+/// only be read has the bytes that it had at first.
+pub fn fixed_values_stay()
+    ensures { FixedValuesStay }
+{}
+
+/// The bytes of one access lie in one value, held or fixed.
 pub fn one_value_is_reached()
     ensures { OneValueIsReached }
 {}

@@ -11,5 +11,7 @@ mod sharing;
 
 pub use events::{AtomicOp, Entry, Event, MapAnswer, Size, Span, ValuePlace};
 pub use key_list::KeyList;
-pub use shapes::{FIRST_VALUE, MAP_AREA, MapShape, ShapeError, StoreShape};
+pub use shapes::{
+    ArrayShape, FIRST_ARRAY, FIRST_VALUE, MAP_AREA, MapShape, ShapeError, StoreShape,
+};
 pub use sharing::{Shared, Worn};

@@ -1,16 +1,17 @@
 -- What is so of each spot of a chart is so of each run.
 use Rattle.std.proofs.Common.{◌≡◌, ℕ, zero, suc, ◌+◌, ◌≤◌, List, Option, Some, None, ◌⊎◌, inl, inr, refl, sym, ap, subst, ◌∙◌, arith}
+use Rattle.bpf_shared.specs.Shape.{Shape}
 use Rattle.std.specs.Prelude.{IfSome, slice_get}
 use Rattle.bpf_insn.specs.declared.instruction.Insn.{Insn}
 use Rattle.bpf_insn.specs.declared.instruction.Insn.TheVariants.{CallHelper}
-use Rattle.bpf_insn.specs.declared.register.Reg.TheVariants.{R2, R3}
+use Rattle.bpf_insn.specs.declared.register.Reg.TheVariants.{R1, R2, R3}
 use Rattle.bpf_shared.specs.declared.events.Event.{Event}
-use Rattle.bpf_shared.specs.declared.shapes.MapShape.{MapShape}
+use Rattle.bpf_shared.specs.declared.shapes.ArrayShape.{ArrayShape}
 use Rattle.bpf_loader.specs.Loaded.{Loaded}
 use Rattle.bpf_loader.specs.Places.{Begins, IsStart}
 use Rattle.bpf_loader.specs.Sound.{IsSafe}
 use Rattle.bpf_loader.proofs.DeterminedPlaces.{one_instruction_begins}
-use Rattle.bpf_helpers.specs.Calls.{processor_number}
+use Rattle.bpf_helpers.specs.Calls.{processor_number, IsArrayAt}
 use Rattle.bpf_cpu.specs.declared.cpu.Cpu.{Cpu}
 use Rattle.bpf_cpu.specs.declared.outcome.Progress.TheVariants.{On, Done}
 use Rattle.bpf_cpu.specs.declared.outcome.Outcome.{Outcome}
@@ -22,8 +23,8 @@ use Rattle.bpf_threads.specs.declared.counting.Counted.{Counted}
 use Rattle.bpf_threads.specs.declared.spot.Spot.{Spot}
 use Rattle.bpf_threads.specs.Chart.{FollowsSpots, IsChart, IsCharted}
 use Rattle.bpf_threads.specs.Counting.{how_many, weight, HasNumber, LeavesEnough, AreAllBounds, HasAtMost}
-use Rattle.bpf_threads.specs.Outside.{IsOutsideValues, ReadsOutside, LeadsInSteps, AllReadOutside}
-use Rattle.bpf_threads.specs.Private.Outside.{PlaceReadsOutside, ReadsOutsideAt}
+use Rattle.bpf_threads.specs.Outside.{IsCopiedAtOnce, IsOutsideValues, ReadsOutside, LeadsInSteps, AllReadOutside}
+use Rattle.bpf_threads.specs.Private.Outside.{PlaceReadsOutside, ReadsOutsideAt, UpdatesAtOnce}
 use Rattle.bpf_threads.proofs.Standing.{Stands, Arrives, Comes, comes, knows}
 use Rattle.bpf_threads.proofs.Steps.{step_counts, append_counts}
 
@@ -38,17 +39,17 @@ module _ (program : Loaded) (spots : List Spot) (chart : IsChart program spots) 
   follows_at p old at spot i begins =
       subst (FollowsSpots spots p) (same_instruction p old at spot.instruction i spot.begins begins) spot.follows
 
-  ready_after : (p : Spot) (old new : Cpu) (shapes : List MapShape) (events : List Event) → Stands program p old → IsCharted program spots p → Step shapes program old events On new → IsReady program new
-  ready_after p old new shapes events at spot step =
+  ready_after : (p : Spot) (old new : Cpu) (shape : Shape) (events : List Event) → Stands program p old → IsCharted program spots p → Step shape program old events On new → IsReady program new
+  ready_after p old new shape events at spot step =
       let same = same_instruction p old at spot.instruction step.instruction spot.begins step.begins in
-      let safe = subst (λ (i : Insn). IsSafe program.maps program.instructions p.pc i) same spot.safe in
-      let here = subst (λ (pc : ℕ). IsSafe program.maps program.instructions pc step.instruction) (sym at.here) safe in
-      executes_ready program old new at.ready shapes step.instruction events On here step.row
+      let safe = subst (λ (i : Insn). IsSafe program.named program.instructions p.pc i) same spot.safe in
+      let here = subst (λ (pc : ℕ). IsSafe program.named program.instructions pc step.instruction) (sym at.here) safe in
+      executes_ready program old new at.ready shape step.instruction events On here step.row
 
   -- a step that goes on leads to a spot that comes next
-  step_comes : (p : Spot) (old new : Cpu) (shapes : List MapShape) (events : List Event) → Stands program p old → IsCharted program spots p → Step shapes program old events On new → Comes program spots p new
-  step_comes p old new shapes events at spot step =
-      comes program p old at spots new (ready_after p old new shapes events at spot step) shapes step.instruction events (follows_at p old at spot step.instruction step.begins) step.row
+  step_comes : (p : Spot) (old new : Cpu) (shape : Shape) (events : List Event) → Stands program p old → IsCharted program spots p → Step shape program old events On new → Comes program spots p new
+  step_comes p old new shape events at spot step =
+      comes program p old at spots new (ready_after p old new shape events at spot step) shape step.instruction events (follows_at p old at spot step.instruction step.begins) step.row
 
   -- runs begin at the first spot
   begins : (number : ℕ) (context : List ℕ) → (ready : IsReady program (start number context)) → Stands program chart.first.0 (start number context)
@@ -75,58 +76,63 @@ module _ (program : Loaded) (spots : List Spot) (chart : IsChart program spots) 
     left_next p own n new next jump (inl arrives) = left_there p.next own n new next arrives
     left_next p own n new next jump (inr arrives) = left_there p.jump own n new jump arrives
 
-    counts_from : (shapes : List MapShape) (steps k n : ℕ) (p : Spot) (old : Cpu) (events : List Event) (end : Outcome) (last : Cpu)
-        → slice_get spots k ≡ Some p → HasNumber most k n → Stands program p old → MakesSteps shapes program steps old events end last → how_many q events ≤ n
-    counts_from shapes zero k n p old events end last here number at made = subst (λ (es : List Event). how_many q es ≤ n) (sym made.0) (omega arith)
-    counts_from shapes (suc steps) k n p old events end last here number at (inl step) =
+    counts_from : (shape : Shape) (steps k n : ℕ) (p : Spot) (old : Cpu) (events : List Event) (end : Outcome) (last : Cpu)
+        → slice_get spots k ≡ Some p → HasNumber most k n → Stands program p old → MakesSteps shape program steps old events end last → how_many q events ≤ n
+    counts_from shape zero k n p old events end last here number at made = subst (λ (es : List Event). how_many q es ≤ n) (sym made.0) (omega arith)
+    counts_from shape (suc steps) k n p old events end last here number at (inl step) =
         let spot = chart.each k p here in
         let begins_here = subst (λ (pc : ℕ). Begins program.instructions pc step.instruction) at.here step.begins in
         let falls = numbers k p n here number step.instruction begins_here in
-        let own = step_counts q p old at.known shapes step.instruction events (Done end) last step.row in
+        let own = step_counts q p old at.known shape step.instruction events (Done end) last step.row in
         omega (arith, own, falls.0)
-    counts_from shapes (suc steps) k n p old events end last here number at (inr (first, rest, mid, parts, step, made)) =
+    counts_from shape (suc steps) k n p old events end last here number at (inr (first, rest, mid, parts, step, made)) =
         let spot = chart.each k p here in
         let begins_here = subst (λ (pc : ℕ). Begins program.instructions pc step.instruction) at.here step.begins in
         let falls = numbers k p n here number step.instruction begins_here in
-        let own = step_counts q p old at.known shapes step.instruction first On mid step.row in
-        let next = left_next p (weight q p step.instruction) n mid falls.1 falls.2 (step_comes p old mid shapes first at spot step) in
-        let behind = counts_from shapes steps next.0 next.2 next.1 mid rest end last next.3 next.5 next.4 made in
+        let own = step_counts q p old at.known shape step.instruction first On mid step.row in
+        let next = left_next p (weight q p step.instruction) n mid falls.1 falls.2 (step_comes p old mid shape first at spot step) in
+        let behind = counts_from shape steps next.0 next.2 next.1 mid rest end last next.3 next.5 next.4 made in
         let all : how_many q events ≡ how_many q first + how_many q rest = ap (how_many q) parts ∙ append_counts q first rest in
         omega (arith, own, behind, next.6, all)
 
     pub has_at_most : (n : ℕ) → HasNumber most 0 n → HasAtMost q program n
-    has_at_most n number shapes cpu steps context events end last made =
-        counts_from shapes steps 0 n chart.first.0 (start cpu context) events end last chart.first.1 number (begins cpu context (start_there cpu context)) made
+    has_at_most n number shape cpu steps context events end last made =
+        counts_from shape steps 0 n chart.first.0 (start cpu context) events end last chart.first.1 number (begins cpu context (start_there cpu context)) made
 
   -- ---- what is read
-  module _ (outside : (k : ℕ) → PlaceReadsOutside program spots k) where
-    lies : (p : Spot) (now : Cpu) (at : Stands program p now) (n : ℕ) → ReadsOutsideAt p (CallHelper n) → (n ≡ processor_number) ⊎ ReadsOutside n now.registers
+  module _ (shape : Shape) (outside : (k : ℕ) → PlaceReadsOutside shape.arrays program spots k) where
+    at_once : (p : Spot) (now : Cpu) (at : Stands program p now) → UpdatesAtOnce shape.arrays p → (a : ℕ) (g : ArrayShape) → IsArrayAt shape.arrays now.registers a g → IsCopiedAtOnce g
+    at_once p now at (inl (x, known, is)) a g array = is a g array.1 (sym (knows program p now at R1 x known) ∙ array.0)
+    at_once p now at (inr all) a g array = all a g array.1
+
+    lies : (p : Spot) (now : Cpu) (at : Stands program p now) (n : ℕ) → ReadsOutsideAt shape.arrays p (CallHelper n) → (n ≡ processor_number) ⊎ ReadsOutside shape.arrays n now.registers
     lies p now at n (inl own) = inl own
     lies p now at n (inr (key, value)) = inr (record {
       key = subst (λ (a : ℕ). IsOutsideValues a 64) (sym (knows program p now at R2 key.0 key.1)) key.2;
-      value = λ update. let v = value update in subst (λ (a : ℕ). IsOutsideValues a 256) (sym (knows program p now at R3 v.0 v.1)) v.2;
+      value = λ update. let v = (value update).0 in subst (λ (a : ℕ). IsOutsideValues a 65536) (sym (knows program p now at R3 v.0 v.1)) v.2;
+      at_once = λ update. at_once p now at (value update).1;
     })
 
     reads_here : (k : ℕ) (p : Spot) (old now : Cpu) (helper : ℕ) → slice_get spots k ≡ Some p → Stands program p old → now ≡ old
-        → Begins program.instructions now.pc (CallHelper helper) → (helper ≡ processor_number) ⊎ ReadsOutside helper now.registers
+        → Begins program.instructions now.pc (CallHelper helper) → (helper ≡ processor_number) ⊎ ReadsOutside shape.arrays helper now.registers
     reads_here k p old now helper here at same begins =
         let moved = subst (λ (c : Cpu). Stands program p c) (sym same) at in
         lies p now moved helper (outside k p here (CallHelper helper) (subst (λ (pc : ℕ). Begins program.instructions pc (CallHelper helper)) moved.here begins))
 
-    reads_from : (shapes : List MapShape) (steps k : ℕ) (p : Spot) (old now : Cpu) (helper : ℕ) → slice_get spots k ≡ Some p → Stands program p old → LeadsInSteps shapes program steps old now
-        → Begins program.instructions now.pc (CallHelper helper) → (helper ≡ processor_number) ⊎ ReadsOutside helper now.registers
-    reads_from shapes zero k p old now helper here at same begins = reads_here k p old now helper here at same begins
-    reads_from shapes (suc steps) k p old now helper here at (inl same) begins = reads_here k p old now helper here at same begins
-    reads_from shapes (suc steps) k p old now helper here at (inr (events, mid, step, leads)) begins =
+    reads_from : (steps k : ℕ) (p : Spot) (old now : Cpu) (helper : ℕ) → slice_get spots k ≡ Some p → Stands program p old → LeadsInSteps shape program steps old now
+        → Begins program.instructions now.pc (CallHelper helper) → (helper ≡ processor_number) ⊎ ReadsOutside shape.arrays helper now.registers
+    reads_from zero k p old now helper here at same begins = reads_here k p old now helper here at same begins
+    reads_from (suc steps) k p old now helper here at (inl same) begins = reads_here k p old now helper here at same begins
+    reads_from (suc steps) k p old now helper here at (inr (events, mid, step, leads)) begins =
         let spot = chart.each k p here in
-        elim (step_comes p old mid shapes events at spot step) as (λ _. (helper ≡ processor_number) ⊎ ReadsOutside helper now.registers) [
-          | inl next ↦ reads_from shapes steps next.0 next.1 mid now helper next.3 next.4 leads begins
-          | inr jump ↦ reads_from shapes steps jump.0 jump.1 mid now helper jump.3 jump.4 leads begins
+        elim (step_comes p old mid shape events at spot step) as (λ _. (helper ≡ processor_number) ⊎ ReadsOutside shape.arrays helper now.registers) [
+          | inl next ↦ reads_from steps next.0 next.1 mid now helper next.3 next.4 leads begins
+          | inr jump ↦ reads_from steps jump.0 jump.1 mid now helper jump.3 jump.4 leads begins
         ]
 
-    pub all_read_outside : AllReadOutside program
-    all_read_outside shapes cpu steps context now helper leads begins_there =
-        reads_from shapes steps 0 chart.first.0 (start cpu context) now helper chart.first.1 (begins cpu context (start_there cpu context)) leads begins_there
+    pub all_read_outside : AllReadOutside shape program
+    all_read_outside cpu steps context now helper leads begins_there =
+        reads_from steps 0 chart.first.0 (start cpu context) now helper chart.first.1 (begins cpu context (start_there cpu context)) leads begins_there
 
 pub found_at_most : (program : Loaded) (spots : List Spot) → IsChart program spots → (q : Counted) (most : List (Option ℕ)) → AreAllBounds q program spots most → (o : Option ℕ) → IfSome o (HasNumber most 0) → IfSome o (HasAtMost q program)
 found_at_most program spots chart q most numbers None has = has

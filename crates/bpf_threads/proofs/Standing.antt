@@ -1,5 +1,6 @@
 -- A CPU that is at a spot of a chart is at one after each step.
 use Rattle.std.proofs.Common.{◌≡◌, ℕ, zero, suc, ◌+◌, ◌<◌, ◌≤◌, ℤ, pos, Bool, true, false, List, [], ◌∷◌, ◌++◌, length, map, Option, Some, None, Result, Ok, Err, ◌⊎◌, inl, inr, refl, sym, ap, subst, ◌∙◌, arith, get_or-set_same, get_or-set_other}
+use Rattle.bpf_shared.specs.Shape.{Shape}
 use Rattle.std.specs.Prelude.{IfSome, slice_get, slice_set, slice_index}
 use Rattle.std.proofs.lemmas.List.{length-map, map_push, length-set}
 use Rattle.std.proofs.lemmas.Option.{slice_get_within}
@@ -26,7 +27,6 @@ use Rattle.bpf_mem.specs.Limits.{max_frames}
 use Rattle.bpf_mem.specs.declared.frames.Caller.{Caller}
 use Rattle.bpf_shared.specs.declared.events.Event.{Event}
 use Rattle.bpf_shared.specs.declared.events.Span.{Span}
-use Rattle.bpf_shared.specs.declared.shapes.MapShape.{MapShape}
 use Rattle.bpf_shared.proofs.Puts.{equal_or_not}
 use Rattle.bpf_loader.specs.Loaded.{Loaded}
 use Rattle.bpf_loader.specs.Places.{target}
@@ -276,25 +276,25 @@ module _ (program : Loaded) (p : Spot) (old : Cpu) (at : Stands program p old) w
     quiet (insn.Atomic w op b o s) (known, e, there) row = operated w op s (effective_address old b o) (subst (Leads 1) e there) row
 
     -- ---- accesses to held values
-    value_loaded : (z : Size) (reading : ℕ → ℕ) (d : Reg) (a : ℕ) (events : List Event) → Leads 1 (slice_set p.known (register_number d) None) → LoadsValue z reading d a old events On new → Comes program spots p new
-    value_loaded z reading d a events there (inl odd) = absurd (let no : On ≡ Done _ = odd.2.0 in cc)
-    value_loaded z reading d a events there (inr row) = inl (on _ 1 _ row.1.3 refl refl (forget_holds p.known old.registers (register_number d) _ at.known) there)
+    value_loaded : (shape : Shape) (z : Size) (reading : ℕ → ℕ) (d : Reg) (a : ℕ) (events : List Event) → Leads 1 (slice_set p.known (register_number d) None) → LoadsValue shape z reading d a old events On new → Comes program spots p new
+    value_loaded shape z reading d a events there (inl odd) = absurd (let no : On ≡ Done _ = odd.3.0 in cc)
+    value_loaded shape z reading d a events there (inr row) = inl (on _ 1 _ row.1.3 refl refl (forget_holds p.known old.registers (register_number d) _ at.known) there)
 
-    value_stored : (z : Size) (a x : ℕ) (events : List Event) → Leads 1 p.known → StoresValue z a x old events On new → Comes program spots p new
-    value_stored z a x events there (inl odd) = absurd (let no : On ≡ Done _ = odd.2.0 in cc)
-    value_stored z a x events there (inr row) = inl (on _ 1 _ row.3 refl refl at.known there)
+    value_stored : (shape : Shape) (z : Size) (a x : ℕ) (events : List Event) → Leads 1 p.known → StoresValue shape z a x old events On new → Comes program spots p new
+    value_stored shape z a x events there (inl odd) = absurd (let no : On ≡ Done _ = odd.3.0 in cc)
+    value_stored shape z a x events there (inr row) = inl (on _ 1 _ row.3 refl refl at.known there)
 
-    value_changed : (w : Width) (op : AtomicOp) (s : Reg) (a : ℕ) (events : List Event) → Leads 1 (forgetting (fetched_into op s) p.known) → ChangesValue w op s a old events On new → Comes program spots p new
-    value_changed w op s a events there (inl odd) = absurd (let no : On ≡ Done _ = odd.2.0 in cc)
-    value_changed w op s a events there (inr row) = inl (on _ 1 _ row.1.3 refl refl (fetch_holds p.known old.registers (fetched_into op s) row.1.0 at.known) there)
+    value_changed : (shape : Shape) (w : Width) (op : AtomicOp) (s : Reg) (a : ℕ) (events : List Event) → Leads 1 (forgetting (fetched_into op s) p.known) → ChangesValue shape w op s a old events On new → Comes program spots p new
+    value_changed shape w op s a events there (inl odd) = absurd (let no : On ≡ Done _ = odd.3.0 in cc)
+    value_changed shape w op s a events there (inr row) = inl (on _ 1 _ row.1.3 refl refl (fetch_holds p.known old.registers (fetched_into op s) row.1.0 at.known) there)
 
-    asked : (i : Insn) (events : List Event) → FollowsSpots spots p i → AsksValue i old events On new → Comes program spots p new
-    asked (insn.Load z d b o) events (known, e, there) row = value_loaded z (λ x. x) d (effective_address old b o) events (subst (Leads 1) e there) row
-    asked (insn.LoadSigned z d b o) events (known, e, there) row = value_loaded (plain_size z) (sign_extended (extension_of z)) d (effective_address old b o) events (subst (Leads 1) e there) row
-    asked (insn.StoreImmediate z b o n) events (known, e, there) row = value_stored z (effective_address old b o) (cast_unsigned w64 n) events (subst (Leads 1) e there) row
-    asked (insn.Store z b o s) events (known, e, there) row = value_stored z (effective_address old b o) (value old s) events (subst (Leads 1) e there) row
-    asked (insn.Atomic w op b o s) events (known, e, there) row = value_changed w op s (effective_address old b o) events (subst (Leads 1) e there) row
-    asked _ events follows row = absurd row
+    asked : (shape : Shape) (i : Insn) (events : List Event) → FollowsSpots spots p i → AsksValue shape i old events On new → Comes program spots p new
+    asked shape (insn.Load z d b o) events (known, e, there) row = value_loaded shape z (λ x. x) d (effective_address old b o) events (subst (Leads 1) e there) row
+    asked shape (insn.LoadSigned z d b o) events (known, e, there) row = value_loaded shape (plain_size z) (sign_extended (extension_of z)) d (effective_address old b o) events (subst (Leads 1) e there) row
+    asked shape (insn.StoreImmediate z b o n) events (known, e, there) row = value_stored shape z (effective_address old b o) (cast_unsigned w64 n) events (subst (Leads 1) e there) row
+    asked shape (insn.Store z b o s) events (known, e, there) row = value_stored shape z (effective_address old b o) (value old s) events (subst (Leads 1) e there) row
+    asked shape (insn.Atomic w op b o s) events (known, e, there) row = value_changed shape w op s (effective_address old b o) events (subst (Leads 1) e there) row
+    asked shape _ events follows row = absurd row
 
     -- ---- a helper's call
     taken : (result : Result ℕ HelperFault) (held : List Span) (n : ℕ) → FollowsSpots spots p (insn.CallHelper n) → TakesResult result held old On new → Comes program spots p new
@@ -303,7 +303,7 @@ module _ (program : Loaded) (p : Spot) (old : Cpu) (at : Stands program p old) w
     taken (Err fault) held n follows row = absurd (let no : On ≡ Done _ = row.0 in cc)
 
     -- after a step that goes on the CPU is at a spot that comes next
-    pub comes : (shapes : List MapShape) (i : Insn) (events : List Event) → FollowsSpots spots p i → Executes shapes i old events On new → Comes program spots p new
-    comes shapes i events follows (inl row) = quiet i follows row.2
-    comes shapes i events follows (inr (inl call)) = taken call.2.0 call.2.1 call.0 (subst (FollowsSpots spots p) call.1 follows) call.2.3
-    comes shapes i events follows (inr (inr row)) = asked i events follows row.1
+    pub comes : (shape : Shape) (i : Insn) (events : List Event) → FollowsSpots spots p i → Executes shape i old events On new → Comes program spots p new
+    comes shape i events follows (inl row) = quiet i follows row.2
+    comes shape i events follows (inr (inl call)) = taken call.2.0 call.2.1 call.0 (subst (FollowsSpots spots p) call.1 follows) call.2.3
+    comes shape i events follows (inr (inr row)) = asked shape i events follows row.1

@@ -1,5 +1,5 @@
 -- How many counted events a step has, and what follows for runs.
-use Rattle.std.proofs.Common.{◌≡◌, ℕ, suc, ◌+◌, ◌<◌, ◌≤◌, Bool, true, false, List, [], ◌∷◌, ◌++◌, Option, Some, None, Result, inl, inr, refl, sym, ap, subst, ◌∙◌, arith, eq-eqb}
+use Rattle.std.proofs.Common.{◌≡◌, ℕ, suc, ◌+◌, ◌<◌, ◌≤◌, Bool, true, false, List, [], ◌∷◌, ◌++◌, Option, Some, None, Result, inl, inr, refl, sym, ap, subst, ◌∙◌, take, drop, arith, eq-eqb}
 use Rattle.std.specs.Prelude.{◌==◌, ◌&&◌, slice_get, slice_index}
 use Rattle.bpf_insn.specs.declared.instruction.Insn.{Insn}
 use Rattle.bpf_insn.specs.declared.instruction.Insn.TheVariants as insn
@@ -7,7 +7,10 @@ use Rattle.bpf_mem.specs.declared.memory.PrivateMemory.{PrivateMemory}
 use Rattle.bpf_shared.specs.declared.events.Event.{Event}
 use Rattle.bpf_shared.specs.declared.events.Event.TheVariants.{Lookup, Update, Delete, Load, Store, Atomic}
 use Rattle.bpf_shared.specs.declared.events.Size.{Size}
-use Rattle.bpf_shared.specs.declared.events.Size.TheVariants.{Byte}
+use Rattle.bpf_shared.specs.declared.events.Size.TheVariants.{Byte, Word}
+use Rattle.bpf_shared.specs.Access.{bytes_in}
+use Rattle.bpf_shared.specs.Shape.{Shape, fixed_span}
+use Rattle.bpf_base.specs.Bytes.{little_endian}
 use Rattle.bpf_base.specs.declared.atomic.Change.{Change as AtomicOp}
 use Rattle.std.proofs.lemmas.Bool.Decides.{nat_tests}
 use Rattle.std.specs.Int.{w64, cast_unsigned}
@@ -24,8 +27,10 @@ use Rattle.bpf_cpu.specs.Row.{plain_size, extension_of}
 use Rattle.bpf_shared.specs.declared.events.MapAnswer.{MapAnswer}
 use Rattle.bpf_shared.specs.declared.events.Span.{Span}
 use Rattle.bpf_shared.specs.declared.shapes.MapShape.{MapShape}
-use Rattle.bpf_helpers.specs.Calls.{lookup_number, update_number, delete_number, map_value, LooksUp, UpdatesMap, DeletesKey, CallsMap, CallsHelper}
-use Rattle.bpf_helpers.specs.Reads.{Reads, loads}
+use Rattle.bpf_shared.specs.declared.shapes.ArrayShape.{ArrayShape}
+use Rattle.bpf_helpers.specs.Arrays.{array_refusal, copies, parts_of}
+use Rattle.bpf_helpers.specs.Calls.{lookup_number, update_number, delete_number, map_value, copy_for, LooksUp, UpdatesMap, DeletesKey, CallsMap, Copies, StopsAtKey, LooksUpIndex, Answers, UpdatesIndex, DeletesIndex, CallsArray, CallsHelper}
+use Rattle.bpf_helpers.specs.Reads.{Reads, ReadsIndex, loads, no_loads}
 use Rattle.bpf_helpers.specs.declared.fault.HelperFault.{HelperFault}
 use Rattle.bpf_cpu.specs.declared.cpu.Cpu.{Cpu}
 use Rattle.bpf_cpu.specs.declared.outcome.Progress.{Progress}
@@ -70,9 +75,9 @@ none_loaded q a (b ∷ bytes) =
     omega (arith, first, none_loaded q (suc a) bytes)
 
 -- reading a key or a value has no counted event
-none_read : (q : Counted) (memory : PrivateMemory) (held : List Span) (a n : ℕ) (bytes : List ℕ) (events : List Event) → Reads memory held a n bytes events → how_many q events ≡ 0
-none_read q memory held a n bytes events (inl own) = ap (how_many q) own.1
-none_read q memory held a n bytes events (inr held_bytes) = ap (how_many q) held_bytes.3 ∙ none_loaded q a bytes
+none_read : (q : Counted) (s : Shape) (memory : PrivateMemory) (held : List Span) (a n : ℕ) (bytes : List ℕ) (events : List Event) → Reads s memory held a n bytes events → how_many q events ≡ 0
+none_read q s memory held a n bytes events (inl own) = ap (how_many q) own.1
+none_read q s memory held a n bytes events (inr held_bytes) = ap (how_many q) held_bytes.3 ∙ none_loaded q a bytes
 
 -- ---- a helper's call
 known_there : (o : Option (Option ℕ)) (x : ℕ) → known_in o ≡ Some x → o ≡ Some (Some x)
@@ -105,7 +110,7 @@ counted_weight true c is = subst (λ (x : Bool). 1 ≤ one_if x) (sym (is refl))
 same_number : (a b : ℕ) → (a == b) ≡ true → a ≡ b
 same_number a b e = grind (arith, nat_tests)
 
-module _ (q : Counted) (p : Spot) (registers : List ℕ) (h : IsKnownOf p.known registers) (shapes : List MapShape) (m : ℕ) (is : slice_index registers 1 ≡ map_value m) where
+module _ (q : Counted) (p : Spot) (registers : List ℕ) (h : IsKnownOf p.known registers) (s : Shape) (m : ℕ) (is : slice_index registers 1 ≡ map_value m) where
   here : m ≡ q.map → may_be (known_at p 1) q.map ≡ true
   here same = map_seen (known_at p 1) q.map (slice_index registers 1) (λ x e. read_known p registers h 1 x (omega arith) e) (is ∙ ap map_value same)
 
@@ -125,76 +130,137 @@ module _ (q : Counted) (p : Spot) (registers : List ℕ) (h : IsKnownOf p.known 
       ap (how_many q) is_last ∙ omega (arith, count-append q first (e ∷ []), none)
 
   module _ (memory : PrivateMemory) (shape : MapShape) (held after : List Span) (events : List Event) (result : Result ℕ HelperFault) where
-    lookup_counts : LooksUp memory registers m shape held events result after → how_many q events ≤ weight q p (insn.CallHelper lookup_number)
+    lookup_counts : LooksUp s memory registers held m shape events result after → how_many q events ≤ weight q p (insn.CallHelper lookup_number)
     lookup_counts (inl stops) = subst (λ (es : List Event). how_many q es ≤ weight q p (insn.CallHelper lookup_number)) (sym stops.1.0) (omega arith)
     lookup_counts (inr (key, first, answer, reads, e, takes)) =
-        let none = none_read q memory held (slice_index registers 2) shape.key key first reads in
+        let none = none_read q s memory held (slice_index registers 2) shape.key key first reads in
         let last : how_many q events ≡ 0 = last_counts first events (Lookup m key answer) none e ∙ ap one_if (lookup_uncounted q.kind m key answer q.map) in
         omega (arith, last)
 
-    update_counts : UpdatesMap memory registers m shape held events result after → how_many q events ≤ weight q p (insn.CallHelper update_number)
+    update_counts : UpdatesMap s memory registers held m shape events result after → how_many q events ≤ weight q p (insn.CallHelper update_number)
     update_counts (inl stops) = subst (λ (es : List Event). how_many q es ≤ weight q p (insn.CallHelper update_number)) (sym stops.1.0) (omega arith)
     update_counts (inr (key, bytes, first, second, answer, reads, more, e, number, same)) =
-        let none = none_read q memory held (slice_index registers 2) shape.key key first reads in
-        let nor = none_read q memory held (slice_index registers 3) shape.value bytes second more in
+        let none = none_read q s memory held (slice_index registers 2) shape.key key first reads in
+        let nor = none_read q s memory held (slice_index registers 3) shape.value bytes second more in
         let both : how_many q (first ++ second) ≡ 0 = omega (arith, count-append q first second, none, nor) in
         let last = last_counts (first ++ second) events (Update m key bytes (slice_index registers 4) answer) both e in
         let most = counted_weight _ _ (update_weight q.kind key bytes answer) in
         omega (arith, last, most)
 
-    delete_counts : DeletesKey memory registers m shape held events result after → how_many q events ≤ weight q p (insn.CallHelper delete_number)
+    delete_counts : DeletesKey s memory registers held m shape events result after → how_many q events ≤ weight q p (insn.CallHelper delete_number)
     delete_counts (inl stops) = subst (λ (es : List Event). how_many q es ≤ weight q p (insn.CallHelper delete_number)) (sym stops.1.0) (omega arith)
     delete_counts (inr (key, first, answer, reads, e, number, same)) =
-        let none = none_read q memory held (slice_index registers 2) shape.key key first reads in
+        let none = none_read q s memory held (slice_index registers 2) shape.key key first reads in
         let last = last_counts first events (Delete m key answer) none e in
         let most = counted_weight _ _ (delete_weight q.kind key answer) in
         omega (arith, last, most)
 
-    map_counts : (n : ℕ) → CallsMap memory registers m shape held n events result after → how_many q events ≤ weight q p (insn.CallHelper n)
+    map_counts : (n : ℕ) → CallsMap s memory registers held m shape n events result after → how_many q events ≤ weight q p (insn.CallHelper n)
     map_counts n (inl (e, row)) = subst (λ (k : ℕ). how_many q events ≤ weight q p (insn.CallHelper k)) (sym e) (lookup_counts row)
     map_counts n (inr (inl (e, row))) = subst (λ (k : ℕ). how_many q events ≤ weight q p (insn.CallHelper k)) (sym e) (update_counts row)
     map_counts n (inr (inr (e, row))) = subst (λ (k : ℕ). how_many q events ≤ weight q p (insn.CallHelper k)) (sym e) (delete_counts row)
+
+-- ---- a call on an array has loads and stores alone
+module _ (q : Counted) where
+  none_copied : (reading : ℕ → List ℕ → List Event) → ((a : ℕ) (bytes : List ℕ) → how_many q (reading a bytes) ≡ 0)
+      → (from to : ℕ) (sizes : List Size) (bytes : List ℕ) → how_many q (copies reading from to sizes bytes) ≡ 0
+  none_copied reading none from to [] bytes = refl
+  none_copied reading none from to (z ∷ sizes) bytes =
+      let part = take (bytes_in z) bytes in
+      let store = Store to z (little_endian part) in
+      let rest = copies reading (from + bytes_in z) (to + bytes_in z) sizes (drop (bytes_in z) bytes) in
+      let both : how_many q (reading from part ++ store ∷ rest) ≡ how_many q (reading from part) + how_many q (store ∷ rest) = count-append q (reading from part) (store ∷ rest) in
+      let stored : one_if (is_counted q.kind store q.map) ≡ 0 = ap one_if (store_uncounted q.kind to z (little_endian part) q.map) in
+      let behind = none_copied reading none (from + bytes_in z) (to + bytes_in z) sizes (drop (bytes_in z) bytes) in
+      omega (arith, both, none from part, stored, behind)
+
+  value_counts : (memory : PrivateMemory) (from to n : ℕ) (events : List Event) → Copies memory from to n events → how_many q events ≡ 0
+  value_counts memory from to n events (inl (bytes, own, e)) =
+      ap (how_many q) e ∙ none_copied no_loads (λ a xs. refl) from to (parts_of n) bytes
+  value_counts memory from to n events (inr (bytes, none, size, e)) =
+      ap (how_many q) e ∙ none_copied loads (none_loaded q) from to (parts_of n) bytes
+
+  module _ (s : Shape) (memory : PrivateMemory) (registers : List ℕ) (held : List Span) where
+    index_counts : (a index : ℕ) (events : List Event) → ReadsIndex s memory held a index events → how_many q events ≡ 0
+    index_counts a index events (inl (key, own, number, e)) = ap (how_many q) e
+    index_counts a index events (inr (none, reached, even, e)) =
+        ap (how_many q) e ∙ one_uncounted q (Load a Word index) (load_uncounted q.kind a Word index q.map)
+
+    answer_counts : (to n : ℕ) (refusal : Option ℕ) (events : List Event) (result : Result ℕ HelperFault) → Answers s memory registers held to n refusal events result → how_many q events ≡ 0
+    answer_counts to n (Some refusal) events result row = ap (how_many q) row.0
+    answer_counts to n None events result row = value_counts memory (slice_index registers 3) to n events row.1
+
+    module _ (cpu a : ℕ) (g : ArrayShape) (events : List Event) (result : Result ℕ HelperFault) (after : List Span) where
+      stop_counts : StopsAtKey s memory registers held events result after → how_many q events ≡ 0
+      stop_counts (inl bad) = ap (how_many q) bad.1.0
+      stop_counts (inr odd) = ap (how_many q) odd.1.0
+
+      look_counts : LooksUpIndex s memory registers held cpu a g events result after → how_many q events ≡ 0
+      look_counts (inl stops) = stop_counts stops
+      look_counts (inr (index, reads, is, same)) = index_counts (slice_index registers 2) index events reads
+
+      change_counts : UpdatesIndex s memory registers held cpu a g events result after → how_many q events ≡ 0
+      change_counts (inl bad) = ap (how_many q) bad.1.0
+      change_counts (inr (inl odd)) = ap (how_many q) odd.2.0
+      change_counts (inr (inr (index, first, rest, may, reads, e, answers, same))) =
+          let none = index_counts (slice_index registers 2) index first reads in
+          let to = (fixed_span a g (copy_for cpu g) index).at in
+          let nor = answer_counts to g.value (array_refusal g index (slice_index registers 4)) rest result answers in
+          let all : how_many q events ≡ how_many q first + how_many q rest = ap (how_many q) e ∙ count-append q first rest in
+          omega (arith, none, nor, all)
+
+      remove_counts : DeletesIndex s memory registers held events result after → how_many q events ≡ 0
+      remove_counts (inl stops) = stop_counts stops
+      remove_counts (inr row) = ap (how_many q) row.2
+
+    array_counts : (cpu a : ℕ) (g : ArrayShape) (n : ℕ) (events : List Event) (result : Result ℕ HelperFault) (after : List Span) → CallsArray s memory registers held cpu a g n events result after → how_many q events ≡ 0
+    array_counts cpu a g n events result after (inl (e, row)) = look_counts cpu a g events result after row
+    array_counts cpu a g n events result after (inr (inl (e, row))) = change_counts cpu a g events result after row
+    array_counts cpu a g n events result after (inr (inr (e, row))) = remove_counts cpu a g events result after row
 
 module _ (q : Counted) (p : Spot) (old : Cpu) (h : IsKnownOf p.known old.registers) where
   none_at_all : (events : List Event) (i : Insn) → events ≡ [] → how_many q events ≤ weight q p i
   none_at_all events i e = subst (λ (es : List Event). how_many q es ≤ weight q p i) (sym e) (omega arith)
 
-  call_counts : (shapes : List MapShape) (n : ℕ) (events : List Event) (result : Result ℕ HelperFault) (after : List Span)
-      → CallsHelper shapes n old.number old.registers old.memory old.held events result after → how_many q events ≤ weight q p (insn.CallHelper n)
-  call_counts shapes n events result after (inl own) = none_at_all events (insn.CallHelper n) own.1
-  call_counts shapes n events result after (inr (inl none)) = none_at_all events (insn.CallHelper n) none.2.0
-  call_counts shapes n events result after (inr (inr (m, shape, is, calls))) = map_counts q p old.registers h shapes m is.0 old.memory shape old.held after events result n calls
+  call_counts : (s : Shape) (n : ℕ) (events : List Event) (result : Result ℕ HelperFault) (after : List Span)
+      → CallsHelper s n old.number old.registers old.memory old.held events result after → how_many q events ≤ weight q p (insn.CallHelper n)
+  call_counts s n events result after (inl own) = none_at_all events (insn.CallHelper n) own.1
+  call_counts s n events result after (inr (inl none)) = none_at_all events (insn.CallHelper n) none.3.0
+  call_counts s n events result after (inr (inr (inl (m, shape, is, calls)))) = map_counts q p old.registers h s m is.0 old.memory shape old.held after events result n calls
+  call_counts s n events result after (inr (inr (inr (a, g, is, no_map, calls)))) =
+      let none = array_counts q s old.memory old.registers old.held old.number a g n events result after calls in
+      omega (arith, none)
 
   single : (i : Insn) (events : List Event) (e : Event) → is_counted q.kind e q.map ≡ false → events ≡ e ∷ [] → how_many q events ≤ weight q p i
   single i events e unseen is = let none : how_many q events ≡ 0 = ap (how_many q) is ∙ one_uncounted q e unseen in omega (arith, none)
 
-  module _ (i : Insn) (events : List Event) (progress : Progress) (new : Cpu) where
-    loads_count : (z : size.Size) (reading : ℕ → ℕ) (d : Reg) (a : ℕ) → LoadsValue z reading d a old events progress new → how_many q events ≤ weight q p i
-    loads_count z reading d a (inl odd) = none_at_all events i odd.1
+  module _ (s : Shape) (i : Insn) (events : List Event) (progress : Progress) (new : Cpu) where
+    loads_count : (z : size.Size) (reading : ℕ → ℕ) (d : Reg) (a : ℕ) → LoadsValue s z reading d a old events progress new → how_many q events ≤ weight q p i
+    loads_count z reading d a (inl odd) = none_at_all events i odd.2
     loads_count z reading d a (inr row) = single i events (Load a (event_size_of z) row.1.0) (load_uncounted q.kind a (event_size_of z) row.1.0 q.map) row.1.1
 
-    stores_count : (z : size.Size) (a x : ℕ) → StoresValue z a x old events progress new → how_many q events ≤ weight q p i
-    stores_count z a x (inl odd) = none_at_all events i odd.1
+    stores_count : (z : size.Size) (a x : ℕ) → StoresValue s z a x old events progress new → how_many q events ≤ weight q p i
+    stores_count z a x (inl odd) = none_at_all events i odd.2
     stores_count z a x (inr row) = single i events (Store a (event_size_of z) x) (store_uncounted q.kind a (event_size_of z) x q.map) row.1
 
-    changes_count : (w : Width) (op : ops.AtomicOp) (s : Reg) (a : ℕ) → ChangesValue w op s a old events progress new → how_many q events ≤ weight q p i
-    changes_count w op s a (inl odd) = none_at_all events i odd.1
-    changes_count w op s a (inr row) = single i events _ (atomic_uncounted q.kind a (event_size_of (size_of w)) (change_of op) (value old s) (slice_index old.registers 0) row.1.0 q.map) row.1.1
+    changes_count : (w : Width) (op : ops.AtomicOp) (r : Reg) (a : ℕ) → ChangesValue s w op r a old events progress new → how_many q events ≤ weight q p i
+    changes_count w op r a (inl odd) = none_at_all events i odd.2
+    changes_count w op r a (inr row) = single i events _ (atomic_uncounted q.kind a (event_size_of (size_of w)) (change_of op) (value old r) (slice_index old.registers 0) row.1.0 q.map) row.1.1
 
-  asks_count : (i : Insn) (events : List Event) (progress : Progress) (new : Cpu) → AsksValue i old events progress new → how_many q events ≤ weight q p i
-  asks_count (insn.Load z d b o) events progress new row = loads_count (insn.Load z d b o) events progress new z (λ x. x) d (effective_address old b o) row
-  asks_count (insn.LoadSigned z d b o) events progress new row = loads_count (insn.LoadSigned z d b o) events progress new (plain_size z) (sign_extended (extension_of z)) d (effective_address old b o) row
-  asks_count (insn.StoreImmediate z b o n) events progress new row = stores_count (insn.StoreImmediate z b o n) events progress new z (effective_address old b o) (cast_unsigned w64 n) row
-  asks_count (insn.Store z b o s) events progress new row = stores_count (insn.Store z b o s) events progress new z (effective_address old b o) (value old s) row
-  asks_count (insn.Atomic w op b o s) events progress new row = changes_count (insn.Atomic w op b o s) events progress new w op s (effective_address old b o) row
-  asks_count _ events progress new row = absurd row
+  asks_count : (shape : Shape) (i : Insn) (events : List Event) (progress : Progress) (new : Cpu) → AsksValue shape i old events progress new → how_many q events ≤ weight q p i
+  asks_count shape (insn.Load z d b o) events progress new row = loads_count shape (insn.Load z d b o) events progress new z (λ x. x) d (effective_address old b o) row
+  asks_count shape (insn.LoadSigned z d b o) events progress new row = loads_count shape (insn.LoadSigned z d b o) events progress new (plain_size z) (sign_extended (extension_of z)) d (effective_address old b o) row
+  asks_count shape (insn.StoreImmediate z b o n) events progress new row = stores_count shape (insn.StoreImmediate z b o n) events progress new z (effective_address old b o) (cast_unsigned w64 n) row
+  asks_count shape (insn.Store z b o s) events progress new row = stores_count shape (insn.Store z b o s) events progress new z (effective_address old b o) (value old s) row
+  asks_count shape (insn.Atomic w op b o s) events progress new row = changes_count shape (insn.Atomic w op b o s) events progress new w op s (effective_address old b o) row
+  asks_count shape _ events progress new row = absurd row
 
   -- a step has at most the counted events of its instruction's weight
-  pub step_counts : (shapes : List MapShape) (i : Insn) (events : List Event) (progress : Progress) (new : Cpu) → Executes shapes i old events progress new → how_many q events ≤ weight q p i
-  step_counts shapes i events progress new (inl row) = none_at_all events i row.1
-  step_counts shapes i events progress new (inr (inl (n, e, call))) =
-      subst (λ (j : Insn). how_many q events ≤ weight q p j) (sym e) (call_counts shapes n events call.0 call.1 call.2)
-  step_counts shapes i events progress new (inr (inr row)) = asks_count i events progress new row.1
+  pub step_counts : (s : Shape) (i : Insn) (events : List Event) (progress : Progress) (new : Cpu) → Executes s i old events progress new → how_many q events ≤ weight q p i
+  step_counts s i events progress new (inl row) = none_at_all events i row.1
+  step_counts s i events progress new (inr (inl (n, e, call))) =
+      subst (λ (j : Insn). how_many q events ≤ weight q p j) (sym e) (call_counts s n events call.0 call.1 call.2)
+  step_counts s i events progress new (inr (inr row)) = asks_count s i events progress new row.1
 
 pub append_counts : (q : Counted) (xs ys : List Event) → how_many q (xs ++ ys) ≡ how_many q xs + how_many q ys
 append_counts q xs ys = count-append q xs ys

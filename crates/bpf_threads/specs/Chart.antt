@@ -123,7 +123,7 @@ FollowsSpots spots p i = (known : List (Option ℕ)) × IsAfter p i known
 pub record IsCharted (program : Loaded) (spots : List Spot) (p : Spot) : Type 0 where
   pub instruction : Insn
   pub begins : Begins program.instructions p.pc instruction
-  pub safe : IsSafe program.maps program.instructions p.pc instruction
+  pub safe : IsSafe program.named program.instructions p.pc instruction
   pub follows : FollowsSpots spots p instruction
 
 -- runs begin at this spot

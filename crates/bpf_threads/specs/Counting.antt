@@ -1,10 +1,10 @@
 -- How many events of a kind a program's run has at most.
 use Rattle.std.specs.Prelude.{◌≡◌, ℕ, ◌+◌, ◌≤◌, ◌==◌, Bool, true, false, not, ◌&&◌, ◌||◌, if◌then◌else◌, List, [], ◌∷◌, Option, Some, None, slice_get}
+use Rattle.bpf_shared.specs.Shape.{Shape}
 use Rattle.bpf_insn.specs.declared.instruction.Insn.{Insn}
 use Rattle.bpf_insn.specs.declared.instruction.Insn.TheVariants.{CallHelper}
 use Rattle.bpf_shared.specs.declared.events.Event.{Event}
 use Rattle.bpf_shared.specs.declared.events.Event.TheVariants.{Update, Delete}
-use Rattle.bpf_shared.specs.declared.shapes.MapShape.{MapShape}
 use Rattle.bpf_loader.specs.Loaded.{Loaded}
 use Rattle.bpf_loader.specs.Places.{Begins}
 use Rattle.bpf_helpers.specs.Calls.{update_number, delete_number, map_value}
@@ -46,9 +46,9 @@ how_many q (e ∷ es) = one_if (is_counted q.kind e q.map) + how_many q es
 -- however a store answers, a run of the program has at most n
 abbrev pub HasAtMost : Counted → Loaded → ℕ → Type 0
 HasAtMost q program most =
-    (shapes : List MapShape) (number steps : ℕ) (context : List ℕ) (events : List Event)
+    (shape : Shape) (number steps : ℕ) (context : List ℕ) (events : List Event)
     (end : Outcome) (last : Cpu)
-    → MakesSteps shapes program steps (start number context) events end last
+    → MakesSteps shape program steps (start number context) events end last
     → how_many q events ≤ most
 
 -- so it is of each program that has a number here

@@ -34,14 +34,16 @@ abbrev pub AreRoomy : Shape → List Loaded → List Task → Type 0
 AreRoomy shape programs jobs =
     (m : ℕ) (h : MapShape) → IsMap shape.maps m h → IsRoomy programs jobs shape.cpus m h
 
--- no call of the job reads its key or its value from a map's value
-abbrev pub IsReadWhole : List Loaded → Task → Type 0
-IsReadWhole programs job =
-    (program : Loaded) × (slice_get programs job.program ≡ Some program) × AllReadOutside program
+-- no call of the job reads its key or its value from a value of a map or an array, nor stores more than
+-- once into an array
+abbrev pub IsReadWhole : Shape → List Loaded → Task → Type 0
+IsReadWhole shape programs job =
+    (program : Loaded) × (slice_get programs job.program ≡ Some program)
+    × AllReadOutside shape program
 
 -- where no line says that threads may reach more: one CPU has all jobs, or each map is roomy; and one
--- CPU has them, or keys and values are read whole
+-- CPU has them, or keys and values are read whole, and stored whole in arrays
 pub record IsTrueOf (shape : Shape) (programs : List Loaded) (jobs : List Task) (t : Threads) : Type 0
   where
     pub elements : t.elements ≡ false → AreOnOneCpu jobs ⊎ AreRoomy shape programs jobs
-    pub parts : t.parts ≡ false → AreOnOneCpu jobs ⊎ All (IsReadWhole programs) jobs
+    pub parts : t.parts ≡ false → AreOnOneCpu jobs ⊎ All (IsReadWhole shape programs) jobs

@@ -20,7 +20,8 @@ use std::alloc::{AllocError, Global};
 pub struct Threads {
     /// An update may be answered that no element is free, where turns find one.
     pub elements: bool,
-    /// A call may read a key or a value from a map's value while others write it.
+    /// A call may read a key or a value from a value of a map or an array while others write it, or
+    /// put an array's value there in parts.
     pub parts: bool,
 }
 
@@ -289,33 +290,39 @@ fn are_roomy(
     Ok(true)
 }
 
-/// Whether calls of a program read keys and values outside the values of maps.
-fn reads_whole(program: &Program, chart: &Drawn) -> bool
+/// Whether calls of a program read keys and values outside the values of maps and arrays, and store
+/// those of arrays at once.
+fn reads_whole(shape: &StoreShape, program: &Program, chart: &Drawn) -> bool
     requires { IsChartOf program.now chart.now }
-    ensures { IsTrue result → AllReadOutside program.now }
+    ensures { IsTrue result → AllReadOutside shape.now program.now }
 {
-    chart.whole && all_read_outside(program, &chart.spots)
+    chart.whole && all_read_outside(shape, program, &chart.spots)
 }
 
-/// Whether calls of the program of this number read keys and values outside the values of maps.
-fn program_reads_whole(programs: &[Program], charts: &[Drawn], place: usize) -> bool
+/// Whether it is so of the program of this number.
+fn program_reads_whole(
+    shape: &StoreShape,
+    programs: &[Program],
+    charts: &[Drawn],
+    place: usize,
+) -> bool
     requires { AreCharts programs.now charts.now }
-    ensures { IsTrue result → ReadsWholeAt programs.now place }
+    ensures { IsTrue result → ReadsWholeAt shape.now programs.now place }
 {
     if place >= programs.len() || place >= charts.len() {
         return false;
     }
-    reads_whole(program_at(programs, place), chart_at(charts, place))
+    reads_whole(shape, program_at(programs, place), chart_at(charts, place))
 }
 
 /// Whether it is so of each job's program.
-fn are_read_whole(programs: &[Program], charts: &[Drawn], jobs: &[Job]) -> bool
+fn are_read_whole(shape: &StoreShape, programs: &[Program], charts: &[Drawn], jobs: &[Job]) -> bool
     requires { AreCharts programs.now charts.now }
-    ensures { IsTrue result → All (IsReadWhole programs.now) (map waiting jobs.now) }
+    ensures { IsTrue result → All (IsReadWhole shape.now programs.now) (map waiting jobs.now) }
 {
     for behind in 0..jobs.len() {
         let job = job_at(jobs, jobs.len() - 1 - behind);
-        if !program_reads_whole(programs, charts, job.program) {
+        if !program_reads_whole(shape, programs, charts, job.program) {
             return false;
         }
     }
@@ -357,7 +364,7 @@ pub fn may_differ(
     }
     let charts = charts(alloc, programs)?;
     let roomy = are_roomy(alloc, shape, programs, &charts, jobs)?;
-    let whole = are_read_whole(programs, &charts, jobs);
+    let whole = are_read_whole(shape, programs, &charts, jobs);
     Ok(Threads {
         elements: !roomy,
         parts: !whole,

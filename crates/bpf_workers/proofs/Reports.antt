@@ -1,5 +1,5 @@
 -- What is printed of a file's jobs, put together.
-use Rattle.std.proofs.Common.{◌≡◌, ℕ, List, map, ap, subst, ◌∙◌, string_bytes, String, Global}
+use Rattle.std.proofs.Common.{◌≡◌, ℕ, List, map, sym, ap, subst, ◌∙◌, string_bytes, String, Global}
 use Rattle.std.specs.Prelude.{Vec}
 use Rattle.bpf_shared.specs.KeyOrder.{Listed}
 use Rattle.bpf_shared.specs.Shape.{Shape}
@@ -17,19 +17,20 @@ use Rattle.bpf_sched.specs.Worked.{listed_by}
 use Rattle.hop_layout.specs.declared.about.About.{About}
 use Rattle.hop_words.specs.Closing.{Ending}
 use Rattle.hop_map.specs.Dumping.{IsLast}
+use Rattle.hop_map.proofs.Arrays.{last_shape}
 use Rattle.bpf_workers.specs.Printed.{as_ended, Asked, IsWorkersReport}
 use Rattle.bpf_workers.specs.Stats.{AreStatsAsked}
 
 pub reported : (file : RunFile) (asked : Asked) (r : Report) (counts : List ℕ) (a : About) (ends : List Outcome) (lists : List (Vec Listed Global)) (closed : Ending)
-    (programs : List Loaded) (jobs told_jobs : List Job) (told_ends : List Outcome) (told_lists : List (Vec Listed Global)) (cpus : ℕ) (names : List (String Global))
+    (programs : List Loaded) (jobs told_jobs : List Job) (told_ends : List Outcome) (told_lists : List (Vec Listed Global)) (copy : Shape) (names : List (String Global))
     → a ≡ record { shape = file.setup.shape; seed = file.seed; version = 0; count = 0 } → closed.about ≡ a
     → ((last : Plain) × IsLast closed last × LeadsTo closed.about.shape closed.about.version closed.history last)
     → IsExplained a.shape a.count programs (map waiting jobs) asked.keys ends (listed_by lists) closed.history
-    → ((last : Plain) → IsLast closed last → TellsWith (list_lines (listed_by told_lists) (map string_bytes names) cpus) last (as_ended (map waiting told_jobs) told_ends) (map string_bytes names) asked.maps (string_bytes r.text) r.stopped)
+    → ((last : Plain) → IsLast closed last → last.shape ≡ copy → TellsWith (list_lines (listed_by told_lists) (map string_bytes names) copy.cpus) last (as_ended (map waiting told_jobs) told_ends) (map string_bytes names) asked.maps (string_bytes r.text) r.stopped)
     → AreStatsAsked asked.stats closed (map string_bytes names) counts
-    → programs ≡ file.setup.programs.items → jobs ≡ file.setup.jobs.items → told_jobs ≡ file.setup.jobs.items → told_ends ≡ ends → told_lists ≡ lists → cpus ≡ file.setup.shape.cpus
+    → programs ≡ file.setup.programs.items → jobs ≡ file.setup.jobs.items → told_jobs ≡ file.setup.jobs.items → told_ends ≡ ends → told_lists ≡ lists → copy ≡ file.setup.shape
     → names ≡ file.names.items → IsWorkersReport (file_of file) asked (record { text = string_bytes r.text; stopped = r.stopped; counts = counts })
-reported file asked r counts a ends lists closed programs jobs told_jobs told_ends told_lists cpus names made about (last, known, leads) explains tells counted p j tj te tl cs n =
+reported file asked r counts a ends lists closed programs jobs told_jobs told_ends told_lists copy names made about (last, known, leads) explains tells counted p j tj te tl cs n =
     let E : Shape → ℕ → List Loaded → List Job → Type 0 = λ h k ps js. IsExplained h k ps (map waiting js) asked.keys ends (listed_by lists) closed.history in
     let T : List (Vec Listed Global) → ℕ → List Outcome → List Job → List (String Global) → Type 0 = λ ls c os js ns.
     TellsWith (list_lines (listed_by ls) (map string_bytes ns) c) last (as_ended (map waiting js) os) (map string_bytes ns) asked.maps (string_bytes r.text) r.stopped in
@@ -41,10 +42,11 @@ reported file asked r counts a ends lists closed programs jobs told_jobs told_en
     let of_programs = subst (λ (ps : List Loaded). E file.setup.shape 0 ps jobs) p of_count in
     let came : closed.about.version ≡ 0 = ap (λ (b : About). b.version) about ∙ version in
     let way : closed.about.shape ≡ file.setup.shape = ap (λ (b : About). b.shape) about ∙ shape in
-    let of_ends = subst (λ (os : List Outcome). T told_lists cpus os told_jobs names) te (tells last known) in
-    let of_jobs = subst (λ (js : List Job). T told_lists cpus ends js names) tj of_ends in
-    let of_lists = subst (λ (ls : List (Vec Listed Global)). T ls cpus ends file.setup.jobs.items names) tl of_jobs in
-    let of_cpus = subst (λ (c : ℕ). T lists c ends file.setup.jobs.items names) cs of_lists in
+    let left : last.shape ≡ copy = ap (λ (s : Plain). s.shape) known.1 ∙ last_shape closed known.0 ∙ way ∙ sym cs in
+    let of_ends = subst (λ (os : List Outcome). T told_lists copy.cpus os told_jobs names) te (tells last known left) in
+    let of_jobs = subst (λ (js : List Job). T told_lists copy.cpus ends js names) tj of_ends in
+    let of_lists = subst (λ (ls : List (Vec Listed Global)). T ls copy.cpus ends file.setup.jobs.items names) tl of_jobs in
+    let of_cpus = subst (λ (c : ℕ). T lists c ends file.setup.jobs.items names) (ap (λ (h : Shape). h.cpus) cs) of_lists in
     record {
       ends = ends;
       lists = listed_by lists;

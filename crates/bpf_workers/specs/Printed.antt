@@ -1,11 +1,10 @@
 -- What is printed of a run file whose jobs are run on worker threads. Our own choice.
 use Rattle.std.specs.Prelude.{◌≡◌, ℕ, Bool, List, [], ◌∷◌}
-use Rattle.bpf_shared.specs.Shape.{Shape}
 use Rattle.bpf_shared.specs.Store.{Plain}
 use Rattle.bpf_cpu.specs.declared.outcome.Outcome.{Outcome}
 use Rattle.bpf_cpu.specs.Task.{Task, Ended}
 use Rattle.bpf_jobs.specs.Printed.{list_lines, TellsWith}
-use Rattle.bpf_file.specs.File.{File}
+use Rattle.bpf_file.specs.File.{File, shape_of}
 use Rattle.hop_words.specs.Closing.{Ending}
 use Rattle.hop_map.specs.Dumping.{IsLast}
 use Rattle.bpf_sched.specs.Explained.{IsExplained, LeadsTo}
@@ -16,10 +15,6 @@ abbrev pub as_ended : List Task → List Outcome → List Task
 as_ended [] ends = []
 as_ended (task ∷ tasks) [] = []
 as_ended (task ∷ tasks) (end ∷ ends) = record task { stage = Ended end } ∷ as_ended tasks ends
-
--- the store that a file asks for
-abbrev pub store_shape : File → Shape
-store_shape f = record { cpus = f.cpus; maps = f.maps }
 
 -- what a user asks to be printed besides
 pub record Asked : Type 0 where
@@ -38,17 +33,17 @@ pub record Printed : Type 0 where
 -- all its jobs ended and, where lists of keys are asked for, what each CPU has listed after its
 -- jobs. It leads to the last store, which the words have that are left. The text has a line of each
 -- job, in the file's order, then those of these lists, by rising CPU, and then, where they are asked
--- for, the lines of the maps of the last store; and the numbers are those of these words
+-- for, the lines of the maps and arrays of the last store; and the numbers are those of these words
 pub record IsWorkersReport (f : File) (asked : Asked) (printed : Printed) : Type 0 where
   pub ends : List Outcome
   -- by CPU, and of each by map
   pub lists : ℕ → List (List (List ℕ))
   pub closed : Ending
   pub last : Plain
-  pub shape : closed.about.shape ≡ store_shape f
-  pub explained : IsExplained (store_shape f) 0 f.programs f.jobs asked.keys ends lists
+  pub shape : closed.about.shape ≡ shape_of f
+  pub explained : IsExplained (shape_of f) 0 f.programs f.jobs asked.keys ends lists
       closed.history
-  pub leads : LeadsTo (store_shape f) 0 closed.history last
+  pub leads : LeadsTo (shape_of f) 0 closed.history last
   pub is_last : IsLast closed last
   pub tells : TellsWith (list_lines lists f.names f.cpus) last (as_ended f.jobs ends) f.names
       asked.maps printed.text printed.stopped

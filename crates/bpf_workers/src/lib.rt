@@ -2,7 +2,10 @@
 //! them.
 #![tactic(auto)]
 
+mod arrays;
 pub mod laws;
+mod left;
+mod names;
 mod stats;
 mod telling;
 mod workers;

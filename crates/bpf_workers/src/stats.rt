@@ -54,7 +54,7 @@ fn push_stats(
     Ok(())
 }
 
-/// The lines of all maps, which have these names, in the order of their numbers.
+/// The lines of all maps in the order of their numbers. They have the first of these names.
 fn list_stats(alloc: Global, closed: &Closed, names: &[String]) -> Result<String, AllocError>
     ensures { IfOk result (λ text. AreStatsLines closed.now (map string_bytes names.now)
         (length names.now) (string_bytes text)) }

@@ -1,20 +1,20 @@
-//! The lines of jobs that workers have run, of what their CPUs have listed, and of the maps that
-//! they leave.
+//! The lines of jobs that workers have run, of what their CPUs have listed, and of the maps and
+//! arrays that they leave.
 
 ghost use Rattle.std.specs.Prelude.{◌≡◌, ◌++◌, IfOk, OnOk, length, List, map, string_bytes};
 ghost use Rattle.bpf_shared.specs.Store.{Plain};
 ghost use Rattle.bpf_cpu.specs.Task.{Task, waiting};
-ghost use Rattle.bpf_jobs.specs.Printed.{any_stopped, AreMapsAsked, AreMapLines, cpu_lines, job_lines, list_lines, TellsWith};
+ghost use Rattle.bpf_jobs.specs.Printed.{any_stopped, cpu_lines, job_lines, list_lines, TellsWith};
 ghost use Rattle.bpf_sched.specs.Worked.{listed_by};
 ghost use Rattle.hop_map.specs.Dumping.{IsLast};
 ghost use Rattle.bpf_workers.specs.Printed.{as_ended};
 ghost use Rattle.bpf_workers.specs.Stats.{AreStatsAsked};
 
+use crate::left::{Left, asked_lines};
 use crate::stats::asked_stats;
 use bpf_cpu::{Job, Outcome};
-use bpf_jobs::{Report, is_stop, push_job, push_lists, push_map};
+use bpf_jobs::{Report, is_stop, push_job, push_lists};
 use bpf_shared::KeyList;
-use hop_map::Closed;
 use std::alloc::{AllocError, Global};
 
 /// What is printed of a run file, and beside it what is printed of its maps.
@@ -83,58 +83,28 @@ fn list_keys(
     Ok(text)
 }
 
-/// The lines of all maps, which have these names, in the order of their numbers.
-fn list_maps(alloc: Global, closed: &Closed, names: &[String]) -> Result<String, AllocError>
-    ensures { IfOk result (λ text. (last : Plain) → IsLast closed.now last
-        → AreMapLines last (map string_bytes names.now) (length names.now) (string_bytes text)) }
-{
-    let mut text = String::new(alloc);
-    for map in 0..names.len() {
-        let pairs = closed.dump(alloc, map as u64)?;
-        push_map(alloc, &mut text, names[map].as_str(), &pairs)?;
-    }
-    Ok(text)
-}
-
-/// The lines of the maps, where they are asked for.
-fn asked_lines(
-    alloc: Global,
-    closed: &Closed,
-    names: &[String],
-    maps: bool,
-) -> Result<String, AllocError>
-    ensures { IfOk result (λ text. (last : Plain) → IsLast closed.now last
-        → AreMapsAsked maps last (map string_bytes names.now) (string_bytes text)) }
-{
-    if maps {
-        list_maps(alloc, closed, names)
-    } else {
-        Ok(String::new(alloc))
-    }
-}
-
-/// What is printed of jobs that have ended so, of what n CPUs have listed, and of what is left
-/// of their store.
+/// What is printed of jobs that have ended so, of what CPUs have listed, and of what is left of
+/// their store.
 fn tell(
     alloc: Global,
     jobs: &[Job],
     ends: &[Outcome],
     lists: &[Vec<KeyList>],
-    cpus: u8,
-    closed: &Closed,
+    left: Left,
     names: &[String],
     maps: bool,
 ) -> Result<Report, AllocError>
     requires { length ends.now ≡ length jobs.now }
-    ensures { IfOk result (λ r. (last : Plain) → IsLast closed.now last
-        → TellsWith (list_lines (listed_by lists.now) (map string_bytes names.now) cpus)
-        last (as_ended (map waiting jobs.now) ends.now) (map string_bytes names.now) maps
-        (string_bytes r.text) r.stopped) }
+    ensures { IfOk result (λ r. (last : Plain) → IsLast left.entry.closed.now last
+        → last.shape ≡ left.entry.shape.now
+        → TellsWith (list_lines (listed_by lists.now) (map string_bytes names.now)
+        left.entry.shape.now.cpus) last (as_ended (map waiting jobs.now) ends.now)
+        (map string_bytes names.now) maps (string_bytes r.text) r.stopped) }
 {
     let mut text = list_jobs(alloc, jobs, ends)?;
-    let keys = list_keys(alloc, lists, cpus, names)?;
+    let keys = list_keys(alloc, lists, left.shape.cpus(), names)?;
     text.push_str(keys.as_str())?;
-    let lines = asked_lines(alloc, closed, names, maps)?;
+    let lines = asked_lines(alloc, left, names, maps)?;
     text.push_str(lines.as_str())?;
     let stopped = has_stopped(ends);
     Ok(Report { text, stopped })
@@ -146,21 +116,21 @@ pub(crate) fn tell_counted(
     jobs: &[Job],
     ends: &[Outcome],
     lists: &[Vec<KeyList>],
-    cpus: u8,
-    closed: &Closed,
+    left: Left,
     names: &[String],
     maps: bool,
     stats: bool,
 ) -> Result<Counted, AllocError>
     requires { length ends.now ≡ length jobs.now }
-    ensures told { IfOk result (λ r. (last : Plain) → IsLast closed.now last
-        → TellsWith (list_lines (listed_by lists.now) (map string_bytes names.now) cpus)
-        last (as_ended (map waiting jobs.now) ends.now) (map string_bytes names.now) maps
-        (string_bytes r.report.text) r.report.stopped) }
-    ensures stats { IfOk result (λ r. AreStatsAsked stats closed.now (map string_bytes names.now)
-        (string_bytes r.stats)) }
+    ensures told { IfOk result (λ r. (last : Plain) → IsLast left.entry.closed.now last
+        → last.shape ≡ left.entry.shape.now
+        → TellsWith (list_lines (listed_by lists.now) (map string_bytes names.now)
+        left.entry.shape.now.cpus) last (as_ended (map waiting jobs.now) ends.now)
+        (map string_bytes names.now) maps (string_bytes r.report.text) r.report.stopped) }
+    ensures stats { IfOk result (λ r. AreStatsAsked stats left.entry.closed.now
+        (map string_bytes names.now) (string_bytes r.stats)) }
 {
-    let report = tell(alloc, jobs, ends, lists, cpus, closed, names, maps)?;
-    let stats = asked_stats(alloc, closed, names, stats)?;
+    let report = tell(alloc, jobs, ends, lists, left, names, maps)?;
+    let stats = asked_stats(alloc, left.closed, names, stats)?;
     Ok(Counted { report, stats })
 }

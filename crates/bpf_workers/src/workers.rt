@@ -6,9 +6,11 @@ ghost use Rattle.bpf_file.specs.File.{file_of};
 ghost use Rattle.bpf_sched.specs.Refusing.{AreWorkers};
 ghost use Rattle.bpf_workers.specs.Printed.{IsWorkersReport};
 
+use crate::left::Left;
 use crate::telling::{Counted, tell_counted};
 use bpf_cpu::Setup;
 use bpf_file::RunFile;
+use bpf_plain::copy_shape;
 use bpf_sched::{NoGate, Refused, SchedError, run_jobs};
 use hop_map::HopStore;
 use std::alloc::Global;
@@ -60,7 +62,10 @@ pub fn run_counted<R: Threads + Wait + Sync>(
         programs,
         jobs,
     } = setup;
-    let cpus = shape.cpus();
+    // The store takes its own, and the lines of what is left need one too.
+    let Ok(copy) = copy_shape(alloc, &shape) else {
+        return Err(WorkError::OutOfMemory);
+    };
     let Ok(store) = HopStore::new(alloc, shape, seed) else {
         return Err(WorkError::OutOfMemory);
     };
@@ -84,13 +89,16 @@ pub fn run_counted<R: Threads + Wait + Sync>(
         // There are workers, not too many, and a file's jobs are on its CPUs.
         Err(_) => unreachable!(),
     };
+    let left = Left {
+        shape: &copy,
+        closed: &done.closed,
+    };
     match tell_counted(
         alloc,
         &jobs,
         &done.outcomes,
         &done.lists,
-        cpus,
-        &done.closed,
+        left,
         &names,
         maps,
         stats,

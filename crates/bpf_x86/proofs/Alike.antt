@@ -127,7 +127,8 @@ module _ (but : ℕ → Type 0) (p : Plain) (g : ℕ → Value) (k : ℕ → ℕ
 
   live_there : (v : ℕ) → IsLive here v → IsLive p v
   live_there v (inl found) = inl found
-  live_there v (inr (c, held)) = inr (c, fewer c v held)
+  live_there v (inr (inl (c, held))) = inr (inl (c, fewer c v held))
+  live_there v (inr (inr fixed)) = inr (inr fixed)
 
   may_lie : (m : ℕ) (h : MapShape) (q : Span) → MayLie p m h q → MayLie here m h q
   may_lie m h q lies = record {

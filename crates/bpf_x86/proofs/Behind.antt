@@ -1,6 +1,6 @@
 -- A store that lags after another: it lacks the stores of one CPU from one of them on, and what that
 -- CPU has found since. The events of other CPUs that touch none of their bytes happen alike in both.
-use Rattle.std.proofs.Common.{◌≡◌, ◌≢◌, ℕ, ◌+◌, Bool, true, false, List, [], ◌∷◌, ◌++◌, Option, Some, None, inl, inr, refl, sym, ap, subst, ◌∙◌}
+use Rattle.std.proofs.Common.{◌≡◌, ◌≢◌, ℕ, ◌+◌, Bool, true, false, List, [], ◌∷◌, ◌++◌, Option, Some, None, ◌⊎◌, inl, inr, refl, sym, ap, subst, ◌∙◌}
 use Rattle.std.specs.Prelude.{map, slice_get}
 use Rattle.std.specs.FinMap.{get}
 use Rattle.std.proofs.lemmas.Bool.{false_from_ne_true}
@@ -11,18 +11,20 @@ use Rattle.bpf_shared.specs.declared.events.Span.{Span}
 use Rattle.bpf_shared.specs.declared.events.Event.{Event}
 use Rattle.bpf_shared.specs.declared.events.Event.TheVariants.{Lookup, Update, Load, Store, Atomic}
 use Rattle.bpf_shared.specs.declared.events.MapAnswer.TheVariants.{Invalid}
-use Rattle.bpf_shared.specs.Shape.{Covers}
-use Rattle.bpf_shared.specs.Store.{Value, Plain, put}
-use Rattle.bpf_shared.specs.Events.{Reaches, after_write, after_lookup, number_in}
+use Rattle.bpf_shared.specs.Shape.{Shape, Covers}
+use Rattle.bpf_shared.specs.Store.{Value, Plain, put, IsFixed, IsFrozen}
+use Rattle.bpf_shared.specs.Events.{Reaches, MayWrite, after_write, after_lookup, number_in}
 use Rattle.bpf_shared.specs.Choice.{PlainlyAllowed}
 use Rattle.bpf_shared.specs.History.{PlainlyLegal, entry}
 use Rattle.bpf_shared.specs.Sound.{IsSoundStore}
 use Rattle.bpf_shared.proofs.Soundness.{allowed_sound, span-after_write}
 use Rattle.bpf_shared.proofs.Puts.{true_or_false, equal_or_not, put-same, put-other, put_pair-old}
 use Rattle.bpf_x86.specs.Forwarding.{within, written}
+use Rattle.bpf_x86.specs.Laws.{HasNoArrays}
 use Rattle.bpf_x86.proofs.Overlay.{hits, hits_any, not_written, last_missed}
 use Rattle.bpf_x86.proofs.Written.{at, address, write_here, write_there, same_number}
 use Rattle.bpf_x86.proofs.Alike.{IsLike, HasValues, is_access, follow, held_others}
+use Rattle.bpf_x86.proofs.Holding.{reached_held}
 
 -- all but this CPU
 abbrev pub is_it : ℕ → ℕ → Type 0
@@ -51,8 +53,18 @@ writes_like but l s v a n x like = record {
 module _ (d : ℕ) (lacking : List Event) (l s : Plain) (so_l : IsSoundStore l) (so_s : IsSoundStore s) (behind : IsBehind d lacking l s) (c : ℕ) (ne : c ≢ d) where
   reaches_l : (v a n : ℕ) → Reaches s c v a n → Reaches l c v a n
   reaches_l v a n r = record {
-    holds = ap (λ (f : ℕ → Bool). f v) (behind.like.others c ne) ∙ r.holds;
+    holds = from r.holds;
     covers = subst (λ (q : Span). Covers q a n) (sym (behind.like.spans v)) r.covers;
+  }
+    where
+      from : (s.held c v ≡ true) ⊎ IsFixed s.shape v → (l.held c v ≡ true) ⊎ IsFixed l.shape v
+      from (inl h) = inl (ap (λ (f : ℕ → Bool). f v) (behind.like.others c ne) ∙ h)
+      from (inr fixed) = inr (subst (λ (h : Shape). IsFixed h v) (sym (ap (λ (z : Plain). z.shape) behind.like.same)) fixed)
+
+  may_write_l : (v a n : ℕ) → MayWrite s c v a n → MayWrite l c v a n
+  may_write_l v a n r = record {
+    reaches = reaches_l v a n r.reaches;
+    writable = λ frozen. r.writable (subst (λ (h : Shape). IsFrozen h v) (ap (λ (z : Plain). z.shape) behind.like.same) frozen);
   }
 
   runs_l : s.running c ≡ true → l.running c ≡ true
@@ -121,17 +133,17 @@ module _ (d : ℕ) (lacking : List Event) (l s : Plain) (so_l : IsSoundStore l) 
       )
   behind_event (Store a size x) t misses allowed =
       let v : ℕ = allowed.0.1.0 in
-      let r : Reaches s c v a (bytes_in size) = allowed.0.1.1 in (
+      let r : Reaches s c v a (bytes_in size) = allowed.0.1.1.reaches in (
         after_write l v a (bytes_in size) x,
-        ((runs_l allowed.0.0, (v, reaches_l v a (bytes_in size) r, refl)), tt),
+        ((runs_l allowed.0.0, (v, may_write_l v a (bytes_in size) allowed.0.1.1, refl)), tt),
         subst (IsBehind d lacking (after_write l v a (bytes_in size) x)) (sym allowed.0.1.2) (writes_l v a (bytes_in size) x r),
       )
   behind_event (Atomic a size op operand expected found) t misses allowed =
       let v : ℕ = allowed.0.1.0 in
-      let r : Reaches s c v a (bytes_in size) = allowed.0.1.1 in
+      let r : Reaches s c v a (bytes_in size) = allowed.0.1.1.reaches in
       let y : ℕ = number_after op (bytes_in size) found operand expected in (
         after_write l v a (bytes_in size) y,
-        ((runs_l allowed.0.0, (v, reaches_l v a (bytes_in size) r, allowed.0.1.2 ∙ reads_l v a (bytes_in size) r misses, refl)), tt),
+        ((runs_l allowed.0.0, (v, may_write_l v a (bytes_in size) allowed.0.1.1, allowed.0.1.2 ∙ reads_l v a (bytes_in size) r misses, refl)), tt),
         subst (IsBehind d lacking (after_write l v a (bytes_in size) y)) (sym allowed.0.1.3) (writes_l v a (bytes_in size) y r),
       )
   behind_event e t misses allowed = quiet_l e t refl allowed
@@ -147,8 +159,8 @@ behind_events d c ne lacking (e ∷ es) l s t so_l so_s behind miss legal =
 
 -- ---- the CPU's own events
 -- a store of its own is one more that the first lacks
-pub own_store_behind : (d : ℕ) (lacking : List Event) (l s t : Plain) (a : ℕ) (size : Size) (x : ℕ) → IsSoundStore s → IsBehind d lacking l s → PlainlyAllowed s d (Store a size x) t → IsBehind d (lacking ++ Store a size x ∷ []) l t
-own_store_behind d lacking l s t a size x so behind allowed = subst (IsBehind d (lacking ++ Store a size x ∷ []) l) (sym allowed.0.1.2) (record {
+pub own_store_behind : (d : ℕ) (lacking : List Event) (l s t : Plain) (a : ℕ) (size : Size) (x : ℕ) → HasNoArrays s.shape → IsSoundStore s → IsBehind d lacking l s → PlainlyAllowed s d (Store a size x) t → IsBehind d (lacking ++ Store a size x ∷ []) l t
+own_store_behind d lacking l s t a size x bare so behind allowed = subst (IsBehind d (lacking ++ Store a size x ∷ []) l) (sym allowed.0.1.2) (record {
   like = record {
     same = behind.like.same;
     spans = λ w. behind.like.spans w ∙ sym (span-after_write s v a n x w);
@@ -157,7 +169,7 @@ own_store_behind d lacking l s t a size x so behind allowed = subst (IsBehind d 
   };
   bytes = λ w i clean. elim (true_or_false (s.held d w)) [
     | inl h ↦ missed_both w i h (last_missed lacking (Store a size x) (address s w i) (ap (λ (q : Span). hits_any (lacking ++ Store a size x ∷ []) (q.at + i)) (sym (span-after_write s v a n x w)) ∙ clean h))
-    | inr h ↦ behind.bytes w i (λ k. let no : true ≡ false = sym k ∙ h in cc) ∙ sym (write_there s d v a n so r x w i (λ e. let has : s.held d w ≡ true = ap (s.held d) e ∙ r.holds in let no : true ≡ false = sym has ∙ h in cc))
+    | inr h ↦ behind.bytes w i (λ k. let no : true ≡ false = sym k ∙ h in cc) ∙ sym (write_there s d v a n so r x w i (λ e. let has : s.held d w ≡ true = ap (s.held d) e ∙ (reached_held s d v a n bare r).holds in let no : true ≡ false = sym has ∙ h in cc))
   ];
 })
   where
@@ -168,7 +180,7 @@ own_store_behind d lacking l s t a size x so behind allowed = subst (IsBehind d 
     v = allowed.0.1.0
 
     r : Reaches s d v a n
-    r = allowed.0.1.1
+    r = allowed.0.1.1.reaches
 
     missed_both : (w i : ℕ) → s.held d w ≡ true → (hits_any lacking (address s w i) ≡ false) × (within a (bytes_in size) (address s w i) ≡ false) → at l w i ≡ at (after_write s v a n x) w i
     missed_both w i h both = behind.bytes w i (λ k. both.0) ∙ sym (elim (equal_or_not w v) [

@@ -15,17 +15,19 @@ use Rattle.bpf_shared.proofs.Soundness.{span-after_write}
 use Rattle.bpf_shared.proofs.Puts.{true_or_false, equal_or_not, put-other}
 use Rattle.bpf_x86.specs.Buffers.{Buffered}
 use Rattle.bpf_x86.specs.Forwarding.{within, written, overlaid}
+use Rattle.bpf_x86.specs.Laws.{HasNoArrays}
 use Rattle.bpf_x86.proofs.Overlay.{hits, hits_any, not_written, missed, all_missed}
 use Rattle.bpf_x86.proofs.Written.{at, address, write_live, write_unheld, apart_missed}
 use Rattle.bpf_x86.proofs.Alike.{IsLike}
+use Rattle.bpf_x86.proofs.Holding.{Holds, held_reaches, reached_held}
 
 -- no CPU is left out
 abbrev pub nobody : ℕ → Type 0
 nobody c = ⊥
 
--- a store that waits reaches a value that its CPU holds
+-- a store that waits is one to a value that its CPU holds
 abbrev pub IsWaiting : Plain → ℕ → Event → Type 0
-IsWaiting s c (Store a size x) = (v : ℕ) × Reaches s c v a (bytes_in size)
+IsWaiting s c (Store a size x) = (v : ℕ) × Holds s c v a (bytes_in size)
 IsWaiting s c _ = ⊥
 
 abbrev pub AreWaiting : Plain → ℕ → List Event → Type 0
@@ -39,6 +41,7 @@ IsClean buffers s c v i = (d : ℕ) → d ≢ c → s.held d v ≡ true → hits
 -- the store of sequential consistency has what the CPU sees, where no other CPU's store waits
 pub record IsAhead (b : Buffered) (s : Plain) : Type 0 where
   pub like : IsLike nobody s b.memory
+  pub bare : HasNoArrays s.shape
   pub sound : IsSoundStore b.memory
   pub sound_too : IsSoundStore s
   pub unmade : (v : ℕ) → s.made ≤ v → s.value v ≡ b.memory.value v
@@ -63,11 +66,15 @@ module _ (s p : Plain) (like : IsLike nobody s p) where
   pub address_same : (v i : ℕ) → address s v i ≡ address p v i
   address_same v i = ap (λ (q : Span). q.at + i) (like.spans v)
 
-  pub reaches_here : (c v a n : ℕ) → Reaches p c v a n → Reaches s c v a n
-  reaches_here c v a n r = record { holds = held_here c v r.holds; covers = subst (λ (q : Span). Covers q a n) (sym (like.spans v)) r.covers }
+  pub holds_here : (c v a n : ℕ) → Holds p c v a n → Holds s c v a n
+  holds_here c v a n r = record { holds = held_here c v r.holds; covers = subst (λ (q : Span). Covers q a n) (sym (like.spans v)) r.covers }
 
-  pub reaches_there : (c v a n : ℕ) → Reaches s c v a n → Reaches p c v a n
-  reaches_there c v a n r = record { holds = held_there c v r.holds; covers = subst (λ (q : Span). Covers q a n) (like.spans v) r.covers }
+  pub holds_there : (c v a n : ℕ) → Holds s c v a n → Holds p c v a n
+  holds_there c v a n r = record { holds = held_there c v r.holds; covers = subst (λ (q : Span). Covers q a n) (like.spans v) r.covers }
+
+-- what memory lets a CPU reach, it holds
+pub memory_held : (b : Buffered) (s : Plain) (c v a n : ℕ) → IsAhead b s → Reaches b.memory c v a n → Holds b.memory c v a n
+memory_held b s c v a n ahead r = reached_held b.memory c v a n (subst HasNoArrays (ap (λ (z : Plain). z.shape) ahead.like.same) ahead.bare) r
 
 -- ---- waiting stores stay waiting where the CPU holds what it held
 pub still_waits : (s t : Plain) (c : ℕ) (e : Event) → ((v : ℕ) → s.held c v ≡ true → (t.held c v ≡ true) × ((t.value v).span ≡ (s.value v).span)) → IsWaiting s c e → IsWaiting t c e
@@ -96,7 +103,7 @@ unheld_missed s c (e ∷ es) so h v i live inside none =
     or_from (hits e (address s v i)) (hits_any es (address s v i)) (one e h.0) (unheld_missed s c es so h.1 v i live inside none)
   where
     one : (e : Event) → IsWaiting s c e → hits e (address s v i) ≡ false
-    one (Store a size x) (w, r) = apart_missed s c w a (bytes_in size) so r v i live (λ e. let has : s.held c v ≡ true = ap (s.held c) e ∙ r.holds in cc) inside
+    one (Store a size x) (w, r) = apart_missed s c w a (bytes_in size) so (held_reaches s c w a (bytes_in size) r) v i live (λ e. let has : s.held c v ≡ true = ap (s.held c) e ∙ r.holds in cc) inside
     one Begin h = absurd h
     one End h = absurd h
     one (Lookup m key found) h = absurd h
@@ -108,7 +115,7 @@ unheld_missed s c (e ∷ es) so h v i live inside none =
 
 -- ---- a flush
 module _ (b : Buffered) (s : Plain) (ahead : IsAhead b s) (c : ℕ) (a : ℕ) (size : Size) (x : ℕ) (rest : List Event) (is : b.buffers c ≡ Store a size x ∷ rest)
-    (buffers : ℕ → List Event) (here : buffers c ≡ rest) (there : (d : ℕ) → d ≢ c → buffers d ≡ b.buffers d) (v : ℕ) (r : Reaches b.memory c v a (bytes_in size)) where
+    (buffers : ℕ → List Event) (here : buffers c ≡ rest) (there : (d : ℕ) → d ≢ c → buffers d ≡ b.buffers d) (v : ℕ) (r : Holds b.memory c v a (bytes_in size)) where
   abbrev n : ℕ
   n = bytes_in size
 
@@ -132,7 +139,7 @@ module _ (b : Buffered) (s : Plain) (ahead : IsAhead b s) (c : ℕ) (a : ℕ) (s
   ]
 
   live_held : (d w : ℕ) → s.held d w ≡ true → IsLive b.memory w
-  live_held d w h = inr (d, held_there s b.memory ahead.like d w h)
+  live_held d w h = inr (inl (d, held_there s b.memory ahead.like d w h))
 
   -- the byte in memory now
   module _ (w i : ℕ) (inside : i < (s.value w).span.size) where
@@ -144,11 +151,11 @@ module _ (b : Buffered) (s : Plain) (ahead : IsAhead b s) (c : ℕ) (a : ℕ) (s
 
     byte_now : s.held c w ≡ true → at after w i ≡ written a n x b_at (at b.memory w i)
     byte_now h =
-        write_live b.memory c v a n ahead.sound r x w i (live_held c w h) inside_there
+        write_live b.memory c v a n ahead.sound (held_reaches b.memory c v a n r) x w i (live_held c w h) inside_there
         ∙ ap (λ (k : ℕ). written a n x k (at b.memory w i)) (sym (address_same s b.memory ahead.like w i))
 
     byte_same : s.held c w ≡ false → at after w i ≡ at b.memory w i
-    byte_same h = write_unheld b.memory c v a n ahead.sound r x w i (sym (ap (λ (f : ℕ → Bool). f w) (held_same s b.memory ahead.like c)) ∙ h)
+    byte_same h = write_unheld b.memory c v a n ahead.sound (held_reaches b.memory c v a n r) x w i r.holds (sym (ap (λ (f : ℕ → Bool). f w) (held_same s b.memory ahead.like c)) ∙ h)
 
     -- its own CPU
     clean_own : IsClean buffers s c w i → IsClean b.buffers s c w i
@@ -230,7 +237,7 @@ module _ (b : Buffered) (s : Plain) (ahead : IsAhead b s) (c : ℕ) (a : ℕ) (s
   flush_unmade : (w : ℕ) → s.made ≤ w → s.value w ≡ after.value w
   flush_unmade w most = ahead.unmade w most ∙ sym (put-other b.memory.value v w _ (λ e.
       let made : s.made ≡ b.memory.made = ap (λ (z : Plain). z.made) ahead.like.same in
-      let less : v < b.memory.made = ahead.sound.live_made v (inr (c, r.holds)) in
+      let less : v < b.memory.made = ahead.sound.live_made v (inr (inl (c, r.holds))) in
       absurd (omega arith)))
 
   flush_waiting : (d : ℕ) → AreWaiting s d (buffers d)
@@ -242,6 +249,7 @@ module _ (b : Buffered) (s : Plain) (ahead : IsAhead b s) (c : ℕ) (a : ℕ) (s
   pub flush_ahead : IsSoundStore after → IsAhead flushed s
   flush_ahead so = record {
     like = flush_like;
+    bare = ahead.bare;
     sound = so;
     sound_too = ahead.sound_too;
     unmade = flush_unmade;

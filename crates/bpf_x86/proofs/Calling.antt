@@ -10,7 +10,7 @@ use Rattle.bpf_shared.specs.declared.events.Event.{Event}
 use Rattle.bpf_shared.specs.declared.events.Event.TheVariants.{Store}
 use Rattle.bpf_shared.specs.Shape.{Covers}
 use Rattle.bpf_shared.specs.Store.{Plain, put}
-use Rattle.bpf_shared.specs.Events.{Reaches, after_write, number_in}
+use Rattle.bpf_shared.specs.Events.{after_write, number_in}
 use Rattle.bpf_shared.specs.Choice.{PlainlyAllowed}
 use Rattle.bpf_shared.specs.History.{PlainlyLegal, entry}
 use Rattle.bpf_shared.specs.Sound.{IsSoundStore}
@@ -21,7 +21,8 @@ use Rattle.bpf_x86.specs.Forwarding.{within, byte_after, overlaid}
 use Rattle.bpf_x86.proofs.Overlay.{within_parts, hits, hits_any, missed, overlaid-last, last_missed, last_hits}
 use Rattle.bpf_x86.proofs.Written.{at, address, write_live, write_unheld, same_number}
 use Rattle.bpf_x86.proofs.Alike.{IsLike, same_functions}
-use Rattle.bpf_x86.proofs.Buffers.{nobody, IsWaiting, AreWaiting, IsClean, IsAhead, still_waiting, waiting-last, flush_ahead}
+use Rattle.bpf_x86.proofs.Buffers.{nobody, IsWaiting, AreWaiting, IsClean, IsAhead, memory_held, still_waiting, waiting-last, flush_ahead}
+use Rattle.bpf_x86.proofs.Holding.{Holds, held_reaches, held_writes}
 
 -- the event touches no byte that another CPU's waiting store is to write
 abbrev pub IsClear : (ℕ → List Event) → ℕ → Event → Type 0
@@ -33,7 +34,7 @@ pub flush_of : (b : Buffered) (s : Plain) (c : ℕ) (oldest : Event) (rest : Lis
 flush_of b s c (Store a size x) rest q buffers ahead is allowed here there =
     let sound : IsSoundStore (after_write b.memory allowed.0.1.0 a (bytes_in size) x) = after_write_sound b.memory c allowed.0.1.0 a (bytes_in size) x ahead.sound allowed.0.1.1 in
     subst (λ (z : Plain). IsAhead (record { memory = z; buffers = buffers }) s) (sym allowed.0.1.2)
-    (flush_ahead b s ahead c a size x rest is buffers here there allowed.0.1.0 allowed.0.1.1 sound)
+    (flush_ahead b s ahead c a size x rest is buffers here there allowed.0.1.0 (memory_held b s c allowed.0.1.0 a (bytes_in size) ahead allowed.0.1.1.reaches) sound)
 flush_of b s c e rest q buffers ahead is allowed here there = absurd (subst (AreWaiting s c) is (ahead.waiting c)).0
 
 pub flushes_ahead : (b t : Buffered) (s : Plain) (c : ℕ) → IsAhead b s → Flushes b c t → IsAhead t s
@@ -72,7 +73,7 @@ pub drains_ahead : (b t : Buffered) (s : Plain) (c : ℕ) → IsAhead b s → Dr
 drains_ahead b t s c ahead d = subst (λ (z : Buffered). IsAhead z s) (sym d.2) (seen_ahead b s d.0 c ahead d.1)
 
 -- ---- loads: with its buffer drained, a CPU reads the same number
-pub same_read : (b : Buffered) (s : Plain) (c v a n : ℕ) → IsAhead b s → b.buffers c ≡ [] → Reaches s c v a n
+pub same_read : (b : Buffered) (s : Plain) (c v a n : ℕ) → IsAhead b s → b.buffers c ≡ [] → Holds s c v a n
     → ((d x : ℕ) → d ≢ c → within a n x ≡ true → hits_any (b.buffers d) x ≡ true → ⊥) → number_in s v a n ≡ number_in b.memory v a n
 same_read b s c v a n ahead none r clear =
     same_number s b.memory v a n (ahead.like.spans v) r.covers.0 (λ i h.
@@ -88,7 +89,7 @@ pub clear_drained : (buffers : ℕ → List Event) (c : ℕ) (e : Event) → IsC
 clear_drained buffers c e clear d x ne hit too = clear d x ne hit (sym (ap (λ (es : List Event). hits_any es x) (put-other buffers c d [] ne)) ∙ too)
 
 -- ---- a store
-module _ (b : Buffered) (s : Plain) (ahead : IsAhead b s) (c a : ℕ) (size : Size) (x v : ℕ) (r : Reaches s c v a (bytes_in size)) (clear : IsClear b.buffers c (Store a size x)) where
+module _ (b : Buffered) (s : Plain) (ahead : IsAhead b s) (c a : ℕ) (size : Size) (x v : ℕ) (r : Holds s c v a (bytes_in size)) (clear : IsClear b.buffers c (Store a size x)) where
   abbrev n : ℕ
   n = bytes_in size
 
@@ -122,7 +123,7 @@ module _ (b : Buffered) (s : Plain) (ahead : IsAhead b s) (c a : ℕ) (size : Si
   }
 
   store_unmade : (w : ℕ) → s.made ≤ w → after.value w ≡ b.memory.value w
-  store_unmade w most = put-other s.value v w _ (λ same. let less : v < s.made = ahead.sound_too.live_made v (inr (c, r.holds)) in absurd (omega arith)) ∙ ahead.unmade w most
+  store_unmade w most = put-other s.value v w _ (λ same. let less : v < s.made = ahead.sound_too.live_made v (inr (inl (c, r.holds))) in absurd (omega arith)) ∙ ahead.unmade w most
 
   keeps : (d w : ℕ) → s.held d w ≡ true → (after.held d w ≡ true) × ((after.value w).span ≡ (s.value w).span)
   keeps d w h = (h, spans w)
@@ -164,10 +165,10 @@ module _ (b : Buffered) (s : Plain) (ahead : IsAhead b s) (c a : ℕ) (size : Si
     b_at = address s w i
 
     byte_now : s.held c w ≡ true → at after w i ≡ byte_after e b_at (at s w i)
-    byte_now h = write_live s c v a n ahead.sound_too r x w i (inr (c, h)) inside
+    byte_now h = write_live s c v a n ahead.sound_too (held_reaches s c v a n r) x w i (inr (inl (c, h))) inside
 
     byte_same : s.held c w ≡ false → at after w i ≡ at s w i
-    byte_same h = write_unheld s c v a n ahead.sound_too r x w i h
+    byte_same h = write_unheld s c v a n ahead.sound_too (held_reaches s c v a n r) x w i r.holds h
 
     -- of its own CPU
     clean_own : IsClean more s c w i → IsClean b.buffers s c w i
@@ -226,8 +227,9 @@ module _ (b : Buffered) (s : Plain) (ahead : IsAhead b s) (c a : ℕ) (size : Si
   pub store_ahead : IsAhead (record { memory = b.memory; buffers = more }) after
   store_ahead = record {
     like = store_like;
+    bare = ahead.bare;
     sound = ahead.sound;
-    sound_too = after_write_sound s c v a n x ahead.sound_too r;
+    sound_too = after_write_sound s c v a n x ahead.sound_too (held_writes s c v a n ahead.sound_too r);
     unmade = store_unmade;
     waiting = store_waiting;
     apart = store_apart;

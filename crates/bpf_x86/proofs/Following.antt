@@ -34,7 +34,7 @@ held_along c d ne (e ∷ es) s t legal = held_along c d ne es legal.0 t legal.2 
 pub waits_along : (c d : ℕ) → d ≢ c → (es : List Event) (s t : Plain) (e : Event) → IsSoundStore s → PlainlyLegal s (map (entry c) es) t → IsWaiting s d e → IsWaiting t d e
 waits_along c d ne es s t e so legal waits = still_waits s t d e (λ v h. (
   ap (λ (f : ℕ → Bool). f v) (held_along c d ne es s t legal) ∙ h,
-  (values_stay s t (map (entry c) es) v (plainly_legal s t (map (entry c) es) legal) (so.live_made v (inr (d, h)))).1,
+  (values_stay s t (map (entry c) es) v (plainly_legal s t (map (entry c) es) legal) (so.live_made v (inr (inl (d, h))))).1,
 )) waits
 
 pub shape_along : (c : ℕ) (es : List Event) (s t : Plain) → PlainlyLegal s (map (entry c) es) t → t.shape ≡ s.shape

@@ -1,5 +1,5 @@
 -- Loads find the CPU's own newest stores, and nothing of another CPU's buffer.
-use Rattle.std.proofs.Common.{◌≡◌, ◌≢◌, ℕ, ◌+◌, ◌<◌, ◌≤◌, List, [], ◌∷◌, ◌++◌, inr, refl, sym, ap, subst, ◌∙◌, arith}
+use Rattle.std.proofs.Common.{◌≡◌, ℕ, ◌+◌, ◌<◌, List, [], ◌∷◌, ◌++◌, refl, sym, ap, subst, ◌∙◌, arith}
 use Rattle.std.specs.Prelude.{map}
 use Rattle.std.proofs.lemmas.List.{map-append}
 use Rattle.bpf_base.specs.Bytes.{little_endian, low_bytes}
@@ -13,7 +13,7 @@ use Rattle.bpf_shared.specs.declared.events.Event.TheVariants.{Lookup, Update, L
 use Rattle.bpf_shared.specs.declared.events.MapAnswer.TheVariants.{Invalid}
 use Rattle.bpf_shared.specs.Shape.{Covers}
 use Rattle.bpf_shared.specs.Store.{Plain, put, IsLive}
-use Rattle.bpf_shared.specs.Events.{Reaches, after_write, number_in}
+use Rattle.bpf_shared.specs.Events.{Reaches, MayWrite, after_write, number_in}
 use Rattle.bpf_shared.specs.Choice.{PlainlyAllowed}
 use Rattle.bpf_shared.specs.History.{PlainlyLegal, entry}
 use Rattle.bpf_shared.specs.Sound.{IsSoundStore}
@@ -31,13 +31,13 @@ seen_of : (es : List Event) (c : ℕ) (p s : Plain) → IsSoundStore p → AreSt
 seen_of [] c p s so stores legal v i live inside = sym (ap (λ (z : Plain). at z v i) legal)
 seen_of (Store a size x ∷ es) c p s so stores legal v i live inside =
     let w = legal.1.0.1.0 in
-    let r : Reaches p c w a (bytes_in size) = legal.1.0.1.1 in
+    let r : Reaches p c w a (bytes_in size) = legal.1.0.1.1.reaches in
     let after = after_write p w a (bytes_in size) x in
     let is : legal.0 ≡ after = legal.1.0.1.2 in
     let rest : PlainlyLegal after (map (entry c) es) s = subst (λ (z : Plain). PlainlyLegal z (map (entry c) es) s) is legal.2 in
     let span : (after.value v).span ≡ (p.value v).span = span-after_write p w a (bytes_in size) x v in
     let within_it : i < (after.value v).span.size = subst (λ (q : Span). i < q.size) (sym span) inside in
-    seen_of es c after s (after_write_sound p c w a (bytes_in size) x so r) stores rest v i live within_it
+    seen_of es c after s (after_write_sound p c w a (bytes_in size) x so legal.1.0.1.1) stores rest v i live within_it
     ∙ ap (λ (q : Span). overlaid es (q.at + i) (at after v i)) span
     ∙ ap (overlaid es (address p v i)) (write_live p c w a (bytes_in size) so r x v i live inside)
 seen_of (e ∷ es) c p s so stores legal v i live inside = absurd stores
@@ -57,12 +57,12 @@ module _ (s : Plain) (c a : ℕ) (size : Size) (x : ℕ) (so : IsSoundStore s) w
   abbrev n : ℕ
   n = bytes_in size
 
-  found_at : (v w : ℕ) → Reaches s c v a n → Reaches (after_write s v a n x) c w a n → number_in (after_write s v a n x) w a n ≡ little_endian (low_bytes n x)
+  found_at : (v w : ℕ) → MayWrite s c v a n → Reaches (after_write s v a n x) c w a n → number_in (after_write s v a n x) w a n ≡ little_endian (low_bytes n x)
   found_at v w r after_r =
       let after = after_write s v a n x in
-      let there : Reaches after c v a n = record { holds = r.holds; covers = subst (λ (q : Span). Covers q a n) (sym (span-after_write s v a n x v)) r.covers } in
+      let there : Reaches after c v a n = record { holds = r.reaches.holds; covers = subst (λ (q : Span). Covers q a n) (sym (span-after_write s v a n x v)) r.reaches.covers } in
       let same : w ≡ v = one_value_is_reached after c c w v a n (after_write_sound s c v a n x so r) (some_bytes size) after_r there in
-      ap (λ (k : ℕ). number_in after k a n) same ∙ (writes_touch_named_bytes s c v a n x so r).2
+      ap (λ (k : ℕ). number_in after k a n) same ∙ (writes_touch_named_bytes s c v a n x so r.reaches).2
 
   found_after : (m t : Plain) (found : ℕ) → PlainlyAllowed s c (Store a size x) m → PlainlyAllowed m c (Load a size found) t → found ≡ little_endian (low_bytes n x)
   found_after m t found stored loaded =

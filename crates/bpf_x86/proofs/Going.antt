@@ -36,7 +36,7 @@ pub data OwnTurn (w : World) (program : Loaded) (buffers after : ℕ → List Ev
   NothingWaits : after c ≡ [] → OwnTurn w program buffers after s c k t old left z
   AsBefore : after c ≡ buffers c → (next : Plain) (new : Cpu) (rest : ℕ) → z ≡ new_world w next k t (InHand new rest) w.lists
       → ((lacking : List Event) (l : Plain) → IsBehind c lacking l s → IsBehind c lacking l next) → OwnTurn w program buffers after s c k t old left z
-  OneMore : (a : ℕ) (size : Size) (x n : ℕ) (answer : Progress) (later : Cpu) → left ≡ suc n → Step s.shape.maps program old (Store a size x ∷ []) answer later
+  OneMore : (a : ℕ) (size : Size) (x n : ℕ) (answer : Progress) (later : Cpu) → left ≡ suc n → Step s.shape program old (Store a size x ∷ []) answer later
       → after c ≡ buffers c ++ Store a size x ∷ [] → (next : Plain) (new : Cpu) (rest : ℕ) → z ≡ new_world w next k t (InHand new rest) w.lists → PlainlyAllowed s c (Store a size x) next
       → OwnTurn w program buffers after s c k t old left z
 

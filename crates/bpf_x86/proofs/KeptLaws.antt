@@ -30,7 +30,7 @@ use Rattle.bpf_x86.proofs.Simulating.{race_free_is_same}
 -- the step of a turn, on a job in hand with steps left
 abbrev IsStep : World → ℕ → Task → Cpu → Type 0
 IsStep w c task state = (program : Loaded) × (events : List Event) × (answer : Progress) × (new : Cpu) × (s : Plain) × (slice_get w.programs task.program ≡ Some program)
-    × Step w.store.shape.maps program state events answer new × PlainlyLegal w.store (map (entry c) events) s
+    × Step w.store.shape program state events answer new × PlainlyLegal w.store (map (entry c) events) s
 
 taken_step : (w : World) (c j : ℕ) (task : Task) (state : Cpu) (n : ℕ) (answer : Turn) (y : World) → IsWorld w → IsAt w.jobs c j task (InHand state (suc n)) → TakesTurn w c answer y → IsStep w c task state
 taken_step w c j task state n answer y world at (inl a) =
@@ -80,7 +80,7 @@ module _ (law : WritesAreDetermined) (begins : OneInstructionBegins) (replies : 
       (made.0, made.1, made.2, made.3, made.4, subst (λ (i : ℕ). slice_get z.programs i ≡ Some made.0) program made.5, made.6, made.7)
 
 pub kept_race_free_is_same : WritesAreDetermined → OneInstructionBegins → CallsHaveOneReply → KeptRaceFreeIsSame
-kept_race_free_is_same law begins replies false kept w closed fresh shown free =
-    race_free_is_same law begins replies false w fresh (steps_are_there law begins replies kept w fresh shown closed) free
-kept_race_free_is_same law begins replies true kept w closed fresh shown free =
-    race_free_is_same law begins replies true w fresh (steps_are_patient law begins replies kept w fresh shown closed) free
+kept_race_free_is_same law begins replies false kept w bare closed fresh shown free =
+    race_free_is_same law begins replies false w bare fresh (steps_are_there law begins replies kept w fresh shown closed) free
+kept_race_free_is_same law begins replies true kept w bare closed fresh shown free =
+    race_free_is_same law begins replies true w bare fresh (steps_are_patient law begins replies kept w fresh shown closed) free

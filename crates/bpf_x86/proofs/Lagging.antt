@@ -39,7 +39,7 @@ pub record IsLagging (d : ℕ) (oldest : Event) (lacking : List Event) (l w : Wo
   pub loaded : slice_get l.programs task.program ≡ Some program
   pub answer : Progress
   pub after : Cpu
-  pub step : Step l.store.shape.maps program state (oldest ∷ []) answer after
+  pub step : Step l.store.shape program state (oldest ∷ []) answer after
   pub waits : IsWaiting l.store d oldest
   pub behind : IsBehind d (oldest ∷ lacking) l.store w.store
 
@@ -94,7 +94,7 @@ module _ (d : ℕ) (e : Event) (es : List Event) (c : ℕ) (ne : c ≢ d) where
   lag_advances program l s old (suc n) end t new rest so_l so_s behind a miss =
       let r = behind_events d c ne (e ∷ es) a.0 l s t so_l so_s behind miss a.3 in
       let shape : s.shape ≡ l.shape = sym (ap (λ (z : Plain). z.shape) behind.like.same) in
-      (r.0, (a.0, a.1, subst (λ (h : Shape). Step h.maps program old a.0 a.1 new) shape a.2, r.1, a.4, a.5), r.2)
+      (r.0, (a.0, a.1, subst (λ (h : Shape). Step h program old a.0 a.1 new) shape a.2, r.1, a.4, a.5), r.2)
 
   -- the job of the CPU that lags stays as it is, and the other CPU's are the same in both
   module _ (l w : World) (lag : IsLagging d e es l w) where
@@ -152,7 +152,7 @@ module _ (d : ℕ) (e : Event) (es : List Event) (c : ℕ) (ne : c ≢ d) where
           loaded = lag.loaded;
           answer = lag.answer;
           after = lag.after;
-          step = subst (λ (h : Shape). Step h.maps lag.program lag.state (e ∷ []) lag.answer lag.after) (sym shape) lag.step;
+          step = subst (λ (h : Shape). Step h lag.program lag.state (e ∷ []) lag.answer lag.after) (sym shape) lag.step;
           waits = waits;
           behind = behind;
         }

@@ -2,6 +2,7 @@ pub mod Overlay
 pub mod Written
 pub mod Forwarding
 pub mod Alike
+pub mod Holding
 pub mod Buffers
 pub mod Calling
 pub mod Meeting

@@ -13,25 +13,28 @@ use Rattle.bpf_shared.specs.Store.{Value, Plain, put, IsLive}
 use Rattle.bpf_shared.specs.Events.{Reaches, after_write, after_lookup, number_in}
 use Rattle.bpf_shared.specs.Choice.{PlainlyAllowed}
 use Rattle.bpf_shared.specs.Sound.{IsSoundStore}
+use Rattle.bpf_shared.proofs.Leaving.{event_shape}
 use Rattle.bpf_shared.proofs.Soundness.{allowed_sound}
 use Rattle.bpf_shared.proofs.Puts.{true_or_false, equal_or_not, put-same, put-other, put_pair, put_pair-old}
 use Rattle.bpf_x86.specs.Buffers.{Buffered, Drains, AsksMemory, Calls}
 use Rattle.bpf_x86.specs.Forwarding.{within, overlaid}
+use Rattle.bpf_x86.specs.Laws.{HasNoArrays}
 use Rattle.bpf_x86.proofs.Overlay.{hits_any, all_missed}
 use Rattle.bpf_x86.proofs.Written.{at, address}
 use Rattle.bpf_x86.proofs.Alike.{HasValues, Follows, is_access, follow, held_others}
-use Rattle.bpf_x86.proofs.Buffers.{nobody, AreWaiting, IsClean, IsAhead, reaches_here, reaches_there, still_waiting, unheld_missed}
+use Rattle.bpf_x86.proofs.Buffers.{nobody, AreWaiting, IsClean, IsAhead, holds_here, holds_there, memory_held, still_waiting, unheld_missed}
+use Rattle.bpf_x86.proofs.Holding.{Holds, held_reaches, held_writes}
 use Rattle.bpf_x86.proofs.Calling.{IsClear, flush_of, seen_ahead, drains_ahead, same_read, clear_drained, more_here, more_there, store_ahead}
 
 -- ---- an atomic operation stores and flushes at once
-pub atomic_ahead : (b : Buffered) (s : Plain) (c a : ℕ) (size : Size) (y v : ℕ) → IsAhead b s → b.buffers c ≡ [] → b.memory.running c ≡ true → Reaches s c v a (bytes_in size) → IsClear b.buffers c (Store a size y)
+pub atomic_ahead : (b : Buffered) (s : Plain) (c a : ℕ) (size : Size) (y v : ℕ) → IsAhead b s → b.buffers c ≡ [] → b.memory.running c ≡ true → Holds s c v a (bytes_in size) → IsClear b.buffers c (Store a size y)
     → IsAhead (record { memory = after_write b.memory v a (bytes_in size) y; buffers = b.buffers }) (after_write s v a (bytes_in size) y)
 atomic_ahead b s c a size y v ahead none runs r clear =
     let e : Event = Store a size y in
     let stored = store_ahead b s ahead c a size y v r clear in
     let one : put b.buffers c (b.buffers c ++ e ∷ []) c ≡ e ∷ [] = more_here b s ahead c a size y v r clear ∙ ap (λ (es : List Event). es ++ e ∷ []) none in
     flush_of (record { memory = b.memory; buffers = put b.buffers c (b.buffers c ++ e ∷ []) }) (after_write s v a (bytes_in size) y) c e [] (after_write b.memory v a (bytes_in size) y) b.buffers stored one
-    ((runs, (v, reaches_there s b.memory ahead.like c v a (bytes_in size) r, refl)), tt) none (λ d ne. sym (more_there b s ahead c a size y v r clear d ne))
+    ((runs, (v, held_writes b.memory c v a (bytes_in size) ahead.sound (holds_there s b.memory ahead.like c v a (bytes_in size) r), refl)), tt) none (λ d ne. sym (more_there b s ahead c a size y v r clear d ne))
 
 -- ---- what isn't an access
 module _ (b : Buffered) (s p : Plain) (c : ℕ) (e : Event) (ahead : IsAhead b s) (f : Follows nobody s b.memory c e p)
@@ -85,7 +88,7 @@ module _ (b : Buffered) (s p : Plain) (c : ℕ) (e : Event) (ahead : IsAhead b s
     grows w h,
     elim (stays w) [
       | inl q ↦ ap (λ (y : Value). y.span) q.0
-      | inr q ↦ (let less : w < s.made = ahead.sound_too.live_made w (inr (d, h)) in let same : w ≡ s.made = q.0 in absurd (omega arith))
+      | inr q ↦ (let less : w < s.made = ahead.sound_too.live_made w (inr (inl (d, h))) in let same : w ≡ s.made = q.0 in absurd (omega arith))
     ],
   )
 
@@ -167,6 +170,7 @@ module _ (b : Buffered) (s p : Plain) (c : ℕ) (e : Event) (ahead : IsAhead b s
   pub quiet_ahead : IsSoundStore p → IsAhead (record { memory = p; buffers = b.buffers }) f.next
   quiet_ahead so = record {
     like = f.like;
+    bare = subst HasNoArrays (sym (event_shape s f.next c e f.allowed.0)) ahead.bare;
     sound = so;
     sound_too = next_sound;
     unmade = quiet_unmade;
@@ -178,7 +182,7 @@ module _ (b : Buffered) (s p : Plain) (c : ℕ) (e : Event) (ahead : IsAhead b s
             (own_held w i q.0 q.1 inside (subst (λ (k : ℕ). IsClean b.buffers f.next k w i) same clean) (ap (λ (k : ℕ). f.next.held k w) (sym same) ∙ h))
         | inr ne ↦ other_held w i q.0 q.1 d ne inside clean h
       ]
-      | inr q ↦ (let less : w < s.made = ahead.sound_too.live_made w (inr (d, sym (ap (λ (g : ℕ → ℕ → Bool). g d w) q.2) ∙ h)) in let same : w ≡ s.made = q.0 in absurd (omega arith))
+      | inr q ↦ (let less : w < s.made = ahead.sound_too.live_made w (inr (inl (d, sym (ap (λ (g : ℕ → ℕ → Bool). g d w) q.2) ∙ h))) in let same : w ≡ s.made = q.0 in absurd (omega arith))
     ];
     unheld = λ d w i inside clean h. elim (stays w) [
       | inl q ↦ elim (equal_or_not d c) [
@@ -234,6 +238,10 @@ asking b t s c e it ahead (p, allowed, is) grows new =
       others = λ k ne. ap (λ (z : Buffered). z.buffers k) is;
     }
 
+-- what memory lets the CPU reach it holds in the store that is ahead
+holds_too : (b : Buffered) (s : Plain) (c v a n : ℕ) → IsAhead b s → Reaches b.memory c v a n → Holds s c v a n
+holds_too b s c v a n ahead r = holds_here s b.memory ahead.like c v a n (memory_held b s c v a n ahead r)
+
 -- a lookup
 look_grows : (s next : Plain) (c m : ℕ) (key : List ℕ) (found : Option Span) → PlainlyAllowed s c (Lookup m key found) next → (v : ℕ) → s.held c v ≡ true → next.held c v ≡ true
 look_grows s next c m key found a v h = ap (λ (z : Plain). z.held c v) a.0.1.2 ∙ grown (get (s.maps m) key)
@@ -262,12 +270,12 @@ call_ahead b t s c (Load a size found) ahead clear (m, sees, allowed, is) =
     let drained : Buffered = record { memory = m; buffers = put b.buffers c [] } in
     let ready : IsAhead drained s = seen_ahead b s m c ahead sees in
     let v : ℕ = allowed.0.1.0 in
-    let r : Reaches s c v a (bytes_in size) = reaches_here s m ready.like c v a (bytes_in size) allowed.0.1.1 in
+    let r : Holds s c v a (bytes_in size) = holds_too drained s c v a (bytes_in size) ready allowed.0.1.1 in
     let same : number_in s v a (bytes_in size) ≡ number_in m v a (bytes_in size) =
     same_read drained s c v a (bytes_in size) ready (put-same b.buffers c c [] refl) r (clear_drained b.buffers c (Load a size found) clear) in
     record {
       next = s;
-      allowed = ((runs_here drained s c ready allowed.0.0, (v, r, allowed.0.1.2 ∙ sym same, refl)), tt);
+      allowed = ((runs_here drained s c ready allowed.0.0, (v, held_reaches s c v a (bytes_in size) r, allowed.0.1.2 ∙ sym same, refl)), tt);
       ahead = subst (λ (z : Buffered). IsAhead z s) (sym is) ahead;
       others = λ k ne. ap (λ (z : Buffered). z.buffers k) is;
     }
@@ -275,10 +283,10 @@ call_ahead b t s c (Store a size x) ahead clear (m, new, sees, allowed, is) =
     let drained : Buffered = record { memory = m; buffers = put b.buffers c [] } in
     let ready : IsAhead drained s = seen_ahead b s m c ahead sees in
     let v : ℕ = allowed.0.1.0 in
-    let r : Reaches s c v a (bytes_in size) = reaches_here s m ready.like c v a (bytes_in size) allowed.0.1.1 in
+    let r : Holds s c v a (bytes_in size) = holds_too drained s c v a (bytes_in size) ready allowed.0.1.1.reaches in
     record {
       next = after_write s v a (bytes_in size) x;
-      allowed = ((runs_here drained s c ready allowed.0.0, (v, r, refl)), tt);
+      allowed = ((runs_here drained s c ready allowed.0.0, (v, held_writes s c v a (bytes_in size) ahead.sound_too r, refl)), tt);
       ahead = subst (λ (z : Buffered). IsAhead z (after_write s v a (bytes_in size) x)) (sym is) (store_ahead b s ahead c a size x v r clear);
       others = λ k ne. ap (λ (z : Buffered). z.buffers k) is ∙ more_there b s ahead c a size x v r clear k ne;
     }
@@ -286,7 +294,7 @@ call_ahead b t s c (Atomic a size op operand expected found) ahead clear (d, dra
     let ready : IsAhead d s = drains_ahead b d s c ahead drains in
     let none : d.buffers c ≡ [] = drained_own b d c drains in
     let v : ℕ = allowed.0.1.0 in
-    let r : Reaches s c v a (bytes_in size) = reaches_here s d.memory ready.like c v a (bytes_in size) allowed.0.1.1 in
+    let r : Holds s c v a (bytes_in size) = holds_too d s c v a (bytes_in size) ready allowed.0.1.1.reaches in
     let clear_d : (k x : ℕ) → k ≢ c → within a (bytes_in size) x ≡ true → hits_any (d.buffers k) x ≡ true → ⊥ =
     λ k x ne hit too. clear k x ne hit (sym (ap (λ (es : List Event). hits_any es x) (drained_others b d c drains k ne)) ∙ too) in
     let same : number_in s v a (bytes_in size) ≡ number_in d.memory v a (bytes_in size) = same_read d s c v a (bytes_in size) ready none r clear_d in
@@ -295,7 +303,7 @@ call_ahead b t s c (Atomic a size op operand expected found) ahead clear (d, dra
     atomic_ahead d s c a size y v ready none allowed.0.0 r clear_d in
     record {
       next = after_write s v a (bytes_in size) y;
-      allowed = ((runs_here d s c ready allowed.0.0, (v, r, allowed.0.1.2 ∙ sym same, refl)), tt);
+      allowed = ((runs_here d s c ready allowed.0.0, (v, held_writes s c v a (bytes_in size) ahead.sound_too r, allowed.0.1.2 ∙ sym same, refl)), tt);
       ahead = subst (λ (z : Buffered). IsAhead z (after_write s v a (bytes_in size) y)) (sym is)
           (subst (λ (z : Plain). IsAhead (record { memory = z; buffers = d.buffers }) (after_write s v a (bytes_in size) y)) (sym allowed.0.1.3) after);
       others = λ k ne. ap (λ (z : Buffered). z.buffers k) is ∙ drained_others b d c drains k ne;

@@ -34,6 +34,7 @@ use Rattle.bpf_x86.specs.Laws.{CanStep}
 use Rattle.bpf_x86.proofs.Overlay.{within_parts, hits}
 use Rattle.bpf_x86.proofs.Buffers.{IsWaiting}
 use Rattle.bpf_x86.proofs.Behind.{AllMiss, behind_events}
+use Rattle.bpf_x86.proofs.Holding.{held_writes}
 use Rattle.bpf_x86.proofs.Lagging.{IsLagging, at_l}
 
 -- ---- what is asked touches the same bytes
@@ -93,7 +94,7 @@ lag_next d e es l w lag so = record {
     legal (Store a size x) (v, r) =
         let runs : l.store.running d ≡ true = elim (true_or_false (l.store.running d)) [ inl on ↦ on | inr off ↦ (let has : l.store.held d v ≡ true = r.holds in let none : l.store.held d v ≡ false = (so.idle d off v).0 in cc) ] in
         let t : Plain = after_write l.store v a (bytes_in size) x in
-        (t, (t, ((runs, (v, r, refl)), tt), refl))
+        (t, (t, ((runs, (v, held_writes l.store d v a (bytes_in size) so r, refl)), tt), refl))
     legal Begin h = absurd h
     legal End h = absurd h
     legal (Lookup m key found) h = absurd h
@@ -110,7 +111,7 @@ waiting_touches s d e x waits h = absurd waits
 module _ (law : WritesAreDetermined) (begins : OneInstructionBegins) (replies : CallsHaveOneReply) where
   module _ (c d : ℕ) (ne : c ≢ d) (f : Event) (fs : List Event) (l w : World) (lag : IsLagging d f fs l w) (world_l : IsWorld l) (world_w : IsWorld w)
       (k : ℕ) (task : Task) (state : Cpu) (n : ℕ) (at : IsAt w.jobs c k task (InHand state (suc n))) (program : Loaded) (loaded : slice_get w.programs task.program ≡ Some program)
-      (done : List Event) (e : Event) (rest : List Event) (answer : Progress) (new : Cpu) (step : Step w.store.shape.maps program state (done ++ e ∷ rest) answer new)
+      (done : List Event) (e : Event) (rest : List Event) (answer : Progress) (new : Cpu) (step : Step w.store.shape program state (done ++ e ∷ rest) answer new)
       (u : Plain) (legal : PlainlyLegal w.store (map (entry c) done) u) (miss : AllMiss (f ∷ fs) done) (x : ℕ) (hit : hits e x ≡ true) (hit_too : hits f x ≡ true) where
     abbrev here : Stand
     here = record { cpu = c; program = task.program; pc = state.pc }
@@ -129,9 +130,9 @@ module _ (law : WritesAreDetermined) (begins : OneInstructionBegins) (replies : 
         let both : Some a.0 ≡ Some program = sym a.5 ∙ listed in
         let one : a.0 ≡ program = cc in
         let shape : w.store.shape ≡ l.store.shape = sym (ap (λ (z : Plain). z.shape) lag.behind.like.same) in
-        let mine : Step l.store.shape.maps program state (done ++ e ∷ rest) answer new = subst (λ (h : Shape). Step h.maps program state (done ++ e ∷ rest) answer new) shape step in
-        let theirs : Step l.store.shape.maps program state a.1 a.2 a.3 = subst (λ (p : Loaded). Step l.store.shape.maps p state a.1 a.2 a.3) one a.6 in
-        let agrees = step_agrees law begins l.store.shape.maps program state new a.3 answer a.2 (done ++ e ∷ rest) a.1 (world_l.memory c k task state (suc n) at_here) mine theirs in
+        let mine : Step l.store.shape program state (done ++ e ∷ rest) answer new = subst (λ (h : Shape). Step h program state (done ++ e ∷ rest) answer new) shape step in
+        let theirs : Step l.store.shape program state a.1 a.2 a.3 = subst (λ (p : Loaded). Step l.store.shape p state a.1 a.2 a.3) one a.6 in
+        let agrees = step_agrees law begins l.store.shape program state new a.3 answer a.2 (done ++ e ∷ rest) a.1 (world_l.memory c k task state (suc n) at_here) mine theirs in
         let lagged = behind_events d c ne (f ∷ fs) done l.store w.store u world_l.store world_w.store lag.behind miss legal in
         let r = asked_next replies c done e rest a.1 l.store lagged.0 a.4 world_l.store agrees.asks lagged.1 a.7 in (
           r.0,

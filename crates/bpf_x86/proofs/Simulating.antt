@@ -4,6 +4,7 @@ use Rattle.std.proofs.Common.{◌≡◌, ◌≢◌, ℕ, zero, suc, ◌<◌, ◌
 use Rattle.std.specs.Prelude.{slice_get, slice_set}
 use Rattle.std.proofs.lemmas.Bool.{cases_lt, or_right}
 use Rattle.bpf_base.proofs.Lists.{slice_get-set_known, slice_get-set_other, set_twice}
+use Rattle.bpf_shared.specs.Access.{bytes_in}
 use Rattle.bpf_shared.specs.declared.events.Size.{Size}
 use Rattle.bpf_shared.specs.declared.events.Span.{Span}
 use Rattle.bpf_shared.specs.declared.events.Event.{Event}
@@ -32,7 +33,7 @@ use Rattle.bpf_machine.proofs.ListLaws.{lists_jobs}
 use Rattle.bpf_machine.proofs.DeterminedTurns.{IsWorld, same_stage, fresh_world, runs_world}
 use Rattle.bpf_x86.specs.Buffers.{Buffered, Flushes}
 use Rattle.bpf_x86.specs.Machine.{FlushOf, GoesOn, Move, Moves, RunsMoves, Settled, TakesTurn, TurnOf, X86, buffered, drained, with_buffered}
-use Rattle.bpf_x86.specs.Laws.{Counts, IsRaceFree, StepsAreThere, RaceFreeIsSame}
+use Rattle.bpf_x86.specs.Laws.{Counts, HasNoArrays, IsRaceFree, StepsAreThere, RaceFreeIsSame}
 use Rattle.bpf_x86.specs.Forwarding.{overlaid}
 use Rattle.bpf_x86.proofs.Overlay.{hits, hits_any}
 use Rattle.bpf_x86.proofs.Written.{at, address, same_list}
@@ -41,6 +42,7 @@ use Rattle.bpf_x86.proofs.Buffers.{IsClean, IsAhead}
 use Rattle.bpf_x86.proofs.Calling.{flushes_ahead}
 use Rattle.bpf_x86.proofs.Meeting.{call_ahead}
 use Rattle.bpf_x86.proofs.Behind.{IsBehind, AllMiss, own_store_behind}
+use Rattle.bpf_x86.proofs.Holding.{reached_held}
 use Rattle.bpf_x86.proofs.StepShapes.{AreNot, first_accesses_none}
 use Rattle.bpf_x86.proofs.Lagging.{IsLagging, HasLags, lag_at, miss_fewer, AdvanceMisses, new_world}
 use Rattle.bpf_x86.proofs.Following.{TurnMisses, lag_turn}
@@ -124,7 +126,7 @@ middle_not : (test : Event → Bool) (done : List Event) (e : Event) (rest : Lis
 middle_not test [] e rest not = not.0
 middle_not test (f ∷ fs) e rest not = middle_not test fs e rest not.1
 
-module _ (law : WritesAreDetermined) (begins : OneInstructionBegins) (replies : CallsHaveOneReply) (patient : Bool) (first : World) (fresh : IsFresh first) (there : StepsAreThere patient first) (free : IsRaceFree patient first) where
+module _ (law : WritesAreDetermined) (begins : OneInstructionBegins) (replies : CallsHaveOneReply) (patient : Bool) (first : World) (bare_first : HasNoArrays first.store.shape) (fresh : IsFresh first) (there : StepsAreThere patient first) (free : IsRaceFree patient first) where
   reached : (schedule : List ℕ) (z : World) → RunsSchedule first schedule z → IsWorld z
   reached schedule z runs = runs_world law begins replies schedule first z (fresh_world law begins replies first fresh) runs
 
@@ -147,21 +149,21 @@ module _ (law : WritesAreDetermined) (begins : OneInstructionBegins) (replies : 
       let has = lag.2 in
       let there_l = reached has.schedule has.world has.runs in
       let at' : IsAt w.jobs c k task (InHand state (suc n)) = subst (λ (i : ℕ). IsAt w.jobs c k task (InHand state i)) lefts at in
-      let step' : Step w.store.shape.maps program state (done ++ e ∷ rest) answer new = subst (λ (es : List Event). Step w.store.shape.maps program state es answer new) is step in
+      let step' : Step w.store.shape program state (done ++ e ∷ rest) answer new = subst (λ (es : List Event). Step w.store.shape program state es answer new) is step in
       let miss' : AllMiss (lag.0 ∷ lag.1) done = miss_fewer (b.buffers d) (lag.0 ∷ lag.1) done lag.4 (miss d ne) in
       let counted : Counts patient has.world.jobs = lag_counts patient d lag.0 lag.1 has.world w has.lags counts in
       free has.schedule has.world has.runs counted _ _ x
       (race_here law begins replies c d (λ q. ne (sym q)) lag.0 lag.1 has.world w has.lags there_l world k task state n at' program loaded done e rest answer new step' u legal miss' x hit lag.3 (there has.schedule has.world has.runs counted))
 
   -- those of a job that starts touch nothing
-  judged_first : (b : Buffered) (s : Plain) (c : ℕ) (context : List ℕ) (left : ℕ) (program : Loaded) → JudgeStep program c b s (start c context) left
-  judged_first b s c context left program n lefts events answer new step done e rest u is legal miss d x ne hit too =
-      let none = first_accesses_none s.shape.maps program c context new events answer step in
+  judged_first : (b : Buffered) (s : Plain) → HasNoArrays s.shape → (c : ℕ) (context : List ℕ) (left : ℕ) (program : Loaded) → JudgeStep program c b s (start c context) left
+  judged_first b s bare c context left program n lefts events answer new step done e rest u is legal miss d x ne hit too =
+      let none = first_accesses_none s.shape bare program c context new events answer step in
       no_access e x (middle_not is_access done e rest (subst (AreNot is_access) is none)) hit
 
   -- ---- a CPU's own lags
   -- its job in hand is the one that each of them is about
-  module _ (w : World) (world : IsWorld w) (c k : ℕ) (t : Task) (old : Cpu) (left : ℕ) (at : IsAt w.jobs c k t (InHand old left)) (next : Plain) (new : Cpu) (rest : ℕ) where
+  module _ (w : World) (bare : HasNoArrays w.store.shape) (world : IsWorld w) (c k : ℕ) (t : Task) (old : Cpu) (left : ℕ) (at : IsAt w.jobs c k t (InHand old left)) (next : Plain) (new : Cpu) (rest : ℕ) where
     abbrev z : World
     z = new_world w next k t (InHand new rest) w.lists
 
@@ -209,7 +211,7 @@ module _ (law : WritesAreDetermined) (begins : OneInstructionBegins) (replies : 
     itself = record { like = record { same = refl; spans = λ v. refl; fewer = λ d v h. h; others = λ d ne. refl }; bytes = λ v i clean. refl }
 
     own_more : (schedule : List ℕ) → RunsSchedule first schedule w → (program : Loaded) → slice_get w.programs t.program ≡ Some program → (a : ℕ) (size : Size) (x n : ℕ) (answer : Progress) (later : Cpu) → left ≡ suc n
-        → Step w.store.shape.maps program old (Store a size x ∷ []) answer later → PlainlyAllowed w.store c (Store a size x) next → (es : List Event) → HasLags first c es w → HasLags first c (es ++ Store a size x ∷ []) z
+        → Step w.store.shape program old (Store a size x ∷ []) answer later → PlainlyAllowed w.store c (Store a size x) next → (es : List Event) → HasLags first c es w → HasLags first c (es ++ Store a size x ∷ []) z
     own_more schedule runs program loaded a size x n answer later lefts step allowed [] lags = (
       record {
         world = w;
@@ -231,8 +233,8 @@ module _ (law : WritesAreDetermined) (begins : OneInstructionBegins) (replies : 
           answer = answer;
           after = later;
           step = step;
-          waits = (allowed.0.1.0, allowed.0.1.1);
-          behind = own_store_behind c [] w.store w.store next a size x world.store itself allowed;
+          waits = (allowed.0.1.0, reached_held w.store c allowed.0.1.0 a (bytes_in size) bare allowed.0.1.1.reaches);
+          behind = own_store_behind c [] w.store w.store next a size x bare world.store itself allowed;
         };
       },
       tt,
@@ -243,7 +245,7 @@ module _ (law : WritesAreDetermined) (begins : OneInstructionBegins) (replies : 
             world = lag.world;
             schedule = lag.schedule;
             runs = lag.runs;
-            lags = own_lag e es (es ++ Store a size x ∷ []) lag.world lag.lags (own_store_behind c (e ∷ es) lag.world.store w.store next a size x world.store lag.lags.behind allowed);
+            lags = own_lag e es (es ++ Store a size x ∷ []) lag.world lag.lags (own_store_behind c (e ∷ es) lag.world.store w.store next a size x bare world.store lag.lags.behind allowed);
           },
           own_more schedule runs program loaded a size x n answer later lefts step allowed es lags.1,
         )
@@ -269,19 +271,22 @@ module _ (law : WritesAreDetermined) (begins : OneInstructionBegins) (replies : 
         },
       )
     where
+      bare : HasNoArrays w.store.shape
+      bare = sim.ahead.bare
+
       own : IsWorld w → (next : World) (program : Loaded) → slice_get w.programs t.program ≡ Some program → OwnTurn w program buffers z.buffers w.store c k t old left next → HasLags first c (z.buffers c) next
       own world next program loaded (NothingWaits none) = subst (λ (es : List Event). HasLags first c es next) (sym none) tt
       own world next program loaded (AsBefore same q new rest is stays) =
-          subst (λ (es : List Event). HasLags first c es next) (sym same) (subst (HasLags first c (buffers c)) (sym is) (own_kept w world c k t old left at q new rest stays (buffers c) (sim.lags c)))
+          subst (λ (es : List Event). HasLags first c es next) (sym same) (subst (HasLags first c (buffers c)) (sym is) (own_kept w bare world c k t old left at q new rest stays (buffers c) (sim.lags c)))
       own world next program loaded (OneMore a size x n said later lefts step more q new rest is allowed) =
           subst (λ (es : List Event). HasLags first c es next) (sym more) (subst (HasLags first c (buffers c ++ Store a size x ∷ [])) (sym is)
-          (own_more w world c k t old left at q new rest sim.schedule sim.runs program loaded a size x n said later lefts step allowed (buffers c) (sim.lags c)))
+          (own_more w bare world c k t old left at q new rest sim.schedule sim.runs program loaded a size x n said later lefts step allowed (buffers c) (sim.lags c)))
   turned w p buffers c answer z counts sim (inr (inl (idle, (k, t, context, b, at, below, begun, goes)))) =
       let world = reached sim.schedule w sim.runs in
       let before : Buffered = record { memory = p; buffers = buffers } in
       let r = call_ahead before b w.store c Begin sim.ahead (λ d x ne hit too. cc) begun in
       let none : b.buffers c ≡ [] = ap (λ (y : Buffered). y.buffers c) begun.2.2 ∙ ap (λ (y : Buffered). y.buffers c) begun.1.2 ∙ put-same buffers c c [] refl in
-      let g = goes_on w b r.next c k t (start c context) t.budget answer z r.ahead (λ program loaded. judged_first b r.next c context t.budget program) goes in
+      let g = goes_on w b r.next c k t (start c context) t.budget answer z r.ahead (λ program loaded. judged_first b r.next r.ahead.bare c context t.budget program) goes in
       let taken : plain.TakesTurn w c answer g.next = inr (inl (idle, (k, t, context, r.next, at, below, r.allowed, g.goes))) in (
         g.next,
         record {
@@ -290,7 +295,7 @@ module _ (law : WritesAreDetermined) (begins : OneInstructionBegins) (replies : 
           world = g.world;
           ahead = g.ahead;
           lags = λ d. elim (equal_or_not d c) [
-            | inl same ↦ subst (λ (i : ℕ). HasLags first i (z.buffers i) g.next) (sym same) (subst (λ (es : List Event). HasLags first c es g.next) (sym (own b r.next none g.next g.goes.0 g.own)) tt)
+            | inl same ↦ subst (λ (i : ℕ). HasLags first i (z.buffers i) g.next) (sym same) (subst (λ (es : List Event). HasLags first c es g.next) (sym (own b r.next r.ahead.bare none g.next g.goes.0 g.own)) tt)
             | inr ne ↦ subst (λ (es : List Event). HasLags first d es g.next) (sym (g.others d ne ∙ r.others d ne))
                 (lags_follow d c (λ q. ne (sym q)) (buffers d) w g.next answer taken world (misses_on (b.buffers d) (buffers d) (r.others d ne) r.next (g.goes.0) (g.goes.1) (g.goes.2) (g.goes.3) (g.goes.4) (g.goes.6) (g.misses d ne)) (sim.lags d))
           ];
@@ -301,11 +306,11 @@ module _ (law : WritesAreDetermined) (begins : OneInstructionBegins) (replies : 
           → AdvanceMisses es program c s (start c context) t.budget end q new rest a → AdvanceMisses fs program c s (start c context) t.budget end q new rest a
       misses_on es fs same s program end q new rest a miss = subst (λ (gs : List Event). AdvanceMisses gs program c s (start c context) t.budget end q new rest a) same miss
 
-      own : (b : Buffered) (s : Plain) → b.buffers c ≡ [] → (next : World) (program : Loaded) → OwnTurn w program b.buffers z.buffers s c k t (start c context) t.budget next → z.buffers c ≡ []
-      own b s none next program (NothingWaits empty) = empty
-      own b s none next program (AsBefore same q new rest is stays) = same ∙ none
-      own b s none next program (OneMore a size x n said later lefts step more q new rest is allowed) =
-          let not = first_accesses_none s.shape.maps program c context later (Store a size x ∷ []) said step in
+      own : (b : Buffered) (s : Plain) → HasNoArrays s.shape → b.buffers c ≡ [] → (next : World) (program : Loaded) → OwnTurn w program b.buffers z.buffers s c k t (start c context) t.budget next → z.buffers c ≡ []
+      own b s bare none next program (NothingWaits empty) = empty
+      own b s bare none next program (AsBefore same q new rest is stays) = same ∙ none
+      own b s bare none next program (OneMore a size x n said later lefts step more q new rest is allowed) =
+          let not = first_accesses_none s.shape bare program c context later (Store a size x ∷ []) said step in
           let no : true ≡ false = not.0 in
           cc
   turned w p buffers c answer z counts sim (inr (inr (idle, none, said, same))) = (w, subst (λ (x : X86). IsSimulated first x w) (sym same) sim)
@@ -344,6 +349,7 @@ module _ (law : WritesAreDetermined) (begins : OneInstructionBegins) (replies : 
   begins_ahead : IsAhead (buffered (drained first)) first.store
   begins_ahead = record {
     like = record { same = refl; spans = λ v. refl; fewer = λ c v h. h; others = λ c ne. refl };
+    bare = bare_first;
     sound = fresh.store;
     sound_too = fresh.store;
     unmade = λ v most. refl;
@@ -411,12 +417,12 @@ nothing_waits b s ahead none =
     values = same_functions s.value b.memory.value one
 
 pub race_free_is_same : WritesAreDetermined → OneInstructionBegins → CallsHaveOneReply → RaceFreeIsSame
-race_free_is_same law begins replies patient w fresh there free moves z runs ended counts =
-    let r = all_moved law begins replies patient w fresh there free moves (drained w) w z counts (begins_simulated law begins replies patient w fresh there free) runs in
+race_free_is_same law begins replies patient w bare fresh there free moves z runs ended counts =
+    let r = all_moved law begins replies patient w bare fresh there free moves (drained w) w z counts (begins_simulated law begins replies patient w bare fresh there free) runs in
     let sim = r.1 in
     let jobs : z.world.jobs ≡ r.0.jobs = ap (λ (x : World). x.jobs) sim.world in
     let over_it : HaveEnded r.0.jobs = subst HaveEnded jobs ended in
-    let none : (c : ℕ) → z.buffers c ≡ [] = λ c. no_lags law begins replies patient w fresh there free c (z.buffers c) r.0 over_it (sim.lags c) in
+    let none : (c : ℕ) → z.buffers c ≡ [] = λ c. no_lags law begins replies patient w bare fresh there free c (z.buffers c) r.0 over_it (sim.lags c) in
     let stores : r.0.store ≡ z.world.store = nothing_waits (buffered z) r.0.store sim.ahead none in
     let same : r.0 ≡ z.world = ap (λ (q : Plain). record r.0 { store = q }) stores ∙ sym sim.world in
     (sim.schedule, subst (RunsSchedule w sim.schedule) same sim.runs)

@@ -1,5 +1,9 @@
--- The events of a step: a store is alone, and a job's first step touches no value.
-use Rattle.std.proofs.Common.{◌≡◌, ℕ, suc, ◌+◌, ◌<◌, Bool, true, false, ◌&&◌, not, List, [], ◌∷◌, ◌++◌, length, Option, Result, ◌⊎◌, inl, inr, refl, sym, ap, subst, ◌∙◌, arith}
+-- The events of a step: where there are no arrays a store is alone, and a job's first step touches no
+-- value; in any store, a step with a store makes loads and stores alone.
+use Rattle.std.proofs.Common.{◌≡◌, ℕ, suc, ◌+◌, ◌<◌, Bool, true, false, List, [], ◌∷◌, ◌++◌, length, take, drop, Option, Some, None, Result, ◌⊎◌, inl, inr, refl, sym, ap, subst, ◌∙◌, arith}
+use Rattle.bpf_shared.specs.Access.{bytes_in}
+use Rattle.bpf_shared.specs.Shape.{Shape}
+use Rattle.bpf_shared.specs.declared.shapes.ArrayShape.{ArrayShape}
 use Rattle.bpf_insn.specs.declared.instruction.Insn.{Insn}
 use Rattle.bpf_insn.specs.declared.instruction.Insn.TheVariants as insn
 use Rattle.bpf_insn.specs.declared.operation.sizes.Size as op
@@ -13,21 +17,24 @@ use Rattle.bpf_mem.specs.declared.memory.PrivateMemory.{PrivateMemory}
 use Rattle.bpf_shared.specs.declared.events.Size.{Size}
 use Rattle.bpf_shared.specs.declared.events.Span.{Span}
 use Rattle.bpf_shared.specs.declared.events.Event.{Event}
-use Rattle.bpf_shared.specs.declared.events.Event.TheVariants.{Lookup, Update, Delete, Store}
+use Rattle.bpf_shared.specs.declared.events.Event.TheVariants.{Lookup, Update, Delete, Load, Store}
 use Rattle.bpf_shared.specs.declared.events.MapAnswer.{MapAnswer}
 use Rattle.bpf_shared.specs.declared.shapes.MapShape.{MapShape}
 use Rattle.bpf_helpers.specs.declared.fault.HelperFault.{HelperFault}
-use Rattle.bpf_helpers.specs.Calls.{CallsHelper, CallsMap}
+use Rattle.bpf_helpers.specs.Arrays.{IsInArray, area_of, copies, parts_of}
+use Rattle.bpf_helpers.specs.Calls.{CallsHelper, CallsMap, CallsArray, IsArrayAt, StopsAtKey, Answers}
 use Rattle.bpf_helpers.specs.Held.{reaches, is_covered}
-use Rattle.bpf_helpers.specs.Reads.{loads, Reads}
+use Rattle.bpf_helpers.specs.Reads.{loads, no_loads, Reads, ReadsIndex}
 use Rattle.bpf_loader.specs.Loaded.{Loaded}
 use Rattle.bpf_cpu.specs.declared.cpu.Cpu.{Cpu}
 use Rattle.bpf_cpu.specs.declared.outcome.Progress.{Progress}
-use Rattle.bpf_cpu.specs.Row.{is_reached, plain_size, extension_of}
+use Rattle.bpf_cpu.specs.Row.{plain_size, extension_of}
 use Rattle.bpf_cpu.specs.State.{start, effective_address, value}
 use Rattle.bpf_cpu.specs.Step.{Step, Executes}
-use Rattle.bpf_cpu.specs.Values.{is_in_value, asks_value, event_size_of, LoadsValue, StoresValue, ChangesValue, AsksValue}
+use Rattle.bpf_cpu.specs.Values.{event_size_of, IsThere, LoadsValue, StoresValue, ChangesValue, AsksValue}
+use Rattle.bpf_x86.specs.Laws.{HasNoArrays}
 use Rattle.bpf_x86.proofs.Alike.{is_access}
+use Rattle.bpf_x86.proofs.Holding.{no_array}
 
 -- each of the events fails the test
 abbrev pub AreNot : (Event → Bool) → List Event → Type 0
@@ -38,9 +45,11 @@ abbrev pub is_store : Event → Bool
 is_store (Store a size x) = true
 is_store _ = false
 
--- they are one store, or none is a store
-abbrev pub StoreAlone : List Event → Type 0
-StoreAlone events = AreNot is_store events ⊎ ((a : ℕ) × (size : Size) × (x : ℕ) × (events ≡ Store a size x ∷ []))
+-- neither a load nor a store
+abbrev pub is_call : Event → Bool
+is_call (Load a size found) = false
+is_call (Store a size x) = false
+is_call _ = true
 
 AreNot-append : (test : Event → Bool) (xs ys : List Event) → AreNot test xs → AreNot test ys → AreNot test (xs ++ ys)
 AreNot-append test [] ys p q = q
@@ -54,46 +63,106 @@ loads_not : (a : ℕ) (bytes : List ℕ) → AreNot is_store (loads a bytes)
 loads_not a [] = tt
 loads_not a (byte ∷ bytes) = (refl, loads_not (suc a) bytes)
 
-module _ (test : Event → Bool) (memory : PrivateMemory) (held : List Span)
-    (reads : (a n : ℕ) (key : List ℕ) (first : List Event) → Reads memory held a n key first → AreNot test first)
-    (looks : (m : ℕ) (key : List ℕ) (found : Option Span) → test (Lookup m key found) ≡ false)
-    (updates : (m : ℕ) (key bytes : List ℕ) (flags : ℕ) (answer : MapAnswer) → test (Update m key bytes flags answer) ≡ false)
-    (deletes : (m : ℕ) (key : List ℕ) (answer : MapAnswer) → test (Delete m key answer) ≡ false) where
-  map_not : (registers : List ℕ) (m : ℕ) (h : MapShape) (n : ℕ) (events : List Event) (result : Result ℕ HelperFault) (after : List Span) → CallsMap memory registers m h held n events result after → AreNot test events
-  map_not registers m h n events result after (inl (is, inl stops)) = none_of test events stops.1.0
-  map_not registers m h n events result after (inl (is, inr r)) =
-      subst (AreNot test) (sym r.4) (AreNot-append test r.1 (Lookup m r.0 r.2 ∷ []) (reads _ _ r.0 r.1 r.3) (looks m r.0 r.2, tt))
-  map_not registers m h n events result after (inr (inl (is, inl stops))) = none_of test events stops.1.0
-  map_not registers m h n events result after (inr (inl (is, inr r))) =
-      subst (AreNot test) (sym r.7) (AreNot-append test (r.2 ++ r.3) (Update m r.0 r.1 _ r.4 ∷ []) (AreNot-append test r.2 r.3 (reads _ _ r.0 r.2 r.5) (reads _ _ r.1 r.3 r.6)) (updates m r.0 r.1 _ r.4, tt))
-  map_not registers m h n events result after (inr (inr (is, inl stops))) = none_of test events stops.1.0
-  map_not registers m h n events result after (inr (inr (is, inr r))) =
-      subst (AreNot test) (sym r.4) (AreNot-append test r.1 (Delete m r.0 r.2 ∷ []) (reads _ _ r.0 r.1 r.3) (deletes m r.0 r.2, tt))
+loads_no_call : (a : ℕ) (bytes : List ℕ) → AreNot is_call (loads a bytes)
+loads_no_call a [] = tt
+loads_no_call a (byte ∷ bytes) = (refl, loads_no_call (suc a) bytes)
 
-  helper_not : (shapes : List MapShape) (n cpu : ℕ) (registers : List ℕ) (events : List Event) (result : Result ℕ HelperFault) (after : List Span) → CallsHelper shapes n cpu registers memory held events result after → AreNot test events
-  helper_not shapes n cpu registers events result after (inl r) = none_of test events r.1
-  helper_not shapes n cpu registers events result after (inr (inl r)) = none_of test events r.2.0
-  helper_not shapes n cpu registers events result after (inr (inr r)) = map_not registers r.0 r.1 n events result after r.3
+module _ (shape : Shape) (memory : PrivateMemory) (held : List Span) where
+  module _ (test : Event → Bool)
+      (reads : (a n : ℕ) (key : List ℕ) (first : List Event) → Reads shape memory held a n key first → AreNot test first)
+      (looks : (m : ℕ) (key : List ℕ) (found : Option Span) → test (Lookup m key found) ≡ false)
+      (updates : (m : ℕ) (key bytes : List ℕ) (flags : ℕ) (answer : MapAnswer) → test (Update m key bytes flags answer) ≡ false)
+      (deletes : (m : ℕ) (key : List ℕ) (answer : MapAnswer) → test (Delete m key answer) ≡ false) where
+    map_not : (registers : List ℕ) (m : ℕ) (h : MapShape) (n : ℕ) (events : List Event) (result : Result ℕ HelperFault) (after : List Span) → CallsMap shape memory registers held m h n events result after → AreNot test events
+    map_not registers m h n events result after (inl (is, inl stops)) = none_of test events stops.1.0
+    map_not registers m h n events result after (inl (is, inr r)) =
+        subst (AreNot test) (sym r.4) (AreNot-append test r.1 (Lookup m r.0 r.2 ∷ []) (reads _ _ r.0 r.1 r.3) (looks m r.0 r.2, tt))
+    map_not registers m h n events result after (inr (inl (is, inl stops))) = none_of test events stops.1.0
+    map_not registers m h n events result after (inr (inl (is, inr r))) =
+        subst (AreNot test) (sym r.7) (AreNot-append test (r.2 ++ r.3) (Update m r.0 r.1 _ r.4 ∷ []) (AreNot-append test r.2 r.3 (reads _ _ r.0 r.2 r.5) (reads _ _ r.1 r.3 r.6)) (updates m r.0 r.1 _ r.4, tt))
+    map_not registers m h n events result after (inr (inr (is, inl stops))) = none_of test events stops.1.0
+    map_not registers m h n events result after (inr (inr (is, inr r))) =
+        subst (AreNot test) (sym r.4) (AreNot-append test r.1 (Delete m r.0 r.2 ∷ []) (reads _ _ r.0 r.1 r.3) (deletes m r.0 r.2, tt))
 
-reads_no_store : (memory : PrivateMemory) (held : List Span) (a n : ℕ) (key : List ℕ) (first : List Event) → Reads memory held a n key first → AreNot is_store first
-reads_no_store memory held a n key first (inl r) = none_of is_store first r.1
-reads_no_store memory held a n key first (inr r) = subst (AreNot is_store) (sym r.3) (loads_not a key)
+  -- a call on an array
+  abbrev IsArrayCall : ℕ → ℕ → List ℕ → List Event → Result ℕ HelperFault → List Span → Type 0
+  IsArrayCall n cpu registers events result after =
+      (a : ℕ) × (g : ArrayShape) × IsArrayAt shape.arrays registers a g × CallsArray shape memory registers held cpu a g n events result after
+
+  helper_kind : (test : Event → Bool)
+      → ((a n : ℕ) (key : List ℕ) (first : List Event) → Reads shape memory held a n key first → AreNot test first)
+      → ((m : ℕ) (key : List ℕ) (found : Option Span) → test (Lookup m key found) ≡ false)
+      → ((m : ℕ) (key bytes : List ℕ) (flags : ℕ) (answer : MapAnswer) → test (Update m key bytes flags answer) ≡ false)
+      → ((m : ℕ) (key : List ℕ) (answer : MapAnswer) → test (Delete m key answer) ≡ false)
+      → (n cpu : ℕ) (registers : List ℕ) (events : List Event) (result : Result ℕ HelperFault) (after : List Span) → CallsHelper shape n cpu registers memory held events result after
+      → AreNot test events ⊎ IsArrayCall n cpu registers events result after
+  helper_kind test reads looks updates deletes n cpu registers events result after (inl r) = inl (none_of test events r.1)
+  helper_kind test reads looks updates deletes n cpu registers events result after (inr (inl r)) = inl (none_of test events r.3.0)
+  helper_kind test reads looks updates deletes n cpu registers events result after (inr (inr (inl r))) = inl (map_not test reads looks updates deletes registers r.0 r.1 n events result after r.3)
+  helper_kind test reads looks updates deletes n cpu registers events result after (inr (inr (inr r))) = inr (r.0, r.1, r.2, r.4)
+
+  -- without arrays there is none
+  bare_not : HasNoArrays shape → (test : Event → Bool) (n cpu : ℕ) (registers : List ℕ) (events : List Event) (result : Result ℕ HelperFault) (after : List Span) → AreNot test events ⊎ IsArrayCall n cpu registers events result after → AreNot test events
+  bare_not bare test n cpu registers events result after (inl none) = none
+  bare_not bare test n cpu registers events result after (inr call) = absurd (no_array shape call.0 call.1 bare call.2.1)
+
+  reads_no_store : (a n : ℕ) (key : List ℕ) (first : List Event) → Reads shape memory held a n key first → AreNot is_store first
+  reads_no_store a n key first (inl r) = none_of is_store first r.1
+  reads_no_store a n key first (inr r) = subst (AreNot is_store) (sym r.3) (loads_not a key)
+
+  helper_stores : (n cpu : ℕ) (registers : List ℕ) (events : List Event) (result : Result ℕ HelperFault) (after : List Span) → CallsHelper shape n cpu registers memory held events result after
+      → AreNot is_store events ⊎ IsArrayCall n cpu registers events result after
+  helper_stores = helper_kind is_store reads_no_store (λ m key found. refl) (λ m key bytes flags answer. refl) (λ m key answer. refl)
+
+  -- ---- calls on arrays make loads and stores alone
+  stops_no_call : (registers : List ℕ) (events : List Event) (result : Result ℕ HelperFault) (after : List Span) → StopsAtKey shape memory registers held events result after → AreNot is_call events
+  stops_no_call registers events result after (inl r) = none_of is_call events r.1.0
+  stops_no_call registers events result after (inr r) = none_of is_call events r.1.0
+
+  index_no_call : (a index : ℕ) (events : List Event) → ReadsIndex shape memory held a index events → AreNot is_call events
+  index_no_call a index events (inl r) = none_of is_call events r.3
+  index_no_call a index events (inr r) = subst (AreNot is_call) (sym r.3) (refl, tt)
+
+  copies_no_call : (reading : ℕ → List ℕ → List Event) → ((a : ℕ) (bytes : List ℕ) → AreNot is_call (reading a bytes)) → (sizes : List Size) (from to : ℕ) (bytes : List ℕ) → AreNot is_call (copies reading from to sizes bytes)
+  copies_no_call reading none [] from to bytes = tt
+  copies_no_call reading none (size ∷ sizes) from to bytes =
+      AreNot-append is_call (reading from (take (bytes_in size) bytes)) _ (none from (take (bytes_in size) bytes))
+      (refl, copies_no_call reading none sizes (from + bytes_in size) (to + bytes_in size) (drop (bytes_in size) bytes))
+
+  answers_no_call : (registers : List ℕ) (to n : ℕ) (refusal : Option ℕ) (events : List Event) (result : Result ℕ HelperFault) → Answers shape memory registers held to n refusal events result → AreNot is_call events
+  answers_no_call registers to n (Some refusal) events result r = none_of is_call events r.0
+  answers_no_call registers to n None events result (said, inl r) = subst (AreNot is_call) (sym r.2) (copies_no_call no_loads (λ a bytes. tt) (parts_of n) _ to r.0)
+  answers_no_call registers to n None events result (said, inr r) = subst (AreNot is_call) (sym r.3) (copies_no_call loads loads_no_call (parts_of n) _ to r.0)
+
+  array_no_call : (n cpu : ℕ) (registers : List ℕ) (events : List Event) (result : Result ℕ HelperFault) (after : List Span) → IsArrayCall n cpu registers events result after → AreNot is_call events
+  array_no_call n cpu registers events result after (a, g, at, inl (is, inl stops)) = stops_no_call registers events result after stops
+  array_no_call n cpu registers events result after (a, g, at, inl (is, inr r)) = index_no_call _ r.0 events r.1
+  array_no_call n cpu registers events result after (a, g, at, inr (inl (is, inl stops))) = none_of is_call events stops.1.0
+  array_no_call n cpu registers events result after (a, g, at, inr (inl (is, inr (inl odd)))) = none_of is_call events odd.2.0
+  array_no_call n cpu registers events result after (a, g, at, inr (inl (is, inr (inr r)))) =
+      subst (AreNot is_call) (sym r.5) (AreNot-append is_call r.1 r.2 (index_no_call _ r.0 r.1 r.4) (answers_no_call registers _ g.value _ r.2 result r.6))
+  array_no_call n cpu registers events result after (a, g, at, inr (inr (is, inl stops))) = stops_no_call registers events result after stops
+  array_no_call n cpu registers events result after (a, g, at, inr (inr (is, inr r))) = none_of is_call events r.2
 
 -- ---- accesses to values
-module _ (old new : Cpu) (events : List Event) (progress : Progress) where
-  loads_alone : (z : op.Size) (reading : ℕ → ℕ) (d : Reg) (a : ℕ) → LoadsValue z reading d a old events progress new → StoreAlone events
-  loads_alone z reading d a (inl odd) = inl (none_of is_store events odd.1)
+-- no event, or one load or atomic operation; or one store
+abbrev IsOne : List Event → Type 0
+IsOne events = AreNot is_store events ⊎ ((a : ℕ) × (size : Size) × (x : ℕ) × (events ≡ Store a size x ∷ []))
+
+module _ (shape : Shape) (old new : Cpu) (events : List Event) (progress : Progress) where
+  loads_alone : (z : op.Size) (reading : ℕ → ℕ) (d : Reg) (a : ℕ) → LoadsValue shape z reading d a old events progress new → IsOne events
+  loads_alone z reading d a (inl refused) = inl (none_of is_store events refused.2)
   loads_alone z reading d a (inr r) = inl (subst (AreNot is_store) (sym r.1.1) (refl, tt))
 
-  stores_alone : (z : op.Size) (a x : ℕ) → StoresValue z a x old events progress new → StoreAlone events
-  stores_alone z a x (inl odd) = inl (none_of is_store events odd.1)
+  stores_alone : (z : op.Size) (a x : ℕ) → StoresValue shape z a x old events progress new → IsOne events
+  stores_alone z a x (inl refused) = inl (none_of is_store events refused.2)
   stores_alone z a x (inr r) = inr (a, event_size_of z, x, r.1)
 
-  changes_alone : (w : Width) (o : AtomicOp) (s : Reg) (a : ℕ) → ChangesValue w o s a old events progress new → StoreAlone events
-  changes_alone w o s a (inl odd) = inl (none_of is_store events odd.1)
+  changes_alone : (w : Width) (o : AtomicOp) (s : Reg) (a : ℕ) → ChangesValue shape w o s a old events progress new → IsOne events
+  changes_alone w o s a (inl refused) = inl (none_of is_store events refused.2)
   changes_alone w o s a (inr r) = inl (subst (AreNot is_store) (sym r.1.1) (refl, tt))
 
-  value_alone : (i : Insn) → AsksValue i old events progress new → StoreAlone events
+  value_alone : (i : Insn) → AsksValue shape i old events progress new → IsOne events
   value_alone (insn.Load z d b o) row = loads_alone z (λ x. x) d (effective_address old b o) row
   value_alone (insn.LoadSigned z d b o) row = loads_alone (plain_size z) (sign_extended (extension_of z)) d (effective_address old b o) row
   value_alone (insn.StoreImmediate z b o n) row = stores_alone z (effective_address old b o) (cast_unsigned w64 n) row
@@ -101,53 +170,90 @@ module _ (old new : Cpu) (events : List Event) (progress : Progress) where
   value_alone (insn.Atomic w op b o s) row = changes_alone w op s (effective_address old b o) row
   value_alone i row = absurd row
 
-pub store_alone : (shapes : List MapShape) (program : Loaded) (old new : Cpu) (events : List Event) (progress : Progress) → Step shapes program old events progress new → StoreAlone events
-store_alone shapes program old new events progress step = from step.row
+-- without arrays: one store, or none is a store
+pub store_alone : (shape : Shape) → HasNoArrays shape → (program : Loaded) (old new : Cpu) (events : List Event) (progress : Progress) → Step shape program old events progress new
+    → AreNot is_store events ⊎ ((a : ℕ) × (size : Size) × (x : ℕ) × (events ≡ Store a size x ∷ []))
+store_alone shape bare program old new events progress step = from step.row
   where
-    from : Executes shapes step.instruction old events progress new → StoreAlone events
+    from : Executes shape step.instruction old events progress new → IsOne events
     from (inl r) = inl (none_of is_store events r.1)
     from (inr (inl r)) =
         let h = r.2 in
-        inl (helper_not is_store old.memory old.held (reads_no_store old.memory old.held) (λ m key found. refl) (λ m key bytes flags answer. refl) (λ m key answer. refl) shapes r.0 old.number old.registers events h.0 h.1 h.2)
-    from (inr (inr r)) = value_alone old new events progress step.instruction r.1
+        inl (bare_not shape old.memory old.held bare is_store r.0 old.number old.registers events h.0 h.1 (helper_stores shape old.memory old.held r.0 old.number old.registers events h.0 h.1 h.2))
+    from (inr (inr r)) = value_alone shape old new events progress step.instruction r.1
+
+-- of any shape: loads and stores alone, or none is a store
+pub stores_apart : (shape : Shape) (program : Loaded) (old new : Cpu) (events : List Event) (progress : Progress) → Step shape program old events progress new → AreNot is_store events ⊎ AreNot is_call events
+stores_apart shape program old new events progress step = from step.row
+  where
+    of_helper : (n : ℕ) (result : Result ℕ HelperFault) (after : List Span) → AreNot is_store events ⊎ IsArrayCall shape old.memory old.held n old.number old.registers events result after → AreNot is_store events ⊎ AreNot is_call events
+    of_helper n result after (inl none) = inl none
+    of_helper n result after (inr call) = inr (array_no_call shape old.memory old.held n old.number old.registers events result after call)
+
+    of_value : IsOne events → AreNot is_store events ⊎ AreNot is_call events
+    of_value (inl none) = inl none
+    of_value (inr one) = inr (subst (AreNot is_call) (sym one.3) (refl, tt))
+
+    from : Executes shape step.instruction old events progress new → AreNot is_store events ⊎ AreNot is_call events
+    from (inl r) = inl (none_of is_store events r.1)
+    from (inr (inl r)) = let h = r.2 in of_helper r.0 h.0 h.1 (helper_stores shape old.memory old.held r.0 old.number old.registers events h.0 h.1 h.2)
+    from (inr (inr r)) = of_value (value_alone shape old new events progress step.instruction r.1)
 
 -- ---- a job that starts holds nothing
 none_reached : (a : ℕ) → reaches [] a ≡ false
 unfolding reaches
 none_reached a = refl
 
-reads_nothing : (memory : PrivateMemory) (a n : ℕ) (key : List ℕ) (first : List Event) → Reads memory [] a n key first → AreNot is_access first
-reads_nothing memory a n key first (inl r) = none_of is_access first r.1
-reads_nothing memory a n [] first (inr r) = none_of is_access first r.3
-reads_nothing memory a n (byte ∷ bytes) first (inr r) =
-    let some : 0 < n = (let size : suc (length bytes) ≡ n = r.2 in omega arith) in
-    let no : false ≡ true = sym (none_reached (a + 0)) ∙ r.1 0 some in
-    absurd cc
+module _ (shape : Shape) (bare : HasNoArrays shape) where
+  no_place : (a n : ℕ) → IsInArray shape a n → ⊥
+  no_place a n p = no_array shape (area_of a) p.array bare p.is
 
-and_false : (b : Bool) → b && false ≡ false
-and_false true = refl
-and_false false = refl
+  reads_nothing : (memory : PrivateMemory) (a n : ℕ) (key : List ℕ) (first : List Event) → Reads shape memory [] a n key first → AreNot is_access first
+  reads_nothing memory a n key first (inl r) = none_of is_access first r.1
+  reads_nothing memory a n [] first (inr r) = none_of is_access first r.3
+  reads_nothing memory a n (byte ∷ bytes) first (inr r) =
+      let some : 0 < n = (let size : suc (length bytes) ≡ n = r.2 in omega arith) in
+      elim (r.1 0 some) [
+        | inl h ↦ (let no : false ≡ true = sym (none_reached (a + 0)) ∙ h in absurd cc)
+        | inr p ↦ absurd (no_place (a + 0) 1 p)
+      ]
 
-none_covers : (cpu : Cpu) (a : ℕ) (z : op.Size) → cpu.held ≡ [] → is_in_value cpu a z ≡ false
-none_covers cpu a z e =
-    let missed = not (is_reached cpu a (length_of z)) in
-    ap (λ (spans : List Span). missed && is_covered spans a (length_of z)) e ∙ and_false missed
+  -- so it may access no value
+  module _ (old new : Cpu) (progress : Progress) (events : List Event) (none : old.held ≡ []) where
+    none_there : (a : ℕ) (z : op.Size) → IsThere shape old a z → ⊥
+    none_there a z (inl h) = let no : false ≡ true = sym (ap (λ (spans : List Span). is_covered spans a (length_of z)) none) ∙ h in cc
+    none_there a z (inr p) = no_place a (length_of z) p
 
-none_asked : (i : Insn) (cpu : Cpu) → cpu.held ≡ [] → asks_value i cpu ≡ false
-none_asked (insn.Load z d b o) cpu e = none_covers cpu (effective_address cpu b o) z e
-none_asked (insn.LoadSigned z d b o) cpu e = none_covers cpu (effective_address cpu b o) (plain_size z) e
-none_asked (insn.StoreImmediate z b o n) cpu e = none_covers cpu (effective_address cpu b o) z e
-none_asked (insn.Store z b o s) cpu e = none_covers cpu (effective_address cpu b o) z e
-none_asked (insn.Atomic w op b o s) cpu e = none_covers cpu (effective_address cpu b o) (size_of w) e
-none_asked _ cpu e = refl
+    load_refused : (z : op.Size) (reading : ℕ → ℕ) (d : Reg) (a : ℕ) → LoadsValue shape z reading d a old events progress new → events ≡ []
+    load_refused z reading d a (inl row) = row.2
+    load_refused z reading d a (inr row) = absurd (none_there a z row.0.0)
 
-pub first_accesses_none : (shapes : List MapShape) (program : Loaded) (number : ℕ) (context : List ℕ) (new : Cpu) (events : List Event) (progress : Progress) → Step shapes program (start number context) events progress new → AreNot is_access events
-first_accesses_none shapes program number context new events progress step = from step.row
+    store_refused : (z : op.Size) (a x : ℕ) → StoresValue shape z a x old events progress new → events ≡ []
+    store_refused z a x (inl row) = row.2
+    store_refused z a x (inr row) = absurd (none_there a z row.0.0.0)
+
+    change_refused : (w : Width) (o : AtomicOp) (s : Reg) (a : ℕ) → ChangesValue shape w o s a old events progress new → events ≡ []
+    change_refused w o s a (inl row) = row.2
+    change_refused w o s a (inr row) = absurd (none_there a (size_of w) row.0.0.0)
+
+    value_refused : (i : Insn) → AsksValue shape i old events progress new → events ≡ []
+    value_refused (insn.Load z d b o) row = load_refused z (λ x. x) d (effective_address old b o) row
+    value_refused (insn.LoadSigned z d b o) row = load_refused (plain_size z) (sign_extended (extension_of z)) d (effective_address old b o) row
+    value_refused (insn.StoreImmediate z b o n) row = store_refused z (effective_address old b o) (cast_unsigned w64 n) row
+    value_refused (insn.Store z b o s) row = store_refused z (effective_address old b o) (value old s) row
+    value_refused (insn.Atomic w op b o s) row = change_refused w op s (effective_address old b o) row
+    value_refused i row = absurd row
+
+pub first_accesses_none : (shape : Shape) → HasNoArrays shape → (program : Loaded) (number : ℕ) (context : List ℕ) (new : Cpu) (events : List Event) (progress : Progress) → Step shape program (start number context) events progress new → AreNot is_access events
+first_accesses_none shape bare program number context new events progress step = from step.row
   where
-    from : Executes shapes step.instruction (start number context) events progress new → AreNot is_access events
+    old : Cpu
+    old = start number context
+
+    from : Executes shape step.instruction old events progress new → AreNot is_access events
     from (inl r) = none_of is_access events r.1
     from (inr (inl r)) =
         let h = r.2 in
-        helper_not is_access (start number context).memory [] (reads_nothing (start number context).memory) (λ m key found. refl) (λ m key bytes flags answer. refl) (λ m key answer. refl)
-        shapes r.0 number (start number context).registers events h.0 h.1 h.2
-    from (inr (inr r)) = let no : false ≡ true = sym (none_asked step.instruction (start number context) refl) ∙ r.0 in absurd cc
+        bare_not shape old.memory [] bare is_access r.0 number old.registers events h.0 h.1
+        (helper_kind shape old.memory [] is_access (reads_nothing shape bare old.memory) (λ m key found. refl) (λ m key bytes flags answer. refl) (λ m key answer. refl) r.0 number old.registers events h.0 h.1 h.2)
+    from (inr (inr r)) = none_of is_access events (value_refused shape bare old new progress events refl step.instruction r.1)

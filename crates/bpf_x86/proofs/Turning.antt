@@ -98,7 +98,7 @@ own_calls c (e ∷ es) b t s next none calls legal =
 pub data OwnStep (program : Loaded) (b t : Buffered) (s next : Plain) (c : ℕ) (old : Cpu) (left : ℕ) : Type 0 where
   Drained : t.buffers c ≡ [] → OwnStep program b t s next c old left
   Kept : t.buffers c ≡ b.buffers c → ((lacking : List Event) (l : Plain) → IsBehind c lacking l s → IsBehind c lacking l next) → OwnStep program b t s next c old left
-  Stored : (a : ℕ) (size : Size) (x n : ℕ) (answer : Progress) (new : Cpu) → left ≡ suc n → Step s.shape.maps program old (Store a size x ∷ []) answer new → PlainlyAllowed s c (Store a size x) next
+  Stored : (a : ℕ) (size : Size) (x n : ℕ) (answer : Progress) (new : Cpu) → left ≡ suc n → Step s.shape program old (Store a size x ∷ []) answer new → PlainlyAllowed s c (Store a size x) next
       → t.buffers c ≡ b.buffers c ++ Store a size x ∷ [] → OwnStep program b t s next c old left
 
 pub record Advanced (program : Loaded) (c : ℕ) (b : Buffered) (s : Plain) (old : Cpu) (left : ℕ) (end : Option Outcome) (t : Buffered) (new : Cpu) (rest : ℕ) : Type 0 where
@@ -111,7 +111,7 @@ pub record Advanced (program : Loaded) (c : ℕ) (b : Buffered) (s : Plain) (old
 
 -- what judges each step that may come
 abbrev pub JudgeStep : Loaded → ℕ → Buffered → Plain → Cpu → ℕ → Type 0
-JudgeStep program c b s old left = (n : ℕ) → left ≡ suc n → (events : List Event) (answer : Progress) (new : Cpu) → Step s.shape.maps program old events answer new → Judge b s c events
+JudgeStep program c b s old left = (n : ℕ) → left ≡ suc n → (events : List Event) (answer : Progress) (new : Cpu) → Step s.shape program old events answer new → Judge b s c events
 
 pub advance_ahead : (program : Loaded) (c : ℕ) (b : Buffered) (s : Plain) (old : Cpu) (left : ℕ) (end : Option Outcome) (t : Buffered) (new : Cpu) (rest : ℕ) → IsAhead b s → JudgeStep program c b s old left
     → Advances program c b old left end t new rest → Advanced program c b s old left end t new rest
@@ -125,7 +125,7 @@ advance_ahead program c b s old zero end t new rest ahead judge a = record {
 }
 advance_ahead program c b s old (suc n) end t new rest ahead judge a =
     let shape : b.memory.shape ≡ s.shape = sym (ap (λ (z : Plain). z.shape) ahead.like.same) in
-    let step : Step s.shape.maps program old a.0 a.1 new = subst (λ (h : Shape). Step h.maps program old a.0 a.1 new) shape a.2 in
+    let step : Step s.shape program old a.0 a.1 new = subst (λ (h : Shape). Step h program old a.0 a.1 new) shape a.2 in
     let w = walk b s c a.0 (judge n refl a.0 a.1 new step) a.0 [] b s t refl refl (λ d ne. tt) ahead (λ d ne. refl) a.3 in
     record {
       next = w.next;
@@ -133,7 +133,7 @@ advance_ahead program c b s old (suc n) end t new rest ahead judge a =
       ahead = w.ahead;
       others = w.others;
       misses = w.misses;
-      own = owned w.next w.legal (store_alone s.shape.maps program old new a.0 a.1 step) step;
+      own = owned w.next w.legal (store_alone s.shape ahead.bare program old new a.0 a.1 step) step;
     }
   where
     from : (next : Plain) → OwnCalls b t s next c → OwnStep program b t s next c old (suc n)
@@ -145,9 +145,9 @@ advance_ahead program c b s old (suc n) end t new rest ahead judge a =
         let made : CallsAll b c (Store at size x ∷ []) t = subst (λ (es : List Event). CallsAll b c es t) is calls in
         ap (λ (z : Buffered). z.buffers c) made.2 ∙ ap (λ (z : Buffered). z.buffers c) made.1.4 ∙ put-same b.buffers c c (b.buffers c ++ Store at size x ∷ []) refl
 
-    owned : (next : Plain) → PlainlyLegal s (map (entry c) a.0) next → (AreNot is_store a.0 ⊎ ((at : ℕ) × (size : Size) × (x : ℕ) × (a.0 ≡ Store at size x ∷ []))) → Step s.shape.maps program old a.0 a.1 new
+    owned : (next : Plain) → PlainlyLegal s (map (entry c) a.0) next → (AreNot is_store a.0 ⊎ ((at : ℕ) × (size : Size) × (x : ℕ) × (a.0 ≡ Store at size x ∷ []))) → Step s.shape program old a.0 a.1 new
         → OwnStep program b t s next c old (suc n)
     owned next legal (inl none) step = from next (own_calls c a.0 b t s next none a.3 legal)
     owned next legal (inr r) step =
         let one : PlainlyLegal s (map (entry c) (Store r.0 r.1 r.2 ∷ [])) next = subst (λ (es : List Event). PlainlyLegal s (map (entry c) es) next) r.3 legal in
-        Stored r.0 r.1 r.2 n a.1 new refl (subst (λ (es : List Event). Step s.shape.maps program old es a.1 new) r.3 step) (subst (PlainlyAllowed s c (Store r.0 r.1 r.2)) one.2 one.1) (one_store r.0 r.1 r.2 a.0 r.3 a.3)
+        Stored r.0 r.1 r.2 n a.1 new refl (subst (λ (es : List Event). Step s.shape program old es a.1 new) r.3 step) (subst (PlainlyAllowed s c (Store r.0 r.1 r.2)) one.2 one.1) (one_store r.0 r.1 r.2 a.0 r.3 a.3)

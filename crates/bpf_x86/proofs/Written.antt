@@ -12,6 +12,7 @@ use Rattle.bpf_shared.specs.Store.{Value, Plain, IsLive}
 use Rattle.bpf_shared.specs.Events.{Reaches, after_write, number_in}
 use Rattle.bpf_shared.specs.Sound.{IsSoundStore}
 use Rattle.bpf_shared.proofs.Puts.{true_or_false, equal_or_not, put-same, put-other}
+use Rattle.bpf_shared.proofs.Soundness.{reached_live}
 use Rattle.bpf_x86.specs.Forwarding.{within, written}
 use Rattle.bpf_x86.proofs.Overlay.{within_parts, within_from, beside, not_written, is_written}
 
@@ -60,7 +61,7 @@ module _ (s : Plain) (c v a n : ℕ) (so : IsSoundStore s) (r : Reaches s c v a 
   fits : (x : ℕ) → ((a - (s.value v).span.at) + length (low_bytes n x) ≤ length (s.value v).bytes) × ((s.value v).span.at ≤ a) × (length (low_bytes n x) ≡ n)
   fits x =
       let low : length (low_bytes n x) ≡ n = length-low_bytes n x in
-      let size : length (s.value v).bytes ≡ (s.value v).span.size = so.sizes v (so.live_made v (inr (c, r.holds))) in
+      let size : length (s.value v).bytes ≡ (s.value v).span.size = so.sizes v (so.live_made v (reached_live s c v a n r)) in
       let from : (s.value v).span.at ≤ a = r.covers.0 in
       let to : a + n ≤ (s.value v).span.at + (s.value v).span.size = r.covers.1 in
       (omega arith, from, low)
@@ -101,7 +102,7 @@ module _ (s : Plain) (c v a n : ℕ) (so : IsSoundStore s) (r : Reaches s c v a 
       let to : a + n ≤ (s.value v).span.at + (s.value v).span.size = r.covers.1 in
       let least : a ≤ (s.value w).span.at + i = in_it.0 in
       let most : (s.value w).span.at + i < a + n = in_it.1 in
-      so.apart w v live (inr (c, r.holds)) ne (address s w i) (omega arith, omega arith) (omega arith, omega arith))
+      so.apart w v live (reached_live s c v a n r) ne (address s w i) (omega arith, omega arith) (omega arith, omega arith))
 
   -- so in each live value, by its addresses
   pub write_live : (x w i : ℕ) → IsLive s w → i < (s.value w).span.size → at (after_write s v a n x) w i ≡ written a n x (address s w i) (at s w i)
@@ -110,9 +111,9 @@ module _ (s : Plain) (c v a n : ℕ) (so : IsSoundStore s) (r : Reaches s c v a 
     | inr ne ↦ write_there x w i ne ∙ sym (not_written a n x (address s w i) (at s w i) (apart_missed w i live ne inside))
   ]
 
-  -- a value that the CPU doesn't hold stays
-  pub write_unheld : (x w i : ℕ) → s.held c w ≡ false → at (after_write s v a n x) w i ≡ at s w i
-  write_unheld x w i none = write_there x w i (λ e. let has : s.held c w ≡ true = ap (s.held c) e ∙ r.holds in cc)
+  -- a value that the CPU doesn't hold stays, where it holds the one that it writes
+  pub write_unheld : (x w i : ℕ) → s.held c v ≡ true → s.held c w ≡ false → at (after_write s v a n x) w i ≡ at s w i
+  write_unheld x w i holds none = write_there x w i (λ e. let has : s.held c w ≡ true = ap (s.held c) e ∙ holds in cc)
 
 -- ---- a number that is read
 pub same_number : (s t : Plain) (v a n : ℕ) → (s.value v).span ≡ (t.value v).span → (s.value v).span.at ≤ a

@@ -1,6 +1,8 @@
--- What store buffers add to sequential consistency: nothing, where no schedule leads to a data race.
-use Rattle.std.specs.Prelude.{◌≡◌, ℕ, suc, Bool, true, false, List, Some, map, slice_get}
+-- What store buffers add to sequential consistency: nothing, where there are no arrays and no schedule
+-- leads to a data race.
+use Rattle.std.specs.Prelude.{◌≡◌, ℕ, suc, Bool, true, false, List, [], Some, map, slice_get}
 use Rattle.bpf_shared.specs.declared.events.Event.{Event}
+use Rattle.bpf_shared.specs.Shape.{Shape}
 use Rattle.bpf_shared.specs.Store.{Plain}
 use Rattle.bpf_shared.specs.History.{PlainlyLegal, entry}
 use Rattle.bpf_loader.specs.Loaded.{Loaded}
@@ -46,7 +48,7 @@ CanStep w = (c j : ℕ) (task : Task) (state : Cpu) (left : ℕ)
     → IsAt w.jobs c j task (InHand state (suc left))
     → (program : Loaded) × (events : List Event) × (answer : Progress) × (new : Cpu) × (s : Plain)
     × (slice_get w.programs task.program ≡ Some program)
-    × Step w.store.shape.maps program state events answer new
+    × Step w.store.shape program state events answer new
     × PlainlyLegal w.store (map (entry c) events) s
 
 -- so in each machine that schedules lead to
@@ -54,10 +56,15 @@ abbrev pub StepsAreThere : Bool → World → Type 0
 StepsAreThere patient w = (schedule : List ℕ) (z : World) → RunsSchedule w schedule z
     → Counts patient z.jobs → CanStep z
 
--- THE LAW: where no schedule leads to a data race, x86 adds nothing
+-- there are maps alone. Where there are arrays a step may make several stores (an update copies a
+-- value in parts), and CPUs reach values that they don't hold: of those the law says nothing
+abbrev pub HasNoArrays : Shape → Type 0
+HasNoArrays h = h.arrays ≡ []
+
+-- THE LAW: where there are no arrays and no schedule leads to a data race, x86 adds nothing
 abbrev pub RaceFreeIsSame : Type 0
-RaceFreeIsSame = (patient : Bool) (w : World) → IsFresh w → StepsAreThere patient w
-    → IsRaceFree patient w → IsSameOnX86 patient w
+RaceFreeIsSame = (patient : Bool) (w : World) → HasNoArrays w.store.shape → IsFresh w
+    → StepsAreThere patient w → IsRaceFree patient w → IsSameOnX86 patient w
 
 -- the same where a closed list of machines shows the first one, or one that is closed but for budgets
 abbrev pub AreClosedMachines : Bool → List MachineState → Type 0
@@ -66,5 +73,6 @@ AreClosedMachines true kept = IsClosedRichly kept
 
 abbrev pub KeptRaceFreeIsSame : Type 0
 KeptRaceFreeIsSame =
-    (patient : Bool) (kept : List MachineState) (w : World) → AreClosedMachines patient kept → IsFresh w
-    → IsShown kept w → IsRaceFree patient w → IsSameOnX86 patient w
+    (patient : Bool) (kept : List MachineState) (w : World) → HasNoArrays w.store.shape
+    → AreClosedMachines patient kept → IsFresh w → IsShown kept w → IsRaceFree patient w
+    → IsSameOnX86 patient w

@@ -35,7 +35,7 @@ Advances program c b old zero end t new left =
     (end ≡ Some (OutOfBudget old.pc)) × (t ≡ b) × (new ≡ old) × (left ≡ 0)
 Advances program c b old (suc n) end t new left =
     (events : List Event) × (answer : Progress)
-    × Step b.memory.shape.maps program old events answer new × CallsAll b c events t
+    × Step b.memory.shape program old events answer new × CallsAll b c events t
     × (end ≡ outcome_after answer n new) × (left ≡ n)
 
 -- then it stays in hand; or it has an outcome, and its run ends once the buffer is drained

@@ -7,7 +7,7 @@ use Rattle.bpf_shared.specs.declared.events.Event.{Event}
 use Rattle.bpf_shared.specs.declared.events.Event.TheVariants.{Begin, End, Lookup}
 use Rattle.bpf_shared.specs.History.{events_of, entry}
 use Rattle.bpf_shared.specs.Own.{no_span, held_since, held_from, held_by}
-use Rattle.bpf_shared.specs.Passage.{Calls, same_span, held_with, held_without}
+use Rattle.bpf_shared.specs.Passage.{Calls, IsWritable, same_span, held_with, held_without}
 use Rattle.bpf_shared.proofs.Chains.{events_of-append, events_of-own}
 use Rattle.hop_words.specs.Inside.{Shown}
 use Rattle.hop_map.specs.Port.{Port, PortDoes, own_events, runs, port_holds}
@@ -20,7 +20,7 @@ use Rattle.hop_cpu.specs.Lemmas.Passing.{nothing}
 abbrev pub with_port : Shown → Port → Serving
 with_port t p = record { table = t; port = p }
 
-own_cpu : (p : Port) (c : ℕ) → (c == p.known.cpu) ≡ true → p.known.cpu ≡ c
+pub own_cpu : (p : Port) (c : ℕ) → (c == p.known.cpu) ≡ true → p.known.cpu ≡ c
 own_cpu p c served = grind (arith, nat_tests)
 
 -- of its own CPU, what it says of that CPU is what the port says
@@ -119,6 +119,12 @@ module _ (x : Serving) (t : Shown) (p : Port) (is : with_port t p ≡ x) (c : �
   pub is_running : (b : Bool) → running x c ≡ b → runs p ≡ b
   is_running b r = own_value p c b (runs p) own (subst (λ (z : Serving). running z c ≡ b) (sym is) r)
 
+  -- where the CPU may write, its port may
+  pub is_writable : (a n : ℕ) → IsWritable x.table.about.shape (serves_span x c) a n → IsWritable t.about.shape (port_holds p) a n
+  is_writable a n w =
+      subst (λ (f : Span → Bool). IsWritable t.about.shape f a n) (λ i q. own i && port_holds p q)
+      (subst (λ (z : Serving). IsWritable z.table.about.shape (serves_span z c) a n) (sym is) w)
+
   module _ (q : Port) (e : Event) (d : PortDoes t.about p e q) where
     pub called : CallNotes t.about e p.known q.known → Calls (ExtendsHistory x (with_port t q)) (serves x) c e
     called notes = subst (λ (z : Serving). Calls (ExtendsHistory z (with_port t q)) (serves z) c e) is (calls t p q c e d notes own)
@@ -127,12 +133,12 @@ module _ (x : Serving) (t : Shown) (p : Port) (is : with_port t p ≡ x) (c : �
     called_growing notes = subst (λ (z : Serving). Calls (ExtendsHistory z (with_port t q)) (serves z) c e) is (calls_growing t p q c e d notes own)
 
     -- an event in a run or out of one, which stays as it is
-    pub still : runs q ≡ runs p → (t.about.shape.maps ≡ x.table.about.shape.maps) × (serves (with_port t q) ≡ serves x) × (running (with_port t q) ≡ running x)
-    still on = subst (λ (z : Serving). (t.about.shape.maps ≡ z.table.about.shape.maps) × (serves (with_port t q) ≡ serves z) × (running (with_port t q) ≡ running z)) is
+    pub still : runs q ≡ runs p → (t.about.shape ≡ x.table.about.shape) × (serves (with_port t q) ≡ serves x) × (running (with_port t q) ≡ running x)
+    still on = subst (λ (z : Serving). (t.about.shape ≡ z.table.about.shape) × (serves (with_port t q) ≡ serves z) × (running (with_port t q) ≡ running z)) is
         (refl, serves_same t p q c e d, runs_on t p q c e d on)
 
     -- an event in a run, which goes on
-    pub same : running x c ≡ true → runs q ≡ true → (t.about.shape.maps ≡ x.table.about.shape.maps) × (serves (with_port t q) ≡ serves x) × (running (with_port t q) ≡ running x)
+    pub same : running x c ≡ true → runs q ≡ true → (t.about.shape ≡ x.table.about.shape) × (serves (with_port t q) ≡ serves x) × (running (with_port t q) ≡ running x)
     same before after = still (after ∙ sym (is_running true before))
 
     pub same_held : held_since (port_holds p) e ≡ port_holds p → serves_span (with_port t q) ≡ serves_span x

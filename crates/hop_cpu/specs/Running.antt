@@ -18,6 +18,6 @@ pub record RanJob (x y : Serving) (program : Loaded) (budget : ℕ) (first : Cpu
   pub log : List Entry
   pub seen : y.port.known.seen ≡ x.port.known.seen ++ log
   pub legal : IsLegal x.table.about.shape y.port.known.seen
-  pub explains : Explains (IsPortWorn x first.number) x.table.about.shape.maps program budget first
+  pub explains : Explains (IsPortWorn x first.number) x.table.about.shape program budget first
       (events_of first.number log) end
   pub noted : CallsNote x.table.about (events_of x.port.known.cpu log) x.port.known y.port.known

@@ -3,7 +3,9 @@ ghost use Rattle.std.specs.Prelude.{◌≡◌};
 ghost use Rattle.hop_map.specs.Port.{IsPortOf};
 
 use crate::growing::update_growing;
-use bpf_shared::{AtomicOp, KeyList, MapAnswer, MapShape, Shared, Size, Span, ValuePlace, Worn};
+use bpf_shared::{
+    ArrayShape, AtomicOp, KeyList, MapAnswer, MapShape, Shared, Size, Span, ValuePlace, Worn,
+};
 use hop_map::HopPort;
 use hop_words::HopTable;
 use std::marker::Model;
@@ -57,7 +59,7 @@ impl<R: Wait> Shared for HopCpu<'_, R> {
     ghost use Rattle.hop_cpu.specs.Passing.{ExtendsHistory};
     ghost use Rattle.hop_cpu.specs.Lemmas.Passing.{nothing, follows};
 
-    ghost shapes = { λ x. x.table.about.shape.maps };
+    ghost shapes = { λ x. x.table.about.shape };
 
     ghost serves = { serves };
 
@@ -73,6 +75,14 @@ impl<R: Wait> Shared for HopCpu<'_, R> {
 
     fn shape(&self, map: u64) -> Option<MapShape> {
         self.port.shape(self.table, map)
+    }
+
+    fn array(&self, array: u64) -> Option<ArrayShape> {
+        self.port.array(self.table, array)
+    }
+
+    fn cpus(&self) -> u8 {
+        self.port.cpus(self.table)
     }
 
     fn begin(&mut self, _cpu: u8) -> Result<(), Worn> {

@@ -4,8 +4,6 @@ use Rattle.std.proofs.lemmas.Bool.Decides.{nat_tests}
 use Rattle.std.proofs.Math.Nat.{add-mul-mod_self_left, mod-eq_of_lt}
 use Rattle.std.proofs.lemmas.Nat.{mod_below, div-add-mod', mod-mul-add}
 use Rattle.std.proofs.lemmas.Bool.{false_from_ne_true, cases_eq, cases_lt, lt-ltb, and_from, and_parts}
-use mathlib.Core.Logic.{dite}
-use native.Mathlib.Decide.{ℕ_discrete, dec_lt}
 use Rattle.bpf_shared.specs.Store.{put}
 use Rattle.hop_layout.specs.Layout.{power}
 use Rattle.hop_layout.specs.Births.{is_born, Owns, AreDepths, child_of, split_depths, EachHasOneOwner, SplitsBearOneChild}

@@ -1,16 +1,16 @@
 -- In closed form, for the code that computes where a word is.
-use Rattle.std.proofs.Common.{sym, [], ◌++◌, Some, ◌≡◌, ℕ, zero, suc, ◌+◌, ◌*◌, ◌<◌, true, List, ◌∷◌, length, ap, ◌∙◌, arith, nat_lt}
+use Rattle.std.proofs.Common.{sym, [], ◌++◌, Some, ◌≡◌, ℕ, zero, suc, ◌+◌, ◌*◌, ◌<◌, true, ◌&&◌, List, ◌∷◌, length, ap, ◌∙◌, arith, nat_lt}
 use Rattle.std.proofs.lemmas.Bool.Decides.{nat_tests}
 use Rattle.std.proofs.lemmas.Bool.{and_parts}
 use native.Mathlib.Decide.{dec_lt}
 use mathlib.Core.Logic.{dite}
 use Rattle.bpf_base.proofs.Lists.{slice_get-append, slice_get-front}
 use Rattle.hop_layout.specs.declared.index.Bases.{Bases}
-use Rattle.hop_layout.specs.Private.Index.{bases, bases_from, end_from, AreBases}
+use Rattle.hop_layout.specs.Private.Index.{bases, bases_from, end_from, AreBases, AreArrayBases}
 use Rattle.bpf_shared.specs.declared.shapes.MapShape.{MapShape}
 use Rattle.bpf_shared.specs.Shape.{Shape, elements}
-use Rattle.hop_layout.specs.declared.place.Place.TheVariants.{RunCount, KeyCount, FreeBits, Stamp, Head, Hop, Slot, Link, KeyWord, ValueWord}
-use Rattle.hop_layout.specs.Layout.{sum_below, layout_size, is_path, layout, at, size, words_for, free_words, segments, first_depth, map_shape, segment_layout, map_layout, map_words, line_rest}
+use Rattle.hop_layout.specs.declared.place.Place.TheVariants.{RunCount, KeyCount, FreeBits, Stamp, Head, Hop, Slot, Link, KeyWord, ValueWord, FixedWord}
+use Rattle.hop_layout.specs.Layout.{sum_below, layout_size, is_path, layout, at, size, words_for, free_words, segments, first_depth, map_shape, segment_layout, map_layout, map_words, line_rest, array_words}
 
 pub sum_same : (n k : ℕ) → sum_below n (λ j. k) ≡ n * k
 sum_same zero k = omega arith
@@ -73,7 +73,17 @@ module _ (h : Shape) (m : ℕ) where
       let t : sum_below (elements g) (λ j. sum_below (words_for g.value) (λ i. 1)) ≡ elements g * sum_below (words_for g.value) (λ i. 1) = sum_same (elements g) (sum_below (words_for g.value) (λ i. 1)) in
       let u : elements g * sum_below (words_for g.value) (λ i. 1) ≡ elements g * words_for g.value = ap (λ (x : ℕ). elements g * x) w in omega arith
 
-pub at_end : (h : Shape) → size h ≡ at h (KeyCount (length h.maps))
+-- arrays' words follow those of the last map
+pub at_first_array : (h : Shape) → at h (FixedWord 0 0) ≡ at h (KeyCount (length h.maps))
+at_first_array h = omega arith
+
+pub at_fixed : (h : Shape) (a k : ℕ) → at h (FixedWord a k) ≡ at h (FixedWord a 0) + k
+at_fixed h a k = let z = ones k in omega arith
+
+pub at_next_array : (h : Shape) (a : ℕ) → at h (FixedWord (suc a) 0) ≡ at h (FixedWord a 0) + array_words h a
+at_next_array h a = let z = ones (array_words h a) in omega arith
+
+pub at_end : (h : Shape) → size h ≡ at h (FixedWord (length h.arrays) 0)
 at_end h = omega arith
 
 pub at_start : (h : Shape) → at h (KeyCount 0) ≡ 8 * h.cpus
@@ -82,6 +92,12 @@ at_start h = let z = sum_same h.cpus 8 in omega arith
 -- ---- the parts of a place of a map
 pub map_there : (h : Shape) (m : ℕ) (p : List ℕ) → is_path (layout h) (1 ∷ m ∷ p) ≡ true → m < length h.maps
 map_there h m p e = let b = and_parts (nat_lt m (length h.maps)) (is_path (map_layout (map_shape h m)) p) e in (let t = b.0 in grind (arith, nat_tests))
+
+pub array_there : (h : Shape) (a k : ℕ) → is_path (layout h) (2 ∷ a ∷ k ∷ []) ≡ true → (a < length h.arrays) × (k < array_words h a)
+array_there h a k e =
+    let b = and_parts (nat_lt a (length h.arrays)) (nat_lt k (array_words h a) && true) e in
+    let c = and_parts (nat_lt k (array_words h a)) true b.1 in
+    ((let t = b.0 in grind (arith, nat_tests)), (let t = c.0 in grind (arith, nat_tests)))
 
 -- a map's words begin where those of the map before it end
 pub bases_at : (h : Shape) (m start : ℕ) → start ≡ at h (KeyCount m) → bases_from start (map_shape h m) ≡ bases h m
@@ -121,3 +137,9 @@ pub one_more : (h : Shape) (n : ℕ) (bs : List Bases) (b : Bases) → length bs
 one_more h n bs b len is old m less = dite (dec_lt m n)
     (λ (l : m < n). slice_get-front bs (b ∷ []) m (omega arith) ∙ old m l)
     (λ nl. let e : m ≡ n = grind arith in slice_get-append bs (b ∷ []) 0 m (omega arith) ∙ (ap Some is ∙ ap (λ (k : ℕ). Some (bases h k)) (sym e)))
+
+-- one array more
+pub one_array_more : (h : Shape) (n : ℕ) (starts : List ℕ) (start : ℕ) → length starts ≡ n → start ≡ at h (FixedWord n 0) → AreArrayBases h n starts → AreArrayBases h (n + 1) (starts ++ start ∷ [])
+one_array_more h n starts start len is old a less = dite (dec_lt a n)
+    (λ (l : a < n). slice_get-front starts (start ∷ []) a (omega arith) ∙ old a l)
+    (λ nl. let e : a ≡ n = grind arith in slice_get-append starts (start ∷ []) 0 a (omega arith) ∙ (ap Some is ∙ ap (λ (k : ℕ). Some (at h (FixedWord k 0))) (sym e)))

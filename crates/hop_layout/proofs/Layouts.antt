@@ -6,7 +6,7 @@ use native.Mathlib.Decide.{ℕ_discrete, dec_lt}
 use mathlib.Core.Logic.{dite}
 use Rattle.bpf_shared.specs.Shape.{Shape}
 use Rattle.hop_layout.specs.declared.place.Place.{Place}
-use Rattle.hop_layout.specs.declared.place.Place.TheVariants.{RunCount, KeyCount, FreeBits, Stamp, Head, Hop, Slot, Link, KeyWord, ValueWord}
+use Rattle.hop_layout.specs.declared.place.Place.TheVariants.{RunCount, KeyCount, FreeBits, Stamp, Head, Hop, Slot, Link, KeyWord, ValueWord, FixedWord}
 use Rattle.hop_layout.specs.Layout.{Layout, Word, Group, sum_below, layout_size, word_at_path, is_path, layout, path, at, is_place, size, mem, same_place, put_at}
 
 -- ---- layouts
@@ -53,15 +53,16 @@ offset_once (Group n f) (i ∷ p) (j ∷ q) x y e =
 -- ---- places
 abbrev place_of : List ℕ → Place
 place_of (zero ∷ c ∷ r) = RunCount c
-place_of (suc z ∷ m ∷ zero ∷ r) = KeyCount m
-place_of (suc z ∷ m ∷ suc zero ∷ i ∷ r) = FreeBits m i
-place_of (suc z ∷ m ∷ suc (suc (suc zero)) ∷ s ∷ zero ∷ r) = Stamp m s
-place_of (suc z ∷ m ∷ suc (suc (suc zero)) ∷ s ∷ suc zero ∷ r) = Head m s
-place_of (suc z ∷ m ∷ suc (suc (suc zero)) ∷ s ∷ suc (suc y) ∷ b ∷ zero ∷ r) = Hop m s b
-place_of (suc z ∷ m ∷ suc (suc (suc zero)) ∷ s ∷ suc (suc y) ∷ b ∷ suc x ∷ r) = Slot m s b
-place_of (suc z ∷ m ∷ suc (suc (suc (suc zero))) ∷ e ∷ r) = Link m e
-place_of (suc z ∷ m ∷ suc (suc (suc (suc (suc zero)))) ∷ e ∷ k ∷ r) = KeyWord m e k
-place_of (suc z ∷ m ∷ suc (suc (suc (suc (suc (suc x))))) ∷ e ∷ k ∷ r) = ValueWord m e k
+place_of (suc zero ∷ m ∷ zero ∷ r) = KeyCount m
+place_of (suc zero ∷ m ∷ suc zero ∷ i ∷ r) = FreeBits m i
+place_of (suc zero ∷ m ∷ suc (suc (suc zero)) ∷ s ∷ zero ∷ r) = Stamp m s
+place_of (suc zero ∷ m ∷ suc (suc (suc zero)) ∷ s ∷ suc zero ∷ r) = Head m s
+place_of (suc zero ∷ m ∷ suc (suc (suc zero)) ∷ s ∷ suc (suc y) ∷ b ∷ zero ∷ r) = Hop m s b
+place_of (suc zero ∷ m ∷ suc (suc (suc zero)) ∷ s ∷ suc (suc y) ∷ b ∷ suc x ∷ r) = Slot m s b
+place_of (suc zero ∷ m ∷ suc (suc (suc (suc zero))) ∷ e ∷ r) = Link m e
+place_of (suc zero ∷ m ∷ suc (suc (suc (suc (suc zero)))) ∷ e ∷ k ∷ r) = KeyWord m e k
+place_of (suc zero ∷ m ∷ suc (suc (suc (suc (suc (suc x))))) ∷ e ∷ k ∷ r) = ValueWord m e k
+place_of (suc (suc z) ∷ a ∷ k ∷ r) = FixedWord a k
 place_of other = RunCount 0
 
 place_back : (p : Place) → place_of (path p) ≡ p
@@ -75,6 +76,7 @@ place_back (Slot m s b) = refl
 place_back (Link m e) = refl
 place_back (KeyWord m e k) = refl
 place_back (ValueWord m e k) = refl
+place_back (FixedWord a k) = refl
 
 pub at_once : (h : Shape) (p q : Place) → is_place h p ≡ true → is_place h q ≡ true → at h p ≡ at h q → p ≡ q
 at_once h p q x y e = sym (place_back p) ∙ (ap place_of (offset_once (layout h) (path p) (path q) x y e) ∙ place_back q)
@@ -102,6 +104,7 @@ same_is (Hop m i a) (Hop n j b) e = let t = three m n i j a b e in λ x. Hop (t.
 same_is (Slot m i a) (Slot n j b) e = let t = three m n i j a b e in λ x. Slot (t.0 x) (t.1 x) (t.2 x)
 same_is (KeyWord m i a) (KeyWord n j b) e = let t = three m n i j a b e in λ x. KeyWord (t.0 x) (t.1 x) (t.2 x)
 same_is (ValueWord m i a) (ValueWord n j b) e = let t = three m n i j a b e in λ x. ValueWord (t.0 x) (t.1 x) (t.2 x)
+same_is (FixedWord m i) (FixedWord n j) e = let t = two m n i j e in λ x. FixedWord (t.0 x) (t.1 x)
 same_is p q e = absurd (true≢false (sym e))
 
 pub same_self : (p : Place) → same_place p p ≡ true
@@ -115,6 +118,7 @@ same_self (Hop m i a) = rw (eq-eqb m m refl, eq-eqb i i refl, eq-eqb a a refl) r
 same_self (Slot m i a) = rw (eq-eqb m m refl, eq-eqb i i refl, eq-eqb a a refl) refl
 same_self (KeyWord m i a) = rw (eq-eqb m m refl, eq-eqb i i refl, eq-eqb a a refl) refl
 same_self (ValueWord m i a) = rw (eq-eqb m m refl, eq-eqb i i refl, eq-eqb a a refl) refl
+same_self (FixedWord a k) = rw (eq-eqb a a refl, eq-eqb k k refl) refl
 
 -- ---- memory: a write at a place changes that place alone
 pub wrote : (h : Shape) (ws : List ℕ) (p : Place) (n : ℕ) → length ws ≡ size h → is_place h p ≡ true → mem h (set ws (at h p) n) ≡ put_at (mem h ws) p n

@@ -1,11 +1,13 @@
--- The maps of a store by their numbers, and that no two elements' spans overlap.
-use Rattle.std.proofs.Common.{◌≡◌, ◌≢◌, ℕ, zero, suc, ◌+◌, ◌*◌, ◌<◌, ◌≤◌, List, [], ◌∷◌, Some, length, slice_get, slice_index_or, refl, subst, arith, ⊎_elim, mul-le-mul}
+-- The maps and arrays of a store by their numbers, and that no two elements' spans overlap.
+use Rattle.std.proofs.Common.{◌≡◌, ◌≢◌, ℕ, zero, suc, ◌+◌, ◌*◌, ◌/◌, ◌<◌, ◌≤◌, List, [], ◌∷◌, Some, length, slice_get, slice_index_or, refl, sym, subst, arith, ⊎_elim, mul-le-mul}
 use mathlib.Core.Logic.{dite}
 use native.Mathlib.Decide.{dec_lt}
+use Rattle.bpf_shared.specs.declared.shapes.ArrayShape.{ArrayShape}
 use Rattle.bpf_shared.specs.declared.shapes.MapShape.{MapShape}
-use Rattle.bpf_shared.specs.Shape.{Shape, IsMap, IsShape, elements, element_stride, element_span, IsApart, IsIn}
+use Rattle.bpf_shared.specs.Shape.{Shape, IsMap, IsArray, IsShape, IsArrayShape, copies, copy_stride, elements, element_stride, element_span, IsApart, IsIn}
 use Rattle.bpf_shared.proofs.Puts.{equal_or_not}
-use Rattle.hop_layout.specs.Layout.{map_shape, no_map}
+use Rattle.hop_layout.specs.Layout.{map_shape, no_map, array_shape, no_array}
+use Rattle.bpf_shared.proofs.Fixed.{whole_fits}
 use Rattle.bpf_shared.proofs.Places.{stride_most, reach_most}
 
 pub map_is : (h : Shape) (m : ℕ) → m < length h.maps → IsMap h.maps m (map_shape h m)
@@ -23,6 +25,29 @@ map_of h m g is = go h.maps m is
     go [] m e = cc
     go (x ∷ gs) zero e = (omega arith, cc)
     go (x ∷ gs) (suc m) e = let r = go gs m e in (let l = r.0 in omega arith, r.1)
+
+pub array_is : (h : Shape) (a : ℕ) → a < length h.arrays → IsArray h.arrays a (array_shape h a)
+array_is h a l = go h.arrays a l
+  where
+    go : (gs : List ArrayShape) (a : ℕ) → a < length gs → slice_get gs a ≡ Some (slice_index_or gs a no_array)
+    go [] a l = absurd (omega arith)
+    go (g ∷ gs) zero l = refl
+    go (g ∷ gs) (suc a) l = go gs a (omega arith)
+
+pub array_of : (h : Shape) (a : ℕ) (g : ArrayShape) → IsArray h.arrays a g → (a < length h.arrays) × (array_shape h a ≡ g)
+array_of h a g is = go h.arrays a is
+  where
+    go : (gs : List ArrayShape) (a : ℕ) → slice_get gs a ≡ Some g → (a < length gs) × (slice_index_or gs a no_array ≡ g)
+    go [] a e = cc
+    go (x ∷ gs) zero e = (omega arith, cc)
+    go (x ∷ gs) (suc a) e = let r = go gs a e in (let l = r.0 in omega arith, r.1)
+
+-- the words of an array's values are few, as code counts them
+pub words_few : (cpus n stride : ℕ) (g : ArrayShape) → cpus ≤ 16 → IsArrayShape cpus g → n ≡ copies cpus g → stride ≡ copy_stride g → n * stride / 8 ≤ 33554432
+words_few cpus n stride g few sized e f = most n stride (subst (λ (k : ℕ). k * n ≤ 268435456) (sym f) (subst (λ (k : ℕ). copy_stride g * k ≤ 268435456) (sym e) (whole_fits cpus g few sized)))
+  where
+    most : (x y : ℕ) → y * x ≤ 268435456 → x * y / 8 ≤ 33554432
+    most x y l = let e : x * y ≡ y * x = grind arith in omega arith
 
 next_on : (e f k : ℕ) → e < f → e * k + k ≤ f * k
 next_on e f k l = let t : suc e * k ≤ f * k = mul-le-mul l (omega arith) in omega (arith, suc-mul e k)

@@ -1,9 +1,10 @@
 -- Where each word of the store is.
 use Rattle.std.specs.Prelude.{ℕ, zero, suc, ◌+◌, ◌*◌, ◌/◌, ◌%◌, ◌-◌, nat_lt, Bool, true, false, ◌&&◌, List, [], ◌∷◌, ◌==◌, if◌then◌else◌, length, slice_index, slice_index_or}
+use Rattle.bpf_shared.specs.declared.shapes.ArrayShape.{ArrayShape}
 use Rattle.bpf_shared.specs.declared.shapes.MapShape.{MapShape}
-use Rattle.bpf_shared.specs.Shape.{Shape, elements}
+use Rattle.bpf_shared.specs.Shape.{Shape, elements, copies, copy_stride}
 use Rattle.hop_layout.specs.declared.place.Place.{Place}
-use Rattle.hop_layout.specs.declared.place.Place.TheVariants.{RunCount, KeyCount, FreeBits, Stamp, Head, Hop, Slot, Link, KeyWord, ValueWord}
+use Rattle.hop_layout.specs.declared.place.Place.TheVariants.{RunCount, KeyCount, FreeBits, Stamp, Head, Hop, Slot, Link, KeyWord, ValueWord, FixedWord}
 
 -- ---- layouts: one word, or n layouts after each other
 pub data Layout : Type 0 where
@@ -109,9 +110,23 @@ no_map = record { key = 0; value = 0; max = 0; spare = 0; mask = 0; grow = false
 abbrev pub map_shape : Shape → ℕ → MapShape
 map_shape h m = slice_index_or h.maps m no_map
 
+abbrev pub no_array : ArrayShape
+no_array = record { value = 0; max = 0; per_cpu = false; frozen = false }
+
+abbrev pub array_shape : Shape → ℕ → ArrayShape
+array_shape h a = slice_index_or h.arrays a no_array
+
+-- the words of an array's values, those of one CPU after those of another: each CPU's begin at a
+-- line of their own
+abbrev pub array_words : Shape → ℕ → ℕ
+array_words h a =
+    copies h.cpus (array_shape h a) * copy_stride (array_shape h a) / 8
+
 abbrev pub layout : Shape → Layout
 layout h = several (Group h.cpus (λ c. line)
-    ∷ Group (length h.maps) (λ m. map_layout (map_shape h m)) ∷ [])
+    ∷ Group (length h.maps) (λ m. map_layout (map_shape h m))
+    ∷ Group (length h.arrays) (λ a. block (array_words h a))
+    ∷ [])
 
 abbrev pub path : Place → List ℕ
 path (RunCount c) = 0 ∷ c ∷ 0 ∷ []
@@ -124,6 +139,7 @@ path (Slot m s b) = 1 ∷ m ∷ 3 ∷ s ∷ 2 ∷ b ∷ 1 ∷ []
 path (Link m e) = 1 ∷ m ∷ 4 ∷ e ∷ []
 path (KeyWord m e k) = 1 ∷ m ∷ 5 ∷ e ∷ k ∷ []
 path (ValueWord m e k) = 1 ∷ m ∷ 6 ∷ e ∷ k ∷ []
+path (FixedWord a k) = 2 ∷ a ∷ k ∷ []
 
 -- where the word of a place is. A place of the shape has its word to itself
 abbrev pub at : Shape → Place → ℕ
@@ -151,6 +167,7 @@ same_place (Slot m s b) (Slot n t d) = (m == n) && (s == t) && (b == d)
 same_place (Link m e) (Link n f) = (m == n) && (e == f)
 same_place (KeyWord m e k) (KeyWord n f l) = (m == n) && (e == f) && (k == l)
 same_place (ValueWord m e k) (ValueWord n f l) = (m == n) && (e == f) && (k == l)
+same_place (FixedWord a k) (FixedWord b l) = (a == b) && (k == l)
 same_place p q = false
 
 -- the words with n at the place p

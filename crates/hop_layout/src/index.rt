@@ -1,12 +1,13 @@
 //! Where each word is, as numbers that are computed once.
-ghost use Rattle.std.specs.Prelude.{◌≡◌, ◌+◌, ◌*◌, ◌%◌, ◌<◌, ◌≤◌, ◌^◌, true, length, IfOk};
-ghost use Rattle.hop_layout.specs.Layout.{is_place, at, size, line_rest, depth_from, segments, map_shape, words_for as word_count, power, first_depth};
-ghost use Rattle.bpf_shared.specs.Shape.{IsMapShape, elements as element_count};
-ghost use Rattle.hop_layout.specs.Private.Index.{bases, bases_from, end_from};
+ghost use Rattle.std.specs.Prelude.{◌≡◌, ◌+◌, ◌*◌, ◌/◌, ◌%◌, ◌<◌, ◌≤◌, ◌^◌, true, length, IfOk};
+ghost use Rattle.hop_layout.specs.Layout.{is_place, at, size, line_rest, depth_from, segments, map_shape, words_for as word_count, power, first_depth, array_shape, array_words};
+ghost use Rattle.hop_layout.specs.declared.place.Place.TheVariants.{FixedWord};
+ghost use Rattle.bpf_shared.specs.Shape.{IsMapShape, IsArrayShape, copies, copy_stride, elements as element_count};
+ghost use Rattle.hop_layout.specs.Private.Index.{bases, bases_from, end_from, AreArrayBases};
 
 use crate::about::About;
 use crate::place::Place;
-use bpf_shared::MapShape;
+use bpf_shared::{ArrayShape, MapShape, StoreShape};
 use std::alloc::{AllocError, Global};
 use std::marker::Model;
 
@@ -29,6 +30,7 @@ struct Bases {
 pub struct Index {
     about: About,
     maps: Vec<Bases>,
+    arrays: Vec<u32>,
     words: usize,
 }
 
@@ -40,7 +42,7 @@ impl Model for Index {
 
     ghost view = { λ i. i.about };
 
-    ghost invariant = { λ i. IsIndex i.about.shape i.maps.items i.words };
+    ghost invariant = { λ i. IsIndex i.about.shape i.maps.items i.arrays.items i.words };
 }
 
 // How many words are left of a line of eight after n.
@@ -155,6 +157,36 @@ fn lay_out(start: u32, shape: &MapShape) -> (Bases, u32)
     )
 }
 
+// How many words an array's values have, those of all CPUs.
+fn words_of(cpus: u8, array: &ArrayShape) -> u32
+    requires shape { IsArrayShape cpus array.now }
+    requires cpus { cpus ≤ 16 }
+    ensures words { result ≡ copies cpus array.now * copy_stride array.now / 8 }
+    ensures most { result ≤ 2 ^ 25 }
+{
+    (array.copies(cpus) * array.copy_stride() / 8) as u32
+}
+
+// Where each array's words begin, the first here, and where the last one's end.
+fn lay_out_arrays(
+    alloc: Global,
+    shape: &StoreShape,
+    first: u32,
+) -> Result<(Vec<u32>, u32), AllocError>
+    requires first { first ≡ at shape.now (FixedWord 0 0) }
+    requires small { first ≤ 2 ^ 29 }
+    ensures starts { IfOk result (λ r. AreArrayBases shape.now (length shape.now.arrays) r.0.items) }
+    ensures end { IfOk result (λ r. r.1 ≡ size shape.now) }
+{
+    let mut starts = Vec::new(alloc);
+    let mut end = first;
+    for array in shape.arrays() {
+        starts.push(end)?;
+        end += words_of(shape.cpus(), array);
+    }
+    Ok((starts, end))
+}
+
 impl Index {
     /// Where the words of a store of this shape are.
     pub fn new(alloc: Global, about: About) -> Result<Index, AllocError>
@@ -167,10 +199,12 @@ impl Index {
             maps.push(bases)?;
             start = end;
         }
+        let (arrays, end) = lay_out_arrays(alloc, &about.shape, start)?;
         Ok(Index {
             about,
             maps,
-            words: start as usize,
+            arrays,
+            words: end as usize,
         })
     }
 
@@ -190,7 +224,7 @@ impl Index {
 
     /// Where the word of a place is.
     #[inline(always)]
-    #[tactic(auto, using(crate::proofs::Indexes::map_there))]
+    #[tactic(auto, using(crate::proofs::Indexes::map_there, crate::proofs::Indexes::array_there))]
     pub fn word_of(&self, place: Place) -> usize
         requires there { is_place self.now.shape place ≡ true }
         ensures word { result ≡ at self.now.shape place }
@@ -222,6 +256,7 @@ impl Index {
                     + element as usize * bases.value_words as usize
                     + word as usize
             }
+            Place::FixedWord { array, word } => self.array(array) as usize + word as usize,
         }
     }
 
@@ -253,6 +288,15 @@ impl Index {
         ensures bases { result ≡ bases self.now.shape map }
     {
         self.maps[usize::from(map)]
+    }
+
+    // Where an array's words begin.
+    #[inline(always)]
+    fn array(&self, array: u8) -> u32
+        requires there { array < length self.now.shape.arrays }
+        ensures start { result ≡ at self.now.shape (FixedWord array 0) }
+    {
+        self.arrays[usize::from(array)]
     }
 
     // Where the words of a segment begin.

@@ -1,5 +1,5 @@
 -- The count goes up, and the words remain to be written.
-use Rattle.std.proofs.Common.{◌≡◌, ℕ, ◌<◌, ◌==◌, ◌||◌, Bool, true, false, true≢false, if◌then◌else◌, List, [], ◌∷◌, Some, None, slice_index_or, Result, Ok, Err, IsOk, IsErr, refl, ap, sym, subst, ◌∙◌, arith, ⊎_elim, inr}
+use Rattle.std.proofs.Common.{◌≡◌, ℕ, ◌<◌, ◌==◌, ◌||◌, Bool, true, false, if◌then◌else◌, List, [], ◌∷◌, Some, None, slice_index_or, Result, Ok, Err, IsOk, IsErr, refl, ap, sym, subst, ◌∙◌, arith, ⊎_elim, inr}
 use Rattle.std.proofs.lemmas.Bool.{or_left}
 use Rattle.bpf_shared.specs.Shape.{elements}
 use Rattle.bpf_shared.specs.declared.events.Entry.{Entry}

@@ -25,11 +25,13 @@ pub mod Spans
 pub mod Ports
 pub mod Dealing
 pub mod Touching
+pub mod Below
 pub mod Spliced
 pub mod Holding
 pub mod Taken
 pub mod Disturbing
 pub mod Dumps
+pub mod Arrays
 pub mod Gathering
 pub mod Adding
 pub mod Parting

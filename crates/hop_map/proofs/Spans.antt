@@ -1,5 +1,5 @@
 -- Each span that a lookup of a legal history found is that of an element of its map.
-use Rattle.std.proofs.Common.{◌≡◌, ℕ, zero, suc, ◌<◌, Bool, true, false, true≢false, List, [], ◌∷◌, ◌++◌, length, slice_get, Option, Some, None, ◌⊎◌, inl, inr, ◌==◌, ◌&&◌, ◌||◌, if◌then◌else◌, refl, sym, ap, subst, ◌∙◌, arith, IfSome}
+use Rattle.std.proofs.Common.{◌≡◌, ℕ, zero, suc, ◌+◌, ◌<◌, Bool, true, false, true≢false, List, [], ◌∷◌, ◌++◌, length, slice_get, Option, Some, None, inl, inr, ◌==◌, if◌then◌else◌, refl, sym, ap, subst, ◌∙◌, arith, IfSome}
 use Rattle.std.proofs.lemmas.Bool.Decides.{nat_tests}
 use Rattle.std.specs.FinMap.{get, insert, remove, get-empty}
 use Rattle.std.specs.Ordering.{nat_cmp}
@@ -16,25 +16,25 @@ use Rattle.bpf_shared.specs.Shape.{Shape, IsMap, IsShape, IsElementSpan, IsValue
 use Rattle.bpf_shared.specs.Store.{KeyMap, Value, Plain, as_made, Finds, put}
 use Rattle.bpf_shared.specs.Events.{Allowed, Updates, Deletes, after_write, after_lookup, span_of}
 use Rattle.bpf_shared.specs.History.{Legal, IsLegal, events_of, entry}
-use Rattle.bpf_shared.specs.Sound.{IsSoundStore}
 use Rattle.bpf_shared.specs.Passage.{same_span}
 use Rattle.bpf_shared.specs.Own.{no_span, held_since, held_from, held_by}
 use Rattle.bpf_shared.proofs.Puts.{put_cases, insert_cases, remove_cases, put-other}
-use Rattle.bpf_shared.proofs.Soundness.{as_made_sound, allowed_sound, legal_sound, span-after_write}
+use Rattle.bpf_shared.proofs.Soundness.{span-after_write}
 use Rattle.bpf_shared.proofs.Histories.{history_cut}
 use Rattle.bpf_shared.proofs.Places.{stride_most, reach_most}
 
--- a store of these maps, in which each key leads to a value in an element of its map
+-- a store of these maps, in which each key leads to a value that was made, in an element of its map
 record Lies (maps : List MapShape) (s : Plain) : Type 0 where
   pub shape : s.shape.maps ≡ maps
+  pub made : (m : ℕ) (key : List ℕ) (v : ℕ) → Finds s m key v → v < s.made
   pub each : (m : ℕ) (key : List ℕ) (v : ℕ) → Finds s m key v → IsElementSpan maps m (s.value v).span
 
 same_lies : (maps : List MapShape) (s t : Plain) → t ≡ s → Lies maps s → Lies maps t
 same_lies maps s t e l = subst (Lies maps) (sym e) l
 
 update_lies : (maps : List MapShape) (s t : Plain) (m : ℕ) (h : MapShape) (key bytes : List ℕ) (flags : ℕ) (answer : MapAnswer)
-    → IsSoundStore s → Lies maps s → IsMap s.shape.maps m h → Updates s m h key bytes flags answer t → Lies maps t
-update_lies maps s t m h key bytes flags Done so l is u = subst (Lies maps) (sym u.1.2) (record { shape = l.shape; each = found })
+    → Lies maps s → IsMap s.shape.maps m h → Updates s m h key bytes flags answer t → Lies maps t
+update_lies maps s t m h key bytes flags Done l is u = subst (Lies maps) (sym u.1.2) (record { shape = l.shape; made = counted; each = found })
   where
     x : Value
     x = record { bytes = bytes; span = u.1.0 }
@@ -44,8 +44,17 @@ update_lies maps s t m h key bytes flags Done so l is u = subst (Lies maps) (sym
 
     old : (n : ℕ) (q : List ℕ) (v : ℕ) → Finds s n q v → IsElementSpan maps n (put s.value s.made x v).span
     old n q v f =
-        let below : v < s.made = so.live_made v (inl (n, (q, f))) in
+        let below : v < s.made = l.made n q v f in
         subst (λ (y : Value). IsElementSpan maps n y.span) (sym (put-other s.value s.made v x (λ e. omega arith))) (l.each n q v f)
+
+    counted : (n : ℕ) (q : List ℕ) (v : ℕ) → get (put s.maps m (insert (s.maps m) key s.made) n) q ≡ Some v → v < s.made + 1
+    counted n q v f = elim (put_cases s.maps m n (insert (s.maps m) key s.made)) [
+      | inr k ↦ (let b = l.made n q v (sym (ap (λ (z : KeyMap). get z q) k.1) ∙ f) in omega arith)
+      | inl k ↦ elim (insert_cases (s.maps m) key s.made q) [
+        | inl i ↦ (let made : Some v ≡ Some s.made = sym f ∙ (ap (λ (z : KeyMap). get z q) k.1 ∙ i.1) in let e : v ≡ s.made = cc in omega arith)
+        | inr i ↦ (let b = l.made m q v (sym i ∙ (sym (ap (λ (z : KeyMap). get z q) k.1) ∙ f)) in omega arith)
+      ]
+    ]
 
     found : (n : ℕ) (q : List ℕ) (v : ℕ) → get (put s.maps m (insert (s.maps m) key s.made) n) q ≡ Some v → IsElementSpan maps n (put s.value s.made x v).span
     found n q v f = elim (put_cases s.maps m n (insert (s.maps m) key s.made)) [
@@ -62,16 +71,25 @@ update_lies maps s t m h key bytes flags Done so l is u = subst (Lies maps) (sym
             (old m q v (sym i ∙ (sym (ap (λ (z : KeyMap). get z q) k.1) ∙ f)))
       ]
     ]
-update_lies maps s t m h key bytes flags Invalid so l is u = same_lies maps s t u.1 l
-update_lies maps s t m h key bytes flags Busy so l is u = same_lies maps s t u.1 l
-update_lies maps s t m h key bytes flags Exists so l is u = same_lies maps s t u.1 l
-update_lies maps s t m h key bytes flags Absent so l is u = same_lies maps s t u.1 l
-update_lies maps s t m h key bytes flags Full so l is u = same_lies maps s t u.1 l
-update_lies maps s t m h key bytes flags NoMemory so l is u = same_lies maps s t u.1 l
+update_lies maps s t m h key bytes flags Invalid l is u = same_lies maps s t u.1 l
+update_lies maps s t m h key bytes flags Busy l is u = same_lies maps s t u.1 l
+update_lies maps s t m h key bytes flags Exists l is u = same_lies maps s t u.1 l
+update_lies maps s t m h key bytes flags Absent l is u = same_lies maps s t u.1 l
+update_lies maps s t m h key bytes flags Full l is u = same_lies maps s t u.1 l
+update_lies maps s t m h key bytes flags NoMemory l is u = same_lies maps s t u.1 l
 
 delete_lies : (maps : List MapShape) (s t : Plain) (m : ℕ) (key : List ℕ) (answer : MapAnswer) → Lies maps s → Deletes s m key answer t → Lies maps t
-delete_lies maps s t m key Done l u = subst (Lies maps) (sym u.1) (record { shape = l.shape; each = found })
+delete_lies maps s t m key Done l u = subst (Lies maps) (sym u.1) (record { shape = l.shape; made = counted; each = found })
   where
+    counted : (n : ℕ) (q : List ℕ) (v : ℕ) → get (put s.maps m (remove (s.maps m) key) n) q ≡ Some v → v < s.made
+    counted n q v f = elim (put_cases s.maps m n (remove (s.maps m) key)) [
+      | inr k ↦ l.made n q v (sym (ap (λ (z : KeyMap). get z q) k.1) ∙ f)
+      | inl k ↦ elim (remove_cases (s.maps m) key q) [
+        | inl i ↦ (let none : None ≡ Some v = sym i.1 ∙ (sym (ap (λ (z : KeyMap). get z q) k.1) ∙ f) in cc)
+        | inr i ↦ l.made m q v (sym i ∙ (sym (ap (λ (z : KeyMap). get z q) k.1) ∙ f))
+      ]
+    ]
+
     found : (n : ℕ) (q : List ℕ) (v : ℕ) → get (put s.maps m (remove (s.maps m) key) n) q ≡ Some v → IsElementSpan maps n (s.value v).span
     found n q v f = elim (put_cases s.maps m n (remove (s.maps m) key)) [
       | inr k ↦ l.each n q v (sym (ap (λ (z : KeyMap). get z q) k.1) ∙ f)
@@ -90,32 +108,34 @@ delete_lies maps s t m key NoMemory l u = absurd u
 
 looked_lies : (maps : List MapShape) (s : Plain) (c : ℕ) (o : Option ℕ) → Lies maps s → Lies maps (after_lookup s c o)
 looked_lies maps s c None l = l
-looked_lies maps s c (Some v) l = record { shape = l.shape; each = l.each }
+looked_lies maps s c (Some v) l = record { shape = l.shape; made = l.made; each = l.each }
 
 write_lies : (maps : List MapShape) (s : Plain) (v a n x : ℕ) → Lies maps s → Lies maps (after_write s v a n x)
 write_lies maps s v a n x l = record {
   shape = l.shape;
+  made = l.made;
   each = λ m key w f. subst (IsElementSpan maps m) (sym (span-after_write s v a n x w)) (l.each m key w f);
 }
 
-event_lies : (maps : List MapShape) (s t : Plain) (c : ℕ) (e : Event) → IsSoundStore s → Lies maps s → Allowed s c e t → Lies maps t
-event_lies maps s t c Begin so l a = subst (Lies maps) (sym a.2) (record { shape = l.shape; each = l.each })
-event_lies maps s t c End so l a = subst (Lies maps) (sym a.1) (record { shape = l.shape; each = l.each })
-event_lies maps s t c (Lookup m key answer) so l a = subst (Lies maps) (sym a.1.2) (looked_lies maps s c (get (s.maps m) key) l)
-event_lies maps s t c (Update m key bytes flags answer) so l a = update_lies maps s t m a.1.0 key bytes flags answer so l a.1.1 a.1.4
-event_lies maps s t c (Delete m key answer) so l a = delete_lies maps s t m key answer l a.1.1
-event_lies maps s t c (Keys m ks) so l a = subst (Lies maps) (sym a.3) l
-event_lies maps s t c (Load at size found) so l a = same_lies maps s t a.1.3 l
-event_lies maps s t c (Store at size x) so l a = subst (Lies maps) (sym a.1.2) (write_lies maps s a.1.0 at _ _ l)
-event_lies maps s t c (Atomic at size op operand expected found) so l a = subst (Lies maps) (sym a.1.3) (write_lies maps s a.1.0 at _ _ l)
+event_lies : (maps : List MapShape) (s t : Plain) (c : ℕ) (e : Event) → Lies maps s → Allowed s c e t → Lies maps t
+event_lies maps s t c Begin l a = subst (Lies maps) (sym a.2) (record { shape = l.shape; made = l.made; each = l.each })
+event_lies maps s t c End l a = subst (Lies maps) (sym a.1) (record { shape = l.shape; made = l.made; each = l.each })
+event_lies maps s t c (Lookup m key answer) l a = subst (Lies maps) (sym a.1.2) (looked_lies maps s c (get (s.maps m) key) l)
+event_lies maps s t c (Update m key bytes flags answer) l a = update_lies maps s t m a.1.0 key bytes flags answer l a.1.1 a.1.4
+event_lies maps s t c (Delete m key answer) l a = delete_lies maps s t m key answer l a.1.1
+event_lies maps s t c (Keys m ks) l a = subst (Lies maps) (sym a.3) l
+event_lies maps s t c (Load at size found) l a = same_lies maps s t a.1.3 l
+event_lies maps s t c (Store at size x) l a = subst (Lies maps) (sym a.1.2) (write_lies maps s a.1.0 at _ _ l)
+event_lies maps s t c (Atomic at size op operand expected found) l a = subst (Lies maps) (sym a.1.3) (write_lies maps s a.1.0 at _ _ l)
 
-history_lies : (maps : List MapShape) (s t : Plain) (log : List Entry) → IsSoundStore s → Lies maps s → Legal s log t → Lies maps t
-history_lies maps s t [] so l p = subst (Lies maps) p l
-history_lies maps s t (x ∷ xs) so l p = history_lies maps p.0 t xs (allowed_sound s p.0 x.cpu x.event so p.1) (event_lies maps s p.0 x.cpu x.event so l p.1) p.2
+history_lies : (maps : List MapShape) (s t : Plain) (log : List Entry) → Lies maps s → Legal s log t → Lies maps t
+history_lies maps s t [] l p = subst (Lies maps) p l
+history_lies maps s t (x ∷ xs) l p = history_lies maps p.0 t xs (event_lies maps s p.0 x.cpu x.event l p.1) p.2
 
 as_made_lies : (h : Shape) → Lies h.maps (as_made h)
 as_made_lies h = record {
   shape = refl;
+  made = λ m key v f. let none : None ≡ Some v = sym (get-empty {X = ℕ} (slice_cmp nat_cmp) key) ∙ f in cc;
   each = λ m key v f. let none : None ≡ Some v = sym (get-empty {X = ℕ} (slice_cmp nat_cmp) key) ∙ f in cc;
 }
 
@@ -136,9 +156,8 @@ last_found_lies h log others c m key None l = tt
 last_found_lies h log others c m key (Some p) l =
     let first = history_cut Allowed (as_made h) l.0 log (others ++ entry c (Lookup m key (Some p)) ∷ []) l.1 in
     let second = history_cut Allowed first.0 l.0 others (entry c (Lookup m key (Some p)) ∷ []) first.2 in
-    let so = legal_sound (as_made h) first.0 log (as_made_sound h) first.1 in
-    let lie = history_lies h.maps (as_made h) first.0 log (as_made_sound h) (as_made_lies h) first.1 in
-    let then_lie = history_lies h.maps first.0 second.0 others so lie second.1 in
+    let lie = history_lies h.maps (as_made h) first.0 log (as_made_lies h) first.1 in
+    let then_lie = history_lies h.maps first.0 second.0 others lie second.1 in
     lookup_lies h.maps second.0 second.2.0 c m key p then_lie second.2.1
 
 -- ---- what a CPU's own events hold
@@ -168,12 +187,11 @@ since_lie maps s t c (Load at size found) f l a g = g
 since_lie maps s t c (Store at size x) f l a g = g
 since_lie maps s t c (Atomic at size op operand expected found) f l a g = g
 
-told_lie : (maps : List MapShape) (c : ℕ) (s t : Plain) (log : List Entry) (f : Span → Bool) → IsSoundStore s → Lies maps s → Legal s log t → Lie maps f → Lie maps (held_from f (events_of c log))
-told_lie maps c s t [] f so l p g = g
-told_lie maps c s t (x ∷ xs) f so l p g =
-    let so2 = allowed_sound s p.0 x.cpu x.event so p.1 in
-    let l2 = event_lies maps s p.0 x.cpu x.event so l p.1 in
-    go (told_lie maps c p.0 t xs (held_since f x.event) so2 l2 p.2 (since_lie maps s p.0 x.cpu x.event f l p.1 g)) (told_lie maps c p.0 t xs f so2 l2 p.2 g) (x.cpu == c)
+told_lie : (maps : List MapShape) (c : ℕ) (s t : Plain) (log : List Entry) (f : Span → Bool) → Lies maps s → Legal s log t → Lie maps f → Lie maps (held_from f (events_of c log))
+told_lie maps c s t [] f l p g = g
+told_lie maps c s t (x ∷ xs) f l p g =
+    let l2 = event_lies maps s p.0 x.cpu x.event l p.1 in
+    go (told_lie maps c p.0 t xs (held_since f x.event) l2 p.2 (since_lie maps s p.0 x.cpu x.event f l p.1 g)) (told_lie maps c p.0 t xs f l2 p.2 g) (x.cpu == c)
   where
     go : Lie maps (held_from (held_since f x.event) (events_of c xs)) → Lie maps (held_from f (events_of c xs)) → (b : Bool) → Lie maps (held_from f (if b then x.event ∷ events_of c xs else events_of c xs))
     go own other true = own
@@ -181,7 +199,7 @@ told_lie maps c s t (x ∷ xs) f so l p g =
 
 -- each span that a CPU's own events hold is that of an element
 pub held_spans_lie : (h : Shape) (c : ℕ) (log : List Entry) → IsLegal h log → (q : Span) → held_by (events_of c log) q ≡ true → (m : ℕ) × IsElementSpan h.maps m q
-held_spans_lie h c log l = told_lie h.maps c (as_made h) l.0 log no_span (as_made_sound h) (as_made_lies h) l.1 (λ q k. absurd (true≢false (sym k)))
+held_spans_lie h c log l = told_lie h.maps c (as_made h) l.0 log no_span (as_made_lies h) l.1 (λ q k. absurd (true≢false (sym k)))
 
 -- an element's span lies among the addresses of values
 there : {A : Type 0} (xs : List A) (m : ℕ) (x : A) → slice_get xs m ≡ Some x → m < length xs

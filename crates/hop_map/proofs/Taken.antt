@@ -1,15 +1,15 @@
--- A call of a port that takes its lane out, reads or writes a value that the run holds, and puts the lane back.
-use Rattle.std.proofs.Common.{◌≡◌, ℕ, true, [], ◌∷◌, Option, Some, ap, sym, subst, ◌∙◌}
+-- A call of a port that takes its lane out, reads or writes a value that the run holds or a fixed one, and puts the lane back.
+use Rattle.std.proofs.Common.{◌≡◌, ℕ, true, [], ◌∷◌, Option, Some, inl, inr, ap, sym, subst, ◌∙◌}
 use Rattle.atomic_table.specs.Seated.{TableId}
 use Rattle.bpf_shared.specs.declared.events.Event.{Event}
 use Rattle.bpf_shared.specs.History.{events_of}
 use Rattle.bpf_shared.specs.Own.{turns_of, in_run}
-use Rattle.bpf_shared.specs.Passage.{IsHeldPlace}
+use Rattle.bpf_shared.specs.Passage.{IsHeldPlace, IsReadable, IsWritable}
 use Rattle.hop_words.specs.declared.known.Known.{Known}
 use Rattle.hop_words.specs.Inside.{Shown, Standing}
 use Rattle.hop_words.specs.Kinds.{AddsEvent}
 use Rattle.hop_map.specs.declared.port.HopPort.TheInside.{Inside as InPort}
-use Rattle.hop_map.specs.Private.Accesses.{IsHeldAt}
+use Rattle.hop_map.specs.Private.Accesses.{IsHeldAt, MayLoadAt, MayChangeAt}
 use Rattle.hop_map.specs.Port.{Port, port_holds, runs, IsPortOf}
 use Rattle.hop_map.specs.Private.Port.{port_of}
 use Rattle.hop_map.specs.Noting.{MayNote, CallNotes}
@@ -29,8 +29,16 @@ module _ (i : InPort) (o : Option Standing) (s : Standing) («from» : o ≡ i.l
   taken_runs : runs taken ≡ true
   taken_runs = subst (λ (p : Port). runs p ≡ true) (sym is) running
 
-  pub held_there : (at n : ℕ) → IsHeldPlace (port_holds q) at n → IsHeldAt t.about s.known at n
+  held_there : (at n : ℕ) → IsHeldPlace (port_holds q) at n → IsHeldAt t.about s.known at n
   held_there at n h = held_at t taken at n taken_fits taken_runs (subst (λ (p : Port). IsHeldPlace (port_holds p) at n) (sym is) h)
+
+  pub reads_there : (at n : ℕ) → IsReadable t.about.shape (port_holds q) at n → MayLoadAt t.about s.known at n
+  reads_there at n (inl h) = inl (held_there at n h)
+  reads_there at n (inr f) = inr (record { place = f; runs = taken_runs })
+
+  pub writes_there : (at n : ℕ) → IsWritable t.about.shape (port_holds q) at n → MayChangeAt t.about s.known at n
+  writes_there at n (inl h) = inl (held_there at n h)
+  writes_there at n (inr (f, free)) = inr (record { fixed = record { place = f; runs = taken_runs }; writable = free })
 
   -- after one event of the CPU that neither begins nor ends a run
   module _ (l : Known) (e : Event) (quiet : turns_of (e ∷ []) ≡ 0) (told : AddsEvent t.about s.known e l) where

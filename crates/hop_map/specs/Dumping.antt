@@ -1,6 +1,9 @@
--- The pairs and the segments of a map, as the words of a store at rest have them.
-use Rattle.std.specs.Prelude.{◌≡◌, ℕ, zero, suc, ◌+◌, [], if◌then◌else◌}
-use Rattle.bpf_shared.specs.Store.{Plain}
+-- The pairs and the segments of a map, and the values of arrays, as the words of a store at rest have
+-- them.
+use Rattle.std.specs.Prelude.{◌≡◌, ℕ, zero, suc, ◌+◌, nat_lt, ◌&&◌, List, [], Option, Some, None, slice_get, if◌then◌else◌}
+use Rattle.bpf_shared.specs.declared.shapes.ArrayShape.{ArrayShape}
+use Rattle.bpf_shared.specs.Shape.{copies}
+use Rattle.bpf_shared.specs.Store.{Plain, fixed_number}
 use Rattle.hop_layout.specs.Births.{is_born}
 use Rattle.hop_layout.specs.Layout.{mem, depth}
 use Rattle.hop_layout.specs.declared.place.Place.TheVariants.{Stamp}
@@ -25,3 +28,15 @@ abbrev pub born_below : Ending → ℕ → ℕ → ℕ
 born_below e m zero = 0
 born_below e m (suc n) = if is_born (rest_depths e m) (depth (shape_at e.about m)) n
     then born_below e m n + 1 else born_below e m n
+
+-- the bytes of the value of an index of an array, of the k-th CPU if each has its own, if it is
+-- there
+abbrev pub indexed : Plain → ℕ → ℕ → ℕ → Option ArrayShape → Option (List ℕ)
+indexed s a k i None = None
+indexed s a k i (Some g) =
+    if nat_lt k (copies s.shape.cpus g) && nat_lt i g.max
+    then Some (s.value (fixed_number a k i)).bytes
+    else None
+
+abbrev pub fixed_of : Plain → ℕ → ℕ → ℕ → Option (List ℕ)
+fixed_of s a k i = indexed s a k i (slice_get s.shape.arrays a)

@@ -1,4 +1,4 @@
-//! Accesses to values: each takes effect at one step on the word that its bytes lie in.
+//! Accesses to held values: each takes effect at one step on the word that its bytes lie in.
 ghost use Rattle.std.specs.Prelude.{◌≡◌, ◌<◌, ◌≤◌};
 ghost use Rattle.bpf_base.specs.Bytes.{modulus};
 ghost use Rattle.bpf_shared.specs.Access.{bytes_in};
@@ -22,7 +22,7 @@ pub(crate) fn load_at(table: &HopTable, lane: &mut Lane, at: ValuePlace, size: S
     ensures small { result < modulus (bytes_in size) }
 {
     let part = part_at(table, at, size);
-    number_in(lane.load_value(table, part), part)
+    number_in(lane.load_value(table, part), part.offset, size)
 }
 
 /// The eight bytes become the word.
@@ -54,7 +54,7 @@ pub(crate) fn store_part_at<R: Wait>(
     let part = part_at(table, at, size);
     let mut old = lane.look_at_value(rt, table, part);
     'tries: for _ in rt.forever() {
-        let new = with_number(old, part, word);
+        let new = with_number(old, part.offset, size, word);
         let found = lane.exchange_value(table, part, old, new, word);
         if found == old {
             return;
@@ -105,9 +105,9 @@ pub(crate) fn change_part_at<R: Wait>(
     let part = part_at(table, at, size);
     let mut old = lane.look_at_value(rt, table, part);
     'tries: for _ in rt.forever() {
-        let number = number_in(old, part);
+        let number = number_in(old, part.offset, size);
         let left = change(op, size, number, operand, expected);
-        let new = with_number(old, part, left);
+        let new = with_number(old, part.offset, size, left);
         let found = lane.exchange_value_by(table, part, op, operand, expected, old, new);
         if found == old {
             return number;

@@ -32,7 +32,7 @@ pub(crate) fn shape_of(rest: &Rest, map: u8) -> MapShape
 }
 
 // Puts the bytes of a word after others, the lowest first.
-fn push_word(bytes: &mut Vec<u8>, word: u64) -> Result<(), AllocError>
+pub(crate) fn push_word(bytes: &mut Vec<u8>, word: u64) -> Result<(), AllocError>
     ensures { OnOk result (bytes.new.items ≡ bytes.old.items ++ low_bytes 8 word) }
 {
     bytes.extend_from_slice(&word.to_le_bytes())

@@ -3,13 +3,15 @@ ghost use Rattle.std.specs.Prelude.{◌≡◌, ◌+◌, ◌/◌, ◌%◌, ◌<�
 ghost use Rattle.bpf_base.specs.Bytes.{low_bytes, modulus, with_part};
 ghost use Rattle.bpf_shared.specs.Access.{bytes_in};
 ghost use Rattle.hop_words.specs.declared.known.Known.{Known};
-ghost use Rattle.hop_words.specs.Touching.{TouchesPart, part_address, found_part};
-ghost use Rattle.hop_map.specs.Private.Accesses.{IsValuePlace, IsHeldAt};
+ghost use Rattle.bpf_shared.specs.Passage.{IsFixedPlace};
+ghost use Rattle.hop_words.specs.Kinds.{number_in_word};
+ghost use Rattle.hop_words.specs.Touching.{TouchesPart, TouchesFixed, ChangesFixed, part_address, fixed_part_address};
+ghost use Rattle.hop_map.specs.Private.Accesses.{IsValuePlace, IsHeldAt, IsFixedAt, IsFreeAt};
 
 use crate::homing::shape_of;
 use bpf_shared::bytes::{load, store};
-use bpf_shared::{FIRST_VALUE, MAP_AREA, Size, ValuePlace};
-use hop_words::{HopTable, ValuePart};
+use bpf_shared::{FIRST_ARRAY, FIRST_VALUE, MAP_AREA, Size, ValuePlace};
+use hop_words::{FixedPart, HopTable, ValuePart};
 
 // Which value of n bytes each a byte lies in, and where in it. Values of one word need no
 // division.
@@ -50,22 +52,44 @@ pub(crate) fn part_at(table: &HopTable, at: ValuePlace, size: Size) -> ValuePart
     }
 }
 
-/// The number that the bytes read as in a word.
-pub(crate) fn number_in(word: u64, part: ValuePart) -> u64
-    requires fits { part.offset + bytes_in part.size ≤ 8 }
-    ensures value { result ≡ found_part part word }
-    ensures small { result < modulus (bytes_in part.size) }
+/// The word of an array that the bytes lie in, and their place there.
+#[inline(always)]
+pub(crate) fn fixed_part_at(table: &HopTable, at: ValuePlace, size: Size) -> FixedPart
+    requires there { IsFixedPlace table.now.about.shape at.at (bytes_in size) }
+    ensures touches { (l : Known) → IsFixedAt table.now.about l at.at (bytes_in size)
+        → TouchesFixed table.now.about l result }
+    ensures changes { (l : Known) → IsFreeAt table.now.about l at.at (bytes_in size)
+        → ChangesFixed table.now.about l result }
+    ensures at { fixed_part_address result ≡ at.at }
+    ensures size { result.size ≡ size }
 {
-    load(&word.to_le_bytes(), part.offset as usize, part.size)
+    let _cpus = table.about().shape.cpus();
+    let above = at.at - FIRST_VALUE;
+    let within = above % MAP_AREA;
+    FixedPart {
+        array: (above / MAP_AREA - FIRST_ARRAY) as u8,
+        word: (within / 8) as u32,
+        offset: (within % 8) as u32,
+        size,
+    }
+}
+
+/// The number that bytes read as in a word, from an offset on.
+pub(crate) fn number_in(word: u64, offset: u32, size: Size) -> u64
+    requires fits { offset + bytes_in size ≤ 8 }
+    ensures value { result ≡ number_in_word word offset (bytes_in size) }
+    ensures small { result < modulus (bytes_in size) }
+{
+    load(&word.to_le_bytes(), offset as usize, size)
 }
 
 /// A word with other bytes there: the low ones of a number. All else of it stays.
-pub(crate) fn with_number(word: u64, part: ValuePart, number: u64) -> u64
-    requires fits { part.offset + bytes_in part.size ≤ 8 }
+pub(crate) fn with_number(word: u64, offset: u32, size: Size, number: u64) -> u64
+    requires fits { offset + bytes_in size ≤ 8 }
     ensures { low_bytes 8 result
-        ≡ with_part (low_bytes 8 word) part.offset (low_bytes (bytes_in part.size) number) }
+        ≡ with_part (low_bytes 8 word) offset (low_bytes (bytes_in size) number) }
 {
     let mut bytes = word.to_le_bytes();
-    store(&mut bytes, part.offset as usize, part.size, number);
+    store(&mut bytes, offset as usize, size, number);
     u64::from_le_bytes(bytes)
 }

@@ -1,7 +1,7 @@
 //! A port: the right of one CPU to call the store.
-ghost use Rattle.std.specs.Prelude.{ℕ, ◌≡◌, ◌-◌, ◌^◌, true, false, OnOk, OnErr, Some, length, slice_get, IfSome, ◌<◌};
+ghost use Rattle.std.specs.Prelude.{ℕ, ◌≡◌, ◌-◌, ◌^◌, true, false, OnOk, OnErr, Some, length, slice_get, IfSome, ◌<◌, ◌≤◌};
 ghost use Rattle.bpf_shared.specs.declared.events.Event.TheVariants.{Begin, End, Lookup, Update, Delete, Keys};
-ghost use Rattle.bpf_shared.specs.Shape.{IsMapShape, IsKeyOf, IsPairOf, IsElementSpan, IsValueSpan};
+ghost use Rattle.bpf_shared.specs.Shape.{IsMapShape, IsArrayShape, IsKeyOf, IsPairOf, IsElementSpan, IsValueSpan};
 ghost use Rattle.hop_words.specs.Kinds.{run_count};
 ghost use Rattle.hop_map.specs.Call.{IsShortage, IsReclaimed};
 ghost use Rattle.bpf_shared.specs.declared.events.MapAnswer.TheVariants.{Done};
@@ -18,7 +18,7 @@ use crate::listing::list_keys;
 use crate::once::Once;
 use crate::splitting::split_segment;
 use crate::updating::update;
-use bpf_shared::{KeyList, MapAnswer, MapShape, Span, Worn};
+use bpf_shared::{ArrayShape, KeyList, MapAnswer, MapShape, Span, Worn};
 use hop_arena::Arena;
 use hop_epoch::{Batches, begin_run, end_run};
 use hop_words::{HopTable, Lane};
@@ -67,6 +67,26 @@ impl HopPort {
         ensures in_range { IfSome result (λ h. (map < 16) × IsMapShape h) }
     {
         table.about().shape.maps().get(map as usize).copied()
+    }
+
+    /// The shape of the array of this number; `None` for no array's number.
+    pub fn array(&self, table: &HopTable, array: u64) -> Option<ArrayShape>
+        ensures array { result ≡ slice_get table.now.about.shape.arrays array }
+        ensures in_range { IfSome result
+            (λ g. (array < 16) × IsArrayShape table.now.about.shape.cpus g) }
+    {
+        let shape = table.about().shape.arrays().get(array as usize)?;
+        Some(*shape)
+    }
+
+    /// How many CPUs there are. The port's own has a number below it.
+    pub fn cpus(&self, table: &HopTable) -> u8
+        requires fits { IsPortOf table.now self.now }
+        ensures cpus { result ≡ table.now.about.shape.cpus }
+        ensures in_range { (1 ≤ result) × (result ≤ 16) }
+        ensures own { self.now.known.cpu < result }
+    {
+        table.about().shape.cpus()
     }
 
     /// The CPU enters a run, unless its run counter is at its last value, 2^64 - 2.

@@ -1,25 +1,27 @@
-//! A port's accesses to values that its CPU holds. Each is one event, at one step on one word.
+//! A port's accesses to values that its CPU holds, and to fixed ones. Each is one event, at one step
+//! on one word.
 ghost use Rattle.std.specs.Prelude.{◌≡◌, ◌<◌, ◌≤◌, true};
 ghost use Rattle.bpf_base.specs.Bytes.{modulus};
 ghost use Rattle.bpf_shared.specs.Access.{bytes_in};
-ghost use Rattle.bpf_shared.specs.Passage.{IsHeldPlace};
+ghost use Rattle.bpf_shared.specs.Passage.{IsReadable, IsWritable};
 ghost use Rattle.bpf_shared.specs.declared.events.Event.TheVariants.{Load, Store, Atomic};
 ghost use Rattle.bpf_shared.specs.declared.events.Size.TheVariants.{Double};
 ghost use Rattle.hop_map.specs.Port.{IsPortOf, PortDoes, runs, port_holds};
 ghost use Rattle.hop_map.specs.Noting.{CallNotes};
 
-use crate::accessing::{change_part_at, change_word_at, load_at, store_part_at, store_word_at};
 use crate::port::HopPort;
+use crate::reaching::{change_part, change_word, load, store_part, store_word};
 use bpf_shared::{AtomicOp, Size, ValuePlace};
 use hop_words::HopTable;
 use std::sync::Wait;
 
 impl HopPort {
-    /// The number that the bytes at an aligned place in a held value read as.
+    /// The number that the bytes at an aligned place in a held or fixed value read as.
     pub fn value_load(&mut self, table: &HopTable, at: ValuePlace, size: Size) -> u64
         requires fits { IsPortOf table.now self.old }
         requires in_run { runs self.old ≡ true }
-        requires place { IsHeldPlace (port_holds self.old) at.at (bytes_in size) }
+        requires place { IsReadable table.now.about.shape (port_holds self.old)
+            at.at (bytes_in size) }
         ensures in_run { runs self.new ≡ true }
         ensures loaded { PortDoes table.now.about self.old (Load at.at size result) self.new }
         ensures noted { CallNotes table.now.about (Load at.at size result)
@@ -30,16 +32,17 @@ impl HopPort {
         let Some(mut lane) = self.lane.take() else {
             unreachable!()
         };
-        let number = load_at(table, &mut lane, at, size);
+        let number = load(table, &mut lane, at, size);
         self.lane = Some(lane);
         number
     }
 
-    /// The eight bytes at an aligned place in a held value become the word.
+    /// The eight bytes at an aligned place in a held value, or in a fixed one that isn't read only,
+    /// become the word.
     pub fn store_word(&mut self, table: &HopTable, at: ValuePlace, word: u64)
         requires fits { IsPortOf table.now self.old }
         requires in_run { runs self.old ≡ true }
-        requires place { IsHeldPlace (port_holds self.old) at.at 8 }
+        requires place { IsWritable table.now.about.shape (port_holds self.old) at.at 8 }
         ensures in_run { runs self.new ≡ true }
         ensures stored { PortDoes table.now.about self.old (Store at.at Double word) self.new }
         ensures noted { CallNotes table.now.about (Store at.at Double word)
@@ -49,11 +52,11 @@ impl HopPort {
         let Some(mut lane) = self.lane.take() else {
             unreachable!()
         };
-        store_word_at(table, &mut lane, at, word);
+        store_word(table, &mut lane, at, word);
         self.lane = Some(lane);
     }
 
-    /// The bytes at an aligned place in a held value become the low bytes of the word. Others may
+    /// The bytes at an aligned place in such a value become the low bytes of the word. Others may
     /// write the bytes beside them meanwhile: then it tries again.
     pub fn store_part<R: Wait>(
         &mut self,
@@ -65,7 +68,8 @@ impl HopPort {
     )
         requires fits { IsPortOf table.now self.old }
         requires in_run { runs self.old ≡ true }
-        requires place { IsHeldPlace (port_holds self.old) at.at (bytes_in size) }
+        requires place { IsWritable table.now.about.shape (port_holds self.old)
+            at.at (bytes_in size) }
         ensures in_run { runs self.new ≡ true }
         ensures stored { PortDoes table.now.about self.old (Store at.at size word) self.new }
         ensures noted { CallNotes table.now.about (Store at.at size word)
@@ -75,11 +79,11 @@ impl HopPort {
         let Some(mut lane) = self.lane.take() else {
             unreachable!()
         };
-        store_part_at(rt, table, &mut lane, at, size, word);
+        store_part(rt, table, &mut lane, at, size, word);
         self.lane = Some(lane);
     }
 
-    /// An atomic operation on the eight bytes at an aligned place in a held value; the number that
+    /// An atomic operation on the eight bytes at an aligned place in such a value; the number that
     /// stood there before. Only `CompareExchange` looks at the number that is expected.
     pub fn atomic_word(
         &mut self,
@@ -91,7 +95,7 @@ impl HopPort {
     ) -> u64
         requires fits { IsPortOf table.now self.old }
         requires in_run { runs self.old ≡ true }
-        requires place { IsHeldPlace (port_holds self.old) at.at 8 }
+        requires place { IsWritable table.now.about.shape (port_holds self.old) at.at 8 }
         ensures in_run { runs self.new ≡ true }
         ensures changed { PortDoes table.now.about self.old
             (Atomic at.at Double op operand expected result) self.new }
@@ -102,14 +106,13 @@ impl HopPort {
         let Some(mut lane) = self.lane.take() else {
             unreachable!()
         };
-        let number = change_word_at(table, &mut lane, at, op, operand, expected);
+        let number = change_word(table, &mut lane, at, op, operand, expected);
         self.lane = Some(lane);
         number
     }
 
-    /// An atomic operation on four or eight bytes of a held value. Others may write the bytes beside
-    /// them meanwhile:
-    /// then it tries again.
+    /// An atomic operation on four or eight bytes of such a value. Others may write the bytes beside
+    /// them meanwhile: then it tries again.
     pub fn atomic_part<R: Wait>(
         &mut self,
         rt: &R,
@@ -122,7 +125,8 @@ impl HopPort {
     ) -> u64
         requires fits { IsPortOf table.now self.old }
         requires in_run { runs self.old ≡ true }
-        requires place { IsHeldPlace (port_holds self.old) at.at (bytes_in size) }
+        requires place { IsWritable table.now.about.shape (port_holds self.old)
+            at.at (bytes_in size) }
         requires wide { 4 ≤ bytes_in size }
         ensures in_run { runs self.new ≡ true }
         ensures changed { PortDoes table.now.about self.old
@@ -135,7 +139,7 @@ impl HopPort {
         let Some(mut lane) = self.lane.take() else {
             unreachable!()
         };
-        let number = change_part_at(rt, table, &mut lane, at, size, op, operand, expected);
+        let number = change_part(rt, table, &mut lane, at, size, op, operand, expected);
         self.lane = Some(lane);
         number
     }

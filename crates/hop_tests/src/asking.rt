@@ -60,7 +60,7 @@ pub(crate) enum Reply {
 
 /// Whether the first map has the sizes of the calls.
 pub(crate) fn is_fitting<S: Shared>(shared: &S) -> bool
-    ensures { IsTrue result → HasSizes (S.shapes shared.now) }
+    ensures { IsTrue result → HasSizes (S.shapes shared.now).maps }
 {
     match shared.shape(0) {
         Some(shape) => shape.key == 4 && shape.value == 8,
@@ -125,7 +125,7 @@ fn touch<S: Shared>(shared: &mut S, cpu: u8, span: Span, place: u64, access: Acc
 fn find_and_touch<S: Shared>(shared: &mut S, cpu: u8, key: u32, place: u64, access: Access) -> Reply
     requires serves { S.serves shared.old cpu ≡ true }
     requires in_run { S.running shared.old cpu ≡ true }
-    requires sizes { HasSizes (S.shapes shared.old) }
+    requires sizes { HasSizes (S.shapes shared.old).maps }
     ensures passes { (log : List Entry) × S.passes shared.old shared.new log }
     ensures serves { S.serves shared.new cpu ≡ true }
     ensures in_run { S.running shared.new cpu ≡ true }

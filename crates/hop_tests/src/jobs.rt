@@ -6,7 +6,7 @@ mod meeting;
 mod texts;
 
 use bpf_cpu::{Fault, Job, Outcome};
-use bpf_loader::{Program, load};
+use bpf_loader::{Named, Program, load};
 use bpf_sched::{Gate, NoGate, Refused, Report, SchedError, run_jobs};
 use bpf_shared::{MapShape, StoreShape};
 use bpf_text::assemble;
@@ -31,8 +31,9 @@ const fn shape(spare: u64) -> MapShape {
 
 fn programs(alloc: Global, texts: &[&str]) -> Result<Vec<Program>, Fail> {
     let mut programs = Vec::new(alloc);
+    let named = Named { maps: 2, arrays: 0 };
     for text in texts {
-        programs.push(load(alloc, assemble(alloc, text)?, 2)?)?;
+        programs.push(load(alloc, assemble(alloc, text)?, named)?)?;
     }
     Ok(programs)
 }

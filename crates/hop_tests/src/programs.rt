@@ -7,7 +7,7 @@ ghost use Rattle.hop_tests.specs.Trial.{IsIdlePort};
 use crate::stores::{a_map, a_shape, aged_ports, close, last_of, new_ports, pop_port};
 use crate::texts::{ADD, CALLS, LOOK_UP};
 use bpf_cpu::{Cpu, Fault, Outcome};
-use bpf_loader::{Program, load};
+use bpf_loader::{Named, Program, load};
 use bpf_plain::PlainStore;
 use bpf_shared::{MapShape, Shared};
 use bpf_text::assemble;
@@ -31,7 +31,8 @@ const MAP: MapShape = MapShape {
 };
 
 fn program(alloc: Global, text: &str) -> Result<Program, Fail> {
-    Ok(load(alloc, assemble(alloc, text)?, 1)?)
+    let named = Named { maps: 1, arrays: 0 };
+    Ok(load(alloc, assemble(alloc, text)?, named)?)
 }
 
 // Runs a program as a job of CPU 0 with this number as its context.
@@ -118,9 +119,9 @@ fn no_job_runs_on_a_worn_counter(rt: HostRuntime) -> Result<(), Fail> {
     Ok(())
 }
 
-// Runs a program as a job of each port's CPU, each by a thread of its own. Answers how many ended
-// with this number, and the ports.
-fn run_by_threads<R: Threads + Wait + Sync>(
+/// Runs a program as a job of each port's CPU, each by a thread of its own. Answers how many ended
+/// with this number, and the ports.
+pub(crate) fn run_by_threads<R: Threads + Wait + Sync>(
     rt: &R,
     alloc: Global,
     table: &HopTable,

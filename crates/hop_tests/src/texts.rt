@@ -24,6 +24,32 @@ pub(crate) const ADD: &str = "
     exit
 ";
 
+/// Adds 1 a thousand times to the value 1 of the first array by atomic additions, and to the value 0
+/// of the second by loads and stores.
+pub(crate) const COUNT: &str = "
+    *(u32 *)(r10 - 4) = 1
+    r1 = map 16
+    r2 = r10
+    r2 += -4
+    call 1
+    r7 = r0
+    *(u32 *)(r10 - 4) = 0
+    r1 = map 17
+    r2 = r10
+    r2 += -4
+    call 1
+    r6 = 1000
+    r1 = 1
+    lock *(u64 *)(r7 + 0) += r1
+    r2 = *(u64 *)(r0 + 0)
+    r2 += 1
+    *(u64 *)(r0 + 0) = r2
+    r6 += -1
+    if r6 != 0 goto -6
+    r0 = 0
+    exit
+";
+
 /// The value under the key 0.
 const READ: &str = "
     *(u32 *)(r10 - 4) = 0

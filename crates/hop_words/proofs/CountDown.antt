@@ -136,6 +136,7 @@ module _ (a : About) (l : Known) (k : Lock) (key : List ℕ) (e : ℕ) (i : Remo
   down_rule : Rule a (put_at w (KeyCount m) (w (KeyCount m) - 1)) g'
   down_rule = record {
     shaped = r.shaped;
+    fixed = r.fixed;
     deep = r.deep;
     logged = logged_event a g.lanes.seen g.log g.last last' l.cpu event r.logged inside may;
     keyed = keyed_goes a l.cpu m e s key g.holder was g.linked (λ j. w (KeyCount j)) g.last.maps g.number r.keyed there;

@@ -10,13 +10,13 @@ use Rattle.bpf_shared.specs.declared.events.Entry.{Entry}
 use Rattle.bpf_shared.specs.declared.events.MapAnswer.TheVariants.{Done, Invalid, Exists, Absent, Full}
 use Rattle.bpf_shared.specs.First.{first_of}
 use Rattle.bpf_shared.specs.Shape.{element_span}
-use Rattle.bpf_shared.specs.Store.{Plain, Value, put}
+use Rattle.bpf_shared.specs.Store.{Plain, Value, put, fixed_count}
 use Rattle.bpf_shared.specs.Events.{Allowed, after_update}
 use Rattle.bpf_shared.specs.History.{entry, events_of}
 use Rattle.bpf_shared.specs.Own.{in_run}
 use Rattle.bpf_shared.proofs.Puts.{put-same}
 use Rattle.hop_layout.specs.declared.place.Place.{Place}
-use Rattle.hop_layout.specs.declared.place.Place.TheVariants.{RunCount, KeyCount, Stamp, ValueWord}
+use Rattle.hop_layout.specs.declared.place.Place.TheVariants.{RunCount, KeyCount, Stamp, ValueWord, FixedWord}
 use Rattle.hop_layout.specs.declared.about.About.{About}
 use Rattle.hop_words.specs.declared.known.Known.{Known}
 use Rattle.hop_words.specs.declared.known.Fresh.{Fresh}
@@ -36,8 +36,9 @@ use Rattle.hop_words.proofs.Histories.{logged_event, done_in-append}
 use Rattle.hop_words.proofs.Shortages.{begun_answer, causes_on, empty_still, run_quiet, had_update, new_update, settles_put, shown_step, hand_held, hand_rest}
 use Rattle.hop_words.proofs.Comes.{in_hand, now_old, linked_comes, owned_comes, keyed_comes, batched_comes, filled_rest, valued_comes}
 use Rattle.hop_words.proofs.Segs.{Elsewhere, segments_step, locking_step, Upward, readings_step, held_step, lock_once, one_home}
-use Rattle.hop_words.proofs.Stays.{stay, next_as, saw, running_is, map_there, runs_quiet, place_for}
+use Rattle.hop_words.proofs.Stays.{stay, next_as, saw, running_is, map_there, runs_quiet, place_for, shape_is}
 use Rattle.hop_words.specs.Depths.{home_by}
+use Rattle.hop_words.proofs.FixedPlaces.{fixed_later, sound}
 
 pub four : (b0 b1 b2 b3 : Bool) → b0 ≡ false → b1 ≡ false → b2 ≡ false → b3 ≡ false → first_of ((Invalid, b0) ∷ (Exists, b1) ∷ (Absent, b2) ∷ (Full, b3) ∷ []) ≡ None
 four b0 b1 b2 b3 e0 e1 e2 e3 = rw (e0, e1, e2, e3) refl
@@ -264,6 +265,7 @@ module _ (a : About) (l : Known) (k : Lock) (f : Fresh) (rest : List Fresh) (key
     reading = readings_step a g.depths m s g.eras g'.eras g.lanes.readings upward r.reading;
     held = held_step a g.depths m s l.cpu _ _ g.eras g'.eras g.lanes.locks (k' ∷ []) inside r.held (λ odd. (ap (λ (y : Era). y.writer) now_era, (let z = lock_once k' in omega arith)))
         (λ n t _ ne. (refl, put2-other g.eras m s n t era' ne, ap (times_lock n t) (sym (ap (λ (z : Known). z.locks) is ∙ i.filled.lock))));
+    fixed = fixed_later a r.shaped (λ b k. w (FixedWord b k)) g.last.value g.last.made x (subst (λ h. fixed_count h ≤ g.last.made) (shape_is a w g r l is inside) (sound a w g r).fixed.made) r.fixed;
     valued = valued_comes a l.cpu m e s key g.holder was _ g.last.made g.last.value g.last.held g.number x r.valued spelled_is;
     shown = shown_step a g.log log' g.last last' g.lanes.fresh g'.lanes.fresh g.lanes.tally g.holder g'.holder g.taker (begun_answer g.log g.lanes.fresh l.cpu f rest event hand updates)
         (causes_on a g.log g.last last' g.lanes.fresh g'.lanes.fresh l.cpu event (begun_answer g.log g.lanes.fresh l.cpu f rest event hand updates) r.logged.legal (may found) r.shown.causes tt)

@@ -62,7 +62,7 @@ module _ (a : About) (l : Known) (k : Lock) (key bytes : List ℕ) (flags : ℕ)
   count_is = r.keyed.counted k.map h.inside.0
 
   pub most : w (KeyCount k.map) ≤ (shape_at a k.map).max
-  most = let z = (legal_sound (as_made a.shape) g.last g.log (as_made_sound a.shape) r.logged.legal).keys k.map (shape_at a k.map) (map_there a w g r l is inside k.map h.inside.0) in let c = count_is in omega arith
+  most = let z = (legal_sound (as_made a.shape) g.last g.log (as_made_sound a.shape r.shaped) r.logged.legal).keys k.map (shape_at a k.map) (map_there a w g r l is inside k.map h.inside.0) in let c = count_is in omega arith
 
   invalid_false : nat_lt 2 flags ≡ false
   invalid_false = let t = i.flags_known in grind (arith, nat_tests)

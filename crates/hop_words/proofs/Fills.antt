@@ -111,6 +111,7 @@ module _ (a : About) (l : Known) (f : Fresh) (rest : List Fresh) (hand : l.fresh
     ghost = g2;
     rule = record {
       shaped = r.shaped;
+      fixed = r.fixed;
       deep = r.deep;
       logged = r.logged;
       keyed = r.keyed;
@@ -181,6 +182,7 @@ module _ (a : About) (l : Known) (f : Fresh) (rest : List Fresh) (hand : l.fresh
     ghost = g2;
     rule = record {
       shaped = r.shaped;
+      fixed = r.fixed;
       deep = r.deep;
       logged = r.logged;
       keyed = r.keyed;
@@ -265,6 +267,7 @@ give_fresh a l f rest hand at_e answered ws g sized r is inside fits = record {
   ghost = g2;
   rule = record {
     shaped = r.shaped;
+    fixed = r.fixed;
     deep = r.deep;
     logged = r.logged;
     keyed = r.keyed;

@@ -1,5 +1,5 @@
 -- Give bit of the old batch, retire, fill word.
-use Rattle.std.proofs.Common.{◌≡◌, ◌≢◌, ℕ, zero, suc, ◌+◌, ◌/◌, ◌%◌, ◌^◌, ◌<◌, ◌≤◌, Bool, true, false, true≢false, List, [], ◌∷◌, Option, ◌==◌, length, set, slice_index, refl, ap, sym, subst, ◌∙◌, arith, eq-eqb, ne_eqb, ⊎_elim, inl, inr, ◌⊎◌, bit_or}
+use Rattle.std.proofs.Common.{◌≡◌, ◌≢◌, ℕ, ◌+◌, ◌/◌, ◌%◌, ◌^◌, ◌<◌, ◌≤◌, Bool, true, false, true≢false, List, [], ◌∷◌, Option, ◌==◌, length, set, slice_index, refl, ap, sym, subst, ◌∙◌, arith, eq-eqb, ne_eqb, ⊎_elim, inr, bit_or}
 use Rattle.std.proofs.lemmas.Bool.Decides.{nat_tests}
 use Rattle.std.proofs.lemmas.Nat.Bits.{bit_at_or, bit_at-lt, bit_at-pow_same, bit_at-pow_other}
 use Rattle.std.proofs.lemmas.Bool.{cases_lt, cases_eq}
@@ -48,13 +48,13 @@ holder_odd : (a : About) (w : Place → ℕ) (g : Ghost) → Rule a w g → a.co
 holder_odd a w g r even d v h = (in_shape, odd)
   where
     so : IsSoundStore g.last
-    so = legal_sound (as_made a.shape) g.last g.log (as_made_sound a.shape) r.logged.legal
+    so = legal_sound (as_made a.shape) g.last g.log (as_made_sound a.shape r.shaped) r.logged.legal
 
     running : g.last.running d ≡ true
     running = ⊎_elim (λ (t : g.last.running d ≡ true). t) (λ (f : g.last.running d ≡ false). absurd (true≢false (sym h ∙ (so.idle d f v).0))) (true_or_false (g.last.running d))
 
     known : in_run (events_of d g.log) ≡ true
-    known = sym (runs_as_known a d g.last g.log g.log r.logged.legal refl) ∙ running
+    known = sym (runs_as_known a d g.last g.log g.log r.shaped r.logged.legal refl) ∙ running
 
     turns_odd : turns_of (events_of d g.log) % 2 ≡ 1
     turns_odd = let k = known in grind (arith, nat_tests)
@@ -74,6 +74,7 @@ give_old a l m e es even at_e room i ws g sized r is inside fits = record {
   ghost = g2;
   rule = record {
     shaped = r.shaped;
+    fixed = r.fixed;
     deep = r.deep;
     logged = r.logged;
     keyed = r.keyed;
@@ -230,6 +231,7 @@ retire a l m e us at_e room unlocked used ws g sized r is inside fits = record {
   ghost = g2;
   rule = record {
     shaped = r.shaped;
+    fixed = r.fixed;
     deep = r.deep;
     logged = r.logged;
     keyed = r.keyed;

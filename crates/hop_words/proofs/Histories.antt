@@ -6,6 +6,7 @@ use mathlib.Core.List.{IsPrefix}
 use native.Mathlib.Decide.{ℕ_discrete}
 use Rattle.bpf_shared.specs.declared.events.Event.{Event}
 use Rattle.bpf_shared.specs.declared.events.Entry.{Entry}
+use Rattle.bpf_shared.specs.Shape.{IsShape}
 use Rattle.bpf_shared.specs.Store.{Plain, as_made, put}
 use Rattle.bpf_shared.specs.Events.{Allowed}
 use Rattle.bpf_shared.specs.History.{Legal, events_of, entry}
@@ -47,8 +48,8 @@ done_in-append m (x ∷ xs) ys = let r = done_in-append m xs ys in omega arith
 
 -- ---- who runs, and the shape
 -- who runs is determined by the CPU's own events
-pub runs_as_known : (a : About) (c : ℕ) (t : Plain) (log seen : List Entry) → Legal (as_made a.shape) log t → events_of c seen ≡ events_of c log → t.running c ≡ in_run (events_of c seen)
-runs_as_known a c t log seen legal own = (own_events_tell a.shape c t log legal).0 ∙ ap in_run (sym own)
+pub runs_as_known : (a : About) (c : ℕ) (t : Plain) (log seen : List Entry) → IsShape a.shape → Legal (as_made a.shape) log t → events_of c seen ≡ events_of c log → t.running c ≡ in_run (events_of c seen)
+runs_as_known a c t log seen shaped legal own = (own_events_tell a.shape c t log shaped legal).0 ∙ ap in_run (sym own)
 
 pub shape_after : (s t : Plain) (log : List Entry) → Legal s log t → t.shape ≡ s.shape
 shape_after = history_shape Allowed (λ s t c e a. a)

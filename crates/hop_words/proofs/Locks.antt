@@ -120,6 +120,7 @@ module _ (a : About) (l : Known) (k : Lock) {rest : List Lock} (held : l.locks �
       → (v / 256 + era'.credit + first_depth (shape_at a k.map) ≤ a.version + g.depths k.map k.segment + done_in k.map g.log) → Rule a w' unlocked
   unlock_rule at_rest deep own up stays fair = record {
     shaped = r.shaped;
+    fixed = r.fixed;
     deep = deep_step a g.depths k.map k.segment _ _ r.deep (λ n t ne. put_else w (Stamp k.map k.segment) (Stamp n t) v (stamp_apart k.map k.segment n t ne)) (ap stamp_depth (put_here w (Stamp k.map k.segment) v) ∙ deep);
     logged = r.logged;
     keyed = r.keyed;
@@ -385,6 +386,7 @@ module _ (a : About) (l : Known) (m s old : ℕ) (in_m : m < length a.shape.maps
   lock_rule : Rule a lw' locked_ghost
   lock_rule = record {
     shaped = r.shaped;
+    fixed = r.fixed;
     deep = deep_step a g.depths m s _ _ r.deep (λ n t ne. put_else lw (Stamp m s) (Stamp n t) (old + 1) (stamp_apart m s n t ne)) (ap stamp_depth stamp_now ∙ ((let z = even in let q : stamp_depth (old + 1) ≡ stamp_depth old = omega arith in q) ∙ says));
     logged = r.logged;
     keyed = r.keyed;

@@ -25,6 +25,7 @@ use Rattle.hop_words.specs.Rule.{Rule, Kept, begun_in, times_limbo, Chained}
 use Rattle.hop_words.specs.Private.Made.{AreNewWords}
 use Rattle.hop_words.specs.Opens.{no_limbos, new_lane, lanes_from, opens}
 use Rattle.hop_words.proofs.CountDown.{nothing_in}
+use Rattle.hop_words.proofs.FirstBytes.{shows_first}
 use Rattle.hop_words.specs.Depths.{home_by}
 use Rattle.hop_layout.specs.Births.{is_born, AreDepths}
 use Rattle.hop_layout.proofs.Births.{born_small, low_is, high_is}
@@ -141,6 +142,7 @@ module _ (a : About) (w : Place → ℕ) (i : AreNewWords a w) where
     locking = λ c. tt;
     reading = λ c. tt;
     held = λ m s b odd. absurd (let z = (i.stamps m s (b.0, b.1)).0 in omega arith);
+    fixed = shows_first a i.shaped i.bytes w i.fixed;
     valued = record { lies = λ m e l has. absurd has; older = λ m e l has. absurd has; held_in = λ c v h. absurd (true≢false (sym h)) };
     shown = record { causes = λ before after x e. none_before before after x e; running = λ c. inl refl; took = λ m e at_e held. absurd (held refl); taken = λ c m e l at_e seen. absurd seen };
   }

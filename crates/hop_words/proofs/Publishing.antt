@@ -399,6 +399,7 @@ module _ (a : About) (l : Known) (k : Lock) (n : ℕ) (i : Splits a l k n) (w : 
   published : Rule a w' g'
   published = record {
     shaped = r.shaped;
+    fixed = r.fixed;
     logged = r.logged;
     keyed = r.keyed;
     worn = worn;

@@ -13,7 +13,7 @@ use Rattle.bpf_shared.specs.Events.{Allowed, after_lookup, span_of}
 use Rattle.bpf_shared.specs.History.{entry}
 use Rattle.bpf_shared.proofs.Puts.{put-same, put-other, put_pair}
 use Rattle.hop_layout.specs.declared.place.Place.{Place}
-use Rattle.hop_layout.specs.declared.place.Place.TheVariants.{RunCount, KeyCount, FreeBits, Stamp, Head, Hop, Slot, Link, KeyWord, ValueWord}
+use Rattle.hop_layout.specs.declared.place.Place.TheVariants.{RunCount, KeyCount, FreeBits, Stamp, Head, Hop, Slot, Link, KeyWord, ValueWord, FixedWord}
 use Rattle.hop_layout.specs.declared.about.About.{About}
 use Rattle.hop_words.specs.declared.known.Known.{Known}
 use Rattle.hop_words.specs.declared.known.Lock.{Lock}
@@ -21,7 +21,7 @@ use Rattle.hop_words.specs.declared.known.Reading.{Reading}
 use Rattle.hop_layout.specs.Layout.{mem, put_at, size, power, depth}
 use Rattle.hop_words.specs.Content.{MapWords, words_by_place, AgreesInSegment, Reached, IsShare}
 use Rattle.hop_words.specs.Ghost.{Leaving, Within, Carries, lane, Ghost, shape_at, Each, Era}
-use Rattle.hop_words.specs.Rule.{Rule, Segment, Holds, IsSoundReading, Readings, IsPeek, numbered, Runs, Batched, Valued}
+use Rattle.hop_words.specs.Rule.{Rule, Segment, Holds, IsSoundReading, Readings, IsPeek, numbered, Runs, Batched, Valued, ShowsFixed}
 use Rattle.hop_words.specs.Shortage.{HasHadValue}
 use Rattle.hop_words.specs.Private.Step.{Next, Steps}
 use Rattle.hop_words.specs.Kinds.{TakesEffect, noting, FindsByPeeks, found_span, KnowsBorn, SaysDepth, StampNoted}
@@ -47,6 +47,7 @@ module _ (a : About) (w : Place → ℕ) (g : Ghost) (r : Rule a w g) (c : ℕ) 
   read_rule : (rs : List Reading) → Each (IsSoundReading a g.depths g.eras) rs → Rule a w (with_readings rs)
   read_rule rs own = record {
     shaped = r.shaped;
+    fixed = r.fixed;
     deep = r.deep;
     logged = r.logged;
     keyed = r.keyed;
@@ -164,6 +165,7 @@ is_peek m s w x k (Slot n t b) = λ h u. sym (k.slot b) ∙ (λ j. w (Slot (sym 
 is_peek m s w x k (Link n e) = λ h u. sym (k.link e u) ∙ (λ j. w (Link (sym h j) e))
 is_peek m s w x k (KeyWord n e i) = λ h u. sym (k.key e i u) ∙ (λ j. w (KeyWord (sym h j) e i))
 is_peek m s w x k (ValueWord n e i) = tt
+is_peek m s w x k (FixedWord b i) = tt
 
 -- the reading has one word more
 abbrev pub read_more : Known → Reading → Place → ℕ → Known
@@ -218,6 +220,10 @@ module _ (a : About) (w : Place → ℕ) (g : Ghost) (r : Rule a w g) (c m : ℕ
         (put_pair g.last.held c (g.number m e) x v holds);
   }
 
+  values_still : (o : Option ℕ) → (looking o).value ≡ g.last.value
+  values_still None = refl
+  values_still (Some e) = refl
+
   pub maps_same : (o : Option ℕ) → (looking o).maps ≡ g.last.maps
   maps_same None = refl
   maps_same (Some e) = refl
@@ -243,6 +249,7 @@ module _ (a : About) (w : Place → ℕ) (g : Ghost) (r : Rule a w g) (c m : ℕ
     locking = r.locking;
     reading = r.reading;
     held = r.held;
+    fixed = subst (ShowsFixed a (λ b k. w (FixedWord b k))) (sym (values_still o)) r.fixed;
     valued = looked_valued o key is;
     shown = shown_more a g.log c (Lookup m key sp) g.last (looking o) g.lanes.fresh g.lanes.tally g.holder g.taker refl r.logged.legal may tt (looked_had o) r.shown;
   }

@@ -42,7 +42,7 @@ module _ (a : About) (linked : ℕ → List ℕ → Option ℕ) (m : ℕ) where
 module _ (a : About) (w : Place → ℕ) (g : Ghost) (r : Rule a w g) (l : Known) (is : lane g.lanes l.cpu ≡ l) (inside : l.cpu < a.shape.cpus) where
   pub room_for : (m : ℕ) → m < length a.shape.maps → (ks : List Lock) → Each (ShowsLinks a g.linked) ks → KeysHaveRoom a m ks
   room_for m there ks shares keys apart all =
-      let most = (legal_sound (as_made a.shape) g.last g.log (as_made_sound a.shape) r.logged.legal).keys m (shape_at a m) (map_there a w g r l is inside m there) in
+      let most = (legal_sound (as_made a.shape) g.last g.log (as_made_sound a.shape r.shaped) r.logged.legal).keys m (shape_at a m) (map_there a w g r l is inside m there) in
       let few = distinct_fits keys (g.last.maps m) apart (each keys all) in
       omega arith
     where

@@ -1,11 +1,11 @@
 -- What every kind of step uses.
-use Rattle.std.proofs.Common.{◌≡◌, ◌≢◌, ℕ, ◌+◌, ◌<◌, Bool, true, false, List, [], ◌∷◌, ◌++◌, Option, Some, None, length, refl, ap, sym, subst, ◌∙◌, arith, append_assoc, ⊎_elim, inl, inr}
+use Rattle.std.proofs.Common.{◌≡◌, ◌≢◌, ℕ, ◌+◌, ◌<◌, Bool, true, false, List, [], ◌∷◌, ◌++◌, Option, Some, None, ◌⊎◌, length, refl, ap, sym, subst, ◌∙◌, arith, append_assoc, ⊎_elim, inl, inr}
 use Rattle.std.proofs.lemmas.Bool.{cases_eq}
 use mathlib.Core.List.{IsPrefix}
 use Rattle.bpf_shared.specs.declared.events.Entry.{Entry}
 use Rattle.bpf_shared.specs.declared.events.Event.{Event}
 use Rattle.bpf_shared.specs.Shape.{IsMap, IsApart, IsIn, element_span}
-use Rattle.bpf_shared.specs.Store.{Plain, as_made, put, IsLive}
+use Rattle.bpf_shared.specs.Store.{Plain, as_made, put, IsInMap, IsHeld, IsFixed, fixed_value}
 use Rattle.bpf_shared.specs.Events.{Allowed, MayLie}
 use Rattle.bpf_shared.specs.History.{events_of, entry}
 use Rattle.hop_layout.specs.declared.place.Place.{Place}
@@ -20,6 +20,8 @@ use Rattle.hop_words.specs.Private.Step.{Noted, Next}
 use Rattle.hop_words.specs.Kinds.{TakesEffect}
 use Rattle.hop_layout.proofs.Layouts.{same_is}
 use Rattle.hop_layout.proofs.Maps.{map_is, spans_apart}
+use Rattle.bpf_shared.proofs.Fixed.{element_apart}
+use Rattle.hop_words.proofs.FixedPlaces.{sound}
 use Rattle.hop_words.proofs.Small.{here_or}
 use Rattle.hop_words.proofs.Histories.{rest_has_none, turns_own, turns_else, runs_as_known, shape_after, prefix_refl, done_in-append}
 
@@ -70,7 +72,7 @@ module _ (a : About) (w : Place → ℕ) (g : Ghost) (r : Rule a w g) (l : Known
       }
 
   pub running_is : in_run (events_of l.cpu l.seen) ≡ true → g.last.running l.cpu ≡ true
-  running_is run = runs_as_known a l.cpu g.last g.log l.seen r.logged.legal (ap (events_of l.cpu) (sym seen_is) ∙ r.logged.own l.cpu inside) ∙ run
+  running_is run = runs_as_known a l.cpu g.last g.log l.seen r.shaped r.logged.legal (ap (events_of l.cpu) (sym seen_is) ∙ r.logged.own l.cpu inside) ∙ run
 
   pub shape_is : g.last.shape ≡ a.shape
   shape_is = shape_after (as_made a.shape) g.last g.log r.logged.legal
@@ -85,24 +87,32 @@ module _ (a : About) (w : Place → ℕ) (g : Ghost) (r : Rule a w g) (l : Known
   some_numbered f None v e = cc
   some_numbered f (Some x) v e = (x, refl, cc)
 
-  -- a live value lies in an element that nobody fills
-  pub live_in : (v : ℕ) → IsLive g.last v → (m : ℕ) × (e : ℕ) × HasElement a m e × Carries (g.holder m e) × (g.number m e ≡ v)
-  live_in v (inl p) =
+  -- a value that is in a map or held lies in an element that nobody fills
+  lies_in : (v : ℕ) → ((m : ℕ) × IsInMap g.last m v) ⊎ IsHeld g.last v → (m : ℕ) × (e : ℕ) × HasElement a m e × Carries (g.holder m e) × (g.number m e ≡ v)
+  lies_in v (inl p) =
       let q = some_numbered (g.number p.0) (g.linked p.0 p.1.0) v (sym (r.keyed.leads p.0 p.1.0) ∙ p.1.1) in
       let w = r.linked.within p.0 p.1.0 q.0 q.1 in
       (p.0, q.0, w.0, subst Carries (sym w.1) tt, q.2)
-  live_in v (inr p) = r.valued.held_in p.0 v p.1
+  lies_in v (inr p) = r.valued.held_in p.0 v p.1
 
   -- so the element that a CPU fills overlaps no live value
   pub place_for : (m e c : ℕ) → HasElement a m e → g.holder m e ≡ Filling c → MayLie g.last m (shape_at a m) (element_span m (shape_at a m) e)
   place_for m e c at_e was = record {
     element = (e, at_e.1, refl);
-    apart = λ v live.
-        let k = live_in v live in
-        let span = ap (λ x. x.span) (ap g.last.value (sym k.4) ∙ r.valued.lies k.0 k.1 k.2 k.3) in
-        subst (IsApart (element_span m (shape_at a m) e)) (sym span)
-        (spans_apart a.shape m k.0 e k.1 r.shaped at_e.0 k.2.0 at_e.1 k.2.1 (λ t u. subst Carries ((λ i. g.holder (t i) (u i)) ∙ was) k.3));
+    apart = λ v live. elim live [
+      | inl p ↦ apart_from v (inl p)
+      | inr (inl h) ↦ apart_from v (inr h)
+      | inr (inr f) ↦ subst (IsApart (element_span m (shape_at a m) e)) (sym ((sound a w g r).fixed.spans v f ∙ ap (λ h. (fixed_value h v).span) shape_is))
+          (element_apart a.shape r.shaped m e v (shape_at a m) (let n = at_e.0 in let z = r.shaped.count in omega arith) (r.shaped.each m (shape_at a m) (map_is a.shape m at_e.0)) at_e.1 (subst (λ h. IsFixed h v) shape_is f))
+    ];
   }
+    where
+      apart_from : (v : ℕ) → ((m : ℕ) × IsInMap g.last m v) ⊎ IsHeld g.last v → IsApart (element_span m (shape_at a m) e) (g.last.value v).span
+      apart_from v live =
+          let k = lies_in v live in
+          let span = ap (λ x. x.span) (ap g.last.value (sym k.4) ∙ r.valued.lies k.0 k.1 k.2 k.3) in
+          subst (IsApart (element_span m (shape_at a m) e)) (sym span)
+          (spans_apart a.shape m k.0 e k.1 r.shaped at_e.0 k.2.0 at_e.1 k.2.1 (λ t u. subst Carries ((λ i. g.holder (t i) (u i)) ∙ was) k.3))
 
 -- two elements with one span are one
 pub span_once : (a : About) (w : Place → ℕ) (g : Ghost) → Rule a w g → (m e n d : ℕ) → HasElement a m e → HasElement a n d → element_span n (shape_at a n) d ≡ element_span m (shape_at a m) e → (n ≡ m) × (d ≡ e)

@@ -43,6 +43,7 @@ module _ (a : About) (w : Place → ℕ) (g : Ghost) (c : ℕ) (told said : Know
     ghost = noted_ghost;
     rule = record {
       shaped = n.rule.shaped;
+      fixed = n.rule.fixed;
       deep = n.rule.deep;
       logged = n.rule.logged;
       keyed = n.rule.keyed;

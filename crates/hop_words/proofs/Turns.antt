@@ -5,7 +5,7 @@ use native.Mathlib.Decide.{ℕ_discrete}
 use mathlib.Core.Logic.{dite}
 use Rattle.bpf_shared.specs.declared.events.Event.{Event}
 use Rattle.bpf_shared.specs.declared.events.Event.TheVariants.{Begin, End}
-use Rattle.bpf_shared.specs.Store.{Value, Plain, put, never}
+use Rattle.bpf_shared.specs.Store.{Value, Plain, put, never, fixed_number}
 use Rattle.bpf_shared.specs.Events.{Allowed, after_begin, after_end}
 use Rattle.bpf_shared.specs.History.{entry, events_of}
 use Rattle.bpf_shared.proofs.Puts.{put-same, put-other}
@@ -37,7 +37,7 @@ module _ (a : About) (l : Known) (w : Place → ℕ) (g : Ghost) (r : Rule a w g
   own_count = r.runs l.cpu inside ∙ ap (λ es. a.count + turns_of es) (sym own)
 
   pub runs_now : g.last.running l.cpu ≡ in_run (events_of l.cpu l.seen)
-  runs_now = runs_as_known a l.cpu g.last g.log l.seen r.logged.legal own
+  runs_now = runs_as_known a l.cpu g.last g.log l.seen r.shaped r.logged.legal own
 
   module _ (e : Event) (once : turns_of (e ∷ []) ≡ 1) (t : Plain) (may : Allowed g.last l.cpu e t) (cause : HasCause a.version (begun_in g.log g.lanes.fresh) (record { shape = a.shape; before = g.log; store = g.last; cpu = l.cpu }) e) (empty : g.lanes.fresh l.cpu ≡ []) (n : ℕ) (up : n ≡ w (RunCount l.cpu) + 1)
       (maps : t.maps ≡ g.last.maps) (made : t.made ≡ g.last.made) (value : t.value ≡ g.last.value) (holds : t.held ≡ put g.last.held l.cpu never) where
@@ -70,6 +70,7 @@ module _ (a : About) (l : Known) (w : Place → ℕ) (g : Ghost) (r : Rule a w g
     turn_rule : Rule a (put_at w (RunCount l.cpu) n) g2
     turn_rule = record {
       shaped = r.shaped;
+      fixed = λ b k i has. ap (λ f. f (fixed_number b k i)) value ∙ r.fixed b k i has;
       deep = r.deep;
       logged = logged_event a g.lanes.seen g.log g.last t l.cpu e r.logged inside may;
       keyed = rw maps r.keyed;
@@ -150,6 +151,7 @@ module _ (a : About) (l : Known) (m : ℕ) (room : m < length l.limbo) (x : Limb
     ghost = g3;
     rule = subst (λ (v : Place → ℕ). Rule a v g3) (sym (put_again w p)) (record {
       shaped = r.shaped;
+      fixed = r.fixed;
       deep = r.deep;
       logged = r.logged;
       keyed = r.keyed;

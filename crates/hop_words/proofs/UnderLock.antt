@@ -4,7 +4,7 @@ use Rattle.hop_layout.specs.declared.about.About.{About}
 use Rattle.hop_words.specs.declared.known.Known.{Known}
 use Rattle.hop_words.specs.declared.known.Lock.{Lock}
 use Rattle.hop_layout.specs.declared.place.Place.{Place}
-use Rattle.hop_layout.specs.declared.place.Place.TheVariants.{RunCount, KeyCount, FreeBits, Stamp, Head, Hop, Slot, Link, KeyWord, ValueWord}
+use Rattle.hop_layout.specs.declared.place.Place.TheVariants.{RunCount, KeyCount, FreeBits, Stamp, Head, Hop, Slot, Link, KeyWord, ValueWord, FixedWord}
 use Rattle.hop_layout.specs.Layout.{mem, is_place}
 use Rattle.hop_words.specs.Private.Step.{Steps, IsQuiet, IsBesideStamp}
 use Rattle.hop_words.specs.Kinds.{writing}
@@ -39,6 +39,7 @@ module _ (a : About) (l : Known) {rest : List Lock} (held : l.locks ≡ lock_of 
   reads (FreeBits m i) g = absurd g
   reads (Stamp m s) g = absurd g
   reads (ValueWord m e k) g = absurd g
+  reads (FixedWord b k) g = absurd g
 
   -- any word may be read; of one that is guarded the number is that of the copy
   pub read_guarded : (p : Place) → Steps a l p (λ n. n) (λ ws n l'. (IsGuarded a l p → n ≡ mem a.shape (lock_of l).copy p) × (l' ≡ l))
@@ -67,6 +68,7 @@ module _ (a : About) (l : Known) (held : l.locks ≡ lock_of l ∷ []) where
   read_beside (KeyCount m) b = absurd b
   read_beside (FreeBits m i) b = absurd b
   read_beside (ValueWord m e k) b = absurd b
+  read_beside (FixedWord c k) b = absurd b
 
   pub write_beside : (p : Place) (n : ℕ) → IsWordBeside l p → is_place a.shape p ≡ true → Steps a l p (λ _. n) (λ ws found l'. l' ≡ writing a l (lock_of l) p n)
   write_beside (Head m s) n b = write_own a l (lock_of l) (Head m s) n (sym b.0, inr (sym b.1)) held

@@ -9,12 +9,12 @@ use Rattle.bpf_shared.specs.declared.events.Event.TheVariants.{Update, Lookup, D
 use Rattle.bpf_shared.specs.declared.events.Entry.{Entry}
 use Rattle.bpf_shared.specs.declared.events.MapAnswer.TheVariants.{Done, Busy, NoMemory}
 use Rattle.bpf_shared.specs.Shape.{element_span}
-use Rattle.bpf_shared.specs.Store.{Plain, KeyMap, Value, put}
+use Rattle.bpf_shared.specs.Store.{Plain, KeyMap, Value, put, fixed_count}
 use Rattle.bpf_shared.specs.Events.{Allowed, after_update}
 use Rattle.bpf_shared.specs.History.{entry, events_of}
 use Rattle.bpf_shared.proofs.Puts.{put-same, put-other, insert_cases}
 use Rattle.hop_layout.specs.declared.place.Place.{Place}
-use Rattle.hop_layout.specs.declared.place.Place.TheVariants.{RunCount, KeyCount, FreeBits, Stamp, ValueWord}
+use Rattle.hop_layout.specs.declared.place.Place.TheVariants.{RunCount, KeyCount, FreeBits, Stamp, ValueWord, FixedWord}
 use Rattle.hop_layout.specs.declared.about.About.{About}
 use Rattle.hop_words.specs.declared.known.Known.{Known}
 use Rattle.hop_words.specs.declared.known.Fresh.{Fresh}
@@ -44,6 +44,7 @@ use Rattle.hop_words.proofs.Readings.{looking, looked_rule, may_look}
 use Rattle.hop_words.proofs.Stays.{saw, running_is, map_there, quiet_after, runs_quiet, place_for, shape_is, worn_more}
 use Rattle.hop_words.specs.Depths.{IsBorn, home_by}
 use Rattle.hop_words.proofs.Segs.{one_home}
+use Rattle.hop_words.proofs.FixedPlaces.{fixed_later, sound}
 
 -- ---- how far splits took a segment's version
 gains : (a : About) (w : Place → ℕ) (g : Ghost) (r : Rule a w g) (m s : ℕ) → IsBorn a g.depths m s → g.depths m s ≤ gained (shape_at a m) + first_depth (shape_at a m)
@@ -88,6 +89,7 @@ noted_event g c e = record g { log = g.log ++ entry c e ∷ []; lanes = record g
 pub event_rule : (a : About) (w : Place → ℕ) (g : Ghost) (r : Rule a w g) (l : Known) (inside : l.cpu < a.shape.cpus) (e : Event) → turns_of (e ∷ []) ≡ 0 → HasCause a.version (begun_in g.log g.lanes.fresh) (record { shape = a.shape; before = g.log; store = g.last; cpu = l.cpu }) e → Allowed g.last l.cpu e g.last → Rule a w (noted_event g l.cpu e)
 event_rule a w g r l inside e quiet cause may = record {
   shaped = r.shaped;
+  fixed = r.fixed;
   deep = r.deep;
   logged = logged_event a g.lanes.seen g.log g.last g.last l.cpu e r.logged inside may;
   keyed = r.keyed;
@@ -474,6 +476,7 @@ module _ (a : About) (l : Known) (k : Lock) (f : Fresh) (rest : List Fresh) (key
     locking = effect_locking a l k i.filled.lock w g r is i.filled.nothing (Puts key e) linked2 holder2 effect;
     reading = effect_reading a l k i.filled.lock w g r is i.filled.nothing (Puts key e) linked2 holder2 effect;
     held = effect_held a l k i.filled.lock w g r is i.filled.nothing (Puts key e) linked2 holder2 effect inside;
+    fixed = fixed_later a r.shaped (λ b k. w (FixedWord b k)) g.last.value g.last.made x (subst (λ h. fixed_count h ≤ g.last.made) (shape_is a w g r l is inside) (sound a w g r).fixed.made) r.fixed;
     valued = valued_comes a l.cpu m e s key holder1 was1 _ g.last.made g.last.value g.last.held g.number x
         (valued_goes a l.cpu m o s key g.holder was_o _ g.last.made g.last.value g.last.held g.number r.valued) spelled_is;
     shown = shown_step a g.log log' g.last last' g.lanes.fresh (put g.lanes.fresh l.cpu rest) g.lanes.tally g.holder holder2 g.taker (begun_answer g.log g.lanes.fresh l.cpu f rest event hand updates)

@@ -1,13 +1,12 @@
--- Value words: load, and each step that changes some bytes of one.
-use Rattle.std.proofs.Common.{◌≡◌, ◌≢◌, ℕ, zero, suc, ◌+◌, ◌-◌, ◌*◌, ◌/◌, ◌<◌, ◌≤◌, true, ◌&&◌, List, [], ◌∷◌, ◌++◌, ◌==◌, length, take, refl, ap, sym, subst, ◌∙◌, arith, eq-eqb, ne_eqb, ⊎_elim}
+-- Words of held values: what lies in one, and each step that changes some bytes of one.
+use Rattle.std.proofs.Common.{◌≡◌, ◌≢◌, ℕ, zero, suc, ◌+◌, ◌-◌, ◌*◌, ◌/◌, ◌<◌, ◌≤◌, true, ◌&&◌, List, [], ◌∷◌, ◌++◌, ◌==◌, length, take, refl, ap, sym, subst, ◌∙◌, arith, eq-eqb, ne_eqb, ⊎_elim, inl}
 use prog.Atomic.{either}
-use Rattle.atomic_table.proofs.Lists.{exchanged}
 use Rattle.bpf_shared.specs.declared.events.Event.{Event}
 use Rattle.bpf_shared.specs.declared.events.Event.TheVariants.{Load, Store, Atomic}
 use Rattle.bpf_shared.specs.declared.events.Size.{Size}
 use Rattle.bpf_base.specs.declared.atomic.Change.{Change}
 use Rattle.bpf_shared.specs.Shape.{element_span, Covers}
-use Rattle.bpf_shared.specs.Store.{Plain, Value, put}
+use Rattle.bpf_shared.specs.Store.{Plain, Value, put, fixed_count}
 use Rattle.bpf_base.specs.Bytes.{little_endian, low_bytes, part, with_part}
 use Rattle.bpf_base.specs.Atomic.{number_after}
 use Rattle.bpf_shared.specs.Access.{bytes_in}
@@ -15,11 +14,11 @@ use Rattle.bpf_shared.specs.Events.{Allowed, Reaches, number_in, after_write}
 use Rattle.bpf_shared.specs.History.{entry, events_of}
 use Rattle.bpf_shared.proofs.Puts.{put-same, put-other}
 use Rattle.hop_layout.specs.declared.place.Place.{Place}
-use Rattle.hop_layout.specs.declared.place.Place.TheVariants.{RunCount, Stamp, KeyWord, ValueWord}
+use Rattle.hop_layout.specs.declared.place.Place.TheVariants.{RunCount, Stamp, KeyWord, ValueWord, FixedWord}
 use Rattle.hop_layout.specs.declared.about.About.{About}
 use Rattle.hop_words.specs.declared.known.Known.{Known}
 use Rattle.hop_words.specs.declared.known.Fresh.{Fresh}
-use Rattle.hop_layout.specs.Layout.{mem, put_at, words_for}
+use Rattle.hop_layout.specs.Layout.{put_at, words_for}
 use Rattle.hop_layout.specs.Words.{bytes_of_words}
 use Rattle.hop_words.specs.Content.{one_if}
 use Rattle.hop_words.specs.Ghost.{Carries, lane, Ghost, shape_at, HasElement, Each}
@@ -35,8 +34,10 @@ use Rattle.hop_words.proofs.Comes.{filling_most}
 use Rattle.hop_layout.proofs.WordBytes.{value_put, value_part}
 use Rattle.hop_words.proofs.Locks.{put_else}
 use Rattle.hop_words.proofs.Shortages.{had_write, shown_more}
-use Rattle.hop_words.proofs.Unlocks.{noted_event, event_rule}
-use Rattle.hop_words.proofs.Stays.{put_again, stay, next_as, saw, running_is, quiet_after, span_once, number_once, worn_more}
+use Rattle.hop_words.proofs.Stays.{saw, running_is, quiet_after, span_once, number_once, worn_more, shape_is}
+use Rattle.hop_words.proofs.FixedPlaces.{fixed_later, sound}
+use Rattle.hop_words.proofs.Words.{LiesIn, MayLeave, word_load, word_store, word_store_part, word_atomic_part, word_fetch}
+use Rattle.bpf_shared.proofs.Soundness.{held_later, held_writable}
 
 abbrev map_of : Place → ℕ
 map_of (ValueWord m e k) = m
@@ -56,7 +57,7 @@ module _ (a : About) (l : Known) (m e k o b : ℕ) (i : TouchesHeldValue a l m e
 
   -- the value that the lane holds there
   held : (v : ℕ) × (g.last.held l.cpu v ≡ true) × ((g.last.value v).span ≡ element_span m (shape_at a m) e)
-  held = holds_as_known a.shape l.cpu g.last g.log l.seen r.logged.legal own (element_span m (shape_at a m) e) i.held
+  held = holds_as_known a.shape l.cpu g.last g.log l.seen r.shaped r.logged.legal own (element_span m (shape_at a m) e) i.held
 
   -- it lies in this element
   lies_here : Carries (g.holder m e) × (g.number m e ≡ held.0)
@@ -75,16 +76,16 @@ module _ (a : About) (l : Known) (m e k o b : ℕ) (i : TouchesHeldValue a l m e
   span_is : (g.last.value v).span ≡ element_span m (shape_at a m) e
   span_is = ap (λ (x : Value). x.span) value_is
 
-  reaches : Reaches g.last l.cpu v (value_address a m e k o) b
+  pub reaches : Reaches g.last l.cpu v (value_address a m e k o) b
   reaches = record {
-    holds = ap (g.last.held l.cpu) lies_here.1 ∙ held.1;
+    holds = inl (ap (g.last.held l.cpu) lies_here.1 ∙ held.1);
     covers = subst (λ s. Covers s (value_address a m e k o) b) (sym span_is) (let z = i.within in (omega arith, omega arith));
   }
 
   offset_is : value_address a m e k o - (g.last.value v).span.at ≡ 8 * k + o
   offset_is = ap (λ s. value_address a m e k o - s.at) span_is ∙ omega arith
 
-  found_is : number_in_word (w (ValueWord m e k)) o b ≡ number_in g.last v (value_address a m e k o) b
+  pub found_is : number_in_word (w (ValueWord m e k)) o b ≡ number_in g.last v (value_address a m e k o) b
   found_is = sym (ap (λ (n : ℕ). little_endian (part (g.last.value v).bytes n b)) offset_is
       ∙ (ap (λ (x : Value). little_endian (part x.bytes (8 * k + o) b)) value_is
       ∙ ap little_endian (value_part (shape_at a m).value (words_for (shape_at a m).value) k o b (λ j. w (ValueWord m e j)) i.word i.fits i.within)))
@@ -157,6 +158,7 @@ module _ (a : About) (l : Known) (m e k o b : ℕ) (i : TouchesHeldValue a l m e
     write_rule : (ev : Event) → turns_of (ev ∷ []) ≡ 0 → HasCause a.version (begun_in g.log g.lanes.fresh) (record { shape = a.shape; before = g.log; store = g.last; cpu = l.cpu }) ev → Allowed g.last l.cpu ev last2 → Rule a w2 (g2 ev)
     write_rule ev quiet cause may = record {
       shaped = r.shaped;
+      fixed = fixed_later a r.shaped (λ b k. w (FixedWord b k)) g.last.value v _ (subst (λ h. fixed_count h ≤ v) (shape_is a w g r l is inside) (held_later g.last (sound a w g r) l.cpu v (ap (g.last.held l.cpu) lies_here.1 ∙ held.1))) r.fixed;
       deep = r.deep;
       logged = logged_event a g.lanes.seen g.log g.last last2 l.cpu ev r.logged inside may;
       keyed = r.keyed;
@@ -187,75 +189,43 @@ module _ (a : About) (l : Known) (m e k o b : ℕ) (i : TouchesHeldValue a l m e
         after : lane (g2 ev).lanes l.cpu ≡ record l { seen = g.log ++ entry l.cpu ev ∷ [] }
         after = rw (eq-eqb l.cpu l.cpu refl) (ap (λ (z : Known). record z { seen = g.log ++ entry l.cpu ev ∷ [] }) is)
 
-  pub may_load : (sz : Size) → bytes_in sz ≡ b → Allowed g.last l.cpu (Load (value_address a m e k o) sz (number_in_word (w (ValueWord m e k)) o b)) g.last
-  may_load sz n = (running_is a w g r l is inside i.runs, (v, subst (Reaches g.last l.cpu v (value_address a m e k o)) (sym n) reaches, found_is ∙ ap (number_in g.last v (value_address a m e k o)) (sym n), refl))
+  -- so each step on it may be made
+  abbrev pub lies : LiesIn a l (ValueWord m e k) (value_address a m e k o) o b w g
+  lies = record { number = v; runs = running_is a w g r l is inside i.runs; reaches = reaches; found = found_is }
 
-  pub may_store : (sz : Size) (y : ℕ) → bytes_in sz ≡ b → Allowed g.last l.cpu (Store (value_address a m e k o) sz y) (after_write g.last v (value_address a m e k o) b y)
-  may_store sz y n = (running_is a w g r l is inside i.runs, (v, subst (Reaches g.last l.cpu v (value_address a m e k o)) (sym n) reaches, ap (λ (c : ℕ). after_write g.last v (value_address a m e k o) c y) (sym n)))
-
-  pub may_atomic : (sz : Size) (op : Change) (operand expected : ℕ) → bytes_in sz ≡ b → (let f = number_in_word (w (ValueWord m e k)) o b in
-      Allowed g.last l.cpu (Atomic (value_address a m e k o) sz op operand expected f) (after_write g.last v (value_address a m e k o) b (number_after op b f operand expected)))
-  may_atomic sz op operand expected n = (
-    running_is a w g r l is inside i.runs,
-    (
-      v,
-      subst (Reaches g.last l.cpu v (value_address a m e k o)) (sym n) reaches,
-      found_is ∙ ap (number_in g.last v (value_address a m e k o)) (sym n),
-      ap (λ (c : ℕ). after_write g.last v (value_address a m e k o) c (number_after op c (number_in_word (w (ValueWord m e k)) o b) operand expected)) (sym n),
-    ),
-  )
+  pub may_leave : MayLeave a l (ValueWord m e k) (value_address a m e k o) o b w g
+  may_leave = record {
+    lies = lies;
+    writable = held_writable g.last (sound a w g r) l.cpu v (ap (g.last.held l.cpu) lies_here.1 ∙ held.1);
+    next = λ x y splices ev quiet cause may. write_next x y splices ev quiet cause may;
+  }
 
 -- ---- the kinds
-pub value_load : (a : About) (l : Known) (m e k o : ℕ) (sz : Size) → TouchesHeldValue a l m e k o (bytes_in sz) → Steps a l (ValueWord m e k) (λ n. n) (λ ws n l'. AddsEvent a l (Load (value_address a m e k o) sz (number_in_word n o (bytes_in sz))) l')
-value_load a l m e k o sz i ws g sized r is inside fits =
-    let w = mem a.shape ws in
-    let ev = Load (value_address a m e k o) sz (number_in_word (w (ValueWord m e k)) o (bytes_in sz)) in
-    let may = may_load a l m e k o (bytes_in sz) i w g r is inside sz refl in
-    let rule = event_rule a w g r l inside ev refl tt may in
-    record {
-      ghost = noted_event g l.cpu ev;
-      rule = subst (λ (z : Place → ℕ). Rule a z (noted_event g l.cpu ev)) (sym (put_again w (ValueWord m e k))) rule;
-      others = λ d ne. rw (ne_eqb d l.cpu ne) refl;
-      longer = (entry l.cpu ev ∷ [], refl);
-      tally = refl;
-      says = subst (AddsEvent a l ev) (sym (rw (eq-eqb l.cpu l.cpu refl) (ap (λ (z : Known). record z { seen = g.log ++ entry l.cpu ev ∷ [] }) is))) (record { seen = saw a w g r l is inside ev g.last may rule.logged; after = refl });
-    }
+module _ (a : About) (l : Known) (m e k o : ℕ) (sz : Size) (i : TouchesHeldValue a l m e k o (bytes_in sz)) where
+  pub value_load : Steps a l (ValueWord m e k) (λ n. n) (λ ws n l'. AddsEvent a l (Load (value_address a m e k o) sz (number_in_word n o (bytes_in sz))) l')
+  value_load = word_load a l (ValueWord m e k) (value_address a m e k o) o sz (λ w g r is inside. lies a l m e k o (bytes_in sz) i w g r is inside)
 
--- a store of a whole word
-pub value_store : (a : About) (l : Known) (m e k o : ℕ) (sz : Size) (x y : ℕ) → TouchesHeldValue a l m e k o (bytes_in sz) → ((n : ℕ) → low_bytes 8 x ≡ with_part (low_bytes 8 n) o (low_bytes (bytes_in sz) y))
-    → Steps a l (ValueWord m e k) (λ _. x) (λ ws n l'. AddsEvent a l (Store (value_address a m e k o) sz y) l')
-value_store a l m e k o sz x y i splices ws g sized r is inside fits =
-    let w = mem a.shape ws in
-    write_next a l m e k o (bytes_in sz) i w g r is inside x y (splices (w (ValueWord m e k))) (Store (value_address a m e k o) sz y) refl tt (may_store a l m e k o (bytes_in sz) i w g r is inside sz y refl)
+  all : (w : Place → ℕ) (g : Ghost) → Rule a w g → lane g.lanes l.cpu ≡ l → l.cpu < a.shape.cpus → MayLeave a l (ValueWord m e k) (value_address a m e k o) o (bytes_in sz) w g
+  all w g r is inside = may_leave a l m e k o (bytes_in sz) i w g r is inside
 
--- a compare-exchange of the whole word, by which some of its bytes are stored
-pub value_store_part : (a : About) (l : Known) (m e k o : ℕ) (sz : Size) (old x y : ℕ) → TouchesHeldValue a l m e k o (bytes_in sz) → low_bytes 8 x ≡ with_part (low_bytes 8 old) o (low_bytes (bytes_in sz) y)
-    → Steps a l (ValueWord m e k) (λ n. either (n == old) x n) (λ ws n l'. (n ≡ old → AddsEvent a l (Store (value_address a m e k o) sz y) l') × (n ≢ old → l' ≡ l))
-value_store_part a l m e k o sz old x y i splices ws g sized r is inside fits =
-    let w = mem a.shape ws in
-    exchanged (w (ValueWord m e k)) old x (λ n. Next a (put_at w (ValueWord m e k) n) g l.cpu (λ l'. (w (ValueWord m e k) ≡ old → AddsEvent a l (Store (value_address a m e k o) sz y) l') × (w (ValueWord m e k) ≢ old → l' ≡ l)))
-    (λ found. next_as _ _ _ _ _ _ (λ q t. ((λ _. t), (λ ne. absurd (ne found)))) (write_next a l m e k o (bytes_in sz) i w g r is inside x y (splices ∙ ap (λ (z : ℕ). with_part (low_bytes 8 z) o (low_bytes (bytes_in sz) y)) (sym found)) (Store (value_address a m e k o) sz y) refl tt (may_store a l m e k o (bytes_in sz) i w g r is inside sz y refl)))
-    (λ ne. stay a w g l.cpu (ValueWord m e k) _ r ((λ found. absurd (ne found)), (λ _. is)))
+  -- a store of a whole word
+  pub value_store : (x y : ℕ) → ((n : ℕ) → low_bytes 8 x ≡ with_part (low_bytes 8 n) o (low_bytes (bytes_in sz) y))
+      → Steps a l (ValueWord m e k) (λ _. x) (λ ws n l'. AddsEvent a l (Store (value_address a m e k o) sz y) l')
+  value_store x y splices = word_store a l (ValueWord m e k) (value_address a m e k o) o sz all x y splices
 
--- the same for an atomic operation
-pub value_atomic_part : (a : About) (l : Known) (m e k o : ℕ) (sz : Size) (op : Change) (operand expected old x : ℕ) → TouchesHeldValue a l m e k o (bytes_in sz)
-    → low_bytes 8 x ≡ with_part (low_bytes 8 old) o (low_bytes (bytes_in sz) (number_after op (bytes_in sz) (number_in_word old o (bytes_in sz)) operand expected))
-    → Steps a l (ValueWord m e k) (λ n. either (n == old) x n) (λ ws n l'. (n ≡ old → AddsEvent a l (Atomic (value_address a m e k o) sz op operand expected (number_in_word old o (bytes_in sz))) l') × (n ≢ old → l' ≡ l))
-value_atomic_part a l m e k o sz op operand expected old x i splices ws g sized r is inside fits =
-    let w = mem a.shape ws in
-    let b = bytes_in sz in
-    let ev = Atomic (value_address a m e k o) sz op operand expected in
-    exchanged (w (ValueWord m e k)) old x (λ n. Next a (put_at w (ValueWord m e k) n) g l.cpu (λ l'. (w (ValueWord m e k) ≡ old → AddsEvent a l (ev (number_in_word old o b)) l') × (w (ValueWord m e k) ≢ old → l' ≡ l)))
-    (λ found. next_as _ _ _ _ _ _ (λ q t. ((λ _. subst (λ (z : ℕ). AddsEvent a l (ev (number_in_word z o b)) q) found t), (λ ne. absurd (ne found)))) (write_next a l m e k o b i w g r is inside x (number_after op b (number_in_word (w (ValueWord m e k)) o b) operand expected)
-    (splices ∙ ap (λ (z : ℕ). with_part (low_bytes 8 z) o (low_bytes b (number_after op b (number_in_word z o b) operand expected))) (sym found)) (ev (number_in_word (w (ValueWord m e k)) o b)) refl tt (may_atomic a l m e k o b i w g r is inside sz op operand expected refl)))
-    (λ ne. stay a w g l.cpu (ValueWord m e k) _ r ((λ found. absurd (ne found)), (λ _. is)))
+  -- a compare-exchange of the whole word, by which some of its bytes are stored
+  pub value_store_part : (old x y : ℕ) → low_bytes 8 x ≡ with_part (low_bytes 8 old) o (low_bytes (bytes_in sz) y)
+      → Steps a l (ValueWord m e k) (λ n. either (n == old) x n) (λ ws n l'. (n ≡ old → AddsEvent a l (Store (value_address a m e k o) sz y) l') × (n ≢ old → l' ≡ l))
+  value_store_part old x y splices = word_store_part a l (ValueWord m e k) (value_address a m e k o) o sz all old x y splices
 
--- a fetch operation or a swap on a whole word
-pub value_fetch : (a : About) (l : Known) (m e k o : ℕ) (sz : Size) (op : Change) (operand expected : ℕ) (f : ℕ → ℕ) → TouchesHeldValue a l m e k o (bytes_in sz)
-    → ((n : ℕ) → n < 18446744073709551616 → low_bytes 8 (f n) ≡ with_part (low_bytes 8 n) o (low_bytes (bytes_in sz) (number_after op (bytes_in sz) (number_in_word n o (bytes_in sz)) operand expected)))
-    → Steps a l (ValueWord m e k) f (λ ws n l'. AddsEvent a l (Atomic (value_address a m e k o) sz op operand expected (number_in_word n o (bytes_in sz))) l')
-value_fetch a l m e k o sz op operand expected f i splices ws g sized r is inside fits =
-    let w = mem a.shape ws in
-    let n = w (ValueWord m e k) in
-    write_next a l m e k o (bytes_in sz) i w g r is inside (f n) (number_after op (bytes_in sz) (number_in_word n o (bytes_in sz)) operand expected) (splices n fits)
-    (Atomic (value_address a m e k o) sz op operand expected (number_in_word n o (bytes_in sz))) refl tt (may_atomic a l m e k o (bytes_in sz) i w g r is inside sz op operand expected refl)
+  -- the same for an atomic operation
+  pub value_atomic_part : (op : Change) (operand expected old x : ℕ)
+      → low_bytes 8 x ≡ with_part (low_bytes 8 old) o (low_bytes (bytes_in sz) (number_after op (bytes_in sz) (number_in_word old o (bytes_in sz)) operand expected))
+      → Steps a l (ValueWord m e k) (λ n. either (n == old) x n) (λ ws n l'. (n ≡ old → AddsEvent a l (Atomic (value_address a m e k o) sz op operand expected (number_in_word old o (bytes_in sz))) l') × (n ≢ old → l' ≡ l))
+  value_atomic_part op operand expected old x splices = word_atomic_part a l (ValueWord m e k) (value_address a m e k o) o sz all op operand expected old x splices
+
+  -- a fetch operation or a swap on a whole word
+  pub value_fetch : (op : Change) (operand expected : ℕ) (f : ℕ → ℕ)
+      → ((n : ℕ) → n < 18446744073709551616 → low_bytes 8 (f n) ≡ with_part (low_bytes 8 n) o (low_bytes (bytes_in sz) (number_after op (bytes_in sz) (number_in_word n o (bytes_in sz)) operand expected)))
+      → Steps a l (ValueWord m e k) f (λ ws n l'. AddsEvent a l (Atomic (value_address a m e k o) sz op operand expected (number_in_word n o (bytes_in sz))) l')
+  value_fetch op operand expected f splices = word_fetch a l (ValueWord m e k) (value_address a m e k o) o sz all op operand expected f splices

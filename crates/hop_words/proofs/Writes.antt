@@ -2,7 +2,7 @@
 use Rattle.std.proofs.Common.{◌≡◌, ◌≢◌, ℕ, ◌<◌, ◌≤◌, true, true≢false, List, [], ◌∷◌, ◌==◌, length-set, slice_set, refl, ap, sym, subst, ◌∙◌, arith, eq-eqb, ne_eqb, ⊎_elim, inl, inr, ◌⊎◌, ◌+◌, ◌/◌}
 use Rattle.bpf_shared.specs.Store.{put}
 use Rattle.hop_layout.specs.declared.place.Place.{Place}
-use Rattle.hop_layout.specs.declared.place.Place.TheVariants.{RunCount, KeyCount, FreeBits, Stamp, Head, Hop, Slot, Link, KeyWord, ValueWord}
+use Rattle.hop_layout.specs.declared.place.Place.TheVariants.{RunCount, KeyCount, FreeBits, Stamp, Head, Hop, Slot, Link, KeyWord, ValueWord, FixedWord}
 use Rattle.hop_layout.specs.declared.about.About.{About}
 use Rattle.hop_words.specs.declared.known.Known.{Known}
 use Rattle.hop_words.specs.declared.known.Fresh.{Fresh}
@@ -10,7 +10,7 @@ use Rattle.hop_words.specs.declared.known.Lock.{Lock}
 use Rattle.hop_layout.specs.Layout.{mem, at, is_place, put_at, power}
 use Rattle.hop_words.specs.Content.{words_by_place, one_if, times, AgreesInSegment, AgreesFront}
 use Rattle.hop_words.specs.Ghost.{Filling, Leaving, Within, lane, Era, Ghost, HasElement, limbo_at, lock_home}
-use Rattle.hop_words.specs.Rule.{Rule, Segment, Minded, Holds, image, Runs, Keyed, Batched, Chained, times_limbo, Owned, Filled, Valued, times_lock}
+use Rattle.hop_words.specs.Rule.{Rule, Segment, Minded, Holds, image, Runs, Keyed, Batched, Chained, times_limbo, Owned, Filled, Valued, ShowsFixed, times_lock}
 use Rattle.hop_words.specs.Private.Step.{Next, Steps}
 use Rattle.hop_words.specs.Kinds.{writing, MayLink}
 use Rattle.hop_layout.proofs.Layouts.{wrote}
@@ -43,12 +43,16 @@ key_words w = λ m e k. w (KeyWord m e k)
 abbrev pub value_words : (Place → ℕ) → ℕ → ℕ → ℕ → ℕ
 value_words w = λ m e k. w (ValueWord m e k)
 
+abbrev pub fixed_words : (Place → ℕ) → ℕ → ℕ → ℕ
+fixed_words w = λ b k. w (FixedWord b k)
+
 pub record Alone (w w' : Place → ℕ) : Type 0 where
   pub key_counts_same : key_counts w' ≡ key_counts w
   pub run_counts_same : run_counts w' ≡ run_counts w
   pub free_same : free_bits w' ≡ free_bits w
   pub keys_same : key_words w' ≡ key_words w
   pub values_same : value_words w' ≡ value_words w
+  pub fixed_same : fixed_words w' ≡ fixed_words w
 
 module _ (a : About) (l : Known) (k : Lock) (held : l.locks ≡ k ∷ []) (p : Place) (there : is_place a.shape p ≡ true) (n : ℕ) (ws : List ℕ) (g : Ghost) (r : Rule a (mem a.shape ws) g) (is : lane g.lanes l.cpu ≡ l) where
   abbrev pub w : Place → ℕ
@@ -136,6 +140,7 @@ module _ (a : About) (l : Known) (k : Lock) (held : l.locks ≡ k ∷ []) (p : P
         up = subst (λ (y : Era). (g.eras k.map k.segment).era ≤ y.era) (sym now_era) (low a l k held w g r is);
         stays = λ i even le eq. absurd (let o = is_odd a l k held w g r is in let z = eq ∙ ap (λ (y : Era). y.era) now_era in omega arith);
       }) r.reading;
+      fixed = subst (λ x. ShowsFixed a x g.last.value) (sym same.fixed_same) r.fixed;
       valued = subst (λ x. Valued a x g.last.made g.last.value g.last.held g.holder g.number) (sym same.values_same) r.valued;
       shown = r.shown;
     };
@@ -168,6 +173,7 @@ write_own a l k p n own held there ws g sized r is inside fits = write_next a l 
       free_same = λ j m i. same (FreeBits m i) (λ o. o) j;
       keys_same = λ j m e i. same (KeyWord m e i) (λ o. o) j;
       values_same = λ j m e i. same (ValueWord m e i) (λ o. o) j;
+      fixed_same = λ j b i. same (FixedWord b i) (λ o. o) j;
     })
     (same (Stamp k.map k.segment) (λ o. let z = o.1 in let y = some_power (stamp_depth k.stamp) in omega arith))
     (record {
@@ -219,7 +225,7 @@ chained_same link link' (e ∷ es) same p = (same e (times_one e es) ∙ p.0, ch
 
 pub write_link : (a : About) (l : Known) (k : Lock) (e n : ℕ) → l.locks ≡ k ∷ [] → is_place a.shape (Link k.map e) ≡ true → MayLink a l k e → Steps a l (Link k.map e) (λ _. n) (λ ws found l'. l' ≡ writing a l k (Link k.map e) n)
 write_link a l k e n held there may ws g sized r is inside fits = write_next a l k held (Link k.map e) there n ws g r is
-    (record { key_counts_same = refl; run_counts_same = refl; free_same = refl; keys_same = refl; values_same = refl })
+    (record { key_counts_same = refl; run_counts_same = refl; free_same = refl; keys_same = refl; values_same = refl; fixed_same = refl })
     refl
     (record {
       stamps = λ m s off. refl;

@@ -1,9 +1,10 @@
 -- What belongs to the words and is in no word: the history, what each CPU knows, and who has which
 -- element.
-use Rattle.std.specs.Prelude.{◌≡◌, ℕ, ◌+◌, ◌<◌, Bool, true, false, List, [], ◌∷◌, Option, length, ◌==◌, slice_index_or}
+use Rattle.std.specs.Prelude.{◌≡◌, ℕ, ◌+◌, ◌*◌, ◌/◌, ◌<◌, Bool, true, false, List, [], ◌∷◌, Option, length, ◌==◌, slice_index_or}
+use Rattle.bpf_shared.specs.declared.shapes.ArrayShape.{ArrayShape}
 use Rattle.bpf_shared.specs.declared.shapes.MapShape.{MapShape}
 use Rattle.bpf_shared.specs.declared.events.Entry.{Entry}
-use Rattle.bpf_shared.specs.Shape.{elements}
+use Rattle.bpf_shared.specs.Shape.{elements, copies, array_stride, copy_stride}
 use Rattle.bpf_shared.specs.Store.{Plain}
 use Rattle.hop_layout.specs.declared.about.About.{About}
 use Rattle.hop_words.specs.declared.known.Known.{Known}
@@ -12,7 +13,7 @@ use Rattle.hop_words.specs.declared.known.Limbo.{Limbo}
 use Rattle.hop_words.specs.declared.known.Lock.{Lock}
 use Rattle.hop_words.specs.declared.known.Reading.{Reading}
 use Rattle.hop_words.specs.declared.known.Sight.{Sight}
-use Rattle.hop_layout.specs.Layout.{map_shape, segments, power}
+use Rattle.hop_layout.specs.Layout.{map_shape, array_shape, segments, power}
 use Rattle.hop_words.specs.Content.{MapWords}
 use Rattle.hop_words.specs.Depths.{stamp_depth, home_by}
 
@@ -98,6 +99,19 @@ HasElement a m e = (m < length a.shape.maps) × (e < elements (shape_at a m))
 
 abbrev pub IsSegment : About → ℕ → ℕ → Type 0
 IsSegment a m s = (m < length a.shape.maps) × (s < segments (shape_at a m))
+
+abbrev pub array_at : About → ℕ → ArrayShape
+array_at a b = array_shape a.shape b
+
+-- the array has values of this CPU, and one of this index
+pub record HasFixed (a : About) (b k i : ℕ) : Type 0 where
+  pub array : b < length a.shape.arrays
+  pub copy : k < copies a.shape.cpus (array_at a b)
+  pub index : i < (array_at a b).max
+
+-- which of its array's words such a value begins with
+abbrev pub fixed_word : ArrayShape → ℕ → ℕ → ℕ
+fixed_word g k i = (k * copy_stride g + i * array_stride g) / 8
 
 -- the segment that a key would be at home in, by the stamp that was locked: the lock alone says
 abbrev pub lock_home : About → Lock → List ℕ → ℕ

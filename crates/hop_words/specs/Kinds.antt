@@ -5,7 +5,7 @@ use Rattle.bpf_shared.specs.declared.events.Event.{Event}
 use Rattle.bpf_shared.specs.declared.events.Event.TheVariants.{Begin, End, Lookup, Update, Delete}
 use Rattle.bpf_shared.specs.declared.events.MapAnswer.TheVariants.{Done, Busy, NoMemory}
 use Rattle.bpf_shared.specs.declared.events.Span.{Span}
-use Rattle.bpf_shared.specs.Shape.{elements, element_span}
+use Rattle.bpf_shared.specs.Shape.{elements, element_span, first_value, map_area, IsWithin}
 use Rattle.std.specs.FinMap.{get}
 use Rattle.std.specs.List.{AllByRecursion}
 use Rattle.bpf_shared.specs.KeyOrder.{AreDistinct}
@@ -27,7 +27,7 @@ use Rattle.hop_layout.specs.Layout.{words_for, at, size, mem, power, depth, gain
 use Rattle.hop_words.specs.Sights.{IsTakenSince, look, lock_taken, sighted}
 use Rattle.hop_layout.specs.Words.{word_of, AreBytes}
 use Rattle.hop_words.specs.Content.{MapWords, IsShare}
-use Rattle.hop_words.specs.Ghost.{lock_home, IsHomeIn, child, shape_at, HasElement, Each, limbo_at}
+use Rattle.hop_words.specs.Ghost.{lock_home, IsHomeIn, child, shape_at, HasElement, array_at, Each, limbo_at}
 use Rattle.hop_words.specs.Shortage.{done_in, updates_of, Moment, HasCause}
 use Rattle.hop_words.specs.Rule.{image, IsPeek, StartsWith, changed, numbered}
 use Rattle.bpf_shared.specs.Own.{turns_of, in_run}
@@ -431,6 +431,21 @@ value_address a m e k o = (element_span m (shape_at a m) e).at + (8 * k + o)
 -- the number that some bytes of a word read as
 abbrev pub number_in_word : ℕ → ℕ → ℕ → ℕ
 number_in_word x o n = little_endian (part (low_bytes 8 x) o n)
+
+-- in a run, these bytes of a fixed value lie in one word of its array
+pub record TouchesFixedValue (a : About) (l : Known) (b k o n : ℕ) : Type 0 where
+  pub array : b < length a.shape.arrays
+  pub within : IsWithin a.shape.cpus (array_at a b) (8 * k + o) n
+  pub fits : o + n ≤ 8
+  pub runs : in_run (events_of l.cpu l.seen) ≡ true
+
+-- and they may be written
+pub record ChangesFixedValue (a : About) (l : Known) (b k o n : ℕ) : Type 0 where
+  pub touches : TouchesFixedValue a l b k o n
+  pub writable : (array_at a b).frozen ≡ false
+
+abbrev pub fixed_address : ℕ → ℕ → ℕ → ℕ
+fixed_address b k o = first_value + map_area * (16 + b) + (8 * k + o)
 
 -- the event is this lane's last, and all else is as it was
 pub record AddsEvent (a : About) (l : Known) (e : Event) (l' : Known) : Type 0 where

@@ -8,12 +8,12 @@ use mathlib.Core.List.{IsPrefix}
 use lib.ListN.{get_elem?}
 use Rattle.atomic_table.specs.Table.{State}
 use Rattle.bpf_shared.specs.declared.events.Entry.{Entry}
-use Rattle.bpf_shared.specs.Shape.{element_span, IsShape}
-use Rattle.bpf_shared.specs.Store.{KeyMap, Value, Plain, as_made}
+use Rattle.bpf_shared.specs.Shape.{element_span, fixed_span, IsShape}
+use Rattle.bpf_shared.specs.Store.{KeyMap, Value, Plain, as_made, fixed_number}
 use Rattle.bpf_shared.specs.History.{Legal, events_of}
 use Rattle.bpf_shared.specs.Own.{turns_of, in_run}
 use Rattle.hop_layout.specs.declared.place.Place.{Place}
-use Rattle.hop_layout.specs.declared.place.Place.TheVariants.{RunCount, KeyCount, FreeBits, Stamp, Head, Hop, Slot, Link, KeyWord, ValueWord}
+use Rattle.hop_layout.specs.declared.place.Place.TheVariants.{RunCount, KeyCount, FreeBits, Stamp, Head, Hop, Slot, Link, KeyWord, ValueWord, FixedWord}
 use Rattle.hop_layout.specs.declared.about.About.{About}
 use Rattle.hop_words.specs.declared.known.Known.{Known}
 use Rattle.hop_words.specs.declared.known.View.{View}
@@ -30,7 +30,7 @@ use Rattle.hop_layout.specs.Words.{bytes_of_words}
 use Rattle.hop_words.specs.Content.{one_if, MapWords, words_by_place, times, Reached, IsShare, AgreesInSegment, AgreesFront}
 use Rattle.hop_words.specs.Shortage.{done_in, updates_in, HasHadValue, HaveCausesBy}
 use Rattle.hop_words.specs.Sights.{IsTakenSince}
-use Rattle.hop_words.specs.Ghost.{Holder, Free, Filling, Leaving, Within, is_free, is_filling, is_leaving, Carries, lane, Era, Ghost, shape_at, HasElement, limbo_at, lock_home, IsHomeIn, child, Each}
+use Rattle.hop_words.specs.Ghost.{Holder, Free, Filling, Leaving, Within, is_free, is_filling, is_leaving, Carries, lane, Era, Ghost, shape_at, HasElement, array_at, HasFixed, fixed_word, limbo_at, lock_home, IsHomeIn, child, Each}
 use Rattle.hop_words.specs.Depths.{stamp_depth, IsBorn, home_by, Deep}
 
 -- ======== history
@@ -249,6 +249,17 @@ pub record Valued (a : About) (words : ℕ → ℕ → ℕ → ℕ) (made : ℕ)
   pub held_in : (c v : ℕ) → held c v ≡ true → (m : ℕ) × (e : ℕ) × HasElement a m e
       × Carries (holder m e) × (number m e ≡ v)
 
+-- a fixed value's bytes are those that its words spell
+abbrev pub ShowsFixed : About → (ℕ → ℕ → ℕ) → (ℕ → Value) → Type 0
+ShowsFixed a words value = (b k i : ℕ) → HasFixed a b k i
+    → value (fixed_number b k i)
+    ≡ record {
+      bytes = take (array_at a b).value
+          (bytes_of_words (words_for (array_at a b).value)
+          (λ j. words b (fixed_word (array_at a b) k i + j)));
+      span = fixed_span b (array_at a b) k i;
+    }
+
 -- ======== shortage
 
 -- 1 where the first element in hand was taken by the CPU's n-th update of the map
@@ -311,6 +322,7 @@ pub record Rule (a : About) (w : Place → ℕ) (g : Ghost) : Type 0 where
   -- values
   pub valued : Valued a (λ m e k. w (ValueWord m e k)) g.last.made g.last.value g.last.held g.holder
       g.number
+  pub fixed : ShowsFixed a (λ b k. w (FixedWord b k)) g.last.value
   -- shortage
   pub shown : Shown a g.log g.last g.lanes.fresh g.lanes.tally g.holder g.taker
 

@@ -4,6 +4,7 @@
 mod answering;
 mod closing;
 mod dealing;
+mod fixed;
 mod guarded;
 mod known;
 mod lane;
@@ -20,6 +21,7 @@ mod walking;
 
 pub use closing::{Rest, Returned};
 pub use dealing::Lanes;
+pub use fixed::FixedPart;
 pub use known::{Change, Fresh, Known, Limbo, Lock, Peek, Reading, Sight, View};
 pub use lane::Lane;
 pub use table::{HopTable, OneRule};

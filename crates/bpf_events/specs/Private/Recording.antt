@@ -5,7 +5,7 @@ use Rattle.bpf_shared.specs.declared.events.Event.TheVariants as event
 use Rattle.bpf_shared.specs.declared.events.Entry.{Entry}
 use Rattle.bpf_shared.specs.Shape.{Shape}
 use Rattle.bpf_shared.specs.History.{events_of}
-use Rattle.bpf_plain.specs.PlainStore.{Contents, Passes, has_cpu, shapes_of}
+use Rattle.bpf_plain.specs.PlainStore.{Contents, Passes, has_cpu, shape_of}
 use Rattle.bpf_events.specs.declared.note.Note.{Note}
 use Rattle.bpf_events.specs.declared.note.Note.TheVariants as note
 
@@ -38,4 +38,4 @@ PassesNoted x y log = Passes x.store y.store log × (y.cpu ≡ x.cpu)
 
 -- its store has this shape
 abbrev pub IsRecorderOf : Shape → Recording → Type 0
-IsRecorderOf h r = ((c : ℕ) → has_cpu r.store c ≡ nat_lt c h.cpus) × (shapes_of r.store ≡ h.maps)
+IsRecorderOf h r = ((c : ℕ) → has_cpu r.store c ≡ nat_lt c h.cpus) × (shape_of r.store ≡ h)

@@ -1,9 +1,9 @@
 -- What a recorder notes of a turn before it is made.
 use Rattle.std.specs.Prelude.{◌≡◌, ℕ, ◌<◌, ◌≤◌, true, false, List, [], ◌∷◌, ◌++◌, Option, Some, None, length, map}
+use Rattle.bpf_shared.specs.Shape.{Shape}
 use Rattle.bpf_mem.specs.Limits.{max_context}
 use Rattle.bpf_shared.specs.declared.events.Event.{Event}
 use Rattle.bpf_shared.specs.declared.events.Event.TheVariants.{Begin}
-use Rattle.bpf_shared.specs.declared.shapes.MapShape.{MapShape}
 use Rattle.bpf_shared.specs.Store.{Plain}
 use Rattle.bpf_shared.specs.Sound.{IsSoundStore}
 use Rattle.bpf_shared.specs.Choice.{PlainlyAllowed}
@@ -60,7 +60,7 @@ CanStepAt program (Ended outcome) = Unit {0}
 abbrev pub IsQuietAt : Loaded → Stage → ℕ → Type 0
 IsQuietAt program (Waiting context) pc = ⊥
 IsQuietAt program (InHand state left) pc = (pc ≡ state.pc) × (0 < left)
-    × ((new : Cpu) × ((shapes : List MapShape) → Step shapes program state [] On new))
+    × ((new : Cpu) × ((shape : Shape) → Step shape program state [] On new))
 IsQuietAt program (Ended outcome) pc = ⊥
 
 -- what happens in a turn with this result, where these events were noted of a job at a pc

@@ -1,5 +1,7 @@
 -- What is printed of a machine's races.
 use Rattle.std.specs.Prelude.{◌≡◌, ℕ, Bool, false, true, List, [], length}
+use Rattle.bpf_plain.specs.PlainStore.{shape_of}
+use Rattle.bpf_cpu.specs.Setup.{named_in}
 use Rattle.bpf_machine.specs.Machine.{MachineState}
 use Rattle.bpf_races.specs.Races.{RaceFound, AreRacesIn}
 use Rattle.bpf_races.specs.Lines.{here_lines}
@@ -8,4 +10,4 @@ use Rattle.bpf_races.specs.Lines.{here_lines}
 abbrev pub TellsRaces : (races : Bool) → MachineState → List (List ℕ) → List ℕ → Type 0
 TellsRaces false m names text = text ≡ []
 TellsRaces true m names text = (found : List RaceFound) × AreRacesIn m [] found
-    × (text ≡ here_lines names (length found) found)
+    × (text ≡ here_lines (named_in (shape_of m.store)) names (length found) found)

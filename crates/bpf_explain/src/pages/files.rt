@@ -214,3 +214,45 @@ pub const S7: Page = Page {
 A crate that makes a store gets it. `ebpf` prints L9 instead: it lacked memory
 for the whole command.",
 };
+
+pub const S8: Page = Page {
+    code: Code::S8,
+    meaning: "an array's values have 1 to 65,536 bytes",
+    example: None,
+    advice: "\
+Part a longer value over several arrays, or over several indices of one.",
+};
+
+pub const S9: Page = Page {
+    code: Code::S9,
+    meaning: "an array has 1 to 65,536 values",
+    example: None,
+    advice: "\
+`max` is how many values the array has. An index is below it.",
+};
+
+pub const S10: Page = Page {
+    code: Code::S10,
+    meaning: "an array takes at most 16 MiB",
+    example: None,
+    advice: "\
+A value takes its size, rounded up to a multiple of 8. An array has `max` of
+them, and one that is `percpu` has as many for each CPU.",
+};
+
+pub const S11: Page = Page {
+    code: Code::S11,
+    meaning: "there are at most 16 arrays",
+    example: None,
+    advice: "\
+Two arrays of one value can be one whose value has the bytes of both.",
+};
+
+pub const S12: Page = Page {
+    code: Code::S12,
+    meaning: "an array's first contents fit its values",
+    example: None,
+    advice: "\
+Offsets are counted from the first value on. A value begins every `value`
+bytes, rounded up to a multiple of 8.",
+};

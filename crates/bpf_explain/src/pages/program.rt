@@ -152,8 +152,8 @@ pub const E13: Page = Page {
         printed: "refused E13 0",
     }),
     advice: "\
-Maps are given by a run file, which numbers them from 0 in its order:
-`ebpf run`.",
+Maps are given by a run file, which numbers them from 0 in its order, and
+arrays from 16 on: `ebpf run`.",
 };
 
 pub const E14: Page = Page {

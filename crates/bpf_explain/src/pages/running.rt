@@ -68,3 +68,12 @@ pub const F6: Page = Page {
     advice: "\
 A CPU makes at most 2^63 - 1 runs over one store.",
 };
+
+pub const F7: Page = Page {
+    code: Code::F7,
+    meaning: "a store to a value that may only be read",
+    example: None,
+    advice: "\
+The values of an array that is `frozen` can't be changed, as C's constants
+can't. Write to an array that isn't, or to a copy in the program's frame.",
+};

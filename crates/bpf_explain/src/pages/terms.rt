@@ -13,11 +13,11 @@ the flags 2 (BPF_EXIST), and `delete` without more. Nothing is changed.",
 
 pub const E2BIG: Definition = Definition {
     term: Term::TooBig,
-    meaning: "the map has its greatest number of keys, error 7",
+    meaning: "the map has its greatest number of keys, or the array no such index, error 7",
     advice: "\
 R0 is -7, which is printed as 18446744073709551609. `update` answers it to a
-new key where the map has as many keys as its line says behind `max`. Nothing
-is changed.",
+new key where the map has as many keys as its line says after `max`, and to an
+index of an array that isn't below its `max`. Nothing is changed.",
 };
 
 pub const ENOMEM: Definition = Definition {
@@ -46,16 +46,27 @@ pub const EEXIST: Definition = Definition {
     advice: "\
 R0 is -17, which is printed as 18446744073709551599. `update` answers it with
 the flags 1 (BPF_NOEXIST): somebody else was first, and the value is theirs.
-Look the key up again. Nothing is changed.",
+Look the key up again. The indices of an array are there from the first on.
+Nothing is changed.",
 };
 
 pub const EINVAL: Definition = Definition {
     term: Term::Einval,
-    meaning: "the flags aren't 0, 1 or 2, error 22",
+    meaning: "the flags aren't 0, 1 or 2, or an array was to lose a key, error 22",
     advice: "\
 R0 is -22, which is printed as 18446744073709551594. `update` answers it to
-other flags in R4, so to BPF_F_LOCK (4), too. R4 is 0 behind each call of a
-helper, and has to be set again where it isn't to be 0.",
+other flags in R4, so to BPF_F_LOCK (4), too. R4 is 0 after each call of a
+helper, and has to be set again where it isn't to be 0. `delete` answers it to
+each key of an array. Nothing is changed.",
+};
+
+pub const EPERM: Definition = Definition {
+    term: Term::Eperm,
+    meaning: "the array may only be read, error 1",
+    advice: "\
+R0 is -1, which is printed as 18446744073709551615. `update` answers it to each
+key of an array that is `frozen`. A store to a value of such an array is F7.
+Nothing is changed.",
 };
 
 pub const ANY: Definition = Definition {
@@ -87,7 +98,9 @@ pub const LOOKUP: Definition = Definition {
 R1 is a map (`r1 = map 0`), R2 the address of the key's bytes, as R10 less some.
 R0 is the value's address, or 0 where the key isn't there: test that before you
 use it. The job holds the value until it ends, also where the key is deleted or
-gets another value. R1 to R5 are 0 afterwards.",
+gets another value. Of an array the key is an index, four bytes with the lowest
+first; of one that is `percpu` the value is that of the CPU that asks. R1 to R5
+are 0 afterwards.",
 };
 
 pub const UPDATE: Definition = Definition {
@@ -97,8 +110,9 @@ pub const UPDATE: Definition = Definition {
 R1 is a map (`r1 = map 0`), R2 the address of the key's bytes, R3 that of the
 value's bytes, R4 the flags: 0 inserts or replaces (BPF_ANY), 1 only inserts
 (BPF_NOEXIST), 2 only replaces (BPF_EXIST). R0 is 0, or an error: EINVAL,
-EEXIST, ENOENT, E2BIG, ENOMEM, EBUSY. The value gets an element of its own; who
-holds the old one goes on seeing the old one. R1 to R5 are 0 afterwards.",
+EPERM, EEXIST, ENOENT, E2BIG, ENOMEM, EBUSY. The value gets an element of its
+own; who holds the old one goes on seeing the old one. In an array the bytes are
+stored over the old ones, by words. R1 to R5 are 0 afterwards.",
 };
 
 pub const DELETE: Definition = Definition {
@@ -106,7 +120,8 @@ pub const DELETE: Definition = Definition {
     meaning: "helper 3, `call delete`: a key is taken out of a map",
     advice: "\
 R1 is a map (`r1 = map 0`), R2 the address of the key's bytes. R0 is 0, or
-ENOENT where the key isn't there. R1 to R5 are 0 afterwards.",
+ENOENT where the key isn't there, or EINVAL where R1 is an array. R1 to R5 are 0
+afterwards.",
 };
 
 pub const PROCESSOR_ID: Definition = Definition {

@@ -1,5 +1,5 @@
 -- What the reader has gathered so far, and what its functions answer. Private functions cite this.
-use Rattle.std.specs.Prelude.{◌≡◌, ℕ, List, [], length, map, Result, Ok, Err, Option, string_bytes}
+use Rattle.std.specs.Prelude.{◌≡◌, ℕ, List, [], map, Result, Ok, Err, Option, string_bytes}
 use Rattle.std.specs.Option.{option_copied}
 use Rattle.bpf_lines.specs.Lines.{lines_behind}
 use Rattle.bpf_cpu.specs.Task.{waiting}
@@ -11,9 +11,10 @@ use Rattle.bpf_file.specs.declared.error.FileError.TheVariants.{Refused, OutOfMe
 use Rattle.bpf_file.specs.declared.error.Reason.TheVariants.{NotHex}
 use Rattle.hex.specs.declared.error.FromHexError.{FromHexError}
 use Rattle.bpf_loader.specs.Loaded.{Loaded}
+use Rattle.bpf_shared.specs.Contents.{bytes_of_all}
 use Rattle.bpf_file.specs.Programs.{OfAssembly}
 use Rattle.bpf_file.specs.declared.statement.Statement.{Statement}
-use Rattle.bpf_file.specs.File.{File, file_of}
+use Rattle.bpf_file.specs.File.{File, file_of, named_by}
 use Rattle.bpf_file.specs.declared.file.RunFile.{RunFile}
 use Rattle.bpf_file.specs.Parts.{Part, State, Between, Within}
 use Rattle.bpf_file.specs.Statement.{Said, said_by}
@@ -25,13 +26,15 @@ use denote.Ref.{Bor}
 abbrev pub part_of : Draft → Part
 part_of d = record {
   group = d.group;
-  may_grow = d.may_grow;
+  version = d.version;
   titles = map (λ t. t.now) d.titles.items;
   file = record {
     cpus = d.cpus;
     seed = d.seed;
     names = map string_bytes d.names.items;
     maps = d.maps.items;
+    arrays = d.arrays.items;
+    contents = bytes_of_all d.contents.items;
     programs = d.programs.items;
     jobs = map waiting d.jobs.items;
   };
@@ -68,7 +71,7 @@ HasContext items n c (Err (Refused m why)) =
 -- the end of a program's assembly
 abbrev pub Ends : ℕ → Part → List ℕ → List ℕ → Result State FileError → Type 0
 Ends from p name text r =
-    (o : Result Loaded FileError) × OfAssembly from (length p.file.maps) text o
+    (o : Result Loaded FileError) × OfAssembly from (named_by p.file) text o
     × (r ≡ program_added p name o)
 
 -- what lines are read as follows of what those after are, from there on

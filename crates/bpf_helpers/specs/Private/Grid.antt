@@ -1,5 +1,5 @@
 -- Where the elements of maps lie whose values have given sizes.
-use Rattle.std.specs.Prelude.{◌≡◌, ℕ, ◌+◌, ◌*◌, ◌/◌, ◌<◌, ◌≤◌, List, slice_index}
+use Rattle.std.specs.Prelude.{◌≡◌, ℕ, ◌+◌, ◌*◌, ◌/◌, ◌%◌, ◌<◌, ◌≤◌, List, slice_index}
 use Rattle.bpf_shared.specs.declared.events.Span.{Span}
 use Rattle.bpf_shared.specs.Shape.{first_value, map_area}
 
@@ -12,6 +12,10 @@ pub record IsOffset (address m offset : ℕ) : Type 0 where
 -- from one value of this size to the next
 abbrev pub stride_of : ℕ → ℕ
 stride_of size = (size + 7) / 8 * 8
+
+-- the span begins at a multiple of eight, as each element's does
+abbrev pub IsAligned : Span → Type 0
+IsAligned p = p.at % 8 ≡ 0
 
 -- the span is an element's, in a map whose values have its size
 pub record IsOnGrid (sizes : List ℕ) (p : Span) : Type 0 where

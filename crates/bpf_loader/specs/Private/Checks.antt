@@ -1,24 +1,25 @@
 -- How far the checks of a program have come.
 use Rattle.std.specs.Prelude.{◌≡◌, ◌≢◌, ℕ, ◌≤◌, List}
+use Rattle.bpf_loader.specs.declared.named.Named.{Named}
 use Rattle.bpf_insn.specs.declared.instruction.Insn.{Insn}
 use Rattle.bpf_loader.specs.declared.refusal.LoadError.{LoadError}
 use Rattle.bpf_loader.specs.Sound.{Applies, refusal_number, place}
 
 -- no refusal applies at a place below this one
-abbrev pub IsClearBefore : ℕ → List Insn → ℕ → Type 0
-IsClearBefore maps is pc = (e : LoadError) → Applies maps is e → pc ≤ place e
+abbrev pub IsClearBefore : Named → List Insn → ℕ → Type 0
+IsClearBefore named is pc = (e : LoadError) → Applies named is e → pc ≤ place e
 
 -- none applies at this place
-abbrev pub IsClearAt : ℕ → List Insn → ℕ → Type 0
-IsClearAt maps is pc = (e : LoadError) → Applies maps is e → place e ≢ pc
+abbrev pub IsClearAt : Named → List Insn → ℕ → Type 0
+IsClearAt named is pc = (e : LoadError) → Applies named is e → place e ≢ pc
 
 -- none with a lower number applies at this place
-abbrev pub IsClearBelow : ℕ → List Insn → ℕ → ℕ → Type 0
-IsClearBelow maps is pc number = (e : LoadError) → Applies maps is e → place e ≡ pc
+abbrev pub IsClearBelow : Named → List Insn → ℕ → ℕ → Type 0
+IsClearBelow named is pc number = (e : LoadError) → Applies named is e → place e ≡ pc
     → number ≤ refusal_number e
 
 -- the refusal of the lowest number at this place
-pub record IsLeastAt (maps : ℕ) (is : List Insn) (pc : ℕ) (e : LoadError) : Type 0 where
-  pub applies : Applies maps is e
+pub record IsLeastAt (named : Named) (is : List Insn) (pc : ℕ) (e : LoadError) : Type 0 where
+  pub applies : Applies named is e
   pub at : place e ≡ pc
-  pub least : IsClearBelow maps is pc (refusal_number e)
+  pub least : IsClearBelow named is pc (refusal_number e)

@@ -3,7 +3,7 @@
 ghost use Rattle.std.specs.Prelude.{◌≡◌, ◌<◌, ◌≤◌, ◌+◌, ℕ, true, [], length, map, All, IfOk, vec_len, vec_capacity};
 ghost use Rattle.bpf_shared.specs.Store.{Plain};
 ghost use Rattle.bpf_shared.specs.Sound.{IsSoundStore};
-ghost use Rattle.bpf_plain.specs.PlainStore.{has_cpu, is_running, held_spans, shapes_of};
+ghost use Rattle.bpf_plain.specs.PlainStore.{has_cpu, is_running, held_spans, shape_of};
 ghost use Rattle.bpf_plain.specs.PlainStore as plain_store;
 ghost use Rattle.bpf_helpers.specs.Held.{AreHeld, KeepsRun};
 ghost use Rattle.bpf_cpu.specs.Step.{IsReady};
@@ -166,7 +166,7 @@ impl Hand {
         ensures context { length self.new.cpu.memory.context
             ≡ length self.old.cpu.memory.context }
         ensures held { AreHeld (held_spans store.new self.old.cpu.number) self.new.cpu.held }
-        ensures keeps { KeepsRun shapes_of is_running held_spans self.old.cpu.number store.old
+        ensures keeps { KeepsRun shape_of is_running held_spans self.old.cpu.number store.old
             store.new }
         ensures serves { has_cpu store.new ≡ has_cpu store.old }
     {
@@ -191,7 +191,7 @@ impl Hand {
             (t : Plain) × (turns : ℕ) ×
             Lasts program.now self.old.cpu.number turns s self.old.cpu self.old.left result t ×
             IsSoundStore t × plain_store.StandsFor store.new t }
-        ensures keeps { KeepsRun shapes_of is_running held_spans self.old.cpu.number store.old
+        ensures keeps { KeepsRun shape_of is_running held_spans self.old.cpu.number store.old
             store.new }
         ensures serves { has_cpu store.new ≡ has_cpu store.old }
     {

@@ -2,7 +2,7 @@
 ghost use Rattle.std.specs.Prelude.{◌≡◌, ◌≢◌, ◌<◌, ◌≤◌, ℕ, true, false, All, IfOk, Some, map, slice_get};
 ghost use Rattle.bpf_shared.specs.Store.{Plain};
 ghost use Rattle.bpf_shared.specs.Sound.{IsSoundStore};
-ghost use Rattle.bpf_plain.specs.PlainStore.{has_cpu, is_running, held_spans, shapes_of};
+ghost use Rattle.bpf_plain.specs.PlainStore.{has_cpu, is_running, held_spans, shape_of, shapes_of};
 ghost use Rattle.bpf_plain.specs.PlainStore as plain_store;
 ghost use Rattle.bpf_cpu.specs.declared.job.Job.{Job};
 ghost use Rattle.bpf_machine.specs.Listings.{first_lists, keys_by_map, listing_at};
@@ -114,7 +114,7 @@ fn list_all(store: &mut PlainStore, cpu: u8, lists: &mut [KeyList])
         → plain_store.StandsFor store.new s
         × (map (λ list. list.keys) lists.new ≡ keys_by_map s) }
     ensures lists { AreListsOf (shapes_of store.old) lists.new }
-    ensures shapes { shapes_of store.new ≡ shapes_of store.old }
+    ensures shape { shape_of store.new ≡ shape_of store.old }
     ensures same { (has_cpu store.new ≡ has_cpu store.old)
         × (is_running store.new ≡ is_running store.old)
         × (held_spans store.new ≡ held_spans store.old) }

@@ -1,93 +1,88 @@
 -- What a `PlainStore` is to its callers, and its passages.
-use Rattle.std.specs.Prelude.{◌≡◌, ℕ, zero, suc, ◌+◌, ◌<◌, ◌≤◌, nat_lt, Bool, true, false, ◌||◌, ◌&&◌, List, ◌⊎◌, length, slice_index_or, slice_set, map}
-use Rattle.std.specs.FinMap.{len}
+use Rattle.std.specs.Prelude.{◌≡◌, ℕ, ◌+◌, ◌*◌, ◌%◌, ◌<◌, nat_lt, Bool, true, false, List, [], ◌∷◌, length, slice_index, slice_index_or, slice_set}
+use Rattle.bpf_base.specs.Bytes.{part}
 use Rattle.bpf_shared.specs.declared.events.Span.{Span}
+use Rattle.bpf_shared.specs.declared.events.Event.{Event}
 use Rattle.bpf_shared.specs.declared.events.Entry.{Entry}
 use Rattle.bpf_shared.specs.declared.events.MapAnswer.{MapAnswer}
 use Rattle.bpf_shared.specs.declared.events.MapAnswer.TheVariants.{Busy, NoMemory}
+use Rattle.bpf_shared.specs.declared.shapes.ArrayShape.{ArrayShape}
 use Rattle.bpf_shared.specs.declared.shapes.MapShape.{MapShape}
-use Rattle.bpf_plain.specs.declared.runs.Runs.{Runs}
-use Rattle.bpf_shared.specs.Shape.{Shape, IsMap, elements, element_span}
-use Rattle.bpf_shared.specs.Store.{Plain, as_made, Finds}
+use Rattle.bpf_shared.specs.Shape.{Shape, IsShape, IsMap, IsArray, IsWithin, copies, array_stride, copy_stride, contents_of}
+use Rattle.bpf_shared.specs.Store.{Plain, as_made, IsFixed, array_of, copy_of, index_of}
 use Rattle.bpf_shared.specs.Choice.{IsShort}
-use Rattle.bpf_shared.specs.History.{PlainlyLegal}
-use Rattle.bpf_shared.specs.Passage.{same_span}
-use Rattle.bpf_plain.specs.Private.Runs.{run_of, is_run}
-use Rattle.bpf_plain.specs.Private.Rows.{Rows, no_rows, shape_of, key_of, bytes_of, run_looked_up, run_left, IsTable, IsLinked, linked_count, noted_row}
+use Rattle.bpf_shared.specs.History.{PlainlyLegal, entry}
 use Rattle.bpf_shared.specs.Sound.{IsSoundStore}
+use Rattle.bpf_hash.specs.HashStore as hash
 
 pub record Contents : Type 0 where
-  -- by CPU
-  pub runs : List Runs
-  -- by map
-  pub tables : List Rows
+  -- what it was made with
+  pub shape : Shape
+  pub maps : hash.Contents
+  -- by array, the bytes of its values, each at its offset from the first
+  pub arrays : List (List ℕ)
 
-abbrev pub runs_of : Contents → ℕ → Runs
-runs_of p c = run_of p.runs c
-
-abbrev pub rows : Contents → ℕ → Rows
-rows p m = slice_index_or p.tables m no_rows
-
--- how many elements the map has
-abbrev pub element_count : Contents → ℕ → ℕ
-element_count p m = elements (rows p m).shape
-
-abbrev pub span_at : Contents → ℕ → ℕ → Span
-span_at p m i = element_span m (rows p m).shape i
+abbrev pub shape_of : Contents → Shape
+shape_of p = p.shape
 
 abbrev pub shapes_of : Contents → List MapShape
-shapes_of p = map shape_of p.tables
+shapes_of p = p.shape.maps
 
 abbrev pub has_cpu : Contents → ℕ → Bool
-has_cpu p c = nat_lt c (length p.runs)
+has_cpu p = hash.has_cpu p.maps
 
 abbrev pub is_running : Contents → ℕ → Bool
-is_running p c = (runs_of p c).running
+is_running p = hash.is_running p.maps
 
--- the CPU's run looked the element up
-abbrev pub holds : Contents → ℕ → ℕ → ℕ → Bool
-holds p c m i = is_run (runs_of p c) (run_looked_up (rows p m) i c)
-
--- the CPU is still in the run that it was in when the element left its map
-abbrev pub keeps : Contents → ℕ → ℕ → ℕ → Bool
-keeps p c m i = is_run (runs_of p c) (run_left (rows p m) i c)
-
--- the test is true of some number below n
-abbrev pub any_below : ℕ → (ℕ → Bool) → Bool
-any_below zero f = false
-any_below (suc n) f = f n || any_below n f
-
--- the span is that of an element that the CPU's run looked up
 abbrev pub held_spans : Contents → ℕ → Span → Bool
-held_spans p c q = any_below (length p.tables)
-    (λ m. any_below (element_count p m) (λ i. holds p c m i && same_span q (span_at p m i)))
+held_spans p = hash.held_spans p.maps
 
--- the element is in the map, or some CPU keeps or holds it
-abbrev pub IsUsed : Contents → ℕ → ℕ → Type 0
-IsUsed p m i = IsLinked (rows p m) i ⊎ ((c : ℕ) × ((keeps p c m i ≡ true) ⊎ (holds p c m i ≡ true)))
+-- ---- the bytes of arrays
+abbrev pub bytes_of : Contents → ℕ → List ℕ
+bytes_of p a = slice_index_or p.arrays a []
 
--- in each element that is in use lies a value of the plain store, and the two agree on keys, on
--- bytes and spans of values in a map or kept, on what is kept, and on who runs and holds what
+-- where the value of an index is among an array's bytes
+abbrev pub offset_in : ArrayShape → ℕ → ℕ → ℕ
+offset_in g k i = k * copy_stride g + i * array_stride g
+
+abbrev pub value_in : List ℕ → ArrayShape → ℕ → ℕ → List ℕ
+value_in bytes g k i = part bytes (offset_in g k i) g.value
+
+-- the bytes of the fixed value of a number
+abbrev pub fixed_bytes : Contents → ℕ → ArrayShape → List ℕ
+fixed_bytes p v g = value_in (bytes_of p (array_of v)) g (copy_of v) (index_of v)
+
+-- each of these copies begins with the first bytes, and has zeros after them
+pub record IsFilled (stride : ℕ) (first : List ℕ) (count : ℕ) (bytes : List ℕ) : Type 0 where
+  pub size : length bytes ≡ count * stride
+  pub each : (k o : ℕ) → k < count → o < stride
+      → slice_index bytes (k * stride + o) ≡ slice_index first o
+
+-- the byte at an offset in an array at first: each CPU's values have the same bytes
+abbrev pub first_at : Shape → ℕ → ArrayShape → ℕ → ℕ
+first_at h a g x = slice_index (contents_of h a) (x % copy_stride g)
+
+-- each byte that is in no value is as at first
+abbrev pub IsPadded : ℕ → ArrayShape → (ℕ → ℕ) → List ℕ → Type 0
+IsPadded cpus g first bytes =
+    (x : ℕ) → x < length bytes → (IsWithin cpus g x 1 → ⊥) → slice_index bytes x ≡ first x
+
+-- an array's bytes as they are at first
+abbrev pub IsAsMade : ℕ → ArrayShape → List ℕ → List ℕ → Type 0
+IsAsMade cpus g first bytes = IsFilled (copy_stride g) first (copies cpus g) bytes
+
+pub record AreAsMade (h : Shape) (arrays : List (List ℕ)) : Type 0 where
+  pub count : length arrays ≡ length h.arrays
+  pub each : (a : ℕ) (g : ArrayShape) → IsArray h.arrays a g
+      → IsAsMade h.cpus g (contents_of h a) (slice_index_or arrays a [])
+
+-- ---- the plain stores that it stands for
+
+-- its maps stand for the store's, and its bytes are those of fixed values
 pub record StandsFor (p : Contents) (s : Plain) : Type 0 where
-  pub cpus : s.shape.cpus ≡ length p.runs
-  pub maps : s.shape.maps ≡ shapes_of p
-  pub running : (c : ℕ) → s.running c ≡ is_running p c
-  -- the value number in each element of each map
-  pub number : ℕ → ℕ → ℕ
-  pub leads : (m i : ℕ) → IsLinked (rows p m) i → Finds s m (key_of (rows p m) i) (number m i)
-  pub found : (m : ℕ) (key : List ℕ) (v : ℕ) → Finds s m key v
-      → (i : ℕ) × IsLinked (rows p m) i × (key_of (rows p m) i ≡ key) × (v ≡ number m i)
-  pub counts : (m : ℕ) → len (s.maps m) ≡ linked_count (rows p m)
-  pub values : (m i : ℕ) → i < element_count p m → IsUsed p m i
-      → s.value (number m i) ≡ record { bytes = bytes_of (rows p m) i; span = span_at p m i }
-  pub held : (c v : ℕ) → s.held c v ≡ true
-      → (m : ℕ) × (i : ℕ) × (i < element_count p m) × (holds p c m i ≡ true) × (v ≡ number m i)
-  pub held_back : (c m i : ℕ) → i < element_count p m → holds p c m i ≡ true
-      → s.held c (number m i) ≡ true
-  pub kept : (c v : ℕ) → s.kept c v ≡ true
-      → (m : ℕ) × (i : ℕ) × (i < element_count p m) × (keeps p c m i ≡ true) × (v ≡ number m i)
-  pub kept_back : (c m i : ℕ) → i < element_count p m → keeps p c m i ≡ true
-      → s.kept c (number m i) ≡ true
+  pub shape : s.shape ≡ p.shape
+  pub maps : hash.StandsFor p.maps s
+  pub fixed : (v : ℕ) (f : IsFixed p.shape v) → (s.value v).bytes ≡ fixed_bytes p v f.array
 
 -- from each plain store that the old value shows, as some legal history may have left it, the
 -- events are allowed, with the choices of one thread, and lead to one that the new value shows
@@ -95,6 +90,10 @@ abbrev pub Passes : Contents → Contents → List Entry → Type 0
 Passes old new log =
     (s : Plain) → IsSoundStore s → StandsFor old s
     → (t : Plain) × PlainlyLegal s log t × IsSoundStore t × StandsFor new t
+
+-- one event of a CPU does
+abbrev pub Makes : Contents → Contents → ℕ → Event → Type 0
+Makes old new c e = Passes old new (entry c e ∷ [])
 
 -- no update or deletion is answered Busy, and NoMemory only where the map is short
 abbrev pub MayLack : Contents → Contents → ℕ → List ℕ → MapAnswer → Type 0
@@ -104,19 +103,30 @@ MayLack old new m key NoMemory =
     → (h : MapShape) × IsMap s.shape.maps m h × IsShort s m h
 MayLack old new m key answer = Unit {0}
 
--- what each `PlainStore` keeps true: no run is noted that didn't begin yet
+-- the bytes of an array of a store of this shape
+pub record IsArrayOf (h : Shape) (a : ℕ) (g : ArrayShape) (bytes : List ℕ) : Type 0 where
+  pub size : length bytes ≡ copies h.cpus g * copy_stride g
+  -- what may only be read is as it was made
+  pub frozen : g.frozen ≡ true → IsAsMade h.cpus g (contents_of h a) bytes
+  -- and so is what is between the values
+  pub padded : IsPadded h.cpus g (first_at h a g) bytes
+
+-- of all its arrays
+pub record AreArrays (h : Shape) (arrays : List (List ℕ)) : Type 0 where
+  pub count : length arrays ≡ length h.arrays
+  pub each : (a : ℕ) (g : ArrayShape) → IsArray h.arrays a g
+      → IsArrayOf h a g (slice_index_or arrays a [])
+
+-- what each `PlainStore` keeps true
 pub record IsStore (p : Contents) : Type 0 where
-  pub cpus : length p.runs ≤ 16
-  pub maps : length p.tables ≤ 16
-  pub tables : (m : ℕ) → m < length p.tables
-      → IsTable (rows p m) × ((rows p m).cpus ≡ length p.runs)
-  pub looked_up : (m i c : ℕ) → c < length p.runs
-      → run_looked_up (rows p m) i c ≤ (runs_of p c).count
-  pub left : (m i c : ℕ) → c < length p.runs → run_left (rows p m) i c ≤ (runs_of p c).count
+  pub shape : IsShape p.shape
+  pub maps : hash.shapes_of p.maps ≡ p.shape.maps
+  pub cpus : (c : ℕ) → has_cpu p c ≡ nat_lt c p.shape.cpus
+  pub arrays : AreArrays p.shape p.arrays
 
 -- a store that was made with this shape
 pub record IsMade (h : Shape) (p : Contents) : Type 0 where
-  pub shapes : shapes_of p ≡ h.maps
+  pub shape : shape_of p ≡ h
   pub serves : (c : ℕ) → has_cpu p c ≡ nat_lt c h.cpus
   pub idle : (c : ℕ) → is_running p c ≡ false
   pub holds_nothing : (c : ℕ) (q : Span) → held_spans p c q ≡ false
@@ -124,21 +134,10 @@ pub record IsMade (h : Shape) (p : Contents) : Type 0 where
 
 -- ---- what calls leave
 
--- the CPU is in its next run
-abbrev pub started : Contents → ℕ → Contents
-started p c = record p {
-  runs = slice_set p.runs c
-      (record { count = (runs_of p c).count + 1; running = true });
-}
+-- the maps are others
+abbrev pub with_maps : Contents → hash.Contents → Contents
+with_maps p maps = record p { maps = maps }
 
--- the CPU is in no run
-abbrev pub stopped : Contents → ℕ → Contents
-stopped p c = record p { runs = slice_set p.runs c (record (runs_of p c) { running = false }) }
-
--- a map's elements are changed
-abbrev pub with_table : Contents → ℕ → Rows → Contents
-with_table p m n = record p { tables = slice_set p.tables m n }
-
--- the CPU's run looked up the i-th element of the m-th map
-abbrev pub looked : Contents → ℕ → ℕ → ℕ → Contents
-looked p c m i = with_table p m (noted_row i c (runs_of p c).count (rows p m))
+-- an array's bytes are others
+abbrev pub with_array : Contents → ℕ → List ℕ → Contents
+with_array p a bytes = record p { arrays = slice_set p.arrays a bytes }

@@ -1,62 +1,23 @@
 //! A store's contents as bytes, and from another store.
-ghost use Rattle.std.specs.Prelude.{◌≡◌, ◌++◌, ℕ, List, ◌<◌, OnOk, OnErr, length, map, slice_index_or};
+ghost use Rattle.std.specs.Prelude.{◌≡◌, ◌++◌, ℕ, List, OnOk, OnErr};
 ghost use Rattle.std.specs.Io.{StartsWith};
-ghost use Rattle.bpf_plain.specs.Private.Rows.{no_rows};
-ghost use Rattle.bpf_plain.specs.Private.Saved.{all_below, map_block, is_in_run, saved, IsSavedAs};
-ghost use Rattle.bpf_plain.specs.Private.Contents.{IsStore};
+ghost use Rattle.bpf_plain.specs.Private.Saved.{IsSavedAs};
 ghost use Rattle.bpf_plain.specs.Alike.{IsSameShape};
 
 use super::PlainStore;
-use crate::table::Table;
+use crate::bytes::copy_arrays;
+use crate::changes::push_arrays;
 use std::alloc::AllocError;
 
-/// These tables become what others of their shapes are.
-fn copy_tables(tables: &mut [Table], others: &[Table])
-    requires count { length others.now ≡ length tables.old }
-    requires shapes { (m : ℕ) → m < length tables.old → (slice_index_or others.now m no_rows).shape
-        ≡ (slice_index_or tables.old m no_rows).shape }
-    requires cpus { (m : ℕ) → m < length tables.old → (slice_index_or others.now m no_rows).cpus
-        ≡ (slice_index_or tables.old m no_rows).cpus }
-    ensures { tables.new ≡ others.now }
-{
-    for map in 0..tables.len() {
-        tables[map].copy_from(&others[map]);
-    }
-}
-
 impl PlainStore {
-    /// Appends to the bytes which CPUs are in a run.
-    fn push_runs(&self, out: &mut Vec<u8>) -> Result<(), AllocError>
-        ensures ok { OnOk result (out.new.items ≡ out.old.items ++ map is_in_run self.now.runs) }
-        ensures err { OnErr result (StartsWith out.new.items out.old.items) }
-        ensures store { IsStore self.now }
-    {
-        for run in &self.runs {
-            out.push(if run.running { 1 } else { 0 })?;
-        }
-        Ok(())
-    }
-
-    /// All maps' elements.
-    fn push_blocks(&self, out: &mut Vec<u8>) -> Result<(), AllocError>
-        ensures ok { OnOk result (out.new.items
-            ≡ out.old.items ++ all_below (map_block self.now) (length self.now.tables)) }
-        ensures err { OnErr result (StartsWith out.new.items out.old.items) }
-    {
-        for map in 0..self.tables.len() {
-            self.tables[map].push_blocks(&self.runs, out)?;
-        }
-        Ok(())
-    }
-
-    /// Both.
+    /// The arrays, and then the maps.
     fn push_all(&self, out: &mut Vec<u8>) -> Result<(), AllocError>
-        ensures ok { OnOk result (out.new.items ≡ out.old.items ++ saved self.now) }
+        ensures ok { OnOk result ((bytes : List ℕ) × (out.new.items ≡ out.old.items ++ bytes)
+            × IsSavedAs self.now bytes) }
         ensures err { OnErr result (StartsWith out.new.items out.old.items) }
-        ensures store { IsStore self.now }
     {
-        self.push_runs(out)?;
-        self.push_blocks(out)?;
+        push_arrays(&self.shape, &self.arrays, out)?;
+        self.maps.save(out)?;
         Ok(())
     }
 
@@ -80,7 +41,7 @@ impl PlainStore {
         requires { IsSameShape other.now self.old }
         ensures { self.new ≡ other.now }
     {
-        self.runs.copy_from_slice(&other.runs);
-        copy_tables(&mut self.tables, &other.tables);
+        self.maps.copy_from(&other.maps);
+        copy_arrays(&mut self.arrays, &other.arrays);
     }
 }

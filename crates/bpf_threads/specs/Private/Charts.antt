@@ -1,5 +1,6 @@
 -- Charts by program, and a number that may have been found.
 use Rattle.std.specs.Prelude.{◌≡◌, ℕ, suc, ◌≤◌, true, List, Option, Some, None, drop, map, slice_get}
+use Rattle.bpf_shared.specs.Shape.{Shape}
 use Rattle.bpf_loader.specs.Loaded.{Loaded}
 use Rattle.bpf_cpu.specs.declared.job.Job.{Job}
 use Rattle.bpf_cpu.specs.Task.{waiting}
@@ -38,9 +39,9 @@ IsBoundAt q programs k o = (most : ℕ) (program : Loaded) → slice_get program
     → o ≡ Some most → HasAtMost q program most
 
 -- the program of this number is there, and reads keys and values whole
-abbrev pub ReadsWholeAt : List Loaded → ℕ → Type 0
-ReadsWholeAt programs k =
-    (program : Loaded) × (slice_get programs k ≡ Some program) × AllReadOutside program
+abbrev pub ReadsWholeAt : Shape → List Loaded → ℕ → Type 0
+ReadsWholeAt shape programs k =
+    (program : Loaded) × (slice_get programs k ≡ Some program) × AllReadOutside shape program
 
 -- with the job of this number, those after it, which sum to the sum, sum to n
 abbrev pub IsAdded : List (Option ℕ) → List Job → ℕ → ℕ → ℕ → Type 0

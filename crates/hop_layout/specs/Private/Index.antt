@@ -1,9 +1,9 @@
--- Where the words of each map begin, by their kinds.
+-- Where the words of each map begin, by their kinds, and those of each array.
 use Rattle.std.specs.Prelude.{◌≡◌, ℕ, ◌+◌, ◌*◌, ◌<◌, List, length, slice_get, Some}
 use Rattle.bpf_shared.specs.declared.shapes.MapShape.{MapShape}
 use Rattle.bpf_shared.specs.Shape.{Shape, elements}
 use Rattle.hop_layout.specs.declared.index.Bases.{Bases}
-use Rattle.hop_layout.specs.declared.place.Place.TheVariants.{KeyCount, Stamp, Link, KeyWord, ValueWord}
+use Rattle.hop_layout.specs.declared.place.Place.TheVariants.{KeyCount, Stamp, Link, KeyWord, ValueWord, FixedWord}
 use Rattle.hop_layout.specs.Layout.{at, size, words_for, map_shape, free_words, line_rest, segments, first_depth, map_words}
 
 abbrev pub bases : Shape → ℕ → Bases
@@ -22,8 +22,13 @@ bases h m = record {
 abbrev pub AreBases : Shape → ℕ → List Bases → Type 0
 AreBases h n bs = (m : ℕ) → m < n → slice_get bs m ≡ Some (bases h m)
 
-pub record IsIndex (h : Shape) (bs : List Bases) (words : ℕ) : Type 0 where
+-- and so do the first n arrays
+abbrev pub AreArrayBases : Shape → ℕ → List ℕ → Type 0
+AreArrayBases h n starts = (a : ℕ) → a < n → slice_get starts a ≡ Some (at h (FixedWord a 0))
+
+pub record IsIndex (h : Shape) (bs : List Bases) (starts : List ℕ) (words : ℕ) : Type 0 where
   pub each : AreBases h (length h.maps) bs
+  pub arrays : AreArrayBases h (length h.arrays) starts
   pub whole : words ≡ size h
 
 -- the same for a map of this shape whose words begin here

@@ -1,7 +1,9 @@
 -- What a listing has found so far.
-use Rattle.std.specs.Prelude.{◌≡◌, ◌⊎◌, ℕ, List, [], ◌∷◌, take}
+use Rattle.std.specs.Prelude.{◌≡◌, ◌⊎◌, ℕ, ◌+◌, nat_lt, ◌&&◌, List, [], ◌∷◌, Option, Some, None, slice_get, take, if◌then◌else◌}
+use Rattle.bpf_shared.specs.declared.shapes.ArrayShape.{ArrayShape}
+use Rattle.bpf_shared.specs.Shape.{Shape, copies}
 use Rattle.bpf_shared.specs.Listing.{Pair}
-use Rattle.hop_layout.specs.declared.place.Place.TheVariants.{ValueWord}
+use Rattle.hop_layout.specs.declared.place.Place.TheVariants.{ValueWord, FixedWord}
 use Rattle.hop_layout.specs.Layout.{mem, words_for}
 use Rattle.hop_layout.specs.Words.{bytes_of_words}
 use Rattle.hop_words.specs.Content.{MapWords, Reached}
@@ -43,3 +45,18 @@ AreFound e m ps = Each (IsPairFound e m) ps
 pub record AddsPairs (e : Ending) (m : ℕ) (old new : List Pair) : Type 0 where
   pub found : AreFound e m old → AreFound e m new
   pub kept : (key : List ℕ) → IsKeyAmong key old → IsKeyAmong key new
+
+-- ---- arrays
+-- the array, if it has this index, of the k-th CPU if each has its own
+abbrev pub with_index : Shape → ℕ → ℕ → Option ArrayShape → Option ArrayShape
+with_index h k i None = None
+with_index h k i (Some g) =
+    if nat_lt k (copies h.cpus g) && nat_lt i g.max then Some g else None
+
+abbrev pub array_with : Shape → ℕ → ℕ → ℕ → Option ArrayShape
+array_with h a k i = with_index h k i (slice_get h.arrays a)
+
+-- the first bytes of an array's words, from this one on
+abbrev pub fixed_in : Ending → ℕ → ℕ → ℕ → List ℕ
+fixed_in e a first size = take size
+    (bytes_of_words (words_for size) (λ j. mem e.about.shape e.words (FixedWord a (first + j))))

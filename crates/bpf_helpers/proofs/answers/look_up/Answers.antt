@@ -26,6 +26,6 @@ take_answer-requires g c =
     let cpu = c.args.cpu in
     let held = g.S.Shared.held c.args.shared.now in
     record {
-      elements = found_elements held cpu (g.S.Shared.shapes c.args.shared.now) c.lookup-answer.result c.args.held.now c.lookup-answer.ensures.maps
+      elements = found_elements held cpu (g.S.Shared.shapes c.args.shared.now).maps c.lookup-answer.result c.args.held.now c.lookup-answer.ensures.maps
           (λ p h. c.lookup-answer.ensures.elements p (subst (λ (f : ℕ → Span → Bool). f cpu p ≡ true) (sym c.lookup-answer.ensures.held) h)) c.requires.held;
     }

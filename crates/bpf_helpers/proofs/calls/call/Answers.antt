@@ -10,12 +10,12 @@ returns-in-1-clause-call g c =
     let call = c.look_up.ensures.call in (
       Lookup c.in-Some.map key call.0 ∷ [],
       call.1,
-      inr (inr (
+      inr (inr (inl (
         c.in-Some.map,
         c.in-Some-shape.shape,
         (at, sym c.in-Some-shape.ensures.shape),
         inl (c.in-1.is, inr (key, [], call.0, inl (c.in-Some-own_bytes.ensures.own, refl), refl, call.2)),
-      )),
+      ))),
     )
 
 pub returns-in-Some-own_bytes-2-clause-call : goal.returns-in-Some-own_bytes-2-clause-call
@@ -27,12 +27,12 @@ returns-in-Some-own_bytes-2-clause-call g c =
     let event = Update c.in-Some.map key value (slice_index c.args.registers.now 4) answer in (
       event ∷ [],
       chain_one g.S.Shared.passes g.S.Shared.serves c.args.cpu c.args.shared.now c.update-answer.new.self event c.requires.serves c.update-answer.ensures.answered c.update-answer.ensures.same.1,
-      inr (inr (
+      inr (inr (inl (
         c.in-Some.map,
         c.in-Some-shape.shape,
         (at, sym c.in-Some-shape.ensures.shape),
         inr (inl (c.in-2.is, inr (key, value, [], [], answer, inl (c.in-Some-own_bytes.ensures.own, refl), inl (c.in-Some-own_bytes-2.ensures.own, refl), refl, ap Ok c.number_of_answer.ensures, refl))),
-      )),
+      ))),
     )
 
 pub returns-in_default-number-clause-call : goal.returns-in_default-number-clause-call
@@ -49,10 +49,10 @@ returns-in_default-number-clause-call g c =
     let event = Delete c.in-Some.map key answer in (
       event ∷ [],
       chain_one g.S.Shared.passes g.S.Shared.serves c.args.cpu c.args.shared.now c.delete-answer.new.self event c.requires.serves c.delete-answer.ensures.answered c.delete-answer.ensures.same.1,
-      inr (inr (
+      inr (inr (inl (
         c.in-Some.map,
         c.in-Some-shape.shape,
         (at, sym c.in-Some-shape.ensures.shape),
         inr (inr (number, inr (key, [], answer, inl (c.in-Some-own_bytes.ensures.own, refl), refl, ap Ok c.number_of_answer-in_default-number.ensures, refl))),
-      )),
+      ))),
     )

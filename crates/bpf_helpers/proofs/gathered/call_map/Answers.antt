@@ -1,5 +1,7 @@
-use Rattle.std.proofs.Common.{◌≡◌, Ok, [], ◌∷◌, ◌++◌, inl, inr, refl, ap, slice_index, arith}
+use Rattle.std.proofs.Common.{◌≡◌, Ok, [], ◌∷◌, ◌++◌, inl, inr, refl, ap, subst, slice_index, arith}
 use Rattle.bpf_shared.specs.declared.events.Event.TheVariants.{Lookup, Update, Delete}
+use Rattle.bpf_shared.specs.Shape.{Shape}
+use Rattle.bpf_helpers.specs.Reads.{Reads}
 use Rattle.bpf_shared.proofs.Chains.{chain_nothing, chain_call, chain_join}
 use Rattle.bpf_helpers.proofs.gathered.call_map.Goals as goal
 
@@ -29,6 +31,7 @@ returns-then-number-eq-MAP_UPDATE_ELEM-clause-call g c =
     let value = c.read-value.result.now in
     let answer = c.update-answer.result in
     let event = Update c.args.map key value (slice_index c.args.registers.now 4) answer in
+    let P : Shape → Type 0 = λ h. Reads h c.args.memory.now c.args.held.now (slice_index c.args.registers.now 3) c.args.shape.value value second.0 in
     let passes = g.S.Shared.passes in
     let serves = g.S.Shared.serves in
     let cpu = c.args.cpu in
@@ -36,7 +39,7 @@ returns-then-number-eq-MAP_UPDATE_ELEM-clause-call g c =
     let read = chain_join passes serves cpu g.met.S.Shared.follows old c.read-key.new.shared c.read-value.new.shared first.0 second.0 first.2 second.2 in (
       (first.0 ++ second.0) ++ event ∷ [],
       chain_call passes serves cpu g.met.S.Shared.follows old c.read-value.new.shared c.update-answer.new.self (first.0 ++ second.0) event c.requires.serves read c.update-answer.ensures.answered c.update-answer.ensures.same.1,
-      inr (inl (c.if-number-eq-MAP_UPDATE_ELEM.true, inr (key, value, first.0, second.0, answer, first.1, second.1, refl, ap Ok c.number_of_answer.ensures, refl))),
+      inr (inl (c.if-number-eq-MAP_UPDATE_ELEM.true, inr (key, value, first.0, second.0, answer, first.1, subst P c.read-key.ensures.shapes second.1, refl, ap Ok c.number_of_answer.ensures, refl))),
     )
 
 pub returns-then-number-eq-MAP_LOOKUP_ELEM-clause-call : goal.returns-then-number-eq-MAP_LOOKUP_ELEM-clause-call

@@ -4,24 +4,21 @@ use Rattle.bpf_shared.specs.declared.events.Size.TheVariants.{Byte}
 use Rattle.bpf_shared.specs.declared.events.Event.{Event}
 use Rattle.bpf_shared.specs.declared.events.Event.TheVariants.{Load}
 use Rattle.bpf_shared.specs.Chain.{Chain}
-use Rattle.bpf_shared.specs.Passage.{IsHeldPlace}
+use Rattle.bpf_shared.specs.Passage.{IsReadable}
+use Rattle.bpf_shared.specs.Shape.{Shape}
 use Rattle.bpf_shared.proofs.Chains.{chain_call}
 use Rattle.bpf_helpers.specs.Reads.{loads}
-use Rattle.bpf_helpers.proofs.Reaching.{held_byte, loads-append, value_address, value_spans}
+use Rattle.bpf_helpers.proofs.ArrayPlaces.{readable_byte}
+use Rattle.bpf_helpers.proofs.Reaching.{loads-append}
 use Rattle.bpf_helpers.proofs.reading.gather.Goals as goal
-
-pub overflow_add-at : goal.overflow_add-at
-overflow_add-at g c =
-    let cpu = c.args.cpu in
-    let spans = value_spans (g.S.Shared.held c.args.shared.now cpu) c.args.held.now c.requires.held in
-    let high = value_address c.args.held.now (c.args.at + c.loop-k.k) spans (c.requires.reached c.loop-k.k c.loop-k-test.true) in
-    omega (arith, high)
 
 pub value_load-byte-requires-clause-place : goal.value_load-byte-requires-clause-place
 value_load-byte-requires-clause-place g c =
     let at = c.args.at + c.loop-k.k in
-    let P : (ℕ → Span → Bool) → Type 0 = λ held. IsHeldPlace (held c.args.cpu) at 1 in
-    subst P (sym c.loop-k.invariant.held) (held_byte (g.S.Shared.held c.args.shared.now c.args.cpu) c.args.held.now at c.requires.held (c.requires.reached c.loop-k.k c.loop-k-test.true))
+    let P : (ℕ → Span → Bool) → Type 0 = λ held. IsReadable (g.S.Shared.shapes c.args.shared.now) (held c.args.cpu) at 1 in
+    let Q : Shape → Type 0 = λ h. IsReadable h (g.S.Shared.held c.loop-k.shared c.args.cpu) at 1 in
+    subst Q (sym c.loop-k.invariant.shapes) (subst P (sym c.loop-k.invariant.held)
+    (readable_byte (g.S.Shared.shapes c.args.shared.now) (g.S.Shared.held c.args.shared.now c.args.cpu) c.args.held.now at c.requires.held (c.requires.reached c.loop-k.k c.loop-k-test.true)))
 
 pub loop-k-preserved : goal.loop-k-preserved
 loop-k-preserved g c =

@@ -11,7 +11,7 @@ returns-in-Ok-with_keys c =
     let asked : true ≡ c.args.keys = cc in
     record {
       store = subst P (sym c.in-Ok-with_keys.ensures.store) c.in-Ok.ensures.made.shows;
-      sound = as_made_sound c.args.setup.shape;
+      sound = as_made_sound c.args.setup.shape c.cpus.ensures.in_range;
       programs = sym c.in-Ok-with_keys.ensures.programs;
       jobs = sym c.in-Ok-with_keys.ensures.jobs;
       lists = ap (λ (b : Bool). first_lists b) (sym asked) ∙ sym c.in-Ok-with_keys.ensures.lists;
@@ -23,7 +23,7 @@ returns-in-Ok-new c =
     let asked : false ≡ c.args.keys = cc in
     record {
       store = subst P (sym c.in-Ok-new.ensures.store) c.in-Ok.ensures.made.shows;
-      sound = as_made_sound c.args.setup.shape;
+      sound = as_made_sound c.args.setup.shape c.cpus.ensures.in_range;
       programs = sym c.in-Ok-new.ensures.programs;
       jobs = sym c.in-Ok-new.ensures.jobs;
       lists = ap (λ (b : Bool). first_lists b) (sym asked) ∙ sym c.in-Ok-new.ensures.lists;

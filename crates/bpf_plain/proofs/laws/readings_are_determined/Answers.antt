@@ -1,4 +1,4 @@
-use Rattle.bpf_plain.proofs.SavedNormal.{one_reading}
+use Rattle.bpf_plain.proofs.Restoring.{one_reading}
 use Rattle.bpf_plain.proofs.laws.readings_are_determined.Goals as goal
 
 pub returns : goal.returns

@@ -1,4 +1,4 @@
-use Rattle.bpf_plain.proofs.SavedNormal.{normal_saved}
+use Rattle.bpf_plain.proofs.Alike.{normal_saved}
 use Rattle.bpf_plain.proofs.laws.restored_is_saved_alike.Goals as goal
 
 pub returns : goal.returns

@@ -1,5 +1,5 @@
-use Rattle.bpf_plain.proofs.Normal.{looks_normal}
+use Rattle.bpf_plain.proofs.Alike.{looks_normal}
 use Rattle.bpf_plain.proofs.laws.restored_looks_alike.Goals as goal
 
 pub returns : goal.returns
-returns c p bytes saved = looks_normal p saved.0
+returns c = looks_normal

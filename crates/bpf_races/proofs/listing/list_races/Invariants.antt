@@ -3,4 +3,4 @@ use Rattle.bpf_races.specs.Lines.{race_lines}
 use Rattle.bpf_races.proofs.listing.list_races.Given as goal
 
 abbrev pub invariant-loop-race : goal.invariant-loop-race
-invariant-loop-race l = string_bytes l.text ≡ race_lines (map string_bytes l.names) l.race-index l.races.list.items
+invariant-loop-race l = string_bytes l.text ≡ race_lines l.named (map string_bytes l.names) l.race-index l.races.list.items

@@ -3,4 +3,4 @@ use Rattle.bpf_races.specs.Lines.{here_lines}
 use Rattle.bpf_races.proofs.listing.list_races_in.Given as goal
 
 abbrev pub invariant-loop-race : goal.invariant-loop-race
-invariant-loop-race l = string_bytes l.text ≡ here_lines (map string_bytes l.names) l.race-index l.races
+invariant-loop-race l = string_bytes l.text ≡ here_lines l.named (map string_bytes l.names) l.race-index l.races

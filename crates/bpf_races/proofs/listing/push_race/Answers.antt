@@ -9,7 +9,7 @@ pub returns : goal.returns
 returns c =
     let old = string_bytes c.args.text.now in
     let race = c.args.race.now in
-    let places = places_text race.pair ++ value_text (map string_bytes c.args.names.now) race in
+    let places = places_text race.pair ++ value_text c.args.named (map string_bytes c.args.names.now) race in
     let runs = runs_text (length race.by) race.by in
     let first = string_bytes c.push_places.new.text in
     let second = string_bytes c.push_str.new.self in

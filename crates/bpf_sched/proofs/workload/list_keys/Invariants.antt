@@ -11,7 +11,7 @@ invariant-loop-map g l =
       served : S.serves l.shared ≡ S.serves l.fn.shared;
       shaped : S.shapes l.shared ≡ S.shapes l.fn.shared;
       runs : S.running l.shared ≡ S.running l.fn.shared;
-      fit : AreListsFor (S.shapes l.fn.shared) l.lists;
+      fit : AreListsFor (S.shapes l.fn.shared).maps l.lists;
       same : map (λ list. list.shape) l.lists ≡ map (λ list. list.shape) l.fn.lists;
       chain : Chain S.passes S.serves l.cpu l.fn.shared l.shared (keys_events 0 (take l.map (map (λ list. list.keys) l.lists)));
     }

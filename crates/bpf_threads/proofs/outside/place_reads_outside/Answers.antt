@@ -7,4 +7,4 @@ pub returns : goal.returns
 returns c t p at =
     let spot = c.spot_at.ensures in
     let same : c.spot_at.result.now ≡ p = cc in
-    subst (λ (q : Spot). SpotReadsOutside c.args.program.now q) same (c.spot_reads_outside.ensures t)
+    subst (λ (q : Spot). SpotReadsOutside c.args.arrays.now c.args.program.now q) same (c.spot_reads_outside.ensures t)

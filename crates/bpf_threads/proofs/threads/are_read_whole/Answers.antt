@@ -10,7 +10,7 @@ loop-behind-preserved c =
     let jobs = c.args.jobs.now in
     let behind = c.loop-behind.behind in
     let i = length jobs - 1 - behind in
-    let P = IsReadWhole c.args.programs.now in
+    let P = IsReadWhole c.args.shape.now c.args.programs.now in
     let up : length jobs - behind ≡ suc i = omega arith in
     let down : i ≡ length jobs - (behind + 1) = omega arith in
     let rest = subst (λ (k : ℕ). All P (map waiting (drop k jobs))) up c.loop-behind.invariant in
@@ -20,4 +20,4 @@ pub returns : goal.returns
 returns c t =
     let jobs = c.args.jobs.now in
     let zero : length jobs - c.loop-behind.behind ≡ 0 = omega arith in
-    subst (λ (k : ℕ). All (IsReadWhole c.args.programs.now) (map waiting (drop k jobs))) zero c.loop-behind.invariant
+    subst (λ (k : ℕ). All (IsReadWhole c.args.shape.now c.args.programs.now) (map waiting (drop k jobs))) zero c.loop-behind.invariant

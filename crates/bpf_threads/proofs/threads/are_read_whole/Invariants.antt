@@ -5,4 +5,4 @@ use Rattle.bpf_threads.specs.Threads.{IsReadWhole}
 use Rattle.bpf_threads.proofs.threads.are_read_whole.Given as goal
 
 abbrev pub invariant-loop-behind : goal.invariant-loop-behind
-invariant-loop-behind l = All (IsReadWhole l.programs) (map waiting (drop (length l.jobs - l.behind) l.jobs))
+invariant-loop-behind l = All (IsReadWhole l.shape l.programs) (map waiting (drop (length l.jobs - l.behind) l.jobs))

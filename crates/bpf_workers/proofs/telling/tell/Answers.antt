@@ -6,13 +6,16 @@ use Rattle.bpf_workers.proofs.Ends.{told}
 use Rattle.bpf_workers.proofs.telling.tell.Goals as goal
 
 pub returns : goal.returns
-returns c last known =
+returns c last known same =
     let text = string_bytes c.in_ok-text.text in
     let both = string_bytes c.push_str.new.self in
     let names = map string_bytes c.args.names.now in
-    told c.args.jobs.now c.args.ends.now last names c.args.maps text (list_lines (listed_by c.args.lists.now) names c.args.cpus)
+    let lists = listed_by c.args.lists.now in
+    let cpus = c.args.left.shape.now.cpus in
+    told c.args.jobs.now c.args.ends.now last names c.args.maps text (list_lines lists names cpus)
     (string_bytes c.in_ok-keys.keys) (string_bytes c.in_ok-lines.lines) both (string_bytes c.push_str-2.new.self) c.has_stopped-stopped.result
-    c.requires (c.in_ok-lines.ensures last known) c.in_ok-text.ensures c.in_ok-keys.ensures
+    c.requires (c.in_ok-lines.ensures last known same) c.in_ok-text.ensures
+    (c.in_ok-keys.ensures ∙ ap (λ (n : ℕ). list_lines lists names n) c.cpus.ensures.cpus)
     (c.in_ok-push_str.ensures.bytes ∙ ap (λ (more : List ℕ). text ++ more) c.as_str.ensures.value)
     (c.in_ok-push_str-2.ensures.bytes ∙ ap (λ (more : List ℕ). both ++ more) c.as_str-2.ensures.value)
     c.has_stopped-stopped.ensures

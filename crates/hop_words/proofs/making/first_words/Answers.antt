@@ -3,11 +3,11 @@ use Rattle.hop_layout.specs.declared.place.Place.{Place}
 use Rattle.hop_layout.specs.declared.place.Place.TheVariants.{RunCount}
 use Rattle.hop_layout.specs.declared.about.About.{About}
 use Rattle.bpf_shared.specs.declared.shapes.MapShape.{MapShape}
-use Rattle.bpf_shared.specs.Shape.{IsMapShape, IsShape}
+use Rattle.bpf_shared.specs.Shape.{IsMapShape}
 use Rattle.hop_layout.specs.Layout.{mem, put_at, map_shape, no_map}
 use Rattle.hop_words.specs.Private.Made.{IsPartly}
 use Rattle.hop_layout.proofs.Maps.{map_is}
-use Rattle.hop_words.proofs.FirstWords.{runs_on, zeros, whole}
+use Rattle.hop_words.proofs.FirstWords.{runs_on, zeros}
 use Rattle.hop_words.proofs.making.first_words.Goals as goal
 
 pub runs-init : goal.runs-init
@@ -32,9 +32,8 @@ put_map-requires-clause-sizes c =
     (c.maps-shape-items.ensures.in_range.each c.maps.map (map_shape c.about-2.result.now.shape c.maps.map) (map_is c.about-2.result.now.shape c.maps.map
     (subst (λ (gs : List MapShape). c.maps.map < length gs) gs c.maps-test.true)))
 
-pub returns-clause-made : goal.returns-clause-made
-returns-clause-made c =
+pub put_arrays-requires-clause-partly : goal.put_arrays-requires-clause-partly
+put_arrays-requires-clause-partly c =
     let a = c.args.index.now in
-    let shaped = subst (λ (x : About). IsShape x.shape) c.about-2.ensures c.maps-shape-items.ensures.in_range in
     let n : c.maps.map ≡ length a.shape.maps = (let f = c.maps-test.false in let g = c.maps.auto.map-end in let z = ap length c.maps-shape-items.ensures.maps in let v = ap (λ (x : About). length x.shape.maps) c.about-2.ensures in omega arith) in
-    whole a (mem a.shape c.maps.words.items) shaped (subst (λ (m : ℕ). IsPartly a (mem a.shape c.maps.words.items) a.shape.cpus m 0 0) n c.maps.invariant.1)
+    subst (λ (m : ℕ). IsPartly a (mem a.shape c.maps.words.items) a.shape.cpus m 0 0) n c.maps.invariant.1

@@ -1,6 +1,6 @@
-use Rattle.std.proofs.Common.{◌≡◌, ℕ, Bool, List, [], ◌∷◌, ◌++◌, inl, refl, ap, subst, ◌∙◌}
+use Rattle.std.proofs.Common.{◌≡◌, ℕ, Bool, [], ◌∷◌, ◌++◌, inl, refl, ap, subst, ◌∙◌}
 use Rattle.bpf_shared.specs.declared.events.Event.TheVariants.{Begin, End}
-use Rattle.bpf_shared.specs.declared.shapes.MapShape.{MapShape}
+use Rattle.bpf_shared.specs.Shape.{Shape}
 use Rattle.bpf_shared.specs.declared.events.Span.{Span}
 use Rattle.bpf_shared.specs.Passage.{Calls}
 use Rattle.bpf_shared.specs.Chain.{Chain}
@@ -28,7 +28,7 @@ returns-in-Ok-clause-explained g c =
     let ended = c.end.ensures in
     let P : ℕ → Type 0 = λ k. Calls (g.S.Shared.passes x2 x3) (g.S.Shared.serves x2) k End in
     let last : Calls (g.S.Shared.passes x2 x3) (g.S.Shared.serves x2) cpu End = subst P c.make_steps-outcome.ensures.number ended.ended in
-    let Q : List MapShape → Type 0 = λ h. MakesSteps h c.args.program.now c.args.budget c.args.self.now made.0 c.make_steps-outcome.result c.make_steps-outcome.new.self in (
+    let Q : Shape → Type 0 = λ h. MakesSteps h c.args.program.now c.args.budget c.args.self.now made.0 c.make_steps-outcome.result c.make_steps-outcome.new.self in (
       Begin ∷ (made.0 ++ End ∷ []),
       chain_call g.S.Shared.passes g.S.Shared.serves cpu g.met.S.Shared.follows x0 x2 x3 (Begin ∷ made.0) End c.requires.serves both last ended.same.1,
       inl (made.0, c.make_steps-outcome.new.self, refl, subst Q begun.same.0 made.2),

@@ -27,5 +27,5 @@ returns-clause-answered c =
     let N : Option (List (ℕ × ℕ)) → Type 0 = λ h. KeepsOn h (unrolled c.args.runs.now) k in
     let last = string_bytes c.take_runs.new.out in
     let P : SessionState → Type 0 = λ s. Leaves s (Steps c.args.runs.now) last (record { machine = n; first = first_of m.origin n.programs; names = names; breaks = m.breakpoints.items; watch = option_map watched m.watch; course = k }) in
-    let H : SessionState → Type 0 = λ s. are_cpus (length s.machine.store.runs) c.args.runs.now ≡ true in
+    let H : SessionState → Type 0 = λ s. are_cpus (length s.machine.store.maps.runs) c.args.runs.now ≡ true in
     subst P c.self.view_is (stepped_runs m.machine m.origin names m.breakpoints.items (option_map watched m.watch) m.course n k c.args.runs.now (string_bytes c.in_ok-out.out) t.0 last (subst H (sym c.self.view_is) c.requires.served) c.in_ok-out.ensures.empty t.1 t.2 (subst N c.reserve.ensures c.add_runs.ensures) c.take_runs.ensures.same)

@@ -6,7 +6,7 @@ use Rattle.bpf_file.proofs.draft.Draft.finish.Goals as goal
 pub returns-clause-fits : goal.returns-clause-fits
 returns-clause-fits c =
     runnable (record {
-      shape = c.in-Ok.shape;
+      shape = c.in-Ok-with_arrays.shape;
       programs = c.args.self.programs;
       jobs = c.args.self.jobs;
-    }) (part_of c.args.self).file (search rules) (search rules) refl refl c.requires.runs
+    }) (part_of c.args.self).file (search rules) (search rules) (search rules) refl refl c.requires.runs

@@ -1,5 +1,6 @@
 use Rattle.std.proofs.Common.{ℕ, Bool, Some, length, refl, sym, ap, subst, ◌∙◌, arith}
 use Rattle.std.specs.Prelude.{slice_set}
+use Rattle.bpf_shared.specs.Shape.{Shape}
 use Rattle.bpf_plain.specs.PlainStore.{shapes_of}
 use Rattle.std.proofs.lemmas.List.{length-set}
 use Rattle.bpf_shared.specs.declared.events.Event.TheVariants.{Begin}
@@ -84,7 +85,7 @@ invariant_of-self c =
       begun_board m.store m.programs.items m.jobs.items m.lanes.items c.self.invariant.0 c.args.cpu c.args.job next _ c.index_mut-listed.ensures.value _ c.index_mut-lane.ensures.value c.replace.new.dest c.replace.ensures.after
           c.in-Waiting.context (sym c.replace.ensures.value ∙ c.in-Waiting.is) c.new-start.result c.new-start.ensures _ c.deref.ensures.value c.first_job-lane.result c.first_job-lane.ensures
           c.begin.new.self c.in-Ok.ensures.same.1 c.in-Ok.ensures.running c.in-Ok.ensures.held _ c.index.ensures c.starts.ensures,
-      still_fit (shapes_of m.store) (shapes_of c.begin.new.self) m.jobs.items c.args.job e e' m.keys m.lists.items c.in-Ok.ensures.same.0 entry refl c.self.invariant.1,
+      still_fit (shapes_of m.store) (shapes_of c.begin.new.self) m.jobs.items c.args.job e e' m.keys m.lists.items (ap (λ (h : Shape). h.maps) c.in-Ok.ensures.same.0) entry refl c.self.invariant.1,
     )
 
 pub returns-clause-begins : goal.returns-clause-begins

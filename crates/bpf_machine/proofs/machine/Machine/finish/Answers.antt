@@ -1,4 +1,5 @@
 use Rattle.std.proofs.Common.{◌≡◌, ℕ, refl, sym, ap, subst, ◌∙◌, Bool, true, false, arith}
+use Rattle.bpf_shared.specs.Shape.{Shape}
 use Rattle.bpf_shared.specs.Store.{put}
 use Rattle.bpf_shared.specs.declared.events.Span.{Span}
 use Rattle.bpf_plain.specs.PlainStore.{has_cpu, is_running, held_spans, shapes_of}
@@ -83,7 +84,7 @@ invariant_of-self c =
     let end : Listed = record { cpu = e.cpu; program = e.program; budget = e.budget; phase = Ended c.finish-outcome.result } in (
       ended_board m.store m.programs.items m.jobs.items m.lanes.items c.self.invariant.0 c.args.cpu c.args.job has _ c.index_mut-lane.ensures.value _ c.in-Some.is _ c.index_mut-listed.ensures.value _ c.index.ensures c.finish-outcome.result _ c.put_down.ensures c.end.new.self (c.end.ensures.same.1 ∙ c.finish-outcome.ensures.serves) (c.end.ensures.running ∙ ap (λ (f : ℕ → Bool). put f c.args.cpu false) c.finish-outcome.ensures.keeps.runs)
           (λ d ne. ap (λ (f : ℕ → Span → Bool). f d) c.end.ensures.held ∙ others_without (held_spans c.finish-outcome.new.store) c.args.cpu d ne ∙ c.finish-outcome.ensures.keeps.others d (λ q. ne (q ∙ number m.store m.programs.items m.jobs.items m.lanes.items c.self.invariant.0 c.args.cpu c.args.job has _ c.index_mut-lane.ensures.value _ c.in-Some.is))),
-      still_fit (shapes_of m.store) (shapes_of c.end.new.self) m.jobs.items c.args.job e end m.keys m.lists.items (c.end.ensures.same.0 ∙ c.finish-outcome.ensures.keeps.shape) (listed m.store m.programs.items m.jobs.items m.lanes.items c.self.invariant.0 c.args.cpu c.args.job has _ c.index_mut-lane.ensures.value _ c.in-Some.is e c.index_mut-listed.ensures.value) refl c.self.invariant.1,
+      still_fit (shapes_of m.store) (shapes_of c.end.new.self) m.jobs.items c.args.job e end m.keys m.lists.items (ap (λ (h : Shape). h.maps) (c.end.ensures.same.0 ∙ c.finish-outcome.ensures.keeps.shape)) (listed m.store m.programs.items m.jobs.items m.lanes.items c.self.invariant.0 c.args.cpu c.args.job has _ c.index_mut-lane.ensures.value _ c.in-Some.is e c.index_mut-listed.ensures.value) refl c.self.invariant.1,
     )
 
 pub list_at_end-requires-clause-job : goal.list_at_end-requires-clause-job

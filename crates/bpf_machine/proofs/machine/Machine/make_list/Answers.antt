@@ -5,6 +5,7 @@ use Rattle.std.proofs.lemmas.List.{length-map}
 use Rattle.bpf_base.proofs.Lists.{filled}
 use Rattle.bpf_shared.specs.declared.shapes.MapShape.{MapShape}
 use Rattle.bpf_shared.specs.KeyOrder.{Listed}
+use Rattle.bpf_shared.specs.Shape.{Shape}
 use Rattle.bpf_plain.specs.PlainStore.{shapes_of}
 use Rattle.bpf_machine.specs.declared.machine.listing.KeyLists.{KeyLists}
 use Rattle.bpf_machine.specs.Machine.{MachineState}
@@ -48,7 +49,7 @@ invariant_of-self c =
     let long : length new ≡ vec_len l.maps = omega (arith, l.maps.ok.0, length-map new (λ (x : Listed). x.shape), length-map l.maps.items (λ (x : Listed). x.shape), ap (length {A = MapShape}) c.list_all.ensures.lists.shapes_are, ap (length {A = MapShape}) are.shapes_are) in
     let items : l'.maps.items ≡ new = filled (vec_len l.maps) new l.maps.items long in (
       same_board m.store c.list_all.new.store m.programs.items m.jobs.items m.lanes.items c.list_all.ensures.same.0 c.list_all.ensures.same.1 c.list_all.ensures.same.2 c.self.invariant.0,
-      still_fit m.store m.programs.items m.jobs.items m.lanes.items c.self.invariant.0 c.args.cpu has m.keys m.lists.items asked c.self.invariant.1 l c.index_mut-lists.ensures.value l' refl c.list_all.new.store c.list_all.ensures.shapes (subst (AreListsOf (shapes_of m.store)) (sym items) c.list_all.ensures.lists),
+      still_fit m.store m.programs.items m.jobs.items m.lanes.items c.self.invariant.0 c.args.cpu has m.keys m.lists.items asked c.self.invariant.1 l c.index_mut-lists.ensures.value l' refl c.list_all.new.store (ap (λ (h : Shape). h.maps) c.list_all.ensures.shape) (subst (AreListsOf (shapes_of m.store)) (sym items) c.list_all.ensures.lists),
     )
 
 pub returns-clause-lists : goal.returns-clause-lists
@@ -62,7 +63,7 @@ returns-clause-lists c =
     let are = are_lists m.store m.programs.items m.jobs.items m.lanes.items c.self.invariant.0 c.args.cpu has m.keys m.lists.items asked c.self.invariant.1 l c.index_mut-lists.ensures.value in
     let long : length new ≡ vec_len l.maps = omega (arith, l.maps.ok.0, length-map new (λ (x : Listed). x.shape), length-map l.maps.items (λ (x : Listed). x.shape), ap (length {A = MapShape}) c.list_all.ensures.lists.shapes_are, ap (length {A = MapShape}) are.shapes_are) in
     let items : l'.maps.items ≡ new = filled (vec_len l.maps) new l.maps.items long in
-    shows_listed m.store m.programs.items m.jobs.items m.lanes.items c.self.invariant.0 c.args.cpu has m.keys m.lists.items asked c.self.invariant.1 l c.index_mut-lists.ensures.value l' refl c.list_all.new.store c.list_all.ensures.shapes (subst (AreListsOf (shapes_of m.store)) (sym items) c.list_all.ensures.lists)
+    shows_listed m.store m.programs.items m.jobs.items m.lanes.items c.self.invariant.0 c.args.cpu has m.keys m.lists.items asked c.self.invariant.1 l c.index_mut-lists.ensures.value l' refl c.list_all.new.store (ap (λ (h : Shape). h.maps) c.list_all.ensures.shape) (subst (AreListsOf (shapes_of m.store)) (sym items) c.list_all.ensures.lists)
     (λ s sound stands. (let told = c.list_all.ensures.keys s sound stands in (told.0, ap (map (λ (x : Listed). x.keys)) items ∙ told.1))) c.args.self.now c.self.view_is
 
 pub returns-clause-same : goal.returns-clause-same
@@ -76,6 +77,6 @@ returns-clause-same c =
     subst H c.self.view_is (record {
       programs = refl;
       jobs = refl;
-      shape = (λ n. ap (λ (f : ℕ → Bool). f n) c.list_all.ensures.same.0, c.list_all.ensures.shapes);
+      shape = (λ n. ap (λ (f : ℕ → Bool). f n) c.list_all.ensures.same.0, c.list_all.ensures.shape);
       lists = λ none. some_lists m.keys m.lists.items asked none;
     })

@@ -1,5 +1,6 @@
 use Rattle.std.proofs.Common.{◌≡◌, ℕ, Some, refl, sym, ap, subst, ◌∙◌, Bool, true, false, List, arith}
 use Rattle.std.specs.Prelude.{slice_set}
+use Rattle.bpf_shared.specs.Shape.{Shape}
 use Rattle.bpf_shared.specs.Store.{put}
 use Rattle.bpf_shared.specs.declared.events.Span.{Span}
 use Rattle.bpf_plain.specs.PlainStore.{has_cpu, is_running, held_spans, shapes_of}
@@ -81,7 +82,7 @@ invariant_of-self c =
       kept_board m.store m.programs.items m.jobs.items m.lanes.items c.self.invariant.0 c.args.cpu c.args.job has _ c.index_mut-lane.ensures.value _ c.in-Some.is _ c.index_mut-listed.ensures.value _ c.index.ensures c.advance.new.self c.advance.ensures.same.0 c.advance.ensures.same.1 c.advance.ensures.ready c.advance.new.store c.advance.ensures.serves c.advance.ensures.keeps.runs
           (λ d ne. c.advance.ensures.keeps.others d (λ q. ne (q ∙ number m.store m.programs.items m.jobs.items m.lanes.items c.self.invariant.0 c.args.cpu c.args.job has _ c.index_mut-lane.ensures.value _ c.in-Some.is)))
           (let P : ℕ → Type 0 = λ n. AreHeld (held_spans c.advance.new.store n) c.advance.new.self.cpu.held in subst P (number m.store m.programs.items m.jobs.items m.lanes.items c.self.invariant.0 c.args.cpu c.args.job has _ c.index_mut-lane.ensures.value _ c.in-Some.is) c.advance.ensures.held),
-      still_fit (shapes_of m.store) (shapes_of c.advance.new.store) m.jobs.items c.args.job e e m.keys m.lists.items c.advance.ensures.keeps.shape (listed m.store m.programs.items m.jobs.items m.lanes.items c.self.invariant.0 c.args.cpu c.args.job has _ c.index_mut-lane.ensures.value _ c.in-Some.is e c.index_mut-listed.ensures.value) refl c.self.invariant.1,
+      still_fit (shapes_of m.store) (shapes_of c.advance.new.store) m.jobs.items c.args.job e e m.keys m.lists.items (ap (λ (h : Shape). h.maps) c.advance.ensures.keeps.shape) (listed m.store m.programs.items m.jobs.items m.lanes.items c.self.invariant.0 c.args.cpu c.args.job has _ c.index_mut-lane.ensures.value _ c.in-Some.is e c.index_mut-listed.ensures.value) refl c.self.invariant.1,
     )
 
 pub end-requires-clause-serves : goal.end-requires-clause-serves
@@ -104,7 +105,7 @@ invariant_of-self-in-Some-advance c =
     let end : Listed = record { cpu = e.cpu; program = e.program; budget = e.budget; phase = Ended c.in-Some-advance.outcome } in (
       ended_board m.store m.programs.items m.jobs.items m.lanes.items c.self.invariant.0 c.args.cpu c.args.job has _ c.index_mut-lane.ensures.value _ c.in-Some.is _ c.index_mut-listed.ensures.value _ c.index.ensures c.in-Some-advance.outcome _ c.put_down.ensures c.end.new.self (c.end.ensures.same.1 ∙ c.advance.ensures.serves) (c.end.ensures.running ∙ ap (λ (f : ℕ → Bool). put f c.args.cpu false) c.advance.ensures.keeps.runs)
           (λ d ne. ap (λ (f : ℕ → Span → Bool). f d) c.end.ensures.held ∙ others_without (held_spans c.advance.new.store) c.args.cpu d ne ∙ c.advance.ensures.keeps.others d (λ q. ne (q ∙ number m.store m.programs.items m.jobs.items m.lanes.items c.self.invariant.0 c.args.cpu c.args.job has _ c.index_mut-lane.ensures.value _ c.in-Some.is))),
-      still_fit (shapes_of m.store) (shapes_of c.end.new.self) m.jobs.items c.args.job e end m.keys m.lists.items (c.end.ensures.same.0 ∙ c.advance.ensures.keeps.shape) (listed m.store m.programs.items m.jobs.items m.lanes.items c.self.invariant.0 c.args.cpu c.args.job has _ c.index_mut-lane.ensures.value _ c.in-Some.is e c.index_mut-listed.ensures.value) refl c.self.invariant.1,
+      still_fit (shapes_of m.store) (shapes_of c.end.new.self) m.jobs.items c.args.job e end m.keys m.lists.items (ap (λ (h : Shape). h.maps) (c.end.ensures.same.0 ∙ c.advance.ensures.keeps.shape)) (listed m.store m.programs.items m.jobs.items m.lanes.items c.self.invariant.0 c.args.cpu c.args.job has _ c.index_mut-lane.ensures.value _ c.in-Some.is e c.index_mut-listed.ensures.value) refl c.self.invariant.1,
     )
 
 pub returns-in-None-clause-proceeds : goal.returns-in-None-clause-proceeds

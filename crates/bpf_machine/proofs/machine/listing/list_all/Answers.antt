@@ -1,8 +1,8 @@
-use Rattle.std.proofs.Common.{◌≡◌, ℕ, Bool, List, ap, subst, ◌∙◌, true, arith}
+use Rattle.std.proofs.Common.{◌≡◌, ℕ, Bool, ap, subst, ◌∙◌, true, arith}
 use Rattle.std.specs.Prelude.{slice_get}
 use Rattle.std.specs.FinMap.{keys}
 use Rattle.bpf_shared.specs.declared.events.Event.TheVariants.{Keys}
-use Rattle.bpf_shared.specs.declared.shapes.MapShape.{MapShape}
+use Rattle.bpf_shared.specs.Shape.{Shape}
 use Rattle.bpf_shared.specs.Store.{Plain}
 use Rattle.bpf_plain.specs.PlainStore.{has_cpu, shapes_of, StandsFor}
 use Rattle.bpf_machine.proofs.OwnEvents.{call_leads}
@@ -14,7 +14,7 @@ keys-requires-clause-serves c = ap (λ (f : ℕ → Bool). f c.args.cpu) c.loop-
 
 pub keys-requires-clause-list : goal.keys-requires-clause-list
 keys-requires-clause-list c =
-    ap (λ (hs : List MapShape). slice_get hs c.loop-map.map) c.loop-map.invariant.shapes
+    ap (λ (h : Shape). slice_get h.maps c.loop-map.map) c.loop-map.invariant.shape
     ∙ list_shape (shapes_of c.args.store.now) c.loop-map.lists c.loop-map.map c.index-lists-map.result c.loop-map.invariant.lists.shapes_are (omega arith)
 
 pub loop-map-preserved : goal.loop-map-preserved
@@ -32,7 +32,7 @@ loop-map-preserved c =
             one_more_keys lists m new (λ k. keys (s.maps k)) (omega arith) far.1 one.1.0.2,
           );
       lists = same_maps (shapes_of c.args.store.now) lists m new c.index-lists-map.result before.lists c.keys.ensures.list;
-      shapes = c.keys.ensures.same.0 ∙ before.shapes;
+      shape = c.keys.ensures.same.0 ∙ before.shape;
       serves = c.keys.ensures.same.1 ∙ before.serves;
       runs = c.keys.ensures.same.2 ∙ before.runs;
       held = c.keys.ensures.held ∙ before.held;
@@ -41,4 +41,4 @@ loop-map-preserved c =
 pub returns-clause-keys : goal.returns-clause-keys
 returns-clause-keys c = λ s sound stands.
     let far = c.loop-map.invariant.listed s sound stands in
-    (far.0, all_keys (shapes_of c.args.store.now) c.loop-map.lists s c.loop-map.map c.loop-map.invariant.lists.shapes_are stands.maps (omega arith) far.1)
+    (far.0, all_keys (shapes_of c.args.store.now) c.loop-map.lists s c.loop-map.map c.loop-map.invariant.lists.shapes_are (ap (λ (h : Shape). h.maps) stands.shape) (omega arith) far.1)

@@ -1,23 +1,19 @@
-use Rattle.std.proofs.Common.{◌≡◌, ◌∙◌, List, length, sym, ap, slice_index_or, arith}
-use Rattle.bpf_plain.specs.declared.runs.Runs.{Runs}
-use Rattle.bpf_plain.specs.Private.Rows.{Rows, no_rows}
-use Rattle.bpf_plain.specs.Private.Contents.{Contents, rows}
-use Rattle.bpf_plain.proofs.Alike.{shapes_alike}
-use Rattle.bpf_plain.proofs.SavedAlike.{same_cpus}
+use Rattle.std.proofs.Common.{◌∙◌, List, ℕ, [], length, get_or, sym, ap, arith}
+use Rattle.std.specs.Prelude.{Vec}
+use Rattle.std.specs.declared.alloc.Global.{Global}
+use Rattle.bpf_shared.specs.Contents.{bytes_of_all}
+use Rattle.bpf_plain.specs.Private.Contents.{Contents, shape_of}
+use Rattle.bpf_plain.proofs.Alike.{same_sizes}
+use Rattle.bpf_plain.proofs.Vectors.{count_all}
 use Rattle.bpf_plain.proofs.plain.PlainStore.copy_from.Goals as goal
 
-pub copy_from_slice-requires : goal.copy_from_slice-requires
-copy_from_slice-requires c =
-    let many : length c.self.inside.runs.items ≡ length c.deref.result.now =
-    ap (λ (p : Contents). length p.runs) c.self.view_is
-    ∙ (same_cpus c.args.other.now c.args.self.now c.requires
-    ∙ (ap (λ (p : Contents). length p.runs) (sym c.other.view_is) ∙ ap (λ (rs : List Runs). length rs) (sym c.deref.ensures.value)))
-    in
-    omega (arith, c.self.inside.runs.ok.0, many)
-
-pub copy_tables-requires-clause-shapes : goal.copy_tables-requires-clause-shapes
-copy_tables-requires-clause-shapes c m l =
-    ap (λ (ts : List Rows). (slice_index_or ts m no_rows).shape) c.deref-2.ensures.value
-    ∙ (ap (λ (p : Contents). (rows p m).shape) c.other.view_is
-    ∙ (sym (shapes_alike c.args.other.now c.args.self.now c.requires.1 m)
-    ∙ (ap (λ (p : Contents). (rows p m).shape) (sym c.self.view_is) ∙ ap (λ (ts : List Rows). (slice_index_or ts m no_rows).shape) (sym c.deref_mut.ensures.value))))
+pub copy_arrays-requires-clause-sizes : goal.copy_arrays-requires-clause-sizes
+copy_arrays-requires-clause-sizes c a l =
+    let p : Contents = record { shape = c.self.inside.shape; maps = c.self.inside.maps; arrays = bytes_of_all c.self.inside.arrays.items } in
+    let q : Contents = record { shape = c.other.inside.shape; maps = c.other.inside.maps; arrays = bytes_of_all c.other.inside.arrays.items } in
+    let same = ap shape_of c.self.view_is ∙ (c.requires.1 ∙ ap shape_of (sym c.other.view_is)) in
+    let mine = ap (λ (vs : List (Vec ℕ Global)). length vs) c.deref_mut.ensures.value in
+    let all = count_all c.self.inside.arrays.items in
+    ap (λ (vs : List (Vec ℕ Global)). length (get_or (bytes_of_all vs) a [])) c.deref.ensures.value
+    ∙ (same_sizes p q c.self.invariant c.other.invariant (sym same) a (omega arith)
+    ∙ ap (λ (vs : List (Vec ℕ Global)). length (get_or (bytes_of_all vs) a [])) (sym c.deref_mut.ensures.value))

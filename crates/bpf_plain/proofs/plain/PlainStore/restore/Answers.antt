@@ -1,7 +1,7 @@
 use Rattle.std.proofs.Common.{length, subst, sym, arith}
 use Rattle.std.proofs.lemmas.List.{take_all}
 use Rattle.bpf_plain.specs.Private.Saved.{IsSavedAs}
-use Rattle.bpf_plain.proofs.SavedNormal.{read_or_none}
+use Rattle.bpf_plain.proofs.Restoring.{read_or_none}
 use Rattle.bpf_plain.proofs.plain.PlainStore.restore.Goals as goal
 
 pub returns-clause-ok : goal.returns-clause-ok

@@ -1,11 +1,26 @@
-use Rattle.std.proofs.Common.{refl, sym, subst}
+use Rattle.std.proofs.Common.{true, refl, sym, subst}
 use Rattle.bpf_shared.specs.declared.events.Size.{Size}
 use Rattle.bpf_shared.specs.declared.events.Event.TheVariants.{Store}
 use Rattle.bpf_shared.specs.declared.events.Event.{Event}
+use Rattle.bpf_shared.specs.Access.{bytes_in}
+use Rattle.bpf_shared.specs.Passage.{IsWritable}
 use Rattle.hop_map.specs.Port.{PortDoes}
 use Rattle.hop_map.specs.Noting.{CallNotes}
-use Rattle.hop_cpu.proofs.Calling.{called, same, same_held}
+use Rattle.hop_cpu.specs.Serving.{serves_span}
+use Rattle.hop_cpu.proofs.Calling.{called, is_running, is_writable, same, same_held}
 use Rattle.hop_cpu.proofs.cpu.HopCpuShared.value_store.Goals as goal
+
+pub store_word-requires-clause-place : goal.store_word-requires-clause-place
+store_word-requires-clause-place g c =
+    is_writable c.args.self.now c.self.inside.table.now c.self.inside.port c.self.view_is c.args._cpu c.requires.serves c.args.at.at 8
+    (subst (λ (z : Size). IsWritable c.args.self.now.table.about.shape (serves_span c.args.self.now c.args._cpu) c.args.at.at (bytes_in z)) c.in-Double.is c.requires.place)
+
+pub store_part-requires : goal.store_part-requires
+store_part-requires g c = record {
+  fits = c.self.invariant;
+  in_run = is_running c.args.self.now c.self.inside.table.now c.self.inside.port c.self.view_is c.args._cpu c.requires.serves true c.requires.in_run;
+  place = is_writable c.args.self.now c.self.inside.table.now c.self.inside.port c.self.view_is c.args._cpu c.requires.serves c.args.at.at (bytes_in c.args.size) c.requires.place;
+}
 
 pub returns-in-Double-clause-stored : goal.returns-in-Double-clause-stored
 returns-in-Double-clause-stored g c = called c.args.self.now c.self.inside.table.now c.self.inside.port c.self.view_is c.args._cpu c.requires.serves c.store_word.new.self (Store c.args.at.at c.args.size c.args.word)

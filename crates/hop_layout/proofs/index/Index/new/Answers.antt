@@ -5,7 +5,7 @@ use Rattle.hop_layout.specs.declared.place.Place.TheVariants.{KeyCount}
 use Rattle.hop_layout.specs.Layout.{map_shape, no_map, at}
 use Rattle.hop_layout.specs.Private.Index.{bases, bases_from, end_from, AreBases}
 use Rattle.hop_layout.proofs.Maps.{map_is}
-use Rattle.hop_layout.proofs.Indexes.{at_start, at_end, bases_at, end_at, one_more}
+use Rattle.hop_layout.proofs.Indexes.{at_start, at_first_array, bases_at, end_at, one_more}
 use Rattle.hop_layout.proofs.index.Index.new.Goals as goal
 
 pub loop-shape-init : goal.loop-shape-init
@@ -39,10 +39,16 @@ loop-shape-preserved c =
       (let m = c.lay_out-end.ensures.most in let l = inv.3 in omega arith),
     )
 
+pub lay_out_arrays-requires-clause-first : goal.lay_out_arrays-requires-clause-first
+lay_out_arrays-requires-clause-first c =
+    let n : c.loop-shape.shape-index ≡ length c.args.about.shape.maps = (let z = ap length c.maps-shape-items.ensures.maps in let f = c.loop-shape-test.false in let w = c.loop-shape.auto.shape-index-end in omega arith) in
+    c.loop-shape.invariant.2 ∙ (ap (λ (n : ℕ). at c.args.about.shape (KeyCount n)) n ∙ sym (at_first_array c.args.about.shape))
+
 pub invariant_of-result : goal.invariant_of-result
 invariant_of-result c =
     let n : c.loop-shape.shape-index ≡ length c.args.about.shape.maps = (let z = ap length c.maps-shape-items.ensures.maps in let f = c.loop-shape-test.false in let w = c.loop-shape.auto.shape-index-end in omega arith) in
     record {
       each = subst (λ (n : ℕ). AreBases c.args.about.shape n c.loop-shape.maps.items) n c.loop-shape.invariant.0;
-      whole = c.loop-shape.invariant.2 ∙ (ap (λ (n : ℕ). at c.args.about.shape (KeyCount n)) n ∙ sym (at_end c.args.about.shape));
+      arrays = (c.in_ok-arrays.ensures).starts;
+      whole = (c.in_ok-arrays.ensures).end;
     }

@@ -1,7 +1,7 @@
 use Rattle.std.proofs.Common.{ℕ, ◌+◌, ◌*◌, ap, sym, ◌∙◌}
 use Rattle.hop_layout.specs.declared.index.Bases.{Bases}
 use Rattle.hop_layout.specs.Layout.{at}
-use Rattle.hop_layout.proofs.Indexes.{at_runs, at_bits, at_stamp, at_hop, at_slot, at_link, at_key, at_value}
+use Rattle.hop_layout.proofs.Indexes.{at_runs, at_bits, at_stamp, at_hop, at_slot, at_link, at_key, at_value, at_fixed}
 use Rattle.hop_layout.proofs.index.Index.word_of.Goals as goal
 
 pub returns-in-RunCount : goal.returns-in-RunCount
@@ -24,3 +24,6 @@ returns-in-KeyWord c = record { word = ap (λ (b : Bases). b.keys + c.in-KeyWord
 
 pub returns-in-ValueWord : goal.returns-in-ValueWord
 returns-in-ValueWord c = record { word = ap (λ (b : Bases). b.values + c.in-ValueWord.element * b.value_words + c.in-ValueWord.word) c.bases-bases-in-ValueWord.ensures.bases ∙ (sym (at_value c.args.self.now.shape c.in-ValueWord.map c.in-ValueWord.element c.in-ValueWord.word) ∙ ap (at c.args.self.now.shape) (sym c.in-ValueWord.is)) }
+
+pub returns-in-FixedWord : goal.returns-in-FixedWord
+returns-in-FixedWord c = record { word = ap (λ (n : ℕ). n + c.in-FixedWord.word) c.array.ensures.start ∙ (sym (at_fixed c.args.self.now.shape c.in-FixedWord.array c.in-FixedWord.word) ∙ ap (at c.args.self.now.shape) (sym c.in-FixedWord.is)) }

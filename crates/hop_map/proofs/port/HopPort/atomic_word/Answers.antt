@@ -1,23 +1,23 @@
 use Rattle.std.proofs.Common.{refl}
 use Rattle.bpf_shared.specs.declared.events.Size.TheVariants.{Double}
 use Rattle.bpf_shared.specs.declared.events.Event.TheVariants.{Atomic}
-use Rattle.hop_map.proofs.Taken.{held_there, fits_after, quiet_after, runs_after}
+use Rattle.hop_map.proofs.Taken.{writes_there, fits_after, quiet_after, runs_after}
 use Rattle.hop_map.proofs.port.HopPort.atomic_word.Goals as goal
 
-pub change_word_at-number-requires-clause-held : goal.change_word_at-number-requires-clause-held
-change_word_at-number-requires-clause-held c = held_there c.self.inside c.take.result c.in-Some.lane c.take.ensures.value c.in-Some.is c.args.self.now c.self.view_is c.args.table.now c.requires.fits c.requires.in_run c.args.at.at 8 c.requires.place
+pub change_word-number-requires-clause-place : goal.change_word-number-requires-clause-place
+change_word-number-requires-clause-place c = writes_there c.self.inside c.take.result c.in-Some.lane c.take.ensures.value c.in-Some.is c.args.self.now c.self.view_is c.args.table.now c.requires.fits c.requires.in_run c.args.at.at 8 c.requires.place
 
 pub returns-clause-fits : goal.returns-clause-fits
 returns-clause-fits c =
     fits_after c.self.inside c.take.result c.in-Some.lane c.take.ensures.value c.in-Some.is c.args.self.now c.self.view_is c.args.table.now c.requires.fits c.requires.in_run
-    c.change_word_at-number.new.lane.known (Atomic c.args.at.at Double c.args.op c.args.operand c.args.expected c.change_word_at-number.result) refl c.change_word_at-number.ensures.changed c.change_word_at-number.new.lane.table c.change_word_at-number.ensures.table
+    c.change_word-number.new.lane.known (Atomic c.args.at.at Double c.args.op c.args.operand c.args.expected c.change_word-number.result) refl c.change_word-number.ensures.changed c.change_word-number.new.lane.table c.change_word-number.ensures.table
 
 pub returns-clause-in_run : goal.returns-clause-in_run
 returns-clause-in_run c =
     runs_after c.self.inside c.take.result c.in-Some.lane c.take.ensures.value c.in-Some.is c.args.self.now c.self.view_is c.args.table.now c.requires.fits c.requires.in_run
-    c.change_word_at-number.new.lane.known (Atomic c.args.at.at Double c.args.op c.args.operand c.args.expected c.change_word_at-number.result) refl c.change_word_at-number.ensures.changed
+    c.change_word-number.new.lane.known (Atomic c.args.at.at Double c.args.op c.args.operand c.args.expected c.change_word-number.result) refl c.change_word-number.ensures.changed
 
 pub returns-clause-noted : goal.returns-clause-noted
 returns-clause-noted c =
     quiet_after c.self.inside c.take.result c.in-Some.lane c.take.ensures.value c.in-Some.is c.args.self.now c.self.view_is c.args.table.now c.requires.fits c.requires.in_run
-    c.change_word_at-number.new.lane.known (Atomic c.args.at.at Double c.args.op c.args.operand c.args.expected c.change_word_at-number.result) refl c.change_word_at-number.ensures.changed refl
+    c.change_word-number.new.lane.known (Atomic c.args.at.at Double c.args.op c.args.operand c.args.expected c.change_word-number.result) refl c.change_word-number.ensures.changed refl

@@ -1,6 +1,0 @@
-use Rattle.std.proofs.Common.{◌≡◌, ◌++◌, map, take}
-use Rattle.bpf_plain.specs.Private.Saved.{is_in_run}
-use Rattle.bpf_plain.proofs.plain.PlainStore.push_runs.Given as goal
-
-abbrev pub invariant-loop-run : goal.invariant-loop-run
-invariant-loop-run l = l.out.items ≡ l.fn.out.items ++ map is_in_run (take l.run-index l.self.runs)

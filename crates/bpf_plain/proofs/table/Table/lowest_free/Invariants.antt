@@ -1,9 +1,0 @@
-use Rattle.std.proofs.Common.{ℕ, ◌-◌, ◌<◌, length}
-use Rattle.bpf_plain.specs.Private.Rows.{IsTakenRow}
-use Rattle.bpf_plain.proofs.table.Table.lowest_free.Given as goal
-
-abbrev pub invariant-loop-element : goal.invariant-loop-element
-invariant-loop-element l = (i : ℕ) → i < l.element → IsTakenRow l.runs l.self i
-
-abbrev pub decreases-loop-element : goal.decreases-loop-element
-decreases-loop-element l = length l.self.linked - l.element

@@ -1,6 +1,0 @@
-use Rattle.std.proofs.Common.{◌≡◌, ◌++◌}
-use Rattle.bpf_plain.specs.Private.Saved.{all_below, block_of}
-use Rattle.bpf_plain.proofs.table.Table.push_blocks.Given as goal
-
-abbrev pub invariant-loop-element : goal.invariant-loop-element
-invariant-loop-element l = l.out.items ≡ l.fn.out.items ++ all_below (block_of l.runs l.self) l.element

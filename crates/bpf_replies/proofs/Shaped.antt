@@ -1,0 +1,139 @@
+-- Every file that a text says has a shape that a store may have.
+use Rattle.std.proofs.Common.{◌≡◌, ℕ, ◌+◌, ◌/◌, ◌≤◌, ◌==◌, nat_lt, Bool, true, false, if◌then◌else◌, List, [], ◌∷◌, length, Option, Some, None, Result, Ok, Err, sym, subst, arith}
+use Rattle.std.proofs.lemmas.Bool.Decides.{nat_tests}
+use Rattle.std.specs.Prelude.{MatchResult}
+use Rattle.hex.specs.Hex.{decode_of}
+use Rattle.hex.specs.declared.error.FromHexError.{FromHexError}
+use Rattle.bpf_shared.specs.Shape.{IsShape}
+use Rattle.bpf_shared.proofs.Refusing.{outside_false, maps_in_range, arrays_in_range}
+use Rattle.bpf_lines.specs.Lines.{lines_of, fields_of}
+use Rattle.bpf_loader.specs.Loaded.{Loaded}
+use Rattle.bpf_file.specs.declared.error.FileError.{FileError}
+use Rattle.bpf_file.specs.declared.error.FileError.TheVariants.{Refused}
+use Rattle.bpf_file.specs.declared.error.Reason.{Reason}
+use Rattle.bpf_file.specs.declared.error.Reason.TheVariants as reason
+use Rattle.bpf_file.specs.Form.{is_there}
+use Rattle.bpf_file.specs.Statement.{Said, Version, Cpus, Seed, Map, Array, Data, Program, Words, Job, statement_of}
+use Rattle.bpf_file.specs.File.{File, shape_of}
+use Rattle.bpf_file.specs.Parts.{Part, State, Between, Within, nothing, place_of, array_place, with_cpus, with_map, with_array}
+use Rattle.bpf_file.specs.Programs.{text_of_lines}
+use Rattle.bpf_file.specs.Rows.{unless, cpus_refusal, map_refusal, array_refusal, data_refusal, data_laid, or_refused, data_added, program_added, WordsAdd, served, steps_of, context_of, job_added, placed, AddsLine}
+use Rattle.bpf_file.specs.Reading.{AddsOrRefuses, FieldsSay, is_end, Belongs, ReadsLine, finished, AreRead, IsRunFile}
+use Rattle.bpf_file.specs.Private.Fits.{IsFit, IsFitState, IsFitResult}
+use Rattle.bpf_file.proofs.Fits.{fit_nothing, line_fits, opening_fits, section_fits}
+
+-- ---- only the first line of a program's assembly opens it
+
+-- no program is open
+abbrev IsClosed : Result State FileError → Type 0
+IsClosed (Ok (Between p)) = Unit {0}
+IsClosed (Ok (Within p from name lines)) = ⊥
+IsClosed (Err e) = Unit {0}
+
+unless_closed : (n : ℕ) (o : Option Reason) (p : Part) → IsClosed (unless n o p)
+unless_closed n None p = tt
+unless_closed n (Some why) p = tt
+
+laid_closed : (n : ℕ) (p : Part) (a at : ℕ) (d : Result (List ℕ) FromHexError) → IsClosed (data_laid n p a at d)
+laid_closed n p a at (Ok bytes) = tt
+laid_closed n p a at (Err e) = tt
+
+or_closed : (n : ℕ) (o : Option Reason) (r : Result State FileError) → IsClosed r → IsClosed (or_refused n o r)
+or_closed n None r h = h
+or_closed n (Some why) r h = tt
+
+data_closed : (n : ℕ) (p : Part) (k : Option ℕ) (at : ℕ) (digits : List ℕ) → IsClosed (data_added n p k at digits)
+data_closed n p (Some a) at digits =
+    or_closed n (data_refusal p.file a (at + length digits / 2)) (data_laid n p a at (decode_of digits)) (laid_closed n p a at (decode_of digits))
+data_closed n p None at digits = tt
+
+program_closed : (p : Part) (name : List ℕ) (o : Result Loaded FileError) → IsClosed (program_added p name o)
+program_closed p name (Ok program) = tt
+program_closed p name (Err e) = tt
+
+words_closed : (k : Option ℕ) (n : ℕ) (p : Part) (name digits : List ℕ) (r : Result State FileError) → WordsAdd k n p name digits r → IsClosed r
+words_closed (Some k) n p name digits r e = subst IsClosed (sym e) tt
+words_closed None n p name digits r (o, of, e) = subst IsClosed (sym e) (program_closed p name o)
+
+job_closed : (n : ℕ) (p : Part) (cpu program : Option ℕ) (steps : ℕ) (context : Result (List ℕ) FromHexError) → IsClosed (job_added n p cpu program steps context)
+job_closed n p (Some c) (Some k) steps (Ok bytes) = tt
+job_closed n p (Some c) (Some k) steps (Err e) = tt
+job_closed n p (Some c) None steps context = tt
+job_closed n p None k steps context = tt
+
+module _ (n : ℕ) (p q : Part) (from : ℕ) (name : List ℕ) (lines : List (List ℕ)) where
+  never : (r : Result State FileError) → Ok (Within q from name lines) ≡ r → IsClosed r → ⊥
+  never r e h = subst IsClosed (sym e) h
+
+  opened : (b : Bool) (title : List ℕ) → Ok (Within q from name lines) ≡ (if b then Err (Refused n reason.TwiceName) else Ok (Within p n title []))
+      → Ok (Within q n name []) ≡ (if b then Err (Refused n reason.TwiceName) else Ok (Within p n title []))
+  opened true title e = cc
+  opened false title e = cc
+
+  adds_first : (s : Said) → AddsLine n p s (Ok (Within q from name lines)) → AddsLine n p s (Ok (Within q n name []))
+  adds_first (Version version) e = cc
+  adds_first (Cpus c) e = absurd (never (unless n (cpus_refusal c) (with_cpus p c)) e (unless_closed n (cpus_refusal c) (with_cpus p c)))
+  adds_first (Seed s) e = cc
+  adds_first (Map title h) e = absurd (never (unless n (map_refusal p title h) (with_map p title h)) e (unless_closed n (map_refusal p title h) (with_map p title h)))
+  adds_first (Array title g) e = absurd (never (unless n (array_refusal p title g) (with_array p title g)) e (unless_closed n (array_refusal p title g) (with_array p title g)))
+  adds_first (Data title at digits) e = absurd (never (data_added n p (array_place p.file title) at digits) e (data_closed n p (array_place p.file title) at digits))
+  adds_first (Program title) e = opened (is_there (place_of title p.titles)) title e
+  adds_first (Words title digits) w = absurd (words_closed (place_of title p.titles) n p title digits (Ok (Within q from name lines)) w)
+  adds_first (Job cpu title steps context) e =
+      absurd (never (job_added n p (served p.file.cpus cpu) (place_of title p.titles) (steps_of steps) (context_of context)) e
+      (job_closed n p (served p.file.cpus cpu) (place_of title p.titles) (steps_of steps) (context_of context)))
+
+  says_first : (w : Result Said Reason) → AddsOrRefuses n p w (Ok (Within q from name lines)) → AddsOrRefuses n p w (Ok (Within q n name []))
+  says_first (Ok s) a = adds_first s a
+  says_first (Err why) e = cc
+
+  fields_first : (fs : List (List ℕ)) → FieldsSay n p fs (Ok (Within q from name lines)) → FieldsSay n p fs (Ok (Within q n name []))
+  fields_first [] e = cc
+  fields_first (g ∷ gs) a = says_first (placed p g (statement_of p.version (g ∷ gs))) a
+
+-- ---- every line keeps to the sizes
+belongs_fit : (end : Bool) (p : Part) (from : ℕ) (name : List ℕ) (ls : List (List ℕ)) (l : List ℕ) (t : State) → Belongs end p from name ls l (Ok t) → IsFit p → p.file.jobs ≡ [] → IsFitState t
+belongs_fit true p from name ls l (Between q) a f j = section_fits from p q name (text_of_lines ls) a (f, j)
+belongs_fit true p from name ls l (Within q m title lines) (o, of, e) f j = absurd (subst IsClosed (sym e) (program_closed p name o))
+belongs_fit false p from name ls l t e f j = subst IsFitResult (sym e) (f, j)
+
+reads_fit : (n : ℕ) (s t : State) (l : List ℕ) → ReadsLine n s l (Ok t) → IsFitState s → IsFitState t
+reads_fit n (Between p) (Between q) l a f = line_fits n p q (fields_of l) a f
+reads_fit n (Between p) (Within q from name lines) l a f = opening_fits n p q (fields_of l) name (fields_first n p q from name lines (fields_of l) a) f
+reads_fit n (Within p from name ls) t l a (f, j) = belongs_fit (is_end l) p from name ls l t a f j
+
+-- ---- so the whole file does
+at_most : (n most : ℕ) → nat_lt most n ≡ false → n ≤ most
+at_most n most e = grind (arith, nat_tests)
+
+part_shaped : (p : Part) → IsFit p → IsShape (shape_of p.file)
+part_shaped p f = record {
+  cpus = outside_false 1 16 p.file.cpus f.cpus;
+  count = at_most (length p.file.maps) 16 f.count;
+  each = maps_in_range 0 p.file.maps f.maps;
+  array_count = at_most (length p.file.arrays) 16 f.array_count;
+  arrays = λ a g there. arrays_in_range p.file.cpus p.file.contents 0 p.file.arrays f.arrays a a g (omega arith) there;
+}
+
+finished_shaped : (s : State) (f : File) → Ok f ≡ finished s → IsFitState s → IsShape (shape_of f)
+finished_shaped (Within p from name ls) f e h = cc
+finished_shaped (Between p) f e h = by_test (p.group == 0) e
+  where
+    by_test : (b : Bool) → Ok f ≡ (if b then Err (Refused 1 reason.BadFirstLine) else Ok p.file) → IsShape (shape_of f)
+    by_test true e = cc
+    by_test false e = let same : p.file ≡ f = cc in subst (λ (g : File). IsShape (shape_of g)) same (part_shaped p h)
+
+abbrev Follow : ℕ → List (List ℕ) → File → Result State FileError → Type 0
+Follow n ls f t = MatchResult t (λ u. AreRead (n + 1) u ls (Ok f)) (λ e. Ok f ≡ Err e)
+
+then_shaped : (n : ℕ) (s : State) (l : List ℕ) (ls : List (List ℕ)) (f : File) (t : Result State FileError) → ReadsLine n s l t → Follow n ls f t → IsFitState s
+    → ((u : State) → AreRead (n + 1) u ls (Ok f) → IsFitState u → IsShape (shape_of f)) → IsShape (shape_of f)
+then_shaped n s l ls f (Ok u) r m h more = more u m (reads_fit n s u l r h)
+then_shaped n s l ls f (Err e) r m h more = cc
+
+all_shaped : (ls : List (List ℕ)) (n : ℕ) (s : State) (f : File) → AreRead n s ls (Ok f) → IsFitState s → IsShape (shape_of f)
+all_shaped [] n s f e h = finished_shaped s f e h
+all_shaped (l ∷ ls) n s f (t, r, m) h = then_shaped n s l ls f t r m h (λ u a k. all_shaped ls (n + 1) u f a k)
+
+pub shaped : (text : List ℕ) (f : File) → IsRunFile text (Ok f) → IsShape (shape_of f)
+shaped text f r = all_shaped (lines_of text) 1 (Between nothing) f r fit_nothing

@@ -1,8 +1,0 @@
-use Rattle.std.specs.Prelude.{map, string_bytes}
-use Rattle.bpf_shared.specs.Store.{Plain}
-use Rattle.bpf_jobs.specs.Printed.{AreMapLines}
-use Rattle.hop_map.specs.Dumping.{IsLast}
-use Rattle.bpf_workers.proofs.telling.list_maps.Given as goal
-
-abbrev pub invariant-loop-map : goal.invariant-loop-map
-invariant-loop-map l = (last : Plain) → IsLast l.closed last → AreMapLines last (map string_bytes l.names) l.map (string_bytes l.text)

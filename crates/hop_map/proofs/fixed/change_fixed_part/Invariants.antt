@@ -1,0 +1,5 @@
+use Rattle.std.specs.Prelude.{◌≡◌}
+use Rattle.hop_map.proofs.fixed.change_fixed_part.Given as goal
+
+abbrev pub invariant-tries : goal.invariant-tries
+invariant-tries g l = l.lane ≡ l.fn.lane

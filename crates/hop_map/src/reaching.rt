@@ -1,0 +1,127 @@
+//! Accesses to values, by their addresses: those of fixed values follow those of held ones.
+ghost use Rattle.std.specs.Prelude.{◌≡◌, ◌<◌, ◌≤◌};
+ghost use Rattle.bpf_base.specs.Bytes.{modulus};
+ghost use Rattle.bpf_shared.specs.Access.{bytes_in};
+ghost use Rattle.bpf_shared.specs.declared.events.Event.TheVariants.{Load, Store, Atomic};
+ghost use Rattle.bpf_shared.specs.declared.events.Size.TheVariants.{Double};
+ghost use Rattle.hop_words.specs.Kinds.{AddsEvent};
+ghost use Rattle.hop_map.specs.Private.Accesses.{MayLoadAt, MayChangeAt};
+
+use crate::accessing::{change_part_at, change_word_at, load_at, store_part_at, store_word_at};
+use crate::fixed::{
+    change_fixed_part, change_fixed_word, load_fixed, store_fixed_part, store_fixed_word,
+};
+use bpf_shared::{AtomicOp, FIRST_ARRAY, FIRST_VALUE, MAP_AREA, Size, ValuePlace};
+use hop_words::{HopTable, Lane};
+use std::sync::Wait;
+
+/// Where the first array's values begin: maps' values are at lower addresses.
+const FIRST_FIXED: u64 = FIRST_VALUE + MAP_AREA * FIRST_ARRAY;
+
+/// The number that the bytes read as.
+#[inline(always)]
+pub(crate) fn load(table: &HopTable, lane: &mut Lane, at: ValuePlace, size: Size) -> u64
+    requires table { lane.old.table ≡ table.now.id }
+    requires place { MayLoadAt table.now.about lane.old.known at.at (bytes_in size) }
+    ensures table { lane.new.table ≡ lane.old.table }
+    ensures loaded { AddsEvent table.now.about lane.old.known (Load at.at size result) lane.new.known }
+    ensures small { result < modulus (bytes_in size) }
+{
+    if at.at < FIRST_FIXED {
+        load_at(table, lane, at, size)
+    } else {
+        let _cpus = table.about().shape.cpus();
+        load_fixed(table, lane, at, size)
+    }
+}
+
+/// The eight bytes become the word.
+#[inline(always)]
+pub(crate) fn store_word(table: &HopTable, lane: &mut Lane, at: ValuePlace, word: u64)
+    requires table { lane.old.table ≡ table.now.id }
+    requires place { MayChangeAt table.now.about lane.old.known at.at 8 }
+    ensures table { lane.new.table ≡ lane.old.table }
+    ensures stored { AddsEvent table.now.about lane.old.known (Store at.at Double word) lane.new.known }
+{
+    if at.at < FIRST_FIXED {
+        store_word_at(table, lane, at, word);
+    } else {
+        let _cpus = table.about().shape.cpus();
+        store_fixed_word(table, lane, at, word);
+    }
+}
+
+/// The bytes become the low ones of the word.
+#[inline(always)]
+pub(crate) fn store_part<R: Wait>(
+    rt: &R,
+    table: &HopTable,
+    lane: &mut Lane,
+    at: ValuePlace,
+    size: Size,
+    word: u64,
+)
+    requires table { lane.old.table ≡ table.now.id }
+    requires place { MayChangeAt table.now.about lane.old.known at.at (bytes_in size) }
+    ensures table { lane.new.table ≡ lane.old.table }
+    ensures stored { AddsEvent table.now.about lane.old.known (Store at.at size word) lane.new.known }
+{
+    if at.at < FIRST_FIXED {
+        store_part_at(rt, table, lane, at, size, word);
+    } else {
+        let _cpus = table.about().shape.cpus();
+        store_fixed_part(rt, table, lane, at, size, word);
+    }
+}
+
+/// An atomic operation on the eight bytes, and the number that stood there before.
+#[inline(always)]
+pub(crate) fn change_word(
+    table: &HopTable,
+    lane: &mut Lane,
+    at: ValuePlace,
+    op: AtomicOp,
+    operand: u64,
+    expected: u64,
+) -> u64
+    requires table { lane.old.table ≡ table.now.id }
+    requires place { MayChangeAt table.now.about lane.old.known at.at 8 }
+    ensures table { lane.new.table ≡ lane.old.table }
+    ensures changed { AddsEvent table.now.about lane.old.known
+        (Atomic at.at Double op operand expected result) lane.new.known }
+{
+    if at.at < FIRST_FIXED {
+        change_word_at(table, lane, at, op, operand, expected)
+    } else {
+        let _cpus = table.about().shape.cpus();
+        change_fixed_word(table, lane, at, op, operand, expected)
+    }
+}
+
+/// An atomic operation on the bytes, and the number that stood there before.
+#[inline(always)]
+pub(crate) fn change_part<R: Wait>(
+    rt: &R,
+    table: &HopTable,
+    lane: &mut Lane,
+    at: ValuePlace,
+    size: Size,
+    op: AtomicOp,
+    operand: u64,
+    expected: u64,
+) -> u64
+    requires table { lane.old.table ≡ table.now.id }
+    requires place { MayChangeAt table.now.about lane.old.known at.at (bytes_in size) }
+    requires wide { 4 ≤ bytes_in size }
+    ensures table { lane.new.table ≡ lane.old.table }
+    ensures changed { AddsEvent table.now.about lane.old.known
+        (Atomic at.at size op operand expected result) lane.new.known }
+    ensures small { result < modulus (bytes_in size) }
+{
+    if at.at < FIRST_FIXED {
+        change_part_at(rt, table, lane, at, size, op, operand, expected)
+    } else {
+        let _cpus = table.about().shape.cpus();
+        change_fixed_part(rt, table, lane, at, size, op, operand, expected)
+    }
+}
