@@ -3,8 +3,7 @@
 use std::alloc::AllocError;
 
 /// What is known of an error that a helper answers.
-const ERRORS: [(u64, &str, &str); 7] = [
-    (1, "EPERM", "an update of a frozen array"),
+const ERRORS: [(u64, &str, &str); 6] = [
     (
         2,
         "ENOENT",

@@ -2,7 +2,7 @@
 
 ghost use Rattle.std.specs.Prelude.{◌≡◌, IfOk, map, string_bytes};
 ghost use Rattle.bpf_file.specs.File.{file_of};
-ghost use Rattle.bpf_cpu.specs.Setup.{IsRunnable};
+ghost use Rattle.bpf_cpu.specs.Setup.{IsRunnable, named_in};
 ghost use Rattle.bpf_jobs.specs.Printed.{first_of};
 ghost use Rattle.bpf_races.specs.Races.{AreRaces};
 ghost use Rattle.bpf_replies.specs.Answer.{Replies};
@@ -17,6 +17,7 @@ use bpf_races::{Part, Races, find_races, find_races_patiently, list_races, synce
 use bpf_replies::refusal::Refusal;
 use bpf_replies::reply::Reply;
 use bpf_replies::running::file_in;
+use bpf_shared::StoreShape;
 use std::alloc::{AllocError, Global};
 
 /// What is printed of races.
@@ -33,6 +34,16 @@ fn is_any_race(races: &Races) -> bool
     ensures { result ≡ is_any_race races.now.list.items }
 {
     !races.list.is_empty()
+}
+
+/// How many maps and arrays a store of this shape has.
+fn named_of(shape: &StoreShape) -> Named
+    ensures { result ≡ named_in shape.now }
+{
+    Named {
+        maps: shape.maps().len(),
+        arrays: shape.arrays().len(),
+    }
 }
 
 /// The races of jobs, by either search.
@@ -68,10 +79,7 @@ fn tell_races<O: Observer>(
         sync.now (string_bytes told.text) told.raced told.all) }
 {
     let RunFile { setup, names, .. } = file;
-    let named = Named {
-        maps: setup.shape.maps().len(),
-        arrays: setup.shape.arrays().len(),
-    };
+    let named = named_of(&setup.shape);
     let races = races_of(alloc, options, setup, sync, observer)?;
     let text = list_races(alloc, named, &names, sync, &races)?;
     let raced = is_any_race(&races);

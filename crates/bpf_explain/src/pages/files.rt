@@ -5,7 +5,7 @@ use bpf_codes::Code;
 
 pub const L1: Page = Page {
     code: Code::L1,
-    meaning: "the first line of the run file is neither `ebpf-run 1` nor `ebpf-run 2`",
+    meaning: "the first line of the run file is none of `ebpf-run 1`, `ebpf-run 2` and `ebpf-run 3`",
     example: Some(Example {
         command: "printf 'cpus 2\\n' | ebpf run",
         printed: "refused line 1 L1",
@@ -23,10 +23,11 @@ pub const L2: Page = Page {
         printed: "refused line 3 L2",
     }),
     advice: "\
-The order is: `ebpf-run 1`, `cpus`, `seed`, maps, programs, jobs; each but the
-first may be missing. Names have at most 32 characters, contexts at most 4,096
-bytes; there are at most 256 programs and 4,096 jobs. A map may end with `grow`
-only where the first line is `ebpf-run 2`.
+The order is: `ebpf-run 1`, `cpus`, `seed`, maps, arrays, their `data`,
+programs, jobs; each but the first may be missing. Names have at most 32
+characters, contexts at most 4,096 bytes; there are at most 256 programs and
+4,096 jobs. A map may end with `grow` only where the first line is `ebpf-run 2`
+or `ebpf-run 3`, and only after `ebpf-run 3` are there arrays.
 docs/reference/run-files.md has every form.",
 };
 
@@ -44,19 +45,19 @@ is at most 1,000,000,000.",
 
 pub const L4: Page = Page {
     code: Code::L4,
-    meaning: "a map or a program of this name was given before",
+    meaning: "a map, an array or a program of this name was given before",
     example: Some(Example {
         command: "printf 'ebpf-run 1\\nprog a hex 9500000000000000\\nprog a hex \
             9500000000000000\\n' | ebpf run",
         printed: "refused line 3 L4",
     }),
     advice: "\
-A map and a program may have one name.",
+A program may have the name of a map or an array.",
 };
 
 pub const L5: Page = Page {
     code: Code::L5,
-    meaning: "the job's CPU or its program isn't there",
+    meaning: "the job's CPU or its program, or the array that gets data, isn't there",
     example: Some(Example {
         command: "printf 'ebpf-run 1\\nprog a hex 9500000000000000\\njob 1 a\\n' | ebpf run",
         printed: "refused line 3 L5",
