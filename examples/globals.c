@@ -1,0 +1,17 @@
+// Two CPUs add to two global variables: to `plain` by a load, an addition and a store, so that one of the additions
+// may be lost, and to `safe` by one atomic instruction. How much they add is a constant that a loader could set.
+// globals.run is made of it by tools/from-elf.
+#include <linux/bpf.h>
+#include <bpf/bpf_helpers.h>
+
+const volatile __u64 by = 10;
+volatile __u64 plain;
+__u64 safe;
+
+SEC("socket")
+int add(void *context)
+{
+    plain += by;
+    __sync_fetch_and_add(&safe, by);
+    return 0;
+}
