@@ -1,5 +1,6 @@
 """Litmus tests: what CPUs do to shared values, as abstract operations, the outcomes that an order of
-all operations can have, and a run file that does the same.
+all operations can have, and two run files that do the same: over values of a map, which CPUs insert and look
+up first, and over globals, 8 bytes each of one array's value, which is there from the first on.
 
 An operation is ("read", variable, register), ("write", variable, number), ("add", variable, number,
 register), ("exchange", variable, number, register) or ("compare", variable, expected, number,
@@ -14,6 +15,8 @@ The enumeration knows nothing of BPF: it takes one operation of some CPU after t
 
 READ, WRITE, ADD, EXCHANGE, COMPARE = "read", "write", "add", "exchange", "compare"
 SUM, UNLESS = "write sum", "unless"
+# Where the values of the first array begin (docs/reference/machine.md).
+FIRST_ARRAY = 0x11_0000_0000
 
 # By name: what it shows, and each CPU's operations. Named as in the literature (herd7, the Linux
 # kernel's memory model); the outcome that weaker processors add is one that none of these may have.
@@ -186,13 +189,14 @@ def outcomes(cpus):
     return ended
 
 
-def report(numbers, memory):
+def report(numbers, memory, over_globals=False):
     """What `ebpf run --maps` prints of an outcome."""
     lines = [f"job {n} cpu {n} r0={number}" for n, number in enumerate(numbers)]
-    lines += [
-        f"map shared {key.to_bytes(4, 'little').hex()}={value.to_bytes(8, 'little').hex()}"
-        for key, value in enumerate(memory)
-    ]
+    values = [value.to_bytes(8, "little").hex() for value in memory]
+    if not over_globals:
+        lines += [f"map shared {key.to_bytes(4, 'little').hex()}={value}" for key, value in enumerate(values)]
+    elif any(memory):
+        lines += [f"array globals 0={''.join(values)}"]
     return "".join(line + "\n" for line in lines)
 
 
@@ -255,8 +259,74 @@ def program_of(cpu, names):
     return lines + ["exit"]
 
 
+def operation_over_globals(operation, at, kept):
+    """The lines of an operation on the variable at this place; `kept` has the BPF register of each register."""
+    into = kept.get(operation[-1])
+    if operation[0] == WRITE:
+        return [f"*(u64 *)({at}) = {operation[2]}"]
+    if operation[0] == SUM:
+        return [f"r1 = {kept[operation[2]]}", f"r1 += {operation[3]}", f"*(u64 *)({at}) = r1"]
+    if operation[0] == READ:
+        return [f"{into} = *(u64 *)({at})"]
+    if operation[0] == ADD:
+        return [f"{into} = {operation[2]}", f"{into} = atomic_fetch_add((u64 *)({at}), {into})"]
+    if operation[0] == EXCHANGE:
+        return [f"{into} = {operation[2]}", f"{into} = xchg_64({at}, {into})"]
+    return [f"r0 = {operation[2]}", f"r1 = {operation[3]}", f"r0 = cmpxchg_64({at}, r0, r1)", f"{into} = r0"]
+
+
+def program_over_globals(cpu, names):
+    """The lines of a CPU's program over globals: its operations alone."""
+    lines, labels = [f"r6 = {FIRST_ARRAY:#x} ll"], {}
+    kept = {name: f"r{number}" for number, name in enumerate(registers_of(cpu), start=7)}
+    for number, operation in enumerate(cpu):
+        lines += [f"{labels[number]}:"] if number in labels else []
+        if operation[0] == UNLESS:
+            labels[number + 1 + operation[3]] = label = f"after{number}"
+            lines += [f"if {kept[operation[1]]} != {operation[2]} goto {label}"]
+        else:
+            lines += operation_over_globals(operation, f"r6 + {8 * names.index(operation[1])}", kept)
+    lines += [f"{labels[len(cpu)]}:"] if len(cpu) in labels else []
+    lines += ["r0 = 0"] if not kept else []
+    for number, register in enumerate(kept.values()):
+        lines += [f"r0 = {register}"] if number == 0 else ["r0 *= 10", f"r0 += {register}"]
+    return lines + ["exit"]
+
+
+def run_file_over_globals(name):
+    """The run file of a test over globals."""
+    shown, cpus = TESTS[name]
+    names = variables_of(cpus)
+    lines = [
+        f"; {shown}",
+        f"; The variables {', '.join(names)} have 8 bytes of `globals` each. Made by tests/schedules/litmus.py.",
+        "ebpf-run 3",
+        f"cpus {len(cpus)}",
+        f"array globals value {8 * len(names)} max 1",
+    ]
+    for number, cpu in enumerate(cpus):
+        lines += ["", f"prog cpu{number}"]
+        lines += ["        " + line for line in program_over_globals(cpu, names)]
+        lines += ["end"]
+    lines += [""] + [f"job {number} cpu{number}" for number in range(len(cpus))]
+    return "".join(line + "\n" for line in lines)
+
+
+def files():
+    """Each run file by its name: the test's, and `-of-globals` after it where it is over globals."""
+    for name in TESTS:
+        yield name, run_file(name)
+        yield f"{name}-of-globals", run_file_over_globals(name)
+
+
+def reports(name):
+    """What may be printed of the run file of this name."""
+    test = name.removesuffix("-of-globals")
+    return {report(*outcome, test != name) for outcome in outcomes(TESTS[test][1])}
+
+
 def run_file(name):
-    """The run file of a test. Each CPU may have an element in hand for each variable at once, so there
+    """The run file of a test over a map. Each CPU may have an element in hand for each variable at once, so there
     are enough to spare: by workers an insertion is answered -ENOMEM else."""
     shown, cpus = TESTS[name]
     names = variables_of(cpus)
