@@ -60,7 +60,8 @@ edits: ## Try the wrong bodies that the gate doesn't try, where something change
 
 SOAK = 1000
 STRESS = maps/fullest-map maps/keys-that-differ-in-the-last-byte maps/sixteen-maps-by-sixteen-cpus \
-	run/kept-pointer run/sixteen-cpus-add run/two-thousand-additions
+	run/kept-pointer run/sixteen-cpus-add run/sixteen-cpus-add-to-a-variable run/sixteen-cpus-count-for-themselves \
+	run/two-thousand-additions
 
 soak: build ## Run each file of stress 1,000 times by 16 workers: minutes
 	for file in $(STRESS); do tests/run --times $(SOAK) ./ebpf "$$file.toml, 16 workers" || exit 1; done

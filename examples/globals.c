@@ -15,3 +15,7 @@ int add(void *context)
     __sync_fetch_and_add(&safe, by);
     return 0;
 }
+
+// ; always array bss 0=0a000000000000001400000000000000 or array bss 0=14000000000000001400000000000000
+// ; sometimes array bss 0=0a000000000000001400000000000000
+// ; sometimes array bss 0=14000000000000001400000000000000
