@@ -1,0 +1,15 @@
+pub mod Alike
+pub mod Turns
+pub mod Standing
+pub mod Going
+pub mod Acting
+pub mod Simulating
+pub mod StepEvents
+pub mod OneEvent
+pub mod Explaining
+pub mod Agreeing
+pub mod ArraysAlone
+pub mod Reached
+pub mod Example
+pub mod Printing
+pub mod OneCpu
