@@ -47,7 +47,7 @@ refused_alike (Err e ∷ answers) = refl
 
 -- the session that was made of a file, and what is printed of its machine in the end
 pub ended : (echo strict : Bool) (f : RunFile) (commands : List (List ℕ)) (s t : SessionState) (answers : List Answer) (lines : Option (Vec ℕ Global)) (stopped refused : Bool)
-    → Shows s.machine (first_world_of (file_of f)) → Shows s.first (first_world_of (file_of f)) → s.names ≡ (file_of f).names → s.breaks ≡ [] → s.watch ≡ None → s.course ≡ Some []
+    → Shows s.machine (first_world_of (file_of f)) → Shows s.first (first_world_of (file_of f)) → s.names ≡ (file_of f).names.maps → s.breaks ≡ [] → s.watch ≡ None → s.course ≡ Some []
     → ((x : Scene) → IsShown s x → (y : Scene) × RunsScript x commands answers y × IsShown t y)
     → AreShown echo commands lines → stopped ≡ any_stopped (length t.machine.jobs) t.machine.jobs
     → refused ≡ (strict && any_refused answers)
