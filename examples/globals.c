@@ -16,6 +16,7 @@ int add(void *context)
     return 0;
 }
 
-// ; always array bss 0=0a000000000000001400000000000000 or array bss 0=14000000000000001400000000000000
-// ; sometimes array bss 0=0a000000000000001400000000000000
-// ; sometimes array bss 0=14000000000000001400000000000000
+// ; always var safe=20
+// ; sometimes var plain=10
+// ; sometimes var plain=20
+// ; always var plain=10 or var plain=20

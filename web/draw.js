@@ -3,6 +3,7 @@
 // Draws a state into the page. Whatever comes from a file, a link or the program is written as text alone.
 
 const MOST_KEYS = 200; // of a map
+const MOST_VALUES = 16; // of an array whose values are shown though all their bytes are zero
 const MOST_LINES = 300; // of a listing, round the current one
 const CELL = 30; // the width of a turn
 const BESIDE = 10; // turns that are drawn on each side of those in sight
@@ -457,6 +458,26 @@ function kept_rows(held, state) {
     });
 }
 
+// A table's first row, of what its columns have.
+function heads(...titles) {
+    const head = make('tr');
+    for (const title of titles) {
+        const cell = make('th', '', title);
+        cell.scope = 'col';
+        head.append(cell);
+    }
+    return head;
+}
+
+// A table's last row, of what isn't shown.
+function more_row(text) {
+    const row = make('tr');
+    const cell = make('td', '', text);
+    cell.colSpan = 4;
+    row.append(cell);
+    return row;
+}
+
 function map_table(name, before, after, state) {
     const table = make('table');
     table.append(make('caption', '', `${name} · ${counted(after.size, 'key')}`));
@@ -464,25 +485,53 @@ function map_table(name, before, after, state) {
     const held = state.held.filter(({ map }) => map === name);
     const kept = held.filter(({ key, gone }) => gone || (!key && are_told(state)));
     if (!keys.length && !kept.length) return table;
-    const head = make('tr');
-    for (const title of ['key', 'value, byte by byte', 'as numbers', 'held by']) {
-        const cell = make('th', '', title);
-        cell.scope = 'col';
-        head.append(cell);
-    }
+    const head = heads('key', 'value, byte by byte', 'as numbers', 'held by');
     const rows = keys.slice(0, MOST_KEYS).map((key) => {
         const row = map_row(key, after.get(key), before.get(key), state);
         row.append(held_cell(after.has(key) ? held.filter((it) => it.key === key && !it.gone) : []));
         return row;
     });
     table.append(head, ...rows, ...kept_rows(kept, state));
-    if (keys.length > MOST_KEYS) {
-        const cell = make('td', '', `and ${keys.length - MOST_KEYS} keys more`);
-        cell.colSpan = 4;
+    if (keys.length > MOST_KEYS) table.append(more_row(`and ${keys.length - MOST_KEYS} keys more`));
+    return table;
+}
+
+// The numbers of the variables, those marked that the last turn changed.
+function variable_table({ file, views, shown, base }) {
+    const table = make('table', 'variables');
+    table.append(make('caption', '', counted(file.variables.length, 'variable')), heads('name', 'number'));
+    for (const { name } of file.variables) {
+        const [before, after] = [views.before, views.after].map(({ variables }) => variables.get(name));
+        if (after === undefined) continue; // it can only be read
         const row = make('tr');
-        row.append(cell);
+        const cell = make('td', 'number');
+        const text = number_text(BigInt(after), base);
+        cell.append(shown && before !== after ? make('mark', '', text) : text);
+        row.append(make('td', '', name), cell);
         table.append(row);
     }
+    return table;
+}
+
+// Where values of an array are: all, where they are few, else those that have a byte other than zero.
+function array_places({ most, is_per_cpu }, cpus, told) {
+    if (most * (is_per_cpu ? cpus : 1) > MOST_VALUES) return told.sort((one, other) => one.localeCompare(other, 'en', { numeric: true }));
+    return list_of(most, (index) => (is_per_cpu ? list_of(cpus, (cpu) => `${index} cpu ${cpu}`) : [`${index}`])).flat();
+}
+
+function array_table(array, before, after, state) {
+    const table = make('table', 'array');
+    const zero = '00'.repeat(array.value);
+    const places = array_places(array, state.file.cpus, [...new Set([...before.keys(), ...after.keys()])]);
+    table.append(make('caption', '', `${array.name} · array of ${counted(array.most, 'value')}`));
+    if (!places.length) return table;
+    table.append(heads('index', 'value, byte by byte', 'as numbers'));
+    for (const place of places.slice(0, MOST_KEYS)) {
+        const row = map_row('', after.get(place) ?? zero, before.get(place) ?? zero, state);
+        row.cells[0].textContent = place;
+        table.append(row);
+    }
+    if (places.length > MOST_KEYS) table.append(more_row(`and ${places.length - MOST_KEYS} values more`));
     return table;
 }
 
@@ -490,7 +539,11 @@ function draw_maps(state) {
     const { file, views } = state;
     const { before, after } = views;
     const told = { ...state, held: held_values(state) };
-    const tables = file.maps.map(({ name }) => map_table(name, before.maps.get(name), after.maps.get(name), told));
+    const tables = [
+        ...file.maps.map(({ name }) => map_table(name, before.maps.get(name), after.maps.get(name), told)),
+        ...(file.variables.length ? [variable_table(state)] : []),
+        ...file.arrays.map((array) => array_table(array, before.arrays.get(array.name), after.arrays.get(array.name), state)),
+    ];
     at('tables').replaceChildren(...(tables.length ? tables : [make('p', 'empty', 'The run file has no map.')]));
 }
 

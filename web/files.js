@@ -51,18 +51,35 @@ async function list_program(engine, { text, words, begins }) {
 // The bytes from one value of a map to the next: its size, rounded up to a multiple of 8.
 const pace_of = ({ value }) => Math.ceil(value / 8) * 8;
 
-// What an address is, by docs/reference/machine.md: null where it is none of a map, the context, a frame or a value.
-// Whether a run may use it, the program alone knows.
-function address_text(number, { maps }) {
+// What an address among those of arrays is, counted from the first of them: a variable, or a value by its index.
+function array_text(place, { arrays, variables }) {
+    const { name, value, most, is_per_cpu } = arrays[Math.floor(place / 0x1000_0000)];
+    const offset = place % 0x1000_0000;
+    const with_rest = (text, rest) => `${text}${rest ? ` +${rest}` : ''}`;
+    const variable = variables.find((it) => it.array === name && it.at <= offset && offset < it.at + it.size);
+    if (variable) return with_rest(variable.name, offset - variable.at);
+    const pace = pace_of({ value });
+    const block = Math.ceil((most * pace) / 64) * 64;
+    const own = is_per_cpu ? offset % block : offset;
+    const whose = is_per_cpu ? ` of CPU ${Math.floor(offset / block)}` : '';
+    return with_rest(`${name}[${Math.floor(own / pace)}]${whose}`, own % pace);
+}
+
+// What an address is, by docs/reference/machine.md: null where it is none of a map, an array, the context, a frame or a
+// value. Whether a run may use it, the program alone knows.
+function address_text(number, file) {
+    const { maps, arrays } = file;
     const address = Number(number);
     const within = (from, length) => address >= from && address < from + length;
     if (within(0x1_0000_0000, maps.length)) return `map ${maps[address - 0x1_0000_0000].name}`;
+    if (within(0x1_0000_0010, arrays.length)) return `array ${arrays[address - 0x1_0000_0010].name}`;
     if (within(0x2_0000_0000, 4097)) return `context +${address - 0x2_0000_0000}`;
     if (within(0x3_0000_0000, 8 * 0x1000)) {
         const frame = Math.floor((address - 0x3_0000_0000) / 0x1000);
         const below = 0x3_0000_0200 + frame * 0x1000 - address;
         return below < 0 ? null : `frame ${frame} ${below ? -below : 'top'}`;
     }
+    if (within(0x11_0000_0000, arrays.length * 0x1000_0000)) return array_text(address - 0x11_0000_0000, file);
     if (!within(0x10_0000_0000, maps.length * 0x1000_0000)) return null;
     const map = Math.floor((address - 0x10_0000_0000) / 0x1000_0000);
     const offset = (address - 0x10_0000_0000) % 0x1000_0000;

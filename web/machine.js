@@ -110,6 +110,17 @@ class Answers {
         return new Map(this.until_mark().map((line) => line.split('=')));
     }
 
+    // The values of an array that have a byte other than zero, by index, and by CPU where each has its own: each line is
+    // `array NAME I=DIGITS` or `array NAME I cpu C=DIGITS`.
+    array() {
+        return new Map(this.until_mark().map((line) => line.split(' ').slice(2).join(' ').split('=')));
+    }
+
+    // The numbers of the variables: each line is `var NAME=N`.
+    variables() {
+        return new Map(this.until_mark().map((line) => line.replace('var ', '').split('=')));
+    }
+
     // The bytes of a frame, in hex; null where it isn't live.
     frame() {
         const halves = [this.line(), this.line()];
@@ -122,6 +133,8 @@ class Answers {
             registers: list_of(file.cpus, () => this.registers()),
             frames: list_of(file.cpus, () => list_of(file.frames, () => this.frame())),
             maps: new Map(file.maps.map(({ name }) => [name, this.map()])),
+            arrays: new Map(file.arrays.map(({ name }) => [name, this.array()])),
+            variables: file.variables.length ? this.variables() : new Map(),
             held: list_of(file.cpus, () => this.until_mark().map(read_held).filter((it) => it)),
         };
     }
@@ -136,15 +149,35 @@ function questions(file) {
         ...list_of(file.cpus, (cpu) => `where ${cpu}`),
         ...list_of(file.cpus, (cpu) => `regs ${cpu}`),
         ...list_of(file.cpus, (cpu) => list_of(file.frames, (frame) => frame_asks(cpu, frame))).flat(2),
-        ...file.maps.flatMap(({ name }) => [`map ${name}`, MARK]),
+        ...[...file.maps, ...file.arrays].flatMap(({ name }) => [`map ${name}`, MARK]),
+        ...(file.variables.length ? ['vars', MARK] : []),
         ...list_of(file.cpus, (cpu) => [`held ${cpu}`, MARK]).flat(),
     ];
 }
 
-// `map NAME key K value V max M spare S`, and ` grow` behind it of a map that grows.
-function read_shape(line) {
+// `map NAME key K value V max M spare S`, and ` grow` after it of a map that grows.
+function read_map(line) {
     const [, name, , key, , value, , most, , spare] = line.split(' ');
     return { name, key: Number(key), value: Number(value), most: Number(most), spare: Number(spare) };
+}
+
+// `array NAME value V max M`, then ` percpu` where each CPU has values of its own, and ` frozen` where they can only be
+// read.
+function read_array(line) {
+    const [, name, , value, , most, ...words] = line.split(' ');
+    return { name, value: Number(value), most: Number(most), is_per_cpu: words.includes('percpu') };
+}
+
+// `var NAME ARRAY AT SIZE`
+function read_variable(line) {
+    const [, name, array, at, size] = line.split(' ');
+    return { name, array, at: Number(at), size: Number(size) };
+}
+
+// What `maps` answers.
+function read_shapes(lines) {
+    const those = (word, read) => lines.filter((line) => line.startsWith(`${word} `)).map(read);
+    return { maps: those('map', read_map), arrays: those('array', read_array), variables: those('var', read_variable) };
 }
 
 class Machine {
@@ -186,12 +219,12 @@ class Machine {
         return new Answers(text_of(stdout));
     }
 
-    // Learns what the program tells of a file that it takes: how many CPUs there are, the maps, whose jobs are,
-    // and the machine before any turn.
+    // Learns what the program tells of a file that it takes: how many CPUs there are, the maps, the arrays, the variables,
+    // whose jobs are, and the machine before any turn.
     async learn(file) {
         const told = await this.answers(file, [...list_of(MOST_CPUS, (cpu) => `where ${cpu}`), 'maps', MARK, 'jobs', MARK]);
         file.cpus = list_of(MOST_CPUS, () => told.line()).filter((line) => line !== NO_CPU).length;
-        file.maps = told.until_mark().map(read_shape);
+        Object.assign(file, read_shapes(told.until_mark()));
         file.jobs = told.until_mark().map((line) => ({ cpu: Number(line.split(' ')[3]) }));
         file.frames = 1;
         file.first = (await this.answers(file, questions(file))).view(file);

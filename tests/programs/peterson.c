@@ -28,6 +28,6 @@ int peterson(const __u8 *context)
 }
 
 // Each CPU enters once. Were both inside at a time, both could make the count 1.
+// ; always var count=2
 // ; never r0 of job 0 = 1 and r0 of job 1 = 1
 // ; never r0 of job 0 = 2 and r0 of job 1 = 2
-// ; always r0 of job 0 = 2 or r0 of job 1 = 2

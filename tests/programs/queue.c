@@ -30,6 +30,7 @@ int queue(const __u8 *context)
 }
 
 // CPU 0 puts 7 and 9, and CPU 1 takes twice: what it takes comes in this order, whole, and once.
+// ; always var put=2
 // ; always r0 of job 2 = 0 or r0 of job 2 = 7
 // ; always r0 of job 3 != 9 or r0 of job 2 = 7
 // ; always r0 of job 3 != 7 or r0 of job 2 = 0

@@ -41,6 +41,7 @@ int seqlock(const __u8 *context)
 }
 
 // CPU 0 adds 5, and CPU 1 reads.
+// ; always var sent=5 and var received=5
 // ; never r0 of job 1 = 4294967295
 // ; sometimes r0 of job 1 = 0
 // ; sometimes r0 of job 1 = 5

@@ -31,5 +31,6 @@ int tokens(const __u8 *context)
 }
 
 // Two packets come at one time, each of 5 tokens.
+// ; always var bucket=3 and var passed=1 and var dropped=1
 // ; always r0 of job 0 = 1 or r0 of job 1 = 1
 // ; never r0 of job 0 = 1 and r0 of job 1 = 1

@@ -1,6 +1,6 @@
 """Litmus tests: what CPUs do to shared values, as abstract operations, the outcomes that an order of
 all operations can have, and two run files that do the same: over values of a map, which CPUs insert and look
-up first, and over globals, 8 bytes each of one array's value, which is there from the first on.
+up first, and over global variables, which are there from the first on.
 
 An operation is ("read", variable, register), ("write", variable, number), ("add", variable, number,
 register), ("exchange", variable, number, register) or ("compare", variable, expected, number,
@@ -189,14 +189,16 @@ def outcomes(cpus):
     return ended
 
 
-def report(numbers, memory, over_globals=False):
-    """What `ebpf run --maps` prints of an outcome."""
+def report(numbers, memory, names=None):
+    """What `ebpf run --maps` prints of an outcome: of values of a map, or of global variables of these names."""
     lines = [f"job {n} cpu {n} r0={number}" for n, number in enumerate(numbers)]
-    values = [value.to_bytes(8, "little").hex() for value in memory]
-    if not over_globals:
-        lines += [f"map shared {key.to_bytes(4, 'little').hex()}={value}" for key, value in enumerate(values)]
-    elif any(memory):
-        lines += [f"array globals 0={''.join(values)}"]
+    if names is None:
+        lines += [
+            f"map shared {key.to_bytes(4, 'little').hex()}={value.to_bytes(8, 'little').hex()}"
+            for key, value in enumerate(memory)
+        ]
+    else:
+        lines += [f"var {name}={value}" for name, value in zip(names, memory)]
     return "".join(line + "\n" for line in lines)
 
 
@@ -299,10 +301,11 @@ def run_file_over_globals(name):
     names = variables_of(cpus)
     lines = [
         f"; {shown}",
-        f"; The variables {', '.join(names)} have 8 bytes of `globals` each. Made by tests/schedules/litmus.py.",
+        "; Made by tests/schedules/litmus.py.",
         "ebpf-run 3",
         f"cpus {len(cpus)}",
         f"array globals value {8 * len(names)} max 1",
+        *(f"var {name} globals {8 * place} 8" for place, name in enumerate(names)),
     ]
     for number, cpu in enumerate(cpus):
         lines += ["", f"prog cpu{number}"]
@@ -322,7 +325,8 @@ def files():
 def reports(name):
     """What may be printed of the run file of this name."""
     test = name.removesuffix("-of-globals")
-    return {report(*outcome, test != name) for outcome in outcomes(TESTS[test][1])}
+    names = variables_of(TESTS[test][1]) if test != name else None
+    return {report(*outcome, names) for outcome in outcomes(TESTS[test][1])}
 
 
 def run_file(name):

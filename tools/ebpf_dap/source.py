@@ -12,6 +12,11 @@ from pathlib import Path
 TOOLS = Path(__file__).resolve().parent.parent
 LISTED = re.compile(r"^(?P<text>.*) ; (?P<pc>\d+): [0-9a-f]+$")
 LABEL = re.compile(r"^\s*([A-Za-z_]\w*):")
+# Loads by a name, which `ebpf asm` has no file to look up in: of a map's or an array's number, and of an address.
+MAP_BY_NAME = re.compile(r"=\s*map\s+([A-Za-z_]\w*)")
+ADDRESS_BY_NAME = re.compile(r"=\s*&\s*([A-Za-z_]\w*)(?:\s*([+-])\s*(\w+))?")
+# The number of the first array, where its values begin, and how far from there those of the next (docs/reference/machine.md).
+FIRST_ARRAY, FIRST_VALUE, AREA = 16, 0x11_0000_0000, 0x1000_0000
 
 
 class SourceError(Exception):
@@ -90,17 +95,49 @@ def run_tool(words, text):
     return done.stdout
 
 
-def read_program(ebpf, name, path, first, body):
-    """Reads a program's assembly, whose first line has this number in its file."""
+@dataclass
+class Named:
+    """What programs may load by a name: the numbers of maps and arrays, and the addresses of arrays and variables."""
+
+    numbers: dict = field(default_factory=dict)
+    addresses: dict = field(default_factory=dict)
+    maps: int = 0
+
+    def add(self, words):
+        """Adds what a line of a run file names, by its words."""
+        if words[0] == "map":
+            self.numbers[words[1]] = self.maps
+            self.maps += 1
+        elif words[0] == "array":
+            number = len(self.numbers) - self.maps
+            self.numbers[words[1]] = FIRST_ARRAY + number
+            self.addresses[words[1]] = FIRST_VALUE + AREA * number
+        elif words[0] == "var":
+            self.addresses[words[1]] = self.addresses[words[2]] + int(words[3], 0)
+
+    def numbered(self, line):
+        """Returns a line of assembly with numbers in place of names."""
+
+        def address(found):
+            more = int(found[3], 0) * (-1 if found[2] == "-" else 1) if found[2] else 0
+            return f"= {self.addresses[found[1]] + more:#x} ll"
+
+        code, mark, comment = line.partition(";")
+        code = MAP_BY_NAME.sub(lambda found: f"= map {self.numbers[found[1]]}", code)
+        return ADDRESS_BY_NAME.sub(address, code) + mark + comment
+
+
+def read_program(ebpf, name, first, body, named):
+    """Reads a program's assembly, whose first line is this one of its file."""
     made = Program(name)
-    listing = run_tool([ebpf, "asm", "--listing"], "".join(f"{line}\n" for line in body)).splitlines()
+    listing = run_tool([ebpf, "asm", "--listing"], "".join(f"{named.numbered(line)}\n" for line in body)).splitlines()
     waiting = []
-    for number, line in enumerate(listing, first):
+    for place, line in enumerate(listing):
         if label := LABEL.match(line):
             waiting.append(label[1])
         if found := LISTED.match(line):
-            pc, text = int(found["pc"]), LABEL.sub("", found["text"]).split(";")[0].strip()
-            made.texts[pc], made.lines[pc] = text, Line(path, number)
+            pc, text = int(found["pc"]), LABEL.sub("", body[place].split(";")[0]).strip()
+            made.texts[pc], made.lines[pc] = text, Line(first.path, first.number + place)
             made.names.update({pc: label for label in waiting})
             waiting = []
     keep_called(made)
@@ -131,10 +168,12 @@ def read_words(ebpf, name, line, digits):
 def read_run_file(ebpf, path, text):
     """Reads a run file that `ebpf run` takes."""
     lines = text.splitlines()
-    made = RunFile(path, text, 1, {}, [], [])
+    made, named = RunFile(path, text, 1, {}, [], []), Named()
     at = 0
     while at < len(lines):
         words = lines[at].split(";")[0].split()
+        if words:
+            named.add(words)
         if words[:1] == ["cpus"]:
             made.cpus = int(words[1], 0)
         elif words[:1] == ["map"]:
@@ -145,7 +184,7 @@ def read_run_file(ebpf, path, text):
             made.programs[words[1]] = read_words(ebpf, words[1], Line(path, at + 1), words[3])
         elif words[:1] == ["prog"]:
             end = next(it for it in range(at, len(lines)) if lines[it].split(";")[0].split() == ["end"])
-            made.programs[words[1]] = read_program(ebpf, words[1], path, at + 2, lines[at + 1 : end])
+            made.programs[words[1]] = read_program(ebpf, words[1], Line(path, at + 2), lines[at + 1 : end], named)
             at = end
         at += 1
     return made

@@ -1,7 +1,7 @@
 //! All that is said beside an answer.
 
 use crate::answers::push_answer;
-use crate::caret::caret;
+use crate::caret::{caret, names_nothing};
 use crate::excerpt::{Language, instruction_text, line_of};
 use crate::expected::expected;
 use crate::finding::{Finding, Told, finding_in};
@@ -11,6 +11,7 @@ use crate::labels::hint_of_names;
 use crate::places::{line_at, line_in_file};
 use crate::sights::push_sights;
 use crate::sources::{push_line, push_source};
+use crate::symbols::symbols_of;
 use crate::warnings::{push_answerless_programs, push_warnings};
 use bpf_codes::Code;
 use bpf_explain::page_of;
@@ -57,7 +58,8 @@ fn push_found_line(
         push_line(alloc, text, number, line, Some(place))?;
         return write!(text, "  hint: {}\n", expected.text.as_str());
     }
-    let place = caret(alloc, code, line.as_bytes());
+    let symbols = symbols_of(alloc, input);
+    let place = caret(alloc, symbols.as_ref(), code, line.as_bytes());
     push_line(alloc, text, number, line, place)?;
     if let Some(hint) = hint_of_names(alloc, code, input, number, place)? {
         return write!(text, "  hint: {}\n", hint.as_str());
@@ -148,6 +150,23 @@ fn push_fault(
     push_hint(text, hint_of_fault(code, known))
 }
 
+/// What A3 means where it is no jump.
+const UNKNOWN_NAME: &str = "it loads something by a name that nothing has";
+
+/// What a code means of a finding.
+fn meaning_of(alloc: Global, input: &Input<'_>, finding: &Finding, code: Code) -> &'static str {
+    if code == Code::A3
+        && let Some(number) = finding.line
+        && let Some(line) = line_of(input.text, number)
+    {
+        let symbols = symbols_of(alloc, input.text);
+        if names_nothing(alloc, symbols.as_ref(), line.as_bytes()) {
+            return UNKNOWN_NAME;
+        }
+    }
+    page_of(code).meaning
+}
+
 /// What there is to say of a refusal or a fault.
 fn push_coded(
     alloc: Global,
@@ -157,7 +176,8 @@ fn push_coded(
     code: Code,
     details: &Details<'_>,
 ) -> Result<(), AllocError> {
-    write!(text, "{}\n", page_of(code).meaning)?;
+    let meaning = meaning_of(alloc, input, finding, code);
+    write!(text, "{meaning}\n")?;
     push_place(alloc, text, input, code, finding)?;
     push_instruction(alloc, text, input, finding)?;
     push_hint(text, hint_of_program(code))?;

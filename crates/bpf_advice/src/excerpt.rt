@@ -2,10 +2,11 @@
 
 use crate::finding::Finding;
 use crate::places::is_end;
+use crate::symbols::symbols_of;
 use bpf_disassembly::disassemble;
 use bpf_insn::{Insn, decode};
 use bpf_lines::from_hex;
-use bpf_text::assemble;
+use bpf_text::{assemble, assemble_with};
 use std::alloc::{AllocError, Global};
 use std::str::SplitAsciiWhitespace;
 
@@ -61,8 +62,9 @@ fn insns_of_program(alloc: Global, file: &str, line: usize) -> Option<Vec<Insn>>
     match head.split_once(" hex ") {
         Some((_, digits)) => insns_of_words(alloc, digits),
         None => {
+            let symbols = symbols_of(alloc, file);
             let text = program_text(alloc, file, line).ok()?;
-            assemble(alloc, text.as_str()).ok()
+            assemble_with(alloc, symbols.as_ref(), text.as_str().as_bytes()).ok()
         }
     }
 }

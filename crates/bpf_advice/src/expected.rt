@@ -13,8 +13,9 @@ pub struct Expectation {
 }
 
 /// The forms of lines. Pieces are between blanks: `NAME`, `N` and `HEX` are a name, a number and
-/// hex digits, any other is itself. The last two are of version 2 alone.
-const FORMS: [&str; 12] = [
+/// hex digits, any other is itself. The last six are of version 3 alone, and the two before them of
+/// version 2 too.
+const FORMS: [&str; 18] = [
     "cpus N",
     "seed N",
     "map NAME key N value N max N spare N",
@@ -27,20 +28,29 @@ const FORMS: [&str; 12] = [
     "job N NAME budget N ctx HEX",
     "map NAME key N value N max N spare N grow",
     "map NAME key N value N max N spare N mask N grow",
+    "array NAME value N max N",
+    "array NAME value N max N percpu",
+    "array NAME value N max N frozen",
+    "array NAME value N max N percpu frozen",
+    "data NAME N HEX",
+    "var NAME NAME N N",
 ];
 
 /// How many forms version 1 has.
 const FORMS_OF_ONE: usize = 10;
+
+/// How many version 2 has.
+const FORMS_OF_TWO: usize = 12;
 
 /// How many forms the file's version has, by the first line that says something.
 fn forms_of(file: &str) -> usize {
     for line in file.split('\n') {
         let mut words = fields(line);
         if words.next().is_some() {
-            return if words.next() == Some("2") {
-                FORMS.len()
-            } else {
-                FORMS_OF_ONE
+            return match words.next() {
+                Some("2") => FORMS_OF_TWO,
+                Some("3") => FORMS.len(),
+                _ => FORMS_OF_ONE,
             };
         }
     }
@@ -142,6 +152,10 @@ fn order_of_lines(first: &str) -> &'static str {
         "cpus" => "`cpus` stands once, right behind the first line",
         "seed" => "`seed` stands once, before the maps, the programs and the jobs",
         "map" => "the maps stand before the programs and the jobs",
+        "array" => "arrays come after the maps, and before lines `data` and `var` and the programs",
+        "data" | "var" => {
+            "lines `data` and `var` come after the arrays and before the programs; variables are 256 at most"
+        }
         "prog" => "the programs stand before the jobs, and are 256 at most",
         "job" => "there are 4,096 jobs at most",
         _ => "a line here begins with a word of its own",
@@ -194,6 +208,9 @@ fn value_of(word: &str) -> Option<u64> {
     }
 }
 
+/// What is said of a variable's line whose numbers are each in their range.
+const VARIABLE: &str = "a variable has 1, 2, 4 or 8 bytes, and begins at a multiple of them";
+
 /// What is said of a number that is out of its range (L3).
 fn of_number(
     alloc: Global,
@@ -212,6 +229,12 @@ fn of_number(
         }
         before = word;
     }
+    if let ["var", ..] = words {
+        return Ok(Some(Expectation {
+            place: places.get(3).copied().unwrap_or(0),
+            text: VARIABLE.to_string(alloc)?,
+        }));
+    }
     Ok(None)
 }
 
@@ -226,13 +249,22 @@ fn cpus_in(file: &str) -> u64 {
     1
 }
 
+/// What a line names that isn't there: `prog` or `array`, and how it is called.
+#[derive(Clone, Copy)]
+struct Missing<'a> {
+    key: &'static str,
+    kind: &'static str,
+    name: &'a str,
+}
+
 /// "there is no program b: the file has", and the names.
-fn no_program(alloc: Global, file: &str, name: &str) -> Result<String, AllocError> {
-    let mut text = format!(in alloc; "there is no program {name}: the file has ")?;
+fn none_named(alloc: Global, file: &str, missing: Missing<'_>) -> Result<String, AllocError> {
+    let Missing { key, kind, name } = missing;
+    let mut text = format!(in alloc; "there is no {kind} {name}: the file has ")?;
     let mut is_first = true;
     for line in file.split('\n') {
         let mut words = fields(line);
-        if words.next() == Some("prog")
+        if words.next() == Some(key)
             && let Some(other) = words.next()
         {
             if !is_first {
@@ -267,8 +299,55 @@ fn of_job(
     }
     Ok(Some(Expectation {
         place: places.get(2).copied().unwrap_or(0),
-        text: no_program(alloc, file, name)?,
+        text: none_named(
+            alloc,
+            file,
+            Missing {
+                key: "prog",
+                kind: "program",
+                name,
+            },
+        )?,
     }))
+}
+
+/// What is said of a line `data` or `var` whose array isn't there (L5), by the word that names it.
+fn of_array(
+    alloc: Global,
+    file: &str,
+    words: &[&str],
+    places: &[usize],
+    number: usize,
+) -> Result<Option<Expectation>, AllocError> {
+    let Some(name) = words.get(number) else {
+        return Ok(None);
+    };
+    Ok(Some(Expectation {
+        place: places.get(number).copied().unwrap_or(0),
+        text: none_named(
+            alloc,
+            file,
+            Missing {
+                key: "array",
+                kind: "array",
+                name,
+            },
+        )?,
+    }))
+}
+
+/// What is said of a line that names what isn't there (L5).
+fn of_name(
+    alloc: Global,
+    file: &str,
+    words: &[&str],
+    places: &[usize],
+) -> Result<Option<Expectation>, AllocError> {
+    match words {
+        ["data", ..] => of_array(alloc, file, words, places, 1),
+        ["var", ..] => of_array(alloc, file, words, places, 2),
+        _ => of_job(alloc, file, words, places),
+    }
 }
 
 /// What a refused line of a run file should have, as far as that is known.
@@ -286,7 +365,7 @@ pub fn expected(
     match code {
         Code::L2 => Ok(Some(of_form(alloc, forms_of(file), &words, &places)?)),
         Code::L3 => of_number(alloc, &words, &places),
-        Code::L5 => of_job(alloc, file, &words, &places),
+        Code::L5 => of_name(alloc, file, &words, &places),
         _ => Ok(None),
     }
 }

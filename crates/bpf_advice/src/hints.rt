@@ -423,9 +423,19 @@ fn spelling_hint(line: &Line<'_>) -> Option<&'static str> {
         })
 }
 
+/// Whether a text ends after `= &`, a name and a sign.
+fn is_beside_name(before: &str) -> bool {
+    match before.split_once('&') {
+        Some((front, _)) => front.trim_end().ends_with('='),
+        None => false,
+    }
+}
+
 /// What may be meant by a number that is out of its range.
 fn range_hint(line: &Line<'_>) -> &'static str {
-    if line.code.contains("goto") && !ends_with_one(line.before, "=<>&") {
+    if is_beside_name(line.before) {
+        "an address and a number make one of 64 bits, 0 to 18446744073709551615"
+    } else if line.code.contains("goto") && !ends_with_one(line.before, "=<>&") {
         "a jump reaches 32,767 words forward and 32,768 back, and `gotol` as far as a program goes"
     } else if ends_with_one(line.before, "+-") && line.code.contains("*)(") {
         "an offset is a number from -32768 to 32767: add more to the register first"

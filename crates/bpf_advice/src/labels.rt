@@ -3,7 +3,10 @@
 use crate::excerpt::{fields, line_of};
 use crate::hints::front_word;
 use crate::places::{begins_program, is_end};
+use crate::symbols::symbols_of;
 use bpf_codes::Code;
+use bpf_shared::FIRST_ARRAY;
+use bpf_text::Symbol;
 use std::alloc::{AllocError, Global};
 
 /// The label of a line, if it has one.
@@ -143,6 +146,27 @@ fn map_hint(alloc: Global, text: &str, name: &str) -> Result<String, AllocError>
     }
 }
 
+/// What may be meant by a name by which an instruction loads.
+fn name_hint(alloc: Global, text: &str, name: &str) -> Result<String, AllocError> {
+    let symbols = symbols_of(alloc, text);
+    let symbol = match &symbols {
+        Some(symbols) => symbols.get(name.as_bytes()).copied(),
+        None => None,
+    };
+    match symbol {
+        Some(Symbol::Variable(_)) => format!(in alloc;
+            "{name} is a variable and has no number: `&{name}` is its address"
+        ),
+        Some(Symbol::Map(number)) if u64::from(number) >= FIRST_ARRAY => format!(in alloc;
+            "each CPU has its own values of {name}: `lookup` answers where those of one are"
+        ),
+        Some(_) => format!(in alloc;
+            "{name} is a map and has no address: `map {name}` is its number"
+        ),
+        None => format!(in alloc; "no map, array or variable has the name {name}"),
+    }
+}
+
 /// What the rest of the text says of the line of this number, which is refused at this place.
 pub fn hint_of_names(
     alloc: Global,
@@ -162,6 +186,9 @@ pub fn hint_of_names(
     match code {
         Code::A1 if before.ends_with("= map") && !name.is_empty() => {
             Ok(Some(map_hint(alloc, text, name)?))
+        }
+        Code::A3 if before.ends_with("= map") || before.ends_with("&") => {
+            Ok(Some(name_hint(alloc, text, name)?))
         }
         Code::A3 => label_hint(alloc, text, number, name),
         Code::A4 => match first_with(text, number, name) {

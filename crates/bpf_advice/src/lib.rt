@@ -15,6 +15,7 @@ mod labels;
 mod places;
 mod sights;
 mod sources;
+mod symbols;
 mod warnings;
 
 pub use advice::{Detail, Details, Input, advise};

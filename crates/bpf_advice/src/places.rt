@@ -2,12 +2,14 @@
 
 use crate::excerpt::{fields, line_of, line_of_job_program};
 use crate::finding::Finding;
+use crate::symbols::symbols_of;
 use bpf_text::line_size;
 use std::alloc::Global;
 
 /// The line of assembly from which the instruction at a pc comes, where this many lines are before
 /// the assembly. In a run file it ends at `end`.
 pub fn line_at(alloc: Global, text: &str, before: usize, pc: usize) -> Option<usize> {
+    let symbols = symbols_of(alloc, text);
     let mut number = before;
     let mut at: usize = 0;
     for line in text.split('\n').skip(before) {
@@ -15,7 +17,7 @@ pub fn line_at(alloc: Global, text: &str, before: usize, pc: usize) -> Option<us
         if before > 0 && is_end(line) {
             return None;
         }
-        let size = line_size(alloc, line.as_bytes()).ok()?;
+        let size = line_size(alloc, symbols.as_ref(), line.as_bytes()).ok()?;
         if size > 0 && at == pc {
             return Some(number);
         }

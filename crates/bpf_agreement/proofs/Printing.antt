@@ -56,15 +56,15 @@ have_ended (t ∷ ts) (e ∷ es) zero task at = (e, ap (λ (x : Task). x.stage) 
 have_ended (t ∷ ts) (e ∷ es) (suc j) task at = have_ended ts es j task at
 
 -- ---- no lists
-no_lines : (f : File) (lists : ℕ → List (List (List ℕ))) (n : ℕ) → ((c : ℕ) → c < n → lists c ≡ []) → list_lines lists f.names n ≡ []
-no_lines f lists zero none = refl
-no_lines f lists (suc n) none = both _ _ (no_lines f lists n (λ c less. none c (omega arith))) (own (lists n) (none n (omega arith)))
+no_lines : (names : List (List ℕ)) (lists : ℕ → List (List (List ℕ))) (n : ℕ) → ((c : ℕ) → c < n → lists c ≡ []) → list_lines lists names n ≡ []
+no_lines names lists zero none = refl
+no_lines names lists (suc n) none = both _ _ (no_lines names lists n (λ c less. none c (omega arith))) (own (lists n) (none n (omega arith)))
   where
     both : (xs ys : List ℕ) → xs ≡ [] → ys ≡ [] → xs ++ ys ≡ []
     both xs ys p q = ap (λ (l : List ℕ). l ++ ys) p ∙ q
 
-    own : (found : List (List (List ℕ))) → found ≡ [] → cpu_lines n f.names (length found) found ≡ []
-    own found e = ap (λ (l : List (List (List ℕ))). cpu_lines n f.names (length l) l) e
+    own : (found : List (List (List ℕ))) → found ≡ [] → cpu_lines n names (length found) found ≡ []
+    own found e = ap (λ (l : List (List (List ℕ))). cpu_lines n names (length l) l) e
 
 -- no list is in the report
 unlisted : (f : File) (asked : Asked) (printed : Printed) (report : IsWorkersReport f asked printed) → asked.keys ≡ false → IsExplained (shape_of f) 0 f.programs f.jobs false report.ends report.lists report.closed.history
@@ -76,8 +76,9 @@ told_alike f asked printed report none leads =
     let explained = unlisted f asked printed report none in
     let z : World = leads.world in
     let jobs : z.jobs ≡ as_ended f.jobs report.ends = ended_all f.jobs report.ends z.jobs explained.each_ended leads.size leads.each in
-    let lines : list_lines report.lists f.names f.cpus ≡ [] = no_lines f report.lists f.cpus (λ c inside. none_listed (report.lists c) (explained.each_listed c inside)) in
-    let without = subst (λ (text : List ℕ). TellsWith text report.last (as_ended f.jobs report.ends) f.names asked.maps printed.text printed.stopped) lines report.tells in
+    -- the maps' names are those that the report has
+    let without : TellsWith [] report.last (as_ended f.jobs report.ends) f.names asked.maps printed.text printed.stopped =
+    subst (λ (text : List ℕ). TellsWith text report.last (as_ended f.jobs report.ends) f.names asked.maps printed.text printed.stopped) (no_lines _ report.lists f.cpus (λ c inside. none_listed (report.lists c) (explained.each_listed c inside))) report.tells in
     let of_store = subst (λ (s : Plain). TellsWith [] s (as_ended f.jobs report.ends) f.names asked.maps printed.text printed.stopped) (sym leads.store) without in
     let tells = subst (λ (ts : List Task). TellsWith [] z.store ts f.names asked.maps printed.text printed.stopped) (sym jobs) of_store in
     (leads.schedule, (z, leads.runs, subst HaveEnded (sym jobs) (have_ended f.jobs report.ends), tells))

@@ -4,6 +4,7 @@ use Rattle.std.specs.Prelude.{◌&&◌, slice_get}
 use Rattle.std.specs.List.{position, position_from}
 use Rattle.std.proofs.lemmas.Bool.{eqb-true}
 use Rattle.std.proofs.lemmas.Iterator.Adapters.{position_from-zero}
+use Rattle.bpf_names.specs.Names.{Names}
 use Rattle.bpf_machine.specs.Schedule.{World, unrolled}
 use Rattle.bpf_explore.specs.Outcomes.{AreOutcomes, EndsBy, Found, HaveAll}
 use Rattle.bpf_explore.specs.Patient.{EndsPatiently, HangsBy, NoneHangs}
@@ -133,7 +134,7 @@ module _ (IsText : List ℕ → Type 0) (IsAnswer : Found → Type 0) (f : Findi
   )
 
 -- ---- of an exact search
-exact : (w : World) (names : List (List ℕ)) (f : Findings) (e : Expected) → AreOutcomes w names true f.answers
+exact : (w : World) (names : Names) (f : Findings) (e : Expected) → AreOutcomes w names true f.answers
     → (f.all ≡ true → HaveAll w names true f.answers) → IsTrueVerdict w names f e (outcome_verdict f e)
 exact w names f e are have =
     decided (IsOutcomeText w names) (EndsBy w names true) f e (λ found ends. (found.stopped, (unrolled found.by, ends))) are.each
@@ -147,7 +148,7 @@ verdicts_true w names f e exactly are have =
     (sym exactly) (exact w names f e are have)
 
 -- ---- of a patient one
-patiently : (w : World) (names : List (List ℕ)) (f : Findings) (e : Expected) → ArePatientFindings w names f
+patiently : (w : World) (names : Names) (f : Findings) (e : Expected) → ArePatientFindings w names f
     → IsTrueOf (IsPatientText w names) (EndsPatiently w names true) f e (outcome_verdict f e)
 patiently w names f e are =
     decided (IsPatientText w names) (EndsPatiently w names true) f e (λ found ends. (found.stopped, (unrolled found.by, ends.0, ends.1, ends.2, ends.3, ends.4))) are.outcomes.each
@@ -157,21 +158,21 @@ patiently w names f e are =
 hangs : (w : World) (by : List (ℕ × ℕ)) → HangsBy w by → NoneHangs w → ⊥
 hangs w by (z, runs, none, hung) ends = hung (ends (unrolled by) z runs none)
 
-true_ends : (w : World) (names : List (List ℕ)) (f : Findings) → ArePatientFindings w names f → (all none : Bool) → f.all ≡ all → is_empty f.hung ≡ none
+true_ends : (w : World) (names : Names) (f : Findings) → ArePatientFindings w names f → (all none : Bool) → f.all ≡ all → is_empty f.hung ≡ none
     → AreTrueEnds w f (verdict_of_ends all none)
 true_ends w names f are all false found is =
     let first = first_of f.hung is in ((λ ends. hangs w first.0 (are.are_hung 0 first.0 first.1) ends), are.are_hung)
 true_ends w names f are true true found is = are.none_hangs found (nothing f.hung is)
 true_ends w names f are false true found is = found
 
-true_hang : (w : World) (names : List (List ℕ)) (f : Findings) → ArePatientFindings w names f → (all none : Bool) → f.all ≡ all → is_empty f.hung ≡ none
+true_hang : (w : World) (names : Names) (f : Findings) → ArePatientFindings w names f → (all none : Bool) → f.all ≡ all → is_empty f.hung ≡ none
     → IsTrueHang w f (verdict_of_hung all none)
 true_hang w names f are all false found is = let first = first_of f.hung is in (first.0, are.are_hung 0 first.0 first.1)
 true_hang w names f are true true found is = are.none_hangs found (nothing f.hung is)
 true_hang w names f are false true found is = found
 
 -- whichever is asked
-chosen : (w : World) (names : List (List ℕ)) (f : Findings) (e : Expected) → ArePatientFindings w names f → (ends hung : Bool)
+chosen : (w : World) (names : Names) (f : Findings) (e : Expected) → ArePatientFindings w names f → (ends hung : Bool)
     → Choose ends (AreTrueEnds w f (cond ends (ends_verdict f) (cond hung (hung_verdict f) (outcome_verdict f e))))
     (Choose hung (IsTrueHang w f (cond ends (ends_verdict f) (cond hung (hung_verdict f) (outcome_verdict f e))))
     (IsTrueOf (IsPatientText w names) (EndsPatiently w names true) f e (cond ends (ends_verdict f) (cond hung (hung_verdict f) (outcome_verdict f e)))))
@@ -179,7 +180,7 @@ chosen w names f e are true hung = true_ends w names f are f.all (is_empty f.hun
 chosen w names f e are false true = true_hang w names f are f.all (is_empty f.hung) refl refl
 chosen w names f e are false false = patiently w names f e are
 
-patient_one : (w : World) (names : List (List ℕ)) (f : Findings) → ArePatientFindings w names f → (e : Expected) → IsTruePatiently w names f e (verdict_of f e)
+patient_one : (w : World) (names : Names) (f : Findings) → ArePatientFindings w names f → (e : Expected) → IsTruePatiently w names f e (verdict_of f e)
 patient_one w names f are e =
     subst (λ (patient : Bool). IsTruePatiently w names f e
     (cond (patient && asks_ends e.often e.line) (ends_verdict f) (cond (patient && asks_hung e.often e.line) (hung_verdict f) (outcome_verdict f e))))

@@ -1,5 +1,6 @@
 -- What follows for verdicts.
 use Rattle.std.specs.Prelude.{◌≡◌, ℕ, true, false, List, []}
+use Rattle.bpf_names.specs.Names.{Names}
 use Rattle.bpf_machine.specs.Schedule.{World}
 use Rattle.bpf_explore.specs.Outcomes.{AreOutcomes, HaveAll}
 use Rattle.bpf_explore.specs.Patient.{AreHung, ArePatient, HaveAllPatient, NoneHangs}
@@ -11,12 +12,12 @@ use Rattle.bpf_check.specs.Verdict.{AreTrueEnds, IsTruePatiently, IsTrueVerdict,
 -- true
 abbrev pub VerdictsAreTrue : Type 0
 VerdictsAreTrue =
-    (w : World) (names : List (List ℕ)) (f : Findings) (e : Expected) → f.patient ≡ false
+    (w : World) (names : Names) (f : Findings) (e : Expected) → f.patient ≡ false
     → AreOutcomes w names true f.answers → (f.all ≡ true → HaveAll w names true f.answers)
     → IsTrueVerdict w names f e (verdict_of f e)
 
 -- what a patient search promises of its findings
-pub record ArePatientFindings (w : World) (names : List (List ℕ)) (f : Findings) : Type 0 where
+pub record ArePatientFindings (w : World) (names : Names) (f : Findings) : Type 0 where
   pub patient : f.patient ≡ true
   pub outcomes : ArePatient w names true f.answers
   pub complete : f.all ≡ true → HaveAllPatient w names true f.answers
@@ -26,6 +27,6 @@ pub record ArePatientFindings (w : World) (names : List (List ℕ)) (f : Finding
 -- the same of outcomes in which no job is out of budget, and of whether each schedule can end
 abbrev pub PatientVerdictsAreTrue : Type 0
 PatientVerdictsAreTrue =
-    (w : World) (names : List (List ℕ)) (f : Findings) → ArePatientFindings w names f
+    (w : World) (names : Names) (f : Findings) → ArePatientFindings w names f
     → AreTrueEnds w f (ends_verdict f)
     × ((e : Expected) → IsTruePatiently w names f e (verdict_of f e))

@@ -10,7 +10,7 @@ use Rattle.bpf_shared.specs.declared.events.Size.{Size}
 use Rattle.bpf_shared.specs.declared.events.Size.TheVariants.{Byte, Half, Word, Double}
 use Rattle.bpf_shared.specs.declared.shapes.MapShape.{MapShape}
 use Rattle.bpf_check.specs.Claim.{Part}
-use Rattle.bpf_check.specs.Subjects.{Subjects, at, can_print_all, cpu_of, map_of, number_in, stands}
+use Rattle.bpf_check.specs.Subjects.{Subjects, at, can_print_all, cpu_of, map_of, number_in, stands, variable_size}
 use Rattle.bpf_check.specs.declared.claim.Comparison.{Comparison}
 use Rattle.bpf_check.specs.declared.claim.Field.{Field}
 use Rattle.bpf_check.specs.declared.claim.Join.{Join}
@@ -122,6 +122,26 @@ abbrev pub pair_part : Subjects → List (List ℕ) → Option Part
 pair_part s words = option_and_then (λ w.
     option_and_then (field_part (name_in words) w) (map_of s (name_in words))) (wanted_in words)
 
+-- ---- `var NAME REL N`
+
+abbrev pub is_variable_form : List (List ℕ) → Bool
+is_variable_form words = length words == 4 && stands words 0 (codes "var")
+
+-- how the line of a variable begins
+abbrev pub variable_start : List ℕ → List ℕ
+variable_start name = codes "var " ++ (name ++ codes "=")
+
+-- of a variable that has a line
+abbrev pub shown_part : List ℕ → Comparison → Option Size → Option Part
+shown_part name c None = None
+shown_part name c (Some size) =
+    Some (record { kind = kind.Result c; bytes = variable_start name })
+
+abbrev pub variable_part : Subjects → List (List ℕ) → Option Part
+variable_part s words = option_and_then
+    (λ c. shown_part (at words 1) c (variable_size s (at words 1)))
+    (comparison_in (at words 2) (at words 3))
+
 -- ---- a part, and a claim
 
 abbrev pub line_part : List ℕ → Part
@@ -140,7 +160,8 @@ is_fault_form words = length words == 1 && stands words 0 (codes "fault")
 
 abbrev pub compared_part : Subjects → List (List ℕ) → Option Part
 compared_part s words = if is_result_form words then result_in s words
-    else (if is_field_form words then pair_part s words else None)
+    else (if is_field_form words then pair_part s words
+    else (if is_variable_form words then variable_part s words else None))
 
 -- a line that the file's outcomes can have; `fault`; or a comparison
 unfoldable pub part_in : Subjects → List (List ℕ) → Option Part

@@ -1,6 +1,7 @@
 -- What a run file expects, against what one run of its jobs prints. Our own choice.
 use Rattle.std.specs.Prelude.{◌≡◌, ℕ, zero, suc, ◌+◌, Bool, true, false, not, ◌&&◌, ◌||◌, ◌++◌, List, [], codes, if◌then◌else◌, length, slice_index_or}
 use Rattle.std.specs.List.{list_any}
+use Rattle.bpf_names.specs.Names.{Names}
 use Rattle.bpf_machine.specs.Schedule.{World}
 use Rattle.bpf_check.specs.declared.expectation.Often.{Often}
 use Rattle.bpf_check.specs.declared.expectation.Often.TheVariants as often
@@ -36,7 +37,7 @@ is_open text e = asks_of_ends e.often e.line || is_open_by e.often (agrees e tex
 -- SO WHAT ONE RUN REFUTES DOESN'T HOLD of the outcomes of all schedules, of which its own is one;
 -- what it neither refutes nor leaves open would hold if there were no other
 abbrev pub RunsAreJudged : Type 0
-RunsAreJudged = (w : World) (names : List (List ℕ)) (text : List ℕ) (e : Expected)
+RunsAreJudged = (w : World) (names : Names) (text : List ℕ) (e : Expected)
     → IsOutcomeText w names text → (is_refuted text e ≡ true → IsMet w names e → ⊥)
     × (is_refuted text e ≡ false → is_open text e ≡ false → Meet (λ t. t ≡ text) e)
 

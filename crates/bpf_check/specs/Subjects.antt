@@ -4,16 +4,20 @@ use Rattle.std.specs.List.{after_first, before_first, list_all, list_any, starts
 use Rattle.std.specs.Str.{bytes_eq}
 use Rattle.std.specs.Str.Parse.{digits_value}
 use Rattle.bpf_lines.specs.Words.{is_numeral}
+use Rattle.bpf_base.specs.Bytes.{modulus}
+use Rattle.bpf_shared.specs.declared.events.Size.{Size}
+use Rattle.bpf_shared.specs.Access.{bytes_in}
 use Rattle.bpf_shared.specs.declared.shapes.ArrayShape.{ArrayShape}
 use Rattle.bpf_shared.specs.declared.shapes.MapShape.{MapShape}
+use Rattle.bpf_names.specs.Names.{Names, Variable, variable_named}
 
--- what lines speak of: the CPU of each job, how many CPUs there are, the names of the maps by their
--- numbers and after them those of the arrays, the sizes of both, whether lists of keys are among the lines,
--- and whether it may be asked if schedules can end
+-- what lines speak of: the CPU of each job, how many CPUs there are, the names of maps, arrays and
+-- variables, the sizes of maps and arrays, whether lists of keys are among the lines, and whether it
+-- may be asked if schedules can end
 pub record Subjects : Type 0 where
   pub jobs : List ℕ
   pub cpus : ℕ
-  pub names : List (List ℕ)
+  pub names : Names
   pub maps : List MapShape
   pub arrays : List ArrayShape
   pub lists : Bool
@@ -83,7 +87,7 @@ abbrev pub is_below : ℕ → Option ℕ → Bool
 is_below limit None = false
 is_below limit (Some n) = nat_lt n limit
 
--- `N=VALUE`, of a number below this and so many bytes
+-- `N=VALUE`, of a number below the limit and a value of this many bytes
 abbrev pub is_numbered : (limit count : ℕ) → List ℕ → Bool
 is_numbered limit count word =
     is_below limit (number_in (before_first is_equals word))
@@ -111,12 +115,22 @@ place_of name (known ∷ names) =
 
 -- the sizes of the map of this name
 abbrev pub map_of : Subjects → List ℕ → Option MapShape
-map_of s name = option_and_then (slice_get s.maps) (place_of name s.names)
+map_of s name = option_and_then (slice_get s.maps) (place_of name s.names.maps)
 
 -- the sizes of the array of this name
 abbrev pub array_of : Subjects → List ℕ → Option ArrayShape
 array_of s name =
-    option_and_then (slice_get s.arrays) (place_of name (drop (length s.maps) s.names))
+    option_and_then (slice_get s.arrays) (place_of name (drop (length s.maps) s.names.maps))
+
+-- the size of a variable, where its array isn't one that may only be read: then it has a line
+abbrev pub size_shown : Variable → Option ArrayShape → Option Size
+size_shown v None = None
+size_shown v (Some g) = if g.frozen then None else Some v.size
+
+-- of the variable of this name
+abbrev pub variable_size : Subjects → List ℕ → Option Size
+variable_size s name = option_and_then (λ v. size_shown v (slice_get s.arrays v.array))
+    (variable_named name s.names.variables)
 
 -- ---- lines
 
@@ -175,6 +189,18 @@ is_array_value cpus (Some g) words =
 abbrev pub is_array_line : Subjects → List (List ℕ) → Bool
 is_array_line s words = is_array_value s.cpus (array_of s (at words 0)) words
 
+-- this many bytes hold the number
+abbrev pub is_of_size : Option Size → Option ℕ → Bool
+is_of_size (Some size) (Some n) = nat_lt n (modulus (bytes_in size))
+is_of_size (Some size) None = false
+is_of_size None n = false
+
+-- after `var`: NAME=N
+abbrev pub is_variable_line : Subjects → List (List ℕ) → Bool
+is_variable_line s words = length words == 1
+    && is_of_size (variable_size s (before_first is_equals (at words 0)))
+    (number_in (after_first is_equals (at words 0)))
+
 -- after `keys`: `cpu`, C, NAME and keys, of a CPU that has jobs
 abbrev pub is_keys_line : Subjects → List (List ℕ) → Bool
 is_keys_line s (cpu ∷ c ∷ name ∷ keys) =
@@ -187,7 +213,8 @@ can_print s first more =
     if bytes_eq first (codes "job") then is_job_line s more
     else (if bytes_eq first (codes "map") then is_map_line s more
     else (if bytes_eq first (codes "array") then is_array_line s more
-    else (s.lists && (bytes_eq first (codes "keys") && is_keys_line s more))))
+    else (if bytes_eq first (codes "var") then is_variable_line s more
+    else (s.lists && (bytes_eq first (codes "keys") && is_keys_line s more)))))
 
 abbrev pub can_print_all : Subjects → List (List ℕ) → Bool
 can_print_all s [] = false

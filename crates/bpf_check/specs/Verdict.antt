@@ -1,6 +1,7 @@
 -- Whether outcomes are as expected, and what the findings of a search say of that.
 use Rattle.std.specs.Prelude.{◌≡◌, ℕ, ◌==◌, ◌&&◌, ◌||◌, Bool, true, false, not, if◌then◌else◌, List, Option, Some, None, length, map, slice_get}
 use Rattle.std.specs.List.{list_any, position}
+use Rattle.bpf_names.specs.Names.{Names}
 use Rattle.bpf_machine.specs.Schedule.{World}
 use Rattle.bpf_explore.specs.Outcomes.{Found, EndsBy, IsOutcome}
 use Rattle.bpf_explore.specs.Patient.{AreHung, EndsPatiently, HangsBy, IsPatientOutcome, NoneHangs}
@@ -26,11 +27,11 @@ abbrev pub Meet : (List ℕ → Type 0) → Expected → Type 0
 Meet IsText e = MeetBy IsText (agrees e) e.often
 
 -- some schedule leads to this text
-abbrev pub IsOutcomeText : World → List (List ℕ) → List ℕ → Type 0
+abbrev pub IsOutcomeText : World → Names → List ℕ → Type 0
 IsOutcomeText w names text = (stopped : Bool) × IsOutcome w names true text stopped
 
 -- THE JOBS' OUTCOMES ARE AS EXPECTED, whatever the order of the CPUs' turns
-abbrev pub IsMet : World → List (List ℕ) → Expected → Type 0
+abbrev pub IsMet : World → Names → Expected → Type 0
 IsMet w names e = Meet (IsOutcomeText w names) e
 
 -- ---- what findings say of it
@@ -148,11 +149,11 @@ IsTrueOf IsText IsAnswer f e verdict.Hangs = ⊥
 IsTrueOf IsText IsAnswer f e verdict.NoneHangs = ⊥
 
 -- of all schedules
-abbrev pub IsTrueVerdict : World → List (List ℕ) → Findings → Expected → Verdict → Type 0
+abbrev pub IsTrueVerdict : World → Names → Findings → Expected → Verdict → Type 0
 IsTrueVerdict w names f e v = IsTrueOf (IsOutcomeText w names) (EndsBy w names true) f e v
 
 -- of those in which no job is out of budget
-abbrev pub IsPatientText : World → List (List ℕ) → List ℕ → Type 0
+abbrev pub IsPatientText : World → Names → List ℕ → Type 0
 IsPatientText w names text = (stopped : Bool) × IsPatientOutcome w names true text stopped
 
 -- of whether each of them can end: none hangs; some does, and each schedule that is shown leads to a
@@ -176,7 +177,7 @@ Choose true Claim Other = Claim
 Choose false Claim Other = Other
 
 -- whichever an expectation asks
-abbrev pub IsTruePatiently : World → List (List ℕ) → Findings → Expected → Verdict → Type 0
+abbrev pub IsTruePatiently : World → Names → Findings → Expected → Verdict → Type 0
 IsTruePatiently w names f e v = Choose (asks_ends e.often e.line) (AreTrueEnds w f v)
     (Choose (asks_hung e.often e.line) (IsTrueHang w f v)
     (IsTrueOf (IsPatientText w names) (EndsPatiently w names true) f e v))

@@ -5,7 +5,7 @@ ghost use Rattle.std.specs.Fmt.{decimal};
 ghost use Rattle.std.specs.List.{after_first, before_first, list_any, position_or_len};
 ghost use Rattle.std.specs.Option.{option_copied};
 ghost use Rattle.bpf_base.specs.Bytes.{low_bytes, modulus};
-ghost use Rattle.bpf_check.specs.Parts.{compared_part, comparison_in, fault_part, is_fault_form, field_in, field_part, has_field, in_16_bits, index_in, is_close, is_field_form, is_joint, is_open, is_result_form, join_in, joint_of, line_of, line_part, name_in, offset_in, pair_part, pair_start, part_in, parts_in, relation_in, result_in, result_part, result_start, size_in, wanted_in, words_behind};
+ghost use Rattle.bpf_check.specs.Parts.{compared_part, comparison_in, fault_part, is_fault_form, field_in, field_part, has_field, in_16_bits, index_in, is_close, is_field_form, is_joint, is_open, is_result_form, join_in, joint_of, line_of, line_part, name_in, offset_in, pair_part, pair_start, part_in, parts_in, relation_in, result_in, result_part, result_start, size_in, is_variable_form, variable_part, variable_start, wanted_in, words_behind};
 ghost use Rattle.bpf_check.specs.Private.Joints.{PushesParts};
 ghost use Rattle.bpf_shared.specs.Access.{bytes_in};
 
@@ -265,7 +265,7 @@ fn wanted_in(words: &[&[u8]]) -> Option<Wanted>
 }
 
 /// Whether n bytes hold a number.
-fn is_held(size: u64, number: u64) -> bool
+pub(crate) fn is_held(size: u64, number: u64) -> bool
     ensures { result ≡ nat_lt number (modulus size) }
 {
     if size >= 8 {
@@ -344,6 +344,43 @@ fn pair_part(
     }
 }
 
+/// Whether words have the form `var NAME REL N`.
+fn is_variable_form(words: &[&[u8]]) -> bool
+    ensures { result ≡ is_variable_form (map (λ f. f.now) words.now) }
+{
+    words.len() == 4 && stands(words, 0, "var")
+}
+
+/// How the line of a variable begins.
+fn variable_start(alloc: Global, name: &[u8]) -> Result<Vec<u8>, AllocError>
+    ensures { IfOk result (λ start. start.items ≡ variable_start name.now) }
+{
+    let mut start = b"var ".to_vec(alloc)?;
+    start.extend_from_slice(name)?;
+    start.push(b'=')?;
+    Ok(start)
+}
+
+/// What words of this form claim, if there is such a variable, and the rest of them has the form.
+fn variable_part(
+    alloc: Global,
+    subjects: &Subjects,
+    words: &[&[u8]],
+) -> Result<Option<Part>, AllocError>
+    ensures { IfOk result (λ part. part ≡ variable_part subjects.now (map (λ f. f.now) words.now)) }
+{
+    let name = word_at(words, 1);
+    let Some(comparison) = comparison_in(word_at(words, 2), word_at(words, 3)) else {
+        return Ok(None);
+    };
+    if subjects.variable_size(name).is_none() {
+        return Ok(None);
+    }
+    let bytes = variable_start(alloc, name)?;
+    let kind = Kind::Result(comparison);
+    Ok(Some(Part { kind, bytes }))
+}
+
 /// The part of a claim that is a line.
 pub(crate) fn line_part(line: Vec<u8>) -> Part
     ensures { result ≡ line_part line.items }
@@ -366,6 +403,8 @@ fn compared_part(
         result_in(alloc, subjects, words)
     } else if is_field_form(words) {
         pair_part(alloc, subjects, words)
+    } else if is_variable_form(words) {
+        variable_part(alloc, subjects, words)
     } else {
         Ok(None)
     }

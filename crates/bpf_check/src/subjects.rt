@@ -4,10 +4,13 @@ ghost use Rattle.std.specs.Prelude.{◌≡◌, ◌==◌, ◌+◌, ◌%◌, ◌�
 ghost use Rattle.std.specs.List.{after_first, before_first, list_all};
 ghost use Rattle.std.specs.Option.{option_copied};
 ghost use Rattle.std.specs.Str.{bytes_eq};
-ghost use Rattle.bpf_check.specs.Subjects.{are_bytes, are_keys, array_of, at, can_print, can_print_all, cpu_of, has_jobs, has_plain_digits, is_array_line, is_array_value, is_below, is_budget_end, is_end, is_equals, is_exit, is_fault, is_fault_end, is_hex_digit, is_job_line, is_keys_line, is_map_line, is_number, is_numbered, is_own_value, is_pair, is_result, is_same, is_shared_value, is_value, is_zero, map_of, number_in, place_of, stands};
+ghost use Rattle.bpf_names.specs.Names.{names_of};
+ghost use Rattle.bpf_check.specs.Subjects.{are_bytes, are_keys, array_of, at, can_print, can_print_all, cpu_of, has_jobs, has_plain_digits, is_array_line, is_array_value, is_below, is_budget_end, is_end, is_equals, is_exit, is_fault, is_fault_end, is_hex_digit, is_job_line, is_keys_line, is_map_line, is_number, is_numbered, is_of_size, is_own_value, is_pair, is_result, is_same, is_shared_value, is_value, is_variable_line, is_zero, map_of, number_in, place_of, stands, variable_size};
 
+use crate::parts::is_held;
 use bpf_lines::numbers::{self, Radix};
-use bpf_shared::{ArrayShape, MapShape, StoreShape};
+use bpf_names::{Names, bytes_in};
+use bpf_shared::{ArrayShape, MapShape, Size, StoreShape};
 use std::marker::Model;
 
 /// What the lines of a file's outcomes speak of, and what may be asked of them.
@@ -15,9 +18,8 @@ use std::marker::Model;
 pub struct Subjects {
     /// The CPU of each job.
     jobs: Vec<u8>,
-    /// The maps' names, by their numbers, and then the arrays'.
-    names: Vec<String>,
-    /// The sizes of both, by their numbers.
+    names: Names,
+    /// The sizes of maps and arrays, by their numbers.
     shape: StoreShape,
     /// Whether lists of keys are among the lines.
     lists: bool,
@@ -26,7 +28,7 @@ pub struct Subjects {
 }
 
 impl Model for Subjects {
-    ghost use Rattle.std.specs.Prelude.{map, string_bytes};
+    ghost use Rattle.bpf_names.specs.Names.{names_of};
     ghost use Rattle.bpf_check.specs.Subjects.{Subjects};
 
     ghost Value = { Subjects };
@@ -34,7 +36,7 @@ impl Model for Subjects {
     ghost view = { λ s. record {
       jobs = s.jobs.items;
       cpus = s.shape.cpus;
-      names = map string_bytes s.names.items;
+      names = names_of s.names;
       maps = s.shape.maps;
       arrays = s.shape.arrays;
       lists = s.lists;
@@ -196,6 +198,16 @@ fn is_numbered(limit: u64, count: u64, word: &[u8]) -> bool
     is_below(limit, number_in(key_of(word))) && is_value(count, value_of(word))
 }
 
+/// Whether this many bytes hold a number.
+fn is_of_size(size: Option<Size>, number: Option<u64>) -> bool
+    ensures { result ≡ is_of_size size number }
+{
+    match (size, number) {
+        (Some(size), Some(number)) => is_held(bytes_in(size) as u64, number),
+        _ => false,
+    }
+}
+
 /// Whether words are n bytes each, in lower case hex.
 fn are_keys_of(size: u64, words: &[&[u8]]) -> bool
     ensures { result ≡ list_all (are_bytes size) (map (λ f. f.now) words.now) }
@@ -329,19 +341,13 @@ fn place_of(name: &[u8], names: &[String]) -> Option<usize>
 }
 
 impl Subjects {
-    /// What lines of a file's outcomes speak of: jobs on these CPUs, and maps and then arrays of these
-    /// names and sizes.
-    pub fn new(
-        jobs: Vec<u8>,
-        names: Vec<String>,
-        shape: StoreShape,
-        lists: bool,
-        ends: bool,
-    ) -> Subjects
+    /// What lines of a file's outcomes speak of: jobs on these CPUs, maps and arrays of these sizes,
+    /// and the names of these and of variables.
+    pub fn new(jobs: Vec<u8>, names: Names, shape: StoreShape, lists: bool, ends: bool) -> Subjects
         ensures { result ≡ record {
           jobs = jobs.items;
           cpus = shape.cpus;
-          names = map string_bytes names.items;
+          names = names_of names;
           maps = shape.maps;
           arrays = shape.arrays;
           lists = lists;
@@ -383,7 +389,7 @@ impl Subjects {
     pub(crate) fn map_of(&self, name: &[u8]) -> Option<&MapShape>
         ensures { option_copied result ≡ map_of self.now name.now }
     {
-        match place_of(name, &self.names) {
+        match place_of(name, &self.names.maps) {
             Some(place) => self.shape.maps().get(place),
             None => None,
         }
@@ -393,9 +399,22 @@ impl Subjects {
     fn array_of(&self, name: &[u8]) -> Option<&ArrayShape>
         ensures { option_copied result ≡ array_of self.now name.now }
     {
-        match place_of(name, names_after(&self.names, self.shape.maps().len())) {
+        match place_of(name, names_after(&self.names.maps, self.shape.maps().len())) {
             Some(place) => self.shape.arrays().get(place),
             None => None,
+        }
+    }
+
+    /// The size of the variable of this name, if it has a line.
+    pub(crate) fn variable_size(&self, name: &[u8]) -> Option<Size>
+        ensures { result ≡ variable_size self.now name.now }
+    {
+        let variable = self.names.variable(name)?;
+        let array = self.shape.arrays().get(usize::from(variable.array))?;
+        if array.frozen {
+            None
+        } else {
+            Some(variable.size)
         }
     }
 
@@ -426,6 +445,14 @@ impl Subjects {
         is_array_value(self.shape.cpus(), shape, words)
     }
 
+    /// Whether words after `var` do.
+    fn is_variable_line(&self, words: &[&[u8]]) -> bool
+        ensures { result ≡ is_variable_line self.now (map (λ f. f.now) words.now) }
+    {
+        let word = word_at(words, 0);
+        words.len() == 1 && is_of_size(self.variable_size(key_of(word)), number_in(value_of(word)))
+    }
+
     /// Whether words after `keys` do.
     fn is_keys_line(&self, words: &[&[u8]]) -> bool
         ensures { result ≡ is_keys_line self.now (map (λ f. f.now) words.now) }
@@ -454,6 +481,8 @@ impl Subjects {
             self.is_map_line(more)
         } else if is(first, "array") {
             self.is_array_line(more)
+        } else if is(first, "var") {
+            self.is_variable_line(more)
         } else {
             self.lists && is(first, "keys") && self.is_keys_line(more)
         }

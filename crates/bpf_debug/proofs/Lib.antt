@@ -12,6 +12,7 @@ pub mod NearbyLaws
 pub mod ShowLaws
 pub mod ScheduleLaws
 pub mod ToldLaws
+pub mod TableLaws
 pub mod ScriptLaws
 pub mod OwnValues
 pub mod OwnScenes

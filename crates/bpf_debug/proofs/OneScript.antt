@@ -22,10 +22,10 @@ use Rattle.bpf_debug.specs.Recall.{Past, Recalls, IsLastText, is_of, past_after}
 use Rattle.bpf_debug.specs.Show.{IsShownText}
 use Rattle.bpf_debug.proofs.RecallLaws.{recalls_run}
 use Rattle.bpf_debug.specs.Answer.{IsWhere, changed_line, ended_text, stop_line, watch_line}
-use Rattle.bpf_debug.specs.Command.{Order, Break, Delete, Step, StepTimes, Steps, Go, Registers, Where, Memory, Map, Keys, Schedule, GoTo, Maps, Jobs, Mark, Back, Help, Held, Nearby, Last, Show, Watch, Unwatch, order_of}
+use Rattle.bpf_debug.specs.Command.{Order, Break, Delete, Step, StepTimes, Steps, Go, Registers, Where, Memory, Map, Keys, Schedule, GoTo, Maps, Variables, Jobs, Mark, Back, Help, Held, Nearby, Last, Show, Watch, Unwatch, order_of}
 use Rattle.bpf_debug.specs.Turns.{MakesTurns, MakesRuns, last_cpu}
 use Rattle.bpf_debug.specs.Go.{HasWork, AreIdle, IsUp, StandsAt, Goes, Done, Stops, Changes, Turns, Watched, has_break, has_gone, watched_value}
-use Rattle.bpf_debug.specs.Read.{IsMapText, IsKeysText}
+use Rattle.bpf_debug.specs.Read.{IsTableText, IsKeysText}
 use Rattle.bpf_debug.specs.Course.{cpu_before, turns_before}
 use Rattle.bpf_machine.specs.Laws.{IsFresh}
 use Rattle.bpf_debug.specs.Session.{Scene, IsCourse, Answers, CarriesOut, Obeys, behind, undone, RefusesOrder, RefusesFields, IsLineRefused}
@@ -33,7 +33,7 @@ use Rattle.bpf_debug.specs.Script.{Answer, AnswersLine, RunsScript}
 use Rattle.bpf_debug.specs.Laws.{HadMemory, KeysHaveOwnValues, RecallsChangeNothing, ScriptsAreDetermined}
 use Rattle.bpf_debug.proofs.GoLaws.{free_has_no_work}
 use Rattle.bpf_debug.proofs.OwnScenes.{AreOwn, answer_keeps}
-use Rattle.bpf_debug.proofs.OneText.{one_place, IsSoundPast, off_free, one_off, one_where, one_registers, one_stand_text, one_shown_text, one_memory, one_held_text, one_nearby, one_name, one_map, one_keys}
+use Rattle.bpf_debug.proofs.OneText.{one_place, IsSoundPast, off_free, one_off, one_where, one_registers, one_stand_text, one_shown_text, one_memory, one_held_text, one_nearby, one_name, one_table, one_keys}
 
 -- ---- who is up
 idle_not_up : (jobs : List Task) (a b c : ℕ) → AreIdle jobs a b → HasWork jobs c → a ≤ c → c < b → ⊥
@@ -62,7 +62,7 @@ one_up jobs low high «from» c d a b = elim (cases_order c d) [
 no_cpu : (c cpus : ℕ) → c < cpus → nat_lt c cpus ≡ false → ⊥
 no_cpu c cpus less out = let both : true ≡ false = sym (lt-ltb c cpus less) ∙ out in cc
 
-cpu_refused : (x y : Scene) (order : Order) (text : List ℕ) → CarriesOut x order text y → RefusesOrder x.world.store.shape.cpus x.world.programs x.names (Some (length x.turns)) order error.NoCpu → ⊥
+cpu_refused : (x y : Scene) (order : Order) (text : List ℕ) → CarriesOut x order text y → RefusesOrder x.world.store.shape.cpus x.world.programs x.names.maps (Some (length x.turns)) order error.NoCpu → ⊥
 cpu_refused x y (Break (Some c) (Some p)) text f r = no_cpu c x.world.store.shape.cpus f.0 r
 cpu_refused x y (Break (Some c) None) text f r = absurd f
 cpu_refused x y (Break None p) text f r = absurd f
@@ -89,6 +89,7 @@ cpu_refused x y (GoTo (Some c) (Some p)) text f r = no_cpu c x.world.store.shape
 cpu_refused x y (GoTo (Some c) None) text f r = absurd f
 cpu_refused x y (GoTo None p) text f r = absurd f
 cpu_refused x y Maps text f r = r
+cpu_refused x y Variables text f r = r
 cpu_refused x y Jobs text f r = r
 cpu_refused x y (Watch name digits) text f r = absurd r
 cpu_refused x y Unwatch text f r = absurd r
@@ -103,7 +104,7 @@ cpu_refused x y (Delete (Some c) (Some p)) text f r = no_cpu c x.world.store.sha
 cpu_refused x y (Delete (Some c) None) text f r = absurd f
 cpu_refused x y (Delete None p) text f r = absurd f
 
-pc_refused : (x y : Scene) (order : Order) (text : List ℕ) → CarriesOut x order text y → RefusesOrder x.world.store.shape.cpus x.world.programs x.names (Some (length x.turns)) order error.NoPc → ⊥
+pc_refused : (x y : Scene) (order : Order) (text : List ℕ) → CarriesOut x order text y → RefusesOrder x.world.store.shape.cpus x.world.programs x.names.maps (Some (length x.turns)) order error.NoPc → ⊥
 pc_refused x y (Break (Some c) (Some p)) text f r = r.1 f.1.0
 pc_refused x y (Break (Some c) None) text f r = absurd f
 pc_refused x y (Break None p) text f r = absurd f
@@ -123,6 +124,7 @@ pc_refused x y (GoTo (Some c) (Some p)) text f r = r.1 f.1.0
 pc_refused x y (GoTo (Some c) None) text f r = absurd f
 pc_refused x y (GoTo None p) text f r = absurd f
 pc_refused x y Maps text f r = absurd r
+pc_refused x y Variables text f r = absurd r
 pc_refused x y Jobs text f r = absurd r
 pc_refused x y (Watch name digits) text f r = absurd r
 pc_refused x y Unwatch text f r = absurd r
@@ -135,12 +137,13 @@ pc_refused x y (Delete (Some c) (Some p)) text f r = r.1 f.1.0
 pc_refused x y (Delete (Some c) None) text f r = absurd f
 pc_refused x y (Delete None p) text f r = absurd f
 
-map_refused : (x y : Scene) (order : Order) (text : List ℕ) → CarriesOut x order text y → RefusesOrder x.world.store.shape.cpus x.world.programs x.names (Some (length x.turns)) order error.NoMap → ⊥
+map_refused : (x y : Scene) (order : Order) (text : List ℕ) → CarriesOut x order text y → RefusesOrder x.world.store.shape.cpus x.world.programs x.names.maps (Some (length x.turns)) order error.NoMap → ⊥
 map_refused x y (Map name) text f r = r f.0.0 f.0.1.0
 map_refused x y (Keys name) text f r = r f.0.0 f.0.1.0
 map_refused x y Schedule text f r = absurd r
 map_refused x y (GoTo c p) text f r = absurd r
 map_refused x y Maps text f r = absurd r
+map_refused x y Variables text f r = absurd r
 map_refused x y Jobs text f r = absurd r
 map_refused x y (Watch name digits) text f r = r.0 f.0 f.2.0
 map_refused x y Unwatch text f r = absurd r
@@ -171,13 +174,14 @@ not_both_bytes digits some none = by_result (decode_of digits) some none
     by_result (Ok key) some none = let both : false ≡ true = none in cc
     by_result (Err e) some none = let both : false ≡ true = some in cc
 
-turns_refused : (x y : Scene) (order : Order) (text : List ℕ) → CarriesOut x order text y → RefusesOrder x.world.store.shape.cpus x.world.programs x.names (Some (length x.turns)) order error.BadOperand → ⊥
+turns_refused : (x y : Scene) (order : Order) (text : List ℕ) → CarriesOut x order text y → RefusesOrder x.world.store.shape.cpus x.world.programs x.names.maps (Some (length x.turns)) order error.BadOperand → ⊥
 turns_refused x y (Back n) text f r = omega (arith, f.0, r)
 turns_refused x y (Map name) text f r = absurd r
 turns_refused x y (Keys name) text f r = absurd r
 turns_refused x y Schedule text f r = absurd r
 turns_refused x y (GoTo c p) text f r = absurd r
 turns_refused x y Maps text f r = absurd r
+turns_refused x y Variables text f r = absurd r
 turns_refused x y Jobs text f r = absurd r
 turns_refused x y (Watch name digits) text f r = not_bytes digits f.1 f.3 r
 turns_refused x y Unwatch text f r = absurd r
@@ -240,6 +244,7 @@ module _ (cpus : ℕ) (programs : List Loaded) (names : List (List ℕ)) (count 
   cpu_or_pc Schedule a b = absurd b
   cpu_or_pc (GoTo c p) a b = b.0 a
   cpu_or_pc Maps a b = absurd b
+  cpu_or_pc Variables a b = absurd b
   cpu_or_pc Jobs a b = absurd b
   cpu_or_pc (Watch name digits) a b = absurd b
   cpu_or_pc Unwatch a b = absurd b
@@ -266,6 +271,7 @@ module _ (cpus : ℕ) (programs : List Loaded) (names : List (List ℕ)) (count 
   cpu_or_map Schedule a b = absurd b
   cpu_or_map (GoTo c p) a b = absurd b
   cpu_or_map Maps a b = absurd b
+  cpu_or_map Variables a b = absurd b
   cpu_or_map Jobs a b = absurd b
   cpu_or_map (Watch name digits) a b = absurd a
   cpu_or_map Unwatch a b = absurd b
@@ -292,6 +298,7 @@ module _ (cpus : ℕ) (programs : List Loaded) (names : List (List ℕ)) (count 
   pc_or_map Schedule a b = absurd b
   pc_or_map (GoTo c p) a b = absurd b
   pc_or_map Maps a b = absurd b
+  pc_or_map Variables a b = absurd b
   pc_or_map Jobs a b = absurd b
   pc_or_map (Watch name digits) a b = absurd a
   pc_or_map Unwatch a b = absurd b
@@ -319,6 +326,7 @@ module _ (cpus : ℕ) (programs : List Loaded) (names : List (List ℕ)) (count 
   cpu_or_turns Schedule a b = absurd b
   cpu_or_turns (GoTo c p) a b = absurd b
   cpu_or_turns Maps a b = absurd b
+  cpu_or_turns Variables a b = absurd b
   cpu_or_turns Jobs a b = absurd b
   cpu_or_turns (Watch name digits) a b = absurd a
   cpu_or_turns Unwatch a b = absurd b
@@ -345,6 +353,7 @@ module _ (cpus : ℕ) (programs : List Loaded) (names : List (List ℕ)) (count 
   pc_or_turns Schedule a b = absurd b
   pc_or_turns (GoTo c p) a b = absurd b
   pc_or_turns Maps a b = absurd b
+  pc_or_turns Variables a b = absurd b
   pc_or_turns Jobs a b = absurd b
   pc_or_turns (Watch name digits) a b = absurd a
   pc_or_turns Unwatch a b = absurd b
@@ -371,6 +380,7 @@ module _ (cpus : ℕ) (programs : List Loaded) (names : List (List ℕ)) (count 
   map_or_turns Schedule a b = absurd b
   map_or_turns (GoTo c p) a b = absurd b
   map_or_turns Maps a b = absurd b
+  map_or_turns Variables a b = absurd b
   map_or_turns Jobs a b = absurd b
   map_or_turns (Watch name digits) a b = not_both_bytes digits a.1 b
   map_or_turns Unwatch a b = absurd b
@@ -597,21 +607,22 @@ module _ (law : WritesAreDetermined) (begins : OneInstructionBegins) (replies : 
   one_answer_to x (Memory (Some c) at n) text other world own a b = one_memory x.world world c at n text other a.1 b.1
   one_answer_to x (Memory None at n) text other world own a b = absurd a
   one_answer_to x (Map name) text other world own a b =
-      let same = one_name x.names name a.0 b.0 a.1 b.1 in
-      let P : ℕ → Type 0 = λ m. IsMapText x.world.store m other in
-      one_map x.world.store a.0 text other a.2 (subst P (sym same) b.2)
+      let same = one_name x.names.maps name a.0 b.0 a.1 b.1 in
+      let P : ℕ → Type 0 = λ m. IsTableText x.world.store x.names.maps m other in
+      one_table x.world.store x.names.maps a.0 text other a.2 (subst P (sym same) b.2)
   one_answer_to x (Keys name) text other world own a b =
-      let same = one_name x.names name a.0 b.0 a.1 b.1 in
+      let same = one_name x.names.maps name a.0 b.0 a.1 b.1 in
       let P : ℕ → Type 0 = λ m. IsKeysText x.world.store m other in
       one_keys x.world.store a.0 text other a.2 (subst P (sym same) b.2)
   one_answer_to x Schedule text other world own a b = a ∙ sym b
   one_answer_to x Maps text other world own a b = a ∙ sym b
+  one_answer_to x Variables text other world own a b = a ∙ sym b
   one_answer_to x Jobs text other world own a b = a ∙ sym b
   one_answer_to x (Watch name digits) text other world own a b = absurd a
   one_answer_to x Unwatch text other world own a b = absurd a
   one_answer_to x (Mark n) text other world own a b = a ∙ sym b
   one_answer_to x Help text other world own a b = a ∙ sym b
-  one_answer_to x (Held (Some c)) text other world own a b = one_held_text x.world world own x.names c text other a.1 b.1
+  one_answer_to x (Held (Some c)) text other world own a b = one_held_text x.world world own x.names.maps c text other a.1 b.1
   one_answer_to x (Nearby (Some c)) text other world own a b = one_nearby x.world world begins c text other a.1 b.1
   one_answer_to x (Held None) text other world own a b = absurd a
   one_answer_to x (Nearby None) text other world own a b = absurd a
@@ -660,7 +671,7 @@ module _ (law : WritesAreDetermined) (begins : OneInstructionBegins) (replies : 
   one_follow x y z (Break (Some c) None) text other world first own a b = absurd a
   one_follow x y z (Break None p) text other world first own a b = absurd a
   one_follow x y z (Watch name digits) text other world first own a b =
-      let map : a.0 ≡ b.0 = one_name x.names name a.0 b.0 a.2 b.2 in
+      let map : a.0 ≡ b.0 = one_name x.names.maps name a.0 b.0 a.2 b.2 in
       let both : Ok a.1 ≡ Ok b.1 = sym a.3 ∙ b.3 in
       let key : a.1 ≡ b.1 = cc in
       record {
@@ -752,9 +763,9 @@ module _ (law : WritesAreDetermined) (begins : OneInstructionBegins) (replies : 
   one_follow x y z (Show (Some c)) text other world first own (has, inr a) (had, inl b) = absurd (off_free x.world.jobs c other b.0 a.3.0 a.3.1 a.3.2 a.3.3 a.3.6)
   one_follow x y z (Show (Some c)) text other world first own (has, inr a) (had, inr b) =
       let one = one_recall kind.Works c x.first None x.turns a.0 b.0 a.1 b.1 first tt a.2 b.2 in
-      let Q : Option Past → Type 0 = λ p. IsShownText c x.names p x.world other in
+      let Q : Option Past → Type 0 = λ p. IsShownText c x.names.maps p x.world other in
       record {
-        texts = one_shown_text x.world world own c x.names a.0 text other one.sound a.3 (subst Q (sym one.pasts) b.3);
+        texts = one_shown_text x.world world own c x.names.maps a.0 text other one.sound a.3 (subst Q (sym one.pasts) b.3);
         scenes = a.4 ∙ ap (λ (w : World). record x { world = w }) one.worlds ∙ sym b.4;
         world = subst (λ (s : Scene). IsWorld s.world) (sym a.4) one.world;
         first = subst (λ (s : Scene). IsWorld s.first) (sym a.4) first;
@@ -763,6 +774,7 @@ module _ (law : WritesAreDetermined) (begins : OneInstructionBegins) (replies : 
   one_follow x y z (Held c) text other world first own a b = asked x y z (Held c) text other world first own a b
   one_follow x y z (Nearby c) text other world first own a b = asked x y z (Nearby c) text other world first own a b
   one_follow x y z Maps text other world first own a b = asked x y z Maps text other world first own a b
+  one_follow x y z Variables text other world first own a b = asked x y z Variables text other world first own a b
   one_follow x y z Jobs text other world first own a b = asked x y z Jobs text other world first own a b
   one_follow x y z (Mark n) text other world first own a b = asked x y z (Mark n) text other world first own a b
   one_follow x y z (Registers c) text other world first own a b = asked x y z (Registers c) text other world first own a b
@@ -798,7 +810,7 @@ module _ (law : WritesAreDetermined) (begins : OneInstructionBegins) (replies : 
   one_answer x y z line (Ok text) (Err e) world first own a b n m = absurd (line_refused x y (fields_of line) text e a (λ is. m (ap (λ (f : DebugError). Err f) is)) b.0)
   one_answer x y z line (Err e) (Ok text) world first own a b n m = absurd (line_refused x z (fields_of line) text e b (λ is. n (ap (λ (f : DebugError). Err f) is)) a.0)
   one_answer x y z line (Err e) (Err f) world first own a b n m =
-      let same = one_reason x.world.store.shape.cpus x.world.programs x.names (Some (length x.turns)) (fields_of line) e f (λ is. n (ap (λ (g : DebugError). Err g) is)) (λ is. m (ap (λ (g : DebugError). Err g) is)) a.0 b.0 in
+      let same = one_reason x.world.store.shape.cpus x.world.programs x.names.maps (Some (length x.turns)) (fields_of line) e f (λ is. n (ap (λ (g : DebugError). Err g) is)) (λ is. m (ap (λ (g : DebugError). Err g) is)) a.0 b.0 in
       record {
         answers = ap (λ (g : DebugError). Err g) same;
         scenes = a.1 ∙ sym b.1;

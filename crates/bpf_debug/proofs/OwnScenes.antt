@@ -4,7 +4,7 @@ use Rattle.std.specs.Prelude.{Ok, Err}
 use Rattle.bpf_lines.specs.Lines.{fields_of}
 use Rattle.bpf_machine.specs.Schedule.{World, RunsSchedule, unrolled}
 use Rattle.bpf_debug.specs.declared.recall.Kind.TheVariants as kind
-use Rattle.bpf_debug.specs.Command.{Order, Break, Delete, Step, StepTimes, Steps, Go, Registers, Where, Memory, Map, Keys, Schedule, GoTo, Maps, Jobs, Mark, Back, Help, Held, Nearby, Last, Show, Watch, Unwatch}
+use Rattle.bpf_debug.specs.Command.{Order, Break, Delete, Step, StepTimes, Steps, Go, Registers, Where, Memory, Map, Keys, Schedule, GoTo, Maps, Variables, Jobs, Mark, Back, Help, Held, Nearby, Last, Show, Watch, Unwatch}
 use Rattle.bpf_debug.specs.Course.{turns_before}
 use Rattle.bpf_debug.specs.Session.{Scene, CarriesOut, Obeys, behind}
 use Rattle.bpf_debug.specs.Script.{Answer, AnswersLine}
@@ -65,6 +65,7 @@ order_keeps x y (Map name) text are f = stays x y are f.1
 order_keeps x y (Keys name) text are f = stays x y are f.1
 order_keeps x y Schedule text are f = stays x y are f.1
 order_keeps x y Maps text are f = stays x y are f.1
+order_keeps x y Variables text are f = stays x y are f.1
 order_keeps x y Jobs text are f = stays x y are f.1
 order_keeps x y (Mark n) text are f = stays x y are f.1
 order_keeps x y Help text are f = stays x y are f.1

@@ -1,6 +1,6 @@
 -- Questions change nothing.
 use Rattle.std.proofs.Common.{◌≡◌, ℕ, List, Option, Some, None, ◌⊎◌, inl, inr, ap}
-use Rattle.bpf_debug.specs.Command.{Order, Break, Delete, Step, StepTimes, Steps, Go, Registers, Where, Memory, Map, Keys, Schedule, GoTo, Maps, Jobs, Mark, Back, Help, Held, Nearby, Last, Show, Watch, Unwatch}
+use Rattle.bpf_debug.specs.Command.{Order, Break, Delete, Step, StepTimes, Steps, Go, Registers, Where, Memory, Map, Keys, Schedule, GoTo, Maps, Variables, Jobs, Mark, Back, Help, Held, Nearby, Last, Show, Watch, Unwatch}
 use Rattle.bpf_debug.specs.Session.{Scene, CarriesOut}
 use Rattle.bpf_debug.specs.Laws.{IsQuestion, QuestionsChangeNothing}
 
@@ -12,6 +12,7 @@ asks x y (Map name) text q f = f.1
 asks x y (Keys name) text q f = f.1
 asks x y Schedule text q f = f.1
 asks x y Maps text q f = f.1
+asks x y Variables text q f = f.1
 asks x y Jobs text q f = f.1
 asks x y (Mark n) text q f = f.1
 asks x y Help text q f = f.1

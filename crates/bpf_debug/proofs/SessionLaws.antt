@@ -8,9 +8,12 @@ use Rattle.std.specs.Prelude.{codes, Ok}
 use Rattle.hex.specs.Hex.{decode_of}
 use Rattle.bpf_schedule.specs.Spelling.{runs_text}
 use Rattle.bpf_loader.specs.Loaded.{Loaded}
-use Rattle.bpf_shared.specs.declared.shapes.MapShape.{MapShape}
 use Rattle.bpf_shared.specs.Shape.{Shape}
-use Rattle.bpf_plain.specs.PlainStore.{has_cpu, shapes_of}
+use Rattle.bpf_shared.specs.Store.{Plain}
+use Rattle.bpf_shared.specs.Sound.{IsSoundStore}
+use Rattle.bpf_names.specs.Names.{Names}
+use Rattle.bpf_plain.specs.PlainStore.{StandsFor, has_cpu, shape_of}
+use Rattle.bpf_jobs.specs.Printed.{variable_lines}
 use Rattle.bpf_machine.specs.declared.machine.Turn.{Turn}
 use Rattle.bpf_cpu.specs.Task.{Stage, Task, Waiting, InHand, Ended}
 use Rattle.bpf_machine.specs.Schedule.{World, TakesTurn, RunsSchedule, unrolled}
@@ -21,7 +24,7 @@ use Rattle.bpf_machine.specs.Hands.{IsAt}
 use Rattle.bpf_machine.specs.Work.{IsState}
 use Rattle.bpf_cpu.specs.declared.cpu.Cpu.{Cpu}
 use Rattle.bpf_debug.specs.declared.breakpoint.Breakpoint.{Breakpoint}
-use Rattle.bpf_debug.specs.Command.{Order, Break, Delete, Step, StepTimes, Steps, Go, Registers, Where, Memory, Map, Keys, Schedule, GoTo, Maps, Jobs, Mark, Back, Help, Held, Nearby, Last, Show, Watch, Unwatch, order_of}
+use Rattle.bpf_debug.specs.Command.{Order, Break, Delete, Step, StepTimes, Steps, Go, Registers, Where, Memory, Map, Keys, Schedule, GoTo, Maps, Variables, Jobs, Mark, Back, Help, Held, Nearby, Last, Show, Watch, Unwatch, order_of}
 use Rattle.bpf_debug.specs.declared.error.DebugError.{DebugError}
 use Rattle.bpf_debug.specs.declared.error.DebugError.TheVariants as error
 use Rattle.bpf_debug.specs.Answer.{IsWhere, IsRegisters, IsOff, ended_text, break_line, deleted_line, watch_line, unwatched_line}
@@ -33,9 +36,9 @@ use Rattle.bpf_debug.specs.declared.recall.Recall.{Recall}
 use Rattle.bpf_debug.specs.Show.{AreShownLines, IsBefore, IsShownText, changed_text}
 use Rattle.bpf_debug.specs.Private.Naming.{ShowsLines}
 use Rattle.bpf_debug.proofs.RecallLaws.{recalls_run}
-use Rattle.bpf_debug.specs.Read.{IsMemoryText, IsNamed, TellsBytes, TellsKeys, TellsMap}
+use Rattle.bpf_debug.specs.Read.{IsMemoryText, IsNamed, IsTableText, TellsBytes, TellsKeys, TellsTable}
 use Rattle.bpf_debug.specs.Go.{Goes, Watched, has_break, without_break}
-use Rattle.bpf_debug.specs.Told.{shape_lines, told_jobs, mark_line}
+use Rattle.bpf_debug.specs.Told.{store_lines, told_jobs, mark_line}
 use Rattle.bpf_debug.specs.Course.{AreFewer, IsKept, KeepsOn, TakesBack, count_of, cpu_before, runs_of, turns_before}
 use Rattle.bpf_debug.specs.Origin.{OriginState, CanRewind, first_of}
 use Rattle.bpf_debug.specs.Help.{help_text}
@@ -84,7 +87,7 @@ can_rewound o m n is can =
 pub alone : (room last text : List ℕ) → room ≡ [] → last ≡ room ++ text → last ≡ text
 alone room last text empty e = e ∙ ap (λ (s : List ℕ). s ++ text) empty
 
-module _ (m : MachineState) (o : OriginState) (names : List (List ℕ)) (breaks : List Breakpoint) (watch : Option Watched) (kept : Option (List (ℕ × ℕ))) where
+module _ (m : MachineState) (o : OriginState) (names : Names) (breaks : List Breakpoint) (watch : Option Watched) (kept : Option (List (ℕ × ℕ))) where
   -- a session of these, and what it is with another machine and turns more
   abbrev session : SessionState
   session = record { machine = m; first = first_of o m.programs; names = names; breaks = breaks; watch = watch; course = kept }
@@ -240,7 +243,7 @@ module _ (m : MachineState) (o : OriginState) (names : List (List ℕ)) (breaks 
 
   pub told_shown : (rewound n : MachineState) (runs : List (ℕ × ℕ)) (c : ℕ) (recall : Option Recall) (state : Cpu) (lines : List (List ℕ)) (last : List ℕ) → has_cpu m.store c ≡ true → kept ≡ Some runs → rewound ≡ first_of o m.programs
       → ((w : World) → Shows rewound w → (z : World) × (past : Option Past) × Recalls kind.Works c w None (unrolled runs) past z × Shows n z × IsRecall c recall past) → IsSameHost rewound n → IsState m.jobs c state
-      → ShowsLines names m.store state.held 0 state.registers lines
+      → ShowsLines names.maps m.store state.held 0 state.registers lines
       → ((past : Option Past) → IsRecall c recall past → (before : List ℕ) × IsBefore c past before × (last ≡ changed_text before 0 state.registers lines))
       → Leaves session (Show (Some c)) last (moved_on n kept)
   told_shown rewound n runs c recall state lines last has is again turns same hand shows put x shown =
@@ -249,9 +252,9 @@ module _ (m : MachineState) (o : OriginState) (names : List (List ℕ)) (breaks 
       let z = turns x.first (subst (λ (r : MachineState). Shows r x.first) (sym again) shown.first) in
       let t = put z.1 z.4 in
       let J : List Task → Type 0 = λ jobs. IsAt jobs c hand.0 hand.1 (InHand state hand.2) in
-      let N : List (List ℕ) → Type 0 = λ ns. AreShownLines ns x.world.store state.held 0 state.registers lines in
+      let N : Names → Type 0 = λ ns. AreShownLines ns.maps x.world.store state.held 0 state.registers lines in
       let are = subst N (sym shown.names) (shows x.world.store shown.world.sound shown.world.store) in
-      let text : IsShownText c x.names z.1 x.world last = (hand.0, hand.1, state, hand.2, t.0, lines, subst J (sym shown.world.jobs) hand.3, t.1, are, t.2) in
+      let text : IsShownText c x.names.maps z.1 x.world last = (hand.0, hand.1, state, hand.2, t.0, lines, subst J (sym shown.world.jobs) hand.3, t.1, are, t.2) in
       let R : List ℕ → Type 0 = λ cs. Recalls kind.Works c x.first None cs z.1 z.0 in
       let programs : n.programs ≡ m.programs = same.programs ∙ ap (λ (r : MachineState). r.programs) again in (
         record x { world = z.0 },
@@ -266,10 +269,10 @@ module _ (m : MachineState) (o : OriginState) (names : List (List ℕ)) (breaks 
         },
       )
 
-  pub set_watch : (name digits key : List ℕ) (n : ℕ) (more : Option Watched) (last : List ℕ) → IsNamed names name n → decode_of digits ≡ Ok key → more ≡ Some (n, key) → last ≡ watch_line name key
+  pub set_watch : (name digits key : List ℕ) (n : ℕ) (more : Option Watched) (last : List ℕ) → IsNamed names.maps name n → decode_of digits ≡ Ok key → more ≡ Some (n, key) → last ≡ watch_line name key
       → Leaves session (Watch name digits) last (record { machine = m; first = first_of o m.programs; names = names; breaks = breaks; watch = more; course = kept })
   set_watch name digits key n more last named decoded same put x shown =
-      let N : List (List ℕ) → Type 0 = λ ns. IsNamed ns name n in (
+      let N : Names → Type 0 = λ ns. IsNamed ns.maps name n in (
         record x { watch = Some (n, key) },
         (n, key, subst N (sym shown.names) named, decoded, put, refl),
         record { world = shown.world; first = shown.first; names = shown.names; breaks = shown.breaks; watch = sym same; turns = shown.turns },
@@ -323,18 +326,18 @@ told_off s c at n room last has empty place x shown =
     (x, ((is_cpu s.machine x.world c has shown.world, subst J (sym shown.world.jobs) (subst T (sym same) (inr place.1))), refl), shown)
 
 pub told_held : (s : SessionState) (c : ℕ) (last : List ℕ) (state : Cpu) → has_cpu s.machine.store c ≡ true
-    → IsState s.machine.jobs c state → ShowsHeld s.names s.machine.store state (length state.held) last → Leaves s (Held (Some c)) last s
+    → IsState s.machine.jobs c state → ShowsHeld s.names.maps s.machine.store state (length state.held) last → Leaves s (Held (Some c)) last s
 told_held s c last state has hand tells x shown =
     let shows = tells x.world.store shown.world.sound shown.world.store in
-    let N : List (List ℕ) → Type 0 = λ names. TellsHeld names x.world.store state (length state.held) last in
-    let J : List Task → Type 0 = λ jobs. IsHeldText x.names x.world.store jobs c last in
+    let N : Names → Type 0 = λ names. TellsHeld names.maps x.world.store state (length state.held) last in
+    let J : List Task → Type 0 = λ jobs. IsHeldText x.names.maps x.world.store jobs c last in
     (x, ((is_cpu s.machine x.world c has shown.world, subst J (sym shown.world.jobs) (inl (hand.0, hand.1, state, hand.2, hand.3, subst N (sym shown.names) shows))), refl), shown)
 
 pub told_no_held : (s : SessionState) (c : ℕ) (room last : List ℕ) → has_cpu s.machine.store c ≡ true → room ≡ []
     → ((text : List ℕ) × IsOff s.machine.jobs c text × (last ≡ room ++ text)) → Leaves s (Held (Some c)) last s
 told_no_held s c room last has empty place x shown =
-    let J : List Task → Type 0 = λ jobs. IsHeldText x.names x.world.store jobs c last in
-    let T : List ℕ → Type 0 = λ text. IsHeldText x.names x.world.store s.machine.jobs c text in
+    let J : List Task → Type 0 = λ jobs. IsHeldText x.names.maps x.world.store jobs c last in
+    let T : List ℕ → Type 0 = λ text. IsHeldText x.names.maps x.world.store s.machine.jobs c text in
     let same = alone room last place.0 empty place.2 in
     (x, ((is_cpu s.machine x.world c has shown.world, subst J (sym shown.world.jobs) (subst T (sym same) (inr place.1))), refl), shown)
 
@@ -352,14 +355,14 @@ told_nearby s c last has tells x shown =
     let P : List Loaded → Type 0 = λ ps. IsNearbyText ps s.machine.jobs c last in
     (x, ((is_cpu s.machine x.world c has shown.world, subst J (sym shown.world.jobs) (subst P (sym shown.world.programs) tells)), refl), shown)
 
-pub told_map : (s : SessionState) (name : List ℕ) (m : ℕ) (last : List ℕ) → IsNamed s.names name m → TellsMap s.machine.store m last → Leaves s (Map name) last s
+pub told_map : (s : SessionState) (name : List ℕ) (m : ℕ) (last : List ℕ) → IsNamed s.names.maps name m → TellsTable s.machine.store s.names.maps m last → Leaves s (Map name) last s
 told_map s name m last named tells x shown =
-    let N : List (List ℕ) → Type 0 = λ names. IsNamed names name m in
-    (x, ((m, subst N (sym shown.names) named, tells x.world.store shown.world.sound shown.world.store), refl), shown)
+    let N : Names → Type 0 = λ names. IsNamed names.maps name m × IsTableText x.world.store names.maps m last in
+    (x, ((m, subst N (sym shown.names) (named, tells x.world.store shown.world.sound shown.world.store)), refl), shown)
 
-pub told_keys : (s : SessionState) (name : List ℕ) (m : ℕ) (last : List ℕ) → IsNamed s.names name m → TellsKeys s.machine.store m last → Leaves s (Keys name) last s
+pub told_keys : (s : SessionState) (name : List ℕ) (m : ℕ) (last : List ℕ) → IsNamed s.names.maps name m → TellsKeys s.machine.store m last → Leaves s (Keys name) last s
 told_keys s name m last named tells x shown =
-    let N : List (List ℕ) → Type 0 = λ names. IsNamed names name m in
+    let N : Names → Type 0 = λ names. IsNamed names.maps name m in
     (x, ((m, subst N (sym shown.names) named, tells x.world.store shown.world.sound shown.world.store), refl), shown)
 
 pub told_course : (s : SessionState) (runs : List (ℕ × ℕ)) (last : List ℕ) → s.course ≡ Some runs → last ≡ codes "steps" ++ runs_text (length runs) runs ++ codes "\n"
@@ -369,11 +372,17 @@ told_course s runs last is put x shown =
     let told : runs ≡ runs_of x.turns = subst K is shown.turns in
     (x, (put ∙ ap (λ (rs : List (ℕ × ℕ)). codes "steps" ++ runs_text (length rs) rs ++ codes "\n") told, refl), shown)
 
-pub told_maps : (s : SessionState) (last : List ℕ) → last ≡ shape_lines s.names (shapes_of s.machine.store) (length s.names) → Leaves s Maps last s
+pub told_maps : (s : SessionState) (last : List ℕ) → last ≡ store_lines s.names (shape_of s.machine.store) → Leaves s Maps last s
 told_maps s last put x shown =
-    let N : List (List ℕ) → Type 0 = λ ns. last ≡ shape_lines ns x.world.store.shape.maps (length ns) in
-    let M : List MapShape → Type 0 = λ maps. last ≡ shape_lines s.names maps (length s.names) in
-    (x, (subst N (sym shown.names) (subst M (sym (ap (λ (s : Shape). s.maps) shown.world.store.shape)) put), refl), shown)
+    let N : Names → Type 0 = λ ns. last ≡ store_lines ns x.world.store.shape in
+    let H : Shape → Type 0 = λ h. last ≡ store_lines s.names h in
+    (x, (subst N (sym shown.names) (subst H (sym shown.world.store.shape) put), refl), shown)
+
+pub told_variables : (s : SessionState) (last : List ℕ)
+    → ((p : Plain) → IsSoundStore p → StandsFor s.machine.store p → last ≡ variable_lines p s.names.variables (length s.names.variables)) → Leaves s Variables last s
+told_variables s last told x shown =
+    let N : Names → Type 0 = λ names. last ≡ variable_lines x.world.store names.variables (length names.variables) in
+    (x, (subst N (sym shown.names) (told x.world.store shown.world.sound shown.world.store), refl), shown)
 
 pub told_of_jobs : (s : SessionState) (room last : List ℕ) → room ≡ [] → last ≡ room ++ told_jobs (length s.machine.jobs) s.machine.jobs → Leaves s Jobs last s
 told_of_jobs s room last empty put x shown =
@@ -416,6 +425,7 @@ follows_on x (Map name) text y f course = stays x y f.1 course
 follows_on x (Keys name) text y f course = stays x y f.1 course
 follows_on x Schedule text y f course = stays x y f.1 course
 follows_on x Maps text y f course = stays x y f.1 course
+follows_on x Variables text y f course = stays x y f.1 course
 follows_on x Jobs text y f course = stays x y f.1 course
 follows_on x (Mark n) text y f course = stays x y f.1 course
 follows_on x Help text y f course = stays x y f.1 course
@@ -477,6 +487,7 @@ few_turns kept turns (Keys name) is few = absurd few
 few_turns kept turns Schedule is few = absurd few
 few_turns kept turns (GoTo c p) is few = absurd few
 few_turns kept turns Maps is few = absurd few
+few_turns kept turns Variables is few = absurd few
 few_turns kept turns Jobs is few = absurd few
 few_turns kept turns (Mark n) is few = absurd few
 few_turns kept turns Help is few = absurd few
@@ -494,12 +505,12 @@ counted cpus programs names kept turns order error.BadOperand is here = few_turn
 
 module _ (s : SessionState) (x : Scene) (shown : IsShown s x) where
   -- what a session refuses, its scenes refuse
-  moved : (order : Order) (e : DebugError) → RefusesHere s order e → RefusesOrder x.world.store.shape.cpus x.world.programs x.names (Some (length x.turns)) order e
+  moved : (order : Order) (e : DebugError) → RefusesHere s order e → RefusesOrder x.world.store.shape.cpus x.world.programs x.names.maps (Some (length x.turns)) order e
   moved order e here =
-      let C : ℕ → Type 0 = λ cpus. RefusesOrder cpus x.world.programs x.names (Some (length x.turns)) order e in
-      let P : List Loaded → Type 0 = λ programs. RefusesOrder (length s.machine.store.maps.runs) programs x.names (Some (length x.turns)) order e in
-      let N : List (List ℕ) → Type 0 = λ names. RefusesOrder (length s.machine.store.maps.runs) s.machine.programs names (Some (length x.turns)) order e in
-      subst C (sym shown.world.store.maps.cpus) (subst P (sym shown.world.programs) (subst N (sym shown.names) (counted (length s.machine.store.maps.runs) s.machine.programs s.names s.course x.turns order e shown.turns here)))
+      let C : ℕ → Type 0 = λ cpus. RefusesOrder cpus x.world.programs x.names.maps (Some (length x.turns)) order e in
+      let P : List Loaded → Type 0 = λ programs. RefusesOrder (length s.machine.store.maps.runs) programs x.names.maps (Some (length x.turns)) order e in
+      let N : Names → Type 0 = λ names. RefusesOrder (length s.machine.store.maps.runs) s.machine.programs names.maps (Some (length x.turns)) order e in
+      subst C (sym shown.world.store.maps.cpus) (subst P (sym shown.world.programs) (subst N (sym shown.names) (counted (length s.machine.store.maps.runs) s.machine.programs s.names.maps s.course x.turns order e shown.turns here)))
 
 pub line_refused : (s : SessionState) (fields : List (List ℕ)) (order : Order) (e : DebugError) → Some order ≡ order_of fields → RefusesHere s order e → RefusesLine s fields e
 line_refused s fields order error.NoCpu is here x shown = (order, sym is, moved s x shown order error.NoCpu here)

@@ -1,13 +1,15 @@
 -- What is printed of the maps and of the jobs.
 use Rattle.std.proofs.Common.{◌≡◌, ℕ, suc, ◌+◌, ◌<◌, List, [], ◌++◌, length, map, get_or, Option, Some, None, refl, sym, ap, subst, ◌∙◌, append_assoc, arith, String}
-use Rattle.std.specs.Prelude.{option_map, option_and_then, slice_get, string_bytes}
+use Rattle.std.specs.Prelude.{option_map, option_and_then, slice_get, slice_index_or, string_bytes}
 use Rattle.std.specs.declared.alloc.Global.{Global}
 use Rattle.std.proofs.lemmas.List.{get_or-map}
+use Rattle.bpf_shared.specs.declared.shapes.ArrayShape.{ArrayShape}
 use Rattle.bpf_shared.specs.declared.shapes.MapShape.{MapShape}
 use Rattle.bpf_cpu.specs.declared.outcome.Outcome.{Outcome}
 use Rattle.bpf_cpu.specs.Lines.{job_line}
 use Rattle.bpf_cpu.specs.Task.{Task, ended}
-use Rattle.bpf_debug.specs.Told.{named_line, shape_lines, open_line, told_line, told_job, told_jobs}
+use Rattle.bpf_names.specs.Names.{Variable}
+use Rattle.bpf_debug.specs.Told.{array_line, array_lines, named_array, named_line, named_place, place_line, place_lines, shape_lines, open_line, told_line, told_job, told_jobs}
 
 -- ---- jobs
 pub no_cpu : (j : ℕ) (o : Option Task) → option_map (λ task. task.cpu) o ≡ None → told_job j o ≡ []
@@ -37,6 +39,24 @@ one_map_more text new names maps i own inside is so_far more =
     subst (λ (n : ℕ). new ≡ shape_lines (map string_bytes names) maps n) next
     (more ∙ ap (λ (t : List ℕ). t ++ named_line (string_bytes own) (slice_get maps i)) so_far
     ∙ ap (λ (n : List ℕ). shape_lines (map string_bytes names) maps i ++ named_line n (slice_get maps i)) (sym name))
+
+-- ---- arrays and variables
+pub one_array_more : (text new name : List ℕ) (names : List (List ℕ)) (maps : ℕ) (arrays : List ArrayShape) (i : ℕ) (g : ArrayShape) → slice_get arrays i ≡ Some g → name ≡ slice_index_or names (maps + i) []
+    → text ≡ array_lines names maps arrays i → new ≡ text ++ array_line name g → new ≡ array_lines names maps arrays (i + 1)
+one_array_more text new name names maps arrays i g there is so_far more =
+    let next : suc i ≡ i + 1 = omega arith in
+    subst (λ (n : ℕ). new ≡ array_lines names maps arrays n) next
+    (more ∙ ap (λ (t : List ℕ). t ++ array_line name g) so_far
+    ∙ ap (λ (n : List ℕ). array_lines names maps arrays i ++ array_line n g) is
+    ∙ ap (λ (o : Option ArrayShape). array_lines names maps arrays i ++ named_array (slice_index_or names (maps + i) []) o) (sym there))
+
+pub one_place_more : (text new : List ℕ) (names : List (List ℕ)) (maps : ℕ) (variables : List Variable) (i : ℕ) (v : Variable) → slice_get variables i ≡ Some v
+    → text ≡ place_lines names maps variables i → new ≡ text ++ place_line names maps v → new ≡ place_lines names maps variables (i + 1)
+one_place_more text new names maps variables i v there so_far more =
+    let next : suc i ≡ i + 1 = omega arith in
+    subst (λ (n : ℕ). new ≡ place_lines names maps variables n) next
+    (more ∙ ap (λ (t : List ℕ). t ++ place_line names maps v) so_far
+    ∙ ap (λ (o : Option Variable). place_lines names maps variables i ++ named_place names maps o) (sym there))
 
 -- ---- texts, one after the other
 pub behind_both : (x y z a b : List ℕ) → y ≡ x ++ a → z ≡ y ++ b → z ≡ x ++ (a ++ b)

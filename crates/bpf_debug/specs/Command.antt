@@ -39,6 +39,8 @@ pub data Order : Type 0 where
   GoTo : Option ℕ → Option ℕ → Order
   -- `maps`
   Maps : Order
+  -- `vars`
+  Variables : Order
   -- `jobs`
   Jobs : Order
   -- `mark N`
@@ -103,10 +105,11 @@ one_word w =
     if bytes_eq (codes "go") w then Some Go
     else (if bytes_eq (codes "schedule") w then Some Schedule
     else (if bytes_eq (codes "maps") w then Some Maps
+    else (if bytes_eq (codes "vars") w then Some Variables
     else (if bytes_eq (codes "jobs") w then Some Jobs
     else (if bytes_eq (codes "help") w then Some Help
     else (if bytes_eq (codes "watch") w then Some Unwatch
-    else None)))))
+    else None))))))
 
 abbrev pub two_words : List ℕ → List ℕ → Option Order
 two_words w a =
@@ -189,6 +192,7 @@ command_order (command.Keys name) = Keys name.now
 command_order command.Schedule = Schedule
 command_order (command.GoTo c p) = GoTo c p
 command_order command.Maps = Maps
+command_order command.Variables = Variables
 command_order command.Jobs = Jobs
 command_order (command.Mark n) = Mark n
 command_order (command.Back n) = Back n

@@ -1,11 +1,13 @@
 -- What `mem` and `map` show: bytes as a CPU's program may read them, and a map's keys with their
 -- values (our own choice).
-use Rattle.std.specs.Prelude.{◌≡◌, ℕ, zero, suc, ◌+◌, ◌^◌, ◌<◌, ◌≤◌, true, false, ◌⊎◌, List, [], ◌++◌, Option, Some, None, codes, length, slice_get, slice_index}
+use Rattle.std.specs.Prelude.{◌≡◌, ℕ, zero, suc, ◌+◌, ◌^◌, ◌<◌, ◌≤◌, true, false, ◌⊎◌, List, [], ◌++◌, Option, Some, None, codes, length, slice_get, slice_index, slice_index_or}
 use Rattle.hex.specs.Hex.{encode_lower}
 use Rattle.bpf_mem.specs.Memory.{byte_at}
 use Rattle.bpf_shared.specs.Store.{Plain}
 use Rattle.bpf_shared.specs.Sound.{IsSoundStore}
+use Rattle.bpf_shared.specs.declared.shapes.ArrayShape.{ArrayShape}
 use Rattle.bpf_plain.specs.PlainStore.{Contents, StandsFor}
+use Rattle.bpf_jobs.specs.Printed.{Called, value_lines}
 use Rattle.bpf_shared.specs.Listing.{Pair, pair_at, IsListing, IsByteAt, IsOnlyByteAt}
 use Rattle.bpf_helpers.specs.Arrays.{IsInArray}
 use Rattle.bpf_helpers.specs.Held.{reaches}
@@ -112,6 +114,24 @@ abbrev pub IsMapText : Plain → ℕ → List ℕ → Type 0
 IsMapText s m text =
     (pairs : List Pair) × IsListing s m pairs × (text ≡ pair_lines (length pairs) pairs)
 
+-- an array, by its own name alone
+abbrev pub array_named : List (List ℕ) → (maps a : ℕ) → Called
+array_named names maps a =
+    record { number = a; name = slice_index_or names (maps + a) []; variables = [] }
+
+-- its values, also where they may only be read
+abbrev pub values_text : Plain → Called → Option ArrayShape → List ℕ
+values_text s array None = []
+values_text s array (Some g) = value_lines s array g g.max
+
+-- of the maps and the arrays after them the one of this number: a map's keys with their values, or an
+-- array's values
+abbrev pub IsTableText : Plain → List (List ℕ) → ℕ → List ℕ → Type 0
+IsTableText s names m text =
+    ((m < length s.shape.maps) × IsMapText s m text)
+    ⊎ ((a : ℕ) × (m ≡ length s.shape.maps + a)
+    × (text ≡ values_text s (array_named names (length s.shape.maps) a) (slice_get s.shape.arrays a)))
+
 -- the keys of a map alone, in their order
 abbrev pub key_line : Pair → List ℕ
 key_line p = encode_lower p.0 ++ codes "\n"
@@ -129,3 +149,7 @@ TellsKeys p m text = (s : Plain) → IsSoundStore s → StandsFor p s → IsKeys
 
 abbrev pub TellsMap : Contents → ℕ → List ℕ → Type 0
 TellsMap p m text = (s : Plain) → IsSoundStore s → StandsFor p s → IsMapText s m text
+
+abbrev pub TellsTable : Contents → List (List ℕ) → ℕ → List ℕ → Type 0
+TellsTable p names m text =
+    (s : Plain) → IsSoundStore s → StandsFor p s → IsTableText s names m text

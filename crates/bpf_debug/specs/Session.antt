@@ -3,6 +3,7 @@
 use Rattle.std.specs.Prelude.{◌≡◌, ℕ, ◌+◌, ◌<◌, ◌≤◌, replicate, Bool, true, false, nat_lt, if◌then◌else◌, ◌⊎◌, List, [], ◌∷◌, ◌++◌, Option, Some, None, length, slice_get, Ok, IsOk, IsErr}
 use Rattle.hex.specs.Hex.{decode_of}
 use Rattle.std.specs.List.{list_all}
+use Rattle.bpf_names.specs.Names.{Names}
 use Rattle.bpf_loader.specs.Loaded.{Loaded}
 use Rattle.bpf_loader.specs.Places.{IsStart}
 use Rattle.bpf_machine.specs.declared.machine.Turn.{Turn}
@@ -12,18 +13,19 @@ use Rattle.bpf_debug.specs.declared.breakpoint.Breakpoint.{Breakpoint}
 use Rattle.bpf_debug.specs.declared.error.DebugError.{DebugError}
 use Rattle.bpf_debug.specs.declared.error.DebugError.TheVariants as error
 use Rattle.bpf_debug.specs.declared.recall.Kind.TheVariants as kind
-use Rattle.bpf_debug.specs.Command.{Order, Break, Delete, Step, StepTimes, Steps, Go, Registers, Where, Memory, Map, Keys, Schedule, GoTo, Maps, Jobs, Mark, Back, Help, Held, Nearby, Last, Show, Watch, Unwatch, order_of}
+use Rattle.bpf_debug.specs.Command.{Order, Break, Delete, Step, StepTimes, Steps, Go, Registers, Where, Memory, Map, Keys, Schedule, GoTo, Maps, Variables, Jobs, Mark, Back, Help, Held, Nearby, Last, Show, Watch, Unwatch, order_of}
 use Rattle.bpf_debug.specs.Answer.{IsOff, IsWhere, IsRegisters, ended_text, break_line, deleted_line, watch_line, unwatched_line}
 use Rattle.bpf_debug.specs.Turns.{MakesTurns, MakesRuns, last_cpu}
 use Rattle.bpf_debug.specs.Course.{AreFewer, IsKept, count_of, course_line, cpu_before, turns_before}
 use Rattle.bpf_debug.specs.Go.{Goes, Watched, has_break, without_break}
-use Rattle.bpf_debug.specs.Told.{shape_lines, told_jobs, mark_line}
+use Rattle.bpf_jobs.specs.Printed.{variable_lines}
+use Rattle.bpf_debug.specs.Told.{store_lines, told_jobs, mark_line}
 use Rattle.bpf_debug.specs.Help.{help_text}
 use Rattle.bpf_debug.specs.Held.{IsHeldText}
 use Rattle.bpf_debug.specs.Nearby.{IsNearbyText}
 use Rattle.bpf_debug.specs.Recall.{Past, Recalls, IsLastText}
 use Rattle.bpf_debug.specs.Show.{IsShownText}
-use Rattle.bpf_debug.specs.Read.{IsMemoryText, IsNamed, IsNoName, IsMapText, IsKeysText}
+use Rattle.bpf_debug.specs.Read.{IsMemoryText, IsNamed, IsNoName, IsTableText, IsKeysText}
 
 -- what callers see of a session: its machine, the same before the first turn, the names of the maps
 -- by their numbers, the breakpoints, the value that is watched, and the turns made so far in run
@@ -31,7 +33,7 @@ use Rattle.bpf_debug.specs.Read.{IsMemoryText, IsNamed, IsNoName, IsMapText, IsK
 pub record SessionState : Type 0 where
   pub machine : MachineState
   pub first : MachineState
-  pub names : List (List ℕ)
+  pub names : Names
   pub breaks : List Breakpoint
   pub watch : Option Watched
   pub course : Option (List (ℕ × ℕ))
@@ -39,7 +41,7 @@ pub record SessionState : Type 0 where
 -- a plain machine with those, that before the first turn, and the turns that were made since
 pub record Scene : Type 0 where
   pub world : World
-  pub names : List (List ℕ)
+  pub names : Names
   pub breaks : List Breakpoint
   pub watch : Option Watched
   pub first : World
@@ -91,7 +93,7 @@ DeletesBreak x c p text y =
 -- the digits are a key in hex, and the map is the first of its name; one value is watched at a time
 abbrev pub SetsWatch : Scene → List ℕ → List ℕ → List ℕ → Scene → Type 0
 SetsWatch x name digits text y =
-    (m : ℕ) × (key : List ℕ) × IsNamed x.names name m × (decode_of digits ≡ Ok key)
+    (m : ℕ) × (key : List ℕ) × IsNamed x.names.maps name m × (decode_of digits ≡ Ok key)
     × (text ≡ watch_line name key) × (y ≡ record x { watch = Some (m, key) })
 
 abbrev pub StepsCpu : Scene → ℕ → List ℕ → Scene → Type 0
@@ -143,7 +145,7 @@ TellsLast x c text y =
 abbrev pub ShowsTurn : Scene → ℕ → List ℕ → Scene → Type 0
 ShowsTurn x c text y =
     (past : Option Past) × (m : World) × Recalls kind.Works c x.first None x.turns past m
-    × IsShownText c x.names past x.world text × (y ≡ record x { world = m })
+    × IsShownText c x.names.maps past x.world text × (y ≡ record x { world = m })
 
 -- of a CPU with a job in hand, or where it is
 abbrev pub ShowsCpu : Scene → ℕ → List ℕ → Scene → Type 0
@@ -163,13 +165,15 @@ Answers x (Where (Some c)) text = IsCpu x c × IsWhere x.world.jobs c text
 Answers x (Memory (Some c) at n) text =
     IsCpu x c × IsMemoryText x.world.store x.world.jobs c at n text
 Answers x (Held (Some c)) text =
-    IsCpu x c × IsHeldText x.names x.world.store x.world.jobs c text
+    IsCpu x c × IsHeldText x.names.maps x.world.store x.world.jobs c text
 Answers x (Nearby (Some c)) text =
     IsCpu x c × IsNearbyText x.world.programs x.world.jobs c text
-Answers x (Map name) text = (m : ℕ) × IsNamed x.names name m × IsMapText x.world.store m text
-Answers x (Keys name) text = (m : ℕ) × IsNamed x.names name m × IsKeysText x.world.store m text
+Answers x (Map name) text =
+    (m : ℕ) × IsNamed x.names.maps name m × IsTableText x.world.store x.names.maps m text
+Answers x (Keys name) text = (m : ℕ) × IsNamed x.names.maps name m × IsKeysText x.world.store m text
 Answers x Schedule text = text ≡ course_line x.turns
-Answers x Maps text = text ≡ shape_lines x.names x.world.store.shape.maps (length x.names)
+Answers x Maps text = text ≡ store_lines x.names x.world.store.shape
+Answers x Variables text = text ≡ variable_lines x.world.store x.names.variables (length x.names.variables)
 Answers x Jobs text = text ≡ told_jobs (length x.world.jobs) x.world.jobs
 Answers x (Mark n) text = text ≡ mark_line n
 Answers x Help text = text ≡ help_text
@@ -248,6 +252,7 @@ NamesNoCpu cpus (Keys name) = ⊥
 NamesNoCpu cpus Schedule = ⊥
 NamesNoCpu cpus (GoTo c p) = IsNoCpu cpus c
 NamesNoCpu cpus Maps = ⊥
+NamesNoCpu cpus Variables = ⊥
 NamesNoCpu cpus Jobs = ⊥
 NamesNoCpu cpus (Mark n) = ⊥
 NamesNoCpu cpus (Back n) = ⊥
@@ -288,7 +293,7 @@ RefusesOrder cpus programs names count order error.BadOperand = HasBadOperand co
 -- the same of what a session shows
 abbrev pub RefusesHere : SessionState → Order → DebugError → Type 0
 RefusesHere s order e =
-    RefusesOrder (length s.machine.store.maps.runs) s.machine.programs s.names (count_of s.course) order e
+    RefusesOrder (length s.machine.store.maps.runs) s.machine.programs s.names.maps (count_of s.course) order e
 
 -- why a line is refused; out of memory may take the place of any answer
 abbrev pub RefusesFields
@@ -302,7 +307,7 @@ RefusesFields cpus programs names count fields e = (order : Order) × (order_of 
 -- the same of a scene
 abbrev pub IsLineRefused : Scene → List (List ℕ) → DebugError → Type 0
 IsLineRefused x fields e =
-    RefusesFields x.world.store.shape.cpus x.world.programs x.names (Some (length x.turns)) fields e
+    RefusesFields x.world.store.shape.cpus x.world.programs x.names.maps (Some (length x.turns)) fields e
 
 -- from each scene that the session shows, the line is refused
 abbrev pub RefusesLine : SessionState → List (List ℕ) → DebugError → Type 0

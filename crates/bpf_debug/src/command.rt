@@ -25,7 +25,7 @@ pub enum Command<'a> {
     Where(Option<u8>),
     /// This many bytes at an address, as a CPU's program may read them.
     Memory(Option<u8>, Option<u64>, usize),
-    /// The keys of the map of this name, with their values.
+    /// The keys of the map of this name, with their values, or the values of the array.
     Map(&'a [u8]),
     /// The keys of the map of this name, without their values.
     Keys(&'a [u8]),
@@ -33,8 +33,10 @@ pub enum Command<'a> {
     Schedule,
     /// Turns of a CPU, up to a pc or until it has no work left.
     GoTo(Option<u8>, Option<u32>),
-    /// The maps, with their names and sizes.
+    /// The maps, arrays and variables, with their names and sizes.
     Maps,
+    /// The variables, with their numbers.
+    Variables,
     /// The jobs, with how those that ended have ended.
     Jobs,
     /// A number to be printed again.
@@ -151,6 +153,8 @@ fn one_word<'a>(word: &[u8]) -> Option<Command<'a>>
         Some(Command::Schedule)
     } else if is(word, "maps") {
         Some(Command::Maps)
+    } else if is(word, "vars") {
+        Some(Command::Variables)
     } else if is(word, "jobs") {
         Some(Command::Jobs)
     } else if is(word, "help") {

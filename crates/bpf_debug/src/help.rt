@@ -24,9 +24,10 @@ list C         the instructions near its pc
 last C         the last job that ended on it, and its registers before its last step
 held C         the values that its run holds: key, address and bytes
 mem C A N      N bytes from address A on, as its program may read them
-map NAME       the keys of a map with their values
+map NAME       the keys of a map with their values; the values of an array
 keys NAME      the keys alone
-maps           the maps with their sizes
+maps           the maps, arrays and variables with their sizes
+vars           the variables with their numbers
 jobs           how each job ended
 schedule       the turns made so far, as the steps that makes them
 mark N         mark N

@@ -1,9 +1,14 @@
-//! Maps by their names, and what they hold.
+//! Maps and arrays by their names, and what they hold.
 
-ghost use Rattle.std.specs.Prelude.{◌≡◌, ◌++◌, IfOk, IfSome, IfNone, List, OnOk, length, map, string_bytes, ℕ};
+ghost use Rattle.std.specs.Prelude.{◌≡◌, ◌++◌, IfOk, IfSome, IfNone, List, OnOk, length, map, slice_get, string_bytes, ℕ};
 ghost use Rattle.bpf_shared.specs.Listing.{listed};
-ghost use Rattle.bpf_debug.specs.Read.{IsNamed, IsNoName, TellsKeys, TellsMap, key_line, key_lines, pair_line, pair_lines};
+ghost use Rattle.bpf_shared.specs.Store.{Plain};
+ghost use Rattle.bpf_shared.specs.Sound.{IsSoundStore};
+ghost use Rattle.bpf_plain.specs.PlainStore.{StandsFor};
+ghost use Rattle.bpf_debug.specs.Read.{IsNamed, IsNoName, TellsKeys, TellsMap, TellsTable, array_named, key_line, key_lines, pair_line, pair_lines, values_text};
 
+use crate::held::name_at;
+use bpf_jobs::{NamedArray, list_values};
 use bpf_plain::PlainStore;
 use std::alloc::{AllocError, Global};
 
@@ -45,11 +50,53 @@ fn pair_lines(alloc: Global, pairs: &[(Vec<u8>, Vec<u8>)]) -> Result<String, All
 }
 
 /// The lines of a map, in the order of its keys.
-pub fn map_lines(alloc: Global, store: &PlainStore, map: usize) -> Result<String, AllocError>
+fn map_lines(alloc: Global, store: &PlainStore, map: usize) -> Result<String, AllocError>
     ensures { IfOk result (λ text. TellsMap store.now map (string_bytes text)) }
 {
     let pairs = store.dump(alloc, map as u64)?;
     pair_lines(alloc, &pairs)
+}
+
+/// The lines of an array's values, also of one that may only be read; none of no array's.
+fn array_lines(
+    alloc: Global,
+    store: &PlainStore,
+    names: &[String],
+    number: usize,
+) -> Result<String, AllocError>
+    ensures { IfOk result (λ text. (s : Plain) → IsSoundStore s → StandsFor store.now s
+        → string_bytes text ≡ values_text s
+        (array_named (map string_bytes names.now) (length s.shape.maps) number)
+        (slice_get s.shape.arrays number)) }
+{
+    let shape = store.store_shape();
+    if number >= shape.arrays().len() {
+        return Ok(String::new(alloc));
+    }
+    let array = NamedArray {
+        number,
+        name: name_at(names, shape.maps().len() + number),
+        variables: &[],
+    };
+    list_values(alloc, store, array)
+}
+
+/// The lines of a map, or of an array, whose numbers follow those of the maps.
+pub fn table_lines(
+    alloc: Global,
+    store: &PlainStore,
+    names: &[String],
+    number: usize,
+) -> Result<String, AllocError>
+    ensures { IfOk result
+        (λ text. TellsTable store.now (map string_bytes names.now) number (string_bytes text)) }
+{
+    let maps = store.store_shape().maps().len();
+    if number < maps {
+        map_lines(alloc, store, number)
+    } else {
+        array_lines(alloc, store, names, number - maps)
+    }
 }
 
 /// Appends the line of a key without its value to the text.

@@ -2,6 +2,7 @@
 
 ghost use Rattle.std.specs.Prelude.{◌≡◌, ℕ, List, ◌<◌, ◌↔◌, IsTrue, true, false, IfOk, IfErr, OnErr, IfSome, IfNone, Some, None, List, [], map, length, string_bytes, string_len, string_capacity, ◌+◌, ◌*◌, ◌++◌, ◌≤◌};
 ghost use Rattle.bpf_lines.specs.Lines.{fields_of};
+ghost use Rattle.bpf_names.specs.Names.{names_of};
 ghost use Rattle.bpf_plain.specs.PlainStore.{has_cpu};
 ghost use Rattle.bpf_machine.specs.Machine.{Shows};
 ghost use Rattle.bpf_machine.specs.Parts.{IsSameHost};
@@ -28,6 +29,7 @@ use crate::watch::{Watch, watched_value};
 use bpf_lines::lines;
 use bpf_loader::Program;
 use bpf_machine::{Machine, Turn};
+use bpf_names::Names;
 use bpf_shared::StoreShape;
 use std::alloc::{AllocError, Global};
 use std::marker::Model;
@@ -38,8 +40,8 @@ pub struct Session {
     machine: Machine,
     /// What the machine is made again of, as it was before the first turn.
     origin: Origin,
-    /// The maps' names, by their numbers.
-    names: Vec<String>,
+    /// The names of maps, arrays and variables.
+    names: Names,
     breakpoints: Vec<Breakpoint>,
     /// The value that is watched.
     watch: Option<Watch>,
@@ -48,7 +50,8 @@ pub struct Session {
 }
 
 impl Model for Session {
-    ghost use Rattle.std.specs.Prelude.{map, option_map, string_bytes};
+    ghost use Rattle.std.specs.Prelude.{option_map};
+    ghost use Rattle.bpf_names.specs.Names.{names_of};
     ghost use Rattle.bpf_debug.specs.Go.{watched};
     ghost use Rattle.bpf_machine.specs.Schedule.{World};
     ghost use Rattle.bpf_machine.specs.Machine.{Shows};
@@ -60,7 +63,7 @@ impl Model for Session {
     ghost view = { λ s. record {
       machine = s.machine;
       first = first_of s.origin s.machine.programs;
-      names = map (λ n. string_bytes n) s.names.items;
+      names = names_of s.names;
       breaks = s.breakpoints.items;
       watch = option_map watched s.watch;
       course = s.course;
@@ -129,21 +132,21 @@ impl Session {
     ghost use Rattle.bpf_machine.specs.Machine.{Shows};
     ghost use Rattle.bpf_debug.specs.Session.{IsNoCpu, Leaves, LeavesLine, RefusesHere, RefusesLine};
 
-    /// A session without breakpoints, with the maps' names by their numbers, over a machine whose
+    /// A session without breakpoints, with these names of maps and arrays, over a machine whose
     /// store has this shape. What it takes to make the machine again is kept: out of memory for
     /// that is the only refusal.
     pub fn new(
         alloc: Global,
         shape: StoreShape,
         machine: Machine,
-        names: Vec<String>,
+        names: Names,
     ) -> Result<Session, AllocError>
         requires shown { (w : World) × Shows machine w }
         requires shape { IsOfShape shape machine.store }
         requires lists { machine.lists ≡ None }
         ensures machine { IfOk result (λ s. s.machine ≡ machine) }
         ensures first { IfOk result (λ s. s.first ≡ machine) }
-        ensures names { IfOk result (λ s. s.names ≡ map (λ n. string_bytes n) names.items) }
+        ensures names { IfOk result (λ s. s.names ≡ names_of names) }
         ensures breaks { IfOk result (λ s. s.breaks ≡ []) }
         ensures watch { IfOk result (λ s. s.watch ≡ None) }
         ensures course { IfOk result (λ s. s.course ≡ Some []) }
@@ -488,6 +491,7 @@ impl Session {
             Command::Schedule => self.schedule(alloc),
             Command::GoTo(cpu, pc) => self.go_to(alloc, cpu, pc),
             Command::Maps => self.maps(alloc),
+            Command::Variables => self.variables(alloc),
             Command::Jobs => self.jobs(alloc),
             Command::Mark(number) => self.mark(alloc, number),
             Command::Back(count) => self.back(alloc, count),

@@ -1,5 +1,5 @@
 -- A listing has the lines that it lists, each with a comment after it.
-use Rattle.std.proofs.Common.{◌≡◌, ℕ, zero, suc, ◌+◌, ◌*◌, ◌/◌, ◌%◌, ◌<◌, Bool, true, false, cond, ◌==◌, ◌&&◌, not, List, [], ◌∷◌, ◌++◌, length, append_assoc, append-nil, codes, drop, take, slice_index, refl, sym, ap, subst, ◌∙◌, arith}
+use Rattle.std.proofs.Common.{◌≡◌, ℕ, zero, suc, ◌+◌, ◌*◌, ◌/◌, ◌%◌, ◌<◌, Bool, true, false, cond, ◌==◌, ◌&&◌, not, List, [], ◌∷◌, ◌++◌, length, append_assoc, append-nil, codes, drop, take, slice_index, None, refl, sym, ap, subst, ◌∙◌, arith}
 use Rattle.std.specs.Fmt.{decimal, digits, digits_onto, digit_glyph}
 use Rattle.std.specs.List.{list_all, onto_first}
 use Rattle.std.proofs.lemmas.Bool.{and_parts, and_from}
@@ -7,7 +7,7 @@ use Rattle.std.proofs.lemmas.Bool.Decides.{nat_tests}
 use Rattle.std.proofs.lemmas.List.Folds.{list_all-append}
 use Rattle.std.proofs.lemmas.List.Splits.{length-slice_split}
 use Rattle.hex.specs.Hex.{encode_lower, encode_with, lower_digits}
-use Rattle.bpf_text.specs.Assembly.{AreLines, Source, words_of}
+use Rattle.bpf_text.specs.Assembly.{AreLinesWith, Source, words_of}
 use Rattle.bpf_lines.specs.Lines.{lines_of}
 use Rattle.bpf_text.specs.Tokens.{IsTokens}
 use Rattle.bpf_lines.specs.Private.Cutting.{in_line}
@@ -99,7 +99,7 @@ one_line (b ∷ line) h = by_test (b == 10) refl (and_parts (in_line b) (in_line
     by_test false e f more = ap (onto_first b) more
 
 listed_lines : CommentsSayNothing → (pc : ℕ) (bytes : List ℕ) (lines : List (List ℕ)) (printed : List ℕ) (ss : List Source) → 0 < length lines → AreLone lines
-    → IsSourceListing pc bytes lines printed → AreLines lines ss → AreLines (lines_of printed) ss
+    → IsSourceListing pc bytes lines printed → AreLinesWith None lines ss → AreLinesWith None (lines_of printed) ss
 listed_lines say pc bytes [] printed ss some lone listing read = absurd (omega arith)
 listed_lines say pc bytes (line ∷ lines) printed [] some lone listing read = absurd read
 listed_lines say pc bytes (line ∷ []) printed (s ∷ ss) some lone listing read =
@@ -107,7 +107,7 @@ listed_lines say pc bytes (line ∷ []) printed (s ∷ ss) some lone listing rea
     let behind = behind_line pc size bytes in
     let whole : printed ≡ line ++ behind = listing.3 ∙ ap (λ more. line ++ (behind ++ more)) listing.4 ∙ ap (λ b. line ++ b) (append-nil behind) in
     let lone : in_lines (line ++ behind) ≡ true = in_lines-append line behind lone.0 (behind_in_line pc size bytes) in
-    subst (λ ls. AreLines ls (s ∷ ss)) (sym (ap lines_of whole ∙ one_line (line ++ behind) lone)) (say line behind s (no_tokens pc size bytes) read.0, read.1)
+    subst (λ ls. AreLinesWith None ls (s ∷ ss)) (sym (ap lines_of whole ∙ one_line (line ++ behind) lone)) (say line behind s (no_tokens pc size bytes) read.0, read.1)
 listed_lines say pc bytes (line ∷ next ∷ lines) printed (s ∷ ss) some lone listing read =
     let size = words_of listing.0.body in
     let behind = behind_line pc size bytes in
@@ -115,7 +115,7 @@ listed_lines say pc bytes (line ∷ next ∷ lines) printed (s ∷ ss) some lone
     let whole : printed ≡ (line ++ behind) ++ 10 ∷ more = listing.3 ∙ sym (append_assoc line behind (10 ∷ more)) in
     let alone : in_lines (line ++ behind) ≡ true = in_lines-append line behind lone.0 (behind_in_line pc size bytes) in
     let rest = listed_lines say (pc + size) (drop (8 * size) bytes) (next ∷ lines) more ss (omega arith) lone.1 listing.4 read.1 in
-    subst (λ ls. AreLines ls (s ∷ ss)) (sym (ap lines_of whole ∙ fed_line (line ++ behind) more alone)) (say line behind s (no_tokens pc size bytes) read.0, rest)
+    subst (λ ls. AreLinesWith None ls (s ∷ ss)) (sym (ap lines_of whole ∙ fed_line (line ++ behind) more alone)) (say line behind s (no_tokens pc size bytes) read.0, rest)
 
 -- A LISTING stands for what its text stands for
 pub assembled_alike : CommentsSayNothing → ListingsAssembleAlike

@@ -37,7 +37,7 @@ use Rattle.bpf_text.specs.Line.{Written}
 use Rattle.bpf_text.specs.Private.Pieces.{operator_at, target_at, label_at, cell_at}
 use Rattle.bpf_text.specs.Private.Lines.{line_at, statement_at, register_at, operation_at, lock_at, branch_at, jump_at, jump_long_at, call_at, call_local_at, store_at}
 use Rattle.bpf_lines.specs.Private.Cutting.{in_line}
-use Rattle.bpf_text.specs.Assembly.{Source, IsLine, AreLines, Assembles, label_of, unlabelled, IsBody, first_place, meaning_of, program_of}
+use Rattle.bpf_text.specs.Assembly.{Source, IsLine, AreLinesWith, Assembles, label_of, unlabelled, IsBody, first_place, meaning_of, program_of}
 use Rattle.bpf_lines.specs.Lines.{lines_of}
 use Rattle.std.specs.List.{onto_first}
 use Rattle.bpf_text.proofs.Complete.{line_complete}
@@ -183,10 +183,10 @@ fed_line (b ∷ line) rest h =
 pub first_line : (i : Insn) (is : List Insn) → Fits i → lines_of (canonical (i ∷ is)) ≡ line_of i ∷ lines_of (canonical is)
 first_line i is fits = fed_line (line_of i) (canonical is) (form_in_line (form_of i None) (form_apart i) (form_small i fits))
 
-all_lines : (is : List Insn) → AllFit is → AreLines (lines_of (canonical is)) (sources is)
+all_lines : (is : List Insn) → AllFit is → AreLinesWith None (lines_of (canonical is)) (sources is)
 all_lines [] h = (end_reads, tt)
 all_lines (i ∷ is) h =
-    let P : List (List ℕ) → Type 0 = λ ls. AreLines ls (line_source i ∷ sources is) in
+    let P : List (List ℕ) → Type 0 = λ ls. AreLinesWith None ls (line_source i ∷ sources is) in
     subst P (sym (first_line i is h.0)) (line_reads i h.0, all_lines is h.1)
 
 means_itself : (labels : List ℕ → Option Place) (line pc : ℕ) (i : Insn) → meaning_of labels line pc (line_source i) ≡ Ok (Some i)

@@ -2,6 +2,7 @@
 use Rattle.std.proofs.Common.{◌≡◌, ◌∙◌, ℕ, Bool, List, [], ◌++◌, refl, sym, ap, subst}
 use Rattle.std.specs.Prelude.{nat_lt}
 use Rattle.bpf_shared.specs.Shape.{Shape}
+use Rattle.bpf_names.specs.Names.{Names}
 use Rattle.bpf_plain.specs.Alike.{IsSameShape}
 use Rattle.bpf_plain.specs.PlainStore.{has_cpu}
 use Rattle.bpf_machine.specs.Happenings.{Happening, HappeningsAreOfRuns}
@@ -23,13 +24,13 @@ same_shape h m w r shows shape made =
     let cpus : (c : ℕ) → has_cpu m.store c ≡ nat_lt c h.cpus = λ c. ap (λ (n : ℕ). nat_lt c n) (sym shows.store.maps.cpus ∙ ap (λ (s : Shape). s.cpus) shape) in
     (λ c. made.0 c ∙ sym (cpus c), made.1 ∙ (sym shape ∙ shows.store.shape))
 
-pub history_told : (w : World) (old mid new : MachineState) (names : List (List ℕ)) (runs : List (ℕ × ℕ)) (maps : Bool) (start between later told text : List ℕ) (stopped : Bool) → Shows old w → start ≡ []
-    → AreTold (Turns (unrolled runs)) names old start mid between → AreTold SomeRounds names mid between new later → HaveEnded new.jobs
-    → ((z : World) → Shows new z → TellsWith (lines_of_lists z names) z.store z.jobs names maps told stopped) → text ≡ later ++ told → IsHistory w runs names maps text stopped
+pub history_told : (w : World) (old mid new : MachineState) (names : Names) (runs : List (ℕ × ℕ)) (maps : Bool) (start between later told text : List ℕ) (stopped : Bool) → Shows old w → start ≡ []
+    → AreTold (Turns (unrolled runs)) names.maps old start mid between → AreTold SomeRounds names.maps mid between new later → HaveEnded new.jobs
+    → ((z : World) → Shows new z → TellsWith (lines_of_lists z names.maps) z.store z.jobs names maps told stopped) → text ≡ later ++ told → IsHistory w runs names maps text stopped
 history_told w old mid new names runs maps start between later told text stopped shows fresh before after ended tells is =
-    let a = (subst (λ (x : List ℕ). AreTold (Turns (unrolled runs)) names old x mid between) fresh before) w shows in
+    let a = (subst (λ (x : List ℕ). AreTold (Turns (unrolled runs)) names.maps old x mid between) fresh before) w shows in
     let b = after a.0 a.3 in
-    let all : later ≡ history_lines names (a.1 ++ b.1) = b.4 ∙ (ap (λ (x : List ℕ). x ++ history_lines names b.1) a.4 ∙ sym (history-append names a.1 b.1)) in (
+    let all : later ≡ history_lines names.maps (a.1 ++ b.1) = b.4 ∙ (ap (λ (x : List ℕ). x ++ history_lines names.maps b.1) a.4 ∙ sym (history-append names.maps a.1 b.1)) in (
       b.0,
       a.1 ++ b.1,
       told,
@@ -40,12 +41,12 @@ history_told w old mid new names runs maps start between later told text stopped
 
 pub histories_are_of_reports : HappeningsAreOfRuns → HistoriesAreOfReports
 histories_are_of_reports law w runs names maps text stopped (z, log, told, happens, tells, is) =
-    (history_lines names log, told, (z, law w z (unrolled runs) log happens, tells), is)
+    (history_lines names.maps log, told, (z, law w z (unrolled runs) log happens, tells), is)
 
 pub histories_are_determined : HappeningsAreDetermined → HappeningsAreOfRuns → ReportsByAreDetermined → HistoriesAreDetermined
 histories_are_determined law only reports w runs names maps text other stopped halted fresh (z, log, told, happens, tells, is) (y, rest, said, happens', tells', is') =
     let one = law w z y (unrolled runs) log rest fresh happens happens' in
     let same = reports w runs names maps told said stopped halted fresh (z, only w z (unrolled runs) log happens, tells) (y, only w y (unrolled runs) rest happens', tells') in (
-      is ∙ (ap (λ (x : List Happening). history_lines names x ++ told) one.0 ∙ (ap (λ (x : List ℕ). history_lines names rest ++ x) same.0 ∙ sym is')),
+      is ∙ (ap (λ (x : List Happening). history_lines names.maps x ++ told) one.0 ∙ (ap (λ (x : List ℕ). history_lines names.maps rest ++ x) same.0 ∙ sym is')),
       same.1,
     )

@@ -3,6 +3,7 @@ use Rattle.std.proofs.Common.{◌≡◌, ◌∙◌, inl, inr, Bool, true, false,
 use Rattle.std.specs.Prelude.{IfNone, IfOk, IfSome, OnErr}
 use Rattle.std.specs.declared.alloc.AllocError.{AllocError}
 use Rattle.bpf_shared.specs.Shape.{Shape}
+use Rattle.bpf_names.specs.Names.{Names}
 use Rattle.bpf_cpu.specs.Setup.{named_in}
 use Rattle.bpf_machine.specs.Machine.{MachineState}
 use Rattle.bpf_races.specs.Lines.{here_lines}
@@ -13,19 +14,19 @@ use Rattle.bpf_expand.specs.Private.Races.{TellsRaces}
 
 -- ---- races
 -- those of the machine of a state are those of the state
-pub races_told : (races : Bool) (h : Host) (names : List (List ℕ)) (bytes text : List ℕ) (m : MachineState) → IsStateOf h m bytes → TellsRaces races m names text → AreRacesTold races h names bytes text
+pub races_told : (races : Bool) (h : Host) (names : Names) (bytes text : List ℕ) (m : MachineState) → IsStateOf h m bytes → TellsRaces races m names text → AreRacesTold races h names bytes text
 races_told false h names bytes text m is told = told
 races_told true h names bytes text m is (found, are, lines) = (found, (m, is, are), lines ∙ ap (λ (s : Shape). here_lines (named_in s) names (length found) found) is.of.shape.0)
 
-pub none_told : (races : Bool) (h : Host) (names : List (List ℕ)) (bytes text : List ℕ) → races ≡ false → text ≡ [] → AreRacesTold races h names bytes text
+pub none_told : (races : Bool) (h : Host) (names : Names) (bytes text : List ℕ) → races ≡ false → text ≡ [] → AreRacesTold races h names bytes text
 none_told races h names bytes text is none = subst (λ (b : Bool). AreRacesTold b h names bytes text) (sym is) none
 
-pub told_too : (r s : Bool) (h k : Host) (ns ms : List (List ℕ)) (bytes text : List ℕ) → r ≡ s → h ≡ k → ns ≡ ms → AreRacesTold r h ns bytes text → AreRacesTold s k ms bytes text
+pub told_too : (r s : Bool) (h k : Host) (ns ms : Names) (bytes text : List ℕ) → r ≡ s → h ≡ k → ns ≡ ms → AreRacesTold r h ns bytes text → AreRacesTold s k ms bytes text
 told_too r s h k ns ms bytes text races host names told =
-    subst (λ (x : Bool). AreRacesTold x k ms bytes text) races (subst (λ (x : Host). AreRacesTold r x ms bytes text) host (subst (λ (x : List (List ℕ)). AreRacesTold r h x bytes text) names told))
+    subst (λ (x : Bool). AreRacesTold x k ms bytes text) races (subst (λ (x : Host). AreRacesTold r x ms bytes text) host (subst (λ (x : Names). AreRacesTold r h x bytes text) names told))
 
 -- ---- lines
-module _ (races : Bool) (h : Host) (names : List (List ℕ)) (number : ℕ) (line : List ℕ) where
+module _ (races : Bool) (h : Host) (names : Names) (number : ℕ) (line : List ℕ) where
   pub line_told : (told : Option (String Global)) (text : String Global) (refused : Bool)
       → IfSome told (λ t. (n : ℕ) → IsLineTold races h names n line (string_bytes t) false) → IfNone told (IsNoStateLine h line)
       → IfSome told (λ t. (text ≡ t) × (refused ≡ false)) → IfNone told ((string_bytes text ≡ no_state_line number) × (refused ≡ true))

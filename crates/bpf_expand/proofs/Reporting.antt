@@ -3,6 +3,7 @@ use Rattle.std.proofs.Common.{◌≡◌, ◌∙◌, ◌⊎◌, Bool, true, false
 use Rattle.std.specs.Prelude.{◌≢◌, All, Ok, slice_get}
 use Rattle.std.proofs.lemmas.List.Elements.{All-head, All-tail}
 use Rattle.hex.specs.Hex.{decode_of}
+use Rattle.bpf_names.specs.Names.{Names}
 use Rattle.bpf_plain.specs.Alike.{AlikeStandAlike, SavedAlikeLookAlike}
 use Rattle.bpf_cpu.specs.declared.outcome.Outcome.{Outcome}
 use Rattle.bpf_cpu.specs.Task.{Stage, Task, Waiting, InHand, Ended}
@@ -90,7 +91,7 @@ module _ (h : Host) (bytes : List ℕ) where
   all_ended m is are j task at = has_ended m j task task.stage is at refl (idle_of task.cpu (are.all task.cpu))
 
 -- ---- what is reported
-module _ (look : SavedAlikeLookAlike) (stand : AlikeStandAlike) (h : Host) (names lines : List (List ℕ)) (answered : AreAnswered h names lines) where
+module _ (look : SavedAlikeLookAlike) (stand : AlikeStandAlike) (h : Host) (names : Names) (lines : List (List ℕ)) (answered : AreAnswered h names lines) where
   each : Decoded lines
   each i line at = let a = answered line (i, at) in (a.0, a.1)
 

@@ -4,6 +4,7 @@ use Rattle.std.specs.declared.alloc.Global.{Global}
 use Rattle.std.specs.declared.alloc.AllocError.{AllocError}
 use Rattle.hex.specs.Hex.{decode_of}
 use Rattle.bpf_shared.specs.Shape.{Shape}
+use Rattle.bpf_names.specs.Names.{Names}
 use Rattle.bpf_loader.specs.Loaded.{Loaded}
 use Rattle.bpf_cpu.specs.Setup.{named_in}
 use Rattle.bpf_cpu.specs.Task.{Task}
@@ -20,7 +21,7 @@ use Rattle.bpf_expand.specs.Lines.{no_state_line, report_line, state_line, succe
 -- counted up to the greatest `u64`, and the last answer
 pub record FilterState : Type 0 where
   pub host : Host
-  pub names : List (List ℕ)
+  pub names : Names
   pub races : Bool
   pub lines : ℕ
   pub told : List ℕ
@@ -30,7 +31,7 @@ host_of patient shape programs jobs =
     record { shape = shape; programs = programs; jobs = jobs; patient = patient }
 
 -- one that has answered nothing
-abbrev pub new_filter : (patient races : Bool) → Shape → List (List ℕ) → List Loaded → List Task
+abbrev pub new_filter : (patient races : Bool) → Shape → Names → List Loaded → List Task
     → FilterState
 new_filter patient races shape names programs jobs = record {
   host = host_of patient shape programs jobs;
@@ -47,12 +48,12 @@ IsFirstLine shape programs jobs line = (m : MachineState) × (bytes : List ℕ)
     × IsStateOf (host_of false shape programs jobs) m bytes × (line ≡ state_line bytes)
 
 -- no CPU has work, and this is printed of the jobs, maps and arrays
-abbrev pub IsReportIn : Host → List (List ℕ) → List ℕ → List ℕ → Type 0
+abbrev pub IsReportIn : Host → Names → List ℕ → List ℕ → Type 0
 IsReportIn h names bytes report =
     (m : MachineState) × IsStateOf h m bytes × HaveEnded m.jobs × IsTold m names report
 
 -- what is printed of a state: what CPUs' turns lead to, or the report where no CPU has work
-abbrev pub IsToldOf : Host → List (List ℕ) → List ℕ → List ℕ → Type 0
+abbrev pub IsToldOf : Host → Names → List ℕ → List ℕ → Type 0
 IsToldOf h names bytes text =
     ((found : List Successor) × AreSuccessors h bytes found × (found ≢ [])
     × (text ≡ successor_lines (length found) found))
@@ -63,13 +64,13 @@ abbrev pub AreRacesOf : Host → List ℕ → List RaceFound → Type 0
 AreRacesOf h bytes races = (m : MachineState) × IsStateOf h m bytes × AreRacesIn m [] races
 
 -- the races of a state, a line each, if they are to be printed
-abbrev pub AreRacesTold : (races : Bool) → Host → List (List ℕ) → List ℕ → List ℕ → Type 0
+abbrev pub AreRacesTold : (races : Bool) → Host → Names → List ℕ → List ℕ → Type 0
 AreRacesTold false h names bytes text = text ≡ []
 AreRacesTold true h names bytes text = (races : List RaceFound) × AreRacesOf h bytes races
     × (text ≡ here_lines (named_in h.shape) names (length races) races)
 
 -- they are before what is printed of a state
-abbrev pub IsToldWith : (races : Bool) → Host → List (List ℕ) → List ℕ → List ℕ → Type 0
+abbrev pub IsToldWith : (races : Bool) → Host → Names → List ℕ → List ℕ → Type 0
 IsToldWith races h names bytes text = (before rest : List ℕ)
     × AreRacesTold races h names bytes before × IsToldOf h names bytes rest
     × (text ≡ before ++ rest)
@@ -81,7 +82,7 @@ IsNoStateLine h line =
 
 -- an empty line is passed over, a state is printed, and what is none is refused by the line's number;
 -- out of memory may take the place of any answer
-abbrev pub IsLineTold : (races : Bool) → Host → List (List ℕ) → (number : ℕ)
+abbrev pub IsLineTold : (races : Bool) → Host → Names → (number : ℕ)
     → (line text : List ℕ) → (refused : Bool) → Type 0
 IsLineTold races h names number line text false = ((line ≡ []) × (text ≡ []))
     ⊎ ((bytes : List ℕ) × (decode_of line ≡ Ok bytes) × IsToldWith races h names bytes text)

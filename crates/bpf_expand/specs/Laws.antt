@@ -1,6 +1,7 @@
 -- Sets of states that cover all that schedules lead to.
 use Rattle.std.specs.Prelude.{◌≡◌, ◌≢◌, ℕ, ◌<◌, ◌⊎◌, All, Bool, false, true, List, [], Ok, Some, slice_get}
 use Rattle.hex.specs.Hex.{decode_of}
+use Rattle.bpf_names.specs.Names.{Names}
 use Rattle.bpf_cpu.specs.Task.{Task}
 use Rattle.bpf_machine.specs.Schedule.{World, RunsSchedule}
 use Rattle.bpf_machine.specs.Race.{IsRace}
@@ -59,18 +60,18 @@ abbrev pub HasLine : List (List ℕ) → List ℕ → Type 0
 HasLine lines bytes = (line : List ℕ) × IsAmong lines line × (decode_of line ≡ Ok bytes)
 
 -- the line is printed, and each state that it leads to has a line
-abbrev pub IsAnswered : Host → List (List ℕ) → List (List ℕ) → List ℕ → Type 0
+abbrev pub IsAnswered : Host → Names → List (List ℕ) → List ℕ → Type 0
 IsAnswered h names lines line = (bytes : List ℕ) × (decode_of line ≡ Ok bytes)
     × (((found : List Successor) × AreSuccessors h bytes found × (found ≢ [])
     × All (λ s. HasLine lines s.bytes.items) found)
     ⊎ ((report : List ℕ) × IsReportIn h names bytes report))
 
 -- so is each of them
-abbrev pub AreAnswered : Host → List (List ℕ) → List (List ℕ) → Type 0
+abbrev pub AreAnswered : Host → Names → List (List ℕ) → Type 0
 AreAnswered h names lines = (line : List ℕ) → IsAmong lines line → IsAnswered h names lines line
 
 -- what is printed of a world is the report of one of the lines
-abbrev pub IsReported : Host → List (List ℕ) → List (List ℕ) → World → Type 0
+abbrev pub IsReported : Host → Names → List (List ℕ) → World → Type 0
 IsReported h names lines z = (bytes report : List ℕ) × (stopped : Bool) × HasLine lines bytes
     × IsReportIn h names bytes report × Tells z.store z.jobs names true report stopped
 
@@ -83,7 +84,7 @@ FitBudgets patient jobs = patient ≡ true → NoneRanOut jobs
 -- patient host, whatever schedule in which no job runs out of budget
 abbrev pub LinesCover : Type 0
 LinesCover =
-    (h : Host) (names lines : List (List ℕ)) (first : MachineState) (bytes : List ℕ) (w z : World)
+    (h : Host) (names : Names) (lines : List (List ℕ)) (first : MachineState) (bytes : List ℕ) (w z : World)
     (schedule : List ℕ)
     → AreAnswered h names lines → IsStateOf h first bytes → HasLine lines bytes
     → IsFresh w → Shows first w → RunsSchedule w schedule z → FitBudgets h.patient z.jobs
@@ -104,7 +105,7 @@ IsToldAmong lines told s pair b =
 -- byte and wherever such a schedule leads, the answer of one of the lines has it
 abbrev pub LinesHaveRaces : Type 0
 LinesHaveRaces =
-    (h : Host) (names lines : List (List ℕ)) (told : List ℕ → List RaceFound)
+    (h : Host) (names : Names) (lines : List (List ℕ)) (told : List ℕ → List RaceFound)
     (first : MachineState) (bytes : List ℕ) (w z : World) (schedule : List ℕ)
     → AreAnswered h names lines → AreTold h lines told → IsStateOf h first bytes
     → HasLine lines bytes → IsFresh w → Shows first w → RunsSchedule w schedule z

@@ -3,6 +3,7 @@ use Rattle.std.specs.Prelude.{◌≡◌, ◌<◌, ℕ, Bool, false, true, ◌++�
 use Rattle.bpf_shared.specs.Shape.{Shape}
 use Rattle.bpf_shared.specs.Store.{Plain}
 use Rattle.bpf_shared.specs.Sound.{IsSoundStore}
+use Rattle.bpf_names.specs.Names.{Names}
 use Rattle.bpf_plain.specs.PlainStore.{IsSavedAs, StandsFor}
 use Rattle.bpf_jobs.specs.Printed.{Tells}
 use Rattle.bpf_loader.specs.Loaded.{Loaded}
@@ -87,7 +88,7 @@ IsNoState h bytes = (m : MachineState) → IsStateOf h m bytes → ⊥
 
 -- this is printed of the machine's jobs, maps and arrays, which have these names, whatever its store
 -- stands for
-abbrev pub IsTold : MachineState → List (List ℕ) → List ℕ → Type 0
+abbrev pub IsTold : MachineState → Names → List ℕ → Type 0
 IsTold m names text = (stopped : Bool) × ((s : Plain) → IsSoundStore s → StandsFor m.store s
     → Tells s m.jobs names true text stopped)
 

@@ -1,6 +1,7 @@
 //! A host whose states are read and made.
 
 ghost use Rattle.std.specs.Prelude.{◌≡◌, IfOk, None, map, string_bytes};
+ghost use Rattle.bpf_names.specs.Names.{names_of};
 ghost use Rattle.bpf_explore.specs.Stores.{IsOfShape};
 ghost use Rattle.bpf_machine.specs.Parts.{IsSameHost};
 ghost use Rattle.bpf_machine.specs.Saved.{ComeFromSame};
@@ -10,6 +11,7 @@ use crate::jobs::{count_up, jobs_fit_bytes, keep_jobs, save_jobs};
 use crate::successor::Successor;
 use bpf_jobs::tell;
 use bpf_machine::{KeptJob, Machine, read_jobs};
+use bpf_names::Names;
 use bpf_plain::{PlainStore, copy_shape};
 use bpf_shared::StoreShape;
 use std::alloc::{AllocError, Global};
@@ -39,9 +41,9 @@ fn fill(machine: &mut Machine, patient: bool, cpu: u8)
 }
 
 /// What is printed of a machine's jobs, maps and arrays, which have these names.
-fn report(alloc: Global, machine: &Machine, names: &[String]) -> Result<String, AllocError>
+fn report(alloc: Global, machine: &Machine, names: &Names) -> Result<String, AllocError>
     requires { machine.now.lists ≡ None }
-    ensures { IfOk result (λ text. IsTold machine.now (map string_bytes names.now)
+    ensures { IfOk result (λ text. IsTold machine.now (names_of names.now)
         (string_bytes text)) }
 {
     let report = tell(alloc, machine, names, true)?;
@@ -319,8 +321,8 @@ impl Expander {
     }
 
     /// What is printed of the machine's jobs, maps and arrays, which have these names.
-    pub fn report(&self, names: &[String]) -> Result<String, AllocError>
-        ensures { IfOk result (λ text. IsTold self.now.machine (map string_bytes names.now)
+    pub fn report(&self, names: &Names) -> Result<String, AllocError>
+        ensures { IfOk result (λ text. IsTold self.now.machine (names_of names.now)
             (string_bytes text)) }
     {
         report(self.alloc, &self.machine, names)

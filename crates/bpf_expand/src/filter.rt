@@ -1,6 +1,7 @@
 //! A filter of lines: each is a state, and answered by what CPUs' turns lead to from it.
 
 ghost use Rattle.std.specs.Prelude.{◌≡◌, ◌++◌, IfNone, IfOk, IfSome, false, is_some, map, string_bytes, true};
+ghost use Rattle.bpf_names.specs.Names.{names_of};
 ghost use Rattle.bpf_cpu.specs.Setup.{IsRunnable, named_in};
 ghost use Rattle.bpf_cpu.specs.Task.{waiting};
 ghost use Rattle.bpf_machine.specs.Machine.{Shows};
@@ -16,6 +17,7 @@ use bpf_cpu::Setup;
 use bpf_explore::first_machine;
 use bpf_loader::Named;
 use bpf_machine::Machine;
+use bpf_names::Names;
 use bpf_plain::copy_shape;
 use bpf_races::{Watcher, list_races_in, races_in};
 use bpf_shared::StoreShape;
@@ -30,7 +32,7 @@ const NO_MEMORY: &str = "refused L9\n";
 #[derive(Drop)]
 pub struct Filter {
     expander: Expander,
-    names: Vec<String>,
+    names: Names,
     /// Where races are printed: what finds them.
     watcher: Option<Watcher>,
     /// How many lines were answered, counted up to the greatest `u64`.
@@ -39,14 +41,15 @@ pub struct Filter {
 }
 
 impl Model for Filter {
-    ghost use Rattle.std.specs.Prelude.{is_some, map, string_bytes};
+    ghost use Rattle.std.specs.Prelude.{is_some};
+    ghost use Rattle.bpf_names.specs.Names.{names_of};
     ghost use Rattle.bpf_expand.specs.Filter.{FilterState, told_text};
 
     ghost Value = { FilterState };
 
     ghost view = { λ f. record {
       host = f.expander.host;
-      names = map string_bytes f.names.items;
+      names = names_of f.names;
       races = is_some f.watcher;
       lines = f.lines;
       told = told_text f.told;
@@ -103,9 +106,9 @@ fn race_lines(
     alloc: Global,
     watcher: &mut Watcher,
     machine: &Machine,
-    names: &[String],
+    names: &Names,
 ) -> Result<String, AllocError>
-    ensures { IfOk result (λ text. TellsRaces true machine.now (map string_bytes names.now)
+    ensures { IfOk result (λ text. TellsRaces true machine.now (names_of names.now)
         (string_bytes text)) }
 {
     let races = races_in(alloc, watcher, machine, &[])?;
@@ -119,10 +122,10 @@ fn told_races(
     alloc: Global,
     watcher: &mut Option<Watcher>,
     machine: &Machine,
-    names: &[String],
+    names: &Names,
 ) -> Result<String, AllocError>
     ensures told { IfOk result (λ text. TellsRaces (is_some watcher.old) machine.now
-        (map string_bytes names.now) (string_bytes text)) }
+        (names_of names.now) (string_bytes text)) }
     ensures same { is_some watcher.new ≡ is_some watcher.old }
 {
     match watcher {
@@ -155,11 +158,11 @@ impl Filter {
         patient: bool,
         races: bool,
         setup: Setup,
-        names: Vec<String>,
+        names: Names,
     ) -> Result<Filter, AllocError>
         requires { IsRunnable setup }
         ensures { IfOk result (λ f. f ≡ new_filter patient races setup.shape
-            (map string_bytes names.items) setup.programs.items (map waiting setup.jobs.items)) }
+            (names_of names) setup.programs.items (map waiting setup.jobs.items)) }
     {
         let watcher = watcher_of(alloc, races, &setup.shape)?;
         let expander = open(alloc, patient, setup)?;

@@ -11,6 +11,7 @@ use Rattle.std.proofs.lemmas.List.{length-take}
 use Rattle.std.specs.FinMap.{nat_cmp-IsAntisymmetric, slice_cmp-IsAntisymmetric}
 use Rattle.std.proofs.lemmas.Option.{slice_get_read, slice_get_within}
 use Rattle.bpf_base.proofs.Lists.{slice_get-append, slice_get-front, slice_get-take, slice_get-drop}
+use Rattle.bpf_names.specs.Names.{Names}
 use Rattle.bpf_machine.specs.Machine.{MachineState}
 use Rattle.bpf_machine.specs.Schedule.{World}
 use Rattle.bpf_explore.specs.Outcomes.{Found, EndsBy}
@@ -71,7 +72,7 @@ module _ (xs : List Found) (i : ℕ) (x : Found) (within : i ≤ length xs) wher
     | inr past ↦ (suc k, at_behind k (omega arith) ∙ at)
   ]
 
-  pub all_end : (w : World) (names : List (List ℕ)) (maps : Bool) → EndsBy w names maps x → AllEnd w names maps xs → AllEnd w names maps (insert xs i x)
+  pub all_end : (w : World) (names : Names) (maps : Bool) → EndsBy w names maps x → AllEnd w names maps xs → AllEnd w names maps (insert xs i x)
   all_end w names maps one all k y at = elim (origin k y at) [
     | Before less there ↦ all k y there
     | Here e same ↦ subst (EndsBy w names maps) same one
@@ -98,7 +99,7 @@ module _ (xs : List Found) (i : ℕ) (x : Found) (within : i ≤ length xs) wher
   ]
 
 -- ---- where more answers are
-pub answered_still : (kept : List MachineState) (names : List (List ℕ)) (maps : Bool) (old new : List Found) (i : ℕ) → KeepsAll old new → IsAnsweredAt kept names maps old i → IsAnsweredAt kept names maps new i
+pub answered_still : (kept : List MachineState) (names : Names) (maps : Bool) (old new : List Found) (i : ℕ) → KeepsAll old new → IsAnsweredAt kept names maps old i → IsAnsweredAt kept names maps new i
 answered_still kept names maps old new i keeps told m at ended =
     let a = told m at ended in
     let there = keeps a.0 a.1 a.2 in
@@ -156,14 +157,14 @@ place_behind answers text i past far = record {
 }
 
 -- ---- what is gathered of the kept machines below a number
-pub none_gathered : (kept : List MachineState) (names : List (List ℕ)) (maps : Bool) → Gathered kept names maps 0 []
+pub none_gathered : (kept : List MachineState) (names : Names) (maps : Bool) → Gathered kept names maps 0 []
 none_gathered kept names maps = record {
   sorted = λ i j found later less at there. cc;
   ends = λ w first i found at. cc;
   answered = λ i less. absurd (omega arith);
 }
 
-pub more_gathered : (kept : List MachineState) (names : List (List ℕ)) (maps : Bool) (place : ℕ) (old new : List Found) → Gathered kept names maps place old → AreSorted new → KeepsAll old new
+pub more_gathered : (kept : List MachineState) (names : Names) (maps : Bool) (place : ℕ) (old new : List Found) → Gathered kept names maps place old → AreSorted new → KeepsAll old new
     → ((w : World) → IsFirst kept w → AllEnd w names maps new) → IsAnsweredAt kept names maps new place → Gathered kept names maps (place + 1) new
 more_gathered kept names maps place old new far sorted keeps ends here = record {
   sorted = sorted;
@@ -174,7 +175,7 @@ more_gathered kept names maps place old new far sorted keeps ends here = record 
   ];
 }
 
-pub all_gathered : (kept : List MachineState) (names : List (List ℕ)) (maps : Bool) (place : ℕ) (answers : List Found) → length kept ≤ place → Gathered kept names maps place answers → (i : ℕ) → IsAnsweredAt kept names maps answers i
+pub all_gathered : (kept : List MachineState) (names : Names) (maps : Bool) (place : ℕ) (answers : List Found) → length kept ≤ place → Gathered kept names maps place answers → (i : ℕ) → IsAnsweredAt kept names maps answers i
 all_gathered kept names maps place answers past far i m at ended =
     let inside = slice_get_within kept i m at in
     far.answered i (omega arith) m at ended

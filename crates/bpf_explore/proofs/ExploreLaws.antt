@@ -6,6 +6,7 @@ use Rattle.std.proofs.lemmas.Option.{slice_get_within}
 use Rattle.bpf_base.proofs.Lists.{slice_get-front}
 use Rattle.bpf_mem.specs.Limits.{max_context}
 use Rattle.bpf_shared.specs.Shape.{Shape}
+use Rattle.bpf_names.specs.Names.{Names}
 use Rattle.bpf_loader.specs.Loaded.{Loaded}
 use Rattle.bpf_cpu.specs.declared.job.Job.{Job}
 use Rattle.bpf_cpu.specs.Task.{Task, Waiting, waiting}
@@ -87,7 +88,7 @@ not_whole Whole h = cc
 not_whole Limited h = refl
 not_whole Refused h = refl
 
-pub explored : CoverTellsAll → (kept : List MachineState) (w : World) (names : List (List ℕ)) (maps : Bool) (answers : List Found) (extent : Extent) (limit : ℕ) → BeginsAt kept w → CameTo false kept extent limit
+pub explored : CoverTellsAll → (kept : List MachineState) (w : World) (names : Names) (maps : Bool) (answers : List Found) (extent : Extent) (limit : ℕ) → BeginsAt kept w → CameTo false kept extent limit
     → ((u : World) → IsFirst kept u → AreOutcomes u names maps answers) → ((i : ℕ) → IsAnsweredAt kept names maps answers i) → AreLed kept → AreApart kept → IsExplored w names maps answers (is_whole extent) (is_refused extent) limit (length kept)
 explored law kept w names maps answers extent limit begins came outcomes answered led apart =
     let first = begins.1 in

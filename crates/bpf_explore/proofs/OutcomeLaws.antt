@@ -2,6 +2,7 @@
 use Rattle.std.proofs.Common.{◌≡◌, ◌∙◌, ℕ, Bool, List, ◌++◌, Some, length, sym, ap, subst}
 use Rattle.std.specs.Prelude.{slice_get}
 use Rattle.bpf_shared.specs.Store.{Plain}
+use Rattle.bpf_names.specs.Names.{Names}
 use Rattle.bpf_cpu.specs.Task.{Task}
 use Rattle.bpf_machine.specs.Schedule.{World}
 use Rattle.bpf_machine.specs.Rounds.{HaveEnded}
@@ -14,13 +15,13 @@ use Rattle.bpf_explore.specs.Laws.{IsAnswered, CoverTellsAll}
 use Rattle.bpf_explore.specs.Patient.{PatientTellAll}
 
 -- of a machine one text is printed
-one_told : (s : Plain) (jobs : List Task) (names : List (List ℕ)) (maps : Bool) (text other : List ℕ) (stopped halted : Bool) → Tells s jobs names maps text stopped → Tells s jobs names maps other halted → (text ≡ other) × (stopped ≡ halted)
+one_told : (s : Plain) (jobs : List Task) (names : Names) (maps : Bool) (text other : List ℕ) (stopped halted : Bool) → Tells s jobs names maps text stopped → Tells s jobs names maps other halted → (text ≡ other) × (stopped ≡ halted)
 one_told s jobs names maps text other stopped halted a b =
     let lines = one_asked maps s names a.0 b.0 a.1 b.1 in
     (a.2 ∙ ap (λ (x : List ℕ). job_lines (length jobs) jobs ++ x) lines ∙ sym b.2, a.3 ∙ sym b.3)
 
 -- what is printed of a world that a kept machine shows is one of the answers
-shown_is_told : (kept : List MachineState) (z : World) (names : List (List ℕ)) (maps : Bool) (answers : List Found) → IsShown kept z → HaveEnded z.jobs
+shown_is_told : (kept : List MachineState) (z : World) (names : Names) (maps : Bool) (answers : List Found) → IsShown kept z → HaveEnded z.jobs
     → ((i : ℕ) (m : MachineState) → slice_get kept i ≡ Some m → HaveEnded m.jobs → IsAnswered names maps answers m)
     → (text : List ℕ) (stopped : Bool) → Tells z.store z.jobs names maps text stopped → IsTold answers text stopped
 shown_is_told kept z names maps answers (i, m, at, shows) ended told text stopped tells =

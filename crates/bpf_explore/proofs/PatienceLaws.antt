@@ -3,6 +3,7 @@ use Rattle.std.proofs.Common.{◌≡◌, ◌∙◌, ℕ, ◌+◌, ◌<◌, ◌�
 use Rattle.std.specs.Prelude.{slice_get, insert, option_and_then, IfSome}
 use Rattle.std.proofs.lemmas.Bool.{cases_lt}
 use Rattle.std.proofs.lemmas.Option.{slice_get_within}
+use Rattle.bpf_names.specs.Names.{Names}
 use Rattle.bpf_cpu.specs.declared.outcome.Outcome.{Outcome}
 use Rattle.bpf_cpu.specs.declared.outcome.Outcome.TheVariants.{OutOfBudget}
 use Rattle.bpf_cpu.specs.Task.{Stage, Task, Waiting, InHand, Ended, ended, outcome_at}
@@ -28,7 +29,7 @@ use Rattle.bpf_explore.specs.Private.Answers.{AreSorted, IsFirst, KeepsAll, IsAn
 use Rattle.bpf_explore.specs.Private.Patience.{AllEndPatiently}
 use Rattle.bpf_explore.proofs.AnswerLaws.{Before, Here, Behind, origin, answered_still}
 
-pub all_end_patiently : (xs : List Found) (i : ℕ) (x : Found) (within : i ≤ length xs) (w : World) (names : List (List ℕ)) (maps : Bool) → EndsPatiently w names maps x → AllEndPatiently w names maps xs → AllEndPatiently w names maps (insert xs i x)
+pub all_end_patiently : (xs : List Found) (i : ℕ) (x : Found) (within : i ≤ length xs) (w : World) (names : Names) (maps : Bool) → EndsPatiently w names maps x → AllEndPatiently w names maps xs → AllEndPatiently w names maps (insert xs i x)
 all_end_patiently xs i x within w names maps one all k y at = elim (origin xs i x within k y at) [
   | Before pl there ↦ all k y there
   | Here e same ↦ subst (EndsPatiently w names maps) same one
@@ -80,13 +81,13 @@ told_out jobs n pc e = go (slice_get jobs n) refl
         (n, task, pc, at, stage_is task.stage (OutOfBudget pc) there)
 
 -- ---- what is gathered of the kept machines below a number
-pub record Gathered (kept : List MachineState) (names : List (List ℕ)) (maps : Bool) (place : ℕ) (whole : Bool) (answers : List Found) : Type 0 where
+pub record Gathered (kept : List MachineState) (names : Names) (maps : Bool) (place : ℕ) (whole : Bool) (answers : List Found) : Type 0 where
   pub sorted : AreSorted answers
   pub ends : (w : World) → IsFirst kept w → AllEndPatiently w names maps answers
   pub answered : whole ≡ true → (i : ℕ) → i < place → IsAnsweredAt kept names maps answers i
   pub out : whole ≡ false → CanRunOut kept
 
-pub none_gathered : (kept : List MachineState) (names : List (List ℕ)) (maps : Bool) → Gathered kept names maps 0 true []
+pub none_gathered : (kept : List MachineState) (names : Names) (maps : Bool) → Gathered kept names maps 0 true []
 none_gathered kept names maps = record {
   sorted = λ i j found later less at there. cc;
   ends = λ w first i found at. cc;
@@ -94,7 +95,7 @@ none_gathered kept names maps = record {
   out = λ is. cc;
 }
 
-pub more_gathered : (kept : List MachineState) (names : List (List ℕ)) (maps : Bool) (place : ℕ) (whole answered now : Bool) (old new : List Found) → Gathered kept names maps place whole old → AreSorted new → KeepsAll old new
+pub more_gathered : (kept : List MachineState) (names : Names) (maps : Bool) (place : ℕ) (whole answered now : Bool) (old new : List Found) → Gathered kept names maps place whole old → AreSorted new → KeepsAll old new
     → ((w : World) → IsFirst kept w → AllEndPatiently w names maps old → AllEndPatiently w names maps new) → (answered ≡ true → IsAnsweredAt kept names maps new place) → (answered ≡ false → CanRunOut kept) → (now ≡ true → (whole ≡ true) × (answered ≡ true)) → (now ≡ false → (whole ≡ false) ⊎ (answered ≡ false))
     → Gathered kept names maps (place + 1) now new
 more_gathered kept names maps place whole answered now old new far sorted keeps ends here out both not = record {
@@ -107,7 +108,7 @@ more_gathered kept names maps place whole answered now old new far sorted keeps 
   out = λ is. elim (not is) [ inl a ↦ far.out a | inr a ↦ out a ];
 }
 
-pub all_gathered : (kept : List MachineState) (names : List (List ℕ)) (maps : Bool) (place : ℕ) (whole : Bool) (answers : List Found) → length kept ≤ place → Gathered kept names maps place whole answers → whole ≡ true → (i : ℕ) → IsAnsweredAt kept names maps answers i
+pub all_gathered : (kept : List MachineState) (names : Names) (maps : Bool) (place : ℕ) (whole : Bool) (answers : List Found) → length kept ≤ place → Gathered kept names maps place whole answers → whole ≡ true → (i : ℕ) → IsAnsweredAt kept names maps answers i
 all_gathered kept names maps place whole answers past far is i m at ended =
     let inside = slice_get_within kept i m at in
     far.answered is i (omega arith) m at ended
@@ -120,7 +121,7 @@ none_of_none : (w : World) (hung : List (List (ℕ × ℕ))) (z : World) → hun
 none_of_none w hung z none (inl ends) = ends
 none_of_none w hung z none (inr (i, by, at, lies)) = let no : None ≡ Some by = ap (λ (hs : List (List (ℕ × ℕ))). slice_get hs i) (sym none) ∙ at in cc
 
-pub explored_patiently : PatientTellAll → (kept : List MachineState) (w : World) (names : List (List ℕ)) (maps : Bool) (answers : List Found) (extent : Extent) (whole fit all refused : Bool) (limit : ℕ) (hung : List (List (ℕ × ℕ))) (budgets : Budgets) → BeginsAt kept w → CameTo true kept extent limit
+pub explored_patiently : PatientTellAll → (kept : List MachineState) (w : World) (names : Names) (maps : Bool) (answers : List Found) (extent : Extent) (whole fit all refused : Bool) (limit : ℕ) (hung : List (List (ℕ × ℕ))) (budgets : Budgets) → BeginsAt kept w → CameTo true kept extent limit
     → whole ≡ is_whole extent → refused ≡ is_refused extent
     → ((u : World) → IsFirst kept u → ArePatient u names maps answers) → (fit ≡ true → (i : ℕ) → IsAnsweredAt kept names maps answers i)
     → AllHang kept hung → (whole ≡ true → fit ≡ true → AllLeadOrBeyond kept hung)

@@ -5,6 +5,7 @@ use Rattle.std.specs.Fmt.{decimal, digits, digits_onto, digit_glyph}
 use Rattle.std.proofs.lemmas.List.{append_cancel_left, length-set}
 use Rattle.std.proofs.lemmas.Option.{slice_get-get_or}
 use Rattle.bpf_shared.specs.Store.{Plain}
+use Rattle.bpf_names.specs.Names.{Names}
 use Rattle.bpf_cpu.specs.declared.cpu.Cpu.{Cpu}
 use Rattle.bpf_cpu.specs.declared.outcome.Outcome.{Outcome}
 use Rattle.bpf_cpu.specs.declared.outcome.Outcome.TheVariants.{Exit, Fault, OutOfBudget}
@@ -124,7 +125,7 @@ lines_same (suc n) jobs others ended too inside within x y e =
     let r = same_line n here.cpu there.cpu here.end there.end x y same in
     (here.stop ∙ (r.0 ∙ sym there.stop), λ off. r.1 (sym here.stop ∙ off)))
 
-pub same_stop : (s t : Plain) (jobs others : List Task) (names : List (List ℕ)) (maps : Bool) (text : List ℕ) (stopped halted : Bool) → length jobs ≡ length others → HaveEnded jobs → HaveEnded others
+pub same_stop : (s t : Plain) (jobs others : List Task) (names : Names) (maps : Bool) (text : List ℕ) (stopped halted : Bool) → length jobs ≡ length others → HaveEnded jobs → HaveEnded others
     → Tells s jobs names maps text stopped → Tells t others names maps text halted → stopped ≡ halted
 same_stop s t jobs others names maps text stopped halted count ended too a b =
     let same : job_lines (length jobs) jobs ++ a.0 ≡ job_lines (length jobs) others ++ b.0 = sym a.2 ∙ (b.2 ∙ ap (λ (n : ℕ). job_lines n others ++ b.0) (sym count)) in

@@ -5,6 +5,7 @@ use Rattle.std.proofs.lemmas.Option.{slice_get_within, slice_get_read, get_or_fr
 use Rattle.std.proofs.lemmas.Bool.{cases_lt}
 use Rattle.bpf_shared.specs.Store.{Plain}
 use Rattle.bpf_shared.specs.Sound.{IsSoundStore}
+use Rattle.bpf_names.specs.Names.{Names}
 use Rattle.bpf_plain.specs.PlainStore.{StandsFor}
 use Rattle.bpf_cpu.specs.declared.outcome.Outcome.{Outcome}
 use Rattle.bpf_cpu.specs.declared.outcome.Outcome.TheVariants.{OutOfBudget}
@@ -35,15 +36,15 @@ no_lines names (suc n) = append-nil (list_lines (λ c. []) names n) ∙ no_lines
 lines_none : (z : World) (names : List (List ℕ)) → z.lists ≡ listing_at None → lines_of_lists z names ≡ []
 lines_none z names none = ap (λ (f : ℕ → Listing). list_lines (λ c. made_keys (f c)) names z.store.shape.cpus) none ∙ no_lines names z.store.shape.cpus
 
-pub tells_none : (m : MachineState) (z : World) (names : List (List ℕ)) (maps : Bool) (text : List ℕ) (stopped : Bool) → m.lists ≡ None → Shows m z
-    → TellsWith (lines_of_lists z names) z.store z.jobs names maps text stopped → Tells z.store z.jobs names maps text stopped
+pub tells_none : (m : MachineState) (z : World) (names : Names) (maps : Bool) (text : List ℕ) (stopped : Bool) → m.lists ≡ None → Shows m z
+    → TellsWith (lines_of_lists z names.maps) z.store z.jobs names maps text stopped → Tells z.store z.jobs names maps text stopped
 tells_none m z names maps text stopped none shows told =
     let lists : z.lists ≡ listing_at None = shows.lists ∙ ap (λ (o : Option (List Listing)). listing_at o) none in
-    subst (λ (lines : List ℕ). TellsWith lines z.store z.jobs names maps text stopped) (lines_none z names lists) told
+    subst (λ (lines : List ℕ). TellsWith lines z.store z.jobs names maps text stopped) (lines_none z names.maps lists) told
 
 -- of each store that a machine's stands for the same is printed
-pub told_of : (m : MachineState) (names : List (List ℕ)) (maps : Bool) (text : List ℕ) (stopped : Bool) → m.lists ≡ None
-    → ((w : World) → Shows m w → TellsWith (lines_of_lists w names) w.store w.jobs names maps text stopped)
+pub told_of : (m : MachineState) (names : Names) (maps : Bool) (text : List ℕ) (stopped : Bool) → m.lists ≡ None
+    → ((w : World) → Shows m w → TellsWith (lines_of_lists w names.maps) w.store w.jobs names maps text stopped)
     → (s : Plain) → IsSoundStore s → StandsFor m.store s → Tells s m.jobs names maps text stopped
 told_of m names maps text stopped none told s sound stands =
     let w : World = record { store = s; programs = m.programs; jobs = m.jobs; lists = listing_at m.lists } in
@@ -51,8 +52,8 @@ told_of m names maps text stopped none told s sound stands =
     tells_none m w names maps text stopped none shows (told w shows)
 
 -- an answer with this text
-pub answered_by : (kept : List MachineState) (m : MachineState) (names : List (List ℕ)) (maps : Bool) (answers : List Found) (place i : ℕ) (found : Found) (text : List ℕ) (stopped : Bool)
-    → slice_get kept place ≡ Some m → m.lists ≡ None → ((w : World) → Shows m w → TellsWith (lines_of_lists w names) w.store w.jobs names maps text stopped)
+pub answered_by : (kept : List MachineState) (m : MachineState) (names : Names) (maps : Bool) (answers : List Found) (place i : ℕ) (found : Found) (text : List ℕ) (stopped : Bool)
+    → slice_get kept place ≡ Some m → m.lists ≡ None → ((w : World) → Shows m w → TellsWith (lines_of_lists w names.maps) w.store w.jobs names maps text stopped)
     → slice_get answers i ≡ Some found → found.text ≡ text → found.stopped ≡ stopped → IsAnsweredAt kept names maps answers place
 answered_by kept m names maps answers place i found text stopped at none told there same halts other here ended =
     let two : Some m ≡ Some other = sym at ∙ here in
@@ -62,15 +63,15 @@ answered_by kept m names maps answers place i found text stopped at none told th
     subst (IsAnswered names maps answers) one (i, found, there, tells)
 
 -- or that has work
-pub has_work : (kept : List MachineState) (names : List (List ℕ)) (maps : Bool) (answers : List Found) (place : ℕ) → (HaveEndedAt kept place → ⊥) → IsAnsweredAt kept names maps answers place
+pub has_work : (kept : List MachineState) (names : Names) (maps : Bool) (answers : List Found) (place : ℕ) → (HaveEndedAt kept place → ⊥) → IsAnsweredAt kept names maps answers place
 has_work kept names maps answers place works m at ended = absurd (works (λ other here. (
     let two : Some m ≡ Some other = sym at ∙ here in
     let one : m ≡ other = cc in
     subst (λ (n : MachineState). HaveEnded n.jobs) one ended)))
 
 -- ---- what is printed of a kept machine without work
-module _ (kept : List MachineState) (m : MachineState) (names : List (List ℕ)) (maps : Bool) (place : ℕ) (text : List ℕ) (stopped : Bool) (at : slice_get kept place ≡ Some m) (none : m.lists ≡ None) (ended : HaveEndedAt kept place)
-    (told : (w : World) → Shows m w → TellsWith (lines_of_lists w names) w.store w.jobs names maps text stopped) where
+module _ (kept : List MachineState) (m : MachineState) (names : Names) (maps : Bool) (place : ℕ) (text : List ℕ) (stopped : Bool) (at : slice_get kept place ≡ Some m) (none : m.lists ≡ None) (ended : HaveEndedAt kept place)
+    (told : (w : World) → Shows m w → TellsWith (lines_of_lists w names.maps) w.store w.jobs names maps text stopped) where
   shown_is : (z : World) (other : MachineState) → slice_get kept place ≡ Some other → Shows other z → Shows m z
   shown_is z other there shows =
       let two : Some other ≡ Some m = sym there ∙ at in

@@ -2,6 +2,7 @@
 use Rattle.std.specs.Prelude.{◌≡◌, ℕ, Bool, false, List, Some, slice_get}
 use Rattle.bpf_shared.specs.Store.{Plain}
 use Rattle.bpf_shared.specs.Sound.{IsSoundStore}
+use Rattle.bpf_names.specs.Names.{Names}
 use Rattle.bpf_plain.specs.PlainStore.{StandsFor}
 use Rattle.bpf_machine.specs.Schedule.{World}
 use Rattle.bpf_machine.specs.Rounds.{HaveEnded}
@@ -13,7 +14,7 @@ use Rattle.bpf_explore.specs.Outcomes.{Found, HaveAll}
 use Rattle.bpf_explore.specs.Search.{CoversAll}
 
 -- what is printed of a machine is one of the answers
-abbrev pub IsAnswered : List (List ℕ) → Bool → List Found → MachineState → Type 0
+abbrev pub IsAnswered : Names → Bool → List Found → MachineState → Type 0
 IsAnswered names maps answers m =
     (i : ℕ) × (found : Found) × (slice_get answers i ≡ Some found)
     × ((s : Plain) → IsSoundStore s → StandsFor m.store s
@@ -23,7 +24,7 @@ IsAnswered names maps answers m =
 -- answer, no outcome is left out
 abbrev pub CoverTellsAll : Type 0
 CoverTellsAll =
-    (kept : List MachineState) (w : World) (names : List (List ℕ)) (maps : Bool)
+    (kept : List MachineState) (w : World) (names : Names) (maps : Bool)
     (answers : List Found) → CoversAll false kept → IsFresh w → IsShown kept w
     → ((i : ℕ) (m : MachineState) → slice_get kept i ≡ Some m → HaveEnded m.jobs
     → IsAnswered names maps answers m)

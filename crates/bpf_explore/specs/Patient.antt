@@ -3,6 +3,7 @@ use Rattle.std.specs.Prelude.{◌≡◌, ℕ, ◌<◌, ◌≤◌, ◌⊎◌, Boo
 use Rattle.std.specs.declared.cmp.Ordering.TheVariants.{Less}
 use Rattle.std.specs.Ordering.{nat_cmp}
 use Rattle.std.specs.Cmp.Lexicographic.{slice_cmp}
+use Rattle.bpf_names.specs.Names.{Names}
 use Rattle.bpf_machine.specs.Schedule.{World, RunsSchedule, unrolled}
 use Rattle.bpf_machine.specs.Rounds.{HaveEnded}
 use Rattle.bpf_machine.specs.Laws.{IsFresh}
@@ -20,24 +21,24 @@ use Rattle.bpf_explore.specs.Laws.{IsAnswered}
 
 -- some schedule leads to a machine without work, in which no job is out of budget, and of which this
 -- is printed
-abbrev pub IsPatientOutcome : World → List (List ℕ) → Bool → List ℕ → Bool → Type 0
+abbrev pub IsPatientOutcome : World → Names → Bool → List ℕ → Bool → Type 0
 IsPatientOutcome w names maps text stopped =
     (schedule : List ℕ) × (z : World) × RunsSchedule w schedule z × HaveEnded z.jobs
     × NoneRanOut z.jobs × Tells z.store z.jobs names maps text stopped
 
 -- none of them is left out
-abbrev pub HaveAllPatient : World → List (List ℕ) → Bool → List Found → Type 0
+abbrev pub HaveAllPatient : World → Names → Bool → List Found → Type 0
 HaveAllPatient w names maps answers = (text : List ℕ) (stopped : Bool)
     → IsPatientOutcome w names maps text stopped → IsTold answers text stopped
 
 -- the answer is one of them, by its own schedule
-abbrev pub EndsPatiently : World → List (List ℕ) → Bool → Found → Type 0
+abbrev pub EndsPatiently : World → Names → Bool → Found → Type 0
 EndsPatiently w names maps found =
     (z : World) × RunsSchedule w (unrolled found.by) z × HaveEnded z.jobs × NoneRanOut z.jobs
     × Tells z.store z.jobs names maps found.text found.stopped
 
 -- each answer is one, and they are in the order of their texts' bytes, none twice
-pub record ArePatient (w : World) (names : List (List ℕ)) (maps : Bool) (answers : List Found)
+pub record ArePatient (w : World) (names : Names) (maps : Bool) (answers : List Found)
     : Type 0 where
   pub each : (i : ℕ) (found : Found) → slice_get answers i ≡ Some found
       → EndsPatiently w names maps found
@@ -93,7 +94,7 @@ NoneHangs w = (schedule : List ℕ) (z : World) → RunsSchedule w schedule z �
 -- the answers, whether they are all, whether memory was refused to the search, how many states were kept,
 -- hung states, and whether some schedule uses a budget up. Not all are printed only where the states are more
 -- than the limit, where memory was refused before, or where it is reported that some schedule does
-pub record IsSearchedPatiently (w : World) (names : List (List ℕ)) (maps : Bool)
+pub record IsSearchedPatiently (w : World) (names : Names) (maps : Bool)
     (answers : List Found) (all refused : Bool) (limit states : ℕ) (hung : List (List (ℕ × ℕ)))
     (budgets : Budgets) : Type 0 where
   pub outcomes : ArePatient w names maps answers
@@ -111,7 +112,7 @@ pub record IsSearchedPatiently (w : World) (names : List (List ℕ)) (maps : Boo
 -- of them that has no work is an answer, no outcome in which no job is out of budget is left out
 abbrev pub PatientTellAll : Type 0
 PatientTellAll =
-    (kept : List MachineState) (w : World) (names : List (List ℕ)) (maps : Bool)
+    (kept : List MachineState) (w : World) (names : Names) (maps : Bool)
     (answers : List Found) → CoversAll true kept → IsFresh w → IsShown kept w
     → ((i : ℕ) (m : MachineState) → slice_get kept i ≡ Some m → HaveEnded m.jobs
     → IsAnswered names maps answers m)

@@ -2,6 +2,7 @@
 
 ghost use Rattle.std.specs.Prelude.{◌≡◌, ◌<◌, ◌+◌, ℕ, Bool, List, Some, IfOk, IfErr, OnOk, length, map, slice_get, string_bytes};
 ghost use Rattle.std.specs.List.{list_any};
+ghost use Rattle.bpf_names.specs.Names.{Names as FileNames, names_of};
 ghost use Rattle.bpf_machine.specs.Schedule.{World};
 ghost use Rattle.bpf_explore.specs.Album.{HaveEndedAt};
 ghost use Rattle.bpf_explore.specs.Outcomes.{Found, AreOutcomes, EndsBy};
@@ -9,6 +10,7 @@ ghost use Rattle.bpf_explore.specs.Private.Answers.{AreSorted, IsFirst, AllEnd, 
 
 use crate::explorer::Explorer;
 use bpf_jobs::{Report, tell};
+use bpf_names::Names;
 use std::alloc::{AllocError, Global};
 use std::cmp::Ordering;
 use std::marker::Model;
@@ -90,7 +92,7 @@ fn put_answer(answers: &mut Vec<Answer>, at: usize, answer: Answer) -> Result<()
     requires place { IsPlaceOf answers.old.items answer.text at }
     ensures sorted { AreSorted answers.new.items }
     ensures keeps { KeepsAll answers.old.items answers.new.items }
-    ensures ends { (w : World) (names : List (List ℕ)) (maps : Bool) → EndsBy w names maps answer
+    ensures ends { (w : World) (names : FileNames) (maps : Bool) → EndsBy w names maps answer
         → AllEnd w names maps answers.old.items → AllEnd w names maps answers.new.items }
     ensures put { OnOk result (slice_get answers.new.items at ≡ Some answer) }
 {
@@ -103,7 +105,7 @@ fn put_answer(answers: &mut Vec<Answer>, at: usize, answer: Answer) -> Result<()
 fn tell_ended(
     alloc: Global,
     explorer: &mut Explorer,
-    names: &[String],
+    names: &Names,
     maps: bool,
     answers: &mut Vec<Answer>,
     place: usize,
@@ -113,13 +115,13 @@ fn tell_ended(
     requires first { (w : World) × IsFirst explorer.old.kept w }
     requires sorted { AreSorted answers.old.items }
     requires ends { (w : World) → IsFirst explorer.old.kept w
-        → AllEnd w (map string_bytes names.now) maps answers.old.items }
+        → AllEnd w (names_of names.now) maps answers.old.items }
     ensures same { explorer.new.kept ≡ explorer.old.kept }
     ensures sorted { OnOk result (AreSorted answers.new.items) }
     ensures keeps { OnOk result (KeepsAll answers.old.items answers.new.items) }
     ensures ends { OnOk result ((w : World) → IsFirst explorer.old.kept w
-        → AllEnd w (map string_bytes names.now) maps answers.new.items) }
-    ensures answered { OnOk result (IsAnsweredAt explorer.old.kept (map string_bytes names.now)
+        → AllEnd w (names_of names.now) maps answers.new.items) }
+    ensures answered { OnOk result (IsAnsweredAt explorer.old.kept (names_of names.now)
         maps answers.new.items place) }
 {
     explorer.leads();
@@ -139,17 +141,17 @@ fn tell_ended(
 fn tell_at(
     alloc: Global,
     explorer: &mut Explorer,
-    names: &[String],
+    names: &Names,
     maps: bool,
     answers: &mut Vec<Answer>,
     place: usize,
 ) -> Result<(), AllocError>
     requires place { place < length explorer.old.kept }
     requires first { (w : World) × IsFirst explorer.old.kept w }
-    requires gathered { Gathered explorer.old.kept (map string_bytes names.now) maps place
+    requires gathered { Gathered explorer.old.kept (names_of names.now) maps place
         answers.old.items }
     ensures same { explorer.new.kept ≡ explorer.old.kept }
-    ensures gathered { OnOk result (Gathered explorer.old.kept (map string_bytes names.now) maps
+    ensures gathered { OnOk result (Gathered explorer.old.kept (names_of names.now) maps
         (place + 1) answers.new.items) }
 {
     if !explorer.has_ended(place) {
@@ -163,15 +165,15 @@ fn tell_at(
 pub(crate) fn gather(
     alloc: Global,
     explorer: &mut Explorer,
-    names: &[String],
+    names: &Names,
     maps: bool,
 ) -> Result<Vec<Answer>, AllocError>
     requires { (w : World) × IsFirst explorer.old.kept w }
     ensures same { explorer.new.kept ≡ explorer.old.kept }
     ensures outcomes { IfOk result (λ answers. (w : World) → IsFirst explorer.old.kept w
-        → AreOutcomes w (map string_bytes names.now) maps answers.items) }
+        → AreOutcomes w (names_of names.now) maps answers.items) }
     ensures answered { IfOk result (λ answers. (i : ℕ) → IsAnsweredAt explorer.old.kept
-        (map string_bytes names.now) maps answers.items i) }
+        (names_of names.now) maps answers.items i) }
 {
     let mut answers = Vec::new(alloc);
     for place in 0..explorer.len() {

@@ -1,6 +1,7 @@
 //! Every outcome of jobs: the search from a shape and its jobs to the answers.
 
 ghost use Rattle.std.specs.Prelude.{◌≡◌, ◌<◌, ℕ, true, false, IfOk, length, map, string_bytes};
+ghost use Rattle.bpf_names.specs.Names.{names_of};
 ghost use Rattle.bpf_cpu.specs.Setup.{IsRunnable};
 ghost use Rattle.bpf_machine.specs.Schedule.{World};
 ghost use Rattle.bpf_jobs.specs.Printed.{first_of};
@@ -24,6 +25,7 @@ use crate::patience::{both, gather_patiently};
 use crate::patient::PatientExplorer;
 use crate::turns::Turns;
 use bpf_cpu::Setup;
+use bpf_names::Names;
 use std::alloc::{AllocError, Global};
 
 /// What jobs may reach.
@@ -43,14 +45,14 @@ pub struct Explored {
 fn conclude(
     alloc: Global,
     explorer: &mut Explorer,
-    names: &[String],
+    names: &Names,
     maps: bool,
     extent: Extent,
 ) -> Result<Explored, AllocError>
     requires { (w : World) × IsFirst explorer.old.kept w }
     ensures { IfOk result (λ e. (w : World) (limit : ℕ) → BeginsAt explorer.old.kept w
         → CameTo false explorer.old.kept extent limit
-        → IsExplored w (map string_bytes names.now) maps e.answers.items e.all e.refused limit
+        → IsExplored w (names_of names.now) maps e.answers.items e.all e.refused limit
         e.states) }
 {
     crate::laws::cover_tells_all();
@@ -72,14 +74,14 @@ fn conclude(
 pub fn explore_jobs<O: Observer>(
     alloc: Global,
     setup: Setup,
-    names: &[String],
+    names: &Names,
     maps: bool,
     limit: usize,
     observer: &mut O,
 ) -> Result<Explored, AllocError>
     requires { IsRunnable setup }
     ensures { IfOk result (λ e. IsExplored (first_of setup)
-        (map string_bytes names.now) maps e.answers.items e.all e.refused limit e.states) }
+        (names_of names.now) maps e.answers.items e.all e.refused limit e.states) }
 {
     let mut explorer = search_of(alloc, setup)?;
     let extent = explore(&mut explorer, limit, observer);
@@ -185,7 +187,7 @@ fn judge(
 fn conclude_patiently(
     alloc: Global,
     explorer: &mut PatientExplorer,
-    names: &[String],
+    names: &Names,
     maps: bool,
     extent: Extent,
 ) -> Result<ExploredPatiently, AllocError>
@@ -194,7 +196,7 @@ fn conclude_patiently(
         → explorer.old.made ≡ rows_of explorer.old.cpus (length explorer.old.kept) }
     ensures { IfOk result (λ e. (w : World) (limit : ℕ) → BeginsAt explorer.old.kept w
         → CameTo true explorer.old.kept extent limit
-        → IsSearchedPatiently w (map string_bytes names.now) maps e.answers.items e.all e.refused
+        → IsSearchedPatiently w (names_of names.now) maps e.answers.items e.all e.refused
         limit e.states e.hung.items e.budgets) }
 {
     crate::laws::patient_tell_all();
@@ -226,14 +228,14 @@ fn conclude_patiently(
 pub fn search_patiently<O: Observer>(
     alloc: Global,
     setup: Setup,
-    names: &[String],
+    names: &Names,
     maps: bool,
     limit: usize,
     observer: &mut O,
 ) -> Result<ExploredPatiently, AllocError>
     requires { IsRunnable setup }
     ensures { IfOk result (λ e. IsSearchedPatiently (first_of setup)
-        (map string_bytes names.now) maps e.answers.items e.all e.refused limit e.states
+        (names_of names.now) maps e.answers.items e.all e.refused limit e.states
         e.hung.items e.budgets) }
 {
     let mut explorer = patient_search_of(alloc, setup)?;

@@ -1,6 +1,7 @@
 //! Answers of a patient search, each tried by its schedule, with the budgets that jobs have.
 
 ghost use Rattle.std.specs.Prelude.{◌≡◌, ◌<◌, ◌⊎◌, ℕ, Bool, List, true, false, Some, IfOk, IfSome, IfNone, OnOk, length, map, slice_get, string_bytes};
+ghost use Rattle.bpf_names.specs.Names.{Names as FileNames, names_of};
 ghost use Rattle.bpf_machine.specs.Schedule.{World};
 ghost use Rattle.bpf_explore.specs.Album.{HaveEndedAt};
 ghost use Rattle.bpf_explore.specs.Patient.{ArePatient, EndsPatiently};
@@ -12,6 +13,7 @@ use crate::answers::{Answer, place_of};
 use crate::patient::PatientExplorer;
 use crate::replays::replay;
 use bpf_jobs::{Report, tell};
+use bpf_names::Names;
 use std::alloc::{AllocError, Global};
 
 /// The schedule that leads to a kept machine without work, with the budgets that jobs have; `None`
@@ -42,7 +44,7 @@ fn put_patiently(answers: &mut Vec<Answer>, at: usize, answer: Answer) -> Result
     requires place { IsPlaceOf answers.old.items answer.text at }
     ensures sorted { AreSorted answers.new.items }
     ensures keeps { KeepsAll answers.old.items answers.new.items }
-    ensures ends { (w : World) (names : List (List ℕ)) (maps : Bool)
+    ensures ends { (w : World) (names : FileNames) (maps : Bool)
         → EndsPatiently w names maps answer → AllEndPatiently w names maps answers.old.items
         → AllEndPatiently w names maps answers.new.items }
     ensures put { OnOk result (slice_get answers.new.items at ≡ Some answer) }
@@ -56,7 +58,7 @@ fn put_patiently(answers: &mut Vec<Answer>, at: usize, answer: Answer) -> Result
 fn tell_ended(
     alloc: Global,
     explorer: &mut PatientExplorer,
-    names: &[String],
+    names: &Names,
     maps: bool,
     answers: &mut Vec<Answer>,
     place: usize,
@@ -66,14 +68,14 @@ fn tell_ended(
     requires ended { HaveEndedAt explorer.old.kept place }
     requires sorted { AreSorted answers.old.items }
     requires ends { (w : World) → IsFirst explorer.old.kept w
-        → AllEndPatiently w (map string_bytes names.now) maps answers.old.items }
+        → AllEndPatiently w (names_of names.now) maps answers.old.items }
     ensures same { explorer.new.kept ≡ explorer.old.kept }
     ensures sorted { AreSorted answers.new.items }
     ensures keeps { KeepsAll answers.old.items answers.new.items }
     ensures ends { (w : World) → IsFirst explorer.old.kept w
-        → AllEndPatiently w (map string_bytes names.now) maps answers.new.items }
+        → AllEndPatiently w (names_of names.now) maps answers.new.items }
     ensures answered { IfOk result (λ answered. answered ≡ true → IsAnsweredAt explorer.old.kept
-        (map string_bytes names.now) maps answers.new.items place) }
+        (names_of names.now) maps answers.new.items place) }
     ensures out { IfOk result (λ answered. answered ≡ false → CanRunOut explorer.old.kept) }
 {
     explorer.leads();
@@ -95,7 +97,7 @@ fn tell_ended(
 fn tell_at(
     alloc: Global,
     explorer: &mut PatientExplorer,
-    names: &[String],
+    names: &Names,
     maps: bool,
     answers: &mut Vec<Answer>,
     place: usize,
@@ -104,14 +106,14 @@ fn tell_at(
     requires fresh { StartsFresh explorer.old.kept }
     requires sorted { AreSorted answers.old.items }
     requires ends { (w : World) → IsFirst explorer.old.kept w
-        → AllEndPatiently w (map string_bytes names.now) maps answers.old.items }
+        → AllEndPatiently w (names_of names.now) maps answers.old.items }
     ensures same { explorer.new.kept ≡ explorer.old.kept }
     ensures sorted { AreSorted answers.new.items }
     ensures keeps { KeepsAll answers.old.items answers.new.items }
     ensures ends { (w : World) → IsFirst explorer.old.kept w
-        → AllEndPatiently w (map string_bytes names.now) maps answers.new.items }
+        → AllEndPatiently w (names_of names.now) maps answers.new.items }
     ensures answered { IfOk result (λ answered. answered ≡ true → IsAnsweredAt explorer.old.kept
-        (map string_bytes names.now) maps answers.new.items place) }
+        (names_of names.now) maps answers.new.items place) }
     ensures out { IfOk result (λ answered. answered ≡ false → CanRunOut explorer.old.kept) }
 {
     if !explorer.has_ended(place) {
@@ -132,15 +134,15 @@ pub(crate) fn both(first: bool, second: bool) -> bool
 pub(crate) fn gather_patiently(
     alloc: Global,
     explorer: &mut PatientExplorer,
-    names: &[String],
+    names: &Names,
     maps: bool,
 ) -> Result<(Vec<Answer>, bool), AllocError>
     requires { StartsFresh explorer.old.kept }
     ensures same { explorer.new.kept ≡ explorer.old.kept }
     ensures outcomes { IfOk result (λ r. (w : World) → IsFirst explorer.old.kept w
-        → ArePatient w (map string_bytes names.now) maps r.0.items) }
+        → ArePatient w (names_of names.now) maps r.0.items) }
     ensures answered { IfOk result (λ r. r.1 ≡ true → (i : ℕ) → IsAnsweredAt explorer.old.kept
-        (map string_bytes names.now) maps r.0.items i) }
+        (names_of names.now) maps r.0.items i) }
     ensures out { IfOk result (λ r. r.1 ≡ false → CanRunOut explorer.old.kept) }
 {
     let mut answers = Vec::new(alloc);

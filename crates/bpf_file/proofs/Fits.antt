@@ -20,6 +20,8 @@ use Rattle.bpf_shared.specs.declared.shapes.ArrayShape.{ArrayShape}
 use Rattle.bpf_shared.specs.declared.shapes.MapShape.{MapShape}
 use Rattle.bpf_shared.specs.declared.shapes.ShapeError.{ShapeError}
 use Rattle.bpf_shared.specs.declared.shapes.ShapeError.TheVariants.{CpuCount, TooManyMaps, TooManyArrays}
+use Rattle.bpf_shared.specs.declared.events.Size.{Size}
+use Rattle.bpf_names.specs.Names.{Variable as Bytes}
 use Rattle.bpf_loader.specs.declared.named.Named.{Named}
 use Rattle.bpf_loader.specs.Loaded.{Loaded}
 use Rattle.bpf_file.specs.declared.version.Version.{Version as Edition}
@@ -28,12 +30,14 @@ use Rattle.bpf_file.specs.declared.error.FileError.TheVariants.{Refused}
 use Rattle.bpf_file.specs.declared.error.Reason.{Reason}
 use Rattle.bpf_file.specs.declared.error.Reason.TheVariants as reason
 use Rattle.bpf_file.specs.Form.{is_there}
-use Rattle.bpf_file.specs.Statement.{Said, Version, Cpus, Seed, Map, Array, Data, Program, Words, Job, statement_of}
+use Rattle.bpf_file.specs.Statement.{Said, Version, Cpus, Seed, Map, Array, Data, Variable, Program, Words, Job, statement_of}
 use Rattle.bpf_file.specs.File.{File, named_by}
 use Rattle.bpf_file.specs.Contents.{laid}
-use Rattle.bpf_file.specs.Parts.{Part, State, Between, Within, nothing, place_of, array_place, with_first, with_cpus, with_seed, with_map, with_array, with_data, with_program, with_job}
+use Rattle.bpf_file.specs.Parts.{Part, State, Between, Within, nothing, is_taken, place_of, array_place, with_first, with_cpus, with_seed, with_map, with_array, with_data, with_variable, with_program, with_job}
+use Rattle.bpf_text.specs.Symbols.{Table}
+use Rattle.bpf_file.specs.Symbols.{names_for}
 use Rattle.bpf_file.specs.Programs.{LoadsProgram, OfBytes, OfAssembly, refusal_behind, text_of_lines}
-use Rattle.bpf_file.specs.Rows.{unless, cpus_refusal, map_refusal, array_refusal, size_refusal, data_refusal, data_laid, or_refused, data_added, program_added, WordsAdd, served, steps_of, context_of, job_added, placed, AddsLine}
+use Rattle.bpf_file.specs.Rows.{unless, cpus_refusal, map_refusal, array_refusal, size_refusal, data_refusal, data_laid, or_refused, data_added, name_refusal, place_refusal, variable_added, program_added, WordsAdd, served, steps_of, context_of, job_added, placed, AddsLine}
 use Rattle.bpf_file.specs.Reading.{AddsOrRefuses, FieldsSay, is_end, Belongs, ReadsLine, finished, AreRead}
 use Rattle.bpf_file.specs.Runnable.{IsJobFor, CanRun}
 use Rattle.bpf_file.specs.Laws.{FilesCanRun}
@@ -93,8 +97,8 @@ digits_for : (line : ℕ) (named : Named) (d : Result (List ℕ) FromHexError) (
 digits_for line named (Ok bytes) o l = bytes_for line named bytes o l
 digits_for line named (Err e) o h = refused_for named (Refused line reason.NotHex) o h
 
-assembly_for : (line : ℕ) (named : Named) (text : List ℕ) (o : Result Loaded FileError) → OfAssembly line named text o → LoadedFor named o
-assembly_for line named text o (is, a, l) = insns_for line named (refusal_behind line) is o l
+assembly_for : (line : ℕ) (named : Named) (names : Option Table) (text : List ℕ) (o : Result Loaded FileError) → OfAssembly line named names text o → LoadedFor named o
+assembly_for line named names text o (is, a, l) = insns_for line named (refusal_behind line) is o l
 
 served_below : (cpus : ℕ) (o : Option ℕ) (c : ℕ) → served cpus o ≡ Some c → c < cpus
 served_below cpus None c e = cc
@@ -213,7 +217,7 @@ from_zero n = omega arith
 
 fit_map : (p : Part) (name : List ℕ) (h : MapShape) → IsFit p → IsIdle p → p.file.arrays ≡ [] → map_refusal p name h ≡ None → IsFit (with_map p name h)
 fit_map p name h f i a e =
-    let passed = one_passes (is_there (place_of name p.file.names)) (nat_le 16 (length p.file.maps)) TooManyMaps (first_of (map_tests (length p.file.maps) h)) e in
+    let passed = one_passes (is_taken p.file name) (nat_le 16 (length p.file.maps)) TooManyMaps (first_of (map_tests (length p.file.maps) h)) e in
     record {
       cpus = f.cpus;
       count = one_more (length p.file.maps) (length (p.file.maps ++ h ∷ [])) passed.0 (length-append p.file.maps (h ∷ []));
@@ -232,7 +236,7 @@ fit_map p name h f i a e =
 
 fit_array : (p : Part) (name : List ℕ) (g : ArrayShape) → IsFit p → IsIdle p → array_refusal p name g ≡ None → IsFit (with_array p name g)
 fit_array p name g f i e =
-    let passed = one_passes (is_there (place_of name p.file.names)) (nat_le 16 (length p.file.arrays)) TooManyArrays (first_of (array_tests p.file.cpus 0 (length p.file.arrays) g)) e in
+    let passed = one_passes (is_taken p.file name) (nat_le 16 (length p.file.arrays)) TooManyArrays (first_of (array_tests p.file.cpus 0 (length p.file.arrays) g)) e in
     let more = length-append p.file.arrays (g ∷ []) in
     let bytes = length-append p.file.contents ([] ∷ []) in
     record {
@@ -286,6 +290,30 @@ fit_data n p (Some a) at digits f i = by_refusal (data_refusal p.file a (at + le
     by_refusal : (o : Option Reason) → data_refusal p.file a (at + length digits / 2) ≡ o → IsFitResult (or_refused n o (data_laid n p a at (decode_of digits)))
     by_refusal None e = by_digits (decode_of digits) refl e
     by_refusal (Some why) e = tt
+
+fit_bytes : (p : Part) (v : Bytes) → IsFit p → IsIdle p → IsFit (with_variable p v)
+fit_bytes p v f i = record {
+  cpus = f.cpus;
+  count = f.count;
+  maps = f.maps;
+  array_count = f.array_count;
+  arrays = f.arrays;
+  contents = f.contents;
+  titles = f.titles;
+  runs = no_work (with_variable p v).file i.0 i.1;
+  no_arrays = λ h. absurd (omega arith);
+  no_programs = λ h. i.1;
+  no_jobs = λ h. i.0;
+}
+
+fit_variable : (n : ℕ) (p : Part) (name : List ℕ) (k : Option ℕ) (at : ℕ) (size : Size) → IsFit p → IsIdle p → IsFitResult (variable_added n p name k at size)
+fit_variable n p name None at size f i = tt
+fit_variable n p name (Some a) at size f i =
+    fit_unless n (place_refusal a at size (slice_get p.file.arrays a)) _ (λ e. fit_bytes p (record { name = name; array = a; at = at; size = size }) f i)
+
+fit_refused : (n : ℕ) (o : Option Reason) (r : Result State FileError) → IsFitResult r → IsFitResult (or_refused n o r)
+fit_refused n None r h = h
+fit_refused n (Some why) r h = tt
 
 fit_new : (b : Bool) (n : ℕ) (r : Result State FileError) → IsFitResult r → IsFitResult (if b then Err (Refused n reason.TwiceName) else r)
 fit_new true n r f = tt
@@ -359,6 +387,8 @@ adds_fit n p (Seed s) r e c f = subst IsFitResult (sym e) (fit_seed p s f (idle 
 adds_fit n p (Map name h) r e c f = subst IsFitResult (sym e) (fit_unless n (map_refusal p name h) _ (fit_map p name h f (idle p 4 f c.0 (omega arith)) (no_arrays_at p 4 f c.0 (omega arith))))
 adds_fit n p (Array name g) r e c f = subst IsFitResult (sym e) (fit_unless n (array_refusal p name g) _ (fit_array p name g f (idle p 5 f c.0 (omega arith))))
 adds_fit n p (Data name at digits) r e c f = subst IsFitResult (sym e) (fit_data n p (array_place p.file name) at digits f (idle p 6 f c.0 (omega arith)))
+adds_fit n p (Variable name array at size) r e c f =
+    subst IsFitResult (sym e) (fit_refused n (name_refusal p.file name) _ (fit_variable n p name (array_place p.file array) at size f (idle p 6 f c.0 (omega arith))))
 adds_fit n p (Program name) r e c f =
     subst IsFitResult (sym e) (fit_new (is_there (place_of name p.titles)) n (Ok (Within p n name []))
     (f, f.no_jobs (before p.group 7 8 c.0 (omega arith))))
@@ -388,7 +418,7 @@ opening_fits n p q fs name a f = fields_fit n p fs (Ok (Within q n name [])) a f
 
 pub section_fits : (line : ℕ) (p q : Part) (name text : List ℕ) → Ends line p name text (Ok (Between q)) → IsFitState (Within p line name []) → IsFit q
 section_fits line p q name text (o, of, e) (f, j) =
-    let F : IsFitResult (Ok (Between q)) = subst IsFitResult (sym e) (fit_program p name o (assembly_for line (named_by p.file) text o of) f j) in F
+    let F : IsFitResult (Ok (Between q)) = subst IsFitResult (sym e) (fit_program p name o (assembly_for line (named_by p.file) (names_for p) text o of) f j) in F
 
 -- after one answer, and then another
 pub then_fits : {X : Type 0} (r : Result X FileError) (P Q S : Type 0) → (P → Q) → OnOk r (Q → S) → OnOk r (P → S)
@@ -399,7 +429,7 @@ then_fits (Err e) P Q S f g = g
 
 belongs_fit : (end : Bool) (p : Part) (from : ℕ) (name : List ℕ) (ls : List (List ℕ)) (l : List ℕ) (r : Result State FileError) → Belongs end p from name ls l r → IsFit p → p.file.jobs ≡ [] → IsFitResult r
 belongs_fit true p from name ls l r (o, of, e) f j =
-    subst IsFitResult (sym e) (fit_program p name o (assembly_for from (named_by p.file) (text_of_lines ls) o of) f j)
+    subst IsFitResult (sym e) (fit_program p name o (assembly_for from (named_by p.file) (names_for p) (text_of_lines ls) o of) f j)
 belongs_fit false p from name ls l r e f j = subst IsFitResult (sym e) (f, j)
 
 reads_fit : (n : ℕ) (s : State) (l : List ℕ) (r : Result State FileError) → ReadsLine n s l r → IsFitState s → IsFitResult r

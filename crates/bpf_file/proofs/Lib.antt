@@ -5,6 +5,7 @@ pub mod Sections
 pub mod Names
 pub mod Comes
 pub mod Arrays
+pub mod Tables
 pub mod Fits
 pub mod Progress
 pub mod Runs

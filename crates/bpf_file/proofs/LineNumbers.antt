@@ -7,10 +7,11 @@ use Rattle.bpf_text.specs.declared.error.TextError.{TextError}
 use Rattle.bpf_text.specs.declared.error.TextError.TheVariants.{OutOfMemory}
 use Rattle.bpf_text.specs.declared.labels.Place.{Place}
 use Rattle.bpf_text.specs.declared.reading.LineError.{LineError}
-use Rattle.bpf_text.specs.declared.reading.LineError.TheVariants.{BadLine, BadNumber}
+use Rattle.bpf_text.specs.declared.reading.LineError.TheVariants.{BadLine, BadNumber, UnknownName}
 use Rattle.bpf_text.specs.Line.{Written}
 use Rattle.bpf_lines.specs.Lines.{lines_of}
-use Rattle.bpf_text.specs.Assembly.{Source, AreLines, Assembles, words_of, is_twice, first_place, or_far, unless_twice, or_unknown, at_target, named_meaning, body_meaning, meaning_of, then_meaning, program_of}
+use Rattle.bpf_text.specs.Symbols.{Table}
+use Rattle.bpf_text.specs.Assembly.{Source, AreLinesWith, AssemblesWith, words_of, is_twice, first_place, or_far, unless_twice, or_unknown, at_target, named_meaning, body_meaning, meaning_of, then_meaning, program_of}
 use Rattle.bpf_file.specs.Private.Lines.{line_named}
 
 -- a refusal names this line or one before it
@@ -41,6 +42,7 @@ named_up labels twice line pc i (Some name) = at_target_up twice line pc i name 
 body_up : (labels : List ℕ → Option Place) (twice : Bool) (line pc : ℕ) (body : Result (Option Written) LineError) → Up (line + 1) (body_meaning labels twice line pc body)
 body_up labels twice line pc (Err BadLine) = omega arith
 body_up labels twice line pc (Err BadNumber) = omega arith
+body_up labels twice line pc (Err UnknownName) = omega arith
 body_up labels twice line pc (Ok None) = unless_twice_up twice line (Ok None) tt
 body_up labels twice line pc (Ok (Some i)) = named_up labels twice line pc i.insn i.name
 
@@ -62,17 +64,17 @@ program_up labels (s ∷ ss) line pc =
     then_up (line + 1) (line + length (s ∷ ss)) (meaning_of labels line pc s) (program_of labels (line + 1) next ss)
     (omega arith) (meaning_up labels line pc s) (subst P counted (program_up labels ss (line + 1) next))
 
-as_many : (ls : List (List ℕ)) (ss : List Source) → AreLines ls ss → length ss ≡ length ls
-as_many [] [] a = refl
-as_many (l ∷ ls) (s ∷ ss) a = let more = as_many ls ss a.1 in omega (arith, more)
-as_many [] (s ∷ ss) a = absurd a
-as_many (l ∷ ls) [] a = absurd a
+as_many : (names : Option Table) (ls : List (List ℕ)) (ss : List Source) → AreLinesWith names ls ss → length ss ≡ length ls
+as_many names [] [] a = refl
+as_many names (l ∷ ls) (s ∷ ss) a = let more = as_many names ls ss a.1 in omega (arith, more)
+as_many names [] (s ∷ ss) a = absurd a
+as_many names (l ∷ ls) [] a = absurd a
 
-assembled_up : (text : List ℕ) (e : TextError) → Assembles text (Err e) → line_named e ≤ length text + 1
-assembled_up text e a =
+assembled_up : (names : Option Table) (text : List ℕ) (e : TextError) → AssemblesWith names text (Err e) → line_named e ≤ length text + 1
+assembled_up names text e a =
     let U : Result (List Insn) TextError → Type 0 = Up (0 + length a.sources) in
     let named : line_named e ≤ 0 + length a.sources = subst U (sym a.meant) (program_up (first_place a.sources 0 0) a.sources 0 0) in
-    let many = as_many (lines_of text) a.sources a.lines in
+    let many = as_many names (lines_of text) a.sources a.lines in
     let lines : length (lines_of text) ≤ length text + 1 =
     let parts = length-slice_split (λ b. b == 10) text in
     let some = count_by-le-length (λ b. b == 10) text in
@@ -80,6 +82,6 @@ assembled_up text e a =
     omega (arith, named, many, lines)
 
 -- so its line of the file has a number
-pub line_has_number : (text : List ℕ) (line : ℕ) (e : TextError) → (e ≡ OutOfMemory) ⊎ Assembles text (Err e) → line + length text + 2 < 2 ^ 64 → line + line_named e < 2 ^ 64
-line_has_number text line e (inl memory) h = let none : line_named e ≡ 0 = ap line_named memory in omega (arith, none, h)
-line_has_number text line e (inr a) h = let named = assembled_up text e a in omega (arith, named, h)
+pub line_has_number : (names : Option Table) (text : List ℕ) (line : ℕ) (e : TextError) → (e ≡ OutOfMemory) ⊎ AssemblesWith names text (Err e) → line + length text + 2 < 2 ^ 64 → line + line_named e < 2 ^ 64
+line_has_number names text line e (inl memory) h = let none : line_named e ≡ 0 = ap line_named memory in omega (arith, none, h)
+line_has_number names text line e (inr a) h = let named = assembled_up names text e a in omega (arith, named, h)

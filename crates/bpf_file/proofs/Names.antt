@@ -9,7 +9,7 @@ use Rattle.bpf_lines.specs.Words.{is_word_byte, is_word, is_name}
 use Rattle.bpf_file.specs.declared.form.Part.{Part}
 use Rattle.bpf_file.specs.declared.form.Part.TheVariants.{Word, Name, Number, Words}
 use Rattle.bpf_file.specs.declared.key.Key.TheVariants as key
-use Rattle.bpf_file.specs.Form.{is_part, has_form, field_at, map_form, masked_map_form, growing_map_form, growing_masked_map_form, array_form, per_cpu_form, frozen_form, data_form}
+use Rattle.bpf_file.specs.Form.{is_part, has_form, field_at, map_form, masked_map_form, growing_map_form, growing_masked_map_form, array_form, per_cpu_form, frozen_form, data_form, variable_form}
 
 pub and_both : (a b : Bool) → (a && b) ≡ true → (a ≡ true) × (b ≡ true)
 and_both true b e = (refl, e)
@@ -47,6 +47,13 @@ named_field p ps (f ∷ g ∷ fs) e =
     let word = and_both (is_name g) _ name.0 in
     name_is_text g word.0
 
+-- the third, after two names
+second_field : (p q : Part) (ps : List Part) (fs : List (List ℕ)) → has_form (p ∷ q ∷ Name ∷ ps) fs ≡ true → IsUtf8 (field_at fs 2)
+second_field p q ps [] e = cc
+second_field p q ps (f ∷ fs) e =
+    let rest = and_both (is_part p f) (has_form (q ∷ Name ∷ ps) fs) e in
+    named_field q ps fs rest.1
+
 -- after a map's name
 abbrev sizes : List Part
 sizes =
@@ -83,3 +90,9 @@ frozen_per_cpu_named fs e = named_field (Word key.Array) (array_sizes ++ Word ke
 
 pub data_named : (fs : List (List ℕ)) → has_form data_form fs ≡ true → IsUtf8 (field_at fs 1)
 data_named fs e = named_field (Word key.Data) (Number ∷ Words ∷ []) fs e
+
+pub variable_named : (fs : List (List ℕ)) → has_form variable_form fs ≡ true → IsUtf8 (field_at fs 1)
+variable_named fs e = named_field (Word key.Variable) (Name ∷ Number ∷ Number ∷ []) fs e
+
+pub array_of_named : (fs : List (List ℕ)) → has_form variable_form fs ≡ true → IsUtf8 (field_at fs 2)
+array_of_named fs e = second_field (Word key.Variable) Name (Number ∷ Number ∷ []) fs e

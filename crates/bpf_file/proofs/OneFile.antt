@@ -6,7 +6,7 @@ use Rattle.hex.specs.declared.error.FromHexError.{FromHexError}
 use Rattle.bpf_insn.specs.declared.instruction.Insn.{Insn}
 use Rattle.bpf_insn.specs.declared.error.InsnError.{InsnError}
 use Rattle.bpf_insn.specs.Laws.{WordsAreDetermined, RefusalsAreDetermined}
-use Rattle.bpf_text.specs.Laws.{TextsAreDetermined}
+use Rattle.bpf_text.specs.Laws.{NamedTextsAreDetermined}
 use Rattle.bpf_lines.specs.Lines.{lines_of, fields_of}
 use Rattle.bpf_text.specs.declared.error.TextError.{TextError}
 use Rattle.bpf_loader.specs.Laws.{FirstIsDetermined}
@@ -18,9 +18,11 @@ use Rattle.bpf_file.specs.declared.error.Reason.{Reason}
 use Rattle.bpf_file.specs.declared.error.Reason.TheVariants as reason
 use Rattle.bpf_file.specs.File.{File, named_by}
 use Rattle.bpf_file.specs.Parts.{Part, State, Between, Within, place_of, nothing}
+use Rattle.bpf_text.specs.Symbols.{Table}
+use Rattle.bpf_file.specs.Symbols.{names_for}
 use Rattle.bpf_file.specs.Programs.{LoadsProgram, Decodes, OfBytes, OfAssembly, refusal_behind, text_of_lines}
 use Rattle.bpf_file.specs.Rows.{WordsAdd, AddsLine, placed, program_added}
-use Rattle.bpf_file.specs.Statement.{Said, Version, Cpus, Seed, Map, Array, Data, Program, Words, Job, statement_of}
+use Rattle.bpf_file.specs.Statement.{Said, Version, Cpus, Seed, Map, Array, Data, Variable, Program, Words, Job, statement_of}
 use Rattle.bpf_file.specs.Reading.{AddsOrRefuses, FieldsSay, is_end, Belongs, ReadsLine, AreRead}
 use Rattle.bpf_file.specs.Laws.{FilesAreDetermined}
 
@@ -38,10 +40,10 @@ one_of : {E : Type 0} → FirstIsDetermined → (line : ℕ) (named : Named) (re
 one_of F line named refused (Ok is) r q h g = one_load F line named is r q h g
 one_of F line named refused (Err e) r q h g = h ∙ sym g
 
-one_assembly : TextsAreDetermined → FirstIsDetermined → (line : ℕ) (named : Named) (text : List ℕ) (r q : Result Loaded FileError) → OfAssembly line named text r → OfAssembly line named text q → r ≡ q
-one_assembly T F line named text r q (o, a, h) (u, b, g) =
+one_assembly : NamedTextsAreDetermined → FirstIsDetermined → (line : ℕ) (named : Named) (names : Option Table) (text : List ℕ) (r q : Result Loaded FileError) → OfAssembly line named names text r → OfAssembly line named names text q → r ≡ q
+one_assembly T F line named names text r q (o, a, h) (u, b, g) =
     let M : Result (List Insn) TextError → Type 0 = λ x. MatchResult x (λ is. LoadsProgram line named is q) (λ e. q ≡ Err (refusal_behind line e)) in
-    one_of F line named (refusal_behind line) o r q h (subst M (T text u o b a) g)
+    one_of F line named (refusal_behind line) o r q h (subst M (T names text u o b a) g)
 
 one_decoding : WordsAreDetermined → RefusalsAreDetermined → (bytes : List ℕ) (o u : Result (List Insn) InsnError) → Decodes bytes o → Decodes bytes u → o ≡ u
 one_decoding W R bytes (Ok is) (Ok js) (s, a) (t, b) = ap Ok (W bytes is js a b)
@@ -72,6 +74,7 @@ one_row W R F n p (Seed s) r q e f = e ∙ sym f
 one_row W R F n p (Map name h) r q e f = e ∙ sym f
 one_row W R F n p (Array name g) r q e f = e ∙ sym f
 one_row W R F n p (Data name at digits) r q e f = e ∙ sym f
+one_row W R F n p (Variable name array at size) r q e f = e ∙ sym f
 one_row W R F n p (Program name) r q e f = e ∙ sym f
 one_row W R F n p (Words name digits) r q a b = one_of_words W R F (place_of name p.titles) n p name digits r q a b
 one_row W R F n p (Job cpu name steps context) r q e f = e ∙ sym f
@@ -84,12 +87,12 @@ one_of_fields : WordsAreDetermined → RefusalsAreDetermined → FirstIsDetermin
 one_of_fields W R F n p [] r q e f = e ∙ sym f
 one_of_fields W R F n p (g ∷ gs) r q a b = one_saying W R F n p (placed p g (statement_of p.version (g ∷ gs))) r q a b
 
-one_belonging : TextsAreDetermined → FirstIsDetermined → (end : Bool) (p : Part) (from : ℕ) (name : List ℕ) (ls : List (List ℕ)) (l : List ℕ) (r q : Result State FileError) → Belongs end p from name ls l r → Belongs end p from name ls l q → r ≡ q
+one_belonging : NamedTextsAreDetermined → FirstIsDetermined → (end : Bool) (p : Part) (from : ℕ) (name : List ℕ) (ls : List (List ℕ)) (l : List ℕ) (r q : Result State FileError) → Belongs end p from name ls l r → Belongs end p from name ls l q → r ≡ q
 one_belonging T F true p from name ls l r q (o, a, e) (u, b, f) =
-    e ∙ ap (program_added p name) (one_assembly T F from (named_by p.file) (text_of_lines ls) o u a b) ∙ sym f
+    e ∙ ap (program_added p name) (one_assembly T F from (named_by p.file) (names_for p) (text_of_lines ls) o u a b) ∙ sym f
 one_belonging T F false p from name ls l r q e f = e ∙ sym f
 
-one_reading : WordsAreDetermined → RefusalsAreDetermined → FirstIsDetermined → TextsAreDetermined → (n : ℕ) (s : State) (l : List ℕ) (r q : Result State FileError) → ReadsLine n s l r → ReadsLine n s l q → r ≡ q
+one_reading : WordsAreDetermined → RefusalsAreDetermined → FirstIsDetermined → NamedTextsAreDetermined → (n : ℕ) (s : State) (l : List ℕ) (r q : Result State FileError) → ReadsLine n s l r → ReadsLine n s l q → r ≡ q
 one_reading W R F T n (Between p) l r q a b = one_of_fields W R F n p (fields_of l) r q a b
 one_reading W R F T n (Within p from name ls) l r q a b = one_belonging T F (is_end l) p from name ls l r q a b
 
@@ -102,11 +105,11 @@ one_more : (n : ℕ) (ls : List (List ℕ)) (r q : Result File FileError) → ((
 one_more n ls r q more (Ok v) h g = more v h g
 one_more n ls r q more (Err e) h g = h ∙ sym g
 
-one_file : WordsAreDetermined → RefusalsAreDetermined → FirstIsDetermined → TextsAreDetermined → (ls : List (List ℕ)) (n : ℕ) (s : State) (r q : Result File FileError) → AreRead n s ls r → AreRead n s ls q → r ≡ q
+one_file : WordsAreDetermined → RefusalsAreDetermined → FirstIsDetermined → NamedTextsAreDetermined → (ls : List (List ℕ)) (n : ℕ) (s : State) (r q : Result File FileError) → AreRead n s ls r → AreRead n s ls q → r ≡ q
 one_file W R F T [] n s r q e f = e ∙ sym f
 one_file W R F T (l ∷ ls) n s r q (t, a, h) (u, b, g) =
     one_more n ls r q (λ v x y. one_file W R F T ls (n + 1) v r q x y) t h
     (subst (Goes n ls q) (one_reading W R F T n s l u t b a) g)
 
-pub files_are_determined : WordsAreDetermined → RefusalsAreDetermined → FirstIsDetermined → TextsAreDetermined → FilesAreDetermined
+pub files_are_determined : WordsAreDetermined → RefusalsAreDetermined → FirstIsDetermined → NamedTextsAreDetermined → FilesAreDetermined
 files_are_determined W R F T = λ text r q a b. one_file W R F T (lines_of text) 1 (Between nothing) r q a b

@@ -1,22 +1,23 @@
--- What a run file says: CPUs, maps, arrays, programs and jobs (our own choice).
-use Rattle.std.specs.Prelude.{ℕ, List, map, string_bytes}
+-- What a run file says: CPUs, maps, arrays, variables, programs and jobs (our own choice).
+use Rattle.std.specs.Prelude.{ℕ, List, map}
 use Rattle.bpf_shared.specs.declared.shapes.ArrayShape.{ArrayShape}
 use Rattle.bpf_shared.specs.declared.shapes.MapShape.{MapShape}
 use Rattle.bpf_shared.specs.Shape.{Shape}
+use Rattle.bpf_names.specs.Names.{Names, names_of}
 use Rattle.bpf_loader.specs.declared.named.Named.{Named}
 use Rattle.bpf_loader.specs.Loaded.{Loaded}
 use Rattle.bpf_cpu.specs.Setup.{named_in}
 use Rattle.bpf_cpu.specs.Task.{Task, waiting}
 use Rattle.bpf_file.specs.declared.file.RunFile.{RunFile}
 
--- how many CPUs there are; the seed of the maps' hashes; the names of the maps by their numbers,
--- and after them those of the arrays; the shapes of both; by array the bytes that it has at first,
+-- how many CPUs there are; the seed of the maps' hashes; the names of maps, arrays and
+-- variables; the shapes of maps and arrays; by array the bytes that it has at first,
 -- from its first value on, which zeros follow; the programs by their numbers; and the jobs, which
 -- all wait
 pub record File : Type 0 where
   pub cpus : ℕ
   pub seed : ℕ
-  pub names : List (List ℕ)
+  pub names : Names
   pub maps : List MapShape
   pub arrays : List ArrayShape
   pub contents : List (List ℕ)
@@ -28,7 +29,7 @@ abbrev pub file_of : RunFile → File
 file_of f = record {
   cpus = f.setup.shape.cpus;
   seed = f.seed;
-  names = map string_bytes f.names.items;
+  names = names_of f.names;
   maps = f.setup.shape.maps;
   arrays = f.setup.shape.arrays;
   contents = f.setup.shape.contents;

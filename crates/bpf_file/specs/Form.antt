@@ -85,6 +85,10 @@ frozen_form = Word key.Frozen ∷ []
 abbrev pub data_form : List Part
 data_form = Word key.Data ∷ Name ∷ Number ∷ Words ∷ []
 
+-- in version 3: `var NAME ARRAY AT SIZE`
+abbrev pub variable_form : List Part
+variable_form = Word key.Variable ∷ Name ∷ Name ∷ Number ∷ Number ∷ []
+
 -- `prog NAME`, and `prog NAME hex DIGITS`
 abbrev pub program_form : List Part
 program_form = Word key.Program ∷ Name ∷ []

@@ -7,6 +7,7 @@ pub mod File
 pub mod Contents
 pub mod Parts
 pub mod Programs
+pub mod Symbols
 pub mod Rows
 pub mod Reading
 pub mod Runnable

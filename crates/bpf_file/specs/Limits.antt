@@ -5,6 +5,10 @@ use Rattle.std.specs.Prelude.{ℕ}
 abbrev pub most_programs : ℕ
 most_programs = 256
 
+-- the variables, at most
+abbrev pub most_variables : ℕ
+most_variables = 256
+
 -- the jobs, at most
 abbrev pub most_jobs : ℕ
 most_jobs = 4096

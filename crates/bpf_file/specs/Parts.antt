@@ -1,10 +1,11 @@
 -- How far a run file goes: what the lines before one have said, and which line may follow (our
 -- own choice).
-use Rattle.std.specs.Prelude.{ℕ, ◌+◌, ◌-◌, ◌==◌, ◌&&◌, ◌||◌, nat_le, nat_lt, Bool, if◌then◌else◌, List, [], ◌∷◌, ◌++◌, length, slice_index_or, slice_set, Option, Some, None}
+use Rattle.std.specs.Prelude.{ℕ, ◌+◌, ◌-◌, ◌==◌, ◌&&◌, ◌||◌, nat_le, nat_lt, Bool, if◌then◌else◌, is_some, List, [], ◌∷◌, ◌++◌, length, slice_index_or, slice_set, Option, Some, None}
 use Rattle.std.specs.Option.{option_map}
 use Rattle.std.specs.Str.{bytes_eq}
 use Rattle.bpf_shared.specs.declared.shapes.ArrayShape.{ArrayShape}
 use Rattle.bpf_shared.specs.declared.shapes.MapShape.{MapShape}
+use Rattle.bpf_names.specs.Names.{Names, Variable, no_names, variable_named}
 use Rattle.bpf_loader.specs.Loaded.{Loaded}
 use Rattle.bpf_cpu.specs.Task.{Task}
 use Rattle.bpf_file.specs.Limits.{most_programs, most_jobs}
@@ -38,7 +39,7 @@ nothing = record {
   file = record {
     cpus = 1;
     seed = 0;
-    names = [];
+    names = no_names;
     maps = [];
     arrays = [];
     contents = [];
@@ -49,8 +50,8 @@ nothing = record {
 
 -- ---- groups
 
--- the group of a line, by its first word: the first line, CPUs, seed, maps, arrays, arrays' bytes,
--- programs, jobs; more than that for a line of none
+-- the group of a line, by its first word: the first line, CPUs, seed, maps, arrays, arrays' bytes
+-- and variables, programs, jobs; more than that for a line of none
 abbrev pub group_of : List ℕ → ℕ
 group_of word =
     if is_key key.RunFile word then 1
@@ -58,7 +59,7 @@ group_of word =
     else (if is_key key.Seed word then 3
     else (if is_key key.Map word then 4
     else (if is_key key.Array word then 5
-    else (if is_key key.Data word then 6
+    else (if is_key key.Data word || is_key key.Variable word then 6
     else (if is_key key.Program word then 7
     else (if is_key key.Job word then 8
     else 9)))))))
@@ -87,7 +88,16 @@ past maps (Some k) = if nat_lt k maps then None else Some (k - maps)
 past maps None = None
 
 abbrev pub array_place : File → List ℕ → Option ℕ
-array_place f name = past (length f.maps) (place_of name f.names)
+array_place f name = past (length f.maps) (place_of name f.names.maps)
+
+-- a map, an array or a variable has this name
+abbrev pub is_taken : File → List ℕ → Bool
+is_taken f name =
+    is_some (place_of name f.names.maps) || is_some (variable_named name f.names.variables)
+
+-- with one name more, of a map or an array
+abbrev pub with_name : Names → List ℕ → Names
+with_name n name = record n { maps = n.maps ++ name ∷ [] }
 
 -- ---- what one more line adds
 
@@ -103,7 +113,7 @@ with_seed p n = record p { group = 3; file = record p.file { seed = n } }
 abbrev pub with_map : Part → List ℕ → MapShape → Part
 with_map p name h = record p {
   group = 4;
-  file = record p.file { names = p.file.names ++ name ∷ []; maps = p.file.maps ++ h ∷ [] };
+  file = record p.file { names = with_name p.file.names name; maps = p.file.maps ++ h ∷ [] };
 }
 
 -- one that has nothing but zeros at first
@@ -111,7 +121,7 @@ abbrev pub with_array : Part → List ℕ → ArrayShape → Part
 with_array p name g = record p {
   group = 5;
   file = record p.file {
-    names = p.file.names ++ name ∷ [];
+    names = with_name p.file.names name;
     arrays = p.file.arrays ++ g ∷ [];
     contents = p.file.contents ++ [] ∷ [];
   };
@@ -123,6 +133,15 @@ with_data p a at bytes = record p {
   group = 6;
   file = record p.file {
     contents = slice_set p.file.contents a (laid (slice_index_or p.file.contents a []) at bytes);
+  };
+}
+
+-- one variable more
+abbrev pub with_variable : Part → Variable → Part
+with_variable p v = record p {
+  group = 6;
+  file = record p.file {
+    names = record p.file.names { variables = p.file.names.variables ++ v ∷ [] };
   };
 }
 

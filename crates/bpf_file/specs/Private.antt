@@ -4,3 +4,4 @@ pub mod Cuts
 pub mod Drafts
 pub mod Fits
 pub mod Lines
+pub mod Symbols

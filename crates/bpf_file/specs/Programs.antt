@@ -1,5 +1,5 @@
 -- Programs of a run file, as assembly or as hex digits, and why they are refused (our own choice).
-use Rattle.std.specs.Prelude.{◌≡◌, ◌≢◌, ℕ, ◌+◌, List, [], ◌∷◌, ◌++◌, Result, Ok, Err, MatchResult}
+use Rattle.std.specs.Prelude.{◌≡◌, ◌≢◌, ℕ, ◌+◌, List, [], ◌∷◌, ◌++◌, Option, Result, Ok, Err, MatchResult}
 use Rattle.hex.specs.Hex.{decode_of}
 use Rattle.bpf_insn.specs.declared.instruction.Insn.{Insn}
 use Rattle.bpf_insn.specs.declared.error.InsnError.{InsnError}
@@ -8,7 +8,8 @@ use Rattle.bpf_insn.specs.Encoding.{IsEncodedAs}
 use Rattle.bpf_insn.specs.Refusal.{IsSized, IsRefused}
 use Rattle.bpf_text.specs.declared.error.TextError.{TextError}
 use Rattle.bpf_text.specs.declared.error.TextError.TheVariants as text
-use Rattle.bpf_text.specs.Assembly.{Assembles}
+use Rattle.bpf_text.specs.Assembly.{AssemblesWith}
+use Rattle.bpf_text.specs.Symbols.{Table}
 use Rattle.bpf_loader.specs.declared.refusal.LoadError.{LoadError}
 use Rattle.bpf_loader.specs.declared.named.Named.{Named}
 use Rattle.bpf_loader.specs.Loaded.{Loaded}
@@ -60,9 +61,10 @@ refusal_behind line (text.TwiceLabel n) = Refused (line + n) reason.TwiceLabel
 refusal_behind line (text.FarLabel n) = Refused (line + n) reason.FarLabel
 refusal_behind line text.OutOfMemory = OutOfMemory
 
--- the program in the assembly after this line; or its refusal: of the first line that has one,
--- or else of the whole program, at the line of its `prog`
-abbrev pub OfAssembly : ℕ → Named → List ℕ → Result Loaded FileError → Type 0
-OfAssembly line named assembly r =
-    (o : Result (List Insn) TextError) × Assembles assembly o
+-- the program in the assembly after this line, which may use the names of a table, if there is
+-- one; or its refusal: of the first line that has one, or else of the whole program, at the line of
+-- its `prog`
+abbrev pub OfAssembly : ℕ → Named → Option Table → List ℕ → Result Loaded FileError → Type 0
+OfAssembly line named names assembly r =
+    (o : Result (List Insn) TextError) × AssemblesWith names assembly o
     × MatchResult o (λ is. LoadsProgram line named is r) (λ e. r ≡ Err (refusal_behind line e))

@@ -13,6 +13,7 @@ use Rattle.bpf_file.specs.Statement.{Said, statement_of}
 use Rattle.bpf_file.specs.File.{File, named_by}
 use Rattle.bpf_file.specs.Parts.{Part, State, Between, Within, nothing}
 use Rattle.bpf_file.specs.Programs.{text_of_lines, OfAssembly}
+use Rattle.bpf_file.specs.Symbols.{names_for}
 use Rattle.bpf_file.specs.Rows.{placed, program_added, AddsLine}
 
 -- ---- one line, outside of assembly
@@ -41,7 +42,8 @@ is_end line = is_end_alone (fields_of line)
 abbrev pub Belongs : Bool → Part → ℕ → List ℕ → List (List ℕ) → List ℕ → Result State FileError
     → Type 0
 Belongs true p from name lines line r =
-    (o : Result Loaded FileError) × OfAssembly from (named_by p.file) (text_of_lines lines) o
+    (o : Result Loaded FileError)
+    × OfAssembly from (named_by p.file) (names_for p) (text_of_lines lines) o
     × (r ≡ program_added p name o)
 Belongs false p from name lines line r = r ≡ Ok (Within p from name (lines ++ line ∷ []))
 

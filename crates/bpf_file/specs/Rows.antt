@@ -1,6 +1,6 @@
 -- What one line adds to a run file, a row for each thing that it may say; or why it is refused
 -- (our own choice).
-use Rattle.std.specs.Prelude.{◌≡◌, ℕ, ◌+◌, ◌/◌, ◌==◌, ◌&&◌, not, nat_le, nat_lt, Bool, if◌then◌else◌, List, [], length, slice_get, Option, Some, None, Result, Ok, Err}
+use Rattle.std.specs.Prelude.{◌≡◌, ℕ, ◌+◌, ◌/◌, ◌==◌, ◌&&◌, ◌||◌, not, nat_le, nat_lt, Bool, if◌then◌else◌, List, [], length, slice_get, Option, Some, None, Result, Ok, Err}
 use Rattle.std.specs.Option.{option_map}
 use Rattle.hex.specs.Hex.{decode_of}
 use Rattle.hex.specs.declared.error.FromHexError.{FromHexError}
@@ -9,6 +9,8 @@ use Rattle.bpf_shared.specs.Refusals.{map_tests, array_tests, outside}
 use Rattle.bpf_shared.specs.declared.shapes.ArrayShape.{ArrayShape}
 use Rattle.bpf_shared.specs.declared.shapes.MapShape.{MapShape}
 use Rattle.bpf_shared.specs.declared.shapes.ShapeError.TheVariants as shape
+use Rattle.bpf_shared.specs.declared.events.Size.{Size}
+use Rattle.bpf_shared.specs.Access.{bytes_in}
 use Rattle.bpf_loader.specs.Loaded.{Loaded}
 use Rattle.bpf_cpu.specs.Task.{Waiting}
 use Rattle.bpf_base.specs.declared.budget.TheConstants.{DEFAULT_BUDGET}
@@ -19,9 +21,10 @@ use Rattle.bpf_file.specs.declared.error.Reason.TheVariants as reason
 use Rattle.bpf_file.specs.declared.line.LineError.{LineError}
 use Rattle.bpf_file.specs.declared.line.LineError.TheVariants as line
 use Rattle.bpf_file.specs.Form.{is_there}
-use Rattle.bpf_file.specs.Statement.{Said, Version, Cpus, Seed, Map, Array, Data, Program, Words, Job}
+use Rattle.bpf_file.specs.Limits.{most_variables}
+use Rattle.bpf_file.specs.Statement.{Said, Version, Cpus, Seed, Map, Array, Data, Variable, Program, Words, Job}
 use Rattle.bpf_file.specs.File.{File, named_by}
-use Rattle.bpf_file.specs.Parts.{Part, State, Between, Within, group_of, is_in_order, is_full, place_of, array_place, with_first, with_cpus, with_seed, with_map, with_array, with_data, with_program, with_job}
+use Rattle.bpf_file.specs.Parts.{Part, State, Between, Within, group_of, is_in_order, is_full, is_taken, place_of, array_place, with_first, with_cpus, with_seed, with_map, with_array, with_data, with_variable, with_program, with_job}
 use Rattle.bpf_file.specs.Programs.{OfDigits}
 
 -- the file goes on, or the line is refused for this reason
@@ -60,7 +63,7 @@ cpus_refusal n = if outside 1 16 n then Some (reason.Shape shape.CpuCount) else 
 
 abbrev pub map_refusal : Part → List ℕ → MapShape → Option Reason
 map_refusal p name h =
-    if is_there (place_of name p.file.names) then Some reason.TwiceName
+    if is_taken p.file name then Some reason.TwiceName
     else (if nat_le 16 (length p.file.maps) then Some (reason.Shape shape.TooManyMaps)
     else option_map reason.Shape (first_of (map_tests (length p.file.maps) h)))
 
@@ -68,7 +71,7 @@ map_refusal p name h =
 
 abbrev pub array_refusal : Part → List ℕ → ArrayShape → Option Reason
 array_refusal p name g =
-    if is_there (place_of name p.file.names) then Some reason.TwiceName
+    if is_taken p.file name then Some reason.TwiceName
     else (if nat_le 16 (length p.file.arrays) then Some (reason.Shape shape.TooManyArrays)
     else option_map reason.Shape (first_of (array_tests p.file.cpus 0 (length p.file.arrays) g)))
 
@@ -95,6 +98,28 @@ data_added n p (Some a) at digits =
     or_refused n (data_refusal p.file a (at + length digits / 2))
     (data_laid n p a at (decode_of digits))
 data_added n p None at digits = Err (Refused n reason.Unknown)
+
+-- ---- variables
+
+-- there may be one more variable, of a name that nothing has yet
+abbrev pub name_refusal : File → List ℕ → Option Reason
+name_refusal f name =
+    if nat_le most_variables (length f.names.variables) then Some reason.BadLine
+    else (if is_taken f name then Some reason.TwiceName else None)
+
+-- why the array of this number and shape has no such bytes of one value for all CPUs
+abbrev pub place_refusal : ℕ → ℕ → Size → Option ArrayShape → Option Reason
+place_refusal a at size None = Some reason.Unknown
+place_refusal a at size (Some g) =
+    if g.per_cpu || nat_lt g.value (at + bytes_in size)
+    then Some (reason.Shape (shape.ArrayContents a)) else None
+
+-- of bytes of the first value of this array
+abbrev pub variable_added : ℕ → Part → List ℕ → Option ℕ → ℕ → Size → Result State FileError
+variable_added n p name (Some a) at size =
+    unless n (place_refusal a at size (slice_get p.file.arrays a))
+    (with_variable p (record { name = name; array = a; at = at; size = size }))
+variable_added n p name None at size = Err (Refused n reason.Unknown)
 
 -- ---- programs
 
@@ -148,6 +173,9 @@ AddsLine n p (Seed s) r = r ≡ Ok (Between (with_seed p s))
 AddsLine n p (Map name h) r = r ≡ unless n (map_refusal p name h) (with_map p name h)
 AddsLine n p (Array name g) r = r ≡ unless n (array_refusal p name g) (with_array p name g)
 AddsLine n p (Data name at digits) r = r ≡ data_added n p (array_place p.file name) at digits
+AddsLine n p (Variable name array at size) r =
+    r ≡ or_refused n (name_refusal p.file name)
+    (variable_added n p name (array_place p.file array) at size)
 AddsLine n p (Program name) r = r ≡ if_new n p name (Ok (Within p n name []))
 AddsLine n p (Words name digits) r = WordsAdd (place_of name p.titles) n p name digits r
 AddsLine n p (Job cpu name steps context) r =

@@ -1,7 +1,10 @@
 -- What a line of a run file says, where it isn't assembly (our own choice).
-use Rattle.std.specs.Prelude.{◌≡◌, ℕ, ◌-◌, ◌^◌, nat_le, nat_lt, Bool, true, false, if◌then◌else◌, List, ◌++◌, Option, Some, None, Result, Ok, Err}
+use Rattle.std.specs.Prelude.{◌≡◌, ℕ, ◌-◌, ◌%◌, ◌^◌, ◌==◌, nat_le, nat_lt, Bool, true, false, if◌then◌else◌, List, ◌++◌, Option, Some, None, Result, Ok, Err}
 use Rattle.std.specs.Option.{option_copied}
 use Rattle.bpf_base.specs.declared.budget.TheConstants.{MAX_BUDGET}
+use Rattle.bpf_shared.specs.Access.{bytes_in}
+use Rattle.bpf_shared.specs.declared.events.Size.{Size}
+use Rattle.bpf_shared.specs.declared.events.Size.TheVariants.{Byte, Half, Word, Double}
 use Rattle.bpf_shared.specs.declared.shapes.ArrayShape.{ArrayShape}
 use Rattle.bpf_shared.specs.declared.shapes.MapShape.{MapShape}
 use Rattle.bpf_lines.specs.Words.{written_number}
@@ -12,13 +15,14 @@ use Rattle.bpf_file.specs.declared.statement.Statement.TheVariants as statement
 use Rattle.bpf_file.specs.declared.version.Version.{Version as Edition}
 use Rattle.bpf_file.specs.declared.version.Version.TheVariants.{First, Second, Third}
 use Rattle.bpf_file.specs.Version.{may_grow, has_arrays}
-use Rattle.bpf_file.specs.Form.{has_form, field_at, version_form, second_version_form, third_version_form, cpus_form, seed_form, map_form, masked_map_form, growing_map_form, growing_masked_map_form, array_form, per_cpu_form, frozen_form, data_form, program_form, words_form, job_form, budget_form, context_form}
+use Rattle.bpf_file.specs.Form.{has_form, field_at, version_form, second_version_form, third_version_form, cpus_form, seed_form, map_form, masked_map_form, growing_map_form, growing_masked_map_form, array_form, per_cpu_form, frozen_form, data_form, variable_form, program_form, words_form, job_form, budget_form, context_form}
 
 -- the first line, by the version that it says; how many CPUs there are; the seed of the maps; a map
 -- by its name; an array by its name; bytes that an array has at first: its name, where they begin,
--- and their hex digits; a program by its name, its assembly following, or with its words as hex
--- digits; a job: its CPU, where 64 bits hold its number, its program's name, and its budget and
--- its context's digits, where the line has them
+-- and their hex digits; a variable by its name and its array's, where its bytes begin, and their
+-- size; a program by its name, its assembly following, or with its words as hex digits; a job: its
+-- CPU, where 64 bits hold its number, its program's name, and its budget and its context's digits,
+-- where the line has them
 pub data Said : Type 0 where
   Version : Edition → Said
   Cpus : ℕ → Said
@@ -26,6 +30,7 @@ pub data Said : Type 0 where
   Map : List ℕ → MapShape → Said
   Array : List ℕ → ArrayShape → Said
   Data : List ℕ → ℕ → List ℕ → Said
+  Variable : (name array : List ℕ) → (at : ℕ) → Size → Said
   Program : List ℕ → Said
   Words : List ℕ → List ℕ → Said
   Job : Option ℕ → List ℕ → Option ℕ → Option (List ℕ) → Said
@@ -89,6 +94,27 @@ data_said fields =
     with_number (count_at fields 2 most_count) (λ at.
     Ok (Data (field_at fields 1) at (field_at fields 3)))
 
+-- the size of this many bytes
+abbrev pub size_of : ℕ → Option Size
+size_of bytes =
+    if bytes == 1 then Some Byte
+    else (if bytes == 2 then Some Half
+    else (if bytes == 4 then Some Word
+    else (if bytes == 8 then Some Double
+    else None)))
+
+-- a variable begins at a multiple of its size
+abbrev pub variable_at : (name array : List ℕ) → (at : ℕ) → Option Size → Result Said LineError
+variable_at name array at (Some size) =
+    if at % bytes_in size == 0 then Ok (Variable name array at size) else Err BadNumber
+variable_at name array at None = Err BadNumber
+
+abbrev pub variable_said : List (List ℕ) → Result Said LineError
+variable_said fields =
+    with_number (count_at fields 3 most_count) (λ at.
+    with_number (count_at fields 4 most_count) (λ bytes.
+    variable_at (field_at fields 1) (field_at fields 2) at (size_of bytes)))
+
 abbrev pub job_said : List (List ℕ) → Option ℕ → Option (List ℕ) → Result Said LineError
 job_said fields budget context = Ok (Job (held_at fields 1) (field_at fields 2) budget context)
 
@@ -109,7 +135,7 @@ work_of fields =
     then budgeted_said fields (Some (field_at fields 6))
     else Err BadForm)))))
 
--- a line about an array, or about a program or a job
+-- a line about an array or a variable, or about a program or a job
 abbrev pub arrays_of : List (List ℕ) → Result Said LineError
 arrays_of fields =
     if has_form array_form fields then array_said fields false false
@@ -118,10 +144,11 @@ arrays_of fields =
     else (if has_form (array_form ++ per_cpu_form ++ frozen_form) fields
     then array_said fields true true
     else (if has_form data_form fields then data_said fields
-    else work_of fields))))
+    else (if has_form variable_form fields then variable_said fields
+    else work_of fields)))))
 
--- a line about a map that grows, about an array, where there may be such, or about a program or
--- a job
+-- a line about a map that grows, about an array or a variable, where there may be such, or about a
+-- program or a job
 abbrev pub growing_of : Edition → List (List ℕ) → Result Said LineError
 growing_of version fields =
     if has_form growing_map_form fields then map_said fields (2 ^ 32 - 1) true
@@ -151,6 +178,7 @@ said_by (statement.Seed n) = Seed n
 said_by (statement.Map name shape) = Map name.now shape
 said_by (statement.Array name shape) = Array name.now shape
 said_by (statement.Data d) = Data d.array.now d.at d.digits.now
+said_by (statement.Variable v) = Variable v.name.now v.array.now v.at v.size
 said_by (statement.Program name) = Program name.now
 said_by (statement.Words name digits) = Words name.now digits.now
 said_by (statement.Job j) = Job j.cpu j.program.now j.budget (option_copied j.context)

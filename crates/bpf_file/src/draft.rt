@@ -1,41 +1,49 @@
 //! What the lines of a run file have said so far.
 
-ghost use Rattle.std.specs.Prelude.{◌≡◌, ◌<◌, ◌≤◌, ◌+◌, ◌/◌, ◌^◌, length, map, IfOk, OnOk, IsOkUnless};
-ghost use Rattle.std.specs.Option.{option_copied};
+ghost use Rattle.std.specs.Prelude.{◌≡◌, ◌<◌, ◌≤◌, ◌+◌, ◌/◌, ◌^◌, length, map, slice_get, IfNone, IfOk, OnOk, IsOkUnless};
+ghost use Rattle.std.specs.Option.{option_copied, option_map};
 ghost use Rattle.hex.specs.Hex.{decode_of};
 ghost use Rattle.bpf_cpu.specs.Task.{waiting};
-ghost use Rattle.bpf_file.specs.Form.{field_at, is_there};
+ghost use Rattle.bpf_file.specs.Form.{field_at};
+ghost use Rattle.bpf_names.specs.Names.{variable_of};
 ghost use Rattle.bpf_file.specs.File.{named_by};
-ghost use Rattle.bpf_file.specs.Parts.{Between, nothing, is_full, place_of, array_place, with_map, with_array, with_data, with_program, with_job};
+ghost use Rattle.bpf_file.specs.Parts.{Between, nothing, is_full, is_taken, array_place, with_map, with_array, with_data, with_variable, with_program, with_job};
 ghost use Rattle.bpf_file.specs.Reading.{FieldsSay, finished};
-ghost use Rattle.bpf_file.specs.Rows.{first_said, later_said, may_stand, placed, map_refusal, array_refusal, data_refusal, served, context_of};
+ghost use Rattle.bpf_file.specs.Rows.{first_said, later_said, may_stand, placed, map_refusal, array_refusal, data_refusal, name_refusal, place_refusal, served, context_of};
 ghost use Rattle.bpf_file.specs.Statement.{said_by, statement_of};
 ghost use Rattle.bpf_file.specs.Statement as says;
 ghost use Rattle.bpf_file.specs.declared.statement.Statement.TheVariants as statement_kind;
 ghost use Rattle.bpf_file.specs.Private.Answers.{OrMemory};
 ghost use Rattle.bpf_cpu.specs.Setup.{IsRunnable};
 ghost use Rattle.bpf_file.specs.Private.Fits.{IsFit};
+ghost use Rattle.bpf_text.specs.Symbols.{table_of};
+ghost use Rattle.bpf_file.specs.Programs.{OfAssembly};
+ghost use Rattle.bpf_file.specs.Symbols.{names_for};
 ghost use Rattle.bpf_file.specs.Private.Drafts.{part_of, said_in, after, Added, HasContext, Ends, closed, file_answer};
 
 use crate::error::{FileError, Reason};
 use crate::file::RunFile;
 use crate::line::LineError;
-use crate::statement::{self, DataLine, JobLine, Statement};
+use crate::statement::{self, DataLine, JobLine, Statement, VariableLine};
 use crate::version::Version;
-use crate::{contents, form, group, program};
+use crate::{contents, form, group, program, symbols, variable};
 use bpf_base::DEFAULT_BUDGET;
 use bpf_cpu::{Job, Setup};
 use bpf_loader::{Named, Program};
-use bpf_shared::{ArrayShape, MapShape, ShapeError, StoreShape};
+use bpf_names::{Names, Variable};
+use bpf_shared::{ArrayShape, MapShape, ShapeError, Size, StoreShape};
+use bpf_text::Symbols;
 use hex::FromHexError;
 use std::alloc::Global;
 
-/// The most programs, maps, arrays and jobs of a file.
+/// The most programs, maps, arrays, variables and jobs of a file.
 const MOST_PROGRAMS: usize = 256;
 
 const MOST_MAPS: usize = 16;
 
 const MOST_ARRAYS: usize = 16;
+
+const MOST_VARIABLES: usize = 256;
 
 const MOST_JOBS: usize = 4_096;
 
@@ -48,8 +56,7 @@ pub struct Draft<'a> {
     pub version: Version,
     pub cpus: u8,
     pub seed: u64,
-    /// The maps' names, and after them the arrays'.
-    pub names: Vec<String>,
+    pub names: Names,
     pub maps: Vec<MapShape>,
     pub arrays: Vec<ArrayShape>,
     /// What each array has at first, as far as lines say it.
@@ -131,7 +138,10 @@ impl<'a> Draft<'a> {
             version: Version::First,
             cpus: 1,
             seed: 0,
-            names: Vec::new(alloc),
+            names: Names {
+                maps: Vec::new(alloc),
+                variables: Vec::new(alloc),
+            },
             maps: Vec::new(alloc),
             arrays: Vec::new(alloc),
             contents: Vec::new(alloc),
@@ -193,11 +203,12 @@ impl<'a> Draft<'a> {
         Ok(Next::Line)
     }
 
-    /// Whether a map or an array has this name.
+    /// Whether a map, an array or a variable has this name.
     fn has_name(&self, name: &str) -> bool
-        ensures { result ≡ is_there (place_of name.now (part_of self.now).file.names) }
+        ensures { result ≡ is_taken (part_of self.now).file name.now }
     {
-        group::place_in(name, &self.names).is_some()
+        group::place_in(name, &self.names.maps).is_some()
+            || self.names.variable(name.as_bytes()).is_some()
     }
 
     /// Why there can't be one more map, of this name and shape.
@@ -221,7 +232,10 @@ impl<'a> Draft<'a> {
         ensures memory { IsOkUnless result FileError.OutOfMemory }
     {
         let text = String::from_str(alloc, name).map_err(|_| FileError::OutOfMemory)?;
-        self.names.push(text).map_err(|_| FileError::OutOfMemory)?;
+        self.names
+            .maps
+            .push(text)
+            .map_err(|_| FileError::OutOfMemory)?;
         self.maps.push(shape).map_err(|_| FileError::OutOfMemory)?;
         self.group = 4;
         Ok(())
@@ -268,7 +282,10 @@ impl<'a> Draft<'a> {
         ensures memory { IsOkUnless result FileError.OutOfMemory }
     {
         let text = String::from_str(alloc, name).map_err(|_| FileError::OutOfMemory)?;
-        self.names.push(text).map_err(|_| FileError::OutOfMemory)?;
+        self.names
+            .maps
+            .push(text)
+            .map_err(|_| FileError::OutOfMemory)?;
         self.arrays.push(shape).map_err(|_| FileError::OutOfMemory)?;
         self.contents
             .push(Vec::new(alloc))
@@ -300,7 +317,7 @@ impl<'a> Draft<'a> {
     fn array_place(&self, name: &str) -> Option<usize>
         ensures { result ≡ array_place (part_of self.now).file name.now }
     {
-        let place = group::place_in(name, &self.names)?;
+        let place = group::place_in(name, &self.names.maps)?;
         if place < self.maps.len() {
             None
         } else {
@@ -357,6 +374,78 @@ impl<'a> Draft<'a> {
         Ok(Next::Line)
     }
 
+    /// Why there can't be one more variable, of this name.
+    fn name_refusal(&self, name: &str) -> Option<Reason>
+        ensures { result ≡ name_refusal (part_of self.now).file name.now }
+    {
+        if self.names.variables.len() >= MOST_VARIABLES {
+            Some(Reason::BadLine)
+        } else if self.has_name(name) {
+            Some(Reason::TwiceName)
+        } else {
+            None
+        }
+    }
+
+    /// Why no variable can have these bytes of the first value of the array of this number.
+    fn place_refusal(&self, array: usize, at: u32, size: Size) -> Option<Reason>
+        ensures value { result ≡ place_refusal array at size
+            (slice_get (part_of self.now).file.arrays array) }
+        ensures there { IfNone result (array < length (part_of self.now).file.arrays) }
+    {
+        let Some(shape) = self.arrays.get(array) else {
+            return Some(Reason::Unknown);
+        };
+        if shape.per_cpu || variable::ends_after(shape.value, at, size) {
+            Some(Reason::Shape(ShapeError::ArrayContents { array }))
+        } else {
+            None
+        }
+    }
+
+    fn push_variable(&mut self, variable: Variable) -> Result<(), FileError>
+        ensures ok { OnOk result
+            (part_of self.new ≡ with_variable (part_of self.old) (variable_of variable)) }
+        ensures memory { IsOkUnless result FileError.OutOfMemory }
+    {
+        self.names
+            .variables
+            .push(variable)
+            .map_err(|_| FileError::OutOfMemory)?;
+        self.group = 6;
+        Ok(())
+    }
+
+    /// `var NAME ARRAY AT SIZE`
+    fn add_variable(
+        &mut self,
+        alloc: Global,
+        line: usize,
+        said: VariableLine<'_>,
+    ) -> Result<Next<'a>, FileError>
+        requires { IsFit (part_of self.old) }
+        ensures { Added line (part_of self.old) (said_by (statement_kind.Variable said.entry))
+            (part_of self.new) result }
+    {
+        if let Some(reason) = self.name_refusal(said.name) {
+            return Err(FileError::Refused(line, reason));
+        }
+        let Some(array) = self.array_place(said.array) else {
+            return Err(FileError::Refused(line, Reason::Unknown));
+        };
+        if let Some(reason) = self.place_refusal(array, said.at, said.size) {
+            return Err(FileError::Refused(line, reason));
+        }
+        let name = String::from_str(alloc, said.name).map_err(|_| FileError::OutOfMemory)?;
+        self.push_variable(Variable {
+            name,
+            array: array as u8,
+            at: said.at,
+            size: said.size,
+        })?;
+        Ok(Next::Line)
+    }
+
     /// What programs may name.
     fn named(&self) -> Named
         ensures { result ≡ named_by (part_of self.now).file }
@@ -409,6 +498,32 @@ impl<'a> Draft<'a> {
         Ok(Next::Line)
     }
 
+    /// What the names that programs may use stand for, in files that may have arrays.
+    fn symbols(&self, alloc: Global) -> Result<Option<Symbols<'_>>, FileError>
+        requires { IsFit (part_of self.now) }
+        ensures named { IfOk result (λ s. option_map table_of s ≡ names_for (part_of self.now)) }
+        ensures memory { IsOkUnless result FileError.OutOfMemory }
+    {
+        if !self.version.has_arrays() {
+            return Ok(None);
+        }
+        match symbols::symbols_of(alloc, &self.names, self.maps.len(), &self.arrays) {
+            Ok(symbols) => Ok(Some(symbols)),
+            Err(_) => Err(FileError::OutOfMemory),
+        }
+    }
+
+    /// The program in the assembly after a line.
+    fn assembled(&self, alloc: Global, line: usize, text: &[u8]) -> Result<Program, FileError>
+        requires fit { IsFit (part_of self.now) }
+        requires room { line + length text.now + 2 < 2 ^ 64 }
+        ensures { OrMemory (OfAssembly line (named_by (part_of self.now).file)
+            (names_for (part_of self.now)) text.now) result }
+    {
+        let symbols = self.symbols(alloc)?;
+        program::of_assembly(alloc, line, text, self.named(), symbols.as_ref())
+    }
+
     /// The assembly after `prog NAME`, which is at this line.
     pub fn add_assembly(
         &mut self,
@@ -417,11 +532,12 @@ impl<'a> Draft<'a> {
         name: &'a [u8],
         text: &[u8],
     ) -> Result<(), FileError>
-        requires { line + length text.now + 2 < 2 ^ 64 }
+        requires fit { IsFit (part_of self.old) }
+        requires room { line + length text.now + 2 < 2 ^ 64 }
         ensures { OrMemory (λ a. Ends line (part_of self.old) name.now text.now
             (closed (part_of self.new) a)) result }
     {
-        let program = program::of_assembly(alloc, line, text, self.named())?;
+        let program = self.assembled(alloc, line, text)?;
         self.push_program(name, program)
     }
 
@@ -482,6 +598,7 @@ impl<'a> Draft<'a> {
             Statement::Map(name, shape) => self.add_map(alloc, line, name, shape),
             Statement::Array(name, shape) => self.add_array(alloc, line, name, shape),
             Statement::Data(data) => self.add_data(alloc, line, data),
+            Statement::Variable(variable) => self.add_variable(alloc, line, variable),
             Statement::Program(name) => self.open(line, name),
             Statement::Words(name, digits) => self.add_words(alloc, line, name, digits),
             Statement::Job(job) => self.add_job(alloc, line, job),

@@ -1,8 +1,10 @@
 //! What a run file says.
 
 use bpf_cpu::Setup;
+use bpf_names::Names;
 
-/// A run file: what a machine is made of, with the names of its maps and arrays.
+/// A run file: what a machine is made of, with the names of its maps,
+/// arrays and variables.
 #[derive(Drop)]
 pub struct RunFile {
     /// How many CPUs there are, the maps, the arrays and what they have at first, the programs by
@@ -10,6 +12,5 @@ pub struct RunFile {
     pub setup: Setup,
     /// The seed of the maps' hashes.
     pub seed: u64,
-    /// The names of the maps by their numbers, and after them those of the arrays.
-    pub names: Vec<String>,
+    pub names: Names,
 }

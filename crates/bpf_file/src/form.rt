@@ -144,6 +144,15 @@ pub const FROZEN_PER_CPU_ARRAY: [Part; 8] = [
 /// `data NAME AT DIGITS`, in version 3.
 pub const DATA: [Part; 4] = [Part::Word(Key::Data), Part::Name, Part::Number, Part::Words];
 
+/// `var NAME ARRAY AT SIZE`, in version 3.
+pub const VARIABLE: [Part; 5] = [
+    Part::Word(Key::Variable),
+    Part::Name,
+    Part::Name,
+    Part::Number,
+    Part::Number,
+];
+
 /// `prog NAME`, before lines of assembly.
 pub const PROGRAM: [Part; 2] = [Part::Word(Key::Program), Part::Name];
 

@@ -31,6 +31,8 @@ pub enum Key {
     /// After an array whose values may only be read.
     Frozen,
     Data,
+    /// Before a variable's name.
+    Variable,
     Program,
     Hex,
     Job,
@@ -63,6 +65,7 @@ impl Key {
             Key::PerCpu => "percpu",
             Key::Frozen => "frozen",
             Key::Data => "data",
+            Key::Variable => "var",
             Key::Program => "prog",
             Key::Hex => "hex",
             Key::Job => "job",

@@ -10,7 +10,7 @@ pub fn files_are_determined()
     bpf_insn::laws::words_are_determined();
     bpf_insn::laws::refusals_are_determined();
     bpf_loader::laws::first_is_determined();
-    bpf_text::laws::texts_are_determined();
+    bpf_text::laws::named_texts_are_determined();
 }
 
 /// A machine can be made of every file that a text says: its jobs wait with short contexts, each on

@@ -1,4 +1,4 @@
-//! Run files: CPUs, maps, arrays, programs and jobs in one text.
+//! Run files: CPUs, maps, arrays, variables, programs and jobs in one text.
 #![tactic(auto)]
 
 mod assembly;
@@ -14,6 +14,8 @@ mod line;
 mod program;
 mod reader;
 mod statement;
+mod symbols;
+mod variable;
 mod version;
 
 pub use error::{FileError, Reason};

@@ -4,11 +4,12 @@ ghost use Rattle.std.specs.Prelude.{◌≡◌, ◌+◌, ◌<◌, ◌^◌, length
 ghost use Rattle.bpf_file.specs.Programs.{LoadsProgram, OfBytes, OfDigits, OfAssembly, refusal_behind};
 ghost use Rattle.bpf_file.specs.Private.Answers.{OrMemory};
 ghost use Rattle.bpf_file.specs.Private.Lines.{line_named};
+ghost use Rattle.bpf_text.specs.Symbols.{names_in};
 
 use crate::error::{FileError, Reason};
 use bpf_insn::{Insn, InsnError, decode};
 use bpf_loader::{LoadError, Named, Program, load};
-use bpf_text::{TextError, assemble_bytes};
+use bpf_text::{Symbols, TextError, assemble_with};
 use hex::FromHexError;
 use std::alloc::Global;
 
@@ -65,17 +66,18 @@ fn behind(line: usize, error: TextError) -> FileError
     }
 }
 
-/// The program in the assembly after a line.
+/// The program in the assembly after a line, which may use the names of a table, if there is one.
 pub fn of_assembly(
     alloc: Global,
     line: usize,
     text: &[u8],
     named: Named,
+    symbols: Option<&Symbols<'_>>,
 ) -> Result<Program, FileError>
     requires { line + length text.now + 2 < 2 ^ 64 }
-    ensures { OrMemory (OfAssembly line named text.now) result }
+    ensures { OrMemory (OfAssembly line named (names_in symbols.entry) text.now) result }
 {
-    match assemble_bytes(alloc, text) {
+    match assemble_with(alloc, symbols, text) {
         Ok(insns) => loaded(alloc, line, insns, named),
         Err(error) => Err(behind(line, error)),
     }

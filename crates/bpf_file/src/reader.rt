@@ -28,6 +28,7 @@ fn read_assembly<'a>(
     behind: Option<&'a [u8]>,
 ) -> Result<(usize, Option<&'a [u8]>), FileError>
     requires room { line + rest_size (option_copied behind) + 2 < 2 ^ 64 }
+    requires fit { IsFit (part_of draft.old) }
     ensures goes { ReadsOnFrom (line + 1) (Within (part_of draft.old) line name.now [])
         (lines_behind (option_copied behind.entry)) (part_of draft.new) result }
     ensures fit { OnOk result (IsFitState (Within (part_of draft.old) line name.now [])

@@ -3,14 +3,14 @@
 ghost use Rattle.std.specs.Prelude.{◌≡◌, ◌≤◌, map, IfOk, IsUtf8};
 ghost use Rattle.std.specs.Option.{option_copied};
 ghost use Rattle.bpf_file.specs.Form.{field_at};
-ghost use Rattle.bpf_file.specs.Statement.{count_at, held_at, Says, cpus_said, seed_said, map_said, masked_said, array_said, data_said, job_said, budgeted_said, work_of, arrays_of, growing_of, statement_of};
+ghost use Rattle.bpf_file.specs.Statement.{count_at, held_at, Says, cpus_said, seed_said, map_said, masked_said, array_said, data_said, variable_at, variable_said, job_said, budgeted_said, work_of, arrays_of, growing_of, statement_of};
 
-use crate::form;
 use crate::line::LineError;
 use crate::version::Version;
+use crate::{form, variable};
 use bpf_base::MAX_BUDGET;
 use bpf_lines::words::{self, NumberError};
-use bpf_shared::{ArrayShape, MapShape};
+use bpf_shared::{ArrayShape, MapShape, Size};
 
 /// What one line says, where it isn't assembly. Names and digits are as they are.
 #[derive(Clone, Copy)]
@@ -26,6 +26,7 @@ pub enum Statement<'a> {
     /// An array by its name.
     Array(&'a str, ArrayShape),
     Data(DataLine<'a>),
+    Variable(VariableLine<'a>),
     /// A program's name; its assembly lines follow.
     Program(&'a [u8]),
     /// A program's name, and its words as hex digits.
@@ -42,6 +43,17 @@ pub struct DataLine<'a> {
     pub at: u32,
     /// The bytes as hex digits.
     pub digits: &'a [u8],
+}
+
+/// A name for bytes of an array's first value, as its line says it.
+#[derive(Clone, Copy)]
+pub struct VariableLine<'a> {
+    pub name: &'a str,
+    /// The array's name.
+    pub array: &'a str,
+    /// Where the bytes begin in the value.
+    pub at: u32,
+    pub size: Size,
 }
 
 /// A job as its line says it.
@@ -172,6 +184,43 @@ fn data<'a>(fields: &[&'a [u8]]) -> Result<Statement<'a>, LineError>
     }))
 }
 
+/// A variable, where it begins at a multiple of its size.
+fn sized<'a>(
+    name: &'a str,
+    array: &'a str,
+    at: u32,
+    size: Option<Size>,
+) -> Result<Statement<'a>, LineError>
+    ensures { Says result (variable_at name.now array.now at size) }
+{
+    match size {
+        Some(size) if variable::is_aligned(at, size) => Ok(Statement::Variable(VariableLine {
+            name,
+            array,
+            at,
+            size,
+        })),
+        _ => Err(LineError::BadNumber),
+    }
+}
+
+/// A variable, whose second and third fields are names.
+fn variable<'a>(fields: &[&'a [u8]]) -> Result<Statement<'a>, LineError>
+    requires name { IsUtf8 (field_at (map (λ f. f.now) fields.now) 1) }
+    requires array { IsUtf8 (field_at (map (λ f. f.now) fields.now) 2) }
+    ensures { Says result (variable_said (map (λ f. f.now) fields.now)) }
+{
+    let at = count_at(fields, 3, MOST)?;
+    let bytes = count_at(fields, 4, MOST)?;
+    let Ok(name) = str::from_utf8(form::field_at(fields, 1)) else {
+        unreachable!()
+    };
+    let Ok(array) = str::from_utf8(form::field_at(fields, 2)) else {
+        unreachable!()
+    };
+    sized(name, array, at as u32, variable::size_of(bytes as u32))
+}
+
 /// A job with this budget and context.
 fn job<'a>(
     fields: &[&'a [u8]],
@@ -221,7 +270,7 @@ fn work<'a>(fields: &[&'a [u8]]) -> Result<Statement<'a>, LineError>
     }
 }
 
-/// A line about an array, or about a program or a job.
+/// A line about an array or a variable, or about a program or a job.
 fn arrays<'a>(fields: &[&'a [u8]]) -> Result<Statement<'a>, LineError>
     ensures { Says result (arrays_of (map (λ f. f.now) fields.now)) }
 {
@@ -235,12 +284,14 @@ fn arrays<'a>(fields: &[&'a [u8]]) -> Result<Statement<'a>, LineError>
         array(fields, true, true)
     } else if form::has_form(&form::DATA, fields) {
         data(fields)
+    } else if form::has_form(&form::VARIABLE, fields) {
+        variable(fields)
     } else {
         work(fields)
     }
 }
 
-/// A line about a map that grows, or about an array, a program or a job.
+/// A line about a map that grows, or about an array, a variable, a program or a job.
 fn growing<'a>(version: Version, fields: &[&'a [u8]]) -> Result<Statement<'a>, LineError>
     ensures { Says result (growing_of version (map (λ f. f.now) fields.now)) }
 {

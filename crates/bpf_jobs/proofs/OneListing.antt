@@ -1,10 +1,11 @@
--- A map has one listing, and so the text of maps and arrays is one.
+-- A map has one listing, and so the text of maps, variables and arrays is one.
 use Rattle.std.proofs.Common.{◌≡◌, ℕ, zero, suc, Bool, true, false, List, [], ◌++◌, length, sym, ap, ◌∙◌}
 use Rattle.std.specs.Prelude.{slice_index_or}
 use Rattle.bpf_shared.specs.Store.{Plain}
 use Rattle.bpf_shared.specs.Listing.{Pair}
 use Rattle.bpf_shared.proofs.OneListing.{one_listing}
-use Rattle.bpf_jobs.specs.Printed.{key_lines, array_lines, AreMapLines, AreMapsAsked}
+use Rattle.bpf_names.specs.Names.{Names}
+use Rattle.bpf_jobs.specs.Printed.{key_lines, fixed_lines, AreMapLines, AreMapsAsked}
 
 pub one_map_text : (s : Plain) (names : List (List ℕ)) (n : ℕ) (text other : List ℕ) → AreMapLines s names n text → AreMapLines s names n other → text ≡ other
 one_map_text s names zero text other a b = a ∙ sym b
@@ -14,8 +15,8 @@ one_map_text s names (suc m) text other a b =
     a.4 ∙ ap (λ (x : List ℕ). x ++ key_lines (slice_index_or names m []) (length a.1) a.1) before
     ∙ ap (λ (p : List Pair). b.0 ++ key_lines (slice_index_or names m []) (length p) p) pairs ∙ sym b.4
 
-pub one_asked : (maps : Bool) (s : Plain) (names : List (List ℕ)) (text other : List ℕ) → AreMapsAsked maps s names text → AreMapsAsked maps s names other → text ≡ other
+pub one_asked : (maps : Bool) (s : Plain) (names : Names) (text other : List ℕ) → AreMapsAsked maps s names text → AreMapsAsked maps s names other → text ≡ other
 one_asked false s names text other a b = a ∙ sym b
 one_asked true s names text other a b =
-    let lines = one_map_text s names (length s.shape.maps) a.0 b.0 a.1 b.1 in
-    a.2 ∙ (ap (λ (x : List ℕ). x ++ array_lines s names (length s.shape.arrays)) lines ∙ sym b.2)
+    let lines = one_map_text s names.maps (length s.shape.maps) a.0 b.0 a.1 b.1 in
+    a.2 ∙ (ap (λ (x : List ℕ). x ++ fixed_lines s names) lines ∙ sym b.2)

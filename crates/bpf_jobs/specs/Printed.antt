@@ -1,5 +1,5 @@
 -- What is printed of jobs that are run in rounds. Our own choice.
-use Rattle.std.specs.Prelude.{◌≡◌, ℕ, zero, suc, ◌+◌, ◌++◌, ◌||◌, ◌==◌, Bool, true, false, not, if◌then◌else◌, List, [], Option, Some, None, codes, length, map, slice_get, slice_index_or}
+use Rattle.std.specs.Prelude.{◌≡◌, ℕ, zero, suc, ◌+◌, ◌++◌, ◌&&◌, ◌||◌, ◌==◌, Bool, true, false, not, if◌then◌else◌, List, [], ◌∷◌, Option, Some, None, codes, length, map, slice_get, slice_index_or}
 use Rattle.std.specs.Fmt.{decimal}
 use Rattle.std.specs.List.{list_any}
 use Rattle.hex.specs.Hex.{encode_lower}
@@ -7,12 +7,14 @@ use Rattle.bpf_shared.specs.declared.shapes.ArrayShape.{ArrayShape}
 use Rattle.bpf_shared.specs.Shape.{Shape, copies}
 use Rattle.bpf_shared.specs.Store.{Plain, as_made, fixed_number}
 use Rattle.bpf_shared.specs.Listing.{Pair, pair_at, IsListing}
+use Rattle.bpf_names.specs.Names.{Names, Variable, has_byte, number_in, variable_of}
 use Rattle.bpf_loader.specs.Loaded.{Loaded}
 use Rattle.bpf_cpu.specs.declared.outcome.Outcome.{Outcome}
 use Rattle.bpf_cpu.specs.declared.outcome.Outcome.TheVariants as outcome
 use Rattle.bpf_cpu.specs.Lines.{job_line}
 use Rattle.bpf_cpu.specs.declared.setup.Setup.{Setup}
 use Rattle.bpf_cpu.specs.Task.{Task, ended, outcome_at, waiting}
+use Rattle.bpf_jobs.specs.declared.arrays.NamedArray.{NamedArray}
 use Rattle.bpf_machine.specs.Listings.{first_lists, made_keys}
 use Rattle.bpf_machine.specs.Schedule.{World, unrolled}
 use Rattle.bpf_machine.specs.Rounds.{RunsBy}
@@ -64,49 +66,107 @@ AreMapLines s names (suc m) text = (before : List ℕ) × (pairs : List Pair)
     × AreMapLines s names m before × IsListing s m pairs
     × (text ≡ before ++ key_lines (slice_index_or names m []) (length pairs) pairs)
 
+-- ---- variables
+-- the number that a variable is in its array's first value
+abbrev pub variable_line : Variable → List ℕ → List ℕ
+variable_line v bytes =
+    codes "var " ++ v.name ++ codes "=" ++ decimal (number_in v bytes) ++ codes "\n"
+
+-- none where the array, of this shape, may only be read
+abbrev pub variable_text : Plain → Variable → Option ArrayShape → List ℕ
+variable_text s v None = []
+variable_text s v (Some g) =
+    if g.frozen then [] else variable_line v (s.value (fixed_number v.array 0 0)).bytes
+
+abbrev pub line_of_variable : Plain → Option Variable → List ℕ
+line_of_variable s None = []
+line_of_variable s (Some v) = variable_text s v (slice_get s.shape.arrays v.array)
+
+-- of the first n variables
+abbrev pub variable_lines : Plain → List Variable → ℕ → List ℕ
+variable_lines s variables zero = []
+variable_lines s variables (suc n) =
+    variable_lines s variables n ++ line_of_variable s (slice_get variables n)
+
 -- ---- arrays
+-- an array as its lines name it: its number, its name, and the file's variables
+pub record Called : Type 0 where
+  pub number : ℕ
+  pub name : List ℕ
+  pub variables : List Variable
+
+-- the a-th one: arrays' names follow those of the maps
+abbrev pub called : Plain → Names → ℕ → Called
+called s names a = record {
+  number = a;
+  name = slice_index_or names.maps (length s.shape.maps + a) [];
+  variables = names.variables;
+}
+
+-- what a value of the program shows
+abbrev pub called_by : NamedArray → Called
+called_by array = record {
+  number = array.number;
+  name = array.name.now;
+  variables = map variable_of array.variables.now;
+}
+
 -- some byte isn't zero
 abbrev pub is_set : List ℕ → Bool
 is_set bytes = list_any (λ byte. not (byte == 0)) bytes
+
+-- a byte at an offset of its first value isn't zero, and is none of a variable
+unfoldable pub is_shown : Called → (at byte : ℕ) → Bool
+is_shown array at byte =
+    not (byte == 0) && not (list_any (has_byte array.number at) array.variables)
+
+-- of its bytes from an offset on some are
+abbrev pub is_set_outside : Called → ℕ → List ℕ → Bool
+is_set_outside array at [] = false
+is_set_outside array at (byte ∷ bytes) =
+    is_shown array at byte || is_set_outside array (at + 1) bytes
+
+-- the value of an index and a CPU has a line: a variable's line shows a variable's bytes
+abbrev pub has_line : Called → (i k : ℕ) → List ℕ → Bool
+has_line array i k bytes =
+    if i == 0 && k == 0 then is_set_outside array 0 bytes else is_set bytes
 
 -- which of an array's values: its index, and the CPU's number where each CPU has its own
 abbrev pub place_text : Bool → ℕ → ℕ → List ℕ
 place_text per_cpu i k =
     if per_cpu then decimal i ++ codes " cpu " ++ decimal k else decimal i
 
--- the line of a value, in lower case hex; none where all its bytes are zero
-abbrev pub value_line : List ℕ → Bool → ℕ → ℕ → List ℕ → List ℕ
-value_line name per_cpu i k bytes =
-    if is_set bytes
-    then codes "array " ++ name ++ codes " " ++ place_text per_cpu i k ++ codes "="
+-- the line of a value, which shows all its bytes, in lower case hex
+abbrev pub value_line : Called → Bool → ℕ → ℕ → List ℕ → List ℕ
+value_line array per_cpu i k bytes =
+    if has_line array i k bytes
+    then codes "array " ++ array.name ++ codes " " ++ place_text per_cpu i k ++ codes "="
     ++ encode_lower bytes ++ codes "\n"
     else []
 
--- of an index of the a-th array, of the first n CPUs
-abbrev pub index_lines : Plain → List ℕ → ℕ → ArrayShape → ℕ → ℕ → List ℕ
-index_lines s name a g i zero = []
-index_lines s name a g i (suc k) =
-    index_lines s name a g i k
-    ++ value_line name g.per_cpu i k (s.value (fixed_number a k i)).bytes
+-- of an index of an array of this shape, of the first n CPUs
+abbrev pub index_lines : Plain → Called → ArrayShape → ℕ → ℕ → List ℕ
+index_lines s array g i zero = []
+index_lines s array g i (suc k) =
+    index_lines s array g i k
+    ++ value_line array g.per_cpu i k (s.value (fixed_number array.number k i)).bytes
 
 -- of its first n indices, each CPU's value
-abbrev pub value_lines : Plain → List ℕ → ℕ → ArrayShape → ℕ → List ℕ
-value_lines s name a g zero = []
-value_lines s name a g (suc i) =
-    value_lines s name a g i ++ index_lines s name a g i (copies s.shape.cpus g)
+abbrev pub value_lines : Plain → Called → ArrayShape → ℕ → List ℕ
+value_lines s array g zero = []
+value_lines s array g (suc i) =
+    value_lines s array g i ++ index_lines s array g i (copies s.shape.cpus g)
 
 -- of all of them; none of an array that may only be read
-abbrev pub array_text : Plain → List ℕ → ℕ → Option ArrayShape → List ℕ
-array_text s name a None = []
-array_text s name a (Some g) = if g.frozen then [] else value_lines s name a g g.max
+abbrev pub array_text : Plain → Called → Option ArrayShape → List ℕ
+array_text s array None = []
+array_text s array (Some g) = if g.frozen then [] else value_lines s array g g.max
 
--- of the first n arrays, whose names follow those of the maps
-abbrev pub array_lines : Plain → List (List ℕ) → ℕ → List ℕ
+-- of the first n arrays
+abbrev pub array_lines : Plain → Names → ℕ → List ℕ
 array_lines s names zero = []
 array_lines s names (suc a) =
-    array_lines s names a
-    ++ array_text s (slice_index_or names (length s.shape.maps + a) []) a
-    (slice_get s.shape.arrays a)
+    array_lines s names a ++ array_text s (called s names a) (slice_get s.shape.arrays a)
 
 -- ---- lists of keys
 -- a blank and the key in lower case hex
@@ -155,23 +215,29 @@ first_of s = first_world s.shape s.programs.items (map waiting s.jobs.items)
 abbrev pub asked_of : Bool → Setup → World
 asked_of keys s = asked_world keys s.shape s.programs.items (map waiting s.jobs.items)
 
--- the lines of the maps, which have the first of these names, and then those of the arrays
-abbrev pub AreMapsAsked : Bool → Plain → List (List ℕ) → List ℕ → Type 0
+-- of the variables, in the order of their lines in the file, and then of the arrays
+abbrev pub fixed_lines : Plain → Names → List ℕ
+fixed_lines s names =
+    variable_lines s names.variables (length names.variables)
+    ++ array_lines s names (length s.shape.arrays)
+
+-- the lines of the maps, and then those
+abbrev pub AreMapsAsked : Bool → Plain → Names → List ℕ → Type 0
 AreMapsAsked false s names text = text ≡ []
 AreMapsAsked true s names text =
-    (lines : List ℕ) × AreMapLines s names (length s.shape.maps) lines
-    × (text ≡ lines ++ array_lines s names (length s.shape.arrays))
+    (lines : List ℕ) × AreMapLines s names.maps (length s.shape.maps) lines
+    × (text ≡ lines ++ fixed_lines s names)
 
 -- the text has the lines of the jobs, then these of lists, and then, where they are asked for, those
--- of the maps and arrays; and whether some job ended in a fault or out of budget
-abbrev pub TellsWith : List ℕ → Plain → List Task → List (List ℕ) → Bool → List ℕ → Bool → Type 0
+-- of the maps, variables and arrays; and whether some job ended in a fault or out of budget
+abbrev pub TellsWith : List ℕ → Plain → List Task → Names → Bool → List ℕ → Bool → Type 0
 TellsWith lists s jobs names maps text stopped =
     (lines : List ℕ) × AreMapsAsked maps s names lines
     × (text ≡ job_lines (length jobs) jobs ++ (lists ++ lines))
     × (stopped ≡ any_stopped (length jobs) jobs)
 
 -- without lists
-abbrev pub Tells : Plain → List Task → List (List ℕ) → Bool → List ℕ → Bool → Type 0
+abbrev pub Tells : Plain → List Task → Names → Bool → List ℕ → Bool → Type 0
 Tells s jobs names maps text stopped = TellsWith [] s jobs names maps text stopped
 
 -- what the CPUs of a machine have listed
@@ -180,6 +246,6 @@ lines_of_lists z names = list_lines (λ c. made_keys (z.lists c)) names z.store.
 
 -- the turns of a schedule, CPUs each with how many turns it takes before the next, and rounds after
 -- them lead to a last machine, of which this is printed
-abbrev pub IsReportBy : World → List (ℕ × ℕ) → List (List ℕ) → Bool → List ℕ → Bool → Type 0
+abbrev pub IsReportBy : World → List (ℕ × ℕ) → Names → Bool → List ℕ → Bool → Type 0
 IsReportBy w runs names maps text stopped = (z : World) × RunsBy w (unrolled runs) z
-    × TellsWith (lines_of_lists z names) z.store z.jobs names maps text stopped
+    × TellsWith (lines_of_lists z names.maps) z.store z.jobs names maps text stopped

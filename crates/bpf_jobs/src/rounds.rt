@@ -1,28 +1,31 @@
 //! Jobs from their beginning to what is printed of them.
 
-ghost use Rattle.std.specs.Prelude.{IfOk, map, string_bytes};
+ghost use Rattle.std.specs.Prelude.{◌≡◌, IfOk, string_bytes};
 ghost use Rattle.bpf_shared.specs.Store.{Plain};
 ghost use Rattle.bpf_shared.specs.Sound.{IsSoundStore};
+ghost use Rattle.bpf_names.specs.Names.{names_of};
 ghost use Rattle.bpf_plain.specs.PlainStore.{StandsFor};
 ghost use Rattle.bpf_cpu.specs.Setup.{IsRunnable};
 ghost use Rattle.bpf_machine.specs.Machine.{Shows};
 ghost use Rattle.bpf_machine.specs.Schedule.{World};
-ghost use Rattle.bpf_jobs.specs.Printed.{asked_of, first_of, AreMapsAsked, IsReportBy, lines_of_lists, TellsWith};
+ghost use Rattle.bpf_jobs.specs.Printed.{asked_of, first_of, AreMapsAsked, fixed_lines, IsReportBy, lines_of_lists, TellsWith};
 
 use crate::arrays::list_arrays;
 use crate::listing::{has_any_stopped, list_jobs};
 use crate::lists::list_keys;
 use crate::maps::list_maps;
+use crate::variables::list_variables;
 use bpf_cpu::Setup;
 use bpf_machine::Machine;
+use bpf_names::Names;
 use bpf_plain::PlainStore;
 use std::alloc::{AllocError, Global};
 
 /// How jobs have ended.
 #[derive(Drop)]
 pub struct Report {
-    /// A line a job, then those of lists of keys and those of the maps and arrays, where they were
-    /// asked for.
+    /// A line a job, then those of lists of keys and those of the maps, variables and arrays, where
+    /// they were asked for.
     pub text: String,
     /// Whether some job ended in a fault or out of budget.
     pub stopped: bool,
@@ -64,20 +67,31 @@ pub fn make_asked(alloc: Global, setup: Setup, keys: bool) -> Result<Machine, Al
     }
 }
 
-/// The lines of the maps and then of the arrays, where they are asked for.
+/// The lines of the variables, and then of the arrays.
+fn fixed_lines(alloc: Global, store: &PlainStore, names: &Names) -> Result<String, AllocError>
+    ensures { IfOk result (λ text. (s : Plain) → IsSoundStore s → StandsFor store.now s
+        → string_bytes text ≡ fixed_lines s (names_of names.now)) }
+{
+    let mut text = list_variables(alloc, store, &names.variables)?;
+    let arrays = list_arrays(alloc, store, names)?;
+    text.push_str(arrays.as_str())?;
+    Ok(text)
+}
+
+/// The lines of the maps, the variables and the arrays, where they are asked for.
 fn asked_lines(
     alloc: Global,
     store: &PlainStore,
-    names: &[String],
+    names: &Names,
     maps: bool,
 ) -> Result<String, AllocError>
     ensures { IfOk result (λ text. (s : Plain) → IsSoundStore s → StandsFor store.now s
-        → AreMapsAsked maps s (map string_bytes names.now) (string_bytes text)) }
+        → AreMapsAsked maps s (names_of names.now) (string_bytes text)) }
 {
     if maps {
-        let mut text = list_maps(alloc, store, names)?;
-        let arrays = list_arrays(alloc, store, names)?;
-        text.push_str(arrays.as_str())?;
+        let mut text = list_maps(alloc, store, &names.maps)?;
+        let fixed = fixed_lines(alloc, store, names)?;
+        text.push_str(fixed.as_str())?;
         Ok(text)
     } else {
         Ok(String::new(alloc))
@@ -88,15 +102,15 @@ fn asked_lines(
 pub fn tell(
     alloc: Global,
     machine: &Machine,
-    names: &[String],
+    names: &Names,
     maps: bool,
 ) -> Result<Report, AllocError>
     ensures { IfOk result (λ r. (w : World) → Shows machine.now w
-        → TellsWith (lines_of_lists w (map string_bytes names.now)) w.store w.jobs
-        (map string_bytes names.now) maps (string_bytes r.text) r.stopped) }
+        → TellsWith (lines_of_lists w (names_of names.now).maps) w.store w.jobs
+        (names_of names.now) maps (string_bytes r.text) r.stopped) }
 {
     let mut text = list_jobs(alloc, machine)?;
-    let lists = list_keys(alloc, machine, names)?;
+    let lists = list_keys(alloc, machine, &names.maps)?;
     text.push_str(lists.as_str())?;
     let lines = asked_lines(alloc, machine.store(), names, maps)?;
     text.push_str(lines.as_str())?;
@@ -104,7 +118,7 @@ pub fn tell(
     Ok(Report { text, stopped })
 }
 
-/// Runs jobs over a new store whose maps, and then arrays, have these names: first the turns of a schedule (CPUs, each
+/// Runs jobs over a new store whose maps, arrays and variables have these names: first the turns of a schedule (CPUs, each
 /// with how many turns it takes before the next), then rounds until each job has ended. Turns of a CPU
 /// without work change nothing, and neither do those of a CPU that the store hasn't. Where keys are
 /// asked for, each CPU lists those of all maps with the end of its last job. The only refusal is out of
@@ -112,14 +126,14 @@ pub fn tell(
 pub fn run_jobs_by(
     alloc: Global,
     setup: Setup,
-    names: &[String],
+    names: &Names,
     schedule: &[(u8, u64)],
     keys: bool,
     maps: bool,
 ) -> Result<Report, AllocError>
     requires { IsRunnable setup }
     ensures { IfOk result (λ r. IsReportBy (asked_of keys setup) schedule.now
-        (map string_bytes names.now) maps (string_bytes r.text) r.stopped) }
+        (names_of names.now) maps (string_bytes r.text) r.stopped) }
 {
     let mut machine = make_asked(alloc, setup, keys)?;
     machine.turns_by(schedule);

@@ -3,6 +3,7 @@ use Rattle.std.specs.Prelude.{ℕ, zero, suc, ◌+◌, ◌-◌, nat_lt, ◌++◌
 use Rattle.std.specs.Fmt.{decimal}
 use Rattle.hex.specs.Hex.{encode_lower}
 use Rattle.bpf_schedule.specs.Spelling.{runs_text}
+use Rattle.bpf_names.specs.Names.{Names, Variable, variable_at}
 use Rattle.bpf_explore.specs.Listing.{all_text}
 use Rattle.bpf_loader.specs.declared.named.Named.{Named}
 use Rattle.bpf_machine.specs.declared.machine.Stand.{Stand}
@@ -34,17 +35,30 @@ place_text named names m =
     else codes " array " ++ slice_index_or names (named.maps + (m - 16)) []
 
 -- that name and the key
-abbrev pub value_text : Named → List (List ℕ) → RaceFound → List ℕ
-value_text named names race =
+abbrev pub keyed_text : Named → List (List ℕ) → RaceFound → List ℕ
+keyed_text named names race =
     place_text named names (map_at race.at) ++ (codes " " ++ key_text race.key)
 
-abbrev pub race_text : Named → List (List ℕ) → RaceFound → List ℕ
+-- a variable by its name
+abbrev pub variable_text : Variable → List ℕ
+variable_text v = codes " var " ++ v.name
+
+-- in their place the variable that has the byte, if one does
+abbrev pub shared_text : Named → List (List ℕ) → RaceFound → Option Variable → List ℕ
+shared_text named names race (Some v) = variable_text v
+shared_text named names race None = keyed_text named names race
+
+abbrev pub value_text : Named → Names → RaceFound → List ℕ
+value_text named names race =
+    shared_text named names.maps race (variable_at race.at names.variables)
+
+abbrev pub race_text : Named → Names → RaceFound → List ℕ
 race_text named names race =
     ((places_text race.pair ++ value_text named names race) ++ codes " by")
     ++ (runs_text (length race.by) race.by ++ codes "\n")
 
 -- of one in a machine as it is
-abbrev pub here_text : Named → List (List ℕ) → RaceFound → List ℕ
+abbrev pub here_text : Named → Names → RaceFound → List ℕ
 here_text named names race = (places_text race.pair ++ value_text named names race) ++ codes "\n"
 
 abbrev pub no_stand : Stand
@@ -59,12 +73,12 @@ no_race = record {
 }
 
 -- the first n of them
-abbrev pub race_lines : Named → List (List ℕ) → ℕ → List RaceFound → List ℕ
+abbrev pub race_lines : Named → Names → ℕ → List RaceFound → List ℕ
 race_lines named names zero races = []
 race_lines named names (suc n) races =
     race_lines named names n races ++ race_text named names (slice_index_or races n no_race)
 
-abbrev pub here_lines : Named → List (List ℕ) → ℕ → List RaceFound → List ℕ
+abbrev pub here_lines : Named → Names → ℕ → List RaceFound → List ℕ
 here_lines named names zero races = []
 here_lines named names (suc n) races =
     here_lines named names n races ++ here_text named names (slice_index_or races n no_race)
@@ -81,7 +95,7 @@ abbrev pub same_line : Bool → List ℕ
 same_line same = if same then codes "no races: on x86 the outcomes are the same\n" else []
 
 -- a line a race, and after them what follows for x86, and the last one
-abbrev pub races_text : Named → List (List ℕ) → List Part → List RaceFound → Bool → List ℕ
+abbrev pub races_text : Named → Names → List Part → List RaceFound → Bool → List ℕ
 races_text named names sync races all =
     (race_lines named names (length races) races
     ++ same_line (adds_nothing named sync races all))

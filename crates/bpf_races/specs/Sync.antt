@@ -1,9 +1,12 @@
--- Bytes that are left out, by the texts that name them: `NAME`, or `NAME+AT:SIZE`. Our own choice.
-use Rattle.std.specs.Prelude.{◌≡◌, ℕ, ◌+◌, ◌^◌, ◌==◌, Bool, nat_le, nat_lt, if◌then◌else◌, List, Option, Some, None, option_and_then, option_map, length, slice_get}
+-- Bytes that are left out, by the texts that name them: `NAME` of a map or a variable, or
+-- `NAME+AT:SIZE` of a map. Our own choice.
+use Rattle.std.specs.Prelude.{◌≡◌, ℕ, ◌+◌, ◌^◌, ◌==◌, ◌⊎◌, Bool, nat_le, nat_lt, if◌then◌else◌, List, Option, Some, None, option_and_then, option_map, length, slice_get}
 use Rattle.std.specs.List.{after_first, before_first}
 use Rattle.bpf_schedule.specs.Spelling.{number_below}
 use Rattle.bpf_shared.specs.declared.shapes.MapShape.{MapShape}
-use Rattle.bpf_shared.specs.Shape.{IsMap, element_stride}
+use Rattle.bpf_shared.specs.Access.{bytes_in}
+use Rattle.bpf_shared.specs.Shape.{IsMap, element_stride, map_area}
+use Rattle.bpf_names.specs.Names.{Names, Variable, variable_named}
 use Rattle.bpf_races.specs.declared.sync.Part.{Part}
 use Rattle.bpf_races.specs.Touch.{IsAmong}
 
@@ -35,16 +38,31 @@ range_in text value = if has_mark 43 text
 -- ---- of maps of these names and shapes, by their numbers
 
 -- the text names these bytes of this map
-pub record Says (names : List (List ℕ)) (maps : List MapShape) (text : List ℕ) (part : Part) : Type 0
-  where
-    pub shape : MapShape
-    pub map : IsMap maps part.map shape
-    pub named : slice_get names part.map ≡ Some (before_first (is_mark 43) text)
-    pub stride : part.stride ≡ element_stride shape
-    pub range : range_in text shape.value ≡ Some (part.from, part.past)
+pub record SaysOfMap (names : List (List ℕ)) (maps : List MapShape) (text : List ℕ) (part : Part)
+    : Type 0 where
+  pub shape : MapShape
+  pub map : IsMap maps part.map shape
+  pub named : slice_get names part.map ≡ Some (before_first (is_mark 43) text)
+  pub stride : part.stride ≡ element_stride shape
+  pub range : range_in text shape.value ≡ Some (part.from, part.past)
+
+-- the bytes of a variable: counted from its array's first one, since they are of the first value
+abbrev pub variable_part : Variable → Part
+variable_part v = record {
+  map = 16 + v.array;
+  stride = map_area;
+  from = v.at;
+  past = v.at + bytes_in v.size;
+}
+
+-- the text names the variable of these bytes, or these of a map
+abbrev pub Says : Names → List MapShape → (text : List ℕ) → Part → Type 0
+Says names maps text part =
+    (option_map variable_part (variable_named text names.variables) ≡ Some part)
+    ⊎ SaysOfMap names.maps maps text part
 
 -- these are the bytes that the texts name
-pub record ArePartsOf (names : List (List ℕ)) (maps : List MapShape) (sync : List (List ℕ))
+pub record ArePartsOf (names : Names) (maps : List MapShape) (sync : List (List ℕ))
     (parts : List Part) : Type 0 where
   pub said : (part : Part) → IsAmong parts part
       → (text : List ℕ) × IsAmong sync text × Says names maps text part
@@ -52,6 +70,6 @@ pub record ArePartsOf (names : List (List ℕ)) (maps : List MapShape) (sync : L
       → (part : Part) × IsAmong parts part × Says names maps text part
 
 -- one of the texts names none
-abbrev pub IsAnyUnknown : List (List ℕ) → List MapShape → (sync : List (List ℕ)) → Type 0
+abbrev pub IsAnyUnknown : Names → List MapShape → (sync : List (List ℕ)) → Type 0
 IsAnyUnknown names maps sync = (text : List ℕ) × IsAmong sync text
     × ((part : Part) → Says names maps text part → ⊥)

@@ -1,7 +1,8 @@
 //! Races as they are printed.
 
 ghost use Rattle.std.specs.Prelude.{◌≡◌, ◌+◌, ◌++◌, [], IfOk, OnOk, length, map, option_map, slice_index_or, string_bytes};
-ghost use Rattle.bpf_races.specs.Lines.{count_text, here_lines, here_text, key_text, last_line, place_text, places_text, race_text, races_text, same_line, stand_text, value_text};
+ghost use Rattle.bpf_names.specs.Names.{names_of, variable_of};
+ghost use Rattle.bpf_races.specs.Lines.{count_text, here_lines, here_text, key_text, keyed_text, last_line, place_text, places_text, race_text, races_text, same_line, stand_text, value_text, variable_text};
 ghost use Rattle.bpf_races.specs.Races.{adds_nothing};
 
 use crate::clash::map_at;
@@ -11,6 +12,7 @@ use crate::sync::Part;
 use bpf_explore::whether_all;
 use bpf_loader::Named;
 use bpf_machine::Stand;
+use bpf_names::{Names, Variable};
 use bpf_schedule::push_runs;
 use bpf_shared::FIRST_ARRAY;
 use std::alloc::{AllocError, Global};
@@ -82,18 +84,44 @@ fn place_text(
 }
 
 /// That name and the key.
-fn value_text(
+fn keyed_text(
     alloc: Global,
     named: Named,
     names: &[String],
     race: &Race,
 ) -> Result<String, AllocError>
     ensures { IfOk result (λ text. string_bytes text
-        ≡ value_text named (map string_bytes names.now) race.now) }
+        ≡ keyed_text named (map string_bytes names.now) race.now) }
 {
     let place = place_text(alloc, named, names, map_at(race.at))?;
     let key = key_text(alloc, &race.key)?;
     format!(in alloc; "{place} {key}")
+}
+
+/// The byte for which CPUs race.
+fn byte_of(race: &Race) -> u64
+    ensures { result ≡ race.now.at }
+{
+    race.at
+}
+
+/// The name of a variable.
+fn variable_text(alloc: Global, variable: &Variable) -> Result<String, AllocError>
+    ensures { IfOk result (λ text. string_bytes text ≡ variable_text (variable_of variable.now)) }
+{
+    let name = variable.name.as_str();
+    format!(in alloc; " var {name}")
+}
+
+/// The variable that has the byte, or the map's or the array's name and the key.
+fn value_text(alloc: Global, named: Named, names: &Names, race: &Race) -> Result<String, AllocError>
+    ensures { IfOk result (λ text. string_bytes text
+        ≡ value_text named (names_of names.now) race.now) }
+{
+    match names.at(byte_of(race)) {
+        Some(variable) => variable_text(alloc, variable),
+        None => keyed_text(alloc, named, &names.maps, race),
+    }
 }
 
 /// Its places.
@@ -108,11 +136,11 @@ fn push_places(
     alloc: Global,
     text: &mut String,
     named: Named,
-    names: &[String],
+    names: &Names,
     race: &Race,
 ) -> Result<(), AllocError>
     ensures { OnOk result (string_bytes text.new ≡ string_bytes text.old
-        ++ (places_text race.now.pair ++ value_text named (map string_bytes names.now) race.now)) }
+        ++ (places_text race.now.pair ++ value_text named (names_of names.now) race.now)) }
 {
     let places = places_text(alloc, pair_of(race))?;
     let value = value_text(alloc, named, names, race)?;
@@ -133,11 +161,11 @@ fn push_race(
     alloc: Global,
     text: &mut String,
     named: Named,
-    names: &[String],
+    names: &Names,
     race: &Race,
 ) -> Result<(), AllocError>
     ensures { OnOk result (string_bytes text.new
-        ≡ string_bytes text.old ++ race_text named (map string_bytes names.now) race.now) }
+        ≡ string_bytes text.old ++ race_text named (names_of names.now) race.now) }
 {
     push_places(alloc, text, named, names, race)?;
     text.push_str(" by")?;
@@ -186,11 +214,11 @@ fn push_same(text: &mut String, same: bool) -> Result<(), AllocError>
 pub fn list_races(
     alloc: Global,
     named: Named,
-    names: &[String],
+    names: &Names,
     sync: &[Part],
     races: &Races,
 ) -> Result<String, AllocError>
-    ensures { IfOk result (λ text. string_bytes text ≡ races_text named (map string_bytes names.now)
+    ensures { IfOk result (λ text. string_bytes text ≡ races_text named (names_of names.now)
         sync.now races.now.list.items races.now.all) }
 {
     let mut text = String::new(alloc);
@@ -207,11 +235,11 @@ fn push_here(
     alloc: Global,
     text: &mut String,
     named: Named,
-    names: &[String],
+    names: &Names,
     race: &Race,
 ) -> Result<(), AllocError>
     ensures { OnOk result (string_bytes text.new
-        ≡ string_bytes text.old ++ here_text named (map string_bytes names.now) race.now) }
+        ≡ string_bytes text.old ++ here_text named (names_of names.now) race.now) }
 {
     push_places(alloc, text, named, names, race)?;
     text.push_str("\n")?;
@@ -222,11 +250,11 @@ fn push_here(
 pub fn list_races_in(
     alloc: Global,
     named: Named,
-    names: &[String],
+    names: &Names,
     races: &[Race],
 ) -> Result<String, AllocError>
     ensures { IfOk result (λ text. string_bytes text
-        ≡ here_lines named (map string_bytes names.now) (length races.now) races.now) }
+        ≡ here_lines named (names_of names.now) (length races.now) races.now) }
 {
     let mut text = String::new(alloc);
     for race in races {

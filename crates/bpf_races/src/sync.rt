@@ -1,19 +1,22 @@
-//! Bytes that are left out, by the names of their maps.
+//! Bytes that are left out, by the names of their maps or variables.
 
 ghost use Rattle.std.specs.Prelude.{◌≡◌, ◌<◌, ◌≤◌, ◌^◌, None, IfNone, IfOk, IfSome, length, map, string_bytes};
 ghost use Rattle.std.specs.List.{after_first, before_first};
 ghost use Rattle.bpf_schedule.specs.Spelling.{number_below};
 ghost use Rattle.bpf_shared.specs.Shape.{element_stride};
+ghost use Rattle.bpf_names.specs.Names.{names_of, variable_of};
 ghost use Rattle.bpf_races.specs.Private.Parts.{IsPart};
-ghost use Rattle.bpf_races.specs.Sync.{ArePartsOf, IsAnyUnknown, Says, has_mark, is_mark, range_in, range_of};
+ghost use Rattle.bpf_races.specs.Sync.{ArePartsOf, IsAnyUnknown, Says, SaysOfMap, has_mark, is_mark, range_in, range_of, variable_part};
 
 use bpf_lines::words;
-use bpf_shared::{MapShape, StoreShape};
+use bpf_names::{Names, Variable, bytes_in};
+use bpf_shared::{FIRST_ARRAY, MAP_AREA, MapShape, StoreShape};
 use std::alloc::{AllocError, Global};
 
-/// Bytes of the values of a map: from this one of each value on, up to that one.
+/// Bytes of the values of a map, or of a variable: from this one of each value on, up to that one.
 #[derive(Clone, Copy, PartialEq, Eq, Debug)]
 pub struct Part {
+    /// The map's number; of an array 16 more than its own.
     pub map: usize,
     /// From the beginning of one value to that of the next.
     pub stride: u64,
@@ -115,9 +118,9 @@ fn range_part(sizes: MapShape, number: usize, text: &[u8]) -> Option<Part>
 /// The bytes of the map of this number that a text names.
 fn part_at(names: &[String], shape: &StoreShape, text: &[u8], number: usize) -> Option<Part>
     requires named { number < length names.now }
-    ensures said { IfSome result (Says (map string_bytes names.now) shape.now.maps text.now) }
+    ensures said { IfSome result (SaysOfMap (map string_bytes names.now) shape.now.maps text.now) }
     ensures none { IfNone result ((part : Part) → part.map ≡ number
-        → Says (map string_bytes names.now) shape.now.maps text.now part → ⊥) }
+        → SaysOfMap (map string_bytes names.now) shape.now.maps text.now part → ⊥) }
 {
     let maps = shape.maps();
     if number >= maps.len() {
@@ -131,10 +134,10 @@ fn part_at(names: &[String], shape: &StoreShape, text: &[u8], number: usize) -> 
 }
 
 /// The bytes that a text names, of some map.
-fn part_in(names: &[String], shape: &StoreShape, text: &[u8]) -> Option<Part>
-    ensures said { IfSome result (Says (map string_bytes names.now) shape.now.maps text.now) }
+fn map_part(names: &[String], shape: &StoreShape, text: &[u8]) -> Option<Part>
+    ensures said { IfSome result (SaysOfMap (map string_bytes names.now) shape.now.maps text.now) }
     ensures none { IfNone result ((part : Part)
-        → Says (map string_bytes names.now) shape.now.maps text.now part → ⊥) }
+        → SaysOfMap (map string_bytes names.now) shape.now.maps text.now part → ⊥) }
 {
     for number in 0..names.len() {
         if let Some(part) = part_at(names, shape, text, number) {
@@ -144,17 +147,42 @@ fn part_in(names: &[String], shape: &StoreShape, text: &[u8]) -> Option<Part>
     None
 }
 
-/// The bytes that texts name, of maps of these names; `None` where one of the texts names none.
+/// The bytes of a variable.
+fn variable_part(variable: &Variable) -> Part
+    ensures { result ≡ variable_part (variable_of variable.now) }
+{
+    let from = u64::from(variable.at);
+    Part {
+        map: FIRST_ARRAY as usize + usize::from(variable.array),
+        stride: MAP_AREA,
+        from,
+        past: from + bytes_in(variable.size) as u64,
+    }
+}
+
+/// The bytes that a text names, of a variable or of some map.
+fn part_in(names: &Names, shape: &StoreShape, text: &[u8]) -> Option<Part>
+    ensures said { IfSome result (Says (names_of names.now) shape.now.maps text.now) }
+    ensures none { IfNone result ((part : Part)
+        → Says (names_of names.now) shape.now.maps text.now part → ⊥) }
+{
+    match names.variable(text) {
+        Some(variable) => Some(variable_part(variable)),
+        None => map_part(&names.maps, shape, text),
+    }
+}
+
+/// The bytes that texts name, of maps and variables of these names; `None` where one of the texts names none.
 pub fn synced_parts(
     alloc: Global,
-    names: &[String],
+    names: &Names,
     shape: &StoreShape,
     sync: &[String],
 ) -> Result<Option<Vec<Part>>, AllocError>
     ensures parts { IfOk result (λ found. IfSome found (λ parts. ArePartsOf
-        (map string_bytes names.now) shape.now.maps (map string_bytes sync.now) parts.items)) }
+        (names_of names.now) shape.now.maps (map string_bytes sync.now) parts.items)) }
     ensures unknown { IfOk result (λ found. IfNone found (IsAnyUnknown
-        (map string_bytes names.now) shape.now.maps (map string_bytes sync.now))) }
+        (names_of names.now) shape.now.maps (map string_bytes sync.now))) }
 {
     let mut parts = Vec::new(alloc);
     for text in sync {

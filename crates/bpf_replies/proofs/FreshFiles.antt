@@ -4,6 +4,7 @@ use Rattle.std.specs.Prelude.{All, slice_get}
 use Rattle.bpf_mem.specs.Limits.{max_context}
 use Rattle.bpf_shared.proofs.Soundness.{as_made_sound}
 use Rattle.bpf_shared.specs.Shape.{IsShape}
+use Rattle.bpf_names.specs.Names.{names_of}
 use Rattle.bpf_cpu.specs.Task.{Task, Stage, Waiting, InHand, Ended, waiting}
 use Rattle.bpf_machine.specs.Laws.{IsFresh}
 use Rattle.bpf_jobs.specs.declared.rounds.Report.{Report}
@@ -53,7 +54,7 @@ fresh_asked keys f shape can = record { store = (fresh f shape can).store; waits
 pub told : (by : List (ℕ × ℕ)) (keys maps : Bool) (text : List ℕ) (file : RunFile) (r : Report)
     → IsRunFile text (Ok (file_of file))
     → IsReportBy (asked_world keys file.setup.shape file.setup.programs.items (map waiting file.setup.jobs.items))
-    by (map string_bytes file.names.items) maps (string_bytes r.text) r.stopped
+    by (names_of file.names) maps (string_bytes r.text) r.stopped
     → (f : File) × IsRunFile text (Ok f) × IsToldBy by keys maps f (string_bytes r.text) r.stopped
 told by keys maps text file r said report = (file_of file, said, report)
 
@@ -61,6 +62,6 @@ told by keys maps text file r said report = (file_of file, said, report)
 pub history : (by : List (ℕ × ℕ)) (keys maps : Bool) (text : List ℕ) (file : RunFile) (r : Report)
     → IsRunFile text (Ok (file_of file))
     → IsHistory (asked_world keys file.setup.shape file.setup.programs.items (map waiting file.setup.jobs.items))
-    by (map string_bytes file.names.items) maps (string_bytes r.text) r.stopped
+    by (names_of file.names) maps (string_bytes r.text) r.stopped
     → IsHistoryOfFile by keys maps text (reply.Jobs r.text r.stopped)
 history by keys maps text file r said report = (file_of file, said, report)

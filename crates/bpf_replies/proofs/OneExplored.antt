@@ -6,6 +6,7 @@ use Rattle.std.specs.declared.cmp.Ordering.TheVariants.{Less, Equal}
 use Rattle.std.specs.Ordering.{nat_cmp}
 use Rattle.std.specs.Cmp.Lexicographic.{slice_cmp, nat_list_cmp_total}
 use Rattle.std.proofs.lemmas.Cmp.{tied_itself}
+use Rattle.bpf_names.specs.Names.{Names}
 use Rattle.bpf_machine.specs.Schedule.{World, unrolled}
 use Rattle.bpf_file.specs.File.{File}
 use Rattle.bpf_file.specs.Laws.{FilesAreDetermined}
@@ -92,7 +93,7 @@ stopped_told [] = refl
 stopped_told (x ∷ xs) = ap (λ (b : Bool). x.stopped || b) (stopped_told xs)
 
 -- what one search prints, the other prints
-all_told : (w : World) (names : List (List ℕ)) (xs ys : List Found) (cut short : Bool) (limit states more others : ℕ)
+all_told : (w : World) (names : Names) (xs ys : List Found) (cut short : Bool) (limit states more others : ℕ)
     → IsExplored w names true xs true cut limit states → IsExplored w names true ys true short more others
     → AreTold xs ys
 all_told w names xs ys cut short limit states more others a b i found at =

@@ -2,6 +2,7 @@
 use Rattle.std.proofs.Common.{◌≡◌, ◌∙◌, ℕ, zero, suc, ◌==◌, Bool, true, false, List, [], ◌∷◌, ◌++◌, Option, Some, None, Ok, inl, inr, cond, length, refl, sym, ap, subst, string_bytes}
 use Rattle.std.specs.Prelude.{slice_get}
 use Rattle.bpf_shared.specs.Store.{Plain, put}
+use Rattle.bpf_names.specs.Names.{Names}
 use Rattle.bpf_cpu.specs.declared.cpu.Cpu.{Cpu}
 use Rattle.bpf_cpu.specs.declared.outcome.Outcome.{Outcome}
 use Rattle.bpf_cpu.specs.Task.{Task}
@@ -69,11 +70,11 @@ no_lines lists names (suc n) none =
     ap (λ (t : List ℕ). t ++ cpu_lines n names (length (lists n)) (lists n)) before ∙ here
 
 -- ---- so the report of an outcome's schedule is that outcome
-reported : (w : World) (names : List (List ℕ)) (maps : Bool) (found : Found) → NeverLists w → EndsBy w names maps found
+reported : (w : World) (names : Names) (maps : Bool) (found : Found) → NeverLists w → EndsBy w names maps found
     → IsReportBy w found.by names maps found.text found.stopped
 reported w names maps found never (z, runs, ended, tells) =
     let silent = after_schedule w (unrolled found.by) z runs never in
-    let none : lines_of_lists z names ≡ [] = no_lines (λ c. made_keys (z.lists c)) names z.store.shape.cpus (λ c. ap made_keys (silent c)) in
+    let none : lines_of_lists z names.maps ≡ [] = no_lines (λ c. made_keys (z.lists c)) names.maps z.store.shape.cpus (λ c. ap made_keys (silent c)) in
     (z, (z, runs, (zero, refl, ended)), subst (λ (lines : List ℕ). TellsWith lines z.store z.jobs names maps found.text found.stopped) (sym none) tells)
 
 -- what a search found is the outcome of its schedule

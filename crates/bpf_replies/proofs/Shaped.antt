@@ -1,9 +1,10 @@
 -- Every file that a text says has a shape that a store may have.
 use Rattle.std.proofs.Common.{◌≡◌, ℕ, ◌+◌, ◌/◌, ◌≤◌, ◌==◌, nat_lt, Bool, true, false, if◌then◌else◌, List, [], ◌∷◌, length, Option, Some, None, Result, Ok, Err, sym, subst, arith}
 use Rattle.std.proofs.lemmas.Bool.Decides.{nat_tests}
-use Rattle.std.specs.Prelude.{MatchResult}
+use Rattle.std.specs.Prelude.{MatchResult, slice_get}
 use Rattle.hex.specs.Hex.{decode_of}
 use Rattle.hex.specs.declared.error.FromHexError.{FromHexError}
+use Rattle.bpf_shared.specs.declared.events.Size.{Size}
 use Rattle.bpf_shared.specs.Shape.{IsShape}
 use Rattle.bpf_shared.proofs.Refusing.{outside_false, maps_in_range, arrays_in_range}
 use Rattle.bpf_lines.specs.Lines.{lines_of, fields_of}
@@ -13,11 +14,11 @@ use Rattle.bpf_file.specs.declared.error.FileError.TheVariants.{Refused}
 use Rattle.bpf_file.specs.declared.error.Reason.{Reason}
 use Rattle.bpf_file.specs.declared.error.Reason.TheVariants as reason
 use Rattle.bpf_file.specs.Form.{is_there}
-use Rattle.bpf_file.specs.Statement.{Said, Version, Cpus, Seed, Map, Array, Data, Program, Words, Job, statement_of}
+use Rattle.bpf_file.specs.Statement.{Said, Version, Cpus, Seed, Map, Array, Data, Variable, Program, Words, Job, statement_of}
 use Rattle.bpf_file.specs.File.{File, shape_of}
-use Rattle.bpf_file.specs.Parts.{Part, State, Between, Within, nothing, place_of, array_place, with_cpus, with_map, with_array}
+use Rattle.bpf_file.specs.Parts.{Part, State, Between, Within, nothing, place_of, array_place, with_cpus, with_map, with_array, with_variable}
 use Rattle.bpf_file.specs.Programs.{text_of_lines}
-use Rattle.bpf_file.specs.Rows.{unless, cpus_refusal, map_refusal, array_refusal, data_refusal, data_laid, or_refused, data_added, program_added, WordsAdd, served, steps_of, context_of, job_added, placed, AddsLine}
+use Rattle.bpf_file.specs.Rows.{unless, cpus_refusal, map_refusal, array_refusal, data_refusal, data_laid, or_refused, data_added, name_refusal, place_refusal, variable_added, program_added, WordsAdd, served, steps_of, context_of, job_added, placed, AddsLine}
 use Rattle.bpf_file.specs.Reading.{AddsOrRefuses, FieldsSay, is_end, Belongs, ReadsLine, finished, AreRead, IsRunFile}
 use Rattle.bpf_file.specs.Private.Fits.{IsFit, IsFitState, IsFitResult}
 use Rattle.bpf_file.proofs.Fits.{fit_nothing, line_fits, opening_fits, section_fits}
@@ -46,6 +47,11 @@ data_closed : (n : ℕ) (p : Part) (k : Option ℕ) (at : ℕ) (digits : List �
 data_closed n p (Some a) at digits =
     or_closed n (data_refusal p.file a (at + length digits / 2)) (data_laid n p a at (decode_of digits)) (laid_closed n p a at (decode_of digits))
 data_closed n p None at digits = tt
+
+variable_closed : (n : ℕ) (p : Part) (name : List ℕ) (k : Option ℕ) (at : ℕ) (size : Size) → IsClosed (variable_added n p name k at size)
+variable_closed n p name (Some a) at size =
+    unless_closed n (place_refusal a at size (slice_get p.file.arrays a)) (with_variable p (record { name = name; array = a; at = at; size = size }))
+variable_closed n p name None at size = tt
 
 program_closed : (p : Part) (name : List ℕ) (o : Result Loaded FileError) → IsClosed (program_added p name o)
 program_closed p name (Ok program) = tt
@@ -77,6 +83,9 @@ module _ (n : ℕ) (p q : Part) (from : ℕ) (name : List ℕ) (lines : List (Li
   adds_first (Map title h) e = absurd (never (unless n (map_refusal p title h) (with_map p title h)) e (unless_closed n (map_refusal p title h) (with_map p title h)))
   adds_first (Array title g) e = absurd (never (unless n (array_refusal p title g) (with_array p title g)) e (unless_closed n (array_refusal p title g) (with_array p title g)))
   adds_first (Data title at digits) e = absurd (never (data_added n p (array_place p.file title) at digits) e (data_closed n p (array_place p.file title) at digits))
+  adds_first (Variable title array at size) e =
+      absurd (never (or_refused n (name_refusal p.file title) (variable_added n p title (array_place p.file array) at size)) e
+      (or_closed n (name_refusal p.file title) (variable_added n p title (array_place p.file array) at size) (variable_closed n p title (array_place p.file array) at size)))
   adds_first (Program title) e = opened (is_there (place_of title p.titles)) title e
   adds_first (Words title digits) w = absurd (words_closed (place_of title p.titles) n p title digits (Ok (Within q from name lines)) w)
   adds_first (Job cpu title steps context) e =

@@ -4,6 +4,7 @@ ghost use Rattle.std.specs.Prelude.{◌≡◌, ◌&&◌, IfOk, IsOkUnless, None,
 ghost use Rattle.std.specs.List.{list_any};
 ghost use Rattle.std.specs.Option.{option_copied};
 ghost use Rattle.bpf_lines.specs.Lines.{lines_behind};
+ghost use Rattle.bpf_names.specs.Names.{names_of};
 ghost use Rattle.bpf_machine.specs.Machine.{Shows};
 ghost use Rattle.bpf_jobs.specs.Printed.{first_of};
 ghost use Rattle.bpf_cpu.specs.Setup.{IsRunnable};
@@ -21,6 +22,7 @@ use bpf_explore::first_machine;
 use bpf_file::{RunFile, read_file};
 use bpf_jobs::has_any_stopped;
 use bpf_lines::lines::{fields, first_line};
+use bpf_names::Names;
 use std::alloc::{AllocError, Global};
 
 /// An input that is cut in two.
@@ -77,13 +79,13 @@ pub fn debug_file(alloc: Global, echo: bool, strict: bool, input: &str) -> Resul
     Ok(reply)
 }
 
-/// A session over a new store, whose maps have these names, and jobs that all wait.
+/// A session over a new store, whose maps and arrays have these names, and jobs that all wait.
 /// Out of memory is the only refusal.
-fn make_session(alloc: Global, setup: Setup, names: Vec<String>) -> Result<Session, AllocError>
+fn make_session(alloc: Global, setup: Setup, names: Names) -> Result<Session, AllocError>
     requires { IsRunnable setup }
     ensures machine { IfOk result (λ s. Shows s.machine (first_of setup)) }
     ensures first { IfOk result (λ s. s.first ≡ s.machine) }
-    ensures names { IfOk result (λ s. s.names ≡ map (λ n. string_bytes n) names.items) }
+    ensures names { IfOk result (λ s. s.names ≡ names_of names) }
     ensures breaks { IfOk result (λ s. s.breaks ≡ []) }
     ensures watch { IfOk result (λ s. s.watch ≡ None) }
     ensures course { IfOk result (λ s. s.course ≡ Some []) }

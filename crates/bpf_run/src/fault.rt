@@ -66,7 +66,7 @@ pub fn details_of_file(alloc: Global, text: &str) -> Option<Vec<Detail>> {
     let (machine, evidence) = evidence_of(alloc, setup, &mut loops).ok()?;
     let maps = Maps {
         store: machine.store(),
-        names: &names,
+        names: &names.maps,
     };
     let mut details = details_of(alloc, &machine, &evidence, &numbers, &maps).ok()?;
     add_loops(alloc, &mut details, &loops).ok()?;

@@ -3,7 +3,7 @@ use Rattle.std.proofs.Common.{◌≡◌, ◌≢◌, List, [], Option, Some, None
 use Rattle.std.specs.Prelude.{IfSome, IsSomeAnd}
 use Rattle.bpf_insn.specs.Encoding.{Fits}
 use Rattle.bpf_text.specs.declared.reading.LineError.{LineError}
-use Rattle.bpf_text.specs.declared.reading.LineError.TheVariants.{BadLine, BadNumber}
+use Rattle.bpf_text.specs.declared.reading.LineError.TheVariants.{BadLine, BadNumber, UnknownName}
 use Rattle.bpf_text.specs.declared.reading.Draft.{Draft as DraftValue}
 use Rattle.bpf_spelling.specs.Token.{Tok}
 use Rattle.bpf_text.specs.Line.{Written, IsSpelled}
@@ -27,3 +27,4 @@ body_code ts d h = (spelled ts (line_at ts) (drafted d) h.0 (line_sound ts), h.1
 pub body_refused : (ts : List Tok) (e : LineError) → ts ≢ [] → Judged (Err e) (line_at ts) → IsBody (Err e) ts
 body_refused ts BadLine some h = (some, λ i s. let both : Some i ≡ None = sym (line_complete i.insn i.name ts s) ∙ h in cc)
 body_refused ts BadNumber some h = unfit ts (line_at ts) h (line_sound ts)
+body_refused ts UnknownName some h = absurd h

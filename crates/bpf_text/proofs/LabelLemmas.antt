@@ -1,18 +1,17 @@
--- The first line with each label.
+-- The first thing that has each name.
 use Rattle.std.proofs.Common.{◌≡◌, ℕ, List, Option, Some, None, Bool, true, false, cond, is_some, refl, sym, ap, ◌∙◌, bytes_eq}
 use Rattle.std.proofs.lemmas.Slice.Eq.{bytes_eq-Decides}
-use Rattle.bpf_text.specs.declared.labels.Place.{Place}
 use Rattle.bpf_text.specs.Private.Labels.{or_else}
 
 or_none : {A : Type 0} (o : Option A) → or_else o None ≡ o
 or_none (Some x) = refl
 or_none None = refl
 
--- a label that is there already changes nothing
-pub kept : (f : List ℕ → Option Place) (name q : List ℕ) (p : Place) → is_some (f name) ≡ true → f q ≡ or_else (f q) (cond (bytes_eq name q) (Some p) None)
-kept f name q p e = by_test (bytes_eq name q) refl
+-- a name that is there already changes nothing
+pub kept : {A : Type 0} (f : List ℕ → Option A) (name q : List ℕ) (p : A) → is_some (f name) ≡ true → f q ≡ or_else (f q) (cond (bytes_eq name q) (Some p) None)
+kept {A} f name q p e = by_test (bytes_eq name q) refl
   where
-    some_first : (o x : Option Place) → is_some o ≡ true → o ≡ or_else o x
+    some_first : (o x : Option A) → is_some o ≡ true → o ≡ or_else o x
     some_first (Some y) x h = refl
     some_first None x h = cc
 
@@ -21,10 +20,10 @@ kept f name q p e = by_test (bytes_eq name q) refl
     by_test false h = sym (or_none (f q))
 
 -- a new one is put after the others
-pub added : (f : List ℕ → Option Place) (name q : List ℕ) (p : Place) → is_some (f name) ≡ false → cond (bytes_eq name q) (Some p) (f q) ≡ or_else (f q) (cond (bytes_eq name q) (Some p) None)
-added f name q p e = by_test (bytes_eq name q) refl
+pub added : {A : Type 0} (f : List ℕ → Option A) (name q : List ℕ) (p : A) → is_some (f name) ≡ false → cond (bytes_eq name q) (Some p) (f q) ≡ or_else (f q) (cond (bytes_eq name q) (Some p) None)
+added {A} f name q p e = by_test (bytes_eq name q) refl
   where
-    none_first : (o x : Option Place) → is_some o ≡ false → x ≡ or_else o x
+    none_first : (o x : Option A) → is_some o ≡ false → x ≡ or_else o x
     none_first (Some y) x h = cc
     none_first None x h = refl
 

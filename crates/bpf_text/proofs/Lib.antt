@@ -7,7 +7,9 @@ pub mod Fitting
 pub mod Beginning
 pub mod LabelLemmas
 pub mod BodyLemmas
+pub mod ShortLoads
 pub mod ShortForms
+pub mod LoadsBegun
 pub mod Misfits
 pub mod TextLemmas
 pub mod Unique

@@ -11,15 +11,17 @@ use Rattle.bpf_spelling.specs.declared.keywords.Keyword.TheVariants as key
 use Rattle.bpf_spelling.specs.declared.operators.Operator.{Operator}
 use Rattle.bpf_spelling.specs.declared.operators.Operator.TheVariants.{Plain, Signed as SignedBy}
 use Rattle.bpf_text.specs.declared.reading.LineError.{LineError}
-use Rattle.bpf_text.specs.declared.reading.LineError.TheVariants.{BadLine, BadNumber}
+use Rattle.bpf_text.specs.declared.reading.LineError.TheVariants.{BadLine, BadNumber, UnknownName}
 use Rattle.bpf_spelling.specs.declared.signs.Sign.TheVariants.{Plus, Minus, Colon}
 use Rattle.bpf_spelling.specs.Operators.{operator_of, comparison_of, atomic_form}
 use Rattle.bpf_spelling.specs.Token.{Tok, Number, Mark}
 use Rattle.bpf_spelling.specs.Form.{Item, Is, Blank, Signed, Natural, Hex, Offset, Target, Never, word, operand_item, operator_items, atomic_items, form_of}
 use Rattle.bpf_text.specs.Line.{name_of, NaturalThen, NegatedThen, SignedThen, OffsetThen, TargetThen, ItemThen, Spells, Written, IsSpelled}
-use Rattle.bpf_text.specs.Assembly.{label_of, unlabelled, cut, Source, IsBody, IsLine}
+use Rattle.bpf_text.specs.Symbols.{Table, load_of}
+use Rattle.bpf_text.specs.Assembly.{label_of, unlabelled, cut, Source, IsBody, IsBodyOr, IsBodyWith, IsLineWith}
 use Rattle.bpf_text.specs.Tokens.{IsTokens}
 use Rattle.bpf_text.specs.Private.Cutting.{BeginTokens}
+use Rattle.bpf_text.proofs.ShortLoads.{no_load}
 
 -- ---- what spells an item has two tokens at most
 
@@ -135,34 +137,43 @@ body_long a (Mark Colon) ts = let l = cut_long (name_of a) ts (a ∷ Mark Colon 
 body_long a b ts = omega arith
 
 -- what is long has no form, and more of it hasn't either
-pub still_refused : (body : Result (Option Written) LineError) (ts rest : List Tok) → 41 ≤ length ts → IsBody body ts → IsBody body (ts ++ rest)
-still_refused (Ok None) ts rest long is = absurd (let none : length ts ≡ 0 = ap length is in omega arith)
-still_refused (Ok (Some i)) ts rest long is = absurd (let l = spelled_short i ts is.0 in omega arith)
-still_refused (Err BadNumber) ts rest long is = absurd (let l = spelled_short is.0 ts is.1 in omega arith)
-still_refused (Err BadLine) ts rest long is = (
+still_none : (body : Result (Option Written) LineError) (ts rest : List Tok) → 41 ≤ length ts → IsBody body ts → IsBody body (ts ++ rest)
+still_none (Ok None) ts rest long is = absurd (let none : length ts ≡ 0 = ap length is in omega arith)
+still_none (Ok (Some i)) ts rest long is = absurd (let l = spelled_short i ts is.0 in omega arith)
+still_none (Err BadNumber) ts rest long is = absurd (let l = spelled_short is.0 ts is.1 in omega arith)
+still_none (Err BadLine) ts rest long is = (
   λ none. let z : length (ts ++ rest) ≡ 0 = ap length none in let l = length-append ts rest in absurd (omega arith),
   λ i s. let k = spelled_short i (ts ++ rest) s in let l = length-append ts rest in absurd (omega arith),
 )
+still_none (Err UnknownName) ts rest long is = absurd is
 
-long_line : (line : List ℕ) (ts rest : List Tok) (s : Source) → IsTokens line (ts ++ rest) → 64 ≤ length ts → s.label ≡ label_of ts → IsBody s.body (unlabelled ts) → IsLine line s
-long_line line [] rest s cut_up long label body = absurd (omega arith)
-long_line line (a ∷ []) rest s cut_up long label body = absurd (omega arith)
-long_line line (a ∷ b ∷ ts) rest s cut_up long label body = record {
+pub still_refused : (names : Option Table) (body : Result (Option Written) LineError) (ts rest : List Tok) → 41 ≤ length ts → IsBodyWith names body ts → IsBodyWith names body (ts ++ rest)
+still_refused None body ts rest long is = still_none body ts rest long is
+still_refused (Some table) body ts rest long is =
+    let none : load_of ts ≡ None = no_load ts (omega arith) in
+    let still : load_of (ts ++ rest) ≡ None = no_load (ts ++ rest) (omega (arith, length-append ts rest)) in
+    let unnamed : IsBody body ts = subst (λ l. IsBodyOr table l body ts) none is in
+    subst (λ l. IsBodyOr table l body (ts ++ rest)) (sym still) (still_none body ts rest long unnamed)
+
+long_line : (names : Option Table) (line : List ℕ) (ts rest : List Tok) (s : Source) → IsTokens line (ts ++ rest) → 64 ≤ length ts → s.label ≡ label_of ts → IsBodyWith names s.body (unlabelled ts) → IsLineWith names line s
+long_line names line [] rest s cut_up long label body = absurd (omega arith)
+long_line names line (a ∷ []) rest s cut_up long label body = absurd (omega arith)
+long_line names line (a ∷ b ∷ ts) rest s cut_up long label body = record {
   tokens = a ∷ b ∷ (ts ++ rest);
   cut_up = cut_up;
   labelled = label ∙ sym (front_label a b ts rest);
   body =
       let l = body_long a b ts in
-      let both = still_refused s.body (unlabelled (a ∷ b ∷ ts)) rest (omega arith) body in
-      subst (λ (us : List Tok). IsBody s.body us) (sym (front_body a b ts rest)) both;
+      let both = still_refused names s.body (unlabelled (a ∷ b ∷ ts)) rest (omega arith) body in
+      subst (λ (us : List Tok). IsBodyWith names s.body us) (sym (front_body a b ts rest)) both;
 }
 
 -- a line by its first tokens
-pub line_of_tokens : (line : List ℕ) (ts : List Tok) (s : Source) → BeginTokens line ts → s.label ≡ label_of ts → IsBody s.body (unlabelled ts) → IsLine line s
-line_of_tokens line ts s (rest, cut_up, inl none) label body = record {
+pub line_of_tokens : (names : Option Table) (line : List ℕ) (ts : List Tok) (s : Source) → BeginTokens line ts → s.label ≡ label_of ts → IsBodyWith names s.body (unlabelled ts) → IsLineWith names line s
+line_of_tokens names line ts s (rest, cut_up, inl none) label body = record {
   tokens = ts;
   cut_up = subst (λ (us : List Tok). IsTokens line us) (ap (λ (r : List Tok). ts ++ r) none ∙ append-nil ts) cut_up;
   labelled = label;
   body = body;
 }
-line_of_tokens line ts s (rest, cut_up, inr long) label body = long_line line ts rest s cut_up long label body
+line_of_tokens names line ts s (rest, cut_up, inr long) label body = long_line names line ts rest s cut_up long label body

@@ -7,33 +7,34 @@ use Rattle.bpf_text.specs.declared.error.TextError.{TextError}
 use Rattle.bpf_text.specs.declared.labels.Place.{Place}
 use Rattle.bpf_text.specs.declared.assembly.Kept.{Kept}
 use Rattle.bpf_text.specs.declared.reading.LineError.{LineError}
-use Rattle.bpf_text.specs.declared.reading.LineError.TheVariants.{BadLine, BadNumber}
+use Rattle.bpf_text.specs.declared.reading.LineError.TheVariants.{BadLine, BadNumber, UnknownName}
 use Rattle.bpf_text.specs.Private.Labels.{or_else}
 use Rattle.bpf_text.specs.Private.Sources.{source_of, KeptLine, kept_view, nothing_is, nothing_said, is_refused, any_refused, is_left_out, kept_of, kept_program, Gathers}
 use Rattle.bpf_lines.specs.Lines.{lines_behind, rest_size}
-use Rattle.bpf_text.specs.Assembly.{Source, IsLine, AreLines, words_of, is_named, is_twice, first_place, body_meaning, meaning_of, then_meaning, program_of}
+use Rattle.bpf_text.specs.Symbols.{Table}
+use Rattle.bpf_text.specs.Assembly.{Source, IsLineWith, AreLinesWith, words_of, is_named, is_twice, first_place, body_meaning, meaning_of, then_meaning, program_of}
 use Rattle.bpf_lines.specs.Lines.{lines_of}
 use Rattle.bpf_text.specs.Line.{Written}
 
 -- ---- lines
 
 -- the text's lines are these, and then those of the rest
-pub record LinesRead (text : List ℕ) (done : List Source) (rest : Option (List ℕ)) : Type 0 where
-  pub on : (ss : List Source) → AreLines (lines_behind rest) ss → AreLines (lines_of text) (done ++ ss)
+pub record LinesRead (names : Option Table) (text : List ℕ) (done : List Source) (rest : Option (List ℕ)) : Type 0 where
+  pub on : (ss : List Source) → AreLinesWith names (lines_behind rest) ss → AreLinesWith names (lines_of text) (done ++ ss)
 
-pub lines_start : (text : List ℕ) → LinesRead text [] (Some text)
-lines_start text = record { on = λ ss h. h }
+pub lines_start : (names : Option Table) (text : List ℕ) → LinesRead names text [] (Some text)
+lines_start names text = record { on = λ ss h. h }
 
-pub lines_next : (text left line : List ℕ) (done : List Source) (behind : Option (List ℕ)) (s : Source) → LinesRead text done (Some left) → lines_of left ≡ line ∷ lines_behind behind → IsLine line s → LinesRead text (done ++ s ∷ []) behind
-lines_next text left line done behind s r e l = record {
+pub lines_next : (names : Option Table) (text left line : List ℕ) (done : List Source) (behind : Option (List ℕ)) (s : Source) → LinesRead names text done (Some left) → lines_of left ≡ line ∷ lines_behind behind → IsLineWith names line s → LinesRead names text (done ++ s ∷ []) behind
+lines_next names text left line done behind s r e l = record {
   on = λ ss h.
-      let P : List (List ℕ) → Type 0 = λ ls. AreLines ls (s ∷ ss) in
-      let Q : List Source → Type 0 = λ all. AreLines (lines_of text) all in
+      let P : List (List ℕ) → Type 0 = λ ls. AreLinesWith names ls (s ∷ ss) in
+      let Q : List Source → Type 0 = λ all. AreLinesWith names (lines_of text) all in
       subst Q (sym (append_assoc done (s ∷ []) ss)) (r.on (s ∷ ss) (subst P (sym e) (l, h)));
 }
 
-pub lines_end : (text : List ℕ) (done : List Source) → LinesRead text done None → AreLines (lines_of text) done
-lines_end text done r = let Q : List Source → Type 0 = λ all. AreLines (lines_of text) all in subst Q (append-nil done) (r.on [] tt)
+pub lines_end : (names : Option Table) (text : List ℕ) (done : List Source) → LinesRead names text done None → AreLinesWith names (lines_of text) done
+lines_end names text done r = let Q : List Source → Type 0 = λ all. AreLinesWith names (lines_of text) all in subst Q (append-nil done) (r.on [] tt)
 
 -- ---- labels
 
@@ -134,9 +135,9 @@ any_refused-append [] s = or_none (is_refused s.body)
 any_refused-append (t ∷ ss) s = ap (λ b. is_refused t.body || b) (any_refused-append ss s) ∙ sym (kept_behind (is_refused t.body) (any_refused ss) (is_refused s.body))
 
 -- what is known of a text after some of its lines
-pub record Gathered (text : List ℕ) (rest : Option (List ℕ)) (labels : List ℕ → Option Place) (line pc : ℕ) (refused : Bool) (kept : List KeptLine) : Type 0 where
+pub record Gathered (names : Option Table) (text : List ℕ) (rest : Option (List ℕ)) (labels : List ℕ → Option Place) (line pc : ℕ) (refused : Bool) (kept : List KeptLine) : Type 0 where
   pub sources : List Source
-  pub lines : LinesRead text sources rest
+  pub lines : LinesRead names text sources rest
   pub places : (q : List ℕ) → labels q ≡ first_place sources 0 0 q
   pub words : pc ≡ words_before sources
   pub count : line ≡ length sources
@@ -144,10 +145,10 @@ pub record Gathered (text : List ℕ) (rest : Option (List ℕ)) (labels : List 
   pub refusal : refused ≡ any_refused sources
   pub bound : line + rest_size rest ≤ length text + 1
 
-pub gathered_start : (text : List ℕ) (labels : List ℕ → Option Place) (kept : List KeptLine) → ((q : List ℕ) → labels q ≡ None) → kept ≡ [] → Gathered text (Some text) labels 0 0 false kept
-gathered_start text labels kept h e = record {
+pub gathered_start : (names : Option Table) (text : List ℕ) (labels : List ℕ → Option Place) (kept : List KeptLine) → ((q : List ℕ) → labels q ≡ None) → kept ≡ [] → Gathered names text (Some text) labels 0 0 false kept
+gathered_start names text labels kept h e = record {
   sources = [];
-  lines = lines_start text;
+  lines = lines_start names text;
   places = h;
   words = refl;
   count = refl;
@@ -156,12 +157,12 @@ gathered_start text labels kept h e = record {
   bound = omega arith;
 }
 
-pub gathered_next : (text left first : List ℕ) (behind : Option (List ℕ)) (f g : List ℕ → Option Place) (line pc size : ℕ) (refused after : Bool) (kept new : List KeptLine) (s : Source) → Gathered text (Some left) f line pc refused kept → lines_of left ≡ first ∷ lines_behind behind
-    → rest_size behind ≤ length left → IsLine first s → ((q : List ℕ) → g q ≡ or_else (f q) (cond (is_named q s.label) (Some (record { line = line; pc = pc })) None)) → size ≡ words_of s.body → new ≡ kept ++ kept_of refused line (s ∷ []) → after ≡ (refused || is_refused s.body)
-    → Gathered text behind g (line + 1) (pc + size) after new
-gathered_next text left first behind f g line pc size refused after kept new s r cut shorter l k e n c = record {
+pub gathered_next : (names : Option Table) (text left first : List ℕ) (behind : Option (List ℕ)) (f g : List ℕ → Option Place) (line pc size : ℕ) (refused after : Bool) (kept new : List KeptLine) (s : Source) → Gathered names text (Some left) f line pc refused kept → lines_of left ≡ first ∷ lines_behind behind
+    → rest_size behind ≤ length left → IsLineWith names first s → ((q : List ℕ) → g q ≡ or_else (f q) (cond (is_named q s.label) (Some (record { line = line; pc = pc })) None)) → size ≡ words_of s.body → new ≡ kept ++ kept_of refused line (s ∷ []) → after ≡ (refused || is_refused s.body)
+    → Gathered names text behind g (line + 1) (pc + size) after new
+gathered_next names text left first behind f g line pc size refused after kept new s r cut shorter l k e n c = record {
   sources = r.sources ++ s ∷ [];
-  lines = lines_next text left first r.sources behind s r.lines cut l;
+  lines = lines_next names text left first r.sources behind s r.lines cut l;
   places = labels_next f g r.sources (r.sources ++ s ∷ []) s line pc r.places r.count r.words refl k;
   words = words_next r.sources s pc size r.words e;
   count = omega (arith, r.count, length-append r.sources (s ∷ []));
@@ -173,10 +174,10 @@ gathered_next text left first behind f g line pc size refused after kept new s r
   bound = omega (arith, r.bound);
 }
 
-pub gathered_end : (text : List ℕ) (labels : List ℕ → Option Place) (line pc : ℕ) (refused : Bool) (kept : List KeptLine) → Gathered text None labels line pc refused kept → Gathers text labels kept
-gathered_end text labels line pc refused kept r = record {
+pub gathered_end : (names : Option Table) (text : List ℕ) (labels : List ℕ → Option Place) (line pc : ℕ) (refused : Bool) (kept : List KeptLine) → Gathered names text None labels line pc refused kept → Gathers names text labels kept
+gathered_end names text labels line pc refused kept r = record {
   sources = r.sources;
-  lines = lines_end text r.sources r.lines;
+  lines = lines_end names text r.sources r.lines;
   places = r.places;
   kept_lines = r.kept_lines;
 }
@@ -201,8 +202,8 @@ below_each n [] h i d lt = absurd (omega arith)
 below_each n (k ∷ ks) h zero d lt = h.0
 below_each n (k ∷ ks) h (suc i) d lt = below_each n ks h.1 i d (omega arith)
 
-pub short_lines : (text : List ℕ) (rest : Option (List ℕ)) (labels : List ℕ → Option Place) (line pc n : ℕ) (refused : Bool) (ks : List Kept) → Gathered text rest labels line pc refused (map kept_view ks) → line ≤ n → All (λ k. k.line < n) ks
-short_lines text rest labels line pc n refused ks r h =
+pub short_lines : (names : Option Table) (text : List ℕ) (rest : Option (List ℕ)) (labels : List ℕ → Option Place) (line pc n : ℕ) (refused : Bool) (ks : List Kept) → Gathered names text rest labels line pc refused (map kept_view ks) → line ≤ n → All (λ k. k.line < n) ks
+short_lines names text rest labels line pc n refused ks r h =
     let P : List KeptLine → Type 0 = λ xs. Below n xs in
     below_each n ks (subst P (sym r.kept_lines) (below_kept false 0 r.sources n (omega (arith, r.count, h))))
 
@@ -271,6 +272,7 @@ refused_means labels line pc s r q h = by_body s.body h
     by_body (Ok o) h = cc
     by_body (Err BadLine) h = refl
     by_body (Err BadNumber) h = refl
+    by_body (Err UnknownName) h = refl
 
 only_nothing : (n r : Bool) → (n || (false && r)) ≡ n
 only_nothing true r = refl

@@ -10,7 +10,7 @@ use Rattle.bpf_text.specs.declared.error.TextError.{TextError}
 use Rattle.bpf_text.specs.declared.error.TextError.TheVariants as refusal
 use Rattle.bpf_text.specs.declared.labels.Place.{Place}
 use Rattle.bpf_text.specs.declared.reading.LineError.{LineError}
-use Rattle.bpf_text.specs.declared.reading.LineError.TheVariants.{BadLine, BadNumber}
+use Rattle.bpf_text.specs.declared.reading.LineError.TheVariants.{BadLine, BadNumber, UnknownName}
 use Rattle.bpf_spelling.specs.declared.signs.Sign.TheVariants.{Colon}
 use Rattle.bpf_lines.specs.Lines.{lines_of}
 use Rattle.bpf_spelling.specs.Token.{Tok, Mark}
@@ -18,6 +18,7 @@ use Rattle.bpf_spelling.specs.Helpers.{helper_named, helper_number}
 use Rattle.bpf_spelling.specs.declared.helpers.Helper.{Helper}
 use Rattle.bpf_text.specs.Tokens.{IsTokens}
 use Rattle.bpf_text.specs.Line.{Written, IsSpelled, name_of}
+use Rattle.bpf_text.specs.Symbols.{Table, Load, load_of, loaded}
 
 -- ---- lines
 
@@ -47,18 +48,32 @@ IsBody (Ok None) ts = ts ≡ []
 IsBody (Ok (Some i)) ts = IsSpelled i ts × Fits i.insn
 IsBody (Err BadNumber) ts = (i : Written) × IsSpelled i ts × (Fits i.insn → ⊥)
 IsBody (Err BadLine) ts = (ts ≢ []) × ((i : Written) → IsSpelled i ts → ⊥)
+IsBody (Err UnknownName) ts = ⊥
 
-pub record IsLine (line : List ℕ) (s : Source) : Type 0 where
+-- what is loaded by a name, or else any other line
+abbrev pub IsBodyOr : Table → Option Load → Result (Option Written) LineError → List Tok → Type 0
+IsBodyOr table (Some load) body ts = body ≡ loaded table load
+IsBodyOr table None body ts = IsBody body ts
+
+-- with a table of names, or with none
+abbrev pub IsBodyWith : Option Table → Result (Option Written) LineError → List Tok → Type 0
+IsBodyWith None body ts = IsBody body ts
+IsBodyWith (Some table) body ts = IsBodyOr table (load_of ts) body ts
+
+pub record IsLineWith (names : Option Table) (line : List ℕ) (s : Source) : Type 0 where
   pub tokens : List Tok
   pub cut_up : IsTokens line tokens
   pub labelled : s.label ≡ label_of tokens
-  pub body : IsBody s.body (unlabelled tokens)
+  pub body : IsBodyWith names s.body (unlabelled tokens)
 
-abbrev pub AreLines : List (List ℕ) → List Source → Type 0
-AreLines [] [] = Unit {0}
-AreLines (l ∷ ls) (s ∷ ss) = IsLine l s × AreLines ls ss
-AreLines [] (s ∷ ss) = ⊥
-AreLines (l ∷ ls) [] = ⊥
+abbrev pub IsLine : List ℕ → Source → Type 0
+IsLine line s = IsLineWith None line s
+
+abbrev pub AreLinesWith : Option Table → List (List ℕ) → List Source → Type 0
+AreLinesWith names [] [] = Unit {0}
+AreLinesWith names (l ∷ ls) (s ∷ ss) = IsLineWith names l s × AreLinesWith names ls ss
+AreLinesWith names [] (s ∷ ss) = ⊥
+AreLinesWith names (l ∷ ls) [] = ⊥
 
 -- ---- labels
 
@@ -151,6 +166,7 @@ abbrev pub body_meaning : (List ℕ → Option Place) → Bool → ℕ → ℕ
     → Result (Option Written) LineError → Result (Option Insn) TextError
 body_meaning labels twice line pc (Err BadLine) = Err (refusal.BadLine (line + 1))
 body_meaning labels twice line pc (Err BadNumber) = Err (refusal.BadNumber (line + 1))
+body_meaning labels twice line pc (Err UnknownName) = Err (refusal.UnknownLabel (line + 1))
 body_meaning labels twice line pc (Ok None) = unless_twice twice line (Ok None)
 body_meaning labels twice line pc (Ok (Some i)) = named_meaning labels twice line pc i.insn i.name
 
@@ -173,8 +189,12 @@ program_of labels line pc (s ∷ ss) =
     then_meaning (meaning_of labels line pc s) (program_of labels (line + 1)
     (pc + words_of s.body) ss)
 
--- THE RELATION between a text and its instructions, or its refusal
-pub record Assembles (text : List ℕ) (outcome : Result (List Insn) TextError) : Type 0 where
+-- THE RELATION between a text and its instructions, or its refusal, with a table of names or none
+pub record AssemblesWith (names : Option Table) (text : List ℕ) (outcome : Result (List Insn) TextError) : Type 0 where
   pub sources : List Source
-  pub lines : AreLines (lines_of text) sources
+  pub lines : AreLinesWith names (lines_of text) sources
   pub meant : outcome ≡ program_of (first_place sources 0 0) 0 0 sources
+
+-- with none
+abbrev pub Assembles : List ℕ → Result (List Insn) TextError → Type 0
+Assembles text outcome = AssemblesWith None text outcome

@@ -6,6 +6,7 @@ pub use Rattle.bpf_spelling.specs.Form
 pub mod Words
 pub mod Tokens
 pub mod Line
+pub mod Symbols
 pub mod Assembly
 pub mod Misfit
 pub mod Laws

@@ -7,3 +7,4 @@ pub mod Labels
 pub mod Sources
 pub mod Cutting
 pub mod Forms
+pub mod Loads

@@ -3,7 +3,8 @@
 ghost use Rattle.std.specs.Prelude.{◌≡◌, ◌||◌, ◌++◌, ◌∷◌, [], ◌<◌, ◌≤◌, ◌^◌, ◌⊎◌, All, List, Ok, Err, Result, map, IfOk, IfErr, OnOk, IsOkUnless, MatchResult, option_to_list};
 ghost use Rattle.bpf_insn.specs.declared.instruction.Insn.{Insn};
 ghost use Rattle.bpf_text.specs.declared.error.TextError.{TextError};
-ghost use Rattle.bpf_text.specs.Assembly.{words_of, Assembles};
+ghost use Rattle.bpf_text.specs.Assembly.{words_of, Assembles, AssemblesWith};
+ghost use Rattle.bpf_text.specs.Symbols.{names_in};
 ghost use Rattle.bpf_text.specs.Private.Labels.{found};
 ghost use Rattle.bpf_text.specs.Private.Sources.{source_of, body_of, kept_view, nothing_said, is_refused, kept_of, kept_program, Gathers};
 
@@ -11,6 +12,7 @@ use crate::error::TextError;
 use crate::labels::{self, Labels, Place};
 use crate::meaning;
 use crate::source::{self, Body, SourceLine};
+use crate::symbols::Symbols;
 use bpf_insn::Insn;
 use bpf_lines::lines;
 use std::alloc::Global;
@@ -78,8 +80,13 @@ fn keep<'a>(
 
 /// A text's lines that are kept, and the first line with each label.
 /// Fails by `OutOfMemory` alone.
-fn gather<'a>(alloc: Global, text: &'a [u8]) -> Result<(Vec<Kept<'a>>, Labels<'a>), TextError>
-    ensures gathered { IfOk result (λ r. Gathers text.now (found r.1) (map kept_view r.0.items)) }
+fn gather<'a>(
+    alloc: Global,
+    symbols: Option<&Symbols<'_>>,
+    text: &'a [u8],
+) -> Result<(Vec<Kept<'a>>, Labels<'a>), TextError>
+    ensures gathered { IfOk result (λ r.
+        Gathers (names_in symbols.entry) text.now (found r.1) (map kept_view r.0.items)) }
     ensures short { IfOk result (λ r. All (λ k. k.line < 2 ^ 63) r.0.items) }
     ensures memory { IsOkUnless result TextError.OutOfMemory }
 {
@@ -91,7 +98,7 @@ fn gather<'a>(alloc: Global, text: &'a [u8]) -> Result<(Vec<Kept<'a>>, Labels<'a
     let mut rest = Some(text);
     'text: while let Some(left) = rest {
         let (first, behind) = lines::first_line(left);
-        let source = source::source_line(alloc, first)?;
+        let source = source::source_line(alloc, symbols, first)?;
         labels::note_line(&mut labels, source.label, Place { line, pc })?;
         let size = words_of(&source.body);
         keep(&mut kept, line, refused, source)?;
@@ -133,20 +140,29 @@ fn program(alloc: Global, lines: &[Kept<'_>], labels: &Labels<'_>) -> Result<Vec
 }
 
 /// The instructions that an assembly text of these bytes stands for, or its lowest line that is
-/// refused, for the lowest of its reasons.
+/// refused, for the lowest of its reasons. With a table of names a line may load the number of a
+/// map or an address by its name.
 /// Lines count from 1. `OutOfMemory` may take the place of either.
-pub fn assemble_bytes(alloc: Global, text: &[u8]) -> Result<Vec<Insn>, TextError>
-    ensures assembled { IfOk result (λ program. Assembles text.now (Ok program.items)) }
-    ensures refused { IfErr result (λ e. (e ≡ TextError.OutOfMemory) ⊎ Assembles text.now (Err e)) }
-    ensures only { (outcome : Result (List Insn) TextError) → Assembles text.now outcome
+pub fn assemble_with(
+    alloc: Global,
+    symbols: Option<&Symbols<'_>>,
+    text: &[u8],
+) -> Result<Vec<Insn>, TextError>
+    ensures assembled { IfOk result (λ program.
+        AssemblesWith (names_in symbols.entry) text.now (Ok program.items)) }
+    ensures refused { IfErr result (λ e. (e ≡ TextError.OutOfMemory)
+        ⊎ AssemblesWith (names_in symbols.entry) text.now (Err e)) }
+    ensures only { (outcome : Result (List Insn) TextError)
+        → AssemblesWith (names_in symbols.entry) text.now outcome
         → MatchResult result (λ program. outcome ≡ Ok program.items)
         (λ e. (e ≡ TextError.OutOfMemory) ⊎ (outcome ≡ Err e)) }
 {
-    let (lines, labels) = gather(alloc, text)?;
+    let (lines, labels) = gather(alloc, symbols, text)?;
     program(alloc, &lines, &labels)
 }
 
-/// The instructions that an assembly text stands for, or its lowest line that is refused, as above.
+/// The instructions that an assembly text with no table of names stands for, or its refusal, as
+/// above.
 pub fn assemble(alloc: Global, text: &str) -> Result<Vec<Insn>, TextError>
     ensures assembled { IfOk result (λ program. Assembles text.now (Ok program.items)) }
     ensures refused { IfErr result (λ e. (e ≡ TextError.OutOfMemory) ⊎ Assembles text.now (Err e)) }
@@ -154,5 +170,5 @@ pub fn assemble(alloc: Global, text: &str) -> Result<Vec<Insn>, TextError>
         → MatchResult result (λ program. outcome ≡ Ok program.items)
         (λ e. (e ≡ TextError.OutOfMemory) ⊎ (outcome ≡ Err e)) }
 {
-    assemble_bytes(alloc, text.as_bytes())
+    assemble_with(alloc, None, text.as_bytes())
 }

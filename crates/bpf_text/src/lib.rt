@@ -14,13 +14,15 @@ mod reading;
 mod registers;
 pub mod sizes;
 mod source;
+pub mod symbols;
 mod targets;
 mod token;
 mod words;
 
-pub use assembly::{assemble, assemble_bytes};
+pub use assembly::{assemble, assemble_with};
 pub use error::TextError;
 pub use misfit::{Misfit, misfit_in};
 pub use places::token_places;
 pub use reading::LineError;
 pub use sizes::line_size;
+pub use symbols::{Symbol, Symbols, name_symbol};

@@ -89,6 +89,7 @@ pub fn meaning(
     match &source.body {
         Body::Refused(LineError::BadLine) => Err(TextError::BadLine(line + 1)),
         Body::Refused(LineError::BadNumber) => Err(TextError::BadNumber(line + 1)),
+        Body::Refused(LineError::UnknownName) => Err(TextError::UnknownLabel(line + 1)),
         Body::Empty => unless_twice(twice, line, None),
         Body::Code(insn) => unless_twice(twice, line, Some(*insn)),
         Body::Named(insn, name) => match labels::place_of(labels, name) {

@@ -9,8 +9,10 @@ mod address;
 pub(crate) mod arithmetic;
 mod assignment;
 mod atomic;
+pub(crate) mod begun;
 mod jump;
 mod memory;
+pub(crate) mod named;
 mod operand;
 mod operator;
 mod target;
@@ -26,6 +28,8 @@ pub enum LineError {
     BadLine,
     /// It has one of them, with a number out of its range.
     BadNumber,
+    /// It loads something by a name that nothing has.
+    UnknownName,
 }
 
 /// An instruction, and the label that its target names, if it does; its own offset is then 0.

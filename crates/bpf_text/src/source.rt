@@ -2,13 +2,17 @@
 
 ghost use Rattle.std.specs.Prelude.{◌≡◌, map, Ok, Some, IfOk, IsOkUnless};
 ghost use Rattle.std.specs.Option.{option_copied};
+ghost use Rattle.bpf_text.specs.Symbols.{names_in, table_of, load_of, loaded};
 ghost use Rattle.bpf_text.specs.Private.Judging.{drafted};
+ghost use Rattle.bpf_text.specs.Private.Loads.{load_view};
 ghost use Rattle.bpf_text.specs.Private.Look.{look};
-ghost use Rattle.bpf_text.specs.Assembly.{label_of, unlabelled, IsBody, IsLine};
+ghost use Rattle.bpf_text.specs.Assembly.{label_of, unlabelled, IsBody, IsBodyWith, IsBodyOr, IsLineWith};
 ghost use Rattle.bpf_text.specs.Private.Sources.{body_of, source_of};
 
 use crate::error::TextError;
+use crate::reading::named::{self, Load};
 use crate::reading::{self, Draft, LineError};
+use crate::symbols::Symbols;
 use crate::token::{self, Token};
 use crate::words;
 use bpf_insn::Insn;
@@ -57,8 +61,8 @@ fn code<'a>(draft: Draft<'a>) -> Body<'a>
     }
 }
 
-/// What follows a line's label.
-pub(crate) fn behind_label<'a>(tokens: &[Token<'a>]) -> Body<'a>
+/// What follows a line's label, where it loads nothing by a name.
+fn unnamed<'a>(tokens: &[Token<'a>]) -> Body<'a>
     ensures { IsBody (body_of result) (map look tokens.now) }
 {
     match tokens {
@@ -70,13 +74,48 @@ pub(crate) fn behind_label<'a>(tokens: &[Token<'a>]) -> Body<'a>
     }
 }
 
+/// What is loaded by a name.
+fn loaded<'a>(symbols: &Symbols<'_>, load: Load<'_>) -> Body<'a>
+    ensures { body_of result ≡ loaded (table_of symbols.now) (load_view load.entry) }
+{
+    match named::loaded(symbols, load) {
+        Ok(insn) => Body::Code(insn),
+        Err(error) => Body::Refused(error),
+    }
+}
+
+/// What follows a line's label, where there is a table of names.
+fn named<'a>(symbols: &Symbols<'_>, tokens: &[Token<'a>]) -> Body<'a>
+    ensures { let ts = map look tokens.now
+        in IsBodyOr (table_of symbols.now) (load_of ts) (body_of result) ts }
+{
+    match named::load_of(tokens) {
+        Some(load) => loaded(symbols, load),
+        None => unnamed(tokens),
+    }
+}
+
+/// What follows a line's label.
+pub(crate) fn behind_label<'a>(symbols: Option<&Symbols<'_>>, tokens: &[Token<'a>]) -> Body<'a>
+    ensures { IsBodyWith (names_in symbols.entry) (body_of result) (map look tokens.now) }
+{
+    match symbols {
+        Some(symbols) => named(symbols, tokens),
+        None => unnamed(tokens),
+    }
+}
+
 /// Reads one line. Fails by `OutOfMemory` alone.
-pub fn source_line<'a>(alloc: Global, line: &'a [u8]) -> Result<SourceLine<'a>, TextError>
-    ensures read { IfOk result (λ s. IsLine line.now (source_of s)) }
+pub fn source_line<'a>(
+    alloc: Global,
+    symbols: Option<&Symbols<'_>>,
+    line: &'a [u8],
+) -> Result<SourceLine<'a>, TextError>
+    ensures read { IfOk result (λ s. IsLineWith (names_in symbols.entry) line.now (source_of s)) }
     ensures memory { IsOkUnless result TextError.OutOfMemory }
 {
     let tokens = token::tokens_of(alloc, line)?;
     let (label, rest) = labelled(&tokens);
-    let body = behind_label(rest);
+    let body = behind_label(symbols, rest);
     Ok(SourceLine { label, body })
 }

@@ -7,6 +7,7 @@ use Rattle.bpf_cpu.specs.declared.job.Job.{Job}
 use Rattle.bpf_cpu.specs.declared.outcome.Outcome.{Outcome}
 use Rattle.bpf_cpu.specs.Lines.{job_line}
 use Rattle.bpf_cpu.specs.Task.{Task, Ended, ended, waiting}
+use Rattle.bpf_names.specs.Names.{Names}
 use Rattle.bpf_jobs.specs.Printed.{any_stopped, is_stop, AreMapsAsked, job_lines, task_line, TellsWith}
 use Rattle.bpf_workers.specs.Printed.{as_ended}
 
@@ -69,7 +70,7 @@ one_stop_more tasks ends j end so_far stop inside sizes before is =
     ∙ ap (λ (o : Option Task). any_stopped j all || is_stop (option_and_then (λ (task : Task). ended task.stage) o)) (sym found))
 
 -- all that is printed of jobs that have ended so
-pub told : (jobs : List Job) (ends : List Outcome) (last : Plain) (names : List (List ℕ)) (maps : Bool) (text listed keys lines both new : List ℕ) (stopped : Bool)
+pub told : (jobs : List Job) (ends : List Outcome) (last : Plain) (names : Names) (maps : Bool) (text listed keys lines both new : List ℕ) (stopped : Bool)
     → length ends ≡ length jobs → AreMapsAsked maps last names lines → text ≡ job_lines (length jobs) (as_ended (map waiting jobs) ends) → keys ≡ listed
     → both ≡ text ++ keys → new ≡ both ++ lines
     → ((tasks : List Task) → length tasks ≡ length ends → stopped ≡ any_stopped (length ends) (as_ended tasks ends))

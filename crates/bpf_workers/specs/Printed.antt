@@ -33,7 +33,7 @@ pub record Printed : Type 0 where
 -- all its jobs ended and, where lists of keys are asked for, what each CPU has listed after its
 -- jobs. It leads to the last store, which the words have that are left. The text has a line of each
 -- job, in the file's order, then those of these lists, by rising CPU, and then, where they are asked
--- for, the lines of the maps and arrays of the last store; and the numbers are those of these words
+-- for, the lines of the maps, variables and arrays of the last store; and the numbers are those of these words
 pub record IsWorkersReport (f : File) (asked : Asked) (printed : Printed) : Type 0 where
   pub ends : List Outcome
   -- by CPU, and of each by map
@@ -45,6 +45,6 @@ pub record IsWorkersReport (f : File) (asked : Asked) (printed : Printed) : Type
       closed.history
   pub leads : LeadsTo (shape_of f) 0 closed.history last
   pub is_last : IsLast closed last
-  pub tells : TellsWith (list_lines lists f.names f.cpus) last (as_ended f.jobs ends) f.names
+  pub tells : TellsWith (list_lines lists f.names.maps f.cpus) last (as_ended f.jobs ends) f.names
       asked.maps printed.text printed.stopped
-  pub counts : AreStatsAsked asked.stats closed f.names printed.counts
+  pub counts : AreStatsAsked asked.stats closed f.names.maps printed.counts

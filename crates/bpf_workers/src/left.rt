@@ -1,13 +1,16 @@
-//! What is left of a store, and the lines of its maps and arrays.
+//! What is left of a store, and the lines of its maps, variables and arrays.
 
 ghost use Rattle.std.specs.Prelude.{◌≡◌, ◌++◌, IfOk, length, map, string_bytes};
 ghost use Rattle.bpf_shared.specs.Store.{Plain};
-ghost use Rattle.bpf_jobs.specs.Printed.{AreMapsAsked, AreMapLines};
+ghost use Rattle.bpf_names.specs.Names.{names_of};
+ghost use Rattle.bpf_jobs.specs.Printed.{AreMapsAsked, AreMapLines, fixed_lines};
 ghost use Rattle.hop_map.specs.Dumping.{IsLast};
 
 use crate::arrays::list_arrays;
 use crate::names::name_at;
+use crate::variables::list_variables;
 use bpf_jobs::push_map;
+use bpf_names::Names;
 use bpf_shared::StoreShape;
 use hop_map::Closed;
 use std::alloc::{AllocError, Global};
@@ -33,21 +36,33 @@ fn list_maps(alloc: Global, left: Left, names: &[String]) -> Result<String, Allo
     Ok(text)
 }
 
-/// The lines of the maps and then of the arrays, where they are asked for.
+/// The lines of the variables, and then of the arrays.
+fn fixed_lines(alloc: Global, left: Left, names: &Names) -> Result<String, AllocError>
+    ensures { IfOk result (λ text. (last : Plain) → IsLast left.entry.closed.now last
+        → last.shape ≡ left.entry.shape.now
+        → string_bytes text ≡ fixed_lines last (names_of names.now)) }
+{
+    let mut text = list_variables(alloc, left, &names.variables)?;
+    let arrays = list_arrays(alloc, left, names)?;
+    text.push_str(arrays.as_str())?;
+    Ok(text)
+}
+
+/// The lines of the maps, the variables and the arrays, where they are asked for.
 pub(crate) fn asked_lines(
     alloc: Global,
     left: Left,
-    names: &[String],
+    names: &Names,
     maps: bool,
 ) -> Result<String, AllocError>
     ensures { IfOk result (λ text. (last : Plain) → IsLast left.entry.closed.now last
         → last.shape ≡ left.entry.shape.now
-        → AreMapsAsked maps last (map string_bytes names.now) (string_bytes text)) }
+        → AreMapsAsked maps last (names_of names.now) (string_bytes text)) }
 {
     if maps {
-        let mut text = list_maps(alloc, left, names)?;
-        let arrays = list_arrays(alloc, left, names)?;
-        text.push_str(arrays.as_str())?;
+        let mut text = list_maps(alloc, left, &names.maps)?;
+        let fixed = fixed_lines(alloc, left, names)?;
+        text.push_str(fixed.as_str())?;
         Ok(text)
     } else {
         Ok(String::new(alloc))

@@ -8,6 +8,7 @@ mod left;
 mod names;
 mod stats;
 mod telling;
+mod variables;
 mod workers;
 
 pub use telling::Counted;

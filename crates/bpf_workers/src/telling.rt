@@ -1,8 +1,9 @@
-//! The lines of jobs that workers have run, of what their CPUs have listed, and of the maps and
-//! arrays that they leave.
+//! The lines of jobs that workers have run, of what their CPUs have listed, and of the maps,
+//! variables and arrays that they leave.
 
 ghost use Rattle.std.specs.Prelude.{◌≡◌, ◌++◌, IfOk, OnOk, length, List, map, string_bytes};
 ghost use Rattle.bpf_shared.specs.Store.{Plain};
+ghost use Rattle.bpf_names.specs.Names.{names_of};
 ghost use Rattle.bpf_cpu.specs.Task.{Task, waiting};
 ghost use Rattle.bpf_jobs.specs.Printed.{any_stopped, cpu_lines, job_lines, list_lines, TellsWith};
 ghost use Rattle.bpf_sched.specs.Worked.{listed_by};
@@ -14,6 +15,7 @@ use crate::left::{Left, asked_lines};
 use crate::stats::asked_stats;
 use bpf_cpu::{Job, Outcome};
 use bpf_jobs::{Report, is_stop, push_job, push_lists};
+use bpf_names::Names;
 use bpf_shared::KeyList;
 use std::alloc::{AllocError, Global};
 
@@ -91,18 +93,18 @@ fn tell(
     ends: &[Outcome],
     lists: &[Vec<KeyList>],
     left: Left,
-    names: &[String],
+    names: &Names,
     maps: bool,
 ) -> Result<Report, AllocError>
     requires { length ends.now ≡ length jobs.now }
     ensures { IfOk result (λ r. (last : Plain) → IsLast left.entry.closed.now last
         → last.shape ≡ left.entry.shape.now
-        → TellsWith (list_lines (listed_by lists.now) (map string_bytes names.now)
+        → TellsWith (list_lines (listed_by lists.now) (names_of names.now).maps
         left.entry.shape.now.cpus) last (as_ended (map waiting jobs.now) ends.now)
-        (map string_bytes names.now) maps (string_bytes r.text) r.stopped) }
+        (names_of names.now) maps (string_bytes r.text) r.stopped) }
 {
     let mut text = list_jobs(alloc, jobs, ends)?;
-    let keys = list_keys(alloc, lists, left.shape.cpus(), names)?;
+    let keys = list_keys(alloc, lists, left.shape.cpus(), &names.maps)?;
     text.push_str(keys.as_str())?;
     let lines = asked_lines(alloc, left, names, maps)?;
     text.push_str(lines.as_str())?;
@@ -117,20 +119,20 @@ pub(crate) fn tell_counted(
     ends: &[Outcome],
     lists: &[Vec<KeyList>],
     left: Left,
-    names: &[String],
+    names: &Names,
     maps: bool,
     stats: bool,
 ) -> Result<Counted, AllocError>
     requires { length ends.now ≡ length jobs.now }
     ensures told { IfOk result (λ r. (last : Plain) → IsLast left.entry.closed.now last
         → last.shape ≡ left.entry.shape.now
-        → TellsWith (list_lines (listed_by lists.now) (map string_bytes names.now)
+        → TellsWith (list_lines (listed_by lists.now) (names_of names.now).maps
         left.entry.shape.now.cpus) last (as_ended (map waiting jobs.now) ends.now)
-        (map string_bytes names.now) maps (string_bytes r.report.text) r.report.stopped) }
+        (names_of names.now) maps (string_bytes r.report.text) r.report.stopped) }
     ensures stats { IfOk result (λ r. AreStatsAsked stats left.entry.closed.now
-        (map string_bytes names.now) (string_bytes r.stats)) }
+        (names_of names.now).maps (string_bytes r.stats)) }
 {
     let report = tell(alloc, jobs, ends, lists, left, names, maps)?;
-    let stats = asked_stats(alloc, left.closed, names, stats)?;
+    let stats = asked_stats(alloc, left.closed, &names.maps, stats)?;
     Ok(Counted { report, stats })
 }

@@ -10,10 +10,11 @@ use crate::error::DebugError;
 use crate::held::held_lines;
 use crate::help::help_text;
 use crate::lines::{put_jobs, put_mark, put_off, put_registers, put_where};
-use crate::maps::{key_lines_of, map_lines, map_named};
+use crate::maps::{key_lines_of, map_named, table_lines};
 use crate::nearby::nearby_lines;
 use crate::reading::bytes_line;
-use crate::told::shape_lines;
+use crate::told::store_lines;
+use bpf_jobs::list_variables;
 use std::alloc::Global;
 
 impl Session {
@@ -125,10 +126,10 @@ impl Session {
             (λ text. Leaves self.now (Order.Map name.now) (string_bytes text) self.now) }
         ensures refused { IfErr result (λ e. RefusesHere self.now (Order.Map name.now) e) }
     {
-        let Some(map) = map_named(&self.names, name) else {
+        let Some(map) = map_named(&self.names.maps, name) else {
             return Err(DebugError::NoMap);
         };
-        let text = map_lines(alloc, self.machine.store(), map)?;
+        let text = table_lines(alloc, self.machine.store(), &self.names.maps, map)?;
         Ok(text)
     }
 
@@ -137,7 +138,7 @@ impl Session {
             (λ text. Leaves self.now (Order.Keys name.now) (string_bytes text) self.now) }
         ensures refused { IfErr result (λ e. RefusesHere self.now (Order.Keys name.now) e) }
     {
-        let Some(map) = map_named(&self.names, name) else {
+        let Some(map) = map_named(&self.names.maps, name) else {
             return Err(DebugError::NoMap);
         };
         let text = key_lines_of(alloc, self.machine.store(), map)?;
@@ -161,7 +162,16 @@ impl Session {
             (λ text. Leaves self.now Order.Maps (string_bytes text) self.now) }
         ensures refused { IfErr result (λ e. RefusesHere self.now Order.Maps e) }
     {
-        let text = shape_lines(alloc, self.machine.store(), &self.names)?;
+        let text = store_lines(alloc, self.machine.store(), &self.names)?;
+        Ok(text)
+    }
+
+    pub(super) fn variables(&self, alloc: Global) -> Result<String, DebugError>
+        ensures answered { IfOk result
+            (λ text. Leaves self.now Order.Variables (string_bytes text) self.now) }
+        ensures refused { IfErr result (λ e. RefusesHere self.now Order.Variables e) }
+    {
+        let text = list_variables(alloc, self.machine.store(), &self.names.variables)?;
         Ok(text)
     }
 
@@ -207,7 +217,7 @@ impl Session {
         let Some(state) = self.machine.cpu(cpu) else {
             return self.holds_nothing(alloc, cpu);
         };
-        let text = held_lines(alloc, self.machine.store(), state, &self.names)?;
+        let text = held_lines(alloc, self.machine.store(), state, &self.names.maps)?;
         Ok(text)
     }
 

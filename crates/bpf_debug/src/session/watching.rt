@@ -32,10 +32,10 @@ impl Session {
             Err(FromHexError::OutOfMemory) => return Err(DebugError::OutOfMemory),
             Err(_) => return Err(DebugError::BadOperand),
         };
-        let Some(map) = map_named(&self.names, name) else {
+        let Some(map) = map_named(&self.names.maps, name) else {
             return Err(DebugError::NoMap);
         };
-        let text = watch_line(alloc, name_at(&self.names, map), &key)?;
+        let text = watch_line(alloc, name_at(&self.names.maps, map), &key)?;
         self.watch = Some(Watch { map, key });
         Ok(text)
     }

@@ -33,7 +33,7 @@ fn size_of_line(alloc: Global, line: &str) -> Result<usize, TextError>
     if line.is_empty() {
         return Ok(0);
     }
-    line_size(alloc, line.as_bytes())
+    line_size(alloc, None, line.as_bytes())
 }
 
 /// Appends a line to the text, and the place of its instruction, if it has one: its words are

@@ -23,11 +23,11 @@ pub const L2: Page = Page {
         printed: "refused line 3 L2",
     }),
     advice: "\
-The order is: `ebpf-run 1`, `cpus`, `seed`, maps, arrays, their `data`,
-programs, jobs; each but the first may be missing. Names have at most 32
-characters, contexts at most 4,096 bytes; there are at most 256 programs and
-4,096 jobs. A map may end with `grow` only where the first line is `ebpf-run 2`
-or `ebpf-run 3`, and only after `ebpf-run 3` are there arrays.
+The order is: `ebpf-run 1`, `cpus`, `seed`, maps, arrays, their bytes and
+variables, programs, jobs; each but the first may be missing. Names have at most 32
+characters, contexts at most 4,096 bytes; there are at most 256 variables, 256
+programs and 4,096 jobs. A map may end with `grow` only where the first line is
+`ebpf-run 2` or `ebpf-run 3`; lines `array`, `data` and `var` are of `ebpf-run 3`.
 docs/reference/run-files.md has every form.",
 };
 
@@ -39,25 +39,27 @@ pub const L3: Page = Page {
         printed: "refused line 2 L3",
     }),
     advice: "\
-A seed has 64 bits; a map's sizes and mask and the number of CPUs 32; a budget
-is at most 1,000,000,000.",
+A seed has 64 bits; sizes and masks of maps, sizes of arrays, offsets and the number
+of CPUs 32; a budget is at most 1,000,000,000. A variable has 1, 2, 4 or 8 bytes, and
+begins at a multiple of them.",
 };
 
 pub const L4: Page = Page {
     code: Code::L4,
-    meaning: "a map, an array or a program of this name was given before",
+    meaning: "a map, an array, a variable or a program of this name was given before",
     example: Some(Example {
         command: "printf 'ebpf-run 1\\nprog a hex 9500000000000000\\nprog a hex \
             9500000000000000\\n' | ebpf run",
         printed: "refused line 3 L4",
     }),
     advice: "\
-A program may have the name of a map or an array.",
+A program may have the name of a map, an array or a variable; no two of these
+have one name.",
 };
 
 pub const L5: Page = Page {
     code: Code::L5,
-    meaning: "the job's CPU or its program, or the array that gets data, isn't there",
+    meaning: "the job's CPU, its program, or the array of a `data` or `var` line isn't there",
     example: Some(Example {
         command: "printf 'ebpf-run 1\\nprog a hex 9500000000000000\\njob 1 a\\n' | ebpf run",
         printed: "refused line 3 L5",
@@ -133,8 +135,8 @@ pub const L11: Page = Page {
 It begins with `always`, `sometimes` or `never`, or a word one edit away, and three
 words or more; but after that comes no line that `run --maps` prints of this file: a
 job with its CPU, or a map with a key and a value of its sizes in lower case hex, and
-numbers without a 0 before them; nor `fault`, `r0 of job J < N`, `map NAME[K]+AT of
-u64 = N`, or several of these joined by `and`, or by `or`. `always ends` and
+numbers without a 0 before them; nor `fault`, `r0 of job J < N`, `var NAME = N`,
+`map NAME[K]+AT of u64 = N`, or several of these joined by `and`, or by `or`. `always ends` and
 `sometimes hung` take `--patient`, and lines `keys` take `run --check --keys`.
 `check --lenient` passes such comments over.",
 };
@@ -251,9 +253,10 @@ Two arrays of one value can be one whose value has the bytes of both.",
 
 pub const S12: Page = Page {
     code: Code::S12,
-    meaning: "an array's first contents fit its values",
+    meaning: "an array's first contents fit its values, and a variable the first of them",
     example: None,
     advice: "\
-Offsets are counted from the first value on. A value begins every `value`
+A variable's bytes are all in the first value of an array that isn't `percpu`. Of
+`data` offsets are counted from the first value on. A value begins every `value`
 bytes, rounded up to a multiple of 8.",
 };

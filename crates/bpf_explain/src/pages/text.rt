@@ -39,7 +39,8 @@ pub const A3: Page = Page {
     }),
     advice: "\
 A label comes before a colon, on a line of its own or before an instruction:
-`done: exit`.",
+`done: exit`. In a run file of version 3 a load may have a name, too: that of a
+map or an array in `r1 = map NAME`, of an array or a variable in `r1 = &NAME`.",
 };
 
 pub const A4: Page = Page {

@@ -3,6 +3,7 @@ use Rattle.std.specs.Prelude.{◌≡◌, ℕ, ◌<◌, ◌≤◌, Bool, List, So
 use Rattle.std.specs.declared.cmp.Ordering.TheVariants.{Less}
 use Rattle.std.specs.Ordering.{nat_cmp}
 use Rattle.std.specs.Cmp.Lexicographic.{slice_cmp}
+use Rattle.bpf_names.specs.Names.{Names}
 use Rattle.bpf_machine.specs.Schedule.{World}
 use Rattle.bpf_machine.specs.Rounds.{HaveEnded}
 use Rattle.bpf_machine.specs.Laws.{IsFresh}
@@ -24,7 +25,7 @@ AreSorted answers = (i j : ℕ) (found later : Found) → i < j → slice_get an
     → slice_get answers j ≡ Some later → slice_cmp nat_cmp found.text later.text ≡ Less
 
 -- each is an outcome by its own schedule
-abbrev pub AllEnd : World → List (List ℕ) → Bool → List Found → Type 0
+abbrev pub AllEnd : World → Names → Bool → List Found → Type 0
 AllEnd w names maps answers = (i : ℕ) (found : Found) → slice_get answers i ≡ Some found
     → EndsBy w names maps found
 
@@ -42,12 +43,12 @@ pub record IsPlaceOf (answers : List Found) (text : List ℕ) (i : ℕ) : Type 0
       → slice_cmp nat_cmp text found.text ≡ Less
 
 -- what is printed of the i-th kept machine, if it has no work, is one of them
-abbrev pub IsAnsweredAt : List MachineState → List (List ℕ) → Bool → List Found → ℕ → Type 0
+abbrev pub IsAnsweredAt : List MachineState → Names → Bool → List Found → ℕ → Type 0
 IsAnsweredAt kept names maps answers i = (m : MachineState) → slice_get kept i ≡ Some m
     → HaveEnded m.jobs → IsAnswered names maps answers m
 
 -- what is printed of the kept machines below a number
-pub record Gathered (kept : List MachineState) (names : List (List ℕ)) (maps : Bool) (place : ℕ)
+pub record Gathered (kept : List MachineState) (names : Names) (maps : Bool) (place : ℕ)
     (answers : List Found) : Type 0 where
   pub sorted : AreSorted answers
   pub ends : (w : World) → IsFirst kept w → AllEnd w names maps answers

@@ -1,5 +1,5 @@
 -- What the reader has gathered so far, and what its functions answer. Private functions cite this.
-use Rattle.std.specs.Prelude.{◌≡◌, ℕ, List, [], map, Result, Ok, Err, Option, string_bytes}
+use Rattle.std.specs.Prelude.{◌≡◌, ℕ, List, [], map, Result, Ok, Err, Option}
 use Rattle.std.specs.Option.{option_copied}
 use Rattle.bpf_lines.specs.Lines.{lines_behind}
 use Rattle.bpf_cpu.specs.Task.{waiting}
@@ -12,7 +12,9 @@ use Rattle.bpf_file.specs.declared.error.Reason.TheVariants.{NotHex}
 use Rattle.hex.specs.declared.error.FromHexError.{FromHexError}
 use Rattle.bpf_loader.specs.Loaded.{Loaded}
 use Rattle.bpf_shared.specs.Contents.{bytes_of_all}
+use Rattle.bpf_names.specs.Names.{names_of}
 use Rattle.bpf_file.specs.Programs.{OfAssembly}
+use Rattle.bpf_file.specs.Symbols.{names_for}
 use Rattle.bpf_file.specs.declared.statement.Statement.{Statement}
 use Rattle.bpf_file.specs.File.{File, file_of, named_by}
 use Rattle.bpf_file.specs.declared.file.RunFile.{RunFile}
@@ -31,7 +33,7 @@ part_of d = record {
   file = record {
     cpus = d.cpus;
     seed = d.seed;
-    names = map string_bytes d.names.items;
+    names = names_of d.names;
     maps = d.maps.items;
     arrays = d.arrays.items;
     contents = bytes_of_all d.contents.items;
@@ -71,7 +73,7 @@ HasContext items n c (Err (Refused m why)) =
 -- the end of a program's assembly
 abbrev pub Ends : ℕ → Part → List ℕ → List ℕ → Result State FileError → Type 0
 Ends from p name text r =
-    (o : Result Loaded FileError) × OfAssembly from (named_by p.file) text o
+    (o : Result Loaded FileError) × OfAssembly from (named_by p.file) (names_for p) text o
     × (r ≡ program_added p name o)
 
 -- what lines are read as follows of what those after are, from there on

@@ -6,7 +6,7 @@ use Rattle.bpf_insn.specs.Encoding.{Fits}
 use Rattle.bpf_insn.specs.declared.instruction.Operand.{Operand}
 use Rattle.bpf_insn.specs.declared.instruction.Operand.TheVariants as operand
 use Rattle.bpf_text.specs.declared.reading.LineError.{LineError}
-use Rattle.bpf_text.specs.declared.reading.LineError.TheVariants.{BadLine, BadNumber}
+use Rattle.bpf_text.specs.declared.reading.LineError.TheVariants.{BadLine, BadNumber, UnknownName}
 use Rattle.bpf_text.specs.declared.reading.Draft.{Draft as DraftValue}
 use Rattle.bpf_text.specs.declared.numbers.Literal.{Literal}
 use Rattle.bpf_text.specs.declared.reading.operand.RawOperand.{RawOperand}
@@ -50,3 +50,4 @@ abbrev pub Judged : Result DraftValue LineError → Option Written → Type 0
 Judged (Ok d) read = (read ≡ Some (drafted d)) × Fits d.insn
 Judged (Err BadLine) read = read ≡ None
 Judged (Err BadNumber) read = IsSomeAnd read (λ i. Fits i.insn → ⊥)
+Judged (Err UnknownName) read = ⊥

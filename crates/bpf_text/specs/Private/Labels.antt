@@ -1,5 +1,6 @@
 -- Looking labels up. Private functions cite this.
-use Rattle.std.specs.Prelude.{ℕ, List, Option, Some, None}
+use Rattle.std.specs.Prelude.{ℕ, List, Option}
+use Rattle.std.specs.Option.{option_or}
 use Rattle.std.specs.Str.{bytes_eq}
 use Rattle.std.specs.HashMap.{HashMap, get_by}
 use Rattle.std.specs.declared.hash.FoldHasher.{FoldHasher}
@@ -14,5 +15,4 @@ found m name = get_by (λ k. bytes_eq name k.now) m
 
 -- the first of two answers
 abbrev pub or_else : {A : Type 0} → Option A → Option A → Option A
-or_else (Some x) o = Some x
-or_else None o = o
+or_else o p = option_or o p

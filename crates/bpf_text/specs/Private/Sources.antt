@@ -11,7 +11,8 @@ use Rattle.bpf_insn.specs.declared.instruction.Insn.{Insn}
 use Rattle.bpf_text.specs.declared.assembly.Kept.{Kept}
 use Rattle.bpf_text.specs.declared.error.TextError.{TextError}
 use Rattle.bpf_text.specs.declared.labels.Place.{Place}
-use Rattle.bpf_text.specs.Assembly.{Source, AreLines, words_of, first_place, meaning_of, then_meaning}
+use Rattle.bpf_text.specs.Symbols.{Table}
+use Rattle.bpf_text.specs.Assembly.{Source, AreLinesWith, words_of, first_place, meaning_of, then_meaning}
 use Rattle.bpf_lines.specs.Lines.{lines_of}
 
 abbrev pub body_of : Body → Result (Option Written) LineError
@@ -75,9 +76,9 @@ kept_program labels pc (k ∷ ks) =
     (kept_program labels (pc + words_of k.source.body) ks)
 
 -- a text's lines that are kept, and the place of each label
-pub record Gathers (text : List ℕ) (labels : List ℕ
+pub record Gathers (names : Option Table) (text : List ℕ) (labels : List ℕ
     → Option Place) (kept : List KeptLine) : Type 0 where
   pub sources : List Source
-  pub lines : AreLines (lines_of text) sources
+  pub lines : AreLinesWith names (lines_of text) sources
   pub places : (name : List ℕ) → labels name ≡ first_place sources 0 0 name
   pub kept_lines : kept ≡ kept_of false 0 sources

@@ -1,6 +1,7 @@
 use Rattle.std.proofs.Common.{map}
 use Rattle.std.specs.Prelude.{string_bytes}
 use Rattle.std.proofs.lemmas.Result.{IfOk-weaker}
+use Rattle.bpf_names.specs.Names.{names_of}
 use Rattle.bpf_machine.specs.Machine.{Shows}
 use Rattle.bpf_machine.specs.Schedule.{World}
 use Rattle.bpf_jobs.specs.declared.rounds.Report.{Report}
@@ -14,7 +15,7 @@ history_of-requires-clause-shows c = (asked_of c.args.keys c.args.setup, c.in_ok
 pub returns : goal.returns
 returns c =
     let w = asked_of c.args.keys c.args.setup in
-    let names = map string_bytes c.args.names.now in
+    let names = names_of c.args.names.now in
     let runs = c.args.schedule.now in
     let maps = c.args.maps in
     let m = c.in_ok-machine.machine in

@@ -1,5 +1,6 @@
 use Rattle.std.proofs.Common.{◌≡◌, ◌∙◌, List, ap, length, map, string_bytes}
 use Rattle.bpf_shared.specs.Shape.{Shape}
+use Rattle.bpf_names.specs.Names.{names_of}
 use Rattle.bpf_plain.specs.PlainStore.{Contents, shape_of}
 use Rattle.bpf_loader.specs.declared.named.Named.{Named}
 use Rattle.bpf_cpu.specs.Setup.{named_in}
@@ -9,7 +10,7 @@ use Rattle.bpf_expand.proofs.filter.race_lines.Goals as goal
 
 pub returns : goal.returns
 returns c =
-    let names = map string_bytes c.args.names.now in
+    let names = names_of c.args.names.now in
     let races : List RaceFound = c.in_ok-races.races.items in
     let named : Named = c.named_of-named.result in
     let shape = c.store_shape.ensures ∙ ap (λ (p : Contents). shape_of p) c.store.ensures in

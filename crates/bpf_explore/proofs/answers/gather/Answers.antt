@@ -1,4 +1,5 @@
 use Rattle.std.proofs.Common.{◌∙◌, ◌<◌, ◌+◌, List, length, map, string_bytes, refl, sym, subst, arith}
+use Rattle.bpf_names.specs.Names.{names_of}
 use Rattle.bpf_machine.specs.Schedule.{World}
 use Rattle.bpf_machine.specs.Machine.{MachineState}
 use Rattle.bpf_explore.specs.Outcomes.{Found}
@@ -8,13 +9,13 @@ use Rattle.bpf_explore.proofs.answers.gather.Goals as goal
 
 pub loop-place-init : goal.loop-place-init
 loop-place-init c =
-    let names = map string_bytes c.args.names.now in
+    let names = names_of c.args.names.now in
     let kept = c.args.explorer.now.kept in
     (refl, subst (λ (answers : List Found). Gathered kept names c.args.maps 0 answers) (sym c.new-answers.ensures.items) (none_gathered kept names c.args.maps))
 
 pub tell_at-requires : goal.tell_at-requires
 tell_at-requires c =
-    let names = map string_bytes c.args.names.now in
+    let names = names_of c.args.names.now in
     let same = c.loop-place.invariant.0 in
     record {
       place = subst (λ (kept : List MachineState). c.loop-place.place < length kept) (sym same) (omega arith);
@@ -24,7 +25,7 @@ tell_at-requires c =
 
 pub loop-place-preserved : goal.loop-place-preserved
 loop-place-preserved c =
-    let names = map string_bytes c.args.names.now in
+    let names = names_of c.args.names.now in
     let same = c.loop-place.invariant.0 in
     (c.tell_at.ensures.same ∙ same, subst (λ (kept : List MachineState). Gathered kept names c.args.maps (c.loop-place.place + 1) c.tell_at.new.answers.items) same c.in_ok-tell_at.ensures.gathered)
 
@@ -39,4 +40,4 @@ returns-clause-outcomes c w first = record { each = c.loop-place.invariant.1.end
 
 pub returns-clause-answered : goal.returns-clause-answered
 returns-clause-answered c =
-    all_gathered c.args.explorer.now.kept (map string_bytes c.args.names.now) c.args.maps c.loop-place.place c.loop-place.answers.items (omega arith) c.loop-place.invariant.1
+    all_gathered c.args.explorer.now.kept (names_of c.args.names.now) c.args.maps c.loop-place.place c.loop-place.answers.items (omega arith) c.loop-place.invariant.1

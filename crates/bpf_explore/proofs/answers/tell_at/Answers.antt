@@ -1,11 +1,12 @@
 use Rattle.std.proofs.Common.{map, string_bytes, refl}
+use Rattle.bpf_names.specs.Names.{names_of}
 use Rattle.bpf_explore.proofs.AnswerLaws.{more_gathered, none_lost}
 use Rattle.bpf_explore.proofs.TellLaws.{has_work}
 use Rattle.bpf_explore.proofs.answers.tell_at.Goals as goal
 
 pub returns-then-not-has_ended-clause-gathered : goal.returns-then-not-has_ended-clause-gathered
 returns-then-not-has_ended-clause-gathered c =
-    let names = map string_bytes c.args.names.now in
+    let names = names_of c.args.names.now in
     let kept = c.args.explorer.now.kept in
     let answers = c.args.answers.now.items in
     more_gathered kept names c.args.maps c.args.place answers answers c.requires.gathered c.requires.gathered.sorted (none_lost answers) c.requires.gathered.ends
@@ -22,7 +23,7 @@ tell_ended-requires c = record {
 
 pub returns-clause-gathered : goal.returns-clause-gathered
 returns-clause-gathered c =
-    let names = map string_bytes c.args.names.now in
+    let names = names_of c.args.names.now in
     let kept = c.args.explorer.now.kept in
     let e = c.in_ok-tell_ended.ensures in
     more_gathered kept names c.args.maps c.args.place c.args.answers.now.items c.tell_ended.new.answers.items c.requires.gathered e.sorted e.keeps e.ends e.answered

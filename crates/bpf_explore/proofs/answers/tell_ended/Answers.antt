@@ -1,5 +1,6 @@
 use Rattle.std.proofs.Common.{◌≡◌, ◌∙◌, ◌<◌, ℕ, List, Some, length, map, string_bytes, refl, sym, ap, subst}
 use Rattle.std.specs.Prelude.{slice_get}
+use Rattle.bpf_names.specs.Names.{names_of}
 use Rattle.bpf_machine.specs.Machine.{MachineState, Shows}
 use Rattle.bpf_machine.specs.Schedule.{World, unrolled}
 use Rattle.bpf_jobs.specs.Printed.{lines_of_lists, TellsWith}
@@ -14,7 +15,7 @@ place_of-requires c = subst AreSorted (sym c.deref.ensures.value) c.requires.sor
 
 pub returns-in-Ok-clause-answered : goal.returns-in-Ok-clause-answered
 returns-in-Ok-clause-answered c =
-    let names = map string_bytes c.args.names.now in
+    let names = names_of c.args.names.now in
     let maps = c.args.maps in
     let kept = c.args.explorer.now.kept in
     let m = c.restore.new.self.machine in
@@ -22,7 +23,7 @@ returns-in-Ok-clause-answered c =
     let stopped = c.in_ok-text.field-0.stopped in
     let at = c.in_ok-restore.ensures.ok in
     let none = c.machine.ensures.lists in
-    let told : (w : World) → Shows m w → TellsWith (lines_of_lists w names) w.store w.jobs names maps text stopped = λ w shows. c.in_ok-text.ensures w (subst (λ (n : MachineState). Shows n w) (sym c.machine.ensures.machine) shows) in
+    let told : (w : World) → Shows m w → TellsWith (lines_of_lists w names.maps) w.store w.jobs names maps text stopped = λ w shows. c.in_ok-text.ensures w (subst (λ (n : MachineState). Shows n w) (sym c.machine.ensures.machine) shows) in
     let found = c.in-Ok.ensures.found in
     let there : slice_get c.args.answers.now.items c.in-Ok.field-0 ≡ Some found.0 = ap (λ (xs : List Found). slice_get xs c.in-Ok.field-0) (sym c.deref.ensures.value) ∙ found.1 in
     let same : found.0.text ≡ text = found.2 ∙ c.as_str.ensures.value in
@@ -41,7 +42,7 @@ put_answer-requires c = record {
 
 pub returns-in_ok-put_answer-in-Err-clause-ends : goal.returns-in_ok-put_answer-in-Err-clause-ends
 returns-in_ok-put_answer-in-Err-clause-ends c w first =
-    let names = map string_bytes c.args.names.now in
+    let names = names_of c.args.names.now in
     let maps = c.args.maps in
     let kept = c.args.explorer.now.kept in
     let m = c.restore.new.self.machine in
@@ -49,14 +50,14 @@ returns-in_ok-put_answer-in-Err-clause-ends c w first =
     let stopped = c.in_ok-text.field-0.stopped in
     let at = c.in_ok-restore.ensures.ok in
     let none = c.machine.ensures.lists in
-    let told : (w : World) → Shows m w → TellsWith (lines_of_lists w names) w.store w.jobs names maps text stopped = λ w shows. c.in_ok-text.ensures w (subst (λ (n : MachineState). Shows n w) (sym c.machine.ensures.machine) shows) in
+    let told : (w : World) → Shows m w → TellsWith (lines_of_lists w names.maps) w.store w.jobs names maps text stopped = λ w shows. c.in_ok-text.ensures w (subst (λ (n : MachineState). Shows n w) (sym c.machine.ensures.machine) shows) in
     let by = c.in_ok-by-in-Err.by.items in
     let leads = subst (λ (ms : List MachineState). LeadsFrom ms 0 (unrolled by) c.args.place) c.restore.ensures.same c.in_ok-by-in-Err.ensures in
     c.put_answer.ensures.ends w names maps (ends_by kept m names maps c.args.place text stopped at none c.requires.ended told by leads w first) (c.requires.ends w first)
 
 pub returns-in_ok-put_answer-in-Err-clause-answered : goal.returns-in_ok-put_answer-in-Err-clause-answered
 returns-in_ok-put_answer-in-Err-clause-answered c =
-    let names = map string_bytes c.args.names.now in
+    let names = names_of c.args.names.now in
     let maps = c.args.maps in
     let kept = c.args.explorer.now.kept in
     let m = c.restore.new.self.machine in
@@ -64,7 +65,7 @@ returns-in_ok-put_answer-in-Err-clause-answered c =
     let stopped = c.in_ok-text.field-0.stopped in
     let at = c.in_ok-restore.ensures.ok in
     let none = c.machine.ensures.lists in
-    let told : (w : World) → Shows m w → TellsWith (lines_of_lists w names) w.store w.jobs names maps text stopped = λ w shows. c.in_ok-text.ensures w (subst (λ (n : MachineState). Shows n w) (sym c.machine.ensures.machine) shows) in
+    let told : (w : World) → Shows m w → TellsWith (lines_of_lists w names.maps) w.store w.jobs names maps text stopped = λ w shows. c.in_ok-text.ensures w (subst (λ (n : MachineState). Shows n w) (sym c.machine.ensures.machine) shows) in
     let found : Found = record { text = text; stopped = stopped; by = c.in_ok-by-in-Err.by.items } in
     answered_by kept m names maps c.put_answer.new.answers.items c.args.place c.in-Err.at found text stopped at none told c.in_ok-put_answer-in-Err.ensures.put refl refl
 

@@ -1,4 +1,5 @@
 use Rattle.std.proofs.Common.{◌≡◌, ◌∙◌, Bool, List, length, map, string_bytes, sym, ap, subst}
+use Rattle.bpf_names.specs.Names.{names_of}
 use Rattle.bpf_machine.specs.Machine.{MachineState}
 use Rattle.bpf_explore.specs.Outcomes.{IsExplored}
 use Rattle.bpf_explore.specs.Search.{is_whole, is_refused}
@@ -7,7 +8,7 @@ use Rattle.bpf_explore.proofs.exploring.conclude.Goals as goal
 
 pub returns : goal.returns
 returns c w limit begins came =
-    let names = map string_bytes c.args.names.now in
+    let names = names_of c.args.names.now in
     let maps = c.args.maps in
     let kept = c.args.explorer.now.kept in
     let answers = c.in_ok-answers.answers.items in

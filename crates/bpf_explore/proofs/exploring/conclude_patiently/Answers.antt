@@ -1,4 +1,5 @@
 use Rattle.std.proofs.Common.{◌≡◌, ◌∙◌, ℕ, List, length, map, string_bytes, sym, ap, subst}
+use Rattle.bpf_names.specs.Names.{names_of}
 use Rattle.bpf_machine.specs.Machine.{MachineState}
 use Rattle.bpf_machine.specs.Schedule.{World}
 use Rattle.bpf_explore.specs.Patient.{ArePatient, IsSearchedPatiently}
@@ -26,7 +27,7 @@ judge-requires-clause-out c is = subst CanRunOut (sym c.gather_patiently.ensures
 
 pub returns : goal.returns
 returns c w limit begins came =
-    let names = map string_bytes c.args.names.now in
+    let names = names_of c.args.names.now in
     let maps = c.args.maps in
     let kept = c.args.explorer.now.kept in
     let answers = c.in_ok-answers.answers.items in

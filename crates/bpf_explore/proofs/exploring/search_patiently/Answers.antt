@@ -1,5 +1,6 @@
 use Rattle.std.proofs.Common.{ℕ, true, map, string_bytes}
 use Rattle.std.proofs.lemmas.Result.{IfOk-weaker}
+use Rattle.bpf_names.specs.Names.{names_of}
 use Rattle.bpf_machine.specs.Schedule.{World}
 use Rattle.bpf_jobs.specs.Printed.{first_of}
 use Rattle.bpf_explore.specs.declared.exploring.ExploredPatiently.{ExploredPatiently}
@@ -21,7 +22,7 @@ conclude_patiently-requires-clause-made g c is = c.explore-extent.ensures.made i
 pub returns : goal.returns
 returns g c =
     let w = first_of c.args.setup in
-    let names = map string_bytes c.args.names.now in
+    let names = names_of c.args.names.now in
     let maps = c.args.maps in
     let limit = c.args.limit in
     let kept = c.explore-extent.new.frontier.kept in

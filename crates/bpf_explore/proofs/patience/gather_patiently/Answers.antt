@@ -1,4 +1,5 @@
 use Rattle.std.proofs.Common.{◌∙◌, ◌<◌, List, true, length, map, string_bytes, refl, sym, subst, arith}
+use Rattle.bpf_names.specs.Names.{names_of}
 use Rattle.bpf_machine.specs.Machine.{MachineState}
 use Rattle.bpf_explore.specs.Outcomes.{Found}
 use Rattle.bpf_explore.specs.Private.Answers.{IsFirst, IsAnsweredAt, StartsFresh}
@@ -8,7 +9,7 @@ use Rattle.bpf_explore.proofs.patience.gather_patiently.Goals as goal
 
 pub loop-place-init : goal.loop-place-init
 loop-place-init c =
-    let names = map string_bytes c.args.names.now in
+    let names = names_of c.args.names.now in
     let kept = c.args.explorer.now.kept in
     (refl, subst (λ (answers : List Found). Gathered kept names c.args.maps 0 true answers) (sym c.new-answers.ensures.items) (none_gathered kept names c.args.maps))
 
@@ -29,7 +30,7 @@ returns-in_err-answered-clause-same c = c.tell_at.ensures.same ∙ c.loop-place.
 
 pub loop-place-preserved : goal.loop-place-preserved
 loop-place-preserved c =
-    let names = map string_bytes c.args.names.now in
+    let names = names_of c.args.names.now in
     let kept = c.args.explorer.now.kept in
     let same = c.loop-place.invariant.0 in
     let far = c.loop-place.invariant.1 in (
@@ -50,7 +51,7 @@ returns-clause-outcomes c w first = record { each = c.loop-place.invariant.1.end
 
 pub returns-clause-answered : goal.returns-clause-answered
 returns-clause-answered c =
-    all_gathered c.args.explorer.now.kept (map string_bytes c.args.names.now) c.args.maps c.loop-place.place c.loop-place.whole c.loop-place.answers.items (omega arith) c.loop-place.invariant.1
+    all_gathered c.args.explorer.now.kept (names_of c.args.names.now) c.args.maps c.loop-place.place c.loop-place.whole c.loop-place.answers.items (omega arith) c.loop-place.invariant.1
 
 pub returns-clause-out : goal.returns-clause-out
 returns-clause-out c is = c.loop-place.invariant.1.out is

@@ -1,7 +1,8 @@
 use Rattle.std.proofs.Common.{◌≡◌, map}
 use Rattle.std.specs.Prelude.{string_bytes}
+use Rattle.bpf_names.specs.Names.{names_of}
 use Rattle.bpf_explore.proofs.PatienceLaws.{Gathered}
 use Rattle.bpf_explore.proofs.patience.gather_patiently.Given as goal
 
 abbrev pub invariant-loop-place : goal.invariant-loop-place
-invariant-loop-place l = (l.explorer.kept ≡ l.fn.explorer.kept) × Gathered l.fn.explorer.kept (map string_bytes l.names) l.maps l.place l.whole l.answers.items
+invariant-loop-place l = (l.explorer.kept ≡ l.fn.explorer.kept) × Gathered l.fn.explorer.kept (names_of l.names) l.maps l.place l.whole l.answers.items

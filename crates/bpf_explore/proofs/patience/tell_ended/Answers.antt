@@ -1,5 +1,6 @@
 use Rattle.std.proofs.Common.{◌≡◌, ◌∙◌, ◌<◌, ℕ, List, Some, length, map, string_bytes, sym, ap, subst}
 use Rattle.std.specs.Prelude.{slice_get, IfSome}
+use Rattle.bpf_names.specs.Names.{names_of}
 use Rattle.bpf_machine.specs.Machine.{MachineState, Shows}
 use Rattle.bpf_machine.specs.Schedule.{World}
 use Rattle.bpf_jobs.specs.Printed.{lines_of_lists, TellsWith}
@@ -16,7 +17,7 @@ place_of-requires c = subst AreSorted (sym c.deref.ensures.value) c.requires.sor
 
 pub returns-in-Ok-clause-answered : goal.returns-in-Ok-clause-answered
 returns-in-Ok-clause-answered c is =
-    let names = map string_bytes c.args.names.now in
+    let names = names_of c.args.names.now in
     let maps = c.args.maps in
     let kept = c.args.explorer.now.kept in
     let m = c.restore.new.self.machine in
@@ -24,7 +25,7 @@ returns-in-Ok-clause-answered c is =
     let stopped = c.in_ok-text.field-0.stopped in
     let at = c.in_ok-restore.ensures.ok in
     let none = c.machine.ensures.lists in
-    let told : (w : World) → Shows m w → TellsWith (lines_of_lists w names) w.store w.jobs names maps text stopped = λ w shows. c.in_ok-text.ensures w (subst (λ (n : MachineState). Shows n w) (sym c.machine.ensures.machine) shows) in
+    let told : (w : World) → Shows m w → TellsWith (lines_of_lists w names.maps) w.store w.jobs names maps text stopped = λ w shows. c.in_ok-text.ensures w (subst (λ (n : MachineState). Shows n w) (sym c.machine.ensures.machine) shows) in
     let found = c.in-Ok.ensures.found in
     let first = c.requires.fresh in
     let there : slice_get c.args.answers.now.items c.in-Ok.field-0 ≡ Some found.0 = ap (λ (xs : List Found). slice_get xs c.in-Ok.field-0) (sym c.deref.ensures.value) ∙ found.1 in
@@ -48,7 +49,7 @@ put_patiently-requires-clause-place c =
 
 pub returns-in_ok-put_patiently-in-Err-clause-ends : goal.returns-in_ok-put_patiently-in-Err-clause-ends
 returns-in_ok-put_patiently-in-Err-clause-ends c w first =
-    let names = map string_bytes c.args.names.now in
+    let names = names_of c.args.names.now in
     let maps = c.args.maps in
     let kept = c.args.explorer.now.kept in
     let m = c.restore.new.self.machine in
@@ -56,14 +57,14 @@ returns-in_ok-put_patiently-in-Err-clause-ends c w first =
     let stopped = c.in_ok-text.field-0.stopped in
     let at = c.in_ok-restore.ensures.ok in
     let none = c.machine.ensures.lists in
-    let told : (w : World) → Shows m w → TellsWith (lines_of_lists w names) w.store w.jobs names maps text stopped = λ w shows. c.in_ok-text.ensures w (subst (λ (n : MachineState). Shows n w) (sym c.machine.ensures.machine) shows) in
+    let told : (w : World) → Shows m w → TellsWith (lines_of_lists w names.maps) w.store w.jobs names maps text stopped = λ w shows. c.in_ok-text.ensures w (subst (λ (n : MachineState). Shows n w) (sym c.machine.ensures.machine) shows) in
     let by = c.in-Some.by.items in
     let leads = subst (λ (ms : List MachineState). LeadsInBudget ms by c.args.place) c.restore.ensures.same (subst (λ o. IfSome o (λ v. LeadsInBudget c.restore.new.self.kept v.items c.args.place)) c.in-Some.is c.in_ok-by-in-Err.ensures.leads) in
     c.put_patiently.ensures.ends w names maps (subst (EndsPatiently w names maps) (sym c.new.ensures) (ends_in_budget kept m names maps c.args.place text stopped at none c.requires.ended told by leads w first)) (c.requires.ends w first)
 
 pub returns-in_err-put_patiently-in-Err-clause-ends : goal.returns-in_err-put_patiently-in-Err-clause-ends
 returns-in_err-put_patiently-in-Err-clause-ends c w first =
-    let names = map string_bytes c.args.names.now in
+    let names = names_of c.args.names.now in
     let maps = c.args.maps in
     let kept = c.args.explorer.now.kept in
     let m = c.restore.new.self.machine in
@@ -71,14 +72,14 @@ returns-in_err-put_patiently-in-Err-clause-ends c w first =
     let stopped = c.in_ok-text.field-0.stopped in
     let at = c.in_ok-restore.ensures.ok in
     let none = c.machine.ensures.lists in
-    let told : (w : World) → Shows m w → TellsWith (lines_of_lists w names) w.store w.jobs names maps text stopped = λ w shows. c.in_ok-text.ensures w (subst (λ (n : MachineState). Shows n w) (sym c.machine.ensures.machine) shows) in
+    let told : (w : World) → Shows m w → TellsWith (lines_of_lists w names.maps) w.store w.jobs names maps text stopped = λ w shows. c.in_ok-text.ensures w (subst (λ (n : MachineState). Shows n w) (sym c.machine.ensures.machine) shows) in
     let by = c.in-Some.by.items in
     let leads = subst (λ (ms : List MachineState). LeadsInBudget ms by c.args.place) c.restore.ensures.same (subst (λ o. IfSome o (λ v. LeadsInBudget c.restore.new.self.kept v.items c.args.place)) c.in-Some.is c.in_ok-by-in-Err.ensures.leads) in
     c.put_patiently.ensures.ends w names maps (subst (EndsPatiently w names maps) (sym c.new.ensures) (ends_in_budget kept m names maps c.args.place text stopped at none c.requires.ended told by leads w first)) (c.requires.ends w first)
 
 pub returns-in_ok-put_patiently-in-Err-clause-answered : goal.returns-in_ok-put_patiently-in-Err-clause-answered
 returns-in_ok-put_patiently-in-Err-clause-answered c is =
-    let names = map string_bytes c.args.names.now in
+    let names = names_of c.args.names.now in
     let maps = c.args.maps in
     let kept = c.args.explorer.now.kept in
     let m = c.restore.new.self.machine in
@@ -86,7 +87,7 @@ returns-in_ok-put_patiently-in-Err-clause-answered c is =
     let stopped = c.in_ok-text.field-0.stopped in
     let at = c.in_ok-restore.ensures.ok in
     let none = c.machine.ensures.lists in
-    let told : (w : World) → Shows m w → TellsWith (lines_of_lists w names) w.store w.jobs names maps text stopped = λ w shows. c.in_ok-text.ensures w (subst (λ (n : MachineState). Shows n w) (sym c.machine.ensures.machine) shows) in
+    let told : (w : World) → Shows m w → TellsWith (lines_of_lists w names.maps) w.store w.jobs names maps text stopped = λ w shows. c.in_ok-text.ensures w (subst (λ (n : MachineState). Shows n w) (sym c.machine.ensures.machine) shows) in
     let answer = c.new.result in
     answered_by kept m names maps c.put_patiently.new.answers.items c.args.place c.in-Err.at answer text stopped at none told c.in_ok-put_patiently-in-Err.ensures.put (ap (λ (f : Found). f.text) c.new.ensures) (ap (λ (f : Found). f.stopped) c.new.ensures)
 

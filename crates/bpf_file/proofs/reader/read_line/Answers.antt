@@ -18,3 +18,10 @@ returns-clause-fit c =
     (opening_fits c.args.line (part_of c.args.draft.now) (part_of c.read_fields.new.self)
     (map (λ f. f.now) c.deref.result.now) c.in-Assembly.name.now (search rules))
     c.read_assembly.ensures.fit
+
+-- before the assembly of a program the file is as fit as before its line
+pub read_assembly-requires-clause-fit : goal.read_assembly-requires-clause-fit
+read_assembly-requires-clause-fit c =
+    let opened = opening_fits c.args.line (part_of c.args.draft.now) (part_of c.read_fields.new.self)
+    (map (λ f. f.now) c.deref.result.now) c.in-Assembly.name.now (search rules) c.requires.fit in
+    opened.0

@@ -1,34 +1,24 @@
-use Rattle.std.proofs.Common.{◌≡◌, ℕ, ◌<◌, false, List, length, ◌++◌, ap, subst, ◌∙◌, sym, arith}
+use Rattle.std.proofs.Common.{◌≡◌, ℕ, ◌<◌, false, List, length, ◌++◌, ap, subst, ◌∙◌, sym}
 use Rattle.std.specs.Prelude.{slice_index_or, string_bytes}
+use Rattle.std.proofs.lemmas.Result.{on_ok_weaker}
 use Rattle.bpf_shared.specs.declared.shapes.ArrayShape.{ArrayShape}
 use Rattle.bpf_shared.specs.Shape.{Shape, IsArray}
-use Rattle.bpf_jobs.specs.Printed.{value_lines}
-use Rattle.bpf_jobs.proofs.ArrayLines.{found_shape, array_there, array_open, one_index_more}
+use Rattle.bpf_jobs.specs.Printed.{called_by}
+use Rattle.bpf_jobs.proofs.ArrayLines.{array_there, array_open}
 use Rattle.bpf_jobs.proofs.arrays.push_array.Goals as goal
 
 abbrev blank : ArrayShape
 blank = record { value = 0; max = 0; per_cpu = false; frozen = false }
 
-pub loop-index-preserved : goal.loop-index-preserved
-loop-index-preserved c = λ s sound shown g there.
-    let h = c.store_shape.result.now in
-    let a = c.args.array in
-    let i = c.loop-index.index in
-    let same : s.shape ≡ h = shown.shape ∙ sym c.store_shape.ensures in
-    let found = found_shape s h c.arrays.result.now a g blank same c.arrays.ensures.arrays there in
-    let less : i < g.max = subst (λ (x : ArrayShape). i < x.max) found c.loop-index-test.true in
-    one_index_more s c.args.name.now a g (string_bytes c.args.text.now) (string_bytes c.loop-index.text) (string_bytes c.push_index.new.text) i (c.loop-index.invariant s sound shown g there)
-    (c.in_ok-push_index.ensures s sound shown g there less)
-
 pub returns : goal.returns
-returns c = λ s sound shown.
+returns c = on_ok_weaker c.push_values.result (λ more s sound shown.
     let h = c.store_shape.result.now in
-    let a = c.args.array in
+    let array = called_by c.args.array in
+    let a = array.number in
     let g = slice_index_or c.arrays.result.now a blank in
     let same : s.shape ≡ h = shown.shape ∙ sym c.store_shape.ensures in
     let within : a < length h.arrays = subst (λ (x : Shape). a < length x.arrays) (sym c.store_shape.ensures) c.requires in
     let there : IsArray s.shape.arrays a g = array_there s h c.arrays.result.now a blank same c.arrays.ensures.arrays within in
-    let all : c.loop-index.index ≡ g.max = (let most = c.loop-index.auto.index-end in let past = c.loop-index-test.false in omega arith) in
-    c.loop-index.invariant s sound shown g there
-    ∙ (ap (λ (n : ℕ). string_bytes c.args.text.now ++ value_lines s c.args.name.now a g n) all
-    ∙ ap (λ (lines : List ℕ). string_bytes c.args.text.now ++ lines) (sym (array_open s c.args.name.now a g c.if-shape.false there)))
+    more s sound shown g there
+    ∙ ap (λ (lines : List ℕ). string_bytes c.args.text.now ++ lines) (sym (array_open s array g c.if-arrays-array.false there)))
+    c.push_values.ensures

@@ -5,9 +5,9 @@ use Rattle.bpf_shared.specs.Shape.{IsArray}
 use Rattle.bpf_shared.specs.Store.{Plain}
 use Rattle.bpf_shared.specs.Sound.{IsSoundStore}
 use Rattle.bpf_plain.specs.PlainStore.{StandsFor}
-use Rattle.bpf_jobs.specs.Printed.{index_lines}
+use Rattle.bpf_jobs.specs.Printed.{called_by, index_lines}
 use Rattle.bpf_jobs.proofs.arrays.push_index.Given as goal
 
 abbrev pub invariant-loop-copy : goal.invariant-loop-copy
-invariant-loop-copy l = (s : Plain) → IsSoundStore s → StandsFor l.store s → (g : ArrayShape) → IsArray s.shape.arrays l.array g → l.index < g.max
-    → string_bytes l.text ≡ string_bytes l.fn.text ++ index_lines s l.name l.array g l.index l.copy
+invariant-loop-copy l = (s : Plain) → IsSoundStore s → StandsFor l.store s → (g : ArrayShape) → IsArray s.shape.arrays l.array.number g → l.index < g.max
+    → string_bytes l.text ≡ string_bytes l.fn.text ++ index_lines s (called_by l.array) g l.index l.copy

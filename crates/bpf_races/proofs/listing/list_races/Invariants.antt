@@ -1,6 +1,7 @@
 use Rattle.std.proofs.Common.{◌≡◌, map, string_bytes}
+use Rattle.bpf_names.specs.Names.{names_of}
 use Rattle.bpf_races.specs.Lines.{race_lines}
 use Rattle.bpf_races.proofs.listing.list_races.Given as goal
 
 abbrev pub invariant-loop-race : goal.invariant-loop-race
-invariant-loop-race l = string_bytes l.text ≡ race_lines l.named (map string_bytes l.names) l.race-index l.races.list.items
+invariant-loop-race l = string_bytes l.text ≡ race_lines l.named (names_of l.names) l.race-index l.races.list.items

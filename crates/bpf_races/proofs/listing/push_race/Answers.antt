@@ -1,6 +1,7 @@
 use Rattle.std.proofs.Common.{◌∙◌, ◌++◌, ℕ, List, ap, map, length, string_bytes}
 use Rattle.std.specs.Prelude.{codes}
 use Rattle.bpf_schedule.specs.Spelling.{runs_text}
+use Rattle.bpf_names.specs.Names.{names_of}
 use Rattle.bpf_races.specs.Lines.{places_text, value_text}
 use Rattle.bpf_races.proofs.Texts.{two_put}
 use Rattle.bpf_races.proofs.listing.push_race.Goals as goal
@@ -9,7 +10,7 @@ pub returns : goal.returns
 returns c =
     let old = string_bytes c.args.text.now in
     let race = c.args.race.now in
-    let places = places_text race.pair ++ value_text c.args.named (map string_bytes c.args.names.now) race in
+    let places = places_text race.pair ++ value_text c.args.named (names_of c.args.names.now) race in
     let runs = runs_text (length race.by) race.by in
     let first = string_bytes c.push_places.new.text in
     let second = string_bytes c.push_str.new.self in

@@ -1,5 +1,6 @@
 use Rattle.std.proofs.Common.{◌≡◌, ◌∙◌, ℕ, List, Some, sym, ap, map, arith}
 use Rattle.std.specs.Prelude.{slice_get, string_bytes}
+use Rattle.bpf_names.specs.Names.{names_of}
 use Rattle.bpf_races.proofs.Syncs.{name_there, one_more, all_below}
 use Rattle.bpf_races.proofs.sync.synced_parts.Goals as goal
 
@@ -13,7 +14,7 @@ returns-in_default-clause-unknown c =
 
 pub loop-text-preserved : goal.loop-text-preserved
 loop-text-preserved c =
-    let names = map string_bytes c.args.names.now in
+    let names = names_of c.args.names.now in
     let sync = map string_bytes c.args.sync.now in
     let text = c.as_bytes.result.now in
     let n = c.loop-text.text-index in
@@ -23,4 +24,4 @@ loop-text-preserved c =
 
 pub returns-clause-parts : goal.returns-clause-parts
 returns-clause-parts c =
-    all_below (map string_bytes c.args.names.now) c.args.shape.now.maps c.args.sync.now c.loop-text.text-index c.loop-text.parts.items (let past = c.loop-text-test.false in omega arith) c.loop-text.invariant
+    all_below (names_of c.args.names.now) c.args.shape.now.maps c.args.sync.now c.loop-text.text-index c.loop-text.parts.items (let past = c.loop-text-test.false in omega arith) c.loop-text.invariant

@@ -1,3 +1,4 @@
+use Rattle.std.proofs.Common.{refl}
 use Rattle.std.specs.Prelude.{string_bytes}
 use Rattle.bpf_workers.proofs.Reports.{reported}
 use Rattle.bpf_workers.proofs.workers.run_counted.Goals as goal
@@ -10,4 +11,4 @@ returns-in-Ok-tell_counted g c =
     reported c.args.file (record { keys = c.args.keys; maps = c.args.maps; stats = c.args.stats }) counted.report (string_bytes counted.stats) c.in-Ok-new.store.table.about done.outcomes.items done.lists.items done.closed
     _ _ _ _ _ _ _
     c.in-Ok-new.ensures.made e.about e.last e.explained c.in-Ok-tell_counted.ensures.told c.in-Ok-tell_counted.ensures.stats
-    c.deref.ensures.value c.deref-2.ensures.value c.deref-3.ensures.value c.deref-4.ensures.value c.deref-5.ensures.value c.in-Ok.ensures c.deref-6.ensures.value
+    c.deref.ensures.value c.deref-2.ensures.value c.deref-3.ensures.value c.deref-4.ensures.value c.deref-5.ensures.value c.in-Ok.ensures refl

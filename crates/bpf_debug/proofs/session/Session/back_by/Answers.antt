@@ -8,6 +8,7 @@ use Rattle.bpf_debug.specs.Go.{watched}
 use Rattle.bpf_debug.specs.Session.{SessionState, Leaves}
 use Rattle.bpf_debug.proofs.SessionLaws.{can_rewound, can_still, went_back}
 use Rattle.bpf_debug.proofs.session.Session.back_by.Goals as goal
+use Rattle.bpf_names.specs.Names.{Names, names_of}
 
 pub invariant_of-self : goal.invariant_of-self
 invariant_of-self c =
@@ -28,7 +29,7 @@ invariant_of-self-2 c =
 pub returns-clause-answered : goal.returns-clause-answered
 returns-clause-answered c =
     let m = c.self.inside in
-    let names : List (List ℕ) = map (λ n. string_bytes n) m.names.items in
+    let names : Names = names_of m.names in
     let runs = c.requires.0 in
     let rewound = c.rewind.new.machine in
     let n = c.repeat.new.machine in

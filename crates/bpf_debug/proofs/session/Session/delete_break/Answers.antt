@@ -7,11 +7,12 @@ use Rattle.bpf_debug.specs.Go.{watched}
 use Rattle.bpf_debug.specs.Session.{SessionState, Leaves, IsPc}
 use Rattle.bpf_debug.proofs.SessionLaws.{unbroken}
 use Rattle.bpf_debug.proofs.session.Session.delete_break.Goals as goal
+use Rattle.bpf_names.specs.Names.{Names, names_of}
 
 pub returns-clause-answered : goal.returns-clause-answered
 returns-clause-answered c =
     let m = c.self.inside in
-    let names : List (List ℕ) = map (λ n. string_bytes n) m.names.items in
+    let names : Names = names_of m.names in
     let breaks = m.breakpoints.items in
     let fewer = c.remove_break.new.breakpoints.items in
     let last = string_bytes c.put_deleted.new.out in

@@ -70,6 +70,11 @@ returns-in-Maps-clause-answered c =
     let P : Command → Type 0 = λ o. IfOk c.maps.result (λ text. Leaves c.args.self.now (command_order o) (string_bytes text) c.args.self.now) in
     subst P (sym c.in-Maps.is) c.maps.ensures.answered
 
+pub returns-in-Variables-clause-answered : goal.returns-in-Variables-clause-answered
+returns-in-Variables-clause-answered c =
+    let P : Command → Type 0 = λ o. IfOk c.variables.result (λ text. Leaves c.args.self.now (command_order o) (string_bytes text) c.args.self.now) in
+    subst P (sym c.in-Variables.is) c.variables.ensures.answered
+
 pub returns-in-Jobs-clause-answered : goal.returns-in-Jobs-clause-answered
 returns-in-Jobs-clause-answered c =
     let P : Command → Type 0 = λ o. IfOk c.jobs.result (λ text. Leaves c.args.self.now (command_order o) (string_bytes text) c.args.self.now) in

@@ -10,6 +10,7 @@ use Rattle.bpf_debug.specs.Go.{Goes, watched}
 use Rattle.bpf_debug.specs.Session.{SessionState, Leaves, IsPc}
 use Rattle.bpf_debug.proofs.SessionLaws.{can_still, went_to, enough}
 use Rattle.bpf_debug.proofs.session.Session.go_to_pc.Goals as goal
+use Rattle.bpf_names.specs.Names.{Names, names_of}
 
 pub go-requires-clause-room : goal.go-requires-clause-room
 go-requires-clause-room c =
@@ -22,7 +23,7 @@ invariant_of-self-2 c = let g = c.go.ensures.goes c.self.invariant.0 c.self.inva
 pub returns-clause-answered : goal.returns-clause-answered
 returns-clause-answered c =
     let m = c.self.inside in
-    let names : List (List ℕ) = map (λ n. string_bytes n) m.names.items in
+    let names : Names = names_of m.names in
     let n = c.go.new.machine in
     let k = c.go.new.course in
     let cpu = c.args.cpu in

@@ -8,11 +8,12 @@ use Rattle.bpf_debug.specs.Go.{watched}
 use Rattle.bpf_debug.specs.Session.{SessionState, Leaves}
 use Rattle.bpf_debug.proofs.SessionLaws.{told_bytes}
 use Rattle.bpf_debug.proofs.session.Session.memory_at.Goals as goal
+use Rattle.bpf_names.specs.Names.{Names, names_of}
 
 pub returns-clause-answered : goal.returns-clause-answered
 returns-clause-answered c =
     let m = c.self.inside in
-    let names : List (List ℕ) = map (λ n. string_bytes n) m.names.items in
+    let names : Names = names_of m.names in
     let s : SessionState = record { machine = m.machine; first = first_of m.origin m.machine.programs; names = names; breaks = m.breakpoints.items; watch = option_map watched m.watch; course = m.course } in
     let last = string_bytes c.in_ok-text.text in
     let P : SessionState → Type 0 = λ t. Leaves t (Memory (Some c.args.cpu) c.args.address c.args.count) last t in

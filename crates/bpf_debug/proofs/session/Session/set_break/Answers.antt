@@ -8,11 +8,12 @@ use Rattle.bpf_debug.specs.declared.breakpoint.Breakpoint.{Breakpoint}
 use Rattle.bpf_debug.specs.Go.{has_break, watched}
 use Rattle.bpf_debug.proofs.SessionLaws.{broken, is_kept, is_added}
 use Rattle.bpf_debug.proofs.session.Session.set_break.Goals as goal
+use Rattle.bpf_names.specs.Names.{Names, names_of}
 
 pub returns-then-has_break-clause-answered : goal.returns-then-has_break-clause-answered
 returns-then-has_break-clause-answered c =
     let m = c.self.inside in
-    let names : List (List ℕ) = map (λ n. string_bytes n) m.names.items in
+    let names : Names = names_of m.names in
     let breaks = m.breakpoints.items in
     let last = string_bytes c.put_break.new.out in
     let order = Break (Some c.args.cpu) (Some c.args.pc) in
@@ -26,7 +27,7 @@ returns-then-has_break-clause-answered c =
 pub returns-clause-answered : goal.returns-clause-answered
 returns-clause-answered c =
     let m = c.self.inside in
-    let names : List (List ℕ) = map (λ n. string_bytes n) m.names.items in
+    let names : Names = names_of m.names in
     let breaks = m.breakpoints.items in
     let last = string_bytes c.put_break.new.out in
     let order = Break (Some c.args.cpu) (Some c.args.pc) in

@@ -12,6 +12,7 @@ use Rattle.bpf_debug.specs.Private.Naming.{ShowsLines}
 use Rattle.bpf_debug.specs.Show.{IsBefore, changed_text}
 use Rattle.bpf_debug.proofs.SessionLaws.{alone, can_rewound, can_still, told_shown}
 use Rattle.bpf_debug.proofs.session.Session.show_at.Goals as goal
+use Rattle.bpf_names.specs.Names.{Names, names_of}
 
 pub invariant_of-self : goal.invariant_of-self
 invariant_of-self c =
@@ -31,7 +32,7 @@ invariant_of-self-2 c =
 pub returns-clause-answered : goal.returns-clause-answered
 returns-clause-answered c =
     let m = c.self.inside in
-    let names : List (List ℕ) = map (λ n. string_bytes n) m.names.items in
+    let names : Names = names_of m.names in
     let runs = c.requires.told.0 in
     let rewound = c.rewind.new.machine in
     let n = c.recall-recall.new.machine in
@@ -46,7 +47,7 @@ returns-clause-answered c =
     let sure = c.in_ok-shown.ensures in
     let lines = map string_bytes shown.lines.items in
     let N : List (String Global) → Type 0 = λ ns. ShowsLines (map string_bytes ns) c.store.result.now state.held 0 state.registers lines in
-    let T : Contents → Type 0 = λ p. ShowsLines names p state.held 0 state.registers lines in
+    let T : Contents → Type 0 = λ p. ShowsLines names.maps p state.held 0 state.registers lines in
     let shows = subst T c.store.ensures (subst N c.deref.ensures.value sure.lines) in
     let put : (past : Option Past) → IsRecall c.args.cpu c.recall-recall.result past → (before : List ℕ) × IsBefore c.args.cpu past before
     × (last ≡ changed_text before 0 state.registers lines) = λ past is.

@@ -8,6 +8,7 @@ use Rattle.bpf_debug.specs.Go.{watched}
 use Rattle.bpf_debug.specs.Session.{SessionState, Leaves}
 use Rattle.bpf_debug.proofs.SessionLaws.{can_still, stepped}
 use Rattle.bpf_debug.proofs.session.Session.step_at.Goals as goal
+use Rattle.bpf_names.specs.Names.{Names, names_of}
 
 pub invariant_of-self-2 : goal.invariant_of-self-2
 invariant_of-self-2 c = let t = c.take_turn.ensures.made.2 c.self.invariant.0 c.self.invariant.1 in (t.0, t.2, can_still c.self.inside.origin c.self.inside.machine c.take_turn.new.machine c.take_turn.ensures.same c.self.invariant.2)
@@ -15,7 +16,7 @@ invariant_of-self-2 c = let t = c.take_turn.ensures.made.2 c.self.invariant.0 c.
 pub returns-clause-answered : goal.returns-clause-answered
 returns-clause-answered c =
     let m = c.self.inside in
-    let names : List (List ℕ) = map (λ n. string_bytes n) m.names.items in
+    let names : Names = names_of m.names in
     let n = c.take_turn.new.machine in
     let k = c.add.new.self in
     let t = c.take_turn.ensures.made in

@@ -8,6 +8,7 @@ use Rattle.bpf_debug.specs.Go.{watched}
 use Rattle.bpf_debug.specs.Session.{SessionState, Leaves}
 use Rattle.bpf_debug.proofs.SessionLaws.{can_still, enough, stepped_times}
 use Rattle.bpf_debug.proofs.session.Session.step_times_at.Goals as goal
+use Rattle.bpf_names.specs.Names.{Names, names_of}
 
 pub take_turns-requires-clause-room : goal.take_turns-requires-clause-room
 take_turns-requires-clause-room c =
@@ -20,7 +21,7 @@ invariant_of-self-2 c = let t = c.take_turns.ensures.made.2 c.self.invariant.0 c
 pub returns-clause-answered : goal.returns-clause-answered
 returns-clause-answered c =
     let m = c.self.inside in
-    let names : List (List ℕ) = map (λ n. string_bytes n) m.names.items in
+    let names : Names = names_of m.names in
     let n = c.take_turns.new.machine in
     let t = c.take_turns.ensures.made in
     let k = c.add_times.new.self in

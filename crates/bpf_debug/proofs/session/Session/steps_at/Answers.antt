@@ -8,6 +8,7 @@ use Rattle.bpf_debug.specs.Go.{watched}
 use Rattle.bpf_debug.specs.Session.{SessionState, Leaves, are_cpus}
 use Rattle.bpf_debug.proofs.SessionLaws.{can_still, enough, stepped_runs}
 use Rattle.bpf_debug.proofs.session.Session.steps_at.Goals as goal
+use Rattle.bpf_names.specs.Names.{Names, names_of}
 
 pub take_runs-requires-clause-room : goal.take_runs-requires-clause-room
 take_runs-requires-clause-room c =
@@ -20,7 +21,7 @@ invariant_of-self-2 c = let t = c.take_runs.ensures.made.2 c.self.invariant.0 c.
 pub returns-clause-answered : goal.returns-clause-answered
 returns-clause-answered c =
     let m = c.self.inside in
-    let names : List (List ℕ) = map (λ n. string_bytes n) m.names.items in
+    let names : Names = names_of m.names in
     let n = c.take_runs.new.machine in
     let t = c.take_runs.ensures.made in
     let k = c.add_runs.new.self in

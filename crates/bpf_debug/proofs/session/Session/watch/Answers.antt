@@ -9,11 +9,12 @@ use Rattle.bpf_debug.specs.Read.{IsNamed}
 use Rattle.bpf_debug.specs.Session.{SessionState, Leaves}
 use Rattle.bpf_debug.proofs.SessionLaws.{set_watch}
 use Rattle.bpf_debug.proofs.session.Session.watch.Goals as goal
+use Rattle.bpf_names.specs.Names.{Names, names_of}
 
 pub returns-clause-answered : goal.returns-clause-answered
 returns-clause-answered c =
     let m = c.self.inside in
-    let names : List (List ℕ) = map (λ n. string_bytes n) m.names.items in
+    let names : Names = names_of m.names in
     let name = c.args.name.now in
     let digits = c.args.digits.now in
     let key : List ℕ = c.in-Ok.key.items in
@@ -21,7 +22,7 @@ returns-clause-answered c =
     let last = string_bytes c.in_ok-text.text in
     let P : SessionState → Type 0 = λ s. Leaves s (Watch name digits) last (record { machine = m.machine; first = first_of m.origin m.machine.programs; names = names; breaks = m.breakpoints.items; watch = Some (number, key); course = m.course }) in
     let N : List (String Global) → Type 0 = λ ns. IsNamed (map (λ n. string_bytes n) ns) name number in
-    let named : IsNamed names name number = subst N c.deref.ensures.value c.in-Some.ensures.named in
-    let called : c.name_at.result.now ≡ name = c.name_at.ensures ∙ ap (λ (ns : List (String Global)). slice_index_or (map (λ n. string_bytes n) ns) number []) c.deref-2.ensures.value ∙ get_or_from_slice_get names number name [] named.0 in
+    let named : IsNamed names.maps name number = subst N c.deref.ensures.value c.in-Some.ensures.named in
+    let called : c.name_at.result.now ≡ name = c.name_at.ensures ∙ ap (λ (ns : List (String Global)). slice_index_or (map (λ n. string_bytes n) ns) number []) c.deref-2.ensures.value ∙ get_or_from_slice_get names.maps number name [] named.0 in
     let put : last ≡ watch_line name key = c.in_ok-text.ensures ∙ ap (λ (n : List ℕ). watch_line n c.deref-3.result.now) called ∙ ap (λ (k : List ℕ). watch_line name k) c.deref-3.ensures.value in
     subst P c.self.view_is (set_watch m.machine m.origin names m.breakpoints.items (option_map watched m.watch) m.course name digits key number (Some (number, key)) last named c.in-Ok.ensures.ok refl put)

@@ -1,5 +1,5 @@
-use Rattle.std.proofs.Common.{◌∙◌, List, String, Global, [], inr, ap, map, string_bytes, subst, sym}
-use Rattle.bpf_expand.specs.State.{AreSuccessors, Host, IsTold}
+use Rattle.std.proofs.Common.{◌∙◌, [], inr, ap, string_bytes, subst, sym}
+use Rattle.bpf_expand.specs.State.{AreSuccessors, Host}
 use Rattle.bpf_expand.specs.Filter.{FilterState}
 use Rattle.bpf_expand.specs.Lines.{report_line}
 use Rattle.bpf_expand.proofs.Reporting.{all_ended}
@@ -14,5 +14,4 @@ returns-clause-some c =
     let host = ap (λ (x : FilterState). x.host) c.self.view_is in
     let ended = subst (λ (x : Host). AreSuccessors x bytes []) (sym (c.take.ensures.same ∙ host)) c.requires.ended in
     let is = c.in_ok-take.ensures.taken c.if-not-branch.false in
-    let told = subst (λ (names : List (String Global)). IsTold m (map string_bytes names) report) c.deref.ensures.value c.in_ok-report.ensures in
-    inr (report, (m, is, all_ended h bytes m is ended, told), c.in_ok-report_line.ensures ∙ ap report_line c.as_str.ensures.value)
+    inr (report, (m, is, all_ended h bytes m is ended, c.in_ok-report.ensures), c.in_ok-report_line.ensures ∙ ap report_line c.as_str.ensures.value)

@@ -1,4 +1,5 @@
-use Rattle.std.proofs.Common.{◌∙◌, ◌+◌, Bool, ℕ, List, ap, min, subst, sym}
+use Rattle.std.proofs.Common.{◌∙◌, ◌+◌, Bool, ℕ, ap, min, subst, sym}
+use Rattle.bpf_names.specs.Names.{Names}
 use Rattle.bpf_expand.specs.State.{Host}
 use Rattle.bpf_expand.specs.Filter.{FilterState, IsLineTold}
 use Rattle.bpf_expand.proofs.Answered.{kept_told}
@@ -22,5 +23,5 @@ returns c =
       same.2 ∙ races,
       same.3 ∙ (before.3 ∙ (c.saturating_add-self-inside.ensures ∙ ap (λ (x : FilterState). min (x.lines + 1) 18446744073709551615) view)),
       subst (λ (rs : Bool). IsLineTold rs c.args.self.now.host c.args.self.now.names kept.lines line kept.told c.keep.result) races
-          (subst (λ (h : Host). IsLineTold asked.races h c.args.self.now.names kept.lines line kept.told c.keep.result) host (subst (λ (ns : List (List ℕ)). IsLineTold asked.races asked.host ns kept.lines line kept.told c.keep.result) names lines)),
+          (subst (λ (h : Host). IsLineTold asked.races h c.args.self.now.names kept.lines line kept.told c.keep.result) host (subst (λ (ns : Names). IsLineTold asked.races asked.host ns kept.lines line kept.told c.keep.result) names lines)),
     )

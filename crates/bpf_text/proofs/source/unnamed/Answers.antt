@@ -3,7 +3,7 @@ use Rattle.bpf_text.specs.declared.token.Token.{Token}
 use Rattle.bpf_text.specs.Private.Look.{look}
 use Rattle.bpf_text.specs.Assembly.{IsBody}
 use Rattle.bpf_text.proofs.BodyLemmas.{body_code, body_refused}
-use Rattle.bpf_text.proofs.source.behind_label.Goals as goal
+use Rattle.bpf_text.proofs.source.unnamed.Goals as goal
 
 some_tokens : (ts : List Token) → 1 ≤ length ts → map look ts ≢ []
 some_tokens [] h = absurd (omega arith)
