@@ -236,6 +236,7 @@ The commands, one a line, with a CPU C, a pc P, an address A and a number N of b
   go          rounds of turns, up to a breakpoint or until no CPU has work
   go C until P  turns of C alone, up to the pc P or until it has no work; step C until P is the same
   watch NAME KEY  'go' also stops after a turn that changed that value, and says whose it was
+  watch NAME I  the same of an array's values of that index; watch NAME the same of a variable
   watch       no more
   regs C      the registers
   where C     the job in hand, the pc and the depth of calls
@@ -244,10 +245,11 @@ The commands, one a line, with a CPU C, a pc P, an address A and a number N of b
   show C      the registers that C's last turn changed, and what each is as an address
   list C      the instructions near the pc of C
   last C      the last job that ended on C, and its registers before its last step
-  map NAME    the keys of a map with their values, KEY=VALUE in hex
-  keys NAME   the keys alone
+  map NAME    the keys of a map with their values, KEY=VALUE in hex; the values of an array
+  keys NAME   the keys alone, or the indices
   schedule    the turns made so far, as the 'steps' that makes them
-  maps        the maps with their sizes, as the run file has them
+  maps        the maps, arrays and variables with their sizes, as the run file has them
+  vars        the variables with their numbers; var NAME one of them
   jobs        the jobs, with how each ended, or 'open'
   mark N      prints 'mark N', the end of the answers before it
   back N      undoes the last N turns, 1 to 1000000; breakpoints stay

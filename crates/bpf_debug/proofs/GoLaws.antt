@@ -18,7 +18,8 @@ use Rattle.bpf_debug.specs.declared.breakpoint.Breakpoint.{Breakpoint}
 use Rattle.bpf_debug.specs.Answer.{ended_text, changed_line, stop_line}
 use Rattle.bpf_debug.specs.Course.{KeepsOn}
 use Rattle.bpf_debug.proofs.CourseLaws.{keeps_none, keeps_more}
-use Rattle.bpf_debug.specs.Go.{HasWork, AreIdle, IsUp, StandsAt, has_break, has_gone, Goes, Done, Stops, Changes, Turns, ShowsOther, ShowsWatched, Watched, watched_value}
+use Rattle.bpf_debug.specs.Go.{HasWork, AreIdle, IsUp, StandsAt, has_break, has_gone, Goes, Done, Stops, Changes, Turns}
+use Rattle.bpf_debug.specs.Watch.{ShowsOther, ShowsWatched, Watched, watched_values}
 
 -- ---- a CPU with work makes a turn
 settles_works : (w : World) (c j : ℕ) (task : Task) (new : Cpu) (left : ℕ) (end : Option Outcome) (answer : Turn) (z : World)
@@ -150,9 +151,9 @@ module _ (breaks : List Breakpoint) (watch : Option Watched) (low high : ℕ) (n
       → ((get_or marks c false ≡ false) ⊎ ((p : ℕ) × StandsAt new.jobs c p × (has_break breaks c p ≡ false)))
       → ((w : World) → Shows new w → (z : World) × TakesTurn w c answer z × Shows next z)
       → KeepsOn notes (c ∷ []) more
-      → (value : Option (List ℕ)) → ShowsWatched new.store watch value → ShowsWatched next.store watch value
+      → (values : List (Option (List ℕ))) → ShowsWatched new.store watch values → ShowsWatched next.store watch values
       → Comes breaks watch low high noted old before next (c + 1) (slice_set marks c true) more (after ++ ended_text c answer)
-  turned next c answer more small inside up may turns keeps value was is w shows =
+  turned next c answer more small inside up may turns keeps values was is w shows =
       let r = comes w shows in
       let t = turns r.here r.shows in
       let J : List Task → Type 0 = λ jobs. IsUp jobs low high «from» c in
@@ -189,15 +190,15 @@ module _ (breaks : List Breakpoint) (watch : Option Watched) (low high : ℕ) (n
       → ((get_or marks c false ≡ false) ⊎ ((p : ℕ) × StandsAt new.jobs c p × (has_break breaks c p ≡ false)))
       → ((w : World) → Shows new w → (z : World) × TakesTurn w c answer z × Shows next z)
       → KeepsOn notes (c ∷ []) more
-      → (value : Option (List ℕ)) → ShowsWatched new.store watch value → ShowsOther next.store watch value
+      → (values : List (Option (List ℕ))) → ShowsWatched new.store watch values → ShowsOther next.store watch values
       → Leads next more ((after ++ ended_text c answer) ++ changed_line c)
-  changed next c answer more small up may turns keeps value was other w shows =
+  changed next c answer more small up may turns keeps values was other w shows =
       let r = comes w shows in
       let t = turns r.here r.shows in
       let J : List Task → Type 0 = λ jobs. IsUp jobs low high «from» c in
       let is_up = subst J (sym r.shows.jobs) up in
       let line = ended_text c answer ++ changed_line c in
-      let differs : watched_value watch t.0.store ≡ watched_value watch r.here.store → ⊥ = λ e. other t.0.store t.2.sound t.2.store (e ∙ was r.here.store r.shows.sound r.shows.store) in (
+      let differs : watched_values watch t.0.store ≡ watched_values watch r.here.store → ⊥ = λ e. other t.0.store t.2.sound t.2.store (e ∙ was r.here.store r.shows.sound r.shows.store) in (
         t.0,
         r.turns ++ c ∷ [],
         r.text ++ line,

@@ -13,6 +13,7 @@ pub mod ShowLaws
 pub mod ScheduleLaws
 pub mod ToldLaws
 pub mod TableLaws
+pub mod WatchLaws
 pub mod ScriptLaws
 pub mod OwnValues
 pub mod OwnScenes

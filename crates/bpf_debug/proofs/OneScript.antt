@@ -1,10 +1,11 @@
 -- Over a machine whose jobs all wait, a script has one list of answers.
 use Rattle.std.proofs.Common.{◌≡◌, ◌≢◌, ℕ, zero, suc, ◌+◌, ◌<◌, ◌≤◌, Bool, true, false, ◌&&◌, if◌then◌else◌, List, [], ◌∷◌, ◌++◌, length, Option, Some, None, ◌⊎◌, inl, inr, refl, sym, ap, subst, ◌∙◌, arith, replicate}
-use Rattle.std.specs.Prelude.{◌==◌, nat_lt, Result, Ok, Err, IsOk, IsErr, is_ok, is_err}
-use Rattle.hex.specs.declared.error.FromHexError.{FromHexError}
-use Rattle.hex.specs.Hex.{decode_of}
+use Rattle.std.specs.Prelude.{◌==◌, nat_lt, Ok, Err}
 use Rattle.std.proofs.lemmas.Bool.{cases_order, lt-ltb}
 use Rattle.bpf_shared.specs.Laws.{CallsHaveOneReply}
+use Rattle.bpf_shared.specs.Shape.{Shape}
+use Rattle.bpf_names.specs.Names.{Names, Variable}
+use Rattle.bpf_plain.specs.Shows.{fixed_of}
 use Rattle.bpf_mem.specs.Laws.{WritesAreDetermined}
 use Rattle.bpf_lines.specs.Lines.{fields_of}
 use Rattle.bpf_loader.specs.Laws.{OneInstructionBegins}
@@ -21,11 +22,12 @@ use Rattle.bpf_debug.specs.declared.recall.Kind.TheVariants as kind
 use Rattle.bpf_debug.specs.Recall.{Past, Recalls, IsLastText, is_of, past_after}
 use Rattle.bpf_debug.specs.Show.{IsShownText}
 use Rattle.bpf_debug.proofs.RecallLaws.{recalls_run}
-use Rattle.bpf_debug.specs.Answer.{IsWhere, changed_line, ended_text, stop_line, watch_line}
-use Rattle.bpf_debug.specs.Command.{Order, Break, Delete, Step, StepTimes, Steps, Go, Registers, Where, Memory, Map, Keys, Schedule, GoTo, Maps, Variables, Jobs, Mark, Back, Help, Held, Nearby, Last, Show, Watch, Unwatch, order_of}
+use Rattle.bpf_debug.specs.Answer.{IsWhere, changed_line, ended_text, stop_line, variable_watch_line, watch_line}
+use Rattle.bpf_debug.specs.Command.{Order, Break, Delete, Step, StepTimes, Steps, Go, Registers, Where, Memory, Map, Keys, Schedule, GoTo, Maps, Variables, Number, Jobs, Mark, Back, Help, Held, Nearby, Last, Show, Watch, WatchVariable, Unwatch, order_of}
 use Rattle.bpf_debug.specs.Turns.{MakesTurns, MakesRuns, last_cpu}
-use Rattle.bpf_debug.specs.Go.{HasWork, AreIdle, IsUp, StandsAt, Goes, Done, Stops, Changes, Turns, Watched, has_break, has_gone, watched_value}
-use Rattle.bpf_debug.specs.Read.{IsTableText, IsKeysText}
+use Rattle.bpf_debug.specs.Go.{HasWork, AreIdle, IsUp, StandsAt, Goes, Done, Stops, Changes, Turns, has_break, has_gone}
+use Rattle.bpf_debug.specs.Watch.{Chosen, Watched, chosen_in, variable_watched, watched_values}
+use Rattle.bpf_debug.specs.Read.{AreKeysOf, IsNamed, IsTableText, number_text}
 use Rattle.bpf_debug.specs.Course.{cpu_before, turns_before}
 use Rattle.bpf_machine.specs.Laws.{IsFresh}
 use Rattle.bpf_debug.specs.Session.{Scene, IsCourse, Answers, CarriesOut, Obeys, behind, undone, RefusesOrder, RefusesFields, IsLineRefused}
@@ -33,7 +35,7 @@ use Rattle.bpf_debug.specs.Script.{Answer, AnswersLine, RunsScript}
 use Rattle.bpf_debug.specs.Laws.{HadMemory, KeysHaveOwnValues, RecallsChangeNothing, ScriptsAreDetermined}
 use Rattle.bpf_debug.proofs.GoLaws.{free_has_no_work}
 use Rattle.bpf_debug.proofs.OwnScenes.{AreOwn, answer_keeps}
-use Rattle.bpf_debug.proofs.OneText.{one_place, IsSoundPast, off_free, one_off, one_where, one_registers, one_stand_text, one_shown_text, one_memory, one_held_text, one_nearby, one_name, one_table, one_keys}
+use Rattle.bpf_debug.proofs.OneText.{one_place, IsSoundPast, off_free, one_off, one_where, one_registers, one_stand_text, one_shown_text, one_memory, one_held_text, one_nearby, one_name, one_table, one_table_keys}
 
 -- ---- who is up
 idle_not_up : (jobs : List Task) (a b c : ℕ) → AreIdle jobs a b → HasWork jobs c → a ≤ c → c < b → ⊥
@@ -62,7 +64,7 @@ one_up jobs low high «from» c d a b = elim (cases_order c d) [
 no_cpu : (c cpus : ℕ) → c < cpus → nat_lt c cpus ≡ false → ⊥
 no_cpu c cpus less out = let both : true ≡ false = sym (lt-ltb c cpus less) ∙ out in cc
 
-cpu_refused : (x y : Scene) (order : Order) (text : List ℕ) → CarriesOut x order text y → RefusesOrder x.world.store.shape.cpus x.world.programs x.names.maps (Some (length x.turns)) order error.NoCpu → ⊥
+cpu_refused : (x y : Scene) (order : Order) (text : List ℕ) → CarriesOut x order text y → RefusesOrder x.world.store.shape.cpus x.world.programs x.world.store.shape x.names (Some (length x.turns)) order error.NoCpu → ⊥
 cpu_refused x y (Break (Some c) (Some p)) text f r = no_cpu c x.world.store.shape.cpus f.0 r
 cpu_refused x y (Break (Some c) None) text f r = absurd f
 cpu_refused x y (Break None p) text f r = absurd f
@@ -90,8 +92,10 @@ cpu_refused x y (GoTo (Some c) None) text f r = absurd f
 cpu_refused x y (GoTo None p) text f r = absurd f
 cpu_refused x y Maps text f r = r
 cpu_refused x y Variables text f r = r
+cpu_refused x y (Number name) text f r = r
 cpu_refused x y Jobs text f r = r
-cpu_refused x y (Watch name digits) text f r = absurd r
+cpu_refused x y (Watch name word) text f r = absurd r
+cpu_refused x y (WatchVariable name) text f r = absurd r
 cpu_refused x y Unwatch text f r = absurd r
 cpu_refused x y (Mark n) text f r = r
 cpu_refused x y (Back n) text f r = r
@@ -104,7 +108,7 @@ cpu_refused x y (Delete (Some c) (Some p)) text f r = no_cpu c x.world.store.sha
 cpu_refused x y (Delete (Some c) None) text f r = absurd f
 cpu_refused x y (Delete None p) text f r = absurd f
 
-pc_refused : (x y : Scene) (order : Order) (text : List ℕ) → CarriesOut x order text y → RefusesOrder x.world.store.shape.cpus x.world.programs x.names.maps (Some (length x.turns)) order error.NoPc → ⊥
+pc_refused : (x y : Scene) (order : Order) (text : List ℕ) → CarriesOut x order text y → RefusesOrder x.world.store.shape.cpus x.world.programs x.world.store.shape x.names (Some (length x.turns)) order error.NoPc → ⊥
 pc_refused x y (Break (Some c) (Some p)) text f r = r.1 f.1.0
 pc_refused x y (Break (Some c) None) text f r = absurd f
 pc_refused x y (Break None p) text f r = absurd f
@@ -125,8 +129,10 @@ pc_refused x y (GoTo (Some c) None) text f r = absurd f
 pc_refused x y (GoTo None p) text f r = absurd f
 pc_refused x y Maps text f r = absurd r
 pc_refused x y Variables text f r = absurd r
+pc_refused x y (Number name) text f r = absurd r
 pc_refused x y Jobs text f r = absurd r
-pc_refused x y (Watch name digits) text f r = absurd r
+pc_refused x y (Watch name word) text f r = absurd r
+pc_refused x y (WatchVariable name) text f r = absurd r
 pc_refused x y Unwatch text f r = absurd r
 pc_refused x y (Mark n) text f r = absurd r
 pc_refused x y (Back n) text f r = absurd r
@@ -137,15 +143,17 @@ pc_refused x y (Delete (Some c) (Some p)) text f r = r.1 f.1.0
 pc_refused x y (Delete (Some c) None) text f r = absurd f
 pc_refused x y (Delete None p) text f r = absurd f
 
-map_refused : (x y : Scene) (order : Order) (text : List ℕ) → CarriesOut x order text y → RefusesOrder x.world.store.shape.cpus x.world.programs x.names.maps (Some (length x.turns)) order error.NoMap → ⊥
+map_refused : (x y : Scene) (order : Order) (text : List ℕ) → CarriesOut x order text y → RefusesOrder x.world.store.shape.cpus x.world.programs x.world.store.shape x.names (Some (length x.turns)) order error.NoMap → ⊥
 map_refused x y (Map name) text f r = r f.0.0 f.0.1.0
 map_refused x y (Keys name) text f r = r f.0.0 f.0.1.0
 map_refused x y Schedule text f r = absurd r
 map_refused x y (GoTo c p) text f r = absurd r
 map_refused x y Maps text f r = absurd r
 map_refused x y Variables text f r = absurd r
+map_refused x y (Number name) text f r = let both : Some f.0.0 ≡ None = sym f.0.1 ∙ r in cc
 map_refused x y Jobs text f r = absurd r
-map_refused x y (Watch name digits) text f r = r.0 f.0 f.2.0
+map_refused x y (Watch name word) text f r = r f.0 f.3.0
+map_refused x y (WatchVariable name) text f r = let both : Some f.0 ≡ None = sym f.1 ∙ r in cc
 map_refused x y Unwatch text f r = absurd r
 map_refused x y (Mark n) text f r = absurd r
 map_refused x y (Back n) text f r = absurd r
@@ -164,17 +172,12 @@ map_refused x y (Registers c) text f r = absurd r
 map_refused x y (Where c) text f r = absurd r
 map_refused x y (Memory c at n) text f r = absurd r
 
-not_bytes : (digits key : List ℕ) → decode_of digits ≡ Ok key → IsErr (decode_of digits) → ⊥
-not_bytes digits key is none = let both : true ≡ false = sym none ∙ ap is_err is in cc
+not_chosen : (h : Shape) (names : Names) (name word : List ℕ) (m n : ℕ) (c : Chosen) → IsNamed names.maps name m → IsNamed names.maps name n → chosen_in h m word ≡ Some c → chosen_in h n word ≡ None → ⊥
+not_chosen h names name word m n c named also some none =
+    let both : Some c ≡ None = sym some ∙ ap (λ (k : ℕ). chosen_in h k word) (one_name names.maps name m n named also) ∙ none in
+    cc
 
-not_both_bytes : (digits : List ℕ) → IsOk (decode_of digits) → IsErr (decode_of digits) → ⊥
-not_both_bytes digits some none = by_result (decode_of digits) some none
-  where
-    by_result : (r : Result (List ℕ) FromHexError) → is_ok r ≡ true → is_err r ≡ true → ⊥
-    by_result (Ok key) some none = let both : false ≡ true = none in cc
-    by_result (Err e) some none = let both : false ≡ true = some in cc
-
-turns_refused : (x y : Scene) (order : Order) (text : List ℕ) → CarriesOut x order text y → RefusesOrder x.world.store.shape.cpus x.world.programs x.names.maps (Some (length x.turns)) order error.BadOperand → ⊥
+turns_refused : (x y : Scene) (order : Order) (text : List ℕ) → CarriesOut x order text y → RefusesOrder x.world.store.shape.cpus x.world.programs x.world.store.shape x.names (Some (length x.turns)) order error.BadOperand → ⊥
 turns_refused x y (Back n) text f r = omega (arith, f.0, r)
 turns_refused x y (Map name) text f r = absurd r
 turns_refused x y (Keys name) text f r = absurd r
@@ -182,8 +185,10 @@ turns_refused x y Schedule text f r = absurd r
 turns_refused x y (GoTo c p) text f r = absurd r
 turns_refused x y Maps text f r = absurd r
 turns_refused x y Variables text f r = absurd r
+turns_refused x y (Number name) text f r = absurd r
 turns_refused x y Jobs text f r = absurd r
-turns_refused x y (Watch name digits) text f r = not_bytes digits f.1 f.3 r
+turns_refused x y (Watch name word) text f r = not_chosen x.world.store.shape x.names name word f.0 r.0 (f.1, f.2) f.3 r.1 f.4 r.2
+turns_refused x y (WatchVariable name) text f r = absurd r
 turns_refused x y Unwatch text f r = absurd r
 turns_refused x y (Mark n) text f r = absurd r
 turns_refused x y Help text f r = absurd r
@@ -227,8 +232,8 @@ line_refused x y (f ∷ fs) text error.BadOperand o memory r =
     turns_refused x y r.0 text (subst P (same_order (f ∷ fs) o.0 r.0 o.1 r.1) o.2) r.2
 
 -- a line is refused for one reason
-module _ (cpus : ℕ) (programs : List Loaded) (names : List (List ℕ)) (count : Option ℕ) where
-  cpu_or_pc : (order : Order) → RefusesOrder cpus programs names count order error.NoCpu → RefusesOrder cpus programs names count order error.NoPc → ⊥
+module _ (cpus : ℕ) (programs : List Loaded) (h : Shape) (names : Names) (count : Option ℕ) where
+  cpu_or_pc : (order : Order) → RefusesOrder cpus programs h names count order error.NoCpu → RefusesOrder cpus programs h names count order error.NoPc → ⊥
   cpu_or_pc (Break c p) a b = b.0 a
   cpu_or_pc (Step c) a b = absurd b
   cpu_or_pc (Show c) a b = absurd b
@@ -245,8 +250,10 @@ module _ (cpus : ℕ) (programs : List Loaded) (names : List (List ℕ)) (count 
   cpu_or_pc (GoTo c p) a b = b.0 a
   cpu_or_pc Maps a b = absurd b
   cpu_or_pc Variables a b = absurd b
+  cpu_or_pc (Number name) a b = absurd b
   cpu_or_pc Jobs a b = absurd b
-  cpu_or_pc (Watch name digits) a b = absurd b
+  cpu_or_pc (Watch name word) a b = absurd b
+  cpu_or_pc (WatchVariable name) a b = absurd b
   cpu_or_pc Unwatch a b = absurd b
   cpu_or_pc (Mark n) a b = absurd b
   cpu_or_pc (Back n) a b = absurd b
@@ -255,7 +262,7 @@ module _ (cpus : ℕ) (programs : List Loaded) (names : List (List ℕ)) (count 
   cpu_or_pc (Nearby c) a b = absurd b
   cpu_or_pc (Delete c p) a b = b.0 a
 
-  cpu_or_map : (order : Order) → RefusesOrder cpus programs names count order error.NoCpu → RefusesOrder cpus programs names count order error.NoMap → ⊥
+  cpu_or_map : (order : Order) → RefusesOrder cpus programs h names count order error.NoCpu → RefusesOrder cpus programs h names count order error.NoMap → ⊥
   cpu_or_map (Break c p) a b = absurd b
   cpu_or_map (Step c) a b = absurd b
   cpu_or_map (Show c) a b = absurd b
@@ -272,8 +279,10 @@ module _ (cpus : ℕ) (programs : List Loaded) (names : List (List ℕ)) (count 
   cpu_or_map (GoTo c p) a b = absurd b
   cpu_or_map Maps a b = absurd b
   cpu_or_map Variables a b = absurd b
+  cpu_or_map (Number name) a b = absurd a
   cpu_or_map Jobs a b = absurd b
-  cpu_or_map (Watch name digits) a b = absurd a
+  cpu_or_map (Watch name word) a b = absurd a
+  cpu_or_map (WatchVariable name) a b = absurd a
   cpu_or_map Unwatch a b = absurd b
   cpu_or_map (Mark n) a b = absurd b
   cpu_or_map (Back n) a b = absurd b
@@ -282,7 +291,7 @@ module _ (cpus : ℕ) (programs : List Loaded) (names : List (List ℕ)) (count 
   cpu_or_map (Nearby c) a b = absurd b
   cpu_or_map (Delete c p) a b = absurd b
 
-  pc_or_map : (order : Order) → RefusesOrder cpus programs names count order error.NoPc → RefusesOrder cpus programs names count order error.NoMap → ⊥
+  pc_or_map : (order : Order) → RefusesOrder cpus programs h names count order error.NoPc → RefusesOrder cpus programs h names count order error.NoMap → ⊥
   pc_or_map (Break c p) a b = absurd b
   pc_or_map (Step c) a b = absurd b
   pc_or_map (Show c) a b = absurd b
@@ -299,8 +308,10 @@ module _ (cpus : ℕ) (programs : List Loaded) (names : List (List ℕ)) (count 
   pc_or_map (GoTo c p) a b = absurd b
   pc_or_map Maps a b = absurd b
   pc_or_map Variables a b = absurd b
+  pc_or_map (Number name) a b = absurd a
   pc_or_map Jobs a b = absurd b
-  pc_or_map (Watch name digits) a b = absurd a
+  pc_or_map (Watch name word) a b = absurd a
+  pc_or_map (WatchVariable name) a b = absurd a
   pc_or_map Unwatch a b = absurd b
   pc_or_map (Mark n) a b = absurd b
   pc_or_map (Back n) a b = absurd b
@@ -309,7 +320,7 @@ module _ (cpus : ℕ) (programs : List Loaded) (names : List (List ℕ)) (count 
   pc_or_map (Nearby c) a b = absurd b
   pc_or_map (Delete c p) a b = absurd b
 
-  cpu_or_turns : (order : Order) → RefusesOrder cpus programs names count order error.NoCpu → RefusesOrder cpus programs names count order error.BadOperand → ⊥
+  cpu_or_turns : (order : Order) → RefusesOrder cpus programs h names count order error.NoCpu → RefusesOrder cpus programs h names count order error.BadOperand → ⊥
   cpu_or_turns (Back n) a b = absurd a
   cpu_or_turns (Break c p) a b = absurd b
   cpu_or_turns (Step c) a b = absurd b
@@ -327,8 +338,10 @@ module _ (cpus : ℕ) (programs : List Loaded) (names : List (List ℕ)) (count 
   cpu_or_turns (GoTo c p) a b = absurd b
   cpu_or_turns Maps a b = absurd b
   cpu_or_turns Variables a b = absurd b
+  cpu_or_turns (Number name) a b = absurd b
   cpu_or_turns Jobs a b = absurd b
-  cpu_or_turns (Watch name digits) a b = absurd a
+  cpu_or_turns (Watch name word) a b = absurd a
+  cpu_or_turns (WatchVariable name) a b = absurd b
   cpu_or_turns Unwatch a b = absurd b
   cpu_or_turns (Mark n) a b = absurd b
   cpu_or_turns Help a b = absurd b
@@ -336,7 +349,7 @@ module _ (cpus : ℕ) (programs : List Loaded) (names : List (List ℕ)) (count 
   cpu_or_turns (Nearby c) a b = absurd b
   cpu_or_turns (Delete c p) a b = absurd b
 
-  pc_or_turns : (order : Order) → RefusesOrder cpus programs names count order error.NoPc → RefusesOrder cpus programs names count order error.BadOperand → ⊥
+  pc_or_turns : (order : Order) → RefusesOrder cpus programs h names count order error.NoPc → RefusesOrder cpus programs h names count order error.BadOperand → ⊥
   pc_or_turns (Back n) a b = absurd a
   pc_or_turns (Break c p) a b = absurd b
   pc_or_turns (Step c) a b = absurd b
@@ -354,8 +367,10 @@ module _ (cpus : ℕ) (programs : List Loaded) (names : List (List ℕ)) (count 
   pc_or_turns (GoTo c p) a b = absurd b
   pc_or_turns Maps a b = absurd b
   pc_or_turns Variables a b = absurd b
+  pc_or_turns (Number name) a b = absurd b
   pc_or_turns Jobs a b = absurd b
-  pc_or_turns (Watch name digits) a b = absurd a
+  pc_or_turns (Watch name word) a b = absurd a
+  pc_or_turns (WatchVariable name) a b = absurd b
   pc_or_turns Unwatch a b = absurd b
   pc_or_turns (Mark n) a b = absurd b
   pc_or_turns Help a b = absurd b
@@ -363,7 +378,7 @@ module _ (cpus : ℕ) (programs : List Loaded) (names : List (List ℕ)) (count 
   pc_or_turns (Nearby c) a b = absurd b
   pc_or_turns (Delete c p) a b = absurd b
 
-  map_or_turns : (order : Order) → RefusesOrder cpus programs names count order error.NoMap → RefusesOrder cpus programs names count order error.BadOperand → ⊥
+  map_or_turns : (order : Order) → RefusesOrder cpus programs h names count order error.NoMap → RefusesOrder cpus programs h names count order error.BadOperand → ⊥
   map_or_turns (Back n) a b = absurd a
   map_or_turns (Break c p) a b = absurd b
   map_or_turns (Step c) a b = absurd b
@@ -381,8 +396,10 @@ module _ (cpus : ℕ) (programs : List Loaded) (names : List (List ℕ)) (count 
   map_or_turns (GoTo c p) a b = absurd b
   map_or_turns Maps a b = absurd b
   map_or_turns Variables a b = absurd b
+  map_or_turns (Number name) a b = absurd b
   map_or_turns Jobs a b = absurd b
-  map_or_turns (Watch name digits) a b = not_both_bytes digits a.1 b
+  map_or_turns (Watch name word) a b = a b.0 b.1.0
+  map_or_turns (WatchVariable name) a b = absurd b
   map_or_turns Unwatch a b = absurd b
   map_or_turns (Mark n) a b = absurd b
   map_or_turns Help a b = absurd b
@@ -392,25 +409,25 @@ module _ (cpus : ℕ) (programs : List Loaded) (names : List (List ℕ)) (count 
 
   module _ (fields : List (List ℕ)) where
     abbrev Why : DebugError → Type 0
-    Why e = RefusesFields cpus programs names count fields e
+    Why e = RefusesFields cpus programs h names count fields e
 
     both_cpu_pc : Why error.NoCpu → Why error.NoPc → ⊥
-    both_cpu_pc a b = cpu_or_pc b.0 (subst (λ (o : Order). RefusesOrder cpus programs names count o error.NoCpu) (same_order fields a.0 b.0 a.1 b.1) a.2) b.2
+    both_cpu_pc a b = cpu_or_pc b.0 (subst (λ (o : Order). RefusesOrder cpus programs h names count o error.NoCpu) (same_order fields a.0 b.0 a.1 b.1) a.2) b.2
 
     both_cpu_map : Why error.NoCpu → Why error.NoMap → ⊥
-    both_cpu_map a b = cpu_or_map b.0 (subst (λ (o : Order). RefusesOrder cpus programs names count o error.NoCpu) (same_order fields a.0 b.0 a.1 b.1) a.2) b.2
+    both_cpu_map a b = cpu_or_map b.0 (subst (λ (o : Order). RefusesOrder cpus programs h names count o error.NoCpu) (same_order fields a.0 b.0 a.1 b.1) a.2) b.2
 
     both_pc_map : Why error.NoPc → Why error.NoMap → ⊥
-    both_pc_map a b = pc_or_map b.0 (subst (λ (o : Order). RefusesOrder cpus programs names count o error.NoPc) (same_order fields a.0 b.0 a.1 b.1) a.2) b.2
+    both_pc_map a b = pc_or_map b.0 (subst (λ (o : Order). RefusesOrder cpus programs h names count o error.NoPc) (same_order fields a.0 b.0 a.1 b.1) a.2) b.2
 
     both_cpu_turns : Why error.NoCpu → Why error.BadOperand → ⊥
-    both_cpu_turns a b = cpu_or_turns b.0 (subst (λ (o : Order). RefusesOrder cpus programs names count o error.NoCpu) (same_order fields a.0 b.0 a.1 b.1) a.2) b.2
+    both_cpu_turns a b = cpu_or_turns b.0 (subst (λ (o : Order). RefusesOrder cpus programs h names count o error.NoCpu) (same_order fields a.0 b.0 a.1 b.1) a.2) b.2
 
     both_pc_turns : Why error.NoPc → Why error.BadOperand → ⊥
-    both_pc_turns a b = pc_or_turns b.0 (subst (λ (o : Order). RefusesOrder cpus programs names count o error.NoPc) (same_order fields a.0 b.0 a.1 b.1) a.2) b.2
+    both_pc_turns a b = pc_or_turns b.0 (subst (λ (o : Order). RefusesOrder cpus programs h names count o error.NoPc) (same_order fields a.0 b.0 a.1 b.1) a.2) b.2
 
     both_map_turns : Why error.NoMap → Why error.BadOperand → ⊥
-    both_map_turns a b = map_or_turns b.0 (subst (λ (o : Order). RefusesOrder cpus programs names count o error.NoMap) (same_order fields a.0 b.0 a.1 b.1) a.2) b.2
+    both_map_turns a b = map_or_turns b.0 (subst (λ (o : Order). RefusesOrder cpus programs h names count o error.NoMap) (same_order fields a.0 b.0 a.1 b.1) a.2) b.2
 
     bad : Why error.BadCommand → (order : Order) → order_of fields ≡ Some order → ⊥
     bad a order said = let both : None ≡ Some order = sym a.1 ∙ said in cc
@@ -514,12 +531,12 @@ module _ (law : WritesAreDetermined) (begins : OneInstructionBegins) (replies : 
       let same : d ≡ c = one_up w.jobs low high «from» d c up' up in
       let P : ℕ → Type 0 = λ e. TakesTurn w e reply n in
       let one = one_turn law begins replies w c answer reply m n world takes (subst P same takes') in
-      absurd (differs (ap (λ (x : World). watched_value watch x.store) one.worlds ∙ still'))
+      absurd (differs (ap (λ (x : World). watched_values watch x.store) one.worlds ∙ still'))
   one_go breaks watch low high w «from» gone turns others text other y z world (Turns {c = c} {answer = answer} {m = m} up may takes still goes) (Changes {c = d} {answer = reply} {m = n} up' may' takes' differs') =
       let same : d ≡ c = one_up w.jobs low high «from» d c up' up in
       let P : ℕ → Type 0 = λ e. TakesTurn w e reply n in
       let one = one_turn law begins replies w c answer reply m n world takes (subst P same takes') in
-      absurd (differs' (ap (λ (x : World). watched_value watch x.store) (sym one.worlds) ∙ still))
+      absurd (differs' (ap (λ (x : World). watched_values watch x.store) (sym one.worlds) ∙ still))
 
   one_turns : (w : World) (c n : ℕ) (text other : List ℕ) (y z : World) → IsWorld w → MakesTurns w c n text y → MakesTurns w c n other z → OneGo text other y z
   one_turns w c zero text other y z world a b =
@@ -612,13 +629,18 @@ module _ (law : WritesAreDetermined) (begins : OneInstructionBegins) (replies : 
       one_table x.world.store x.names.maps a.0 text other a.2 (subst P (sym same) b.2)
   one_answer_to x (Keys name) text other world own a b =
       let same = one_name x.names.maps name a.0 b.0 a.1 b.1 in
-      let P : ℕ → Type 0 = λ m. IsKeysText x.world.store m other in
-      one_keys x.world.store a.0 text other a.2 (subst P (sym same) b.2)
+      let P : ℕ → Type 0 = λ m. AreKeysOf x.world.store m other in
+      one_table_keys x.world.store a.0 text other a.2 (subst P (sym same) b.2)
   one_answer_to x Schedule text other world own a b = a ∙ sym b
   one_answer_to x Maps text other world own a b = a ∙ sym b
   one_answer_to x Variables text other world own a b = a ∙ sym b
+  one_answer_to x (Number name) text other world own a b =
+      let both : Some a.0 ≡ Some b.0 = sym a.1 ∙ b.1 in
+      let same : a.0 ≡ b.0 = cc in
+      a.2 ∙ ap (λ (v : Variable). number_text v (fixed_of x.world.store v.array 0 0)) same ∙ sym b.2
   one_answer_to x Jobs text other world own a b = a ∙ sym b
-  one_answer_to x (Watch name digits) text other world own a b = absurd a
+  one_answer_to x (Watch name word) text other world own a b = absurd a
+  one_answer_to x (WatchVariable name) text other world own a b = absurd a
   one_answer_to x Unwatch text other world own a b = absurd a
   one_answer_to x (Mark n) text other world own a b = a ∙ sym b
   one_answer_to x Help text other world own a b = a ∙ sym b
@@ -670,15 +692,24 @@ module _ (law : WritesAreDetermined) (begins : OneInstructionBegins) (replies : 
   one_follow x y z (Delete None p) text other world first own a b = absurd a
   one_follow x y z (Break (Some c) None) text other world first own a b = absurd a
   one_follow x y z (Break None p) text other world first own a b = absurd a
-  one_follow x y z (Watch name digits) text other world first own a b =
-      let map : a.0 ≡ b.0 = one_name x.names.maps name a.0 b.0 a.2 b.2 in
-      let both : Ok a.1 ≡ Ok b.1 = sym a.3 ∙ b.3 in
-      let key : a.1 ≡ b.1 = cc in
+  one_follow x y z (Watch name word) text other world first own a b =
+      let map : a.0 ≡ b.0 = one_name x.names.maps name a.0 b.0 a.3 b.3 in
+      let both : Some (a.1, a.2) ≡ Some (b.1, b.2) = sym a.4 ∙ ap (λ (m : ℕ). chosen_in x.world.store.shape m word) map ∙ b.4 in
+      let same : (a.1, a.2) ≡ (b.1, b.2) = cc in
       record {
-        texts = a.4 ∙ ap (λ (k : List ℕ). watch_line name k) key ∙ sym b.4;
-        scenes = a.5 ∙ ap (λ (m : ℕ). record x { watch = Some (m, a.1) }) map ∙ ap (λ (k : List ℕ). record x { watch = Some (b.0, k) }) key ∙ sym b.5;
-        world = subst (λ (s : Scene). IsWorld s.world) (sym a.5) world;
-        first = subst (λ (s : Scene). IsWorld s.first) (sym a.5) first;
+        texts = a.5 ∙ ap (λ (c : Chosen). watch_line name c.1) same ∙ sym b.5;
+        scenes = a.6 ∙ ap (λ (c : Chosen). record x { watch = Some c.0 }) same ∙ sym b.6;
+        world = subst (λ (s : Scene). IsWorld s.world) (sym a.6) world;
+        first = subst (λ (s : Scene). IsWorld s.first) (sym a.6) first;
+      }
+  one_follow x y z (WatchVariable name) text other world first own a b =
+      let both : Some a.0 ≡ Some b.0 = sym a.1 ∙ b.1 in
+      let same : a.0 ≡ b.0 = cc in
+      record {
+        texts = a.2 ∙ ap (λ (v : Variable). variable_watch_line v.name) same ∙ sym b.2;
+        scenes = a.3 ∙ ap (λ (v : Variable). record x { watch = Some (variable_watched v) }) same ∙ sym b.3;
+        world = subst (λ (s : Scene). IsWorld s.world) (sym a.3) world;
+        first = subst (λ (s : Scene). IsWorld s.first) (sym a.3) first;
       }
   one_follow x y z Unwatch text other world first own a b = record {
     texts = a.0 ∙ sym b.0;
@@ -775,6 +806,7 @@ module _ (law : WritesAreDetermined) (begins : OneInstructionBegins) (replies : 
   one_follow x y z (Nearby c) text other world first own a b = asked x y z (Nearby c) text other world first own a b
   one_follow x y z Maps text other world first own a b = asked x y z Maps text other world first own a b
   one_follow x y z Variables text other world first own a b = asked x y z Variables text other world first own a b
+  one_follow x y z (Number name) text other world first own a b = asked x y z (Number name) text other world first own a b
   one_follow x y z Jobs text other world first own a b = asked x y z Jobs text other world first own a b
   one_follow x y z (Mark n) text other world first own a b = asked x y z (Mark n) text other world first own a b
   one_follow x y z (Registers c) text other world first own a b = asked x y z (Registers c) text other world first own a b
@@ -810,7 +842,7 @@ module _ (law : WritesAreDetermined) (begins : OneInstructionBegins) (replies : 
   one_answer x y z line (Ok text) (Err e) world first own a b n m = absurd (line_refused x y (fields_of line) text e a (λ is. m (ap (λ (f : DebugError). Err f) is)) b.0)
   one_answer x y z line (Err e) (Ok text) world first own a b n m = absurd (line_refused x z (fields_of line) text e b (λ is. n (ap (λ (f : DebugError). Err f) is)) a.0)
   one_answer x y z line (Err e) (Err f) world first own a b n m =
-      let same = one_reason x.world.store.shape.cpus x.world.programs x.names.maps (Some (length x.turns)) (fields_of line) e f (λ is. n (ap (λ (g : DebugError). Err g) is)) (λ is. m (ap (λ (g : DebugError). Err g) is)) a.0 b.0 in
+      let same = one_reason x.world.store.shape.cpus x.world.programs x.world.store.shape x.names (Some (length x.turns)) (fields_of line) e f (λ is. n (ap (λ (g : DebugError). Err g) is)) (λ is. m (ap (λ (g : DebugError). Err g) is)) a.0 b.0 in
       record {
         answers = ap (λ (g : DebugError). Err g) same;
         scenes = a.1 ∙ sym b.1;

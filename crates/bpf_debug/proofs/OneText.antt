@@ -24,7 +24,7 @@ use Rattle.bpf_debug.specs.Show.{AreShownLines, IsBefore, IsShownLine, IsShownTe
 use Rattle.bpf_debug.specs.Nearby.{IsLineAt, IsNearbyText, TellsLines, count_shown, first_shown, nearby_line}
 use Rattle.bpf_debug.specs.Held.{IsHeldLine, IsHeldText, IsPlace, IsValueName, TellsHeld, held_line, span_of, value_name}
 use Rattle.bpf_debug.specs.Laws.{KeysHaveOwnValues}
-use Rattle.bpf_debug.specs.Read.{MayRead, MayNotRead, AreBytesAt, IsUnreadable, ShowsBytes, IsMemoryText, IsNamed, IsMapText, IsTableText, IsKeysText, array_named, pair_lines, key_lines, values_text}
+use Rattle.bpf_debug.specs.Read.{MayRead, MayNotRead, AreBytesAt, IsUnreadable, ShowsBytes, IsMemoryText, IsNamed, IsMapText, IsTableText, IsKeysText, AreKeysOf, array_named, indices_text, pair_lines, key_lines, values_text}
 use Rattle.bpf_debug.proofs.OwnValues.{one_key}
 
 -- ---- where a CPU is
@@ -267,5 +267,15 @@ one_table s names m text other (inr a) (inr b) =
     let same : a.0 ≡ b.0 = omega arith in
     a.2 ∙ ap (λ (k : ℕ). values_text s (array_named names maps k) (slice_get s.shape.arrays k)) same ∙ sym b.2
 
-pub one_keys : (s : Plain) (m : ℕ) (text other : List ℕ) → IsKeysText s m text → IsKeysText s m other → text ≡ other
+one_keys : (s : Plain) (m : ℕ) (text other : List ℕ) → IsKeysText s m text → IsKeysText s m other → text ≡ other
 one_keys s m text other a b = a.2 ∙ ap (λ (pairs : List Pair). key_lines (length pairs) pairs) (one_listing s m a.0 b.0 a.1 b.1) ∙ sym b.2
+
+pub one_table_keys : (s : Plain) (m : ℕ) (text other : List ℕ) → AreKeysOf s m text → AreKeysOf s m other → text ≡ other
+one_table_keys s m text other (inl a) (inl b) = one_keys s m text other a.1 b.1
+one_table_keys s m text other (inl a) (inr b) = let less = a.0 in let is = b.1 in absurd (omega arith)
+one_table_keys s m text other (inr a) (inl b) = let less = b.0 in let is = a.1 in absurd (omega arith)
+one_table_keys s m text other (inr a) (inr b) =
+    let one = a.1 in
+    let two = b.1 in
+    let same : a.0 ≡ b.0 = omega arith in
+    a.2 ∙ ap (λ (k : ℕ). indices_text (slice_get s.shape.arrays k)) same ∙ sym b.2

@@ -4,7 +4,7 @@ use Rattle.std.specs.Prelude.{Ok, Err}
 use Rattle.bpf_lines.specs.Lines.{fields_of}
 use Rattle.bpf_machine.specs.Schedule.{World, RunsSchedule, unrolled}
 use Rattle.bpf_debug.specs.declared.recall.Kind.TheVariants as kind
-use Rattle.bpf_debug.specs.Command.{Order, Break, Delete, Step, StepTimes, Steps, Go, Registers, Where, Memory, Map, Keys, Schedule, GoTo, Maps, Variables, Jobs, Mark, Back, Help, Held, Nearby, Last, Show, Watch, Unwatch}
+use Rattle.bpf_debug.specs.Command.{Order, Break, Delete, Step, StepTimes, Steps, Go, Registers, Where, Memory, Map, Keys, Schedule, GoTo, Maps, Variables, Number, Jobs, Mark, Back, Help, Held, Nearby, Last, Show, Watch, WatchVariable, Unwatch}
 use Rattle.bpf_debug.specs.Course.{turns_before}
 use Rattle.bpf_debug.specs.Session.{Scene, CarriesOut, Obeys, behind}
 use Rattle.bpf_debug.specs.Script.{Answer, AnswersLine}
@@ -33,7 +33,8 @@ stays x y are is = subst AreOwn (sym is) are
 order_keeps : (x y : Scene) (o : Order) (text : List ℕ) → AreOwn x → CarriesOut x o text y → AreOwn y
 order_keeps x y (Break (Some c) (Some p)) text are f = subst AreOwn (sym f.1.2) (record { world = are.world; first = are.first })
 order_keeps x y (Delete (Some c) (Some p)) text are f = subst AreOwn (sym f.1.2) (record { world = are.world; first = are.first })
-order_keeps x y (Watch name digits) text are f = subst AreOwn (sym f.5) (record { world = are.world; first = are.first })
+order_keeps x y (Watch name word) text are f = subst AreOwn (sym f.6) (record { world = are.world; first = are.first })
+order_keeps x y (WatchVariable name) text are f = subst AreOwn (sym f.3) (record { world = are.world; first = are.first })
 order_keeps x y Unwatch text are f = subst AreOwn (sym f.1) (record { world = are.world; first = are.first })
 order_keeps x y (Step (Some c)) text are f = went_on x y (c ∷ []) f.1.1 are (f.1.0, f.1.1, f.1.3, refl) f.1.6
 order_keeps x y (StepTimes (Some c) n) text are f = went_on x y (replicate n c) f.1.0 are (made_runs x.world c n f.1.1 f.1.0 f.1.3) f.1.6
@@ -66,6 +67,7 @@ order_keeps x y (Keys name) text are f = stays x y are f.1
 order_keeps x y Schedule text are f = stays x y are f.1
 order_keeps x y Maps text are f = stays x y are f.1
 order_keeps x y Variables text are f = stays x y are f.1
+order_keeps x y (Number name) text are f = stays x y are f.1
 order_keeps x y Jobs text are f = stays x y are f.1
 order_keeps x y (Mark n) text are f = stays x y are f.1
 order_keeps x y Help text are f = stays x y are f.1

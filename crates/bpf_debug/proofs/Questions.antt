@@ -1,6 +1,6 @@
 -- Questions change nothing.
 use Rattle.std.proofs.Common.{◌≡◌, ℕ, List, Option, Some, None, ◌⊎◌, inl, inr, ap}
-use Rattle.bpf_debug.specs.Command.{Order, Break, Delete, Step, StepTimes, Steps, Go, Registers, Where, Memory, Map, Keys, Schedule, GoTo, Maps, Variables, Jobs, Mark, Back, Help, Held, Nearby, Last, Show, Watch, Unwatch}
+use Rattle.bpf_debug.specs.Command.{Order, Break, Delete, Step, StepTimes, Steps, Go, Registers, Where, Memory, Map, Keys, Schedule, GoTo, Maps, Variables, Number, Jobs, Mark, Back, Help, Held, Nearby, Last, Show, Watch, WatchVariable, Unwatch}
 use Rattle.bpf_debug.specs.Session.{Scene, CarriesOut}
 use Rattle.bpf_debug.specs.Laws.{IsQuestion, QuestionsChangeNothing}
 
@@ -13,6 +13,7 @@ asks x y (Keys name) text q f = f.1
 asks x y Schedule text q f = f.1
 asks x y Maps text q f = f.1
 asks x y Variables text q f = f.1
+asks x y (Number name) text q f = f.1
 asks x y Jobs text q f = f.1
 asks x y (Mark n) text q f = f.1
 asks x y Help text q f = f.1
@@ -21,7 +22,8 @@ asks x y (Nearby c) text q f = f.1
 asks x y (Back n) text q f = absurd q
 asks x y (Delete c p) text q f = absurd q
 asks x y (Break c p) text q f = absurd q
-asks x y (Watch name digits) text q f = absurd q
+asks x y (Watch name word) text q f = absurd q
+asks x y (WatchVariable name) text q f = absurd q
 asks x y Unwatch text q f = absurd q
 asks x y (Step c) text q f = absurd q
 asks x y (Show c) text q f = absurd q
@@ -41,9 +43,10 @@ deletes x y (Some c) (Some p) text f = (ap (λ (z : Scene). z.turns) f.1.2, ap (
 deletes x y (Some c) None text f = absurd f
 deletes x y None p text f = absurd f
 
-watches : (x y : Scene) (name digits text : List ℕ) → CarriesOut x (Watch name digits) text y ⊎ CarriesOut x Unwatch text y → (y.turns ≡ x.turns) × (y.world ≡ x.world)
-watches x y name digits text (inl f) = (ap (λ (z : Scene). z.turns) f.5, ap (λ (z : Scene). z.world) f.5)
-watches x y name digits text (inr f) = (ap (λ (z : Scene). z.turns) f.1, ap (λ (z : Scene). z.world) f.1)
+watches : (x y : Scene) (name word text : List ℕ) → CarriesOut x (Watch name word) text y ⊎ CarriesOut x (WatchVariable name) text y ⊎ CarriesOut x Unwatch text y → (y.turns ≡ x.turns) × (y.world ≡ x.world)
+watches x y name word text (inl f) = (ap (λ (z : Scene). z.turns) f.6, ap (λ (z : Scene). z.world) f.6)
+watches x y name word text (inr (inl f)) = (ap (λ (z : Scene). z.turns) f.3, ap (λ (z : Scene). z.world) f.3)
+watches x y name word text (inr (inr f)) = (ap (λ (z : Scene). z.turns) f.1, ap (λ (z : Scene). z.world) f.1)
 
 pub questions_change_nothing : QuestionsChangeNothing
 questions_change_nothing = (asks, breaks, deletes, watches)

@@ -4,14 +4,13 @@ use Rattle.std.proofs.lemmas.Bool.{ltb-true}
 use Rattle.std.proofs.lemmas.List.{get_or-drop, length-drop, take-append-drop}
 use Rattle.std.proofs.lemmas.List.Sums.{sum_by-le}
 use Rattle.std.proofs.Math.Nat.{mul-le-mul_left}
-use Rattle.std.specs.Prelude.{codes, Ok}
-use Rattle.hex.specs.Hex.{decode_of}
+use Rattle.std.specs.Prelude.{codes}
 use Rattle.bpf_schedule.specs.Spelling.{runs_text}
 use Rattle.bpf_loader.specs.Loaded.{Loaded}
 use Rattle.bpf_shared.specs.Shape.{Shape}
 use Rattle.bpf_shared.specs.Store.{Plain}
 use Rattle.bpf_shared.specs.Sound.{IsSoundStore}
-use Rattle.bpf_names.specs.Names.{Names}
+use Rattle.bpf_names.specs.Names.{Names, Variable, variable_named}
 use Rattle.bpf_plain.specs.PlainStore.{StandsFor, has_cpu, shape_of}
 use Rattle.bpf_jobs.specs.Printed.{variable_lines}
 use Rattle.bpf_machine.specs.declared.machine.Turn.{Turn}
@@ -24,10 +23,10 @@ use Rattle.bpf_machine.specs.Hands.{IsAt}
 use Rattle.bpf_machine.specs.Work.{IsState}
 use Rattle.bpf_cpu.specs.declared.cpu.Cpu.{Cpu}
 use Rattle.bpf_debug.specs.declared.breakpoint.Breakpoint.{Breakpoint}
-use Rattle.bpf_debug.specs.Command.{Order, Break, Delete, Step, StepTimes, Steps, Go, Registers, Where, Memory, Map, Keys, Schedule, GoTo, Maps, Variables, Jobs, Mark, Back, Help, Held, Nearby, Last, Show, Watch, Unwatch, order_of}
+use Rattle.bpf_debug.specs.Command.{Order, Break, Delete, Step, StepTimes, Steps, Go, Registers, Where, Memory, Map, Keys, Schedule, GoTo, Maps, Variables, Number, Jobs, Mark, Back, Help, Held, Nearby, Last, Show, Watch, WatchVariable, Unwatch, order_of}
 use Rattle.bpf_debug.specs.declared.error.DebugError.{DebugError}
 use Rattle.bpf_debug.specs.declared.error.DebugError.TheVariants as error
-use Rattle.bpf_debug.specs.Answer.{IsWhere, IsRegisters, IsOff, ended_text, break_line, deleted_line, watch_line, unwatched_line}
+use Rattle.bpf_debug.specs.Answer.{IsWhere, IsRegisters, IsOff, ended_text, break_line, deleted_line, variable_watch_line, watch_line, unwatched_line}
 use Rattle.bpf_debug.specs.Held.{IsHeldText, ShowsHeld, TellsHeld}
 use Rattle.bpf_debug.specs.Nearby.{IsNearbyText}
 use Rattle.bpf_debug.specs.Recall.{Past, Recalls, IsLastText, IsRecall}
@@ -36,8 +35,9 @@ use Rattle.bpf_debug.specs.declared.recall.Recall.{Recall}
 use Rattle.bpf_debug.specs.Show.{AreShownLines, IsBefore, IsShownText, changed_text}
 use Rattle.bpf_debug.specs.Private.Naming.{ShowsLines}
 use Rattle.bpf_debug.proofs.RecallLaws.{recalls_run}
-use Rattle.bpf_debug.specs.Read.{IsMemoryText, IsNamed, IsTableText, TellsBytes, TellsKeys, TellsTable}
-use Rattle.bpf_debug.specs.Go.{Goes, Watched, has_break, without_break}
+use Rattle.bpf_debug.specs.Read.{IsMemoryText, IsNamed, IsTableText, TellsBytes, TellsNumber, TellsTable, TellsTableKeys}
+use Rattle.bpf_debug.specs.Go.{Goes, has_break, without_break}
+use Rattle.bpf_debug.specs.Watch.{Watched, chosen_in, variable_watched}
 use Rattle.bpf_debug.specs.Told.{store_lines, told_jobs, mark_line}
 use Rattle.bpf_debug.specs.Course.{AreFewer, IsKept, KeepsOn, TakesBack, count_of, cpu_before, runs_of, turns_before}
 use Rattle.bpf_debug.specs.Origin.{OriginState, CanRewind, first_of}
@@ -269,12 +269,22 @@ module _ (m : MachineState) (o : OriginState) (names : Names) (breaks : List Bre
         },
       )
 
-  pub set_watch : (name digits key : List ℕ) (n : ℕ) (more : Option Watched) (last : List ℕ) → IsNamed names.maps name n → decode_of digits ≡ Ok key → more ≡ Some (n, key) → last ≡ watch_line name key
-      → Leaves session (Watch name digits) last (record { machine = m; first = first_of o m.programs; names = names; breaks = breaks; watch = more; course = kept })
-  set_watch name digits key n more last named decoded same put x shown =
-      let N : Names → Type 0 = λ ns. IsNamed ns.maps name n in (
-        record x { watch = Some (n, key) },
-        (n, key, subst N (sym shown.names) named, decoded, put, refl),
+  pub set_watch : (name word key : List ℕ) (n : ℕ) (w : Watched) (more : Option Watched) (last : List ℕ) → IsNamed names.maps name n → chosen_in (shape_of m.store) n word ≡ Some (w, key) → more ≡ Some w → last ≡ watch_line name key
+      → Leaves session (Watch name word) last (record { machine = m; first = first_of o m.programs; names = names; breaks = breaks; watch = more; course = kept })
+  set_watch name word key n w more last named chosen same put x shown =
+      let N : Names → Type 0 = λ ns. IsNamed ns.maps name n in
+      let H : Shape → Type 0 = λ h. chosen_in h n word ≡ Some (w, key) in (
+        record x { watch = Some w },
+        (n, w, key, subst N (sym shown.names) named, subst H (sym shown.world.store.shape) chosen, put, refl),
+        record { world = shown.world; first = shown.first; names = shown.names; breaks = shown.breaks; watch = sym same; turns = shown.turns },
+      )
+
+  pub set_variable : (name : List ℕ) (v : Variable) (more : Option Watched) (last : List ℕ) → variable_named name names.variables ≡ Some v → more ≡ Some (variable_watched v) → last ≡ variable_watch_line v.name
+      → Leaves session (WatchVariable name) last (record { machine = m; first = first_of o m.programs; names = names; breaks = breaks; watch = more; course = kept })
+  set_variable name v more last named same put x shown =
+      let N : Names → Type 0 = λ ns. variable_named name ns.variables ≡ Some v in (
+        record x { watch = Some (variable_watched v) },
+        (v, subst N (sym shown.names) named, put, refl),
         record { world = shown.world; first = shown.first; names = shown.names; breaks = shown.breaks; watch = sym same; turns = shown.turns },
       )
 
@@ -357,10 +367,11 @@ told_nearby s c last has tells x shown =
 
 pub told_map : (s : SessionState) (name : List ℕ) (m : ℕ) (last : List ℕ) → IsNamed s.names.maps name m → TellsTable s.machine.store s.names.maps m last → Leaves s (Map name) last s
 told_map s name m last named tells x shown =
-    let N : Names → Type 0 = λ names. IsNamed names.maps name m × IsTableText x.world.store names.maps m last in
-    (x, ((m, subst N (sym shown.names) (named, tells x.world.store shown.world.sound shown.world.store)), refl), shown)
+    let N : Names → Type 0 = λ names. IsNamed names.maps name m in
+    let T : Names → Type 0 = λ names. IsTableText x.world.store names.maps m last in
+    (x, ((m, subst N (sym shown.names) named, subst T (sym shown.names) (tells x.world.store shown.world.sound shown.world.store)), refl), shown)
 
-pub told_keys : (s : SessionState) (name : List ℕ) (m : ℕ) (last : List ℕ) → IsNamed s.names.maps name m → TellsKeys s.machine.store m last → Leaves s (Keys name) last s
+pub told_keys : (s : SessionState) (name : List ℕ) (m : ℕ) (last : List ℕ) → IsNamed s.names.maps name m → TellsTableKeys s.machine.store m last → Leaves s (Keys name) last s
 told_keys s name m last named tells x shown =
     let N : Names → Type 0 = λ names. IsNamed names.maps name m in
     (x, ((m, subst N (sym shown.names) named, tells x.world.store shown.world.sound shown.world.store), refl), shown)
@@ -383,6 +394,11 @@ pub told_variables : (s : SessionState) (last : List ℕ)
 told_variables s last told x shown =
     let N : Names → Type 0 = λ names. last ≡ variable_lines x.world.store names.variables (length names.variables) in
     (x, (subst N (sym shown.names) (told x.world.store shown.world.sound shown.world.store), refl), shown)
+
+pub told_number : (s : SessionState) (name : List ℕ) (v : Variable) (last : List ℕ) → variable_named name s.names.variables ≡ Some v → TellsNumber s.machine.store v last → Leaves s (Number name) last s
+told_number s name v last named tells x shown =
+    let N : Names → Type 0 = λ names. variable_named name names.variables ≡ Some v in
+    (x, ((v, subst N (sym shown.names) named, tells x.world.store shown.world.sound shown.world.store), refl), shown)
 
 pub told_of_jobs : (s : SessionState) (room last : List ℕ) → room ≡ [] → last ≡ room ++ told_jobs (length s.machine.jobs) s.machine.jobs → Leaves s Jobs last s
 told_of_jobs s room last empty put x shown =
@@ -407,7 +423,8 @@ stays x y is course = (subst IsCourse (sym is) course, ap (λ (z : Scene). z.fir
 pub follows_on : (x : Scene) (order : Order) (text : List ℕ) (y : Scene) → CarriesOut x order text y → IsCourse x → IsCourse y × (y.first ≡ x.first)
 follows_on x (Break (Some c) (Some p)) text y f course = (subst IsCourse (sym f.1.2) course, ap (λ (z : Scene). z.first) f.1.2)
 follows_on x (Delete (Some c) (Some p)) text y f course = (subst IsCourse (sym f.1.2) course, ap (λ (z : Scene). z.first) f.1.2)
-follows_on x (Watch name digits) text y f course = (subst IsCourse (sym f.5) course, ap (λ (z : Scene). z.first) f.5)
+follows_on x (Watch name word) text y f course = (subst IsCourse (sym f.6) course, ap (λ (z : Scene). z.first) f.6)
+follows_on x (WatchVariable name) text y f course = (subst IsCourse (sym f.3) course, ap (λ (z : Scene). z.first) f.3)
 follows_on x Unwatch text y f course = (subst IsCourse (sym f.1) course, ap (λ (z : Scene). z.first) f.1)
 follows_on x (Step (Some c)) text y f course = led_on x y (c ∷ []) f.1.1 (f.1.0, f.1.1, f.1.3, refl) f.1.6 course
 follows_on x (StepTimes (Some c) n) text y f course = led_on x y (replicate n c) f.1.0 (made_runs x.world c n f.1.1 f.1.0 f.1.3) f.1.6 course
@@ -426,6 +443,7 @@ follows_on x (Keys name) text y f course = stays x y f.1 course
 follows_on x Schedule text y f course = stays x y f.1 course
 follows_on x Maps text y f course = stays x y f.1 course
 follows_on x Variables text y f course = stays x y f.1 course
+follows_on x (Number name) text y f course = stays x y f.1 course
 follows_on x Jobs text y f course = stays x y f.1 course
 follows_on x (Mark n) text y f course = stays x y f.1 course
 follows_on x Help text y f course = stays x y f.1 course
@@ -467,50 +485,55 @@ fewer (Some runs) turns n is less =
     let sized : length (unrolled runs) ≡ length turns = ap (λ (rs : List (ℕ × ℕ)). length (unrolled rs)) is ∙ ap (λ (cs : List ℕ). length cs) (runs_tell_turns turns).0 in
     omega (arith, sized, less)
 
-few_turns : (kept : Option (List (ℕ × ℕ))) (turns : List ℕ) (order : Order) → IsKept kept turns → HasBadOperand (count_of kept) order → HasBadOperand (Some (length turns)) order
-few_turns kept turns (Back n) is few = fewer kept turns n is few
-few_turns kept turns (Watch name digits) is few = few
-few_turns kept turns Unwatch is few = absurd few
-few_turns kept turns (Break c p) is few = absurd few
-few_turns kept turns (Delete c p) is few = absurd few
-few_turns kept turns (Step c) is few = absurd few
-few_turns kept turns (Show c) is few = absurd few
-few_turns kept turns (Last c) is few = absurd few
-few_turns kept turns (StepTimes c n) is few = absurd few
-few_turns kept turns (Steps runs) is few = absurd few
-few_turns kept turns Go is few = absurd few
-few_turns kept turns (Registers c) is few = absurd few
-few_turns kept turns (Where c) is few = absurd few
-few_turns kept turns (Memory c at n) is few = absurd few
-few_turns kept turns (Map name) is few = absurd few
-few_turns kept turns (Keys name) is few = absurd few
-few_turns kept turns Schedule is few = absurd few
-few_turns kept turns (GoTo c p) is few = absurd few
-few_turns kept turns Maps is few = absurd few
-few_turns kept turns Variables is few = absurd few
-few_turns kept turns Jobs is few = absurd few
-few_turns kept turns (Mark n) is few = absurd few
-few_turns kept turns Help is few = absurd few
-few_turns kept turns (Held c) is few = absurd few
-few_turns kept turns (Nearby c) is few = absurd few
+few_turns : (h : Shape) (names : Names) (kept : Option (List (ℕ × ℕ))) (turns : List ℕ) (order : Order) → IsKept kept turns → HasBadOperand h names (count_of kept) order → HasBadOperand h names (Some (length turns)) order
+few_turns h names kept turns (Back n) is few = fewer kept turns n is few
+few_turns h names kept turns (Watch name word) is few = few
+few_turns h names kept turns (WatchVariable name) is few = absurd few
+few_turns h names kept turns Unwatch is few = absurd few
+few_turns h names kept turns (Break c p) is few = absurd few
+few_turns h names kept turns (Delete c p) is few = absurd few
+few_turns h names kept turns (Step c) is few = absurd few
+few_turns h names kept turns (Show c) is few = absurd few
+few_turns h names kept turns (Last c) is few = absurd few
+few_turns h names kept turns (StepTimes c n) is few = absurd few
+few_turns h names kept turns (Steps runs) is few = absurd few
+few_turns h names kept turns Go is few = absurd few
+few_turns h names kept turns (Registers c) is few = absurd few
+few_turns h names kept turns (Where c) is few = absurd few
+few_turns h names kept turns (Memory c at n) is few = absurd few
+few_turns h names kept turns (Map name) is few = absurd few
+few_turns h names kept turns (Keys name) is few = absurd few
+few_turns h names kept turns Schedule is few = absurd few
+few_turns h names kept turns (GoTo c p) is few = absurd few
+few_turns h names kept turns Maps is few = absurd few
+few_turns h names kept turns Variables is few = absurd few
+few_turns h names kept turns (Number name) is few = absurd few
+few_turns h names kept turns Jobs is few = absurd few
+few_turns h names kept turns (Mark n) is few = absurd few
+few_turns h names kept turns Help is few = absurd few
+few_turns h names kept turns (Held c) is few = absurd few
+few_turns h names kept turns (Nearby c) is few = absurd few
 
-counted : (cpus : ℕ) (programs : List Loaded) (names : List (List ℕ)) (kept : Option (List (ℕ × ℕ))) (turns : List ℕ) (order : Order) (e : DebugError) → IsKept kept turns
-    → RefusesOrder cpus programs names (count_of kept) order e → RefusesOrder cpus programs names (Some (length turns)) order e
-counted cpus programs names kept turns order error.NoCpu is here = here
-counted cpus programs names kept turns order error.NoPc is here = here
-counted cpus programs names kept turns order error.NoMap is here = here
-counted cpus programs names kept turns order error.BadCommand is here = here
-counted cpus programs names kept turns order error.OutOfMemory is here = here
-counted cpus programs names kept turns order error.BadOperand is here = few_turns kept turns order is here
+counted : (cpus : ℕ) (programs : List Loaded) (h : Shape) (names : Names) (kept : Option (List (ℕ × ℕ))) (turns : List ℕ) (order : Order) (e : DebugError) → IsKept kept turns
+    → RefusesOrder cpus programs h names (count_of kept) order e → RefusesOrder cpus programs h names (Some (length turns)) order e
+counted cpus programs h names kept turns order error.NoCpu is here = here
+counted cpus programs h names kept turns order error.NoPc is here = here
+counted cpus programs h names kept turns order error.NoMap is here = here
+counted cpus programs h names kept turns order error.BadCommand is here = here
+counted cpus programs h names kept turns order error.OutOfMemory is here = here
+counted cpus programs h names kept turns order error.BadOperand is here = few_turns h names kept turns order is here
 
 module _ (s : SessionState) (x : Scene) (shown : IsShown s x) where
   -- what a session refuses, its scenes refuse
-  moved : (order : Order) (e : DebugError) → RefusesHere s order e → RefusesOrder x.world.store.shape.cpus x.world.programs x.names.maps (Some (length x.turns)) order e
+  moved : (order : Order) (e : DebugError) → RefusesHere s order e → RefusesOrder x.world.store.shape.cpus x.world.programs x.world.store.shape x.names (Some (length x.turns)) order e
   moved order e here =
-      let C : ℕ → Type 0 = λ cpus. RefusesOrder cpus x.world.programs x.names.maps (Some (length x.turns)) order e in
-      let P : List Loaded → Type 0 = λ programs. RefusesOrder (length s.machine.store.maps.runs) programs x.names.maps (Some (length x.turns)) order e in
-      let N : Names → Type 0 = λ names. RefusesOrder (length s.machine.store.maps.runs) s.machine.programs names.maps (Some (length x.turns)) order e in
-      subst C (sym shown.world.store.maps.cpus) (subst P (sym shown.world.programs) (subst N (sym shown.names) (counted (length s.machine.store.maps.runs) s.machine.programs s.names.maps s.course x.turns order e shown.turns here)))
+      let cpus = length s.machine.store.maps.runs in
+      let h = shape_of s.machine.store in
+      let C : ℕ → Type 0 = λ count. RefusesOrder count x.world.programs x.world.store.shape x.names (Some (length x.turns)) order e in
+      let P : List Loaded → Type 0 = λ programs. RefusesOrder cpus programs x.world.store.shape x.names (Some (length x.turns)) order e in
+      let H : Shape → Type 0 = λ shape. RefusesOrder cpus s.machine.programs shape x.names (Some (length x.turns)) order e in
+      let N : Names → Type 0 = λ names. RefusesOrder cpus s.machine.programs h names (Some (length x.turns)) order e in
+      subst C (sym shown.world.store.maps.cpus) (subst P (sym shown.world.programs) (subst H (sym shown.world.store.shape) (subst N (sym shown.names) (counted cpus s.machine.programs h s.names s.course x.turns order e shown.turns here))))
 
 pub line_refused : (s : SessionState) (fields : List (List ℕ)) (order : Order) (e : DebugError) → Some order ≡ order_of fields → RefusesHere s order e → RefusesLine s fields e
 line_refused s fields order error.NoCpu is here x shown = (order, sym is, moved s x shown order error.NoCpu here)

@@ -3,12 +3,14 @@ use Rattle.std.proofs.Common.{◌≡◌, ℕ, suc, ◌+◌, ◌<◌, List, [], �
 use Rattle.std.specs.Prelude.{option_map, option_and_then, slice_get, slice_index_or, string_bytes}
 use Rattle.std.specs.declared.alloc.Global.{Global}
 use Rattle.std.proofs.lemmas.List.{get_or-map}
+use Rattle.std.proofs.lemmas.Option.{slice_get-map, slice_get_read}
 use Rattle.bpf_shared.specs.declared.shapes.ArrayShape.{ArrayShape}
 use Rattle.bpf_shared.specs.declared.shapes.MapShape.{MapShape}
 use Rattle.bpf_cpu.specs.declared.outcome.Outcome.{Outcome}
 use Rattle.bpf_cpu.specs.Lines.{job_line}
 use Rattle.bpf_cpu.specs.Task.{Task, ended}
-use Rattle.bpf_names.specs.Names.{Variable}
+use Rattle.bpf_names.specs.declared.names.Variable.{Variable as NamedBytes}
+use Rattle.bpf_names.specs.Names.{Variable, variable_of}
 use Rattle.bpf_debug.specs.Told.{array_line, array_lines, named_array, named_line, named_place, place_line, place_lines, shape_lines, open_line, told_line, told_job, told_jobs}
 
 -- ---- jobs
@@ -50,13 +52,19 @@ one_array_more text new name names maps arrays i g there is so_far more =
     ∙ ap (λ (n : List ℕ). array_lines names maps arrays i ++ array_line n g) is
     ∙ ap (λ (o : Option ArrayShape). array_lines names maps arrays i ++ named_array (slice_index_or names (maps + i) []) o) (sym there))
 
-pub one_place_more : (text new : List ℕ) (names : List (List ℕ)) (maps : ℕ) (variables : List Variable) (i : ℕ) (v : Variable) → slice_get variables i ≡ Some v
-    → text ≡ place_lines names maps variables i → new ≡ text ++ place_line names maps v → new ≡ place_lines names maps variables (i + 1)
-one_place_more text new names maps variables i v there so_far more =
+there : (vs : List NamedBytes) (i : ℕ) (v : NamedBytes) → i < length vs → v ≡ get_or vs i v → slice_get (map variable_of vs) i ≡ Some (variable_of v)
+there vs i v inside is = slice_get-map variable_of vs i ∙ ap (option_map variable_of) (slice_get_read vs (length vs) i v refl inside is)
+
+pub one_place_more : (text new array : List ℕ) (names : List (List ℕ)) (maps : ℕ) (vs : List NamedBytes) (i : ℕ) (v : NamedBytes) → i < length vs → v ≡ get_or vs i v
+    → array ≡ slice_index_or names (maps + v.array) [] → text ≡ place_lines names maps (map variable_of vs) i → new ≡ text ++ place_line array (variable_of v)
+    → new ≡ place_lines names maps (map variable_of vs) (i + 1)
+one_place_more text new array names maps vs i v inside is named so_far more =
     let next : suc i ≡ i + 1 = omega arith in
-    subst (λ (n : ℕ). new ≡ place_lines names maps variables n) next
-    (more ∙ ap (λ (t : List ℕ). t ++ place_line names maps v) so_far
-    ∙ ap (λ (o : Option Variable). place_lines names maps variables i ++ named_place names maps o) (sym there))
+    let all = map variable_of vs in
+    subst (λ (n : ℕ). new ≡ place_lines names maps all n) next
+    (more ∙ ap (λ (t : List ℕ). t ++ place_line array (variable_of v)) so_far
+    ∙ ap (λ (n : List ℕ). place_lines names maps all i ++ place_line n (variable_of v)) named
+    ∙ ap (λ (o : Option Variable). place_lines names maps all i ++ named_place names maps o) (sym (there vs i v inside is)))
 
 -- ---- texts, one after the other
 pub behind_both : (x y z a b : List ℕ) → y ≡ x ++ a → z ≡ y ++ b → z ≡ x ++ (a ++ b)

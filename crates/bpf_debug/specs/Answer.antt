@@ -1,6 +1,5 @@
 -- The lines that answer commands (our own choice).
 use Rattle.std.specs.Prelude.{◌≡◌, ℕ, suc, ◌⊎◌, List, [], ◌∷◌, ◌++◌, length, codes}
-use Rattle.hex.specs.Hex.{encode_lower}
 use Rattle.std.specs.Fmt.{decimal}
 use Rattle.bpf_cpu.specs.declared.cpu.Cpu.{Cpu}
 use Rattle.bpf_machine.specs.declared.machine.Turn.{Turn}
@@ -74,10 +73,13 @@ break_line c p = codes "break " ++ decimal c ++ codes " " ++ decimal p ++ codes 
 abbrev pub deleted_line : ℕ → ℕ → List ℕ
 deleted_line c p = codes "break " ++ decimal c ++ codes " " ++ decimal p ++ codes " deleted\n"
 
--- a value is watched, by the name of its map and its key
+-- a value is watched, by the name of its map or array and its key or index
 abbrev pub watch_line : List ℕ → List ℕ → List ℕ
-watch_line name key =
-    codes "watch " ++ (name ++ (codes " " ++ (encode_lower key ++ codes " set\n")))
+watch_line name key = codes "watch " ++ (name ++ (codes " " ++ (key ++ codes " set\n")))
+
+-- a variable is
+abbrev pub variable_watch_line : List ℕ → List ℕ
+variable_watch_line name = codes "watch " ++ (name ++ codes " set\n")
 
 abbrev pub unwatched_line : List ℕ
 unwatched_line = codes "watch deleted\n"

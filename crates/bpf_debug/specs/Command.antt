@@ -41,6 +41,8 @@ pub data Order : Type 0 where
   Maps : Order
   -- `vars`
   Variables : Order
+  -- `var NAME`
+  Number : List ℕ → Order
   -- `jobs`
   Jobs : Order
   -- `mark N`
@@ -55,8 +57,11 @@ pub data Order : Type 0 where
   Last : Option ℕ → Order
   -- `show C`
   Show : Option ℕ → Order
-  -- `watch NAME KEY`: the value of a key of a map is watched, its bytes as they are written
+  -- `watch NAME KEY`: the value of a key of a map, or of an index of an array, is watched; the key as
+  -- it is written
   Watch : List ℕ → List ℕ → Order
+  -- `watch NAME`: a variable is
+  WatchVariable : List ℕ → Order
   -- `watch`: no value is watched any more
   Unwatch : Order
 
@@ -118,13 +123,15 @@ two_words w a =
     else (if bytes_eq (codes "where") w then option_map Where (cpu_in a)
     else (if bytes_eq (codes "map") w then (if is_name a then Some (Map a) else None)
     else (if bytes_eq (codes "keys") w then (if is_name a then Some (Keys a) else None)
+    else (if bytes_eq (codes "var") w then (if is_name a then Some (Number a) else None)
+    else (if bytes_eq (codes "watch") w then (if is_name a then Some (WatchVariable a) else None)
     else (if bytes_eq (codes "mark") w then option_map Mark (mark_in a)
     else (if bytes_eq (codes "back") w then option_map Back (turns_in a)
     else (if bytes_eq (codes "held") w then option_map Held (cpu_in a)
     else (if bytes_eq (codes "list") w then option_map Nearby (cpu_in a)
     else (if bytes_eq (codes "last") w then option_map Last (cpu_in a)
     else (if bytes_eq (codes "show") w then option_map Show (cpu_in a)
-    else None))))))))))
+    else None))))))))))))
 
 abbrev pub three_words : List ℕ → List ℕ → List ℕ → Option Order
 three_words w a b =
@@ -193,6 +200,7 @@ command_order command.Schedule = Schedule
 command_order (command.GoTo c p) = GoTo c p
 command_order command.Maps = Maps
 command_order command.Variables = Variables
+command_order (command.Number name) = Number name.now
 command_order command.Jobs = Jobs
 command_order (command.Mark n) = Mark n
 command_order (command.Back n) = Back n
@@ -201,5 +209,6 @@ command_order (command.Held c) = Held c
 command_order (command.Nearby c) = Nearby c
 command_order (command.Last c) = Last c
 command_order (command.Show c) = Show c
-command_order (command.Watch name digits) = Watch name.now digits.now
+command_order (command.Watch name key) = Watch name.now key.now
+command_order (command.WatchVariable name) = WatchVariable name.now
 command_order command.Unwatch = Unwatch

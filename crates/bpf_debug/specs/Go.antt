@@ -1,6 +1,6 @@
 -- What `go` does: rounds over CPUs in rising order, one turn for each that has work, up to a
 -- breakpoint or to a turn that changes a watched value (our own choice).
-use Rattle.std.specs.Prelude.{◌≡◌, ℕ, ◌+◌, ◌<◌, ◌≤◌, Bool, true, false, ◌==◌, ◌&&◌, ◌⊎◌, List, [], ◌∷◌, ◌++◌, codes, filter, not, Option, Some, None}
+use Rattle.std.specs.Prelude.{◌≡◌, ℕ, ◌+◌, ◌<◌, ◌≤◌, Bool, true, false, ◌==◌, ◌&&◌, ◌⊎◌, List, [], ◌∷◌, ◌++◌, codes, filter, not, Option}
 use Rattle.std.specs.List.{list_any}
 use Rattle.bpf_cpu.specs.declared.cpu.Cpu.{Cpu}
 use Rattle.bpf_machine.specs.declared.machine.Turn.{Turn}
@@ -10,11 +10,7 @@ use Rattle.bpf_machine.specs.Schedule.{World, TakesTurn}
 use Rattle.bpf_machine.specs.Work.{IsNext}
 use Rattle.bpf_debug.specs.declared.breakpoint.Breakpoint.{Breakpoint}
 use Rattle.bpf_debug.specs.Answer.{ended_text, changed_line, stop_line}
-use Rattle.bpf_debug.specs.declared.watch.Watch.{Watch}
-use Rattle.bpf_shared.specs.Store.{Plain}
-use Rattle.bpf_shared.specs.Sound.{IsSoundStore}
-use Rattle.bpf_plain.specs.PlainStore.{Contents, StandsFor}
-use Rattle.bpf_plain.specs.Shows.{value_of}
+use Rattle.bpf_debug.specs.Watch.{Watched, watched_values}
 
 -- ---- who is next
 
@@ -60,30 +56,6 @@ without_break breaks c p = filter (λ b. not (is_break c p b)) breaks
 abbrev pub has_gone : List ℕ → ℕ → Bool
 has_gone turns c = list_any (λ d. d == c) turns
 
--- ---- a watched value
-
--- the number of a map, and a key
-abbrev pub Watched : Type 0
-Watched = ℕ × List ℕ
-
-abbrev pub watched : Watch → Watched
-watched w = (w.map, w.key.items)
-
--- the bytes of the value that is watched, if one is and its key leads to it
-abbrev pub watched_value : Option Watched → Plain → Option (List ℕ)
-watched_value None s = None
-watched_value (Some w) s = value_of s w.0 w.1
-
--- the same of each plain store that a machine's stands for
-abbrev pub ShowsWatched : Contents → Option Watched → Option (List ℕ) → Type 0
-ShowsWatched p watch value =
-    (s : Plain) → IsSoundStore s → StandsFor p s → watched_value watch s ≡ value
-
--- in none of them it is this
-abbrev pub ShowsOther : Contents → Option Watched → Option (List ℕ) → Type 0
-ShowsOther p watch value =
-    (s : Plain) → IsSoundStore s → StandsFor p s → watched_value watch s ≡ value → ⊥
-
 -- ---- all turns of a `go`
 
 -- Of the CPUs from one number on and below another: from this world, the next number in the round,
@@ -106,7 +78,7 @@ pub data Goes (breaks : List Breakpoint) (watch : Option Watched) (low high : �
         → (has_gone gone c ≡ false)
         ⊎ ((p : ℕ) × StandsAt w.jobs c p × (has_break breaks c p ≡ false))
         → TakesTurn w c answer m
-        → (watched_value watch m.store ≡ watched_value watch w.store → ⊥)
+        → (watched_values watch m.store ≡ watched_values watch w.store → ⊥)
         → Goes breaks watch low high w «from» gone (c ∷ [])
         (ended_text c answer ++ changed_line c) m
     -- or one that doesn't
@@ -115,6 +87,6 @@ pub data Goes (breaks : List Breakpoint) (watch : Option Watched) (low high : �
         → IsUp w.jobs low high «from» c
         → (has_gone gone c ≡ false)
         ⊎ ((p : ℕ) × StandsAt w.jobs c p × (has_break breaks c p ≡ false))
-        → TakesTurn w c answer m → watched_value watch m.store ≡ watched_value watch w.store
+        → TakesTurn w c answer m → watched_values watch m.store ≡ watched_values watch w.store
         → Goes breaks watch low high m (c + 1) (c ∷ gone) turns text z
         → Goes breaks watch low high w «from» gone (c ∷ turns) (ended_text c answer ++ text) z

@@ -7,7 +7,7 @@ use Rattle.bpf_shared.specs.Store.{Plain, Finds}
 use Rattle.bpf_machine.specs.Laws.{IsFresh}
 use Rattle.bpf_machine.specs.Schedule.{World, RunsSchedule, unrolled}
 use Rattle.bpf_debug.specs.declared.error.DebugError.TheVariants as error
-use Rattle.bpf_debug.specs.Command.{Order, Break, Delete, Step, StepTimes, Steps, Go, Registers, Where, Memory, Map, Keys, Schedule, GoTo, Maps, Jobs, Mark, Back, Help, Held, Nearby, Last, Show, Watch, Unwatch, is_short}
+use Rattle.bpf_debug.specs.Command.{Order, Break, Delete, Step, StepTimes, Steps, Go, Registers, Where, Memory, Map, Keys, Schedule, GoTo, Maps, Variables, Number, Jobs, Mark, Back, Help, Held, Nearby, Last, Show, Watch, WatchVariable, Unwatch, is_short}
 use Rattle.bpf_debug.specs.Course.{runs_of}
 use Rattle.bpf_debug.specs.Session.{Scene, IsCpu, IsCourse, CarriesOut, behind}
 use Rattle.bpf_debug.specs.Script.{Answer, RunsScript}
@@ -62,6 +62,8 @@ IsQuestion (Map name) = Unit {0}
 IsQuestion (Keys name) = Unit {0}
 IsQuestion Schedule = Unit {0}
 IsQuestion Maps = Unit {0}
+IsQuestion Variables = Unit {0}
+IsQuestion (Number name) = Unit {0}
 IsQuestion Jobs = Unit {0}
 IsQuestion (Mark n) = Unit {0}
 IsQuestion Help = Unit {0}
@@ -70,7 +72,8 @@ IsQuestion (Nearby c) = Unit {0}
 IsQuestion (Back n) = ⊥
 IsQuestion (Delete c p) = ⊥
 IsQuestion (Break c p) = ⊥
-IsQuestion (Watch name digits) = ⊥
+IsQuestion (Watch name word) = ⊥
+IsQuestion (WatchVariable name) = ⊥
 IsQuestion Unwatch = ⊥
 IsQuestion (Step c) = ⊥
 IsQuestion (Show c) = ⊥
@@ -89,9 +92,9 @@ QuestionsChangeNothing =
     → (y.turns ≡ x.turns) × (y.world ≡ x.world))
     × ((x y : Scene) (c p : Option ℕ) (text : List ℕ) → CarriesOut x (Delete c p) text y
     → (y.turns ≡ x.turns) × (y.world ≡ x.world))
-    × ((x y : Scene) (name digits text : List ℕ)
-    → CarriesOut x (Watch name digits) text y ⊎ CarriesOut x Unwatch text y
-    → (y.turns ≡ x.turns) × (y.world ≡ x.world))
+    × ((x y : Scene) (name word text : List ℕ)
+    → CarriesOut x (Watch name word) text y ⊎ CarriesOut x (WatchVariable name) text y
+    ⊎ CarriesOut x Unwatch text y → (y.turns ≡ x.turns) × (y.world ≡ x.world))
 
 -- over a machine that was made by the scene's turns of one whose jobs all wait, what makes the turns
 -- again changes nothing either

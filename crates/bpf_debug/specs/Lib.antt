@@ -1,5 +1,6 @@
 pub mod Command
 pub mod Answer
+pub mod Watch
 pub mod Go
 pub mod Turns
 pub mod Course

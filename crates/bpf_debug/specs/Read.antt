@@ -1,13 +1,16 @@
 -- What `mem` and `map` show: bytes as a CPU's program may read them, and a map's keys with their
 -- values (our own choice).
 use Rattle.std.specs.Prelude.{◌≡◌, ℕ, zero, suc, ◌+◌, ◌^◌, ◌<◌, ◌≤◌, true, false, ◌⊎◌, List, [], ◌++◌, Option, Some, None, codes, length, slice_get, slice_index, slice_index_or}
+use Rattle.std.specs.Fmt.{decimal}
 use Rattle.hex.specs.Hex.{encode_lower}
 use Rattle.bpf_mem.specs.Memory.{byte_at}
 use Rattle.bpf_shared.specs.Store.{Plain}
 use Rattle.bpf_shared.specs.Sound.{IsSoundStore}
 use Rattle.bpf_shared.specs.declared.shapes.ArrayShape.{ArrayShape}
 use Rattle.bpf_plain.specs.PlainStore.{Contents, StandsFor}
-use Rattle.bpf_jobs.specs.Printed.{Called, value_lines}
+use Rattle.bpf_plain.specs.Shows.{fixed_of}
+use Rattle.bpf_names.specs.Names.{Variable}
+use Rattle.bpf_jobs.specs.Printed.{Called, value_lines, variable_line}
 use Rattle.bpf_shared.specs.Listing.{Pair, pair_at, IsListing, IsByteAt, IsOnlyByteAt}
 use Rattle.bpf_helpers.specs.Arrays.{IsInArray}
 use Rattle.bpf_helpers.specs.Held.{reaches}
@@ -144,11 +147,46 @@ abbrev pub IsKeysText : Plain → ℕ → List ℕ → Type 0
 IsKeysText s m text =
     (pairs : List Pair) × IsListing s m pairs × (text ≡ key_lines (length pairs) pairs)
 
+abbrev pub index_line : ℕ → List ℕ
+index_line i = decimal i ++ codes "\n"
+
+-- the first n indices of an array
+abbrev pub index_lines : ℕ → List ℕ
+index_lines zero = []
+index_lines (suc n) = index_lines n ++ index_line n
+
+abbrev pub indices_text : Option ArrayShape → List ℕ
+indices_text None = []
+indices_text (Some g) = index_lines g.max
+
+-- of the maps and the arrays after them the one of this number: a map's keys, or an array's indices
+abbrev pub AreKeysOf : Plain → ℕ → List ℕ → Type 0
+AreKeysOf s m text =
+    ((m < length s.shape.maps) × IsKeysText s m text)
+    ⊎ ((a : ℕ) × (m ≡ length s.shape.maps + a)
+    × (text ≡ indices_text (slice_get s.shape.arrays a)))
+
 abbrev pub TellsKeys : Contents → ℕ → List ℕ → Type 0
 TellsKeys p m text = (s : Plain) → IsSoundStore s → StandsFor p s → IsKeysText s m text
 
 abbrev pub TellsMap : Contents → ℕ → List ℕ → Type 0
 TellsMap p m text = (s : Plain) → IsSoundStore s → StandsFor p s → IsMapText s m text
+
+abbrev pub TellsTableKeys : Contents → ℕ → List ℕ → Type 0
+TellsTableKeys p m text = (s : Plain) → IsSoundStore s → StandsFor p s → AreKeysOf s m text
+
+-- ---- variables
+
+-- the number of one, of whose array this is the first value; none where there is none
+abbrev pub number_text : Variable → Option (List ℕ) → List ℕ
+number_text v None = []
+number_text v (Some bytes) = variable_line v bytes
+
+abbrev pub IsNumberText : Plain → Variable → List ℕ → Type 0
+IsNumberText s v text = text ≡ number_text v (fixed_of s v.array 0 0)
+
+abbrev pub TellsNumber : Contents → Variable → List ℕ → Type 0
+TellsNumber p v text = (s : Plain) → IsSoundStore s → StandsFor p s → IsNumberText s v text
 
 abbrev pub TellsTable : Contents → List (List ℕ) → ℕ → List ℕ → Type 0
 TellsTable p names m text =

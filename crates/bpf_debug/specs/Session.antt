@@ -1,9 +1,10 @@
 -- What commands do: the turns that each makes, what it answers, and why one is refused (our own
 -- choice).
-use Rattle.std.specs.Prelude.{◌≡◌, ℕ, ◌+◌, ◌<◌, ◌≤◌, replicate, Bool, true, false, nat_lt, if◌then◌else◌, ◌⊎◌, List, [], ◌∷◌, ◌++◌, Option, Some, None, length, slice_get, Ok, IsOk, IsErr}
-use Rattle.hex.specs.Hex.{decode_of}
+use Rattle.std.specs.Prelude.{◌≡◌, ℕ, ◌+◌, ◌<◌, ◌≤◌, replicate, Bool, true, false, nat_lt, if◌then◌else◌, ◌⊎◌, List, [], ◌∷◌, ◌++◌, Option, Some, None, length, slice_get}
 use Rattle.std.specs.List.{list_all}
-use Rattle.bpf_names.specs.Names.{Names}
+use Rattle.bpf_names.specs.Names.{Names, Variable, variable_named}
+use Rattle.bpf_plain.specs.PlainStore.{shape_of}
+use Rattle.bpf_shared.specs.Shape.{Shape}
 use Rattle.bpf_loader.specs.Loaded.{Loaded}
 use Rattle.bpf_loader.specs.Places.{IsStart}
 use Rattle.bpf_machine.specs.declared.machine.Turn.{Turn}
@@ -13,11 +14,12 @@ use Rattle.bpf_debug.specs.declared.breakpoint.Breakpoint.{Breakpoint}
 use Rattle.bpf_debug.specs.declared.error.DebugError.{DebugError}
 use Rattle.bpf_debug.specs.declared.error.DebugError.TheVariants as error
 use Rattle.bpf_debug.specs.declared.recall.Kind.TheVariants as kind
-use Rattle.bpf_debug.specs.Command.{Order, Break, Delete, Step, StepTimes, Steps, Go, Registers, Where, Memory, Map, Keys, Schedule, GoTo, Maps, Variables, Jobs, Mark, Back, Help, Held, Nearby, Last, Show, Watch, Unwatch, order_of}
-use Rattle.bpf_debug.specs.Answer.{IsOff, IsWhere, IsRegisters, ended_text, break_line, deleted_line, watch_line, unwatched_line}
+use Rattle.bpf_debug.specs.Command.{Order, Break, Delete, Step, StepTimes, Steps, Go, Registers, Where, Memory, Map, Keys, Schedule, GoTo, Maps, Variables, Number, Jobs, Mark, Back, Help, Held, Nearby, Last, Show, Watch, WatchVariable, Unwatch, order_of}
+use Rattle.bpf_debug.specs.Answer.{IsOff, IsWhere, IsRegisters, ended_text, break_line, deleted_line, variable_watch_line, watch_line, unwatched_line}
 use Rattle.bpf_debug.specs.Turns.{MakesTurns, MakesRuns, last_cpu}
 use Rattle.bpf_debug.specs.Course.{AreFewer, IsKept, count_of, course_line, cpu_before, turns_before}
-use Rattle.bpf_debug.specs.Go.{Goes, Watched, has_break, without_break}
+use Rattle.bpf_debug.specs.Go.{Goes, has_break, without_break}
+use Rattle.bpf_debug.specs.Watch.{Watched, chosen_in, variable_watched}
 use Rattle.bpf_jobs.specs.Printed.{variable_lines}
 use Rattle.bpf_debug.specs.Told.{store_lines, told_jobs, mark_line}
 use Rattle.bpf_debug.specs.Help.{help_text}
@@ -25,7 +27,7 @@ use Rattle.bpf_debug.specs.Held.{IsHeldText}
 use Rattle.bpf_debug.specs.Nearby.{IsNearbyText}
 use Rattle.bpf_debug.specs.Recall.{Past, Recalls, IsLastText}
 use Rattle.bpf_debug.specs.Show.{IsShownText}
-use Rattle.bpf_debug.specs.Read.{IsMemoryText, IsNamed, IsNoName, IsTableText, IsKeysText}
+use Rattle.bpf_debug.specs.Read.{IsMemoryText, IsNamed, IsNoName, IsNumberText, IsTableText, AreKeysOf}
 
 -- what callers see of a session: its machine, the same before the first turn, the names of the maps
 -- by their numbers, the breakpoints, the value that is watched, and the turns made so far in run
@@ -90,11 +92,19 @@ DeletesBreak x c p text y =
     IsPc x.world.programs p × (text ≡ deleted_line c p)
     × (y ≡ record x { breaks = without_break x.breaks c p })
 
--- the digits are a key in hex, and the map is the first of its name; one value is watched at a time
+-- the word says a key of the first map of its name, or an index of the array; one thing is watched at
+-- a time
 abbrev pub SetsWatch : Scene → List ℕ → List ℕ → List ℕ → Scene → Type 0
-SetsWatch x name digits text y =
-    (m : ℕ) × (key : List ℕ) × IsNamed x.names.maps name m × (decode_of digits ≡ Ok key)
-    × (text ≡ watch_line name key) × (y ≡ record x { watch = Some (m, key) })
+SetsWatch x name word text y =
+    (m : ℕ) × (w : Watched) × (key : List ℕ) × IsNamed x.names.maps name m
+    × (chosen_in x.world.store.shape m word ≡ Some (w, key)) × (text ≡ watch_line name key)
+    × (y ≡ record x { watch = Some w })
+
+-- a variable's bytes
+abbrev pub WatchesVariable : Scene → List ℕ → List ℕ → Scene → Type 0
+WatchesVariable x name text y =
+    (v : Variable) × (variable_named name x.names.variables ≡ Some v)
+    × (text ≡ variable_watch_line v.name) × (y ≡ record x { watch = Some (variable_watched v) })
 
 abbrev pub StepsCpu : Scene → ℕ → List ℕ → Scene → Type 0
 StepsCpu x c text y =
@@ -170,10 +180,13 @@ Answers x (Nearby (Some c)) text =
     IsCpu x c × IsNearbyText x.world.programs x.world.jobs c text
 Answers x (Map name) text =
     (m : ℕ) × IsNamed x.names.maps name m × IsTableText x.world.store x.names.maps m text
-Answers x (Keys name) text = (m : ℕ) × IsNamed x.names.maps name m × IsKeysText x.world.store m text
+Answers x (Keys name) text = (m : ℕ) × IsNamed x.names.maps name m × AreKeysOf x.world.store m text
 Answers x Schedule text = text ≡ course_line x.turns
 Answers x Maps text = text ≡ store_lines x.names x.world.store.shape
 Answers x Variables text = text ≡ variable_lines x.world.store x.names.variables (length x.names.variables)
+Answers x (Number name) text =
+    (v : Variable) × (variable_named name x.names.variables ≡ Some v)
+    × IsNumberText x.world.store v text
 Answers x Jobs text = text ≡ told_jobs (length x.world.jobs) x.world.jobs
 Answers x (Mark n) text = text ≡ mark_line n
 Answers x Help text = text ≡ help_text
@@ -183,7 +196,8 @@ Answers x order text = ⊥
 abbrev pub CarriesOut : Scene → Order → List ℕ → Scene → Type 0
 CarriesOut x (Break (Some c) (Some p)) text y = IsCpu x c × SetsBreak x c p text y
 CarriesOut x (Delete (Some c) (Some p)) text y = IsCpu x c × DeletesBreak x c p text y
-CarriesOut x (Watch name digits) text y = SetsWatch x name digits text y
+CarriesOut x (Watch name word) text y = SetsWatch x name word text y
+CarriesOut x (WatchVariable name) text y = WatchesVariable x name text y
 CarriesOut x Unwatch text y = (text ≡ unwatched_line) × (y ≡ record x { watch = None })
 CarriesOut x (Step (Some c)) text y = IsCpu x c × StepsCpu x c text y
 CarriesOut x (StepTimes (Some c) n) text y = IsCpu x c × StepsTimes x c n text y
@@ -222,8 +236,8 @@ LeavesLine s fields text t =
     (x : Scene) → IsShown s x → (y : Scene) × Obeys x fields text y × (IsCourse x → IsCourse y)
     × IsShown t y
 
--- ---- refusals: G4 is tested first, then G1; of a machine with this many CPUs, these programs, maps of
--- these names, and this many turns, where they are kept
+-- ---- refusals: G4 is tested first, then G1; of a machine with this many CPUs, these programs, a store
+-- of this shape, these names, and this many turns, where they are kept
 
 -- no CPU has this number
 abbrev pub IsNoCpu : ℕ → Option ℕ → Type 0
@@ -253,13 +267,15 @@ NamesNoCpu cpus Schedule = ⊥
 NamesNoCpu cpus (GoTo c p) = IsNoCpu cpus c
 NamesNoCpu cpus Maps = ⊥
 NamesNoCpu cpus Variables = ⊥
+NamesNoCpu cpus (Number name) = ⊥
 NamesNoCpu cpus Jobs = ⊥
 NamesNoCpu cpus (Mark n) = ⊥
 NamesNoCpu cpus (Back n) = ⊥
 NamesNoCpu cpus Help = ⊥
 NamesNoCpu cpus (Held c) = IsNoCpu cpus c
 NamesNoCpu cpus (Nearby c) = IsNoCpu cpus c
-NamesNoCpu cpus (Watch name digits) = ⊥
+NamesNoCpu cpus (Watch name word) = ⊥
+NamesNoCpu cpus (WatchVariable name) = ⊥
 NamesNoCpu cpus Unwatch = ⊥
 
 abbrev pub NamesNoPc : ℕ → List Loaded → Order → Type 0
@@ -268,46 +284,52 @@ NamesNoPc cpus programs (Delete c p) = (IsNoCpu cpus c → ⊥) × IsNoPc progra
 NamesNoPc cpus programs (GoTo c p) = (IsNoCpu cpus c → ⊥) × IsNoPc programs p
 NamesNoPc cpus programs order = ⊥
 
-abbrev pub NamesNoMap : List (List ℕ) → Order → Type 0
-NamesNoMap names (Map name) = IsNoName names name
-NamesNoMap names (Keys name) = IsNoName names name
-NamesNoMap names (Watch name digits) = IsNoName names name × IsOk (decode_of digits)
-NamesNoMap names order = ⊥
+-- no map and no array has the name, or no variable
+abbrev pub NamesNothing : Names → Order → Type 0
+NamesNothing names (Map name) = IsNoName names.maps name
+NamesNothing names (Keys name) = IsNoName names.maps name
+NamesNothing names (Watch name word) = IsNoName names.maps name
+NamesNothing names (Number name) = variable_named name names.variables ≡ None
+NamesNothing names (WatchVariable name) = variable_named name names.variables ≡ None
+NamesNothing names order = ⊥
 
--- there are not this many turns, or the digits are no bytes
-abbrev pub HasBadOperand : Option ℕ → Order → Type 0
-HasBadOperand count (Back n) = AreFewer count n
-HasBadOperand count (Watch name digits) = IsErr (decode_of digits)
-HasBadOperand count order = ⊥
+-- there are not this many turns, or the word is no key of the map and no index of the array
+abbrev pub HasBadOperand : Shape → Names → Option ℕ → Order → Type 0
+HasBadOperand h names count (Back n) = AreFewer count n
+HasBadOperand h names count (Watch name word) =
+    (m : ℕ) × IsNamed names.maps name m × (chosen_in h m word ≡ None)
+HasBadOperand h names count order = ⊥
 
 -- why an order is refused
 abbrev pub RefusesOrder
-    : ℕ → List Loaded → List (List ℕ) → Option ℕ → Order → DebugError → Type 0
-RefusesOrder cpus programs names count order error.NoCpu = NamesNoCpu cpus order
-RefusesOrder cpus programs names count order error.NoPc = NamesNoPc cpus programs order
-RefusesOrder cpus programs names count order error.NoMap = NamesNoMap names order
-RefusesOrder cpus programs names count order error.BadCommand = ⊥
-RefusesOrder cpus programs names count order error.OutOfMemory = Unit {0}
-RefusesOrder cpus programs names count order error.BadOperand = HasBadOperand count order
+    : ℕ → List Loaded → Shape → Names → Option ℕ → Order → DebugError → Type 0
+RefusesOrder cpus programs h names count order error.NoCpu = NamesNoCpu cpus order
+RefusesOrder cpus programs h names count order error.NoPc = NamesNoPc cpus programs order
+RefusesOrder cpus programs h names count order error.NoMap = NamesNothing names order
+RefusesOrder cpus programs h names count order error.BadCommand = ⊥
+RefusesOrder cpus programs h names count order error.OutOfMemory = Unit {0}
+RefusesOrder cpus programs h names count order error.BadOperand = HasBadOperand h names count order
 
 -- the same of what a session shows
 abbrev pub RefusesHere : SessionState → Order → DebugError → Type 0
 RefusesHere s order e =
-    RefusesOrder (length s.machine.store.maps.runs) s.machine.programs s.names.maps (count_of s.course) order e
+    RefusesOrder (length s.machine.store.maps.runs) s.machine.programs (shape_of s.machine.store)
+    s.names (count_of s.course) order e
 
 -- why a line is refused; out of memory may take the place of any answer
 abbrev pub RefusesFields
-    : ℕ → List Loaded → List (List ℕ) → Option ℕ → List (List ℕ) → DebugError → Type 0
-RefusesFields cpus programs names count fields error.BadCommand =
+    : ℕ → List Loaded → Shape → Names → Option ℕ → List (List ℕ) → DebugError → Type 0
+RefusesFields cpus programs h names count fields error.BadCommand =
     (fields ≡ [] → ⊥) × (order_of fields ≡ None)
-RefusesFields cpus programs names count fields error.OutOfMemory = Unit {0}
-RefusesFields cpus programs names count fields e = (order : Order) × (order_of fields ≡ Some order)
-    × RefusesOrder cpus programs names count order e
+RefusesFields cpus programs h names count fields error.OutOfMemory = Unit {0}
+RefusesFields cpus programs h names count fields e = (order : Order) × (order_of fields ≡ Some order)
+    × RefusesOrder cpus programs h names count order e
 
 -- the same of a scene
 abbrev pub IsLineRefused : Scene → List (List ℕ) → DebugError → Type 0
 IsLineRefused x fields e =
-    RefusesFields x.world.store.shape.cpus x.world.programs x.names.maps (Some (length x.turns)) fields e
+    RefusesFields x.world.store.shape.cpus x.world.programs x.world.store.shape x.names
+    (Some (length x.turns)) fields e
 
 -- from each scene that the session shows, the line is refused
 abbrev pub RefusesLine : SessionState → List (List ℕ) → DebugError → Type 0

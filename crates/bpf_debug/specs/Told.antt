@@ -62,14 +62,14 @@ array_lines names maps arrays (suc n) =
 -- ---- variables
 
 -- as a run file says it: with the array's name, and where its bytes begin there
-abbrev pub place_line : List (List ℕ) → ℕ → Variable → List ℕ
-place_line names maps v =
-    codes "var " ++ v.name ++ codes " " ++ slice_index_or names (maps + v.array) [] ++ codes " "
-    ++ decimal v.at ++ codes " " ++ decimal (bytes_in v.size) ++ codes "\n"
+abbrev pub place_line : List ℕ → Variable → List ℕ
+place_line array v =
+    codes "var " ++ v.name ++ codes " " ++ array ++ codes " " ++ decimal v.at ++ codes " "
+    ++ decimal (bytes_in v.size) ++ codes "\n"
 
 abbrev pub named_place : List (List ℕ) → ℕ → Option Variable → List ℕ
 named_place names maps None = []
-named_place names maps (Some v) = place_line names maps v
+named_place names maps (Some v) = place_line (slice_index_or names (maps + v.array) []) v
 
 -- a line a variable, of the first n
 abbrev pub place_lines : List (List ℕ) → ℕ → List Variable → ℕ → List ℕ

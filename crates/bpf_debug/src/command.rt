@@ -27,7 +27,7 @@ pub enum Command<'a> {
     Memory(Option<u8>, Option<u64>, usize),
     /// The keys of the map of this name, with their values, or the values of the array.
     Map(&'a [u8]),
-    /// The keys of the map of this name, without their values.
+    /// The keys of the map of this name, without their values, or the indices of the array.
     Keys(&'a [u8]),
     /// The turns made so far.
     Schedule,
@@ -37,6 +37,8 @@ pub enum Command<'a> {
     Maps,
     /// The variables, with their numbers.
     Variables,
+    /// The number of the variable of this name.
+    Number(&'a [u8]),
     /// The jobs, with how those that ended have ended.
     Jobs,
     /// A number to be printed again.
@@ -53,9 +55,11 @@ pub enum Command<'a> {
     Last(Option<u8>),
     /// The registers that a CPU's last turn changed.
     Show(Option<u8>),
-    /// The value of a key of the map of this name is watched.
+    /// The value of a key of the map of this name is watched, or that of an index of the array.
     Watch(&'a [u8], &'a [u8]),
-    /// No value is.
+    /// The variable of this name is.
+    WatchVariable(&'a [u8]),
+    /// Nothing is.
     Unwatch,
 }
 
@@ -138,7 +142,7 @@ fn turns_in(word: &[u8]) -> Option<u64>
 }
 
 /// A number of 64 bits.
-fn mark_in(word: &[u8]) -> Option<u64>
+pub fn mark_in(word: &[u8]) -> Option<u64>
     ensures { result ≡ mark_in word.now }
 {
     words::number(word).ok()
@@ -182,6 +186,10 @@ fn two_words<'a>(word: &[u8], first: &'a [u8]) -> Option<Command<'a>>
         Some(Command::Map(first))
     } else if is(word, "keys") && words::is_name(first) {
         Some(Command::Keys(first))
+    } else if is(word, "var") && words::is_name(first) {
+        Some(Command::Number(first))
+    } else if is(word, "watch") && words::is_name(first) {
+        Some(Command::WatchVariable(first))
     } else if is(word, "mark") {
         let number = mark_in(first)?;
         Some(Command::Mark(number))

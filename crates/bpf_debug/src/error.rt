@@ -14,7 +14,7 @@ pub enum DebugError {
     #[error("no program has an instruction that begins there")]
     NoPc,
     /// G3
-    #[error("no map has this name")]
+    #[error("no map, array or variable has this name")]
     NoMap,
     /// G4
     #[error("not a command")]
@@ -23,7 +23,7 @@ pub enum DebugError {
     #[error("out of memory")]
     OutOfMemory,
     /// G4
-    #[error("so many turns were not made, or the digits are no key")]
+    #[error("so many turns were not made, or this is no key of the map and no index of the array")]
     BadOperand,
 }
 

@@ -7,7 +7,8 @@ ghost use Rattle.bpf_machine.specs.Machine.{Shows};
 ghost use Rattle.bpf_machine.specs.Parts.{IsSameHost};
 ghost use Rattle.bpf_machine.specs.Questions.{open_jobs};
 ghost use Rattle.bpf_debug.specs.Course.{KeepsOn};
-ghost use Rattle.bpf_debug.specs.Go.{Goes, HasWork, AreIdle, IsUp, ShowsWatched, StandsAt, has_break, watched};
+ghost use Rattle.bpf_debug.specs.Go.{Goes, HasWork, AreIdle, IsUp, StandsAt, has_break};
+ghost use Rattle.bpf_debug.specs.Watch.{ShowsWatched, kept_values, watched};
 
 use crate::breakpoint::{Breakpoint, has_break};
 use crate::course::Course;
@@ -93,11 +94,11 @@ pub struct Cpus {
     pub high: u8,
 }
 
-/// The watched value, and its bytes before the first turn.
+/// What is watched, and its values before the first turn.
 #[derive(Clone, Copy)]
 pub struct Watching<'a> {
     pub watch: &'a Option<Watch>,
-    pub before: &'a Option<Vec<u8>>,
+    pub before: &'a [Option<Vec<u8>>],
 }
 
 /// All turns of a `go` of some CPUs, with the lines of the jobs that end and the last line.
@@ -114,7 +115,7 @@ pub fn go(
         ≤ string_capacity out.old }
     requires watched { ShowsWatched machine.old.store
         (option_map watched watching.watch.now)
-        (option_map (λ bytes. bytes.items) watching.before.now) }
+        (kept_values watching.before.now) }
     ensures goes { (w : World) → Shows machine.old w → (z : World) × (turns : List ℕ)
         × (text : List ℕ)
         × Goes breakpoints.now (option_map watched watching.entry.watch.now) cpus.low cpus.high w

@@ -16,6 +16,8 @@ back N         undoes the last N turns
 break C P      go stops CPU C before pc P
 delete C P     no more
 watch NAME KEY go stops after a turn that changed the value of a map's key
+watch NAME I   the same of an array's index
+watch NAME     the same of a variable
 watch          no more
 where C        where CPU C stands
 regs C         its registers
@@ -25,9 +27,10 @@ last C         the last job that ended on it, and its registers before its last 
 held C         the values that its run holds: key, address and bytes
 mem C A N      N bytes from address A on, as its program may read them
 map NAME       the keys of a map with their values; the values of an array
-keys NAME      the keys alone
+keys NAME      the keys alone, or the indices
 maps           the maps, arrays and variables with their sizes
 vars           the variables with their numbers
+var NAME       one of them
 jobs           how each job ended
 schedule       the turns made so far, as the steps that makes them
 mark N         mark N

@@ -25,7 +25,7 @@ use crate::lines::{LINE, put_break, put_deleted, put_ended, put_where};
 use crate::origin::Origin;
 use crate::schedule::{is_schedule, schedule_in};
 use crate::turns::{take_runs, take_turns};
-use crate::watch::{Watch, watched_value};
+use crate::watch::{Watch, watched_values};
 use bpf_lines::lines;
 use bpf_loader::Program;
 use bpf_machine::{Machine, Turn};
@@ -43,7 +43,7 @@ pub struct Session {
     /// The names of maps, arrays and variables.
     names: Names,
     breakpoints: Vec<Breakpoint>,
-    /// The value that is watched.
+    /// What is watched.
     watch: Option<Watch>,
     /// The turns made so far.
     course: Course,
@@ -52,7 +52,7 @@ pub struct Session {
 impl Model for Session {
     ghost use Rattle.std.specs.Prelude.{option_map};
     ghost use Rattle.bpf_names.specs.Names.{names_of};
-    ghost use Rattle.bpf_debug.specs.Go.{watched};
+    ghost use Rattle.bpf_debug.specs.Watch.{watched};
     ghost use Rattle.bpf_machine.specs.Schedule.{World};
     ghost use Rattle.bpf_machine.specs.Machine.{Shows};
     ghost use Rattle.bpf_debug.specs.Origin.{CanRewind, first_of};
@@ -289,7 +289,7 @@ impl Session {
     {
         let mut out = make_room(alloc, self.machine.jobs())?;
         self.course.reserve(usize::MAX)?;
-        let before = watched_value(alloc, self.machine.store(), &self.watch)?;
+        let before = watched_values(alloc, self.machine.store(), &self.watch)?;
         let cpus = self.machine.cpus();
         going::go(
             &mut self.machine,
@@ -316,7 +316,7 @@ impl Session {
     {
         let mut out = make_room(alloc, self.machine.jobs())?;
         self.course.reserve(usize::MAX)?;
-        let before = watched_value(alloc, self.machine.store(), &self.watch)?;
+        let before = watched_values(alloc, self.machine.store(), &self.watch)?;
         let place = [Breakpoint { cpu, pc }];
         let next = next_cpu(&self.machine, cpu);
         going::go(
@@ -492,6 +492,7 @@ impl Session {
             Command::GoTo(cpu, pc) => self.go_to(alloc, cpu, pc),
             Command::Maps => self.maps(alloc),
             Command::Variables => self.variables(alloc),
+            Command::Number(name) => self.number(alloc, name),
             Command::Jobs => self.jobs(alloc),
             Command::Mark(number) => self.mark(alloc, number),
             Command::Back(count) => self.back(alloc, count),
@@ -500,7 +501,8 @@ impl Session {
             Command::Nearby(cpu) => self.nearby(alloc, cpu),
             Command::Last(cpu) => self.last(alloc, cpu),
             Command::Show(cpu) => self.show(alloc, cpu),
-            Command::Watch(name, digits) => self.watch(alloc, name, digits),
+            Command::Watch(name, word) => self.watch(alloc, name, word),
+            Command::WatchVariable(name) => self.watch_variable(alloc, name),
             Command::Unwatch => self.unwatch(alloc),
         }
     }

@@ -145,10 +145,8 @@ fn push_place(
     variable: &Variable,
     array: &str,
 ) -> Result<(), AllocError>
-    ensures { OnOk result ((names : List (List ℕ)) → (maps : ℕ)
-        → array.now ≡ slice_index_or names (maps + variable.now.array) []
-        → string_bytes text.new
-        ≡ string_bytes text.old ++ place_line names maps (variable_of variable.now)) }
+    ensures { OnOk result (string_bytes text.new
+        ≡ string_bytes text.old ++ place_line array.now (variable_of variable.now)) }
 {
     let name = variable.name.as_str();
     let at = variable.at;

@@ -10,7 +10,7 @@ use crate::error::DebugError;
 use crate::held::held_lines;
 use crate::help::help_text;
 use crate::lines::{put_jobs, put_mark, put_off, put_registers, put_where};
-use crate::maps::{key_lines_of, map_named, table_lines};
+use crate::maps::{map_named, number_line, table_keys, table_lines};
 use crate::nearby::nearby_lines;
 use crate::reading::bytes_line;
 use crate::told::store_lines;
@@ -141,7 +141,7 @@ impl Session {
         let Some(map) = map_named(&self.names.maps, name) else {
             return Err(DebugError::NoMap);
         };
-        let text = key_lines_of(alloc, self.machine.store(), map)?;
+        let text = table_keys(alloc, self.machine.store(), map)?;
         Ok(text)
     }
 
@@ -172,6 +172,18 @@ impl Session {
         ensures refused { IfErr result (λ e. RefusesHere self.now Order.Variables e) }
     {
         let text = list_variables(alloc, self.machine.store(), &self.names.variables)?;
+        Ok(text)
+    }
+
+    pub(super) fn number(&self, alloc: Global, name: &[u8]) -> Result<String, DebugError>
+        ensures answered { IfOk result
+            (λ text. Leaves self.now (Order.Number name.now) (string_bytes text) self.now) }
+        ensures refused { IfErr result (λ e. RefusesHere self.now (Order.Number name.now) e) }
+    {
+        let Some(variable) = self.names.variable(name) else {
+            return Err(DebugError::NoMap);
+        };
+        let text = number_line(alloc, self.machine.store(), variable)?;
         Ok(text)
     }
 

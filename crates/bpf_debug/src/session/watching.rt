@@ -1,4 +1,4 @@
-//! What a session does to watch a value: it makes no turn.
+//! What a session does to watch something: it makes no turn.
 
 ghost use Rattle.std.specs.Prelude.{◌≡◌, IfErr, IfOk, OnErr, string_bytes};
 ghost use Rattle.bpf_debug.specs.Command.{Order};
@@ -7,40 +7,62 @@ use super::Session;
 use crate::error::DebugError;
 use crate::held::name_at;
 use crate::maps::map_named;
-use crate::watch::{Watch, watch_line};
-use hex::FromHexError;
+use crate::watch::{choose, variable_watch, variable_watch_line, watch_line};
 use std::alloc::Global;
 
 impl Session {
     ghost use Rattle.bpf_debug.specs.Session.{Leaves, RefusesHere};
 
-    /// The value of a key, in hex, of the map of a name is watched, and no other.
+    /// The value of a key, in hex, of the map of a name is watched, or that of an index of the array,
+    /// and nothing else.
     pub(super) fn watch(
         &mut self,
         alloc: Global,
         name: &[u8],
-        digits: &[u8],
+        word: &[u8],
     ) -> Result<String, DebugError>
         ensures answered { IfOk result (λ text.
-            Leaves self.old (Order.Watch name.now digits.now) (string_bytes text) self.new) }
+            Leaves self.old (Order.Watch name.now word.now) (string_bytes text) self.new) }
         ensures refused { IfErr result
-            (λ e. RefusesHere self.old (Order.Watch name.now digits.now) e) }
+            (λ e. RefusesHere self.old (Order.Watch name.now word.now) e) }
         ensures unchanged { OnErr result (self.new ≡ self.old) }
     {
-        let key = match hex::decode(alloc, digits) {
-            Ok(key) => key,
-            Err(FromHexError::OutOfMemory) => return Err(DebugError::OutOfMemory),
-            Err(_) => return Err(DebugError::BadOperand),
-        };
-        let Some(map) = map_named(&self.names.maps, name) else {
+        let Some(number) = map_named(&self.names.maps, name) else {
             return Err(DebugError::NoMap);
         };
-        let text = watch_line(alloc, name_at(&self.names.maps, map), &key)?;
-        self.watch = Some(Watch { map, key });
+        let Some(choice) = choose(alloc, self.machine.store(), number, word)? else {
+            return Err(DebugError::BadOperand);
+        };
+        let text = watch_line(
+            alloc,
+            name_at(&self.names.maps, number),
+            choice.key.as_str(),
+        )?;
+        self.watch = Some(choice.watch);
         Ok(text)
     }
 
-    /// No value is watched.
+    /// The variable of a name is watched, and nothing else.
+    pub(super) fn watch_variable(
+        &mut self,
+        alloc: Global,
+        name: &[u8],
+    ) -> Result<String, DebugError>
+        ensures answered { IfOk result (λ text.
+            Leaves self.old (Order.WatchVariable name.now) (string_bytes text) self.new) }
+        ensures refused { IfErr result
+            (λ e. RefusesHere self.old (Order.WatchVariable name.now) e) }
+        ensures unchanged { OnErr result (self.new ≡ self.old) }
+    {
+        let Some(variable) = self.names.variable(name) else {
+            return Err(DebugError::NoMap);
+        };
+        let text = variable_watch_line(alloc, variable.name.as_str())?;
+        self.watch = Some(variable_watch(variable));
+        Ok(text)
+    }
+
+    /// Nothing is watched.
     pub(super) fn unwatch(&mut self, alloc: Global) -> Result<String, DebugError>
         ensures answered { IfOk result
             (λ text. Leaves self.old Order.Unwatch (string_bytes text) self.new) }

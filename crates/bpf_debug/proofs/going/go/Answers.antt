@@ -3,7 +3,8 @@ use Rattle.std.specs.Prelude.{string_bytes, string_len, string_capacity, slice_s
 use Rattle.std.specs.declared.alloc.Global.{Global}
 use Rattle.std.proofs.lemmas.List.{length-set}
 use Rattle.bpf_plain.specs.PlainStore.{Contents}
-use Rattle.bpf_debug.specs.Go.{AreIdle, ShowsOther, ShowsWatched, StandsAt, has_break, watched}
+use Rattle.bpf_debug.specs.Go.{AreIdle, StandsAt, has_break}
+use Rattle.bpf_debug.specs.Watch.{ShowsOther, ShowsWatched, kept_values, watched}
 use Rattle.bpf_machine.proofs.HostLaws.{same_host, same_host_still}
 use Rattle.bpf_debug.specs.Answer.{changed_line}
 use Rattle.bpf_debug.proofs.GoLaws.{Comes, Ends, Leads, changed, starts, turned, ended, stopped, falls, fewer, not_idle, room_left, none_is}
@@ -79,11 +80,11 @@ loop-cpu-preserved c =
     in
     let fall = falls c.turns_fall.ensures breaks watch low high noted notes old new next before after c.loop-cpu.from marks cpu c.turn-turn.result w shows comes c.turn-turn.ensures.turn in
     let works = not_idle breaks watch low high noted notes old new next before after c.loop-cpu.from marks cpu c.turn-turn.result w shows comes c.in-Some.ensures.up.works c.turn-turn.ensures.turn in
-    let value = option_map (λ (b : Vec ℕ Global). b.items) c.args.watching.before.now in
-    let now : ShowsWatched next.store watch value = subst (λ (p : Contents). ShowsWatched p watch value) c.store.ensures (c.has_changed.ensures.same c.if-has_changed.false) in
+    let values = kept_values c.args.watching.before.now in
+    let now : ShowsWatched next.store watch values = subst (λ (p : Contents). ShowsWatched p watch values) c.store.ensures (c.has_changed.ensures.same c.if-has_changed.false) in
     let T : List ℕ → Type 0 = λ s. Comes breaks watch low high noted old before next (cpu + 1) (slice_set marks cpu true) c.add.new.self s in
     record {
-      comes = subst T (sym c.put_ended.ensures.text) (turned breaks watch low high noted old new before c.loop-cpu.from marks notes after comes next cpu c.turn-turn.result c.add.new.self (omega arith) (omega arith) c.in-Some.ensures.up may c.turn-turn.ensures.turn c.add.ensures value c.loop-cpu.invariant.watched now);
+      comes = subst T (sym c.put_ended.ensures.text) (turned breaks watch low high noted old new before c.loop-cpu.from marks notes after comes next cpu c.turn-turn.result c.add.new.self (omega arith) (omega arith) c.in-Some.ensures.up may c.turn-turn.ensures.turn c.add.ensures values c.loop-cpu.invariant.watched now);
       watched = now;
       same = same_host_still old new next c.loop-cpu.invariant.same c.turn-turn.ensures.same;
       room = room_left c.turn-turn.result new.jobs next.jobs (string_len c.loop-cpu.out) (string_len c.put_ended.new.out) (string_capacity c.loop-cpu.out) (string_capacity c.put_ended.new.out) fall works c.loop-cpu.invariant.room c.put_ended.ensures.room c.put_ended.ensures.size c.put_ended.ensures.none;
@@ -157,8 +158,8 @@ returns-then-has_changed-clause-goes c =
     let may : (get_or marks cpu false ≡ false) ⊎ ((p : ℕ) × StandsAt new.jobs cpu p × (has_break breaks cpu p ≡ false)) =
     none_is _ c.stop_before.result c.stop_before.ensures.free c.in_default-stop_before.not-Some
     in
-    let value = option_map (λ (b : Vec ℕ Global). b.items) c.args.watching.before.now in
-    let other : ShowsOther next.store watch value = subst (λ (p : Contents). ShowsOther p watch value) c.store.ensures (c.has_changed.ensures.changed c.if-has_changed.true) in
+    let values = kept_values c.args.watching.before.now in
+    let other : ShowsOther next.store watch values = subst (λ (p : Contents). ShowsOther p watch values) c.store.ensures (c.has_changed.ensures.changed c.if-has_changed.true) in
     let L : List ℕ → Type 0 = Leads breaks watch low high noted old new before c.loop-cpu.from marks notes after comes next c.add.new.self in
     let put = c.put_changed.ensures ∙ ap (λ (s : List ℕ). s ++ changed_line cpu) c.put_ended.ensures.text in
-    subst L (sym put) (changed breaks watch low high noted old new before c.loop-cpu.from marks notes after comes next cpu c.turn-turn.result c.add.new.self (omega arith) c.in-Some.ensures.up may c.turn-turn.ensures.turn c.add.ensures value c.loop-cpu.invariant.watched other)
+    subst L (sym put) (changed breaks watch low high noted old new before c.loop-cpu.from marks notes after comes next cpu c.turn-turn.result c.add.new.self (omega arith) c.in-Some.ensures.up may c.turn-turn.ensures.turn c.add.ensures values c.loop-cpu.invariant.watched other)

@@ -4,7 +4,7 @@ use Rattle.bpf_machine.specs.Schedule.{World}
 use Rattle.std.specs.Prelude.{string_bytes, option_map}
 use Rattle.bpf_debug.specs.Command.{Back}
 use Rattle.bpf_debug.specs.Origin.{CanRewind, first_of}
-use Rattle.bpf_debug.specs.Go.{watched}
+use Rattle.bpf_debug.specs.Watch.{watched}
 use Rattle.bpf_debug.specs.Session.{SessionState, Leaves}
 use Rattle.bpf_debug.proofs.SessionLaws.{can_rewound, can_still, went_back}
 use Rattle.bpf_debug.proofs.session.Session.back_by.Goals as goal

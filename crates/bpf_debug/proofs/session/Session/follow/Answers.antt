@@ -75,6 +75,11 @@ returns-in-Variables-clause-answered c =
     let P : Command → Type 0 = λ o. IfOk c.variables.result (λ text. Leaves c.args.self.now (command_order o) (string_bytes text) c.args.self.now) in
     subst P (sym c.in-Variables.is) c.variables.ensures.answered
 
+pub returns-in-Number-clause-answered : goal.returns-in-Number-clause-answered
+returns-in-Number-clause-answered c =
+    let P : Command → Type 0 = λ o. IfOk c.number.result (λ text. Leaves c.args.self.now (command_order o) (string_bytes text) c.args.self.now) in
+    subst P (sym c.in-Number.is) c.number.ensures.answered
+
 pub returns-in-Jobs-clause-answered : goal.returns-in-Jobs-clause-answered
 returns-in-Jobs-clause-answered c =
     let P : Command → Type 0 = λ o. IfOk c.jobs.result (λ text. Leaves c.args.self.now (command_order o) (string_bytes text) c.args.self.now) in
@@ -119,6 +124,11 @@ pub returns-in-Watch-clause-answered : goal.returns-in-Watch-clause-answered
 returns-in-Watch-clause-answered c =
     let P : Command → Type 0 = λ o. IfOk c.watch.result (λ text. Leaves c.args.self.now (command_order o) (string_bytes text) c.watch.new.self) in
     subst P (sym c.in-Watch.is) c.watch.ensures.answered
+
+pub returns-in-WatchVariable-clause-answered : goal.returns-in-WatchVariable-clause-answered
+returns-in-WatchVariable-clause-answered c =
+    let P : Command → Type 0 = λ o. IfOk c.watch_variable.result (λ text. Leaves c.args.self.now (command_order o) (string_bytes text) c.watch_variable.new.self) in
+    subst P (sym c.in-WatchVariable.is) c.watch_variable.ensures.answered
 
 pub returns-in-Unwatch-clause-answered : goal.returns-in-Unwatch-clause-answered
 returns-in-Unwatch-clause-answered c =

@@ -8,7 +8,8 @@ use Rattle.std.proofs.Common.{arith}
 use Rattle.bpf_debug.specs.declared.breakpoint.Breakpoint.{Breakpoint}
 use Rattle.bpf_machine.specs.Schedule.{World}
 use Rattle.bpf_machine.specs.Machine.{Shows}
-use Rattle.bpf_debug.specs.Go.{Goes, watched}
+use Rattle.bpf_debug.specs.Go.{Goes}
+use Rattle.bpf_debug.specs.Watch.{watched}
 use Rattle.bpf_debug.proofs.GoLaws.{count_is}
 use Rattle.bpf_debug.proofs.SessionLaws.{can_still, went, enough}
 use Rattle.bpf_debug.proofs.session.Session.go.Goals as goal

@@ -6,7 +6,8 @@ use Rattle.bpf_machine.specs.Machine.{Shows}
 use Rattle.bpf_debug.specs.Origin.{first_of}
 use Rattle.bpf_debug.specs.Command.{GoTo}
 use Rattle.bpf_debug.specs.Course.{KeepsOn}
-use Rattle.bpf_debug.specs.Go.{Goes, watched}
+use Rattle.bpf_debug.specs.Go.{Goes}
+use Rattle.bpf_debug.specs.Watch.{watched}
 use Rattle.bpf_debug.specs.Session.{SessionState, Leaves, IsPc}
 use Rattle.bpf_debug.proofs.SessionLaws.{can_still, went_to, enough}
 use Rattle.bpf_debug.proofs.session.Session.go_to_pc.Goals as goal

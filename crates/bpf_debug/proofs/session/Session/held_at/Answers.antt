@@ -4,7 +4,7 @@ use Rattle.bpf_plain.specs.PlainStore.{Contents, has_cpu}
 use Rattle.bpf_debug.specs.Origin.{first_of}
 use Rattle.bpf_debug.specs.Held.{ShowsHeld}
 use Rattle.bpf_debug.specs.Command.{Held}
-use Rattle.bpf_debug.specs.Go.{watched}
+use Rattle.bpf_debug.specs.Watch.{watched}
 use Rattle.bpf_debug.specs.Session.{SessionState, Leaves}
 use Rattle.bpf_debug.proofs.SessionLaws.{told_held}
 use Rattle.bpf_debug.proofs.session.Session.held_at.Goals as goal

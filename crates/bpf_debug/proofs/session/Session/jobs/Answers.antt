@@ -2,7 +2,7 @@ use Rattle.std.proofs.Common.{ℕ, List, subst, map}
 use Rattle.std.specs.Prelude.{string_bytes, option_map}
 use Rattle.bpf_debug.specs.Origin.{first_of}
 use Rattle.bpf_debug.specs.Command.{Jobs}
-use Rattle.bpf_debug.specs.Go.{watched}
+use Rattle.bpf_debug.specs.Watch.{watched}
 use Rattle.bpf_debug.specs.Session.{SessionState, Leaves}
 use Rattle.bpf_debug.proofs.SessionLaws.{told_of_jobs}
 use Rattle.bpf_debug.proofs.session.Session.jobs.Goals as goal

@@ -5,7 +5,7 @@ use Rattle.bpf_machine.specs.Machine.{MachineState, Shows}
 use Rattle.bpf_machine.specs.Schedule.{World}
 use Rattle.bpf_debug.specs.Command.{Last}
 use Rattle.bpf_debug.specs.Origin.{CanRewind, first_of}
-use Rattle.bpf_debug.specs.Go.{watched}
+use Rattle.bpf_debug.specs.Watch.{watched}
 use Rattle.bpf_debug.specs.Session.{SessionState, Leaves}
 use Rattle.bpf_debug.proofs.SessionLaws.{can_rewound, can_still, told_last}
 use Rattle.bpf_debug.proofs.session.Session.last_at.Goals as goal

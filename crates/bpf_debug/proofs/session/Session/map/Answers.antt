@@ -4,7 +4,7 @@ use Rattle.bpf_plain.specs.PlainStore.{Contents}
 use Rattle.bpf_debug.specs.Origin.{first_of}
 use Rattle.bpf_debug.specs.Read.{IsNamed, TellsTable}
 use Rattle.bpf_debug.specs.Command.{Map}
-use Rattle.bpf_debug.specs.Go.{watched}
+use Rattle.bpf_debug.specs.Watch.{watched}
 use Rattle.bpf_debug.specs.Session.{SessionState, Leaves}
 use Rattle.bpf_debug.proofs.SessionLaws.{told_map}
 use Rattle.bpf_debug.proofs.session.Session.map.Goals as goal

@@ -4,7 +4,7 @@ use Rattle.bpf_plain.specs.PlainStore.{Contents, shape_of}
 use Rattle.bpf_debug.specs.Origin.{first_of}
 use Rattle.bpf_debug.specs.Told.{store_lines}
 use Rattle.bpf_debug.specs.Command.{Maps}
-use Rattle.bpf_debug.specs.Go.{watched}
+use Rattle.bpf_debug.specs.Watch.{watched}
 use Rattle.bpf_debug.specs.Session.{SessionState, Leaves}
 use Rattle.bpf_debug.proofs.SessionLaws.{told_maps}
 use Rattle.bpf_debug.proofs.session.Session.maps.Goals as goal

@@ -4,7 +4,7 @@ use Rattle.bpf_plain.specs.PlainStore.{Contents, has_cpu}
 use Rattle.bpf_debug.specs.Origin.{first_of}
 use Rattle.bpf_debug.specs.Read.{TellsBytes}
 use Rattle.bpf_debug.specs.Command.{Memory}
-use Rattle.bpf_debug.specs.Go.{watched}
+use Rattle.bpf_debug.specs.Watch.{watched}
 use Rattle.bpf_debug.specs.Session.{SessionState, Leaves}
 use Rattle.bpf_debug.proofs.SessionLaws.{told_bytes}
 use Rattle.bpf_debug.proofs.session.Session.memory_at.Goals as goal

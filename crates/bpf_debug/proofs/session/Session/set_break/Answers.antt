@@ -5,7 +5,8 @@ use Rattle.bpf_debug.specs.Origin.{first_of}
 use Rattle.bpf_debug.specs.Command.{Break}
 use Rattle.bpf_debug.specs.Session.{SessionState, Leaves, IsPc}
 use Rattle.bpf_debug.specs.declared.breakpoint.Breakpoint.{Breakpoint}
-use Rattle.bpf_debug.specs.Go.{has_break, watched}
+use Rattle.bpf_debug.specs.Go.{has_break}
+use Rattle.bpf_debug.specs.Watch.{watched}
 use Rattle.bpf_debug.proofs.SessionLaws.{broken, is_kept, is_added}
 use Rattle.bpf_debug.proofs.session.Session.set_break.Goals as goal
 use Rattle.bpf_names.specs.Names.{Names, names_of}

@@ -5,7 +5,7 @@ use Rattle.bpf_machine.specs.Machine.{MachineState, Shows}
 use Rattle.bpf_machine.specs.Schedule.{World}
 use Rattle.bpf_debug.specs.Command.{Show}
 use Rattle.bpf_debug.specs.Origin.{CanRewind, first_of}
-use Rattle.bpf_debug.specs.Go.{watched}
+use Rattle.bpf_debug.specs.Watch.{watched}
 use Rattle.bpf_debug.specs.Session.{SessionState, Leaves}
 use Rattle.bpf_debug.specs.Recall.{IsRecall, Past}
 use Rattle.bpf_debug.specs.Private.Naming.{ShowsLines}

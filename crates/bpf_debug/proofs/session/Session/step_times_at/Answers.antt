@@ -4,7 +4,7 @@ use Rattle.bpf_plain.specs.PlainStore.{has_cpu}
 use Rattle.bpf_debug.specs.Origin.{first_of}
 use Rattle.bpf_debug.specs.Command.{StepTimes}
 use Rattle.bpf_debug.specs.Course.{KeepsOn}
-use Rattle.bpf_debug.specs.Go.{watched}
+use Rattle.bpf_debug.specs.Watch.{watched}
 use Rattle.bpf_debug.specs.Session.{SessionState, Leaves}
 use Rattle.bpf_debug.proofs.SessionLaws.{can_still, enough, stepped_times}
 use Rattle.bpf_debug.proofs.session.Session.step_times_at.Goals as goal

@@ -4,7 +4,7 @@ use Rattle.bpf_debug.specs.Origin.{first_of}
 use Rattle.bpf_debug.specs.Command.{Steps}
 use Rattle.bpf_machine.specs.Schedule.{unrolled}
 use Rattle.bpf_debug.specs.Course.{KeepsOn}
-use Rattle.bpf_debug.specs.Go.{watched}
+use Rattle.bpf_debug.specs.Watch.{watched}
 use Rattle.bpf_debug.specs.Session.{SessionState, Leaves, are_cpus}
 use Rattle.bpf_debug.proofs.SessionLaws.{can_still, enough, stepped_runs}
 use Rattle.bpf_debug.proofs.session.Session.steps_at.Goals as goal

@@ -9,7 +9,7 @@ use Rattle.bpf_plain.specs.PlainStore.{Contents, StandsFor}
 use Rattle.bpf_jobs.specs.Printed.{variable_lines}
 use Rattle.bpf_debug.specs.Origin.{first_of}
 use Rattle.bpf_debug.specs.Command.{Variables}
-use Rattle.bpf_debug.specs.Go.{watched}
+use Rattle.bpf_debug.specs.Watch.{watched}
 use Rattle.bpf_debug.specs.Session.{SessionState, Leaves}
 use Rattle.bpf_debug.proofs.SessionLaws.{told_variables}
 use Rattle.bpf_debug.proofs.session.Session.variables.Goals as goal

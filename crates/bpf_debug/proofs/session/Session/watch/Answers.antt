@@ -1,10 +1,12 @@
-use Rattle.std.proofs.Common.{◌≡◌, ◌∙◌, ℕ, List, [], Some, refl, ap, subst, map, String, Global}
+use Rattle.std.proofs.Common.{◌≡◌, ◌∙◌, ℕ, List, [], Option, Some, refl, sym, ap, subst, map, String, Global}
 use Rattle.std.specs.Prelude.{string_bytes, option_map, slice_index_or}
 use Rattle.std.proofs.lemmas.Option.{get_or_from_slice_get}
+use Rattle.bpf_shared.specs.Shape.{Shape}
+use Rattle.bpf_plain.specs.PlainStore.{Contents, shape_of}
 use Rattle.bpf_debug.specs.Origin.{first_of}
 use Rattle.bpf_debug.specs.Answer.{watch_line}
 use Rattle.bpf_debug.specs.Command.{Watch}
-use Rattle.bpf_debug.specs.Go.{watched}
+use Rattle.bpf_debug.specs.Watch.{Chosen, Watched, chosen, chosen_in, watched}
 use Rattle.bpf_debug.specs.Read.{IsNamed}
 use Rattle.bpf_debug.specs.Session.{SessionState, Leaves}
 use Rattle.bpf_debug.proofs.SessionLaws.{set_watch}
@@ -16,13 +18,17 @@ returns-clause-answered c =
     let m = c.self.inside in
     let names : Names = names_of m.names in
     let name = c.args.name.now in
-    let digits = c.args.digits.now in
-    let key : List ℕ = c.in-Ok.key.items in
-    let number = c.in-Some.map in
+    let word = c.args.word.now in
+    let number = c.in-Some.number in
+    let choice = c.in-Some-2.choice in
+    let key = string_bytes choice.key in
     let last = string_bytes c.in_ok-text.text in
-    let P : SessionState → Type 0 = λ s. Leaves s (Watch name digits) last (record { machine = m.machine; first = first_of m.origin m.machine.programs; names = names; breaks = m.breakpoints.items; watch = Some (number, key); course = m.course }) in
+    let P : SessionState → Type 0 = λ s. Leaves s (Watch name word) last (record { machine = m.machine; first = first_of m.origin m.machine.programs; names = names; breaks = m.breakpoints.items; watch = Some (watched choice.watch); course = m.course }) in
     let N : List (String Global) → Type 0 = λ ns. IsNamed (map (λ n. string_bytes n) ns) name number in
     let named : IsNamed names.maps name number = subst N c.deref.ensures.value c.in-Some.ensures.named in
     let called : c.name_at.result.now ≡ name = c.name_at.ensures ∙ ap (λ (ns : List (String Global)). slice_index_or (map (λ n. string_bytes n) ns) number []) c.deref-2.ensures.value ∙ get_or_from_slice_get names.maps number name [] named.0 in
-    let put : last ≡ watch_line name key = c.in_ok-text.ensures ∙ ap (λ (n : List ℕ). watch_line n c.deref-3.result.now) called ∙ ap (λ (k : List ℕ). watch_line name k) c.deref-3.ensures.value in
-    subst P c.self.view_is (set_watch m.machine m.origin names m.breakpoints.items (option_map watched m.watch) m.course name digits key number (Some (number, key)) last named c.in-Ok.ensures.ok refl put)
+    let put : last ≡ watch_line name key = c.in_ok-text.ensures ∙ ap (λ (n : List ℕ). watch_line n c.as_str.result.now) called ∙ ap (λ (k : List ℕ). watch_line name k) c.as_str.ensures.value in
+    let C : Contents → Type 0 = λ p. option_map chosen c.in_ok-choice.field-0 ≡ chosen_in (shape_of p) number word in
+    let said : option_map chosen c.in_ok-choice.field-0 ≡ chosen_in (shape_of m.machine.store) number word = subst C c.store.ensures c.in_ok-choice.ensures in
+    let chose : chosen_in (shape_of m.machine.store) number word ≡ Some (watched choice.watch, key) = sym said ∙ ap (option_map chosen) c.in-Some-2.is in
+    subst P c.self.view_is (set_watch m.machine m.origin names m.breakpoints.items (option_map watched m.watch) m.course name word key number (watched choice.watch) (Some (watched choice.watch)) last named chose refl put)
