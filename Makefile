@@ -41,6 +41,7 @@ test: ## The whole gate: the layout of the sources, every proof, every must-fail
 	tests/completions ./ebpf
 	tests/from-elf ./ebpf
 	tests/programs/compare ./ebpf
+	tests/selftests ./ebpf
 	tests/dap ./ebpf
 	tests/debug ./ebpf
 	tests/page ./ebpf
