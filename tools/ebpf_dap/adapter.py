@@ -344,7 +344,7 @@ class Adapter:
             kept = {key: found[key] for key in ("variablesReference", "memoryReference") if key in found}
             return {"result": found["value"], **kept}
         if arguments.get("context") != "repl":
-            raise RequestError(f"{text} is no register, map or key")
+            raise RequestError(f"{text} is no register, variable, map, array or key")
         return self.command(text)
 
     def command(self, text):

@@ -72,6 +72,34 @@ class Map:
     value: int
 
 
+@dataclass(frozen=True)
+class Array:
+    """An array: how long its values are, in bytes, how many it has, whether each CPU has its own, and whether they can only be read."""
+
+    name: str
+    value: int
+    most: int
+    is_per_cpu: bool
+    is_frozen: bool
+
+    def place(self, offset):
+        """Returns what is so many bytes after the first value: an index, the CPU, and the bytes after the value's first."""
+        pace = -(-self.value // 8) * 8
+        block = -(-self.most * pace // 64) * 64
+        cpu, own = divmod(offset, block) if self.is_per_cpu else (None, offset)
+        return own // pace, cpu, own % pace
+
+
+@dataclass(frozen=True)
+class Variable:
+    """A name for bytes of an array's first value."""
+
+    name: str
+    array: str
+    at: int
+    size: int
+
+
 @dataclass
 class RunFile:
     """What is debugged: the run file's text, its programs by name, and of each job its program."""
@@ -82,6 +110,8 @@ class RunFile:
     programs: dict
     maps: list
     jobs: list
+    arrays: list = field(default_factory=list)
+    variables: list = field(default_factory=list)
 
     def program(self, job):
         return self.programs[self.jobs[job][1]]
@@ -178,6 +208,10 @@ def read_run_file(ebpf, path, text):
             made.cpus = int(words[1], 0)
         elif words[:1] == ["map"]:
             made.maps.append(Map(words[1], int(words[3], 0), int(words[5], 0)))
+        elif words[:1] == ["array"]:
+            made.arrays.append(Array(words[1], int(words[3], 0), int(words[5], 0), "percpu" in words[6:], "frozen" in words[6:]))
+        elif words[:1] == ["var"]:
+            made.variables.append(Variable(words[1], words[2], int(words[3], 0), int(words[4], 0)))
         elif words[:1] == ["job"]:
             made.jobs.append((int(words[1], 0), words[2]))
         elif words[:1] == ["prog"] and words[2:3] == ["hex"]:
@@ -264,4 +298,4 @@ def read(ebpf, path, jobs, cpus, room):
     # The lines that are shown are the file's own, whatever jobs are asked for.
     shown = read_run_file(ebpf, path, checked(ebpf, text))
     asked = read_run_file(ebpf, path, checked(ebpf, with_jobs(text, jobs, cpus)))
-    return RunFile(path, asked.text, asked.cpus, shown.programs, asked.maps, asked.jobs)
+    return RunFile(path, asked.text, asked.cpus, shown.programs, asked.maps, asked.jobs, asked.arrays, asked.variables)

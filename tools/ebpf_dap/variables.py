@@ -1,10 +1,11 @@
-"""What is shown of a CPU and of the maps: scopes, variables, and what a text in a watch or a hover names."""
+"""What is shown of a CPU, the maps, the arrays and their variables: scopes, and what a text in a watch or a hover names."""
 
 import re
 
 FRAMES, FRAME_STEP, FRAME_SIZE = 0x3_0000_0000, 0x1000, 512
 CONTEXT = 0x2_0000_0000
 VALUES = 0x10_0000_0000
+FIRST_ARRAY, ARRAY_VALUES, AREA = 16, 0x11_0000_0000, 0x1000_0000
 HELD = re.compile(r"(\w+)\[([^\]]*)\] (\d+) ([0-9a-f]*)")
 ELEMENT = re.compile(r"(\w+)\[(0x[0-9a-f]+|\d+|[0-9a-f]+)\]")
 # Linux's numbers of the errors that helpers return.
@@ -41,13 +42,15 @@ class Variables:
         return self.parts[reference - 1]() if 0 < reference <= len(self.parts) else None
 
     def scopes(self, cpu):
-        """Returns the scopes of a CPU: registers, memory, held values; and the maps, which are everybody's."""
+        """Returns the scopes of a CPU: registers, memory, held values; and the maps, arrays and variables, which are everybody's."""
         found = [
             ("Registers", lambda: self.registers(cpu), "registers"),
             ("Frames", lambda: self.frames(cpu), "locals"),
             ("Context", lambda: self.context(cpu), "arguments"),
             ("Held values", lambda: self.held(cpu), None),
             ("Maps", self.maps, None),
+            *([("Variables", self.variables, None)] if self.run_file.variables else []),
+            *([("Arrays", self.arrays, None)] if self.run_file.arrays else []),
             ("Jobs", self.jobs, None),
         ]
         made = []
@@ -84,9 +87,22 @@ class Variables:
             return f"context+{value - CONTEXT}"
         if 0 <= value - (1 << 32) < len(self.run_file.maps):
             return f"map {self.run_file.maps[value - (1 << 32)].name}"
+        if 0 <= value - (1 << 32) - FIRST_ARRAY < len(self.run_file.arrays):
+            return f"array {self.run_file.arrays[value - (1 << 32) - FIRST_ARRAY].name}"
+        if 0 <= value - ARRAY_VALUES < len(self.run_file.arrays) * AREA:
+            return self.place(*divmod(value - ARRAY_VALUES, AREA))
         if 0 < 2**64 - value <= 4095:
             return f"-{2**64 - value} {ERRORS.get(2**64 - value, '')}".rstrip()
         return ""
+
+    def place(self, number, offset):
+        """Says what is so many bytes after the first of an array: a variable, or a value by its index."""
+        array = self.run_file.arrays[number]
+        for it in self.run_file.variables:
+            if it.array == array.name and it.at <= offset < it.at + it.size:
+                return f"var {it.name}" + (f"+{offset - it.at}" if offset > it.at else "")
+        index, cpu, rest = array.place(offset)
+        return f"{array.name}[{index}]+{rest}" + ("" if cpu is None else f" of CPU {cpu}")
 
     def frames(self, cpu):
         """The numbers of a CPU's live frames that aren't 0, the newest frame first."""
@@ -143,6 +159,43 @@ class Variables:
             made.append(self.plain(name, number_of(bytes.fromhex(value)), evaluateName=name))
         return made
 
+    def variables(self):
+        """The variables with their numbers, also those that can only be read."""
+        return [self.variable(it) for it in self.run_file.variables]
+
+    def variable(self, it):
+        (line,) = self.machine.one(f"var {it.name}")
+        number = int(line.partition("=")[2])
+        return self.plain(it.name, number_of(number.to_bytes(it.size, "little")), evaluateName=it.name)
+
+    def arrays(self):
+        return [self.array(it) for it in self.run_file.arrays]
+
+    def array(self, it):
+        return self.group(it.name, f"{it.most} value{'' if it.most == 1 else 's'}", lambda: self.values(it))
+
+    def values(self, it):
+        """The values of an array that have a byte other than zero."""
+        made = []
+        for line in self.machine.one(f"map {it.name}"):
+            place, _, value = line.removeprefix(f"array {it.name} ").partition("=")
+            index, _, cpu = place.partition(" cpu ")
+            name = f"{it.name}[{index}]" + (f" of CPU {cpu}" if cpu else "")
+            made.append(self.plain(name, number_of(bytes.fromhex(value))))
+        return made
+
+    def value_at(self, it, index, cpu):
+        """Returns the value of an index, of this CPU where each has its own; None where the array has no such index."""
+        try:
+            number = int(index, 0)
+        except ValueError:
+            return None
+        if number >= it.most:
+            return None
+        name = f"{it.name}[{number}]" + (f" of CPU {cpu}" if it.is_per_cpu else "")
+        found = [value for value in self.values(it) if value["name"] == name]
+        return found[0] if found else self.plain(name, number_of(bytes(it.value)))
+
     def jobs(self):
         return [self.job(line) for line in self.machine.one("jobs")]
 
@@ -152,7 +205,7 @@ class Variables:
         return self.plain(" ".join(words[:4]), words[4])
 
     def named(self, cpu, text):
-        """Returns a variable by its name: `r3`, `counter`, `counter[00000000]`, `counter[0]`; None where none has it."""
+        """Returns a variable by its name: `r3`, `x`, `counter`, `counter[00000000]`, `counter[0]`; None where none has it."""
         text = text.strip()
         if re.fullmatch(r"[rw]\d+", text):
             found = [it for it in self.registers(cpu) if it["name"] == f"r{text[1:]}"]
@@ -162,6 +215,14 @@ class Variables:
                 return self.group(it.name, self.counted(it), lambda it=it: self.pairs(it))
             if (found := ELEMENT.fullmatch(text)) and found[1] == it.name:
                 return self.element(it, found[2])
+        for it in self.run_file.variables:
+            if it.name == text:
+                return self.variable(it)
+        for it in self.run_file.arrays:
+            if it.name == text:
+                return self.array(it)
+            if (found := ELEMENT.fullmatch(text)) and found[1] == it.name:
+                return self.value_at(it, found[2], cpu)
         return None
 
     def element(self, it, key):
