@@ -27,22 +27,33 @@ function read_file(text) {
     return { text, programs, ran };
 }
 
+// The text of a program with a number in place of each name that it loads by: of a map or an array, or an address. `asm`
+// has no file to look names up in, and pcs don't depend on the number.
+function without_names(text) {
+    const line = (whole) => {
+        const [, code, note] = /^([^;]*)(.*)$/s.exec(whole);
+        return code.replace(/=\s*map\s+[A-Za-z_]\w*/, '= map 0').replace(/=\s*&.*$/s, '= 0 ll') + note;
+    };
+    return text.split('\n').map(line).join('\n');
+}
+
 // The lines of a program, each with its pc where it has an instruction and the line of the file that it
-// stands on. `asm --listing` and `disasm --pc` write pc and words behind the line; a comment may look the
+// stands on. `asm --listing` and `disasm --pc` write pc and words after the line; a comment may look the
 // same, and is told by its pc.
 async function list_program(engine, { text, words, begins }) {
     const command = text === undefined ? ['disasm', '--pc'] : ['asm', '--listing'];
-    const { stdout } = await engine.call(command, text ?? words);
-    const lines = text_of(stdout).replace(/\n$/, '').split('\n');
+    const { stdout } = await engine.call(command, text === undefined ? words : without_names(text));
+    const listed = text_of(stdout).replace(/\n$/, '').split('\n');
+    const own = text?.split('\n');
     // The blanks that all lines begin with are left out.
-    const blanks = Math.min(...lines.filter((line) => line.trim()).map((line) => /^ */.exec(line)[0].length));
+    const blanks = Math.min(...listed.filter((line) => line.trim()).map((line) => /^ */.exec(line)[0].length));
     let next = 0;
-    return lines.map((whole, number) => {
-        const line = whole.slice(Math.min(blanks, /^ */.exec(whole)[0].length));
-        const found = /^(.*?)[ \t]*; (\d+): ((?:[0-9a-f]{16}){1,2})$/s.exec(line);
+    return listed.map((whole, number) => {
+        const found = /^(.*?)[ \t]*; (\d+): ((?:[0-9a-f]{16}){1,2})$/s.exec(whole);
         const is_listed = found && Number(found[2]) === next;
         if (is_listed) next += found[3].length / 16;
-        const [, code, note] = /^([^;]*)(;.*)?$/s.exec(is_listed ? found[1] : line);
+        const line = own?.[number] ?? (is_listed ? found[1] : whole);
+        const [, code, note] = /^([^;]*)(;.*)?$/s.exec(line.slice(Math.min(blanks, /^ */.exec(line)[0].length)));
         const row = begins === undefined ? undefined : begins + number;
         return { pc: is_listed ? Number(found[2]) : null, code: code.trimEnd(), note: note ?? '', row };
     });
