@@ -68,11 +68,14 @@ maps_tests-append (g ∷ hs) m h =
 -- ---- programs and jobs
 
 -- before any job and program, a machine of no work
-no_work : (f : File) → f.jobs ≡ [] → f.programs ≡ [] → CanRun f
-no_work f e h =
+none_are : (maps : List MapShape) → ArePairs maps []
+none_are maps = record { sized = All-nil (λ p. IsPairOf maps p.map p.key p.value); new = tt; room = λ m g at. omega arith }
+
+no_work : (f : File) → f.jobs ≡ [] → f.programs ≡ [] → ArePairs f.maps f.pairs → CanRun f
+no_work f e h ps =
     let J : List Task → Type 0 = λ ts. All (IsJobFor f.cpus (length f.programs)) ts in
     let M : List Loaded → Type 0 = λ ps. All (λ q. q.named ≡ named_by f) ps in
-    record { jobs = subst J (sym e) (All-nil (IsJobFor f.cpus (length f.programs))); named = subst M (sym h) (All-nil (λ q. q.named ≡ named_by f)) }
+    record { jobs = subst J (sym e) (All-nil (IsJobFor f.cpus (length f.programs))); named = subst M (sym h) (All-nil (λ q. q.named ≡ named_by f)); pairs = ps }
 
 -- loaded for these maps and arrays
 abbrev LoadedFor : Named → Result Loaded FileError → Type 0
@@ -132,8 +135,9 @@ fit_nothing = record {
   arrays = refl;
   contents = refl;
   titles = refl;
-  runs = no_work nothing.file refl refl;
+  runs = no_work nothing.file refl refl (none_are []);
   no_arrays = λ h. refl;
+  no_pairs = λ h. refl;
   no_programs = λ h. refl;
   no_jobs = λ h. refl;
 }
@@ -156,8 +160,11 @@ idle p group f h g = (f.no_jobs (before p.group group 8 h (omega arith)), f.no_p
 no_arrays_at : (p : Part) (group : ℕ) → IsFit p → IsInPlace p.group group → group < 5 → p.file.arrays ≡ []
 no_arrays_at p group f h g = f.no_arrays (before p.group group 5 h g)
 
-fit_first : (p : Part) (version : Edition) → IsFit p → IsIdle p → p.file.arrays ≡ [] → IsFit (with_first p version)
-fit_first p version f i a = record {
+no_pairs_at : (p : Part) (group : ℕ) → IsFit p → IsInPlace p.group group → group < 6 → p.file.pairs ≡ []
+no_pairs_at p group f h g = f.no_pairs (before p.group group 6 h g)
+
+fit_first : (p : Part) (version : Edition) → IsFit p → IsIdle p → p.file.arrays ≡ [] → p.file.pairs ≡ [] → IsFit (with_first p version)
+fit_first p version f i a b = record {
   cpus = f.cpus;
   count = f.count;
   maps = f.maps;
@@ -167,12 +174,13 @@ fit_first p version f i a = record {
   titles = f.titles;
   runs = f.runs;
   no_arrays = λ h. a;
+  no_pairs = λ h. b;
   no_programs = λ h. i.1;
   no_jobs = λ h. i.0;
 }
 
-fit_cpus : (p : Part) (c : ℕ) → IsFit p → IsIdle p → p.file.arrays ≡ [] → cpus_refusal c ≡ None → IsFit (with_cpus p c)
-fit_cpus p c f i a e =
+fit_cpus : (p : Part) (c : ℕ) → IsFit p → IsIdle p → p.file.arrays ≡ [] → p.file.pairs ≡ [] → cpus_refusal c ≡ None → IsFit (with_cpus p c)
+fit_cpus p c f i a b e =
     let A : List ArrayShape → Type 0 = λ gs. first_of (each_array_tests c p.file.contents 0 gs) ≡ None in
     record {
       cpus = cpus_in_range (outside 1 16 c) e;
@@ -182,14 +190,15 @@ fit_cpus p c f i a e =
       arrays = subst A (sym a) refl;
       contents = f.contents;
       titles = f.titles;
-      runs = no_work (with_cpus p c).file i.0 i.1;
+      runs = no_work (with_cpus p c).file i.0 i.1 f.runs.pairs;
       no_arrays = λ h. a;
+      no_pairs = λ h. b;
       no_programs = λ h. i.1;
       no_jobs = λ h. i.0;
     }
 
-fit_seed : (p : Part) (s : ℕ) → IsFit p → IsIdle p → p.file.arrays ≡ [] → IsFit (with_seed p s)
-fit_seed p s f i a = record {
+fit_seed : (p : Part) (s : ℕ) → IsFit p → IsIdle p → p.file.arrays ≡ [] → p.file.pairs ≡ [] → IsFit (with_seed p s)
+fit_seed p s f i a b = record {
   cpus = f.cpus;
   count = f.count;
   maps = f.maps;
@@ -197,8 +206,9 @@ fit_seed p s f i a = record {
   arrays = f.arrays;
   contents = f.contents;
   titles = f.titles;
-  runs = no_work (with_seed p s).file i.0 i.1;
+  runs = no_work (with_seed p s).file i.0 i.1 f.runs.pairs;
   no_arrays = λ h. a;
+  no_pairs = λ h. b;
   no_programs = λ h. i.1;
   no_jobs = λ h. i.0;
 }
@@ -215,8 +225,8 @@ one_more n m e h = grind (arith, nat_tests)
 from_zero : (n : ℕ) → 0 + n ≡ n
 from_zero n = omega arith
 
-fit_map : (p : Part) (name : List ℕ) (h : MapShape) → IsFit p → IsIdle p → p.file.arrays ≡ [] → map_refusal p name h ≡ None → IsFit (with_map p name h)
-fit_map p name h f i a e =
+fit_map : (p : Part) (name : List ℕ) (h : MapShape) → IsFit p → IsIdle p → p.file.arrays ≡ [] → p.file.pairs ≡ [] → map_refusal p name h ≡ None → IsFit (with_map p name h)
+fit_map p name h f i a b e =
     let passed = one_passes (is_taken p.file name) (nat_le 16 (length p.file.maps)) TooManyMaps (first_of (map_tests (length p.file.maps) h)) e in
     record {
       cpus = f.cpus;
@@ -228,14 +238,15 @@ fit_map p name h f i a e =
       arrays = f.arrays;
       contents = f.contents;
       titles = f.titles;
-      runs = no_work (with_map p name h).file i.0 i.1;
+      runs = no_work (with_map p name h).file i.0 i.1 (subst (ArePairs (p.file.maps ++ h ∷ [])) (sym b) (none_are (p.file.maps ++ h ∷ [])));
       no_arrays = λ h. a;
+      no_pairs = λ h. b;
       no_programs = λ h. i.1;
       no_jobs = λ h. i.0;
     }
 
-fit_array : (p : Part) (name : List ℕ) (g : ArrayShape) → IsFit p → IsIdle p → array_refusal p name g ≡ None → IsFit (with_array p name g)
-fit_array p name g f i e =
+fit_array : (p : Part) (name : List ℕ) (g : ArrayShape) → IsFit p → IsIdle p → p.file.pairs ≡ [] → array_refusal p name g ≡ None → IsFit (with_array p name g)
+fit_array p name g f i b e =
     let passed = one_passes (is_taken p.file name) (nat_le 16 (length p.file.arrays)) TooManyArrays (first_of (array_tests p.file.cpus 0 (length p.file.arrays) g)) e in
     let more = length-append p.file.arrays (g ∷ []) in
     let bytes = length-append p.file.contents ([] ∷ []) in
@@ -247,8 +258,9 @@ fit_array p name g f i e =
       arrays = arrays_with_new p.file.cpus p.file.contents p.file.arrays g f.contents f.arrays passed.1;
       contents = let counted = f.contents in omega (arith, more, bytes, counted);
       titles = f.titles;
-      runs = no_work (with_array p name g).file i.0 i.1;
+      runs = no_work (with_array p name g).file i.0 i.1 f.runs.pairs;
       no_arrays = λ h. absurd (omega arith);
+      no_pairs = λ h. b;
       no_programs = λ h. i.1;
       no_jobs = λ h. i.0;
     }
@@ -270,8 +282,9 @@ fit_laid p a at filled bytes counted f i e = by_array (slice_get p.file.arrays a
       arrays = arrays_with_data p.file.cpus p.file.contents p.file.arrays a g at filled bytes f.contents f.arrays h counted (none_passes _ e);
       contents = length-set p.file.contents a (laid (get_or p.file.contents a []) at bytes) ∙ f.contents;
       titles = f.titles;
-      runs = no_work (with_data p a at bytes).file i.0 i.1;
+      runs = no_work (with_data p a at bytes).file i.0 i.1 f.runs.pairs;
       no_arrays = λ h. absurd (omega arith);
+      no_pairs = λ h. absurd (omega arith);
       no_programs = λ h. i.1;
       no_jobs = λ h. i.0;
     }
@@ -300,8 +313,9 @@ fit_bytes p v f i = record {
   arrays = f.arrays;
   contents = f.contents;
   titles = f.titles;
-  runs = no_work (with_variable p v).file i.0 i.1;
+  runs = no_work (with_variable p v).file i.0 i.1 f.runs.pairs;
   no_arrays = λ h. absurd (omega arith);
+  no_pairs = λ h. absurd (omega arith);
   no_programs = λ h. i.1;
   no_jobs = λ h. i.0;
 }
@@ -310,6 +324,58 @@ fit_variable : (n : ℕ) (p : Part) (name : List ℕ) (k : Option ℕ) (at : ℕ
 fit_variable n p name None at size f i = tt
 fit_variable n p name (Some a) at size f i =
     fit_unless n (place_refusal a at size (slice_get p.file.arrays a)) _ (λ e. fit_bytes p (record { name = name; array = a; at = at; size = size }) f i)
+
+-- ---- pairs
+fit_pair : (p : Part) (q : Pair) → IsPairOf p.file.maps q.map q.key q.value → has_key q.map q.key p.file.pairs ≡ false → ((g : MapShape) → IsMap p.file.maps q.map g → pairs_in q.map p.file.pairs < g.max) → IsFit p → IsIdle p → IsFit (with_pair p q)
+fit_pair p q of new room f i = record {
+  cpus = f.cpus;
+  count = f.count;
+  maps = f.maps;
+  array_count = f.array_count;
+  arrays = f.arrays;
+  contents = f.contents;
+  titles = f.titles;
+  runs = no_work (with_pair p q).file i.0 i.1 (are_more p.file.maps p.file.pairs q f.runs.pairs of new room);
+  no_arrays = λ h. absurd (omega arith);
+  no_pairs = λ h. absurd (omega arith);
+  no_programs = λ h. i.1;
+  no_jobs = λ h. i.0;
+}
+
+-- a key and a value of a map's sizes, where there is room
+fit_key_put : (n : ℕ) (p : Part) (m : ℕ) (g : MapShape) (key value : Result (List ℕ) FromHexError) → IsMap p.file.maps m g → pairs_in m p.file.pairs < g.max
+    → ((bytes : List ℕ) → key ≡ Ok bytes → length bytes ≡ g.key) → ((bytes : List ℕ) → value ≡ Ok bytes → length bytes ≡ g.value) → IsFit p → IsIdle p → IsFitResult (key_put n p m key value)
+fit_key_put n p m g (Err e) value at room hk hv f i = tt
+fit_key_put n p m g (Ok key) value at room hk hv f i = by_new (has_key m key p.file.pairs) refl
+  where
+    by_value : (v : Result (List ℕ) FromHexError) → ((bytes : List ℕ) → v ≡ Ok bytes → length bytes ≡ g.value) → has_key m key p.file.pairs ≡ false → IsFitResult (value_put n p m key v)
+    by_value (Err e) hw new = tt
+    by_value (Ok value) hw new = fit_pair p (record { map = m; key = key; value = value }) (g, at, hk key refl, hw value refl) new (λ k to. subst (λ (x : MapShape). pairs_in m p.file.pairs < x.max) (one_map_shape p.file.maps m g k at to) room) f i
+
+    by_new : (b : Bool) → has_key m key p.file.pairs ≡ b → IsFitResult (if b then Err (Refused n reason.BadPair) else value_put n p m key value)
+    by_new true e = tt
+    by_new false e = by_value value hv e
+
+-- what passes the tests of sizes and of room
+pair_passes : (many fits room : Bool) → (if many then Some reason.BadLine else (if fits && room then None else Some reason.BadPair)) ≡ None → (fits ≡ true) × (room ≡ true)
+pair_passes true fits room e = cc
+pair_passes false false room e = cc
+pair_passes false true false e = cc
+pair_passes false true true e = (refl, refl)
+
+fit_put : (n : ℕ) (p : Part) (m : ℕ) (fits : MapShape → Bool) (key value : Result (List ℕ) FromHexError) (o : Option MapShape) → slice_get p.file.maps m ≡ o
+    → ((g : MapShape) → fits g ≡ true → ((bytes : List ℕ) → key ≡ Ok bytes → length bytes ≡ g.key) × ((bytes : List ℕ) → value ≡ Ok bytes → length bytes ≡ g.value))
+    → IsFit p → IsIdle p → IsFitResult (or_refused n (pair_refusal p.file m fits o) (key_put n p m key value))
+fit_put n p m fits key value None at sized f i = tt
+fit_put n p m fits key value (Some g) at sized f i = by_refusal (pair_refusal p.file m fits (Some g)) refl
+  where
+    by_refusal : (o : Option Reason) → pair_refusal p.file m fits (Some g) ≡ o → IsFitResult (or_refused n o (key_put n p m key value))
+    by_refusal (Some why) e = tt
+    by_refusal None e =
+        let passed = pair_passes (nat_le most_pairs (length p.file.pairs)) (fits g) (nat_lt (pairs_in m p.file.pairs) g.max) e in
+        let s = sized g passed.0 in
+        let some = passed.1 in
+        fit_key_put n p m g key value at (grind (arith, nat_tests)) s.0 s.1 f i
 
 fit_refused : (n : ℕ) (o : Option Reason) (r : Result State FileError) → IsFitResult r → IsFitResult (or_refused n o r)
 fit_refused n None r h = h
@@ -335,8 +401,10 @@ fit_loaded p name program e f j =
       runs = record {
         jobs = subst J (sym j) (All-nil (IsJobFor q.file.cpus (length q.file.programs)));
         named = All-append M p.file.programs (program ∷ []) f.runs.named (All-cons M program [] e (All-nil M));
+        pairs = f.runs.pairs;
       };
       no_arrays = λ h. absurd (omega arith);
+      no_pairs = λ h. absurd (omega arith);
       no_programs = λ h. absurd (omega arith);
       no_jobs = λ h. j;
     }
@@ -364,8 +432,10 @@ fit_listed p task t f =
       runs = record {
         jobs = All-append P p.file.jobs (task ∷ []) f.runs.jobs (All-cons P task [] t (All-nil P));
         named = f.runs.named;
+        pairs = f.runs.pairs;
       };
       no_arrays = λ h. absurd (omega arith);
+      no_pairs = λ h. absurd (omega arith);
       no_programs = λ h. absurd (omega arith);
       no_jobs = λ h. absurd (omega arith);
     }
@@ -381,11 +451,11 @@ fit_job n p (Some c) None steps context hc hk hb f = tt
 fit_job n p None k steps context hc hk hb f = tt
 
 adds_fit : (n : ℕ) (p : Part) (s : Said) (r : Result State FileError) → AddsLine n p s r → Comes p s → IsFit p → IsFitResult r
-adds_fit n p (Version version) r e c f = subst IsFitResult (sym e) (fit_first p version f (idle p 1 f c.0 (omega arith)) (no_arrays_at p 1 f c.0 (omega arith)))
-adds_fit n p (Cpus k) r e c f = subst IsFitResult (sym e) (fit_unless n (cpus_refusal k) _ (fit_cpus p k f (idle p 2 f c.0 (omega arith)) (no_arrays_at p 2 f c.0 (omega arith))))
-adds_fit n p (Seed s) r e c f = subst IsFitResult (sym e) (fit_seed p s f (idle p 3 f c.0 (omega arith)) (no_arrays_at p 3 f c.0 (omega arith)))
-adds_fit n p (Map name h) r e c f = subst IsFitResult (sym e) (fit_unless n (map_refusal p name h) _ (fit_map p name h f (idle p 4 f c.0 (omega arith)) (no_arrays_at p 4 f c.0 (omega arith))))
-adds_fit n p (Array name g) r e c f = subst IsFitResult (sym e) (fit_unless n (array_refusal p name g) _ (fit_array p name g f (idle p 5 f c.0 (omega arith))))
+adds_fit n p (Version version) r e c f = subst IsFitResult (sym e) (fit_first p version f (idle p 1 f c.0 (omega arith)) (no_arrays_at p 1 f c.0 (omega arith)) (no_pairs_at p 1 f c.0 (omega arith)))
+adds_fit n p (Cpus k) r e c f = subst IsFitResult (sym e) (fit_unless n (cpus_refusal k) _ (fit_cpus p k f (idle p 2 f c.0 (omega arith)) (no_arrays_at p 2 f c.0 (omega arith)) (no_pairs_at p 2 f c.0 (omega arith))))
+adds_fit n p (Seed s) r e c f = subst IsFitResult (sym e) (fit_seed p s f (idle p 3 f c.0 (omega arith)) (no_arrays_at p 3 f c.0 (omega arith)) (no_pairs_at p 3 f c.0 (omega arith)))
+adds_fit n p (Map name h) r e c f = subst IsFitResult (sym e) (fit_unless n (map_refusal p name h) _ (fit_map p name h f (idle p 4 f c.0 (omega arith)) (no_arrays_at p 4 f c.0 (omega arith)) (no_pairs_at p 4 f c.0 (omega arith))))
+adds_fit n p (Array name g) r e c f = subst IsFitResult (sym e) (fit_unless n (array_refusal p name g) _ (fit_array p name g f (idle p 5 f c.0 (omega arith)) (no_pairs_at p 5 f c.0 (omega arith))))
 adds_fit n p (Data name at digits) r e c f = subst IsFitResult (sym e) (fit_data n p (array_place p.file name) at digits f (idle p 6 f c.0 (omega arith)))
 adds_fit n p (Variable name array at size) r e c f =
     subst IsFitResult (sym e) (fit_refused n (name_refusal p.file name) _ (fit_variable n p name (array_place p.file array) at size f (idle p 6 f c.0 (omega arith))))
