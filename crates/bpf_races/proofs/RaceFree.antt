@@ -8,12 +8,9 @@ use Rattle.bpf_machine.specs.Schedule.{World, RunsSchedule}
 use Rattle.bpf_machine.specs.Race.{IsRace}
 use Rattle.bpf_races.specs.declared.found.Pair.{Pair}
 use Rattle.bpf_races.specs.declared.sync.Part.{Part}
-use Rattle.bpf_shared.specs.Shape.{Shape}
-use Rattle.bpf_loader.specs.declared.named.Named.{Named}
-use Rattle.bpf_cpu.specs.Setup.{named_in}
-use Rattle.bpf_races.specs.Races.{RaceFound, AreListed, HaveAllRaces, is_race_free, adds_nothing}
+use Rattle.bpf_races.specs.Races.{RaceFound, AreListed, HaveAllRaces, is_race_free}
 use Rattle.bpf_races.specs.OnX86.{AnswersHoldOnX86}
-use Rattle.bpf_x86.specs.Laws.{HasNoArrays, IsRaceFree}
+use Rattle.bpf_x86.specs.Laws.{IsRaceFree}
 
 is_empty : {A : Type 0} (xs : List A) → length xs ≡ 0 → xs ≡ []
 is_empty [] e = refl
@@ -26,15 +23,6 @@ free_parts sync races all h =
     let none : (length sync == 0) ≡ true = q.0 in
     let no_race : (length races == 0) ≡ true = q.1 in
     (p.0, is_empty sync (grind (arith, nat_tests)), is_empty races (grind (arith, nat_tests)))
-
-pub nothing_added : (named : Named) (sync : List Part) (races : List RaceFound) (all : Bool) → adds_nothing named sync races all ≡ true → (is_race_free sync races all ≡ true) × (named.arrays ≡ 0)
-nothing_added named sync races all h =
-    let p = and_parts (is_race_free sync races all) (named.arrays == 0) h in
-    let none : (named.arrays == 0) ≡ true = p.1 in
-    (p.0, grind (arith, nat_tests))
-
-pub no_arrays : (h : Shape) → (named_in h).arrays ≡ 0 → HasNoArrays h
-no_arrays h e = is_empty h.arrays e
 
 -- a race of two is one of the same two, the other first
 or_turned : (a b : Bool) → a || b ≡ true → b || a ≡ true

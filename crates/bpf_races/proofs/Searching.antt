@@ -8,9 +8,8 @@ use Rattle.bpf_shared.specs.Store.{Plain}
 use Rattle.bpf_races.specs.declared.found.Pair.{Pair}
 use Rattle.bpf_races.specs.declared.sync.Part.{Part}
 use Rattle.bpf_races.specs.Races.{RaceFound, HaveAllRaces, AreRaces, IsTold}
-use Rattle.bpf_cpu.specs.Setup.{named_in}
-use Rattle.bpf_races.proofs.RaceFree.{free_parts, is_race_free_so, nothing_added, no_arrays}
-use Rattle.bpf_x86.specs.Laws.{KeptRaceFreeIsSame}
+use Rattle.bpf_races.proofs.RaceFree.{free_parts, is_race_free_so}
+use Rattle.bpf_x86.specs.Laws.{FirstsFit, KeptRaceFreeIsSame}
 use Rattle.bpf_races.specs.Parts.{IsLeftOut}
 use Rattle.bpf_explore.specs.Album.{BeginsAt, AreApart, AreLed}
 use Rattle.bpf_explore.specs.Search.{CameTo, is_whole, is_refused}
@@ -25,7 +24,7 @@ kept_listed : (kept : List MachineState) (races : List RaceFound) (sync : List P
     → IsRaceKept kept z pair.one pair.other b → IsTold races z.store pair b ⊎ IsLeftOut sync b
 kept_listed kept races sync listed z pair b order (v, (i, m, at, shows), store, race) = subst (λ (s : Plain). IsTold races s pair b ⊎ IsLeftOut sync b) store (listed i m at v shows pair b order race)
 
-module _ (kept : List MachineState) (w : World) (sync : List Part) (races : List RaceFound) (extent : Extent) (limit : ℕ) (whole refused told all : Bool) (begins : BeginsAt kept w) (gathered : Gathered kept sync races)
+module _ (kept : List MachineState) (w : World) (sync : List Part) (races : List RaceFound) (extent : Extent) (limit : ℕ) (whole refused told all : Bool) (fits : FirstsFit w.programs) (begins : BeginsAt kept w) (gathered : Gathered kept sync races)
     (listed : told ≡ true → (i : ℕ) → AreListedAt kept races sync i) (joined : all ≡ true → (whole ≡ true) × (told ≡ true)) (is_so : whole ≡ is_whole extent) (cut : refused ≡ is_refused extent) where
   whole_then : whole ≡ true → extent ≡ Whole
   whole_then is = whole_of extent (sym is_so ∙ is)
@@ -40,10 +39,8 @@ module _ (kept : List MachineState) (w : World) (sync : List Part) (races : List
   pub are_races : RacesAreKept → KeptRaceFreeIsSame → CameTo false kept extent limit → AreLed kept → AreApart kept → told ≡ true → (all ≡ false → (whole ≡ false) ⊎ (told ≡ false))
       → AreRaces false w sync races all refused limit
   are_races law x86 came led apart sure split = record {
-    same = λ adds. (let parts = nothing_added (named_in w.store.shape) sync races all adds in
-        let free = parts.0 in
-        let whole_it = (free_parts sync races all free).0 in
-        x86 false kept w (no_arrays w.store.shape parts.1) (came.whole (whole_then (joined whole_it).0)) begins.0 (0, begins.1.0, begins.1.1, begins.1.2) (is_race_free_so false w sync races all complete free));
+    same = λ free. (let whole_it = (free_parts sync races all free).0 in
+        x86 false kept w fits (came.whole (whole_then (joined whole_it).0)) begins.0 (0, begins.1.0, begins.1.1, begins.1.2) (is_race_free_so false w sync races all complete free));
     met = λ exact is uncut. (
       length kept,
       are_reached kept w begins.1 led apart,
@@ -64,10 +61,8 @@ module _ (kept : List MachineState) (w : World) (sync : List Part) (races : List
 
   pub are_races_patiently : PatientRacesAreKept → KeptRaceFreeIsSame → CameTo true kept extent limit → AreRaces true w sync races all refused limit
   are_races_patiently law x86 came = record {
-    same = λ adds. (let parts = nothing_added (named_in w.store.shape) sync races all adds in
-        let free = parts.0 in
-        let whole_it = (free_parts sync races all free).0 in
-        x86 true kept w (no_arrays w.store.shape parts.1) (came.whole (whole_then (joined whole_it).0)) begins.0 (0, begins.1.0, begins.1.1, begins.1.2) (is_race_free_so true w sync races all complete free));
+    same = λ free. (let whole_it = (free_parts sync races all free).0 in
+        x86 true kept w fits (came.whole (whole_then (joined whole_it).0)) begins.0 (0, begins.1.0, begins.1.1, begins.1.2) (is_race_free_so true w sync races all complete free));
     met = λ exact. cc;
     short = cut_short all (λ is. (joined is).0);
     each = λ race there. gathered.each race there w begins.1;

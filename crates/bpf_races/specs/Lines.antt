@@ -9,7 +9,7 @@ use Rattle.bpf_loader.specs.declared.named.Named.{Named}
 use Rattle.bpf_machine.specs.declared.machine.Stand.{Stand}
 use Rattle.bpf_races.specs.declared.found.Pair.{Pair}
 use Rattle.bpf_races.specs.declared.sync.Part.{Part}
-use Rattle.bpf_races.specs.Races.{RaceFound, adds_nothing}
+use Rattle.bpf_races.specs.Races.{RaceFound, is_race_free}
 use Rattle.bpf_races.specs.Parts.{map_at}
 
 -- where a CPU is
@@ -90,13 +90,12 @@ count_text count = codes ": " ++ (decimal count ++ codes " races\n")
 abbrev pub last_line : Bool → ℕ → List ℕ
 last_line all count = all_text all ++ count_text count
 
--- where that is so, that x86 adds no outcome
+-- where there is no race at all, that x86 adds no outcome
 abbrev pub same_line : Bool → List ℕ
 same_line same = if same then codes "no races: on x86 the outcomes are the same\n" else []
 
 -- a line a race, and after them what follows for x86, and the last one
 abbrev pub races_text : Named → Names → List Part → List RaceFound → Bool → List ℕ
 races_text named names sync races all =
-    (race_lines named names (length races) races
-    ++ same_line (adds_nothing named sync races all))
+    (race_lines named names (length races) races ++ same_line (is_race_free sync races all))
     ++ last_line all (length races)

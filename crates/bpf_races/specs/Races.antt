@@ -3,9 +3,7 @@ use Rattle.std.specs.Prelude.{◌≡◌, ℕ, ◌/◌, ◌%◌, ◌<◌, ◌≤�
 use Rattle.bpf_base.specs.Bytes.{low_bytes}
 use Rattle.bpf_shared.specs.Shape.{Shape, array_stride, copy_stride}
 use Rattle.bpf_shared.specs.Store.{Plain}
-use Rattle.bpf_loader.specs.declared.named.Named.{Named}
 use Rattle.bpf_helpers.specs.Arrays.{IsInArray, offset_of}
-use Rattle.bpf_cpu.specs.Setup.{named_in}
 use Rattle.bpf_plain.specs.Shows.{LeadsTo}
 use Rattle.bpf_machine.specs.Machine.{MachineState, Shows}
 use Rattle.bpf_machine.specs.Schedule.{World, RunsSchedule, unrolled}
@@ -117,10 +115,6 @@ HaveAllRaces true w sync races =
 abbrev pub is_race_free : List Part → List RaceFound → Bool → Bool
 is_race_free sync races all = all && (length sync == 0 && length races == 0)
 
--- then x86 adds no outcome, as far as that is proved: where there are no arrays
-abbrev pub adds_nothing : Named → List Part → List RaceFound → Bool → Bool
-adds_nothing named sync races all = is_race_free sync races all && named.arrays == 0
-
 -- the races, whether they are all, and whether the search counts as refused memory, which is its own to
 -- say. Else, of a search that isn't patient, not all are printed only where schedules lead to more machines
 -- than the limit
@@ -132,4 +126,4 @@ pub record AreRaces (patient : Bool) (w : World) (sync : List Part) (races : Lis
   pub met : patient ≡ false → all ≡ false → refused ≡ false
       → (states : ℕ) × AreReached w states × (limit < states)
   pub short : refused ≡ true → all ≡ false
-  pub same : adds_nothing (named_in w.store.shape) sync races all ≡ true → IsSameOnX86 patient w
+  pub same : is_race_free sync races all ≡ true → IsSameOnX86 patient w

@@ -3,7 +3,7 @@
 ghost use Rattle.std.specs.Prelude.{◌≡◌, ◌+◌, ◌++◌, [], IfOk, OnOk, length, map, option_map, slice_index_or, string_bytes};
 ghost use Rattle.bpf_names.specs.Names.{names_of, variable_of};
 ghost use Rattle.bpf_races.specs.Lines.{count_text, here_lines, here_text, key_text, keyed_text, last_line, place_text, places_text, race_text, races_text, same_line, stand_text, value_text, variable_text};
-ghost use Rattle.bpf_races.specs.Races.{adds_nothing};
+ghost use Rattle.bpf_races.specs.Races.{is_race_free};
 
 use crate::clash::map_at;
 use crate::found::{Pair, Race};
@@ -192,11 +192,11 @@ fn push_last(alloc: Global, text: &mut String, all: bool, count: usize) -> Resul
     Ok(())
 }
 
-/// Whether there is no race at all, no bytes were left out, and there are no arrays.
-fn adds_nothing(named: Named, sync: &[Part], races: &Races) -> bool
-    ensures { result ≡ adds_nothing named sync.now races.now.list.items races.now.all }
+/// Whether there is no race at all, and no bytes were left out.
+fn is_race_free(sync: &[Part], races: &Races) -> bool
+    ensures { result ≡ is_race_free sync.now races.now.list.items races.now.all }
 {
-    races.all && sync.is_empty() && races.list.is_empty() && named.arrays == 0
+    races.all && sync.is_empty() && races.list.is_empty()
 }
 
 /// Appends what follows for x86 to the text.
@@ -209,8 +209,8 @@ fn push_same(text: &mut String, same: bool) -> Result<(), AllocError>
     Ok(())
 }
 
-/// A line a race; where there is none at all, and no array, that x86 adds no outcome; and a line that says whether
-/// they are all, and how many they are.
+/// A line a race; where there is none at all, that x86 adds no outcome; and a line that says whether they are
+/// all, and how many they are.
 pub fn list_races(
     alloc: Global,
     named: Named,
@@ -225,7 +225,7 @@ pub fn list_races(
     for race in &races.list {
         push_race(alloc, &mut text, named, names, race)?;
     }
-    push_same(&mut text, adds_nothing(named, sync, races))?;
+    push_same(&mut text, is_race_free(sync, races))?;
     push_last(alloc, &mut text, races.all, races.list.len())?;
     Ok(text)
 }

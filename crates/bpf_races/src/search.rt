@@ -6,6 +6,7 @@ ghost use Rattle.bpf_machine.specs.Schedule.{World};
 ghost use Rattle.bpf_jobs.specs.Printed.{first_of};
 ghost use Rattle.bpf_explore.specs.Album.{BeginsAt};
 ghost use Rattle.bpf_explore.specs.Search.{CameTo};
+ghost use Rattle.bpf_x86.specs.Laws.{FirstsFit};
 ghost use Rattle.bpf_races.specs.Races.{AreRaces};
 
 use crate::found::Race;
@@ -65,7 +66,8 @@ fn conclude(
     sync: &[Part],
     extent: Extent,
 ) -> Result<Races, AllocError>
-    ensures { IfOk result (λ r. (w : World) (limit : ℕ) → BeginsAt explorer.old.kept w
+    ensures { IfOk result (λ r. (w : World) (limit : ℕ) → FirstsFit w.programs
+        → BeginsAt explorer.old.kept w
         → CameTo false explorer.old.kept extent limit
         → AreRaces false w sync.now r.list.items r.all r.refused limit) }
 {
@@ -90,7 +92,8 @@ fn conclude_patiently(
     sync: &[Part],
     extent: Extent,
 ) -> Result<Races, AllocError>
-    ensures { IfOk result (λ r. (w : World) (limit : ℕ) → BeginsAt explorer.old.kept w
+    ensures { IfOk result (λ r. (w : World) (limit : ℕ) → FirstsFit w.programs
+        → BeginsAt explorer.old.kept w
         → CameTo true explorer.old.kept extent limit
         → AreRaces true w sync.now r.list.items r.all r.refused limit) }
 {
@@ -120,6 +123,7 @@ pub fn find_races<O: Observer>(
     ensures { IfOk result (λ r. AreRaces false (first_of setup) sync.now r.list.items r.all
         r.refused limit) }
 {
+    bpf_x86::firsts_fit(&setup.programs);
     let (mut watcher, mut explorer) = begin(alloc, setup)?;
     let extent = explore(&mut explorer, limit, observer);
     conclude(alloc, &mut explorer, &mut watcher, sync, extent)
@@ -138,6 +142,7 @@ pub fn find_races_patiently<O: Observer>(
     ensures { IfOk result (λ r. AreRaces true (first_of setup) sync.now r.list.items r.all
         r.refused limit) }
 {
+    bpf_x86::firsts_fit(&setup.programs);
     let (mut watcher, mut explorer) = begin_patiently(alloc, setup)?;
     let extent = explore(&mut explorer, limit, observer);
     conclude_patiently(alloc, &mut explorer, &mut watcher, sync, extent)

@@ -17,14 +17,14 @@ use Rattle.bpf_shared.specs.Events.{Reaches, MayWrite, after_write, after_lookup
 use Rattle.bpf_shared.specs.Choice.{PlainlyAllowed}
 use Rattle.bpf_shared.specs.History.{PlainlyLegal, entry}
 use Rattle.bpf_shared.specs.Sound.{IsSoundStore}
+use Rattle.bpf_shared.proofs.Leaving.{event_shape}
 use Rattle.bpf_shared.proofs.Soundness.{allowed_sound, span-after_write}
 use Rattle.bpf_shared.proofs.Puts.{true_or_false, equal_or_not, put-same, put-other, put_pair-old}
 use Rattle.bpf_x86.specs.Forwarding.{within, written}
-use Rattle.bpf_x86.specs.Laws.{HasNoArrays}
-use Rattle.bpf_x86.proofs.Overlay.{hits, hits_any, not_written, last_missed}
+use Rattle.bpf_x86.proofs.Overlay.{hits, changes, hits_any, changes_any, not_written, last_missed}
 use Rattle.bpf_x86.proofs.Written.{at, address, write_here, write_there, same_number}
 use Rattle.bpf_x86.proofs.Alike.{IsLike, HasValues, is_access, follow, held_others}
-use Rattle.bpf_x86.proofs.Holding.{reached_held}
+use Rattle.bpf_x86.proofs.Reaching.{reached, reached_same, reached_more, reaches_at}
 
 -- all but this CPU
 abbrev pub is_it : ℕ → ℕ → Type 0
@@ -32,11 +32,13 @@ is_it d c = c ≡ d
 
 pub record IsBehind (d : ℕ) (lacking : List Event) (l s : Plain) : Type 0 where
   pub like : IsLike (is_it d) l s
-  pub bytes : (v i : ℕ) → (s.held d v ≡ true → hits_any lacking (address s v i) ≡ false) → at l v i ≡ at s v i
+  pub bytes : (v i : ℕ) → (reached s d v ≡ true → changes_any lacking (address s v i) ≡ false) → at l v i ≡ at s v i
 
--- the event touches no byte of these
+-- the event touches no byte that these write, and writes none that these touch
 abbrev pub Misses : List Event → Event → Type 0
-Misses lacking e = (x : ℕ) → hits e x ≡ true → hits_any lacking x ≡ true → ⊥
+Misses lacking e =
+    ((x : ℕ) → hits e x ≡ true → changes_any lacking x ≡ true → ⊥)
+    × ((x : ℕ) → changes e x ≡ true → hits_any lacking x ≡ true → ⊥)
 
 abbrev pub AllMiss : List Event → List Event → Type 0
 AllMiss lacking [] = Unit {0}
@@ -73,25 +75,25 @@ module _ (d : ℕ) (lacking : List Event) (l s : Plain) (so_l : IsSoundStore l) 
   address_l : (v i : ℕ) → address l v i ≡ address s v i
   address_l v i = ap (λ (q : Span). q.at + i) (behind.like.spans v)
 
-  reads_l : (v a n : ℕ) → Reaches s c v a n → ((x : ℕ) → within a n x ≡ true → hits_any lacking x ≡ true → ⊥) → number_in s v a n ≡ number_in l v a n
+  reads_l : (v a n : ℕ) → Reaches s c v a n → ((x : ℕ) → within a n x ≡ true → changes_any lacking x ≡ true → ⊥) → number_in s v a n ≡ number_in l v a n
   reads_l v a n r clear = same_number s l v a n (sym (behind.like.spans v)) r.covers.0 (λ i h.
-      sym (behind.bytes v i (λ held. false_from_ne_true (hits_any lacking (address s v i)) (λ hit. clear (address s v i) h hit))))
+      sym (behind.bytes v i (λ held. false_from_ne_true (changes_any lacking (address s v i)) (λ hit. clear (address s v i) h hit))))
 
   -- the same bytes are written in both
   writes_l : (v a n x : ℕ) → Reaches s c v a n → IsBehind d lacking (after_write l v a n x) (after_write s v a n x)
   writes_l v a n x r = record {
     like = writes_like (is_it d) l s v a n x behind.like;
     bytes = λ w i clean.
-        let old : s.held d w ≡ true → hits_any lacking (address s w i) ≡ false = λ h.
-        ap (λ (q : Span). hits_any lacking (q.at + i)) (sym (span-after_write s v a n x w)) ∙ clean h in
+        let old : reached s d w ≡ true → changes_any lacking (address s w i) ≡ false = λ h.
+        ap (λ (q : Span). changes_any lacking (q.at + i)) (sym (span-after_write s v a n x w)) ∙ clean h in
         elim (equal_or_not w v) [
           | inl e ↦ subst (λ (k : ℕ). at (after_write l v a n x) k i ≡ at (after_write s v a n x) k i) (sym e)
-              (here v i n a x r (subst (λ (k : ℕ). s.held d k ≡ true → hits_any lacking (address s k i) ≡ false) e old))
+              (here v i n a x r (subst (λ (k : ℕ). reached s d k ≡ true → changes_any lacking (address s k i) ≡ false) e old))
           | inr far ↦ write_there l c v a n so_l (reaches_l v a n r) x w i far ∙ behind.bytes w i old ∙ sym (write_there s c v a n so_s r x w i far)
         ];
   }
     where
-      here : (v i n a x : ℕ) → Reaches s c v a n → (s.held d v ≡ true → hits_any lacking (address s v i) ≡ false) → at (after_write l v a n x) v i ≡ at (after_write s v a n x) v i
+      here : (v i n a x : ℕ) → Reaches s c v a n → (reached s d v ≡ true → changes_any lacking (address s v i) ≡ false) → at (after_write l v a n x) v i ≡ at (after_write s v a n x) v i
       here v i n a x r old =
           write_here l c v a n so_l (reaches_l v a n r) x i
           ∙ ap (λ (q : ℕ). written a n x q (at l v i)) (address_l v i)
@@ -102,14 +104,14 @@ module _ (d : ℕ) (lacking : List Event) (l s : Plain) (so_l : IsSoundStore l) 
   quiet_l : (e : Event) (t : Plain) → is_access e ≡ false → PlainlyAllowed s c e t → (next : Plain) × PlainlyAllowed l c e next × IsBehind d lacking next t
   quiet_l e t it a =
       let f = follow (is_it d) l s t c e ne it behind.like a in
-      (f.next, f.allowed, record { like = f.like; bytes = λ v i clean. from f.next t f.values v i (sym (ap (λ (g : ℕ → Bool). g v) (held_others s t c d e (λ q. ne (sym q)) a))) clean })
+      (f.next, f.allowed, record { like = f.like; bytes = λ v i clean. from f.next t f.values v i (sym (reached_same t s d v (event_shape s t c e a.0) (ap (λ (g : ℕ → Bool). g v) (held_others s t c d e (λ q. ne (sym q)) a)))) clean })
     where
-      from : (next t : Plain) → HasValues l s next t → (v i : ℕ) → s.held d v ≡ t.held d v → (t.held d v ≡ true → hits_any lacking (address t v i) ≡ false) → at next v i ≡ at t v i
+      from : (next t : Plain) → HasValues l s next t → (v i : ℕ) → reached s d v ≡ reached t d v → (reached t d v ≡ true → changes_any lacking (address t v i) ≡ false) → at next v i ≡ at t v i
       from next t (inl q) v i held clean =
           let here : next.value v ≡ l.value v = ap (λ (g : ℕ → Value). g v) q.0 in
           let there : t.value v ≡ s.value v = ap (λ (g : ℕ → Value). g v) q.1 in
           ap (λ (y : Value). slice_get y.bytes i) here
-          ∙ behind.bytes v i (λ h. ap (λ (y : Value). hits_any lacking (y.span.at + i)) (sym there) ∙ clean (sym held ∙ h))
+          ∙ behind.bytes v i (λ h. ap (λ (y : Value). changes_any lacking (y.span.at + i)) (sym there) ∙ clean (sym held ∙ h))
           ∙ ap (λ (y : Value). slice_get y.bytes i) (sym there)
       from next t (inr q) v i held clean =
           let made : l.made ≡ s.made = ap (λ (z : Plain). z.made) behind.like.same in
@@ -119,7 +121,7 @@ module _ (d : ℕ) (lacking : List Event) (l s : Plain) (so_l : IsSoundStore l) 
                 let here : next.value v ≡ l.value v = ap (λ (g : ℕ → Value). g v) q.1 ∙ put-other l.value l.made v q.0 (λ e. far (e ∙ made)) in
                 let there : t.value v ≡ s.value v = ap (λ (g : ℕ → Value). g v) q.2 ∙ put-other s.value s.made v q.0 far in
                 ap (λ (y : Value). slice_get y.bytes i) here
-                ∙ behind.bytes v i (λ h. ap (λ (y : Value). hits_any lacking (y.span.at + i)) (sym there) ∙ clean (sym held ∙ h))
+                ∙ behind.bytes v i (λ h. ap (λ (y : Value). changes_any lacking (y.span.at + i)) (sym there) ∙ clean (sym held ∙ h))
                 ∙ ap (λ (y : Value). slice_get y.bytes i) (sym there)
           ]
 
@@ -128,7 +130,7 @@ module _ (d : ℕ) (lacking : List Event) (l s : Plain) (so_l : IsSoundStore l) 
       let v : ℕ = allowed.0.1.0 in
       let r : Reaches s c v a (bytes_in size) = allowed.0.1.1 in (
         l,
-        ((runs_l allowed.0.0, (v, reaches_l v a (bytes_in size) r, allowed.0.1.2 ∙ reads_l v a (bytes_in size) r misses, refl)), tt),
+        ((runs_l allowed.0.0, (v, reaches_l v a (bytes_in size) r, allowed.0.1.2 ∙ reads_l v a (bytes_in size) r misses.0, refl)), tt),
         subst (IsBehind d lacking l) (sym allowed.0.1.3) behind,
       )
   behind_event (Store a size x) t misses allowed =
@@ -143,7 +145,7 @@ module _ (d : ℕ) (lacking : List Event) (l s : Plain) (so_l : IsSoundStore l) 
       let r : Reaches s c v a (bytes_in size) = allowed.0.1.1.reaches in
       let y : ℕ = number_after op (bytes_in size) found operand expected in (
         after_write l v a (bytes_in size) y,
-        ((runs_l allowed.0.0, (v, may_write_l v a (bytes_in size) allowed.0.1.1, allowed.0.1.2 ∙ reads_l v a (bytes_in size) r misses, refl)), tt),
+        ((runs_l allowed.0.0, (v, may_write_l v a (bytes_in size) allowed.0.1.1, allowed.0.1.2 ∙ reads_l v a (bytes_in size) r misses.0, refl)), tt),
         subst (IsBehind d lacking (after_write l v a (bytes_in size) y)) (sym allowed.0.1.3) (writes_l v a (bytes_in size) y r),
       )
   behind_event e t misses allowed = quiet_l e t refl allowed
@@ -159,17 +161,17 @@ behind_events d c ne lacking (e ∷ es) l s t so_l so_s behind miss legal =
 
 -- ---- the CPU's own events
 -- a store of its own is one more that the first lacks
-pub own_store_behind : (d : ℕ) (lacking : List Event) (l s t : Plain) (a : ℕ) (size : Size) (x : ℕ) → HasNoArrays s.shape → IsSoundStore s → IsBehind d lacking l s → PlainlyAllowed s d (Store a size x) t → IsBehind d (lacking ++ Store a size x ∷ []) l t
-own_store_behind d lacking l s t a size x bare so behind allowed = subst (IsBehind d (lacking ++ Store a size x ∷ []) l) (sym allowed.0.1.2) (record {
+pub own_store_behind : (d : ℕ) (lacking : List Event) (l s t : Plain) (a : ℕ) (size : Size) (x : ℕ) → IsSoundStore s → IsBehind d lacking l s → PlainlyAllowed s d (Store a size x) t → IsBehind d (lacking ++ Store a size x ∷ []) l t
+own_store_behind d lacking l s t a size x so behind allowed = subst (IsBehind d (lacking ++ Store a size x ∷ []) l) (sym allowed.0.1.2) (record {
   like = record {
     same = behind.like.same;
     spans = λ w. behind.like.spans w ∙ sym (span-after_write s v a n x w);
     fewer = behind.like.fewer;
     others = behind.like.others;
   };
-  bytes = λ w i clean. elim (true_or_false (s.held d w)) [
-    | inl h ↦ missed_both w i h (last_missed lacking (Store a size x) (address s w i) (ap (λ (q : Span). hits_any (lacking ++ Store a size x ∷ []) (q.at + i)) (sym (span-after_write s v a n x w)) ∙ clean h))
-    | inr h ↦ behind.bytes w i (λ k. let no : true ≡ false = sym k ∙ h in cc) ∙ sym (write_there s d v a n so r x w i (λ e. let has : s.held d w ≡ true = ap (s.held d) e ∙ (reached_held s d v a n bare r).holds in let no : true ≡ false = sym has ∙ h in cc))
+  bytes = λ w i clean. elim (true_or_false (reached s d w)) [
+    | inl h ↦ missed_both w i h (last_missed changes lacking (Store a size x) (address s w i) (ap (λ (q : Span). changes_any (lacking ++ Store a size x ∷ []) (q.at + i)) (sym (span-after_write s v a n x w)) ∙ clean h))
+    | inr h ↦ behind.bytes w i (λ k. let no : true ≡ false = sym k ∙ h in cc) ∙ sym (write_there s d v a n so r x w i (λ e. let has : reached s d w ≡ true = ap (reached s d) e ∙ (reaches_at s d v a n r).holds in let no : true ≡ false = sym has ∙ h in cc))
   ];
 })
   where
@@ -182,12 +184,19 @@ own_store_behind d lacking l s t a size x bare so behind allowed = subst (IsBehi
     r : Reaches s d v a n
     r = allowed.0.1.1.reaches
 
-    missed_both : (w i : ℕ) → s.held d w ≡ true → (hits_any lacking (address s w i) ≡ false) × (within a (bytes_in size) (address s w i) ≡ false) → at l w i ≡ at (after_write s v a n x) w i
+    missed_both : (w i : ℕ) → reached s d w ≡ true → (changes_any lacking (address s w i) ≡ false) × (within a (bytes_in size) (address s w i) ≡ false) → at l w i ≡ at (after_write s v a n x) w i
     missed_both w i h both = behind.bytes w i (λ k. both.0) ∙ sym (elim (equal_or_not w v) [
       | inl e ↦ subst (λ (k : ℕ). at (after_write s v a n x) k i ≡ at s k i) (sym e)
           (write_here s d v a n so r x i ∙ not_written a n x (address s v i) (at s v i) (subst (λ (k : ℕ). within a n (address s k i) ≡ false) e both.1))
       | inr far ↦ write_there s d v a n so r x w i far
     ])
+
+-- it may lack more
+pub more_behind : (d : ℕ) (lacking more : List Event) (l s : Plain) → ((x : ℕ) → changes_any lacking x ≡ true → changes_any more x ≡ true) → IsBehind d lacking l s → IsBehind d more l s
+more_behind d lacking more l s all behind = record {
+  like = behind.like;
+  bytes = λ v i clean. behind.bytes v i (λ h. false_from_ne_true (changes_any lacking (address s v i)) (λ hit. let no : true ≡ false = sym (all (address s v i) hit) ∙ clean h in cc));
+}
 
 -- what neither stores nor drains
 pub own_load_behind : (d : ℕ) (lacking : List Event) (l s t : Plain) (a : ℕ) (size : Size) (found : ℕ) → IsBehind d lacking l s → PlainlyAllowed s d (Load a size found) t → IsBehind d lacking l t
@@ -208,5 +217,5 @@ own_lookup_behind d lacking l s t m key found behind allowed = subst (IsBehind d
         fewer = λ c w h. put_pair-old s.held d v c w (behind.like.fewer c w h);
         others = λ c ne. behind.like.others c ne ∙ sym (put-other s.held d c (put (s.held d) v true) ne);
       };
-      bytes = λ w i clean. behind.bytes w i (λ h. clean (put_pair-old s.held d v d w h));
+      bytes = λ w i clean. behind.bytes w i (λ h. clean (reached_more s (after_lookup s d (Some v)) d w refl (put_pair-old s.held d v d w) h));
     }

@@ -19,10 +19,10 @@ use Rattle.bpf_shared.proofs.Puts.{true_or_false, equal_or_not, put-same, put-ot
 use Rattle.bpf_x86.specs.Buffers.{Buffered, Sees, Flushes, Drains}
 use Rattle.bpf_x86.specs.Forwarding.{within, byte_after, overlaid}
 use Rattle.bpf_x86.proofs.Overlay.{within_parts, hits, hits_any, missed, overlaid-last, last_missed, last_hits}
-use Rattle.bpf_x86.proofs.Written.{at, address, write_live, write_unheld, same_number}
+use Rattle.bpf_x86.proofs.Written.{at, address, write_live, write_unreached, same_number}
 use Rattle.bpf_x86.proofs.Alike.{IsLike, same_functions}
-use Rattle.bpf_x86.proofs.Buffers.{nobody, IsWaiting, AreWaiting, IsClean, IsAhead, memory_held, still_waiting, waiting-last, flush_ahead}
-use Rattle.bpf_x86.proofs.Holding.{Holds, held_reaches, held_writes}
+use Rattle.bpf_x86.proofs.Buffers.{nobody, IsWaiting, AreWaiting, IsClean, IsAhead, still_waiting, waiting-last, flush_ahead}
+use Rattle.bpf_x86.proofs.Reaching.{reached, reached_is_live, ReachesAt, Writable, at_reaches, at_writes, reaches_at}
 
 -- the event touches no byte that another CPU's waiting store is to write
 abbrev pub IsClear : (ℕ → List Event) → ℕ → Event → Type 0
@@ -34,7 +34,7 @@ pub flush_of : (b : Buffered) (s : Plain) (c : ℕ) (oldest : Event) (rest : Lis
 flush_of b s c (Store a size x) rest q buffers ahead is allowed here there =
     let sound : IsSoundStore (after_write b.memory allowed.0.1.0 a (bytes_in size) x) = after_write_sound b.memory c allowed.0.1.0 a (bytes_in size) x ahead.sound allowed.0.1.1 in
     subst (λ (z : Plain). IsAhead (record { memory = z; buffers = buffers }) s) (sym allowed.0.1.2)
-    (flush_ahead b s ahead c a size x rest is buffers here there allowed.0.1.0 (memory_held b s c allowed.0.1.0 a (bytes_in size) ahead allowed.0.1.1.reaches) sound)
+    (flush_ahead b s ahead c a size x rest is buffers here there allowed.0.1.0 (reaches_at b.memory c allowed.0.1.0 a (bytes_in size) allowed.0.1.1.reaches) sound)
 flush_of b s c e rest q buffers ahead is allowed here there = absurd (subst (AreWaiting s c) is (ahead.waiting c)).0
 
 pub flushes_ahead : (b t : Buffered) (s : Plain) (c : ℕ) → IsAhead b s → Flushes b c t → IsAhead t s
@@ -73,7 +73,7 @@ pub drains_ahead : (b t : Buffered) (s : Plain) (c : ℕ) → IsAhead b s → Dr
 drains_ahead b t s c ahead d = subst (λ (z : Buffered). IsAhead z s) (sym d.2) (seen_ahead b s d.0 c ahead d.1)
 
 -- ---- loads: with its buffer drained, a CPU reads the same number
-pub same_read : (b : Buffered) (s : Plain) (c v a n : ℕ) → IsAhead b s → b.buffers c ≡ [] → Holds s c v a n
+pub same_read : (b : Buffered) (s : Plain) (c v a n : ℕ) → IsAhead b s → b.buffers c ≡ [] → ReachesAt s c v a n
     → ((d x : ℕ) → d ≢ c → within a n x ≡ true → hits_any (b.buffers d) x ≡ true → ⊥) → number_in s v a n ≡ number_in b.memory v a n
 same_read b s c v a n ahead none r clear =
     same_number s b.memory v a n (ahead.like.spans v) r.covers.0 (λ i h.
@@ -82,14 +82,14 @@ same_read b s c v a n ahead none r clear =
     let most : (s.value v).span.at + i < a + n = in_it.1 in
     let inside : i < (s.value v).span.size = omega arith in
     let clean : IsClean b.buffers s c v i = λ d ne held. false_from_ne_true (hits_any (b.buffers d) (address s v i)) (λ hit. clear d (address s v i) ne h hit) in
-    ahead.held c v i inside clean r.holds ∙ ap (λ (es : List Event). overlaid es (address s v i) (at b.memory v i)) none)
+    ahead.seen c v i inside clean r.holds ∙ ap (λ (es : List Event). overlaid es (address s v i) (at b.memory v i)) none)
 
 -- others' buffers are as they were
 pub clear_drained : (buffers : ℕ → List Event) (c : ℕ) (e : Event) → IsClear buffers c e → IsClear (put buffers c []) c e
 clear_drained buffers c e clear d x ne hit too = clear d x ne hit (sym (ap (λ (es : List Event). hits_any es x) (put-other buffers c d [] ne)) ∙ too)
 
 -- ---- a store
-module _ (b : Buffered) (s : Plain) (ahead : IsAhead b s) (c a : ℕ) (size : Size) (x v : ℕ) (r : Holds s c v a (bytes_in size)) (clear : IsClear b.buffers c (Store a size x)) where
+module _ (b : Buffered) (s : Plain) (ahead : IsAhead b s) (c a : ℕ) (size : Size) (x v : ℕ) (r : ReachesAt s c v a (bytes_in size)) (may : Writable s v) (clear : IsClear b.buffers c (Store a size x)) where
   abbrev n : ℕ
   n = bytes_in size
 
@@ -123,9 +123,9 @@ module _ (b : Buffered) (s : Plain) (ahead : IsAhead b s) (c a : ℕ) (size : Si
   }
 
   store_unmade : (w : ℕ) → s.made ≤ w → after.value w ≡ b.memory.value w
-  store_unmade w most = put-other s.value v w _ (λ same. let less : v < s.made = ahead.sound_too.live_made v (inr (inl (c, r.holds))) in absurd (omega arith)) ∙ ahead.unmade w most
+  store_unmade w most = put-other s.value v w _ (λ same. let less : v < s.made = ahead.sound_too.live_made v (reached_is_live s c v r.holds) in absurd (omega arith)) ∙ ahead.unmade w most
 
-  keeps : (d w : ℕ) → s.held d w ≡ true → (after.held d w ≡ true) × ((after.value w).span ≡ (s.value w).span)
+  keeps : (d w : ℕ) → reached s d w ≡ true → (reached after d w ≡ true) × ((after.value w).span ≡ (s.value w).span)
   keeps d w h = (h, spans w)
 
   waits_new : IsWaiting after c e
@@ -164,61 +164,61 @@ module _ (b : Buffered) (s : Plain) (ahead : IsAhead b s) (c a : ℕ) (size : Si
     abbrev b_at : ℕ
     b_at = address s w i
 
-    byte_now : s.held c w ≡ true → at after w i ≡ byte_after e b_at (at s w i)
-    byte_now h = write_live s c v a n ahead.sound_too (held_reaches s c v a n r) x w i (inr (inl (c, h))) inside
+    byte_now : reached s c w ≡ true → at after w i ≡ byte_after e b_at (at s w i)
+    byte_now h = write_live s c v a n ahead.sound_too (at_reaches s c v a n r) x w i (reached_is_live s c w h) inside
 
-    byte_same : s.held c w ≡ false → at after w i ≡ at s w i
-    byte_same h = write_unheld s c v a n ahead.sound_too (held_reaches s c v a n r) x w i r.holds h
+    byte_same : reached s c w ≡ false → at after w i ≡ at s w i
+    byte_same h = write_unreached s c v a n ahead.sound_too (at_reaches s c v a n r) (reached s c) x w i r.holds h
 
     -- of its own CPU
     clean_own : IsClean more s c w i → IsClean b.buffers s c w i
     clean_own clean d ne h = sym (ap (λ (es : List Event). hits_any es b_at) (more_there d ne)) ∙ clean d ne h
 
-    own_held : IsClean more s c w i → s.held c w ≡ true → at after w i ≡ overlaid (more c) b_at (at b.memory w i)
-    own_held clean h =
+    own_seen : IsClean more s c w i → reached s c w ≡ true → at after w i ≡ overlaid (more c) b_at (at b.memory w i)
+    own_seen clean h =
         byte_now h
-        ∙ ap (byte_after e b_at) (ahead.held c w i inside (clean_own clean) h)
+        ∙ ap (byte_after e b_at) (ahead.seen c w i inside (clean_own clean) h)
         ∙ sym (overlaid-last (b.buffers c) e b_at (at b.memory w i))
         ∙ ap (λ (es : List Event). overlaid es b_at (at b.memory w i)) (sym more_here)
 
-    own_unheld : IsClean more s c w i → s.held c w ≡ false → at after w i ≡ at b.memory w i
-    own_unheld clean h = byte_same h ∙ ahead.unheld c w i inside (clean_own clean) h
+    own_unseen : IsClean more s c w i → reached s c w ≡ false → at after w i ≡ at b.memory w i
+    own_unseen clean h = byte_same h ∙ ahead.unseen c w i inside (clean_own clean) h
 
     -- of another
     module _ (d : ℕ) (ne : d ≢ c) (clean : IsClean more s d w i) where
-      both_missed : s.held c w ≡ true → (hits_any (b.buffers c) b_at ≡ false) × (hits e b_at ≡ false)
-      both_missed h = last_missed (b.buffers c) e b_at (sym (ap (λ (es : List Event). hits_any es b_at) more_here) ∙ clean c (λ same. ne (sym same)) h)
+      both_missed : reached s c w ≡ true → (hits_any (b.buffers c) b_at ≡ false) × (hits e b_at ≡ false)
+      both_missed h = last_missed hits (b.buffers c) e b_at (sym (ap (λ (es : List Event). hits_any es b_at) more_here) ∙ clean c (λ same. ne (sym same)) h)
 
       clean_other : IsClean b.buffers s d w i
       clean_other k other h = elim (equal_or_not k c) [
-        | inl same ↦ ap (λ (j : ℕ). hits_any (b.buffers j) b_at) same ∙ (both_missed (ap (λ (j : ℕ). s.held j w) (sym same) ∙ h)).0
+        | inl same ↦ ap (λ (j : ℕ). hits_any (b.buffers j) b_at) same ∙ (both_missed (ap (λ (j : ℕ). reached s j w) (sym same) ∙ h)).0
         | inr far ↦ sym (ap (λ (es : List Event). hits_any es b_at) (more_there k far)) ∙ clean k other h
       ]
 
       byte_stays : at after w i ≡ at s w i
-      byte_stays = elim (true_or_false (s.held c w)) [
+      byte_stays = elim (true_or_false (reached s c w)) [
         | inl h ↦ byte_now h ∙ missed e b_at (at s w i) (both_missed h).1
         | inr h ↦ byte_same h
       ]
 
-      other_held : s.held d w ≡ true → at after w i ≡ overlaid (more d) b_at (at b.memory w i)
-      other_held h = byte_stays ∙ ahead.held d w i inside clean_other h ∙ ap (λ (es : List Event). overlaid es b_at (at b.memory w i)) (sym (more_there d ne))
+      other_seen : reached s d w ≡ true → at after w i ≡ overlaid (more d) b_at (at b.memory w i)
+      other_seen h = byte_stays ∙ ahead.seen d w i inside clean_other h ∙ ap (λ (es : List Event). overlaid es b_at (at b.memory w i)) (sym (more_there d ne))
 
-      other_unheld : s.held d w ≡ false → at after w i ≡ at b.memory w i
-      other_unheld h = byte_stays ∙ ahead.unheld d w i inside clean_other h
+      other_unseen : reached s d w ≡ false → at after w i ≡ at b.memory w i
+      other_unseen h = byte_stays ∙ ahead.unseen d w i inside clean_other h
 
     -- of any, with the value's place as it is before
-    pub now_held : (d : ℕ) → IsClean more s d w i → s.held d w ≡ true → at after w i ≡ overlaid (more d) b_at (at b.memory w i)
-    now_held d clean h = elim (equal_or_not d c) [
+    pub now_seen : (d : ℕ) → IsClean more s d w i → reached s d w ≡ true → at after w i ≡ overlaid (more d) b_at (at b.memory w i)
+    now_seen d clean h = elim (equal_or_not d c) [
       | inl same ↦ subst (λ (k : ℕ). at after w i ≡ overlaid (more k) b_at (at b.memory w i)) (sym same)
-          (own_held (subst (λ (k : ℕ). IsClean more s k w i) same clean) (ap (λ (k : ℕ). s.held k w) (sym same) ∙ h))
-      | inr ne ↦ other_held d ne clean h
+          (own_seen (subst (λ (k : ℕ). IsClean more s k w i) same clean) (ap (λ (k : ℕ). reached s k w) (sym same) ∙ h))
+      | inr ne ↦ other_seen d ne clean h
     ]
 
-    pub now_unheld : (d : ℕ) → IsClean more s d w i → s.held d w ≡ false → at after w i ≡ at b.memory w i
-    now_unheld d clean h = elim (equal_or_not d c) [
-      | inl same ↦ own_unheld (subst (λ (k : ℕ). IsClean more s k w i) same clean) (ap (λ (k : ℕ). s.held k w) (sym same) ∙ h)
-      | inr ne ↦ other_unheld d ne clean h
+    pub now_unseen : (d : ℕ) → IsClean more s d w i → reached s d w ≡ false → at after w i ≡ at b.memory w i
+    now_unseen d clean h = elim (equal_or_not d c) [
+      | inl same ↦ own_unseen (subst (λ (k : ℕ). IsClean more s k w i) same clean) (ap (λ (k : ℕ). reached s k w) (sym same) ∙ h)
+      | inr ne ↦ other_unseen d ne clean h
     ]
 
   clean_after : (d w i : ℕ) → IsClean more after d w i → IsClean more s d w i
@@ -227,14 +227,13 @@ module _ (b : Buffered) (s : Plain) (ahead : IsAhead b s) (c a : ℕ) (size : Si
   pub store_ahead : IsAhead (record { memory = b.memory; buffers = more }) after
   store_ahead = record {
     like = store_like;
-    bare = ahead.bare;
     sound = ahead.sound;
-    sound_too = after_write_sound s c v a n x ahead.sound_too (held_writes s c v a n ahead.sound_too r);
+    sound_too = after_write_sound s c v a n x ahead.sound_too (at_writes s c v a n may r);
     unmade = store_unmade;
     waiting = store_waiting;
     apart = store_apart;
-    held = λ d w i inside clean h.
-        now_held w i (subst (λ (q : Span). i < q.size) (spans w) inside) d (clean_after d w i clean) h
+    seen = λ d w i inside clean h.
+        now_seen w i (subst (λ (q : Span). i < q.size) (spans w) inside) d (clean_after d w i clean) h
         ∙ ap (λ (q : ℕ). overlaid (more d) q (at b.memory w i)) (sym (address_after w i));
-    unheld = λ d w i inside clean h. now_unheld w i (subst (λ (q : Span). i < q.size) (spans w) inside) d (clean_after d w i clean) h;
+    unseen = λ d w i inside clean h. now_unseen w i (subst (λ (q : Span). i < q.size) (spans w) inside) d (clean_after d w i clean) h;
   }

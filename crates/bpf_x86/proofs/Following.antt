@@ -1,5 +1,5 @@
 -- Another CPU's turn, made in the world that lags.
-use Rattle.std.proofs.Common.{◌≡◌, ◌≢◌, ℕ, zero, suc, Bool, List, [], ◌∷◌, Option, Some, None, inl, inr, refl, sym, ap, subst, ◌∙◌}
+use Rattle.std.proofs.Common.{◌≡◌, ◌≢◌, ℕ, zero, suc, true, List, [], ◌∷◌, ◌++◌, Option, Some, None, inl, inr, refl, sym, ap, subst, ◌∙◌}
 use Rattle.std.specs.Prelude.{map, slice_get}
 use Rattle.bpf_shared.specs.declared.events.Event.{Event}
 use Rattle.bpf_shared.specs.declared.events.Event.TheVariants.{Begin, End}
@@ -8,9 +8,7 @@ use Rattle.bpf_shared.specs.Choice.{PlainlyAllowed}
 use Rattle.bpf_shared.specs.History.{PlainlyLegal, entry}
 use Rattle.bpf_shared.specs.Sound.{IsSoundStore}
 use Rattle.bpf_shared.proofs.Soundness.{allowed_sound, plainly_sound}
-use Rattle.bpf_shared.proofs.Histories.{plainly_legal}
 use Rattle.bpf_shared.proofs.Leaving.{event_shape, history_shape}
-use Rattle.bpf_shared.proofs.Lawful.{values_stay}
 use Rattle.bpf_loader.specs.Loaded.{Loaded}
 use Rattle.bpf_cpu.specs.declared.cpu.Cpu.{Cpu}
 use Rattle.bpf_cpu.specs.declared.outcome.Outcome.{Outcome}
@@ -21,21 +19,11 @@ use Rattle.bpf_machine.specs.declared.machine.Turn.TheVariants as turn
 use Rattle.bpf_machine.specs.Hands.{IsAt, SomeWaits, NoneWaits}
 use Rattle.bpf_machine.specs.Listings.{Listing, Never, Due, Made, listed_now, keys_by_map}
 use Rattle.bpf_machine.specs.Schedule.{World, Advances, Lists, Settles, GoesOn, TakesTurn}
-use Rattle.bpf_x86.proofs.Alike.{held_others}
-use Rattle.bpf_x86.proofs.Buffers.{IsWaiting, still_waits}
-use Rattle.bpf_x86.proofs.Behind.{IsBehind, behind_event}
-use Rattle.bpf_x86.proofs.Lagging.{IsLagging, AdvanceMisses, new_world, lag_advances, lags_on, at_l, free_l, none_l, below_l}
-
--- what another CPU's events leave of a store that waits
-held_along : (c d : ℕ) → d ≢ c → (es : List Event) (s t : Plain) → PlainlyLegal s (map (entry c) es) t → t.held d ≡ s.held d
-held_along c d ne [] s t legal = ap (λ (z : Plain). z.held d) (sym legal)
-held_along c d ne (e ∷ es) s t legal = held_along c d ne es legal.0 t legal.2 ∙ held_others s legal.0 c d e ne legal.1
-
-pub waits_along : (c d : ℕ) → d ≢ c → (es : List Event) (s t : Plain) (e : Event) → IsSoundStore s → PlainlyLegal s (map (entry c) es) t → IsWaiting s d e → IsWaiting t d e
-waits_along c d ne es s t e so legal waits = still_waits s t d e (λ v h. (
-  ap (λ (f : ℕ → Bool). f v) (held_along c d ne es s t legal) ∙ h,
-  (values_stay s t (map (entry c) es) v (plainly_legal s t (map (entry c) es) legal) (so.live_made v (inr (inl (d, h))))).1,
-)) waits
+use Rattle.bpf_x86.proofs.Overlay.{hits, changes, any_left, changes_hits}
+use Rattle.bpf_x86.proofs.Behind.{IsBehind, Misses, AllMiss, behind_event}
+use Rattle.bpf_x86.proofs.StepShapes.{AreNot, is_call}
+use Rattle.bpf_x86.proofs.Staying.{legal_along}
+use Rattle.bpf_x86.proofs.Lagging.{IsLagging, miss_fewer, AdvanceMisses, new_world, lag_advances, lags_on, at_l, free_l, none_l, below_l}
 
 pub shape_along : (c : ℕ) (es : List Event) (s t : Plain) → PlainlyLegal s (map (entry c) es) t → t.shape ≡ s.shape
 shape_along c es s t legal = history_shape PlainlyAllowed (λ s t c e a. a.0) s t (map (entry c) es) legal
@@ -52,51 +40,56 @@ TurnMisses lacking w c answer z (inl a) = AdvanceMisses lacking a.5.0 c w.store 
 TurnMisses lacking w c answer z (inr (inl a)) = AdvanceMisses lacking a.1.7.0 c a.1.3 (start c a.1.2) a.1.1.budget a.1.7.1 a.1.7.2 a.1.7.3 a.1.7.4 a.1.7.6
 TurnMisses lacking w c answer z (inr (inr a)) = Unit {0}
 
--- the stores that a step leaves
-advance_waits : (c d : ℕ) → d ≢ c → (program : Loaded) (s : Plain) (old : Cpu) (left : ℕ) (end : Option Outcome) (t : Plain) (new : Cpu) (rest : ℕ) (e : Event) → IsSoundStore s → Advances program c s old left end t new rest
-    → IsWaiting s d e → IsWaiting t d e × (t.shape ≡ s.shape) × IsSoundStore t
-advance_waits c d ne program s old zero end t new rest e so a waits =
-    (subst (λ (z : Plain). IsWaiting z d e) (sym a.1) waits, ap (λ (z : Plain). z.shape) a.1, subst IsSoundStore (sym a.1) so)
-advance_waits c d ne program s old (suc n) end t new rest e so a waits =
-    (waits_along c d ne a.0 s t e so a.3 waits, shape_along c a.0 s t a.3, plainly_sound s t (map (entry c) a.0) so a.3)
+-- what a list of events misses, the first of them do
+made_missed : (made later es : List Event) → AllMiss (made ++ later) es → AllMiss made es
+made_missed made later es miss = miss_fewer (made ++ later) made es (λ y h. any_left changes made later y h) (λ y h. any_left hits made later y h) miss
 
-module _ (d : ℕ) (e : Event) (es : List Event) (c : ℕ) (ne : c ≢ d) (l w : World) (lag : IsLagging d e es l w) where
-  back : d ≢ c
-  back q = ne (sym q)
+-- what a step of another CPU leaves: the loads and stores can still be made
+advance_legal : (c d : ℕ) → c ≢ d → (made later : List Event) → AreNot is_call made → (program : Loaded) (s : Plain) (old : Cpu) (left : ℕ) (end : Option Outcome) (t : Plain) (new : Cpu) (rest : ℕ) (u : Plain) → IsSoundStore s
+    → (a : Advances program c s old left end t new rest) → AdvanceMisses (made ++ later) program c s old left end t new rest a → PlainlyLegal s (map (entry d) made) u → ((q : Plain) × PlainlyLegal t (map (entry d) made) q) × (t.shape ≡ s.shape) × IsSoundStore t
+advance_legal c d ne made later none program s old zero end t new rest u so a miss legal =
+    ((u, subst (λ (z : Plain). PlainlyLegal z (map (entry d) made) u) (sym a.1) legal), ap (λ (z : Plain). z.shape) a.1, subst IsSoundStore (sym a.1) so)
+advance_legal c d ne made later none program s old (suc n) end t new rest u so a miss legal =
+    (legal_along c d ne made none a.0 s t u so (made_missed made later a.0 miss) a.3 legal, shape_along c a.0 s t a.3, plainly_sound s t (map (entry c) a.0) so a.3)
 
+-- a begin and an end touch nothing
+missed_by : (lacking : List Event) (e : Event) → ((x : ℕ) → hits e x ≡ true → ⊥) → Misses lacking e
+missed_by lacking e none = (λ x h k. none x h, λ x h k. none x (changes_hits e x h))
+
+module _ (d : ℕ) (made later : List Event) (c : ℕ) (ne : c ≢ d) (l w : World) (lag : IsLagging d made later l w) where
   -- a job of the CPU goes on, from stores that lag so
-  module _ (k : ℕ) (t : Task) (was : Stage) (at : IsAt w.jobs c k t was) (p s : Plain) (so_p : IsSoundStore p) (so_s : IsSoundStore s) (behind : IsBehind d (e ∷ es) p s)
-      (shape : p.shape ≡ l.store.shape) (waits : IsWaiting p d e) where
-    lag_goes : (old : Cpu) (left : ℕ) (answer : Turn) (z : World) → (g : GoesOn (record w { store = s }) c k t old left answer z) → AdvanceMisses (e ∷ es) g.0 c s old left g.1 g.2 g.3 g.4 g.6
-        → (y : World) × GoesOn (record l { store = p }) c k t old left answer y × IsLagging d e es y z
+  module _ (k : ℕ) (t : Task) (was : Stage) (at : IsAt w.jobs c k t was) (p s : Plain) (so_p : IsSoundStore p) (so_s : IsSoundStore s) (behind : IsBehind d (made ++ later) p s)
+      (shape : p.shape ≡ l.store.shape) (u : Plain) (legal : PlainlyLegal p (map (entry d) made) u) where
+    lag_goes : (old : Cpu) (left : ℕ) (answer : Turn) (z : World) → (g : GoesOn (record w { store = s }) c k t old left answer z) → AdvanceMisses (made ++ later) g.0 c s old left g.1 g.2 g.3 g.4 g.6
+        → (y : World) × GoesOn (record l { store = p }) c k t old left answer y × IsLagging d made later y z
     lag_goes old left answer z g miss = settle g.1 g.6 miss g.7
       where
-        settle : (end : Option Outcome) → (a : Advances g.0 c s old left end g.2 g.3 g.4) → AdvanceMisses (e ∷ es) g.0 c s old left end g.2 g.3 g.4 a → Settles (record w { store = g.2 }) c k t g.3 g.4 end answer z
-            → (y : World) × GoesOn (record l { store = p }) c k t old left answer y × IsLagging d e es y z
+        settle : (end : Option Outcome) → (a : Advances g.0 c s old left end g.2 g.3 g.4) → AdvanceMisses (made ++ later) g.0 c s old left end g.2 g.3 g.4 a → Settles (record w { store = g.2 }) c k t g.3 g.4 end answer z
+            → (y : World) × GoesOn (record l { store = p }) c k t old left answer y × IsLagging d made later y z
         settle None a miss settles =
-            let r = lag_advances d e es c ne g.0 p s old left None g.2 g.3 g.4 so_p so_s behind a miss in
-            let after = advance_waits c d back g.0 p old left None r.0 g.3 g.4 e so_p r.1 waits in
+            let r = lag_advances d made later c ne g.0 p s old left None g.2 g.3 g.4 so_p so_s behind a miss in
+            let after = advance_legal c d ne made later lag.quiet g.0 p old left None r.0 g.3 g.4 u so_p r.1 r.3 legal in
             let stage : Stage = InHand g.3 g.4 in
             let y : World = new_world l r.0 k t stage l.lists in
             let loaded : slice_get l.programs t.program ≡ Some g.0 = ap (λ (ps : List Loaded). slice_get ps t.program) lag.programs ∙ g.5 in (
               y,
               (g.0, None, r.0, g.3, g.4, loaded, r.1, (settles.0, refl)),
-              subst (IsLagging d e es y) (sym settles.1) (lags_on d e es c ne l w lag k t was stage r.0 g.2 l.lists w.lists (at_l d e es c ne l w lag k t was at) lag.lists r.2 (after.1 ∙ shape) after.0),
+              subst (IsLagging d made later y) (sym settles.1) (lags_on d made later c ne l w lag k t was stage r.0 g.2 l.lists w.lists (at_l d made later c ne l w lag k t was at) lag.lists r.2 (after.1 ∙ shape) after.0.0 after.0.1),
             )
         settle (Some end) a miss settles =
-            let r = lag_advances d e es c ne g.0 p s old left (Some end) g.2 g.3 g.4 so_p so_s behind a miss in
-            let after = advance_waits c d back g.0 p old left (Some end) r.0 g.3 g.4 e so_p r.1 waits in
+            let r = lag_advances d made later c ne g.0 p s old left (Some end) g.2 g.3 g.4 so_p so_s behind a miss in
+            let after = advance_legal c d ne made later lag.quiet g.0 p old left (Some end) r.0 g.3 g.4 u so_p r.1 r.3 legal in
             let sound_s : IsSoundStore g.2 = advanced_sound left (Some end) a in
-            let ended = behind_event d (e ∷ es) r.0 g.2 after.2 sound_s r.2 c ne End settles.0 (λ x hit other. cc) settles.1 in
+            let ended = behind_event d (made ++ later) r.0 g.2 after.2 sound_s r.2 c ne End settles.0 (missed_by (made ++ later) End (λ x hit. cc)) settles.1 in
             let stage : Stage = Ended end in
             let loaded : slice_get l.programs t.program ≡ Some g.0 = ap (λ (ps : List Loaded). slice_get ps t.program) lag.programs ∙ g.5 in
-            let waits_now : IsWaiting ended.0 d e = waits_along c d back (End ∷ []) r.0 ended.0 e after.2 (ended.0, ended.1, refl) after.0 in
+            let legal_now = legal_along c d ne made lag.quiet (End ∷ []) r.0 ended.0 after.0.0 after.2 (missed_by made End (λ x hit. cc), tt) (ended.0, ended.1, refl) after.0.1 in
             let shape_now : ended.0.shape ≡ l.store.shape = event_shape r.0 ended.0 c End ended.1.0 ∙ after.1 ∙ shape in
-            let at' = at_l d e es c ne l w lag k t was at in
-            let plain : IsLagging d e es (new_world l ended.0 k t stage l.lists) (new_world w settles.0 k t stage w.lists) =
-            lags_on d e es c ne l w lag k t was stage ended.0 settles.0 l.lists w.lists at' lag.lists ended.2 shape_now waits_now in
+            let at' = at_l d made later c ne l w lag k t was at in
+            let plain : IsLagging d made later (new_world l ended.0 k t stage l.lists) (new_world w settles.0 k t stage w.lists) =
+            lags_on d made later c ne l w lag k t was stage ended.0 settles.0 l.lists w.lists at' lag.lists ended.2 shape_now legal_now.0 legal_now.1 in
             listed end loaded r.0 r.1 ended.0 ended.1 settles.0 settles.2 settles.3 plain
-            (λ lists more same. lags_on d e es c ne l w lag k t was stage ended.0 settles.0 lists more at' same ended.2 shape_now waits_now)
+            (λ lists more same. lags_on d made later c ne l w lag k t was stage ended.0 settles.0 lists more at' same ended.2 shape_now legal_now.0 legal_now.1)
             (ap keys_by_map ended.2.like.same)
           where
             advanced_sound : (left : ℕ) (end : Option Outcome) → Advances g.0 c s old left end g.2 g.3 g.4 → IsSoundStore g.2
@@ -106,35 +99,35 @@ module _ (d : ℕ) (e : Event) (es : List Event) (c : ℕ) (ne : c ≢ d) (l w :
             listed : (end : Outcome) → slice_get l.programs t.program ≡ Some g.0 → (p1 : Plain) → Advances g.0 c p old left (Some end) p1 g.3 g.4
                 → (p2 : Plain) → PlainlyAllowed p1 c End p2 → (s2 : Plain) → answer ≡ turn.Ended k end
                 → Lists (new_world w s2 k t (Ended end) w.lists) c z
-                → IsLagging d e es (new_world l p2 k t (Ended end) l.lists) (new_world w s2 k t (Ended end) w.lists)
-                → ((lists more : ℕ → Listing) → lists ≡ more → IsLagging d e es (new_world l p2 k t (Ended end) lists) (new_world w s2 k t (Ended end) more))
+                → IsLagging d made later (new_world l p2 k t (Ended end) l.lists) (new_world w s2 k t (Ended end) w.lists)
+                → ((lists more : ℕ → Listing) → lists ≡ more → IsLagging d made later (new_world l p2 k t (Ended end) lists) (new_world w s2 k t (Ended end) more))
                 → keys_by_map p2 ≡ keys_by_map s2
-                → (y : World) × GoesOn (record l { store = p }) c k t old left answer y × IsLagging d e es y z
+                → (y : World) × GoesOn (record l { store = p }) c k t old left answer y × IsLagging d made later y z
             listed end loaded p1 advances p2 allowed s2 said (inl (some, same)) plain lists keys =
                 let y : World = new_world l p2 k t (Ended end) l.lists in
-                let waits_l : SomeWaits y.jobs c = (some.0, some.1, some.2, at_l d e es c ne y (new_world w s2 k t (Ended end) w.lists) plain some.0 some.1 (Waiting some.2) some.3) in
-                (y, (g.0, Some end, p1, g.3, g.4, loaded, advances, (p2, allowed, said, inl (waits_l, refl))), subst (IsLagging d e es y) (sym same) plain)
+                let waits_l : SomeWaits y.jobs c = (some.0, some.1, some.2, at_l d made later c ne y (new_world w s2 k t (Ended end) w.lists) plain some.0 some.1 (Waiting some.2) some.3) in
+                (y, (g.0, Some end, p1, g.3, g.4, loaded, advances, (p2, allowed, said, inl (waits_l, refl))), subst (IsLagging d made later y) (sym same) plain)
             listed end loaded p1 advances p2 allowed s2 said (inr (none, same)) plain lists keys =
-                let made : ℕ → Listing = put l.lists c (listed_now p2 (l.lists c)) in
+                let told : ℕ → Listing = put l.lists c (listed_now p2 (l.lists c)) in
                 let more : ℕ → Listing = put w.lists c (listed_now s2 (w.lists c)) in
-                let equal : made ≡ more = ap (λ (f : ℕ → Listing). put f c (listed_now p2 (f c))) lag.lists ∙ ap (λ (x : Listing). put w.lists c x) (listed_same p2 s2 (w.lists c) keys) in
+                let equal : told ≡ more = ap (λ (f : ℕ → Listing). put f c (listed_now p2 (f c))) lag.lists ∙ ap (λ (x : Listing). put w.lists c x) (listed_same p2 s2 (w.lists c) keys) in
                 let y0 : World = new_world l p2 k t (Ended end) l.lists in
-                let y : World = new_world l p2 k t (Ended end) made in
-                let none_l' : NoneWaits y0.jobs c = none_l d e es c ne y0 (new_world w s2 k t (Ended end) w.lists) plain none in
-                (y, (g.0, Some end, p1, g.3, g.4, loaded, advances, (p2, allowed, said, inr (none_l', refl))), subst (IsLagging d e es y) (sym same) (lists made more equal))
+                let y : World = new_world l p2 k t (Ended end) told in
+                let none_l' : NoneWaits y0.jobs c = none_l d made later c ne y0 (new_world w s2 k t (Ended end) w.lists) plain none in
+                (y, (g.0, Some end, p1, g.3, g.4, loaded, advances, (p2, allowed, said, inr (none_l', refl))), subst (IsLagging d made later y) (sym same) (lists told more equal))
 
 -- a turn
-pub lag_turn : (d : ℕ) (e : Event) (es : List Event) (c : ℕ) (ne : c ≢ d) (l w : World) → IsLagging d e es l w → IsSoundStore l.store → IsSoundStore w.store
-    → (answer : Turn) (z : World) → (taken : TakesTurn w c answer z) → TurnMisses (e ∷ es) w c answer z taken → (y : World) × TakesTurn l c answer y × IsLagging d e es y z
-lag_turn d e es c ne l w lag so_l so_w answer z (inl a) miss =
-    let r = lag_goes d e es c ne l w lag a.0 a.1 (InHand a.2 a.3) a.4 l.store w.store so_l so_w lag.behind refl lag.waits a.2 a.3 answer z a.5 miss in
-    (r.0, inl (a.0, a.1, a.2, a.3, at_l d e es c ne l w lag a.0 a.1 (InHand a.2 a.3) a.4, r.1), r.2)
-lag_turn d e es c ne l w lag so_l so_w answer z (inr (inl (free, a))) miss =
-    let begun = behind_event d (e ∷ es) l.store w.store so_l so_w lag.behind c ne Begin a.3 (λ x hit other. cc) a.6 in
+pub lag_turn : (d : ℕ) (made later : List Event) (c : ℕ) (ne : c ≢ d) (l w : World) → IsLagging d made later l w → IsSoundStore l.store → IsSoundStore w.store
+    → (answer : Turn) (z : World) → (taken : TakesTurn w c answer z) → TurnMisses (made ++ later) w c answer z taken → (y : World) × TakesTurn l c answer y × IsLagging d made later y z
+lag_turn d made later c ne l w lag so_l so_w answer z (inl a) miss =
+    let r = lag_goes d made later c ne l w lag a.0 a.1 (InHand a.2 a.3) a.4 l.store w.store so_l so_w lag.behind refl lag.store lag.legal a.2 a.3 answer z a.5 miss in
+    (r.0, inl (a.0, a.1, a.2, a.3, at_l d made later c ne l w lag a.0 a.1 (InHand a.2 a.3) a.4, r.1), r.2)
+lag_turn d made later c ne l w lag so_l so_w answer z (inr (inl (free, a))) miss =
+    let begun = behind_event d (made ++ later) l.store w.store so_l so_w lag.behind c ne Begin a.3 (missed_by (made ++ later) Begin (λ x hit. cc)) a.6 in
     let so_p = allowed_sound l.store begun.0 c Begin so_l begun.1.0 in
     let so_s = allowed_sound w.store a.3 c Begin so_w a.6.0 in
-    let waits : IsWaiting begun.0 d e = waits_along c d (λ q. ne (sym q)) (Begin ∷ []) l.store begun.0 e so_l (begun.0, begun.1, refl) lag.waits in
-    let r = lag_goes d e es c ne l w lag a.0 a.1 (Waiting a.2) a.4 begun.0 a.3 so_p so_s begun.2 (event_shape l.store begun.0 c Begin begun.1.0) waits (start c a.2) a.1.budget answer z a.7 miss in
-    (r.0, inr (inl (free_l d e es c ne l w lag free, (a.0, a.1, a.2, begun.0, at_l d e es c ne l w lag a.0 a.1 (Waiting a.2) a.4, below_l d e es c ne l w lag a.0 a.5, begun.1, r.1))), r.2)
-lag_turn d e es c ne l w lag so_l so_w answer z (inr (inr a)) miss =
-    (l, inr (inr (free_l d e es c ne l w lag a.0, none_l d e es c ne l w lag a.1, a.2, refl)), subst (IsLagging d e es l) (sym a.3) lag)
+    let legal = legal_along c d ne made lag.quiet (Begin ∷ []) l.store begun.0 lag.store so_l (missed_by made Begin (λ x hit. cc), tt) (begun.0, begun.1, refl) lag.legal in
+    let r = lag_goes d made later c ne l w lag a.0 a.1 (Waiting a.2) a.4 begun.0 a.3 so_p so_s begun.2 (event_shape l.store begun.0 c Begin begun.1.0) legal.0 legal.1 (start c a.2) a.1.budget answer z a.7 miss in
+    (r.0, inr (inl (free_l d made later c ne l w lag free, (a.0, a.1, a.2, begun.0, at_l d made later c ne l w lag a.0 a.1 (Waiting a.2) a.4, below_l d made later c ne l w lag a.0 a.5, begun.1, r.1))), r.2)
+lag_turn d made later c ne l w lag so_l so_w answer z (inr (inr a)) miss =
+    (l, inr (inr (free_l d made later c ne l w lag a.0, none_l d made later c ne l w lag a.1, a.2, refl)), subst (IsLagging d made later l) (sym a.3) lag)

@@ -1,11 +1,11 @@
 -- A job that goes on, on the x86 machine and on the plain one that is ahead of it.
-use Rattle.std.proofs.Common.{◌≡◌, ◌≢◌, ℕ, suc, List, [], ◌∷◌, ◌++◌, Option, Some, None, inl, inr, refl, sym, ap, subst, ◌∙◌}
-use Rattle.std.specs.Prelude.{slice_get}
-use Rattle.bpf_shared.specs.declared.events.Size.{Size}
+use Rattle.std.proofs.Common.{◌≡◌, ◌≢◌, ℕ, suc, List, [], ◌++◌, Option, Some, None, inl, inr, refl, sym, ap, subst, ◌∙◌}
+use Rattle.std.specs.Prelude.{map, slice_get}
 use Rattle.bpf_shared.specs.declared.events.Event.{Event}
-use Rattle.bpf_shared.specs.declared.events.Event.TheVariants.{End, Store}
+use Rattle.bpf_shared.specs.declared.events.Event.TheVariants.{End}
 use Rattle.bpf_shared.specs.Store.{Plain, put}
 use Rattle.bpf_shared.specs.Choice.{PlainlyAllowed}
+use Rattle.bpf_shared.specs.History.{PlainlyLegal, entry}
 use Rattle.bpf_shared.proofs.Puts.{put-same}
 use Rattle.bpf_loader.specs.Loaded.{Loaded}
 use Rattle.bpf_cpu.specs.declared.cpu.Cpu.{Cpu}
@@ -25,7 +25,8 @@ use Rattle.bpf_x86.proofs.Meeting.{call_ahead}
 use Rattle.bpf_x86.proofs.Behind.{IsBehind}
 use Rattle.bpf_x86.proofs.Lagging.{AdvanceMisses, new_world}
 use Rattle.bpf_x86.proofs.Following.{listed_same}
-use Rattle.bpf_x86.proofs.Turning.{OwnStep, Drained, Kept, Stored, Advanced, JudgeStep, advance_ahead}
+use Rattle.bpf_x86.proofs.StepShapes.{AreNot, is_call}
+use Rattle.bpf_x86.proofs.Turning.{OwnStep, Drained, Kept, Stored, Advanced, CoversBuffers, JudgeStep, stores_of, advance_ahead}
 
 -- a world with other memory, and buffers
 abbrev pub over : World → Plain → (ℕ → List Event) → X86
@@ -36,14 +37,14 @@ pub data OwnTurn (w : World) (program : Loaded) (buffers after : ℕ → List Ev
   NothingWaits : after c ≡ [] → OwnTurn w program buffers after s c k t old left z
   AsBefore : after c ≡ buffers c → (next : Plain) (new : Cpu) (rest : ℕ) → z ≡ new_world w next k t (InHand new rest) w.lists
       → ((lacking : List Event) (l : Plain) → IsBehind c lacking l s → IsBehind c lacking l next) → OwnTurn w program buffers after s c k t old left z
-  OneMore : (a : ℕ) (size : Size) (x n : ℕ) (answer : Progress) (later : Cpu) → left ≡ suc n → Step s.shape program old (Store a size x ∷ []) answer later
-      → after c ≡ buffers c ++ Store a size x ∷ [] → (next : Plain) (new : Cpu) (rest : ℕ) → z ≡ new_world w next k t (InHand new rest) w.lists → PlainlyAllowed s c (Store a size x) next
+  SomeMore : (made : List Event) (n : ℕ) (answer : Progress) (later : Cpu) → left ≡ suc n → Step s.shape program old made answer later → AreNot is_call made
+      → after c ≡ buffers c ++ stores_of made → (next : Plain) (new : Cpu) (rest : ℕ) → z ≡ new_world w next k t (InHand new rest) w.lists → PlainlyLegal s (map (entry c) made) next
       → OwnTurn w program buffers after s c k t old left z
 
-pub record Gone (w : World) (b : Buffered) (s : Plain) (c k : ℕ) (t : Task) (old : Cpu) (left : ℕ) (answer : Turn) (z : X86) : Type 0 where
+pub record Gone (lacks : ℕ → List Event) (w : World) (b : Buffered) (s : Plain) (c k : ℕ) (t : Task) (old : Cpu) (left : ℕ) (answer : Turn) (z : X86) : Type 0 where
   pub next : World
   pub goes : plain.GoesOn (record w { store = s }) c k t old left answer next
-  pub misses : (d : ℕ) → d ≢ c → AdvanceMisses (b.buffers d) goes.0 c s old left goes.1 goes.2 goes.3 goes.4 goes.6
+  pub misses : (d : ℕ) → d ≢ c → AdvanceMisses (lacks d) goes.0 c s old left goes.1 goes.2 goes.3 goes.4 goes.6
   pub world : z.world ≡ record next { store = z.world.store }
   pub ahead : IsAhead (buffered z) next.store
   pub others : (d : ℕ) → d ≢ c → z.buffers d ≡ b.buffers d
@@ -58,12 +59,12 @@ in_memory z v p f s world buffers ahead =
 its_world : (z : X86) (v : World) (p : Plain) → z.world ≡ record v { store = p } → z.world ≡ record v { store = z.world.store }
 its_world z v p world = world ∙ ap (λ (q : Plain). record v { store = q }) (sym (ap (λ (x : World). x.store) world))
 
-module _ (w : World) (b : Buffered) (s : Plain) (c k : ℕ) (t : Task) (old : Cpu) (left : ℕ) (answer : Turn) (z : X86) (ahead : IsAhead b s) where
-  go : (program : Loaded) → slice_get w.programs t.program ≡ Some program → JudgeStep program c b s old left
+module _ (lacks : ℕ → List Event) (w : World) (b : Buffered) (s : Plain) (c k : ℕ) (t : Task) (old : Cpu) (left : ℕ) (answer : Turn) (z : X86) (ahead : IsAhead b s) (cover : CoversBuffers lacks b) where
+  go : (program : Loaded) → slice_get w.programs t.program ≡ Some program → JudgeStep lacks program c s old left
       → (end : Option Outcome) (b1 : Buffered) (new : Cpu) (rest : ℕ) → Advances program c b old left end b1 new rest → Settled (over w b1.memory b1.buffers) c k t new rest end answer z
-      → Gone w b s c k t old left answer z
+      → Gone lacks w b s c k t old left answer z
   go program loaded judge None b1 new rest advances settled =
-      let a = advance_ahead program c b s old left None b1 new rest ahead judge advances in
+      let a = advance_ahead lacks program c b s old left None b1 new rest ahead cover judge advances in
       let next : World = new_world w a.next k t (InHand new rest) w.lists in
       let path : z.world ≡ record next { store = b1.memory } = settled.0.1 in
       record {
@@ -79,10 +80,10 @@ module _ (w : World) (b : Buffered) (s : Plain) (c k : ℕ) (t : Task) (old : Cp
       own : (p : Plain) (next : World) → next ≡ new_world w p k t (InHand new rest) w.lists → OwnStep program b b1 s p c old left → OwnTurn w program b.buffers z.buffers s c k t old left next
       own p next is (Drained none) = NothingWaits (ap (λ (f : ℕ → List Event). f c) settled.1 ∙ none)
       own p next is (Kept same stays) = AsBefore (ap (λ (f : ℕ → List Event). f c) settled.1 ∙ same) p new rest is stays
-      own p next is (Stored a size x n answer later lefts step allowed more) =
-          OneMore a size x n answer later lefts step (ap (λ (f : ℕ → List Event). f c) settled.1 ∙ more) p new rest is allowed
+      own p next is (Stored made n answer later lefts step quiet legal more) =
+          SomeMore made n answer later lefts step quiet (ap (λ (f : ℕ → List Event). f c) settled.1 ∙ more) p new rest is legal
   go program loaded judge (Some end) b1 new rest advances settled =
-      let a = advance_ahead program c b s old left (Some end) b1 new rest ahead judge advances in
+      let a = advance_ahead lacks program c b s old left (Some end) b1 new rest ahead cover judge advances in
       let drained : Buffered = settled.0 in
       let ended = settled.2 in
       let after : Buffered = record { memory = ended.0; buffers = drained.buffers } in
@@ -93,9 +94,9 @@ module _ (w : World) (b : Buffered) (s : Plain) (c k : ℕ) (t : Task) (old : Cp
       let others : (d : ℕ) → d ≢ c → z.buffers d ≡ b.buffers d = λ d ne. ap (λ (f : ℕ → List Event). f d) settled.3 ∙ r.others d ne ∙ a.others d ne in
       listed a r.next r.allowed ended.0 drained.buffers settled.3 r.ahead none keys others ended.2 ended.3
     where
-      listed : (a : Advanced program c b s old left (Some end) b1 new rest) (p : Plain) → PlainlyAllowed a.next c End p → (q : Plain) (buffers : ℕ → List Event) → z.buffers ≡ buffers → IsAhead (record { memory = q; buffers = buffers }) p
+      listed : (a : Advanced lacks program c b s old left (Some end) b1 new rest) (p : Plain) → PlainlyAllowed a.next c End p → (q : Plain) (buffers : ℕ → List Event) → z.buffers ≡ buffers → IsAhead (record { memory = q; buffers = buffers }) p
           → z.buffers c ≡ [] → keys_by_map q ≡ keys_by_map p → ((d : ℕ) → d ≢ c → z.buffers d ≡ b.buffers d) → answer ≡ turn.Ended k end
-          → Lists (new_world w q k t (Ended end) w.lists) c z.world → Gone w b s c k t old left answer z
+          → Lists (new_world w q k t (Ended end) w.lists) c z.world → Gone lacks w b s c k t old left answer z
       listed a p allowed q buffers same ahead_p none keys others said (inl (some, path)) =
           let next : World = new_world w p k t (Ended end) w.lists in
           record {
@@ -122,5 +123,5 @@ module _ (w : World) (b : Buffered) (s : Plain) (c k : ℕ) (t : Task) (old : Cp
             own = NothingWaits none;
           }
 
-  pub goes_on : ((program : Loaded) → slice_get w.programs t.program ≡ Some program → JudgeStep program c b s old left) → GoesOn (over w b.memory b.buffers) c k t old left answer z → Gone w b s c k t old left answer z
+  pub goes_on : ((program : Loaded) → slice_get w.programs t.program ≡ Some program → JudgeStep lacks program c s old left) → GoesOn (over w b.memory b.buffers) c k t old left answer z → Gone lacks w b s c k t old left answer z
   goes_on judge g = go g.0 g.5 (judge g.0 g.5) g.1 g.2 g.3 g.4 g.6 g.7

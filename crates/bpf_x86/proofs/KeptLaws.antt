@@ -80,7 +80,7 @@ module _ (law : WritesAreDetermined) (begins : OneInstructionBegins) (replies : 
       (made.0, made.1, made.2, made.3, made.4, subst (λ (i : ℕ). slice_get z.programs i ≡ Some made.0) program made.5, made.6, made.7)
 
 pub kept_race_free_is_same : WritesAreDetermined → OneInstructionBegins → CallsHaveOneReply → KeptRaceFreeIsSame
-kept_race_free_is_same law begins replies false kept w bare closed fresh shown free =
-    race_free_is_same law begins replies false w bare fresh (steps_are_there law begins replies kept w fresh shown closed) free
-kept_race_free_is_same law begins replies true kept w bare closed fresh shown free =
-    race_free_is_same law begins replies true w bare fresh (steps_are_patient law begins replies kept w fresh shown closed) free
+kept_race_free_is_same law begins replies false kept w fits closed fresh shown free =
+    race_free_is_same law begins replies false w fits fresh (steps_are_there law begins replies kept w fresh shown closed) free
+kept_race_free_is_same law begins replies true kept w fits closed fresh shown free =
+    race_free_is_same law begins replies true w fits fresh (steps_are_patient law begins replies kept w fresh shown closed) free

@@ -2,12 +2,13 @@ pub mod Overlay
 pub mod Written
 pub mod Forwarding
 pub mod Alike
-pub mod Holding
+pub mod Reaching
 pub mod Buffers
 pub mod Calling
 pub mod Meeting
 pub mod Behind
 pub mod StepShapes
+pub mod Staying
 pub mod Lagging
 pub mod Following
 pub mod Racing

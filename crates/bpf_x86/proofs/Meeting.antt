@@ -9,8 +9,10 @@ use Rattle.bpf_shared.specs.declared.events.Span.{Span}
 use Rattle.bpf_shared.specs.declared.events.Event.{Event}
 use Rattle.bpf_shared.specs.declared.events.Event.TheVariants.{Lookup, Update, Load, Store, Atomic}
 use Rattle.bpf_shared.specs.declared.events.MapAnswer.TheVariants.{Invalid}
+use Rattle.std.proofs.lemmas.Bool.{or_cases, or_left, or_right}
+use Rattle.bpf_shared.specs.Shape.{Shape}
 use Rattle.bpf_shared.specs.Store.{Value, Plain, put, IsLive}
-use Rattle.bpf_shared.specs.Events.{Reaches, after_write, after_lookup, number_in}
+use Rattle.bpf_shared.specs.Events.{Reaches, MayWrite, after_write, after_lookup, number_in}
 use Rattle.bpf_shared.specs.Choice.{PlainlyAllowed}
 use Rattle.bpf_shared.specs.Sound.{IsSoundStore}
 use Rattle.bpf_shared.proofs.Leaving.{event_shape}
@@ -18,33 +20,47 @@ use Rattle.bpf_shared.proofs.Soundness.{allowed_sound}
 use Rattle.bpf_shared.proofs.Puts.{true_or_false, equal_or_not, put-same, put-other, put_pair, put_pair-old}
 use Rattle.bpf_x86.specs.Buffers.{Buffered, Drains, AsksMemory, Calls}
 use Rattle.bpf_x86.specs.Forwarding.{within, overlaid}
-use Rattle.bpf_x86.specs.Laws.{HasNoArrays}
 use Rattle.bpf_x86.proofs.Overlay.{hits_any, all_missed}
 use Rattle.bpf_x86.proofs.Written.{at, address}
 use Rattle.bpf_x86.proofs.Alike.{HasValues, Follows, is_access, follow, held_others}
-use Rattle.bpf_x86.proofs.Buffers.{nobody, AreWaiting, IsClean, IsAhead, holds_here, holds_there, memory_held, still_waiting, unheld_missed}
-use Rattle.bpf_x86.proofs.Holding.{Holds, held_reaches, held_writes}
+use Rattle.bpf_x86.proofs.Buffers.{nobody, AreWaiting, IsClean, IsAhead, reach_here, still_waiting, unreached_missed}
+use Rattle.bpf_x86.proofs.Reaching.{is_fixed, reached, reached_is_live, reached_same, reached_more, like_shape, ReachesAt, Writable, at_reaches, at_writes, reaches_at, writable_too}
 use Rattle.bpf_x86.proofs.Calling.{IsClear, flush_of, seen_ahead, drains_ahead, same_read, clear_drained, more_here, more_there, store_ahead}
 
+-- ---- what memory lets the CPU reach and write, it does in the store that is ahead
+reach_too : (b : Buffered) (s : Plain) (c v a n : ℕ) → IsAhead b s → Reaches b.memory c v a n → ReachesAt s c v a n
+reach_too b s c v a n ahead r = reach_here s b.memory ahead.like c v a n (reaches_at b.memory c v a n r)
+
+may_too : (b : Buffered) (s : Plain) (c v a n : ℕ) → IsAhead b s → MayWrite b.memory c v a n → Writable s v
+may_too b s c v a n ahead r = writable_too b.memory s v (sym (like_shape nobody s b.memory ahead.like)) r.writable
+
+writes_too : (b : Buffered) (s : Plain) (c v a n : ℕ) → IsAhead b s → MayWrite b.memory c v a n → MayWrite s c v a n
+writes_too b s c v a n ahead r = at_writes s c v a n (may_too b s c v a n ahead r) (reach_too b s c v a n ahead r.reaches)
+
 -- ---- an atomic operation stores and flushes at once
-pub atomic_ahead : (b : Buffered) (s : Plain) (c a : ℕ) (size : Size) (y v : ℕ) → IsAhead b s → b.buffers c ≡ [] → b.memory.running c ≡ true → Holds s c v a (bytes_in size) → IsClear b.buffers c (Store a size y)
+pub atomic_ahead : (b : Buffered) (s : Plain) (c a : ℕ) (size : Size) (y v : ℕ) → IsAhead b s → b.buffers c ≡ [] → b.memory.running c ≡ true → MayWrite b.memory c v a (bytes_in size) → IsClear b.buffers c (Store a size y)
     → IsAhead (record { memory = after_write b.memory v a (bytes_in size) y; buffers = b.buffers }) (after_write s v a (bytes_in size) y)
-atomic_ahead b s c a size y v ahead none runs r clear =
+atomic_ahead b s c a size y v ahead none runs writes clear =
     let e : Event = Store a size y in
-    let stored = store_ahead b s ahead c a size y v r clear in
-    let one : put b.buffers c (b.buffers c ++ e ∷ []) c ≡ e ∷ [] = more_here b s ahead c a size y v r clear ∙ ap (λ (es : List Event). es ++ e ∷ []) none in
+    let r : ReachesAt s c v a (bytes_in size) = reach_too b s c v a (bytes_in size) ahead writes.reaches in
+    let may : Writable s v = may_too b s c v a (bytes_in size) ahead writes in
+    let stored = store_ahead b s ahead c a size y v r may clear in
+    let one : put b.buffers c (b.buffers c ++ e ∷ []) c ≡ e ∷ [] = more_here b s ahead c a size y v r may clear ∙ ap (λ (es : List Event). es ++ e ∷ []) none in
     flush_of (record { memory = b.memory; buffers = put b.buffers c (b.buffers c ++ e ∷ []) }) (after_write s v a (bytes_in size) y) c e [] (after_write b.memory v a (bytes_in size) y) b.buffers stored one
-    ((runs, (v, held_writes b.memory c v a (bytes_in size) ahead.sound (holds_there s b.memory ahead.like c v a (bytes_in size) r), refl)), tt) none (λ d ne. sym (more_there b s ahead c a size y v r clear d ne))
+    ((runs, (v, writes, refl)), tt) none (λ d ne. sym (more_there b s ahead c a size y v r may clear d ne))
 
 -- ---- what isn't an access
 module _ (b : Buffered) (s p : Plain) (c : ℕ) (e : Event) (ahead : IsAhead b s) (f : Follows nobody s b.memory c e p)
-    (grow : (b.buffers c ≡ []) ⊎ ((v : ℕ) → s.held c v ≡ true → f.next.held c v ≡ true))
-    (new : (v i : ℕ) → i < (s.value v).span.size → f.next.held c v ≡ true → (s.held c v ≡ true) ⊎ (hits_any (b.buffers c) (address s v i) ≡ false)) where
+    (grow : (b.buffers c ≡ []) ⊎ ((v : ℕ) → reached s c v ≡ true → reached f.next c v ≡ true))
+    (new : (v i : ℕ) → i < (s.value v).span.size → reached f.next c v ≡ true → (reached s c v ≡ true) ⊎ (hits_any (b.buffers c) (address s v i) ≡ false)) where
   next_sound : IsSoundStore f.next
   next_sound = allowed_sound s f.next c e ahead.sound_too f.allowed.0
 
-  held_else : (d : ℕ) → d ≢ c → f.next.held d ≡ s.held d
-  held_else d ne = held_others s f.next c d e ne f.allowed
+  next_shape : f.next.shape ≡ s.shape
+  next_shape = event_shape s f.next c e f.allowed.0
+
+  reached_else : (d : ℕ) → d ≢ c → (w : ℕ) → reached f.next d w ≡ reached s d w
+  reached_else d ne w = reached_same f.next s d w next_shape (ap (λ (g : ℕ → Bool). g w) (held_others s f.next c d e ne f.allowed))
 
   -- a value is as it was in both, or new in both
   abbrev Stays : ℕ → Type 0
@@ -83,22 +99,22 @@ module _ (b : Buffered) (s p : Plain) (c : ℕ) (e : Event) (ahead : IsAhead b s
   ]
 
   -- what was held and isn't new is where it was
-  quiet_kept : (d : ℕ) → ((w : ℕ) → s.held d w ≡ true → f.next.held d w ≡ true) → (w : ℕ) → s.held d w ≡ true → (f.next.held d w ≡ true) × ((f.next.value w).span ≡ (s.value w).span)
+  quiet_kept : (d : ℕ) → ((w : ℕ) → reached s d w ≡ true → reached f.next d w ≡ true) → (w : ℕ) → reached s d w ≡ true → (reached f.next d w ≡ true) × ((f.next.value w).span ≡ (s.value w).span)
   quiet_kept d grows w h = (
     grows w h,
     elim (stays w) [
       | inl q ↦ ap (λ (y : Value). y.span) q.0
-      | inr q ↦ (let less : w < s.made = ahead.sound_too.live_made w (inr (inl (d, h))) in let same : w ≡ s.made = q.0 in absurd (omega arith))
+      | inr q ↦ (let less : w < s.made = ahead.sound_too.live_made w (reached_is_live s d w h) in let same : w ≡ s.made = q.0 in absurd (omega arith))
     ],
   )
 
   quiet_waiting : (d : ℕ) → AreWaiting f.next d (b.buffers d)
   quiet_waiting d = elim (equal_or_not d c) [
     | inl same ↦ subst (λ (k : ℕ). AreWaiting f.next k (b.buffers k)) (sym same) (own grow)
-    | inr ne ↦ still_waiting s f.next d (b.buffers d) (quiet_kept d (λ w h. ap (λ (g : ℕ → Bool). g w) (held_else d ne) ∙ h)) (ahead.waiting d)
+    | inr ne ↦ still_waiting s f.next d (b.buffers d) (quiet_kept d (λ w h. reached_else d ne w ∙ h)) (ahead.waiting d)
   ]
     where
-      own : (b.buffers c ≡ []) ⊎ ((v : ℕ) → s.held c v ≡ true → f.next.held c v ≡ true) → AreWaiting f.next c (b.buffers c)
+      own : (b.buffers c ≡ []) ⊎ ((v : ℕ) → reached s c v ≡ true → reached f.next c v ≡ true) → AreWaiting f.next c (b.buffers c)
       own (inl none) = subst (AreWaiting f.next c) (sym none) tt
       own (inr grows) = still_waiting s f.next c (b.buffers c) (quiet_kept c grows) (ahead.waiting c)
 
@@ -107,12 +123,12 @@ module _ (b : Buffered) (s p : Plain) (c : ℕ) (e : Event) (ahead : IsAhead b s
   quiet_clean d w i same clean k ne h = elim (equal_or_not k c) [
     | inl at_c ↦ elim grow [
       | inl none ↦ ap (λ (es : List Event). hits_any es (address s w i)) (ap b.buffers at_c ∙ none)
-      | inr grows ↦ back k ne (subst (λ (j : ℕ). f.next.held j w ≡ true) (sym at_c) (grows w (ap (λ (j : ℕ). s.held j w) (sym at_c) ∙ h)))
+      | inr grows ↦ back k ne (subst (λ (j : ℕ). reached f.next j w ≡ true) (sym at_c) (grows w (ap (λ (j : ℕ). reached s j w) (sym at_c) ∙ h)))
     ]
-    | inr far ↦ back k ne (ap (λ (g : ℕ → Bool). g w) (held_else k far) ∙ h)
+    | inr far ↦ back k ne (reached_else k far w ∙ h)
   ]
     where
-      back : (k : ℕ) → k ≢ d → f.next.held k w ≡ true → hits_any (b.buffers k) (address s w i) ≡ false
+      back : (k : ℕ) → k ≢ d → reached f.next k w ≡ true → hits_any (b.buffers k) (address s w i) ≡ false
       back k ne h = ap (λ (q : ℕ). hits_any (b.buffers k) q) (sym same) ∙ clean k ne h
 
   module _ (w i : ℕ) (here : f.next.value w ≡ s.value w) (there : p.value w ≡ b.memory.value w) where
@@ -129,65 +145,64 @@ module _ (b : Buffered) (s p : Plain) (c : ℕ) (e : Event) (ahead : IsAhead b s
     byte_there = ap (λ (y : Value). slice_get y.bytes i) (sym there)
 
     -- where its own CPU has nothing that waits, or holds it as before
-    own_held : i < (f.next.value w).span.size → IsClean b.buffers f.next c w i → f.next.held c w ≡ true → at f.next w i ≡ overlaid (b.buffers c) (address f.next w i) (at p w i)
-    own_held inside clean h = byte_here ∙ before (true_or_false (s.held c w)) ∙ ap (λ (o : Option ℕ). overlaid (b.buffers c) (address s w i) o) byte_there
+    own_seen : i < (f.next.value w).span.size → IsClean b.buffers f.next c w i → reached f.next c w ≡ true → at f.next w i ≡ overlaid (b.buffers c) (address f.next w i) (at p w i)
+    own_seen inside clean h = byte_here ∙ before (true_or_false (reached s c w)) ∙ ap (λ (o : Option ℕ). overlaid (b.buffers c) (address s w i) o) byte_there
         ∙ ap (λ (q : ℕ). overlaid (b.buffers c) q (at p w i)) (sym place)
       where
         clean_s : IsClean b.buffers s c w i
         clean_s = quiet_clean c w i place clean
 
-        before : ((s.held c w ≡ true) ⊎ (s.held c w ≡ false)) → at s w i ≡ overlaid (b.buffers c) (address s w i) (at b.memory w i)
-        before (inl was) = ahead.held c w i (inside_before inside) clean_s was
-        before (inr not) = ahead.unheld c w i (inside_before inside) clean_s not ∙ elim (new w i (inside_before inside) h) [
+        before : ((reached s c w ≡ true) ⊎ (reached s c w ≡ false)) → at s w i ≡ overlaid (b.buffers c) (address s w i) (at b.memory w i)
+        before (inl was) = ahead.seen c w i (inside_before inside) clean_s was
+        before (inr not) = ahead.unseen c w i (inside_before inside) clean_s not ∙ elim (new w i (inside_before inside) h) [
           | inl was ↦ (let no : true ≡ false = sym was ∙ not in cc)
           | inr miss ↦ sym (all_missed (b.buffers c) (address s w i) (at b.memory w i) miss)
         ]
 
-    own_unheld : i < (f.next.value w).span.size → IsClean b.buffers f.next c w i → f.next.held c w ≡ false → at f.next w i ≡ at p w i
-    own_unheld inside clean h = byte_here ∙ before (true_or_false (s.held c w)) ∙ byte_there
+    own_unseen : i < (f.next.value w).span.size → IsClean b.buffers f.next c w i → reached f.next c w ≡ false → at f.next w i ≡ at p w i
+    own_unseen inside clean h = byte_here ∙ before (true_or_false (reached s c w)) ∙ byte_there
       where
         clean_s : IsClean b.buffers s c w i
         clean_s = quiet_clean c w i place clean
 
-        before : ((s.held c w ≡ true) ⊎ (s.held c w ≡ false)) → at s w i ≡ at b.memory w i
-        before (inr not) = ahead.unheld c w i (inside_before inside) clean_s not
-        before (inl was) = ahead.held c w i (inside_before inside) clean_s was ∙ elim grow [
+        before : ((reached s c w ≡ true) ⊎ (reached s c w ≡ false)) → at s w i ≡ at b.memory w i
+        before (inr not) = ahead.unseen c w i (inside_before inside) clean_s not
+        before (inl was) = ahead.seen c w i (inside_before inside) clean_s was ∙ elim grow [
           | inl none ↦ ap (λ (es : List Event). overlaid es (address s w i) (at b.memory w i)) none
           | inr grows ↦ (let no : true ≡ false = sym (grows w was) ∙ h in cc)
         ]
 
-    other_held : (d : ℕ) → d ≢ c → i < (f.next.value w).span.size → IsClean b.buffers f.next d w i → f.next.held d w ≡ true → at f.next w i ≡ overlaid (b.buffers d) (address f.next w i) (at p w i)
-    other_held d ne inside clean h =
+    other_seen : (d : ℕ) → d ≢ c → i < (f.next.value w).span.size → IsClean b.buffers f.next d w i → reached f.next d w ≡ true → at f.next w i ≡ overlaid (b.buffers d) (address f.next w i) (at p w i)
+    other_seen d ne inside clean h =
         byte_here
-        ∙ ahead.held d w i (inside_before inside) (quiet_clean d w i place clean) (sym (ap (λ (g : ℕ → Bool). g w) (held_else d ne)) ∙ h)
+        ∙ ahead.seen d w i (inside_before inside) (quiet_clean d w i place clean) (sym (reached_else d ne w) ∙ h)
         ∙ ap (λ (o : Option ℕ). overlaid (b.buffers d) (address s w i) o) byte_there
         ∙ ap (λ (q : ℕ). overlaid (b.buffers d) q (at p w i)) (sym place)
 
-    other_unheld : (d : ℕ) → d ≢ c → i < (f.next.value w).span.size → IsClean b.buffers f.next d w i → f.next.held d w ≡ false → at f.next w i ≡ at p w i
-    other_unheld d ne inside clean h =
-        byte_here ∙ ahead.unheld d w i (inside_before inside) (quiet_clean d w i place clean) (sym (ap (λ (g : ℕ → Bool). g w) (held_else d ne)) ∙ h) ∙ byte_there
+    other_unseen : (d : ℕ) → d ≢ c → i < (f.next.value w).span.size → IsClean b.buffers f.next d w i → reached f.next d w ≡ false → at f.next w i ≡ at p w i
+    other_unseen d ne inside clean h =
+        byte_here ∙ ahead.unseen d w i (inside_before inside) (quiet_clean d w i place clean) (sym (reached_else d ne w) ∙ h) ∙ byte_there
 
   pub quiet_ahead : IsSoundStore p → IsAhead (record { memory = p; buffers = b.buffers }) f.next
   quiet_ahead so = record {
     like = f.like;
-    bare = subst HasNoArrays (sym (event_shape s f.next c e f.allowed.0)) ahead.bare;
     sound = so;
     sound_too = next_sound;
     unmade = quiet_unmade;
     waiting = quiet_waiting;
     apart = ahead.apart;
-    held = λ d w i inside clean h. elim (stays w) [
+    seen = λ d w i inside clean h. elim (stays w) [
       | inl q ↦ elim (equal_or_not d c) [
         | inl same ↦ subst (λ (k : ℕ). at f.next w i ≡ overlaid (b.buffers k) (address f.next w i) (at p w i)) (sym same)
-            (own_held w i q.0 q.1 inside (subst (λ (k : ℕ). IsClean b.buffers f.next k w i) same clean) (ap (λ (k : ℕ). f.next.held k w) (sym same) ∙ h))
-        | inr ne ↦ other_held w i q.0 q.1 d ne inside clean h
+            (own_seen w i q.0 q.1 inside (subst (λ (k : ℕ). IsClean b.buffers f.next k w i) same clean) (ap (λ (k : ℕ). reached f.next k w) (sym same) ∙ h))
+        | inr ne ↦ other_seen w i q.0 q.1 d ne inside clean h
       ]
-      | inr q ↦ (let less : w < s.made = ahead.sound_too.live_made w (inr (inl (d, sym (ap (λ (g : ℕ → ℕ → Bool). g d w) q.2) ∙ h))) in let same : w ≡ s.made = q.0 in absurd (omega arith))
+      | inr q ↦ (let less : w < s.made = ahead.sound_too.live_made w (reached_is_live s d w (sym (reached_same f.next s d w next_shape (ap (λ (g : ℕ → ℕ → Bool). g d w) q.2)) ∙ h)) in let same : w ≡ s.made = q.0 in absurd (omega arith))
     ];
-    unheld = λ d w i inside clean h. elim (stays w) [
+    unseen = λ d w i inside clean h. elim (stays w) [
       | inl q ↦ elim (equal_or_not d c) [
-        | inl same ↦ own_unheld w i q.0 q.1 inside (subst (λ (k : ℕ). IsClean b.buffers f.next k w i) same clean) (ap (λ (k : ℕ). f.next.held k w) (sym same) ∙ h)
-        | inr ne ↦ other_unheld w i q.0 q.1 d ne inside clean h
+        | inl same ↦ own_unseen w i q.0 q.1 inside (subst (λ (k : ℕ). IsClean b.buffers f.next k w i) same clean) (ap (λ (k : ℕ). reached f.next k w) (sym same) ∙ h)
+        | inr ne ↦ other_unseen w i q.0 q.1 d ne inside clean h
       ]
       | inr q ↦ ap (λ (y : Value). slice_get y.bytes i) q.1
     ];
@@ -215,7 +230,7 @@ draining b t s c e it ahead d drains (p, allowed, is) =
     let none : d.buffers c ≡ [] = drained_own b d c drains in
     let f = follow nobody s d.memory p c e (λ z. z) it ready.like allowed in
     let sound : IsSoundStore p = allowed_sound d.memory p c e ready.sound allowed.0 in
-    let new : (v i : ℕ) → i < (s.value v).span.size → f.next.held c v ≡ true → (s.held c v ≡ true) ⊎ (hits_any (d.buffers c) (address s v i) ≡ false) =
+    let new : (v i : ℕ) → i < (s.value v).span.size → reached f.next c v ≡ true → (reached s c v ≡ true) ⊎ (hits_any (d.buffers c) (address s v i) ≡ false) =
     λ v i inside h. inr (ap (λ (es : List Event). hits_any es (address s v i)) none) in
     record {
       next = f.next;
@@ -225,8 +240,8 @@ draining b t s c e it ahead d drains (p, allowed, is) =
     }
 
 asking : (b t : Buffered) (s : Plain) (c : ℕ) (e : Event) → is_access e ≡ false → IsAhead b s → (a : AsksMemory b c e t)
-    → ((next : Plain) → PlainlyAllowed s c e next → (v : ℕ) → s.held c v ≡ true → next.held c v ≡ true)
-    → ((next : Plain) → PlainlyAllowed s c e next → (v i : ℕ) → i < (s.value v).span.size → next.held c v ≡ true → (s.held c v ≡ true) ⊎ (hits_any (b.buffers c) (address s v i) ≡ false))
+    → ((next : Plain) → PlainlyAllowed s c e next → (v : ℕ) → reached s c v ≡ true → reached next c v ≡ true)
+    → ((next : Plain) → PlainlyAllowed s c e next → (v i : ℕ) → i < (s.value v).span.size → reached next c v ≡ true → (reached s c v ≡ true) ⊎ (hits_any (b.buffers c) (address s v i) ≡ false))
     → CallAhead b t s c e
 asking b t s c e it ahead (p, allowed, is) grows new =
     let f = follow nobody s b.memory p c e (λ z. z) it ahead.like allowed in
@@ -238,44 +253,46 @@ asking b t s c e it ahead (p, allowed, is) grows new =
       others = λ k ne. ap (λ (z : Buffered). z.buffers k) is;
     }
 
--- what memory lets the CPU reach it holds in the store that is ahead
-holds_too : (b : Buffered) (s : Plain) (c v a n : ℕ) → IsAhead b s → Reaches b.memory c v a n → Holds s c v a n
-holds_too b s c v a n ahead r = holds_here s b.memory ahead.like c v a n (memory_held b s c v a n ahead r)
-
 -- a lookup
-look_grows : (s next : Plain) (c m : ℕ) (key : List ℕ) (found : Option Span) → PlainlyAllowed s c (Lookup m key found) next → (v : ℕ) → s.held c v ≡ true → next.held c v ≡ true
-look_grows s next c m key found a v h = ap (λ (z : Plain). z.held c v) a.0.1.2 ∙ grown (get (s.maps m) key)
+looked_shape : (s next : Plain) (c m : ℕ) (key : List ℕ) (found : Option Span) → PlainlyAllowed s c (Lookup m key found) next → s.shape ≡ next.shape
+looked_shape s next c m key found a = sym (event_shape s next c (Lookup m key found) a.0)
+
+look_grows : (s next : Plain) (c m : ℕ) (key : List ℕ) (found : Option Span) → PlainlyAllowed s c (Lookup m key found) next → (v : ℕ) → reached s c v ≡ true → reached next c v ≡ true
+look_grows s next c m key found a v h = reached_more s next c v (looked_shape s next c m key found a) (λ k. ap (λ (z : Plain). z.held c v) a.0.1.2 ∙ grown (get (s.maps m) key) k) h
   where
-    grown : (o : Option ℕ) → (after_lookup s c o).held c v ≡ true
-    grown None = h
-    grown (Some w) = put_pair-old s.held c w c v h
+    grown : (o : Option ℕ) → s.held c v ≡ true → (after_lookup s c o).held c v ≡ true
+    grown None k = k
+    grown (Some w) k = put_pair-old s.held c w c v k
 
 look_new : (b : Buffered) (s next : Plain) (c m : ℕ) (key : List ℕ) (found : Option Span) → IsAhead b s → PlainlyAllowed s c (Lookup m key found) next
-    → (v i : ℕ) → i < (s.value v).span.size → next.held c v ≡ true → (s.held c v ≡ true) ⊎ (hits_any (b.buffers c) (address s v i) ≡ false)
-look_new b s next c m key found ahead a v i inside h = looked (get (s.maps m) key) refl (sym (ap (λ (z : Plain). z.held c v) a.0.1.2) ∙ h)
+    → (v i : ℕ) → i < (s.value v).span.size → reached next c v ≡ true → (reached s c v ≡ true) ⊎ (hits_any (b.buffers c) (address s v i) ≡ false)
+look_new b s next c m key found ahead a v i inside h = elim (true_or_false (reached s c v)) [
+  | inl was ↦ inl was
+  | inr not ↦ inr (unreached_missed s c (b.buffers c) ahead.sound_too (ahead.waiting c) v i (live not (or_cases (next.held c v) (is_fixed next.shape v) h)) inside not)
+]
   where
-    missed_now : IsLive s v → ((s.held c v ≡ true) ⊎ (s.held c v ≡ false)) → (s.held c v ≡ true) ⊎ (hits_any (b.buffers c) (address s v i) ≡ false)
-    missed_now live (inl was) = inl was
-    missed_now live (inr not) = inr (unheld_missed s c (b.buffers c) ahead.sound_too (ahead.waiting c) v i live inside not)
-
-    looked : (o : Option ℕ) → get (s.maps m) key ≡ o → (after_lookup s c o).held c v ≡ true → (s.held c v ≡ true) ⊎ (hits_any (b.buffers c) (address s v i) ≡ false)
-    looked None e k = inl k
-    looked (Some w) e k = elim (put_pair s.held c w c v k) [
-      | inl q ↦ missed_now (inl (m, (key, e ∙ ap Some (sym q.1)))) (true_or_false (s.held c v))
-      | inr was ↦ inl was
+    found_live : reached s c v ≡ false → (o : Option ℕ) → get (s.maps m) key ≡ o → (after_lookup s c o).held c v ≡ true → IsLive s v
+    found_live not None e k = reached_is_live s c v (or_left (s.held c v) (is_fixed s.shape v) k)
+    found_live not (Some w) e k = elim (put_pair s.held c w c v k) [
+      | inl q ↦ inl (m, (key, e ∙ ap Some (sym q.1)))
+      | inr was ↦ reached_is_live s c v (or_left (s.held c v) (is_fixed s.shape v) was)
     ]
+
+    live : reached s c v ≡ false → ((next.held c v ≡ true) ⊎ (is_fixed next.shape v ≡ true)) → IsLive s v
+    live not (inl k) = found_live not (get (s.maps m) key) refl (sym (ap (λ (z : Plain). z.held c v) a.0.1.2) ∙ k)
+    live not (inr k) = reached_is_live s c v (or_right (s.held c v) (is_fixed s.shape v) (ap (λ (g : Shape). is_fixed g v) (looked_shape s next c m key found a) ∙ k))
 
 pub call_ahead : (b t : Buffered) (s : Plain) (c : ℕ) (e : Event) → IsAhead b s → IsClear b.buffers c e → Calls b c e t → CallAhead b t s c e
 call_ahead b t s c (Load a size found) ahead clear (m, sees, allowed, is) =
     let drained : Buffered = record { memory = m; buffers = put b.buffers c [] } in
     let ready : IsAhead drained s = seen_ahead b s m c ahead sees in
     let v : ℕ = allowed.0.1.0 in
-    let r : Holds s c v a (bytes_in size) = holds_too drained s c v a (bytes_in size) ready allowed.0.1.1 in
+    let r : ReachesAt s c v a (bytes_in size) = reach_too drained s c v a (bytes_in size) ready allowed.0.1.1 in
     let same : number_in s v a (bytes_in size) ≡ number_in m v a (bytes_in size) =
     same_read drained s c v a (bytes_in size) ready (put-same b.buffers c c [] refl) r (clear_drained b.buffers c (Load a size found) clear) in
     record {
       next = s;
-      allowed = ((runs_here drained s c ready allowed.0.0, (v, held_reaches s c v a (bytes_in size) r, allowed.0.1.2 ∙ sym same, refl)), tt);
+      allowed = ((runs_here drained s c ready allowed.0.0, (v, at_reaches s c v a (bytes_in size) r, allowed.0.1.2 ∙ sym same, refl)), tt);
       ahead = subst (λ (z : Buffered). IsAhead z s) (sym is) ahead;
       others = λ k ne. ap (λ (z : Buffered). z.buffers k) is;
     }
@@ -283,27 +300,28 @@ call_ahead b t s c (Store a size x) ahead clear (m, new, sees, allowed, is) =
     let drained : Buffered = record { memory = m; buffers = put b.buffers c [] } in
     let ready : IsAhead drained s = seen_ahead b s m c ahead sees in
     let v : ℕ = allowed.0.1.0 in
-    let r : Holds s c v a (bytes_in size) = holds_too drained s c v a (bytes_in size) ready allowed.0.1.1.reaches in
+    let r : ReachesAt s c v a (bytes_in size) = reach_too drained s c v a (bytes_in size) ready allowed.0.1.1.reaches in
+    let may : Writable s v = may_too drained s c v a (bytes_in size) ready allowed.0.1.1 in
     record {
       next = after_write s v a (bytes_in size) x;
-      allowed = ((runs_here drained s c ready allowed.0.0, (v, held_writes s c v a (bytes_in size) ahead.sound_too r, refl)), tt);
-      ahead = subst (λ (z : Buffered). IsAhead z (after_write s v a (bytes_in size) x)) (sym is) (store_ahead b s ahead c a size x v r clear);
-      others = λ k ne. ap (λ (z : Buffered). z.buffers k) is ∙ more_there b s ahead c a size x v r clear k ne;
+      allowed = ((runs_here drained s c ready allowed.0.0, (v, at_writes s c v a (bytes_in size) may r, refl)), tt);
+      ahead = subst (λ (z : Buffered). IsAhead z (after_write s v a (bytes_in size) x)) (sym is) (store_ahead b s ahead c a size x v r may clear);
+      others = λ k ne. ap (λ (z : Buffered). z.buffers k) is ∙ more_there b s ahead c a size x v r may clear k ne;
     }
 call_ahead b t s c (Atomic a size op operand expected found) ahead clear (d, drains, (p, allowed, is)) =
     let ready : IsAhead d s = drains_ahead b d s c ahead drains in
     let none : d.buffers c ≡ [] = drained_own b d c drains in
     let v : ℕ = allowed.0.1.0 in
-    let r : Holds s c v a (bytes_in size) = holds_too d s c v a (bytes_in size) ready allowed.0.1.1.reaches in
+    let r : ReachesAt s c v a (bytes_in size) = reach_too d s c v a (bytes_in size) ready allowed.0.1.1.reaches in
     let clear_d : (k x : ℕ) → k ≢ c → within a (bytes_in size) x ≡ true → hits_any (d.buffers k) x ≡ true → ⊥ =
     λ k x ne hit too. clear k x ne hit (sym (ap (λ (es : List Event). hits_any es x) (drained_others b d c drains k ne)) ∙ too) in
     let same : number_in s v a (bytes_in size) ≡ number_in d.memory v a (bytes_in size) = same_read d s c v a (bytes_in size) ready none r clear_d in
     let y : ℕ = number_after op (bytes_in size) found operand expected in
     let after : IsAhead (record { memory = after_write d.memory v a (bytes_in size) y; buffers = d.buffers }) (after_write s v a (bytes_in size) y) =
-    atomic_ahead d s c a size y v ready none allowed.0.0 r clear_d in
+    atomic_ahead d s c a size y v ready none allowed.0.0 allowed.0.1.1 clear_d in
     record {
       next = after_write s v a (bytes_in size) y;
-      allowed = ((runs_here d s c ready allowed.0.0, (v, held_writes s c v a (bytes_in size) ahead.sound_too r, allowed.0.1.2 ∙ sym same, refl)), tt);
+      allowed = ((runs_here d s c ready allowed.0.0, (v, writes_too d s c v a (bytes_in size) ready allowed.0.1.1, allowed.0.1.2 ∙ sym same, refl)), tt);
       ahead = subst (λ (z : Buffered). IsAhead z (after_write s v a (bytes_in size) y)) (sym is)
           (subst (λ (z : Plain). IsAhead (record { memory = z; buffers = d.buffers }) (after_write s v a (bytes_in size) y)) (sym allowed.0.1.3) after);
       others = λ k ne. ap (λ (z : Buffered). z.buffers k) is ∙ drained_others b d c drains k ne;
@@ -312,6 +330,6 @@ call_ahead b t s c (Lookup m key found) ahead clear calls =
     asking b t s c (Lookup m key found) refl ahead calls (λ next a. look_grows s next c m key found a) (λ next a. look_new b s next c m key found ahead a)
 call_ahead b t s c (Update m key bytes flags Invalid) ahead clear calls =
     asking b t s c (Update m key bytes flags Invalid) refl ahead calls
-    (λ next a v h. ap (λ (z : Plain). z.held c v) a.0.1.4.1 ∙ h)
-    (λ next a v i inside h. inl (sym (ap (λ (z : Plain). z.held c v) a.0.1.4.1) ∙ h))
+    (λ next a v h. ap (λ (z : Plain). reached z c v) a.0.1.4.1 ∙ h)
+    (λ next a v i inside h. inl (sym (ap (λ (z : Plain). reached z c v) a.0.1.4.1) ∙ h))
 call_ahead b t s c e ahead clear calls = draining b t s c e refl ahead calls.0 calls.1 calls.2

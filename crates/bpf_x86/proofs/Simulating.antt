@@ -1,17 +1,18 @@
 -- Where no schedule leads to a race, the plain machine that makes each store at once reaches what the
 -- x86 machine reaches.
-use Rattle.std.proofs.Common.{◌≡◌, ◌≢◌, ℕ, zero, suc, ◌<◌, ◌≤◌, Bool, true, false, List, [], ◌∷◌, ◌++◌, length, Option, Some, None, inl, inr, refl, sym, ap, subst, ◌∙◌, arith}
-use Rattle.std.specs.Prelude.{slice_get, slice_set}
-use Rattle.std.proofs.lemmas.Bool.{cases_lt, or_right}
+use Rattle.std.proofs.Common.{◌≡◌, ◌≢◌, ℕ, zero, suc, ◌<◌, ◌≤◌, Bool, true, false, List, [], ◌∷◌, ◌++◌, length, Option, Some, None, inl, inr, refl, sym, ap, subst, ◌∙◌, arith, append-nil, append_assoc}
+use Rattle.std.specs.Prelude.{map, slice_get, slice_set}
+use Rattle.std.proofs.lemmas.Bool.{cases_lt, or_left, or_right, or_cases}
 use Rattle.bpf_base.proofs.Lists.{slice_get-set_known, slice_get-set_other, set_twice}
-use Rattle.bpf_shared.specs.Access.{bytes_in}
-use Rattle.bpf_shared.specs.declared.events.Size.{Size}
 use Rattle.bpf_shared.specs.declared.events.Span.{Span}
 use Rattle.bpf_shared.specs.declared.events.Event.{Event}
-use Rattle.bpf_shared.specs.declared.events.Event.TheVariants.{Begin, Store}
+use Rattle.bpf_shared.specs.declared.events.Event.TheVariants.{Begin, Load, Store}
 use Rattle.bpf_shared.specs.Laws.{CallsHaveOneReply}
 use Rattle.bpf_shared.specs.Store.{Value, Plain}
-use Rattle.bpf_shared.specs.Choice.{PlainlyAllowed}
+use Rattle.bpf_shared.specs.Shape.{IsShape}
+use Rattle.bpf_shared.specs.History.{PlainlyLegal, entry}
+use Rattle.bpf_shared.specs.Sound.{IsSoundStore}
+use Rattle.bpf_shared.proofs.Soundness.{allowed_sound}
 use Rattle.bpf_shared.proofs.Puts.{true_or_false, equal_or_not, put-same, put-other}
 use Rattle.bpf_loader.specs.Loaded.{Loaded}
 use Rattle.bpf_loader.specs.Laws.{OneInstructionBegins}
@@ -29,26 +30,26 @@ use Rattle.bpf_machine.specs.Schedule as plain
 use Rattle.bpf_machine.specs.Rounds.{HaveEnded}
 use Rattle.bpf_machine.specs.Laws.{IsFresh}
 use Rattle.bpf_cpu.specs.declared.outcome.Outcome.TheVariants.{OutOfBudget}
-use Rattle.bpf_machine.proofs.ListLaws.{lists_jobs}
+use Rattle.bpf_machine.proofs.ListLaws.{lists_jobs, lists_programs}
 use Rattle.bpf_machine.proofs.DeterminedTurns.{IsWorld, same_stage, fresh_world, runs_world}
 use Rattle.bpf_x86.specs.Buffers.{Buffered, Flushes}
 use Rattle.bpf_x86.specs.Machine.{FlushOf, GoesOn, Move, Moves, RunsMoves, Settled, TakesTurn, TurnOf, X86, buffered, drained, with_buffered}
-use Rattle.bpf_x86.specs.Laws.{Counts, HasNoArrays, IsRaceFree, StepsAreThere, RaceFreeIsSame}
+use Rattle.bpf_x86.specs.Laws.{Counts, FirstFits, FirstsFit, IsRaceFree, StepsAreThere, RaceFreeIsSame}
 use Rattle.bpf_x86.specs.Forwarding.{overlaid}
-use Rattle.bpf_x86.proofs.Overlay.{hits, hits_any}
+use Rattle.bpf_x86.proofs.Overlay.{hits, changes, hits_any, changes_any, any_left}
 use Rattle.bpf_x86.proofs.Written.{at, address, same_list}
-use Rattle.bpf_x86.proofs.Alike.{same_functions, is_access}
+use Rattle.bpf_x86.proofs.Alike.{same_functions}
 use Rattle.bpf_x86.proofs.Buffers.{IsClean, IsAhead}
 use Rattle.bpf_x86.proofs.Calling.{flushes_ahead}
 use Rattle.bpf_x86.proofs.Meeting.{call_ahead}
-use Rattle.bpf_x86.proofs.Behind.{IsBehind, AllMiss, own_store_behind}
-use Rattle.bpf_x86.proofs.Holding.{reached_held}
-use Rattle.bpf_x86.proofs.StepShapes.{AreNot, first_accesses_none}
-use Rattle.bpf_x86.proofs.Lagging.{IsLagging, HasLags, lag_at, miss_fewer, AdvanceMisses, new_world}
+use Rattle.bpf_x86.proofs.Behind.{IsBehind, AllMiss, more_behind, own_load_behind, own_store_behind}
+use Rattle.bpf_x86.proofs.Reaching.{reached}
+use Rattle.bpf_x86.proofs.StepShapes.{AreNot, is_call, first_asks_nothing}
+use Rattle.bpf_x86.proofs.Lagging.{IsLagging, HasLags, all_made, waits_made, miss_here, miss_later, lag_at, AdvanceMisses, new_world}
 use Rattle.bpf_x86.proofs.Following.{TurnMisses, lag_turn}
-use Rattle.bpf_x86.proofs.Racing.{race_here}
-use Rattle.bpf_x86.proofs.Turning.{JudgeStep}
-use Rattle.bpf_x86.proofs.Going.{over, OwnTurn, NothingWaits, AsBefore, OneMore, goes_on}
+use Rattle.bpf_x86.proofs.Racing.{race_touched, race_written}
+use Rattle.bpf_x86.proofs.Turning.{JudgeStep, stores_of}
+use Rattle.bpf_x86.proofs.Going.{over, OwnTurn, NothingWaits, AsBefore, SomeMore, goes_on}
 
 -- the x86 machine beside a plain one that a schedule leads to, which makes each store at once
 pub record IsSimulated (first : World) (x : X86) (w : World) : Type 0 where
@@ -63,28 +64,40 @@ runs-last : (cs : List ℕ) (c : ℕ) (w m z : World) (answer : Turn) → RunsSc
 runs-last [] c w m z answer runs taken = (answer, z, subst (λ (x : World). plain.TakesTurn x c answer z) runs taken, refl)
 runs-last (d ∷ cs) c w m z answer runs taken = (runs.0, runs.1, runs.2, runs-last cs c runs.1 m z answer runs.3 taken)
 
--- ---- turns that touch nothing of a list touch nothing of fewer
+-- ---- programs stay
+goes_programs : (w : World) (c k : ℕ) (t : Task) (old : Cpu) (left : ℕ) (answer : Turn) (z : World) → plain.GoesOn w c k t old left answer z → z.programs ≡ w.programs
+goes_programs w c k t old left answer z g = settle g.1 g.7
+  where
+    settle : (o : Option Outcome) → plain.Settles (record w { store = g.2 }) c k t g.3 g.4 o answer z → z.programs ≡ w.programs
+    settle None s = ap (λ (x : World). x.programs) s.1
+    settle (Some over) s = lists_programs _ c z s.3
+
+turn_programs : (w : World) (c : ℕ) (answer : Turn) (z : World) → plain.TakesTurn w c answer z → z.programs ≡ w.programs
+turn_programs w c answer z (inl a) = goes_programs w c a.0 a.1 a.2 a.3 answer z a.5
+turn_programs w c answer z (inr (inl (free, a))) = goes_programs (record w { store = a.3 }) c a.0 a.1 (start c a.2) a.1.budget answer z a.7
+turn_programs w c answer z (inr (inr (free, none, said, same))) = ap (λ (x : World). x.programs) same
+
+runs_programs : (cs : List ℕ) (w z : World) → RunsSchedule w cs z → z.programs ≡ w.programs
+runs_programs [] w z runs = ap (λ (x : World). x.programs) runs
+runs_programs (c ∷ cs) w z runs = runs_programs cs runs.1 z runs.3 ∙ turn_programs w c runs.0 runs.1 runs.2
+
+-- ---- turns that miss a list miss fewer
 advance_fewer : (lacking fewer : List Event) (program : Loaded) (c : ℕ) (s : Plain) (old : Cpu) (left : ℕ) (end : Option Outcome) (t : Plain) (new : Cpu) (rest : ℕ) (a : plain.Advances program c s old left end t new rest)
-    → ((y : ℕ) → hits_any fewer y ≡ true → hits_any lacking y ≡ true) → AdvanceMisses lacking program c s old left end t new rest a → AdvanceMisses fewer program c s old left end t new rest a
+    → ((fs : List Event) → AllMiss lacking fs → AllMiss fewer fs) → AdvanceMisses lacking program c s old left end t new rest a → AdvanceMisses fewer program c s old left end t new rest a
 advance_fewer lacking fewer program c s old zero end t new rest a less miss = tt
-advance_fewer lacking fewer program c s old (suc n) end t new rest a less miss = miss_fewer lacking fewer a.0 less miss
+advance_fewer lacking fewer program c s old (suc n) end t new rest a less miss = less a.0 miss
 
 turn_fewer : (lacking fewer : List Event) (w : World) (c : ℕ) (answer : Turn) (z : World) (taken : plain.TakesTurn w c answer z)
-    → ((y : ℕ) → hits_any fewer y ≡ true → hits_any lacking y ≡ true) → TurnMisses lacking w c answer z taken → TurnMisses fewer w c answer z taken
+    → ((fs : List Event) → AllMiss lacking fs → AllMiss fewer fs) → TurnMisses lacking w c answer z taken → TurnMisses fewer w c answer z taken
 turn_fewer lacking fewer w c answer z (inl a) less miss = advance_fewer lacking fewer a.5.0 c w.store a.2 a.3 a.5.1 a.5.2 a.5.3 a.5.4 a.5.6 less miss
 turn_fewer lacking fewer w c answer z (inr (inl a)) less miss = advance_fewer lacking fewer a.1.7.0 c a.1.3 (start c a.1.2) a.1.1.budget a.1.7.1 a.1.7.2 a.1.7.3 a.1.7.4 a.1.7.6 less miss
 turn_fewer lacking fewer w c answer z (inr (inr a)) less miss = tt
 
--- events that are no accesses touch nothing
-no_access : (e : Event) (x : ℕ) → is_access e ≡ false → hits e x ≡ true → ⊥
-no_access (Store a size y) x it h = cc
-no_access e x it h = cc
-
 -- ---- which machines count
 -- those that lag count where the other does
-lag_counts : (patient : Bool) (d : ℕ) (e : Event) (es : List Event) (l w : World) → IsLagging d e es l w → Counts patient w.jobs → Counts patient l.jobs
-lag_counts false d e es l w lag none = tt
-lag_counts true d e es l w lag none = λ j task pc listed ended.
+lag_counts : (patient : Bool) (d : ℕ) (made later : List Event) (l w : World) → IsLagging d made later l w → Counts patient w.jobs → Counts patient l.jobs
+lag_counts false d made later l w lag none = tt
+lag_counts true d made later l w lag none = λ j task pc listed ended.
     let apart : j ≢ lag.job = λ same.
     (let both : Some lag.task ≡ Some task = sym lag.at.listed ∙ subst (λ (i : ℕ). slice_get l.jobs i ≡ Some task) same listed in
     let one : lag.task ≡ task = cc in
@@ -122,53 +135,83 @@ counted_before : (patient : Bool) (moves : List Move) (x z : X86) → RunsMoves 
 counted_before patient [] x z runs counts = subst (λ (y : X86). Counts patient y.world.jobs) runs counts
 counted_before patient (move ∷ moves) x z runs counts = counts_before patient x move runs.0 runs.1 (counted_before patient moves runs.0 z runs.2 counts)
 
-middle_not : (test : Event → Bool) (done : List Event) (e : Event) (rest : List Event) → AreNot test (done ++ e ∷ rest) → test e ≡ false
-middle_not test [] e rest not = not.0
-middle_not test (f ∷ fs) e rest not = middle_not test fs e rest not.1
+no_middle : (done : List Event) (e : Event) (rest : List Event) → done ++ e ∷ rest ≡ [] → ⊥
+no_middle [] e rest is = cc
+no_middle (f ∷ fs) e rest is = cc
 
-module _ (law : WritesAreDetermined) (begins : OneInstructionBegins) (replies : CallsHaveOneReply) (patient : Bool) (first : World) (bare_first : HasNoArrays first.store.shape) (fresh : IsFresh first) (there : StepsAreThere patient first) (free : IsRaceFree patient first) where
-  reached : (schedule : List ℕ) (z : World) → RunsSchedule first schedule z → IsWorld z
-  reached schedule z runs = runs_world law begins replies schedule first z (fresh_world law begins replies first fresh) runs
+-- ---- a CPU's own loads and stores
+-- the first store lacks its stores too
+own_made_behind : (d : ℕ) (made lacking : List Event) (l s t : Plain) → AreNot is_call made → IsSoundStore s → IsBehind d lacking l s → PlainlyLegal s (map (entry d) made) t → IsBehind d (lacking ++ stores_of made) l t
+own_made_behind d [] lacking l s t none so behind legal = subst (λ (fs : List Event). IsBehind d fs l t) (sym (append-nil lacking)) (subst (IsBehind d lacking l) legal behind)
+own_made_behind d (Load a size found ∷ es) lacking l s t none so behind (m, allowed, rest) =
+    own_made_behind d es lacking l m t none.1 (allowed_sound s m d (Load a size found) so allowed.0) (own_load_behind d lacking l s m a size found behind allowed) rest
+own_made_behind d (Store a size x ∷ es) lacking l s t none so behind (m, allowed, rest) =
+    let e : Event = Store a size x in
+    subst (λ (fs : List Event). IsBehind d fs l t) (append_assoc lacking (e ∷ []) (stores_of es))
+    (own_made_behind d es (lacking ++ e ∷ []) l m t none.1 (allowed_sound s m d e so allowed.0) (own_store_behind d lacking l s m a size x so behind allowed) rest)
+own_made_behind d (e ∷ es) lacking l s t none so behind legal = let no : true ≡ false = none.0 in cc
+
+-- its stores write no more than all of it
+stores_change : (made : List Event) (x : ℕ) → changes_any (stores_of made) x ≡ true → changes_any made x ≡ true
+stores_change [] x h = h
+stores_change (Store a size y ∷ es) x h = elim (or_cases (changes (Store a size y) x) (changes_any (stores_of es) x) h) [
+  | inl here ↦ or_left (changes (Store a size y) x) (changes_any es x) here
+  | inr there ↦ or_right (changes (Store a size y) x) (changes_any es x) (stores_change es x there)
+]
+stores_change (e ∷ es) x h = or_right (changes e x) (changes_any es x) (stores_change es x h)
+
+module _ (law : WritesAreDetermined) (begins : OneInstructionBegins) (replies : CallsHaveOneReply) (patient : Bool) (first : World) (fits : FirstsFit first.programs) (fresh : IsFresh first) (there : StepsAreThere patient first) (free : IsRaceFree patient first) where
+  reached_world : (schedule : List ℕ) (z : World) → RunsSchedule first schedule z → IsWorld z
+  reached_world schedule z runs = runs_world law begins replies schedule first z (fresh_world law begins replies first fresh) runs
 
   -- ---- other CPUs' lags
-  lags_follow : (d c : ℕ) → c ≢ d → (es : List Event) (w z : World) (answer : Turn) (taken : plain.TakesTurn w c answer z) → IsWorld w → TurnMisses es w c answer z taken → HasLags first d es w → HasLags first d es z
-  lags_follow d c ne [] w z answer taken world miss lags = tt
-  lags_follow d c ne (e ∷ es) w z answer taken world miss lags =
+  lags_follow : (d c : ℕ) → c ≢ d → (es : List Event) (w z : World) (answer : Turn) (taken : plain.TakesTurn w c answer z) → IsWorld w → (lags : HasLags first d es w) → TurnMisses (all_made first d es w lags) w c answer z taken → HasLags first d es z
+  lags_follow d c ne [] w z answer taken world lags miss = tt
+  lags_follow d c ne (e ∷ es) w z answer taken world lags miss =
       let lag = lags.0 in
-      let here = reached lag.schedule lag.world lag.runs in
-      let r = lag_turn d e es c ne lag.world w lag.lags here.store world.store answer z taken miss in (
-        record { world = r.0; schedule = lag.schedule ++ c ∷ []; runs = runs-last lag.schedule c first lag.world r.0 answer lag.runs r.1; lags = r.2 },
-        lags_follow d c ne es w z answer taken world (turn_fewer (e ∷ es) es w c answer z taken (λ y h. or_right (hits e y) (hits_any es y) h) miss) lags.1,
+      let here = reached_world lag.schedule lag.world lag.runs in
+      let all = all_made first d (e ∷ es) w lags in
+      let r = lag_turn d lag.made es c ne lag.world w lag.lags here.store world.store answer z taken (turn_fewer all (lag.made ++ es) w c answer z taken (miss_here first d e es w lags) miss) in (
+        record { world = r.0; schedule = lag.schedule ++ c ∷ []; runs = runs-last lag.schedule c first lag.world r.0 answer lag.runs r.1; made = lag.made; has = lag.has; lags = r.2 },
+        lags_follow d c ne es w z answer taken world lags.1 (turn_fewer all (all_made first d es w lags.1) w c answer z taken (miss_later first d e es w lags) miss),
       )
 
   -- ---- what judges the calls of a job in hand
-  judged : (w : World) (b : Buffered) (c : ℕ) (k : ℕ) (task : Task) (state : Cpu) (left : ℕ) (at : IsAt w.jobs c k task (InHand state left)) → IsWorld w → Counts patient w.jobs → ((d : ℕ) → HasLags first d (b.buffers d) w)
-      → (program : Loaded) → slice_get w.programs task.program ≡ Some program → JudgeStep program c b w.store state left
-  judged w b c k task state left at world counts lags program loaded n lefts events answer new step done e rest u is legal miss d x ne hit too =
-      let lag = lag_at first d (b.buffers d) w x (lags d) too in
-      let has = lag.2 in
-      let there_l = reached has.schedule has.world has.runs in
+  judged : (w : World) (buffers : ℕ → List Event) (lags : (d : ℕ) → HasLags first d (buffers d) w) (c : ℕ) (k : ℕ) (task : Task) (state : Cpu) (left : ℕ) (at : IsAt w.jobs c k task (InHand state left)) → IsWorld w → Counts patient w.jobs
+      → (program : Loaded) → slice_get w.programs task.program ≡ Some program → JudgeStep (λ d. all_made first d (buffers d) w (lags d)) program c w.store state left
+  judged w buffers lags c k task state left at world counts program loaded n lefts events answer new step done e rest u is legal miss d ne =
       let at' : IsAt w.jobs c k task (InHand state (suc n)) = subst (λ (i : ℕ). IsAt w.jobs c k task (InHand state i)) lefts at in
-      let step' : Step w.store.shape program state (done ++ e ∷ rest) answer new = subst (λ (es : List Event). Step w.store.shape program state es answer new) is step in
-      let miss' : AllMiss (lag.0 ∷ lag.1) done = miss_fewer (b.buffers d) (lag.0 ∷ lag.1) done lag.4 (miss d ne) in
-      let counted : Counts patient has.world.jobs = lag_counts patient d lag.0 lag.1 has.world w has.lags counts in
-      free has.schedule has.world has.runs counted _ _ x
-      (race_here law begins replies c d (λ q. ne (sym q)) lag.0 lag.1 has.world w has.lags there_l world k task state n at' program loaded done e rest answer new step' u legal miss' x hit lag.3 (there has.schedule has.world has.runs counted))
+      let step' : Step w.store.shape program state (done ++ e ∷ rest) answer new = subst (λ (es : List Event). Step w.store.shape program state es answer new) is step in (
+        λ x hit there_too.
+            (let lag = lag_at changes first d (buffers d) w x (lags d) there_too in
+            let counted = lag_counts patient d lag.made lag.later lag.world w lag.lags counts in
+            free lag.schedule lag.world lag.runs counted _ _ x
+            (race_touched law begins replies c d (λ q. ne (sym q)) lag.made lag.later lag.world w lag.lags (reached_world lag.schedule lag.world lag.runs) world k task state n at' program loaded done e rest answer new step' u legal
+            (lag.fewer done (miss d ne)) (there lag.schedule lag.world lag.runs counted) x hit lag.passes)),
+        λ x change there_too.
+            (let lag = lag_at hits first d (buffers d) w x (lags d) there_too in
+            let counted = lag_counts patient d lag.made lag.later lag.world w lag.lags counts in
+            free lag.schedule lag.world lag.runs counted _ _ x
+            (race_written law begins replies c d (λ q. ne (sym q)) lag.made lag.later lag.world w lag.lags (reached_world lag.schedule lag.world lag.runs) world k task state n at' program loaded done e rest answer new step' u legal
+            (lag.fewer done (miss d ne)) (there lag.schedule lag.world lag.runs counted) x change lag.passes)),
+      )
 
-  -- those of a job that starts touch nothing
-  judged_first : (b : Buffered) (s : Plain) → HasNoArrays s.shape → (c : ℕ) (context : List ℕ) (left : ℕ) (program : Loaded) → JudgeStep program c b s (start c context) left
-  judged_first b s bare c context left program n lefts events answer new step done e rest u is legal miss d x ne hit too =
-      let none = first_accesses_none s.shape bare program c context new events answer step in
-      no_access e x (middle_not is_access done e rest (subst (AreNot is_access) is none)) hit
+  -- a job that starts calls no store
+  first_fits : (w : World) → w.programs ≡ first.programs → (k : ℕ) (program : Loaded) → slice_get w.programs k ≡ Some program → FirstFits program
+  first_fits w same k program loaded = fits k program (ap (λ (ps : List Loaded). slice_get ps k) (sym same) ∙ loaded)
+
+  judged_first : (lacks : ℕ → List Event) (s : Plain) → IsShape s.shape → (c : ℕ) (context : List ℕ) (left : ℕ) (program : Loaded) → FirstFits program → JudgeStep lacks program c s (start c context) left
+  judged_first lacks s shape c context left program fit n lefts events answer new step done e rest u is legal miss d ne =
+      absurd (no_middle done e rest (sym is ∙ first_asks_nothing s.shape shape program fit c context new events answer step))
 
   -- ---- a CPU's own lags
   -- its job in hand is the one that each of them is about
-  module _ (w : World) (bare : HasNoArrays w.store.shape) (world : IsWorld w) (c k : ℕ) (t : Task) (old : Cpu) (left : ℕ) (at : IsAt w.jobs c k t (InHand old left)) (next : Plain) (new : Cpu) (rest : ℕ) where
+  module _ (w : World) (world : IsWorld w) (c k : ℕ) (t : Task) (old : Cpu) (left : ℕ) (at : IsAt w.jobs c k t (InHand old left)) (next : Plain) (new : Cpu) (rest : ℕ) where
     abbrev z : World
     z = new_world w next k t (InHand new rest) w.lists
 
-    own_lag : (e : Event) (es more : List Event) (l : World) → IsLagging c e es l w → IsBehind c (e ∷ more) l.store next → IsLagging c e more l z
-    own_lag e es more l lag behind =
+    own_lag : (made later more : List Event) (l : World) → IsLagging c made later l w → IsBehind c (made ++ more) l.store next → IsLagging c made more l z
+    own_lag made later more l lag behind =
         let now_task : Task = record lag.task { stage = InHand lag.now lag.rest } in
         let listed : slice_get w.jobs lag.job ≡ Some now_task = ap (λ (ts : List Task). slice_get ts lag.job) lag.jobs ∙ slice_get-set_known l.jobs lag.job now_task lag.task lag.at.listed in
         let there_at : IsAt w.jobs c lag.job now_task (InHand lag.now lag.rest) = record { listed = listed; of = lag.at.of; at = refl } in
@@ -196,66 +239,95 @@ module _ (law : WritesAreDetermined) (begins : OneInstructionBegins) (replies : 
           answer = lag.answer;
           after = lag.after;
           step = lag.step;
-          waits = lag.waits;
+          quiet = lag.quiet;
+          store = lag.store;
+          legal = lag.legal;
           behind = behind;
         }
 
     own_kept : ((lacking : List Event) (l : Plain) → IsBehind c lacking l w.store → IsBehind c lacking l next) → (es : List Event) → HasLags first c es w → HasLags first c es z
     own_kept stays [] lags = tt
     own_kept stays (e ∷ es) lags =
-        let lag = lags.0 in
-        (record { world = lag.world; schedule = lag.schedule; runs = lag.runs; lags = own_lag e es es lag.world lag.lags (stays (e ∷ es) lag.world.store lag.lags.behind) }, own_kept stays es lags.1)
-
-    -- one store more
-    itself : IsBehind c [] w.store w.store
-    itself = record { like = record { same = refl; spans = λ v. refl; fewer = λ d v h. h; others = λ d ne. refl }; bytes = λ v i clean. refl }
-
-    own_more : (schedule : List ℕ) → RunsSchedule first schedule w → (program : Loaded) → slice_get w.programs t.program ≡ Some program → (a : ℕ) (size : Size) (x n : ℕ) (answer : Progress) (later : Cpu) → left ≡ suc n
-        → Step w.store.shape program old (Store a size x ∷ []) answer later → PlainlyAllowed w.store c (Store a size x) next → (es : List Event) → HasLags first c es w → HasLags first c (es ++ Store a size x ∷ []) z
-    own_more schedule runs program loaded a size x n answer later lefts step allowed [] lags = (
-      record {
-        world = w;
-        schedule = schedule;
-        runs = runs;
-        lags = record {
-          programs = refl;
-          lists = refl;
-          job = k;
-          task = t;
-          state = old;
-          left = n;
-          now = new;
-          rest = rest;
-          at = subst (λ (i : ℕ). IsAt w.jobs c k t (InHand old i)) lefts at;
-          jobs = refl;
-          program = program;
-          loaded = loaded;
-          answer = answer;
-          after = later;
-          step = step;
-          waits = (allowed.0.1.0, reached_held w.store c allowed.0.1.0 a (bytes_in size) bare allowed.0.1.1.reaches);
-          behind = own_store_behind c [] w.store w.store next a size x bare world.store itself allowed;
-        };
-      },
-      tt,
-    )
-    own_more schedule runs program loaded a size x n answer later lefts step allowed (e ∷ es) lags =
         let lag = lags.0 in (
           record {
             world = lag.world;
             schedule = lag.schedule;
             runs = lag.runs;
-            lags = own_lag e es (es ++ Store a size x ∷ []) lag.world lag.lags (own_store_behind c (e ∷ es) lag.world.store w.store next a size x bare world.store lag.lags.behind allowed);
+            made = lag.made;
+            has = lag.has;
+            lags = own_lag lag.made es es lag.world lag.lags (stays (lag.made ++ es) lag.world.store lag.lags.behind);
           },
-          own_more schedule runs program loaded a size x n answer later lefts step allowed es lags.1,
+          own_kept stays es lags.1,
         )
+
+    -- some stores more
+    module _ (schedule : List ℕ) (runs : RunsSchedule first schedule w) (program : Loaded) (loaded : slice_get w.programs t.program ≡ Some program) (made : List Event) (n : ℕ) (answer : Progress) (later : Cpu) (lefts : left ≡ suc n)
+        (step : Step w.store.shape program old made answer later) (quiet : AreNot is_call made) (legal : PlainlyLegal w.store (map (entry c) made) next) where
+      itself : IsBehind c [] w.store w.store
+      itself = record { like = record { same = refl; spans = λ v. refl; fewer = λ d v h. h; others = λ d ne. refl }; bytes = λ v i clean. refl }
+
+      before : IsBehind c (stores_of made) w.store next
+      before = own_made_behind c made [] w.store w.store next quiet world.store itself legal
+
+      -- each of them has this world, which lacks the whole step
+      new_lags : (todo : List Event) → ((x : ℕ) → changes_any todo x ≡ true → changes_any made x ≡ true) → HasLags first c (stores_of todo) z
+      new_lags [] all = tt
+      new_lags (Store a size y ∷ es) all = (
+        record {
+          world = w;
+          schedule = schedule;
+          runs = runs;
+          made = made;
+          has = λ x h. all x (or_left (changes (Store a size y) x) (changes_any es x) h);
+          lags = record {
+            programs = refl;
+            lists = refl;
+            job = k;
+            task = t;
+            state = old;
+            left = n;
+            now = new;
+            rest = rest;
+            at = subst (λ (i : ℕ). IsAt w.jobs c k t (InHand old i)) lefts at;
+            jobs = refl;
+            program = program;
+            loaded = loaded;
+            answer = answer;
+            after = later;
+            step = step;
+            quiet = quiet;
+            store = next;
+            legal = legal;
+            behind = more_behind c (stores_of made) (made ++ stores_of es) w.store next (λ x h. any_left changes made (stores_of es) x (stores_change made x h)) before;
+          };
+        },
+        new_lags es (λ x h. all x (or_right (changes (Store a size y) x) (changes_any es x) h)),
+      )
+      new_lags (e ∷ es) all = new_lags es (λ x h. all x (or_right (changes e x) (changes_any es x) h))
+
+      own_more : (es : List Event) → HasLags first c es w → HasLags first c (es ++ stores_of made) z
+      own_more [] lags = new_lags made (λ x h. h)
+      own_more (e ∷ es) lags =
+          let lag = lags.0 in
+          let longer : IsBehind c ((lag.made ++ es) ++ stores_of made) lag.world.store next = own_made_behind c made (lag.made ++ es) lag.world.store w.store next quiet world.store lag.lags.behind legal in (
+            record {
+              world = lag.world;
+              schedule = lag.schedule;
+              runs = lag.runs;
+              made = lag.made;
+              has = lag.has;
+              lags = own_lag lag.made es (es ++ stores_of made) lag.world lag.lags (subst (λ (fs : List Event). IsBehind c fs lag.world.store next) (append_assoc lag.made es (stores_of made)) longer);
+            },
+            own_more es lags.1,
+          )
 
   -- ---- a turn
   turned : (w : World) (p : Plain) (buffers : ℕ → List Event) (c : ℕ) (answer : Turn) (z : X86) → Counts patient w.jobs → IsSimulated first (over w p buffers) w → TakesTurn (over w p buffers) c answer z → (next : World) × IsSimulated first z next
   turned w p buffers c answer z counts sim (inl (k, t, old, left, at, goes)) =
-      let world = reached sim.schedule w sim.runs in
+      let world = reached_world sim.schedule w sim.runs in
       let b : Buffered = record { memory = p; buffers = buffers } in
-      let g = goes_on w b w.store c k t old left answer z sim.ahead (judged w b c k t old left at world counts sim.lags) goes in
+      let lacks : ℕ → List Event = λ d. all_made first d (buffers d) w (sim.lags d) in
+      let g = goes_on lacks w b w.store c k t old left answer z sim.ahead (λ d x h. waits_made first d (buffers d) w (sim.lags d) x h) (judged w buffers sim.lags c k t old left at world counts) goes in
       let taken : plain.TakesTurn w c answer g.next = inl (k, t, old, left, at, g.goes) in (
         g.next,
         record {
@@ -266,27 +338,32 @@ module _ (law : WritesAreDetermined) (begins : OneInstructionBegins) (replies : 
           lags = λ d. elim (equal_or_not d c) [
             | inl same ↦ subst (λ (i : ℕ). HasLags first i (z.buffers i) g.next) (sym same) (own world g.next g.goes.0 g.goes.5 g.own)
             | inr ne ↦ subst (λ (es : List Event). HasLags first d es g.next) (sym (g.others d ne))
-                (lags_follow d c (λ q. ne (sym q)) (buffers d) w g.next answer taken world (g.misses d ne) (sim.lags d))
+                (lags_follow d c (λ q. ne (sym q)) (buffers d) w g.next answer taken world (sim.lags d) (g.misses d ne))
           ];
         },
       )
     where
-      bare : HasNoArrays w.store.shape
-      bare = sim.ahead.bare
-
       own : IsWorld w → (next : World) (program : Loaded) → slice_get w.programs t.program ≡ Some program → OwnTurn w program buffers z.buffers w.store c k t old left next → HasLags first c (z.buffers c) next
       own world next program loaded (NothingWaits none) = subst (λ (es : List Event). HasLags first c es next) (sym none) tt
       own world next program loaded (AsBefore same q new rest is stays) =
-          subst (λ (es : List Event). HasLags first c es next) (sym same) (subst (HasLags first c (buffers c)) (sym is) (own_kept w bare world c k t old left at q new rest stays (buffers c) (sim.lags c)))
-      own world next program loaded (OneMore a size x n said later lefts step more q new rest is allowed) =
-          subst (λ (es : List Event). HasLags first c es next) (sym more) (subst (HasLags first c (buffers c ++ Store a size x ∷ [])) (sym is)
-          (own_more w bare world c k t old left at q new rest sim.schedule sim.runs program loaded a size x n said later lefts step allowed (buffers c) (sim.lags c)))
+          subst (λ (es : List Event). HasLags first c es next) (sym same) (subst (HasLags first c (buffers c)) (sym is) (own_kept w world c k t old left at q new rest stays (buffers c) (sim.lags c)))
+      own world next program loaded (SomeMore made n said later lefts step quiet more q new rest is legal) =
+          subst (λ (es : List Event). HasLags first c es next) (sym more) (subst (HasLags first c (buffers c ++ stores_of made)) (sym is)
+          (own_more w world c k t old left at q new rest sim.schedule sim.runs program loaded made n said later lefts step quiet legal (buffers c) (sim.lags c)))
   turned w p buffers c answer z counts sim (inr (inl (idle, (k, t, context, b, at, below, begun, goes)))) =
-      let world = reached sim.schedule w sim.runs in
+      let world = reached_world sim.schedule w sim.runs in
       let before : Buffered = record { memory = p; buffers = buffers } in
       let r = call_ahead before b w.store c Begin sim.ahead (λ d x ne hit too. cc) begun in
       let none : b.buffers c ≡ [] = ap (λ (y : Buffered). y.buffers c) begun.2.2 ∙ ap (λ (y : Buffered). y.buffers c) begun.1.2 ∙ put-same buffers c c [] refl in
-      let g = goes_on w b r.next c k t (start c context) t.budget answer z r.ahead (λ program loaded. judged_first b r.next r.ahead.bare c context t.budget program) goes in
+      let lacks : ℕ → List Event = λ d. all_made first d (buffers d) w (sim.lags d) in
+      let shape : IsShape r.next.shape = r.ahead.sound_too.fixed.shape in
+      let same_programs : w.programs ≡ first.programs = runs_programs sim.schedule first w sim.runs in
+      let cover : (d x : ℕ) → hits_any (b.buffers d) x ≡ true → changes_any (lacks d) x ≡ true = λ d x h.
+      waits_made first d (buffers d) w (sim.lags d) x (elim (equal_or_not d c) [
+        | inl same ↦ absurd (let no : false ≡ true = sym (ap (λ (es : List Event). hits_any es x) (ap b.buffers same ∙ none)) ∙ h in cc)
+        | inr ne ↦ sym (ap (λ (es : List Event). hits_any es x) (r.others d ne)) ∙ h
+      ]) in
+      let g = goes_on lacks w b r.next c k t (start c context) t.budget answer z r.ahead cover (λ program loaded. judged_first lacks r.next shape c context t.budget program (first_fits w same_programs t.program program loaded)) goes in
       let taken : plain.TakesTurn w c answer g.next = inr (inl (idle, (k, t, context, r.next, at, below, r.allowed, g.goes))) in (
         g.next,
         record {
@@ -295,24 +372,19 @@ module _ (law : WritesAreDetermined) (begins : OneInstructionBegins) (replies : 
           world = g.world;
           ahead = g.ahead;
           lags = λ d. elim (equal_or_not d c) [
-            | inl same ↦ subst (λ (i : ℕ). HasLags first i (z.buffers i) g.next) (sym same) (subst (λ (es : List Event). HasLags first c es g.next) (sym (own b r.next r.ahead.bare none g.next g.goes.0 g.own)) tt)
+            | inl same ↦ subst (λ (i : ℕ). HasLags first i (z.buffers i) g.next) (sym same) (subst (λ (es : List Event). HasLags first c es g.next) (sym (own b r.next shape none g.next g.goes.0 (first_fits w same_programs t.program g.goes.0 g.goes.5) g.own)) tt)
             | inr ne ↦ subst (λ (es : List Event). HasLags first d es g.next) (sym (g.others d ne ∙ r.others d ne))
-                (lags_follow d c (λ q. ne (sym q)) (buffers d) w g.next answer taken world (misses_on (b.buffers d) (buffers d) (r.others d ne) r.next (g.goes.0) (g.goes.1) (g.goes.2) (g.goes.3) (g.goes.4) (g.goes.6) (g.misses d ne)) (sim.lags d))
+                (lags_follow d c (λ q. ne (sym q)) (buffers d) w g.next answer taken world (sim.lags d) (g.misses d ne))
           ];
         },
       )
     where
-      misses_on : (es fs : List Event) → es ≡ fs → (s : Plain) (program : Loaded) (end : Option Outcome) (q : Plain) (new : Cpu) (rest : ℕ) (a : plain.Advances program c s (start c context) t.budget end q new rest)
-          → AdvanceMisses es program c s (start c context) t.budget end q new rest a → AdvanceMisses fs program c s (start c context) t.budget end q new rest a
-      misses_on es fs same s program end q new rest a miss = subst (λ (gs : List Event). AdvanceMisses gs program c s (start c context) t.budget end q new rest a) same miss
-
-      own : (b : Buffered) (s : Plain) → HasNoArrays s.shape → b.buffers c ≡ [] → (next : World) (program : Loaded) → OwnTurn w program b.buffers z.buffers s c k t (start c context) t.budget next → z.buffers c ≡ []
-      own b s bare none next program (NothingWaits empty) = empty
-      own b s bare none next program (AsBefore same q new rest is stays) = same ∙ none
-      own b s bare none next program (OneMore a size x n said later lefts step more q new rest is allowed) =
-          let not = first_accesses_none s.shape bare program c context later (Store a size x ∷ []) said step in
-          let no : true ≡ false = not.0 in
-          cc
+      own : (b : Buffered) (s : Plain) → IsShape s.shape → b.buffers c ≡ [] → (next : World) (program : Loaded) → FirstFits program → OwnTurn w program b.buffers z.buffers s c k t (start c context) t.budget next → z.buffers c ≡ []
+      own b s shape none next program fit (NothingWaits empty) = empty
+      own b s shape none next program fit (AsBefore same q new rest is stays) = same ∙ none
+      own b s shape none next program fit (SomeMore made n said later lefts step quiet more q new rest is legal) =
+          let nothing : made ≡ [] = first_asks_nothing s.shape shape program fit c context later made said step in
+          more ∙ ap (λ (es : List Event). b.buffers c ++ stores_of es) nothing ∙ append-nil (b.buffers c) ∙ none
   turned w p buffers c answer z counts sim (inr (inr (idle, none, said, same))) = (w, subst (λ (x : X86). IsSimulated first x w) (sym same) sim)
 
   -- ---- a move
@@ -349,14 +421,13 @@ module _ (law : WritesAreDetermined) (begins : OneInstructionBegins) (replies : 
   begins_ahead : IsAhead (buffered (drained first)) first.store
   begins_ahead = record {
     like = record { same = refl; spans = λ v. refl; fewer = λ c v h. h; others = λ c ne. refl };
-    bare = bare_first;
     sound = fresh.store;
     sound_too = fresh.store;
     unmade = λ v most. refl;
     waiting = λ c. tt;
     apart = λ c d x ne h g. let no : false ≡ true = h in cc;
-    held = λ c v i inside clean h. refl;
-    unheld = λ c v i inside clean h. refl;
+    seen = λ c v i inside clean h. refl;
+    unseen = λ c v i inside clean h. refl;
   }
 
   begins_simulated : IsSimulated first (drained first) first
@@ -396,9 +467,9 @@ nothing_waits b s ahead none =
     clean v i d ne h = ap (λ (es : List Event). hits_any es (address s v i)) (none d)
 
     byte : (v i : ℕ) → i < (s.value v).span.size → at s v i ≡ at b.memory v i
-    byte v i inside = elim (true_or_false (s.held 0 v)) [
-      | inl h ↦ ahead.held 0 v i inside (clean v i) h ∙ ap (λ (es : List Event). overlaid es (address s v i) (at b.memory v i)) (none 0)
-      | inr h ↦ ahead.unheld 0 v i inside (clean v i) h
+    byte v i inside = elim (true_or_false (reached s 0 v)) [
+      | inl h ↦ ahead.seen 0 v i inside (clean v i) h ∙ ap (λ (es : List Event). overlaid es (address s v i) (at b.memory v i)) (none 0)
+      | inr h ↦ ahead.unseen 0 v i inside (clean v i) h
     ]
 
     one : (v : ℕ) → s.value v ≡ b.memory.value v
@@ -417,12 +488,12 @@ nothing_waits b s ahead none =
     values = same_functions s.value b.memory.value one
 
 pub race_free_is_same : WritesAreDetermined → OneInstructionBegins → CallsHaveOneReply → RaceFreeIsSame
-race_free_is_same law begins replies patient w bare fresh there free moves z runs ended counts =
-    let r = all_moved law begins replies patient w bare fresh there free moves (drained w) w z counts (begins_simulated law begins replies patient w bare fresh there free) runs in
+race_free_is_same law begins replies patient w fits fresh there free moves z runs ended counts =
+    let r = all_moved law begins replies patient w fits fresh there free moves (drained w) w z counts (begins_simulated law begins replies patient w fits fresh there free) runs in
     let sim = r.1 in
     let jobs : z.world.jobs ≡ r.0.jobs = ap (λ (x : World). x.jobs) sim.world in
     let over_it : HaveEnded r.0.jobs = subst HaveEnded jobs ended in
-    let none : (c : ℕ) → z.buffers c ≡ [] = λ c. no_lags law begins replies patient w bare fresh there free c (z.buffers c) r.0 over_it (sim.lags c) in
+    let none : (c : ℕ) → z.buffers c ≡ [] = λ c. no_lags law begins replies patient w fits fresh there free c (z.buffers c) r.0 over_it (sim.lags c) in
     let stores : r.0.store ≡ z.world.store = nothing_waits (buffered z) r.0.store sim.ahead none in
     let same : r.0 ≡ z.world = ap (λ (q : Plain). record r.0 { store = q }) stores ∙ sym sim.world in
     (sim.schedule, subst (RunsSchedule w sim.schedule) same sim.runs)

@@ -1,16 +1,21 @@
--- The events of a step: where there are no arrays a store is alone, and a job's first step touches no
--- value; in any store, a step with a store makes loads and stores alone.
-use Rattle.std.proofs.Common.{◌≡◌, ℕ, suc, ◌+◌, ◌<◌, Bool, true, false, List, [], ◌∷◌, ◌++◌, length, take, drop, Option, Some, None, Result, ◌⊎◌, inl, inr, refl, sym, ap, subst, ◌∙◌, arith}
+-- The events of a step: a step with a store makes loads and stores alone, and a job's first step touches no
+-- value.
+use Rattle.std.proofs.Common.{◌≡◌, ℕ, zero, suc, ℤ, pos, negsuc, ◌+◌, ◌-◌, ◌*◌, ◌/◌, ◌%◌, ◌^◌, ◌<◌, ◌≤◌, Bool, true, false, List, [], ◌∷◌, ◌++◌, length, take, drop, Option, Some, None, Result, ◌⊎◌, inl, inr, refl, sym, ap, subst, ◌∙◌, arith}
 use Rattle.bpf_shared.specs.Access.{bytes_in}
-use Rattle.bpf_shared.specs.Shape.{Shape}
+use Rattle.bpf_shared.specs.Shape.{Shape, IsShape, map_area}
 use Rattle.bpf_shared.specs.declared.shapes.ArrayShape.{ArrayShape}
 use Rattle.bpf_insn.specs.declared.instruction.Insn.{Insn}
 use Rattle.bpf_insn.specs.declared.instruction.Insn.TheVariants as insn
 use Rattle.bpf_insn.specs.declared.operation.sizes.Size as op
 use Rattle.bpf_insn.specs.declared.operation.widths.Width.{Width}
 use Rattle.bpf_insn.specs.declared.operation.atomics.AtomicOp.{AtomicOp}
+use Rattle.bpf_insn.specs.Encoding.{Fits}
 use Rattle.bpf_insn.specs.declared.register.Reg.{Reg}
-use Rattle.std.specs.Int.{w64, cast_unsigned}
+use Rattle.bpf_insn.specs.declared.register.Reg.TheVariants.{R0, R1, R2, R3, R4, R5, R6, R7, R8, R9, R10}
+use Rattle.std.specs.Int.{w16, w64, cast_unsigned}
+use Rattle.std.specs.Prelude.{slice_get, FitsSigned}
+use Rattle.std.proofs.lemmas.Bool.{cases_lt}
+use native.Mathlib.Nat.{add-mul-mod_self_right, mod-eq_of_lt}
 use Rattle.bpf_alu.specs.Arithmetic.{sign_extended}
 use Rattle.bpf_mem.specs.Bytes.{length_of, size_of}
 use Rattle.bpf_mem.specs.declared.memory.PrivateMemory.{PrivateMemory}
@@ -21,9 +26,8 @@ use Rattle.bpf_shared.specs.declared.events.Event.TheVariants.{Lookup, Update, D
 use Rattle.bpf_shared.specs.declared.events.MapAnswer.{MapAnswer}
 use Rattle.bpf_shared.specs.declared.shapes.MapShape.{MapShape}
 use Rattle.bpf_helpers.specs.declared.fault.HelperFault.{HelperFault}
-use Rattle.bpf_helpers.specs.Arrays.{IsInArray, area_of, copies, parts_of}
+use Rattle.bpf_helpers.specs.Arrays.{IsInArray, array_start, area_of, copies, parts_of}
 use Rattle.bpf_helpers.specs.Calls.{CallsHelper, CallsMap, CallsArray, IsArrayAt, StopsAtKey, Answers}
-use Rattle.bpf_helpers.specs.Held.{reaches, is_covered}
 use Rattle.bpf_helpers.specs.Reads.{loads, no_loads, Reads, ReadsIndex}
 use Rattle.bpf_loader.specs.Loaded.{Loaded}
 use Rattle.bpf_cpu.specs.declared.cpu.Cpu.{Cpu}
@@ -32,9 +36,7 @@ use Rattle.bpf_cpu.specs.Row.{plain_size, extension_of}
 use Rattle.bpf_cpu.specs.State.{start, effective_address, value}
 use Rattle.bpf_cpu.specs.Step.{Step, Executes}
 use Rattle.bpf_cpu.specs.Values.{event_size_of, IsThere, LoadsValue, StoresValue, ChangesValue, AsksValue}
-use Rattle.bpf_x86.specs.Laws.{HasNoArrays}
-use Rattle.bpf_x86.proofs.Alike.{is_access}
-use Rattle.bpf_x86.proofs.Holding.{no_array}
+use Rattle.bpf_x86.specs.Laws.{FirstFits}
 
 -- each of the events fails the test
 abbrev pub AreNot : (Event → Bool) → List Event → Type 0
@@ -101,11 +103,6 @@ module _ (shape : Shape) (memory : PrivateMemory) (held : List Span) where
   helper_kind test reads looks updates deletes n cpu registers events result after (inr (inr (inl r))) = inl (map_not test reads looks updates deletes registers r.0 r.1 n events result after r.3)
   helper_kind test reads looks updates deletes n cpu registers events result after (inr (inr (inr r))) = inr (r.0, r.1, r.2, r.4)
 
-  -- without arrays there is none
-  bare_not : HasNoArrays shape → (test : Event → Bool) (n cpu : ℕ) (registers : List ℕ) (events : List Event) (result : Result ℕ HelperFault) (after : List Span) → AreNot test events ⊎ IsArrayCall n cpu registers events result after → AreNot test events
-  bare_not bare test n cpu registers events result after (inl none) = none
-  bare_not bare test n cpu registers events result after (inr call) = absurd (no_array shape call.0 call.1 bare call.2.1)
-
   reads_no_store : (a n : ℕ) (key : List ℕ) (first : List Event) → Reads shape memory held a n key first → AreNot is_store first
   reads_no_store a n key first (inl r) = none_of is_store first r.1
   reads_no_store a n key first (inr r) = subst (AreNot is_store) (sym r.3) (loads_not a key)
@@ -170,19 +167,7 @@ module _ (shape : Shape) (old new : Cpu) (events : List Event) (progress : Progr
   value_alone (insn.Atomic w op b o s) row = changes_alone w op s (effective_address old b o) row
   value_alone i row = absurd row
 
--- without arrays: one store, or none is a store
-pub store_alone : (shape : Shape) → HasNoArrays shape → (program : Loaded) (old new : Cpu) (events : List Event) (progress : Progress) → Step shape program old events progress new
-    → AreNot is_store events ⊎ ((a : ℕ) × (size : Size) × (x : ℕ) × (events ≡ Store a size x ∷ []))
-store_alone shape bare program old new events progress step = from step.row
-  where
-    from : Executes shape step.instruction old events progress new → IsOne events
-    from (inl r) = inl (none_of is_store events r.1)
-    from (inr (inl r)) =
-        let h = r.2 in
-        inl (bare_not shape old.memory old.held bare is_store r.0 old.number old.registers events h.0 h.1 (helper_stores shape old.memory old.held r.0 old.number old.registers events h.0 h.1 h.2))
-    from (inr (inr r)) = value_alone shape old new events progress step.instruction r.1
-
--- of any shape: loads and stores alone, or none is a store
+-- loads and stores alone, or none is a store
 pub stores_apart : (shape : Shape) (program : Loaded) (old new : Cpu) (events : List Event) (progress : Progress) → Step shape program old events progress new → AreNot is_store events ⊎ AreNot is_call events
 stores_apart shape program old new events progress step = from step.row
   where
@@ -199,61 +184,107 @@ stores_apart shape program old new events progress step = from step.row
     from (inr (inl r)) = let h = r.2 in of_helper r.0 h.0 h.1 (helper_stores shape old.memory old.held r.0 old.number old.registers events h.0 h.1 h.2)
     from (inr (inr r)) = of_value (value_alone shape old new events progress step.instruction r.1)
 
--- ---- a job that starts holds nothing
-none_reached : (a : ℕ) → reaches [] a ≡ false
-unfolding reaches
-none_reached a = refl
+-- ---- a job that starts reaches no value
+pub below_length : {A : Type 0} (xs : List A) (i : ℕ) (x : A) → slice_get xs i ≡ Some x → i < length xs
+below_length [] i x e = absurd (let no : None ≡ Some x = e in cc)
+below_length (y ∷ ys) zero x e = omega arith
+below_length (y ∷ ys) (suc i) x e = let rest = below_length ys i x e in omega arith
 
-module _ (shape : Shape) (bare : HasNoArrays shape) where
-  no_place : (a n : ℕ) → IsInArray shape a n → ⊥
-  no_place a n p = no_array shape (area_of a) p.array bare p.is
+-- from an address below those of values an offset of 16 bits leads below those of arrays, or past them all
+abbrev IsFar : ℕ → Type 0
+IsFar a = (a < 0x11_0000_0000) ⊎ (2 ^ 64 ≤ a + 0x8000)
 
-  reads_nothing : (memory : PrivateMemory) (a n : ℕ) (key : List ℕ) (first : List Event) → Reads shape memory [] a n key first → AreNot is_access first
-  reads_nothing memory a n key first (inl r) = none_of is_access first r.1
-  reads_nothing memory a n [] first (inr r) = none_of is_access first r.3
-  reads_nothing memory a n (byte ∷ bytes) first (inr r) =
-      let some : 0 < n = (let size : suc (length bytes) ≡ n = r.2 in omega arith) in
-      elim (r.1 0 some) [
-        | inl h ↦ (let no : false ≡ true = sym (none_reached (a + 0)) ∙ h in absurd cc)
-        | inr p ↦ absurd (no_place (a + 0) 1 p)
-      ]
+far_from : (x : ℕ) (o : ℤ) → x ≤ 0x4_0000_0000 → FitsSigned w16 o → IsFar ((x + cast_unsigned w64 o) % 2 ^ 64)
+far_from x (pos n) low fits =
+    let small : n < 0x8000 = fits.sfits in
+    let less : x + n < 2 ^ 64 = omega arith in
+    let is : (x + n) % 2 ^ 64 ≡ x + n = mod-eq_of_lt less in
+    inl (omega arith)
+far_from x (negsuc n) low fits = elim (cases_lt n x) [
+  | inl less ↦
+      let whole : x + (2 ^ 64 - suc n) ≡ (x - suc n) + 1 * 2 ^ 64 = omega arith in
+      let is : (x + (2 ^ 64 - suc n)) % 2 ^ 64 ≡ (x - suc n) % 2 ^ 64 = ap (λ (k : ℕ). k % 2 ^ 64) whole ∙ add-mul-mod_self_right (x - suc n) 1 (2 ^ 64) in
+      let short : (x - suc n) % 2 ^ 64 ≡ x - suc n = mod-eq_of_lt (omega arith) in
+      inl (omega arith)
+  | inr past ↦
+      let small : n < 0x8000 = fits.sfits in
+      let is : (x + (2 ^ 64 - suc n)) % 2 ^ 64 ≡ x + (2 ^ 64 - suc n) = mod-eq_of_lt (omega arith) in
+      inr (omega arith)
+]
 
-  -- so it may access no value
-  module _ (old new : Cpu) (progress : Progress) (events : List Event) (none : old.held ≡ []) where
-    none_there : (a : ℕ) (z : op.Size) → IsThere shape old a z → ⊥
-    none_there a z (inl h) = let no : false ≡ true = sym (ap (λ (spans : List Span). is_covered spans a (length_of z)) none) ∙ h in cc
-    none_there a z (inr p) = no_place a (length_of z) p
+module _ (shape : Shape) (is : IsShape shape) (number : ℕ) (context : List ℕ) where
+  abbrev first : Cpu
+  first = start number context
 
-    load_refused : (z : op.Size) (reading : ℕ → ℕ) (d : Reg) (a : ℕ) → LoadsValue shape z reading d a old events progress new → events ≡ []
-    load_refused z reading d a (inl row) = row.2
-    load_refused z reading d a (inr row) = absurd (none_there a z row.0.0)
+  low : (b : Reg) → value first b ≤ 0x4_0000_0000
+  low R0 = omega arith
+  low R1 = omega arith
+  low R2 = omega arith
+  low R3 = omega arith
+  low R4 = omega arith
+  low R5 = omega arith
+  low R6 = omega arith
+  low R7 = omega arith
+  low R8 = omega arith
+  low R9 = omega arith
+  low R10 = omega arith
 
-    store_refused : (z : op.Size) (a x : ℕ) → StoresValue shape z a x old events progress new → events ≡ []
-    store_refused z a x (inl row) = row.2
-    store_refused z a x (inr row) = absurd (none_there a z row.0.0.0)
+  far : (b : Reg) (o : ℤ) → FitsSigned w16 o → IsFar (effective_address first b o)
+  far b o fits = far_from (value first b) o (low b) fits
 
-    change_refused : (w : Width) (o : AtomicOp) (s : Reg) (a : ℕ) → ChangesValue shape w o s a old events progress new → events ≡ []
-    change_refused w o s a (inl row) = row.2
-    change_refused w o s a (inr row) = absurd (none_there a (size_of w) row.0.0.0)
+  no_place : (a n : ℕ) → IsFar a → IsInArray shape a n → ⊥
+  no_place a n (inl below) p = let after : array_start 0 ≤ a = p.after in omega arith
+  no_place a n (inr past) p =
+      let less : area_of a < length shape.arrays = below_length shape.arrays (area_of a) p.array p.is in
+      let few : length shape.arrays ≤ 16 = is.array_count in
+      let area : (a - array_start 0) / map_area < 17 = omega arith in
+      absurd (omega arith)
 
-    value_refused : (i : Insn) → AsksValue shape i old events progress new → events ≡ []
-    value_refused (insn.Load z d b o) row = load_refused z (λ x. x) d (effective_address old b o) row
-    value_refused (insn.LoadSigned z d b o) row = load_refused (plain_size z) (sign_extended (extension_of z)) d (effective_address old b o) row
-    value_refused (insn.StoreImmediate z b o n) row = store_refused z (effective_address old b o) (cast_unsigned w64 n) row
-    value_refused (insn.Store z b o s) row = store_refused z (effective_address old b o) (value old s) row
-    value_refused (insn.Atomic w op b o s) row = change_refused w op s (effective_address old b o) row
-    value_refused i row = absurd row
+  none_there : (a : ℕ) (z : op.Size) → IsFar a → IsThere shape first a z → ⊥
+  none_there a z apart (inl h) = let no : false ≡ true = h in cc
+  none_there a z apart (inr p) = no_place a (length_of z) apart p
 
-pub first_accesses_none : (shape : Shape) → HasNoArrays shape → (program : Loaded) (number : ℕ) (context : List ℕ) (new : Cpu) (events : List Event) (progress : Progress) → Step shape program (start number context) events progress new → AreNot is_access events
-first_accesses_none shape bare program number context new events progress step = from step.row
+  -- no helper asks a store: R1 is no map and no array
+  no_call : (n : ℕ) (events : List Event) (result : Result ℕ HelperFault) (after : List Span) → CallsHelper shape n number first.registers first.memory [] events result after → events ≡ []
+  no_call n events result after (inl r) = r.1
+  no_call n events result after (inr (inl r)) = r.3.0
+  no_call n events result after (inr (inr (inl r))) =
+      let named : 0x2_0000_0000 ≡ 0x1_0000_0000 + r.0 = r.2.0 in
+      let less : r.0 < length shape.maps = below_length shape.maps r.0 r.1 r.2.1 in
+      let few : length shape.maps ≤ 16 = is.count in
+      absurd (omega arith)
+  no_call n events result after (inr (inr (inr r))) =
+      let named : 0x2_0000_0000 ≡ 0x1_0000_0000 + (16 + r.0) = r.2.0 in
+      let less : r.0 < length shape.arrays = below_length shape.arrays r.0 r.1 r.2.1 in
+      let few : length shape.arrays ≤ 16 = is.array_count in
+      absurd (omega arith)
+
+  -- so it accesses no value
+  module _ (new : Cpu) (progress : Progress) (events : List Event) where
+    load_refused : (z : op.Size) (reading : ℕ → ℕ) (d : Reg) (a : ℕ) → IsFar a → LoadsValue shape z reading d a first events progress new → events ≡ []
+    load_refused z reading d a apart (inl row) = row.2
+    load_refused z reading d a apart (inr row) = absurd (none_there a z apart row.0.0)
+
+    store_refused : (z : op.Size) (a x : ℕ) → IsFar a → StoresValue shape z a x first events progress new → events ≡ []
+    store_refused z a x apart (inl row) = row.2
+    store_refused z a x apart (inr row) = absurd (none_there a z apart row.0.0.0)
+
+    change_refused : (w : Width) (o : AtomicOp) (s : Reg) (a : ℕ) → IsFar a → ChangesValue shape w o s a first events progress new → events ≡ []
+    change_refused w o s a apart (inl row) = row.2
+    change_refused w o s a apart (inr row) = absurd (none_there a (size_of w) apart row.0.0.0)
+
+    value_refused : (i : Insn) → Fits i → AsksValue shape i first events progress new → events ≡ []
+    value_refused (insn.Load z d b o) fits row = load_refused z (λ x. x) d (effective_address first b o) (far b o fits) row
+    value_refused (insn.LoadSigned z d b o) fits row = load_refused (plain_size z) (sign_extended (extension_of z)) d (effective_address first b o) (far b o fits) row
+    value_refused (insn.StoreImmediate z b o n) fits row = store_refused z (effective_address first b o) (cast_unsigned w64 n) (far b o fits.0) row
+    value_refused (insn.Store z b o s) fits row = store_refused z (effective_address first b o) (value first s) (far b o fits) row
+    value_refused (insn.Atomic w op b o s) fits row = change_refused w op s (effective_address first b o) (far b o fits) row
+    value_refused i fits row = absurd row
+
+pub first_asks_nothing : (shape : Shape) → IsShape shape → (program : Loaded) → FirstFits program → (number : ℕ) (context : List ℕ) (new : Cpu) (events : List Event) (progress : Progress) → Step shape program (start number context) events progress new → events ≡ []
+first_asks_nothing shape is program fits number context new events progress step = from step.row
   where
-    old : Cpu
-    old = start number context
-
-    from : Executes shape step.instruction old events progress new → AreNot is_access events
-    from (inl r) = none_of is_access events r.1
-    from (inr (inl r)) =
-        let h = r.2 in
-        bare_not shape old.memory [] bare is_access r.0 number old.registers events h.0 h.1
-        (helper_kind shape old.memory [] is_access (reads_nothing shape bare old.memory) (λ m key found. refl) (λ m key bytes flags answer. refl) (λ m key answer. refl) r.0 number old.registers events h.0 h.1 h.2)
-    from (inr (inr r)) = none_of is_access events (value_refused shape bare old new progress events refl step.instruction r.1)
+    from : Executes shape step.instruction (start number context) events progress new → events ≡ []
+    from (inl r) = r.1
+    from (inr (inl r)) = let h = r.2 in no_call shape is number context r.0 events h.0 h.1 h.2
+    from (inr (inr r)) = value_refused shape is number context new progress events step.instruction (fits step.instruction step.begins) r.1

@@ -1,5 +1,5 @@
 -- What writes leave of the bytes of values, byte by byte.
-use Rattle.std.proofs.Common.{◌≡◌, ◌≢◌, ℕ, zero, suc, ◌+◌, ◌-◌, ◌<◌, ◌≤◌, true, false, List, [], ◌∷◌, ◌++◌, length, take, drop, Option, Some, None, inl, inr, refl, sym, ap, subst, ◌∙◌, arith, length-append}
+use Rattle.std.proofs.Common.{◌≡◌, ◌≢◌, ℕ, zero, suc, ◌+◌, ◌-◌, ◌<◌, ◌≤◌, Bool, true, false, List, [], ◌∷◌, ◌++◌, length, take, drop, Option, Some, None, inl, inr, refl, sym, ap, subst, ◌∙◌, arith, length-append}
 use Rattle.std.specs.Prelude.{slice_get}
 use Rattle.std.proofs.lemmas.Bool.{cases_lt, false_from_ne_true}
 use Rattle.std.proofs.lemmas.List.{length-take-le}
@@ -111,9 +111,9 @@ module _ (s : Plain) (c v a n : ℕ) (so : IsSoundStore s) (r : Reaches s c v a 
     | inr ne ↦ write_there x w i ne ∙ sym (not_written a n x (address s w i) (at s w i) (apart_missed w i live ne inside))
   ]
 
-  -- a value that the CPU doesn't hold stays, where it holds the one that it writes
-  pub write_unheld : (x w i : ℕ) → s.held c v ≡ true → s.held c w ≡ false → at (after_write s v a n x) w i ≡ at s w i
-  write_unheld x w i holds none = write_there x w i (λ e. let has : s.held c w ≡ true = ap (s.held c) e ∙ holds in cc)
+  -- a value that fails a test stays, where the one that is written passes it
+  pub write_unreached : (is : ℕ → Bool) (x w i : ℕ) → is v ≡ true → is w ≡ false → at (after_write s v a n x) w i ≡ at s w i
+  write_unreached is x w i holds none = write_there x w i (λ e. let has : is w ≡ true = ap is e ∙ holds in cc)
 
 -- ---- a number that is read
 pub same_number : (s t : Plain) (v a n : ℕ) → (s.value v).span ≡ (t.value v).span → (s.value v).span.at ≤ a

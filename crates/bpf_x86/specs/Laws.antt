@@ -1,11 +1,12 @@
--- What store buffers add to sequential consistency: nothing, where there are no arrays and no schedule
--- leads to a data race.
-use Rattle.std.specs.Prelude.{◌≡◌, ℕ, suc, Bool, true, false, List, [], Some, map, slice_get}
+-- What store buffers add to sequential consistency: nothing, where no schedule leads to a data race.
+use Rattle.std.specs.Prelude.{◌≡◌, ℕ, suc, Bool, true, false, List, Some, map, slice_get}
+use Rattle.bpf_insn.specs.declared.instruction.Insn.{Insn}
+use Rattle.bpf_insn.specs.Encoding.{Fits}
 use Rattle.bpf_shared.specs.declared.events.Event.{Event}
-use Rattle.bpf_shared.specs.Shape.{Shape}
 use Rattle.bpf_shared.specs.Store.{Plain}
 use Rattle.bpf_shared.specs.History.{PlainlyLegal, entry}
 use Rattle.bpf_loader.specs.Loaded.{Loaded}
+use Rattle.bpf_loader.specs.Places.{Begins}
 use Rattle.bpf_cpu.specs.declared.cpu.Cpu.{Cpu}
 use Rattle.bpf_cpu.specs.declared.outcome.Progress.{Progress}
 use Rattle.bpf_cpu.specs.Step.{Step}
@@ -56,14 +57,18 @@ abbrev pub StepsAreThere : Bool → World → Type 0
 StepsAreThere patient w = (schedule : List ℕ) (z : World) → RunsSchedule w schedule z
     → Counts patient z.jobs → CanStep z
 
--- there are maps alone. Where there are arrays a step may make several stores (an update copies a
--- value in parts), and CPUs reach values that they don't hold: of those the law says nothing
-abbrev pub HasNoArrays : Shape → Type 0
-HasNoArrays h = h.arrays ≡ []
+-- the numbers of the first instruction fit their types, so its offset has 16 bits: from a context or a
+-- frame it leads to no value, and a job begins with no access to one
+abbrev pub FirstFits : Loaded → Type 0
+FirstFits program = (i : Insn) → Begins program.instructions 0 i → Fits i
 
--- THE LAW: where there are no arrays and no schedule leads to a data race, x86 adds nothing
+-- those of each program's
+abbrev pub FirstsFit : List Loaded → Type 0
+FirstsFit programs = (k : ℕ) (program : Loaded) → slice_get programs k ≡ Some program → FirstFits program
+
+-- THE LAW: where no schedule leads to a data race, x86 adds nothing
 abbrev pub RaceFreeIsSame : Type 0
-RaceFreeIsSame = (patient : Bool) (w : World) → HasNoArrays w.store.shape → IsFresh w
+RaceFreeIsSame = (patient : Bool) (w : World) → FirstsFit w.programs → IsFresh w
     → StepsAreThere patient w → IsRaceFree patient w → IsSameOnX86 patient w
 
 -- the same where a closed list of machines shows the first one, or one that is closed but for budgets
@@ -73,6 +78,6 @@ AreClosedMachines true kept = IsClosedRichly kept
 
 abbrev pub KeptRaceFreeIsSame : Type 0
 KeptRaceFreeIsSame =
-    (patient : Bool) (kept : List MachineState) (w : World) → HasNoArrays w.store.shape
+    (patient : Bool) (kept : List MachineState) (w : World) → FirstsFit w.programs
     → AreClosedMachines patient kept → IsFresh w → IsShown kept w → IsRaceFree patient w
     → IsSameOnX86 patient w

@@ -24,8 +24,8 @@ pub fn orders_are_x86s()
     ensures { OrdersAreX86s }
 {}
 
-/// Where there are no arrays, no schedule leads to a data race, and each CPU can always take its turn,
-/// what x86 reaches where all jobs have ended, sequential consistency reaches.
+/// Where no schedule leads to a data race, and each CPU can always take its turn, what x86 reaches where
+/// all jobs have ended, sequential consistency reaches.
 pub fn race_free_is_same()
     ensures { RaceFreeIsSame }
 {
@@ -34,8 +34,8 @@ pub fn race_free_is_same()
     bpf_shared::laws::calls_have_one_reply();
 }
 
-/// Where there are no arrays and a closed list of machines shows the first one, x86 adds nothing if no
-/// schedule leads to a data race.
+/// Where a closed list of machines shows the first one, x86 adds nothing if no schedule leads to a data
+/// race.
 pub fn kept_race_free_is_same()
     ensures { KeptRaceFreeIsSame }
 {
