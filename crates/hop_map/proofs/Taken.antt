@@ -1,5 +1,5 @@
--- A call of a port that takes its lane out, reads or writes a value that the run holds or a fixed one, and puts the lane back.
-use Rattle.std.proofs.Common.{◌≡◌, ℕ, true, [], ◌∷◌, Option, Some, inl, inr, ap, sym, subst, ◌∙◌}
+-- A call of a port that borrows its lane, by which it reads or writes a value that the run holds or a fixed one.
+use Rattle.std.proofs.Common.{◌≡◌, ℕ, true, [], ◌∷◌, Some, inl, inr, refl, ap, sym, subst, ◌∙◌}
 use Rattle.atomic_table.specs.Seated.{TableId}
 use Rattle.bpf_shared.specs.declared.events.Event.{Event}
 use Rattle.bpf_shared.specs.History.{events_of}
@@ -16,12 +16,12 @@ use Rattle.hop_map.specs.Noting.{MayNote, CallNotes}
 use Rattle.hop_map.proofs.Ports.{still_runs, port_with, port_is}
 use Rattle.hop_map.proofs.Holding.{held_at, told_fits}
 
-module _ (i : InPort) (o : Option Standing) (s : Standing) («from» : o ≡ i.lane) (some : o ≡ Some s) (q : Port) (view : port_of i ≡ q) (t : Shown) (fits : IsPortOf t q) (running : runs q ≡ true) where
+module _ (i : InPort) (s : Standing) (there : i.lane ≡ Some s) (q : Port) (view : port_of i ≡ q) (t : Shown) (fits : IsPortOf t q) (running : runs q ≡ true) where
   abbrev taken : Port
   taken = port_with s i.arenas.items i.batches.items i.spilled
 
   is : taken ≡ q
-  is = sym (port_is i o s «from» some) ∙ view
+  is = sym (port_is i i.lane s refl there) ∙ view
 
   taken_fits : IsPortOf t taken
   taken_fits = subst (IsPortOf t) (sym is) fits

@@ -1,5 +1,5 @@
 //! The bytes of a value as part of one of its words.
-ghost use Rattle.std.specs.Prelude.{◌≡◌, ◌+◌, ◌/◌, ◌%◌, ◌<◌, ◌≤◌};
+ghost use Rattle.std.specs.Prelude.{◌≡◌, ◌+◌, ◌*◌, ◌/◌, ◌%◌, ◌<◌, ◌≤◌};
 ghost use Rattle.bpf_base.specs.Bytes.{low_bytes, modulus, with_part};
 ghost use Rattle.bpf_shared.specs.Access.{bytes_in};
 ghost use Rattle.hop_words.specs.declared.known.Known.{Known};
@@ -13,18 +13,19 @@ use bpf_shared::bytes::{load, store};
 use bpf_shared::{FIRST_ARRAY, FIRST_VALUE, MAP_AREA, Size, ValuePlace};
 use hop_words::{FixedPart, HopTable, ValuePart};
 
-// Which value of n bytes each a byte lies in, and where in it. Values of one word need no
-// division.
-fn divided(within: u64, stride: u64) -> (u64, u64)
-    requires { 0 < stride }
-    ensures value { result.0 ≡ within / stride }
-    ensures place { result.1 ≡ within % stride }
+// Which value of n bytes each a byte lies in, and where in it. Each begins at a whole word; values
+// of one word need no division.
+fn divided(within: u64, value: u64) -> (u64, u64)
+    requires { (1 ≤ value) × (value ≤ 256) }
+    ensures value { result.0 ≡ within / ((value + 7) / 8 * 8) }
+    ensures place { result.1 ≡ within % ((value + 7) / 8 * 8) }
 {
-    if stride == 8 {
-        (within / 8, within % 8)
-    } else {
-        (within / stride, within % stride)
+    if value <= 8 {
+        return (within / 8, within % 8);
     }
+    // `div_ceil` would test the remainder.
+    let stride = (value + 7) / 8 * 8;
+    (within / stride, within % stride)
 }
 
 /// The word that the bytes lie in, and their place there.
@@ -39,9 +40,7 @@ pub(crate) fn part_at(table: &HopTable, at: ValuePlace, size: Size) -> ValuePart
     let above = at.at - FIRST_VALUE;
     let map = (above / MAP_AREA) as u8;
     let within = above % MAP_AREA;
-    // `div_ceil` would test the remainder.
-    let stride = (shape_of(table, map).value + 7) / 8 * 8;
-    let (element, place) = divided(within, stride);
+    let (element, place) = divided(within, shape_of(table, map).value);
     ValuePart {
         map,
         element: element as u32,

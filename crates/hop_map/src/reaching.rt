@@ -11,12 +11,14 @@ use crate::accessing::{change_part_at, change_word_at, load_at, store_part_at, s
 use crate::fixed::{
     change_fixed_part, change_fixed_word, load_fixed, store_fixed_part, store_fixed_word,
 };
-use bpf_shared::{AtomicOp, FIRST_ARRAY, FIRST_VALUE, MAP_AREA, Size, ValuePlace};
+use bpf_shared::{AtomicOp, FIRST_ARRAY, MAP_AREA, Size, ValuePlace};
 use hop_words::{HopTable, Lane};
 use std::sync::Wait;
 
-/// Where the first array's values begin: maps' values are at lower addresses.
-const FIRST_FIXED: u64 = FIRST_VALUE + MAP_AREA * FIRST_ARRAY;
+/// How many bytes the areas of all maps have together. Those of all arrays, which follow them, have
+/// as many, and the first area begins at a multiple of twice this number: so one bit of an address
+/// says whether its value is held or fixed.
+const HALF: u64 = MAP_AREA * FIRST_ARRAY;
 
 /// The number that the bytes read as.
 #[inline(always)]
@@ -27,10 +29,10 @@ pub(crate) fn load(table: &HopTable, lane: &mut Lane, at: ValuePlace, size: Size
     ensures loaded { AddsEvent table.now.about lane.old.known (Load at.at size result) lane.new.known }
     ensures small { result < modulus (bytes_in size) }
 {
-    if at.at < FIRST_FIXED {
+    let _cpus = table.about().shape.cpus();
+    if at.at / HALF % 2 == 0 {
         load_at(table, lane, at, size)
     } else {
-        let _cpus = table.about().shape.cpus();
         load_fixed(table, lane, at, size)
     }
 }
@@ -43,10 +45,10 @@ pub(crate) fn store_word(table: &HopTable, lane: &mut Lane, at: ValuePlace, word
     ensures table { lane.new.table ≡ lane.old.table }
     ensures stored { AddsEvent table.now.about lane.old.known (Store at.at Double word) lane.new.known }
 {
-    if at.at < FIRST_FIXED {
+    let _cpus = table.about().shape.cpus();
+    if at.at / HALF % 2 == 0 {
         store_word_at(table, lane, at, word);
     } else {
-        let _cpus = table.about().shape.cpus();
         store_fixed_word(table, lane, at, word);
     }
 }
@@ -66,10 +68,10 @@ pub(crate) fn store_part<R: Wait>(
     ensures table { lane.new.table ≡ lane.old.table }
     ensures stored { AddsEvent table.now.about lane.old.known (Store at.at size word) lane.new.known }
 {
-    if at.at < FIRST_FIXED {
+    let _cpus = table.about().shape.cpus();
+    if at.at / HALF % 2 == 0 {
         store_part_at(rt, table, lane, at, size, word);
     } else {
-        let _cpus = table.about().shape.cpus();
         store_fixed_part(rt, table, lane, at, size, word);
     }
 }
@@ -90,10 +92,10 @@ pub(crate) fn change_word(
     ensures changed { AddsEvent table.now.about lane.old.known
         (Atomic at.at Double op operand expected result) lane.new.known }
 {
-    if at.at < FIRST_FIXED {
+    let _cpus = table.about().shape.cpus();
+    if at.at / HALF % 2 == 0 {
         change_word_at(table, lane, at, op, operand, expected)
     } else {
-        let _cpus = table.about().shape.cpus();
         change_fixed_word(table, lane, at, op, operand, expected)
     }
 }
@@ -118,10 +120,10 @@ pub(crate) fn change_part<R: Wait>(
         (Atomic at.at size op operand expected result) lane.new.known }
     ensures small { result < modulus (bytes_in size) }
 {
-    if at.at < FIRST_FIXED {
+    let _cpus = table.about().shape.cpus();
+    if at.at / HALF % 2 == 0 {
         change_part_at(rt, table, lane, at, size, op, operand, expected)
     } else {
-        let _cpus = table.about().shape.cpus();
         change_fixed_part(rt, table, lane, at, size, op, operand, expected)
     }
 }

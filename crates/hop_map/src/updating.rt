@@ -130,7 +130,6 @@ fn claim_near(
 const PATIENCE: u32 = 24;
 
 // A free element of the map, after the CPU's own batches were looked at.
-#[inline(never)]
 fn reclaim_and_claim(
     table: &HopTable,
     lane: &mut Lane,
@@ -155,9 +154,45 @@ fn reclaim_and_claim(
     claim_near(table, lane, arena, batches)
 }
 
-// A free element of the map: where none is found, the CPU's own batches are looked at, and then
-// there is a second pass. Where only the runs of others keep what this CPU took out, it is patient:
-// one of them may have been taken off its core.
+// A free element of the map, where one pass found none: the CPU's own batches are looked at, and
+// then there is a second pass. Where only the runs of others keep what this CPU took out, it is
+// patient: one of them may have been taken off its core.
+#[inline(never)]
+fn claim_patiently(
+    table: &HopTable,
+    lane: &mut Lane,
+    arena: &mut Arena,
+    batches: &mut Batches,
+) -> Option<Element>
+    requires table { lane.old.table ≡ table.now.id }
+    requires inside { lane.old.known.cpu < table.now.about.shape.cpus }
+    requires even { table.now.about.count % 2 ≡ 0 }
+    requires map { arena.old.map < length table.now.about.shape.maps }
+    requires arena { Searches table.now.about arena.old.map arena.old }
+    requires batches { AreBatchesOf table.now.about lane.old.known arena.old.map batches.old }
+    requires empty { lane.old.known.fresh ≡ [] }
+    requires unlocked { lane.old.known.locks ≡ [] }
+    requires runs { in_run (events_of lane.old.known.cpu lane.old.known.seen) ≡ true }
+    ensures table { lane.new.table ≡ lane.old.table }
+    ensures claimed { ClaimsOrLacks table.now.about lane.old.known arena.old.map result
+        lane.new.known }
+    ensures arena { Searches table.now.about arena.old.map arena.new }
+    ensures batches { AreBatchesOf table.now.about lane.new.known arena.old.map batches.new }
+{
+    let backoff = Backoff::new();
+    'patience: for _tried in 0..PATIENCE {
+        if let Some(element) = reclaim_and_claim(table, lane, arena, batches) {
+            return Some(element);
+        }
+        if !batches.waits_for_others(lane, table) {
+            return None;
+        }
+        backoff.snooze();
+    }
+    reclaim_and_claim(table, lane, arena, batches)
+}
+
+// A free element of the map, by one pass or, where that finds none, by more.
 fn claim_free(
     table: &HopTable,
     lane: &mut Lane,
@@ -182,17 +217,7 @@ fn claim_free(
     if let Some(element) = claim_near(table, lane, arena, batches) {
         return Some(element);
     }
-    let backoff = Backoff::new();
-    'patience: for _tried in 0..PATIENCE {
-        if let Some(element) = reclaim_and_claim(table, lane, arena, batches) {
-            return Some(element);
-        }
-        if !batches.waits_for_others(lane, table) {
-            return None;
-        }
-        backoff.snooze();
-    }
-    reclaim_and_claim(table, lane, arena, batches)
+    claim_patiently(table, lane, arena, batches)
 }
 
 // Fills a new element, and puts it, as the flags say. Where the update is refused the element is

@@ -29,12 +29,10 @@ impl HopPort {
         ensures small { result < modulus (bytes_in size) }
         ensures fits { IsPortOf table.now self.new }
     {
-        let Some(mut lane) = self.lane.take() else {
+        let Some(lane) = &mut self.lane else {
             unreachable!()
         };
-        let number = load(table, &mut lane, at, size);
-        self.lane = Some(lane);
-        number
+        load(table, lane, at, size)
     }
 
     /// The eight bytes at an aligned place in a held value, or in a fixed one that isn't read only,
@@ -49,11 +47,10 @@ impl HopPort {
             self.old.known self.new.known }
         ensures fits { IsPortOf table.now self.new }
     {
-        let Some(mut lane) = self.lane.take() else {
+        let Some(lane) = &mut self.lane else {
             unreachable!()
         };
-        store_word(table, &mut lane, at, word);
-        self.lane = Some(lane);
+        store_word(table, lane, at, word);
     }
 
     /// The bytes at an aligned place in such a value become the low bytes of the word. Others may
@@ -76,11 +73,10 @@ impl HopPort {
             self.old.known self.new.known }
         ensures fits { IsPortOf table.now self.new }
     {
-        let Some(mut lane) = self.lane.take() else {
+        let Some(lane) = &mut self.lane else {
             unreachable!()
         };
-        store_part(rt, table, &mut lane, at, size, word);
-        self.lane = Some(lane);
+        store_part(rt, table, lane, at, size, word);
     }
 
     /// An atomic operation on the eight bytes at an aligned place in such a value; the number that
@@ -103,12 +99,10 @@ impl HopPort {
             (Atomic at.at Double op operand expected result) self.old.known self.new.known }
         ensures fits { IsPortOf table.now self.new }
     {
-        let Some(mut lane) = self.lane.take() else {
+        let Some(lane) = &mut self.lane else {
             unreachable!()
         };
-        let number = change_word(table, &mut lane, at, op, operand, expected);
-        self.lane = Some(lane);
-        number
+        change_word(table, lane, at, op, operand, expected)
     }
 
     /// An atomic operation on four or eight bytes of such a value. Others may write the bytes beside
@@ -136,11 +130,9 @@ impl HopPort {
         ensures small { result < modulus (bytes_in size) }
         ensures fits { IsPortOf table.now self.new }
     {
-        let Some(mut lane) = self.lane.take() else {
+        let Some(lane) = &mut self.lane else {
             unreachable!()
         };
-        let number = change_part(rt, table, &mut lane, at, size, op, operand, expected);
-        self.lane = Some(lane);
-        number
+        change_part(rt, table, lane, at, size, op, operand, expected)
     }
 }

@@ -5,9 +5,11 @@ use Rattle.hop_map.proofs.Below.{changes_held, changes_fixed}
 use Rattle.hop_map.proofs.reaching.change_word.Goals as goal
 
 pub change_word_at-requires-clause-held : goal.change_word_at-requires-clause-held
-change_word_at-requires-clause-held c = changes_held c.args.table.now.about c.args.lane.now.known c.args.at.at 8 c.if-at-lt-FIRST_FIXED.true c.requires.place
+change_word_at-requires-clause-held c =
+    let shaped = subst (λ (x : About). IsShape x.shape) c.about.ensures c.cpus-cpus.ensures.in_range in
+    changes_held c.args.table.now.about c.args.lane.now.known c.args.at.at 8 shaped (omega arith) c.if-at-eq0.true c.requires.place
 
 pub change_fixed_word-requires-clause-free : goal.change_fixed_word-requires-clause-free
 change_fixed_word-requires-clause-free c =
     let shaped = subst (λ (x : About). IsShape x.shape) c.about.ensures c.cpus-cpus.ensures.in_range in
-    changes_fixed c.args.table.now.about c.args.lane.now.known c.args.at.at 8 shaped (omega arith) (omega (arith, c.if-at-lt-FIRST_FIXED.false)) c.requires.place
+    changes_fixed c.args.table.now.about c.args.lane.now.known c.args.at.at 8 shaped (omega arith) c.if-at-eq0.false c.requires.place

@@ -1,4 +1,4 @@
-use Rattle.std.proofs.Common.{subst, arith}
+use Rattle.std.proofs.Common.{subst}
 use Rattle.bpf_shared.specs.Access.{bytes_in}
 use Rattle.bpf_shared.specs.Shape.{IsShape}
 use Rattle.hop_layout.specs.declared.about.About.{About}
@@ -7,9 +7,11 @@ use Rattle.hop_map.proofs.Below.{loads_held, loads_fixed}
 use Rattle.hop_map.proofs.reaching.load.Goals as goal
 
 pub load_at-requires-clause-held : goal.load_at-requires-clause-held
-load_at-requires-clause-held c = loads_held c.args.table.now.about c.args.lane.now.known c.args.at.at (bytes_in c.args.size) c.if-at-lt-FIRST_FIXED.true c.requires.place
+load_at-requires-clause-held c =
+    let shaped = subst (λ (x : About). IsShape x.shape) c.about.ensures c.cpus-cpus.ensures.in_range in
+    loads_held c.args.table.now.about c.args.lane.now.known c.args.at.at (bytes_in c.args.size) shaped (some_bytes c.args.size) c.if-at-eq0.true c.requires.place
 
 pub load_fixed-requires-clause-fixed : goal.load_fixed-requires-clause-fixed
 load_fixed-requires-clause-fixed c =
     let shaped = subst (λ (x : About). IsShape x.shape) c.about.ensures c.cpus-cpus.ensures.in_range in
-    loads_fixed c.args.table.now.about c.args.lane.now.known c.args.at.at (bytes_in c.args.size) shaped (some_bytes c.args.size) (omega (arith, c.if-at-lt-FIRST_FIXED.false)) c.requires.place
+    loads_fixed c.args.table.now.about c.args.lane.now.known c.args.at.at (bytes_in c.args.size) shaped (some_bytes c.args.size) c.if-at-eq0.false c.requires.place

@@ -1,62 +1,22 @@
-use Rattle.std.proofs.Common.{ℕ, Some, None, Option, sym, subst, ◌∙◌}
-use Rattle.hop_words.specs.declared.known.Known.{Known}
+use Rattle.std.proofs.Common.{ℕ, Option, subst}
+use Rattle.std.specs.Prelude.{MatchOption}
 use Rattle.hop_arena.specs.declared.element.Element.{Element}
-use Rattle.hop_epoch.specs.Batch.{KeepsBatches}
-use Rattle.hop_epoch.proofs.Batching.{keeps_then}
-use Rattle.hop_map.specs.Call.{Searches, AreBatchesOf}
+use Rattle.hop_arena.specs.Claiming.{Misses, Claims}
 use Rattle.hop_map.specs.Private.Updates.{ClaimsOrLacks}
-use Rattle.hop_map.proofs.Wholes.{found_at_once, found_later}
+use Rattle.hop_map.proofs.Wholes.{found_at_once, found_later, missed_keeps}
 use Rattle.hop_map.proofs.updating.claim_free.Goals as goal
 
 pub returns-in-Some-clause-claimed : goal.returns-in-Some-clause-claimed
 returns-in-Some-clause-claimed c = found_at_once c.args.table.now.about c.args.arena.now.map c.args.lane.now.known c.claim_near.new.lane.known c.in-Some.element c.in-Some.ensures.claimed
 
-pub returns-in-Some-reclaim_and_claim-clause-claimed : goal.returns-in-Some-reclaim_and_claim-clause-claimed
-returns-in-Some-reclaim_and_claim-clause-claimed c =
-    let a = c.args.table.now.about in
-    let i = c.patience.invariant in
-    let k = c.patience.lane.known in
-    let l' = c.reclaim_and_claim.new.lane.known in
-    let e = c.in-Some-reclaim_and_claim.element in
-    found_later a c.args.arena.now.map c.args.lane.now.known k l' i.keeps (Some e)
-    (subst (λ (n : ℕ). ClaimsOrLacks a k n (Some e) l') i.arena.0 c.in-Some-reclaim_and_claim.ensures.claimed)
-
-pub returns-then-not-waits_for_others-clause-claimed : goal.returns-then-not-waits_for_others-clause-claimed
-returns-then-not-waits_for_others-clause-claimed c =
-    let a = c.args.table.now.about in
-    let m = c.args.arena.now.map in
-    let l = c.args.lane.now.known in
-    let i = c.patience.invariant in
-    let k = c.patience.lane.known in
-    let l' = c.reclaim_and_claim.new.lane.known in
-    let found : ClaimsOrLacks a k c.patience.arena.map None l' = subst (λ (o : Option Element). ClaimsOrLacks a k c.patience.arena.map o l') c.in_default-reclaim_and_claim.is c.reclaim_and_claim.ensures.claimed in
-    subst (λ (z : Known). ClaimsOrLacks a l m None z) (sym c.waits_for_others.ensures.same)
-    (found_later a m l k l' i.keeps None (subst (λ (n : ℕ). ClaimsOrLacks a k n None l') i.arena.0 found))
-
-pub patience-preserved : goal.patience-preserved
-patience-preserved c =
-    let a = c.args.table.now.about in
-    let m = c.args.arena.now.map in
-    let l = c.args.lane.now.known in
-    let i = c.patience.invariant in
-    let k = c.patience.lane.known in
-    let l' = c.reclaim_and_claim.new.lane.known in
-    let e = c.reclaim_and_claim.ensures in
-    let same = sym c.waits_for_others.ensures.same in
-    let found : ClaimsOrLacks a k c.patience.arena.map None l' = subst (λ (o : Option Element). ClaimsOrLacks a k c.patience.arena.map o l') c.in_default-reclaim_and_claim.is e.claimed in
-    record {
-      table = c.waits_for_others.ensures.table ∙ (e.table ∙ i.table);
-      keeps = subst (KeepsBatches m l) same (keeps_then m l k l' i.keeps (subst (λ (n : ℕ). KeepsBatches n k l') i.arena.0 found.0));
-      arena = subst (λ (n : ℕ). Searches a n c.reclaim_and_claim.new.arena) i.arena.0 e.arena;
-      batches = subst (λ (z : Known). AreBatchesOf a z m c.reclaim_and_claim.new.batches) same (subst (λ (n : ℕ). AreBatchesOf a l' n c.reclaim_and_claim.new.batches) i.arena.0 e.batches);
-    }
-
 pub returns-clause-claimed : goal.returns-clause-claimed
 returns-clause-claimed c =
     let a = c.args.table.now.about in
-    let i = c.patience.invariant in
-    let k = c.patience.lane.known in
-    let o = c.reclaim_and_claim-2.result in
-    let l' = c.reclaim_and_claim-2.new.lane.known in
-    found_later a c.args.arena.now.map c.args.lane.now.known k l' i.keeps o
-    (subst (λ (n : ℕ). ClaimsOrLacks a k n o l') i.arena.0 c.reclaim_and_claim-2.ensures.claimed)
+    let m = c.args.arena.now.map in
+    let l = c.args.lane.now.known in
+    let k = c.claim_near.new.lane.known in
+    let o = c.claim_patiently.result in
+    let l' = c.claim_patiently.new.lane.known in
+    let missed : Misses a l m k = subst (λ (r : Option Element). MatchOption r (Misses a l m k) (λ (x : Element). Claims a l m x k)) c.in_default.is c.claim_near.ensures.claimed in
+    found_later a m l k l' (missed_keeps a m l k missed) o
+    (subst (λ (n : ℕ). ClaimsOrLacks a k n o l') c.claim_near.ensures.arena.0 c.claim_patiently.ensures.claimed)

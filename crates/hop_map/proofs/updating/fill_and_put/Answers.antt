@@ -23,7 +23,7 @@ use Rattle.hop_map.proofs.Keys.{are_bytes}
 use Rattle.hop_map.proofs.Wholes.{pair_at}
 use Rattle.hop_words.proofs.Sighted.{set_leaves}
 use Rattle.hop_map.proofs.Noted.{update_notes, spilled_last}
-use Rattle.hop_map.proofs.Settling.{filled_readies, refused_answered, refused_hand, refused_called, over_called}
+use Rattle.hop_map.proofs.Filled.{filled_readies, refused_answered, refused_hand, refused_called, over_called}
 use Rattle.hop_map.proofs.updating.fill_and_put.Goals as goal
 
 pub fill-requires-clause-hand : goal.fill-requires-clause-hand

@@ -1,7 +1,7 @@
 use Rattle.std.specs.Prelude.{◌≡◌}
 use Rattle.hop_epoch.specs.Batch.{KeepsBatches}
 use Rattle.hop_map.specs.Call.{Searches, AreBatchesOf}
-use Rattle.hop_map.proofs.updating.claim_free.Given as goal
+use Rattle.hop_map.proofs.updating.claim_patiently.Given as goal
 
 abbrev pub invariant-patience : goal.invariant-patience
 invariant-patience l = record {
