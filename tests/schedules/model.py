@@ -70,21 +70,27 @@ class Program:
 
 
 class File:
-    def __init__(self, cpus, most, spare, jobs):
+    def __init__(self, cpus, most, spare, jobs, pairs=()):
         self.cpus, self.most, self.spare = cpus, most, spare
+        # the map's keys at first, each with its number
+        self.pairs = pairs
         # (cpu, program, budget)
         self.jobs = jobs
 
     def text(self):
-        lines = ["ebpf-run 1", f"cpus {self.cpus}", f"map m key 4 value 8 max {self.most} spare {self.spare}"]
+        version = 3 if self.pairs else 1
+        lines = [f"ebpf-run {version}", f"cpus {self.cpus}", f"map m key 4 value 8 max {self.most} spare {self.spare}"]
+        lines += [f"put m {key.to_bytes(4, 'little').hex()} {number.to_bytes(8, 'little').hex()}" for key, number in self.pairs]
         for number, (_, program, _) in enumerate(self.jobs):
             lines += [f"prog p{number}", *program.lines(), "end"]
         lines += [f"job {cpu} p{n} budget {budget}" for n, (cpu, _, budget) in enumerate(self.jobs)]
         return "".join(line + "\n" for line in lines)
 
     def first(self):
-        elements = tuple((0, NO_CPU) for _ in range(self.most + self.spare))
-        return ((), elements, frozenset()), (None,) * self.cpus, (None,) * len(self.jobs)
+        numbers = [number for _, number in self.pairs] + [0] * (self.most + self.spare - len(self.pairs))
+        elements = tuple((number, NO_CPU) for number in numbers)
+        keys = tuple(sorted((key, place) for place, (key, _) in enumerate(self.pairs)))
+        return (keys, elements, frozenset()), (None,) * self.cpus, (None,) * len(self.jobs)
 
     # A state is the store, each CPU's hand, each job's outcome.
 
@@ -445,9 +451,13 @@ def draw_file(seed):
     jobs = [(cpu, draw_program(draw)) for cpu in range(cpus)]
     if cpus == 2 and draw.random() < 0.4:
         jobs.append((draw.randrange(2), draw_program(draw)))
-    return File(
+    file = File(
         cpus,
         draw.choice([1, 2]),
         draw.choice([0, 0, 1]),
         [(cpu, program, draw.choice([1000] * 5 + [draw.randrange(20)])) for cpu, program in jobs],
     )
+    if draw.random() < 0.4:
+        keys = draw.sample([0, 1], draw.randrange(1, file.most + 1))
+        file.pairs = [(key, draw.randrange(1, 4)) for key in keys]
+    return file

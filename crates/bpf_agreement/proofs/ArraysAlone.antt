@@ -87,7 +87,7 @@ module _ (h : Shape) (is_shape : IsShape h) (bare : h.maps ≡ []) where
 
 module _ (law : WritesAreDetermined) (begins : OneInstructionBegins) (replies : CallsHaveOneReply) (sound : LegalIsSound)
     (h : Shape) (programs : List Loaded) (tasks : List Task) (ends : List Outcome) (lists : ℕ → List (List (List ℕ))) (history : List Entry) (last : Plain) (w : World)
-    (arrays : HasArraysAlone h programs tasks) (is : IsFirst h programs tasks w) (explained : IsExplained h 0 programs tasks false ends lists history) (legal : Legal (as_made h) history last) where
+    (arrays : HasArraysAlone h programs tasks) (is : IsFirst h programs tasks w) (explained : IsExplained h 0 [] programs tasks false ends lists history) (legal : Legal (as_made h) history last) where
   fresh : IsFresh w
   fresh = record {
     store = subst (λ (s : Plain). IsSoundStore s) (sym is.store) (sound h [] (as_made h) arrays.shape refl);

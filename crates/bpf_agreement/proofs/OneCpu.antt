@@ -321,7 +321,7 @@ no_runs g d (task ∷ tasks) (end ∷ ends) events (inr (ne, more)) other = no_r
 module _ (law : WritesAreDetermined) (one_begins : OneInstructionBegins) (replies : CallsHaveOneReply) (legal_sound : LegalIsSound)
     (h : Shape) (programs : List Loaded) (tasks : List Task) (ends : List Outcome) (lists : ℕ → List (List (List ℕ))) (history : List Entry) (last : Plain)
     (w : World) (first : w.store ≡ as_made h) (has : w.programs ≡ programs) (jobs : w.jobs ≡ tasks) (is_shape : IsShape h) (fresh : IsFresh w) (few : length tasks < 2 ^ 62)
-    (explained : IsExplained h 0 programs tasks false ends lists history) (legal : Legal (as_made h) history last)
+    (explained : IsExplained h 0 [] programs tasks false ends lists history) (legal : Legal (as_made h) history last)
     (bare : h.maps ≡ []) (c : ℕ) (inside : c < h.cpus) (mine : (k : ℕ) (task : Task) → slice_get tasks k ≡ Some task → task.cpu ≡ c) where
   abbrev all : Given
   all = record { shape = h; programs = programs; tasks = tasks; ends = ends }

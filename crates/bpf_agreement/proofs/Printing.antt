@@ -1,7 +1,14 @@
 -- What is printed of the jobs' ends, of the machine that turns lead to.
 use Rattle.std.proofs.Common.{◌≡◌, ℕ, zero, suc, ◌<◌, Bool, false, List, [], ◌∷◌, ◌++◌, length, Some, None, refl, sym, ap, subst, ◌∙◌, arith}
 use Rattle.std.specs.Prelude.{slice_get}
-use Rattle.bpf_shared.specs.Store.{Plain}
+use Rattle.bpf_shared.specs.declared.events.Entry.{Entry}
+use Rattle.bpf_shared.specs.declared.shapes.MapShape.{MapShape}
+use Rattle.bpf_shared.specs.Shape.{Shape, IsMap}
+use Rattle.bpf_shared.specs.Store.{Plain, as_made}
+use Rattle.bpf_shared.specs.History.{IsLegal, Legal}
+use Rattle.bpf_pairs.specs.Pairs.{Pair}
+use Rattle.bpf_pairs.specs.Putting.{first_history}
+use Rattle.bpf_pairs.specs.Filled.{filled}
 use Rattle.bpf_cpu.specs.declared.outcome.Outcome.{Outcome}
 use Rattle.bpf_cpu.specs.Task.{Task, Ended}
 use Rattle.bpf_machine.specs.Rounds.{HaveEnded}
@@ -66,14 +73,26 @@ no_lines names lists (suc n) none = both _ _ (no_lines names lists n (λ c less.
     own : (found : List (List (List ℕ))) → found ≡ [] → cpu_lines n names (length found) found ≡ []
     own found e = ap (λ (l : List (List (List ℕ))). cpu_lines n names (length l) l) e
 
--- no list is in the report
-unlisted : (f : File) (asked : Asked) (printed : Printed) (report : IsWorkersReport f asked printed) → asked.keys ≡ false → IsExplained (shape_of f) 0 f.programs f.jobs false report.ends report.lists report.closed.history
-unlisted f asked printed report none = subst (λ (keys : Bool). IsExplained (shape_of f) 0 f.programs f.jobs keys report.ends report.lists report.closed.history) none report.explained
+-- ---- pairs
+-- where there is no map, none has a pair
+no_pairs : (h : Shape) (ps : List Pair) (rest history : List Entry) → h.maps ≡ [] → IsLegal h history → history ≡ first_history ps ++ rest → ps ≡ []
+no_pairs h [] rest history none legal is = refl
+no_pairs h (p ∷ ps) rest history none legal is =
+    let l = subst (λ (es : List Entry). Legal (as_made h) es legal.0) is legal.1 in
+    let there = l.2.1.1 in
+    let at : IsMap h.maps p.map there.0 = subst (λ (s : Plain). IsMap s.shape.maps p.map there.0) l.1.2 there.1 in
+    absurd (let nothing = subst (λ (maps : List MapShape). IsMap maps p.map there.0) none at in cc)
+
+-- no list is in the report, and no pair was put in
+unlisted : (f : File) (asked : Asked) (printed : Printed) (report : IsWorkersReport f asked printed) → f.pairs ≡ [] → asked.keys ≡ false → IsExplained (shape_of f) 0 [] f.programs f.jobs false report.ends report.lists report.closed.history
+unlisted f asked printed report bare none =
+    subst (λ (ps : List Pair). IsExplained (shape_of f) 0 (first_history ps) f.programs f.jobs false report.ends report.lists report.closed.history) bare
+    (subst (λ (keys : Bool). IsExplained (shape_of f) 0 (first_history f.pairs) f.programs f.jobs keys report.ends report.lists report.closed.history) none report.explained)
 
 -- what is printed of the history's end is printed of the machine that turns lead to
-told_alike : (f : File) (asked : Asked) (printed : Printed) (report : IsWorkersReport f asked printed) → asked.keys ≡ false → LeadsToo (machine_of f) f.jobs report.ends report.last → IsOutcome (machine_of f) f.names asked.maps printed.text printed.stopped
-told_alike f asked printed report none leads =
-    let explained = unlisted f asked printed report none in
+told_alike : (f : File) (asked : Asked) (printed : Printed) (report : IsWorkersReport f asked printed) → f.pairs ≡ [] → asked.keys ≡ false → LeadsToo (machine_of f) f.jobs report.ends report.last → IsOutcome (machine_of f) f.names asked.maps printed.text printed.stopped
+told_alike f asked printed report bare none leads =
+    let explained = unlisted f asked printed report bare none in
     let z : World = leads.world in
     let jobs : z.jobs ≡ as_ended f.jobs report.ends = ended_all f.jobs report.ends z.jobs explained.each_ended leads.size leads.each in
     -- the maps' names are those that the report has
@@ -83,15 +102,16 @@ told_alike f asked printed report none leads =
     let tells = subst (λ (ts : List Task). TellsWith [] z.store ts f.names asked.maps printed.text printed.stopped) (sym jobs) of_store in
     (leads.schedule, (z, leads.runs, subst HaveEnded (sym jobs) (have_ended f.jobs report.ends), tells))
 
-first : (f : File) → IsFirst (shape_of f) f.programs f.jobs (machine_of f)
-first f = record { store = refl; programs = refl; jobs = refl }
+first : (f : File) → f.pairs ≡ [] → IsFirst (shape_of f) f.programs f.jobs (machine_of f)
+first f bare = record { store = ap (filled (shape_of f)) bare; programs = refl; jobs = refl }
 
 pub workers_print_outcomes : HistoriesAreSchedules → WorkersPrintOutcomes
 workers_print_outcomes law f asked printed arrays none report =
-    told_alike f asked printed report none
-    (law (shape_of f) f.programs f.jobs report.ends report.lists report.closed.history report.last (machine_of f) arrays (first f) (unlisted f asked printed report none) report.leads.legal)
+    let bare = no_pairs (shape_of f) f.pairs report.explained.rest report.closed.history arrays.maps report.explained.legal report.explained.begins in
+    told_alike f asked printed report bare none
+    (law (shape_of f) f.programs f.jobs report.ends report.lists report.closed.history report.last (machine_of f) arrays (first f bare) (unlisted f asked printed report bare none) report.leads.legal)
 
 pub calm_workers_print_outcomes : CalmHistoriesAreSchedules → CalmWorkersPrintOutcomes
-calm_workers_print_outcomes law f asked printed shape few fresh steps none report =
-    told_alike f asked printed report none
-    (law (shape_of f) f.programs f.jobs report.ends report.lists report.closed.history report.last (machine_of f) shape few (first f) fresh steps (unlisted f asked printed report none) report.leads.legal)
+calm_workers_print_outcomes law f asked printed shape bare few fresh steps none report =
+    told_alike f asked printed report bare none
+    (law (shape_of f) f.programs f.jobs report.ends report.lists report.closed.history report.last (machine_of f) shape few (first f bare) fresh steps (unlisted f asked printed report bare none) report.leads.legal)

@@ -1,5 +1,5 @@
 -- What a history of a store explains, turns lead to.
-use Rattle.std.specs.Prelude.{◌≡◌, ℕ, ◌<◌, ◌^◌, false, List, length}
+use Rattle.std.specs.Prelude.{◌≡◌, ℕ, ◌<◌, ◌^◌, false, List, [], length}
 use Rattle.bpf_shared.specs.declared.events.Entry.{Entry}
 use Rattle.bpf_shared.specs.Shape.{Shape, IsShape}
 use Rattle.bpf_shared.specs.Store.{Plain, as_made}
@@ -28,7 +28,7 @@ HistoriesAreSchedules =
     (h : Shape) (programs : List Loaded) (tasks : List Task) (ends : List Outcome)
     (lists : ℕ → List (List (List ℕ))) (history : List Entry) (last : Plain) (w : World)
     → HasArraysAlone h programs tasks → IsFirst h programs tasks w
-    → IsExplained h 0 programs tasks false ends lists history → Legal (as_made h) history last
+    → IsExplained h 0 [] programs tasks false ends lists history → Legal (as_made h) history last
     → LeadsToo w tasks ends last
 
 -- the same, with hash maps or without, where each step that turns reach is one event at most, and none
@@ -38,5 +38,5 @@ CalmHistoriesAreSchedules =
     (h : Shape) (programs : List Loaded) (tasks : List Task) (ends : List Outcome)
     (lists : ℕ → List (List (List ℕ))) (history : List Entry) (last : Plain) (w : World)
     → IsShape h → length tasks < 2 ^ 62 → IsFirst h programs tasks w → IsFresh w → StepsAreCalm w
-    → IsExplained h 0 programs tasks false ends lists history → Legal (as_made h) history last
+    → IsExplained h 0 [] programs tasks false ends lists history → Legal (as_made h) history last
     → LeadsToo w tasks ends last

@@ -35,8 +35,8 @@ pub fn workers_print_outcomes()
     histories_are_schedules();
 }
 
-/// The same, where each step that turns reach is one event at most, and none asks for a change of a
-/// hash map.
+/// Where no map has a pair at first, each step that turns reach is one event at most, and none asks for
+/// a change of a hash map: what worker threads print is one of what turns lead to.
 pub fn calm_workers_print_outcomes()
     ensures { CalmWorkersPrintOutcomes }
 {

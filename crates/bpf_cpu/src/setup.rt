@@ -2,6 +2,7 @@
 
 use crate::job::Job;
 use bpf_loader::Program;
+use bpf_pairs::Pair;
 use bpf_shared::StoreShape;
 
 /// What a machine is made of, before its first turn.
@@ -9,6 +10,8 @@ use bpf_shared::StoreShape;
 pub struct Setup {
     /// How many CPUs there are, the maps and the arrays by their numbers.
     pub shape: StoreShape,
+    /// What the maps have at first, in the order in which it is put in.
+    pub pairs: Vec<Pair>,
     /// The programs, by the numbers that jobs have.
     pub programs: Vec<Program>,
     /// The jobs, in their order.

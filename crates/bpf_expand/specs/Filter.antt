@@ -5,6 +5,7 @@ use Rattle.std.specs.declared.alloc.AllocError.{AllocError}
 use Rattle.hex.specs.Hex.{decode_of}
 use Rattle.bpf_shared.specs.Shape.{Shape}
 use Rattle.bpf_names.specs.Names.{Names}
+use Rattle.bpf_pairs.specs.Pairs.{Pair}
 use Rattle.bpf_loader.specs.Loaded.{Loaded}
 use Rattle.bpf_cpu.specs.Setup.{named_in}
 use Rattle.bpf_cpu.specs.Task.{Task}
@@ -42,9 +43,9 @@ new_filter patient races shape names programs jobs = record {
 }
 
 -- the line of the first state
-abbrev pub IsFirstLine : Shape → List Loaded → List Task → List ℕ → Type 0
-IsFirstLine shape programs jobs line = (m : MachineState) × (bytes : List ℕ)
-    × Shows m (first_world shape programs jobs)
+abbrev pub IsFirstLine : Shape → List Pair → List Loaded → List Task → List ℕ → Type 0
+IsFirstLine shape pairs programs jobs line = (m : MachineState) × (bytes : List ℕ)
+    × Shows m (first_world shape pairs programs jobs)
     × IsStateOf (host_of false shape programs jobs) m bytes × (line ≡ state_line bytes)
 
 -- no CPU has work, and this is printed of the jobs, maps and arrays

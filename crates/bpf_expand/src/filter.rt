@@ -6,6 +6,7 @@ ghost use Rattle.bpf_cpu.specs.Setup.{IsRunnable, named_in};
 ghost use Rattle.bpf_cpu.specs.Task.{waiting};
 ghost use Rattle.bpf_machine.specs.Machine.{Shows};
 ghost use Rattle.bpf_jobs.specs.Printed.{first_of};
+ghost use Rattle.bpf_pairs.specs.Pairs.{pair_of};
 ghost use Rattle.bpf_expand.specs.Filter.{IsFirstLine, host_of, new_filter};
 ghost use Rattle.bpf_expand.specs.Lines.{no_state_line};
 ghost use Rattle.bpf_expand.specs.Private.Races.{TellsRaces};
@@ -302,8 +303,8 @@ impl Filter {
 /// The line of the first state of jobs over a new store.
 pub fn first_line(alloc: Global, setup: Setup) -> Result<String, AllocError>
     requires { IsRunnable setup }
-    ensures { IfOk result (λ text. IsFirstLine setup.shape setup.programs.items
-        (map waiting setup.jobs.items) (string_bytes text)) }
+    ensures { IfOk result (λ text. IsFirstLine setup.shape (map pair_of setup.pairs.items)
+        setup.programs.items (map waiting setup.jobs.items) (string_bytes text)) }
 {
     let expander = open(alloc, false, setup)?;
     let bytes = expander.state()?;

@@ -7,6 +7,8 @@ use Rattle.bpf_base.proofs.Lists.{slice_get-front}
 use Rattle.bpf_mem.specs.Limits.{max_context}
 use Rattle.bpf_shared.specs.Shape.{Shape}
 use Rattle.bpf_names.specs.Names.{Names}
+use Rattle.bpf_pairs.specs.Pairs.{Pair}
+use Rattle.bpf_pairs.proofs.Filling.{filled_shape}
 use Rattle.bpf_loader.specs.Loaded.{Loaded}
 use Rattle.bpf_cpu.specs.declared.job.Job.{Job}
 use Rattle.bpf_cpu.specs.Task.{Task, Waiting, waiting}
@@ -27,8 +29,11 @@ use Rattle.bpf_explore.proofs.TrailLaws.{are_reached}
 use Rattle.bpf_explore.specs.Private.Answers.{IsFirst, IsAnsweredAt, StartsFresh}
 
 -- ---- the first machine
-pub first_shape : (h : Shape) (m : MachineState) (programs : List Loaded) (jobs : List Task) → Shows m (first_world h programs jobs) → IsOfShape h m.store
-first_shape h m programs jobs shows = (sym shows.store.shape, λ c. ap (λ (n : ℕ). nat_lt c n) (sym shows.store.maps.cpus))
+pub first_shape : (h : Shape) (m : MachineState) (pairs : List Pair) (programs : List Loaded) (jobs : List Task) → Shows m (first_world h pairs programs jobs) → IsOfShape h m.store
+first_shape h m pairs programs jobs shows = (
+  sym shows.store.shape ∙ filled_shape h pairs,
+  λ c. ap (λ (n : ℕ). nat_lt c n) (sym shows.store.maps.cpus ∙ ap (λ (k : Shape). k.cpus) (filled_shape h pairs)),
+)
 
 none_of : (o : Option (List Listing)) → first_lists false ≡ listing_at o → o ≡ None
 none_of None e = refl
@@ -36,8 +41,8 @@ none_of (Some all) e =
     let two : Never ≡ Due = ap (λ (f : ℕ → Listing). f (length all)) e ∙ get_or_past all (length all) Due (omega arith) in
     cc
 
-pub first_lists_none : (h : Shape) (m : MachineState) (programs : List Loaded) (jobs : List Task) → Shows m (first_world h programs jobs) → m.lists ≡ None
-first_lists_none h m programs jobs shows = none_of m.lists shows.lists
+pub first_lists_none : (h : Shape) (m : MachineState) (pairs : List Pair) (programs : List Loaded) (jobs : List Task) → Shows m (first_world h pairs programs jobs) → m.lists ≡ None
+first_lists_none h m pairs programs jobs shows = none_of m.lists shows.lists
 
 -- each job waits
 job_waits : (jobs : List Job) → All (λ job. vec_len job.context ≤ max_context) jobs → (j : ℕ) (task : Task) → slice_get (map waiting jobs) j ≡ Some task
@@ -50,8 +55,8 @@ job_waits (x ∷ xs) all zero task at =
     (x.context.items, sym (ap (λ (t : Task). t.stage) same), omega arith)
 job_waits (x ∷ xs) all (suc j) task at = job_waits xs (λ k d h. all (suc k) d (omega arith)) j task at
 
-pub first_fresh : (h : Shape) (m : MachineState) (programs : List Loaded) (jobs : List Job) → All (λ job. vec_len job.context ≤ max_context) jobs → Shows m (first_world h programs (map waiting jobs)) → IsFresh (first_world h programs (map waiting jobs))
-first_fresh h m programs jobs short shows = record { store = shows.sound; waits = job_waits jobs short }
+pub first_fresh : (h : Shape) (m : MachineState) (pairs : List Pair) (programs : List Loaded) (jobs : List Job) → All (λ job. vec_len job.context ≤ max_context) jobs → Shows m (first_world h pairs programs (map waiting jobs)) → IsFresh (first_world h pairs programs (map waiting jobs))
+first_fresh h m pairs programs jobs short shows = record { store = shows.sound; waits = job_waits jobs short }
 
 -- ---- what is kept first
 pub first_shown : (kept : List MachineState) (m : MachineState) (w : World) → ShowsFirst kept m → Shows m w → IsShownAt kept 0 w

@@ -17,7 +17,7 @@ use Rattle.bpf_file.specs.Parts.{Part}
 
 -- ---- what is said of one array
 
-padded_size : (end : ℕ) (bytes : List ℕ) → length (up_to end bytes) ≡ length bytes + (end - length bytes)
+pub padded_size : (end : ℕ) (bytes : List ℕ) → length (up_to end bytes) ≡ length bytes + (end - length bytes)
 padded_size end bytes =
     length-append bytes (replicate (end - length bytes) 0) ∙ ap (λ n. length bytes + n) (length-replicate (end - length bytes) 0)
 

@@ -1,25 +1,26 @@
 -- What a line says determines its first word, and so which lines may be before it.
 use Rattle.std.proofs.Common.{◌≡◌, ℕ, zero, suc, ◌*◌, ◌-◌, ◌%◌, ◌^◌, ◌<◌, ◌≤◌, ◌==◌, nat_lt, nat_le, Bool, true, false, not, ◌&&◌, ◌||◌, if◌then◌else◌, List, [], ◌∷◌, ◌++◌, length, Option, Some, None, Result, Ok, Err, ◌⊎◌, inl, inr, refl, sym, ap, subst, ◌∙◌, arith}
 use Rattle.std.specs.Prelude.{slice_get}
+use Rattle.std.specs.List.{before_first}
 use Rattle.std.proofs.lemmas.Bool.Decides.{nat_tests}
 use Rattle.std.proofs.lemmas.Slice.Eq.{bytes_eq-Decides}
 use Rattle.bpf_mem.specs.Limits.{max_context}
 use Rattle.bpf_file.specs.declared.error.Reason.{Reason}
 use Rattle.bpf_file.specs.declared.error.Reason.TheVariants as reason
 use Rattle.bpf_file.specs.declared.form.Part.{Part as Piece}
-use Rattle.bpf_file.specs.declared.form.Part.TheVariants.{Word, Context}
+use Rattle.bpf_file.specs.declared.form.Part.TheVariants.{Word, Name, Context}
 use Rattle.bpf_file.specs.declared.key.Key.{Key}
 use Rattle.bpf_file.specs.declared.key.Key.TheVariants as key
 use Rattle.bpf_file.specs.declared.line.LineError.{LineError}
 use Rattle.bpf_file.specs.declared.line.LineError.TheVariants as line
 use Rattle.bpf_file.specs.Key.{key_text, is_key}
-use Rattle.bpf_file.specs.Form.{is_part, has_form, field_at, version_form, second_version_form, third_version_form, cpus_form, seed_form, map_form, masked_map_form, growing_map_form, growing_masked_map_form, array_form, per_cpu_form, frozen_form, variable_form, data_form, program_form, words_form, job_form, budget_form, context_form}
+use Rattle.bpf_file.specs.Form.{is_part, has_form, field_at, version_form, second_version_form, third_version_form, cpus_form, seed_form, map_form, masked_map_form, growing_map_form, growing_masked_map_form, array_form, per_cpu_form, frozen_form, variable_form, data_form, put_form, put_numbers_form, program_form, words_form, job_form, budget_form, context_form}
 use Rattle.bpf_shared.specs.Access.{bytes_in}
 use Rattle.bpf_shared.specs.declared.events.Size.{Size}
 use Rattle.bpf_base.specs.declared.budget.TheConstants.{MAX_BUDGET}
 use Rattle.bpf_file.specs.declared.version.Version.{Version as Edition}
 use Rattle.bpf_file.specs.Version.{may_grow, has_arrays}
-use Rattle.bpf_file.specs.Statement.{Said, Version, Cpus, Seed, Map, Array, Data, Variable, Program, Words, Job, most_count, count_at, with_number, map_said, array_said, size_of, variable_at, variable_said, work_of, arrays_of, growing_of, statement_of}
+use Rattle.bpf_file.specs.Statement.{Said, Version, Cpus, Seed, Map, Array, Data, Variable, Put, PutNumbers, Program, Words, Job, most_count, count_at, with_number, map_said, array_said, size_of, variable_at, variable_said, size_named, key_number, is_open, with_size, numbers_said, work_of, arrays_of, growing_of, statement_of}
 use Rattle.bpf_file.specs.Parts.{Part, group_of, is_in_order, is_full}
 use Rattle.bpf_file.specs.Rows.{first_said, later_said, may_stand, placed}
 use Rattle.bpf_file.proofs.Names.{and_both}
@@ -34,6 +35,8 @@ said_group (Map name h) = 4
 said_group (Array name g) = 5
 said_group (Data name at digits) = 6
 said_group (Variable name array at size) = 6
+said_group (Put name key value) = 6
+said_group (PutNumbers name key size numbers) = 6
 said_group (Program name) = 7
 said_group (Words name digits) = 7
 said_group (Job cpu name steps context) = 8
@@ -108,6 +111,17 @@ variables_tell f fields e =
     numbered f (count_at fields 4 most_count) _ (λ bytes.
     sized_tell f (field_at fields 1) (field_at fields 2) at (size_of bytes) e))
 
+sizes_tell : (f name : List ℕ) (k : ℕ) (size : Option Size) (numbers : List ℕ) → group_of f ≡ 6 → TellsAll f (with_size size (λ s. Ok (PutNumbers name k s numbers)))
+sizes_tell f name k None numbers e = tt
+sizes_tell f name k (Some size) numbers e = (e, tt)
+
+numbers_tell : (f : List ℕ) (fields : List (List ℕ)) → group_of f ≡ 6 → TellsAll f (numbers_said fields)
+numbers_tell f fields e =
+    let name = before_first is_open (field_at fields 1) in
+    either f (is_part Name name) _ _ (λ h.
+    numbered f (key_number (field_at fields 1)) _ (λ k.
+    sizes_tell f name k (size_named (field_at fields 3)) (field_at fields 5) e)) tt
+
 short_at : (ps : List Piece) (fs : List (List ℕ)) (i : ℕ) → has_form ps fs ≡ true → slice_get ps i ≡ Some Context → length (field_at fs i) ≤ 2 * max_context
 short_at ps fs i e h = let d = part_at ps fs i Context e h in grind (arith, nat_tests)
 
@@ -139,7 +153,10 @@ all_arrays_tell f fs =
     numbered f (count_at (f ∷ fs) 2 most_count) _ (λ at. (worded key.Data data_form f fs 6 refl refl h, tt)))
     (either f (has_form variable_form (f ∷ fs)) _ _ (λ h.
     variables_tell f (f ∷ fs) (worded key.Variable variable_form f fs 6 refl refl h))
-    (jobs_tell f fs))))))
+    (either f (has_form put_form (f ∷ fs)) _ _ (λ h. (worded key.Put put_form f fs 6 refl refl h, tt))
+    (either f (has_form put_numbers_form (f ∷ fs)) _ _ (λ h.
+    numbers_tell f (f ∷ fs) (worded key.Put put_numbers_form f fs 6 refl refl h))
+    (jobs_tell f fs))))))))
 
 grows_tell : (version : Edition) (f : List ℕ) (fs : List (List ℕ)) → TellsAll f (growing_of version (f ∷ fs))
 grows_tell version f fs =
@@ -200,6 +217,8 @@ only_version (Ok (Map name h)) s e = absurd (no_said (first_said (Ok (Map name h
 only_version (Ok (Array name g)) s e = absurd (no_said (first_said (Ok (Array name g))) s refl e)
 only_version (Ok (Data name at digits)) s e = absurd (no_said (first_said (Ok (Data name at digits))) s refl e)
 only_version (Ok (Variable name array at size)) s e = absurd (no_said (first_said (Ok (Variable name array at size))) s refl e)
+only_version (Ok (Put name key value)) s e = absurd (no_said (first_said (Ok (Put name key value))) s refl e)
+only_version (Ok (PutNumbers name key size numbers)) s e = absurd (no_said (first_said (Ok (PutNumbers name key size numbers))) s refl e)
 only_version (Ok (Program name)) s e = absurd (no_said (first_said (Ok (Program name))) s refl e)
 only_version (Ok (Words name digits)) s e = absurd (no_said (first_said (Ok (Words name digits))) s refl e)
 only_version (Ok (Job cpu name steps context)) s e = absurd (no_said (first_said (Ok (Job cpu name steps context))) s refl e)

@@ -1,9 +1,10 @@
 -- The sizes of a file stay in their ranges, and its jobs and programs those of a machine, line by
 -- line.
-use Rattle.std.proofs.Common.{◌≡◌, ℕ, ◌+◌, ◌*◌, ◌/◌, ◌<◌, ◌≤◌, ◌==◌, nat_lt, nat_le, add-zero, Bool, true, false, if◌then◌else◌, List, [], ◌∷◌, ◌++◌, length, length-append, get_or, append_assoc, append-nil, Option, Some, None, Result, Ok, Err, refl, sym, ap, subst, ◌∙◌, arith}
+use Rattle.std.proofs.Common.{◌≡◌, ℕ, ◌+◌, ◌-◌, ◌*◌, ◌/◌, ◌<◌, ◌≤◌, ◌==◌, ◌&&◌, nat_lt, nat_le, add-zero, Bool, true, false, if◌then◌else◌, List, [], ◌∷◌, ◌++◌, length, length-append, get_or, append_assoc, append-nil, Option, Some, None, Result, Ok, Err, refl, sym, ap, subst, ◌∙◌, arith}
 use Rattle.std.proofs.lemmas.Bool.Decides.{nat_tests}
 use Rattle.std.specs.Prelude.{All, OnOk, MatchResult, slice_get}
 use Rattle.std.proofs.lemmas.List.{length-set}
+use Rattle.std.proofs.lemmas.Nat.{row_fits_turned}
 use Rattle.std.specs.Str.{bytes_eq}
 use Rattle.std.proofs.lemmas.List.Elements.{All-nil, All-cons, All-append}
 use Rattle.hex.specs.Hex.{decode_of}
@@ -12,14 +13,21 @@ use Rattle.bpf_insn.specs.declared.instruction.Insn.{Insn}
 use Rattle.bpf_mem.specs.Limits.{max_context}
 use Rattle.bpf_cpu.specs.Task.{Task, Waiting}
 use Rattle.bpf_lines.specs.Lines.{lines_of, fields_of}
+use Rattle.bpf_lines.specs.Words.{written_number}
 use Rattle.std.specs.Option.{option_map}
 use Rattle.hex.specs.declared.error.FromHexError.{FromHexError}
 use Rattle.bpf_shared.specs.First.{first_of}
+use Rattle.bpf_base.specs.Bytes.{low_bytes, modulus}
+use Rattle.bpf_base.proofs.Numbers.{length-low_bytes}
+use Rattle.bpf_shared.specs.Shape.{IsMap, IsPairOf, array_stride, copy_size}
+use Rattle.bpf_shared.proofs.Refusing.{array_passes, arrays_in_range}
+use Rattle.bpf_pairs.specs.Pairs.{ArePairs, Pair, has_key, pairs_in}
+use Rattle.bpf_pairs.proofs.Filling.{are_more}
 use Rattle.bpf_shared.specs.Refusals.{outside, map_tests, maps_tests, shape_tests, array_tests, each_array_tests}
 use Rattle.bpf_shared.specs.declared.shapes.ArrayShape.{ArrayShape}
 use Rattle.bpf_shared.specs.declared.shapes.MapShape.{MapShape}
 use Rattle.bpf_shared.specs.declared.shapes.ShapeError.{ShapeError}
-use Rattle.bpf_shared.specs.declared.shapes.ShapeError.TheVariants.{CpuCount, TooManyMaps, TooManyArrays}
+use Rattle.bpf_shared.specs.declared.shapes.ShapeError.TheVariants.{CpuCount, TooManyMaps, TooManyArrays, ArrayContents}
 use Rattle.bpf_shared.specs.declared.events.Size.{Size}
 use Rattle.bpf_names.specs.Names.{Variable as Bytes}
 use Rattle.bpf_loader.specs.declared.named.Named.{Named}
@@ -30,20 +38,22 @@ use Rattle.bpf_file.specs.declared.error.FileError.TheVariants.{Refused}
 use Rattle.bpf_file.specs.declared.error.Reason.{Reason}
 use Rattle.bpf_file.specs.declared.error.Reason.TheVariants as reason
 use Rattle.bpf_file.specs.Form.{is_there}
-use Rattle.bpf_file.specs.Statement.{Said, Version, Cpus, Seed, Map, Array, Data, Variable, Program, Words, Job, statement_of}
+use Rattle.bpf_file.specs.Limits.{most_pairs}
+use Rattle.bpf_file.specs.Statement.{Said, Version, Cpus, Seed, Map, Array, Data, Variable, Put, PutNumbers, Program, Words, Job, statement_of}
 use Rattle.bpf_file.specs.File.{File, named_by}
-use Rattle.bpf_file.specs.Contents.{laid}
-use Rattle.bpf_file.specs.Parts.{Part, State, Between, Within, nothing, is_taken, place_of, array_place, with_first, with_cpus, with_seed, with_map, with_array, with_data, with_variable, with_program, with_job}
+use Rattle.bpf_file.specs.Contents.{laid, up_to}
+use Rattle.bpf_file.specs.Parts.{Part, State, Between, Within, nothing, is_taken, place_of, array_place, with_first, with_cpus, with_seed, with_map, with_array, with_data, with_pair, with_variable, with_program, with_job}
 use Rattle.bpf_text.specs.Symbols.{Table}
 use Rattle.bpf_file.specs.Symbols.{names_for}
 use Rattle.bpf_file.specs.Programs.{LoadsProgram, OfBytes, OfAssembly, refusal_behind, text_of_lines}
-use Rattle.bpf_file.specs.Rows.{unless, cpus_refusal, map_refusal, array_refusal, size_refusal, data_refusal, data_laid, or_refused, data_added, name_refusal, place_refusal, variable_added, program_added, WordsAdd, served, steps_of, context_of, job_added, placed, AddsLine}
+use Rattle.bpf_file.specs.Rows.{unless, cpus_refusal, map_refusal, array_refusal, size_refusal, data_refusal, data_laid, or_refused, data_added, name_refusal, place_refusal, variable_added, is_sized, is_numbered, pair_refusal, pair_put, key_put, pair_added, value_place, element_put, element_added, numbered_bytes, pair_numbered, element_numbered, numbers_added, put_added, program_added, WordsAdd, served, steps_of, context_of, job_added, placed, AddsLine}
 use Rattle.bpf_file.specs.Reading.{AddsOrRefuses, FieldsSay, is_end, Belongs, ReadsLine, finished, AreRead}
 use Rattle.bpf_file.specs.Runnable.{IsJobFor, CanRun}
 use Rattle.bpf_file.specs.Laws.{FilesCanRun}
 use Rattle.bpf_file.specs.Private.Drafts.{Ends}
 use Rattle.bpf_file.specs.Private.Fits.{IsFit, IsFitState, IsFitResult}
-use Rattle.bpf_file.proofs.Arrays.{arrays_with_new, arrays_with_data}
+use Rattle.bpf_file.proofs.Arrays.{arrays_with_new, arrays_with_data, padded_size}
+use Rattle.bpf_file.proofs.Names.{and_both}
 use Rattle.bpf_file.proofs.Comes.{IsShort, IsInPlace, Comes, before, comes}
 
 -- ---- tests of maps
@@ -68,11 +78,14 @@ maps_tests-append (g ∷ hs) m h =
 -- ---- programs and jobs
 
 -- before any job and program, a machine of no work
-no_work : (f : File) → f.jobs ≡ [] → f.programs ≡ [] → CanRun f
-no_work f e h =
+none_are : (maps : List MapShape) → ArePairs maps []
+none_are maps = record { sized = All-nil (λ p. IsPairOf maps p.map p.key p.value); new = tt; room = λ m g at. omega arith }
+
+no_work : (f : File) → f.jobs ≡ [] → f.programs ≡ [] → ArePairs f.maps f.pairs → CanRun f
+no_work f e h ps =
     let J : List Task → Type 0 = λ ts. All (IsJobFor f.cpus (length f.programs)) ts in
     let M : List Loaded → Type 0 = λ ps. All (λ q. q.named ≡ named_by f) ps in
-    record { jobs = subst J (sym e) (All-nil (IsJobFor f.cpus (length f.programs))); named = subst M (sym h) (All-nil (λ q. q.named ≡ named_by f)) }
+    record { jobs = subst J (sym e) (All-nil (IsJobFor f.cpus (length f.programs))); named = subst M (sym h) (All-nil (λ q. q.named ≡ named_by f)); pairs = ps }
 
 -- loaded for these maps and arrays
 abbrev LoadedFor : Named → Result Loaded FileError → Type 0
@@ -132,8 +145,9 @@ fit_nothing = record {
   arrays = refl;
   contents = refl;
   titles = refl;
-  runs = no_work nothing.file refl refl;
+  runs = no_work nothing.file refl refl (none_are []);
   no_arrays = λ h. refl;
+  no_pairs = λ h. refl;
   no_programs = λ h. refl;
   no_jobs = λ h. refl;
 }
@@ -156,8 +170,11 @@ idle p group f h g = (f.no_jobs (before p.group group 8 h (omega arith)), f.no_p
 no_arrays_at : (p : Part) (group : ℕ) → IsFit p → IsInPlace p.group group → group < 5 → p.file.arrays ≡ []
 no_arrays_at p group f h g = f.no_arrays (before p.group group 5 h g)
 
-fit_first : (p : Part) (version : Edition) → IsFit p → IsIdle p → p.file.arrays ≡ [] → IsFit (with_first p version)
-fit_first p version f i a = record {
+no_pairs_at : (p : Part) (group : ℕ) → IsFit p → IsInPlace p.group group → group < 6 → p.file.pairs ≡ []
+no_pairs_at p group f h g = f.no_pairs (before p.group group 6 h g)
+
+fit_first : (p : Part) (version : Edition) → IsFit p → IsIdle p → p.file.arrays ≡ [] → p.file.pairs ≡ [] → IsFit (with_first p version)
+fit_first p version f i a b = record {
   cpus = f.cpus;
   count = f.count;
   maps = f.maps;
@@ -167,12 +184,13 @@ fit_first p version f i a = record {
   titles = f.titles;
   runs = f.runs;
   no_arrays = λ h. a;
+  no_pairs = λ h. b;
   no_programs = λ h. i.1;
   no_jobs = λ h. i.0;
 }
 
-fit_cpus : (p : Part) (c : ℕ) → IsFit p → IsIdle p → p.file.arrays ≡ [] → cpus_refusal c ≡ None → IsFit (with_cpus p c)
-fit_cpus p c f i a e =
+fit_cpus : (p : Part) (c : ℕ) → IsFit p → IsIdle p → p.file.arrays ≡ [] → p.file.pairs ≡ [] → cpus_refusal c ≡ None → IsFit (with_cpus p c)
+fit_cpus p c f i a b e =
     let A : List ArrayShape → Type 0 = λ gs. first_of (each_array_tests c p.file.contents 0 gs) ≡ None in
     record {
       cpus = cpus_in_range (outside 1 16 c) e;
@@ -182,14 +200,15 @@ fit_cpus p c f i a e =
       arrays = subst A (sym a) refl;
       contents = f.contents;
       titles = f.titles;
-      runs = no_work (with_cpus p c).file i.0 i.1;
+      runs = no_work (with_cpus p c).file i.0 i.1 f.runs.pairs;
       no_arrays = λ h. a;
+      no_pairs = λ h. b;
       no_programs = λ h. i.1;
       no_jobs = λ h. i.0;
     }
 
-fit_seed : (p : Part) (s : ℕ) → IsFit p → IsIdle p → p.file.arrays ≡ [] → IsFit (with_seed p s)
-fit_seed p s f i a = record {
+fit_seed : (p : Part) (s : ℕ) → IsFit p → IsIdle p → p.file.arrays ≡ [] → p.file.pairs ≡ [] → IsFit (with_seed p s)
+fit_seed p s f i a b = record {
   cpus = f.cpus;
   count = f.count;
   maps = f.maps;
@@ -197,8 +216,9 @@ fit_seed p s f i a = record {
   arrays = f.arrays;
   contents = f.contents;
   titles = f.titles;
-  runs = no_work (with_seed p s).file i.0 i.1;
+  runs = no_work (with_seed p s).file i.0 i.1 f.runs.pairs;
   no_arrays = λ h. a;
+  no_pairs = λ h. b;
   no_programs = λ h. i.1;
   no_jobs = λ h. i.0;
 }
@@ -215,8 +235,8 @@ one_more n m e h = grind (arith, nat_tests)
 from_zero : (n : ℕ) → 0 + n ≡ n
 from_zero n = omega arith
 
-fit_map : (p : Part) (name : List ℕ) (h : MapShape) → IsFit p → IsIdle p → p.file.arrays ≡ [] → map_refusal p name h ≡ None → IsFit (with_map p name h)
-fit_map p name h f i a e =
+fit_map : (p : Part) (name : List ℕ) (h : MapShape) → IsFit p → IsIdle p → p.file.arrays ≡ [] → p.file.pairs ≡ [] → map_refusal p name h ≡ None → IsFit (with_map p name h)
+fit_map p name h f i a b e =
     let passed = one_passes (is_taken p.file name) (nat_le 16 (length p.file.maps)) TooManyMaps (first_of (map_tests (length p.file.maps) h)) e in
     record {
       cpus = f.cpus;
@@ -228,14 +248,15 @@ fit_map p name h f i a e =
       arrays = f.arrays;
       contents = f.contents;
       titles = f.titles;
-      runs = no_work (with_map p name h).file i.0 i.1;
+      runs = no_work (with_map p name h).file i.0 i.1 (subst (ArePairs (p.file.maps ++ h ∷ [])) (sym b) (none_are (p.file.maps ++ h ∷ [])));
       no_arrays = λ h. a;
+      no_pairs = λ h. b;
       no_programs = λ h. i.1;
       no_jobs = λ h. i.0;
     }
 
-fit_array : (p : Part) (name : List ℕ) (g : ArrayShape) → IsFit p → IsIdle p → array_refusal p name g ≡ None → IsFit (with_array p name g)
-fit_array p name g f i e =
+fit_array : (p : Part) (name : List ℕ) (g : ArrayShape) → IsFit p → IsIdle p → p.file.pairs ≡ [] → array_refusal p name g ≡ None → IsFit (with_array p name g)
+fit_array p name g f i b e =
     let passed = one_passes (is_taken p.file name) (nat_le 16 (length p.file.arrays)) TooManyArrays (first_of (array_tests p.file.cpus 0 (length p.file.arrays) g)) e in
     let more = length-append p.file.arrays (g ∷ []) in
     let bytes = length-append p.file.contents ([] ∷ []) in
@@ -247,8 +268,9 @@ fit_array p name g f i e =
       arrays = arrays_with_new p.file.cpus p.file.contents p.file.arrays g f.contents f.arrays passed.1;
       contents = let counted = f.contents in omega (arith, more, bytes, counted);
       titles = f.titles;
-      runs = no_work (with_array p name g).file i.0 i.1;
+      runs = no_work (with_array p name g).file i.0 i.1 f.runs.pairs;
       no_arrays = λ h. absurd (omega arith);
+      no_pairs = λ h. b;
       no_programs = λ h. i.1;
       no_jobs = λ h. i.0;
     }
@@ -270,8 +292,9 @@ fit_laid p a at filled bytes counted f i e = by_array (slice_get p.file.arrays a
       arrays = arrays_with_data p.file.cpus p.file.contents p.file.arrays a g at filled bytes f.contents f.arrays h counted (none_passes _ e);
       contents = length-set p.file.contents a (laid (get_or p.file.contents a []) at bytes) ∙ f.contents;
       titles = f.titles;
-      runs = no_work (with_data p a at bytes).file i.0 i.1;
+      runs = no_work (with_data p a at bytes).file i.0 i.1 f.runs.pairs;
       no_arrays = λ h. absurd (omega arith);
+      no_pairs = λ h. absurd (omega arith);
       no_programs = λ h. i.1;
       no_jobs = λ h. i.0;
     }
@@ -300,8 +323,9 @@ fit_bytes p v f i = record {
   arrays = f.arrays;
   contents = f.contents;
   titles = f.titles;
-  runs = no_work (with_variable p v).file i.0 i.1;
+  runs = no_work (with_variable p v).file i.0 i.1 f.runs.pairs;
   no_arrays = λ h. absurd (omega arith);
+  no_pairs = λ h. absurd (omega arith);
   no_programs = λ h. i.1;
   no_jobs = λ h. i.0;
 }
@@ -310,6 +334,164 @@ fit_variable : (n : ℕ) (p : Part) (name : List ℕ) (k : Option ℕ) (at : ℕ
 fit_variable n p name None at size f i = tt
 fit_variable n p name (Some a) at size f i =
     fit_unless n (place_refusal a at size (slice_get p.file.arrays a)) _ (λ e. fit_bytes p (record { name = name; array = a; at = at; size = size }) f i)
+
+-- ---- pairs of maps
+
+nat_same : (a b : ℕ) → (a == b) ≡ true → a ≡ b
+nat_same a b e = grind (arith, nat_tests)
+
+below_max : (a b : ℕ) → nat_lt a b ≡ true → a < b
+below_max a b e = grind (arith, nat_tests)
+
+one_map_shape : (maps : List MapShape) (m : ℕ) (g h : MapShape) → IsMap maps m g → IsMap maps m h → g ≡ h
+one_map_shape maps m g h x y = let both : Some g ≡ Some h = sym x ∙ y in cc
+
+fit_pair : (p : Part) (q : Pair) → IsPairOf p.file.maps q.map q.key q.value → has_key q.map q.key p.file.pairs ≡ false → ((g : MapShape) → IsMap p.file.maps q.map g → pairs_in q.map p.file.pairs < g.max) → IsFit p → IsIdle p → IsFit (with_pair p q)
+fit_pair p q of new room f i = record {
+  cpus = f.cpus;
+  count = f.count;
+  maps = f.maps;
+  array_count = f.array_count;
+  arrays = f.arrays;
+  contents = f.contents;
+  titles = f.titles;
+  runs = no_work (with_pair p q).file i.0 i.1 (are_more p.file.maps p.file.pairs q f.runs.pairs of new room);
+  no_arrays = λ h. absurd (omega arith);
+  no_pairs = λ h. absurd (omega arith);
+  no_programs = λ h. i.1;
+  no_jobs = λ h. i.0;
+}
+
+-- a key and a value of a map's sizes, where there is room
+fit_pair_put : (n : ℕ) (p : Part) (q : Pair) (g : MapShape) → IsMap p.file.maps q.map g → pairs_in q.map p.file.pairs < g.max → length q.key ≡ g.key → length q.value ≡ g.value → IsFit p → IsIdle p → IsFitResult (pair_put n p q)
+fit_pair_put n p q g at room key value f i = by_new (has_key q.map q.key p.file.pairs) refl
+  where
+    by_new : (b : Bool) → has_key q.map q.key p.file.pairs ≡ b → IsFitResult (if b then Err (Refused n reason.BadPair) else Ok (Between (with_pair p q)))
+    by_new true e = tt
+    by_new false e = fit_pair p q (g, at, key, value) e (λ k to. subst (λ (x : MapShape). pairs_in q.map p.file.pairs < x.max) (one_map_shape p.file.maps q.map g k at to) room) f i
+
+fit_key_put : (n : ℕ) (p : Part) (m : ℕ) (g : MapShape) (key value : Result (List ℕ) FromHexError) → IsMap p.file.maps m g → pairs_in m p.file.pairs < g.max
+    → ((bytes : List ℕ) → key ≡ Ok bytes → length bytes ≡ g.key) → ((bytes : List ℕ) → value ≡ Ok bytes → length bytes ≡ g.value) → IsFit p → IsIdle p → IsFitResult (key_put n p m key value)
+fit_key_put n p m g (Err e) value at room hk hv f i = tt
+fit_key_put n p m g (Ok key) (Ok value) at room hk hv f i = fit_pair_put n p (record { map = m; key = key; value = value }) g at room (hk key refl) (hv value refl) f i
+fit_key_put n p m g (Ok key) (Err e) at room hk hv f i = by_new (has_key m key p.file.pairs)
+  where
+    by_new : (b : Bool) → IsFitResult (if b then Err (Refused n reason.BadPair) else Err (Refused n reason.NotHex))
+    by_new true = tt
+    by_new false = tt
+
+-- what passes the tests of sizes and of room
+pair_passes : (many fits room : Bool) → (if many then Some reason.BadLine else (if fits && room then None else Some reason.BadPair)) ≡ None → (fits ≡ true) × (room ≡ true)
+pair_passes true fits room e = cc
+pair_passes false false room e = cc
+pair_passes false true false e = cc
+pair_passes false true true e = (refl, refl)
+
+fit_room : (n : ℕ) (p : Part) (m : ℕ) (fits : Bool) (g : MapShape) (r : Result State FileError) → (fits ≡ true → pairs_in m p.file.pairs < g.max → IsFitResult r) → IsFitResult (or_refused n (pair_refusal p.file m fits g) r)
+fit_room n p m fits g r h = by_refusal (pair_refusal p.file m fits g) refl
+  where
+    by_refusal : (o : Option Reason) → pair_refusal p.file m fits g ≡ o → IsFitResult (or_refused n o r)
+    by_refusal (Some why) e = tt
+    by_refusal None e =
+        let passed = pair_passes (nat_le most_pairs (length p.file.pairs)) fits (nat_lt (pairs_in m p.file.pairs) g.max) e in
+        h passed.0 (below_max (pairs_in m p.file.pairs) g.max passed.1)
+
+-- by digits
+half : (digits bytes : List ℕ) (size : ℕ) → length digits / 2 ≡ size → decode_of digits ≡ Ok bytes → length bytes ≡ size
+half digits bytes size e h =
+    let twice : length digits ≡ 2 * length bytes = (decode_of-ok digits bytes h).2 in
+    omega (arith, twice, e)
+
+fit_digits : (n : ℕ) (p : Part) (m : ℕ) (key value : List ℕ) (o : Option MapShape) → slice_get p.file.maps m ≡ o → IsFit p → IsIdle p → IsFitResult (pair_added n p m key value o)
+fit_digits n p m key value None at f i = tt
+fit_digits n p m key value (Some g) at f i =
+    fit_room n p m (is_sized (length key / 2) (length value / 2) g) g _ (λ e room.
+    (let both = and_both (length key / 2 == g.key) (length value / 2 == g.value) e in
+    fit_key_put n p m g (decode_of key) (decode_of value) at room
+    (λ bytes h. half key bytes g.key (nat_same (length key / 2) g.key both.0) h)
+    (λ bytes h. half value bytes g.value (nat_same (length value / 2) g.value both.1) h) f i))
+
+-- by numbers
+full : (size : ℕ) (bytes : List ℕ) → length bytes ≤ size → length (up_to size bytes) ≡ size
+full size bytes short = let whole = padded_size size bytes in omega (arith, short, whole)
+
+no_longer : (size : ℕ) (bytes : List ℕ) → nat_le (length bytes) size ≡ true → length bytes ≤ size
+no_longer size bytes e = grind (arith, nat_tests)
+
+fit_pair_numbered : (n : ℕ) (p : Part) (m k : ℕ) (bytes : List ℕ) (o : Option MapShape) → slice_get p.file.maps m ≡ o → IsFit p → IsIdle p → IsFitResult (pair_numbered n p m k bytes o)
+fit_pair_numbered n p m k bytes None at f i = tt
+fit_pair_numbered n p m k bytes (Some g) at f i =
+    fit_room n p m (is_numbered k (length bytes) g) g _ (λ e room.
+    (let both = and_both (nat_lt k (modulus g.key)) (nat_le (length bytes) g.value) e in
+    fit_pair_put n p (record { map = m; key = low_bytes g.key k; value = up_to g.value bytes }) g at room
+    (length-low_bytes g.key k) (full g.value bytes (no_longer g.value bytes both.1)) f i))
+
+-- ---- values of arrays
+fit_value : (p : Part) (a i : ℕ) (g : ArrayShape) (bytes : List ℕ) → slice_get p.file.arrays a ≡ Some g → i < g.max → length bytes ≤ g.value → IsFit p → IsIdle p → IsFit (with_data p a (i * array_stride g) bytes)
+fit_value p a i g bytes at below short f idle =
+    fit_laid p a (i * array_stride g) (i * array_stride g + length bytes) bytes refl f idle
+    (ap (size_refusal p.file.cpus (i * array_stride g + length bytes) a) at
+    ∙ ap (option_map reason.Shape) (array_passes p.file.cpus (i * array_stride g + length bytes) a g ((arrays_in_range p.file.cpus p.file.contents 0 p.file.arrays f.arrays a a g (omega arith) at).0, within)))
+  where
+    within : i * array_stride g + length bytes ≤ copy_size g
+    within =
+        let row = row_fits_turned i (array_stride g) (array_stride g) g.max below (omega arith) in
+        omega (arith, row, short)
+
+fit_element_put : (n : ℕ) (p : Part) (a : ℕ) (g : ArrayShape) (fits : Bool) (i : Option ℕ) (d : Result (List ℕ) FromHexError) → slice_get p.file.arrays a ≡ Some g
+    → (fits ≡ true → (bytes : List ℕ) → d ≡ Ok bytes → length bytes ≤ g.value) → IsFit p → IsIdle p → IsFitResult (element_put n p a (value_place a g fits i) d)
+fit_element_put n p a g fits None d at short f idle = tt
+fit_element_put n p a g fits (Some i) d at short f idle = by_test (nat_lt i g.max && fits) refl
+  where
+    by_bytes : (r : Result (List ℕ) FromHexError) → d ≡ r → fits ≡ true → i < g.max → IsFitResult (data_laid n p a (i * array_stride g) r)
+    by_bytes (Err x) e fit there = tt
+    by_bytes (Ok bytes) e fit there = fit_value p a i g bytes at there (short fit bytes e) f idle
+
+    by_test : (b : Bool) → (nat_lt i g.max && fits) ≡ b
+        → IsFitResult (element_put n p a (if b then Ok (i * array_stride g) else Err (reason.Shape (ArrayContents a))) d)
+    by_test false e = tt
+    by_test true e =
+        let both = and_both (nat_lt i g.max) fits e in
+        by_bytes d refl both.1 (below_max i g.max both.0)
+
+fit_element : (n : ℕ) (p : Part) (a : ℕ) (i : Option ℕ) (value : List ℕ) (o : Option ArrayShape) → slice_get p.file.arrays a ≡ o → IsFit p → IsIdle p → IsFitResult (element_added n p a i value o)
+fit_element n p a i value None at f idle = tt
+fit_element n p a i value (Some g) at f idle =
+    fit_element_put n p a g (length value / 2 == g.value) i (decode_of value) at
+    (λ e bytes h. (let same = half value bytes g.value (nat_same (length value / 2) g.value e) h in omega (arith, same))) f idle
+
+fit_element_numbered : (n : ℕ) (p : Part) (a i : ℕ) (bytes : List ℕ) (o : Option ArrayShape) → slice_get p.file.arrays a ≡ o → IsFit p → IsIdle p → IsFitResult (element_numbered n p a i bytes o)
+fit_element_numbered n p a i bytes None at f idle = tt
+fit_element_numbered n p a i bytes (Some g) at f idle =
+    fit_element_put n p a g (nat_le (length bytes) g.value) (Some i) (Ok (up_to g.value bytes)) at short f idle
+  where
+    as_ok : List ℕ → Result (List ℕ) FromHexError
+    as_ok more = Ok more
+
+    short : nat_le (length bytes) g.value ≡ true → (more : List ℕ) → as_ok (up_to g.value bytes) ≡ Ok more → length more ≤ g.value
+    short e more h =
+        let same : up_to g.value bytes ≡ more = cc in
+        let counted : length (up_to g.value bytes) ≡ length more = ap length same in
+        let whole = full g.value bytes (no_longer g.value bytes e) in
+        omega (arith, counted, whole)
+
+-- ---- lines `put`
+fit_put_line : (n : ℕ) (p : Part) (k : Option ℕ) (key value : List ℕ) → IsFit p → IsIdle p → IsFitResult (put_added n p k key value)
+fit_put_line n p None key value f i = tt
+fit_put_line n p (Some k) key value f i = by_place (nat_lt k (length p.file.maps))
+  where
+    by_place : (b : Bool) → IsFitResult (if b then pair_added n p k key value (slice_get p.file.maps k) else element_added n p (k - length p.file.maps) (written_number key) value (slice_get p.file.arrays (k - length p.file.maps)))
+    by_place true = fit_digits n p k key value (slice_get p.file.maps k) refl f i
+    by_place false = fit_element n p (k - length p.file.maps) (written_number key) value (slice_get p.file.arrays (k - length p.file.maps)) refl f i
+
+fit_numbers_line : (n : ℕ) (p : Part) (place : Option ℕ) (key : ℕ) (r : Result (List ℕ) Reason) → IsFit p → IsIdle p → IsFitResult (numbers_added n p place key r)
+fit_numbers_line n p place key (Err why) f i = tt
+fit_numbers_line n p None key (Ok bytes) f i = tt
+fit_numbers_line n p (Some k) key (Ok bytes) f i = by_place (nat_lt k (length p.file.maps))
+  where
+    by_place : (b : Bool) → IsFitResult (if b then pair_numbered n p k key bytes (slice_get p.file.maps k) else element_numbered n p (k - length p.file.maps) key bytes (slice_get p.file.arrays (k - length p.file.maps)))
+    by_place true = fit_pair_numbered n p k key bytes (slice_get p.file.maps k) refl f i
+    by_place false = fit_element_numbered n p (k - length p.file.maps) key bytes (slice_get p.file.arrays (k - length p.file.maps)) refl f i
 
 fit_refused : (n : ℕ) (o : Option Reason) (r : Result State FileError) → IsFitResult r → IsFitResult (or_refused n o r)
 fit_refused n None r h = h
@@ -335,8 +517,10 @@ fit_loaded p name program e f j =
       runs = record {
         jobs = subst J (sym j) (All-nil (IsJobFor q.file.cpus (length q.file.programs)));
         named = All-append M p.file.programs (program ∷ []) f.runs.named (All-cons M program [] e (All-nil M));
+        pairs = f.runs.pairs;
       };
       no_arrays = λ h. absurd (omega arith);
+      no_pairs = λ h. absurd (omega arith);
       no_programs = λ h. absurd (omega arith);
       no_jobs = λ h. j;
     }
@@ -364,8 +548,10 @@ fit_listed p task t f =
       runs = record {
         jobs = All-append P p.file.jobs (task ∷ []) f.runs.jobs (All-cons P task [] t (All-nil P));
         named = f.runs.named;
+        pairs = f.runs.pairs;
       };
       no_arrays = λ h. absurd (omega arith);
+      no_pairs = λ h. absurd (omega arith);
       no_programs = λ h. absurd (omega arith);
       no_jobs = λ h. absurd (omega arith);
     }
@@ -381,14 +567,18 @@ fit_job n p (Some c) None steps context hc hk hb f = tt
 fit_job n p None k steps context hc hk hb f = tt
 
 adds_fit : (n : ℕ) (p : Part) (s : Said) (r : Result State FileError) → AddsLine n p s r → Comes p s → IsFit p → IsFitResult r
-adds_fit n p (Version version) r e c f = subst IsFitResult (sym e) (fit_first p version f (idle p 1 f c.0 (omega arith)) (no_arrays_at p 1 f c.0 (omega arith)))
-adds_fit n p (Cpus k) r e c f = subst IsFitResult (sym e) (fit_unless n (cpus_refusal k) _ (fit_cpus p k f (idle p 2 f c.0 (omega arith)) (no_arrays_at p 2 f c.0 (omega arith))))
-adds_fit n p (Seed s) r e c f = subst IsFitResult (sym e) (fit_seed p s f (idle p 3 f c.0 (omega arith)) (no_arrays_at p 3 f c.0 (omega arith)))
-adds_fit n p (Map name h) r e c f = subst IsFitResult (sym e) (fit_unless n (map_refusal p name h) _ (fit_map p name h f (idle p 4 f c.0 (omega arith)) (no_arrays_at p 4 f c.0 (omega arith))))
-adds_fit n p (Array name g) r e c f = subst IsFitResult (sym e) (fit_unless n (array_refusal p name g) _ (fit_array p name g f (idle p 5 f c.0 (omega arith))))
+adds_fit n p (Version version) r e c f = subst IsFitResult (sym e) (fit_first p version f (idle p 1 f c.0 (omega arith)) (no_arrays_at p 1 f c.0 (omega arith)) (no_pairs_at p 1 f c.0 (omega arith)))
+adds_fit n p (Cpus k) r e c f = subst IsFitResult (sym e) (fit_unless n (cpus_refusal k) _ (fit_cpus p k f (idle p 2 f c.0 (omega arith)) (no_arrays_at p 2 f c.0 (omega arith)) (no_pairs_at p 2 f c.0 (omega arith))))
+adds_fit n p (Seed s) r e c f = subst IsFitResult (sym e) (fit_seed p s f (idle p 3 f c.0 (omega arith)) (no_arrays_at p 3 f c.0 (omega arith)) (no_pairs_at p 3 f c.0 (omega arith)))
+adds_fit n p (Map name h) r e c f = subst IsFitResult (sym e) (fit_unless n (map_refusal p name h) _ (fit_map p name h f (idle p 4 f c.0 (omega arith)) (no_arrays_at p 4 f c.0 (omega arith)) (no_pairs_at p 4 f c.0 (omega arith))))
+adds_fit n p (Array name g) r e c f = subst IsFitResult (sym e) (fit_unless n (array_refusal p name g) _ (fit_array p name g f (idle p 5 f c.0 (omega arith)) (no_pairs_at p 5 f c.0 (omega arith))))
 adds_fit n p (Data name at digits) r e c f = subst IsFitResult (sym e) (fit_data n p (array_place p.file name) at digits f (idle p 6 f c.0 (omega arith)))
 adds_fit n p (Variable name array at size) r e c f =
     subst IsFitResult (sym e) (fit_refused n (name_refusal p.file name) _ (fit_variable n p name (array_place p.file array) at size f (idle p 6 f c.0 (omega arith))))
+adds_fit n p (Put name key value) r e c f =
+    subst IsFitResult (sym e) (fit_put_line n p (place_of name p.file.names.maps) key value f (idle p 6 f c.0 (omega arith)))
+adds_fit n p (PutNumbers name key size numbers) r e c f =
+    subst IsFitResult (sym e) (fit_numbers_line n p (place_of name p.file.names.maps) key (numbered_bytes size numbers) f (idle p 6 f c.0 (omega arith)))
 adds_fit n p (Program name) r e c f =
     subst IsFitResult (sym e) (fit_new (is_there (place_of name p.titles)) n (Ok (Within p n name []))
     (f, f.no_jobs (before p.group 7 8 c.0 (omega arith))))

@@ -6,6 +6,8 @@ pub mod Names
 pub mod Comes
 pub mod Arrays
 pub mod Tables
+pub mod Held
+pub mod Puts
 pub mod Fits
 pub mod Progress
 pub mod Runs

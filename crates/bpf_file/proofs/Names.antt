@@ -9,7 +9,7 @@ use Rattle.bpf_lines.specs.Words.{is_word_byte, is_word, is_name}
 use Rattle.bpf_file.specs.declared.form.Part.{Part}
 use Rattle.bpf_file.specs.declared.form.Part.TheVariants.{Word, Name, Number, Words}
 use Rattle.bpf_file.specs.declared.key.Key.TheVariants as key
-use Rattle.bpf_file.specs.Form.{is_part, has_form, field_at, map_form, masked_map_form, growing_map_form, growing_masked_map_form, array_form, per_cpu_form, frozen_form, data_form, variable_form}
+use Rattle.bpf_file.specs.Form.{is_part, has_form, field_at, map_form, masked_map_form, growing_map_form, growing_masked_map_form, array_form, per_cpu_form, frozen_form, data_form, variable_form, put_form}
 
 pub and_both : (a b : Bool) → (a && b) ≡ true → (a ≡ true) × (b ≡ true)
 and_both true b e = (refl, e)
@@ -28,7 +28,7 @@ ascii (b ∷ bs) e =
     let both = and_both (is_word_byte b) (list_all is_word_byte bs) e in
     ascii_at b bs (small b both.0) (ascii bs both.1)
 
-name_is_text : (w : List ℕ) → is_name w ≡ true → IsUtf8 w
+pub name_is_text : (w : List ℕ) → is_name w ≡ true → IsUtf8 w
 name_is_text w e =
     let word = and_both (is_word w) _ e in
     let bytes = and_both _ (list_all is_word_byte w) word.0 in
@@ -96,3 +96,9 @@ variable_named fs e = named_field (Word key.Variable) (Name ∷ Number ∷ Numbe
 
 pub array_of_named : (fs : List (List ℕ)) → has_form variable_form fs ≡ true → IsUtf8 (field_at fs 2)
 array_of_named fs e = second_field (Word key.Variable) Name (Number ∷ Number ∷ []) fs e
+
+pub put_named : (fs : List (List ℕ)) → has_form put_form fs ≡ true → IsUtf8 (field_at fs 1)
+put_named fs e = named_field (Word key.Put) (Words ∷ Words ∷ []) fs e
+
+pub part_is_text : (w : List ℕ) → is_part Name w ≡ true → IsUtf8 w
+part_is_text w e = name_is_text w (and_both (is_name w) _ e).0

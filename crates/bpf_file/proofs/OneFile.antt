@@ -22,7 +22,7 @@ use Rattle.bpf_text.specs.Symbols.{Table}
 use Rattle.bpf_file.specs.Symbols.{names_for}
 use Rattle.bpf_file.specs.Programs.{LoadsProgram, Decodes, OfBytes, OfAssembly, refusal_behind, text_of_lines}
 use Rattle.bpf_file.specs.Rows.{WordsAdd, AddsLine, placed, program_added}
-use Rattle.bpf_file.specs.Statement.{Said, Version, Cpus, Seed, Map, Array, Data, Variable, Program, Words, Job, statement_of}
+use Rattle.bpf_file.specs.Statement.{Said, Version, Cpus, Seed, Map, Array, Data, Variable, Put, PutNumbers, Program, Words, Job, statement_of}
 use Rattle.bpf_file.specs.Reading.{AddsOrRefuses, FieldsSay, is_end, Belongs, ReadsLine, AreRead}
 use Rattle.bpf_file.specs.Laws.{FilesAreDetermined}
 
@@ -75,6 +75,8 @@ one_row W R F n p (Map name h) r q e f = e ∙ sym f
 one_row W R F n p (Array name g) r q e f = e ∙ sym f
 one_row W R F n p (Data name at digits) r q e f = e ∙ sym f
 one_row W R F n p (Variable name array at size) r q e f = e ∙ sym f
+one_row W R F n p (Put name key value) r q e f = e ∙ sym f
+one_row W R F n p (PutNumbers name key size numbers) r q e f = e ∙ sym f
 one_row W R F n p (Program name) r q e f = e ∙ sym f
 one_row W R F n p (Words name digits) r q a b = one_of_words W R F (place_of name p.titles) n p name digits r q a b
 one_row W R F n p (Job cpu name steps context) r q e f = e ∙ sym f

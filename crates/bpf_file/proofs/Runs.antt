@@ -5,6 +5,7 @@ use Rattle.std.proofs.lemmas.List.{length-map}
 use Rattle.bpf_mem.specs.Limits.{max_context}
 use Rattle.bpf_shared.specs.declared.shapes.ArrayShape.{ArrayShape}
 use Rattle.bpf_shared.specs.declared.shapes.MapShape.{MapShape}
+use Rattle.bpf_pairs.specs.Pairs.{ArePairs, pair_of}
 use Rattle.bpf_cpu.specs.declared.job.Job.{Job}
 use Rattle.bpf_cpu.specs.Task.{Task, waiting}
 use Rattle.bpf_loader.specs.Loaded.{Loaded}
@@ -22,8 +23,8 @@ at_job (job ∷ jobs) (suc k) d = at_job jobs k d
 mapped : (P : Task → Type 0) (Q : Job → Type 0) → ((job : Job) → P (waiting job) → Q job) → (jobs : List Job) → All P (map waiting jobs) → All Q jobs
 mapped P Q f jobs all = λ k d h. f (get_or jobs k d) (subst P (at_job jobs k d) (all k (waiting d) (omega (arith, length-map jobs waiting, h))))
 
-pub runnable : (f : Setup) (g : File) → f.shape.cpus ≡ g.cpus → f.shape.maps ≡ g.maps → f.shape.arrays ≡ g.arrays → f.programs.items ≡ g.programs → map waiting f.jobs.items ≡ g.jobs → CanRun g → IsRunnable f
-runnable f g ec em ea ep ej can =
+pub runnable : (f : Setup) (g : File) → f.shape.cpus ≡ g.cpus → f.shape.maps ≡ g.maps → f.shape.arrays ≡ g.arrays → f.programs.items ≡ g.programs → map waiting f.jobs.items ≡ g.jobs → map pair_of f.pairs.items ≡ g.pairs → CanRun g → IsRunnable f
+runnable f g ec em ea ep ej eq can =
     let n = length f.programs.items in
     let C : ℕ → Type 0 = λ c. All (IsJobFor c (length g.programs)) g.jobs in
     let N : List Loaded → Type 0 = λ ps. All (IsJobFor f.shape.cpus (length ps)) g.jobs in
@@ -38,6 +39,7 @@ runnable f g ec em ea ep ej can =
       programs = mapped P (λ job. job.program < vec_len f.programs) (λ (job : Job) (t : P (waiting job)). below f job t.program) f.jobs.items jobs;
       contexts = mapped P (λ job. vec_len job.context ≤ max_context) (λ (job : Job) (t : P (waiting job)). short job t.stage) f.jobs.items jobs;
       named = subst O (sym ep) (subst A (sym ea) (subst M (sym em) can.named));
+      pairs = subst (λ (ms : List MapShape). ArePairs ms (map pair_of f.pairs.items)) (sym em) (subst (ArePairs g.maps) (sym eq) can.pairs);
     }
   where
     below : (f : Setup) (job : Job) → job.program < length f.programs.items → job.program < vec_len f.programs

@@ -16,6 +16,7 @@ reason_diagnostic reason.BadNumber = nowhere code.L3
 reason_diagnostic reason.TwiceName = nowhere code.L4
 reason_diagnostic reason.Unknown = nowhere code.L5
 reason_diagnostic reason.NoEnd = nowhere code.L6
+reason_diagnostic reason.BadPair = nowhere code.S12
 reason_diagnostic (reason.Shape error) = shape_diagnostic error
 reason_diagnostic reason.NotHex = nowhere code.H1
 reason_diagnostic reason.BadInstruction = nowhere code.A1

@@ -89,6 +89,15 @@ data_form = Word key.Data ∷ Name ∷ Number ∷ Words ∷ []
 abbrev pub variable_form : List Part
 variable_form = Word key.Variable ∷ Name ∷ Name ∷ Number ∷ Number ∷ []
 
+-- in version 3: `put NAME KEY VALUE`
+abbrev pub put_form : List Part
+put_form = Word key.Put ∷ Name ∷ Words ∷ Words ∷ []
+
+-- in version 3: `put NAME[K] of SIZE = N,N,..`
+abbrev pub put_numbers_form : List Part
+put_numbers_form =
+    Word key.Put ∷ Words ∷ Word key.Of ∷ Words ∷ Word key.Equals ∷ Words ∷ []
+
 -- `prog NAME`, and `prog NAME hex DIGITS`
 abbrev pub program_form : List Part
 program_form = Word key.Program ∷ Name ∷ []

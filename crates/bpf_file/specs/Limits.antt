@@ -9,6 +9,10 @@ most_programs = 256
 abbrev pub most_variables : ℕ
 most_variables = 256
 
+-- the pairs of maps, at most
+abbrev pub most_pairs : ℕ
+most_pairs = 4096
+
 -- the jobs, at most
 abbrev pub most_jobs : ℕ
 most_jobs = 4096

@@ -6,6 +6,7 @@ use Rattle.std.specs.Str.{bytes_eq}
 use Rattle.bpf_shared.specs.declared.shapes.ArrayShape.{ArrayShape}
 use Rattle.bpf_shared.specs.declared.shapes.MapShape.{MapShape}
 use Rattle.bpf_names.specs.Names.{Names, Variable, no_names, variable_named}
+use Rattle.bpf_pairs.specs.Pairs.{Pair}
 use Rattle.bpf_loader.specs.Loaded.{Loaded}
 use Rattle.bpf_cpu.specs.Task.{Task}
 use Rattle.bpf_file.specs.Limits.{most_programs, most_jobs}
@@ -43,6 +44,7 @@ nothing = record {
     maps = [];
     arrays = [];
     contents = [];
+    pairs = [];
     programs = [];
     jobs = [];
   };
@@ -50,8 +52,8 @@ nothing = record {
 
 -- ---- groups
 
--- the group of a line, by its first word: the first line, CPUs, seed, maps, arrays, arrays' bytes
--- and variables, programs, jobs; more than that for a line of none
+-- the group of a line, by its first word: the first line, CPUs, seed, maps, arrays, arrays' bytes,
+-- variables and pairs, programs, jobs; more than that for a line of none
 abbrev pub group_of : List ℕ → ℕ
 group_of word =
     if is_key key.RunFile word then 1
@@ -59,7 +61,7 @@ group_of word =
     else (if is_key key.Seed word then 3
     else (if is_key key.Map word then 4
     else (if is_key key.Array word then 5
-    else (if is_key key.Data word || is_key key.Variable word then 6
+    else (if (is_key key.Data word || is_key key.Variable word) || is_key key.Put word then 6
     else (if is_key key.Program word then 7
     else (if is_key key.Job word then 8
     else 9)))))))
@@ -134,6 +136,13 @@ with_data p a at bytes = record p {
   file = record p.file {
     contents = slice_set p.file.contents a (laid (slice_index_or p.file.contents a []) at bytes);
   };
+}
+
+-- one pair of a map more
+abbrev pub with_pair : Part → Pair → Part
+with_pair p pair = record p {
+  group = 6;
+  file = record p.file { pairs = p.file.pairs ++ pair ∷ [] };
 }
 
 -- one variable more

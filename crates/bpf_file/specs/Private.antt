@@ -4,4 +4,5 @@ pub mod Cuts
 pub mod Drafts
 pub mod Fits
 pub mod Lines
+pub mod Numbers
 pub mod Symbols

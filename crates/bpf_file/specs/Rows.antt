@@ -1,6 +1,6 @@
 -- What one line adds to a run file, a row for each thing that it may say; or why it is refused
 -- (our own choice).
-use Rattle.std.specs.Prelude.{◌≡◌, ℕ, ◌+◌, ◌/◌, ◌==◌, ◌&&◌, ◌||◌, not, nat_le, nat_lt, Bool, if◌then◌else◌, List, [], length, slice_get, Option, Some, None, Result, Ok, Err}
+use Rattle.std.specs.Prelude.{◌≡◌, ℕ, ◌+◌, ◌-◌, ◌*◌, ◌/◌, ◌==◌, ◌&&◌, ◌||◌, not, nat_le, nat_lt, Bool, if◌then◌else◌, List, [], ◌∷◌, ◌++◌, length, slice_get, Option, Some, None, Result, Ok, Err}
 use Rattle.std.specs.Option.{option_map}
 use Rattle.hex.specs.Hex.{decode_of}
 use Rattle.hex.specs.declared.error.FromHexError.{FromHexError}
@@ -11,6 +11,12 @@ use Rattle.bpf_shared.specs.declared.shapes.MapShape.{MapShape}
 use Rattle.bpf_shared.specs.declared.shapes.ShapeError.TheVariants as shape
 use Rattle.bpf_shared.specs.declared.events.Size.{Size}
 use Rattle.bpf_shared.specs.Access.{bytes_in}
+use Rattle.bpf_shared.specs.Shape.{array_stride}
+use Rattle.bpf_base.specs.Bytes.{low_bytes, modulus}
+use Rattle.bpf_file.specs.Contents.{up_to}
+use Rattle.std.specs.List.{slice_split}
+use Rattle.bpf_pairs.specs.Pairs.{Pair, has_key, pairs_in}
+use Rattle.bpf_lines.specs.Words.{written_number}
 use Rattle.bpf_loader.specs.Loaded.{Loaded}
 use Rattle.bpf_cpu.specs.Task.{Waiting}
 use Rattle.bpf_base.specs.declared.budget.TheConstants.{DEFAULT_BUDGET}
@@ -21,10 +27,10 @@ use Rattle.bpf_file.specs.declared.error.Reason.TheVariants as reason
 use Rattle.bpf_file.specs.declared.line.LineError.{LineError}
 use Rattle.bpf_file.specs.declared.line.LineError.TheVariants as line
 use Rattle.bpf_file.specs.Form.{is_there}
-use Rattle.bpf_file.specs.Limits.{most_variables}
-use Rattle.bpf_file.specs.Statement.{Said, Version, Cpus, Seed, Map, Array, Data, Variable, Program, Words, Job}
+use Rattle.bpf_file.specs.Limits.{most_pairs, most_variables}
+use Rattle.bpf_file.specs.Statement.{Said, Version, Cpus, Seed, Map, Array, Data, Variable, Put, PutNumbers, Program, Words, Job}
 use Rattle.bpf_file.specs.File.{File, named_by}
-use Rattle.bpf_file.specs.Parts.{Part, State, Between, Within, group_of, is_in_order, is_full, is_taken, place_of, array_place, with_first, with_cpus, with_seed, with_map, with_array, with_data, with_variable, with_program, with_job}
+use Rattle.bpf_file.specs.Parts.{Part, State, Between, Within, group_of, is_in_order, is_full, is_taken, place_of, array_place, with_first, with_cpus, with_seed, with_map, with_array, with_data, with_pair, with_variable, with_program, with_job}
 use Rattle.bpf_file.specs.Programs.{OfDigits}
 
 -- the file goes on, or the line is refused for this reason
@@ -121,6 +127,134 @@ variable_added n p name (Some a) at size =
     (with_variable p (record { name = name; array = a; at = at; size = size }))
 variable_added n p name None at size = Err (Refused n reason.Unknown)
 
+-- ---- pairs of maps, and values of arrays
+
+-- so many bytes are a key and a value of a map
+abbrev pub is_sized : (key value : ℕ) → MapShape → Bool
+is_sized key value h = key == h.key && value == h.value
+
+-- a number is that of a key, and so many bytes are no more than a value
+abbrev pub is_numbered : (key value : ℕ) → MapShape → Bool
+is_numbered key value h = nat_lt key (modulus h.key) && nat_le value h.value
+
+-- why the map of this number and shape can't have one more pair at first, which is to fit it
+abbrev pub pair_refusal : File → ℕ → (fits : Bool) → MapShape → Option Reason
+pair_refusal f m fits h =
+    if nat_le most_pairs (length f.pairs) then Some reason.BadLine
+    else (if fits && nat_lt (pairs_in m f.pairs) h.max then None else Some reason.BadPair)
+
+-- a key that its map doesn't have yet
+abbrev pub pair_put : ℕ → Part → Pair → Result State FileError
+pair_put n p pair =
+    if has_key pair.map pair.key p.file.pairs then Err (Refused n reason.BadPair)
+    else Ok (Between (with_pair p pair))
+
+-- whether the key is there is tested before the value's digits are looked at
+abbrev pub value_put : ℕ → Part → ℕ → List ℕ → Result (List ℕ) FromHexError
+    → Result State FileError
+value_put n p m key (Ok value) = pair_put n p (record { map = m; key = key; value = value })
+value_put n p m key (Err e) =
+    if has_key m key p.file.pairs then Err (Refused n reason.BadPair)
+    else Err (Refused n reason.NotHex)
+
+abbrev pub key_put : ℕ → Part → ℕ → (key value : Result (List ℕ) FromHexError)
+    → Result State FileError
+key_put n p m (Ok key) value = value_put n p m key value
+key_put n p m (Err e) value = Err (Refused n reason.NotHex)
+
+-- sizes are tested before digits are looked at
+abbrev pub pair_added : ℕ → Part → ℕ → (key value : List ℕ) → Option MapShape
+    → Result State FileError
+pair_added n p m key value None = Err (Refused n reason.Unknown)
+pair_added n p m key value (Some h) =
+    or_refused n (pair_refusal p.file m (is_sized (length key / 2) (length value / 2) h) h)
+    (key_put n p m (decode_of key) (decode_of value))
+
+-- where the value of an index begins in the array of this number and shape, if it has one, which is
+-- to have its size
+abbrev pub value_place : (array : ℕ) → ArrayShape → (fits : Bool) → (index : Option ℕ)
+    → Result ℕ Reason
+value_place a g fits (Some i) =
+    if nat_lt i g.max && fits then Ok (i * array_stride g)
+    else Err (reason.Shape (shape.ArrayContents a))
+value_place a g fits None = Err reason.BadLine
+
+abbrev pub element_put : ℕ → Part → (array : ℕ) → Result ℕ Reason
+    → Result (List ℕ) FromHexError → Result State FileError
+element_put n p a (Ok at) bytes = data_laid n p a at bytes
+element_put n p a (Err why) bytes = Err (Refused n why)
+
+abbrev pub element_added : ℕ → Part → (array : ℕ) → (index : Option ℕ) → (value : List ℕ)
+    → Option ArrayShape → Result State FileError
+element_added n p a i value None = Err (Refused n reason.Unknown)
+element_added n p a i value (Some g) =
+    element_put n p a (value_place a g (length value / 2 == g.value) i) (decode_of value)
+
+-- ---- by numbers
+
+abbrev pub is_comma : ℕ → Bool
+is_comma b = b == 44
+
+-- a number of its size
+abbrev pub number_of : Size → Option ℕ → Result ℕ Reason
+number_of size (Some n) = if nat_lt n (modulus (bytes_in size)) then Ok n else Err reason.BadNumber
+number_of size None = Err reason.BadLine
+
+abbrev pub one_more : List ℕ → Result (List ℕ) Reason → Result (List ℕ) Reason
+one_more bytes (Ok more) = Ok (bytes ++ more)
+one_more bytes (Err why) = Err why
+
+-- its bytes before those of others
+abbrev pub with_others : Size → Result ℕ Reason → Result (List ℕ) Reason → Result (List ℕ) Reason
+with_others size (Ok n) others = one_more (low_bytes (bytes_in size) n) others
+with_others size (Err why) others = Err why
+
+abbrev pub numbers_of : Size → List (List ℕ) → Result (List ℕ) Reason
+numbers_of size [] = Ok []
+numbers_of size (word ∷ words) =
+    with_others size (number_of size (written_number word)) (numbers_of size words)
+
+-- their bytes, the lowest of each first
+abbrev pub numbered_bytes : Size → List ℕ → Result (List ℕ) Reason
+numbered_bytes size numbers = numbers_of size (slice_split is_comma numbers)
+
+abbrev pub pair_numbered : ℕ → Part → ℕ → (key : ℕ) → (bytes : List ℕ) → Option MapShape
+    → Result State FileError
+pair_numbered n p m k bytes None = Err (Refused n reason.Unknown)
+pair_numbered n p m k bytes (Some h) =
+    or_refused n (pair_refusal p.file m (is_numbered k (length bytes) h) h)
+    (pair_put n p (record { map = m; key = low_bytes h.key k; value = up_to h.value bytes }))
+
+abbrev pub element_numbered : ℕ → Part → (array index : ℕ) → (bytes : List ℕ)
+    → Option ArrayShape → Result State FileError
+element_numbered n p a i bytes None = Err (Refused n reason.Unknown)
+element_numbered n p a i bytes (Some g) =
+    element_put n p a (value_place a g (nat_le (length bytes) g.value) (Some i))
+    (Ok (up_to g.value bytes))
+
+-- ---- of the map or the array of a place among the names
+
+abbrev pub put_added : ℕ → Part → Option ℕ → (key value : List ℕ) → Result State FileError
+put_added n p (Some k) key value =
+    if nat_lt k (length p.file.maps) then pair_added n p k key value (slice_get p.file.maps k)
+    else element_added n p (k - length p.file.maps) (written_number key) value
+    (slice_get p.file.arrays (k - length p.file.maps))
+put_added n p None key value = Err (Refused n reason.Unknown)
+
+abbrev pub numbers_put : ℕ → Part → Option ℕ → (key : ℕ) → (bytes : List ℕ)
+    → Result State FileError
+numbers_put n p (Some k) key bytes =
+    if nat_lt k (length p.file.maps)
+    then pair_numbered n p k key bytes (slice_get p.file.maps k)
+    else element_numbered n p (k - length p.file.maps) key bytes
+    (slice_get p.file.arrays (k - length p.file.maps))
+numbers_put n p None key bytes = Err (Refused n reason.Unknown)
+
+abbrev pub numbers_added : ℕ → Part → Option ℕ → (key : ℕ) → Result (List ℕ) Reason
+    → Result State FileError
+numbers_added n p place key (Ok bytes) = numbers_put n p place key bytes
+numbers_added n p place key (Err why) = Err (Refused n why)
+
 -- ---- programs
 
 -- a name that no program has yet
@@ -176,6 +310,10 @@ AddsLine n p (Data name at digits) r = r ≡ data_added n p (array_place p.file 
 AddsLine n p (Variable name array at size) r =
     r ≡ or_refused n (name_refusal p.file name)
     (variable_added n p name (array_place p.file array) at size)
+AddsLine n p (Put name key value) r =
+    r ≡ put_added n p (place_of name p.file.names.maps) key value
+AddsLine n p (PutNumbers name key size numbers) r =
+    r ≡ numbers_added n p (place_of name p.file.names.maps) key (numbered_bytes size numbers)
 AddsLine n p (Program name) r = r ≡ if_new n p name (Ok (Within p n name []))
 AddsLine n p (Words name digits) r = WordsAdd (place_of name p.titles) n p name digits r
 AddsLine n p (Job cpu name steps context) r =

@@ -1,6 +1,7 @@
 -- What every run file has of what a machine asks of its jobs and programs.
 use Rattle.std.specs.Prelude.{◌≡◌, ℕ, ◌<◌, ◌≤◌, All, length}
 use Rattle.bpf_mem.specs.Limits.{max_context}
+use Rattle.bpf_pairs.specs.Pairs.{ArePairs}
 use Rattle.bpf_cpu.specs.Task.{Task, Stage, Waiting}
 use Rattle.bpf_file.specs.File.{File, named_by}
 
@@ -19,3 +20,4 @@ pub record IsJobFor (cpus programs : ℕ) (task : Task) : Type 0 where
 pub record CanRun (f : File) : Type 0 where
   pub jobs : All (IsJobFor f.cpus (length f.programs)) f.jobs
   pub named : All (λ program. program.named ≡ named_by f) f.programs
+  pub pairs : ArePairs f.maps f.pairs

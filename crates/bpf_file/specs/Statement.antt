@@ -1,5 +1,7 @@
 -- What a line of a run file says, where it isn't assembly (our own choice).
-use Rattle.std.specs.Prelude.{◌≡◌, ℕ, ◌-◌, ◌%◌, ◌^◌, ◌==◌, nat_le, nat_lt, Bool, true, false, if◌then◌else◌, List, ◌++◌, Option, Some, None, Result, Ok, Err}
+use Rattle.std.specs.Prelude.{◌≡◌, ℕ, ◌-◌, ◌%◌, ◌^◌, ◌==◌, nat_le, nat_lt, Bool, true, false, if◌then◌else◌, List, [], ◌∷◌, ◌++◌, Option, Some, None, Result, Ok, Err, codes, option_and_then, option_map}
+use Rattle.std.specs.List.{after_first, before_first}
+use Rattle.std.specs.Str.{bytes_eq}
 use Rattle.std.specs.Option.{option_copied}
 use Rattle.bpf_base.specs.declared.budget.TheConstants.{MAX_BUDGET}
 use Rattle.bpf_shared.specs.Access.{bytes_in}
@@ -15,14 +17,16 @@ use Rattle.bpf_file.specs.declared.statement.Statement.TheVariants as statement
 use Rattle.bpf_file.specs.declared.version.Version.{Version as Edition}
 use Rattle.bpf_file.specs.declared.version.Version.TheVariants.{First, Second, Third}
 use Rattle.bpf_file.specs.Version.{may_grow, has_arrays}
-use Rattle.bpf_file.specs.Form.{has_form, field_at, version_form, second_version_form, third_version_form, cpus_form, seed_form, map_form, masked_map_form, growing_map_form, growing_masked_map_form, array_form, per_cpu_form, frozen_form, data_form, variable_form, program_form, words_form, job_form, budget_form, context_form}
+use Rattle.bpf_file.specs.declared.form.Part.TheVariants.{Name}
+use Rattle.bpf_file.specs.Form.{has_form, field_at, is_part, version_form, second_version_form, third_version_form, cpus_form, seed_form, map_form, masked_map_form, growing_map_form, growing_masked_map_form, array_form, per_cpu_form, frozen_form, data_form, variable_form, put_form, put_numbers_form, program_form, words_form, job_form, budget_form, context_form}
 
 -- the first line, by the version that it says; how many CPUs there are; the seed of the maps; a map
 -- by its name; an array by its name; bytes that an array has at first: its name, where they begin,
 -- and their hex digits; a variable by its name and its array's, where its bytes begin, and their
--- size; a program by its name, its assembly following, or with its words as hex digits; a job: its
--- CPU, where 64 bits hold its number, its program's name, and its budget and its context's digits,
--- where the line has them
+-- size; a pair of a map, or a value of an array: its name, a key's digits or an index, and a value's
+-- digits, or its name, the number of a key or an index, and numbers of a size; a program by its name,
+-- its assembly following, or with its words as hex digits; a job: its CPU, where 64 bits hold its
+-- number, its program's name, and its budget and its context's digits, where the line has them
 pub data Said : Type 0 where
   Version : Edition → Said
   Cpus : ℕ → Said
@@ -31,6 +35,8 @@ pub data Said : Type 0 where
   Array : List ℕ → ArrayShape → Said
   Data : List ℕ → ℕ → List ℕ → Said
   Variable : (name array : List ℕ) → (at : ℕ) → Size → Said
+  Put : (name key value : List ℕ) → Said
+  PutNumbers : (name : List ℕ) → (key : ℕ) → Size → (numbers : List ℕ) → Said
   Program : List ℕ → Said
   Words : List ℕ → List ℕ → Said
   Job : Option ℕ → List ℕ → Option ℕ → Option (List ℕ) → Said
@@ -115,6 +121,46 @@ variable_said fields =
     with_number (count_at fields 4 most_count) (λ bytes.
     variable_at (field_at fields 1) (field_at fields 2) at (size_of bytes)))
 
+abbrev pub put_said : List (List ℕ) → Result Said LineError
+put_said fields = Ok (Put (field_at fields 1) (field_at fields 2) (field_at fields 3))
+
+-- ---- `put NAME[K] of SIZE = N,N,..`
+
+abbrev pub is_open : ℕ → Bool
+is_open b = b == 91
+
+-- `u8`, `u16`, `u32` or `u64`
+abbrev pub size_named : List ℕ → Option Size
+size_named word =
+    if bytes_eq word (codes "u8") then Some Byte
+    else (if bytes_eq word (codes "u16") then Some Half
+    else (if bytes_eq word (codes "u32") then Some Word
+    else (if bytes_eq word (codes "u64") then Some Double else None)))
+
+-- what is before the last byte, if that is `]`
+abbrev pub closed : List ℕ → Option (List ℕ)
+closed [] = None
+closed (b ∷ []) = if b == 93 then Some [] else None
+closed (b ∷ c ∷ bytes) = option_map (λ rest. b ∷ rest) (closed (c ∷ bytes))
+
+-- the number between brackets
+abbrev pub key_number : List ℕ → Result ℕ LineError
+key_number place = limited (2 ^ 64 - 1) (option_and_then written_number (closed (after_first is_open place)))
+
+abbrev pub with_size : Option Size → (Size → Result Said LineError) → Result Said LineError
+with_size (Some size) said = said size
+with_size None said = Err BadForm
+
+abbrev pub numbers_at : (name place : List ℕ) → Option Size → List ℕ → Result Said LineError
+numbers_at name place size numbers =
+    if is_part Name name
+    then with_number (key_number place) (λ k. with_size size (λ s. Ok (PutNumbers name k s numbers)))
+    else Err BadForm
+
+abbrev pub numbers_said : List (List ℕ) → Result Said LineError
+numbers_said fields = numbers_at (before_first is_open (field_at fields 1)) (field_at fields 1)
+    (size_named (field_at fields 3)) (field_at fields 5)
+
 abbrev pub job_said : List (List ℕ) → Option ℕ → Option (List ℕ) → Result Said LineError
 job_said fields budget context = Ok (Job (held_at fields 1) (field_at fields 2) budget context)
 
@@ -135,7 +181,7 @@ work_of fields =
     then budgeted_said fields (Some (field_at fields 6))
     else Err BadForm)))))
 
--- a line about an array or a variable, or about a program or a job
+-- a line about an array, a variable or a pair, or about a program or a job
 abbrev pub arrays_of : List (List ℕ) → Result Said LineError
 arrays_of fields =
     if has_form array_form fields then array_said fields false false
@@ -145,7 +191,9 @@ arrays_of fields =
     then array_said fields true true
     else (if has_form data_form fields then data_said fields
     else (if has_form variable_form fields then variable_said fields
-    else work_of fields)))))
+    else (if has_form put_form fields then put_said fields
+    else (if has_form put_numbers_form fields then numbers_said fields
+    else work_of fields)))))))
 
 -- a line about a map that grows, about an array or a variable, where there may be such, or about a
 -- program or a job
@@ -179,6 +227,8 @@ said_by (statement.Map name shape) = Map name.now shape
 said_by (statement.Array name shape) = Array name.now shape
 said_by (statement.Data d) = Data d.array.now d.at d.digits.now
 said_by (statement.Variable v) = Variable v.name.now v.array.now v.at v.size
+said_by (statement.Put p) = Put p.name.now p.key.now p.value.now
+said_by (statement.PutNumbers p) = PutNumbers p.name.now p.key p.size p.numbers.now
 said_by (statement.Program name) = Program name.now
 said_by (statement.Words name digits) = Words name.now digits.now
 said_by (statement.Job j) = Job j.cpu j.program.now j.budget (option_copied j.context)

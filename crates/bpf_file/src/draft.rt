@@ -31,6 +31,7 @@ use bpf_base::DEFAULT_BUDGET;
 use bpf_cpu::{Job, Setup};
 use bpf_loader::{Named, Program};
 use bpf_names::{Names, Variable};
+use bpf_pairs::Pair;
 use bpf_shared::{ArrayShape, MapShape, ShapeError, Size, StoreShape};
 use bpf_text::Symbols;
 use hex::FromHexError;
@@ -61,6 +62,8 @@ pub struct Draft<'a> {
     pub arrays: Vec<ArrayShape>,
     /// What each array has at first, as far as lines say it.
     pub contents: Vec<Vec<u8>>,
+    /// The pairs that maps have at first.
+    pub pairs: Vec<Pair>,
     /// The programs' names.
     pub titles: Vec<&'a [u8]>,
     pub programs: Vec<Program>,
@@ -108,7 +111,7 @@ fn served(cpus: u8, cpu: Option<u64>) -> Option<u8>
 }
 
 /// The bytes of a line's hex digits.
-fn decoded(alloc: Global, line: usize, digits: &[u8]) -> Result<Vec<u8>, FileError>
+pub(crate) fn decoded(alloc: Global, line: usize, digits: &[u8]) -> Result<Vec<u8>, FileError>
     ensures { HasContext (λ v. v.items) line (decode_of digits.now) result }
 {
     match hex::decode(alloc, digits) {
@@ -145,6 +148,7 @@ impl<'a> Draft<'a> {
             maps: Vec::new(alloc),
             arrays: Vec::new(alloc),
             contents: Vec::new(alloc),
+            pairs: Vec::new(alloc),
             titles: Vec::new(alloc),
             programs: Vec::new(alloc),
             jobs: Vec::new(alloc),
@@ -339,7 +343,12 @@ impl<'a> Draft<'a> {
         }
     }
 
-    fn put_data(&mut self, number: usize, at: usize, bytes: &[u8]) -> Result<(), FileError>
+    pub(crate) fn put_data(
+        &mut self,
+        number: usize,
+        at: usize,
+        bytes: &[u8],
+    ) -> Result<(), FileError>
         requires number { number < length self.old.contents.items }
         requires room { at + length bytes.now < 2 ^ 64 }
         ensures ok { OnOk result
@@ -599,6 +608,8 @@ impl<'a> Draft<'a> {
             Statement::Array(name, shape) => self.add_array(alloc, line, name, shape),
             Statement::Data(data) => self.add_data(alloc, line, data),
             Statement::Variable(variable) => self.add_variable(alloc, line, variable),
+            Statement::Put(put) => self.add_put(alloc, line, put),
+            Statement::PutNumbers(put) => self.add_numbers(alloc, line, put),
             Statement::Program(name) => self.open(line, name),
             Statement::Words(name, digits) => self.add_words(alloc, line, name, digits),
             Statement::Job(job) => self.add_job(alloc, line, job),
@@ -645,6 +656,7 @@ impl<'a> Draft<'a> {
         Ok(RunFile {
             setup: Setup {
                 shape,
+                pairs: self.pairs,
                 programs: self.programs,
                 jobs: self.jobs,
             },

@@ -22,11 +22,14 @@ pub enum Reason {
     #[error("the name is there before")]
     TwiceName,
     /// L5
-    #[error("a program, a CPU or an array that isn't there")]
+    #[error("a program, a CPU, a map or an array that isn't there")]
     Unknown,
     /// L6: the line of a `prog`.
     #[error("the program has no end")]
     NoEnd,
+    /// S12: the size of its key or its value, a key that is there before, or one too many.
+    #[error("the pair doesn't fit its map")]
+    BadPair,
     /// S1 to S6, and S8 to S12
     #[error("{0}")]
     Shape(ShapeError),
@@ -71,6 +74,7 @@ impl Reason {
             Reason::TwiceName => Diagnostic::new(Code::L4),
             Reason::Unknown => Diagnostic::new(Code::L5),
             Reason::NoEnd => Diagnostic::new(Code::L6),
+            Reason::BadPair => Diagnostic::new(Code::S12),
             Reason::Shape(error) => error.diagnostic(),
             Reason::NotHex => Diagnostic::new(Code::H1),
             Reason::BadInstruction => Diagnostic::new(Code::A1),

@@ -16,7 +16,8 @@ pub enum Part {
     Number,
     /// Hex digits, which are looked at when the context is made; 4,096 bytes at most.
     Context,
-    /// Hex digits of a program or of an array, of any length.
+    /// Hex digits of a program, an array or a map, of any length; an index; a name with one, a size,
+    /// or numbers.
     Words,
 }
 
@@ -153,6 +154,19 @@ pub const VARIABLE: [Part; 5] = [
     Part::Number,
 ];
 
+/// `put NAME KEY VALUE`, in version 3.
+pub const PUT: [Part; 4] = [Part::Word(Key::Put), Part::Name, Part::Words, Part::Words];
+
+/// `put NAME[K] of SIZE = N,N,..`, in version 3.
+pub const PUT_NUMBERS: [Part; 6] = [
+    Part::Word(Key::Put),
+    Part::Words,
+    Part::Word(Key::Of),
+    Part::Words,
+    Part::Word(Key::Equals),
+    Part::Words,
+];
+
 /// `prog NAME`, before lines of assembly.
 pub const PROGRAM: [Part; 2] = [Part::Word(Key::Program), Part::Name];
 
@@ -206,6 +220,13 @@ fn is_number(field: &[u8]) -> bool
     }
 }
 
+/// Whether a field is a name of 32 characters at most.
+pub fn is_name(field: &[u8]) -> bool
+    ensures { result ≡ is_part Part.Name field.now }
+{
+    words::is_name(field) && field.len() <= 32
+}
+
 impl Part {
     /// Whether a field is that.
     fn is(self, field: &[u8]) -> bool
@@ -213,7 +234,7 @@ impl Part {
     {
         match self {
             Part::Word(key) => key.is(field),
-            Part::Name => words::is_name(field) && field.len() <= 32,
+            Part::Name => is_name(field),
             Part::Number => is_number(field),
             Part::Context => field.len() <= 2 * MAX_CONTEXT,
             Part::Words => true,

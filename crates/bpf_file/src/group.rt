@@ -20,7 +20,7 @@ pub fn group_of(word: &[u8]) -> u8
         4
     } else if Key::Array.is(word) {
         5
-    } else if Key::Data.is(word) || Key::Variable.is(word) {
+    } else if Key::Data.is(word) || Key::Variable.is(word) || Key::Put.is(word) {
         6
     } else if Key::Program.is(word) {
         7

@@ -33,6 +33,12 @@ pub enum Key {
     Data,
     /// Before a variable's name.
     Variable,
+    /// Before a pair of a map, or a value of an array.
+    Put,
+    /// Before the size of numbers.
+    Of,
+    /// Before numbers.
+    Equals,
     Program,
     Hex,
     Job,
@@ -66,6 +72,9 @@ impl Key {
             Key::Frozen => "frozen",
             Key::Data => "data",
             Key::Variable => "var",
+            Key::Put => "put",
+            Key::Of => "of",
+            Key::Equals => "=",
             Key::Program => "prog",
             Key::Hex => "hex",
             Key::Job => "job",

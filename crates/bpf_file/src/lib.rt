@@ -12,6 +12,7 @@ mod key;
 pub mod laws;
 mod line;
 mod program;
+mod putting;
 mod reader;
 mod statement;
 mod symbols;

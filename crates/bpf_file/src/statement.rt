@@ -1,9 +1,11 @@
 //! What a line of a run file says.
 
-ghost use Rattle.std.specs.Prelude.{◌≡◌, ◌≤◌, map, IfOk, IsUtf8};
+ghost use Rattle.std.specs.Prelude.{◌≡◌, ◌≤◌, length, map, IfOk, IsUtf8};
+ghost use Rattle.std.specs.List.{after_first, before_first};
 ghost use Rattle.std.specs.Option.{option_copied};
+ghost use Rattle.bpf_lines.specs.Words.{written_number};
 ghost use Rattle.bpf_file.specs.Form.{field_at};
-ghost use Rattle.bpf_file.specs.Statement.{count_at, held_at, Says, cpus_said, seed_said, map_said, masked_said, array_said, data_said, variable_at, variable_said, job_said, budgeted_said, work_of, arrays_of, growing_of, statement_of};
+ghost use Rattle.bpf_file.specs.Statement.{limited, count_at, held_at, Says, cpus_said, seed_said, map_said, masked_said, array_said, data_said, variable_at, variable_said, put_said, is_open, closed, key_number, size_named, numbers_said, job_said, budgeted_said, work_of, arrays_of, growing_of, statement_of};
 
 use crate::line::LineError;
 use crate::version::Version;
@@ -27,6 +29,8 @@ pub enum Statement<'a> {
     Array(&'a str, ArrayShape),
     Data(DataLine<'a>),
     Variable(VariableLine<'a>),
+    Put(PutLine<'a>),
+    PutNumbers(NumbersLine<'a>),
     /// A program's name; its assembly lines follow.
     Program(&'a [u8]),
     /// A program's name, and its words as hex digits.
@@ -56,6 +60,30 @@ pub struct VariableLine<'a> {
     pub size: Size,
 }
 
+/// A pair of a map, or a value of an array, as its line says it.
+#[derive(Clone, Copy)]
+pub struct PutLine<'a> {
+    /// The name of the map or the array.
+    pub name: &'a str,
+    /// The key's hex digits, or the index.
+    pub key: &'a [u8],
+    /// The value's hex digits.
+    pub value: &'a [u8],
+}
+
+/// A pair of a map, or a value of an array, by numbers, as its line says it.
+#[derive(Clone, Copy)]
+pub struct NumbersLine<'a> {
+    /// The name of the map or the array.
+    pub name: &'a str,
+    /// The number of the key, or the index.
+    pub key: u64,
+    /// The size of each number of the value.
+    pub size: Size,
+    /// The numbers, apart by commas.
+    pub numbers: &'a [u8],
+}
+
 /// A job as its line says it.
 #[derive(Clone, Copy)]
 pub struct JobLine<'a> {
@@ -72,12 +100,12 @@ pub struct JobLine<'a> {
 /// The greatest size of a map or an array, offset, and number of CPUs that a line may have.
 const MOST: u64 = 0xffff_ffff;
 
-/// The number that a field is, if it is in its range.
-fn count_at(fields: &[&[u8]], at: usize, most: u64) -> Result<u64, LineError>
-    ensures number { result ≡ count_at (map (λ f. f.now) fields.now) at most }
+/// The number that a word is, if it is in its range.
+fn count_in(word: &[u8], most: u64) -> Result<u64, LineError>
+    ensures number { result ≡ limited most (written_number word.now) }
     ensures within { IfOk result (λ n. n ≤ most) }
 {
-    match words::number(form::field_at(fields, at)) {
+    match words::number(word) {
         Ok(number) => {
             if number <= most {
                 Ok(number)
@@ -88,6 +116,14 @@ fn count_at(fields: &[&[u8]], at: usize, most: u64) -> Result<u64, LineError>
         Err(NumberError::TooLarge) => Err(LineError::BadNumber),
         Err(NumberError::NoNumber) => Err(LineError::BadForm),
     }
+}
+
+/// The number that a field is, if it is in its range.
+fn count_at(fields: &[&[u8]], at: usize, most: u64) -> Result<u64, LineError>
+    ensures number { result ≡ count_at (map (λ f. f.now) fields.now) at most }
+    ensures within { IfOk result (λ n. n ≤ most) }
+{
+    count_in(form::field_at(fields, at), most)
 }
 
 /// The number that a field is, if 64 bits hold it.
@@ -221,6 +257,108 @@ fn variable<'a>(fields: &[&'a [u8]]) -> Result<Statement<'a>, LineError>
     sized(name, array, at as u32, variable::size_of(bytes as u32))
 }
 
+/// A pair or a value, whose second field is a name.
+fn put<'a>(fields: &[&'a [u8]]) -> Result<Statement<'a>, LineError>
+    requires { IsUtf8 (field_at (map (λ f. f.now) fields.now) 1) }
+    ensures { Says result (put_said (map (λ f. f.now) fields.now)) }
+{
+    let Ok(name) = str::from_utf8(form::field_at(fields, 1)) else {
+        unreachable!()
+    };
+    Ok(Statement::Put(PutLine {
+        name,
+        key: form::field_at(fields, 2),
+        value: form::field_at(fields, 3),
+    }))
+}
+
+/// How much of a word is before its first `[`.
+fn open_in(word: &[u8]) -> usize
+    ensures value { result ≡ length (before_first is_open word.now) }
+    ensures bound { result ≤ length word.now }
+{
+    word.iter().take_while(|byte| **byte != b'[').count()
+}
+
+/// What is before it.
+fn before_open<'a>(word: &'a [u8]) -> &'a [u8]
+    ensures { result.now ≡ before_first is_open word.now }
+{
+    &word[..open_in(word)]
+}
+
+/// What is after it.
+fn after_open<'a>(word: &'a [u8]) -> &'a [u8]
+    ensures { result.now ≡ after_first is_open word.now }
+{
+    let place = open_in(word);
+    if place < word.len() {
+        &word[place + 1..]
+    } else {
+        &word[place..]
+    }
+}
+
+/// What is before the last byte, if that is `]`.
+#[tactic(auto, using(crate::proofs::Puts::closed_none))]
+fn closed<'a>(word: &'a [u8]) -> Option<&'a [u8]>
+    ensures { option_copied result ≡ closed word.now }
+{
+    let (last, digits) = word.split_last()?;
+    if *last == b']' { Some(digits) } else { None }
+}
+
+/// The number between brackets.
+fn key_number(place: &[u8]) -> Result<u64, LineError>
+    ensures { result ≡ key_number place.now }
+{
+    let Some(digits) = closed(after_open(place)) else {
+        return Err(LineError::BadForm);
+    };
+    count_in(digits, u64::MAX)
+}
+
+/// The size that a word spells.
+fn size_named(word: &[u8]) -> Option<Size>
+    ensures { result ≡ size_named word.now }
+{
+    if word == b"u8".as_slice() {
+        Some(Size::Byte)
+    } else if word == b"u16".as_slice() {
+        Some(Size::Half)
+    } else if word == b"u32".as_slice() {
+        Some(Size::Word)
+    } else if word == b"u64".as_slice() {
+        Some(Size::Double)
+    } else {
+        None
+    }
+}
+
+/// A pair or a value by numbers.
+fn put_numbers<'a>(fields: &[&'a [u8]]) -> Result<Statement<'a>, LineError>
+    ensures { Says result (numbers_said (map (λ f. f.now) fields.now)) }
+{
+    let place = form::field_at(fields, 1);
+    let name = before_open(place);
+    if !form::is_name(name) {
+        return Err(LineError::BadForm);
+    }
+    let Ok(name) = str::from_utf8(name) else {
+        unreachable!()
+    };
+    let key = key_number(place)?;
+    let Some(size) = size_named(form::field_at(fields, 3)) else {
+        return Err(LineError::BadForm);
+    };
+    Ok(Statement::PutNumbers(NumbersLine {
+        name,
+        key,
+        size,
+        numbers: form::field_at(fields, 5),
+    }))
+}
+
 /// A job with this budget and context.
 fn job<'a>(
     fields: &[&'a [u8]],
@@ -270,7 +408,7 @@ fn work<'a>(fields: &[&'a [u8]]) -> Result<Statement<'a>, LineError>
     }
 }
 
-/// A line about an array or a variable, or about a program or a job.
+/// A line about an array, a variable or a pair, or about a program or a job.
 fn arrays<'a>(fields: &[&'a [u8]]) -> Result<Statement<'a>, LineError>
     ensures { Says result (arrays_of (map (λ f. f.now) fields.now)) }
 {
@@ -286,6 +424,10 @@ fn arrays<'a>(fields: &[&'a [u8]]) -> Result<Statement<'a>, LineError>
         data(fields)
     } else if form::has_form(&form::VARIABLE, fields) {
         variable(fields)
+    } else if form::has_form(&form::PUT, fields) {
+        put(fields)
+    } else if form::has_form(&form::PUT_NUMBERS, fields) {
+        put_numbers(fields)
     } else {
         work(fields)
     }

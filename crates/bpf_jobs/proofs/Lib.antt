@@ -1,5 +1,6 @@
 pub mod ArrayLines
 pub mod Asked
+pub mod Filling
 pub mod LineLaws
 pub mod ListLines
 pub mod MapLines

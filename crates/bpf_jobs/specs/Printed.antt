@@ -5,9 +5,11 @@ use Rattle.std.specs.List.{list_any}
 use Rattle.hex.specs.Hex.{encode_lower}
 use Rattle.bpf_shared.specs.declared.shapes.ArrayShape.{ArrayShape}
 use Rattle.bpf_shared.specs.Shape.{Shape, copies}
-use Rattle.bpf_shared.specs.Store.{Plain, as_made, fixed_number}
+use Rattle.bpf_shared.specs.Store.{Plain, fixed_number}
 use Rattle.bpf_shared.specs.Listing.{Pair, pair_at, IsListing}
 use Rattle.bpf_names.specs.Names.{Names, Variable, has_byte, number_in, variable_of}
+use Rattle.bpf_pairs.specs.Pairs.{Pair as FirstPair, pair_of}
+use Rattle.bpf_pairs.specs.Filled.{filled}
 use Rattle.bpf_loader.specs.Loaded.{Loaded}
 use Rattle.bpf_cpu.specs.declared.outcome.Outcome.{Outcome}
 use Rattle.bpf_cpu.specs.declared.outcome.Outcome.TheVariants as outcome
@@ -198,22 +200,24 @@ list_lines lists names (suc c) =
     list_lines lists names c ++ cpu_lines c names (length (lists c)) (lists c)
 
 -- ---- a run
--- a new store with these programs and jobs
-abbrev pub first_world : Shape → List Loaded → List Task → World
-first_world h programs jobs =
-    record { store = as_made h; programs = programs; jobs = jobs; lists = first_lists false }
+-- a new store whose maps have these pairs, with these programs and jobs
+abbrev pub first_world : Shape → List FirstPair → List Loaded → List Task → World
+first_world h pairs programs jobs =
+    record { store = filled h pairs; programs = programs; jobs = jobs; lists = first_lists false }
 
 -- the same, in which lists of keys are asked for or not
-abbrev pub asked_world : Bool → Shape → List Loaded → List Task → World
-asked_world keys h programs jobs =
-    record (first_world h programs jobs) { lists = first_lists keys }
+abbrev pub asked_world : Bool → Shape → List FirstPair → List Loaded → List Task → World
+asked_world keys h pairs programs jobs =
+    record (first_world h pairs programs jobs) { lists = first_lists keys }
 
 -- those of what a machine is made of
 abbrev pub first_of : Setup → World
-first_of s = first_world s.shape s.programs.items (map waiting s.jobs.items)
+first_of s = first_world s.shape (map pair_of s.pairs.items) s.programs.items
+    (map waiting s.jobs.items)
 
 abbrev pub asked_of : Bool → Setup → World
-asked_of keys s = asked_world keys s.shape s.programs.items (map waiting s.jobs.items)
+asked_of keys s = asked_world keys s.shape (map pair_of s.pairs.items) s.programs.items
+    (map waiting s.jobs.items)
 
 -- of the variables, in the order of their lines in the file, and then of the arrays
 abbrev pub fixed_lines : Plain → Names → List ℕ

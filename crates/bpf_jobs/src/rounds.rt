@@ -18,6 +18,7 @@ use crate::variables::list_variables;
 use bpf_cpu::Setup;
 use bpf_machine::Machine;
 use bpf_names::Names;
+use bpf_pairs::put_pairs;
 use bpf_plain::PlainStore;
 use std::alloc::{AllocError, Global};
 
@@ -31,7 +32,8 @@ pub struct Report {
     pub stopped: bool,
 }
 
-/// A machine over a new store, whose jobs all wait. Out of memory is the only refusal.
+/// A machine over a new store whose maps have their pairs. Its jobs all wait. Out of memory is the
+/// only refusal.
 pub fn make_machine(alloc: Global, setup: Setup) -> Result<Machine, AllocError>
     requires { IsRunnable setup }
     ensures { IfOk result (λ m. Shows m (first_of setup)) }
@@ -39,21 +41,26 @@ pub fn make_machine(alloc: Global, setup: Setup) -> Result<Machine, AllocError>
     make_asked(alloc, setup, false)
 }
 
-/// A machine over a new store, whose jobs all wait, and which lists keys or doesn't.
+/// The same, which lists keys or doesn't.
 pub fn make_asked(alloc: Global, setup: Setup, keys: bool) -> Result<Machine, AllocError>
     requires { IsRunnable setup }
     ensures { IfOk result (λ m. Shows m (asked_of keys setup)) }
 {
     let Setup {
         shape,
+        pairs,
         programs,
         jobs,
     } = setup;
     // The call says that the shape is in range, and so that a store as made is sound.
     let _ = shape.cpus();
-    let Ok(store) = PlainStore::new(alloc, shape) else {
+    let Ok(mut store) = PlainStore::new(alloc, shape) else {
         return Err(AllocError);
     };
+    // Each is done, as the setup's pairs are.
+    if !put_pairs(&mut store, 0, &pairs) {
+        return Err(AllocError);
+    }
     if keys {
         match Machine::with_keys(alloc, store, programs, jobs) {
             Ok(machine) => Ok(machine),

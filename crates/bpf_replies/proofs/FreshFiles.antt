@@ -11,7 +11,12 @@ use Rattle.bpf_jobs.specs.declared.rounds.Report.{Report}
 use Rattle.bpf_jobs.specs.Printed.{asked_world, IsReportBy}
 use Rattle.bpf_events.specs.Reports.{IsHistory}
 use Rattle.bpf_debug.specs.Laws.{IsNew}
-use Rattle.bpf_debug.proofs.OwnValues.{made_own}
+use Rattle.bpf_debug.proofs.OwnValues.{calls_keep, made_own}
+use Rattle.bpf_shared.specs.Store.{as_made}
+use Rattle.bpf_pairs.specs.Pairs.{pair_of}
+use Rattle.bpf_pairs.specs.Putting.{first_history}
+use Rattle.bpf_pairs.specs.Filled.{filled}
+use Rattle.bpf_pairs.proofs.Filling.{filled_sound, pairs_are_put}
 use Rattle.bpf_file.specs.declared.file.RunFile.{RunFile}
 use Rattle.bpf_file.specs.File.{File, file_of, shape_of}
 use Rattle.bpf_file.specs.Reading.{IsRunFile}
@@ -36,7 +41,7 @@ waits task (Ended outcome) e h = absurd h
 
 pub fresh : (f : File) → IsShape (shape_of f) → CanRun f → IsFresh (first_world_of f)
 fresh f shape can = record {
-  store = as_made_sound (shape_of f) shape;
+  store = filled_sound (shape_of f) f.pairs shape can.pairs;
   waits = λ j task at.
       let job : IsJobFor f.cpus (length f.programs) task =
       each (IsJobFor f.cpus (length f.programs)) f.jobs can.jobs j task at in
@@ -45,7 +50,7 @@ fresh f shape can = record {
 
 -- and no two keys lead to one value
 pub is_new : (f : File) → IsShape (shape_of f) → CanRun f → IsNew (first_world_of f)
-is_new f shape can = record { fresh = fresh f shape can; own = made_own (shape_of f) }
+is_new f shape can = record { fresh = fresh f shape can; own = (calls_keep (as_made (shape_of f)) (filled (shape_of f) f.pairs) (first_history f.pairs) (as_made_sound (shape_of f) shape, made_own (shape_of f)) (pairs_are_put (shape_of f) f.pairs shape can.pairs)).1 }
 
 pub fresh_asked : (keys : Bool) (f : File) → IsShape (shape_of f) → CanRun f → IsFresh (asked_world_of keys f)
 fresh_asked keys f shape can = record { store = (fresh f shape can).store; waits = (fresh f shape can).waits }
@@ -53,7 +58,7 @@ fresh_asked keys f shape can = record { store = (fresh f shape can).store; waits
 -- what was printed of the file that was read is what is to be printed of the text's file
 pub told : (by : List (ℕ × ℕ)) (keys maps : Bool) (text : List ℕ) (file : RunFile) (r : Report)
     → IsRunFile text (Ok (file_of file))
-    → IsReportBy (asked_world keys file.setup.shape file.setup.programs.items (map waiting file.setup.jobs.items))
+    → IsReportBy (asked_world keys file.setup.shape (map pair_of file.setup.pairs.items) file.setup.programs.items (map waiting file.setup.jobs.items))
     by (names_of file.names) maps (string_bytes r.text) r.stopped
     → (f : File) × IsRunFile text (Ok f) × IsToldBy by keys maps f (string_bytes r.text) r.stopped
 told by keys maps text file r said report = (file_of file, said, report)
@@ -61,7 +66,7 @@ told by keys maps text file r said report = (file_of file, said, report)
 -- and so with all that happens
 pub history : (by : List (ℕ × ℕ)) (keys maps : Bool) (text : List ℕ) (file : RunFile) (r : Report)
     → IsRunFile text (Ok (file_of file))
-    → IsHistory (asked_world keys file.setup.shape file.setup.programs.items (map waiting file.setup.jobs.items))
+    → IsHistory (asked_world keys file.setup.shape (map pair_of file.setup.pairs.items) file.setup.programs.items (map waiting file.setup.jobs.items))
     by (names_of file.names) maps (string_bytes r.text) r.stopped
     → IsHistoryOfFile by keys maps text (reply.Jobs r.text r.stopped)
 history by keys maps text file r said report = (file_of file, said, report)

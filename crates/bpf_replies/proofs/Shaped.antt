@@ -1,24 +1,30 @@
 -- Every file that a text says has a shape that a store may have.
-use Rattle.std.proofs.Common.{◌≡◌, ℕ, ◌+◌, ◌/◌, ◌≤◌, ◌==◌, nat_lt, Bool, true, false, if◌then◌else◌, List, [], ◌∷◌, length, Option, Some, None, Result, Ok, Err, sym, subst, arith}
+use Rattle.std.proofs.Common.{◌≡◌, ℕ, ◌+◌, ◌-◌, ◌/◌, ◌≤◌, ◌==◌, nat_le, nat_lt, Bool, true, false, if◌then◌else◌, List, [], ◌∷◌, length, Option, Some, None, Result, Ok, Err, sym, subst, arith}
 use Rattle.std.proofs.lemmas.Bool.Decides.{nat_tests}
 use Rattle.std.specs.Prelude.{MatchResult, slice_get}
 use Rattle.hex.specs.Hex.{decode_of}
 use Rattle.hex.specs.declared.error.FromHexError.{FromHexError}
+use Rattle.bpf_base.specs.Bytes.{low_bytes}
 use Rattle.bpf_shared.specs.declared.events.Size.{Size}
+use Rattle.bpf_shared.specs.declared.shapes.ArrayShape.{ArrayShape}
+use Rattle.bpf_shared.specs.declared.shapes.MapShape.{MapShape}
 use Rattle.bpf_shared.specs.Shape.{IsShape}
+use Rattle.bpf_pairs.specs.Pairs.{Pair, has_key}
 use Rattle.bpf_shared.proofs.Refusing.{outside_false, maps_in_range, arrays_in_range}
 use Rattle.bpf_lines.specs.Lines.{lines_of, fields_of}
+use Rattle.bpf_lines.specs.Words.{written_number}
+use Rattle.bpf_file.specs.Contents.{up_to}
 use Rattle.bpf_loader.specs.Loaded.{Loaded}
 use Rattle.bpf_file.specs.declared.error.FileError.{FileError}
 use Rattle.bpf_file.specs.declared.error.FileError.TheVariants.{Refused}
 use Rattle.bpf_file.specs.declared.error.Reason.{Reason}
 use Rattle.bpf_file.specs.declared.error.Reason.TheVariants as reason
 use Rattle.bpf_file.specs.Form.{is_there}
-use Rattle.bpf_file.specs.Statement.{Said, Version, Cpus, Seed, Map, Array, Data, Variable, Program, Words, Job, statement_of}
+use Rattle.bpf_file.specs.Statement.{Said, Version, Cpus, Seed, Map, Array, Data, Variable, Put, PutNumbers, Program, Words, Job, statement_of}
 use Rattle.bpf_file.specs.File.{File, shape_of}
-use Rattle.bpf_file.specs.Parts.{Part, State, Between, Within, nothing, place_of, array_place, with_cpus, with_map, with_array, with_variable}
+use Rattle.bpf_file.specs.Parts.{Part, State, Between, Within, nothing, place_of, array_place, with_cpus, with_map, with_array, with_pair, with_variable}
 use Rattle.bpf_file.specs.Programs.{text_of_lines}
-use Rattle.bpf_file.specs.Rows.{unless, cpus_refusal, map_refusal, array_refusal, data_refusal, data_laid, or_refused, data_added, name_refusal, place_refusal, variable_added, program_added, WordsAdd, served, steps_of, context_of, job_added, placed, AddsLine}
+use Rattle.bpf_file.specs.Rows.{unless, cpus_refusal, map_refusal, array_refusal, data_refusal, data_laid, or_refused, data_added, name_refusal, place_refusal, variable_added, is_sized, is_numbered, pair_refusal, pair_put, value_put, key_put, pair_added, value_place, element_put, element_added, numbered_bytes, pair_numbered, element_numbered, put_added, numbers_added, program_added, WordsAdd, served, steps_of, context_of, job_added, placed, AddsLine}
 use Rattle.bpf_file.specs.Reading.{AddsOrRefuses, FieldsSay, is_end, Belongs, ReadsLine, finished, AreRead, IsRunFile}
 use Rattle.bpf_file.specs.Private.Fits.{IsFit, IsFitState, IsFitResult}
 use Rattle.bpf_file.proofs.Fits.{fit_nothing, line_fits, opening_fits, section_fits}
@@ -53,6 +59,61 @@ variable_closed n p name (Some a) at size =
     unless_closed n (place_refusal a at size (slice_get p.file.arrays a)) (with_variable p (record { name = name; array = a; at = at; size = size }))
 variable_closed n p name None at size = tt
 
+if_closed : (b : Bool) (r s : Result State FileError) → IsClosed r → IsClosed s → IsClosed (if b then r else s)
+if_closed true r s x y = x
+if_closed false r s x y = y
+
+pair_closed : (n : ℕ) (p : Part) (pair : Pair) → IsClosed (pair_put n p pair)
+pair_closed n p pair = if_closed (has_key pair.map pair.key p.file.pairs) (Err (Refused n reason.BadPair)) (Ok (Between (with_pair p pair))) tt tt
+
+value_closed : (n : ℕ) (p : Part) (m : ℕ) (key : List ℕ) (value : Result (List ℕ) FromHexError) → IsClosed (value_put n p m key value)
+value_closed n p m key (Ok value) = pair_closed n p (record { map = m; key = key; value = value })
+value_closed n p m key (Err e) = if_closed (has_key m key p.file.pairs) (Err (Refused n reason.BadPair)) (Err (Refused n reason.NotHex)) tt tt
+
+key_closed : (n : ℕ) (p : Part) (m : ℕ) (key value : Result (List ℕ) FromHexError) → IsClosed (key_put n p m key value)
+key_closed n p m (Ok key) value = value_closed n p m key value
+key_closed n p m (Err e) value = tt
+
+pair_added_closed : (n : ℕ) (p : Part) (m : ℕ) (key value : List ℕ) (h : Option MapShape) → IsClosed (pair_added n p m key value h)
+pair_added_closed n p m key value None = tt
+pair_added_closed n p m key value (Some h) =
+    or_closed n (pair_refusal p.file m (is_sized (length key / 2) (length value / 2) h) h) (key_put n p m (decode_of key) (decode_of value)) (key_closed n p m (decode_of key) (decode_of value))
+
+element_closed : (n : ℕ) (p : Part) (a : ℕ) (at : Result ℕ Reason) (bytes : Result (List ℕ) FromHexError) → IsClosed (element_put n p a at bytes)
+element_closed n p a (Ok at) bytes = laid_closed n p a at bytes
+element_closed n p a (Err why) bytes = tt
+
+element_added_closed : (n : ℕ) (p : Part) (a : ℕ) (i : Option ℕ) (value : List ℕ) (g : Option ArrayShape) → IsClosed (element_added n p a i value g)
+element_added_closed n p a i value None = tt
+element_added_closed n p a i value (Some g) = element_closed n p a (value_place a g (length value / 2 == g.value) i) (decode_of value)
+
+pair_numbered_closed : (n : ℕ) (p : Part) (m k : ℕ) (bytes : List ℕ) (h : Option MapShape) → IsClosed (pair_numbered n p m k bytes h)
+pair_numbered_closed n p m k bytes None = tt
+pair_numbered_closed n p m k bytes (Some h) =
+    let pair : Pair = record { map = m; key = low_bytes h.key k; value = up_to h.value bytes } in
+    or_closed n (pair_refusal p.file m (is_numbered k (length bytes) h) h) (pair_put n p pair) (pair_closed n p pair)
+
+element_numbered_closed : (n : ℕ) (p : Part) (a i : ℕ) (bytes : List ℕ) (g : Option ArrayShape) → IsClosed (element_numbered n p a i bytes g)
+element_numbered_closed n p a i bytes None = tt
+element_numbered_closed n p a i bytes (Some g) = element_closed n p a (value_place a g (nat_le (length bytes) g.value) (Some i)) (Ok (up_to g.value bytes))
+
+put_closed : (n : ℕ) (p : Part) (k : Option ℕ) (key value : List ℕ) → IsClosed (put_added n p k key value)
+put_closed n p None key value = tt
+put_closed n p (Some k) key value =
+    let maps = p.file.maps in
+    let a = k - length maps in
+    if_closed (nat_lt k (length maps)) (pair_added n p k key value (slice_get maps k)) (element_added n p a (written_number key) value (slice_get p.file.arrays a))
+    (pair_added_closed n p k key value (slice_get maps k)) (element_added_closed n p a (written_number key) value (slice_get p.file.arrays a))
+
+numbers_closed : (n : ℕ) (p : Part) (k : Option ℕ) (key : ℕ) (r : Result (List ℕ) Reason) → IsClosed (numbers_added n p k key r)
+numbers_closed n p k key (Err why) = tt
+numbers_closed n p None key (Ok bytes) = tt
+numbers_closed n p (Some k) key (Ok bytes) =
+    let maps = p.file.maps in
+    let a = k - length maps in
+    if_closed (nat_lt k (length maps)) (pair_numbered n p k key bytes (slice_get maps k)) (element_numbered n p a key bytes (slice_get p.file.arrays a))
+    (pair_numbered_closed n p k key bytes (slice_get maps k)) (element_numbered_closed n p a key bytes (slice_get p.file.arrays a))
+
 program_closed : (p : Part) (name : List ℕ) (o : Result Loaded FileError) → IsClosed (program_added p name o)
 program_closed p name (Ok program) = tt
 program_closed p name (Err e) = tt
@@ -86,6 +147,9 @@ module _ (n : ℕ) (p q : Part) (from : ℕ) (name : List ℕ) (lines : List (Li
   adds_first (Variable title array at size) e =
       absurd (never (or_refused n (name_refusal p.file title) (variable_added n p title (array_place p.file array) at size)) e
       (or_closed n (name_refusal p.file title) (variable_added n p title (array_place p.file array) at size) (variable_closed n p title (array_place p.file array) at size)))
+  adds_first (Put title key value) e = absurd (never (put_added n p (place_of title p.file.names.maps) key value) e (put_closed n p (place_of title p.file.names.maps) key value))
+  adds_first (PutNumbers title key size numbers) e =
+      absurd (never (numbers_added n p (place_of title p.file.names.maps) key (numbered_bytes size numbers)) e (numbers_closed n p (place_of title p.file.names.maps) key (numbered_bytes size numbers)))
   adds_first (Program title) e = opened (is_there (place_of title p.titles)) title e
   adds_first (Words title digits) w = absurd (words_closed (place_of title p.titles) n p title digits (Ok (Within q from name lines)) w)
   adds_first (Job cpu title steps context) e =

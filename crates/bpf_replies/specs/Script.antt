@@ -44,12 +44,12 @@ IsCut input file commands =
 
 -- the machine of a run file before its first turn
 abbrev pub first_world_of : File → World
-first_world_of f = first_world (shape_of f) f.programs f.jobs
+first_world_of f = first_world (shape_of f) f.pairs f.programs f.jobs
 
 -- the same, in which lists of keys are asked for or not
 abbrev pub asked_world_of : Bool → File → World
 asked_world_of keys f =
-    asked_world keys (shape_of f) f.programs f.jobs
+    asked_world keys (shape_of f) f.pairs f.programs f.jobs
 
 -- the first of these, without breakpoints, a watch or turns
 abbrev pub scene_of : File → Scene

@@ -8,7 +8,7 @@ use Rattle.bpf_threads.specs.declared.threads.Threads.{Threads}
 -- what is said of threads is true of a file's jobs
 abbrev pub AreThreadsOfFile : File → Threads → Type 0
 AreThreadsOfFile f t =
-    IsTrueOf (shape_of f) f.programs f.jobs t
+    IsTrueOf (shape_of f) f.pairs f.programs f.jobs t
 
 -- and of the jobs that a text says
 abbrev pub AreThreadsOf : List ℕ → Threads → Type 0

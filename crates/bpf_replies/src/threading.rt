@@ -19,6 +19,7 @@ fn threads_of(alloc: Global, file: &RunFile) -> Result<Threads, AllocError>
     may_differ(
         alloc,
         &file.setup.shape,
+        &file.setup.pairs,
         &file.setup.programs,
         &file.setup.jobs,
     )

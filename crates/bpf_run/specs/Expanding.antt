@@ -16,7 +16,7 @@ IsFilterOf patient races f x = x ≡ filter_of patient races f
 
 -- the first state, where that is asked for; else nothing, where no line is read
 abbrev pub IsExpandedText : (first : Bool) → File → List ℕ → Type 0
-IsExpandedText true f printed = IsFirstLine (shape_of f) f.programs f.jobs printed
+IsExpandedText true f printed = IsFirstLine (shape_of f) f.pairs f.programs f.jobs printed
 IsExpandedText false f printed = printed ≡ []
 
 -- that, or the file's first refusal

@@ -1,7 +1,7 @@
 -- What all workers of a store did, in the store's one history.
-use Rattle.std.proofs.Common.{◌≡◌, ℕ, zero, suc, ◌+◌, ◌<◌, ◌≤◌, ◌==◌, Bool, true, false, List, [], ◌∷◌, ◌++◌, None, Some, Option, IsSome, slice_get, All, cond, length, map, get_or, refl, ap, sym, subst, ◌∙◌, arith}
+use Rattle.std.proofs.Common.{◌≡◌, ℕ, zero, suc, ◌<◌, ◌≤◌, ◌==◌, Bool, true, false, List, [], ◌∷◌, ◌++◌, None, Some, Option, IsSome, slice_get, inl, inr, All, cond, length, map, get_or, refl, ap, sym, subst, ◌∙◌, arith}
 use Rattle.std.specs.Prelude.{option_map}
-use Rattle.std.proofs.lemmas.List.{get_or-map, get_or_default, length-map}
+use Rattle.std.proofs.lemmas.List.{get_or-map, get_or_default, length-map, append_assoc, append_cancel_left}
 use Rattle.std.proofs.lemmas.Option.{slice_get-map, slice_get-get_or}
 use Rattle.std.proofs.lemmas.List.Elements.{All-nil, All-cons}
 use Rattle.std.proofs.lemmas.Bool.Decides.{nat_tests}
@@ -11,34 +11,24 @@ use Rattle.bpf_shared.specs.declared.events.Event.{Event}
 use Rattle.bpf_shared.specs.declared.events.Entry.{Entry}
 use Rattle.bpf_shared.specs.declared.shapes.MapShape.{MapShape}
 use Rattle.bpf_shared.specs.KeyOrder.{Listed}
-use Rattle.bpf_shared.specs.Own.{in_run}
 use Rattle.bpf_shared.specs.History.{events_of, IsLegal}
 use Rattle.bpf_loader.specs.Loaded.{Loaded}
 use Rattle.bpf_cpu.specs.declared.job.Job.{Job}
 use Rattle.bpf_cpu.specs.declared.outcome.Outcome.{Outcome}
 use Rattle.bpf_cpu.specs.State.{start}
 use Rattle.bpf_cpu.specs.Task.{Task, waiting}
-use Rattle.hop_layout.specs.declared.about.About.{About}
-use Rattle.hop_words.specs.declared.known.Known.{Known}
 use Rattle.hop_words.specs.Inside.{Shown}
-use Rattle.hop_words.specs.Opens.{new_lane, lanes_from}
-use Rattle.hop_map.specs.Port.{Port, IsAllOf, IsPartOf, known_of, own_events}
-use Rattle.hop_map.specs.Stores.{ArePorts}
+use Rattle.hop_words.specs.Opens.{new_lane}
+use Rattle.hop_map.specs.Port.{Port, IsAllOf, IsPartOf, own_events}
+use Rattle.hop_map.specs.Stores.{HaveSeen, seen_by}
+use Rattle.bpf_shared.proofs.Chains.{events_of-append}
+use Rattle.bpf_shared.proofs.Puts.{equal_or_not}
 use Rattle.bpf_sched.specs.declared.assignment.Assignment.{Assignment}
 use Rattle.bpf_sched.specs.declared.worker.Worker.{Worker}
 use Rattle.bpf_sched.specs.Explained.{ExplainsJobs, IsExplained, IsWorn, waiting_context, jobs_of, ends_of, keys_events, listed_maps}
 use Rattle.bpf_sched.specs.Working.{AreListsFor, IsNew, RunsAndLists, assigned, outcome_of}
 use Rattle.bpf_sched.specs.Worked.{AreFor, IsReadyWorker, Worked, extends, found_in, listed_by}
 use Rattle.bpf_sched.proofs.Told.{explains_lists, ran_all}
-
-long_lanes : (a : About) (c n : ℕ) → length (lanes_from a c n) ≡ n
-long_lanes a c zero = refl
-long_lanes a c (suc n) = ap suc (long_lanes a (c + 1) n)
-
-lane_at : (a : About) (c n i : ℕ) (d : Known) → i < n → get_or (lanes_from a c n) i d ≡ new_lane a (c + i)
-lane_at a c zero i d inside = absurd (omega arith)
-lane_at a c (suc n) zero d inside = ap (λ (k : ℕ). new_lane a k) (let e : c ≡ c + 0 = omega arith in e)
-lane_at a c (suc n) (suc i) d inside = lane_at a (c + 1) n i d (omega arith) ∙ ap (λ (k : ℕ). new_lane a k) (let e : c + 1 + i ≡ c + suc i = omega arith in e)
 
 some_same : {A : Type 0} (x y : A) → Some x ≡ Some y → x ≡ y
 some_same x y e = cc
@@ -85,7 +75,7 @@ fit_lists keys maps tasks lists few same = record {
     there true [] m h e = cc
     there true (task ∷ tasks) m h e = e
 
-module _ {keys : Bool} (t : Shown) (jobs : List Job) (programs : List Loaded) (ports : List Port) (are : ArePorts t ports) (ws : List Worker) (for_jobs : AreFor keys t.about.shape.maps (map waiting jobs) t.about.shape.cpus ws)
+module _ {keys : Bool} (t : Shown) (jobs : List Job) (programs : List Loaded) (ports : List Port) (are : HaveSeen t (seen_by ports) ports) (ws : List Worker) (for_jobs : AreFor keys t.about.shape.maps (map waiting jobs) t.about.shape.cpus ws)
     (good : All (λ (job : Job). job.program < length programs) jobs) where
   abbrev tasks : List Task
   tasks = map waiting jobs
@@ -97,16 +87,20 @@ module _ {keys : Bool} (t : Shown) (jobs : List Job) (programs : List Loaded) (p
   no_port = record { table = t.id; known = new_lane t.about 0; arenas = []; batches = []; spilled = None }
 
   pub many : length ports ≡ cpus
-  many = sym (length-map ports known_of) ∙ (ap length are.new ∙ long_lanes t.about 0 cpus)
+  many = are.ports.count
 
-  known_at : (i : ℕ) → i < cpus → (get_or ports i no_port).known ≡ new_lane t.about i
-  known_at i inside =
-      sym (get_or-map known_of ports i no_port (new_lane t.about 0) (omega (arith, many)))
-      ∙ (ap (λ (l : List Known). get_or l i (new_lane t.about 0)) are.new
-      ∙ (lane_at t.about 0 cpus i (new_lane t.about 0) inside ∙ ap (λ (k : ℕ). new_lane t.about k) (let e : 0 + i ≡ i = omega arith in e)))
+  number_of : (i : ℕ) → i < cpus → (get_or ports i no_port).known.cpu ≡ i
+  number_of i inside = are.ports.numbered i (get_or ports i no_port) (slice_get-get_or ports i no_port (omega (arith, many)))
 
-  nothing_seen : (i : ℕ) → i < cpus → own_events (get_or ports i no_port) ≡ []
-  nothing_seen i inside = ap (λ (l : Known). events_of l.cpu l.seen) (known_at i inside)
+  seen_at : (i : ℕ) → i < cpus → (get_or ports i no_port).known.seen ≡ seen_by ports
+  seen_at i inside = are.seen i no_port (omega (arith, many))
+
+  first_own : (i : ℕ) → i < cpus → own_events (get_or ports i no_port) ≡ events_of i (seen_by ports)
+  first_own i inside = ap (λ (c : ℕ). events_of c (get_or ports i no_port).known.seen) (number_of i inside) ∙ ap (events_of i) (seen_at i inside)
+
+  none_seen : (ps : List Port) → length ps ≡ 0 → seen_by ps ≡ []
+  none_seen [] e = refl
+  none_seen (p ∷ ps) e = absurd (omega arith)
 
   module _ (equipped : List Worker) (size : length equipped ≡ length ws)
       (has_port : (c : ℕ) (d : Worker) (p : Port) → c < length ws → (get_or equipped c d).port ≡ Some (get_or ports c p))
@@ -124,9 +118,9 @@ module _ {keys : Bool} (t : Shown) (jobs : List Job) (programs : List Loaded) (p
     ready_at few i d inside = record {
       port = get_or ports i no_port;
       has = has_port i d no_port (omega (arith, for_jobs.size));
-      fits = are.each i no_port (omega (arith, many));
-      idle = ap in_run (nothing_seen i inside);
-      cpu = ap (λ (l : Known). l.cpu) (known_at i inside) ∙ sym (number_at i d inside);
+      fits = are.ports.each i no_port (omega (arith, many));
+      idle = are.ports.idle i no_port (omega (arith, many));
+      cpu = number_of i inside ∙ sym (number_at i d inside);
       new = subst (λ c. All (IsNew c (length programs)) (get_or equipped i d).workload.jobs.items) (sym (number_at i d inside))
           (subst (All (IsNew i (length programs))) (sym (given_at i d inside)) (new_all i (length programs) jobs good));
       lists = fit_lists keys t.about.shape.maps (jobs_of i tasks) (get_or equipped i d).workload.lists.items few (lists_at i d inside);
@@ -174,7 +168,7 @@ module _ {keys : Bool} (t : Shown) (jobs : List Job) (programs : List Loaded) (p
         cpu_at c inside =
             let d = worker_at c inside in
             ap (λ (p : Port). p.known.cpu) (back_at c d inside)
-            ∙ ((did c d inside).cpu ∙ (ap (λ (p : Port). p.known.cpu) (was_at c d inside) ∙ ap (λ (l : Known). l.cpu) (known_at c inside)))
+            ∙ ((did c d inside).cpu ∙ (ap (λ (p : Port). p.known.cpu) (was_at c d inside) ∙ number_of c inside))
 
         same_table : All (λ (p : Port). p.table ≡ t.id) back
         same_table = λ i e inside.
@@ -191,13 +185,30 @@ module _ {keys : Bool} (t : Shown) (jobs : List Job) (programs : List Loaded) (p
         module _ (history : List Entry) (legal : IsLegal t.about.shape history) (parts : All (IsPartOf history) back) (ends : List Outcome) (full : length ends ≡ length jobs)
             (noted : (c : ℕ) (d : Worker) → c < length vs → ends_of c tasks ends ≡ map outcome_of (get_or vs c d).workload.jobs.items)
             (here : All (λ (job : Job). job.cpu < cpus) jobs) where
-          own_at : (c : ℕ) (d : Worker) (inside : c < cpus) → events_of c history ≡ (did c d inside).events
+          own_at : (c : ℕ) (d : Worker) (inside : c < cpus) → events_of c history ≡ events_of c (seen_by ports) ++ (did c d inside).events
           own_at c d inside =
               let p = get_or back c no_port in
               let w = did c d inside in
               subst (λ (k : ℕ). events_of k history ≡ own_events p) (cpu_at c inside) (sym (parts c no_port (omega (arith, all_back))).1)
               ∙ (ap own_events (back_at c d inside)
-              ∙ (w.more ∙ ap (λ (l : List Event). l ++ w.events) (ap own_events (was_at c d inside) ∙ nothing_seen c inside)))
+              ∙ (w.more ∙ ap (λ (l : List Event). l ++ w.events) (ap own_events (was_at c d inside) ∙ first_own c inside)))
+
+          -- the history goes on from what all had seen
+          goes_on : (rest : List Entry) × (history ≡ seen_by ports ++ rest)
+          goes_on = elim (equal_or_not cpus 0) [
+            | inl none ↦ (history, ap (λ (l : List Entry). l ++ history) (sym (none_seen ports (many ∙ none))))
+            | inr more ↦
+                let inside : 0 < cpus = omega arith in
+                let d = worker_at 0 inside in
+                let w = did 0 d inside in
+                let prefix = (parts 0 no_port (omega (arith, all_back))).0 in
+                let saw : (get_or back 0 no_port).known.seen ≡ seen_by ports ++ w.seen.0 = ap (λ (p : Port). p.known.seen) (back_at 0 d inside) ∙ (w.seen.1 ∙ ap (λ (l : List Entry). l ++ w.seen.0) (ap (λ (p : Port). p.known.seen) (was_at 0 d inside) ∙ seen_at 0 inside)) in
+                (w.seen.0 ++ prefix.0, sym prefix.1 ∙ (ap (λ (l : List Entry). l ++ prefix.0) saw ∙ append_assoc (seen_by ports) w.seen.0 prefix.0))
+          ]
+
+          rest_at : (c : ℕ) (d : Worker) (inside : c < cpus) → events_of c goes_on.0 ≡ (did c d inside).events
+          rest_at c d inside = append_cancel_left (events_of c (seen_by ports)) (events_of c goes_on.0) (did c d inside).events
+              (sym (events_of-append c (seen_by ports) goes_on.0) ∙ (ap (events_of c) (sym goes_on.1) ∙ own_at c d inside))
 
           -- what a CPU has listed, as its worker has it
           found_at : (c : ℕ) (d : Worker) → c < cpus → listed_by (map (λ (w : Worker). w.workload.lists) vs) c ≡ map (λ list. list.keys) (get_or vs c d).workload.lists.items
@@ -212,23 +223,25 @@ module _ {keys : Bool} (t : Shown) (jobs : List Job) (programs : List Loaded) (p
               ∙ (length-map v (λ (l : Listed). l.keys)
               ∙ (sym (length-map v (λ (l : Listed). l.shape)) ∙ ap length ((did c d inside).same ∙ lists_at c d inside)))
 
-          explained_at : (c : ℕ) → c < cpus → ExplainsJobs t.about.shape t.about.count programs [] (jobs_of c tasks) (ends_of c tasks ends) (keys_events 0 (listed_by (map (λ (w : Worker). w.workload.lists) vs) c)) (events_of c history)
+          explained_at : (c : ℕ) → c < cpus → ExplainsJobs t.about.shape t.about.count programs (events_of c (seen_by ports)) (jobs_of c tasks) (ends_of c tasks ends) (keys_events 0 (listed_by (map (λ (w : Worker). w.workload.lists) vs) c)) (events_of c goes_on.0)
           explained_at c inside =
               let d = worker_at c inside in
               let w = did c d inside in
               let news = (get_or vs c d).workload.jobs.items in
               let found = map (λ list. list.keys) (get_or vs c d).workload.lists.items in
-              let from_none : RunsAndLists extends (IsWorn t.about.count) t.about.shape programs [] (map assigned (jobs_of c tasks)) news found w.events (own_events w.after) =
-              subst (λ (l : List Assignment). RunsAndLists extends (IsWorn t.about.count) t.about.shape programs [] l news found w.events (own_events w.after)) (given_at c d inside)
-              (subst (λ (l : List Event). RunsAndLists extends (IsWorn t.about.count) t.about.shape programs l (get_or equipped c d).workload.jobs.items news found w.events (own_events w.after)) (ap own_events (was_at c d inside) ∙ nothing_seen c inside) w.ran) in
-              subst (λ (l : List Event). ExplainsJobs t.about.shape t.about.count programs [] (jobs_of c tasks) (ends_of c tasks ends) (keys_events 0 (listed_by (map (λ (w : Worker). w.workload.lists) vs) c)) l) (sym (own_at c d inside))
-              (subst (λ (l : List (List (List ℕ))). ExplainsJobs t.about.shape t.about.count programs [] (jobs_of c tasks) (ends_of c tasks ends) (keys_events 0 l) w.events) (sym (found_at c d inside))
-              (subst (λ (l : List Outcome). ExplainsJobs t.about.shape t.about.count programs [] (jobs_of c tasks) l (keys_events 0 found) w.events) (sym (noted c d (omega (arith, long, size, for_jobs.size))))
-              (explains_lists t.about.shape t.about.count programs [] (own_events w.after) (jobs_of c tasks) news found w.events from_none)))
+              let from_first : RunsAndLists extends (IsWorn t.about.count) t.about.shape programs (events_of c (seen_by ports)) (map assigned (jobs_of c tasks)) news found w.events (own_events w.after) =
+              subst (λ (l : List Assignment). RunsAndLists extends (IsWorn t.about.count) t.about.shape programs (events_of c (seen_by ports)) l news found w.events (own_events w.after)) (given_at c d inside)
+              (subst (λ (l : List Event). RunsAndLists extends (IsWorn t.about.count) t.about.shape programs l (get_or equipped c d).workload.jobs.items news found w.events (own_events w.after)) (ap own_events (was_at c d inside) ∙ first_own c inside) w.ran) in
+              subst (λ (l : List Event). ExplainsJobs t.about.shape t.about.count programs (events_of c (seen_by ports)) (jobs_of c tasks) (ends_of c tasks ends) (keys_events 0 (listed_by (map (λ (w : Worker). w.workload.lists) vs) c)) l) (sym (rest_at c d inside))
+              (subst (λ (l : List (List (List ℕ))). ExplainsJobs t.about.shape t.about.count programs (events_of c (seen_by ports)) (jobs_of c tasks) (ends_of c tasks ends) (keys_events 0 l) w.events) (sym (found_at c d inside))
+              (subst (λ (l : List Outcome). ExplainsJobs t.about.shape t.about.count programs (events_of c (seen_by ports)) (jobs_of c tasks) l (keys_events 0 found) w.events) (sym (noted c d (omega (arith, long, size, for_jobs.size))))
+              (explains_lists t.about.shape t.about.count programs (events_of c (seen_by ports)) (own_events w.after) (jobs_of c tasks) news found w.events from_first)))
 
-          pub all_explained : IsExplained t.about.shape t.about.count programs tasks keys ends (listed_by (map (λ (w : Worker). w.workload.lists) vs)) history
+          pub all_explained : IsExplained t.about.shape t.about.count (seen_by ports) programs tasks keys ends (listed_by (map (λ (w : Worker). w.workload.lists) vs)) history
           all_explained = record {
             legal = legal;
+            rest = goes_on.0;
+            begins = goes_on.1;
             each_ended = full ∙ sym (length-map jobs waiting);
             each_has_cpu = λ task j is. cpu_below cpus jobs here task j is;
             each_listed = listed_at;

@@ -12,14 +12,14 @@ use Rattle.bpf_cpu.specs.declared.outcome.Outcome.{Outcome}
 use Rattle.bpf_cpu.specs.Task.{waiting}
 use Rattle.hop_words.specs.Inside.{Shown}
 use Rattle.hop_map.specs.Port.{Port, IsAllOf, IsPartOf}
-use Rattle.hop_map.specs.Stores.{ArePorts}
+use Rattle.hop_map.specs.Stores.{HaveSeen, seen_by}
 use Rattle.bpf_sched.specs.declared.worker.Worker.{Worker}
 use Rattle.bpf_sched.specs.Explained.{IsExplained, jobs_of, ends_of}
 use Rattle.bpf_sched.specs.Working.{outcome_of}
 use Rattle.bpf_sched.specs.Worked.{AreFor, IsReadyWorker, Worked, listed_by}
 use Rattle.bpf_sched.proofs.Crews.{all_ready, all_run, all_have_ports, is_all, all_explained}
 
-module _ {keys : Bool} (t : Shown) (jobs : List Job) (programs : List Loaded) (ports : List Port) (are : ArePorts t ports) (ws : List Worker) (for_jobs : AreFor keys t.about.shape.maps (map waiting jobs) t.about.shape.cpus ws)
+module _ {keys : Bool} (t : Shown) (jobs : List Job) (programs : List Loaded) (ports : List Port) (are : HaveSeen t (seen_by ports) ports) (ws : List Worker) (for_jobs : AreFor keys t.about.shape.maps (map waiting jobs) t.about.shape.cpus ws)
     (good : All (λ (job : Job). job.program < length programs) jobs)
     (first equipped : List Worker) (n : ℕ) (was : first ≡ ws) (long : length first ≡ n) (size : length equipped ≡ length first)
     (ported : (c : ℕ) (d : Worker) (p : Port) → c < length first → (get_or equipped c d).port ≡ Some (get_or ports c p))
@@ -76,9 +76,9 @@ module _ {keys : Bool} (t : Shown) (jobs : List Job) (programs : List Loaded) (p
       pub explained : (lists : List (Vec Listed Global)) → lists ≡ map (λ (w : Worker). w.workload.lists) third → (history : List Entry) → IsLegal t.about.shape history → All (IsPartOf history) back → (ends told : List Outcome) → told ≡ ends → length ends ≡ length jobs
           → (seen : List Worker) → seen ≡ third → ((c : ℕ) (d : Worker) → c < length seen → ends_of c (map waiting jobs) ends ≡ map outcome_of (get_or seen c d).workload.jobs.items)
           → All (λ (job : Job). job.cpu < t.about.shape.cpus) jobs
-          → IsExplained t.about.shape t.about.count programs (map waiting jobs) keys told (listed_by lists) history
+          → IsExplained t.about.shape t.about.count (seen_by ports) programs (map waiting jobs) keys told (listed_by lists) history
       explained lists listed history legal parts ends told same full seen at noted here =
-          subst (λ (l : List (Vec Listed Global)). IsExplained t.about.shape t.about.count programs (map waiting jobs) keys told (listed_by l) history) (sym (listed ∙ ap (map (λ (w : Worker). w.workload.lists)) same_third))
-          (subst (λ (l : List Outcome). IsExplained t.about.shape t.about.count programs (map waiting jobs) keys l (listed_by (map (λ (w : Worker). w.workload.lists) done)) history) (sym same)
+          subst (λ (l : List (Vec Listed Global)). IsExplained t.about.shape t.about.count (seen_by ports) programs (map waiting jobs) keys told (listed_by l) history) (sym (listed ∙ ap (map (λ (w : Worker). w.workload.lists)) same_third))
+          (subst (λ (l : List Outcome). IsExplained t.about.shape t.about.count (seen_by ports) programs (map waiting jobs) keys l (listed_by (map (λ (w : Worker). w.workload.lists) done)) history) (sym same)
           (all_explained t jobs programs ports are ws for_jobs good equipped same_size has_port has_jobs done as_many did back came history legal parts ends full
           (subst (λ (l : List Worker). (c : ℕ) (d : Worker) → c < length l → ends_of c (map waiting jobs) ends ≡ map outcome_of (get_or l c d).workload.jobs.items) (at ∙ same_third) noted) here))

@@ -8,5 +8,6 @@ pub mod Told
 pub mod Porting
 pub mod Crews
 pub mod Finishing
+pub mod FirstRun
 pub mod Refusing
 pub mod Listing

@@ -1,6 +1,8 @@
 -- What a CPU's calls over its port are to the events that the port has seen of it.
 use Rattle.std.proofs.Common.{◌≡◌, ℕ, List, [], ◌∷◌, Some, ◌++◌, map, ap, sym, subst, ◌∙◌}
 use Rattle.bpf_shared.specs.declared.events.Event.{Event}
+use Rattle.std.proofs.lemmas.List.{append-nil, append_assoc}
+use Rattle.bpf_shared.specs.declared.events.Entry.{Entry}
 use Rattle.bpf_shared.specs.Chain.{Chain}
 use Rattle.bpf_shared.specs.History.{events_of}
 use Rattle.bpf_shared.proofs.Chains.{events_of-append}
@@ -27,7 +29,7 @@ module _ {G : Type 0} (serving : G → Serving) (t : Shown) (cpu : ℕ) (program
   abbrev pub own_of : G → List Event
   own_of x = own_events (serving x).port
 
-  moves_on : (x y : G) (es : List Event) → IsOf x → Chain (λ a b log. ExtendsHistory (serving a) (serving b) log) (λ a. serves (serving a)) cpu x y es
+  pub moves_on : (x y : G) (es : List Event) → IsOf x → Chain (λ a b log. ExtendsHistory (serving a) (serving b) log) (λ a. serves (serving a)) cpu x y es
       → IsOf y × extends (own_of x) (own_of y) es
   moves_on x y es (table, same) chain =
       let cpu_y : (serving y).port.known.cpu ≡ cpu = chain.passage.cpu ∙ same in (
@@ -88,6 +90,30 @@ module _ {G : Type 0} (serving : G → Serving) (t : Shown) (cpu : ℕ) (program
       (notes-append t.about all.ran (keys_events 0 lists) (serving x).port.known (serving all.last).port.known (serving y).port.known
       (noted_by_all x all.last olds news all.ran of all.runs) (chain_notes all.last y (keys_events 0 lists) there all.way))
 
+-- what a port has seen of the history goes on, call by call
+module _ {G : Type 0} (serving : G → Serving) (t : Shown) (cpu : ℕ) (programs : List Loaded) where
+  abbrev pub GoesOn : G → G → Type 0
+  GoesOn x y = (log : List Entry) × ((serving y).port.known.seen ≡ (serving x).port.known.seen ++ log)
+
+  goes : (x y : G) (es : List Event) → Chain (λ a b log. ExtendsHistory (serving a) (serving b) log) (λ a. serves (serving a)) cpu x y es → GoesOn x y
+  goes x y es chain = (chain.log, chain.passage.seen)
+
+  goes_both : (x y z : G) → GoesOn x y → GoesOn y z → GoesOn x z
+  goes_both x y z a b = (a.0 ++ b.0, b.1 ∙ (ap (λ (l : List Entry). l ++ b.0) a.1 ∙ append_assoc (serving x).port.known.seen a.0 b.0))
+
+  goes_by_all : (x y : G) (olds news : List Assignment) (events : List Event)
+      → RunsAll (Chain (λ a b log. ExtendsHistory (serving a) (serving b) log) (λ a. serves (serving a)) cpu) (λ a. IsPortWorn (serving a) cpu) t.about.shape programs x olds news events y
+      → GoesOn x y
+  goes_by_all x y [] [] events (none, same) = ([], ap (λ (z : G). (serving z).port.known.seen) same ∙ sym (append-nil (serving x).port.known.seen))
+  goes_by_all x y [] (new ∷ news) events all = absurd all
+  goes_by_all x y (old ∷ olds) [] events all = absurd all
+  goes_by_all x y (old ∷ olds) (new ∷ news) events (z, mine, rest, is, ran, others) = goes_both x z y (goes x z mine ran.way) (goes_by_all z y olds news rest others)
+
+  pub goes_by_lists : (x y : G) (olds news : List Assignment) (lists : List (List (List ℕ))) (events : List Event)
+      → RunsAndLists (Chain (λ a b log. ExtendsHistory (serving a) (serving b) log) (λ a. serves (serving a)) cpu) (λ a. IsPortWorn (serving a) cpu) t.about.shape programs x olds news lists events y
+      → GoesOn x y
+  goes_by_lists x y olds news lists events all = goes_both x all.last y (goes_by_all x all.last olds news all.ran all.runs) (goes all.last y (keys_events 0 lists) all.way)
+
 -- a worker whose port was after a gate's store has worked
 pub worked : {G : Type 0} (x y : G) (serving : G → Serving) (t : Shown) (programs : List Loaded) (w v : Worker) (p q : Port) (events : List Event)
     → w.port ≡ Some p → v.port ≡ Some q → (serving x).table ≡ t → (serving x).port ≡ p → p.known.cpu ≡ w.workload.cpu → q ≡ (serving y).port → IsPortOf (serving y).table q
@@ -111,6 +137,10 @@ worked {G} x y serving t programs w v p q events was is table at cpu out fits al
       cpu = ap (λ (r : Port). r.known.cpu) out ∙ (told.0.1 ∙ sym cpu);
       events = events;
       more = lists_behind (explained.IsWorn t.about.count) t.about.shape programs (own_events p) (own_events q) w.workload.jobs.items v.workload.jobs.items (map (λ list. list.keys) v.workload.lists.items) events ran;
+      seen =
+          let on = goes_by_lists serving t c programs x y w.workload.jobs.items v.workload.jobs.items (map (λ list. list.keys) v.workload.lists.items) events
+          (subst (λ (s : Shown). RunsAndLists (Chain (λ a b log. ExtendsHistory (serving a) (serving b) log) (λ a. serves (serving a)) c) (λ a. IsPortWorn (serving a) c) s.about.shape programs x w.workload.jobs.items v.workload.jobs.items (map (λ list. list.keys) v.workload.lists.items) events y) table all) in
+          (on.0, ap (λ (r : Port). r.known.seen) out ∙ (on.1 ∙ ap (λ (r : Port). r.known.seen ++ on.0) at));
       ran = ran;
       same = same;
       noted = subst (λ (r : Port). CallsNote t.about events r.known q.known) at

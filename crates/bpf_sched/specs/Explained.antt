@@ -1,4 +1,5 @@
--- What explains how all jobs of a store ended: one history of the store.
+-- What explains how all jobs of a store ended: one history of the store, after what its CPUs had
+-- done before.
 use Rattle.std.specs.Prelude.{◌≡◌, ℕ, suc, ◌+◌, ◌-◌, ◌<◌, ◌^◌, Bool, true, false, ◌==◌, if◌then◌else◌, List, [], ◌∷◌, ◌++◌, Some, filter, length, slice_get}
 use Rattle.bpf_shared.specs.declared.events.Event.{Event}
 use Rattle.bpf_shared.specs.declared.events.Event.TheVariants.{Keys}
@@ -77,19 +78,22 @@ ExplainsJobs shape count programs before _ _ last events = ⊥
 -- ---- all jobs
 
 -- of a store of this shape, whose run counters began with this count: the history is a legal one of
--- it, and of each CPU it has the events of that CPU's jobs, in the jobs' order, which explain how
--- each job ended; then, where lists are asked for and the CPU has a job, one listing of each map, in
--- the maps' order; and no others. `lists` says what each CPU has listed, by map
-pub record IsExplained (h : Shape) (count : ℕ) (programs : List Loaded) (tasks : List Task)
-    (keys : Bool) (ends : List Outcome) (lists : ℕ → List (List (List ℕ))) (history : List Entry)
-    : Type 0 where
+-- it, which begins with this first one; and after that it has of each CPU the events of that CPU's
+-- jobs, in the jobs' order, which explain how each job ended; then, where lists are asked for and the
+-- CPU has a job, one listing of each map, in the maps' order; and no others. `lists` says what each
+-- CPU has listed, by map
+pub record IsExplained (h : Shape) (count : ℕ) (first : List Entry) (programs : List Loaded)
+    (tasks : List Task) (keys : Bool) (ends : List Outcome) (lists : ℕ → List (List (List ℕ)))
+    (history : List Entry) : Type 0 where
   pub legal : IsLegal h history
+  pub rest : List Entry
+  pub begins : history ≡ first ++ rest
   pub each_ended : length ends ≡ length tasks
   pub each_has_cpu : (task : Task) (j : ℕ) → slice_get tasks j ≡ Some task → task.cpu < h.cpus
   pub each_listed : (c : ℕ) → c < h.cpus
       → length (lists c) ≡ length (listed_maps keys h.maps (jobs_of c tasks))
-  pub explained : (c : ℕ) → c < h.cpus → ExplainsJobs h count programs [] (jobs_of c tasks)
-      (ends_of c tasks ends) (keys_events 0 (lists c)) (events_of c history)
+  pub explained : (c : ℕ) → c < h.cpus → ExplainsJobs h count programs (events_of c first)
+      (jobs_of c tasks) (ends_of c tasks ends) (keys_events 0 (lists c)) (events_of c rest)
 
 -- ---- the last store
 

@@ -4,6 +4,7 @@ use Rattle.std.specs.declared.alloc.Global.{Global}
 use Rattle.bpf_shared.specs.declared.shapes.MapShape.{MapShape}
 use Rattle.bpf_shared.specs.KeyOrder.{Listed}
 use Rattle.bpf_shared.specs.declared.events.Event.{Event}
+use Rattle.bpf_shared.specs.declared.events.Entry.{Entry}
 use Rattle.bpf_loader.specs.Loaded.{Loaded}
 use Rattle.bpf_cpu.specs.Task.{Task}
 use Rattle.hop_words.specs.Inside.{Shown}
@@ -54,6 +55,8 @@ pub record Worked (t : Shown) (programs : List Loaded) (w v : Worker) : Type 0 w
   pub cpu : after.known.cpu ≡ before.known.cpu
   pub events : List Event
   pub more : extends (own_events before) (own_events after) events
+  -- what the CPU has seen of the history goes on
+  pub seen : (log : List Entry) × (after.known.seen ≡ before.known.seen ++ log)
   pub noted : CallsNote t.about events before.known after.known
   pub ran : RunsAndLists extends (IsWorn t.about.count) t.about.shape programs
       (own_events before) w.workload.jobs.items v.workload.jobs.items

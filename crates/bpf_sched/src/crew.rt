@@ -5,7 +5,7 @@ ghost use Rattle.bpf_shared.specs.Store.{Plain};
 ghost use Rattle.bpf_cpu.specs.Task.{waiting};
 ghost use Rattle.hop_map.specs.Dumping.{IsLast};
 ghost use Rattle.hop_map.specs.Port.{Port};
-ghost use Rattle.hop_map.specs.Stores.{ArePorts};
+ghost use Rattle.hop_map.specs.Stores.{HaveSeen, seen_by};
 ghost use Rattle.bpf_sched.specs.Explained.{IsExplained, LeadsTo};
 ghost use Rattle.bpf_sched.specs.Worked.{AreFor, IsReadyWorker, listed_by, Worked};
 ghost use Rattle.bpf_sched.specs.declared.worker.Worker.{Worker};
@@ -95,8 +95,8 @@ pub struct Report {
     pub closed: Closed,
 }
 
-/// Runs all jobs over the ports of a store that no CPU has called yet, each CPU's in their order,
-/// by n workers at most; and where lists are asked for, each CPU with jobs lists all maps'
+/// Runs all jobs over the ports of a store, whose CPUs have all seen its history so far, each CPU's in
+/// their order, by n workers at most; and where lists are asked for, each CPU with jobs lists all maps'
 /// keys after them. It takes no memory.
 pub fn run_ports<R: Threads + Wait + Sync, G: Gate + Sync>(
     rt: &R,
@@ -108,7 +108,7 @@ pub fn run_ports<R: Threads + Wait + Sync, G: Gate + Sync>(
     workers: usize,
     gate: &G,
 ) -> Report
-    requires ports { ArePorts table ports.items }
+    requires ports { HaveSeen table (seen_by ports.items) ports.items }
     requires workers { 0 < workers }
     requires programs { All (λ job. job.program < length programs.now) jobs.now }
     requires cpus { All (λ job. job.cpu < table.about.shape.cpus) jobs.now }
@@ -119,7 +119,7 @@ pub fn run_ports<R: Threads + Wait + Sync, G: Gate + Sync>(
         × (table.about.shape.cpus ≤ vec_capacity room.lists) }
     requires ends { vec_len room.ends ≡ length jobs.now }
     ensures about { result.closed.about ≡ table.about }
-    ensures explained { IsExplained table.about.shape table.about.count
+    ensures explained { IsExplained table.about.shape table.about.count (seen_by ports.items)
         programs.now (map waiting jobs.now) room.keys result.outcomes.items
         (listed_by result.lists.items) result.closed.history }
     ensures last { (last : Plain) × IsLast result.closed last

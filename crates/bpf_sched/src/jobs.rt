@@ -1,6 +1,6 @@
 //! Jobs over a store, on worker threads.
 
-ghost use Rattle.std.specs.Prelude.{◌≡◌, ◌<◌, ◌≤◌, All, IfErr, IfOk, IsFalse, IsTrue, OnOk, length, map, vec_len};
+ghost use Rattle.std.specs.Prelude.{◌≡◌, ◌<◌, ◌≤◌, [], All, IfErr, IfOk, IsFalse, IsTrue, OnOk, length, map, vec_len};
 ghost use Rattle.bpf_mem.specs.Limits.{max_context};
 ghost use Rattle.bpf_shared.specs.Store.{Plain};
 ghost use Rattle.bpf_cpu.specs.Task.{waiting};
@@ -37,7 +37,7 @@ fn are_here(cpus: u8, jobs: &[Job]) -> bool
 }
 
 /// Why n workers can't run these jobs on n CPUs, but since memory ran out.
-fn check(cpus: u8, workers: usize, jobs: &[Job]) -> Result<(), SchedError>
+pub(crate) fn check(cpus: u8, workers: usize, jobs: &[Job]) -> Result<(), SchedError>
     ensures workers { OnOk result (AreWorkers workers) }
     ensures cpus { OnOk result (AreHere cpus jobs.now) }
     ensures refused { IfErr result (IsFirstSchedError cpus workers jobs.now) }
@@ -74,7 +74,7 @@ pub fn run_jobs<R: Threads + Wait + Sync, G: Gate + Sync>(
     ensures cpus { OnOk result (AreHere store.table.about.shape.cpus jobs.now) }
     ensures about { IfOk result (λ r. r.closed.about ≡ store.table.about) }
     ensures explained { IfOk result
-        (λ r. IsExplained store.table.about.shape store.table.about.count programs.now
+        (λ r. IsExplained store.table.about.shape store.table.about.count [] programs.now
         (map waiting jobs.now) keys r.outcomes.items (listed_by r.lists.items)
         r.closed.history) }
     ensures last { IfOk result (λ r. (last : Plain) × IsLast r.closed last

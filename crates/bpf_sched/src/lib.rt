@@ -3,6 +3,7 @@
 
 pub mod assignment;
 pub mod crew;
+mod filling;
 pub mod gate;
 pub mod jobs;
 pub mod laws;
@@ -14,6 +15,7 @@ pub mod workload;
 
 pub use assignment::Assignment;
 pub use crew::{Report, run_ports};
+pub use filling::run_filled;
 pub use gate::{Gate, Gated, NoGate};
 pub use jobs::run_jobs;
 pub use refusal::{Refused, SchedError};

@@ -1,5 +1,6 @@
 //! Whether worker threads may reach outcomes that turns don't.
 ghost use Rattle.std.specs.Prelude.{◌≡◌, ◌+◌, ◌≤◌, ◌<◌, All, IsTrue, IfOk, IfSome, Some, length, map, slice_get};
+ghost use Rattle.bpf_pairs.specs.Pairs.{pair_of};
 ghost use Rattle.bpf_cpu.specs.Task.{waiting};
 ghost use Rattle.bpf_threads.specs.Counting.{AddUp, AreBounds, HasAtMost, HaveAtMost};
 ghost use Rattle.bpf_threads.specs.Threads.{AreOnOneCpu, AreRoomy, HasRoomForRemovals, HasRoomForUpdates, IsReadWhole, IsRoomy, IsTrueOf};
@@ -12,6 +13,7 @@ use crate::counting::{Counted, Kind};
 use crate::outside::all_read_outside;
 use bpf_cpu::Job;
 use bpf_loader::Program;
+use bpf_pairs::{Pair, count_in};
 use bpf_shared::{MapShape, StoreShape};
 use std::alloc::{AllocError, Global};
 
@@ -184,15 +186,16 @@ fn is_within(number: Option<u64>, limit: u64) -> bool
     }
 }
 
-/// A map's number and sizes, and how many CPUs there are.
+/// A map's number and sizes, how many pairs it has at first, and how many CPUs there are.
 #[derive(Clone, Copy)]
 struct Sizes {
     map: u8,
     shape: MapShape,
+    pairs: usize,
     cpus: u8,
 }
 
-/// Whether a map has an element for each update.
+/// Whether a map has an element for each pair and each update.
 fn has_room_for_updates(
     alloc: Global,
     programs: &[Program],
@@ -202,15 +205,20 @@ fn has_room_for_updates(
 ) -> Result<bool, AllocError>
     requires charts { AreCharts programs.now charts.now }
     requires small { (sizes.shape.max ≤ 65536) × (sizes.shape.spare ≤ 65536) }
-    ensures { IfOk result (λ room. IsTrue room
-        → HasRoomForUpdates programs.now (map waiting jobs.now) sizes.map sizes.shape) }
+    ensures { IfOk result (λ room. IsTrue room → HasRoomForUpdates programs.now
+        (map waiting jobs.now) sizes.map sizes.shape sizes.pairs) }
 {
+    let elements = sizes.shape.max + sizes.shape.spare;
+    let pairs = sizes.pairs as u64;
+    if elements < pairs {
+        return Ok(false);
+    }
     let counted = Counted {
         map: sizes.map,
         kind: Kind::Updates,
     };
     let most = most_of(alloc, programs, charts, jobs, counted)?;
-    Ok(is_within(most, sizes.shape.max + sizes.shape.spare))
+    Ok(is_within(most, elements - pairs))
 }
 
 /// Whether it has as many to spare as values can leave it, and one more for each CPU.
@@ -247,8 +255,8 @@ fn is_roomy(
 ) -> Result<bool, AllocError>
     requires charts { AreCharts programs.now charts.now }
     requires small { (sizes.shape.max ≤ 65536) × (sizes.shape.spare ≤ 65536) }
-    ensures { IfOk result (λ roomy. IsTrue roomy
-        → IsRoomy programs.now (map waiting jobs.now) sizes.cpus sizes.map sizes.shape) }
+    ensures { IfOk result (λ roomy. IsTrue roomy → IsRoomy programs.now
+        (map waiting jobs.now) sizes.cpus sizes.map sizes.shape sizes.pairs) }
 {
     if has_room_for_updates(alloc, programs, charts, jobs, sizes)? {
         return Ok(true);
@@ -268,12 +276,14 @@ fn map_at(maps: &[MapShape], place: usize) -> MapShape
 fn are_roomy(
     alloc: Global,
     shape: &StoreShape,
+    pairs: &[Pair],
     programs: &[Program],
     charts: &[Drawn],
     jobs: &[Job],
 ) -> Result<bool, AllocError>
     requires { AreCharts programs.now charts.now }
-    ensures { IfOk result (λ roomy. IsTrue roomy → AreRoomy shape.now programs.now (map waiting jobs.now)) }
+    ensures { IfOk result (λ roomy. IsTrue roomy → AreRoomy shape.now (map pair_of pairs.now)
+        programs.now (map waiting jobs.now)) }
 {
     let cpus = shape.cpus();
     let maps = shape.maps();
@@ -281,6 +291,7 @@ fn are_roomy(
         let sizes = Sizes {
             map: place as u8,
             shape: map_at(maps, place),
+            pairs: count_in(place as u8, pairs),
             cpus,
         };
         if !is_roomy(alloc, programs, charts, jobs, sizes)? {
@@ -351,10 +362,12 @@ fn are_on_one_cpu(jobs: &[Job]) -> bool
 pub fn may_differ(
     alloc: Global,
     shape: &StoreShape,
+    pairs: &[Pair],
     programs: &[Program],
     jobs: &[Job],
 ) -> Result<Threads, AllocError>
-    ensures { IfOk result (IsTrueOf shape.now programs.now (map waiting jobs.now)) }
+    ensures { IfOk result (IsTrueOf shape.now (map pair_of pairs.now) programs.now
+        (map waiting jobs.now)) }
 {
     if are_on_one_cpu(jobs) {
         return Ok(Threads {
@@ -363,7 +376,7 @@ pub fn may_differ(
         });
     }
     let charts = charts(alloc, programs)?;
-    let roomy = are_roomy(alloc, shape, programs, &charts, jobs)?;
+    let roomy = are_roomy(alloc, shape, pairs, programs, &charts, jobs)?;
     let whole = are_read_whole(shape, programs, &charts, jobs);
     Ok(Threads {
         elements: !roomy,

@@ -1,6 +1,7 @@
 -- What is printed of a run file whose jobs are run on worker threads. Our own choice.
 use Rattle.std.specs.Prelude.{◌≡◌, ℕ, Bool, List, [], ◌∷◌}
 use Rattle.bpf_shared.specs.Store.{Plain}
+use Rattle.bpf_pairs.specs.Putting.{first_history}
 use Rattle.bpf_cpu.specs.declared.outcome.Outcome.{Outcome}
 use Rattle.bpf_cpu.specs.Task.{Task, Ended}
 use Rattle.bpf_jobs.specs.Printed.{list_lines, TellsWith}
@@ -29,11 +30,12 @@ pub record Printed : Type 0 where
   pub stopped : Bool
   pub counts : List ℕ
 
--- one history of the file's store, new, its segments' versions and run counters at 0, explains how
--- all its jobs ended and, where lists of keys are asked for, what each CPU has listed after its
--- jobs. It leads to the last store, which the words have that are left. The text has a line of each
--- job, in the file's order, then those of these lists, by rising CPU, and then, where they are asked
--- for, the lines of the maps, variables and arrays of the last store; and the numbers are those of these words
+-- one history of the file's store, new, its segments' versions and run counters at 0, begins with
+-- the run in which CPU 0 puts the maps' pairs in; what follows explains how all jobs ended and, where
+-- lists of keys are asked for, what each CPU has listed after its jobs. It leads to the last store,
+-- which the words have that are left. The text has a line of each job, in the file's order, then those
+-- of these lists, by rising CPU, and then, where they are asked for, the lines of the maps, variables
+-- and arrays of the last store; and the numbers are those of these words
 pub record IsWorkersReport (f : File) (asked : Asked) (printed : Printed) : Type 0 where
   pub ends : List Outcome
   -- by CPU, and of each by map
@@ -41,8 +43,8 @@ pub record IsWorkersReport (f : File) (asked : Asked) (printed : Printed) : Type
   pub closed : Ending
   pub last : Plain
   pub shape : closed.about.shape ≡ shape_of f
-  pub explained : IsExplained (shape_of f) 0 f.programs f.jobs asked.keys ends lists
-      closed.history
+  pub explained : IsExplained (shape_of f) 0 (first_history f.pairs) f.programs f.jobs asked.keys
+      ends lists closed.history
   pub leads : LeadsTo (shape_of f) 0 closed.history last
   pub is_last : IsLast closed last
   pub tells : TellsWith (list_lines lists f.names.maps f.cpus) last (as_ended f.jobs ends) f.names

@@ -11,7 +11,7 @@ use crate::telling::{Counted, tell_counted};
 use bpf_cpu::Setup;
 use bpf_file::RunFile;
 use bpf_plain::copy_shape;
-use bpf_sched::{NoGate, Refused, SchedError, run_jobs};
+use bpf_sched::{NoGate, SchedError, run_filled};
 use hop_map::HopStore;
 use std::alloc::Global;
 use std::sync::Wait;
@@ -29,10 +29,10 @@ pub enum WorkError {
     OutOfMemory,
 }
 
-/// Runs the jobs of a run file by n workers, over a new store, and makes what is printed of
-/// them. Where keys are asked for, each CPU with jobs lists those of all maps after them. Out of
-/// memory is the only refusal; all that the jobs and the lists need is there before the first
-/// begins.
+/// Runs the jobs of a run file by n workers, over a new store whose maps have their pairs, and makes
+/// what is printed of them. Where keys are asked for, each CPU with jobs lists those of all maps after
+/// them. Out of memory is the only refusal; all that the jobs and the lists need is there before the
+/// first begins.
 ///
 /// Beside it, where they are asked for, a line a map of its numbers: its segments, keys, keys on
 /// overflow lists and free elements, as the store is left; splits, readings that were disturbed and
@@ -59,6 +59,7 @@ pub fn run_counted<R: Threads + Wait + Sync>(
     let RunFile { setup, seed, names } = file;
     let Setup {
         shape,
+        pairs,
         programs,
         jobs,
     } = setup;
@@ -69,10 +70,11 @@ pub fn run_counted<R: Threads + Wait + Sync>(
     let Ok(store) = HopStore::new(alloc, shape, seed) else {
         return Err(WorkError::OutOfMemory);
     };
-    let done = match run_jobs(
+    let done = match run_filled(
         rt,
         alloc,
         store,
+        &pairs,
         &programs,
         &jobs,
         usize::from(workers),
@@ -80,12 +82,7 @@ pub fn run_counted<R: Threads + Wait + Sync>(
         &NoGate,
     ) {
         Ok(done) => done,
-        Err(
-            Refused {
-                error: SchedError::OutOfMemory,
-                store: _,
-            },
-        ) => return Err(WorkError::Jobs),
+        Err(SchedError::OutOfMemory) => return Err(WorkError::Jobs),
         // There are workers, not too many, and a file's jobs are on its CPUs.
         Err(_) => unreachable!(),
     };

@@ -20,7 +20,7 @@ pub mod Offering
 pub mod Verdicts
 pub mod Wholes
 pub mod Noted
-pub mod Settling
+pub mod Filled
 pub mod Spans
 pub mod Ports
 pub mod Dealing
@@ -37,3 +37,4 @@ pub mod Adding
 pub mod Parting
 pub mod Dividing
 pub mod Splits
+pub mod Settled

@@ -1,19 +1,20 @@
 //! The CPUs of a store given back, and its words at rest.
-ghost use Rattle.std.specs.Prelude.{◌≡◌, ℕ, true, [], ◌∷◌, ◌++◌};
+ghost use Rattle.std.specs.Prelude.{◌≡◌, ℕ, true, List, [], ◌∷◌, ◌++◌};
 ghost use mathlib.Core.Option.{some};
 ghost use lib.ListN.{get_elem?};
 ghost use Rattle.hop_words.specs.declared.known.Known.{Known};
 ghost use Rattle.hop_words.specs.Closing.{AreAllBack};
 ghost use Rattle.hop_layout.specs.Layout.{is_place, mem};
-ghost use Rattle.hop_words.specs.Seats.{HasSeenBeginning, KeepsWholeHistory, view};
+ghost use Rattle.hop_words.specs.Seats.{AreSettled, HasSeenBeginning, KeepsWholeHistory, view};
 
+use crate::dealing::Deal;
 use crate::known::View;
 use crate::lane::Lane;
 use crate::table::HopTable;
 use atomic_table::{Closed, Join, Play, Seat, Split};
 use hop_layout::{About, Index, Place};
 use std::alloc::Global;
-use std::marker::Model;
+use std::marker::{Brand, Model, PhantomData};
 
 // A new seat, without a CPU.
 struct Comes;
@@ -42,6 +43,27 @@ impl Play<(), View> for Learns {
     ghost use Rattle.hop_words.specs.Private.Closing.{learned};
 
     ghost then = { learned };
+}
+
+// What a load says that changes what all CPUs of a seat have seen: its call picks it.
+trait TellAll {
+    ghost use Rattle.hop_words.specs.declared.known.Known.{Known};
+
+    ghost told: { List Known → List Known → Type 0 };
+}
+
+impl TellAll for Brand {
+    ghost told = { λ old new. Unit {0} };
+}
+
+struct Settles<E> {
+    of: PhantomData<E>,
+}
+
+impl<E: TellAll> Play<(), View> for Settles<E> {
+    ghost use Rattle.hop_words.specs.Private.Closing.{settled};
+
+    ghost then = { settled E.told };
 }
 
 // A copy of what is kept of the history.
@@ -93,6 +115,41 @@ impl Returned {
         let _cpus = table.about().shape.cpus();
         let seat = lane.into_seat();
         table.table.shared.join_seat::<Gather>(&mut self.seat, seat);
+    }
+
+    // Each CPU has seen the whole history.
+    fn settle_by<E: TellAll>(&mut self, table: &HopTable)
+        requires table { self.old.table ≡ table.now.id }
+        requires told { (new : List Known) → AreSettled table.now.about self.old.lanes new
+            → E.told self.old.lanes new }
+        ensures table { self.new.table ≡ self.old.table }
+        ensures told { E.told self.old.lanes self.new.lanes }
+    {
+        let _cpus = table.about().shape.cpus();
+        table.table.shared.load::<Settles<E>>(&mut self.seat, 0);
+    }
+
+    /// Each CPU has now seen the whole history so far, and knows all else as before.
+    pub fn settle(&mut self, table: &HopTable)
+        requires table { self.old.table ≡ table.now.id }
+        ensures table { self.new.table ≡ self.old.table }
+        ensures settled { AreSettled table.now.about self.old.lanes self.new.lanes }
+    {
+        self.settle_by::<Brand>(table);
+    }
+
+    /// The first CPU again, by its number.
+    pub fn give(&mut self, table: &HopTable, cpu: u8) -> Lane
+        requires table { self.old.table ≡ table.now.id }
+        requires first { (l : Known) × (rest : List Known) × (self.old.lanes ≡ l ∷ rest)
+            × (l.cpu ≡ cpu) }
+        ensures table { self.new.table ≡ self.old.table }
+        ensures given { (self.old.lanes ≡ result.known ∷ self.new.lanes)
+            × (result.table ≡ self.old.table) }
+    {
+        let _cpus = table.about().shape.cpus();
+        let seat = table.table.shared.split_seat::<Deal>(&mut self.seat);
+        Lane::seated_again(cpu, seat)
     }
 
     // Learns the whole history.

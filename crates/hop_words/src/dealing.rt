@@ -12,7 +12,7 @@ use std::alloc::{AllocError, Global};
 use std::marker::Model;
 
 // The first CPU of a seat goes to a new one.
-struct Deal;
+pub(crate) struct Deal;
 
 impl Split<View> for Deal {
     ghost use Rattle.hop_words.specs.Private.Seats.{dealer, dealt};

@@ -44,6 +44,16 @@ impl Lane {
         Lane { cpu, seat }
     }
 
+    // The same of a lane that was given back, and so noted what steps of its own noted.
+    pub(crate) fn seated_again(cpu: u8, seat: Seat<(), View>) -> Lane
+        requires one { (seat.me ≡ (solo (first_lane nobody seat.me.0.lanes), []))
+            × ((first_lane nobody seat.me.0.lanes).cpu ≡ cpu) }
+        ensures table { result.table ≡ seat.table_id }
+        ensures known { result.known ≡ first_lane nobody seat.me.0.lanes }
+    {
+        Lane { cpu, seat }
+    }
+
     // The seat, of which no step is made any more.
     pub(crate) fn into_seat(self) -> Seat<(), View>
         ensures table { result.table_id ≡ self.table }

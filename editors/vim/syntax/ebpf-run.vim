@@ -3,7 +3,7 @@ if exists('b:current_syntax')
   finish
 endif
 syntax case match
-syntax match ebpfLine '^\s*\(ebpf-run\|cpus\|seed\|array\|data\|var\|end\|prog\|job\)\>'
+syntax match ebpfLine '^\s*\(ebpf-run\|cpus\|seed\|array\|data\|var\|put\|end\|prog\|job\)\>'
 syntax match ebpfLine '^\s*map\ze\s\+\w\+\s\+key\>'
 syntax match ebpfSplit '^\s*---\s*$'
 syntax match ebpfLabel '^\s*\h\w*\ze:'

@@ -13,6 +13,7 @@ use Rattle.hex.specs.declared.error.FromHexError.{FromHexError}
 use Rattle.bpf_loader.specs.Loaded.{Loaded}
 use Rattle.bpf_shared.specs.Contents.{bytes_of_all}
 use Rattle.bpf_names.specs.Names.{names_of}
+use Rattle.bpf_pairs.specs.Pairs.{pair_of}
 use Rattle.bpf_file.specs.Programs.{OfAssembly}
 use Rattle.bpf_file.specs.Symbols.{names_for}
 use Rattle.bpf_file.specs.declared.statement.Statement.{Statement}
@@ -37,6 +38,7 @@ part_of d = record {
     maps = d.maps.items;
     arrays = d.arrays.items;
     contents = bytes_of_all d.contents.items;
+    pairs = map pair_of d.pairs.items;
     programs = d.programs.items;
     jobs = map waiting d.jobs.items;
   };

@@ -7,7 +7,7 @@ use Rattle.bpf_file.specs.declared.error.FileError.{FileError}
 use Rattle.bpf_file.specs.Parts.{Part, State, Between, Within}
 use Rattle.bpf_file.specs.Runnable.{CanRun}
 
--- the groups of arrays, programs and jobs are empty until their lines come
+-- the groups of arrays, pairs, programs and jobs are empty until their lines come
 pub record IsFit (p : Part) : Type 0 where
   pub cpus : outside 1 16 p.file.cpus ≡ false
   pub count : nat_lt 16 (length p.file.maps) ≡ false
@@ -18,6 +18,7 @@ pub record IsFit (p : Part) : Type 0 where
   pub titles : length p.titles ≡ length p.file.programs
   pub runs : CanRun p.file
   pub no_arrays : p.group < 5 → p.file.arrays ≡ []
+  pub no_pairs : p.group < 6 → p.file.pairs ≡ []
   pub no_programs : p.group < 7 → p.file.programs ≡ []
   pub no_jobs : p.group < 8 → p.file.jobs ≡ []
 

@@ -1,10 +1,11 @@
 -- What the end of a store is made of.
-use Rattle.std.specs.Prelude.{◌≡◌, ℕ, []}
+use Rattle.std.specs.Prelude.{◌≡◌, ℕ, List, []}
 use Rattle.std.specs.Mem.Slots.{slots_items, slots_len, IsFull}
 use Rattle.atomic_table.specs.Table.{Step}
 use Rattle.hop_words.specs.declared.closing.Returned.TheInside.{Inside as InReturned}
 use Rattle.hop_words.specs.declared.closing.Rest.TheInside.{Inside as InRest}
 use Rattle.hop_layout.specs.Layout.{size}
+use Rattle.hop_words.specs.declared.known.Known.{Known}
 use Rattle.hop_words.specs.Dealing.{Dealing}
 use Rattle.hop_words.specs.Private.Seats.{Sat, empty_view, Learned}
 use Rattle.hop_words.specs.Seats.{view, KeepsWholeHistory}
@@ -16,6 +17,11 @@ came st m n m' = m'.0 ≡ empty_view
 
 abbrev pub learned : Step (Unit {0}) → Sat → ℕ → Sat → Type 0
 learned st m n m' = Learned m m'
+
+-- and one whose CPUs have all seen the whole history
+abbrev pub settled : (List Known → List Known → Type 0) → Step (Unit {0}) → Sat → ℕ → Sat → Type 0
+settled told st m n m' =
+    (m' ≡ (view m'.0.lanes m.0.kept, m.1)) × told m.0.lanes m'.0.lanes
 
 abbrev pub returned : InReturned → Dealing
 returned s = record { table = s.seat.table_id; lanes = s.seat.me.0.lanes }

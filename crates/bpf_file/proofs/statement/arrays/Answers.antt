@@ -1,5 +1,5 @@
 use Rattle.std.proofs.Common.{rules, map}
-use Rattle.bpf_file.proofs.Names.{array_named, per_cpu_named, frozen_named, frozen_per_cpu_named, data_named, variable_named, array_of_named}
+use Rattle.bpf_file.proofs.Names.{array_named, per_cpu_named, frozen_named, frozen_per_cpu_named, data_named, variable_named, array_of_named, put_named}
 use Rattle.bpf_file.proofs.statement.arrays.Goals as goal
 
 pub array-requires : goal.array-requires
@@ -22,3 +22,6 @@ variable-requires-clause-name c = variable_named (map (λ f. f.now) c.args.field
 
 pub variable-requires-clause-array : goal.variable-requires-clause-array
 variable-requires-clause-array c = array_of_named (map (λ f. f.now) c.args.fields.now) (search rules)
+
+pub put-requires : goal.put-requires
+put-requires c = put_named (map (λ f. f.now) c.args.fields.now) (search rules)

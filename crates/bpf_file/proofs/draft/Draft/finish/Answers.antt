@@ -7,6 +7,7 @@ pub returns-clause-fits : goal.returns-clause-fits
 returns-clause-fits c =
     runnable (record {
       shape = c.in-Ok-with_arrays.shape;
+      pairs = c.args.self.pairs;
       programs = c.args.self.programs;
       jobs = c.args.self.jobs;
-    }) (part_of c.args.self).file (search rules) (search rules) (search rules) refl refl c.requires.runs
+    }) (part_of c.args.self).file (search rules) (search rules) (search rules) refl refl refl c.requires.runs

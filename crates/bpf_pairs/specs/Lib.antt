@@ -1,0 +1,4 @@
+pub mod Pairs
+pub mod Putting
+pub mod Filled
+pub mod Laws
