@@ -20,4 +20,5 @@ pub mod OwnScenes
 pub mod OneText
 pub mod OneScript
 pub mod Spelled
+pub mod PlaceLaws
 pub mod Questions

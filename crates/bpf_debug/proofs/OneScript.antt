@@ -794,9 +794,9 @@ module _ (law : WritesAreDetermined) (begins : OneInstructionBegins) (replies : 
   one_follow x y z (Show (Some c)) text other world first own (has, inr a) (had, inl b) = absurd (off_free x.world.jobs c other b.0 a.3.0 a.3.1 a.3.2 a.3.3 a.3.6)
   one_follow x y z (Show (Some c)) text other world first own (has, inr a) (had, inr b) =
       let one = one_recall kind.Works c x.first None x.turns a.0 b.0 a.1 b.1 first tt a.2 b.2 in
-      let Q : Option Past → Type 0 = λ p. IsShownText c x.names.maps p x.world other in
+      let Q : Option Past → Type 0 = λ p. IsShownText c x.names p x.world other in
       record {
-        texts = one_shown_text x.world world own c x.names.maps a.0 text other one.sound a.3 (subst Q (sym one.pasts) b.3);
+        texts = one_shown_text x.world world own c x.names a.0 text other one.sound a.3 (subst Q (sym one.pasts) b.3);
         scenes = a.4 ∙ ap (λ (w : World). record x { world = w }) one.worlds ∙ sym b.4;
         world = subst (λ (s : Scene). IsWorld s.world) (sym a.4) one.world;
         first = subst (λ (s : Scene). IsWorld s.first) (sym a.4) first;

@@ -9,6 +9,7 @@ use Rattle.bpf_shared.specs.Sound.{IsSoundStore}
 use Rattle.bpf_shared.specs.Store.{Plain}
 use Rattle.bpf_shared.specs.Listing.{Pair}
 use Rattle.bpf_shared.proofs.OneListing.{one_listing}
+use Rattle.bpf_names.specs.Names.{Names}
 use Rattle.bpf_cpu.specs.declared.cpu.Cpu.{Cpu}
 use Rattle.bpf_cpu.specs.Task.{Task, InHand}
 use Rattle.bpf_machine.specs.Hands.{IsAt, IsFree}
@@ -101,16 +102,16 @@ module _ (s : Plain) (sound : IsSoundStore s) (own : KeysHaveOwnValues s) where
       let line = one_held_line names state (span_of state.held n) a.1 b.1 a.3 b.3 in
       a.4 ∙ ap (λ (t : List ℕ). t ++ a.1) before ∙ ap (λ (t : List ℕ). b.0 ++ t) line ∙ sym b.4
 
-  one_words : (names : List (List ℕ)) (n : ℕ) (found : Option Span) (text other : List ℕ) → IsWordsIn names s n found text → IsWordsIn names s n found other → text ≡ other
+  one_words : (names : Names) (n : ℕ) (found : Option Span) (text other : List ℕ) → IsWordsIn names s n found text → IsWordsIn names s n found other → text ≡ other
   one_words names n None text other a b = a ∙ sym b
   one_words names n (Some p) text other a b =
-      a.2 ∙ ap (λ (t : List ℕ). place_words t (n - p.at)) (one_value_name names p.at a.0 b.0 a.1 b.1) ∙ sym b.2
+      a.2 ∙ ap (λ (t : List ℕ). place_words t (n - p.at)) (one_value_name names.maps p.at a.0 b.0 a.1 b.1) ∙ sym b.2
 
-  one_shown_line : (names : List (List ℕ)) (held : List Span) (k n : ℕ) (line other : List ℕ) → IsShownLine names s held k n line → IsShownLine names s held k n other → line ≡ other
+  one_shown_line : (names : Names) (held : List Span) (k n : ℕ) (line other : List ℕ) → IsShownLine names s held k n line → IsShownLine names s held k n other → line ≡ other
   one_shown_line names held k n line other a b =
       a.2 ∙ ap (shown_line k n) (one_words names n (value_at held n) a.0 b.0 a.1 b.1) ∙ sym b.2
 
-  pub one_shown_lines : (names : List (List ℕ)) (held : List Span) (k : ℕ) (ns : List ℕ) (lines others : List (List ℕ)) → AreShownLines names s held k ns lines → AreShownLines names s held k ns others
+  pub one_shown_lines : (names : Names) (held : List Span) (k : ℕ) (ns : List ℕ) (lines others : List (List ℕ)) → AreShownLines names s held k ns lines → AreShownLines names s held k ns others
       → lines ≡ others
   one_shown_lines names held k [] [] [] a b = refl
   one_shown_lines names held k [] [] (m ∷ ms) a b = absurd b
@@ -235,7 +236,7 @@ one_before c (Some past) before other sound (inl a) (inr b) = absurd (b.0 a.0 a.
 one_before c (Some past) before other sound (inr a) (inl b) = absurd (a.0 b.0 b.1 b.2 b.3 b.4)
 one_before c (Some past) before other sound (inr a) (inr b) = a.1 ∙ sym b.1
 
-pub one_shown_text : (w : World) → IsWorld w → KeysHaveOwnValues w.store → (c : ℕ) (names : List (List ℕ)) (past : Option Past) (text other : List ℕ) → IsSoundPast past
+pub one_shown_text : (w : World) → IsWorld w → KeysHaveOwnValues w.store → (c : ℕ) (names : Names) (past : Option Past) (text other : List ℕ) → IsSoundPast past
     → IsShownText c names past w text → IsShownText c names past w other → text ≡ other
 one_shown_text w world own c names past text other sound a b =
     let one = one_hand w world c a.0 b.0 a.1 b.1 a.2 b.2 a.3 b.3 a.6 b.6 in

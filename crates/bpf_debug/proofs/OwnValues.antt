@@ -113,7 +113,7 @@ IsOwn s = IsSoundStore s × KeysHaveOwnValues s
 call_keeps : (s t : Plain) (c : ℕ) (e : Event) → IsOwn s → Allowed s c e t → IsOwn t
 call_keeps s t c e is a = (allowed_sound s t c e is.0 a, allowed_own s t c e is.0 is.1 a)
 
-calls_keep : (s t : Plain) (log : List Entry) → IsOwn s → PlainlyLegal s log t → IsOwn t
+pub calls_keep : (s t : Plain) (log : List Entry) → IsOwn s → PlainlyLegal s log t → IsOwn t
 calls_keep s t [] is l = subst IsOwn l is
 calls_keep s t (e ∷ es) is l = calls_keep l.0 t es (call_keeps s l.0 e.cpu e.event is l.1.0) l.2
 

@@ -243,7 +243,7 @@ module _ (m : MachineState) (o : OriginState) (names : Names) (breaks : List Bre
 
   pub told_shown : (rewound n : MachineState) (runs : List (ℕ × ℕ)) (c : ℕ) (recall : Option Recall) (state : Cpu) (lines : List (List ℕ)) (last : List ℕ) → has_cpu m.store c ≡ true → kept ≡ Some runs → rewound ≡ first_of o m.programs
       → ((w : World) → Shows rewound w → (z : World) × (past : Option Past) × Recalls kind.Works c w None (unrolled runs) past z × Shows n z × IsRecall c recall past) → IsSameHost rewound n → IsState m.jobs c state
-      → ShowsLines names.maps m.store state.held 0 state.registers lines
+      → ShowsLines names m.store state.held 0 state.registers lines
       → ((past : Option Past) → IsRecall c recall past → (before : List ℕ) × IsBefore c past before × (last ≡ changed_text before 0 state.registers lines))
       → Leaves session (Show (Some c)) last (moved_on n kept)
   told_shown rewound n runs c recall state lines last has is again turns same hand shows put x shown =
@@ -252,9 +252,9 @@ module _ (m : MachineState) (o : OriginState) (names : Names) (breaks : List Bre
       let z = turns x.first (subst (λ (r : MachineState). Shows r x.first) (sym again) shown.first) in
       let t = put z.1 z.4 in
       let J : List Task → Type 0 = λ jobs. IsAt jobs c hand.0 hand.1 (InHand state hand.2) in
-      let N : Names → Type 0 = λ ns. AreShownLines ns.maps x.world.store state.held 0 state.registers lines in
+      let N : Names → Type 0 = λ ns. AreShownLines ns x.world.store state.held 0 state.registers lines in
       let are = subst N (sym shown.names) (shows x.world.store shown.world.sound shown.world.store) in
-      let text : IsShownText c x.names.maps z.1 x.world last = (hand.0, hand.1, state, hand.2, t.0, lines, subst J (sym shown.world.jobs) hand.3, t.1, are, t.2) in
+      let text : IsShownText c x.names z.1 x.world last = (hand.0, hand.1, state, hand.2, t.0, lines, subst J (sym shown.world.jobs) hand.3, t.1, are, t.2) in
       let R : List ℕ → Type 0 = λ cs. Recalls kind.Works c x.first None cs z.1 z.0 in
       let programs : n.programs ≡ m.programs = same.programs ∙ ap (λ (r : MachineState). r.programs) again in (
         record x { world = z.0 },

@@ -155,7 +155,7 @@ TellsLast x c text y =
 abbrev pub ShowsTurn : Scene → ℕ → List ℕ → Scene → Type 0
 ShowsTurn x c text y =
     (past : Option Past) × (m : World) × Recalls kind.Works c x.first None x.turns past m
-    × IsShownText c x.names.maps past x.world text × (y ≡ record x { world = m })
+    × IsShownText c x.names past x.world text × (y ≡ record x { world = m })
 
 -- of a CPU with a job in hand, or where it is
 abbrev pub ShowsCpu : Scene → ℕ → List ℕ → Scene → Type 0

@@ -1,15 +1,19 @@
 -- What `show` shows: the registers that a CPU's last turn changed, each number also as what it is
 -- where it is an address (our own choice).
-use Rattle.std.specs.Prelude.{◌≡◌, ℕ, suc, ◌-◌, ◌/◌, ◌%◌, ◌==◌, Bool, false, ◌&&◌, nat_le, nat_lt, if◌then◌else◌, ◌⊎◌, List, [], ◌∷◌, ◌++◌, Option, Some, None, codes, length, slice_index_or}
+use Rattle.std.specs.Prelude.{◌≡◌, ℕ, suc, ◌+◌, ◌-◌, ◌*◌, ◌/◌, ◌%◌, ◌==◌, Bool, false, ◌&&◌, nat_le, nat_lt, if◌then◌else◌, ◌⊎◌, List, [], ◌∷◌, ◌++◌, Option, Some, None, codes, length, slice_get, slice_index_or}
 use Rattle.std.specs.Fmt.{decimal, digits}
 use Rattle.bpf_shared.specs.declared.events.Span.{Span}
+use Rattle.bpf_shared.specs.declared.shapes.ArrayShape.{ArrayShape}
+use Rattle.bpf_shared.specs.Shape.{Shape, array_stride, copies, copy_stride, first_value, map_area}
 use Rattle.bpf_shared.specs.Store.{Plain}
+use Rattle.bpf_names.specs.Names.{Names, Variable, address_of, variable_at}
 use Rattle.bpf_mem.specs.Addresses.{context_base, frame_base}
 use Rattle.bpf_helpers.specs.Held.{is_in}
 use Rattle.bpf_cpu.specs.declared.cpu.Cpu.{Cpu}
 use Rattle.bpf_cpu.specs.Task.{Task, InHand}
 use Rattle.bpf_machine.specs.Hands.{IsAt, IsFree}
 use Rattle.bpf_machine.specs.Schedule.{World}
+use Rattle.bpf_jobs.specs.Printed.{place_text}
 use Rattle.bpf_debug.specs.Held.{IsValueName}
 use Rattle.bpf_debug.specs.Recall.{Past}
 
@@ -23,6 +27,54 @@ value_at (p ∷ held) a = if is_in a p then Some p else value_at held a
 -- a value's name, and how far past its beginning
 abbrev pub place_words : List ℕ → ℕ → List ℕ
 place_words name behind = codes " " ++ name ++ codes "+" ++ decimal behind
+
+-- a variable's name, and how far past its first byte
+abbrev pub variable_words : Variable → ℕ → List ℕ
+variable_words v a = place_words (codes "var " ++ v.name) (a - address_of v)
+
+-- an offset from the first byte of an array's values on: of which copy of them it is, of which index,
+-- and how far past that value's beginning
+abbrev pub copy_in : ArrayShape → ℕ → ℕ
+copy_in g offset = offset / copy_stride g
+
+abbrev pub index_in : ArrayShape → ℕ → ℕ
+index_in g offset = offset % copy_stride g / array_stride g
+
+abbrev pub past_in : ArrayShape → ℕ → ℕ
+past_in g offset = offset % copy_stride g % array_stride g
+
+-- a value has that byte
+abbrev pub is_in_value : ℕ → ArrayShape → ℕ → Bool
+is_in_value cpus g offset =
+    nat_lt (copy_in g offset) (copies cpus g)
+    && (nat_lt (index_in g offset) g.max && nat_lt (past_in g offset) g.value)
+
+-- the array's name, and which value it is
+abbrev pub element_name : List ℕ → ArrayShape → ℕ → List ℕ
+element_name name g offset = name ++ (codes "["
+    ++ (place_text g.per_cpu (index_in g offset) (copy_in g offset) ++ codes "]"))
+
+abbrev pub element_words : ℕ → List ℕ → ArrayShape → ℕ → List ℕ
+element_words cpus name g offset =
+    if is_in_value cpus g offset
+    then place_words (element_name name g offset) (past_in g offset) else []
+
+-- in the area of an array by its number: arrays' names follow those of the maps
+abbrev pub array_words : Names → Shape → ℕ → ℕ → Option ArrayShape → List ℕ
+array_words names h array offset None = []
+array_words names h array offset (Some g) =
+    element_words h.cpus (slice_index_or names.maps (length h.maps + array) []) g offset
+
+-- where arrays' areas begin, which follow those of sixteen maps
+abbrev pub first_array : ℕ
+first_array = first_value + map_area * 16
+
+-- a variable that has the byte, or else the value of an array
+abbrev pub fixed_words : Names → Shape → ℕ → Option Variable → List ℕ
+fixed_words names h a (Some v) = variable_words v a
+fixed_words names h a None =
+    let array = (a - first_array) / map_area in
+    array_words names h array ((a - first_array) % map_area) (slice_get h.arrays array)
 
 -- the frame, and how far before its end: of 8 frames, each of 512 bytes
 abbrev pub below_words : ℕ → ℕ → List ℕ
@@ -42,15 +94,21 @@ own_words a =
     then frame_words ((a - frame_base 0) / 0x1000) ((a - frame_base 0) % 0x1000)
     else (if nat_le context_base a then context_words (a - context_base) else [])
 
--- what an address in this value is, or in none
-abbrev pub IsWordsIn : List (List ℕ) → Plain → ℕ → Option Span → List ℕ → Type 0
-IsWordsIn names s a (Some p) text =
-    (name : List ℕ) × IsValueName names s p.at name × (text ≡ place_words name (a - p.at))
-IsWordsIn names s a None text = text ≡ own_words a
+-- in a value of an array, in a frame or in the context
+abbrev pub other_words : Names → Shape → ℕ → List ℕ
+other_words names h a =
+    if nat_le first_array a then fixed_words names h a (variable_at a names.variables)
+    else own_words a
 
--- what a number is, where it is an address in a value that the run holds, in a frame or in the
--- context
-abbrev pub IsMeaning : List (List ℕ) → Plain → List Span → ℕ → List ℕ → Type 0
+-- what an address in this held value is, or in none
+abbrev pub IsWordsIn : Names → Plain → ℕ → Option Span → List ℕ → Type 0
+IsWordsIn names s a (Some p) text =
+    (name : List ℕ) × IsValueName names.maps s p.at name × (text ≡ place_words name (a - p.at))
+IsWordsIn names s a None text = text ≡ other_words names s.shape a
+
+-- what a number is, where it is an address in a value that the run holds or that every CPU reaches,
+-- in a frame or in the context
+abbrev pub IsMeaning : Names → Plain → List Span → ℕ → List ℕ → Type 0
 IsMeaning names s held a text = IsWordsIn names s a (value_at held a) text
 
 -- ---- registers
@@ -60,12 +118,12 @@ shown_line k n meaning =
     codes "r" ++ decimal k ++ codes " " ++ decimal n ++ codes " 0x" ++ digits 16 false n ++ meaning
     ++ codes "\n"
 
-abbrev pub IsShownLine : List (List ℕ) → Plain → List Span → ℕ → ℕ → List ℕ → Type 0
+abbrev pub IsShownLine : Names → Plain → List Span → ℕ → ℕ → List ℕ → Type 0
 IsShownLine names s held k n line =
     (meaning : List ℕ) × IsMeaning names s held n meaning × (line ≡ shown_line k n meaning)
 
 -- a line each, from the k-th on
-abbrev pub AreShownLines : List (List ℕ) → Plain → List Span → ℕ → List ℕ → List (List ℕ) → Type 0
+abbrev pub AreShownLines : Names → Plain → List Span → ℕ → List ℕ → List (List ℕ) → Type 0
 AreShownLines names s held k [] [] = Unit {0}
 AreShownLines names s held k (n ∷ ns) (line ∷ lines) =
     IsShownLine names s held k n line × AreShownLines names s held (suc k) ns lines
@@ -94,7 +152,7 @@ IsBefore c None before = before ≡ []
 IsBefore c (Some past) before = HasRegisters past.before.jobs c before
 
 -- of a CPU with a job in hand
-abbrev pub IsShownText : ℕ → List (List ℕ) → Option Past → World → List ℕ → Type 0
+abbrev pub IsShownText : ℕ → Names → Option Past → World → List ℕ → Type 0
 IsShownText c names past w text =
     (j : ℕ) × (task : Task) × (state : Cpu) × (left : ℕ) × (before : List ℕ)
     × (lines : List (List ℕ)) × IsAt w.jobs c j task (InHand state left) × IsBefore c past before

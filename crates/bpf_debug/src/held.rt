@@ -46,7 +46,7 @@ fn place_text(alloc: Global, store: &PlainStore, at: u64) -> Result<String, Allo
 }
 
 /// A map's name, and a place after it.
-fn bracketed(alloc: Global, name: &str, place: &str) -> Result<String, AllocError>
+pub fn bracketed(alloc: Global, name: &str, place: &str) -> Result<String, AllocError>
     ensures { IfOk result (λ text. string_bytes text
         ≡ name.now ++ (codes "[" ++ (place.now ++ codes "]"))) }
 {

@@ -13,6 +13,7 @@ mod lines;
 mod maps;
 mod nearby;
 mod origin;
+mod places;
 mod reading;
 mod recall;
 mod schedule;

@@ -4,17 +4,18 @@ ghost use Rattle.std.specs.Prelude.{◌≡◌, ◌+◌, ◌-◌, ◌≤◌, ◌+
 ghost use Rattle.std.specs.Fmt.{decimal, digits};
 ghost use Rattle.bpf_cpu.specs.Task.{Task};
 ghost use Rattle.bpf_debug.specs.Recall.{IsRecall, IsStand, Past};
-ghost use Rattle.bpf_debug.specs.Show.{HasRegisters, IsBefore, below_words, changed_text, context_words, frame_words, is_same, own_words, place_words, shown_line, value_at};
+ghost use Rattle.bpf_names.specs.Names.{names_of};
+ghost use Rattle.bpf_plain.specs.PlainStore.{shape_of};
+ghost use Rattle.bpf_debug.specs.Show.{HasRegisters, IsBefore, changed_text, is_same, other_words, place_words, shown_line, value_at};
 ghost use Rattle.bpf_debug.specs.Private.Naming.{ShowsLine, ShowsLines, ShowsMeaning, ShowsWords};
 ghost use Rattle.bpf_debug.specs.Private.Room.{HasRoom, total};
 
 use crate::held::value_name;
+use crate::places::{FIRST_FIXED, fixed_words, own_words, place_words};
 use crate::recall::{Recall, Stand};
 use crate::text::put;
 use bpf_cpu::Cpu;
-use bpf_mem::addresses::{CONTEXT_BASE, FRAME_STRIDE, STACK_BASE};
-use bpf_mem::context::MAX_CONTEXT;
-use bpf_mem::frames::{FRAME_BYTES, MAX_FRAMES};
+use bpf_names::Names;
 use bpf_plain::PlainStore;
 use bpf_shared::Span;
 use std::alloc::{AllocError, Global};
@@ -31,28 +32,12 @@ fn value_at(held: &[Span], address: u64) -> Option<Span>
     None
 }
 
-/// A number in decimal.
-fn number_text(alloc: Global, number: u64) -> Result<String, AllocError>
-    ensures { IfOk result (λ text. string_bytes text ≡ decimal number) }
-{
-    format!(in alloc; "{number}")
-}
-
 /// A number in hex digits.
 fn hex_text(alloc: Global, number: u64) -> Result<String, AllocError>
     ensures { IfOk result (λ text. string_bytes text ≡ codes "0x" ++ digits 16 false number) }
 {
     let text = format!(in alloc; "0x{number:x}")?;
     Ok(text)
-}
-
-/// A value's name, and how far past its beginning.
-fn place_words(alloc: Global, name: &str, behind: u64) -> Result<String, AllocError>
-    ensures { IfOk result (λ text. string_bytes text ≡ place_words name.now behind) }
-{
-    let behind = number_text(alloc, behind)?;
-    let words = format!(in alloc; " {name}+{behind}")?;
-    Ok(words)
 }
 
 /// How far an address is after the beginning of a value.
@@ -66,62 +51,32 @@ fn behind(span: Span, address: u64) -> u64
 fn value_words(
     alloc: Global,
     store: &PlainStore,
-    names: &[String],
+    names: &Names,
     span: Span,
     address: u64,
 ) -> Result<String, AllocError>
-    ensures { IfOk result (λ text. ShowsWords (map string_bytes names.now) store.now address
+    ensures { IfOk result (λ text. ShowsWords (names_of names.now) store.now address
         (Some span) (string_bytes text)) }
 {
-    let name = value_name(alloc, store, names, span.at)?;
+    let name = value_name(alloc, store, &names.maps, span.at)?;
     let words = place_words(alloc, name.as_str(), behind(span, address))?;
     Ok(words)
 }
 
-/// A frame, and how far before its end.
-fn below_words(alloc: Global, frame: u64, below: u64) -> Result<String, AllocError>
-    ensures { IfOk result (λ text. string_bytes text ≡ below_words frame below) }
+/// An address in no held value: in a value of an array, in a frame or in the context.
+fn other_words(
+    alloc: Global,
+    store: &PlainStore,
+    names: &Names,
+    address: u64,
+) -> Result<String, AllocError>
+    ensures { IfOk result (λ text. string_bytes text
+        ≡ other_words (names_of names.now) (shape_of store.now) address) }
 {
-    let below = number_text(alloc, below)?;
-    let words = format!(in alloc; " frame {frame} - {below}")?;
-    Ok(words)
-}
-
-/// An address in a frame, by how far it is after its beginning.
-fn frame_words(alloc: Global, frame: u64, at: u64) -> Result<String, AllocError>
-    ensures { IfOk result (λ text. string_bytes text ≡ frame_words frame at) }
-{
-    if frame >= MAX_FRAMES as u64 {
-        return Ok(String::new(alloc));
-    }
-    if at > FRAME_BYTES as u64 {
-        return Ok(String::new(alloc));
-    }
-    below_words(alloc, frame, FRAME_BYTES as u64 - at)
-}
-
-/// An address in the context: how far past its beginning.
-fn context_words(alloc: Global, at: u64) -> Result<String, AllocError>
-    ensures { IfOk result (λ text. string_bytes text ≡ context_words at) }
-{
-    if at <= MAX_CONTEXT as u64 {
-        format!(in alloc; " context + {at}")
+    if address >= FIRST_FIXED {
+        fixed_words(alloc, store.store_shape(), names, address)
     } else {
-        Ok(String::new(alloc))
-    }
-}
-
-/// An address in a frame or in the context.
-fn own_words(alloc: Global, address: u64) -> Result<String, AllocError>
-    ensures { IfOk result (λ text. string_bytes text ≡ own_words address) }
-{
-    if address >= STACK_BASE {
-        let above = address - STACK_BASE;
-        frame_words(alloc, above / FRAME_STRIDE, above % FRAME_STRIDE)
-    } else if address >= CONTEXT_BASE {
-        context_words(alloc, address - CONTEXT_BASE)
-    } else {
-        Ok(String::new(alloc))
+        own_words(alloc, address)
     }
 }
 
@@ -129,16 +84,16 @@ fn own_words(alloc: Global, address: u64) -> Result<String, AllocError>
 fn meaning(
     alloc: Global,
     store: &PlainStore,
-    names: &[String],
+    names: &Names,
     held: &[Span],
     number: u64,
 ) -> Result<String, AllocError>
     ensures { IfOk result (λ text.
-        ShowsMeaning (map string_bytes names.now) store.now held.now number (string_bytes text)) }
+        ShowsMeaning (names_of names.now) store.now held.now number (string_bytes text)) }
 {
     match value_at(held, number) {
         Some(span) => value_words(alloc, store, names, span, number),
-        None => own_words(alloc, number),
+        None => other_words(alloc, store, names, number),
     }
 }
 
@@ -160,12 +115,12 @@ fn line_text(
 fn shown_line(
     alloc: Global,
     store: &PlainStore,
-    names: &[String],
+    names: &Names,
     held: &[Span],
     register: usize,
     number: u64,
 ) -> Result<String, AllocError>
-    ensures { IfOk result (λ text. ShowsLine (map string_bytes names.now) store.now held.now register
+    ensures { IfOk result (λ text. ShowsLine (names_of names.now) store.now held.now register
         number (string_bytes text)) }
 {
     let meaning = meaning(alloc, store, names, held, number)?;
@@ -177,12 +132,12 @@ fn shown_line(
 fn shown_lines(
     alloc: Global,
     store: &PlainStore,
-    names: &[String],
+    names: &Names,
     held: &[Span],
     registers: &[u64],
 ) -> Result<Vec<String>, AllocError>
     ensures count { IfOk result (λ lines. length lines.items ≡ length registers.now) }
-    ensures lines { IfOk result (λ lines. ShowsLines (map string_bytes names.now) store.now held.now
+    ensures lines { IfOk result (λ lines. ShowsLines (names_of names.now) store.now held.now
         0 registers.now (map string_bytes lines.items)) }
 {
     let mut lines = Vec::with_capacity(alloc, registers.len())?;
@@ -260,11 +215,11 @@ pub struct Shown {
 pub fn shown_of(
     alloc: Global,
     store: &PlainStore,
-    names: &[String],
+    names: &Names,
     state: &Cpu,
 ) -> Result<Shown, AllocError>
     ensures registers { IfOk result (λ s. s.registers ≡ state.now.registers) }
-    ensures lines { IfOk result (λ s. ShowsLines (map string_bytes names.now) store.now state.now.held
+    ensures lines { IfOk result (λ s. ShowsLines (names_of names.now) store.now state.now.held
         0 state.now.registers (map string_bytes s.lines.items)) }
     ensures empty { IfOk result (λ s. string_bytes s.room ≡ []) }
     ensures room { IfOk result HasRoom }

@@ -106,7 +106,7 @@ impl Session {
         let Some(state) = self.machine.cpu(cpu) else {
             return self.shows_nothing(alloc, cpu);
         };
-        let shown = shown_of(alloc, self.machine.store(), &self.names.maps, state)?;
+        let shown = shown_of(alloc, self.machine.store(), &self.names, state)?;
         self.origin.rewind(alloc, &mut self.machine)?;
         let recall = self.course.recall(&mut self.machine, cpu, Kind::Works);
         Ok(changed(shown, &recall))

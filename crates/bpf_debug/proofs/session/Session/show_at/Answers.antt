@@ -46,9 +46,8 @@ returns-clause-answered c =
     let shown = c.in_ok-shown.shown in
     let sure = c.in_ok-shown.ensures in
     let lines = map string_bytes shown.lines.items in
-    let N : List (String Global) → Type 0 = λ ns. ShowsLines (map string_bytes ns) c.store.result.now state.held 0 state.registers lines in
-    let T : Contents → Type 0 = λ p. ShowsLines names.maps p state.held 0 state.registers lines in
-    let shows = subst T c.store.ensures (subst N c.deref.ensures.value sure.lines) in
+    let T : Contents → Type 0 = λ p. ShowsLines names p state.held 0 state.registers lines in
+    let shows = subst T c.store.ensures sure.lines in
     let put : (past : Option Past) → IsRecall c.args.cpu c.recall-recall.result past → (before : List ℕ) × IsBefore c.args.cpu past before
     × (last ≡ changed_text before 0 state.registers lines) = λ past is.
     let p = c.changed.ensures c.args.cpu past is in (
