@@ -27,13 +27,16 @@ A pc counts words, and a wide instruction has two.",
 
 pub const G3: Page = Page {
     code: Code::G3,
-    meaning: "no map has this name",
+    meaning: "no map, array or variable has this name",
     example: Some(Example {
         command: "printf 'ebpf-run 1\\nprog a\\nexit\\nend\\njob 0 a\\n---\\nmap m\\n' | ebpf debug",
         printed: "refused G3",
     }),
     advice: "\
-The names are those of the run file's map lines.",
+The names are those of the run file's `map`, `array` and `var` lines. `map` and
+`keys` take a map or an array, and so does `watch` with a key or an index; `var`
+takes a variable, and so does `watch` with a name alone. `--sync` of `ebpf
+explore --races` takes a map, bytes that its values have, or a variable.",
 };
 
 pub const G4: Page = Page {

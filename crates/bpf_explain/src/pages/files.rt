@@ -23,11 +23,12 @@ pub const L2: Page = Page {
         printed: "refused line 3 L2",
     }),
     advice: "\
-The order is: `ebpf-run 1`, `cpus`, `seed`, maps, arrays, their bytes and
+The order is: `ebpf-run 1`, `cpus`, `seed`, maps, arrays, what both have at first and
 variables, programs, jobs; each but the first may be missing. Names have at most 32
 characters, contexts at most 4,096 bytes; there are at most 256 variables, 256
-programs and 4,096 jobs. A map may end with `grow` only where the first line is
-`ebpf-run 2` or `ebpf-run 3`; lines `array`, `data` and `var` are of `ebpf-run 3`.
+programs, 4,096 jobs and 4,096 pairs of maps. A map may end with `grow` only where
+the first line is `ebpf-run 2` or `ebpf-run 3`; lines `array`, `data`, `var` and `put`
+are of `ebpf-run 3`.
 docs/reference/run-files.md has every form.",
 };
 
@@ -59,7 +60,8 @@ have one name.",
 
 pub const L5: Page = Page {
     code: Code::L5,
-    meaning: "the job's CPU, its program, or the array of a `data` or `var` line isn't there",
+    meaning: "the job's CPU or program, or the array or map of a `data`, `var` or `put` line, isn't \
+        there",
     example: Some(Example {
         command: "printf 'ebpf-run 1\\nprog a hex 9500000000000000\\njob 1 a\\n' | ebpf run",
         printed: "refused line 3 L5",
@@ -253,10 +255,16 @@ Two arrays of one value can be one whose value has the bytes of both.",
 
 pub const S12: Page = Page {
     code: Code::S12,
-    meaning: "an array's first contents fit its values, and a variable the first of them",
-    example: None,
+    meaning: "what a map or an array has at first fits it, and a variable an array's first value",
+    example: Some(Example {
+        command: "printf 'ebpf-run 3\\nmap m key 1 value 1 max 1 spare 0\\nput m 00 01\\nput m 01 \
+            01\\n' | ebpf run",
+        printed: "refused line 4 S12",
+    }),
     advice: "\
-A variable's bytes are all in the first value of an array that isn't `percpu`. Of
-`data` offsets are counted from the first value on. A value begins every `value`
+A `put` line has a key and a value of the map's sizes, each key of a map once, and
+the map has room for its keys; or it has an index of the array, and all bytes of a
+value. A variable's bytes are all in the first value of an array that isn't `percpu`.
+Of `data` offsets are counted from the first value on. A value begins every `value`
 bytes, rounded up to a multiple of 8.",
 };
