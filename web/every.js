@@ -15,14 +15,14 @@ const DEADLOCK = 'a deadlock: no order of turns leads from here to an end';
 const FOUND = [
     ['outcome', /^by(?: (?<by>.*))?$/],
     ['deadlock', /^hung by(?: (?<by>.*))?$/],
-    ['race', /^race cpu (?<cpu>\d+) prog (?<prog>\d+) pc (?<pc>\d+) cpu (?<other>\d+) prog (?<other_prog>\d+) pc (?<other_pc>\d+) map (?<map>\S+) (?<key>\S+) by(?: (?<by>.*))?$/],
+    ['race', /^race cpu (?<cpu>\d+) prog (?<prog>\d+) pc (?<pc>\d+) cpu (?<other>\d+) prog (?<other_prog>\d+) pc (?<other_pc>\d+) (?:map|array|var) (?<what>.+?) by(?: (?<by>.*))?$/],
 ];
 const LAST = /^(?<all>all|not all): (?:\d+ outcomes, (?<states>\d+) states|\d+ races)$/;
 
 const SAID_OF = {
     outcome: () => [],
     deadlock: () => [DEADLOCK],
-    race: ({ map, key, ...parts }) => [`${stands_in(parts).map(stand_text).join(', ')}: ${map} ${key}`],
+    race: ({ what, ...parts }) => [`${stands_in(parts).map(stand_text).join(', ')}: ${what}`],
 };
 
 // Where the CPUs of a race stand: each in a program, by its number in the file, at a pc.

@@ -54,24 +54,13 @@ end
 job 0 insert
 `;
 
-const ADD = `ebpf-run 1
+const ADD = `ebpf-run 3
 cpus 2
-map counter key 4 value 8 max 1 spare 1
+array bss value 8 max 1
+var counter bss 0 8
 
 prog add
-        *(u32 *)(r10 - 4) = 0   ; the key
-        *(u64 *)(r10 - 16) = 0  ; a first value
-        r1 = map 0
-        r2 = r10
-        r2 += -4
-        r3 = r10
-        r3 += -16
-        r4 = 1                  ; only if the key isn't there
-        call 2                  ; update
-        r1 = map 0
-        r2 = r10
-        r2 += -4
-        call 1                  ; lookup: r0 is the value's address
+        r0 = &counter           ; the variable's address
         r1 = *(u64 *)(r0 + 0)
         r1 += 1
         *(u64 *)(r0 + 0) = r1
@@ -83,31 +72,19 @@ job 0 add
 job 1 add
 `;
 
-const LOCK = `ebpf-run 1
+const LOCK = `ebpf-run 3
 cpus 2
-map guarded key 4 value 16 max 1 spare 1
+array bss value 16 max 1
+var lock bss 0 8
+var count bss 8 8
 
-prog count
-        *(u32 *)(r10 - 4) = 0
-        *(u64 *)(r10 - 24) = 0  ; the lock
-        *(u64 *)(r10 - 16) = 0  ; the count
-        r1 = map 0
-        r2 = r10
-        r2 += -4
-        r3 = r10
-        r3 += -24
-        r4 = 1
-        call 2
-        r1 = map 0
-        r2 = r10
-        r2 += -4
-        call 1
-        r7 = r0
+prog add
+        r7 = &lock
 take:   r0 = 0
         r1 = 1
         r0 = cmpxchg_64(r7 + 0, r0, r1)
         if r0 != 0 goto take
-        r1 = *(u64 *)(r7 + 8)
+        r1 = *(u64 *)(r7 + 8)   ; the count, which is beside the lock
         r1 += 1
         *(u64 *)(r7 + 8) = r1
         *(u64 *)(r7 + 0) = 0    ; gives the lock back
@@ -115,74 +92,50 @@ take:   r0 = 0
         exit
 end
 
-job 0 count
-job 1 count
+job 0 add
+job 1 add
 `;
 
-const TWO_LOCKS = `ebpf-run 1
+const TWO_LOCKS = `ebpf-run 3
 cpus 2
-map locks key 4 value 16 max 1 spare 1 ; two words, a lock each
+array bss value 16 max 1
+var one bss 0 8
+var other bss 8 8
 
 prog first
-        *(u32 *)(r10 - 4) = 0
-        *(u64 *)(r10 - 24) = 0
-        *(u64 *)(r10 - 16) = 0
-        r1 = map 0
-        r2 = r10
-        r2 += -4
-        r3 = r10
-        r3 += -24
-        r4 = 1
-        call 2
-        r1 = map 0
-        r2 = r10
-        r2 += -4
-        call 1
-        r7 = r0
-one:    r0 = 0
+        r6 = &one
+        r7 = &other
+take:   r0 = 0
         r1 = 1
-        r0 = cmpxchg_64(r7 + 0, r0, r1) ; takes the one lock,
-        if r0 != 0 goto one
-two:    r0 = 0
+        r0 = cmpxchg_64(r6 + 0, r0, r1) ; takes one lock,
+        if r0 != 0 goto take
+then:   r0 = 0
         r1 = 1
-        r0 = cmpxchg_64(r7 + 8, r0, r1) ; and then the other
-        if r0 != 0 goto two
+        r0 = cmpxchg_64(r7 + 0, r0, r1) ; and then the other
+        if r0 != 0 goto then
         r1 = 0
-        r1 = xchg_64(r7 + 8, r1)        ; gives both back
+        r1 = xchg_64(r7 + 0, r1)        ; gives both back
         r1 = 0
-        r1 = xchg_64(r7 + 0, r1)
+        r1 = xchg_64(r6 + 0, r1)
         r0 = 0
         exit
 end
 
 prog second
-        *(u32 *)(r10 - 4) = 0
-        *(u64 *)(r10 - 24) = 0
-        *(u64 *)(r10 - 16) = 0
-        r1 = map 0
-        r2 = r10
-        r2 += -4
-        r3 = r10
-        r3 += -24
-        r4 = 1
-        call 2
-        r1 = map 0
-        r2 = r10
-        r2 += -4
-        call 1
-        r7 = r0
-one:    r0 = 0
+        r6 = &other
+        r7 = &one
+take:   r0 = 0
         r1 = 1
-        r0 = cmpxchg_64(r7 + 8, r0, r1) ; takes the other lock first
-        if r0 != 0 goto one
-two:    r0 = 0
+        r0 = cmpxchg_64(r6 + 0, r0, r1) ; takes one lock,
+        if r0 != 0 goto take
+then:   r0 = 0
         r1 = 1
-        r0 = cmpxchg_64(r7 + 0, r0, r1)
-        if r0 != 0 goto two
+        r0 = cmpxchg_64(r7 + 0, r0, r1) ; and then the other
+        if r0 != 0 goto then
         r1 = 0
-        r1 = xchg_64(r7 + 0, r1)
+        r1 = xchg_64(r7 + 0, r1)        ; gives both back
         r1 = 0
-        r1 = xchg_64(r7 + 8, r1)
+        r1 = xchg_64(r6 + 0, r1)
         r0 = 0
         exit
 end
@@ -191,49 +144,25 @@ job 0 first
 job 1 second
 `;
 
-const MESSAGE = `ebpf-run 1
+const MESSAGE = `ebpf-run 3
 cpus 2
-map box key 4 value 16 max 1 spare 1 ; a message, and whether it is there
+array bss value 16 max 1
+var message bss 0 8
+var there bss 8 8
 
 prog send
-        *(u32 *)(r10 - 4) = 0
-        *(u64 *)(r10 - 24) = 0
-        *(u64 *)(r10 - 16) = 0
-        r1 = map 0
-        r2 = r10
-        r2 += -4
-        r3 = r10
-        r3 += -24
-        r4 = 1
-        call 2
-        r1 = map 0
-        r2 = r10
-        r2 += -4
-        call 1
-        r7 = r0
-        *(u64 *)(r7 + 8) = 1    ; it is there
+        r7 = &message
+        r8 = &there
+        *(u64 *)(r8 + 0) = 1    ; it is there
         *(u64 *)(r7 + 0) = 42   ; the message
         r0 = 0
         exit
 end
 
 prog receive
-        *(u32 *)(r10 - 4) = 0
-        *(u64 *)(r10 - 24) = 0
-        *(u64 *)(r10 - 16) = 0
-        r1 = map 0
-        r2 = r10
-        r2 += -4
-        r3 = r10
-        r3 += -24
-        r4 = 1
-        call 2
-        r1 = map 0
-        r2 = r10
-        r2 += -4
-        call 1
-        r7 = r0
-        r1 = *(u64 *)(r7 + 8)   ; is it there?
+        r7 = &message
+        r8 = &there
+        r1 = *(u64 *)(r8 + 0)   ; is it there?
         r0 = 42
         if r1 == 0 goto done
         r0 = *(u64 *)(r7 + 0)   ; the message
@@ -244,25 +173,13 @@ job 0 send
 job 1 receive
 `;
 
-const FLAG = `ebpf-run 1
+const FLAG = `ebpf-run 3
 cpus 2
-map flag key 4 value 8 max 1 spare 1
+array bss value 8 max 1
+var flag bss 0 8
 
 prog set
-        *(u32 *)(r10 - 4) = 0
-        *(u64 *)(r10 - 16) = 0
-        r1 = map 0
-        r2 = r10
-        r2 += -4
-        r3 = r10
-        r3 += -16
-        r4 = 1
-        call 2
-        r1 = map 0
-        r2 = r10
-        r2 += -4
-        call 1
-        r7 = r0
+        r7 = &flag
         r1 = 1
         *(u64 *)(r7 + 0) = r1   ; sets the flag
         r0 = 0
@@ -270,20 +187,7 @@ prog set
 end
 
 prog look
-        *(u32 *)(r10 - 4) = 0
-        *(u64 *)(r10 - 16) = 0
-        r1 = map 0
-        r2 = r10
-        r2 += -4
-        r3 = r10
-        r3 += -16
-        r4 = 1
-        call 2
-        r1 = map 0
-        r2 = r10
-        r2 += -4
-        call 1
-        r7 = r0
+        r7 = &flag
         r0 = 0
         r0 = atomic_fetch_add((u64 *)(r7 + 0), r0) ; looks at it
         exit
@@ -293,27 +197,16 @@ job 0 set
 job 1 look
 `;
 
-const STACK = `ebpf-run 1
+const STACK = `ebpf-run 3
 cpus 2
-map stack key 4 value 24 max 1 spare 1 ; the top, what is below node 1, and below node 2
+array bss value 24 max 1
+var top bss 0 8
+var below1 bss 8 8  ; what is below node 1,
+var below2 bss 16 8 ; and below node 2
+put bss[0] of u64 = 1,2,0
 
 prog pop
-        *(u32 *)(r10 - 4) = 0
-        *(u64 *)(r10 - 32) = 1  ; the top is node 1,
-        *(u64 *)(r10 - 24) = 2  ; below node 1 is node 2,
-        *(u64 *)(r10 - 16) = 0  ; and below node 2 nothing
-        r1 = map 0
-        r2 = r10
-        r2 += -4
-        r3 = r10
-        r3 += -32
-        r4 = 1
-        call 2
-        r1 = map 0
-        r2 = r10
-        r2 += -4
-        call 1
-        r7 = r0
+        r7 = &top
 again:  r1 = *(u64 *)(r7 + 0)   ; the top
         r2 = r1
         r2 <<= 3
@@ -327,23 +220,8 @@ end
 
 ; Takes both nodes, and gives node 1 back.
 prog busy
-        *(u32 *)(r10 - 4) = 0
-        *(u64 *)(r10 - 32) = 1
-        *(u64 *)(r10 - 24) = 2
-        *(u64 *)(r10 - 16) = 0
-        r1 = map 0
-        r2 = r10
-        r2 += -4
-        r3 = r10
-        r3 += -32
-        r4 = 1
-        call 2
-        r1 = map 0
-        r2 = r10
-        r2 += -4
-        call 1
-        r7 = r0
-one:    r0 = 1
+        r7 = &top
+        r0 = 1
         r2 = *(u64 *)(r7 + 8)
         r0 = cmpxchg_64(r7 + 0, r0, r2)
         if r0 != 1 goto out
@@ -365,24 +243,17 @@ job 0 pop
 job 1 busy
 `;
 
-const HELD = `ebpf-run 1
+const HELD = `ebpf-run 3
 cpus 2
 map single key 4 value 8 max 1 spare 0
+put single[0] of u64 = 5
 
 prog hold
         *(u32 *)(r10 - 4) = 0
-        *(u64 *)(r10 - 16) = 5
-        r1 = map 0
+        r1 = map single
         r2 = r10
         r2 += -4
-        r3 = r10
-        r3 += -16
-        r4 = 0
-        call 2                  ; insert
-        r1 = map 0
-        r2 = r10
-        r2 += -4
-        call 1                  ; look up: from here on this run holds the value
+        call lookup             ; from here on this run holds the value
         r0 = *(u64 *)(r0 + 0)
         exit
 end
@@ -390,17 +261,17 @@ end
 prog replace
         *(u32 *)(r10 - 4) = 0
         *(u64 *)(r10 - 16) = 6
-        r1 = map 0
+        r1 = map single
         r2 = r10
         r2 += -4
-        call 3                  ; delete
-        r1 = map 0
+        call delete
+        r1 = map single
         r2 = r10
         r2 += -4
         r3 = r10
         r3 += -16
         r4 = 0
-        call 2                  ; insert another
+        call update             ; insert another
         exit
 end
 
@@ -457,10 +328,10 @@ const end_of = (state, job) => ends_of(state).find((end) => end.job === job);
 const met = (said) => ({ is_met: true, said });
 const not_yet = (said) => ({ is_met: false, said });
 
-// The number in the first 8 bytes from a place on of a map's only value.
-function number_in({ views }, map, place = 0) {
-    const [value] = views.after.maps.get(map)?.values() ?? [];
-    return value === undefined ? null : little_endian(pairs(value).slice(place, place + 8));
+// What a variable is; null where the file has none of this name.
+function number_in({ views }, name) {
+    const number = views.after.variables.get(name);
+    return number === undefined ? null : BigInt(number);
 }
 
 function ends_with(state, job, wanted) {
@@ -477,7 +348,7 @@ function counter_is(state, wanted) {
 }
 
 const MOST_STATES = 20000; // what the lesson asks for takes fewer
-const COUNTED = 'map counter 00000000=0200000000000000';
+const COUNTED = 'var counter=2';
 
 async function every_order_counts({ file }, machine) {
     const { stdout } = await machine.engine.call(['explore', '--limit', String(MOST_STATES)], file.text);
@@ -485,7 +356,7 @@ async function every_order_counts({ file }, machine) {
     const is_right = (line) => line === COUNTED || /^job \d+ cpu \d+ r0=/.test(line);
     const wrong = found.find(({ lines }) => !lines.includes(COUNTED) || !lines.every(is_right));
     if (wrong) {
-        const bad = wrong.lines.find((line) => !is_right(line)) ?? 'the map is empty';
+        const bad = wrong.lines.find((line) => !is_right(line)) ?? 'no variable has this name';
         return { ...not_yet(`In some order of turns: ${bad}.`), turns: turns_of_schedule(wrong.schedule, MOST_TURNS) };
     }
     if (!is_all) return not_yet(`There are more than ${MOST_STATES} states: it can be said shorter.`);
@@ -515,7 +386,7 @@ async function every_message_arrives({ file }, machine) {
         return { ...not_yet(`In some order of turns: ${bad}.`), turns: turns_of_schedule(wrong.schedule, MOST_TURNS) };
     }
     if (!is_all) return not_yet(`There are more than ${MOST_STATES} states: it can be said shorter.`);
-    const is_kept = /\(r7 \+ 8\) = 1/.test(file.text) && /\(r7 \+ 0\) = 42/.test(file.text) && /if r1 == 0/.test(file.text);
+    const is_kept = /\(r8 \+ 0\) = 1/.test(file.text) && /\(r7 \+ 0\) = 42/.test(file.text) && /if r1 == 0/.test(file.text);
     return is_kept ? met('Whoever sees that the message is there sees the message.') : not_yet('Both stores, and the question, have to stay.');
 }
 
@@ -533,7 +404,7 @@ async function no_order_races({ file }, machine) {
 
 function top_is_taken(state) {
     if (ends_of(state).length < 2) return not_yet('Both jobs have to end.');
-    const top = number_in(state, 'stack');
+    const top = number_in(state, 'top');
     if (end_of(state, 1).how !== 'r0=2') return not_yet(`CPU 1 didn't get node 2: ${end_of(state, 1).how}.`);
     return top === 2n ? met('The top is node 2, which CPU 1 has taken: two own it.') : not_yet(`The top is ${top}, and nobody has that node.`);
 }
@@ -544,7 +415,7 @@ function tries_in_vain(state) {
     const pc = listing.find((line) => line.code.includes('cmpxchg'))?.pc;
     const is_try = (turn, nth) => turns[nth] === 1 && turn.pc === pc && !turn.is_none;
     const tries = known.slice(0, shown).filter(is_try).length;
-    const is_kept = number_in(state, 'guarded') === 1n && !views.after.places[0].is_idle;
+    const is_kept = number_in(state, 'lock') === 1n && !views.after.places[0].is_idle;
     if (!is_kept) return not_yet('CPU 0 has to keep the lock meanwhile.');
     const said = `CPU 1 has tried ${counted(tries, 'time')}`;
     return tries < 2 ? not_yet(`${said}.`) : met(`${said}, and spins: the lock is still 1.`);
@@ -554,9 +425,9 @@ function inserts_while_held(state) {
     const end = end_of(state, 1);
     if (!end) return not_yet("CPU 1's job hasn't ended.");
     if (end_of(state, 0)) return not_yet('CPU 0 has to hold its value meanwhile: set the lesson again.');
-    if (end.how === 'r0=18446744073709551604') return not_yet('call 2 answered 2^64 - 12, which is -ENOMEM.');
+    if (end.how === 'r0=18446744073709551604') return not_yet('call update answered 2^64 - 12, which is -ENOMEM.');
     if (end.how !== 'r0=0') return not_yet(`CPU 1's job ended: ${end.how}.`);
-    return met('call 2 answered 0: the other value is in the spare element, and CPU 0 still holds its own.');
+    return met('call update answered 0: the other value is in the spare element, and CPU 0 still holds its own.');
 }
 
 function key_is_there({ views, known, shown }) {
@@ -611,12 +482,12 @@ const LESSONS = [
     {
         title: 'A lost update',
         text:
-            'Both CPUs run the same program: load the counter, add 1, store it. Both have looked it up ' +
+            'Both CPUs run the same program: load the counter, add 1, store it. Both have its address ' +
             'and are before the load; `0` and `1` say whose turn it is. One after the other, they ' +
             'count to 2. But between the load of one and its store, the other may load too.',
         task: 'Find an order in which both jobs end, and the counter is 1: an addition is lost.',
         file: ADD,
-        turns: [...times(13, 0), ...times(13, 1)],
+        turns: [0, 1],
         check: (state) => counter_is(state, 1n),
     },
     {
@@ -633,11 +504,11 @@ const LESSONS = [
     {
         title: 'A lock',
         text:
-            'The value\'s first word is a lock: `cmpxchg_64` writes 1 if it finds 0, and answers in `r0` ' +
+            'The variable `lock` is a lock: `cmpxchg_64` writes 1 if it finds 0, and answers in `r0` ' +
             'what it found, all in one step. CPU 0 has just taken the lock. Who finds 1 tries again.',
         task: 'Let CPU 1 try twice in vain, while CPU 0 has the lock.',
         file: LOCK,
-        turns: times(18, 0),
+        turns: times(4, 0),
         check: tries_in_vain,
     },
     {
@@ -648,7 +519,7 @@ const LESSONS = [
             'the program go through every order of turns, and shows you one that can\'t end.',
         task: 'Let `second` take the locks in the order of `first`.',
         file: TWO_LOCKS,
-        turns: [...times(19, 0), ...times(19, 1)],
+        turns: [...times(6, 0), ...times(6, 1)],
         check: every_order_ends,
     },
     {
@@ -659,7 +530,7 @@ const LESSONS = [
             'has written yet. (On Arm, plain stores would not be enough even in the right order.)',
         task: 'Swap the two stores of `send`, so that job 1 ends with r0=42 whatever the order of turns.',
         file: MESSAGE,
-        turns: times(15, 0),
+        turns: times(2, 0),
         check: every_message_arrives,
     },
     {
@@ -670,7 +541,7 @@ const LESSONS = [
             'a plain store. The page has the program look for races in every order of turns.',
         task: 'Set the flag by an atomic operation, too: `r1 = xchg_64(r7 + 0, r1)` in place of the store.',
         file: FLAG,
-        turns: [...times(14, 0), ...times(14, 1)],
+        turns: [0, 1],
         check: no_order_races,
     },
     {
@@ -681,7 +552,7 @@ const LESSONS = [
             'is node 1 again, but nothing is below it any more, and CPU 0 can\'t see that.',
         task: 'Find an order in which both jobs end, and the top is node 2, which CPU 1 has.',
         file: STACK,
-        turns: times(21, 0),
+        turns: times(6, 0),
         check: top_is_taken,
     },
     {
@@ -690,10 +561,10 @@ const LESSONS = [
             'The first job stores the address of a value in another map. The second job finds that ' +
             'number there, but a run may only use what its own lookups found: the load at pc 7 is a ' +
             'fault.',
-        task: 'Mend `use`: let it look the value up in map 0, and load from `r0` once. Job 1 has to end with r0=7.',
+        task: 'Mend `use`: let it look the value up in the map `values`, and load from `r0` once. Job 1 has to end with r0=7.',
         file: null,
         example: 'kept-pointer',
-        turns: times(29, 0),
+        turns: times(21, 0),
         check: (state) => ends_with(state, 1, 'r0=7'),
     },
     {
@@ -701,10 +572,10 @@ const LESSONS = [
         text:
             'CPU 0 holds a value that it has looked up. CPU 1 deletes that key and inserts another ' +
             'value, but the place stays taken until CPU 0\'s job ends, and the map has one element and ' +
-            'no spare one. Let CPU 1 run `Alone`: `call 2` answers `-ENOMEM`.',
+            'no spare one. Let CPU 1 run `Alone`: `call update` answers `-ENOMEM`.',
         task: 'Change the map\'s line, so that CPU 1\'s job ends with r0=0 while CPU 0 still holds its value.',
         file: HELD,
-        turns: [...times(13, 0), ...times(12, 1)],
+        turns: [...times(5, 0), ...times(12, 1)],
         check: inserts_while_held,
     },
     {

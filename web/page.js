@@ -314,12 +314,12 @@ async function open_link() {
     try {
         said = await read_link(location.hash);
     } catch (error) {
-        await load_example('lost-update');
+        await load_example('lost-additions');
         tell(`The link can't be read: ${error.message}.`, true);
         return;
     }
     if (!said) {
-        await load_example('lost-update');
+        await load_example('lost-additions');
         return;
     }
     close_lesson();
