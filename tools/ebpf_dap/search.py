@@ -25,7 +25,7 @@ def outcomes(ebpf, file):
     for line in lines:
         if line.startswith("by"):
             found.append({"number": len(found) + 1, "schedule": line[3:], "lines": []})
-        elif found and line.startswith(("job ", "map ")):
+        elif found and line.startswith(("job ", "map ", "var ", "array ")):
             found[-1]["lines"].append(line)
     return {"outcomes": found, "summary": notes[-1] if notes else ""}
 

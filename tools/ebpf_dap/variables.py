@@ -18,6 +18,13 @@ def number_of(data):
     return f"{int.from_bytes(data, 'little')} (0x{shown})" if len(data) in (1, 2, 4, 8) else shown
 
 
+def signed_text(value):
+    """Returns a small negative number with its sign, and the error that it may be; nothing of another number."""
+    if 0 < 2**64 - value <= 4095:
+        return f"-{2**64 - value} {ERRORS.get(2**64 - value, '')}".rstrip()
+    return ""
+
+
 def numbers_in(digits):
     """Returns bytes as numbers of 8 bytes where they are as many, else as one number, else as they are."""
     data = bytes.fromhex(digits)
@@ -91,9 +98,7 @@ class Variables:
             return f"array {self.run_file.arrays[value - (1 << 32) - FIRST_ARRAY].name}"
         if 0 <= value - ARRAY_VALUES < len(self.run_file.arrays) * AREA:
             return self.place(*divmod(value - ARRAY_VALUES, AREA))
-        if 0 < 2**64 - value <= 4095:
-            return f"-{2**64 - value} {ERRORS.get(2**64 - value, '')}".rstrip()
-        return ""
+        return signed_text(value)
 
     def place(self, number, offset):
         """Says what is so many bytes after the first of an array: a variable, or a value by its index."""
