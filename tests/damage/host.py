@@ -22,7 +22,7 @@ ASKED = [
     (["asm", "--listing"], b"r0 = 5\nexit\n"),
     (["disasm"], FIVE),
     (["run", "--maps"], (EXAMPLES / "histogram.run").read_bytes()),
-    (["run", "--workers", "2", "--maps"], (EXAMPLES / "atomic-update.run").read_bytes()),
+    (["run", "--workers", "2", "--maps"], (TESTS / "maps/atomic-update.run").read_bytes()),
     (["debug"], SCRIPT),
     (["explain", "E9"], b""),
 ]
