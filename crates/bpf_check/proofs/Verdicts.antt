@@ -1,5 +1,5 @@
 -- Verdicts by answers are true.
-use Rattle.std.proofs.Common.{◌≡◌, ℕ, zero, suc, ◌+◌, Bool, true, false, not, cond, List, [], ◌∷◌, Option, Some, None, length, refl, sym, subst, arith}
+use Rattle.std.proofs.Common.{◌≡◌, ℕ, zero, suc, ◌+◌, Bool, true, false, not, cond, List, [], ◌∷◌, Option, Some, None, length, refl, sym, subst, ◌∙◌, arith}
 use Rattle.std.specs.Prelude.{◌&&◌, slice_get}
 use Rattle.std.specs.List.{position, position_from}
 use Rattle.std.proofs.lemmas.Bool.{eqb-true}
@@ -11,8 +11,9 @@ use Rattle.bpf_explore.specs.Patient.{EndsPatiently, HangsBy, NoneHangs}
 use Rattle.bpf_check.specs.declared.expectation.Often.{Often}
 use Rattle.bpf_check.specs.declared.expectation.Often.TheVariants as often
 use Rattle.bpf_check.specs.Expectation.{Expected, agrees, asks_ends, asks_hung}
+use Rattle.bpf_check.specs.Faults.{IsTrueFault, are_faults_unexpected, has_fault}
 use Rattle.bpf_check.specs.Findings.{Findings}
-use Rattle.bpf_check.specs.Laws.{ArePatientFindings, PatientVerdictsAreTrue, VerdictsAreTrue}
+use Rattle.bpf_check.specs.Laws.{ArePatientFindings, FaultsAreTrue, PatientFaultsAreTrue, PatientVerdictsAreTrue, VerdictsAreTrue}
 use Rattle.bpf_check.specs.Verdict.{AreTrueEnds, Choose, IsOutcomeText, IsPatientText, IsTrueHang, IsTrueOf, IsTruePatiently, IsTrueVerdict, decides, decides_by, ends_verdict, hung_verdict, is_empty, outcome_verdict, verdict_at, verdict_of, verdict_of_ends, verdict_of_hung, verdict_of_none}
 
 -- ---- the first element that passes a test
@@ -188,3 +189,33 @@ patient_one w names f are e =
 
 pub patient_verdicts_true : PatientVerdictsAreTrue
 patient_verdicts_true w names f are = (true_ends w names f are f.all (is_empty f.hung) refl refl, patient_one w names f are)
+
+-- ---- a fault that isn't expected
+module _ (IsText : List ℕ → Type 0) (IsAnswer : Found → Type 0) (f : Findings) (expected : List Expected)
+    (each : (i : ℕ) (found : Found) → slice_get f.answers i ≡ Some found → IsAnswer found)
+    (have : f.all ≡ true → (text : List ℕ) → IsText text → (i : ℕ) × (found : Found) × (slice_get f.answers i ≡ Some found) × (found.text ≡ text)) where
+  abbrev faulty : Found → Bool
+  faulty found = has_fault found.text
+
+  first_faulty : (place : Option ℕ) → Finds faulty f.answers place → IsTrueFault IsText IsAnswer f expected place
+  first_faulty None lacks = λ silent all text is.
+      let there = have all text is in
+      subst (λ (t : List ℕ). has_fault t ≡ false) there.3 (lacks there.0 there.1 there.2)
+  first_faulty (Some i) found = (found.0, found.1, each i found.0 found.1, found.2)
+
+  by_silence : (silent : Bool) → are_faults_unexpected expected ≡ silent
+      → IsTrueFault IsText IsAnswer f expected (cond silent (position faulty f.answers) None)
+  by_silence true none = first_faulty (position faulty f.answers) (finds faulty f.answers)
+  by_silence false speaks = λ silent all text is. let no : false ≡ true = sym speaks ∙ silent in absurd cc
+
+pub faults_true : FaultsAreTrue
+faults_true w names f expected are have =
+    by_silence (IsOutcomeText w names) (EndsBy w names true) f expected are.each
+    (λ all text is. let there = have all text is.0 is.1 in (there.0, there.1, there.2, there.3))
+    (are_faults_unexpected expected) refl
+
+pub patient_faults_true : PatientFaultsAreTrue
+patient_faults_true w names f expected are =
+    by_silence (IsPatientText w names) (EndsPatiently w names true) f expected are.outcomes.each
+    (λ all text is. let there = are.complete all text is.0 is.1 in (there.0, there.1, there.2, there.3))
+    (are_faults_unexpected expected) refl

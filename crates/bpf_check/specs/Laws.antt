@@ -1,12 +1,13 @@
 -- What follows for verdicts.
-use Rattle.std.specs.Prelude.{◌≡◌, ℕ, true, false, List, []}
+use Rattle.std.specs.Prelude.{◌≡◌, true, false, List, []}
 use Rattle.bpf_names.specs.Names.{Names}
 use Rattle.bpf_machine.specs.Schedule.{World}
-use Rattle.bpf_explore.specs.Outcomes.{AreOutcomes, HaveAll}
-use Rattle.bpf_explore.specs.Patient.{AreHung, ArePatient, HaveAllPatient, NoneHangs}
+use Rattle.bpf_explore.specs.Outcomes.{AreOutcomes, EndsBy, HaveAll}
+use Rattle.bpf_explore.specs.Patient.{AreHung, ArePatient, EndsPatiently, HaveAllPatient, NoneHangs}
 use Rattle.bpf_check.specs.Expectation.{Expected}
+use Rattle.bpf_check.specs.Faults.{IsTrueFault, unexpected_fault}
 use Rattle.bpf_check.specs.Findings.{Findings}
-use Rattle.bpf_check.specs.Verdict.{AreTrueEnds, IsTruePatiently, IsTrueVerdict, ends_verdict, verdict_of}
+use Rattle.bpf_check.specs.Verdict.{AreTrueEnds, IsOutcomeText, IsPatientText, IsTruePatiently, IsTrueVerdict, ends_verdict, verdict_of}
 
 -- where answers are outcomes, and no outcome is left out if they are said to be all, each verdict is
 -- true
@@ -30,3 +31,20 @@ PatientVerdictsAreTrue =
     (w : World) (names : Names) (f : Findings) → ArePatientFindings w names f
     → AreTrueEnds w f (ends_verdict f)
     × ((e : Expected) → IsTruePatiently w names f e (verdict_of f e))
+
+-- a fault that isn't expected is one of an outcome; where there is none, though something is expected and
+-- nothing of faults, no outcome has one
+abbrev pub FaultsAreTrue : Type 0
+FaultsAreTrue =
+    (w : World) (names : Names) (f : Findings) (expected : List Expected)
+    → AreOutcomes w names true f.answers → (f.all ≡ true → HaveAll w names true f.answers)
+    → IsTrueFault (IsOutcomeText w names) (EndsBy w names true) f expected
+    (unexpected_fault f expected)
+
+-- so it is of outcomes in which no job is out of budget
+abbrev pub PatientFaultsAreTrue : Type 0
+PatientFaultsAreTrue =
+    (w : World) (names : Names) (f : Findings) (expected : List Expected)
+    → ArePatientFindings w names f
+    → IsTrueFault (IsPatientText w names) (EndsPatiently w names true) f expected
+    (unexpected_fault f expected)

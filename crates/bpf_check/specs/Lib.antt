@@ -4,6 +4,7 @@ pub mod Parts
 pub mod Expectation
 pub mod Unexpected
 pub mod Findings
+pub mod Faults
 pub mod Verdict
 pub mod Laws
 pub mod Listing

@@ -9,6 +9,7 @@ use Rattle.bpf_check.specs.declared.expectation.Often.TheVariants as often
 use Rattle.bpf_check.specs.declared.judging.Verdict.{Verdict}
 use Rattle.bpf_check.specs.declared.judging.Verdict.TheVariants as verdict
 use Rattle.bpf_check.specs.Expectation.{Expected, often_text}
+use Rattle.bpf_check.specs.Faults.{unexpected_fault}
 use Rattle.bpf_check.specs.Findings.{Findings}
 use Rattle.bpf_check.specs.Verdict.{ends_verdict}
 
@@ -100,20 +101,44 @@ abbrev pub first_text : (name : List ℕ) → (before : ℕ) → Findings → Li
 first_text name before f = if f.patient
     then test_text name f (before + 1) (codes "every schedule can end") (ends_verdict f) else []
 
+-- ---- the last test, where there is a fault that isn't expected
+
+abbrev pub last_count : (fault : Option ℕ) → ℕ
+last_count None = 0
+last_count (Some i) = 1
+
+-- a test of this number, which isn't met, with the schedule of the answer at the fault's place
+abbrev pub last_text : (name : List ℕ) → ℕ → Findings → (fault : Option ℕ) → List ℕ
+last_text name n f None = []
+last_text name n f (Some i) =
+    test_text name f n (codes "no job ends in a fault") (verdict.Shown i)
+
 -- ---- all of one file
+
+-- how many tests there are before the last
+abbrev pub asked_count : Findings → List Expected → ℕ
+asked_count f expected = first_count f + length expected
+
+-- those, after the n tests of the files before it
+abbrev pub asked_text : (name : List ℕ) → (before : ℕ) → Findings → List Expected → List Verdict
+    → List ℕ
+asked_text name before f expected verdicts = first_text name before f
+    ++ tests_text name (before + first_count f) f (length expected) expected verdicts
 
 -- how many tests there are
 abbrev pub count_of : Findings → List Expected → ℕ
-count_of f expected = first_count f + length expected
+count_of f expected = asked_count f expected + last_count (unexpected_fault f expected)
 
 -- all of them, after the n tests of the files before it
 abbrev pub listed_text : (name : List ℕ) → (before : ℕ) → Findings → List Expected → List Verdict
     → List ℕ
-listed_text name before f expected verdicts = first_text name before f
-    ++ tests_text name (before + first_count f) f (length expected) expected verdicts
+listed_text name before f expected verdicts = asked_text name before f expected verdicts
+    ++ last_text name (before + (asked_count f expected + 1)) f (unexpected_fault f expected)
 
+-- how many tests there are; where there are none, that they are skipped, in TAP's form
 abbrev pub plan_text : ℕ → List ℕ
-plan_text count = codes "1.." ++ (decimal count ++ codes "\n")
+plan_text count = if count == 0 then codes "1..0 # SKIP no expectations\n"
+    else codes "1.." ++ (decimal count ++ codes "\n")
 
 -- the plan, and each test
 abbrev pub checked_text : Findings → List Expected → List Verdict → List ℕ

@@ -1,5 +1,5 @@
 -- Whether outcomes are as expected, and what the findings of a search say of that.
-use Rattle.std.specs.Prelude.{◌≡◌, ℕ, ◌==◌, ◌&&◌, ◌||◌, Bool, true, false, not, if◌then◌else◌, List, Option, Some, None, length, map, slice_get}
+use Rattle.std.specs.Prelude.{◌≡◌, ℕ, ◌==◌, ◌&&◌, ◌||◌, Bool, true, false, not, if◌then◌else◌, is_some, List, Option, Some, None, length, map, slice_get}
 use Rattle.std.specs.List.{list_any, position}
 use Rattle.bpf_names.specs.Names.{Names}
 use Rattle.bpf_machine.specs.Schedule.{World}
@@ -12,6 +12,7 @@ use Rattle.bpf_check.specs.declared.judging.Verdict.TheVariants as verdict
 use Rattle.bpf_check.specs.declared.judging.Conclusion.{Conclusion}
 use Rattle.bpf_check.specs.declared.judging.Conclusion.TheVariants as conclusion
 use Rattle.bpf_check.specs.Expectation.{Expected, agrees, asks_ends, asks_hung}
+use Rattle.bpf_check.specs.Faults.{unexpected_fault}
 use Rattle.bpf_check.specs.Findings.{Findings}
 
 -- ---- what is expected
@@ -121,12 +122,17 @@ concluded true untold = conclusion.Unmet
 concluded false true = conclusion.Untold
 concluded false false = conclusion.Met
 
--- of the tests of a file, of which a patient search's first asks if each schedule can end: one isn't
--- met; none of them, but one couldn't be decided; or all are met
-abbrev pub conclusion_of : Findings → List Verdict → Conclusion
-conclusion_of f verdicts = concluded
-    ((f.patient && is_refused (ends_verdict f)) || list_any is_refused verdicts)
+-- of the tests of a file, of which a patient search's first asks if each schedule can end, and of which
+-- one more isn't met where there is a fault that isn't expected: one isn't met; none of them, but one
+-- couldn't be decided; or all are met
+abbrev pub conclusion_by : Findings → (fault : Option ℕ) → List Verdict → Conclusion
+conclusion_by f fault verdicts = concluded
+    (is_some fault || ((f.patient && is_refused (ends_verdict f)) || list_any is_refused verdicts))
     ((f.patient && is_untold (ends_verdict f)) || list_any is_untold verdicts)
+
+abbrev pub conclusion_of : Findings → List Expected → Conclusion
+conclusion_of f expected =
+    conclusion_by f (unexpected_fault f expected) (verdicts_of f expected)
 
 -- ---- verdicts are true
 

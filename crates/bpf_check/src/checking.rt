@@ -5,9 +5,10 @@ ghost use Rattle.bpf_check.specs.Listing.{checked_text, count_of, listed_text, n
 ghost use Rattle.bpf_check.specs.Verdict.{conclusion_of, verdicts_of};
 
 use crate::expectation::Expectation;
+use crate::faults::unexpected_fault;
 use crate::findings::Findings;
-use crate::judging::{Conclusion, conclusion_of, judge_all};
-use crate::listing::{Tested, first_count, list_tests, plan};
+use crate::judging::{Conclusion, conclusion_by, judge_all};
+use crate::listing::{Tested, first_count, last_count, list_tests, plan, push_last};
 use std::alloc::{AllocError, Global};
 
 /// What is printed of a file's expectations, and what it amounts to.
@@ -41,19 +42,22 @@ fn check_part(
     ensures tests { IfOk result (λ part.
         part.tests ≡ count_of findings.now expectations.now) }
     ensures conclusion { IfOk result (λ part. part.conclusion
-        ≡ conclusion_of findings.now (verdicts_of findings.now expectations.now)) }
+        ≡ conclusion_of findings.now expectations.now) }
 {
-    let most = expectations.len().checked_add(1).ok_or(AllocError)?;
+    let most = expectations.len().checked_add(2).ok_or(AllocError)?;
     if before.checked_add(most).is_none() {
         return Err(AllocError);
     }
     let verdicts = judge_all(alloc, findings, expectations)?;
     let file = Tested { name, findings };
-    let text = list_tests(alloc, file, before, expectations, &verdicts)?;
+    let mut text = list_tests(alloc, file, before, expectations, &verdicts)?;
+    let fault = unexpected_fault(findings, expectations);
+    let asked = first_count(findings) + expectations.len();
+    push_last(alloc, &mut text, file, before + (asked + 1), fault)?;
     Ok(CheckedPart {
         text,
-        tests: first_count(findings) + expectations.len(),
-        conclusion: conclusion_of(findings, &verdicts),
+        tests: asked + last_count(fault),
+        conclusion: conclusion_by(findings, fault, &verdicts),
     })
 }
 
@@ -72,7 +76,7 @@ pub fn check_named(
     ensures tests { IfOk result (λ part.
         part.tests ≡ count_of findings.now expectations.now) }
     ensures conclusion { IfOk result (λ part. part.conclusion
-        ≡ conclusion_of findings.now (verdicts_of findings.now expectations.now)) }
+        ≡ conclusion_of findings.now expectations.now) }
 {
     let name = format!(in alloc; "{name}: ")?;
     check_part(alloc, name.as_str(), before, expectations, findings)
@@ -98,7 +102,7 @@ pub fn check_explored(
     ensures text { IfOk result (λ checked. string_bytes checked.text
         ≡ checked_text findings.now expectations.now (verdicts_of findings.now expectations.now)) }
     ensures conclusion { IfOk result (λ checked. checked.conclusion
-        ≡ conclusion_of findings.now (verdicts_of findings.now expectations.now)) }
+        ≡ conclusion_of findings.now expectations.now) }
 {
     let part = check_part(alloc, "", 0, expectations, findings)?;
     let text = planned(alloc, &part)?;

@@ -5,6 +5,7 @@ ghost use Rattle.std.specs.List.{after_first, before_first, list_all, list_any, 
 ghost use Rattle.bpf_shared.specs.Access.{bytes_in};
 ghost use Rattle.bpf_check.specs.declared.claim.Kind.TheVariants as kind;
 ghost use Rattle.bpf_check.specs.Claim.{after_four, compares, field_of, has_part, holds, is_fault_line, is_line_of, is_space, joined, low_first};
+ghost use Rattle.bpf_check.specs.Faults.{has_fault, is_of_faults};
 
 use crate::subjects::number_in;
 use bpf_lines::lines::first_line;
@@ -250,6 +251,39 @@ impl Part {
         }
         false
     }
+}
+
+/// Whether a text has the line of a job that ended in a fault.
+pub(crate) fn has_fault(text: &[u8]) -> bool
+    ensures { result ≡ has_fault text.now }
+{
+    let mut rest = Some(text);
+    'lines: while let Some(left) = rest {
+        let (first, behind) = first_line(left);
+        if is_fault_line(first) {
+            return true;
+        }
+        rest = behind;
+    }
+    false
+}
+
+/// Whether a part of a claim speaks of faults.
+fn is_of_faults(part: &Part) -> bool
+    ensures { result ≡ is_of_faults part.now.kind part.now.bytes }
+{
+    match part.kind {
+        Kind::Line => is_fault_line(&part.bytes),
+        Kind::Result(_) | Kind::Field(_, _) => false,
+        Kind::Fault => true,
+    }
+}
+
+/// Whether one of them does.
+pub(crate) fn are_of_faults(parts: &[Part]) -> bool
+    ensures { result ≡ list_any (λ p. is_of_faults p.kind p.bytes) parts.now }
+{
+    parts.iter().any(|part| is_of_faults(part))
 }
 
 /// Whether a text has each part.

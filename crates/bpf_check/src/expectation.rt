@@ -3,10 +3,11 @@
 ghost use Rattle.std.specs.Prelude.{◌≡◌, ◌≤◌, ◌++◌, false, IfErr, IfOk, IfSome, None, OnOk, length, map};
 ghost use Rattle.std.specs.List.{before_first};
 ghost use Rattle.bpf_check.specs.Expectation.{agrees, are_exchanged, asks_ends, asks_hung, asks_of_ends, can_ask, claim_of, comment_of, expectations_of, expected_by, expected_in, first_amiss, is_alone, is_amiss, is_claim, is_mark, is_near, is_often, often_in, often_text, seems_often, whole, words_of};
+ghost use Rattle.bpf_check.specs.Faults.{speaks_of_faults};
 ghost use Rattle.bpf_check.specs.Parts.{line_of};
 ghost use Rattle.bpf_check.specs.Unexpected.{IsUnexpected};
 
-use crate::claim::{Join, Part, is_joined};
+use crate::claim::{Join, Part, are_of_faults, is_joined};
 use crate::parts::{line_of, line_part, parts_in};
 use crate::subjects::{Subjects, is, word_at};
 use bpf_lines::lines::{fields, first_line};
@@ -102,6 +103,13 @@ impl Expectation {
         ensures { result ≡ agrees self.now text.now }
     {
         is_joined(self.join, &self.parts, text)
+    }
+
+    /// Whether it speaks of jobs that end in a fault.
+    pub(crate) fn speaks_of_faults(&self) -> bool
+        ensures { result ≡ speaks_of_faults self.now }
+    {
+        are_of_faults(&self.parts)
     }
 }
 

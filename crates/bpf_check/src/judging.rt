@@ -2,7 +2,7 @@
 
 ghost use Rattle.std.specs.Prelude.{◌≡◌, IfOk};
 ghost use Rattle.std.specs.List.{list_any, position};
-ghost use Rattle.bpf_check.specs.Verdict.{conclusion_of, decides, ends_verdict, hung_verdict, is_refused, is_untold, outcome_verdict, verdict_at, verdict_of, verdict_of_ends, verdict_of_hung, verdict_of_none, verdicts_of};
+ghost use Rattle.bpf_check.specs.Verdict.{conclusion_by, decides, ends_verdict, hung_verdict, is_refused, is_untold, outcome_verdict, verdict_at, verdict_of, verdict_of_ends, verdict_of_hung, verdict_of_none, verdicts_of};
 
 use crate::expectation::{Expectation, Often, asks_ends, asks_hung};
 use crate::findings::Findings;
@@ -193,13 +193,14 @@ fn is_any_untold(verdicts: &[Verdict]) -> bool
     verdicts.iter().any(|verdict| is_untold(*verdict))
 }
 
-/// What verdicts amount to, with that of a patient search's first test.
-pub fn conclusion_of(findings: &Findings, verdicts: &[Verdict]) -> Conclusion
-    ensures { result ≡ conclusion_of findings.now verdicts.now }
+/// What verdicts amount to, with that of a patient search's first test, and with the place of a fault that
+/// isn't expected.
+pub fn conclusion_by(findings: &Findings, fault: Option<usize>, verdicts: &[Verdict]) -> Conclusion
+    ensures { result ≡ conclusion_by findings.now fault verdicts.now }
 {
     let patient = findings.is_patient();
     let ends = ends_verdict(findings);
-    if patient && is_refused(ends) || is_any_refused(verdicts) {
+    if fault.is_some() || patient && is_refused(ends) || is_any_refused(verdicts) {
         Conclusion::Unmet
     } else if patient && is_untold(ends) || is_any_untold(verdicts) {
         Conclusion::Untold

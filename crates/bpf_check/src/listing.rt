@@ -1,7 +1,7 @@
 //! Verdicts as they are printed, in the form of TAP.
 
 ghost use Rattle.std.specs.Prelude.{◌≡◌, ◌<◌, ◌≤◌, ◌+◌, ◌^◌, ◌++◌, IfOk, OnOk, Some, codes, length, map, string_bytes};
-ghost use Rattle.bpf_check.specs.Listing.{expected_text, first_count, first_text, hung_lines, hung_text, is_claim_mark, is_line_byte, listed_text, number_text, ok_text, plan_text, reason_text, schedule_text, shown_byte, test_text, tests_text, untold_text};
+ghost use Rattle.bpf_check.specs.Listing.{asked_text, expected_text, first_count, first_text, hung_lines, hung_text, is_claim_mark, is_line_byte, last_count, last_text, number_text, ok_text, plan_text, reason_text, schedule_text, shown_byte, test_text, tests_text, untold_text};
 ghost use Rattle.bpf_check.specs.Verdict.{ends_verdict};
 
 use crate::expectation::Expectation;
@@ -239,11 +239,15 @@ fn first_text(alloc: Global, file: Tested<'_>, before: usize) -> Result<String, 
     Ok(text)
 }
 
-/// The line that says how many tests there are.
+/// The line that says how many tests there are, and where there are none that they are skipped.
 pub fn plan(alloc: Global, count: usize) -> Result<String, AllocError>
     ensures { IfOk result (λ text. string_bytes text ≡ plan_text count) }
 {
-    format!(in alloc; "1..{count}\n")
+    if count == 0 {
+        "1..0 # SKIP no expectations\n".to_string(alloc)
+    } else {
+        format!(in alloc; "1..{count}\n")
+    }
 }
 
 /// Appends the tests of expectations to the text: an expectation a test, each with its verdict.
@@ -269,8 +273,40 @@ fn push_tests(
     Ok(())
 }
 
-/// The text of all tests of a file, after the n tests of the files before it; each has the name before what
-/// is expected.
+/// How many tests there are after those of expectations: one where there is a fault that isn't expected.
+pub fn last_count(fault: Option<usize>) -> usize
+    ensures count { result ≡ last_count fault }
+    ensures small { result ≤ 1 }
+{
+    match fault {
+        Some(_) => 1,
+        None => 0,
+    }
+}
+
+/// Appends the test of this number to the text, where there is a fault that isn't expected: that there is
+/// none.
+pub(crate) fn push_last(
+    alloc: Global,
+    text: &mut String,
+    file: Tested<'_>,
+    number: usize,
+    fault: Option<usize>,
+) -> Result<(), AllocError>
+    ensures { OnOk result (string_bytes text.new ≡ string_bytes text.old
+        ++ last_text file.entry.name.now number file.entry.findings.now fault) }
+{
+    match fault {
+        Some(place) => {
+            let verdict = Verdict::Shown(place);
+            push_stated(alloc, text, file, number, "no job ends in a fault", verdict)
+        }
+        None => Ok(()),
+    }
+}
+
+/// The text of the tests of a file but for the last, after the n tests of the files before it; each has the
+/// name before what is expected.
 pub(crate) fn list_tests(
     alloc: Global,
     file: Tested<'_>,
@@ -281,7 +317,7 @@ pub(crate) fn list_tests(
     requires same { length verdicts.now ≡ length expectations.now }
     requires room { before + (1 + length expectations.now) < 2 ^ 64 }
     ensures { IfOk result (λ text. string_bytes text
-        ≡ listed_text file.entry.name.now before file.entry.findings.now expectations.now verdicts.now) }
+        ≡ asked_text file.entry.name.now before file.entry.findings.now expectations.now verdicts.now) }
 {
     let mut text = first_text(alloc, file, before)?;
     let before = before + first_count(file.findings);

@@ -56,6 +56,11 @@ abbrev pub value_text : List ℕ → Option Digits → List ℕ → List ℕ
 value_text name key schedule =
     codes "map " ++ (name ++ (codes " " ++ (key_text key ++ (codes " " ++ by_text schedule))))
 
+-- how many tests follow; where none does, that they are skipped
+abbrev pub plan_text : ℕ → List ℕ
+plan_text count = if count == 0 then codes "1..0 # SKIP no expectations"
+    else codes "1.." ++ decimal count
+
 -- the line, without its end
 abbrev pub plain : Line → List ℕ
 plain (line.Exit j c r0) = job_text j c (codes "r0=" ++ decimal r0)
@@ -75,7 +80,7 @@ plain (line.Race one other name key schedule) =
     ++ value_text (string_bytes name) key (string_bytes schedule)))))
 plain (line.Races all races) =
     all_text all ++ (codes ": " ++ (decimal races ++ codes " races"))
-plain (line.Plan count) = codes "1.." ++ decimal count
+plain (line.Plan count) = plan_text count
 plain (line.Test ok number name) =
     verdict ok ++ (codes " " ++ (decimal number ++ (codes " - " ++ string_bytes name)))
 plain (line.Note text) = codes "# " ++ string_bytes text

@@ -1,10 +1,13 @@
 //! What a printed line says.
 
 ghost use Rattle.std.specs.Prelude.{◌≡◌, ◌<◌, ◌++◌, IfOk, OnOk, map, string_bytes};
-ghost use Rattle.bpf_json.specs.Lines.{all_text, budget_text, by_text, digits_members, job_text, is_plain, key_members, key_text, member, number_member, object, place_object, place_text, plain, quoted, shown_byte, truth, value_text, verdict};
+ghost use Rattle.bpf_json.specs.Lines.{all_text, budget_text, by_text, digits_members, job_text, is_plain, key_members, key_text, member, number_member, object, place_object, place_text, plain, plan_text, quoted, shown_byte, truth, value_text, verdict};
 
 use crate::digits::Digits;
 use std::alloc::{AllocError, Global};
+
+/// The plan of a file without tests, in TAP's form.
+pub(crate) const NO_TESTS: &str = "1..0 # SKIP no expectations";
 
 /// A CPU, the number of the program that it runs, and where it is in that.
 #[derive(Clone, Copy, PartialEq, Eq, Debug)]
@@ -228,6 +231,17 @@ fn value_text(
     format!(in alloc; "map {name} {key} {by}")
 }
 
+/// How many tests follow; where none does, that they are skipped.
+fn plan_text(alloc: Global, count: u64) -> Result<String, AllocError>
+    ensures { IfOk result (λ s. string_bytes s ≡ plan_text count) }
+{
+    if count == 0 {
+        NO_TESTS.to_string(alloc)
+    } else {
+        format!(in alloc; "1..{count}")
+    }
+}
+
 impl Line {
     /// The line as it is printed, without its end.
     pub(crate) fn plain(&self, alloc: Global) -> Result<String, AllocError>
@@ -279,7 +293,7 @@ impl Line {
                 let head = all_text(*all);
                 format!(in alloc; "{head}: {races} races")
             }
-            Line::Plan(count) => format!(in alloc; "1..{count}"),
+            Line::Plan(count) => plan_text(alloc, *count),
             Line::Test { ok, number, name } => {
                 let verdict = verdict(*ok);
                 format!(in alloc; "{verdict} {number} - {name}")

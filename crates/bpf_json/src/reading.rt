@@ -4,7 +4,7 @@ ghost use Rattle.std.specs.Prelude.{◌≡◌, IfOk, IfSome};
 ghost use Rattle.bpf_json.specs.Lines.{IsRight, IsRightNumber, plain};
 
 use crate::digits::Digits;
-use crate::line::{Line, Place};
+use crate::line::{Line, NO_TESTS, Place};
 use std::alloc::{AllocError, Global};
 
 /// A number, and what is after it.
@@ -165,10 +165,13 @@ fn test_in(alloc: Global, text: &str) -> Option<Result<Line, AllocError>>
     Some(test(alloc, ok, number, rest.strip_prefix(" - ")?))
 }
 
-/// A line of one number.
+/// How many tests follow, and where none does that they are skipped.
 fn plan_in(text: &str) -> Option<Result<Line, AllocError>>
     ensures { IfSome result (λ made. IfOk made IsRight) }
 {
+    if text == NO_TESTS {
+        return Some(Ok(Line::Plan(0)));
+    }
     let count = text.strip_prefix("1..")?.parse().ok()?;
     Some(Ok(Line::Plan(count)))
 }

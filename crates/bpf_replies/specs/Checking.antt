@@ -37,8 +37,8 @@ IsCheckedFile o text (reply.Outcomes printed unmet told) =
     × (threads : Threads) × AreThreadsOf text threads
     × (string_bytes printed ≡ notes_text [] threads
     ++ checked_text f expected (verdicts_of f expected))
-    × (unmet ≡ is_unmet (conclusion_of f (verdicts_of f expected)))
-    × (told ≡ is_told (conclusion_of f (verdicts_of f expected)))
+    × (unmet ≡ is_unmet (conclusion_of f expected))
+    × (told ≡ is_told (conclusion_of f expected))
 IsCheckedFile o text (reply.Refused r) =
     RefusesComments (for_check o.search.patient o.lenient) text r
 IsCheckedFile o text _ = ⊥

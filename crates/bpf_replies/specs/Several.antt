@@ -48,8 +48,8 @@ checked_part name before f threads expected = record {
       ++ listed_text (name_text name) before f expected (verdicts_of f expected);
   tests = count_of f expected;
   refused = false;
-  unmet = is_unmet (conclusion_of f (verdicts_of f expected));
-  told = is_told (conclusion_of f (verdicts_of f expected));
+  unmet = is_unmet (conclusion_of f expected);
+  told = is_told (conclusion_of f expected);
 }
 
 -- the part of a text: its tests, or the first refusal of the file or its comments
