@@ -1,5 +1,5 @@
 //! The lines of a run file that printed lines name by pcs: those of events, of the debugger and of
-//! races.
+//! races. A line of a hung state is shown before them.
 
 use crate::excerpt::{fields, line_of, line_of_job_program};
 use crate::places::{begins_program, line_at};
@@ -109,6 +109,7 @@ pub fn push_sights(
             push_of_program(alloc, text, file, one, one_pc)?;
             push_of_program(alloc, text, file, other, other_pc)
         }
+        ["hung", "by", ..] | ["#", "hung", "by", ..] => write!(text, "{line}\n"),
         _ => Ok(()),
     }
 }

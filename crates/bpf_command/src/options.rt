@@ -740,6 +740,19 @@ fn expand_command<'a>(alloc: Global) -> Result<Command<'a>, AllocError>
         .arg(file_argument(alloc))
 }
 
+/// The option `--explain` of a command that may be given its input line by line.
+fn explain_file_option<'a>(alloc: Global) -> Arg<'a>
+    ensures rule { rule_of result ≡ explained }
+    ensures own { result.global ≡ false }
+{
+    Arg::new(alloc, "explain")
+        .long("explain")
+        .action(ArgAction::SetTrue)
+        .help(
+            "Explains a refusal of the file on standard error, and answers to commands that are in it",
+        )
+}
+
 /// The command `debug` before its file.
 fn debug_options<'a>(alloc: Global) -> Result<Command<'a>, AllocError>
     ensures shape { IfOk result (λ c. shape_of c ≡ debug_options.top) }
@@ -748,7 +761,7 @@ fn debug_options<'a>(alloc: Global) -> Result<Command<'a>, AllocError>
     Command::new(alloc, "debug")
         .about("Runs the jobs of a run file by commands, and shows what they ask for")
         .after_help(DEBUG_NOTES)
-        .arg(explain_option(alloc))?
+        .arg(explain_file_option(alloc))?
         .arg(echo_option(alloc))?
         .arg(strict_option(alloc))
 }

@@ -29,6 +29,8 @@ exits words (Ok request) (ending.Explained language done) P U R accepted named r
 exits words (Err e) (ending.Explained language done) P U R accepted named refused performed printed = inr (e, refused, printed.0, printed.1, printed.2)
 exits words (Err e) (ending.Performed done) P U R accepted named refused performed printed = inr (e, refused, printed.0, printed.1, printed.2)
 exits words (Err e) (ending.Exit status) P U R accepted named refused performed printed = inr (e, refused, printed.0, printed.1, printed.2)
+exits words (Ok request) (ending.NoContext status) P U R accepted named refused performed printed = inl (request, (accepted, named), performed)
+exits words (Err e) (ending.NoContext status) P U R accepted named refused performed printed = inr (e, refused, printed.0, printed.1, printed.2)
 exits words asked (ending.Shown e) P U R accepted named refused performed printed = tt
 exits words asked ending.NotText P U R accepted named refused performed printed = tt
 exits words asked (ending.Misused misuse) P U R accepted named refused performed printed = tt
@@ -36,6 +38,7 @@ exits words asked (ending.Misused misuse) P U R accepted named refused performed
 shows : (words : List Text) (asked : Result Request CommandError) (end : Ending) (U V W : Type 0) → IfErr asked (Refuses words)
     → IfShown end (λ e. (asked ≡ Err (error.Shown e)) × U × V × W) → IfShown end (λ e. Refuses words (error.Shown e) × U × V × W)
 shows words asked (ending.Exit status) U V W refused shown = tt
+shows words asked (ending.NoContext status) U V W refused shown = tt
 shows words asked (ending.Shown e) U V W refused shown = (subst (λ (a : Result Request CommandError). IfErr a (Refuses words)) shown.0 refused, shown.1, shown.2, shown.3)
 shows words asked ending.NotText U V W refused shown = tt
 shows words asked (ending.Performed done) U V W refused shown = tt
@@ -45,6 +48,7 @@ shows words asked (ending.Misused misuse) U V W refused shown = tt
 lacks : (words : List Text) (asked : Result Request CommandError) (end : Ending) (U V W : Type 0) → IfErr asked (Refuses words)
     → IfMisused end (λ u. (asked ≡ Err (error_of u)) × U × V × W) → IfMisused end (λ u. Refuses words (error_of u) × U × V × W)
 lacks words asked (ending.Exit status) U V W refused lacking = tt
+lacks words asked (ending.NoContext status) U V W refused lacking = tt
 lacks words asked (ending.Performed done) U V W refused lacking = tt
 lacks words asked (ending.Explained language done) U V W refused lacking = tt
 lacks words asked (ending.Shown e) U V W refused lacking = tt

@@ -110,6 +110,7 @@ error_of misuse.Races = command_error.NoRaces
 -- to exit with a status, once this is printed on standard error
 abbrev pub IfExit : Ending → (Status → List ℕ → Type 0) → Type 0
 IfExit (ending.Exit status) P = P status []
+IfExit (ending.NoContext status) P = P status []
 IfExit (ending.Performed done) P = P done.status (stats_of done.reply)
 IfExit (ending.Explained subject done) P = P done.status (stats_of done.reply)
 IfExit _ P = Unit {0}

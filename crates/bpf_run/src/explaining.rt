@@ -1,13 +1,17 @@
 //! What is said of a command's answer on standard error, after it is printed.
 
 use crate::fault::{details_of_assembly, details_of_file, details_of_program};
+use crate::hung::with_places;
 use crate::perform::Performed;
 use bpf_advice::{Detail, Details, Input, Language, advise, warnings_of};
+use bpf_codes::Code;
 use bpf_command::{Command, FileOptions, HistoryOptions};
 use bpf_cpu::Outcome;
 use bpf_debug::Answer;
+use bpf_explain::page_of;
 use bpf_jobs::OutcomeText;
 use bpf_replies::reply::{Reply, Status};
+use clap::error::ErrorKind;
 use std::alloc::{AllocError, Global};
 use std::io;
 
@@ -25,6 +29,9 @@ const BY_SCHEDULES: &str =
 
 const BY_ONE_SCHEDULE: &str =
     "  hint: 'ebpf explore' prints the turns that lead to this, and 'steps' of 'ebpf debug' makes them\n";
+
+const NO_CONTEXT: &str =
+    "  hint: `--ctx` takes pairs of hex digits, a byte each, without `0x`, and at most 4,096 bytes\n";
 
 /// What is to be explained: of which command an answer is, as far as that matters.
 #[derive(Drop)]
@@ -190,7 +197,10 @@ fn details(alloc: Global, subject: &Subject, reply: &Reply, input: &str) -> Vec<
 /// What there is to say of an answer, from what was read and what was printed.
 fn explanation(alloc: Global, subject: &Subject, done: &Performed) -> Result<String, AllocError> {
     let text = str::from_utf8(&done.input).unwrap_or("");
-    let printed = printed(alloc, &done.reply, text)?;
+    let mut printed = printed(alloc, &done.reply, text)?;
+    if matches!(subject, Subject::Schedules | Subject::Tests) {
+        printed = with_places(alloc, text, printed.as_str())?;
+    }
     let known = details(alloc, subject, &done.reply, text);
     let input = Input {
         language: subject.language(),
@@ -212,6 +222,29 @@ pub fn warn<P: Eprint>(rt: &P, alloc: Global, done: &Performed) {
     let text = str::from_utf8(&done.input).unwrap_or("");
     if let Ok(text) = warnings_of(alloc, text) {
         let _ = eprint!(rt; "{}", text.as_str());
+    }
+}
+
+/// Explains that what `--ctx` has is refused, unless the refusal couldn't be printed.
+pub fn explain_context<P: Eprint>(rt: &P, status: Status) {
+    if status == Status::Failed {
+        return;
+    }
+    let meaning = page_of(Code::H1).meaning;
+    let _ = eprint!(rt; "refused H1: {meaning}\n{NO_CONTEXT}  see: ebpf explain H1\n");
+}
+
+/// Hints at `run` where the word in the place of a command looks like a run file's name.
+pub fn hint_at_run<P: Eprint>(rt: &P, alloc: Global, error: &clap::Error) {
+    if error.kind() != ErrorKind::InvalidSubcommand {
+        return;
+    }
+    let Ok(text) = format!(in alloc; "{error}") else {
+        return;
+    };
+    let word = text.as_str().split('\'').nth(1).unwrap_or("");
+    if word.ends_with(".run") {
+        let _ = eprintln!(rt; "\n  hint: `ebpf run {word}` runs the jobs of a run file");
     }
 }
 

@@ -8,6 +8,7 @@ pub mod engine;
 pub mod expanding;
 mod explaining;
 mod fault;
+mod hung;
 pub mod laws;
 pub mod objects;
 pub mod perform;

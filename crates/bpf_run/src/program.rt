@@ -14,7 +14,7 @@ ghost use Rattle.bpf_run.specs.declared.program.Misuse.{Misuse};
 ghost use Rattle.bpf_replies.specs.declared.refusal.Refusal.{Refusal};
 
 use crate::conversing::{asked_talk, talk_named};
-use crate::explaining::{Failures, Question, Subject, explain, warn};
+use crate::explaining::{Failures, Question, Subject, explain, explain_context, hint_at_run, warn};
 use crate::objects::{Errand, answer_as, perform_as};
 use crate::perform::Performed;
 use crate::progress::{Aside, Teller};
@@ -72,6 +72,8 @@ impl Misuse {
 pub enum Ending {
     /// To exit with this status.
     Exit(Status),
+    /// To exit with this status, and to explain on standard error why the context is refused.
+    NoContext(Status),
     /// To exit with this status, once what is printed beside a command's answer is on standard error.
     Performed(Performed),
     /// To exit so, and to explain on standard error what came of the command.
@@ -212,11 +214,19 @@ fn perform_for<T: Threads + Wait + Sync + Aside, R: Source, W: Sink, D: Terminal
     }
 }
 
-/// Does what is asked, or prints why nothing can be done.
+/// Whether `--explain` is among words in which `clap` finds no fault.
+fn has_explain(words: &[String]) -> bool {
+    let mut options = words.iter().take_while(|word| word.as_str() != "--");
+    options.any(|word| word.as_str() == "--explain")
+}
+
+/// Does what is asked, or prints why nothing can be done. A refused context is to be explained
+/// where that is asked for, too.
 fn follow<T: Threads + Wait + Sync + Aside, R: Source, W: Sink, D: Terminal>(
     rt: &T,
     alloc: Global,
     asked: Result<Request, CommandError>,
+    explain: bool,
     source: &mut R,
     sink: &mut W,
     terminal: &mut D,
@@ -276,7 +286,13 @@ fn follow<T: Threads + Wait + Sync + Aside, R: Source, W: Sink, D: Terminal>(
         Err(CommandError::NotHex) => Refusal::Hex(HexError::NotHex),
         Err(CommandError::OutOfMemory) => Refusal::OutOfMemory,
     };
-    Ending::Exit(answer(alloc, &Reply::Refused(refusal), sink))
+    let no_context = explain && matches!(refusal, Refusal::Hex(_));
+    let status = answer(alloc, &Reply::Refused(refusal), sink);
+    if no_context {
+        Ending::NoContext(status)
+    } else {
+        Ending::Exit(status)
+    }
 }
 
 /// Does what the words ask for, of which the first is the program's name. What is wrong with them
@@ -320,7 +336,11 @@ pub fn program<T: Threads + Wait + Sync + Aside, R: Source, W: Sink, D: Terminal
         × (source.new ≡ source.old) × (sink.new ≡ sink.old) × (terminal.new ≡ terminal.old)) }
 {
     match words {
-        Ok(words) => follow(rt, alloc, request_of(alloc, &words), source, sink, terminal),
+        Ok(words) => {
+            let asked = request_of(alloc, &words);
+            let explain = has_explain(&words);
+            follow(rt, alloc, asked, explain, source, sink, terminal)
+        }
         Err(error) if error.kind() == ErrorKind::OutOfMemory => {
             Ending::Exit(answer(alloc, &Reply::Refused(Refusal::OutOfMemory), sink))
         }
@@ -378,6 +398,10 @@ pub fn end<P: Print + Eprint>(rt: &P, alloc: Global, ending: Ending, failures: F
 {
     match ending {
         Ending::Exit(status) => exit(rt, status),
+        Ending::NoContext(status) => {
+            explain_context(rt, status);
+            exit(rt, status)
+        }
         Ending::Performed(done) => {
             tell_stats(rt, &done);
             warn(rt, alloc, &done);
@@ -388,7 +412,11 @@ pub fn end<P: Print + Eprint>(rt: &P, alloc: Global, ending: Ending, failures: F
             explain(rt, alloc, &question, &done, failures);
             exit(rt, done.status)
         }
-        Ending::Shown(error) => show(rt, &error),
+        Ending::Shown(error) => {
+            let status = show(rt, &error);
+            hint_at_run(rt, alloc, &error);
+            status
+        }
         Ending::NotText => {
             let _ = eprintln!(rt; "error: the command line isn't UTF-8");
             USAGE

@@ -15,7 +15,7 @@ returns c =
     } in
     let shape1 : Shape = with_one shape explained in
     let one : Made c.in_ok-arg.field-0 shape1 =
-    added _ _ c.in_ok-arg.field-0 shape explained begun c.explain_option.ensures.rule c.explain_option.ensures.own c.in_ok-arg.ensures in
+    added _ _ c.in_ok-arg.field-0 shape explained begun c.explain_file_option.ensures.rule c.explain_file_option.ensures.own c.in_ok-arg.ensures in
     let shape2 : Shape = with_one shape1 echo in
     let two : Made c.in_ok-arg-2.field-0 shape2 =
     added _ _ c.in_ok-arg-2.field-0 shape1 echo one c.echo_option.ensures.rule c.echo_option.ensures.own c.in_ok-arg-2.ensures in
