@@ -4,7 +4,7 @@
 #include <bpf/bpf_helpers.h>
 
 struct {
-    __uint(type, BPF_MAP_TYPE_HASH);
+    __uint(type, BPF_MAP_TYPE_ARRAY);
     __uint(max_entries, 1);
     __type(key, __u32);
     __type(value, __u64);
@@ -14,11 +14,7 @@ SEC("socket")
 int add(void *context)
 {
     __u32 key = 0;
-    __u64 zero = 0;
-    volatile __u64 *count;
-
-    bpf_map_update_elem(&counter, &key, &zero, BPF_NOEXIST);
-    count = bpf_map_lookup_elem(&counter, &key);
+    volatile __u64 *count = bpf_map_lookup_elem(&counter, &key);
     if (!count)
         return 1;
     __u64 seen = *count;
