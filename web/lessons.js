@@ -104,11 +104,11 @@ var other bss 8 8
 
 prog first
         r6 = &one
-        r7 = &other
 take:   r0 = 0
         r1 = 1
         r0 = cmpxchg_64(r6 + 0, r0, r1) ; takes one lock,
         if r0 != 0 goto take
+        r7 = &other
 then:   r0 = 0
         r1 = 1
         r0 = cmpxchg_64(r7 + 0, r0, r1) ; and then the other
@@ -123,11 +123,11 @@ end
 
 prog second
         r6 = &other
-        r7 = &one
 take:   r0 = 0
         r1 = 1
         r0 = cmpxchg_64(r6 + 0, r0, r1) ; takes one lock,
         if r0 != 0 goto take
+        r7 = &one
 then:   r0 = 0
         r1 = 1
         r0 = cmpxchg_64(r7 + 0, r0, r1) ; and then the other
@@ -519,7 +519,7 @@ const LESSONS = [
             'the program go through every order of turns, and shows you one that can\'t end.',
         task: 'Let `second` take the locks in the order of `first`.',
         file: TWO_LOCKS,
-        turns: [...times(6, 0), ...times(6, 1)],
+        turns: [...times(5, 0), ...times(5, 1)],
         check: every_order_ends,
     },
     {

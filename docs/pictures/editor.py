@@ -7,8 +7,8 @@ from pathlib import Path
 from drawing import TOP, Picture
 
 SOURCE = "examples/lost-update.c"
-FIRST, LAST = 14, 27
-HIGH, TOP_OF_CODE, COLUMN, WIDE = 22, 92, 460, 84
+FIRST, LAST = 14, 23
+HIGH, TOP_OF_CODE, COLUMN, WIDE = 22, 92, 510, 84
 
 
 def main():
