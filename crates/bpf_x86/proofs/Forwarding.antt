@@ -99,7 +99,7 @@ module _ (b m : Buffered) (d : ℕ) (memory : m.memory ≡ b.memory) (own : m.bu
   asks_too : (e : Event) (s : Plain) → PlainlyAllowed m.memory d e s → PlainlyAllowed b.memory d e s
   asks_too e s allowed = subst (λ (z : Plain). PlainlyAllowed z d e s) memory allowed
 
-  calls_too : (e : Event) (t : Buffered) → Calls m d e t → Likewise e t
+  pub calls_too : (e : Event) (t : Buffered) → Calls m d e t → Likewise e t
   calls_too (Load a size found) t called = (
     b,
     (called.0, sees_too called.0 called.1, called.2, refl),

@@ -17,3 +17,9 @@ pub mod Going
 pub mod Simulating
 pub mod KeptLaws
 pub mod OrderLaws
+pub mod Determined
+pub mod AtLast
+pub mod Local
+pub mod Making
+pub mod Adapting
+pub mod Serving

@@ -2,3 +2,6 @@ pub mod Buffers
 pub mod Forwarding
 pub mod Machine
 pub mod Laws
+pub mod Search
+pub mod Waiting
+pub mod Lemmas

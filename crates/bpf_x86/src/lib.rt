@@ -3,5 +3,7 @@
 
 mod firsts;
 pub mod laws;
+mod waiting;
 
 pub use firsts::firsts_fit;
+pub use waiting::{Stored, Waiting, make_stores};

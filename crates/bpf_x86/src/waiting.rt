@@ -1,0 +1,175 @@
+//! Stores of a CPU that wait.
+
+ghost use Rattle.std.specs.Prelude.{◌≡◌, true, All, map};
+ghost use Rattle.bpf_shared.specs.Access.{bytes_in};
+ghost use Rattle.bpf_shared.specs.Store.{Plain};
+ghost use Rattle.bpf_shared.specs.Sound.{IsSoundStore};
+ghost use Rattle.bpf_shared.specs.History.{PlainlyLegal, entry};
+ghost use Rattle.bpf_shared.specs.Passage.{IsWritable};
+ghost use Rattle.bpf_plain.specs.PlainStore.{is_running, has_cpu, shape_of, held_spans, StandsFor};
+ghost use Rattle.bpf_x86.specs.Waiting.{event_of, AreWritable};
+
+use bpf_plain::PlainStore;
+use bpf_shared::{
+    ArrayShape, AtomicOp, KeyList, MapAnswer, MapShape, Shared, Size, Span, ValuePlace, Worn,
+};
+use std::marker::Model;
+
+/// A plain store that waits.
+#[derive(Clone, Copy, PartialEq, Eq, Debug)]
+pub struct Stored {
+    pub at: u64,
+    pub size: Size,
+    pub word: u64,
+}
+
+/// Makes stores of a CPU that waited, the oldest first.
+pub fn make_stores(store: &mut PlainStore, cpu: u8, waiting: &[Stored])
+    requires serves { has_cpu store.old cpu ≡ true }
+    requires runs { is_running store.old cpu ≡ true }
+    requires places { AreWritable (shape_of store.old) (held_spans store.old cpu) waiting.now }
+    ensures made { (s : Plain) → IsSoundStore s → StandsFor store.old s
+        → (t : Plain) × PlainlyLegal s (map (entry cpu) (map event_of waiting.now)) t
+        × IsSoundStore t × StandsFor store.new t }
+    ensures shape { shape_of store.new ≡ shape_of store.old }
+    ensures held { held_spans store.new ≡ held_spans store.old }
+    ensures running { is_running store.new ≡ is_running store.old }
+    ensures serves { has_cpu store.new ≡ has_cpu store.old }
+{
+    for stored in waiting {
+        store.value_store(cpu, ValuePlace { at: stored.at }, stored.size, stored.word);
+    }
+}
+
+/// A plain store, of which one CPU's plain stores wait; and one to try in what that CPU sees.
+pub struct Waiting<'a> {
+    store: &'a mut PlainStore,
+    seen: &'a mut PlainStore,
+    waiting: &'a mut Vec<Stored>,
+    cpu: u8,
+    lost: bool,
+}
+
+impl<'a> Model for Waiting<'a> {
+    ghost use Rattle.std.specs.Prelude.{◌≡◌, false, []};
+    ghost use Rattle.bpf_plain.specs.PlainStore.{shape_of, held_spans, is_running};
+    ghost use Rattle.bpf_plain.specs.Alike.{IsSameShape};
+    ghost use Rattle.bpf_x86.specs.Waiting.{WaitingContents, AreWritable};
+
+    ghost Value = { WaitingContents };
+
+    ghost view = { λ w. record {
+      store = w.store.now;
+      waiting = w.waiting.now.items;
+      cpu = w.cpu;
+      lost = w.lost;
+    } };
+
+    ghost invariant = { λ w. IsSameShape w.store.now w.seen.now
+        × AreWritable (shape_of w.store.now) (held_spans w.store.now w.cpu) w.waiting.now.items
+        × (is_running w.store.now w.cpu ≡ false → w.waiting.now.items ≡ []) };
+}
+
+impl<'a> Shared for Waiting<'a> {
+    ghost use Rattle.bpf_plain.specs.PlainStore.{shape_of, is_running, held_spans, MayLack};
+    ghost use Rattle.bpf_x86.specs.Waiting.{PassesWaiting, serves_one};
+    ghost use Rattle.bpf_x86.specs.Lemmas.Passages.{passes_nothing, passes_follow};
+
+    ghost shapes = { λ w. shape_of w.store };
+
+    ghost serves = { serves_one };
+
+    ghost running = { λ w. is_running w.store };
+
+    ghost held = { λ w. held_spans w.store };
+
+    ghost passes = { PassesWaiting };
+
+    ghost may_wear = { λ _ _. ⊥ };
+
+    ghost may_lack = { λ x y m key answer. Unit {0} };
+
+    fn shape(&self, map: u64) -> Option<MapShape> {
+        self.store.shape(map)
+    }
+
+    fn array(&self, array: u64) -> Option<ArrayShape> {
+        self.store.array(array)
+    }
+
+    fn cpus(&self) -> u8 {
+        Shared::cpus(&*self.store)
+    }
+
+    fn begin(&mut self, cpu: u8) -> Result<(), Worn> {
+        self.store.begin(cpu)
+    }
+
+    fn lookup(&mut self, cpu: u8, map: u8, key: &[u8]) -> Option<Span> {
+        self.store.lookup(cpu, map, key)
+    }
+
+    fn update(&mut self, cpu: u8, map: u8, key: &[u8], value: &[u8], flags: u64) -> MapAnswer {
+        if flags <= 2 {
+            make_stores(self.store, self.cpu, self.waiting);
+            self.waiting.clear();
+        }
+        self.store.update(cpu, map, key, value, flags)
+    }
+
+    fn delete(&mut self, cpu: u8, map: u8, key: &[u8]) -> MapAnswer {
+        make_stores(self.store, self.cpu, self.waiting);
+        self.waiting.clear();
+        self.store.delete(cpu, map, key)
+    }
+
+    fn keys(&mut self, cpu: u8, map: u8, list: &mut KeyList) {
+        self.lost = true;
+        self.store.keys(cpu, map, list);
+    }
+
+    fn value_load(&mut self, cpu: u8, at: ValuePlace, size: Size) -> u64 {
+        self.seen.copy_from(self.store);
+        make_stores(self.seen, self.cpu, self.waiting);
+        self.seen.value_load(cpu, at, size)
+    }
+
+    fn value_store(&mut self, cpu: u8, at: ValuePlace, size: Size, word: u64) {
+        self.seen.copy_from(self.store);
+        make_stores(self.seen, self.cpu, self.waiting);
+        self.seen.value_store(cpu, at, size, word);
+        let stored = Stored {
+            at: at.at,
+            size,
+            word,
+        };
+        if self.waiting.push(stored).is_err() {
+            self.lost = true;
+        }
+    }
+
+    fn value_atomic(
+        &mut self,
+        cpu: u8,
+        at: ValuePlace,
+        size: Size,
+        op: AtomicOp,
+        operand: u64,
+        expected: u64,
+    ) -> u64 {
+        make_stores(self.store, self.cpu, self.waiting);
+        self.waiting.clear();
+        self.store
+            .value_atomic(cpu, at, size, op, operand, expected)
+    }
+
+    fn end(&mut self, cpu: u8) {
+        make_stores(self.store, self.cpu, self.waiting);
+        self.waiting.clear();
+        self.store.end(cpu);
+    }
+
+    ghost nothing = { passes_nothing };
+
+    ghost follows = { passes_follow };
+}
