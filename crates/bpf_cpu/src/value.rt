@@ -98,7 +98,7 @@ impl Cpu {
     }
 
     /// Where it may write, or why it is a fault.
-    fn place_to_write<S: Shared>(
+    pub(crate) fn place_to_write<S: Shared>(
         &self,
         shared: &S,
         address: u64,

@@ -51,7 +51,7 @@ read_outcome : (jobs : List Task) (j : ℕ) (task : Task) → slice_get jobs j �
 read_outcome jobs j task at = ap (λ (o : Option Task). option_and_then (λ t. ended t.stage) o) at
 
 stage_is : (stage : Stage) (o : Outcome) → Some o ≡ ended stage → stage ≡ Ended o
-stage_is (Waiting context) o e = cc
+stage_is (Waiting input) o e = cc
 stage_is (InHand state left) o e = cc
 stage_is (Ended outcome) o e = let one : o ≡ outcome = cc in ap Ended (sym one)
 

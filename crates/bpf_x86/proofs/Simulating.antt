@@ -17,6 +17,7 @@ use Rattle.bpf_loader.specs.Loaded.{Loaded}
 use Rattle.bpf_loader.specs.Laws.{OneInstructionBegins}
 use Rattle.bpf_mem.specs.Laws.{WritesAreDetermined}
 use Rattle.bpf_cpu.specs.declared.cpu.Cpu.{Cpu}
+use Rattle.bpf_cpu.specs.declared.input.Input.{Input}
 use Rattle.bpf_cpu.specs.declared.outcome.Outcome.{Outcome}
 use Rattle.bpf_cpu.specs.declared.outcome.Progress.{Progress}
 use Rattle.bpf_cpu.specs.State.{start}
@@ -156,9 +157,9 @@ module _ (law : WritesAreDetermined) (begins : OneInstructionBegins) (replies : 
       (race_here law begins replies c d (λ q. ne (sym q)) lag.0 lag.1 has.world w has.lags there_l world k task state n at' program loaded done e rest answer new step' u legal miss' x hit lag.3 (there has.schedule has.world has.runs counted))
 
   -- those of a job that starts touch nothing
-  judged_first : (b : Buffered) (s : Plain) → HasNoArrays s.shape → (c : ℕ) (context : List ℕ) (left : ℕ) (program : Loaded) → JudgeStep program c b s (start c context) left
-  judged_first b s bare c context left program n lefts events answer new step done e rest u is legal miss d x ne hit too =
-      let none = first_accesses_none s.shape bare program c context new events answer step in
+  judged_first : (b : Buffered) (s : Plain) → HasNoArrays s.shape → (c : ℕ) (input : Input) (left : ℕ) (program : Loaded) → JudgeStep program c b s (start c input) left
+  judged_first b s bare c input left program n lefts events answer new step done e rest u is legal miss d x ne hit too =
+      let none = first_accesses_none s.shape bare program c input new events answer step in
       no_access e x (middle_not is_access done e rest (subst (AreNot is_access) is none)) hit
 
   -- ---- a CPU's own lags
@@ -281,13 +282,13 @@ module _ (law : WritesAreDetermined) (begins : OneInstructionBegins) (replies : 
       own world next program loaded (OneMore a size x n said later lefts step more q new rest is allowed) =
           subst (λ (es : List Event). HasLags first c es next) (sym more) (subst (HasLags first c (buffers c ++ Store a size x ∷ [])) (sym is)
           (own_more w bare world c k t old left at q new rest sim.schedule sim.runs program loaded a size x n said later lefts step allowed (buffers c) (sim.lags c)))
-  turned w p buffers c answer z counts sim (inr (inl (idle, (k, t, context, b, at, below, begun, goes)))) =
+  turned w p buffers c answer z counts sim (inr (inl (idle, (k, t, input, b, at, below, begun, goes)))) =
       let world = reached sim.schedule w sim.runs in
       let before : Buffered = record { memory = p; buffers = buffers } in
       let r = call_ahead before b w.store c Begin sim.ahead (λ d x ne hit too. cc) begun in
       let none : b.buffers c ≡ [] = ap (λ (y : Buffered). y.buffers c) begun.2.2 ∙ ap (λ (y : Buffered). y.buffers c) begun.1.2 ∙ put-same buffers c c [] refl in
-      let g = goes_on w b r.next c k t (start c context) t.budget answer z r.ahead (λ program loaded. judged_first b r.next r.ahead.bare c context t.budget program) goes in
-      let taken : plain.TakesTurn w c answer g.next = inr (inl (idle, (k, t, context, r.next, at, below, r.allowed, g.goes))) in (
+      let g = goes_on w b r.next c k t (start c input) t.budget answer z r.ahead (λ program loaded. judged_first b r.next r.ahead.bare c input t.budget program) goes in
+      let taken : plain.TakesTurn w c answer g.next = inr (inl (idle, (k, t, input, r.next, at, below, r.allowed, g.goes))) in (
         g.next,
         record {
           schedule = sim.schedule ++ c ∷ [];
@@ -302,15 +303,15 @@ module _ (law : WritesAreDetermined) (begins : OneInstructionBegins) (replies : 
         },
       )
     where
-      misses_on : (es fs : List Event) → es ≡ fs → (s : Plain) (program : Loaded) (end : Option Outcome) (q : Plain) (new : Cpu) (rest : ℕ) (a : plain.Advances program c s (start c context) t.budget end q new rest)
-          → AdvanceMisses es program c s (start c context) t.budget end q new rest a → AdvanceMisses fs program c s (start c context) t.budget end q new rest a
-      misses_on es fs same s program end q new rest a miss = subst (λ (gs : List Event). AdvanceMisses gs program c s (start c context) t.budget end q new rest a) same miss
+      misses_on : (es fs : List Event) → es ≡ fs → (s : Plain) (program : Loaded) (end : Option Outcome) (q : Plain) (new : Cpu) (rest : ℕ) (a : plain.Advances program c s (start c input) t.budget end q new rest)
+          → AdvanceMisses es program c s (start c input) t.budget end q new rest a → AdvanceMisses fs program c s (start c input) t.budget end q new rest a
+      misses_on es fs same s program end q new rest a miss = subst (λ (gs : List Event). AdvanceMisses gs program c s (start c input) t.budget end q new rest a) same miss
 
-      own : (b : Buffered) (s : Plain) → HasNoArrays s.shape → b.buffers c ≡ [] → (next : World) (program : Loaded) → OwnTurn w program b.buffers z.buffers s c k t (start c context) t.budget next → z.buffers c ≡ []
+      own : (b : Buffered) (s : Plain) → HasNoArrays s.shape → b.buffers c ≡ [] → (next : World) (program : Loaded) → OwnTurn w program b.buffers z.buffers s c k t (start c input) t.budget next → z.buffers c ≡ []
       own b s bare none next program (NothingWaits empty) = empty
       own b s bare none next program (AsBefore same q new rest is stays) = same ∙ none
       own b s bare none next program (OneMore a size x n said later lefts step more q new rest is allowed) =
-          let not = first_accesses_none s.shape bare program c context later (Store a size x ∷ []) said step in
+          let not = first_accesses_none s.shape bare program c input later (Store a size x ∷ []) said step in
           let no : true ≡ false = not.0 in
           cc
   turned w p buffers c answer z counts sim (inr (inr (idle, none, said, same))) = (w, subst (λ (x : X86). IsSimulated first x w) (sym same) sim)

@@ -1,12 +1,14 @@
 -- The events of a step: where there are no arrays a store is alone, and a job's first step touches no
 -- value; in any store, a step with a store makes loads and stores alone.
 use Rattle.std.proofs.Common.{◌≡◌, ℕ, suc, ◌+◌, ◌<◌, Bool, true, false, List, [], ◌∷◌, ◌++◌, length, take, drop, Option, Some, None, Result, ◌⊎◌, inl, inr, refl, sym, ap, subst, ◌∙◌, arith}
+use Rattle.std.specs.Prelude.{slice_index}
 use Rattle.bpf_shared.specs.Access.{bytes_in}
 use Rattle.bpf_shared.specs.Shape.{Shape}
 use Rattle.bpf_shared.specs.declared.shapes.ArrayShape.{ArrayShape}
 use Rattle.bpf_insn.specs.declared.instruction.Insn.{Insn}
 use Rattle.bpf_insn.specs.declared.instruction.Insn.TheVariants as insn
 use Rattle.bpf_insn.specs.declared.operation.sizes.Size as op
+use Rattle.bpf_insn.specs.declared.operation.sizes.Size.TheVariants as op_size
 use Rattle.bpf_insn.specs.declared.operation.widths.Width.{Width}
 use Rattle.bpf_insn.specs.declared.operation.atomics.AtomicOp.{AtomicOp}
 use Rattle.bpf_insn.specs.declared.register.Reg.{Reg}
@@ -27,6 +29,7 @@ use Rattle.bpf_helpers.specs.Held.{reaches, is_covered}
 use Rattle.bpf_helpers.specs.Reads.{loads, no_loads, Reads, ReadsIndex}
 use Rattle.bpf_loader.specs.Loaded.{Loaded}
 use Rattle.bpf_cpu.specs.declared.cpu.Cpu.{Cpu}
+use Rattle.bpf_cpu.specs.declared.input.Input.{Input}
 use Rattle.bpf_cpu.specs.declared.outcome.Progress.{Progress}
 use Rattle.bpf_cpu.specs.Row.{plain_size, extension_of}
 use Rattle.bpf_cpu.specs.State.{start, effective_address, value}
@@ -177,9 +180,13 @@ store_alone shape bare program old new events progress step = from step.row
   where
     from : Executes shape step.instruction old events progress new → IsOne events
     from (inl r) = inl (none_of is_store events r.1)
-    from (inr (inl r)) =
-        let h = r.2 in
-        inl (bare_not shape old.memory old.held bare is_store r.0 old.number old.registers events h.0 h.1 (helper_stores shape old.memory old.held r.0 old.number old.registers events h.0 h.1 h.2))
+    from (inr (inl (n, is, inl (helper, h)))) =
+        inl (bare_not shape old.memory old.held bare is_store n old.number old.registers events h.0 h.1 (helper_stores shape old.memory old.held n old.number old.registers events h.0 h.1 h.2))
+    from (inr (inl (n, is, inr (inl asks)))) = inl (none_of is_store events asks.3)
+    from (inr (inl (n, is, inr (inr (inl (lock, inl refused)))))) = inl (none_of is_store events refused.2)
+    from (inr (inl (n, is, inr (inr (inl (lock, inr row)))))) = inl (subst (AreNot is_store) (sym row.1.1) (refl, tt))
+    from (inr (inl (n, is, inr (inr (inr (lock, inl refused)))))) = inl (none_of is_store events refused.2)
+    from (inr (inl (n, is, inr (inr (inr (lock, inr row)))))) = inl (subst (AreNot is_store) (sym row.1.1) (refl, tt))
     from (inr (inr r)) = value_alone shape old new events progress step.instruction r.1
 
 -- of any shape: loads and stores alone, or none is a store
@@ -196,7 +203,12 @@ stores_apart shape program old new events progress step = from step.row
 
     from : Executes shape step.instruction old events progress new → AreNot is_store events ⊎ AreNot is_call events
     from (inl r) = inl (none_of is_store events r.1)
-    from (inr (inl r)) = let h = r.2 in of_helper r.0 h.0 h.1 (helper_stores shape old.memory old.held r.0 old.number old.registers events h.0 h.1 h.2)
+    from (inr (inl (n, is, inl (helper, h)))) = of_helper n h.0 h.1 (helper_stores shape old.memory old.held n old.number old.registers events h.0 h.1 h.2)
+    from (inr (inl (n, is, inr (inl asks)))) = inl (none_of is_store events asks.3)
+    from (inr (inl (n, is, inr (inr (inl (lock, inl refused)))))) = inl (none_of is_store events refused.2)
+    from (inr (inl (n, is, inr (inr (inl (lock, inr row)))))) = inl (subst (AreNot is_store) (sym row.1.1) (refl, tt))
+    from (inr (inl (n, is, inr (inr (inr (lock, inl refused)))))) = inl (none_of is_store events refused.2)
+    from (inr (inl (n, is, inr (inr (inr (lock, inr row)))))) = inl (subst (AreNot is_store) (sym row.1.1) (refl, tt))
     from (inr (inr r)) = of_value (value_alone shape old new events progress step.instruction r.1)
 
 -- ---- a job that starts holds nothing
@@ -244,16 +256,20 @@ module _ (shape : Shape) (bare : HasNoArrays shape) where
     value_refused (insn.Atomic w op b o s) row = change_refused w op s (effective_address old b o) row
     value_refused i row = absurd row
 
-pub first_accesses_none : (shape : Shape) → HasNoArrays shape → (program : Loaded) (number : ℕ) (context : List ℕ) (new : Cpu) (events : List Event) (progress : Progress) → Step shape program (start number context) events progress new → AreNot is_access events
-first_accesses_none shape bare program number context new events progress step = from step.row
+pub first_accesses_none : (shape : Shape) → HasNoArrays shape → (program : Loaded) (number : ℕ) (input : Input) (new : Cpu) (events : List Event) (progress : Progress) → Step shape program (start number input) events progress new → AreNot is_access events
+first_accesses_none shape bare program number input new events progress step = from step.row
   where
     old : Cpu
-    old = start number context
+    old = start number input
 
     from : Executes shape step.instruction old events progress new → AreNot is_access events
     from (inl r) = none_of is_access events r.1
-    from (inr (inl r)) =
-        let h = r.2 in
-        bare_not shape old.memory [] bare is_access r.0 number old.registers events h.0 h.1
-        (helper_kind shape old.memory [] is_access (reads_nothing shape bare old.memory) (λ m key found. refl) (λ m key bytes flags answer. refl) (λ m key answer. refl) r.0 number old.registers events h.0 h.1 h.2)
+    from (inr (inl (n, is, inr (inl asks)))) = none_of is_access events asks.3
+    from (inr (inl (n, is, inr (inr (inl (lock, inl refused)))))) = none_of is_access events refused.2
+    from (inr (inl (n, is, inr (inr (inl (lock, inr row)))))) = absurd (none_there shape bare old new progress events refl (slice_index old.registers 1) op_size.Word row.0.0.0)
+    from (inr (inl (n, is, inr (inr (inr (lock, inl refused)))))) = none_of is_access events refused.2
+    from (inr (inl (n, is, inr (inr (inr (lock, inr row)))))) = absurd (none_there shape bare old new progress events refl (slice_index old.registers 1) op_size.Word row.0.0.0)
+    from (inr (inl (n, is, inl (helper, h)))) =
+        bare_not shape old.memory [] bare is_access n number old.registers events h.0 h.1
+        (helper_kind shape old.memory [] is_access (reads_nothing shape bare old.memory) (λ m key found. refl) (λ m key bytes flags answer. refl) (λ m key answer. refl) n number old.registers events h.0 h.1 h.2)
     from (inr (inr r)) = none_of is_access events (value_refused shape bare old new progress events refl step.instruction r.1)
