@@ -1,12 +1,25 @@
 -- What printed lines are as JSON (RFC 8259): an object a line. Our own choice.
-use Rattle.std.specs.Prelude.{◌≡◌, ℕ, Bool, List, [], ◌++◌, ◌⊎◌, All, Option, Some, None, IfSome, codes, flat_map, map, nat_lt, not, ◌==◌, ◌&&◌, string_bytes, if◌then◌else◌}
+use Rattle.std.specs.Prelude.{◌≡◌, ℕ, List, [], ◌++◌, ◌⊎◌, All, Option, Some, None, IfSome, String, codes, flat_map, ◌==◌, string_bytes, if◌then◌else◌}
 use Rattle.std.specs.Fmt.{decimal}
+use Rattle.std.specs.declared.alloc.Global.{Global}
 use Rattle.bpf_base.specs.Bytes.{little_endian}
 use Rattle.bpf_lines.specs.HexText.{IsHexOf}
+use Rattle.bpf_json.specs.Texts.{all_text, by_text, digits_members, exact_members, member, text_member, truth, verdict}
 use Rattle.bpf_json.specs.declared.digits.Digits.{Digits}
+use Rattle.bpf_json.specs.declared.job.End.{End}
+use Rattle.bpf_json.specs.declared.job.End.TheVariants as ends
+use Rattle.bpf_json.specs.declared.job.Job.{Job}
 use Rattle.bpf_json.specs.declared.line.Line.{Line}
-use Rattle.bpf_json.specs.declared.line.Place.{Place}
 use Rattle.bpf_json.specs.declared.line.Line.TheVariants as line
+use Rattle.bpf_json.specs.declared.race.Place.{Place}
+use Rattle.bpf_json.specs.declared.race.Race.{Race}
+use Rattle.bpf_json.specs.declared.race.Raced.{Raced}
+use Rattle.bpf_json.specs.declared.race.Raced.TheVariants as raced
+use Rattle.bpf_json.specs.declared.test.Remark.{Remark}
+use Rattle.bpf_json.specs.declared.test.Remark.TheVariants as remark
+use Rattle.bpf_json.specs.declared.test.Test.{Test}
+use Rattle.bpf_json.specs.declared.value.Value.{Value}
+use Rattle.bpf_json.specs.declared.value.Value.TheVariants as left
 
 -- ---- numbers
 
@@ -17,153 +30,216 @@ IsNumberOf digits n = (bytes : List ℕ) × IsHexOf digits bytes × (n ≡ littl
 abbrev pub IsRightNumber : Digits → Type 0
 IsRightNumber d = (n : ℕ) → d.number ≡ Some n → IsNumberOf (string_bytes d.hex) n
 
+abbrev pub IsRightValue : Value → Type 0
+IsRightValue (left.Pair name key value) = IsRightNumber key × IsRightNumber value
+IsRightValue (left.Element name index cpu value) = IsRightNumber value
+IsRightValue (left.Variable name n) = Unit {0}
+
+abbrev pub IsRightRaced : Raced → Type 0
+IsRightRaced (raced.Pair name key) = IfSome key IsRightNumber
+IsRightRaced (raced.Element name index) = IsRightNumber index
+IsRightRaced (raced.Variable name) = Unit {0}
+
 -- numbers are there beside digits that spell them
 abbrev pub IsRight : Line → Type 0
-IsRight (line.Pair name key value) = IsRightNumber key × IsRightNumber value
-IsRight (line.Race one other map key by) = IfSome key IsRightNumber
+IsRight (line.Value value) = IsRightValue value
+IsRight (line.Race race) = IsRightRaced race.at
 IsRight _ = Unit {0}
 
--- ---- as it is printed
+-- ---- jobs
 
-abbrev pub verdict : Bool → List ℕ
-verdict ok = if ok then codes "ok" else codes "not ok"
+abbrev pub end_text : End → List ℕ
+end_text (ends.Exit r0) = codes "r0=" ++ decimal r0
+end_text (ends.Fault code pc) =
+    codes "fault " ++ (string_bytes code ++ (codes " at " ++ decimal pc))
+end_text (ends.OutOfBudget pc) = codes "out of budget at " ++ decimal pc
 
-abbrev pub all_text : Bool → List ℕ
-all_text all = if all then codes "all" else codes "not all"
+abbrev pub job_text : Job → List ℕ
+job_text j = codes "job " ++ (decimal j.job ++ (codes " cpu " ++ (decimal j.cpu
+    ++ (codes " " ++ end_text j.«end»))))
 
-abbrev pub by_text : List ℕ → List ℕ
-by_text [] = codes "by"
-by_text schedule = codes "by " ++ schedule
+abbrev pub end_members : End → List ℕ
+end_members (ends.Exit r0) = exact_members (codes "r0") r0
+end_members (ends.Fault code pc) =
+    text_member (codes "fault") (string_bytes code) ++ (codes ",\"pc\":" ++ decimal pc)
+end_members (ends.OutOfBudget pc) = codes "\"out_of_budget\":true,\"pc\":" ++ decimal pc
 
-abbrev pub job_text : ℕ → ℕ → List ℕ → List ℕ
-job_text j c end = codes "job " ++ (decimal j ++ (codes " cpu " ++ (decimal c ++ (codes " " ++ end))))
+abbrev pub job_object : Job → List ℕ
+job_object j = codes "{\"job\":" ++ (decimal j.job ++ (codes ",\"cpu\":" ++ (decimal j.cpu
+    ++ (codes "," ++ (end_members j.«end» ++ codes "}")))))
 
-abbrev pub budget_text : ℕ → List ℕ
-budget_text pc = codes "out of budget at " ++ decimal pc
+-- ---- values
+
+-- the CPU whose value it is, where each has one
+abbrev pub owner_text : Option ℕ → List ℕ
+owner_text None = []
+owner_text (Some c) = codes " cpu " ++ decimal c
+
+abbrev pub owner_member : Option ℕ → List ℕ
+owner_member None = []
+owner_member (Some c) = codes ",\"cpu\":" ++ decimal c
+
+abbrev pub value_text : Value → List ℕ
+value_text (left.Pair name key value) =
+    codes "map " ++ (string_bytes name ++ (codes " " ++ (string_bytes key.hex ++ (codes "="
+    ++ string_bytes value.hex))))
+value_text (left.Element name index cpu value) =
+    codes "array " ++ (string_bytes name ++ (codes " " ++ (decimal index ++ (owner_text cpu
+    ++ (codes "=" ++ string_bytes value.hex)))))
+value_text (left.Variable name n) = codes "var " ++ (string_bytes name ++ (codes "=" ++ decimal n))
+
+abbrev pub value_object : Value → List ℕ
+value_object (left.Pair name key value) =
+    codes "{" ++ (text_member (codes "map") (string_bytes name) ++ (codes ","
+    ++ (digits_members (codes "key") key ++ (codes "," ++ (digits_members (codes "value") value
+    ++ codes "}")))))
+value_object (left.Element name index cpu value) =
+    codes "{" ++ (text_member (codes "array") (string_bytes name) ++ (codes ",\"index\":"
+    ++ (decimal index ++ (owner_member cpu ++ (codes "," ++ (digits_members (codes "value") value
+    ++ codes "}"))))))
+value_object (left.Variable name n) =
+    codes "{" ++ (text_member (codes "var") (string_bytes name) ++ (codes ","
+    ++ (exact_members (codes "value") n ++ codes "}")))
+
+-- ---- races
 
 -- a CPU, its program, and where it is in that
 abbrev pub place_text : Place → List ℕ
 place_text at = codes "cpu " ++ (decimal at.cpu ++ (codes " prog " ++ (decimal at.program
     ++ (codes " pc " ++ decimal at.pc))))
 
+abbrev pub place_object : Place → List ℕ
+place_object at =
+    codes "{\"cpu\":" ++ (decimal at.cpu ++ (codes ",\"prog\":" ++ (decimal at.program
+    ++ (codes ",\"pc\":" ++ (decimal at.pc ++ codes "}")))))
+
 -- a key in hex, or that none leads to the value any more
 abbrev pub key_text : Option Digits → List ℕ
 key_text None = codes "deleted"
 key_text (Some key) = string_bytes key.hex
 
--- a map's name and a key, and a schedule
-abbrev pub value_text : List ℕ → Option Digits → List ℕ → List ℕ
-value_text name key schedule =
-    codes "map " ++ (name ++ (codes " " ++ (key_text key ++ (codes " " ++ by_text schedule))))
+abbrev pub key_members : Option Digits → List ℕ
+key_members None = codes "\"key\":null"
+key_members (Some key) = digits_members (codes "key") key
+
+-- the value for which two CPUs race
+abbrev pub raced_text : Raced → List ℕ
+raced_text (raced.Pair name key) =
+    codes "map " ++ (string_bytes name ++ (codes " " ++ key_text key))
+raced_text (raced.Element name index) =
+    codes "array " ++ (string_bytes name ++ (codes " " ++ string_bytes index.hex))
+raced_text (raced.Variable name) = codes "var " ++ string_bytes name
+
+abbrev pub raced_members : Raced → List ℕ
+raced_members (raced.Pair name key) =
+    text_member (codes "map") (string_bytes name) ++ (codes "," ++ key_members key)
+raced_members (raced.Element name index) =
+    text_member (codes "array") (string_bytes name) ++ (codes "," ++ digits_members (codes "index") index)
+raced_members (raced.Variable name) = text_member (codes "var") (string_bytes name)
+
+abbrev pub race_text : Race → List ℕ
+race_text r = codes "race " ++ (place_text r.one ++ (codes " " ++ (place_text r.other
+    ++ (codes " " ++ (raced_text r.at ++ (codes " " ++ by_text (string_bytes r.by)))))))
+
+abbrev pub race_object : Race → List ℕ
+race_object r = codes "{\"race\":[" ++ (place_object r.one ++ (codes "," ++ (place_object r.other
+    ++ (codes "]," ++ (raced_members r.at ++ (codes "," ++ (text_member (codes "by") (string_bytes r.by)
+    ++ codes "}")))))))
+
+-- ---- tests
+
+-- what is said of a test on the line after it
+abbrev pub remark_text : Remark → List ℕ
+remark_text (remark.By schedule) = by_text (string_bytes schedule)
+remark_text (remark.HungBy schedule) = codes "hung " ++ by_text (string_bytes schedule)
+remark_text (remark.Note text) = string_bytes text
+
+abbrev pub remark_member : Remark → List ℕ
+remark_member (remark.By schedule) = text_member (codes "by") (string_bytes schedule)
+remark_member (remark.HungBy schedule) = text_member (codes "hung_by") (string_bytes schedule)
+remark_member (remark.Note text) = text_member (codes "note") (string_bytes text)
+
+abbrev pub remark_object : Remark → List ℕ
+remark_object r = member (codes "note") (remark_text r)
+
+abbrev pub said_text : Option Remark → List ℕ
+said_text None = []
+said_text (Some r) = codes "\n# " ++ remark_text r
+
+abbrev pub said_members : Option Remark → List ℕ
+said_members None = []
+said_members (Some r) = codes "," ++ remark_member r
+
+abbrev pub said_objects : Option Remark → List ℕ
+said_objects None = []
+said_objects (Some r) = codes "\n" ++ remark_object r
+
+-- the file's name, where there are several
+abbrev pub file_text : Option (String Global) → List ℕ
+file_text None = []
+file_text (Some file) = string_bytes file ++ codes ": "
+
+abbrev pub file_member : Option (String Global) → List ℕ
+file_member None = []
+file_member (Some file) = codes "," ++ text_member (codes "file") (string_bytes file)
+
+-- its line, and that of a remark
+abbrev pub test_text : Test → List ℕ
+test_text t = verdict t.ok ++ (codes " " ++ (decimal t.number ++ (codes " - " ++ (file_text t.file
+    ++ (string_bytes t.name ++ said_text t.remark)))))
+
+-- its object, and that of a remark, which is an object of its own as well
+abbrev pub test_object : Test → List ℕ
+test_object t = codes "{\"test\":" ++ (decimal t.number ++ (codes ",\"ok\":" ++ (truth t.ok
+    ++ (codes "," ++ (text_member (codes "name") (file_text t.file ++ string_bytes t.name)
+    ++ (file_member t.file ++ (said_members t.remark ++ (codes "}" ++ said_objects t.remark))))))))
 
 -- how many tests follow; where none does, that they are skipped
 abbrev pub plan_text : ℕ → List ℕ
 plan_text count = if count == 0 then codes "1..0 # SKIP no expectations"
     else codes "1.." ++ decimal count
 
--- the line, without its end
+-- ---- lines
+
+-- as it is printed, without its end
 abbrev pub plain : Line → List ℕ
-plain (line.Exit j c r0) = job_text j c (codes "r0=" ++ decimal r0)
-plain (line.Fault j c code pc) =
-    job_text j c (codes "fault " ++ (string_bytes code ++ (codes " at " ++ decimal pc)))
-plain (line.OutOfBudget j c pc) = job_text j c (budget_text pc)
-plain (line.Pair name key value) =
-    codes "map " ++ (string_bytes name ++ (codes " " ++ (string_bytes key.hex ++ (codes "="
-    ++ string_bytes value.hex))))
+plain (line.Job job) = job_text job
+plain (line.Value value) = value_text value
 plain (line.By schedule) = by_text (string_bytes schedule)
 plain (line.Hung schedule) = codes "hung " ++ by_text (string_bytes schedule)
 plain (line.Counts all outcomes states) =
     all_text all ++ (codes ": " ++ (decimal outcomes ++ (codes " outcomes, " ++ (decimal states
     ++ codes " states"))))
-plain (line.Race one other name key schedule) =
-    codes "race " ++ (place_text one ++ (codes " " ++ (place_text other ++ (codes " "
-    ++ value_text (string_bytes name) key (string_bytes schedule)))))
+plain (line.Race race) = race_text race
 plain (line.Races all races) =
     all_text all ++ (codes ": " ++ (decimal races ++ codes " races"))
 plain (line.Plan count) = plan_text count
-plain (line.Test ok number name) =
-    verdict ok ++ (codes " " ++ (decimal number ++ (codes " - " ++ string_bytes name)))
+plain (line.Test test) = test_text test
 plain (line.Note text) = codes "# " ++ string_bytes text
 plain (line.Refused why) = codes "refused " ++ string_bytes why
 plain (line.Other text) = string_bytes text
 
--- ---- as JSON
-
--- a byte that is between quotes as it is
-abbrev pub is_plain : ℕ → Bool
-is_plain b = nat_lt 31 b && (nat_lt b 127 && (not (b == 34) && not (b == 92)))
-
--- any other, which no printed line has, is shown as `?`
-abbrev pub shown_byte : ℕ → ℕ
-shown_byte b = if is_plain b then b else 63
-
-abbrev pub quoted : List ℕ → List ℕ
-quoted text = codes "\"" ++ (map shown_byte text ++ codes "\"")
-
-abbrev pub truth : Bool → List ℕ
-truth test = if test then codes "true" else codes "false"
-
--- an object of one text
-abbrev pub member : List ℕ → List ℕ → List ℕ
-member name text = codes "{\"" ++ (name ++ (codes "\":" ++ (quoted text ++ codes "}")))
-
--- the member for the number, after a comma
-abbrev pub number_member : List ℕ → Option ℕ → List ℕ
-number_member name None = []
-number_member name (Some n) = codes ",\"" ++ (name ++ (codes "_number\":" ++ decimal n))
-
-abbrev pub digits_members : List ℕ → Digits → List ℕ
-digits_members name d =
-    codes "\"" ++ (name ++ (codes "\":" ++ (quoted (string_bytes d.hex)
-    ++ number_member name d.number)))
-
--- a CPU, its program, and where it is in that
-abbrev pub place_object : Place → List ℕ
-place_object at =
-    codes "{\"cpu\":" ++ (decimal at.cpu ++ (codes ",\"prog\":" ++ (decimal at.program
-    ++ (codes ",\"pc\":" ++ (decimal at.pc ++ codes "}")))))
-
--- the members for a key, if one leads to the value
-abbrev pub key_members : Option Digits → List ℕ
-key_members None = codes "\"key\":null"
-key_members (Some key) = digits_members (codes "key") key
-
+-- as JSON
 abbrev pub object : Line → List ℕ
-object (line.Exit j c r0) =
-    codes "{\"job\":" ++ (decimal j ++ (codes ",\"cpu\":" ++ (decimal c ++ (codes ",\"r0\":"
-    ++ (decimal r0 ++ codes "}")))))
-object (line.Fault j c code pc) =
-    codes "{\"job\":" ++ (decimal j ++ (codes ",\"cpu\":" ++ (decimal c ++ (codes ",\"fault\":"
-    ++ (quoted (string_bytes code) ++ (codes ",\"pc\":" ++ (decimal pc ++ codes "}")))))))
-object (line.OutOfBudget j c pc) =
-    codes "{\"job\":" ++ (decimal j ++ (codes ",\"cpu\":" ++ (decimal c
-    ++ (codes ",\"out_of_budget\":true,\"pc\":" ++ (decimal pc ++ codes "}")))))
-object (line.Pair name key value) =
-    codes "{\"map\":" ++ (quoted (string_bytes name) ++ (codes ","
-    ++ (digits_members (codes "key") key ++ (codes "," ++ (digits_members (codes "value") value
-    ++ codes "}")))))
+object (line.Job job) = job_object job
+object (line.Value value) = value_object value
 object (line.By schedule) = member (codes "by") (string_bytes schedule)
 object (line.Hung schedule) = member (codes "hung_by") (string_bytes schedule)
 object (line.Counts all outcomes states) =
     codes "{\"all\":" ++ (truth all ++ (codes ",\"outcomes\":" ++ (decimal outcomes
     ++ (codes ",\"states\":" ++ (decimal states ++ codes "}")))))
-object (line.Race one other name key schedule) =
-    codes "{\"race\":[" ++ (place_object one ++ (codes "," ++ (place_object other
-    ++ (codes "],\"map\":" ++ (quoted (string_bytes name) ++ (codes "," ++ (key_members key
-    ++ (codes ",\"by\":" ++ (quoted (string_bytes schedule) ++ codes "}")))))))))
+object (line.Race race) = race_object race
 object (line.Races all races) =
     codes "{\"all\":" ++ (truth all ++ (codes ",\"races\":" ++ (decimal races ++ codes "}")))
 object (line.Plan count) = codes "{\"tests\":" ++ (decimal count ++ codes "}")
-object (line.Test ok number name) =
-    codes "{\"test\":" ++ (decimal number ++ (codes ",\"ok\":" ++ (truth ok ++ (codes ",\"name\":"
-    ++ (quoted (string_bytes name) ++ codes "}")))))
+object (line.Test test) = test_object test
 object (line.Note text) = member (codes "note") (string_bytes text)
 object (line.Refused why) = member (codes "refused") (string_bytes why)
 object (line.Other text) = member (codes "line") (string_bytes text)
 
 -- ---- a text
 
--- of what the line says
+-- of what the line says; a remark on a test is of the same line as the test
 abbrev pub IsObjectOf : (text made : List ℕ) → Type 0
 IsObjectOf text made = (l : Line) × IsRight l × (plain l ≡ text) × (made ≡ object l)
 

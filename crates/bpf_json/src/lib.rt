@@ -2,10 +2,19 @@
 #![tactic(auto)]
 
 mod digits;
+mod job;
 mod line;
 mod objects;
+mod race;
 mod reading;
+mod test;
+mod texts;
+mod value;
 
 pub use digits::Digits;
-pub use line::{Line, Place};
+pub use job::{End, Job};
+pub use line::Line;
 pub use objects::objects_of;
+pub use race::{Place, Race, Raced};
+pub use test::{Remark, Test};
+pub use value::Value;

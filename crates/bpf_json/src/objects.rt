@@ -1,6 +1,6 @@
 //! Printed lines as JSON objects.
 
-ghost use Rattle.std.specs.Prelude.{◌≡◌, ◌++◌, IfOk, OnOk, codes, string_bytes};
+ghost use Rattle.std.specs.Prelude.{◌≡◌, ◌∷◌, ◌++◌, IfOk, IfSome, OnOk, codes, string_bytes};
 ghost use Rattle.bpf_json.specs.Lines.{AreObjectsOf, IsLineOf, IsObjectOf};
 
 use crate::reading::line_of;
@@ -22,13 +22,32 @@ fn push_object(alloc: Global, objects: &mut String, line: &str) -> Result<(), Al
     objects.push_str("\n")
 }
 
+/// Whether a line is a test.
+fn is_test(line: &str) -> bool {
+    line.starts_with("ok ") || line.starts_with("not ok ")
+}
+
+/// The first line of a text, with the remark after it where it is a test, and what is left.
+fn cut(text: &str) -> Option<(&str, &str)>
+    ensures { IfSome result (λ parts. text.now ≡ parts.0.now ++ (10 ∷ parts.1.now)) }
+{
+    let (line, behind) = text.split_once('\n')?;
+    if !is_test(line) || !behind.starts_with("# ") {
+        return Some((line, behind));
+    }
+    let (remark, _) = behind.split_once('\n')?;
+    let length = line.len().checked_add(remark.len())?.checked_add(1)?;
+    let (both, behind) = text.split_at_checked(length)?;
+    Some((both, behind.strip_prefix("\n")?))
+}
+
 /// The lines of a text as JSON objects, one a line, in their order.
 pub fn objects_of(alloc: Global, text: &str) -> Result<String, AllocError>
     ensures { IfOk result (λ objects. AreObjectsOf text.now (string_bytes objects)) }
 {
     let mut objects = String::new(alloc);
     let mut rest = text;
-    'lines: while let Some((line, behind)) = rest.split_once('\n') {
+    'lines: while let Some((line, behind)) = cut(rest) {
         push_object(alloc, &mut objects, line)?;
         rest = behind;
     }

@@ -1,10 +1,14 @@
 //! What a printed line says, read from it. It is taken where it prints as that line again.
 
 ghost use Rattle.std.specs.Prelude.{◌≡◌, IfOk, IfSome};
-ghost use Rattle.bpf_json.specs.Lines.{IsRight, IsRightNumber, plain};
+ghost use Rattle.bpf_json.specs.Lines.{IsRight, IsRightNumber, IsRightRaced, plain};
 
 use crate::digits::Digits;
-use crate::line::{Line, NO_TESTS, Place};
+use crate::job::{End, Job};
+use crate::line::{Line, NO_TESTS};
+use crate::race::{Place, Race, Raced};
+use crate::test::{Remark, Test};
+use crate::value::Value;
 use std::alloc::{AllocError, Global};
 
 /// A number, and what is after it.
@@ -23,11 +27,38 @@ fn word_in(text: &str) -> Option<(&str, &str)> {
     text.split_once(' ')
 }
 
-fn fault(alloc: Global, job: u64, cpu: u64, code: &str, pc: u64) -> Result<Line, AllocError>
-    ensures { IfOk result IsRight }
+/// The line of a job that has ended so.
+fn job(job: u64, cpu: u64, end: End) -> Line
+    ensures { IsRight result }
 {
+    Line::Job(Job { job, cpu, end })
+}
+
+fn fault(alloc: Global, code: &str, pc: u64) -> Result<End, AllocError> {
     let code = code.to_string(alloc)?;
-    Ok(Line::Fault { job, cpu, code, pc })
+    Ok(End::Fault { code, pc })
+}
+
+/// How a job ended.
+fn job_in(alloc: Global, text: &str) -> Option<Result<Line, AllocError>>
+    ensures { IfSome result (λ made. IfOk made IsRight) }
+{
+    let (number, rest) = number_in(text.strip_prefix("job ")?)?;
+    let (cpu, rest) = number_in(rest.strip_prefix(" cpu ")?)?;
+    if let Some(rest) = rest.strip_prefix(" r0=") {
+        let r0 = rest.parse().ok()?;
+        return Some(Ok(job(number, cpu, End::Exit(r0))));
+    }
+    if let Some(rest) = rest.strip_prefix(" out of budget at ") {
+        let pc = rest.parse().ok()?;
+        return Some(Ok(job(number, cpu, End::OutOfBudget(pc))));
+    }
+    let (code, rest) = word_in(rest.strip_prefix(" fault ")?)?;
+    let pc = rest.strip_prefix("at ")?.parse().ok()?;
+    match fault(alloc, code, pc) {
+        Ok(end) => Some(Ok(job(number, cpu, end))),
+        Err(error) => Some(Err(error)),
+    }
 }
 
 fn pair(alloc: Global, map: &str, key: &str, value: &str) -> Result<Line, AllocError>
@@ -36,33 +67,7 @@ fn pair(alloc: Global, map: &str, key: &str, value: &str) -> Result<Line, AllocE
     let map = map.to_string(alloc)?;
     let key = Digits::new(alloc, key)?;
     let value = Digits::new(alloc, value)?;
-    Ok(Line::Pair { map, key, value })
-}
-
-fn test(alloc: Global, ok: bool, number: u64, name: &str) -> Result<Line, AllocError>
-    ensures { IfOk result IsRight }
-{
-    let name = name.to_string(alloc)?;
-    Ok(Line::Test { ok, number, name })
-}
-
-/// How a job ended.
-fn job_in(alloc: Global, text: &str) -> Option<Result<Line, AllocError>>
-    ensures { IfSome result (λ made. IfOk made IsRight) }
-{
-    let (job, rest) = number_in(text.strip_prefix("job ")?)?;
-    let (cpu, rest) = number_in(rest.strip_prefix(" cpu ")?)?;
-    if let Some(rest) = rest.strip_prefix(" r0=") {
-        let r0 = rest.parse().ok()?;
-        return Some(Ok(Line::Exit { job, cpu, r0 }));
-    }
-    if let Some(rest) = rest.strip_prefix(" out of budget at ") {
-        let pc = rest.parse().ok()?;
-        return Some(Ok(Line::OutOfBudget { job, cpu, pc }));
-    }
-    let (code, rest) = word_in(rest.strip_prefix(" fault ")?)?;
-    let pc = rest.strip_prefix("at ")?.parse().ok()?;
-    Some(fault(alloc, job, cpu, code, pc))
+    Ok(Line::Value(Value::Pair { map, key, value }))
 }
 
 /// A key of a map with its value.
@@ -72,6 +77,54 @@ fn pair_in(alloc: Global, text: &str) -> Option<Result<Line, AllocError>>
     let (map, rest) = word_in(text.strip_prefix("map ")?)?;
     let (key, value) = rest.split_once('=')?;
     Some(pair(alloc, map, key, value))
+}
+
+fn element(
+    alloc: Global,
+    array: &str,
+    index: u64,
+    cpu: Option<u64>,
+    value: &str,
+) -> Result<Line, AllocError>
+    ensures { IfOk result IsRight }
+{
+    let array = array.to_string(alloc)?;
+    let value = Digits::new(alloc, value)?;
+    Ok(Line::Value(Value::Element {
+        array,
+        index,
+        cpu,
+        value,
+    }))
+}
+
+/// An index of an array with its value, and a CPU where each has one.
+fn element_in(alloc: Global, text: &str) -> Option<Result<Line, AllocError>>
+    ensures { IfSome result (λ made. IfOk made IsRight) }
+{
+    let (array, rest) = word_in(text.strip_prefix("array ")?)?;
+    let (index, rest) = number_in(rest)?;
+    if let Some(value) = rest.strip_prefix("=") {
+        return Some(element(alloc, array, index, None, value));
+    }
+    let (cpu, rest) = number_in(rest.strip_prefix(" cpu ")?)?;
+    let value = rest.strip_prefix("=")?;
+    Some(element(alloc, array, index, Some(cpu), value))
+}
+
+fn variable(alloc: Global, name: &str, number: u64) -> Result<Line, AllocError>
+    ensures { IfOk result IsRight }
+{
+    let name = name.to_string(alloc)?;
+    Ok(Line::Value(Value::Variable { name, number }))
+}
+
+/// A variable with its number.
+fn variable_in(alloc: Global, text: &str) -> Option<Result<Line, AllocError>>
+    ensures { IfSome result (λ made. IfOk made IsRight) }
+{
+    let (name, number) = text.strip_prefix("var ")?.split_once('=')?;
+    Some(variable(alloc, name, number.parse().ok()?))
 }
 
 /// The last line of a search.
@@ -119,26 +172,35 @@ fn key_of(alloc: Global, key: &str) -> Result<Option<Digits>, AllocError>
     Ok(Some(key))
 }
 
+/// What is raced for, by the kind of it, its name, and a key or an index.
+fn raced(alloc: Global, kind: &str, name: &str, key: &str) -> Result<Raced, AllocError>
+    ensures { IfOk result IsRightRaced }
+{
+    let name = name.to_string(alloc)?;
+    if kind == "map" {
+        let key = key_of(alloc, key)?;
+        return Ok(Raced::Pair { map: name, key });
+    }
+    if kind == "array" {
+        let index = Digits::new(alloc, key)?;
+        return Ok(Raced::Element { array: name, index });
+    }
+    Ok(Raced::Variable(name))
+}
+
 fn race(
     alloc: Global,
     places: (Place, Place),
-    map: &str,
-    key: &str,
+    at: Result<Raced, AllocError>,
     by: &str,
 ) -> Result<Line, AllocError>
+    requires { IfOk at IsRightRaced }
     ensures { IfOk result IsRight }
 {
     let (one, other) = places;
-    let map = map.to_string(alloc)?;
-    let key = key_of(alloc, key)?;
+    let at = at?;
     let by = by.to_string(alloc)?;
-    Ok(Line::Race {
-        one,
-        other,
-        map,
-        key,
-        by,
-    })
+    Ok(Line::Race(Race { one, other, at, by }))
 }
 
 /// Two CPUs that race.
@@ -147,10 +209,56 @@ fn race_in(alloc: Global, text: &str) -> Option<Result<Line, AllocError>>
 {
     let (one, rest) = place_in(text.strip_prefix("race ")?)?;
     let (other, rest) = place_in(rest)?;
-    let (map, rest) = word_in(rest.strip_prefix("map ")?)?;
-    let (key, rest) = word_in(rest)?;
+    let (kind, rest) = word_in(rest)?;
+    let (name, rest) = word_in(rest)?;
+    let (key, rest) = if kind == "var" {
+        ("", rest)
+    } else {
+        word_in(rest)?
+    };
     let by = without_blank(rest.strip_prefix("by")?);
-    Some(race(alloc, (one, other), map, key, by))
+    let at = raced(alloc, kind, name, key);
+    Some(race(alloc, (one, other), at, by))
+}
+
+/// What is said of a test, from the line after it.
+fn remark_of(alloc: Global, text: &str) -> Result<Remark, AllocError> {
+    if let Some(by) = text.strip_prefix("hung by") {
+        return Ok(Remark::HungBy(without_blank(by).to_string(alloc)?));
+    }
+    match text.strip_prefix("by") {
+        Some(by) => Ok(Remark::By(without_blank(by).to_string(alloc)?)),
+        None => Ok(Remark::Note(text.to_string(alloc)?)),
+    }
+}
+
+/// The file's name, where there is one, and what is asked of it.
+fn named(alloc: Global, name: &str) -> Result<(Option<String>, String), AllocError> {
+    match name.rsplit_once(": ") {
+        Some((file, name)) => {
+            let file = file.to_string(alloc)?;
+            Ok((Some(file), name.to_string(alloc)?))
+        }
+        None => Ok((None, name.to_string(alloc)?)),
+    }
+}
+
+/// A test, and what is said of it, if anything is.
+fn test(alloc: Global, ok: bool, number: u64, text: &str) -> Result<Line, AllocError>
+    ensures { IfOk result IsRight }
+{
+    let (name, remark) = match text.split_once("\n# ") {
+        Some((name, remark)) => (name, Some(remark_of(alloc, remark)?)),
+        None => (text, None),
+    };
+    let (file, name) = named(alloc, name)?;
+    Ok(Line::Test(Test {
+        ok,
+        number,
+        file,
+        name,
+        remark,
+    }))
 }
 
 /// A test, and whether it is ok.
@@ -205,6 +313,8 @@ fn guess(alloc: Global, text: &str) -> Result<Line, AllocError>
 {
     let made = job_in(alloc, text)
         .or_else(|| pair_in(alloc, text))
+        .or_else(|| variable_in(alloc, text))
+        .or_else(|| element_in(alloc, text))
         .or_else(|| test_in(alloc, text))
         .or_else(|| counts_in(text))
         .or_else(|| race_in(alloc, text))

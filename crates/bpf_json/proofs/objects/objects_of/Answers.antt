@@ -1,5 +1,4 @@
-use Rattle.std.proofs.Common.{rules, arith, Some, String, Global, string_bytes, subst, sym, ◌∙◌}
-use Rattle.std.proofs.lemmas.Str.Pattern.{split_parts}
+use Rattle.std.proofs.Common.{rules, String, Global, string_bytes, subst, sym, ◌∙◌}
 use Rattle.bpf_json.specs.Lines.{AreObjectsOf}
 use Rattle.bpf_json.proofs.Telling.{told_more, told_all, told_last, none_left}
 use Rattle.bpf_json.proofs.objects.objects_of.Goals.{then-not-is_empty+in_ok-push_object-2, else-not-is_empty}
@@ -7,8 +6,7 @@ use Rattle.bpf_json.proofs.objects.objects_of.Goals as goal
 
 pub lines-preserved : goal.lines-preserved
 lines-preserved c =
-    let parts = split_parts 10 c.lines.rest.now (Some (c.in-Some.line, c.in-Some.behind)) c.in-Some.ensures.cases (omega arith) in
-    (search rules, told_more c.args.text.now c.lines.rest.now c.in-Some.line.now c.in-Some.behind.now (string_bytes c.lines.objects) (string_bytes c.push_object.new.objects) c.lines.invariant.1 parts.0 c.in_ok-push_object.ensures)
+    (search rules, told_more c.args.text.now c.lines.rest.now c.in-Some.line.now c.in-Some.behind.now (string_bytes c.lines.objects) (string_bytes c.push_object.new.objects) c.lines.invariant.1 c.in-Some.ensures c.in_ok-push_object.ensures)
 
 pub returns : goal.returns
 returns c = elim c.if-not-is_empty.branch [

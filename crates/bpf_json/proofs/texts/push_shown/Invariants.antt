@@ -1,7 +1,7 @@
 use Rattle.std.proofs.Common.{◌≡◌, ◌++◌, map, take}
 use Rattle.std.specs.Prelude.{string_bytes}
-use Rattle.bpf_json.specs.Lines.{shown_byte}
-use Rattle.bpf_json.proofs.line.push_shown.Given as goal
+use Rattle.bpf_json.specs.Texts.{shown_byte}
+use Rattle.bpf_json.proofs.texts.push_shown.Given as goal
 
 abbrev pub invariant-loop-byte : goal.invariant-loop-byte
 invariant-loop-byte l = string_bytes l.text ≡ string_bytes l.fn.text ++ map shown_byte (take l.byte-index l.bytes)
