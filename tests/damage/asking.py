@@ -59,10 +59,10 @@ class Documented:
 
 
 OUTCOME = rb"(r0=\d+|fault F[1-7] at \d+|out of budget at \d+)"
-KEYS = rb"(map \w+ ([0-9a-f]{2})+=([0-9a-f]{2})+\n)*"
+KEYS = rb"(map \w+ ([0-9a-f]{2})+=([0-9a-f]{2})+\n)*(var \w+=\d+\n)*(array \w+ \d+=([0-9a-f]{2})+\n)*"
 THREADS = rb"(threads may run out of elements\n)?(threads may see keys or values in part\n)?"
 FOUND = rb"(by( \d+\*\d+)*\n(job \d+ cpu \d+ " + OUTCOME + rb"\n)*" + KEYS + rb")*"
-LINE_OF_A_FILE = r"line \d+ (L[1-6]|S[1-6]|H1|A[1-5]|E1|E3|E2 \d+|E[4-9] \d+|E1[0-3] \d+)"
+LINE_OF_A_FILE = r"line \d+ (L[1-6]|S([1-6]|8|9|1[0-2])|H1|A[1-5]|E1|E3|E2 \d+|E[4-9] \d+|E1[0-3] \d+)"
 DOCUMENTED = {
     "hex": [
         Documented(0, rb"r0=\d+\n"),
@@ -91,6 +91,7 @@ DOCUMENTED = {
                 rb"((break \d+ \d+ set|stop \d+ \d+|done|r\d+=\d+|cpu \d+ (idle|job \d+ (waiting|pc \d+ depth [1-8]))"
                 rb"|job \d+ cpu \d+ (open|" + OUTCOME + rb")|([0-9a-f]{2})+|unreadable|([0-9a-f]{2})+=([0-9a-f]{2})+"
                 rb"|break \d+ \d+ deleted|steps( \d+\*\d+)*|map \w+ key \d+ value \d+ max \d+ spare \d+( grow)?|mark \d+"
+                rb"|array \w+ value \d+ max \d+|var \w+ \w+ \d+ \d+"
                 rb"|refused G[1-4])\n)*",
             )
             for status in (0, 3)

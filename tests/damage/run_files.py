@@ -15,6 +15,10 @@ LAST_LINES = re.compile(rb"^(?:threads may .*|all: .*)\n", re.M)
 PUT = "*(u32 *)(r10 - 4) = 0|*(u64 *)(r10 - 16) = 7|r1 = map 0|r2 = r10|r2 += -4|r3 = r10|r3 += -16|r4 = 0|call 2|exit"
 FIND = "*(u32 *)(r10 - 4) = 0|r1 = map 0|r2 = r10|r2 += -4|call 1|if r0 == 0 goto none|r0 = *(u64 *)(r0 + 0)|none: exit"
 CONTEXT = "r0 = *(u8 *)(r1 + 0)|r2 = 9|r0 += r2|call f|exit|f: r0 += 1|exit"
+GIVEN = "call 5|r6 = r0|call get_prandom_u32|r6 += r0|call 14|r0 += r6|exit"
+# What a file of version 3 has, and a program that counts under its lock.
+VARIABLES = ["array t value 16 max 1", "var l t 0 4", "var s t 8 8"]
+LOCKED = "r1 = &l|call spin_lock|r2 = &s|r1 = *(u64 *)(r2 + 0)|r1 += 1|*(u64 *)(r2 + 0) = r1|r1 = &l|call spin_unlock|exit"
 
 
 def a_map(drawn, number):
@@ -24,32 +28,36 @@ def a_map(drawn, number):
     return line + (f" mask {drawn.one_of(['0', '0xffffffff', '4294967295', '63'])}" if drawn.happens(1, 3) else "")
 
 
-def a_program(drawn, name):
+def a_program(drawn, name, version):
     """Its lines."""
     if drawn.happens(1, 8):
         return [f"prog {name} hex {'b7000000' + drawn.some_bytes(4).hex()}9500000000000000"]
     if drawn.happens(3, 4):
-        lines = drawn.one_of([PUT, FIND, CONTEXT]).split("|")
+        lines = drawn.one_of([PUT, FIND, CONTEXT, GIVEN, *[LOCKED] * (version == 3)]).split("|")
     else:
         lines = [a_line(drawn, 64) for _ in range(drawn.among(0, 8))] + ["exit"]
     return [f"prog {name}", *lines, "end"]
 
 
-def a_job(drawn, cpus, programs):
+def a_job(drawn, cpus, programs, version):
     line = f"job {drawn.below(cpus)} {drawn.one_of('abc'[:programs])} budget {drawn.below(200)}"
-    return line + (f" ctx {drawn.some_bytes(drawn.among(1, 9)).hex()}" if drawn.happens(1, 2) else "")
+    line += f" ctx {drawn.some_bytes(drawn.among(1, 9)).hex()}" if drawn.happens(1, 2) else ""
+    for word in ("time", "random") if version == 3 else ():
+        line += f" {word} {drawn.number()}" if drawn.happens(1, 3) else ""
+    return line
 
 
 def a_file(drawn):
     """A file that is right, as far as its programs are."""
-    cpus, programs = drawn.among(1, 4), drawn.among(1, 3)
-    lines = ["ebpf-run 1", f"cpus {cpus}"]
+    cpus, programs, version = drawn.among(1, 4), drawn.among(1, 3), drawn.one_of([1, 3])
+    lines = [f"ebpf-run {version}", f"cpus {cpus}"]
     if drawn.happens(1, 2):
         lines.append(f"seed {drawn.number()}")
     lines += [a_map(drawn, number) for number in range(drawn.among(1, 3))]
+    lines += VARIABLES if version == 3 else []
     for name in "abc"[:programs]:
-        lines += a_program(drawn, name)
-    return lines + [a_job(drawn, cpus, programs) for _ in range(drawn.below(6))]
+        lines += a_program(drawn, name, version)
+    return lines + [a_job(drawn, cpus, programs, version) for _ in range(drawn.below(6))]
 
 
 def damage(drawn, lines):

@@ -16,7 +16,7 @@ TOKENS += ["mov", "#", "é", "\x00", "\r"]
 FORMS = [
     *("R A R", "R A N", "W A W", "W A N", "r1 = -r1", "w2 = -w2", "R = (s8)R", "R = (s32)R", "W = (s16)W"),
     *("r3 = le16 r3", "r3 = be64 r3", "r4 = bswap32 r4", "goto J", "gotol J", "if R C R goto J", "if W C N goto J"),
-    *("call 1", "call 8", "call J", "exit", "R = *(S *)(R O)", "R = *(s16 *)(R O)"),
+    *("call 1", "call 8", "call 93", "call bpf_ktime_get_ns", "call J", "exit", "R = *(S *)(R O)", "R = *(s16 *)(R O)"),
     *("*(S *)(R O) = R", "*(S *)(R O) = N"),
     *("lock *(u64 *)(R O) += R", "lock *(u32 *)(R O) ^= R", "r5 = atomic_fetch_or((u64 *)(R O), r5)"),
     *("w5 = atomic_fetch_add((u32 *)(R O), w5)", "r6 = xchg_64(R O, r6)", "w0 = cmpxchg_32(R O, w0, W)"),

@@ -14,7 +14,10 @@ EEXIST, ENOENT, E2BIG, ENOMEM = WORD - 17, WORD - 2, WORD - 7, WORD - 12
 ANSWERS = {0: "done", EEXIST: "EEXIST", ENOENT: "ENOENT", E2BIG: "E2BIG", ENOMEM: "ENOMEM"}
 KEY, VALUE = "key", "value"
 NO_CPU = frozenset()
-ACCESSES = ("load", "store", "add", "fetch_add", "exchange", "compare")
+LOCKS = ("lock", "unlock")
+ACCESSES = ("load", "store", "add", "fetch_add", "exchange", "compare", *LOCKS)
+# What a lock has of the number that is the value.
+LOW = 2**32
 # Steps that are left in a job's budget before each turn, where none is ever used up.
 ENOUGH = 2
 
@@ -35,6 +38,8 @@ def text_of(instruction):
         "top3": "r3 = r10",
         "to_value": "r3 += -16",
         "call": "call {0}",
+        "lock": "call 93",
+        "unlock": "call 94",
         "load": "{0} = *(u64 *)({1} + 0)",
         "store": "*(u64 *)({0} + 0) = {1}",
         "add": "lock *(u64 *)({0} + 0) += {1}",
@@ -169,7 +174,7 @@ class File:
             return store, f"r0={registers[0]}"
         if kind == "call":
             return self.call(store, cpu, operands[0], registers, frame, held, on)
-        pointer = value(operands[1] if kind == "load" else operands[0])
+        pointer = self.pointer(kind, operands, registers)
         if not isinstance(pointer, tuple) or pointer[1] not in held:
             return store, f"fault F1 at {pc}"
         place = pointer[1]
@@ -191,9 +196,18 @@ class File:
             return written(old + value(operands[1])), on(put(operands[1], old))
         if kind == "exchange":
             return written(value(operands[1])), on(put(operands[1], old))
+        if kind == "lock" and old % LOW:
+            return store, on(new_pc=pc)
+        if kind in LOCKS:
+            return written(old - old % LOW + (kind == "lock")), on((0,) * 6 + registers[6:])
         # compare
         new = value(operands[1]) if old == registers[0] else old
         return written(new), on(put("r0", old))
+
+    def pointer(self, kind, operands, registers):
+        """What the register has that an access takes its address from."""
+        name = "r1" if kind in LOCKS else operands[1] if kind == "load" else operands[0]
+        return registers[int(name[1:])]
 
     def call(self, store, cpu, helper, registers, frame, held, on):
         """What a helper answers; R1 to R5 are 0 behind it."""
@@ -306,8 +320,7 @@ class File:
         kind, *operands = self.jobs[job][1].at[pc]
         if kind not in ACCESSES:
             return None
-        values = {f"r{n}": number for n, number in enumerate(registers)}
-        pointer = values[operands[1] if kind == "load" else operands[0]]
+        pointer = self.pointer(kind, operands, registers)
         if not isinstance(pointer, tuple) or pointer[1] not in held:
             return None
         return job, pc, pointer[1], kind != "load", kind not in ("load", "store")
@@ -362,8 +375,11 @@ class File:
         if kind not in ACCESSES:
             return []
         values = {f"r{n}": number for n, number in enumerate(registers)}
-        element = values[operands[1] if kind == "load" else operands[0]][1]
+        element = self.pointer(kind, operands, registers)[1]
         old, at = elements[element][0], f"8 at {place(element)}"
+        if kind in LOCKS:
+            change = "cmpxchg 4 at {} 1 expected 0 = {}" if kind == "lock" else "xchg 4 at {} 0 = {}"
+            return [change.format(place(element), old % LOW)]
         if kind == "load":
             return [f"load {at} = {old}"]
         if kind == "store":
@@ -435,6 +451,31 @@ def draw_access(draw):
     if draw.random() < 0.3:
         body += [("load", "r7", "r6")]
     return lines + ([("if_zero", "r6", len(body))] if draw.random() < 0.7 else []) + body
+
+
+def draw_locked(draw):
+    """An access under the lock that is the value's lowest bytes, which is sometimes kept."""
+    body = draw.choice([
+        [("load", "r7", "r6"), ("plus", "r7", LOW // 4), ("store", "r6", "r7")],
+        [("set", "r7", LOW // 4), ("add", "r6", "r7")],
+        [("load", "r7", "r6")],
+    ])
+    body = [("copy", "r1", "r6"), ("lock",), *body]
+    body += [("copy", "r1", "r6"), ("unlock",)] if draw.random() < 0.9 else []
+    lines = pointer_to(draw_key(draw))
+    return lines + ([("if_zero", "r6", len(body))] if draw.random() < 0.9 else []) + body
+
+
+def draw_locked_file(seed, budget):
+    """Two CPUs that take locks, and do other things to the values too."""
+    draw = random.Random(seed)
+    jobs = []
+    for cpu in range(2):
+        lines = update(0, 0, 1) + draw_locked(draw)
+        if draw.random() < 0.5:
+            lines += draw_access(draw) if draw.random() < 0.5 else draw_locked(draw)
+        jobs.append((cpu, Program([*lines, ("copy", "r0", "r7"), ("exit",)]), budget))
+    return File(2, 2, 0, jobs)
 
 
 def draw_program(draw):

@@ -13,9 +13,9 @@ pub struct Expectation {
 }
 
 /// The forms of lines. Pieces are between blanks: `NAME`, `N` and `HEX` are a name, a number and
-/// hex digits, any other is itself. The last six are of version 3 alone, and the two before them of
-/// version 2 too.
-const FORMS: [&str; 18] = [
+/// hex digits, any other is itself. The last eighteen are of version 3 alone, and the two before
+/// them of version 2 too.
+const FORMS: [&str; 30] = [
     "cpus N",
     "seed N",
     "map NAME key N value N max N spare N",
@@ -34,6 +34,18 @@ const FORMS: [&str; 18] = [
     "array NAME value N max N percpu frozen",
     "data NAME N HEX",
     "var NAME NAME N N",
+    "job N NAME time N",
+    "job N NAME random N",
+    "job N NAME time N random N",
+    "job N NAME budget N time N",
+    "job N NAME budget N random N",
+    "job N NAME budget N time N random N",
+    "job N NAME ctx HEX time N",
+    "job N NAME ctx HEX random N",
+    "job N NAME ctx HEX time N random N",
+    "job N NAME budget N ctx HEX time N",
+    "job N NAME budget N ctx HEX random N",
+    "job N NAME budget N ctx HEX time N random N",
 ];
 
 /// How many forms version 1 has.

@@ -476,7 +476,7 @@ pub fn hint_of_program(code: Code) -> Option<&'static str> {
         Code::E11 => Some("end it by `exit`, or by a `goto`"),
         Code::E12 => {
             Some(
-                "helpers are 1 or `lookup`, 2 or `update`, 3 or `delete`, and 8 or `cpu`; `call NAME` calls a function",
+                "of maps helpers are 1 or `lookup`, 2 or `update`, 3 or `delete`; `ebpf explain E12` names the others; `call NAME` calls a function",
             )
         }
         Code::E13 => Some("the lines `map` of a run file give maps, which count from 0"),

@@ -13,7 +13,7 @@ use Rattle.bpf_loader.specs.Loaded.{Loaded}
 use Rattle.bpf_loader.specs.Laws.{OneInstructionBegins}
 use Rattle.bpf_loader.specs.Places.{Begins}
 use Rattle.bpf_mem.specs.Laws.{WritesAreDetermined}
-use Rattle.bpf_helpers.specs.Calls.{processor_number}
+use Rattle.bpf_helpers.specs.Given.{AsksOnce}
 use Rattle.bpf_cpu.specs.declared.cpu.Cpu.{Cpu}
 use Rattle.bpf_cpu.specs.declared.outcome.Outcome.{Outcome}
 use Rattle.bpf_cpu.specs.declared.outcome.Progress.{Progress}
@@ -53,7 +53,7 @@ one_program p q e = cc
 module _ (h : Shape) (is_shape : IsShape h) (bare : h.maps ≡ []) where
   -- the state holds nothing, and from it on calls read outside of values
   abbrev IsGood : Loaded → Cpu → Type 0
-  IsGood program state = (state.held ≡ []) × ((steps n : ℕ) (now : Cpu) → LeadsInSteps h program steps state now → Begins program.instructions now.pc (CallHelper n) → (n ≡ processor_number) ⊎ ReadsOutside h.arrays n now.registers)
+  IsGood program state = (state.held ≡ []) × ((steps n : ℕ) (now : Cpu) → LeadsInSteps h program steps state now → Begins program.instructions now.pc (CallHelper n) → AsksOnce n ⊎ ReadsOutside h.arrays n now.registers)
 
   later : (program : Loaded) (state new : Cpu) (events : List Event) → Step h program state events On new → IsGood program state → new.held ≡ [] → IsGood program new
   later program state new events step good none = (none, λ steps n now leads begins. good.1 (suc steps) n now (inr (events, new, step, leads)) begins)
@@ -79,11 +79,11 @@ module _ (h : Shape) (is_shape : IsShape h) (bare : h.maps ≡ []) where
       single (inr (f, is, leaves)) = (tails e f more [] is, subst LeavesMaps (sym (heads e f more [] is)) leaves)
 
   good_first : (programs : List Loaded) (tasks : List Task) (ends : List Outcome) → All (IsReadWhole h programs) tasks → AreGoodFirst (record { shape = h; programs = programs; tasks = tasks; ends = ends }) IsGood
-  good_first programs tasks ends whole k task context program at waits loaded =
+  good_first programs tasks ends whole k task input program at waits loaded =
       let is = all_at (IsReadWhole h programs) tasks k task whole at in
       let same : is.0 ≡ program = one_program is.0 program (sym is.1 ∙ loaded) in
       let outside : AllReadOutside h program = subst (AllReadOutside h) same is.2 in
-      (refl, λ steps n now leads begins. outside task.cpu steps context now n leads begins)
+      (refl, λ steps n now leads begins. outside task.cpu steps input now n leads begins)
 
 module _ (law : WritesAreDetermined) (begins : OneInstructionBegins) (replies : CallsHaveOneReply) (sound : LegalIsSound)
     (h : Shape) (programs : List Loaded) (tasks : List Task) (ends : List Outcome) (lists : ℕ → List (List (List ℕ))) (history : List Entry) (last : Plain) (w : World)

@@ -6,6 +6,8 @@ use Rattle.bpf_insn.specs.declared.instruction.Insn.TheVariants.{CallHelper}
 use Rattle.bpf_shared.specs.declared.shapes.ArrayShape.{ArrayShape}
 use Rattle.bpf_shared.specs.declared.shapes.MapShape.{MapShape}
 use Rattle.bpf_shared.specs.Shape.{IsMap, IsMapShape, IsArray, IsArrayShape, contents_of, copy_size}
+use Rattle.bpf_cpu.specs.declared.input.Input.{Input}
+use Rattle.bpf_cpu.specs.Input.{no_input}
 use Rattle.bpf_cpu.specs.Task.{Task, Waiting}
 use Rattle.bpf_threads.specs.Outside.{AllReadOutside}
 use Rattle.bpf_threads.specs.Threads.{IsReadWhole}
@@ -27,7 +29,7 @@ no_call (i ∷ is) [] after n none e = let first : i ≡ CallHelper n = cc in le
 no_call (i ∷ is) (b ∷ before) after n none e = let rest : is ≡ before ++ CallHelper n ∷ after = cc in no_call is before after n none.1 rest
 
 reads : AllReadOutside one_array stores_and_loads
-reads number steps context now helper leads begins = absurd (no_call stores_and_loads.instructions begins.before begins.after helper (refl, (refl, (refl, (refl, tt)))) begins.parts)
+reads number steps input now helper leads begins = absurd (no_call stores_and_loads.instructions begins.before begins.after helper (refl, (refl, (refl, (refl, tt)))) begins.parts)
 
 -- ---- sizes
 no_map : (m : ℕ) (h : MapShape) → IsMap [] m h → IsMapShape h
@@ -49,12 +51,12 @@ sizes (suc a) g at = absurd (nothing g at)
     nothing g e = cc
 
 -- ---- jobs
-waits : (j : ℕ) (task : Task) → slice_get (job_on 0 ∷ job_on 1 ∷ []) j ≡ Some task → (context : List ℕ) × (task.stage ≡ Waiting context) × (length context ≤ 4096)
-waits zero task at = ([], (ap (λ (t : Task). t.stage) (same (job_on 0) task at)), omega arith)
+waits : (j : ℕ) (task : Task) → slice_get (job_on 0 ∷ job_on 1 ∷ []) j ≡ Some task → (input : Input) × (task.stage ≡ Waiting input) × (length input.context ≤ 4096)
+waits zero task at = (no_input, (ap (λ (t : Task). t.stage) (same (job_on 0) task at)), omega arith)
   where
     same : (x y : Task) → Some x ≡ Some y → y ≡ x
     same x y e = cc
-waits (suc zero) task at = ([], (ap (λ (t : Task). t.stage) (same (job_on 1) task at)), omega arith)
+waits (suc zero) task at = (no_input, (ap (λ (t : Task). t.stage) (same (job_on 1) task at)), omega arith)
   where
     same : (x y : Task) → Some x ≡ Some y → y ≡ x
     same x y e = cc

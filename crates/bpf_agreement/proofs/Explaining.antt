@@ -7,13 +7,14 @@ use Rattle.bpf_shared.specs.declared.events.Event.TheVariants.{Begin, End}
 use Rattle.bpf_shared.specs.Own.{turns_of}
 use Rattle.bpf_shared.proofs.Chains.{turns_of-append}
 use Rattle.bpf_cpu.specs.declared.cpu.Cpu.{Cpu}
+use Rattle.bpf_cpu.specs.declared.input.Input.{Input}
 use Rattle.bpf_cpu.specs.declared.outcome.Fault.TheVariants.{Worn}
 use Rattle.bpf_cpu.specs.declared.outcome.Outcome.{Outcome}
 use Rattle.bpf_cpu.specs.declared.outcome.Outcome.TheVariants.{Fault}
 use Rattle.bpf_cpu.specs.State.{start}
 use Rattle.bpf_cpu.specs.Step.{MakesSteps}
 use Rattle.bpf_cpu.specs.Task.{Task, Stage, Waiting}
-use Rattle.bpf_sched.specs.Explained.{ExplainsJob, ExplainsJobs, IsWorn, ends_of, jobs_of, waiting_context}
+use Rattle.bpf_sched.specs.Explained.{ExplainsJob, ExplainsJobs, IsWorn, ends_of, jobs_of, waiting_input}
 use Rattle.bpf_agreement.proofs.Standing.{Given, HasRun, HasRuns}
 use Rattle.bpf_agreement.proofs.StepEvents.{steps_inside}
 
@@ -44,13 +45,13 @@ run_turns steps none =
     let sum : turns_of (steps ++ End ∷ []) + 1 ≡ 2 = omega (arith, all, none, last) in
     sum
 
-context_of : (stage : Stage) (context : List ℕ) → stage ≡ Waiting context → waiting_context stage ≡ context
-context_of stage context is = ap waiting_context is
+input_of : (stage : Stage) (input : Input) → stage ≡ Waiting input → waiting_input stage ≡ input
+input_of stage input is = ap waiting_input is
 
 module _ (g : Given) (c : ℕ) where
   -- each of these jobs waits
   abbrev AreWaiting : List Task → Type 0
-  AreWaiting tasks = (k : ℕ) (task : Task) → slice_get tasks k ≡ Some task → (context : List ℕ) × (task.stage ≡ Waiting context)
+  AreWaiting tasks = (k : ℕ) (task : Task) → slice_get tasks k ≡ Some task → (input : Input) × (task.stage ≡ Waiting input)
 
   abbrev Explain : List Event → List Task → List Outcome → List Event → Type 0
   Explain before tasks ends events = ExplainsJobs g.shape 0 g.programs before tasks ends [] events
@@ -61,33 +62,33 @@ module _ (g : Given) (c : ℕ) where
       subst (λ (n : ℕ). n + 2 * jobs < 2 ^ 63) (sym sum) (one_less (turns_of before) jobs few)
 
   -- a job that is the CPU's: it had its run, since the run counter isn't worn
-  own_run : (task : Task) (end : Outcome) (before mine : List Event) (jobs : ℕ) → turns_of before + 2 * suc jobs < 2 ^ 63 → (context : List ℕ) → task.stage ≡ Waiting context → ExplainsJob g.shape 0 g.programs task end before mine
+  own_run : (task : Task) (end : Outcome) (before mine : List Event) (jobs : ℕ) → turns_of before + 2 * suc jobs < 2 ^ 63 → (input : Input) → task.stage ≡ Waiting input → ExplainsJob g.shape 0 g.programs task end before mine
       → (rest events : List Event) → events ≡ mine ++ rest → HasRun g task end events rest × (turns_of mine ≡ 2)
-  own_run task end before mine jobs few context waits job rest events is = from job.explained
+  own_run task end before mine jobs few input waits job rest events is = from job.explained
     where
-      from : ((steps : List Event) × (last : Cpu) × (mine ≡ Begin ∷ (steps ++ End ∷ [])) × MakesSteps g.shape job.program task.budget (start task.cpu (waiting_context task.stage)) steps end last) ⊎ ((mine ≡ []) × (end ≡ Fault Worn 0) × IsWorn 0 before) → HasRun g task end events rest × (turns_of mine ≡ 2)
+      from : ((steps : List Event) × (last : Cpu) × (mine ≡ Begin ∷ (steps ++ End ∷ [])) × MakesSteps g.shape job.program task.budget (start task.cpu (waiting_input task.stage)) steps end last) ⊎ ((mine ≡ []) × (end ≡ Fault Worn 0) × IsWorn 0 before) → HasRun g task end events rest × (turns_of mine ≡ 2)
       from (inl (steps, last, made, makes)) = (
         record {
-          context = context;
+          input = input;
           waits = waits;
           program = job.program;
           loaded = job.listed;
           steps = steps;
           last = last;
-          makes = subst (λ (bytes : List ℕ). MakesSteps g.shape job.program task.budget (start task.cpu bytes) steps end last) (context_of task.stage context waits) makes;
+          makes = subst (λ (i : Input). MakesSteps g.shape job.program task.budget (start task.cpu i) steps end last) (input_of task.stage input waits) makes;
           is = is ∙ ap (λ (es : List Event). es ++ rest) made ∙ ap (λ (es : List Event). Begin ∷ es) (append_assoc steps (End ∷ []) rest);
         },
-        ap turns_of made ∙ run_turns steps (steps_inside g.shape job.program task.budget (start task.cpu (waiting_context task.stage)) steps end last makes),
+        ap turns_of made ∙ run_turns steps (steps_inside g.shape job.program task.budget (start task.cpu (waiting_input task.stage)) steps end last makes),
       )
       from (inr worn) = absurd (far (turns_of before) (suc jobs) few worn.2)
 
   -- one job and what is so of the others
-  one : (task : Task) (tasks : List Task) (end : Outcome) (ends : List Outcome) (before events : List Event) → ((context : List ℕ) × (task.stage ≡ Waiting context)) → turns_of before + 2 * suc (length tasks) < 2 ^ 63
+  one : (task : Task) (tasks : List Task) (end : Outcome) (ends : List Outcome) (before events : List Event) → ((input : Input) × (task.stage ≡ Waiting input)) → turns_of before + 2 * suc (length tasks) < 2 ^ 63
       → ((so_far later : List Event) → turns_of so_far + 2 * length tasks < 2 ^ 63 → Explain so_far (jobs_of c tasks) (ends_of c tasks ends) later → HasRuns g c tasks ends later)
       → (b : Bool) → (task.cpu == c) ≡ b → Explain before (cond b (task ∷ jobs_of c tasks) (jobs_of c tasks)) (if b then end ∷ ends_of c tasks ends else ends_of c tasks ends) events → HasRuns g c (task ∷ tasks) (end ∷ ends) events
-  one task tasks end ends before events (context, waits) few others true its (mine, rest, is, job, more) =
+  one task tasks end ends before events (input, waits) few others true its (mine, rest, is, job, more) =
       let of : task.cpu ≡ c = grind (arith, nat_tests) in
-      let run = own_run task end before mine (length tasks) few context waits job rest events is in
+      let run = own_run task end before mine (length tasks) few input waits job rest events is in
       inl (of, (rest, run.0, others (before ++ mine) rest (more_turns before mine (length tasks) run.1 few) more))
   one task tasks end ends before events wait few others false other is =
       let ne : task.cpu ≢ c = (λ e. let same : (task.cpu == c) ≡ true = eq-eqb task.cpu c e in cc) in

@@ -11,6 +11,7 @@ use Rattle.bpf_shared.specs.History.{events_of}
 use Rattle.bpf_shared.proofs.Puts.{equal_or_not, put-same, put-other}
 use Rattle.bpf_loader.specs.Loaded.{Loaded}
 use Rattle.bpf_cpu.specs.declared.cpu.Cpu.{Cpu}
+use Rattle.bpf_cpu.specs.declared.input.Input.{Input}
 use Rattle.bpf_cpu.specs.declared.outcome.Outcome.{Outcome}
 use Rattle.bpf_cpu.specs.State.{start}
 use Rattle.bpf_cpu.specs.Task.{Stage, Task, Waiting, InHand, Ended}
@@ -52,11 +53,11 @@ below_last k j h ne = omega arith
 in_hand_not_ended : (state : Cpu) (left : ℕ) (end : Outcome) → InHand state left ≡ Ended end → ⊥
 in_hand_not_ended state left end e = cc
 
-in_hand_not_waiting : (state : Cpu) (left : ℕ) (context : List ℕ) → InHand state left ≡ Waiting context → ⊥
-in_hand_not_waiting state left context e = cc
+in_hand_not_waiting : (state : Cpu) (left : ℕ) (input : Input) → InHand state left ≡ Waiting input → ⊥
+in_hand_not_waiting state left input e = cc
 
-waiting_not_ended : (context : List ℕ) (end : Outcome) → Waiting context ≡ Ended end → ⊥
-waiting_not_ended context end e = cc
+waiting_not_ended : (input : Input) (end : Outcome) → Waiting input ≡ Ended end → ⊥
+waiting_not_ended input end e = cc
 
 some_same : {A : Type 0} (x y : A) → Some x ≡ Some y → x ≡ y
 some_same x y e = cc
@@ -86,7 +87,7 @@ pub record IsReady (g : Given) (c j : ℕ) (task : Task) (state : Cpu) (left : �
 -- ---- what a CPU has that is to go on
 -- each job waits at first
 abbrev pub AllWait : Given → Type 0
-AllWait g = (k : ℕ) (task : Task) → slice_get g.tasks k ≡ Some task → (context : List ℕ) × (task.stage ≡ Waiting context)
+AllWait g = (k : ℕ) (task : Task) → slice_get g.tasks k ≡ Some task → (input : Input) × (task.stage ≡ Waiting input)
 
 stage_of : (z : World) (k : ℕ) (one other : Task) (was now : Stage) → slice_get z.jobs k ≡ Some one → slice_get z.jobs k ≡ Some other → one.stage ≡ was → other.stage ≡ now → was ≡ now
 stage_of z k one other was now a b p q = sym p ∙ ap (λ (t : Task). t.stage) (some_same one other (sym a ∙ b)) ∙ q
@@ -106,13 +107,13 @@ idle_free g z c j wait cpus idle k task state left at =
     ]
 
 pub idle_lowest : (g : Given) (z : World) (c j : ℕ) → HaveCpus g z → IsIdle g z c j → NoneWaitsBelow z.jobs c j
-idle_lowest g z c j cpus idle k task context less at =
+idle_lowest g z c j cpus idle k task input less at =
     let first = cpus k task at.listed in
     let e = idle.ended k first.0 less first.1 (sym first.2 ∙ at.of) in
-    waiting_not_ended context e.0 (stage_of z k task (record first.0 { stage = Ended e.0 }) (Waiting context) (Ended e.0) at.listed e.2 at.at refl)
+    waiting_not_ended input e.0 (stage_of z k task (record first.0 { stage = Ended e.0 }) (Waiting input) (Ended e.0) at.listed e.2 at.at refl)
 
 pub begun_ready : (g : Given) (Good : Loaded → Cpu → Type 0) (w : World) (c : ℕ) (log : List Entry) (s : Plain) (z : World) (events : List Event) → AllWait g → c < g.shape.cpus → Beside g Good w log s z
-    → (b : HasBegun g Good c s z events) → IsReady g c b.job b.task (start c b.context) b.task.budget s z
+    → (b : HasBegun g Good c s z events) → IsReady g c b.job b.task (start c b.input) b.task.budget s z
 begun_ready g Good w c log s z events wait inside both b =
     let there = b.idle.waits b.job b.task (self_from b.job) b.run.listed b.run.of in
     let cpus : c < z.store.shape.cpus = subst (λ (h : Shape). c < h.cpus) (sym (ap (λ (x : Plain). x.shape) both.like ∙ both.shape)) inside in
@@ -123,7 +124,7 @@ begun_ready g Good w c log s z events wait inside both b =
       store = after_begin z.store c;
       next = inr (record {
         free = idle_free g z c b.job wait both.cpus b.idle;
-        context = b.context;
+        input = b.input;
         at = record { listed = there; of = b.run.of; at = b.waits };
         lowest = idle_lowest g z c b.job both.cpus b.idle;
         begun = ((cpus, b.idle.runs, refl), tt);

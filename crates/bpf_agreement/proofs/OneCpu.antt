@@ -256,14 +256,14 @@ module _ (g : Given) (bare : g.shape.maps ≡ []) (w : World) (c : ℕ) (inside 
       let s : Plain = after_begin z.store c in
       let at : slice_get z.jobs j ≡ Some task = idle.waits j task (self_from j) listed of in
       let in_run : s.running c ≡ true = put-same z.store.running c c true refl in
-      let ready : IsReady g c j task (start c run.context) task.budget s z = record {
+      let ready : IsReady g c j task (start c run.input) task.budget s z = record {
         now = task;
         listed = at;
         same = refl;
         store = s;
         next = inr (record {
           free = idle_free g z c j wait sits.cpus idle;
-          context = run.context;
+          input = run.input;
           at = record { listed = at; of = of; at = run.waits };
           lowest = idle_lowest g z c j sits.cpus idle;
           begun = ((subst (λ (h : Shape). c < h.cpus) (sym shape) inside, idle.runs, refl), tt);
@@ -279,8 +279,8 @@ module _ (g : Given) (bare : g.shape.maps ≡ []) (w : World) (c : ℕ) (inside 
         ended = idle.ended;
         waits = λ k one from there its. idle.waits k one (later_from j k from) there its;
       } in
-      let makes = subst (λ (k : ℕ). MakesSteps g.shape run.program task.budget (start k run.context) run.steps end run.last) of run.makes in
-      steps_lead g bare w c j task listed of end ends run.program run.loaded rest last task.budget (start c run.context) run.steps s z sits ready refl shape run.last makes
+      let makes = subst (λ (k : ℕ). MakesSteps g.shape run.program task.budget (start k run.input) run.steps end run.last) of run.makes in
+      steps_lead g bare w c j task listed of end ends run.program run.loaded rest last task.budget (start c run.input) run.steps s z sits ready refl shape run.last makes
       (subst (λ (x : Plain). Own c x (run.steps ++ End ∷ rest) last) l.1.2 l.2)
 
   jobs_lead : (tasks : List Task) (ends : List Outcome) (j : ℕ) (events : List Event) (z : World) → ((i : ℕ) → slice_get tasks i ≡ slice_get g.tasks (j + i)) → ((i : ℕ) → slice_get ends i ≡ slice_get g.ends (j + i))

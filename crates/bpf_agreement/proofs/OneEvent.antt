@@ -18,13 +18,16 @@ use Rattle.bpf_mem.specs.declared.memory.PrivateMemory.{PrivateMemory}
 use Rattle.bpf_mem.specs.Memory.{bytes_at}
 use Rattle.bpf_helpers.specs.declared.fault.HelperFault.{HelperFault}
 use Rattle.bpf_helpers.specs.Arrays.{IsInArray, area_of, copies, parts_of, array_refusal}
-use Rattle.bpf_helpers.specs.Calls.{CallsHelper, CallsArray, IsMapAt, IsArrayAt, StopsAtKey, Answers, copy_for, processor_number}
+use Rattle.bpf_helpers.specs.Calls.{CallsHelper, CallsArray, IsMapAt, IsArrayAt, StopsAtKey, Answers, copy_for}
+use Rattle.bpf_helpers.specs.Given.{AsksOnce}
+use Rattle.bpf_helpers.proofs.Answering.{map_asks}
 use Rattle.bpf_helpers.specs.Held.{reaches}
 use Rattle.bpf_helpers.specs.Reads.{no_loads, AreReached, ReadsIndex}
 use Rattle.bpf_loader.specs.Loaded.{Loaded}
 use Rattle.bpf_loader.specs.Places.{Begins}
 use Rattle.bpf_cpu.specs.declared.cpu.Cpu.{Cpu}
 use Rattle.bpf_cpu.specs.declared.outcome.Progress.{Progress}
+use Rattle.bpf_cpu.specs.Helping.{tried}
 use Rattle.bpf_cpu.specs.Row.{TakesResult}
 use Rattle.bpf_cpu.specs.Step.{Step, Executes}
 use Rattle.bpf_cpu.specs.Values.{AsksValue}
@@ -133,23 +136,18 @@ module _ (shape : Shape) (is_shape : IsShape shape) (bare : shape.maps ≡ []) (
   one_array cpu a g n events result after at outside (inr (inr (is, inl stops))) = one_stop events result after stops
   one_array cpu a g n events result after at outside (inr (inr (is, inr r))) = (inl r.2, r.4)
 
-  one_call : (n cpu : ℕ) (events : List Event) (result : Result ℕ HelperFault) (after : List Span) → (n ≡ processor_number) ⊎ ReadsOutside shape.arrays n registers
+  one_call : (n cpu : ℕ) (events : List Event) (result : Result ℕ HelperFault) (after : List Span) → AsksOnce n ⊎ ReadsOutside shape.arrays n registers
       → CallsHelper shape n cpu registers memory held events result after → IsOne events × (after ≡ held)
   one_call n cpu events result after outside (inl r) = (inl r.1, r.3)
   one_call n cpu events result after outside (inr (inl r)) = (inl r.3.0, r.3.2)
   one_call n cpu events result after outside (inr (inr (inl r))) = absurd (no_map r.0 r.1 r.2)
   one_call n cpu events result after (inr outside) (inr (inr (inr r))) = one_array cpu r.0 r.1 n events result after r.2 outside r.4
-  one_call n cpu events result after (inl is) (inr (inr (inr r))) = absurd (not_processor r.4)
+  one_call n cpu events result after (inl is) (inr (inr (inr r))) = absurd (not_quiet r.4)
     where
-      three : (n ≡ 1) ⊎ (n ≡ 2) ⊎ (n ≡ 3) → n ≡ 8 → ⊥
-      three (inl e) same = omega arith
-      three (inr (inl e)) same = omega arith
-      three (inr (inr e)) same = omega arith
-
-      not_processor : CallsArray shape memory registers held cpu r.0 r.1 n events result after → ⊥
-      not_processor (inl c) = three (inl c.0) is
-      not_processor (inr (inl c)) = three (inr (inl c.0)) is
-      not_processor (inr (inr c)) = three (inr (inr c.0)) is
+      not_quiet : CallsArray shape memory registers held cpu r.0 r.1 n events result after → ⊥
+      not_quiet (inl c) = map_asks n (inl c.0) is
+      not_quiet (inr (inl c)) = map_asks n (inr (inl c.0)) is
+      not_quiet (inr (inr c)) = map_asks n (inr (inr c.0)) is
 
 -- ---- rows
 module _ (shape : Shape) (old new : Cpu) (events : List Event) (progress : Progress) where
@@ -173,16 +171,25 @@ module _ (shape : Shape) (old new : Cpu) (events : List Event) (progress : Progr
   one_value (insn.Atomic w op b o s) (inr r) = (inr (Atomic _ _ _ _ _ r.1.0, r.1.1, tt), made _ r.1.3 refl)
   one_value i row = absurd row
 
-  one_row : IsShape shape → shape.maps ≡ [] → old.held ≡ [] → (i : Insn) → ((n : ℕ) → i ≡ CallHelper n → (n ≡ processor_number) ⊎ ReadsOutside shape.arrays n old.registers) → Executes shape i old events progress new → IsOne events × (new.held ≡ old.held)
+  tried_held : (x : ℕ) → (tried old x).held ≡ old.held
+  tried_held zero = refl
+  tried_held (suc x) = refl
+
+  one_row : IsShape shape → shape.maps ≡ [] → old.held ≡ [] → (i : Insn) → ((n : ℕ) → i ≡ CallHelper n → AsksOnce n ⊎ ReadsOutside shape.arrays n old.registers) → Executes shape i old events progress new → IsOne events × (new.held ≡ old.held)
   one_row is_shape bare none i outside (inl r) = (inl r.1, held-quiet old new progress i r.2)
-  one_row is_shape bare none i outside (inr (inl (n, is, (result, after, calls, takes)))) =
+  one_row is_shape bare none i outside (inr (inl (n, is, inl (helper, (result, after, calls, takes))))) =
       let one = one_call shape is_shape bare old.memory old.registers old.held none n old.number events result after (outside n is) calls in
       (one.0, taken result after one.1 takes)
+  one_row is_shape bare none i outside (inr (inl (n, is, inr (inl asks)))) = (inl asks.3, made _ asks.5 refl)
+  one_row is_shape bare none i outside (inr (inl (n, is, inr (inr (inl (lock, inl refused)))))) = (inl refused.2, made _ refused.3.1 refl)
+  one_row is_shape bare none i outside (inr (inl (n, is, inr (inr (inl (lock, inr r)))))) = (inr (Atomic _ _ _ _ _ r.1.0, r.1.1, tt), made _ r.1.3 (tried_held r.1.0))
+  one_row is_shape bare none i outside (inr (inl (n, is, inr (inr (inr (lock, inl refused)))))) = (inl refused.2, made _ refused.3.1 refl)
+  one_row is_shape bare none i outside (inr (inl (n, is, inr (inr (inr (lock, inr r)))))) = (inr (Atomic _ _ _ _ _ r.1.0, r.1.1, tt), made _ r.1.3 refl)
   one_row is_shape bare none i outside (inr (inr r)) = one_value i r.1
 
 -- a step, where nothing is held
 pub one_step : (shape : Shape) → IsShape shape → shape.maps ≡ [] → (program : Loaded) (old new : Cpu) (events : List Event) (progress : Progress) → old.held ≡ []
-    → ((n : ℕ) → Begins program.instructions old.pc (CallHelper n) → (n ≡ processor_number) ⊎ ReadsOutside shape.arrays n old.registers)
+    → ((n : ℕ) → Begins program.instructions old.pc (CallHelper n) → AsksOnce n ⊎ ReadsOutside shape.arrays n old.registers)
     → Step shape program old events progress new → IsOne events × (new.held ≡ [])
 one_step shape is_shape bare program old new events progress none outside step =
     let one = one_row shape old new events progress is_shape bare none step.instruction (λ n is. outside n (subst (λ (i : Insn). Begins program.instructions old.pc i) is step.begins)) step.row in

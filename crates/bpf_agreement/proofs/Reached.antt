@@ -96,7 +96,7 @@ module _ (law : WritesAreDetermined) (begins : OneInstructionBegins) (replies : 
     next_sound z c j task state left s world (inl (at, same)) = (subst IsSoundStore (sym same) world.store, world.memory c j task state left at)
     next_sound z c j task state left s world (inr b) = (
       allowed_sound z.store s c Begin world.store b.begun.0,
-      subst (λ (from : Cpu). IsMemory from.memory) (sym b.fresh) (start_memory c b.context (world.short c j task b.context b.at)),
+      subst (λ (from : Cpu). IsMemory from.memory) (sym b.fresh) (start_memory c b.input (world.short c j task b.input b.at)),
     )
 
     calm : (h : Shape) → AreCalm h Any_state w
@@ -113,4 +113,4 @@ module _ (law : WritesAreDetermined) (begins : OneInstructionBegins) (replies : 
 pub calm_histories_are_schedules : WritesAreDetermined → OneInstructionBegins → CallsHaveOneReply → LegalIsSound → CalmHistoriesAreSchedules
 calm_histories_are_schedules law begins replies sound h programs tasks ends lists history last w shape few is fresh steps explained legal =
     leads_too law begins replies sound h programs tasks ends lists history last w is.store is.programs is.jobs shape fresh few explained legal Any_state
-    (λ k task context program at waits loaded. tt) (λ program state mid good step. tt) (calm law begins replies w fresh steps h)
+    (λ k task input program at waits loaded. tt) (λ program state mid good step. tt) (calm law begins replies w fresh steps h)

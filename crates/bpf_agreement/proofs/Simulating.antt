@@ -11,6 +11,7 @@ use Rattle.bpf_shared.specs.History.{Legal, events_of}
 use Rattle.bpf_shared.proofs.Puts.{equal_or_not, put-same, put-other}
 use Rattle.bpf_loader.specs.Loaded.{Loaded}
 use Rattle.bpf_cpu.specs.declared.cpu.Cpu.{Cpu}
+use Rattle.bpf_cpu.specs.declared.input.Input.{Input}
 use Rattle.bpf_cpu.specs.declared.outcome.Outcome.{Outcome}
 use Rattle.bpf_cpu.specs.State.{start}
 use Rattle.bpf_cpu.specs.Step.{MakesSteps}
@@ -39,8 +40,8 @@ same_task one other e = cc
 
 -- what a job's first state is known to be
 abbrev pub AreGoodFirst : Given → (Loaded → Cpu → Type 0) → Type 0
-AreGoodFirst g Good = (k : ℕ) (task : Task) (context : List ℕ) (program : Loaded) → slice_get g.tasks k ≡ Some task → task.stage ≡ Waiting context → slice_get g.programs task.program ≡ Some program
-    → Good program (start task.cpu context)
+AreGoodFirst g Good = (k : ℕ) (task : Task) (input : Input) (program : Loaded) → slice_get g.tasks k ≡ Some task → task.stage ≡ Waiting input → slice_get g.programs task.program ≡ Some program
+    → Good program (start task.cpu input)
 
 module _ (g : Given) (Good : Loaded → Cpu → Type 0) (w : World) (wait : AllWait g) (first : AreGoodFirst g Good) (up : IsKeptUp g.shape Good) (calm : AreCalm g.shape Good w) where
   module _ (c : ℕ) (s m : Plain) (z : World) (x : Entry) (xs : List Entry) (here : x.cpu ≡ c) (inside : c < g.shape.cpus) (b : Beside g Good w (x ∷ xs) s z) (allowed : Allowed s c x.event m) where
@@ -54,17 +55,17 @@ module _ (g : Given) (Good : Loaded → Cpu → Type 0) (w : World) (wait : AllW
         let is_begin : x.event ≡ Begin = heads x.event Begin (events_of c xs) (run.steps ++ End ∷ rest) run.is in
         let began : Allowed s c Begin m = subst (λ (e : Event). Allowed s c e m) is_begin allowed in
         let listed : slice_get g.tasks j ≡ Some task = ap (λ (i : ℕ). slice_get g.tasks i) (sym (first_place j)) ∙ sym (jobs 0) in
-        let run' : IsInRun g Good c j task (start c run.context) task.budget (events_of c xs) = record {
+        let run' : IsInRun g Good c j task (start c run.input) task.budget (events_of c xs) = record {
           listed = listed;
           of = of;
           end = end;
           ends = ap (λ (i : ℕ). slice_get g.ends i) (sym (first_place j)) ∙ sym (outcomes 0);
           program = run.program;
           loaded = run.loaded;
-          good = subst (λ (k : ℕ). Good run.program (start k run.context)) of (first j task run.context run.program listed run.waits run.loaded);
+          good = subst (λ (k : ℕ). Good run.program (start k run.input)) of (first j task run.input run.program listed run.waits run.loaded);
           steps = run.steps;
           last = run.last;
-          makes = subst (λ (k : ℕ). MakesSteps g.shape run.program task.budget (start k run.context) run.steps end run.last) of run.makes;
+          makes = subst (λ (k : ℕ). MakesSteps g.shape run.program task.budget (start k run.input) run.steps end run.last) of run.makes;
           rest = rest;
           is = tails x.event Begin (events_of c xs) (run.steps ++ End ∷ rest) run.is;
           more = record {
@@ -78,7 +79,7 @@ module _ (g : Given) (Good : Loaded → Cpu → Type 0) (w : World) (wait : AllW
         let own : Standing g Good c (after_begin s c) z (events_of c xs) = Begun (record {
           job = j;
           task = task;
-          context = run.context;
+          input = run.input;
           waits = run.waits;
           runs = put-same s.running c c true refl;
           holds = put-same s.held c c never refl;
@@ -125,7 +126,7 @@ module _ (g : Given) (Good : Loaded → Cpu → Type 0) (w : World) (wait : AllW
     one_event : Standing g Good c s z (x.event ∷ events_of c xs) → (y : World) × Beside g Good w xs m y
     one_event (Between i) = begins i.more.tasks i.more.ends i.job i.more.jobs i.more.outcomes i.idle i.more.runs
     one_event (Begun i) =
-        goes g Good w up calm i.task.budget c i.job i.task (start c i.context) s m z x xs here inside b (begun_ready g Good w c (x ∷ xs) s z (x.event ∷ events_of c xs) wait inside b i) i.run allowed
+        goes g Good w up calm i.task.budget c i.job i.task (start c i.input) s m z x xs here inside b (begun_ready g Good w c (x ∷ xs) s z (x.event ∷ events_of c xs) wait inside b i) i.run allowed
     one_event (Going i) =
         goes g Good w up calm i.left c i.job i.task i.state s m z x xs here inside b (going_ready g Good w c (x ∷ xs) s z (x.event ∷ events_of c xs) b i) i.run allowed
     one_event (Over i) = ends_later i

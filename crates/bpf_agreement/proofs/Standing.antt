@@ -8,6 +8,7 @@ use Rattle.bpf_shared.specs.Shape.{Shape}
 use Rattle.bpf_shared.specs.Store.{Plain, never}
 use Rattle.bpf_shared.specs.History.{events_of}
 use Rattle.bpf_loader.specs.Loaded.{Loaded}
+use Rattle.bpf_cpu.specs.declared.input.Input.{Input}
 use Rattle.bpf_cpu.specs.declared.cpu.Cpu.{Cpu}
 use Rattle.bpf_cpu.specs.declared.outcome.Outcome.{Outcome}
 use Rattle.bpf_cpu.specs.State.{start}
@@ -27,13 +28,13 @@ pub record Given : Type 0 where
 
 -- a run of this job, from its begin to its end, and then the rest
 pub record HasRun (g : Given) (task : Task) (end : Outcome) (events rest : List Event) : Type 0 where
-  pub context : List ℕ
-  pub waits : task.stage ≡ Waiting context
+  pub input : Input
+  pub waits : task.stage ≡ Waiting input
   pub program : Loaded
   pub loaded : slice_get g.programs task.program ≡ Some program
   pub steps : List Event
   pub last : Cpu
-  pub makes : MakesSteps g.shape program task.budget (start task.cpu context) steps end last
+  pub makes : MakesSteps g.shape program task.budget (start task.cpu input) steps end last
   pub is : events ≡ Begin ∷ (steps ++ End ∷ rest)
 
 -- those of these jobs that are the CPU's, one after the other
@@ -99,12 +100,12 @@ pub record IsBetween (g : Given) (c : ℕ) (s : Plain) (z : World) (events : Lis
 pub record HasBegun (g : Given) (Good : Loaded → Cpu → Type 0) (c : ℕ) (s : Plain) (z : World) (events : List Event) : Type 0 where
   pub job : ℕ
   pub task : Task
-  pub context : List ℕ
-  pub waits : task.stage ≡ Waiting context
+  pub input : Input
+  pub waits : task.stage ≡ Waiting input
   pub runs : s.running c ≡ true
   pub holds : s.held c ≡ never
   pub idle : IsIdle g z c job
-  pub run : IsInRun g Good c job task (start c context) task.budget events
+  pub run : IsInRun g Good c job task (start c input) task.budget events
 
 -- it has a job in hand, and is in a run in both
 pub record IsGoing (g : Given) (Good : Loaded → Cpu → Type 0) (c : ℕ) (s : Plain) (z : World) (events : List Event) : Type 0 where
@@ -159,7 +160,7 @@ module _ (g : Given) (Good : Loaded → Cpu → Type 0) (d : ℕ) (s m : Plain) 
   stands_still events (Begun b) = Begun (record {
     job = b.job;
     task = b.task;
-    context = b.context;
+    input = b.input;
     waits = b.waits;
     runs = u.ran ∙ b.runs;
     holds = u.held ∙ b.holds;

@@ -106,7 +106,12 @@ module _ (shape : Shape) (old new : Cpu) (events : List Event) (progress : Progr
 
   row_inside : (i : Insn) → Executes shape i old events progress new → AreInside events
   row_inside i (inl r) = none_inside events r.1
-  row_inside i (inr (inl (number, is, (result, after, calls, takes)))) = helper_inside shape old.memory old.registers old.held number old.number events result after calls
+  row_inside i (inr (inl (number, is, inr (inl asks)))) = none_inside events asks.3
+  row_inside i (inr (inl (number, is, inr (inr (inl (lock, inl refused)))))) = none_inside events refused.2
+  row_inside i (inr (inl (number, is, inr (inr (inl (lock, inr r)))))) = ap turns_of r.1.1
+  row_inside i (inr (inl (number, is, inr (inr (inr (lock, inl refused)))))) = none_inside events refused.2
+  row_inside i (inr (inl (number, is, inr (inr (inr (lock, inr r)))))) = ap turns_of r.1.1
+  row_inside i (inr (inl (number, is, inl (helper, (result, after, calls, takes))))) = helper_inside shape old.memory old.registers old.held number old.number events result after calls
   row_inside i (inr (inr r)) = value_inside i r.1
 
 pub step_inside : (shape : Shape) (program : Loaded) (old new : Cpu) (events : List Event) (progress : Progress) → Step shape program old events progress new → AreInside events

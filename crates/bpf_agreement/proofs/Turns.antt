@@ -7,6 +7,7 @@ use Rattle.bpf_shared.specs.Choice.{PlainlyAllowed}
 use Rattle.bpf_shared.proofs.Puts.{equal_or_not}
 use Rattle.bpf_loader.specs.Loaded.{Loaded}
 use Rattle.bpf_cpu.specs.declared.cpu.Cpu.{Cpu}
+use Rattle.bpf_cpu.specs.declared.input.Input.{Input}
 use Rattle.bpf_cpu.specs.declared.outcome.Outcome.{Outcome}
 use Rattle.bpf_cpu.specs.State.{start}
 use Rattle.bpf_cpu.specs.Task.{Stage, Task, Waiting, InHand, Ended}
@@ -20,22 +21,22 @@ use Rattle.bpf_agreement.specs.Steps.{IsNextStep}
 
 -- ---- whether some job waits
 waits_later : (t : Task) (ts : List Task) (c : ℕ) → SomeWaits ts c → SomeWaits (t ∷ ts) c
-waits_later t ts c (j, task, context, at) = (suc j, task, context, record { listed = at.listed; of = at.of; at = at.at })
+waits_later t ts c (j, task, input, at) = (suc j, task, input, record { listed = at.listed; of = at.of; at = at.at })
 
-none_more : (t : Task) (ts : List Task) (c : ℕ) → NoneWaits ts c → ((context : List ℕ) → t.cpu ≡ c → t.stage ≡ Waiting context → ⊥) → NoneWaits (t ∷ ts) c
-none_more t ts c none not zero task context at =
+none_more : (t : Task) (ts : List Task) (c : ℕ) → NoneWaits ts c → ((input : Input) → t.cpu ≡ c → t.stage ≡ Waiting input → ⊥) → NoneWaits (t ∷ ts) c
+none_more t ts c none not zero task input at =
     let same : t ≡ task = (let both : Some t ≡ Some task = at.listed in cc) in
-    not context (ap (λ (x : Task). x.cpu) same ∙ at.of) (ap (λ (x : Task). x.stage) same ∙ at.at)
-none_more t ts c none not (suc j) task context at = none j task context (record { listed = at.listed; of = at.of; at = at.at })
+    not input (ap (λ (x : Task). x.cpu) same ∙ at.of) (ap (λ (x : Task). x.stage) same ∙ at.at)
+none_more t ts c none not (suc j) task input at = none j task input (record { listed = at.listed; of = at.of; at = at.at })
 
 first_waits : (t : Task) (ts : List Task) (c : ℕ) → NoneWaits ts c → (stage : Stage) → t.stage ≡ stage → (t.cpu ≡ c) ⊎ (t.cpu ≢ c) → SomeWaits (t ∷ ts) c ⊎ NoneWaits (t ∷ ts) c
-first_waits t ts c none (Waiting context) is (inl of) = inl (zero, t, context, record { listed = refl; of = of; at = is })
-first_waits t ts c none (InHand state left) is of = inr (none_more t ts c none (λ context e waits. let no : InHand state left ≡ Waiting context = sym is ∙ waits in cc))
-first_waits t ts c none (Ended end) is of = inr (none_more t ts c none (λ context e waits. let no : Ended end ≡ Waiting context = sym is ∙ waits in cc))
-first_waits t ts c none stage is (inr ne) = inr (none_more t ts c none (λ context e waits. ne e))
+first_waits t ts c none (Waiting input) is (inl of) = inl (zero, t, input, record { listed = refl; of = of; at = is })
+first_waits t ts c none (InHand state left) is of = inr (none_more t ts c none (λ input e waits. let no : InHand state left ≡ Waiting input = sym is ∙ waits in cc))
+first_waits t ts c none (Ended end) is of = inr (none_more t ts c none (λ input e waits. let no : Ended end ≡ Waiting input = sym is ∙ waits in cc))
+first_waits t ts c none stage is (inr ne) = inr (none_more t ts c none (λ input e waits. ne e))
 
 some_or_none : (jobs : List Task) (c : ℕ) → SomeWaits jobs c ⊎ NoneWaits jobs c
-some_or_none [] c = inr (λ j task context at. let no : None ≡ Some task = at.listed in cc)
+some_or_none [] c = inr (λ j task input at. let no : None ≡ Some task = at.listed in cc)
 some_or_none (t ∷ ts) c = elim (some_or_none ts c) [
   | inl some ↦ inl (waits_later t ts c some)
   | inr none ↦ first_waits t ts c none t.stage refl (equal_or_not t.cpu c)
@@ -54,7 +55,7 @@ goes_takes : (w z : World) (c j : ℕ) (task : Task) (state : Cpu) (left : ℕ) 
 goes_takes w z c j task state left s answer (inl (at, same)) goes = inl (j, task, state, left, at, subst (λ (x : Plain). GoesOn (record w { store = x }) c j task state left answer z) same goes)
 goes_takes w z c j task state left s answer (inr b) goes =
     let G : Cpu → ℕ → Type 0 = λ from n. GoesOn (record w { store = s }) c j task from n answer z in
-    inr (inl (b.free, (j, task, b.context, s, b.at, b.lowest, b.begun, subst (λ (n : ℕ). G (start c b.context) n) b.budget (subst (λ (from : Cpu). G from left) b.fresh goes))))
+    inr (inl (b.free, (j, task, b.input, s, b.at, b.lowest, b.begun, subst (λ (n : ℕ). G (start c b.input) n) b.budget (subst (λ (from : Cpu). G from left) b.fresh goes))))
 
 -- a turn that leaves the job in this stage, and this store
 pub record Turns (w : World) (c j : ℕ) (task : Task) (stage : Stage) (s : Plain) : Type 0 where

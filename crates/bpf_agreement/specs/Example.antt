@@ -6,6 +6,7 @@ use Rattle.bpf_insn.specs.declared.instruction.Insn.TheVariants.{LoadNumber, Sto
 use Rattle.bpf_shared.specs.declared.shapes.ArrayShape.{ArrayShape}
 use Rattle.bpf_shared.specs.Shape.{Shape}
 use Rattle.bpf_loader.specs.Loaded.{Loaded}
+use Rattle.bpf_cpu.specs.Input.{no_input}
 use Rattle.bpf_cpu.specs.Task.{Task, Waiting}
 use Rattle.bpf_agreement.specs.Arrays.{HasArraysAlone}
 
@@ -31,7 +32,7 @@ stores_and_loads = record {
 }
 
 abbrev pub job_on : ℕ → Task
-job_on c = record { cpu = c; program = 0; budget = 4; stage = Waiting [] }
+job_on c = record { cpu = c; program = 0; budget = 4; stage = Waiting no_input }
 
 -- the law says something of it
 abbrev pub IsExample : Type 0

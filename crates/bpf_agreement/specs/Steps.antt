@@ -3,6 +3,7 @@ use Rattle.std.specs.Prelude.{◌≡◌, ℕ, List, ◌⊎◌}
 use Rattle.bpf_shared.specs.declared.events.Event.TheVariants.{Begin}
 use Rattle.bpf_shared.specs.Store.{Plain}
 use Rattle.bpf_shared.specs.Choice.{PlainlyAllowed}
+use Rattle.bpf_cpu.specs.declared.input.Input.{Input}
 use Rattle.bpf_cpu.specs.declared.cpu.Cpu.{Cpu}
 use Rattle.bpf_cpu.specs.State.{start}
 use Rattle.bpf_cpu.specs.Task.{Task, Waiting, InHand}
@@ -14,11 +15,11 @@ use Rattle.bpf_machine.specs.Schedule.{World}
 pub record BeginsWith (w : World) (c j : ℕ) (task : Task) (state : Cpu) (left : ℕ) (s : Plain)
     : Type 0 where
   pub free : IsFree w.jobs c
-  pub context : List ℕ
-  pub at : IsAt w.jobs c j task (Waiting context)
+  pub input : Input
+  pub at : IsAt w.jobs c j task (Waiting input)
   pub lowest : NoneWaitsBelow w.jobs c j
   pub begun : PlainlyAllowed w.store c Begin s
-  pub fresh : state ≡ start c context
+  pub fresh : state ≡ start c input
   pub budget : left ≡ task.budget
 
 -- the CPU's next turn is a step of the j-th job, from this state and with this many steps left, over

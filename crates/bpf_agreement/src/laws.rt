@@ -16,8 +16,9 @@ pub fn histories_are_schedules()
     bpf_shared::laws::legal_is_sound();
 }
 
-/// The same, with hash maps or without, where each step that turns reach is one event at most, and none
-/// asks for a change of a hash map.
+/// With hash maps or without, where each step that turns reach is one event at most, and none asks for
+/// a change of a hash map: the ends that a history explains, and the store that it leads to, are those
+/// of some schedule.
 pub fn calm_histories_are_schedules()
     ensures { CalmHistoriesAreSchedules }
 {

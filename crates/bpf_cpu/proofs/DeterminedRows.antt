@@ -1,5 +1,5 @@
 -- What a row asks the store the replies determine, and so the state that it leaves.
-use Rattle.std.proofs.Common.{◌≡◌, ℕ, ◌+◌, ◌-◌, ◌<◌, Bool, true, false, ℤ, List, [], ◌∷◌, ◌++◌, length, take, Option, Some, None, Result, Ok, Err, inl, inr, refl, sym, ap, subst, ◌∙◌, arith, length-append}
+use Rattle.std.proofs.Common.{◌≡◌, ℕ, zero, suc, ◌+◌, ◌-◌, ◌<◌, Bool, true, false, ℤ, List, [], ◌∷◌, ◌++◌, length, take, Option, Some, None, Result, Ok, Err, inl, inr, refl, sym, ap, subst, ◌∙◌, arith, length-append}
 use Rattle.std.specs.Prelude.{is_some, option_map, slice_index}
 use Rattle.std.proofs.lemmas.List.{length-take-le, length-replicate}
 use Rattle.std.proofs.lemmas.List.Elements.{All-push, All-take}
@@ -8,6 +8,9 @@ use Rattle.std.specs.Int.{w64, cast_unsigned}
 use Rattle.bpf_insn.specs.declared.operation.widths.Width.{Width}
 use Rattle.bpf_insn.specs.declared.operation.atomics.AtomicOp.{AtomicOp}
 use Rattle.bpf_insn.specs.declared.operation.sizes.Size.{Size}
+use Rattle.bpf_insn.specs.declared.operation.sizes.Size.TheVariants.{Word}
+use Rattle.bpf_base.specs.declared.atomic.Change.{Change}
+use Rattle.bpf_base.specs.declared.atomic.Change.TheVariants.{Exchange, CompareExchange}
 use Rattle.bpf_insn.specs.declared.register.Reg.{Reg}
 use Rattle.bpf_insn.specs.declared.instruction.Insn.{Insn}
 use Rattle.bpf_insn.specs.declared.instruction.Insn.TheVariants as insn
@@ -16,6 +19,7 @@ use Rattle.bpf_alu.specs.Comparison.{holds}
 use Rattle.bpf_shared.specs.declared.events.Span.{Span}
 use Rattle.bpf_shared.specs.declared.events.Event.{Event}
 use Rattle.bpf_shared.specs.declared.events.Event.TheVariants as event
+use Rattle.bpf_shared.specs.declared.events.Size.TheVariants as event_size
 use Rattle.bpf_shared.specs.Shape.{Shape}
 use Rattle.bpf_mem.specs.declared.frames.Caller.{Caller}
 use Rattle.bpf_mem.specs.declared.memory.PrivateMemory.{PrivateMemory}
@@ -34,9 +38,11 @@ use Rattle.bpf_cpu.specs.declared.outcome.Progress.TheVariants.{On}
 use Rattle.bpf_cpu.specs.State.{value, operand_value, effective_address, at_pc, caller_of, after_call, after_return, with_register}
 use Rattle.bpf_helpers.specs.declared.fault.HelperFault.{HelperFault}
 use Rattle.bpf_helpers.specs.Laws.{AreAskedAlike}
+use Rattle.bpf_helpers.proofs.Answering.{answers_once, of_job, store_or_job, store_or_lock, job_or_lock}
 use Rattle.bpf_helpers.proofs.Determined.{calls_are_determined}
 use Rattle.bpf_cpu.proofs.Asking.{asks-nothing, asks-one}
-use Rattle.bpf_cpu.specs.Row.{Faults, Quiet, Jumps, JumpsIf, CallsLocal, Exits, Loads, Stores, Atomics, plain_size, extension_of, fetching, remembering, TakesResult, Helper}
+use Rattle.bpf_cpu.specs.Helping.{Helper, UsesLock, tried}
+use Rattle.bpf_cpu.specs.Row.{Faults, Quiet, Jumps, JumpsIf, CallsLocal, Exits, Loads, Stores, Atomics, plain_size, extension_of, fetching, remembering, after_helper, TakesResult, AsksStore, AsksJob}
 use Rattle.bpf_cpu.specs.declared.outcome.Fault.TheVariants.{BadAddress, Misaligned, ReadOnly}
 use Rattle.bpf_cpu.specs.Values.{asks_value, event_size_of, MayNotRead, MayNotWrite, IsRefused, IsPlace, IsPlaceToWrite, LoadsValue, StoresValue, ChangesValue, AsksValue}
 use Rattle.bpf_cpu.specs.Step.{Executes}
@@ -233,8 +239,8 @@ module _ (law : WritesAreDetermined) (old new other : Cpu) (progress end : Progr
   unasked : (events others : List Event) → events ≡ [] → others ≡ [] → Same progress end new other → Agrees events others progress end new other
   unasked events others e f same = record { asks = asks-nothing events others e f; replied = λ _. same }
 
-  helper_agrees : (shape : Shape) (number : ℕ) (events others : List Event) → Helper shape number old events progress new → Helper shape number old others end other → Agrees events others progress end new other
-  helper_agrees shape number events others j k =
+  store_agrees : (shape : Shape) (number : ℕ) (events others : List Event) → AsksStore shape number old events progress new → AsksStore shape number old others end other → Agrees events others progress end new other
+  store_agrees shape number events others j k =
       let calls = calls_are_determined shape number old.number old.registers old.memory old.held j.1 k.1 events others j.0 k.0 j.2 k.2 in
       record {
         asks = calls.0;
@@ -245,10 +251,53 @@ module _ (law : WritesAreDetermined) (old new other : Cpu) (progress end : Progr
             resulted j.0 j.1 j.3 (subst Q (sym results.1) (subst P (sym results.0) k.3));
       }
 
+  job_agrees : (number : ℕ) (events others : List Event) → AsksJob number old events progress new → AsksJob number old others end other → Agrees events others progress end new other
+  job_agrees number events others j k =
+      let same = answers_once number old.given old.drawn j.0 k.0 j.1 k.1 j.2 k.2 in
+      let done : ℕ → ℕ → Cpu = λ x drawn. record (after_helper old x) { drawn = drawn } in
+      unasked events others j.3 k.3 (makes (done j.0 j.1) j.4 k.4 j.5 (k.5 ∙ ap (λ x. done x k.1) (sym same.0) ∙ ap (done j.0) (sym same.1)) sound)
+
   -- ---- accesses to values
 
   refused_agrees : (why : Fault → Type 0) → ((f g : Fault) → why f → why g → f ≡ g) → (events others : List Event) → IsRefused why old events progress new → IsRefused why old others end other → Agrees events others progress end new other
   refused_agrees why same events others f g = unasked events others f.2 g.2 (faults _ f.3 (subst (λ (x : Fault). Faults x old end other) (same g.0 f.0 g.1 f.1) g.3))
+
+  tried_sound : (x : ℕ) → IsMemory (tried old x).memory
+  tried_sound zero = sound
+  tried_sound (suc x) = sound
+
+  lock_agrees : (h : Shape) (action : Change) (operand : ℕ) (left : ℕ → Cpu) → ((x : ℕ) → IsMemory (left x).memory) → (events others : List Event)
+      → UsesLock h action operand left old events progress new → UsesLock h action operand left old others end other → Agrees events others progress end new other
+  lock_agrees h action operand left sound_left events others (inl f) (inl g) = refused_agrees (MayNotWrite h Word (slice_index old.registers 1) old) (same_why_write h Word (slice_index old.registers 1) old) events others f g
+  lock_agrees h action operand left sound_left events others (inl f) (inr k) = absurd (no_place_to_write h Word (slice_index old.registers 1) old f.0 f.1 k.0)
+  lock_agrees h action operand left sound_left events others (inr j) (inl g) = absurd (no_place_to_write h Word (slice_index old.registers 1) old g.0 g.1 j.0)
+  lock_agrees h action operand left sound_left events others (inr j) (inr k) =
+      let asked : ℕ → Event = λ n. event.Atomic (slice_index old.registers 1) event_size.Word action operand 0 n in
+      record {
+        asks = asks-one events others (asked j.1.0) (asked k.1.0) j.1.1 k.1.1 refl;
+        replied = λ same.
+            let lists : asked j.1.0 ∷ [] ≡ asked k.1.0 ∷ [] = sym j.1.1 ∙ same ∙ k.1.1 in
+            let x : k.1.0 ≡ j.1.0 = cc in
+            makes (left j.1.0) j.1.2 k.1.2 j.1.3 (k.1.3 ∙ ap left x) (sound_left j.1.0);
+      }
+
+  helper_agrees : (shape : Shape) (number : ℕ) (events others : List Event) → Helper shape number old events progress new → Helper shape number old others end other → Agrees events others progress end new other
+  helper_agrees shape number events others (inl j) (inl k) = store_agrees shape number events others j.1 k.1
+  helper_agrees shape number events others (inr (inl j)) (inr (inl k)) = job_agrees number events others j k
+  helper_agrees shape number events others (inr (inr (inl j))) (inr (inr (inl k))) = lock_agrees shape CompareExchange 1 (tried old) tried_sound events others j.1 k.1
+  helper_agrees shape number events others (inr (inr (inr j))) (inr (inr (inr k))) = lock_agrees shape Exchange 0 (λ x. after_helper old 0) (λ x. sound) events others j.1 k.1
+  helper_agrees shape number events others (inl j) (inr (inl k)) = absurd (store_or_job number j.0 (of_job number old.given old.drawn k.0 k.1 k.2))
+  helper_agrees shape number events others (inr (inl j)) (inl k) = absurd (store_or_job number k.0 (of_job number old.given old.drawn j.0 j.1 j.2))
+  helper_agrees shape number events others (inl j) (inr (inr (inl k))) = absurd (store_or_lock number j.0 (inl k.0))
+  helper_agrees shape number events others (inl j) (inr (inr (inr k))) = absurd (store_or_lock number j.0 (inr k.0))
+  helper_agrees shape number events others (inr (inr (inl j))) (inl k) = absurd (store_or_lock number k.0 (inl j.0))
+  helper_agrees shape number events others (inr (inr (inr j))) (inl k) = absurd (store_or_lock number k.0 (inr j.0))
+  helper_agrees shape number events others (inr (inl j)) (inr (inr (inl k))) = absurd (job_or_lock number (of_job number old.given old.drawn j.0 j.1 j.2) (inl k.0))
+  helper_agrees shape number events others (inr (inl j)) (inr (inr (inr k))) = absurd (job_or_lock number (of_job number old.given old.drawn j.0 j.1 j.2) (inr k.0))
+  helper_agrees shape number events others (inr (inr (inl j))) (inr (inl k)) = absurd (job_or_lock number (of_job number old.given old.drawn k.0 k.1 k.2) (inl j.0))
+  helper_agrees shape number events others (inr (inr (inr j))) (inr (inl k)) = absurd (job_or_lock number (of_job number old.given old.drawn k.0 k.1 k.2) (inr j.0))
+  helper_agrees shape number events others (inr (inr (inl j))) (inr (inr (inr k))) = absurd (let e = j.0 in let f = k.0 in omega arith)
+  helper_agrees shape number events others (inr (inr (inr j))) (inr (inr (inl k))) = absurd (let e = j.0 in let f = k.0 in omega arith)
 
   value_loaded : (h : Shape) (z : Size) (reading : ℕ → ℕ) (d : Reg) (a : ℕ) (events others : List Event) → LoadsValue h z reading d a old events progress new → LoadsValue h z reading d a old others end other → Agrees events others progress end new other
   value_loaded h z reading d a events others (inl f) (inl g) = refused_agrees (MayNotRead h z a old) (same_why_read h z a old) events others f g

@@ -1,10 +1,11 @@
 -- Steps that begin alike, and whose store replies alike, go on alike.
 use Rattle.std.proofs.Common.{◌≡◌, ℕ, zero, suc, ◌≤◌, List, [], ◌∷◌, ◌++◌, length, inl, inr, refl, sym, ap, subst, ◌∙◌, arith, append-nil}
-use Rattle.std.specs.Prelude.{map, slice_get, Some, Result, Ok, Err}
+use Rattle.std.specs.Prelude.{map, slice_get, slice_index, Some, Result, Ok, Err}
 use Rattle.std.specs.Int.{w64, cast_unsigned}
 use Rattle.std.proofs.lemmas.List.Elements.{All-nil, All-push}
 use Rattle.std.proofs.lemmas.List.{map-append}
 use Rattle.std.proofs.lemmas.Bool.{false≢true}
+use Rattle.bpf_insn.specs.declared.operation.sizes.Size.TheVariants.{Word}
 use Rattle.bpf_insn.specs.declared.operation.sizes.Size.{Size}
 use Rattle.bpf_insn.specs.declared.operation.widths.Width.{Width}
 use Rattle.bpf_insn.specs.declared.operation.atomics.AtomicOp.{AtomicOp}
@@ -28,11 +29,13 @@ use Rattle.bpf_loader.specs.Laws.{OneInstructionBegins}
 use Rattle.bpf_mem.specs.Stack.{zeroed}
 use Rattle.bpf_mem.specs.Laws.{IsMemory, WritesAreDetermined}
 use Rattle.bpf_cpu.specs.declared.cpu.Cpu.{Cpu}
+use Rattle.bpf_cpu.specs.declared.input.Input.{Input}
 use Rattle.bpf_cpu.specs.declared.outcome.Progress.{Progress}
 use Rattle.bpf_cpu.specs.declared.outcome.Progress.TheVariants.{On, Done}
 use Rattle.bpf_cpu.specs.declared.outcome.Outcome.{Outcome}
 use Rattle.bpf_cpu.specs.declared.outcome.Fault.{Fault}
-use Rattle.bpf_cpu.specs.Row.{TakesResult, Helper, plain_size, extension_of}
+use Rattle.bpf_cpu.specs.Helping.{Helper}
+use Rattle.bpf_cpu.specs.Row.{TakesResult, plain_size, extension_of}
 use Rattle.bpf_helpers.specs.declared.fault.HelperFault.{HelperFault}
 use Rattle.bpf_helpers.specs.Laws.{AreAskedAlike}
 use Rattle.bpf_helpers.proofs.Leaving.{no_map_call}
@@ -151,8 +154,8 @@ module _ (law : WritesAreDetermined) (one : OneInstructionBegins) (shape : Shape
 
 -- ---- a whole job
 
-pub start_memory : (number : ℕ) (context : List ℕ) → length context ≤ 4096 → IsMemory (start number context).memory
-start_memory number context h = record {
+pub start_memory : (number : ℕ) (input : Input) → length input.context ≤ 4096 → IsMemory (start number input).memory
+start_memory number input h = record {
   stack = record {
     some = omega arith;
     bounded = omega arith;
@@ -172,15 +175,15 @@ steps_are_determined law one shape program old new other events others progress 
     (agrees.asks, λ e. let same = agrees.replied e in (same.turns, same.states))
 
 pub outcomes_are_determined : WritesAreDetermined → OneInstructionBegins → OutcomesAreDetermined
-outcomes_are_determined law one shape program budget number context events end other h (inl a) (inl b) =
+outcomes_are_determined law one shape program budget number input events end other h (inl a) (inl b) =
     let inside = same_inside a.0 b.0 (sym a.2 ∙ b.2) in
-    let P : List Event → Type 0 = λ es. MakesSteps shape program budget (start number context) es other b.1 in
-    steps_once law one shape program budget (start number context) a.1 b.1 a.0 end other (start_memory number context h) a.3 (subst P (sym inside) b.3)
-outcomes_are_determined law one shape program budget number context events end other h (inl a) (inr b) =
+    let P : List Event → Type 0 = λ es. MakesSteps shape program budget (start number input) es other b.1 in
+    steps_once law one shape program budget (start number input) a.1 b.1 a.0 end other (start_memory number input h) a.3 (subst P (sym inside) b.3)
+outcomes_are_determined law one shape program budget number input events end other h (inl a) (inr b) =
     let none : Begin ∷ (a.0 ++ End ∷ []) ≡ [] = sym a.2 ∙ b.0 in absurd cc
-outcomes_are_determined law one shape program budget number context events end other h (inr a) (inl b) =
+outcomes_are_determined law one shape program budget number input events end other h (inr a) (inl b) =
     let none : Begin ∷ (b.0 ++ End ∷ []) ≡ [] = sym b.2 ∙ a.0 in absurd cc
-outcomes_are_determined law one shape program budget number context events end other h (inr a) (inr b) = a.1 ∙ sym b.1
+outcomes_are_determined law one shape program budget number input events end other h (inr a) (inr b) = a.1 ∙ sym b.1
 
 -- ---- no maps
 
@@ -189,15 +192,21 @@ taken_held : (result : Result ℕ HelperFault) (held : List Span) (old new : Cpu
 taken_held (Ok x) held old new progress row e = ap (λ (k : Cpu). k.held) row.1 ∙ e
 taken_held (Err fault) held old new progress row e = ap (λ (k : Cpu). k.held) row.1
 
-no_map_event : (cpus number : ℕ) (old new : Cpu) (progress : Progress) (events : List Event) → Helper (without_arrays cpus []) number old events progress new → (events ≡ []) × (new.held ≡ old.held)
-no_map_event cpus number old new progress events row =
-    let none = no_map_call cpus number old.number old.registers old.memory old.held row.1 events row.0 row.2 in
-    (none.0, taken_held row.0 row.1 old new progress row.3 none.1)
-
 -- where nothing is held and there is no array, no value has any bytes
 none_there : (cpus : ℕ) (cpu : Cpu) (a : ℕ) (z : Size) → cpu.held ≡ [] → IsThere (without_arrays cpus []) cpu a z → ⊥
 none_there cpus cpu a z e (inl covered) = false≢true (sym (ap (λ (spans : List Span). is_covered spans a (length_of z)) e) ∙ covered)
 none_there cpus cpu a z e (inr there) = (let is : slice_get [] (area_of a) ≡ Some there.array = there.is in cc)
+
+no_map_event : (cpus number : ℕ) (old new : Cpu) (progress : Progress) (events : List Event) → old.held ≡ [] → Helper (without_arrays cpus []) number old events progress new → (events ≡ []) × (new.held ≡ old.held)
+no_map_event cpus number old new progress events none (inl asks) =
+    let row = asks.1 in
+    let empty = no_map_call cpus number old.number old.registers old.memory old.held row.1 events row.0 row.2 in
+    (empty.0, taken_held row.0 row.1 old new progress row.3 empty.1)
+no_map_event cpus number old new progress events none (inr (inl asks)) = (asks.3, ap (λ (k : Cpu). k.held) asks.5)
+no_map_event cpus number old new progress events none (inr (inr (inl (is, inl refused)))) = (refused.2, ap (λ (k : Cpu). k.held) refused.3.1)
+no_map_event cpus number old new progress events none (inr (inr (inl (is, inr row)))) = absurd (none_there cpus old (slice_index old.registers 1) Word none row.0.0.0)
+no_map_event cpus number old new progress events none (inr (inr (inr (is, inl refused)))) = (refused.2, ap (λ (k : Cpu). k.held) refused.3.1)
+no_map_event cpus number old new progress events none (inr (inr (inr (is, inr row)))) = absurd (none_there cpus old (slice_index old.registers 1) Word none row.0.0.0)
 
 module _ (cpus : ℕ) (old new : Cpu) (progress : Progress) (events : List Event) (none : old.held ≡ []) where
   refused_event : (why : Fault → Type 0) → IsRefused why old events progress new → (events ≡ []) × (new.held ≡ old.held)
@@ -225,7 +234,7 @@ module _ (cpus : ℕ) (old new : Cpu) (progress : Progress) (events : List Event
 
 no_row_event : (cpus : ℕ) (i : Insn) (old new : Cpu) (progress : Progress) (events : List Event) → old.held ≡ [] → Executes (without_arrays cpus []) i old events progress new → (events ≡ []) × (new.held ≡ [])
 no_row_event cpus i old new progress events none (inl row) = (row.1, held-quiet old new progress i row.2 ∙ none)
-no_row_event cpus i old new progress events none (inr (inl row)) = let is = no_map_event cpus row.0 old new progress events row.2 in (is.0, is.1 ∙ none)
+no_row_event cpus i old new progress events none (inr (inl row)) = let is = no_map_event cpus row.0 old new progress events none row.2 in (is.0, is.1 ∙ none)
 no_row_event cpus i old new progress events none (inr (inr row)) = let is = value_event cpus old new progress events none i row.1 in (is.0, is.1 ∙ none)
 
 no_step_events : (cpus : ℕ) (program : Loaded) (n : ℕ) (old new : Cpu) (events : List Event) (end : Outcome) → old.held ≡ [] → MakesSteps (without_arrays cpus []) program n old events end new → events ≡ []
@@ -237,9 +246,9 @@ no_step_events cpus program (suc n) old new events end none (inr a) =
     a.3 ∙ ap (λ es. es ++ a.1) first.0 ∙ rest
 
 pub no_maps_no_events : NoMapsNoEvents
-no_maps_no_events cpus program budget number context events end (inl a) =
-    a.2 ∙ ap (λ es. Begin ∷ (es ++ End ∷ [])) (no_step_events cpus program budget (start number context) a.1 a.0 end refl a.3)
-no_maps_no_events cpus program budget number context events end (inr a) = absurd a.2
+no_maps_no_events cpus program budget number input events end (inl a) =
+    a.2 ∙ ap (λ es. Begin ∷ (es ++ End ∷ [])) (no_step_events cpus program budget (start number input) a.1 a.0 end refl a.3)
+no_maps_no_events cpus program budget number input events end (inr a) = absurd a.2
 
 pub plain_steps_are_determined : WritesAreDetermined → OneInstructionBegins → CallsHaveOneReply → PlainStepsAreDetermined
 plain_steps_are_determined law one replies shape program budget c s t u old new other events others end last store sound a g b h =

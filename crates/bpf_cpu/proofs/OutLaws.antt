@@ -19,6 +19,7 @@ use Rattle.bpf_cpu.specs.declared.outcome.Progress.TheVariants.{On, Done}
 use Rattle.bpf_cpu.specs.declared.outcome.Outcome.TheVariants.{Exit, OutOfBudget}
 use Rattle.bpf_cpu.specs.declared.outcome.Outcome.TheVariants as outcome
 use Rattle.bpf_cpu.specs.State.{value, effective_address}
+use Rattle.bpf_cpu.specs.Helping.{Helper}
 use Rattle.bpf_cpu.specs.Row.{Loads, Stores, Atomics, CallsLocal, Exits, Quiet, TakesResult, plain_size, extension_of}
 use Rattle.bpf_cpu.specs.Values.{LoadsValue, StoresValue, ChangesValue, AsksValue}
 use Rattle.bpf_cpu.specs.Step.{Step, Executes}
@@ -111,9 +112,17 @@ module _ (old new : Cpu) (pc : ℕ) where
   taken (Ok x) held row = never_on row.0
   taken (Err fault) held row = never_fault _ _ row.0
 
+  helper_row : (shape : Shape) (number : ℕ) (events : List Event) → Helper shape number old events (Done (OutOfBudget pc)) new → ⊥
+  helper_row shape number events (inl asks) = taken asks.1.0 asks.1.1 asks.1.3
+  helper_row shape number events (inr (inl asks)) = never_on asks.4
+  helper_row shape number events (inr (inr (inl (is, inl refused)))) = never_fault _ _ refused.3.0
+  helper_row shape number events (inr (inr (inl (is, inr row)))) = never_on row.1.2
+  helper_row shape number events (inr (inr (inr (is, inl refused)))) = never_fault _ _ refused.3.0
+  helper_row shape number events (inr (inr (inr (is, inr row)))) = never_on row.1.2
+
   executed : (shape : Shape) (i : Insn) (events : List Event) → Executes shape i old events (Done (OutOfBudget pc)) new → ⊥
   executed shape i events (inl quiet) = quiet_row i quiet.2
-  executed shape i events (inr (inl call)) = taken call.2.0 call.2.1 call.2.3
+  executed shape i events (inr (inl call)) = helper_row shape call.0 events call.2
   executed shape i events (inr (inr asks)) = value_row shape i events asks.1
 
   pub step_never_out : (shape : Shape) (program : Loaded) (events : List Event) → Step shape program old events (Done (OutOfBudget pc)) new → ⊥

@@ -1,8 +1,8 @@
 -- A CPU's state and what it is saved as.
-use Rattle.std.proofs.Common.{◌≡◌, ℕ, ◌-◌, ◌^◌, ◌<◌, ◌≤◌, Option, Some, None, Result, Ok, Err, OnErr, List, ◌++◌, length, take, drop, get_or, refl, sym, ap, ◌∙◌, arith, append_assoc, length-append}
+use Rattle.std.proofs.Common.{◌≡◌, ℕ, ◌-◌, ◌^◌, ◌<◌, ◌≤◌, Option, Some, None, Result, Ok, Err, OnErr, List, [], ◌∷◌, ◌++◌, length, take, drop, get_or, refl, sym, ap, ◌∙◌, arith, append_assoc, length-append}
 use Rattle.std.specs.Prelude.{All, IfSome, IfNone}
 use Rattle.std.proofs.lemmas.List.{length-take-le, take-append-drop}
-use Rattle.std.proofs.lemmas.List.Elements.{All-take, All-from_get_or}
+use Rattle.std.proofs.lemmas.List.Elements.{All-nil, All-push, All-take, All-from_get_or}
 use Rattle.bpf_base.specs.Bytes.{little_endian, low_bytes}
 use Rattle.bpf_base.proofs.Numbers.{length-low_bytes, little_endian-low_bytes, low_bytes-little_endian}
 use Rattle.bpf_base.proofs.Lists.{same_fronts}
@@ -15,7 +15,7 @@ use Rattle.bpf_shared.specs.declared.events.Span.{Span}
 use Rattle.bpf_helpers.specs.Saved.{AreSavable, spans_saved}
 use Rattle.bpf_helpers.proofs.SpanLemmas.{spans_told}
 use Rattle.bpf_cpu.specs.declared.cpu.Cpu.{Cpu}
-use Rattle.bpf_cpu.specs.Saved.{cpu_saved, IsSavableState}
+use Rattle.bpf_cpu.specs.Saved.{cpu_saved, IsOfOneJob, IsSavableState}
 
 pub none_then : {A P Q : Type 0} (r : Option A) → IfNone r P → (P → Q) → IfNone r Q
 none_then None p f = f p
@@ -42,12 +42,12 @@ pc_told x y rest more h k e =
     (sym (little_endian-low_bytes 4 x h) ∙ (ap little_endian cut.0 ∙ little_endian-low_bytes 4 y k), cut.1)
 
 -- ---- the parts, one after the other
-regroup : (a b c d e more : List ℕ) → (a ++ b ++ c ++ d ++ e) ++ more ≡ a ++ (b ++ (c ++ (d ++ (e ++ more))))
-regroup a b c d e more = simp append_assoc
+regroup : (a b c d e f more : List ℕ) → (a ++ b ++ c ++ d ++ e ++ f) ++ more ≡ a ++ (b ++ (c ++ (d ++ (e ++ (f ++ more)))))
+regroup a b c d e f more = simp append_assoc
 
-pub joined : (old a b c d e s t u v w : List ℕ) → s ≡ old ++ a → t ≡ s ++ b → u ≡ t ++ c → v ≡ u ++ d → w ≡ v ++ e → w ≡ old ++ (a ++ b ++ c ++ d ++ e)
-joined old a b c d e s t u v w p q r x y =
-    y ∙ (ap (λ (l : List ℕ). l ++ e) (x ∙ ap (λ (l : List ℕ). l ++ d) (r ∙ ap (λ (l : List ℕ). l ++ c) (q ∙ ap (λ (l : List ℕ). l ++ b) p))) ∙ simp append_assoc)
+pub joined : (old a b c d e f s t u v w x : List ℕ) → s ≡ old ++ a → t ≡ s ++ b → u ≡ t ++ c → v ≡ u ++ d → w ≡ v ++ e → x ≡ w ++ f → x ≡ old ++ (a ++ b ++ c ++ d ++ e ++ f)
+joined old a b c d e f s t u v w x p q r y z h =
+    h ∙ (ap (λ (l : List ℕ). l ++ f) (z ∙ ap (λ (l : List ℕ). l ++ e) (y ∙ ap (λ (l : List ℕ). l ++ d) (r ∙ ap (λ (l : List ℕ). l ++ c) (q ∙ ap (λ (l : List ℕ). l ++ b) p)))) ∙ simp append_assoc)
 
 held_on : Cpu → List ℕ → List ℕ
 held_on cpu more = spans_saved cpu.held ++ (cpu.memory.context ++ more)
@@ -55,21 +55,35 @@ held_on cpu more = spans_saved cpu.held ++ (cpu.memory.context ++ more)
 frames_on : Cpu → List ℕ → List ℕ
 frames_on cpu more = frames_saved cpu.memory.frames ++ held_on cpu more
 
+drawn_on : Cpu → List ℕ → List ℕ
+drawn_on cpu more = words_saved 0 (cpu.drawn ∷ []) ++ frames_on cpu more
+
 registers_on : Cpu → List ℕ → List ℕ
-registers_on cpu more = words_saved 0 cpu.registers ++ frames_on cpu more
+registers_on cpu more = words_saved 0 cpu.registers ++ drawn_on cpu more
 
 whole : (cpu : Cpu) (more : List ℕ) → cpu_saved cpu ++ more ≡ low_bytes 4 cpu.pc ++ registers_on cpu more
-unfolding cpu_saved held_on frames_on registers_on
-whole cpu more = regroup (low_bytes 4 cpu.pc) (words_saved 0 cpu.registers) (frames_saved cpu.memory.frames) (spans_saved cpu.held) cpu.memory.context more
+unfolding cpu_saved held_on frames_on drawn_on registers_on
+whole cpu more = regroup (low_bytes 4 cpu.pc) (words_saved 0 cpu.registers) (words_saved 0 (cpu.drawn ∷ [])) (frames_saved cpu.memory.frames) (spans_saved cpu.held) cpu.memory.context more
+
+alone : (x : ℕ) → IsWord x → All IsWord (x ∷ [])
+alone x h = All-push IsWord [] x (All-nil IsWord) h
 
 module _ (cpu : Cpu) (more : List ℕ) (is : IsSavableState cpu) where
   after_pc : (bytes rest : List ℕ) (pc : ℕ) → pc < 2 ^ 32 → bytes ≡ low_bytes 4 pc ++ rest → bytes ≡ cpu_saved cpu ++ more → (pc ≡ cpu.pc) × (rest ≡ registers_on cpu more)
   after_pc bytes rest pc near read e = pc_told pc cpu.pc rest (registers_on cpu more) near is.pc (sym read ∙ (e ∙ whole cpu more))
 
   after_registers : (rest behind registers : List ℕ) → length registers ≡ 11 → All IsWord registers → rest ≡ words_saved 0 registers ++ behind → rest ≡ registers_on cpu more
-      → (registers ≡ cpu.registers) × (behind ≡ frames_on cpu more)
+      → (registers ≡ cpu.registers) × (behind ≡ drawn_on cpu more)
   unfolding registers_on
-  after_registers rest behind registers size fit read e = words_prefix 0 registers cpu.registers behind (frames_on cpu more) (size ∙ sym is.count) fit is.words (sym read ∙ e)
+  after_registers rest behind registers size fit read e = words_prefix 0 registers cpu.registers behind (drawn_on cpu more) (size ∙ sym is.count) fit is.words (sym read ∙ e)
+
+  after_drawn : (rest behind : List ℕ) (drawn : ℕ) → IsWord drawn → rest ≡ words_saved 0 (drawn ∷ []) ++ behind → rest ≡ drawn_on cpu more
+      → (drawn ≡ cpu.drawn) × (behind ≡ frames_on cpu more)
+  unfolding drawn_on
+  after_drawn rest behind drawn fit read e =
+      let told = words_prefix 0 (drawn ∷ []) (cpu.drawn ∷ []) behind (frames_on cpu more) refl (alone drawn fit) (alone cpu.drawn is.drawn) (sym read ∙ e) in
+      let lists : drawn ∷ [] ≡ cpu.drawn ∷ [] = told.0 in
+      (cc, told.1)
 
   after_frames : (rest behind : List ℕ) (frames : Stack) → IsSavable frames → rest ≡ frames_saved frames ++ behind → rest ≡ frames_on cpu more
       → (frames ≡ cpu.memory.frames) × (behind ≡ held_on cpu more)
@@ -94,44 +108,55 @@ module _ (bytes : List ℕ) (cpu : Cpu) (more : List ℕ) (is : IsSavableState c
 
     pub none_registers : ((others rest : List ℕ) → length others ≡ 11 → All IsWord others → r1 ≡ words_saved 0 others ++ rest → ⊥) → ⊥
     unfolding registers_on
-    none_registers none = none cpu.registers (frames_on cpu more) is.count is.words at1
+    none_registers none = none cpu.registers (drawn_on cpu more) is.count is.words at1
 
     module _ (registers r2 : List ℕ) (size : length registers ≡ 11) (fit : All IsWord registers) (read2 : r1 ≡ words_saved 0 registers ++ r2) where
-      at2 : r2 ≡ frames_on cpu more
+      at2 : r2 ≡ drawn_on cpu more
       at2 = (after_registers cpu more is r1 r2 registers size fit read2 at1).1
 
-      pub none_frames : ((other : Stack) (rest : List ℕ) → IsSavable other → r2 ≡ frames_saved other ++ rest → ⊥) → ⊥
-      unfolding frames_on
-      none_frames none = none cpu.memory.frames (held_on cpu more) is.frames at2
+      pub none_drawn : ((other : ℕ) (rest : List ℕ) → IsWord other → r2 ≡ words_saved 0 (other ∷ []) ++ rest → ⊥) → ⊥
+      unfolding drawn_on
+      none_drawn none = none cpu.drawn (frames_on cpu more) is.drawn at2
 
-      module _ (frames : Stack) (r3 : List ℕ) (stack : IsSavable frames) (read3 : r2 ≡ frames_saved frames ++ r3) where
-        at3 : r3 ≡ held_on cpu more
-        at3 = (after_frames cpu more is r2 r3 frames stack read3 at2).1
+      module _ (drawn : ℕ) (r3 : List ℕ) (word : IsWord drawn) (read3 : r2 ≡ words_saved 0 (drawn ∷ []) ++ r3) where
+        at3 : r3 ≡ frames_on cpu more
+        at3 = (after_drawn cpu more is r2 r3 drawn word read3 at2).1
 
-        pub none_held : {P : List Span → Type 0} → P cpu.held → ((others : List Span) (rest : List ℕ) → P others → r3 ≡ spans_saved others ++ rest → ⊥) → ⊥
-        unfolding held_on
-        none_held may none = none cpu.held (cpu.memory.context ++ more) may at3
+        pub none_frames : ((other : Stack) (rest : List ℕ) → IsSavable other → r3 ≡ frames_saved other ++ rest → ⊥) → ⊥
+        unfolding frames_on
+        none_frames none = none cpu.memory.frames (held_on cpu more) is.frames at3
 
-        pub none_context : (held : List Span) (r4 : List ℕ) → AreSavable held → r3 ≡ spans_saved held ++ r4 → length r4 < length cpu.memory.context → ⊥
-        none_context held r4 savable read4 short =
-            let at4 = (after_held cpu more is r3 r4 held savable read4 at3).1 in
-            let size = ap length at4 ∙ length-append cpu.memory.context more in
-            omega (arith, size)
+        module _ (frames : Stack) (r4 : List ℕ) (stack : IsSavable frames) (read4 : r3 ≡ frames_saved frames ++ r4) where
+          at4 : r4 ≡ held_on cpu more
+          at4 = (after_frames cpu more is r3 r4 frames stack read4 at3).1
 
-pub all_read : (cpu : Cpu) (bytes r1 r2 r3 r4 r5 : List ℕ) → bytes ≡ low_bytes 4 cpu.pc ++ r1 → r1 ≡ words_saved 0 cpu.registers ++ r2 → r2 ≡ frames_saved cpu.memory.frames ++ r3
-    → r3 ≡ spans_saved cpu.held ++ r4 → r4 ≡ cpu.memory.context ++ r5 → bytes ≡ cpu_saved cpu ++ r5
-unfolding held_on frames_on registers_on
-all_read cpu bytes r1 r2 r3 r4 r5 a b c d e =
-    a ∙ (ap (λ (l : List ℕ). low_bytes 4 cpu.pc ++ l) (b ∙ ap (λ (l : List ℕ). words_saved 0 cpu.registers ++ l) (c ∙ ap (λ (l : List ℕ). frames_saved cpu.memory.frames ++ l) (d ∙ ap (λ (l : List ℕ). spans_saved cpu.held ++ l) e))) ∙ sym (whole cpu r5))
+          pub none_held : {P : List Span → Type 0} → P cpu.held → ((others : List Span) (rest : List ℕ) → P others → r4 ≡ spans_saved others ++ rest → ⊥) → ⊥
+          unfolding held_on
+          none_held may none = none cpu.held (cpu.memory.context ++ more) may at4
+
+          pub none_context : (held : List Span) (r5 : List ℕ) → AreSavable held → r4 ≡ spans_saved held ++ r5 → length r5 < length cpu.memory.context → ⊥
+          none_context held r5 savable read5 short =
+              let at5 = (after_held cpu more is r4 r5 held savable read5 at4).1 in
+              let size = ap length at5 ∙ length-append cpu.memory.context more in
+              omega (arith, size)
+
+pub all_read : (cpu : Cpu) (bytes r1 r2 r3 r4 r5 r6 : List ℕ) → bytes ≡ low_bytes 4 cpu.pc ++ r1 → r1 ≡ words_saved 0 cpu.registers ++ r2 → r2 ≡ words_saved 0 (cpu.drawn ∷ []) ++ r3
+    → r3 ≡ frames_saved cpu.memory.frames ++ r4 → r4 ≡ spans_saved cpu.held ++ r5 → r5 ≡ cpu.memory.context ++ r6 → bytes ≡ cpu_saved cpu ++ r6
+unfolding held_on frames_on drawn_on registers_on
+all_read cpu bytes r1 r2 r3 r4 r5 r6 a b c d e f =
+    a ∙ (ap (λ (l : List ℕ). low_bytes 4 cpu.pc ++ l) (b ∙ ap (λ (l : List ℕ). words_saved 0 cpu.registers ++ l) (c ∙ ap (λ (l : List ℕ). words_saved 0 (cpu.drawn ∷ []) ++ l) (d ∙ ap (λ (l : List ℕ). frames_saved cpu.memory.frames ++ l) (e ∙ ap (λ (l : List ℕ). spans_saved cpu.held ++ l) f)))) ∙ sym (whole cpu r6))
 
 -- equal bytes are those of equal states
-pub cpus_told : (cpu other : Cpu) (rest more : List ℕ) → IsSavableState cpu → IsSavableState other → cpu.number ≡ other.number → length cpu.memory.context ≡ length other.memory.context
+pub cpus_told : (cpu other : Cpu) (rest more : List ℕ) → IsSavableState cpu → IsSavableState other → IsOfOneJob other cpu
     → cpu_saved cpu ++ rest ≡ cpu_saved other ++ more → (cpu ≡ other) × (rest ≡ more)
-unfolding held_on frames_on registers_on
-cpus_told cpu other rest more is k number long e =
+unfolding held_on frames_on drawn_on registers_on
+cpus_told cpu other rest more is k job e =
     let a = after_pc other more k (cpu_saved cpu ++ rest) (registers_on cpu rest) cpu.pc is.pc (whole cpu rest) e in
-    let b = after_registers other more k (registers_on cpu rest) (frames_on cpu rest) cpu.registers is.count is.words refl a.1 in
-    let c = after_frames other more k (frames_on cpu rest) (held_on cpu rest) cpu.memory.frames is.frames refl b.1 in
-    let d = after_held other more k (held_on cpu rest) (cpu.memory.context ++ rest) cpu.held is.held refl c.1 in
-    let last = same_fronts cpu.memory.context other.memory.context rest more long d.1 in
-    (λ j. record { registers = b.0 j; number = number j; pc = a.0 j; memory = record { frames = c.0 j; context = last.0 j }; held = d.0 j }, last.1)
+    let b = after_registers other more k (registers_on cpu rest) (drawn_on cpu rest) cpu.registers is.count is.words refl a.1 in
+    let c = after_drawn other more k (drawn_on cpu rest) (frames_on cpu rest) cpu.drawn is.drawn refl b.1 in
+    let d = after_frames other more k (frames_on cpu rest) (held_on cpu rest) cpu.memory.frames is.frames refl c.1 in
+    let f = after_held other more k (held_on cpu rest) (cpu.memory.context ++ rest) cpu.held is.held refl d.1 in
+    let last = same_fronts cpu.memory.context other.memory.context rest more job.1 f.1 in
+    let number = job.0 in
+    let given = job.2 in
+    (λ j. record { registers = b.0 j; number = number j; pc = a.0 j; memory = record { frames = d.0 j; context = last.0 j }; held = f.0 j; given = given j; drawn = c.0 j }, last.1)

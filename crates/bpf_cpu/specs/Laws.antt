@@ -12,9 +12,10 @@ use Rattle.bpf_loader.specs.Loaded.{Loaded}
 use Rattle.bpf_mem.specs.Limits.{max_context}
 use Rattle.bpf_mem.specs.Laws.{IsMemory}
 use Rattle.bpf_cpu.specs.declared.cpu.Cpu.{Cpu}
+use Rattle.bpf_cpu.specs.declared.input.Input.{Input}
 use Rattle.bpf_cpu.specs.declared.outcome.Progress.{Progress}
 use Rattle.bpf_cpu.specs.declared.outcome.Outcome.{Outcome}
-use Rattle.bpf_cpu.specs.Saved.{IsSavableOutcome, IsSavableState, cpu_saved, outcome_saved}
+use Rattle.bpf_cpu.specs.Saved.{IsOfOneJob, IsSavableOutcome, IsSavableState, cpu_saved, outcome_saved}
 use Rattle.bpf_cpu.specs.State.{start}
 use Rattle.bpf_cpu.specs.Step.{Step, MakesSteps, Explains}
 
@@ -30,17 +31,17 @@ StepsAreDetermined =
 -- the same events explain one outcome, whether or not the run counter may be worn
 abbrev pub OutcomesAreDetermined : Type 0
 OutcomesAreDetermined =
-    (shape : Shape) (program : Loaded) (budget number : ℕ) (context : List ℕ)
-    (events : List Event) (end other : Outcome) → length context ≤ max_context
-    → Explains (Unit {0}) shape program budget (start number context) events end
-    → Explains (Unit {0}) shape program budget (start number context) events other
+    (shape : Shape) (program : Loaded) (budget number : ℕ) (input : Input)
+    (events : List Event) (end other : Outcome) → length input.context ≤ max_context
+    → Explains (Unit {0}) shape program budget (start number input) events end
+    → Explains (Unit {0}) shape program budget (start number input) events other
     → end ≡ other
 
 -- where there is no map and no array, a job's run that is not worn out has no events but its begin and its end
 abbrev pub NoMapsNoEvents : Type 0
 NoMapsNoEvents =
-    (cpus : ℕ) (program : Loaded) (budget number : ℕ) (context : List ℕ) (events : List Event)
-    (end : Outcome) → Explains ⊥ (without_arrays cpus []) program budget (start number context) events end → events ≡ Begin ∷ End ∷ []
+    (cpus : ℕ) (program : Loaded) (budget number : ℕ) (input : Input) (events : List Event)
+    (end : Outcome) → Explains ⊥ (without_arrays cpus []) program budget (start number input) events end → events ≡ Begin ∷ End ∷ []
 
 -- over a plain store, which no other CPU changes meanwhile, the steps of a run have one course
 abbrev pub PlainStepsAreDetermined : Type 0
@@ -52,13 +53,11 @@ PlainStepsAreDetermined =
     → PlainlyLegal s (map (entry c) others) u
     → (events ≡ others) × (end ≡ last) × (new ≡ other) × (t ≡ u)
 
--- what a state is saved as determines it, among those of one CPU whose contexts are equally long, and
--- where it ends
+-- what a state is saved as determines it, among those that may be of one job, and where it ends
 abbrev pub SavedTellsStates : Type 0
 SavedTellsStates =
     (cpu other : Cpu) (rest more : List ℕ) → IsSavableState cpu → IsSavableState other
-    → cpu.number ≡ other.number → length cpu.memory.context ≡ length other.memory.context
-    → cpu_saved cpu ++ rest ≡ cpu_saved other ++ more
+    → IsOfOneJob other cpu → cpu_saved cpu ++ rest ≡ cpu_saved other ++ more
     → (cpu ≡ other) × (rest ≡ more)
 
 -- what an outcome is saved as determines it, and where it ends

@@ -1,4 +1,5 @@
--- What a CPU's state is saved as, bytes that determine all of it but the CPU's number; and how a job ended.
+-- What a CPU's state is saved as, bytes that determine all of it but the CPU's number and what the
+-- job was given; and how a job ended.
 use Rattle.std.specs.Prelude.{◌≡◌, ℕ, ◌^◌, ◌<◌, All, List, [], ◌∷◌, ◌++◌, length}
 use Rattle.bpf_base.specs.Bytes.{low_bytes}
 use Rattle.bpf_mem.specs.Saved.{IsSavable, IsWord, frames_saved, words_saved}
@@ -9,25 +10,28 @@ use Rattle.bpf_cpu.specs.declared.outcome.Fault.TheVariants.{BadAddress, Misalig
 use Rattle.bpf_cpu.specs.declared.outcome.Outcome.{Outcome}
 use Rattle.bpf_cpu.specs.declared.outcome.Outcome.TheVariants.{Exit, Fault, OutOfBudget}
 
--- its pc in four bytes, its registers, its frames, the values that its run holds, and its context
--- as it is
+-- its pc in four bytes, its registers, how many random numbers it has drawn, its frames, the values
+-- that its run holds, and its context as it is
 unfoldable pub cpu_saved : Cpu → List ℕ
 cpu_saved cpu =
-    low_bytes 4 cpu.pc ++ words_saved 0 cpu.registers ++ frames_saved cpu.memory.frames
-    ++ spans_saved cpu.held ++ cpu.memory.context
+    low_bytes 4 cpu.pc ++ words_saved 0 cpu.registers ++ words_saved 0 (cpu.drawn ∷ [])
+    ++ frames_saved cpu.memory.frames ++ spans_saved cpu.held ++ cpu.memory.context
 
 -- what is saved is determined by its bytes, where its numbers fit
 pub record IsSavableState (cpu : Cpu) : Type 0 where
   pub pc : cpu.pc < 2 ^ 32
   pub count : length cpu.registers ≡ 11
   pub words : All IsWord cpu.registers
+  pub drawn : IsWord cpu.drawn
   pub frames : IsSavable cpu.memory.frames
   pub held : AreSavable cpu.held
 
--- the states may be those of one job: the CPU and the length of the context are the same
+-- the states may be those of one job: the CPU, the length of the context and what else it was given
+-- are the same
 abbrev pub IsOfOneJob : Cpu → Cpu → Type 0
 IsOfOneJob first later = (later.number ≡ first.number)
     × (length later.memory.context ≡ length first.memory.context)
+    × (later.given ≡ first.given)
 
 -- ---- how a job ended
 abbrev pub fault_number : Reason → ℕ

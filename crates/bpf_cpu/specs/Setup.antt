@@ -15,6 +15,6 @@ named_in h = record { maps = length h.maps; arrays = length h.arrays }
 pub record IsRunnable (s : Setup) : Type 0 where
   pub cpus : All (λ job. job.cpu < s.shape.cpus) s.jobs.items
   pub programs : All (λ job. job.program < vec_len s.programs) s.jobs.items
-  pub contexts : All (λ job. vec_len job.context ≤ max_context) s.jobs.items
+  pub contexts : All (λ job. length job.input.context ≤ max_context) s.jobs.items
   pub named : All (λ program. program.named ≡ named_in s.shape) s.programs.items
   pub pairs : ArePairs s.shape.maps (map pair_of s.pairs.items)

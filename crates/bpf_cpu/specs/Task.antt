@@ -1,12 +1,13 @@
 -- Jobs in a list, and how far each is.
 use Rattle.std.specs.Prelude.{ℕ, List, Option, Some, None, option_and_then, slice_get}
+use Rattle.bpf_cpu.specs.declared.input.Input.{Input}
 use Rattle.bpf_cpu.specs.declared.job.Job.{Job}
 use Rattle.bpf_cpu.specs.declared.cpu.Cpu.{Cpu}
 use Rattle.bpf_cpu.specs.declared.outcome.Outcome.{Outcome}
 
 pub data Stage : Type 0 where
-  -- it waits, with its context
-  Waiting : List ℕ → Stage
+  -- it waits, with what it is given
+  Waiting : Input → Stage
   -- it is in hand: the state of its CPU, and how many steps its budget has left
   InHand : Cpu → ℕ → Stage
   Ended : Outcome → Stage
@@ -24,12 +25,12 @@ waiting job = record {
   cpu = job.cpu;
   program = job.program;
   budget = job.budget;
-  stage = Waiting job.context.items;
+  stage = Waiting job.input;
 }
 
 -- how the job has ended, if it has
 abbrev pub ended : Stage → Option Outcome
-ended (Waiting context) = None
+ended (Waiting input) = None
 ended (InHand state left) = None
 ended (Ended outcome) = Some outcome
 

@@ -1,5 +1,7 @@
 //! What is run: a program on a CPU.
 
+use crate::input::Input;
+
 /// A job: a program that is to be run once.
 #[derive(Drop)]
 pub struct Job {
@@ -9,6 +11,6 @@ pub struct Job {
     pub program: usize,
     /// How many steps it makes at most.
     pub budget: u64,
-    /// The bytes that it is given: at most 4,096.
-    pub context: Vec<u8>,
+    /// What it is given.
+    pub input: Input,
 }

@@ -1,11 +1,12 @@
 //! A CPU's state as bytes, and from such bytes.
 
-ghost use Rattle.std.specs.Prelude.{◌≡◌, ◌^◌, ◌<◌, ◌++◌, ℕ, List, OnOk, OnErr, IfSome, IfNone, length};
+ghost use Rattle.std.specs.Prelude.{◌≡◌, ◌^◌, ◌<◌, ◌∷◌, ◌++◌, [], ℕ, List, OnOk, OnErr, IfSome, IfNone, length};
 ghost use Rattle.std.specs.Io.{StartsWith};
 ghost use Rattle.bpf_base.specs.Bytes.{low_bytes};
+ghost use Rattle.bpf_mem.specs.Saved.{IsWord, words_saved};
 ghost use Rattle.bpf_helpers.specs.Saved.{AreOnce, MayBeHeld};
 ghost use Rattle.bpf_cpu.specs.declared.cpu.Cpu.{Cpu};
-ghost use Rattle.bpf_cpu.specs.Saved.{cpu_saved, IsSavableState};
+ghost use Rattle.bpf_cpu.specs.Saved.{cpu_saved, IsOfOneJob, IsSavableState};
 
 use crate::cpu::Cpu;
 use bpf_base::bytes::load_word;
@@ -40,6 +41,26 @@ fn read_pc(bytes: &[u8]) -> Option<(u32, &[u8])>
     Some((load_word(bytes, 0), &bytes[4..]))
 }
 
+/// Appends to the bytes what a count is saved as.
+fn save_count(count: u64, out: &mut Vec<u8>) -> Result<(), AllocError>
+    ensures ok { OnOk result (out.new.items ≡ out.old.items ++ words_saved 0 (count ∷ [])) }
+    ensures err { OnErr result (StartsWith out.new.items out.old.items) }
+{
+    save_words(&[count], out)
+}
+
+/// The count whose saved form the bytes begin with; what comes after it.
+fn read_count(bytes: &[u8]) -> Option<(u64, &[u8])>
+    ensures some { IfSome result (λ r. bytes.now ≡ words_saved 0 (r.0 ∷ []) ++ r.1.now) }
+    ensures word { IfSome result (λ r. IsWord r.0) }
+    ensures none { IfNone result ((count : ℕ) (rest : List ℕ) → IsWord count
+        → bytes.now ≡ words_saved 0 (count ∷ []) ++ rest → ⊥) }
+{
+    let mut words = [0; 1];
+    let rest = read_words(&mut words, bytes)?;
+    Some((words[0], rest))
+}
+
 impl Cpu {
     /// The state is determined by what it is saved as, and its run holds each value once: says so, and
     /// does nothing.
@@ -48,39 +69,42 @@ impl Cpu {
         ensures once { AreOnce self.now.held }
     {
         let _pc = self.pc;
+        let _drawn = self.drawn;
         are_words(&self.registers);
         self.memory.frames.are_savable();
         self.held.are_savable();
     }
 
-    /// Appends to the bytes what the state is saved as. The CPU's number isn't in it.
+    /// Appends to the bytes what the state is saved as. The CPU's number and what the job was given
+    /// aren't in it.
     pub fn save(&self, out: &mut Vec<u8>) -> Result<(), AllocError>
         ensures ok { OnOk result (out.new.items ≡ out.old.items ++ cpu_saved self.now) }
         ensures err { OnErr result (StartsWith out.new.items out.old.items) }
     {
         save_pc(self.pc, out)?;
         save_words(&self.registers, out)?;
+        save_count(self.drawn, out)?;
         self.memory.frames.save(out)?;
         self.held.save(out)?;
         save_bytes(self.memory.context.bytes(), out)
     }
 
-    /// Becomes the state whose saved form the bytes begin with, of those whose context is as long;
-    /// what comes after it. `None` where no state has such a form, and then it may be any. It
-    /// takes no memory.
+    /// Becomes the state whose saved form the bytes begin with, of those of one job; what comes
+    /// after it. `None` where no state has such a form, and then it may be any. It takes no
+    /// memory.
     pub fn restore<'a>(&mut self, bytes: &'a [u8]) -> Option<&'a [u8]>
         ensures some { IfSome result (λ rest. bytes.now ≡ cpu_saved self.new ++ rest.now) }
         ensures savable { IfSome result (λ _. IsSavableState self.new) }
-        ensures number { self.new.number ≡ self.old.number }
-        ensures context { length self.new.memory.context ≡ length self.old.memory.context }
+        ensures job { IsOfOneJob self.old self.new }
         ensures none { IfNone result ((other : Cpu) (more : List ℕ) → IsSavableState other
-            → MayBeHeld other.held
-            → length other.memory.context ≡ length self.old.memory.context
+            → MayBeHeld other.held → IsOfOneJob self.old other
             → bytes.now ≡ cpu_saved other ++ more → ⊥) }
     {
         let (pc, rest) = read_pc(bytes)?;
         self.pc = pc;
         let rest = read_words(&mut self.registers, rest)?;
+        let (drawn, rest) = read_count(rest)?;
+        self.drawn = drawn;
         let rest = self.memory.frames.restore(rest)?;
         let rest = self.held.restore(rest)?;
         self.memory.context.restore(rest)

@@ -1,6 +1,6 @@
 //! Loads, stores and atomic operations on values of maps and arrays: each is a call of the store.
 
-ghost use Rattle.std.specs.Prelude.{◌≡◌, ◌≢◌, ◌<◌, ◌%◌, ◌+◌, true, false, List, IfOk, IfErr, IfSome, IfNone};
+ghost use Rattle.std.specs.Prelude.{◌≡◌, ◌≢◌, ◌<◌, ◌%◌, ◌+◌, ◌↔◌, true, false, List, IsTrue, IfOk, IfErr, IfSome, IfNone};
 ghost use Rattle.bpf_shared.specs.declared.events.Event.{Event};
 ghost use Rattle.bpf_shared.specs.Chain.{Chain};
 ghost use Rattle.bpf_mem.specs.Bytes.{length_of, size_of};
@@ -18,8 +18,8 @@ use crate::outcome::Next;
 use bpf_alu::sign_extend;
 use bpf_helpers::array_with;
 use bpf_insn::{AtomicOp, Insn, Reg, SignExtension, Size, Width};
-use bpf_mem::{is_aligned, length, size_of_width};
-use bpf_shared::{ArrayShape, Shared, ValuePlace};
+use bpf_mem::{length, size_of_width};
+use bpf_shared::{Shared, ValuePlace};
 
 /// A size as the store's calls name it.
 fn event_size_of(size: Size) -> bpf_shared::Size
@@ -31,6 +31,15 @@ fn event_size_of(size: Size) -> bpf_shared::Size
         Size::Word => bpf_shared::Size::Word,
         Size::Double => bpf_shared::Size::Double,
     }
+}
+
+/// Whether an address is a multiple of a size. Its length is at hand already, so this takes a mask and
+/// no match on the size.
+#[inline(always)]
+fn is_multiple(address: u64, size: Size) -> bool
+    ensures { IsTrue result ↔ (address % length_of size ≡ 0) }
+{
+    address & (length(size) as u64 - 1) == 0
 }
 
 /// What a load puts in its register.
@@ -47,7 +56,7 @@ fn read_as(extension: Option<SignExtension>, number: u64) -> u64
 #[derive(Clone, Copy)]
 enum Holder {
     Run,
-    Array(ArrayShape),
+    Array { frozen: bool },
 }
 
 impl Holder {
@@ -57,24 +66,28 @@ impl Holder {
     {
         match self {
             Holder::Run => false,
-            Holder::Array(array) => array.frozen,
+            Holder::Array { frozen } => frozen,
         }
     }
 }
 
 impl Cpu {
     /// What has the bytes of an access that isn't private; `None` where no value that may be reached
-    /// has them.
+    /// has them. Arrays come first: where the run holds the value one comparison rules them out.
+    #[inline(always)]
     fn find_value<S: Shared>(&self, shared: &S, address: u64, size: Size) -> Option<Holder>
         ensures found { IfSome result (IsHolder (S.shapes shared.now) self.now address size) }
         ensures none { IfNone result (¬ IsThere (S.shapes shared.now) self.now address size) }
     {
         let count = length(size) as u64;
-        if self.held.covers(address, count) {
-            return Some(Holder::Run);
+        self.held.are_low();
+        match array_with(shared, address, count) {
+            Some(array) => Some(Holder::Array {
+                frozen: array.frozen,
+            }),
+            None if self.held.covers(address, count) => Some(Holder::Run),
+            None => None,
         }
-        let array = array_with(shared, address, count)?;
-        Some(Holder::Array(array))
     }
 
     /// Where an access that isn't private may read, or why it is a fault.
@@ -91,14 +104,14 @@ impl Cpu {
         let Some(_holder) = self.find_value(shared, address, size) else {
             return Err(Next::BadAddress);
         };
-        if !is_aligned(address, size) {
+        if !is_multiple(address, size) {
             return Err(Next::Misaligned);
         }
         Ok(ValuePlace { at: address })
     }
 
     /// Where it may write, or why it is a fault.
-    fn place_to_write<S: Shared>(
+    pub(crate) fn place_to_write<S: Shared>(
         &self,
         shared: &S,
         address: u64,
@@ -111,7 +124,7 @@ impl Cpu {
         let Some(holder) = self.find_value(shared, address, size) else {
             return Err(Next::BadAddress);
         };
-        if !is_aligned(address, size) {
+        if !is_multiple(address, size) {
             return Err(Next::Misaligned);
         }
         if holder.is_read_only() {

@@ -51,7 +51,7 @@ use Rattle.bpf_debug.proofs.ManyTurns.{all_runs, both_run, made_runs}
 -- ---- room
 
 open_small : (s : Stage) → open_in s ≤ 1
-open_small (Waiting context) = omega arith
+open_small (Waiting input) = omega arith
 open_small (InHand state left) = omega arith
 open_small (Ended outcome) = omega arith
 

@@ -16,6 +16,7 @@ use Rattle.bpf_lines.specs.Lines.{fields_of}
 use Rattle.bpf_lines.specs.Words.{written_number}
 use Rattle.bpf_loader.specs.Loaded.{Loaded}
 use Rattle.bpf_cpu.specs.declared.cpu.Cpu.{Cpu}
+use Rattle.bpf_cpu.specs.declared.input.Input.{Input}
 use Rattle.bpf_machine.specs.declared.machine.Turn.{Turn}
 use Rattle.bpf_cpu.specs.declared.outcome.Outcome.{Outcome}
 use Rattle.bpf_cpu.specs.Task.{Stage, Task, Waiting, InHand, Ended}
@@ -85,15 +86,15 @@ module _ (c : ℕ) where
   Hands t = (t.cpu ≡ c) × ((state : Cpu) × (left : ℕ) × (t.stage ≡ InHand state left))
 
   abbrev Waits : Task → Type 0
-  Waits t = (t.cpu ≡ c) × ((context : List ℕ) × (t.stage ≡ Waiting context))
+  Waits t = (t.cpu ≡ c) × ((input : Input) × (t.stage ≡ Waiting input))
 
   hands_stage : (s : Stage) → ((state : Cpu) × (left : ℕ) × (s ≡ InHand state left)) ⊎ (((state : Cpu) × (left : ℕ) × (s ≡ InHand state left)) → ⊥)
   hands_stage (InHand state left) = inl (state, left, refl)
-  hands_stage (Waiting context) = inr (λ h. let no : Waiting context ≡ InHand h.0 h.1 = h.2 in cc)
+  hands_stage (Waiting input) = inr (λ h. let no : Waiting input ≡ InHand h.0 h.1 = h.2 in cc)
   hands_stage (Ended end) = inr (λ h. let no : Ended end ≡ InHand h.0 h.1 = h.2 in cc)
 
-  waits_stage : (s : Stage) → ((context : List ℕ) × (s ≡ Waiting context)) ⊎ (((context : List ℕ) × (s ≡ Waiting context)) → ⊥)
-  waits_stage (Waiting context) = inl (context, refl)
+  waits_stage : (s : Stage) → ((input : Input) × (s ≡ Waiting input)) ⊎ (((input : Input) × (s ≡ Waiting input)) → ⊥)
+  waits_stage (Waiting input) = inl (input, refl)
   waits_stage (InHand state left) = inr (λ h. let no : InHand state left ≡ Waiting h.0 = h.1 in cc)
   waits_stage (Ended end) = inr (λ h. let no : Ended end ≡ Waiting h.0 = h.1 in cc)
 
@@ -123,7 +124,7 @@ module _ (c : ℕ) where
           (
             λ j task state left at. free j task at.listed (at.of, (state, left, at.at)),
             (w.1, w.3.1.0, record { listed = w.2; of = w.3.0; at = w.3.1.1 }),
-            λ k task context less at. w.4 k task less at.listed (at.of, (context, at.at)),
+            λ k task input less at. w.4 k task less at.listed (at.of, (input, at.at)),
           ),
           refl,
         )),
@@ -132,7 +133,7 @@ module _ (c : ℕ) where
         idle_line c,
         inr (inr (
           λ j task state left at. free j task at.listed (at.of, (state, left, at.at)),
-          λ j task context at. none j task at.listed (at.of, (context, at.at)),
+          λ j task input at. none j task at.listed (at.of, (input, at.at)),
           refl,
         )),
       )

@@ -250,7 +250,7 @@ pub fn watch_line(alloc: Global, name: &str, key: &str) -> Result<String, AllocE
     format!(in alloc; "watch {name} {key} set\n")
 }
 
-/// The same of a variable.
+/// What `watch` answers where it names a variable.
 pub fn variable_watch_line(alloc: Global, name: &str) -> Result<String, AllocError>
     ensures { IfOk result (λ line. string_bytes line ≡ variable_watch_line name.now) }
 {

@@ -15,6 +15,7 @@ use Rattle.bpf_plain.specs.PlainStore.{Contents, Passes, StandsFor, has_cpu, is_
 use Rattle.bpf_helpers.specs.Held.{AreHeld}
 use Rattle.bpf_loader.specs.Loaded.{Loaded}
 use Rattle.bpf_cpu.specs.declared.cpu.Cpu.{Cpu}
+use Rattle.bpf_cpu.specs.declared.input.Input.{Input}
 use Rattle.bpf_cpu.specs.declared.outcome.Progress.{Progress}
 use Rattle.bpf_cpu.specs.declared.outcome.Progress.TheVariants.{On}
 use Rattle.bpf_cpu.specs.State.{start}
@@ -58,7 +59,7 @@ step_noted program old new left m answer x y more own step =
 -- a step that no store sees
 pub quiet_noted : (program : Loaded) (stage : Stage) (pc c budget : ℕ) (x y : Recording) → IsQuietAt program stage pc → x.lost ≡ false → y.events ≡ x.events
     → NotesStage program c stage budget x y pc
-quiet_noted program (Waiting context) pc c budget x y quiet kept same = absurd quiet
+quiet_noted program (Waiting input) pc c budget x y quiet kept same = absurd quiet
 quiet_noted program (Ended outcome) pc c budget x y quiet kept same = absurd quiet
 quiet_noted program (InHand state left) pc c budget x y (at, more, (new, step)) kept same =
     (at, quiet left more)
@@ -68,18 +69,18 @@ quiet_noted program (InHand state left) pc c budget x y (at, more, (new, step)) 
     quiet (suc n) more = λ fine. (kept, λ s sound shows. ([], (On, new, s, step s.shape, refl), same ∙ sym (append-nil x.events)))
 
 -- ---- the beginning of a run
-pub begin_serves : (state : Cpu) (c : ℕ) (context : List ℕ) (x m : Recording) → state ≡ start c context → serves m ≡ serves x → has_cpu x.store c ≡ true → has_cpu m.store state.number ≡ true
-begin_serves state c context x m starts same served =
+pub begin_serves : (state : Cpu) (c : ℕ) (input : Input) (x m : Recording) → state ≡ start c input → serves m ≡ serves x → has_cpu x.store c ≡ true → has_cpu m.store state.number ≡ true
+begin_serves state c input x m starts same served =
     ap (λ (s : Cpu). has_cpu m.store s.number) starts ∙ (ap (λ (f : ℕ → Bool). f c) same ∙ served)
 
-pub begin_runs : (state : Cpu) (c : ℕ) (context : List ℕ) (x m : Recording) → state ≡ start c context → is_running m.store ≡ put (is_running x.store) c true → is_running m.store state.number ≡ true
-begin_runs state c context x m starts runs =
+pub begin_runs : (state : Cpu) (c : ℕ) (input : Input) (x m : Recording) → state ≡ start c input → is_running m.store ≡ put (is_running x.store) c true → is_running m.store state.number ≡ true
+begin_runs state c input x m starts runs =
     ap (λ (s : Cpu). is_running m.store s.number) starts ∙ (ap (λ (f : ℕ → Bool). f c) runs ∙ put-same (is_running x.store) c c true refl)
 
-pub begin_noted : (program : Loaded) (c : ℕ) (context : List ℕ) (budget : ℕ) (old : Cpu) (x m y : Recording) → c ≡ x.cpu → has_cpu x.store c ≡ true
-    → Calls (PassesNoted x m) (serves x) c Begin → serves m ≡ serves x → old ≡ start c context → NotesStep program old budget m y
-    → NotesBegin program c context budget x y
-begin_noted program c context budget old x m y own served call same starts step kept =
+pub begin_noted : (program : Loaded) (c : ℕ) (input : Input) (budget : ℕ) (old : Cpu) (x m y : Recording) → c ≡ x.cpu → has_cpu x.store c ≡ true
+    → Calls (PassesNoted x m) (serves x) c Begin → serves m ≡ serves x → old ≡ start c input → NotesStep program old budget m y
+    → NotesBegin program c input budget x y
+begin_noted program c input budget old x m y own served call same starts step kept =
     let later = step kept in
     let note = call.passage.2 later.0 in
     let plain : Calls (Passes x.store m.store) (has_cpu x.store) c Begin =
@@ -120,11 +121,11 @@ stage_fits m c j task program x stands work listed loaded store = elim work [
         subst (λ (s : Contents). is_running s c ≡ true) (sym store) fits.runs,
       ) in
       subst (λ (s : Stage). FitsStage program c s x) (sym stage) fit
-  | inr (free, (t, context, at), lowest) ↦
+  | inr (free, (t, input, at), lowest) ↦
       let both : Some t ≡ Some task = sym at.listed ∙ listed in
       let same : t ≡ task = cc in
-      let stage : task.stage ≡ Waiting context = ap (λ (u : Task). u.stage) (sym same) ∙ at.at in
-      let fit : FitsStage program c (Waiting context) x = (stands.short c j t context at, subst (λ (s : Contents). is_running s c ≡ false) (sym store) (stands.idle c free)) in
+      let stage : task.stage ≡ Waiting input = ap (λ (u : Task). u.stage) (sym same) ∙ at.at in
+      let fit : FitsStage program c (Waiting input) x = (stands.short c j t input at, subst (λ (s : Contents). is_running s c ≡ false) (sym store) (stands.idle c free)) in
       subst (λ (s : Stage). FitsStage program c s x) (sym stage) fit
 ]
 
@@ -156,14 +157,14 @@ stage_watched m c j pc task program x y (inl (t, state, left, at)) listed loaded
     let P : List Loaded → Type 0 = λ ps. slice_get ps task.program ≡ Some program in
     let H : ℕ → Type 0 = λ n. HasEvents program n w.store state left r.0 in
     inl (j, task, state, left, subst A (sym shows.jobs) here, (program, r.0, subst P (sym shows.programs) loaded, subst H fit.0 r.1, same_log c j pc state.pc y.events x.events r.0 answer number.0 fresh r.2))
-stage_watched m c j pc task program x y (inr (free, (t, context, at), lowest)) listed loaded store fresh kept fits notes w shows answer =
+stage_watched m c j pc task program x y (inr (free, (t, input, at), lowest)) listed loaded store fresh kept fits notes w shows answer =
     let both : Some t ≡ Some task = sym at.listed ∙ listed in
     let same : t ≡ task = cc in
-    let here : IsAt m.jobs c j task (Waiting context) = subst (λ (u : Task). IsAt m.jobs c j u (Waiting context)) same at in
-    let begun : (pc ≡ 0) × NotesBegin program c context task.budget x y = subst (λ (s : Stage). NotesStage program c s task.budget x y pc) here.at notes in
+    let here : IsAt m.jobs c j task (Waiting input) = subst (λ (u : Task). IsAt m.jobs c j u (Waiting input)) same at in
+    let begun : (pc ≡ 0) × NotesBegin program c input task.budget x y = subst (λ (s : Stage). NotesStage program c s task.budget x y pc) here.at notes in
     let r = (begun.1 kept).1 w.store shows.sound (subst (λ (s : Contents). StandsFor s w.store) (sym store) shows.store) in
     let F : List Task → Type 0 = λ jobs. IsFree jobs c in
-    let A : List Task → Type 0 = λ jobs. IsAt jobs c j task (Waiting context) in
+    let A : List Task → Type 0 = λ jobs. IsAt jobs c j task (Waiting input) in
     let B : List Task → Type 0 = λ jobs. NoneWaitsBelow jobs c j in
     let P : List Loaded → Type 0 = λ ps. slice_get ps task.program ≡ Some program in
     inr (inl (
@@ -171,7 +172,7 @@ stage_watched m c j pc task program x y (inr (free, (t, context, at), lowest)) l
       (
         j,
         task,
-        context,
+        input,
         r.0,
         subst A (sym shows.jobs) here,
         subst B (sym shows.jobs) lowest,
@@ -205,7 +206,7 @@ kept_watched m c j pc task program x y stage budget stands work listed loaded st
 
 -- a job in hand can make a step
 can_step : (program : Loaded) (c : ℕ) (x : Recording) (stage : Stage) → FitsStage program c stage x → CanStepAt program stage
-can_step program c x (Waiting context) fits = tt
+can_step program c x (Waiting input) fits = tt
 can_step program c x (InHand state left) fits = fits.1
 can_step program c x (Ended outcome) fits = tt
 

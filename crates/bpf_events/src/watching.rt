@@ -1,7 +1,6 @@
 //! What a turn does at the store, noted before the turn is made.
 
 ghost use Rattle.std.specs.Prelude.{◌≡◌, ◌<◌, ◌≤◌, true, false, IfNone, IfOk, IfSome, length, slice_get};
-ghost use Rattle.bpf_mem.specs.Limits.{max_context};
 ghost use Rattle.bpf_plain.specs.Alike.{IsSameShape};
 ghost use Rattle.bpf_plain.specs.PlainStore.{has_cpu, held_spans, is_running};
 ghost use Rattle.bpf_helpers.specs.Held.{AreHeld};
@@ -10,7 +9,7 @@ ghost use Rattle.bpf_machine.specs.Kept.{kept_stage};
 ghost use Rattle.bpf_events.specs.Private.Watching.{CanStepAt, FitsStage, IsQuietAt, IsWatched, NotesBegin, NotesStage, NotesStep};
 
 use crate::recorder::Recorder;
-use bpf_cpu::Cpu;
+use bpf_cpu::{Cpu, Input};
 use bpf_loader::Program;
 use bpf_machine::{KeptStage, Machine};
 use bpf_shared::Shared;
@@ -34,19 +33,18 @@ fn note_step(recorder: &mut Recorder, program: &Program, state: Cpu, left: u64)
 }
 
 /// Begins a run of a CPU, and makes its first step.
-fn note_begin(recorder: &mut Recorder, program: &Program, cpu: u8, context: Vec<u8>, budget: u64)
+fn note_begin(recorder: &mut Recorder, program: &Program, cpu: u8, input: Input, budget: u64)
     requires own { cpu ≡ recorder.old.cpu }
     requires serves { has_cpu recorder.old.store cpu ≡ true }
     requires idle { is_running recorder.old.store cpu ≡ false }
-    requires short { length context.items ≤ max_context }
-    ensures noted { NotesBegin program.now cpu context.items budget recorder.old recorder.new }
+    ensures noted { NotesBegin program.now cpu input budget recorder.old recorder.new }
     ensures shape { IsSameShape recorder.old.store recorder.new.store }
 {
     program.starts();
     let Ok(()) = recorder.begin(cpu) else {
         unreachable!();
     };
-    let state = Cpu::new(cpu, context);
+    let state = Cpu::new(cpu, input);
     note_step(recorder, program, state, budget);
 }
 
@@ -66,8 +64,8 @@ fn note_stage(
     ensures shape { IsSameShape recorder.old.store recorder.new.store }
 {
     match stage {
-        KeptStage::Waiting(context) => {
-            note_begin(recorder, program, cpu, context, budget);
+        KeptStage::Waiting(input) => {
+            note_begin(recorder, program, cpu, input, budget);
             0
         }
         KeptStage::InHand(state, left) => {

@@ -23,7 +23,7 @@ hold_all (t ∷ ts) each = (each 0 t refl, hold_all ts (λ j task at. each (suc 
 
 module _ (m : MachineState) (bytes : List ℕ) (stands : CanStand m) (saved : IsSavedAs m.store bytes) (fit : FitInBytes m.jobs) where
   holds : (j : ℕ) (task : Task) → slice_get m.jobs j ≡ Some task → (stage : Stage) → task.stage ≡ stage → FitsBytes stage → HoldsWhatMayBe stage
-  holds j task at (Waiting context) is fits = tt
+  holds j task at (Waiting input) is fits = tt
   holds j task at (InHand state left) is fits =
       let hand = stands.hand task.cpu j task state left (record { listed = at; of = refl; at = is }) in
       record {
@@ -55,7 +55,7 @@ is_state_of patient h m room first numbers bytes jobs read placed home stands fi
 -- jobs as they are at first wait
 pub first_wait : (jobs : List Job) → AllWait (map waiting jobs)
 first_wait [] j task at = cc
-first_wait (x ∷ xs) zero task at = (let same : waiting x ≡ task = cc in (x.context.items, ap (λ (t : Task). t.stage) (sym same)))
+first_wait (x ∷ xs) zero task at = (let same : waiting x ≡ task = cc in (x.input, ap (λ (t : Task). t.stage) (sym same)))
 first_wait (x ∷ xs) (suc j) task at = first_wait xs j task at
 
 pub some_is : (P : ℕ → Type 0) (o : Option ℕ) → is_some o ≡ true → IfSome o P → (j : ℕ) × P j

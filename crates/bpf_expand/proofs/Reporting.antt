@@ -5,6 +5,7 @@ use Rattle.std.proofs.lemmas.List.Elements.{All-head, All-tail}
 use Rattle.hex.specs.Hex.{decode_of}
 use Rattle.bpf_names.specs.Names.{Names}
 use Rattle.bpf_plain.specs.Alike.{AlikeStandAlike, SavedAlikeLookAlike}
+use Rattle.bpf_cpu.specs.declared.input.Input.{Input}
 use Rattle.bpf_cpu.specs.declared.outcome.Outcome.{Outcome}
 use Rattle.bpf_cpu.specs.Task.{Stage, Task, Waiting, InHand, Ended}
 use Rattle.bpf_machine.specs.Hands.{IsAt}
@@ -57,9 +58,9 @@ no_work : (m : MachineState) (c : ℕ) → HaveEnded m.jobs → HasWork m c → 
 no_work m c ended (j, inl (task, state, left, here)) =
     let end = ended j task here.listed in
     let both : InHand state left ≡ Ended end.0 = sym here.at ∙ end.1 in cc
-no_work m c ended (j, inr (free, (task, context, here), none)) =
+no_work m c ended (j, inr (free, (task, input, here), none)) =
     let end = ended j task here.listed in
-    let both : Waiting context ≡ Ended end.0 = sym here.at ∙ end.1 in cc
+    let both : Waiting input ≡ Ended end.0 = sym here.at ∙ end.1 in cc
 
 module _ (h : Host) (bytes : List ℕ) where
   -- of jobs that have ended, no CPU's turns are printed
@@ -83,8 +84,8 @@ module _ (h : Host) (bytes : List ℕ) where
   has_ended m j task (Ended outcome) is at stands idle = (outcome, stands)
   has_ended m j task (InHand state left) is at stands (x, isx, free, none) =
       absurd (free j task state left (record { listed = here_too x.jobs m.jobs j task (same_jobs h x m bytes isx is) at; of = refl; at = stands }))
-  has_ended m j task (Waiting context) is at stands (x, isx, free, none) =
-      absurd (none j task context (record { listed = here_too x.jobs m.jobs j task (same_jobs h x m bytes isx is) at; of = refl; at = stands }))
+  has_ended m j task (Waiting input) is at stands (x, isx, free, none) =
+      absurd (none j task input (record { listed = here_too x.jobs m.jobs j task (same_jobs h x m bytes isx is) at; of = refl; at = stands }))
 
   -- so where nothing is found all jobs have ended
   pub all_ended : (m : MachineState) → IsStateOf h m bytes → AreSuccessors h bytes [] → HaveEnded m.jobs
@@ -123,12 +124,12 @@ module _ (look : SavedAlikeLookAlike) (stand : AlikeStandAlike) (h : Host) (name
 
   idle_end : (bytes report : List ℕ) (c : ℕ) → IsReportIn h names bytes report → IsIdleIn h bytes c
   idle_end bytes report c (m, is, ended, told) =
-      (m, is, (λ j task state left here. no_work m c ended (j, inl (task, state, left, here))), (λ j task context here. absurd (waits j task context here)))
+      (m, is, (λ j task state left here. no_work m c ended (j, inl (task, state, left, here))), (λ j task input here. absurd (waits j task input here)))
     where
-      waits : (j : ℕ) (task : Task) (context : List ℕ) → IsAt m.jobs c j task (Waiting context) → ⊥
-      waits j task context here =
+      waits : (j : ℕ) (task : Task) (input : Input) → IsAt m.jobs c j task (Waiting input) → ⊥
+      waits j task input here =
           let end = ended j task here.listed in
-          let both : Waiting context ≡ Ended end.0 = sym here.at ∙ end.1 in cc
+          let both : Waiting input ≡ Ended end.0 = sym here.at ∙ end.1 in cc
 
   closed_by : (line bytes : List ℕ) (c : ℕ) → decode_of line ≡ Ok bytes → IsAnswered h names lines line
       → IsIdleIn h bytes c ⊎ ((n : ℕ) × (next : List ℕ) × IsSuccessor h bytes c n next × IsAmong all next)

@@ -30,7 +30,7 @@ idle_beyond h m bytes n is serves c beyond =
     let there : nat_lt c n ≡ true = sym (serves c) ∙ subst (λ (d : ℕ). has_cpu m.store d ≡ true) here.of (is.of.stands.served j task here.listed) in
     let less = ltb-true c n there in
     omega arith) in
-    (m, is, λ j task state left here. nobody j task (InHand state left) here, λ j task context here. nobody j task (Waiting context) here)
+    (m, is, λ j task state left here. nobody j task (InHand state left) here, λ j task input here. nobody j task (Waiting input) here)
 
 pub none_below : (h : Host) (bytes : List ℕ) → AreBelow h bytes [] 0
 none_below h bytes = record {

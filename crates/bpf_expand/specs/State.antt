@@ -7,6 +7,7 @@ use Rattle.bpf_names.specs.Names.{Names}
 use Rattle.bpf_plain.specs.PlainStore.{IsSavedAs, StandsFor}
 use Rattle.bpf_jobs.specs.Printed.{Tells}
 use Rattle.bpf_loader.specs.Loaded.{Loaded}
+use Rattle.bpf_cpu.specs.declared.input.Input.{Input}
 use Rattle.bpf_cpu.specs.Task.{Task, Waiting}
 use Rattle.bpf_machine.specs.Hands.{IsFree, NoneWaits}
 use Rattle.bpf_machine.specs.Machine.{MachineState}
@@ -35,7 +36,7 @@ pub record ExpanderState : Type 0 where
 -- each of the jobs waits
 abbrev pub AllWait : List Task → Type 0
 AllWait jobs = (j : ℕ) (task : Task) → slice_get jobs j ≡ Some task
-    → (context : List ℕ) × (task.stage ≡ Waiting context)
+    → (input : Input) × (task.stage ≡ Waiting input)
 
 -- a machine of the host, whose runs hold what a run may hold, and which asks for no lists
 pub record IsOf (h : Host) (m : MachineState) : Type 0 where

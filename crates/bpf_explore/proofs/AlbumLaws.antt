@@ -247,7 +247,7 @@ idle_beyond h s is i c beyond m at =
     let serves : nat_lt c h.cpus ≡ true = sym (shape.1 c) ∙ subst (λ (d : ℕ). has_cpu m.store d ≡ true) here.of (stands.served j task here.listed) in
     let less = ltb-true c h.cpus serves in
     omega arith) in
-    (λ j task state left here. nobody j task (InHand state left) here, λ j task context here. nobody j task (Waiting context) here)
+    (λ j task state left here. nobody j task (InHand state left) here, λ j task input here. nobody j task (Waiting input) here)
 
 -- ---- a turn from a kept machine
 pub still_at : (old new : List MachineState) (place : ℕ) (m : MachineState) → slice_get old place ≡ Some m → Extends old new → slice_get new place ≡ Some m

@@ -35,7 +35,7 @@ all_each P parts numbers n past far j task at =
 pub idle_jobs : (jobs : List Task) (c : ℕ) → ((j : ℕ) (task : Task) → slice_get jobs j ≡ Some task → HasEndedOn c task) → IsFree jobs c × NoneWaits jobs c
 idle_jobs jobs c ended = (
   λ j task state left at. (let end = ended j task at.listed at.of in let no : InHand state left ≡ Ended end.0 = sym at.at ∙ end.1 in cc),
-  λ j task context at. (let end = ended j task at.listed at.of in let no : Waiting context ≡ Ended end.0 = sym at.at ∙ end.1 in cc),
+  λ j task input at. (let end = ended j task at.listed at.of in let no : Waiting input ≡ Ended end.0 = sym at.at ∙ end.1 in cc),
 )
 
 -- ---- budgets

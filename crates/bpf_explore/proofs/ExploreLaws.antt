@@ -1,5 +1,5 @@
 -- From a shape and its jobs to the answers.
-use Rattle.std.proofs.Common.{◌≡◌, ◌∙◌, ℕ, zero, suc, ◌<◌, ◌≤◌, Bool, true, false, List, [], ◌∷◌, Option, Some, None, length, map, vec_len, refl, sym, ap, arith}
+use Rattle.std.proofs.Common.{◌≡◌, ◌∙◌, ℕ, zero, suc, ◌<◌, ◌≤◌, Bool, true, false, List, [], ◌∷◌, Option, Some, None, length, map, refl, sym, ap, arith}
 use Rattle.std.specs.Prelude.{All, nat_lt, slice_get}
 use Rattle.std.proofs.lemmas.List.{get_or_past}
 use Rattle.std.proofs.lemmas.Option.{slice_get_within}
@@ -10,6 +10,7 @@ use Rattle.bpf_names.specs.Names.{Names}
 use Rattle.bpf_pairs.specs.Pairs.{Pair}
 use Rattle.bpf_pairs.proofs.Filling.{filled_shape}
 use Rattle.bpf_loader.specs.Loaded.{Loaded}
+use Rattle.bpf_cpu.specs.declared.input.Input.{Input}
 use Rattle.bpf_cpu.specs.declared.job.Job.{Job}
 use Rattle.bpf_cpu.specs.Task.{Task, Waiting, waiting}
 use Rattle.bpf_machine.specs.Laws.{IsFresh}
@@ -45,17 +46,16 @@ pub first_lists_none : (h : Shape) (m : MachineState) (pairs : List Pair) (progr
 first_lists_none h m pairs programs jobs shows = none_of m.lists shows.lists
 
 -- each job waits
-job_waits : (jobs : List Job) → All (λ job. vec_len job.context ≤ max_context) jobs → (j : ℕ) (task : Task) → slice_get (map waiting jobs) j ≡ Some task
-    → (context : List ℕ) × (task.stage ≡ Waiting context) × (length context ≤ max_context)
+job_waits : (jobs : List Job) → All (λ job. length job.input.context ≤ max_context) jobs → (j : ℕ) (task : Task) → slice_get (map waiting jobs) j ≡ Some task
+    → (input : Input) × (task.stage ≡ Waiting input) × (length input.context ≤ max_context)
 job_waits [] all j task at = cc
 job_waits (x ∷ xs) all zero task at =
     let same : waiting x ≡ task = cc in
-    let short : vec_len x.context ≤ max_context = all 0 x (omega arith) in
-    let size = x.context.ok.0 in
-    (x.context.items, sym (ap (λ (t : Task). t.stage) same), omega arith)
+    let short : length x.input.context ≤ max_context = all 0 x (omega arith) in
+    (x.input, sym (ap (λ (t : Task). t.stage) same), short)
 job_waits (x ∷ xs) all (suc j) task at = job_waits xs (λ k d h. all (suc k) d (omega arith)) j task at
 
-pub first_fresh : (h : Shape) (m : MachineState) (pairs : List Pair) (programs : List Loaded) (jobs : List Job) → All (λ job. vec_len job.context ≤ max_context) jobs → Shows m (first_world h pairs programs (map waiting jobs)) → IsFresh (first_world h pairs programs (map waiting jobs))
+pub first_fresh : (h : Shape) (m : MachineState) (pairs : List Pair) (programs : List Loaded) (jobs : List Job) → All (λ job. length job.input.context ≤ max_context) jobs → Shows m (first_world h pairs programs (map waiting jobs)) → IsFresh (first_world h pairs programs (map waiting jobs))
 first_fresh h m pairs programs jobs short shows = record { store = shows.sound; waits = job_waits jobs short }
 
 -- ---- what is kept first
@@ -94,13 +94,13 @@ not_whole Limited h = refl
 not_whole Refused h = refl
 
 pub explored : CoverTellsAll → (kept : List MachineState) (w : World) (names : Names) (maps : Bool) (answers : List Found) (extent : Extent) (limit : ℕ) → BeginsAt kept w → CameTo false kept extent limit
-    → ((u : World) → IsFirst kept u → AreOutcomes u names maps answers) → ((i : ℕ) → IsAnsweredAt kept names maps answers i) → AreLed kept → AreApart kept → IsExplored w names maps answers (is_whole extent) (is_refused extent) limit (length kept)
+    → ((u : World) → IsFirst kept u → AreOutcomes u names maps answers) → (extent ≡ Whole → (i : ℕ) → IsAnsweredAt kept names maps answers i) → AreLed kept → AreApart kept → IsExplored w names maps answers (is_whole extent) (is_refused extent) limit (length kept)
 explored law kept w names maps answers extent limit begins came outcomes answered led apart =
     let first = begins.1 in
     record {
       outcomes = outcomes w first;
       complete = λ is. (let shown : IsShown kept w = (0, first.0, first.1, first.2) in
-          law kept w names maps answers (came.covers (whole_of extent is)) begins.0 shown (λ i m at ended. answered i m at ended));
+          law kept w names maps answers (came.covers (whole_of extent is)) begins.0 shown (λ i m at ended. answered (whole_of extent is) i m at ended));
       counted = are_reached kept w first led apart;
       met = λ is uncut. came.met (limited_of extent is uncut);
       short = λ is. (not_whole extent is, came.short (refused_of extent is));

@@ -13,6 +13,7 @@ pub mod WayLaws
 pub mod TrailLaws
 pub mod AnswerLaws
 pub mod TellLaws
+pub mod DiveLaws
 pub mod EachLaws
 pub mod RichLaws
 pub mod EdgeLaws

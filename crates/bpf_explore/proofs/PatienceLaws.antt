@@ -47,11 +47,11 @@ pub some_there : (kept : List MachineState) (place : ℕ) (o : Option (List (ℕ
 some_there kept place o x e h = subst (λ (s : Option (List (ℕ × ℕ))). IfSome s (λ by. ComesTo kept by place)) e h
 
 -- ---- jobs that have ended
-read_outcome : (jobs : List Task) (j : ℕ) (task : Task) → slice_get jobs j ≡ Some task → outcome_at jobs j ≡ ended task.stage
+pub read_outcome : (jobs : List Task) (j : ℕ) (task : Task) → slice_get jobs j ≡ Some task → outcome_at jobs j ≡ ended task.stage
 read_outcome jobs j task at = ap (λ (o : Option Task). option_and_then (λ t. ended t.stage) o) at
 
-stage_is : (stage : Stage) (o : Outcome) → Some o ≡ ended stage → stage ≡ Ended o
-stage_is (Waiting context) o e = cc
+pub stage_is : (stage : Stage) (o : Outcome) → Some o ≡ ended stage → stage ≡ Ended o
+stage_is (Waiting input) o e = cc
 stage_is (InHand state left) o e = cc
 stage_is (Ended outcome) o e = let one : o ≡ outcome = cc in ap Ended (sym one)
 
@@ -123,7 +123,7 @@ none_of_none w hung z none (inr (i, by, at, lies)) = let no : None ≡ Some by =
 
 pub explored_patiently : PatientTellAll → (kept : List MachineState) (w : World) (names : Names) (maps : Bool) (answers : List Found) (extent : Extent) (whole fit all refused : Bool) (limit : ℕ) (hung : List (List (ℕ × ℕ))) (budgets : Budgets) → BeginsAt kept w → CameTo true kept extent limit
     → whole ≡ is_whole extent → refused ≡ is_refused extent
-    → ((u : World) → IsFirst kept u → ArePatient u names maps answers) → (fit ≡ true → (i : ℕ) → IsAnsweredAt kept names maps answers i)
+    → ((u : World) → IsFirst kept u → ArePatient u names maps answers) → (extent ≡ Whole → fit ≡ true → (i : ℕ) → IsAnsweredAt kept names maps answers i)
     → AllHang kept hung → (whole ≡ true → fit ≡ true → AllLeadOrBeyond kept hung)
     → (all ≡ true → (whole ≡ true) × (fit ≡ true)) → (all ≡ false → (whole ≡ false) ⊎ (fit ≡ false))
     → (fit ≡ false → budgets ≡ RunOut) → (budgets ≡ Suffice → NoneRunsOut kept) → (budgets ≡ RunOut → CanRunOut kept)
@@ -137,7 +137,7 @@ explored_patiently law kept w names maps answers extent whole fit all refused li
     ends_or_lies kept w z hung (leads a.0 a.1) fresh first (came.covers (whole_then a.0) w z schedule fresh shown runs well).0) in
     record {
       outcomes = outcomes w first;
-      complete = λ is. (let a = every is in law kept w names maps answers (came.covers (whole_then a.0)) fresh shown (λ i m at ended. answered a.1 i m at ended));
+      complete = λ is. (let a = every is in law kept w names maps answers (came.covers (whole_then a.0)) fresh shown (λ i m at ended. answered (whole_then a.0) a.1 i m at ended));
       counted = are_reached_freely kept w first led (budgeted w fresh first) apart;
       met = λ is uncut. elim (every_not is) [ inl a ↦ inl (came.met (limited_of extent (sym is_all ∙ a) (sym is_cut ∙ uncut))) | inr a ↦ inr (unfit a) ];
       short = λ is. (none_of_all all (λ yes. (let a : whole ≡ true = (every yes).0 in let b : whole ≡ false = not_then is in cc)), came.short (refused_of extent (sym is_cut ∙ is)));

@@ -143,7 +143,7 @@ goes_length w c j task old left answer z (program, end, s, new, rest, loaded, ad
 
 pub turn_length : (w : World) (c : ℕ) (answer : Turn) (z : World) → TakesTurn w c answer z → length z.jobs ≡ length w.jobs
 turn_length w c answer z (inl (j, task, state, left, at, goes)) = goes_length w c j task state left answer z goes
-turn_length w c answer z (inr (inl (free, (j, task, context, s, at, none, begins, goes)))) = goes_length (record w { store = s }) c j task _ task.budget answer z goes
+turn_length w c answer z (inr (inl (free, (j, task, input, s, at, none, begins, goes)))) = goes_length (record w { store = s }) c j task _ task.budget answer z goes
 turn_length w c answer z (inr (inr (free, none, is, same))) = ap (λ (v : World). length v.jobs) same
 
 pub runs_length : (cs : List ℕ) (w z : World) → RunsSchedule w cs z → length z.jobs ≡ length w.jobs

@@ -16,6 +16,12 @@ is_whole Whole = true
 is_whole Limited = false
 is_whole Refused = false
 
+-- more are kept than the limit
+abbrev pub is_limited : Extent → Bool
+is_limited Whole = false
+is_limited Limited = true
+is_limited Refused = false
+
 -- memory was refused to it
 abbrev pub is_refused : Extent → Bool
 is_refused Whole = false

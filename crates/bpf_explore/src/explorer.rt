@@ -4,6 +4,7 @@ ghost use Rattle.std.specs.Prelude.{◌≡◌, ◌++◌, IfOk, OnOk, replicate, 
 ghost use Rattle.bpf_machine.specs.Schedule.{unrolled};
 
 use crate::album::{Album, number_of};
+use crate::diving::{Course, dive};
 use crate::frontier::Frontier;
 use crate::room::bytes_of;
 use bpf_machine::Machine;
@@ -73,6 +74,7 @@ impl Explorer {
     ghost use Rattle.bpf_machine.specs.Schedule.{unrolled};
     ghost use Rattle.bpf_explore.specs.Stores.{IsOfShape};
     ghost use Rattle.bpf_explore.specs.Album.{ShowsFirst, AreApart, AreLed, LeadsFrom, HaveEndedAt};
+    ghost use Rattle.bpf_explore.specs.Private.Replays.{IsReplayed};
 
     /// A search of which the first machine is kept.
     pub fn new(alloc: Global, shape: StoreShape, machine: Machine) -> Result<Explorer, AllocError>
@@ -141,6 +143,19 @@ impl Explorer {
             state = origin.from as usize;
         }
         by.reverse();
+        Ok(by)
+    }
+
+    /// Makes turns from the first machine, as the dive of this number does. The schedule that they are.
+    pub(crate) fn dive(&mut self, number: u32) -> Result<Vec<(u8, u64)>, AllocError>
+        requires { 0 < length self.old.kept }
+        ensures dived { IfOk result (λ by. IsReplayed self.old.kept (unrolled by.items)
+            self.new.machine) }
+        ensures same { self.new.kept ≡ self.old.kept }
+    {
+        let mut course = Course::new(number, self.album.cpus());
+        self.album.restore(0)?;
+        let by = dive(self.alloc, &mut self.album, &mut course)?;
         Ok(by)
     }
 

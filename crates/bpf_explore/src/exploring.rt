@@ -6,16 +6,17 @@ ghost use Rattle.bpf_cpu.specs.Setup.{IsRunnable};
 ghost use Rattle.bpf_machine.specs.Schedule.{World};
 ghost use Rattle.bpf_jobs.specs.Printed.{first_of};
 ghost use Rattle.bpf_explore.specs.Album.{BeginsAt};
-ghost use Rattle.bpf_explore.specs.Outcomes.{IsExplored};
-ghost use Rattle.bpf_explore.specs.Patient.{IsSearchedPatiently};
+ghost use Rattle.bpf_explore.specs.Outcomes.{AreOutcomes, IsExplored};
+ghost use Rattle.bpf_explore.specs.Patient.{ArePatient, IsSearchedPatiently};
 ghost use Rattle.bpf_explore.specs.Search.{CameTo, rows_of};
-ghost use Rattle.bpf_explore.specs.Private.Answers.{IsFirst, StartsFresh};
+ghost use Rattle.bpf_explore.specs.Private.Answers.{IsAnsweredAt, IsFirst, StartsFresh};
 ghost use Rattle.bpf_explore.specs.Private.Edges.{AreTurns};
 ghost use Rattle.bpf_explore.specs.Private.Hung.{AllHang, AllLeadOrBeyond};
 ghost use Rattle.bpf_explore.specs.Private.Replays.{CanRunOut, NoneRunsOut};
 
 use crate::answers::{Answer, gather};
 use crate::budgets::{Budgets, judge_budgets};
+use crate::dives::{dive_further, dive_patiently};
 use crate::explorer::Explorer;
 use crate::frontier::{Extent, explore};
 use crate::hung::{Hung, gather_hung};
@@ -41,6 +42,30 @@ pub struct Explored {
     pub states: usize,
 }
 
+/// The answers: what is printed of each kept machine without work, and, where the search met its
+/// limit, of where dives lead.
+fn find_answers(
+    alloc: Global,
+    explorer: &mut Explorer,
+    names: &Names,
+    maps: bool,
+    extent: Extent,
+) -> Result<Vec<Answer>, AllocError>
+    requires { (w : World) × IsFirst explorer.old.kept w }
+    ensures same { explorer.new.kept ≡ explorer.old.kept }
+    ensures outcomes { IfOk result (λ answers. (w : World) → IsFirst explorer.old.kept w
+        → AreOutcomes w (names_of names.now) maps answers.items) }
+    ensures answered { extent ≡ Extent.Whole → IfOk result (λ answers. (i : ℕ)
+        → IsAnsweredAt explorer.old.kept (names_of names.now) maps answers.items i) }
+{
+    let mut answers = gather(alloc, explorer, names, maps)?;
+    if !extent.is_limited() {
+        return Ok(answers);
+    }
+    dive_further(alloc, explorer, names, maps, &mut answers)?;
+    Ok(answers)
+}
+
 /// What a search found that came this far.
 fn conclude(
     alloc: Global,
@@ -58,7 +83,7 @@ fn conclude(
     crate::laws::cover_tells_all();
     explorer.leads();
     explorer.apart();
-    let answers = gather(alloc, explorer, names, maps)?;
+    let answers = find_answers(alloc, explorer, names, maps, extent)?;
     let states = explorer.len();
     Ok(Explored {
         answers,
@@ -183,6 +208,31 @@ fn judge(
     Ok((hung, all_fit, budgets))
 }
 
+/// The answers of a patient search, with where dives lead, where it met its limit. Whether what is
+/// printed of each kept machine without work is one.
+fn find_patiently(
+    alloc: Global,
+    explorer: &mut PatientExplorer,
+    names: &Names,
+    maps: bool,
+    extent: Extent,
+) -> Result<(Vec<Answer>, bool), AllocError>
+    requires { StartsFresh explorer.old.kept }
+    ensures same { explorer.new.kept ≡ explorer.old.kept }
+    ensures outcomes { IfOk result (λ r. (w : World) → IsFirst explorer.old.kept w
+        → ArePatient w (names_of names.now) maps r.0.items) }
+    ensures answered { extent ≡ Extent.Whole → IfOk result (λ r. r.1 ≡ true → (i : ℕ)
+        → IsAnsweredAt explorer.old.kept (names_of names.now) maps r.0.items i) }
+    ensures out { IfOk result (λ r. r.1 ≡ false → CanRunOut explorer.old.kept) }
+{
+    let (mut answers, told) = gather_patiently(alloc, explorer, names, maps)?;
+    if !extent.is_limited() {
+        return Ok((answers, told));
+    }
+    dive_patiently(alloc, explorer, names, maps, &mut answers)?;
+    Ok((answers, told))
+}
+
 /// What a patient search found that came this far.
 fn conclude_patiently(
     alloc: Global,
@@ -205,7 +255,7 @@ fn conclude_patiently(
     explorer.refilled();
     let whole = extent.is_whole();
     let turns = explorer.take_turns();
-    let (answers, told) = gather_patiently(alloc, explorer, names, maps)?;
+    let (answers, told) = find_patiently(alloc, explorer, names, maps, extent)?;
     let (hung, fit, budgets) = judge(alloc, explorer, &turns, whole, told)?;
     let all = both(whole, fit);
     let states = explorer.len();

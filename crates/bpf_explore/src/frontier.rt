@@ -19,13 +19,20 @@ pub enum Extent {
 }
 
 impl Extent {
-    ghost use Rattle.bpf_explore.specs.Search.{is_whole, is_refused};
+    ghost use Rattle.bpf_explore.specs.Search.{is_whole, is_limited, is_refused};
 
     /// Whether nothing is left to be kept.
     pub fn is_whole(self) -> bool
         ensures { result ≡ is_whole self }
     {
         matches!(self, Extent::Whole)
+    }
+
+    /// Whether more are kept than the limit.
+    pub(crate) fn is_limited(self) -> bool
+        ensures { result ≡ is_limited self }
+    {
+        matches!(self, Extent::Limited)
     }
 
     /// Whether it ended because memory ran out.

@@ -5,6 +5,8 @@ mod album;
 mod answers;
 mod budgets;
 mod depths;
+mod dives;
+mod diving;
 mod ends;
 mod explorer;
 mod exploring;

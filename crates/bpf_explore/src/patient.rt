@@ -2,6 +2,7 @@
 //! one, which has them all.
 
 use crate::album::{Album, number_of};
+use crate::diving::{Course, dive};
 use crate::explorer::{Origin, push_turns, turns_of};
 use crate::frontier::Frontier;
 use crate::room::bytes_of;
@@ -55,6 +56,7 @@ impl PatientExplorer {
     ghost use Rattle.bpf_explore.specs.Album.{ShowsFirst, AreApart, AreLedFreely, LeadsFreely, HaveEndedAt, NoneRanOutAt, HaveBudgets, HaveWholeBudgets};
     ghost use Rattle.bpf_explore.specs.Private.Edges.{AreTurns};
     ghost use Rattle.bpf_explore.specs.Private.Hung.{LeadsOn};
+    ghost use Rattle.bpf_explore.specs.Private.Replays.{IsReplayed};
 
     /// A search of which the first machine is kept.
     pub fn new(
@@ -185,6 +187,19 @@ impl PatientExplorer {
         let cpus = self.album.cpus();
         let arrivals = mem::replace(&mut self.arrivals, Vec::new(self.alloc));
         Turns { cpus, arrivals }
+    }
+
+    /// Makes turns from the first machine, as the dive of this number does. The schedule that they are.
+    pub(crate) fn dive(&mut self, number: u32) -> Result<Vec<(u8, u64)>, AllocError>
+        requires { 0 < length self.old.kept }
+        ensures dived { IfOk result (λ by. IsReplayed self.old.kept (unrolled by.items)
+            self.new.machine) }
+        ensures same { self.new.kept ≡ self.old.kept }
+    {
+        let mut course = Course::new(number, self.album.cpus());
+        self.album.restore(0)?;
+        let by = dive(self.alloc, &mut self.album, &mut course)?;
+        Ok(by)
     }
 
     /// A schedule leads to each of them, where jobs are given steps on the way.

@@ -9,6 +9,7 @@ use Rattle.bpf_base.proofs.Lists.{slice_get-set_known, slice_get-set_other}
 use Rattle.bpf_shared.proofs.Puts.{equal_or_not}
 use Rattle.bpf_plain.specs.PlainStore.{has_cpu}
 use Rattle.bpf_cpu.specs.declared.cpu.Cpu.{Cpu}
+use Rattle.bpf_cpu.specs.declared.input.Input.{Input}
 use Rattle.bpf_machine.specs.declared.machine.Standing.{Standing}
 use Rattle.bpf_machine.specs.declared.machine.Standing.TheVariants as standing
 use Rattle.bpf_machine.specs.declared.machine.Turn.{Turn}
@@ -35,21 +36,21 @@ use Rattle.bpf_faults.specs.Evidence.{AreSizes, HasEvidence, HaveEvidence, IsBef
 use Rattle.bpf_faults.specs.Private.{AddsEvidence, AreWatched, HasEvidenceOf, HasNoWork, HaveOneInHand, IsToRun, IsEvidenceOfTurn, IsEvidenceOn, SeesNext, Watches, works}
 
 -- ---- sizes of contexts
-pub sizes_of : (jobs : List Job) (sizes : List ℕ) → sizes ≡ map (λ (job : Job). length job.context.items) jobs → AreSizes (map waiting jobs) sizes
-sizes_of jobs sizes e j task context listed waits = at_job (slice_get jobs j) refl
+pub sizes_of : (jobs : List Job) (sizes : List ℕ) → sizes ≡ map (λ (job : Job). length job.input.context) jobs → AreSizes (map waiting jobs) sizes
+sizes_of jobs sizes e j task input listed waits = at_job (slice_get jobs j) refl
   where
-    at_job : (r : Option Job) → slice_get jobs j ≡ r → slice_get sizes j ≡ Some (length context)
+    at_job : (r : Option Job) → slice_get jobs j ≡ r → slice_get sizes j ≡ Some (length input.context)
     at_job None none =
         let no : None ≡ Some task = sym (slice_get-map waiting jobs j ∙ ap (option_map waiting) none) ∙ listed in
         cc
     at_job (Some job) some =
         let shown : Some (waiting job) ≡ Some task = sym (slice_get-map waiting jobs j ∙ ap (option_map waiting) some) ∙ listed in
         let same : waiting job ≡ task = cc shown in
-        let stage : Waiting job.context.items ≡ Waiting context = ap (λ (t : Task). t.stage) same ∙ waits in
-        let own : job.context.items ≡ context = cc stage in
+        let stage : Waiting job.input ≡ Waiting input = ap (λ (t : Task). t.stage) same ∙ waits in
+        let own : job.input ≡ input = cc stage in
         ap (λ (s : List ℕ). slice_get s j) e
-        ∙ (slice_get-map (λ (job : Job). length job.context.items) jobs j
-        ∙ (ap (option_map (λ (job : Job). length job.context.items)) some ∙ ap (λ (c : List ℕ). Some (length c)) own))
+        ∙ (slice_get-map (λ (job : Job). length job.input.context) jobs j
+        ∙ (ap (option_map (λ (job : Job). length job.input.context)) some ∙ ap (λ (i : Input). Some (length i.context)) own))
 
 -- ---- what a turn does to the jobs
 -- a job after the j-th one's stage has changed: it is that one, or another one, as before
@@ -66,22 +67,22 @@ staged jobs j k task other stage listed at = elim (equal_or_not k j) [
 
 -- the stage in which a turn leaves its job is determined by its answer
 abbrev IsAnswered : ℕ → Stage → Turn → Type 0
-IsAnswered j (Waiting context) answer = ⊥
+IsAnswered j (Waiting input) answer = ⊥
 IsAnswered j (InHand state left) answer = answer ≡ turn.Ran
 IsAnswered j (Ended end) answer = answer ≡ turn.Ended j end
 
 answered_job : (k j : ℕ) (stage : Stage) (answer : Turn) (end : Outcome) → IsAnswered k stage answer → answer ≡ turn.Ended j end → k ≡ j
-answered_job k j (Waiting context) answer end a e = absurd a
+answered_job k j (Waiting input) answer end a e = absurd a
 answered_job k j (InHand state left) answer end a e = let no : turn.Ran ≡ turn.Ended j end = sym a ∙ e in cc
 answered_job k j (Ended other) answer end a e = let both : turn.Ended k other ≡ turn.Ended j end = sym a ∙ e in cc
 
 answered_end : (k : ℕ) (stage : Stage) (answer : Turn) (end : Outcome) → IsAnswered k stage answer → ended stage ≡ Some end → answer ≡ turn.Ended k end
-answered_end k (Waiting context) answer end a e = absurd a
+answered_end k (Waiting input) answer end a e = absurd a
 answered_end k (InHand state left) answer end a e = cc
 answered_end k (Ended other) answer end a e = let same : other ≡ end = cc in a ∙ ap (λ (o : Outcome). turn.Ended k o) same
 
 answered_works : (k : ℕ) (stage : Stage) (answer : Turn) → IsAnswered k stage answer → works answer ≡ true
-answered_works k (Waiting context) answer a = absurd a
+answered_works k (Waiting input) answer a = absurd a
 answered_works k (InHand state left) answer a = ap works a
 answered_works k (Ended end) answer a = ap works a
 
@@ -149,11 +150,11 @@ seen_job w c answer z seen job j end one takes sees is = at_turn (turned w c ans
 
 -- ---- what turns leave true of the jobs
 -- a job in another stage that isn't waiting: the others wait as before
-still : (jobs : List Task) (j : ℕ) (task : Task) (stage : Stage) (sizes : List ℕ) → slice_get jobs j ≡ Some task → ((context : List ℕ) → stage ≡ Waiting context → ⊥)
+still : (jobs : List Task) (j : ℕ) (task : Task) (stage : Stage) (sizes : List ℕ) → slice_get jobs j ≡ Some task → ((input : Input) → stage ≡ Waiting input → ⊥)
     → AreSizes jobs sizes → AreSizes (with_stage jobs j task stage) sizes
-still jobs j task stage sizes listed works are k other context at waits = elim (staged jobs j k task other stage listed at) [
-  | inl e ↦ absurd (works context (ap (λ (t : Task). t.stage) (sym e.1) ∙ waits))
-  | inr ne ↦ are k other context ne.1 waits
+still jobs j task stage sizes listed works are k other input at waits = elim (staged jobs j k task other stage listed at) [
+  | inl e ↦ absurd (works input (ap (λ (t : Task). t.stage) (sym e.1) ∙ waits))
+  | inr ne ↦ are k other input ne.1 waits
 ]
 
 one_still : (jobs new : List Task) (c : ℕ) (answer : Turn) → Moves jobs c answer new → HaveOneInHand jobs → HaveOneInHand new
@@ -196,7 +197,7 @@ watched_stay w c answer z sizes before evidence takes grow has are = at_turn (tu
     at_turn : Turned w c answer z → AreWatched z.jobs sizes evidence
     at_turn (inl m) = record {
       sizes = subst (λ (ts : List Task). AreSizes ts sizes) (sym m.is)
-          (still w.jobs m.job m.task m.stage sizes m.listed (λ context e. subst (λ (s : Stage). IsAnswered m.job s answer) e m.answers) are.sizes);
+          (still w.jobs m.job m.task m.stage sizes m.listed (λ input e. subst (λ (s : Stage). IsAnswered m.job s answer) e m.answers) are.sizes);
       one = one_still w.jobs z.jobs c answer m are.one;
       have = have_still w.jobs z.jobs c answer before evidence m grow has are.have;
     }
@@ -205,15 +206,15 @@ watched_stay w c answer z sizes before evidence takes grow has are = at_turn (tu
         (record { sizes = are.sizes; one = are.one; have = λ j fault pc e. grow j fault pc (are.have j fault pc e) })
 
 -- a job at first
-at_first : (jobs : List Job) (j : ℕ) (task : Task) → slice_get (map waiting jobs) j ≡ Some task → (context : List ℕ) × (task.stage ≡ Waiting context)
+at_first : (jobs : List Job) (j : ℕ) (task : Task) → slice_get (map waiting jobs) j ≡ Some task → (input : Input) × (task.stage ≡ Waiting input)
 at_first jobs j task listed = at_job (slice_get jobs j) refl
   where
-    at_job : (r : Option Job) → slice_get jobs j ≡ r → (context : List ℕ) × (task.stage ≡ Waiting context)
+    at_job : (r : Option Job) → slice_get jobs j ≡ r → (input : Input) × (task.stage ≡ Waiting input)
     at_job None none = let no : None ≡ Some task = sym (slice_get-map waiting jobs j ∙ ap (option_map waiting) none) ∙ listed in cc
     at_job (Some job) some =
         let shown : Some (waiting job) ≡ Some task = sym (slice_get-map waiting jobs j ∙ ap (option_map waiting) some) ∙ listed in
         let same : waiting job ≡ task = cc in
-        (job.context.items, ap (λ (t : Task). t.stage) (sym same))
+        (job.input, ap (λ (t : Task). t.stage) (sym same))
 
 pub watched_first : (jobs : List Job) (sizes : List ℕ) → AreSizes (map waiting jobs) sizes → AreWatched (map waiting jobs) sizes []
 watched_first jobs sizes are = record {
@@ -302,21 +303,21 @@ grows P old new adds j fault pc has =
 -- ---- a turn
 -- the state before the step of a job that waits
 pub sees_start : (jobs : List Task) (sizes : List ℕ) (cpu j n : ℕ) (seen : Seen) (r : Standing) → AreSizes jobs sizes → IsStanding jobs cpu r → r ≡ standing.Waiting j
-    → slice_get sizes j ≡ Some n → ((context : List ℕ) → length context ≡ n → IsSeen (start cpu context) seen) → SeesNext jobs cpu seen (Some j)
+    → slice_get sizes j ≡ Some n → ((input : Input) → length input.context ≡ n → IsSeen (start cpu input) seen) → SeesNext jobs cpu seen (Some j)
 sees_start jobs sizes cpu j n seen r are stands is known sees =
     let next : IsNext jobs cpu j = subst (IsStanding jobs cpu) is stands in
     let task = next.1.0 in
-    let context = next.1.1 in
+    let input = next.1.1 in
     let at = next.1.2 in
-    let both : Some (length context) ≡ Some n = sym (are j task context at.listed at.at) ∙ known in
-    let same : length context ≡ n = cc both in
-    (start cpu context, inr (task, context, at, refl), sees context same, inr next)
+    let both : Some (length input.context) ≡ Some n = sym (are j task input at.listed at.at) ∙ known in
+    let same : length input.context ≡ n = cc both in
+    (start cpu input, inr (task, input, at, refl), sees input same, inr next)
 
 -- its context's size is known
 pub size_known : (jobs : List Task) (sizes : List ℕ) (cpu j : ℕ) (r : Standing) → AreSizes jobs sizes → IsStanding jobs cpu r → r ≡ standing.Waiting j → slice_get sizes j ≡ None → ⊥
 size_known jobs sizes cpu j r are stands is none =
     let next : IsNext jobs cpu j = subst (IsStanding jobs cpu) is stands in
-    let no : Some (length next.1.1) ≡ None = sym (are j next.1.0 next.1.1 next.1.2.listed next.1.2.at) ∙ none in
+    let no : Some (length next.1.1.context) ≡ None = sym (are j next.1.0 next.1.1 next.1.2.listed next.1.2.at) ∙ none in
     cc
 
 seen_before : (jobs : List Task) (cpu : ℕ) (seen : Seen) (job : Option ℕ) (evidence : Evidence) → SeesNext jobs cpu seen job → job ≡ Some evidence.job → evidence.cpu ≡ cpu

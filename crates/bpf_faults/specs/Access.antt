@@ -1,12 +1,14 @@
 -- Which bytes an access and an address are about.
-use Rattle.std.specs.Prelude.{◌≡◌, ℕ, ◌+◌, ◌*◌, ◌<◌, ◌≤◌, ℤ}
+use Rattle.std.specs.Prelude.{◌≡◌, ◌⊎◌, ℕ, ◌+◌, ◌*◌, ◌<◌, ◌≤◌, ℤ, pos}
 use Rattle.bpf_insn.specs.declared.register.Reg.{Reg}
+use Rattle.bpf_insn.specs.declared.register.Reg.TheVariants.{R1}
 use Rattle.bpf_insn.specs.declared.instruction.Insn.{Insn}
 use Rattle.bpf_insn.specs.declared.instruction.Insn.TheVariants as insn
 use Rattle.bpf_mem.specs.Addresses.{context_base}
 use Rattle.bpf_mem.specs.Bytes.{length_of, size_of}
 use Rattle.bpf_mem.specs.Limits.{max_context}
 use Rattle.bpf_helpers.specs.Arrays.{array_start}
+use Rattle.bpf_helpers.specs.Calls.{lock_number, unlock_number}
 use Rattle.bpf_shared.specs.declared.shapes.ArrayShape.{ArrayShape}
 use Rattle.bpf_shared.specs.Shape.{array_stride, copies, first_value, fixed_span, map_area}
 use Rattle.bpf_cpu.specs.Row.{plain_size}
@@ -14,7 +16,7 @@ use Rattle.bpf_faults.specs.declared.area.Region.{Region}
 use Rattle.bpf_faults.specs.declared.area.Region.TheVariants.{Array, Context, Values, Other}
 
 -- the instruction loads or stores bytes itself: this many, at this register's value and this offset
--- from it (RFC 9669, section 5)
+-- from it (RFC 9669, section 5); or it takes or frees the lock at R1, which has four bytes
 abbrev pub Accesses : Insn → (base : Reg) → (offset : ℤ) → (length : ℕ) → Type 0
 Accesses (insn.Load z d b o) base offset length =
     (b ≡ base) × (o ≡ offset) × (length_of z ≡ length)
@@ -26,6 +28,8 @@ Accesses (insn.Store z b o s) base offset length =
     (b ≡ base) × (o ≡ offset) × (length_of z ≡ length)
 Accesses (insn.Atomic w op b o s) base offset length =
     (b ≡ base) × (o ≡ offset) × (length_of (size_of w) ≡ length)
+Accesses (insn.CallHelper n) base offset length =
+    ((n ≡ lock_number) ⊎ (n ≡ unlock_number)) × (R1 ≡ base) × (pos 0 ≡ offset) × (4 ≡ length)
 Accesses _ base offset length = ⊥
 
 -- the address is one of the context's, however long it may be

@@ -2,6 +2,7 @@
 use Rattle.std.specs.Prelude.{◌≡◌, ◌⊎◌, ℕ, List, Some, length, slice_get}
 use Rattle.std.specs.List.{Contains}
 use Rattle.bpf_cpu.specs.declared.cpu.Cpu.{Cpu}
+use Rattle.bpf_cpu.specs.declared.input.Input.{Input}
 use Rattle.bpf_cpu.specs.declared.outcome.Fault.{Fault}
 use Rattle.bpf_machine.specs.declared.machine.Turn.TheVariants as turn
 use Rattle.bpf_cpu.specs.declared.outcome.Outcome.TheVariants as outcome
@@ -25,8 +26,8 @@ IsSeen state seen =
 abbrev pub IsBefore : List Task → ℕ → ℕ → Cpu → Type 0
 IsBefore jobs cpu j state =
     ((task : Task) × (left : ℕ) × IsAt jobs cpu j task (InHand state left))
-    ⊎ ((task : Task) × (context : List ℕ) × IsAt jobs cpu j task (Waiting context)
-    × (state ≡ start cpu context))
+    ⊎ ((task : Task) × (input : Input) × IsAt jobs cpu j task (Waiting input)
+    × (state ≡ start cpu input))
 
 -- here the CPU's turn ends the job in its fault, and the evidence shows the state before that turn
 abbrev pub IsEvidenceAt : World → Evidence → Type 0
@@ -63,5 +64,5 @@ LeavesNoneOut w machine evidence =
 -- the sizes of the contexts of the jobs that wait
 abbrev pub AreSizes : List Task → List ℕ → Type 0
 AreSizes jobs sizes =
-    (j : ℕ) (task : Task) (context : List ℕ) → slice_get jobs j ≡ Some task
-    → task.stage ≡ Waiting context → slice_get sizes j ≡ Some (length context)
+    (j : ℕ) (task : Task) (input : Input) → slice_get jobs j ≡ Some task
+    → task.stage ≡ Waiting input → slice_get sizes j ≡ Some (length input.context)

@@ -5,7 +5,7 @@ ghost use Rattle.bpf_cpu.specs.declared.cpu.Cpu as state;
 ghost use Rattle.bpf_cpu.specs.State.{start};
 ghost use Rattle.bpf_faults.specs.Evidence.{IsSeen};
 
-use bpf_cpu::{Cpu, Fault};
+use bpf_cpu::{Cpu, Fault, Input};
 use bpf_shared::Span;
 use std::alloc::{AllocError, Global};
 
@@ -61,10 +61,10 @@ impl Seen {
         cpu: u8,
         bytes: usize,
     ) -> Result<(), AllocError>
-        ensures { OnOk result ((context : List ℕ) → length context ≡ bytes
-            → IsSeen (start cpu context) self.new) }
+        ensures { OnOk result ((input : Input) → length input.context ≡ bytes
+            → IsSeen (start cpu input) self.new) }
     {
-        let start = Cpu::new(cpu, Vec::new(alloc));
+        let start = Cpu::new(cpu, Input::nothing(alloc));
         self.see(&start)?;
         self.context = bytes;
         Ok(())

@@ -1,6 +1,6 @@
 //! The loop in which a job was when its budget was used up.
 
-use bpf_cpu::{Cpu, Outcome};
+use bpf_cpu::{Cpu, Input, Outcome};
 use bpf_machine::{Machine, Standing, Turn};
 use std::alloc::{AllocError, Global};
 
@@ -120,7 +120,7 @@ impl Loops {
             Standing::InHand(_, state) => trail.note(state),
             Standing::Waiting(_) => {
                 trail.clear();
-                trail.note(&Cpu::new(cpu, Vec::new(alloc)));
+                trail.note(&Cpu::new(cpu, Input::nothing(alloc)));
             }
             Standing::Idle => {}
         }

@@ -10,6 +10,7 @@ ghost use Rattle.bpf_faults.specs.Access.{Accesses};
 ghost use Rattle.bpf_faults.specs.Evidence.{IsSeen};
 
 use crate::evidence::Seen;
+use bpf_helpers::calls::{SPIN_LOCK, SPIN_UNLOCK};
 use bpf_insn::{Insn, Reg, SignedSize, Size};
 use bpf_mem::{length, size_of_width};
 
@@ -62,7 +63,7 @@ fn plain_size(size: SignedSize) -> Size
     }
 }
 
-/// The bytes that an instruction loads or stores itself.
+/// The bytes that an instruction loads or stores itself, or those of the lock that it takes or frees.
 pub fn access_of(insn: Insn) -> Option<Access>
     ensures some { IfSome result (λ a. Accesses insn a.base a.offset a.length) }
     ensures none { IfNone result ((base : registers.Reg) (offset : ℤ) (length : ℕ)
@@ -99,6 +100,9 @@ pub fn access_of(insn: Insn) -> Option<Access>
             offset,
             ..
         } => Some(access_at(base, offset, size_of_width(width))),
+        Insn::CallHelper {
+            number: SPIN_LOCK | SPIN_UNLOCK,
+        } => Some(access_at(Reg::R1, 0, Size::Word)),
         _ => None,
     }
 }

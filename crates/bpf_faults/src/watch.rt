@@ -23,9 +23,9 @@ use std::alloc::{AllocError, Global};
 
 /// How many bytes of context a job has.
 fn context_size(job: &Job) -> usize
-    ensures { result ≡ length job.now.context.items }
+    ensures { result ≡ length job.now.input.context }
 {
-    job.context.as_slice().len()
+    job.input.context.bytes().len()
 }
 
 /// How many bytes of context each job has.

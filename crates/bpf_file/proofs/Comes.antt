@@ -1,6 +1,6 @@
 -- What a line says determines its first word, and so which lines may be before it.
-use Rattle.std.proofs.Common.{◌≡◌, ℕ, zero, suc, ◌*◌, ◌-◌, ◌%◌, ◌^◌, ◌<◌, ◌≤◌, ◌==◌, nat_lt, nat_le, Bool, true, false, not, ◌&&◌, ◌||◌, if◌then◌else◌, List, [], ◌∷◌, ◌++◌, length, Option, Some, None, Result, Ok, Err, ◌⊎◌, inl, inr, refl, sym, ap, subst, ◌∙◌, arith}
-use Rattle.std.specs.Prelude.{slice_get}
+use Rattle.std.proofs.Common.{◌≡◌, ℕ, zero, suc, ◌*◌, ◌-◌, ◌%◌, ◌^◌, ◌<◌, ◌≤◌, ◌==◌, nat_lt, nat_le, Bool, true, false, not, ◌&&◌, ◌||◌, if◌then◌else◌, List, [], ◌∷◌, ◌++◌, length, map, Option, Some, None, Result, Ok, Err, ◌⊎◌, inl, inr, refl, sym, ap, subst, ◌∙◌, arith}
+use Rattle.std.specs.Prelude.{slice_get, take}
 use Rattle.std.specs.List.{before_first}
 use Rattle.std.proofs.lemmas.Bool.Decides.{nat_tests}
 use Rattle.std.proofs.lemmas.Slice.Eq.{bytes_eq-Decides}
@@ -14,14 +14,15 @@ use Rattle.bpf_file.specs.declared.key.Key.TheVariants as key
 use Rattle.bpf_file.specs.declared.line.LineError.{LineError}
 use Rattle.bpf_file.specs.declared.line.LineError.TheVariants as line
 use Rattle.bpf_file.specs.Key.{key_text, is_key}
-use Rattle.bpf_file.specs.Form.{is_part, has_form, field_at, version_form, second_version_form, third_version_form, cpus_form, seed_form, map_form, masked_map_form, growing_map_form, growing_masked_map_form, array_form, per_cpu_form, frozen_form, variable_form, data_form, put_form, put_numbers_form, program_form, words_form, job_form, budget_form, context_form}
+use Rattle.bpf_file.specs.Form.{is_part, has_form, field_at, version_form, second_version_form, third_version_form, cpus_form, seed_form, map_form, masked_map_form, growing_map_form, growing_masked_map_form, array_form, per_cpu_form, frozen_form, variable_form, data_form, put_form, put_numbers_form, program_form, words_form, job_form, budget_form, context_form, time_form, random_form}
 use Rattle.bpf_shared.specs.Access.{bytes_in}
 use Rattle.bpf_shared.specs.declared.events.Size.{Size}
 use Rattle.bpf_base.specs.declared.budget.TheConstants.{MAX_BUDGET}
 use Rattle.bpf_file.specs.declared.version.Version.{Version as Edition}
 use Rattle.bpf_file.specs.Version.{may_grow, has_arrays}
-use Rattle.bpf_file.specs.Statement.{Said, Version, Cpus, Seed, Map, Array, Data, Variable, Put, PutNumbers, Program, Words, Job, most_count, count_at, with_number, map_said, array_said, size_of, variable_at, variable_said, size_named, key_number, is_open, with_size, numbers_said, work_of, arrays_of, growing_of, statement_of}
+use Rattle.bpf_file.specs.Statement.{Said, Version, Cpus, Seed, Map, Array, Data, Variable, Put, PutNumbers, Program, Words, Job, most_count, count_at, with_number, map_said, array_said, size_of, variable_at, variable_said, size_named, key_number, is_open, with_size, numbers_said, work_of, arrays_of, growing_of, statement_of, JobSaid, with_job, last_two, before_two, last_number, timed_of, seeded_of}
 use Rattle.bpf_file.specs.Parts.{Part, group_of, is_in_order, is_full}
+use Rattle.bpf_file.specs.Private.Drafts.{IsShortSaid}
 use Rattle.bpf_file.specs.Rows.{first_said, later_said, may_stand, placed}
 use Rattle.bpf_file.proofs.Names.{and_both}
 
@@ -39,16 +40,7 @@ said_group (Put name key value) = 6
 said_group (PutNumbers name key size numbers) = 6
 said_group (Program name) = 7
 said_group (Words name digits) = 7
-said_group (Job cpu name steps context) = 8
-
--- no more digits than a context may have
-abbrev pub IsShort : Option (List ℕ) → Type 0
-IsShort (Some digits) = length digits ≤ 2 * max_context
-IsShort None = Unit {0}
-
-abbrev pub IsShortSaid : Said → Type 0
-IsShortSaid (Job cpu name steps context) = IsShort context
-IsShortSaid s = Unit {0}
+said_group (Job line) = 8
 
 -- what a line of this first word may say
 abbrev Tells : List ℕ → Said → Type 0
@@ -139,6 +131,35 @@ jobs_tell f fs =
     (worded key.Job (job_form ++ budget_form ++ context_form) f fs 8 refl refl h, short_at (job_form ++ budget_form ++ context_form) (f ∷ fs) 6 h refl)))
     tt)))))
 
+-- ---- a job with more at the end of its line
+
+more_tells : (f : List ℕ) (said : Result Said LineError) (more : JobSaid → Result Said LineError) → ((job : JobSaid) → Tells f (Job job) → TellsAll f (more job)) → TellsAll f said → TellsAll f (with_job said more)
+more_tells f (Ok (Job job)) more h t = h job t
+more_tells f (Ok _) more h t = tt
+more_tells f (Err e) more h t = tt
+
+front_tells : (n : ℕ) (f : List ℕ) (fs : List (List ℕ)) → TellsAll f (work_of (take n (f ∷ fs)))
+front_tells zero f fs = tt
+front_tells (suc n) f fs = jobs_tell f (take n fs)
+
+timed_tell : (f : List ℕ) (fs : List (List ℕ)) → TellsAll f (timed_of (f ∷ fs))
+timed_tell f fs =
+    either f (has_form time_form (last_two (f ∷ fs))) _ _ (λ h.
+    more_tells f (work_of (before_two (f ∷ fs))) _ (λ job t. numbered f (last_number (f ∷ fs)) _ (λ n. t))
+    (front_tells (length (f ∷ fs) - 2) f fs))
+    (jobs_tell f fs)
+
+timed_front_tells : (n : ℕ) (f : List ℕ) (fs : List (List ℕ)) → TellsAll f (timed_of (take n (f ∷ fs)))
+timed_front_tells zero f fs = tt
+timed_front_tells (suc n) f fs = timed_tell f (take n fs)
+
+seeded_tell : (f : List ℕ) (fs : List (List ℕ)) → TellsAll f (seeded_of (f ∷ fs))
+seeded_tell f fs =
+    either f (has_form random_form (last_two (f ∷ fs))) _ _ (λ h.
+    more_tells f (timed_of (before_two (f ∷ fs))) _ (λ job t. numbered f (last_number (f ∷ fs)) _ (λ n. t))
+    (timed_front_tells (length (f ∷ fs) - 2) f fs))
+    (timed_tell f fs)
+
 all_arrays_tell : (f : List ℕ) (fs : List (List ℕ)) → TellsAll f (arrays_of (f ∷ fs))
 all_arrays_tell f fs =
     either f (has_form array_form (f ∷ fs)) _ _ (λ h.
@@ -156,7 +177,7 @@ all_arrays_tell f fs =
     (either f (has_form put_form (f ∷ fs)) _ _ (λ h. (worded key.Put put_form f fs 6 refl refl h, tt))
     (either f (has_form put_numbers_form (f ∷ fs)) _ _ (λ h.
     numbers_tell f (f ∷ fs) (worded key.Put put_numbers_form f fs 6 refl refl h))
-    (jobs_tell f fs))))))))
+    (seeded_tell f fs))))))))
 
 grows_tell : (version : Edition) (f : List ℕ) (fs : List (List ℕ)) → TellsAll f (growing_of version (f ∷ fs))
 grows_tell version f fs =
@@ -221,7 +242,7 @@ only_version (Ok (Put name key value)) s e = absurd (no_said (first_said (Ok (Pu
 only_version (Ok (PutNumbers name key size numbers)) s e = absurd (no_said (first_said (Ok (PutNumbers name key size numbers))) s refl e)
 only_version (Ok (Program name)) s e = absurd (no_said (first_said (Ok (Program name))) s refl e)
 only_version (Ok (Words name digits)) s e = absurd (no_said (first_said (Ok (Words name digits))) s refl e)
-only_version (Ok (Job cpu name steps context)) s e = absurd (no_said (first_said (Ok (Job cpu name steps context))) s refl e)
+only_version (Ok (Job line)) s e = absurd (no_said (first_said (Ok (Job line))) s refl e)
 only_version (Err x) s e = absurd (no_said (first_said (Err x)) s refl e)
 
 later : (r : Result Said LineError) (s : Said) → later_said r ≡ Ok s → r ≡ Ok s
@@ -253,3 +274,9 @@ placed_comes p f r s tells e = by_first (p.group == 0) refl e
 
 pub comes : (p : Part) (f : List ℕ) (fs : List (List ℕ)) (s : Said) → placed p f (statement_of p.version (f ∷ fs)) ≡ Ok s → Comes p s
 comes p f fs s e = placed_comes p f (statement_of p.version (f ∷ fs)) s (lines_tell p.version f fs) e
+
+-- what a line of fields says, as the reader meets it
+pub short_said : {A : Type 0} (p : Part) (fields : List A) (g : A → List ℕ) (s : Said) → 1 ≤ length fields
+    → Ok s ≡ placed p (field_at (map g fields) 0) (statement_of p.version (map g fields)) → IsShortSaid s
+short_said p [] g s some e = absurd (omega (arith, some))
+short_said p (f ∷ fs) g s some e = (comes p (g f) (map g fs) s (sym e)).1

@@ -39,22 +39,23 @@ use Rattle.bpf_file.specs.declared.error.Reason.{Reason}
 use Rattle.bpf_file.specs.declared.error.Reason.TheVariants as reason
 use Rattle.bpf_file.specs.Form.{is_there}
 use Rattle.bpf_file.specs.Limits.{most_pairs}
-use Rattle.bpf_file.specs.Statement.{Said, Version, Cpus, Seed, Map, Array, Data, Variable, Put, PutNumbers, Program, Words, Job, statement_of}
+use Rattle.bpf_file.specs.Statement.{Said, Version, Cpus, Seed, Map, Array, Data, Variable, Put, PutNumbers, Program, Words, Job, statement_of, JobSaid}
 use Rattle.bpf_file.specs.File.{File, named_by}
 use Rattle.bpf_file.specs.Contents.{laid, up_to}
 use Rattle.bpf_file.specs.Parts.{Part, State, Between, Within, nothing, is_taken, place_of, array_place, with_first, with_cpus, with_seed, with_map, with_array, with_data, with_pair, with_variable, with_program, with_job}
 use Rattle.bpf_text.specs.Symbols.{Table}
 use Rattle.bpf_file.specs.Symbols.{names_for}
 use Rattle.bpf_file.specs.Programs.{LoadsProgram, OfBytes, OfAssembly, refusal_behind, text_of_lines}
-use Rattle.bpf_file.specs.Rows.{unless, cpus_refusal, map_refusal, array_refusal, size_refusal, data_refusal, data_laid, or_refused, data_added, name_refusal, place_refusal, variable_added, is_sized, is_numbered, pair_refusal, pair_put, key_put, pair_added, value_place, element_put, element_added, numbered_bytes, pair_numbered, element_numbered, numbers_added, put_added, program_added, WordsAdd, served, steps_of, context_of, job_added, placed, AddsLine}
+use Rattle.bpf_file.specs.Rows.{unless, cpus_refusal, map_refusal, array_refusal, size_refusal, data_refusal, data_laid, or_refused, data_added, name_refusal, place_refusal, variable_added, is_sized, is_numbered, pair_refusal, pair_put, key_put, pair_added, value_place, element_put, element_added, numbered_bytes, pair_numbered, element_numbered, numbers_added, put_added, program_added, WordsAdd, served, context_of, job_added, placed, AddsLine, given_by, number_or}
+use Rattle.bpf_base.specs.declared.budget.TheConstants.{DEFAULT_BUDGET}
 use Rattle.bpf_file.specs.Reading.{AddsOrRefuses, FieldsSay, is_end, Belongs, ReadsLine, finished, AreRead}
 use Rattle.bpf_file.specs.Runnable.{IsJobFor, CanRun}
 use Rattle.bpf_file.specs.Laws.{FilesCanRun}
-use Rattle.bpf_file.specs.Private.Drafts.{Ends}
+use Rattle.bpf_file.specs.Private.Drafts.{Ends, IsShort}
 use Rattle.bpf_file.specs.Private.Fits.{IsFit, IsFitState, IsFitResult}
 use Rattle.bpf_file.proofs.Arrays.{arrays_with_new, arrays_with_data, padded_size}
 use Rattle.bpf_file.proofs.Names.{and_both}
-use Rattle.bpf_file.proofs.Comes.{IsShort, IsInPlace, Comes, before, comes}
+use Rattle.bpf_file.proofs.Comes.{IsInPlace, Comes, before, comes}
 
 -- ---- tests of maps
 
@@ -130,7 +131,7 @@ place_below name (n ∷ ns) k e = by_test (bytes_eq n name) (place_of name ns) (
     by_test false None h e = cc
     by_test false (Some j) h e = let same : j + 1 ≡ k = cc in let below : j < length ns = h j refl in omega arith
 
-context_short : (context : Option (List ℕ)) (bytes : List ℕ) → IsShort context → context_of context ≡ Ok bytes → length bytes ≤ max_context
+pub context_short : (context : Option (List ℕ)) (bytes : List ℕ) → IsShort context → context_of context ≡ Ok bytes → length bytes ≤ max_context
 context_short None bytes s e = let same : [] ≡ bytes = cc in let P : List ℕ → Type 0 = λ b. length b ≤ max_context in subst P same (omega arith)
 context_short (Some digits) bytes s e = let sizes = decode_of-ok digits bytes e in let twice : length digits ≡ 2 * length bytes = sizes.2 in omega arith
 
@@ -556,15 +557,15 @@ fit_listed p task t f =
       no_jobs = λ h. absurd (omega arith);
     }
 
-fit_job : (n : ℕ) (p : Part) (cpu program : Option ℕ) (steps : ℕ) (context : Result (List ℕ) FromHexError) → ((c : ℕ) → cpu ≡ Some c → c < p.file.cpus) → ((k : ℕ) → program ≡ Some k → k < length p.titles)
-    → ((bytes : List ℕ) → context ≡ Ok bytes → length bytes ≤ max_context) → IsFit p → IsFitResult (job_added n p cpu program steps context)
-fit_job n p (Some c) (Some k) steps (Ok bytes) hc hk hb f =
+fit_job : (n : ℕ) (p : Part) (cpu program : Option ℕ) (line : JobSaid) (context : Result (List ℕ) FromHexError) → ((c : ℕ) → cpu ≡ Some c → c < p.file.cpus) → ((k : ℕ) → program ≡ Some k → k < length p.titles)
+    → ((bytes : List ℕ) → context ≡ Ok bytes → length bytes ≤ max_context) → IsFit p → IsFitResult (job_added n p cpu program line context)
+fit_job n p (Some c) (Some k) line (Ok bytes) hc hk hb f =
     let P : ℕ → Type 0 = λ m. k < m in
-    fit_listed p (record { cpu = c; program = k; budget = steps; stage = Waiting bytes })
+    fit_listed p (record { cpu = c; program = k; budget = number_or DEFAULT_BUDGET line.budget; stage = Waiting (record { context = bytes; given = given_by (length p.file.jobs) line }) })
     (record { cpu = hc c refl; program = subst P f.titles (hk k refl); stage = hb bytes refl }) f
-fit_job n p (Some c) (Some k) steps (Err e) hc hk hb f = tt
-fit_job n p (Some c) None steps context hc hk hb f = tt
-fit_job n p None k steps context hc hk hb f = tt
+fit_job n p (Some c) (Some k) line (Err e) hc hk hb f = tt
+fit_job n p (Some c) None line context hc hk hb f = tt
+fit_job n p None k line context hc hk hb f = tt
 
 adds_fit : (n : ℕ) (p : Part) (s : Said) (r : Result State FileError) → AddsLine n p s r → Comes p s → IsFit p → IsFitResult r
 adds_fit n p (Version version) r e c f = subst IsFitResult (sym e) (fit_first p version f (idle p 1 f c.0 (omega arith)) (no_arrays_at p 1 f c.0 (omega arith)) (no_pairs_at p 1 f c.0 (omega arith)))
@@ -584,10 +585,10 @@ adds_fit n p (Program name) r e c f =
     (f, f.no_jobs (before p.group 7 8 c.0 (omega arith))))
 adds_fit n p (Words name digits) r w c f =
     fit_words (place_of name p.titles) n p name digits r w f (f.no_jobs (before p.group 7 8 c.0 (omega arith)))
-adds_fit n p (Job cpu name steps context) r e c f =
+adds_fit n p (Job line) r e c f =
     subst IsFitResult (sym e)
-    (fit_job n p (served p.file.cpus cpu) (place_of name p.titles) (steps_of steps) (context_of context)
-    (served_below p.file.cpus cpu) (place_below name p.titles) (λ bytes h. context_short context bytes c.1 h) f)
+    (fit_job n p (served p.file.cpus line.cpu) (place_of line.program p.titles) line (context_of line.context)
+    (served_below p.file.cpus line.cpu) (place_below line.program p.titles) (λ bytes h. context_short line.context bytes c.1 h) f)
 
 says_fit : (n : ℕ) (p : Part) (w : Result Said Reason) (r : Result State FileError) → AddsOrRefuses n p w r → ((s : Said) → w ≡ Ok s → Comes p s) → IsFit p → IsFitResult r
 says_fit n p (Ok s) r a c f = adds_fit n p s r a (c s refl) f

@@ -79,7 +79,7 @@ one_row W R F n p (Put name key value) r q e f = e ∙ sym f
 one_row W R F n p (PutNumbers name key size numbers) r q e f = e ∙ sym f
 one_row W R F n p (Program name) r q e f = e ∙ sym f
 one_row W R F n p (Words name digits) r q a b = one_of_words W R F (place_of name p.titles) n p name digits r q a b
-one_row W R F n p (Job cpu name steps context) r q e f = e ∙ sym f
+one_row W R F n p (Job line) r q e f = e ∙ sym f
 
 one_saying : WordsAreDetermined → RefusalsAreDetermined → FirstIsDetermined → (n : ℕ) (p : Part) (w : Result Said Reason) (r q : Result State FileError) → AddsOrRefuses n p w r → AddsOrRefuses n p w q → r ≡ q
 one_saying W R F n p (Ok s) r q a b = one_row W R F n p s r q a b

@@ -37,13 +37,10 @@ runnable f g ec em ea ep ej eq can =
     record {
       cpus = mapped P (λ job. job.cpu < f.shape.cpus) (λ (job : Job) (t : P (waiting job)). t.cpu) f.jobs.items jobs;
       programs = mapped P (λ job. job.program < vec_len f.programs) (λ (job : Job) (t : P (waiting job)). below f job t.program) f.jobs.items jobs;
-      contexts = mapped P (λ job. vec_len job.context ≤ max_context) (λ (job : Job) (t : P (waiting job)). short job t.stage) f.jobs.items jobs;
+      contexts = mapped P (λ job. length job.input.context ≤ max_context) (λ (job : Job) (t : P (waiting job)). t.stage) f.jobs.items jobs;
       named = subst O (sym ep) (subst A (sym ea) (subst M (sym em) can.named));
       pairs = subst (λ (ms : List MapShape). ArePairs ms (map pair_of f.pairs.items)) (sym em) (subst (ArePairs g.maps) (sym eq) can.pairs);
     }
   where
     below : (f : Setup) (job : Job) → job.program < length f.programs.items → job.program < vec_len f.programs
     below f job h = let n = f.programs.ok.0 in omega (arith, n, h)
-
-    short : (job : Job) → length job.context.items ≤ max_context → vec_len job.context ≤ max_context
-    short job h = let n = job.context.ok.0 in omega (arith, n, h)

@@ -114,3 +114,10 @@ budget_form = Word key.Budget ∷ Number ∷ []
 
 abbrev pub context_form : List Part
 context_form = Word key.Context ∷ Context ∷ []
+
+-- in version 3 also with `time N`, `random N`, or both at its end
+abbrev pub time_form : List Part
+time_form = Word key.Time ∷ Number ∷ []
+
+abbrev pub random_form : List Part
+random_form = Word key.Random ∷ Number ∷ []

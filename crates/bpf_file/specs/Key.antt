@@ -31,6 +31,8 @@ key_text key.Hex = codes "hex"
 key_text key.Job = codes "job"
 key_text key.Budget = codes "budget"
 key_text key.Context = codes "ctx"
+key_text key.Time = codes "time"
+key_text key.Random = codes "random"
 key_text key.End = codes "end"
 
 abbrev pub is_key : Key → List ℕ → Bool

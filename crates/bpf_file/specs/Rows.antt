@@ -18,6 +18,7 @@ use Rattle.std.specs.List.{slice_split}
 use Rattle.bpf_pairs.specs.Pairs.{Pair, has_key, pairs_in}
 use Rattle.bpf_lines.specs.Words.{written_number}
 use Rattle.bpf_loader.specs.Loaded.{Loaded}
+use Rattle.bpf_helpers.specs.declared.given.Given.{Given}
 use Rattle.bpf_cpu.specs.Task.{Waiting}
 use Rattle.bpf_base.specs.declared.budget.TheConstants.{DEFAULT_BUDGET}
 use Rattle.bpf_file.specs.declared.error.FileError.{FileError}
@@ -28,7 +29,7 @@ use Rattle.bpf_file.specs.declared.line.LineError.{LineError}
 use Rattle.bpf_file.specs.declared.line.LineError.TheVariants as line
 use Rattle.bpf_file.specs.Form.{is_there}
 use Rattle.bpf_file.specs.Limits.{most_pairs, most_variables}
-use Rattle.bpf_file.specs.Statement.{Said, Version, Cpus, Seed, Map, Array, Data, Variable, Put, PutNumbers, Program, Words, Job}
+use Rattle.bpf_file.specs.Statement.{Said, JobSaid, Version, Cpus, Seed, Map, Array, Data, Variable, Put, PutNumbers, Program, Words, Job}
 use Rattle.bpf_file.specs.File.{File, named_by}
 use Rattle.bpf_file.specs.Parts.{Part, State, Between, Within, group_of, is_in_order, is_full, is_taken, place_of, array_place, with_first, with_cpus, with_seed, with_map, with_array, with_data, with_pair, with_variable, with_program, with_job}
 use Rattle.bpf_file.specs.Programs.{OfDigits}
@@ -81,7 +82,7 @@ array_refusal p name g =
     else (if nat_le 16 (length p.file.arrays) then Some (reason.Shape shape.TooManyArrays)
     else option_map reason.Shape (first_of (array_tests p.file.cpus 0 (length p.file.arrays) g)))
 
--- of an array of this shape, which is to have so many bytes at first
+-- of an array of this shape, to be filled up to this byte
 abbrev pub size_refusal : ℕ → ℕ → ℕ → Option ArrayShape → Option Reason
 size_refusal cpus filled a (Some g) =
     option_map reason.Shape (first_of (array_tests cpus filled a g))
@@ -129,11 +130,11 @@ variable_added n p name None at size = Err (Refused n reason.Unknown)
 
 -- ---- pairs of maps, and values of arrays
 
--- so many bytes are a key and a value of a map
+-- a key and a value of these sizes are a map's
 abbrev pub is_sized : (key value : ℕ) → MapShape → Bool
 is_sized key value h = key == h.key && value == h.value
 
--- a number is that of a key, and so many bytes are no more than a value
+-- this number is that of a key, and this size is no more than that of a value
 abbrev pub is_numbered : (key value : ℕ) → MapShape → Bool
 is_numbered key value h = nat_lt key (modulus h.key) && nat_le value h.value
 
@@ -280,22 +281,32 @@ abbrev pub served : ℕ → Option ℕ → Option ℕ
 served cpus (Some n) = if nat_lt n cpus then Some n else None
 served cpus None = None
 
-abbrev pub steps_of : Option ℕ → ℕ
-steps_of (Some n) = n
-steps_of None = DEFAULT_BUDGET
-
 -- the bytes of a context, none where the line has no digits
 abbrev pub context_of : Option (List ℕ) → Result (List ℕ) FromHexError
 context_of (Some digits) = decode_of digits
 context_of None = Ok []
 
-abbrev pub job_added : ℕ → Part → Option ℕ → Option ℕ → ℕ → Result (List ℕ) FromHexError
+abbrev pub number_or : ℕ → Option ℕ → ℕ
+number_or other (Some n) = n
+number_or other None = other
+
+-- what else the job of a number is given: without a line's word the time 0, and its number as seed
+abbrev pub given_by : ℕ → JobSaid → Given
+given_by number line =
+    record { job = number; time = number_or 0 line.time; seed = number_or number line.seed }
+
+-- the next job, on this CPU and of this program
+abbrev pub job_added : ℕ → Part → Option ℕ → Option ℕ → JobSaid → Result (List ℕ) FromHexError
     → Result State FileError
-job_added n p (Some cpu) (Some program) steps (Ok bytes) = Ok (Between (with_job p
-    (record { cpu = cpu; program = program; budget = steps; stage = Waiting bytes })))
-job_added n p (Some cpu) (Some program) steps (Err e) = Err (Refused n reason.NotHex)
-job_added n p (Some cpu) None steps context = Err (Refused n reason.Unknown)
-job_added n p None program steps context = Err (Refused n reason.Unknown)
+job_added n p (Some cpu) (Some program) line (Ok bytes) = Ok (Between (with_job p (record {
+  cpu = cpu;
+  program = program;
+  budget = number_or DEFAULT_BUDGET line.budget;
+  stage = Waiting (record { context = bytes; given = given_by (length p.file.jobs) line });
+})))
+job_added n p (Some cpu) (Some program) line (Err e) = Err (Refused n reason.NotHex)
+job_added n p (Some cpu) None line context = Err (Refused n reason.Unknown)
+job_added n p None program line context = Err (Refused n reason.Unknown)
 
 -- ---- THE ROWS
 
@@ -316,6 +327,6 @@ AddsLine n p (PutNumbers name key size numbers) r =
     r ≡ numbers_added n p (place_of name p.file.names.maps) key (numbered_bytes size numbers)
 AddsLine n p (Program name) r = r ≡ if_new n p name (Ok (Within p n name []))
 AddsLine n p (Words name digits) r = WordsAdd (place_of name p.titles) n p name digits r
-AddsLine n p (Job cpu name steps context) r =
-    r ≡ job_added n p (served p.file.cpus cpu) (place_of name p.titles) (steps_of steps)
-    (context_of context)
+AddsLine n p (Job line) r =
+    r ≡ job_added n p (served p.file.cpus line.cpu) (place_of line.program p.titles) line
+    (context_of line.context)

@@ -7,7 +7,7 @@ use Rattle.bpf_file.specs.File.{File, named_by}
 
 -- it waits, with a context of at most 4,096 bytes
 abbrev pub WaitsShort : Stage → Type 0
-WaitsShort (Waiting context) = length context ≤ max_context
+WaitsShort (Waiting input) = length input.context ≤ max_context
 WaitsShort stage = ⊥
 
 -- a job for this many CPUs, of one of this many programs, that waits

@@ -1,5 +1,5 @@
 -- What a line of a run file says, where it isn't assembly (our own choice).
-use Rattle.std.specs.Prelude.{◌≡◌, ℕ, ◌-◌, ◌%◌, ◌^◌, ◌==◌, nat_le, nat_lt, Bool, true, false, if◌then◌else◌, List, [], ◌∷◌, ◌++◌, Option, Some, None, Result, Ok, Err, codes, option_and_then, option_map}
+use Rattle.std.specs.Prelude.{◌≡◌, ℕ, ◌-◌, ◌%◌, ◌^◌, ◌==◌, nat_le, nat_lt, Bool, true, false, if◌then◌else◌, List, [], ◌∷◌, ◌++◌, Option, Some, None, Result, Ok, Err, codes, length, take, drop, option_and_then, option_map}
 use Rattle.std.specs.List.{after_first, before_first}
 use Rattle.std.specs.Str.{bytes_eq}
 use Rattle.std.specs.Option.{option_copied}
@@ -12,21 +12,31 @@ use Rattle.bpf_shared.specs.declared.shapes.MapShape.{MapShape}
 use Rattle.bpf_lines.specs.Words.{written_number}
 use Rattle.bpf_file.specs.declared.line.LineError.{LineError}
 use Rattle.bpf_file.specs.declared.line.LineError.TheVariants.{BadForm, BadNumber}
+use Rattle.bpf_file.specs.declared.statement.JobLine.{JobLine}
 use Rattle.bpf_file.specs.declared.statement.Statement.{Statement}
 use Rattle.bpf_file.specs.declared.statement.Statement.TheVariants as statement
 use Rattle.bpf_file.specs.declared.version.Version.{Version as Edition}
 use Rattle.bpf_file.specs.declared.version.Version.TheVariants.{First, Second, Third}
 use Rattle.bpf_file.specs.Version.{may_grow, has_arrays}
 use Rattle.bpf_file.specs.declared.form.Part.TheVariants.{Name}
-use Rattle.bpf_file.specs.Form.{has_form, field_at, is_part, version_form, second_version_form, third_version_form, cpus_form, seed_form, map_form, masked_map_form, growing_map_form, growing_masked_map_form, array_form, per_cpu_form, frozen_form, data_form, variable_form, put_form, put_numbers_form, program_form, words_form, job_form, budget_form, context_form}
+use Rattle.bpf_file.specs.Form.{has_form, field_at, is_part, version_form, second_version_form, third_version_form, cpus_form, seed_form, map_form, masked_map_form, growing_map_form, growing_masked_map_form, array_form, per_cpu_form, frozen_form, data_form, variable_form, put_form, put_numbers_form, program_form, words_form, job_form, budget_form, context_form, time_form, random_form}
+
+-- a job: its CPU, where 64 bits hold its number, its program's name, and its budget, its context's
+-- digits, its time and its seed, where the line has them
+pub record JobSaid : Type 0 where
+  pub cpu : Option ℕ
+  pub program : List ℕ
+  pub budget : Option ℕ
+  pub context : Option (List ℕ)
+  pub time : Option ℕ
+  pub seed : Option ℕ
 
 -- the first line, by the version that it says; how many CPUs there are; the seed of the maps; a map
 -- by its name; an array by its name; bytes that an array has at first: its name, where they begin,
 -- and their hex digits; a variable by its name and its array's, where its bytes begin, and their
 -- size; a pair of a map, or a value of an array: its name, a key's digits or an index, and a value's
 -- digits, or its name, the number of a key or an index, and numbers of a size; a program by its name,
--- its assembly following, or with its words as hex digits; a job: its CPU, where 64 bits hold its
--- number, its program's name, and its budget and its context's digits, where the line has them
+-- its assembly following, or with its words as hex digits; a job
 pub data Said : Type 0 where
   Version : Edition → Said
   Cpus : ℕ → Said
@@ -39,7 +49,7 @@ pub data Said : Type 0 where
   PutNumbers : (name : List ℕ) → (key : ℕ) → Size → (numbers : List ℕ) → Said
   Program : List ℕ → Said
   Words : List ℕ → List ℕ → Said
-  Job : Option ℕ → List ℕ → Option ℕ → Option (List ℕ) → Said
+  Job : JobSaid → Said
 
 -- ---- numbers
 
@@ -162,7 +172,14 @@ numbers_said fields = numbers_at (before_first is_open (field_at fields 1)) (fie
     (size_named (field_at fields 3)) (field_at fields 5)
 
 abbrev pub job_said : List (List ℕ) → Option ℕ → Option (List ℕ) → Result Said LineError
-job_said fields budget context = Ok (Job (held_at fields 1) (field_at fields 2) budget context)
+job_said fields budget context = Ok (Job (record {
+  cpu = held_at fields 1;
+  program = field_at fields 2;
+  budget = budget;
+  context = context;
+  time = None;
+  seed = None;
+}))
 
 abbrev pub budgeted_said : List (List ℕ) → Option (List ℕ) → Result Said LineError
 budgeted_said fields context =
@@ -181,6 +198,36 @@ work_of fields =
     then budgeted_said fields (Some (field_at fields 6))
     else Err BadForm)))))
 
+-- what more is said of a job
+abbrev pub with_job : Result Said LineError → (JobSaid → Result Said LineError) → Result Said LineError
+with_job (Ok (Job line)) more = more line
+with_job (Ok other) more = Err BadForm
+with_job (Err e) more = Err e
+
+-- the last two fields, those before them, and the number that the last one is
+abbrev pub last_two : List (List ℕ) → List (List ℕ)
+last_two fields = drop (length fields - 2) fields
+
+abbrev pub before_two : List (List ℕ) → List (List ℕ)
+before_two fields = take (length fields - 2) fields
+
+abbrev pub last_number : List (List ℕ) → Result ℕ LineError
+last_number fields = count_at (last_two fields) 1 (2 ^ 64 - 1)
+
+-- a line about a program or a job, which may have a time at its end
+abbrev pub timed_of : List (List ℕ) → Result Said LineError
+timed_of fields =
+    if has_form time_form (last_two fields) then with_job (work_of (before_two fields)) (λ line.
+    with_number (last_number fields) (λ n. Ok (Job (record line { time = Some n }))))
+    else work_of fields
+
+-- and a seed after that
+abbrev pub seeded_of : List (List ℕ) → Result Said LineError
+seeded_of fields =
+    if has_form random_form (last_two fields) then with_job (timed_of (before_two fields)) (λ line.
+    with_number (last_number fields) (λ n. Ok (Job (record line { seed = Some n }))))
+    else timed_of fields
+
 -- a line about an array, a variable or a pair, or about a program or a job
 abbrev pub arrays_of : List (List ℕ) → Result Said LineError
 arrays_of fields =
@@ -193,7 +240,7 @@ arrays_of fields =
     else (if has_form variable_form fields then variable_said fields
     else (if has_form put_form fields then put_said fields
     else (if has_form put_numbers_form fields then numbers_said fields
-    else work_of fields)))))))
+    else seeded_of fields)))))))
 
 -- a line about a map that grows, about an array or a variable, where there may be such, or about a
 -- program or a job
@@ -219,6 +266,16 @@ statement_of version fields =
 
 -- ---- what a reader answers
 
+abbrev pub job_line : JobLine → JobSaid
+job_line j = record {
+  cpu = j.cpu;
+  program = j.program.now;
+  budget = j.budget;
+  context = option_copied j.context;
+  time = j.time;
+  seed = j.seed;
+}
+
 abbrev pub said_by : Statement → Said
 said_by (statement.Version version) = Version version
 said_by (statement.Cpus n) = Cpus n
@@ -231,7 +288,7 @@ said_by (statement.Put p) = Put p.name.now p.key.now p.value.now
 said_by (statement.PutNumbers p) = PutNumbers p.name.now p.key p.size p.numbers.now
 said_by (statement.Program name) = Program name.now
 said_by (statement.Words name digits) = Words name.now digits.now
-said_by (statement.Job j) = Job j.cpu j.program.now j.budget (option_copied j.context)
+said_by (statement.Job j) = Job (job_line j)
 
 abbrev pub Says : Result Statement LineError → Result Said LineError → Type 0
 Says (Ok s) said = said ≡ Ok (said_by s)

@@ -9,8 +9,8 @@ ghost use Rattle.bpf_names.specs.Names.{variable_of};
 ghost use Rattle.bpf_file.specs.File.{named_by};
 ghost use Rattle.bpf_file.specs.Parts.{Between, nothing, is_full, is_taken, array_place, with_map, with_array, with_data, with_variable, with_program, with_job};
 ghost use Rattle.bpf_file.specs.Reading.{FieldsSay, finished};
-ghost use Rattle.bpf_file.specs.Rows.{first_said, later_said, may_stand, placed, map_refusal, array_refusal, data_refusal, name_refusal, place_refusal, served, context_of};
-ghost use Rattle.bpf_file.specs.Statement.{said_by, statement_of};
+ghost use Rattle.bpf_file.specs.Rows.{first_said, later_said, may_stand, placed, map_refusal, array_refusal, data_refusal, name_refusal, place_refusal, served, context_of, given_by};
+ghost use Rattle.bpf_file.specs.Statement.{job_line, said_by, statement_of};
 ghost use Rattle.bpf_file.specs.Statement as says;
 ghost use Rattle.bpf_file.specs.declared.statement.Statement.TheVariants as statement_kind;
 ghost use Rattle.bpf_file.specs.Private.Answers.{OrMemory};
@@ -19,7 +19,7 @@ ghost use Rattle.bpf_file.specs.Private.Fits.{IsFit};
 ghost use Rattle.bpf_text.specs.Symbols.{table_of};
 ghost use Rattle.bpf_file.specs.Programs.{OfAssembly};
 ghost use Rattle.bpf_file.specs.Symbols.{names_for};
-ghost use Rattle.bpf_file.specs.Private.Drafts.{part_of, said_in, after, Added, HasContext, Ends, closed, file_answer};
+ghost use Rattle.bpf_file.specs.Private.Drafts.{part_of, said_in, after, Added, HasContext, IsShortSaid, Ends, closed, file_answer};
 
 use crate::error::{FileError, Reason};
 use crate::file::RunFile;
@@ -28,8 +28,9 @@ use crate::statement::{self, DataLine, JobLine, Statement, VariableLine};
 use crate::version::Version;
 use crate::{contents, form, group, program, symbols, variable};
 use bpf_base::DEFAULT_BUDGET;
-use bpf_cpu::{Job, Setup};
+use bpf_cpu::{Given, Input, Job, Setup};
 use bpf_loader::{Named, Program};
+use bpf_mem::Context;
 use bpf_names::{Names, Variable};
 use bpf_pairs::Pair;
 use bpf_shared::{ArrayShape, MapShape, ShapeError, Size, StoreShape};
@@ -329,7 +330,7 @@ impl<'a> Draft<'a> {
         }
     }
 
-    /// Why the array of this number can't have so many bytes at first.
+    /// Why the array of this number can't have this number of bytes at first.
     fn data_refusal(&self, number: usize, filled: usize) -> Option<Reason>
         requires { self.now.cpus ≤ 16 }
         ensures { result ≡ data_refusal (part_of self.now).file number filled }
@@ -559,6 +560,18 @@ impl<'a> Draft<'a> {
         Ok(())
     }
 
+    /// What the next job is given beside its context.
+    fn given(&self, line: JobLine<'_>) -> Given
+        ensures { result ≡ given_by (length (part_of self.now).file.jobs) (job_line line.entry) }
+    {
+        let job = self.jobs.len() as u64;
+        Given {
+            job,
+            time: line.time.unwrap_or(0),
+            seed: line.seed.unwrap_or(job),
+        }
+    }
+
     /// `job CPU NAME ..`
     fn add_job(
         &mut self,
@@ -566,6 +579,7 @@ impl<'a> Draft<'a> {
         line: usize,
         job: JobLine<'_>,
     ) -> Result<Next<'a>, FileError>
+        requires { IsShortSaid (said_by (statement_kind.Job job)) }
         ensures { Added line (part_of self.old) (said_by (statement_kind.Job job.entry))
             (part_of self.new) result }
     {
@@ -575,13 +589,14 @@ impl<'a> Draft<'a> {
         let Some(program) = group::place_of(job.program, &self.titles) else {
             return Err(FileError::Refused(line, Reason::Unknown));
         };
-        let context = context_of(alloc, line, job.context)?;
-        let budget = job.budget.unwrap_or(DEFAULT_BUDGET);
+        let bytes = context_of(alloc, line, job.context)?;
+        let context = Context::new(bytes);
+        let given = self.given(job);
         self.push_job(Job {
             cpu,
             program,
-            budget,
-            context,
+            budget: job.budget.unwrap_or(DEFAULT_BUDGET),
+            input: Input { context, given },
         })?;
         Ok(Next::Line)
     }
@@ -593,7 +608,8 @@ impl<'a> Draft<'a> {
         line: usize,
         said: Statement<'a>,
     ) -> Result<Next<'a>, FileError>
-        requires { IsFit (part_of self.old) }
+        requires fit { IsFit (part_of self.old) }
+        requires short { IsShortSaid (said_by said) }
         ensures { Added line (part_of self.old) (said_by said.entry) (part_of self.new) result }
     {
         match said {

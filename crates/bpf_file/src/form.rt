@@ -210,6 +210,12 @@ pub const JOB_WITH_BOTH: [Part; 7] = [
     Part::Context,
 ];
 
+/// `time N` at the end of a job's line, in version 3.
+pub const TIME: [Part; 2] = [Part::Word(Key::Time), Part::Number];
+
+/// `random N` at its end.
+pub const RANDOM: [Part; 2] = [Part::Word(Key::Random), Part::Number];
+
 /// Whether the field is a number, of any size.
 fn is_number(field: &[u8]) -> bool
     ensures { result ≡ is_number field.now }

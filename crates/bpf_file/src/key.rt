@@ -44,6 +44,10 @@ pub enum Key {
     Job,
     Budget,
     Context,
+    /// Before the time at which a job runs.
+    Time,
+    /// Before the seed of a job's random numbers.
+    Random,
     /// After a program's assembly, alone.
     End,
 }
@@ -80,6 +84,8 @@ impl Key {
             Key::Job => "job",
             Key::Budget => "budget",
             Key::Context => "ctx",
+            Key::Time => "time",
+            Key::Random => "random",
             Key::End => "end",
         }
     }

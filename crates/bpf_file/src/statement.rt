@@ -5,7 +5,7 @@ ghost use Rattle.std.specs.List.{after_first, before_first};
 ghost use Rattle.std.specs.Option.{option_copied};
 ghost use Rattle.bpf_lines.specs.Words.{written_number};
 ghost use Rattle.bpf_file.specs.Form.{field_at};
-ghost use Rattle.bpf_file.specs.Statement.{limited, count_at, held_at, Says, cpus_said, seed_said, map_said, masked_said, array_said, data_said, variable_at, variable_said, put_said, is_open, closed, key_number, size_named, numbers_said, job_said, budgeted_said, work_of, arrays_of, growing_of, statement_of};
+ghost use Rattle.bpf_file.specs.Statement.{limited, count_at, held_at, Says, cpus_said, seed_said, map_said, masked_said, array_said, data_said, variable_at, variable_said, put_said, is_open, closed, key_number, size_named, numbers_said, job_said, budgeted_said, work_of, last_two, before_two, timed_of, seeded_of, arrays_of, growing_of, statement_of};
 
 use crate::line::LineError;
 use crate::version::Version;
@@ -95,6 +95,10 @@ pub struct JobLine<'a> {
     pub budget: Option<u64>,
     /// The context's bytes as hex digits, where the line has them.
     pub context: Option<&'a [u8]>,
+    /// The time at which it runs, where the line says it.
+    pub time: Option<u64>,
+    /// The seed of its random numbers, where the line says it.
+    pub seed: Option<u64>,
 }
 
 /// The greatest size of a map or an array, offset, and number of CPUs that a line may have.
@@ -373,6 +377,8 @@ fn job<'a>(
         program: form::field_at(fields, 2),
         budget,
         context,
+        time: None,
+        seed: None,
     }))
 }
 
@@ -408,6 +414,54 @@ fn work<'a>(fields: &[&'a [u8]]) -> Result<Statement<'a>, LineError>
     }
 }
 
+/// The last two fields, and those before them.
+fn split_two<'a, 'b>(fields: &'b [&'a [u8]]) -> (&'b [&'a [u8]], &'b [&'a [u8]])
+    ensures before { map (λ f. f.now) result.0.now ≡ before_two (map (λ f. f.now) fields.now) }
+    ensures last { map (λ f. f.now) result.1.now ≡ last_two (map (λ f. f.now) fields.now) }
+{
+    fields.split_at(fields.len().saturating_sub(2))
+}
+
+/// A line about a program or a job, which may have a time at its end.
+fn timed<'a>(fields: &[&'a [u8]]) -> Result<Statement<'a>, LineError>
+    ensures { Says result (timed_of (map (λ f. f.now) fields.now)) }
+{
+    let (before, last) = split_two(fields);
+    if !form::has_form(&form::TIME, last) {
+        return work(fields);
+    }
+    match work(before)? {
+        Statement::Job(job) => {
+            let time = count_at(last, 1, u64::MAX)?;
+            Ok(Statement::Job(JobLine {
+                time: Some(time),
+                ..job
+            }))
+        }
+        _ => Err(LineError::BadForm),
+    }
+}
+
+/// And a seed after that.
+fn seeded<'a>(fields: &[&'a [u8]]) -> Result<Statement<'a>, LineError>
+    ensures { Says result (seeded_of (map (λ f. f.now) fields.now)) }
+{
+    let (before, last) = split_two(fields);
+    if !form::has_form(&form::RANDOM, last) {
+        return timed(fields);
+    }
+    match timed(before)? {
+        Statement::Job(job) => {
+            let seed = count_at(last, 1, u64::MAX)?;
+            Ok(Statement::Job(JobLine {
+                seed: Some(seed),
+                ..job
+            }))
+        }
+        _ => Err(LineError::BadForm),
+    }
+}
+
 /// A line about an array, a variable or a pair, or about a program or a job.
 fn arrays<'a>(fields: &[&'a [u8]]) -> Result<Statement<'a>, LineError>
     ensures { Says result (arrays_of (map (λ f. f.now) fields.now)) }
@@ -429,7 +483,7 @@ fn arrays<'a>(fields: &[&'a [u8]]) -> Result<Statement<'a>, LineError>
     } else if form::has_form(&form::PUT_NUMBERS, fields) {
         put_numbers(fields)
     } else {
-        work(fields)
+        seeded(fields)
     }
 }
 

@@ -8,6 +8,7 @@ use Rattle.std.proofs.lemmas.List.Elements.{All-head, All-tail}
 use Rattle.bpf_shared.specs.declared.events.Span.{Span}
 use Rattle.bpf_shared.specs.Passage.{same_span}
 use Rattle.bpf_shared.specs.Shape.{IsIn}
+use Rattle.bpf_helpers.specs.Arrays.{array_start}
 use Rattle.bpf_helpers.specs.Held.{covers, has_span, is_covered, is_in, reaches}
 use Rattle.bpf_helpers.specs.Private.Grid.{IsOnGrid}
 use Rattle.bpf_helpers.proofs.Binned.{or_true, same_parts, settled}
@@ -108,6 +109,19 @@ module _ (sizes : List ℕ) (spans : List Span) (a n : ℕ) (o : Option Span) (a
   if_among q found covered = agree (has_span spans q) (is_covered spans a n) (sound spans q a n covered) (λ e.
       let c = covering sizes spans a n all e in
       ap (has_span spans) (sym (one q c found)) ∙ c.among)
+
+-- ---- past all maps
+pub past_maps : (sizes : List ℕ) (spans : List Span) (a n : ℕ) → All (IsOnGrid sizes) spans → array_start 0 ≤ a → 1 ≤ n → is_covered spans a n ≡ false
+past_maps sizes spans a n all past some = settled (is_covered spans a n) (λ e.
+    let c = covering sizes spans a n all e in
+    let parts = covers_parts a n c.span c.covered in
+    let since = parts.0 in
+    let fits = parts.1 in
+    let near = parts.2 in
+    let map = c.on.start.map in
+    let at = c.on.start.at in
+    let room = c.on.room in
+    omega arith)
 
 -- ---- one byte
 byte_covered : (a : ℕ) (p : Span) → is_in a p ≡ covers a 1 p

@@ -1,3 +1,4 @@
+pub mod Answering
 pub mod ArrayPlaces
 pub mod Asking
 pub mod AskingIndexed

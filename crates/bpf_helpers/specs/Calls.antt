@@ -29,6 +29,13 @@ delete_number = 3
 abbrev pub processor_number : ℕ
 processor_number = 8
 
+-- spin_lock, spin_unlock
+abbrev pub lock_number : ℕ
+lock_number = 93
+
+abbrev pub unlock_number : ℕ
+unlock_number = 94
+
 abbrev pub IsHelperNumber : ℕ → Type 0
 IsHelperNumber n =
     (n ≡ lookup_number) ⊎ (n ≡ update_number) ⊎ (n ≡ delete_number) ⊎ (n ≡ processor_number)

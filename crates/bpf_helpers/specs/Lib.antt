@@ -1,5 +1,6 @@
 pub mod Arrays
 pub mod Calls
+pub mod Given
 pub mod Held
 pub mod Laws
 pub mod Private

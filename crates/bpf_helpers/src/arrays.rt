@@ -6,7 +6,7 @@ ghost use Rattle.bpf_helpers.specs.Arrays.{IsInArray, array_start};
 use bpf_shared::{ArrayShape, FIRST_ARRAY, FIRST_VALUE, MAP_AREA, Shared};
 
 /// The array that has the bytes from an address on in one of its values; `None` where none has.
-#[inline]
+#[inline(always)]
 pub fn array_with<S: Shared>(shared: &S, at: u64, count: u64) -> Option<ArrayShape>
     requires some { 1 ≤ count }
     requires few { count ≤ 65536 }

@@ -12,7 +12,8 @@ use crate::gathered::call_map;
 use crate::held::HeldSpans;
 use crate::indexed::call_array;
 pub use crate::numbers::{
-    GET_SMP_PROCESSOR_ID, MAP_DELETE_ELEM, MAP_LOOKUP_ELEM, MAP_UPDATE_ELEM, MAPS,
+    GET_SMP_PROCESSOR_ID, MAP_DELETE_ELEM, MAP_LOOKUP_ELEM, MAP_UPDATE_ELEM, MAPS, SPIN_LOCK,
+    SPIN_UNLOCK,
 };
 use crate::reading::own_bytes;
 use bpf_mem::PrivateMemory;

@@ -14,7 +14,7 @@ use crate::reading::gather;
 use bpf_shared::bytes::load;
 use bpf_shared::{Shared, Size, ValuePlace};
 
-/// The size of the next part, where so many bytes are left.
+/// The size of the next part, where this number of bytes is left.
 #[inline]
 fn next_part(rest: usize) -> Size
     requires { 1 ≤ rest }

@@ -1,6 +1,7 @@
 //! The values that a CPU's run holds.
 
-ghost use Rattle.std.specs.Prelude.{◌≡◌, ◌<◌, ◌≤◌, [], ◌∷◌, ◌++◌, ◌↔◌, All, length, IsTrue, true, false};
+ghost use Rattle.std.specs.Prelude.{◌≡◌, ◌<◌, ◌≤◌, ℕ, [], ◌∷◌, ◌++◌, ◌↔◌, All, length, IsTrue, true, false};
+ghost use Rattle.bpf_helpers.specs.Arrays.{array_start};
 ghost use Rattle.bpf_helpers.specs.Private.Grid.{IsAligned};
 ghost use Rattle.bpf_helpers.specs.Held.{AreElements, covers, has_span, is_covered, max_held, reaches, with_span};
 
@@ -96,7 +97,16 @@ impl HeldSpans {
         let _spans = &self.spans;
     }
 
+    /// None of them has a byte at an address from the first array's on: says so, and does nothing.
+    #[inline(always)]
+    pub fn are_low(&self)
+        ensures { (a n : ℕ) → array_start 0 ≤ a → 1 ≤ n → is_covered self.now a n ≡ false }
+    {
+        let _spans = &self.spans;
+    }
+
     /// Whether one of them has all bytes from an address on, this many.
+    #[inline(always)]
     pub fn covers(&self, address: u64, length: u64) -> bool
         ensures { result ≡ is_covered self.now address length }
     {
@@ -108,7 +118,7 @@ impl HeldSpans {
     }
 
     /// `covers`, by going through them.
-    #[inline]
+    #[inline(always)]
     fn any_covers(&self, address: u64, length: u64) -> bool
         ensures { result ≡ is_covered self.now address length }
     {
@@ -116,7 +126,7 @@ impl HeldSpans {
     }
 
     /// `covers`, by the element that lies there.
-    #[inline]
+    #[inline(never)]
     fn element_covers(&self, address: u64, length: u64) -> bool
         ensures { result ≡ is_covered self.now address length }
     {

@@ -41,7 +41,8 @@ pub fn make_machine(alloc: Global, setup: Setup) -> Result<Machine, AllocError>
     make_asked(alloc, setup, false)
 }
 
-/// The same, which lists keys or doesn't.
+/// A machine over a new store whose maps have their pairs, which lists keys after its jobs or
+/// doesn't. Out of memory is the only refusal.
 pub fn make_asked(alloc: Global, setup: Setup, keys: bool) -> Result<Machine, AllocError>
     requires { IsRunnable setup }
     ensures { IfOk result (λ m. Shows m (asked_of keys setup)) }

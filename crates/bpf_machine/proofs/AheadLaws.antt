@@ -171,7 +171,7 @@ all_ahead first m n headways inside far w shows =
           | inl less ↦ r.2.fits d less
           | inr past ↦ subst (λ (h : Headway). FitsHeadway r.0.jobs d h) (sym (far.above d past)) (
             λ j task state left at. absurd (nowhere d past j task (InHand state left) at),
-            λ j task context at. absurd (nowhere d past j task (Waiting context) at),
+            λ j task input at. absurd (nowhere d past j task (Waiting input) at),
           )
         ];
       },
@@ -308,7 +308,7 @@ zero_falls first olds n headways m inside far w jobs shows ahead c zero_there = 
   | inl less ↦ (far.runs w jobs shows ahead).6 c less zero_there
   | inr past ↦
       let fits = subst (λ (h : Headway). FitsHeadway w.jobs c h) zero_there (ahead.fits c tt) in
-      absurd (fits (λ j task state left at. nowhere j task (InHand state left) past at) (λ j task context at. nowhere j task (Waiting context) past at))
+      absurd (fits (λ j task state left at. nowhere j task (InHand state left) past at) (λ j task input at. nowhere j task (Waiting input) past at))
 ]
   where
     nowhere : (j : ℕ) (task : Task) (stage : Stage) → n ≤ c → IsAt w.jobs c j task stage → ⊥
@@ -447,7 +447,7 @@ above_idle m n headways inside w jobs shows ahead d past = go (headway_at headwa
     go Idle e = e
     go (Turns zero) e =
         let fits = subst (λ (h : Headway). FitsHeadway w.jobs d h) e (ahead.fits d tt) in
-        absurd (fits (λ j task state left at. nowhere j task (InHand state left) at) (λ j task context at. nowhere j task (Waiting context) at))
+        absurd (fits (λ j task state left at. nowhere j task (InHand state left) at) (λ j task input at. nowhere j task (Waiting input) at))
     go (Turns (suc k)) e =
         let fits = subst (λ (h : Headway). FitsHeadway w.jobs d h) e (ahead.fits d tt) in
         absurd (nowhere fits.0 fits.1.0 (InHand fits.1.1 fits.1.2) fits.1.3)

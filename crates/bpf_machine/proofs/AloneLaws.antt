@@ -45,7 +45,7 @@ module _ (jobs : List Task) (c j : ℕ) (task : Task) (stage : Stage) (listed : 
   pub stays_idle : (d : ℕ) → d ≢ c → IsIdle jobs d → IsIdle (with_stage jobs j task stage) d
   stays_idle d ne idle = (
     λ k other state left at. idle.0 k other state left (keeps_at d k other (InHand state left) ne at),
-    λ k other context at. idle.1 k other context (keeps_at d k other (Waiting context) ne at),
+    λ k other input at. idle.1 k other input (keeps_at d k other (Waiting input) ne at),
   )
 
   pub stays_alone : IsAlone jobs c → IsAlone (with_stage jobs j task stage) c

@@ -12,6 +12,7 @@ use Rattle.bpf_shared.specs.Passage.{held_without}
 use Rattle.bpf_loader.specs.Loaded.{Loaded}
 use Rattle.bpf_loader.specs.Places.{IsStart}
 use Rattle.bpf_cpu.specs.declared.cpu.Cpu.{Cpu}
+use Rattle.bpf_cpu.specs.declared.input.Input.{Input}
 use Rattle.bpf_machine.specs.declared.machine.lane.Listed.{Listed}
 use Rattle.bpf_machine.specs.declared.machine.lane.Phase.{Phase}
 use Rattle.bpf_machine.specs.declared.machine.lane.Phase.TheVariants as phase
@@ -32,8 +33,8 @@ use Rattle.bpf_machine.proofs.BoardLaws.{tasks_changed, board_changed}
 use Rattle.bpf_machine.proofs.WorkLaws.{WaitsAt, waits_at, no_hand, is_next, lane_read}
 
 -- a program's first instruction is there to start with
-pub ready_to_start : (program : Loaded) (number : ℕ) (context : List ℕ) → IsStart program.instructions 0 → IsReady program (start number context)
-ready_to_start program number context starts = start_ready program (start number context) context refl starts
+pub ready_to_start : (program : Loaded) (number : ℕ) (input : Input) → IsStart program.instructions 0 → IsReady program (start number input)
+ready_to_start program number input starts = start_ready program (start number input) input refl starts
 
 -- the job that a machine shows as a CPU's next is the next of the lists that it shows
 pub next_job : (s t : MachineState) (c j : ℕ) → s ≡ t → IsNext t.jobs c j → IsNext s.jobs c j
@@ -72,16 +73,13 @@ module _ (store : Contents) (programs : List Loaded) (jobs : List Listed) (lanes
     pub program_within : e.program < length programs
     program_within = (board.each_job j e listed).program
 
-    pub waiting : (v : _) × (e.phase ≡ phase.Waiting v) × (v.items ≡ next.1.1)
+    pub waiting : (v : Input) × (e.phase ≡ phase.Waiting v) × (v ≡ next.1.1)
     waiting = (at.waits.0, subst (λ (x : Listed). x.phase ≡ phase.Waiting at.waits.0) same at.waits.1, at.waits.2)
-
-    pub short : (v : _) → e.phase ≡ phase.Waiting v → length v.items ≤ 4096
-    short = (board.each_job j e listed).short
 
     shown : next.1.0 ≡ task_of lanes e
     shown = at.shown ∙ ap (λ (x : Listed). task_of lanes x) same
 
-    module _ (l : Lane) (read : l ≡ slice_index_or lanes c l) (p : Phase) (in_hand : p ≡ phase.InHand) (v : _) (waits : e.phase ≡ phase.Waiting v) (state : Cpu) (starting : state ≡ start c v.items)
+    module _ (l : Lane) (read : l ≡ slice_index_or lanes c l) (p : Phase) (in_hand : p ≡ phase.InHand) (v : Input) (waits : e.phase ≡ phase.Waiting v) (state : Cpu) (starting : state ≡ start c v)
         (others : List Listed) (listed_now : others ≡ slice_set jobs j (record { cpu = e.cpu; program = e.program; budget = e.budget; phase = p })) (n : ℕ) (first_after : IsFirstJob others c (j + 1) n) where
       was : lane_of lanes c ≡ l
       was = lane_read lanes c l lane_within read
@@ -90,7 +88,7 @@ module _ (store : Contents) (programs : List Loaded) (jobs : List Listed) (lanes
       started =
           let two : phase.Waiting v ≡ phase.Waiting waiting.0 = sym waits ∙ waiting.1 in
           let one : v ≡ waiting.0 = cc in
-          starting ∙ (ap (λ (u : _). start c u.items) one ∙ ap (start c) waiting.2)
+          starting ∙ (ap (start c) one ∙ ap (start c) waiting.2)
 
       abbrev e' : Listed
       e' = record { cpu = e.cpu; program = e.program; budget = e.budget; phase = p }

@@ -11,6 +11,7 @@ use Rattle.bpf_machine.specs.declared.machine.lane.Phase.TheVariants as phase
 use Rattle.bpf_machine.specs.declared.machine.lane.Hand.{Hand}
 use Rattle.bpf_machine.specs.declared.machine.lane.Lane.{Lane}
 use Rattle.bpf_helpers.specs.Held.{AreHeld}
+use Rattle.bpf_cpu.specs.declared.input.Input.{Input}
 use Rattle.bpf_cpu.specs.Task.{Stage, Task}
 use Rattle.bpf_machine.specs.Hands.{with_stage}
 use Rattle.bpf_machine.specs.Private.Lanes.{lane_of, no_lane, stage_of, task_of, tasks_of, FitsLane, IsListed, IsHand, IsLane, IsBoard}
@@ -38,12 +39,12 @@ module _ (serves serves' running running' : ℕ → Bool) (reach reach' : ℕ �
   not_in_hand k ne h held is = ne (sym is ∙ alone h held)
 
   fits_still : (k : ℕ) (x : Listed) (p : Phase) → k ≢ j → slice_get jobs k ≡ Some x → x.cpu ≡ c → FitsLane l k p → FitsLane l' k p
-  fits_still k x (phase.Waiting context) ne at own fits = (moves k x ne at own).0 fits
+  fits_still k x (phase.Waiting input) ne at own fits = (moves k x ne at own).0 fits
   fits_still k x phase.InHand ne at own fits = absurd (not_in_hand k ne fits.1.0 fits.1.1 fits.1.2)
   fits_still k x (phase.Ended outcome) ne at own fits = (moves k x ne at own).1 fits
 
   stage_still : (k : ℕ) (p : Phase) → k ≢ j → FitsLane l k p → stage_of l'.hand p ≡ stage_of l.hand p
-  stage_still k (phase.Waiting context) ne fits = refl
+  stage_still k (phase.Waiting input) ne fits = refl
   stage_still k phase.InHand ne fits = absurd (not_in_hand k ne fits.1.0 fits.1.1 fits.1.2)
   stage_still k (phase.Ended outcome) ne fits = refl
 
@@ -77,7 +78,7 @@ module _ (serves serves' running running' : ℕ → Bool) (reach reach' : ℕ �
   -- ---- it is kept
   module _ (serves_same : serves' ≡ serves) (elsewhere : (d : ℕ) → d ≢ c → running' d ≡ running d) (runs : running' c ≡ is_some l'.hand)
       (unreached : (d : ℕ) → d ≢ c → reach' d ≡ reach d) (held : (h : Hand) → l'.hand ≡ Some h → AreHeld (reach' c) h.cpu.held)
-      (fits : FitsLane l' j e'.phase) (short : (v : _) → e'.phase ≡ phase.Waiting v → length v.items ≤ 4096)
+      (fits : FitsLane l' j e'.phase) (short : (v : Input) → e'.phase ≡ phase.Waiting v → length v.context ≤ 4096)
       (hand : (h : Hand) → l'.hand ≡ Some h → IsHand programs (slice_set jobs j e') c h)
       (next : (x : Listed) → slice_get jobs l'.next ≡ Some x → x.cpu ≡ c) (inside : l'.next ≤ length jobs) where
     listed_here : IsListed serves' programs (slice_set lanes c l') j e'

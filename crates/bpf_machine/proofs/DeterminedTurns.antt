@@ -13,6 +13,7 @@ use Rattle.bpf_loader.specs.Loaded.{Loaded}
 use Rattle.bpf_loader.specs.Laws.{OneInstructionBegins}
 use Rattle.bpf_mem.specs.Laws.{IsMemory, WritesAreDetermined}
 use Rattle.bpf_cpu.specs.declared.cpu.Cpu.{Cpu}
+use Rattle.bpf_cpu.specs.declared.input.Input.{Input}
 use Rattle.bpf_machine.specs.declared.machine.Turn.{Turn}
 use Rattle.bpf_cpu.specs.declared.outcome.Progress.{Progress}
 use Rattle.bpf_cpu.specs.declared.outcome.Outcome.{Outcome}
@@ -31,7 +32,7 @@ pub record IsWorld (w : World) : Type 0 where
   pub store : IsSoundStore w.store
   pub memory : (c j : ℕ) (task : Task) (state : Cpu) (left : ℕ) → IsAt w.jobs c j task (InHand state left) → IsMemory state.memory
   pub one : (c j k : ℕ) (task other : Task) (state now : Cpu) (left rest : ℕ) → IsAt w.jobs c j task (InHand state left) → IsAt w.jobs c k other (InHand now rest) → j ≡ k
-  pub short : (c j : ℕ) (task : Task) (context : List ℕ) → IsAt w.jobs c j task (Waiting context) → length context ≤ 4096
+  pub short : (c j : ℕ) (task : Task) (input : Input) → IsAt w.jobs c j task (Waiting input) → length input.context ≤ 4096
 
 -- a job in two stages is in one
 pub same_stage : (jobs : List Task) (c j : ℕ) (task other : Task) (stage now : Stage) → IsAt jobs c j task stage → IsAt jobs c j other now → (task ≡ other) × (stage ≡ now)
@@ -99,7 +100,7 @@ module _ (law : WritesAreDetermined) (begins : OneInstructionBegins) (replies : 
     pub store : IsSoundStore y.store
     pub stage : Stage
     pub kept : (state : Cpu) (left : ℕ) → stage ≡ InHand state left → IsMemory state.memory
-    pub waits_not : (context : List ℕ) → stage ≡ Waiting context → ⊥
+    pub waits_not : (input : Input) → stage ≡ Waiting input → ⊥
     pub jobs : y.jobs ≡ with_stage w.jobs j task stage
 
   one_settled : (w : World) (c j : ℕ) (task : Task) (new : Cpu) (left : ℕ) (end : Option Outcome) (answer other : Turn) (y z : World) → IsSoundStore w.store → IsMemory new.memory
@@ -112,7 +113,7 @@ module _ (law : WritesAreDetermined) (begins : OneInstructionBegins) (replies : 
         store = subst Q (sym a.1) store;
         stage = InHand new left;
         kept = λ state left e. let same : new ≡ state = cc in subst (λ (c : Cpu). IsMemory c.memory) same memory;
-        waits_not = λ context e. cc;
+        waits_not = λ input e. cc;
         jobs = ap (λ (w : World). w.jobs) a.1;
       }
   one_settled w c j task new left (Some end) answer other y z store memory a b =
@@ -125,7 +126,7 @@ module _ (law : WritesAreDetermined) (begins : OneInstructionBegins) (replies : 
         store = subst IsSoundStore (sym (lists_store m c y a.3)) (allowed_sound w.store a.0 c End store a.1.0);
         stage = Ended end;
         kept = λ state left e. cc;
-        waits_not = λ context e. cc;
+        waits_not = λ input e. cc;
         jobs = lists_jobs m c y a.3;
       }
 
@@ -160,7 +161,7 @@ module _ (law : WritesAreDetermined) (begins : OneInstructionBegins) (replies : 
     store = settled.store;
     memory = λ d k t state left h. memory d k t state left (seen d k t (InHand state left) h);
     one = λ d k l t u state now left rest g h. one d k l t u state now left rest (seen d k t (InHand state left) g) (seen d l u (InHand now rest) h);
-    short = λ d k t context h. short d k t context (seen d k t (Waiting context) h);
+    short = λ d k t input h. short d k t input (seen d k t (Waiting input) h);
   }
     where
       seen : (d k : ℕ) (t : Task) (now : Stage) → IsAt y.jobs d k t now → Changed w.jobs c j settled.stage d k t now
@@ -172,9 +173,9 @@ module _ (law : WritesAreDetermined) (begins : OneInstructionBegins) (replies : 
       memory d k t state left (Same e of now) = settled.kept state left (sym now)
       memory d k t state left (Other ne h) = world.memory d k t state left h
 
-      short : (d k : ℕ) (t : Task) (context : List ℕ) → Changed w.jobs c j settled.stage d k t (Waiting context) → length context ≤ 4096
-      short d k t context (Same e of now) = absurd (settled.waits_not context (sym now))
-      short d k t context (Other ne h) = world.short d k t context h
+      short : (d k : ℕ) (t : Task) (input : Input) → Changed w.jobs c j settled.stage d k t (Waiting input) → length input.context ≤ 4096
+      short d k t input (Same e of now) = absurd (settled.waits_not input (sym now))
+      short d k t input (Other ne h) = world.short d k t input h
 
       -- the job that has changed is the only one in hand of its CPU
       only : (d l : ℕ) (u : Task) (now : Cpu) (rest : ℕ) → d ≡ c → l ≢ j → IsAt w.jobs d l u (InHand now rest) → ⊥
@@ -213,28 +214,28 @@ module _ (law : WritesAreDetermined) (begins : OneInstructionBegins) (replies : 
       settled_turn w c j task (InHand state left) answer other y z world at (λ k u s l ne h. ne (world.one c k j u task s state l left h at)) settled
 
   -- its lowest job that waits
-  waiting_turn : (w : World) (c : ℕ) (answer other : Turn) (y z : World) (j : ℕ) (task t : Task) (context bytes : List ℕ) (s u : Plain) → IsWorld w → IsFree w.jobs c
-      → IsAt w.jobs c j task (Waiting context) → PlainlyAllowed w.store c Begin s → GoesOn (record w { store = s }) c j task (start c context) task.budget answer y
-      → IsAt w.jobs c j t (Waiting bytes) → PlainlyAllowed w.store c Begin u → GoesOn (record w { store = u }) c j t (start c bytes) t.budget other z → OneTurn answer other y z
-  waiting_turn w c answer other y z j task t context bytes s u world free at begun goes at' begun' goes' =
-      let same = same_stage w.jobs c j t task (Waiting bytes) (Waiting context) at' at in
-      let stages : Waiting bytes ≡ Waiting context = same.1 in
-      let contexts : bytes ≡ context = cc in
+  waiting_turn : (w : World) (c : ℕ) (answer other : Turn) (y z : World) (j : ℕ) (task t : Task) (input second : Input) (s u : Plain) → IsWorld w → IsFree w.jobs c
+      → IsAt w.jobs c j task (Waiting input) → PlainlyAllowed w.store c Begin s → GoesOn (record w { store = s }) c j task (start c input) task.budget answer y
+      → IsAt w.jobs c j t (Waiting second) → PlainlyAllowed w.store c Begin u → GoesOn (record w { store = u }) c j t (start c second) t.budget other z → OneTurn answer other y z
+  waiting_turn w c answer other y z j task t input second s u world free at begun goes at' begun' goes' =
+      let same = same_stage w.jobs c j t task (Waiting second) (Waiting input) at' at in
+      let stages : Waiting second ≡ Waiting input = same.1 in
+      let inputs : second ≡ input = cc in
       let stores = (replies w.store u s c Begin Begin world.store begun' begun refl).1 in
-      let P : Task → Type 0 = λ t. GoesOn (record w { store = u }) c j t (start c bytes) t.budget other z in
-      let Q : List ℕ → Type 0 = λ bytes. GoesOn (record w { store = u }) c j task (start c bytes) task.budget other z in
-      let R : Plain → Type 0 = λ u. GoesOn (record w { store = u }) c j task (start c context) task.budget other z in
+      let P : Task → Type 0 = λ t. GoesOn (record w { store = u }) c j t (start c second) t.budget other z in
+      let Q : Input → Type 0 = λ second. GoesOn (record w { store = u }) c j task (start c second) task.budget other z in
+      let R : Plain → Type 0 = λ u. GoesOn (record w { store = u }) c j task (start c input) task.budget other z in
       let sound = allowed_sound w.store s c Begin world.store begun.0 in
-      let settled = one_going (record w { store = s }) c j task (start c context) task.budget answer other y z sound (start_memory c context (world.short c j task context at)) goes (subst R stores (subst Q contexts (subst P same.0 goes'))) in
+      let settled = one_going (record w { store = s }) c j task (start c input) task.budget answer other y z sound (start_memory c input (world.short c j task input at)) goes (subst R stores (subst Q inputs (subst P same.0 goes'))) in
       let here : IsWorld (record w { store = s }) = record { store = sound; memory = world.memory; one = world.one; short = world.short } in
-      settled_turn (record w { store = s }) c j task (Waiting context) answer other y z here at (λ k v now l ne h. free k v now l h) settled
+      settled_turn (record w { store = s }) c j task (Waiting input) answer other y z here at (λ k v now l ne h. free k v now l h) settled
 
-  pub same_lowest : (jobs : List Task) (c j k : ℕ) (task t : Task) (context bytes : List ℕ) → IsAt jobs c j task (Waiting context) → NoneWaitsBelow jobs c j → IsAt jobs c k t (Waiting bytes) → NoneWaitsBelow jobs c k → k ≡ j
-  same_lowest jobs c j k task t context bytes at lowest at' lowest' = elim (cases_order k j) [
+  pub same_lowest : (jobs : List Task) (c j k : ℕ) (task t : Task) (input second : Input) → IsAt jobs c j task (Waiting input) → NoneWaitsBelow jobs c j → IsAt jobs c k t (Waiting second) → NoneWaitsBelow jobs c k → k ≡ j
+  same_lowest jobs c j k task t input second at lowest at' lowest' = elim (cases_order k j) [
     | inl e ↦ e
     | inr rest ↦ elim rest [
-      | inl below ↦ absurd (lowest k t bytes below at')
-      | inr above ↦ absurd (lowest' j task context above at)
+      | inl below ↦ absurd (lowest k t second below at')
+      | inr above ↦ absurd (lowest' j task input above at)
     ]
   ]
 
@@ -310,11 +311,11 @@ module _ (law : WritesAreDetermined) (begins : OneInstructionBegins) (replies : 
     store = fresh.store;
     memory = λ c j task state left h. absurd (none_in_hand w fresh c j task state left h);
     one = λ c j k task t state now left rest h i. absurd (none_in_hand w fresh c j task state left h);
-    short = λ c j task context h.
+    short = λ c j task input h.
         let waits = fresh.waits j task h.listed in
-        let both : Waiting waits.0 ≡ Waiting context = sym waits.1 ∙ h.at in
-        let same : waits.0 ≡ context = cc in
-        subst (λ (bytes : List ℕ). length bytes ≤ 4096) same waits.2;
+        let both : Waiting waits.0 ≡ Waiting input = sym waits.1 ∙ h.at in
+        let same : waits.0 ≡ input = cc in
+        subst (λ (i : Input). length i.context ≤ 4096) same waits.2;
   }
 
   pub schedules_are_determined : SchedulesAreDetermined

@@ -18,7 +18,7 @@ use Rattle.bpf_machine.specs.Private.Standing.{FitsState, FitsStage, FitsAlone, 
 use Rattle.bpf_machine.proofs.PartLaws.{chosen_is, chosen_count, waiting_or_not}
 
 hand_or_not : (s : Stage) → in_hand s ≡ true → (state : Cpu) × (left : ℕ) × (s ≡ InHand state left)
-hand_or_not (Waiting context) is = cc
+hand_or_not (Waiting input) is = cc
 hand_or_not (InHand state left) is = (state, left, refl)
 hand_or_not (Ended outcome) is = cc
 
@@ -79,7 +79,7 @@ module _ (store : Contents) (programs : List Loaded) (parts : List Task) (number
     stand_up = record {
       served = λ j task is. (alone j task is).served;
       loaded = λ j task is. (alone j task is).loaded;
-      short = λ c j task context at. stage_at c j task (Waiting context) at;
+      short = λ c j task input at. stage_at c j task (Waiting input) at;
       hand = goes_on;
       one = λ c j k a b. elim (cases_lt j k) [
         | inl less ↦ absurd (none_behind c j k less a b)
@@ -92,7 +92,7 @@ module _ (store : Contents) (programs : List Loaded) (parts : List Task) (number
         | inl busy ↦ let h = at_hand c k l of busy in absurd (free k h.0 h.1 h.2 h.3)
         | inr free ↦ free
       ]);
-      order = λ c j k task later context at less is of.
+      order = λ c j k task later input at less is of.
           (let l = listed j task at.listed in
           let r = listed k later is in
           let follow = subst (Follows task) r.1 (subst (λ (t : Task). Follows t (part k)) l.1 (so.follow j k less r.0)) in
@@ -101,7 +101,7 @@ module _ (store : Contents) (programs : List Loaded) (parts : List Task) (number
 
   module _ (stands : CanStand m) where
     fits_stage : (k : ℕ) → k < length numbers → (stage : Stage) → (part k).stage ≡ stage → FitsStage store programs (part k) stage
-    fits_stage k l (Waiting context) is = stands.short (part k).cpu k (part k) context (record { listed = chosen_is parts numbers k l; of = refl; at = is })
+    fits_stage k l (Waiting input) is = stands.short (part k).cpu k (part k) input (record { listed = chosen_is parts numbers k l; of = refl; at = is })
     fits_stage k l (InHand state left) is =
         let hand = stands.hand (part k).cpu k (part k) state left (record { listed = chosen_is parts numbers k l; of = refl; at = is }) in
         record {

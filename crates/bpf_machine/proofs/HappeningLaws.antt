@@ -12,6 +12,7 @@ use Rattle.bpf_loader.specs.Loaded.{Loaded}
 use Rattle.bpf_loader.specs.Laws.{OneInstructionBegins}
 use Rattle.bpf_mem.specs.Laws.{IsMemory, WritesAreDetermined}
 use Rattle.bpf_cpu.specs.declared.cpu.Cpu.{Cpu}
+use Rattle.bpf_cpu.specs.declared.input.Input.{Input}
 use Rattle.bpf_cpu.specs.State.{start}
 use Rattle.bpf_cpu.specs.Task.{Task, Waiting, InHand, Ended}
 use Rattle.bpf_cpu.proofs.DeterminedRuns.{start_memory, step_agrees, same_replies}
@@ -73,20 +74,20 @@ module _ (law : WritesAreDetermined) (begins : OneInstructionBegins) (replies : 
       let R : ℕ → Type 0 = λ rest. HappensOn w c j task state rest answer [] other in
       one_going w c j task state left answer [] log other world.store (world.memory c j task state left at) on (subst R lefts (subst Q states (subst P same.0 on')))
 
-  waiting : (w : World) (c : ℕ) (answer : Turn) (log other : List Happening) (j : ℕ) (task t : Task) (context bytes : List ℕ) (s u : Plain) → IsWorld w
-      → IsAt w.jobs c j task (Waiting context) → PlainlyAllowed w.store c Begin s → HappensOn (record w { store = s }) c j task (start c context) task.budget answer (Begin ∷ []) log
-      → IsAt w.jobs c j t (Waiting bytes) → PlainlyAllowed w.store c Begin u → HappensOn (record w { store = u }) c j t (start c bytes) t.budget answer (Begin ∷ []) other → log ≡ other
-  waiting w c answer log other j task t context bytes s u world at begun on at' begun' on' =
-      let same = same_stage w.jobs c j t task (Waiting bytes) (Waiting context) at' at in
-      let stages : Waiting bytes ≡ Waiting context = same.1 in
-      let contexts : bytes ≡ context = cc in
+  waiting : (w : World) (c : ℕ) (answer : Turn) (log other : List Happening) (j : ℕ) (task t : Task) (input second : Input) (s u : Plain) → IsWorld w
+      → IsAt w.jobs c j task (Waiting input) → PlainlyAllowed w.store c Begin s → HappensOn (record w { store = s }) c j task (start c input) task.budget answer (Begin ∷ []) log
+      → IsAt w.jobs c j t (Waiting second) → PlainlyAllowed w.store c Begin u → HappensOn (record w { store = u }) c j t (start c second) t.budget answer (Begin ∷ []) other → log ≡ other
+  waiting w c answer log other j task t input second s u world at begun on at' begun' on' =
+      let same = same_stage w.jobs c j t task (Waiting second) (Waiting input) at' at in
+      let stages : Waiting second ≡ Waiting input = same.1 in
+      let inputs : second ≡ input = cc in
       let stores = (replies w.store u s c Begin Begin world.store begun' begun refl).1 in
-      let P : Task → Type 0 = λ t. HappensOn (record w { store = u }) c j t (start c bytes) t.budget answer (Begin ∷ []) other in
-      let Q : List ℕ → Type 0 = λ bytes. HappensOn (record w { store = u }) c j task (start c bytes) task.budget answer (Begin ∷ []) other in
-      let R : Plain → Type 0 = λ u. HappensOn (record w { store = u }) c j task (start c context) task.budget answer (Begin ∷ []) other in
+      let P : Task → Type 0 = λ t. HappensOn (record w { store = u }) c j t (start c second) t.budget answer (Begin ∷ []) other in
+      let Q : Input → Type 0 = λ second. HappensOn (record w { store = u }) c j task (start c second) task.budget answer (Begin ∷ []) other in
+      let R : Plain → Type 0 = λ u. HappensOn (record w { store = u }) c j task (start c input) task.budget answer (Begin ∷ []) other in
       let sound = allowed_sound w.store s c Begin world.store begun.0 in
-      one_going (record w { store = s }) c j task (start c context) task.budget answer (Begin ∷ []) log other sound (start_memory c context (world.short c j task context at)) on
-      (subst R stores (subst Q contexts (subst P same.0 on')))
+      one_going (record w { store = s }) c j task (start c input) task.budget answer (Begin ∷ []) log other sound (start_memory c input (world.short c j task input at)) on
+      (subst R stores (subst Q inputs (subst P same.0 on')))
 
   one_happens : (w : World) (c : ℕ) (answer : Turn) (log other : List Happening) → IsWorld w → Happens w c answer log → Happens w c answer other → log ≡ other
   one_happens w c answer log other world (inl a) (inl b) =

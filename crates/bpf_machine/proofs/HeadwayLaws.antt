@@ -5,6 +5,7 @@ use Rattle.bpf_base.proofs.Lists.{slice_get-set_known, slice_get-set_other}
 use Rattle.bpf_shared.proofs.Puts.{equal_or_not}
 use Rattle.bpf_loader.specs.Loaded.{Loaded}
 use Rattle.bpf_cpu.specs.declared.cpu.Cpu.{Cpu}
+use Rattle.bpf_cpu.specs.declared.input.Input.{Input}
 use Rattle.bpf_cpu.specs.declared.outcome.Outcome.{Outcome}
 use Rattle.bpf_machine.specs.declared.machine.Turn.{Turn}
 use Rattle.bpf_machine.specs.declared.machine.Turn.TheVariants as turn
@@ -56,10 +57,10 @@ turn_others w c d answer z (inr (inr a)) ne =
 pub fits_kept : (jobs news : List Task) (d : ℕ) → SameJobs jobs news d → (h : Headway) → FitsHeadway jobs d h → FitsHeadway news d h
 fits_kept jobs news d same Idle fits = (
   λ j task state left at. fits.0 j task state left ((same j task (InHand state left)).0 at),
-  λ j task context at. fits.1 j task context ((same j task (Waiting context)).0 at),
+  λ j task input at. fits.1 j task input ((same j task (Waiting input)).0 at),
 )
 fits_kept jobs news d same (Turns zero) fits = λ free none.
-    fits (λ j task state left at. free j task state left ((same j task (InHand state left)).1 at)) (λ j task context at. none j task context ((same j task (Waiting context)).1 at))
+    fits (λ j task state left at. free j task state left ((same j task (InHand state left)).1 at)) (λ j task input at. none j task input ((same j task (Waiting input)).1 at))
 fits_kept jobs news d same (Turns (suc n)) fits =
     let has = fits.1 in (
       fits.0,
@@ -100,12 +101,12 @@ module _ (programs : List Loaded) (turns : ℕ → ℕ) where
         go None e = absurd (subst (λ (o : Option Task). BothPrecede programs turns (Some old) o) e (subst (λ (o : Option Task). BothPrecede programs turns o (slice_get news j)) at (each j)))
         go (Some new) e = (new, e, subst (λ (o : Option Task). BothPrecede programs turns (Some old) o) e (subst (λ (o : Option Task). BothPrecede programs turns o (slice_get news j)) at (each j)))
 
-    pub waits_behind : (c j : ℕ) (task : Task) (context : List ℕ) → IsAt news c j task (Waiting context) → IsAt olds c j task (Waiting context)
-    waits_behind c j task context at = let b = behind j task at.listed in go b.0 b.1 b.2
+    pub waits_behind : (c j : ℕ) (task : Task) (input : Input) → IsAt news c j task (Waiting input) → IsAt olds c j task (Waiting input)
+    waits_behind c j task input at = let b = behind j task at.listed in go b.0 b.1 b.2
       where
-        go : (old : Task) → slice_get olds j ≡ Some old → Precedes programs (turns old.cpu) old task → IsAt olds c j task (Waiting context)
+        go : (old : Task) → slice_get olds j ≡ Some old → Precedes programs (turns old.cpu) old task → IsAt olds c j task (Waiting input)
         go old there (inl a) = record { listed = there ∙ ap Some (sym a.0); of = at.of; at = at.at }
-        go old there (inr a) = let no : Waiting context ≡ InHand a.3 a.4 = sym at.at ∙ ap (λ (t : Task). t.stage) a.7 in cc
+        go old there (inr a) = let no : Waiting input ≡ InHand a.3 a.4 = sym at.at ∙ ap (λ (t : Task). t.stage) a.7 in cc
 
     hand_now : (c j : ℕ) (task : Task) (state : Cpu) (left : ℕ) → IsAt olds c j task (InHand state left) → HasInHand news c j
     hand_now c j task state left at = let b = before j task at.listed in go b.0 b.1 b.2
@@ -114,21 +115,21 @@ module _ (programs : List Loaded) (turns : ℕ → ℕ) where
         go new there (inl a) = (task, state, left, record { listed = there ∙ ap Some a.0; of = at.of; at = at.at })
         go new there (inr a) = (new, a.3, a.4, record { listed = there; of = ap (λ (t : Task). t.cpu) a.7 ∙ at.of; at = ap (λ (t : Task). t.stage) a.7 })
 
-    waits_now : (c j : ℕ) (task : Task) (context : List ℕ) → IsAt olds c j task (Waiting context) → IsAt news c j task (Waiting context)
-    waits_now c j task context at = let b = before j task at.listed in go b.0 b.1 b.2
+    waits_now : (c j : ℕ) (task : Task) (input : Input) → IsAt olds c j task (Waiting input) → IsAt news c j task (Waiting input)
+    waits_now c j task input at = let b = before j task at.listed in go b.0 b.1 b.2
       where
-        go : (new : Task) → slice_get news j ≡ Some new → Precedes programs (turns task.cpu) task new → IsAt news c j task (Waiting context)
+        go : (new : Task) → slice_get news j ≡ Some new → Precedes programs (turns task.cpu) task new → IsAt news c j task (Waiting input)
         go new there (inl a) = record { listed = there ∙ ap Some a.0; of = at.of; at = at.at }
-        go new there (inr a) = let no : Waiting context ≡ InHand a.1 a.2 = sym at.at ∙ a.6 in cc
+        go new there (inr a) = let no : Waiting input ≡ InHand a.1 a.2 = sym at.at ∙ a.6 in cc
 
     pub free_behind : (c : ℕ) → IsFree news c → IsFree olds c
     free_behind c free j task state left at = let h = hand_now c j task state left at in free j h.0 h.1 h.2 h.3
 
     pub none_behind : (c : ℕ) → NoneWaits news c → NoneWaits olds c
-    none_behind c none j task context at = none j task context (waits_now c j task context at)
+    none_behind c none j task input at = none j task input (waits_now c j task input at)
 
     none_below_behind : (c j : ℕ) → NoneWaitsBelow news c j → NoneWaitsBelow olds c j
-    none_below_behind c j none k task context below at = none k task context below (waits_now c k task context at)
+    none_below_behind c j none k task input below at = none k task input below (waits_now c k task input at)
 
     pub at_behind : (c j : ℕ) (task : Task) (stage : Stage) → turns c ≡ 0 → IsAt news c j task stage → IsAt olds c j task stage
     at_behind c j task stage zero_there at =

@@ -4,7 +4,7 @@ use Rattle.std.proofs.Math.Seq.{take-suc, drop-cons}
 use Rattle.std.specs.Prelude.{slice_set}
 use Rattle.std.proofs.lemmas.List.{append-nil, take-append-drop, take_more_set}
 use Rattle.bpf_cpu.specs.Task.{Stage, Task}
-use Rattle.bpf_machine.specs.Saved.{jobs_saved, context_of, stage_saved, AreLater, HoldWhatMayBe, HoldsWhatMayBe, IsLater}
+use Rattle.bpf_machine.specs.Saved.{jobs_saved, input_of, stage_saved, AreLater, HoldWhatMayBe, HoldsWhatMayBe, IsLater}
 use Rattle.bpf_machine.proofs.StageLemmas.{stages_told}
 
 -- ---- one more
@@ -50,7 +50,7 @@ jobs_behind (f ∷ fs) gs [] os rest more read are may e = absurd read
 jobs_behind (f ∷ fs) gs (t ∷ ts) [] rest more read are may e = absurd are
 jobs_behind (f ∷ fs) gs (t ∷ ts) (o ∷ os) rest more read are may e =
     let is = sym (append_assoc (stage_saved t.stage) (jobs_saved ts) rest) ∙ (e ∙ append_assoc (stage_saved o.stage) (jobs_saved os) more) in
-    let two = stages_told f.cpu (context_of f.stage) t.stage o.stage (jobs_saved ts ++ rest) (jobs_saved os ++ more) read.0.stage are.0.stage is in
+    let two = stages_told f.cpu (input_of f.stage) t.stage o.stage (jobs_saved ts ++ rest) (jobs_saved os ++ more) read.0.stage are.0.stage is in
     jobs_behind fs gs ts os rest more read.1 are.1 may.1 two.1
 
 abbrev task_of : ℕ → ℕ → ℕ → Stage → Task
@@ -64,7 +64,7 @@ jobs_told (f ∷ fs) [] os rest more read are e = absurd read
 jobs_told (f ∷ fs) (t ∷ ts) [] rest more read are e = absurd are
 jobs_told (f ∷ fs) (t ∷ ts) (o ∷ os) rest more read are e =
     let is = sym (append_assoc (stage_saved t.stage) (jobs_saved ts) rest) ∙ (e ∙ append_assoc (stage_saved o.stage) (jobs_saved os) more) in
-    let two = stages_told f.cpu (context_of f.stage) t.stage o.stage (jobs_saved ts ++ rest) (jobs_saved os ++ more) read.0.stage are.0.stage is in
+    let two = stages_told f.cpu (input_of f.stage) t.stage o.stage (jobs_saved ts ++ rest) (jobs_saved os ++ more) read.0.stage are.0.stage is in
     let others = jobs_told fs ts os rest more read.1 are.1 two.1 in
     (same_head f t o read.0 are.0 two.0 ts os others.0, others.1)
   where

@@ -7,6 +7,7 @@ use Rattle.bpf_shared.specs.Store.{Plain, put}
 use Rattle.bpf_shared.specs.Sound.{IsSoundStore}
 use Rattle.bpf_plain.specs.PlainStore.{Contents, has_cpu, is_running, held_spans, shapes_of, StandsFor}
 use Rattle.bpf_loader.specs.Loaded.{Loaded}
+use Rattle.bpf_cpu.specs.declared.input.Input.{Input}
 use Rattle.bpf_cpu.specs.Task.{Task, Waiting}
 use Rattle.bpf_machine.specs.declared.machine.lane.Listed.{Listed}
 use Rattle.bpf_machine.specs.declared.machine.lane.Lane.{Lane}
@@ -102,5 +103,5 @@ lists_with_last old new c none lists w shows =
 
 pub lists_not_yet : (old : MachineState) (c j : ℕ) → IsNext old.jobs c j → (w : World) → Shows old w → (z : World) × Lists w c z × Shows old z
 lists_not_yet old c j next w shows =
-    let P : List Task → Type 0 = λ ts. (k : ℕ) × (task : Task) × (context : List ℕ) × IsAt ts c k task (Waiting context) in
+    let P : List Task → Type 0 = λ ts. (k : ℕ) × (task : Task) × (input : Input) × IsAt ts c k task (Waiting input) in
     (w, inl (subst P (sym shows.jobs) (j, next.1.0, next.1.1, next.1.2), refl), shows)

@@ -8,6 +8,7 @@ use Rattle.bpf_shared.proofs.Puts.{equal_or_not}
 use Rattle.bpf_plain.specs.PlainStore.{Contents, has_cpu, is_running, held_spans}
 use Rattle.bpf_loader.specs.Loaded.{Loaded}
 use Rattle.bpf_cpu.specs.declared.cpu.Cpu.{Cpu}
+use Rattle.bpf_cpu.specs.declared.input.Input.{Input}
 use Rattle.bpf_machine.specs.declared.machine.lane.Listed.{Listed}
 use Rattle.bpf_machine.specs.declared.machine.lane.Phase.{Phase}
 use Rattle.bpf_machine.specs.declared.machine.lane.Phase.TheVariants as phase
@@ -31,8 +32,8 @@ pub chosen_count : (parts : List Task) (numbers : List ℕ) → length (chosen p
 chosen_count parts [] = refl
 chosen_count parts (n ∷ ns) = ap suc (chosen_count parts ns)
 
-pub waiting_or_not : (s : Stage) → waits s ≡ true → (context : List ℕ) × (s ≡ Waiting context)
-waiting_or_not (Waiting context) is = (context, refl)
+pub waiting_or_not : (s : Stage) → waits s ≡ true → (input : Input) × (s ≡ Waiting input)
+waiting_or_not (Waiting input) is = (input, refl)
 waiting_or_not (InHand state left) is = cc
 waiting_or_not (Ended outcome) is = cc
 
@@ -111,19 +112,19 @@ module _ (store : Contents) (programs : List Loaded) (parts : List Task) (number
     ]
 
     fits : (k : ℕ) (p : Phase) (s : Stage) → k < length numbers → (chosen_at parts numbers k).cpu ≡ c → (chosen_at parts numbers k).stage ≡ s → IsPhaseOf s p → FitsLane l k p
-    fits k (phase.Waiting v) (Waiting context) within of is same = next_before k of (ap waits is)
+    fits k (phase.Waiting v) (Waiting input) within of is same = next_before k of (ap waits is)
     fits k phase.InHand (InHand state left) within of is same = (before_next k within of (ap waits is), hand_is k state left within of is)
     fits k (phase.Ended end) (Ended outcome) within of is same = before_next k within of (ap waits is)
     fits k (phase.Waiting v) (InHand state left) within of is same = absurd same
     fits k (phase.Waiting v) (Ended outcome) within of is same = absurd same
-    fits k phase.InHand (Waiting context) within of is same = absurd same
+    fits k phase.InHand (Waiting input) within of is same = absurd same
     fits k phase.InHand (Ended outcome) within of is same = absurd same
-    fits k (phase.Ended end) (Waiting context) within of is same = absurd same
+    fits k (phase.Ended end) (Waiting input) within of is same = absurd same
     fits k (phase.Ended end) (InHand state left) within of is same = absurd same
 
     -- what its lane and an entry show
     shown : (k : ℕ) (p : Phase) (s : Stage) → k < length numbers → (chosen_at parts numbers k).cpu ≡ c → (chosen_at parts numbers k).stage ≡ s → IsPhaseOf s p → stage_of l.hand p ≡ s
-    shown k (phase.Waiting v) (Waiting context) within of is same = ap Waiting same
+    shown k (phase.Waiting v) (Waiting input) within of is same = ap Waiting same
     shown k phase.InHand (InHand state left) within of is same =
         let h = hand_is k state left within of is in
         let has = (lane c inside).hand h.0 h.1 in
@@ -132,16 +133,16 @@ module _ (store : Contents) (programs : List Loaded) (parts : List Task) (number
     shown k (phase.Ended end) (Ended outcome) within of is same = ap Ended same
     shown k (phase.Waiting v) (InHand state left) within of is same = absurd same
     shown k (phase.Waiting v) (Ended outcome) within of is same = absurd same
-    shown k phase.InHand (Waiting context) within of is same = absurd same
+    shown k phase.InHand (Waiting input) within of is same = absurd same
     shown k phase.InHand (Ended outcome) within of is same = absurd same
-    shown k (phase.Ended end) (Waiting context) within of is same = absurd same
+    shown k (phase.Ended end) (Waiting input) within of is same = absurd same
     shown k (phase.Ended end) (InHand state left) within of is same = absurd same
 
   -- ---- the jobs
-  short : (k : ℕ) (x : Listed) (s : Stage) (v : _) → k < length numbers → (chosen_at parts numbers k).stage ≡ s → IsPhaseOf s x.phase → x.phase ≡ phase.Waiting v → length v.items ≤ 4096
-  short k x (Waiting context) v within is same waits =
-      let there : IsPhaseOf (Waiting context) (phase.Waiting v) = subst (λ (p : Phase). IsPhaseOf (Waiting context) p) waits same in
-      subst (λ (bytes : List ℕ). length bytes ≤ 4096) (sym there) (stands.short (chosen_at parts numbers k).cpu k (chosen_at parts numbers k) context (is_at (chosen_at parts numbers k).cpu k (Waiting context) within refl is))
+  short : (k : ℕ) (x : Listed) (s : Stage) (v : Input) → k < length numbers → (chosen_at parts numbers k).stage ≡ s → IsPhaseOf s x.phase → x.phase ≡ phase.Waiting v → length v.context ≤ 4096
+  short k x (Waiting input) v within is same waits =
+      let there : IsPhaseOf (Waiting input) (phase.Waiting v) = subst (λ (p : Phase). IsPhaseOf (Waiting input) p) waits same in
+      subst (λ (i : Input). length i.context ≤ 4096) (sym there) (stands.short (chosen_at parts numbers k).cpu k (chosen_at parts numbers k) input (is_at (chosen_at parts numbers k).cpu k (Waiting input) within refl is))
   short k x (InHand state left) v within is same waits = absurd (subst (λ (p : Phase). IsPhaseOf (InHand state left) p) waits same)
   short k x (Ended outcome) v within is same waits = absurd (subst (λ (p : Phase). IsPhaseOf (Ended outcome) p) waits same)
 

@@ -9,6 +9,7 @@ use Rattle.bpf_loader.specs.Loaded.{Loaded}
 use Rattle.bpf_loader.specs.Laws.{OneInstructionBegins}
 use Rattle.bpf_mem.specs.Laws.{WritesAreDetermined}
 use Rattle.bpf_cpu.specs.declared.cpu.Cpu.{Cpu}
+use Rattle.bpf_cpu.specs.declared.input.Input.{Input}
 use Rattle.bpf_cpu.specs.declared.outcome.Progress.{Progress}
 use Rattle.bpf_cpu.specs.declared.outcome.Progress.TheVariants.{On, Done}
 use Rattle.bpf_cpu.specs.declared.outcome.Outcome.{Outcome}
@@ -99,13 +100,13 @@ pub richer_cpu : (old new : Task) → IsRicher old new → new.cpu ≡ old.cpu
 richer_cpu old new (inl same) = ap (λ (t : Task). t.cpu) same
 richer_cpu old new (inr a) = ap (λ (t : Task). t.cpu) a.4
 
-richer_wait : (old new : Task) (context : List ℕ) → IsRicher old new → new.stage ≡ Waiting context → new ≡ old
-richer_wait old new context (inl same) at = same
-richer_wait old new context (inr a) at = let no : InHand a.0 (a.1 + a.2) ≡ Waiting context = ap (λ (t : Task). t.stage) (sym a.4) ∙ at in cc
+richer_wait : (old new : Task) (input : Input) → IsRicher old new → new.stage ≡ Waiting input → new ≡ old
+richer_wait old new input (inl same) at = same
+richer_wait old new input (inr a) at = let no : InHand a.0 (a.1 + a.2) ≡ Waiting input = ap (λ (t : Task). t.stage) (sym a.4) ∙ at in cc
 
-wait_richer : (old new : Task) (context : List ℕ) → IsRicher old new → old.stage ≡ Waiting context → new ≡ old
-wait_richer old new context (inl same) at = same
-wait_richer old new context (inr a) at = let no : InHand a.0 a.1 ≡ Waiting context = sym a.3 ∙ at in cc
+wait_richer : (old new : Task) (input : Input) → IsRicher old new → old.stage ≡ Waiting input → new ≡ old
+wait_richer old new input (inl same) at = same
+wait_richer old new input (inr a) at = let no : InHand a.0 a.1 ≡ Waiting input = sym a.3 ∙ at in cc
 
 pub end_richer : (old new : Task) (end : Outcome) → IsRicher old new → old.stage ≡ Ended end → new ≡ old
 end_richer old new end (inl same) at = same
@@ -161,24 +162,24 @@ module _ (olds news : List Task) (rich : AsRich olds news) where
       let h = richer_back b.0 task state left b.2 at.at in
       (b.0, h.0, record { listed = b.1; of = sym (richer_cpu b.0 task b.2) ∙ at.of; at = h.1 })
 
-  wait_back : (c j : ℕ) (task : Task) (context : List ℕ) → IsAt news c j task (Waiting context) → IsAt olds c j task (Waiting context)
-  wait_back c j task context at =
+  wait_back : (c j : ℕ) (task : Task) (input : Input) → IsAt news c j task (Waiting input) → IsAt olds c j task (Waiting input)
+  wait_back c j task input at =
       let b = rich_back olds news j task rich at.listed in
-      record { listed = b.1 ∙ ap Some (sym (richer_wait b.0 task context b.2 at.at)); of = at.of; at = at.at }
+      record { listed = b.1 ∙ ap Some (sym (richer_wait b.0 task input b.2 at.at)); of = at.of; at = at.at }
 
-  pub wait_now : (c j : ℕ) (task : Task) (context : List ℕ) → IsAt olds c j task (Waiting context) → IsAt news c j task (Waiting context)
-  wait_now c j task context at =
+  pub wait_now : (c j : ℕ) (task : Task) (input : Input) → IsAt olds c j task (Waiting input) → IsAt news c j task (Waiting input)
+  wait_now c j task input at =
       let b = rich_at olds news j task rich at.listed in
-      record { listed = b.1 ∙ ap Some (wait_richer task b.0 context b.2 at.at); of = at.of; at = at.at }
+      record { listed = b.1 ∙ ap Some (wait_richer task b.0 input b.2 at.at); of = at.of; at = at.at }
 
   free_rich : (c : ℕ) → IsFree olds c → IsFree news c
   free_rich c free j task state left at = let b = hand_back c j task state left at in free j b.0 state b.1 b.2
 
   waits_rich : (c : ℕ) → NoneWaits olds c → NoneWaits news c
-  waits_rich c none j task context at = none j task context (wait_back c j task context at)
+  waits_rich c none j task input at = none j task input (wait_back c j task input at)
 
   below_rich : (c j : ℕ) → NoneWaitsBelow olds c j → NoneWaitsBelow news c j
-  below_rich c j none k task context below at = none k task context below (wait_back c k task context at)
+  below_rich c j none k task input below at = none k task input below (wait_back c k task input at)
 
 pub rich_world : (w : World) (jobs : List Task) → AsRich w.jobs jobs → IsWorld w → IsWorld (with_jobs w jobs)
 rich_world w jobs rich world = record {
@@ -188,7 +189,7 @@ rich_world w jobs rich world = record {
       (let a = hand_back w.jobs jobs rich c j task state left at in
       let b = hand_back w.jobs jobs rich c k other now rest too in
       world.one c j k a.0 b.0 state now a.1 b.1 a.2 b.2);
-  short = λ c j task context at. world.short c j task context (wait_back w.jobs jobs rich c j task context at);
+  short = λ c j task input at. world.short c j task input (wait_back w.jobs jobs rich c j task input at);
 }
 
 -- ---- a turn with richer jobs

@@ -82,8 +82,8 @@ turn_spent : (w : World) (c : ℕ) (answer : Turn) (z : World) → AreRefilled w
 turn_spent w c answer z whole (inl (j, task, state, left, at, goes)) =
     let spent = whole_spent w.jobs c whole in
     goes_spent w c j task (InHand state left) state left answer z at spent (spent c j task state left at).0 goes
-turn_spent w c answer z whole (inr (inl (free, (j, task, context, s, at, none, begins, goes)))) =
-    goes_spent (record w { store = s }) c j task (Waiting context) (start c context) task.budget answer z at (whole_spent w.jobs c whole) (omega arith) goes
+turn_spent w c answer z whole (inr (inl (free, (j, task, input, s, at, none, begins, goes)))) =
+    goes_spent (record w { store = s }) c j task (Waiting input) (start c input) task.budget answer z at (whole_spent w.jobs c whole) (omega arith) goes
 turn_spent w c answer z whole (inr (inr (free, none, is, same))) = set_as w.jobs z.jobs c (ap (λ (x : World). x.jobs) same) (whole_spent w.jobs c whole)
 
 -- ---- turns that no store sees

@@ -47,7 +47,7 @@ pub all_ended : (jobs : List Task) (n : ℕ) → ((j : ℕ) (task : Task) → sl
 all_ended jobs n inside idle j task listed = at_stage task.stage refl
   where
     at_stage : (stage : Stage) → task.stage ≡ stage → (outcome : Outcome) × (task.stage ≡ Ended outcome)
-    at_stage (Waiting context) e = absurd ((idle task.cpu (inside j task listed)).1 j task context (record { listed = listed; of = refl; at = e }))
+    at_stage (Waiting input) e = absurd ((idle task.cpu (inside j task listed)).1 j task input (record { listed = listed; of = refl; at = e }))
     at_stage (InHand state left) e = absurd ((idle task.cpu (inside j task listed)).0 j task state left (record { listed = listed; of = refl; at = e }))
     at_stage (Ended outcome) e = (outcome, e)
 
@@ -176,7 +176,7 @@ alone_round old new n worked inside far e one d ne = elim (cases_lt d n) [
   | inl less ↦ far.alone e one d less ne
   | inr past ↦ far.kept d past (
     λ j task state left at. absurd (let l = inside j task at.listed in let k : task.cpu ≡ d = at.of in omega arith),
-    λ j task context at. absurd (let l = inside j task at.listed in let k : task.cpu ≡ d = at.of in omega arith),
+    λ j task input at. absurd (let l = inside j task at.listed in let k : task.cpu ≡ d = at.of in omega arith),
   )
 ]
 

@@ -9,6 +9,7 @@ use Rattle.bpf_loader.specs.Loaded.{Loaded}
 use Rattle.bpf_loader.specs.Laws.{OneInstructionBegins}
 use Rattle.bpf_mem.specs.Laws.{WritesAreDetermined}
 use Rattle.bpf_cpu.specs.declared.cpu.Cpu.{Cpu}
+use Rattle.bpf_cpu.specs.declared.input.Input.{Input}
 use Rattle.bpf_cpu.specs.declared.outcome.Progress.{Progress}
 use Rattle.bpf_cpu.specs.declared.outcome.Progress.TheVariants.{On, Done}
 use Rattle.bpf_cpu.specs.declared.outcome.Outcome.{Outcome}
@@ -167,7 +168,7 @@ module _ (kept : List MachineState) (depths : List ℕ) (least : ℕ) (sparing :
     module _ (k : ℕ) (other : Turn) (p' u : World) (h : Headway) (taken : TakesTurn p c other p') (shown : Richly (IsShownAt kept k) u) (same : with_jobs u p'.jobs ≡ p') (ahead : IsAheadOf (IsAhead (now s.headways c h)) (now s.headways c h) p'.jobs u)
         (more : depth_at depths s.i ≤ depth_at depths k)
         (hand : (j : ℕ) (task : Task) (state : Cpu) (left : ℕ) → IsAt z.jobs c j task (InHand state left) → (2 ≤ left) × (task.budget + turns_in h + 1 ≤ left + depth_at depths k))
-        (begun : (j : ℕ) (task : Task) (context : List ℕ) → IsFree z.jobs c → IsAt z.jobs c j task (Waiting context) → (2 ≤ task.budget) × (task.budget + turns_in h + 1 ≤ task.budget + depth_at depths k)) where
+        (begun : (j : ℕ) (task : Task) (input : Input) → IsFree z.jobs c → IsAt z.jobs c j task (Waiting input) → (2 ≤ task.budget) × (task.budget + turns_in h + 1 ≤ task.budget + depth_at depths k)) where
       there : (steps : HasSteps z'.jobs (λ d. turns_in (now s.headways c h d)) (depth_at depths k)) → NoneRanOut z'.jobs → IsSpared z'
       there steps none =
           let r = rich_turn z s.jobs c answer z' s.rich progress none in
@@ -245,7 +246,7 @@ module _ (kept : List MachineState) (depths : List ℕ) (least : ℕ) (sparing :
         let budget = least_is z s j task at.listed in
         let steps : task.budget + turns_in (s.headways c) ≤ left + depth_at depths s.i = s.steps c j task state left at in
         (omega arith, omega arith)))
-        (λ j task context free at. (let h = hand_behind fits.0 fits.1 in absurd (free fits.0 h.0 h.1 h.2 h.3)))
+        (λ j task input free at. (let h = hand_behind fits.0 fits.1 in absurd (free fits.0 h.0 h.1 h.2 h.3)))
         progress
 
     -- the CPU has no work in what the kept machine shows
@@ -283,7 +284,7 @@ module _ (kept : List MachineState) (depths : List ℕ) (least : ℕ) (sparing :
         let budget = least_is z s j task at.listed in
         let steps : task.budget + turns_in (s.headways c) ≤ left + depth_at depths s.i = s.steps c j task state left at in
         (omega arith, omega arith)))
-        (λ j task context free at. (let budget = least_is z s j task at.listed in (omega arith, omega arith)))
+        (λ j task input free at. (let budget = least_is z s j task at.listed in (omega arith, omega arith)))
         progress
       where
         leads : LeadsBy (IsShownAt kept s.i) (λ h u. (turns_in h ≡ n) × Richly (IsShownAt kept k) u) c

@@ -9,6 +9,7 @@ use Rattle.bpf_plain.specs.PlainStore.{Contents, has_cpu, is_running, held_spans
 use Rattle.bpf_loader.specs.Loaded.{Loaded}
 use Rattle.bpf_helpers.specs.Held.{AreHeld}
 use Rattle.bpf_cpu.specs.declared.cpu.Cpu.{Cpu}
+use Rattle.bpf_cpu.specs.declared.input.Input.{Input}
 use Rattle.bpf_cpu.specs.Step.{IsReady}
 use Rattle.bpf_machine.specs.declared.machine.lane.Listed.{Listed}
 use Rattle.bpf_machine.specs.declared.machine.lane.Phase.{Phase}
@@ -36,10 +37,10 @@ module _ (store : Contents) (programs : List Loaded) (jobs : List Listed) (lanes
       let b = behind jobs lanes task.cpu j task task.stage (record { listed = at; of = refl; at = refl }) in
       subst (λ (t : Task). t.program < length programs) (sym b.shown) (board.each_job j b.job b.listed).program
 
-  short : (c j : ℕ) (task : Task) (context : List ℕ) → IsAt m.jobs c j task (Waiting context) → length context ≤ 4096
-  short c j task context at =
-      let w = waits_at (has_cpu store) (is_running store) (held_spans store) programs jobs lanes board c j task context at in
-      subst (λ (bytes : List ℕ). length bytes ≤ 4096) w.waits.2 ((board.each_job j w.job w.listed).short w.waits.0 w.waits.1)
+  short : (c j : ℕ) (task : Task) (input : Input) → IsAt m.jobs c j task (Waiting input) → length input.context ≤ 4096
+  short c j task input at =
+      let w = waits_at (has_cpu store) (is_running store) (held_spans store) programs jobs lanes board c j task input at in
+      subst (λ (i : Input). length i.context ≤ 4096) w.waits.2 ((board.each_job j w.job w.listed).short w.waits.0 w.waits.1)
 
   hand : (c j : ℕ) (task : Task) (state : Cpu) (left : ℕ) → IsAt m.jobs c j task (InHand state left) → FitsHand m c task state
   hand c j task state left at =
@@ -72,14 +73,14 @@ module _ (store : Contents) (programs : List Loaded) (jobs : List Listed) (lanes
     | inr past ↦ board.idle c (omega (arith, past))
   ]
 
-  waits_behind : (c j k : ℕ) (later : Task) (l : Lane) (p : Phase) (o : Option Hand) → l.next ≤ j → j < k → FitsLane l k p → (more : List ℕ) × (stage_of o p ≡ Waiting more)
-  waits_behind c j k later l (phase.Waiting v) o before behind fits = (v.items, refl)
+  waits_behind : (c j k : ℕ) (later : Task) (l : Lane) (p : Phase) (o : Option Hand) → l.next ≤ j → j < k → FitsLane l k p → (more : Input) × (stage_of o p ≡ Waiting more)
+  waits_behind c j k later l (phase.Waiting v) o before behind fits = (v, refl)
   waits_behind c j k later l phase.InHand o before behind fits = let less : k < l.next = fits.0 in absurd (omega arith)
   waits_behind c j k later l (phase.Ended outcome) o before behind fits = let less : k < l.next = fits in absurd (omega arith)
 
-  order : (c j k : ℕ) (task later : Task) (context : List ℕ) → IsAt m.jobs c j task (Waiting context) → j < k → slice_get m.jobs k ≡ Some later → later.cpu ≡ c → (more : List ℕ) × (later.stage ≡ Waiting more)
-  order c j k task later context at less there of =
-      let w = waits_at (has_cpu store) (is_running store) (held_spans store) programs jobs lanes board c j task context at in
+  order : (c j k : ℕ) (task later : Task) (input : Input) → IsAt m.jobs c j task (Waiting input) → j < k → slice_get m.jobs k ≡ Some later → later.cpu ≡ c → (more : Input) × (later.stage ≡ Waiting more)
+  order c j k task later input at less there of =
+      let w = waits_at (has_cpu store) (is_running store) (held_spans store) programs jobs lanes board c j task input at in
       let b = behind jobs lanes c k later later.stage (record { listed = there; of = of; at = refl }) in
       let lane = lane_of lanes c in
       let fits : FitsLane lane k b.job.phase = subst (λ (n : ℕ). FitsLane (lane_of lanes n) k b.job.phase) b.of (board.each_job k b.job b.listed).fits in

@@ -7,6 +7,7 @@ use Rattle.std.proofs.lemmas.List.{get_or_read}
 use Rattle.bpf_shared.specs.declared.events.Span.{Span}
 use Rattle.bpf_loader.specs.Loaded.{Loaded}
 use Rattle.bpf_cpu.specs.declared.cpu.Cpu.{Cpu}
+use Rattle.bpf_cpu.specs.declared.input.Input.{Input}
 use Rattle.bpf_machine.specs.declared.machine.lane.Listed.{Listed}
 use Rattle.bpf_machine.specs.declared.machine.lane.Phase.{Phase}
 use Rattle.bpf_machine.specs.declared.machine.lane.Phase.TheVariants as phase
@@ -48,17 +49,17 @@ shows_job jobs lanes j x at = slice_get-map (task_of lanes) jobs j ∙ ap (λ (o
 
 -- a hand that is shown is there
 pub shown_hand : (o : Option Hand) (p : Phase) (state : Cpu) (left : ℕ) → stage_of o p ≡ InHand state left → (h : Hand) × (o ≡ Some h) × (p ≡ phase.InHand) × (h.cpu ≡ state) × (h.left ≡ left)
-shown_hand o (phase.Waiting context) state left e = cc
+shown_hand o (phase.Waiting input) state left e = cc
 shown_hand o (phase.Ended outcome) state left e = cc
 shown_hand None phase.InHand state left e = cc
 shown_hand (Some h) phase.InHand state left e = let same : InHand h.cpu h.left ≡ InHand state left = e in (h, refl, refl, cc, cc)
 
-shown_waiting : (l : Lane) (j : ℕ) (p : Phase) (context : List ℕ) → FitsLane l j p → stage_of l.hand p ≡ Waiting context → (v : _) × (p ≡ phase.Waiting v) × (v.items ≡ context) × (l.next ≤ j)
-shown_waiting l j (phase.Waiting v) context fits e = let same : Waiting v.items ≡ Waiting context = e in (v, refl, cc, fits)
-shown_waiting l j (phase.Ended outcome) context fits e = cc
-shown_waiting l j phase.InHand context fits e =
-    let there : stage_of (Some fits.1.0) phase.InHand ≡ Waiting context = ap (λ (o : Option Hand). stage_of o phase.InHand) (sym fits.1.1) ∙ e in
-    let no : InHand fits.1.0.cpu fits.1.0.left ≡ Waiting context = there in
+shown_waiting : (l : Lane) (j : ℕ) (p : Phase) (input : Input) → FitsLane l j p → stage_of l.hand p ≡ Waiting input → (v : Input) × (p ≡ phase.Waiting v) × (v ≡ input) × (l.next ≤ j)
+shown_waiting l j (phase.Waiting v) input fits e = let same : Waiting v ≡ Waiting input = e in (v, refl, cc, fits)
+shown_waiting l j (phase.Ended outcome) input fits e = cc
+shown_waiting l j phase.InHand input fits e =
+    let there : stage_of (Some fits.1.0) phase.InHand ≡ Waiting input = ap (λ (o : Option Hand). stage_of o phase.InHand) (sym fits.1.1) ∙ e in
+    let no : InHand fits.1.0.cpu fits.1.0.left ≡ Waiting input = there in
     cc
 
 -- the CPU of each job is one that is served
@@ -130,20 +131,20 @@ module _ (serves running : ℕ → Bool) (reach : ℕ → Span → Bool) (progra
       go (Some h) e = let has = has_hand h within e in absurd (free h.job has.0 h.cpu h.left has.1)
 
   -- ---- waiting
-  pub record WaitsAt (j : ℕ) (task : Task) (context : List ℕ) : Type 0 where
+  pub record WaitsAt (j : ℕ) (task : Task) (input : Input) : Type 0 where
     pub job : Listed
     pub listed : slice_get jobs j ≡ Some job
     pub of : job.cpu ≡ c
     pub shown : task ≡ task_of lanes job
     pub within : c < length lanes
-    pub waits : (v : _) × (job.phase ≡ phase.Waiting v) × (v.items ≡ context) × ((lane_of lanes c).next ≤ j)
+    pub waits : (v : Input) × (job.phase ≡ phase.Waiting v) × (v ≡ input) × ((lane_of lanes c).next ≤ j)
 
-  pub waits_at : (j : ℕ) (task : Task) (context : List ℕ) → IsAt (tasks_of lanes jobs) c j task (Waiting context) → WaitsAt j task context
-  waits_at j task context at =
-      let b = behind jobs lanes c j task (Waiting context) at in
+  pub waits_at : (j : ℕ) (task : Task) (input : Input) → IsAt (tasks_of lanes jobs) c j task (Waiting input) → WaitsAt j task input
+  waits_at j task input at =
+      let b = behind jobs lanes c j task (Waiting input) at in
       let own = board.each_job j b.job b.listed in
-      let e : stage_of (lane_of lanes b.job.cpu).hand b.job.phase ≡ Waiting context = sym (ap (λ (t : Task). t.stage) b.shown) ∙ at.at in
-      let w = shown_waiting (lane_of lanes b.job.cpu) j b.job.phase context own.fits e in
+      let e : stage_of (lane_of lanes b.job.cpu).hand b.job.phase ≡ Waiting input = sym (ap (λ (t : Task). t.stage) b.shown) ∙ at.at in
+      let w = shown_waiting (lane_of lanes b.job.cpu) j b.job.phase input own.fits e in
       record {
         job = b.job;
         listed = b.listed;
@@ -154,17 +155,17 @@ module _ (serves running : ℕ → Bool) (reach : ℕ → Span → Bool) (progra
       }
 
   -- the CPU's next job waits
-  pub next_waits : c < length lanes → (x : Listed) → slice_get jobs (lane_of lanes c).next ≡ Some x → (task : Task) × (context : List ℕ) × IsAt (tasks_of lanes jobs) c (lane_of lanes c).next task (Waiting context)
+  pub next_waits : c < length lanes → (x : Listed) → slice_get jobs (lane_of lanes c).next ≡ Some x → (task : Task) × (input : Input) × IsAt (tasks_of lanes jobs) c (lane_of lanes c).next task (Waiting input)
   next_waits within x at =
       let n = (lane_of lanes c).next in
       let of : x.cpu ≡ c = (board.each_lane c within).next x at in
       let fits : FitsLane (lane_of lanes c) n x.phase = subst (λ (d : ℕ). FitsLane (lane_of lanes d) n x.phase) of (board.each_job n x at).fits in
       go x.phase refl fits
     where
-      go : (p : Phase) → x.phase ≡ p → FitsLane (lane_of lanes c) (lane_of lanes c).next p → (task : Task) × (context : List ℕ) × IsAt (tasks_of lanes jobs) c (lane_of lanes c).next task (Waiting context)
+      go : (p : Phase) → x.phase ≡ p → FitsLane (lane_of lanes c) (lane_of lanes c).next p → (task : Task) × (input : Input) × IsAt (tasks_of lanes jobs) c (lane_of lanes c).next task (Waiting input)
       go (phase.Waiting v) e fits = (
         task_of lanes x,
-        v.items,
+        v,
         record {
           listed = shows_job jobs lanes (lane_of lanes c).next x at;
           of = (board.each_lane c within).next x at;
@@ -175,11 +176,11 @@ module _ (serves running : ℕ → Bool) (reach : ℕ → Span → Bool) (progra
       go (phase.Ended outcome) e fits = let l : (lane_of lanes c).next < (lane_of lanes c).next = fits in absurd (omega arith)
 
   pub none_waits_below : NoneWaitsBelow (tasks_of lanes jobs) c (lane_of lanes c).next
-  none_waits_below k task context below at = let w = waits_at k task context at in let above = w.waits.3 in absurd (omega arith)
+  none_waits_below k task input below at = let w = waits_at k task input at in let above = w.waits.3 in absurd (omega arith)
 
   pub none_waits : length jobs ≤ (lane_of lanes c).next → NoneWaits (tasks_of lanes jobs) c
-  none_waits past j task context at =
-      let w = waits_at j task context at in
+  none_waits past j task input at =
+      let w = waits_at j task input at in
       let above = w.waits.3 in
       let inside : j < length jobs = slice_get_within jobs j w.job w.listed in
       absurd (omega arith)
@@ -188,7 +189,7 @@ module _ (serves running : ℕ → Bool) (reach : ℕ → Span → Bool) (progra
   pub nothing_beyond : length lanes ≤ c → IsFree (tasks_of lanes jobs) c × NoneWaits (tasks_of lanes jobs) c
   nothing_beyond past = (
     λ j task state left at. (let h = hand_at j task state left at in let w = h.within in absurd (omega arith)),
-    λ j task context at. (let w = waits_at j task context at in let l = w.within in absurd (omega arith)),
+    λ j task input at. (let w = waits_at j task input at in let l = w.within in absurd (omega arith)),
   )
 
   -- the job that the CPU is to begin is its next

@@ -1,6 +1,7 @@
 -- Which of the jobs a CPU has in hand, and which wait for it.
 use Rattle.std.specs.Prelude.{◌≡◌, ℕ, ◌<◌, List, Some, slice_get, slice_set}
 use Rattle.bpf_cpu.specs.declared.cpu.Cpu.{Cpu}
+use Rattle.bpf_cpu.specs.declared.input.Input.{Input}
 use Rattle.bpf_cpu.specs.Task.{Stage, Task, Waiting, InHand}
 
 -- the j-th job is one of this CPU's, in this stage
@@ -17,17 +18,17 @@ IsFree jobs cpu =
 -- no job of the CPU waits that has a lower number
 abbrev pub NoneWaitsBelow : List Task → ℕ → ℕ → Type 0
 NoneWaitsBelow jobs cpu j =
-    (k : ℕ) (task : Task) (context : List ℕ) → k < j → IsAt jobs cpu k task (Waiting context) → ⊥
+    (k : ℕ) (task : Task) (input : Input) → k < j → IsAt jobs cpu k task (Waiting input) → ⊥
 
 -- no job of the CPU waits
 abbrev pub NoneWaits : List Task → ℕ → Type 0
 NoneWaits jobs cpu =
-    (j : ℕ) (task : Task) (context : List ℕ) → IsAt jobs cpu j task (Waiting context) → ⊥
+    (j : ℕ) (task : Task) (input : Input) → IsAt jobs cpu j task (Waiting input) → ⊥
 
 -- some job of the CPU waits
 abbrev pub SomeWaits : List Task → ℕ → Type 0
 SomeWaits jobs cpu =
-    (j : ℕ) × (task : Task) × (context : List ℕ) × IsAt jobs cpu j task (Waiting context)
+    (j : ℕ) × (task : Task) × (input : Input) × IsAt jobs cpu j task (Waiting input)
 
 -- the jobs with the j-th in another stage
 abbrev pub with_stage : List Task → ℕ → Task → Stage → List Task

@@ -7,6 +7,7 @@ use Rattle.bpf_shared.specs.Choice.{PlainlyAllowed}
 use Rattle.bpf_shared.specs.History.{PlainlyLegal, entry}
 use Rattle.bpf_loader.specs.Loaded.{Loaded}
 use Rattle.bpf_cpu.specs.declared.cpu.Cpu.{Cpu}
+use Rattle.bpf_cpu.specs.declared.input.Input.{Input}
 use Rattle.bpf_cpu.specs.declared.outcome.Progress.{Progress}
 use Rattle.bpf_cpu.specs.State.{start}
 use Rattle.bpf_cpu.specs.Step.{Step}
@@ -53,10 +54,10 @@ abbrev pub Happens : World → ℕ → Turn → List Happening → Type 0
 Happens w c answer log =
     ((j : ℕ) × (task : Task) × (state : Cpu) × (left : ℕ) × IsAt w.jobs c j task (InHand state left)
     × HappensOn w c j task state left answer [] log)
-    ⊎ (IsFree w.jobs c × ((j : ℕ) × (task : Task) × (context : List ℕ) × (s : Plain)
-    × IsAt w.jobs c j task (Waiting context) × NoneWaitsBelow w.jobs c j
+    ⊎ (IsFree w.jobs c × ((j : ℕ) × (task : Task) × (input : Input) × (s : Plain)
+    × IsAt w.jobs c j task (Waiting input) × NoneWaitsBelow w.jobs c j
     × PlainlyAllowed w.store c Begin s
-    × HappensOn (record w { store = s }) c j task (start c context) task.budget answer (Begin ∷ [])
+    × HappensOn (record w { store = s }) c j task (start c input) task.budget answer (Begin ∷ [])
     log))
     ⊎ (IsFree w.jobs c × NoneWaits w.jobs c × (log ≡ []))
 

@@ -9,7 +9,7 @@ mix hash number = spread (bit_xor hash number)
 
 -- of a job in hand its pc, the steps that its budget has left and its registers count
 abbrev pub stage_hash : ℕ → Stage → ℕ
-stage_hash first (Waiting context) = mix first 1
+stage_hash first (Waiting input) = mix first 1
 stage_hash first (Ended outcome) = mix first 2
 stage_hash first (InHand state left) = fold mix (mix (mix first state.pc) left) state.registers
 

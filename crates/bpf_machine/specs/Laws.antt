@@ -3,6 +3,7 @@
 use Rattle.std.specs.Prelude.{◌≡◌, ℕ, ◌≤◌, List, ◌++◌, Some, length, slice_get}
 use Rattle.bpf_shared.specs.Sound.{IsSoundStore}
 use Rattle.bpf_mem.specs.Limits.{max_context}
+use Rattle.bpf_cpu.specs.declared.input.Input.{Input}
 use Rattle.bpf_cpu.specs.Task.{Stage, Task, Waiting}
 use Rattle.bpf_machine.specs.Schedule.{World, RunsSchedule}
 use Rattle.bpf_machine.specs.Rounds.{RunsBy, RunsToEnd}
@@ -13,7 +14,7 @@ use Rattle.bpf_machine.specs.Happenings.{Happening, RunsByWith}
 pub record IsFresh (w : World) : Type 0 where
   pub store : IsSoundStore w.store
   pub waits : (j : ℕ) (task : Task) → slice_get w.jobs j ≡ Some task
-      → (context : List ℕ) × (task.stage ≡ Waiting context) × (length context ≤ max_context)
+      → (input : Input) × (task.stage ≡ Waiting input) × (length input.context ≤ max_context)
 
 -- a schedule has one run
 abbrev pub SchedulesAreDetermined : Type 0
@@ -37,10 +38,10 @@ HappeningsAreDetermined =
     (w y z : World) (schedule : List ℕ) (log other : List Happening) → IsFresh w
     → RunsByWith w schedule log y → RunsByWith w schedule other z → (log ≡ other) × (y ≡ z)
 
--- what a stage is saved as determines it, of a job whose CPU and context are known, and where it ends
+-- what a stage is saved as determines it, of a job whose CPU and input are known, and where it ends
 abbrev pub SavedTellsStages : Type 0
 SavedTellsStages =
-    (cpu : ℕ) (context : List ℕ) (stage other : Stage) (rest more : List ℕ)
-    → IsSavableStage cpu context stage → IsSavableStage cpu context other
+    (cpu : ℕ) (input : Input) (stage other : Stage) (rest more : List ℕ)
+    → IsSavableStage cpu input stage → IsSavableStage cpu input other
     → stage_saved stage ++ rest ≡ stage_saved other ++ more
     → (stage ≡ other) × (rest ≡ more)

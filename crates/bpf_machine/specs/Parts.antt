@@ -1,11 +1,13 @@
 -- Machines that are made again of parts: a store, programs, and each job as it is.
-use Rattle.std.specs.Prelude.{◌≡◌, ℕ, ◌<◌, ◌≤◌, true, false, List, [], Some, None, length, map, slice_get, slice_index_or}
+use Rattle.std.specs.Prelude.{◌≡◌, ℕ, ◌<◌, ◌≤◌, true, false, List, Some, None, length, map, slice_get, slice_index_or}
 use Rattle.bpf_mem.specs.Limits.{max_context}
 use Rattle.bpf_plain.specs.PlainStore.{Contents, has_cpu, is_running, held_spans}
 use Rattle.bpf_plain.specs.Alike.{IsSameShape}
 use Rattle.bpf_loader.specs.Loaded.{Loaded}
 use Rattle.bpf_helpers.specs.Held.{AreHeld}
 use Rattle.bpf_cpu.specs.declared.cpu.Cpu.{Cpu}
+use Rattle.bpf_cpu.specs.declared.input.Input.{Input}
+use Rattle.bpf_cpu.specs.Input.{no_input}
 use Rattle.bpf_cpu.specs.Step.{IsReady}
 use Rattle.bpf_cpu.specs.Task.{Task, Waiting, InHand}
 use Rattle.bpf_machine.specs.Hands.{IsAt, IsFree}
@@ -28,20 +30,20 @@ pub record CanStand (m : MachineState) : Type 0 where
       → has_cpu m.store task.cpu ≡ true
   pub loaded : (j : ℕ) (task : Task) → slice_get m.jobs j ≡ Some task
       → task.program < length m.programs
-  pub short : (c j : ℕ) (task : Task) (context : List ℕ) → IsAt m.jobs c j task (Waiting context)
-      → length context ≤ max_context
+  pub short : (c j : ℕ) (task : Task) (input : Input) → IsAt m.jobs c j task (Waiting input)
+      → length input.context ≤ max_context
   pub hand : (c j : ℕ) (task : Task) (state : Cpu) (left : ℕ)
       → IsAt m.jobs c j task (InHand state left) → FitsHand m c task state
   pub one : (c j k : ℕ) → HasInHand m.jobs c j → HasInHand m.jobs c k → j ≡ k
   pub idle : (c : ℕ) → IsFree m.jobs c → is_running m.store c ≡ false
   -- after a job that waits all of its CPU wait
-  pub order : (c j k : ℕ) (task later : Task) (context : List ℕ)
-      → IsAt m.jobs c j task (Waiting context) → j < k → slice_get m.jobs k ≡ Some later
-      → later.cpu ≡ c → (more : List ℕ) × (later.stage ≡ Waiting more)
+  pub order : (c j k : ℕ) (task later : Task) (input : Input)
+      → IsAt m.jobs c j task (Waiting input) → j < k → slice_get m.jobs k ≡ Some later
+      → later.cpu ≡ c → (more : Input) × (later.stage ≡ Waiting more)
 
 -- ---- jobs by numbers
 abbrev pub no_task : Task
-no_task = record { cpu = 0; program = 0; budget = 0; stage = Waiting [] }
+no_task = record { cpu = 0; program = 0; budget = 0; stage = Waiting no_input }
 
 -- the job of the k-th number
 abbrev pub chosen_at : List Task → List ℕ → ℕ → Task

@@ -21,7 +21,7 @@ IsStanding jobs cpu standing.Idle = IsFree jobs cpu × NoneWaits jobs cpu
 
 -- how many turns a job may still take
 abbrev pub turns_before_end : ℕ → Stage → ℕ
-turns_before_end budget (Waiting context) = budget + 1
+turns_before_end budget (Waiting input) = budget + 1
 turns_before_end budget (InHand state left) = left + 1
 turns_before_end budget (Ended outcome) = 0
 
@@ -30,7 +30,7 @@ turns_left jobs = sum_by (λ task. turns_before_end task.budget task.stage) jobs
 
 -- how many jobs haven't ended
 abbrev pub open_in : Stage → ℕ
-open_in (Waiting context) = 1
+open_in (Waiting input) = 1
 open_in (InHand state left) = 1
 open_in (Ended outcome) = 0
 

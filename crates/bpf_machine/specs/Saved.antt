@@ -1,40 +1,48 @@
--- What a job's stage is saved as: bytes that determine it of a job whose CPU and context are known.
-use Rattle.std.specs.Prelude.{◌≡◌, ℕ, List, [], ◌∷◌, ◌++◌, length}
+-- What a job's stage is saved as: bytes that determine it of a job whose CPU is known, and what it is
+-- given.
+use Rattle.std.specs.Prelude.{◌≡◌, ℕ, List, [], ◌∷◌, ◌++◌}
 use Rattle.bpf_mem.specs.Saved.{IsWord, words_saved}
 use Rattle.bpf_helpers.specs.Saved.{AreOnce, MayBeHeld}
-use Rattle.bpf_cpu.specs.Saved.{IsSavableOutcome, IsSavableState, cpu_saved, outcome_saved}
+use Rattle.bpf_cpu.specs.declared.cpu.Cpu.{Cpu}
+use Rattle.bpf_cpu.specs.declared.input.Input.{Input}
+use Rattle.bpf_cpu.specs.Input.{no_input}
+use Rattle.bpf_cpu.specs.Saved.{IsOfOneJob, IsSavableOutcome, IsSavableState, cpu_saved, outcome_saved}
+use Rattle.bpf_cpu.specs.State.{start}
 use Rattle.bpf_cpu.specs.Task.{Stage, Task, Waiting, InHand, Ended}
 
 -- it waits; it is in hand, with this many steps left; it has ended
 abbrev pub stage_saved : Stage → List ℕ
-stage_saved (Waiting context) = 0 ∷ []
+stage_saved (Waiting input) = 0 ∷ []
 stage_saved (InHand state left) = 1 ∷ words_saved 0 (left ∷ []) ++ cpu_saved state
 stage_saved (Ended outcome) = 2 ∷ outcome_saved outcome
 
--- a stage of a job on this CPU that has this context, made of words
-abbrev pub IsSavableStage : ℕ → List ℕ → Stage → Type 0
-IsSavableStage cpu context (Waiting own) = own ≡ context
-IsSavableStage cpu context (InHand state left) =
-    IsWord left × (state.number ≡ cpu) × (length state.memory.context ≡ length context)
-    × IsSavableState state
-IsSavableStage cpu context (Ended outcome) = IsSavableOutcome outcome
+-- the state is one of a job on this CPU that was given this: the CPU, the length of its context, and
+-- what else it was given
+abbrev pub IsOfJob : ℕ → Input → Cpu → Type 0
+IsOfJob cpu input state = IsOfOneJob (start cpu input) state
+
+-- a stage of a job on this CPU that is given this, made of words
+abbrev pub IsSavableStage : ℕ → Input → Stage → Type 0
+IsSavableStage cpu input (Waiting own) = own ≡ input
+IsSavableStage cpu input (InHand state left) =
+    IsWord left × IsOfJob cpu input state × IsSavableState state
+IsSavableStage cpu input (Ended outcome) = IsSavableOutcome outcome
 
 -- where it is in hand, a run may hold the values that its run holds
 abbrev pub HoldsWhatMayBe : Stage → Type 0
-HoldsWhatMayBe (Waiting context) = Unit {0}
+HoldsWhatMayBe (Waiting input) = Unit {0}
 HoldsWhatMayBe (InHand state left) = MayBeHeld state.held
 HoldsWhatMayBe (Ended outcome) = Unit {0}
 
--- the stage is one of a job on this CPU that first had this context
-abbrev pub IsStageOf : ℕ → List ℕ → Stage → Type 0
-IsStageOf cpu context (Waiting own) = own ≡ context
-IsStageOf cpu context (InHand state left) =
-    (state.number ≡ cpu) × (length state.memory.context ≡ length context)
-IsStageOf cpu context (Ended outcome) = Unit {0}
+-- the stage is one of a job on this CPU that was given this
+abbrev pub IsStageOf : ℕ → Input → Stage → Type 0
+IsStageOf cpu input (Waiting own) = own ≡ input
+IsStageOf cpu input (InHand state left) = IsOfJob cpu input state
+IsStageOf cpu input (Ended outcome) = Unit {0}
 
 -- its numbers are words, and where it is in hand, its run holds each value once
 abbrev pub FitsBytes : Stage → Type 0
-FitsBytes (Waiting context) = Unit {0}
+FitsBytes (Waiting input) = Unit {0}
 FitsBytes (InHand state left) = IsWord left × IsSavableState state × AreOnce state.held
 FitsBytes (Ended outcome) = IsSavableOutcome outcome
 
@@ -44,18 +52,18 @@ abbrev pub jobs_saved : List Task → List ℕ
 jobs_saved [] = []
 jobs_saved (task ∷ jobs) = stage_saved task.stage ++ jobs_saved jobs
 
--- the context of a job that waits
-abbrev pub context_of : Stage → List ℕ
-context_of (Waiting context) = context
-context_of (InHand state left) = []
-context_of (Ended outcome) = []
+-- what a job that waits is given
+abbrev pub input_of : Stage → Input
+input_of (Waiting input) = input
+input_of (InHand state left) = no_input
+input_of (Ended outcome) = no_input
 
 -- the job is one that waited first, in some stage of it
 pub record IsLater (first task : Task) : Type 0 where
   pub cpu : task.cpu ≡ first.cpu
   pub program : task.program ≡ first.program
   pub budget : task.budget ≡ first.budget
-  pub stage : IsSavableStage first.cpu (context_of first.stage) task.stage
+  pub stage : IsSavableStage first.cpu (input_of first.stage) task.stage
 
 -- each is, of jobs in the same order
 abbrev pub AreLater : List Task → List Task → Type 0
@@ -68,7 +76,7 @@ pub record ComesFrom (first task : Task) : Type 0 where
   pub cpu : task.cpu ≡ first.cpu
   pub program : task.program ≡ first.program
   pub budget : task.budget ≡ first.budget
-  pub stage : IsStageOf first.cpu (context_of first.stage) task.stage
+  pub stage : IsStageOf first.cpu (input_of first.stage) task.stage
 
 -- each is, of jobs in the same order
 abbrev pub ComeFrom : List Task → List Task → Type 0

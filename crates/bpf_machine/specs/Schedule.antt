@@ -7,6 +7,7 @@ use Rattle.bpf_shared.specs.Choice.{PlainlyAllowed}
 use Rattle.bpf_shared.specs.History.{PlainlyLegal, entry}
 use Rattle.bpf_loader.specs.Loaded.{Loaded}
 use Rattle.bpf_cpu.specs.declared.cpu.Cpu.{Cpu}
+use Rattle.bpf_cpu.specs.declared.input.Input.{Input}
 use Rattle.bpf_cpu.specs.declared.outcome.Progress.{Progress}
 use Rattle.bpf_cpu.specs.declared.outcome.Progress.TheVariants as progress
 use Rattle.bpf_cpu.specs.declared.outcome.Outcome.{Outcome}
@@ -70,10 +71,10 @@ abbrev pub TakesTurn : World → ℕ → Turn → World → Type 0
 TakesTurn w c answer z =
     ((j : ℕ) × (task : Task) × (state : Cpu) × (left : ℕ) × IsAt w.jobs c j task (InHand state left)
     × GoesOn w c j task state left answer z)
-    ⊎ (IsFree w.jobs c × ((j : ℕ) × (task : Task) × (context : List ℕ) × (s : Plain)
-    × IsAt w.jobs c j task (Waiting context) × NoneWaitsBelow w.jobs c j
+    ⊎ (IsFree w.jobs c × ((j : ℕ) × (task : Task) × (input : Input) × (s : Plain)
+    × IsAt w.jobs c j task (Waiting input) × NoneWaitsBelow w.jobs c j
     × PlainlyAllowed w.store c Begin s
-    × GoesOn (record w { store = s }) c j task (start c context) task.budget answer z))
+    × GoesOn (record w { store = s }) c j task (start c input) task.budget answer z))
     ⊎ (IsFree w.jobs c × NoneWaits w.jobs c × (answer ≡ turn.Idle) × (z ≡ w))
 
 -- the run of a schedule: its turns, in order

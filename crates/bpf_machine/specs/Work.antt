@@ -6,6 +6,7 @@ use Rattle.bpf_shared.specs.Choice.{PlainlyAllowed}
 use Rattle.bpf_shared.specs.Sound.{IsSoundStore}
 use Rattle.bpf_plain.specs.PlainStore as plain_store
 use Rattle.bpf_cpu.specs.declared.cpu.Cpu.{Cpu}
+use Rattle.bpf_cpu.specs.declared.input.Input.{Input}
 use Rattle.bpf_machine.specs.declared.machine.Turn.{Turn}
 use Rattle.bpf_machine.specs.declared.machine.Work.{Work}
 use Rattle.bpf_machine.specs.declared.machine.Work.TheVariants as work
@@ -28,7 +29,7 @@ IsState jobs cpu state =
 -- the CPU has none in hand, and this is its lowest that waits
 abbrev pub IsNext : List Task → ℕ → ℕ → Type 0
 IsNext jobs cpu j =
-    IsFree jobs cpu × ((task : Task) × (context : List ℕ) × IsAt jobs cpu j task (Waiting context))
+    IsFree jobs cpu × ((task : Task) × (input : Input) × IsAt jobs cpu j task (Waiting input))
     × NoneWaitsBelow jobs cpu j
 
 abbrev pub IsWork : List Task → ℕ → Work → Type 0
@@ -39,9 +40,9 @@ IsWork jobs cpu work.Nothing = IsFree jobs cpu × NoneWaits jobs cpu
 -- the j-th job, which waits, is in hand, and its run has begun
 abbrev pub BeginsJob : MachineState → ℕ → ℕ → MachineState → Type 0
 BeginsJob old cpu j new =
-    (task : Task) × (context : List ℕ) × IsAt old.jobs cpu j task (Waiting context)
+    (task : Task) × (input : Input) × IsAt old.jobs cpu j task (Waiting input)
     × (new.programs ≡ old.programs)
-    × (new.jobs ≡ with_stage old.jobs j task (InHand (start cpu context) task.budget))
+    × (new.jobs ≡ with_stage old.jobs j task (InHand (start cpu input) task.budget))
     × ((s : Plain) → IsSoundStore s → plain_store.StandsFor old.store s → (t : Plain)
     × PlainlyAllowed s cpu Begin t × IsSoundStore t × plain_store.StandsFor new.store t)
     × (new.lists ≡ old.lists)

@@ -128,7 +128,7 @@ impl Machine {
         requires idle { (cpu : ℕ) → is_running store cpu ≡ false }
         requires cpus { All (λ job. has_cpu store job.cpu ≡ true) jobs.items }
         requires programs { All (λ job. job.program < vec_len programs) jobs.items }
-        requires contexts { All (λ job. vec_len job.context ≤ max_context) jobs.items }
+        requires contexts { All (λ job. length job.input.context ≤ max_context) jobs.items }
         ensures store { IfOk result (λ m. m.store ≡ store) }
         ensures programs { IfOk result (λ m. m.programs ≡ programs.items) }
         ensures jobs { IfOk result (λ m. m.jobs ≡ map waiting jobs.items) }
@@ -150,7 +150,7 @@ impl Machine {
         requires idle { (cpu : ℕ) → is_running store cpu ≡ false }
         requires cpus { All (λ job. has_cpu store job.cpu ≡ true) jobs.items }
         requires programs { All (λ job. job.program < vec_len programs) jobs.items }
-        requires contexts { All (λ job. vec_len job.context ≤ max_context) jobs.items }
+        requires contexts { All (λ job. length job.input.context ≤ max_context) jobs.items }
         ensures store { IfOk result (λ m. m.store ≡ store) }
         ensures programs { IfOk result (λ m. m.programs ≡ programs.items) }
         ensures jobs { IfOk result (λ m. m.jobs ≡ map waiting jobs.items) }
@@ -172,7 +172,7 @@ impl Machine {
         requires idle { (cpu : ℕ) → is_running store cpu ≡ false }
         requires cpus { All (λ job. has_cpu store job.cpu ≡ true) jobs.items }
         requires programs { All (λ job. job.program < vec_len programs) jobs.items }
-        requires contexts { All (λ job. vec_len job.context ≤ max_context) jobs.items }
+        requires contexts { All (λ job. length job.input.context ≤ max_context) jobs.items }
         ensures store { IfOk result (λ m. m.store ≡ store) }
         ensures programs { IfOk result (λ m. m.programs ≡ programs.items) }
         ensures jobs { IfOk result (λ m. m.jobs ≡ map waiting jobs.items) }
@@ -346,8 +346,8 @@ impl Machine {
         let left = listed.budget;
         self.programs[listed.program].starts();
         match mem::replace(&mut listed.phase, Phase::InHand) {
-            Phase::Waiting(context) => {
-                let start = Cpu::new(cpu, context);
+            Phase::Waiting(input) => {
+                let start = Cpu::new(cpu, input);
                 lane.hand = Some(Hand {
                     job,
                     cpu: start,

@@ -1,12 +1,13 @@
 //! The context: the bytes that a program is given when it starts.
 
-ghost use Rattle.std.specs.Prelude.{◌≡◌, ◌+◌, ◌<◌, ◌≤◌, ◌↔◌, ◌++◌, IfSome, IfNone, IsTrue, length, vec_len};
+ghost use Rattle.std.specs.Prelude.{◌≡◌, ◌+◌, ◌<◌, ◌≤◌, ◌↔◌, ◌++◌, IfOk, IfSome, IfNone, IsTrue, length, vec_len};
 ghost use Rattle.bpf_base.specs.Bytes.{low_bytes, with_part};
 ghost use Rattle.bpf_mem.specs.Bytes.{length_of};
 ghost use Rattle.bpf_mem.specs.Limits.{max_context};
 
 use crate::bytes;
 use bpf_insn::operation::Size;
+use std::alloc::{AllocError, Global};
 use std::marker::Model;
 
 /// How many bytes a context has at most: `max_context` (our own choice).
@@ -36,6 +37,15 @@ impl Context {
         ensures { result ≡ bytes.items }
     {
         Context { bytes }
+    }
+
+    /// A context of the same bytes.
+    pub fn copy(&self, alloc: Global) -> Result<Context, AllocError>
+        ensures { IfOk result (λ copy. copy ≡ self.now) }
+    {
+        let mut bytes = Vec::with_capacity(alloc, self.bytes.len())?;
+        bytes.extend_from_slice(&self.bytes)?;
+        Ok(Context { bytes })
     }
 
     /// Its bytes.

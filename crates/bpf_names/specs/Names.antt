@@ -29,7 +29,7 @@ no_names = record { maps = []; variables = [] }
 
 -- ---- one variable
 
--- the number that its bytes of a value are, the lowest first; 0 where the value hasn't so many
+-- the number that its bytes of a value are, the lowest first; 0 where the value has fewer
 abbrev pub number_in : Variable → List ℕ → ℕ
 number_in v bytes =
     if nat_le (v.at + bytes_in v.size) (length bytes)

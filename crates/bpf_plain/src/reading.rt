@@ -78,7 +78,7 @@ fn read_changes(array: &ArrayShape, cpus: u8, bytes: &mut [u8], saved: &[u8]) ->
     }
 }
 
-/// The same of the array of this number. What may only be read stays.
+/// Reads the bytes of the array of this number out of what was saved. What may only be read stays.
 fn read_array(shape: &StoreShape, number: usize, bytes: &mut [u8], saved: &[u8]) -> usize
     requires there { number < length shape.now.arrays }
     requires made { (g : ArrayShape) → IsArray shape.now.arrays number g
@@ -98,7 +98,7 @@ fn read_array(shape: &StoreShape, number: usize, bytes: &mut [u8], saved: &[u8])
     read_changes(array, shape.cpus(), bytes, saved)
 }
 
-/// The same of all arrays.
+/// Reads the bytes of all arrays out of what was saved.
 fn fill_arrays(shape: &StoreShape, arrays: &mut [Vec<u8>], saved: &[u8])
     requires { AreAsMade shape.now (bytes_of_all arrays.old) }
     ensures read { (others : List (List ℕ)) (more : List ℕ) → AreArrays shape.now others

@@ -15,6 +15,7 @@ use Rattle.bpf_shared.specs.Shape.{IsShape}
 use Rattle.bpf_shared.specs.declared.events.Event.{Event}
 use Rattle.bpf_cpu.specs.declared.outcome.Outcome.{Outcome}
 use Rattle.bpf_cpu.specs.declared.cpu.Cpu.{Cpu}
+use Rattle.bpf_cpu.specs.Input.{of_bytes}
 use Rattle.bpf_cpu.specs.State.{start}
 use Rattle.bpf_cpu.specs.Step.{Explains}
 use Rattle.bpf_cpu.specs.Laws.{OutcomesAreDetermined, NoMapsNoEvents}
@@ -70,7 +71,7 @@ pub data OfWords (text : List ℕ) : Refusal → Type 0 where
 
 pub data OfRun (budget : ℕ) (context text : List ℕ) : Reply → Type 0 where
   Ran : (outcome : Outcome) (is : List Insn) (events : List Event) → IsWordsOf text is → IsSound no_names is
-      → Explains ⊥ bare_shape (record { instructions = is; named = no_names }) budget (start 0 context) events outcome → OfRun budget context text (reply.Ended outcome)
+      → Explains ⊥ bare_shape (record { instructions = is; named = no_names }) budget (start 0 (of_bytes context)) events outcome → OfRun budget context text (reply.Ended outcome)
   Unsound : (error : LoadError) (is : List Insn) → IsWordsOf text is → IsFirstRefusal no_names is error → OfRun budget context text (reply.Refused (refusal.Load error))
   Unread : (r : Refusal) → OfWords text r → OfRun budget context text (reply.Refused r)
 
@@ -204,13 +205,13 @@ module _ (words : WordsAreDetermined) (encodings : EncodingsAreDetermined) (refu
 
   pub one_run : (budget : ℕ) (context text : List ℕ) (r s : Reply) → length context ≤ 4096 → OfRun budget context text r → OfRun budget context text s → r ≡ s
   one_run budget context text r s h (Ran x is es a sound runs) (Ran y js fs b safe goes) =
-      let P : List Insn → Type 0 = λ is. Explains ⊥ bare_shape (loaded is) budget (start 0 context) fs y in
+      let P : List Insn → Type 0 = λ is. Explains ⊥ bare_shape (loaded is) budget (start 0 (of_bytes context)) fs y in
       let other = subst P (same_words text js is b a) goes in
-      let alone = events 1 (loaded is) budget 0 context es x runs in
-      let alone' = events 1 (loaded is) budget 0 context fs y other in
-      let Q : List Event → Type 0 = λ es. Explains ⊥ bare_shape (loaded is) budget (start 0 context) es y in
-      ap reply.Ended (outcomes bare_shape (loaded is) budget 0 context es x y h (unworn (loaded is) budget (start 0 context) es x runs)
-      (unworn (loaded is) budget (start 0 context) es y (subst Q (alone' ∙ sym alone) other)))
+      let alone = events 1 (loaded is) budget 0 (of_bytes context) es x runs in
+      let alone' = events 1 (loaded is) budget 0 (of_bytes context) fs y other in
+      let Q : List Event → Type 0 = λ es. Explains ⊥ bare_shape (loaded is) budget (start 0 (of_bytes context)) es y in
+      ap reply.Ended (outcomes bare_shape (loaded is) budget 0 (of_bytes context) es x y h (unworn (loaded is) budget (start 0 (of_bytes context)) es x runs)
+      (unworn (loaded is) budget (start 0 (of_bytes context)) es y (subst Q (alone' ∙ sym alone) other)))
   one_run budget context text r s h (Ran x is es a sound runs) (Unsound error js b first) =
       let P : List Insn → Type 0 = λ is. IsFirstRefusal no_names is error in
       absurd (firsts.1 no_names is error sound (subst P (same_words text js is b a) first))

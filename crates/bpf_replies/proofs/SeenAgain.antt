@@ -53,7 +53,7 @@ after_going w c j task old left answer z (program, end, s, new, rest, at, advanc
 after_turn : (w : World) (c : ℕ) (answer : Turn) (z : World) → TakesTurn w c answer z → NeverLists w → NeverLists z
 after_turn w c answer z (inl (j, task, state, left, at, goes)) never =
     after_going w c j task state left answer z goes never
-after_turn w c answer z (inr (inl (free, (j, task, context, s, at, none, allowed, goes)))) never =
+after_turn w c answer z (inr (inl (free, (j, task, input, s, at, none, allowed, goes)))) never =
     after_going _ c j task _ _ answer z goes never
 after_turn w c answer z (inr (inr (free, none, said, e))) never = subst NeverLists (sym e) never
 

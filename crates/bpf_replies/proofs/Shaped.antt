@@ -20,11 +20,11 @@ use Rattle.bpf_file.specs.declared.error.FileError.TheVariants.{Refused}
 use Rattle.bpf_file.specs.declared.error.Reason.{Reason}
 use Rattle.bpf_file.specs.declared.error.Reason.TheVariants as reason
 use Rattle.bpf_file.specs.Form.{is_there}
-use Rattle.bpf_file.specs.Statement.{Said, Version, Cpus, Seed, Map, Array, Data, Variable, Put, PutNumbers, Program, Words, Job, statement_of}
+use Rattle.bpf_file.specs.Statement.{Said, Version, Cpus, Seed, Map, Array, Data, Variable, Put, PutNumbers, Program, Words, Job, statement_of, JobSaid}
 use Rattle.bpf_file.specs.File.{File, shape_of}
 use Rattle.bpf_file.specs.Parts.{Part, State, Between, Within, nothing, place_of, array_place, with_cpus, with_map, with_array, with_pair, with_variable}
 use Rattle.bpf_file.specs.Programs.{text_of_lines}
-use Rattle.bpf_file.specs.Rows.{unless, cpus_refusal, map_refusal, array_refusal, data_refusal, data_laid, or_refused, data_added, name_refusal, place_refusal, variable_added, is_sized, is_numbered, pair_refusal, pair_put, value_put, key_put, pair_added, value_place, element_put, element_added, numbered_bytes, pair_numbered, element_numbered, put_added, numbers_added, program_added, WordsAdd, served, steps_of, context_of, job_added, placed, AddsLine}
+use Rattle.bpf_file.specs.Rows.{unless, cpus_refusal, map_refusal, array_refusal, data_refusal, data_laid, or_refused, data_added, name_refusal, place_refusal, variable_added, is_sized, is_numbered, pair_refusal, pair_put, value_put, key_put, pair_added, value_place, element_put, element_added, numbered_bytes, pair_numbered, element_numbered, put_added, numbers_added, program_added, WordsAdd, served, context_of, job_added, placed, AddsLine}
 use Rattle.bpf_file.specs.Reading.{AddsOrRefuses, FieldsSay, is_end, Belongs, ReadsLine, finished, AreRead, IsRunFile}
 use Rattle.bpf_file.specs.Private.Fits.{IsFit, IsFitState, IsFitResult}
 use Rattle.bpf_file.proofs.Fits.{fit_nothing, line_fits, opening_fits, section_fits}
@@ -122,11 +122,11 @@ words_closed : (k : Option ℕ) (n : ℕ) (p : Part) (name digits : List ℕ) (r
 words_closed (Some k) n p name digits r e = subst IsClosed (sym e) tt
 words_closed None n p name digits r (o, of, e) = subst IsClosed (sym e) (program_closed p name o)
 
-job_closed : (n : ℕ) (p : Part) (cpu program : Option ℕ) (steps : ℕ) (context : Result (List ℕ) FromHexError) → IsClosed (job_added n p cpu program steps context)
-job_closed n p (Some c) (Some k) steps (Ok bytes) = tt
-job_closed n p (Some c) (Some k) steps (Err e) = tt
-job_closed n p (Some c) None steps context = tt
-job_closed n p None k steps context = tt
+job_closed : (n : ℕ) (p : Part) (cpu program : Option ℕ) (line : JobSaid) (context : Result (List ℕ) FromHexError) → IsClosed (job_added n p cpu program line context)
+job_closed n p (Some c) (Some k) line (Ok bytes) = tt
+job_closed n p (Some c) (Some k) line (Err e) = tt
+job_closed n p (Some c) None line context = tt
+job_closed n p None k line context = tt
 
 module _ (n : ℕ) (p q : Part) (from : ℕ) (name : List ℕ) (lines : List (List ℕ)) where
   never : (r : Result State FileError) → Ok (Within q from name lines) ≡ r → IsClosed r → ⊥
@@ -152,9 +152,9 @@ module _ (n : ℕ) (p q : Part) (from : ℕ) (name : List ℕ) (lines : List (Li
       absurd (never (numbers_added n p (place_of title p.file.names.maps) key (numbered_bytes size numbers)) e (numbers_closed n p (place_of title p.file.names.maps) key (numbered_bytes size numbers)))
   adds_first (Program title) e = opened (is_there (place_of title p.titles)) title e
   adds_first (Words title digits) w = absurd (words_closed (place_of title p.titles) n p title digits (Ok (Within q from name lines)) w)
-  adds_first (Job cpu title steps context) e =
-      absurd (never (job_added n p (served p.file.cpus cpu) (place_of title p.titles) (steps_of steps) (context_of context)) e
-      (job_closed n p (served p.file.cpus cpu) (place_of title p.titles) (steps_of steps) (context_of context)))
+  adds_first (Job line) e =
+      absurd (never (job_added n p (served p.file.cpus line.cpu) (place_of line.program p.titles) line (context_of line.context)) e
+      (job_closed n p (served p.file.cpus line.cpu) (place_of line.program p.titles) line (context_of line.context)))
 
   says_first : (w : Result Said Reason) → AddsOrRefuses n p w (Ok (Within q from name lines)) → AddsOrRefuses n p w (Ok (Within q n name []))
   says_first (Ok s) a = adds_first s a

@@ -9,6 +9,7 @@ use Rattle.bpf_loader.specs.declared.named.Named.{Named}
 use Rattle.bpf_loader.specs.Sound.{IsFirstRefusal, IsSound}
 use Rattle.bpf_loader.specs.declared.refusal.LoadError.TheVariants as load_error
 use Rattle.bpf_shared.specs.declared.events.Event.{Event}
+use Rattle.bpf_cpu.specs.Input.{of_bytes}
 use Rattle.bpf_cpu.specs.State.{start}
 use Rattle.bpf_cpu.specs.Step.{Explains}
 use Rattle.bpf_insn.specs.declared.error.InsnError.TheVariants as insn_error
@@ -58,7 +59,7 @@ RefusesProgram text r = RefusesWords text r
 abbrev pub IsRun : ℕ → List ℕ → List ℕ → Reply → Type 0
 IsRun budget context text (reply.Ended outcome) = (is : List Insn) × IsWordsOf text is
     × IsSound no_names is × (events : List Event)
-    × Explains ⊥ bare_shape (record { instructions = is; named = no_names }) budget (start 0 context) events outcome
+    × Explains ⊥ bare_shape (record { instructions = is; named = no_names }) budget (start 0 (of_bytes context)) events outcome
 IsRun budget context text (reply.Refused refusal.OutOfMemory) = Unit {0}
 IsRun budget context text (reply.Refused r) = RefusesProgram text r
 IsRun budget context text (reply.Text printed) = ⊥

@@ -13,7 +13,7 @@ use crate::listing::word_lines;
 use crate::refusal::Refusal;
 use crate::reply::Reply;
 use bpf_command::RunOptions;
-use bpf_cpu::Cpu;
+use bpf_cpu::{Cpu, Input};
 use bpf_disassembly::{disassemble, program_lines, source_lines};
 use bpf_insn::{Insn, decode, encode};
 use bpf_lines::from_hex;
@@ -68,7 +68,7 @@ pub fn run(alloc: Global, options: RunOptions, text: &str) -> Result<Reply, Refu
         return Err(Refusal::OutOfMemory);
     };
     let RunOptions { budget, context } = options;
-    let mut cpu = Cpu::new(0, context);
+    let mut cpu = Cpu::new(0, Input::of_bytes(context));
     Ok(Reply::Ended(cpu.run(&program, &mut store, budget)))
 }
 

@@ -25,7 +25,7 @@ use Rattle.bpf_shared.proofs.Chains.{events_of-append}
 use Rattle.bpf_shared.proofs.Puts.{equal_or_not}
 use Rattle.bpf_sched.specs.declared.assignment.Assignment.{Assignment}
 use Rattle.bpf_sched.specs.declared.worker.Worker.{Worker}
-use Rattle.bpf_sched.specs.Explained.{ExplainsJobs, IsExplained, IsWorn, waiting_context, jobs_of, ends_of, keys_events, listed_maps}
+use Rattle.bpf_sched.specs.Explained.{ExplainsJobs, IsExplained, IsWorn, waiting_input, jobs_of, ends_of, keys_events, listed_maps}
 use Rattle.bpf_sched.specs.Working.{AreListsFor, IsNew, RunsAndLists, assigned, outcome_of}
 use Rattle.bpf_sched.specs.Worked.{AreFor, IsReadyWorker, Worked, extends, found_in, listed_by}
 use Rattle.bpf_sched.proofs.Told.{explains_lists, ran_all}
@@ -36,7 +36,7 @@ some_same x y e = cc
 new_one : (cpu m : ℕ) (task : Task) (us : List Task) → task.program < m → (b : Bool) → (task.cpu == cpu) ≡ b → All (IsNew cpu m) (map assigned us) → All (IsNew cpu m) (map assigned (cond b (task ∷ us) us))
 new_one cpu m task us below true same all =
     let number : task.cpu ≡ cpu = grind (arith, nat_tests) in
-    All-cons (IsNew cpu m) (assigned task) (map assigned us) (record { context = waiting_context task.stage; fresh = ap (λ (c : ℕ). start c (waiting_context task.stage)) number; program = below }) all
+    All-cons (IsNew cpu m) (assigned task) (map assigned us) (record { input = waiting_input task.stage; fresh = ap (λ (c : ℕ). start c (waiting_input task.stage)) number; program = below }) all
 new_one cpu m task us below false same all = all
 
 -- a CPU's jobs are its own, and new

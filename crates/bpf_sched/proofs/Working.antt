@@ -26,8 +26,8 @@ number_is cpu n a new = ap (λ (s : Cpu). s.number) new.fresh
 -- a new job is one of the CPU that its state names
 pub own_number : (cpu n : ℕ) (a : Assignment) → IsNew cpu n a → IsNew a.cpu.number n a
 own_number cpu n a new = record {
-  context = new.context;
-  fresh = new.fresh ∙ ap (λ (k : ℕ). start k new.context) (sym (number_is cpu n a new));
+  input = new.input;
+  fresh = new.fresh ∙ ap (λ (k : ℕ). start k new.input) (sym (number_is cpu n a new));
   program = new.program;
 }
 

@@ -11,18 +11,20 @@ use Rattle.bpf_shared.specs.History.{IsLegal, Legal, events_of}
 use Rattle.hop_words.specs.Shortage.{HaveCauses}
 use Rattle.bpf_shared.specs.Own.{turns_of}
 use Rattle.bpf_loader.specs.Loaded.{Loaded}
+use Rattle.bpf_cpu.specs.declared.input.Input.{Input}
 use Rattle.bpf_cpu.specs.declared.outcome.Outcome.{Outcome}
+use Rattle.bpf_cpu.specs.Input.{no_input}
 use Rattle.bpf_cpu.specs.State.{start}
 use Rattle.bpf_cpu.specs.Step.{Explains}
 use Rattle.bpf_cpu.specs.Task.{Task, Stage, Waiting, InHand, Ended}
 
 -- ---- one job
 
--- the context of a job that waits
-abbrev pub waiting_context : Stage → List ℕ
-waiting_context (Waiting context) = context
-waiting_context (InHand state left) = []
-waiting_context (Ended outcome) = []
+-- what a job that waits is given
+abbrev pub waiting_input : Stage → Input
+waiting_input (Waiting input) = input
+waiting_input (InHand state left) = no_input
+waiting_input (Ended outcome) = no_input
 
 -- a run counter that began with this count can't count another run: it has its last value but one
 abbrev pub IsWorn : ℕ → List Event → Type 0
@@ -34,7 +36,7 @@ pub record ExplainsJob (shape : Shape) (count : ℕ) (programs : List Loaded) (t
   pub program : Loaded
   pub listed : slice_get programs task.program ≡ Some program
   pub explained : Explains (IsWorn count before) shape program task.budget
-      (start task.cpu (waiting_context task.stage)) events end
+      (start task.cpu (waiting_input task.stage)) events end
 
 -- ---- lists of keys
 

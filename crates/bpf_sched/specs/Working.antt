@@ -5,18 +5,19 @@ use Rattle.bpf_shared.specs.declared.shapes.MapShape.{MapShape}
 use Rattle.bpf_shared.specs.Shape.{Shape}
 use Rattle.bpf_shared.specs.KeyOrder.{Listed}
 use Rattle.bpf_loader.specs.Loaded.{Loaded}
+use Rattle.bpf_cpu.specs.declared.input.Input.{Input}
 use Rattle.bpf_cpu.specs.declared.outcome.Outcome.{Outcome}
 use Rattle.bpf_cpu.specs.declared.outcome.Outcome.TheVariants.{OutOfBudget}
 use Rattle.bpf_cpu.specs.State.{start}
 use Rattle.bpf_cpu.specs.Task.{Task}
 use Rattle.bpf_cpu.specs.Step.{Explains}
 use Rattle.bpf_sched.specs.declared.assignment.Assignment.{Assignment}
-use Rattle.bpf_sched.specs.Explained.{keys_events, waiting_context}
+use Rattle.bpf_sched.specs.Explained.{keys_events, waiting_input}
 
 -- what a job that waits needs to be run
 abbrev pub assigned : Task → Assignment
 assigned task = record {
-  cpu = start task.cpu (waiting_context task.stage);
+  cpu = start task.cpu (waiting_input task.stage);
   program = task.program;
   budget = task.budget;
   outcome = OutOfBudget 0;
@@ -27,8 +28,8 @@ outcome_of a = a.outcome
 
 -- a job of this CPU that wasn't run yet, of one of n programs
 pub record IsNew (cpu programs : ℕ) (a : Assignment) : Type 0 where
-  pub context : List ℕ
-  pub fresh : a.cpu ≡ start cpu context
+  pub input : Input
+  pub fresh : a.cpu ≡ start cpu input
   pub program : a.program < programs
 
 -- a job is run from the state x to the state y with these events, which explain how it ended:

@@ -98,7 +98,7 @@ pub fn run_filled<R: Threads + Wait + Sync, G: Gate + Sync>(
 ) -> Result<Report, SchedError>
     requires pairs { ArePairs store.table.about.shape.maps (map pair_of pairs.now) }
     requires programs { All (λ job. job.program < length programs.now) jobs.now }
-    requires contexts { All (λ job. vec_len job.context ≤ max_context) jobs.now }
+    requires contexts { All (λ job. length job.input.context ≤ max_context) jobs.now }
     ensures workers { OnOk result (AreWorkers workers) }
     ensures cpus { OnOk result (AreHere store.table.about.shape.cpus jobs.now) }
     ensures about { IfOk result (λ r. r.closed.about ≡ store.table.about) }

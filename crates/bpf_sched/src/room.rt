@@ -1,7 +1,6 @@
 //! All memory that jobs and lists of keys take, asked for before the first job begins.
 
 ghost use Rattle.std.specs.Prelude.{◌≡◌, ◌≤◌, [], All, IfOk, length, List, map, vec_capacity, vec_len};
-ghost use Rattle.bpf_mem.specs.Limits.{max_context};
 ghost use Rattle.bpf_cpu.specs.Task.{Task, waiting};
 ghost use Rattle.bpf_sched.specs.Explained.{jobs_of, listed_maps};
 ghost use Rattle.bpf_sched.specs.Working.{assigned};
@@ -28,12 +27,11 @@ pub struct Room {
 }
 
 /// What a job needs to be run.
-fn assigned(job: &Job) -> Result<Assignment, AllocError>
-    requires { vec_len job.now.context ≤ max_context }
+fn assigned(alloc: Global, job: &Job) -> Result<Assignment, AllocError>
     ensures { IfOk result (λ a. a ≡ assigned (waiting job.now)) }
 {
     Ok(Assignment {
-        cpu: Cpu::new(job.cpu, job.context.clone()?),
+        cpu: Cpu::new(job.cpu, job.input.copy(alloc)?),
         program: job.program,
         budget: job.budget,
         outcome: Outcome::OutOfBudget(0),
@@ -43,13 +41,12 @@ fn assigned(job: &Job) -> Result<Assignment, AllocError>
 /// What a CPU's jobs need, in their order.
 #[tactic(auto, using(crate::proofs::Assigning::one_of_its, crate::proofs::Assigning::one_of_others))]
 fn assign(alloc: Global, cpu: u8, jobs: &[Job]) -> Result<Vec<Assignment>, AllocError>
-    requires { All (λ job. vec_len job.context ≤ max_context) jobs.now }
     ensures { IfOk result (λ v. v.items ≡ map assigned (jobs_of cpu (map waiting jobs.now))) }
 {
     let mut list = Vec::new(alloc);
     for job in jobs {
         if job.cpu == cpu {
-            list.push(assigned(job)?)?;
+            list.push(assigned(alloc, job)?)?;
         }
     }
     Ok(list)
@@ -91,7 +88,6 @@ fn enlist(
     jobs: &[Job],
     keys: bool,
 ) -> Result<Vec<Worker>, AllocError>
-    requires { All (λ job. vec_len job.context ≤ max_context) jobs.now }
     ensures { IfOk result (λ v. AreFor keys maps.now (map waiting jobs.now) cpus v.items) }
 {
     let mut workers = Vec::with_capacity(alloc, usize::from(cpus))?;
@@ -127,7 +123,6 @@ impl Room {
         jobs: &[Job],
         keys: bool,
     ) -> Result<Room, AllocError>
-        requires { All (λ job. vec_len job.context ≤ max_context) jobs.now }
         ensures keys { IfOk result (λ r. r.keys ≡ keys) }
         ensures workers { IfOk result
             (λ r. AreFor keys maps.now (map waiting jobs.now) cpus r.workers.items) }

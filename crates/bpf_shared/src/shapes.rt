@@ -189,6 +189,10 @@ impl ArrayShape {
         requires few { count ≤ 65536 }
         ensures { IsTrue result ↔ IsWithin cpus self.now offset count }
     {
+        // Those of global variables are all in the first value, which needs no division.
+        if !self.per_cpu && count <= self.value && offset <= self.value - count {
+            return true;
+        }
         let copy_stride = self.copy_stride();
         let stride = self.stride();
         let copy = offset / copy_stride;
@@ -285,7 +289,7 @@ impl StoreShape {
         })
     }
 
-    /// The same store with up to 16 arrays, which have these bytes at first, and zeros after them.
+    /// This store with up to 16 arrays, which have these bytes at first, and zeros after them.
     /// It takes no memory.
     pub fn with_arrays(
         self,

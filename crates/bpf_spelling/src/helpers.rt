@@ -10,14 +10,28 @@ pub enum Helper {
     Update,
     Delete,
     ProcessorId,
+    Time,
+    Random,
+    Process,
+    User,
+    Lock,
+    Unlock,
+    BootTime,
 }
 
 /// All of them.
-pub const HELPERS: [Helper; 4] = [
+pub const HELPERS: [Helper; 11] = [
     Helper::Lookup,
     Helper::Update,
     Helper::Delete,
     Helper::ProcessorId,
+    Helper::Time,
+    Helper::Random,
+    Helper::Process,
+    Helper::User,
+    Helper::Lock,
+    Helper::Unlock,
+    Helper::BootTime,
 ];
 
 impl Helper {
@@ -30,6 +44,13 @@ impl Helper {
             Helper::Update => 2,
             Helper::Delete => 3,
             Helper::ProcessorId => 8,
+            Helper::Time => 5,
+            Helper::Random => 7,
+            Helper::Process => 14,
+            Helper::User => 15,
+            Helper::Lock => 93,
+            Helper::Unlock => 94,
+            Helper::BootTime => 125,
         }
     }
 
@@ -42,6 +63,13 @@ impl Helper {
             Helper::Update => "bpf_map_update_elem",
             Helper::Delete => "bpf_map_delete_elem",
             Helper::ProcessorId => "bpf_get_smp_processor_id",
+            Helper::Time => "bpf_ktime_get_ns",
+            Helper::Random => "bpf_get_prandom_u32",
+            Helper::Process => "bpf_get_current_pid_tgid",
+            Helper::User => "bpf_get_current_uid_gid",
+            Helper::Lock => "bpf_spin_lock",
+            Helper::Unlock => "bpf_spin_unlock",
+            Helper::BootTime => "bpf_ktime_get_boot_ns",
         }
     }
 
@@ -54,6 +82,13 @@ impl Helper {
             Helper::Update => "update",
             Helper::Delete => "delete",
             Helper::ProcessorId => "cpu",
+            Helper::Time => "ktime_get_ns",
+            Helper::Random => "get_prandom_u32",
+            Helper::Process => "get_current_pid_tgid",
+            Helper::User => "get_current_uid_gid",
+            Helper::Lock => "spin_lock",
+            Helper::Unlock => "spin_unlock",
+            Helper::BootTime => "ktime_get_boot_ns",
         }
     }
 

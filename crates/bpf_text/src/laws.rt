@@ -9,7 +9,7 @@ pub fn texts_are_determined()
     ensures { TextsAreDetermined }
 {}
 
-/// The same of a text with any table of names.
+/// A text and a table of names have one program or one refusal.
 pub fn named_texts_are_determined()
     ensures { NamedTextsAreDetermined }
 {}

@@ -30,12 +30,13 @@ use Rattle.bpf_shared.specs.declared.events.Span.{Span}
 use Rattle.bpf_shared.proofs.Puts.{equal_or_not}
 use Rattle.bpf_loader.specs.Loaded.{Loaded}
 use Rattle.bpf_loader.specs.Places.{target}
-use Rattle.bpf_helpers.specs.Calls.{map_value}
+use Rattle.bpf_helpers.specs.Calls.{lock_number, map_value}
 use Rattle.bpf_helpers.specs.declared.fault.HelperFault.{HelperFault}
 use Rattle.bpf_cpu.specs.declared.cpu.Cpu.{Cpu}
 use Rattle.bpf_cpu.specs.declared.outcome.Progress.TheVariants.{On, Done}
 use Rattle.bpf_cpu.specs.State.{value, operand_value, with_register, effective_address, caller_of}
-use Rattle.bpf_cpu.specs.Row.{Quiet, Jumps, JumpsIf, CallsLocal, Exits, Loads, Stores, Atomics, plain_size, extension_of, fetching, with_arguments_cleared, TakesResult}
+use Rattle.bpf_cpu.specs.Helping.{Helper, tried}
+use Rattle.bpf_cpu.specs.Row.{Quiet, Jumps, JumpsIf, CallsLocal, Exits, Loads, Stores, Atomics, plain_size, extension_of, fetching, with_arguments_cleared, after_helper, TakesResult}
 use Rattle.bpf_cpu.specs.Values.{LoadsValue, StoresValue, ChangesValue, AsksValue}
 use Rattle.bpf_cpu.specs.Step.{IsReady, Executes}
 use Rattle.bpf_threads.specs.declared.spot.Spot.{Spot}
@@ -50,6 +51,10 @@ pub record Stands (program : Loaded) (p : Spot) (cpu : Cpu) : Type 0 where
   pub here : cpu.pc ≡ p.pc
   pub known : IsKnownOf p.known cpu.registers
   pub back : backs cpu.memory.frames.callers ≡ p.callers.items
+
+-- a lock that somebody has is tried again
+abbrev pub Tries : Insn → Cpu → Cpu → Type 0
+Tries i old new = (i ≡ insn.CallHelper lock_number) × (new ≡ old)
 
 -- it is at the spot of this number
 abbrev pub Arrives : Loaded → List Spot → Cpu → Option ℕ → Type 0
@@ -302,8 +307,24 @@ module _ (program : Loaded) (p : Spot) (old : Cpu) (at : Stands program p old) w
         inl (on _ 1 known row.1 refl refl (subst (λ (ks : List (Option ℕ)). IsKnownOf ks (slice_set (with_arguments_cleared old.registers) 0 x)) (sym e) (helper_holds p.known old.registers x at.known)) there)
     taken (Err fault) held n follows row = absurd (let no : On ≡ Done _ = row.0 in cc)
 
-    -- after a step that goes on the CPU is at a spot that comes next
-    pub comes : (shape : Shape) (i : Insn) (events : List Event) → FollowsSpots spots p i → Executes shape i old events On new → Comes program spots p new
-    comes shape i events follows (inl row) = quiet i follows row.2
-    comes shape i events follows (inr (inl call)) = taken call.2.0 call.2.1 call.0 (subst (FollowsSpots spots p) call.1 follows) call.2.3
-    comes shape i events follows (inr (inr row)) = asked shape i events follows row.1
+    answered : (x drawn n : ℕ) → FollowsSpots spots p (insn.CallHelper n) → new ≡ record (after_helper old x) { drawn = drawn } → Comes program spots p new
+    answered x drawn n (known, e, there) is =
+        inl (on _ 1 known is refl refl (subst (λ (ks : List (Option ℕ)). IsKnownOf ks (slice_set (with_arguments_cleared old.registers) 0 x)) (sym e) (helper_holds p.known old.registers x at.known)) there)
+
+    tries : (i : Insn) (n x : ℕ) → i ≡ insn.CallHelper n → n ≡ lock_number → FollowsSpots spots p (insn.CallHelper n) → new ≡ tried old x → Comes program spots p new ⊎ Tries i old new
+    tries i n zero call lock follows is = inl (answered 0 old.drawn n follows is)
+    tries i n (suc x) call lock follows is = inr (call ∙ ap (λ (k : ℕ). insn.CallHelper k) lock, is)
+
+    helper_comes : (shape : Shape) (i : Insn) (n : ℕ) (events : List Event) → i ≡ insn.CallHelper n → FollowsSpots spots p (insn.CallHelper n) → Helper shape n old events On new → Comes program spots p new ⊎ Tries i old new
+    helper_comes shape i n events call follows (inl asks) = inl (taken asks.1.0 asks.1.1 n follows asks.1.3)
+    helper_comes shape i n events call follows (inr (inl asks)) = inl (answered asks.0 asks.1 n follows asks.5)
+    helper_comes shape i n events call follows (inr (inr (inl (is, inl refused)))) = absurd (let no : On ≡ Done _ = refused.3.0 in cc)
+    helper_comes shape i n events call follows (inr (inr (inl (is, inr row)))) = tries i n row.1.0 call is follows row.1.3
+    helper_comes shape i n events call follows (inr (inr (inr (is, inl refused)))) = absurd (let no : On ≡ Done _ = refused.3.0 in cc)
+    helper_comes shape i n events call follows (inr (inr (inr (is, inr row)))) = inl (answered 0 old.drawn n follows row.1.3)
+
+    -- after a step that goes on the CPU is at a spot that comes next, or tries a lock again
+    pub comes : (shape : Shape) (i : Insn) (events : List Event) → FollowsSpots spots p i → Executes shape i old events On new → Comes program spots p new ⊎ Tries i old new
+    comes shape i events follows (inl row) = inl (quiet i follows row.2)
+    comes shape i events follows (inr (inl call)) = helper_comes shape i call.0 events call.1 (subst (FollowsSpots spots p) call.1 follows) call.2
+    comes shape i events follows (inr (inr row)) = inl (asked shape i events follows row.1)

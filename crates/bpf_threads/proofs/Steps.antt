@@ -12,6 +12,7 @@ use Rattle.bpf_shared.specs.Access.{bytes_in}
 use Rattle.bpf_shared.specs.Shape.{Shape, fixed_span}
 use Rattle.bpf_base.specs.Bytes.{little_endian}
 use Rattle.bpf_base.specs.declared.atomic.Change.{Change as AtomicOp}
+use Rattle.bpf_base.specs.declared.atomic.Change.TheVariants.{Exchange, CompareExchange}
 use Rattle.std.proofs.lemmas.Bool.Decides.{nat_tests}
 use Rattle.std.specs.Int.{w64, cast_unsigned}
 use Rattle.std.proofs.lemmas.Bool.{and_parts, and_from}
@@ -34,6 +35,7 @@ use Rattle.bpf_helpers.specs.Reads.{Reads, ReadsIndex, loads, no_loads}
 use Rattle.bpf_helpers.specs.declared.fault.HelperFault.{HelperFault}
 use Rattle.bpf_cpu.specs.declared.cpu.Cpu.{Cpu}
 use Rattle.bpf_cpu.specs.declared.outcome.Progress.{Progress}
+use Rattle.bpf_cpu.specs.Helping.{Helper}
 use Rattle.bpf_cpu.specs.Values.{AsksValue, LoadsValue, StoresValue, ChangesValue, event_size_of}
 use Rattle.bpf_cpu.specs.Step.{Executes}
 use Rattle.bpf_threads.specs.declared.counting.Kind.{Kind}
@@ -255,11 +257,19 @@ module _ (q : Counted) (p : Spot) (old : Cpu) (h : IsKnownOf p.known old.registe
   asks_count shape (insn.Atomic w op b o s) events progress new row = changes_count shape (insn.Atomic w op b o s) events progress new w op s (effective_address old b o) row
   asks_count shape _ events progress new row = absurd row
 
+  helper_counts : (s : Shape) (n : ℕ) (events : List Event) (progress : Progress) (new : Cpu) → Helper s n old events progress new → how_many q events ≤ weight q p (insn.CallHelper n)
+  helper_counts s n events progress new (inl asks) = call_counts s n events asks.1.0 asks.1.1 asks.1.2
+  helper_counts s n events progress new (inr (inl asks)) = none_at_all events (insn.CallHelper n) asks.3
+  helper_counts s n events progress new (inr (inr (inl (is, inl refused)))) = none_at_all events (insn.CallHelper n) refused.2
+  helper_counts s n events progress new (inr (inr (inl (is, inr row)))) = single (insn.CallHelper n) events _ (atomic_uncounted q.kind (slice_index old.registers 1) Word CompareExchange 1 0 row.1.0 q.map) row.1.1
+  helper_counts s n events progress new (inr (inr (inr (is, inl refused)))) = none_at_all events (insn.CallHelper n) refused.2
+  helper_counts s n events progress new (inr (inr (inr (is, inr row)))) = single (insn.CallHelper n) events _ (atomic_uncounted q.kind (slice_index old.registers 1) Word Exchange 0 0 row.1.0 q.map) row.1.1
+
   -- a step has at most the counted events of its instruction's weight
   pub step_counts : (s : Shape) (i : Insn) (events : List Event) (progress : Progress) (new : Cpu) → Executes s i old events progress new → how_many q events ≤ weight q p i
   step_counts s i events progress new (inl row) = none_at_all events i row.1
   step_counts s i events progress new (inr (inl (n, e, call))) =
-      subst (λ (j : Insn). how_many q events ≤ weight q p j) (sym e) (call_counts s n events call.0 call.1 call.2)
+      subst (λ (j : Insn). how_many q events ≤ weight q p j) (sym e) (helper_counts s n events progress new call)
   step_counts s i events progress new (inr (inr row)) = asks_count s i events progress new row.1
 
 pub append_counts : (q : Counted) (xs ys : List Event) → how_many q (xs ++ ys) ≡ how_many q xs + how_many q ys

@@ -23,6 +23,7 @@ use Rattle.bpf_loader.specs.Places.{Begins, target}
 use Rattle.bpf_loader.specs.Rows.{destination}
 use Rattle.bpf_loader.specs.Sound.{IsSafe}
 use Rattle.bpf_helpers.specs.Calls.{map_value}
+use Rattle.bpf_cpu.specs.Input.{no_input}
 use Rattle.bpf_cpu.specs.State.{start}
 use Rattle.bpf_threads.specs.declared.spot.Spot.{Spot}
 
@@ -130,7 +131,7 @@ pub record IsCharted (program : Loaded) (spots : List Spot) (p : Spot) : Type 0 
 pub record IsFirstSpot (p : Spot) : Type 0 where
   pub here : p.pc ≡ 0
   pub back : p.callers.items ≡ []
-  pub known : IsKnownOf p.known (start 0 []).registers
+  pub known : IsKnownOf p.known (start 0 no_input).registers
 
 -- the spots, of which runs begin at the first
 pub record IsChart (program : Loaded) (spots : List Spot) : Type 0 where

@@ -9,6 +9,7 @@ use Rattle.bpf_loader.specs.Loaded.{Loaded}
 use Rattle.bpf_loader.specs.Places.{Begins}
 use Rattle.bpf_helpers.specs.Calls.{update_number, delete_number, map_value}
 use Rattle.bpf_cpu.specs.declared.cpu.Cpu.{Cpu}
+use Rattle.bpf_cpu.specs.declared.input.Input.{Input}
 use Rattle.bpf_cpu.specs.declared.outcome.Outcome.{Outcome}
 use Rattle.bpf_cpu.specs.State.{start}
 use Rattle.bpf_cpu.specs.Task.{Task}
@@ -46,9 +47,9 @@ how_many q (e ∷ es) = one_if (is_counted q.kind e q.map) + how_many q es
 -- however a store answers, a run of the program has at most n
 abbrev pub HasAtMost : Counted → Loaded → ℕ → Type 0
 HasAtMost q program most =
-    (shape : Shape) (number steps : ℕ) (context : List ℕ) (events : List Event)
+    (shape : Shape) (number steps : ℕ) (input : Input) (events : List Event)
     (end : Outcome) (last : Cpu)
-    → MakesSteps shape program steps (start number context) events end last
+    → MakesSteps shape program steps (start number input) events end last
     → how_many q events ≤ most
 
 -- so it is of each program that has a number here

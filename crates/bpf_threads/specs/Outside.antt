@@ -8,8 +8,10 @@ use Rattle.bpf_shared.specs.Shape.{Shape, first_value, map_area}
 use Rattle.bpf_loader.specs.Loaded.{Loaded}
 use Rattle.bpf_loader.specs.Places.{Begins}
 use Rattle.bpf_helpers.specs.Arrays.{parts_of}
-use Rattle.bpf_helpers.specs.Calls.{update_number, processor_number, IsArrayAt}
+use Rattle.bpf_helpers.specs.Given.{AsksOnce}
+use Rattle.bpf_helpers.specs.Calls.{update_number, IsArrayAt}
 use Rattle.bpf_cpu.specs.declared.cpu.Cpu.{Cpu}
+use Rattle.bpf_cpu.specs.declared.input.Input.{Input}
 use Rattle.bpf_cpu.specs.declared.outcome.Progress.TheVariants.{On}
 use Rattle.bpf_cpu.specs.State.{start}
 use Rattle.bpf_cpu.specs.Step.{Step}
@@ -43,7 +45,7 @@ LeadsInSteps shape program (suc n) old now =
 -- however a store of this shape answers, it is so of each call of a map or an array that a run makes
 abbrev pub AllReadOutside : Shape → Loaded → Type 0
 AllReadOutside shape program =
-    (number steps : ℕ) (context : List ℕ) (now : Cpu) (helper : ℕ)
-    → LeadsInSteps shape program steps (start number context) now
+    (number steps : ℕ) (input : Input) (now : Cpu) (helper : ℕ)
+    → LeadsInSteps shape program steps (start number input) now
     → Begins program.instructions now.pc (CallHelper helper)
-    → (helper ≡ processor_number) ⊎ ReadsOutside shape.arrays helper now.registers
+    → AsksOnce helper ⊎ ReadsOutside shape.arrays helper now.registers

@@ -14,7 +14,7 @@ use Rattle.bpf_threads.specs.Outside.{AllReadOutside}
 abbrev pub AreOnOneCpu : List Task → Type 0
 AreOnOneCpu jobs = (c : ℕ) × All (λ job. job.cpu ≡ c) jobs
 
--- the jobs make no more updates of the map than it has elements, beside those that so many pairs take
+-- the jobs make no more updates of the map than it has elements, beside those that its first pairs take
 abbrev pub HasRoomForUpdates : List Loaded → List Task → ℕ → MapShape → ℕ → Type 0
 HasRoomForUpdates programs jobs m h pairs =
     (n : ℕ) × HaveAtMost (record { map = m; kind = Updates }) programs jobs n

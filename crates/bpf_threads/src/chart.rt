@@ -1,5 +1,6 @@
 //! Charts of programs: whether a list of spots has all that a run may reach.
-ghost use Rattle.std.specs.Prelude.{◌≡◌, ◌<◌, IsTrue, IfOk, [], length, slice_index};
+ghost use Rattle.std.specs.Prelude.{◌≡◌, ◌<◌, IsTrue, IfOk, length, slice_index};
+ghost use Rattle.bpf_cpu.specs.Input.{no_input};
 ghost use Rattle.bpf_cpu.specs.State.{start};
 ghost use Rattle.bpf_threads.specs.Chart.{IsChart, IsFirstSpot, IsCharted};
 ghost use Rattle.bpf_threads.specs.Private.Charts.{Begin, IsChartOf, IsSpotFrom};
@@ -32,7 +33,7 @@ fn is_spot_at(program: &Program, spots: &[Spot], place: usize) -> bool
 /// What a register holds as a run begins.
 fn first_number(register: usize) -> u64
     requires { register < 10 }
-    ensures { result ≡ slice_index (start 0 []).registers register }
+    ensures { result ≡ slice_index (start 0 no_input).registers register }
 {
     if register == 1 { CONTEXT_BASE } else { 0 }
 }

@@ -6,7 +6,8 @@ ghost use Rattle.bpf_threads.specs.Outside.{AllReadOutside, IsCopiedAtOnce};
 ghost use Rattle.bpf_threads.specs.Private.Outside.{AreAtOnce, IsAtOnce, LiesOutside, PlaceReadsOutside, ReadsOutsideAt, SpotReadsOutside, UpdatesAtOnce};
 
 use crate::spot::{Spot, spot_at};
-use bpf_helpers::calls::{GET_SMP_PROCESSOR_ID, MAP_UPDATE_ELEM, MAPS};
+use bpf_helpers::asks_once;
+use bpf_helpers::calls::{MAP_UPDATE_ELEM, MAPS};
 use bpf_insn::{Insn, Reg};
 use bpf_loader::Program;
 use bpf_shared::{ArrayShape, FIRST_ARRAY, FIRST_VALUE, MAP_AREA, StoreShape};
@@ -82,7 +83,7 @@ fn reads_outside(arrays: &[ArrayShape], spot: &Spot, insn: Insn) -> bool
 {
     match insn {
         Insn::CallHelper { number } => {
-            number == GET_SMP_PROCESSOR_ID
+            asks_once(number)
                 || (lies_outside(spot, Reg::R2, 64)
                     && (number != MAP_UPDATE_ELEM
                         || (lies_outside(spot, Reg::R3, 65_536) && updates_at_once(spot, arrays))))

@@ -172,10 +172,10 @@ module _ (d : ℕ) (made later : List Event) (c : ℕ) (ne : c ≢ d) where
     free_l free k t state left at = free k t state left (at_w k t (InHand state left) at)
 
     pub none_l : NoneWaits w.jobs c → NoneWaits l.jobs c
-    none_l none k t context at = none k t context (at_w k t (Waiting context) at)
+    none_l none k t input at = none k t input (at_w k t (Waiting input) at)
 
     pub below_l : (j : ℕ) → NoneWaitsBelow w.jobs c j → NoneWaitsBelow l.jobs c j
-    below_l j none k t context less at = none k t context less (at_w k t (Waiting context) at)
+    below_l j none k t input less at = none k t input less (at_w k t (Waiting input) at)
 
     -- a job of the other CPU is another
     other_job : (k : ℕ) (t : Task) (stage : Stage) → IsAt l.jobs c k t stage → k ≢ lag.job

@@ -160,9 +160,9 @@ turn_moves : (w : World) (c : ℕ) (answer : Turn) (z : World) → plain.TakesTu
 turn_moves w c answer z (inl (k, t, old, left, at, on)) =
     let g = goes w w.store c k t old left answer z on in
     finished w c answer g.0 z (inl (k, t, old, left, at, g.1)) g.2
-turn_moves w c answer z (inr (inl (free, (k, t, context, s, at, below, begun, on)))) =
-    let g = goes w s c k t (start c context) t.budget answer z on in
-    finished w c answer g.0 z (inr (inl (free, (k, t, context, nothing s, at, below, call w.store s c Begin refl begun, g.1)))) g.2
+turn_moves w c answer z (inr (inl (free, (k, t, input, s, at, below, begun, on)))) =
+    let g = goes w s c k t (start c input) t.budget answer z on in
+    finished w c answer g.0 z (inr (inl (free, (k, t, input, nothing s, at, below, call w.store s c Begin refl begun, g.1)))) g.2
 turn_moves w c answer z (inr (inr (free, none, said, same))) =
     finished w c answer (drained w) z (inr (inr (free, none, said, refl))) ([], ap drained same)
 

@@ -18,6 +18,7 @@ use Rattle.bpf_loader.specs.Loaded.{Loaded}
 use Rattle.bpf_loader.specs.Laws.{OneInstructionBegins}
 use Rattle.bpf_mem.specs.Laws.{WritesAreDetermined}
 use Rattle.bpf_cpu.specs.declared.cpu.Cpu.{Cpu}
+use Rattle.bpf_cpu.specs.declared.input.Input.{Input}
 use Rattle.bpf_cpu.specs.declared.outcome.Outcome.{Outcome}
 use Rattle.bpf_cpu.specs.declared.outcome.Progress.{Progress}
 use Rattle.bpf_cpu.specs.State.{start}
@@ -200,9 +201,9 @@ module _ (law : WritesAreDetermined) (begins : OneInstructionBegins) (replies : 
   first_fits : (w : World) → w.programs ≡ first.programs → (k : ℕ) (program : Loaded) → slice_get w.programs k ≡ Some program → FirstFits program
   first_fits w same k program loaded = fits k program (ap (λ (ps : List Loaded). slice_get ps k) (sym same) ∙ loaded)
 
-  judged_first : (lacks : ℕ → List Event) (s : Plain) → IsShape s.shape → (c : ℕ) (context : List ℕ) (left : ℕ) (program : Loaded) → FirstFits program → JudgeStep lacks program c s (start c context) left
-  judged_first lacks s shape c context left program fit n lefts events answer new step done e rest u is legal miss d ne =
-      absurd (no_middle done e rest (sym is ∙ first_asks_nothing s.shape shape program fit c context new events answer step))
+  judged_first : (lacks : ℕ → List Event) (s : Plain) → IsShape s.shape → (c : ℕ) (input : Input) (left : ℕ) (program : Loaded) → FirstFits program → JudgeStep lacks program c s (start c input) left
+  judged_first lacks s shape c input left program fit n lefts events answer new step done e rest u is legal miss d ne =
+      absurd (no_middle done e rest (sym is ∙ first_asks_nothing s.shape shape program fit c input new events answer step))
 
   -- ---- a CPU's own lags
   -- its job in hand is the one that each of them is about
@@ -350,7 +351,7 @@ module _ (law : WritesAreDetermined) (begins : OneInstructionBegins) (replies : 
       own world next program loaded (SomeMore made n said later lefts step quiet more q new rest is legal) =
           subst (λ (es : List Event). HasLags first c es next) (sym more) (subst (HasLags first c (buffers c ++ stores_of made)) (sym is)
           (own_more w world c k t old left at q new rest sim.schedule sim.runs program loaded made n said later lefts step quiet legal (buffers c) (sim.lags c)))
-  turned w p buffers c answer z counts sim (inr (inl (idle, (k, t, context, b, at, below, begun, goes)))) =
+  turned w p buffers c answer z counts sim (inr (inl (idle, (k, t, input, b, at, below, begun, goes)))) =
       let world = reached_world sim.schedule w sim.runs in
       let before : Buffered = record { memory = p; buffers = buffers } in
       let r = call_ahead before b w.store c Begin sim.ahead (λ d x ne hit too. cc) begun in
@@ -363,8 +364,8 @@ module _ (law : WritesAreDetermined) (begins : OneInstructionBegins) (replies : 
         | inl same ↦ absurd (let no : false ≡ true = sym (ap (λ (es : List Event). hits_any es x) (ap b.buffers same ∙ none)) ∙ h in cc)
         | inr ne ↦ sym (ap (λ (es : List Event). hits_any es x) (r.others d ne)) ∙ h
       ]) in
-      let g = goes_on lacks w b r.next c k t (start c context) t.budget answer z r.ahead cover (λ program loaded. judged_first lacks r.next shape c context t.budget program (first_fits w same_programs t.program program loaded)) goes in
-      let taken : plain.TakesTurn w c answer g.next = inr (inl (idle, (k, t, context, r.next, at, below, r.allowed, g.goes))) in (
+      let g = goes_on lacks w b r.next c k t (start c input) t.budget answer z r.ahead cover (λ program loaded. judged_first lacks r.next shape c input t.budget program (first_fits w same_programs t.program program loaded)) goes in
+      let taken : plain.TakesTurn w c answer g.next = inr (inl (idle, (k, t, input, r.next, at, below, r.allowed, g.goes))) in (
         g.next,
         record {
           schedule = sim.schedule ++ c ∷ [];
@@ -379,11 +380,11 @@ module _ (law : WritesAreDetermined) (begins : OneInstructionBegins) (replies : 
         },
       )
     where
-      own : (b : Buffered) (s : Plain) → IsShape s.shape → b.buffers c ≡ [] → (next : World) (program : Loaded) → FirstFits program → OwnTurn w program b.buffers z.buffers s c k t (start c context) t.budget next → z.buffers c ≡ []
+      own : (b : Buffered) (s : Plain) → IsShape s.shape → b.buffers c ≡ [] → (next : World) (program : Loaded) → FirstFits program → OwnTurn w program b.buffers z.buffers s c k t (start c input) t.budget next → z.buffers c ≡ []
       own b s shape none next program fit (NothingWaits empty) = empty
       own b s shape none next program fit (AsBefore same q new rest is stays) = same ∙ none
       own b s shape none next program fit (SomeMore made n said later lefts step quiet more q new rest is legal) =
-          let nothing : made ≡ [] = first_asks_nothing s.shape shape program fit c context later made said step in
+          let nothing : made ≡ [] = first_asks_nothing s.shape shape program fit c input later made said step in
           more ∙ ap (λ (es : List Event). b.buffers c ++ stores_of es) nothing ∙ append-nil (b.buffers c) ∙ none
   turned w p buffers c answer z counts sim (inr (inr (idle, none, said, same))) = (w, subst (λ (x : X86). IsSimulated first x w) (sym same) sim)
 

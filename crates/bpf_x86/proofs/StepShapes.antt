@@ -1,12 +1,14 @@
 -- The events of a step: a step with a store makes loads and stores alone, and a job's first step touches no
 -- value.
 use Rattle.std.proofs.Common.{◌≡◌, ℕ, zero, suc, ℤ, pos, negsuc, ◌+◌, ◌-◌, ◌*◌, ◌/◌, ◌%◌, ◌^◌, ◌<◌, ◌≤◌, Bool, true, false, List, [], ◌∷◌, ◌++◌, length, take, drop, Option, Some, None, Result, ◌⊎◌, inl, inr, refl, sym, ap, subst, ◌∙◌, arith}
+use Rattle.std.specs.Prelude.{slice_index}
 use Rattle.bpf_shared.specs.Access.{bytes_in}
 use Rattle.bpf_shared.specs.Shape.{Shape, IsShape, map_area}
 use Rattle.bpf_shared.specs.declared.shapes.ArrayShape.{ArrayShape}
 use Rattle.bpf_insn.specs.declared.instruction.Insn.{Insn}
 use Rattle.bpf_insn.specs.declared.instruction.Insn.TheVariants as insn
 use Rattle.bpf_insn.specs.declared.operation.sizes.Size as op
+use Rattle.bpf_insn.specs.declared.operation.sizes.Size.TheVariants as op_size
 use Rattle.bpf_insn.specs.declared.operation.widths.Width.{Width}
 use Rattle.bpf_insn.specs.declared.operation.atomics.AtomicOp.{AtomicOp}
 use Rattle.bpf_insn.specs.Encoding.{Fits}
@@ -31,6 +33,7 @@ use Rattle.bpf_helpers.specs.Calls.{CallsHelper, CallsMap, CallsArray, IsArrayAt
 use Rattle.bpf_helpers.specs.Reads.{loads, no_loads, Reads, ReadsIndex}
 use Rattle.bpf_loader.specs.Loaded.{Loaded}
 use Rattle.bpf_cpu.specs.declared.cpu.Cpu.{Cpu}
+use Rattle.bpf_cpu.specs.declared.input.Input.{Input}
 use Rattle.bpf_cpu.specs.declared.outcome.Progress.{Progress}
 use Rattle.bpf_cpu.specs.Row.{plain_size, extension_of}
 use Rattle.bpf_cpu.specs.State.{start, effective_address, value}
@@ -181,7 +184,12 @@ stores_apart shape program old new events progress step = from step.row
 
     from : Executes shape step.instruction old events progress new → AreNot is_store events ⊎ AreNot is_call events
     from (inl r) = inl (none_of is_store events r.1)
-    from (inr (inl r)) = let h = r.2 in of_helper r.0 h.0 h.1 (helper_stores shape old.memory old.held r.0 old.number old.registers events h.0 h.1 h.2)
+    from (inr (inl (n, is, inl (helper, h)))) = of_helper n h.0 h.1 (helper_stores shape old.memory old.held n old.number old.registers events h.0 h.1 h.2)
+    from (inr (inl (n, is, inr (inl asks)))) = inl (none_of is_store events asks.3)
+    from (inr (inl (n, is, inr (inr (inl (lock, inl refused)))))) = inl (none_of is_store events refused.2)
+    from (inr (inl (n, is, inr (inr (inl (lock, inr row)))))) = inl (subst (AreNot is_store) (sym row.1.1) (refl, tt))
+    from (inr (inl (n, is, inr (inr (inr (lock, inl refused)))))) = inl (none_of is_store events refused.2)
+    from (inr (inl (n, is, inr (inr (inr (lock, inr row)))))) = inl (subst (AreNot is_store) (sym row.1.1) (refl, tt))
     from (inr (inr r)) = of_value (value_alone shape old new events progress step.instruction r.1)
 
 -- ---- a job that starts reaches no value
@@ -212,9 +220,9 @@ far_from x (negsuc n) low fits = elim (cases_lt n x) [
       inr (omega arith)
 ]
 
-module _ (shape : Shape) (is : IsShape shape) (number : ℕ) (context : List ℕ) where
+module _ (shape : Shape) (is : IsShape shape) (number : ℕ) (input : Input) where
   abbrev first : Cpu
-  first = start number context
+  first = start number input
 
   low : (b : Reg) → value first b ≤ 0x4_0000_0000
   low R0 = omega arith
@@ -244,7 +252,11 @@ module _ (shape : Shape) (is : IsShape shape) (number : ℕ) (context : List ℕ
   none_there a z apart (inl h) = let no : false ≡ true = h in cc
   none_there a z apart (inr p) = no_place a (length_of z) apart p
 
-  -- no helper asks a store: R1 is no map and no array
+  -- R1 has the context's address, where no lock is
+  no_lock : IsThere shape first (slice_index first.registers 1) op_size.Word → ⊥
+  no_lock = none_there 0x2_0000_0000 op_size.Word (inl (omega arith))
+
+  -- no helper of maps asks a store: R1 is no map and no array
   no_call : (n : ℕ) (events : List Event) (result : Result ℕ HelperFault) (after : List Span) → CallsHelper shape n number first.registers first.memory [] events result after → events ≡ []
   no_call n events result after (inl r) = r.1
   no_call n events result after (inr (inl r)) = r.3.0
@@ -281,10 +293,15 @@ module _ (shape : Shape) (is : IsShape shape) (number : ℕ) (context : List ℕ
     value_refused (insn.Atomic w op b o s) fits row = change_refused w op s (effective_address first b o) (far b o fits) row
     value_refused i fits row = absurd row
 
-pub first_asks_nothing : (shape : Shape) → IsShape shape → (program : Loaded) → FirstFits program → (number : ℕ) (context : List ℕ) (new : Cpu) (events : List Event) (progress : Progress) → Step shape program (start number context) events progress new → events ≡ []
-first_asks_nothing shape is program fits number context new events progress step = from step.row
+pub first_asks_nothing : (shape : Shape) → IsShape shape → (program : Loaded) → FirstFits program → (number : ℕ) (input : Input) (new : Cpu) (events : List Event) (progress : Progress) → Step shape program (start number input) events progress new → events ≡ []
+first_asks_nothing shape is program fits number input new events progress step = from step.row
   where
-    from : Executes shape step.instruction (start number context) events progress new → events ≡ []
+    from : Executes shape step.instruction (start number input) events progress new → events ≡ []
     from (inl r) = r.1
-    from (inr (inl r)) = let h = r.2 in no_call shape is number context r.0 events h.0 h.1 h.2
-    from (inr (inr r)) = value_refused shape is number context new progress events step.instruction (fits step.instruction step.begins) r.1
+    from (inr (inl (n, at, inl (helper, h)))) = no_call shape is number input n events h.0 h.1 h.2
+    from (inr (inl (n, at, inr (inl asks)))) = asks.3
+    from (inr (inl (n, at, inr (inr (inl (lock, inl refused)))))) = refused.2
+    from (inr (inl (n, at, inr (inr (inl (lock, inr row)))))) = absurd (no_lock shape is number input row.0.0.0)
+    from (inr (inl (n, at, inr (inr (inr (unlock, inl refused)))))) = refused.2
+    from (inr (inl (n, at, inr (inr (inr (unlock, inr row)))))) = absurd (no_lock shape is number input row.0.0.0)
+    from (inr (inr r)) = value_refused shape is number input new progress events step.instruction (fits step.instruction step.begins) r.1

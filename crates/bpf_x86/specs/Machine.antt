@@ -5,6 +5,7 @@ use Rattle.bpf_shared.specs.declared.events.Event.{Event}
 use Rattle.bpf_shared.specs.declared.events.Event.TheVariants.{Begin}
 use Rattle.bpf_loader.specs.Loaded.{Loaded}
 use Rattle.bpf_cpu.specs.declared.cpu.Cpu.{Cpu}
+use Rattle.bpf_cpu.specs.declared.input.Input.{Input}
 use Rattle.bpf_cpu.specs.declared.outcome.Progress.{Progress}
 use Rattle.bpf_cpu.specs.declared.outcome.Outcome.{Outcome}
 use Rattle.bpf_cpu.specs.declared.outcome.Outcome.TheVariants.{OutOfBudget}
@@ -61,10 +62,10 @@ abbrev pub TakesTurn : X86 → ℕ → Turn → X86 → Type 0
 TakesTurn x c answer z =
     ((j : ℕ) × (task : Task) × (state : Cpu) × (left : ℕ)
     × IsAt x.world.jobs c j task (InHand state left) × GoesOn x c j task state left answer z)
-    ⊎ (IsFree x.world.jobs c × ((j : ℕ) × (task : Task) × (context : List ℕ) × (b : Buffered)
-    × IsAt x.world.jobs c j task (Waiting context) × NoneWaitsBelow x.world.jobs c j
+    ⊎ (IsFree x.world.jobs c × ((j : ℕ) × (task : Task) × (input : Input) × (b : Buffered)
+    × IsAt x.world.jobs c j task (Waiting input) × NoneWaitsBelow x.world.jobs c j
     × Calls (buffered x) c Begin b
-    × GoesOn (with_buffered x b) c j task (start c context) task.budget answer z))
+    × GoesOn (with_buffered x b) c j task (start c input) task.budget answer z))
     ⊎ (IsFree x.world.jobs c × NoneWaits x.world.jobs c × (answer ≡ turn.Idle) × (z ≡ x))
 
 -- what a schedule is made of: turns of CPUs, and flushes of their buffers

@@ -18,8 +18,8 @@ struct Aside {
     counts: MapCounts,
 }
 
-/// The same ports, each of which has seen the whole history so far. What the CPUs have done is that
-/// history.
+/// Returns the ports that it was given. Each of them has now seen the whole history so far, which is
+/// what the CPUs have done.
 pub fn settle(
     alloc: Global,
     table: &HopTable,

@@ -1,11 +1,11 @@
 //! Jobs of real stores, on worker threads.
-ghost use Rattle.std.specs.Prelude.{◌≤◌, ◌<◌, All, IfOk, vec_len};
+ghost use Rattle.std.specs.Prelude.{◌≤◌, ◌<◌, All, IfOk, length};
 ghost use Rattle.bpf_mem.specs.Limits.{max_context};
 
 mod meeting;
 mod texts;
 
-use bpf_cpu::{Fault, Job, Outcome};
+use bpf_cpu::{Fault, Input, Job, Outcome};
 use bpf_loader::{Named, Program, load};
 use bpf_sched::{Gate, NoGate, Refused, Report, SchedError, run_jobs};
 use bpf_shared::{MapShape, StoreShape};
@@ -50,7 +50,7 @@ fn store(alloc: Global, cpus: u64, spares: &[u64]) -> Result<HopStore, Fail> {
 // Jobs by their CPUs and programs, of which there are n.
 fn jobs(alloc: Global, list: &[(u8, usize)], programs: usize) -> Result<Vec<Job>, Fail>
     ensures programs { IfOk result (λ v. All (λ job. job.program < programs) v.items) }
-    ensures contexts { IfOk result (λ v. All (λ job. vec_len job.context ≤ max_context) v.items) }
+    ensures contexts { IfOk result (λ v. All (λ job. length job.input.context ≤ max_context) v.items) }
 {
     let mut jobs = Vec::new(alloc);
     'jobs: for (cpu, program) in list {
@@ -61,7 +61,7 @@ fn jobs(alloc: Global, list: &[(u8, usize)], programs: usize) -> Result<Vec<Job>
             cpu: *cpu,
             program: *program,
             budget: 1_000_000,
-            context: Vec::new(alloc),
+            input: Input::nothing(alloc),
         })?;
     }
     Ok(jobs)

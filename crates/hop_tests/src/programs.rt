@@ -6,7 +6,7 @@ ghost use Rattle.hop_tests.specs.Trial.{IsIdlePort};
 
 use crate::stores::{a_map, a_shape, aged_ports, close, last_of, new_ports, pop_port};
 use crate::texts::{ADD, CALLS, LOOK_UP};
-use bpf_cpu::{Cpu, Fault, Outcome};
+use bpf_cpu::{Cpu, Fault, Input, Outcome};
 use bpf_loader::{Named, Program, load};
 use bpf_plain::PlainStore;
 use bpf_shared::{MapShape, Shared};
@@ -43,7 +43,7 @@ fn run_over<S: Shared>(shared: &mut S, program: &Program, context: Vec<u8>) -> O
     ensures serves { S.serves shared.new 0 ≡ true }
     ensures idle { S.running shared.new 0 ≡ false }
 {
-    Cpu::new(0, context).run(program, shared, 1_000_000)
+    Cpu::new(0, Input::of_bytes(context)).run(program, shared, 1_000_000)
 }
 
 // How many of the programs, one after the other, end with their number, up to the first that
@@ -137,7 +137,7 @@ pub(crate) fn run_by_threads<R: Threads + Wait + Sync>(
         requires { IsIdlePort table.now port }
         ensures { IsPortOf table.entry.now result }
     {
-        let mut cpu = Cpu::new(port.cpu(), Vec::new(alloc));
+        let mut cpu = Cpu::new(port.cpu(), Input::nothing(alloc));
         let mut shared = HopCpu::new(rt, table, port);
         if shared.run(&mut cpu, program, 1_000_000) == Outcome::Exit(wanted) {
             count.fetch_add(1, Ordering::SeqCst);

@@ -44,7 +44,7 @@ impl Lane {
         Lane { cpu, seat }
     }
 
-    // The same of a lane that was given back, and so noted what steps of its own noted.
+    // Makes a lane anew of one that was given back, and so noted what steps of its own noted.
     pub(crate) fn seated_again(cpu: u8, seat: Seat<(), View>) -> Lane
         requires one { (seat.me ≡ (solo (first_lane nobody seat.me.0.lanes), []))
             × ((first_lane nobody seat.me.0.lanes).cpu ≡ cpu) }

@@ -30,10 +30,10 @@ IsFaultOf why next =
 -- this has the bytes of an access: the run holds their value, or, where it doesn't, an array has it
 abbrev pub IsHolder : Shape → Cpu → ℕ → Size → Holder → Type 0
 IsHolder h cpu a z Run = is_covered cpu.held a (length_of z) ≡ true
-IsHolder h cpu a z (Array g) =
+IsHolder h cpu a z (Array frozen) =
     (is_covered cpu.held a (length_of z) ≡ false)
-    × ((p : IsInArray h a (length_of z)) × (p.array ≡ g))
+    × ((p : IsInArray h a (length_of z)) × (p.array.frozen ≡ frozen))
 
 abbrev pub is_read_only : Holder → Bool
 is_read_only Run = false
-is_read_only (Array g) = g.frozen
+is_read_only (Array frozen) = frozen

@@ -10,6 +10,7 @@ use Rattle.bpf_shared.specs.Choice.{PlainlyAllowed}
 use Rattle.bpf_plain.specs.PlainStore.{StandsFor, held_spans, is_running}
 use Rattle.bpf_helpers.specs.Held.{AreHeld}
 use Rattle.bpf_loader.specs.Loaded.{Loaded}
+use Rattle.bpf_cpu.specs.declared.input.Input.{Input}
 use Rattle.bpf_cpu.specs.declared.cpu.Cpu.{Cpu}
 use Rattle.bpf_cpu.specs.State.{start}
 use Rattle.bpf_cpu.specs.declared.outcome.Progress.TheVariants.{On}
@@ -28,37 +29,37 @@ NotesStep program old left x y = y.lost ≡ false → (x.lost ≡ false) × ((s 
     × HasEvents program old.number s old left events × (y.events ≡ x.events ++ events))
 
 -- the beginning of a run, and its first step
-abbrev pub NotesBegin : Loaded → ℕ → List ℕ → ℕ → Recording → Recording → Type 0
-NotesBegin program c context budget x y = y.lost ≡ false → (x.lost ≡ false) × ((s : Plain)
+abbrev pub NotesBegin : Loaded → ℕ → Input → ℕ → Recording → Recording → Type 0
+NotesBegin program c input budget x y = y.lost ≡ false → (x.lost ≡ false) × ((s : Plain)
     → IsSoundStore s → StandsFor x.store s → (t : Plain) × (events : List Event)
-    × PlainlyAllowed s c Begin t × HasEvents program c t (start c context) budget events
+    × PlainlyAllowed s c Begin t × HasEvents program c t (start c input) budget events
     × (y.events ≡ x.events ++ Begin ∷ events))
 
 -- the job of a CPU goes on from this stage; the pc at which the CPU is
 abbrev pub NotesStage : Loaded → ℕ → Stage → ℕ → Recording → Recording → ℕ → Type 0
-NotesStage program c (Waiting context) budget x y pc =
-    (pc ≡ 0) × NotesBegin program c context budget x y
+NotesStage program c (Waiting input) budget x y pc =
+    (pc ≡ 0) × NotesBegin program c input budget x y
 NotesStage program c (InHand state left) budget x y pc =
     (pc ≡ state.pc) × NotesStep program state left x y
 NotesStage program c (Ended outcome) budget x y pc = ⊥
 
 -- a CPU's job in this stage fits the store that the recorder has
 abbrev pub FitsStage : Loaded → ℕ → Stage → Recording → Type 0
-FitsStage program c (Waiting context) x =
-    (length context ≤ max_context) × (is_running x.store c ≡ false)
+FitsStage program c (Waiting input) x =
+    (length input.context ≤ max_context) × (is_running x.store c ≡ false)
 FitsStage program c (InHand state left) x = (state.number ≡ c) × IsReady program state
     × AreHeld (held_spans x.store c) state.held × (is_running x.store c ≡ true)
 FitsStage program c (Ended outcome) x = ⊥
 
 -- a job in hand can make a step
 abbrev pub CanStepAt : Loaded → Stage → Type 0
-CanStepAt program (Waiting context) = Unit {0}
+CanStepAt program (Waiting input) = Unit {0}
 CanStepAt program (InHand state left) = IsReady program state
 CanStepAt program (Ended outcome) = Unit {0}
 
 -- a job in hand makes a step from this pc that no store sees
 abbrev pub IsQuietAt : Loaded → Stage → ℕ → Type 0
-IsQuietAt program (Waiting context) pc = ⊥
+IsQuietAt program (Waiting input) pc = ⊥
 IsQuietAt program (InHand state left) pc = (pc ≡ state.pc) × (0 < left)
     × ((new : Cpu) × ((shape : Shape) → Step shape program state [] On new))
 IsQuietAt program (Ended outcome) pc = ⊥

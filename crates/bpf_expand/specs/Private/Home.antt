@@ -7,7 +7,7 @@ use Rattle.bpf_loader.specs.Loaded.{Loaded}
 use Rattle.bpf_cpu.specs.Task.{Task}
 use Rattle.bpf_machine.specs.Machine.{MachineState}
 use Rattle.bpf_machine.specs.Parts.{CanStand, made_of}
-use Rattle.bpf_machine.specs.Saved.{context_of, jobs_saved, AreLater, ComeFrom}
+use Rattle.bpf_machine.specs.Saved.{input_of, jobs_saved, AreLater, ComeFrom}
 use Rattle.bpf_explore.specs.Stores.{IsOfShape}
 
 -- the numbers below this one, in order
@@ -17,7 +17,7 @@ pub record CountUp (numbers : List ℕ) (n : ℕ) : Type 0 where
 
 -- contexts that jobs may wait with
 abbrev pub AreShort : List Task → Type 0
-AreShort jobs = All (λ task. length (context_of task.stage) ≤ max_context) jobs
+AreShort jobs = All (λ task. length (input_of task.stage).context ≤ max_context) jobs
 
 -- the store and these jobs are those of a state of such programs, which has these bytes
 pub record IsRead (programs : List Loaded) (room : Contents) (first : List Task) (numbers : List ℕ)

@@ -134,14 +134,15 @@ that instruction's place.",
 
 pub const E12: Page = Page {
     code: Code::E12,
-    meaning: "a helper that this machine doesn't have; it has 1, 2, 3 and 8",
+    meaning: "a helper that this machine doesn't have",
     example: Some(Example {
-        command: "printf 'call 5\\nexit\\n' | ebpf asm | ebpf hex",
+        command: "printf 'call 4\\nexit\\n' | ebpf asm | ebpf hex",
         printed: "refused E12 0",
     }),
     advice: "\
-1 looks a key up, 2 updates, 3 deletes, 8 gives the CPU's number. A call of a
-function of the program is `call +5` or `call NAME`.",
+It has 1, 2 and 3 (lookup, update and deletion in maps), 8 (the CPU's number), 5
+and 125 (the time), 7 (a random number), 14 and 15 (process and user), 93 and 94
+(locks). A call of a function of the program is `call +4` or `call NAME`.",
 };
 
 pub const E13: Page = Page {

@@ -1,5 +1,5 @@
 -- Answers while they are found.
-use Rattle.std.specs.Prelude.{◌≡◌, ℕ, ◌<◌, ◌≤◌, Bool, List, Some, length, slice_get}
+use Rattle.std.specs.Prelude.{◌≡◌, ℕ, ◌<◌, ◌≤◌, ◌⊎◌, Bool, List, Some, length, slice_get}
 use Rattle.std.specs.declared.cmp.Ordering.TheVariants.{Less}
 use Rattle.std.specs.Ordering.{nat_cmp}
 use Rattle.std.specs.Cmp.Lexicographic.{slice_cmp}
@@ -33,6 +33,11 @@ AllEnd w names maps answers = (i : ℕ) (found : Found) → slice_get answers i 
 abbrev pub KeepsAll : List Found → List Found → Type 0
 KeepsAll old new = (i : ℕ) (found : Found) → slice_get old i ≡ Some found
     → (j : ℕ) × (slice_get new j ≡ Some found)
+
+-- each is this one, or one of those that were there
+abbrev pub AreOneMore : List Found → Found → List Found → Type 0
+AreOneMore old one new = (i : ℕ) (found : Found) → slice_get new i ≡ Some found
+    → (found ≡ one) ⊎ ((j : ℕ) × (slice_get old j ≡ Some found))
 
 -- here a text is to be: those before are less, and those after greater
 pub record IsPlaceOf (answers : List Found) (text : List ℕ) (i : ℕ) : Type 0 where

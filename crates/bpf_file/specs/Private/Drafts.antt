@@ -1,6 +1,7 @@
 -- What the reader has gathered so far, and what its functions answer. Private functions cite this.
-use Rattle.std.specs.Prelude.{◌≡◌, ℕ, List, [], map, Result, Ok, Err, Option}
+use Rattle.std.specs.Prelude.{◌≡◌, ℕ, ◌*◌, ◌≤◌, List, [], length, map, Result, Ok, Err, Option, Some, None}
 use Rattle.std.specs.Option.{option_copied}
+use Rattle.bpf_mem.specs.Limits.{max_context}
 use Rattle.bpf_lines.specs.Lines.{lines_behind}
 use Rattle.bpf_cpu.specs.Task.{waiting}
 use Rattle.bpf_file.specs.declared.draft.Draft.{Draft}
@@ -20,7 +21,7 @@ use Rattle.bpf_file.specs.declared.statement.Statement.{Statement}
 use Rattle.bpf_file.specs.File.{File, file_of, named_by}
 use Rattle.bpf_file.specs.declared.file.RunFile.{RunFile}
 use Rattle.bpf_file.specs.Parts.{Part, State, Between, Within}
-use Rattle.bpf_file.specs.Statement.{Said, said_by}
+use Rattle.bpf_file.specs.Statement.{Said, Job, said_by}
 use Rattle.bpf_file.specs.Rows.{AddsLine, program_added}
 use Rattle.bpf_file.specs.Reading.{AreRead}
 use Rattle.bpf_file.specs.Private.Answers.{OrMemory}
@@ -59,6 +60,15 @@ after n p (Err e) = Err e
 abbrev pub closed : {X : Type 0} → Part → Result X FileError → Result State FileError
 closed p (Ok x) = Ok (Between p)
 closed p (Err e) = Err e
+
+-- no more digits than a context may have
+abbrev pub IsShort : Option (List ℕ) → Type 0
+IsShort (Some digits) = length digits ≤ 2 * max_context
+IsShort None = Unit {0}
+
+abbrev pub IsShortSaid : Said → Type 0
+IsShortSaid (Job line) = IsShort line.context
+IsShortSaid s = Unit {0}
 
 -- the line of this number, which says this, made the one part the other
 abbrev pub Added : ℕ → Part → Said → Part → Result Next FileError → Type 0

@@ -1,9 +1,11 @@
 -- What a machine keeps of each job, and of each CPU.
-use Rattle.std.specs.Prelude.{◌≡◌, ℕ, ◌<◌, ◌≤◌, Bool, true, false, List, [], Option, Some, None, is_some, length, map, slice_get, slice_index_or}
+use Rattle.std.specs.Prelude.{◌≡◌, ℕ, ◌<◌, ◌≤◌, Bool, true, false, List, Option, Some, None, is_some, length, map, slice_get, slice_index_or}
 use Rattle.bpf_shared.specs.declared.events.Span.{Span}
 use Rattle.bpf_mem.specs.Limits.{max_context}
 use Rattle.bpf_loader.specs.Loaded.{Loaded}
+use Rattle.bpf_cpu.specs.declared.input.Input.{Input}
 use Rattle.bpf_cpu.specs.declared.job.Job.{Job}
+use Rattle.bpf_cpu.specs.Input.{no_input}
 use Rattle.bpf_machine.specs.declared.machine.lane.Listed.{Listed}
 use Rattle.bpf_machine.specs.declared.machine.lane.Phase.{Phase}
 use Rattle.bpf_machine.specs.declared.machine.lane.Phase.TheVariants as phase
@@ -26,7 +28,7 @@ first_entry job = record {
   cpu = job.cpu;
   program = job.program;
   budget = job.budget;
-  phase = phase.Waiting job.context;
+  phase = phase.Waiting job.input;
 }
 
 -- a CPU without work
@@ -38,10 +40,10 @@ lane_of lanes cpu = slice_index_or lanes cpu no_lane
 
 -- ---- what they show
 abbrev pub stage_of : Option Hand → Phase → Stage
-stage_of hand (phase.Waiting context) = Waiting context.items
+stage_of hand (phase.Waiting input) = Waiting input
 stage_of hand (phase.Ended outcome) = Ended outcome
 stage_of (Some hand) phase.InHand = InHand hand.cpu hand.left
-stage_of None phase.InHand = Waiting []
+stage_of None phase.InHand = Waiting no_input
 
 abbrev pub task_of : List Lane → Listed → Task
 task_of lanes x = record {
@@ -58,7 +60,7 @@ tasks_of lanes jobs = map (task_of lanes) jobs
 
 -- the CPU's jobs wait from its next on; the one in hand is determined by its number
 abbrev pub FitsLane : Lane → ℕ → Phase → Type 0
-FitsLane l j (phase.Waiting context) = l.next ≤ j
+FitsLane l j (phase.Waiting input) = l.next ≤ j
 FitsLane l j phase.InHand = (j < l.next) × ((h : Hand) × (l.hand ≡ Some h) × (h.job ≡ j))
 FitsLane l j (phase.Ended outcome) = j < l.next
 
@@ -68,7 +70,7 @@ pub record IsListed (serves : ℕ → Bool) (programs : List Loaded) (lanes : Li
   pub served : serves x.cpu ≡ true
   pub within : x.cpu < length lanes
   pub fits : FitsLane (lane_of lanes x.cpu) j x.phase
-  pub short : (context : _) → x.phase ≡ phase.Waiting context → length context.items ≤ max_context
+  pub short : (input : Input) → x.phase ≡ phase.Waiting input → length input.context ≤ max_context
 
 -- a job in hand
 pub record IsHand (programs : List Loaded) (jobs : List Listed) (cpu : ℕ) (h : Hand) : Type 0 where

@@ -5,17 +5,18 @@ use Rattle.bpf_machine.specs.declared.machine.lane.Phase.{Phase}
 use Rattle.bpf_machine.specs.declared.machine.lane.Phase.TheVariants as phase
 use Rattle.bpf_machine.specs.declared.machine.lane.Hand.{Hand}
 use Rattle.bpf_machine.specs.declared.machine.lane.Lane.{Lane}
+use Rattle.bpf_cpu.specs.declared.input.Input.{Input}
 use Rattle.bpf_cpu.specs.Task.{Stage, Task, Waiting, InHand, Ended}
 use Rattle.bpf_machine.specs.Parts.{chosen_at}
 use Rattle.bpf_machine.specs.Private.Lanes.{stage_of}
 
 abbrev pub in_hand : Stage → Bool
-in_hand (Waiting context) = false
+in_hand (Waiting input) = false
 in_hand (InHand state left) = true
 in_hand (Ended outcome) = false
 
 abbrev pub waits : Stage → Bool
-waits (Waiting context) = true
+waits (Waiting input) = true
 waits (InHand state left) = false
 waits (Ended outcome) = false
 
@@ -28,10 +29,10 @@ pub record IsReadAs (l : Lane) (x : Listed) (task : Task) : Type 0 where
 
 -- ---- jobs that are read
 -- the job is in hand, with a context as long as this one
-abbrev pub HasRoom : List ℕ → Stage → Type 0
-HasRoom context (InHand state left) = length state.memory.context ≡ length context
-HasRoom context (Waiting own) = ⊥
-HasRoom context (Ended outcome) = ⊥
+abbrev pub HasRoom : Input → Stage → Type 0
+HasRoom input (InHand state left) = length state.memory.context ≡ length input.context
+HasRoom input (Waiting own) = ⊥
+HasRoom input (Ended outcome) = ⊥
 
 -- ---- entries
 abbrev pub no_entry : Listed
@@ -41,7 +42,7 @@ abbrev pub entry_at : List Listed → ℕ → Listed
 entry_at jobs k = slice_index_or jobs k no_entry
 
 abbrev pub IsPhaseOf : Stage → Phase → Type 0
-IsPhaseOf (Waiting context) (phase.Waiting v) = v.items ≡ context
+IsPhaseOf (Waiting input) (phase.Waiting other) = other ≡ input
 IsPhaseOf (InHand state left) phase.InHand = Unit {0}
 IsPhaseOf (Ended outcome) (phase.Ended end) = end ≡ outcome
 IsPhaseOf _ _ = ⊥
@@ -55,7 +56,7 @@ pub record IsEntryOf (task : Task) (x : Listed) : Type 0 where
 -- ---- lanes
 -- the hand that a job in this stage has
 abbrev pub IsHandOf : Stage → ℕ → Option Hand → Type 0
-IsHandOf (Waiting context) j o = o ≡ None
+IsHandOf (Waiting input) j o = o ≡ None
 IsHandOf (InHand state left) j o = o ≡ Some (record { job = j; cpu = state; left = left })
 IsHandOf (Ended outcome) j o = o ≡ None
 

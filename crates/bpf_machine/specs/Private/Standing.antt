@@ -20,7 +20,7 @@ pub record FitsState (store : Contents) (programs : List Loaded) (task : Task) (
   pub runs : is_running store task.cpu ≡ true
 
 abbrev pub FitsStage : Contents → List Loaded → Task → Stage → Type 0
-FitsStage store programs task (Waiting context) = length context ≤ max_context
+FitsStage store programs task (Waiting input) = length input.context ≤ max_context
 FitsStage store programs task (InHand state left) = FitsState store programs task state
 FitsStage store programs task (Ended outcome) = Unit {0}
 

@@ -6,12 +6,13 @@ ghost use Rattle.bpf_shared.specs.Sound.{IsSoundStore};
 ghost use Rattle.bpf_plain.specs.PlainStore.{has_cpu, is_running, held_spans, shape_of};
 ghost use Rattle.bpf_plain.specs.PlainStore as plain_store;
 ghost use Rattle.bpf_helpers.specs.Held.{AreHeld, KeepsRun};
+ghost use Rattle.bpf_cpu.specs.Saved.{IsOfOneJob};
 ghost use Rattle.bpf_cpu.specs.Step.{IsReady};
 ghost use Rattle.bpf_machine.specs.Schedule.{Advances};
 ghost use Rattle.bpf_machine.specs.Private.Lanes.{IsFirstJob, lane_of, first_entry};
 ghost use Rattle.bpf_machine.specs.Private.Turns.{Lasts};
 
-use bpf_cpu::{Cpu, Job, Outcome, Progress};
+use bpf_cpu::{Cpu, Input, Job, Outcome, Progress};
 use bpf_loader::Program;
 use bpf_plain::PlainStore;
 use std::alloc::{AllocError, Global};
@@ -19,8 +20,8 @@ use std::alloc::{AllocError, Global};
 /// How far a job is.
 #[derive(Drop)]
 pub(crate) enum Phase {
-    /// It waits, with its context.
-    Waiting(Vec<u8>),
+    /// It waits, with what it is given.
+    Waiting(Input),
     /// It is in its CPU's hand.
     InHand,
     Ended(Outcome),
@@ -113,9 +114,9 @@ pub(crate) fn list_jobs(jobs: Vec<Job>, room: Vec<Listed>) -> Vec<Listed>
             cpu,
             program,
             budget,
-            context,
+            input,
         } = job;
-        let phase = Phase::Waiting(context);
+        let phase = Phase::Waiting(input);
         match list.push(Listed {
             cpu,
             program,
@@ -163,8 +164,7 @@ impl Hand {
             IsSoundStore t × plain_store.StandsFor store.new t }
         ensures ready { IsReady program.now self.new.cpu }
         ensures same { (self.new.job ≡ self.old.job) × (self.new.cpu.number ≡ self.old.cpu.number) }
-        ensures context { length self.new.cpu.memory.context
-            ≡ length self.old.cpu.memory.context }
+        ensures job { IsOfOneJob self.old.cpu self.new.cpu }
         ensures held { AreHeld (held_spans store.new self.old.cpu.number) self.new.cpu.held }
         ensures keeps { KeepsRun shape_of is_running held_spans self.old.cpu.number store.old
             store.new }

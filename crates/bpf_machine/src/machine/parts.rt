@@ -7,7 +7,6 @@ ghost use Rattle.bpf_machine.specs.Hashes.{mix, stage_hash, task_hash};
 ghost use Rattle.bpf_machine.specs.Parts.{chosen_at};
 ghost use Rattle.bpf_machine.specs.Private.Lanes.{lane_of, stage_of};
 ghost use Rattle.bpf_machine.specs.Kept.{kept_stage};
-ghost use Rattle.bpf_machine.specs.Saved.{context_of};
 ghost use Rattle.bpf_machine.specs.Private.Parts.{IsReadAs, in_hand, waits, entry_at, IsEntryOf, IsHandOf, IsFirstWaiting, IsLaneOf, FitsIn, CanFill};
 
 mod fitting;
@@ -17,7 +16,7 @@ use super::Machine;
 use crate::machine::lane::{Hand, Lane, Listed, Phase, put_down};
 use crate::machine::parts::fitting::can_stand;
 use bpf_base::spread;
-use bpf_cpu::{Cpu, Outcome};
+use bpf_cpu::{Cpu, Input, Outcome};
 use bpf_plain::PlainStore;
 pub use reading::read_jobs;
 use std::alloc::{AllocError, Global};
@@ -26,8 +25,8 @@ use std::marker::Model;
 /// How far a kept job is.
 #[derive(Drop)]
 pub enum KeptStage {
-    /// It waits, with its context.
-    Waiting(Vec<u8>),
+    /// It waits, with what it is given.
+    Waiting(Input),
     /// It is in its CPU's hand, with this many steps left.
     InHand(Cpu, u64),
     Ended(Outcome),
@@ -56,21 +55,13 @@ impl Model for KeptJob {
     } };
 }
 
-/// A copy of bytes.
-fn copy_bytes(alloc: Global, bytes: &[u8]) -> Result<Vec<u8>, AllocError>
-    ensures { IfOk result (λ v. v.items ≡ bytes.now) }
-{
-    let mut copy = Vec::with_capacity(alloc, bytes.len())?;
-    copy.extend_from_slice(bytes)?;
-    Ok(copy)
-}
-
 /// A copy of a CPU's state.
 fn copy_cpu(alloc: Global, cpu: &Cpu) -> Result<Cpu, AllocError>
     ensures { IfOk result (λ copy. copy ≡ cpu.now) }
 {
-    let context = copy_bytes(alloc, cpu.memory.context.bytes())?;
-    let mut copy = Cpu::new(cpu.number, context);
+    let context = cpu.memory.context.copy(alloc)?;
+    let given = cpu.given;
+    let mut copy = Cpu::new(cpu.number, Input { context, given });
     copy.copy_from(cpu);
     Ok(copy)
 }
@@ -80,11 +71,11 @@ fn keep_stage(alloc: Global, lane: &Lane, phase: &Phase) -> Result<KeptStage, Al
     ensures { IfOk result (λ s. kept_stage s ≡ stage_of lane.now.hand phase.now) }
 {
     match phase {
-        Phase::Waiting(context) => Ok(KeptStage::Waiting(copy_bytes(alloc, context)?)),
+        Phase::Waiting(input) => Ok(KeptStage::Waiting(input.copy(alloc)?)),
         Phase::Ended(outcome) => Ok(KeptStage::Ended(*outcome)),
         Phase::InHand => match &lane.hand {
             Some(hand) => Ok(KeptStage::InHand(copy_cpu(alloc, &hand.cpu)?, hand.left)),
-            None => Ok(KeptStage::Waiting(Vec::new(alloc))),
+            None => Ok(KeptStage::Waiting(Input::nothing(alloc))),
         },
     }
 }
@@ -109,11 +100,11 @@ fn is_stage(lane: &Lane, phase: &Phase, stage: &KeptStage) -> bool
         → ⊥ }
 {
     match stage {
-        KeptStage::Waiting(context) => match phase {
-            Phase::Waiting(other) => context.as_slice() == other.as_slice(),
+        KeptStage::Waiting(input) => match phase {
+            Phase::Waiting(other) => input.is_same(other),
             Phase::InHand => match &lane.hand {
                 Some(_) => false,
-                None => context.is_empty(),
+                None => input.is_nothing(),
             },
             Phase::Ended(_) => false,
         },
@@ -141,16 +132,6 @@ impl KeptJob {
         ensures { result ≡ self.now.budget }
     {
         self.budget
-    }
-
-    /// The context that it waits with; none where it doesn't wait.
-    fn context(&self) -> &[u8]
-        ensures { result.now ≡ context_of self.now.stage }
-    {
-        match &self.stage {
-            KeptStage::Waiting(context) => context,
-            KeptStage::InHand(_, _) | KeptStage::Ended(_) => &[],
-        }
     }
 
     /// How far it is, with what it goes on from.
@@ -249,7 +230,7 @@ impl KeptJob {
         ensures { IfOk result (IsEntryOf self.now) }
     {
         let phase = match &self.stage {
-            KeptStage::Waiting(context) => Phase::Waiting(copy_bytes(alloc, context)?),
+            KeptStage::Waiting(input) => Phase::Waiting(input.copy(alloc)?),
             KeptStage::InHand(_, _) => Phase::InHand,
             KeptStage::Ended(outcome) => Phase::Ended(*outcome),
         };

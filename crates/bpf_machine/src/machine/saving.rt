@@ -3,6 +3,7 @@
 ghost use Rattle.std.specs.Prelude.{◌≡◌, [], ◌++◌, OnOk, OnErr};
 ghost use Rattle.std.specs.Io.{StartsWith};
 ghost use Rattle.bpf_cpu.specs.declared.outcome.Outcome.{Outcome};
+ghost use Rattle.bpf_cpu.specs.Input.{no_input};
 ghost use Rattle.bpf_cpu.specs.Task.{Waiting, InHand, Ended};
 ghost use Rattle.bpf_machine.specs.Private.Lanes.{stage_of};
 ghost use Rattle.bpf_machine.specs.Saved.{stage_saved, FitsBytes};
@@ -15,7 +16,7 @@ use std::alloc::AllocError;
 
 /// Appends to the bytes what a job that waits is saved as.
 fn save_waiting(out: &mut Vec<u8>) -> Result<(), AllocError>
-    ensures ok { OnOk result (out.new.items ≡ out.old.items ++ stage_saved (Waiting [])) }
+    ensures ok { OnOk result (out.new.items ≡ out.old.items ++ stage_saved (Waiting no_input)) }
     ensures err { OnErr result (StartsWith out.new.items out.old.items) }
 {
     out.push(0)?;

@@ -17,8 +17,8 @@ use bpf_lines::numbers::{Radix, value};
 use bpf_lines::words::Numeral;
 use bpf_spelling::{Keyword, Sign};
 
-/// What a line loads by a name: the number of what has it, or an address so many bytes after or
-/// before it.
+/// What a line loads by a name: the number of what has it, or an address before or after it, by a
+/// number of bytes.
 #[derive(Clone, Copy)]
 pub enum Load<'a> {
     MapOf(Reg, &'a [u8]),
@@ -119,14 +119,14 @@ fn address_named(symbols: &Symbols<'_>, name: &[u8]) -> Option<u64>
     address_of(symbol_of(symbols, name)?)
 }
 
-/// The address that is so many bytes after another, if 64 bits hold it.
+/// The address that is this number of bytes after another, if 64 bits hold it.
 fn sum_of(address: u64, bytes: Numeral<'_>) -> Option<u64>
     ensures { result ≡ sum_of address (numeral_of bytes.entry) }
 {
     address.checked_add(value(bytes.radix, bytes.digits)?)
 }
 
-/// The address that is so many bytes before another, if there is one.
+/// The address that is this number of bytes before another, if there is one.
 fn difference_of(address: u64, bytes: Numeral<'_>) -> Option<u64>
     ensures { result ≡ difference_of address (numeral_of bytes.entry) }
 {

@@ -9,7 +9,8 @@ use Rattle.bpf_shared.specs.declared.shapes.ArrayShape.{ArrayShape}
 use Rattle.bpf_shared.specs.Shape.{IsArray}
 use Rattle.bpf_loader.specs.Loaded.{Loaded}
 use Rattle.bpf_loader.specs.Places.{Begins}
-use Rattle.bpf_helpers.specs.Calls.{update_number, processor_number, map_value}
+use Rattle.bpf_helpers.specs.Given.{AsksOnce}
+use Rattle.bpf_helpers.specs.Calls.{update_number, map_value}
 use Rattle.bpf_threads.specs.declared.spot.Spot.{Spot}
 use Rattle.bpf_threads.specs.Chart.{Knows}
 use Rattle.bpf_threads.specs.Outside.{IsCopiedAtOnce, IsOutsideValues}
@@ -34,7 +35,7 @@ UpdatesAtOnce arrays p = ((x : ℕ) × Knows p R1 x × IsAtOnce arrays x) ⊎ Ar
 -- the key and the value of a call lie outside, and an update is one store at most
 abbrev pub ReadsOutsideAt : List ArrayShape → Spot → Insn → Type 0
 ReadsOutsideAt arrays p (CallHelper number) =
-    (number ≡ processor_number)
+    AsksOnce number
     ⊎ (LiesOutside p R2 64
     × (number ≡ update_number → LiesOutside p R3 65536 × UpdatesAtOnce arrays p))
 ReadsOutsideAt arrays p i = Unit {0}

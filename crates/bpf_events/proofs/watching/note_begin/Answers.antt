@@ -4,15 +4,15 @@ use Rattle.bpf_events.proofs.watching.note_begin.Goals as goal
 
 pub note_step-requires-clause-serves : goal.note_step-requires-clause-serves
 note_step-requires-clause-serves c =
-    begin_serves c.new-state.result c.args.cpu c.args.context.items c.args.recorder.now c.begin.new.self c.new-state.ensures c.in-Ok.ensures.same.1 c.requires.serves
+    begin_serves c.new-state.result c.args.cpu c.args.input c.args.recorder.now c.begin.new.self c.new-state.ensures c.in-Ok.ensures.same.1 c.requires.serves
 
 pub note_step-requires-clause-in_run : goal.note_step-requires-clause-in_run
 note_step-requires-clause-in_run c =
-    begin_runs c.new-state.result c.args.cpu c.args.context.items c.args.recorder.now c.begin.new.self c.new-state.ensures c.in-Ok.ensures.running
+    begin_runs c.new-state.result c.args.cpu c.args.input c.args.recorder.now c.begin.new.self c.new-state.ensures c.in-Ok.ensures.running
 
 pub returns-clause-noted : goal.returns-clause-noted
 returns-clause-noted c =
-    begin_noted c.args.program.now c.args.cpu c.args.context.items c.args.budget c.new-state.result c.args.recorder.now c.begin.new.self c.note_step.new.recorder c.requires.own c.requires.serves
+    begin_noted c.args.program.now c.args.cpu c.args.input c.args.budget c.new-state.result c.args.recorder.now c.begin.new.self c.note_step.new.recorder c.requires.own c.requires.serves
     c.in-Ok.ensures.begun c.in-Ok.ensures.same.1 c.new-state.ensures c.note_step.ensures.noted
 
 pub returns-clause-shape : goal.returns-clause-shape

@@ -9,4 +9,4 @@ pub returns : goal.returns
 returns c =
     let whole : take c.loop-job.job-index c.args.jobs.now ≡ c.args.jobs.now = take_all c.loop-job.job-index c.args.jobs.now c.loop-job-test.false in
     sizes_of c.args.jobs.now c.loop-job.sizes.items
-    (c.loop-job.invariant ∙ ap (λ (jobs : List Job). map (λ (job : Job). length job.context.items) jobs) whole)
+    (c.loop-job.invariant ∙ ap (λ (jobs : List Job). map (λ (job : Job). length job.input.context) jobs) whole)

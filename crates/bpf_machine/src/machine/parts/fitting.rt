@@ -57,7 +57,7 @@ fn fits_alone(store: &PlainStore, programs: &[Program], part: &KeptJob) -> bool
         return false;
     }
     match &part.stage {
-        KeptStage::Waiting(context) => context.len() <= MAX_CONTEXT,
+        KeptStage::Waiting(input) => input.context.bytes().len() <= MAX_CONTEXT,
         KeptStage::InHand(state, _) => fits_state(store, programs, part, state),
         KeptStage::Ended(_) => true,
     }

@@ -2,24 +2,25 @@
 //! is in hand there is written over: to make one costs more than to read it.
 
 ghost use Rattle.std.specs.Prelude.{◌≡◌, ◌≤◌, true, List, ◌∷◌, ◌++◌, ℕ, All, OnOk, IfOk, IfSome, IfNone, length};
-ghost use Rattle.bpf_mem.specs.Limits.{max_context};
 ghost use Rattle.bpf_cpu.specs.declared.cpu.Cpu.{Cpu};
 ghost use Rattle.bpf_cpu.specs.Task.{Stage, Task, Waiting, InHand};
 ghost use Rattle.bpf_machine.specs.Kept.{kept_stage};
 ghost use Rattle.bpf_machine.specs.Private.Parts.{HasRoom};
-ghost use Rattle.bpf_machine.specs.Saved.{context_of, jobs_saved, stage_saved, AreLater, HoldWhatMayBe, HoldsWhatMayBe, IsLater, IsSavableStage};
+ghost use Rattle.bpf_machine.specs.Saved.{jobs_saved, stage_saved, AreLater, HoldWhatMayBe, HoldsWhatMayBe, IsLater, IsSavableStage};
 
-use super::{KeptJob, KeptStage, copy_bytes};
-use bpf_cpu::{Cpu, read_outcome};
+use super::{KeptJob, KeptStage};
+use bpf_cpu::{Cpu, Input, read_outcome};
 use bpf_mem::read_words;
 use std::alloc::{AllocError, Global};
 
 /// Whether a job is in hand, with a context as long as this one.
-fn has_room(stage: &KeptStage, context: &[u8]) -> bool
-    ensures { result ≡ true → HasRoom context.now (kept_stage stage.now) }
+fn has_room(stage: &KeptStage, input: &Input) -> bool
+    ensures { result ≡ true → HasRoom input.now (kept_stage stage.now) }
 {
     match stage {
-        KeptStage::InHand(state, _) => state.memory.context.bytes().len() == context.len(),
+        KeptStage::InHand(state, _) => {
+            state.memory.context.bytes().len() == input.context.bytes().len()
+        }
         KeptStage::Waiting(_) | KeptStage::Ended(_) => false,
     }
 }
@@ -31,31 +32,24 @@ fn has_room(stage: &KeptStage, context: &[u8]) -> bool
 fn put_in_hand(
     alloc: Global,
     cpu: u8,
-    context: &[u8],
+    input: &Input,
     stage: &mut KeptStage,
 ) -> Result<(), AllocError>
-    requires { length context.now ≤ max_context }
-    ensures { OnOk result (HasRoom context.now (kept_stage stage.new)) }
+    ensures { OnOk result (HasRoom input.now (kept_stage stage.new)) }
 {
-    let state = Cpu::new(cpu, copy_bytes(alloc, context)?);
+    let state = Cpu::new(cpu, input.copy(alloc)?);
     *stage = KeptStage::InHand(state, 0);
     Ok(())
 }
 
 /// A job is in hand, with a context as long as this one.
-fn make_room(
-    alloc: Global,
-    cpu: u8,
-    context: &[u8],
-    stage: &mut KeptStage,
-) -> Result<(), AllocError>
-    requires { length context.now ≤ max_context }
-    ensures { OnOk result (HasRoom context.now (kept_stage stage.new)) }
+fn make_room(alloc: Global, cpu: u8, input: &Input, stage: &mut KeptStage) -> Result<(), AllocError>
+    ensures { OnOk result (HasRoom input.now (kept_stage stage.new)) }
 {
-    if has_room(stage, context) {
+    if has_room(stage, input) {
         return Ok(());
     }
-    put_in_hand(alloc, cpu, context, stage)
+    put_in_hand(alloc, cpu, input, stage)
 }
 
 /// A stage becomes that of the job in hand, with its steps left, whose saved form the bytes begin
@@ -63,17 +57,16 @@ fn make_room(
 fn read_hand<'a>(
     alloc: Global,
     cpu: u8,
-    context: &[u8],
+    input: &Input,
     stage: &mut KeptStage,
     bytes: &'a [u8],
 ) -> Result<Option<&'a [u8]>, AllocError>
-    requires { length context.now ≤ max_context }
     ensures some { IfOk result (λ o. IfSome o (λ rest.
         1 ∷ bytes.now ≡ stage_saved (kept_stage stage.new) ++ rest.now)) }
     ensures savable { IfOk result (λ o. IfSome o (λ rest.
-        IsSavableStage cpu context.now (kept_stage stage.new))) }
+        IsSavableStage cpu input.now (kept_stage stage.new))) }
     ensures none { IfOk result (λ o. IfNone o ((state : Cpu) (left : ℕ) (more : List ℕ)
-        → IsSavableStage cpu context.now (InHand state left)
+        → IsSavableStage cpu input.now (InHand state left)
         → HoldsWhatMayBe (InHand state left)
         → 1 ∷ bytes.now ≡ stage_saved (InHand state left) ++ more → ⊥)) }
 {
@@ -81,10 +74,11 @@ fn read_hand<'a>(
     let Some(rest) = read_words(&mut words, bytes) else {
         return Ok(None);
     };
-    make_room(alloc, cpu, context, stage)?;
+    make_room(alloc, cpu, input, stage)?;
     match stage {
         KeptStage::InHand(state, left) => {
             state.number = cpu;
+            state.given = input.given;
             *left = words[0];
             match state.restore(rest) {
                 Some(rest) => Ok(Some(rest)),
@@ -95,44 +89,43 @@ fn read_hand<'a>(
     }
 }
 
-/// Whether a job waits with this context.
-fn waits_with(stage: &KeptStage, context: &[u8]) -> bool
-    ensures { result ≡ true → kept_stage stage.now ≡ Waiting context.now }
+/// Whether a job waits and is given this.
+fn waits_with(stage: &KeptStage, input: &Input) -> bool
+    ensures { result ≡ true → kept_stage stage.now ≡ Waiting input.now }
 {
     match stage {
-        KeptStage::Waiting(own) => own.as_slice() == context,
+        KeptStage::Waiting(own) => own.is_same(input),
         KeptStage::InHand(_, _) | KeptStage::Ended(_) => false,
     }
 }
 
-/// A stage becomes that of a job that waits with this context.
-fn wait_with(alloc: Global, context: &[u8], stage: &mut KeptStage) -> Result<(), AllocError>
-    ensures { OnOk result (kept_stage stage.new ≡ Waiting context.now) }
+/// A stage becomes that of a job that waits and is given this.
+fn wait_with(alloc: Global, input: &Input, stage: &mut KeptStage) -> Result<(), AllocError>
+    ensures { OnOk result (kept_stage stage.new ≡ Waiting input.now) }
 {
-    if waits_with(stage, context) {
+    if waits_with(stage, input) {
         return Ok(());
     }
-    *stage = KeptStage::Waiting(copy_bytes(alloc, context)?);
+    *stage = KeptStage::Waiting(input.copy(alloc)?);
     Ok(())
 }
 
-/// A stage becomes the one whose saved form the bytes begin with, of a job on this CPU that has
-/// this context; what comes after it. `None` where no stage of such a job has such a form, and
+/// A stage becomes the one whose saved form the bytes begin with, of a job on this CPU that is
+/// given this; what comes after it. `None` where no stage of such a job has such a form, and
 /// then it may be any.
 fn read_stage<'a>(
     alloc: Global,
     cpu: u8,
-    context: &[u8],
+    input: &Input,
     stage: &mut KeptStage,
     bytes: &'a [u8],
 ) -> Result<Option<&'a [u8]>, AllocError>
-    requires { length context.now ≤ max_context }
     ensures some { IfOk result (λ o. IfSome o (λ rest.
         bytes.now ≡ stage_saved (kept_stage stage.new) ++ rest.now)) }
     ensures savable { IfOk result (λ o. IfSome o (λ rest.
-        IsSavableStage cpu context.now (kept_stage stage.new))) }
+        IsSavableStage cpu input.now (kept_stage stage.new))) }
     ensures none { IfOk result (λ o. IfNone o ((other : Stage) (more : List ℕ)
-        → IsSavableStage cpu context.now other → HoldsWhatMayBe other
+        → IsSavableStage cpu input.now other → HoldsWhatMayBe other
         → bytes.now ≡ stage_saved other ++ more → ⊥)) }
 {
     if bytes.is_empty() {
@@ -141,10 +134,10 @@ fn read_stage<'a>(
     let rest = &bytes[1..];
     match bytes[0] {
         0 => {
-            wait_with(alloc, context, stage)?;
+            wait_with(alloc, input, stage)?;
             Ok(Some(rest))
         }
-        1 => read_hand(alloc, cpu, context, stage, rest),
+        1 => read_hand(alloc, cpu, input, stage, rest),
         2 => match read_outcome(rest) {
             Some((outcome, rest)) => {
                 *stage = KeptStage::Ended(outcome);
@@ -165,7 +158,6 @@ impl KeptJob {
         first: &KeptJob,
         bytes: &'a [u8],
     ) -> Result<Option<&'a [u8]>, AllocError>
-        requires { length (context_of first.now.stage) ≤ max_context }
         ensures some { IfOk result (λ o. IfSome o (λ rest.
             bytes.now ≡ stage_saved self.new.stage ++ rest.now)) }
         ensures later { IfOk result (λ o. IfSome o (λ rest. IsLater first.now self.new)) }
@@ -176,9 +168,14 @@ impl KeptJob {
         self.cpu = first.cpu;
         self.program = first.program;
         self.budget = first.budget;
-        match read_stage(alloc, first.cpu, first.context(), &mut self.stage, bytes)? {
-            Some(rest) => Ok(Some(rest)),
-            None => Ok(None),
+        match &first.stage {
+            KeptStage::Waiting(input) => {
+                read_stage(alloc, first.cpu, input, &mut self.stage, bytes)
+            }
+            KeptStage::InHand(_, _) | KeptStage::Ended(_) => {
+                let nothing = Input::nothing(alloc);
+                read_stage(alloc, first.cpu, &nothing, &mut self.stage, bytes)
+            }
         }
     }
 }
@@ -193,7 +190,6 @@ pub fn read_jobs<'a>(
     bytes: &'a [u8],
 ) -> Result<Option<&'a [u8]>, AllocError>
     requires count { length jobs.old ≡ length first.now }
-    requires short { All (λ task. length (context_of task.stage) ≤ max_context) first.now }
     ensures some { IfOk result (λ o. IfSome o (λ rest.
         bytes.now ≡ jobs_saved jobs.new ++ rest.now)) }
     ensures later { IfOk result (λ o. IfSome o (λ rest. AreLater first.now jobs.new)) }

@@ -14,7 +14,7 @@ use Rattle.bpf_machine.specs.Work.{BeginsJob}
 use Rattle.bpf_machine.specs.Parts.{IsSameHost}
 use Rattle.bpf_machine.proofs.HostLaws.{same_count}
 use Rattle.bpf_machine.proofs.OwnEvents.{call_leads}
-use Rattle.bpf_machine.proofs.BeginLaws.{next_job, lane_within, job_within, listed, program_within, short, serves, idle, waiting, begun_tasks, begun_board}
+use Rattle.bpf_machine.proofs.BeginLaws.{next_job, lane_within, job_within, listed, program_within, serves, idle, waiting, begun_tasks, begun_board}
 use Rattle.bpf_machine.proofs.machine.Machine.begin.Goals as goal
 
 pub index_mut-lane-requires : goal.index_mut-lane-requires
@@ -41,14 +41,6 @@ unreachable-requires c =
     let next = next_job _ _ c.args.cpu c.args.job c.self.view_is c.requires in
     let w = waiting m.store m.programs.items m.jobs.items m.lanes.items c.self.invariant.0 c.args.cpu c.args.job next _ c.index_mut-listed.ensures.value in
     c.in_default.not-Waiting w.0 (c.replace.ensures.value ∙ w.1)
-
-pub new-start-requires : goal.new-start-requires
-new-start-requires c =
-    let m = c.self.inside in
-    let next = next_job _ _ c.args.cpu c.args.job c.self.view_is c.requires in
-    let context = c.in-Waiting.context in
-    let waits = sym c.replace.ensures.value ∙ c.in-Waiting.is in
-    omega (arith, short m.store m.programs.items m.jobs.items m.lanes.items c.self.invariant.0 c.args.cpu c.args.job next _ c.index_mut-listed.ensures.value context waits, context.ok.0)
 
 pub overflow_add-job : goal.overflow_add-job
 overflow_add-job c =
@@ -83,7 +75,7 @@ invariant_of-self c =
     let e' : Listed = record { cpu = e.cpu; program = e.program; budget = e.budget; phase = c.replace.new.dest } in
     let entry = listed m.store m.programs.items m.jobs.items m.lanes.items c.self.invariant.0 c.args.cpu c.args.job next _ c.index_mut-listed.ensures.value in (
       begun_board m.store m.programs.items m.jobs.items m.lanes.items c.self.invariant.0 c.args.cpu c.args.job next _ c.index_mut-listed.ensures.value _ c.index_mut-lane.ensures.value c.replace.new.dest c.replace.ensures.after
-          c.in-Waiting.context (sym c.replace.ensures.value ∙ c.in-Waiting.is) c.new-start.result c.new-start.ensures _ c.deref.ensures.value c.first_job-lane.result c.first_job-lane.ensures
+          c.in-Waiting.input (sym c.replace.ensures.value ∙ c.in-Waiting.is) c.new-start.result c.new-start.ensures _ c.deref.ensures.value c.first_job-lane.result c.first_job-lane.ensures
           c.begin.new.self c.in-Ok.ensures.same.1 c.in-Ok.ensures.running c.in-Ok.ensures.held _ c.index.ensures c.starts.ensures,
       still_fit (shapes_of m.store) (shapes_of c.begin.new.self) m.jobs.items c.args.job e e' m.keys m.lists.items (ap (λ (h : Shape). h.maps) c.in-Ok.ensures.same.0) entry refl c.self.invariant.1,
     )
@@ -104,7 +96,7 @@ returns-clause-begins c =
       next.1.2,
       refl,
       begun_tasks m.store m.programs.items m.jobs.items m.lanes.items c.self.invariant.0 c.args.cpu c.args.job next _ c.index_mut-listed.ensures.value _ c.index_mut-lane.ensures.value c.replace.new.dest c.replace.ensures.after
-          c.in-Waiting.context (sym c.replace.ensures.value ∙ c.in-Waiting.is) c.new-start.result c.new-start.ensures _ c.deref.ensures.value c.first_job-lane.result c.first_job-lane.ensures,
+          c.in-Waiting.input (sym c.replace.ensures.value ∙ c.in-Waiting.is) c.new-start.result c.new-start.ensures _ c.deref.ensures.value c.first_job-lane.result c.first_job-lane.ensures,
       call_leads m.store c.begin.new.self c.args.cpu Begin (serves m.store m.programs.items m.jobs.items m.lanes.items c.self.invariant.0 c.args.cpu c.args.job next) c.in-Ok.ensures.begun c.in-Ok.ensures.same.1,
       refl,
     )

@@ -1,4 +1,4 @@
-use Rattle.std.proofs.Common.{ℕ, ◌<◌, ◌≤◌, List, length, vec_len, subst}
+use Rattle.std.proofs.Common.{ℕ, ◌<◌, List, length, vec_len, subst}
 use Rattle.std.specs.Prelude.{All, IfOk, Result, Vec}
 use Rattle.std.specs.declared.alloc.AllocError.{AllocError}
 use Rattle.std.specs.declared.alloc.Global.{Global}
@@ -26,10 +26,9 @@ invariant_of-result c =
     let Q : List Job → Type 0 = λ xs. All (λ job. job.cpu < cpus) xs in
     let below : All (λ job. job.cpu < cpus) jobs = subst Q c.deref.ensures.value c.count_cpus-cpus.ensures.above in
     let loaded : All (λ job. job.program < length programs.items) jobs = All-weaker (λ job. job.program < vec_len programs) (λ job. job.program < length programs.items) (λ job fits. subst (λ (n : ℕ). job.program < n) programs.ok.0 fits) jobs c.requires.programs in
-    let short : All (λ job. length job.context.items ≤ 4096) jobs = All-weaker (λ job. vec_len job.context ≤ 4096) (λ job. length job.context.items ≤ 4096) (λ job fits. subst (λ (n : ℕ). n ≤ 4096) job.context.ok.0 fits) jobs c.requires.contexts in
     let have = subst (λ (r : Result (Vec KeyLists Global) AllocError). IfOk r (λ v. AreAsked (shapes_of store) c.deref-2.result.now c.args.keys v.items)) c.in-Ok-Ok.is-1 c.make_asked-asked.ensures.have in
     let asked = subst (λ (js : List Job). AreAsked (shapes_of store) js c.args.keys c.in-Ok-Ok.lists.items) c.deref-2.ensures.value have in (
-      made_board (has_cpu store) (is_running store) (held_spans store) programs.items jobs list lanes c.list_jobs-listed.ensures cpus c.make_lanes-lanes.ensures.count c.make_lanes-lanes.ensures.idle first c.requires.idle below c.requires.cpus loaded short,
+      made_board (has_cpu store) (is_running store) (held_spans store) programs.items jobs list lanes c.list_jobs-listed.ensures cpus c.make_lanes-lanes.ensures.count c.make_lanes-lanes.ensures.idle first c.requires.idle below c.requires.cpus loaded c.requires.contexts,
       first_fit (shapes_of store) jobs list c.args.keys c.in-Ok-Ok.lists.items c.list_jobs-listed.ensures asked,
     )
 

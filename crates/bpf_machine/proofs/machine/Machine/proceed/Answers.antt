@@ -185,7 +185,7 @@ returns-in-None-clause-stays c =
     let S : MachineState → Type 0 = λ s. StaysOrEnds s.jobs c.args.cpu c.args.job new in
     subst S c.self.view_is
     (kept_stays m.store m.programs.items m.jobs.items m.lanes.items c.self.invariant.0 c.args.cpu c.args.job has _ c.index_mut-lane.ensures.value _ c.in-Some.is _ c.index_mut-listed.ensures.value _ c.index.ensures c.advance.new.self c.advance.ensures.same.0 c.advance.ensures.same.1 c.advance.ensures.ready
-    (c.advance.ensures.same.1, c.advance.ensures.context))
+    c.advance.ensures.job)
 
 pub returns-in-Some-advance-clause-stays : goal.returns-in-Some-advance-clause-stays
 returns-in-Some-advance-clause-stays c =

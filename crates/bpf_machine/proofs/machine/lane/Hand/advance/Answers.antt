@@ -26,11 +26,11 @@ returns-in-On-2-clause-advance c =
     let more : hand.left ≡ suc (hand.left - 1) = omega arith in
     step_leads c.args.program.now c.args.store.now c.step.new.shared hand.cpu c.step.new.self _ hand.left (hand.left - 1) _ more (not_last_step (hand.left - 1) c.step.new.self c.if-self-eq0-2.false) c.in-On.ensures.step
 
-pub returns-in-Done-clause-context : goal.returns-in-Done-clause-context
-returns-in-Done-clause-context c = (step_keeps _ _ _ _ _ _ c.in-Done.ensures.step.2).1
+pub returns-in-Done-clause-job : goal.returns-in-Done-clause-job
+returns-in-Done-clause-job c = step_keeps _ _ _ _ _ _ c.in-Done.ensures.step.2
 
-pub returns-in-On-clause-context : goal.returns-in-On-clause-context
-returns-in-On-clause-context c = (step_keeps _ _ _ _ _ _ c.in-On.ensures.step.2).1
+pub returns-in-On-clause-job : goal.returns-in-On-clause-job
+returns-in-On-clause-job c = step_keeps _ _ _ _ _ _ c.in-On.ensures.step.2
 
-pub returns-in-On-2-clause-context : goal.returns-in-On-2-clause-context
-returns-in-On-2-clause-context c = (step_keeps _ _ _ _ _ _ c.in-On.ensures.step.2).1
+pub returns-in-On-2-clause-job : goal.returns-in-On-2-clause-job
+returns-in-On-2-clause-job c = step_keeps _ _ _ _ _ _ c.in-On.ensures.step.2

@@ -7,11 +7,11 @@ use Rattle.bpf_machine.proofs.machine.parts.reading.read_hand.Goals as goal
 
 pub returns-in_default-clause-none : goal.returns-in_default-clause-none
 returns-in_default-clause-none c = λ state left more is may e.
-    hand_no_word c.args.cpu c.args.context.now c.args.bytes.now state left more is may e c.in_default.ensures.none
+    hand_no_word c.args.cpu c.args.input.now c.args.bytes.now state left more is may e c.in_default.ensures.none
 
 pub returns-in-None-clause-none : goal.returns-in-None-clause-none
 returns-in-None-clause-none c = λ state left more is may e.
     let size : length c.read_words.new.words ≡ 1 = omega (arith, c.read_words.auto.words) in
-    let own : length c.in-InHand.state.memory.context ≡ length c.args.context.now = subst (λ (s : KeptStage). HasRoom c.args.context.now (kept_stage s)) c.in-InHand.is c.in_ok-make_room.ensures in
-    hand_no_state c.args.cpu c.args.context.now c.args.bytes.now state left more is may e c.read_words.new.words c.in-Some.rest.now size c.in-Some.ensures.fit c.in-Some.ensures.some
-    (λ other later good held long f. c.in-None.ensures.none other later good held (long ∙ sym own) f)
+    let own : length c.in-InHand.state.memory.context ≡ length c.args.input.now.context = subst (λ (s : KeptStage). HasRoom c.args.input.now (kept_stage s)) c.in-InHand.is c.in_ok-make_room.ensures in
+    hand_no_state c.args.cpu c.args.input.now c.args.bytes.now state left more is may e c.read_words.new.words c.in-Some.rest.now size c.in-Some.ensures.fit c.in-Some.ensures.some
+    (λ other later good held job f. c.in-None.ensures.none other later good held (job.0, job.1 ∙ sym own, job.2) f)
