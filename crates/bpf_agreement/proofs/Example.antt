@@ -6,8 +6,8 @@ use Rattle.bpf_insn.specs.declared.instruction.Insn.TheVariants.{CallHelper}
 use Rattle.bpf_shared.specs.declared.shapes.ArrayShape.{ArrayShape}
 use Rattle.bpf_shared.specs.declared.shapes.MapShape.{MapShape}
 use Rattle.bpf_shared.specs.Shape.{IsMap, IsMapShape, IsArray, IsArrayShape, contents_of, copy_size}
+use Rattle.bpf_cpu.specs.Input.{IsShort, no_input}
 use Rattle.bpf_cpu.specs.declared.input.Input.{Input}
-use Rattle.bpf_cpu.specs.Input.{no_input}
 use Rattle.bpf_cpu.specs.Task.{Task, Waiting}
 use Rattle.bpf_threads.specs.Outside.{AllReadOutside}
 use Rattle.bpf_threads.specs.Threads.{IsReadWhole}
@@ -51,7 +51,7 @@ sizes (suc a) g at = absurd (nothing g at)
     nothing g e = cc
 
 -- ---- jobs
-waits : (j : ℕ) (task : Task) → slice_get (job_on 0 ∷ job_on 1 ∷ []) j ≡ Some task → (input : Input) × (task.stage ≡ Waiting input) × (length input.context ≤ 4096)
+waits : (j : ℕ) (task : Task) → slice_get (job_on 0 ∷ job_on 1 ∷ []) j ≡ Some task → (input : Input) × (task.stage ≡ Waiting input) × (IsShort input)
 waits zero task at = (no_input, (ap (λ (t : Task). t.stage) (same (job_on 0) task at)), omega arith)
   where
     same : (x y : Task) → Some x ≡ Some y → y ≡ x

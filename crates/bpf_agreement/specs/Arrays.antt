@@ -3,6 +3,7 @@ use Rattle.std.specs.Prelude.{◌≡◌, ℕ, ◌^◌, ◌<◌, ◌≤◌, ◌�
 use Rattle.bpf_mem.specs.Limits.{max_context}
 use Rattle.bpf_shared.specs.Shape.{Shape, IsShape}
 use Rattle.bpf_loader.specs.Loaded.{Loaded}
+use Rattle.bpf_cpu.specs.Input.{IsShort}
 use Rattle.bpf_cpu.specs.declared.input.Input.{Input}
 use Rattle.bpf_cpu.specs.Task.{Task, Waiting}
 use Rattle.bpf_threads.specs.Threads.{AreOnOneCpu, IsReadWhole}
@@ -13,7 +14,7 @@ pub record HasArraysAlone (h : Shape) (programs : List Loaded) (tasks : List Tas
   pub maps : h.maps ≡ []
   -- each job waits
   pub waits : (j : ℕ) (task : Task) → slice_get tasks j ≡ Some task
-      → (input : Input) × (task.stage ≡ Waiting input) × (length input.context ≤ max_context)
+      → (input : Input) × (task.stage ≡ Waiting input) × (IsShort input)
   -- they are so few that no CPU's run counter comes to its end
   pub few : length tasks < 2 ^ 62
   -- one CPU has all; or no call of theirs has a key or a value among those of arrays, nor copies a

@@ -124,6 +124,7 @@ sound_entered old to sound room =
         paired = omega (arith, length-append live (zeroed ∷ []), length-append old.memory.frames.callers (caller_of old ∷ []));
       };
       small = sound.small;
+      brief = sound.brief;
     }
 
 sound_left : (old : Cpu) (others : List Caller) (caller : Caller) → IsMemory old.memory → old.memory.frames.callers ≡ others ++ caller ∷ [] → IsMemory (after_return old others caller).memory
@@ -141,6 +142,7 @@ sound_left old others caller sound e =
         paired = omega arith;
       };
       small = sound.small;
+      brief = sound.brief;
     }
 
 module _ (law : WritesAreDetermined) (old new other : Cpu) (progress end : Progress) (sound : IsMemory old.memory) where

@@ -28,6 +28,7 @@ use Rattle.bpf_loader.specs.Loaded.{Loaded}
 use Rattle.bpf_loader.specs.Laws.{OneInstructionBegins}
 use Rattle.bpf_mem.specs.Stack.{zeroed}
 use Rattle.bpf_mem.specs.Laws.{IsMemory, WritesAreDetermined}
+use Rattle.bpf_cpu.specs.Input.{IsShort}
 use Rattle.bpf_cpu.specs.declared.cpu.Cpu.{Cpu}
 use Rattle.bpf_cpu.specs.declared.input.Input.{Input}
 use Rattle.bpf_cpu.specs.declared.outcome.Progress.{Progress}
@@ -154,7 +155,7 @@ module _ (law : WritesAreDetermined) (one : OneInstructionBegins) (shape : Shape
 
 -- ---- a whole job
 
-pub start_memory : (number : ℕ) (input : Input) → length input.context ≤ 4096 → IsMemory (start number input).memory
+pub start_memory : (number : ℕ) (input : Input) → IsShort input → IsMemory (start number input).memory
 start_memory number input h = record {
   stack = record {
     some = omega arith;
@@ -162,7 +163,8 @@ start_memory number input h = record {
     sized = All-push (λ frame. length frame ≡ 512) [] zeroed (All-nil (λ (frame : List ℕ). length frame ≡ 512)) whole_frame;
     paired = omega arith;
   };
-  small = h;
+  small = h.0;
+  brief = h.1;
 }
 
 -- the events between a run's begin and its end

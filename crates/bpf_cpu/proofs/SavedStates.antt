@@ -42,15 +42,18 @@ pc_told x y rest more h k e =
     (sym (little_endian-low_bytes 4 x h) ∙ (ap little_endian cut.0 ∙ little_endian-low_bytes 4 y k), cut.1)
 
 -- ---- the parts, one after the other
-regroup : (a b c d e f more : List ℕ) → (a ++ b ++ c ++ d ++ e ++ f) ++ more ≡ a ++ (b ++ (c ++ (d ++ (e ++ (f ++ more)))))
-regroup a b c d e f more = simp append_assoc
+regroup : (a b c d e f g more : List ℕ) → (a ++ b ++ c ++ d ++ e ++ f ++ g) ++ more ≡ a ++ (b ++ (c ++ (d ++ (e ++ (f ++ (g ++ more))))))
+regroup a b c d e f g more = simp append_assoc
 
-pub joined : (old a b c d e f s t u v w x : List ℕ) → s ≡ old ++ a → t ≡ s ++ b → u ≡ t ++ c → v ≡ u ++ d → w ≡ v ++ e → x ≡ w ++ f → x ≡ old ++ (a ++ b ++ c ++ d ++ e ++ f)
-joined old a b c d e f s t u v w x p q r y z h =
-    h ∙ (ap (λ (l : List ℕ). l ++ f) (z ∙ ap (λ (l : List ℕ). l ++ e) (y ∙ ap (λ (l : List ℕ). l ++ d) (r ∙ ap (λ (l : List ℕ). l ++ c) (q ∙ ap (λ (l : List ℕ). l ++ b) p)))) ∙ simp append_assoc)
+pub joined : (old a b c d e f g s t u v w x k : List ℕ) → s ≡ old ++ a → t ≡ s ++ b → u ≡ t ++ c → v ≡ u ++ d → w ≡ v ++ e → x ≡ w ++ f → k ≡ x ++ g → k ≡ old ++ (a ++ b ++ c ++ d ++ e ++ f ++ g)
+joined old a b c d e f g s t u v w x k p q r y z h i =
+    i ∙ (ap (λ (l : List ℕ). l ++ g) (h ∙ ap (λ (l : List ℕ). l ++ f) (z ∙ ap (λ (l : List ℕ). l ++ e) (y ∙ ap (λ (l : List ℕ). l ++ d) (r ∙ ap (λ (l : List ℕ). l ++ c) (q ∙ ap (λ (l : List ℕ). l ++ b) p))))) ∙ simp append_assoc)
+
+context_on : Cpu → List ℕ → List ℕ
+context_on cpu more = cpu.memory.context ++ (cpu.memory.packet ++ more)
 
 held_on : Cpu → List ℕ → List ℕ
-held_on cpu more = spans_saved cpu.held ++ (cpu.memory.context ++ more)
+held_on cpu more = spans_saved cpu.held ++ context_on cpu more
 
 frames_on : Cpu → List ℕ → List ℕ
 frames_on cpu more = frames_saved cpu.memory.frames ++ held_on cpu more
@@ -62,8 +65,8 @@ registers_on : Cpu → List ℕ → List ℕ
 registers_on cpu more = words_saved 0 cpu.registers ++ drawn_on cpu more
 
 whole : (cpu : Cpu) (more : List ℕ) → cpu_saved cpu ++ more ≡ low_bytes 4 cpu.pc ++ registers_on cpu more
-unfolding cpu_saved held_on frames_on drawn_on registers_on
-whole cpu more = regroup (low_bytes 4 cpu.pc) (words_saved 0 cpu.registers) (words_saved 0 (cpu.drawn ∷ [])) (frames_saved cpu.memory.frames) (spans_saved cpu.held) cpu.memory.context more
+unfolding cpu_saved context_on held_on frames_on drawn_on registers_on
+whole cpu more = regroup (low_bytes 4 cpu.pc) (words_saved 0 cpu.registers) (words_saved 0 (cpu.drawn ∷ [])) (frames_saved cpu.memory.frames) (spans_saved cpu.held) cpu.memory.context cpu.memory.packet more
 
 alone : (x : ℕ) → IsWord x → All IsWord (x ∷ [])
 alone x h = All-push IsWord [] x (All-nil IsWord) h
@@ -91,9 +94,9 @@ module _ (cpu : Cpu) (more : List ℕ) (is : IsSavableState cpu) where
   after_frames rest behind frames savable read e = frames_told frames cpu.memory.frames behind (held_on cpu more) savable is.frames (sym read ∙ e)
 
   after_held : (rest behind : List ℕ) (held : List Span) → AreSavable held → rest ≡ spans_saved held ++ behind → rest ≡ held_on cpu more
-      → (held ≡ cpu.held) × (behind ≡ cpu.memory.context ++ more)
+      → (held ≡ cpu.held) × (behind ≡ context_on cpu more)
   unfolding held_on
-  after_held rest behind held savable read e = spans_told held cpu.held behind (cpu.memory.context ++ more) savable is.held (sym read ∙ e)
+  after_held rest behind held savable read e = spans_told held cpu.held behind (context_on cpu more) savable is.held (sym read ∙ e)
 
 -- no state has such a beginning, where none of its parts has
 module _ (bytes : List ℕ) (cpu : Cpu) (more : List ℕ) (is : IsSavableState cpu) (e : bytes ≡ cpu_saved cpu ++ more) where
@@ -132,31 +135,43 @@ module _ (bytes : List ℕ) (cpu : Cpu) (more : List ℕ) (is : IsSavableState c
 
           pub none_held : {P : List Span → Type 0} → P cpu.held → ((others : List Span) (rest : List ℕ) → P others → r4 ≡ spans_saved others ++ rest → ⊥) → ⊥
           unfolding held_on
-          none_held may none = none cpu.held (cpu.memory.context ++ more) may at4
+          none_held may none = none cpu.held (context_on cpu more) may at4
 
-          pub none_context : (held : List Span) (r5 : List ℕ) → AreSavable held → r4 ≡ spans_saved held ++ r5 → length r5 < length cpu.memory.context → ⊥
-          none_context held r5 savable read5 short =
-              let at5 = (after_held cpu more is r4 r5 held savable read5 at4).1 in
-              let size = ap length at5 ∙ length-append cpu.memory.context more in
-              omega (arith, size)
+          module _ (held : List Span) (r5 : List ℕ) (savable : AreSavable held) (read5 : r4 ≡ spans_saved held ++ r5) where
+            at5 : r5 ≡ context_on cpu more
+            at5 = (after_held cpu more is r4 r5 held savable read5 at4).1
 
-pub all_read : (cpu : Cpu) (bytes r1 r2 r3 r4 r5 r6 : List ℕ) → bytes ≡ low_bytes 4 cpu.pc ++ r1 → r1 ≡ words_saved 0 cpu.registers ++ r2 → r2 ≡ words_saved 0 (cpu.drawn ∷ []) ++ r3
-    → r3 ≡ frames_saved cpu.memory.frames ++ r4 → r4 ≡ spans_saved cpu.held ++ r5 → r5 ≡ cpu.memory.context ++ r6 → bytes ≡ cpu_saved cpu ++ r6
-unfolding held_on frames_on drawn_on registers_on
-all_read cpu bytes r1 r2 r3 r4 r5 r6 a b c d e f =
-    a ∙ (ap (λ (l : List ℕ). low_bytes 4 cpu.pc ++ l) (b ∙ ap (λ (l : List ℕ). words_saved 0 cpu.registers ++ l) (c ∙ ap (λ (l : List ℕ). words_saved 0 (cpu.drawn ∷ []) ++ l) (d ∙ ap (λ (l : List ℕ). frames_saved cpu.memory.frames ++ l) (e ∙ ap (λ (l : List ℕ). spans_saved cpu.held ++ l) f)))) ∙ sym (whole cpu r6))
+            pub none_context : length r5 < length cpu.memory.context → ⊥
+            unfolding context_on
+            none_context short =
+                let size = ap length at5 ∙ length-append cpu.memory.context (cpu.memory.packet ++ more) in
+                omega (arith, size)
+
+            pub none_packet : (context r6 : List ℕ) → length context ≡ length cpu.memory.context → r5 ≡ context ++ r6 → length r6 < length cpu.memory.packet → ⊥
+            unfolding context_on
+            none_packet context r6 size read6 short =
+                let at6 = (same_fronts context cpu.memory.context r6 (cpu.memory.packet ++ more) size (sym read6 ∙ at5)).1 in
+                let long = ap length at6 ∙ length-append cpu.memory.packet more in
+                omega (arith, long)
+
+pub all_read : (cpu : Cpu) (bytes r1 r2 r3 r4 r5 r6 r7 : List ℕ) → bytes ≡ low_bytes 4 cpu.pc ++ r1 → r1 ≡ words_saved 0 cpu.registers ++ r2 → r2 ≡ words_saved 0 (cpu.drawn ∷ []) ++ r3
+    → r3 ≡ frames_saved cpu.memory.frames ++ r4 → r4 ≡ spans_saved cpu.held ++ r5 → r5 ≡ cpu.memory.context ++ r6 → r6 ≡ cpu.memory.packet ++ r7 → bytes ≡ cpu_saved cpu ++ r7
+unfolding context_on held_on frames_on drawn_on registers_on
+all_read cpu bytes r1 r2 r3 r4 r5 r6 r7 a b c d e f g =
+    a ∙ (ap (λ (l : List ℕ). low_bytes 4 cpu.pc ++ l) (b ∙ ap (λ (l : List ℕ). words_saved 0 cpu.registers ++ l) (c ∙ ap (λ (l : List ℕ). words_saved 0 (cpu.drawn ∷ []) ++ l) (d ∙ ap (λ (l : List ℕ). frames_saved cpu.memory.frames ++ l) (e ∙ ap (λ (l : List ℕ). spans_saved cpu.held ++ l) (f ∙ ap (λ (l : List ℕ). cpu.memory.context ++ l) g))))) ∙ sym (whole cpu r7))
 
 -- equal bytes are those of equal states
 pub cpus_told : (cpu other : Cpu) (rest more : List ℕ) → IsSavableState cpu → IsSavableState other → IsOfOneJob other cpu
     → cpu_saved cpu ++ rest ≡ cpu_saved other ++ more → (cpu ≡ other) × (rest ≡ more)
-unfolding held_on frames_on drawn_on registers_on
+unfolding context_on held_on frames_on drawn_on registers_on
 cpus_told cpu other rest more is k job e =
     let a = after_pc other more k (cpu_saved cpu ++ rest) (registers_on cpu rest) cpu.pc is.pc (whole cpu rest) e in
     let b = after_registers other more k (registers_on cpu rest) (drawn_on cpu rest) cpu.registers is.count is.words refl a.1 in
     let c = after_drawn other more k (drawn_on cpu rest) (frames_on cpu rest) cpu.drawn is.drawn refl b.1 in
     let d = after_frames other more k (frames_on cpu rest) (held_on cpu rest) cpu.memory.frames is.frames refl c.1 in
-    let f = after_held other more k (held_on cpu rest) (cpu.memory.context ++ rest) cpu.held is.held refl d.1 in
-    let last = same_fronts cpu.memory.context other.memory.context rest more job.1 f.1 in
+    let f = after_held other more k (held_on cpu rest) (context_on cpu rest) cpu.held is.held refl d.1 in
+    let near = same_fronts cpu.memory.context other.memory.context (cpu.memory.packet ++ rest) (other.memory.packet ++ more) job.1 f.1 in
+    let last = same_fronts cpu.memory.packet other.memory.packet rest more job.3 near.1 in
     let number = job.0 in
     let given = job.2 in
-    (λ j. record { registers = b.0 j; number = number j; pc = a.0 j; memory = record { frames = d.0 j; context = last.0 j }; held = f.0 j; given = given j; drawn = c.0 j }, last.1)
+    (λ j. record { registers = b.0 j; number = number j; pc = a.0 j; memory = record { frames = d.0 j; context = near.0 j; packet = last.0 j }; held = f.0 j; given = given j; drawn = c.0 j }, last.1)

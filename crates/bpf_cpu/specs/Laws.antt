@@ -9,8 +9,8 @@ use Rattle.bpf_shared.specs.History.{PlainlyLegal, entry}
 use Rattle.bpf_shared.specs.Sound.{IsSoundStore}
 use Rattle.bpf_helpers.specs.Laws.{AreAskedAlike}
 use Rattle.bpf_loader.specs.Loaded.{Loaded}
-use Rattle.bpf_mem.specs.Limits.{max_context}
 use Rattle.bpf_mem.specs.Laws.{IsMemory}
+use Rattle.bpf_cpu.specs.Input.{IsShort}
 use Rattle.bpf_cpu.specs.declared.cpu.Cpu.{Cpu}
 use Rattle.bpf_cpu.specs.declared.input.Input.{Input}
 use Rattle.bpf_cpu.specs.declared.outcome.Progress.{Progress}
@@ -32,7 +32,7 @@ StepsAreDetermined =
 abbrev pub OutcomesAreDetermined : Type 0
 OutcomesAreDetermined =
     (shape : Shape) (program : Loaded) (budget number : ℕ) (input : Input)
-    (events : List Event) (end other : Outcome) → length input.context ≤ max_context
+    (events : List Event) (end other : Outcome) → IsShort input
     → Explains (Unit {0}) shape program budget (start number input) events end
     → Explains (Unit {0}) shape program budget (start number input) events other
     → end ≡ other

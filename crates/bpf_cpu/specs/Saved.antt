@@ -11,11 +11,12 @@ use Rattle.bpf_cpu.specs.declared.outcome.Outcome.{Outcome}
 use Rattle.bpf_cpu.specs.declared.outcome.Outcome.TheVariants.{Exit, Fault, OutOfBudget}
 
 -- its pc in four bytes, its registers, how many random numbers it has drawn, its frames, the values
--- that its run holds, and its context as it is
+-- that its run holds, and its context and its packet as they are
 unfoldable pub cpu_saved : Cpu → List ℕ
 cpu_saved cpu =
     low_bytes 4 cpu.pc ++ words_saved 0 cpu.registers ++ words_saved 0 (cpu.drawn ∷ [])
     ++ frames_saved cpu.memory.frames ++ spans_saved cpu.held ++ cpu.memory.context
+    ++ cpu.memory.packet
 
 -- what is saved is determined by its bytes, where its numbers fit
 pub record IsSavableState (cpu : Cpu) : Type 0 where
@@ -26,12 +27,13 @@ pub record IsSavableState (cpu : Cpu) : Type 0 where
   pub frames : IsSavable cpu.memory.frames
   pub held : AreSavable cpu.held
 
--- the states may be those of one job: the CPU, the length of the context and what else it was given
--- are the same
+-- the states may be those of one job: the CPU, the lengths of context and packet and what else it was
+-- given are the same
 abbrev pub IsOfOneJob : Cpu → Cpu → Type 0
 IsOfOneJob first later = (later.number ≡ first.number)
     × (length later.memory.context ≡ length first.memory.context)
     × (later.given ≡ first.given)
+    × (length later.memory.packet ≡ length first.memory.packet)
 
 -- ---- how a job ended
 abbrev pub fault_number : Reason → ℕ

@@ -86,7 +86,8 @@ impl Cpu {
         save_count(self.drawn, out)?;
         self.memory.frames.save(out)?;
         self.held.save(out)?;
-        save_bytes(self.memory.context.bytes(), out)
+        save_bytes(self.memory.context.bytes(), out)?;
+        save_bytes(self.memory.packet.bytes(), out)
     }
 
     /// Becomes the state whose saved form the bytes begin with, of those of one job; what comes
@@ -107,6 +108,7 @@ impl Cpu {
         self.drawn = drawn;
         let rest = self.memory.frames.restore(rest)?;
         let rest = self.held.restore(rest)?;
-        self.memory.context.restore(rest)
+        let rest = self.memory.context.restore(rest)?;
+        self.memory.packet.restore(rest)
     }
 }

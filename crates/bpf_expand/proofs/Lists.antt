@@ -8,6 +8,7 @@ use Rattle.std.proofs.lemmas.Option.{slice_get-get_or}
 use Rattle.bpf_cpu.specs.Task.{Stage, Task, Waiting, InHand, Ended}
 use Rattle.bpf_machine.specs.Machine.{MachineState}
 use Rattle.bpf_machine.specs.Parts.{CanStand, chosen, no_task}
+use Rattle.bpf_cpu.specs.Input.{IsShort}
 use Rattle.bpf_machine.specs.Saved.{input_of, jobs_saved, stage_saved}
 use Rattle.bpf_machine.proofs.JobLemmas.{saved_last}
 use Rattle.bpf_expand.specs.Private.Home.{AreShort, CountUp}
@@ -46,14 +47,14 @@ chosen_all parts numbers up =
 pub all_within : (numbers : List ℕ) (n : ℕ) → CountUp numbers n → All (λ k. k < n) numbers
 all_within numbers n up = All-from_get_or (λ k. k < n) numbers 0 (λ i inside. let less : i < n = subst (λ (k : ℕ). i < k) up.count inside in subst (λ (k : ℕ). k < n) (sym (up.each i less)) less)
 
--- ---- contexts of jobs that are there
+-- ---- inputs of jobs that are there
 pub are_short : (m : MachineState) → CanStand m → AreShort m.jobs
-are_short m stands = All-from_get_or (λ task. length (input_of task.stage).context ≤ 4096) m.jobs no_task (λ i inside. short i (get_or m.jobs i no_task) (slice_get-get_or m.jobs i no_task inside))
+are_short m stands = All-from_get_or (λ task. IsShort (input_of task.stage)) m.jobs no_task (λ i inside. short i (get_or m.jobs i no_task) (slice_get-get_or m.jobs i no_task inside))
   where
-    waits : (i : ℕ) (task : Task) → slice_get m.jobs i ≡ Some task → (stage : Stage) → task.stage ≡ stage → length (input_of stage).context ≤ 4096
+    waits : (i : ℕ) (task : Task) → slice_get m.jobs i ≡ Some task → (stage : Stage) → task.stage ≡ stage → IsShort (input_of stage)
     waits i task at (Waiting input) is = stands.short task.cpu i task input (record { listed = at; of = refl; at = is })
-    waits i task at (InHand state left) is = omega arith
-    waits i task at (Ended outcome) is = omega arith
+    waits i task at (InHand state left) is = (omega arith, omega arith)
+    waits i task at (Ended outcome) is = (omega arith, omega arith)
 
-    short : (i : ℕ) (task : Task) → slice_get m.jobs i ≡ Some task → length (input_of task.stage).context ≤ 4096
+    short : (i : ℕ) (task : Task) → slice_get m.jobs i ≡ Some task → IsShort (input_of task.stage)
     short i task at = waits i task at task.stage refl

@@ -10,6 +10,7 @@ use Rattle.bpf_names.specs.Names.{Names}
 use Rattle.bpf_pairs.specs.Pairs.{Pair}
 use Rattle.bpf_pairs.proofs.Filling.{filled_shape}
 use Rattle.bpf_loader.specs.Loaded.{Loaded}
+use Rattle.bpf_cpu.specs.Input.{IsShort}
 use Rattle.bpf_cpu.specs.declared.input.Input.{Input}
 use Rattle.bpf_cpu.specs.declared.job.Job.{Job}
 use Rattle.bpf_cpu.specs.Task.{Task, Waiting, waiting}
@@ -46,16 +47,16 @@ pub first_lists_none : (h : Shape) (m : MachineState) (pairs : List Pair) (progr
 first_lists_none h m pairs programs jobs shows = none_of m.lists shows.lists
 
 -- each job waits
-job_waits : (jobs : List Job) → All (λ job. length job.input.context ≤ max_context) jobs → (j : ℕ) (task : Task) → slice_get (map waiting jobs) j ≡ Some task
-    → (input : Input) × (task.stage ≡ Waiting input) × (length input.context ≤ max_context)
+job_waits : (jobs : List Job) → All (λ job. IsShort job.input) jobs → (j : ℕ) (task : Task) → slice_get (map waiting jobs) j ≡ Some task
+    → (input : Input) × (task.stage ≡ Waiting input) × (IsShort input)
 job_waits [] all j task at = cc
 job_waits (x ∷ xs) all zero task at =
     let same : waiting x ≡ task = cc in
-    let short : length x.input.context ≤ max_context = all 0 x (omega arith) in
+    let short : IsShort x.input = all 0 x (omega arith) in
     (x.input, sym (ap (λ (t : Task). t.stage) same), short)
 job_waits (x ∷ xs) all (suc j) task at = job_waits xs (λ k d h. all (suc k) d (omega arith)) j task at
 
-pub first_fresh : (h : Shape) (m : MachineState) (pairs : List Pair) (programs : List Loaded) (jobs : List Job) → All (λ job. length job.input.context ≤ max_context) jobs → Shows m (first_world h pairs programs (map waiting jobs)) → IsFresh (first_world h pairs programs (map waiting jobs))
+pub first_fresh : (h : Shape) (m : MachineState) (pairs : List Pair) (programs : List Loaded) (jobs : List Job) → All (λ job. IsShort job.input) jobs → Shows m (first_world h pairs programs (map waiting jobs)) → IsFresh (first_world h pairs programs (map waiting jobs))
 first_fresh h m pairs programs jobs short shows = record { store = shows.sound; waits = job_waits jobs short }
 
 -- ---- what is kept first

@@ -32,14 +32,15 @@ use Rattle.bpf_machine.proofs.TurnLaws.{runs_more}
 use Rattle.bpf_machine.proofs.RoundLaws.{cpus_shown}
 use Rattle.bpf_faults.specs.declared.evidence.Evidence.{Evidence}
 use Rattle.bpf_faults.specs.declared.evidence.Seen.{Seen}
-use Rattle.bpf_faults.specs.Evidence.{AreSizes, HasEvidence, HaveEvidence, IsBefore, IsEvidenceIn, IsEvidenceOf, IsSeen, LeavesNoneOut}
+use Rattle.bpf_faults.specs.declared.evidence.Sizes.{Sizes}
+use Rattle.bpf_faults.specs.Evidence.{AreSizes, HasEvidence, HaveEvidence, IsBefore, IsEvidenceIn, IsEvidenceOf, IsSeen, LeavesNoneOut, sizes_of}
 use Rattle.bpf_faults.specs.Private.{AddsEvidence, AreWatched, HasEvidenceOf, HasNoWork, HaveOneInHand, IsToRun, IsEvidenceOfTurn, IsEvidenceOn, SeesNext, Watches, works}
 
--- ---- sizes of contexts
-pub sizes_of : (jobs : List Job) (sizes : List ℕ) → sizes ≡ map (λ (job : Job). length job.input.context) jobs → AreSizes (map waiting jobs) sizes
-sizes_of jobs sizes e j task input listed waits = at_job (slice_get jobs j) refl
+-- ---- how many bytes jobs are given
+pub all_sizes : (jobs : List Job) (sizes : List Sizes) → sizes ≡ map (λ (job : Job). sizes_of job.input) jobs → AreSizes (map waiting jobs) sizes
+all_sizes jobs sizes e j task input listed waits = at_job (slice_get jobs j) refl
   where
-    at_job : (r : Option Job) → slice_get jobs j ≡ r → slice_get sizes j ≡ Some (length input.context)
+    at_job : (r : Option Job) → slice_get jobs j ≡ r → slice_get sizes j ≡ Some (sizes_of input)
     at_job None none =
         let no : None ≡ Some task = sym (slice_get-map waiting jobs j ∙ ap (option_map waiting) none) ∙ listed in
         cc
@@ -49,8 +50,8 @@ sizes_of jobs sizes e j task input listed waits = at_job (slice_get jobs j) refl
         let stage : Waiting job.input ≡ Waiting input = ap (λ (t : Task). t.stage) same ∙ waits in
         let own : job.input ≡ input = cc stage in
         ap (λ (s : List ℕ). slice_get s j) e
-        ∙ (slice_get-map (λ (job : Job). length job.input.context) jobs j
-        ∙ (ap (option_map (λ (job : Job). length job.input.context)) some ∙ ap (λ (i : Input). Some (length i.context)) own))
+        ∙ (slice_get-map (λ (job : Job). sizes_of job.input) jobs j
+        ∙ (ap (option_map (λ (job : Job). sizes_of job.input)) some ∙ ap (λ (i : Input). Some (sizes_of i)) own))
 
 -- ---- what a turn does to the jobs
 -- a job after the j-th one's stage has changed: it is that one, or another one, as before
@@ -150,7 +151,7 @@ seen_job w c answer z seen job j end one takes sees is = at_turn (turned w c ans
 
 -- ---- what turns leave true of the jobs
 -- a job in another stage that isn't waiting: the others wait as before
-still : (jobs : List Task) (j : ℕ) (task : Task) (stage : Stage) (sizes : List ℕ) → slice_get jobs j ≡ Some task → ((input : Input) → stage ≡ Waiting input → ⊥)
+still : (jobs : List Task) (j : ℕ) (task : Task) (stage : Stage) (sizes : List Sizes) → slice_get jobs j ≡ Some task → ((input : Input) → stage ≡ Waiting input → ⊥)
     → AreSizes jobs sizes → AreSizes (with_stage jobs j task stage) sizes
 still jobs j task stage sizes listed works are k other input at waits = elim (staged jobs j k task other stage listed at) [
   | inl e ↦ absurd (works input (ap (λ (t : Task). t.stage) (sym e.1) ∙ waits))
@@ -189,7 +190,7 @@ have_still jobs new c answer before evidence m grow has have k fault pc ends = e
       grow k fault pc (have k fault pc (sym (ap (λ (r : Option Task). option_and_then (λ task. ended task.stage) r) same) ∙ ends))
 ]
 
-pub watched_stay : (w : World) (c : ℕ) (answer : Turn) (z : World) (sizes : List ℕ) (before evidence : List Evidence) → TakesTurn w c answer z
+pub watched_stay : (w : World) (c : ℕ) (answer : Turn) (z : World) (sizes : List Sizes) (before evidence : List Evidence) → TakesTurn w c answer z
     → ((j : ℕ) (fault : Fault) (pc : ℕ) → HasEvidence before j fault pc → HasEvidence evidence j fault pc) → HasEvidenceOf answer evidence
     → AreWatched w.jobs sizes before → AreWatched z.jobs sizes evidence
 watched_stay w c answer z sizes before evidence takes grow has are = at_turn (turned w c answer z takes)
@@ -216,7 +217,7 @@ at_first jobs j task listed = at_job (slice_get jobs j) refl
         let same : waiting job ≡ task = cc in
         (job.input, ap (λ (t : Task). t.stage) (sym same))
 
-pub watched_first : (jobs : List Job) (sizes : List ℕ) → AreSizes (map waiting jobs) sizes → AreWatched (map waiting jobs) sizes []
+pub watched_first : (jobs : List Job) (sizes : List Sizes) → AreSizes (map waiting jobs) sizes → AreWatched (map waiting jobs) sizes []
 watched_first jobs sizes are = record {
   sizes = are;
   one = λ c j k task other state now left rest a b.
@@ -302,22 +303,22 @@ grows P old new adds j fault pc has =
 
 -- ---- a turn
 -- the state before the step of a job that waits
-pub sees_start : (jobs : List Task) (sizes : List ℕ) (cpu j n : ℕ) (seen : Seen) (r : Standing) → AreSizes jobs sizes → IsStanding jobs cpu r → r ≡ standing.Waiting j
-    → slice_get sizes j ≡ Some n → ((input : Input) → length input.context ≡ n → IsSeen (start cpu input) seen) → SeesNext jobs cpu seen (Some j)
+pub sees_start : (jobs : List Task) (sizes : List Sizes) (cpu j : ℕ) (n : Sizes) (seen : Seen) (r : Standing) → AreSizes jobs sizes → IsStanding jobs cpu r → r ≡ standing.Waiting j
+    → slice_get sizes j ≡ Some n → ((input : Input) → sizes_of input ≡ n → IsSeen (start cpu input) seen) → SeesNext jobs cpu seen (Some j)
 sees_start jobs sizes cpu j n seen r are stands is known sees =
     let next : IsNext jobs cpu j = subst (IsStanding jobs cpu) is stands in
     let task = next.1.0 in
     let input = next.1.1 in
     let at = next.1.2 in
-    let both : Some (length input.context) ≡ Some n = sym (are j task input at.listed at.at) ∙ known in
-    let same : length input.context ≡ n = cc both in
+    let both : Some (sizes_of input) ≡ Some n = sym (are j task input at.listed at.at) ∙ known in
+    let same : sizes_of input ≡ n = cc both in
     (start cpu input, inr (task, input, at, refl), sees input same, inr next)
 
--- its context's size is known
-pub size_known : (jobs : List Task) (sizes : List ℕ) (cpu j : ℕ) (r : Standing) → AreSizes jobs sizes → IsStanding jobs cpu r → r ≡ standing.Waiting j → slice_get sizes j ≡ None → ⊥
+-- how many bytes it is given is known
+pub size_known : (jobs : List Task) (sizes : List Sizes) (cpu j : ℕ) (r : Standing) → AreSizes jobs sizes → IsStanding jobs cpu r → r ≡ standing.Waiting j → slice_get sizes j ≡ None → ⊥
 size_known jobs sizes cpu j r are stands is none =
     let next : IsNext jobs cpu j = subst (IsStanding jobs cpu) is stands in
-    let no : Some (length next.1.1.context) ≡ None = sym (are j next.1.0 next.1.1 next.1.2.listed next.1.2.at) ∙ none in
+    let no : Some (sizes_of next.1.1) ≡ None = sym (are j next.1.0 next.1.1 next.1.2.listed next.1.2.at) ∙ none in
     cc
 
 seen_before : (jobs : List Task) (cpu : ℕ) (seen : Seen) (job : Option ℕ) (evidence : Evidence) → SeesNext jobs cpu seen job → job ≡ Some evidence.job → evidence.cpu ≡ cpu
@@ -353,13 +354,13 @@ watches old new cpu seen job answer before evidence one sees turns idle adds has
         ((answer, t.0, t.1, t.2, refl, ends), (adds.0, adds.1, All-weaker (IsEvidenceOfTurn cpu job answer seen) (IsEvidenceOn w cpu) here adds.0 adds.2))
 
 -- ---- a round, as far as the CPUs below a number
-pub record IsFar (old : MachineState) (sizes : List ℕ) (before : List Evidence) (c : ℕ) (worked : Bool) (new : MachineState) (evidence : List Evidence) : Type 0 where
+pub record IsFar (old : MachineState) (sizes : List Sizes) (before : List Evidence) (c : ℕ) (worked : Bool) (new : MachineState) (evidence : List Evidence) : Type 0 where
   pub runs : (w : World) → Shows old w → (z : World) × RunsSchedule w (below c) z × Shows new z × AddsEvidence (IsEvidenceIn w) before evidence
   pub watched : AreWatched new.jobs sizes evidence
   pub falls : worked ≡ true → turns_left new.jobs < turns_left old.jobs
   pub idle : worked ≡ false → (new ≡ old) × ((d : ℕ) → d < c → IsFree old.jobs d × NoneWaits old.jobs d)
 
-pub no_turn : (old : MachineState) (sizes : List ℕ) (before : List Evidence) → AreWatched old.jobs sizes before → IsFar old sizes before 0 false old before
+pub no_turn : (old : MachineState) (sizes : List Sizes) (before : List Evidence) → AreWatched old.jobs sizes before → IsFar old sizes before 0 false old before
 no_turn old sizes before are = record {
   runs = λ w shows. (w, refl, shows, adds_none (IsEvidenceIn w) before);
   watched = are;
@@ -367,7 +368,7 @@ no_turn old sizes before are = record {
   idle = λ e. (refl, λ d less. absurd (omega arith));
 }
 
-pub next_turn : (old mid new : MachineState) (sizes : List ℕ) (before some more : List Evidence) (c : ℕ) (worked busy : Bool) → ((w : World) × Shows old w)
+pub next_turn : (old mid new : MachineState) (sizes : List Sizes) (before some more : List Evidence) (c : ℕ) (worked busy : Bool) → ((w : World) × Shows old w)
     → IsFar old sizes before c worked mid some → Watches mid c some busy new more → IsFar old sizes before (c + 1) (worked || busy) new more
 next_turn old mid new sizes before some more c worked busy start far watches = record { runs = runs; watched = watched; falls = falls worked busy refl refl; idle = idle worked busy refl refl }
   where
@@ -421,14 +422,14 @@ next_turn old mid new sizes before some more c worked busy start far watches = r
           adds_more (IsEvidenceIn w) (IsEvidenceOn r.0 c) before some more here r.3 t.1,
         )
 
-pub whole : (old new : MachineState) (sizes : List ℕ) (before evidence : List Evidence) (n : ℕ) (worked : Bool) → ((c : ℕ) → has_cpu old.store c ≡ nat_lt c n)
+pub whole : (old new : MachineState) (sizes : List Sizes) (before evidence : List Evidence) (n : ℕ) (worked : Bool) → ((c : ℕ) → has_cpu old.store c ≡ nat_lt c n)
     → IsFar old sizes before n worked new evidence → (w : World) → Shows old w → (z : World) × RunsRound w z × Shows new z × AddsEvidence (IsEvidenceIn w) before evidence
 whole old new sizes before evidence n worked same far w shows =
     let r = far.runs w shows in
     (r.0, subst (λ (k : ℕ). RunsSchedule w (below k) r.0) (sym (cpus_shown old w n same shows)) r.1, r.2, r.3)
 
 -- nobody has work after a round in which nobody had
-pub whole_idle : (old new : MachineState) (sizes : List ℕ) (before evidence : List Evidence) (n : ℕ) (worked : Bool) → ((c : ℕ) → has_cpu old.store c ≡ nat_lt c n)
+pub whole_idle : (old new : MachineState) (sizes : List Sizes) (before evidence : List Evidence) (n : ℕ) (worked : Bool) → ((c : ℕ) → has_cpu old.store c ≡ nat_lt c n)
     → IsFar old sizes before n worked new evidence → worked ≡ false → (w : World) → Shows new w → HasNoWork w
 whole_idle old new sizes before evidence n worked same far e w shows c inside =
     let idle = far.idle e in
@@ -437,17 +438,17 @@ whole_idle old new sizes before evidence n worked same far e w shows c inside =
     subst (λ (ts : List Task). IsFree ts c × NoneWaits ts c) (sym shown.jobs) (idle.1 c less)
 
 -- ---- rounds
-pub record IsWatched (old : MachineState) (sizes : List ℕ) (new : MachineState) (evidence : List Evidence) : Type 0 where
+pub record IsWatched (old : MachineState) (sizes : List Sizes) (new : MachineState) (evidence : List Evidence) : Type 0 where
   pub runs : (w : World) → Shows old w → (z : World) × ((n : ℕ) × RunsRounds n w z) × Shows new z × All (IsEvidenceOf w) evidence
   pub watched : AreWatched new.jobs sizes evidence
 
-pub no_round : (old : MachineState) (sizes : List ℕ) → AreWatched old.jobs sizes [] → IsWatched old sizes old []
+pub no_round : (old : MachineState) (sizes : List Sizes) → AreWatched old.jobs sizes [] → IsWatched old sizes old []
 no_round old sizes are = record { runs = λ w shows. (w, (0, refl), shows, All-nil (IsEvidenceOf w)); watched = are }
 
-pub shown_still : (old new : MachineState) (sizes : List ℕ) (evidence : List Evidence) → ((w : World) × Shows old w) → IsWatched old sizes new evidence → (w : World) × Shows new w
+pub shown_still : (old new : MachineState) (sizes : List Sizes) (evidence : List Evidence) → ((w : World) × Shows old w) → IsWatched old sizes new evidence → (w : World) × Shows new w
 shown_still old new sizes evidence start watched = let r = watched.runs start.0 start.1 in (r.0, r.2)
 
-pub next_round : (old mid new : MachineState) (sizes : List ℕ) (some more : List Evidence) → IsWatched old sizes mid some
+pub next_round : (old mid new : MachineState) (sizes : List Sizes) (some more : List Evidence) → IsWatched old sizes mid some
     → ((w : World) → Shows mid w → (z : World) × RunsRound w z × Shows new z × AddsEvidence (IsEvidenceIn w) some more) → AreWatched new.jobs sizes more → IsWatched old sizes new more
 next_round old mid new sizes some more watched round are = record { runs = runs; watched = are }
   where
@@ -460,7 +461,7 @@ next_round old mid new sizes some more watched round are = record { runs = runs;
         (t.0, (suc r.1.0, (r.0, r.1.1, t.1)), t.2, subst (All (IsEvidenceOf w)) (sym t.3.1) all)
 
 -- rounds that find no work leave what is
-pub to_end : (old mid new : MachineState) (sizes : List ℕ) (evidence : List Evidence) → IsWatched old sizes mid evidence → ((w : World) → Shows mid w → HasNoWork w)
+pub to_end : (old mid new : MachineState) (sizes : List Sizes) (evidence : List Evidence) → IsWatched old sizes mid evidence → ((w : World) → Shows mid w → HasNoWork w)
     → ((w : World) → Shows mid w → (z : World) × RunsToEnd w z × Shows new z) → (w : World) → Shows old w → LeavesNoneOut w new evidence
 to_end old mid new sizes evidence watched idle ends w shows =
     let r = watched.runs w shows in

@@ -14,12 +14,14 @@ use Rattle.bpf_machine.specs.Rounds.{below, RunsRounds, RunsToEnd}
 use Rattle.bpf_machine.specs.Machine.{MachineState, Shows}
 use Rattle.bpf_faults.specs.declared.evidence.Evidence.{Evidence}
 use Rattle.bpf_faults.specs.declared.evidence.Seen.{Seen}
+use Rattle.bpf_faults.specs.declared.evidence.Sizes.{Sizes}
 
 -- this is what is shown of the state
 abbrev pub IsSeen : Cpu → Seen → Type 0
 IsSeen state seen =
     (seen.registers ≡ state.registers) × (seen.frames ≡ length state.memory.frames.live)
-    × (seen.context ≡ length state.memory.context) × (seen.held.items ≡ state.held)
+    × (seen.context ≡ length state.memory.context) × (seen.packet ≡ length state.memory.packet)
+    × (seen.held.items ≡ state.held)
 
 -- the state from which the CPU makes its next step of the job: the one in hand; or the first, of a
 -- job that waits
@@ -61,8 +63,12 @@ abbrev pub LeavesNoneOut : World → MachineState → List Evidence → Type 0
 LeavesNoneOut w machine evidence =
     (z : World) × RunsToEnd w z × Shows machine z × HaveEvidence z.jobs evidence
 
--- the sizes of the contexts of the jobs that wait
-abbrev pub AreSizes : List Task → List ℕ → Type 0
+-- how many bytes a job is given
+abbrev pub sizes_of : Input → Sizes
+sizes_of input = record { context = length input.context; packet = length input.packet }
+
+-- so many bytes the jobs are given that wait
+abbrev pub AreSizes : List Task → List Sizes → Type 0
 AreSizes jobs sizes =
     (j : ℕ) (task : Task) (input : Input) → slice_get jobs j ≡ Some task
-    → task.stage ≡ Waiting input → slice_get sizes j ≡ Some (length input.context)
+    → task.stage ≡ Waiting input → slice_get sizes j ≡ Some (sizes_of input)

@@ -12,6 +12,7 @@ use Rattle.bpf_machine.specs.Schedule.{World, TakesTurn}
 use Rattle.bpf_machine.specs.Machine.{MachineState, Shows}
 use Rattle.bpf_faults.specs.declared.evidence.Evidence.{Evidence}
 use Rattle.bpf_faults.specs.declared.evidence.Seen.{Seen}
+use Rattle.bpf_faults.specs.declared.evidence.Sizes.{Sizes}
 use Rattle.bpf_faults.specs.Evidence.{AreSizes, HasEvidence, HaveEvidence, IsBefore, IsEvidenceAt, IsSeen}
 
 -- the CPU has this job in hand, or is to begin it
@@ -30,9 +31,9 @@ HaveOneInHand jobs = (c j k : ℕ) (task other : Task) (state now : Cpu) (left r
     → IsAt jobs c j task (InHand state left) → IsAt jobs c k other (InHand now rest) → j ≡ k
 
 -- what turns that are watched leave true of the jobs
-pub record AreWatched (jobs : List Task) (contexts : List ℕ) (evidence : List Evidence)
+pub record AreWatched (jobs : List Task) (sizes : List Sizes) (evidence : List Evidence)
     : Type 0 where
-  pub sizes : AreSizes jobs contexts
+  pub sizes : AreSizes jobs sizes
   pub one : HaveOneInHand jobs
   pub have : HaveEvidence jobs evidence
 

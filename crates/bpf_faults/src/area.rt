@@ -6,9 +6,10 @@ use crate::arrays::{array_of, ends_of};
 use crate::evidence::Seen;
 use crate::named::Maps;
 use bpf_helpers::array_with;
-use bpf_mem::addresses::{CONTEXT_BASE, FRAME_STRIDE, STACK_BASE};
+use bpf_mem::addresses::{CONTEXT_BASE, FRAME_STRIDE, PACKET_BASE, STACK_BASE};
 use bpf_mem::context::MAX_CONTEXT;
 use bpf_mem::frames::FRAME_BYTES;
+use bpf_mem::packet::MAX_PACKET;
 use bpf_plain::PlainStore;
 use bpf_shared::{ArrayShape, FIRST_ARRAY, FIRST_VALUE, MAP_AREA};
 use std::alloc::AllocError;
@@ -23,6 +24,7 @@ pub(crate) const INDENT: &str = "             ";
 #[derive(Clone, Copy, PartialEq, Eq, Debug)]
 pub enum Region {
     Context,
+    Packet,
     /// Values of the map of this number.
     Values(usize),
     /// Values of the array of this number.
@@ -43,6 +45,8 @@ pub fn region_of(address: u64) -> Region
         }
     } else if address >= CONTEXT_BASE && address - CONTEXT_BASE < MAX_CONTEXT as u64 {
         Region::Context
+    } else if address >= PACKET_BASE && address - PACKET_BASE < MAX_PACKET as u64 {
+        Region::Packet
     } else {
         Region::Other
     }
@@ -87,6 +91,7 @@ fn in_values(seen: &Seen, store: &PlainStore, address: u64, length: u64) -> bool
 /// Whether some bytes can be read from an address on.
 pub fn is_reached(seen: &Seen, store: &PlainStore, address: u64, length: u64) -> bool {
     covers(CONTEXT_BASE, seen.context as u64, address, length)
+        || covers(PACKET_BASE, seen.packet as u64, address, length)
         || in_frame(seen, address, length)
         || in_values(seen, store, address, length)
 }
@@ -120,6 +125,10 @@ pub fn push_areas(text: &mut String, seen: &Seen, maps: &Maps<'_>) -> Result<(),
     }
     if seen.context > 0 {
         push_area(text, head, "the context", CONTEXT_BASE, seen.context as u64)?;
+        head = INDENT;
+    }
+    if seen.packet > 0 {
+        push_area(text, head, "the packet", PACKET_BASE, seen.packet as u64)?;
         head = INDENT;
     }
     push_values(text, head, seen, maps)?;

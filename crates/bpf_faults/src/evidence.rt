@@ -3,11 +3,18 @@
 ghost use Rattle.std.specs.Prelude.{◌≡◌, IfOk, OnOk, ℕ, List, length};
 ghost use Rattle.bpf_cpu.specs.declared.cpu.Cpu as state;
 ghost use Rattle.bpf_cpu.specs.State.{start};
-ghost use Rattle.bpf_faults.specs.Evidence.{IsSeen};
+ghost use Rattle.bpf_faults.specs.Evidence.{IsSeen, sizes_of};
 
 use bpf_cpu::{Cpu, Fault, Input};
 use bpf_shared::Span;
 use std::alloc::{AllocError, Global};
+
+/// How many bytes of memory a job is given.
+#[derive(Clone, Copy)]
+pub(crate) struct Sizes {
+    pub context: usize,
+    pub packet: usize,
+}
 
 /// What an explanation shows of a CPU's state.
 #[derive(Drop)]
@@ -17,6 +24,8 @@ pub struct Seen {
     pub frames: usize,
     /// How many bytes the context has.
     pub context: usize,
+    /// How many bytes the packet has.
+    pub packet: usize,
     /// Where the values lie that the run holds, in the order of their first lookup.
     pub held: Vec<Span>,
 }
@@ -39,6 +48,7 @@ impl Seen {
             registers: [0; 11],
             frames: 0,
             context: 0,
+            packet: 0,
             held: Vec::new(alloc),
         }
     }
@@ -50,23 +60,25 @@ impl Seen {
         self.registers = state.registers;
         self.frames = state.memory.frames.depth();
         self.context = state.memory.context.bytes().len();
+        self.packet = state.memory.packet.bytes().len();
         self.held.clear();
         self.held.extend_from_slice(state.held.spans())
     }
 
-    /// Sees the state in which a job starts on this CPU, with this many bytes of context.
+    /// Sees the state in which a job starts on this CPU, with so many bytes of memory.
     pub(crate) fn see_start(
         &mut self,
         alloc: Global,
         cpu: u8,
-        bytes: usize,
+        sizes: Sizes,
     ) -> Result<(), AllocError>
-        ensures { OnOk result ((input : Input) → length input.context ≡ bytes
+        ensures { OnOk result ((input : Input) → sizes_of input ≡ sizes
             → IsSeen (start cpu input) self.new) }
     {
         let start = Cpu::new(cpu, Input::nothing(alloc));
         self.see(&start)?;
-        self.context = bytes;
+        self.context = sizes.context;
+        self.packet = sizes.packet;
         Ok(())
     }
 
@@ -79,6 +91,7 @@ impl Seen {
             registers: self.registers,
             frames: self.frames,
             context: self.context,
+            packet: self.packet,
             held,
         })
     }

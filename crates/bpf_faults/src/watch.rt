@@ -11,35 +11,38 @@ ghost use Rattle.bpf_machine.specs.Questions.{turns_left};
 ghost use Rattle.bpf_machine.specs.Rounds.{RunsRound};
 ghost use Rattle.bpf_machine.specs.Machine.{Shows};
 ghost use Rattle.bpf_jobs.specs.Printed.{first_of};
-ghost use Rattle.bpf_faults.specs.Evidence.{AreSizes, HasEvidence, IsEvidenceIn, IsEvidenceOf, LeavesNoneOut};
+ghost use Rattle.bpf_faults.specs.Evidence.{AreSizes, HasEvidence, IsEvidenceIn, IsEvidenceOf, LeavesNoneOut, sizes_of};
 ghost use Rattle.bpf_faults.specs.Private.{AddsEvidence, AreWatched, HasNoWork, HaveOneInHand, IsEvidenceOfTurn, SeesNext, Watches, works};
 
-use crate::evidence::{Evidence, Seen};
+use crate::evidence::{Evidence, Seen, Sizes};
 use crate::looping::{Loop, Loops};
 use bpf_cpu::{Fault, Job, Outcome, Setup};
 use bpf_jobs::make_machine;
 use bpf_machine::{Machine, Standing, Turn};
 use std::alloc::{AllocError, Global};
 
-/// How many bytes of context a job has.
-fn context_size(job: &Job) -> usize
-    ensures { result ≡ length job.now.input.context }
+/// How many bytes a job is given.
+fn sizes_of(job: &Job) -> Sizes
+    ensures { result ≡ sizes_of job.now.input }
 {
-    job.input.context.bytes().len()
+    Sizes {
+        context: job.input.context.bytes().len(),
+        packet: job.input.packet.bytes().len(),
+    }
 }
 
-/// How many bytes of context each job has.
-fn context_sizes(alloc: Global, jobs: &[Job]) -> Result<Vec<usize>, AllocError>
+/// How many bytes each job is given.
+fn all_sizes(alloc: Global, jobs: &[Job]) -> Result<Vec<Sizes>, AllocError>
     ensures { IfOk result (λ sizes. AreSizes (map waiting jobs.now) sizes.items) }
 {
     let mut sizes = Vec::new(alloc);
     for job in jobs {
-        sizes.push(context_size(job))?;
+        sizes.push(sizes_of(job))?;
     }
     Ok(sizes)
 }
 
-fn size_at(sizes: &[usize], job: usize) -> Option<usize>
+fn sizes_at(sizes: &[Sizes], job: usize) -> Option<Sizes>
     ensures { result ≡ slice_get sizes.now job }
 {
     sizes.get(job).copied()
@@ -51,10 +54,10 @@ fn see_next(
     alloc: Global,
     machine: &Machine,
     cpu: u8,
-    contexts: &[usize],
+    sizes: &[Sizes],
     seen: &mut Seen,
 ) -> Result<Option<usize>, AllocError>
-    requires { AreSizes machine.now.jobs contexts.now }
+    requires { AreSizes machine.now.jobs sizes.now }
     ensures { IfOk result (SeesNext machine.now.jobs cpu seen.new) }
 {
     match machine.standing(cpu) {
@@ -63,10 +66,10 @@ fn see_next(
             Ok(Some(job))
         }
         Standing::Waiting(job) => {
-            let Some(bytes) = size_at(contexts, job) else {
+            let Some(given) = sizes_at(sizes, job) else {
                 return Ok(None);
             };
-            seen.see_start(alloc, cpu, bytes)?;
+            seen.see_start(alloc, cpu, given)?;
             Ok(Some(job))
         }
         Standing::Idle => Ok(None),
@@ -141,16 +144,16 @@ fn watch_turn(
     alloc: Global,
     machine: &mut Machine,
     cpu: u8,
-    contexts: &[usize],
+    sizes: &[Sizes],
     findings: &mut Findings,
 ) -> Result<bool, AllocError>
     requires shown { (w : World) × Shows machine.old w }
-    requires sizes { AreSizes machine.old.jobs contexts.now }
+    requires sizes { AreSizes machine.old.jobs sizes.now }
     requires one { HaveOneInHand machine.old.jobs }
     ensures { IfOk result (λ busy. Watches machine.old cpu findings.old.evidence.items busy
         machine.new findings.new.evidence.items) }
 {
-    let job = see_next(alloc, machine, cpu, contexts, &mut findings.seen)?;
+    let job = see_next(alloc, machine, cpu, sizes, &mut findings.seen)?;
     findings.loops.note(alloc, machine, cpu);
     let turn = machine.turn(cpu);
     add_evidence(
@@ -169,16 +172,16 @@ fn watch_turn(
 fn watch_round(
     alloc: Global,
     machine: &mut Machine,
-    contexts: &[usize],
+    sizes: &[Sizes],
     findings: &mut Findings,
 ) -> Result<bool, AllocError>
     requires shown { (w : World) × Shows machine.old w }
-    requires watched { AreWatched machine.old.jobs contexts.now findings.old.evidence.items }
+    requires watched { AreWatched machine.old.jobs sizes.now findings.old.evidence.items }
     ensures round { OnOk result ((w : World) → Shows machine.old w
         → (z : World) × RunsRound w z × Shows machine.new z
         × AddsEvidence (IsEvidenceIn w) findings.old.evidence.items findings.new.evidence.items) }
     ensures watched { OnOk result
-        (AreWatched machine.new.jobs contexts.now findings.new.evidence.items) }
+        (AreWatched machine.new.jobs sizes.now findings.new.evidence.items) }
     ensures falls { IfOk result (λ worked. worked ≡ true
         → turns_left machine.new.jobs < turns_left machine.old.jobs) }
     ensures idle { IfOk result (λ worked. worked ≡ false
@@ -187,7 +190,7 @@ fn watch_round(
     let mut worked = false;
     let end = machine.cpus();
     for cpu in 0..end {
-        let busy = watch_turn(alloc, machine, cpu, contexts, findings)?;
+        let busy = watch_turn(alloc, machine, cpu, sizes, findings)?;
         worked |= busy;
     }
     Ok(worked)
@@ -198,11 +201,11 @@ fn watch_round(
 fn watch(
     alloc: Global,
     machine: &mut Machine,
-    contexts: &[usize],
+    sizes: &[Sizes],
     loops: Loops,
 ) -> Result<Findings, AllocError>
     requires shown { (w : World) × Shows machine.old w }
-    requires watched { AreWatched machine.old.jobs contexts.now [] }
+    requires watched { AreWatched machine.old.jobs sizes.now [] }
     ensures shown { IfOk result (λ findings. (w : World) → Shows machine.old w
         → All (IsEvidenceOf w) findings.evidence.items) }
     ensures all { IfOk result (λ findings. (w : World) → Shows machine.old w
@@ -214,7 +217,7 @@ fn watch(
         evidence: Vec::new(alloc),
     };
     'watching: loop {
-        let worked = watch_round(alloc, machine, contexts, &mut findings)?;
+        let worked = watch_round(alloc, machine, sizes, &mut findings)?;
         if !worked {
             // Nothing is left to do, which is to say that each job has ended.
             machine.rounds();
@@ -235,7 +238,7 @@ pub fn evidence_of(
     ensures shown { IfOk result (λ r. All (IsEvidenceOf (first_of setup)) r.1.items) }
     ensures all { IfOk result (λ r. LeavesNoneOut (first_of setup) r.0 r.1.items) }
 {
-    let sizes = context_sizes(alloc, &setup.jobs)?;
+    let sizes = all_sizes(alloc, &setup.jobs)?;
     let mut machine = make_machine(alloc, setup)?;
     let found = Loops::new(alloc, machine.cpus())?;
     let mut findings = watch(alloc, &mut machine, &sizes, found)?;

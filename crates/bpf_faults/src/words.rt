@@ -131,6 +131,14 @@ fn push_hint(
             push_count(text, seen.context as u64)?;
             text.push_str("\n")
         }
+        Region::Packet if seen.packet == 0 => {
+            write!(text, "  hint: a packet lies there, but the job has none\n")
+        }
+        Region::Packet => {
+            text.push_str("  hint: the packet lies there, but it has ")?;
+            push_count(text, seen.packet as u64)?;
+            text.push_str("\n")
+        }
         _ => Ok(()),
     }
 }

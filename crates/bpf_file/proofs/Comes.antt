@@ -4,23 +4,25 @@ use Rattle.std.specs.Prelude.{slice_get, take}
 use Rattle.std.specs.List.{before_first}
 use Rattle.std.proofs.lemmas.Bool.Decides.{nat_tests}
 use Rattle.std.proofs.lemmas.Slice.Eq.{bytes_eq-Decides}
-use Rattle.bpf_mem.specs.Limits.{max_context}
+use Rattle.bpf_mem.specs.Limits.{max_context, max_packet}
 use Rattle.bpf_file.specs.declared.error.Reason.{Reason}
 use Rattle.bpf_file.specs.declared.error.Reason.TheVariants as reason
 use Rattle.bpf_file.specs.declared.form.Part.{Part as Piece}
-use Rattle.bpf_file.specs.declared.form.Part.TheVariants.{Word, Name, Context}
+use Rattle.bpf_file.specs.declared.form.Part.TheVariants.{Word, Name, Context, Packet}
 use Rattle.bpf_file.specs.declared.key.Key.{Key}
 use Rattle.bpf_file.specs.declared.key.Key.TheVariants as key
 use Rattle.bpf_file.specs.declared.line.LineError.{LineError}
 use Rattle.bpf_file.specs.declared.line.LineError.TheVariants as line
+use Rattle.bpf_file.specs.declared.packet.Hook.{Hook}
+use Rattle.bpf_file.specs.declared.packet.Hook.TheVariants.{Xdp, Tc}
 use Rattle.bpf_file.specs.Key.{key_text, is_key}
-use Rattle.bpf_file.specs.Form.{is_part, has_form, field_at, version_form, second_version_form, third_version_form, cpus_form, seed_form, map_form, masked_map_form, growing_map_form, growing_masked_map_form, array_form, per_cpu_form, frozen_form, variable_form, data_form, put_form, put_numbers_form, program_form, words_form, job_form, budget_form, context_form, time_form, random_form}
+use Rattle.bpf_file.specs.Form.{is_part, has_form, field_at, version_form, second_version_form, third_version_form, cpus_form, seed_form, map_form, masked_map_form, growing_map_form, growing_masked_map_form, array_form, per_cpu_form, frozen_form, variable_form, data_form, put_form, put_numbers_form, program_form, words_form, job_form, budget_form, context_form, time_form, random_form, xdp_form, tc_form}
 use Rattle.bpf_shared.specs.Access.{bytes_in}
 use Rattle.bpf_shared.specs.declared.events.Size.{Size}
 use Rattle.bpf_base.specs.declared.budget.TheConstants.{MAX_BUDGET}
 use Rattle.bpf_file.specs.declared.version.Version.{Version as Edition}
 use Rattle.bpf_file.specs.Version.{may_grow, has_arrays}
-use Rattle.bpf_file.specs.Statement.{Said, Version, Cpus, Seed, Map, Array, Data, Variable, Put, PutNumbers, Program, Words, Job, most_count, count_at, with_number, map_said, array_said, size_of, variable_at, variable_said, size_named, key_number, is_open, with_size, numbers_said, work_of, arrays_of, growing_of, statement_of, JobSaid, with_job, last_two, before_two, last_number, timed_of, seeded_of}
+use Rattle.bpf_file.specs.Statement.{Said, Version, Cpus, Seed, Map, Array, Data, Variable, Put, PutNumbers, Program, Words, Job, most_count, count_at, with_number, map_said, array_said, size_of, variable_at, variable_said, size_named, key_number, is_open, with_size, numbers_said, work_of, arrays_of, growing_of, statement_of, JobSaid, with_job, last_two, before_two, last_number, timed_of, seeded_of, packet_for, with_packet, packeted_of}
 use Rattle.bpf_file.specs.Parts.{Part, group_of, is_in_order, is_full}
 use Rattle.bpf_file.specs.Private.Drafts.{IsShortSaid}
 use Rattle.bpf_file.specs.Rows.{first_said, later_said, may_stand, placed}
@@ -121,14 +123,14 @@ jobs_tell : (f : List ℕ) (fs : List (List ℕ)) → TellsAll f (work_of (f ∷
 jobs_tell f fs =
     either f (has_form program_form (f ∷ fs)) _ _ (λ h. (worded key.Program program_form f fs 7 refl refl h, tt))
     (either f (has_form words_form (f ∷ fs)) _ _ (λ h. (worded key.Program words_form f fs 7 refl refl h, tt))
-    (either f (has_form job_form (f ∷ fs)) _ _ (λ h. (worded key.Job job_form f fs 8 refl refl h, tt))
+    (either f (has_form job_form (f ∷ fs)) _ _ (λ h. (worded key.Job job_form f fs 8 refl refl h, (tt, tt)))
     (either f (has_form (job_form ++ budget_form) (f ∷ fs)) _ _ (λ h.
-    numbered f (count_at (f ∷ fs) 4 MAX_BUDGET) _ (λ n. (worded key.Job (job_form ++ budget_form) f fs 8 refl refl h, tt)))
+    numbered f (count_at (f ∷ fs) 4 MAX_BUDGET) _ (λ n. (worded key.Job (job_form ++ budget_form) f fs 8 refl refl h, (tt, tt))))
     (either f (has_form (job_form ++ context_form) (f ∷ fs)) _ _ (λ h.
-    (worded key.Job (job_form ++ context_form) f fs 8 refl refl h, short_at (job_form ++ context_form) (f ∷ fs) 4 h refl))
+    (worded key.Job (job_form ++ context_form) f fs 8 refl refl h, (short_at (job_form ++ context_form) (f ∷ fs) 4 h refl, tt)))
     (either f (has_form (job_form ++ budget_form ++ context_form) (f ∷ fs)) _ _ (λ h.
     numbered f (count_at (f ∷ fs) 4 MAX_BUDGET) _ (λ n.
-    (worded key.Job (job_form ++ budget_form ++ context_form) f fs 8 refl refl h, short_at (job_form ++ budget_form ++ context_form) (f ∷ fs) 6 h refl)))
+    (worded key.Job (job_form ++ budget_form ++ context_form) f fs 8 refl refl h, (short_at (job_form ++ budget_form ++ context_form) (f ∷ fs) 6 h refl, tt))))
     tt)))))
 
 -- ---- a job with more at the end of its line
@@ -142,12 +144,35 @@ front_tells : (n : ℕ) (f : List ℕ) (fs : List (List ℕ)) → TellsAll f (wo
 front_tells zero f fs = tt
 front_tells (suc n) f fs = jobs_tell f (take n fs)
 
+-- the digits of a packet are few
+brief_at : (fs : List (List ℕ)) (k : Key) → has_form (Word k ∷ Packet ∷ []) fs ≡ true → length (field_at fs 1) ≤ 2 * max_packet
+brief_at fs k h = let d = part_at (Word k ∷ Packet ∷ []) fs 1 Packet h refl in grind (arith, nat_tests)
+
+in_place : (f : List ℕ) (job : JobSaid) (packet : Hook × List ℕ) (context : Option (List ℕ)) → length packet.1 ≤ 2 * max_packet → Tells f (Job job) → TellsAll f (packet_for packet job context)
+in_place f job packet None few t = (t.0, (t.1.0, few))
+in_place f job packet (Some digits) few t = tt
+
+hook_tells : (hook : Hook) (f : List ℕ) (fs : List (List ℕ)) → length (field_at (last_two (f ∷ fs)) 1) ≤ 2 * max_packet → TellsAll f (with_packet hook (f ∷ fs))
+hook_tells hook f fs few =
+    more_tells f (work_of (before_two (f ∷ fs))) _ (λ job t. in_place f job (hook, field_at (last_two (f ∷ fs)) 1) job.context few t)
+    (front_tells (length (f ∷ fs) - 2) f fs)
+
+packeted_tell : (f : List ℕ) (fs : List (List ℕ)) → TellsAll f (packeted_of (f ∷ fs))
+packeted_tell f fs =
+    either f (has_form xdp_form (last_two (f ∷ fs))) _ _ (λ h. hook_tells Xdp f fs (brief_at (last_two (f ∷ fs)) key.Xdp h))
+    (either f (has_form tc_form (last_two (f ∷ fs))) _ _ (λ h. hook_tells Tc f fs (brief_at (last_two (f ∷ fs)) key.Tc h))
+    (jobs_tell f fs))
+
+packeted_front_tells : (n : ℕ) (f : List ℕ) (fs : List (List ℕ)) → TellsAll f (packeted_of (take n (f ∷ fs)))
+packeted_front_tells zero f fs = tt
+packeted_front_tells (suc n) f fs = packeted_tell f (take n fs)
+
 timed_tell : (f : List ℕ) (fs : List (List ℕ)) → TellsAll f (timed_of (f ∷ fs))
 timed_tell f fs =
     either f (has_form time_form (last_two (f ∷ fs))) _ _ (λ h.
-    more_tells f (work_of (before_two (f ∷ fs))) _ (λ job t. numbered f (last_number (f ∷ fs)) _ (λ n. t))
-    (front_tells (length (f ∷ fs) - 2) f fs))
-    (jobs_tell f fs)
+    more_tells f (packeted_of (before_two (f ∷ fs))) _ (λ job t. numbered f (last_number (f ∷ fs)) _ (λ n. t))
+    (packeted_front_tells (length (f ∷ fs) - 2) f fs))
+    (packeted_tell f fs)
 
 timed_front_tells : (n : ℕ) (f : List ℕ) (fs : List (List ℕ)) → TellsAll f (timed_of (take n (f ∷ fs)))
 timed_front_tells zero f fs = tt

@@ -10,8 +10,11 @@ use Rattle.std.proofs.lemmas.List.Elements.{All-nil, All-cons, All-append}
 use Rattle.hex.specs.Hex.{decode_of}
 use Rattle.hex.proofs.HexLemmas.{decode_of-ok}
 use Rattle.bpf_insn.specs.declared.instruction.Insn.{Insn}
-use Rattle.bpf_mem.specs.Limits.{max_context}
+use Rattle.bpf_mem.specs.Limits.{max_context, max_packet}
+use Rattle.bpf_cpu.specs.declared.input.Input.{Input}
+use Rattle.bpf_cpu.specs.Input.{IsShort as IsShortInput}
 use Rattle.bpf_cpu.specs.Task.{Task, Waiting}
+use Rattle.bpf_helpers.specs.declared.given.Given.{Given}
 use Rattle.bpf_lines.specs.Lines.{lines_of, fields_of}
 use Rattle.bpf_lines.specs.Words.{written_number}
 use Rattle.std.specs.Option.{option_map}
@@ -37,21 +40,24 @@ use Rattle.bpf_file.specs.declared.error.FileError.{FileError}
 use Rattle.bpf_file.specs.declared.error.FileError.TheVariants.{Refused}
 use Rattle.bpf_file.specs.declared.error.Reason.{Reason}
 use Rattle.bpf_file.specs.declared.error.Reason.TheVariants as reason
+use Rattle.bpf_file.specs.declared.packet.Hook.{Hook}
+use Rattle.bpf_file.specs.declared.packet.Hook.TheVariants.{Xdp, Tc}
 use Rattle.bpf_file.specs.Form.{is_there}
 use Rattle.bpf_file.specs.Limits.{most_pairs}
 use Rattle.bpf_file.specs.Statement.{Said, Version, Cpus, Seed, Map, Array, Data, Variable, Put, PutNumbers, Program, Words, Job, statement_of, JobSaid}
+use Rattle.bpf_file.specs.Packet.{packet_context}
 use Rattle.bpf_file.specs.File.{File, named_by}
 use Rattle.bpf_file.specs.Contents.{laid, up_to}
 use Rattle.bpf_file.specs.Parts.{Part, State, Between, Within, nothing, is_taken, place_of, array_place, with_first, with_cpus, with_seed, with_map, with_array, with_data, with_pair, with_variable, with_program, with_job}
 use Rattle.bpf_text.specs.Symbols.{Table}
 use Rattle.bpf_file.specs.Symbols.{names_for}
 use Rattle.bpf_file.specs.Programs.{LoadsProgram, OfBytes, OfAssembly, refusal_behind, text_of_lines}
-use Rattle.bpf_file.specs.Rows.{unless, cpus_refusal, map_refusal, array_refusal, size_refusal, data_refusal, data_laid, or_refused, data_added, name_refusal, place_refusal, variable_added, is_sized, is_numbered, pair_refusal, pair_put, key_put, pair_added, value_place, element_put, element_added, numbered_bytes, pair_numbered, element_numbered, numbers_added, put_added, program_added, WordsAdd, served, context_of, job_added, placed, AddsLine, given_by, number_or}
+use Rattle.bpf_file.specs.Rows.{unless, cpus_refusal, map_refusal, array_refusal, size_refusal, data_refusal, data_laid, or_refused, data_added, name_refusal, place_refusal, variable_added, is_sized, is_numbered, pair_refusal, pair_put, key_put, pair_added, value_place, element_put, element_added, numbered_bytes, pair_numbered, element_numbered, numbers_added, put_added, program_added, WordsAdd, served, context_of, job_added, placed, AddsLine, given_by, number_or, without_packet, around_packet, input_of, input_said, job_put}
 use Rattle.bpf_base.specs.declared.budget.TheConstants.{DEFAULT_BUDGET}
 use Rattle.bpf_file.specs.Reading.{AddsOrRefuses, FieldsSay, is_end, Belongs, ReadsLine, finished, AreRead}
 use Rattle.bpf_file.specs.Runnable.{IsJobFor, CanRun}
 use Rattle.bpf_file.specs.Laws.{FilesCanRun}
-use Rattle.bpf_file.specs.Private.Drafts.{Ends, IsShort}
+use Rattle.bpf_file.specs.Private.Drafts.{Ends, IsBrief, IsShort}
 use Rattle.bpf_file.specs.Private.Fits.{IsFit, IsFitState, IsFitResult}
 use Rattle.bpf_file.proofs.Arrays.{arrays_with_new, arrays_with_data, padded_size}
 use Rattle.bpf_file.proofs.Names.{and_both}
@@ -134,6 +140,32 @@ place_below name (n ∷ ns) k e = by_test (bytes_eq n name) (place_of name ns) (
 pub context_short : (context : Option (List ℕ)) (bytes : List ℕ) → IsShort context → context_of context ≡ Ok bytes → length bytes ≤ max_context
 context_short None bytes s e = let same : [] ≡ bytes = cc in let P : List ℕ → Type 0 = λ b. length b ≤ max_context in subst P same (omega arith)
 context_short (Some digits) bytes s e = let sizes = decode_of-ok digits bytes e in let twice : length digits ≡ 2 * length bytes = sizes.2 in omega arith
+
+-- as many bytes as the structures have
+context_small : (hook : Hook) (cpu : ℕ) (bytes : List ℕ) → length (packet_context hook cpu bytes) ≤ max_context
+context_small Xdp cpu bytes = let n : length (packet_context Xdp cpu bytes) ≡ 24 = refl in omega (arith, n)
+context_small Tc cpu bytes = let n : length (packet_context Tc cpu bytes) ≡ 192 = refl in omega (arith, n)
+
+bare_short : (given : Given) (r : Result (List ℕ) FromHexError) (input : Input) → ((bytes : List ℕ) → r ≡ Ok bytes → length bytes ≤ max_context) → without_packet given r ≡ Ok input → IsShortInput input
+bare_short given (Ok bytes) input h e =
+    let whole : Input = record { context = bytes; packet = []; given = given } in
+    let same : whole ≡ input = cc in
+    subst IsShortInput same (h bytes refl, omega arith)
+bare_short given (Err x) input h e = cc
+
+around_short : (given : Given) (hook : Hook) (cpu : ℕ) (r : Result (List ℕ) FromHexError) (input : Input) → ((bytes : List ℕ) → r ≡ Ok bytes → length bytes ≤ max_packet) → around_packet given hook cpu r ≡ Ok input → IsShortInput input
+around_short given hook cpu (Ok bytes) input h e =
+    let whole : Input = record { context = packet_context hook cpu bytes; packet = bytes; given = given } in
+    let same : whole ≡ input = cc in
+    subst IsShortInput same (context_small hook cpu bytes, h bytes refl)
+around_short given hook cpu (Err x) input h e = cc
+
+pub input_short : (given : Given) (cpu : ℕ) (context : Option (List ℕ)) (packet : Option (Hook × List ℕ)) (input : Input) → IsShort context → IsBrief packet → input_of given cpu context packet ≡ Ok input → IsShortInput input
+input_short given cpu context None input short brief e = bare_short given (context_of context) input (λ bytes h. context_short context bytes short h) e
+input_short given cpu context (Some packet) input short brief e = around_short given packet.0 cpu (decode_of packet.1) input (λ bytes h. few packet.1 bytes brief h) e
+  where
+    few : (digits bytes : List ℕ) → length digits ≤ 2 * max_packet → decode_of digits ≡ Ok bytes → length bytes ≤ max_packet
+    few digits bytes s e = let sizes = decode_of-ok digits bytes e in let twice : length digits ≡ 2 * length bytes = sizes.2 in omega arith
 
 -- ---- the rows
 
@@ -557,15 +589,19 @@ fit_listed p task t f =
       no_jobs = λ h. absurd (omega arith);
     }
 
-fit_job : (n : ℕ) (p : Part) (cpu program : Option ℕ) (line : JobSaid) (context : Result (List ℕ) FromHexError) → ((c : ℕ) → cpu ≡ Some c → c < p.file.cpus) → ((k : ℕ) → program ≡ Some k → k < length p.titles)
-    → ((bytes : List ℕ) → context ≡ Ok bytes → length bytes ≤ max_context) → IsFit p → IsFitResult (job_added n p cpu program line context)
-fit_job n p (Some c) (Some k) line (Ok bytes) hc hk hb f =
+fit_put : (n : ℕ) (p : Part) (c k : ℕ) (line : JobSaid) (given : Result Input FromHexError) → c < p.file.cpus → k < length p.titles → ((input : Input) → given ≡ Ok input → IsShortInput input) → IsFit p → IsFitResult (job_put n p c k line given)
+fit_put n p c k line (Ok input) hc hk hi f =
     let P : ℕ → Type 0 = λ m. k < m in
-    fit_listed p (record { cpu = c; program = k; budget = number_or DEFAULT_BUDGET line.budget; stage = Waiting (record { context = bytes; given = given_by (length p.file.jobs) line }) })
-    (record { cpu = hc c refl; program = subst P f.titles (hk k refl); stage = hb bytes refl }) f
-fit_job n p (Some c) (Some k) line (Err e) hc hk hb f = tt
-fit_job n p (Some c) None line context hc hk hb f = tt
-fit_job n p None k line context hc hk hb f = tt
+    fit_listed p (record { cpu = c; program = k; budget = number_or DEFAULT_BUDGET line.budget; stage = Waiting input })
+    (record { cpu = hc; program = subst P f.titles hk; stage = hi input refl }) f
+fit_put n p c k line (Err e) hc hk hi f = tt
+
+fit_job : (n : ℕ) (p : Part) (cpu program : Option ℕ) (line : JobSaid) → ((c : ℕ) → cpu ≡ Some c → c < p.file.cpus) → ((k : ℕ) → program ≡ Some k → k < length p.titles)
+    → ((c : ℕ) (input : Input) → input_said (length p.file.jobs) c line ≡ Ok input → IsShortInput input) → IsFit p → IsFitResult (job_added n p cpu program line)
+fit_job n p (Some c) (Some k) line hc hk hi f =
+    fit_put n p c k line (input_said (length p.file.jobs) c line) (hc c refl) (hk k refl) (hi c) f
+fit_job n p (Some c) None line hc hk hi f = tt
+fit_job n p None k line hc hk hi f = tt
 
 adds_fit : (n : ℕ) (p : Part) (s : Said) (r : Result State FileError) → AddsLine n p s r → Comes p s → IsFit p → IsFitResult r
 adds_fit n p (Version version) r e c f = subst IsFitResult (sym e) (fit_first p version f (idle p 1 f c.0 (omega arith)) (no_arrays_at p 1 f c.0 (omega arith)) (no_pairs_at p 1 f c.0 (omega arith)))
@@ -587,8 +623,9 @@ adds_fit n p (Words name digits) r w c f =
     fit_words (place_of name p.titles) n p name digits r w f (f.no_jobs (before p.group 7 8 c.0 (omega arith)))
 adds_fit n p (Job line) r e c f =
     subst IsFitResult (sym e)
-    (fit_job n p (served p.file.cpus line.cpu) (place_of line.program p.titles) line (context_of line.context)
-    (served_below p.file.cpus line.cpu) (place_below line.program p.titles) (λ bytes h. context_short line.context bytes c.1 h) f)
+    (fit_job n p (served p.file.cpus line.cpu) (place_of line.program p.titles) line
+    (served_below p.file.cpus line.cpu) (place_below line.program p.titles)
+    (λ k input h. input_short (given_by (length p.file.jobs) line) k line.context line.packet input c.1.0 c.1.1 h) f)
 
 says_fit : (n : ℕ) (p : Part) (w : Result Said Reason) (r : Result State FileError) → AddsOrRefuses n p w r → ((s : Said) → w ≡ Ok s → Comes p s) → IsFit p → IsFitResult r
 says_fit n p (Ok s) r a c f = adds_fit n p s r a (c s refl) f

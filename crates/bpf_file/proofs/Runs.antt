@@ -2,11 +2,11 @@
 use Rattle.std.proofs.Common.{◌≡◌, ℕ, ◌<◌, ◌≤◌, zero, suc, List, [], ◌∷◌, length, map, get_or, vec_len, refl, sym, subst, arith}
 use Rattle.std.specs.Prelude.{All}
 use Rattle.std.proofs.lemmas.List.{length-map}
-use Rattle.bpf_mem.specs.Limits.{max_context}
 use Rattle.bpf_shared.specs.declared.shapes.ArrayShape.{ArrayShape}
 use Rattle.bpf_shared.specs.declared.shapes.MapShape.{MapShape}
 use Rattle.bpf_pairs.specs.Pairs.{ArePairs, pair_of}
 use Rattle.bpf_cpu.specs.declared.job.Job.{Job}
+use Rattle.bpf_cpu.specs.Input.{IsShort}
 use Rattle.bpf_cpu.specs.Task.{Task, waiting}
 use Rattle.bpf_loader.specs.Loaded.{Loaded}
 use Rattle.bpf_cpu.specs.declared.setup.Setup.{Setup}
@@ -37,7 +37,7 @@ runnable f g ec em ea ep ej eq can =
     record {
       cpus = mapped P (λ job. job.cpu < f.shape.cpus) (λ (job : Job) (t : P (waiting job)). t.cpu) f.jobs.items jobs;
       programs = mapped P (λ job. job.program < vec_len f.programs) (λ (job : Job) (t : P (waiting job)). below f job t.program) f.jobs.items jobs;
-      contexts = mapped P (λ job. length job.input.context ≤ max_context) (λ (job : Job) (t : P (waiting job)). t.stage) f.jobs.items jobs;
+      inputs = mapped P (λ job. IsShort job.input) (λ (job : Job) (t : P (waiting job)). t.stage) f.jobs.items jobs;
       named = subst O (sym ep) (subst A (sym ea) (subst M (sym em) can.named));
       pairs = subst (λ (ms : List MapShape). ArePairs ms (map pair_of f.pairs.items)) (sym em) (subst (ArePairs g.maps) (sym eq) can.pairs);
     }

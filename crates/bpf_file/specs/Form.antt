@@ -1,9 +1,9 @@
 -- The forms of the lines of a run file: what each field has to be (our own choice).
 use Rattle.std.specs.Prelude.{ℕ, ◌*◌, Bool, true, false, ◌&&◌, nat_le, List, [], ◌∷◌, ◌++◌, length, get_or, Option, Some, None}
-use Rattle.bpf_mem.specs.Limits.{max_context}
+use Rattle.bpf_mem.specs.Limits.{max_context, max_packet}
 use Rattle.bpf_lines.specs.Words.{written_number, is_name}
 use Rattle.bpf_file.specs.declared.form.Part.{Part}
-use Rattle.bpf_file.specs.declared.form.Part.TheVariants.{Word, Name, Number, Context, Words}
+use Rattle.bpf_file.specs.declared.form.Part.TheVariants.{Word, Name, Number, Context, Packet, Words}
 use Rattle.bpf_file.specs.declared.key.Key.TheVariants as key
 use Rattle.bpf_file.specs.Key.{is_key}
 
@@ -20,6 +20,7 @@ is_part (Word k) field = is_key k field
 is_part Name field = is_name field && nat_le (length field) 32
 is_part Number field = is_number field
 is_part Context field = nat_le (length field) (2 * max_context)
+is_part Packet field = nat_le (length field) (2 * max_packet)
 is_part Words field = true
 
 -- the fields are those of the form, one by one
@@ -114,6 +115,13 @@ budget_form = Word key.Budget ∷ Number ∷ []
 
 abbrev pub context_form : List Part
 context_form = Word key.Context ∷ Context ∷ []
+
+-- `xdp DIGITS` and `tc DIGITS`, at the end of a job, in version 3
+abbrev pub xdp_form : List Part
+xdp_form = Word key.Xdp ∷ Packet ∷ []
+
+abbrev pub tc_form : List Part
+tc_form = Word key.Tc ∷ Packet ∷ []
 
 -- in version 3 also with `time N`, `random N`, or both at its end
 abbrev pub time_form : List Part

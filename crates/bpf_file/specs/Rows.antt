@@ -19,6 +19,7 @@ use Rattle.bpf_pairs.specs.Pairs.{Pair, has_key, pairs_in}
 use Rattle.bpf_lines.specs.Words.{written_number}
 use Rattle.bpf_loader.specs.Loaded.{Loaded}
 use Rattle.bpf_helpers.specs.declared.given.Given.{Given}
+use Rattle.bpf_cpu.specs.declared.input.Input.{Input}
 use Rattle.bpf_cpu.specs.Task.{Waiting}
 use Rattle.bpf_base.specs.declared.budget.TheConstants.{DEFAULT_BUDGET}
 use Rattle.bpf_file.specs.declared.error.FileError.{FileError}
@@ -27,11 +28,13 @@ use Rattle.bpf_file.specs.declared.error.Reason.{Reason}
 use Rattle.bpf_file.specs.declared.error.Reason.TheVariants as reason
 use Rattle.bpf_file.specs.declared.line.LineError.{LineError}
 use Rattle.bpf_file.specs.declared.line.LineError.TheVariants as line
+use Rattle.bpf_file.specs.declared.packet.Hook.{Hook}
 use Rattle.bpf_file.specs.Form.{is_there}
 use Rattle.bpf_file.specs.Limits.{most_pairs, most_variables}
 use Rattle.bpf_file.specs.Statement.{Said, JobSaid, Version, Cpus, Seed, Map, Array, Data, Variable, Put, PutNumbers, Program, Words, Job}
 use Rattle.bpf_file.specs.File.{File, named_by}
 use Rattle.bpf_file.specs.Parts.{Part, State, Between, Within, group_of, is_in_order, is_full, is_taken, place_of, array_place, with_first, with_cpus, with_seed, with_map, with_array, with_data, with_pair, with_variable, with_program, with_job}
+use Rattle.bpf_file.specs.Packet.{packet_context}
 use Rattle.bpf_file.specs.Programs.{OfDigits}
 
 -- the file goes on, or the line is refused for this reason
@@ -295,18 +298,41 @@ abbrev pub given_by : ℕ → JobSaid → Given
 given_by number line =
     record { job = number; time = number_or 0 line.time; seed = number_or number line.seed }
 
+-- all that it is given: a context and no packet, or a packet and its context
+abbrev pub without_packet : Given → Result (List ℕ) FromHexError → Result Input FromHexError
+without_packet given (Ok bytes) = Ok (record { context = bytes; packet = []; given = given })
+without_packet given (Err e) = Err e
+
+abbrev pub around_packet : Given → Hook → ℕ → Result (List ℕ) FromHexError
+    → Result Input FromHexError
+around_packet given hook cpu (Ok bytes) =
+    Ok (record { context = packet_context hook cpu bytes; packet = bytes; given = given })
+around_packet given hook cpu (Err e) = Err e
+
+abbrev pub input_of : Given → ℕ → Option (List ℕ) → Option (Hook × List ℕ)
+    → Result Input FromHexError
+input_of given cpu context None = without_packet given (context_of context)
+input_of given cpu context (Some packet) = around_packet given packet.0 cpu (decode_of packet.1)
+
+abbrev pub input_said : ℕ → ℕ → JobSaid → Result Input FromHexError
+input_said number cpu line = input_of (given_by number line) cpu line.context line.packet
+
 -- the next job, on this CPU and of this program
-abbrev pub job_added : ℕ → Part → Option ℕ → Option ℕ → JobSaid → Result (List ℕ) FromHexError
+abbrev pub job_put : ℕ → Part → (cpu program : ℕ) → JobSaid → Result Input FromHexError
     → Result State FileError
-job_added n p (Some cpu) (Some program) line (Ok bytes) = Ok (Between (with_job p (record {
+job_put n p cpu program line (Ok input) = Ok (Between (with_job p (record {
   cpu = cpu;
   program = program;
   budget = number_or DEFAULT_BUDGET line.budget;
-  stage = Waiting (record { context = bytes; given = given_by (length p.file.jobs) line });
+  stage = Waiting input;
 })))
-job_added n p (Some cpu) (Some program) line (Err e) = Err (Refused n reason.NotHex)
-job_added n p (Some cpu) None line context = Err (Refused n reason.Unknown)
-job_added n p None program line context = Err (Refused n reason.Unknown)
+job_put n p cpu program line (Err e) = Err (Refused n reason.NotHex)
+
+abbrev pub job_added : ℕ → Part → Option ℕ → Option ℕ → JobSaid → Result State FileError
+job_added n p (Some cpu) (Some program) line =
+    job_put n p cpu program line (input_said (length p.file.jobs) cpu line)
+job_added n p (Some cpu) None line = Err (Refused n reason.Unknown)
+job_added n p None program line = Err (Refused n reason.Unknown)
 
 -- ---- THE ROWS
 
@@ -329,4 +355,3 @@ AddsLine n p (Program name) r = r ≡ if_new n p name (Ok (Within p n name []))
 AddsLine n p (Words name digits) r = WordsAdd (place_of name p.titles) n p name digits r
 AddsLine n p (Job line) r =
     r ≡ job_added n p (served p.file.cpus line.cpu) (place_of line.program p.titles) line
-    (context_of line.context)

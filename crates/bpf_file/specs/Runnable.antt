@@ -2,12 +2,13 @@
 use Rattle.std.specs.Prelude.{◌≡◌, ℕ, ◌<◌, ◌≤◌, All, length}
 use Rattle.bpf_mem.specs.Limits.{max_context}
 use Rattle.bpf_pairs.specs.Pairs.{ArePairs}
+use Rattle.bpf_cpu.specs.Input.{IsShort}
 use Rattle.bpf_cpu.specs.Task.{Task, Stage, Waiting}
 use Rattle.bpf_file.specs.File.{File, named_by}
 
 -- it waits, with a context of at most 4,096 bytes
 abbrev pub WaitsShort : Stage → Type 0
-WaitsShort (Waiting input) = length input.context ≤ max_context
+WaitsShort (Waiting input) = IsShort input
 WaitsShort stage = ⊥
 
 -- a job for this many CPUs, of one of this many programs, that waits

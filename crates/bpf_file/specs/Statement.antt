@@ -12,6 +12,9 @@ use Rattle.bpf_shared.specs.declared.shapes.MapShape.{MapShape}
 use Rattle.bpf_lines.specs.Words.{written_number}
 use Rattle.bpf_file.specs.declared.line.LineError.{LineError}
 use Rattle.bpf_file.specs.declared.line.LineError.TheVariants.{BadForm, BadNumber}
+use Rattle.bpf_file.specs.declared.packet.Hook.{Hook}
+use Rattle.bpf_file.specs.declared.packet.Hook.TheVariants.{Xdp, Tc}
+use Rattle.bpf_file.specs.declared.packet.PacketLine.{PacketLine}
 use Rattle.bpf_file.specs.declared.statement.JobLine.{JobLine}
 use Rattle.bpf_file.specs.declared.statement.Statement.{Statement}
 use Rattle.bpf_file.specs.declared.statement.Statement.TheVariants as statement
@@ -19,15 +22,16 @@ use Rattle.bpf_file.specs.declared.version.Version.{Version as Edition}
 use Rattle.bpf_file.specs.declared.version.Version.TheVariants.{First, Second, Third}
 use Rattle.bpf_file.specs.Version.{may_grow, has_arrays}
 use Rattle.bpf_file.specs.declared.form.Part.TheVariants.{Name}
-use Rattle.bpf_file.specs.Form.{has_form, field_at, is_part, version_form, second_version_form, third_version_form, cpus_form, seed_form, map_form, masked_map_form, growing_map_form, growing_masked_map_form, array_form, per_cpu_form, frozen_form, data_form, variable_form, put_form, put_numbers_form, program_form, words_form, job_form, budget_form, context_form, time_form, random_form}
+use Rattle.bpf_file.specs.Form.{has_form, field_at, is_part, version_form, second_version_form, third_version_form, cpus_form, seed_form, map_form, masked_map_form, growing_map_form, growing_masked_map_form, array_form, per_cpu_form, frozen_form, data_form, variable_form, put_form, put_numbers_form, program_form, words_form, job_form, budget_form, context_form, xdp_form, tc_form, time_form, random_form}
 
 -- a job: its CPU, where 64 bits hold its number, its program's name, and its budget, its context's
--- digits, its time and its seed, where the line has them
+-- digits or its packet's and where the program hangs, its time and its seed, where the line has them
 pub record JobSaid : Type 0 where
   pub cpu : Option ℕ
   pub program : List ℕ
   pub budget : Option ℕ
   pub context : Option (List ℕ)
+  pub packet : Option (Hook × List ℕ)
   pub time : Option ℕ
   pub seed : Option ℕ
 
@@ -177,6 +181,7 @@ job_said fields budget context = Ok (Job (record {
   program = field_at fields 2;
   budget = budget;
   context = context;
+  packet = None;
   time = None;
   seed = None;
 }))
@@ -214,12 +219,28 @@ before_two fields = take (length fields - 2) fields
 abbrev pub last_number : List (List ℕ) → Result ℕ LineError
 last_number fields = count_at (last_two fields) 1 (2 ^ 64 - 1)
 
--- a line about a program or a job, which may have a time at its end
+-- a job with this packet, in the place of a context
+abbrev pub packet_for : Hook × List ℕ → JobSaid → Option (List ℕ) → Result Said LineError
+packet_for packet line None = Ok (Job (record line { packet = Some packet }))
+packet_for packet line (Some context) = Err BadForm
+
+abbrev pub with_packet : Hook → List (List ℕ) → Result Said LineError
+with_packet hook fields = with_job (work_of (before_two fields)) (λ line.
+    packet_for (hook, field_at (last_two fields) 1) line line.context)
+
+-- a line about a program or a job, which may have a packet at its end
+abbrev pub packeted_of : List (List ℕ) → Result Said LineError
+packeted_of fields =
+    if has_form xdp_form (last_two fields) then with_packet Xdp fields
+    else (if has_form tc_form (last_two fields) then with_packet Tc fields
+    else work_of fields)
+
+-- and a time after that
 abbrev pub timed_of : List (List ℕ) → Result Said LineError
 timed_of fields =
-    if has_form time_form (last_two fields) then with_job (work_of (before_two fields)) (λ line.
+    if has_form time_form (last_two fields) then with_job (packeted_of (before_two fields)) (λ line.
     with_number (last_number fields) (λ n. Ok (Job (record line { time = Some n }))))
-    else work_of fields
+    else packeted_of fields
 
 -- and a seed after that
 abbrev pub seeded_of : List (List ℕ) → Result Said LineError
@@ -266,12 +287,16 @@ statement_of version fields =
 
 -- ---- what a reader answers
 
+abbrev pub packet_said : PacketLine → Hook × List ℕ
+packet_said p = (p.hook, p.digits.now)
+
 abbrev pub job_line : JobLine → JobSaid
 job_line j = record {
   cpu = j.cpu;
   program = j.program.now;
   budget = j.budget;
   context = option_copied j.context;
+  packet = option_map packet_said j.packet;
   time = j.time;
   seed = j.seed;
 }

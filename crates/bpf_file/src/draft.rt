@@ -9,8 +9,8 @@ ghost use Rattle.bpf_names.specs.Names.{variable_of};
 ghost use Rattle.bpf_file.specs.File.{named_by};
 ghost use Rattle.bpf_file.specs.Parts.{Between, nothing, is_full, is_taken, array_place, with_map, with_array, with_data, with_variable, with_program, with_job};
 ghost use Rattle.bpf_file.specs.Reading.{FieldsSay, finished};
-ghost use Rattle.bpf_file.specs.Rows.{first_said, later_said, may_stand, placed, map_refusal, array_refusal, data_refusal, name_refusal, place_refusal, served, context_of, given_by};
-ghost use Rattle.bpf_file.specs.Statement.{job_line, said_by, statement_of};
+ghost use Rattle.bpf_file.specs.Rows.{first_said, later_said, may_stand, placed, map_refusal, array_refusal, data_refusal, name_refusal, place_refusal, served, context_of, around_packet, input_said, given_by};
+ghost use Rattle.bpf_file.specs.Statement.{job_line, packet_said, said_by, statement_of};
 ghost use Rattle.bpf_file.specs.Statement as says;
 ghost use Rattle.bpf_file.specs.declared.statement.Statement.TheVariants as statement_kind;
 ghost use Rattle.bpf_file.specs.Private.Answers.{OrMemory};
@@ -19,18 +19,19 @@ ghost use Rattle.bpf_file.specs.Private.Fits.{IsFit};
 ghost use Rattle.bpf_text.specs.Symbols.{table_of};
 ghost use Rattle.bpf_file.specs.Programs.{OfAssembly};
 ghost use Rattle.bpf_file.specs.Symbols.{names_for};
-ghost use Rattle.bpf_file.specs.Private.Drafts.{part_of, said_in, after, Added, HasContext, IsShortSaid, Ends, closed, file_answer};
+ghost use Rattle.bpf_file.specs.Private.Drafts.{part_of, said_in, after, Added, HasContext, IsBrief, IsShortSaid, Ends, closed, file_answer};
 
 use crate::error::{FileError, Reason};
 use crate::file::RunFile;
 use crate::line::LineError;
+use crate::packet::{self, PacketLine};
 use crate::statement::{self, DataLine, JobLine, Statement, VariableLine};
 use crate::version::Version;
 use crate::{contents, form, group, program, symbols, variable};
 use bpf_base::DEFAULT_BUDGET;
 use bpf_cpu::{Given, Input, Job, Setup};
 use bpf_loader::{Named, Program};
-use bpf_mem::Context;
+use bpf_mem::{Context, Packet};
 use bpf_names::{Names, Variable};
 use bpf_pairs::Pair;
 use bpf_shared::{ArrayShape, MapShape, ShapeError, Size, StoreShape};
@@ -119,6 +120,29 @@ pub(crate) fn decoded(alloc: Global, line: usize, digits: &[u8]) -> Result<Vec<u
         Ok(bytes) => Ok(bytes),
         Err(FromHexError::OutOfMemory) => Err(FileError::OutOfMemory),
         Err(_) => Err(FileError::Refused(line, Reason::NotHex)),
+    }
+}
+
+/// A packet as a job's input, with its context.
+fn around_packet(
+    alloc: Global,
+    line: usize,
+    given: Given,
+    cpu: u8,
+    packet: PacketLine<'_>,
+) -> Result<Input, FileError>
+    requires brief { IsBrief (Some (packet_said packet.entry)) }
+    ensures { HasContext (λ i. i) line (around_packet given packet.entry.hook cpu
+        (decode_of packet.entry.digits.now)) result }
+{
+    let bytes = decoded(alloc, line, packet.digits)?;
+    match packet::context(alloc, packet.hook, cpu, &bytes) {
+        Ok(context) => Ok(Input {
+            context: Context::new(context),
+            packet: Packet::new(bytes),
+            given,
+        }),
+        Err(_) => Err(FileError::OutOfMemory),
     }
 }
 
@@ -572,6 +596,33 @@ impl<'a> Draft<'a> {
         }
     }
 
+    /// All that the next job is given, on this CPU.
+    fn input(
+        &self,
+        alloc: Global,
+        line: usize,
+        cpu: u8,
+        job: JobLine<'_>,
+    ) -> Result<Input, FileError>
+        requires { IsShortSaid (said_by (statement_kind.Job job.entry)) }
+        ensures { HasContext (λ i. i) line (input_said (length (part_of self.now).file.jobs) cpu
+            (job_line job.entry)) result }
+    {
+        let given = self.given(job);
+        match job.packet {
+            Some(packet) => around_packet(alloc, line, given, cpu, packet),
+            None => {
+                let context = Context::new(context_of(alloc, line, job.context)?);
+                let packet = Packet::new(Vec::new(alloc));
+                Ok(Input {
+                    context,
+                    packet,
+                    given,
+                })
+            }
+        }
+    }
+
     /// `job CPU NAME ..`
     fn add_job(
         &mut self,
@@ -589,14 +640,12 @@ impl<'a> Draft<'a> {
         let Some(program) = group::place_of(job.program, &self.titles) else {
             return Err(FileError::Refused(line, Reason::Unknown));
         };
-        let bytes = context_of(alloc, line, job.context)?;
-        let context = Context::new(bytes);
-        let given = self.given(job);
+        let input = self.input(alloc, line, cpu, job)?;
         self.push_job(Job {
             cpu,
             program,
             budget: job.budget.unwrap_or(DEFAULT_BUDGET),
-            input: Input { context, given },
+            input,
         })?;
         Ok(Next::Line)
     }

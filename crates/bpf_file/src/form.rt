@@ -6,6 +6,7 @@ ghost use Rattle.bpf_file.specs.Form.{is_number, is_part, has_form, field_at};
 use crate::key::Key;
 use bpf_lines::words::{self, NumberError};
 use bpf_mem::context::MAX_CONTEXT;
+use bpf_mem::packet::MAX_PACKET;
 
 /// What a field of a line has to be.
 #[derive(Clone, Copy)]
@@ -16,6 +17,8 @@ pub enum Part {
     Number,
     /// Hex digits, which are looked at when the context is made; 4,096 bytes at most.
     Context,
+    /// Hex digits, as many as of 16,384 bytes at most.
+    Packet,
     /// Hex digits of a program, an array or a map, of any length; an index; a name with one, a size,
     /// or numbers.
     Words,
@@ -210,6 +213,12 @@ pub const JOB_WITH_BOTH: [Part; 7] = [
     Part::Context,
 ];
 
+/// `xdp DIGITS`, at the end of a job, in version 3.
+pub const XDP: [Part; 2] = [Part::Word(Key::Xdp), Part::Packet];
+
+/// `tc DIGITS`, likewise.
+pub const TC: [Part; 2] = [Part::Word(Key::Tc), Part::Packet];
+
 /// `time N` at the end of a job's line, in version 3.
 pub const TIME: [Part; 2] = [Part::Word(Key::Time), Part::Number];
 
@@ -243,6 +252,7 @@ impl Part {
             Part::Name => is_name(field),
             Part::Number => is_number(field),
             Part::Context => field.len() <= 2 * MAX_CONTEXT,
+            Part::Packet => field.len() <= 2 * MAX_PACKET,
             Part::Words => true,
         }
     }

@@ -44,6 +44,10 @@ pub enum Key {
     Job,
     Budget,
     Context,
+    /// Before a packet of a card's queue.
+    Xdp,
+    /// Before a packet of a traffic filter.
+    Tc,
     /// Before the time at which a job runs.
     Time,
     /// Before the seed of a job's random numbers.
@@ -84,6 +88,8 @@ impl Key {
             Key::Job => "job",
             Key::Budget => "budget",
             Key::Context => "ctx",
+            Key::Xdp => "xdp",
+            Key::Tc => "tc",
             Key::Time => "time",
             Key::Random => "random",
             Key::End => "end",

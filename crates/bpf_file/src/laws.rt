@@ -13,7 +13,7 @@ pub fn files_are_determined()
     bpf_text::laws::named_texts_are_determined();
 }
 
-/// A machine can be made of every file that a text says: its jobs wait with short contexts, each on
+/// A machine can be made of every file that a text says: its jobs wait with short inputs, each on
 /// a CPU and with a program of the file, and each program was loaded for the file's maps and
 /// arrays.
 pub fn files_can_run()

@@ -11,6 +11,7 @@ mod group;
 mod key;
 pub mod laws;
 mod line;
+mod packet;
 mod program;
 mod putting;
 mod reader;

@@ -5,9 +5,10 @@ ghost use Rattle.std.specs.List.{after_first, before_first};
 ghost use Rattle.std.specs.Option.{option_copied};
 ghost use Rattle.bpf_lines.specs.Words.{written_number};
 ghost use Rattle.bpf_file.specs.Form.{field_at};
-ghost use Rattle.bpf_file.specs.Statement.{limited, count_at, held_at, Says, cpus_said, seed_said, map_said, masked_said, array_said, data_said, variable_at, variable_said, put_said, is_open, closed, key_number, size_named, numbers_said, job_said, budgeted_said, work_of, last_two, before_two, timed_of, seeded_of, arrays_of, growing_of, statement_of};
+ghost use Rattle.bpf_file.specs.Statement.{limited, count_at, held_at, Says, cpus_said, seed_said, map_said, masked_said, array_said, data_said, variable_at, variable_said, put_said, is_open, closed, key_number, size_named, numbers_said, job_said, budgeted_said, work_of, last_two, before_two, with_packet, packeted_of, timed_of, seeded_of, arrays_of, growing_of, statement_of};
 
 use crate::line::LineError;
+use crate::packet::{Hook, PacketLine};
 use crate::version::Version;
 use crate::{form, variable};
 use bpf_base::MAX_BUDGET;
@@ -95,6 +96,8 @@ pub struct JobLine<'a> {
     pub budget: Option<u64>,
     /// The context's bytes as hex digits, where the line has them.
     pub context: Option<&'a [u8]>,
+    /// The packet, where the line has one in the place of a context.
+    pub packet: Option<PacketLine<'a>>,
     /// The time at which it runs, where the line says it.
     pub time: Option<u64>,
     /// The seed of its random numbers, where the line says it.
@@ -377,6 +380,7 @@ fn job<'a>(
         program: form::field_at(fields, 2),
         budget,
         context,
+        packet: None,
         time: None,
         seed: None,
     }))
@@ -422,15 +426,49 @@ fn split_two<'a, 'b>(fields: &'b [&'a [u8]]) -> (&'b [&'a [u8]], &'b [&'a [u8]])
     fields.split_at(fields.len().saturating_sub(2))
 }
 
-/// A line about a program or a job, which may have a time at its end.
+/// A job with the packet at the end of its line, in the place of a context.
+fn with_packet<'a>(hook: Hook, fields: &[&'a [u8]]) -> Result<Statement<'a>, LineError>
+    ensures { Says result (with_packet hook (map (λ f. f.now) fields.now)) }
+{
+    let (before, last) = split_two(fields);
+    match work(before)? {
+        Statement::Job(job) => {
+            if job.context.is_some() {
+                return Err(LineError::BadForm);
+            }
+            let digits = form::field_at(last, 1);
+            Ok(Statement::Job(JobLine {
+                packet: Some(PacketLine { hook, digits }),
+                ..job
+            }))
+        }
+        _ => Err(LineError::BadForm),
+    }
+}
+
+/// A line about a program or a job, which may have a packet at its end.
+fn packeted<'a>(fields: &[&'a [u8]]) -> Result<Statement<'a>, LineError>
+    ensures { Says result (packeted_of (map (λ f. f.now) fields.now)) }
+{
+    let (_, last) = split_two(fields);
+    if form::has_form(&form::XDP, last) {
+        with_packet(Hook::Xdp, fields)
+    } else if form::has_form(&form::TC, last) {
+        with_packet(Hook::Tc, fields)
+    } else {
+        work(fields)
+    }
+}
+
+/// And a time after that.
 fn timed<'a>(fields: &[&'a [u8]]) -> Result<Statement<'a>, LineError>
     ensures { Says result (timed_of (map (λ f. f.now) fields.now)) }
 {
     let (before, last) = split_two(fields);
     if !form::has_form(&form::TIME, last) {
-        return work(fields);
+        return packeted(fields);
     }
-    match work(before)? {
+    match packeted(before)? {
         Statement::Job(job) => {
             let time = count_at(last, 1, u64::MAX)?;
             Ok(Statement::Job(JobLine {

@@ -15,7 +15,7 @@ use crate::arrays::is_in_array;
 use crate::held::HeldSpans;
 use arrayvec::ArrayVec;
 use bpf_base::bytes::load_word;
-use bpf_mem::context::MAX_CONTEXT;
+use bpf_mem::packet::MAX_PACKET;
 use bpf_mem::{Place, PrivateMemory};
 use bpf_shared::{Shared, Size, ValuePlace};
 
@@ -48,16 +48,17 @@ pub(crate) fn own_bytes(memory: &PrivateMemory, at: u64, count: usize) -> Option
 }
 
 /// Where some bytes from an address on lie in the CPU's own memory, none of whose parts is longer
-/// than a context.
+/// than a packet.
 fn locate_own(memory: &PrivateMemory, at: u64, count: usize) -> Option<Place>
     requires { 1 ≤ count }
     ensures found { is_some result ≡ is_some (bytes_at memory.now at count) }
     ensures address { IfSome result (λ p. address_of p ≡ at) }
     ensures within { IfSome result (λ p. IsWithin memory.now p count) }
 {
-    if count > MAX_CONTEXT {
+    if count > MAX_PACKET {
         let _frames = memory.frames.depth();
         let _context = memory.context.bytes();
+        let _packet = memory.packet.bytes();
         return None;
     }
     memory.locate_bytes(at, count)

@@ -11,6 +11,7 @@ use Rattle.bpf_machine.specs.declared.machine.lane.Phase.TheVariants as phase
 use Rattle.bpf_machine.specs.declared.machine.lane.Hand.{Hand}
 use Rattle.bpf_machine.specs.declared.machine.lane.Lane.{Lane}
 use Rattle.bpf_helpers.specs.Held.{AreHeld}
+use Rattle.bpf_cpu.specs.Input.{IsShort}
 use Rattle.bpf_cpu.specs.declared.input.Input.{Input}
 use Rattle.bpf_cpu.specs.Task.{Stage, Task}
 use Rattle.bpf_machine.specs.Hands.{with_stage}
@@ -78,7 +79,7 @@ module _ (serves serves' running running' : ℕ → Bool) (reach reach' : ℕ �
   -- ---- it is kept
   module _ (serves_same : serves' ≡ serves) (elsewhere : (d : ℕ) → d ≢ c → running' d ≡ running d) (runs : running' c ≡ is_some l'.hand)
       (unreached : (d : ℕ) → d ≢ c → reach' d ≡ reach d) (held : (h : Hand) → l'.hand ≡ Some h → AreHeld (reach' c) h.cpu.held)
-      (fits : FitsLane l' j e'.phase) (short : (v : Input) → e'.phase ≡ phase.Waiting v → length v.context ≤ 4096)
+      (fits : FitsLane l' j e'.phase) (short : (v : Input) → e'.phase ≡ phase.Waiting v → IsShort v)
       (hand : (h : Hand) → l'.hand ≡ Some h → IsHand programs (slice_set jobs j e') c h)
       (next : (x : Listed) → slice_get jobs l'.next ≡ Some x → x.cpu ≡ c) (inside : l'.next ≤ length jobs) where
     listed_here : IsListed serves' programs (slice_set lanes c l') j e'

@@ -33,12 +33,12 @@ with_one (f ∷ fs) (t ∷ ts) (suc j) task stage at step come = (come.0, with_o
 begun : (first task : Task) (c : ℕ) (input : Input) → task.cpu ≡ c → task.stage ≡ Waiting input → ComesFrom first task → ComesFrom first (record task { stage = InHand (start c input) task.budget })
 begun first task c input of is come =
     let waits : input ≡ input_of first.stage = subst (λ (s : Stage). IsStageOf first.cpu (input_of first.stage) s) is come.stage in
-    record { cpu = come.cpu; program = come.program; budget = come.budget; stage = (sym of ∙ come.cpu, ap (λ (i : Input). length i.context) waits, ap (λ (i : Input). i.given) waits) }
+    record { cpu = come.cpu; program = come.program; budget = come.budget; stage = (sym of ∙ come.cpu, ap (λ (i : Input). length i.context) waits, ap (λ (i : Input). i.given) waits, ap (λ (i : Input). length i.packet) waits) }
 
 gone_on : (first task : Task) (state later : Cpu) (left rest : ℕ) → task.stage ≡ InHand state left → IsOfOneJob state later → ComesFrom first task → ComesFrom first (record task { stage = InHand later rest })
 gone_on first task state later left rest is one come =
     let was : IsStageOf first.cpu (input_of first.stage) (InHand state left) = subst (λ (s : Stage). IsStageOf first.cpu (input_of first.stage) s) is come.stage in
-    record { cpu = come.cpu; program = come.program; budget = come.budget; stage = (one.0 ∙ was.0, one.1 ∙ was.1, one.2 ∙ was.2) }
+    record { cpu = come.cpu; program = come.program; budget = come.budget; stage = (one.0 ∙ was.0, one.1 ∙ was.1, one.2 ∙ was.2, one.3 ∙ was.3) }
 
 -- ---- turns
 pub begins_same : (old new : MachineState) (c j : ℕ) → BeginsJob old c j new → ComeFromSame old.jobs new.jobs
@@ -58,15 +58,15 @@ any_store : Plain
 any_store = as_made (without_arrays 0 [])
 
 advanced : (program : Loaded) (c : ℕ) (s t : Plain) (old new : Cpu) (left rest : ℕ) → Advances program c s old left None t new rest → IsOfOneJob old new
-advanced program c s t old new zero rest made = (let P : Cpu → Type 0 = IsOfOneJob old in subst P (sym made.2) (refl, refl, refl))
+advanced program c s t old new zero rest made = (let P : Cpu → Type 0 = IsOfOneJob old in subst P (sym made.2) (refl, refl, refl, refl))
 advanced program c s t old new (suc left) rest made = step_keeps old new made.1 s.shape program made.0 made.2
 
 quiet : (n : ℕ) (program : Loaded) (c : ℕ) (old new : Cpu) (left rest : ℕ) → TakesQuietTurns program c n old left new rest → IsOfOneJob old new
-quiet zero program c old new left rest made = (let P : Cpu → Type 0 = IsOfOneJob old in subst P (sym made.0) (refl, refl, refl))
+quiet zero program c old new left rest made = (let P : Cpu → Type 0 = IsOfOneJob old in subst P (sym made.0) (refl, refl, refl, refl))
 quiet (suc n) program c old new left rest (mid, more, steps, made) =
     let first = advanced program c any_store any_store old mid left more (steps any_store) in
     let last = quiet n program c mid new more rest made in
-    (last.0 ∙ first.0, last.1 ∙ first.1, last.2 ∙ first.2)
+    (last.0 ∙ first.0, last.1 ∙ first.1, last.2 ∙ first.2, last.3 ∙ first.3)
 
 pub ahead_same : (old new : MachineState) (c : ℕ) (h : Headway) → RunsAhead old c h new → ComeFromSame old.jobs new.jobs
 ahead_same old new c Idle ran first come = subst (λ (m : MachineState). ComeFrom first m.jobs) (sym ran.0) come
@@ -120,4 +120,4 @@ pub refilled_same : (old new : MachineState) (c : ℕ) → IsRefilled old c new 
 refilled_same old new c (inl (free, same)) first come = subst (λ (m : MachineState). ComeFrom first m.jobs) (sym same) come
 refilled_same old new c (inr (j, (task, state, left, more, at, enough, is))) first come =
     subst (λ (m : MachineState). ComeFrom first m.jobs) (sym is)
-    (with_one first old.jobs j task (InHand state (left + more)) at.listed (λ f from. gone_on f task state state left (left + more) at.at (refl, refl, refl) from) come)
+    (with_one first old.jobs j task (InHand state (left + more)) at.listed (λ f from. gone_on f task state state left (left + more) at.at (refl, refl, refl, refl) from) come)

@@ -12,6 +12,7 @@ use Rattle.bpf_shared.proofs.Soundness.{allowed_sound}
 use Rattle.bpf_loader.specs.Loaded.{Loaded}
 use Rattle.bpf_loader.specs.Laws.{OneInstructionBegins}
 use Rattle.bpf_mem.specs.Laws.{IsMemory, WritesAreDetermined}
+use Rattle.bpf_cpu.specs.Input.{IsShort}
 use Rattle.bpf_cpu.specs.declared.cpu.Cpu.{Cpu}
 use Rattle.bpf_cpu.specs.declared.input.Input.{Input}
 use Rattle.bpf_machine.specs.declared.machine.Turn.{Turn}
@@ -32,7 +33,7 @@ pub record IsWorld (w : World) : Type 0 where
   pub store : IsSoundStore w.store
   pub memory : (c j : ℕ) (task : Task) (state : Cpu) (left : ℕ) → IsAt w.jobs c j task (InHand state left) → IsMemory state.memory
   pub one : (c j k : ℕ) (task other : Task) (state now : Cpu) (left rest : ℕ) → IsAt w.jobs c j task (InHand state left) → IsAt w.jobs c k other (InHand now rest) → j ≡ k
-  pub short : (c j : ℕ) (task : Task) (input : Input) → IsAt w.jobs c j task (Waiting input) → length input.context ≤ 4096
+  pub short : (c j : ℕ) (task : Task) (input : Input) → IsAt w.jobs c j task (Waiting input) → IsShort input
 
 -- a job in two stages is in one
 pub same_stage : (jobs : List Task) (c j : ℕ) (task other : Task) (stage now : Stage) → IsAt jobs c j task stage → IsAt jobs c j other now → (task ≡ other) × (stage ≡ now)
@@ -173,7 +174,7 @@ module _ (law : WritesAreDetermined) (begins : OneInstructionBegins) (replies : 
       memory d k t state left (Same e of now) = settled.kept state left (sym now)
       memory d k t state left (Other ne h) = world.memory d k t state left h
 
-      short : (d k : ℕ) (t : Task) (input : Input) → Changed w.jobs c j settled.stage d k t (Waiting input) → length input.context ≤ 4096
+      short : (d k : ℕ) (t : Task) (input : Input) → Changed w.jobs c j settled.stage d k t (Waiting input) → IsShort input
       short d k t input (Same e of now) = absurd (settled.waits_not input (sym now))
       short d k t input (Other ne h) = world.short d k t input h
 
@@ -315,7 +316,7 @@ module _ (law : WritesAreDetermined) (begins : OneInstructionBegins) (replies : 
         let waits = fresh.waits j task h.listed in
         let both : Waiting waits.0 ≡ Waiting input = sym waits.1 ∙ h.at in
         let same : waits.0 ≡ input = cc in
-        subst (λ (i : Input). length i.context ≤ 4096) same waits.2;
+        subst (λ (i : Input). IsShort i) same waits.2;
   }
 
   pub schedules_are_determined : SchedulesAreDetermined

@@ -6,6 +6,7 @@ use Rattle.std.proofs.lemmas.List.Elements.{All-get_or}
 use Rattle.std.proofs.lemmas.Option.{slice_get-map, slice_get_within, get_or_from_slice_get}
 use Rattle.bpf_shared.specs.declared.events.Span.{Span}
 use Rattle.bpf_loader.specs.Loaded.{Loaded}
+use Rattle.bpf_cpu.specs.Input.{IsShort}
 use Rattle.bpf_cpu.specs.declared.input.Input.{Input}
 use Rattle.bpf_cpu.specs.declared.job.Job.{Job}
 use Rattle.bpf_machine.specs.declared.machine.lane.Listed.{Listed}
@@ -40,7 +41,7 @@ module _ (serves running : ℕ → Bool) (reach : ℕ → Span → Bool) (progra
 
   module _ (cpus : ℕ) (count : length lanes ≡ cpus) (none : (c : ℕ) → c < cpus → (lane_of lanes c).hand ≡ None) (first : (c : ℕ) → c < cpus → IsFirstJob list c 0 (lane_of lanes c).next)
       (idle : (c : ℕ) → running c ≡ false) (below : All (λ job. job.cpu < cpus) jobs) (served : All (λ job. serves job.cpu ≡ true) jobs)
-      (loaded : All (λ job. job.program < length programs) jobs) (short : All (λ job. length job.input.context ≤ 4096) jobs) where
+      (loaded : All (λ job. job.program < length programs) jobs) (short : All (λ job. IsShort job.input) jobs) where
     each_job : (k : ℕ) (x : Listed) → slice_get list k ≡ Some x → IsListed serves programs lanes k x
     each_job k x at =
         let j = listed_at jobs k x (subst (λ (xs : List Listed). slice_get xs k ≡ Some x) is at) in
@@ -58,7 +59,7 @@ module _ (serves running : ℕ → Bool) (reach : ℕ → Span → Bool) (progra
           short = λ v waits. (
               let two : phase.Waiting job.input ≡ phase.Waiting v = waits in
               let one : job.input ≡ v = cc in
-              subst (λ (u : Input). length u.context ≤ 4096) one (all_at (λ (y : Job). length y.input.context ≤ 4096) jobs k job short j.1));
+              subst (λ (u : Input). IsShort u) one (all_at (λ (y : Job). IsShort y.input) jobs k job short j.1));
         })
 
     each_lane : (c : ℕ) → c < length lanes → IsLane running reach programs list c (lane_of lanes c)

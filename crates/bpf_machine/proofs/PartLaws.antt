@@ -7,6 +7,7 @@ use Rattle.bpf_base.proofs.Lists.{same_elements}
 use Rattle.bpf_shared.proofs.Puts.{equal_or_not}
 use Rattle.bpf_plain.specs.PlainStore.{Contents, has_cpu, is_running, held_spans}
 use Rattle.bpf_loader.specs.Loaded.{Loaded}
+use Rattle.bpf_cpu.specs.Input.{IsShort}
 use Rattle.bpf_cpu.specs.declared.cpu.Cpu.{Cpu}
 use Rattle.bpf_cpu.specs.declared.input.Input.{Input}
 use Rattle.bpf_machine.specs.declared.machine.lane.Listed.{Listed}
@@ -139,10 +140,10 @@ module _ (store : Contents) (programs : List Loaded) (parts : List Task) (number
     shown k (phase.Ended end) (InHand state left) within of is same = absurd same
 
   -- ---- the jobs
-  short : (k : ℕ) (x : Listed) (s : Stage) (v : Input) → k < length numbers → (chosen_at parts numbers k).stage ≡ s → IsPhaseOf s x.phase → x.phase ≡ phase.Waiting v → length v.context ≤ 4096
+  short : (k : ℕ) (x : Listed) (s : Stage) (v : Input) → k < length numbers → (chosen_at parts numbers k).stage ≡ s → IsPhaseOf s x.phase → x.phase ≡ phase.Waiting v → IsShort v
   short k x (Waiting input) v within is same waits =
       let there : IsPhaseOf (Waiting input) (phase.Waiting v) = subst (λ (p : Phase). IsPhaseOf (Waiting input) p) waits same in
-      subst (λ (i : Input). length i.context ≤ 4096) (sym there) (stands.short (chosen_at parts numbers k).cpu k (chosen_at parts numbers k) input (is_at (chosen_at parts numbers k).cpu k (Waiting input) within refl is))
+      subst (λ (i : Input). IsShort i) (sym there) (stands.short (chosen_at parts numbers k).cpu k (chosen_at parts numbers k) input (is_at (chosen_at parts numbers k).cpu k (Waiting input) within refl is))
   short k x (InHand state left) v within is same waits = absurd (subst (λ (p : Phase). IsPhaseOf (InHand state left) p) waits same)
   short k x (Ended outcome) v within is same waits = absurd (subst (λ (p : Phase). IsPhaseOf (Ended outcome) p) waits same)
 

@@ -61,7 +61,7 @@ stages_told cpu input (InHand s l) (InHand t m) rest more h k e =
     let is = behind 1 1 (words_saved 0 (l ∷ []) ++ (cpu_saved s ++ rest)) (words_saved 0 (m ∷ []) ++ (cpu_saved t ++ more)) (sym (on s l rest) ∙ (e ∙ on t m more)) in
     let a = words_prefix 0 (l ∷ []) (m ∷ []) (cpu_saved s ++ rest) (cpu_saved t ++ more) refl (one_fits l h.0) (one_fits m k.0) is in
     let left : l ≡ m = first l m [] [] a.0 in
-    let b = cpus_told s t rest more h.2 k.2 (h.1.0 ∙ sym k.1.0, h.1.1 ∙ sym k.1.1, h.1.2 ∙ sym k.1.2) a.1 in
+    let b = cpus_told s t rest more h.2 k.2 (h.1.0 ∙ sym k.1.0, h.1.1 ∙ sym k.1.1, h.1.2 ∙ sym k.1.2, h.1.3 ∙ sym k.1.3) a.1 in
     (ap (λ (c : Cpu). InHand c l) b.0 ∙ ap (λ (n : ℕ). InHand t n) left, b.1)
 stages_told cpu input (InHand s l) (Ended o) rest more h k e = let n = first 1 2 (words_saved 0 (l ∷ []) ++ (cpu_saved s ++ rest)) (outcome_saved o ++ more) (sym (on s l rest) ∙ e) in absurd (omega arith)
 stages_told cpu input (Ended o) (Waiting b) rest more h k e = let n = first 2 0 (outcome_saved o ++ rest) more e in absurd (omega arith)

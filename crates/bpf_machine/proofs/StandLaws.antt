@@ -8,6 +8,7 @@ use Rattle.std.proofs.lemmas.Option.{slice_get_read}
 use Rattle.bpf_plain.specs.PlainStore.{Contents, has_cpu, is_running, held_spans}
 use Rattle.bpf_loader.specs.Loaded.{Loaded}
 use Rattle.bpf_helpers.specs.Held.{AreHeld}
+use Rattle.bpf_cpu.specs.Input.{IsShort}
 use Rattle.bpf_cpu.specs.declared.cpu.Cpu.{Cpu}
 use Rattle.bpf_cpu.specs.declared.input.Input.{Input}
 use Rattle.bpf_cpu.specs.Step.{IsReady}
@@ -37,10 +38,10 @@ module _ (store : Contents) (programs : List Loaded) (jobs : List Listed) (lanes
       let b = behind jobs lanes task.cpu j task task.stage (record { listed = at; of = refl; at = refl }) in
       subst (λ (t : Task). t.program < length programs) (sym b.shown) (board.each_job j b.job b.listed).program
 
-  short : (c j : ℕ) (task : Task) (input : Input) → IsAt m.jobs c j task (Waiting input) → length input.context ≤ 4096
+  short : (c j : ℕ) (task : Task) (input : Input) → IsAt m.jobs c j task (Waiting input) → IsShort input
   short c j task input at =
       let w = waits_at (has_cpu store) (is_running store) (held_spans store) programs jobs lanes board c j task input at in
-      subst (λ (i : Input). length i.context ≤ 4096) w.waits.2 ((board.each_job j w.job w.listed).short w.waits.0 w.waits.1)
+      subst (λ (i : Input). IsShort i) w.waits.2 ((board.each_job j w.job w.listed).short w.waits.0 w.waits.1)
 
   hand : (c j : ℕ) (task : Task) (state : Cpu) (left : ℕ) → IsAt m.jobs c j task (InHand state left) → FitsHand m c task state
   hand c j task state left at =

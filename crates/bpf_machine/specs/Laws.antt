@@ -3,6 +3,7 @@
 use Rattle.std.specs.Prelude.{◌≡◌, ℕ, ◌≤◌, List, ◌++◌, Some, length, slice_get}
 use Rattle.bpf_shared.specs.Sound.{IsSoundStore}
 use Rattle.bpf_mem.specs.Limits.{max_context}
+use Rattle.bpf_cpu.specs.Input.{IsShort}
 use Rattle.bpf_cpu.specs.declared.input.Input.{Input}
 use Rattle.bpf_cpu.specs.Task.{Stage, Task, Waiting}
 use Rattle.bpf_machine.specs.Schedule.{World, RunsSchedule}
@@ -14,7 +15,7 @@ use Rattle.bpf_machine.specs.Happenings.{Happening, RunsByWith}
 pub record IsFresh (w : World) : Type 0 where
   pub store : IsSoundStore w.store
   pub waits : (j : ℕ) (task : Task) → slice_get w.jobs j ≡ Some task
-      → (input : Input) × (task.stage ≡ Waiting input) × (length input.context ≤ max_context)
+      → (input : Input) × (task.stage ≡ Waiting input) × (IsShort input)
 
 -- a schedule has one run
 abbrev pub SchedulesAreDetermined : Type 0

@@ -7,7 +7,7 @@ use Rattle.bpf_loader.specs.Loaded.{Loaded}
 use Rattle.bpf_helpers.specs.Held.{AreHeld}
 use Rattle.bpf_cpu.specs.declared.cpu.Cpu.{Cpu}
 use Rattle.bpf_cpu.specs.declared.input.Input.{Input}
-use Rattle.bpf_cpu.specs.Input.{no_input}
+use Rattle.bpf_cpu.specs.Input.{IsShort, no_input}
 use Rattle.bpf_cpu.specs.Step.{IsReady}
 use Rattle.bpf_cpu.specs.Task.{Task, Waiting, InHand}
 use Rattle.bpf_machine.specs.Hands.{IsAt, IsFree}
@@ -31,7 +31,7 @@ pub record CanStand (m : MachineState) : Type 0 where
   pub loaded : (j : ℕ) (task : Task) → slice_get m.jobs j ≡ Some task
       → task.program < length m.programs
   pub short : (c j : ℕ) (task : Task) (input : Input) → IsAt m.jobs c j task (Waiting input)
-      → length input.context ≤ max_context
+      → IsShort input
   pub hand : (c j : ℕ) (task : Task) (state : Cpu) (left : ℕ)
       → IsAt m.jobs c j task (InHand state left) → FitsHand m c task state
   pub one : (c j k : ℕ) → HasInHand m.jobs c j → HasInHand m.jobs c k → j ≡ k

@@ -82,6 +82,7 @@ pub struct Machine {
 }
 
 impl Model for Machine {
+    ghost use Rattle.bpf_cpu.specs.Input.{IsShort};
     ghost use Rattle.bpf_machine.specs.Machine.{MachineState};
 
     ghost Value = { MachineState };
@@ -128,7 +129,7 @@ impl Machine {
         requires idle { (cpu : ℕ) → is_running store cpu ≡ false }
         requires cpus { All (λ job. has_cpu store job.cpu ≡ true) jobs.items }
         requires programs { All (λ job. job.program < vec_len programs) jobs.items }
-        requires contexts { All (λ job. length job.input.context ≤ max_context) jobs.items }
+        requires inputs { All (λ job. IsShort job.input) jobs.items }
         ensures store { IfOk result (λ m. m.store ≡ store) }
         ensures programs { IfOk result (λ m. m.programs ≡ programs.items) }
         ensures jobs { IfOk result (λ m. m.jobs ≡ map waiting jobs.items) }
@@ -150,7 +151,7 @@ impl Machine {
         requires idle { (cpu : ℕ) → is_running store cpu ≡ false }
         requires cpus { All (λ job. has_cpu store job.cpu ≡ true) jobs.items }
         requires programs { All (λ job. job.program < vec_len programs) jobs.items }
-        requires contexts { All (λ job. length job.input.context ≤ max_context) jobs.items }
+        requires inputs { All (λ job. IsShort job.input) jobs.items }
         ensures store { IfOk result (λ m. m.store ≡ store) }
         ensures programs { IfOk result (λ m. m.programs ≡ programs.items) }
         ensures jobs { IfOk result (λ m. m.jobs ≡ map waiting jobs.items) }
@@ -172,7 +173,7 @@ impl Machine {
         requires idle { (cpu : ℕ) → is_running store cpu ≡ false }
         requires cpus { All (λ job. has_cpu store job.cpu ≡ true) jobs.items }
         requires programs { All (λ job. job.program < vec_len programs) jobs.items }
-        requires contexts { All (λ job. length job.input.context ≤ max_context) jobs.items }
+        requires inputs { All (λ job. IsShort job.input) jobs.items }
         ensures store { IfOk result (λ m. m.store ≡ store) }
         ensures programs { IfOk result (λ m. m.programs ≡ programs.items) }
         ensures jobs { IfOk result (λ m. m.jobs ≡ map waiting jobs.items) }

@@ -1,5 +1,5 @@
--- Which byte is at an address, by the three parts of the address space: below the context, from the context to
--- the stack, and the stack's strides.
+-- Which byte is at an address, by the parts of the address space: below the packet, from the packet to the context, from
+-- the context to the stack, and the stack's strides.
 use Rattle.std.proofs.Common.{◌≡◌, ℕ, zero, suc, ◌+◌, ◌-◌, ◌<◌, ◌≤◌, List, [], ◌∷◌, length, refl, ap, ◌∙◌, arith, nat_lt, false, get_or, ◌++◌, inl, inr, ◌⊎◌}
 use Rattle.std.specs.Prelude.{All, Option, Some, None, option_and_then, slice_get}
 use Rattle.std.specs.Option.{option_or}
@@ -7,8 +7,8 @@ use Rattle.std.proofs.lemmas.Option.{slice_get_past, slice_get-get_or}
 use Rattle.std.proofs.lemmas.Bool.{cases_lt}
 use Rattle.std.proofs.lemmas.Bool.Decides.{nat_tests}
 use Rattle.bpf_mem.specs.declared.memory.PrivateMemory.{PrivateMemory}
-use Rattle.bpf_mem.specs.Limits.{max_context, frame_bytes}
-use Rattle.bpf_mem.specs.Addresses.{context_base, frame_base}
+use Rattle.bpf_mem.specs.Limits.{max_context, max_packet, frame_bytes}
+use Rattle.bpf_mem.specs.Addresses.{context_base, frame_base, packet_base}
 use Rattle.bpf_mem.specs.Memory.{Area, frame_areas, byte_in, byte_among, byte_at}
 
 -- a test by cases
@@ -89,11 +89,23 @@ context_byte m a = byte_in record { base = context_base; bytes = m.context } a
 unfoldable pub frame_byte : PrivateMemory → ℕ → Option ℕ
 frame_byte m a = byte_among (frame_areas 0 m.frames.live) a
 
-pub byte_at-parts : (m : PrivateMemory) (a : ℕ) → byte_at m a ≡ option_or (frame_byte m a) (context_byte m a)
-unfolding byte_at frame_byte context_byte
+-- the byte that the packet has at an address
+unfoldable pub packet_byte : PrivateMemory → ℕ → Option ℕ
+packet_byte m a = byte_in record { base = packet_base; bytes = m.packet } a
+
+byte_among-two : (x y : Area) (a : ℕ) → byte_among (x ∷ y ∷ []) a ≡ option_or (byte_in x a) (byte_in y a)
+byte_among-two x y a = first (y ∷ []) (byte_among-first y [] a (byte_among-none a))
+  where
+    first : (others : List Area) → byte_among others a ≡ byte_in y a → byte_among (x ∷ others) a ≡ option_or (byte_in x a) (byte_in y a)
+    unfolding byte_among
+    first others e = rw e refl
+
+pub byte_at-parts : (m : PrivateMemory) (a : ℕ) → byte_at m a ≡ option_or (frame_byte m a) (option_or (context_byte m a) (packet_byte m a))
+unfolding byte_at frame_byte context_byte packet_byte
 byte_at-parts m a =
     let context : Area = record { base = context_base; bytes = m.context } in
-    byte_among-append (frame_areas 0 m.frames.live) (context ∷ []) a ∙ ap (option_or (byte_among (frame_areas 0 m.frames.live) a)) (byte_among-first context [] a (byte_among-none a))
+    let packet : Area = record { base = packet_base; bytes = m.packet } in
+    byte_among-append (frame_areas 0 m.frames.live) (context ∷ packet ∷ []) a ∙ ap (option_or (byte_among (frame_areas 0 m.frames.live) a)) (byte_among-two context packet a)
 
 pub frame_byte-below : (m : PrivateMemory) (a : ℕ) → a < frame_base 0 → frame_byte m a ≡ None
 unfolding frame_byte
@@ -115,13 +127,40 @@ context_byte-at m a o e =
     let context : Area = record { base = context_base; bytes = m.context } in
     byte_in-from context a o e
 
+pub packet_byte-below : (m : PrivateMemory) (a : ℕ) → a < packet_base → packet_byte m a ≡ None
+unfolding packet_byte
+packet_byte-below m a h =
+    let packet : Area = record { base = packet_base; bytes = m.packet } in
+    byte_in-below packet a h
+
+pub packet_byte-at : (m : PrivateMemory) (a o : ℕ) → a ≡ packet_base + o → packet_byte m a ≡ slice_get m.packet o
+unfolding packet_byte
+packet_byte-at m a o e =
+    let packet : Area = record { base = packet_base; bytes = m.packet } in
+    byte_in-from packet a o e
+
+packet_byte-past : (m : PrivateMemory) (a : ℕ) → length m.packet ≤ max_packet → packet_base + max_packet ≤ a → packet_byte m a ≡ None
+packet_byte-past m a brief h =
+    packet_byte-at m a (a - packet_base) (omega arith) ∙ slice_get_past m.packet (a - packet_base) (omega arith)
+
 -- ---- the byte at an address
 
-pub byte_at-below : (m : PrivateMemory) (a : ℕ) → a < context_base → byte_at m a ≡ None
-byte_at-below m a h = rw (byte_at-parts, frame_byte-below m a (omega arith), context_byte-below m a h)
+pub byte_at-below : (m : PrivateMemory) (a : ℕ) → a < packet_base → byte_at m a ≡ None
+byte_at-below m a h = rw (byte_at-parts, frame_byte-below m a (omega arith), context_byte-below m a (omega arith), packet_byte-below m a h)
 
-pub byte_at-context : (m : PrivateMemory) (a o : ℕ) → a ≡ context_base + o → o < 0x100000000 → byte_at m a ≡ slice_get m.context o
-byte_at-context m a o e h = rw (byte_at-parts, frame_byte-below m a (omega arith)) (context_byte-at m a o e)
+pub byte_at-packet : (m : PrivateMemory) (a o : ℕ) → a ≡ packet_base + o → a < context_base → byte_at m a ≡ slice_get m.packet o
+byte_at-packet m a o e h = rw (byte_at-parts, frame_byte-below m a (omega arith), context_byte-below m a h) (packet_byte-at m a o e)
+
+pub byte_at-context : (m : PrivateMemory) (a o : ℕ) → length m.packet ≤ max_packet → a ≡ context_base + o → o < 0x100000000 → byte_at m a ≡ slice_get m.context o
+byte_at-context m a o brief e h =
+    rw (byte_at-parts, frame_byte-below m a (omega arith), packet_byte-past m a brief (omega arith)) (option_or-none (context_byte m a) ∙ context_byte-at m a o e)
+
+-- within the context
+pub byte_at-in_context : (m : PrivateMemory) (a o : ℕ) → a ≡ context_base + o → o < 0x100000000 → o < length m.context → byte_at m a ≡ slice_get m.context o
+byte_at-in_context m a o e h within =
+    let byte : slice_get m.context o ≡ Some (get_or m.context o 0) = slice_get-get_or m.context o 0 within in
+    let found : context_byte m a ≡ Some (get_or m.context o 0) = context_byte-at m a o e ∙ byte in
+    rw (byte_at-parts, frame_byte-below m a (omega arith), found, byte)
 
 -- in a frame
 pub byte_at-frame : (m : PrivateMemory) (a d o : ℕ) → Sized m.frames.live → a ≡ frame_base d + o → d < length m.frames.live → o < 512 → byte_at m a ≡ slice_get (get_or m.frames.live d []) o
@@ -132,11 +171,12 @@ byte_at-frame m a d o sized e live h =
     rw (byte_at-parts, frame_byte-at m a d o sized e (omega arith), found, byte)
 
 -- between two frames, or past the last one
-pub byte_at-gap : (m : PrivateMemory) (a d o : ℕ) → length m.context ≤ max_context → Sized m.frames.live → a ≡ frame_base d + o → o < 0x1000 → (length m.frames.live ≤ d) ⊎ (512 ≤ o) → byte_at m a ≡ None
-byte_at-gap m a d o small sized e h gap =
+pub byte_at-gap : (m : PrivateMemory) (a d o : ℕ) → length m.context ≤ max_context → length m.packet ≤ max_packet → Sized m.frames.live → a ≡ frame_base d + o → o < 0x1000 → (length m.frames.live ≤ d) ⊎ (512 ≤ o) → byte_at m a ≡ None
+byte_at-gap m a d o small brief sized e h gap =
     let context : context_byte m a ≡ None =
     context_byte-at m a (a - context_base) (omega arith) ∙ slice_get_past m.context (a - context_base) (omega arith) in
-    rw (byte_at-parts, frame_byte-at m a d o sized e h, context) (by_le (length m.frames.live) d dead live)
+    let packet : packet_byte m a ≡ None = packet_byte-past m a brief (omega arith) in
+    rw (byte_at-parts, frame_byte-at m a d o sized e h, context, packet) (by_le (length m.frames.live) d dead live)
   where
     dead : length m.frames.live ≤ d → option_or (option_and_then (λ (frame : List ℕ). slice_get frame o) (slice_get m.frames.live d)) None ≡ None
     dead past = rw (slice_get_past m.frames.live d past)

@@ -3,12 +3,12 @@ use Rattle.std.proofs.Common.{◌≡◌, ℕ, zero, suc, ◌+◌, ◌-◌, ◌<�
 use Rattle.std.specs.Prelude.{Option, Some, None, map, option_and_then, option_map, slice_get}
 use Rattle.std.proofs.lemmas.List.{ext_get_or}
 use Rattle.bpf_mem.specs.declared.memory.PrivateMemory.{PrivateMemory}
-use Rattle.bpf_mem.specs.Addresses.{context_base, frame_base}
+use Rattle.bpf_mem.specs.Addresses.{context_base, frame_base, packet_base}
 use Rattle.bpf_mem.specs.Memory.{byte_at, bytes_at, Writes}
 use Rattle.bpf_mem.specs.declared.frames.Caller.{Caller}
 use Rattle.bpf_mem.specs.Laws.{IsMemory, WritesAreDetermined}
 use Rattle.bpf_base.proofs.Lists.{same_elements}
-use Rattle.bpf_mem.proofs.AreaLemmas.{by_le, byte_at-context, byte_at-frame}
+use Rattle.bpf_mem.proofs.AreaLemmas.{by_le, byte_at-context, byte_at-frame, byte_at-packet}
 
 -- ---- the shape stays
 
@@ -30,6 +30,8 @@ stays old new a bytes m w =
     let count : length new.frames.live ≡ length old.frames.live = length-map old.frames.live new.frames.live w.frames in
     let same = w.context in
     let small = m.small in
+    let alike = w.packet in
+    let brief = m.brief in
     record {
       stack = record {
         some = let h = m.stack.some in omega arith;
@@ -38,6 +40,7 @@ stays old new a bytes m w =
         paired = let h = m.stack.paired in ap (λ cs. length cs + 1) w.callers ∙ h ∙ sym count;
       };
       small = omega arith;
+      brief = omega arith;
     }
 
 -- ---- the bytes are the same
@@ -75,10 +78,15 @@ same_bytes old new other a bytes w v b =
 
 -- ---- so the memories are
 
-same_context : (m n : PrivateMemory) → IsMemory m → length m.context ≡ length n.context → ((b : ℕ) → byte_at m b ≡ byte_at n b) → m.context ≡ n.context
-same_context m n sound e each =
+same_packet : (m n : PrivateMemory) → IsMemory m → length m.packet ≡ length n.packet → ((b : ℕ) → byte_at m b ≡ byte_at n b) → m.packet ≡ n.packet
+same_packet m n sound e each =
+    let brief = sound.brief in
+    same_elements 0 m.packet n.packet e (λ k h. sym (byte_at-packet m (packet_base + k) k refl (omega arith)) ∙ each (packet_base + k) ∙ byte_at-packet n (packet_base + k) k refl (omega arith))
+
+same_context : (m n : PrivateMemory) → IsMemory m → IsMemory n → length m.context ≡ length n.context → ((b : ℕ) → byte_at m b ≡ byte_at n b) → m.context ≡ n.context
+same_context m n sound sound' e each =
     let small = sound.small in
-    same_elements 0 m.context n.context e (λ k h. sym (byte_at-context m (context_base + k) k refl (omega arith)) ∙ each (context_base + k) ∙ byte_at-context n (context_base + k) k refl (omega arith))
+    same_elements 0 m.context n.context e (λ k h. sym (byte_at-context m (context_base + k) k sound.brief refl (omega arith)) ∙ each (context_base + k) ∙ byte_at-context n (context_base + k) k sound'.brief refl (omega arith))
 
 same_frames : (m n : PrivateMemory) → IsMemory m → IsMemory n → length m.frames.live ≡ length n.frames.live → ((b : ℕ) → byte_at m b ≡ byte_at n b) → m.frames.live ≡ n.frames.live
 same_frames m n sound sound' e each = ext_get_or [] m.frames.live n.frames.live e frame
@@ -91,13 +99,13 @@ same_frames m n sound sound' e each = ext_get_or [] m.frames.live n.frames.live 
         sym (byte_at-frame m (frame_base d + o) d o sound.stack.sized refl h (omega arith)) ∙ each (frame_base d + o)
         ∙ byte_at-frame n (frame_base d + o) d o sound'.stack.sized refl (omega arith) (omega arith))
 
-memory : List (List ℕ) → List Caller → List ℕ → PrivateMemory
-memory live callers context = record { frames = record { live = live; callers = callers }; context = context }
+memory : List (List ℕ) → List Caller → List ℕ → List ℕ → PrivateMemory
+memory live callers context packet = record { frames = record { live = live; callers = callers }; context = context; packet = packet }
 
-same_memory : (m n : PrivateMemory) → m.frames.live ≡ n.frames.live → m.frames.callers ≡ n.frames.callers → m.context ≡ n.context → m ≡ n
+same_memory : (m n : PrivateMemory) → m.frames.live ≡ n.frames.live → m.frames.callers ≡ n.frames.callers → m.context ≡ n.context → m.packet ≡ n.packet → m ≡ n
 unfolding memory
-same_memory m n live callers context =
-    let first : memory m.frames.live m.frames.callers m.context ≡ memory n.frames.live n.frames.callers n.context = rw (live, callers, context) in
+same_memory m n live callers context packet =
+    let first : memory m.frames.live m.frames.callers m.context m.packet ≡ memory n.frames.live n.frames.callers n.context n.packet = rw (live, callers, context, packet) in
     first
 
 pub writes_are_determined : WritesAreDetermined
@@ -106,6 +114,7 @@ writes_are_determined old a bytes new other sound w v =
     let there = stays old other a bytes sound v in
     let each = same_bytes old new other a bytes w v in
     let context : length new.context ≡ length other.context = w.context ∙ sym v.context in
+    let packet : length new.packet ≡ length other.packet = w.packet ∙ sym v.packet in
     let frames : map length other.frames.live ≡ map length new.frames.live = v.frames ∙ sym w.frames in
     let count = length-map new.frames.live other.frames.live frames in
-    (here, same_memory new other (same_frames new other here there (sym count) each) (w.callers ∙ sym v.callers) (same_context new other here context each))
+    (here, same_memory new other (same_frames new other here there (sym count) each) (w.callers ∙ sym v.callers) (same_context new other here there context each) (same_packet new other here packet each))

@@ -3,6 +3,10 @@
 use Rattle.std.specs.Prelude.{ℕ, ◌+◌, ◌-◌, ◌*◌}
 use Rattle.bpf_mem.specs.Limits.{frame_bytes}
 
+-- where the packet begins: its addresses have 32 bits, as many as a context has room for
+abbrev pub packet_base : ℕ
+packet_base = 0x10000000
+
 -- where the context begins
 abbrev pub context_base : ℕ
 context_base = 0x200000000

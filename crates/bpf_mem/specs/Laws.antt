@@ -1,15 +1,16 @@
 -- What follows from the definitions of areas, of a write and of what is saved.
 use Rattle.std.specs.Prelude.{◌≡◌, ℕ, ◌≤◌, List, ◌++◌, All, length, Some, slice_get}
 use Rattle.bpf_mem.specs.declared.memory.PrivateMemory.{PrivateMemory}
-use Rattle.bpf_mem.specs.Limits.{max_context}
+use Rattle.bpf_mem.specs.Limits.{max_context, max_packet}
 use Rattle.bpf_mem.specs.Memory.{Area, areas, byte_in, Writes}
 use Rattle.bpf_mem.specs.Saved.{IsSavable, IsWord, frames_saved, words_saved}
 use Rattle.bpf_mem.specs.Stack.{IsStack, Stack}
 
--- the memory of a CPU: its live frames, and a context that isn't too long
+-- the memory of a CPU: its live frames, and a context and a packet that aren't too long
 pub record IsMemory (m : PrivateMemory) : Type 0 where
   pub stack : IsStack m.frames
   pub small : length m.context ≤ max_context
+  pub brief : length m.packet ≤ max_packet
 
 -- a write to the memory of a CPU leaves one memory, and it is the memory of a CPU again
 abbrev pub WritesAreDetermined : Type 0

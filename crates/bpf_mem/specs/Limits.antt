@@ -5,6 +5,10 @@ use Rattle.std.specs.Prelude.{ℕ}
 abbrev pub max_context : ℕ
 max_context = 4096
 
+-- the bytes of a packet, at most
+abbrev pub max_packet : ℕ
+max_packet = 16384
+
 -- the frames that can be live at once
 abbrev pub max_frames : ℕ
 max_frames = 8

@@ -1,8 +1,9 @@
--- The memory that a program reaches on its own, by addresses: its context and its live frames.
+-- The memory that a program reaches on its own, by addresses: its packet, its context and its live
+-- frames.
 use Rattle.std.specs.Prelude.{◌≡◌, ℕ, zero, suc, ◌+◌, ◌-◌, ◌<◌, ◌≤◌, ◌⊎◌, nat_lt, if◌then◌else◌, Option, Some, None, option_map, option_and_then, List, [], ◌∷◌, ◌++◌, length, map, slice_get}
 use Rattle.std.specs.Option.{option_or}
 use Rattle.bpf_mem.specs.declared.memory.PrivateMemory.{PrivateMemory}
-use Rattle.bpf_mem.specs.Addresses.{context_base, frame_base}
+use Rattle.bpf_mem.specs.Addresses.{context_base, frame_base, packet_base}
 use Rattle.bpf_base.specs.Bytes.{little_endian}
 
 -- bytes at consecutive addresses
@@ -16,9 +17,13 @@ frame_areas d [] = []
 frame_areas d (bytes ∷ frames) =
     record { base = frame_base d; bytes = bytes } ∷ frame_areas (suc d) frames
 
--- what a program reaches: the frames of the functions that haven't returned, and its context
+-- what a program reaches: the frames of the functions that haven't returned, its context, and its
+-- packet
 abbrev pub areas : PrivateMemory → List Area
-areas m = frame_areas 0 m.frames.live ++ record { base = context_base; bytes = m.context } ∷ []
+areas m =
+    frame_areas 0 m.frames.live
+    ++ record { base = context_base; bytes = m.context }
+    ∷ record { base = packet_base; bytes = m.packet } ∷ []
 
 -- the byte that an area has at an address
 abbrev pub byte_in : Area → ℕ → Option ℕ
@@ -53,4 +58,5 @@ pub record Writes (old : PrivateMemory) (address : ℕ) (bytes : List ℕ)
       → byte_at new other ≡ byte_at old other
   pub frames : map length new.frames.live ≡ map length old.frames.live
   pub context : length new.context ≡ length old.context
+  pub packet : length new.packet ≡ length old.packet
   pub callers : new.frames.callers ≡ old.frames.callers

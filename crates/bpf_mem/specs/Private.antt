@@ -1,2 +1,3 @@
 -- What private fields hold.
 pub mod Frames
+pub mod Packets

@@ -5,6 +5,9 @@ ghost use Rattle.bpf_mem.specs.Bytes.{length_of};
 
 use bpf_insn::operation::Size;
 
+/// Where the packet begins: its addresses have 32 bits, as many as a context has room for.
+pub const PACKET_BASE: u64 = 0x1000_0000;
+
 /// Where the context begins.
 pub const CONTEXT_BASE: u64 = 0x2_0000_0000;
 

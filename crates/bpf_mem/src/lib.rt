@@ -1,4 +1,4 @@
-//! The private memory of one CPU: its stack frames and its context. No call takes memory.
+//! The private memory of one CPU: its stack frames, its context and its packet.
 #![tactic(auto)]
 
 pub mod addresses;
@@ -8,6 +8,7 @@ pub mod context;
 pub mod frames;
 pub mod laws;
 pub mod memory;
+pub mod packet;
 pub mod place;
 pub mod words;
 
@@ -16,5 +17,6 @@ pub use bytes::{length, size_of_width};
 pub use context::Context;
 pub use frames::{Caller, Frames};
 pub use memory::PrivateMemory;
+pub use packet::Packet;
 pub use place::Place;
 pub use words::{are_words, read_words, save_words};

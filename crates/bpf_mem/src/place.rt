@@ -5,5 +5,6 @@
 #[derive(Clone, Copy, PartialEq, Eq, Debug)]
 pub enum Place {
     Context { offset: usize },
+    Packet { offset: usize },
     Frame { depth: usize, offset: usize },
 }

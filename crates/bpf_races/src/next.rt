@@ -58,6 +58,7 @@ fn remember(state: &Cpu)
 {
     let _depth = state.memory.frames.depth();
     let _context = state.memory.context.bytes();
+    let _packet = state.memory.packet.bytes();
 }
 
 /// What the notes of a recorder touch, if it has any of a turn.

@@ -5,6 +5,7 @@ use Rattle.bpf_mem.specs.Limits.{max_context}
 use Rattle.bpf_shared.proofs.Soundness.{as_made_sound}
 use Rattle.bpf_shared.specs.Shape.{IsShape}
 use Rattle.bpf_names.specs.Names.{names_of}
+use Rattle.bpf_cpu.specs.Input.{IsShort}
 use Rattle.bpf_cpu.specs.declared.input.Input.{Input}
 use Rattle.bpf_cpu.specs.Task.{Task, Stage, Waiting, InHand, Ended, waiting}
 use Rattle.bpf_machine.specs.Laws.{IsFresh}
@@ -35,7 +36,7 @@ each P (t ∷ ts) all zero task at =
 each P (t ∷ ts) all (suc j) task at = each P ts (λ k d h. all (suc k) d (omega arith)) j task at
 
 waits : (task : Task) (stage : Stage) → task.stage ≡ stage → WaitsShort stage
-    → (input : Input) × (task.stage ≡ Waiting input) × (length input.context ≤ max_context)
+    → (input : Input) × (task.stage ≡ Waiting input) × (IsShort input)
 waits task (Waiting input) e h = (input, e, h)
 waits task (InHand state left) e h = absurd h
 waits task (Ended outcome) e h = absurd h

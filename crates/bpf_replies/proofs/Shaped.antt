@@ -15,6 +15,7 @@ use Rattle.bpf_lines.specs.Lines.{lines_of, fields_of}
 use Rattle.bpf_lines.specs.Words.{written_number}
 use Rattle.bpf_file.specs.Contents.{up_to}
 use Rattle.bpf_loader.specs.Loaded.{Loaded}
+use Rattle.bpf_cpu.specs.declared.input.Input.{Input}
 use Rattle.bpf_file.specs.declared.error.FileError.{FileError}
 use Rattle.bpf_file.specs.declared.error.FileError.TheVariants.{Refused}
 use Rattle.bpf_file.specs.declared.error.Reason.{Reason}
@@ -24,7 +25,7 @@ use Rattle.bpf_file.specs.Statement.{Said, Version, Cpus, Seed, Map, Array, Data
 use Rattle.bpf_file.specs.File.{File, shape_of}
 use Rattle.bpf_file.specs.Parts.{Part, State, Between, Within, nothing, place_of, array_place, with_cpus, with_map, with_array, with_pair, with_variable}
 use Rattle.bpf_file.specs.Programs.{text_of_lines}
-use Rattle.bpf_file.specs.Rows.{unless, cpus_refusal, map_refusal, array_refusal, data_refusal, data_laid, or_refused, data_added, name_refusal, place_refusal, variable_added, is_sized, is_numbered, pair_refusal, pair_put, value_put, key_put, pair_added, value_place, element_put, element_added, numbered_bytes, pair_numbered, element_numbered, put_added, numbers_added, program_added, WordsAdd, served, context_of, job_added, placed, AddsLine}
+use Rattle.bpf_file.specs.Rows.{unless, cpus_refusal, map_refusal, array_refusal, data_refusal, data_laid, or_refused, data_added, name_refusal, place_refusal, variable_added, is_sized, is_numbered, pair_refusal, pair_put, value_put, key_put, pair_added, value_place, element_put, element_added, numbered_bytes, pair_numbered, element_numbered, put_added, numbers_added, program_added, WordsAdd, served, context_of, job_added, placed, AddsLine, input_said, job_put}
 use Rattle.bpf_file.specs.Reading.{AddsOrRefuses, FieldsSay, is_end, Belongs, ReadsLine, finished, AreRead, IsRunFile}
 use Rattle.bpf_file.specs.Private.Fits.{IsFit, IsFitState, IsFitResult}
 use Rattle.bpf_file.proofs.Fits.{fit_nothing, line_fits, opening_fits, section_fits}
@@ -122,11 +123,14 @@ words_closed : (k : Option ℕ) (n : ℕ) (p : Part) (name digits : List ℕ) (r
 words_closed (Some k) n p name digits r e = subst IsClosed (sym e) tt
 words_closed None n p name digits r (o, of, e) = subst IsClosed (sym e) (program_closed p name o)
 
-job_closed : (n : ℕ) (p : Part) (cpu program : Option ℕ) (line : JobSaid) (context : Result (List ℕ) FromHexError) → IsClosed (job_added n p cpu program line context)
-job_closed n p (Some c) (Some k) line (Ok bytes) = tt
-job_closed n p (Some c) (Some k) line (Err e) = tt
-job_closed n p (Some c) None line context = tt
-job_closed n p None k line context = tt
+put_closed : (n : ℕ) (p : Part) (c k : ℕ) (line : JobSaid) (given : Result Input FromHexError) → IsClosed (job_put n p c k line given)
+put_closed n p c k line (Ok input) = tt
+put_closed n p c k line (Err e) = tt
+
+job_closed : (n : ℕ) (p : Part) (cpu program : Option ℕ) (line : JobSaid) → IsClosed (job_added n p cpu program line)
+job_closed n p (Some c) (Some k) line = put_closed n p c k line (input_said (length p.file.jobs) c line)
+job_closed n p (Some c) None line = tt
+job_closed n p None k line = tt
 
 module _ (n : ℕ) (p q : Part) (from : ℕ) (name : List ℕ) (lines : List (List ℕ)) where
   never : (r : Result State FileError) → Ok (Within q from name lines) ≡ r → IsClosed r → ⊥
@@ -153,8 +157,8 @@ module _ (n : ℕ) (p q : Part) (from : ℕ) (name : List ℕ) (lines : List (Li
   adds_first (Program title) e = opened (is_there (place_of title p.titles)) title e
   adds_first (Words title digits) w = absurd (words_closed (place_of title p.titles) n p title digits (Ok (Within q from name lines)) w)
   adds_first (Job line) e =
-      absurd (never (job_added n p (served p.file.cpus line.cpu) (place_of line.program p.titles) line (context_of line.context)) e
-      (job_closed n p (served p.file.cpus line.cpu) (place_of line.program p.titles) line (context_of line.context)))
+      absurd (never (job_added n p (served p.file.cpus line.cpu) (place_of line.program p.titles) line) e
+      (job_closed n p (served p.file.cpus line.cpu) (place_of line.program p.titles) line))
 
   says_first : (w : Result Said Reason) → AddsOrRefuses n p w (Ok (Within q from name lines)) → AddsOrRefuses n p w (Ok (Within q n name []))
   says_first (Ok s) a = adds_first s a

@@ -68,7 +68,7 @@ pub fn run(alloc: Global, options: RunOptions, text: &str) -> Result<Reply, Refu
         return Err(Refusal::OutOfMemory);
     };
     let RunOptions { budget, context } = options;
-    let mut cpu = Cpu::new(0, Input::of_bytes(context));
+    let mut cpu = Cpu::new(0, Input::of_bytes(alloc, context));
     Ok(Reply::Ended(cpu.run(&program, &mut store, budget)))
 }
 

@@ -4,6 +4,7 @@ ghost use Rattle.std.specs.Prelude.{◌≡◌, ◌<◌, ◌≤◌, [], false, Al
 ghost use Rattle.bpf_mem.specs.Limits.{max_context};
 ghost use Rattle.bpf_shared.specs.History.{events_of};
 ghost use Rattle.bpf_shared.specs.Store.{Plain};
+ghost use Rattle.bpf_cpu.specs.Input.{IsShort};
 ghost use Rattle.bpf_cpu.specs.Task.{waiting};
 ghost use Rattle.bpf_pairs.specs.Pairs.{ArePairs, pair_of};
 ghost use Rattle.bpf_pairs.specs.Putting.{first_history};
@@ -98,7 +99,7 @@ pub fn run_filled<R: Threads + Wait + Sync, G: Gate + Sync>(
 ) -> Result<Report, SchedError>
     requires pairs { ArePairs store.table.about.shape.maps (map pair_of pairs.now) }
     requires programs { All (λ job. job.program < length programs.now) jobs.now }
-    requires contexts { All (λ job. length job.input.context ≤ max_context) jobs.now }
+    requires inputs { All (λ job. IsShort job.input) jobs.now }
     ensures workers { OnOk result (AreWorkers workers) }
     ensures cpus { OnOk result (AreHere store.table.about.shape.cpus jobs.now) }
     ensures about { IfOk result (λ r. r.closed.about ≡ store.table.about) }

@@ -3,6 +3,7 @@
 ghost use Rattle.std.specs.Prelude.{◌≡◌, ◌<◌, ◌≤◌, [], All, IfErr, IfOk, IsFalse, IsTrue, OnOk, length, map, vec_len};
 ghost use Rattle.bpf_mem.specs.Limits.{max_context};
 ghost use Rattle.bpf_shared.specs.Store.{Plain};
+ghost use Rattle.bpf_cpu.specs.Input.{IsShort};
 ghost use Rattle.bpf_cpu.specs.Task.{waiting};
 ghost use Rattle.hop_map.specs.Dumping.{IsLast};
 ghost use Rattle.bpf_sched.specs.Explained.{IsExplained, LeadsTo};
@@ -69,7 +70,7 @@ pub fn run_jobs<R: Threads + Wait + Sync, G: Gate + Sync>(
     gate: &G,
 ) -> Result<Report, Refused>
     requires programs { All (λ job. job.program < length programs.now) jobs.now }
-    requires contexts { All (λ job. length job.input.context ≤ max_context) jobs.now }
+    requires inputs { All (λ job. IsShort job.input) jobs.now }
     ensures workers { OnOk result (AreWorkers workers) }
     ensures cpus { OnOk result (AreHere store.table.about.shape.cpus jobs.now) }
     ensures about { IfOk result (λ r. r.closed.about ≡ store.table.about) }

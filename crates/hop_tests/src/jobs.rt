@@ -1,5 +1,6 @@
 //! Jobs of real stores, on worker threads.
-ghost use Rattle.std.specs.Prelude.{◌≤◌, ◌<◌, All, IfOk, length};
+ghost use Rattle.std.specs.Prelude.{◌≤◌, ◌<◌, All, IfOk, length, vec_len};
+ghost use Rattle.bpf_cpu.specs.Input.{IsShort};
 ghost use Rattle.bpf_mem.specs.Limits.{max_context};
 
 mod meeting;
@@ -50,7 +51,7 @@ fn store(alloc: Global, cpus: u64, spares: &[u64]) -> Result<HopStore, Fail> {
 // Jobs by their CPUs and programs, of which there are n.
 fn jobs(alloc: Global, list: &[(u8, usize)], programs: usize) -> Result<Vec<Job>, Fail>
     ensures programs { IfOk result (λ v. All (λ job. job.program < programs) v.items) }
-    ensures contexts { IfOk result (λ v. All (λ job. length job.input.context ≤ max_context) v.items) }
+    ensures inputs { IfOk result (λ v. All (λ job. IsShort job.input) v.items) }
 {
     let mut jobs = Vec::new(alloc);
     'jobs: for (cpu, program) in list {

@@ -36,14 +36,19 @@ fn program(alloc: Global, text: &str) -> Result<Program, Fail> {
 }
 
 // Runs a program as a job of CPU 0 with this number as its context.
-fn run_over<S: Shared>(shared: &mut S, program: &Program, context: Vec<u8>) -> Outcome
+fn run_over<S: Shared>(
+    alloc: Global,
+    shared: &mut S,
+    program: &Program,
+    context: Vec<u8>,
+) -> Outcome
     requires serves { S.serves shared.old 0 ≡ true }
     requires idle { S.running shared.old 0 ≡ false }
     requires context { vec_len context ≤ max_context }
     ensures serves { S.serves shared.new 0 ≡ true }
     ensures idle { S.running shared.new 0 ≡ false }
 {
-    Cpu::new(0, Input::of_bytes(context)).run(program, shared, 1_000_000)
+    Cpu::new(0, Input::of_bytes(alloc, context)).run(program, shared, 1_000_000)
 }
 
 // How many of the programs, one after the other, end with their number, up to the first that
@@ -53,7 +58,7 @@ fn follow<S: Shared>(alloc: Global, shared: &mut S, rows: &[(Program, u64)]) -> 
     requires idle { S.running shared.old 0 ≡ false }
 {
     'rows: for (number, row) in rows.iter().enumerate() {
-        if run_over(shared, &row.0, Vec::new(alloc)) != Outcome::Exit(row.1) {
+        if run_over(alloc, shared, &row.0, Vec::new(alloc)) != Outcome::Exit(row.1) {
             return number;
         }
     }
@@ -93,11 +98,11 @@ fn look_many_up<R: Wait>(rt: &R, alloc: Global, keys: u16) -> Result<(Outcome, O
     let program = program(alloc, LOOK_UP)?;
     let mut plain = PlainStore::new(alloc, a_shape(alloc, 1, map)?)?;
     let count = Vec::from_slice(alloc, &keys.to_le_bytes())?;
-    let of_plain = run_over(&mut plain, &program, count);
+    let of_plain = run_over(alloc, &mut plain, &program, count);
     let (table, port) = first_port(alloc, map, 0)?;
     let mut shared = HopCpu::new(rt, &table, port);
     let count = Vec::from_slice(alloc, &keys.to_le_bytes())?;
-    Ok((run_over(&mut shared, &program, count), of_plain))
+    Ok((run_over(alloc, &mut shared, &program, count), of_plain))
 }
 
 #[test]
@@ -114,7 +119,7 @@ fn no_job_runs_on_a_worn_counter(rt: HostRuntime) -> Result<(), Fail> {
     let rows = vec![in rt.alloc(); (program(rt.alloc(), ADD)?, 0)]?;
     let (table, port) = first_port(rt.alloc(), MAP, u64::MAX - 1)?;
     let mut shared = HopCpu::new(&rt, &table, port);
-    let outcome = run_over(&mut shared, &rows[0].0, Vec::new(rt.alloc()));
+    let outcome = run_over(rt.alloc(), &mut shared, &rows[0].0, Vec::new(rt.alloc()));
     assert_eq!(rt; outcome, Outcome::Fault(Fault::Worn, 0));
     Ok(())
 }

@@ -1,9 +1,9 @@
 -- The parts of an expander fit each other.
-use Rattle.std.specs.Prelude.{◌≡◌, ℕ, Bool, true, ◌<◌, ◌≤◌, ◌++◌, All, IfSome, List, None, Option, length, slice_index_or}
-use Rattle.bpf_mem.specs.Limits.{max_context}
+use Rattle.std.specs.Prelude.{◌≡◌, ℕ, Bool, true, ◌<◌, ◌++◌, All, IfSome, List, None, Option, length, slice_index_or}
 use Rattle.bpf_shared.specs.Shape.{Shape}
 use Rattle.bpf_plain.specs.PlainStore.{Contents, IsSavedAs}
 use Rattle.bpf_loader.specs.Loaded.{Loaded}
+use Rattle.bpf_cpu.specs.Input.{IsShort}
 use Rattle.bpf_cpu.specs.Task.{Task}
 use Rattle.bpf_machine.specs.Machine.{MachineState}
 use Rattle.bpf_machine.specs.Parts.{CanStand, made_of}
@@ -15,9 +15,9 @@ pub record CountUp (numbers : List ℕ) (n : ℕ) : Type 0 where
   pub count : length numbers ≡ n
   pub each : (k : ℕ) → k < n → slice_index_or numbers k 0 ≡ k
 
--- contexts that jobs may wait with
+-- inputs that jobs may wait with
 abbrev pub AreShort : List Task → Type 0
-AreShort jobs = All (λ task. length (input_of task.stage).context ≤ max_context) jobs
+AreShort jobs = All (λ task. IsShort (input_of task.stage)) jobs
 
 -- the store and these jobs are those of a state of such programs, which has these bytes
 pub record IsRead (programs : List Loaded) (room : Contents) (first : List Task) (numbers : List ℕ)

@@ -1,7 +1,7 @@
 -- What the reader has gathered so far, and what its functions answer. Private functions cite this.
 use Rattle.std.specs.Prelude.{◌≡◌, ℕ, ◌*◌, ◌≤◌, List, [], length, map, Result, Ok, Err, Option, Some, None}
 use Rattle.std.specs.Option.{option_copied}
-use Rattle.bpf_mem.specs.Limits.{max_context}
+use Rattle.bpf_mem.specs.Limits.{max_context, max_packet}
 use Rattle.bpf_lines.specs.Lines.{lines_behind}
 use Rattle.bpf_cpu.specs.Task.{waiting}
 use Rattle.bpf_file.specs.declared.draft.Draft.{Draft}
@@ -17,6 +17,7 @@ use Rattle.bpf_names.specs.Names.{names_of}
 use Rattle.bpf_pairs.specs.Pairs.{pair_of}
 use Rattle.bpf_file.specs.Programs.{OfAssembly}
 use Rattle.bpf_file.specs.Symbols.{names_for}
+use Rattle.bpf_file.specs.declared.packet.Hook.{Hook}
 use Rattle.bpf_file.specs.declared.statement.Statement.{Statement}
 use Rattle.bpf_file.specs.File.{File, file_of, named_by}
 use Rattle.bpf_file.specs.declared.file.RunFile.{RunFile}
@@ -61,13 +62,17 @@ abbrev pub closed : {X : Type 0} → Part → Result X FileError → Result Stat
 closed p (Ok x) = Ok (Between p)
 closed p (Err e) = Err e
 
--- no more digits than a context may have
+-- no more digits than a context or a packet may have
 abbrev pub IsShort : Option (List ℕ) → Type 0
 IsShort (Some digits) = length digits ≤ 2 * max_context
 IsShort None = Unit {0}
 
+abbrev pub IsBrief : Option (Hook × List ℕ) → Type 0
+IsBrief (Some packet) = length packet.1 ≤ 2 * max_packet
+IsBrief None = Unit {0}
+
 abbrev pub IsShortSaid : Said → Type 0
-IsShortSaid (Job line) = IsShort line.context
+IsShortSaid (Job line) = IsShort line.context × IsBrief line.packet
 IsShortSaid s = Unit {0}
 
 -- the line of this number, which says this, made the one part the other
@@ -75,7 +80,7 @@ abbrev pub Added : ℕ → Part → Said → Part → Result Next FileError → 
 Added n p said q result = OrMemory (λ a. AddsLine n p said (after n q a)) result
 
 -- the bytes of a context, or its refusal
-abbrev pub HasContext : {V : Type 0} → (V → List ℕ) → ℕ → Result (List ℕ) FromHexError
+abbrev pub HasContext : {V X : Type 0} → (V → X) → ℕ → Result X FromHexError
     → Result V FileError → Type 0
 HasContext items n c (Ok v) = c ≡ Ok (items v)
 HasContext items n c (Err OutOfMemory) = Unit {0}

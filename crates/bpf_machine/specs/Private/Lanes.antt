@@ -5,7 +5,7 @@ use Rattle.bpf_mem.specs.Limits.{max_context}
 use Rattle.bpf_loader.specs.Loaded.{Loaded}
 use Rattle.bpf_cpu.specs.declared.input.Input.{Input}
 use Rattle.bpf_cpu.specs.declared.job.Job.{Job}
-use Rattle.bpf_cpu.specs.Input.{no_input}
+use Rattle.bpf_cpu.specs.Input.{IsShort, no_input}
 use Rattle.bpf_machine.specs.declared.machine.lane.Listed.{Listed}
 use Rattle.bpf_machine.specs.declared.machine.lane.Phase.{Phase}
 use Rattle.bpf_machine.specs.declared.machine.lane.Phase.TheVariants as phase
@@ -70,7 +70,7 @@ pub record IsListed (serves : ℕ → Bool) (programs : List Loaded) (lanes : Li
   pub served : serves x.cpu ≡ true
   pub within : x.cpu < length lanes
   pub fits : FitsLane (lane_of lanes x.cpu) j x.phase
-  pub short : (input : Input) → x.phase ≡ phase.Waiting input → length input.context ≤ max_context
+  pub short : (input : Input) → x.phase ≡ phase.Waiting input → IsShort input
 
 -- a job in hand
 pub record IsHand (programs : List Loaded) (jobs : List Listed) (cpu : ℕ) (h : Hand) : Type 0 where

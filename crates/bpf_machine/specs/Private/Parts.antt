@@ -6,6 +6,7 @@ use Rattle.bpf_machine.specs.declared.machine.lane.Phase.TheVariants as phase
 use Rattle.bpf_machine.specs.declared.machine.lane.Hand.{Hand}
 use Rattle.bpf_machine.specs.declared.machine.lane.Lane.{Lane}
 use Rattle.bpf_cpu.specs.declared.input.Input.{Input}
+use Rattle.bpf_cpu.specs.declared.cpu.Cpu.{Cpu}
 use Rattle.bpf_cpu.specs.Task.{Stage, Task, Waiting, InHand, Ended}
 use Rattle.bpf_machine.specs.Parts.{chosen_at}
 use Rattle.bpf_machine.specs.Private.Lanes.{stage_of}
@@ -28,9 +29,11 @@ pub record IsReadAs (l : Lane) (x : Listed) (task : Task) : Type 0 where
   pub stage : task.stage ≡ stage_of l.hand x.phase
 
 -- ---- jobs that are read
--- the job is in hand, with a context as long as this one
+-- the job is in hand, with memory as large as it is given
 abbrev pub HasRoom : Input → Stage → Type 0
-HasRoom input (InHand state left) = length state.memory.context ≡ length input.context
+HasRoom input (InHand state left) =
+    (length state.memory.context ≡ length input.context)
+    × (length state.memory.packet ≡ length input.packet)
 HasRoom input (Waiting own) = ⊥
 HasRoom input (Ended outcome) = ⊥
 
@@ -85,10 +88,15 @@ pub record IsFirstHand (parts : List Task) (numbers : List ℕ) (c j : ℕ) : Ty
   pub first : (k : ℕ) → k < j → (chosen_at parts numbers k).cpu ≡ c
       → in_hand (chosen_at parts numbers k).stage ≡ false
 
--- the job's context is as long as that of the hand
+-- contexts of one length, and packets of one length
+abbrev pub AreAsLarge : Cpu → Cpu → Type 0
+AreAsLarge cpu other =
+    (length cpu.memory.context ≡ length other.memory.context)
+    × (length cpu.memory.packet ≡ length other.memory.packet)
+
+-- the job's memory is as large as that of the hand
 abbrev pub FitsIn : Stage → Option Hand → Type 0
-FitsIn (InHand state left) (Some h) =
-    length state.memory.context ≡ length h.cpu.memory.context
+FitsIn (InHand state left) (Some h) = AreAsLarge state h.cpu
 FitsIn _ _ = ⊥
 
 abbrev pub CanFill : List Task → List ℕ → ℕ → Lane → Type 0

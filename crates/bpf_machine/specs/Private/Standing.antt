@@ -4,6 +4,7 @@ use Rattle.bpf_mem.specs.Limits.{max_context}
 use Rattle.bpf_plain.specs.PlainStore.{Contents, has_cpu, is_running, held_spans}
 use Rattle.bpf_loader.specs.Loaded.{Loaded}
 use Rattle.bpf_helpers.specs.Held.{AreHeld}
+use Rattle.bpf_cpu.specs.Input.{IsShort}
 use Rattle.bpf_cpu.specs.declared.cpu.Cpu.{Cpu}
 use Rattle.bpf_cpu.specs.Step.{IsReady}
 use Rattle.bpf_cpu.specs.Task.{Stage, Task, Waiting, InHand, Ended}
@@ -20,7 +21,7 @@ pub record FitsState (store : Contents) (programs : List Loaded) (task : Task) (
   pub runs : is_running store task.cpu ≡ true
 
 abbrev pub FitsStage : Contents → List Loaded → Task → Stage → Type 0
-FitsStage store programs task (Waiting input) = length input.context ≤ max_context
+FitsStage store programs task (Waiting input) = IsShort input
 FitsStage store programs task (InHand state left) = FitsState store programs task state
 FitsStage store programs task (Ended outcome) = Unit {0}
 

@@ -7,7 +7,7 @@ ghost use Rattle.bpf_machine.specs.Hashes.{mix, stage_hash, task_hash};
 ghost use Rattle.bpf_machine.specs.Parts.{chosen_at};
 ghost use Rattle.bpf_machine.specs.Private.Lanes.{lane_of, stage_of};
 ghost use Rattle.bpf_machine.specs.Kept.{kept_stage};
-ghost use Rattle.bpf_machine.specs.Private.Parts.{IsReadAs, in_hand, waits, entry_at, IsEntryOf, IsHandOf, IsFirstWaiting, IsLaneOf, FitsIn, CanFill};
+ghost use Rattle.bpf_machine.specs.Private.Parts.{IsReadAs, in_hand, waits, entry_at, IsEntryOf, IsHandOf, IsFirstWaiting, IsLaneOf, AreAsLarge, FitsIn, CanFill};
 
 mod fitting;
 mod reading;
@@ -59,9 +59,12 @@ impl Model for KeptJob {
 fn copy_cpu(alloc: Global, cpu: &Cpu) -> Result<Cpu, AllocError>
     ensures { IfOk result (λ copy. copy ≡ cpu.now) }
 {
-    let context = cpu.memory.context.copy(alloc)?;
-    let given = cpu.given;
-    let mut copy = Cpu::new(cpu.number, Input { context, given });
+    let input = Input {
+        context: cpu.memory.context.copy(alloc)?,
+        packet: cpu.memory.packet.copy(alloc)?,
+        given: cpu.given,
+    };
+    let mut copy = Cpu::new(cpu.number, input);
     copy.copy_from(cpu);
     Ok(copy)
 }
@@ -342,24 +345,25 @@ fn lanes_of_kept(
     Ok(lanes)
 }
 
-/// Whether a job's state can be copied into what a lane has in hand: their contexts are as long.
+/// Whether a job's state can be copied into what a lane has in hand: their memories are as large.
 fn fits_hand(lane: &Lane, part: &KeptJob) -> bool
     ensures { result ≡ true → FitsIn part.now.stage lane.now.hand }
 {
     match &part.stage {
         KeptStage::InHand(cpu, _) => match &lane.hand {
-            Some(hand) => has_context_of(cpu, &hand.cpu),
+            Some(hand) => has_memory_of(cpu, &hand.cpu),
             None => false,
         },
         KeptStage::Waiting(_) | KeptStage::Ended(_) => false,
     }
 }
 
-/// Whether two states have contexts of one length.
-fn has_context_of(cpu: &Cpu, other: &Cpu) -> bool
-    ensures { result ≡ true → length cpu.now.memory.context ≡ length other.now.memory.context }
+/// Whether two states have contexts of one length, and packets of one length.
+fn has_memory_of(cpu: &Cpu, other: &Cpu) -> bool
+    ensures { result ≡ true → AreAsLarge cpu.now other.now }
 {
     cpu.memory.context.bytes().len() == other.memory.context.bytes().len()
+        && cpu.memory.packet.bytes().len() == other.memory.packet.bytes().len()
 }
 
 /// Whether a CPU's lane can become that of these jobs without memory.

@@ -12,6 +12,6 @@ returns c =
     let m = c.in_ok-shape.machine in
     let shows = c.in_ok-shape.ensures.machine in
     IfOk-weaker c.new.result (λ (e : AlbumState). ShowsFirst e.kept m) (λ (e : AlbumState). BeginsAt e.kept (first_of setup)) (λ e one. (
-      first_fresh setup.shape m (map pair_of setup.pairs.items) setup.programs.items setup.jobs.items c.requires.contexts shows,
+      first_fresh setup.shape m (map pair_of setup.pairs.items) setup.programs.items setup.jobs.items c.requires.inputs shows,
       first_shown e.kept m (first_of setup) one shows,
     )) c.new.ensures

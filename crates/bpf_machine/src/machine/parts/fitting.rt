@@ -13,6 +13,7 @@ use super::{KeptJob, KeptStage, find_hand};
 use bpf_cpu::Cpu;
 use bpf_loader::Program;
 use bpf_mem::context::MAX_CONTEXT;
+use bpf_mem::packet::MAX_PACKET;
 use bpf_plain::PlainStore;
 use bpf_shared::Span;
 
@@ -57,7 +58,9 @@ fn fits_alone(store: &PlainStore, programs: &[Program], part: &KeptJob) -> bool
         return false;
     }
     match &part.stage {
-        KeptStage::Waiting(input) => input.context.bytes().len() <= MAX_CONTEXT,
+        KeptStage::Waiting(input) => {
+            input.context.bytes().len() <= MAX_CONTEXT && input.packet.bytes().len() <= MAX_PACKET
+        }
         KeptStage::InHand(state, _) => fits_state(store, programs, part, state),
         KeptStage::Ended(_) => true,
     }

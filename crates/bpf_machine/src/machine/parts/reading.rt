@@ -13,13 +13,14 @@ use bpf_cpu::{Cpu, Input, read_outcome};
 use bpf_mem::read_words;
 use std::alloc::{AllocError, Global};
 
-/// Whether a job is in hand, with a context as long as this one.
+/// Whether a job is in hand, with memory as large as it is given.
 fn has_room(stage: &KeptStage, input: &Input) -> bool
     ensures { result ≡ true → HasRoom input.now (kept_stage stage.now) }
 {
     match stage {
         KeptStage::InHand(state, _) => {
             state.memory.context.bytes().len() == input.context.bytes().len()
+                && state.memory.packet.bytes().len() == input.packet.bytes().len()
         }
         KeptStage::Waiting(_) | KeptStage::Ended(_) => false,
     }
@@ -42,7 +43,7 @@ fn put_in_hand(
     Ok(())
 }
 
-/// A job is in hand, with a context as long as this one.
+/// A job is in hand, with memory as large as it is given.
 fn make_room(alloc: Global, cpu: u8, input: &Input, stage: &mut KeptStage) -> Result<(), AllocError>
     ensures { OnOk result (HasRoom input.now (kept_stage stage.new)) }
 {

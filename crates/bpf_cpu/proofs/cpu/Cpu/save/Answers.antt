@@ -49,12 +49,31 @@ returns-in_err-save-2-clause-err c =
     let s4 : StartsWith mid old = starts_more mid third old (frames_saved cpu.memory.frames) c.in_ok-save.ensures.ok s3 in
     on_err c.from_residual-in_err-save-2.result (starts_with_trans new mid old c.in_err-save-2.ensures.err s4)
 
+pub returns-in_err-save_bytes-clause-err : goal.returns-in_err-save_bytes-clause-err
+returns-in_err-save_bytes-clause-err c =
+    let cpu = c.args.self.now in
+    let old = c.args.out.now.items in
+    let first = c.save_pc.new.out.items in
+    let second = c.save_words.new.out.items in
+    let third = c.save_count.new.out.items in
+    let fourth = c.save.new.out.items in
+    let mid = c.save-2.new.out.items in
+    let new = c.save_bytes.new.out.items in
+    let s1 : StartsWith first old = starts_with_of_append first old (low_bytes 4 cpu.pc) c.in_ok-save_pc.ensures.ok in
+    let s2 : StartsWith second old = starts_more second first old (words_saved 0 cpu.registers) c.in_ok-save_words.ensures.ok s1 in
+    let s3 : StartsWith third old = starts_more third second old (words_saved 0 (cpu.drawn ∷ [])) c.in_ok-save_count.ensures.ok s2 in
+    let s4 : StartsWith fourth old = starts_more fourth third old (frames_saved cpu.memory.frames) c.in_ok-save.ensures.ok s3 in
+    let s5 : StartsWith mid old = starts_more mid fourth old (spans_saved cpu.held) c.in_ok-save-2.ensures.ok s4 in
+    on_err c.from_residual-in_err-save_bytes.result (starts_with_trans new mid old c.in_err-save_bytes.ensures.err s5)
+
 pub returns-clause-ok : goal.returns-clause-ok
 unfolding cpu_saved
 returns-clause-ok c =
     let cpu = c.args.self.now in
-    let last = c.save-2.new.out.items in
-    on_ok_weaker c.save_bytes.result (λ e.
-    joined c.args.out.now.items (low_bytes 4 cpu.pc) (words_saved 0 cpu.registers) (words_saved 0 (cpu.drawn ∷ [])) (frames_saved cpu.memory.frames) (spans_saved cpu.held) cpu.memory.context
-    c.save_pc.new.out.items c.save_words.new.out.items c.save_count.new.out.items c.save.new.out.items last c.save_bytes.new.out.items
-    c.in_ok-save_pc.ensures.ok c.in_ok-save_words.ensures.ok c.in_ok-save_count.ensures.ok c.in_ok-save.ensures.ok c.in_ok-save-2.ensures.ok (e ∙ ap (λ (l : List ℕ). last ++ l) c.bytes.ensures.value)) c.save_bytes.ensures.ok
+    let near = c.save-2.new.out.items in
+    let last = c.save_bytes.new.out.items in
+    on_ok_weaker c.save_bytes-2.result (λ e.
+    joined c.args.out.now.items (low_bytes 4 cpu.pc) (words_saved 0 cpu.registers) (words_saved 0 (cpu.drawn ∷ [])) (frames_saved cpu.memory.frames) (spans_saved cpu.held) cpu.memory.context cpu.memory.packet
+    c.save_pc.new.out.items c.save_words.new.out.items c.save_count.new.out.items c.save.new.out.items near last c.save_bytes-2.new.out.items
+    c.in_ok-save_pc.ensures.ok c.in_ok-save_words.ensures.ok c.in_ok-save_count.ensures.ok c.in_ok-save.ensures.ok c.in_ok-save-2.ensures.ok
+    (c.in_ok-save_bytes.ensures.ok ∙ ap (λ (l : List ℕ). near ++ l) c.bytes.ensures.value) (e ∙ ap (λ (l : List ℕ). last ++ l) c.bytes-2.ensures.value)) c.save_bytes-2.ensures.ok
