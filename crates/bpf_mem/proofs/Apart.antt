@@ -75,10 +75,10 @@ Lies n i area =
 
 lies : (i : ℕ) (m : PrivateMemory) (area : Area) → IsMemory m → slice_get (areas m) i ≡ Some area → Lies (length m.frames.live) i area
 lies i m area sound e = elim (which 0 i m.frames.live m.context m.packet area sound.stack.sized e) [
-  | inl f ↦ inl (f.live, f.base, f.size)
+  | inl f ↦ inl ((let h = f.live in omega arith), (let h = f.base in omega arith), f.size)
   | inr others ↦ elim others [
-    | inl c ↦ inr (inl (c.last, c.base, (let h = c.size in let s = sound.small in omega arith)))
-    | inr p ↦ inr (inr (p.last, p.base, (let h = p.size in let s = sound.brief in omega arith)))
+    | inl c ↦ inr (inl ((let h = c.last in omega arith), c.base, (let h = c.size in let s = sound.small in omega arith)))
+    | inr p ↦ inr (inr ((let h = p.last in omega arith), p.base, (let h = p.size in let s = sound.brief in omega arith)))
   ]
 ]
 

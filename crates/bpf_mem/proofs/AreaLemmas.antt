@@ -94,11 +94,8 @@ unfoldable pub packet_byte : PrivateMemory → ℕ → Option ℕ
 packet_byte m a = byte_in record { base = packet_base; bytes = m.packet } a
 
 byte_among-two : (x y : Area) (a : ℕ) → byte_among (x ∷ y ∷ []) a ≡ option_or (byte_in x a) (byte_in y a)
-byte_among-two x y a = first (y ∷ []) (byte_among-first y [] a (byte_among-none a))
-  where
-    first : (others : List Area) → byte_among others a ≡ byte_in y a → byte_among (x ∷ others) a ≡ option_or (byte_in x a) (byte_in y a)
-    unfolding byte_among
-    first others e = rw e refl
+unfolding byte_among
+byte_among-two x y a = ap (option_or (byte_in x a)) (option_or-none (byte_in y a))
 
 pub byte_at-parts : (m : PrivateMemory) (a : ℕ) → byte_at m a ≡ option_or (frame_byte m a) (option_or (context_byte m a) (packet_byte m a))
 unfolding byte_at frame_byte context_byte packet_byte

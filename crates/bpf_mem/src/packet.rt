@@ -10,7 +10,7 @@ use bpf_insn::operation::Size;
 use std::alloc::{AllocError, Global};
 use std::marker::Model;
 
-/// How many bytes a packet has at most: `max_packet` (our own choice).
+/// The most bytes of a packet.
 pub const MAX_PACKET: usize = 16_384;
 
 /// 0 to 16,384 bytes, `MAX_PACKET`.
