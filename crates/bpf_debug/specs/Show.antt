@@ -7,7 +7,7 @@ use Rattle.bpf_shared.specs.declared.shapes.ArrayShape.{ArrayShape}
 use Rattle.bpf_shared.specs.Shape.{Shape, array_stride, copies, copy_stride, first_value, map_area}
 use Rattle.bpf_shared.specs.Store.{Plain}
 use Rattle.bpf_names.specs.Names.{Names, Variable, address_of, variable_at}
-use Rattle.bpf_mem.specs.Addresses.{context_base, frame_base}
+use Rattle.bpf_mem.specs.Addresses.{context_base, frame_base, packet_base}
 use Rattle.bpf_helpers.specs.Held.{is_in}
 use Rattle.bpf_cpu.specs.declared.cpu.Cpu.{Cpu}
 use Rattle.bpf_cpu.specs.Task.{Task, InHand}
@@ -88,13 +88,22 @@ frame_words frame at =
 abbrev pub context_words : ℕ → List ℕ
 context_words at = if nat_le at 4096 then codes " context + " ++ decimal at else []
 
+-- how far past the packet's beginning: it has 16,384 bytes at most
+abbrev pub packet_words : ℕ → List ℕ
+packet_words at = if nat_le at 16384 then codes " packet + " ++ decimal at else []
+
+abbrev pub given_words : ℕ → List ℕ
+given_words a =
+    if nat_le context_base a then context_words (a - context_base)
+    else (if nat_le packet_base a then packet_words (a - packet_base) else [])
+
 abbrev pub own_words : ℕ → List ℕ
 own_words a =
     if nat_le (frame_base 0) a
     then frame_words ((a - frame_base 0) / 0x1000) ((a - frame_base 0) % 0x1000)
-    else (if nat_le context_base a then context_words (a - context_base) else [])
+    else given_words a
 
--- in a value of an array, in a frame or in the context
+-- in a value of an array, in a frame, in the context or in the packet
 abbrev pub other_words : Names → Shape → ℕ → List ℕ
 other_words names h a =
     if nat_le first_array a then fixed_words names h a (variable_at a names.variables)
@@ -107,7 +116,7 @@ IsWordsIn names s a (Some p) text =
 IsWordsIn names s a None text = text ≡ other_words names s.shape a
 
 -- what a number is, where it is an address in a value that the run holds or that every CPU reaches,
--- in a frame or in the context
+-- in a frame, in the context or in the packet
 abbrev pub IsMeaning : Names → Plain → List Span → ℕ → List ℕ → Type 0
 IsMeaning names s held a text = IsWordsIn names s a (value_at held a) text
 

@@ -1,17 +1,18 @@
-//! Addresses in values of arrays, in frames and in the context, as `show` names them.
+//! Addresses in values of arrays, in frames, in the context and in the packet, as `show` names them.
 
 ghost use Rattle.std.specs.Prelude.{◌≡◌, ◌+◌, ◌-◌, ◌≤◌, ◌++◌, codes, IfOk, Some, length, option_map, slice_get, string_bytes};
 ghost use Rattle.std.specs.Fmt.{decimal};
 ghost use Rattle.bpf_shared.specs.Shape.{IsArrayShape, IsShape};
 ghost use Rattle.bpf_names.specs.Names.{names_of, variable_at, variable_of};
 ghost use Rattle.bpf_jobs.specs.Printed.{place_text};
-ghost use Rattle.bpf_debug.specs.Show.{array_words, below_words, context_words, element_words, fixed_words, frame_words, own_words, place_words, variable_words};
+ghost use Rattle.bpf_debug.specs.Show.{array_words, below_words, context_words, element_words, fixed_words, frame_words, given_words, own_words, packet_words, place_words, variable_words};
 
 use crate::held::{bracketed, name_at};
 use bpf_jobs::ArrayPlace;
-use bpf_mem::addresses::{CONTEXT_BASE, FRAME_STRIDE, STACK_BASE};
+use bpf_mem::addresses::{CONTEXT_BASE, FRAME_STRIDE, PACKET_BASE, STACK_BASE};
 use bpf_mem::context::MAX_CONTEXT;
 use bpf_mem::frames::{FRAME_BYTES, MAX_FRAMES};
+use bpf_mem::packet::MAX_PACKET;
 use bpf_names::{Names, Variable};
 use bpf_shared::{ArrayShape, FIRST_ARRAY, FIRST_VALUE, MAP_AREA, StoreShape};
 use std::alloc::{AllocError, Global};
@@ -174,16 +175,38 @@ fn context_words(alloc: Global, at: u64) -> Result<String, AllocError>
     }
 }
 
-/// An address in a frame or in the context.
+/// An address in the packet: how far past its beginning.
+fn packet_words(alloc: Global, at: u64) -> Result<String, AllocError>
+    ensures { IfOk result (λ text. string_bytes text ≡ packet_words at) }
+{
+    if at <= MAX_PACKET as u64 {
+        format!(in alloc; " packet + {at}")
+    } else {
+        Ok(String::new(alloc))
+    }
+}
+
+/// An address in the context or in the packet.
+fn given_words(alloc: Global, address: u64) -> Result<String, AllocError>
+    ensures { IfOk result (λ text. string_bytes text ≡ given_words address) }
+{
+    if address >= CONTEXT_BASE {
+        context_words(alloc, address - CONTEXT_BASE)
+    } else if address >= PACKET_BASE {
+        packet_words(alloc, address - PACKET_BASE)
+    } else {
+        Ok(String::new(alloc))
+    }
+}
+
+/// An address in a frame, in the context or in the packet.
 pub fn own_words(alloc: Global, address: u64) -> Result<String, AllocError>
     ensures { IfOk result (λ text. string_bytes text ≡ own_words address) }
 {
     if address >= STACK_BASE {
         let above = address - STACK_BASE;
         frame_words(alloc, above / FRAME_STRIDE, above % FRAME_STRIDE)
-    } else if address >= CONTEXT_BASE {
-        context_words(alloc, address - CONTEXT_BASE)
     } else {
-        Ok(String::new(alloc))
+        given_words(alloc, address)
     }
 }
