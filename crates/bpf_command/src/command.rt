@@ -168,6 +168,6 @@ pub enum Request {
         /// To write JSON objects in place of lines.
         json: bool,
     },
-    /// To print the page of a code, or of an error, a flag or a helper.
+    /// To print the page of a code, or of an error, a flag, a helper or a word of run files.
     Page(Topic),
 }

@@ -1,5 +1,5 @@
--- What can be explained: a code by its spelling, or an error, a flag or a helper by its name. The
--- names are those of Linux (errno(3), bpf(2), bpf-helpers(7)), or our own.
+-- What can be explained: a code by its spelling, or an error, a flag, a helper or a word of run files
+-- by its name. The names are those of Linux (errno(3), bpf(2), bpf-helpers(7)), or our own.
 use Rattle.std.specs.Prelude.{ℕ, Bool, ◌||◌, List, find, Option, Some, None, codes}
 use Rattle.std.specs.Str.{bytes_eq}
 use Rattle.bpf_codes.specs.Code.{code_of}
@@ -25,7 +25,18 @@ term_text term.Lookup = codes "bpf_map_lookup_elem"
 term_text term.Update = codes "bpf_map_update_elem"
 term_text term.Delete = codes "bpf_map_delete_elem"
 term_text term.ProcessorId = codes "bpf_get_smp_processor_id"
+term_text term.Time = codes "bpf_ktime_get_ns"
+term_text term.Trace = codes "bpf_trace_printk"
+term_text term.Random = codes "bpf_get_prandom_u32"
+term_text term.Process = codes "bpf_get_current_pid_tgid"
+term_text term.User = codes "bpf_get_current_uid_gid"
+term_text term.Lock = codes "bpf_spin_lock"
+term_text term.Unlock = codes "bpf_spin_unlock"
+term_text term.BootTime = codes "bpf_ktime_get_boot_ns"
 term_text term.Spare = codes "spare"
+term_text term.Packet = codes "packet"
+term_text term.Xdp = codes "xdp"
+term_text term.Tc = codes "tc"
 
 -- helpers have the shorter names that assembly takes, too
 abbrev pub short_text : Term → List ℕ
@@ -33,6 +44,14 @@ short_text term.Lookup = codes "lookup"
 short_text term.Update = codes "update"
 short_text term.Delete = codes "delete"
 short_text term.ProcessorId = codes "cpu"
+short_text term.Time = codes "ktime_get_ns"
+short_text term.Trace = codes "trace_printk"
+short_text term.Random = codes "get_prandom_u32"
+short_text term.Process = codes "get_current_pid_tgid"
+short_text term.User = codes "get_current_uid_gid"
+short_text term.Lock = codes "spin_lock"
+short_text term.Unlock = codes "spin_unlock"
+short_text term.BootTime = codes "ktime_get_boot_ns"
 short_text t = term_text t
 
 abbrev pub is_called : Term → List ℕ → Bool

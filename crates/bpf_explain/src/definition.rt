@@ -6,7 +6,7 @@ use crate::pages::terms;
 use crate::term::Term;
 use std::fmt;
 
-/// What there is to say of an error, a flag or a helper.
+/// What there is to say of an error, a flag, a helper or a word of run files.
 #[derive(Clone, Copy, PartialEq, Eq, Debug)]
 pub struct Definition {
     pub term: Term,
@@ -47,6 +47,17 @@ pub fn definition_of(term: Term) -> Definition
         Term::Update => terms::UPDATE,
         Term::Delete => terms::DELETE,
         Term::ProcessorId => terms::PROCESSOR_ID,
+        Term::Time => terms::TIME,
+        Term::Trace => terms::TRACE,
+        Term::Random => terms::RANDOM,
+        Term::Process => terms::PROCESS,
+        Term::User => terms::USER,
+        Term::Lock => terms::LOCK,
+        Term::Unlock => terms::UNLOCK,
+        Term::BootTime => terms::BOOT_TIME,
         Term::Spare => terms::SPARE,
+        Term::Packet => terms::PACKET,
+        Term::Xdp => terms::XDP,
+        Term::Tc => terms::TC,
     }
 }

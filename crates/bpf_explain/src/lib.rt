@@ -1,5 +1,5 @@
 //! What the codes mean that the program prints: for each a page, with an input that gives it and
-//! what to do; and pages of errors, flags and helpers, by their names.
+//! what to do; and pages of errors, flags, helpers and words of run files, by their names.
 #![tactic(auto)]
 
 pub mod definition;

@@ -1,4 +1,4 @@
-//! Names of errors, flags and helpers, and of what a map has.
+//! Names of errors, flags and helpers, and of what run files say.
 
 ghost use Rattle.std.specs.Prelude.{◌≡◌};
 ghost use Rattle.bpf_explain.specs.Term.{is_called, short_text, term_of, term_text};
@@ -20,11 +20,22 @@ pub enum Term {
     Update,
     Delete,
     ProcessorId,
+    Time,
+    Trace,
+    Random,
+    Process,
+    User,
+    Lock,
+    Unlock,
+    BootTime,
     Spare,
+    Packet,
+    Xdp,
+    Tc,
 }
 
 /// All of them.
-pub const TERMS: [Term; 15] = [
+pub const TERMS: [Term; 26] = [
     Term::Enoent,
     Term::TooBig,
     Term::Enomem,
@@ -39,7 +50,18 @@ pub const TERMS: [Term; 15] = [
     Term::Update,
     Term::Delete,
     Term::ProcessorId,
+    Term::Time,
+    Term::Trace,
+    Term::Random,
+    Term::Process,
+    Term::User,
+    Term::Lock,
+    Term::Unlock,
+    Term::BootTime,
     Term::Spare,
+    Term::Packet,
+    Term::Xdp,
+    Term::Tc,
 ];
 
 impl Term {
@@ -62,7 +84,18 @@ impl Term {
             Term::Update => "bpf_map_update_elem",
             Term::Delete => "bpf_map_delete_elem",
             Term::ProcessorId => "bpf_get_smp_processor_id",
+            Term::Time => "bpf_ktime_get_ns",
+            Term::Trace => "bpf_trace_printk",
+            Term::Random => "bpf_get_prandom_u32",
+            Term::Process => "bpf_get_current_pid_tgid",
+            Term::User => "bpf_get_current_uid_gid",
+            Term::Lock => "bpf_spin_lock",
+            Term::Unlock => "bpf_spin_unlock",
+            Term::BootTime => "bpf_ktime_get_boot_ns",
             Term::Spare => "spare",
+            Term::Packet => "packet",
+            Term::Xdp => "xdp",
+            Term::Tc => "tc",
         }
     }
 
@@ -75,6 +108,14 @@ impl Term {
             Term::Update => "update",
             Term::Delete => "delete",
             Term::ProcessorId => "cpu",
+            Term::Time => "ktime_get_ns",
+            Term::Trace => "trace_printk",
+            Term::Random => "get_prandom_u32",
+            Term::Process => "get_current_pid_tgid",
+            Term::User => "get_current_uid_gid",
+            Term::Lock => "spin_lock",
+            Term::Unlock => "spin_unlock",
+            Term::BootTime => "ktime_get_boot_ns",
             other => other.text(),
         }
     }

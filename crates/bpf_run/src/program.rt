@@ -89,7 +89,8 @@ pub enum Ending {
 const NO_CODE: &str = "\
 no such code is printed: there are A1 to A6, E1 to E14, F1 to F7, G1 to G5, H1, J1 to J4, L1 to L11, S1 to S12 and X1;
 nor is it an error (ENOMEM, EEXIST, ENOENT, E2BIG, EINVAL, EPERM, EBUSY), a flag (BPF_ANY, BPF_NOEXIST, BPF_EXIST),
-a helper (lookup, update, delete, cpu, or bpf_map_lookup_elem and the like) or `spare`
+a helper (lookup, update, delete, cpu, spin_lock, or bpf_map_lookup_elem and the like),
+or a word of run files (spare, packet, xdp, tc)
 
 For more information, try 'ebpf explain --help'.";
 

@@ -1,4 +1,4 @@
-//! Errors that helpers answer, flags, and the helpers.
+//! Errors that helpers answer, flags, the helpers, and words of run files.
 
 use crate::definition::Definition;
 use crate::term::Term;
@@ -131,6 +131,80 @@ pub const PROCESSOR_ID: Definition = Definition {
 R0 is the number. R1 to R5 are 0 afterwards.",
 };
 
+pub const TIME: Definition = Definition {
+    term: Term::Time,
+    meaning: "helper 5, `call ktime_get_ns`: the time of the job, in nanoseconds",
+    advice: "\
+R0 is N of the job's `time N` in a run file, and 0 where the line doesn't say
+it. There is no clock: the time stays the same while the job runs. R1 to R5 are
+0 afterwards.",
+};
+
+pub const TRACE: Definition = Definition {
+    term: Term::Trace,
+    meaning: "helper 6, `call trace_printk`: nothing is printed",
+    advice: "\
+R0 is 0, whatever R1 to R5 are: the helper looks at none of them, so an address
+where no bytes are is no fault. The call is no event, and `run --events` has no
+line of it. To see a number, store it to a value of a map or an array, or end
+with it in R0. R1 to R5 are 0 afterwards.",
+};
+
+pub const RANDOM: Definition = Definition {
+    term: Term::Random,
+    meaning: "helper 7, `call get_prandom_u32`: the next random number of the job",
+    advice: "\
+R0 is a number of 32 bits. The numbers follow from the seed, which is N of the
+job's `random N` in a run file, and else the job's number: each run of the file
+has the same, and no other job changes them. R1 to R5 are 0 afterwards.",
+};
+
+pub const PROCESS: Definition = Definition {
+    term: Term::Process,
+    meaning: "helper 14, `call get_current_pid_tgid`: the process and the thread of the job",
+    advice: "\
+R0 has the process in its upper 32 bits and the thread in its lower 32 bits.
+Both are the number of the job plus 1, where the first job of a run file has
+number 0: so two jobs are two processes. R1 to R5 are 0 afterwards.",
+};
+
+pub const USER: Definition = Definition {
+    term: Term::User,
+    meaning: "helper 15, `call get_current_uid_gid`: the user and the group of the job",
+    advice: "\
+R0 is 0: each job is root's. R1 to R5 are 0 afterwards.",
+};
+
+pub const LOCK: Definition = Definition {
+    term: Term::Lock,
+    meaning: "helper 93, `call spin_lock`: the lock is taken, once nobody else has it",
+    advice: "\
+R1 is the address of the lock: four bytes of a value of a map or an array, at a
+multiple of 4, which are 0 while nobody has it and 1 else. Where it is taken
+the call uses up a step and is made again with the next one; a job that takes a
+lock twice waits until its budget is used up. `--patient` suits files with
+locks: it leaves such outcomes out, and prints what waits for ever. An address
+where no value has four bytes is F1, also one in a frame; one that is no
+multiple of 4 is F2. R0 to R5 are 0 afterwards.",
+};
+
+pub const UNLOCK: Definition = Definition {
+    term: Term::Unlock,
+    meaning: "helper 94, `call spin_unlock`: the lock is free again",
+    advice: "\
+R1 is the address of the lock, as for `spin_lock`. Its four bytes are 0
+afterwards, whoever has taken it: nothing tests that it was this job. A job that
+ends with a lock leaves it taken. R0 to R5 are 0 afterwards.",
+};
+
+pub const BOOT_TIME: Definition = Definition {
+    term: Term::BootTime,
+    meaning: "helper 125, `call ktime_get_boot_ns`: the time of the job, in nanoseconds",
+    advice: "\
+R0 is the same as that of `ktime_get_ns`: N of the job's `time N` in a run file,
+else 0. R1 to R5 are 0 afterwards.",
+};
+
 pub const SPARE: Definition = Definition {
     term: Term::Spare,
     meaning: "how many elements a map has beside those for its greatest number of keys",
@@ -140,4 +214,35 @@ it, so an update may find no free one: it answers ENOMEM. With `spare 0` that
 is so from the first update of a full map's key on. A spare element for each
 update that a job makes of one key suffices where each job makes few; a program
 that changes a value in place, by a store or `lock`, needs none.",
+};
+
+pub const PACKET: Definition = Definition {
+    term: Term::Packet,
+    meaning: "the bytes that a job was given by `xdp` or `tc`, from 0x10000000 on",
+    advice: "\
+It has at most 16,384 bytes, which may be read and written at any address. The
+context at R1 has the addresses of its first byte (`data`) and of the byte after
+its last one (`data_end`); any access outside of these is F1. What a job leaves
+in its packet is printed nowhere. A job of `ctx` has none.",
+};
+
+pub const XDP: Definition = Definition {
+    term: Term::Xdp,
+    meaning: "in version 3 of run files: `job CPU NAME xdp DIGITS`, a job with a packet",
+    advice: "\
+DIGITS are the bytes of the packet, two digits a byte. R1 is the address of the
+24 bytes of Linux's `struct xdp_md`: `data` and `data_end` are the addresses at
+which the packet begins and ends, `data_meta` is `data`, `rx_queue_index` is the
+CPU, and all else is 0. tools/from-pcap makes such lines of a capture.",
+};
+
+pub const TC: Definition = Definition {
+    term: Term::Tc,
+    meaning: "in version 3 of run files: `job CPU NAME tc DIGITS`, a job with a packet",
+    advice: "\
+DIGITS are the bytes of the packet, two digits a byte. R1 is the address of the
+192 bytes of Linux's `struct __sk_buff`: `len` is the number of the packet's
+bytes, `protocol` its bytes 12 and 13 as they lie, `data` and `data_end` are the
+addresses at which it begins and ends, and all else is 0. tools/from-pcap makes
+such lines of a capture.",
 };
