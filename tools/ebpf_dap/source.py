@@ -245,7 +245,7 @@ def tool(name):
 
 
 def with_jobs(text, jobs, cpus):
-    """Returns a run file's text with other jobs (`C:NAME`, `C:NAME:DIGITS`), another number of CPUs, or as it is."""
+    """Returns a run file's text with other jobs (`C:NAME`, `C:NAME:DIGITS`, `C:NAME:xdp:DIGITS`), another number of CPUs, or as it is."""
     lines = text.splitlines()
     if cpus:
         lines = [it for it in lines if first_word(it) != "cpus"]
@@ -254,10 +254,10 @@ def with_jobs(text, jobs, cpus):
     if jobs:
         lines = [it for it in lines if first_word(it) != "job"]
         for job in jobs:
-            parts = job.split(":")
-            if not 2 <= len(parts) <= 3 or not parts[0].isdigit():
-                raise SourceError(f"job {job}: it isn't C:NAME or C:NAME:DIGITS")
-            lines.append(f"job {parts[0]} {parts[1]}" + (f" ctx {parts[2]}" if len(parts) == 3 else ""))
+            said = re.fullmatch(r"(\d+):([^:]*)(?::(?:(xdp|tc):)?([^:]*))?", job)
+            if not said:
+                raise SourceError(f"job {job}: it isn't C:NAME, C:NAME:DIGITS, C:NAME:xdp:DIGITS or C:NAME:tc:DIGITS")
+            lines.append(f"job {said[1]} {said[2]}" + (f" {said[3] or 'ctx'} {said[4]}" if said[4] is not None else ""))
     return "".join(f"{it}\n" for it in lines)
 
 
