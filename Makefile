@@ -40,6 +40,7 @@ test: ## The whole gate: the layout of the sources, every proof, every must-fail
 	tests/docs --self-test ./ebpf
 	tests/completions ./ebpf
 	tests/from-elf ./ebpf
+	tests/from-pcap ./ebpf
 	tests/programs/compare ./ebpf
 	tests/selftests ./ebpf
 	tests/dap ./ebpf
