@@ -13,9 +13,9 @@ pub struct Expectation {
 }
 
 /// The forms of lines. Pieces are between blanks: `NAME`, `N` and `HEX` are a name, a number and
-/// hex digits, any other is itself. The last eighteen are of version 3 alone, and the two before
+/// hex digits, any other is itself. The last 34 are of version 3 alone, and the two before
 /// them of version 2 too.
-const FORMS: [&str; 30] = [
+const FORMS: [&str; 46] = [
     "cpus N",
     "seed N",
     "map NAME key N value N max N spare N",
@@ -46,6 +46,22 @@ const FORMS: [&str; 30] = [
     "job N NAME budget N ctx HEX time N",
     "job N NAME budget N ctx HEX random N",
     "job N NAME budget N ctx HEX time N random N",
+    "job N NAME xdp HEX",
+    "job N NAME xdp HEX time N",
+    "job N NAME xdp HEX random N",
+    "job N NAME xdp HEX time N random N",
+    "job N NAME budget N xdp HEX",
+    "job N NAME budget N xdp HEX time N",
+    "job N NAME budget N xdp HEX random N",
+    "job N NAME budget N xdp HEX time N random N",
+    "job N NAME tc HEX",
+    "job N NAME tc HEX time N",
+    "job N NAME tc HEX random N",
+    "job N NAME tc HEX time N random N",
+    "job N NAME budget N tc HEX",
+    "job N NAME budget N tc HEX time N",
+    "job N NAME budget N tc HEX random N",
+    "job N NAME budget N tc HEX time N random N",
 ];
 
 /// How many forms version 1 has.

@@ -23,11 +23,11 @@ xdp_context cpu n =
 abbrev pub protocol : List ℕ → List ℕ
 protocol packet = get_or packet 12 0 ∷ get_or packet 13 0 ∷ 0 ∷ 0 ∷ []
 
--- struct __sk_buff: len, protocol, data and data_end, and all else is 0
+-- struct __sk_buff: len, protocol, data, data_end and data_meta (of which there is none), and all else is 0
 abbrev pub tc_context : List ℕ → List ℕ
 tc_context packet =
     to_le_bytes w32 (length packet) ++ replicate 12 0 ++ protocol packet ++ replicate 56 0
-    ++ data ++ data_end (length packet) ++ replicate 108 0
+    ++ data ++ data_end (length packet) ++ replicate 56 0 ++ data ++ replicate 48 0
 
 abbrev pub packet_context : Hook → ℕ → List ℕ → List ℕ
 packet_context Xdp cpu packet = xdp_context cpu (length packet)

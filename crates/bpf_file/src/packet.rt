@@ -71,7 +71,9 @@ fn tc_context(alloc: Global, packet: &[u8]) -> Result<Vec<u8>, AllocError>
     context.extend_from_slice(&[0; 56])?;
     push_number(&mut context, data)?;
     push_number(&mut context, data + count)?;
-    context.extend_from_slice(&[0; 108])?;
+    context.extend_from_slice(&[0; 56])?;
+    push_number(&mut context, data)?;
+    context.extend_from_slice(&[0; 48])?;
     Ok(context)
 }
 

@@ -7,7 +7,7 @@ syntax match ebpfLine '^\s*\(ebpf-run\|cpus\|seed\|array\|data\|var\|put\|end\|p
 syntax match ebpfLine '^\s*map\ze\s\+\w\+\s\+key\>'
 syntax match ebpfSplit '^\s*---\s*$'
 syntax match ebpfLabel '^\s*\h\w*\ze:'
-syntax keyword ebpfWord key value max spare mask grow percpu frozen budget ctx time random hex
+syntax keyword ebpfWord key value max spare mask grow percpu frozen budget ctx xdp tc time random hex
 syntax match ebpfRegister '\<[rw]\(10\|[0-9]\)\>'
 syntax keyword ebpfFlow if goto gotol call exit
 syntax match ebpfName '\(=\s*&\s*\|=\s*map\s\+\)\@<=\h\w*'
