@@ -1,4 +1,4 @@
--- Which helpers ask the store, and what a try of a lock comes to.
+-- Which helpers ask the store, and what a try of a lock leads to.
 use Rattle.std.proofs.Common.{◌≡◌, ◌≢◌, ℕ, zero, suc, inl, inr, refl}
 use Rattle.bpf_loader.specs.Rows.{IsHelper}
 use Rattle.bpf_helpers.specs.Calls.{IsHelperNumber, lock_number, unlock_number}

@@ -39,7 +39,7 @@ impl Input {
         Input::of_bytes(alloc, Vec::new(alloc))
     }
 
-    /// The same again.
+    /// A copy of it.
     pub fn copy(&self, alloc: Global) -> Result<Input, AllocError>
         ensures { IfOk result (λ copy. copy ≡ self.now) }
     {

@@ -34,7 +34,7 @@ pub fn plain_steps_are_determined()
     bpf_shared::laws::calls_have_one_reply();
 }
 
-/// What a state is saved as determines it, among those of one CPU whose contexts are equally long.
+/// What a state is saved as determines it, among those of one job.
 pub fn saved_tells_states()
     ensures { SavedTellsStates }
 {}
