@@ -1,5 +1,7 @@
 //! A machine: jobs on the CPUs of a plain store, on one thread, in the order of any schedule.
 
+ghost use Rattle.bpf_cpu.specs.Input.{IsShort};
+
 mod ahead;
 mod budgets;
 mod lane;
@@ -82,7 +84,6 @@ pub struct Machine {
 }
 
 impl Model for Machine {
-    ghost use Rattle.bpf_cpu.specs.Input.{IsShort};
     ghost use Rattle.bpf_machine.specs.Machine.{MachineState};
 
     ghost Value = { MachineState };
