@@ -23,7 +23,7 @@ JUMPS = [
     for kind in (5, 6)
 ]
 OTHERS = [(0x84, 0, 0), (0x87, 0, 0), (0xBF, 32, 0), (0x05, None, 0), (0x06, 0, 1), (0x95, 0, 0)]
-CALLS = [*((0x85, 0, number) for number in (1, 2, 3, 5, 7, 8, 9, 14, 15, 93, 94, 125))]
+CALLS = [*((0x85, 0, number) for number in (1, 2, 3, 5, 6, 7, 8, 9, 14, 15, 93, 94, 125))]
 MEMORY = [(opcode, None, 0) for opcode in (0x61, 0x69, 0x71, 0x79, 0x81, 0x89, 0x91, 0x63, 0x6B, 0x73, 0x7B)]
 STORES = [(opcode, None, None) for opcode in (0x62, 0x6A, 0x72, 0x7A)]
 ATOMICS = [

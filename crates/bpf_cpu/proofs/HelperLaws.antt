@@ -17,9 +17,10 @@ store_helper n (inr (inr (inr (inr (inl e))))) job lock unlock = absurd (job (in
 store_helper n (inr (inr (inr (inr (inr (inl e)))))) job lock unlock = absurd (job (inr (inl e)))
 store_helper n (inr (inr (inr (inr (inr (inr (inl e))))))) job lock unlock = absurd (job (inr (inr (inl e))))
 store_helper n (inr (inr (inr (inr (inr (inr (inr (inl e)))))))) job lock unlock = absurd (job (inr (inr (inr (inl e)))))
-store_helper n (inr (inr (inr (inr (inr (inr (inr (inr (inl e))))))))) job lock unlock = absurd (job (inr (inr (inr (inr e)))))
-store_helper n (inr (inr (inr (inr (inr (inr (inr (inr (inr (inl e)))))))))) job lock unlock = absurd (lock e)
-store_helper n (inr (inr (inr (inr (inr (inr (inr (inr (inr (inr e)))))))))) job lock unlock = absurd (unlock e)
+store_helper n (inr (inr (inr (inr (inr (inr (inr (inr (inl e))))))))) job lock unlock = absurd (job (inr (inr (inr (inr (inl e))))))
+store_helper n (inr (inr (inr (inr (inr (inr (inr (inr (inr (inl e)))))))))) job lock unlock = absurd (job (inr (inr (inr (inr (inr e))))))
+store_helper n (inr (inr (inr (inr (inr (inr (inr (inr (inr (inr (inl e))))))))))) job lock unlock = absurd (lock e)
+store_helper n (inr (inr (inr (inr (inr (inr (inr (inr (inr (inr (inr e))))))))))) job lock unlock = absurd (unlock e)
 
 -- a free lock is taken
 pub tried_free : (cpu : Cpu) (x : ℕ) → x ≡ 0 → after_helper cpu 0 ≡ tried cpu x

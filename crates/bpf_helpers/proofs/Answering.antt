@@ -3,38 +3,48 @@
 use Rattle.std.proofs.Common.{◌≡◌, ◌≤◌, ◌⊎◌, ℕ, inl, inr, sym, ◌∙◌, arith}
 use Rattle.bpf_helpers.specs.declared.given.Given.{Given}
 use Rattle.bpf_helpers.specs.Calls.{IsHelperNumber, lock_number, unlock_number}
-use Rattle.bpf_helpers.specs.Given.{AnswersJob, AsksOnce, IsJobHelper, time_number, boot_time_number}
+use Rattle.bpf_helpers.specs.Given.{AnswersJob, AsksOnce, IsJobHelper, boot_time_number, print_number, time_number, user_number}
 
 -- one for the time is none of the others
-no_time : (n k : ℕ) → (n ≡ time_number) ⊎ (n ≡ boot_time_number) → n ≡ k → 7 ≤ k → k ≤ 15 → ⊥
+no_time : (n k : ℕ) → (n ≡ time_number) ⊎ (n ≡ boot_time_number) → n ≡ k → 6 ≤ k → k ≤ 15 → ⊥
 no_time n k (inl e) f low high = omega (arith, e, f, low, high)
 no_time n k (inr e) f low high = omega (arith, e, f, low, high)
+
+-- nor is one that answers 0
+no_zero : (n k : ℕ) → (n ≡ user_number) ⊎ (n ≡ print_number) → n ≡ k → 7 ≤ k → k ≤ 14 → ⊥
+no_zero n k (inl e) f low high = omega (arith, e, f, low, high)
+no_zero n k (inr e) f low high = omega (arith, e, f, low, high)
+
+time_or_zero : (n : ℕ) → (n ≡ time_number) ⊎ (n ≡ boot_time_number) → (n ≡ user_number) ⊎ (n ≡ print_number) → ⊥
+time_or_zero n time (inl e) = no_time n 15 time e (omega arith) (omega arith)
+time_or_zero n time (inr e) = no_time n 6 time e (omega arith) (omega arith)
 
 pub answers_once : (n : ℕ) (given : Given) (drawn a b x y : ℕ) → AnswersJob n given drawn a x → AnswersJob n given drawn b y → (a ≡ b) × (x ≡ y)
 answers_once n given drawn a b x y (inl r) (inl s) = (r.1 ∙ sym s.1, r.2 ∙ sym s.2)
 answers_once n given drawn a b x y (inl r) (inr (inl s)) = absurd (no_time n 7 r.0 s.0 (omega arith) (omega arith))
 answers_once n given drawn a b x y (inl r) (inr (inr (inl s))) = absurd (no_time n 14 r.0 s.0 (omega arith) (omega arith))
-answers_once n given drawn a b x y (inl r) (inr (inr (inr s))) = absurd (no_time n 15 r.0 s.0 (omega arith) (omega arith))
+answers_once n given drawn a b x y (inl r) (inr (inr (inr s))) = absurd (time_or_zero n r.0 s.0)
 answers_once n given drawn a b x y (inr (inl r)) (inl s) = absurd (no_time n 7 s.0 r.0 (omega arith) (omega arith))
 answers_once n given drawn a b x y (inr (inl r)) (inr (inl s)) = (r.1 ∙ sym s.1, r.2 ∙ sym s.2)
 answers_once n given drawn a b x y (inr (inl r)) (inr (inr (inl s))) = absurd (let e = r.0 in let f = s.0 in omega arith)
-answers_once n given drawn a b x y (inr (inl r)) (inr (inr (inr s))) = absurd (let e = r.0 in let f = s.0 in omega arith)
+answers_once n given drawn a b x y (inr (inl r)) (inr (inr (inr s))) = absurd (no_zero n 7 s.0 r.0 (omega arith) (omega arith))
 answers_once n given drawn a b x y (inr (inr (inl r))) (inl s) = absurd (no_time n 14 s.0 r.0 (omega arith) (omega arith))
 answers_once n given drawn a b x y (inr (inr (inl r))) (inr (inl s)) = absurd (let e = r.0 in let f = s.0 in omega arith)
 answers_once n given drawn a b x y (inr (inr (inl r))) (inr (inr (inl s))) = (r.1 ∙ sym s.1, r.2 ∙ sym s.2)
-answers_once n given drawn a b x y (inr (inr (inl r))) (inr (inr (inr s))) = absurd (let e = r.0 in let f = s.0 in omega arith)
-answers_once n given drawn a b x y (inr (inr (inr r))) (inl s) = absurd (no_time n 15 s.0 r.0 (omega arith) (omega arith))
-answers_once n given drawn a b x y (inr (inr (inr r))) (inr (inl s)) = absurd (let e = r.0 in let f = s.0 in omega arith)
-answers_once n given drawn a b x y (inr (inr (inr r))) (inr (inr (inl s))) = absurd (let e = r.0 in let f = s.0 in omega arith)
+answers_once n given drawn a b x y (inr (inr (inl r))) (inr (inr (inr s))) = absurd (no_zero n 14 s.0 r.0 (omega arith) (omega arith))
+answers_once n given drawn a b x y (inr (inr (inr r))) (inl s) = absurd (time_or_zero n s.0 r.0)
+answers_once n given drawn a b x y (inr (inr (inr r))) (inr (inl s)) = absurd (no_zero n 7 r.0 s.0 (omega arith) (omega arith))
+answers_once n given drawn a b x y (inr (inr (inr r))) (inr (inr (inl s))) = absurd (no_zero n 14 r.0 s.0 (omega arith) (omega arith))
 answers_once n given drawn a b x y (inr (inr (inr r))) (inr (inr (inr s))) = (r.1 ∙ sym s.1, r.2 ∙ sym s.2)
 
 -- who answers is one of them
 pub of_job : (n : ℕ) (given : Given) (drawn a x : ℕ) → AnswersJob n given drawn a x → IsJobHelper n
 of_job n given drawn a x (inl (inl e, r, s)) = inl e
-of_job n given drawn a x (inl (inr e, r, s)) = inr (inr (inr (inr e)))
+of_job n given drawn a x (inl (inr e, r, s)) = inr (inr (inr (inr (inl e))))
 of_job n given drawn a x (inr (inl r)) = inr (inl r.0)
 of_job n given drawn a x (inr (inr (inl r))) = inr (inr (inl r.0))
-of_job n given drawn a x (inr (inr (inr r))) = inr (inr (inr (inl r.0)))
+of_job n given drawn a x (inr (inr (inr (inl e, r, s)))) = inr (inr (inr (inl e)))
+of_job n given drawn a x (inr (inr (inr (inr e, r, s)))) = inr (inr (inr (inr (inr e))))
 
 small : (n : ℕ) → IsHelperNumber n → (n ≤ 3) ⊎ (n ≡ 8)
 small n (inl e) = inl (omega (arith, e))
@@ -51,7 +61,8 @@ store_or_job n h (inl e) = apart n 5 (small n h) e (λ f. cc) (omega arith)
 store_or_job n h (inr (inl e)) = apart n 7 (small n h) e (λ f. cc) (omega arith)
 store_or_job n h (inr (inr (inl e))) = apart n 14 (small n h) e (λ f. cc) (omega arith)
 store_or_job n h (inr (inr (inr (inl e)))) = apart n 15 (small n h) e (λ f. cc) (omega arith)
-store_or_job n h (inr (inr (inr (inr e)))) = apart n 125 (small n h) e (λ f. cc) (omega arith)
+store_or_job n h (inr (inr (inr (inr (inl e))))) = apart n 125 (small n h) e (λ f. cc) (omega arith)
+store_or_job n h (inr (inr (inr (inr (inr e))))) = apart n 6 (small n h) e (λ f. cc) (omega arith)
 
 -- a helper of maps asks the store something
 map_helper : (n : ℕ) → (n ≡ 1) ⊎ (n ≡ 2) ⊎ (n ≡ 3) → IsHelperNumber n
@@ -80,7 +91,8 @@ job_or_lock n (inl e) lock = let above = (high n lock).0 in omega (arith, above,
 job_or_lock n (inr (inl e)) lock = let above = (high n lock).0 in omega (arith, above, e)
 job_or_lock n (inr (inr (inl e))) lock = let above = (high n lock).0 in omega (arith, above, e)
 job_or_lock n (inr (inr (inr (inl e)))) lock = let above = (high n lock).0 in omega (arith, above, e)
-job_or_lock n (inr (inr (inr (inr e)))) lock = let below = (high n lock).1 in omega (arith, below, e)
+job_or_lock n (inr (inr (inr (inr (inl e))))) lock = let below = (high n lock).1 in omega (arith, below, e)
+job_or_lock n (inr (inr (inr (inr (inr e))))) lock = let above = (high n lock).0 in omega (arith, above, e)
 
 pub map_asks : (n : ℕ) → (n ≡ 1) ⊎ (n ≡ 2) ⊎ (n ≡ 3) → AsksOnce n → ⊥
 map_asks n m (inl (inl e)) = let below = low n m in omega (arith, below, e)

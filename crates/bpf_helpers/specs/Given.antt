@@ -7,10 +7,13 @@ use Rattle.rand_xoshiro.specs.SplitMix64.{splitmix_steps}
 use Rattle.bpf_helpers.specs.declared.given.Given.{Given}
 use Rattle.bpf_helpers.specs.Calls.{lock_number, processor_number, unlock_number}
 
--- the helpers' numbers: ktime_get_ns, get_prandom_u32, get_current_pid_tgid, get_current_uid_gid,
--- ktime_get_boot_ns
+-- the helpers' numbers: ktime_get_ns, trace_printk, get_prandom_u32, get_current_pid_tgid,
+-- get_current_uid_gid, ktime_get_boot_ns
 abbrev pub time_number : ℕ
 time_number = 5
+
+abbrev pub print_number : ℕ
+print_number = 6
 
 abbrev pub random_number : ℕ
 random_number = 7
@@ -27,7 +30,7 @@ boot_time_number = 125
 abbrev pub IsJobHelper : ℕ → Type 0
 IsJobHelper n =
     (n ≡ time_number) ⊎ (n ≡ random_number) ⊎ (n ≡ process_number) ⊎ (n ≡ user_number)
-    ⊎ (n ≡ boot_time_number)
+    ⊎ (n ≡ boot_time_number) ⊎ (n ≡ print_number)
 
 -- the helpers that ask no store, whatever registers hold: these, and the one for the CPU's number
 abbrev pub AsksNothing : ℕ → Type 0
@@ -50,11 +53,12 @@ random_after seed n =
 abbrev pub process_of : ℕ → ℕ
 process_of job = (job + 1) % 2 ^ 32 * (2 ^ 32 + 1)
 
--- what they answer a job that has drawn so many random numbers, and how many it has drawn then
+-- AnswersJob n given drawn answer after: what helper n answers a job that has drawn `drawn` random
+-- numbers; the job has drawn `after` of them then. trace_printk prints nothing.
 abbrev pub AnswersJob : ℕ → Given → ℕ → ℕ → ℕ → Type 0
 AnswersJob n given drawn answer after =
     (((n ≡ time_number) ⊎ (n ≡ boot_time_number)) × (answer ≡ given.time) × (after ≡ drawn))
     ⊎ ((n ≡ random_number) × (answer ≡ random_after given.seed drawn)
     × (after ≡ (drawn + 1) % 2 ^ 64))
     ⊎ ((n ≡ process_number) × (answer ≡ process_of given.job) × (after ≡ drawn))
-    ⊎ ((n ≡ user_number) × (answer ≡ 0) × (after ≡ drawn))
+    ⊎ (((n ≡ user_number) ⊎ (n ≡ print_number)) × (answer ≡ 0) × (after ≡ drawn))

@@ -5,7 +5,7 @@ ghost use Rattle.bpf_helpers.specs.Given.{AnswersJob, AsksOnce, IsJobHelper, pro
 
 use crate::numbers::{
     GET_CURRENT_PID_TGID, GET_CURRENT_UID_GID, GET_PRANDOM_U32, GET_SMP_PROCESSOR_ID,
-    KTIME_GET_BOOT_NS, KTIME_GET_NS, MAP_DELETE_ELEM, SPIN_LOCK, SPIN_UNLOCK,
+    KTIME_GET_BOOT_NS, KTIME_GET_NS, MAP_DELETE_ELEM, SPIN_LOCK, SPIN_UNLOCK, TRACE_PRINTK,
 };
 use rand_core::{Rng, SeedableRng};
 use rand_xoshiro::SplitMix64;
@@ -67,6 +67,7 @@ pub fn is_of_job(number: u32) -> bool
                 | GET_CURRENT_PID_TGID
                 | GET_CURRENT_UID_GID
                 | KTIME_GET_BOOT_NS
+                | TRACE_PRINTK
         )
 }
 
@@ -92,7 +93,7 @@ pub fn answer_job(number: u32, given: &Given, drawn: &mut u64) -> u64
             answer
         }
         GET_CURRENT_PID_TGID => process_of(given.job),
-        GET_CURRENT_UID_GID => 0,
+        GET_CURRENT_UID_GID | TRACE_PRINTK => 0,
         _ => given.time,
     }
 }

@@ -12,6 +12,9 @@ pub const MAP_DELETE_ELEM: u32 = 3;
 /// ktime_get_ns, in bpf-helpers(7).
 pub const KTIME_GET_NS: u32 = 5;
 
+/// trace_printk, in bpf-helpers(7).
+pub const TRACE_PRINTK: u32 = 6;
+
 /// get_prandom_u32, in bpf-helpers(7).
 pub const GET_PRANDOM_U32: u32 = 7;
 

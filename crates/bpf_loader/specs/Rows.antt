@@ -83,8 +83,10 @@ map_of _ = None
 
 -- the helpers of bpf-helpers(7) that this machine has: of maps map_lookup_elem, map_update_elem and
 -- map_delete_elem; get_smp_processor_id; of the job ktime_get_ns, get_prandom_u32,
--- get_current_pid_tgid, get_current_uid_gid and ktime_get_boot_ns; and spin_lock and spin_unlock
+-- get_current_pid_tgid, get_current_uid_gid, ktime_get_boot_ns and trace_printk; and spin_lock and
+-- spin_unlock
 abbrev pub IsHelper : ℕ → Type 0
 IsHelper number =
     (number ≡ 1) ⊎ (number ≡ 2) ⊎ (number ≡ 3) ⊎ (number ≡ 8) ⊎ (number ≡ 5) ⊎ (number ≡ 7)
-    ⊎ (number ≡ 14) ⊎ (number ≡ 15) ⊎ (number ≡ 125) ⊎ (number ≡ 93) ⊎ (number ≡ 94)
+    ⊎ (number ≡ 14) ⊎ (number ≡ 15) ⊎ (number ≡ 125) ⊎ (number ≡ 6) ⊎ (number ≡ 93)
+    ⊎ (number ≡ 94)

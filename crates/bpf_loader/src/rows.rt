@@ -69,5 +69,5 @@ pub fn map_of(insn: Insn) -> Option<u32>
 pub fn is_helper(number: u32) -> bool
     ensures { IsTrue result ↔ IsHelper number }
 {
-    matches!(number, 1 | 2 | 3 | 8 | 5 | 7 | 14 | 15 | 125 | 93 | 94)
+    matches!(number, 1 | 2 | 3 | 8 | 5 | 7 | 14 | 15 | 125 | 6 | 93 | 94)
 }
