@@ -1,5 +1,5 @@
 -- What a machine is made of, and what it asks of that.
-use Rattle.std.specs.Prelude.{◌≡◌, ◌<◌, ◌≤◌, All, length, map, vec_len}
+use Rattle.std.specs.Prelude.{◌≡◌, ◌<◌, All, length, map, vec_len}
 use Rattle.bpf_shared.specs.Shape.{Shape}
 use Rattle.bpf_pairs.specs.Pairs.{ArePairs, pair_of}
 use Rattle.bpf_loader.specs.declared.named.Named.{Named}
