@@ -3,6 +3,7 @@ pub mod Key
 pub mod Form
 pub mod Version
 pub mod Statement
+pub mod Packet
 pub mod File
 pub mod Contents
 pub mod Parts

@@ -7,27 +7,29 @@ use Rattle.bpf_file.specs.declared.packet.Hook.{Hook}
 use Rattle.bpf_file.specs.declared.packet.Hook.TheVariants.{Xdp, Tc}
 
 -- where the packet begins, and where it ends, if it has so many bytes
-abbrev pub data : List ℕ
-data = to_le_bytes w32 packet_base
+abbrev pub start_field : List ℕ
+start_field = to_le_bytes w32 packet_base
 
-abbrev pub data_end : ℕ → List ℕ
-data_end n = to_le_bytes w32 (packet_base + n)
+abbrev pub end_field : ℕ → List ℕ
+end_field n = to_le_bytes w32 (packet_base + n)
 
 -- struct xdp_md: data, data_end, data_meta (of which there is none), ingress_ifindex, rx_queue_index,
 -- egress_ifindex
 abbrev pub xdp_context : ℕ → ℕ → List ℕ
 xdp_context cpu n =
-    data ++ data_end n ++ data ++ to_le_bytes w32 0 ++ to_le_bytes w32 cpu ++ to_le_bytes w32 0
+    start_field ++ end_field n ++ start_field ++ to_le_bytes w32 0 ++ to_le_bytes w32 cpu
+    ++ to_le_bytes w32 0
 
 -- the type of an Ethernet packet, as its bytes lie
 abbrev pub protocol : List ℕ → List ℕ
 protocol packet = get_or packet 12 0 ∷ get_or packet 13 0 ∷ 0 ∷ 0 ∷ []
 
--- struct __sk_buff: len, protocol, data, data_end and data_meta (of which there is none), and all else is 0
+-- struct __sk_buff: len, protocol, data, data_end and data_meta (of which there is none), and all else
+-- is 0
 abbrev pub tc_context : List ℕ → List ℕ
 tc_context packet =
     to_le_bytes w32 (length packet) ++ replicate 12 0 ++ protocol packet ++ replicate 56 0
-    ++ data ++ data_end (length packet) ++ replicate 56 0 ++ data ++ replicate 48 0
+    ++ start_field ++ end_field (length packet) ++ replicate 56 0 ++ start_field ++ replicate 48 0
 
 abbrev pub packet_context : Hook → ℕ → List ℕ → List ℕ
 packet_context Xdp cpu packet = xdp_context cpu (length packet)
