@@ -160,12 +160,12 @@ around_short given hook cpu (Ok bytes) input h e =
     subst IsShortInput same (context_small hook cpu bytes, h bytes refl)
 around_short given hook cpu (Err x) input h e = cc
 
+pub packet_short : (digits bytes : List ℕ) → length digits ≤ 2 * max_packet → decode_of digits ≡ Ok bytes → length bytes ≤ max_packet
+packet_short digits bytes s e = let sizes = decode_of-ok digits bytes e in let twice : length digits ≡ 2 * length bytes = sizes.2 in omega arith
+
 pub input_short : (given : Given) (cpu : ℕ) (context : Option (List ℕ)) (packet : Option (Hook × List ℕ)) (input : Input) → IsShort context → IsBrief packet → input_of given cpu context packet ≡ Ok input → IsShortInput input
 input_short given cpu context None input short brief e = bare_short given (context_of context) input (λ bytes h. context_short context bytes short h) e
-input_short given cpu context (Some packet) input short brief e = around_short given packet.0 cpu (decode_of packet.1) input (λ bytes h. few packet.1 bytes brief h) e
-  where
-    few : (digits bytes : List ℕ) → length digits ≤ 2 * max_packet → decode_of digits ≡ Ok bytes → length bytes ≤ max_packet
-    few digits bytes s e = let sizes = decode_of-ok digits bytes e in let twice : length digits ≡ 2 * length bytes = sizes.2 in omega arith
+input_short given cpu context (Some packet) input short brief e = around_short given packet.0 cpu (decode_of packet.1) input (λ bytes h. packet_short packet.1 bytes brief h) e
 
 -- ---- the rows
 

@@ -131,7 +131,7 @@ fn around_packet(
     cpu: u8,
     packet: PacketLine<'_>,
 ) -> Result<Input, FileError>
-    requires brief { IsBrief (Some (packet_said packet.entry)) }
+    requires brief { IsBrief (Some (packet_said packet)) }
     ensures { HasContext (λ i. i) line (around_packet given packet.entry.hook cpu
         (decode_of packet.entry.digits.now)) result }
 {
@@ -604,7 +604,7 @@ impl<'a> Draft<'a> {
         cpu: u8,
         job: JobLine<'_>,
     ) -> Result<Input, FileError>
-        requires { IsShortSaid (said_by (statement_kind.Job job.entry)) }
+        requires { IsShortSaid (said_by (statement_kind.Job job)) }
         ensures { HasContext (λ i. i) line (input_said (length (part_of self.now).file.jobs) cpu
             (job_line job.entry)) result }
     {
