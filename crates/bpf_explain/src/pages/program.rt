@@ -142,8 +142,8 @@ pub const E12: Page = Page {
     advice: "\
 It has 1, 2 and 3 (lookup, update and deletion in maps), 8 (the CPU's number), 5
 and 125 (the time), 6 (`bpf_trace_printk`, which prints nothing), 7 (a random
-number), 14 and 15 (process and user), 93 and 94 (locks). A call of a function of
-the program is `call +4` or `call NAME`.",
+number), 14 and 15 (process and user), 93 and 94 (locks). A call of a function
+of the program is `call +4` or `call NAME`.",
 };
 
 pub const E13: Page = Page {
