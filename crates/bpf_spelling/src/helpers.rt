@@ -11,6 +11,7 @@ pub enum Helper {
     Delete,
     ProcessorId,
     Time,
+    Trace,
     Random,
     Process,
     User,
@@ -20,12 +21,13 @@ pub enum Helper {
 }
 
 /// All of them.
-pub const HELPERS: [Helper; 11] = [
+pub const HELPERS: [Helper; 12] = [
     Helper::Lookup,
     Helper::Update,
     Helper::Delete,
     Helper::ProcessorId,
     Helper::Time,
+    Helper::Trace,
     Helper::Random,
     Helper::Process,
     Helper::User,
@@ -45,6 +47,7 @@ impl Helper {
             Helper::Delete => 3,
             Helper::ProcessorId => 8,
             Helper::Time => 5,
+            Helper::Trace => 6,
             Helper::Random => 7,
             Helper::Process => 14,
             Helper::User => 15,
@@ -64,6 +67,7 @@ impl Helper {
             Helper::Delete => "bpf_map_delete_elem",
             Helper::ProcessorId => "bpf_get_smp_processor_id",
             Helper::Time => "bpf_ktime_get_ns",
+            Helper::Trace => "bpf_trace_printk",
             Helper::Random => "bpf_get_prandom_u32",
             Helper::Process => "bpf_get_current_pid_tgid",
             Helper::User => "bpf_get_current_uid_gid",
@@ -83,6 +87,7 @@ impl Helper {
             Helper::Delete => "delete",
             Helper::ProcessorId => "cpu",
             Helper::Time => "ktime_get_ns",
+            Helper::Trace => "trace_printk",
             Helper::Random => "get_prandom_u32",
             Helper::Process => "get_current_pid_tgid",
             Helper::User => "get_current_uid_gid",
