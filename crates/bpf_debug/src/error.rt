@@ -23,7 +23,7 @@ pub enum DebugError {
     #[error("out of memory")]
     OutOfMemory,
     /// G4
-    #[error("so many turns were not made, or this is no key of the map and no index of the array")]
+    #[error("fewer turns were made, or the map has no such key, or the array no such index")]
     BadOperand,
 }
 

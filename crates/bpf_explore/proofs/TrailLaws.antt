@@ -159,7 +159,7 @@ module _ (runs : World → List ℕ → World → Type 0) (join : StayAndJoin ru
   pub are_led : (kept : List MachineState) (origins : List Origin) → AreOrigins runs kept origins → ((i : ℕ) → i < length kept → (schedule : List ℕ) × LeadsThrough runs kept 0 schedule i)
   are_led kept origins are i inside = led_below kept origins are (suc i) i (omega arith) inside
 
-  -- ---- so many machines are reached
+  -- ---- n machines are reached
   pub record Reached (kept : List MachineState) (w : World) (n : ℕ) : Type 0 where
     pub worlds : List World
     pub count : length worlds ≡ n

@@ -49,7 +49,7 @@ abbrev pub HaveAll : World → Names → Bool → List Found → Type 0
 HaveAll w names maps answers = (text : List ℕ) (stopped : Bool) → IsOutcome w names maps text stopped
     → IsTold answers text stopped
 
--- schedules lead to so many machines, of which no two are the same
+-- schedules lead to this number of machines, of which no two are the same
 pub record AreReached (w : World) (states : ℕ) : Type 0 where
   pub worlds : List World
   pub count : length worlds ≡ states

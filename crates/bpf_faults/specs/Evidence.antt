@@ -67,7 +67,7 @@ LeavesNoneOut w machine evidence =
 abbrev pub sizes_of : Input → Sizes
 sizes_of input = record { context = length input.context; packet = length input.packet }
 
--- so many bytes the jobs are given that wait
+-- how many bytes each waiting job is given
 abbrev pub AreSizes : List Task → List Sizes → Type 0
 AreSizes jobs sizes =
     (j : ℕ) (task : Task) (input : Input) → slice_get jobs j ≡ Some task

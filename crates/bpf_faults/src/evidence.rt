@@ -65,7 +65,7 @@ impl Seen {
         self.held.extend_from_slice(state.held.spans())
     }
 
-    /// Sees the state in which a job starts on this CPU, with so many bytes of memory.
+    /// Sees the state in which a job starts on this CPU, with memory of these sizes.
     pub(crate) fn see_start(
         &mut self,
         alloc: Global,

@@ -6,7 +6,7 @@ use Rattle.bpf_mem.specs.Addresses.{packet_base}
 use Rattle.bpf_file.specs.declared.packet.Hook.{Hook}
 use Rattle.bpf_file.specs.declared.packet.Hook.TheVariants.{Xdp, Tc}
 
--- where the packet begins, and where it ends, if it has so many bytes
+-- where a packet begins, and where one of n bytes ends
 abbrev pub start_field : List ℕ
 start_field = to_le_bytes w32 packet_base
 
