@@ -49,7 +49,7 @@ all_sizes jobs sizes e j task input listed waits = at_job (slice_get jobs j) ref
         let same : waiting job ≡ task = cc shown in
         let stage : Waiting job.input ≡ Waiting input = ap (λ (t : Task). t.stage) same ∙ waits in
         let own : job.input ≡ input = cc stage in
-        ap (λ (s : List ℕ). slice_get s j) e
+        ap (λ (s : List Sizes). slice_get s j) e
         ∙ (slice_get-map (λ (job : Job). sizes_of job.input) jobs j
         ∙ (ap (option_map (λ (job : Job). sizes_of job.input)) some ∙ ap (λ (i : Input). Some (sizes_of i)) own))
 
@@ -197,14 +197,14 @@ watched_stay w c answer z sizes before evidence takes grow has are = at_turn (tu
   where
     at_turn : Turned w c answer z → AreWatched z.jobs sizes evidence
     at_turn (inl m) = record {
-      sizes = subst (λ (ts : List Task). AreSizes ts sizes) (sym m.is)
-          (still w.jobs m.job m.task m.stage sizes m.listed (λ input e. subst (λ (s : Stage). IsAnswered m.job s answer) e m.answers) are.sizes);
+      known = subst (λ (ts : List Task). AreSizes ts sizes) (sym m.is)
+          (still w.jobs m.job m.task m.stage sizes m.listed (λ input e. subst (λ (s : Stage). IsAnswered m.job s answer) e m.answers) are.known);
       one = one_still w.jobs z.jobs c answer m are.one;
       have = have_still w.jobs z.jobs c answer before evidence m grow has are.have;
     }
     at_turn (inr a) =
         subst (λ (x : World). AreWatched x.jobs sizes evidence) (sym a.3)
-        (record { sizes = are.sizes; one = are.one; have = λ j fault pc e. grow j fault pc (are.have j fault pc e) })
+        (record { known = are.known; one = are.one; have = λ j fault pc e. grow j fault pc (are.have j fault pc e) })
 
 -- a job at first
 at_first : (jobs : List Job) (j : ℕ) (task : Task) → slice_get (map waiting jobs) j ≡ Some task → (input : Input) × (task.stage ≡ Waiting input)
@@ -219,7 +219,7 @@ at_first jobs j task listed = at_job (slice_get jobs j) refl
 
 pub watched_first : (jobs : List Job) (sizes : List Sizes) → AreSizes (map waiting jobs) sizes → AreWatched (map waiting jobs) sizes []
 watched_first jobs sizes are = record {
-  sizes = are;
+  known = are;
   one = λ c j k task other state now left rest a b.
       let first = at_first jobs j task a.listed in
       let no : InHand state left ≡ Waiting first.0 = sym a.at ∙ first.1 in

@@ -33,7 +33,7 @@ HaveOneInHand jobs = (c j k : ℕ) (task other : Task) (state now : Cpu) (left r
 -- what turns that are watched leave true of the jobs
 pub record AreWatched (jobs : List Task) (sizes : List Sizes) (evidence : List Evidence)
     : Type 0 where
-  pub sizes : AreSizes jobs sizes
+  pub known : AreSizes jobs sizes
   pub one : HaveOneInHand jobs
   pub have : HaveEvidence jobs evidence
 

@@ -9,7 +9,7 @@ pub watch_turn-requires-clause-shown : goal.watch_turn-requires-clause-shown
 watch_turn-requires-clause-shown c = let r = c.loop-cpu.invariant.runs c.requires.shown.0 c.requires.shown.1 in (r.0, r.2)
 
 pub watch_turn-requires-clause-sizes : goal.watch_turn-requires-clause-sizes
-watch_turn-requires-clause-sizes c = c.loop-cpu.invariant.watched.sizes
+watch_turn-requires-clause-sizes c = c.loop-cpu.invariant.watched.known
 
 pub watch_turn-requires-clause-one : goal.watch_turn-requires-clause-one
 watch_turn-requires-clause-one c = c.loop-cpu.invariant.watched.one
