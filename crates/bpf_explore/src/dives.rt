@@ -7,7 +7,7 @@ ghost use Rattle.bpf_machine.specs.Patient.{NoneRanOut};
 ghost use Rattle.bpf_machine.specs.Rounds.{HaveEnded};
 ghost use Rattle.bpf_machine.specs.Schedule.{World};
 ghost use Rattle.bpf_jobs.specs.Printed.{lines_of_lists, TellsWith};
-ghost use Rattle.bpf_explore.specs.Private.Answers.{AllEnd, AreOneMore, AreSorted, IsFirst};
+ghost use Rattle.bpf_explore.specs.Private.Answers.{AllEnd, AreOneMore, AreSorted, IsFirst, KeepsAll};
 ghost use Rattle.bpf_explore.specs.Private.Patience.{AllEndPatiently};
 
 use crate::answers::{Answer, place_of};
@@ -55,6 +55,7 @@ fn tell_end(
 fn add_answer(answers: &mut Vec<Answer>, answer: Answer) -> Result<(), AllocError>
     requires { AreSorted answers.old.items }
     ensures sorted { AreSorted answers.new.items }
+    ensures keeps { KeepsAll answers.old.items answers.new.items }
     ensures adds { AreOneMore answers.old.items answer answers.new.items }
 {
     if let Err(at) = place_of(answers, answer.text()) {
@@ -77,6 +78,7 @@ pub(crate) fn dive_further(
         → AllEnd w (names_of names.now) maps answers.old.items }
     ensures same { explorer.new.kept ≡ explorer.old.kept }
     ensures sorted { AreSorted answers.new.items }
+    ensures keeps { KeepsAll answers.old.items answers.new.items }
     ensures ends { (w : World) → IsFirst explorer.old.kept w
         → AllEnd w (names_of names.now) maps answers.new.items }
 {
@@ -104,6 +106,7 @@ pub(crate) fn dive_patiently(
         → AllEndPatiently w (names_of names.now) maps answers.old.items }
     ensures same { explorer.new.kept ≡ explorer.old.kept }
     ensures sorted { AreSorted answers.new.items }
+    ensures keeps { KeepsAll answers.old.items answers.new.items }
     ensures ends { (w : World) → IsFirst explorer.old.kept w
         → AllEndPatiently w (names_of names.now) maps answers.new.items }
 {

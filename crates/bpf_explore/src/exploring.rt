@@ -43,7 +43,7 @@ pub struct Explored {
 }
 
 /// The answers: what is printed of each kept machine without work, and, where the search met its
-/// limit, of where dives lead.
+/// limit, of where dives lead. A dive only adds answers, so one that is refused memory is passed over.
 fn find_answers(
     alloc: Global,
     explorer: &mut Explorer,
@@ -55,14 +55,14 @@ fn find_answers(
     ensures same { explorer.new.kept ≡ explorer.old.kept }
     ensures outcomes { IfOk result (λ answers. (w : World) → IsFirst explorer.old.kept w
         → AreOutcomes w (names_of names.now) maps answers.items) }
-    ensures answered { extent ≡ Extent.Whole → IfOk result (λ answers. (i : ℕ)
+    ensures answered { IfOk result (λ answers. (i : ℕ)
         → IsAnsweredAt explorer.old.kept (names_of names.now) maps answers.items i) }
 {
     let mut answers = gather(alloc, explorer, names, maps)?;
     if !extent.is_limited() {
         return Ok(answers);
     }
-    dive_further(alloc, explorer, names, maps, &mut answers)?;
+    let _ = dive_further(alloc, explorer, names, maps, &mut answers);
     Ok(answers)
 }
 
@@ -221,7 +221,7 @@ fn find_patiently(
     ensures same { explorer.new.kept ≡ explorer.old.kept }
     ensures outcomes { IfOk result (λ r. (w : World) → IsFirst explorer.old.kept w
         → ArePatient w (names_of names.now) maps r.0.items) }
-    ensures answered { extent ≡ Extent.Whole → IfOk result (λ r. r.1 ≡ true → (i : ℕ)
+    ensures answered { IfOk result (λ r. r.1 ≡ true → (i : ℕ)
         → IsAnsweredAt explorer.old.kept (names_of names.now) maps r.0.items i) }
     ensures out { IfOk result (λ r. r.1 ≡ false → CanRunOut explorer.old.kept) }
 {
@@ -229,7 +229,7 @@ fn find_patiently(
     if !extent.is_limited() {
         return Ok((answers, told));
     }
-    dive_patiently(alloc, explorer, names, maps, &mut answers)?;
+    let _ = dive_patiently(alloc, explorer, names, maps, &mut answers);
     Ok((answers, told))
 }
 

@@ -3,6 +3,7 @@ use Rattle.bpf_names.specs.Names.{names_of}
 use Rattle.bpf_machine.specs.Machine.{MachineState}
 use Rattle.bpf_machine.specs.Schedule.{unrolled}
 use Rattle.bpf_explore.specs.Private.Replays.{IsReplayed}
+use Rattle.bpf_explore.proofs.AnswerLaws.{more_kept}
 use Rattle.bpf_explore.proofs.DiveLaws.{all_end_still, found_ends}
 use Rattle.bpf_explore.proofs.dives.dive_further.Goals as goal
 
@@ -16,6 +17,10 @@ returns-in_err-add_answer-clause-ends c w first =
     let ends = found_ends kept m c.machine.result.now names c.args.maps c.in_ok-report.field-0 c.in-Some.report by c.machine.ensures.machine c.machine.ensures.lists dived c.in-Some.is c.in_ok-report.ensures.ended c.in_ok-report.ensures.told c.new.result c.new.ensures w first in
     all_end_still c.loop-number.answers.items c.add_answer.new.answers.items c.new.result w names c.args.maps c.add_answer.ensures.adds ends (c.loop-number.invariant.ends w first)
 
+pub returns-in_err-add_answer-clause-keeps : goal.returns-in_err-add_answer-clause-keeps
+returns-in_err-add_answer-clause-keeps c =
+    more_kept c.args.answers.now.items c.loop-number.answers.items c.add_answer.new.answers.items c.loop-number.invariant.keeps c.add_answer.ensures.keeps
+
 pub loop-number-preserved : goal.loop-number-preserved
 loop-number-preserved c =
     let names = names_of c.args.names.now in
@@ -26,6 +31,7 @@ loop-number-preserved c =
     record {
       same = c.dive.ensures.same ∙ c.loop-number.invariant.same;
       sorted = c.add_answer.ensures.sorted;
+      keeps = more_kept c.args.answers.now.items c.loop-number.answers.items c.add_answer.new.answers.items c.loop-number.invariant.keeps c.add_answer.ensures.keeps;
       ends = λ w first. (
           let ends = found_ends kept m c.machine.result.now names c.args.maps c.in_ok-report.field-0 c.in-Some.report by c.machine.ensures.machine c.machine.ensures.lists dived c.in-Some.is c.in_ok-report.ensures.ended c.in_ok-report.ensures.told c.new.result c.new.ensures w first in
           all_end_still c.loop-number.answers.items c.add_answer.new.answers.items c.new.result w names c.args.maps c.add_answer.ensures.adds ends (c.loop-number.invariant.ends w first));

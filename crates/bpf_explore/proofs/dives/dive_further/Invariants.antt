@@ -2,12 +2,13 @@ use Rattle.std.proofs.Common.{◌≡◌, map}
 use Rattle.std.specs.Prelude.{string_bytes}
 use Rattle.bpf_names.specs.Names.{names_of}
 use Rattle.bpf_machine.specs.Schedule.{World}
-use Rattle.bpf_explore.specs.Private.Answers.{AllEnd, AreSorted, IsFirst}
+use Rattle.bpf_explore.specs.Private.Answers.{AllEnd, AreSorted, IsFirst, KeepsAll}
 use Rattle.bpf_explore.proofs.dives.dive_further.Given as goal
 
 abbrev pub invariant-loop-number : goal.invariant-loop-number
 invariant-loop-number l = record {
   same : l.explorer.kept ≡ l.fn.explorer.kept;
   sorted : AreSorted l.answers.items;
+  keeps : KeepsAll l.fn.answers.items l.answers.items;
   ends : (w : World) → IsFirst l.fn.explorer.kept w → AllEnd w (names_of l.names) l.maps l.answers.items;
 }

@@ -2,7 +2,7 @@ use Rattle.std.proofs.Common.{◌≡◌, map}
 use Rattle.std.specs.Prelude.{string_bytes}
 use Rattle.bpf_names.specs.Names.{names_of}
 use Rattle.bpf_machine.specs.Schedule.{World}
-use Rattle.bpf_explore.specs.Private.Answers.{AreSorted, IsFirst}
+use Rattle.bpf_explore.specs.Private.Answers.{AreSorted, IsFirst, KeepsAll}
 use Rattle.bpf_explore.specs.Private.Patience.{AllEndPatiently}
 use Rattle.bpf_explore.proofs.dives.dive_patiently.Given as goal
 
@@ -10,5 +10,6 @@ abbrev pub invariant-loop-number : goal.invariant-loop-number
 invariant-loop-number l = record {
   same : l.explorer.kept ≡ l.fn.explorer.kept;
   sorted : AreSorted l.answers.items;
+  keeps : KeepsAll l.fn.answers.items l.answers.items;
   ends : (w : World) → IsFirst l.fn.explorer.kept w → AllEndPatiently w (names_of l.names) l.maps l.answers.items;
 }

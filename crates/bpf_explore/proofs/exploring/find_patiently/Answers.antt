@@ -1,7 +1,9 @@
 use Rattle.std.proofs.Common.{◌≡◌, ◌∙◌, List, sym, subst}
+use Rattle.bpf_names.specs.Names.{names_of}
 use Rattle.bpf_machine.specs.Machine.{MachineState}
 use Rattle.bpf_machine.specs.Schedule.{World}
 use Rattle.bpf_explore.specs.Private.Answers.{IsFirst}
+use Rattle.bpf_explore.proofs.AnswerLaws.{answered_still}
 use Rattle.bpf_explore.proofs.exploring.find_patiently.Goals as goal
 
 pub dive_patiently-requires-clause-first : goal.dive_patiently-requires-clause-first
@@ -18,3 +20,7 @@ returns-clause-outcomes c w first = record {
   each = c.dive_patiently.ensures.ends w (subst (λ (ms : List MachineState). IsFirst ms w) (sym c.gather_patiently.ensures.same) first);
   sorted = c.dive_patiently.ensures.sorted;
 }
+
+pub returns-clause-answered : goal.returns-clause-answered
+returns-clause-answered c told i =
+    answered_still c.args.explorer.now.kept (names_of c.args.names.now) c.args.maps c.in_ok-answers.answers.items c.dive_patiently.new.answers.items i c.dive_patiently.ensures.keeps (c.in_ok-answers.ensures.answered told i)
