@@ -24,7 +24,12 @@ use Rattle.bpf_file.specs.declared.version.Version.{Version as Edition}
 use Rattle.bpf_file.specs.Version.{may_grow, has_arrays}
 use Rattle.bpf_file.specs.Statement.{Said, Version, Cpus, Seed, Map, Array, Data, Variable, Put, PutNumbers, Program, Words, Job, most_count, count_at, with_number, map_said, array_said, size_of, variable_at, variable_said, size_named, key_number, is_open, with_size, numbers_said, work_of, arrays_of, growing_of, statement_of, JobSaid, with_job, last_two, before_two, last_number, timed_of, seeded_of, packet_for, with_packet, packeted_of}
 use Rattle.bpf_file.specs.Parts.{Part, group_of, is_in_order, is_full}
-use Rattle.bpf_file.specs.Private.Drafts.{IsShortSaid}
+use Rattle.bpf_file.specs.declared.draft.Next.{Next}
+use Rattle.bpf_file.specs.declared.error.FileError.{FileError}
+use Rattle.bpf_file.specs.declared.error.FileError.TheVariants.{Refused, OutOfMemory}
+use Rattle.bpf_file.specs.Reading.{AddsOrRefuses, FieldsSay}
+use Rattle.bpf_file.specs.Private.Answers.{OrMemory}
+use Rattle.bpf_file.specs.Private.Drafts.{IsShortSaid, after, Added}
 use Rattle.bpf_file.specs.Rows.{first_said, later_said, may_stand, placed}
 use Rattle.bpf_file.proofs.Names.{and_both}
 
@@ -305,3 +310,16 @@ pub short_said : {A : Type 0} (p : Part) (fields : List A) (g : A → List ℕ) 
     → Ok s ≡ placed p (field_at (map g fields) 0) (statement_of p.version (map g fields)) → IsShortSaid s
 short_said p [] g s some e = absurd (omega (arith, some))
 short_said p (f ∷ fs) g s some e = (comes p (g f) (map g fs) s (sym e)).1
+
+-- what a line says is what its fields say
+pub fields_say : {A : Type 0} (n : ℕ) (p q : Part) (fields : List A) (g : A → List ℕ) (s : Said) (r : Result Next FileError) → 1 ≤ length fields
+    → Ok s ≡ placed p (field_at (map g fields) 0) (statement_of p.version (map g fields)) → Added n p s q r
+    → OrMemory (λ a. FieldsSay n p (map g fields) (after n q a)) r
+fields_say n p q [] g s r some e h = absurd (omega (arith, some))
+fields_say n p q (f ∷ fs) g s (Ok x) some e h =
+    let P : Result Said Reason → Type 0 = λ w. AddsOrRefuses n p w (after n q (Ok x)) in
+    subst P e h
+fields_say n p q (f ∷ fs) g s (Err OutOfMemory) some e h = tt
+fields_say n p q (f ∷ fs) g s (Err (Refused m why)) some e h =
+    let P : Result Said Reason → Type 0 = λ w. AddsOrRefuses n p w (after n q (Err (Refused m why))) in
+    subst P e h
