@@ -9,5 +9,5 @@ add-requires-clause-short c =
 
 pub returns-in-Ok : goal.returns-in-Ok
 returns-in-Ok c =
-    fields_say c.args.line (part_of c.args.self.now) (part_of _) c.args.fields.now (λ f. f.now) (said_by c.in-Ok.said) c.add.result
+    fields_say c.args.line (part_of c.args.self.now) _ c.args.fields.now (λ f. f.now) (said_by c.in-Ok.said) c.add.result
     c.in-len1-up.len_at_least c.in-Ok.ensures c.add.ensures
