@@ -1,12 +1,14 @@
 -- What a run file expects of its outcomes, in its comments. Our own choice.
-use Rattle.std.specs.Prelude.{ℕ, Bool, false, ◌==◌, ◌&&◌, ◌||◌, List, [], ◌∷◌, Option, Some, None, if◌then◌else◌, is_none, option_and_then, option_map, codes, length, nat_le}
-use Rattle.std.specs.List.{after_first, filter_map, position}
+use Rattle.std.specs.Prelude.{ℕ, Bool, false, ◌==◌, ◌&&◌, ◌||◌, List, [], ◌∷◌, Option, Some, None, if◌then◌else◌, is_none, option_and_then, option_map, codes, length}
+use Rattle.std.specs.List.{filter_map, position}
 use Rattle.std.specs.Str.{bytes_eq}
-use Rattle.bpf_lines.specs.Lines.{fields_of, lines_of}
+use Rattle.bpf_lines.specs.Lines.{lines_of}
 use Rattle.bpf_check.specs.declared.expectation.Often.{Often}
 use Rattle.bpf_check.specs.declared.expectation.Often.TheVariants as often
 use Rattle.bpf_check.specs.Claim.{Part, has_part, joined}
+use Rattle.bpf_check.specs.Comments.{is_near, words_of}
 use Rattle.bpf_check.specs.Parts.{join_in, joint_of, line_of, line_part, parts_in}
+use Rattle.bpf_check.specs.Settings.{is_misset}
 use Rattle.bpf_check.specs.Subjects.{Subjects, can_print_all}
 use Rattle.bpf_check.specs.declared.claim.Join.{Join}
 use Rattle.bpf_check.specs.declared.claim.Join.TheVariants as join
@@ -90,21 +92,6 @@ expected_in s [] = None
 expected_in s (word ∷ []) = None
 expected_in s (word ∷ first ∷ more) = expected_by s word (first ∷ more)
 
--- they begin with the same two bytes in the other order, and are else the same
-abbrev pub are_exchanged : List ℕ → List ℕ → Bool
-are_exchanged (a ∷ b ∷ bytes) (o ∷ p ∷ others) = a == p && (b == o && bytes_eq bytes others)
-are_exchanged _ _ = false
-
--- one edit at most makes a word of the other: a byte more, less or changed, or two neighbours
--- exchanged
-abbrev pub is_near : List ℕ → List ℕ → Bool
-is_near [] others = nat_le (length others) 1
-is_near (b ∷ bytes) [] = nat_le (length bytes) 0
-is_near (b ∷ bytes) (o ∷ others) =
-    if b == o then is_near bytes others
-    else (bytes_eq bytes others || (bytes_eq (b ∷ bytes) others || (bytes_eq bytes (o ∷ others)
-    || are_exchanged (b ∷ bytes) (o ∷ others))))
-
 abbrev pub seems_often : List ℕ → Bool
 seems_often word =
     is_near word (codes "always") || (is_near word (codes "sometimes") || is_near word (codes "never"))
@@ -121,19 +108,9 @@ is_claim (word ∷ second ∷ []) =
     seems_often word && is_alone second
 is_claim (word ∷ second ∷ third ∷ more) = seems_often word
 
--- and they can't
+-- the words of a comment are meant to expect something, or to say how the file is checked, and can't
 abbrev pub is_amiss : Subjects → List (List ℕ) → Bool
-is_amiss s words = is_claim words && is_none (expected_in s words)
-
--- what is after a line's first `;`
-abbrev pub is_mark : ℕ → Bool
-is_mark b = b == 59
-
-abbrev pub comment_of : List ℕ → List ℕ
-comment_of line = after_first is_mark line
-
-abbrev pub words_of : List ℕ → List (List ℕ)
-words_of line = fields_of (comment_of line)
+is_amiss s words = is_misset words || (is_claim words && is_none (expected_in s words))
 
 -- ---- a file
 

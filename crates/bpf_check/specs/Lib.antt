@@ -1,6 +1,8 @@
 pub mod Subjects
 pub mod Claim
 pub mod Parts
+pub mod Comments
+pub mod Settings
 pub mod Expectation
 pub mod Unexpected
 pub mod Findings

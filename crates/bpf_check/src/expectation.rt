@@ -1,14 +1,16 @@
 //! What a run file expects of its outcomes, in its comments.
 
 ghost use Rattle.std.specs.Prelude.{◌≡◌, ◌≤◌, ◌++◌, false, IfErr, IfOk, IfSome, None, OnOk, length, map};
-ghost use Rattle.std.specs.List.{before_first};
-ghost use Rattle.bpf_check.specs.Expectation.{agrees, are_exchanged, asks_ends, asks_hung, asks_of_ends, can_ask, claim_of, comment_of, expectations_of, expected_by, expected_in, first_amiss, is_alone, is_amiss, is_claim, is_mark, is_near, is_often, often_in, often_text, seems_often, whole, words_of};
+ghost use Rattle.bpf_check.specs.Comments.{words_of};
+ghost use Rattle.bpf_check.specs.Expectation.{agrees, asks_ends, asks_hung, asks_of_ends, can_ask, claim_of, expectations_of, expected_by, expected_in, first_amiss, is_alone, is_amiss, is_claim, is_often, often_in, often_text, seems_often, whole};
 ghost use Rattle.bpf_check.specs.Faults.{speaks_of_faults};
 ghost use Rattle.bpf_check.specs.Parts.{line_of};
 ghost use Rattle.bpf_check.specs.Unexpected.{IsUnexpected};
 
 use crate::claim::{Join, Part, are_of_faults, is_joined};
+use crate::comments::{comment_of, is_near};
 use crate::parts::{line_of, line_part, parts_in};
+use crate::settings::is_misset;
 use crate::subjects::{Subjects, is, word_at};
 use bpf_lines::lines::{fields, first_line};
 use std::alloc::{AllocError, Global};
@@ -221,35 +223,6 @@ fn expected_in(
     }
 }
 
-/// Whether words begin with the same two bytes in the other order, and are else the same.
-fn are_exchanged(word: &[u8], other: &[u8]) -> bool
-    ensures { result ≡ are_exchanged word.now other.now }
-{
-    match (word, other) {
-        ([first, second, bytes @ ..], [own, next, others @ ..]) => {
-            first == next && second == own && bytes == others
-        }
-        _ => false,
-    }
-}
-
-/// Whether one edit at most makes a word of the other.
-fn is_near(word: &[u8], other: &[u8]) -> bool
-    ensures { result ≡ is_near word.now other.now }
-{
-    match (word, other) {
-        ([], _) => other.len() <= 1,
-        ([_, bytes @ ..], []) => bytes.is_empty(),
-        ([byte, bytes @ ..], [own, others @ ..]) => {
-            if byte == own {
-                is_near(bytes, others)
-            } else {
-                bytes == others || word == others || bytes == other || are_exchanged(word, other)
-            }
-        }
-    }
-}
-
 /// Whether a word seems to say how often.
 fn seems_often(word: &[u8]) -> bool
     ensures { result ≡ seems_often word.now }
@@ -275,26 +248,6 @@ fn is_claim(words: &[&[u8]]) -> bool
     }
 }
 
-/// How much of a line is before its first `;`.
-fn mark_in(line: &[u8]) -> usize
-    ensures value { result ≡ length (before_first is_mark line.now) }
-    ensures bound { result ≤ length line.now }
-{
-    line.iter().take_while(|byte| **byte != b';').count()
-}
-
-/// What is after a line's first `;`.
-fn comment_of<'a>(line: &'a [u8]) -> &'a [u8]
-    ensures { result.now ≡ comment_of line.now }
-{
-    let mark = mark_in(line);
-    if mark < line.len() {
-        &line[mark + 1..]
-    } else {
-        &line[mark..]
-    }
-}
-
 /// What the comment of a line expects, if it says so.
 fn expectation_in(
     alloc: Global,
@@ -307,11 +260,14 @@ fn expectation_in(
     expected_in(alloc, subjects, &words)
 }
 
-/// Whether the comment of a line is meant to expect something, and can't.
+/// Whether the comment of a line is meant to expect something, or to say how the file is checked, and can't.
 fn is_amiss(alloc: Global, subjects: &Subjects, line: &[u8]) -> Result<bool, AllocError>
     ensures { IfOk result (λ amiss. amiss ≡ is_amiss subjects.now (words_of line.now)) }
 {
     let words = fields(alloc, comment_of(line))?;
+    if is_misset(&words) {
+        return Ok(true);
+    }
     if !is_claim(&words) {
         return Ok(false);
     }

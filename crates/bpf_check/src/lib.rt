@@ -3,6 +3,7 @@
 
 mod checking;
 mod claim;
+mod comments;
 mod expectation;
 mod faults;
 mod findings;
@@ -10,6 +11,7 @@ mod judging;
 pub mod laws;
 mod listing;
 mod parts;
+mod settings;
 mod single;
 mod subjects;
 
@@ -20,5 +22,6 @@ pub use faults::unexpected_fault;
 pub use findings::Findings;
 pub use judging::{Conclusion, Verdict, conclusion_by, ends_verdict, judge};
 pub use listing::{first_count, last_count, plan};
+pub use settings::{MOST_STATES, Settings, settings_of};
 pub use single::{Judged, check_printed};
 pub use subjects::Subjects;

@@ -58,6 +58,7 @@ NamesSearch rows options = NamesLimit rows options.limit
 -- the options of a search whose outcomes are compared with what comments expect
 abbrev pub NamesCheck : List Row → CheckOptions → Type 0
 NamesCheck rows options = NamesSearch rows options.search
+    × (options.limited ≡ is_given (codes "limit") rows)
     × (options.lenient ≡ is_given (codes "lenient") rows)
 
 -- the options of a search for races

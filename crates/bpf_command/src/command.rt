@@ -79,6 +79,8 @@ pub struct SearchOptions {
 #[derive(PartialEq, Eq, Debug, Drop)]
 pub struct CheckOptions {
     pub search: SearchOptions,
+    /// Whether the limit was given: else one that the file's comments ask for takes its place.
+    pub limited: bool,
     /// To pass over comments that are meant to expect something and can't.
     pub lenient: bool,
 }

@@ -297,6 +297,7 @@ fn check_of(options: &ArgMatches) -> CheckOptions
 {
     CheckOptions {
         search: search_of(options),
+        limited: is_given(options, "limit"),
         lenient: is_given(options, "lenient"),
     }
 }

@@ -159,9 +159,13 @@ With --patient outcomes are those in which no budget is used up, and the first t
 can end': 'not ok' with a line '# hung by' for each state from which no turns lead to an outcome.
 '; always ends' asks the same, and '; sometimes hung' that there is such a state.
 
+A comment '; check patient', '; check limit N' or '; check patient limit N' asks for --patient or the
+limit where the command line doesn't; a limit that it gives goes before that of the file.
+
 A comment of three words or more that begins with 'always', 'sometimes' or 'never', or a word one edit
 away, and can't be expected of this file, is refused: L11. So are 'always ends' and
-'sometimes hung' without --patient. --lenient passes such comments over.
+'sometimes hung' without --patient, and 'check limit' without its number. --lenient passes such
+comments over.
 
 The tests of several files are one list: their numbers go on, and each names its file. A file that is
 refused has a line 'refused CODE - FILE' and no test. The exit status is that of the worst file, where

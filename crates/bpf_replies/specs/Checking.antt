@@ -1,15 +1,18 @@
 -- What `check` replies: whether a run file's outcomes are as its comments expect.
-use Rattle.std.specs.Prelude.{◌≡◌, ◌++◌, ℕ, Bool, true, false, List, [], string_bytes}
+use Rattle.std.specs.Prelude.{◌≡◌, ◌++◌, ◌||◌, ℕ, Bool, true, false, List, [], if◌then◌else◌, string_bytes, unwrap_or}
 use Rattle.bpf_command.specs.declared.command.CheckOptions.{CheckOptions}
 use Rattle.bpf_check.specs.Expectation.{Expected}
 use Rattle.bpf_check.specs.Findings.{Findings}
 use Rattle.bpf_check.specs.Listing.{checked_text}
+use Rattle.bpf_check.specs.Settings.{settings_of}
 use Rattle.bpf_check.specs.Verdict.{conclusion_of, verdicts_of}
 use Rattle.bpf_check.specs.declared.judging.Conclusion.{Conclusion}
 use Rattle.bpf_check.specs.declared.judging.Conclusion.TheVariants as conclusion
+use Rattle.bpf_check.specs.declared.settings.Settings.{Settings}
 use Rattle.bpf_threads.specs.Lines.{notes_text}
 use Rattle.bpf_threads.specs.declared.threads.Threads.{Threads}
 use Rattle.bpf_replies.specs.Comments.{IsExpectedIn, RefusesComments, for_check}
+use Rattle.bpf_replies.specs.declared.comments.Reading.{Reading}
 use Rattle.bpf_replies.specs.Exploring.{AreFindingsBy}
 use Rattle.bpf_replies.specs.Threading.{AreThreadsOf}
 use Rattle.bpf_replies.specs.declared.reply.Reply.{Reply}
@@ -26,19 +29,35 @@ is_told conclusion.Met = true
 is_told conclusion.Unmet = true
 is_told conclusion.Untold = false
 
+-- ---- what is searched for: options go before what the comments of a file ask for
+
+-- outcomes in which no budget is used up, where either asks for them
+abbrev pub is_patient : CheckOptions → (text : List ℕ) → Bool
+is_patient o text = o.search.patient || (settings_of text).patient
+
+-- a limit that is given, else one that comments ask for, else the default
+abbrev pub limit_by : CheckOptions → Settings → ℕ
+limit_by o s = if o.limited then o.search.limit else unwrap_or s.limit o.search.limit
+
+abbrev pub limit_of : CheckOptions → (text : List ℕ) → ℕ
+limit_of o text = limit_by o (settings_of text)
+
+-- how comments are read then
+abbrev pub reading_by : CheckOptions → (text : List ℕ) → Reading
+reading_by o text = for_check (is_patient o text) o.lenient
+
 -- `check`: comments that say in which ways threads may have more outcomes; a test an expectation, each
 -- with its verdict by the findings of a search through all schedules, and of a patient one first if each
 -- can end; or the first refusal of the file or its comments
 abbrev pub IsCheckedFile : CheckOptions → List ℕ → Reply → Type 0
 IsCheckedFile o text (reply.Outcomes printed unmet told) =
     (expected : List Expected) × (f : Findings)
-    × IsExpectedIn (for_check o.search.patient o.lenient) text expected
-    × AreFindingsBy o.search.patient o.search.limit text f
+    × IsExpectedIn (reading_by o text) text expected
+    × AreFindingsBy (is_patient o text) (limit_of o text) text f
     × (threads : Threads) × AreThreadsOf text threads
     × (string_bytes printed ≡ notes_text [] threads
     ++ checked_text f expected (verdicts_of f expected))
     × (unmet ≡ is_unmet (conclusion_of f expected))
     × (told ≡ is_told (conclusion_of f expected))
-IsCheckedFile o text (reply.Refused r) =
-    RefusesComments (for_check o.search.patient o.lenient) text r
+IsCheckedFile o text (reply.Refused r) = RefusesComments (reading_by o text) text r
 IsCheckedFile o text _ = ⊥

@@ -5,10 +5,10 @@ use Rattle.bpf_check.specs.Expectation.{Expected}
 use Rattle.bpf_check.specs.Findings.{Findings}
 use Rattle.bpf_check.specs.Listing.{count_of, listed_text, name_text, plan_text}
 use Rattle.bpf_check.specs.Verdict.{conclusion_of, verdicts_of}
-use Rattle.bpf_replies.specs.Checking.{is_told, is_unmet}
+use Rattle.bpf_replies.specs.Checking.{is_patient, is_told, is_unmet, limit_of, reading_by}
 use Rattle.bpf_replies.specs.Input.{RefusesInput}
 use Rattle.bpf_replies.specs.Diagnostic.{refusal_text}
-use Rattle.bpf_replies.specs.Comments.{IsExpectedIn, RefusesComments, for_check}
+use Rattle.bpf_replies.specs.Comments.{IsExpectedIn, RefusesComments}
 use Rattle.bpf_replies.specs.Exploring.{AreFindingsBy}
 use Rattle.bpf_replies.specs.Threading.{AreThreadsOf}
 use Rattle.bpf_threads.specs.Lines.{notes_text}
@@ -55,11 +55,11 @@ checked_part name before f threads expected = record {
 -- the part of a text: its tests, or the first refusal of the file or its comments
 abbrev pub IsTextPart : CheckOptions → (name : List ℕ) → (before : ℕ) → List ℕ → Part → Type 0
 IsTextPart o name before text part =
-    ((r : Refusal) × RefusesComments (for_check o.search.patient o.lenient) text r
+    ((r : Refusal) × RefusesComments (reading_by o text) text r
     × (part ≡ refused_part name r))
     ⊎ ((expected : List Expected) × (f : Findings)
-    × IsExpectedIn (for_check o.search.patient o.lenient) text expected
-    × AreFindingsBy o.search.patient o.search.limit text f
+    × IsExpectedIn (reading_by o text) text expected
+    × AreFindingsBy (is_patient o text) (limit_of o text) text f
     × (threads : Threads) × AreThreadsOf text threads
     × (part ≡ checked_part name before f threads expected))
 

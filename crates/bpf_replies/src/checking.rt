@@ -1,10 +1,12 @@
 //! `ebpf check`: whether a run file's outcomes are as its comments expect, whatever the order of the
 //! CPUs' turns.
 
-ghost use Rattle.std.specs.Prelude.{◌≡◌, IfErr, IfOk};
+ghost use Rattle.std.specs.Prelude.{◌≡◌, ◌≤◌, IfErr, IfOk, IfSome};
+ghost use Rattle.bpf_check.specs.declared.settings.TheConstants.{MOST_STATES};
+ghost use Rattle.bpf_command.specs.declared.command.TheConstants.{MAX_LIMIT};
 ghost use Rattle.bpf_replies.specs.Answer.{Replies};
 ghost use Rattle.bpf_replies.specs.Comments.{IsExpectedIn, RefusesComments, for_check};
-ghost use Rattle.bpf_replies.specs.Checking.{IsCheckedFile, is_told, is_unmet};
+ghost use Rattle.bpf_replies.specs.Checking.{IsCheckedFile, is_patient, is_told, is_unmet, limit_by, limit_of, reading_by};
 ghost use Rattle.bpf_replies.specs.Exploring.{AreFindingsBy};
 ghost use Rattle.bpf_replies.specs.Threading.{AreThreadsOf};
 
@@ -13,11 +15,11 @@ use crate::exploring::findings_in;
 use crate::refusal::Refusal;
 use crate::reply::Reply;
 use crate::threading::{threads_in, with_notes};
-use bpf_check::{Conclusion, Expectation, Findings, check_explored};
-use bpf_command::CheckOptions;
+use bpf_check::{Conclusion, Expectation, Findings, Settings, check_explored, settings_of};
+use bpf_command::{CheckOptions, SearchOptions};
 use bpf_explore::Observer;
 use bpf_threads::Threads;
-use std::alloc::Global;
+use std::alloc::{AllocError, Global};
 
 pub(crate) fn is_unmet(conclusion: Conclusion) -> bool
     ensures { result ≡ is_unmet conclusion }
@@ -32,14 +34,43 @@ pub(crate) fn is_told(conclusion: Conclusion) -> bool
 }
 
 /// How `ebpf check` reads comments.
-pub(crate) fn reading_of(options: &CheckOptions) -> Reading
-    ensures { result ≡ for_check options.now.search.patient options.now.lenient }
+pub(crate) fn reading_of(patient: bool, lenient: bool) -> Reading
+    ensures { result ≡ for_check patient lenient }
 {
     Reading {
         lists: false,
-        ends: options.search.patient,
-        lenient: options.lenient,
+        ends: patient,
+        lenient,
     }
+}
+
+/// The limit of options, or else that which a file's comments ask for.
+fn limit_by(options: &CheckOptions, asked: Settings) -> u64
+    ensures value { result ≡ limit_by options.now asked }
+    ensures bound { IfSome asked.limit (λ n. n ≤ MOST_STATES) → result ≤ MAX_LIMIT }
+{
+    if options.limited {
+        options.search.limit
+    } else {
+        asked.limit.unwrap_or(options.search.limit)
+    }
+}
+
+/// The search that options and the comments of a text ask for.
+fn search_for(
+    alloc: Global,
+    options: &CheckOptions,
+    text: &str,
+) -> Result<SearchOptions, AllocError>
+    ensures patient { IfOk result (λ s. s.patient ≡ is_patient options.now text.now) }
+    ensures limit { IfOk result (λ s. s.limit ≡ limit_of options.now text.now) }
+{
+    let asked = settings_of(alloc, text.as_bytes())?;
+    Ok(SearchOptions {
+        limit: limit_by(options, asked),
+        patient: options.search.patient || asked.patient,
+        progress: options.search.progress,
+    })
 }
 
 /// What the tests of a text rest on.
@@ -61,18 +92,18 @@ pub(crate) fn grounds_in<O: Observer>(
     observer: &mut O,
 ) -> Result<Grounds, Refusal>
     ensures expected { IfOk result (λ grounds.
-        IsExpectedIn (for_check options.now.search.patient options.now.lenient) text.now
-        grounds.expected.items) }
+        IsExpectedIn (reading_by options.now text.now) text.now grounds.expected.items) }
     ensures threads { IfOk result (λ grounds. AreThreadsOf text.now grounds.threads) }
     ensures findings { IfOk result (λ grounds.
-        AreFindingsBy options.now.search.patient options.now.search.limit text.now
+        AreFindingsBy (is_patient options.now text.now) (limit_of options.now text.now) text.now
         grounds.findings) }
-    ensures refused { IfErr result
-        (RefusesComments (for_check options.now.search.patient options.now.lenient) text.now) }
+    ensures refused { IfErr result (RefusesComments (reading_by options.now text.now) text.now) }
 {
-    let expected = expected_in(alloc, reading_of(options), text)?;
+    let search = search_for(alloc, options, text)?;
+    let reading = reading_of(search.patient, options.lenient);
+    let expected = expected_in(alloc, reading, text)?;
     let threads = threads_in(alloc, text)?;
-    let findings = findings_in(alloc, &options.search, text, observer)?;
+    let findings = findings_in(alloc, &search, text, observer)?;
     Ok(Grounds {
         expected,
         threads,

@@ -127,7 +127,7 @@ digits.",
 
 pub const L11: Page = Page {
     code: Code::L11,
-    meaning: "the comment of this line expects what no outcome of the file can have",
+    meaning: "the comment of this line expects what no outcome can have, or asks for no search",
     example: Some(Example {
         command: "printf '; never job 5 cpu 0 r0=1\\nebpf-run 1\\nprog a\\nexit\\nend\\njob 0 a\\n' | \
             ebpf check",
@@ -140,6 +140,8 @@ job with its CPU, or a map with a key and a value of its sizes in lower case hex
 numbers without a 0 before them; nor `fault`, `r0 of job J < N`, `var NAME = N`,
 `map NAME[K]+AT of u64 = N`, or several of these joined by `and`, or by `or`. `always ends` and
 `sometimes hung` take `--patient`, and lines `keys` take `run --check --keys`.
+Or it begins with `check patient` or `check limit`, or words one edit away, and isn't
+`check patient`, `check limit N` or both, with N from 0 to 1,000,000,000.
 `check --lenient` passes such comments over.",
 };
 

@@ -2,7 +2,8 @@ use Rattle.std.proofs.Common.{◌≡◌, ◌++◌}
 use Rattle.std.specs.List.{filter_map}
 use Rattle.std.specs.Option.{option_copied}
 use Rattle.bpf_lines.specs.Lines.{lines_behind, rest_size}
-use Rattle.bpf_check.specs.Expectation.{expectations_of, expected_in, words_of}
+use Rattle.bpf_check.specs.Comments.{words_of}
+use Rattle.bpf_check.specs.Expectation.{expectations_of, expected_in}
 use Rattle.bpf_check.proofs.expectation.expected_of.Given as goal
 
 -- what was found, and what the lines that are left expect

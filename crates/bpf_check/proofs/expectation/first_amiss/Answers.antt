@@ -1,7 +1,8 @@
 use Rattle.std.proofs.Common.{arith}
 use Rattle.std.proofs.lemmas.Iterator.Adapters.{position_from-zero}
 use Rattle.bpf_lines.specs.Lines.{lines_of}
-use Rattle.bpf_check.specs.Expectation.{is_amiss, words_of}
+use Rattle.bpf_check.specs.Comments.{words_of}
+use Rattle.bpf_check.specs.Expectation.{is_amiss}
 use Rattle.bpf_check.proofs.expectation.first_amiss.Goals as goal
 
 pub lines-init : goal.lines-init

@@ -2,7 +2,8 @@ use Rattle.std.proofs.Common.{◌≡◌, ◌+◌, ◌≤◌, length}
 use Rattle.std.specs.List.{position_from}
 use Rattle.std.specs.Option.{option_copied}
 use Rattle.bpf_lines.specs.Lines.{lines_behind, rest_size}
-use Rattle.bpf_check.specs.Expectation.{first_amiss, is_amiss, words_of}
+use Rattle.bpf_check.specs.Comments.{words_of}
+use Rattle.bpf_check.specs.Expectation.{first_amiss, is_amiss}
 use Rattle.bpf_check.proofs.expectation.first_amiss.Given as goal
 
 -- the first is the first of the lines that are left, each of which takes a byte

@@ -1,5 +1,5 @@
 use Rattle.std.proofs.Common.{length}
-use Rattle.bpf_check.proofs.expectation.+is_near.Given as goal
+use Rattle.bpf_check.proofs.comments.+is_near.Given as goal
 
 abbrev pub decreases-is_near : goal.decreases-is_near
 decreases-is_near l = length l.word.now
