@@ -1,4 +1,5 @@
 use Rattle.std.proofs.Common.{rules, tests}
+use Rattle.std.specs.Slice.Iter as slice
 use Rattle.std.proofs.lemmas.Iterator.Consumers.{map_from_collect}
 use Rattle.std.proofs.lemmas.Iterator.Splits.{YieldsList-from_slice_split}
 use Rattle.bpf_file.specs.Rows.{is_comma}
