@@ -1,5 +1,5 @@
 -- The replies of one command to one text print the same.
-use Rattle.std.proofs.Common.{Bool, true, false, string_bytes, ◌≡◌, ◌≢◌, ◌≤◌, ℕ, List, length, inl, inr, refl, sym, ap, subst, ◌∙◌, Ok, Err}
+use Rattle.std.proofs.Common.{Bool, true, false, string_bytes, ◌≡◌, ◌≢◌, ◌≤◌, ℕ, List, length, inl, inr, refl, sym, ap, subst, ◌∙◌, Ok, Err, arith}
 use Rattle.bpf_insn.specs.declared.instruction.Insn.{Insn}
 use Rattle.bpf_insn.specs.Encoding.{IsEncodedAs}
 use Rattle.bpf_insn.specs.Refusal.{IsRefused}
@@ -210,7 +210,7 @@ module _ (words : WordsAreDetermined) (encodings : EncodingsAreDetermined) (refu
       let alone = events 1 (loaded is) budget 0 (of_bytes context) es x runs in
       let alone' = events 1 (loaded is) budget 0 (of_bytes context) fs y other in
       let Q : List Event → Type 0 = λ es. Explains ⊥ bare_shape (loaded is) budget (start 0 (of_bytes context)) es y in
-      ap reply.Ended (outcomes bare_shape (loaded is) budget 0 (of_bytes context) es x y h (unworn (loaded is) budget (start 0 (of_bytes context)) es x runs)
+      ap reply.Ended (outcomes bare_shape (loaded is) budget 0 (of_bytes context) es x y (h, omega arith) (unworn (loaded is) budget (start 0 (of_bytes context)) es x runs)
       (unworn (loaded is) budget (start 0 (of_bytes context)) es y (subst Q (alone' ∙ sym alone) other)))
   one_run budget context text r s h (Ran x is es a sound runs) (Unsound error js b first) =
       let P : List Insn → Type 0 = λ is. IsFirstRefusal no_names is error in

@@ -123,12 +123,12 @@ words_closed : (k : Option ℕ) (n : ℕ) (p : Part) (name digits : List ℕ) (r
 words_closed (Some k) n p name digits r e = subst IsClosed (sym e) tt
 words_closed None n p name digits r (o, of, e) = subst IsClosed (sym e) (program_closed p name o)
 
-put_closed : (n : ℕ) (p : Part) (c k : ℕ) (line : JobSaid) (given : Result Input FromHexError) → IsClosed (job_put n p c k line given)
-put_closed n p c k line (Ok input) = tt
-put_closed n p c k line (Err e) = tt
+said_closed : (n : ℕ) (p : Part) (c k : ℕ) (line : JobSaid) (given : Result Input FromHexError) → IsClosed (job_put n p c k line given)
+said_closed n p c k line (Ok input) = tt
+said_closed n p c k line (Err e) = tt
 
 job_closed : (n : ℕ) (p : Part) (cpu program : Option ℕ) (line : JobSaid) → IsClosed (job_added n p cpu program line)
-job_closed n p (Some c) (Some k) line = put_closed n p c k line (input_said (length p.file.jobs) c line)
+job_closed n p (Some c) (Some k) line = said_closed n p c k line (input_said (length p.file.jobs) c line)
 job_closed n p (Some c) None line = tt
 job_closed n p None k line = tt
 

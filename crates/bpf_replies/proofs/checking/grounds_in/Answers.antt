@@ -5,4 +5,4 @@ use Rattle.bpf_replies.proofs.checking.grounds_in.Goals as goal
 
 pub returns-clause-expected : goal.returns-clause-expected
 returns-clause-expected g c =
-    subst (λ (r : Reading). IsExpectedIn r c.args.text.now c.in_ok-expected.expected.items) c.reading_of.ensures c.in_ok-expected.ensures.found
+    subst (λ (r : Reading). IsExpectedIn r c.args.text.now c.in_ok-expected.expected.items) c.reading_of-reading.ensures c.in_ok-expected.ensures.found
