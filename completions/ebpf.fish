@@ -31,6 +31,7 @@ complete -c ebpf -n '__fish_seen_subcommand_from run' -l explain -f -d 'Explains
 complete -c ebpf -n '__fish_seen_subcommand_from run' -l keys -f -d 'Lists each map'\''s keys as each CPU'\''s last job ends: keys cpu C NAME KEY ..'
 complete -c ebpf -n '__fish_seen_subcommand_from run' -l maps -f -d 'Prints the maps afterwards, a line a key: map NAME KEY=VALUE'
 complete -c ebpf -n '__fish_seen_subcommand_from run' -l events -f -d 'Prints all that CPUs do at the maps first, a line an event'
+complete -c ebpf -n '__fish_seen_subcommand_from run' -l packets -f -d 'Prints afterwards what jobs that exit leave in their packets: packet J DIGITS'
 complete -c ebpf -n '__fish_seen_subcommand_from run' -l check -f -d 'Prints whether the outcome is as the file'\''s comments expect, as '\''ebpf check'\'' does'
 complete -c ebpf -n '__fish_seen_subcommand_from run' -l by -x -d 'Makes the turns of a schedule before the rounds, as '\''0*9 1*10 0*2'\'''
 complete -c ebpf -n '__fish_seen_subcommand_from run' -l workers -x -d 'Runs the CPUs at once, by 1 to 16 threads, over a store that they share'

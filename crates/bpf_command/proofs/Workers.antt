@@ -6,7 +6,7 @@ use Rattle.clap.specs.Faults.{level_fault}
 use Rattle.clap.specs.Walk.{with_default, values_or_missing, Held, Row, Rule, Text, answers_to, finished, has_row, nothing_held, rows_after, settled, walk}
 use Rattle.clap.specs.Words.{fault_of, subcommand_of}
 use Rattle.bpf_command.specs.declared.command.TheConstants.{MAX_WORKERS}
-use Rattle.bpf_command.specs.CommandLine.{HasWorkers, ebpf, events, explained, file, judged, json, keys, maps, run, schedule, stats, workers}
+use Rattle.bpf_command.specs.CommandLine.{HasWorkers, ebpf, events, explained, file, judged, json, keys, maps, packets, run, schedule, stats, workers}
 use Rattle.bpf_command.proofs.Counted.{counted_keeps, has_count}
 use Rattle.bpf_command.proofs.Ranges as range
 use Rattle.bpf_command.proofs.Ranges.{no_default}
@@ -40,6 +40,10 @@ events_keep : Keeps AreFine false (filled events)
 events_keep values rows e fine =
     range.other_used_fine (codes "workers") 1 MAX_WORKERS (codes "events") (values_or_missing (filled events) values) rows refl fine
 
+packets_keep : Keeps AreFine false (filled packets)
+packets_keep values rows e fine =
+    range.other_used_fine (codes "workers") 1 MAX_WORKERS (codes "packets") (values_or_missing (filled packets) values) rows refl fine
+
 judged_keeps : Keeps AreFine false (filled judged)
 judged_keeps values rows e fine =
     range.other_used_fine (codes "workers") 1 MAX_WORKERS (codes "check") (values_or_missing (filled judged) values) rows refl fine
@@ -66,7 +70,7 @@ explained_keeps values rows e fine =
 
 rules_keep : range.AllKeep (codes "workers") 1 MAX_WORKERS rules
 rules_keep =
-    (explained_keeps, (keys_keep, (maps_keep, (events_keep, (judged_keeps, (schedule_keeps, (workers_keep, (stats_keep, (json_keeps, (file_keeps, ((λ values rows e fine. fine), tt)))))))))))
+    (explained_keeps, (keys_keep, (maps_keep, (events_keep, (packets_keep, (judged_keeps, (schedule_keeps, (workers_keep, (stats_keep, (json_keeps, (file_keeps, ((λ values rows e fine. fine), tt))))))))))))
 
 -- ---- the rows
 
@@ -77,7 +81,8 @@ finished_workers h fine =
     let listing = with_default start (filled keys) in
     let shown = with_default listing (filled maps) in
     let told = with_default shown (filled events) in
-    let tested = with_default told (filled judged) in
+    let carried = with_default told (filled packets) in
+    let tested = with_default carried (filled judged) in
     let first = with_default tested (filled schedule) in
     let second = with_default first (filled workers) in
     let third = with_default second (filled stats) in
@@ -87,7 +92,8 @@ finished_workers h fine =
     let listed = range.default_fine (codes "workers") 1 MAX_WORKERS (codes "keys") (codes "false" ∷ []) start refl started in
     let both = range.default_fine (codes "workers") 1 MAX_WORKERS (codes "maps") (codes "false" ∷ []) listing refl listed in
     let more = range.default_fine (codes "workers") 1 MAX_WORKERS (codes "events") (codes "false" ∷ []) shown refl both in
-    let all = range.default_fine (codes "workers") 1 MAX_WORKERS (codes "check") (codes "false" ∷ []) told refl more in
+    let still = range.default_fine (codes "workers") 1 MAX_WORKERS (codes "packets") (codes "false" ∷ []) told refl more in
+    let all = range.default_fine (codes "workers") 1 MAX_WORKERS (codes "check") (codes "false" ∷ []) carried refl still in
     let given = no_default (has_row (codes "workers") first) first ∙ no_default (has_row (codes "by") tested) tested in
     let counted = range.default_fine (codes "workers") 1 MAX_WORKERS (codes "stats") (codes "false" ∷ []) second refl (subst AreFine (sym given) all) in
     let written = range.default_fine (codes "workers") 1 MAX_WORKERS (codes "json") (codes "false" ∷ []) third refl counted in

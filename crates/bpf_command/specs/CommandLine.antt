@@ -102,6 +102,10 @@ workers = counted (codes "workers") MAX_WORKERS
 abbrev pub events : Rule
 events = record (new_rule (codes "events")) { long = Some (codes "events"); action = Some SetTrue }
 
+-- `--packets`
+abbrev pub packets : Rule
+packets = record (new_rule (codes "packets")) { long = Some (codes "packets"); action = Some SetTrue }
+
 -- `--check`
 abbrev pub judged : Rule
 judged = record (new_rule (codes "check")) { long = Some (codes "check"); action = Some SetTrue }
@@ -110,7 +114,7 @@ abbrev pub run_lists : App
 run_lists = with_rule (with_rule (with_rule (new_app (codes "run")) explained) keys) maps
 
 abbrev pub run_shows : App
-run_shows = with_rule (with_rule run_lists events) judged
+run_shows = with_rule (with_rule (with_rule run_lists events) packets) judged
 
 -- `--by S`
 abbrev pub schedule : Rule
@@ -320,13 +324,19 @@ NamesShown = NamesCount (codes "show") MAX_LIMIT
 -- what only CPUs that take turns can do is asked for
 abbrev pub wants_turns : List Row → Bool
 wants_turns rows = is_given (codes "by") rows
-    || (is_given (codes "events") rows || is_given (codes "check") rows)
+    || (is_given (codes "events") rows || is_given (codes "check") rows
+    || is_given (codes "packets") rows)
 
--- options are given of which one rules out the other: that beside workers, or both what happens
--- and a verdict
+-- two of what happens, packets and a verdict are asked for
+abbrev pub wants_two : List Row → Bool
+wants_two rows = (is_given (codes "events") rows && is_given (codes "check") rows)
+    || (is_given (codes "events") rows && is_given (codes "packets") rows)
+    || (is_given (codes "check") rows && is_given (codes "packets") rows)
+
+-- options are given of which one rules out the other: what needs turns beside workers, or two of
+-- what happens, packets and a verdict
 abbrev pub do_clash : List Row → Bool
-do_clash rows = (is_given (codes "workers") rows && wants_turns rows)
-    || (is_given (codes "events") rows && is_given (codes "check") rows)
+do_clash rows = (is_given (codes "workers") rows && wants_turns rows) || wants_two rows
 
 -- the texts that an option or an argument is given
 abbrev pub given_texts : Text → List Row → List Text

@@ -42,7 +42,8 @@ pub struct FileOptions {
     ghost few: { IfSome workers (λ n. n ≤ MAX_WORKERS) } by { few-prop workers MAX_WORKERS },
 }
 
-/// The options of a run in turns on one thread that prints all that happens in it.
+/// The options of a run in turns on one thread that prints all that happens in it, or what jobs
+/// leave in their packets.
 #[derive(PartialEq, Eq, Debug, Drop)]
 pub struct HistoryOptions {
     /// To list the keys of all maps after each CPU's last job, and to print the lists.
@@ -122,6 +123,8 @@ pub enum Command {
     Run(FileOptions),
     /// Run them in turns, and print all that happens.
     History(HistoryOptions),
+    /// Run them in turns, and print what they leave in their packets.
+    Packets(HistoryOptions),
     /// Run them in turns, and print whether the outcome is as the comments of the file expect.
     Judge(JudgeOptions),
     /// Find what the jobs of a run file can reach, by every schedule.

@@ -33,8 +33,8 @@ pub enum CommandError {
     NotHex,
     /// The schedule isn't one.
     NoSchedule,
-    /// Options are there of which one rules out the other: a schedule, events or a check beside
-    /// a number of workers, whose CPUs take no turns; or events beside a check.
+    /// Options are there of which one rules out the other: a schedule, events, packets or a check
+    /// beside a number of workers, whose CPUs take no turns; or two of events, packets and a check.
     TwoWays,
     /// What is counted of a run on worker threads is asked for without workers.
     NoWorkers,
@@ -237,8 +237,10 @@ fn do_clash(options: &ArgMatches) -> bool
 {
     let events = is_given(options, "events");
     let check = is_given(options, "check");
-    let turns = is_given(options, "by") || events || check;
-    is_given(options, "workers") && turns || events && check
+    let packets = is_given(options, "packets");
+    let turns = is_given(options, "by") || events || check || packets;
+    let two = events && check || events && packets || check && packets;
+    is_given(options, "workers") && turns || two
 }
 
 /// Whether what is counted of a run on worker threads is asked for without workers.
@@ -265,6 +267,9 @@ fn run_of(alloc: Global, options: &ArgMatches) -> Result<Command, CommandError>
     let maps = is_given(options, "maps");
     if is_given(options, "events") {
         return Ok(Command::History(HistoryOptions { keys, maps, by }));
+    }
+    if is_given(options, "packets") {
+        return Ok(Command::Packets(HistoryOptions { keys, maps, by }));
     }
     if is_given(options, "check") {
         return Ok(Command::Judge(JudgeOptions { keys, by }));

@@ -3,7 +3,7 @@
 ghost use Rattle.std.specs.Prelude.{◌≡◌, false, IfOk};
 ghost use Rattle.clap.specs.Words.{app_of, rule_of, shape_of};
 ghost use Rattle.clap.specs.declared.builder.command.Command.TheViews.{out-Command as fields_of};
-ghost use Rattle.bpf_command.specs.CommandLine.{asm, asm_shows, bare, budget, check, code_rule, context, debug, debug_options, disasm, ebpf, echo, events, expand, expand_options, explain, explained, explore, explore_options, file, files, first, for_files, hex, hex_options, judged, json, keys, lenient, limit, listing, maps, one_program, patient, pc, progress, races, run, run_lists, run_options, run_shows, runs, schedule, searching, show, stats, strict, sync, workers, working};
+ghost use Rattle.bpf_command.specs.CommandLine.{asm, asm_shows, bare, budget, check, code_rule, context, debug, debug_options, disasm, ebpf, echo, events, expand, expand_options, explain, explained, explore, explore_options, file, files, first, for_files, hex, hex_options, judged, json, keys, lenient, limit, listing, maps, one_program, packets, patient, pc, progress, races, run, run_lists, run_options, run_shows, runs, schedule, searching, show, stats, strict, sync, workers, working};
 
 use crate::command::{MAX_LIMIT, MAX_WORKERS};
 use bpf_base::MAX_BUDGET;
@@ -69,8 +69,10 @@ it comes. Then a line a job is printed: job J cpu C r0=N, fault Fk at PC or out 
 With --keys each CPU lists the keys of all maps with the end of its last job, each list as they were
 at one moment, and after the lines of jobs comes one a list: keys cpu C NAME and the keys in hex.
 With --events all that CPUs do at the maps comes first, a line an event: cpu C job J pc P, what is
-done, and after = the answer. With --check the answer is that of 'ebpf check', for this order of
-turns alone. Neither goes beside --workers.
+done, and after = the answer. With --packets a line comes last for each job that has a packet and
+exits, packet J DIGITS: the bytes that it leaves there, in hex. With --check the answer is that of
+'ebpf check', for this order of turns alone. None of these three goes beside another or beside
+--workers.
 
 With --workers and --stats a line a map is printed on standard error: its segments, its keys, those on
 overflow lists and its free elements, as it is left; and how many segments were split, readings were
@@ -483,6 +485,16 @@ fn events_option<'a>(alloc: Global) -> Arg<'a>
         .help("Prints all that CPUs do at the maps first, a line an event")
 }
 
+fn packets_option<'a>(alloc: Global) -> Arg<'a>
+    ensures rule { rule_of result ≡ packets }
+    ensures own { result.global ≡ false }
+{
+    Arg::new(alloc, "packets")
+        .long("packets")
+        .action(ArgAction::SetTrue)
+        .help("Prints afterwards what jobs that exit leave in their packets: packet J DIGITS")
+}
+
 fn judged_option<'a>(alloc: Global) -> Arg<'a>
     ensures rule { rule_of result ≡ judged }
     ensures own { result.global ≡ false }
@@ -513,6 +525,7 @@ fn run_shows<'a>(alloc: Global) -> Result<Command<'a>, AllocError>
 {
     run_lists(alloc)?
         .arg(events_option(alloc))?
+        .arg(packets_option(alloc))?
         .arg(judged_option(alloc))
 }
 

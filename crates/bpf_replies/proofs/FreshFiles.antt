@@ -12,6 +12,7 @@ use Rattle.bpf_machine.specs.Laws.{IsFresh}
 use Rattle.bpf_jobs.specs.declared.rounds.Report.{Report}
 use Rattle.bpf_jobs.specs.Printed.{asked_world, IsReportBy}
 use Rattle.bpf_events.specs.Reports.{IsHistory}
+use Rattle.bpf_packets.specs.Reports.{IsReportWithPackets}
 use Rattle.bpf_debug.specs.Laws.{IsNew}
 use Rattle.bpf_debug.proofs.OwnValues.{calls_keep, made_own}
 use Rattle.bpf_shared.specs.Store.{as_made}
@@ -23,7 +24,7 @@ use Rattle.bpf_file.specs.declared.file.RunFile.{RunFile}
 use Rattle.bpf_file.specs.File.{File, file_of, shape_of}
 use Rattle.bpf_file.specs.Reading.{IsRunFile}
 use Rattle.bpf_file.specs.Runnable.{WaitsShort, IsJobFor, CanRun}
-use Rattle.bpf_replies.specs.Running.{IsHistoryOfFile, IsToldBy}
+use Rattle.bpf_replies.specs.Running.{IsHistoryOfFile, IsRunWithPacketsOfFile, IsToldBy}
 use Rattle.bpf_replies.specs.Script.{asked_world_of, first_world_of}
 use Rattle.bpf_replies.specs.declared.reply.Reply.TheVariants as reply
 
@@ -72,3 +73,11 @@ pub history : (by : List (ℕ × ℕ)) (keys maps : Bool) (text : List ℕ) (fil
     by (names_of file.names) maps (string_bytes r.text) r.stopped
     → IsHistoryOfFile by keys maps text (reply.Jobs r.text r.stopped)
 history by keys maps text file r said report = (file_of file, said, report)
+
+-- and so with packets
+pub with_packets : (by : List (ℕ × ℕ)) (keys maps : Bool) (text : List ℕ) (file : RunFile) (r : Report)
+    → IsRunFile text (Ok (file_of file))
+    → IsReportWithPackets (asked_world keys file.setup.shape (map pair_of file.setup.pairs.items) file.setup.programs.items (map waiting file.setup.jobs.items))
+    by (names_of file.names) maps (string_bytes r.text) r.stopped
+    → IsRunWithPacketsOfFile by keys maps text (reply.Jobs r.text r.stopped)
+with_packets by keys maps text file r said report = (file_of file, said, report)

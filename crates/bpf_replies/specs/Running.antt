@@ -2,6 +2,7 @@
 use Rattle.std.specs.Prelude.{ℕ, Bool, List, Option, Some, None, Err, Ok, string_bytes}
 use Rattle.bpf_jobs.specs.Printed.{IsReportBy}
 use Rattle.bpf_events.specs.Reports.{IsHistory}
+use Rattle.bpf_packets.specs.Reports.{IsReportWithPackets}
 use Rattle.bpf_workers.specs.Printed.{IsWorkersReport}
 use Rattle.bpf_file.specs.declared.error.FileError.TheVariants as FileError
 use Rattle.bpf_file.specs.File.{File}
@@ -43,6 +44,16 @@ IsHistoryBy by keys maps f printed stopped =
 
 abbrev pub IsHistoryOfFile : (by : List (ℕ × ℕ)) → (keys maps : Bool) → List ℕ → Reply → Type 0
 IsHistoryOfFile by keys maps = IsOfFile (IsHistoryBy by keys maps)
+
+-- what is printed of a file's jobs and of their packets
+abbrev pub IsRunWithPackets : (by : List (ℕ × ℕ)) → (keys maps : Bool) → File → List ℕ → Bool
+    → Type 0
+IsRunWithPackets by keys maps f printed stopped =
+    IsReportWithPackets (asked_world_of keys f) by f.names maps printed stopped
+
+abbrev pub IsRunWithPacketsOfFile : (by : List (ℕ × ℕ)) → (keys maps : Bool) → List ℕ → Reply
+    → Type 0
+IsRunWithPacketsOfFile by keys maps = IsOfFile (IsRunWithPackets by keys maps)
 
 -- `run --workers`: the lines of the jobs that the file says, ended as one history of a new store of
 -- its maps and arrays explains; then, where they are asked for, those of the keys that each CPU lists

@@ -7,7 +7,7 @@ ghost use Rattle.bpf_cpu.specs.Setup.{IsRunnable};
 ghost use Rattle.bpf_sched.specs.Refusing.{AreWorkers};
 ghost use Rattle.bpf_replies.specs.Answer.{Replies};
 ghost use Rattle.bpf_replies.specs.Judging.{IsJudgedOfFile};
-ghost use Rattle.bpf_replies.specs.Running.{IsHistoryBy, IsHistoryOfFile, IsRunByWorkers, IsRunOfFile, IsToldBy, RefusesFile};
+ghost use Rattle.bpf_replies.specs.Running.{IsHistoryBy, IsHistoryOfFile, IsRunByWorkers, IsRunWithPackets, IsRunWithPacketsOfFile, IsRunOfFile, IsToldBy, RefusesFile};
 
 use crate::comments::{Reading, expected_in};
 use crate::refusal::Refusal;
@@ -16,6 +16,7 @@ use bpf_check::{Judged, check_printed};
 use bpf_events::run_with_history;
 use bpf_file::{RunFile, read_file};
 use bpf_jobs::{Report, run_jobs_by};
+use bpf_packets::run_with_packets;
 use bpf_workers::{Counted, run_counted};
 use std::alloc::Global;
 use std::sync::Wait;
@@ -109,6 +110,40 @@ pub fn run_file_with_history(
     ensures { Replies (IsHistoryOfFile by.now keys maps text.now) result }
 {
     let Report { text, stopped } = history_by(alloc, by, keys, maps, text)?;
+    Ok(Reply::Jobs(text, stopped))
+}
+
+/// What is printed of the jobs that a text says and of their packets, by these turns and then in
+/// rounds.
+#[tactic(auto, using(crate::proofs::FreshFiles::with_packets))]
+fn packets_by(
+    alloc: Global,
+    by: &[(u8, u64)],
+    keys: bool,
+    maps: bool,
+    text: &str,
+) -> Result<Report, Refusal>
+    ensures told { IfOk result (λ report. (f : File) × IsRunFile text.now (Ok f)
+        × IsRunWithPackets by.now keys maps f (string_bytes report.text) report.stopped) }
+    ensures refused { IfErr result (RefusesFile text.now) }
+{
+    let file = file_in(alloc, text)?;
+    let RunFile { setup, names, .. } = file;
+    let report = run_with_packets(alloc, setup, &names, by, keys, maps)?;
+    Ok(report)
+}
+
+/// `ebpf run --packets`: these turns and then rounds, with what jobs leave in their packets.
+pub fn run_file_with_packets(
+    alloc: Global,
+    by: &[(u8, u64)],
+    keys: bool,
+    maps: bool,
+    text: &str,
+) -> Result<Reply, Refusal>
+    ensures { Replies (IsRunWithPacketsOfFile by.now keys maps text.now) result }
+{
+    let Report { text, stopped } = packets_by(alloc, by, keys, maps, text)?;
     Ok(Reply::Jobs(text, stopped))
 }
 

@@ -95,8 +95,10 @@ impl Subject {
             ) => Subject::Workers,
             Command::Run(FileOptions { by, .. }) if by.is_empty() => Subject::Rounds,
             Command::Run(_) => Subject::Turns,
-            Command::History(HistoryOptions { by, .. }) if by.is_empty() => Subject::Rounds,
-            Command::History(_) => Subject::Turns,
+            Command::History(HistoryOptions { by, .. })
+            | Command::Packets(HistoryOptions { by, .. })
+                if by.is_empty() => { Subject::Rounds }
+            Command::History(_) | Command::Packets(_) => Subject::Turns,
             Command::Show(_) => Subject::Shown,
             Command::Judge(_) => Subject::Tests,
             Command::Debug { .. } => Subject::Script,

@@ -20,4 +20,5 @@ pub fn replies_are_determined()
     bpf_jobs::laws::reports_by_are_determined();
     bpf_events::laws::histories_are_determined();
     bpf_debug::laws::scripts_are_determined();
+    bpf_packets::laws::reports_with_packets_are_determined();
 }

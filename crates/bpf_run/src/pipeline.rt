@@ -13,7 +13,7 @@ use bpf_replies::programs::{assembled, assembled_run, disassembled, run};
 use bpf_replies::refusal::Refusal;
 use bpf_replies::reply::Reply;
 use bpf_replies::running::{
-    Extras, judge_file, run_file, run_file_by_workers, run_file_with_history,
+    Extras, judge_file, run_file, run_file_by_workers, run_file_with_history, run_file_with_packets,
 };
 use bpf_replies::script::debug_file;
 use std::alloc::Global;
@@ -54,6 +54,9 @@ fn answer_to<O: Observer>(
         Command::Debug { echo, strict } => debug_file(alloc, echo, strict, text),
         Command::History(HistoryOptions { by, keys, maps }) => {
             run_file_with_history(alloc, &by, keys, maps, text)
+        }
+        Command::Packets(HistoryOptions { by, keys, maps }) => {
+            run_file_with_packets(alloc, &by, keys, maps, text)
         }
         Command::Judge(JudgeOptions { by, keys }) => judge_file(alloc, &by, keys, text),
         Command::Explore(search) => explore_file(alloc, search, text, observer),

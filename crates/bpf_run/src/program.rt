@@ -100,7 +100,7 @@ no schedule: it has words C*N, a CPU and how many turns it makes, as in '0*9 1*1
 For more information, try 'ebpf run --help'.";
 
 const TWO_WAYS: &str = "\
-'--workers' goes with none of '--by', '--events' and '--check', nor '--events' with '--check'
+'--workers' goes with none of '--by', '--events', '--packets' and '--check', nor any of the last three with another
 
 For more information, try 'ebpf run --help'.";
 

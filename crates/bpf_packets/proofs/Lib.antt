@@ -1,0 +1,3 @@
+pub mod Determined
+pub mod Kept
+pub mod Packets

@@ -1,0 +1,3 @@
+pub mod Packets
+pub mod Private
+pub mod Reports
