@@ -1,5 +1,5 @@
 -- What a run file expects of its outcomes, in its comments. Our own choice.
-use Rattle.std.specs.Prelude.{ℕ, Bool, false, ◌==◌, ◌&&◌, ◌||◌, List, [], ◌∷◌, Option, Some, None, if◌then◌else◌, is_none, option_and_then, option_map, codes, length}
+use Rattle.std.specs.Prelude.{ℕ, ◌+◌, Bool, false, ◌==◌, ◌&&◌, ◌||◌, List, [], ◌∷◌, Option, Some, None, if◌then◌else◌, is_none, is_some, option_and_then, option_map, codes, length}
 use Rattle.std.specs.List.{filter_map, position}
 use Rattle.std.specs.Str.{bytes_eq}
 use Rattle.bpf_lines.specs.Lines.{lines_of}
@@ -117,6 +117,16 @@ is_amiss s words = is_misset words || (is_claim words && is_none (expected_in s 
 -- WHAT A RUN FILE EXPECTS, in the order of its lines
 abbrev pub expectations_of : Subjects → List ℕ → List Expected
 expectations_of s text = filter_map (λ line. expected_in s (words_of line)) (lines_of text)
+
+-- the numbers of the lines that expect something, where the first of them has this number
+abbrev pub lines_from : Subjects → ℕ → List (List ℕ) → List ℕ
+lines_from s n [] = []
+lines_from s n (line ∷ more) = if is_some (expected_in s (words_of line)) then n ∷ lines_from s (n + 1) more
+    else lines_from s (n + 1) more
+
+-- AT WHICH LINES IT DOES, counted from 1: a number for each expectation
+abbrev pub expectation_lines : Subjects → List ℕ → List ℕ
+expectation_lines s text = lines_from s 1 (lines_of text)
 
 -- the first line whose comment is meant to expect something and can't, counted from 0
 abbrev pub first_amiss : Subjects → List ℕ → Option ℕ

@@ -82,14 +82,20 @@ test_text name f n what v =
 abbrev pub no_expectation : Expected
 no_expectation = record { often = often.Always; line = []; join = join.All; parts = [] }
 
--- the first n tests, after some number of others
-abbrev pub tests_text : (name : List ℕ) → (before : ℕ) → Findings → ℕ → List Expected
+-- the number of the line that expects it, before a test where it is known
+abbrev pub mark_text : Option ℕ → List ℕ
+mark_text None = []
+mark_text (Some line) = codes "line " ++ (decimal line ++ codes " ")
+
+-- the first n tests, after some number of others; each with the number of its line, where these are given
+abbrev pub tests_text : (name : List ℕ) → (lines : List ℕ) → (before : ℕ) → Findings → ℕ → List Expected
     → List Verdict → List ℕ
-tests_text name before f zero expected verdicts = []
-tests_text name before f (suc n) expected verdicts =
-    tests_text name before f n expected verdicts
+tests_text name lines before f zero expected verdicts = []
+tests_text name lines before f (suc n) expected verdicts =
+    tests_text name lines before f n expected verdicts
+    ++ (mark_text (slice_get lines n)
     ++ test_text name f (before + (n + 1)) (expected_text (slice_index_or expected n no_expectation))
-    (slice_index_or verdicts n verdict.Untold)
+    (slice_index_or verdicts n verdict.Untold))
 
 -- ---- the first test after a patient search
 
@@ -120,19 +126,19 @@ abbrev pub asked_count : Findings → List Expected → ℕ
 asked_count f expected = first_count f + length expected
 
 -- those, after the n tests of the files before it
-abbrev pub asked_text : (name : List ℕ) → (before : ℕ) → Findings → List Expected → List Verdict
-    → List ℕ
-asked_text name before f expected verdicts = first_text name before f
-    ++ tests_text name (before + first_count f) f (length expected) expected verdicts
+abbrev pub asked_text : (name : List ℕ) → (lines : List ℕ) → (before : ℕ) → Findings → List Expected
+    → List Verdict → List ℕ
+asked_text name lines before f expected verdicts = first_text name before f
+    ++ tests_text name lines (before + first_count f) f (length expected) expected verdicts
 
 -- how many tests there are
 abbrev pub count_of : Findings → List Expected → ℕ
 count_of f expected = asked_count f expected + last_count (unexpected_fault f expected)
 
 -- all of them, after the n tests of the files before it
-abbrev pub listed_text : (name : List ℕ) → (before : ℕ) → Findings → List Expected → List Verdict
-    → List ℕ
-listed_text name before f expected verdicts = asked_text name before f expected verdicts
+abbrev pub listed_text : (name : List ℕ) → (lines : List ℕ) → (before : ℕ) → Findings → List Expected
+    → List Verdict → List ℕ
+listed_text name lines before f expected verdicts = asked_text name lines before f expected verdicts
     ++ last_text name (before + (asked_count f expected + 1)) f (unexpected_fault f expected)
 
 -- how many tests there are; where there are none, that they are skipped, in TAP's form
@@ -141,9 +147,9 @@ plan_text count = if count == 0 then codes "1..0 # SKIP no expectations\n"
     else codes "1.." ++ (decimal count ++ codes "\n")
 
 -- the plan, and each test
-abbrev pub checked_text : Findings → List Expected → List Verdict → List ℕ
-checked_text f expected verdicts =
-    plan_text (count_of f expected) ++ listed_text [] 0 f expected verdicts
+abbrev pub checked_text : (lines : List ℕ) → Findings → List Expected → List Verdict → List ℕ
+checked_text lines f expected verdicts =
+    plan_text (count_of f expected) ++ listed_text [] lines 0 f expected verdicts
 
 -- how a file's name is before what is expected, where it is one of several
 abbrev pub name_text : List ℕ → List ℕ

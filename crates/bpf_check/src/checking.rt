@@ -11,6 +11,13 @@ use crate::judging::{Conclusion, conclusion_by, judge_all};
 use crate::listing::{Tested, first_count, last_count, list_tests, plan, push_last};
 use std::alloc::{AllocError, Global};
 
+/// What is expected of a file, and the numbers of its lines that do so, where these are printed.
+#[derive(Clone, Copy)]
+pub struct Asked<'a> {
+    pub expected: &'a [Expectation],
+    pub lines: &'a [usize],
+}
+
 /// What is printed of a file's expectations, and what it amounts to.
 #[derive(Drop)]
 pub struct Checked {
@@ -33,30 +40,35 @@ fn check_part(
     alloc: Global,
     name: &str,
     before: usize,
-    expectations: &[Expectation],
+    asked: Asked<'_>,
     findings: &Findings,
 ) -> Result<CheckedPart, AllocError>
     ensures text { IfOk result (λ part. string_bytes part.text
-        ≡ listed_text name.now before findings.now expectations.now
-        (verdicts_of findings.now expectations.now)) }
+        ≡ listed_text name.now asked.entry.lines.now before findings.now asked.entry.expected.now
+        (verdicts_of findings.now asked.entry.expected.now)) }
     ensures tests { IfOk result (λ part.
-        part.tests ≡ count_of findings.now expectations.now) }
+        part.tests ≡ count_of findings.now asked.entry.expected.now) }
     ensures conclusion { IfOk result (λ part. part.conclusion
-        ≡ conclusion_of findings.now expectations.now) }
+        ≡ conclusion_of findings.now asked.entry.expected.now) }
 {
-    let most = expectations.len().checked_add(2).ok_or(AllocError)?;
+    let Asked { expected, lines } = asked;
+    let most = expected.len().checked_add(2).ok_or(AllocError)?;
     if before.checked_add(most).is_none() {
         return Err(AllocError);
     }
-    let verdicts = judge_all(alloc, findings, expectations)?;
-    let file = Tested { name, findings };
-    let mut text = list_tests(alloc, file, before, expectations, &verdicts)?;
-    let fault = unexpected_fault(findings, expectations);
-    let asked = first_count(findings) + expectations.len();
-    push_last(alloc, &mut text, file, before + (asked + 1), fault)?;
+    let verdicts = judge_all(alloc, findings, expected)?;
+    let file = Tested {
+        name,
+        lines,
+        findings,
+    };
+    let mut text = list_tests(alloc, file, before, expected, &verdicts)?;
+    let fault = unexpected_fault(findings, expected);
+    let count = first_count(findings) + expected.len();
+    push_last(alloc, &mut text, file, before + (count + 1), fault)?;
     Ok(CheckedPart {
         text,
-        tests: asked + last_count(fault),
+        tests: count + last_count(fault),
         conclusion: conclusion_by(findings, fault, &verdicts),
     })
 }
@@ -67,19 +79,19 @@ pub fn check_named(
     alloc: Global,
     name: &str,
     before: usize,
-    expectations: &[Expectation],
+    asked: Asked<'_>,
     findings: &Findings,
 ) -> Result<CheckedPart, AllocError>
     ensures text { IfOk result (λ part. string_bytes part.text
-        ≡ listed_text (name_text name.now) before findings.now expectations.now
-        (verdicts_of findings.now expectations.now)) }
+        ≡ listed_text (name_text name.now) asked.entry.lines.now before findings.now
+        asked.entry.expected.now (verdicts_of findings.now asked.entry.expected.now)) }
     ensures tests { IfOk result (λ part.
-        part.tests ≡ count_of findings.now expectations.now) }
+        part.tests ≡ count_of findings.now asked.entry.expected.now) }
     ensures conclusion { IfOk result (λ part. part.conclusion
-        ≡ conclusion_of findings.now expectations.now) }
+        ≡ conclusion_of findings.now asked.entry.expected.now) }
 {
     let name = format!(in alloc; "{name}: ")?;
-    check_part(alloc, name.as_str(), before, expectations, findings)
+    check_part(alloc, name.as_str(), before, asked, findings)
 }
 
 /// The plan of some tests, and the tests.
@@ -96,15 +108,16 @@ fn planned(alloc: Global, part: &CheckedPart) -> Result<String, AllocError>
 /// the only refusal.
 pub fn check_explored(
     alloc: Global,
-    expectations: &[Expectation],
+    asked: Asked<'_>,
     findings: &Findings,
 ) -> Result<Checked, AllocError>
     ensures text { IfOk result (λ checked. string_bytes checked.text
-        ≡ checked_text findings.now expectations.now (verdicts_of findings.now expectations.now)) }
+        ≡ checked_text asked.entry.lines.now findings.now asked.entry.expected.now
+        (verdicts_of findings.now asked.entry.expected.now)) }
     ensures conclusion { IfOk result (λ checked. checked.conclusion
-        ≡ conclusion_of findings.now expectations.now) }
+        ≡ conclusion_of findings.now asked.entry.expected.now) }
 {
-    let part = check_part(alloc, "", 0, expectations, findings)?;
+    let part = check_part(alloc, "", 0, asked, findings)?;
     let text = planned(alloc, &part)?;
     Ok(Checked {
         text,

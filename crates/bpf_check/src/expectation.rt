@@ -1,8 +1,8 @@
 //! What a run file expects of its outcomes, in its comments.
 
-ghost use Rattle.std.specs.Prelude.{◌≡◌, ◌≤◌, ◌++◌, false, IfErr, IfOk, IfSome, None, OnOk, length, map};
+ghost use Rattle.std.specs.Prelude.{◌≡◌, ◌≤◌, ◌++◌, false, is_some, IfErr, IfOk, IfSome, None, OnOk, length, map};
 ghost use Rattle.bpf_check.specs.Comments.{words_of};
-ghost use Rattle.bpf_check.specs.Expectation.{agrees, asks_ends, asks_hung, asks_of_ends, can_ask, claim_of, expectations_of, expected_by, expected_in, first_amiss, is_alone, is_amiss, is_claim, is_often, often_in, often_text, seems_often, whole};
+ghost use Rattle.bpf_check.specs.Expectation.{agrees, asks_ends, asks_hung, asks_of_ends, can_ask, claim_of, expectation_lines, expectations_of, expected_by, expected_in, first_amiss, is_alone, is_amiss, is_claim, is_often, often_in, often_text, seems_often, whole};
 ghost use Rattle.bpf_check.specs.Faults.{speaks_of_faults};
 ghost use Rattle.bpf_check.specs.Parts.{line_of};
 ghost use Rattle.bpf_check.specs.Unexpected.{IsUnexpected};
@@ -308,6 +308,36 @@ fn expected_of(
         if let Some(expectation) = expectation_in(alloc, subjects, line)? {
             found.push(expectation)?;
         }
+        rest = behind;
+    }
+    Ok(found)
+}
+
+/// Whether the comment of a line expects something that outcomes can have.
+fn does_expect(alloc: Global, subjects: &Subjects, line: &[u8]) -> Result<bool, AllocError>
+    ensures { IfOk result (λ does. does ≡ is_some (expected_in subjects.now (words_of line.now))) }
+{
+    let expected = expectation_in(alloc, subjects, line)?;
+    Ok(expected.is_some())
+}
+
+/// The numbers of the lines of a run file whose comments expect what outcomes can have, counted from 1.
+pub fn expectation_lines(
+    alloc: Global,
+    subjects: &Subjects,
+    text: &[u8],
+) -> Result<Vec<usize>, AllocError>
+    ensures { IfOk result (λ found. found.items ≡ expectation_lines subjects.now text.now) }
+{
+    let mut found = Vec::new(alloc);
+    let mut number = 1;
+    let mut rest = Some(text);
+    'lines: while let Some(left) = rest {
+        let (line, behind) = first_line(left);
+        if does_expect(alloc, subjects, line)? {
+            found.push(number)?;
+        }
+        number += 1;
         rest = behind;
     }
     Ok(found)

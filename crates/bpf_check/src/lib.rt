@@ -15,9 +15,9 @@ mod settings;
 mod single;
 mod subjects;
 
-pub use checking::{Checked, CheckedPart, check_explored, check_named};
+pub use checking::{Asked, Checked, CheckedPart, check_explored, check_named};
 pub use claim::{Comparison, Field, Join, Kind, Relation};
-pub use expectation::{Expectation, Often, Unexpected, expectations};
+pub use expectation::{Expectation, Often, Unexpected, expectation_lines, expectations};
 pub use faults::unexpected_fault;
 pub use findings::Findings;
 pub use judging::{Conclusion, Verdict, conclusion_by, ends_verdict, judge};

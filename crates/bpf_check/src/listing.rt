@@ -1,7 +1,7 @@
 //! Verdicts as they are printed, in the form of TAP.
 
-ghost use Rattle.std.specs.Prelude.{◌≡◌, ◌<◌, ◌≤◌, ◌+◌, ◌^◌, ◌++◌, IfOk, OnOk, Some, codes, length, map, string_bytes};
-ghost use Rattle.bpf_check.specs.Listing.{asked_text, expected_text, first_count, first_text, hung_lines, hung_text, is_claim_mark, is_line_byte, last_count, last_text, number_text, ok_text, plan_text, reason_text, schedule_text, shown_byte, test_text, tests_text, untold_text};
+ghost use Rattle.std.specs.Prelude.{◌≡◌, ◌<◌, ◌≤◌, ◌+◌, ◌^◌, ◌++◌, IfOk, OnOk, Some, codes, length, map, slice_get, string_bytes};
+ghost use Rattle.bpf_check.specs.Listing.{asked_text, expected_text, first_count, first_text, hung_lines, hung_text, is_claim_mark, is_line_byte, last_count, last_text, mark_text, number_text, ok_text, plan_text, reason_text, schedule_text, shown_byte, test_text, tests_text, untold_text};
 ghost use Rattle.bpf_check.specs.Verdict.{ends_verdict};
 
 use crate::expectation::Expectation;
@@ -12,10 +12,12 @@ use bpf_lines::words::is_word_byte;
 use bpf_schedule::push_runs;
 use std::alloc::{AllocError, Global};
 
-/// A file whose tests are listed: what is before the claims of its tests, and what a search found of it.
+/// A file whose tests are listed: what is before the claims of its tests, the numbers of the lines that
+/// expect them, where these are printed, and what a search found of it.
 #[derive(Clone, Copy)]
 pub(crate) struct Tested<'a> {
     pub(crate) name: &'a str,
+    pub(crate) lines: &'a [usize],
     pub(crate) findings: &'a Findings,
 }
 
@@ -250,6 +252,26 @@ pub fn plan(alloc: Global, count: usize) -> Result<String, AllocError>
     }
 }
 
+/// Appends to the text the number of the line that expects the test at this place, where it is given.
+fn push_mark(
+    alloc: Global,
+    text: &mut String,
+    lines: &[usize],
+    place: usize,
+) -> Result<(), AllocError>
+    ensures { OnOk result (string_bytes text.new ≡ string_bytes text.old
+        ++ mark_text (slice_get lines.now place)) }
+{
+    match lines.get(place) {
+        Some(line) => {
+            let line = *line;
+            let mark = format!(in alloc; "line {line} ")?;
+            text.push_str(mark.as_str())
+        }
+        None => Ok(()),
+    }
+}
+
 /// Appends the tests of expectations to the text: an expectation a test, each with its verdict.
 fn push_tests(
     alloc: Global,
@@ -262,12 +284,13 @@ fn push_tests(
     requires same { length verdicts.now ≡ length expectations.now }
     requires room { before + length expectations.now < 2 ^ 64 }
     ensures { OnOk result (string_bytes text.new ≡ string_bytes text.old
-        ++ tests_text file.entry.name.now before file.entry.findings.now (length expectations.now)
-        expectations.now verdicts.now) }
+        ++ tests_text file.entry.name.now file.entry.lines.now before file.entry.findings.now
+        (length expectations.now) expectations.now verdicts.now) }
 {
     for place in 0..expectations.len() {
         let expectation = &expectations[place];
         let number = before + (place + 1);
+        push_mark(alloc, text, file.lines, place)?;
         push_test(alloc, text, file, number, expectation, verdicts[place])?;
     }
     Ok(())
@@ -317,7 +340,8 @@ pub(crate) fn list_tests(
     requires same { length verdicts.now ≡ length expectations.now }
     requires room { before + (1 + length expectations.now) < 2 ^ 64 }
     ensures { IfOk result (λ text. string_bytes text
-        ≡ asked_text file.entry.name.now before file.entry.findings.now expectations.now verdicts.now) }
+        ≡ asked_text file.entry.name.now file.entry.lines.now before file.entry.findings.now
+        expectations.now verdicts.now) }
 {
     let mut text = first_text(alloc, file, before)?;
     let before = before + first_count(file.findings);

@@ -60,6 +60,7 @@ abbrev pub NamesCheck : List Row → CheckOptions → Type 0
 NamesCheck rows options = NamesSearch rows options.search
     × (options.limited ≡ is_given (codes "limit") rows)
     × (options.lenient ≡ is_given (codes "lenient") rows)
+    × (options.lines ≡ is_given (codes "json") rows)
 
 -- the options of a search for races
 abbrev pub NamesRaces : List Row → RaceOptions → Type 0

@@ -84,6 +84,8 @@ pub struct CheckOptions {
     pub limited: bool,
     /// To pass over comments that are meant to expect something and can't.
     pub lenient: bool,
+    /// To print before each test the line of the file that expects it, for its JSON object.
+    pub lines: bool,
 }
 
 /// The options of a search of which one outcome is shown.

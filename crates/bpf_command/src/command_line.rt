@@ -304,6 +304,7 @@ fn check_of(options: &ArgMatches) -> CheckOptions
         search: search_of(options),
         limited: is_given(options, "limit"),
         lenient: is_given(options, "lenient"),
+        lines: is_given(options, "json"),
     }
 }
 

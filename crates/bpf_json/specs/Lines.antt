@@ -183,16 +183,26 @@ abbrev pub file_member : Option (String Global) → List ℕ
 file_member None = []
 file_member (Some file) = codes "," ++ text_member (codes "file") (string_bytes file)
 
+-- the number of the line of a file that expects it, where there is one
+abbrev pub at_text : Option ℕ → List ℕ
+at_text None = []
+at_text (Some n) = codes "line " ++ (decimal n ++ codes " ")
+
+abbrev pub at_member : Option ℕ → List ℕ
+at_member None = []
+at_member (Some n) = codes ",\"line\":" ++ decimal n
+
 -- its line, and that of a remark
 abbrev pub test_text : Test → List ℕ
-test_text t = verdict t.ok ++ (codes " " ++ (decimal t.number ++ (codes " - " ++ (file_text t.file
-    ++ (string_bytes t.name ++ said_text t.remark)))))
+test_text t = at_text t.line ++ (verdict t.ok ++ (codes " " ++ (decimal t.number ++ (codes " - "
+    ++ (file_text t.file ++ (string_bytes t.name ++ said_text t.remark))))))
 
 -- its object, and that of a remark, which is an object of its own as well
 abbrev pub test_object : Test → List ℕ
 test_object t = codes "{\"test\":" ++ (decimal t.number ++ (codes ",\"ok\":" ++ (truth t.ok
     ++ (codes "," ++ (text_member (codes "name") (file_text t.file ++ string_bytes t.name)
-    ++ (file_member t.file ++ (said_members t.remark ++ (codes "}" ++ said_objects t.remark))))))))
+    ++ (file_member t.file ++ (at_member t.line ++ (said_members t.remark ++ (codes "}"
+    ++ said_objects t.remark)))))))))
 
 -- how many tests follow; where none does, that they are skipped
 abbrev pub plan_text : ℕ → List ℕ

@@ -3,7 +3,7 @@
 ghost use Rattle.std.specs.Prelude.{◌≡◌, ◌∷◌, ◌++◌, IfOk, IfSome, OnOk, codes, string_bytes};
 ghost use Rattle.bpf_json.specs.Lines.{AreObjectsOf, IsLineOf, IsObjectOf};
 
-use crate::reading::line_of;
+use crate::reading::{line_of, mark_in};
 use std::alloc::{AllocError, Global};
 
 /// The object of a printed line.
@@ -24,6 +24,7 @@ fn push_object(alloc: Global, objects: &mut String, line: &str) -> Result<(), Al
 
 /// Whether a line is a test.
 fn is_test(line: &str) -> bool {
+    let (_, line) = mark_in(line);
     line.starts_with("ok ") || line.starts_with("not ok ")
 }
 

@@ -244,7 +244,13 @@ fn named(alloc: Global, name: &str) -> Result<(Option<String>, String), AllocErr
 }
 
 /// A test, and what is said of it, if anything is.
-fn test(alloc: Global, ok: bool, number: u64, text: &str) -> Result<Line, AllocError>
+fn test(
+    alloc: Global,
+    line: Option<u64>,
+    ok: bool,
+    number: u64,
+    text: &str,
+) -> Result<Line, AllocError>
     ensures { IfOk result IsRight }
 {
     let (name, remark) = match text.split_once("\n# ") {
@@ -253,6 +259,7 @@ fn test(alloc: Global, ok: bool, number: u64, text: &str) -> Result<Line, AllocE
     };
     let (file, name) = named(alloc, name)?;
     Ok(Line::Test(Test {
+        line,
         ok,
         number,
         file,
@@ -261,16 +268,31 @@ fn test(alloc: Global, ok: bool, number: u64, text: &str) -> Result<Line, AllocE
     }))
 }
 
+/// The number of the line before a test, and what is after it.
+fn marked(text: &str) -> Option<(u64, &str)> {
+    let (number, rest) = number_in(text.strip_prefix("line ")?)?;
+    Some((number, rest.strip_prefix(" ")?))
+}
+
+/// That number, where there is one, and what is after it.
+pub(crate) fn mark_in(text: &str) -> (Option<u64>, &str) {
+    match marked(text) {
+        Some((number, rest)) => (Some(number), rest),
+        None => (None, text),
+    }
+}
+
 /// A test, and whether it is ok.
 fn test_in(alloc: Global, text: &str) -> Option<Result<Line, AllocError>>
     ensures { IfSome result (λ made. IfOk made IsRight) }
 {
+    let (line, text) = mark_in(text);
     let (ok, rest) = match text.strip_prefix("not ok ") {
         Some(rest) => (false, rest),
         None => (true, text.strip_prefix("ok ")?),
     };
     let (number, rest) = number_in(rest)?;
-    Some(test(alloc, ok, number, rest.strip_prefix(" - ")?))
+    Some(test(alloc, line, ok, number, rest.strip_prefix(" - ")?))
 }
 
 /// How many tests follow, and where none does that they are skipped.

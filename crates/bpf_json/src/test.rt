@@ -1,7 +1,7 @@
 //! Lines of tests, each with what is said of it on a line after it.
 
 ghost use Rattle.std.specs.Prelude.{◌≡◌, IfOk, string_bytes};
-ghost use Rattle.bpf_json.specs.Lines.{file_member, file_text, remark_member, remark_object, remark_text, said_members, said_objects, said_text, test_object, test_text};
+ghost use Rattle.bpf_json.specs.Lines.{at_member, at_text, file_member, file_text, remark_member, remark_object, remark_text, said_members, said_objects, said_text, test_object, test_text};
 
 use crate::texts::{by_text, member, quoted, text_member, truth, verdict};
 use std::alloc::{AllocError, Global};
@@ -17,9 +17,11 @@ pub enum Remark {
     Note(String),
 }
 
-/// A test: whether it is ok, its number, and what is asked, of which file where there are several.
+/// A test: the line of the file that expects it, where there is one, whether it is ok, its number, and
+/// what is asked, of which file where there are several.
 #[derive(PartialEq, Eq, Debug, Drop)]
 pub struct Test {
+    pub line: Option<u64>,
     pub ok: bool,
     pub number: u64,
     pub file: Option<String>,
@@ -58,6 +60,26 @@ impl Remark {
     {
         let text = self.plain(alloc)?;
         member(alloc, "note", text.as_str())
+    }
+}
+
+/// The number of the line before a test's.
+fn at_text(alloc: Global, line: Option<u64>) -> Result<String, AllocError>
+    ensures { IfOk result (λ s. string_bytes s ≡ at_text line) }
+{
+    match line {
+        Some(line) => format!(in alloc; "line {line} "),
+        None => Ok(String::new(alloc)),
+    }
+}
+
+/// The member for it.
+fn at_member(alloc: Global, line: Option<u64>) -> Result<String, AllocError>
+    ensures { IfOk result (λ s. string_bytes s ≡ at_member line) }
+{
+    match line {
+        Some(line) => format!(in alloc; ",\"line\":{line}"),
+        None => Ok(String::new(alloc)),
     }
 }
 
@@ -129,10 +151,11 @@ impl Test {
         ensures { IfOk result (λ s. string_bytes s ≡ test_text self.now) }
     {
         let Test { number, name, .. } = self;
+        let at = at_text(alloc, self.line)?;
         let verdict = verdict(self.ok);
         let file = file_text(alloc, &self.file)?;
         let said = said_text(alloc, &self.remark)?;
-        format!(in alloc; "{verdict} {number} - {file}{name}{said}")
+        format!(in alloc; "{at}{verdict} {number} - {file}{name}{said}")
     }
 
     /// The test's object, and that of a remark.
@@ -145,8 +168,9 @@ impl Test {
         let name = format!(in alloc; "{name}{}", self.name)?;
         let name = text_member(alloc, "name", name.as_str())?;
         let file = file_member(alloc, &self.file)?;
+        let at = at_member(alloc, self.line)?;
         let said = said_members(alloc, &self.remark)?;
         let after = said_objects(alloc, &self.remark)?;
-        format!(in alloc; "{{\"test\":{number},\"ok\":{ok},{name}{file}{said}}}{after}")
+        format!(in alloc; "{{\"test\":{number},\"ok\":{ok},{name}{file}{at}{said}}}{after}")
     }
 }

@@ -15,22 +15,22 @@ abbrev part : List ℕ → ℕ → Bool → Bool → Part
 part text tests unmet told = record { text = text; tests = tests; refused = false; unmet = unmet; told = told }
 
 -- its tests, after comments that say in which ways threads may reach more
-text_made : (name : List ℕ) (before : ℕ) (f : Findings) (threads : Threads) (expected : List Expected) (text tests mark : List ℕ)
-    → tests ≡ listed_text (name_text name) before f expected (verdicts_of f expected) → mark ≡ name ++ codes ": " → text ≡ notes_text mark threads ++ tests
-    → text ≡ (checked_part name before f threads expected).text
-text_made name before f threads expected text tests mark are is made =
+text_made : (name lines : List ℕ) (before : ℕ) (f : Findings) (threads : Threads) (expected : List Expected) (text tests mark : List ℕ)
+    → tests ≡ listed_text (name_text name) lines before f expected (verdicts_of f expected) → mark ≡ name ++ codes ": " → text ≡ notes_text mark threads ++ tests
+    → text ≡ (checked_part name lines before f threads expected).text
+text_made name lines before f threads expected text tests mark are is made =
     made ∙ (ap (λ (t : List ℕ). notes_text t threads ++ tests) is ∙ ap (λ (t : List ℕ). notes_text (name ++ codes ": ") threads ++ t) are)
 
-pub part_made : (name : List ℕ) (before : ℕ) (f : Findings) (threads : Threads) (expected given : List Expected) (text tests mark : List ℕ) (count : ℕ) (end : Conclusion) (unmet told : Bool)
-    → given ≡ expected → tests ≡ listed_text (name_text name) before f given (verdicts_of f given) → count ≡ count_of f given → end ≡ conclusion_of f given
+pub part_made : (name lines : List ℕ) (before : ℕ) (f : Findings) (threads : Threads) (expected given : List Expected) (text tests mark : List ℕ) (count : ℕ) (end : Conclusion) (unmet told : Bool)
+    → given ≡ expected → tests ≡ listed_text (name_text name) lines before f given (verdicts_of f given) → count ≡ count_of f given → end ≡ conclusion_of f given
     → mark ≡ name ++ codes ": " → text ≡ notes_text mark threads ++ tests → unmet ≡ is_unmet end → told ≡ is_told end
-    → part text count unmet told ≡ checked_part name before f threads expected
-part_made name before f threads expected given text tests mark count end unmet told same are number ends is made met all =
-    let T : List Expected → Type 0 = λ es. tests ≡ listed_text (name_text name) before f es (verdicts_of f es) in
+    → part text count unmet told ≡ checked_part name lines before f threads expected
+part_made name lines before f threads expected given text tests mark count end unmet told same are number ends is made met all =
+    let T : List Expected → Type 0 = λ es. tests ≡ listed_text (name_text name) lines before f es (verdicts_of f es) in
     let N : List Expected → Type 0 = λ es. count ≡ count_of f es in
     let E : List Expected → Type 0 = λ es. end ≡ conclusion_of f es in
-    let c : Part = checked_part name before f threads expected in
-    let one : text ≡ c.text = text_made name before f threads expected text tests mark (subst T same are) is made in
+    let c : Part = checked_part name lines before f threads expected in
+    let one : text ≡ c.text = text_made name lines before f threads expected text tests mark (subst T same are) is made in
     let two : count ≡ c.tests = subst N same number in
     let three : unmet ≡ c.unmet = met ∙ ap (λ (e : Conclusion). is_unmet e) (subst E same ends) in
     let four : told ≡ c.told = all ∙ ap (λ (e : Conclusion). is_told e) (subst E same ends) in

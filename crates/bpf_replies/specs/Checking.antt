@@ -11,7 +11,7 @@ use Rattle.bpf_check.specs.declared.judging.Conclusion.TheVariants as conclusion
 use Rattle.bpf_check.specs.declared.settings.Settings.{Settings}
 use Rattle.bpf_threads.specs.Lines.{notes_text}
 use Rattle.bpf_threads.specs.declared.threads.Threads.{Threads}
-use Rattle.bpf_replies.specs.Comments.{IsExpectedIn, RefusesComments, for_check}
+use Rattle.bpf_replies.specs.Comments.{AreLinesIn, IsExpectedIn, RefusesComments, for_check}
 use Rattle.bpf_replies.specs.declared.comments.Reading.{Reading}
 use Rattle.bpf_replies.specs.Exploring.{AreFindingsBy}
 use Rattle.bpf_replies.specs.Threading.{AreThreadsOf}
@@ -51,12 +51,13 @@ reading_by o text = for_check (is_patient o text) o.lenient
 -- can end; or the first refusal of the file or its comments
 abbrev pub IsCheckedFile : CheckOptions → List ℕ → Reply → Type 0
 IsCheckedFile o text (reply.Outcomes printed unmet told) =
-    (expected : List Expected) × (f : Findings)
+    (expected : List Expected) × (lines : List ℕ) × (f : Findings)
     × IsExpectedIn (reading_by o text) text expected
+    × AreLinesIn (reading_by o text) o.lines text lines
     × AreFindingsBy (is_patient o text) (limit_of o text) text f
     × (threads : Threads) × AreThreadsOf text threads
     × (string_bytes printed ≡ notes_text [] threads
-    ++ checked_text f expected (verdicts_of f expected))
+    ++ checked_text lines f expected (verdicts_of f expected))
     × (unmet ≡ is_unmet (conclusion_of f expected))
     × (told ≡ is_told (conclusion_of f expected))
 IsCheckedFile o text (reply.Refused r) = RefusesComments (reading_by o text) text r

@@ -1,7 +1,7 @@
 -- What a run file's comments expect of its outcomes, or which of them can't.
-use Rattle.std.specs.Prelude.{◌≡◌, ◌+◌, ℕ, Bool, true, false, List, None, Ok, Some, map}
+use Rattle.std.specs.Prelude.{◌≡◌, ◌+◌, ℕ, Bool, true, false, List, [], None, Ok, Some, map}
 use Rattle.bpf_cpu.specs.Task.{Task}
-use Rattle.bpf_check.specs.Expectation.{Expected, expectations_of, first_amiss}
+use Rattle.bpf_check.specs.Expectation.{Expected, expectation_lines, expectations_of, first_amiss}
 use Rattle.bpf_check.specs.Subjects.{Subjects}
 use Rattle.bpf_file.specs.File.{File}
 use Rattle.bpf_file.specs.Reading.{IsRunFile}
@@ -30,6 +30,12 @@ abbrev pub IsExpectedIn : Reading → List ℕ → List Expected → Type 0
 IsExpectedIn r text expected = (f : File) × IsRunFile text (Ok f)
     × (expected ≡ expectations_of (subjects_of r f) text)
     × (r.lenient ≡ false → first_amiss (subjects_of r f) text ≡ None)
+
+-- the lines of the text that expect something have these numbers, where they are wanted
+abbrev pub AreLinesIn : Reading → (wanted : Bool) → List ℕ → List ℕ → Type 0
+AreLinesIn r false text lines = lines ≡ []
+AreLinesIn r true text lines = (f : File) × IsRunFile text (Ok f)
+    × (lines ≡ expectation_lines (subjects_of r f) text)
 
 -- why not: the file's first refusal, or the first of its lines whose comment is amiss
 abbrev pub RefusesComments : Reading → List ℕ → Refusal → Type 0

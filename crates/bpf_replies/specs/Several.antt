@@ -8,7 +8,7 @@ use Rattle.bpf_check.specs.Verdict.{conclusion_of, verdicts_of}
 use Rattle.bpf_replies.specs.Checking.{is_patient, is_told, is_unmet, limit_of, reading_by}
 use Rattle.bpf_replies.specs.Input.{RefusesInput}
 use Rattle.bpf_replies.specs.Diagnostic.{refusal_text}
-use Rattle.bpf_replies.specs.Comments.{IsExpectedIn, RefusesComments}
+use Rattle.bpf_replies.specs.Comments.{AreLinesIn, IsExpectedIn, RefusesComments}
 use Rattle.bpf_replies.specs.Exploring.{AreFindingsBy}
 use Rattle.bpf_replies.specs.Threading.{AreThreadsOf}
 use Rattle.bpf_threads.specs.Lines.{notes_text}
@@ -42,10 +42,11 @@ refused_part name r = record {
 
 -- of one whose outcomes a search found: comments that say of threads, and its tests, after this many of
 -- the files before it
-abbrev pub checked_part : (name : List ℕ) → (before : ℕ) → Findings → Threads → List Expected → Part
-checked_part name before f threads expected = record {
+abbrev pub checked_part : (name : List ℕ) → (lines : List ℕ) → (before : ℕ) → Findings → Threads → List Expected
+    → Part
+checked_part name lines before f threads expected = record {
   text = notes_text (name ++ codes ": ") threads
-      ++ listed_text (name_text name) before f expected (verdicts_of f expected);
+      ++ listed_text (name_text name) lines before f expected (verdicts_of f expected);
   tests = count_of f expected;
   refused = false;
   unmet = is_unmet (conclusion_of f expected);
@@ -57,11 +58,12 @@ abbrev pub IsTextPart : CheckOptions → (name : List ℕ) → (before : ℕ) �
 IsTextPart o name before text part =
     ((r : Refusal) × RefusesComments (reading_by o text) text r
     × (part ≡ refused_part name r))
-    ⊎ ((expected : List Expected) × (f : Findings)
+    ⊎ ((expected : List Expected) × (lines : List ℕ) × (f : Findings)
     × IsExpectedIn (reading_by o text) text expected
+    × AreLinesIn (reading_by o text) o.lines text lines
     × AreFindingsBy (is_patient o text) (limit_of o text) text f
     × (threads : Threads) × AreThreadsOf text threads
-    × (part ≡ checked_part name before f threads expected))
+    × (part ≡ checked_part name lines before f threads expected))
 
 -- the part of a file of these bytes
 abbrev pub IsPart : CheckOptions → (name : List ℕ) → (before : ℕ) → List ℕ → Part → Type 0

@@ -5,17 +5,17 @@ ghost use Rattle.std.specs.Prelude.{◌≡◌, ◌≤◌, IfErr, IfOk, IfSome};
 ghost use Rattle.bpf_check.specs.declared.settings.TheConstants.{MOST_STATES};
 ghost use Rattle.bpf_command.specs.declared.command.TheConstants.{MAX_LIMIT};
 ghost use Rattle.bpf_replies.specs.Answer.{Replies};
-ghost use Rattle.bpf_replies.specs.Comments.{IsExpectedIn, RefusesComments, for_check};
+ghost use Rattle.bpf_replies.specs.Comments.{AreLinesIn, IsExpectedIn, RefusesComments, for_check};
 ghost use Rattle.bpf_replies.specs.Checking.{IsCheckedFile, is_patient, is_told, is_unmet, limit_by, limit_of, reading_by};
 ghost use Rattle.bpf_replies.specs.Exploring.{AreFindingsBy};
 ghost use Rattle.bpf_replies.specs.Threading.{AreThreadsOf};
 
-use crate::comments::{Reading, expected_in};
+use crate::comments::{Reading, expected_in, lines_in};
 use crate::exploring::findings_in;
 use crate::refusal::Refusal;
 use crate::reply::Reply;
 use crate::threading::{threads_in, with_notes};
-use bpf_check::{Conclusion, Expectation, Findings, Settings, check_explored, settings_of};
+use bpf_check::{Asked, Conclusion, Expectation, Findings, Settings, check_explored, settings_of};
 use bpf_command::{CheckOptions, SearchOptions};
 use bpf_explore::Observer;
 use bpf_threads::Threads;
@@ -78,6 +78,8 @@ fn search_for(
 pub(crate) struct Grounds {
     /// What its comments expect.
     pub expected: Vec<Expectation>,
+    /// The numbers of the lines that expect it, where they are wanted.
+    pub lines: Vec<usize>,
     /// In which ways threads may reach more outcomes.
     pub threads: Threads,
     /// What a search through all schedules found.
@@ -93,6 +95,8 @@ pub(crate) fn grounds_in<O: Observer>(
 ) -> Result<Grounds, Refusal>
     ensures expected { IfOk result (λ grounds.
         IsExpectedIn (reading_by options.now text.now) text.now grounds.expected.items) }
+    ensures lines { IfOk result (λ grounds.
+        AreLinesIn (reading_by options.now text.now) options.now.lines text.now grounds.lines.items) }
     ensures threads { IfOk result (λ grounds. AreThreadsOf text.now grounds.threads) }
     ensures findings { IfOk result (λ grounds.
         AreFindingsBy (is_patient options.now text.now) (limit_of options.now text.now) text.now
@@ -102,10 +106,12 @@ pub(crate) fn grounds_in<O: Observer>(
     let search = search_for(alloc, options, text)?;
     let reading = reading_of(search.patient, options.lenient);
     let expected = expected_in(alloc, reading, text)?;
+    let lines = lines_in(alloc, reading, options.lines, text)?;
     let threads = threads_in(alloc, text)?;
     let findings = findings_in(alloc, &search, text, observer)?;
     Ok(Grounds {
         expected,
+        lines,
         threads,
         findings,
     })
@@ -121,7 +127,11 @@ pub fn check_file<O: Observer>(
     ensures { Replies (IsCheckedFile options.now text.now) result }
 {
     let grounds = grounds_in(alloc, options, text, observer)?;
-    let checked = check_explored(alloc, &grounds.expected, &grounds.findings)?;
+    let asked = Asked {
+        expected: &grounds.expected,
+        lines: &grounds.lines,
+    };
+    let checked = check_explored(alloc, asked, &grounds.findings)?;
     let text = with_notes(alloc, "", grounds.threads, &checked.text)?;
     Ok(Reply::Outcomes {
         text,

@@ -3,11 +3,11 @@
 ghost use Rattle.std.specs.Prelude.{◌≡◌, IfErr, IfOk, map};
 ghost use Rattle.bpf_cpu.specs.Task.{waiting};
 ghost use Rattle.bpf_file.specs.File.{file_of};
-ghost use Rattle.bpf_replies.specs.Comments.{IsExpectedIn, RefusesComments, cpus_of, subjects_of};
+ghost use Rattle.bpf_replies.specs.Comments.{AreLinesIn, IsExpectedIn, RefusesComments, cpus_of, subjects_of};
 
 use crate::refusal::Refusal;
 use crate::running::file_in;
-use bpf_check::{Expectation, Subjects, Unexpected, expectations};
+use bpf_check::{Expectation, Subjects, Unexpected, expectation_lines, expectations};
 use bpf_cpu::{Job, Setup};
 use bpf_file::RunFile;
 use std::alloc::{AllocError, Global};
@@ -57,5 +57,26 @@ pub(crate) fn expected_in(
         Ok(found) => Ok(found),
         Err(Unexpected::At(number)) => Err(Refusal::Comment(number + 1)),
         Err(Unexpected::OutOfMemory) => Err(Refusal::OutOfMemory),
+    }
+}
+
+/// The numbers of the lines of a run file that expect something, where these are wanted; else none.
+pub(crate) fn lines_in(
+    alloc: Global,
+    reading: Reading,
+    wanted: bool,
+    text: &str,
+) -> Result<Vec<usize>, Refusal>
+    ensures found { IfOk result (λ found. AreLinesIn reading wanted text.now found.items) }
+    ensures refused { IfErr result (RefusesComments reading text.now) }
+{
+    if !wanted {
+        return Ok(Vec::new(alloc));
+    }
+    let file = file_in(alloc, text)?;
+    let subjects = subjects_of(alloc, reading, file)?;
+    match expectation_lines(alloc, &subjects, text.as_bytes()) {
+        Ok(found) => Ok(found),
+        Err(_) => Err(Refusal::OutOfMemory),
     }
 }

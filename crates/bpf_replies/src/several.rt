@@ -12,7 +12,7 @@ use crate::refusal::Refusal;
 use crate::reply::Reply;
 use crate::stream::Source;
 use crate::threading::with_notes;
-use bpf_check::{CheckedPart, check_named, plan};
+use bpf_check::{Asked, CheckedPart, check_named, plan};
 use bpf_command::CheckOptions;
 use bpf_explore::Observer;
 use std::alloc::{AllocError, Global};
@@ -59,11 +59,15 @@ fn text_part<O: Observer>(
         Ok(grounds) => grounds,
         Err(refusal) => return refused_part(alloc, name, refusal),
     };
+    let asked = Asked {
+        expected: &grounds.expected,
+        lines: &grounds.lines,
+    };
     let CheckedPart {
         text,
         tests,
         conclusion,
-    } = check_named(alloc, name, before, &grounds.expected, &grounds.findings)?;
+    } = check_named(alloc, name, before, asked, &grounds.findings)?;
     let mark = format!(in alloc; "{name}: ")?;
     let text = with_notes(alloc, &mark, grounds.threads, &text)?;
     Ok(FilePart {
