@@ -13,10 +13,10 @@ use Rattle.bpf_lines.specs.Words.{is_digit_of, written_number}
 use Rattle.bpf_schedule.specs.Spelling.{IsRun, PrintedIsReadBack, SpellRuns, is_star, number_below, run_in, run_text, runs_text}
 
 -- ---- digits
-abbrev IsDigit : ℕ → Type 0
+abbrev pub IsDigit : ℕ → Type 0
 IsDigit b = (48 ≤ b) × (b ≤ 57)
 
-abbrev AreDigits : List ℕ → Type 0
+abbrev pub AreDigits : List ℕ → Type 0
 AreDigits [] = Unit {0}
 AreDigits (b ∷ bs) = IsDigit b × AreDigits bs
 
@@ -24,7 +24,7 @@ one_behind : (ds : List ℕ) (b : ℕ) → AreDigits ds → IsDigit b → AreDig
 one_behind [] b all is = (is, tt)
 one_behind (d ∷ ds) b all is = (all.0, one_behind ds b all.1 is)
 
-decimal_digits : (n : ℕ) → n < 2 ^ 64 → AreDigits (decimal n)
+pub decimal_digits : (n : ℕ) → n < 2 ^ 64 → AreDigits (decimal n)
 decimal_digits = decimal_by_steps (λ n ds. AreDigits ds)
     (λ n small. ((omega arith, omega arith), tt))
     (λ n ds big all. one_behind ds (48 + n % 10) all (omega arith, omega arith))
@@ -33,7 +33,7 @@ no_and : (x : Bool) → x && false ≡ false
 no_and true = refl
 no_and false = refl
 
-not_nat : (a b : ℕ) → (a ≡ b → ⊥) → nat_eq a b ≡ false
+pub not_nat : (a b : ℕ) → (a ≡ b → ⊥) → nat_eq a b ≡ false
 not_nat a b ne = search (rules, tests)
 
 -- digits don't begin with `0x`
@@ -76,7 +76,7 @@ cut_behind (d ∷ ds) ys all =
     let one : (1 + k) + 1 ≡ suc (k + 1) = omega arith in
     rw (no_star d all.0, one) (cut_behind ds ys all.1)
 
-below : (limit n : ℕ) → limit ≤ 2 ^ 64 → n < limit → number_below limit (decimal n) ≡ Some n
+pub below : (limit n : ℕ) → limit ≤ 2 ^ 64 → n < limit → number_below limit (decimal n) ≡ Some n
 below limit n few small =
     let is : nat_lt n limit ≡ true = search (rules, tests) in
     rw (written_decimal n (omega arith), is) refl
@@ -108,21 +108,21 @@ text_is [] = refl
 text_is (r ∷ rs) = more (length rs) r rs ∙ ap (λ x. run_text r ++ x) (text_is rs) ∙ shape r (spelled rs)
 
 -- ---- its words
-abbrev IsWordByte : ℕ → Type 0
+abbrev pub IsWordByte : ℕ → Type 0
 IsWordByte b = (is_blank b ≡ false) × (b == 59 ≡ false)
 
-abbrev AreWordBytes : List ℕ → Type 0
+abbrev pub AreWordBytes : List ℕ → Type 0
 AreWordBytes [] = Unit {0}
 AreWordBytes (b ∷ bs) = IsWordByte b × AreWordBytes bs
 
-digit_in_word : (b : ℕ) → IsDigit b → IsWordByte b
+pub digit_in_word : (b : ℕ) → IsDigit b → IsWordByte b
 digit_in_word b is =
     let a = not_nat b 32 (λ e. omega arith) in
     let t = not_nat b 9 (λ e. omega arith) in
     let r = not_nat b 13 (λ e. omega arith) in
     (rw (a, t, r) refl, not_nat b 59 (λ e. omega arith))
 
-digits_in_word : (ds bs : List ℕ) → AreDigits ds → AreWordBytes bs → AreWordBytes (ds ++ bs)
+pub digits_in_word : (ds bs : List ℕ) → AreDigits ds → AreWordBytes bs → AreWordBytes (ds ++ bs)
 digits_in_word [] bs all rest = rest
 digits_in_word (d ∷ ds) bs all rest = (digit_in_word d all.0, digits_in_word ds bs all.1 rest)
 
@@ -131,7 +131,7 @@ word_bytes run is =
     let turns = subst AreWordBytes (append-nil (decimal run.1)) (digits_in_word (decimal run.1) [] (decimal_digits run.1 (omega (arith, is.1))) tt) in
     digits_in_word (decimal run.0) (42 ∷ decimal run.1) (decimal_digits run.0 (omega (arith, is.0))) ((refl, refl), turns)
 
-not_blank : (bs : List ℕ) → AreWordBytes bs → All (λ b. is_blank b ≡ false) bs
+pub not_blank : (bs : List ℕ) → AreWordBytes bs → All (λ b. is_blank b ≡ false) bs
 not_blank [] all k d inside = absurd (omega arith)
 not_blank (b ∷ bs) all zero d inside = all.0.0
 not_blank (b ∷ bs) all (suc k) d inside = not_blank bs all.1 k d (omega arith)
@@ -145,11 +145,11 @@ are_runs [] all = tt
 are_runs (r ∷ rs) all = (all 0 r (omega arith), are_runs rs (λ k d inside. all (suc k) d (omega arith)))
 
 -- a list without `;` has no comment
-abbrev HasNoMark : List ℕ → Type 0
+abbrev pub HasNoMark : List ℕ → Type 0
 HasNoMark [] = Unit {0}
 HasNoMark (b ∷ bs) = (b == 59 ≡ false) × HasNoMark bs
 
-unmarked : (bs xs : List ℕ) → AreWordBytes bs → HasNoMark xs → HasNoMark (bs ++ xs)
+pub unmarked : (bs xs : List ℕ) → AreWordBytes bs → HasNoMark xs → HasNoMark (bs ++ xs)
 unmarked [] xs all rest = rest
 unmarked (b ∷ bs) xs all rest = (all.0.1, unmarked bs xs all.1 rest)
 
@@ -157,7 +157,7 @@ spelled_unmarked : (runs : List (ℕ × ℕ)) → AreRuns runs → HasNoMark (sp
 spelled_unmarked [] all = tt
 spelled_unmarked (r ∷ rs) all = (refl, unmarked (word r) (spelled rs) (word_bytes r all.0) (spelled_unmarked rs all.1))
 
-uncut : (bs : List ℕ) → HasNoMark bs → uncommented bs ≡ bs
+pub uncut : (bs : List ℕ) → HasNoMark bs → uncommented bs ≡ bs
 uncut [] all = refl
 uncut (b ∷ bs) all = take_while-cons (λ x. not (x == 59)) b bs ∙ (rw all.0 (ap (λ xs. b ∷ xs) (uncut bs all.1)))
 

@@ -19,7 +19,7 @@ fn cpu_in(word: &[u8]) -> Option<u8>
 }
 
 /// The number of turns that a word is.
-fn turns_in(word: &[u8]) -> Option<u64>
+pub(crate) fn turns_in(word: &[u8]) -> Option<u64>
     ensures { result ≡ number_below (2 ^ 64) word.now }
 {
     words::number(word).ok()
@@ -34,14 +34,14 @@ fn star_in(word: &[u8]) -> usize
 }
 
 /// What is before a word's first star.
-fn before_star<'a>(word: &'a [u8]) -> &'a [u8]
+pub(crate) fn before_star<'a>(word: &'a [u8]) -> &'a [u8]
     ensures { result.now ≡ before_first is_star word.now }
 {
     &word[..star_in(word)]
 }
 
 /// What follows a word's first star.
-fn behind_star<'a>(word: &'a [u8]) -> &'a [u8]
+pub(crate) fn behind_star<'a>(word: &'a [u8]) -> &'a [u8]
     ensures { result.now ≡ after_first is_star word.now }
 {
     let star = star_in(word);

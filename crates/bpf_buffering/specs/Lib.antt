@@ -1,0 +1,6 @@
+pub mod Search
+pub mod Waiting
+pub mod Jobs
+pub mod Going
+pub mod Buffering
+pub mod Lemmas

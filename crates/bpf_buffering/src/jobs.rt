@@ -1,0 +1,197 @@
+//! The jobs of a machine, and how one goes on.
+
+ghost use Rattle.std.specs.Prelude.{◌≡◌, true, IfOk, IfSome, IfNone, map};
+ghost use Rattle.bpf_plain.specs.PlainStore.{is_running, held_spans, shape_of};
+ghost use Rattle.bpf_helpers.specs.Held.{AreHeld, KeepsRun};
+ghost use Rattle.bpf_cpu.specs.Step.{IsReady};
+ghost use Rattle.bpf_machine.specs.Kept.{kept_stage};
+ghost use Rattle.bpf_machine.specs.Hands.{IsFree, NoneWaits};
+ghost use Rattle.bpf_machine.specs.Work.{HasInHand};
+ghost use Rattle.bpf_buffering.specs.Waiting.{serves_one};
+ghost use Rattle.bpf_buffering.specs.Jobs.{first_entry, in_hand, waits, held_by, waits_for, tasks_of, IsTakenUp, IsLowest};
+ghost use Rattle.bpf_buffering.specs.Buffering.{answer_of};
+ghost use Rattle.bpf_buffering.specs.Going.{AdvancesOver, CanGoOn, GoesOver, LeavesOthers, StaysFit};
+
+use crate::waiting::Waiting;
+use bpf_cpu::{Cpu, Job, Outcome, Progress};
+use bpf_loader::Program;
+use bpf_machine::{KeptStage, Turn};
+use bpf_shared::Shared;
+use std::alloc::{AllocError, Global};
+use std::mem;
+
+/// A job in the machine's list.
+#[derive(Drop)]
+pub(crate) struct Listed {
+    pub cpu: u8,
+    pub program: usize,
+    pub budget: u64,
+    pub stage: KeptStage,
+}
+
+/// Makes one step of a job in hand, if its budget has one left. With the job's outcome, where it has
+/// one then.
+fn advance(
+    state: &mut Cpu,
+    left: &mut u64,
+    program: &Program,
+    here: &mut Waiting,
+) -> Option<Outcome>
+    requires ready { IsReady program.now state.old }
+    requires serves { serves_one here.old state.old.number ≡ true }
+    requires in_run { is_running here.old.store state.old.number ≡ true }
+    requires held { AreHeld (held_spans here.old.store state.old.number) state.old.held }
+    ensures advance { AdvancesOver program.now here.old state.old left.old result here.new
+        state.new left.new }
+    ensures ready { IsReady program.now state.new }
+    ensures number { state.new.number ≡ state.old.number }
+    ensures held { AreHeld (held_spans here.new.store state.old.number) state.new.held }
+    ensures keeps { KeepsRun (λ w. shape_of w.store) (λ w. is_running w.store)
+        (λ w. held_spans w.store) state.old.number here.old here.new }
+{
+    if *left == 0 {
+        return Some(Outcome::OutOfBudget(state.pc));
+    }
+    *left -= 1;
+    match state.step(program, here) {
+        Progress::Done(outcome) => Some(outcome),
+        Progress::On if *left == 0 => Some(Outcome::OutOfBudget(state.pc)),
+        Progress::On => None,
+    }
+}
+
+/// What a turn in which a job made a step comes to.
+pub(crate) fn answer(job: usize, end: Option<Outcome>) -> Turn
+    ensures { result ≡ answer_of job end }
+{
+    match end {
+        None => Turn::Ran,
+        Some(outcome) => Turn::Ended(job, outcome),
+    }
+}
+
+impl Listed {
+    /// Whether it is in its CPU's hand.
+    fn is_in_hand(&self) -> bool
+        ensures { result ≡ in_hand (kept_stage self.now.stage) }
+    {
+        match &self.stage {
+            KeptStage::Waiting(_) => false,
+            KeptStage::InHand(_, _) => true,
+            KeptStage::Ended(_) => false,
+        }
+    }
+
+    /// Whether it waits.
+    fn waits(&self) -> bool
+        ensures { result ≡ waits (kept_stage self.now.stage) }
+    {
+        match &self.stage {
+            KeptStage::Waiting(_) => true,
+            KeptStage::InHand(_, _) => false,
+            KeptStage::Ended(_) => false,
+        }
+    }
+
+    /// Whether it is in this CPU's hand.
+    fn is_held_by(&self, cpu: u8) -> bool
+        ensures { result ≡ held_by cpu self.now }
+    {
+        self.cpu == cpu && self.is_in_hand()
+    }
+
+    /// Whether it waits for this CPU.
+    fn waits_for(&self, cpu: u8) -> bool
+        ensures { result ≡ waits_for cpu self.now }
+    {
+        self.cpu == cpu && self.waits()
+    }
+
+    /// Is taken in hand.
+    pub(crate) fn begin(&mut self)
+        requires { waits (kept_stage self.old.stage) ≡ true }
+        ensures stage { IsTakenUp self.old (kept_stage self.new.stage) }
+        ensures same { self.new ≡ record self.old { stage = self.new.stage } }
+    {
+        let placeholder = KeptStage::Ended(Outcome::OutOfBudget(0));
+        match mem::replace(&mut self.stage, placeholder) {
+            KeptStage::Waiting(input) => {
+                let state = Cpu::new(self.cpu, input);
+                self.stage = KeptStage::InHand(state, self.budget);
+            }
+            _ => unreachable!(),
+        }
+    }
+
+    /// Makes one step, if the budget has one left, and ends the run where the job has an outcome then.
+    pub(crate) fn go_on(&mut self, program: &Program, here: &mut Waiting) -> Option<Outcome>
+        requires { CanGoOn program.now here.old (kept_stage self.old.stage) }
+        ensures goes { GoesOver program.now here.old (kept_stage self.old.stage) result here.new
+            (kept_stage self.new.stage) }
+        ensures fits { StaysFit program.now here.new (kept_stage self.new.stage) result }
+        ensures others { LeavesOthers here.old.cpu here.old.store here.new.store }
+        ensures cpu { here.new.cpu ≡ here.old.cpu }
+        ensures same { self.new ≡ record self.old { stage = self.new.stage } }
+    {
+        let KeptStage::InHand(state, left) = &mut self.stage else {
+            unreachable!()
+        };
+        match advance(state, left, program, here) {
+            None => None,
+            Some(outcome) => {
+                here.end(state.number);
+                self.stage = KeptStage::Ended(outcome);
+                Some(outcome)
+            }
+        }
+    }
+}
+
+/// The jobs, all waiting.
+pub(crate) fn list_jobs(alloc: Global, jobs: Vec<Job>) -> Result<Vec<Listed>, AllocError>
+    ensures { IfOk result (λ list. list.items ≡ map first_entry jobs.items) }
+{
+    let mut list = Vec::with_capacity(alloc, jobs.len())?;
+    for job in jobs {
+        let Job {
+            cpu,
+            program,
+            budget,
+            input,
+        } = job;
+        let stage = KeptStage::Waiting(input);
+        list.push(Listed {
+            cpu,
+            program,
+            budget,
+            stage,
+        })?;
+    }
+    Ok(list)
+}
+
+/// The place of the job that a CPU has in hand.
+pub(crate) fn find_hand(jobs: &[Listed], cpu: u8) -> Option<usize>
+    ensures some { IfSome result (HasInHand (tasks_of jobs.now) cpu) }
+    ensures none { IfNone result (IsFree (tasks_of jobs.now) cpu) }
+{
+    for job in 0..jobs.len() {
+        if jobs[job].is_held_by(cpu) {
+            return Some(job);
+        }
+    }
+    None
+}
+
+/// The place of a CPU's lowest job that waits.
+pub(crate) fn find_waiting(jobs: &[Listed], cpu: u8) -> Option<usize>
+    ensures some { IfSome result (IsLowest (tasks_of jobs.now) cpu) }
+    ensures none { IfNone result (NoneWaits (tasks_of jobs.now) cpu) }
+{
+    for job in 0..jobs.len() {
+        if jobs[job].waits_for(cpu) {
+            return Some(job);
+        }
+    }
+    None
+}

@@ -1,0 +1,32 @@
+//! What follows from the definition of the x86 machine for a search through its moves.
+//!
+//! The functions do nothing: their contracts are the laws.
+ghost use Rattle.bpf_buffering.specs.Search.{CallsAreLocal, ClosedSetsCoverX86, MovesAreDetermined, NothingWaitsAtLast};
+
+/// A schedule of moves has one course.
+pub fn moves_are_determined()
+    ensures { MovesAreDetermined }
+{
+    bpf_mem::laws::writes_are_determined();
+    bpf_loader::laws::one_instruction_begins();
+    bpf_shared::laws::calls_have_one_reply();
+}
+
+/// Where all jobs have ended, nothing waits.
+pub fn nothing_waits_at_last()
+    ensures { NothingWaitsAtLast }
+{}
+
+/// What a CPU's calls do doesn't depend on what waits in other CPUs' buffers.
+pub fn calls_are_local()
+    ensures { CallsAreLocal }
+{}
+
+/// A closed list covers what schedules of moves lead to.
+pub fn closed_sets_cover_x86()
+    ensures { ClosedSetsCoverX86 }
+{
+    bpf_mem::laws::writes_are_determined();
+    bpf_loader::laws::one_instruction_begins();
+    bpf_shared::laws::calls_have_one_reply();
+}
