@@ -1,0 +1,2 @@
+pub mod AlikeJobs
+pub mod AlikeTurns

@@ -1,0 +1,4 @@
+//! Machines that are alike but for registers that are written before they are read.
+#![tactic(auto)]
+
+pub mod laws;
