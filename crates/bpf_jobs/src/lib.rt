@@ -16,5 +16,5 @@ pub use line::{OutcomeText, is_stop, push_job};
 pub use listing::has_any_stopped;
 pub use lists::push_lists;
 pub use maps::push_map;
-pub use rounds::{Report, make_asked, make_machine, run_jobs_by, tell};
+pub use rounds::{Report, asked_lines, make_asked, make_machine, run_jobs_by, tell};
 pub use variables::{list_variables, push_variable};

@@ -87,7 +87,7 @@ fn fixed_lines(alloc: Global, store: &PlainStore, names: &Names) -> Result<Strin
 }
 
 /// The lines of the maps, the variables and the arrays, where they are asked for.
-fn asked_lines(
+pub fn asked_lines(
     alloc: Global,
     store: &PlainStore,
     names: &Names,
