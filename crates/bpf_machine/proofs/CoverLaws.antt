@@ -81,10 +81,10 @@ ended_jobs z v headways ahead ended =
     let turns : ℕ → ℕ = λ c. turns_in (headways c) in
     equal_lists z.jobs v.jobs (λ j. both_ended v.programs turns (slice_get z.jobs j) (slice_get v.jobs j) (λ task at. ended j task at) (ahead.each j))
 
-pub ended_is_shown : (kept : List MachineState) (z : World) → IsCovered kept z → HaveEnded z.jobs → IsShown kept z
-ended_is_shown kept z (v, headways, shown, same, ahead) ended =
+pub ended_has : (P : World → Type 0) (z : World) → IsCoveredBy P z → HaveEnded z.jobs → P z
+ended_has P z (v, headways, shown, same, ahead) ended =
     let jobs = ended_jobs z v headways ahead ended in
-    subst (IsShown kept) (ap (λ (ts : List Task). with_jobs v ts) (sym jobs) ∙ same) shown
+    subst P (ap (λ (ts : List Task). with_jobs v ts) (sym jobs) ∙ same) shown
 
 -- ---- a turn
 -- what is true of a world is true of another after the CPU's turn and its turns that no store sees
@@ -176,23 +176,25 @@ turned law begins replies P Q stays leads w z c answer world covered progress =
     subst (IsCoveredBy Q) (sym one.worlds) r.3
 
 -- ---- a schedule
-module _ (law : WritesAreDetermined) (begins : OneInstructionBegins) (replies : CallsHaveOneReply) (kept : List MachineState) (closed : IsClosed kept) where
-  covered_turn : (w z : World) (c : ℕ) (answer : Turn) → IsWorld w → IsCovered kept w → TakesTurn w c answer z → IsCovered kept z
-  covered_turn w z c answer world covered progress =
-      turned law begins replies (IsShown kept) (IsShown kept) (λ v shown. shown)
-      (λ v d shown. (let r = closed shown.0 shown.1 shown.2 d in (r.1.0, r.1.1, r.0, r.1.2, r.1.3 v shown.3, r.1.4, λ y shows. (r.2.0, r.2.1, r.2.2, r.2.3 y shows))))
-      w z c answer world covered progress
-
-  pub covered_run : (cs : List ℕ) (w z : World) → IsWorld w → IsCovered kept w → RunsSchedule w cs z → IsCovered kept z × IsWorld z
-  covered_run [] w z world covered runs = (subst (IsCovered kept) (sym runs) covered, subst IsWorld (sym runs) world)
-  covered_run (c ∷ cs) w z world covered runs =
+module _ (law : WritesAreDetermined) (begins : OneInstructionBegins) (replies : CallsHaveOneReply) (P : World → Type 0) (leads : LeadsOn P P) where
+  run_covered : (cs : List ℕ) (w z : World) → IsWorld w → IsCoveredBy P w → RunsSchedule w cs z → IsCoveredBy P z × IsWorld z
+  run_covered [] w z world covered runs = (subst (IsCoveredBy P) (sym runs) covered, subst IsWorld (sym runs) world)
+  run_covered (c ∷ cs) w z world covered runs =
       let next = (one_turn law begins replies w c runs.0 runs.0 runs.1 runs.1 world runs.2 runs.2).world in
-      covered_run cs runs.1 z next (covered_turn w runs.1 c runs.0 world covered runs.2) runs.3
+      run_covered cs runs.1 z next (turned law begins replies P P (λ v shown. shown) leads w runs.1 c runs.0 world covered runs.2) runs.3
 
-  pub covered_from : (w z : World) (schedule : List ℕ) → IsFresh w → IsShown kept w → RunsSchedule w schedule z → IsCovered kept z × IsWorld z
-  covered_from w z schedule fresh shown runs = covered_run schedule w z (fresh_world law begins replies w fresh) (shown_is_covered kept w shown) runs
+  pub covered_by : (w z : World) (schedule : List ℕ) → IsFresh w → P w → RunsSchedule w schedule z → IsCoveredBy P z × IsWorld z
+  covered_by w z schedule fresh shown runs = run_covered schedule w z (fresh_world law begins replies w fresh) (true_is_covered P w shown) runs
+
+closed_leads : (kept : List MachineState) → IsClosed kept → LeadsOn (IsShown kept) (IsShown kept)
+closed_leads kept closed v c (i, m, at, shows) =
+    let r = closed i m at c in
+    (r.1.0, r.1.1, r.0, r.1.2, r.1.3 v shows, r.1.4, λ y seen. (r.2.0, r.2.1, r.2.2, r.2.3 y seen))
+
+pub covered_from : WritesAreDetermined → OneInstructionBegins → CallsHaveOneReply → (kept : List MachineState) → IsClosed kept → (w z : World) (schedule : List ℕ) → IsFresh w → IsShown kept w → RunsSchedule w schedule z → IsCovered kept z × IsWorld z
+covered_from law begins replies kept closed w z schedule fresh shown runs = covered_by law begins replies (IsShown kept) (closed_leads kept closed) w z schedule fresh shown runs
 
 pub closed_sets_cover : WritesAreDetermined → OneInstructionBegins → CallsHaveOneReply → ClosedSetsCover
 closed_sets_cover law begins replies kept w z schedule closed fresh shown runs =
     let covered = (covered_from law begins replies kept closed w z schedule fresh shown runs).0 in
-    (covered, ended_is_shown kept z covered)
+    (covered, ended_has (IsShown kept) z covered)

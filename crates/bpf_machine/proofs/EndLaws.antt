@@ -14,15 +14,16 @@ use Rattle.bpf_machine.specs.declared.machine.ahead.Headway.{Headway}
 use Rattle.bpf_machine.specs.declared.machine.ahead.Headway.TheVariants.{Idle, Turns}
 use Rattle.bpf_machine.specs.Schedule.{World, TakesTurn, RunsSchedule}
 use Rattle.bpf_machine.specs.Rounds.{HaveEnded}
+use Rattle.bpf_machine.specs.Laws.{IsFresh}
 use Rattle.bpf_machine.specs.Machine.{MachineState, Shows}
 use Rattle.bpf_machine.specs.Headways.{turns_in, Precedes, with_jobs, IsAheadOf}
 use Rattle.bpf_machine.specs.Cover.{IsAhead}
 use Rattle.bpf_machine.specs.Patient.{NoneRanOut, IsRicher, AsRich}
-use Rattle.bpf_machine.specs.Ends.{RunsFreely, CanEnd, LeadsTo, EndsIn, AreStuck, StuckAreHung, AllCanEnd, FreeRunsAgree}
+use Rattle.bpf_machine.specs.Ends.{RunsFreely, CanEnd, IsHung, LeadsTo, EndsIn, AreStuck, StuckAreHung, AllCanEnd, FreeRunsAgree}
 use Rattle.bpf_machine.proofs.DeterminedTurns.{IsWorld, one_turn, fresh_world}
 use Rattle.bpf_machine.proofs.HeadwayLaws.{before}
-use Rattle.bpf_machine.proofs.CoverLaws.{now, now_is, IsCoveredBy, LeadsBy, LeadsOn, comes_made, comes_new, comes, true_is_covered, shown_is_covered, ended_jobs}
-use Rattle.bpf_machine.proofs.PatientLaws.{all_same, richer_hand, end_richer, rich_at, rich_again, rich_ended, rich_world, rich_turn, stays_ended, none_ran_before, Richly, enriched, patient_run}
+use Rattle.bpf_machine.proofs.CoverLaws.{now, now_is, IsCoveredBy, LeadsBy, LeadsOn, comes_made, comes_new, comes, true_is_covered, ended_jobs}
+use Rattle.bpf_machine.proofs.PatientLaws.{all_same, richer_hand, end_richer, rich_at, rich_again, rich_ended, rich_world, rich_turn, stays_ended, none_ran_before, Richly, enriched, IsCoveredRichlyBy, patient_covered}
 use Rattle.bpf_machine.proofs.PatientRaceLaws.{world_after}
 
 -- ---- two lists of richer jobs have a third that is richer than both
@@ -133,6 +134,28 @@ through P Q c (suc n) leads w v headways shown same ahead many =
     let rest = through P Q c n leads t.0 v (now headways c (Turns n)) shown t.2 t.3 (ap turns_in (now_is headways c (Turns n))) in
     (c ∷ rest.0, rest.1, (turn.Ran, t.0, t.1, rest.2), rest.3)
 
+-- this many turns lead from what is true of worlds to an end
+abbrev pub EndOn : (ℕ → World → Type 0) → ℕ → ℕ → Type 0
+EndOn P zero i = (z : World) → P i z → HaveEnded z.jobs × NoneRanOut z.jobs
+EndOn P (suc n) i = (c : ℕ) × (k : ℕ) × LeadsBy (P i) (λ h u. Richly (P k) u) c × EndOn P n k
+
+module _ (P : ℕ → World → Type 0) where
+  ends_by : (n i : ℕ) (z : World) → EndOn P n i → IsCoveredBy (P i) z → CanEnd z
+  ends_by zero i z ends (v, headways, shown, same, ahead) =
+      let e = ends v shown in
+      ([], z, (z.jobs, all_same z.jobs, refl), have_ended_before z v headways ahead e.0, none_before z v headways ahead e.1)
+  ends_by (suc n) i z (c, k, leads, rest) (v, headways, shown, same, ahead) =
+      let t = through (P i) (Richly (P k)) c (turns_in (headways c)) leads z v headways shown same ahead refl in
+      let e = enriched (P k) t.1 t.3 in
+      let r = ends_by n k (with_jobs t.1 e.0) rest e.2 in
+      (t.0 ++ r.0, r.1, runs_then_freely t.0 r.0 z t.1 r.1 t.2 (gift_first r.0 t.1 r.1 e.0 e.1 r.2), r.3, r.4)
+
+  -- so they do from a world that is covered with richer jobs
+  pub can_end : (n i : ℕ) (z : World) → EndOn P n i → IsCoveredRichlyBy (P i) z → CanEnd z
+  can_end n i z ends (jobs, rich, covered) =
+      let r = ends_by n i (with_jobs z jobs) ends covered in
+      (r.0, r.1, gift_first r.0 z r.1 jobs rich r.2, r.3, r.4)
+
 module _ (kept : List MachineState) where
   pub one_machine : (i : ℕ) (m n : MachineState) → slice_get kept i ≡ Some m → slice_get kept i ≡ Some n → m ≡ n
   one_machine i m n a b = let both : Some m ≡ Some n = sym a ∙ b in cc
@@ -149,55 +172,33 @@ module _ (kept : List MachineState) where
         λ y shown. (let q = is_kept y shown in (q.0, q.2, (q.1, q.3, q.4))),
       )
 
+  end_on : (n i : ℕ) → EndsIn kept n i → EndOn (IsShownAt kept) n i
+  end_on zero i (m, at, ended, none) =
+      λ z (other, there, shows).
+      (let one = one_machine i m other at there in
+      let jobs : m.jobs ≡ z.jobs = ap (λ (x : MachineState). x.jobs) one ∙ sym shows.jobs in
+      (subst HaveEnded jobs ended, subst NoneRanOut jobs none))
+  end_on (suc n) i (c, k, leads, rest) = (c, k, leads_by i c k leads, end_on n k rest)
+
   pub ends_from : (n i : ℕ) (z : World) → EndsIn kept n i → IsCoveredBy (IsShownAt kept i) z → CanEnd z
-  ends_from zero i z (m, at, ended, none) (v, headways, (other, there, shows), same, ahead) =
-      let one = one_machine i m other at there in
-      let jobs : m.jobs ≡ v.jobs = ap (λ (x : MachineState). x.jobs) one ∙ sym shows.jobs in
-      ([], z, (z.jobs, all_same z.jobs, refl), have_ended_before z v headways ahead (subst HaveEnded jobs ended), none_before z v headways ahead (subst NoneRanOut jobs none))
-  ends_from (suc n) i z (c, k, leads, rest) (v, headways, shown, same, ahead) =
-      let t = through (IsShownAt kept i) (Richly (IsShownAt kept k)) c (turns_in (headways c)) (leads_by i c k leads) z v headways shown same ahead refl in
-      let e = enriched (IsShownAt kept k) t.1 t.3 in
-      let r = ends_from n k (with_jobs t.1 e.0) rest e.2 in
-      (t.0 ++ r.0, r.1, runs_then_freely t.0 r.0 z t.1 r.1 t.2 (gift_first r.0 t.1 r.1 e.0 e.1 r.2), r.3, r.4)
+  ends_from n i z ends covered = ends_by (IsShownAt kept) n i z (end_on n i ends) covered
 
 pub all_can_end : WritesAreDetermined → OneInstructionBegins → CallsHaveOneReply → AllCanEnd
 all_can_end law begins replies kept w z schedule closed ends fresh shown runs none =
-    let covered = patient_run law begins replies kept closed schedule w z (fresh_world law begins replies w fresh) (w.jobs, all_same w.jobs, shown_is_covered kept w shown) runs none in
+    let covered = patient_covered law begins replies kept closed w z schedule fresh shown runs none in
     let there = covered.2 in
     let at = there.2 in
     let way = ends at.0 at.1 at.2 in
-    let r = ends_from kept way.0 at.0 (with_jobs z covered.0) way.1 (there.0, there.1, (at.1, at.2, at.3), there.3, there.4) in
-    (r.0, r.1, gift_first r.0 z r.1 covered.0 covered.1 r.2, r.3, r.4)
+    can_end (IsShownAt kept) way.0 at.0 z (end_on kept way.0 at.0 way.1) (covered.0, covered.1, (there.0, there.1, (at.1, at.2, at.3), there.3, there.4))
 
 -- ---- from these machines none
-module _ (kept : List MachineState) (ends : List Bool) (stuck : AreStuck kept ends) where
-  abbrev IsStuckAt : World → Type 0
-  IsStuckAt w = (i : ℕ) × (m : MachineState) × (slice_get ends i ≡ Some false) × (slice_get kept i ≡ Some m) × Shows m w
-
-  leads_on : LeadsOn IsStuckAt (Richly IsStuckAt)
-  leads_on v c (i, m, off, at, shows) =
-      let next = (stuck i off).turns c in
-      let leads = next.1 in
-      let same = one_machine kept i m leads.0 at leads.2 in
-      let turns = leads.3 in (
-        turns.0,
-        turns.1,
-        leads.1,
-        turns.2,
-        turns.3 v (subst (λ (x : MachineState). Shows x v) same shows),
-        turns.4,
-        λ y shown. (let q = leads.4 y shown in (q.0, q.2, (next.0, q.1, next.2, q.3, q.4))),
-      )
-
-  stays : (v : World) → IsStuckAt v → Richly IsStuckAt v
+module _ (P : World → Type 0) (leads : LeadsOn P (Richly P)) (works : (w : World) → P w → HaveEnded w.jobs → ⊥) (none_out : (w : World) → P w → NoneRanOut w.jobs) where
+  stays : (v : World) → P v → Richly P v
   stays v shown = (v.jobs, all_same v.jobs, shown)
-
-  none_out : (v : World) → IsStuckAt v → NoneRanOut v.jobs
-  none_out v (i, m, off, at, shows) = subst NoneRanOut (sym shows.jobs) ((stuck i off).none m at)
 
   -- but for steps that are left, and for turns ahead, one of them shows the world
   abbrev IsLikeStuck : World → Type 0
-  IsLikeStuck z = (jobs : List Task) × (top : List Task) × AsRich z.jobs top × AsRich jobs top × IsCoveredBy IsStuckAt (with_jobs z jobs)
+  IsLikeStuck z = (jobs : List Task) × (top : List Task) × AsRich z.jobs top × AsRich jobs top × IsCoveredBy P (with_jobs z jobs)
 
   given_more : (z : World) (more : List Task) → AsRich z.jobs more → IsLikeStuck z → IsLikeStuck (with_jobs z more)
   given_more z more rich (jobs, top, up, below, covered) =
@@ -205,25 +206,25 @@ module _ (kept : List MachineState) (ends : List Bool) (stuck : AreStuck kept en
       (jobs, j.0, j.1, rich_again jobs top j.0 below j.2, covered)
 
   never_ended : (y : World) → IsLikeStuck y → HaveEnded y.jobs → ⊥
-  never_ended y (jobs, top, up, below, (v, headways, (i, m, off, at, shows), same, ahead)) ended =
+  never_ended y (jobs, top, up, below, (v, headways, shown, same, ahead)) ended =
       let high : top ≡ y.jobs = rich_ended y.jobs top up ended in
       let ended_top : HaveEnded top = subst HaveEnded (sym high) ended in
       let low : top ≡ jobs = poor_ended jobs top below ended_top in
       let ended_low : HaveEnded jobs = subst HaveEnded low ended_top in
       let there : jobs ≡ v.jobs = ended_jobs (with_jobs y jobs) v headways ahead ended_low in
-      (stuck i off).works m at (subst HaveEnded (there ∙ shows.jobs) ended_low)
+      works v shown (subst HaveEnded there ended_low)
 
   module _ (law : WritesAreDetermined) (begins : OneInstructionBegins) (replies : CallsHaveOneReply) where
     stuck_turn : (z m : World) (c : ℕ) (answer : Turn) → IsWorld z → IsLikeStuck z → TakesTurn z c answer m → NoneRanOut m.jobs → IsLikeStuck m
     stuck_turn z m c answer world (jobs, top, up, below, covered) progress none =
         let p = with_jobs z jobs in
-        let r = comes IsStuckAt (Richly IsStuckAt) stays leads_on p c covered in
+        let r = comes P (Richly P) stays leads p c covered in
         let p' = r.1 in
         let v = r.3.0 in
         let there = r.3.2 in
         let none_v : NoneRanOut v.jobs = none_poor v.jobs there.0 there.1 (none_out (with_jobs v there.0) there.2) in
         let none_p : NoneRanOut p'.jobs = none_before p' v r.3.1 r.3.4 none_v in
-        let e = enriched IsStuckAt p' r.3 in
+        let e = enriched P p' r.3 in
         let a = rich_turn p top c r.0 p' below r.2 none_p in
         let b = rich_turn z top c answer m up progress none in
         let one = one_turn law begins replies (with_jobs z top) c r.0 answer (with_jobs p' a.0) (with_jobs m b.0) (rich_world z top up world) a.1 b.1 in
@@ -234,7 +235,7 @@ module _ (kept : List MachineState) (ends : List Bool) (stuck : AreStuck kept en
           j.0,
           rich_again m.jobs b.0 j.0 b.2 (subst (λ (ts : List Task). AsRich ts j.0) tops j.1),
           j.2,
-          subst (IsCoveredBy IsStuckAt) (ap (λ (x : World). with_jobs x e.0) same) e.2,
+          subst (IsCoveredBy P) (ap (λ (x : World). with_jobs x e.0) same) e.2,
         )
 
     never : (cs : List ℕ) (z y : World) → IsWorld z → IsLikeStuck z → RunsFreely z cs y → HaveEnded y.jobs → NoneRanOut y.jobs → ⊥
@@ -245,11 +246,37 @@ module _ (kept : List MachineState) (ends : List Bool) (stuck : AreStuck kept en
         let next = (one_turn law begins replies (with_jobs z jobs) c answer answer m m here progress progress).world in
         never cs m y next (stuck_turn (with_jobs z jobs) m c answer here (given_more z jobs rich like) progress (freely_none cs m y runs none)) runs ended none
 
+    pub are_hung : (w z : World) (schedule : List ℕ) → IsFresh w → RunsSchedule w schedule z → Richly P z → IsHung z
+    are_hung w z schedule fresh runs (jobs, rich, shown) (cs, y, freely, ended, none) =
+        let world = world_after law begins replies schedule w z (fresh_world law begins replies w fresh) runs in
+        never cs z y world (jobs, jobs, rich, all_same jobs, true_is_covered P (with_jobs z jobs) shown) freely ended none
+
+module _ (kept : List MachineState) (ends : List Bool) (stuck : AreStuck kept ends) where
+  abbrev IsStuckAt : World → Type 0
+  IsStuckAt w = (i : ℕ) × (m : MachineState) × (slice_get ends i ≡ Some false) × (slice_get kept i ≡ Some m) × Shows m w
+
+  stuck_leads : LeadsOn IsStuckAt (Richly IsStuckAt)
+  stuck_leads v c (i, m, off, at, shows) =
+      let next = (stuck i off).turns c in
+      let r = leads_by kept i c next.0 next.1 v (m, at, shows) in (
+        r.0,
+        r.1,
+        r.2,
+        r.3,
+        r.4,
+        r.5,
+        λ y shown. (let q = r.6 y shown in (q.0, q.1, (next.0, q.2.0, next.2, q.2.1, q.2.2))),
+      )
+
+  stuck_works : (v : World) → IsStuckAt v → HaveEnded v.jobs → ⊥
+  stuck_works v (i, m, off, at, shows) ended = (stuck i off).works m at (subst HaveEnded shows.jobs ended)
+
+  none_stuck : (v : World) → IsStuckAt v → NoneRanOut v.jobs
+  none_stuck v (i, m, off, at, shows) = subst NoneRanOut (sym shows.jobs) ((stuck i off).none m at)
+
 pub stuck_are_hung : WritesAreDetermined → OneInstructionBegins → CallsHaveOneReply → StuckAreHung
-stuck_are_hung law begins replies kept ends w z schedule i stuck fresh runs off (jobs, m, rich, at, shows) (cs, y, freely, ended, none) =
-    let world = world_after law begins replies schedule w z (fresh_world law begins replies w fresh) runs in
-    let covered = true_is_covered (IsStuckAt kept ends stuck) (with_jobs z jobs) (i, m, off, at, shows) in
-    never kept ends stuck law begins replies cs z y world (jobs, jobs, rich, all_same jobs, covered) freely ended none
+stuck_are_hung law begins replies kept ends w z schedule i stuck fresh runs off (jobs, m, rich, at, shows) =
+    are_hung (IsStuckAt kept ends stuck) (stuck_leads kept ends stuck) (stuck_works kept ends stuck) (none_stuck kept ends stuck) law begins replies w z schedule fresh runs (jobs, rich, (i, m, off, at, shows))
 
 -- ---- one schedule, with steps that are given and without
 module _ (law : WritesAreDetermined) (begins : OneInstructionBegins) (replies : CallsHaveOneReply) where

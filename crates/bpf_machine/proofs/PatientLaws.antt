@@ -22,14 +22,15 @@ use Rattle.bpf_machine.specs.Hands.{IsAt, IsFree, NoneWaits, NoneWaitsBelow, Som
 use Rattle.bpf_machine.specs.Schedule.{World, outcome_after, Advances, Settles, GoesOn, TakesTurn, RunsSchedule}
 use Rattle.bpf_machine.specs.Rounds.{HaveEnded}
 use Rattle.bpf_machine.specs.Work.{HasInHand}
+use Rattle.bpf_machine.specs.Laws.{IsFresh}
 use Rattle.bpf_machine.specs.Machine.{MachineState}
 use Rattle.bpf_machine.specs.Headways.{TakesQuietTurns, turns_in, Precedes, BothPrecede, FitsHeadway, with_jobs, IsAheadOf}
 use Rattle.bpf_machine.specs.declared.machine.ahead.Headway.TheVariants as headway
-use Rattle.bpf_machine.specs.Cover.{IsShown, IsAhead, IsCovered}
+use Rattle.bpf_machine.specs.Cover.{IsShown, IsAhead}
 use Rattle.bpf_machine.specs.Patient.{NoneRanOut, IsRicher, AsRich, IsShownRichly, IsClosedRichly, IsCoveredRichly, PatientSetsCover}
 use Rattle.bpf_machine.proofs.ListLaws.{with_end, lists_jobs, lists_along}
 use Rattle.bpf_machine.proofs.DeterminedTurns.{IsWorld, one_turn, fresh_world}
-use Rattle.bpf_machine.proofs.CoverLaws.{IsCoveredBy, turned, shown_is_covered, ended_is_shown}
+use Rattle.bpf_machine.proofs.CoverLaws.{IsCoveredBy, LeadsOn, turned, true_is_covered, ended_has}
 
 -- ---- more steps left
 suc_more : (n k : ℕ) → suc (n + k) ≡ suc n + k
@@ -341,28 +342,44 @@ enriched P y (v, headways, (jobs, rich, shown), same, ahead) =
     (e.0, e.1, (with_jobs v jobs, headways, shown, e.2, e.3))
 
 -- ---- a turn, and a schedule
-module _ (law : WritesAreDetermined) (begins : OneInstructionBegins) (replies : CallsHaveOneReply) (kept : List MachineState) (closed : IsClosedRichly kept) where
-  patient_turn : (w z : World) (c : ℕ) (answer : Turn) → IsWorld w → IsCoveredRichly kept w → TakesTurn w c answer z → NoneRanOut z.jobs → IsCoveredRichly kept z
-  patient_turn w z c answer world (jobs, rich, covered) progress none =
+-- with richer jobs the world is covered
+abbrev pub IsCoveredRichlyBy : (World → Type 0) → World → Type 0
+IsCoveredRichlyBy P w = (jobs : List Task) × AsRich w.jobs jobs × IsCoveredBy P (with_jobs w jobs)
+
+module _ (law : WritesAreDetermined) (begins : OneInstructionBegins) (replies : CallsHaveOneReply) (P : World → Type 0) (leads : LeadsOn P (Richly P)) where
+  rich_covered : (w z : World) (c : ℕ) (answer : Turn) → IsWorld w → IsCoveredRichlyBy P w → TakesTurn w c answer z → NoneRanOut z.jobs → IsCoveredRichlyBy P z
+  rich_covered w z c answer world (jobs, rich, covered) progress none =
       let t = rich_turn w jobs c answer z rich progress none in
-      let there = turned law begins replies (IsShown kept) (IsShownRichly kept) (λ v shown. (v.jobs, all_same v.jobs, shown))
-      (λ v d shown. (let r = closed shown.0 shown.1 d shown.2 in (r.1.0, r.1.1, r.0, r.1.2, r.1.3 v shown.3, r.1.4, r.2)))
-      (with_jobs w jobs) (with_jobs z t.0) c answer (rich_world w jobs rich world) covered t.1
-      in
-      let e = enriched (IsShown kept) (with_jobs z t.0) there in
+      let there = turned law begins replies P (Richly P) (λ v shown. (v.jobs, all_same v.jobs, shown)) leads (with_jobs w jobs) (with_jobs z t.0) c answer (rich_world w jobs rich world) covered t.1 in
+      let e = enriched P (with_jobs z t.0) there in
       (e.0, rich_again z.jobs t.0 e.0 t.2 e.1, e.2)
 
-  pub patient_run : (cs : List ℕ) (w z : World) → IsWorld w → IsCoveredRichly kept w → RunsSchedule w cs z → NoneRanOut z.jobs → IsCoveredRichly kept z
-  patient_run [] w z world covered runs none = subst (IsCoveredRichly kept) (sym runs) covered
-  patient_run (c ∷ cs) w z world covered runs none =
+  pub rich_run : (cs : List ℕ) (w z : World) → IsWorld w → IsCoveredRichlyBy P w → RunsSchedule w cs z → NoneRanOut z.jobs → IsCoveredRichlyBy P z
+  rich_run [] w z world covered runs none = subst (IsCoveredRichlyBy P) (sym runs) covered
+  rich_run (c ∷ cs) w z world covered runs none =
       let next = (one_turn law begins replies w c runs.0 runs.0 runs.1 runs.1 world runs.2 runs.2).world in
-      patient_run cs runs.1 z next (patient_turn w runs.1 c runs.0 world covered runs.2 (none_ran_before cs runs.1 z runs.3 none)) runs.3 none
+      rich_run cs runs.1 z next (rich_covered w runs.1 c runs.0 world covered runs.2 (none_ran_before cs runs.1 z runs.3 none)) runs.3 none
+
+  pub covered_richly : (w z : World) (schedule : List ℕ) → IsFresh w → P w → RunsSchedule w schedule z → NoneRanOut z.jobs → IsCoveredRichlyBy P z
+  covered_richly w z schedule fresh shown runs none =
+      rich_run schedule w z (fresh_world law begins replies w fresh) (w.jobs, all_same w.jobs, true_is_covered P w shown) runs none
+
+pub ended_richly : (P : World → Type 0) (z : World) → IsCoveredRichlyBy P z → HaveEnded z.jobs → P z
+ended_richly P z (jobs, rich, covered) ended =
+    let same = rich_ended z.jobs jobs rich ended in
+    ended_has P z (subst (λ (ts : List Task). IsCoveredBy P (with_jobs z ts)) same covered) ended
+
+closed_richly : (kept : List MachineState) → IsClosedRichly kept → LeadsOn (IsShown kept) (IsShownRichly kept)
+closed_richly kept closed v c (i, m, at, shows) = let r = closed i m c at in (r.1.0, r.1.1, r.0, r.1.2, r.1.3 v shows, r.1.4, r.2)
+
+module _ (law : WritesAreDetermined) (begins : OneInstructionBegins) (replies : CallsHaveOneReply) (kept : List MachineState) (closed : IsClosedRichly kept) where
+  pub patient_run : (cs : List ℕ) (w z : World) → IsWorld w → IsCoveredRichly kept w → RunsSchedule w cs z → NoneRanOut z.jobs → IsCoveredRichly kept z
+  patient_run = rich_run law begins replies (IsShown kept) (closed_richly kept closed)
+
+  pub patient_covered : (w z : World) (schedule : List ℕ) → IsFresh w → IsShown kept w → RunsSchedule w schedule z → NoneRanOut z.jobs → IsCoveredRichly kept z
+  patient_covered = covered_richly law begins replies (IsShown kept) (closed_richly kept closed)
 
 pub patient_sets_cover : WritesAreDetermined → OneInstructionBegins → CallsHaveOneReply → PatientSetsCover
 patient_sets_cover law begins replies kept w z schedule closed fresh shown runs none =
-    let covered = patient_run law begins replies kept closed schedule w z (fresh_world law begins replies w fresh) (w.jobs, all_same w.jobs, shown_is_covered kept w shown) runs none in (
-      covered,
-      λ ended.
-          let same = rich_ended z.jobs covered.0 covered.1 ended in
-          ended_is_shown kept z (subst (λ (ts : List Task). IsCovered kept (with_jobs z ts)) same covered.2) ended,
-    )
+    let covered = patient_covered law begins replies kept closed w z schedule fresh shown runs none in
+    (covered, ended_richly (IsShown kept) z covered)

@@ -11,10 +11,9 @@ use Rattle.bpf_machine.specs.Schedule.{World, RunsSchedule}
 use Rattle.bpf_machine.specs.Headways.{with_jobs}
 use Rattle.bpf_machine.specs.Race.{HasNext, IsRace}
 use Rattle.bpf_machine.specs.Patient.{AsRich, PatientRacesAreKept}
-use Rattle.bpf_machine.proofs.DeterminedTurns.{IsWorld, one_turn, fresh_world}
-use Rattle.bpf_machine.proofs.CoverLaws.{shown_is_covered}
+use Rattle.bpf_machine.proofs.DeterminedTurns.{IsWorld, one_turn}
 use Rattle.bpf_machine.proofs.RaceLaws.{race_is_kept}
-use Rattle.bpf_machine.proofs.PatientLaws.{all_same, rich_at, richer_hand, richer_cpu, patient_run}
+use Rattle.bpf_machine.proofs.PatientLaws.{rich_at, richer_hand, richer_cpu, patient_covered}
 
 -- with more steps left a CPU's next step is the same
 module _ (w : World) (jobs : List Task) (rich : AsRich w.jobs jobs) where
@@ -44,7 +43,7 @@ module _ (w : World) (jobs : List Task) (rich : AsRich w.jobs jobs) where
         among = next.among;
       }
 
-  race_rich : (one other : Stand) (b : ℕ) → IsRace w one other b → IsRace (with_jobs w jobs) one other b
+  pub race_rich : (one other : Stand) (b : ℕ) → IsRace w one other b → IsRace (with_jobs w jobs) one other b
   race_rich one other b race = record {
     apart = race.apart;
     first = race.first;
@@ -68,8 +67,7 @@ module _ (law : WritesAreDetermined) (begins : OneInstructionBegins) (replies : 
 
   pub patient_races_are_kept : PatientRacesAreKept
   patient_races_are_kept kept w z schedule closed fresh shown runs none one other b race =
-      let first = fresh_world law begins replies w fresh in
-      let r = patient_run law begins replies kept closed schedule w z first (w.jobs, all_same w.jobs, shown_is_covered kept w shown) runs none in
+      let r = patient_covered law begins replies kept closed w z schedule fresh shown runs none in
       let jobs = r.0 in
       let covered = r.2 in
       let held = race_is_kept begins (with_jobs z jobs) covered.0 covered.1 covered.3 covered.4 one other b (race_rich z jobs r.1 one other b race) in

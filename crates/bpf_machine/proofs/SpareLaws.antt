@@ -27,9 +27,9 @@ use Rattle.bpf_machine.specs.Machine.{MachineState, Shows}
 use Rattle.bpf_machine.specs.Laws.{IsFresh}
 use Rattle.bpf_machine.specs.Work.{HasInHand}
 use Rattle.bpf_machine.specs.Headways.{turns_in, Precedes, FitsHeadway, with_jobs, IsAheadOf}
-use Rattle.bpf_machine.specs.Cover.{IsShown, IsAhead}
+use Rattle.bpf_machine.specs.Cover.{IsAhead}
 use Rattle.bpf_machine.specs.Patient.{NoneRanOut, IsRicher, AsRich}
-use Rattle.bpf_machine.specs.Budgets.{depth_at, LeadsDeeper, IsSparing, AreSparing, BudgetsSuffice}
+use Rattle.bpf_machine.specs.Budgets.{depth_at, LeadsDeeper, AreSparing, BudgetsSuffice}
 use Rattle.bpf_machine.proofs.ListLaws.{with_end, lists_jobs}
 use Rattle.bpf_machine.proofs.DeterminedTurns.{IsWorld, one_turn, fresh_world, Changed, Same, Other, changed}
 use Rattle.bpf_machine.proofs.HeadwayLaws.{before, behind, free_behind, none_behind}
@@ -132,18 +132,27 @@ precedes_budget : (programs : List Loaded) (n : ℕ) (old new : Task) → Preced
 precedes_budget programs n old new (inl a) = ap (λ (t : Task). t.budget) a.0
 precedes_budget programs n old new (inr a) = ap (λ (t : Task). t.budget) a.7
 
-module _ (kept : List MachineState) (depths : List ℕ) (least : ℕ) (sparing : AreSparing kept depths least) where
-  -- the i-th kept machine shows the world, but for richer jobs and turns ahead, and each job in hand has
-  -- as many steps left as its budget, but for those of the depth
+-- ---- worlds of which something is true by a number, and each number has a depth
+-- the CPU's turn, with n turns of it that no store sees, leads from the i-th to one that is deeper
+abbrev pub DeeperBy : (ℕ → World → Type 0) → List ℕ → ℕ → ℕ → Type 0
+DeeperBy P depths i c = (k : ℕ) × (n : ℕ) × LeadsBy (P i) (λ h u. (turns_in h ≡ n) × Richly (P k) u) c × (depth_at depths i + n + 1 ≤ depth_at depths k)
+
+-- the i-th is less deep than each budget, and each CPU with work leads deeper
+pub record IsSparingBy (P : ℕ → World → Type 0) (depths : List ℕ) (least i : ℕ) (v : World) : Type 0 where
+  pub depth : depth_at depths i < least
+  pub budgets : (j : ℕ) (task : Task) → slice_get v.jobs j ≡ Some task → least ≤ task.budget
+  pub turns : (c : ℕ) → (IsFree v.jobs c × NoneWaits v.jobs c) ⊎ DeeperBy P depths i c
+
+module _ (P : ℕ → World → Type 0) (depths : List ℕ) (least : ℕ) (sparing : (i : ℕ) (v : World) → P i v → IsSparingBy P depths least i v) where
+  -- the i-th is true of the world, but for richer jobs and turns ahead, and each job in hand has as many
+  -- steps left as its budget, but for those of the depth
   pub record IsSpared (z : World) : Type 0 where
     pub i : ℕ
-    pub m : MachineState
     pub v : World
     pub headways : ℕ → Headway
     pub jobs : List Task
     pub rich : AsRich z.jobs jobs
-    pub at : slice_get kept i ≡ Some m
-    pub shows : Shows m v
+    pub shown : P i v
     pub same : with_jobs v jobs ≡ with_jobs z jobs
     pub ahead : IsAheadOf (IsAhead headways) headways jobs v
     pub steps : HasSteps z.jobs (λ c. turns_in (headways c)) (depth_at depths i)
@@ -154,8 +163,7 @@ module _ (kept : List MachineState) (depths : List ℕ) (least : ℕ) (sparing :
     least_is j task at =
         let b = rich_at z.jobs s.jobs j task s.rich at in
         let a = before s.v.programs (λ c. turns_in (s.headways c)) s.jobs s.v.jobs s.ahead.each j b.0 b.1 in
-        let there : slice_get s.m.jobs j ≡ Some a.0 = ap (λ (ts : List Task). slice_get ts j) (sym s.shows.jobs) ∙ a.1 in
-        let budget = (sparing s.i s.m s.at).budgets j a.0 there in
+        let budget = (sparing s.i s.v s.shown).budgets j a.0 a.1 in
         let one = richer_budget task b.0 b.2 in
         let two = precedes_budget s.v.programs (turns_in (s.headways b.0.cpu)) b.0 a.0 a.2 in
         omega arith
@@ -165,7 +173,7 @@ module _ (kept : List MachineState) (depths : List ℕ) (least : ℕ) (sparing :
     p = with_jobs z s.jobs
 
     -- the CPU's turn leads to what the k-th shows so
-    module _ (k : ℕ) (other : Turn) (p' u : World) (h : Headway) (taken : TakesTurn p c other p') (shown : Richly (IsShownAt kept k) u) (same : with_jobs u p'.jobs ≡ p') (ahead : IsAheadOf (IsAhead (now s.headways c h)) (now s.headways c h) p'.jobs u)
+    module _ (k : ℕ) (other : Turn) (p' u : World) (h : Headway) (taken : TakesTurn p c other p') (shown : Richly (P k) u) (same : with_jobs u p'.jobs ≡ p') (ahead : IsAheadOf (IsAhead (now s.headways c h)) (now s.headways c h) p'.jobs u)
         (more : depth_at depths s.i ≤ depth_at depths k)
         (hand : (j : ℕ) (task : Task) (state : Cpu) (left : ℕ) → IsAt z.jobs c j task (InHand state left) → (2 ≤ left) × (task.budget + turns_in h + 1 ≤ left + depth_at depths k))
         (begun : (j : ℕ) (task : Task) (input : Input) → IsFree z.jobs c → IsAt z.jobs c j task (Waiting input) → (2 ≤ task.budget) × (task.budget + turns_in h + 1 ≤ task.budget + depth_at depths k)) where
@@ -174,16 +182,13 @@ module _ (kept : List MachineState) (depths : List ℕ) (least : ℕ) (sparing :
           let r = rich_turn z s.jobs c answer z' s.rich progress none in
           let one = (one_turn law begins replies p c other answer p' (with_jobs z' r.0) (rich_world z s.jobs s.rich world) taken r.1).worlds in
           let e = enriched_by p' u (now s.headways c h) shown.0 shown.1 same ahead in
-          let at = shown.2 in
           record {
             i = k;
-            m = at.0;
             v = with_jobs u shown.0;
             headways = now s.headways c h;
             jobs = e.0;
             rich = rich_again z'.jobs r.0 e.0 r.2 (subst (λ (ts : List Task). AsRich ts e.0) (ap (λ (x : World). x.jobs) one) e.1);
-            at = at.1;
-            shows = at.2;
+            shown = shown.2;
             same = e.2 ∙ ap (λ (x : World). with_jobs x e.0) one;
             ahead = e.3;
             steps = steps;
@@ -216,8 +221,8 @@ module _ (kept : List MachineState) (depths : List ℕ) (least : ℕ) (sparing :
           (none_after z.jobs z'.jobs c j task (Waiting a.2) at only task.budget s.none w)
       spared_by (inr (inr a)) = subst IsSpared (sym a.3) s
 
-    sparing_here : IsSparing kept depths least s.i s.m
-    sparing_here = sparing s.i s.m s.at
+    sparing_here : IsSparingBy P depths least s.i s.v
+    sparing_here = sparing s.i s.v s.shown
 
     -- a job in hand of what the kept machine shows is in hand
     hand_behind : (j : ℕ) → HasInHand s.v.jobs c j → HasInHand z.jobs c j
@@ -241,7 +246,7 @@ module _ (kept : List MachineState) (depths : List ℕ) (least : ℕ) (sparing :
         let fits = subst (λ (h : Headway). FitsHeadway s.v.jobs c h) many (s.ahead.fits c (n, many)) in
         let deep = sparing_here.depth in
         let made : turns_in (s.headways c) ≡ suc n = ap turns_in many in
-        spared_by s.i turn.Ran r.0 s.v (Turns n) r.1 (s.v.jobs, all_same s.v.jobs, (s.m, s.at, s.shows)) r.2 r.3 (omega arith)
+        spared_by s.i turn.Ran r.0 s.v (Turns n) r.1 (s.v.jobs, all_same s.v.jobs, s.shown) r.2 r.3 (omega arith)
         (λ j task state left at. (
         let budget = least_is z s j task at.listed in
         let steps : task.budget + turns_in (s.headways c) ≤ left + depth_at depths s.i = s.steps c j task state left at in
@@ -249,21 +254,15 @@ module _ (kept : List MachineState) (depths : List ℕ) (least : ℕ) (sparing :
         (λ j task input free at. (let h = hand_behind fits.0 fits.1 in absurd (free fits.0 h.0 h.1 h.2 h.3)))
         progress
 
-    -- the CPU has no work in what the kept machine shows
-    was_idle : IsFree s.m.jobs c → NoneWaits s.m.jobs c → IsSpared z'
+    -- the CPU has no work in it
+    was_idle : IsFree s.v.jobs c → NoneWaits s.v.jobs c → IsSpared z'
     was_idle free none = go progress
       where
-        free_v : IsFree s.v.jobs c
-        free_v = subst (λ (ts : List Task). IsFree ts c) (sym s.shows.jobs) free
-
-        none_v : NoneWaits s.v.jobs c
-        none_v = subst (λ (ts : List Task). NoneWaits ts c) (sym s.shows.jobs) none
-
         free_p : IsFree s.jobs c
-        free_p = free_behind s.v.programs (λ d. turns_in (s.headways d)) s.jobs s.v.jobs s.ahead.each c free_v
+        free_p = free_behind s.v.programs (λ d. turns_in (s.headways d)) s.jobs s.v.jobs s.ahead.each c free
 
         none_p : NoneWaits s.jobs c
-        none_p = none_behind s.v.programs (λ d. turns_in (s.headways d)) s.jobs s.v.jobs s.ahead.each c none_v
+        none_p = none_behind s.v.programs (λ d. turns_in (s.headways d)) s.jobs s.v.jobs s.ahead.each c none
 
         go : TakesTurn z c answer z' → IsSpared z'
         go (inl (j, task, state, left, at, g)) =
@@ -272,12 +271,12 @@ module _ (kept : List MachineState) (depths : List ℕ) (least : ℕ) (sparing :
         go (inr (inl (is_free, a))) = absurd (none_p a.0 a.1 a.2 (wait_now z.jobs s.jobs s.rich c a.0 a.1 a.2 a.4))
         go (inr (inr a)) = subst IsSpared (sym a.3) s
 
-    -- it is made from the kept machine
-    was_new : turns_in (s.headways c) ≡ 0 → LeadsDeeper kept depths s.i s.m c → IsSpared z'
-    was_new none (new, k, n, turns, is_kept, deeper) =
-        let r = comes_new p c s.v s.headways s.same s.ahead (IsShownAt kept s.i) (λ h u. (turns_in h ≡ n) × Richly (IsShownAt kept k) u) leads (s.m, s.at, s.shows) none in
+    -- it is made from it
+    was_new : turns_in (s.headways c) ≡ 0 → DeeperBy P depths s.i c → IsSpared z'
+    was_new none (k, n, leads, deeper) =
+        let r = comes_new p c s.v s.headways s.same s.ahead (P s.i) (λ h u. (turns_in h ≡ n) × Richly (P k) u) leads s.shown none in
         let shown = r.5.1 in
-        let deep = (sparing k shown.2.0 shown.2.1).depth in
+        let deep = (sparing k (with_jobs r.2 shown.0) shown.2).depth in
         let many : turns_in r.3 ≡ n = r.5.0 in
         spared_by k r.0 r.1 r.2 r.3 r.4 shown r.6 r.7 (omega arith)
         (λ j task state left at. (
@@ -286,18 +285,6 @@ module _ (kept : List MachineState) (depths : List ℕ) (least : ℕ) (sparing :
         (omega arith, omega arith)))
         (λ j task input free at. (let budget = least_is z s j task at.listed in (omega arith, omega arith)))
         progress
-      where
-        leads : LeadsBy (IsShownAt kept s.i) (λ h u. (turns_in h ≡ n) × Richly (IsShownAt kept k) u) c
-        leads v (m, there, shows) =
-            let same = one_machine kept s.i m s.m there s.at in (
-              turns.0,
-              turns.1,
-              new,
-              turns.2,
-              turns.3 v (subst (λ (x : MachineState). Shows x v) same shows),
-              turns.4,
-              λ y shown. (let q = is_kept y shown in (turns.5, (q.0, q.2, (q.1, q.3, q.4)))),
-            )
 
     from_kept : turns_in (s.headways c) ≡ 0 → IsSpared z'
     from_kept none = elim (sparing_here.turns c) [
@@ -320,16 +307,14 @@ module _ (kept : List MachineState) (depths : List ℕ) (least : ℕ) (sparing :
         let next = (one_turn law begins replies w c answer answer m m world progress progress).world in
         none_spent cs m z next (spared law begins replies w m c answer world s progress) runs
 
-    first_spared : (w : World) → IsFresh w → IsShown kept w → IsSpared w
-    first_spared w fresh (i, m, at, shows) = record {
+    first_spared : (i : ℕ) (w : World) → IsFresh w → P i w → IsSpared w
+    first_spared i w fresh shown = record {
       i = i;
-      m = m;
       v = w;
       headways = none_is_ahead;
       jobs = w.jobs;
       rich = all_same w.jobs;
-      at = at;
-      shows = shows;
+      shown = shown;
       same = refl;
       ahead = nobody_ahead w;
       steps = λ c j task state left there. (
@@ -340,6 +325,38 @@ module _ (kept : List MachineState) (depths : List ℕ) (least : ℕ) (sparing :
           let no : Waiting waits.0 ≡ Ended (OutOfBudget pc) = sym waits.1 ∙ ended in cc);
     }
 
+    pub none_runs_out : (i : ℕ) (w z : World) (schedule : List ℕ) → IsFresh w → P i w → RunsSchedule w schedule z → NoneRanOut z.jobs
+    none_runs_out i w z schedule fresh shown runs = none_spent schedule w z (fresh_world law begins replies w fresh) (first_spared i w fresh shown) runs
+
+-- ---- kept machines
+module _ (kept : List MachineState) (depths : List ℕ) (least : ℕ) where
+  deeper_by : (i : ℕ) (m : MachineState) (c : ℕ) → slice_get kept i ≡ Some m → LeadsDeeper kept depths i m c → DeeperBy (IsShownAt kept) depths i c
+  deeper_by i m c at (new, k, n, turns, is_kept, deeper) = (k, n, leads, deeper)
+    where
+      leads : LeadsBy (IsShownAt kept i) (λ h u. (turns_in h ≡ n) × Richly (IsShownAt kept k) u) c
+      leads v (other, there, shows) =
+          let same = one_machine kept i other m there at in (
+            turns.0,
+            turns.1,
+            new,
+            turns.2,
+            turns.3 v (subst (λ (x : MachineState). Shows x v) same shows),
+            turns.4,
+            λ y shown. (let q = is_kept y shown in (turns.5, (q.0, q.2, (q.1, q.3, q.4)))),
+          )
+
+  sparing_by : AreSparing kept depths least → (i : ℕ) (v : World) → IsShownAt kept i v → IsSparingBy (IsShownAt kept) depths least i v
+  sparing_by sparing i v (m, at, shows) =
+      let s = sparing i m at in
+      record {
+        depth = s.depth;
+        budgets = λ j task there. s.budgets j task (ap (λ (ts : List Task). slice_get ts j) (sym shows.jobs) ∙ there);
+        turns = λ c. elim (s.turns c) [
+          | inl idle ↦ inl (subst (λ (ts : List Task). IsFree ts c) (sym shows.jobs) idle.0, subst (λ (ts : List Task). NoneWaits ts c) (sym shows.jobs) idle.1)
+          | inr deeper ↦ inr (deeper_by i m c at deeper)
+        ];
+      }
+
 pub budgets_suffice : WritesAreDetermined → OneInstructionBegins → CallsHaveOneReply → BudgetsSuffice
-budgets_suffice law begins replies kept depths least w z schedule sparing fresh shown runs =
-    none_spent kept depths least sparing law begins replies schedule w z (fresh_world law begins replies w fresh) (first_spared kept depths least sparing law begins replies w fresh shown) runs
+budgets_suffice law begins replies kept depths least w z schedule sparing fresh (i, m, at, shows) runs =
+    none_runs_out (IsShownAt kept) depths least (sparing_by kept depths least sparing) law begins replies i w z schedule fresh (m, at, shows) runs
