@@ -1,6 +1,5 @@
 -- Jobs over arrays alone, whose calls nobody else's events divide.
 use Rattle.std.specs.Prelude.{◌≡◌, ℕ, ◌^◌, ◌<◌, ◌≤◌, ◌⊎◌, All, List, [], Some, length, slice_get}
-use Rattle.bpf_mem.specs.Limits.{max_context}
 use Rattle.bpf_shared.specs.Shape.{Shape, IsShape}
 use Rattle.bpf_loader.specs.Loaded.{Loaded}
 use Rattle.bpf_cpu.specs.Input.{IsShort}

@@ -1,6 +1,5 @@
 -- What every run file has of what a machine asks of its jobs and programs.
 use Rattle.std.specs.Prelude.{◌≡◌, ℕ, ◌<◌, ◌≤◌, All, length}
-use Rattle.bpf_mem.specs.Limits.{max_context}
 use Rattle.bpf_pairs.specs.Pairs.{ArePairs}
 use Rattle.bpf_cpu.specs.Input.{IsShort}
 use Rattle.bpf_cpu.specs.Task.{Task, Stage, Waiting}

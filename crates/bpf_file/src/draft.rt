@@ -19,7 +19,7 @@ ghost use Rattle.bpf_file.specs.Private.Fits.{IsFit};
 ghost use Rattle.bpf_text.specs.Symbols.{table_of};
 ghost use Rattle.bpf_file.specs.Programs.{OfAssembly};
 ghost use Rattle.bpf_file.specs.Symbols.{names_for};
-ghost use Rattle.bpf_file.specs.Private.Drafts.{part_of, said_in, after, Added, HasContext, IsBrief, IsShortSaid, Ends, closed, file_answer};
+ghost use Rattle.bpf_file.specs.Private.Drafts.{part_of, said_in, after, Added, ReadsDigits, IsBrief, IsShortSaid, Ends, closed, file_answer};
 
 use crate::error::{FileError, Reason};
 use crate::file::RunFile;
@@ -114,7 +114,7 @@ fn served(cpus: u8, cpu: Option<u64>) -> Option<u8>
 
 /// The bytes of a line's hex digits.
 pub(crate) fn decoded(alloc: Global, line: usize, digits: &[u8]) -> Result<Vec<u8>, FileError>
-    ensures { HasContext (λ v. v.items) line (decode_of digits.now) result }
+    ensures { ReadsDigits (λ v. v.items) line (decode_of digits.now) result }
 {
     match hex::decode(alloc, digits) {
         Ok(bytes) => Ok(bytes),
@@ -132,7 +132,7 @@ fn around_packet(
     packet: PacketLine<'_>,
 ) -> Result<Input, FileError>
     requires brief { IsBrief (Some (packet_said packet)) }
-    ensures { HasContext (λ i. i) line (around_packet given packet.entry.hook cpu
+    ensures { ReadsDigits (λ i. i) line (around_packet given packet.entry.hook cpu
         (decode_of packet.entry.digits.now)) result }
 {
     let bytes = decoded(alloc, line, packet.digits)?;
@@ -148,7 +148,7 @@ fn around_packet(
 
 /// The bytes of a context.
 fn context_of(alloc: Global, line: usize, digits: Option<&[u8]>) -> Result<Vec<u8>, FileError>
-    ensures { HasContext (λ v. v.items) line (context_of (option_copied digits.entry)) result }
+    ensures { ReadsDigits (λ v. v.items) line (context_of (option_copied digits.entry)) result }
 {
     match digits {
         Some(digits) => decoded(alloc, line, digits),
@@ -605,7 +605,7 @@ impl<'a> Draft<'a> {
         job: JobLine<'_>,
     ) -> Result<Input, FileError>
         requires { IsShortSaid (said_by (statement_kind.Job job)) }
-        ensures { HasContext (λ i. i) line (input_said (length (part_of self.now).file.jobs) cpu
+        ensures { ReadsDigits (λ i. i) line (input_said (length (part_of self.now).file.jobs) cpu
             (job_line job.entry)) result }
     {
         let given = self.given(job);

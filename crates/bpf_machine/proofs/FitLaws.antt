@@ -4,7 +4,7 @@ use Rattle.std.specs.Prelude.{slice_get, slice_index_or}
 use Rattle.std.proofs.lemmas.Bool.{cases_lt}
 use Rattle.std.proofs.lemmas.Option.{slice_get_within, slice_get-get_or}
 use Rattle.bpf_shared.proofs.Puts.{true_or_false}
-use Rattle.bpf_plain.specs.PlainStore.{Contents, has_cpu, is_running}
+use Rattle.bpf_plain.specs.PlainStore.{Contents, is_running}
 use Rattle.bpf_loader.specs.Loaded.{Loaded}
 use Rattle.bpf_cpu.specs.declared.cpu.Cpu.{Cpu}
 use Rattle.bpf_cpu.specs.Step.{IsReady}

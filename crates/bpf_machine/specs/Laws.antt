@@ -1,8 +1,7 @@
 -- What follows from the definitions of turns and schedules: on one thread they have one course; and
 -- from those of what is saved.
-use Rattle.std.specs.Prelude.{◌≡◌, ℕ, ◌≤◌, List, ◌++◌, Some, length, slice_get}
+use Rattle.std.specs.Prelude.{◌≡◌, ℕ, ◌≤◌, List, ◌++◌, Some, slice_get}
 use Rattle.bpf_shared.specs.Sound.{IsSoundStore}
-use Rattle.bpf_mem.specs.Limits.{max_context}
 use Rattle.bpf_cpu.specs.Input.{IsShort}
 use Rattle.bpf_cpu.specs.declared.input.Input.{Input}
 use Rattle.bpf_cpu.specs.Task.{Stage, Task, Waiting}

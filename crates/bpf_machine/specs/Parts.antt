@@ -1,6 +1,5 @@
 -- Machines that are made again of parts: a store, programs, and each job as it is.
 use Rattle.std.specs.Prelude.{◌≡◌, ℕ, ◌<◌, ◌≤◌, true, false, List, Some, None, length, map, slice_get, slice_index_or}
-use Rattle.bpf_mem.specs.Limits.{max_context}
 use Rattle.bpf_plain.specs.PlainStore.{Contents, has_cpu, is_running, held_spans}
 use Rattle.bpf_plain.specs.Alike.{IsSameShape}
 use Rattle.bpf_loader.specs.Loaded.{Loaded}

@@ -107,7 +107,6 @@ impl Model for Machine {
 impl Machine {
     ghost use Rattle.std.specs.Prelude.{◌≡◌, ◌≢◌, ◌≤◌, ◌<◌, ◌⊎◌, ℕ, true, false, All, IfOk, IfErr, IfSome, IfNone, length, map, nat_lt, vec_len, option_map, slice_get};
     ghost use Rattle.bpf_plain.specs.PlainStore.{has_cpu, is_running};
-    ghost use Rattle.bpf_mem.specs.Limits.{max_context};
     ghost use Rattle.bpf_cpu.specs.Task.{outcome_at, waiting};
     ghost use Rattle.bpf_machine.specs.Hands.{IsFree, NoneWaits};
     ghost use Rattle.bpf_machine.specs.Schedule.{World, TakesTurn, RunsSchedule};

@@ -79,12 +79,12 @@ IsShortSaid s = Unit {0}
 abbrev pub Added : ℕ → Part → Said → Part → Result Next FileError → Type 0
 Added n p said q result = OrMemory (λ a. AddsLine n p said (after n q a)) result
 
--- the bytes of a context, or its refusal
-abbrev pub HasContext : {V X : Type 0} → (V → X) → ℕ → Result X FromHexError
+-- what a line's hex digits give, or their refusal
+abbrev pub ReadsDigits : {V X : Type 0} → (V → X) → ℕ → Result X FromHexError
     → Result V FileError → Type 0
-HasContext items n c (Ok v) = c ≡ Ok (items v)
-HasContext items n c (Err OutOfMemory) = Unit {0}
-HasContext items n c (Err (Refused m why)) =
+ReadsDigits items n c (Ok v) = c ≡ Ok (items v)
+ReadsDigits items n c (Err OutOfMemory) = Unit {0}
+ReadsDigits items n c (Err (Refused m why)) =
     (m ≡ n) × (why ≡ NotHex) × (e : FromHexError) × (c ≡ Err e)
 
 -- the end of a program's assembly

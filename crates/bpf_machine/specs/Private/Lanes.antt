@@ -1,7 +1,6 @@
 -- What a machine keeps of each job, and of each CPU.
 use Rattle.std.specs.Prelude.{◌≡◌, ℕ, ◌<◌, ◌≤◌, Bool, true, false, List, Option, Some, None, is_some, length, map, slice_get, slice_index_or}
 use Rattle.bpf_shared.specs.declared.events.Span.{Span}
-use Rattle.bpf_mem.specs.Limits.{max_context}
 use Rattle.bpf_loader.specs.Loaded.{Loaded}
 use Rattle.bpf_cpu.specs.declared.input.Input.{Input}
 use Rattle.bpf_cpu.specs.declared.job.Job.{Job}

@@ -1,6 +1,5 @@
 -- When a store, programs and jobs fit each other, job by job.
 use Rattle.std.specs.Prelude.{◌≡◌, ℕ, ◌<◌, ◌≤◌, true, false, List, Some, length, slice_get}
-use Rattle.bpf_mem.specs.Limits.{max_context}
 use Rattle.bpf_plain.specs.PlainStore.{Contents, has_cpu, is_running, held_spans}
 use Rattle.bpf_loader.specs.Loaded.{Loaded}
 use Rattle.bpf_helpers.specs.Held.{AreHeld}
