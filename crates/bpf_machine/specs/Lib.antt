@@ -11,6 +11,7 @@ pub mod Cover
 pub mod Race
 pub mod Patient
 pub mod Ends
+pub mod Alike
 pub mod Budgets
 pub mod Kept
 pub mod Parts

@@ -4,4 +4,4 @@
 pub mod laws;
 pub mod machine;
 
-pub use machine::{KeptJob, KeptStage, Machine, Stand, Standing, Turn, read_jobs};
+pub use machine::{Headway, KeptJob, KeptStage, Machine, Stand, Standing, Turn, read_jobs};

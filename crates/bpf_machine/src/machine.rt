@@ -11,6 +11,7 @@ mod parts;
 mod rounds;
 mod saving;
 
+pub use ahead::Headway;
 use bpf_cpu::{Cpu, Job, Outcome};
 use bpf_loader::Program;
 use bpf_plain::PlainStore;
