@@ -11,7 +11,7 @@ use Rattle.bpf_live.specs.Laws.{AlikeIsAnEquivalence}
 use Rattle.bpf_live.specs.Live.{Table}
 use Rattle.bpf_machine.specs.Hands.{IsAt, IsFree, NoneWaits, NoneWaitsBelow}
 use Rattle.bpf_machine.specs.Rounds.{HaveEnded}
-use Rattle.bpf_machine.specs.Alike.{AllAlike, IsAlike}
+use Rattle.bpf_alike.specs.Worlds.{AllAlike, IsAlike}
 
 module _ (equal : AlikeIsAnEquivalence) (programs : List Loaded) (tables : ℕ → Table) where
   abbrev Alike : Task → Task → Type 0

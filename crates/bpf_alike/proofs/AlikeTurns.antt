@@ -19,7 +19,7 @@ use Rattle.bpf_machine.specs.Headways.{with_jobs}
 use Rattle.bpf_machine.specs.Schedule.{World, outcome_after, Advances, Settles, GoesOn, TakesTurn}
 use Rattle.bpf_machine.proofs.ListLaws.{with_end, lists_jobs, lists_along}
 use Rattle.bpf_alike.specs.Laws.{TurnsAreAlike}
-use Rattle.bpf_machine.specs.Alike.{AllAlike, AreLiveTables, IsAlike}
+use Rattle.bpf_alike.specs.Worlds.{AllAlike, AreLiveTables, IsAlike}
 use Rattle.bpf_alike.proofs.AlikeJobs.{alike_hand, alike_at, alike_set, wait_now, free_alike, waits_alike, below_alike}
 
 -- ---- a step of a job in hand

@@ -5,7 +5,7 @@ use Rattle.bpf_live.specs.Live.{Table}
 use Rattle.bpf_machine.specs.declared.machine.Turn.{Turn}
 use Rattle.bpf_machine.specs.Headways.{with_jobs}
 use Rattle.bpf_machine.specs.Schedule.{World, TakesTurn}
-use Rattle.bpf_machine.specs.Alike.{AllAlike, AreLiveTables}
+use Rattle.bpf_alike.specs.Worlds.{AllAlike, AreLiveTables}
 
 -- a turn that leads from a world leads from each that is alike: with the same answer, and to one that
 -- is alike again

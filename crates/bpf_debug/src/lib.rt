@@ -27,5 +27,6 @@ mod watch;
 
 pub use command::Command;
 pub use error::DebugError;
+pub use reading::byte;
 pub use script::{Answer, answer, run_script};
 pub use session::Session;

@@ -33,7 +33,7 @@ fn may_reach(store: &PlainStore, state: &Cpu, address: u64) -> bool
 }
 
 /// The byte at an address: a CPU's own, or one of a value that its run may reach.
-fn byte(store: &PlainStore, state: &Cpu, address: u64) -> Option<u8>
+pub fn byte(store: &PlainStore, state: &Cpu, address: u64) -> Option<u8>
     ensures read { IfSome result (ReadsByte store.now state.now address) }
     ensures none { IfNone result (ReadsNoByte store.now state.now address) }
 {

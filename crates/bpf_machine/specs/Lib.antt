@@ -11,7 +11,6 @@ pub mod Cover
 pub mod Race
 pub mod Patient
 pub mod Ends
-pub mod Alike
 pub mod Budgets
 pub mod Kept
 pub mod Parts

@@ -137,6 +137,13 @@ impl KeptJob {
         self.budget
     }
 
+    /// How far it is.
+    pub fn stage(&self) -> &KeptStage
+        ensures { kept_stage result.now ≡ self.now.stage }
+    {
+        &self.stage
+    }
+
     /// How far it is, with what it goes on from.
     pub fn into_stage(self) -> KeptStage
         ensures { kept_stage result ≡ self.stage }

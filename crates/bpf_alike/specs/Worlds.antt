@@ -5,9 +5,7 @@ use Rattle.bpf_cpu.specs.declared.cpu.Cpu.{Cpu}
 use Rattle.bpf_cpu.specs.Task.{Task, InHand}
 use Rattle.bpf_live.specs.Live.{IsLiveTable, Table}
 use Rattle.bpf_live.specs.Alike.{AreAlike}
-use Rattle.bpf_machine.specs.Hands.{IsAt, IsFree, with_stage}
 use Rattle.bpf_machine.specs.Headways.{with_jobs}
-use Rattle.bpf_machine.specs.Machine.{MachineState}
 use Rattle.bpf_machine.specs.Schedule.{World}
 
 -- which registers are live, by the number of a program: all, where there is no table
@@ -40,17 +38,3 @@ AllAlike programs tables (old ∷ olds) (new ∷ news) =
 abbrev pub ButForDead : (ℕ → Table) → (World → Type 0) → World → Type 0
 ButForDead tables P w =
     (jobs : List Task) × AllAlike w.programs tables w.jobs jobs × P (with_jobs w jobs)
-
--- the j-th job, in the CPU's hand, is in a state that is alike
-abbrev pub Clears : MachineState → ℕ → ℕ → (ℕ → Table) → MachineState → Type 0
-Clears old c j tables new =
-    (task : Task) × (state : Cpu) × (left : ℕ) × (program : Loaded) × (other : Cpu)
-    × IsAt old.jobs c j task (InHand state left)
-    × (slice_get old.programs task.program ≡ Some program)
-    × AreAlike program (tables task.program) state other
-    × (new ≡ record old { jobs = with_stage old.jobs j task (InHand other left) })
-
--- so is the job that the CPU has in hand, if it has one
-abbrev pub IsCleared : MachineState → ℕ → (ℕ → Table) → MachineState → Type 0
-IsCleared old c tables new =
-    (IsFree old.jobs c × (new ≡ old)) ⊎ ((j : ℕ) × Clears old c j tables new)
