@@ -1,2 +1,6 @@
 pub mod Worlds
 pub mod Laws
+pub mod Covers
+pub mod Patient
+pub mod Ends
+pub mod Budgets
