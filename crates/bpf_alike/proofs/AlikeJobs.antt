@@ -1,24 +1,23 @@
 -- Jobs that are alike are the same CPUs', wait alike and end alike.
-use Rattle.std.proofs.Common.{◌≡◌, ◌∙◌, ◌<◌, ℕ, zero, suc, List, [], ◌∷◌, Option, Some, None, inl, inr, refl, sym, ap, subst}
+use Rattle.std.proofs.Common.{◌≡◌, ◌∙◌, ℕ, zero, suc, List, [], ◌∷◌, Some, None, inl, inr, refl, sym, ap, subst}
 use Rattle.std.specs.Prelude.{slice_get, slice_set}
 use Rattle.bpf_loader.specs.Loaded.{Loaded}
 use Rattle.bpf_cpu.specs.declared.cpu.Cpu.{Cpu}
 use Rattle.bpf_cpu.specs.declared.input.Input.{Input}
 use Rattle.bpf_cpu.specs.declared.outcome.Outcome.{Outcome}
 use Rattle.bpf_cpu.specs.Task.{Stage, Task, Waiting, InHand, Ended}
-use Rattle.bpf_live.specs.Alike.{AreAlike}
 use Rattle.bpf_live.specs.Laws.{AlikeIsAnEquivalence}
-use Rattle.bpf_live.specs.Live.{Table}
 use Rattle.bpf_machine.specs.Hands.{IsAt, IsFree, NoneWaits, NoneWaitsBelow}
 use Rattle.bpf_machine.specs.Rounds.{HaveEnded}
-use Rattle.bpf_alike.specs.Worlds.{AllAlike, IsAlike}
+use Rattle.bpf_alike.specs.Worlds.{AllAlike, AreLike, IsAlike}
+use Rattle.bpf_alike.proofs.Like.{like_again, like_back, like_same}
 
-module _ (equal : AlikeIsAnEquivalence) (programs : List Loaded) (tables : ℕ → Table) where
+module _ (equal : AlikeIsAnEquivalence) (programs : List Loaded) where
   abbrev Alike : Task → Task → Type 0
-  Alike = IsAlike programs tables
+  Alike = IsAlike programs
 
   abbrev All : List Task → List Task → Type 0
-  All = AllAlike programs tables
+  All = AllAlike programs
 
   pub all_same : (jobs : List Task) → All jobs jobs
   all_same [] = tt
@@ -27,11 +26,11 @@ module _ (equal : AlikeIsAnEquivalence) (programs : List Loaded) (tables : ℕ �
   -- a job in hand: the state of the other, which is alike
   abbrev pub OtherHand : Task → Task → Cpu → ℕ → Type 0
   OtherHand old new state left = (other : Cpu) × (new ≡ record old { stage = InHand other left })
-      × ((program : Loaded) → slice_get programs old.program ≡ Some program → AreAlike program (tables old.program) state other)
+      × ((program : Loaded) → slice_get programs old.program ≡ Some program → AreLike program state other)
 
   pub alike_hand : (old new : Task) (state : Cpu) (left : ℕ) → Alike old new → old.stage ≡ InHand state left → OtherHand old new state left
   alike_hand old new state left (inl same) at =
-      (state, same ∙ ap (λ (s : Stage). record old { stage = s }) at, λ program loaded. (equal program (tables old.program) state state state).0)
+      (state, same ∙ ap (λ (s : Stage). record old { stage = s }) at, λ program loaded. like_same program state)
   alike_hand old new state left (inr (program, was, rest, other, loaded, there, is, alike)) at =
       let both : InHand was rest ≡ InHand state left = sym there ∙ at in
       let states : was ≡ state = cc in
@@ -41,7 +40,7 @@ module _ (equal : AlikeIsAnEquivalence) (programs : List Loaded) (tables : ℕ �
         λ p at_p.
             let programs_same : Some program ≡ Some p = sym loaded ∙ at_p in
             let one : program ≡ p = cc in
-            subst (λ (x : Cpu). AreAlike p (tables old.program) x other) states (subst (λ (x : Loaded). AreAlike x (tables old.program) was other) one alike),
+            subst (λ (x : Cpu). AreLike p x other) states (subst (λ (x : Loaded). AreLike x was other) one alike),
       )
 
   -- from the other side
@@ -124,8 +123,8 @@ module _ (equal : AlikeIsAnEquivalence) (programs : List Loaded) (tables : ℕ �
     below_alike c j none k task input below at = none k task input below (wait_back c k task input at)
 
 -- ---- to be alike is symmetric and transitive
-module _ (equal : AlikeIsAnEquivalence) (programs : List Loaded) (tables : ℕ → Table) where
-  one_back : (x y : Task) → IsAlike programs tables x y → IsAlike programs tables y x
+module _ (equal : AlikeIsAnEquivalence) (programs : List Loaded) where
+  one_back : (x y : Task) → IsAlike programs x y → IsAlike programs y x
   one_back x y (inl same) = inl (sym same)
   one_back x y (inr (program, state, left, other, loaded, there, is, alike)) =
       let whole : x ≡ record x { stage = InHand state left } = ap (λ (s : Stage). record x { stage = s }) there in
@@ -137,21 +136,21 @@ module _ (equal : AlikeIsAnEquivalence) (programs : List Loaded) (tables : ℕ �
         ap (λ (t : Task). slice_get programs t.program) is ∙ loaded,
         ap (λ (t : Task). t.stage) is,
         whole ∙ ap (λ (t : Task). record t { stage = InHand state left }) (sym is),
-        subst (λ (t : Task). AreAlike program (tables t.program) other state) (sym is) ((equal program (tables x.program) state other other).1 alike),
+        subst (λ (t : Task). AreLike program other state) (sym is) (like_back program equal state other alike),
       )
 
-  pub all_back : (xs ys : List Task) → AllAlike programs tables xs ys → AllAlike programs tables ys xs
+  pub all_back : (xs ys : List Task) → AllAlike programs xs ys → AllAlike programs ys xs
   all_back [] [] all = tt
   all_back [] (y ∷ ys) all = absurd all
   all_back (x ∷ xs) [] all = absurd all
   all_back (x ∷ xs) (y ∷ ys) all = (one_back x y all.0, all_back xs ys all.1)
 
-  one_again : (x y z : Task) → IsAlike programs tables x y → IsAlike programs tables y z → IsAlike programs tables x z
-  one_again x y z (inl same) more = subst (λ (t : Task). IsAlike programs tables t z) same more
+  one_again : (x y z : Task) → IsAlike programs x y → IsAlike programs y z → IsAlike programs x z
+  one_again x y z (inl same) more = subst (λ (t : Task). IsAlike programs t z) same more
   one_again x y z (inr (program, state, left, other, loaded, there, is, alike)) more =
-      let h = alike_hand equal programs tables y z other left more (ap (λ (t : Task). t.stage) is) in
+      let h = alike_hand equal programs y z other left more (ap (λ (t : Task). t.stage) is) in
       let here : slice_get programs y.program ≡ Some program = ap (λ (t : Task). slice_get programs t.program) is ∙ loaded in
-      let onward : AreAlike program (tables x.program) other h.0 = subst (λ (t : Task). AreAlike program (tables t.program) other h.0) is (h.2 program here) in
+      let onward : AreLike program other h.0 = subst (λ (t : Task). AreLike program other h.0) is (h.2 program here) in
       inr (
         program,
         state,
@@ -160,10 +159,10 @@ module _ (equal : AlikeIsAnEquivalence) (programs : List Loaded) (tables : ℕ �
         loaded,
         there,
         h.1 ∙ ap (λ (t : Task). record t { stage = InHand h.0 left }) is,
-        (equal program (tables x.program) state other h.0).2 alike onward,
+        like_again program state other h.0 alike onward,
       )
 
-  pub all_again : (xs ys zs : List Task) → AllAlike programs tables xs ys → AllAlike programs tables ys zs → AllAlike programs tables xs zs
+  pub all_again : (xs ys zs : List Task) → AllAlike programs xs ys → AllAlike programs ys zs → AllAlike programs xs zs
   all_again [] [] [] a b = tt
   all_again [] [] (z ∷ zs) a b = absurd b
   all_again [] (y ∷ ys) zs a b = absurd a

@@ -1,2 +1,10 @@
+pub mod Like
 pub mod AlikeJobs
 pub mod AlikeTurns
+pub mod AlikeAhead
+pub mod AlikeCovers
+pub mod AlikeRuns
+pub mod AlikeRich
+pub mod AlikeRaces
+pub mod AlikeEnds
+pub mod AlikeBudgets

@@ -2,7 +2,6 @@
 -- budgets.
 use Rattle.std.specs.Prelude.{◌≡◌, ℕ, List, Some, slice_get}
 use Rattle.bpf_cpu.specs.Task.{Task}
-use Rattle.bpf_live.specs.Live.{Table}
 use Rattle.bpf_machine.specs.declared.machine.Stand.{Stand}
 use Rattle.bpf_machine.specs.declared.machine.Turn.{Turn}
 use Rattle.bpf_machine.specs.Cover.{IsShown, TurnsTo}
@@ -13,41 +12,41 @@ use Rattle.bpf_machine.specs.Patient.{AsRich, NoneRanOut}
 use Rattle.bpf_machine.specs.Race.{IsRace, IsRaceKept}
 use Rattle.bpf_machine.specs.Rounds.{HaveEnded}
 use Rattle.bpf_machine.specs.Schedule.{RunsSchedule, TakesTurn, World}
-use Rattle.bpf_alike.specs.Covers.{HaveTables, IsCoveredAlike, IsShownAlike}
+use Rattle.bpf_alike.specs.Covers.{IsCoveredAlike, IsShownAlike}
 
 -- with richer jobs, a kept machine shows the world, but for dead registers
-abbrev pub IsShownAlikeRichly : (ℕ → Table) → List MachineState → World → Type 0
-IsShownAlikeRichly tables kept w =
-    (jobs : List Task) × AsRich w.jobs jobs × IsShownAlike tables kept (with_jobs w jobs)
+abbrev pub IsShownAlikeRichly : List MachineState → World → Type 0
+IsShownAlikeRichly kept w =
+    (jobs : List Task) × AsRich w.jobs jobs × IsShownAlike kept (with_jobs w jobs)
 
 -- what the machine shows, a kept one shows so
-abbrev pub IsKeptAlikeRichly : (ℕ → Table) → List MachineState → MachineState → Type 0
-IsKeptAlikeRichly tables kept m = (w : World) → Shows m w → IsShownAlikeRichly tables kept w
+abbrev pub IsKeptAlikeRichly : List MachineState → MachineState → Type 0
+IsKeptAlikeRichly kept m = (w : World) → Shows m w → IsShownAlikeRichly kept w
 
 -- each CPU's turn from each kept machine leads to what a kept one shows so
-abbrev pub IsClosedAlikeRichly : (ℕ → Table) → List MachineState → Type 0
-IsClosedAlikeRichly tables kept = (i : ℕ) (m : MachineState) (c : ℕ) → slice_get kept i ≡ Some m
-    → (new : MachineState) × TurnsTo m c new × IsKeptAlikeRichly tables kept new
+abbrev pub IsClosedAlikeRichly : List MachineState → Type 0
+IsClosedAlikeRichly kept = (i : ℕ) (m : MachineState) (c : ℕ) → slice_get kept i ≡ Some m
+    → (new : MachineState) × TurnsTo m c new × IsKeptAlikeRichly kept new
 
 -- with richer jobs the world is covered, but for dead registers
-abbrev pub IsCoveredAlikeRichly : (ℕ → Table) → List MachineState → World → Type 0
-IsCoveredAlikeRichly tables kept w =
-    (jobs : List Task) × AsRich w.jobs jobs × IsCoveredAlike tables kept (with_jobs w jobs)
+abbrev pub IsCoveredAlikeRichly : List MachineState → World → Type 0
+IsCoveredAlikeRichly kept w =
+    (jobs : List Task) × AsRich w.jobs jobs × IsCoveredAlike kept (with_jobs w jobs)
 
 -- a list that is closed so, and shows a machine before its first turn, covers all that schedules lead
 -- to while no job runs out of budget; and where no CPU has work left, it shows that
 abbrev pub AlikePatientSetsCover : Type 0
 AlikePatientSetsCover =
-    (tables : ℕ → Table) (kept : List MachineState) (w z : World) (schedule : List ℕ)
-    → HaveTables tables kept → IsClosedAlikeRichly tables kept → IsFresh w → IsShown kept w
+    (kept : List MachineState) (w z : World) (schedule : List ℕ)
+    → IsClosedAlikeRichly kept → IsFresh w → IsShown kept w
     → RunsSchedule w schedule z → NoneRanOut z.jobs
-    → IsCoveredAlikeRichly tables kept z × (HaveEnded z.jobs → IsShown kept z)
+    → IsCoveredAlikeRichly kept z × (HaveEnded z.jobs → IsShown kept z)
 
 -- with richer jobs each CPU has its next turn there
 abbrev pub AlikePatientSetsHaveTurns : Type 0
 AlikePatientSetsHaveTurns =
-    (tables : ℕ → Table) (kept : List MachineState) (w z : World) (schedule : List ℕ)
-    → HaveTables tables kept → IsClosedAlikeRichly tables kept → IsFresh w → IsShown kept w
+    (kept : List MachineState) (w z : World) (schedule : List ℕ)
+    → IsClosedAlikeRichly kept → IsFresh w → IsShown kept w
     → RunsSchedule w schedule z → NoneRanOut z.jobs
     → (jobs : List Task) × AsRich z.jobs jobs × ((c : ℕ)
     → (answer : Turn) × (y : World) × TakesTurn (with_jobs z jobs) c answer y)
@@ -55,7 +54,7 @@ AlikePatientSetsHaveTurns =
 -- and each race there is one in what a kept machine shows
 abbrev pub AlikePatientRacesAreKept : Type 0
 AlikePatientRacesAreKept =
-    (tables : ℕ → Table) (kept : List MachineState) (w z : World) (schedule : List ℕ)
-    → HaveTables tables kept → IsClosedAlikeRichly tables kept → IsFresh w → IsShown kept w
+    (kept : List MachineState) (w z : World) (schedule : List ℕ)
+    → IsClosedAlikeRichly kept → IsFresh w → IsShown kept w
     → RunsSchedule w schedule z → NoneRanOut z.jobs
     → (one other : Stand) (b : ℕ) → IsRace z one other b → IsRaceKept kept z one other b

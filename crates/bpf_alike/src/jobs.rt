@@ -1,0 +1,84 @@
+//! Kept jobs that are alike, and tables of the registers that their programs may read.
+
+ghost use Rattle.std.specs.Prelude.{◌≡◌, ℕ, List, Some, true, IfOk, length, slice_get};
+ghost use Rattle.bpf_loader.specs.Loaded.{Loaded};
+ghost use Rattle.bpf_live.specs.Alike.{AreAlike};
+ghost use Rattle.bpf_cpu.specs.declared.cpu.Cpu.{Cpu};
+ghost use Rattle.bpf_alike.specs.Worlds.{AreLiveTables, IsAlike, table_at};
+
+use bpf_base::spread;
+use bpf_cpu::Cpu;
+use bpf_live::{Live, find_live};
+use bpf_loader::Program;
+use bpf_machine::{KeptJob, KeptStage};
+use std::alloc::{AllocError, Global};
+
+/// By program, the registers that it may read before it writes them.
+pub fn find_all_live(alloc: Global, programs: &[Program]) -> Result<Vec<Live>, AllocError>
+    ensures { IfOk result (λ tables. AreLiveTables programs.now (table_at tables.items)) }
+{
+    let mut tables = Vec::new(alloc);
+    for program in programs {
+        let table = find_live(alloc, program)?;
+        tables.push(table)?;
+    }
+    Ok(tables)
+}
+
+/// Whether two states in a program of this number are alike. Where there is no table for it, none
+/// is said to be.
+fn are_states_alike(tables: &[Live], program: usize, cpu: &Cpu, other: &Cpu) -> bool
+    ensures { result ≡ true → (loaded : Loaded)
+        → AreAlike loaded (table_at tables.now program) cpu.now other.now }
+{
+    program < tables.len() && tables[program].is_alike(cpu, other)
+}
+
+/// Whether the other job is the same one, in hand, in a state that is alike.
+pub fn are_alike(tables: &[Live], job: &KeptJob, other: &KeptJob) -> bool
+    ensures { result ≡ true → (programs : List Loaded) (program : Loaded)
+        → slice_get programs job.now.program ≡ Some program
+        → IsAlike programs (table_at tables.now) job.now other.now }
+{
+    if job.cpu() != other.cpu()
+        || job.program() != other.program()
+        || job.budget() != other.budget()
+    {
+        return false;
+    }
+    match (job.stage(), other.stage()) {
+        (KeptStage::InHand(state, left), KeptStage::InHand(later, rest)) => {
+            *left == *rest && are_states_alike(tables, job.program(), state, later)
+        }
+        _ => false,
+    }
+}
+
+/// One more number of what is hashed.
+fn mix(hash: u64, number: u64) -> u64 {
+    spread(hash ^ number)
+}
+
+/// The registers that are live of a state in a program of this number.
+fn hash_of_live(first: u64, tables: &[Live], program: usize, cpu: &Cpu) -> u64 {
+    let mut hash = mix(first, u64::from(cpu.pc));
+    for register in 0u8..11 {
+        let number = cpu.registers[register as usize];
+        if program >= tables.len() || tables[program].is_live(cpu.pc, register) {
+            hash = mix(hash, number);
+        }
+    }
+    hash
+}
+
+/// A number by which a job is found that is alike. Nothing that is promised rests on it.
+pub fn live_hash(tables: &[Live], job: &KeptJob) -> u64 {
+    let first = mix(u64::from(job.cpu()), job.program() as u64);
+    match job.stage() {
+        KeptStage::Waiting(_) => mix(first, 1),
+        KeptStage::InHand(cpu, left) => {
+            hash_of_live(mix(first, *left), tables, job.program(), cpu)
+        }
+        KeptStage::Ended(_) => mix(first, 2),
+    }
+}
