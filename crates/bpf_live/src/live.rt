@@ -1,6 +1,8 @@
-//! The registers that a program may read before it writes them, and CPUs whose others are cleared.
+//! The registers that a program may read before it writes them, and states that differ only in the
+//! others.
 
-ghost use Rattle.std.specs.Prelude.{◌≡◌};
+ghost use Rattle.std.specs.Prelude.{◌≡◌, true};
+ghost use Rattle.bpf_live.specs.Alike.{with_registers};
 
 use crate::needs::{Set, is_live};
 use bpf_cpu::Cpu;
@@ -20,9 +22,21 @@ impl Model for Live {
     ghost view = { λ l. l.sets.items };
 }
 
+/// Whether all of a state but its registers is that of another.
+fn is_same_beside(cpu: &Cpu, other: &Cpu) -> bool
+    ensures { result ≡ true → other.now ≡ with_registers cpu.now other.now.registers }
+{
+    cpu.number == other.number
+        && cpu.pc == other.pc
+        && cpu.given == other.given
+        && cpu.drawn == other.drawn
+        && cpu.held.is_same(&other.held)
+        && cpu.memory.is_same(&other.memory)
+}
+
 impl Live {
-    ghost use Rattle.std.specs.Prelude.{◌≡◌};
-    ghost use Rattle.bpf_live.specs.Live.{is_live, Table};
+    ghost use Rattle.std.specs.Prelude.{◌≡◌, ◌⊎◌, ℕ, [], true, length, slice_index};
+    ghost use Rattle.bpf_live.specs.Live.{is_live, IsLive, Table};
     ghost use Rattle.bpf_live.specs.Alike.{AreAlike};
     ghost use Rattle.bpf_loader.specs.Loaded.{Loaded};
 
@@ -40,18 +54,33 @@ impl Live {
         is_live(&self.sets, pc as usize, register)
     }
 
-    /// Puts 0 in the registers that aren't live at the CPU's pc. Inside of a function that was called
-    /// none is cleared: what is live there at EXIT depends on whether the program calls any.
-    pub fn clear(&self, cpu: &mut Cpu)
-        ensures { (program : Loaded) → AreAlike program self.now cpu.old cpu.new }
+    /// The registers of a state, with those of another in place of the ones that aren't live at its
+    /// pc: inside of a function that was called, of none.
+    fn mixed(&self, cpu: &Cpu, other: &Cpu) -> [u64; 11]
+        ensures many { length result ≡ length cpu.now.registers }
+        ensures live { (r : ℕ) → IsLive self.now cpu.now.pc r
+            → slice_index result r ≡ slice_index cpu.now.registers r }
+        ensures entered { (result ≡ cpu.now.registers)
+            ⊎ (cpu.now.memory.frames.callers ≡ []) }
     {
         if !cpu.memory.frames.callers().is_empty() {
-            return;
+            return cpu.registers;
         }
+        let mut registers = cpu.registers;
         for register in 0u8..10 {
             if !self.is_live(cpu.pc, register) {
-                cpu.registers[register as usize] = 0;
+                registers[register as usize] = other.registers[register as usize];
             }
         }
+        registers
+    }
+
+    /// Whether two states are the same but for registers that aren't live at their pc. Inside of a
+    /// function that was called all count.
+    pub fn is_alike(&self, cpu: &Cpu, other: &Cpu) -> bool
+        ensures { result ≡ true
+            → (program : Loaded) → AreAlike program self.now cpu.now other.now }
+    {
+        self.mixed(cpu, other) == other.registers && is_same_beside(cpu, other)
     }
 }
