@@ -1,5 +1,5 @@
 -- What holds of states that are alike by one table holds of those that are by a chain of them.
-use Rattle.std.proofs.Common.{◌≡◌, ◌∙◌, ◌+◌, ℕ, zero, suc, List, refl, sym, ap, subst}
+use Rattle.std.proofs.Common.{◌≡◌, ◌∙◌, ℕ, zero, suc, List, [], ◌∷◌, inl, refl, sym, ap, subst}
 use Rattle.bpf_shared.specs.declared.events.Event.{Event}
 use Rattle.bpf_shared.specs.Shape.{Shape}
 use Rattle.bpf_loader.specs.Loaded.{Loaded}
@@ -7,9 +7,10 @@ use Rattle.bpf_cpu.specs.declared.cpu.Cpu.{Cpu}
 use Rattle.bpf_cpu.specs.declared.outcome.Progress.{Progress}
 use Rattle.bpf_cpu.specs.declared.outcome.Progress.TheVariants.{On}
 use Rattle.bpf_cpu.specs.Step.{Step}
+use Rattle.bpf_cpu.specs.Task.{Task}
 use Rattle.bpf_live.specs.Alike.{AreAlike}
 use Rattle.bpf_live.specs.Laws.{AlikeIsAnEquivalence, OneStateIsAlike, StepsAreAlike}
-use Rattle.bpf_alike.specs.Worlds.{AreAlikeIn, AreLike}
+use Rattle.bpf_alike.specs.Worlds.{AllAlike, AreAlikeIn, AreLike}
 
 module _ (program : Loaded) where
   abbrev In : ℕ → Cpu → Cpu → Type 0
@@ -71,3 +72,8 @@ module _ (program : Loaded) where
 
   pub like_once : OneStateIsAlike → (old other new : Cpu) (shape : Shape) (events : List Event) → AreLike program old other → Step shape program old events On new → Once old other new
   like_once law old other new shape events (n, chain) step = once_in law shape events n old other new chain step
+
+-- ---- jobs
+pub all_like : (programs : List Loaded) (jobs : List Task) → AllAlike programs jobs jobs
+all_like programs [] = tt
+all_like programs (job ∷ jobs) = (inl refl, all_like programs jobs)

@@ -37,8 +37,9 @@ fn are_states_alike(tables: &[Live], program: usize, cpu: &Cpu, other: &Cpu) -> 
 /// Whether the other job is the same one, in hand, in a state that is alike.
 pub fn are_alike(tables: &[Live], job: &KeptJob, other: &KeptJob) -> bool
     ensures { result ≡ true → (programs : List Loaded) (program : Loaded)
+        → AreLiveTables programs (table_at tables.now)
         → slice_get programs job.now.program ≡ Some program
-        → IsAlike programs (table_at tables.now) job.now other.now }
+        → IsAlike programs job.now other.now }
 {
     if job.cpu() != other.cpu()
         || job.program() != other.program()

@@ -1,5 +1,5 @@
 -- States that are alike make the same rows.
-use Rattle.std.proofs.Common.{◌≡◌, ◌≢◌, ℕ, zero, suc, ◌+◌, ◌%◌, ◌^◌, ◌≤◌, ◌<◌, ◌++◌, Bool, true, false, ℤ, pos, ◌+ℤ◌, List, [], ◌∷◌, length, Option, Some, None, Result, Ok, Err, ◌⊎◌, inl, inr, refl, sym, ap, subst, ◌∙◌, arith, eq-eqb}
+use Rattle.std.proofs.Common.{◌≡◌, ◌≢◌, ℕ, zero, suc, ◌+◌, ◌%◌, ◌^◌, ◌≤◌, ◌++◌, Bool, true, false, ℤ, pos, ◌+ℤ◌, List, [], ◌∷◌, length, Option, Some, None, Result, Ok, Err, ◌⊎◌, inl, inr, refl, sym, ap, subst, ◌∙◌, arith, eq-eqb}
 use Rattle.std.specs.Prelude.{◌==◌, ◌||◌, if◌then◌else◌, get_or, nat_le, slice_index, slice_set}
 use Rattle.std.proofs.lemmas.Bool.{le-leb, ne_eqb}
 use Rattle.std.proofs.lemmas.List.{get_or-set_other}
@@ -36,19 +36,17 @@ use Rattle.bpf_mem.specs.Bytes.{length_of, size_of}
 use Rattle.bpf_mem.specs.Memory.{Writes}
 use Rattle.bpf_mem.specs.Stack.{zeroed}
 use Rattle.bpf_helpers.specs.declared.fault.HelperFault.{HelperFault}
-use Rattle.bpf_helpers.specs.Calls.{lock_number, unlock_number}
 use Rattle.bpf_loader.specs.Loaded.{Loaded}
 use Rattle.bpf_loader.specs.Places.{Begins}
 use Rattle.bpf_cpu.specs.declared.cpu.Cpu.{Cpu}
-use Rattle.bpf_cpu.specs.declared.outcome.Fault.{Fault}
 use Rattle.bpf_cpu.specs.declared.outcome.Outcome.{Outcome}
 use Rattle.bpf_cpu.specs.declared.outcome.Outcome.TheVariants as outcome
 use Rattle.bpf_cpu.specs.declared.outcome.Progress.{Progress}
 use Rattle.bpf_cpu.specs.declared.outcome.Progress.TheVariants.{On, Done}
 use Rattle.bpf_cpu.specs.State.{value, operand_value, at_pc, with_register, effective_address, caller_of, after_call, after_return}
-use Rattle.bpf_cpu.specs.Row.{Quiet, Jumps, JumpsIf, CallsLocal, Exits, Loads, Stores, Atomics, plain_size, extension_of, fetching, remembering, after_helper, TakesResult, AsksStore, AsksJob}
+use Rattle.bpf_cpu.specs.Row.{Quiet, Jumps, JumpsIf, CallsLocal, Exits, Loads, Stores, Atomics, plain_size, extension_of, fetching, remembering, after_helper, TakesResult}
 use Rattle.bpf_cpu.specs.Helping.{Helper, tried}
-use Rattle.bpf_cpu.specs.Values.{asks_value, is_in_value, event_size_of, MayNotRead, MayNotWrite, IsRefused, IsPlaceToWrite, LoadsValue, StoresValue, ChangesValue, AsksValue}
+use Rattle.bpf_cpu.specs.Values.{asks_value, is_in_value, event_size_of, MayNotWrite, IsRefused, IsPlaceToWrite, LoadsValue, StoresValue, ChangesValue, AsksValue}
 use Rattle.bpf_cpu.specs.Step.{Executes, Step}
 use Rattle.bpf_live.specs.Registers.{is_move, only, reads, with_operand, writes}
 use Rattle.bpf_live.specs.Live.{Each, HasCalls, HasLive, IsLive, IsLiveTable, StaysLive, Table}

@@ -1,8 +1,8 @@
 -- To be alike is symmetric and transitive.
-use Rattle.std.proofs.Common.{◌≡◌, ◌⊎◌, ℕ, List, [], inl, inr, refl, sym, ap, subst, ◌∙◌}
+use Rattle.std.proofs.Common.{◌≡◌, ◌⊎◌, ℕ, inl, inr, refl, sym, ap, subst, ◌∙◌}
 use Rattle.bpf_loader.specs.Loaded.{Loaded}
 use Rattle.bpf_cpu.specs.declared.cpu.Cpu.{Cpu}
-use Rattle.bpf_live.specs.Live.{HasCalls, IsLive, Table}
+use Rattle.bpf_live.specs.Live.{IsLive, Table}
 use Rattle.bpf_live.specs.Alike.{AreAlike, IsEntered, with_registers}
 
 module _ (program : Loaded) (table : Table) (a b : Cpu) (alike : AreAlike program table a b) where

@@ -1,6 +1,6 @@
 -- A table that has what each instruction needs is right.
-use Rattle.std.proofs.Common.{◌≡◌, ◌≢◌, inl, inr, zero, suc, length, ℕ, ◌+◌, ◌<◌, ◌≤◌, Bool, true, false, ℤ, pos, List, [], ◌∷◌, Option, Some, None, refl, sym, ap, subst, ◌∙◌, arith, eq-eqb}
-use Rattle.std.specs.Prelude.{◌==◌, ◌&&◌, ◌||◌, not, nat_le, if◌then◌else◌, get_or, slice_get}
+use Rattle.std.proofs.Common.{◌≡◌, ◌≢◌, inl, inr, ℕ, ◌+◌, ◌<◌, Bool, true, false, ℤ, pos, List, [], ◌∷◌, Option, Some, None, refl, sym, ap, subst, ◌∙◌, arith, eq-eqb}
+use Rattle.std.specs.Prelude.{◌==◌, ◌&&◌, ◌||◌, not, nat_le, if◌then◌else◌, get_or}
 use Rattle.std.proofs.lemmas.Bool.{leb-false, lt-leb, ne_eqb}
 use Rattle.bpf_insn.specs.Atomic.{fetched_into}
 use Rattle.bpf_insn.specs.Register.{register_number}
@@ -12,9 +12,9 @@ use Rattle.bpf_insn.specs.declared.instruction.Insn.TheVariants as insn
 use Rattle.bpf_shared.proofs.Puts.{equal_or_not}
 use Rattle.bpf_loader.specs.Places.{target}
 use Rattle.bpf_loader.specs.Rows.{jump_offset}
-use Rattle.bpf_live.specs.Live.{Each, HasCalls, HasLive, IsLive, StaysLive, Table, is_live, next_word}
-use Rattle.bpf_live.specs.Registers.{arguments_of, is_move, only, reads, with_operand, writes}
-use Rattle.bpf_live.specs.Private.Needs.{HasNeeded, is_argument, is_destination, is_left, is_live_after, is_live_by, is_live_to, is_operand, is_read, is_within, is_written, needs}
+use Rattle.bpf_live.specs.Live.{Each, HasCalls, HasLive, IsLive, Table, next_word}
+use Rattle.bpf_live.specs.Registers.{is_move, only, reads, with_operand, writes}
+use Rattle.bpf_live.specs.Private.Needs.{HasNeeded, is_destination, is_left, is_live_after, is_live_by, is_live_to, is_operand, is_read, is_within, is_written, needs}
 
 same : (k : ℕ) → (k == k) ≡ true
 same k = eq-eqb k k refl

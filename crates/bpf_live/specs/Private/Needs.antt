@@ -1,8 +1,6 @@
 -- Whether a register has to be live at an instruction, by what is live after it.
-use Rattle.std.specs.Prelude.{◌≡◌, ℕ, suc, ◌+◌, ◌<◌, ◌==◌, ◌&&◌, ◌||◌, not, nat_le, if◌then◌else◌, Bool, true, false, ℤ, pos, negsuc, ◌+ℤ◌, Option, Some, None}
+use Rattle.std.specs.Prelude.{◌≡◌, ℕ, ◌+◌, ◌<◌, ◌==◌, ◌&&◌, ◌||◌, not, nat_le, if◌then◌else◌, Bool, true, false, ℤ, pos, negsuc, Option, Some, None}
 use Rattle.bpf_insn.specs.Register.{register_number}
-use Rattle.bpf_insn.specs.declared.operation.atomics.AtomicOp.{AtomicOp}
-use Rattle.bpf_insn.specs.declared.operation.atomics.AtomicOp.TheVariants.{Add, Or, And, Xor, CompareExchange}
 use Rattle.bpf_insn.specs.declared.register.Reg.{Reg}
 use Rattle.bpf_insn.specs.declared.instruction.Operand.{Operand}
 use Rattle.bpf_insn.specs.declared.instruction.Operand.TheVariants.{Immediate, Register}

@@ -1,4 +1,3 @@
-use Rattle.std.proofs.Common.{◌≡◌, false, ℤ}
 use Rattle.bpf_insn.specs.declared.instruction.Insn.TheVariants.{CallLocal}
 use Rattle.bpf_live.proofs.finding.calls_at.Goals as goal
 

@@ -1,4 +1,4 @@
-use Rattle.std.proofs.Common.{◌≡◌, List, sym, ap, subst, ◌∙◌}
+use Rattle.std.proofs.Common.{sym, ap, subst, ◌∙◌}
 use Rattle.bpf_live.specs.Live.{IsLiveTable, Table}
 use Rattle.bpf_live.proofs.Needed.{all_are_live}
 use Rattle.bpf_live.proofs.finding.checked.Goals as goal

@@ -1,4 +1,4 @@
-use Rattle.std.proofs.Common.{◌≡◌, false, ℕ, ℤ, ◌<◌, length, arith, refl}
+use Rattle.std.proofs.Common.{ℕ, ℤ, arith}
 use Rattle.bpf_insn.specs.declared.instruction.Insn.TheVariants.{CallLocal}
 use Rattle.bpf_loader.specs.Places.{Begins}
 use Rattle.std.proofs.lemmas.Option.{slice_get_within}

@@ -1,4 +1,4 @@
-use Rattle.std.proofs.Common.{◌≡◌, true, false, ℕ, sym, ◌∙◌}
+use Rattle.std.proofs.Common.{◌≡◌, true, ℕ, sym, ◌∙◌}
 use Rattle.std.proofs.lemmas.Bool.{false≢true}
 use Rattle.bpf_live.specs.Live.{is_live}
 use Rattle.bpf_live.specs.Private.Needs.{needs}

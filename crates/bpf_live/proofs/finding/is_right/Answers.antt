@@ -1,4 +1,4 @@
-use Rattle.std.proofs.Common.{◌≡◌, true, false, Bool, ℕ, ◌<◌, length, List, arith, refl}
+use Rattle.std.proofs.Common.{◌≡◌, true, false, Bool, ℕ, List, arith, refl}
 use Rattle.bpf_insn.specs.declared.instruction.Insn.{Insn}
 use Rattle.bpf_loader.specs.Places.{Begins}
 use Rattle.bpf_live.specs.Live.{HasCalls}

@@ -1,4 +1,4 @@
-use Rattle.std.proofs.Common.{◌≡◌, true, sym, subst}
+use Rattle.std.proofs.Common.{subst}
 use Rattle.bpf_insn.specs.declared.instruction.Insn.{Insn}
 use Rattle.bpf_live.specs.Private.Needs.{HasNeeded}
 use Rattle.bpf_live.proofs.finding.is_right_at.Goals as goal
