@@ -21,7 +21,7 @@ use Rattle.bpf_alike.specs.Ends.{IsShownAlikeAt, IsShownAlikeRichlyAt}
 use Rattle.bpf_alike.specs.Worlds.{IsAlike}
 use Rattle.bpf_alike.proofs.AlikeAhead.{leads_alike}
 use Rattle.bpf_alike.proofs.AlikeJobs.{alike_at, all_back, all_same, free_alike, waits_alike}
-use Rattle.bpf_alike.proofs.AlikeRuns.{dead_and_rich}
+use Rattle.bpf_alike.proofs.AlikeRicher.{dead_and_rich}
 
 alike_budget : (programs : List Loaded) (old new : Task) → IsAlike programs old new → new.budget ≡ old.budget
 alike_budget programs old new (inl same) = ap (λ (t : Task). t.budget) same

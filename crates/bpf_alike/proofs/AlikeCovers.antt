@@ -1,7 +1,6 @@
 -- A list that is closed but for dead registers covers all that schedules lead to.
-use Rattle.std.proofs.Common.{ℕ, List, sym, subst}
+use Rattle.std.proofs.Common.{ℕ, List}
 use Rattle.bpf_shared.specs.Laws.{CallsHaveOneReply}
-use Rattle.bpf_loader.specs.Loaded.{Loaded}
 use Rattle.bpf_loader.specs.Laws.{OneInstructionBegins}
 use Rattle.bpf_mem.specs.Laws.{WritesAreDetermined}
 use Rattle.bpf_live.specs.Laws.{AlikeIsAnEquivalence, OneStateIsAlike, StepsAreAlike}

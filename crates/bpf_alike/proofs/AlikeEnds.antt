@@ -20,7 +20,7 @@ use Rattle.bpf_alike.specs.Worlds.{AllAlike, ButForDead}
 use Rattle.bpf_alike.proofs.AlikeAhead.{leads_alike}
 use Rattle.bpf_alike.proofs.AlikeJobs.{alike_at, alike_ended, all_back, end_alike}
 use Rattle.bpf_alike.proofs.AlikeRich.{covered_alike_richly}
-use Rattle.bpf_alike.proofs.AlikeRuns.{dead_and_rich}
+use Rattle.bpf_alike.proofs.AlikeRicher.{dead_and_rich}
 
 -- ---- jobs that are alike
 none_alike : (equal : AlikeIsAnEquivalence) (programs : List Loaded) (xs ys : List Task) → AllAlike programs xs ys → NoneRanOut ys → NoneRanOut xs

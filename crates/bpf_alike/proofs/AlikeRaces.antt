@@ -17,7 +17,6 @@ use Rattle.bpf_machine.proofs.CoverLaws.{IsCoveredBy}
 use Rattle.bpf_machine.proofs.PatientRaceLaws.{race_rich}
 use Rattle.bpf_machine.proofs.RaceLaws.{race_is_kept}
 use Rattle.bpf_alike.specs.Covers.{AlikeRacesAreKept, IsShownAlike}
-use Rattle.bpf_alike.specs.Laws.{RacesAreAlike}
 use Rattle.bpf_alike.specs.Patient.{AlikePatientRacesAreKept}
 use Rattle.bpf_alike.specs.Worlds.{AllAlike}
 use Rattle.bpf_alike.proofs.AlikeCovers.{covered_alike}
@@ -69,9 +68,6 @@ module _ (equal : AlikeIsAnEquivalence) (steps : StepsAreAlike) (w : World) (job
     one_writes = race.one_writes;
     not_both = race.not_both;
   }
-
-pub races_are_alike : AlikeIsAnEquivalence → StepsAreAlike → RacesAreAlike
-races_are_alike equal steps w jobs one other b all race = race_alike equal steps w jobs all one other b race
 
 -- a race in a world that is covered is one in what a kept machine shows
 module _ (equal : AlikeIsAnEquivalence) (steps : StepsAreAlike) (begins : OneInstructionBegins) (kept : List MachineState) where

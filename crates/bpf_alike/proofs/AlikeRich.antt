@@ -18,7 +18,7 @@ use Rattle.bpf_alike.specs.Covers.{IsShownAlike}
 use Rattle.bpf_alike.specs.Patient.{AlikePatientSetsCover, AlikePatientSetsHaveTurns, IsClosedAlikeRichly, IsCoveredAlikeRichly, IsShownAlikeRichly}
 use Rattle.bpf_alike.proofs.AlikeAhead.{dead_ended, leads_alike}
 use Rattle.bpf_alike.proofs.AlikeJobs.{all_same}
-use Rattle.bpf_alike.proofs.AlikeRuns.{dead_and_rich}
+use Rattle.bpf_alike.proofs.AlikeRicher.{dead_and_rich}
 
 module _ (equal : AlikeIsAnEquivalence) (steps : StepsAreAlike) (one : OneStateIsAlike) (kept : List MachineState) (closed : IsClosedAlikeRichly kept) where
   closed_leads : (c : ℕ) → LeadsBy (IsShown kept) (λ h u. IsShownAlikeRichly kept u) c

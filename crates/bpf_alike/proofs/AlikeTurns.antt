@@ -16,7 +16,6 @@ use Rattle.bpf_machine.specs.Hands.{IsAt, SomeWaits, with_stage}
 use Rattle.bpf_machine.specs.Headways.{with_jobs}
 use Rattle.bpf_machine.specs.Schedule.{World, outcome_after, Advances, Settles, GoesOn, TakesTurn}
 use Rattle.bpf_machine.proofs.ListLaws.{with_end, lists_jobs, lists_along}
-use Rattle.bpf_alike.specs.Laws.{TurnsAreAlike}
 use Rattle.bpf_alike.specs.Worlds.{AllAlike, AreLike, IsAlike}
 use Rattle.bpf_alike.proofs.Like.{like_pc, like_same, like_steps}
 use Rattle.bpf_alike.proofs.AlikeJobs.{alike_hand, alike_at, alike_set, wait_now, free_alike, waits_alike, below_alike}
@@ -99,6 +98,3 @@ module _ (equal : AlikeIsAnEquivalence) (steps : StepsAreAlike) (programs : List
     inr (inr (free_alike equal programs w.jobs jobs all c free, waits_alike equal programs w.jobs jobs all c waits, idle, ap (λ (x : World). with_jobs x jobs) same)),
     subst (λ (x : World). AllAlike programs x.jobs jobs) (sym same) all,
   )
-
-pub turns_are_alike : AlikeIsAnEquivalence → StepsAreAlike → TurnsAreAlike
-turns_are_alike equal steps w z jobs c answer all turn = turn_alike equal steps w.programs w z jobs c answer refl all turn

@@ -3,7 +3,7 @@ pub mod AlikeJobs
 pub mod AlikeTurns
 pub mod AlikeAhead
 pub mod AlikeCovers
-pub mod AlikeRuns
+pub mod AlikeRicher
 pub mod AlikeRich
 pub mod AlikeRaces
 pub mod AlikeEnds

@@ -8,7 +8,6 @@ use Rattle.bpf_cpu.specs.declared.outcome.Progress.{Progress}
 use Rattle.bpf_cpu.specs.declared.outcome.Progress.TheVariants.{On}
 use Rattle.bpf_cpu.specs.Step.{Step}
 use Rattle.bpf_cpu.specs.Task.{Task}
-use Rattle.bpf_live.specs.Alike.{AreAlike}
 use Rattle.bpf_live.specs.Laws.{AlikeIsAnEquivalence, OneStateIsAlike, StepsAreAlike}
 use Rattle.bpf_alike.specs.Worlds.{AllAlike, AreAlikeIn, AreLike}
 

@@ -1,5 +1,4 @@
 pub mod Worlds
-pub mod Laws
 pub mod Covers
 pub mod Patient
 pub mod Ends

@@ -1,57 +1,10 @@
 //! What follows from the definition of jobs that are alike, as promises to the crates above.
 //!
 //! These functions do nothing: their contracts are the laws, which a proof cites.
-ghost use Rattle.bpf_alike.specs.Laws.{EndedAreOne, FreeRunsAreAlike, JobsAlikeAreAnEquivalence, RacesAreAlike, SchedulesAreAlike, TurnsAreAlike};
 ghost use Rattle.bpf_alike.specs.Covers.{AlikeRacesAreKept, AlikeSetsCover, AlikeSetsHaveTurns};
 ghost use Rattle.bpf_alike.specs.Patient.{AlikePatientRacesAreKept, AlikePatientSetsCover, AlikePatientSetsHaveTurns};
 ghost use Rattle.bpf_alike.specs.Ends.{AlikeAllCanEnd, AlikeCanEnd, AlikeStuckAreHung};
 ghost use Rattle.bpf_alike.specs.Budgets.{AlikeBudgetsSuffice};
-
-/// Worlds that are alike take the same turns.
-pub fn turns_are_alike()
-    ensures { TurnsAreAlike }
-{
-    bpf_live::laws::steps_are_alike();
-    bpf_live::laws::alike_is_an_equivalence();
-}
-
-/// So they run the same schedules.
-pub fn schedules_are_alike()
-    ensures { SchedulesAreAlike }
-{
-    bpf_live::laws::alike_is_an_equivalence();
-    bpf_live::laws::steps_are_alike();
-}
-
-/// Also where jobs are given more steps on the way.
-pub fn free_runs_are_alike()
-    ensures { FreeRunsAreAlike }
-{
-    bpf_live::laws::alike_is_an_equivalence();
-    bpf_live::laws::steps_are_alike();
-}
-
-/// Jobs that are alike are an equivalence.
-pub fn jobs_alike_are_an_equivalence()
-    ensures { JobsAlikeAreAnEquivalence }
-{
-    bpf_live::laws::alike_is_an_equivalence();
-}
-
-/// Jobs that ended are the same as those that are alike.
-pub fn ended_are_one()
-    ensures { EndedAreOne }
-{
-    bpf_live::laws::alike_is_an_equivalence();
-}
-
-/// A race in a world is one in each that is alike.
-pub fn races_are_alike()
-    ensures { RacesAreAlike }
-{
-    bpf_live::laws::alike_is_an_equivalence();
-    bpf_live::laws::steps_are_alike();
-}
 
 /// A list of machines that is closed but for dead registers covers all that schedules lead to.
 pub fn alike_sets_cover()
