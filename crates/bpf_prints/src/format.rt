@@ -97,6 +97,7 @@ fn push_converted(
 }
 
 /// What is read of a format.
+#[derive(Clone, Copy)]
 enum Place {
     Text,
     Within(Conversion),

@@ -3,6 +3,7 @@
 use crate::fault::{details_of_assembly, details_of_file, details_of_program};
 use crate::hung::with_places;
 use crate::perform::Performed;
+use crate::tracing::prints_of_file;
 use bpf_advice::{Detail, Details, Input, Language, advise, warnings_of};
 use bpf_codes::Code;
 use bpf_command::{Command, FileOptions, HistoryOptions};
@@ -44,8 +45,9 @@ pub enum Subject {
     AssembledProgram { budget: u64, context: Vec<u8> },
     /// The jobs of a run file, in rounds.
     Rounds,
-    /// The jobs of a run file, by turns that are given, and then in rounds.
-    Turns,
+    /// The jobs of a run file, by turns that are given, and then in rounds. Without the turns where
+    /// there was no memory for them.
+    Turns { by: Option<Vec<(u8, u64)>> },
     /// The jobs of a run file, on worker threads.
     Workers,
     /// Commands of the debugger.
@@ -93,12 +95,9 @@ impl Subject {
                     ..
                 },
             ) => Subject::Workers,
-            Command::Run(FileOptions { by, .. }) if by.is_empty() => Subject::Rounds,
-            Command::Run(_) => Subject::Turns,
-            Command::History(HistoryOptions { by, .. })
-            | Command::Packets(HistoryOptions { by, .. })
-                if by.is_empty() => { Subject::Rounds }
-            Command::History(_) | Command::Packets(_) => Subject::Turns,
+            Command::Run(FileOptions { by, .. })
+            | Command::History(HistoryOptions { by, .. })
+            | Command::Packets(HistoryOptions { by, .. }) => Subject::turns(by),
             Command::Show(_) => Subject::Shown,
             Command::Judge(_) => Subject::Tests,
             Command::Debug { .. } => Subject::Script,
@@ -109,12 +108,23 @@ impl Subject {
         }
     }
 
+    /// The jobs of a run file, by turns that may be given.
+    fn turns(by: &Vec<(u8, u64)>) -> Subject {
+        if by.is_empty() {
+            Subject::Rounds
+        } else {
+            Subject::Turns {
+                by: by.clone().ok(),
+            }
+        }
+    }
+
     fn language(&self) -> Language {
         match self {
             Subject::Assembly | Subject::AssembledProgram { .. } => Language::Assembly,
             Subject::Words | Subject::Program { .. } => Language::Words,
             Subject::Rounds
-            | Subject::Turns
+            | Subject::Turns { .. }
             | Subject::Workers
             | Subject::Script
             | Subject::Schedules
@@ -127,7 +137,7 @@ impl Subject {
     /// What is said of a fault, or of a job out of budget, of which nothing more is known.
     fn otherwise(&self) -> &'static str {
         match self {
-            Subject::Turns => BY_TURNS,
+            Subject::Turns { .. } => BY_TURNS,
             Subject::Workers => BY_WORKERS,
             Subject::Script => BY_COMMANDS,
             Subject::Schedules => BY_SCHEDULES,
@@ -196,6 +206,16 @@ fn details(alloc: Global, subject: &Subject, reply: &Reply, input: &str) -> Vec<
     known.unwrap_or(Vec::new(alloc))
 }
 
+/// What calls of `bpf_trace_printk` would print in a run; nothing where there is no memory for it.
+fn prints(alloc: Global, subject: &Subject, reply: &Reply, input: &str) -> String {
+    let lines = match (subject, reply) {
+        (Subject::Rounds, Reply::Jobs(..)) => prints_of_file(alloc, input, &[]),
+        (Subject::Turns { by: Some(by) }, Reply::Jobs(..)) => prints_of_file(alloc, input, by),
+        _ => None,
+    };
+    lines.unwrap_or(String::new(alloc))
+}
+
 /// What there is to say of an answer, from what was read and what was printed.
 fn explanation(alloc: Global, subject: &Subject, done: &Performed) -> Result<String, AllocError> {
     let text = str::from_utf8(&done.input).unwrap_or("");
@@ -213,7 +233,10 @@ fn explanation(alloc: Global, subject: &Subject, done: &Performed) -> Result<Str
         known: &known,
         otherwise: subject.otherwise(),
     };
-    advise(alloc, &input, printed.as_str(), &details)
+    let mut said = prints(alloc, subject, &done.reply, text);
+    let advice = advise(alloc, &input, printed.as_str(), &details)?;
+    said.push_str(advice.as_str())?;
+    Ok(said)
 }
 
 /// Warns of instructions in comments of what was read, unless the answer couldn't be printed.

@@ -18,6 +18,7 @@ pub mod progress;
 pub mod racing;
 pub mod reader;
 pub mod recorder;
+mod tracing;
 
 use bpf_talk::Console;
 use explaining::Failures;
