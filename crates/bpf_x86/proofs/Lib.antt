@@ -15,5 +15,5 @@ pub mod Racing
 pub mod Turning
 pub mod Going
 pub mod Simulating
-pub mod KeptLaws
+pub mod TurningLaws
 pub mod OrderLaws

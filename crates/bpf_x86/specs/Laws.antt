@@ -12,13 +12,13 @@ use Rattle.bpf_cpu.specs.declared.outcome.Progress.{Progress}
 use Rattle.bpf_cpu.specs.Step.{Step}
 use Rattle.bpf_cpu.specs.Task.{Task, InHand}
 use Rattle.bpf_machine.specs.declared.machine.Stand.{Stand}
+use Rattle.bpf_machine.specs.declared.machine.Turn.{Turn}
 use Rattle.bpf_machine.specs.Hands.{IsAt}
-use Rattle.bpf_machine.specs.Schedule.{World, RunsSchedule}
+use Rattle.bpf_machine.specs.Schedule.{World, RunsSchedule, TakesTurn}
 use Rattle.bpf_machine.specs.Rounds.{HaveEnded}
 use Rattle.bpf_machine.specs.Laws.{IsFresh}
-use Rattle.bpf_machine.specs.Machine.{MachineState}
-use Rattle.bpf_machine.specs.Cover.{IsClosed, IsShown}
-use Rattle.bpf_machine.specs.Patient.{NoneRanOut, IsClosedRichly}
+use Rattle.bpf_machine.specs.Headways.{with_jobs}
+use Rattle.bpf_machine.specs.Patient.{AsRich, NoneRanOut}
 use Rattle.bpf_machine.specs.Race.{IsRace}
 use Rattle.bpf_x86.specs.Machine.{X86, Move, RunsMoves, drained}
 
@@ -71,13 +71,18 @@ abbrev pub RaceFreeIsSame : Type 0
 RaceFreeIsSame = (patient : Bool) (w : World) → FirstsFit w.programs → IsFresh w
     → StepsAreThere patient w → IsRaceFree patient w → IsSameOnX86 patient w
 
--- the same where a closed list of machines shows the first one, or one that is closed but for budgets
-abbrev pub AreClosedMachines : Bool → List MachineState → Type 0
-AreClosedMachines false kept = IsClosed kept
-AreClosedMachines true kept = IsClosedRichly kept
+-- each CPU has its next turn
+abbrev pub HasTurns : World → Type 0
+HasTurns w = (c : ℕ) → (answer : Turn) × (y : World) × TakesTurn w c answer y
 
-abbrev pub KeptRaceFreeIsSame : Type 0
-KeptRaceFreeIsSame =
-    (patient : Bool) (kept : List MachineState) (w : World) → FirstsFit w.programs
-    → AreClosedMachines patient kept → IsFresh w → IsShown kept w → IsRaceFree patient w
-    → IsSameOnX86 patient w
+-- so it has in all that schedules lead to; where one is patient, with richer jobs
+abbrev pub TurnsAreThere : Bool → World → Type 0
+TurnsAreThere false w = (schedule : List ℕ) (z : World) → RunsSchedule w schedule z → HasTurns z
+TurnsAreThere true w = (schedule : List ℕ) (z : World) → RunsSchedule w schedule z → NoneRanOut z.jobs
+    → (jobs : List Task) × AsRich z.jobs jobs × HasTurns (with_jobs z jobs)
+
+-- the same where each CPU has its next turn
+abbrev pub TurningRaceFreeIsSame : Type 0
+TurningRaceFreeIsSame =
+    (patient : Bool) (w : World) → FirstsFit w.programs → IsFresh w → TurnsAreThere patient w
+    → IsRaceFree patient w → IsSameOnX86 patient w

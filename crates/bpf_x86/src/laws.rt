@@ -2,7 +2,7 @@
 //!
 //! The functions do nothing: their contracts are the laws.
 ghost use Rattle.bpf_x86.specs.Forwarding.{LoadsFindOwnStores, NewestStoresAreSeen, OthersDontSeeStores};
-ghost use Rattle.bpf_x86.specs.Laws.{KeptRaceFreeIsSame, OrdersAreX86s, RaceFreeIsSame};
+ghost use Rattle.bpf_x86.specs.Laws.{OrdersAreX86s, RaceFreeIsSame, TurningRaceFreeIsSame};
 
 /// A CPU sees, of each byte, what its newest waiting store to it wrote, or else memory.
 pub fn newest_stores_are_seen()
@@ -34,10 +34,10 @@ pub fn race_free_is_same()
     bpf_shared::laws::calls_have_one_reply();
 }
 
-/// Where a closed list of machines shows the first one, x86 adds nothing if no schedule leads to a data
-/// race.
-pub fn kept_race_free_is_same()
-    ensures { KeptRaceFreeIsSame }
+/// Where each CPU has its next turn in all that schedules lead to, x86 adds nothing if none leads to a
+/// data race.
+pub fn turning_race_free_is_same()
+    ensures { TurningRaceFreeIsSame }
 {
     bpf_mem::laws::writes_are_determined();
     bpf_loader::laws::one_instruction_begins();

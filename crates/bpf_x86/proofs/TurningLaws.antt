@@ -1,5 +1,4 @@
--- Where a closed list of machines shows the first one, each CPU can make its step in all that schedules
--- lead to.
+-- Where each CPU has its next turn in all that schedules lead to, it can make its step there.
 use Rattle.std.proofs.Common.{◌≡◌, ◌+◌, ℕ, suc, true, false, List, Some, inl, inr, ap, subst, ◌∙◌, arith}
 use Rattle.std.specs.Prelude.{map, slice_get}
 use Rattle.bpf_shared.specs.Laws.{CallsHaveOneReply}
@@ -15,16 +14,12 @@ use Rattle.bpf_cpu.specs.Step.{Step}
 use Rattle.bpf_cpu.specs.Task.{Task, InHand}
 use Rattle.bpf_machine.specs.declared.machine.Turn.{Turn}
 use Rattle.bpf_machine.specs.Hands.{IsAt}
-use Rattle.bpf_machine.specs.Schedule.{World, GoesOn, TakesTurn}
+use Rattle.bpf_machine.specs.Schedule.{World, GoesOn, RunsSchedule, TakesTurn}
 use Rattle.bpf_machine.specs.Laws.{IsFresh}
-use Rattle.bpf_machine.specs.Machine.{MachineState}
 use Rattle.bpf_machine.specs.Headways.{with_jobs}
-use Rattle.bpf_machine.specs.Cover.{IsClosed, IsShown}
-use Rattle.bpf_machine.specs.Patient.{IsShownRichly, IsClosedRichly}
 use Rattle.bpf_machine.proofs.DeterminedTurns.{IsWorld, same_stage, fresh_world, runs_world}
-use Rattle.bpf_machine.proofs.CoverLaws.{comes, covered_from, shown_is_covered}
-use Rattle.bpf_machine.proofs.PatientLaws.{all_same, richer_hand, rich_at, rich_world, patient_run}
-use Rattle.bpf_x86.specs.Laws.{StepsAreThere, KeptRaceFreeIsSame}
+use Rattle.bpf_machine.proofs.PatientLaws.{richer_hand, rich_at, rich_world}
+use Rattle.bpf_x86.specs.Laws.{StepsAreThere, TurningRaceFreeIsSame, TurnsAreThere}
 use Rattle.bpf_x86.proofs.Simulating.{race_free_is_same}
 
 -- the step of a turn, on a job in hand with steps left
@@ -51,36 +46,32 @@ taken_step w c j task state n answer y world at (inl a) =
 taken_step w c j task state n answer y world at (inr (inl a)) = absurd (a.0 j task state (suc n) at)
 taken_step w c j task state n answer y world at (inr (inr a)) = absurd (a.0 j task state (suc n) at)
 
-module _ (law : WritesAreDetermined) (begins : OneInstructionBegins) (replies : CallsHaveOneReply) (kept : List MachineState) (w : World) (fresh : IsFresh w) (shown : IsShown kept w) where
-  steps_are_there : IsClosed kept → StepsAreThere false w
-  steps_are_there closed schedule z runs counts c j task state left at =
-      let covered = covered_from law begins replies kept closed w z schedule fresh shown runs in
-      let r = comes (IsShown kept) (IsShown kept) (λ v there. there)
-      (λ v d there. (let r = closed there.0 there.1 there.2 d in (r.1.0, r.1.1, r.0, r.1.2, r.1.3 v there.3, r.1.4, λ y shows. (r.2.0, r.2.1, r.2.2, r.2.3 y shows))))
-      z c covered.0 in
-      taken_step z c j task state left r.0 r.1 covered.1 at r.2
+module _ (law : WritesAreDetermined) (begins : OneInstructionBegins) (replies : CallsHaveOneReply) (w : World) (fresh : IsFresh w) where
+  world_there : (z : World) (schedule : List ℕ) → RunsSchedule w schedule z → IsWorld z
+  world_there z schedule runs = runs_world law begins replies schedule w z (fresh_world law begins replies w fresh) runs
+
+  steps_are_there : TurnsAreThere false w → StepsAreThere false w
+  steps_are_there turns schedule z runs counts c j task state left at =
+      let r = turns schedule z runs c in
+      taken_step z c j task state left r.0 r.1 (world_there z schedule runs) at r.2
 
   -- with more steps left
-  steps_are_patient : IsClosedRichly kept → StepsAreThere true w
-  steps_are_patient closed schedule z runs counts c j task state left at =
-      let first = fresh_world law begins replies w fresh in
-      let world = runs_world law begins replies schedule w z first runs in
-      let covered = patient_run law begins replies kept closed schedule w z first (w.jobs, all_same w.jobs, shown_is_covered kept w shown) runs counts in
-      let rich = covered.1 in
-      let more = rich_at z.jobs covered.0 j task rich at.listed in
+  steps_are_patient : TurnsAreThere true w → StepsAreThere true w
+  steps_are_patient turns schedule z runs counts c j task state left at =
+      let there = turns schedule z runs counts in
+      let rich = there.1 in
+      let more = rich_at z.jobs there.0 j task rich at.listed in
       let hand = richer_hand task more.0 state (suc left) more.2 at.at in
       let steps : suc left + hand.0 ≡ suc (left + hand.0) = omega arith in
       let stage : more.0.stage ≡ InHand state (suc (left + hand.0)) = ap (λ (t : Task). t.stage) hand.1 ∙ ap (InHand state) steps in
       let of : more.0.cpu ≡ c = ap (λ (t : Task). t.cpu) hand.1 ∙ at.of in
-      let r = comes (IsShown kept) (IsShownRichly kept) (λ v there. (v.jobs, all_same v.jobs, there))
-      (λ v d there. (let r = closed there.0 there.1 d there.2 in (r.1.0, r.1.1, r.0, r.1.2, r.1.3 v there.3, r.1.4, r.2)))
-      (with_jobs z covered.0) c covered.2 in
-      let made = taken_step (with_jobs z covered.0) c j more.0 state (left + hand.0) r.0 r.1 (rich_world z covered.0 rich world) (record { listed = more.1; of = of; at = stage }) r.2 in
+      let r = there.2 c in
+      let made = taken_step (with_jobs z there.0) c j more.0 state (left + hand.0) r.0 r.1 (rich_world z there.0 rich (world_there z schedule runs)) (record { listed = more.1; of = of; at = stage }) r.2 in
       let program : more.0.program ≡ task.program = ap (λ (t : Task). t.program) hand.1 in
       (made.0, made.1, made.2, made.3, made.4, subst (λ (i : ℕ). slice_get z.programs i ≡ Some made.0) program made.5, made.6, made.7)
 
-pub kept_race_free_is_same : WritesAreDetermined → OneInstructionBegins → CallsHaveOneReply → KeptRaceFreeIsSame
-kept_race_free_is_same law begins replies false kept w fits closed fresh shown free =
-    race_free_is_same law begins replies false w fits fresh (steps_are_there law begins replies kept w fresh shown closed) free
-kept_race_free_is_same law begins replies true kept w fits closed fresh shown free =
-    race_free_is_same law begins replies true w fits fresh (steps_are_patient law begins replies kept w fresh shown closed) free
+pub turning_race_free_is_same : WritesAreDetermined → OneInstructionBegins → CallsHaveOneReply → TurningRaceFreeIsSame
+turning_race_free_is_same law begins replies false w fits fresh turns free =
+    race_free_is_same law begins replies false w fits fresh (steps_are_there law begins replies w fresh turns) free
+turning_race_free_is_same law begins replies true w fits fresh turns free =
+    race_free_is_same law begins replies true w fits fresh (steps_are_patient law begins replies w fresh turns) free
