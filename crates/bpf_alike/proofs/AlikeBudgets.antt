@@ -15,7 +15,7 @@ use Rattle.bpf_machine.specs.Schedule.{World}
 use Rattle.bpf_machine.proofs.CoverLaws.{LeadsBy}
 use Rattle.bpf_machine.proofs.EndLaws.{IsShownAt, one_machine}
 use Rattle.bpf_machine.proofs.PatientLaws.{Richly}
-use Rattle.bpf_machine.proofs.SpareLaws.{DeeperBy, IsSparingBy, none_runs_out}
+use Rattle.bpf_alike.proofs.SpareLaws.{DeeperBy, IsSparingBy, none_runs_out}
 use Rattle.bpf_alike.specs.Budgets.{AlikeBudgetsSuffice, AreSparingAlike, LeadsDeeperAlike}
 use Rattle.bpf_alike.specs.Ends.{IsShownAlikeAt, IsShownAlikeRichlyAt}
 use Rattle.bpf_alike.specs.Worlds.{IsAlike}

@@ -7,4 +7,5 @@ pub mod AlikeRicher
 pub mod AlikeRich
 pub mod AlikeRaces
 pub mod AlikeEnds
+pub mod SpareLaws
 pub mod AlikeBudgets

@@ -1,5 +1,5 @@
 -- Machines from which an end can be reached, and from which none can.
-use Rattle.std.proofs.Common.{◌≡◌, ◌∙◌, ◌+◌, ℕ, zero, suc, Bool, false, List, [], ◌∷◌, ◌++◌, Some, inl, inr, refl, sym, ap, subst, arith}
+use Rattle.std.proofs.Common.{◌≡◌, ◌∙◌, ◌+◌, ℕ, zero, suc, List, [], ◌∷◌, ◌++◌, Some, inl, inr, refl, sym, ap, subst, arith}
 use Rattle.std.specs.Prelude.{slice_get}
 use Rattle.bpf_shared.specs.Laws.{CallsHaveOneReply}
 use Rattle.bpf_loader.specs.Loaded.{Loaded}
@@ -19,11 +19,11 @@ use Rattle.bpf_machine.specs.Machine.{MachineState, Shows}
 use Rattle.bpf_machine.specs.Headways.{turns_in, Precedes, with_jobs, IsAheadOf}
 use Rattle.bpf_machine.specs.Cover.{IsAhead}
 use Rattle.bpf_machine.specs.Patient.{NoneRanOut, IsRicher, AsRich}
-use Rattle.bpf_machine.specs.Ends.{RunsFreely, CanEnd, IsHung, LeadsTo, EndsIn, AreStuck, StuckAreHung, AllCanEnd, FreeRunsAgree}
+use Rattle.bpf_machine.specs.Ends.{RunsFreely, CanEnd, IsHung, FreeRunsAgree}
 use Rattle.bpf_machine.proofs.DeterminedTurns.{IsWorld, one_turn, fresh_world}
 use Rattle.bpf_machine.proofs.HeadwayLaws.{before}
 use Rattle.bpf_machine.proofs.CoverLaws.{now, now_is, IsCoveredBy, LeadsBy, LeadsOn, comes_made, comes_new, comes, true_is_covered, ended_jobs}
-use Rattle.bpf_machine.proofs.PatientLaws.{all_same, richer_hand, end_richer, rich_at, rich_again, rich_ended, rich_world, rich_turn, stays_ended, none_ran_before, Richly, enriched, IsCoveredRichlyBy, patient_covered}
+use Rattle.bpf_machine.proofs.PatientLaws.{all_same, richer_hand, end_richer, rich_at, rich_again, rich_ended, rich_world, rich_turn, stays_ended, none_ran_before, Richly, enriched, IsCoveredRichlyBy}
 use Rattle.bpf_machine.proofs.PatientRaceLaws.{world_after}
 
 -- ---- two lists of richer jobs have a third that is richer than both
@@ -160,37 +160,6 @@ module _ (kept : List MachineState) where
   pub one_machine : (i : ℕ) (m n : MachineState) → slice_get kept i ≡ Some m → slice_get kept i ≡ Some n → m ≡ n
   one_machine i m n a b = let both : Some m ≡ Some n = sym a ∙ b in cc
 
-  leads_by : (i c k : ℕ) → LeadsTo kept i c k → LeadsBy (IsShownAt kept i) (λ h u. Richly (IsShownAt kept k) u) c
-  leads_by i c k (m, new, at, turns, is_kept) v (n, there, shows) =
-      let same = one_machine i n m there at in (
-        turns.0,
-        turns.1,
-        new,
-        turns.2,
-        turns.3 v (subst (λ (x : MachineState). Shows x v) same shows),
-        turns.4,
-        λ y shown. (let q = is_kept y shown in (q.0, q.2, (q.1, q.3, q.4))),
-      )
-
-  end_on : (n i : ℕ) → EndsIn kept n i → EndOn (IsShownAt kept) n i
-  end_on zero i (m, at, ended, none) =
-      λ z (other, there, shows).
-      (let one = one_machine i m other at there in
-      let jobs : m.jobs ≡ z.jobs = ap (λ (x : MachineState). x.jobs) one ∙ sym shows.jobs in
-      (subst HaveEnded jobs ended, subst NoneRanOut jobs none))
-  end_on (suc n) i (c, k, leads, rest) = (c, k, leads_by i c k leads, end_on n k rest)
-
-  pub ends_from : (n i : ℕ) (z : World) → EndsIn kept n i → IsCoveredBy (IsShownAt kept i) z → CanEnd z
-  ends_from n i z ends covered = ends_by (IsShownAt kept) n i z (end_on n i ends) covered
-
-pub all_can_end : WritesAreDetermined → OneInstructionBegins → CallsHaveOneReply → AllCanEnd
-all_can_end law begins replies kept w z schedule closed ends fresh shown runs none =
-    let covered = patient_covered law begins replies kept closed w z schedule fresh shown runs none in
-    let there = covered.2 in
-    let at = there.2 in
-    let way = ends at.0 at.1 at.2 in
-    can_end (IsShownAt kept) way.0 at.0 z (end_on kept way.0 at.0 way.1) (covered.0, covered.1, (there.0, there.1, (at.1, at.2, at.3), there.3, there.4))
-
 -- ---- from these machines none
 module _ (P : World → Type 0) (leads : LeadsOn P (Richly P)) (works : (w : World) → P w → HaveEnded w.jobs → ⊥) (none_out : (w : World) → P w → NoneRanOut w.jobs) where
   stays : (v : World) → P v → Richly P v
@@ -250,33 +219,6 @@ module _ (P : World → Type 0) (leads : LeadsOn P (Richly P)) (works : (w : Wor
     are_hung w z schedule fresh runs (jobs, rich, shown) (cs, y, freely, ended, none) =
         let world = world_after law begins replies schedule w z (fresh_world law begins replies w fresh) runs in
         never cs z y world (jobs, jobs, rich, all_same jobs, true_is_covered P (with_jobs z jobs) shown) freely ended none
-
-module _ (kept : List MachineState) (ends : List Bool) (stuck : AreStuck kept ends) where
-  abbrev IsStuckAt : World → Type 0
-  IsStuckAt w = (i : ℕ) × (m : MachineState) × (slice_get ends i ≡ Some false) × (slice_get kept i ≡ Some m) × Shows m w
-
-  stuck_leads : LeadsOn IsStuckAt (Richly IsStuckAt)
-  stuck_leads v c (i, m, off, at, shows) =
-      let next = (stuck i off).turns c in
-      let r = leads_by kept i c next.0 next.1 v (m, at, shows) in (
-        r.0,
-        r.1,
-        r.2,
-        r.3,
-        r.4,
-        r.5,
-        λ y shown. (let q = r.6 y shown in (q.0, q.1, (next.0, q.2.0, next.2, q.2.1, q.2.2))),
-      )
-
-  stuck_works : (v : World) → IsStuckAt v → HaveEnded v.jobs → ⊥
-  stuck_works v (i, m, off, at, shows) ended = (stuck i off).works m at (subst HaveEnded shows.jobs ended)
-
-  none_stuck : (v : World) → IsStuckAt v → NoneRanOut v.jobs
-  none_stuck v (i, m, off, at, shows) = subst NoneRanOut (sym shows.jobs) ((stuck i off).none m at)
-
-pub stuck_are_hung : WritesAreDetermined → OneInstructionBegins → CallsHaveOneReply → StuckAreHung
-stuck_are_hung law begins replies kept ends w z schedule i stuck fresh runs off (jobs, m, rich, at, shows) =
-    are_hung (IsStuckAt kept ends stuck) (stuck_leads kept ends stuck) (stuck_works kept ends stuck) (none_stuck kept ends stuck) law begins replies w z schedule fresh runs (jobs, rich, (i, m, off, at, shows))
 
 -- ---- one schedule, with steps that are given and without
 module _ (law : WritesAreDetermined) (begins : OneInstructionBegins) (replies : CallsHaveOneReply) where

@@ -24,7 +24,6 @@ pub mod RaceLaws
 pub mod PatientLaws
 pub mod PatientRaceLaws
 pub mod EndLaws
-pub mod SpareLaws
 pub mod RefillLaws
 pub mod HostLaws
 pub mod StandLaws

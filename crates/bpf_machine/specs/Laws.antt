@@ -1,6 +1,6 @@
 -- What follows from the definitions of turns and schedules: on one thread they have one course; and
 -- from those of what is saved.
-use Rattle.std.specs.Prelude.{◌≡◌, ℕ, ◌≤◌, List, ◌++◌, Some, slice_get}
+use Rattle.std.specs.Prelude.{◌≡◌, ℕ, List, ◌++◌, Some, slice_get}
 use Rattle.bpf_shared.specs.Sound.{IsSoundStore}
 use Rattle.bpf_cpu.specs.Input.{IsShort}
 use Rattle.bpf_cpu.specs.declared.input.Input.{Input}

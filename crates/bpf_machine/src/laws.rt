@@ -8,8 +8,7 @@ ghost use Rattle.bpf_machine.specs.Laws.{HappeningsAreDetermined, RoundsAreDeter
 ghost use Rattle.bpf_machine.specs.Cover.{ClosedSetsCover};
 ghost use Rattle.bpf_machine.specs.Race.{RacesAreKept};
 ghost use Rattle.bpf_machine.specs.Patient.{PatientSetsCover, PatientRacesAreKept};
-ghost use Rattle.bpf_machine.specs.Budgets.{BudgetsSuffice};
-ghost use Rattle.bpf_machine.specs.Ends.{StuckAreHung, AllCanEnd, FreeRunsAgree};
+ghost use Rattle.bpf_machine.specs.Ends.{FreeRunsAgree};
 
 /// Over a plain store, a schedule has one run.
 pub fn schedules_are_determined()
@@ -94,38 +93,10 @@ pub fn patient_races_are_kept()
     bpf_shared::laws::calls_have_one_reply();
 }
 
-/// From machines whose turns lead to no end, none is reached, however many steps jobs are given.
-pub fn stuck_are_hung()
-    ensures { StuckAreHung }
-{
-    bpf_mem::laws::writes_are_determined();
-    bpf_loader::laws::one_instruction_begins();
-    bpf_shared::laws::calls_have_one_reply();
-}
-
-/// Where each machine of such a list leads to an end, so does all that schedules lead to before some
-/// job runs out of budget.
-pub fn all_can_end()
-    ensures { AllCanEnd }
-{
-    bpf_mem::laws::writes_are_determined();
-    bpf_loader::laws::one_instruction_begins();
-    bpf_shared::laws::calls_have_one_reply();
-}
-
 /// With steps that are given to jobs a schedule leads to the same, as long as no job runs out of
 /// budget without them.
 pub fn free_runs_agree()
     ensures { FreeRunsAgree }
-{
-    bpf_mem::laws::writes_are_determined();
-    bpf_loader::laws::one_instruction_begins();
-    bpf_shared::laws::calls_have_one_reply();
-}
-
-/// Where turns lead ever deeper, and no machine is as deep as a budget, none is used up.
-pub fn budgets_suffice()
-    ensures { BudgetsSuffice }
 {
     bpf_mem::laws::writes_are_determined();
     bpf_loader::laws::one_instruction_begins();

@@ -1,15 +1,16 @@
 -- From a shape and its jobs to the races.
 use Rattle.std.proofs.Common.{subst, ◌≡◌, ◌∙◌, ℕ, ◌<◌, ◌⊎◌, Bool, true, false, List, length, inl, inr, refl, sym}
 use Rattle.bpf_machine.specs.Machine.{MachineState}
-use Rattle.bpf_machine.specs.Patient.{PatientRacesAreKept}
-use Rattle.bpf_machine.specs.Race.{IsRaceKept, RacesAreKept}
+use Rattle.bpf_machine.specs.Race.{IsRaceKept}
 use Rattle.bpf_machine.specs.Schedule.{World}
 use Rattle.bpf_shared.specs.Store.{Plain}
+use Rattle.bpf_alike.specs.Covers.{AlikeRacesAreKept, AlikeSetsHaveTurns}
+use Rattle.bpf_alike.specs.Patient.{AlikePatientRacesAreKept, AlikePatientSetsHaveTurns}
 use Rattle.bpf_races.specs.declared.found.Pair.{Pair}
 use Rattle.bpf_races.specs.declared.sync.Part.{Part}
 use Rattle.bpf_races.specs.Races.{RaceFound, HaveAllRaces, AreRaces, IsTold}
 use Rattle.bpf_races.proofs.RaceFree.{free_parts, is_race_free_so}
-use Rattle.bpf_x86.specs.Laws.{FirstsFit, KeptRaceFreeIsSame}
+use Rattle.bpf_x86.specs.Laws.{FirstsFit, TurningRaceFreeIsSame}
 use Rattle.bpf_races.specs.Parts.{IsLeftOut}
 use Rattle.bpf_explore.specs.Album.{BeginsAt, AreApart, AreLed}
 use Rattle.bpf_explore.specs.Search.{CameTo, is_whole, is_refused}
@@ -36,11 +37,11 @@ module _ (kept : List MachineState) (w : World) (sync : List Part) (races : List
       cc
   cut_short false h is = refl
 
-  pub are_races : RacesAreKept → KeptRaceFreeIsSame → CameTo false kept extent limit → AreLed kept → AreApart kept → told ≡ true → (all ≡ false → (whole ≡ false) ⊎ (told ≡ false))
+  pub are_races : AlikeRacesAreKept → AlikeSetsHaveTurns → TurningRaceFreeIsSame → CameTo false kept extent limit → AreLed kept → AreApart kept → told ≡ true → (all ≡ false → (whole ≡ false) ⊎ (told ≡ false))
       → AreRaces false w sync races all refused limit
-  are_races law x86 came led apart sure split = record {
+  are_races law turns x86 came led apart sure split = record {
     same = λ free. (let whole_it = (free_parts sync races all free).0 in
-        x86 false kept w fits (came.whole (whole_then (joined whole_it).0)) begins.0 (0, begins.1.0, begins.1.1, begins.1.2) (is_race_free_so false w sync races all complete free));
+        x86 false w fits begins.0 (λ schedule z runs c. turns kept w z schedule c (came.whole (whole_then (joined whole_it).0)) begins.0 (0, begins.1.0, begins.1.1, begins.1.2) runs) (is_race_free_so false w sync races all complete free));
     met = λ exact is uncut. (
       length kept,
       are_reached kept w begins.1 led apart,
@@ -59,10 +60,10 @@ module _ (kept : List MachineState) (w : World) (sync : List Part) (races : List
       complete is schedule z runs pair b order race =
           kept_listed kept races sync (listed (joined is).1) z pair b order (law kept w z schedule (came.whole (whole_then (joined is).0)) begins.0 (0, begins.1.0, begins.1.1, begins.1.2) runs pair.one pair.other b race)
 
-  pub are_races_patiently : PatientRacesAreKept → KeptRaceFreeIsSame → CameTo true kept extent limit → AreRaces true w sync races all refused limit
-  are_races_patiently law x86 came = record {
+  pub are_races_patiently : AlikePatientRacesAreKept → AlikePatientSetsHaveTurns → TurningRaceFreeIsSame → CameTo true kept extent limit → AreRaces true w sync races all refused limit
+  are_races_patiently law turns x86 came = record {
     same = λ free. (let whole_it = (free_parts sync races all free).0 in
-        x86 true kept w fits (came.whole (whole_then (joined whole_it).0)) begins.0 (0, begins.1.0, begins.1.1, begins.1.2) (is_race_free_so true w sync races all complete free));
+        x86 true w fits begins.0 (λ schedule z runs none. turns kept w z schedule (came.whole (whole_then (joined whole_it).0)) begins.0 (0, begins.1.0, begins.1.1, begins.1.2) runs none) (is_race_free_so true w sync races all complete free));
     met = λ exact. cc;
     short = cut_short all (λ is. (joined is).0);
     each = λ race there. gathered.each race there w begins.1;

@@ -71,8 +71,9 @@ fn conclude(
         → CameTo false explorer.old.kept extent limit
         → AreRaces false w sync.now r.list.items r.all r.refused limit) }
 {
-    bpf_machine::laws::races_are_kept();
-    bpf_x86::laws::kept_race_free_is_same();
+    bpf_alike::laws::alike_races_are_kept();
+    bpf_alike::laws::alike_sets_have_turns();
+    bpf_x86::laws::turning_race_free_is_same();
     explorer.leads();
     explorer.apart();
     let (list, listed) = gather_races(alloc, explorer, watcher, sync)?;
@@ -97,8 +98,9 @@ fn conclude_patiently(
         → CameTo true explorer.old.kept extent limit
         → AreRaces true w sync.now r.list.items r.all r.refused limit) }
 {
-    bpf_machine::laws::patient_races_are_kept();
-    bpf_x86::laws::kept_race_free_is_same();
+    bpf_alike::laws::alike_patient_races_are_kept();
+    bpf_alike::laws::alike_patient_sets_have_turns();
+    bpf_x86::laws::turning_race_free_is_same();
     let (list, listed) = gather_races(alloc, explorer, watcher, sync)?;
     let all = both(extent.is_whole(), listed);
     Ok(Races {

@@ -23,19 +23,17 @@ use Rattle.bpf_machine.specs.declared.machine.ahead.Headway.{Headway}
 use Rattle.bpf_machine.specs.declared.machine.ahead.Headway.TheVariants.{Idle, Turns}
 use Rattle.bpf_machine.specs.Hands.{IsAt, IsFree, NoneWaits, with_stage}
 use Rattle.bpf_machine.specs.Schedule.{World, outcome_after, Advances, Settles, GoesOn, TakesTurn, RunsSchedule}
-use Rattle.bpf_machine.specs.Machine.{MachineState, Shows}
 use Rattle.bpf_machine.specs.Laws.{IsFresh}
 use Rattle.bpf_machine.specs.Work.{HasInHand}
 use Rattle.bpf_machine.specs.Headways.{turns_in, Precedes, FitsHeadway, with_jobs, IsAheadOf}
 use Rattle.bpf_machine.specs.Cover.{IsAhead}
 use Rattle.bpf_machine.specs.Patient.{NoneRanOut, IsRicher, AsRich}
-use Rattle.bpf_machine.specs.Budgets.{depth_at, LeadsDeeper, AreSparing, BudgetsSuffice}
+use Rattle.bpf_machine.specs.Budgets.{depth_at}
 use Rattle.bpf_machine.proofs.ListLaws.{with_end, lists_jobs}
 use Rattle.bpf_machine.proofs.DeterminedTurns.{IsWorld, one_turn, fresh_world, Changed, Same, Other, changed}
 use Rattle.bpf_machine.proofs.HeadwayLaws.{before, behind, free_behind, none_behind}
 use Rattle.bpf_machine.proofs.CoverLaws.{now, now_is, others_are, LeadsBy, comes_made, comes_new, none_is_ahead, nobody_ahead}
 use Rattle.bpf_machine.proofs.PatientLaws.{all_same, rich_at, rich_again, rich_turn, rich_world, hand_rich, hand_back, wait_now, Richly, enriched_by}
-use Rattle.bpf_machine.proofs.EndLaws.{IsShownAt, one_machine}
 use Rattle.bpf_cpu.proofs.OutLaws.{step_never_out}
 
 -- ---- a job goes on that has two steps left
@@ -327,36 +325,3 @@ module _ (P : ℕ → World → Type 0) (depths : List ℕ) (least : ℕ) (spari
 
     pub none_runs_out : (i : ℕ) (w z : World) (schedule : List ℕ) → IsFresh w → P i w → RunsSchedule w schedule z → NoneRanOut z.jobs
     none_runs_out i w z schedule fresh shown runs = none_spent schedule w z (fresh_world law begins replies w fresh) (first_spared i w fresh shown) runs
-
--- ---- kept machines
-module _ (kept : List MachineState) (depths : List ℕ) (least : ℕ) where
-  deeper_by : (i : ℕ) (m : MachineState) (c : ℕ) → slice_get kept i ≡ Some m → LeadsDeeper kept depths i m c → DeeperBy (IsShownAt kept) depths i c
-  deeper_by i m c at (new, k, n, turns, is_kept, deeper) = (k, n, leads, deeper)
-    where
-      leads : LeadsBy (IsShownAt kept i) (λ h u. (turns_in h ≡ n) × Richly (IsShownAt kept k) u) c
-      leads v (other, there, shows) =
-          let same = one_machine kept i other m there at in (
-            turns.0,
-            turns.1,
-            new,
-            turns.2,
-            turns.3 v (subst (λ (x : MachineState). Shows x v) same shows),
-            turns.4,
-            λ y shown. (let q = is_kept y shown in (turns.5, (q.0, q.2, (q.1, q.3, q.4)))),
-          )
-
-  sparing_by : AreSparing kept depths least → (i : ℕ) (v : World) → IsShownAt kept i v → IsSparingBy (IsShownAt kept) depths least i v
-  sparing_by sparing i v (m, at, shows) =
-      let s = sparing i m at in
-      record {
-        depth = s.depth;
-        budgets = λ j task there. s.budgets j task (ap (λ (ts : List Task). slice_get ts j) (sym shows.jobs) ∙ there);
-        turns = λ c. elim (s.turns c) [
-          | inl idle ↦ inl (subst (λ (ts : List Task). IsFree ts c) (sym shows.jobs) idle.0, subst (λ (ts : List Task). NoneWaits ts c) (sym shows.jobs) idle.1)
-          | inr deeper ↦ inr (deeper_by i m c at deeper)
-        ];
-      }
-
-pub budgets_suffice : WritesAreDetermined → OneInstructionBegins → CallsHaveOneReply → BudgetsSuffice
-budgets_suffice law begins replies kept depths least w z schedule sparing fresh (i, m, at, shows) runs =
-    none_runs_out (IsShownAt kept) depths least (sparing_by kept depths least sparing) law begins replies i w z schedule fresh (m, at, shows) runs

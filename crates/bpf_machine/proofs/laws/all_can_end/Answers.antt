@@ -1,5 +1,0 @@
-use Rattle.bpf_machine.proofs.EndLaws.{all_can_end as law}
-use Rattle.bpf_machine.proofs.laws.all_can_end.Goals as goal
-
-pub returns : goal.returns
-returns c = law c.writes_are_determined.ensures c.one_instruction_begins.ensures c.calls_have_one_reply.ensures

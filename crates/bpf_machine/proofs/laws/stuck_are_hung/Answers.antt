@@ -1,5 +1,0 @@
-use Rattle.bpf_machine.proofs.EndLaws.{stuck_are_hung as law}
-use Rattle.bpf_machine.proofs.laws.stuck_are_hung.Goals as goal
-
-pub returns : goal.returns
-returns c = law c.writes_are_determined.ensures c.one_instruction_begins.ensures c.calls_have_one_reply.ensures
