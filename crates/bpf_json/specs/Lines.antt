@@ -209,6 +209,14 @@ abbrev pub plan_text : ℕ → List ℕ
 plan_text count = if count == 0 then codes "1..0 # SKIP no expectations"
     else codes "1.." ++ decimal count
 
+-- how many states were searched, of which file where there are several, as a comment
+abbrev pub states_text : Option (String Global) → ℕ → List ℕ
+states_text file n = codes "# " ++ (file_text file ++ (decimal n ++ codes " states"))
+
+abbrev pub states_object : Option (String Global) → ℕ → List ℕ
+states_object file n =
+    codes "{\"states\":" ++ (decimal n ++ (file_member file ++ codes "}"))
+
 -- ---- lines
 
 -- as it is printed, without its end
@@ -225,6 +233,7 @@ plain (line.Races all races) =
     all_text all ++ (codes ": " ++ (decimal races ++ codes " races"))
 plain (line.Plan count) = plan_text count
 plain (line.Test test) = test_text test
+plain (line.States file n) = states_text file n
 plain (line.Note text) = codes "# " ++ string_bytes text
 plain (line.Refused why) = codes "refused " ++ string_bytes why
 plain (line.Other text) = string_bytes text
@@ -243,6 +252,7 @@ object (line.Races all races) =
     codes "{\"all\":" ++ (truth all ++ (codes ",\"races\":" ++ (decimal races ++ codes "}")))
 object (line.Plan count) = codes "{\"tests\":" ++ (decimal count ++ codes "}")
 object (line.Test test) = test_object test
+object (line.States file n) = states_object file n
 object (line.Note text) = member (codes "note") (string_bytes text)
 object (line.Refused why) = member (codes "refused") (string_bytes why)
 object (line.Other text) = member (codes "line") (string_bytes text)

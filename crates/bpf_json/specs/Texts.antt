@@ -1,5 +1,5 @@
 -- Parts of printed lines, and of JSON (RFC 8259). Our own choice.
-use Rattle.std.specs.Prelude.{◌≡◌, ℕ, Bool, List, [], ◌++◌, Option, Some, None, codes, map, nat_lt, not, ◌==◌, ◌&&◌, string_bytes, if◌then◌else◌}
+use Rattle.std.specs.Prelude.{ℕ, Bool, List, [], ◌++◌, Option, Some, None, codes, map, nat_lt, not, ◌==◌, ◌&&◌, string_bytes, if◌then◌else◌}
 use Rattle.std.specs.Fmt.{decimal}
 use Rattle.bpf_json.specs.declared.digits.Digits.{Digits}
 

@@ -1,11 +1,11 @@
 //! What a printed line says.
 
 ghost use Rattle.std.specs.Prelude.{◌≡◌, IfOk, string_bytes};
-ghost use Rattle.bpf_json.specs.Lines.{object, plain, plan_text};
+ghost use Rattle.bpf_json.specs.Lines.{object, plain, plan_text, states_object, states_text};
 
 use crate::job::Job;
 use crate::race::Race;
-use crate::test::Test;
+use crate::test::{Test, file_member, file_text};
 use crate::texts::{all_text, by_text, member, truth};
 use crate::value::Value;
 use std::alloc::{AllocError, Global};
@@ -37,6 +37,12 @@ pub enum Line {
     /// How many tests follow.
     Plan(u64),
     Test(Test),
+    /// How many states were searched for the tests that follow, and of which file these are where
+    /// there are several.
+    States {
+        file: Option<String>,
+        states: u64,
+    },
     /// A comment of tests that is of none of them.
     Note(String),
     /// Why nothing was done.
@@ -54,6 +60,22 @@ fn plan_text(alloc: Global, count: u64) -> Result<String, AllocError>
     } else {
         format!(in alloc; "1..{count}")
     }
+}
+
+/// How many states were searched, of which file where there are several, as a comment.
+fn states_text(alloc: Global, file: &Option<String>, states: u64) -> Result<String, AllocError>
+    ensures { IfOk result (λ s. string_bytes s ≡ states_text file.now states) }
+{
+    let file = file_text(alloc, file)?;
+    format!(in alloc; "# {file}{states} states")
+}
+
+/// The object for it.
+fn states_object(alloc: Global, file: &Option<String>, states: u64) -> Result<String, AllocError>
+    ensures { IfOk result (λ s. string_bytes s ≡ states_object file.now states) }
+{
+    let file = file_member(alloc, file)?;
+    format!(in alloc; "{{\"states\":{states}{file}}}")
 }
 
 impl Line {
@@ -84,6 +106,7 @@ impl Line {
             }
             Line::Plan(count) => plan_text(alloc, *count),
             Line::Test(test) => test.plain(alloc),
+            Line::States { file, states } => states_text(alloc, file, *states),
             Line::Note(text) => format!(in alloc; "# {text}"),
             Line::Refused(why) => format!(in alloc; "refused {why}"),
             Line::Other(text) => text.as_str().to_string(alloc),
@@ -114,6 +137,7 @@ impl Line {
             }
             Line::Plan(count) => format!(in alloc; "{{\"tests\":{count}}}"),
             Line::Test(test) => test.object(alloc),
+            Line::States { file, states } => states_object(alloc, file, *states),
             Line::Note(text) => member(alloc, "note", text.as_str()),
             Line::Refused(why) => member(alloc, "refused", why.as_str()),
             Line::Other(text) => member(alloc, "line", text.as_str()),

@@ -3,7 +3,7 @@
 ghost use Rattle.std.specs.Prelude.{◌≡◌, ◌∷◌, ◌++◌, IfOk, IfSome, OnOk, codes, string_bytes};
 ghost use Rattle.bpf_json.specs.Lines.{AreObjectsOf, IsLineOf, IsObjectOf};
 
-use crate::reading::{line_of, mark_in};
+use crate::reading::{line_of, mark_in, states_at};
 use std::alloc::{AllocError, Global};
 
 /// The object of a printed line.
@@ -28,7 +28,8 @@ fn is_test(line: &str) -> bool {
     line.starts_with("ok ") || line.starts_with("not ok ")
 }
 
-/// The first line of a text, with the remark after it where it is a test, and what is left.
+/// The first line of a text, with the remark after it where it is a test, and what is left. A comment
+/// that counts states is no remark: it is of the tests after it.
 fn cut(text: &str) -> Option<(&str, &str)>
     ensures { IfSome result (λ parts. text.now ≡ parts.0.now ++ (10 ∷ parts.1.now)) }
 {
@@ -37,6 +38,9 @@ fn cut(text: &str) -> Option<(&str, &str)>
         return Some((line, behind));
     }
     let (remark, _) = behind.split_once('\n')?;
+    if states_at(remark).is_some() {
+        return Some((line, behind));
+    }
     let length = line.len().checked_add(remark.len())?.checked_add(1)?;
     let (both, behind) = text.split_at_checked(length)?;
     Some((both, behind.strip_prefix("\n")?))

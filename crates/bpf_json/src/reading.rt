@@ -295,6 +295,35 @@ fn test_in(alloc: Global, text: &str) -> Option<Result<Line, AllocError>>
     Some(test(alloc, line, ok, number, rest.strip_prefix(" - ")?))
 }
 
+/// How many states a comment counts, and of which file where there are several.
+pub(crate) fn states_at(text: &str) -> Option<(Option<&str>, u64)> {
+    let text = text.strip_prefix("# ")?.strip_suffix(" states")?;
+    let (file, digits) = match text.rsplit_once(": ") {
+        Some((file, digits)) => (Some(file), digits),
+        None => (None, text),
+    };
+    Some((file, digits.parse().ok()?))
+}
+
+/// The line that counts these states.
+fn states(alloc: Global, file: Option<&str>, states: u64) -> Result<Line, AllocError>
+    ensures { IfOk result IsRight }
+{
+    let file = match file {
+        Some(file) => Some(file.to_string(alloc)?),
+        None => None,
+    };
+    Ok(Line::States { file, states })
+}
+
+/// How many states were searched for the tests that follow.
+fn states_in(alloc: Global, text: &str) -> Option<Result<Line, AllocError>>
+    ensures { IfSome result (λ made. IfOk made IsRight) }
+{
+    let (file, count) = states_at(text)?;
+    Some(states(alloc, file, count))
+}
+
 /// How many tests follow, and where none does that they are skipped.
 fn plan_in(text: &str) -> Option<Result<Line, AllocError>>
     ensures { IfSome result (λ made. IfOk made IsRight) }
@@ -338,6 +367,7 @@ fn guess(alloc: Global, text: &str) -> Result<Line, AllocError>
         .or_else(|| variable_in(alloc, text))
         .or_else(|| element_in(alloc, text))
         .or_else(|| test_in(alloc, text))
+        .or_else(|| states_in(alloc, text))
         .or_else(|| counts_in(text))
         .or_else(|| race_in(alloc, text))
         .or_else(|| races_in(text))

@@ -84,7 +84,7 @@ fn at_member(alloc: Global, line: Option<u64>) -> Result<String, AllocError>
 }
 
 /// The file's name before a test's.
-fn file_text(alloc: Global, file: &Option<String>) -> Result<String, AllocError>
+pub(crate) fn file_text(alloc: Global, file: &Option<String>) -> Result<String, AllocError>
     ensures { IfOk result (λ s. string_bytes s ≡ file_text file.now) }
 {
     match file {
@@ -94,7 +94,7 @@ fn file_text(alloc: Global, file: &Option<String>) -> Result<String, AllocError>
 }
 
 /// The member for it.
-fn file_member(alloc: Global, file: &Option<String>) -> Result<String, AllocError>
+pub(crate) fn file_member(alloc: Global, file: &Option<String>) -> Result<String, AllocError>
     ensures { IfOk result (λ s. string_bytes s ≡ file_member file.now) }
 {
     match file {
