@@ -9,3 +9,4 @@ pub mod AlikeRaces
 pub mod AlikeEnds
 pub mod SpareLaws
 pub mod AlikeBudgets
+pub mod Tables

@@ -4,6 +4,8 @@ ghost use Rattle.std.specs.Prelude.{◌≡◌, ℕ, List, Some, true, IfOk, leng
 ghost use Rattle.bpf_loader.specs.Loaded.{Loaded};
 ghost use Rattle.bpf_live.specs.Alike.{AreAlike};
 ghost use Rattle.bpf_cpu.specs.declared.cpu.Cpu.{Cpu};
+ghost use Rattle.bpf_cpu.specs.Task.{InHand};
+ghost use Rattle.bpf_machine.specs.Kept.{kept_stage};
 ghost use Rattle.bpf_alike.specs.Worlds.{AreLiveTables, IsAlike, table_at};
 
 use bpf_base::spread;
@@ -18,8 +20,8 @@ pub fn find_all_live(alloc: Global, programs: &[Program]) -> Result<Vec<Live>, A
     ensures { IfOk result (λ tables. AreLiveTables programs.now (table_at tables.items)) }
 {
     let mut tables = Vec::new(alloc);
-    for program in programs {
-        let table = find_live(alloc, program)?;
+    for number in 0..programs.len() {
+        let table = find_live(alloc, &programs[number])?;
         tables.push(table)?;
     }
     Ok(tables)
@@ -34,6 +36,31 @@ fn are_states_alike(tables: &[Live], program: usize, cpu: &Cpu, other: &Cpu) -> 
     program < tables.len() && tables[program].is_alike(cpu, other)
 }
 
+/// Whether both stages are in hand, with as many steps left, in states that are alike.
+fn are_stages_alike(tables: &[Live], program: usize, stage: &KeptStage, other: &KeptStage) -> bool
+    ensures { result ≡ true → (state : Cpu) × (left : ℕ) × (later : Cpu)
+        × (kept_stage stage.now ≡ InHand state left) × (kept_stage other.now ≡ InHand later left)
+        × ((loaded : Loaded) → AreAlike loaded (table_at tables.now program) state later) }
+{
+    match stage {
+        KeptStage::InHand(state, left) => match other {
+            KeptStage::InHand(later, rest) => {
+                *left == *rest && are_states_alike(tables, program, state, later)
+            }
+            KeptStage::Waiting(_) | KeptStage::Ended(_) => false,
+        },
+        KeptStage::Waiting(_) | KeptStage::Ended(_) => false,
+    }
+}
+
+/// Whether a job is another one, but for the stage.
+fn is_same_job(job: &KeptJob, other: &KeptJob) -> bool
+    ensures { result ≡ true → (other.now.cpu ≡ job.now.cpu)
+        × (other.now.program ≡ job.now.program) × (other.now.budget ≡ job.now.budget) }
+{
+    job.cpu() == other.cpu() && job.program() == other.program() && job.budget() == other.budget()
+}
+
 /// Whether the other job is the same one, in hand, in a state that is alike.
 pub fn are_alike(tables: &[Live], job: &KeptJob, other: &KeptJob) -> bool
     ensures { result ≡ true → (programs : List Loaded) (program : Loaded)
@@ -41,18 +68,10 @@ pub fn are_alike(tables: &[Live], job: &KeptJob, other: &KeptJob) -> bool
         → slice_get programs job.now.program ≡ Some program
         → IsAlike programs job.now other.now }
 {
-    if job.cpu() != other.cpu()
-        || job.program() != other.program()
-        || job.budget() != other.budget()
-    {
+    if !is_same_job(job, other) {
         return false;
     }
-    match (job.stage(), other.stage()) {
-        (KeptStage::InHand(state, left), KeptStage::InHand(later, rest)) => {
-            *left == *rest && are_states_alike(tables, job.program(), state, later)
-        }
-        _ => false,
-    }
+    are_stages_alike(tables, job.program(), job.stage(), other.stage())
 }
 
 /// One more number of what is hashed.
