@@ -21,7 +21,8 @@ use Rattle.bpf_machine.specs.Work.{HasInHand}
 use Rattle.bpf_machine.proofs.CoverLaws.{LeadsBy}
 use Rattle.bpf_machine.proofs.FallLaws.{turns_fall}
 use Rattle.bpf_alike.specs.Worlds.{AllAlike, AreLike, ButForDead, IsAlike}
-use Rattle.bpf_alike.proofs.AlikeJobs.{all_again, all_back, alike_at, alike_ended, alike_hand, alike_set, at_back, below_alike, free_alike, wait_now, waits_alike}
+use Rattle.bpf_alike.proofs.AlikeJobs.{all_again, all_back, alike_at, alike_ended, alike_hand}
+use Rattle.bpf_alike.proofs.AlikeJobs.{alike_set, at_back, below_alike, free_alike, wait_now, waits_alike}
 use Rattle.bpf_alike.proofs.AlikeTurns.{same_outcome, turn_alike}
 use Rattle.bpf_alike.proofs.Like.{like_once, like_pc}
 

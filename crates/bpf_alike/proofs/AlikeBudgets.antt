@@ -74,7 +74,8 @@ module _ (equal : AlikeIsAnEquivalence) (steps : StepsAreAlike) (one : OneStateI
         ];
       }
 
-pub alike_budgets_suffice : AlikeIsAnEquivalence → StepsAreAlike → OneStateIsAlike → WritesAreDetermined → OneInstructionBegins → CallsHaveOneReply → AlikeBudgetsSuffice
+pub alike_budgets_suffice : AlikeIsAnEquivalence → StepsAreAlike → OneStateIsAlike → WritesAreDetermined → OneInstructionBegins → CallsHaveOneReply
+    → AlikeBudgetsSuffice
 alike_budgets_suffice equal steps one law begins replies kept depths least w z schedule sparing fresh (i, m, at, shows) runs =
     none_runs_out (IsShownAlikeAt kept) depths least (sparing_alike equal steps one kept depths least sparing) law begins replies i w z schedule fresh
     (w.jobs, all_same equal w.programs w.jobs, (m, at, shows)) runs

@@ -32,7 +32,8 @@ alike_sets_cover equal steps one law begins replies kept w z schedule closed fre
     let covered = covered_alike equal steps one kept closed law begins replies w z schedule fresh shown runs in
     (covered, λ ended. dead_ended equal (IsShown kept) z (ended_has (IsShownAlike kept) z covered ended) ended)
 
-pub alike_sets_have_turns : AlikeIsAnEquivalence → StepsAreAlike → OneStateIsAlike → WritesAreDetermined → OneInstructionBegins → CallsHaveOneReply → AlikeSetsHaveTurns
+pub alike_sets_have_turns : AlikeIsAnEquivalence → StepsAreAlike → OneStateIsAlike → WritesAreDetermined → OneInstructionBegins → CallsHaveOneReply
+    → AlikeSetsHaveTurns
 alike_sets_have_turns equal steps one law begins replies kept w z schedule c closed fresh shown runs =
     let covered = covered_alike equal steps one kept closed law begins replies w z schedule fresh shown runs in
     let r = comes (IsShownAlike kept) (IsShownAlike kept) (λ v there. there) (alike_leads equal steps one kept closed) z c covered in

@@ -104,7 +104,8 @@ alike_all_can_end equal steps one law begins replies kept w z schedule closed en
     let way = ends at.0 at.1 at.2 in
     alike_can_end equal steps one kept way.0 at.0 z way.1 (covered.0, covered.1, (there.0, there.1, (alike.0, alike.1, (at.1, at.2, at.3)), there.3, there.4))
 
-pub alike_stuck_are_hung : AlikeIsAnEquivalence → StepsAreAlike → OneStateIsAlike → WritesAreDetermined → OneInstructionBegins → CallsHaveOneReply → AlikeStuckAreHung
+pub alike_stuck_are_hung : AlikeIsAnEquivalence → StepsAreAlike → OneStateIsAlike → WritesAreDetermined → OneInstructionBegins → CallsHaveOneReply
+    → AlikeStuckAreHung
 alike_stuck_are_hung equal steps one law begins replies kept ends w z schedule i stuck fresh runs off (jobs, rich, (dead, all, (m, at, shows))) =
     are_hung (IsStuck kept equal steps one ends stuck) (stuck_leads kept equal steps one ends stuck) (stuck_works kept equal steps one ends stuck) (none_stuck kept equal steps one ends stuck)
     law begins replies w z schedule fresh runs (jobs, rich, (dead, all, (i, m, off, at, shows)))

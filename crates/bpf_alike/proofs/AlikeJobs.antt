@@ -97,7 +97,8 @@ module _ (equal : AlikeIsAnEquivalence) (programs : List Loaded) where
 
   -- ---- jobs that are alike
   module _ (olds news : List Task) (all : All olds news) where
-    pub at_back : (c j : ℕ) (task : Task) (state : Cpu) (left : ℕ) → IsAt news c j task (InHand state left) → (old : Task) × (was : Cpu) × IsAt olds c j old (InHand was left)
+    pub at_back : (c j : ℕ) (task : Task) (state : Cpu) (left : ℕ) → IsAt news c j task (InHand state left)
+        → (old : Task) × (was : Cpu) × IsAt olds c j old (InHand was left)
     at_back c j task state left at =
         let b = alike_from olds news j task all at.listed in
         let h = hand_back b.0 task state left b.2 at.at in

@@ -76,11 +76,13 @@ module _ (equal : AlikeIsAnEquivalence) (steps : StepsAreAlike) (begins : OneIns
       let held = race_is_kept begins z v headways same ahead one other b race in
       (with_jobs v jobs, shown, held.0, race_alike equal steps v jobs all one other b held.1)
 
-pub alike_races_are_kept : AlikeIsAnEquivalence → StepsAreAlike → OneStateIsAlike → WritesAreDetermined → OneInstructionBegins → CallsHaveOneReply → AlikeRacesAreKept
+pub alike_races_are_kept : AlikeIsAnEquivalence → StepsAreAlike → OneStateIsAlike → WritesAreDetermined → OneInstructionBegins → CallsHaveOneReply
+    → AlikeRacesAreKept
 alike_races_are_kept equal steps once law begins replies kept w z schedule closed fresh shown runs one other b race =
     covered_race equal steps begins kept z one other b (covered_alike equal steps once kept closed law begins replies w z schedule fresh shown runs) race
 
-pub alike_patient_races_are_kept : AlikeIsAnEquivalence → StepsAreAlike → OneStateIsAlike → WritesAreDetermined → OneInstructionBegins → CallsHaveOneReply → AlikePatientRacesAreKept
+pub alike_patient_races_are_kept : AlikeIsAnEquivalence → StepsAreAlike → OneStateIsAlike → WritesAreDetermined → OneInstructionBegins → CallsHaveOneReply
+    → AlikePatientRacesAreKept
 alike_patient_races_are_kept equal steps once law begins replies kept w z schedule closed fresh shown runs none one other b race =
     let covered = covered_alike_richly equal steps once kept closed law begins replies w z schedule fresh shown runs none in
     covered_race equal steps begins kept (with_jobs z covered.0) one other b covered.2 (race_rich z covered.0 covered.1 one other b race)

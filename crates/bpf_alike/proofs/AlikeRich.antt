@@ -30,16 +30,19 @@ module _ (equal : AlikeIsAnEquivalence) (steps : StepsAreAlike) (one : OneStateI
       (r.0, r.1, r.2, r.3, r.4, r.5, λ y seen. dead_and_rich equal (IsShown kept) y (r.6 y seen))
 
   module _ (law : WritesAreDetermined) (begins : OneInstructionBegins) (replies : CallsHaveOneReply) where
-    pub covered_alike_richly : (w z : World) (schedule : List ℕ) → IsFresh w → IsShown kept w → RunsSchedule w schedule z → NoneRanOut z.jobs → IsCoveredAlikeRichly kept z
+    pub covered_alike_richly : (w z : World) (schedule : List ℕ) → IsFresh w → IsShown kept w → RunsSchedule w schedule z → NoneRanOut z.jobs
+        → IsCoveredAlikeRichly kept z
     covered_alike_richly w z schedule fresh shown runs none =
         covered_richly law begins replies (IsShownAlike kept) rich_leads w z schedule fresh (w.jobs, all_same equal w.programs w.jobs, shown) runs none
 
-pub alike_patient_sets_cover : AlikeIsAnEquivalence → StepsAreAlike → OneStateIsAlike → WritesAreDetermined → OneInstructionBegins → CallsHaveOneReply → AlikePatientSetsCover
+pub alike_patient_sets_cover : AlikeIsAnEquivalence → StepsAreAlike → OneStateIsAlike → WritesAreDetermined → OneInstructionBegins → CallsHaveOneReply
+    → AlikePatientSetsCover
 alike_patient_sets_cover equal steps one law begins replies kept w z schedule closed fresh shown runs none =
     let covered = covered_alike_richly equal steps one kept closed law begins replies w z schedule fresh shown runs none in
     (covered, λ ended. dead_ended equal (IsShown kept) z (ended_richly (IsShownAlike kept) z covered ended) ended)
 
-pub alike_patient_sets_have_turns : AlikeIsAnEquivalence → StepsAreAlike → OneStateIsAlike → WritesAreDetermined → OneInstructionBegins → CallsHaveOneReply → AlikePatientSetsHaveTurns
+pub alike_patient_sets_have_turns : AlikeIsAnEquivalence → StepsAreAlike → OneStateIsAlike → WritesAreDetermined → OneInstructionBegins → CallsHaveOneReply
+    → AlikePatientSetsHaveTurns
 alike_patient_sets_have_turns equal steps one law begins replies kept w z schedule closed fresh shown runs none =
     let covered = covered_alike_richly equal steps one kept closed law begins replies w z schedule fresh shown runs none in (
       covered.0,

@@ -44,7 +44,8 @@ advance_alike steps program c s old other (suc n) end t new rest alike a =
 
 -- ---- a turn
 module _ (equal : AlikeIsAnEquivalence) (steps : StepsAreAlike) (programs : List Loaded) where
-  goes_alike : (w : World) (jobs : List Task) (c j : ℕ) (task new : Task) (state other : Cpu) (left : ℕ) (answer : Turn) (z : World) → w.programs ≡ programs → AllAlike programs w.jobs jobs
+  goes_alike : (w : World) (jobs : List Task) (c j : ℕ) (task new : Task) (state other : Cpu) (left : ℕ) (answer : Turn) (z : World) → w.programs ≡ programs
+      → AllAlike programs w.jobs jobs
       → ((stage : Stage) → record new { stage = stage } ≡ record task { stage = stage }) → new.program ≡ task.program
       → ((program : Loaded) → slice_get programs task.program ≡ Some program → AreLike program state other)
       → GoesOn w c j task state left answer z → (later : List Task) × GoesOn (with_jobs w jobs) c j new other left answer (with_jobs z later) × AllAlike programs z.jobs later

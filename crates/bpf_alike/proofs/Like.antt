@@ -46,7 +46,8 @@ module _ (program : Loaded) where
   abbrev Stepped : Shape → List Event → Progress → Cpu → Cpu → Type 0
   Stepped shape events progress other new = (next : Cpu) × Step shape program other events progress next × AreLike program new next
 
-  steps_in : StepsAreAlike → (shape : Shape) (events : List Event) (progress : Progress) (n : ℕ) (old other new : Cpu) → In n old other → Step shape program old events progress new → Stepped shape events progress other new
+  steps_in : StepsAreAlike → (shape : Shape) (events : List Event) (progress : Progress) (n : ℕ) (old other new : Cpu) → In n old other
+      → Step shape program old events progress new → Stepped shape events progress other new
   steps_in law shape events progress zero old other new same step =
       (new, subst (λ (x : Cpu). Step shape program x events progress new) (sym same) step, like_same new)
   steps_in law shape events progress (suc n) old other new (table, mid, sound, alike, chain) step =
@@ -54,14 +55,16 @@ module _ (program : Loaded) where
       let s = steps_in law shape events progress n mid other r.0 chain r.1 in
       (s.0, s.1, like_again new r.0 s.0 (1, (table, r.0, sound, r.2, refl)) s.2)
 
-  pub like_steps : StepsAreAlike → (shape : Shape) (old other new : Cpu) (events : List Event) (progress : Progress) → AreLike program old other → Step shape program old events progress new → Stepped shape events progress other new
+  pub like_steps : StepsAreAlike → (shape : Shape) (old other new : Cpu) (events : List Event) (progress : Progress) → AreLike program old other
+      → Step shape program old events progress new → Stepped shape events progress other new
   like_steps law shape old other new events progress (n, chain) step = steps_in law shape events progress n old other new chain step
 
   -- where a step leads to one state whatever the store
   abbrev Once : Cpu → Cpu → Cpu → Type 0
   Once old other new = (next : Cpu) × AreLike program new next × ((h : Shape) (es : List Event) → Step h program old es On new → Step h program other es On next)
 
-  once_in : OneStateIsAlike → (shape : Shape) (events : List Event) (n : ℕ) (old other new : Cpu) → In n old other → Step shape program old events On new → Once old other new
+  once_in : OneStateIsAlike → (shape : Shape) (events : List Event) (n : ℕ) (old other new : Cpu) → In n old other → Step shape program old events On new
+      → Once old other new
   once_in law shape events zero old other new same step =
       (new, like_same new, λ h es made. subst (λ (x : Cpu). Step h program x es On new) (sym same) made)
   once_in law shape events (suc n) old other new (table, mid, sound, alike, chain) step =
@@ -69,7 +72,8 @@ module _ (program : Loaded) where
       let s = once_in law shape events n mid other r.0 chain (r.2 shape events step) in
       (s.0, like_again new r.0 s.0 (1, (table, r.0, sound, r.1, refl)) s.1, λ h es made. s.2 h es (r.2 h es made))
 
-  pub like_once : OneStateIsAlike → (old other new : Cpu) (shape : Shape) (events : List Event) → AreLike program old other → Step shape program old events On new → Once old other new
+  pub like_once : OneStateIsAlike → (old other new : Cpu) (shape : Shape) (events : List Event) → AreLike program old other
+      → Step shape program old events On new → Once old other new
   like_once law old other new shape events (n, chain) step = once_in law shape events n old other new chain step
 
 -- ---- jobs

@@ -43,7 +43,8 @@ Went jobs j task left news =
     ((new : Cpu) × (rest : ℕ) × (rest + 1 ≡ left) × (news ≡ with_stage jobs j task (InHand new rest)))
     ⊎ ((end : Outcome) × ((pc : ℕ) → end ≡ OutOfBudget pc → ⊥) × (news ≡ with_stage jobs j task (Ended end)))
 
-not_none : (answer : Progress) (n : ℕ) (new old : Cpu) (end : Outcome) (shape : Shape) (program : Loaded) (events : List Event) → Step shape program old events answer new → 0 < n → Some end ≡ outcome_after answer n new → (pc : ℕ) → end ≡ OutOfBudget pc → ⊥
+not_none : (answer : Progress) (n : ℕ) (new old : Cpu) (end : Outcome) (shape : Shape) (program : Loaded) (events : List Event)
+    → Step shape program old events answer new → 0 < n → Some end ≡ outcome_after answer n new → (pc : ℕ) → end ≡ OutOfBudget pc → ⊥
 not_none (Done other) n new old end shape program events step some e pc out =
     let both : Some end ≡ Some other = e in
     let same : other ≡ OutOfBudget pc = cc in
@@ -51,7 +52,8 @@ not_none (Done other) n new old end shape program events step some e pc out =
 not_none On zero new old end shape program events step some e pc out = absurd (omega arith)
 not_none On (suc n) new old end shape program events step some e pc out = let no : Some end ≡ None = e in cc
 
-went : (w : World) (c j : ℕ) (task : Task) (state : Cpu) (left : ℕ) (answer : Turn) (z : World) → 2 ≤ left → GoesOn w c j task state left answer z → Went w.jobs j task left z.jobs
+went : (w : World) (c j : ℕ) (task : Task) (state : Cpu) (left : ℕ) (answer : Turn) (z : World) → 2 ≤ left → GoesOn w c j task state left answer z
+    → Went w.jobs j task left z.jobs
 went w c j task state left answer z two g = settle g.1 left two g.6 g.7
   where
     settle : (end : Option Outcome) (n : ℕ) → 2 ≤ n → Advances g.0 c w.store state n end g.2 g.3 g.4 → Settles (record w { store = g.2 }) c j task g.3 g.4 end answer z → Went w.jobs j task n z.jobs
@@ -80,7 +82,8 @@ module _ (jobs news : List Task) (c j : ℕ) (task : Task) (stage : Stage) (at :
     ThisOne : d ≡ c → other.budget ≡ task.budget → InHand state left ≡ now → HandNow d k other state left now
     Elsewhere : d ≢ c → IsAt jobs d k other (InHand state left) → HandNow d k other state left now
 
-  hand_now : (now : Stage) (d k : ℕ) (other : Task) (state : Cpu) (left : ℕ) → IsAt (with_stage jobs j task now) d k other (InHand state left) → HandNow d k other state left now
+  hand_now : (now : Stage) (d k : ℕ) (other : Task) (state : Cpu) (left : ℕ) → IsAt (with_stage jobs j task now) d k other (InHand state left)
+      → HandNow d k other state left now
   hand_now now d k other state left there = go (changed jobs c j task stage now d k other (InHand state left) at there)
     where
       go : Changed jobs c j now d k other (InHand state left) → HandNow d k other state left now
