@@ -49,11 +49,11 @@ impl Model for Buffering {
 }
 
 impl Buffering {
-    ghost use Rattle.std.specs.Prelude.{◌≡◌, ◌<◌, ℕ, true, false, [], Option, None, IfOk, OnOk, All, length, map, nat_lt, vec_len};
+    ghost use Rattle.std.specs.Prelude.{◌≡◌, ◌<◌, ℕ, true, false, [], Option, None, Some, IfOk, OnOk, All, length, map, nat_lt, option_map, slice_get, vec_len};
     ghost use Rattle.bpf_cpu.specs.declared.outcome.Outcome.{Outcome};
     ghost use Rattle.bpf_plain.specs.PlainStore.{has_cpu, is_running};
     ghost use Rattle.bpf_plain.specs.Alike.{IsSameShape};
-    ghost use Rattle.bpf_cpu.specs.Task.{outcome_at, waiting};
+    ghost use Rattle.bpf_cpu.specs.Task.{Task, outcome_at, waiting};
     ghost use Rattle.bpf_machine.specs.Hands.{IsFree};
     ghost use Rattle.bpf_machine.specs.Work.{HasInHand};
     ghost use Rattle.bpf_x86.specs.Machine.{TurnOf, FlushOf};
@@ -113,6 +113,7 @@ impl Buffering {
     pub fn flush(&mut self, cpu: u8) -> bool
         ensures flushed { result ≡ true → MovesTo self.old (FlushOf cpu) self.new }
         ensures none { result ≡ false → CannotMove self.old (FlushOf cpu) }
+        ensures empty { result ≡ false → buffer_at self.old.buffers cpu ≡ [] }
         ensures unchanged { result ≡ false → self.new ≡ self.old }
     {
         if cpu as usize >= self.buffers.len() {
@@ -148,11 +149,20 @@ impl Buffering {
         &self.programs
     }
 
-    /// How many CPUs there are: those of the numbers below it.
-    pub fn cpus(&self) -> u8
-        ensures { (c : ℕ) → has_cpu self.now.machine.store c ≡ nat_lt c result }
+    /// The CPU of a job.
+    pub fn cpu_of(&self, job: usize) -> Option<u8>
+        ensures { result ≡ option_map (λ task. task.cpu) (slice_get self.now.machine.jobs job) }
     {
-        self.store().cpus()
+        Some(self.jobs.get(job)?.cpu)
+    }
+
+    /// How many CPUs there are: those of the numbers below it, and each job is of one of them.
+    pub fn cpus(&self) -> u8
+        ensures cpus { (c : ℕ) → has_cpu self.now.machine.store c ≡ nat_lt c result }
+        ensures jobs { (j : ℕ) (task : Task) → slice_get self.now.machine.jobs j ≡ Some task
+            → task.cpu < result }
+    {
+        self.here.store().cpus()
     }
 
     /// How many jobs there are.

@@ -43,6 +43,13 @@ returns-clause-none c = λ no.
     let none = c.flush-flushed.ensures.none no in
     subst (λ (s : BufferedState). CannotMove s (FlushOf c.args.cpu)) c.self.view_is (cannot_flush (state_of m.here m.programs.items m.jobs.items m.buffers.items) c.args.cpu (none_waits_here m.here m.programs.items m.jobs.items m.buffers.items c.self.invariant c.args.cpu within c.index_mut.result.now c.index_mut.ensures.value c.exchange.new.self c.exchange.ensures.serves c.exchange.new.waiting c.exchange.ensures.before none.0))
 
+pub returns-clause-empty : goal.returns-clause-empty
+returns-clause-empty c = λ no.
+    let m = c.self.inside in
+    let within : c.args.cpu < length m.buffers.items = omega (arith, m.buffers.ok.0) in
+    let none = c.flush-flushed.ensures.none no in
+    subst (λ (s : BufferedState). buffer_at s.buffers c.args.cpu ≡ []) c.self.view_is (none_waits_here m.here m.programs.items m.jobs.items m.buffers.items c.self.invariant c.args.cpu within c.index_mut.result.now c.index_mut.ensures.value c.exchange.new.self c.exchange.ensures.serves c.exchange.new.waiting c.exchange.ensures.before none.0)
+
 pub returns-clause-unchanged : goal.returns-clause-unchanged
 returns-clause-unchanged c = λ no.
     let m = c.self.inside in
@@ -54,3 +61,8 @@ pub returns-then-cpu-len-clause-none : goal.returns-then-cpu-len-clause-none
 returns-then-cpu-len-clause-none c = λ no.
     let m = c.self.inside in
     subst (λ (s : BufferedState). CannotMove s (FlushOf c.args.cpu)) c.self.view_is (cannot_flush (state_of m.here m.programs.items m.jobs.items m.buffers.items) c.args.cpu (none_beyond m.here m.programs.items m.jobs.items m.buffers.items c.self.invariant c.args.cpu (omega arith)))
+
+pub returns-then-cpu-len-clause-empty : goal.returns-then-cpu-len-clause-empty
+returns-then-cpu-len-clause-empty c = λ no.
+    let m = c.self.inside in
+    subst (λ (s : BufferedState). buffer_at s.buffers c.args.cpu ≡ []) c.self.view_is (none_beyond m.here m.programs.items m.jobs.items m.buffers.items c.self.invariant c.args.cpu (omega arith))

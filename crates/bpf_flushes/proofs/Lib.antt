@@ -1,0 +1,4 @@
+pub mod Joining
+pub mod Turning
+pub mod Rounding
+pub mod OneCourse

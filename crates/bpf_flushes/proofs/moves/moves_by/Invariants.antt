@@ -1,0 +1,8 @@
+use Rattle.std.proofs.Common.{map, take}
+use Rattle.bpf_machine.specs.Schedule.{unrolled}
+use Rattle.bpf_buffering.specs.Search.{move_of}
+use Rattle.bpf_flushes.specs.Moves.{MakesTo}
+use Rattle.bpf_flushes.proofs.moves.moves_by.Given as goal
+
+abbrev pub invariant-loop-made : goal.invariant-loop-made
+invariant-loop-made l = MakesTo l.fn.machine (map move_of (unrolled (take l.made-index l.runs))) l.machine
