@@ -6,7 +6,7 @@ use Rattle.std.proofs.lemmas.List.{length-drop, length-map}
 use Rattle.std.proofs.lemmas.Option.{slice_get_within}
 use Rattle.bpf_base.proofs.Lists.{slice_get-front}
 use Rattle.bpf_shared.specs.Shape.{Shape}
-use Rattle.bpf_plain.specs.PlainStore.{Contents, has_cpu, IsSavedAs}
+use Rattle.bpf_plain.specs.PlainStore.{Contents, StandsFor, has_cpu, IsSavedAs}
 use Rattle.bpf_plain.specs.Alike.{IsSameShape, LookAlike}
 use Rattle.bpf_plain.proofs.Alike.{alike_stand_alike}
 use Rattle.bpf_plain.proofs.SavedAlike.{saved_alike_look_alike}
@@ -17,11 +17,16 @@ use Rattle.bpf_machine.specs.Listings.{Listing, listing_at}
 use Rattle.bpf_machine.specs.Machine.{MachineState, Shows}
 use Rattle.bpf_machine.specs.Parts.{CanStand, IsSameHost, chosen, made_of, no_task}
 use Rattle.bpf_machine.specs.Schedule.{World}
-use Rattle.bpf_machine.specs.Cover.{TurnsTo, IsKeptAs}
-use Rattle.bpf_explore.specs.Album.{IsKeptAt}
+use Rattle.bpf_machine.specs.Cover.{TurnsTo}
+use Rattle.bpf_live.specs.Live.{Table}
+use Rattle.bpf_alike.specs.Covers.{IsKeptAlike}
+use Rattle.bpf_alike.specs.Worlds.{AllAlike, AreLiveTables, table_at}
+use Rattle.bpf_explore.specs.Album.{IsKeptAlikeAt}
 use Rattle.bpf_explore.specs.Search.{IsTurned, IsIdleAt, Extends}
 use Rattle.bpf_explore.specs.Stores.{IsOfShape, no_store}
 use Rattle.bpf_explore.specs.Tuples.{TupleList, tuple_at, with_tuple}
+use Rattle.bpf_explore.specs.Private.Classes.{AreLoaded, AreOfParts, IsAlikeTuple}
+use Rattle.bpf_explore.proofs.ClassLaws.{are_loaded}
 use Rattle.bpf_explore.specs.Private.Album.{Shelf, machine_of, machine_at, machines, IsState, IsShelf, Grows, FitsShelf, AddsOne, ShowsFirst, AreNumbersOf, AreKeptUnder}
 use Rattle.bpf_explore.proofs.KeptLaws.{tuple_new}
 use Rattle.bpf_explore.proofs.StandAlike.{can_stand}
@@ -63,17 +68,8 @@ module _ (h : Shape) (s : Shelf) (m : MachineState) (tuple bytes : List ℕ) (fi
     lists = shows.lists ∙ ap (λ (o : Option (List Listing)). listing_at o) fits.lists;
   }
 
--- a machine is kept under the number of its state
-pub kept_as : (s : Shelf) (m : MachineState) (n : ℕ) (tuple : List ℕ) → n < s.states.count → tuple_at s.states n ≡ tuple
-    → ((w : World) → Shows m w → Shows (machine_of s tuple) w) → IsKeptAt (machines s s.states.count) n m
-kept_as s m n tuple less at shows = (
-  machine_at s n,
-  machines_at s s.states.count n less,
-  λ w here. subst (λ (t : List ℕ). Shows (machine_of s t) w) (sym at) (shows w here),
-)
-
-pub kept_somewhere : (kept : List MachineState) (n : ℕ) (m : MachineState) → IsKeptAt kept n m → IsKeptAs kept m
-kept_somewhere kept n m is = (n, is.0, is.1, is.2)
+pub kept_somewhere : (kept : List MachineState) (n : ℕ) (m : MachineState) → IsKeptAlikeAt kept n m → IsKeptAlike kept m
+kept_somewhere kept n m is w shows = let r = is w shows in (r.0, r.1, (n, r.2.0, r.2.1, r.2.2))
 
 -- ---- another machine of the same programs to work with
 abbrev pub shelf_of : List Loaded → List Contents → List Task → TupleList → Shelf
@@ -91,11 +87,12 @@ module _ (h : Shape) (stores : List Contents) (parts : List Task) (states : Tupl
   fits_with is shape width lists = (subst (IsShelf h) (sym same_shelf_as) is, record { shape = shape; programs = refl; width = width; lists = lists })
 
 -- after turns
-pub fits_after : (h : Shape) (stores : List Contents) (parts : List Task) (states : TupleList) (m new : MachineState) → IsSameHost m new
-    → IsShelf h (shelf_of m.programs stores parts states) × FitsShelf h (shelf_of m.programs stores parts states) m
-    → IsShelf h (shelf_of new.programs stores parts states) × FitsShelf h (shelf_of new.programs stores parts states) new
-fits_after h stores parts states m new same (is, fits) =
-    fits_with h stores parts states m new same.programs is (shape_still h m new same fits.shape) (fits.width ∙ ap (λ (n : ℕ). n + 1) (sym same.jobs)) (same.lists fits.lists)
+pub all_after : (h : Shape) (stores : List Contents) (parts : List Task) (states : TupleList) (tables : List Table) (m new : MachineState) → IsSameHost m new
+    → IsShelf h (shelf_of m.programs stores parts states) × FitsShelf h (shelf_of m.programs stores parts states) m × AreLiveTables m.programs (table_at tables)
+    → IsShelf h (shelf_of new.programs stores parts states) × FitsShelf h (shelf_of new.programs stores parts states) new × AreLiveTables new.programs (table_at tables)
+all_after h stores parts states tables m new same (is, fits, right) =
+    let r = fits_with h stores parts states m new same.programs is (shape_still h m new same fits.shape) (fits.width ∙ ap (λ (n : ℕ). n + 1) (sym same.jobs)) (same.lists fits.lists) in
+    (r.0, r.1, subst (λ (ps : List Loaded). AreLiveTables ps (table_at tables)) (sym same.programs) right)
 
 -- ---- a kept machine to work with
 pub record IsReadable (h : Shape) (s : Shelf) (m : MachineState) (place : ℕ) (store : Contents) (parts : List Task) (jobs : List ℕ) : Type 0 where
@@ -178,16 +175,40 @@ module _ (h : Shape) (s : Shelf) (m : MachineState) (stores : List Contents) (pa
     state_there states width =
         is_state h (with_states states) m tuple under.bytes (fits_grown states width) (shapes_there states) under.stored under.saved under.alike under.jobs.0 under.jobs.1 stands
 
-    pub kept_there : (states : TupleList) (n : ℕ) → states.width ≡ s.states.width → (n < states.count) × (tuple_at states n ≡ tuple) → IsKeptAt (machines (with_states states) states.count) n m
-    kept_there states n width found =
-        kept_as (with_states states) m n tuple found.0 found.1 (shown_there h (with_states states) m tuple under.bytes (fits_grown states width) (shapes_there states) under.stored under.saved under.alike under.jobs.0 under.jobs.1)
-
     width_after : (states : TupleList) → (states ≡ s.states) ⊎ (states ≡ with_tuple s.states tuple) → states.width ≡ s.states.width
     width_after states (inl e) = ap (λ (t : TupleList). t.width) e
     width_after states (inr e) = ap (λ (t : TupleList). t.width) e
 
-    pub kept_after : (states : TupleList) (n : ℕ) → (states ≡ s.states) ⊎ (states ≡ with_tuple s.states tuple) → (n < states.count) × (tuple_at states n ≡ tuple) → IsKeptAt (machines (with_states states) states.count) n m
-    kept_after states n now found = kept_there states n (width_after states now) found
+    -- the machine of a state that has the same store, and jobs that are alike
+    pub kept_after : (tables : List Table) (states : TupleList) (n : ℕ) → AreLiveTables m.programs (table_at tables) → (states ≡ s.states) ⊎ (states ≡ with_tuple s.states tuple) → n < states.count → IsAlikeTuple tables parts tuple (tuple_at states n)
+        → IsKeptAlikeAt (machines (with_states states) states.count) n m
+    kept_after tables states n right now less alike w here =
+        let all = with_states states in
+        let shown = shown_there h all m tuple under.bytes (fits_grown states (width_after states now)) (shapes_there states) under.stored under.saved under.alike under.jobs.0 under.jobs.1 w here in
+        let jobs = chosen parts (drop 1 (tuple_at states n)) in
+        let loaded = subst (AreLoaded m.programs) (sym under.jobs.1) (are_loaded m stands) in
+        let alike_jobs : AllAlike m.programs (chosen parts (drop 1 tuple)) jobs = alike.1 m.programs right loaded in
+        let of_world : AllAlike w.programs w.jobs jobs = subst (λ (ps : List Loaded). AllAlike ps w.jobs jobs) (sym here.programs) (subst (λ (ts : List Task). AllAlike m.programs ts jobs) (sym shown.jobs) alike_jobs) in (
+          jobs,
+          of_world,
+          (
+            machine_at all n,
+            machines_at all states.count n less,
+            record {
+              store = subst (λ (k : ℕ). StandsFor (slice_index_or stores k no_store) w.store) (sym alike.0) shown.store;
+              sound = shown.sound;
+              programs = shown.programs;
+              jobs = refl;
+              lists = shown.lists;
+            },
+          ),
+        )
+
+    -- what finding it asks for
+    pub numbers_fit : (length tuple ≡ s.states.width) × (1 ≤ length tuple) × All (λ n. n < length parts) (drop 1 tuple) × AreOfParts parts s.states
+    numbers_fit =
+        let size = under.size in
+        (size ∙ sym fits.width, omega (arith, size), under.jobs.0, λ i less. (same_invariant.0.states i less).within)
 
     pub invariant_after : (states : TupleList) → length tuple ≡ s.states.width → (states ≡ s.states) ⊎ (states ≡ with_tuple s.states tuple) → IsShelf h (with_states states) × FitsShelf h (with_states states) m
     invariant_after states size (inl e) = (same_shelf s (with_states states) m.store (grown states) h fits.shape is e, fits_grown states (ap (λ (t : TupleList). t.width) e))
@@ -211,14 +232,12 @@ pub adds_extends : (old new : List MachineState) (m : MachineState) → AddsOne 
 adds_extends old new m (inl e) = ([], e ∙ sym (append-nil old))
 adds_extends old new m (inr (one, e, shows)) = (one ∷ [], e)
 
-nothing_there : (i : ℕ) (x : MachineState) → slice_get [] i ≡ Some x → ⊥
-nothing_there i x at = cc
-
 -- the first that is kept
-pub first_kept : (old kept : List MachineState) (m : MachineState) → old ≡ [] → AddsOne old m kept → IsKeptAs kept m → (length kept ≡ 1) × ShowsFirst kept m
-first_kept old kept m none (inl e) is =
-    absurd (nothing_there is.0 is.1 (subst (λ (ms : List MachineState). slice_get ms is.0 ≡ Some is.1) (e ∙ none) is.2))
-first_kept old kept m none (inr (one, e, shows)) is =
+pub first_kept : (old kept : List MachineState) (m : MachineState) (n : ℕ) → old ≡ [] → AddsOne old m kept → n < length kept → (length kept ≡ 1) × ShowsFirst kept m
+first_kept old kept m n none (inl e) less =
+    let count : length kept ≡ 0 = ap (λ (ms : List MachineState). length ms) (e ∙ none) in
+    absurd (omega arith)
+first_kept old kept m n none (inr (one, e, shows)) less =
     let only : kept ≡ one ∷ [] = e ∙ ap (λ (ms : List MachineState). ms ++ one ∷ []) none in
     (ap (λ (ms : List MachineState). length ms) only, (one, ap (λ (ms : List MachineState). slice_get ms 0) only, shows))
 
@@ -253,7 +272,7 @@ idle_beyond h s is i c beyond m at =
 pub still_at : (old new : List MachineState) (place : ℕ) (m : MachineState) → slice_get old place ≡ Some m → Extends old new → slice_get new place ≡ Some m
 still_at old new place m at more = ap (λ (ms : List MachineState). slice_get ms place) more.1 ∙ (slice_get-front old more.0 place (slice_get_within old place m at) ∙ at)
 
-pub turned : (old new : List MachineState) (place cpu : ℕ) (m after : MachineState) → slice_get old place ≡ Some m → Extends old new → TurnsTo m cpu after → IsKeptAs new after → IsTurned false new place cpu
+pub turned : (old new : List MachineState) (place cpu : ℕ) (m after : MachineState) → slice_get old place ≡ Some m → Extends old new → TurnsTo m cpu after → IsKeptAlike new after → IsTurned false new place cpu
 turned old new place cpu m after at more turns kept other there =
     let two : Some m ≡ Some other = sym (still_at old new place m at more) ∙ there in
     let same : m ≡ other = cc in

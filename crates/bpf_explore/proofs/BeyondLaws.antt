@@ -7,9 +7,10 @@ use Rattle.bpf_machine.specs.Schedule.{World}
 use Rattle.bpf_machine.specs.Laws.{IsFresh}
 use Rattle.bpf_machine.specs.Machine.{MachineState, Shows}
 use Rattle.bpf_machine.specs.Headways.{with_jobs}
-use Rattle.bpf_machine.specs.Patient.{IsCoveredRichly}
 use Rattle.bpf_machine.specs.Ends.{CanEnd}
-use Rattle.bpf_machine.proofs.EndLaws.{one_machine, ends_from}
+use Rattle.bpf_machine.proofs.EndLaws.{one_machine}
+use Rattle.bpf_alike.specs.Ends.{AlikeCanEnd}
+use Rattle.bpf_alike.specs.Patient.{IsCoveredAlikeRichly}
 use Rattle.bpf_explore.specs.Patient.{LiesBeyondOne}
 use Rattle.bpf_explore.specs.Private.Answers.{IsFirst}
 use Rattle.bpf_explore.specs.Private.Ends.{LeadsToEnd, AreMarked}
@@ -17,13 +18,11 @@ use Rattle.bpf_explore.specs.Private.Hung.{IsBeyondOne, AllBeyondBelow, AllLeadO
 use Rattle.bpf_explore.proofs.TrailLaws.{gift_first}
 
 -- ---- to an end, or beyond a listed state
-pub ends_or_lies : (kept : List MachineState) (w z : World) (hung : List (List (ℕ × ℕ))) → AllLeadOrBeyond kept hung → IsFresh w → IsFirst kept w → IsCoveredRichly kept z → CanEnd z ⊎ LiesBeyondOne w hung z
-ends_or_lies kept w z hung all fresh first (jobs, rich, (v, headways, (i, m, at, shows), same, ahead)) = go (all i (slice_get_within kept i m at))
+pub ends_or_lies : AlikeCanEnd → (kept : List MachineState) (w z : World) (hung : List (List (ℕ × ℕ))) → AllLeadOrBeyond kept hung → IsFresh w → IsFirst kept w → IsCoveredAlikeRichly kept z → CanEnd z ⊎ LiesBeyondOne w hung z
+ends_or_lies law kept w z hung all fresh first (jobs, rich, (v, headways, (others, alike, (i, m, at, shows)), same, ahead)) = go (all i (slice_get_within kept i m at))
   where
     go : LeadsToEnd kept i ⊎ IsBeyondOne kept hung i → CanEnd z ⊎ LiesBeyondOne w hung z
-    go (inl (n, ends)) =
-        let r = ends_from kept n i (with_jobs z jobs) ends (v, headways, (m, at, shows), same, ahead) in
-        inl (r.0, r.1, gift_first r.0 z r.1 jobs rich r.2, r.3, r.4)
+    go (inl (n, ends)) = inl (law kept n i z ends (jobs, rich, (v, headways, (others, alike, (m, at, shows)), same, ahead)))
     go (inr (k, by, j, listed, comes, (ds, leads))) =
         let c = comes w fresh first in
         let more = c.2.0 in
@@ -33,7 +32,7 @@ ends_or_lies kept w z hung all fresh first (jobs, rich, (v, headways, (i, m, at,
           k,
           by,
           listed,
-          (m, (c.0, ds, l.0, c.1, gift_first ds c.0 l.0 more c.2.2 l.1, subst (λ (x : MachineState). Shows x l.0) one l.2.2), (jobs, rich, (v, headways, (0, m, refl, shows), same, ahead))),
+          (m, (c.0, ds, l.0, c.1, gift_first ds c.0 l.0 more c.2.2 l.1, subst (λ (x : MachineState). Shows x l.0) one l.2.2), (jobs, rich, (v, headways, (others, alike, (0, m, refl, shows)), same, ahead))),
         )
 
 -- ---- marks

@@ -6,11 +6,11 @@ use Rattle.std.proofs.lemmas.Option.{slice_get_within}
 use Rattle.bpf_base.proofs.Lists.{slice_get-front}
 use Rattle.bpf_machine.specs.Machine.{MachineState}
 use Rattle.bpf_machine.specs.Cover.{TurnsAhead}
-use Rattle.bpf_machine.specs.Ends.{IsKeptRichlyAt}
+use Rattle.bpf_alike.specs.Ends.{IsKeptAlikeRichlyAt}
 use Rattle.bpf_machine.specs.Patient.{IsRefilled}
 use Rattle.bpf_explore.specs.declared.turns.Arrival.{Arrival}
 use Rattle.bpf_explore.specs.declared.turns.Edge.{Edge}
-use Rattle.bpf_explore.specs.Album.{IsKeptAt}
+use Rattle.bpf_explore.specs.Album.{IsKeptAlikeAt}
 use Rattle.bpf_explore.specs.Search.{Extends}
 use Rattle.bpf_explore.specs.Private.Edges.{IsEdge, AreEdges, IsEdgeOf, edge_of, edges_from}
 use Rattle.bpf_explore.proofs.AlbumLaws.{still_at}
@@ -34,7 +34,7 @@ edges_still old new edges more are k e at =
       new = is.new;
       there = still_at old new e.«from» is.old is.there more;
       turns = is.turns;
-      is_kept = λ w shows. (let r = is.is_kept w shows in (r.0, r.1, r.2, still_at old new e.to r.1 r.3 more, r.4));
+      is_kept = λ w shows. (let r = is.is_kept w shows in (r.0, r.1, (r.2.0, r.2.1, (r.2.2.0, still_at old new e.to r.2.2.0 r.2.2.1 more, r.2.2.2))));
     }
 
 -- ---- turns by their numbers
@@ -106,16 +106,16 @@ one_more_edge kept edges pushed e are is same k x at = elim (cases_lt k (length 
     there : slice_get (edges ++ e ∷ []) k ≡ Some x
     there = ap (λ (es : List Edge). slice_get es k) (sym same) ∙ at
 
-pub edge_made : (old new : List MachineState) (restored after refilled : MachineState) (place cpu made n : ℕ) (e : Edge) → slice_get old place ≡ Some restored → Extends old new → TurnsAhead restored cpu made after → IsRefilled after cpu refilled → IsKeptAt new n refilled
+pub edge_made : (old new : List MachineState) (restored after refilled : MachineState) (place cpu made n : ℕ) (e : Edge) → slice_get old place ≡ Some restored → Extends old new → TurnsAhead restored cpu made after → IsRefilled after cpu refilled → n < length new → IsKeptAlikeAt new n refilled
     → e.«from» ≡ place → e.to ≡ n → e.ahead ≡ made → e.cpu ≡ cpu → IsEdge new e
-edge_made old new restored after refilled place cpu made n e at more turns refills is from to ahead own =
+edge_made old new restored after refilled place cpu made n e at more turns refills within is from to ahead own =
     let P : ℕ → Type 0 = λ i. slice_get new i ≡ Some restored in record {
-      inside = subst (λ (k : ℕ). k < length new) (sym to) (slice_get_within new n is.0 is.1);
+      inside = subst (λ (k : ℕ). k < length new) (sym to) within;
       old = restored;
       new = after;
       there = subst P (sym from) (still_at old new place restored at more);
       turns = subst (λ (k : ℕ). TurnsAhead restored e.cpu k after) (sym ahead) (subst (λ (k : ℕ). TurnsAhead restored k made after) (sym own) turns);
-      is_kept = subst (λ (k : ℕ). IsKeptRichlyAt new k after) (sym to) (richly_kept new after refilled cpu n refills is);
+      is_kept = subst (λ (k : ℕ). IsKeptAlikeRichlyAt new k after) (sym to) (richly_kept new after refilled cpu n refills is);
     }
 
 -- one more where it is the next in the order

@@ -9,8 +9,11 @@ use Rattle.bpf_machine.specs.Machine.{MachineState, Shows}
 use Rattle.bpf_machine.specs.Schedule.{World, RunsSchedule, unrolled}
 use Rattle.bpf_machine.specs.Cover.{TurnsAhead}
 use Rattle.bpf_machine.specs.Patient.{NoneRanOut}
-use Rattle.bpf_machine.specs.Ends.{AreStuck, RunsFreely, StuckAreHung, FreeRunsAgree}
-use Rattle.bpf_machine.specs.Budgets.{depth_at, AreSparing, BudgetsSuffice}
+use Rattle.bpf_machine.specs.Ends.{RunsFreely, FreeRunsAgree}
+use Rattle.bpf_machine.specs.Budgets.{depth_at}
+use Rattle.bpf_alike.specs.Budgets.{AreSparingAlike, AlikeBudgetsSuffice}
+use Rattle.bpf_alike.specs.Ends.{AreStuckAlike, AlikeStuckAreHung}
+use Rattle.bpf_alike.proofs.Like.{all_like}
 use Rattle.bpf_explore.specs.declared.turns.Edge.{Edge}
 use Rattle.bpf_explore.specs.Album.{LeadsFreely, HaveBudgets}
 use Rattle.bpf_explore.specs.Search.{IsIdleAt}
@@ -47,11 +50,11 @@ can_run_out kept m is (j, task, pc, at, ended) w first =
     (r.0, r.1, r.2, (j, task, pc, ap (λ (ts : List Task). slice_get ts j) r.3.jobs ∙ at, ended))
 
 -- ---- what is hung
-pub hangs : StuckAreHung → FreeRunsAgree → (kept : List MachineState) (marks : List Bool) (place : ℕ) (by : List (ℕ × ℕ)) (m : MachineState) → AreStuck kept marks → slice_get marks place ≡ Some false
+pub hangs : AlikeStuckAreHung → FreeRunsAgree → (kept : List MachineState) (marks : List Bool) (place : ℕ) (by : List (ℕ × ℕ)) (m : MachineState) → AreStuckAlike kept marks → slice_get marks place ≡ Some false
     → LeadsFreely kept 0 (unrolled by) place → IsReplayed kept (unrolled by) m → NoneRanOut m.jobs → Hangs kept by
 hangs hung agree kept marks place by m stuck off leads tried none w fresh first =
     let a = agrees agree kept by place m leads tried none w fresh first in
-    (a.z, a.runs, a.none, hung kept marks w a.z (unrolled by) place stuck fresh a.runs off (a.jobs, a.shown.0, a.rich, a.shown.1, a.shown.2))
+    (a.z, a.runs, a.none, hung kept marks w a.z (unrolled by) place stuck fresh a.runs off (a.jobs, a.rich, (a.jobs, all_like a.z.programs a.jobs, a.shown)))
 
 pub none_hung : (kept : List MachineState) → AllHang kept []
 none_hung kept i by at = cc
@@ -152,7 +155,7 @@ next_sparing kept depths least n far one i less = elim (cases_lt i n) [
   | inr past ↦ let e : n ≡ i = omega arith in subst (IsSparingAt kept depths least) e one
 ]
 
-pub are_sparing : (kept : List MachineState) (depths : List ℕ) (least n : ℕ) → HaveBudgets kept least → length kept ≤ n → ((i : ℕ) → i < n → IsSparingAt kept depths least i) → AreSparing kept depths least
+pub are_sparing : (kept : List MachineState) (depths : List ℕ) (least n : ℕ) → HaveBudgets kept least → length kept ≤ n → ((i : ℕ) → i < n → IsSparingAt kept depths least i) → AreSparingAlike kept depths least
 are_sparing kept depths least n budgets past all i m at =
     let inside = slice_get_within kept i m at in
     let is = all i (omega arith) in
@@ -162,6 +165,6 @@ are_sparing kept depths least n budgets past all i m at =
       turns = λ c. elim (is.1 c) [ inl idle ↦ inl (idle m at) | inr deeper ↦ inr (deeper m at) ];
     }
 
-pub none_runs_out : BudgetsSuffice → (kept : List MachineState) (depths : List ℕ) (least : ℕ) → AreSparing kept depths least → NoneRunsOut kept
+pub none_runs_out : AlikeBudgetsSuffice → (kept : List MachineState) (depths : List ℕ) (least : ℕ) → AreSparingAlike kept depths least → NoneRunsOut kept
 none_runs_out law kept depths least sparing w fresh first (schedule, z, runs, (j, task, pc, at, ended)) =
     law kept depths least w z schedule sparing fresh (0, first.0, first.1, first.2) runs j task pc at ended

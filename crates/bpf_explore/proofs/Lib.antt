@@ -6,6 +6,7 @@ pub mod OutcomeLaws
 pub mod StandAlike
 pub mod ShelfLaws
 pub mod KeepLaws
+pub mod ClassLaws
 pub mod AlbumLaws
 pub mod ApartLaws
 pub mod StopLaws

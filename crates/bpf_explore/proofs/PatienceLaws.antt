@@ -17,6 +17,7 @@ use Rattle.bpf_explore.specs.declared.frontier.Extent.{Extent}
 use Rattle.bpf_explore.specs.declared.frontier.Extent.TheVariants.{Whole}
 use Rattle.bpf_explore.proofs.ExploreLaws.{whole_of, limited_of, refused_of, not_whole}
 use Rattle.bpf_machine.specs.Ends.{CanEnd}
+use Rattle.bpf_alike.specs.Ends.{AlikeCanEnd}
 use Rattle.bpf_explore.specs.declared.budgets.Budgets.{Budgets}
 use Rattle.bpf_explore.specs.declared.budgets.Budgets.TheVariants.{Suffice, RunOut}
 use Rattle.bpf_explore.specs.Album.{BeginsAt, AreLedFreely, AreApart, HaveWholeBudgets}
@@ -121,20 +122,20 @@ none_of_none : (w : World) (hung : List (List (ℕ × ℕ))) (z : World) → hun
 none_of_none w hung z none (inl ends) = ends
 none_of_none w hung z none (inr (i, by, at, lies)) = let no : None ≡ Some by = ap (λ (hs : List (List (ℕ × ℕ))). slice_get hs i) (sym none) ∙ at in cc
 
-pub explored_patiently : PatientTellAll → (kept : List MachineState) (w : World) (names : Names) (maps : Bool) (answers : List Found) (extent : Extent) (whole fit all refused : Bool) (limit : ℕ) (hung : List (List (ℕ × ℕ))) (budgets : Budgets) → BeginsAt kept w → CameTo true kept extent limit
+pub explored_patiently : AlikeCanEnd → PatientTellAll → (kept : List MachineState) (w : World) (names : Names) (maps : Bool) (answers : List Found) (extent : Extent) (whole fit all refused : Bool) (limit : ℕ) (hung : List (List (ℕ × ℕ))) (budgets : Budgets) → BeginsAt kept w → CameTo true kept extent limit
     → whole ≡ is_whole extent → refused ≡ is_refused extent
     → ((u : World) → IsFirst kept u → ArePatient u names maps answers) → (extent ≡ Whole → fit ≡ true → (i : ℕ) → IsAnsweredAt kept names maps answers i)
     → AllHang kept hung → (whole ≡ true → fit ≡ true → AllLeadOrBeyond kept hung)
     → (all ≡ true → (whole ≡ true) × (fit ≡ true)) → (all ≡ false → (whole ≡ false) ⊎ (fit ≡ false))
     → (fit ≡ false → budgets ≡ RunOut) → (budgets ≡ Suffice → NoneRunsOut kept) → (budgets ≡ RunOut → CanRunOut kept)
     → AreLedFreely kept → AreApart kept → HaveWholeBudgets kept → IsSearchedPatiently w names maps answers all refused limit (length kept) hung budgets
-explored_patiently law kept w names maps answers extent whole fit all refused limit hung budgets (fresh, first) came is_all is_cut outcomes answered hangs leads every every_not unfit suffice out led apart budgeted =
+explored_patiently ending law kept w names maps answers extent whole fit all refused limit hung budgets (fresh, first) came is_all is_cut outcomes answered hangs leads every every_not unfit suffice out led apart budgeted =
     let shown : IsShown kept w = (0, first.0, first.1, first.2) in
     let whole_then : whole ≡ true → extent ≡ Whole = λ is. whole_of extent (sym is_all ∙ is) in
     let not_then : refused ≡ true → whole ≡ false = λ is. is_all ∙ not_whole extent (sym is_cut ∙ is) in
     let no_other : all ≡ true → NoOtherHangs w hung = λ is schedule z runs well. (
     let a = every is in
-    ends_or_lies kept w z hung (leads a.0 a.1) fresh first (came.covers (whole_then a.0) w z schedule fresh shown runs well).0) in
+    ends_or_lies ending kept w z hung (leads a.0 a.1) fresh first (came.covers (whole_then a.0) w z schedule fresh shown runs well).0) in
     record {
       outcomes = outcomes w first;
       complete = λ is. (let a = every is in law kept w names maps answers (came.covers (whole_then a.0)) fresh shown (λ i m at ended. answered (whole_then a.0) a.1 i m at ended));

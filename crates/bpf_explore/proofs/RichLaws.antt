@@ -8,10 +8,11 @@ use Rattle.bpf_machine.specs.Headways.{with_jobs}
 use Rattle.bpf_machine.specs.Machine.{MachineState, Shows}
 use Rattle.bpf_machine.specs.Schedule.{World, RunsSchedule}
 use Rattle.bpf_machine.specs.Cover.{TurnsTo}
-use Rattle.bpf_machine.specs.Ends.{RunsFreely, IsKeptRichlyAt}
+use Rattle.bpf_machine.specs.Ends.{RunsFreely}
+use Rattle.bpf_alike.specs.Ends.{IsKeptAlikeRichlyAt}
 use Rattle.bpf_machine.specs.Patient.{IsRicher, AsRich, IsRefilled}
 use Rattle.bpf_machine.proofs.PatientLaws.{all_same}
-use Rattle.bpf_explore.specs.Album.{IsKeptAt}
+use Rattle.bpf_explore.specs.Album.{IsKeptAlikeAt}
 use Rattle.bpf_explore.specs.Search.{IsTurned, Extends}
 use Rattle.bpf_explore.proofs.AlbumLaws.{still_at}
 
@@ -41,19 +42,19 @@ refilled_shows m new c (inr (j, (task, state, left, more, at, enough, e))) w sho
       }),
     )
 
-pub richly_kept : (kept : List MachineState) (m new : MachineState) (c n : ℕ) → IsRefilled m c new → IsKeptAt kept n new → IsKeptRichlyAt kept n m
+pub richly_kept : (kept : List MachineState) (m new : MachineState) (c n : ℕ) → IsRefilled m c new → IsKeptAlikeAt kept n new → IsKeptAlikeRichlyAt kept n m
 richly_kept kept m new c n refills is w shows =
     let r = refilled_shows m new c refills w shows in
-    (r.0, is.0, r.1, is.1, is.2 (with_jobs w r.0) r.2)
+    (r.0, r.1, is (with_jobs w r.0) r.2)
 
 -- ---- a turn from a kept machine
-pub turned_richly : (old new : List MachineState) (place cpu n : ℕ) (m after refilled : MachineState) → slice_get old place ≡ Some m → Extends old new → TurnsTo m cpu after → IsRefilled after cpu refilled → IsKeptAt new n refilled → IsTurned true new place cpu
+pub turned_richly : (old new : List MachineState) (place cpu n : ℕ) (m after refilled : MachineState) → slice_get old place ≡ Some m → Extends old new → TurnsTo m cpu after → IsRefilled after cpu refilled → IsKeptAlikeAt new n refilled → IsTurned true new place cpu
 turned_richly old new place cpu n m after refilled at more turns refills kept other there =
     let two : Some m ≡ Some other = sym (still_at old new place m at more) ∙ there in
     let same : m ≡ other = cc in (
       after,
       subst (λ (x : MachineState). TurnsTo x cpu after) same turns,
-      λ w shows. (let r = richly_kept new after refilled cpu n refills kept w shows in (r.0, r.2, (n, r.1, r.3, r.4))),
+      λ w shows. (let r = richly_kept new after refilled cpu n refills kept w shows in (r.0, r.1, (r.2.0, r.2.1, (n, r.2.2.0, r.2.2.1, r.2.2.2)))),
     )
 
 -- its turns, and steps that are given after them

@@ -6,8 +6,10 @@ use Rattle.std.proofs.lemmas.Option.{slice_get_within}
 use Rattle.bpf_base.proofs.Lists.{slice_get-front}
 use Rattle.bpf_machine.specs.Schedule.{World}
 use Rattle.bpf_machine.specs.Machine.{MachineState}
-use Rattle.bpf_machine.specs.Cover.{IsShown, ClosedSetsCover}
-use Rattle.bpf_machine.specs.Patient.{PatientSetsCover}
+use Rattle.bpf_machine.specs.Cover.{IsShown}
+use Rattle.bpf_alike.specs.Covers.{AlikeSetsCover}
+use Rattle.bpf_alike.specs.Patient.{AlikePatientSetsCover}
+use Rattle.bpf_alike.proofs.Like.{all_like}
 use Rattle.bpf_machine.proofs.CoverLaws.{idle_turns_to}
 use Rattle.bpf_machine.proofs.PatientLaws.{all_same}
 use Rattle.bpf_explore.specs.Search.{IsKept, IsTurned, IsExpanded, IsIdleAt, Extends, IsWhole, CoversAll}
@@ -27,8 +29,8 @@ module _ (old new : List MachineState) (more : Extends old new) where
   shown_still w (i, m, at, shows) = (i, m, same_at i (slice_get_within old i m at) ∙ at, shows)
 
   pub kept_still : (patient : Bool) (m : MachineState) → IsKept patient old m → IsKept patient new m
-  kept_still false m is = (is.0, is.1, same_at is.0 (slice_get_within old is.0 is.1 is.2) ∙ is.2, is.3)
-  kept_still true m is = λ w shows. (let r = is w shows in (r.0, r.1, shown_still _ r.2))
+  kept_still false m is = λ w shows. (let r = is w shows in (r.0, r.1, shown_still _ r.2))
+  kept_still true m is = λ w shows. (let r = is w shows in (r.0, r.1, (r.2.0, r.2.1, shown_still _ r.2.2)))
 
   pub turned_still : (patient : Bool) (i c : ℕ) → i < length old → IsTurned patient old i c → IsTurned patient new i c
   turned_still patient i c inside turned m there =
@@ -40,8 +42,8 @@ module _ (old new : List MachineState) (more : Extends old new) where
 
 -- a CPU without work: its turn leads to the same machine
 kept_there : (patient : Bool) (kept : List MachineState) (i : ℕ) (m : MachineState) → slice_get kept i ≡ Some m → IsKept patient kept m
-kept_there false kept i m there = (i, m, there, λ w shows. shows)
-kept_there true kept i m there = λ w shows. (w.jobs, all_same w.jobs, (i, m, there, shows))
+kept_there false kept i m there = λ w shows. (w.jobs, all_like w.programs w.jobs, (i, m, there, shows))
+kept_there true kept i m there = λ w shows. (w.jobs, all_same w.jobs, (w.jobs, all_like w.programs w.jobs, (i, m, there, shows)))
 
 idle_turned : (patient : Bool) (kept : List MachineState) (i c : ℕ) → IsIdleAt kept i c → IsTurned patient kept i c
 idle_turned patient kept i c idle m there =
@@ -106,13 +108,13 @@ next_expanded patient now later old kept new next far less more same expanded =
     }
 
 whole : (patient : Bool) (kept : List MachineState) → ((i : ℕ) → i < length kept → IsExpanded patient kept i) → IsWhole patient kept
-whole false kept expanded = λ i m there c. expanded i (slice_get_within kept i m there) c m there
+whole false kept expanded = λ i m c there. expanded i (slice_get_within kept i m there) c m there
 whole true kept expanded = λ i m c there. expanded i (slice_get_within kept i m there) c m there
 
 pub all_expanded : (patient now : Bool) (old kept : List MachineState) (next : ℕ) → length kept ≤ next → ExpandedSoFar patient old next now kept → IsWhole now kept
 all_expanded patient now old kept next past far =
     whole now kept (λ i inside. subst (λ (b : Bool). IsExpanded b kept i) (sym far.same) (far.expanded i (omega arith)))
 
-pub covers_all : ClosedSetsCover → PatientSetsCover → (patient : Bool) (kept : List MachineState) → IsWhole patient kept → CoversAll patient kept
+pub covers_all : AlikeSetsCover → AlikePatientSetsCover → (patient : Bool) (kept : List MachineState) → IsWhole patient kept → CoversAll patient kept
 covers_all law patiently false kept closed = λ w z schedule fresh shown runs. law kept w z schedule closed fresh shown runs
 covers_all law patiently true kept closed = λ w z schedule fresh shown runs none. patiently kept w z schedule closed fresh shown runs none

@@ -7,6 +7,7 @@ use Rattle.bpf_machine.specs.Rounds.{HaveEnded}
 use Rattle.bpf_machine.specs.Machine.{MachineState, Shows}
 use Rattle.bpf_machine.specs.Patient.{NoneRanOut, AreRefilled}
 use Rattle.bpf_machine.specs.Ends.{RunsFreely}
+use Rattle.bpf_alike.specs.Ends.{IsShownAlikeAt}
 
 -- a machine to work with, the kept ones, and how many CPUs their host has
 pub record AlbumState : Type 0 where
@@ -35,10 +36,10 @@ IsShownAt kept i w = (m : MachineState) × (slice_get kept i ≡ Some m) × Show
 abbrev pub BeginsAt : List MachineState → World → Type 0
 BeginsAt kept w = IsFresh w × IsShownAt kept 0 w
 
--- all that the machine shows, the i-th kept machine shows
-abbrev pub IsKeptAt : List MachineState → ℕ → MachineState → Type 0
-IsKeptAt kept i m = (one : MachineState) × (slice_get kept i ≡ Some one)
-    × ((w : World) → Shows m w → Shows one w)
+-- all that the machine shows, the i-th kept machine shows, but for registers that are written before
+-- they are read
+abbrev pub IsKeptAlikeAt : List MachineState → ℕ → MachineState → Type 0
+IsKeptAlikeAt kept i m = (w : World) → Shows m w → IsShownAlikeAt kept i w
 
 -- no world is shown by two of them
 abbrev pub AreApart : List MachineState → Type 0

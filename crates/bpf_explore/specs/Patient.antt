@@ -9,7 +9,8 @@ use Rattle.bpf_machine.specs.Rounds.{HaveEnded}
 use Rattle.bpf_machine.specs.Laws.{IsFresh}
 use Rattle.bpf_machine.specs.Machine.{MachineState, Shows}
 use Rattle.bpf_machine.specs.Cover.{IsShown}
-use Rattle.bpf_machine.specs.Patient.{NoneRanOut, AreRefilled, IsCoveredRichly}
+use Rattle.bpf_machine.specs.Patient.{NoneRanOut, AreRefilled}
+use Rattle.bpf_alike.specs.Patient.{IsCoveredAlikeRichly}
 use Rattle.bpf_machine.specs.Ends.{RunsFreely, CanEnd, IsHung}
 use Rattle.bpf_machine.specs.Budgets.{MayRunOut}
 use Rattle.bpf_jobs.specs.Printed.{Tells}
@@ -69,10 +70,10 @@ abbrev pub LeadsOnTo : World → List (ℕ × ℕ) → MachineState → Type 0
 LeadsOnTo w by m = (y : World) × (schedule : List ℕ) × (z : World) × RunsSchedule w (unrolled by) y
     × RunsFreely y schedule z × Shows m z
 
--- the world lies beyond: such a machine shows it, but for steps that are left and for turns that no
--- store sees
+-- the world lies beyond: such a machine shows it, but for steps that are left, for turns that no store
+-- sees and for dead registers
 abbrev pub LiesBeyond : World → List (ℕ × ℕ) → World → Type 0
-LiesBeyond w by z = (m : MachineState) × LeadsOnTo w by m × IsCoveredRichly (m ∷ []) z
+LiesBeyond w by z = (m : MachineState) × LeadsOnTo w by m × IsCoveredAlikeRichly (m ∷ []) z
 
 -- so it does beyond one of these
 abbrev pub LiesBeyondOne : World → List (List (ℕ × ℕ)) → World → Type 0

@@ -1,12 +1,15 @@
--- The search through the machines that turns lead to: exact, or but for budgets.
+-- The search through the machines that turns lead to, but for registers that are written before they
+-- are read; a patient one also but for budgets.
 use Rattle.std.specs.Prelude.{◌≡◌, ℕ, zero, suc, ◌<◌, ◌≤◌, Bool, true, false, List, [], ◌∷◌, ◌++◌, Some, length, slice_get}
 use Rattle.bpf_machine.specs.Schedule.{World, RunsSchedule}
 use Rattle.bpf_machine.specs.Rounds.{HaveEnded}
 use Rattle.bpf_machine.specs.Laws.{IsFresh}
 use Rattle.bpf_machine.specs.Machine.{MachineState}
 use Rattle.bpf_machine.specs.Hands.{IsFree, NoneWaits}
-use Rattle.bpf_machine.specs.Cover.{TurnsTo, IsKeptAs, IsClosed, IsShown, IsCovered}
-use Rattle.bpf_machine.specs.Patient.{NoneRanOut, IsKeptRichly, IsClosedRichly, IsCoveredRichly}
+use Rattle.bpf_machine.specs.Cover.{TurnsTo, IsShown}
+use Rattle.bpf_machine.specs.Patient.{NoneRanOut}
+use Rattle.bpf_alike.specs.Covers.{IsKeptAlike, IsClosedAlike, IsCoveredAlike}
+use Rattle.bpf_alike.specs.Patient.{IsKeptAlikeRichly, IsClosedAlikeRichly, IsCoveredAlikeRichly}
 use Rattle.bpf_explore.specs.declared.frontier.Extent.{Extent}
 use Rattle.bpf_explore.specs.declared.frontier.Extent.TheVariants.{Whole, Limited, Refused}
 
@@ -28,10 +31,11 @@ is_refused Whole = false
 is_refused Limited = false
 is_refused Refused = true
 
--- all that the machine shows, a kept one shows; of a patient search, but for richer jobs
+-- all that the machine shows, a kept one shows, but for dead registers; of a patient search, and for
+-- richer jobs
 abbrev pub IsKept : Bool → List MachineState → MachineState → Type 0
-IsKept false kept m = IsKeptAs kept m
-IsKept true kept m = IsKeptRichly kept m
+IsKept false kept m = IsKeptAlike kept m
+IsKept true kept m = IsKeptAlikeRichly kept m
 
 -- the CPU's turn was made from the i-th kept machine, and where it led is kept
 abbrev pub IsTurned : Bool → List MachineState → ℕ → ℕ → Type 0
@@ -63,18 +67,19 @@ Extends old new = (more : List MachineState) × (new ≡ old ++ more)
 
 -- nothing is left to be kept
 abbrev pub IsWhole : Bool → List MachineState → Type 0
-IsWhole false kept = IsClosed kept
-IsWhole true kept = IsClosedRichly kept
+IsWhole false kept = IsClosedAlike kept
+IsWhole true kept = IsClosedAlikeRichly kept
 
 -- all that schedules lead to from a kept machine before its first turn is covered; and where no CPU
 -- has work left, a kept machine shows it. Of a patient search, while no job runs out of budget
 abbrev pub CoversAll : Bool → List MachineState → Type 0
 CoversAll false kept =
     (w z : World) (schedule : List ℕ) → IsFresh w → IsShown kept w → RunsSchedule w schedule z
-    → IsCovered kept z × (HaveEnded z.jobs → IsShown kept z)
+    → IsCoveredAlike kept z × (HaveEnded z.jobs → IsShown kept z)
 CoversAll true kept =
     (w z : World) (schedule : List ℕ) → IsFresh w → IsShown kept w → RunsSchedule w schedule z
-    → NoneRanOut z.jobs → IsCoveredRichly kept z × (HaveEnded z.jobs → IsShown kept z)
+    → NoneRanOut z.jobs
+    → IsCoveredAlikeRichly kept z × (HaveEnded z.jobs → IsShown kept z)
 
 -- the search came this far, where these are kept
 pub record CameTo (patient : Bool) (kept : List MachineState) (extent : Extent) (limit : ℕ) : Type 0

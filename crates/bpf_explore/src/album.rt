@@ -10,9 +10,11 @@ ghost use Rattle.bpf_machine.specs.Patient.{NoneRanOut};
 ghost use Rattle.bpf_explore.specs.Stores.{IsOfShape, no_store};
 ghost use Rattle.bpf_explore.specs.Private.Album.{AreKeptUnder, AreNumbersOf, HasEndedOn, IsNumberOf};
 
+use crate::classes::Classes;
 use crate::parts::Parts;
 use crate::stores::Stores;
 use crate::tuples::Tuples;
+use bpf_alike::find_all_live;
 use bpf_machine::{KeptJob, Machine};
 use bpf_shared::StoreShape;
 use std::alloc::{AllocError, Global};
@@ -123,7 +125,7 @@ fn keep_machine(
 }
 
 /// The numbers after the first.
-fn behind_first(numbers: &[u32]) -> &[u32]
+pub(crate) fn behind_first(numbers: &[u32]) -> &[u32]
     requires { 1 ≤ length numbers.now }
     ensures { result.now ≡ drop 1 numbers.now }
 {
@@ -200,6 +202,8 @@ pub struct Album {
     stores: Stores,
     parts: Parts,
     states: Tuples,
+    /// By which machines are found that are alike.
+    classes: Classes,
     /// Room to save a store.
     bytes: Vec<u8>,
     /// Room for the numbers of a state.
@@ -209,6 +213,7 @@ pub struct Album {
 impl Model for Album {
     ghost use Rattle.std.specs.Prelude.{◌≡◌, ◌+◌, length};
     ghost use Rattle.bpf_explore.specs.Album.{AlbumState};
+    ghost use Rattle.bpf_alike.specs.Worlds.{AreLiveTables, table_at};
     ghost use Rattle.bpf_explore.specs.Private.Album.{Shelf, machines, IsShelf, FitsShelf};
 
     ghost Value = { AlbumState };
@@ -227,7 +232,8 @@ impl Model for Album {
       parts = a.parts;
       states = a.states;
     } in
-        IsShelf a.shape shelf × FitsShelf a.shape shelf a.machine };
+        IsShelf a.shape shelf × FitsShelf a.shape shelf a.machine
+        × AreLiveTables a.machine.programs (table_at a.classes) };
 }
 
 impl Album {
@@ -238,7 +244,7 @@ impl Album {
     ghost use Rattle.bpf_machine.specs.Patient.{IsRefilled};
     ghost use Rattle.bpf_explore.specs.Search.{IsIdleAt};
     ghost use Rattle.bpf_explore.specs.Stores.{IsOfShape};
-    ghost use Rattle.bpf_explore.specs.Album.{ShowsFirst, IsKeptAt, AreApart, HaveEndedAt, NoneRanOutAt, HaveBudgets};
+    ghost use Rattle.bpf_explore.specs.Album.{ShowsFirst, IsKeptAlikeAt, AreApart, HaveEndedAt, NoneRanOutAt, HaveBudgets};
     ghost use Rattle.bpf_explore.specs.Private.Album.{AddsOne};
 
     /// Nothing is kept yet.
@@ -248,6 +254,7 @@ impl Album {
         ensures machine { IfOk result (λ a. a.machine ≡ machine) }
         ensures empty { IfOk result (λ a. a.kept ≡ []) }
     {
+        let tables = find_all_live(alloc, machine.programs())?;
         let width = machine.jobs().checked_add(1).ok_or(AllocError)?;
         Ok(Album {
             alloc,
@@ -256,6 +263,7 @@ impl Album {
             stores: Stores::new(alloc),
             parts: Parts::new(alloc),
             states: Tuples::new(alloc, width),
+            classes: Classes::new(alloc, tables),
             bytes: Vec::new(alloc),
             numbers: Vec::new(alloc),
         })
@@ -279,7 +287,8 @@ impl Album {
     /// About how many bytes of memory they take.
     pub fn bytes(&self) -> usize {
         let parts = self.parts.bytes().saturating_add(self.states.bytes());
-        self.stores.bytes(&self.shape).saturating_add(parts)
+        let found = self.classes.bytes().saturating_add(parts);
+        self.stores.bytes(&self.shape).saturating_add(found)
     }
 
     /// Takes a kept machine to work with.
@@ -329,9 +338,11 @@ impl Album {
         self.machine.turns_by(runs)
     }
 
-    /// Keeps the machine, unless one that shows all that it shows is found. Under which number.
+    /// Keeps the machine, unless one is found that shows all that it shows, but for registers that are
+    /// written before they are read. Under which number.
     pub(crate) fn keep(&mut self) -> Result<usize, AllocError>
-        ensures kept { IfOk result (λ n. IsKeptAt self.new.kept n self.new.machine) }
+        ensures within { IfOk result (λ n. n < length self.new.kept) }
+        ensures kept { IfOk result (λ n. IsKeptAlikeAt self.new.kept n self.new.machine) }
         ensures adds { AddsOne self.old.kept self.old.machine self.new.kept }
         ensures same { self.new.machine ≡ self.old.machine }
         ensures cpus { self.new.cpus ≡ self.old.cpus }
@@ -346,7 +357,12 @@ impl Album {
             &mut self.bytes,
             &mut self.numbers,
         )?;
-        let number = self.states.keep(self.alloc, &self.numbers)?;
+        let number = self.classes.keep(
+            self.alloc,
+            &mut self.states,
+            self.parts.jobs(),
+            &self.numbers,
+        )?;
         Ok(number)
     }
 

@@ -1,7 +1,6 @@
 //! Whether some schedule uses a budget up, after a patient search.
 
 ghost use Rattle.std.specs.Prelude.{◌≡◌, ◌<◌, ◌≤◌, ◌+◌, ◌⊎◌, ℕ, true, false, Some, IfOk, OnOk, length, slice_get};
-ghost use Rattle.bpf_machine.specs.Budgets.{depth_at, LeadsDeeper, IsSparing, AreSparing};
 ghost use Rattle.bpf_machine.specs.Machine.{MachineState};
 ghost use Rattle.bpf_explore.specs.Search.{IsIdleAt};
 ghost use Rattle.bpf_explore.specs.Private.Edges.{AreTurns};
@@ -37,7 +36,7 @@ pub(crate) fn judge_budgets(
     ensures suffice { IfOk result (λ b. b ≡ Budgets.Suffice → NoneRunsOut explorer.old.kept) }
     ensures out { IfOk result (λ b. b ≡ Budgets.RunOut → CanRunOut explorer.old.kept) }
 {
-    bpf_machine::laws::budgets_suffice();
+    bpf_alike::laws::alike_budgets_suffice();
     let depths = find_depths(alloc, explorer, turns)?;
     if is_sparing(explorer, turns, &depths.steps) {
         return Ok(Budgets::Suffice);

@@ -1,7 +1,8 @@
 //! How many steps of a job lead at most to a kept machine of a patient search.
 
 ghost use Rattle.std.specs.Prelude.{◌≡◌, ◌+◌, ◌<◌, ◌≤◌, ◌⊎◌, ℕ, true, length};
-ghost use Rattle.bpf_machine.specs.Budgets.{depth_at, AreSparing};
+ghost use Rattle.bpf_machine.specs.Budgets.{depth_at};
+ghost use Rattle.bpf_alike.specs.Budgets.{AreSparingAlike};
 ghost use Rattle.bpf_explore.specs.Album.{HaveBudgets};
 ghost use Rattle.bpf_explore.specs.Search.{IsIdleAt};
 ghost use Rattle.bpf_explore.specs.Private.Depths.{IsSparingAt, LeadsDeeperAt};
@@ -197,7 +198,7 @@ fn is_sparing_at(
 /// Whether turns lead ever deeper, and no kept machine is as deep as a budget.
 pub(crate) fn is_sparing(explorer: &PatientExplorer, turns: &Turns, depths: &[u64]) -> bool
     requires { AreTurns explorer.now.kept turns.now }
-    ensures { result ≡ true → (least : ℕ) × AreSparing explorer.now.kept depths.now least }
+    ensures { result ≡ true → (least : ℕ) × AreSparingAlike explorer.now.kept depths.now least }
 {
     let least = explorer.least_budget();
     for place in 0..explorer.len() {

@@ -1,7 +1,7 @@
 //! From which kept machines of a patient search an end can be reached.
 
 ghost use Rattle.std.specs.Prelude.{◌≡◌, ◌<◌, ◌≤◌, ◌⊎◌, true, false, Some, IfOk, length, slice_get, slice_set};
-ghost use Rattle.bpf_machine.specs.Ends.{IsStuck, AreStuck};
+ghost use Rattle.bpf_alike.specs.Ends.{IsStuckAlike, AreStuckAlike};
 ghost use Rattle.bpf_explore.specs.Album.{NoneRanOutAt};
 ghost use Rattle.bpf_explore.specs.Private.Edges.{AreTurns};
 ghost use Rattle.bpf_explore.specs.Private.Ends.{AllGoOn, LeadToEnds, LeadsToEnd, AreMarked, unmarked};
@@ -27,7 +27,7 @@ fn leads_to_end(explorer: &PatientExplorer, turns: &Turns, marks: &[bool], place
     ensures leads { result ≡ true → LeadToEnds explorer.now.kept marks.now
         → LeadsToEnd explorer.now.kept place }
     ensures stuck { result ≡ false → slice_get marks.now place ≡ Some false
-        → IsStuck explorer.now.kept marks.now place }
+        → IsStuckAlike explorer.now.kept marks.now place }
 {
     if explorer.has_ended(place) {
         return true;
@@ -61,7 +61,7 @@ fn mark_at(explorer: &PatientExplorer, turns: &Turns, marks: &mut Vec<bool>, pla
     ensures fewer { result ≡ true → unmarked marks.new.items < unmarked marks.old.items }
     ensures same { result ≡ false → marks.new.items ≡ marks.old.items }
     ensures stuck { result ≡ false → slice_get marks.old.items place ≡ Some false
-        → IsStuck explorer.now.kept marks.old.items place }
+        → IsStuckAlike explorer.now.kept marks.old.items place }
 {
     if mark_of(marks, place) {
         return false;
@@ -92,7 +92,7 @@ fn mark_more(explorer: &PatientExplorer, turns: &Turns, marks: &mut Vec<bool>) -
     ensures lead { LeadToEnds explorer.now.kept marks.new.items }
     ensures fewer { result ≡ true → unmarked marks.new.items < unmarked marks.old.items }
     ensures no_more { unmarked marks.new.items ≤ unmarked marks.old.items }
-    ensures stuck { result ≡ false → AreStuck explorer.now.kept marks.new.items }
+    ensures stuck { result ≡ false → AreStuckAlike explorer.now.kept marks.new.items }
 {
     let mut more = false;
     let count = explorer.len();

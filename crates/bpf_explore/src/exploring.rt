@@ -250,6 +250,7 @@ fn conclude_patiently(
         limit e.states e.hung.items e.budgets) }
 {
     crate::laws::patient_tell_all();
+    bpf_alike::laws::alike_can_end();
     explorer.leads();
     explorer.apart();
     explorer.refilled();

@@ -49,7 +49,8 @@ pub trait Frontier {
     ghost kept: { Self → List MachineState };
 
     /// The search is patient: a machine counts as kept also where only one is kept that has more
-    /// steps left of its budgets.
+    /// steps left of its budgets. In any search it does where one is kept that is alike but for
+    /// registers that are written before they are read.
     ghost is_patient: { Self → Bool };
 
     /// How many CPUs there are.
@@ -75,7 +76,7 @@ pub trait Frontier {
         ensures idle { (i c : ℕ) → result ≤ c → IsIdleAt (kept self.now) i c };
 
     /// Makes a CPU's turn from a kept machine, and then the turns of it that no store sees. Keeps
-    /// the machine that they lead to, unless it is kept already.
+    /// the machine that they lead to, unless it counts as kept already.
     fn turn(&mut self, place: usize, cpu: u8) -> Result<(), AllocError>
         requires { place < length (kept self.old) }
         ensures turned { OnOk result (IsTurned (is_patient self.new) (kept self.new) place cpu) }
@@ -134,8 +135,8 @@ pub fn explore<F: Frontier, O: Observer>(frontier: &mut F, limit: usize, observe
     ensures extends { Extends (F.kept frontier.old) (F.kept frontier.new) }
     ensures same { F.is_patient frontier.new ≡ F.is_patient frontier.old }
 {
-    bpf_machine::laws::closed_sets_cover();
-    bpf_machine::laws::patient_sets_cover();
+    bpf_alike::laws::alike_sets_cover();
+    bpf_alike::laws::alike_patient_sets_cover();
     let mut next = 0;
     while next < frontier.count() {
         if frontier.count() > limit {

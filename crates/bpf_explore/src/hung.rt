@@ -1,7 +1,7 @@
 //! States of a patient search from which no end can be reached.
 
 ghost use Rattle.std.specs.Prelude.{◌≡◌, ◌<◌, ◌⊎◌, ◌+◌, ℕ, true, false, Some, IfOk, IfSome, IfNone, OnOk, length, slice_get};
-ghost use Rattle.bpf_machine.specs.Ends.{AreStuck};
+ghost use Rattle.bpf_alike.specs.Ends.{AreStuckAlike};
 ghost use Rattle.bpf_explore.specs.Album.{NoneRanOutAt};
 ghost use Rattle.bpf_explore.specs.Private.Answers.{StartsFresh};
 ghost use Rattle.bpf_explore.specs.Private.Edges.{AreTurns};
@@ -98,14 +98,14 @@ fn hung_at(
     place: usize,
 ) -> Result<Option<Hung>, AllocError>
     requires place { place < length explorer.old.kept }
-    requires stuck { AreStuck explorer.old.kept marks.now }
+    requires stuck { AreStuckAlike explorer.old.kept marks.now }
     requires unmarked { slice_get marks.now place ≡ Some false }
     ensures same { explorer.new.kept ≡ explorer.old.kept }
     ensures hung { IfOk result (λ found. IfSome found (Hangs explorer.old.kept)) }
     ensures there { IfOk result (λ found. IfSome found (λ by. ComesTo explorer.old.kept by place)) }
     ensures out { IfOk result (λ found. IfNone found (CanRunOut explorer.old.kept)) }
 {
-    bpf_machine::laws::stuck_are_hung();
+    bpf_alike::laws::alike_stuck_are_hung();
     bpf_machine::laws::free_runs_agree();
     let _ = marks.len();
     let by = explorer.way(place)?;

@@ -4,6 +4,7 @@
 mod album;
 mod answers;
 mod budgets;
+mod classes;
 mod depths;
 mod dives;
 mod diving;

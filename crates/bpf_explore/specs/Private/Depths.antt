@@ -1,13 +1,14 @@
 -- How deep kept machines are, while it is tried.
 use Rattle.std.specs.Prelude.{◌≡◌, ℕ, ◌<◌, ◌⊎◌, List, Some, slice_get}
 use Rattle.bpf_machine.specs.Machine.{MachineState}
-use Rattle.bpf_machine.specs.Budgets.{depth_at, LeadsDeeper}
+use Rattle.bpf_machine.specs.Budgets.{depth_at}
+use Rattle.bpf_alike.specs.Budgets.{LeadsDeeperAlike}
 use Rattle.bpf_explore.specs.Search.{IsIdleAt}
 
 -- the CPU's turn leads deeper from the i-th
 abbrev pub LeadsDeeperAt : List MachineState → List ℕ → ℕ → ℕ → Type 0
 LeadsDeeperAt kept depths i c = (m : MachineState) → slice_get kept i ≡ Some m
-    → LeadsDeeper kept depths i m c
+    → LeadsDeeperAlike kept depths i m c
 
 -- it is less deep than this, and the turn of each CPU with work leads deeper
 abbrev pub IsSparingAt : List MachineState → List ℕ → ℕ → ℕ → Type 0

@@ -2,7 +2,7 @@
 use Rattle.std.specs.Prelude.{◌≡◌, ℕ, zero, suc, ◌+◌, ◌*◌, ◌/◌, ◌%◌, ◌<◌, ◌≤◌, List, [], ◌∷◌, Some, length, slice_get}
 use Rattle.bpf_machine.specs.Machine.{MachineState}
 use Rattle.bpf_machine.specs.Cover.{TurnsAhead}
-use Rattle.bpf_machine.specs.Ends.{IsKeptRichlyAt}
+use Rattle.bpf_alike.specs.Ends.{IsKeptAlikeRichlyAt}
 use Rattle.bpf_explore.specs.declared.turns.Arrival.{Arrival}
 use Rattle.bpf_explore.specs.declared.turns.Edge.{Edge}
 use Rattle.bpf_explore.specs.declared.turns.Turns.{Turns}
@@ -15,7 +15,7 @@ pub record IsEdge (kept : List MachineState) (e : Edge) : Type 0 where
   pub new : MachineState
   pub there : slice_get kept e.«from» ≡ Some old
   pub turns : TurnsAhead old e.cpu e.ahead new
-  pub is_kept : IsKeptRichlyAt kept e.to new
+  pub is_kept : IsKeptAlikeRichlyAt kept e.to new
 
 abbrev pub AreEdges : List MachineState → List Edge → Type 0
 AreEdges kept edges = (k : ℕ) (e : Edge) → slice_get edges k ≡ Some e → IsEdge kept e

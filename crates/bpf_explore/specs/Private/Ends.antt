@@ -1,7 +1,7 @@
 -- From which kept machines an end can be reached, while it is found.
 use Rattle.std.specs.Prelude.{◌≡◌, ℕ, zero, suc, Bool, true, false, List, [], ◌∷◌, Some, length, slice_get}
 use Rattle.bpf_machine.specs.Machine.{MachineState}
-use Rattle.bpf_machine.specs.Ends.{EndsIn, AreStuck}
+use Rattle.bpf_alike.specs.Ends.{EndsInAlike, AreStuckAlike}
 use Rattle.bpf_explore.specs.Album.{NoneRanOutAt}
 
 -- no job of any has ended out of budget
@@ -10,7 +10,7 @@ AllGoOn kept = (i : ℕ) → NoneRanOutAt kept i
 
 -- turns lead from it to an end
 abbrev pub LeadsToEnd : List MachineState → ℕ → Type 0
-LeadsToEnd kept i = (n : ℕ) × EndsIn kept n i
+LeadsToEnd kept i = (n : ℕ) × EndsInAlike kept n i
 
 -- how many aren't marked
 abbrev pub unmarked : List Bool → ℕ
@@ -26,4 +26,4 @@ LeadToEnds kept marks = (i : ℕ) → slice_get marks i ≡ Some true → LeadsT
 pub record AreMarked (kept : List MachineState) (marks : List Bool) : Type 0 where
   pub count : length marks ≡ length kept
   pub lead : LeadToEnds kept marks
-  pub stuck : AreStuck kept marks
+  pub stuck : AreStuckAlike kept marks

@@ -1,5 +1,5 @@
 use Rattle.std.proofs.Common.{◌≡◌, ◌+◌, false, if◌then◌else◌, length}
-use Rattle.bpf_machine.specs.Ends.{AreStuck}
+use Rattle.bpf_alike.specs.Ends.{AreStuckAlike}
 use Rattle.bpf_explore.specs.Private.Ends.{LeadToEnds, unmarked}
 use Rattle.bpf_explore.proofs.ends.mark_ends.Given as goal
 
@@ -7,7 +7,7 @@ abbrev pub invariant-loop-more : goal.invariant-loop-more
 invariant-loop-more l = record {
   count : length l.marks.items ≡ length l.explorer.kept;
   lead : LeadToEnds l.explorer.kept l.marks.items;
-  stuck : l.more ≡ false → AreStuck l.explorer.kept l.marks.items;
+  stuck : l.more ≡ false → AreStuckAlike l.explorer.kept l.marks.items;
 }
 
 -- each time but the last more are marked

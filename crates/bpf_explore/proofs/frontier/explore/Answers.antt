@@ -37,7 +37,7 @@ pub returns-clause-covers : goal.returns-clause-covers
 returns-clause-covers g c all =
     let kept = g.F.Frontier.kept in
     let is_patient = g.F.Frontier.is_patient in
-    covers_all c.closed_sets_cover.ensures c.patient_sets_cover.ensures (is_patient c.loop-next.frontier) (kept c.loop-next.frontier)
+    covers_all c.alike_sets_cover.ensures c.alike_patient_sets_cover.ensures (is_patient c.loop-next.frontier) (kept c.loop-next.frontier)
     (all_expanded (is_patient c.args.frontier.now) (is_patient c.loop-next.frontier) (kept c.args.frontier.now) (kept c.loop-next.frontier) c.loop-next.next (omega arith) c.loop-next.invariant.far)
 
 pub returns-clause-made : goal.returns-clause-made

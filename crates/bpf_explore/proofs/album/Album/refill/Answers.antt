@@ -2,13 +2,13 @@ use Rattle.std.proofs.Common.{◌∙◌, ap, subst}
 use Rattle.bpf_machine.specs.Machine.{MachineState}
 use Rattle.bpf_machine.specs.Patient.{IsRefilled}
 use Rattle.bpf_explore.specs.Private.Album.{AlbumState}
-use Rattle.bpf_explore.proofs.AlbumLaws.{fits_after, kept_with}
+use Rattle.bpf_explore.proofs.AlbumLaws.{all_after, kept_with}
 use Rattle.bpf_explore.proofs.album.Album.refill.Goals as goal
 
 pub invariant_of-self : goal.invariant_of-self
 invariant_of-self c =
     let m = c.self.inside in
-    fits_after m.shape m.stores m.parts m.states m.machine c.refill.new.self c.refill.ensures.same c.self.invariant
+    all_after m.shape m.stores m.parts m.states m.classes m.machine c.refill.new.self c.refill.ensures.same c.self.invariant
 
 pub returns-clause-refills : goal.returns-clause-refills
 returns-clause-refills c =

@@ -2,13 +2,13 @@ use Rattle.std.proofs.Common.{◌∙◌, ap, sym, subst}
 use Rattle.bpf_machine.specs.Machine.{MachineState, Shows}
 use Rattle.bpf_machine.specs.Cover.{TurnsTo, TurnsAhead}
 use Rattle.bpf_explore.specs.Private.Album.{AlbumState}
-use Rattle.bpf_explore.proofs.AlbumLaws.{fits_after, kept_with}
+use Rattle.bpf_explore.proofs.AlbumLaws.{all_after, kept_with}
 use Rattle.bpf_explore.proofs.album.Album.turn_ahead.Goals as goal
 
 pub invariant_of-self : goal.invariant_of-self
 invariant_of-self c =
     let m = c.self.inside in
-    fits_after m.shape m.stores m.parts m.states m.machine c.turn_ahead.new.self c.turn_ahead.ensures.same c.self.invariant
+    all_after m.shape m.stores m.parts m.states m.classes m.machine c.turn_ahead.new.self c.turn_ahead.ensures.same c.self.invariant
 
 pub returns-clause-turns : goal.returns-clause-turns
 returns-clause-turns c =

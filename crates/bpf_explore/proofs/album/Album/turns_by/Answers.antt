@@ -1,13 +1,13 @@
 use Rattle.std.proofs.Common.{◌∙◌, ap, subst, sym}
 use Rattle.bpf_machine.specs.Machine.{MachineState, Shows}
 use Rattle.bpf_explore.specs.Private.Album.{AlbumState}
-use Rattle.bpf_explore.proofs.AlbumLaws.{fits_after, kept_with}
+use Rattle.bpf_explore.proofs.AlbumLaws.{all_after, kept_with}
 use Rattle.bpf_explore.proofs.album.Album.turns_by.Goals as goal
 
 pub invariant_of-self : goal.invariant_of-self
 invariant_of-self c =
     let m = c.self.inside in
-    fits_after m.shape m.stores m.parts m.states m.machine c.turns_by.new.self c.turns_by.ensures.same c.self.invariant
+    all_after m.shape m.stores m.parts m.states m.classes m.machine c.turns_by.new.self c.turns_by.ensures.same c.self.invariant
 
 pub returns-clause-runs : goal.returns-clause-runs
 returns-clause-runs c w shows =

@@ -1,6 +1,6 @@
 use Rattle.std.proofs.Common.{◌∙◌, ◌<◌, List, length, sym, ap, subst, arith}
 use Rattle.bpf_machine.specs.Machine.{MachineState}
-use Rattle.bpf_machine.specs.Cover.{IsKeptAs}
+use Rattle.bpf_alike.specs.Covers.{IsKeptAlike}
 use Rattle.bpf_machine.specs.Schedule.{RunsSchedule}
 use Rattle.bpf_explore.specs.declared.explorer.Origin.{Origin}
 use Rattle.bpf_explore.specs.Album.{AlbumState}
@@ -37,7 +37,7 @@ returns-clause-turned c =
     let after = c.turn_ahead-made.new.self.machine in
     let kept = c.turn_ahead-made.ensures.same ∙ c.restore.ensures.same in
     let more = subst (λ (ms : List MachineState). Extends ms all) kept (adds_extends c.turn_ahead-made.new.self.kept all after c.keep-kept.ensures.adds) in
-    turned m.album.kept all c.args.place c.args.cpu c.restore.new.self.machine after c.in_ok-restore.ensures.ok more c.turn_ahead-made.ensures.turns (subst (IsKeptAs all) c.keep-kept.ensures.same (kept_somewhere all c.in_ok-kept.field-0 c.keep-kept.new.self.machine c.in_ok-kept.ensures.kept))
+    turned m.album.kept all c.args.place c.args.cpu c.restore.new.self.machine after c.in_ok-restore.ensures.ok more c.turn_ahead-made.ensures.turns (subst (IsKeptAlike all) c.keep-kept.ensures.same (kept_somewhere all c.in_ok-kept.field-0 c.keep-kept.new.self.machine c.in_ok-kept.ensures.kept))
 
 pub returns-clause-width : goal.returns-clause-width
 returns-clause-width c = c.keep-kept.ensures.cpus ∙ (c.turn_ahead-made.ensures.cpus ∙ (c.restore.ensures.cpus ∙ ap (λ (a : AlbumState). a.cpus) c.self.view_is))

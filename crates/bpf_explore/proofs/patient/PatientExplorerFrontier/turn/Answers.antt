@@ -4,7 +4,7 @@ use Rattle.bpf_machine.specs.Machine.{MachineState}
 use Rattle.bpf_explore.specs.declared.explorer.Origin.{Origin}
 use Rattle.bpf_explore.specs.declared.turns.Arrival.{Arrival}
 use Rattle.bpf_explore.specs.declared.turns.Edge.{Edge}
-use Rattle.bpf_explore.specs.Album.{PatientState, IsKeptAt}
+use Rattle.bpf_explore.specs.Album.{PatientState, IsKeptAlikeAt}
 use Rattle.bpf_explore.specs.Search.{Extends}
 use Rattle.bpf_explore.specs.Private.Album.{AddsOne}
 use Rattle.bpf_explore.proofs.AlbumLaws.{adds_extends}
@@ -77,9 +77,9 @@ invariant_of-self-2 c =
     (subst (λ (ms : List MachineState). AddsOne ms c.refill.new.self.machine c.keep-kept.new.self.kept) (c.refill.ensures.same ∙ (c.turn_ahead-made.ensures.same ∙ c.restore.ensures.same)) c.keep-kept.ensures.adds)
     c.in_ok-push.ensures.items c.len.ensures c.truncate.ensures.items c.self.invariant in
     let more = subst (λ (ms : List MachineState). Extends ms new) same (adds_extends c.refill.new.self.kept new refilled c.keep-kept.ensures.adds) in
-    let there = subst (λ (x : MachineState). IsKeptAt new c.in_ok-number.number x) c.keep-kept.ensures.same c.in_ok-number.ensures.kept in
+    let there = subst (λ (x : MachineState). IsKeptAlikeAt new c.in_ok-number.number x) c.keep-kept.ensures.same c.in_ok-number.ensures.kept in
     let e : Edge = record { from = c.args.place; to = c.in_ok-to.to; ahead = c.in_ok-ahead.ahead; cpu = c.args.cpu } in
-    let edge = edge_made m.album.kept new c.restore.new.self.machine c.turn_ahead-made.new.self.machine refilled c.args.place c.args.cpu c.turn_ahead-made.result c.in_ok-number.number e c.in_ok-restore.ensures.ok more c.turn_ahead-made.ensures.ahead c.refill.ensures.refills there refl c.in_ok-to.ensures c.in_ok-ahead.ensures refl in
+    let edge = edge_made m.album.kept new c.restore.new.self.machine c.turn_ahead-made.new.self.machine refilled c.args.place c.args.cpu c.turn_ahead-made.result c.in_ok-number.number e c.in_ok-restore.ensures.ok more c.turn_ahead-made.ensures.ahead c.refill.ensures.refills c.in_ok-number.ensures.within there refl c.in_ok-to.ensures c.in_ok-ahead.ensures refl in
     let size : vec_len m.arrivals ≡ length m.arrivals.items = omega (arith, m.arrivals.ok.0) in
     let here : length m.arrivals.items / m.album.cpus ≡ c.args.place = subst (λ (n : ℕ). n / m.album.cpus ≡ c.args.place) (c.len-number.ensures ∙ size) (subst (λ (n : ℕ). c.len-number.result / n ≡ c.args.place) c.cpus-cpus.ensures.cpus (c.if-not-is_next.ensures.place refl)) in
     let own : length m.arrivals.items % m.album.cpus ≡ c.args.cpu = subst (λ (n : ℕ). n % m.album.cpus ≡ c.args.cpu) (c.len-number.ensures ∙ size) (subst (λ (n : ℕ). c.len-number.result % n ≡ c.args.cpu) c.cpus-cpus.ensures.cpus (c.if-not-is_next.ensures.cpu refl)) in
@@ -92,7 +92,7 @@ returns-clause-turned c =
     let same = c.refill.ensures.same ∙ (c.turn_ahead-made.ensures.same ∙ c.restore.ensures.same) in
     let refilled = c.refill.new.self.machine in
     let more = subst (λ (ms : List MachineState). Extends ms new) same (adds_extends c.refill.new.self.kept new refilled c.keep-kept.ensures.adds) in
-    let there = subst (λ (x : MachineState). IsKeptAt new c.in_ok-number.number x) c.keep-kept.ensures.same c.in_ok-number.ensures.kept in
+    let there = subst (λ (x : MachineState). IsKeptAlikeAt new c.in_ok-number.number x) c.keep-kept.ensures.same c.in_ok-number.ensures.kept in
     turned_richly m.album.kept new c.args.place c.args.cpu c.in_ok-number.number c.restore.new.self.machine c.turn_ahead-made.new.self.machine refilled c.in_ok-restore.ensures.ok more c.turn_ahead-made.ensures.turns c.refill.ensures.refills there
 
 pub returns-clause-made : goal.returns-clause-made
