@@ -15,7 +15,7 @@ _ebpf() {
         disasm) words='--explain --pc -h --help' files=1 ;;
         run) words='--explain --keys --maps --events --packets --check --by --workers --stats --json -h --help' files=1 ;;
         explore) words='--explain --patient --json --progress --races --sync --limit --show -h --help' files=1 ;;
-        check) words='--explain --patient --json --progress --lenient --limit -h --help' files=1 ;;
+        check) words='--explain --patient --json --progress --lenient --states --limit -h --help' files=1 ;;
         expand) words='--explain --first --patient --races -h --help' files=1 ;;
         debug) words='--explain --echo --strict -h --help' files=1 ;;
         explain) words='-h --help' ;;

@@ -54,6 +54,7 @@ complete -c ebpf -n '__fish_seen_subcommand_from check' -l patient -f -d 'Looks 
 complete -c ebpf -n '__fish_seen_subcommand_from check' -l json -f -d 'Prints a JSON object in place of each line'
 complete -c ebpf -n '__fish_seen_subcommand_from check' -l progress -f -d 'Prints on standard error how far the search is, also where that is no terminal'
 complete -c ebpf -n '__fish_seen_subcommand_from check' -l lenient -f -d 'Passes over comments that are meant to expect something and can'\''t'
+complete -c ebpf -n '__fish_seen_subcommand_from check' -l states -f -d 'Prints before a file'\''s tests how many states were kept, as a comment'
 complete -c ebpf -n '__fish_seen_subcommand_from check' -l limit -x -d 'Ends the search once more states than this are kept, 0 to 1000000000'
 complete -c ebpf -n '__fish_seen_subcommand_from check' -s h -l help -f -d 'Print help'
 complete -c ebpf -n '__fish_seen_subcommand_from check' -F

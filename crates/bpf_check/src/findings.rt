@@ -11,6 +11,7 @@ use std::marker::Model;
 pub struct Findings {
     answers: Vec<Answer>,
     all: bool,
+    states: usize,
     patient: bool,
     hung: Vec<Hung>,
 }
@@ -23,6 +24,7 @@ impl Model for Findings {
     ghost view = { λ f. record {
       answers = f.answers.items;
       all = f.all;
+      states = f.states;
       patient = f.patient;
       hung = f.hung.items;
     } };
@@ -34,6 +36,7 @@ impl Findings {
         ensures { result ≡ record {
           answers = explored.answers.items;
           all = explored.all;
+          states = explored.states;
           patient = false;
           hung = [];
         } }
@@ -41,6 +44,7 @@ impl Findings {
         Findings {
             answers: explored.answers,
             all: explored.all,
+            states: explored.states,
             patient: false,
             hung: Vec::new(alloc),
         }
@@ -51,6 +55,7 @@ impl Findings {
         ensures { result ≡ record {
           answers = explored.answers.items;
           all = explored.all;
+          states = explored.states;
           patient = true;
           hung = explored.hung.items;
         } }
@@ -58,6 +63,7 @@ impl Findings {
         Findings {
             answers: explored.answers,
             all: explored.all,
+            states: explored.states,
             patient: true,
             hung: explored.hung,
         }
@@ -75,6 +81,13 @@ impl Findings {
         ensures { result ≡ self.now.all }
     {
         self.all
+    }
+
+    /// How many states were kept.
+    pub fn states(&self) -> usize
+        ensures { result ≡ self.now.states }
+    {
+        self.states
     }
 
     /// Whether outcomes are those in which no budget is used up, and states were looked for that are

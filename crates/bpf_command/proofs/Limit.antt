@@ -7,7 +7,7 @@ use Rattle.clap.specs.Faults.{level_fault}
 use Rattle.clap.specs.Walk.{with_default, values_or_missing, Held, Row, Rule, Text, answers_to, finished, has_row, nothing_held, rows_after, settled, walk}
 use Rattle.clap.specs.Words.{fault_of, subcommand_of}
 use Rattle.bpf_command.specs.declared.command.TheConstants.{MAX_LIMIT}
-use Rattle.bpf_command.specs.CommandLine.{HasLimit, IsSearchName, check, ebpf, explained, explore, file, files, json, lenient, limit, patient, progress, races, show, sync}
+use Rattle.bpf_command.specs.CommandLine.{HasLimit, IsSearchName, check, ebpf, explained, explore, file, files, json, lenient, limit, patient, progress, races, show, states, sync}
 use Rattle.bpf_command.proofs.Limited.{limited_keeps, with_limited}
 use Rattle.bpf_command.proofs.Ranges as range
 use Rattle.bpf_command.proofs.Ranges.{no_default}
@@ -77,13 +77,17 @@ lenient_keeps : Keeps AreFine false (filled lenient)
 lenient_keeps values rows e fine =
     range.other_used_fine (codes "limit") 0 MAX_LIMIT (codes "lenient") (values_or_missing (filled lenient) values) rows refl fine
 
+states_keep : Keeps AreFine false (filled states)
+states_keep values rows e fine =
+    range.other_used_fine (codes "limit") 0 MAX_LIMIT (codes "states") (values_or_missing (filled states) values) rows refl fine
+
 explore_keeps : range.AllKeep (codes "limit") 0 MAX_LIMIT explore_rules
 explore_keeps =
     (explained_keeps, (patient_keeps, (json_keeps, (progress_keeps, (races_keep, (sync_keeps, (limit_keeps, (show_keeps, (file_keeps, ((λ values rows e fine. fine), tt))))))))))
 
 check_keeps : range.AllKeep (codes "limit") 0 MAX_LIMIT check_rules
 check_keeps =
-    (explained_keeps, (patient_keeps, (json_keeps, (progress_keeps, (lenient_keeps, (limit_keeps, (files_keep, ((λ values rows e fine. fine), tt))))))))
+    (explained_keeps, (patient_keeps, (json_keeps, (progress_keeps, (lenient_keeps, (states_keep, (limit_keeps, (files_keep, ((λ values rows e fine. fine), tt)))))))))
 
 -- ---- the rows
 
@@ -116,13 +120,16 @@ asking_fine rows fine =
 limited_asking : (rows : List Row) → AreFine rows → HasLimit (with_default (asking rows) (filled limit))
 limited_asking rows fine = with_limited (codes "limit") MAX_LIMIT refl refl (asking rows) (asking_fine rows fine)
 
--- or `--lenient`
+-- or `--lenient` and `--states`
 abbrev passing : List Row → List Row
-passing rows = with_default (waiting rows) (filled lenient)
+passing rows = with_default (with_default (waiting rows) (filled lenient)) (filled states)
 
 passing_fine : (rows : List Row) → AreFine rows → AreFine (passing rows)
 passing_fine rows fine =
-    range.default_fine (codes "limit") 0 MAX_LIMIT (codes "lenient") (codes "false" ∷ []) (waiting rows) refl (waiting_fine rows fine)
+    let waits = waiting rows in
+    let passes = with_default waits (filled lenient) in
+    let passed = range.default_fine (codes "limit") 0 MAX_LIMIT (codes "lenient") (codes "false" ∷ []) waits refl (waiting_fine rows fine) in
+    range.default_fine (codes "limit") 0 MAX_LIMIT (codes "states") (codes "false" ∷ []) passes refl passed
 
 limited_fine : (rows : List Row) → AreFine rows → HasLimit (with_default (passing rows) (filled limit))
 limited_fine rows fine = with_limited (codes "limit") MAX_LIMIT refl refl (passing rows) (passing_fine rows fine)

@@ -182,8 +182,13 @@ lenient = record (new_rule (codes "lenient")) {
   action = Some SetTrue;
 }
 
+-- `--states`
+abbrev pub states : Rule
+states = record (new_rule (codes "states")) { long = Some (codes "states"); action = Some SetTrue }
+
 abbrev pub check : App
-check = with_rule (with_rule (with_rule (searching (codes "check")) lenient) limit) files
+check = with_rule (with_rule (with_rule (with_rule (searching (codes "check")) lenient) states) limit)
+    files
 
 -- `--first`
 abbrev pub first : Rule

@@ -61,6 +61,7 @@ NamesCheck rows options = NamesSearch rows options.search
     × (options.limited ≡ is_given (codes "limit") rows)
     × (options.lenient ≡ is_given (codes "lenient") rows)
     × (options.lines ≡ is_given (codes "json") rows)
+    × (options.states ≡ is_given (codes "states") rows)
 
 -- the options of a search for races
 abbrev pub NamesRaces : List Row → RaceOptions → Type 0

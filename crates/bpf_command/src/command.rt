@@ -86,6 +86,8 @@ pub struct CheckOptions {
     pub lenient: bool,
     /// To print before each test the line of the file that expects it, for its JSON object.
     pub lines: bool,
+    /// To print before a file's tests how many states were kept.
+    pub states: bool,
 }
 
 /// The options of a search of which one outcome is shown.

@@ -305,6 +305,7 @@ fn check_of(options: &ArgMatches) -> CheckOptions
         limited: is_given(options, "limit"),
         lenient: is_given(options, "lenient"),
         lines: is_given(options, "json"),
+        states: is_given(options, "states"),
     }
 }
 

@@ -3,7 +3,7 @@
 ghost use Rattle.std.specs.Prelude.{◌≡◌, false, IfOk};
 ghost use Rattle.clap.specs.Words.{app_of, rule_of, shape_of};
 ghost use Rattle.clap.specs.declared.builder.command.Command.TheViews.{out-Command as fields_of};
-ghost use Rattle.bpf_command.specs.CommandLine.{asm, asm_shows, bare, budget, check, code_rule, context, debug, debug_options, disasm, ebpf, echo, events, expand, expand_options, explain, explained, explore, explore_options, file, files, first, for_files, hex, hex_options, judged, json, keys, lenient, limit, listing, maps, one_program, packets, patient, pc, progress, races, run, run_lists, run_options, run_shows, runs, schedule, searching, show, stats, strict, sync, workers, working};
+ghost use Rattle.bpf_command.specs.CommandLine.{asm, asm_shows, bare, budget, check, code_rule, context, debug, debug_options, disasm, ebpf, echo, events, expand, expand_options, explain, explained, explore, explore_options, file, files, first, for_files, hex, hex_options, judged, json, keys, lenient, limit, listing, maps, one_program, packets, patient, pc, progress, races, run, run_lists, run_options, run_shows, runs, schedule, searching, show, states, stats, strict, sync, workers, working};
 
 use crate::command::{MAX_LIMIT, MAX_WORKERS};
 use bpf_base::MAX_BUDGET;
@@ -168,6 +168,8 @@ A comment of three words or more that begins with 'always', 'sometimes' or 'neve
 away, and can't be expected of this file, is refused: L11. So are 'always ends' and
 'sometimes hung' without --patient, and 'check limit' without its number. --lenient passes such
 comments over.
+
+With --states a comment '# N states' comes before a file's tests, the count that 'ebpf explore' prints.
 
 The tests of several files are one list: their numbers go on, and each names its file. A file that is
 refused has a line 'refused CODE - FILE' and no test. The exit status is that of the worst file, where
@@ -669,6 +671,16 @@ fn lenient_option<'a>(alloc: Global) -> Arg<'a>
         .help("Passes over comments that are meant to expect something and can't")
 }
 
+fn states_option<'a>(alloc: Global) -> Arg<'a>
+    ensures rule { rule_of result ≡ states }
+    ensures own { result.global ≡ false }
+{
+    Arg::new(alloc, "states")
+        .long("states")
+        .action(ArgAction::SetTrue)
+        .help("Prints before a file's tests how many states were kept, as a comment")
+}
+
 fn check_command<'a>(alloc: Global) -> Result<Command<'a>, AllocError>
     ensures shape { IfOk result (λ c. shape_of c ≡ check.top) }
     ensures own { IfOk result (λ c. (fields_of c).has_globals ≡ false) }
@@ -677,6 +689,7 @@ fn check_command<'a>(alloc: Global) -> Result<Command<'a>, AllocError>
         .about("Prints whether all that a run file's jobs can reach is as its comments expect")
         .after_help(CHECK_NOTES)
         .arg(lenient_option(alloc))?
+        .arg(states_option(alloc))?
         .arg(limit_option(alloc))?
         .arg(files_argument(alloc))
 }

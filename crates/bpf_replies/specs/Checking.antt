@@ -1,5 +1,6 @@
 -- What `check` replies: whether a run file's outcomes are as its comments expect.
-use Rattle.std.specs.Prelude.{◌≡◌, ◌++◌, ◌||◌, ℕ, Bool, true, false, List, [], if◌then◌else◌, string_bytes, unwrap_or}
+use Rattle.std.specs.Prelude.{◌≡◌, ◌++◌, ◌||◌, ℕ, Bool, true, false, List, [], Option, None, Some, codes, if◌then◌else◌, string_bytes, unwrap_or}
+use Rattle.std.specs.Fmt.{decimal}
 use Rattle.bpf_command.specs.declared.command.CheckOptions.{CheckOptions}
 use Rattle.bpf_check.specs.Expectation.{Expected}
 use Rattle.bpf_check.specs.Findings.{Findings}
@@ -46,7 +47,21 @@ limit_of o text = limit_by o (settings_of text)
 abbrev pub reading_by : CheckOptions → (text : List ℕ) → Reading
 reading_by o text = for_check (is_patient o text) o.lenient
 
--- `check`: comments that say in which ways threads may have more outcomes; a test an expectation, each
+-- ---- what is printed before tests
+
+-- how many states were searched, where that is asked for, as a comment after a mark
+abbrev pub states_text : (mark : List ℕ) → Option ℕ → List ℕ
+states_text mark None = []
+states_text mark (Some n) = codes "# " ++ (mark ++ (decimal n ++ codes " states\n"))
+
+abbrev pub states_of : CheckOptions → Findings → Option ℕ
+states_of o f = if o.states then Some f.states else None
+
+-- and in which ways threads may reach more
+abbrev pub head_text : (mark : List ℕ) → Option ℕ → Threads → List ℕ
+head_text mark states threads = states_text mark states ++ notes_text mark threads
+
+-- `check`: comments that count states and say in which ways threads may have more outcomes; a test an expectation, each
 -- with its verdict by the findings of a search through all schedules, and of a patient one first if each
 -- can end; or the first refusal of the file or its comments
 abbrev pub IsCheckedFile : CheckOptions → List ℕ → Reply → Type 0
@@ -56,7 +71,7 @@ IsCheckedFile o text (reply.Outcomes printed unmet told) =
     × AreLinesIn (reading_by o text) o.lines text lines
     × AreFindingsBy (is_patient o text) (limit_of o text) text f
     × (threads : Threads) × AreThreadsOf text threads
-    × (string_bytes printed ≡ notes_text [] threads
+    × (string_bytes printed ≡ head_text [] (states_of o f) threads
     ++ checked_text lines f expected (verdicts_of f expected))
     × (unmet ≡ is_unmet (conclusion_of f expected))
     × (told ≡ is_told (conclusion_of f expected))

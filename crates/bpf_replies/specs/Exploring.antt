@@ -51,10 +51,10 @@ AreFoundBy true text answers all limit states = (hung : List (List (ℕ × ℕ))
 -- what tests rest on, of either search
 abbrev pub AreFindingsBy : (patient : Bool) → (limit : ℕ) → List ℕ → Findings → Type 0
 AreFindingsBy false limit text f = (f.patient ≡ false)
-    × ((states : ℕ) × AreAnswersTo text f.answers f.all limit states)
+    × AreAnswersTo text f.answers f.all limit f.states
 AreFindingsBy true limit text f = (f.patient ≡ true)
-    × ((states : ℕ) × (budgets : Budgets)
-    × ArePatientAnswersTo text f.answers f.all limit states f.hung budgets)
+    × ((budgets : Budgets)
+    × ArePatientAnswersTo text f.answers f.all limit f.states f.hung budgets)
 
 -- whether some state is hung
 abbrev pub is_any_hung : List (List (ℕ × ℕ)) → Bool

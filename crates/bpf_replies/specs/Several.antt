@@ -5,13 +5,12 @@ use Rattle.bpf_check.specs.Expectation.{Expected}
 use Rattle.bpf_check.specs.Findings.{Findings}
 use Rattle.bpf_check.specs.Listing.{count_of, listed_text, name_text, plan_text}
 use Rattle.bpf_check.specs.Verdict.{conclusion_of, verdicts_of}
-use Rattle.bpf_replies.specs.Checking.{is_patient, is_told, is_unmet, limit_of, reading_by}
+use Rattle.bpf_replies.specs.Checking.{head_text, is_patient, is_told, is_unmet, limit_of, reading_by, states_of}
 use Rattle.bpf_replies.specs.Input.{RefusesInput}
 use Rattle.bpf_replies.specs.Diagnostic.{refusal_text}
 use Rattle.bpf_replies.specs.Comments.{AreLinesIn, IsExpectedIn, RefusesComments}
 use Rattle.bpf_replies.specs.Exploring.{AreFindingsBy}
 use Rattle.bpf_replies.specs.Threading.{AreThreadsOf}
-use Rattle.bpf_threads.specs.Lines.{notes_text}
 use Rattle.bpf_threads.specs.declared.threads.Threads.{Threads}
 use Rattle.bpf_replies.specs.declared.input.TheConstants.{MAX_INPUT}
 use Rattle.bpf_replies.specs.declared.refusal.Refusal.{Refusal}
@@ -40,12 +39,12 @@ refused_part name r = record {
   told = true;
 }
 
--- of one whose outcomes a search found: comments that say of threads, and its tests, after this many of
--- the files before it
-abbrev pub checked_part : (name : List ℕ) → (lines : List ℕ) → (before : ℕ) → Findings → Threads → List Expected
-    → Part
-checked_part name lines before f threads expected = record {
-  text = notes_text (name ++ codes ": ") threads
+-- of one whose outcomes a search found: comments that count states and say of threads, and its tests,
+-- after this many of the files before it
+abbrev pub checked_part : CheckOptions → (name : List ℕ) → (lines : List ℕ) → (before : ℕ) → Findings → Threads
+    → List Expected → Part
+checked_part o name lines before f threads expected = record {
+  text = head_text (name ++ codes ": ") (states_of o f) threads
       ++ listed_text (name_text name) lines before f expected (verdicts_of f expected);
   tests = count_of f expected;
   refused = false;
@@ -63,7 +62,7 @@ IsTextPart o name before text part =
     × AreLinesIn (reading_by o text) o.lines text lines
     × AreFindingsBy (is_patient o text) (limit_of o text) text f
     × (threads : Threads) × AreThreadsOf text threads
-    × (part ≡ checked_part name lines before f threads expected))
+    × (part ≡ checked_part o name lines before f threads expected))
 
 -- the part of a file of these bytes
 abbrev pub IsPart : CheckOptions → (name : List ℕ) → (before : ℕ) → List ℕ → Part → Type 0

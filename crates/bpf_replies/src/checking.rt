@@ -1,12 +1,12 @@
 //! `ebpf check`: whether a run file's outcomes are as its comments expect, whatever the order of the
 //! CPUs' turns.
 
-ghost use Rattle.std.specs.Prelude.{◌≡◌, ◌≤◌, IfErr, IfOk, IfSome};
+ghost use Rattle.std.specs.Prelude.{◌≡◌, ◌≤◌, ◌++◌, IfErr, IfOk, IfSome, string_bytes};
 ghost use Rattle.bpf_check.specs.declared.settings.TheConstants.{MOST_STATES};
 ghost use Rattle.bpf_command.specs.declared.command.TheConstants.{MAX_LIMIT};
 ghost use Rattle.bpf_replies.specs.Answer.{Replies};
 ghost use Rattle.bpf_replies.specs.Comments.{AreLinesIn, IsExpectedIn, RefusesComments, for_check};
-ghost use Rattle.bpf_replies.specs.Checking.{IsCheckedFile, is_patient, is_told, is_unmet, limit_by, limit_of, reading_by};
+ghost use Rattle.bpf_replies.specs.Checking.{IsCheckedFile, head_text, is_patient, is_told, is_unmet, limit_by, limit_of, reading_by, states_of, states_text};
 ghost use Rattle.bpf_replies.specs.Exploring.{AreFindingsBy};
 ghost use Rattle.bpf_replies.specs.Threading.{AreThreadsOf};
 
@@ -14,11 +14,11 @@ use crate::comments::{Reading, expected_in, lines_in};
 use crate::exploring::findings_in;
 use crate::refusal::Refusal;
 use crate::reply::Reply;
-use crate::threading::{threads_in, with_notes};
+use crate::threading::threads_in;
 use bpf_check::{Asked, Conclusion, Expectation, Findings, Settings, check_explored, settings_of};
 use bpf_command::{CheckOptions, SearchOptions};
 use bpf_explore::Observer;
-use bpf_threads::Threads;
+use bpf_threads::{Threads, push_notes};
 use std::alloc::{AllocError, Global};
 
 pub(crate) fn is_unmet(conclusion: Conclusion) -> bool
@@ -117,6 +117,45 @@ pub(crate) fn grounds_in<O: Observer>(
     })
 }
 
+/// How many states a search kept, where that is to be printed.
+pub(crate) fn states_of(options: &CheckOptions, findings: &Findings) -> Option<usize>
+    ensures { result ≡ states_of options.now findings.now }
+{
+    if options.states {
+        Some(findings.states())
+    } else {
+        None
+    }
+}
+
+/// The comment that counts states, after a mark.
+fn states_text(alloc: Global, mark: &str, states: Option<usize>) -> Result<String, AllocError>
+    ensures { IfOk result (λ text. string_bytes text ≡ states_text mark.now states) }
+{
+    match states {
+        Some(states) => format!(in alloc; "# {mark}{states} states\n"),
+        None => Ok(String::new(alloc)),
+    }
+}
+
+/// What is printed of tests, after comments that count states and say in which ways threads may reach
+/// more, each after a mark.
+pub(crate) fn with_head(
+    alloc: Global,
+    mark: &str,
+    states: Option<usize>,
+    threads: Threads,
+    tests: &str,
+) -> Result<String, AllocError>
+    ensures { IfOk result (λ text. string_bytes text
+        ≡ head_text mark.now states threads ++ tests.now) }
+{
+    let mut text = states_text(alloc, mark, states)?;
+    push_notes(&mut text, mark, threads)?;
+    text.push_str(tests)?;
+    Ok(text)
+}
+
 /// `ebpf check`.
 pub fn check_file<O: Observer>(
     alloc: Global,
@@ -132,7 +171,8 @@ pub fn check_file<O: Observer>(
         lines: &grounds.lines,
     };
     let checked = check_explored(alloc, asked, &grounds.findings)?;
-    let text = with_notes(alloc, "", grounds.threads, &checked.text)?;
+    let states = states_of(options, &grounds.findings);
+    let text = with_head(alloc, "", states, grounds.threads, &checked.text)?;
     Ok(Reply::Outcomes {
         text,
         stopped: is_unmet(checked.conclusion),

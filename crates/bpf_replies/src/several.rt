@@ -6,12 +6,11 @@ ghost use Rattle.bpf_replies.specs.Answer.{Replies};
 ghost use Rattle.bpf_replies.specs.Input.{RefusesInput};
 ghost use Rattle.bpf_replies.specs.Several.{AreChecked, AreTold, IsPart, IsTextPart, counted, no_part, refused_part, seen, with_part};
 
-use crate::checking::{grounds_in, is_told, is_unmet};
+use crate::checking::{grounds_in, is_told, is_unmet, states_of, with_head};
 use crate::input::{InputError, MAX_INPUT, read_whole};
 use crate::refusal::Refusal;
 use crate::reply::Reply;
 use crate::stream::Source;
-use crate::threading::with_notes;
 use bpf_check::{Asked, CheckedPart, check_named, plan};
 use bpf_command::CheckOptions;
 use bpf_explore::Observer;
@@ -69,7 +68,8 @@ fn text_part<O: Observer>(
         conclusion,
     } = check_named(alloc, name, before, asked, &grounds.findings)?;
     let mark = format!(in alloc; "{name}: ")?;
-    let text = with_notes(alloc, &mark, grounds.threads, &text)?;
+    let states = states_of(options, &grounds.findings);
+    let text = with_head(alloc, &mark, states, grounds.threads, &text)?;
     Ok(FilePart {
         text,
         tests,
