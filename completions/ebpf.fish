@@ -36,6 +36,7 @@ complete -c ebpf -n '__fish_seen_subcommand_from run' -l check -f -d 'Prints whe
 complete -c ebpf -n '__fish_seen_subcommand_from run' -l by -x -d 'Makes the turns of a schedule before the rounds, as '\''0*9 1*10 0*2'\'''
 complete -c ebpf -n '__fish_seen_subcommand_from run' -l workers -x -d 'Runs the CPUs at once, by 1 to 16 threads, over a store that they share'
 complete -c ebpf -n '__fish_seen_subcommand_from run' -l stats -f -d 'Prints on standard error the maps'\'' numbers as workers left them, a line a map'
+complete -c ebpf -n '__fish_seen_subcommand_from run' -l x86 -f -d 'Gives CPUs store buffers, as on x86; in --by 0! is a flush of that of CPU 0'
 complete -c ebpf -n '__fish_seen_subcommand_from run' -l json -f -d 'Prints a JSON object in place of each line'
 complete -c ebpf -n '__fish_seen_subcommand_from run' -s h -l help -f -d 'Print help'
 complete -c ebpf -n '__fish_seen_subcommand_from run' -F

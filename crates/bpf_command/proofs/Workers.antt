@@ -6,7 +6,7 @@ use Rattle.clap.specs.Faults.{level_fault}
 use Rattle.clap.specs.Walk.{with_default, values_or_missing, Held, Row, Rule, Text, answers_to, finished, has_row, nothing_held, rows_after, settled, walk}
 use Rattle.clap.specs.Words.{fault_of, subcommand_of}
 use Rattle.bpf_command.specs.declared.command.TheConstants.{MAX_WORKERS}
-use Rattle.bpf_command.specs.CommandLine.{HasWorkers, ebpf, events, explained, file, judged, json, keys, maps, packets, run, schedule, stats, workers}
+use Rattle.bpf_command.specs.CommandLine.{HasWorkers, ebpf, events, explained, file, judged, json, keys, maps, packets, run, schedule, stats, workers, x86}
 use Rattle.bpf_command.proofs.Counted.{counted_keeps, has_count}
 use Rattle.bpf_command.proofs.Ranges as range
 use Rattle.bpf_command.proofs.Ranges.{no_default}
@@ -56,6 +56,10 @@ stats_keep : Keeps AreFine false (filled stats)
 stats_keep values rows e fine =
     range.other_used_fine (codes "workers") 1 MAX_WORKERS (codes "stats") (values_or_missing (filled stats) values) rows refl fine
 
+x86_keeps : Keeps AreFine false (filled x86)
+x86_keeps values rows e fine =
+    range.other_used_fine (codes "workers") 1 MAX_WORKERS (codes "x86") (values_or_missing (filled x86) values) rows refl fine
+
 json_keeps : Keeps AreFine false (filled json)
 json_keeps values rows e fine =
     range.other_used_fine (codes "workers") 1 MAX_WORKERS (codes "json") (values_or_missing (filled json) values) rows refl fine
@@ -70,7 +74,7 @@ explained_keeps values rows e fine =
 
 rules_keep : range.AllKeep (codes "workers") 1 MAX_WORKERS rules
 rules_keep =
-    (explained_keeps, (keys_keep, (maps_keep, (events_keep, (packets_keep, (judged_keeps, (schedule_keeps, (workers_keep, (stats_keep, (json_keeps, (file_keeps, ((λ values rows e fine. fine), tt))))))))))))
+    (explained_keeps, (keys_keep, (maps_keep, (events_keep, (packets_keep, (judged_keeps, (schedule_keeps, (workers_keep, (stats_keep, (x86_keeps, (json_keeps, (file_keeps, ((λ values rows e fine. fine), tt)))))))))))))
 
 -- ---- the rows
 
@@ -86,7 +90,8 @@ finished_workers h fine =
     let first = with_default tested (filled schedule) in
     let second = with_default first (filled workers) in
     let third = with_default second (filled stats) in
-    let fourth = with_default third (filled json) in
+    let buffered = with_default third (filled x86) in
+    let fourth = with_default buffered (filled json) in
     let fifth = with_default fourth (filled file) in
     let started = range.default_fine (codes "workers") 1 MAX_WORKERS (codes "explain") (codes "false" ∷ []) (settled rules h).rows refl fine in
     let listed = range.default_fine (codes "workers") 1 MAX_WORKERS (codes "keys") (codes "false" ∷ []) start refl started in
@@ -96,7 +101,8 @@ finished_workers h fine =
     let all = range.default_fine (codes "workers") 1 MAX_WORKERS (codes "check") (codes "false" ∷ []) carried refl still in
     let given = no_default (has_row (codes "workers") first) first ∙ no_default (has_row (codes "by") tested) tested in
     let counted = range.default_fine (codes "workers") 1 MAX_WORKERS (codes "stats") (codes "false" ∷ []) second refl (subst AreFine (sym given) all) in
-    let written = range.default_fine (codes "workers") 1 MAX_WORKERS (codes "json") (codes "false" ∷ []) third refl counted in
+    let waiting = range.default_fine (codes "workers") 1 MAX_WORKERS (codes "x86") (codes "false" ∷ []) third refl counted in
+    let written = range.default_fine (codes "workers") 1 MAX_WORKERS (codes "json") (codes "false" ∷ []) buffered refl waiting in
     let same = no_default (has_row (codes "help") fifth) fifth ∙ no_default (has_row (codes "file") fourth) fourth in
     subst HasWorkers (sym same) (has_count (codes "workers") MAX_WORKERS fourth written)
 

@@ -127,8 +127,12 @@ stats = record (new_rule (codes "stats")) { long = Some (codes "stats"); action 
 abbrev pub run_options : App
 run_options = with_rule (with_rule (with_rule run_shows schedule) workers) stats
 
+-- `--x86`
+abbrev pub x86 : Rule
+x86 = record (new_rule (codes "x86")) { long = Some (codes "x86"); action = Some SetTrue }
+
 abbrev pub run : App
-run = with_rule (with_rule run_options json) file
+run = with_rule (with_rule (with_rule run_options x86) json) file
 
 -- `--limit N`
 abbrev pub limit : Rule
@@ -338,10 +342,18 @@ wants_two rows = (is_given (codes "events") rows && is_given (codes "check") row
     || (is_given (codes "events") rows && is_given (codes "packets") rows)
     || (is_given (codes "check") rows && is_given (codes "packets") rows)
 
--- options are given of which one rules out the other: what needs turns beside workers, or two of
--- what happens, packets and a verdict
+-- what CPUs with store buffers don't do is asked for beside them
+abbrev pub wants_no_buffers : List Row → Bool
+wants_no_buffers rows = is_given (codes "x86") rows
+    && (is_given (codes "workers") rows || (is_given (codes "events") rows
+    || (is_given (codes "check") rows || (is_given (codes "packets") rows
+    || is_given (codes "keys") rows))))
+
+-- options are given of which one rules out the other: what needs turns beside workers, two of what
+-- happens, packets and a verdict, or any of these or lists of keys beside store buffers
 abbrev pub do_clash : List Row → Bool
-do_clash rows = (is_given (codes "workers") rows && wants_turns rows) || wants_two rows
+do_clash rows = (is_given (codes "workers") rows && wants_turns rows)
+    || (wants_two rows || wants_no_buffers rows)
 
 -- the texts that an option or an argument is given
 abbrev pub given_texts : Text → List Row → List Text

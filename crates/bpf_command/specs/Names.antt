@@ -1,8 +1,9 @@
 -- The command that words name, or why they name none. Our own choice.
-use Rattle.std.specs.Prelude.{◌≡◌, ◌<◌, ◌≤◌, ℕ, List, true, false, Option, Some, None, Ok, IfOk, IsSomeAnd, codes, [], ◌∷◌, cond, if◌then◌else◌, length, map, option_and_then, option_map, string_bytes}
+use Rattle.std.specs.Prelude.{◌≡◌, ◌<◌, ◌≤◌, ℕ, Bool, List, true, false, Option, Some, None, Ok, IfOk, IsSomeAnd, codes, [], ◌∷◌, cond, if◌then◌else◌, length, map, option_and_then, option_map, string_bytes}
 use Rattle.std.specs.Str.{bytes_eq}
 use Rattle.bpf_explain.specs.Term.{topic_of}
 use Rattle.bpf_lines.specs.Lines.{fields_of}
+use Rattle.bpf_schedule.specs.Moves.{SpellMoves, SpellNoMoves}
 use Rattle.bpf_schedule.specs.Spelling.{SpellNone, SpellRuns}
 use Rattle.bpf_mem.specs.Limits.{max_context}
 use Rattle.hex.specs.Hex.{decode_of}
@@ -43,6 +44,22 @@ abbrev pub RefusesSchedule : Option Text → CommandError → Type 0
 RefusesSchedule (Some text) error.NoSchedule = SpellNone (fields_of text)
 RefusesSchedule _ error.OutOfMemory = Unit {0}
 RefusesSchedule _ _ = ⊥
+
+-- beside `--x86` a schedule has flushes too: the moves that a text spells
+abbrev pub AreMoves : Option Text → List (ℕ × ℕ) → Type 0
+AreMoves None runs = runs ≡ []
+AreMoves (Some text) runs = SpellMoves (fields_of text) runs
+
+-- the text is refused as moves
+abbrev pub RefusesMoves : Option Text → CommandError → Type 0
+RefusesMoves (Some text) error.NoSchedule = SpellNoMoves (fields_of text)
+RefusesMoves _ error.OutOfMemory = Unit {0}
+RefusesMoves _ _ = ⊥
+
+-- as moves where store buffers are asked for, and else as a schedule
+abbrev pub RefusesBy : Bool → Option Text → CommandError → Type 0
+RefusesBy true text e = RefusesMoves text e
+RefusesBy false text e = RefusesSchedule text e
 
 -- the options of a run of one program
 abbrev pub NamesRun : List Row → RunOptions → Type 0
@@ -87,7 +104,7 @@ Names (Some found) (command.Run options) = (found.0 ≡ codes "run")
     × (options.stats ≡ is_given (codes "stats") found.1)
     × (do_clash found.1 ≡ false) × (counts_alone found.1 ≡ false)
     × (is_given (codes "events") found.1 ≡ false) × (is_given (codes "check") found.1 ≡ false)
-    × (is_given (codes "packets") found.1 ≡ false)
+    × (is_given (codes "packets") found.1 ≡ false) × (is_given (codes "x86") found.1 ≡ false)
 Names (Some found) (command.History options) = (found.0 ≡ codes "run")
     × (options.keys ≡ is_given (codes "keys") found.1)
     × (options.maps ≡ is_given (codes "maps") found.1)
@@ -100,6 +117,11 @@ Names (Some found) (command.Packets options) = (found.0 ≡ codes "run")
     × IsSchedule (first_of (codes "by") found.1) options.by.items
     × (do_clash found.1 ≡ false) × (counts_alone found.1 ≡ false)
     × (is_given (codes "packets") found.1 ≡ true)
+Names (Some found) (command.X86 options) = (found.0 ≡ codes "run")
+    × (options.maps ≡ is_given (codes "maps") found.1)
+    × AreMoves (first_of (codes "by") found.1) options.by.items
+    × (do_clash found.1 ≡ false) × (counts_alone found.1 ≡ false)
+    × (is_given (codes "x86") found.1 ≡ true)
 Names (Some found) (command.Judge options) = (found.0 ≡ codes "run")
     × (options.keys ≡ is_given (codes "keys") found.1)
     × IsSchedule (first_of (codes "by") found.1) options.by.items
@@ -153,7 +175,7 @@ RefusesFound found error.NotHex = IsRunnerName found.0
     × RefusesContext (first_of (codes "ctx") found.1) error.NotHex
 RefusesFound found error.NoSchedule = (found.0 ≡ codes "run") × (do_clash found.1 ≡ false)
     × (counts_alone found.1 ≡ false)
-    × RefusesSchedule (first_of (codes "by") found.1) error.NoSchedule
+    × RefusesBy (is_given (codes "x86") found.1) (first_of (codes "by") found.1) error.NoSchedule
 RefusesFound found error.TwoWays = (found.0 ≡ codes "run") × (do_clash found.1 ≡ true)
 RefusesFound found error.NoWorkers = (found.0 ≡ codes "run") × (do_clash found.1 ≡ false)
     × (counts_alone found.1 ≡ true)

@@ -54,6 +54,16 @@ pub struct HistoryOptions {
     pub by: Vec<(u8, u64)>,
 }
 
+/// The options of a run on CPUs with store buffers.
+#[derive(PartialEq, Eq, Debug, Drop)]
+pub struct X86Options {
+    /// To print the maps afterwards.
+    pub maps: bool,
+    /// The turns of CPUs and flushes of their buffers that come before rounds, each with how often
+    /// it is made before the next. From 128 on it is the flush of the CPU of 128 less.
+    pub by: Vec<(u8, u64)>,
+}
+
 /// The options of a run in turns on one thread that is judged.
 #[derive(PartialEq, Eq, Debug, Drop)]
 pub struct JudgeOptions {
@@ -129,6 +139,8 @@ pub enum Command {
     History(HistoryOptions),
     /// Run them in turns, and print what they leave in their packets.
     Packets(HistoryOptions),
+    /// Run them on CPUs with store buffers.
+    X86(X86Options),
     /// Run them in turns, and print whether the outcome is as the comments of the file expect.
     Judge(JudgeOptions),
     /// Find what the jobs of a run file can reach, by every schedule.

@@ -1,16 +1,16 @@
 //! The command that words name: what `clap` finds in them, and what its options stand for.
 
-ghost use Rattle.std.specs.Prelude.{◌≡◌, ◌<◌, ◌≤◌, [], codes, IfErr, IfOk, IfSome, IsOkUnless, IsSomeAnd, map, OnOk, option_and_then, option_map, Some, string_bytes, true};
+ghost use Rattle.std.specs.Prelude.{◌≡◌, ◌<◌, ◌≤◌, [], codes, false, IfErr, IfOk, IfSome, IsOkUnless, IsSomeAnd, map, OnOk, option_and_then, option_map, Some, string_bytes, true};
 ghost use Rattle.bpf_explain.specs.Term.{topic_of};
 ghost use Rattle.clap.specs.Kinds.{FailsBy};
 ghost use Rattle.clap.specs.Takes.{is_given};
 ghost use Rattle.clap.specs.Words.{fault_of, first_of, first_value, found_of, rows_of, subcommand_name_of, subcommand_of, subcommand_rows_of};
-ghost use Rattle.bpf_command.specs.CommandLine.{ebpf, counts_alone, do_clash, do_part, do_part_races, HasBudget, HasLimit, HasShown, HasWorkers, IsCommandName, IsRunnerName, IsSearchName, IsWorkName, names_several, NamesBudget, NamesLimit, NamesShown, NamesWorkers, wants_one};
-ghost use Rattle.bpf_command.specs.Names.{Asks, AsksBy, file_in, IsContext, IsSchedule, Names, NamesCheck, NamesRaces, NamesRun, NamesSearch, Refuses, RefusesContext, RefusesFlags, RefusesFound, RefusesSchedule, as_flags, flag_of};
+ghost use Rattle.bpf_command.specs.CommandLine.{ebpf, counts_alone, do_clash, do_part, do_part_races, HasBudget, HasLimit, HasShown, HasWorkers, IsCommandName, IsRunnerName, IsSearchName, IsWorkName, names_several, NamesBudget, NamesLimit, NamesShown, NamesWorkers, wants_no_buffers, wants_one};
+ghost use Rattle.bpf_command.specs.Names.{AreMoves, Asks, AsksBy, file_in, IsContext, IsSchedule, Names, NamesCheck, NamesRaces, NamesRun, NamesSearch, Refuses, RefusesContext, RefusesFlags, RefusesFound, RefusesMoves, RefusesSchedule, as_flags, flag_of};
 
 use crate::command::{
     CheckOptions, Command, FileOptions, HistoryOptions, JudgeOptions, MAX_LIMIT, MAX_WORKERS,
-    RaceOptions, Request, RunOptions, SearchOptions, ShowOptions,
+    RaceOptions, Request, RunOptions, SearchOptions, ShowOptions, X86Options,
 };
 use crate::given::{given_texts, names_input, names_several};
 use crate::options::ebpf_command;
@@ -34,7 +34,8 @@ pub enum CommandError {
     /// The schedule isn't one.
     NoSchedule,
     /// Options are there of which one rules out the other: a schedule, events, packets or a check
-    /// beside a number of workers, whose CPUs take no turns; or two of events, packets and a check.
+    /// beside a number of workers, whose CPUs take no turns; two of events, packets and a check; or
+    /// workers, one of these or lists of keys beside store buffers.
     TwoWays,
     /// What is counted of a run on worker threads is asked for without workers.
     NoWorkers,
@@ -231,6 +232,35 @@ fn schedule_of(alloc: Global, options: &ArgMatches) -> Result<Vec<(u8, u64)>, Co
     }
 }
 
+/// The moves that `--by` spells beside `--x86`, none where it isn't given.
+fn moves_of(alloc: Global, options: &ArgMatches) -> Result<Vec<(u8, u64)>, CommandError>
+    ensures given { IfOk result (λ v.
+        AreMoves (first_value (found_of options.now) (codes "by")) v.items) }
+    ensures refused { IfErr result
+        (RefusesMoves (first_value (found_of options.now) (codes "by"))) }
+{
+    let Some(text) = options.get_str("by") else {
+        return Ok(Vec::new(alloc));
+    };
+    match bpf_schedule::moves_in(alloc, text.as_bytes()) {
+        Ok(Some(moves)) => Ok(moves),
+        Ok(None) => Err(CommandError::NoSchedule),
+        Err(_) => Err(CommandError::OutOfMemory),
+    }
+}
+
+/// Whether what CPUs with store buffers don't do is asked for beside them.
+fn wants_no_buffers(options: &ArgMatches) -> bool
+    ensures { result ≡ wants_no_buffers (rows_of (found_of options.now)) }
+{
+    is_given(options, "x86")
+        && (is_given(options, "workers")
+            || is_given(options, "events")
+            || is_given(options, "check")
+            || is_given(options, "packets")
+            || is_given(options, "keys"))
+}
+
 /// Whether options are given of which one rules out the other.
 fn do_clash(options: &ArgMatches) -> bool
     ensures { result ≡ do_clash (rows_of (found_of options.now)) }
@@ -240,7 +270,7 @@ fn do_clash(options: &ArgMatches) -> bool
     let packets = is_given(options, "packets");
     let turns = is_given(options, "by") || events || check || packets;
     let two = events && check || events && packets || check && packets;
-    is_given(options, "workers") && turns || two
+    is_given(options, "workers") && turns || two || wants_no_buffers(options)
 }
 
 /// Whether what is counted of a run on worker threads is asked for without workers.
@@ -250,7 +280,21 @@ fn counts_alone(options: &ArgMatches) -> bool
     is_given(options, "stats") && !is_given(options, "workers")
 }
 
-#[tactic(auto, using(crate::proofs::OptionRows::schedule_in_rows, crate::proofs::OptionRows::no_schedule_in_rows))]
+/// A run on CPUs with store buffers.
+#[tactic(auto, using(crate::proofs::OptionRows::moves_in_rows, crate::proofs::OptionRows::no_moves_in_rows))]
+fn x86_run_of(alloc: Global, options: &ArgMatches) -> Result<Command, CommandError>
+    requires fits { do_clash (rows_of (found_of options.now)) ≡ false }
+    requires counts { counts_alone (rows_of (found_of options.now)) ≡ false }
+    requires asked { is_given (codes "x86") (rows_of (found_of options.now)) ≡ true }
+    ensures named { IfOk result (Names (Some (codes "run", rows_of (found_of options.now)))) }
+    ensures refused { IfErr result (RefusesFound (codes "run", rows_of (found_of options.now))) }
+{
+    let by = moves_of(alloc, options)?;
+    let maps = is_given(options, "maps");
+    Ok(Command::X86(X86Options { maps, by }))
+}
+
+#[tactic(auto, using(crate::proofs::OptionRows::schedule_in_rows, crate::proofs::OptionRows::no_turns_in_rows))]
 fn run_of(alloc: Global, options: &ArgMatches) -> Result<Command, CommandError>
     requires counted { HasWorkers (rows_of (found_of options.now)) }
     ensures named { IfOk result (Names (Some (codes "run", rows_of (found_of options.now)))) }
@@ -261,6 +305,9 @@ fn run_of(alloc: Global, options: &ArgMatches) -> Result<Command, CommandError>
     }
     if counts_alone(options) {
         return Err(CommandError::NoWorkers);
+    }
+    if is_given(options, "x86") {
+        return x86_run_of(alloc, options);
     }
     let by = schedule_of(alloc, options)?;
     let keys = is_given(options, "keys");

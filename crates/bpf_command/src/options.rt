@@ -3,7 +3,7 @@
 ghost use Rattle.std.specs.Prelude.{◌≡◌, false, IfOk};
 ghost use Rattle.clap.specs.Words.{app_of, rule_of, shape_of};
 ghost use Rattle.clap.specs.declared.builder.command.Command.TheViews.{out-Command as fields_of};
-ghost use Rattle.bpf_command.specs.CommandLine.{asm, asm_shows, bare, budget, check, code_rule, context, debug, debug_options, disasm, ebpf, echo, events, expand, expand_options, explain, explained, explore, explore_options, file, files, first, for_files, hex, hex_options, judged, json, keys, lenient, limit, listing, maps, one_program, packets, patient, pc, progress, races, run, run_lists, run_options, run_shows, runs, schedule, searching, show, states, stats, strict, sync, workers, working};
+ghost use Rattle.bpf_command.specs.CommandLine.{asm, asm_shows, bare, budget, check, code_rule, context, debug, debug_options, disasm, ebpf, echo, events, expand, expand_options, explain, explained, explore, explore_options, file, files, first, for_files, hex, hex_options, judged, json, keys, lenient, limit, listing, maps, one_program, packets, patient, pc, progress, races, run, run_lists, run_options, run_shows, runs, schedule, searching, show, states, stats, strict, sync, workers, working, x86};
 
 use crate::command::{MAX_LIMIT, MAX_WORKERS};
 use bpf_base::MAX_BUDGET;
@@ -74,6 +74,11 @@ exits, packet J DIGITS: the bytes that it leaves there, in hex. With --check the
 'ebpf check', for this order of turns alone. None of these three goes beside another or beside
 --workers.
 
+With --x86 a CPU's plain stores to values of maps wait in its store buffer, and its own loads alone find
+them. A schedule has words C!*N too: N flushes of CPU C, each of its oldest store. In a round each CPU
+makes its turn and then a flush. A flush where nothing waits changes nothing. --x86 goes beside none of
+--workers, --events, --packets, --check and --keys.
+
 With --workers and --stats a line a map is printed on standard error: its segments, its keys, those on
 overflow lists and its free elements, as it is left; and how many segments were split, readings were
 disturbed and lookups took a lock. Standard output stays the same.
@@ -83,6 +88,9 @@ For example
   job 0 cpu 0 r0=5
   $ ebpf run --by '1*10' examples/first-insert.run
   job 0 cpu 0 r0=18446744073709551599
+  job 1 cpu 1 r0=0
+  $ ebpf run --x86 --by '0*3 1*3' examples/store-buffering.run
+  job 0 cpu 0 r0=0
   job 1 cpu 1 r0=0
 
 Exit status:
@@ -507,6 +515,16 @@ fn judged_option<'a>(alloc: Global) -> Arg<'a>
         .help("Prints whether the outcome is as the file's comments expect, as 'ebpf check' does")
 }
 
+fn x86_option<'a>(alloc: Global) -> Arg<'a>
+    ensures rule { rule_of result ≡ x86 }
+    ensures own { result.global ≡ false }
+{
+    Arg::new(alloc, "x86")
+        .long("x86")
+        .action(ArgAction::SetTrue)
+        .help("Gives CPUs store buffers, as on x86; in --by 0! is a flush of that of CPU 0")
+}
+
 /// The command `run` with the lists that it is to print.
 fn run_lists<'a>(alloc: Global) -> Result<Command<'a>, AllocError>
     ensures shape { IfOk result (λ c. shape_of c ≡ run_lists.top) }
@@ -547,6 +565,7 @@ fn run_command<'a>(alloc: Global) -> Result<Command<'a>, AllocError>
     ensures own { IfOk result (λ c. (fields_of c).has_globals ≡ false) }
 {
     run_options(alloc)?
+        .arg(x86_option(alloc))?
         .arg(json_option(alloc))?
         .arg(file_argument(alloc))
 }

@@ -10,8 +10,9 @@ use Rattle.bpf_cpu.specs.declared.input.Input.{Input}
 use Rattle.bpf_cpu.specs.Task.{Task, Stage, Waiting, InHand, Ended, waiting}
 use Rattle.bpf_machine.specs.Laws.{IsFresh}
 use Rattle.bpf_jobs.specs.declared.rounds.Report.{Report}
-use Rattle.bpf_jobs.specs.Printed.{asked_world, IsReportBy}
+use Rattle.bpf_jobs.specs.Printed.{asked_world, first_world, IsReportBy}
 use Rattle.bpf_events.specs.Reports.{IsHistory}
+use Rattle.bpf_flushes.specs.Printed.{IsReportWithBuffers}
 use Rattle.bpf_packets.specs.Reports.{IsReportWithPackets}
 use Rattle.bpf_debug.specs.Laws.{IsNew}
 use Rattle.bpf_debug.proofs.OwnValues.{calls_keep, made_own}
@@ -24,7 +25,7 @@ use Rattle.bpf_file.specs.declared.file.RunFile.{RunFile}
 use Rattle.bpf_file.specs.File.{File, file_of, shape_of}
 use Rattle.bpf_file.specs.Reading.{IsRunFile}
 use Rattle.bpf_file.specs.Runnable.{WaitsShort, IsJobFor, CanRun}
-use Rattle.bpf_replies.specs.Running.{IsHistoryOfFile, IsRunWithPacketsOfFile, IsToldBy}
+use Rattle.bpf_replies.specs.Running.{IsHistoryOfFile, IsRunWithBuffers, IsRunWithPacketsOfFile, IsToldBy}
 use Rattle.bpf_replies.specs.Script.{asked_world_of, first_world_of}
 use Rattle.bpf_replies.specs.declared.reply.Reply.TheVariants as reply
 
@@ -81,3 +82,11 @@ pub with_packets : (by : List (ℕ × ℕ)) (keys maps : Bool) (text : List ℕ)
     by (names_of file.names) maps (string_bytes r.text) r.stopped
     → IsRunWithPacketsOfFile by keys maps text (reply.Jobs r.text r.stopped)
 with_packets by keys maps text file r said report = (file_of file, said, report)
+
+-- and so on CPUs with store buffers
+pub with_buffers : (by : List (ℕ × ℕ)) (maps : Bool) (text : List ℕ) (file : RunFile) (r : Report)
+    → IsRunFile text (Ok (file_of file))
+    → IsReportWithBuffers (first_world file.setup.shape (map pair_of file.setup.pairs.items) file.setup.programs.items (map waiting file.setup.jobs.items))
+    by (names_of file.names) maps (string_bytes r.text) r.stopped
+    → (f : File) × IsRunFile text (Ok f) × IsRunWithBuffers by maps f (string_bytes r.text) r.stopped
+with_buffers by maps text file r said report = (file_of file, said, report)

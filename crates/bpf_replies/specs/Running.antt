@@ -2,12 +2,13 @@
 use Rattle.std.specs.Prelude.{ℕ, Bool, List, Option, Some, None, Err, Ok, string_bytes}
 use Rattle.bpf_jobs.specs.Printed.{IsReportBy}
 use Rattle.bpf_events.specs.Reports.{IsHistory}
+use Rattle.bpf_flushes.specs.Printed.{IsReportWithBuffers}
 use Rattle.bpf_packets.specs.Reports.{IsReportWithPackets}
 use Rattle.bpf_workers.specs.Printed.{IsWorkersReport}
 use Rattle.bpf_file.specs.declared.error.FileError.TheVariants as FileError
 use Rattle.bpf_file.specs.File.{File}
 use Rattle.bpf_file.specs.Reading.{IsRunFile}
-use Rattle.bpf_replies.specs.Script.{asked_world_of}
+use Rattle.bpf_replies.specs.Script.{asked_world_of, first_world_of}
 use Rattle.bpf_replies.specs.declared.refusal.Refusal.{Refusal}
 use Rattle.bpf_replies.specs.declared.refusal.Refusal.TheVariants as refusal
 use Rattle.bpf_replies.specs.declared.reply.Reply.{Reply}
@@ -54,6 +55,15 @@ IsRunWithPackets by keys maps f printed stopped =
 abbrev pub IsRunWithPacketsOfFile : (by : List (ℕ × ℕ)) → (keys maps : Bool) → List ℕ → Reply
     → Type 0
 IsRunWithPacketsOfFile by keys maps = IsOfFile (IsRunWithPackets by keys maps)
+
+-- `run --x86`: the lines of the jobs of a file, run on CPUs with store buffers first by these moves and
+-- then in rounds, and those of the maps and arrays where they are asked for
+abbrev pub IsRunWithBuffers : (by : List (ℕ × ℕ)) → (maps : Bool) → File → List ℕ → Bool → Type 0
+IsRunWithBuffers by maps f printed stopped =
+    IsReportWithBuffers (first_world_of f) by f.names maps printed stopped
+
+abbrev pub IsRunWithBuffersOfFile : (by : List (ℕ × ℕ)) → (maps : Bool) → List ℕ → Reply → Type 0
+IsRunWithBuffersOfFile by maps = IsOfFile (IsRunWithBuffers by maps)
 
 -- `run --workers`: the lines of the jobs that the file says, ended as one history of a new store of
 -- its maps and arrays explains; then, where they are asked for, those of the keys that each CPU lists

@@ -7,7 +7,7 @@ ghost use Rattle.bpf_cpu.specs.Setup.{IsRunnable};
 ghost use Rattle.bpf_sched.specs.Refusing.{AreWorkers};
 ghost use Rattle.bpf_replies.specs.Answer.{Replies};
 ghost use Rattle.bpf_replies.specs.Judging.{IsJudgedOfFile};
-ghost use Rattle.bpf_replies.specs.Running.{IsHistoryBy, IsHistoryOfFile, IsRunByWorkers, IsRunWithPackets, IsRunWithPacketsOfFile, IsRunOfFile, IsToldBy, RefusesFile};
+ghost use Rattle.bpf_replies.specs.Running.{IsHistoryBy, IsHistoryOfFile, IsRunByWorkers, IsRunWithBuffers, IsRunWithBuffersOfFile, IsRunWithPackets, IsRunWithPacketsOfFile, IsRunOfFile, IsToldBy, RefusesFile};
 
 use crate::comments::{Reading, expected_in};
 use crate::refusal::Refusal;
@@ -15,6 +15,7 @@ use crate::reply::Reply;
 use bpf_check::{Judged, check_printed};
 use bpf_events::run_with_history;
 use bpf_file::{RunFile, read_file};
+use bpf_flushes::run_with_buffers;
 use bpf_jobs::{Report, run_jobs_by};
 use bpf_packets::run_with_packets;
 use bpf_workers::{Counted, run_counted};
@@ -144,6 +145,33 @@ pub fn run_file_with_packets(
     ensures { Replies (IsRunWithPacketsOfFile by.now keys maps text.now) result }
 {
     let Report { text, stopped } = packets_by(alloc, by, keys, maps, text)?;
+    Ok(Reply::Jobs(text, stopped))
+}
+
+/// What is printed of the jobs that a text says, on CPUs with store buffers by these moves and then in
+/// rounds.
+#[tactic(auto, using(crate::proofs::FreshFiles::with_buffers))]
+fn buffered_by(alloc: Global, by: &[(u8, u64)], maps: bool, text: &str) -> Result<Report, Refusal>
+    ensures told { IfOk result (λ report. (f : File) × IsRunFile text.now (Ok f)
+        × IsRunWithBuffers by.now maps f (string_bytes report.text) report.stopped) }
+    ensures refused { IfErr result (RefusesFile text.now) }
+{
+    let file = file_in(alloc, text)?;
+    let RunFile { setup, names, .. } = file;
+    let report = run_with_buffers(alloc, setup, &names, by, maps)?;
+    Ok(report)
+}
+
+/// `ebpf run --x86`: these moves and then rounds, on CPUs with store buffers.
+pub fn run_file_with_buffers(
+    alloc: Global,
+    by: &[(u8, u64)],
+    maps: bool,
+    text: &str,
+) -> Result<Reply, Refusal>
+    ensures { Replies (IsRunWithBuffersOfFile by.now maps text.now) result }
+{
+    let Report { text, stopped } = buffered_by(alloc, by, maps, text)?;
     Ok(Reply::Jobs(text, stopped))
 }
 

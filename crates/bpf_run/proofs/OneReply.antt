@@ -8,15 +8,17 @@ use Rattle.bpf_text.specs.Laws.{TextsAreDetermined}
 use Rattle.bpf_file.specs.Laws.{FilesAreDetermined, FilesCanRun}
 use Rattle.bpf_jobs.specs.Laws.{ReportsByAreDetermined}
 use Rattle.bpf_events.specs.Reports.{HistoriesAreDetermined}
+use Rattle.bpf_flushes.specs.Printed.{ReportsWithBuffersAreDetermined}
 use Rattle.bpf_packets.specs.Reports.{ReportsWithPacketsAreDetermined}
 use Rattle.bpf_debug.specs.Laws.{ScriptsAreDetermined}
 use Rattle.bpf_replies.proofs.OneDebug.{PrintsAs, one_debug}
 use Rattle.bpf_replies.proofs.OneJudged.{one_judged}
-use Rattle.bpf_replies.proofs.FreshFiles.{fresh_asked}
+use Rattle.bpf_replies.proofs.FreshFiles.{fresh, fresh_asked}
 use Rattle.bpf_replies.proofs.OneText.{prints, of_run, of_assembly, of_listing, one_run, one_listing, one_assembly, one_assembled_run, one_told, one_history, one_of_file}
 use Rattle.bpf_run.specs.Commands.{IsAnswer, IsForOneSchedule, IsForOneThread, IsReply}
 use Rattle.bpf_replies.specs.Input.{RefusesInput}
-use Rattle.bpf_replies.specs.Running.{IsHistoryBy, IsRunBy, IsRunWithPackets, IsToldBy, asked_world_of}
+use Rattle.bpf_replies.specs.Running.{IsHistoryBy, IsRunBy, IsRunWithBuffers, IsRunWithPackets, IsToldBy, asked_world_of}
+use Rattle.bpf_replies.specs.Script.{first_world_of}
 use Rattle.bpf_replies.specs.declared.input.TheConstants.{MAX_INPUT}
 use Rattle.bpf_replies.specs.Laws.{IsOfInput, IsForAnyInput}
 use Rattle.bpf_run.specs.Laws.{HasShortContext, RepliesAreDetermined}
@@ -46,7 +48,7 @@ of_input c input r (inl refused) n =
     subst (OfInput c input) (sym refused.1) made
 of_input c input r (inr answered) n = Answered r answered.0 answered.1 answered.2
 
-module _ (words : WordsAreDetermined) (encodings : EncodingsAreDetermined) (refusals : RefusalsAreDetermined) (firsts : FirstIsDetermined) (texts : TextsAreDetermined) (outcomes : OutcomesAreDetermined) (events : NoMapsNoEvents) (files : FilesAreDetermined) (runs : FilesCanRun) (reports : ReportsByAreDetermined) (histories : HistoriesAreDetermined) (scripts : ScriptsAreDetermined) (carried : ReportsWithPacketsAreDetermined) where
+module _ (words : WordsAreDetermined) (encodings : EncodingsAreDetermined) (refusals : RefusalsAreDetermined) (firsts : FirstIsDetermined) (texts : TextsAreDetermined) (outcomes : OutcomesAreDetermined) (events : NoMapsNoEvents) (files : FilesAreDetermined) (runs : FilesCanRun) (reports : ReportsByAreDetermined) (histories : HistoriesAreDetermined) (scripts : ScriptsAreDetermined) (carried : ReportsWithPacketsAreDetermined) (buffered : ReportsWithBuffersAreDetermined) where
   one_answer : (c : Command) (text : List ℕ) (r s : Reply) → HasShortContext c → IsForOneThread c → IsForOneSchedule c → IsAnswer c text r → IsAnswer c text s → IsOfInput r → IsOfInput s → PrintsAs r s
   one_answer (command.Hex options) text r s h t o a b n m =
       prints r s (one_run words encodings refusals firsts texts outcomes events files runs reports histories scripts options.budget options.context.items text r s h (of_run options.budget options.context.items text r a n) (of_run options.budget options.context.items text s b m))
@@ -69,6 +71,11 @@ module _ (words : WordsAreDetermined) (encodings : EncodingsAreDetermined) (refu
       let maps = options.maps in
       one_of_file words encodings refusals firsts texts outcomes events files runs reports histories scripts (IsRunWithPackets by keys maps)
       (λ f shape can p q x y one other. carried (asked_world_of keys f) by f.names maps p q x y (fresh_asked keys f shape can) one other) text r s a b n m
+  one_answer (command.X86 options) text r s h t o a b n m =
+      let by = options.by.items in
+      let maps = options.maps in
+      one_of_file words encodings refusals firsts texts outcomes events files runs reports histories scripts (IsRunWithBuffers by maps)
+      (λ f shape can p q x y one other. buffered (first_world_of f) by f.names maps p q x y (fresh f shape can) one other) text r s a b n m
   one_answer (command.Judge options) text r s h t o a b n m = one_judged files runs reports options.by.items options.keys text r s a b n m
   one_answer (command.Debug echo strict) text r s h t o a b n m = one_debug files runs scripts echo strict text r s a b n m
   one_answer (command.Explore options) text r s h t o a b n m = absurd o

@@ -48,6 +48,8 @@ pub enum Subject {
     /// The jobs of a run file, by turns that are given, and then in rounds. Without the turns where
     /// there was no memory for them.
     Turns { by: Option<Vec<(u8, u64)>> },
+    /// The jobs of a run file, on CPUs with store buffers.
+    Buffers,
     /// The jobs of a run file, on worker threads.
     Workers,
     /// Commands of the debugger.
@@ -98,6 +100,7 @@ impl Subject {
             Command::Run(FileOptions { by, .. })
             | Command::History(HistoryOptions { by, .. })
             | Command::Packets(HistoryOptions { by, .. }) => Subject::turns(by),
+            Command::X86(_) => Subject::Buffers,
             Command::Show(_) => Subject::Shown,
             Command::Judge(_) => Subject::Tests,
             Command::Debug { .. } => Subject::Script,
@@ -125,6 +128,7 @@ impl Subject {
             Subject::Words | Subject::Program { .. } => Language::Words,
             Subject::Rounds
             | Subject::Turns { .. }
+            | Subject::Buffers
             | Subject::Workers
             | Subject::Script
             | Subject::Schedules

@@ -21,4 +21,5 @@ pub fn replies_are_determined()
     bpf_events::laws::histories_are_determined();
     bpf_debug::laws::scripts_are_determined();
     bpf_packets::laws::reports_with_packets_are_determined();
+    bpf_flushes::laws::reports_with_buffers_are_determined();
 }

@@ -5,7 +5,7 @@ ghost use Rattle.bpf_run.specs.Commands.{IsAnswer, IsForOneThread};
 
 use crate::expanding::expand_file;
 use crate::racing::race_file;
-use bpf_command::{Command, FileOptions, HistoryOptions, JudgeOptions, ShowOptions};
+use bpf_command::{Command, FileOptions, HistoryOptions, JudgeOptions, ShowOptions, X86Options};
 use bpf_explore::Observer;
 use bpf_replies::checking::check_file;
 use bpf_replies::exploring::{explore_file, show_file};
@@ -13,7 +13,8 @@ use bpf_replies::programs::{assembled, assembled_run, disassembled, run};
 use bpf_replies::refusal::Refusal;
 use bpf_replies::reply::Reply;
 use bpf_replies::running::{
-    Extras, judge_file, run_file, run_file_by_workers, run_file_with_history, run_file_with_packets,
+    Extras, judge_file, run_file, run_file_by_workers, run_file_with_buffers,
+    run_file_with_history, run_file_with_packets,
 };
 use bpf_replies::script::debug_file;
 use std::alloc::Global;
@@ -58,6 +59,7 @@ fn answer_to<O: Observer>(
         Command::Packets(HistoryOptions { by, keys, maps }) => {
             run_file_with_packets(alloc, &by, keys, maps, text)
         }
+        Command::X86(X86Options { by, maps }) => run_file_with_buffers(alloc, &by, maps, text),
         Command::Judge(JudgeOptions { by, keys }) => judge_file(alloc, &by, keys, text),
         Command::Explore(search) => explore_file(alloc, search, text, observer),
         Command::Show(ShowOptions { outcome, search }) => {

@@ -95,12 +95,14 @@ or a word of run files (spare, packet, xdp, tc)
 For more information, try 'ebpf explain --help'.";
 
 const NO_SCHEDULE: &str = "\
-no schedule: it has words C*N, a CPU and how many turns it makes, as in '0*9 1*10 0*2'
+no schedule: it has words C*N, a CPU and how many turns it makes, as in '0*9 1*10 0*2',
+and beside '--x86' also words C!*N, flushes of its store buffer
 
 For more information, try 'ebpf run --help'.";
 
 const TWO_WAYS: &str = "\
-'--workers' goes with none of '--by', '--events', '--packets' and '--check', nor any of the last three with another
+'--workers' goes with none of '--by', '--events', '--packets' and '--check', nor any of the last three with another,
+and '--x86' goes with none of '--workers', '--events', '--packets', '--check' and '--keys'
 
 For more information, try 'ebpf run --help'.";
 
