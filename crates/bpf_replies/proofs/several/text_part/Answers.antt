@@ -19,9 +19,9 @@ returns g c =
     let mark = string_bytes c.in_ok-mark.mark in
     let told = string_bytes tests.text in
     let head = head_text (name ++ codes ": ") (states_of o f) threads in
-    let heads = head_made name mark c.states_of.result (states_of o f) threads c.in_ok-mark.ensures.ok c.states_of.ensures in
-    let made = c.in_ok-text-2.ensures ∙ (ap (λ (t : List ℕ). head_text t c.states_of.result threads ++ c.deref-4.result.now) c.deref-3.ensures
-    ∙ (ap (λ (t : List ℕ). head_text mark c.states_of.result threads ++ t) c.deref-4.ensures ∙ ap (λ (t : List ℕ). t ++ told) heads)) in
+    let heads = head_made name mark c.states_of-states.result (states_of o f) threads c.in_ok-mark.ensures.ok c.states_of-states.ensures in
+    let made = c.in_ok-text-2.ensures ∙ (ap (λ (t : List ℕ). head_text t c.states_of-states.result threads ++ c.deref-4.result.now) c.deref-3.ensures
+    ∙ (ap (λ (t : List ℕ). head_text mark c.states_of-states.result threads ++ t) c.deref-4.ensures ∙ ap (λ (t : List ℕ). t ++ told) heads)) in
     let given = c.deref.result.now in
     let listed = c.in_ok-text.ensures.text ∙ ap (λ (ls : List ℕ). listed_text (name_text name) ls c.args.before f given (verdicts_of f given)) c.deref-2.ensures.value in
     inr (
