@@ -17,8 +17,8 @@ use Rattle.bpf_replies.proofs.FreshFiles.{fresh, fresh_asked}
 use Rattle.bpf_replies.proofs.OneText.{prints, of_run, of_assembly, of_listing, one_run, one_listing, one_assembly, one_assembled_run, one_told, one_history, one_of_file}
 use Rattle.bpf_run.specs.Commands.{IsAnswer, IsForOneSchedule, IsForOneThread, IsReply}
 use Rattle.bpf_replies.specs.Input.{RefusesInput}
-use Rattle.bpf_replies.specs.Running.{IsHistoryBy, IsRunBy, IsRunWithBuffers, IsRunWithPackets, IsToldBy, asked_world_of}
-use Rattle.bpf_replies.specs.Script.{first_world_of}
+use Rattle.bpf_replies.specs.Running.{IsHistoryBy, IsRunBy, IsRunWithBuffers, IsRunWithPackets, IsToldBy}
+use Rattle.bpf_replies.specs.Script.{asked_world_of, first_world_of}
 use Rattle.bpf_replies.specs.declared.input.TheConstants.{MAX_INPUT}
 use Rattle.bpf_replies.specs.Laws.{IsOfInput, IsForAnyInput}
 use Rattle.bpf_run.specs.Laws.{HasShortContext, RepliesAreDetermined}
