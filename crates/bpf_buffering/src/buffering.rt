@@ -4,6 +4,8 @@
 ghost use Rattle.std.specs.Prelude.{◌≡◌, ℕ, [], IfOk, length};
 ghost use Rattle.bpf_buffering.specs.Buffering.{stored_at};
 
+mod keeping;
+
 use crate::jobs::{Listed, answer, find_hand, find_waiting, list_jobs};
 use crate::waiting::{Stored, Waiting};
 use bpf_cpu::{Job, Outcome};
@@ -13,6 +15,8 @@ use bpf_plain::PlainStore;
 use bpf_shared::Shared;
 use std::alloc::{AllocError, Global};
 use std::marker::Model;
+
+pub use keeping::Kept;
 
 /// A buffer for each CPU, in which nothing waits.
 fn make_buffers(alloc: Global, cpus: u8) -> Result<Vec<Vec<Stored>>, AllocError>

@@ -6,4 +6,4 @@ mod jobs;
 pub mod laws;
 mod waiting;
 
-pub use buffering::Buffering;
+pub use buffering::{Buffering, Kept};

@@ -145,6 +145,8 @@ pub enum Command {
     Judge(JudgeOptions),
     /// Find what the jobs of a run file can reach, by every schedule.
     Explore(SearchOptions),
+    /// Find what they can reach on CPUs with store buffers.
+    ExploreX86(SearchOptions),
     /// Tell all that happens on the way to one of these outcomes.
     Show(ShowOptions),
     /// Find the data races of all schedules.

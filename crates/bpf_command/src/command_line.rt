@@ -395,6 +395,9 @@ fn explore_of(alloc: Global, options: &ArgMatches) -> Result<Command, CommandErr
         return Ok(Command::Races(races));
     }
     let search = search_of(options);
+    if is_given(options, "x86") {
+        return Ok(Command::ExploreX86(search));
+    }
     match shown_of(options) {
         Some(outcome) => Ok(Command::Show(ShowOptions { outcome, search })),
         None => Ok(Command::Explore(search)),

@@ -676,6 +676,7 @@ fn explore_command<'a>(alloc: Global) -> Result<Command<'a>, AllocError>
     ensures own { IfOk result (λ c. (fields_of c).has_globals ≡ false) }
 {
     explore_options(alloc)?
+        .arg(x86_option(alloc))?
         .arg(show_option(alloc))?
         .arg(file_argument(alloc))
 }

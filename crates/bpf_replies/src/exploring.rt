@@ -188,6 +188,28 @@ fn explore_patiently<O: Observer>(
     })
 }
 
+/// `ebpf explore --x86`.
+pub fn explore_file_with_buffers(
+    alloc: Global,
+    limit: u64,
+    text: &str,
+) -> Result<Reply, Refusal> {
+    let file = file_in(alloc, text)?;
+    let RunFile { setup, names, .. } = file;
+    let explored =
+        bpf_reorderings::explore_with_buffers(alloc, setup, &names, true, limit as usize)?;
+    let mut stopped = false;
+    for answer in &explored.answers {
+        stopped = stopped || answer.stopped;
+    }
+    let text = bpf_reorderings::list_explored(alloc, &explored)?;
+    Ok(Reply::Outcomes {
+        text,
+        stopped,
+        all: explored.all,
+    })
+}
+
 /// `ebpf explore`.
 pub fn explore_file<O: Observer>(
     alloc: Global,

@@ -8,7 +8,7 @@ use crate::racing::race_file;
 use bpf_command::{Command, FileOptions, HistoryOptions, JudgeOptions, ShowOptions, X86Options};
 use bpf_explore::Observer;
 use bpf_replies::checking::check_file;
-use bpf_replies::exploring::{explore_file, show_file};
+use bpf_replies::exploring::{explore_file, explore_file_with_buffers, show_file};
 use bpf_replies::programs::{assembled, assembled_run, disassembled, run};
 use bpf_replies::refusal::Refusal;
 use bpf_replies::reply::Reply;
@@ -62,6 +62,7 @@ fn answer_to<O: Observer>(
         Command::X86(X86Options { by, maps }) => run_file_with_buffers(alloc, &by, maps, text),
         Command::Judge(JudgeOptions { by, keys }) => judge_file(alloc, &by, keys, text),
         Command::Explore(search) => explore_file(alloc, search, text, observer),
+        Command::ExploreX86(search) => explore_file_with_buffers(alloc, search.limit, text),
         Command::Show(ShowOptions { outcome, search }) => {
             show_file(alloc, search, outcome, text, observer)
         }
