@@ -27,7 +27,7 @@ use Rattle.bpf_explore.specs.Stores.{IsOfShape, no_store}
 use Rattle.bpf_explore.specs.Tuples.{TupleList, tuple_at, with_tuple}
 use Rattle.bpf_explore.specs.Private.Classes.{AreLoaded, AreOfParts, IsAlikeTuple}
 use Rattle.bpf_explore.proofs.ClassLaws.{are_loaded}
-use Rattle.bpf_explore.specs.Private.Album.{Shelf, machine_of, machine_at, machines, IsState, IsShelf, Grows, FitsShelf, AddsOne, ShowsFirst, AreNumbersOf, AreKeptUnder}
+use Rattle.bpf_explore.specs.Private.Album.{Stock, machine_of, machine_at, machines, IsState, IsShelf, Grows, FitsShelf, AddsOne, ShowsFirst, AreNumbersOf, AreKeptUnder}
 use Rattle.bpf_explore.proofs.KeptLaws.{tuple_new}
 use Rattle.bpf_explore.proofs.StandAlike.{can_stand}
 use Rattle.bpf_explore.proofs.ShelfLaws.{machines_length, machines_at, shapes_still, same_shelf, same_kept, more_shelf, more_kept}
@@ -40,7 +40,7 @@ pub shape_still : (h : Shape) (old new : MachineState) → IsSameHost old new �
 shape_still h old new same shape = (same.shape.1 ∙ shape.0, λ c. same.shape.0 c ∙ shape.1 c)
 
 -- what is saved as the machine's store is, with jobs that are as its jobs do
-module _ (h : Shape) (s : Shelf) (m : MachineState) (tuple bytes : List ℕ) (fits : FitsShelf h s m) (shapes : (n : ℕ) → n < length s.stores → IsOfShape h (slice_index_or s.stores n no_store))
+module _ (h : Shape) (s : Stock) (m : MachineState) (tuple bytes : List ℕ) (fits : FitsShelf h s m) (shapes : (n : ℕ) → n < length s.stores → IsOfShape h (slice_index_or s.stores n no_store))
     (stored : slice_index_or tuple 0 0 < length s.stores) (saved : IsSavedAs m.store bytes) (kept : IsSavedAs (slice_index_or s.stores (slice_index_or tuple 0 0) no_store) bytes)
     (within : All (λ n. n < length s.parts) (drop 1 tuple)) (jobs : chosen s.parts (drop 1 tuple) ≡ m.jobs) where
   abbrev store : Contents
@@ -72,7 +72,7 @@ pub kept_somewhere : (kept : List MachineState) (n : ℕ) (m : MachineState) →
 kept_somewhere kept n m is w shows = let r = is w shows in (r.0, r.1, (n, r.2.0, r.2.1, r.2.2))
 
 -- ---- another machine of the same programs to work with
-abbrev pub shelf_of : List Loaded → List Contents → List Task → TupleList → Shelf
+abbrev pub shelf_of : List Loaded → List Contents → List Task → TupleList → Stock
 shelf_of programs stores parts states = record { programs = programs; stores = stores; parts = parts; states = states }
 
 module _ (h : Shape) (stores : List Contents) (parts : List Task) (states : TupleList) (m new : MachineState) (programs : new.programs ≡ m.programs) where
@@ -80,7 +80,7 @@ module _ (h : Shape) (stores : List Contents) (parts : List Task) (states : Tupl
   same_shelf_as = ap (λ (ps : List Loaded). shelf_of ps stores parts states) programs
 
   pub kept_with : machines (shelf_of new.programs stores parts states) states.count ≡ machines (shelf_of m.programs stores parts states) states.count
-  kept_with = ap (λ (s : Shelf). machines s states.count) same_shelf_as
+  kept_with = ap (λ (s : Stock). machines s states.count) same_shelf_as
 
   pub fits_with : IsShelf h (shelf_of m.programs stores parts states) → IsOfShape h new.store → states.width ≡ length new.jobs + 1 → new.lists ≡ None
       → IsShelf h (shelf_of new.programs stores parts states) × FitsShelf h (shelf_of new.programs stores parts states) new
@@ -95,7 +95,7 @@ all_after h stores parts states tables m new same (is, fits, right) =
     (r.0, r.1, subst (λ (ps : List Loaded). AreLiveTables ps (table_at tables)) (sym same.programs) right)
 
 -- ---- a kept machine to work with
-pub record IsReadable (h : Shape) (s : Shelf) (m : MachineState) (place : ℕ) (store : Contents) (parts : List Task) (jobs : List ℕ) : Type 0 where
+pub record IsReadable (h : Shape) (s : Stock) (m : MachineState) (place : ℕ) (store : Contents) (parts : List Task) (jobs : List ℕ) : Type 0 where
   pub shape : IsSameShape store m.store
   pub within : All (λ n. n < length parts) jobs
   pub stands : CanStand (made_of store m.programs parts jobs)
@@ -103,7 +103,7 @@ pub record IsReadable (h : Shape) (s : Shelf) (m : MachineState) (place : ℕ) (
   pub shaped : IsOfShape h store
   pub width : s.states.width ≡ length (chosen parts jobs) + 1
 
-pub readable : (h : Shape) (s : Shelf) (m : MachineState) (place : ℕ) (tuple : List ℕ) (store : Contents) (parts : List Task) (jobs : List ℕ) → IsShelf h s → FitsShelf h s m → place < s.states.count → tuple_at s.states place ≡ tuple → length tuple ≡ s.states.width → 1 ≤ s.states.width
+pub readable : (h : Shape) (s : Stock) (m : MachineState) (place : ℕ) (tuple : List ℕ) (store : Contents) (parts : List Task) (jobs : List ℕ) → IsShelf h s → FitsShelf h s m → place < s.states.count → tuple_at s.states place ≡ tuple → length tuple ≡ s.states.width → 1 ≤ s.states.width
     → store ≡ slice_index_or s.stores (slice_index_or tuple 0 0) no_store → parts ≡ s.parts → jobs ≡ drop 1 tuple → IsReadable h s m place store parts jobs
 readable h s m place tuple store parts jobs is fits less at size some stored same numbered =
     let state : IsState s tuple = subst (IsState s) at (is.states place less) in
@@ -122,7 +122,7 @@ readable h s m place tuple store parts jobs is fits less at size some stored sam
     } in
     subst (λ (p : Contents). IsReadable h s m place p parts jobs) (sym stored) (subst (λ (ts : List Task). IsReadable h s m place there ts jobs) (sym same) (subst (λ (ns : List ℕ). IsReadable h s m place there s.parts ns) (sym numbered) ready))
 
-pub stored_inside : (h : Shape) (s : Shelf) (place : ℕ) (tuple : List ℕ) → IsShelf h s → place < s.states.count → tuple_at s.states place ≡ tuple → slice_index_or tuple 0 0 < length s.stores
+pub stored_inside : (h : Shape) (s : Stock) (place : ℕ) (tuple : List ℕ) → IsShelf h s → place < s.states.count → tuple_at s.states place ≡ tuple → slice_index_or tuple 0 0 < length s.stores
 stored_inside h s place tuple is less at = let state : IsState s tuple = subst (IsState s) at (is.states place less) in state.stored
 
 -- what is restored
@@ -150,9 +150,9 @@ numbered_under stores parts m before new store first stored alike numbered =
     })
 
 -- ---- a state is kept
-module _ (h : Shape) (s : Shelf) (m : MachineState) (stores : List Contents) (parts : List Task) (is : IsShelf h s) (fits : FitsShelf h s m)
+module _ (h : Shape) (s : Stock) (m : MachineState) (stores : List Contents) (parts : List Task) (is : IsShelf h s) (fits : FitsShelf h s m)
     (adds : (stores ≡ s.stores) ⊎ (stores ≡ s.stores ++ m.store ∷ [])) (grows : (more : List Task) × (parts ≡ s.parts ++ more)) where
-  abbrev with_states : TupleList → Shelf
+  abbrev with_states : TupleList → Stock
   with_states states = shelf_of s.programs stores parts states
 
   grown : (states : TupleList) → Grows s (with_states states) m.store
@@ -242,21 +242,21 @@ first_kept old kept m n none (inr (one, e, shows)) less =
     (ap (λ (ms : List MachineState). length ms) only, (one, ap (λ (ms : List MachineState). slice_get ms 0) only, shows))
 
 -- ---- each kept machine
-pub kept_inside : (s : Shelf) (i : ℕ) → i < length (machines s s.states.count) → i < s.states.count
+pub kept_inside : (s : Stock) (i : ℕ) → i < length (machines s s.states.count) → i < s.states.count
 kept_inside s i less = let count = machines_length s s.states.count in omega arith
 
-pub kept_is : (s : Shelf) (i : ℕ) (m : MachineState) → slice_get (machines s s.states.count) i ≡ Some m → (i < s.states.count) × (m ≡ machine_at s i)
+pub kept_is : (s : Stock) (i : ℕ) (m : MachineState) → slice_get (machines s s.states.count) i ≡ Some m → (i < s.states.count) × (m ≡ machine_at s i)
 kept_is s i m at =
     let less = kept_inside s i (slice_get_within (machines s s.states.count) i m at) in
     let two : Some m ≡ Some (machine_at s i) = sym at ∙ machines_at s s.states.count i less in
     (less, cc)
 
 -- its jobs are those of its numbers
-pub kept_jobs : (s : Shelf) (i : ℕ) (m : MachineState) → slice_get (machines s s.states.count) i ≡ Some m → m.jobs ≡ chosen s.parts (drop 1 (tuple_at s.states i))
+pub kept_jobs : (s : Stock) (i : ℕ) (m : MachineState) → slice_get (machines s s.states.count) i ≡ Some m → m.jobs ≡ chosen s.parts (drop 1 (tuple_at s.states i))
 kept_jobs s i m at = ap (λ (n : MachineState). n.jobs) (kept_is s i m at).1
 
 -- no job is on a CPU beyond the store's
-pub idle_beyond : (h : Shape) (s : Shelf) → IsShelf h s → (i c : ℕ) → h.cpus ≤ c → IsIdleAt (machines s s.states.count) i c
+pub idle_beyond : (h : Shape) (s : Stock) → IsShelf h s → (i c : ℕ) → h.cpus ≤ c → IsIdleAt (machines s s.states.count) i c
 idle_beyond h s is i c beyond m at =
     let k = kept_is s i m at in
     let state = is.states i k.0 in

@@ -12,7 +12,7 @@ use Rattle.bpf_machine.specs.Schedule.{World}
 use Rattle.bpf_explore.specs.Album.{AreApart}
 use Rattle.bpf_explore.specs.Tuples.{tuple_at}
 use Rattle.bpf_explore.specs.Private.Kept.{AreTuplesApart, part_at, ArePartsApart, store_at, AreStoresApart}
-use Rattle.bpf_explore.specs.Private.Album.{Shelf, machine_at, machines, IsShelf}
+use Rattle.bpf_explore.specs.Private.Album.{Stock, machine_at, machines, IsShelf}
 use Rattle.bpf_explore.proofs.AlbumLaws.{kept_is}
 use Rattle.bpf_plain.proofs.OneStore.{one_saving}
 
@@ -55,7 +55,7 @@ both_same ns ms a b first rest =
     first_and_rest ns a ∙ (ap (λ (k : ℕ). k ∷ drop 1 ns) first ∙ (ap (λ (ks : List ℕ). slice_index_or ms 0 0 ∷ ks) rest ∙ sym (first_and_rest ms b)))
 
 -- ---- states
-module _ (h : Shape) (s : Shelf) (is : IsShelf h s) (stores : AreStoresApart s.stores) (saved : (i : ℕ) → i < length s.stores → (bytes : List ℕ) × IsSavedAs (store_at s.stores i) bytes) (parts : ArePartsApart s.parts) (states : AreTuplesApart s.states) where
+module _ (h : Shape) (s : Stock) (is : IsShelf h s) (stores : AreStoresApart s.stores) (saved : (i : ℕ) → i < length s.stores → (bytes : List ℕ) × IsSavedAs (store_at s.stores i) bytes) (parts : ArePartsApart s.parts) (states : AreTuplesApart s.states) where
   tuple_size : (i : ℕ) → i < s.states.count → 1 ≤ length (tuple_at s.states i)
   tuple_size i less =
       let fits = block_fits i s.states.count s.states.width less in

@@ -9,7 +9,7 @@ use Rattle.bpf_machine.specs.Parts.{chosen, chosen_at, no_task}
 use Rattle.bpf_machine.proofs.PartLaws.{chosen_is, chosen_count}
 use Rattle.bpf_explore.specs.Album.{HaveBudgets}
 use Rattle.bpf_explore.specs.Tuples.{tuple_at}
-use Rattle.bpf_explore.specs.Private.Album.{Shelf, machines, IsState, HasEndedOn}
+use Rattle.bpf_explore.specs.Private.Album.{Stock, machines, IsState, HasEndedOn}
 use Rattle.bpf_explore.proofs.AlbumLaws.{kept_is, kept_jobs}
 use Rattle.bpf_explore.proofs.TellLaws.{this_part}
 
@@ -39,7 +39,7 @@ idle_jobs jobs c ended = (
 )
 
 -- ---- budgets
-pub have_budgets : (s : Shelf) (least : ℕ) → ((i : ℕ) → i < s.states.count → IsState s (tuple_at s.states i)) → ((n : ℕ) (task : Task) → slice_get s.parts n ≡ Some task → least ≤ task.budget) → HaveBudgets (machines s s.states.count) least
+pub have_budgets : (s : Stock) (least : ℕ) → ((i : ℕ) → i < s.states.count → IsState s (tuple_at s.states i)) → ((n : ℕ) (task : Task) → slice_get s.parts n ≡ Some task → least ≤ task.budget) → HaveBudgets (machines s s.states.count) least
 have_budgets s least states all i j m task at there =
     let k = kept_is s i m at in
     let numbers = drop 1 (tuple_at s.states i) in

@@ -23,7 +23,7 @@ one_within : (parts : List Task) (n : ℕ) → n < length parts → All (λ m. m
 one_within parts n less zero d inside = less
 one_within parts n less (suc k) d inside = absurd (omega arith)
 
-more_parts : (first mid parts : List Task) → ((more : List Task) × (mid ≡ first ++ more)) → ((more : List Task) × (parts ≡ mid ++ more)) → (more : List Task) × (parts ≡ first ++ more)
+pub more_parts : (first mid parts : List Task) → ((more : List Task) × (mid ≡ first ++ more)) → ((more : List Task) × (parts ≡ mid ++ more)) → (more : List Task) × (parts ≡ first ++ more)
 more_parts first mid parts a b = (a.0 ++ b.0, b.1 ∙ (ap (λ (ts : List Task). ts ++ b.0) a.1 ∙ append_assoc first a.0 b.0))
 
 pub next_kept : (first : List Task) (before : List ℕ) (jobs : List Task) (job : ℕ) (mid parts : List Task) (numbers later : List ℕ) (n : ℕ) → KeptSoFar first before jobs job mid numbers → job < length jobs → ((more : List Task) × (parts ≡ mid ++ more))

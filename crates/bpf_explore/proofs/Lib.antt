@@ -6,8 +6,10 @@ pub mod OutcomeLaws
 pub mod StandAlike
 pub mod ShelfLaws
 pub mod KeepLaws
+pub mod FreshLaws
 pub mod ClassLaws
 pub mod AlbumLaws
+pub mod NumberedLaws
 pub mod ApartLaws
 pub mod StopLaws
 pub mod WayLaws

@@ -14,7 +14,7 @@ use Rattle.bpf_machine.specs.Parts.{CanStand, chosen, no_task}
 use Rattle.bpf_explore.specs.Stores.{IsOfShape, no_store}
 use Rattle.bpf_explore.specs.Tuples.{TupleList, tuple_at, AreWhole, with_tuple}
 use Rattle.bpf_explore.proofs.KeptLaws.{tuple_still, tuple_new, whole_new}
-use Rattle.bpf_explore.specs.Private.Album.{Shelf, machine_of, machine_at, machines, IsState, IsShelf, Grows}
+use Rattle.bpf_explore.specs.Private.Album.{Stock, machine_of, machine_at, machines, IsState, IsShelf, Grows}
 
 -- ---- jobs by their numbers
 pub chosen_still : (parts more : List Task) (numbers : List ℕ) → All (λ n. n < length parts) numbers → chosen (parts ++ more) numbers ≡ chosen parts numbers
@@ -29,11 +29,11 @@ pub within_still : (parts more : List Task) (numbers : List ℕ) → All (λ n. 
 within_still parts more numbers all k d less = let here = all k d less in let both = length-append parts more in omega arith
 
 -- ---- the kept machines
-pub machines_length : (s : Shelf) (n : ℕ) → length (machines s n) ≡ n
+pub machines_length : (s : Stock) (n : ℕ) → length (machines s n) ≡ n
 machines_length s zero = refl
 machines_length s (suc n) = let e = machines_length s n in let both = length-append (machines s n) (machine_at s n ∷ []) in omega arith
 
-pub machines_at : (s : Shelf) (n i : ℕ) → i < n → slice_get (machines s n) i ≡ Some (machine_at s i)
+pub machines_at : (s : Stock) (n i : ℕ) → i < n → slice_get (machines s n) i ≡ Some (machine_at s i)
 machines_at s zero i less = absurd (omega arith)
 machines_at s (suc n) i less = let count = machines_length s n in elim (cases_lt i n) [
   | inl below ↦ slice_get-front (machines s n) (machine_at s n ∷ []) i (omega arith) ∙ machines_at s n i below
@@ -42,7 +42,7 @@ machines_at s (suc n) i less = let count = machines_length s n in elim (cases_lt
       slice_get-append (machines s n) (machine_at s n ∷ []) 0 i (omega arith) ∙ ap (λ (k : ℕ). Some (machine_at s k)) (sym e)
 ]
 
-machines_still : (s t : Shelf) (n : ℕ) → ((i : ℕ) → i < n → machine_at t i ≡ machine_at s i) → machines t n ≡ machines s n
+machines_still : (s t : Stock) (n : ℕ) → ((i : ℕ) → i < n → machine_at t i ≡ machine_at s i) → machines t n ≡ machines s n
 machines_still s t zero same = refl
 machines_still s t (suc n) same =
     ap (λ (ms : List MachineState). ms ++ machine_at t n ∷ []) (machines_still s t n (λ i less. same i (omega arith)))
@@ -51,7 +51,7 @@ machines_still s t (suc n) same =
 abbrev standing : Contents → List Loaded → List Task → MachineState
 standing p programs jobs = record { store = p; programs = programs; jobs = jobs; lists = None }
 
-module _ (old new : Shelf) (store : Contents) (g : Grows old new store) where
+module _ (old new : Stock) (store : Contents) (g : Grows old new store) where
   store_still : (n : ℕ) → n < length old.stores → slice_index_or new.stores n no_store ≡ slice_index_or old.stores n no_store
   store_still n less = elim g.stores [
     | inl e ↦ ap (λ (ps : List Contents). slice_index_or ps n no_store) e

@@ -11,7 +11,9 @@ ghost use Rattle.bpf_explore.specs.Stores.{IsOfShape, no_store};
 ghost use Rattle.bpf_explore.specs.Private.Album.{AreKeptUnder, AreNumbersOf, HasEndedOn, IsNumberOf};
 
 use crate::classes::Classes;
+use crate::hand::Hand;
 use crate::parts::Parts;
+use crate::shelf::Shelf;
 use crate::stores::Stores;
 use crate::tuples::Tuples;
 use bpf_alike::find_all_live;
@@ -64,7 +66,7 @@ fn keep_jobs(
 /// Takes all bytes out. Called, and first of all, so that who calls it sets up its frame before that:
 /// LLVM would put it after a few instructions, and lose a register there.
 #[inline(never)]
-fn clear_bytes(bytes: &mut Vec<u8>)
+pub(crate) fn clear_bytes(bytes: &mut Vec<u8>)
     ensures { bytes.new.items ≡ [] }
 {
     bytes.clear();
@@ -72,7 +74,7 @@ fn clear_bytes(bytes: &mut Vec<u8>)
 
 /// Takes all numbers out. Called, as above.
 #[inline(never)]
-fn clear_numbers(numbers: &mut Vec<u32>)
+pub(crate) fn clear_numbers(numbers: &mut Vec<u32>)
     ensures { numbers.new.items ≡ [] }
 {
     numbers.clear();
@@ -197,43 +199,24 @@ fn least_budget(parts: &[KeptJob]) -> u64
 #[derive(Drop)]
 pub struct Album {
     alloc: Global,
-    shape: StoreShape,
-    machine: Machine,
-    stores: Stores,
-    parts: Parts,
-    states: Tuples,
-    /// By which machines are found that are alike.
-    classes: Classes,
-    /// Room to save a store.
-    bytes: Vec<u8>,
-    /// Room for the numbers of a state.
-    numbers: Vec<u32>,
+    shelf: Shelf,
+    hand: Hand,
 }
 
 impl Model for Album {
     ghost use Rattle.std.specs.Prelude.{◌≡◌, ◌+◌, length};
     ghost use Rattle.bpf_explore.specs.Album.{AlbumState};
-    ghost use Rattle.bpf_alike.specs.Worlds.{AreLiveTables, table_at};
-    ghost use Rattle.bpf_explore.specs.Private.Album.{Shelf, machines, IsShelf, FitsShelf};
+    ghost use Rattle.bpf_explore.specs.Private.Album.{Serves, shelved};
 
     ghost Value = { AlbumState };
 
-    ghost view = { λ a. let shelf : Shelf = record {
-      programs = a.machine.programs;
-      stores = a.stores;
-      parts = a.parts;
-      states = a.states;
-    } in
-        record { machine = a.machine; kept = machines shelf a.states.count; cpus = a.shape.cpus } };
+    ghost view = { λ a. record {
+      machine = a.hand.machine;
+      kept = shelved a.shelf a.hand.machine.programs;
+      cpus = a.shelf.shape.cpus;
+    } };
 
-    ghost invariant = { λ a. let shelf : Shelf = record {
-      programs = a.machine.programs;
-      stores = a.stores;
-      parts = a.parts;
-      states = a.states;
-    } in
-        IsShelf a.shape shelf × FitsShelf a.shape shelf a.machine
-        × AreLiveTables a.machine.programs (table_at a.classes) };
+    ghost invariant = { λ a. Serves a.shelf a.hand.machine };
 }
 
 impl Album {
@@ -258,14 +241,14 @@ impl Album {
         let width = machine.jobs().checked_add(1).ok_or(AllocError)?;
         Ok(Album {
             alloc,
-            shape,
-            machine,
-            stores: Stores::new(alloc),
-            parts: Parts::new(alloc),
-            states: Tuples::new(alloc, width),
-            classes: Classes::new(alloc, tables),
-            bytes: Vec::new(alloc),
-            numbers: Vec::new(alloc),
+            shelf: Shelf {
+                shape,
+                stores: Stores::new(alloc),
+                parts: Parts::new(alloc),
+                states: Tuples::new(alloc, width),
+                classes: Classes::new(alloc, tables),
+            },
+            hand: Hand::new(alloc, machine),
         })
     }
 
@@ -274,21 +257,28 @@ impl Album {
         ensures machine { result.now ≡ self.now.machine }
         ensures lists { self.now.machine.lists ≡ None }
     {
-        &self.machine
+        &self.hand.machine
     }
 
     /// How many are kept.
     pub fn len(&self) -> usize
         ensures { result ≡ length self.now.kept }
     {
-        self.states.count()
+        self.shelf.states.count()
     }
 
     /// About how many bytes of memory they take.
     pub fn bytes(&self) -> usize {
-        let parts = self.parts.bytes().saturating_add(self.states.bytes());
-        let found = self.classes.bytes().saturating_add(parts);
-        self.stores.bytes(&self.shape).saturating_add(found)
+        let parts = self
+            .shelf
+            .parts
+            .bytes()
+            .saturating_add(self.shelf.states.bytes());
+        let found = self.shelf.classes.bytes().saturating_add(parts);
+        self.shelf
+            .stores
+            .bytes(&self.shelf.shape)
+            .saturating_add(found)
     }
 
     /// Takes a kept machine to work with.
@@ -298,11 +288,7 @@ impl Album {
         ensures same { self.new.kept ≡ self.old.kept }
         ensures cpus { self.new.cpus ≡ self.old.cpus }
     {
-        let tuple = self.states.tuple(place);
-        let store = self.stores.store(tuple[0] as usize);
-        let numbers = behind_first(tuple);
-        self.machine
-            .restore(self.alloc, store, self.parts.jobs(), numbers)?;
+        self.hand.restore(self.alloc, &self.shelf, place)?;
         Ok(())
     }
 
@@ -315,7 +301,7 @@ impl Album {
         ensures same { self.new.kept ≡ self.old.kept }
         ensures cpus { self.new.cpus ≡ self.old.cpus }
     {
-        self.machine.turn_ahead(cpu)
+        self.hand.machine.turn_ahead(cpu)
     }
 
     /// Gives the job that a CPU has in hand, if it has one, its whole budget back.
@@ -324,7 +310,7 @@ impl Album {
         ensures same { self.new.kept ≡ self.old.kept }
         ensures cpus { self.new.cpus ≡ self.old.cpus }
     {
-        self.machine.refill(cpu);
+        self.hand.machine.refill(cpu);
     }
 
     /// The turns of a schedule that is printed by CPUs, each with how many turns it takes before the
@@ -335,7 +321,7 @@ impl Album {
         ensures same { self.new.kept ≡ self.old.kept }
         ensures cpus { self.new.cpus ≡ self.old.cpus }
     {
-        self.machine.turns_by(runs)
+        self.hand.machine.turns_by(runs)
     }
 
     /// Keeps the machine, unless one is found that shows all that it shows, but for registers that are
@@ -347,21 +333,21 @@ impl Album {
         ensures same { self.new.machine ≡ self.old.machine }
         ensures cpus { self.new.cpus ≡ self.old.cpus }
     {
-        self.machine.stands();
+        self.hand.machine.stands();
         keep_machine(
             self.alloc,
-            &self.shape,
-            &self.machine,
-            &mut self.stores,
-            &mut self.parts,
-            &mut self.bytes,
-            &mut self.numbers,
+            &self.shelf.shape,
+            &self.hand.machine,
+            &mut self.shelf.stores,
+            &mut self.shelf.parts,
+            &mut self.hand.bytes,
+            &mut self.hand.numbers,
         )?;
-        let number = self.classes.keep(
+        let number = self.shelf.classes.keep(
             self.alloc,
-            &mut self.states,
-            self.parts.jobs(),
-            &self.numbers,
+            &mut self.shelf.states,
+            self.shelf.parts.jobs(),
+            &self.hand.numbers,
         )?;
         Ok(number)
     }
@@ -371,7 +357,7 @@ impl Album {
         ensures cpus { result ≡ self.now.cpus }
         ensures idle { (i c : ℕ) → result ≤ c → IsIdleAt self.now.kept i c }
     {
-        self.shape.cpus()
+        self.shelf.shape.cpus()
     }
 
     /// Whether each job of a kept machine has ended.
@@ -380,7 +366,10 @@ impl Album {
         ensures ended { result ≡ true → HaveEndedAt self.now.kept place }
         ensures works { result ≡ false → HaveEndedAt self.now.kept place → ⊥ }
     {
-        have_ended(self.parts.jobs(), behind_first(self.states.tuple(place)))
+        have_ended(
+            self.shelf.parts.jobs(),
+            behind_first(self.shelf.states.tuple(place)),
+        )
     }
 
     /// Whether no job of a kept machine has ended out of budget.
@@ -389,7 +378,10 @@ impl Album {
         ensures none { result ≡ true → NoneRanOutAt self.now.kept place }
         ensures out { result ≡ false → NoneRanOutAt self.now.kept place → ⊥ }
     {
-        none_ran_out(self.parts.jobs(), behind_first(self.states.tuple(place)))
+        none_ran_out(
+            self.shelf.parts.jobs(),
+            behind_first(self.shelf.states.tuple(place)),
+        )
     }
 
     /// Whether a CPU has work in a kept machine.
@@ -398,8 +390,8 @@ impl Album {
         ensures { result ≡ false → IsIdleAt self.now.kept place cpu }
     {
         has_work(
-            self.parts.jobs(),
-            behind_first(self.states.tuple(place)),
+            self.shelf.parts.jobs(),
+            behind_first(self.shelf.states.tuple(place)),
             cpu,
         )
     }
@@ -408,16 +400,16 @@ impl Album {
     pub fn least_budget(&self) -> u64
         ensures { HaveBudgets self.now.kept result }
     {
-        least_budget(self.parts.jobs())
+        least_budget(self.shelf.parts.jobs())
     }
 
     /// No world is shown by two of the kept machines.
     pub fn apart(&self)
         ensures { AreApart self.now.kept }
     {
-        self.stores.apart();
-        self.parts.apart();
-        self.states.apart();
+        self.shelf.stores.apart();
+        self.shelf.parts.apart();
+        self.shelf.states.apart();
     }
 
     /// Machines of which the first is kept.

@@ -80,7 +80,7 @@ impl Parts {
     }
 
     /// The number under which a job is so that has this hash, if it is kept.
-    fn find(&self, hash: u64, machine: &Machine, job: usize) -> Option<usize>
+    pub fn find(&self, hash: u64, machine: &Machine, job: usize) -> Option<usize>
         requires job { job < length machine.now.jobs }
         requires hash { (task : Task) → slice_get machine.now.jobs job ≡ Some task
             → hash ≡ task_hash task }

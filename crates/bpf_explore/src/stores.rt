@@ -188,6 +188,22 @@ impl Stores {
         None
     }
 
+    /// How many are kept.
+    pub fn count(&self) -> usize
+        ensures { result ≡ length self.now }
+    {
+        self.kept.len()
+    }
+
+    /// The number of a store that is saved as these bytes, if one is kept.
+    pub fn number(&self, bytes: &[u8]) -> Option<usize>
+        ensures within { IfSome result (λ n. n < length self.now) }
+        ensures alike { IfSome result
+            (λ n. IsSavedAs (slice_index_or self.now n no_store) bytes.now) }
+    {
+        self.find(hash_of(bytes), bytes)
+    }
+
     /// Makes more places where half of them are taken.
     fn widen(&mut self, alloc: Global) -> Result<(), AllocError>
         ensures { self.new ≡ self.old }

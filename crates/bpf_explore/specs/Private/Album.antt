@@ -10,43 +10,45 @@ use Rattle.bpf_machine.specs.Schedule.{World}
 use Rattle.bpf_machine.specs.Machine.{MachineState, Shows}
 use Rattle.bpf_machine.specs.Parts.{CanStand, chosen, made_of, no_task}
 use Rattle.bpf_explore.specs.Stores.{IsOfShape, no_store}
+use Rattle.bpf_alike.specs.Worlds.{AreLiveTables, table_at}
 use Rattle.bpf_explore.specs.Tuples.{TupleList, tuple_at, AreWhole}
+use Rattle.bpf_explore.specs.declared.shelf.Shelf.{Shelf}
 
 -- what is kept. A state is a tuple of numbers: the store's, and then each job's
-pub record Shelf : Type 0 where
+pub record Stock : Type 0 where
   pub programs : List Loaded
   pub stores : List Contents
   pub parts : List Task
   pub states : TupleList
 
 -- the machine of these numbers
-abbrev pub machine_of : Shelf → List ℕ → MachineState
+abbrev pub machine_of : Stock → List ℕ → MachineState
 machine_of s tuple =
     made_of (slice_index_or s.stores (slice_index_or tuple 0 0) no_store) s.programs s.parts
     (drop 1 tuple)
 
-abbrev pub machine_at : Shelf → ℕ → MachineState
+abbrev pub machine_at : Stock → ℕ → MachineState
 machine_at s i = machine_of s (tuple_at s.states i)
 
 -- the machines of the first n states
-abbrev pub machines : Shelf → ℕ → List MachineState
+abbrev pub machines : Stock → ℕ → List MachineState
 machines s zero = []
 machines s (suc n) = machines s n ++ machine_at s n ∷ []
 
 -- these numbers are those of a store and of jobs that fit each other
-pub record IsState (s : Shelf) (tuple : List ℕ) : Type 0 where
+pub record IsState (s : Stock) (tuple : List ℕ) : Type 0 where
   pub stored : slice_index_or tuple 0 0 < length s.stores
   pub within : All (λ n. n < length s.parts) (drop 1 tuple)
   pub stands : CanStand (machine_of s tuple)
 
 -- each store has this shape, and each state is one
-pub record IsShelf (h : Shape) (s : Shelf) : Type 0 where
+pub record IsShelf (h : Shape) (s : Stock) : Type 0 where
   pub whole : AreWhole s.states
   pub shapes : (n : ℕ) → n < length s.stores → IsOfShape h (slice_index_or s.stores n no_store)
   pub states : (i : ℕ) → i < s.states.count → IsState s (tuple_at s.states i)
 
 -- nothing that was kept is lost, and at most one store and one state is new
-pub record Grows (old new : Shelf) (store : Contents) : Type 0 where
+pub record Grows (old new : Stock) (store : Contents) : Type 0 where
   pub programs : new.programs ≡ old.programs
   pub stores : (new.stores ≡ old.stores) ⊎ (new.stores ≡ old.stores ++ store ∷ [])
   pub parts : (more : List Task) × (new.parts ≡ old.parts ++ more)
@@ -77,11 +79,40 @@ AddsOne old m new = (new ≡ old)
     ⊎ ((one : MachineState) × (new ≡ old ++ one ∷ []) × ((w : World) → Shows m w → Shows one w))
 
 -- the machine fits what is kept
-pub record FitsShelf (h : Shape) (s : Shelf) (m : MachineState) : Type 0 where
+pub record FitsShelf (h : Shape) (s : Stock) (m : MachineState) : Type 0 where
   pub shape : IsOfShape h m.store
   pub programs : s.programs ≡ m.programs
   pub width : s.states.width ≡ length m.jobs + 1
   pub lists : m.lists ≡ None
+
+-- what is on the shelf, for a host that has these programs
+abbrev pub stock_of : Shelf → List Loaded → Stock
+stock_of s programs = record {
+  programs = programs;
+  stores = s.stores;
+  parts = s.parts;
+  states = s.states;
+}
+
+-- the i-th kept machine
+abbrev pub shelved_at : Shelf → List Loaded → ℕ → MachineState
+shelved_at s programs i = machine_at (stock_of s programs) i
+
+-- all of them
+abbrev pub shelved : Shelf → List Loaded → List MachineState
+shelved s programs = machines (stock_of s programs) s.states.count
+
+-- what is on the shelf is whole, and the machine can be made what is kept there
+abbrev pub Serves : Shelf → MachineState → Type 0
+Serves s m = IsShelf s.shape (stock_of s m.programs)
+    × FitsShelf s.shape (stock_of s m.programs) m
+    × AreLiveTables m.programs (table_at s.classes)
+
+-- the machine is of the shelf's host, and its store and its jobs have these numbers there
+pub record IsNumbered (s : Shelf) (m : MachineState) (numbers : List ℕ) : Type 0 where
+  pub serves : Serves s m
+  pub stands : CanStand m
+  pub under : AreKeptUnder s.stores s.parts m numbers
 
 -- a job of the CPU has ended
 abbrev pub HasEndedOn : ℕ → Task → Type 0

@@ -7,5 +7,5 @@ use Rattle.bpf_explore.proofs.album.Album.apart.Goals as goal
 pub returns : goal.returns
 returns c =
     let m = c.self.inside in
-    let shelf = shelf_of m.machine.programs m.stores m.parts m.states in
-    subst (λ (a : AlbumState). AreApart a.kept) c.self.view_is (are_apart m.shape shelf c.self.invariant.0 c.apart.ensures.apart c.apart.ensures.saved c.apart-2.ensures c.apart-3.ensures)
+    let shelf = shelf_of m.hand.machine.programs m.shelf.stores m.shelf.parts m.shelf.states in
+    subst (λ (a : AlbumState). AreApart a.kept) c.self.view_is (are_apart m.shelf.shape shelf c.self.invariant.0 c.apart.ensures.apart c.apart.ensures.saved c.apart-2.ensures c.apart-3.ensures)

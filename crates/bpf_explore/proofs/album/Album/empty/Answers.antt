@@ -1,5 +1,6 @@
-use Rattle.std.proofs.Common.{List, sym, subst, rules}
+use Rattle.std.proofs.Common.{◌∙◌, List, ap, sym, subst, rules}
 use Rattle.bpf_loader.specs.Loaded.{Loaded}
+use Rattle.bpf_machine.specs.Machine.{MachineState}
 use Rattle.bpf_live.specs.Live.{Table}
 use Rattle.bpf_alike.specs.Worlds.{AreLiveTables, table_at}
 use Rattle.bpf_explore.proofs.album.Album.empty.Goals as goal
@@ -8,6 +9,6 @@ pub invariant_of-result : goal.invariant_of-result
 invariant_of-result c = (
   search rules,
   search rules,
-  subst (λ (ps : List Loaded). AreLiveTables ps (table_at c.new-4.result)) c.programs.ensures
+  subst (λ (ps : List Loaded). AreLiveTables ps (table_at c.new-4.result)) (c.programs.ensures ∙ ap (λ (m : MachineState). m.programs) (sym c.new-5.ensures))
       (subst (λ (ts : List Table). AreLiveTables c.programs.result.now (table_at ts)) (sym c.new-4.ensures) c.in_ok-tables.ensures),
 )
