@@ -1,12 +1,12 @@
 -- Dives: schedules to which turns are added, jobs that have all ended, and answers among which one more is put.
-use Rattle.std.proofs.Common.{◌≡◌, ◌∙◌, ℕ, ◌+◌, ◌<◌, ◌≤◌, Bool, List, [], ◌∷◌, ◌++◌, Option, Some, None, inl, inr, length, replicate, refl, sym, ap, subst, append-nil, append_assoc, add-one, arith}
-use Rattle.std.specs.Prelude.{slice_get, insert, IfSome, string_bytes}
+use Rattle.std.proofs.Common.{◌≡◌, ◌∙◌, ℕ, ◌+◌, ◌≤◌, Bool, List, [], ◌∷◌, ◌++◌, Option, Some, None, inl, inr, length, replicate, refl, sym, ap, subst, append-nil, append_assoc, add-one, arith}
+use Rattle.std.specs.Prelude.{insert, IfSome, string_bytes}
 use Rattle.std.proofs.lemmas.Bool.{cases_lt}
 use Rattle.std.proofs.lemmas.List.{replicate-append-replicate}
 use Rattle.std.proofs.lemmas.Option.{slice_get_within}
 use Rattle.bpf_names.specs.Names.{Names}
 use Rattle.bpf_cpu.specs.declared.outcome.Outcome.{Outcome}
-use Rattle.bpf_cpu.specs.Task.{Task, Ended, ended, outcome_at}
+use Rattle.bpf_cpu.specs.Task.{Task, ended, outcome_at}
 use Rattle.bpf_machine.specs.Machine.{MachineState, Shows}
 use Rattle.bpf_machine.specs.Patient.{NoneRanOut}
 use Rattle.bpf_machine.specs.Rounds.{HaveEnded}

@@ -1,10 +1,9 @@
 -- From a shape and its jobs to the answers.
-use Rattle.std.proofs.Common.{◌≡◌, ◌∙◌, ℕ, zero, suc, ◌<◌, ◌≤◌, Bool, true, false, List, [], ◌∷◌, Option, Some, None, length, map, refl, sym, ap, arith}
+use Rattle.std.proofs.Common.{◌≡◌, ◌∙◌, ℕ, zero, suc, ◌<◌, Bool, true, false, List, [], ◌∷◌, Option, Some, None, length, map, refl, sym, ap, arith}
 use Rattle.std.specs.Prelude.{All, nat_lt, slice_get}
 use Rattle.std.proofs.lemmas.List.{get_or_past}
 use Rattle.std.proofs.lemmas.Option.{slice_get_within}
 use Rattle.bpf_base.proofs.Lists.{slice_get-front}
-use Rattle.bpf_mem.specs.Limits.{max_context}
 use Rattle.bpf_shared.specs.Shape.{Shape}
 use Rattle.bpf_names.specs.Names.{Names}
 use Rattle.bpf_pairs.specs.Pairs.{Pair}

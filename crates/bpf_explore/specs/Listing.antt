@@ -1,6 +1,7 @@
 -- How answers are printed. Our own choice.
 use Rattle.std.specs.Prelude.{ℕ, zero, suc, ◌++◌, Bool, List, [], codes, length, slice_index_or, if◌then◌else◌, false}
 use Rattle.std.specs.Fmt.{decimal}
+use Rattle.bpf_schedule.specs.Moves.{all_moves_text}
 use Rattle.bpf_schedule.specs.Spelling.{runs_text}
 use Rattle.bpf_threads.specs.declared.threads.Threads.{Threads}
 use Rattle.bpf_threads.specs.Lines.{threads_text}
@@ -10,7 +11,8 @@ use Rattle.bpf_explore.specs.Outcomes.{Found}
 
 -- the schedule on a line, and then what is printed
 abbrev pub answer_text : Found → List ℕ
-answer_text found = codes "by" ++ runs_text (length found.by) found.by ++ codes "\n" ++ found.text
+answer_text found =
+    codes "by" ++ all_moves_text (length found.by) found.by ++ codes "\n" ++ found.text
 
 abbrev pub no_answer : Found
 no_answer = record { text = []; stopped = false; by = [] }

@@ -34,7 +34,7 @@ impl Model for Answer {
 
 impl Answer {
     /// What is printed, with a schedule that leads there.
-    pub(crate) fn new(text: String, stopped: bool, by: Vec<(u8, u64)>) -> Answer
+    pub fn new(text: String, stopped: bool, by: Vec<(u8, u64)>) -> Answer
         ensures { result ≡ record { text = string_bytes text; stopped = stopped; by = by.items } }
     {
         Answer { text, stopped, by }

@@ -7,7 +7,7 @@ use crate::answers::Answer;
 use crate::budgets::Budgets;
 use crate::exploring::{Explored, ExploredPatiently};
 use crate::hung::Hung;
-use bpf_schedule::push_runs;
+use bpf_schedule::{push_moves, push_runs};
 use bpf_threads::{Threads, push_threads};
 use std::alloc::{AllocError, Global};
 
@@ -17,7 +17,7 @@ fn push_answer(alloc: Global, text: &mut String, answer: &Answer) -> Result<(), 
         ≡ string_bytes text.old ++ answer_text answer.now) }
 {
     text.push_str("by")?;
-    push_runs(alloc, text, answer.by())?;
+    push_moves(alloc, text, answer.by())?;
     text.push_str("\n")?;
     text.push_str(answer.text())
 }

@@ -16,9 +16,9 @@ use Rattle.bpf_races.specs.declared.found.Pair.{Pair}
 use Rattle.bpf_races.specs.declared.sync.Part.{Part}
 use Rattle.bpf_races.specs.Touch.{IsAmong}
 use Rattle.bpf_races.specs.Searched.{IsLedTo}
-use Rattle.bpf_races.specs.Races.{RaceFound, RacesBy, RacesIn, AreListed, AreOnce, AreRacesIn, IsIndexAt, IsKeyAt, IsListed, IsTold, Spot, spot_of}
-use Rattle.bpf_races.specs.Parts.{IsLeftOut, map_at}
-use Rattle.bpf_races.specs.Private.Searching.{AreAllListed, AreListedAt, AreRacesAt, Gathered, IsOneOf, IsRaceAt, IsSame, Keeps}
+use Rattle.bpf_races.specs.Races.{RaceFound, RacesBy, RacesIn, AreRacesIn, IsIndexAt, IsKeyAt, IsListed, IsTold, Spot, spot_of}
+use Rattle.bpf_races.specs.Parts.{IsLeftOut}
+use Rattle.bpf_races.specs.Private.Searching.{AreAllListed, AreListedAt, AreRacesAt, Gathered, IsOneOf, IsRaceAt, Keeps}
 use Rattle.bpf_races.proofs.Lists.{in_cases}
 use Rattle.bpf_races.proofs.Listed.{keeps_same, keeps_more, listed_still, once_pushed}
 

@@ -1,6 +1,5 @@
 -- Lists of races.
-use Rattle.std.proofs.Common.{◌≡◌, ◌∙◌, ℕ, ◌⊎◌, List, [], ◌∷◌, ◌++◌, Option, Some, inl, inr, refl, sym, ap, subst, arith}
-use Rattle.std.specs.Prelude.{slice_get}
+use Rattle.std.proofs.Common.{◌≡◌, ◌∙◌, ℕ, List, [], ◌∷◌, ◌++◌, inl, inr, refl, sym, ap, subst}
 use Rattle.bpf_races.specs.Touch.{IsAmong}
 use Rattle.bpf_races.specs.Races.{RaceFound, AreOnce, IsListed, Spot, spot_of}
 use Rattle.bpf_races.specs.Private.Searching.{Keeps}

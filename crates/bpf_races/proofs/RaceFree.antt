@@ -1,10 +1,9 @@
 -- Where a search finds no race, none is left out and the search isn't patient, no schedule leads to one.
 use Rattle.std.proofs.Common.{◌≡◌, ◌<◌, ℕ, Bool, true, false, ◌&&◌, ◌||◌, ◌==◌, List, [], ◌∷◌, length, Some, None, inl, inr, refl, sym, subst, arith}
-use Rattle.std.specs.Prelude.{slice_get}
 use Rattle.std.proofs.lemmas.Bool.{and_parts, cases_order}
 use Rattle.std.proofs.lemmas.Bool.Decides.{nat_tests}
 use Rattle.bpf_machine.specs.declared.machine.Stand.{Stand}
-use Rattle.bpf_machine.specs.Schedule.{World, RunsSchedule}
+use Rattle.bpf_machine.specs.Schedule.{World}
 use Rattle.bpf_machine.specs.Race.{IsRace}
 use Rattle.bpf_races.specs.declared.found.Pair.{Pair}
 use Rattle.bpf_races.specs.declared.sync.Part.{Part}

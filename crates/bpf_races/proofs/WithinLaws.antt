@@ -14,12 +14,12 @@ use Rattle.bpf_races.specs.declared.found.Pair.{Pair}
 use Rattle.bpf_races.specs.declared.sync.Part.{Part}
 use Rattle.bpf_races.specs.Touch.{IsAmong, Clash}
 use Rattle.bpf_races.specs.Next.{NextStep, IsNextIn}
-use Rattle.bpf_races.specs.Races.{RaceFound, RacesIn, AreListed, AreOnce, AreRacesIn, AreRising, IsBefore, IsKeyAt, IsListed, IsTold, Spot, spot_of}
+use Rattle.bpf_races.specs.Races.{RaceFound, AreOnce, AreRacesIn, AreRising, IsBefore, IsKeyAt, IsTold, Spot}
 use Rattle.bpf_races.specs.Parts.{IsLeftOut, map_at}
 use Rattle.bpf_races.specs.Private.Clashes.{Collects}
 use Rattle.bpf_races.specs.Private.Searching.{AddsRace, AreNexts, IsNextOf, Keeps}
 use Rattle.bpf_races.specs.Private.Within.{Amid, AreListedOf, IsByteTold, IsFor, IsPassed, IsThere, UpTo}
-use Rattle.bpf_races.proofs.Lists.{at_cases, in_cases, in_front, in_last}
+use Rattle.bpf_races.proofs.Lists.{at_cases, in_cases, in_last}
 use Rattle.bpf_races.proofs.Listed.{keeps_same, keeps_pushed, once_pushed}
 use Rattle.bpf_races.proofs.Touching.{clash_race, race_clash}
 

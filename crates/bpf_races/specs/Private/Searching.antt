@@ -1,6 +1,5 @@
 -- Races while they are gathered.
 use Rattle.std.specs.Prelude.{◌≡◌, ℕ, ◌<◌, ◌≤◌, ◌⊎◌, ◌++◌, ◌∷◌, [], List, Some, length, slice_get}
-use Rattle.bpf_machine.specs.declared.machine.Stand.{Stand}
 use Rattle.bpf_machine.specs.Hands.{IsFree}
 use Rattle.bpf_machine.specs.Machine.{MachineState, Shows}
 use Rattle.bpf_machine.specs.Schedule.{World}
@@ -8,7 +7,7 @@ use Rattle.bpf_explore.specs.Album.{IsShownAt}
 use Rattle.bpf_races.specs.declared.sync.Part.{Part}
 use Rattle.bpf_races.specs.Touch.{IsAmong}
 use Rattle.bpf_races.specs.Next.{NextStep, IsNextIn}
-use Rattle.bpf_races.specs.Races.{RaceFound, RacesBy, RacesIn, AreOnce, AreListed, IsListed, Spot, spot_of}
+use Rattle.bpf_races.specs.Races.{RaceFound, RacesBy, RacesIn, AreOnce, AreListed, IsListed, spot_of}
 
 -- this CPU's next step
 pub record IsNextOf (m : MachineState) (c : ℕ) (next : NextStep) : Type 0 where

@@ -1,4 +1,4 @@
-use Rattle.std.proofs.Common.{map, string_bytes, true}
+use Rattle.std.proofs.Common.{string_bytes, true}
 use Rattle.bpf_names.specs.Names.{names_of}
 use Rattle.bpf_explore.proofs.TellLaws.{told_of}
 use Rattle.bpf_expand.proofs.expander.report.Goals as goal

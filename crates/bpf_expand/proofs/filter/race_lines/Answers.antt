@@ -1,4 +1,4 @@
-use Rattle.std.proofs.Common.{◌≡◌, ◌∙◌, List, ap, length, map, string_bytes}
+use Rattle.std.proofs.Common.{◌≡◌, ◌∙◌, List, ap, length}
 use Rattle.bpf_shared.specs.Shape.{Shape}
 use Rattle.bpf_names.specs.Names.{names_of}
 use Rattle.bpf_plain.specs.PlainStore.{Contents, shape_of}

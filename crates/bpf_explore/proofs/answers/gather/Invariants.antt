@@ -1,5 +1,4 @@
-use Rattle.std.proofs.Common.{◌≡◌, map}
-use Rattle.std.specs.Prelude.{string_bytes}
+use Rattle.std.proofs.Common.{◌≡◌}
 use Rattle.bpf_names.specs.Names.{names_of}
 use Rattle.bpf_explore.specs.Private.Answers.{Gathered}
 use Rattle.bpf_explore.proofs.answers.gather.Given as goal

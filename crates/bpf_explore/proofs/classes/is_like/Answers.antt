@@ -1,4 +1,4 @@
-use Rattle.std.proofs.Common.{◌≡◌, ◌<◌, ℕ, List, length, sym, subst}
+use Rattle.std.proofs.Common.{◌<◌, ℕ, List, length, sym, subst}
 use Rattle.std.specs.Prelude.{All, drop}
 use Rattle.bpf_explore.specs.Private.Classes.{AreAlikeBy}
 use Rattle.bpf_explore.proofs.classes.is_like.Goals as goal

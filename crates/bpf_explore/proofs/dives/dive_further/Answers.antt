@@ -1,4 +1,4 @@
-use Rattle.std.proofs.Common.{◌≡◌, ◌∙◌, List, map, string_bytes, sym, subst}
+use Rattle.std.proofs.Common.{◌∙◌, List, subst}
 use Rattle.bpf_names.specs.Names.{names_of}
 use Rattle.bpf_machine.specs.Machine.{MachineState}
 use Rattle.bpf_machine.specs.Schedule.{unrolled}

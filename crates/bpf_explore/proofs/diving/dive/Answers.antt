@@ -1,4 +1,4 @@
-use Rattle.std.proofs.Common.{◌≡◌, ◌∙◌, ◌∷◌, ℕ, List, refl, replicate, sym, ap, subst}
+use Rattle.std.proofs.Common.{◌∙◌, ◌∷◌, ℕ, List, refl, replicate, sym, subst}
 use Rattle.bpf_machine.specs.Schedule.{unrolled}
 use Rattle.bpf_explore.proofs.DiveLaws.{RunsTo, no_turns, more_turns}
 use Rattle.bpf_explore.proofs.diving.dive.Goals as goal

@@ -1,4 +1,4 @@
-use Rattle.std.proofs.Common.{◌≡◌, ◌∙◌, Bool, List, length, map, string_bytes, sym, ap, subst}
+use Rattle.std.proofs.Common.{◌≡◌, ◌∙◌, Bool, List, length, sym, ap, subst}
 use Rattle.bpf_names.specs.Names.{names_of}
 use Rattle.bpf_machine.specs.Machine.{MachineState}
 use Rattle.bpf_explore.specs.Outcomes.{IsExplored}

@@ -1,4 +1,4 @@
-use Rattle.std.proofs.Common.{ℕ, true, map, string_bytes}
+use Rattle.std.proofs.Common.{ℕ, true}
 use Rattle.std.proofs.lemmas.Result.{IfOk-weaker}
 use Rattle.bpf_names.specs.Names.{names_of}
 use Rattle.bpf_machine.specs.Schedule.{World}

@@ -1,4 +1,4 @@
-use Rattle.std.proofs.Common.{map, string_bytes, refl}
+use Rattle.std.proofs.Common.{refl}
 use Rattle.bpf_names.specs.Names.{names_of}
 use Rattle.bpf_explore.proofs.TellLaws.{has_work}
 use Rattle.bpf_explore.proofs.patience.tell_at.Goals as goal

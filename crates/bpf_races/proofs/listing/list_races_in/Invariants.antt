@@ -1,4 +1,4 @@
-use Rattle.std.proofs.Common.{◌≡◌, map, string_bytes}
+use Rattle.std.proofs.Common.{◌≡◌, string_bytes}
 use Rattle.bpf_names.specs.Names.{names_of}
 use Rattle.bpf_races.specs.Lines.{here_lines}
 use Rattle.bpf_races.proofs.listing.list_races_in.Given as goal

@@ -1,4 +1,4 @@
-use Rattle.std.proofs.Common.{◌++◌, map, string_bytes}
+use Rattle.std.proofs.Common.{◌++◌, string_bytes}
 use Rattle.std.specs.Prelude.{codes}
 use Rattle.bpf_names.specs.Names.{names_of}
 use Rattle.bpf_races.specs.Lines.{places_text, value_text}

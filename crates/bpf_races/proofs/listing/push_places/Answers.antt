@@ -1,4 +1,4 @@
-use Rattle.std.proofs.Common.{◌∙◌, ◌++◌, ℕ, List, ap, map, string_bytes}
+use Rattle.std.proofs.Common.{◌∙◌, ◌++◌, ℕ, List, ap, string_bytes}
 use Rattle.bpf_names.specs.Names.{names_of}
 use Rattle.bpf_races.specs.Lines.{places_text, value_text}
 use Rattle.bpf_races.proofs.Texts.{two_put}

@@ -1,4 +1,4 @@
-use Rattle.std.proofs.Common.{◌∙◌, ◌++◌, ℕ, List, ap, map, length, string_bytes}
+use Rattle.std.proofs.Common.{◌∙◌, ◌++◌, ℕ, List, ap, length, string_bytes}
 use Rattle.std.specs.Prelude.{codes}
 use Rattle.bpf_schedule.specs.Spelling.{runs_text}
 use Rattle.bpf_names.specs.Names.{names_of}

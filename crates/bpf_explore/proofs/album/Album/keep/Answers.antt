@@ -1,4 +1,4 @@
-use Rattle.std.proofs.Common.{◌≡◌, ◌∙◌, ◌<◌, ℕ, List, length, ap, sym, subst, arith}
+use Rattle.std.proofs.Common.{◌∙◌, ◌<◌, ℕ, List, length, ap, sym, subst}
 use Rattle.std.specs.Prelude.{All, drop}
 use Rattle.bpf_cpu.specs.Task.{Task}
 use Rattle.bpf_live.specs.Live.{Table}

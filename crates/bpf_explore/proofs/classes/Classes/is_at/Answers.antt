@@ -1,4 +1,4 @@
-use Rattle.std.proofs.Common.{◌≡◌, ◌∙◌, ◌≤◌, ◌<◌, ℕ, List, length, sym, subst, arith}
+use Rattle.std.proofs.Common.{◌∙◌, ◌≤◌, ◌<◌, ℕ, List, length, sym, subst, arith}
 use Rattle.std.specs.Prelude.{All, drop}
 use Rattle.bpf_live.specs.Live.{Table}
 use Rattle.bpf_explore.specs.Private.Classes.{IsAlikeTuple}
