@@ -5,7 +5,7 @@ ghost use Rattle.hop_layout.specs.Layout.{words_for};
 ghost use Rattle.hop_words.specs.Owning.{IsInHand, key_filled, value_filled};
 ghost use Rattle.hop_arena.specs.Filling.{with_words, word_list};
 
-use crate::word::word_at;
+use hop_layout::word_at;
 use hop_words::{HopTable, Lane};
 
 /// An element in hand, which nobody else has seen: its words may be filled, and then it is linked

@@ -3,8 +3,6 @@
 
 mod arena;
 mod element;
-mod word;
 
 pub use arena::Arena;
 pub use element::Element;
-pub use word::word_at;

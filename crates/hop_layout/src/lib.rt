@@ -9,7 +9,7 @@ pub mod laws;
 mod place;
 
 pub use about::About;
-pub use bytes::word_of;
+pub use bytes::{word_at, word_of};
 pub use hash::home;
 pub use index::{Index, depth, elements, first_depth, segments};
 pub use place::Place;

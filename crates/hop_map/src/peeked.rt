@@ -10,8 +10,7 @@ ghost use Rattle.hop_map.specs.Private.Peeks.{FitsPeeks, peeked, HavePeeks, Spel
 
 use crate::numbers::{hop_bits, item};
 use crate::words::{head_place, hop_place, link_place, slot_place};
-use hop_arena::word_at;
-use hop_layout::Place;
+use hop_layout::{Place, word_at};
 use hop_seg::SegReads;
 use hop_words::{HopTable, Lane};
 use std::marker::Model;
