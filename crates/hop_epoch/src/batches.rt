@@ -115,6 +115,7 @@ impl Batches {
     }
 
     // Passes batches on, out of line, where one of them isn't empty.
+    #[cold]
     fn pass_on(&mut self, lane: &mut Lane, table: &HopTable)
         requires table { lane.old.table ≡ table.now.id }
         requires even { table.now.about.count % 2 ≡ 0 }

@@ -14,13 +14,14 @@ use crate::counts::MapCounts;
 use crate::deleting::delete;
 use crate::finding::{find_locked, find_once, locate, span_of};
 use crate::growth::Growth;
+use crate::leaving::leave_run;
 use crate::listing::list_keys;
 use crate::once::Once;
 use crate::splitting::split_segment;
 use crate::updating::update;
 use bpf_shared::{ArrayShape, KeyList, MapAnswer, MapShape, Span, Worn};
 use hop_arena::Arena;
-use hop_epoch::{Batches, begin_run, end_run};
+use hop_epoch::{Batches, begin_run};
 use hop_words::{HopTable, Lane};
 use std::marker::Model;
 use std::sync::Wait;
@@ -101,12 +102,10 @@ impl HopPort {
         ensures unchanged { OnErr result (self.new ≡ self.old) }
         ensures fits { IsPortOf table.now self.new }
     {
-        let Some(mut lane) = self.lane.take() else {
+        let Some(lane) = &mut self.lane else {
             unreachable!()
         };
-        let begun = begin_run(&mut lane, table);
-        self.lane = Some(lane);
-        begun
+        begin_run(lane, table)
     }
 
     /// The CPU leaves its run. Then it gives back what it took out and no running CPU can hold.
@@ -120,14 +119,10 @@ impl HopPort {
             → IsReclaimed m self.old.known.tally self.new.known }
         ensures fits { IsPortOf table.now self.new }
     {
-        let Some(mut lane) = self.lane.take() else {
+        let Some(lane) = &mut self.lane else {
             unreachable!()
         };
-        end_run(&mut lane, table);
-        'maps: for map in 0..self.batches.len() {
-            self.batches[map].reclaim(&mut lane, table);
-        }
-        self.lane = Some(lane);
+        leave_run(lane, table, &mut self.batches);
     }
 
     /// Where the value of the key lies, found under the lock of the key's segment; the CPU holds
