@@ -16,3 +16,7 @@ pub mod Flushing
 pub mod Stepping
 pub mod Oldest
 pub mod First
+pub mod Copying
+pub mod Keeping
+pub mod Ends
+pub mod AlbumLaws

@@ -4,3 +4,5 @@ pub mod Jobs
 pub mod Going
 pub mod Buffering
 pub mod Lemmas
+pub mod Album
+pub mod Private

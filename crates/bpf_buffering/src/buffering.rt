@@ -4,6 +4,8 @@
 ghost use Rattle.std.specs.Prelude.{◌≡◌, ℕ, [], IfOk, length};
 ghost use Rattle.bpf_buffering.specs.Buffering.{stored_at};
 
+mod keeping;
+
 use crate::jobs::{Listed, answer, find_hand, find_waiting, list_jobs};
 use crate::waiting::{Stored, Waiting};
 use bpf_cpu::{Job, Outcome};
@@ -11,6 +13,7 @@ use bpf_loader::Program;
 use bpf_machine::{KeptStage, Turn};
 use bpf_plain::PlainStore;
 use bpf_shared::Shared;
+pub(crate) use keeping::Kept;
 use std::alloc::{AllocError, Global};
 use std::marker::Model;
 
@@ -49,13 +52,14 @@ impl Model for Buffering {
 }
 
 impl Buffering {
-    ghost use Rattle.std.specs.Prelude.{◌≡◌, ◌<◌, ℕ, true, false, [], Option, None, Some, IfOk, OnOk, All, length, map, nat_lt, option_map, slice_get, vec_len};
+    ghost use Rattle.std.specs.Prelude.{◌≡◌, ◌<◌, ◌≤◌, ℕ, true, false, [], Option, None, Some, IfOk, OnOk, All, length, map, nat_lt, option_map, slice_get, vec_len};
     ghost use Rattle.bpf_cpu.specs.declared.outcome.Outcome.{Outcome};
     ghost use Rattle.bpf_plain.specs.PlainStore.{has_cpu, is_running};
     ghost use Rattle.bpf_plain.specs.Alike.{IsSameShape};
     ghost use Rattle.bpf_cpu.specs.Task.{Task, outcome_at, waiting};
     ghost use Rattle.bpf_machine.specs.Hands.{IsFree};
     ghost use Rattle.bpf_machine.specs.Work.{HasInHand};
+    ghost use Rattle.bpf_machine.specs.Parts.{IsSameHost};
     ghost use Rattle.bpf_x86.specs.Machine.{TurnOf, FlushOf};
     ghost use Rattle.bpf_buffering.specs.Search.{MovesTo, CannotMove, buffer_at};
     ghost use Rattle.bpf_buffering.specs.Jobs.{IsLowest};
@@ -96,6 +100,8 @@ impl Buffering {
     pub fn turn(&mut self, cpu: u8) -> Result<Turn, AllocError>
         ensures turns { IfOk result (λ turn. TurnsTo self.old cpu turn self.new) }
         ensures moves { OnOk result (MovesTo self.old (TurnOf cpu) self.new) }
+        ensures idle { IfOk result (λ turn. turn ≡ Turn.Idle → self.new ≡ self.old) }
+        ensures host { IsSameHost self.old.machine self.new.machine }
     {
         if let Some(job) = find_hand(&self.jobs, cpu) {
             return self.proceed(cpu, job);
@@ -115,6 +121,7 @@ impl Buffering {
         ensures none { result ≡ false → CannotMove self.old (FlushOf cpu) }
         ensures empty { result ≡ false → buffer_at self.old.buffers cpu ≡ [] }
         ensures unchanged { result ≡ false → self.new ≡ self.old }
+        ensures host { IsSameHost self.old.machine self.new.machine }
     {
         if cpu as usize >= self.buffers.len() {
             return false;
@@ -161,8 +168,12 @@ impl Buffering {
         ensures cpus { (c : ℕ) → has_cpu self.now.machine.store c ≡ nat_lt c result }
         ensures jobs { (j : ℕ) (task : Task) → slice_get self.now.machine.jobs j ≡ Some task
             → task.cpu < result }
+        ensures few { result ≤ 16 }
     {
-        self.here.store().cpus()
+        let store = self.here.store();
+        // The call says that they are few.
+        let _ = Shared::cpus(store);
+        store.cpus()
     }
 
     /// How many jobs there are.
@@ -186,7 +197,8 @@ impl Buffering {
     fn begin(&mut self, cpu: u8, job: usize) -> Result<(), AllocError>
         requires free { IsFree self.old.machine.jobs cpu }
         requires lowest { IsLowest self.old.machine.jobs cpu job }
-        ensures { OnOk result (Begins self.old cpu job self.new) }
+        ensures begins { OnOk result (Begins self.old cpu job self.new) }
+        ensures host { IsSameHost self.old.machine self.new.machine }
     {
         self.here.exchange(cpu, &mut self.buffers[cpu as usize]);
         let listed = &mut self.jobs[job];
@@ -206,8 +218,9 @@ impl Buffering {
     /// Goes on with the job that a CPU has in hand.
     fn proceed(&mut self, cpu: u8, job: usize) -> Result<Turn, AllocError>
         requires { HasInHand self.old.machine.jobs cpu job }
-        ensures { IfOk result (λ turn. (end : Option Outcome) × (turn ≡ answer_of job end)
-            × Proceeds self.old cpu job end self.new) }
+        ensures proceeds { IfOk result (λ turn. (end : Option Outcome)
+            × (turn ≡ answer_of job end) × Proceeds self.old cpu job end self.new) }
+        ensures host { IsSameHost self.old.machine self.new.machine }
     {
         self.here.exchange(cpu, &mut self.buffers[cpu as usize]);
         let listed = &mut self.jobs[job];

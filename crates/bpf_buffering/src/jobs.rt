@@ -1,9 +1,10 @@
 //! The jobs of a machine, and how one goes on.
 
-ghost use Rattle.std.specs.Prelude.{◌≡◌, true, IfOk, IfSome, IfNone, map};
+ghost use Rattle.std.specs.Prelude.{◌≡◌, true, false, IfOk, IfSome, IfNone, map};
 ghost use Rattle.bpf_plain.specs.PlainStore.{is_running, held_spans, shape_of};
 ghost use Rattle.bpf_helpers.specs.Held.{AreHeld, KeepsRun};
 ghost use Rattle.bpf_cpu.specs.Step.{IsReady};
+ghost use Rattle.bpf_cpu.specs.Task.{Ended};
 ghost use Rattle.bpf_machine.specs.Kept.{kept_stage};
 ghost use Rattle.bpf_machine.specs.Hands.{IsFree, NoneWaits};
 ghost use Rattle.bpf_machine.specs.Work.{HasInHand};
@@ -90,6 +91,19 @@ impl Listed {
             KeptStage::Waiting(_) => true,
             KeptStage::InHand(_, _) => false,
             KeptStage::Ended(_) => false,
+        }
+    }
+
+    /// Whether it has an outcome.
+    pub(crate) fn has_ended(&self) -> bool
+        ensures ended { result ≡ true
+            → (outcome : Outcome) × (kept_stage self.now.stage ≡ Ended outcome) }
+        ensures goes { result ≡ false → (outcome : Outcome)
+            → kept_stage self.now.stage ≡ Ended outcome → ⊥ }
+    {
+        match &self.stage {
+            KeptStage::Ended(_) => true,
+            KeptStage::Waiting(_) | KeptStage::InHand(_, _) => false,
         }
     }
 

@@ -100,6 +100,16 @@ impl Waiting {
         &self.store
     }
 
+    /// Takes the contents of another store of its shape, where nothing waits.
+    pub(crate) fn restore(&mut self, store: &PlainStore)
+        requires empty { self.old.waiting ≡ [] }
+        requires shape { IsSameShape self.old.store store.now }
+        ensures { self.new ≡ record self.old { store = store.now; lost = false } }
+    {
+        self.store.copy_from(store);
+        self.lost = false;
+    }
+
     /// Whether there was no memory for some store that was to wait.
     pub(crate) fn is_lost(&self) -> bool
         ensures { result ≡ self.now.lost }

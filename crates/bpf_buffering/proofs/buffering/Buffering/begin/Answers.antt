@@ -1,9 +1,11 @@
 use Rattle.std.proofs.Common.{◌≡◌, ℕ, Bool, true, false, List, length, Some, None, refl, sym, ap, subst, ◌∙◌, arith}
 use Rattle.std.specs.Prelude.{slice_get, slice_set}
+use Rattle.std.proofs.lemmas.List.{length-set}
 use Rattle.std.proofs.lemmas.Option.{slice_get_read}
 use Rattle.bpf_cpu.specs.Task.{Stage, InHand, Waiting}
 use Rattle.bpf_machine.specs.Hands.{IsFree}
 use Rattle.bpf_machine.specs.Kept.{kept_stage}
+use Rattle.bpf_machine.specs.Parts.{IsSameHost}
 use Rattle.bpf_machine.specs.Work.{HasInHand}
 use Rattle.bpf_buffering.specs.Search.{BufferedState}
 use Rattle.bpf_buffering.specs.declared.jobs.Listed.{Listed}
@@ -11,6 +13,7 @@ use Rattle.bpf_plain.specs.PlainStore.{has_cpu, is_running}
 use Rattle.bpf_buffering.specs.Waiting.{WaitingContents}
 use Rattle.bpf_buffering.specs.Jobs.{IsLowest, waits}
 use Rattle.bpf_buffering.specs.Buffering.{state_of, answer_of, Proceeds, Begins}
+use Rattle.bpf_buffering.proofs.Keeping.{host_through}
 use Rattle.bpf_buffering.proofs.Placing.{cpu_within, served, job_within, program_within, shown, stage_was, can_take, cpu_is, store_is, count_stays, can_put_back, board_now}
 use Rattle.bpf_buffering.proofs.Proceeding.{begin_leaves, begins_now, begun_fits, begun_not_idle}
 use Rattle.bpf_buffering.proofs.Stepping.{serves_its}
@@ -123,8 +126,8 @@ invariant_of-self-2 c =
     (begun_fits m.here m.programs.items m.jobs.items m.buffers.items c.self.invariant c.args.cpu c.args.job e listed c.index.result.now fetched c.index_mut.result.now c.index_mut.ensures.value c.exchange.new.self c.exchange.ensures.serves c.exchange.new.waiting c.exchange.ensures.before c.begin-2.new.self same others c.begin.new.self c.begin.ensures.same c.index_mut-2.result.now c.index_mut-2.ensures.value c.exchange-2.new.self c.exchange-2.ensures.serves c.exchange-2.new.waiting c.exchange-2.ensures.before has.0 has.1 has.2 c.begin.ensures.stage c.starts.ensures c.in-Ok.ensures.running (slice_set m.jobs.items c.args.job c.begin.new.self) (slice_set (slice_set m.buffers.items c.args.cpu c.exchange.new.waiting) c.args.cpu c.exchange-2.new.waiting))
     (begun_not_idle m.here m.programs.items m.jobs.items m.buffers.items c.self.invariant c.args.cpu c.args.job e listed c.index.result.now fetched c.index_mut.result.now c.index_mut.ensures.value c.exchange.new.self c.exchange.ensures.serves c.exchange.new.waiting c.exchange.ensures.before c.begin-2.new.self same others c.begin.new.self c.begin.ensures.same c.index_mut-2.result.now c.index_mut-2.ensures.value c.exchange-2.new.self c.exchange-2.ensures.serves c.exchange-2.new.waiting c.exchange-2.ensures.before has.0 has.1 has.2 c.begin.ensures.stage)
 
-pub returns : goal.returns
-returns c =
+pub returns-clause-begins : goal.returns-clause-begins
+returns-clause-begins c =
     let m = c.self.inside in
     let low = subst (λ (s : BufferedState). IsLowest s.machine.jobs c.args.cpu c.args.job) (sym c.self.view_is) c.requires.lowest in
     let has = low.0 in
@@ -138,3 +141,19 @@ returns c =
     let new : BufferedState = state_of c.exchange-2.new.self m.programs.items (slice_set m.jobs.items c.args.job c.begin.new.self) (slice_set (slice_set m.buffers.items c.args.cpu c.exchange.new.waiting) c.args.cpu c.exchange-2.new.waiting) in
     subst (λ (s : BufferedState). Begins s c.args.cpu c.args.job new) c.self.view_is
     (begins_now m.here m.programs.items m.jobs.items m.buffers.items c.self.invariant c.args.cpu c.args.job e listed c.index.result.now fetched c.index_mut.result.now c.index_mut.ensures.value c.exchange.new.self c.exchange.ensures.serves c.exchange.new.waiting c.exchange.ensures.before c.begin-2.new.self same others c.begin.new.self c.begin.ensures.same c.index_mut-2.result.now c.index_mut-2.ensures.value c.exchange-2.new.self c.exchange-2.ensures.serves c.exchange-2.new.waiting c.exchange-2.ensures.before has.0 has.1 has.2 c.begin.ensures.stage (sym c.is_lost.ensures ∙ c.if-is_lost.false) served c.in-Ok.ensures.begun c.begin-2.ensures.same.1)
+
+pub returns-clause-host : goal.returns-clause-host
+returns-clause-host c =
+    let m = c.self.inside in
+    let z = c.exchange-2.new.self in
+    let jobs = slice_set m.jobs.items c.args.job c.begin.new.self in
+    subst (λ (s : BufferedState). IsSameHost s.machine (state_of z m.programs.items jobs m.buffers.items).machine) c.self.view_is
+    (host_through m.here c.exchange.new.self c.begin-2.new.self z m.programs.items m.jobs.items jobs m.buffers.items m.buffers.items (ap (λ (a : WaitingContents). a.store) c.exchange.ensures.serves) c.begin-2.ensures.same.0 c.in-Ok.ensures.begun.passage.2.serves (ap (λ (a : WaitingContents). a.store) c.exchange-2.ensures.serves) (length-set m.jobs.items c.args.job c.begin.new.self))
+
+pub returns-then-is_lost-clause-host : goal.returns-then-is_lost-clause-host
+returns-then-is_lost-clause-host c =
+    let m = c.self.inside in
+    let z = c.exchange-2.new.self in
+    let jobs = slice_set m.jobs.items c.args.job c.begin.new.self in
+    subst (λ (s : BufferedState). IsSameHost s.machine (state_of z m.programs.items jobs m.buffers.items).machine) c.self.view_is
+    (host_through m.here c.exchange.new.self c.begin-2.new.self z m.programs.items m.jobs.items jobs m.buffers.items m.buffers.items (ap (λ (a : WaitingContents). a.store) c.exchange.ensures.serves) c.begin-2.ensures.same.0 c.in-Ok.ensures.begun.passage.2.serves (ap (λ (a : WaitingContents). a.store) c.exchange-2.ensures.serves) (length-set m.jobs.items c.args.job c.begin.new.self))

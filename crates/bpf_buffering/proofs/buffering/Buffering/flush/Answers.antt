@@ -1,8 +1,11 @@
 use Rattle.std.proofs.Common.{◌≡◌, ◌<◌, ◌≤◌, ℕ, Bool, true, false, List, [], length, refl, sym, ap, subst, ◌∙◌, arith}
 use Rattle.std.specs.Prelude.{slice_set}
+use Rattle.bpf_machine.specs.Parts.{IsSameHost}
 use Rattle.bpf_x86.specs.Machine.{FlushOf}
 use Rattle.bpf_buffering.specs.Search.{BufferedState, MovesTo, CannotMove, buffer_at}
+use Rattle.bpf_buffering.specs.Waiting.{WaitingContents}
 use Rattle.bpf_buffering.specs.Buffering.{state_of}
+use Rattle.bpf_buffering.proofs.Keeping.{same_host, host_through}
 use Rattle.bpf_buffering.proofs.Flushing.{cannot_flush, none_beyond, can_take, serves, none_waits_here, can_put_back, board_now, flush_moves, stays}
 use Rattle.bpf_buffering.proofs.buffering.Buffering.flush.Goals as goal
 
@@ -66,3 +69,13 @@ pub returns-then-cpu-len-clause-empty : goal.returns-then-cpu-len-clause-empty
 returns-then-cpu-len-clause-empty c = λ no.
     let m = c.self.inside in
     subst (λ (s : BufferedState). buffer_at s.buffers c.args.cpu ≡ []) c.self.view_is (none_beyond m.here m.programs.items m.jobs.items m.buffers.items c.self.invariant c.args.cpu (omega arith))
+
+pub returns-clause-host : goal.returns-clause-host
+returns-clause-host c =
+    let m = c.self.inside in
+    let z = c.exchange-2.new.self in
+    subst (λ (s : BufferedState). IsSameHost s.machine (state_of z m.programs.items m.jobs.items m.buffers.items).machine) c.self.view_is
+    (host_through m.here c.exchange.new.self c.flush-flushed.new.self z m.programs.items m.jobs.items m.jobs.items m.buffers.items m.buffers.items (ap (λ (a : WaitingContents). a.store) c.exchange.ensures.serves) c.flush-flushed.ensures.shape c.flush-flushed.ensures.serves (ap (λ (a : WaitingContents). a.store) c.exchange-2.ensures.serves) refl)
+
+pub returns-then-cpu-len-clause-host : goal.returns-then-cpu-len-clause-host
+returns-then-cpu-len-clause-host c = same_host c.args.self.now.machine

@@ -1,14 +1,18 @@
 use Rattle.std.proofs.Common.{◌≡◌, ℕ, Bool, true, false, List, length, Some, None, refl, sym, ap, subst, ◌∙◌, arith}
 use Rattle.std.specs.Prelude.{slice_get, slice_set}
+use Rattle.std.proofs.lemmas.List.{length-set}
 use Rattle.std.proofs.lemmas.Option.{slice_get_read}
 use Rattle.bpf_cpu.specs.Task.{Stage, InHand, Waiting}
 use Rattle.bpf_machine.specs.Hands.{IsFree}
 use Rattle.bpf_machine.specs.Kept.{kept_stage}
+use Rattle.bpf_machine.specs.Parts.{IsSameHost}
 use Rattle.bpf_machine.specs.Work.{HasInHand}
 use Rattle.bpf_buffering.specs.Search.{BufferedState}
 use Rattle.bpf_buffering.specs.declared.jobs.Listed.{Listed}
+use Rattle.bpf_buffering.specs.Waiting.{WaitingContents}
 use Rattle.bpf_buffering.specs.Jobs.{IsLowest}
 use Rattle.bpf_buffering.specs.Buffering.{state_of, answer_of, Proceeds, Begins}
+use Rattle.bpf_buffering.proofs.Keeping.{host_through}
 use Rattle.bpf_buffering.proofs.Placing.{cpu_within, job_within, program_within, can_take, cpu_is, count_stays, can_put_back, board_now, only_one, can_go_on, still_fits, still_idle}
 use Rattle.bpf_buffering.proofs.Proceeding.{proceeds_now}
 use Rattle.bpf_buffering.proofs.buffering.Buffering.proceed.Goals as goal
@@ -88,8 +92,8 @@ invariant_of-self-2 c =
     (still_fits m.here m.programs.items m.jobs.items m.buffers.items c.self.invariant c.args.cpu c.args.job has.0 has.1 has.2 has.3 e listed c.index.result.now fetched c.go_on-end.new.here c.exchange-2.new.self c.index_mut-2.result.now.items cpu c.exchange-2.ensures.serves c.go_on-end.new.self c.go_on-end.ensures.same c.go_on-end.result (slice_set m.jobs.items c.args.job c.go_on-end.new.self) (slice_set (slice_set m.buffers.items c.args.cpu c.exchange.new.waiting) c.args.cpu c.exchange-2.new.waiting) c.go_on-end.ensures.fits)
     (still_idle m.here m.programs.items m.jobs.items m.buffers.items c.self.invariant c.args.cpu c.args.job has.0 has.1 has.2 has.3 e listed c.index.result.now fetched c.go_on-end.new.here c.exchange-2.new.self c.index_mut-2.result.now.items cpu c.exchange-2.ensures.serves c.go_on-end.new.self c.go_on-end.ensures.same c.go_on-end.result c.go_on-end.ensures.fits)
 
-pub returns : goal.returns
-returns c =
+pub returns-clause-proceeds : goal.returns-clause-proceeds
+returns-clause-proceeds c =
     let m = c.self.inside in
     let has = subst (λ (s : BufferedState). HasInHand s.machine.jobs c.args.cpu c.args.job) (sym c.self.view_is) c.requires in
     let e = c.index_mut-listed.result.now in
@@ -101,3 +105,21 @@ returns c =
       subst (λ (s : BufferedState). Proceeds s c.args.cpu c.args.job c.go_on-end.result new) c.self.view_is
           (proceeds_now m.here m.programs.items m.jobs.items m.buffers.items c.self.invariant c.args.cpu c.args.job e listed c.index.result.now fetched c.index_mut.result.now c.index_mut.ensures.value c.exchange.new.self c.exchange.ensures.serves c.exchange.new.waiting c.exchange.ensures.before c.go_on-end.new.here c.go_on-end.ensures.cpu c.go_on-end.ensures.others c.go_on-end.new.self c.go_on-end.ensures.same c.index_mut-2.result.now c.index_mut-2.ensures.value c.exchange-2.new.self c.exchange-2.ensures.serves c.exchange-2.new.waiting c.exchange-2.ensures.before (sym c.is_lost.ensures ∙ c.if-is_lost.false) c.go_on-end.result c.go_on-end.ensures.goes),
     )
+
+pub returns-clause-host : goal.returns-clause-host
+returns-clause-host c =
+    let m = c.self.inside in
+    let z = c.exchange-2.new.self in
+    let jobs = slice_set m.jobs.items c.args.job c.go_on-end.new.self in
+    let others = c.go_on-end.ensures.others in
+    subst (λ (s : BufferedState). IsSameHost s.machine (state_of z m.programs.items jobs m.buffers.items).machine) c.self.view_is
+    (host_through m.here c.exchange.new.self c.go_on-end.new.here z m.programs.items m.jobs.items jobs m.buffers.items m.buffers.items (ap (λ (a : WaitingContents). a.store) c.exchange.ensures.serves) others.shape others.serves (ap (λ (a : WaitingContents). a.store) c.exchange-2.ensures.serves) (length-set m.jobs.items c.args.job c.go_on-end.new.self))
+
+pub returns-then-is_lost-clause-host : goal.returns-then-is_lost-clause-host
+returns-then-is_lost-clause-host c =
+    let m = c.self.inside in
+    let z = c.exchange-2.new.self in
+    let jobs = slice_set m.jobs.items c.args.job c.go_on-end.new.self in
+    let others = c.go_on-end.ensures.others in
+    subst (λ (s : BufferedState). IsSameHost s.machine (state_of z m.programs.items jobs m.buffers.items).machine) c.self.view_is
+    (host_through m.here c.exchange.new.self c.go_on-end.new.here z m.programs.items m.jobs.items jobs m.buffers.items m.buffers.items (ap (λ (a : WaitingContents). a.store) c.exchange.ensures.serves) others.shape others.serves (ap (λ (a : WaitingContents). a.store) c.exchange-2.ensures.serves) (length-set m.jobs.items c.args.job c.go_on-end.new.self))

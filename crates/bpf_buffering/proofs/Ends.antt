@@ -1,0 +1,39 @@
+-- Whether all jobs have ended.
+use Rattle.std.proofs.Common.{◌≡◌, ℕ, ◌+◌, ◌<◌, ◌≤◌, List, Some, inl, inr, length, sym, ap, subst, ◌∙◌, arith}
+use Rattle.std.specs.Prelude.{slice_get}
+use Rattle.std.proofs.lemmas.Bool.{cases_lt}
+use Rattle.std.proofs.lemmas.Option.{slice_get_within}
+use Rattle.bpf_cpu.specs.declared.outcome.Outcome.{Outcome}
+use Rattle.bpf_cpu.specs.Task.{Task, Ended}
+use Rattle.bpf_machine.specs.Kept.{kept_stage}
+use Rattle.bpf_machine.specs.Rounds.{HaveEnded}
+use Rattle.bpf_buffering.specs.declared.jobs.Listed.{Listed}
+use Rattle.bpf_buffering.specs.Jobs.{task_of, tasks_of}
+use Rattle.bpf_buffering.proofs.Finding.{task_at, entry_at}
+
+abbrev pub HasEnded : Listed → Type 0
+HasEnded x = (outcome : Outcome) × (kept_stage x.stage ≡ Ended outcome)
+
+-- the first n have
+abbrev pub EndedBelow : List Listed → ℕ → Type 0
+EndedBelow jobs n = (k : ℕ) (x : Listed) → k < n → slice_get jobs k ≡ Some x → HasEnded x
+
+pub more_ended : (jobs : List Listed) (j : ℕ) (x : Listed) → slice_get jobs j ≡ Some x → HasEnded x → EndedBelow jobs j → EndedBelow jobs (j + 1)
+more_ended jobs j x here ended before k y less at = elim (cases_lt k j) [
+  | inl under ↦ before k y under at
+  | inr past ↦
+      let e : k ≡ j = omega arith in
+      let two : Some x ≡ Some y = sym here ∙ ap (λ (n : ℕ). slice_get jobs n) (sym e) ∙ at in
+      let same : x ≡ y = cc in
+      subst HasEnded same ended
+]
+
+pub all_ended : (jobs : List Listed) (n : ℕ) → length jobs ≤ n → EndedBelow jobs n → HaveEnded (tasks_of jobs)
+all_ended jobs n past ended j task at =
+    let x = task_at jobs j task at in
+    let inside : j < length jobs = slice_get_within jobs j x.0 x.1 in
+    let end = ended j x.0 (omega arith) x.1 in
+    (end.0, ap (λ (t : Task). t.stage) (sym x.2) ∙ end.1)
+
+pub one_open : (jobs : List Listed) (j : ℕ) (x : Listed) → slice_get jobs j ≡ Some x → ((outcome : Outcome) → kept_stage x.stage ≡ Ended outcome → ⊥) → HaveEnded (tasks_of jobs) → ⊥
+one_open jobs j x at goes all = let end = all j (task_of x) (entry_at jobs j x at) in goes end.0 end.1
