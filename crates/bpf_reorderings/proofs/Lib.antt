@@ -1,0 +1,4 @@
+pub mod Trails
+pub mod Growing
+pub mod Printing
+pub mod Reaching

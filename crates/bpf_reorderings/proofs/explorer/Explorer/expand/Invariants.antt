@@ -1,0 +1,5 @@
+use Rattle.bpf_reorderings.proofs.Growing.{MovedSoFar}
+use Rattle.bpf_reorderings.proofs.explorer.Explorer.expand.Given as goal
+
+abbrev pub invariant-loop-cpu : goal.invariant-loop-cpu
+invariant-loop-cpu l = MovedSoFar l.fn.self.kept l.place l.cpu l.self.kept

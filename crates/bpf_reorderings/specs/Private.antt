@@ -1,0 +1,4 @@
+-- What private functions promise each other: no public clause speaks of it.
+pub mod Trail
+pub mod Searching
+pub mod Answers

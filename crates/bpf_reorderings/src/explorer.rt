@@ -1,0 +1,257 @@
+//! The search: from each kept machine each CPU's turn and the flush of each buffer is made, and what is
+//! new is kept.
+
+ghost use Rattle.std.specs.Prelude.{◌≡◌, ◌<◌, ◌≤◌, ◌∷◌, IfOk, OnOk, reverse};
+ghost use Rattle.bpf_machine.specs.Schedule.{unrolled};
+
+use bpf_buffering::{Album, Buffering};
+use bpf_explore::{Extent, Observer, Progress, TOLD_EVERY};
+use bpf_machine::Turn;
+use bpf_schedule::FLUSH;
+use std::alloc::{AllocError, Global};
+use std::marker::Model;
+
+/// How a kept machine came about: by a move from an earlier one. A move is a number: below `FLUSH` a
+/// CPU's turn, and from there on the flush of its buffer.
+#[derive(Clone, Copy)]
+struct Origin {
+    from: u32,
+    made: u8,
+}
+
+/// The number in 32 bits. One that is greater counts as out of memory.
+fn number_of(count: usize) -> Result<u32, AllocError>
+    ensures { IfOk result (λ n. n ≡ count) }
+{
+    u32::try_from(count).map_err(|_| AllocError)
+}
+
+/// Puts a move after a schedule that is printed backwards.
+fn push_move(by: &mut Vec<(u8, u64)>, made: u8) -> Result<(), AllocError>
+    ensures { OnOk result (unrolled (reverse by.new.items) ≡ made ∷ unrolled (reverse by.old.items)) }
+{
+    let Some((last, more)) = by.pop() else {
+        by.push((made, 1))?;
+        return Ok(());
+    };
+    if last == made
+        && let Some(sum) = more.checked_add(1)
+    {
+        by.push((made, sum))?;
+        return Ok(());
+    }
+    by.push((last, more))?;
+    by.push((made, 1))?;
+    Ok(())
+}
+
+/// How far a search came that was refused memory, where n are kept.
+fn cut_short(count: usize, limit: usize) -> Extent
+    ensures part { result ≡ Extent.Whole → ⊥ }
+    ensures met { result ≡ Extent.Limited → limit < count }
+    ensures short { result ≡ Extent.Refused → count ≤ limit }
+{
+    if count > limit {
+        Extent::Limited
+    } else {
+        Extent::Refused
+    }
+}
+
+/// An album, and how each of its machines came about.
+#[derive(Drop)]
+pub(crate) struct Explorer {
+    alloc: Global,
+    album: Album,
+    /// Of each machine; that of the first isn't read.
+    origins: Vec<Origin>,
+}
+
+impl Model for Explorer {
+    ghost use Rattle.bpf_buffering.specs.Album.{AlbumState};
+    ghost use Rattle.bpf_reorderings.specs.Private.Trail.{AreOrigins};
+
+    ghost Value = { AlbumState };
+
+    ghost view = { λ e. e.album };
+
+    ghost invariant = { λ e. AreOrigins e.album.kept e.origins.items };
+}
+
+impl Explorer {
+    ghost use Rattle.std.specs.Prelude.{◌≡◌, ◌<◌, ◌≤◌, [], ◌∷◌, true, false, IfOk, OnOk, Some, length, map, slice_get};
+    ghost use Rattle.bpf_machine.specs.Schedule.{unrolled};
+    ghost use Rattle.bpf_x86.specs.Machine.{TurnOf, FlushOf};
+    ghost use Rattle.bpf_buffering.specs.Search.{IsClosedX86, IsKeptAsX86, move_of};
+    ghost use Rattle.bpf_buffering.specs.Album.{HaveEndedAt};
+    ghost use Rattle.bpf_reorderings.specs.Private.Trail.{IsLedFrom, LeadsBy};
+    ghost use Rattle.bpf_reorderings.specs.Private.Searching.{AreLed, Extends, IsExpanded, IsMoved};
+
+    /// A search of which this machine is kept.
+    pub(crate) fn new(alloc: Global, machine: Buffering) -> Result<Explorer, AllocError>
+        ensures { IfOk result (λ e. e.kept ≡ machine ∷ []) }
+    {
+        let album = Album::new(alloc, machine)?;
+        let mut origins = Vec::new(alloc);
+        origins.push(Origin { from: 0, made: 0 })?;
+        Ok(Explorer {
+            alloc,
+            album,
+            origins,
+        })
+    }
+
+    /// The allocator of all that is kept.
+    pub(crate) fn alloc(&self) -> Global {
+        self.alloc
+    }
+
+    /// The machine to work with.
+    pub(crate) fn machine(&self) -> &Buffering
+        ensures { result.now ≡ self.now.machine }
+    {
+        self.album.machine()
+    }
+
+    /// How many are kept.
+    pub(crate) fn len(&self) -> usize
+        ensures { result ≡ length self.now.kept }
+    {
+        self.album.len()
+    }
+
+    /// Whether each job of a kept machine has ended.
+    pub(crate) fn has_ended(&self, place: usize) -> bool
+        requires { place < length self.now.kept }
+        ensures ended { result ≡ true → HaveEndedAt self.now.kept place }
+        ensures works { result ≡ false → HaveEndedAt self.now.kept place → ⊥ }
+    {
+        self.album.has_ended(place)
+    }
+
+    /// Takes a kept machine to work with.
+    pub(crate) fn restore(&mut self, place: usize) -> Result<(), AllocError>
+        requires { place < length self.old.kept }
+        ensures ok { OnOk result (slice_get self.old.kept place ≡ Some self.new.machine) }
+        ensures same { self.new.kept ≡ self.old.kept }
+    {
+        self.album.restore(place)
+    }
+
+    /// Keeps the machine, to which a move led from a kept one, unless one is kept that shows all that
+    /// it shows.
+    fn keep(&mut self, place: usize, made: u8) -> Result<(), AllocError>
+        requires inside { place < length self.old.kept }
+        requires led { IsLedFrom self.old.kept place (move_of made) self.old.machine }
+        ensures kept { OnOk result (IsKeptAsX86 self.new.kept self.old.machine) }
+        ensures extends { Extends self.old.kept self.new.kept }
+    {
+        let from = number_of(place)?;
+        self.origins.push(Origin { from, made })?;
+        let kept = self.album.keep();
+        self.origins.truncate(self.album.len());
+        kept?;
+        Ok(())
+    }
+
+    /// Makes a CPU's turn from a kept machine, and keeps where it led.
+    fn turn(&mut self, place: usize, cpu: u8) -> Result<(), AllocError>
+        requires place { place < length self.old.kept }
+        requires cpu { cpu < 128 }
+        ensures moved { OnOk result (IsMoved self.new.kept place (TurnOf cpu)) }
+        ensures extends { Extends self.old.kept self.new.kept }
+    {
+        self.album.restore(place)?;
+        match self.album.turn(cpu)? {
+            Turn::Idle => Ok(()),
+            Turn::Ran | Turn::Ended(_, _) => self.keep(place, cpu),
+        }
+    }
+
+    /// Flushes a CPU's buffer in a kept machine, and keeps where that led.
+    fn flush(&mut self, place: usize, cpu: u8) -> Result<(), AllocError>
+        requires place { place < length self.old.kept }
+        requires cpu { cpu < 128 }
+        ensures moved { OnOk result (IsMoved self.new.kept place (FlushOf cpu)) }
+        ensures extends { Extends self.old.kept self.new.kept }
+    {
+        self.album.restore(place)?;
+        if self.album.flush(cpu) {
+            self.keep(place, FLUSH + cpu)
+        } else {
+            Ok(())
+        }
+    }
+
+    /// Makes each move from a kept machine.
+    fn expand(&mut self, place: usize) -> Result<(), AllocError>
+        requires { place < length self.old.kept }
+        ensures expanded { OnOk result (IsExpanded self.new.kept place) }
+        ensures extends { Extends self.old.kept self.new.kept }
+    {
+        for cpu in 0..self.album.cpus() {
+            self.turn(place, cpu)?;
+            self.flush(place, cpu)?;
+        }
+        Ok(())
+    }
+
+    /// Reports how far a search is, each time that so many more states are done.
+    fn tell<O: Observer>(&self, done: usize, observer: &mut O) {
+        if done % TOLD_EVERY == 0 {
+            let kept = self.len();
+            observer.see(Progress {
+                kept,
+                left: kept.saturating_sub(done),
+                bytes: self.album.bytes(),
+            });
+        }
+    }
+
+    /// Makes each move from each kept machine, until nothing is new, more than `limit` are kept, or
+    /// memory is refused. How far it came: what is kept so far stays. The observer learns of it
+    /// meanwhile.
+    pub(crate) fn explore<O: Observer>(&mut self, limit: usize, observer: &mut O) -> Extent
+        ensures whole { result ≡ Extent.Whole → IsClosedX86 self.new.kept }
+        ensures met { result ≡ Extent.Limited → limit < length self.new.kept }
+        ensures short { result ≡ Extent.Refused → length self.new.kept ≤ limit }
+        ensures extends { Extends self.old.kept self.new.kept }
+    {
+        let mut next = 0;
+        while next < self.len() {
+            if self.len() > limit {
+                return Extent::Limited;
+            }
+            let Ok(()) = self.expand(next) else {
+                return cut_short(self.len(), limit);
+            };
+            next += 1;
+            self.tell(next, observer);
+        }
+        Extent::Whole
+    }
+
+    /// A schedule that leads to a kept machine from the first: moves, each with how often it is made
+    /// before the next.
+    pub(crate) fn way(&self, place: usize) -> Result<Vec<(u8, u64)>, AllocError>
+        requires { place < length self.now.kept }
+        ensures { IfOk result (λ by. LeadsBy self.now.kept 0 (map move_of (unrolled by.items)) place) }
+    {
+        let mut by = Vec::new(self.alloc);
+        let mut state = place;
+        while state > 0 {
+            let origin = self.origins[state];
+            push_move(&mut by, origin.made)?;
+            state = origin.from as usize;
+        }
+        by.reverse();
+        Ok(by)
+    }
+
+    /// A schedule leads to each of them.
+    pub(crate) fn leads(&self)
+        ensures { AreLed self.now.kept }
+    {
+        let _ = &self.origins;
+    }
+}

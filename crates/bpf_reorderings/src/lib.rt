@@ -1,0 +1,8 @@
+//! Every outcome of jobs on CPUs with store buffers, whatever the order of turns and flushes.
+#![tactic(auto)]
+
+mod answers;
+mod explorer;
+mod exploring;
+
+pub use exploring::explore_with_buffers;
