@@ -4,11 +4,17 @@ use Rattle.std.specs.Fmt.{decimal}
 use Rattle.std.specs.declared.alloc.Global.{Global}
 use Rattle.bpf_base.specs.Bytes.{little_endian}
 use Rattle.bpf_lines.specs.HexText.{IsHexOf}
-use Rattle.bpf_json.specs.Texts.{all_text, by_text, digits_members, exact_members, member, text_member, truth, verdict}
+use Rattle.bpf_json.specs.Texts.{all_text, by_text, digits_members, exact_members, joined, line_at, line_member, line_of_job, member, text_member, truth, verdict}
 use Rattle.bpf_json.specs.declared.digits.Digits.{Digits}
+use Rattle.bpf_json.specs.declared.event.Call.{Call}
+use Rattle.bpf_json.specs.declared.event.Call.TheVariants as call
+use Rattle.bpf_json.specs.declared.event.Change.{Change}
+use Rattle.bpf_json.specs.declared.event.Change.TheVariants as change
+use Rattle.bpf_json.specs.declared.event.Event.{Event}
 use Rattle.bpf_json.specs.declared.job.End.{End}
 use Rattle.bpf_json.specs.declared.job.End.TheVariants as ends
 use Rattle.bpf_json.specs.declared.job.Job.{Job}
+use Rattle.bpf_json.specs.declared.known.Known.{Known}
 use Rattle.bpf_json.specs.declared.line.Line.{Line}
 use Rattle.bpf_json.specs.declared.line.Line.TheVariants as line
 use Rattle.bpf_json.specs.declared.race.Place.{Place}
@@ -35,6 +41,12 @@ IsRightValue (left.Pair name key value) = IsRightNumber key × IsRightNumber val
 IsRightValue (left.Element name index cpu value) = IsRightNumber value
 IsRightValue (left.Variable name n) = Unit {0}
 
+abbrev pub IsRightCall : Call → Type 0
+IsRightCall (call.Lookup name key answer) = IsRightNumber key
+IsRightCall (call.Update name key value flags answer) = IsRightNumber key × IsRightNumber value
+IsRightCall (call.Delete name key answer) = IsRightNumber key
+IsRightCall _ = Unit {0}
+
 abbrev pub IsRightRaced : Raced → Type 0
 IsRightRaced (raced.Pair name key) = IfSome key IsRightNumber
 IsRightRaced (raced.Element name index) = IsRightNumber index
@@ -43,6 +55,7 @@ IsRightRaced (raced.Variable name) = Unit {0}
 -- numbers are there beside digits that spell them
 abbrev pub IsRight : Line → Type 0
 IsRight (line.Value value) = IsRightValue value
+IsRight (line.Event event) = IsRightCall event.call
 IsRight (line.Race race) = IsRightRaced race.at
 IsRight _ = Unit {0}
 
@@ -58,15 +71,92 @@ abbrev pub job_text : Job → List ℕ
 job_text j = codes "job " ++ (decimal j.job ++ (codes " cpu " ++ (decimal j.cpu
     ++ (codes " " ++ end_text j.«end»))))
 
-abbrev pub end_members : End → List ℕ
-end_members (ends.Exit r0) = exact_members (codes "r0") r0
-end_members (ends.Fault code pc) =
-    text_member (codes "fault") (string_bytes code) ++ (codes ",\"pc\":" ++ decimal pc)
-end_members (ends.OutOfBudget pc) = codes "\"out_of_budget\":true,\"pc\":" ++ decimal pc
+-- with the line of the file from which the instruction at the pc comes, where that is known
+abbrev pub end_members : Known → (job : ℕ) → End → List ℕ
+end_members k job (ends.Exit r0) = exact_members (codes "r0") r0
+end_members k job (ends.Fault code pc) =
+    text_member (codes "fault") (string_bytes code) ++ (codes ",\"pc\":" ++ (decimal pc
+    ++ line_member (line_of_job k job pc)))
+end_members k job (ends.OutOfBudget pc) =
+    codes "\"out_of_budget\":true,\"pc\":" ++ (decimal pc ++ line_member (line_of_job k job pc))
 
-abbrev pub job_object : Job → List ℕ
-job_object j = codes "{\"job\":" ++ (decimal j.job ++ (codes ",\"cpu\":" ++ (decimal j.cpu
-    ++ (codes "," ++ (end_members j.«end» ++ codes "}")))))
+abbrev pub job_object : Known → Job → List ℕ
+job_object k j = codes "{\"job\":" ++ (decimal j.job ++ (codes ",\"cpu\":" ++ (decimal j.cpu
+    ++ (codes "," ++ (end_members k j.job j.«end» ++ codes "}")))))
+
+-- ---- events
+
+-- the numbers of an access, or of an atomic operation
+abbrev pub change_text : Change → List ℕ
+change_text (change.Loaded n) = codes " = " ++ decimal n
+change_text (change.Stored n) = codes " " ++ decimal n
+change_text (change.Changed operand found) =
+    codes " " ++ (decimal operand ++ (codes " = " ++ decimal found))
+change_text (change.Compared operand expected found) =
+    codes " " ++ (decimal operand ++ (codes " expected " ++ (decimal expected ++ (codes " = "
+    ++ decimal found))))
+
+-- a number of 64 bits before other members
+unfoldable pub number_first : (name : List ℕ) → ℕ → (others : List ℕ) → List ℕ
+number_first name n others = joined (exact_members name n) others
+
+abbrev pub change_members : Change → List ℕ
+change_members (change.Loaded n) = exact_members (codes "value") n
+change_members (change.Stored n) = exact_members (codes "value") n
+change_members (change.Changed operand found) =
+    number_first (codes "operand") operand (exact_members (codes "found") found)
+change_members (change.Compared operand expected found) =
+    number_first (codes "operand") operand
+    (number_first (codes "expected") expected (exact_members (codes "found") found))
+
+abbrev pub call_text : Call → List ℕ
+call_text (call.Job name) = string_bytes name
+call_text (call.Lookup name key answer) =
+    codes "lookup " ++ (string_bytes name ++ (codes " " ++ (string_bytes key.hex ++ (codes " = "
+    ++ string_bytes answer))))
+call_text (call.Update name key value flags answer) =
+    codes "update " ++ (string_bytes name ++ (codes " " ++ (string_bytes key.hex ++ (codes " "
+    ++ (string_bytes value.hex ++ (codes " flags " ++ (decimal flags ++ (codes " = "
+    ++ string_bytes answer))))))))
+call_text (call.Delete name key answer) =
+    codes "delete " ++ (string_bytes name ++ (codes " " ++ (string_bytes key.hex ++ (codes " = "
+    ++ string_bytes answer))))
+call_text (call.Access name size at what) =
+    string_bytes name ++ (codes " " ++ (decimal size ++ (codes " at " ++ (string_bytes at
+    ++ change_text what))))
+
+-- of an update its map and its key, and its flags with the answer
+unfoldable pub update_members : (name : List ℕ) → Digits → List ℕ
+update_members name key = codes "\"event\":\"update\"," ++ (text_member (codes "map") name
+    ++ (codes "," ++ digits_members (codes "key") key))
+
+unfoldable pub flags_members : ℕ → (answer : List ℕ) → List ℕ
+flags_members flags answer =
+    joined (exact_members (codes "flags") flags) (text_member (codes "answer") answer)
+
+abbrev pub call_members : Call → List ℕ
+call_members (call.Job name) = text_member (codes "event") (string_bytes name)
+call_members (call.Lookup name key answer) =
+    codes "\"event\":\"lookup\"," ++ (text_member (codes "map") (string_bytes name) ++ (codes ","
+    ++ (digits_members (codes "key") key ++ (codes "," ++ text_member (codes "answer") (string_bytes answer)))))
+call_members (call.Update name key value flags answer) =
+    joined (joined (update_members (string_bytes name) key) (digits_members (codes "value") value))
+    (flags_members flags (string_bytes answer))
+call_members (call.Delete name key answer) =
+    codes "\"event\":\"delete\"," ++ (text_member (codes "map") (string_bytes name) ++ (codes ","
+    ++ (digits_members (codes "key") key ++ (codes "," ++ text_member (codes "answer") (string_bytes answer)))))
+call_members (call.Access name size at what) =
+    text_member (codes "event") (string_bytes name) ++ (codes ",\"size\":" ++ (decimal size
+    ++ (codes "," ++ (text_member (codes "at") (string_bytes at) ++ (codes "," ++ change_members what)))))
+
+abbrev pub event_text : Event → List ℕ
+event_text e = codes "cpu " ++ (decimal e.cpu ++ (codes " job " ++ (decimal e.job ++ (codes " pc "
+    ++ (decimal e.pc ++ (codes " " ++ call_text e.call))))))
+
+abbrev pub event_object : Known → Event → List ℕ
+event_object k e = codes "{\"cpu\":" ++ (decimal e.cpu ++ (codes ",\"job\":" ++ (decimal e.job
+    ++ (codes ",\"pc\":" ++ (decimal e.pc ++ (line_member (line_of_job k e.job e.pc) ++ (codes ","
+    ++ (call_members e.call ++ codes "}"))))))))
 
 -- ---- values
 
@@ -108,10 +198,11 @@ abbrev pub place_text : Place → List ℕ
 place_text at = codes "cpu " ++ (decimal at.cpu ++ (codes " prog " ++ (decimal at.program
     ++ (codes " pc " ++ decimal at.pc))))
 
-abbrev pub place_object : Place → List ℕ
-place_object at =
+abbrev pub place_object : Known → Place → List ℕ
+place_object k at =
     codes "{\"cpu\":" ++ (decimal at.cpu ++ (codes ",\"prog\":" ++ (decimal at.program
-    ++ (codes ",\"pc\":" ++ (decimal at.pc ++ codes "}")))))
+    ++ (codes ",\"pc\":" ++ (decimal at.pc ++ (line_member (line_at k at.program at.pc)
+    ++ codes "}"))))))
 
 -- a key in hex, or that none leads to the value any more
 abbrev pub key_text : Option Digits → List ℕ
@@ -141,8 +232,8 @@ abbrev pub race_text : Race → List ℕ
 race_text r = codes "race " ++ (place_text r.one ++ (codes " " ++ (place_text r.other
     ++ (codes " " ++ (raced_text r.at ++ (codes " " ++ by_text (string_bytes r.by)))))))
 
-abbrev pub race_object : Race → List ℕ
-race_object r = codes "{\"race\":[" ++ (place_object r.one ++ (codes "," ++ (place_object r.other
+abbrev pub race_object : Known → Race → List ℕ
+race_object k r = codes "{\"race\":[" ++ (place_object k r.one ++ (codes "," ++ (place_object k r.other
     ++ (codes "]," ++ (raced_members r.at ++ (codes "," ++ (text_member (codes "by") (string_bytes r.by)
     ++ codes "}")))))))
 
@@ -179,18 +270,19 @@ abbrev pub file_text : Option (String Global) → List ℕ
 file_text None = []
 file_text (Some file) = string_bytes file ++ codes ": "
 
-abbrev pub file_member : Option (String Global) → List ℕ
-file_member None = []
-file_member (Some file) = codes "," ++ text_member (codes "file") (string_bytes file)
+abbrev pub name_member : Option (String Global) → List ℕ
+name_member None = []
+name_member (Some file) = codes "," ++ text_member (codes "file") (string_bytes file)
+
+-- else the one that is known
+abbrev pub file_member : Known → Option (String Global) → List ℕ
+file_member k None = name_member k.file
+file_member k (Some file) = name_member (Some file)
 
 -- the number of the line of a file that expects it, where there is one
 abbrev pub at_text : Option ℕ → List ℕ
 at_text None = []
 at_text (Some n) = codes "line " ++ (decimal n ++ codes " ")
-
-abbrev pub at_member : Option ℕ → List ℕ
-at_member None = []
-at_member (Some n) = codes ",\"line\":" ++ decimal n
 
 -- its line, and that of a remark
 abbrev pub test_text : Test → List ℕ
@@ -198,10 +290,10 @@ test_text t = at_text t.line ++ (verdict t.ok ++ (codes " " ++ (decimal t.number
     ++ (file_text t.file ++ (string_bytes t.name ++ said_text t.remark))))))
 
 -- its object, and that of a remark, which is an object of its own as well
-abbrev pub test_object : Test → List ℕ
-test_object t = codes "{\"test\":" ++ (decimal t.number ++ (codes ",\"ok\":" ++ (truth t.ok
+abbrev pub test_object : Known → Test → List ℕ
+test_object k t = codes "{\"test\":" ++ (decimal t.number ++ (codes ",\"ok\":" ++ (truth t.ok
     ++ (codes "," ++ (text_member (codes "name") (file_text t.file ++ string_bytes t.name)
-    ++ (file_member t.file ++ (at_member t.line ++ (said_members t.remark ++ (codes "}"
+    ++ (file_member k t.file ++ (line_member t.line ++ (said_members t.remark ++ (codes "}"
     ++ said_objects t.remark)))))))))
 
 -- how many tests follow; where none does, that they are skipped
@@ -213,15 +305,26 @@ plan_text count = if count == 0 then codes "1..0 # SKIP no expectations"
 abbrev pub states_text : Option (String Global) → ℕ → List ℕ
 states_text file n = codes "# " ++ (file_text file ++ (decimal n ++ codes " states"))
 
-abbrev pub states_object : Option (String Global) → ℕ → List ℕ
-states_object file n =
-    codes "{\"states\":" ++ (decimal n ++ (file_member file ++ codes "}"))
+abbrev pub states_object : Known → Option (String Global) → ℕ → List ℕ
+states_object k file n =
+    codes "{\"states\":" ++ (decimal n ++ (file_member k file ++ codes "}"))
+
+-- ---- packets
+
+abbrev pub packet_text : ℕ → String Global → List ℕ
+packet_text job bytes = codes "packet " ++ (decimal job ++ (codes " " ++ string_bytes bytes))
+
+abbrev pub packet_object : ℕ → String Global → List ℕ
+packet_object job bytes = codes "{\"job\":" ++ (decimal job ++ (codes ","
+    ++ (text_member (codes "packet") (string_bytes bytes) ++ codes "}")))
 
 -- ---- lines
 
 -- as it is printed, without its end
 abbrev pub plain : Line → List ℕ
 plain (line.Job job) = job_text job
+plain (line.Event event) = event_text event
+plain (line.Packet job bytes) = packet_text job bytes
 plain (line.Value value) = value_text value
 plain (line.By schedule) = by_text (string_bytes schedule)
 plain (line.Hung schedule) = codes "hung " ++ by_text (string_bytes schedule)
@@ -238,41 +341,44 @@ plain (line.Note text) = codes "# " ++ string_bytes text
 plain (line.Refused why) = codes "refused " ++ string_bytes why
 plain (line.Other text) = string_bytes text
 
--- as JSON
-abbrev pub object : Line → List ℕ
-object (line.Job job) = job_object job
-object (line.Value value) = value_object value
-object (line.By schedule) = member (codes "by") (string_bytes schedule)
-object (line.Hung schedule) = member (codes "hung_by") (string_bytes schedule)
-object (line.Counts all outcomes states) =
+-- as JSON, with what is known beside it
+abbrev pub object : Known → Line → List ℕ
+object k (line.Job job) = job_object k job
+object k (line.Event event) = event_object k event
+object k (line.Packet job bytes) = packet_object job bytes
+object k (line.Value value) = value_object value
+object k (line.By schedule) = member (codes "by") (string_bytes schedule)
+object k (line.Hung schedule) = member (codes "hung_by") (string_bytes schedule)
+object k (line.Counts all outcomes states) =
     codes "{\"all\":" ++ (truth all ++ (codes ",\"outcomes\":" ++ (decimal outcomes
     ++ (codes ",\"states\":" ++ (decimal states ++ codes "}")))))
-object (line.Race race) = race_object race
-object (line.Races all races) =
+object k (line.Race race) = race_object k race
+object k (line.Races all races) =
     codes "{\"all\":" ++ (truth all ++ (codes ",\"races\":" ++ (decimal races ++ codes "}")))
-object (line.Plan count) = codes "{\"tests\":" ++ (decimal count ++ codes "}")
-object (line.Test test) = test_object test
-object (line.States file n) = states_object file n
-object (line.Note text) = member (codes "note") (string_bytes text)
-object (line.Refused why) = member (codes "refused") (string_bytes why)
-object (line.Other text) = member (codes "line") (string_bytes text)
+object k (line.Plan count) = codes "{\"tests\":" ++ (decimal count ++ codes "}")
+object k (line.Test test) = test_object k test
+object k (line.States file n) = states_object k file n
+object k (line.Note text) = member (codes "note") (string_bytes text)
+object k (line.Refused why) = member (codes "refused") (string_bytes why)
+object k (line.Other text) = member (codes "line") (string_bytes text)
 
 -- ---- a text
 
 -- of what the line says; a remark on a test is of the same line as the test
-abbrev pub IsObjectOf : (text made : List ℕ) → Type 0
-IsObjectOf text made = (l : Line) × IsRight l × (plain l ≡ text) × (made ≡ object l)
+abbrev pub IsObjectOf : Known → (text made : List ℕ) → Type 0
+IsObjectOf k text made = (l : Line) × IsRight l × (plain l ≡ text) × (made ≡ object k l)
 
 -- it is appended
-abbrev pub IsLineOf : (text old new : List ℕ) → Type 0
-IsLineOf text old new = (made : List ℕ) × IsObjectOf text made × (new ≡ old ++ (made ++ codes "\n"))
+abbrev pub IsLineOf : Known → (text old new : List ℕ) → Type 0
+IsLineOf k text old new =
+    (made : List ℕ) × IsObjectOf k text made × (new ≡ old ++ (made ++ codes "\n"))
 
 -- so written, each on a line
 abbrev pub lines_of : (Line → List ℕ) → List Line → List ℕ
 lines_of write lines = flat_map (λ l. write l ++ codes "\n") lines
 
 -- the text is that of these lines, and the last of them may lack its end; their objects are these
-abbrev pub AreObjectsOf : (text objects : List ℕ) → Type 0
-AreObjectsOf text objects = (lines : List Line) × All IsRight lines
+abbrev pub AreObjectsOf : Known → (text objects : List ℕ) → Type 0
+AreObjectsOf k text objects = (lines : List Line) × All IsRight lines
     × ((text ≡ lines_of plain lines) ⊎ (text ++ codes "\n" ≡ lines_of plain lines))
-    × (objects ≡ lines_of object lines)
+    × (objects ≡ lines_of (object k) lines)

@@ -1,7 +1,8 @@
 -- Parts of printed lines, and of JSON (RFC 8259). Our own choice.
-use Rattle.std.specs.Prelude.{ℕ, Bool, List, [], ◌++◌, Option, Some, None, codes, map, nat_lt, not, ◌==◌, ◌&&◌, string_bytes, if◌then◌else◌}
+use Rattle.std.specs.Prelude.{ℕ, Bool, List, [], ◌++◌, Option, Some, None, codes, map, nat_lt, not, ◌==◌, ◌&&◌, option_and_then, slice_get, string_bytes, if◌then◌else◌}
 use Rattle.std.specs.Fmt.{decimal}
 use Rattle.bpf_json.specs.declared.digits.Digits.{Digits}
+use Rattle.bpf_json.specs.declared.known.Known.{Known}
 
 -- ---- of lines
 
@@ -44,6 +45,15 @@ abbrev pub exact_members : (name : List ℕ) → ℕ → List ℕ
 exact_members name n = codes "\"" ++ (name ++ (codes "\":" ++ (decimal n ++ (codes ",\"" ++ (name
     ++ (codes "_text\":\"" ++ (decimal n ++ codes "\"")))))))
 
+-- members, and a comma between them
+unfoldable pub joined : (one other : List ℕ) → List ℕ
+joined one other = one ++ (codes "," ++ other)
+
+-- the number of a line, where there is one, after a comma
+abbrev pub line_member : Option ℕ → List ℕ
+line_member None = []
+line_member (Some n) = codes ",\"line\":" ++ decimal n
+
 -- the member for the number, after a comma
 abbrev pub number_member : List ℕ → Option ℕ → List ℕ
 number_member name None = []
@@ -51,3 +61,18 @@ number_member name (Some n) = codes ",\"" ++ (name ++ (codes "_number\":" ++ dec
 
 abbrev pub digits_members : List ℕ → Digits → List ℕ
 digits_members name d = text_member name (string_bytes d.hex) ++ number_member name d.number
+
+-- ---- what is known of the file
+
+abbrev pub some_line : ℕ → Option ℕ
+some_line n = if n == 0 then None else Some n
+
+-- the number of the line from which the instruction of a program at a pc comes
+abbrev pub line_at : Known → (program pc : ℕ) → Option ℕ
+line_at k program pc = option_and_then (λ lines. option_and_then some_line (slice_get lines.items pc))
+    (slice_get k.lines.items program)
+
+-- that of a job
+abbrev pub line_of_job : Known → (job pc : ℕ) → Option ℕ
+line_of_job k job pc =
+    option_and_then (λ program. line_at k program pc) (slice_get k.jobs.items job)

@@ -3,7 +3,8 @@
 ghost use Rattle.std.specs.Prelude.{◌≡◌, IfOk, string_bytes};
 ghost use Rattle.bpf_json.specs.Lines.{end_members, end_text, job_object, job_text};
 
-use crate::texts::{exact_members, text_member};
+use crate::known::Known;
+use crate::texts::{exact_members, line_member, text_member};
 use std::alloc::{AllocError, Global};
 
 /// How a job has ended.
@@ -36,16 +37,20 @@ impl End {
         }
     }
 
-    fn members(&self, alloc: Global) -> Result<String, AllocError>
-        ensures { IfOk result (λ s. string_bytes s ≡ end_members self.now) }
+    fn members(&self, alloc: Global, known: &Known, job: u64) -> Result<String, AllocError>
+        ensures { IfOk result (λ s. string_bytes s ≡ end_members known.now job self.now) }
     {
         match self {
             End::Exit(r0) => exact_members(alloc, "r0", *r0),
             End::Fault { code, pc } => {
                 let code = text_member(alloc, "fault", code.as_str())?;
-                format!(in alloc; "{code},\"pc\":{pc}")
+                let line = line_member(alloc, known.line_of_job(job, *pc))?;
+                format!(in alloc; "{code},\"pc\":{pc}{line}")
             }
-            End::OutOfBudget(pc) => format!(in alloc; "\"out_of_budget\":true,\"pc\":{pc}"),
+            End::OutOfBudget(pc) => {
+                let line = line_member(alloc, known.line_of_job(job, *pc))?;
+                format!(in alloc; "\"out_of_budget\":true,\"pc\":{pc}{line}")
+            }
         }
     }
 }
@@ -59,11 +64,11 @@ impl Job {
         format!(in alloc; "job {job} cpu {cpu} {end}")
     }
 
-    pub(crate) fn object(&self, alloc: Global) -> Result<String, AllocError>
-        ensures { IfOk result (λ s. string_bytes s ≡ job_object self.now) }
+    pub(crate) fn object(&self, alloc: Global, known: &Known) -> Result<String, AllocError>
+        ensures { IfOk result (λ s. string_bytes s ≡ job_object known.now self.now) }
     {
         let Job { job, cpu, end } = self;
-        let end = end.members(alloc)?;
+        let end = end.members(alloc, known, self.job)?;
         format!(in alloc; "{{\"job\":{job},\"cpu\":{cpu},{end}}}")
     }
 }

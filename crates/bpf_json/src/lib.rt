@@ -2,7 +2,9 @@
 #![tactic(auto)]
 
 mod digits;
+mod event;
 mod job;
+mod known;
 mod line;
 mod objects;
 mod race;
@@ -12,7 +14,9 @@ mod texts;
 mod value;
 
 pub use digits::Digits;
+pub use event::{Call, Change, Event};
 pub use job::{End, Job};
+pub use known::Known;
 pub use line::Line;
 pub use objects::objects_of;
 pub use race::{Place, Race, Raced};

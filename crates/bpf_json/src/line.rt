@@ -3,20 +3,29 @@
 ghost use Rattle.std.specs.Prelude.{◌≡◌, IfOk, string_bytes};
 ghost use Rattle.bpf_json.specs.Lines.{object, plain, plan_text, states_object, states_text};
 
+use crate::event::Event;
 use crate::job::Job;
+use crate::known::Known;
 use crate::race::Race;
 use crate::test::{Test, file_member, file_text};
-use crate::texts::{all_text, by_text, member, truth};
+use crate::texts::{all_text, by_text, member, text_member, truth};
 use crate::value::Value;
 use std::alloc::{AllocError, Global};
 
 /// The plan of a file without tests, in TAP's form.
 pub(crate) const NO_TESTS: &str = "1..0 # SKIP no expectations";
 
-/// A line that `run --maps`, `explore` or `check` prints.
+/// A line that `run`, `explore` or `check` prints.
 #[derive(PartialEq, Eq, Debug, Drop)]
 pub enum Line {
     Job(Job),
+    /// What a CPU does.
+    Event(Event),
+    /// What a job leaves in its packet, in hex digits.
+    Packet {
+        job: u64,
+        bytes: String,
+    },
     Value(Value),
     /// The schedule of the outcome whose lines follow, of no words where that is one of no turns.
     By(String),
@@ -71,10 +80,15 @@ fn states_text(alloc: Global, file: &Option<String>, states: u64) -> Result<Stri
 }
 
 /// The object for it.
-fn states_object(alloc: Global, file: &Option<String>, states: u64) -> Result<String, AllocError>
-    ensures { IfOk result (λ s. string_bytes s ≡ states_object file.now states) }
+fn states_object(
+    alloc: Global,
+    known: &Known,
+    file: &Option<String>,
+    states: u64,
+) -> Result<String, AllocError>
+    ensures { IfOk result (λ s. string_bytes s ≡ states_object known.now file.now states) }
 {
-    let file = file_member(alloc, file)?;
+    let file = file_member(alloc, known, file)?;
     format!(in alloc; "{{\"states\":{states}{file}}}")
 }
 
@@ -85,6 +99,8 @@ impl Line {
     {
         match self {
             Line::Job(job) => job.plain(alloc),
+            Line::Event(event) => event.plain(alloc),
+            Line::Packet { job, bytes } => format!(in alloc; "packet {job} {bytes}"),
             Line::Value(value) => value.plain(alloc),
             Line::By(schedule) => by_text(alloc, schedule.as_str()),
             Line::Hung(schedule) => {
@@ -113,12 +129,17 @@ impl Line {
         }
     }
 
-    /// The line as a JSON object.
-    pub(crate) fn object(&self, alloc: Global) -> Result<String, AllocError>
-        ensures { IfOk result (λ s. string_bytes s ≡ object self.now) }
+    /// The line as a JSON object, with what is known beside it.
+    pub(crate) fn object(&self, alloc: Global, known: &Known) -> Result<String, AllocError>
+        ensures { IfOk result (λ s. string_bytes s ≡ object known.now self.now) }
     {
         match self {
-            Line::Job(job) => job.object(alloc),
+            Line::Job(job) => job.object(alloc, known),
+            Line::Event(event) => event.object(alloc, known),
+            Line::Packet { job, bytes } => {
+                let bytes = text_member(alloc, "packet", bytes.as_str())?;
+                format!(in alloc; "{{\"job\":{job},{bytes}}}")
+            }
             Line::Value(value) => value.object(alloc),
             Line::By(schedule) => member(alloc, "by", schedule.as_str()),
             Line::Hung(schedule) => member(alloc, "hung_by", schedule.as_str()),
@@ -130,14 +151,14 @@ impl Line {
                 let all = truth(*all);
                 format!(in alloc; "{{\"all\":{all},\"outcomes\":{outcomes},\"states\":{states}}}")
             }
-            Line::Race(race) => race.object(alloc),
+            Line::Race(race) => race.object(alloc, known),
             Line::Races { all, races } => {
                 let all = truth(*all);
                 format!(in alloc; "{{\"all\":{all},\"races\":{races}}}")
             }
             Line::Plan(count) => format!(in alloc; "{{\"tests\":{count}}}"),
-            Line::Test(test) => test.object(alloc),
-            Line::States { file, states } => states_object(alloc, file, *states),
+            Line::Test(test) => test.object(alloc, known),
+            Line::States { file, states } => states_object(alloc, known, file, *states),
             Line::Note(text) => member(alloc, "note", text.as_str()),
             Line::Refused(why) => member(alloc, "refused", why.as_str()),
             Line::Other(text) => member(alloc, "line", text.as_str()),

@@ -3,21 +3,28 @@
 ghost use Rattle.std.specs.Prelude.{◌≡◌, ◌∷◌, ◌++◌, IfOk, IfSome, OnOk, codes, string_bytes};
 ghost use Rattle.bpf_json.specs.Lines.{AreObjectsOf, IsLineOf, IsObjectOf};
 
+use crate::known::Known;
 use crate::reading::{line_of, mark_in, states_at};
 use std::alloc::{AllocError, Global};
 
 /// The object of a printed line.
-fn object_of(alloc: Global, line: &str) -> Result<String, AllocError>
-    ensures { IfOk result (λ object. IsObjectOf line.now (string_bytes object)) }
+fn object_of(alloc: Global, known: &Known, line: &str) -> Result<String, AllocError>
+    ensures { IfOk result (λ object. IsObjectOf known.now line.now (string_bytes object)) }
 {
-    line_of(alloc, line)?.object(alloc)
+    line_of(alloc, line)?.object(alloc, known)
 }
 
 /// Appends it to the text, on a line.
-fn push_object(alloc: Global, objects: &mut String, line: &str) -> Result<(), AllocError>
-    ensures { OnOk result (IsLineOf line.now (string_bytes objects.old) (string_bytes objects.new)) }
+fn push_object(
+    alloc: Global,
+    known: &Known,
+    objects: &mut String,
+    line: &str,
+) -> Result<(), AllocError>
+    ensures { OnOk result
+        (IsLineOf known.now line.now (string_bytes objects.old) (string_bytes objects.new)) }
 {
-    let object = object_of(alloc, line)?;
+    let object = object_of(alloc, known, line)?;
     objects.push_str(object.as_str())?;
     objects.push_str("\n")
 }
@@ -46,18 +53,18 @@ fn cut(text: &str) -> Option<(&str, &str)>
     Some((both, behind.strip_prefix("\n")?))
 }
 
-/// The lines of a text as JSON objects, one a line, in their order.
-pub fn objects_of(alloc: Global, text: &str) -> Result<String, AllocError>
-    ensures { IfOk result (λ objects. AreObjectsOf text.now (string_bytes objects)) }
+/// The lines of a text as JSON objects, one a line, in their order, with what is known beside them.
+pub fn objects_of(alloc: Global, known: &Known, text: &str) -> Result<String, AllocError>
+    ensures { IfOk result (λ objects. AreObjectsOf known.now text.now (string_bytes objects)) }
 {
     let mut objects = String::new(alloc);
     let mut rest = text;
     'lines: while let Some((line, behind)) = cut(rest) {
-        push_object(alloc, &mut objects, line)?;
+        push_object(alloc, known, &mut objects, line)?;
         rest = behind;
     }
     if !rest.is_empty() {
-        push_object(alloc, &mut objects, rest)?;
+        push_object(alloc, known, &mut objects, rest)?;
     }
     Ok(objects)
 }

@@ -4,7 +4,8 @@ ghost use Rattle.std.specs.Prelude.{◌≡◌, IfOk, string_bytes};
 ghost use Rattle.bpf_json.specs.Lines.{key_members, key_text, place_object, place_text, race_object, race_text, raced_members, raced_text};
 
 use crate::digits::Digits;
-use crate::texts::{by_text, digits_members, text_member};
+use crate::known::Known;
+use crate::texts::{by_text, digits_members, line_member, text_member};
 use std::alloc::{AllocError, Global};
 
 /// A CPU, the number of the program that it runs, and where it is in that.
@@ -44,11 +45,12 @@ fn place_text(alloc: Global, at: Place) -> Result<String, AllocError>
 }
 
 /// A CPU, its program and where it is in that, as a JSON object.
-fn place_object(alloc: Global, at: Place) -> Result<String, AllocError>
-    ensures { IfOk result (λ s. string_bytes s ≡ place_object at) }
+fn place_object(alloc: Global, known: &Known, at: Place) -> Result<String, AllocError>
+    ensures { IfOk result (λ s. string_bytes s ≡ place_object known.now at) }
 {
     let Place { cpu, program, pc } = at;
-    format!(in alloc; "{{\"cpu\":{cpu},\"prog\":{program},\"pc\":{pc}}}")
+    let line = line_member(alloc, known.line_at(program, pc))?;
+    format!(in alloc; "{{\"cpu\":{cpu},\"prog\":{program},\"pc\":{pc}{line}}}")
 }
 
 /// A key in hex, or that none leads to the value any more.
@@ -118,11 +120,11 @@ impl Race {
         format!(in alloc; "race {one} {other} {at} {by}")
     }
 
-    pub(crate) fn object(&self, alloc: Global) -> Result<String, AllocError>
-        ensures { IfOk result (λ s. string_bytes s ≡ race_object self.now) }
+    pub(crate) fn object(&self, alloc: Global, known: &Known) -> Result<String, AllocError>
+        ensures { IfOk result (λ s. string_bytes s ≡ race_object known.now self.now) }
     {
-        let one = place_object(alloc, self.one)?;
-        let other = place_object(alloc, self.other)?;
+        let one = place_object(alloc, known, self.one)?;
+        let other = place_object(alloc, known, self.other)?;
         let at = self.at.members(alloc)?;
         let by = text_member(alloc, "by", self.by.as_str())?;
         format!(in alloc; "{{\"race\":[{one},{other}],{at},{by}}}")

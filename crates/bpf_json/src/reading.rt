@@ -1,9 +1,10 @@
 //! What a printed line says, read from it. It is taken where it prints as that line again.
 
 ghost use Rattle.std.specs.Prelude.{◌≡◌, IfOk, IfSome};
-ghost use Rattle.bpf_json.specs.Lines.{IsRight, IsRightNumber, IsRightRaced, plain};
+ghost use Rattle.bpf_json.specs.Lines.{IsRight, IsRightCall, IsRightNumber, IsRightRaced, plain};
 
 use crate::digits::Digits;
+use crate::event::{Call, Change, Event};
 use crate::job::{End, Job};
 use crate::line::{Line, NO_TESTS};
 use crate::race::{Place, Race, Raced};
@@ -59,6 +60,183 @@ fn job_in(alloc: Global, text: &str) -> Option<Result<Line, AllocError>>
         Ok(end) => Some(Ok(job(number, cpu, end))),
         Err(error) => Some(Err(error)),
     }
+}
+
+/// The numbers of a load, or of an atomic operation, from what is before its last one and that.
+fn changed_in(before: &str, found: u64) -> Option<Change> {
+    let before = without_blank(before);
+    if before.is_empty() {
+        return Some(Change::Loaded(found));
+    }
+    let (operand, rest) = number_in(before)?;
+    match rest.strip_prefix(" expected ") {
+        Some(expected) => Some(Change::Compared {
+            operand,
+            expected: expected.parse().ok()?,
+            found,
+        }),
+        None => Some(Change::Changed { operand, found }),
+    }
+}
+
+/// The numbers of an access.
+fn change_in(text: &str) -> Option<Change> {
+    match text.rsplit_once(" = ") {
+        Some((before, found)) => changed_in(before, found.parse().ok()?),
+        None => Some(Change::Stored(without_blank(text).parse().ok()?)),
+    }
+}
+
+fn access(
+    alloc: Global,
+    name: &str,
+    size: u64,
+    at: &str,
+    change: Change,
+) -> Result<Call, AllocError>
+    ensures { IfOk result IsRightCall }
+{
+    let name = name.to_string(alloc)?;
+    let at = at.to_string(alloc)?;
+    Ok(Call::Access {
+        name,
+        size,
+        at,
+        change,
+    })
+}
+
+/// An access, or an atomic operation.
+fn access_in(alloc: Global, text: &str) -> Option<Result<Call, AllocError>>
+    ensures { IfSome result (λ made. IfOk made IsRightCall) }
+{
+    let (name, rest) = word_in(text)?;
+    let (size, rest) = number_in(rest)?;
+    let rest = rest.strip_prefix(" at ")?;
+    let (at, _) = word_in(rest)?;
+    let change = change_in(rest.strip_prefix(at)?)?;
+    Some(access(alloc, name, size, at, change))
+}
+
+fn lookup(alloc: Global, map: &str, key: &str, answer: &str) -> Result<Call, AllocError>
+    ensures { IfOk result IsRightCall }
+{
+    let map = map.to_string(alloc)?;
+    let key = Digits::new(alloc, key)?;
+    let answer = answer.to_string(alloc)?;
+    Ok(Call::Lookup { map, key, answer })
+}
+
+fn lookup_in(alloc: Global, text: &str) -> Option<Result<Call, AllocError>>
+    ensures { IfSome result (λ made. IfOk made IsRightCall) }
+{
+    let (map, rest) = word_in(text.strip_prefix("lookup ")?)?;
+    let (key, answer) = rest.split_once(" = ")?;
+    Some(lookup(alloc, map, key, answer))
+}
+
+fn delete(alloc: Global, map: &str, key: &str, answer: &str) -> Result<Call, AllocError>
+    ensures { IfOk result IsRightCall }
+{
+    let map = map.to_string(alloc)?;
+    let key = Digits::new(alloc, key)?;
+    let answer = answer.to_string(alloc)?;
+    Ok(Call::Delete { map, key, answer })
+}
+
+fn delete_in(alloc: Global, text: &str) -> Option<Result<Call, AllocError>>
+    ensures { IfSome result (λ made. IfOk made IsRightCall) }
+{
+    let (map, rest) = word_in(text.strip_prefix("delete ")?)?;
+    let (key, answer) = rest.split_once(" = ")?;
+    Some(delete(alloc, map, key, answer))
+}
+
+/// An update of a key by a value, with how it was asked for and answered.
+fn update(
+    alloc: Global,
+    map: &str,
+    pair: (&str, &str),
+    flags: u64,
+    answer: &str,
+) -> Result<Call, AllocError>
+    ensures { IfOk result IsRightCall }
+{
+    let map = map.to_string(alloc)?;
+    let key = Digits::new(alloc, pair.0)?;
+    let value = Digits::new(alloc, pair.1)?;
+    let answer = answer.to_string(alloc)?;
+    Ok(Call::Update {
+        map,
+        key,
+        value,
+        flags,
+        answer,
+    })
+}
+
+fn update_in(alloc: Global, text: &str) -> Option<Result<Call, AllocError>>
+    ensures { IfSome result (λ made. IfOk made IsRightCall) }
+{
+    let (map, rest) = word_in(text.strip_prefix("update ")?)?;
+    let (key, rest) = word_in(rest)?;
+    let (value, rest) = rest.split_once(" flags ")?;
+    let (flags, answer) = number_in(rest)?;
+    Some(update(alloc, map, (key, value), flags, answer.strip_prefix(" = ")?))
+}
+
+/// That a job begins or ends; any text is of this kind.
+fn moment(alloc: Global, name: &str) -> Result<Call, AllocError>
+    ensures { IfOk result IsRightCall }
+{
+    let name = name.to_string(alloc)?;
+    Ok(Call::Job(name))
+}
+
+/// What happens.
+fn call_of(alloc: Global, text: &str) -> Result<Call, AllocError>
+    ensures { IfOk result IsRightCall }
+{
+    let made = lookup_in(alloc, text)
+        .or_else(|| update_in(alloc, text))
+        .or_else(|| delete_in(alloc, text))
+        .or_else(|| access_in(alloc, text));
+    match made {
+        Some(made) => made,
+        None => moment(alloc, text),
+    }
+}
+
+/// What a CPU does in which job and at which pc.
+fn event(alloc: Global, cpu: u64, job: u64, pc: u64, call: &str) -> Result<Line, AllocError>
+    ensures { IfOk result IsRight }
+{
+    let call = call_of(alloc, call)?;
+    Ok(Line::Event(Event { cpu, job, pc, call }))
+}
+
+fn event_in(alloc: Global, text: &str) -> Option<Result<Line, AllocError>>
+    ensures { IfSome result (λ made. IfOk made IsRight) }
+{
+    let (cpu, rest) = number_in(text.strip_prefix("cpu ")?)?;
+    let (job, rest) = number_in(rest.strip_prefix(" job ")?)?;
+    let (pc, rest) = number_in(rest.strip_prefix(" pc ")?)?;
+    Some(event(alloc, cpu, job, pc, rest.strip_prefix(" ")?))
+}
+
+fn packet(alloc: Global, job: u64, bytes: &str) -> Result<Line, AllocError>
+    ensures { IfOk result IsRight }
+{
+    let bytes = bytes.to_string(alloc)?;
+    Ok(Line::Packet { job, bytes })
+}
+
+/// What a job leaves in its packet.
+fn packet_in(alloc: Global, text: &str) -> Option<Result<Line, AllocError>>
+    ensures { IfSome result (λ made. IfOk made IsRight) }
+{
+    let (job, bytes) = number_in(text.strip_prefix("packet ")?)?;
+    Some(packet(alloc, job, bytes.strip_prefix(" ")?))
 }
 
 fn pair(alloc: Global, map: &str, key: &str, value: &str) -> Result<Line, AllocError>
@@ -363,6 +541,8 @@ fn guess(alloc: Global, text: &str) -> Result<Line, AllocError>
     ensures { IfOk result IsRight }
 {
     let made = job_in(alloc, text)
+        .or_else(|| event_in(alloc, text))
+        .or_else(|| packet_in(alloc, text))
         .or_else(|| pair_in(alloc, text))
         .or_else(|| variable_in(alloc, text))
         .or_else(|| element_in(alloc, text))

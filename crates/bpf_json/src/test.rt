@@ -1,9 +1,10 @@
 //! Lines of tests, each with what is said of it on a line after it.
 
 ghost use Rattle.std.specs.Prelude.{◌≡◌, IfOk, string_bytes};
-ghost use Rattle.bpf_json.specs.Lines.{at_member, at_text, file_member, file_text, remark_member, remark_object, remark_text, said_members, said_objects, said_text, test_object, test_text};
+ghost use Rattle.bpf_json.specs.Lines.{at_text, file_member, file_text, name_member, remark_member, remark_object, remark_text, said_members, said_objects, said_text, test_object, test_text};
 
-use crate::texts::{by_text, member, quoted, text_member, truth, verdict};
+use crate::known::Known;
+use crate::texts::{by_text, line_member, member, text_member, truth, verdict};
 use std::alloc::{AllocError, Global};
 
 /// What is said of a test on the line after it.
@@ -73,16 +74,6 @@ fn at_text(alloc: Global, line: Option<u64>) -> Result<String, AllocError>
     }
 }
 
-/// The member for it.
-fn at_member(alloc: Global, line: Option<u64>) -> Result<String, AllocError>
-    ensures { IfOk result (λ s. string_bytes s ≡ at_member line) }
-{
-    match line {
-        Some(line) => format!(in alloc; ",\"line\":{line}"),
-        None => Ok(String::new(alloc)),
-    }
-}
-
 /// The file's name before a test's.
 pub(crate) fn file_text(alloc: Global, file: &Option<String>) -> Result<String, AllocError>
     ensures { IfOk result (λ s. string_bytes s ≡ file_text file.now) }
@@ -93,9 +84,9 @@ pub(crate) fn file_text(alloc: Global, file: &Option<String>) -> Result<String, 
     }
 }
 
-/// The member for it.
-pub(crate) fn file_member(alloc: Global, file: &Option<String>) -> Result<String, AllocError>
-    ensures { IfOk result (λ s. string_bytes s ≡ file_member file.now) }
+/// The member for a file's name, where there is one.
+fn name_member(alloc: Global, file: &Option<String>) -> Result<String, AllocError>
+    ensures { IfOk result (λ s. string_bytes s ≡ name_member file.now) }
 {
     match file {
         Some(file) => {
@@ -103,6 +94,20 @@ pub(crate) fn file_member(alloc: Global, file: &Option<String>) -> Result<String
             format!(in alloc; ",{file}")
         }
         None => Ok(String::new(alloc)),
+    }
+}
+
+/// The member for the file's name before a test's, or else for that which is known.
+pub(crate) fn file_member(
+    alloc: Global,
+    known: &Known,
+    file: &Option<String>,
+) -> Result<String, AllocError>
+    ensures { IfOk result (λ s. string_bytes s ≡ file_member known.now file.now) }
+{
+    match file {
+        Some(_) => name_member(alloc, file),
+        None => name_member(alloc, &known.file),
     }
 }
 
@@ -159,16 +164,16 @@ impl Test {
     }
 
     /// The test's object, and that of a remark.
-    pub(crate) fn object(&self, alloc: Global) -> Result<String, AllocError>
-        ensures { IfOk result (λ s. string_bytes s ≡ test_object self.now) }
+    pub(crate) fn object(&self, alloc: Global, known: &Known) -> Result<String, AllocError>
+        ensures { IfOk result (λ s. string_bytes s ≡ test_object known.now self.now) }
     {
         let number = self.number;
         let ok = truth(self.ok);
         let name = file_text(alloc, &self.file)?;
         let name = format!(in alloc; "{name}{}", self.name)?;
         let name = text_member(alloc, "name", name.as_str())?;
-        let file = file_member(alloc, &self.file)?;
-        let at = at_member(alloc, self.line)?;
+        let file = file_member(alloc, known, &self.file)?;
+        let at = line_member(alloc, self.line)?;
         let said = said_members(alloc, &self.remark)?;
         let after = said_objects(alloc, &self.remark)?;
         format!(in alloc; "{{\"test\":{number},\"ok\":{ok},{name}{file}{at}{said}}}{after}")

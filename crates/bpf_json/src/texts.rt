@@ -1,7 +1,7 @@
 //! Parts of printed lines, and of JSON: words for what is so or not, texts between quotes, members.
 
 ghost use Rattle.std.specs.Prelude.{◌≡◌, ◌<◌, ◌++◌, IfOk, OnOk, map, string_bytes};
-ghost use Rattle.bpf_json.specs.Texts.{all_text, by_text, digits_members, exact_members, is_plain, member, number_member, quoted, shown_byte, text_member, truth, verdict};
+ghost use Rattle.bpf_json.specs.Texts.{all_text, by_text, digits_members, exact_members, is_plain, joined, line_member, member, number_member, quoted, shown_byte, text_member, truth, verdict};
 
 use crate::digits::Digits;
 use std::alloc::{AllocError, Global};
@@ -93,6 +93,24 @@ pub(crate) fn exact_members(alloc: Global, name: &str, number: u64) -> Result<St
     ensures { IfOk result (λ s. string_bytes s ≡ exact_members name.now number) }
 {
     format!(in alloc; "\"{name}\":{number},\"{name}_text\":\"{number}\"")
+}
+
+/// Members, and a comma between them.
+#[tactic(auto, unfolding(crate::specs::Texts::joined))]
+pub(crate) fn joined(alloc: Global, one: &str, other: &str) -> Result<String, AllocError>
+    ensures { IfOk result (λ s. string_bytes s ≡ joined one.now other.now) }
+{
+    format!(in alloc; "{one},{other}")
+}
+
+/// The member for the number of a line, where there is one.
+pub(crate) fn line_member(alloc: Global, line: Option<u64>) -> Result<String, AllocError>
+    ensures { IfOk result (λ s. string_bytes s ≡ line_member line) }
+{
+    match line {
+        Some(line) => format!(in alloc; ",\"line\":{line}"),
+        None => Ok(String::new(alloc)),
+    }
 }
 
 /// The member for a number, where there is one.

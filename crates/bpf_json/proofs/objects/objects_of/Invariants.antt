@@ -5,7 +5,7 @@ use Rattle.bpf_json.proofs.Telling.{Told}
 use Rattle.bpf_json.proofs.objects.objects_of.Given as goal
 
 abbrev pub invariant-lines : goal.invariant-lines
-invariant-lines l = shadow (Utf8 l.rest) × Told l.text l.rest (string_bytes l.objects)
+invariant-lines l = shadow (Utf8 l.rest) × Told l.known l.text l.rest (string_bytes l.objects)
 
 abbrev pub decreases-lines : goal.decreases-lines
 decreases-lines l = length l.rest
