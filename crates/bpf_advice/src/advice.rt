@@ -2,12 +2,14 @@
 
 use crate::answers::push_answer;
 use crate::caret::{caret, names_nothing};
+use crate::claims::hint_of_comment;
 use crate::excerpt::{Language, instruction_text, line_of};
 use crate::expected::expected;
 use crate::finding::{Finding, Told, finding_in};
 use crate::hints::{hint_of, hint_of_fault, hint_of_program};
 use crate::inputs::{hint_of_file, push_input};
 use crate::labels::hint_of_names;
+use crate::lost::push_lost;
 use crate::places::{line_at, line_in_file};
 use crate::sights::push_sights;
 use crate::sources::{push_line, push_source};
@@ -62,6 +64,10 @@ fn push_found_line(
     let place = caret(alloc, symbols.as_ref(), code, line.as_bytes());
     push_line(alloc, text, number, line, place)?;
     if let Some(hint) = hint_of_names(alloc, code, input, number, place)? {
+        return write!(text, "  hint: {}\n", hint.as_str());
+    }
+    if code == Code::L11 {
+        let hint = hint_of_comment(alloc, input, line)?;
         return write!(text, "  hint: {}\n", hint.as_str());
     }
     push_hint(
@@ -150,6 +156,10 @@ fn push_fault(
     push_hint(text, hint_of_fault(code, known))
 }
 
+/// How bytes are named that races are not looked for at.
+const HOW_TO_SYNC: &str =
+    "`--sync` takes a map's name, bytes of its values as `NAME+AT:SIZE`, or a variable's name; bytes of an array's first value have a name by a line `var NAME ARRAY AT SIZE`";
+
 /// What A3 means where it is no jump.
 const UNKNOWN_NAME: &str = "it loads something by a name that nothing has";
 
@@ -181,6 +191,9 @@ fn push_coded(
     push_place(alloc, text, input, code, finding)?;
     push_instruction(alloc, text, input, finding)?;
     push_hint(text, hint_of_program(code))?;
+    if code == Code::G3 && finding.line.is_none() {
+        push_hint(text, Some(HOW_TO_SYNC))?;
+    }
     if is_fault(code) {
         push_fault(text, finding, code, details)?;
     }
@@ -244,6 +257,7 @@ pub fn advise(
         if !printed.starts_with("refused") {
             let is_file = input.language == Language::RunFile;
             push_answerless_programs(alloc, &mut text, input.text, is_file)?;
+            push_lost(&mut text, input.text, is_file)?;
         }
     }
     Ok(text)

@@ -70,7 +70,7 @@ fn common_back(one: &[u8], other: &[u8]) -> usize {
 }
 
 /// How many bytes of the longer of two words differ, between what they begin and end with alike.
-fn difference(one: &[u8], other: &[u8]) -> usize {
+pub fn difference(one: &[u8], other: &[u8]) -> usize {
     let longest = one.len().max(other.len());
     let shortest = one.len().min(other.len());
     let alike = common_front(one, other).saturating_add(common_back(one, other));

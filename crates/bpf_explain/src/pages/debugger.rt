@@ -27,7 +27,7 @@ A pc counts words, and a wide instruction has two.",
 
 pub const G3: Page = Page {
     code: Code::G3,
-    meaning: "no map, array or variable has this name",
+    meaning: "no map, array or variable of this name can be named here",
     example: Some(Example {
         command: "printf 'ebpf-run 1\\nprog a\\nexit\\nend\\njob 0 a\\n---\\nmap m\\n' | ebpf debug",
         printed: "refused G3",

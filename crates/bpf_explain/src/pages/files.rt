@@ -134,12 +134,13 @@ pub const L11: Page = Page {
         printed: "refused line 1 L11",
     }),
     advice: "\
-It begins with `always`, `sometimes` or `never`, or a word one edit away, and three
-words or more; but after that comes no line that `run --maps` prints of this file: a
+It has two words or more and begins with `always`, `sometimes` or `never`, or a word
+one edit away; but after that comes no line that `run --maps` prints of this file: a
 job with its CPU, or a map with a key and a value of its sizes in lower case hex, and
 numbers without a 0 before them; nor `fault`, `r0 of job J < N`, `var NAME = N`,
-`map NAME[K]+AT of u64 = N`, or several of these joined by `and`, or by `or`. `always ends` and
-`sometimes hung` take `--patient`, and lines `keys` take `run --check --keys`.
+`map NAME[K]+AT of u64 = N`, or several of these joined by `and`, or by `or`; nor `race`
+after `never` or `sometimes`. `always ends` and `sometimes hung` take `--patient`, and
+lines `keys` take `run --check --keys`.
 Or it begins with `check patient` or `check limit`, or words one edit away, and isn't
 `check patient`, `check limit N` or both, with N from 0 to 1,000,000,000.
 `check --lenient` passes such comments over.",
