@@ -1,5 +1,5 @@
 mod Held
 mod Joints
 mod TestLines
-mod Verdicts
+pub mod Verdicts
 mod SingleRuns

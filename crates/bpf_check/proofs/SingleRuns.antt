@@ -4,7 +4,7 @@ use Rattle.std.proofs.lemmas.List.{get_or_read_under}
 use Rattle.std.specs.Prelude.{◌&&◌, ◌||◌}
 use Rattle.bpf_check.specs.declared.expectation.Often.{Often}
 use Rattle.bpf_check.specs.declared.expectation.Often.TheVariants as often
-use Rattle.bpf_check.specs.Expectation.{Expected, agrees, asks_of_ends}
+use Rattle.bpf_check.specs.Expectation.{Expected, agrees, asks_of_search}
 use Rattle.bpf_check.specs.Listing.{no_expectation}
 use Rattle.bpf_check.specs.Single.{RunsAreJudged, is_open_by, is_refuted_by, judged_test, judged_tests}
 use Rattle.bpf_check.specs.Verdict.{IsOutcomeText, MeetBy}
@@ -30,7 +30,7 @@ meets so text often.Always e left = ((λ t same. ap so same ∙ kept (so text) e
 meets so text often.Sometimes e left = (text, refl, kept (so text) left)
 meets so text often.Never e left = λ t same. ap so same ∙ e
 
--- where it isn't asked if schedules can end
+-- where it isn't asked of a search
 by_line : (asks refuted : Bool) → not asks && refuted ≡ true → refuted ≡ true
 by_line true refuted e = let no : false ≡ true = e in absurd cc
 by_line false refuted e = e
@@ -41,7 +41,7 @@ not_open false left refuted e f = (e, f)
 
 pub judged : RunsAreJudged
 judged w names text e is =
-    let asks = asks_of_ends e.often e.line in
+    let asks = asks_of_search e.often e.line in
     let so = agrees e text in (
       (λ refuted. refutes (IsOutcomeText w names) (agrees e) text e.often is (by_line asks (is_refuted_by e.often so) refuted)),
       (λ stays left. let both = not_open asks (is_open_by e.often so) (is_refuted_by e.often so) left stays in meets (agrees e) text e.often both.1 both.0),

@@ -10,11 +10,12 @@ use Rattle.bpf_explore.specs.Outcomes.{AreOutcomes, EndsBy, Found, HaveAll}
 use Rattle.bpf_explore.specs.Patient.{EndsPatiently, HangsBy, NoneHangs}
 use Rattle.bpf_check.specs.declared.expectation.Often.{Often}
 use Rattle.bpf_check.specs.declared.expectation.Often.TheVariants as often
-use Rattle.bpf_check.specs.Expectation.{Expected, agrees, asks_ends, asks_hung}
+use Rattle.bpf_check.specs.declared.judging.Verdict.{Verdict}
+use Rattle.bpf_check.specs.Expectation.{Expected, agrees, asks_ends, asks_hung, asks_of_races}
 use Rattle.bpf_check.specs.Faults.{IsTrueFault, are_faults_unexpected, has_fault}
 use Rattle.bpf_check.specs.Findings.{Findings}
 use Rattle.bpf_check.specs.Laws.{ArePatientFindings, FaultsAreTrue, PatientFaultsAreTrue, PatientVerdictsAreTrue, VerdictsAreTrue}
-use Rattle.bpf_check.specs.Verdict.{AreTrueEnds, Choose, IsOutcomeText, IsPatientText, IsTrueHang, IsTrueOf, IsTruePatiently, IsTrueVerdict, decides, decides_by, ends_verdict, hung_verdict, is_empty, outcome_verdict, verdict_at, verdict_of, verdict_of_ends, verdict_of_hung, verdict_of_none}
+use Rattle.bpf_check.specs.Verdict.{AreTrueEnds, AreTrueRaces, Choose, IsOutcomeText, IsPatientText, IsTrueHang, IsTrueOf, IsTruePatiently, IsTrueRace, decides, decides_by, ends_verdict, hung_verdict, is_empty, outcome_verdict, races_verdict, verdict_at, verdict_of, verdict_of_ends, verdict_of_hung, verdict_of_none, verdict_of_races}
 
 -- ---- the first element that passes a test
 module _ {X : Type 0} (test : X → Bool) where
@@ -121,7 +122,7 @@ module _ (IsText : List ℕ → Type 0) (IsAnswer : Found → Type 0) (f : Findi
   undecided often.Never true none found is have lacks =
       λ text there. for_each (λ t. agrees e t ≡ false) (have refl) lacks text there
 
-  decided : (o : Often) (place : Option ℕ) (all none : Bool) → f.all ≡ all → is_empty f.answers ≡ none → (all ≡ true → AreAll)
+  pub decided : (o : Often) (place : Option ℕ) (all none : Bool) → f.all ≡ all → is_empty f.answers ≡ none → (all ≡ true → AreAll)
       → Finds (told o) f.answers place → IsTrueOf IsText IsAnswer f (expects o) (verdict_at o place all none)
   decided o None all none found is have lacks = undecided o all none found is have lacks
   decided often.Always (Some i) all none whole is have found = (
@@ -134,19 +135,38 @@ module _ (IsText : List ℕ → Type 0) (IsAnswer : Found → Type 0) (f : Findi
     (found.0, found.1, each i found.0 found.1, found.2),
   )
 
+-- ---- races
+raced_so : (w : World) (f : Findings) → AreTrueRaces w f → (o : Often) (line : List ℕ) → asks_of_races o line ≡ true → (some all : Bool)
+    → f.raced.some ≡ some → f.raced.all ≡ all → IsTrueRace w f o (verdict_of_races o some all)
+raced_so w f are often.Always line asks some all is found = let no : false ≡ true = asks in absurd cc
+raced_so w f are often.Sometimes line asks true all is found = are.there is
+raced_so w f are often.Sometimes line asks false true is found = are.none is found
+raced_so w f are often.Sometimes line asks false false is found = found
+raced_so w f are often.Never line asks true all is found = are.there is
+raced_so w f are often.Never line asks false true is found = are.none is found
+raced_so w f are often.Never line asks false false is found = found
+
+-- where it is asked of races, by these, else by another verdict
+by_races : (w : World) (f : Findings) (o : Often) (line : List ℕ) (Other : Verdict → Type 0) (v : Verdict) (asks : Bool)
+    → asks_of_races o line ≡ asks → (asks_of_races o line ≡ true → AreTrueRaces w f) → Other v
+    → Choose asks (IsTrueRace w f o (cond asks (races_verdict f o) v)) (Other (cond asks (races_verdict f o) v))
+by_races w f o line Other v true asks are other = raced_so w f (are asks) o line asks f.raced.some f.raced.all refl refl
+by_races w f o line Other v false asks are other = other
+
 -- ---- of an exact search
 exact : (w : World) (names : Names) (f : Findings) (e : Expected) → AreOutcomes w names true f.answers
-    → (f.all ≡ true → HaveAll w names true f.answers) → IsTrueVerdict w names f e (outcome_verdict f e)
+    → (f.all ≡ true → HaveAll w names true f.answers) → IsTrueOf (IsOutcomeText w names) (EndsBy w names true) f e (outcome_verdict f e)
 exact w names f e are have =
     decided (IsOutcomeText w names) (EndsBy w names true) f e (λ found ends. (found.stopped, (unrolled found.by, ends))) are.each
     e.often _ f.all (is_empty f.answers) refl refl (λ whole text is. let there = have whole text is.0 is.1 in (there.0, there.1, there.2, there.3))
     (finds (λ found. decides e found.text) f.answers)
 
 pub verdicts_true : VerdictsAreTrue
-verdicts_true w names f e exactly are have =
-    subst (λ (patient : Bool). IsTrueVerdict w names f e
-    (cond (patient && asks_ends e.often e.line) (ends_verdict f) (cond (patient && asks_hung e.often e.line) (hung_verdict f) (outcome_verdict f e))))
-    (sym exactly) (exact w names f e are have)
+verdicts_true w names f e exactly are have raced =
+    let Other : Verdict → Type 0 = IsTrueOf (IsOutcomeText w names) (EndsBy w names true) f e in
+    let rest : Bool → Verdict = λ patient. cond (patient && asks_ends e.often e.line) (ends_verdict f) (cond (patient && asks_hung e.often e.line) (hung_verdict f) (outcome_verdict f e)) in
+    by_races w f e.often e.line Other (rest f.patient) (asks_of_races e.often e.line) refl raced
+    (subst (λ (patient : Bool). Other (rest patient)) (sym exactly) (exact w names f e are have))
 
 -- ---- of a patient one
 patiently : (w : World) (names : Names) (f : Findings) (e : Expected) → ArePatientFindings w names f
@@ -181,11 +201,17 @@ chosen w names f e are true hung = true_ends w names f are f.all (is_empty f.hun
 chosen w names f e are false true = true_hang w names f are f.all (is_empty f.hung) refl refl
 chosen w names f e are false false = patiently w names f e are
 
-patient_one : (w : World) (names : Names) (f : Findings) → ArePatientFindings w names f → (e : Expected) → IsTruePatiently w names f e (verdict_of f e)
-patient_one w names f are e =
-    subst (λ (patient : Bool). IsTruePatiently w names f e
-    (cond (patient && asks_ends e.often e.line) (ends_verdict f) (cond (patient && asks_hung e.often e.line) (hung_verdict f) (outcome_verdict f e))))
-    (sym are.patient) (chosen w names f e are (asks_ends e.often e.line) (asks_hung e.often e.line))
+-- whatever but races is asked
+abbrev IsTrueElse : World → Names → Findings → Expected → Verdict → Type 0
+IsTrueElse w names f e v = Choose (asks_ends e.often e.line) (AreTrueEnds w f v)
+    (Choose (asks_hung e.often e.line) (IsTrueHang w f v) (IsTrueOf (IsPatientText w names) (EndsPatiently w names true) f e v))
+
+patient_one : (w : World) (names : Names) (f : Findings) → ArePatientFindings w names f → (e : Expected) → (asks_of_races e.often e.line ≡ true → AreTrueRaces w f)
+    → IsTruePatiently w names f e (verdict_of f e)
+patient_one w names f are e raced =
+    let rest : Bool → Verdict = λ patient. cond (patient && asks_ends e.often e.line) (ends_verdict f) (cond (patient && asks_hung e.often e.line) (hung_verdict f) (outcome_verdict f e)) in
+    by_races w f e.often e.line (IsTrueElse w names f e) (rest f.patient) (asks_of_races e.often e.line) refl raced
+    (subst (λ (patient : Bool). IsTrueElse w names f e (rest patient)) (sym are.patient) (chosen w names f e are (asks_ends e.often e.line) (asks_hung e.often e.line)))
 
 pub patient_verdicts_true : PatientVerdictsAreTrue
 patient_verdicts_true w names f are = (true_ends w names f are f.all (is_empty f.hung) refl refl, patient_one w names f are)
@@ -203,7 +229,7 @@ module _ (IsText : List ℕ → Type 0) (IsAnswer : Found → Type 0) (f : Findi
       subst (λ (t : List ℕ). has_fault t ≡ false) there.3 (lacks there.0 there.1 there.2)
   first_faulty (Some i) found = (found.0, found.1, each i found.0 found.1, found.2)
 
-  by_silence : (silent : Bool) → are_faults_unexpected expected ≡ silent
+  pub by_silence : (silent : Bool) → are_faults_unexpected expected ≡ silent
       → IsTrueFault IsText IsAnswer f expected (cond silent (position faulty f.answers) None)
   by_silence true none = first_faulty (position faulty f.answers) (finds faulty f.answers)
   by_silence false speaks = λ silent all text is. let no : false ≡ true = sym speaks ∙ silent in absurd cc

@@ -1,6 +1,6 @@
 -- What a run file expects of its outcomes, in its comments. Our own choice.
 use Rattle.std.specs.Prelude.{ℕ, ◌+◌, Bool, false, ◌==◌, ◌&&◌, ◌||◌, List, [], ◌∷◌, Option, Some, None, if◌then◌else◌, is_none, is_some, option_and_then, option_map, codes, length}
-use Rattle.std.specs.List.{filter_map, position}
+use Rattle.std.specs.List.{filter_map, list_any, position}
 use Rattle.std.specs.Str.{bytes_eq}
 use Rattle.bpf_lines.specs.Lines.{lines_of}
 use Rattle.bpf_check.specs.declared.expectation.Often.{Often}
@@ -14,7 +14,8 @@ use Rattle.bpf_check.specs.declared.claim.Join.{Join}
 use Rattle.bpf_check.specs.declared.claim.Join.TheVariants as join
 
 -- how often outcomes are to be as a line of words claims, and what that is: its parts, and how they are
--- joined. Or, where the line is `ends` or `hung`, that each schedule can end, or that some can't
+-- joined. Or, where the line is `ends` or `hung`, that each schedule can end, or that some can't; or, where
+-- it is `race`, that there is a data race, or none
 pub record Expected : Type 0 where
   pub often : Often
   pub line : List ℕ
@@ -39,7 +40,7 @@ often_in word =
     else (if is_often often.Sometimes word then Some often.Sometimes
     else (if is_often often.Never word then Some often.Never else None))
 
--- ---- what asks if schedules can end
+-- ---- what asks of a search, and not of outcomes
 
 abbrev pub ends_line : List ℕ
 ends_line = codes "ends"
@@ -62,11 +63,24 @@ asks_hung often.Never line = false
 abbrev pub asks_of_ends : Often → List ℕ → Bool
 asks_of_ends o line = asks_ends o line || asks_hung o line
 
+-- `sometimes race`, `never race`
+abbrev pub asks_of_races : Often → List ℕ → Bool
+asks_of_races often.Always line = false
+asks_of_races often.Sometimes line = bytes_eq line (codes "race")
+asks_of_races often.Never line = bytes_eq line (codes "race")
+
+abbrev pub asks_of_search : Often → List ℕ → Bool
+asks_of_search o line = asks_of_ends o line || asks_of_races o line
+
+abbrev pub are_races_asked : List Expected → Bool
+are_races_asked expected = list_any (λ e. asks_of_races e.often e.line) expected
+
 -- ---- a comment
 
--- that schedules can end, or not, where that may be asked
+-- of races, or where that may be asked if schedules can end
 abbrev pub can_ask : Subjects → Often → List (List ℕ) → Bool
-can_ask s o words = s.ends && (length words == 1 && asks_of_ends o (line_of words))
+can_ask s o words = length words == 1
+    && (asks_of_races o (line_of words) || (s.ends && asks_of_ends o (line_of words)))
 
 -- the words are one line, or ask that; so a map may have the name `and` or `or`
 abbrev pub is_whole : Subjects → Often → List (List ℕ) → Bool
@@ -96,17 +110,11 @@ abbrev pub seems_often : List ℕ → Bool
 seems_often word =
     is_near word (codes "always") || (is_near word (codes "sometimes") || is_near word (codes "never"))
 
--- a word that expects something alone
-abbrev pub is_alone : List ℕ → Bool
-is_alone word = bytes_eq word ends_line || (bytes_eq word hung_line || bytes_eq word (codes "fault"))
-
--- the words are meant to expect something: such a word and two more, or it and one of those
+-- the words are meant to expect something: such a word, and one more or several
 abbrev pub is_claim : List (List ℕ) → Bool
 is_claim [] = false
 is_claim (word ∷ []) = false
-is_claim (word ∷ second ∷ []) =
-    seems_often word && is_alone second
-is_claim (word ∷ second ∷ third ∷ more) = seems_often word
+is_claim (word ∷ second ∷ more) = seems_often word
 
 -- the words of a comment are meant to expect something, or to say how the file is checked, and can't
 abbrev pub is_amiss : Subjects → List (List ℕ) → Bool

@@ -4,17 +4,18 @@ use Rattle.bpf_names.specs.Names.{Names}
 use Rattle.bpf_machine.specs.Schedule.{World}
 use Rattle.bpf_explore.specs.Outcomes.{AreOutcomes, EndsBy, HaveAll}
 use Rattle.bpf_explore.specs.Patient.{AreHung, ArePatient, EndsPatiently, HaveAllPatient, NoneHangs}
-use Rattle.bpf_check.specs.Expectation.{Expected}
+use Rattle.bpf_check.specs.Expectation.{Expected, asks_of_races}
 use Rattle.bpf_check.specs.Faults.{IsTrueFault, unexpected_fault}
 use Rattle.bpf_check.specs.Findings.{Findings}
-use Rattle.bpf_check.specs.Verdict.{AreTrueEnds, IsOutcomeText, IsPatientText, IsTruePatiently, IsTrueVerdict, ends_verdict, verdict_of}
+use Rattle.bpf_check.specs.Verdict.{AreTrueEnds, AreTrueRaces, IsOutcomeText, IsPatientText, IsTruePatiently, IsTrueVerdict, ends_verdict, verdict_of}
 
--- where answers are outcomes, and no outcome is left out if they are said to be all, each verdict is
--- true
+-- where answers are outcomes, no outcome is left out if they are said to be all, and what was found of
+-- races is so if it is asked of them, each verdict is true
 abbrev pub VerdictsAreTrue : Type 0
 VerdictsAreTrue =
     (w : World) (names : Names) (f : Findings) (e : Expected) → f.patient ≡ false
     → AreOutcomes w names true f.answers → (f.all ≡ true → HaveAll w names true f.answers)
+    → (asks_of_races e.often e.line ≡ true → AreTrueRaces w f)
     → IsTrueVerdict w names f e (verdict_of f e)
 
 -- what a patient search promises of its findings
@@ -30,7 +31,8 @@ abbrev pub PatientVerdictsAreTrue : Type 0
 PatientVerdictsAreTrue =
     (w : World) (names : Names) (f : Findings) → ArePatientFindings w names f
     → AreTrueEnds w f (ends_verdict f)
-    × ((e : Expected) → IsTruePatiently w names f e (verdict_of f e))
+    × ((e : Expected) → (asks_of_races e.often e.line ≡ true → AreTrueRaces w f)
+    → IsTruePatiently w names f e (verdict_of f e))
 
 -- a fault that isn't expected is one of an outcome; where there is none, though something is expected and
 -- nothing of faults, no outcome has one

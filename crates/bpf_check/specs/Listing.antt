@@ -2,6 +2,7 @@
 use Rattle.std.specs.Prelude.{ℕ, zero, suc, ◌+◌, Bool, false, true, ◌==◌, ◌&&◌, ◌||◌, ◌++◌, List, [], Option, Some, None, if◌then◌else◌, codes, length, map, nat_le, slice_get, slice_index_or}
 use Rattle.std.specs.Fmt.{decimal}
 use Rattle.bpf_lines.specs.Words.{is_word_byte}
+use Rattle.bpf_schedule.specs.Moves.{all_moves_text}
 use Rattle.bpf_schedule.specs.Spelling.{runs_text}
 use Rattle.bpf_explore.specs.Outcomes.{Found}
 use Rattle.bpf_check.specs.declared.claim.Join.TheVariants as join
@@ -40,11 +41,15 @@ ok_text verdict.NoOutcome = codes "not ok "
 ok_text verdict.Hangs = codes "not ok "
 ok_text verdict.NoneHangs = codes "not ok "
 ok_text verdict.Untold = codes "not ok "
+ok_text verdict.Races = codes "not ok "
+ok_text verdict.NoRaces = codes "not ok "
+ok_text verdict.RacesUntold = codes "not ok "
 
 -- the schedule of an answer, on a line
 abbrev pub schedule_text : Option Found → List ℕ
 schedule_text None = []
-schedule_text (Some found) = codes "# by" ++ runs_text (length found.by) found.by ++ codes "\n"
+schedule_text (Some found) =
+    codes "# by" ++ all_moves_text (length found.by) found.by ++ codes "\n"
 
 -- a schedule to a state from which no end can be reached, on a line
 abbrev pub hung_text : List (ℕ × ℕ) → List ℕ
@@ -70,6 +75,10 @@ reason_text f verdict.NoOutcome = codes "# no outcome\n"
 reason_text f verdict.Hangs = hung_lines (length f.hung) f.hung
 reason_text f verdict.NoneHangs = codes "# every schedule can end\n"
 reason_text f verdict.Untold = untold_text f.patient
+reason_text f verdict.Races = f.raced.lines
+reason_text f verdict.NoRaces = codes "# there is no race\n"
+reason_text f verdict.RacesUntold =
+    codes "# not decided: not all states were looked at for races; --limit N looks at more\n"
 
 abbrev pub number_text : ℕ → List ℕ
 number_text n = decimal n ++ codes " - "

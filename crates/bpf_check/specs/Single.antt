@@ -5,7 +5,7 @@ use Rattle.bpf_names.specs.Names.{Names}
 use Rattle.bpf_machine.specs.Schedule.{World}
 use Rattle.bpf_check.specs.declared.expectation.Often.{Often}
 use Rattle.bpf_check.specs.declared.expectation.Often.TheVariants as often
-use Rattle.bpf_check.specs.Expectation.{Expected, agrees, asks_of_ends}
+use Rattle.bpf_check.specs.Expectation.{Expected, agrees, asks_of_search}
 use Rattle.bpf_check.specs.Listing.{expected_text, no_expectation, number_text, plan_text}
 use Rattle.bpf_check.specs.Verdict.{IsMet, IsOutcomeText, Meet}
 
@@ -19,20 +19,20 @@ is_refuted_by often.Never so = so
 
 abbrev pub is_refuted : List ℕ → Expected → Bool
 is_refuted text e =
-    not (asks_of_ends e.often e.line) && is_refuted_by e.often (agrees e text)
+    not (asks_of_search e.often e.line) && is_refuted_by e.often (agrees e text)
 
 abbrev pub is_any_refuted : List ℕ → List Expected → Bool
 is_any_refuted text expected = list_any (λ e. is_refuted text e) expected
 
--- nor does it show that they are: another outcome may be so; and if schedules can end, no single one
--- decides
+-- nor does it show that they are: another outcome may be so; and if schedules can end, or race, no single
+-- one decides
 abbrev pub is_open_by : Often → (so : Bool) → Bool
 is_open_by often.Always so = false
 is_open_by often.Sometimes so = not so
 is_open_by often.Never so = false
 
 abbrev pub is_open : List ℕ → Expected → Bool
-is_open text e = asks_of_ends e.often e.line || is_open_by e.often (agrees e text)
+is_open text e = asks_of_search e.often e.line || is_open_by e.often (agrees e text)
 
 -- SO WHAT ONE RUN REFUTES DOESN'T HOLD of the outcomes of all schedules, of which its own is one;
 -- what it neither refutes nor leaves open would hold if there were no other
@@ -65,7 +65,7 @@ why_text o refuted = if refuted then shown_text o else []
 abbrev pub judged_test : List ℕ → ℕ → Expected → List ℕ
 judged_test text n e =
     refuted_text (is_refuted text e) ++ number_text n ++ expected_text e
-    ++ open_text (asks_of_ends e.often e.line) (is_open text e) ++ why_text e.often (is_refuted text e)
+    ++ open_text (asks_of_search e.often e.line) (is_open text e) ++ why_text e.often (is_refuted text e)
 
 -- the first n tests; they count from 1
 abbrev pub judged_tests : List ℕ → ℕ → List Expected → List ℕ

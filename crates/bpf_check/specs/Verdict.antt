@@ -1,8 +1,11 @@
 -- Whether outcomes are as expected, and what the findings of a search say of that.
-use Rattle.std.specs.Prelude.{◌≡◌, ℕ, ◌==◌, ◌&&◌, ◌||◌, Bool, true, false, not, if◌then◌else◌, is_some, List, Option, Some, None, length, map, slice_get}
+use Rattle.std.specs.Prelude.{◌≡◌, ◌<◌, ℕ, ◌==◌, ◌&&◌, ◌||◌, Bool, true, false, not, if◌then◌else◌, is_some, List, Option, Some, None, length, map, slice_get}
 use Rattle.std.specs.List.{list_any, position}
 use Rattle.bpf_names.specs.Names.{Names}
-use Rattle.bpf_machine.specs.Schedule.{World}
+use Rattle.bpf_machine.specs.Patient.{NoneRanOut}
+use Rattle.bpf_machine.specs.Race.{IsRace}
+use Rattle.bpf_machine.specs.Schedule.{World, RunsSchedule}
+use Rattle.bpf_machine.specs.declared.machine.Stand.{Stand}
 use Rattle.bpf_explore.specs.Outcomes.{Found, EndsBy, IsOutcome}
 use Rattle.bpf_explore.specs.Patient.{AreHung, EndsPatiently, HangsBy, IsPatientOutcome, NoneHangs}
 use Rattle.bpf_check.specs.declared.expectation.Often.{Often}
@@ -11,7 +14,7 @@ use Rattle.bpf_check.specs.declared.judging.Verdict.{Verdict}
 use Rattle.bpf_check.specs.declared.judging.Verdict.TheVariants as verdict
 use Rattle.bpf_check.specs.declared.judging.Conclusion.{Conclusion}
 use Rattle.bpf_check.specs.declared.judging.Conclusion.TheVariants as conclusion
-use Rattle.bpf_check.specs.Expectation.{Expected, agrees, asks_ends, asks_hung}
+use Rattle.bpf_check.specs.Expectation.{Expected, agrees, asks_ends, asks_hung, asks_of_races}
 use Rattle.bpf_check.specs.Faults.{unexpected_fault}
 use Rattle.bpf_check.specs.Findings.{Findings}
 
@@ -88,11 +91,24 @@ verdict_of_hung false true = verdict.Untold
 abbrev pub hung_verdict : Findings → Verdict
 hung_verdict f = verdict_of_hung f.all (is_empty f.hung)
 
+-- whether there is a data race, as is to be: whether one was found, and whether all were
+abbrev pub verdict_of_races : Often → (some all : Bool) → Verdict
+verdict_of_races often.Always some all = verdict.RacesUntold
+verdict_of_races often.Sometimes true all = verdict.Holds
+verdict_of_races often.Sometimes false true = verdict.NoRaces
+verdict_of_races often.Sometimes false false = verdict.RacesUntold
+verdict_of_races often.Never true all = verdict.Races
+verdict_of_races often.Never false true = verdict.Holds
+verdict_of_races often.Never false false = verdict.RacesUntold
+
+abbrev pub races_verdict : Findings → Often → Verdict
+races_verdict f o = verdict_of_races o f.raced.some f.raced.all
+
 -- THE VERDICT
 abbrev pub verdict_of : Findings → Expected → Verdict
-verdict_of f e =
-    if f.patient && asks_ends e.often e.line then ends_verdict f
-    else (if f.patient && asks_hung e.often e.line then hung_verdict f else outcome_verdict f e)
+verdict_of f e = if asks_of_races e.often e.line then races_verdict f e.often
+    else (if f.patient && asks_ends e.often e.line then ends_verdict f
+    else (if f.patient && asks_hung e.often e.line then hung_verdict f else outcome_verdict f e))
 
 abbrev pub verdicts_of : Findings → List Expected → List Verdict
 verdicts_of f expected = map (verdict_of f) expected
@@ -107,6 +123,9 @@ is_refused verdict.Refuted = true
 is_refused verdict.NoOutcome = true
 is_refused verdict.NoneHangs = true
 is_refused verdict.Untold = false
+is_refused verdict.Races = true
+is_refused verdict.NoRaces = true
+is_refused verdict.RacesUntold = false
 
 abbrev pub is_untold : Verdict → Bool
 is_untold verdict.Holds = false
@@ -116,6 +135,9 @@ is_untold verdict.Refuted = false
 is_untold verdict.NoOutcome = false
 is_untold verdict.NoneHangs = false
 is_untold verdict.Untold = true
+is_untold verdict.Races = false
+is_untold verdict.NoRaces = false
+is_untold verdict.RacesUntold = true
 
 abbrev pub concluded : Bool → Bool → Conclusion
 concluded true untold = conclusion.Unmet
@@ -133,6 +155,36 @@ conclusion_by f fault verdicts = concluded
 abbrev pub conclusion_of : Findings → List Expected → Conclusion
 conclusion_of f expected =
     conclusion_by f (unexpected_fault f expected) (verdicts_of f expected)
+
+-- ---- data races
+
+-- the next steps of two CPUs are one
+abbrev pub IsRacing : World → Type 0
+IsRacing z = (one : Stand) × (other : Stand) × (b : ℕ) × (one.cpu < other.cpu) × IsRace z one other b
+
+-- some schedule leads to a machine in which they are
+abbrev pub HasRace : World → Type 0
+HasRace w = (schedule : List ℕ) × (z : World) × RunsSchedule w schedule z × IsRacing z
+
+-- none does; or none by which each job has steps left
+abbrev pub HasNoRace : (patient : Bool) → World → Type 0
+HasNoRace false w = (schedule : List ℕ) (z : World) → RunsSchedule w schedule z → IsRacing z → ⊥
+HasNoRace true w =
+    (schedule : List ℕ) (z : World) → RunsSchedule w schedule z → NoneRanOut z.jobs → IsRacing z → ⊥
+
+-- what was found of races is so
+pub record AreTrueRaces (w : World) (f : Findings) : Type 0 where
+  pub there : f.raced.some ≡ true → HasRace w
+  pub none : f.raced.some ≡ false → f.raced.all ≡ true → HasNoRace f.patient w
+
+-- what a verdict says of them
+abbrev pub IsTrueRace : World → Findings → Often → Verdict → Type 0
+IsTrueRace w f often.Sometimes verdict.Holds = HasRace w
+IsTrueRace w f often.Never verdict.Holds = HasNoRace f.patient w
+IsTrueRace w f o verdict.Races = HasRace w
+IsTrueRace w f o verdict.NoRaces = HasNoRace f.patient w
+IsTrueRace w f o verdict.RacesUntold = f.raced.all ≡ false
+IsTrueRace w f o _ = ⊥
 
 -- ---- verdicts are true
 
@@ -153,10 +205,19 @@ IsTrueOf IsText IsAnswer f e verdict.NoOutcome =
 IsTrueOf IsText IsAnswer f e verdict.Untold = f.all ≡ false
 IsTrueOf IsText IsAnswer f e verdict.Hangs = ⊥
 IsTrueOf IsText IsAnswer f e verdict.NoneHangs = ⊥
+IsTrueOf IsText IsAnswer f e verdict.Races = ⊥
+IsTrueOf IsText IsAnswer f e verdict.NoRaces = ⊥
+IsTrueOf IsText IsAnswer f e verdict.RacesUntold = ⊥
 
--- of all schedules
+-- one of both claims
+abbrev pub Choose : Bool → Type 0 → Type 0 → Type 0
+Choose true Claim Other = Claim
+Choose false Claim Other = Other
+
+-- of all schedules: of races, or of outcomes
 abbrev pub IsTrueVerdict : World → Names → Findings → Expected → Verdict → Type 0
-IsTrueVerdict w names f e v = IsTrueOf (IsOutcomeText w names) (EndsBy w names true) f e v
+IsTrueVerdict w names f e v = Choose (asks_of_races e.often e.line) (IsTrueRace w f e.often v)
+    (IsTrueOf (IsOutcomeText w names) (EndsBy w names true) f e v)
 
 -- of those in which no job is out of budget
 abbrev pub IsPatientText : World → Names → List ℕ → Type 0
@@ -177,13 +238,9 @@ IsTrueHang w f verdict.NoneHangs = NoneHangs w
 IsTrueHang w f verdict.Untold = f.all ≡ false
 IsTrueHang w f _ = ⊥
 
--- one of both claims
-abbrev pub Choose : Bool → Type 0 → Type 0 → Type 0
-Choose true Claim Other = Claim
-Choose false Claim Other = Other
-
 -- whichever an expectation asks
 abbrev pub IsTruePatiently : World → Names → Findings → Expected → Verdict → Type 0
-IsTruePatiently w names f e v = Choose (asks_ends e.often e.line) (AreTrueEnds w f v)
+IsTruePatiently w names f e v = Choose (asks_of_races e.often e.line) (IsTrueRace w f e.often v)
+    (Choose (asks_ends e.often e.line) (AreTrueEnds w f v)
     (Choose (asks_hung e.often e.line) (IsTrueHang w f v)
-    (IsTrueOf (IsPatientText w names) (EndsPatiently w names true) f e v))
+    (IsTrueOf (IsPatientText w names) (EndsPatiently w names true) f e v)))

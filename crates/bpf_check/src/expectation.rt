@@ -2,7 +2,7 @@
 
 ghost use Rattle.std.specs.Prelude.{◌≡◌, ◌≤◌, ◌++◌, false, is_some, IfErr, IfOk, IfSome, None, OnOk, length, map};
 ghost use Rattle.bpf_check.specs.Comments.{words_of};
-ghost use Rattle.bpf_check.specs.Expectation.{agrees, asks_ends, asks_hung, asks_of_ends, can_ask, claim_of, expectation_lines, expectations_of, expected_by, expected_in, first_amiss, is_alone, is_amiss, is_claim, is_often, often_in, often_text, seems_often, whole};
+ghost use Rattle.bpf_check.specs.Expectation.{agrees, are_races_asked, asks_ends, asks_hung, asks_of_ends, asks_of_races, asks_of_search, can_ask, claim_of, expectation_lines, expectations_of, expected_by, expected_in, first_amiss, is_amiss, is_claim, is_often, often_in, often_text, seems_often, whole};
 ghost use Rattle.bpf_check.specs.Faults.{speaks_of_faults};
 ghost use Rattle.bpf_check.specs.Parts.{line_of};
 ghost use Rattle.bpf_check.specs.Unexpected.{IsUnexpected};
@@ -142,11 +142,29 @@ pub(crate) fn asks_of_ends(often: Often, line: &[u8]) -> bool
     asks_ends(often, line) || asks_hung(often, line)
 }
 
-/// Whether words ask if schedules can end, where that may be asked.
+/// Whether it asks if there is a data race.
+pub(crate) fn asks_of_races(often: Often, line: &[u8]) -> bool
+    ensures { result ≡ asks_of_races often line.now }
+{
+    match often {
+        Often::Sometimes | Often::Never => is(line, "race"),
+        Often::Always => false,
+    }
+}
+
+/// Whether it asks of a search, and not of outcomes.
+pub(crate) fn asks_of_search(often: Often, line: &[u8]) -> bool
+    ensures { result ≡ asks_of_search often line.now }
+{
+    asks_of_ends(often, line) || asks_of_races(often, line)
+}
+
+/// Whether words ask of a search what may be asked.
 fn can_ask(subjects: &Subjects, often: Often, words: &[&[u8]]) -> bool
     ensures { result ≡ can_ask subjects.now often (map (λ f. f.now) words.now) }
 {
-    subjects.ends() && words.len() == 1 && asks_of_ends(often, word_at(words, 0))
+    let word = word_at(words, 0);
+    words.len() == 1 && (asks_of_races(often, word) || subjects.ends() && asks_of_ends(often, word))
 }
 
 /// The expectation of these words, which are one line.
@@ -230,21 +248,13 @@ fn seems_often(word: &[u8]) -> bool
     is_near(word, b"always") || is_near(word, b"sometimes") || is_near(word, b"never")
 }
 
-/// Whether a word expects something alone.
-fn is_alone(word: &[u8]) -> bool
-    ensures { result ≡ is_alone word.now }
-{
-    is(word, "ends") || is(word, "hung") || is(word, "fault")
-}
-
 /// Whether the words of a comment are meant to expect something.
 fn is_claim(words: &[&[u8]]) -> bool
     ensures { result ≡ is_claim (map (λ f. f.now) words.now) }
 {
     match words {
         [] | [_] => false,
-        [word, second] => seems_often(word) && is_alone(second),
-        [word, ..] => seems_often(word),
+        [word, _, ..] => seems_often(word),
     }
 }
 
@@ -341,6 +351,13 @@ pub fn expectation_lines(
         rest = behind;
     }
     Ok(found)
+}
+
+/// Whether some expectation asks of data races.
+pub fn are_races_asked(expectations: &[Expectation]) -> bool
+    ensures { result ≡ are_races_asked expectations.now }
+{
+    expectations.iter().any(|expectation| asks_of_races(expectation.often(), expectation.line()))
 }
 
 /// Why a run file's comments aren't what its outcomes are compared with.

@@ -1,12 +1,50 @@
 //! What a search found, as far as tests rest on it.
 
 ghost use Rattle.std.specs.Prelude.{◌≡◌, [], false, true};
+ghost use Rattle.bpf_check.specs.Findings.{no_races};
 
 use bpf_explore::{Answer, Explored, ExploredPatiently, Hung};
 use std::alloc::Global;
 use std::marker::Model;
 
-/// What a search found of the outcomes, and of what never ends.
+/// What a search found of data races.
+#[derive(Drop)]
+pub struct Raced {
+    /// A line each, as it is printed after a test.
+    pub lines: String,
+    /// Whether there is one.
+    pub some: bool,
+    /// Whether they are all.
+    pub all: bool,
+}
+
+impl Model for Raced {
+    ghost use Rattle.std.specs.Prelude.{string_bytes};
+    ghost use Rattle.bpf_check.specs.Findings.{Raced};
+
+    ghost Value = { Raced };
+
+    ghost view = { λ r. record {
+      lines = string_bytes r.lines;
+      some = r.some;
+      all = r.all;
+    } };
+}
+
+impl Raced {
+    /// None was looked for.
+    pub fn none(alloc: Global) -> Raced
+        ensures { result ≡ no_races }
+    {
+        Raced {
+            lines: String::new(alloc),
+            some: false,
+            all: false,
+        }
+    }
+}
+
+/// What a search found of the outcomes, of what never ends, and of data races.
 #[derive(Drop)]
 pub struct Findings {
     answers: Vec<Answer>,
@@ -14,6 +52,7 @@ pub struct Findings {
     states: usize,
     patient: bool,
     hung: Vec<Hung>,
+    raced: Raced,
 }
 
 impl Model for Findings {
@@ -27,18 +66,20 @@ impl Model for Findings {
       states = f.states;
       patient = f.patient;
       hung = f.hung.items;
+      raced = f.raced;
     } };
 }
 
 impl Findings {
-    /// What an exact search found.
-    pub fn new(alloc: Global, explored: Explored) -> Findings
+    /// What an exact search found, and what one found of races.
+    pub fn new(alloc: Global, explored: Explored, raced: Raced) -> Findings
         ensures { result ≡ record {
           answers = explored.answers.items;
           all = explored.all;
           states = explored.states;
           patient = false;
           hung = [];
+          raced = raced;
         } }
     {
         Findings {
@@ -47,17 +88,19 @@ impl Findings {
             states: explored.states,
             patient: false,
             hung: Vec::new(alloc),
+            raced,
         }
     }
 
-    /// What a patient search found.
-    pub fn patient(explored: ExploredPatiently) -> Findings
+    /// What a patient search found, and what one found of races.
+    pub fn patient(explored: ExploredPatiently, raced: Raced) -> Findings
         ensures { result ≡ record {
           answers = explored.answers.items;
           all = explored.all;
           states = explored.states;
           patient = true;
           hung = explored.hung.items;
+          raced = raced;
         } }
     {
         Findings {
@@ -66,6 +109,7 @@ impl Findings {
             states: explored.states,
             patient: true,
             hung: explored.hung,
+            raced,
         }
     }
 
@@ -103,5 +147,12 @@ impl Findings {
         ensures { result.now ≡ self.now.hung }
     {
         &self.hung
+    }
+
+    /// What was found of data races.
+    pub fn raced(&self) -> &Raced
+        ensures { result.now ≡ self.now.raced }
+    {
+        &self.raced
     }
 }

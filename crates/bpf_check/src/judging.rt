@@ -2,9 +2,9 @@
 
 ghost use Rattle.std.specs.Prelude.{◌≡◌, IfOk};
 ghost use Rattle.std.specs.List.{list_any, position};
-ghost use Rattle.bpf_check.specs.Verdict.{conclusion_by, decides, ends_verdict, hung_verdict, is_refused, is_untold, outcome_verdict, verdict_at, verdict_of, verdict_of_ends, verdict_of_hung, verdict_of_none, verdicts_of};
+ghost use Rattle.bpf_check.specs.Verdict.{conclusion_by, decides, ends_verdict, hung_verdict, is_refused, is_untold, outcome_verdict, races_verdict, verdict_at, verdict_of, verdict_of_ends, verdict_of_hung, verdict_of_none, verdict_of_races, verdicts_of};
 
-use crate::expectation::{Expectation, Often, asks_ends, asks_hung};
+use crate::expectation::{Expectation, Often, asks_ends, asks_hung, asks_of_races};
 use crate::findings::Findings;
 use bpf_explore::Answer;
 use std::alloc::{AllocError, Global};
@@ -25,6 +25,12 @@ pub enum Verdict {
     NoneHangs,
     /// What was found doesn't decide it, and it isn't all.
     Untold,
+    /// There is a data race, where none is to be.
+    Races,
+    /// There is none, where one is to be.
+    NoRaces,
+    /// No data race was found, and not all states were looked at.
+    RacesUntold,
 }
 
 /// What all verdicts amount to.
@@ -133,12 +139,36 @@ fn hung_verdict(findings: &Findings) -> Verdict
     verdict_of_hung(findings.all(), findings.hung().is_empty())
 }
 
+/// Whether there are data races as expected: whether one was found, and whether all were.
+fn verdict_of_races(often: Often, some: bool, all: bool) -> Verdict
+    ensures { result ≡ verdict_of_races often some all }
+{
+    match (often, some, all) {
+        (Often::Always, _, _) => Verdict::RacesUntold,
+        (Often::Sometimes, true, _) => Verdict::Holds,
+        (Often::Never, true, _) => Verdict::Races,
+        (Often::Sometimes, false, true) => Verdict::NoRaces,
+        (Often::Never, false, true) => Verdict::Holds,
+        (Often::Sometimes | Often::Never, false, false) => Verdict::RacesUntold,
+    }
+}
+
+/// What the findings say of data races.
+fn races_verdict(findings: &Findings, often: Often) -> Verdict
+    ensures { result ≡ races_verdict findings.now often }
+{
+    let raced = findings.raced();
+    verdict_of_races(often, raced.some, raced.all)
+}
+
 /// What the findings say of an expectation.
 pub fn judge(findings: &Findings, expectation: &Expectation) -> Verdict
     ensures { result ≡ verdict_of findings.now expectation.now }
 {
     let often = expectation.often();
-    if findings.is_patient() && asks_ends(often, expectation.line()) {
+    if asks_of_races(often, expectation.line()) {
+        races_verdict(findings, often)
+    } else if findings.is_patient() && asks_ends(often, expectation.line()) {
         ends_verdict(findings)
     } else if findings.is_patient() && asks_hung(often, expectation.line()) {
         hung_verdict(findings)
@@ -170,15 +200,17 @@ fn is_refused(verdict: Verdict) -> bool
         | Verdict::Refuted
         | Verdict::NoOutcome
         | Verdict::Hangs
-        | Verdict::NoneHangs => true,
-        Verdict::Holds | Verdict::Untold => false,
+        | Verdict::NoneHangs
+        | Verdict::Races
+        | Verdict::NoRaces => true,
+        Verdict::Holds | Verdict::Untold | Verdict::RacesUntold => false,
     }
 }
 
 fn is_untold(verdict: Verdict) -> bool
     ensures { result ≡ is_untold verdict }
 {
-    matches!(verdict, Verdict::Untold)
+    matches!(verdict, Verdict::Untold | Verdict::RacesUntold)
 }
 
 fn is_any_refused(verdicts: &[Verdict]) -> bool

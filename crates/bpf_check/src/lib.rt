@@ -17,9 +17,11 @@ mod subjects;
 
 pub use checking::{Asked, Checked, CheckedPart, check_explored, check_named};
 pub use claim::{Comparison, Field, Join, Kind, Relation};
-pub use expectation::{Expectation, Often, Unexpected, expectation_lines, expectations};
+pub use expectation::{
+    Expectation, Often, Unexpected, are_races_asked, expectation_lines, expectations,
+};
 pub use faults::unexpected_fault;
-pub use findings::Findings;
+pub use findings::{Findings, Raced};
 pub use judging::{Conclusion, Verdict, conclusion_by, ends_verdict, judge};
 pub use listing::{first_count, last_count, plan};
 pub use settings::{MOST_STATES, Settings, settings_of};

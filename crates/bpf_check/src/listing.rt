@@ -9,7 +9,7 @@ use crate::findings::Findings;
 use crate::judging::{Verdict, ends_verdict};
 use bpf_explore::{Answer, Hung};
 use bpf_lines::words::is_word_byte;
-use bpf_schedule::push_runs;
+use bpf_schedule::{push_moves, push_runs};
 use std::alloc::{AllocError, Global};
 
 /// A file whose tests are listed: what is before the claims of its tests, the numbers of the lines that
@@ -75,7 +75,10 @@ fn ok_text(verdict: Verdict) -> &'static str
         | Verdict::NoOutcome
         | Verdict::Hangs
         | Verdict::NoneHangs
-        | Verdict::Untold => "not ok ",
+        | Verdict::Untold
+        | Verdict::Races
+        | Verdict::NoRaces
+        | Verdict::RacesUntold => "not ok ",
     }
 }
 
@@ -93,7 +96,7 @@ fn push_schedule(alloc: Global, text: &mut String, answer: &Answer) -> Result<()
         ≡ string_bytes text.old ++ schedule_text (Some answer.now)) }
 {
     text.push_str("# by")?;
-    push_runs(alloc, text, answer.by())?;
+    push_moves(alloc, text, answer.by())?;
     text.push_str("\n")
 }
 
@@ -149,6 +152,11 @@ fn push_reason(
         Verdict::Hangs => push_all_hung(alloc, text, findings.hung()),
         Verdict::NoneHangs => text.push_str("# every schedule can end\n"),
         Verdict::Untold => text.push_str(untold_text(findings.is_patient())),
+        Verdict::Races => text.push_str(findings.raced().lines.as_str()),
+        Verdict::NoRaces => text.push_str("# there is no race\n"),
+        Verdict::RacesUntold => text.push_str(
+            "# not decided: not all states were looked at for races; --limit N looks at more\n",
+        ),
     }
 }
 

@@ -1,7 +1,7 @@
 //! What a run file expects, against what one run of its jobs prints.
 
 ghost use Rattle.std.specs.Prelude.{◌≡◌, ◌++◌, IfOk, OnOk, string_bytes};
-ghost use Rattle.bpf_check.specs.Expectation.{asks_of_ends};
+ghost use Rattle.bpf_check.specs.Expectation.{asks_of_search};
 ghost use Rattle.bpf_check.specs.Single.{is_any_refuted, is_open, is_open_by, is_refuted, is_refuted_by, judged_test, judged_text, open_text, refuted_text, shown_text, why_text};
 
 use crate::expectation::{self, Expectation, Often};
@@ -15,11 +15,11 @@ pub struct Judged {
     pub refuted: bool,
 }
 
-/// Whether it is asked if schedules can end.
-fn asks_of_ends(expectation: &Expectation) -> bool
-    ensures { result ≡ asks_of_ends expectation.now.often expectation.now.line }
+/// Whether it is asked of a search.
+fn asks_of_search(expectation: &Expectation) -> bool
+    ensures { result ≡ asks_of_search expectation.now.often expectation.now.line }
 {
-    expectation::asks_of_ends(expectation.often(), expectation.line())
+    expectation::asks_of_search(expectation.often(), expectation.line())
 }
 
 fn is_refuted_by(often: Often, agrees: bool) -> bool
@@ -37,7 +37,7 @@ fn is_refuted(printed: &str, expectation: &Expectation) -> bool
     ensures { result ≡ is_refuted printed.now expectation.now }
 {
     let agrees = expectation.agrees(printed.as_bytes());
-    !asks_of_ends(expectation) && is_refuted_by(expectation.often(), agrees)
+    !asks_of_search(expectation) && is_refuted_by(expectation.often(), agrees)
 }
 
 fn is_open_by(often: Often, agrees: bool) -> bool
@@ -54,7 +54,7 @@ fn is_open(printed: &str, expectation: &Expectation) -> bool
     ensures { result ≡ is_open printed.now expectation.now }
 {
     let agrees = expectation.agrees(printed.as_bytes());
-    asks_of_ends(expectation) || is_open_by(expectation.often(), agrees)
+    asks_of_search(expectation) || is_open_by(expectation.often(), agrees)
 }
 
 fn is_any_refuted(printed: &str, expectations: &[Expectation]) -> bool
@@ -117,7 +117,7 @@ fn push_judged(
     push_number(alloc, text, number)?;
     push_expected(text, expectation)?;
     let left = is_open(printed, expectation);
-    text.push_str(open_text(asks_of_ends(expectation), left))?;
+    text.push_str(open_text(asks_of_search(expectation), left))?;
     text.push_str(why_text(expectation.often(), refuted))
 }
 

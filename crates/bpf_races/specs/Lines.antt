@@ -78,6 +78,15 @@ race_lines named names zero races = []
 race_lines named names (suc n) races =
     race_lines named names n races ++ race_text named names (slice_index_or races n no_race)
 
+-- as comments
+abbrev pub comment_text : Named → Names → RaceFound → List ℕ
+comment_text named names race = codes "# " ++ race_text named names race
+
+abbrev pub comment_lines : Named → Names → ℕ → List RaceFound → List ℕ
+comment_lines named names zero races = []
+comment_lines named names (suc n) races =
+    comment_lines named names n races ++ comment_text named names (slice_index_or races n no_race)
+
 abbrev pub here_lines : Named → Names → ℕ → List RaceFound → List ℕ
 here_lines named names zero races = []
 here_lines named names (suc n) races =

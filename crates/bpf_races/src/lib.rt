@@ -17,7 +17,7 @@ mod within;
 pub use access::Access;
 pub use found::{Pair, Race};
 pub use gathering::gather_races;
-pub use listing::{list_races, list_races_in};
+pub use listing::{comment_races, list_races, list_races_in};
 pub use next::{Next, Watcher};
 pub use search::{Races, find_races, find_races_patiently};
 pub use searched::Searched;

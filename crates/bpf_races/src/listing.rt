@@ -2,7 +2,7 @@
 
 ghost use Rattle.std.specs.Prelude.{◌≡◌, ◌+◌, ◌++◌, [], IfOk, OnOk, length, map, option_map, slice_index_or, string_bytes};
 ghost use Rattle.bpf_names.specs.Names.{names_of, variable_of};
-ghost use Rattle.bpf_races.specs.Lines.{count_text, here_lines, here_text, key_text, keyed_text, last_line, place_text, places_text, race_text, races_text, same_line, stand_text, value_text, variable_text};
+ghost use Rattle.bpf_races.specs.Lines.{comment_lines, comment_text, count_text, here_lines, here_text, key_text, keyed_text, last_line, place_text, places_text, race_text, races_text, same_line, stand_text, value_text, variable_text};
 ghost use Rattle.bpf_races.specs.Races.{is_race_free};
 
 use crate::clash::map_at;
@@ -172,6 +172,38 @@ fn push_race(
     push_runs(alloc, text, way_of(race))?;
     text.push_str("\n")?;
     Ok(())
+}
+
+/// Appends the line of a race to the text, as a comment.
+fn push_comment(
+    alloc: Global,
+    text: &mut String,
+    named: Named,
+    names: &Names,
+    race: &Race,
+) -> Result<(), AllocError>
+    ensures { OnOk result (string_bytes text.new
+        ≡ string_bytes text.old ++ comment_text named (names_of names.now) race.now) }
+{
+    text.push_str("# ")?;
+    push_race(alloc, text, named, names, race)
+}
+
+/// A comment a race, with its schedule.
+pub fn comment_races(
+    alloc: Global,
+    named: Named,
+    names: &Names,
+    races: &[Race],
+) -> Result<String, AllocError>
+    ensures { IfOk result (λ text. string_bytes text
+        ≡ comment_lines named (names_of names.now) (length races.now) races.now) }
+{
+    let mut text = String::new(alloc);
+    for race in races {
+        push_comment(alloc, &mut text, named, names, race)?;
+    }
+    Ok(text)
 }
 
 /// Appends the end of the last line to the text.
