@@ -6,7 +6,7 @@ use Rattle.clap.specs.Faults.{level_fault}
 use Rattle.clap.specs.Walk.{with_default, values_or_missing, Held, Row, Rule, Text, answers_to, finished, has_row, nothing_held, rows_after, settled, walk}
 use Rattle.clap.specs.Words.{fault_of, subcommand_of}
 use Rattle.bpf_command.specs.declared.command.TheConstants.{MAX_LIMIT}
-use Rattle.bpf_command.specs.CommandLine.{HasShown, ebpf, explained, explore, file, json, limit, patient, progress, races, show, sync}
+use Rattle.bpf_command.specs.CommandLine.{HasShown, ebpf, explained, explore, file, json, limit, patient, progress, races, show, sync, x86}
 use Rattle.bpf_command.proofs.Counted.{counted_keeps, has_count}
 use Rattle.bpf_command.proofs.Ranges as range
 use Rattle.bpf_command.proofs.Ranges.{no_default}
@@ -45,6 +45,10 @@ progress_keeps : Keeps AreFine false (filled progress)
 progress_keeps values rows e fine =
     range.other_used_fine (codes "show") 1 MAX_LIMIT (codes "progress") (values_or_missing (filled progress) values) rows refl fine
 
+x86_keeps : Keeps AreFine false (filled x86)
+x86_keeps values rows e fine =
+    range.other_used_fine (codes "show") 1 MAX_LIMIT (codes "x86") (values_or_missing (filled x86) values) rows refl fine
+
 file_keeps : Keeps AreFine false (filled file)
 file_keeps values rows e fine =
     range.other_used_fine (codes "show") 1 MAX_LIMIT (codes "file") (values_or_missing (filled file) values) rows refl fine
@@ -63,7 +67,7 @@ explained_keeps values rows e fine =
 
 rules_keep : range.AllKeep (codes "show") 1 MAX_LIMIT rules
 rules_keep =
-    (explained_keeps, (patient_keeps, (json_keeps, (progress_keeps, (races_keep, (sync_keeps, (limit_keeps, (show_keeps, (file_keeps, ((λ values rows e fine. fine), tt))))))))))
+    (explained_keeps, (patient_keeps, (json_keeps, (progress_keeps, (x86_keeps, (races_keep, (sync_keeps, (limit_keeps, (show_keeps, (file_keeps, ((λ values rows e fine. fine), tt)))))))))))
 
 -- ---- the rows
 
@@ -74,7 +78,8 @@ finished_shown h fine =
     let waits = with_default start (filled patient) in
     let written = with_default waits (filled json) in
     let watched = with_default written (filled progress) in
-    let asked = with_default watched (filled races) in
+    let buffered = with_default watched (filled x86) in
+    let asked = with_default buffered (filled races) in
     let named = with_default asked (filled sync) in
     let bounded = with_default named (filled limit) in
     let first = with_default bounded (filled show) in
@@ -83,7 +88,8 @@ finished_shown h fine =
     let waited = range.default_fine (codes "show") 1 MAX_LIMIT (codes "patient") (codes "false" ∷ []) start refl started in
     let told = range.default_fine (codes "show") 1 MAX_LIMIT (codes "json") (codes "false" ∷ []) waits refl waited in
     let watches = range.default_fine (codes "show") 1 MAX_LIMIT (codes "progress") (codes "false" ∷ []) written refl told in
-    let asks = range.default_fine (codes "show") 1 MAX_LIMIT (codes "races") (codes "false" ∷ []) watched refl watches in
+    let flushed = range.default_fine (codes "show") 1 MAX_LIMIT (codes "x86") (codes "false" ∷ []) watched refl watches in
+    let asks = range.default_fine (codes "show") 1 MAX_LIMIT (codes "races") (codes "false" ∷ []) buffered refl flushed in
     let names = subst AreFine (sym (no_default (has_row (codes "sync") asked) asked)) asks in
     let all = range.default_fine (codes "show") 1 MAX_LIMIT (codes "limit") (codes "1000000" ∷ []) named refl names in
     let same =

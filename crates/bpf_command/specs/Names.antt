@@ -1,5 +1,5 @@
 -- The command that words name, or why they name none. Our own choice.
-use Rattle.std.specs.Prelude.{◌≡◌, ◌<◌, ◌≤◌, ℕ, Bool, List, true, false, Option, Some, None, Ok, IfOk, IsSomeAnd, codes, [], ◌∷◌, cond, if◌then◌else◌, length, map, option_and_then, option_map, string_bytes}
+use Rattle.std.specs.Prelude.{◌≡◌, ◌<◌, ◌≤◌, ◌⊎◌, ℕ, Bool, List, true, false, Option, Some, None, Ok, IfOk, IsSomeAnd, codes, [], ◌∷◌, cond, if◌then◌else◌, length, map, option_and_then, option_map, string_bytes}
 use Rattle.std.specs.Str.{bytes_eq}
 use Rattle.bpf_explain.specs.Term.{topic_of}
 use Rattle.bpf_lines.specs.Lines.{fields_of}
@@ -10,7 +10,7 @@ use Rattle.hex.specs.Hex.{decode_of}
 use Rattle.clap.specs.Kinds.{IsAmong}
 use Rattle.clap.specs.Takes.{is_given}
 use Rattle.clap.specs.Words.{Row, Text, fault_of, first_of, kind_of, subcommand_of}
-use Rattle.bpf_command.specs.CommandLine.{NamesBudget, NamesLimit, NamesShown, NamesWorkers, IsRunnerName, counts_alone, do_clash, do_part, do_part_races, ebpf, given_texts, names_several, wants_one}
+use Rattle.bpf_command.specs.CommandLine.{NamesBudget, NamesLimitBy, NamesShown, NamesWorkers, IsRunnerName, counts_alone, do_clash, do_part, do_part_races, ebpf, given_texts, names_several, uses_x86_limit, wants_no_flushes, wants_one}
 use Rattle.bpf_command.specs.declared.command.RunOptions.{RunOptions}
 use Rattle.bpf_command.specs.declared.command.CheckOptions.{CheckOptions}
 use Rattle.bpf_command.specs.declared.command.SearchOptions.{SearchOptions}
@@ -68,7 +68,7 @@ NamesRun rows options = NamesBudget rows options.budget
 
 -- the options of a search
 abbrev pub NamesSearch : List Row → SearchOptions → Type 0
-NamesSearch rows options = NamesLimit rows options.limit
+NamesSearch rows options = NamesLimitBy (uses_x86_limit rows) rows options.limit
     × (options.patient ≡ is_given (codes "patient") rows)
     × (options.progress ≡ is_given (codes "progress") rows)
 
@@ -79,6 +79,7 @@ NamesCheck rows options = NamesSearch rows options.search
     × (options.lenient ≡ is_given (codes "lenient") rows)
     × (options.lines ≡ is_given (codes "json") rows)
     × (options.states ≡ is_given (codes "states") rows)
+    × (options.x86 ≡ is_given (codes "x86") rows)
 
 -- the options of a search for races
 abbrev pub NamesRaces : List Row → RaceOptions → Type 0
@@ -130,14 +131,21 @@ Names (Some found) (command.Judge options) = (found.0 ≡ codes "run")
 Names (Some found) (command.Explore options) = (found.0 ≡ codes "explore")
     × NamesSearch found.1 options × NamesShown found.1 None
     × (do_part_races found.1 ≡ false) × (is_given (codes "races") found.1 ≡ false)
+    × (is_given (codes "x86") found.1 ≡ false)
+Names (Some found) (command.ExploreX86 options) = (found.0 ≡ codes "explore")
+    × NamesSearch found.1 options
+    × (do_part_races found.1 ≡ false) × (wants_no_flushes found.1 ≡ false)
+    × (is_given (codes "x86") found.1 ≡ true)
 Names (Some found) (command.Show options) = (found.0 ≡ codes "explore")
     × NamesSearch found.1 options.search × NamesShown found.1 (Some options.outcome)
     × (do_part_races found.1 ≡ false) × (is_given (codes "races") found.1 ≡ false)
+    × (wants_no_flushes found.1 ≡ false)
 Names (Some found) (command.Races options) = (found.0 ≡ codes "explore")
     × NamesRaces found.1 options
     × (do_part_races found.1 ≡ false) × (is_given (codes "races") found.1 ≡ true)
+    × (wants_no_flushes found.1 ≡ false)
 Names (Some found) (command.Check options) = (found.0 ≡ codes "check")
-    × NamesCheck found.1 options
+    × NamesCheck found.1 options × (wants_no_flushes found.1 ≡ false)
 Names (Some found) (command.Expand first patient races) = (found.0 ≡ codes "expand")
     × (first ≡ is_given (codes "first") found.1) × (patient ≡ is_given (codes "patient") found.1)
     × (races ≡ is_given (codes "races") found.1)
@@ -164,6 +172,7 @@ Asks (Some found) (request.CheckAll check files json) = (found.0 ≡ codes "chec
     × NamesCheck found.1 check
     × (map string_bytes files.items ≡ given_texts (codes "file") found.1)
     × (names_several found.1 ≡ true) × (wants_one found.1 ≡ false)
+    × (wants_no_flushes found.1 ≡ false)
     × (json ≡ is_given (codes "json") found.1)
 Asks (Some found) (request.Page topic) = (found.0 ≡ codes "explain")
     × (option_and_then topic_of (first_of (codes "code") found.1) ≡ Some topic)
@@ -182,6 +191,8 @@ RefusesFound found error.NoWorkers = (found.0 ≡ codes "run") × (do_clash foun
 RefusesFound found error.OneFile = (found.0 ≡ codes "check") × (wants_one found.1 ≡ true)
 RefusesFound found error.NoRun = (found.0 ≡ codes "asm") × (do_part found.1 ≡ true)
 RefusesFound found error.NoRaces = (found.0 ≡ codes "explore") × (do_part_races found.1 ≡ true)
+RefusesFound found error.TurnsAlone = ((found.0 ≡ codes "explore") ⊎ (found.0 ≡ codes "check"))
+    × (wants_no_flushes found.1 ≡ true)
 RefusesFound found error.NoCode = (found.0 ≡ codes "explain")
     × (option_and_then topic_of (first_of (codes "code") found.1) ≡ None)
 RefusesFound found error.OutOfMemory = Unit {0}

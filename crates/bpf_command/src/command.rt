@@ -15,6 +15,10 @@ pub const MAX_WORKERS: u8 = 16;
 /// The greatest limit that may be asked for.
 pub const MAX_LIMIT: u64 = 1_000_000_000;
 
+/// The states that a search with store buffers keeps where no limit is given. Each has what its CPUs have in
+/// hand, some 10 KB a CPU.
+pub const X86_LIMIT: u64 = 30_000;
+
 /// The options of a run of one program, in their ranges.
 #[derive(PartialEq, Eq, Debug, Drop)]
 pub struct RunOptions {
@@ -98,6 +102,8 @@ pub struct CheckOptions {
     pub lines: bool,
     /// To print before a file's tests how many states were kept.
     pub states: bool,
+    /// To search through the flushes of store buffers too, as on x86.
+    pub x86: bool,
 }
 
 /// The options of a search of which one outcome is shown.
@@ -145,6 +151,8 @@ pub enum Command {
     Judge(JudgeOptions),
     /// Find what the jobs of a run file can reach, by every schedule.
     Explore(SearchOptions),
+    /// Find what they can reach on CPUs with store buffers.
+    ExploreX86(SearchOptions),
     /// Tell all that happens on the way to one of these outcomes.
     Show(ShowOptions),
     /// Find the data races of all schedules.

@@ -5,12 +5,12 @@ ghost use Rattle.bpf_explain.specs.Term.{topic_of};
 ghost use Rattle.clap.specs.Kinds.{FailsBy};
 ghost use Rattle.clap.specs.Takes.{is_given};
 ghost use Rattle.clap.specs.Words.{fault_of, first_of, first_value, found_of, rows_of, subcommand_name_of, subcommand_of, subcommand_rows_of};
-ghost use Rattle.bpf_command.specs.CommandLine.{ebpf, counts_alone, do_clash, do_part, do_part_races, HasBudget, HasLimit, HasShown, HasWorkers, IsCommandName, IsRunnerName, IsSearchName, IsWorkName, names_several, NamesBudget, NamesLimit, NamesShown, NamesWorkers, wants_no_buffers, wants_one};
+ghost use Rattle.bpf_command.specs.CommandLine.{ebpf, counts_alone, do_clash, do_part, do_part_races, HasBudget, HasLimit, HasShown, HasWorkers, IsCommandName, IsRunnerName, IsSearchName, IsWorkName, names_several, NamesBudget, NamesLimit, NamesLimitBy, NamesShown, NamesWorkers, uses_x86_limit, wants_no_buffers, wants_no_flushes, wants_one};
 ghost use Rattle.bpf_command.specs.Names.{AreMoves, Asks, AsksBy, file_in, IsContext, IsSchedule, Names, NamesCheck, NamesRaces, NamesRun, NamesSearch, Refuses, RefusesContext, RefusesFlags, RefusesFound, RefusesMoves, RefusesSchedule, as_flags, flag_of};
 
 use crate::command::{
     CheckOptions, Command, FileOptions, HistoryOptions, JudgeOptions, MAX_LIMIT, MAX_WORKERS,
-    RaceOptions, Request, RunOptions, SearchOptions, ShowOptions, X86Options,
+    RaceOptions, Request, RunOptions, SearchOptions, ShowOptions, X86_LIMIT, X86Options,
 };
 use crate::given::{given_texts, names_input, names_several};
 use crate::options::ebpf_command;
@@ -45,6 +45,8 @@ pub enum CommandError {
     NoRun,
     /// Maps of locks are named without `--races`, or an outcome is asked for beside it.
     NoRaces,
+    /// What is of turns alone is asked of a search beside store buffers: patience, races, or one outcome.
+    TurnsAlone,
     /// The page is asked for of what is no code that the program prints, nor another name with one.
     NoCode,
     OutOfMemory,
@@ -167,6 +169,27 @@ fn limit_of(options: &ArgMatches) -> u64
         unreachable!();
     };
     limit
+}
+
+/// Whether a search with store buffers is asked for, and no limit.
+fn uses_x86_limit(options: &ArgMatches) -> bool
+    ensures { result ≡ uses_x86_limit (rows_of (found_of options.now)) }
+{
+    is_given(options, "x86") && !is_given(options, "limit")
+}
+
+/// How many states a search may keep.
+fn states_of(options: &ArgMatches) -> u64
+    requires limited { HasLimit (rows_of (found_of options.now)) }
+    ensures named { NamesLimitBy (uses_x86_limit (rows_of (found_of options.now)))
+        (rows_of (found_of options.now)) result }
+    ensures limited { result ≤ MAX_LIMIT }
+{
+    if uses_x86_limit(options) {
+        X86_LIMIT
+    } else {
+        limit_of(options)
+    }
 }
 
 /// What `clap` reads of `--show`, if it is given.
@@ -336,7 +359,7 @@ fn search_of(options: &ArgMatches) -> SearchOptions
     ensures { NamesSearch (rows_of (found_of options.now)) result }
 {
     SearchOptions {
-        limit: limit_of(options),
+        limit: states_of(options),
         patient: is_given(options, "patient"),
         progress: is_given(options, "progress"),
     }
@@ -353,7 +376,31 @@ fn check_of(options: &ArgMatches) -> CheckOptions
         lenient: is_given(options, "lenient"),
         lines: is_given(options, "json"),
         states: is_given(options, "states"),
+        x86: is_given(options, "x86"),
     }
+}
+
+/// Whether what a search through flushes of store buffers doesn't do is asked for beside it.
+fn wants_no_flushes(options: &ArgMatches) -> bool
+    ensures { result ≡ wants_no_flushes (rows_of (found_of options.now)) }
+{
+    is_given(options, "x86")
+        && (is_given(options, "patient")
+            || is_given(options, "races")
+            || is_given(options, "sync")
+            || is_given(options, "show"))
+}
+
+/// The check of one file.
+fn check_one_of(options: &ArgMatches) -> Result<Command, CommandError>
+    requires limited { HasLimit (rows_of (found_of options.now)) }
+    ensures named { IfOk result (Names (Some (codes "check", rows_of (found_of options.now)))) }
+    ensures refused { IfErr result (RefusesFound (codes "check", rows_of (found_of options.now))) }
+{
+    if wants_no_flushes(options) {
+        return Err(CommandError::TurnsAlone);
+    }
+    Ok(Command::Check(check_of(options)))
 }
 
 /// The options of a search for races.
@@ -390,11 +437,17 @@ fn explore_of(alloc: Global, options: &ArgMatches) -> Result<Command, CommandErr
     if do_part_races(options) {
         return Err(CommandError::NoRaces);
     }
+    if wants_no_flushes(options) {
+        return Err(CommandError::TurnsAlone);
+    }
     if is_given(options, "races") {
         let races = races_of(alloc, options)?;
         return Ok(Command::Races(races));
     }
     let search = search_of(options);
+    if is_given(options, "x86") {
+        return Ok(Command::ExploreX86(search));
+    }
     match shown_of(options) {
         Some(outcome) => Ok(Command::Show(ShowOptions { outcome, search })),
         None => Ok(Command::Explore(search)),
@@ -432,7 +485,7 @@ fn named(alloc: Global, name: &str, options: &ArgMatches) -> Result<Command, Com
         }),
         "run" => run_of(alloc, options),
         "explore" => explore_of(alloc, options),
-        "check" => Ok(Command::Check(check_of(options))),
+        "check" => check_one_of(options),
         "expand" => Ok(expand_of(options)),
         _ => Ok(Command::Debug {
             echo: is_given(options, "echo"),
@@ -487,6 +540,9 @@ fn check_all_of(alloc: Global, options: &ArgMatches) -> Result<Request, CommandE
 {
     if wants_one(options) {
         return Err(CommandError::OneFile);
+    }
+    if wants_no_flushes(options) {
+        return Err(CommandError::TurnsAlone);
     }
     let files = given_texts(alloc, options, "file")?;
     Ok(Request::CheckAll {

@@ -124,6 +124,11 @@ none leads to the value), and a schedule that leads there; the last one says whe
 the byte AT on, alone. --sync goes beside --races alone, and --show doesn't.
 
 All orders are those of sequential consistency: a load sees the newest store. Processors show more.
+With --x86 CPUs have store buffers, as those of x86 have: a plain store to a value waits there, and its
+own CPU's loads alone find it. Then every order of turns and of flushes is made, each flush of a CPU's
+oldest store, and schedules have words C!*N too, N flushes of CPU C, as 'run --x86 --by' takes them.
+Where no --limit is given 30000 states are kept. --x86 goes beside none of --patient, --races, --sync
+and --show.
 
 Each time that 131072 more states are done a line on standard error shows how far the search is, where
 that is a terminal or with --progress: 'N states, N to go, N MB', how many are kept, from how many of
@@ -140,10 +145,10 @@ For example
   job 1 cpu 1 r0=0
   map winner 00000000=0100000000000000
   all: 2 outcomes, 20 states
-  $ ebpf explore --races examples/lost-update.run
-  race cpu 0 prog 0 pc 18 cpu 1 prog 0 pc 16 map counter 00000000 by 0*16 1*14
-  race cpu 0 prog 0 pc 16 cpu 1 prog 0 pc 18 map counter 00000000 by 0*14 1*16
-  race cpu 0 prog 0 pc 18 cpu 1 prog 0 pc 18 map counter 00000000 by 0*16 1*16
+  $ ebpf explore --races examples/lost-additions.run
+  race cpu 0 prog 0 pc 5 cpu 1 prog 0 pc 3 var counter by 0*4 1*2
+  race cpu 0 prog 0 pc 3 cpu 1 prog 0 pc 5 var counter by 0*2 1*4
+  race cpu 0 prog 0 pc 5 cpu 1 prog 0 pc 5 var counter by 0*4 1*4
   all: 3 races
 
 Exit status:
@@ -169,10 +174,15 @@ With --patient outcomes are those in which no budget is used up, and the first t
 can end': 'not ok' with a line '# hung by' for each state from which no turns lead to an outcome.
 '; always ends' asks the same, and '; sometimes hung' that there is such a state.
 
+'; never race' expects that there is no data race, and '; sometimes race' that there is one, by the
+search of 'explore --races': 'not ok' with a line '# race' for each, or '# there is no race'.
+
+With --x86 outcomes are those that 'ebpf explore --x86' finds, and comments ask for no patience.
+
 A comment '; check patient', '; check limit N' or '; check patient limit N' asks for --patient or the
 limit where the command line doesn't; a limit that it gives goes before that of the file.
 
-A comment of three words or more that begins with 'always', 'sometimes' or 'never', or a word one edit
+A comment of two words or more that begins with 'always', 'sometimes' or 'never', or a word one edit
 away, and can't be expected of this file, is refused: L11. So are 'always ends' and
 'sometimes hung' without --patient, and 'check limit' without its number. --lenient passes such
 comments over.
@@ -623,6 +633,17 @@ fn progress_option<'a>(alloc: Global) -> Arg<'a>
         .help("Prints on standard error how far the search is, also where that is no terminal")
 }
 
+/// The option `--x86` of a command that searches.
+fn buffers_option<'a>(alloc: Global) -> Arg<'a>
+    ensures rule { rule_of result ≡ x86 }
+    ensures own { result.global ≡ false }
+{
+    Arg::new(alloc, "x86")
+        .long("x86")
+        .action(ArgAction::SetTrue)
+        .help("Gives CPUs store buffers, as on x86: schedules have flushes of them too")
+}
+
 /// A command that searches, with the options of a search.
 fn searching<'a>(alloc: Global, name: &'static str) -> Result<Command<'a>, AllocError>
     ensures shape { IfOk result (λ c. shape_of c ≡ (searching name.now).top) }
@@ -632,7 +653,8 @@ fn searching<'a>(alloc: Global, name: &'static str) -> Result<Command<'a>, Alloc
         .arg(explain_option(alloc))?
         .arg(patient_option(alloc))?
         .arg(json_option(alloc))?
-        .arg(progress_option(alloc))
+        .arg(progress_option(alloc))?
+        .arg(buffers_option(alloc))
 }
 
 fn races_option<'a>(alloc: Global) -> Arg<'a>

@@ -16,3 +16,4 @@ mod Judged
 mod CheckedParts
 pub mod Replied
 pub mod OneText
+pub mod CheckedOnX86

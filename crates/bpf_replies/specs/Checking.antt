@@ -1,9 +1,9 @@
 -- What `check` replies: whether a run file's outcomes are as its comments expect.
-use Rattle.std.specs.Prelude.{◌≡◌, ◌++◌, ◌||◌, ℕ, Bool, true, false, List, [], Option, None, Some, codes, if◌then◌else◌, string_bytes, unwrap_or}
+use Rattle.std.specs.Prelude.{◌≡◌, ◌++◌, ◌||◌, ◌&&◌, not, ℕ, Bool, true, false, List, [], Option, None, Some, codes, if◌then◌else◌, string_bytes, unwrap_or}
 use Rattle.std.specs.Fmt.{decimal}
 use Rattle.bpf_command.specs.declared.command.CheckOptions.{CheckOptions}
-use Rattle.bpf_check.specs.Expectation.{Expected}
-use Rattle.bpf_check.specs.Findings.{Findings}
+use Rattle.bpf_check.specs.Expectation.{Expected, are_races_asked}
+use Rattle.bpf_check.specs.Findings.{Findings, Raced}
 use Rattle.bpf_check.specs.Listing.{checked_text}
 use Rattle.bpf_check.specs.Settings.{settings_of}
 use Rattle.bpf_check.specs.Verdict.{conclusion_of, verdicts_of}
@@ -14,7 +14,7 @@ use Rattle.bpf_threads.specs.Lines.{notes_text}
 use Rattle.bpf_threads.specs.declared.threads.Threads.{Threads}
 use Rattle.bpf_replies.specs.Comments.{AreLinesIn, IsExpectedIn, RefusesComments, for_check}
 use Rattle.bpf_replies.specs.declared.comments.Reading.{Reading}
-use Rattle.bpf_replies.specs.Exploring.{AreFindingsBy}
+use Rattle.bpf_replies.specs.Reordering.{AreFindingsIn}
 use Rattle.bpf_replies.specs.Threading.{AreThreadsOf}
 use Rattle.bpf_replies.specs.declared.reply.Reply.{Reply}
 use Rattle.bpf_replies.specs.declared.reply.Reply.TheVariants as reply
@@ -32,13 +32,14 @@ is_told conclusion.Untold = false
 
 -- ---- what is searched for: options go before what the comments of a file ask for
 
--- outcomes in which no budget is used up, where either asks for them
+-- outcomes in which no budget is used up, where either asks for them; but not of CPUs with store buffers
 abbrev pub is_patient : CheckOptions → (text : List ℕ) → Bool
-is_patient o text = o.search.patient || (settings_of text).patient
+is_patient o text = not o.x86 && (o.search.patient || (settings_of text).patient)
 
--- a limit that is given, else one that comments ask for, else the default
+-- a limit that is given, else one that comments ask for, else the default; but that of CPUs with store
+-- buffers none of theirs
 abbrev pub limit_by : CheckOptions → Settings → ℕ
-limit_by o s = if o.limited then o.search.limit else unwrap_or s.limit o.search.limit
+limit_by o s = if o.limited || o.x86 then o.search.limit else unwrap_or s.limit o.search.limit
 
 abbrev pub limit_of : CheckOptions → (text : List ℕ) → ℕ
 limit_of o text = limit_by o (settings_of text)
@@ -61,19 +62,29 @@ states_of o f = if o.states then Some f.states else None
 abbrev pub head_text : (mark : List ℕ) → Option ℕ → Threads → List ℕ
 head_text mark states threads = states_text mark states ++ notes_text mark threads
 
+-- ---- what tests rest on
+
+-- the findings of a search; and where it is expected something of data races, what was found of them, as
+-- whoever looks for them says: of a patient search or not, by a limit, of a text
+abbrev pub AreGroundsBy : (Finds : Bool → ℕ → List ℕ → Raced → Type 0) → CheckOptions
+    → List ℕ → List Expected → Findings → Type 0
+AreGroundsBy Finds o text expected f = AreFindingsIn o.x86 (is_patient o text) (limit_of o text) text f
+    × (are_races_asked expected ≡ true → Finds (is_patient o text) (limit_of o text) text f.raced)
+
 -- `check`: comments that count states and say in which ways threads may have more outcomes; a test an expectation, each
 -- with its verdict by the findings of a search through all schedules, and of a patient one first if each
 -- can end; or the first refusal of the file or its comments
-abbrev pub IsCheckedFile : CheckOptions → List ℕ → Reply → Type 0
-IsCheckedFile o text (reply.Outcomes printed unmet told) =
+abbrev pub IsCheckedFile : (Finds : Bool → ℕ → List ℕ → Raced → Type 0)
+    → CheckOptions → List ℕ → Reply → Type 0
+IsCheckedFile Finds o text (reply.Outcomes printed unmet told) =
     (expected : List Expected) × (lines : List ℕ) × (f : Findings)
     × IsExpectedIn (reading_by o text) text expected
     × AreLinesIn (reading_by o text) o.lines text lines
-    × AreFindingsBy (is_patient o text) (limit_of o text) text f
+    × AreGroundsBy Finds o text expected f
     × (threads : Threads) × AreThreadsOf text threads
     × (string_bytes printed ≡ head_text [] (states_of o f) threads
     ++ checked_text lines f expected (verdicts_of f expected))
     × (unmet ≡ is_unmet (conclusion_of f expected))
     × (told ≡ is_told (conclusion_of f expected))
-IsCheckedFile o text (reply.Refused r) = RefusesComments (reading_by o text) text r
-IsCheckedFile o text _ = ⊥
+IsCheckedFile Finds o text (reply.Refused r) = RefusesComments (reading_by o text) text r
+IsCheckedFile Finds o text _ = ⊥

@@ -7,7 +7,14 @@ use Rattle.bpf_loader.specs.declared.refusal.LoadError.TheVariants as load_error
 use Rattle.bpf_lines.specs.HexText.{IsHexOf}
 use Rattle.bpf_lines.specs.declared.hex_text.HexError.TheVariants as hex_error
 use Rattle.bpf_text.specs.declared.error.TextError.TheVariants as text_error
+use Rattle.bpf_names.specs.Names.{Names}
+use Rattle.bpf_machine.specs.Schedule.{World}
 use Rattle.bpf_explore.specs.Outcomes.{Found}
+use Rattle.bpf_reorderings.specs.Outcomes.{AreOutcomesX86, EndsByX86, HaveAllX86, IsOutcomeX86}
+use Rattle.bpf_check.specs.Expectation.{Expected, asks_of_races}
+use Rattle.bpf_check.specs.Faults.{IsTrueFault, unexpected_fault}
+use Rattle.bpf_check.specs.Findings.{Findings}
+use Rattle.bpf_check.specs.Verdict.{IsTrueOf, verdict_of}
 use Rattle.bpf_debug.specs.Laws.{HadMemory}
 use Rattle.bpf_debug.specs.Script.{answer_of}
 use Rattle.bpf_replies.specs.Answer.{reply_text}
@@ -77,3 +84,29 @@ ShownAreFound =
     → IsHistoryOfFile found.by false true text (reply.Jobs printed stopped)
     → (lines : List ℕ) × (string_bytes printed ≡ lines ++ found.text)
     × (stopped ≡ found.stopped)
+
+-- ---- tests of CPUs with store buffers
+
+-- this is printed of some outcome
+abbrev pub IsOutcomeTextX86 : World → Names → List ℕ → Type 0
+IsOutcomeTextX86 w names text = (stopped : Bool) × IsOutcomeX86 w names true text stopped
+
+-- where answers are outcomes, and no outcome is left out if they are said to be all, each verdict but one
+-- on races is true of the outcomes
+abbrev pub VerdictsOnX86AreTrue : Type 0
+VerdictsOnX86AreTrue =
+    (w : World) (names : Names) (f : Findings) (e : Expected) → f.patient ≡ false
+    → AreOutcomesX86 w names true f.answers
+    → (f.all ≡ true → HaveAllX86 w names true f.answers)
+    → asks_of_races e.often e.line ≡ false
+    → IsTrueOf (IsOutcomeTextX86 w names) (EndsByX86 w names true) f e (verdict_of f e)
+
+-- a fault that isn't expected is one of an outcome; where there is none, though something is expected and
+-- nothing of faults, no outcome has one
+abbrev pub FaultsOnX86AreTrue : Type 0
+FaultsOnX86AreTrue =
+    (w : World) (names : Names) (f : Findings) (expected : List Expected)
+    → AreOutcomesX86 w names true f.answers
+    → (f.all ≡ true → HaveAllX86 w names true f.answers)
+    → IsTrueFault (IsOutcomeTextX86 w names) (EndsByX86 w names true) f expected
+    (unexpected_fault f expected)

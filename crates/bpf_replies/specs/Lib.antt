@@ -3,6 +3,7 @@ pub mod Refusals
 pub mod Programs
 pub mod Running
 pub mod Exploring
+pub mod Reordering
 pub mod Comments
 pub mod Judging
 pub mod Checking

@@ -2,14 +2,13 @@
 use Rattle.std.specs.Prelude.{◌≡◌, ◌⊎◌, ◌≤◌, ◌+◌, ◌++◌, ◌&&◌, ◌||◌, ℕ, Bool, true, false, List, [], ◌∷◌, Option, IfSome, IsUtf8, codes, length, string_bytes}
 use Rattle.bpf_command.specs.declared.command.CheckOptions.{CheckOptions}
 use Rattle.bpf_check.specs.Expectation.{Expected}
-use Rattle.bpf_check.specs.Findings.{Findings}
+use Rattle.bpf_check.specs.Findings.{Findings, Raced}
 use Rattle.bpf_check.specs.Listing.{count_of, listed_text, name_text, plan_text}
 use Rattle.bpf_check.specs.Verdict.{conclusion_of, verdicts_of}
-use Rattle.bpf_replies.specs.Checking.{head_text, is_patient, is_told, is_unmet, limit_of, reading_by, states_of}
+use Rattle.bpf_replies.specs.Checking.{AreGroundsBy, head_text, is_patient, is_told, is_unmet, limit_of, reading_by, states_of}
 use Rattle.bpf_replies.specs.Input.{RefusesInput}
 use Rattle.bpf_replies.specs.Diagnostic.{refusal_text}
 use Rattle.bpf_replies.specs.Comments.{AreLinesIn, IsExpectedIn, RefusesComments}
-use Rattle.bpf_replies.specs.Exploring.{AreFindingsBy}
 use Rattle.bpf_replies.specs.Threading.{AreThreadsOf}
 use Rattle.bpf_threads.specs.declared.threads.Threads.{Threads}
 use Rattle.bpf_replies.specs.declared.input.TheConstants.{MAX_INPUT}
@@ -53,22 +52,24 @@ checked_part o name lines before f threads expected = record {
 }
 
 -- the part of a text: its tests, or the first refusal of the file or its comments
-abbrev pub IsTextPart : CheckOptions → (name : List ℕ) → (before : ℕ) → List ℕ → Part → Type 0
-IsTextPart o name before text part =
+abbrev pub IsTextPart : (Finds : Bool → ℕ → List ℕ → Raced → Type 0)
+    → CheckOptions → (name : List ℕ) → (before : ℕ) → List ℕ → Part → Type 0
+IsTextPart Finds o name before text part =
     ((r : Refusal) × RefusesComments (reading_by o text) text r
     × (part ≡ refused_part name r))
     ⊎ ((expected : List Expected) × (lines : List ℕ) × (f : Findings)
     × IsExpectedIn (reading_by o text) text expected
     × AreLinesIn (reading_by o text) o.lines text lines
-    × AreFindingsBy (is_patient o text) (limit_of o text) text f
+    × AreGroundsBy Finds o text expected f
     × (threads : Threads) × AreThreadsOf text threads
     × (part ≡ checked_part o name lines before f threads expected))
 
 -- the part of a file of these bytes
-abbrev pub IsPart : CheckOptions → (name : List ℕ) → (before : ℕ) → List ℕ → Part → Type 0
-IsPart o name before bytes part =
+abbrev pub IsPart : (Finds : Bool → ℕ → List ℕ → Raced → Type 0)
+    → CheckOptions → (name : List ℕ) → (before : ℕ) → List ℕ → Part → Type 0
+IsPart Finds o name before bytes part =
     ((r : Refusal) × RefusesInput bytes r × (part ≡ refused_part name r))
-    ⊎ ((length bytes ≤ MAX_INPUT) × IsUtf8 bytes × IsTextPart o name before bytes part)
+    ⊎ ((length bytes ≤ MAX_INPUT) × IsUtf8 bytes × IsTextPart Finds o name before bytes part)
 
 -- ---- all files
 
@@ -87,22 +88,24 @@ no_part = record { text = []; tests = 0; refused = false; unmet = false; told = 
 
 -- what is printed of the files of these names, where their bytes are known, after what is printed of those
 -- before them
-abbrev pub AreTold : CheckOptions → (files : List ℕ → Option (List ℕ)) → List (List ℕ)
+abbrev pub AreTold : (Finds : Bool → ℕ → List ℕ → Raced → Type 0)
+    → CheckOptions → (files : List ℕ → Option (List ℕ)) → List (List ℕ)
     → (so_far all : Part) → Type 0
-AreTold o files [] so_far all = all ≡ so_far
-AreTold o files (name ∷ names) so_far all = (part : Part)
-    × IfSome (files name) (λ bytes. IsPart o name so_far.tests bytes part)
-    × AreTold o files names (with_part so_far part) all
+AreTold Finds o files [] so_far all = all ≡ so_far
+AreTold Finds o files (name ∷ names) so_far all = (part : Part)
+    × IfSome (files name) (λ bytes. IsPart Finds o name so_far.tests bytes part)
+    × AreTold Finds o files names (with_part so_far part) all
 
 -- `check` of several files: how many tests there are, and what is printed of all; or out of memory
-abbrev pub AreChecked : CheckOptions → (files : List ℕ → Option (List ℕ)) → List (List ℕ) → Reply
+abbrev pub AreChecked : (Finds : Bool → ℕ → List ℕ → Raced → Type 0)
+    → CheckOptions → (files : List ℕ → Option (List ℕ)) → List (List ℕ) → Reply
     → Type 0
-AreChecked o files names (reply.Several printed refused unmet told) = (all : Part)
-    × AreTold o files names no_part all
+AreChecked Finds o files names (reply.Several printed refused unmet told) = (all : Part)
+    × AreTold Finds o files names no_part all
     × (string_bytes printed ≡ plan_text all.tests ++ all.text)
     × (refused ≡ all.refused) × (unmet ≡ all.unmet) × (told ≡ all.told)
-AreChecked o files names (reply.Refused refusal.OutOfMemory) = Unit {0}
-AreChecked o files names _ = ⊥
+AreChecked Finds o files names (reply.Refused refusal.OutOfMemory) = Unit {0}
+AreChecked Finds o files names _ = ⊥
 
 -- ---- the same as the program keeps them
 

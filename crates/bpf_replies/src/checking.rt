@@ -1,21 +1,27 @@
 //! `ebpf check`: whether a run file's outcomes are as its comments expect, whatever the order of the
 //! CPUs' turns.
 
-ghost use Rattle.std.specs.Prelude.{◌≡◌, ◌≤◌, ◌++◌, IfErr, IfOk, IfSome, string_bytes};
+ghost use Rattle.std.specs.Prelude.{◌≡◌, ◌≤◌, ◌++◌, true, IfErr, IfOk, IfSome, string_bytes};
 ghost use Rattle.bpf_check.specs.declared.settings.TheConstants.{MOST_STATES};
 ghost use Rattle.bpf_command.specs.declared.command.TheConstants.{MAX_LIMIT};
 ghost use Rattle.bpf_replies.specs.Answer.{Replies};
 ghost use Rattle.bpf_replies.specs.Comments.{AreLinesIn, IsExpectedIn, RefusesComments, for_check};
-ghost use Rattle.bpf_replies.specs.Checking.{IsCheckedFile, head_text, is_patient, is_told, is_unmet, limit_by, limit_of, reading_by, states_of, states_text};
-ghost use Rattle.bpf_replies.specs.Exploring.{AreFindingsBy};
+ghost use Rattle.bpf_replies.specs.Checking.{AreGroundsBy, IsCheckedFile, head_text, is_patient, is_told, is_unmet, limit_by, limit_of, reading_by, states_of, states_text};
+ghost use Rattle.bpf_check.specs.Expectation.{are_races_asked};
+ghost use Rattle.bpf_replies.specs.Reordering.{AreFindingsIn};
+ghost use Rattle.bpf_replies.specs.Running.{RefusesFile};
 ghost use Rattle.bpf_replies.specs.Threading.{AreThreadsOf};
 
 use crate::comments::{Reading, expected_in, lines_in};
-use crate::exploring::findings_in;
+use crate::racer::Racer;
 use crate::refusal::Refusal;
+use crate::reordering::{Sought, findings_by};
 use crate::reply::Reply;
 use crate::threading::threads_in;
-use bpf_check::{Asked, Conclusion, Expectation, Findings, Settings, check_explored, settings_of};
+use bpf_check::{
+    Asked, Conclusion, Expectation, Findings, Raced, Settings, are_races_asked, check_explored,
+    settings_of,
+};
 use bpf_command::{CheckOptions, SearchOptions};
 use bpf_explore::Observer;
 use bpf_threads::{Threads, push_notes};
@@ -44,12 +50,12 @@ pub(crate) fn reading_of(patient: bool, lenient: bool) -> Reading
     }
 }
 
-/// The limit of options, or else that which a file's comments ask for.
+/// The limit of options, or else that which a file's comments ask for; these speak of no store buffers.
 fn limit_by(options: &CheckOptions, asked: Settings) -> u64
     ensures value { result ≡ limit_by options.now asked }
     ensures bound { IfSome asked.limit (λ n. n ≤ MOST_STATES) → result ≤ MAX_LIMIT }
 {
-    if options.limited {
+    if options.limited || options.x86 {
         options.search.limit
     } else {
         asked.limit.unwrap_or(options.search.limit)
@@ -68,7 +74,7 @@ fn search_for(
     let asked = settings_of(alloc, text.as_bytes())?;
     Ok(SearchOptions {
         limit: limit_by(options, asked),
-        patient: options.search.patient || asked.patient,
+        patient: !options.x86 && (options.search.patient || asked.patient),
         progress: options.search.progress,
     })
 }
@@ -86,8 +92,27 @@ pub(crate) struct Grounds {
     pub findings: Findings,
 }
 
+/// What is found of data races, where some expectation asks of them.
+fn races_for<D: Racer, O: Observer>(
+    alloc: Global,
+    expected: &[Expectation],
+    options: &SearchOptions,
+    text: &str,
+    observer: &mut O,
+) -> Result<Raced, Refusal>
+    ensures found { IfOk result (λ raced. are_races_asked expected.now ≡ true
+        → D.finds options.now.patient options.now.limit text.now raced) }
+    ensures refused { IfErr result (RefusesFile text.now) }
+{
+    if are_races_asked(expected) {
+        D::races(alloc, options, text, observer)
+    } else {
+        Ok(Raced::none(alloc))
+    }
+}
+
 /// What the tests of a text rest on, or why there are none.
-pub(crate) fn grounds_in<O: Observer>(
+pub(crate) fn grounds_in<D: Racer, O: Observer>(
     alloc: Global,
     options: &CheckOptions,
     text: &str,
@@ -98,9 +123,8 @@ pub(crate) fn grounds_in<O: Observer>(
     ensures lines { IfOk result (λ grounds.
         AreLinesIn (reading_by options.now text.now) options.now.lines text.now grounds.lines.items) }
     ensures threads { IfOk result (λ grounds. AreThreadsOf text.now grounds.threads) }
-    ensures findings { IfOk result (λ grounds.
-        AreFindingsBy (is_patient options.now text.now) (limit_of options.now text.now) text.now
-        grounds.findings) }
+    ensures findings { IfOk result (λ grounds. AreGroundsBy D.finds options.now text.now
+        grounds.expected.items grounds.findings) }
     ensures refused { IfErr result (RefusesComments (reading_by options.now text.now) text.now) }
 {
     let search = search_for(alloc, options, text)?;
@@ -108,7 +132,12 @@ pub(crate) fn grounds_in<O: Observer>(
     let expected = expected_in(alloc, reading, text)?;
     let lines = lines_in(alloc, reading, options.lines, text)?;
     let threads = threads_in(alloc, text)?;
-    let findings = findings_in(alloc, &search, text, observer)?;
+    let raced = races_for::<D, O>(alloc, &expected, &search, text, observer)?;
+    let sought = Sought {
+        search: &search,
+        x86: options.x86,
+    };
+    let findings = findings_by(alloc, sought, raced, text, observer)?;
     Ok(Grounds {
         expected,
         lines,
@@ -157,15 +186,15 @@ pub(crate) fn with_head(
 }
 
 /// `ebpf check`.
-pub fn check_file<O: Observer>(
+pub fn check_file<D: Racer, O: Observer>(
     alloc: Global,
     options: &CheckOptions,
     text: &str,
     observer: &mut O,
 ) -> Result<Reply, Refusal>
-    ensures { Replies (IsCheckedFile options.now text.now) result }
+    ensures { Replies (IsCheckedFile D.finds options.now text.now) result }
 {
-    let grounds = grounds_in(alloc, options, text, observer)?;
+    let grounds = grounds_in::<D, O>(alloc, options, text, observer)?;
     let asked = Asked {
         expected: &grounds.expected,
         lines: &grounds.lines,

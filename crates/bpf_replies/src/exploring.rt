@@ -15,7 +15,7 @@ use crate::refusal::Refusal;
 use crate::reply::Reply;
 use crate::running::{file_in, history_by};
 use crate::threading::threads_in;
-use bpf_check::Findings;
+use bpf_check::{Findings, Raced};
 use bpf_command::SearchOptions;
 use bpf_explore::{
     Explored, ExploredPatiently, Hung, Observer, explore_jobs, is_any_stopped, list_explored,
@@ -116,23 +116,25 @@ fn found_in<O: Observer>(
     })
 }
 
-/// What either search found, as far as tests rest on it.
+/// What either search found, as far as tests rest on it, beside what was found of races.
 pub(crate) fn findings_in<O: Observer>(
     alloc: Global,
     options: &SearchOptions,
+    raced: Raced,
     text: &str,
     observer: &mut O,
 ) -> Result<Findings, Refusal>
     ensures found { IfOk result
         (AreFindingsBy options.now.patient options.now.limit text.now) }
+    ensures raced { IfOk result (λ f. f.raced ≡ raced) }
     ensures refused { IfErr result (RefusesFile text.now) }
 {
     if !options.patient {
         let explored = explored_in(alloc, options.limit, text, observer)?;
-        return Ok(Findings::new(alloc, explored));
+        return Ok(Findings::new(alloc, explored, raced));
     }
     let explored = patient_in(alloc, options.limit, text, observer)?;
-    Ok(Findings::patient(explored))
+    Ok(Findings::patient(explored, raced))
 }
 
 /// `ebpf explore` of all outcomes.

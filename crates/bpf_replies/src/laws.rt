@@ -1,7 +1,7 @@
 //! What follows from the definitions of replies.
 //!
 //! These functions do nothing: their contracts are the laws.
-ghost use Rattle.bpf_replies.specs.Laws.{ListedWordsAreAnswered, ListingsAreAnsweredAlike, OutcomesAreDetermined, ShownAreFound, WitnessesAreSeenAgain};
+ghost use Rattle.bpf_replies.specs.Laws.{FaultsOnX86AreTrue, ListedWordsAreAnswered, ListingsAreAnsweredAlike, OutcomesAreDetermined, ShownAreFound, VerdictsOnX86AreTrue, WitnessesAreSeenAgain};
 
 /// Searches of one input that both found all outcomes print the same of them, in the same order.
 pub fn outcomes_are_determined()
@@ -46,3 +46,13 @@ pub fn listed_words_are_answered()
     bpf_text::laws::texts_are_determined();
     bpf_disassembly::listing::laws::program_lines_assemble_to_their_words();
 }
+
+/// Each verdict by answers that are outcomes of CPUs with store buffers is true of these.
+pub fn verdicts_on_x86_are_true()
+    ensures { VerdictsOnX86AreTrue }
+{}
+
+/// So is what is said of a fault that isn't expected.
+pub fn faults_on_x86_are_true()
+    ensures { FaultsOnX86AreTrue }
+{}

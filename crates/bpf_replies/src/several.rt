@@ -8,6 +8,7 @@ ghost use Rattle.bpf_replies.specs.Several.{AreChecked, AreTold, IsPart, IsTextP
 
 use crate::checking::{grounds_in, is_told, is_unmet, states_of, with_head};
 use crate::input::{InputError, MAX_INPUT, read_whole};
+use crate::racer::Racer;
 use crate::refusal::Refusal;
 use crate::reply::Reply;
 use crate::stream::Source;
@@ -43,7 +44,7 @@ fn refused_part(alloc: Global, name: &str, refusal: Refusal) -> Result<FilePart,
 }
 
 /// The tests of a text, after the n tests of the files before it, or its first refusal.
-fn text_part<O: Observer>(
+fn text_part<D: Racer, O: Observer>(
     alloc: Global,
     options: &CheckOptions,
     name: &str,
@@ -52,9 +53,9 @@ fn text_part<O: Observer>(
     observer: &mut O,
 ) -> Result<FilePart, AllocError>
     ensures { IfOk result (λ p.
-        IsTextPart options.now name.now before text.now (seen p)) }
+        IsTextPart D.finds options.now name.now before text.now (seen p)) }
 {
-    let grounds = match grounds_in(alloc, options, text, observer) {
+    let grounds = match grounds_in::<D, O>(alloc, options, text, observer) {
         Ok(grounds) => grounds,
         Err(refusal) => return refused_part(alloc, name, refusal),
     };
@@ -80,7 +81,7 @@ fn text_part<O: Observer>(
 }
 
 /// What is printed of a file of these bytes.
-fn bytes_part<O: Observer>(
+fn bytes_part<D: Racer, O: Observer>(
     alloc: Global,
     options: &CheckOptions,
     name: &str,
@@ -90,10 +91,10 @@ fn bytes_part<O: Observer>(
 ) -> Result<FilePart, AllocError>
     requires { length bytes.now ≤ MAX_INPUT }
     ensures { IfOk result (λ p.
-        IsPart options.now name.now before bytes.now (seen p)) }
+        IsPart D.finds options.now name.now before bytes.now (seen p)) }
 {
     match str::from_utf8(bytes) {
-        Ok(text) => text_part(alloc, options, name, before, text, observer),
+        Ok(text) => text_part::<D, O>(alloc, options, name, before, text, observer),
         Err(_) => refused_part(alloc, name, Refusal::NotText),
     }
 }
@@ -112,7 +113,7 @@ fn bytes_of<R: Source>(alloc: Global, name: &str, source: &mut R) -> Result<Vec<
 }
 
 /// What is printed of a file, after the n tests of the files before it.
-fn part_of<R: Source, O: Observer>(
+fn part_of<D: Racer, R: Source, O: Observer>(
     alloc: Global,
     options: &CheckOptions,
     name: &str,
@@ -121,11 +122,11 @@ fn part_of<R: Source, O: Observer>(
     observer: &mut O,
 ) -> Result<FilePart, AllocError>
     ensures part { IfOk result (λ p. IfSome (R.file source.old name.now)
-        (λ bytes. IsPart options.now name.now before bytes (seen p))) }
+        (λ bytes. IsPart D.finds options.now name.now before bytes (seen p))) }
     ensures files { R.file source.new ≡ R.file source.old }
 {
     match bytes_of(alloc, name, source) {
-        Ok(bytes) => bytes_part(alloc, options, name, before, &bytes, observer),
+        Ok(bytes) => bytes_part::<D, O>(alloc, options, name, before, &bytes, observer),
         Err(error) => refused_part(alloc, name, Refusal::Input(error)),
     }
 }
@@ -156,14 +157,14 @@ impl Tally {
 }
 
 /// What is printed of all files.
-fn tell_all<R: Source, O: Observer>(
+fn tell_all<D: Racer, R: Source, O: Observer>(
     alloc: Global,
     options: &CheckOptions,
     names: &[String],
     source: &mut R,
     observer: &mut O,
 ) -> Result<Tally, AllocError>
-    ensures { IfOk result (λ t. AreTold options.now (R.file source.old)
+    ensures { IfOk result (λ t. AreTold D.finds options.now (R.file source.old)
         (map string_bytes names.now) no_part (counted t)) }
 {
     let mut tally = Tally {
@@ -174,7 +175,14 @@ fn tell_all<R: Source, O: Observer>(
         told: true,
     };
     for name in names {
-        let part = part_of(alloc, options, name.as_str(), tally.tests, source, observer)?;
+        let part = part_of::<D, R, O>(
+            alloc,
+            options,
+            name.as_str(),
+            tally.tests,
+            source,
+            observer,
+        )?;
         tally.add(&part)?;
     }
     Ok(tally)
@@ -191,17 +199,17 @@ fn planned(alloc: Global, tally: &Tally) -> Result<String, AllocError>
 }
 
 /// The tests of several files, and their plan.
-fn checked<R: Source, O: Observer>(
+fn checked<D: Racer, R: Source, O: Observer>(
     alloc: Global,
     options: &CheckOptions,
     names: &[String],
     source: &mut R,
     observer: &mut O,
 ) -> Result<Reply, Refusal>
-    ensures { Replies (AreChecked options.now (R.file source.old) (map string_bytes names.now))
-        result }
+    ensures { Replies (AreChecked D.finds options.now (R.file source.old)
+        (map string_bytes names.now)) result }
 {
-    let tally = tell_all(alloc, options, names, source, observer)?;
+    let tally = tell_all::<D, R, O>(alloc, options, names, source, observer)?;
     let text = planned(alloc, &tally)?;
     Ok(Reply::Several {
         text,
@@ -212,15 +220,15 @@ fn checked<R: Source, O: Observer>(
 }
 
 /// `ebpf check` of several files.
-pub fn check_files<R: Source, O: Observer>(
+pub fn check_files<D: Racer, R: Source, O: Observer>(
     alloc: Global,
     options: &CheckOptions,
     names: &[String],
     source: &mut R,
     observer: &mut O,
 ) -> Reply
-    ensures { AreChecked options.now (R.file source.old)
+    ensures { AreChecked D.finds options.now (R.file source.old)
         (map string_bytes names.now) result }
 {
-    Reply::of(checked(alloc, options, names, source, observer))
+    Reply::of(checked::<D, R, O>(alloc, options, names, source, observer))
 }

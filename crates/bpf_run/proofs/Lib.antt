@@ -4,3 +4,5 @@ pub mod Raced
 pub mod Followed
 mod Opened
 mod Talked
+mod FoundRaces
+mod AsObjects

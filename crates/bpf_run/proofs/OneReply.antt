@@ -79,6 +79,7 @@ module _ (words : WordsAreDetermined) (encodings : EncodingsAreDetermined) (refu
   one_answer (command.Judge options) text r s h t o a b n m = one_judged files runs reports options.by.items options.keys text r s a b n m
   one_answer (command.Debug echo strict) text r s h t o a b n m = one_debug files runs scripts echo strict text r s a b n m
   one_answer (command.Explore options) text r s h t o a b n m = absurd o
+  one_answer (command.ExploreX86 options) text r s h t o a b n m = absurd o
   one_answer (command.Show options) text r s h t o a b n m = absurd o
   one_answer (command.Races options) text r s h t o a b n m = absurd o
   one_answer (command.Check options) text r s h t o a b n m = absurd o

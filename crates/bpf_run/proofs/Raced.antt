@@ -1,5 +1,5 @@
 -- What is printed of races is printed of the file that the text says.
-use Rattle.std.proofs.Common.{Bool, ℕ, List, Ok, map, string_bytes, String}
+use Rattle.std.proofs.Common.{Bool, ℕ, List, Ok, string_bytes, String}
 use Rattle.std.specs.declared.alloc.Global.{Global}
 use Rattle.bpf_names.specs.Names.{names_of}
 use Rattle.bpf_file.specs.declared.file.RunFile.{RunFile}

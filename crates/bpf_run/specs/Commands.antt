@@ -6,7 +6,8 @@ use Rattle.bpf_replies.specs.Exploring.{IsExploredFile, IsShownFile}
 use Rattle.bpf_replies.specs.Judging.{IsJudgedOfFile}
 use Rattle.bpf_replies.specs.Input.{RefusesInput}
 use Rattle.bpf_replies.specs.Programs.{IsAssembled, IsAssembledRun, IsDisassembled, IsRun}
-use Rattle.bpf_run.specs.Racing.{IsRacesFile}
+use Rattle.bpf_replies.specs.Reordering.{IsExploredFileOnX86}
+use Rattle.bpf_run.specs.Racing.{AreRacesOf, IsRacesFile}
 use Rattle.bpf_replies.specs.Running.{IsHistoryOfFile, IsRunBy, IsRunWithBuffersOfFile, IsRunWithPacketsOfFile}
 use Rattle.bpf_replies.specs.Script.{IsScriptOfFile}
 use Rattle.bpf_command.specs.declared.command.Command.{Command}
@@ -34,11 +35,12 @@ IsAnswer (command.X86 options) text r =
     IsRunWithBuffersOfFile options.by.items options.maps text r
 IsAnswer (command.Judge options) text r = IsJudgedOfFile options.by.items options.keys text r
 IsAnswer (command.Explore options) text r = IsExploredFile options.patient options.limit text r
+IsAnswer (command.ExploreX86 options) text r = IsExploredFileOnX86 options.limit text r
 IsAnswer (command.Show options) text r =
     IsShownFile options.search.patient options.search.limit options.outcome text r
 IsAnswer (command.Races options) text r =
     IsRacesFile options.search.patient options.search.limit (map string_bytes options.sync.items) text r
-IsAnswer (command.Check options) text r = IsCheckedFile options text r
+IsAnswer (command.Check options) text r = IsCheckedFile AreRacesOf options text r
 IsAnswer (command.Expand first patient races) text r = IsExpandedFile first text r
 
 -- it asks for no workers
@@ -49,6 +51,7 @@ IsForOneThread _ = Unit {0}
 -- it doesn't choose among schedules, nor print states
 abbrev pub IsForOneSchedule : Command → Type 0
 IsForOneSchedule (command.Explore options) = ⊥
+IsForOneSchedule (command.ExploreX86 options) = ⊥
 IsForOneSchedule (command.Show options) = ⊥
 IsForOneSchedule (command.Races options) = ⊥
 IsForOneSchedule (command.Check options) = ⊥

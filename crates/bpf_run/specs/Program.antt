@@ -19,6 +19,7 @@ use Rattle.bpf_run.specs.Conversing.{Holds, asked_talk}
 use Rattle.bpf_run.specs.declared.conversing.Partner.{Partner}
 use Rattle.bpf_run.specs.Objects.{IsShown}
 use Rattle.bpf_replies.specs.Several.{AreChecked}
+use Rattle.bpf_run.specs.Racing.{AreRacesOf}
 use Rattle.bpf_run.specs.declared.program.Ending.{Ending}
 use Rattle.bpf_run.specs.declared.program.Ending.TheVariants as ending
 use Rattle.bpf_run.specs.declared.program.Misuse.{Misuse}
@@ -71,7 +72,7 @@ Follows (request.Perform command file explain json) unread silent talks standard
 Follows (request.CheckAll check names json) unread silent talks standard files read_failed old new
     write_failed status stats =
     silent × ((r : Reply)
-    × AreChecked check files (map string_bytes names.items) r
+    × AreChecked AreRacesOf check files (map string_bytes names.items) r
     × IsShown json (Prints r) old new write_failed status × (stats ≡ []))
 Follows (request.Page topic) unread silent talks standard files read_failed old new write_failed
     status stats =
@@ -94,6 +95,7 @@ IsPrintedAs command_error.NoWorkers r = ⊥
 IsPrintedAs command_error.OneFile r = ⊥
 IsPrintedAs command_error.NoRun r = ⊥
 IsPrintedAs command_error.NoRaces r = ⊥
+IsPrintedAs command_error.TurnsAlone r = ⊥
 
 -- what is wrong with words in which `clap` finds no fault
 abbrev pub error_of : Misuse → CommandError
@@ -104,6 +106,7 @@ error_of misuse.Workers = command_error.NoWorkers
 error_of misuse.OneFile = command_error.OneFile
 error_of misuse.Run = command_error.NoRun
 error_of misuse.Races = command_error.NoRaces
+error_of misuse.TurnsAlone = command_error.TurnsAlone
 
 -- ---- what is left to do
 

@@ -1,9 +1,10 @@
 -- What `explore --races` replies: every data race of a run file's jobs, whatever the order of the CPUs'
 -- turns.
-use Rattle.std.specs.Prelude.{◌≡◌, ◌==◌, ℕ, Bool, not, List, Ok, length, string_bytes}
+use Rattle.std.specs.Prelude.{◌≡◌, ◌==◌, ℕ, Bool, not, List, [], Ok, length, string_bytes}
+use Rattle.bpf_check.specs.Findings.{Raced}
 use Rattle.bpf_file.specs.File.{File, named_by}
 use Rattle.bpf_file.specs.Reading.{IsRunFile}
-use Rattle.bpf_races.specs.Lines.{races_text}
+use Rattle.bpf_races.specs.Lines.{comment_lines, races_text}
 use Rattle.bpf_races.specs.Races.{AreRaces, RaceFound}
 use Rattle.bpf_races.specs.declared.sync.Part.{Part}
 use Rattle.bpf_races.specs.Sync.{ArePartsOf, IsAnyUnknown}
@@ -25,6 +26,18 @@ abbrev pub TellsRaces : (patient : Bool) → (limit : ℕ) → File → List Par
 TellsRaces patient limit f parts printed raced all = (races : List RaceFound) × (refused : Bool)
     × AreRaces patient (first_world_of f) parts races all refused limit
     × (printed ≡ races_text (named_by f) f.names parts races all) × (raced ≡ is_any_race races)
+
+-- what tests rest on: a comment for each race, whether there is one, and whether they are all
+abbrev pub FindsRaces : (patient : Bool) → (limit : ℕ) → File → Raced → Type 0
+FindsRaces patient limit f raced = (races : List RaceFound) × (refused : Bool)
+    × AreRaces patient (first_world_of f) [] races raced.all refused limit
+    × (raced.lines ≡ comment_lines (named_by f) f.names (length races) races)
+    × (raced.some ≡ is_any_race races)
+
+-- of the jobs that the text says
+abbrev pub AreRacesOf : (patient : Bool) → (limit : ℕ) → List ℕ → Raced → Type 0
+AreRacesOf patient limit text raced =
+    (f : File) × IsRunFile text (Ok f) × FindsRaces patient limit f raced
 
 -- `explore --races`: those of the jobs that the text says, but for the bytes that are named; or the
 -- file's first refusal; or that something else is named than bytes of the file's maps

@@ -104,7 +104,7 @@ impl Subject {
             Command::Show(_) => Subject::Shown,
             Command::Judge(_) => Subject::Tests,
             Command::Debug { .. } => Subject::Script,
-            Command::Explore(_) => Subject::Schedules,
+            Command::Explore(_) | Command::ExploreX86(_) => Subject::Schedules,
             Command::Races(_) => Subject::Races,
             Command::Check(_) => Subject::Tests,
             Command::Expand { .. } => Subject::Schedules,

@@ -1,7 +1,7 @@
 //! What follows from the definitions of commands.
 //!
-//! This function does nothing: its contract is the law.
-ghost use Rattle.bpf_run.specs.Laws.{RepliesAreDetermined};
+//! These functions do nothing: their contracts are the laws.
+ghost use Rattle.bpf_run.specs.Laws.{FoundRacesAreTrue, RepliesAreDetermined};
 
 /// What a command prints is a function of the bytes that it reads, unless memory runs out or a read
 /// fails.
@@ -23,3 +23,8 @@ pub fn replies_are_determined()
     bpf_packets::laws::reports_with_packets_are_determined();
     bpf_flushes::laws::reports_with_buffers_are_determined();
 }
+
+/// What `check` finds of data races is so.
+pub fn found_races_are_true()
+    ensures { FoundRacesAreTrue }
+{}

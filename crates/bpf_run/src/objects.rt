@@ -8,8 +8,9 @@ ghost use Rattle.bpf_run.specs.Program.{input_of, Performs};
 
 use crate::perform::{Performed, perform_of};
 use crate::progress::Aside;
+use bpf_advice::places_in;
 use bpf_command::Command;
-use bpf_json::objects_of;
+use bpf_json::{Known, objects_of};
 use bpf_replies::printing::{answer, write_text};
 use bpf_replies::reply::{Reply, Status};
 use bpf_replies::stream::{Sink, Source};
@@ -41,16 +42,16 @@ impl Kept {
 
     /// The objects of the lines that were written. Lines are text, so that they are none counts as
     /// out of memory, as that some are missing does.
-    fn objects(&self, alloc: Global) -> Result<String, AllocError>
+    fn objects(&self, alloc: Global, known: &Known) -> Result<String, AllocError>
         ensures whole { IfOk result (λ _. self.now.cut ≡ false) }
         ensures objects { IfOk result (λ objects.
-            AreObjectsOf self.now.text.items (string_bytes objects)) }
+            AreObjectsOf known.now self.now.text.items (string_bytes objects)) }
     {
         if self.cut {
             return Err(AllocError);
         }
         match str::from_utf8(&self.text) {
-            Ok(text) => objects_of(alloc, text),
+            Ok(text) => objects_of(alloc, known, text),
             Err(_) => Err(AllocError),
         }
     }
@@ -76,16 +77,37 @@ impl Sink for Kept {
     }
 }
 
-/// Writes the objects of what was printed.
-fn write_objects<W: Sink>(alloc: Global, kept: &Kept, meant: Status, sink: &mut W) -> Status
+/// Writes the objects of what was printed, with what is known beside it.
+fn write_objects<W: Sink>(
+    alloc: Global,
+    kept: &Kept,
+    known: &Known,
+    meant: Status,
+    sink: &mut W,
+) -> Status
     requires { W.has_failed sink.old ≡ false }
-    ensures { AreWritten (Some kept.now.text.items) kept.now.cut meant (W.contents sink.old)
-        (W.contents sink.new) (W.has_failed sink.new) result }
+    ensures { AreWritten known.now (Some kept.now.text.items) kept.now.cut meant
+        (W.contents sink.old) (W.contents sink.new) (W.has_failed sink.new) result }
 {
-    match kept.objects(alloc) {
+    match kept.objects(alloc, known) {
         Ok(objects) => write_text(sink, objects.as_str(), meant),
         Err(_) => write_text(sink, "{\"refused\":\"L9\"}\n", Status::Refused),
     }
+}
+
+/// What is known of a file of this name and these bytes beside what is printed of it: from which of its
+/// lines instructions come. Nothing where there is no memory for it.
+fn known_of(alloc: Global, name: Option<&str>, bytes: &[u8]) -> Known {
+    let mut known = Known::nothing(alloc);
+    if let Some(name) = name {
+        known.file = name.to_string(alloc).ok();
+    }
+    let text = str::from_utf8(bytes).unwrap_or("");
+    if let Ok(places) = places_in(alloc, text) {
+        known.jobs = places.jobs;
+        known.lines = places.lines;
+    }
+    known
 }
 
 /// Prints a reply, or its objects.
@@ -99,7 +121,7 @@ pub fn answer_as<W: Sink>(json: bool, alloc: Global, reply: &Reply, sink: &mut W
     }
     let mut kept = Kept::new(alloc);
     let meant = answer(alloc, reply, &mut kept);
-    write_objects(alloc, &kept, meant, sink)
+    write_objects(alloc, &kept, &Known::nothing(alloc), meant, sink)
 }
 
 /// The whole command, of the file where one is named, whose objects are written.
@@ -124,7 +146,8 @@ fn perform_objects<T: Threads + Wait + Sync + Aside, R: Source, W: Sink>(
         reply,
         input,
     } = perform_of(rt, alloc, command, file, source, &mut kept);
-    let status = write_objects(alloc, &kept, status, sink);
+    let known = known_of(alloc, file, &input);
+    let status = write_objects(alloc, &kept, &known, status, sink);
     Performed {
         status,
         reply,

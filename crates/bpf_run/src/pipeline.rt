@@ -4,13 +4,14 @@ ghost use Rattle.bpf_replies.specs.Answer.{Replies};
 ghost use Rattle.bpf_run.specs.Commands.{IsAnswer, IsForOneThread};
 
 use crate::expanding::expand_file;
-use crate::racing::race_file;
+use crate::racing::{AllRaces, race_file};
 use bpf_command::{Command, FileOptions, HistoryOptions, JudgeOptions, ShowOptions, X86Options};
 use bpf_explore::Observer;
 use bpf_replies::checking::check_file;
 use bpf_replies::exploring::{explore_file, show_file};
 use bpf_replies::programs::{assembled, assembled_run, disassembled, run};
 use bpf_replies::refusal::Refusal;
+use bpf_replies::reordering::explore_file_with_buffers;
 use bpf_replies::reply::Reply;
 use bpf_replies::running::{
     Extras, judge_file, run_file, run_file_by_workers, run_file_with_buffers,
@@ -62,11 +63,14 @@ fn answer_to<O: Observer>(
         Command::X86(X86Options { by, maps }) => run_file_with_buffers(alloc, &by, maps, text),
         Command::Judge(JudgeOptions { by, keys }) => judge_file(alloc, &by, keys, text),
         Command::Explore(search) => explore_file(alloc, search, text, observer),
+        Command::ExploreX86(search) => {
+            explore_file_with_buffers(alloc, search.limit, text, observer)
+        }
         Command::Show(ShowOptions { outcome, search }) => {
             show_file(alloc, search, outcome, text, observer)
         }
         Command::Races(options) => race_file(alloc, options, text, observer),
-        Command::Check(options) => check_file(alloc, &options, text, observer),
+        Command::Check(options) => check_file::<AllRaces, O>(alloc, &options, text, observer),
         Command::Expand { first, .. } => expand_file(alloc, first, text),
     }
 }

@@ -18,6 +18,7 @@ use crate::explaining::{Failures, Question, Subject, explain, explain_context, h
 use crate::objects::{Errand, answer_as, perform_as};
 use crate::perform::Performed;
 use crate::progress::{Aside, Teller};
+use crate::racing::AllRaces;
 use bpf_command::{Command, CommandError, Request, request_of};
 use bpf_lines::HexError;
 use bpf_replies::printing::{answer, print_page};
@@ -50,6 +51,8 @@ pub enum Misuse {
     Run,
     /// Maps of locks are named without `--races`, or an outcome is asked for beside it.
     Races,
+    /// What is of turns alone is asked of a search beside store buffers.
+    TurnsAlone,
 }
 
 impl Misuse {
@@ -63,6 +66,7 @@ impl Misuse {
             Misuse::OneFile => ONE_FILE,
             Misuse::Run => NO_RUN,
             Misuse::Races => NO_RACES,
+            Misuse::TurnsAlone => TURNS_ALONE,
         }
     }
 }
@@ -123,6 +127,11 @@ For more information, try 'ebpf asm --help'.";
 
 const NO_RACES: &str = "\
 '--sync' goes beside '--races' alone, and '--show' doesn't
+
+For more information, try 'ebpf explore --help'.";
+
+const TURNS_ALONE: &str = "\
+'--x86' of 'explore' and 'check' goes with none of '--patient', '--races', '--sync' and '--show'
 
 For more information, try 'ebpf explore --help'.";
 
@@ -274,7 +283,7 @@ fn follow<T: Threads + Wait + Sync + Aside, R: Source, W: Sink, D: Terminal>(
         }
         Ok(Request::CheckAll { check, files, json }) => {
             let mut teller = Teller::new(rt, check.search.progress);
-            let reply = check_files(alloc, &check, &files, source, &mut teller);
+            let reply = check_files::<AllRaces, _, _>(alloc, &check, &files, source, &mut teller);
             return Ending::Exit(answer_as(json, alloc, &reply, sink));
         }
         Ok(Request::Page(topic)) => return Ending::Exit(print_page(alloc, topic, sink)),
@@ -286,6 +295,7 @@ fn follow<T: Threads + Wait + Sync + Aside, R: Source, W: Sink, D: Terminal>(
         Err(CommandError::OneFile) => return Ending::Misused(Misuse::OneFile),
         Err(CommandError::NoRun) => return Ending::Misused(Misuse::Run),
         Err(CommandError::NoRaces) => return Ending::Misused(Misuse::Races),
+        Err(CommandError::TurnsAlone) => return Ending::Misused(Misuse::TurnsAlone),
         Err(CommandError::NotHex) => Refusal::Hex(HexError::NotHex),
         Err(CommandError::OutOfMemory) => Refusal::OutOfMemory,
     };

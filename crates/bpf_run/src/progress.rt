@@ -50,7 +50,7 @@ impl<T: Aside> Observer for Teller<'_, T> {
 /// Whether a command asks for it.
 pub(crate) fn asks_progress(command: &Command) -> bool {
     match command {
-        Command::Explore(search) => search.progress,
+        Command::Explore(search) | Command::ExploreX86(search) => search.progress,
         Command::Check(options) => options.search.progress,
         Command::Show(options) => options.search.progress,
         Command::Races(options) => options.search.progress,

@@ -6,14 +6,18 @@ ghost use Rattle.bpf_cpu.specs.Setup.{IsRunnable, named_in};
 ghost use Rattle.bpf_jobs.specs.Printed.{first_of};
 ghost use Rattle.bpf_races.specs.Races.{AreRaces};
 ghost use Rattle.bpf_replies.specs.Answer.{Replies};
-ghost use Rattle.bpf_run.specs.Racing.{IsRacesFile, TellsRaces, is_any_race};
+ghost use Rattle.bpf_run.specs.Racing.{FindsRaces, IsRacesFile, TellsRaces, is_any_race};
 
+use bpf_check::Raced;
 use bpf_command::{RaceOptions, SearchOptions};
 use bpf_cpu::Setup;
 use bpf_explore::Observer;
 use bpf_file::RunFile;
 use bpf_loader::Named;
-use bpf_races::{Part, Races, find_races, find_races_patiently, list_races, synced_parts};
+use bpf_races::{
+    Part, Races, comment_races, find_races, find_races_patiently, list_races, synced_parts,
+};
+use bpf_replies::racer::Racer;
 use bpf_replies::refusal::Refusal;
 use bpf_replies::reply::Reply;
 use bpf_replies::running::file_in;
@@ -49,14 +53,14 @@ fn named_of(shape: &StoreShape) -> Named
 /// The races of jobs, by either search.
 fn races_of<O: Observer>(
     alloc: Global,
-    options: SearchOptions,
+    options: &SearchOptions,
     setup: Setup,
     sync: &[Part],
     observer: &mut O,
 ) -> Result<Races, AllocError>
     requires { IsRunnable setup }
-    ensures { IfOk result (λ r. AreRaces options.patient (first_of setup) sync.now r.list.items
-        r.all r.refused options.limit) }
+    ensures { IfOk result (λ r. AreRaces options.now.patient (first_of setup) sync.now
+        r.list.items r.all r.refused options.now.limit) }
 {
     let limit = options.limit as usize;
     if options.patient {
@@ -80,11 +84,53 @@ fn tell_races<O: Observer>(
 {
     let RunFile { setup, names, .. } = file;
     let named = named_of(&setup.shape);
-    let races = races_of(alloc, options, setup, sync, observer)?;
+    let races = races_of(alloc, &options, setup, sync, observer)?;
     let text = list_races(alloc, named, &names, sync, &races)?;
     let raced = is_any_race(&races);
     let all = races.all;
     Ok(Told { text, raced, all })
+}
+
+/// What is found of the races of a file's jobs, as tests rest on it.
+fn found_races<O: Observer>(
+    alloc: Global,
+    options: &SearchOptions,
+    file: RunFile,
+    observer: &mut O,
+) -> Result<Raced, AllocError>
+    requires { IsRunnable file.setup }
+    ensures { IfOk result (FindsRaces options.now.patient options.now.limit (file_of file)) }
+{
+    let RunFile { setup, names, .. } = file;
+    let named = named_of(&setup.shape);
+    let races = races_of(alloc, options, setup, &[], observer)?;
+    let lines = comment_races(alloc, named, &names, &races.list)?;
+    Ok(Raced {
+        lines,
+        some: is_any_race(&races),
+        all: races.all,
+    })
+}
+
+/// The search of `ebpf explore --races`, for `ebpf check`.
+#[derive(Drop)]
+pub struct AllRaces;
+
+impl Racer for AllRaces {
+    ghost use Rattle.bpf_run.specs.Racing.{AreRacesOf};
+
+    ghost finds = { AreRacesOf };
+
+    fn races<O: Observer>(
+        alloc: Global,
+        options: &SearchOptions,
+        text: &str,
+        observer: &mut O,
+    ) -> Result<Raced, Refusal> {
+        let file = file_in(alloc, text)?;
+        let raced = found_races(alloc, options, file, observer)?;
+        Ok(raced)
+    }
 }
 
 /// `ebpf explore --races`.

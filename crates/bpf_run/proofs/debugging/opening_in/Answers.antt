@@ -1,4 +1,4 @@
-use Rattle.std.proofs.Common.{◌≡◌, ◌∙◌, ℕ, List, Bool, false, true, sym, subst}
+use Rattle.std.proofs.Common.{◌≡◌, ◌∙◌, ℕ, List, false, true, sym, subst}
 use Rattle.std.specs.List.{list_any}
 use Rattle.bpf_lines.specs.Lines.{lines_of}
 use Rattle.bpf_run.specs.Debugging.{IsOpened}

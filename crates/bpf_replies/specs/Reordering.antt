@@ -1,0 +1,40 @@
+-- What `explore --x86` replies: every outcome of a run file's jobs on CPUs with store buffers.
+use Rattle.std.specs.Prelude.{◌≡◌, ℕ, Bool, true, false, List, Ok, string_bytes}
+use Rattle.bpf_check.specs.Findings.{Findings}
+use Rattle.bpf_explore.specs.Listing.{explored_text}
+use Rattle.bpf_explore.specs.declared.exploring.Explored.{Explored}
+use Rattle.bpf_file.specs.File.{File}
+use Rattle.bpf_file.specs.Reading.{IsRunFile}
+use Rattle.bpf_reorderings.specs.Outcomes.{IsExploredX86}
+use Rattle.bpf_threads.specs.declared.threads.Threads.{Threads}
+use Rattle.bpf_replies.specs.Exploring.{AreFindingsBy, any_stopped_of}
+use Rattle.bpf_replies.specs.Running.{RefusesFile}
+use Rattle.bpf_replies.specs.Script.{first_world_of}
+use Rattle.bpf_replies.specs.Threading.{AreThreadsOf}
+use Rattle.bpf_replies.specs.declared.reply.Reply.{Reply}
+use Rattle.bpf_replies.specs.declared.reply.Reply.TheVariants as reply
+
+-- what a search through all schedules of turns and flushes of the jobs that the text says finds by this
+-- limit, of which the maps are printed too
+abbrev pub AreAnswersOnX86 : List ℕ → (limit : ℕ) → Explored → Type 0
+AreAnswersOnX86 text limit e = (f : File) × IsRunFile text (Ok f)
+    × IsExploredX86 (first_world_of f) f.names true limit e
+
+-- what tests rest on: of a search through flushes too where CPUs have store buffers, or of one through
+-- turns alone
+abbrev pub AreFindingsIn : (x86 patient : Bool) → (limit : ℕ) → List ℕ → Findings → Type 0
+AreFindingsIn true patient limit text f = (f.patient ≡ false)
+    × ((e : Explored) × AreAnswersOnX86 text limit e
+    × (f.answers ≡ e.answers.items) × (f.all ≡ e.all) × (f.states ≡ e.states))
+AreFindingsIn false patient limit text f = AreFindingsBy patient limit text f
+
+-- `explore --x86`: the answers, a schedule of turns and flushes before each, in which ways threads may
+-- reach more, whether the answers are all, and after how many states; or the file's first refusal
+abbrev pub IsExploredFileOnX86 : (limit : ℕ) → List ℕ → Reply → Type 0
+IsExploredFileOnX86 limit text (reply.Outcomes printed stopped all) =
+    (e : Explored) × AreAnswersOnX86 text limit e
+    × (threads : Threads) × AreThreadsOf text threads
+    × (string_bytes printed ≡ explored_text e.answers.items threads e.all e.states)
+    × (stopped ≡ any_stopped_of e.answers.items) × (all ≡ e.all)
+IsExploredFileOnX86 limit text (reply.Refused r) = RefusesFile text r
+IsExploredFileOnX86 limit text _ = ⊥

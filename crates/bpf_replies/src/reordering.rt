@@ -1,0 +1,101 @@
+//! `ebpf explore --x86`: every outcome of a run file's jobs on CPUs with store buffers, whatever the order
+//! of turns and flushes.
+
+ghost use Rattle.std.specs.Prelude.{◌≡◌, true, IfErr, IfOk};
+ghost use Rattle.bpf_cpu.specs.Setup.{IsRunnable};
+ghost use Rattle.bpf_file.specs.File.{file_of};
+ghost use Rattle.bpf_reorderings.specs.Outcomes.{IsExploredX86};
+ghost use Rattle.bpf_replies.specs.Answer.{Replies};
+ghost use Rattle.bpf_replies.specs.Reordering.{AreAnswersOnX86, AreFindingsIn, IsExploredFileOnX86};
+ghost use Rattle.bpf_replies.specs.Running.{RefusesFile};
+ghost use Rattle.bpf_replies.specs.Script.{first_world_of};
+
+use crate::exploring::findings_in;
+use crate::refusal::Refusal;
+use crate::reply::Reply;
+use crate::running::file_in;
+use crate::threading::threads_in;
+use bpf_check::{Findings, Raced};
+use bpf_command::SearchOptions;
+use bpf_explore::{Explored, Observer, is_any_stopped, list_explored};
+use bpf_file::RunFile;
+use bpf_reorderings::explore_with_buffers;
+use std::alloc::{AllocError, Global};
+
+/// Searches through all schedules of turns and flushes of a file's jobs, and prints the maps too.
+fn explore<O: Observer>(
+    alloc: Global,
+    file: RunFile,
+    limit: usize,
+    observer: &mut O,
+) -> Result<Explored, AllocError>
+    requires { IsRunnable file.setup }
+    ensures { IfOk result
+        (IsExploredX86 (first_world_of (file_of file)) (file_of file).names true limit) }
+{
+    let RunFile { setup, names, .. } = file;
+    explore_with_buffers(alloc, setup, &names, true, limit, observer)
+}
+
+/// What a search through all schedules of turns and flushes of the jobs that a text says finds.
+fn explored_in<O: Observer>(
+    alloc: Global,
+    limit: u64,
+    text: &str,
+    observer: &mut O,
+) -> Result<Explored, Refusal>
+    ensures found { IfOk result (AreAnswersOnX86 text.now limit) }
+    ensures refused { IfErr result (RefusesFile text.now) }
+{
+    let file = file_in(alloc, text)?;
+    let explored = explore(alloc, file, limit as usize, observer)?;
+    Ok(explored)
+}
+
+/// A search, and whether CPUs have store buffers.
+#[derive(Clone, Copy)]
+pub(crate) struct Sought<'a> {
+    pub search: &'a SearchOptions,
+    pub x86: bool,
+}
+
+/// What a search found, as far as tests rest on it, beside what was found of races: one through flushes
+/// too, where CPUs have store buffers.
+pub(crate) fn findings_by<O: Observer>(
+    alloc: Global,
+    sought: Sought<'_>,
+    raced: Raced,
+    text: &str,
+    observer: &mut O,
+) -> Result<Findings, Refusal>
+    ensures found { IfOk result
+        (AreFindingsIn sought.entry.x86 sought.entry.search.now.patient
+        sought.entry.search.now.limit text.now) }
+    ensures raced { IfOk result (λ f. f.raced ≡ raced) }
+    ensures refused { IfErr result (RefusesFile text.now) }
+{
+    if !sought.x86 {
+        return findings_in(alloc, sought.search, raced, text, observer);
+    }
+    let explored = explored_in(alloc, sought.search.limit, text, observer)?;
+    Ok(Findings::new(alloc, explored, raced))
+}
+
+/// `ebpf explore --x86`.
+pub fn explore_file_with_buffers<O: Observer>(
+    alloc: Global,
+    limit: u64,
+    text: &str,
+    observer: &mut O,
+) -> Result<Reply, Refusal>
+    ensures { Replies (IsExploredFileOnX86 limit text.now) result }
+{
+    let threads = threads_in(alloc, text)?;
+    let explored = explored_in(alloc, limit, text, observer)?;
+    let text = list_explored(alloc, &explored, threads)?;
+    Ok(Reply::Outcomes {
+        text,
+        stopped: is_any_stopped(&explored.answers),
+        all: explored.all,
+    })
+}
