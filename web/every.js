@@ -1,7 +1,7 @@
 'use strict';
 
 // Every schedule: the outcomes, deadlocks and races that `ebpf explore` finds of a run file, each with a schedule that
-// leads there and that the timeline can show. The search has an engine of its own, so that CPUs can be stepped
+// leads there and that the timeline can show, unless CPUs have store buffers, whose flushes are no turns. The search has an engine of its own, so that CPUs can be stepped
 // meanwhile, and is made with greater and greater limits, so that what is found is seen before its end.
 
 const LIMITS = [1000, 10000, 100000, 1000000]; // of states
@@ -64,17 +64,20 @@ function read_explored(printed) {
 }
 
 // `stage` counts the limits that are searched through.
-const search = { engine: null, number: 0, is_on: false, is_patient: false, is_of_races: false, stage: 0, came: null };
+const search = {
+    engine: null, number: 0, is_on: false, is_patient: false, is_of_races: false, is_x86: false, stage: 0, came: null,
+};
 
 // Searches a file's schedules for outcomes, or for races but for those at values of the maps that are left out, and
 // shows what is found so far. Another search, or `stop_search`, ends this one.
-async function search_all(text, { is_patient, is_of_races, locks }, show) {
+async function search_all(text, { is_patient, is_of_races, is_x86, locks }, show) {
     stop_search();
     const mine = search.number;
     search.engine ??= new Engine(engine);
-    Object.assign(search, { is_on: true, is_patient, is_of_races, stage: 0, came: null });
+    Object.assign(search, { is_on: true, is_patient, is_of_races, is_x86, stage: 0, came: null });
     const asked = is_of_races ? ['--races', ...locks.flatMap((name) => ['--sync', name])] : [];
     if (is_patient) asked.push('--patient');
+    if (is_x86) asked.push('--x86');
     for (const limit of LIMITS) {
         show(search);
         const words = ['explore', '--limit', String(limit), ...asked];
@@ -108,7 +111,8 @@ function counts_text({ found, states }, is_of_races) {
 }
 
 // What a whole search says of the orders of turns that aren't listed.
-function no_other_text(is_patient, is_of_races, { budgets, same }) {
+function no_other_text({ is_patient, is_of_races, is_x86 }, { budgets, same }) {
+    if (is_x86) return 'No order of turns and flushes has another.';
     if (same) return 'No order of turns has another, and on x86 the outcomes are the same.';
     if (!is_patient) return 'No order of turns has another.';
     if (is_of_races) return 'No order of turns that uses no budget up has another.';
@@ -122,20 +126,26 @@ function threads_text({ threads }) {
     return threads.map((line) => ` T${line.slice(1)}.`).join('');
 }
 
-function every_text({ came, is_on, is_patient, is_of_races, stage }) {
+function every_text(asked) {
+    const { came, is_on, is_of_races, stage } = asked;
     const goes_on = is_on ? `Searching up to ${in_thousands(LIMITS[stage])} states…` : '';
     if (!came) return goes_on;
     const what = counts_text(came, is_of_races);
     if (!came.is_all) return is_on ? `So far: ${what}. ${goes_on}` : `Not all: ${what}, and there may be more.`;
-    return `All: ${what}. ${no_other_text(is_patient, is_of_races, came)}${threads_text(came)}`;
+    return `All: ${what}. ${no_other_text(asked, came)}${threads_text(came)}`;
 }
 
 // What was found. In an outcome, the lines that not all of them have stand out.
-function found_row({ kind, schedule, lines }, number, is_shared) {
+function found_row({ kind, schedule, lines }, number, is_shared, is_x86) {
     const row = make('li', kind);
     const said = make('pre');
     for (const line of lines) said.append(make('span', is_shared(line) ? 'shared' : '', line), '\n');
     const by = make('code', 'by', schedule ? `by ${schedule}` : 'by no turn');
+    if (is_x86) {
+        by.title = '`ebpf run --x86 --by` leads there: N turns of CPU C are C*N, and N flushes of its buffer C!*N';
+        row.append(said, by);
+        return row;
+    }
     by.title = 'A schedule that leads there: N turns of CPU C are C*N';
     const button = make('button', '', 'Show me');
     button.type = 'button';
@@ -157,14 +167,15 @@ function draw_every(state) {
     const outcomes = found.filter(({ kind }) => kind === 'outcome');
     const counts = new Map();
     for (const line of outcomes.flatMap(({ lines }) => lines)) counts.set(line, (counts.get(line) ?? 0) + 1);
-    const rows = found.slice(0, MOST_FOUND).map((it, number) => found_row(it, number, (line) => counts.get(line) === outcomes.length));
+    const is_shared = (line) => counts.get(line) === outcomes.length;
+    const rows = found.slice(0, MOST_FOUND).map((it, number) => found_row(it, number, is_shared, state.is_x86));
     if (found.length > MOST_FOUND) rows.push(make('li', 'empty', `and ${found.length - MOST_FOUND} more`));
     at('found').replaceChildren(...rows);
 }
 
 // Marks what was found by the schedule that the turns are.
 function mark_found({ turns }) {
-    if (!search.came) return;
+    if (!search.came || search.is_x86) return;
     const by = schedule_of(turns);
     search.came.found.slice(0, MOST_FOUND).forEach(({ schedule }, number) => {
         const row = at('found').children[number];

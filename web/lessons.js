@@ -1,6 +1,6 @@
 'use strict';
 
-// Fourteen lessons. Each sets a run file and turns, asks for something, and says by what the program answers
+// Fifteen lessons. Each sets a run file and turns, asks for something, and says by what the program answers
 // whether it is met. In texts, what is between ` is code.
 
 const FIRST = `ebpf-run 1
@@ -195,6 +195,34 @@ end
 
 job 0 set
 job 1 look
+`;
+
+const BUFFERS = `ebpf-run 3
+cpus 2
+array bss value 16 max 1
+var x bss 0 8
+var y bss 8 8
+
+prog first
+        r7 = &x
+        r8 = &y
+        r1 = 1
+        *(u64 *)(r7 + 0) = r1   ; writes x
+        r0 = *(u64 *)(r8 + 0)   ; reads y
+        exit
+end
+
+prog second
+        r7 = &y
+        r8 = &x
+        r1 = 1
+        *(u64 *)(r7 + 0) = r1   ; writes y
+        r0 = *(u64 *)(r8 + 0)   ; reads x
+        exit
+end
+
+job 0 first
+job 1 second
 `;
 
 const STACK = `ebpf-run 3
@@ -402,6 +430,17 @@ async function no_order_races({ file }, machine) {
     return is_kept ? met('No order of turns has a race.') : not_yet('One CPU has to set the flag, and the other to look at it.');
 }
 
+async function no_buffer_hides({ file }, machine) {
+    const { stdout } = await machine.engine.call(['explore', '--x86', '--limit', String(MOST_STATES)], file.text);
+    const { found, is_all } = read_explored(text_of(stdout));
+    const hidden = found.find(({ lines }) => ['job 0 cpu 0 r0=0', 'job 1 cpu 1 r0=0'].every((line) => lines.includes(line)));
+    if (hidden) return not_yet(`On x86 both read 0, by ${hidden.schedule}.`);
+    if (!is_all) return not_yet(`There are more than ${MOST_STATES} states: it can be said shorter.`);
+    const is_kept = found.every(({ lines }) => lines.filter((line) => /^job \d cpu \d r0=[01]$/.test(line)).length === 2
+        && ['var x=1', 'var y=1'].every((line) => lines.includes(line)));
+    return is_kept ? met('On x86, too, one of both reads 1.') : not_yet('Each CPU has to write 1, and to end with what it reads.');
+}
+
 function top_is_taken(state) {
     if (ends_of(state).length < 2) return not_yet('Both jobs have to end.');
     const top = number_in(state, 'top');
@@ -543,6 +582,17 @@ const LESSONS = [
         file: FLAG,
         turns: [0, 1],
         check: no_order_races,
+    },
+    {
+        title: 'Store buffers',
+        text:
+            'Each CPU writes one variable and reads the other: in no order of turns do both read 0. On x86 ' +
+            'they may, since a plain store waits in its CPU\'s store buffer while later loads go ahead. ' +
+            '`store buffers`, above, has the program make every order of turns and of flushes of these.',
+        task: 'Let one of both read 1 on x86, too: an atomic operation, as `r1 = xchg_64(r7 + 0, r1)`, waits for the buffer.',
+        file: BUFFERS,
+        turns: [0, 1],
+        check: no_buffer_hides,
     },
     {
         title: 'ABA',

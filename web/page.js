@@ -245,7 +245,8 @@ async function explore(is_of_races) {
     if (text === undefined) return;
     const locks = at('locks').value.split(/[\s,]+/).filter((name) => name);
     try {
-        await search_all(text, { is_patient: at('patient').checked, is_of_races, locks }, draw_search);
+        const is_x86 = at('x86').checked && !is_of_races;
+        await search_all(text, { is_patient: at('patient').checked && !is_x86, is_of_races, is_x86, locks }, draw_search);
     } catch (error) {
         if (error.name !== 'Stopped') {
             search.is_on = false;
