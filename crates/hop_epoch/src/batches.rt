@@ -1,5 +1,5 @@
 //! The elements of a map that a CPU took out.
-ghost use Rattle.std.specs.Prelude.{◌≡◌, ◌⊎◌, ◌<◌, ◌%◌, ◌∷◌, [], length, slice_index, None, IsTrue, IsFalse};
+ghost use Rattle.std.specs.Prelude.{◌≡◌, ◌⊎◌, ◌↔◌, ◌<◌, ◌%◌, ◌∷◌, [], length, slice_index, None, IsTrue, IsFalse};
 ghost use Rattle.bpf_shared.specs.Shape.{IsShape};
 ghost use Rattle.hop_words.specs.Ghost.{HasElement, limbo_at};
 ghost use Rattle.hop_words.specs.Kinds.{retiring, run_count};
@@ -66,6 +66,14 @@ impl Batches {
         self.returned.take()
     }
 
+    /// Whether neither batch has an element.
+    #[inline(always)]
+    pub fn is_empty(&self) -> bool
+        ensures { IsTrue result ↔ (self.now.young ≡ None) × (self.now.aged ≡ None) }
+    {
+        self.aged.is_none() && self.young.is_none()
+    }
+
     /// Puts a used element in front of the young batch.
     pub fn retire(&mut self, lane: &mut Lane, table: &HopTable, element: Used)
         requires table { lane.old.table ≡ table.now.id }
@@ -108,14 +116,13 @@ impl Batches {
         ensures blocked { ((limbo_at lane.new.known.limbo self.old.map).old ≡ [])
             ⊎ SeesRunning self.old.map lane.old.known lane.new.known }
     {
-        if self.aged.is_none() && self.young.is_none() {
+        if self.is_empty() {
             return;
         }
         self.pass_on(lane, table);
     }
 
     // Passes batches on, out of line, where one of them isn't empty.
-    #[cold]
     fn pass_on(&mut self, lane: &mut Lane, table: &HopTable)
         requires table { lane.old.table ≡ table.now.id }
         requires even { table.now.about.count % 2 ≡ 0 }

@@ -32,7 +32,7 @@ use Rattle.hop_map.specs.Private.Listing.{Listed}
 use Rattle.bpf_shared.specs.Shape.{IsElementSpan}
 use Rattle.hop_map.proofs.Spans.{last_found_lies}
 use Rattle.hop_map.specs.Port.{AreArenas, arena_at, no_arena, Port, AreBatches, IsPortOf, runs, batches_at, no_batches}
-use Rattle.hop_map.specs.Private.Port.{port_of, standing_in, IsEnding}
+use Rattle.hop_map.specs.Private.Port.{port_of, standing_in, IsEnding, NoneWaits}
 
 pub apart : true ≡ false → ⊥
 apart e = cc
@@ -303,3 +303,24 @@ pub listed_runs : (a : About) (l l' : Known) (m : ℕ) (keys : List (List ℕ)) 
 listed_runs a l l' m keys e =
     let t = turned a l l' (Keys m keys) e.seen (ap (λ (k : Known). k.cpu) e.after) in
     ap (λ (n : ℕ). n % 2 == 1) (let same : turns_of (events_of l'.cpu l'.seen) ≡ turns_of (events_of l.cpu l.seen) = omega arith in same)
+
+-- ---- where no element waits
+front_none : (es : List ℕ) → None ≡ front es → es ≡ []
+front_none [] is = refl
+front_none (e ∷ es) is = cc
+
+-- where nothing waits nothing is kept
+pub none_kept : (a : About) (l : Known) (n : ℕ) (bs : List Batches) (before : List Sight) → AreBatches a l n bs → NoneWaits (length bs) bs → (m : ℕ) → m < n → IsReclaimed m before l
+none_kept a l n bs before are none m inside =
+    let t = are.each m inside in
+    let e = none m (let size = are.size in omega arith) in
+    inl (front_none (limbo_at l.limbo m).old (sym e.1 ∙ t.old_is), front_none (limbo_at l.limbo m).young (sym e.0 ∙ t.young_is))
+
+-- of one map more nothing waits
+pub none_more : (m : ℕ) (bs : List Batches) (b : Batches) → m < length bs → NoneWaits m bs → (b.young ≡ None) × (b.aged ≡ None) → NoneWaits (m + 1) (set bs m b)
+none_more m bs b here before none k inside = by_equal k m
+    (λ e. subst IsNone (sym (ap (batches_at (set bs m b)) e ∙ get_or-set_same bs m b no_batches here)) none)
+    (λ ne. subst IsNone (sym (get_or-set_other bs m k b no_batches ne)) (before k (less k m inside ne)))
+  where
+    IsNone : Batches → Type 0
+    IsNone x = (x.young ≡ None) × (x.aged ≡ None)

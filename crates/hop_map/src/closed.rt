@@ -45,6 +45,7 @@ pub fn gather(table: HopTable, ports: Vec<HopPort>) -> Closed
             lane,
             arenas: _,
             batches: _,
+            waiting: _,
             spilled: _,
             counts: mine,
         } = port;

@@ -36,6 +36,8 @@ pub struct HopPort {
     pub(crate) arenas: Vec<Arena>,
     // by map
     pub(crate) batches: Vec<Batches>,
+    // false only where no map's batches have an element
+    pub(crate) waiting: bool,
     pub(crate) spilled: Option<u32>,
     pub(crate) counts: MapCounts,
 }
@@ -122,7 +124,7 @@ impl HopPort {
         let Some(lane) = &mut self.lane else {
             unreachable!()
         };
-        leave_run(lane, table, &mut self.batches);
+        leave_run(lane, table, &mut self.batches, &mut self.waiting);
     }
 
     /// Where the value of the key lies, found under the lock of the key's segment; the CPU holds
@@ -253,6 +255,7 @@ impl HopPort {
             rt, table, lane, &mut keys, arena, batches, map, key, value, flags,
         );
         self.lane = Some(lane);
+        self.waiting = true;
         self.spilled = spilled;
         self.counts.keys_left(map, keys);
         answer
@@ -277,6 +280,7 @@ impl HopPort {
         let batches = &mut self.batches[usize::from(map)];
         let (lane, answer) = delete(rt, table, lane, &mut keys, batches, map, key);
         self.lane = Some(lane);
+        self.waiting = true;
         self.counts.keys_left(map, keys);
         answer
     }

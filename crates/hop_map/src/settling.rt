@@ -38,6 +38,7 @@ pub fn settle(
             lane,
             arenas,
             batches,
+            waiting: _,
             spilled,
             counts,
         } = port;
@@ -59,6 +60,7 @@ pub fn settle(
             lane: Some(lane),
             arenas: aside.arenas,
             batches: aside.batches,
+            waiting: true,
             spilled: aside.spilled,
             counts: aside.counts,
         })?;

@@ -77,6 +77,7 @@ fn new_port(alloc: Global, table: &HopTable, lane: Lane) -> Result<HopPort, Allo
         lane: Some(lane),
         arenas,
         batches,
+        waiting: true,
         spilled: None,
         counts: MapCounts::new(),
     })

@@ -1,5 +1,5 @@
 -- What a port is made of.
-use Rattle.std.specs.Prelude.{◌≡◌, ℕ, List, [], ◌++◌, Option, Some, None, length}
+use Rattle.std.specs.Prelude.{◌≡◌, ℕ, ◌<◌, false, List, [], ◌++◌, Option, Some, None, length}
 use Rattle.hop_words.specs.declared.known.Known.{Known}
 use Rattle.hop_words.specs.declared.known.Sight.{Sight}
 use Rattle.hop_words.specs.Sights.{LeavesLocks}
@@ -7,7 +7,7 @@ use Rattle.hop_words.specs.Ghost.{limbo_at, Each}
 use Rattle.hop_words.specs.Inside.{Shown, Standing, nobody}
 use Rattle.hop_epoch.specs.declared.batches.Batches.{Batches}
 use Rattle.hop_map.specs.declared.port.HopPort.TheInside.{Inside as InPort}
-use Rattle.hop_map.specs.Port.{Port, AreBatches}
+use Rattle.hop_map.specs.Port.{Port, AreBatches, batches_at}
 
 abbrev pub no_standing : Standing
 no_standing = record {
@@ -46,9 +46,16 @@ pub record HasNothing (l : Known) : Type 0 where
 abbrev pub IsFree : Known → Type 0
 IsFree l = (l.locks ≡ []) × (l.fresh ≡ [])
 
--- between two calls the CPU's lane is there, and owns nothing
+-- of the first n maps both batches are empty
+abbrev pub NoneWaits : ℕ → List Batches → Type 0
+NoneWaits n bs = (m : ℕ) → m < n → ((batches_at bs m).young ≡ None) × ((batches_at bs m).aged ≡ None)
+
+-- between two calls the CPU's lane is there, and owns nothing; and where it says so, no element waits
 abbrev pub IsPortIdle : InPort → Type 0
-IsPortIdle p = (p.lane ≡ Some (standing_in p.lane)) × HasNothing (standing_in p.lane).known
+IsPortIdle p =
+    (p.lane ≡ Some (standing_in p.lane))
+    × HasNothing (standing_in p.lane).known
+    × (p.waiting ≡ false → NoneWaits (length p.batches.items) p.batches.items)
 
 -- what a run that has ended leaves of a CPU, while batches are looked at
 pub record IsEnding (t : Shown) (ended l : Known) (bs : List Batches) : Type 0 where

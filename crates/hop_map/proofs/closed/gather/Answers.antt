@@ -18,7 +18,7 @@ ports-preserved c =
     let port = c.in-Some.port in
     let rest = c.next.new.self.rest.items in
     let known : lane.known ≡ port.known = ap known_of (sym (port_is c.port.inside c.port.inside.lane lane refl c.in-Some-lane.is) ∙ c.port.view_is) in
-    let free : IsFree lane.known = subst (λ (o : Option Standing). IsFree (standing_in o).known) c.in-Some-lane.is (c.port.invariant.1.locks, c.port.invariant.1.fresh) in (
+    let free : IsFree lane.known = subst (λ (o : Option Standing). IsFree (standing_in o).known) c.in-Some-lane.is (c.port.invariant.1.0.locks, c.port.invariant.1.0.fresh) in (
       c.take.ensures.table ∙ i.0,
       append_assoc c.ports.yielded (port ∷ []) rest ∙ (ap (λ (l : List Port). c.ports.yielded ++ l) (sym c.in-Some.ensures.steps.0) ∙ i.1),
       c.take.ensures.taken ∙ (ap (λ (ls : List Known). ls ++ lane.known ∷ []) i.2 ∙ (ap (λ (k : Known). map known_of c.ports.yielded ++ k ∷ []) known ∙ sym (map_snoc c.ports.yielded port))),
