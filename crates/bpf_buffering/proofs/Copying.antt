@@ -1,7 +1,7 @@
 -- Lists that are copied, or compared, entry by entry, by what is seen of the entries.
-use Rattle.std.proofs.Common.{◌≡◌, ◌≢◌, ℕ, ◌+◌, ◌<◌, ◌≤◌, List, [], ◌∷◌, ◌++◌, length, take, get_or, sym, ap, ◌∙◌}
-use Rattle.std.specs.Prelude.{map}
-use Rattle.std.proofs.lemmas.List.{get_or-map, length-map, map_more, map_push, take_all}
+use Rattle.std.proofs.Common.{◌≡◌, ◌≢◌, ℕ, ◌+◌, ◌<◌, ◌≤◌, List, [], ◌∷◌, ◌++◌, length, take, get_or, refl, sym, ap, ◌∙◌}
+use Rattle.std.specs.Prelude.{fold, map}
+use Rattle.std.proofs.lemmas.List.{get_or-map, get_or_default, length-map, map_more, map_push, take_all, take_more}
 
 -- one more is copied
 pub next_copied : {A B : Type 0} (f : A → B) (copies xs : List A) (i : ℕ) (y x : A) → i < length xs → x ≡ get_or xs i x → f y ≡ f x → map f copies ≡ map f (take i xs) → map f (copies ++ y ∷ []) ≡ map f (take (i + 1) xs)
@@ -27,3 +27,20 @@ differ_at {A} {B} f xs ys i x y inside within at here differ same =
 
 pub counts_differ : {A B : Type 0} (f : A → B) (xs ys : List A) → length xs ≢ length ys → map f xs ≢ map f ys
 counts_differ {A} {B} f xs ys differ same = differ (sym (length-map xs f) ∙ ap (λ (l : List B). length l) same ∙ length-map ys f)
+
+-- ---- a fold over what is seen of the entries, and one more entry
+fold_push : {A B : Type 0} (f : B → A → B) (z : B) (xs : List A) (x : A) → fold f z (xs ++ x ∷ []) ≡ f (fold f z xs) x
+fold_push f z [] x = refl
+fold_push f z (y ∷ ys) x = fold_push f (f z y) ys x
+
+pub fold_next : {A B C : Type 0} (g : A → C) (f : B → C → B) (z : B) (xs : List A) (i : ℕ) (x : A) → i < length xs → x ≡ get_or xs i x → fold f z (map g (take (i + 1) xs)) ≡ f (fold f z (map g (take i xs))) (g x)
+fold_next {A} {B} {C} g f z xs i x within at =
+    ap (λ (l : List C). fold f z l) (map_more g xs i x within) ∙ fold_push f z (map g (take i xs)) (g (get_or xs i x)) ∙ ap (λ (y : A). f (fold f z (map g (take i xs))) (g y)) (sym at)
+
+pub fold_more : {A B : Type 0} (f : B → A → B) (z : B) (xs : List A) (i : ℕ) (x : A) → i < length xs → x ≡ get_or xs i x → fold f z (take (i + 1) xs) ≡ f (fold f z (take i xs)) x
+fold_more {A} {B} f z xs i x within at =
+    ap (λ (l : List A). fold f z l) (take_more xs i x within) ∙ fold_push f z (take i xs) (get_or xs i x) ∙ ap (λ (y : A). f (fold f z (take i xs)) y) (sym at)
+
+-- lists that differ at a place
+pub differ_here : {A : Type 0} (xs ys : List A) (i : ℕ) (x y : A) → i < length ys → x ≡ get_or xs i x → y ≡ get_or ys i y → x ≢ y → xs ≢ ys
+differ_here {A} xs ys i x y within at here differ same = differ (at ∙ ap (λ (l : List A). get_or l i x) same ∙ get_or_default ys i x y within ∙ sym here)

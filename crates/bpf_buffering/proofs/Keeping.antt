@@ -25,7 +25,7 @@ use Rattle.bpf_buffering.specs.declared.buffering.keeping.Kept.{Kept}
 use Rattle.bpf_buffering.specs.Waiting.{WaitingContents, CanWait, event_of}
 use Rattle.bpf_buffering.specs.Jobs.{task_of, tasks_of}
 use Rattle.bpf_buffering.specs.Buffering.{stored_at, events_of_all, state_of, Stands, IsBuffering, answer_of}
-use Rattle.bpf_buffering.specs.Private.Kept.{quiet, kept_state, FitsHost}
+use Rattle.bpf_buffering.specs.Private.Kept.{quiet, kept_state, state_hash, FitsHost}
 use Rattle.bpf_buffering.proofs.Flushing.{cannot_flush, none_beyond}
 use Rattle.bpf_buffering.proofs.Waits.{items_of}
 
@@ -77,9 +77,9 @@ module _ (w z : WaitingContents) (programs : List Loaded) (jobs jobs' : List Lis
 
 -- ---- a kept state
 -- it is the machine's
-pub fits_itself : (m : BufferedState) (k : Kept) (programs : List Loaded) → kept_state programs k ≡ m → IsBuffering (quiet k.store) programs k.jobs.items k.buffers.items → IsSavedAs k.store k.bytes.items → FitsHost m k
-fits_itself m k programs is board saved =
-    subst (λ (s : BufferedState). FitsHost s k) is (record { host = same_host (kept_state programs k).machine; board = board; saved = saved })
+pub fits_itself : (m : BufferedState) (k : Kept) (programs : List Loaded) → kept_state programs k ≡ m → IsBuffering (quiet k.store) programs k.jobs.items k.buffers.items → IsSavedAs k.store k.bytes.items → k.hash ≡ state_hash k.bytes.items (tasks_of k.jobs.items) (map items_of k.buffers.items) → FitsHost m k
+fits_itself m k programs is board saved hashed =
+    subst (λ (s : BufferedState). FitsHost s k) is (record { host = same_host (kept_state programs k).machine; board = board; saved = saved; hashed = hashed })
 
 -- the machine has gone on
 pub fits_after : (old new : BufferedState) (k : Kept) → IsSameHost old.machine new.machine → FitsHost old k → FitsHost new k
@@ -92,6 +92,7 @@ fits_after old new k went fits = record {
   };
   board = subst (λ (ps : List Loaded). IsBuffering (quiet k.store) ps k.jobs.items k.buffers.items) (sym went.programs) fits.board;
   saved = fits.saved;
+  hashed = fits.hashed;
 }
 
 -- it shows what the machine shows, whose store is saved as the same bytes

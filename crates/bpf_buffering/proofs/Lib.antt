@@ -20,3 +20,6 @@ pub mod Copying
 pub mod Keeping
 pub mod Ends
 pub mod AlbumLaws
+pub mod SlotLaws
+pub mod Twins
+pub mod Shelving

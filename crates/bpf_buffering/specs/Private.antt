@@ -1,1 +1,3 @@
+-- What private functions promise each other: no public clause speaks of it.
+pub mod Slots
 pub mod Kept

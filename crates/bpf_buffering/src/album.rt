@@ -1,50 +1,26 @@
 //! A machine to work with, and states of it that are kept as they were.
 
-ghost use Rattle.std.specs.Prelude.{◌≡◌, ◌++◌, ◌∷◌, [], true, false, All, OnOk, OnErr, map};
+ghost use Rattle.std.specs.Prelude.{◌≡◌, ◌++◌, ◌∷◌, ℕ, [], true, false, All, OnOk, OnErr, map};
 ghost use Rattle.bpf_plain.specs.PlainStore.{IsSavedAs};
 ghost use Rattle.bpf_buffering.specs.Search.{IsKeptAsX86};
-ghost use Rattle.bpf_buffering.specs.Private.Kept.{kept_state, FitsHost};
+ghost use Rattle.bpf_buffering.specs.Private.Kept.{kept_state, FitsHost, IsTwinAt, AreAllPut};
 
 use crate::buffering::{Buffering, Kept};
+use crate::slots::{note, room_for, slot_of};
 use bpf_machine::Turn;
 use bpf_plain::PlainStore;
 use std::alloc::{AllocError, Global};
 use std::marker::Model;
 
-/// The place of a hash among n, or one n steps after it.
-fn place_of(hash: u64, step: usize, places: usize) -> usize {
-    ((hash >> 32) as usize).wrapping_add(step) & places.wrapping_sub(1)
-}
-
-/// What is there; 0 where nothing is.
-fn slot_of(slots: &[u32], hash: u64, step: usize) -> u32 {
-    match slots.get(place_of(hash, step, slots.len())) {
-        Some(slot) => *slot,
-        None => 0,
-    }
-}
-
-/// Puts a number at the first place from that of a hash on where nothing is: one more than it.
-fn note(slots: &mut Vec<u32>, hash: u64, number: usize) -> Result<(), AllocError> {
-    let mark = number.checked_add(1).ok_or(AllocError)?;
-    let mark = u32::try_from(mark).map_err(|_| AllocError)?;
-    for step in 0..slots.len() {
-        let place = place_of(hash, step, slots.len());
-        if place < slots.len() && slots[place] == 0 {
-            slots[place] = mark;
-            return Ok(());
-        }
-    }
-    Err(AllocError)
-}
-
 /// Makes more places where half of them are taken.
-fn widen(alloc: Global, kept: &[Kept], slots: &mut Vec<u32>) -> Result<(), AllocError> {
+fn widen(alloc: Global, kept: &[Kept], slots: &mut Vec<u32>) -> Result<(), AllocError>
+    requires { AreAllPut kept.now slots.old.items }
+    ensures { AreAllPut kept.now slots.new.items }
+{
     if kept.len() < slots.len() / 2 {
         return Ok(());
     }
-    let places = slots.len().saturating_mul(2).max(16);
-    let mut wider = vec![in alloc; 0; places]?;
+    let mut wider = room_for(alloc, slots.len())?;
     for number in 0..kept.len() {
         note(&mut wider, kept[number].hash(), number)?;
     }
@@ -64,8 +40,9 @@ fn save_store(store: &PlainStore, bytes: &mut Vec<u8>) -> Result<(), AllocError>
 fn is_at(machine: &Buffering, kept: &[Kept], number: usize, bytes: &[u8]) -> bool
     requires saved { IsSavedAs machine.now.machine.store bytes.now }
     requires fits { All (FitsHost machine.now) kept.now }
-    ensures { result ≡ true
+    ensures found { result ≡ true
         → IsKeptAsX86 (map (kept_state machine.now.machine.programs) kept.now) machine.now }
+    ensures differs { result ≡ false → IsTwinAt machine.now kept.now number → ⊥ }
 {
     match kept.get(number) {
         Some(one) => machine.is_as(one, bytes),
@@ -77,8 +54,10 @@ fn is_at(machine: &Buffering, kept: &[Kept], number: usize, bytes: &[u8]) -> boo
 fn is_kept(machine: &Buffering, kept: &[Kept], slots: &[u32], bytes: &[u8]) -> bool
     requires saved { IsSavedAs machine.now.machine.store bytes.now }
     requires fits { All (FitsHost machine.now) kept.now }
-    ensures { result ≡ true
+    requires put { AreAllPut kept.now slots.now }
+    ensures found { result ≡ true
         → IsKeptAsX86 (map (kept_state machine.now.machine.programs) kept.now) machine.now }
+    ensures none { result ≡ false → (n : ℕ) → IsTwinAt machine.now kept.now n → ⊥ }
 {
     let hash = machine.hash(bytes);
     for step in 0..slots.len() {
@@ -101,10 +80,12 @@ fn add(
     slots: &mut Vec<u32>,
     bytes: &[u8],
 ) -> Result<(), AllocError>
-    requires { IsSavedAs machine.now.machine.store bytes.now }
+    requires saved { IsSavedAs machine.now.machine.store bytes.now }
+    requires put { AreAllPut kept.old.items slots.old.items }
     ensures adds { OnOk result ((k : Kept) × (kept.new.items ≡ kept.old.items ++ k ∷ [])
         × (kept_state machine.now.machine.programs k ≡ machine.now) × FitsHost machine.now k) }
     ensures err { OnErr result (kept.new.items ≡ kept.old.items) }
+    ensures put { AreAllPut kept.new.items slots.new.items }
 {
     widen(alloc, kept, slots)?;
     let one = machine.keep(alloc, bytes)?;
@@ -127,9 +108,9 @@ pub struct Album {
 }
 
 impl Model for Album {
-    ghost use Rattle.std.specs.Prelude.{All, map};
+    ghost use Rattle.std.specs.Prelude.{map};
     ghost use Rattle.bpf_buffering.specs.Album.{AlbumState};
-    ghost use Rattle.bpf_buffering.specs.Private.Kept.{kept_state, FitsHost};
+    ghost use Rattle.bpf_buffering.specs.Private.Kept.{kept_state, IsAlbum};
 
     ghost Value = { AlbumState };
 
@@ -138,7 +119,7 @@ impl Model for Album {
       kept = map (kept_state a.machine.machine.programs) a.kept.items;
     } };
 
-    ghost invariant = { λ a. All (FitsHost a.machine) a.kept.items };
+    ghost invariant = { λ a. IsAlbum a.machine a.kept.items a.slots.items };
 }
 
 impl Album {
@@ -146,7 +127,8 @@ impl Album {
     ghost use Rattle.bpf_x86.specs.Machine.{TurnOf, FlushOf};
     ghost use Rattle.bpf_buffering.specs.Search.{BufferedState, MovesTo, CannotMove, IsKeptAsX86};
     ghost use Rattle.bpf_buffering.specs.Buffering.{TurnsTo};
-    ghost use Rattle.bpf_buffering.specs.Album.{HaveEndedAt};
+    ghost use Rattle.bpf_buffering.specs.Album.{AreApart, HaveEndedAt};
+    ghost use Rattle.bpf_buffering.specs.Private.Kept.{IsNew};
 
     /// Nothing is kept yet.
     fn empty(alloc: Global, machine: Buffering) -> Album
@@ -238,6 +220,7 @@ impl Album {
 
     /// Keeps the machine as it is.
     fn keep_new(&mut self) -> Result<(), AllocError>
+        requires { IsNew self.old }
         ensures adds { OnOk result (self.new.kept ≡ self.old.kept ++ self.old.machine ∷ []) }
         ensures err { OnErr result (self.new.kept ≡ self.old.kept) }
         ensures machine { self.new.machine ≡ self.old.machine }
@@ -257,6 +240,7 @@ impl Album {
     fn finds(&mut self) -> Result<bool, AllocError>
         ensures found { IfOk result
             (λ found. found ≡ true → IsKeptAsX86 self.old.kept self.old.machine) }
+        ensures none { IfOk result (λ found. found ≡ false → IsNew self.old) }
         ensures same { self.new ≡ self.old }
     {
         save_store(self.machine.store(), &mut self.bytes)?;

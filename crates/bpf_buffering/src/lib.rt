@@ -5,6 +5,7 @@ mod album;
 mod buffering;
 mod jobs;
 pub mod laws;
+mod slots;
 mod waiting;
 
 pub use album::Album;

@@ -1,13 +1,15 @@
 //! States of a machine that are kept as they are, found again, and taken again.
 
-ghost use Rattle.std.specs.Prelude.{◌≡◌, true, false, IfOk, OnOk, OnErr, map};
+ghost use Rattle.std.specs.Prelude.{◌≡◌, true, false, IfOk, OnOk, OnErr, fold, map};
 ghost use Rattle.bpf_plain.specs.PlainStore.{IsSavedAs};
+ghost use Rattle.bpf_cpu.specs.Task.{InHand};
+ghost use Rattle.bpf_machine.specs.Hashes.{mix, stage_hash};
 ghost use Rattle.bpf_machine.specs.Kept.{kept_stage};
 ghost use Rattle.bpf_machine.specs.Rounds.{HaveEnded};
 ghost use Rattle.bpf_x86.specs.Machine.{X86};
 ghost use Rattle.bpf_buffering.specs.Search.{ShowsX86};
 ghost use Rattle.bpf_buffering.specs.Jobs.{task_of, tasks_of};
-ghost use Rattle.bpf_buffering.specs.Private.Kept.{kept_state, FitsHost};
+ghost use Rattle.bpf_buffering.specs.Private.Kept.{jobs_hash, buffer_hash, state_hash, kept_state, FitsHost, IsTwin};
 
 use super::Buffering;
 use crate::jobs::Listed;
@@ -45,7 +47,8 @@ fn copy_stage(alloc: Global, stage: &KeptStage) -> Result<KeptStage, AllocError>
 
 /// Whether two jobs are equally far.
 fn is_same_stage(one: &KeptStage, other: &KeptStage) -> bool
-    ensures { result ≡ true → kept_stage one.now ≡ kept_stage other.now }
+    ensures same { result ≡ true → kept_stage one.now ≡ kept_stage other.now }
+    ensures differs { result ≡ false → kept_stage one.now ≡ kept_stage other.now → ⊥ }
 {
     match one {
         KeptStage::Waiting(input) => match other {
@@ -78,7 +81,8 @@ fn copy_job(alloc: Global, job: &Listed) -> Result<Listed, AllocError>
 
 /// Whether two jobs are the same.
 fn is_same_job(one: &Listed, other: &Listed) -> bool
-    ensures { result ≡ true → task_of one.now ≡ task_of other.now }
+    ensures same { result ≡ true → task_of one.now ≡ task_of other.now }
+    ensures differs { result ≡ false → task_of one.now ≡ task_of other.now → ⊥ }
 {
     one.cpu == other.cpu
         && one.program == other.program
@@ -99,7 +103,8 @@ fn copy_jobs(alloc: Global, jobs: &[Listed]) -> Result<Vec<Listed>, AllocError>
 
 /// Whether jobs are the same, in their order.
 fn are_same_jobs(one: &[Listed], other: &[Listed]) -> bool
-    ensures { result ≡ true → tasks_of one.now ≡ tasks_of other.now }
+    ensures same { result ≡ true → tasks_of one.now ≡ tasks_of other.now }
+    ensures differs { result ≡ false → tasks_of one.now ≡ tasks_of other.now → ⊥ }
 {
     if one.len() != other.len() {
         return false;
@@ -128,14 +133,16 @@ fn copy_buffers(alloc: Global, buffers: &[Vec<Stored>]) -> Result<Vec<Vec<Stored
 
 /// Whether it is the same store that waits.
 fn is_same_stored(one: Stored, other: Stored) -> bool
-    ensures { result ≡ true → one ≡ other }
+    ensures same { result ≡ true → one ≡ other }
+    ensures differs { result ≡ false → one ≡ other → ⊥ }
 {
     one == other
 }
 
 /// Whether the same waits of a CPU.
 fn is_same_buffer(one: &[Stored], other: &[Stored]) -> bool
-    ensures { result ≡ true → one.now ≡ other.now }
+    ensures same { result ≡ true → one.now ≡ other.now }
+    ensures differs { result ≡ false → one.now ≡ other.now → ⊥ }
 {
     if one.len() != other.len() {
         return false;
@@ -150,7 +157,9 @@ fn is_same_buffer(one: &[Stored], other: &[Stored]) -> bool
 
 /// Whether the same waits.
 fn are_same_buffers(one: &[Vec<Stored>], other: &[Vec<Stored>]) -> bool
-    ensures { result ≡ true → map (λ b. b.items) one.now ≡ map (λ b. b.items) other.now }
+    ensures same { result ≡ true → map (λ b. b.items) one.now ≡ map (λ b. b.items) other.now }
+    ensures differs { result ≡ false
+        → map (λ b. b.items) one.now ≡ map (λ b. b.items) other.now → ⊥ }
 {
     if one.len() != other.len() {
         return false;
@@ -165,7 +174,8 @@ fn are_same_buffers(one: &[Vec<Stored>], other: &[Vec<Stored>]) -> bool
 
 /// Whether the bytes are the same.
 fn are_same_bytes(one: &[u8], other: &[u8]) -> bool
-    ensures { result ≡ true → one.now ≡ other.now }
+    ensures same { result ≡ true → one.now ≡ other.now }
+    ensures differs { result ≡ false → one.now ≡ other.now → ⊥ }
 {
     one == other
 }
@@ -184,30 +194,81 @@ fn copy_store(alloc: Global, store: &PlainStore) -> Result<PlainStore, AllocErro
     Ok(copy)
 }
 
-/// A number by which a state is looked for: of its jobs.
-fn hash_of_jobs(first: u64, jobs: &[Listed]) -> u64 {
+/// One more number of what is hashed.
+fn mix(hash: u64, number: u64) -> u64
+    ensures { result ≡ mix hash number }
+{
+    spread(hash ^ number)
+}
+
+/// A number by which a state is found: of what its store is saved as.
+fn hash_of_bytes(bytes: &[u8]) -> u64
+    ensures { result ≡ fold mix 0 bytes.now }
+{
+    bytes
+        .iter()
+        .fold(0, |hash: u64, byte| spread(hash ^ u64::from(*byte)))
+}
+
+/// And of a job in hand.
+fn hash_of_hand(first: u64, cpu: &Cpu, left: u64) -> u64
+    ensures { result ≡ stage_hash first (InHand cpu.now left) }
+{
+    let hash = mix(mix(first, cpu.pc as u64), left);
+    cpu.registers
+        .iter()
+        .fold(hash, |hash: u64, word| spread(hash ^ *word))
+}
+
+/// And of how far a job is.
+fn hash_of_stage(first: u64, stage: &KeptStage) -> u64
+    ensures { result ≡ stage_hash first (kept_stage stage.now) }
+{
+    match stage {
+        KeptStage::Waiting(_) => mix(first, 1),
+        KeptStage::InHand(cpu, left) => hash_of_hand(first, cpu, *left),
+        KeptStage::Ended(_) => mix(first, 2),
+    }
+}
+
+/// And of all jobs.
+fn hash_of_jobs(first: u64, jobs: &[Listed]) -> u64
+    ensures { result ≡ jobs_hash first (tasks_of jobs.now) }
+{
     let mut hash = first;
     for job in jobs {
-        let far = match &job.stage {
-            KeptStage::Waiting(_) => 1,
-            KeptStage::InHand(cpu, left) => (cpu.pc as u64).wrapping_add(left.wrapping_shl(20)),
-            KeptStage::Ended(_) => 2,
-        };
-        hash = spread(hash ^ far);
+        hash = hash_of_stage(hash, &job.stage);
     }
     hash
 }
 
-/// And of what waits.
-fn hash_of_buffers(first: u64, buffers: &[Vec<Stored>]) -> u64 {
-    let mut hash = first;
-    for buffer in buffers {
-        hash = spread(hash ^ buffer.len() as u64);
-        for stored in buffer {
-            hash = spread(hash ^ stored.word ^ stored.at);
-        }
+/// And of what waits of a CPU.
+fn hash_of_buffer(first: u64, buffer: &[Stored]) -> u64
+    ensures { result ≡ buffer_hash first buffer.now }
+{
+    let mut hash = mix(first, buffer.len() as u64);
+    for stored in buffer {
+        hash = mix(mix(hash, stored.at), stored.word);
     }
     hash
+}
+
+/// And of all that waits.
+fn hash_of_buffers(first: u64, buffers: &[Vec<Stored>]) -> u64
+    ensures { result ≡ fold buffer_hash first (map (λ b. b.items) buffers.now) }
+{
+    let mut hash = first;
+    for buffer in buffers {
+        hash = hash_of_buffer(hash, buffer);
+    }
+    hash
+}
+
+/// A number by which a state is found.
+fn hash_of(jobs: &[Listed], buffers: &[Vec<Stored>], bytes: &[u8]) -> u64
+    ensures { result ≡ state_hash bytes.now (tasks_of jobs.now) (map (λ b. b.items) buffers.now) }
+{
+    hash_of_buffers(hash_of_jobs(hash_of_bytes(bytes), jobs), buffers)
 }
 
 /// A state as it was.
@@ -224,7 +285,9 @@ pub(crate) struct Kept {
 
 impl Kept {
     /// A number by which it is looked for.
-    pub(crate) fn hash(&self) -> u64 {
+    pub(crate) fn hash(&self) -> u64
+        ensures { result ≡ self.now.hash }
+    {
         self.hash
     }
 
@@ -254,7 +317,7 @@ impl Buffering {
         let store = copy_store(alloc, self.here.store())?;
         let jobs = copy_jobs(alloc, &self.jobs)?;
         let buffers = copy_buffers(alloc, &self.buffers)?;
-        let hash = self.hash(bytes);
+        let hash = hash_of(&jobs, &buffers, bytes);
         Ok(Kept {
             store,
             bytes: saved,
@@ -268,8 +331,9 @@ impl Buffering {
     pub(crate) fn is_as(&self, kept: &Kept, bytes: &[u8]) -> bool
         requires saved { IsSavedAs self.now.machine.store bytes.now }
         requires fits { FitsHost self.now kept.now }
-        ensures { result ≡ true → (x : X86) → ShowsX86 self.now x
+        ensures alike { result ≡ true → (x : X86) → ShowsX86 self.now x
             → ShowsX86 (kept_state self.now.machine.programs kept.now) x }
+        ensures differs { result ≡ false → IsTwin self.now kept.now → ⊥ }
     {
         if !are_same_bytes(&kept.bytes, bytes) {
             return false;
@@ -281,11 +345,11 @@ impl Buffering {
     }
 
     /// A number by which it is looked for among kept ones.
-    pub(crate) fn hash(&self, bytes: &[u8]) -> u64 {
-        let store = bytes
-            .iter()
-            .fold(0, |hash: u64, byte| spread(hash ^ u64::from(*byte)));
-        hash_of_buffers(hash_of_jobs(store, &self.jobs), &self.buffers)
+    pub(crate) fn hash(&self, bytes: &[u8]) -> u64
+        requires { IsSavedAs self.now.machine.store bytes.now }
+        ensures { (k : Kept) → FitsHost self.now k → IsTwin self.now k → result ≡ k.hash }
+    {
+        hash_of(&self.jobs, &self.buffers, bytes)
     }
 
     /// Becomes as a kept one was. Where memory is refused it stays as it is.

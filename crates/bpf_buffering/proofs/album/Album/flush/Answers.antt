@@ -2,11 +2,12 @@ use Rattle.std.proofs.Common.{◌≡◌, ◌∙◌, ap, sym, subst}
 use Rattle.bpf_x86.specs.Machine.{FlushOf}
 use Rattle.bpf_buffering.specs.Search.{BufferedState, MovesTo, CannotMove}
 use Rattle.bpf_buffering.specs.Album.{AlbumState}
-use Rattle.bpf_buffering.proofs.AlbumLaws.{all_fit_after, states_after}
+use Rattle.bpf_buffering.proofs.AlbumLaws.{states_after}
+use Rattle.bpf_buffering.proofs.Shelving.{album_after}
 use Rattle.bpf_buffering.proofs.album.Album.flush.Goals as goal
 
 pub invariant_of-self : goal.invariant_of-self
-invariant_of-self c = all_fit_after c.self.inside.machine c.flush.new.self c.self.inside.kept.items c.flush.ensures.host c.self.invariant
+invariant_of-self c = album_after c.self.inside.machine c.flush.new.self c.self.inside.kept.items c.self.inside.slots.items c.flush.ensures.host c.self.invariant
 
 pub returns-clause-flushed : goal.returns-clause-flushed
 returns-clause-flushed c is =

@@ -5,11 +5,12 @@ use Rattle.bpf_x86.specs.Machine.{TurnOf}
 use Rattle.bpf_buffering.specs.Search.{BufferedState, MovesTo}
 use Rattle.bpf_buffering.specs.Buffering.{TurnsTo}
 use Rattle.bpf_buffering.specs.Album.{AlbumState}
-use Rattle.bpf_buffering.proofs.AlbumLaws.{all_fit_after, states_after}
+use Rattle.bpf_buffering.proofs.AlbumLaws.{states_after}
+use Rattle.bpf_buffering.proofs.Shelving.{album_after}
 use Rattle.bpf_buffering.proofs.album.Album.turn.Goals as goal
 
 pub invariant_of-self : goal.invariant_of-self
-invariant_of-self c = all_fit_after c.self.inside.machine c.turn.new.self c.self.inside.kept.items c.turn.ensures.host c.self.invariant
+invariant_of-self c = album_after c.self.inside.machine c.turn.new.self c.self.inside.kept.items c.self.inside.slots.items c.turn.ensures.host c.self.invariant
 
 pub returns-clause-turns : goal.returns-clause-turns
 returns-clause-turns c =

@@ -1,10 +1,14 @@
 use Rattle.std.proofs.Common.{◌≡◌, map, List, [], ◌++◌, ℕ, refl, sym, ap, subst, ◌∙◌}
 use Rattle.bpf_plain.specs.PlainStore.{Contents, IsSavedAs}
 use Rattle.bpf_loader.specs.Loaded.{Loaded}
+use Rattle.std.specs.Prelude.{Vec}
+use Rattle.std.specs.declared.alloc.Global.{Global}
 use Rattle.bpf_buffering.specs.Search.{BufferedState}
+use Rattle.bpf_buffering.specs.declared.waiting.Stored.{Stored}
+use Rattle.bpf_buffering.specs.declared.jobs.Listed.{Listed}
 use Rattle.bpf_buffering.specs.Jobs.{tasks_of}
 use Rattle.bpf_buffering.specs.declared.buffering.keeping.Kept.{Kept}
-use Rattle.bpf_buffering.specs.Private.Kept.{quiet, kept_state}
+use Rattle.bpf_buffering.specs.Private.Kept.{quiet, kept_state, state_hash}
 use Rattle.bpf_buffering.proofs.Keeping.{same_state, same_board, fits_itself}
 use Rattle.bpf_buffering.proofs.Waits.{items_of}
 use Rattle.bpf_buffering.proofs.buffering.Buffering.keep.Goals as goal
@@ -12,7 +16,7 @@ use Rattle.bpf_buffering.proofs.buffering.Buffering.keep.Goals as goal
 pub returns-clause-state : goal.returns-clause-state
 returns-clause-state c =
     let m = c.self.inside in
-    let k : Kept = record { store = c.in_ok-store.store; bytes = c.extend_from_slice.new.self; jobs = c.in_ok-jobs.jobs; buffers = c.in_ok-buffers.buffers; hash = c.hash-hash.result } in
+    let k : Kept = record { store = c.in_ok-store.store; bytes = c.extend_from_slice.new.self; jobs = c.in_ok-jobs.jobs; buffers = c.in_ok-buffers.buffers; hash = c.hash_of-hash.result } in
     let store : k.store ≡ m.here.store = c.in_ok-store.ensures ∙ c.store.ensures in
     let jobs = c.in_ok-jobs.ensures ∙ ap tasks_of c.deref.ensures.value in
     let items = c.in_ok-buffers.ensures ∙ ap (map items_of) c.deref-2.ensures.value in
@@ -21,11 +25,13 @@ returns-clause-state c =
 pub returns-clause-fits : goal.returns-clause-fits
 returns-clause-fits c =
     let m = c.self.inside in
-    let k : Kept = record { store = c.in_ok-store.store; bytes = c.extend_from_slice.new.self; jobs = c.in_ok-jobs.jobs; buffers = c.in_ok-buffers.buffers; hash = c.hash-hash.result } in
+    let k : Kept = record { store = c.in_ok-store.store; bytes = c.extend_from_slice.new.self; jobs = c.in_ok-jobs.jobs; buffers = c.in_ok-buffers.buffers; hash = c.hash_of-hash.result } in
     let store : k.store ≡ m.here.store = c.in_ok-store.ensures ∙ c.store.ensures in
     let jobs = c.in_ok-jobs.ensures ∙ ap tasks_of c.deref.ensures.value in
     let items = c.in_ok-buffers.ensures ∙ ap (map items_of) c.deref-2.ensures.value in
     let is = same_state m.here (quiet k.store) m.programs.items m.jobs.items k.jobs.items m.buffers.items k.buffers.items store jobs items ∙ c.self.view_is in
     let bytes : k.bytes.items ≡ c.args.bytes.now = c.in_ok-extend_from_slice.ensures.items ∙ ap (λ (l : List ℕ). l ++ c.args.bytes.now) c.in_ok-saved.ensures.items in
     let saved : IsSavedAs k.store k.bytes.items = subst (λ (s : Contents). IsSavedAs s k.bytes.items) (ap (λ (s : BufferedState). s.machine.store) (sym is)) (subst (IsSavedAs c.args.self.now.machine.store) (sym bytes) c.requires) in
-    fits_itself c.args.self.now k m.programs.items is (same_board m.here (quiet k.store) m.programs.items m.jobs.items k.jobs.items m.buffers.items k.buffers.items store jobs items refl c.self.invariant) saved
+    let hashed : k.hash ≡ state_hash k.bytes.items (tasks_of k.jobs.items) (map items_of k.buffers.items) =
+    c.hash_of-hash.ensures ∙ ap (λ (l : List ℕ). state_hash l (tasks_of c.deref-3.result.now) (map items_of c.deref-4.result.now)) (sym bytes) ∙ ap (λ (l : List Listed). state_hash k.bytes.items (tasks_of l) (map items_of c.deref-4.result.now)) c.deref-3.ensures.value ∙ ap (λ (l : List (Vec Stored Global)). state_hash k.bytes.items (tasks_of k.jobs.items) (map items_of l)) c.deref-4.ensures.value in
+    fits_itself c.args.self.now k m.programs.items is (same_board m.here (quiet k.store) m.programs.items m.jobs.items k.jobs.items m.buffers.items k.buffers.items store jobs items refl c.self.invariant) saved hashed

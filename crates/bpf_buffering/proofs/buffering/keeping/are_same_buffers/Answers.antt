@@ -1,9 +1,14 @@
 use Rattle.std.proofs.Common.{refl, sym, ◌∙◌, arith}
-use Rattle.bpf_buffering.proofs.Copying.{next_same}
+use Rattle.bpf_buffering.proofs.Copying.{differ_at, next_same}
 use Rattle.bpf_buffering.proofs.Waits.{items_of}
 use Rattle.bpf_buffering.proofs.buffering.keeping.are_same_buffers.Goals as goal
 
+pub returns-then-not-is_same_buffer-clause-differs : goal.returns-then-not-is_same_buffer-clause-differs
+returns-then-not-is_same_buffer-clause-differs c is =
+    differ_at items_of c.args.one.now c.args.other.now c.loop-cpu.cpu c.index-one-cpu.result c.index-other-cpu.result (omega arith) (omega arith) c.index-one-cpu.is c.index-other-cpu.is
+    (λ same. c.if-not-is_same_buffer.ensures.differs refl (c.deref.ensures.value ∙ same ∙ sym c.deref-in-loop-cpu.ensures.value))
+
 pub loop-cpu-preserved : goal.loop-cpu-preserved
 loop-cpu-preserved c =
-    let same = sym c.deref.ensures.value ∙ c.if-not-is_same_buffer.ensures refl ∙ c.deref-in-loop-cpu.ensures.value in
+    let same = sym c.deref.ensures.value ∙ c.if-not-is_same_buffer.ensures.same refl ∙ c.deref-in-loop-cpu.ensures.value in
     next_same items_of c.args.one.now c.args.other.now c.loop-cpu.cpu c.index-one-cpu.result c.index-other-cpu.result (omega arith) (omega arith) c.index-one-cpu.is c.index-other-cpu.is same c.loop-cpu.invariant
