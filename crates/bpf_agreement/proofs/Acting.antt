@@ -62,8 +62,10 @@ AreCalm h Good w = (s m : Plain) (c : ℕ) (e : Event) (more : List Event) (t : 
 abbrev pub IsKeptUp : Shape → (Loaded → Cpu → Type 0) → Type 0
 IsKeptUp shape Good = (program : Loaded) (state mid : Cpu) → Good program state → Step shape program state [] On mid → Good program mid
 
-module _ (g : Given) (Good : Loaded → Cpu → Type 0) (w : World) (c j : ℕ) (task : Task) (state : Cpu) (left : ℕ) (s m : Plain) (z : World) (x : Entry) (xs : List Entry) (here : x.cpu ≡ c) (inside : c < g.shape.cpus)
-    (b : Beside g Good w (x ∷ xs) s z) (r : IsReady g c j task state left s z) (run : IsInRun g Good c j task state left (x.event ∷ events_of c xs)) (allowed : Allowed s c x.event m) where
+module _ (g : Given) (Good : Loaded → Cpu → Type 0) (w : World) (c j : ℕ) (task : Task) (state : Cpu) (left : ℕ) (s m : Plain) (z : World)
+    (x : Entry) (xs : List Entry) (here : x.cpu ≡ c) (inside : c < g.shape.cpus)
+    (b : Beside g Good w (x ∷ xs) s z) (r : IsReady g c j task state left s z)
+    (run : IsInRun g Good c j task state left (x.event ∷ events_of c xs)) (allowed : Allowed s c x.event m) where
   abbrev Reaches : Type 0
   Reaches = (y : World) × Beside g Good w xs m y
 
@@ -92,15 +94,18 @@ module _ (g : Given) (Good : Loaded → Cpu → Type 0) (w : World) (c j : ℕ) 
       let both : Beside g Good w xs (after_end s c) t.next =
       after g c j task state left s z r run.listed run.of (Ended run.end) u t Good w (x ∷ xs) xs (after_end s c) b inside refl
       (like_ended (after_end s c) r.store c (like_end s r.store c r.like))
-      (λ d ne. put-other s.running c d false ne) (λ d ne. put-other s.held c d never ne) (λ d ne. put-other r.store.running c d false ne) (λ d ne. put-other r.store.held c d never ne) others
+      (λ d ne. put-other s.running c d false ne) (λ d ne. put-other s.held c d never ne) (λ d ne. put-other r.store.running c d false ne)
+      (λ d ne. put-other r.store.held c d never ne) others
       (subst (Standing g Good c (after_end s c) t.next) (sym (tails x.event End (events_of c xs) run.rest is)) own) in
       (t.next, subst (λ (y : Plain). Beside g Good w xs y t.next) (sym ends.1) both)
 
   -- the turn makes the event, and the job ends
-  ends_by : (made : IsMadeToo s m r.store c x.event) (new : Cpu) (rest : ℕ) → Advances run.program c r.store state left (Some run.end) made.next new rest → events_of c xs ≡ End ∷ run.rest → Reaches
+  ends_by : (made : IsMadeToo s m r.store c x.event) (new : Cpu) (rest : ℕ) → Advances run.program c r.store state left (Some run.end)
+      made.next new rest → events_of c xs ≡ End ∷ run.rest → Reaches
   ends_by made new rest advances is =
       let u : Plain = after_end made.next c in
-      let t = goes_out z c j r.now state new left rest run.program run.end r.store made.next u r.next loaded advances ((ap (λ (f : ℕ → Bool). f c) made.runs ∙ r.runs_too, refl), tt) in
+      let t = goes_out z c j r.now state new left rest run.program run.end r.store made.next u r.next loaded advances
+      ((ap (λ (f : ℕ → Bool). f c) made.runs ∙ r.runs_too, refl), tt) in
       let own : Standing g Good c m t.next (events_of c xs) = Over (record {
         job = suc j;
         rest = run.rest;
@@ -111,12 +116,15 @@ module _ (g : Given) (Good : Loaded → Cpu → Type 0) (w : World) (c j : ℕ) 
       }) in (
         t.next,
         after g c j task state left s z r run.listed run.of (Ended run.end) u t Good w (x ∷ xs) xs m b inside made.shape (like_ended m made.next c made.like)
-            (λ d ne. ap (λ (f : ℕ → Bool). f d) made.ran) made.other (λ d ne. put-other made.next.running c d false ne ∙ ap (λ (f : ℕ → Bool). f d) made.runs) (λ d ne. put-other made.next.held c d never ne ∙ made.others d ne)
+            (λ d ne. ap (λ (f : ℕ → Bool). f d) made.ran) made.other
+            (λ d ne. put-other made.next.running c d false ne ∙ ap (λ (f : ℕ → Bool). f d) made.runs)
+            (λ d ne. put-other made.next.held c d never ne ∙ made.others d ne)
             others own,
       )
 
   -- the job is in hand after a turn
-  in_hand : (later : Plain) (events : List Event) (new : Cpu) (n : ℕ) (u : Plain) (t : Turns z c j r.now (InHand new n) u) → later.running c ≡ true → u.running c ≡ true → u.held c ≡ later.held c → IsInRun g Good c j task new n events
+  in_hand : (later : Plain) (events : List Event) (new : Cpu) (n : ℕ) (u : Plain) (t : Turns z c j r.now (InHand new n) u) → later.running c
+      ≡ true → u.running c ≡ true → u.held c ≡ later.held c → IsInRun g Good c j task new n events
       → IsGoing g Good c later t.next events
   in_hand later events new n u t runs runs_too holds run' = record {
     job = j;
@@ -133,18 +141,21 @@ module _ (g : Given) (Good : Loaded → Cpu → Type 0) (w : World) (c j : ℕ) 
   }
 
   -- the turn makes the event, and the job goes on
-  acts : (made : IsMadeToo s m r.store c x.event) (new : Cpu) (n : ℕ) → Advances run.program c r.store state left None made.next new n → IsInRun g Good c j task new n (events_of c xs) → Reaches
+  acts : (made : IsMadeToo s m r.store c x.event) (new : Cpu) (n : ℕ) → Advances run.program c r.store state left None made.next new n →
+      IsInRun g Good c j task new n (events_of c xs) → Reaches
   acts made new n advances run' =
       let t = goes_on z c j r.now state new left n run.program r.store made.next r.next loaded advances in
       let own : Standing g Good c m t.next (events_of c xs) =
-      Going (in_hand m (events_of c xs) new n made.next t (ap (λ (f : ℕ → Bool). f c) made.ran ∙ r.runs) (ap (λ (f : ℕ → Bool). f c) made.runs ∙ r.runs_too) made.own run') in (
+      Going (in_hand m (events_of c xs) new n made.next t (ap (λ (f : ℕ → Bool). f c) made.ran ∙ r.runs)
+      (ap (λ (f : ℕ → Bool). f c) made.runs ∙ r.runs_too) made.own run') in (
         t.next,
         after g c j task state left s z r run.listed run.of (InHand new n) made.next t Good w (x ∷ xs) xs m b inside made.shape made.like
             (λ d ne. ap (λ (f : ℕ → Bool). f d) made.ran) made.other (λ d ne. ap (λ (f : ℕ → Bool). f d) made.runs) made.others others own,
       )
 
   -- a turn without an event, after which the job goes on
-  quiet : (new : Cpu) (n : ℕ) → Advances run.program c r.store state left None r.store new n → IsInRun g Good c j task new n (x.event ∷ events_of c xs) → (y : World) × Beside g Good w (x ∷ xs) s y × IsReady g c j task new n s y
+  quiet : (new : Cpu) (n : ℕ) → Advances run.program c r.store state left None r.store new n → IsInRun g Good c j task new n
+      (x.event ∷ events_of c xs) → (y : World) × Beside g Good w (x ∷ xs) s y × IsReady g c j task new n s y
   unfolding in_hand
   quiet new n advances run' =
       let t = goes_on z c j r.now state new left n run.program r.store r.store r.next loaded advances in
@@ -158,7 +169,8 @@ module _ (g : Given) (Good : Loaded → Cpu → Type 0) (w : World) (c j : ℕ) 
   -- ---- one turn
   module _ (up : IsKeptUp g.shape Good) (calm : AreCalm g.shape Good w) where
     -- the rest of the run after a step that goes on
-    left_over : (rest events : List Event) (mid : Cpu) (n : ℕ) → Good run.program mid → MakesSteps g.shape run.program n mid rest run.end run.last → events ≡ rest ++ End ∷ run.rest
+    left_over : (rest events : List Event) (mid : Cpu) (n : ℕ) → Good run.program mid → MakesSteps g.shape run.program n mid rest run.end
+        run.last → events ≡ rest ++ End ∷ run.rest
         → IsInRun g Good c j task mid n events
     left_over rest events mid n good makes is = record {
       listed = run.listed;
@@ -177,7 +189,8 @@ module _ (g : Given) (Good : Loaded → Cpu → Type 0) (w : World) (c j : ℕ) 
     }
 
     -- a step whose first event is this one has no other
-    alone : (n : ℕ) → left ≡ suc n → (e : Event) (more : List Event) (answer : Progress) (new : Cpu) → Step g.shape run.program state (e ∷ more) answer new → x.event ≡ e → (more ≡ []) × LeavesMaps x.event × (answer ≡ On → Good run.program new)
+    alone : (n : ℕ) → left ≡ suc n → (e : Event) (more : List Event) (answer : Progress) (new : Cpu) → Step g.shape run.program state
+        (e ∷ more) answer new → x.event ≡ e → (more ≡ []) × LeavesMaps x.event × (answer ≡ On → Good run.program new)
     alone n lefts e more answer new step same = calm s m c x.event more (record {
       schedule = b.schedule;
       world = z;
@@ -194,7 +207,8 @@ module _ (g : Given) (Good : Loaded → Cpu → Type 0) (w : World) (c j : ℕ) 
       good = run.good;
       answer = answer;
       new = new;
-      step = subst (λ (h : Shape). Step h run.program state (x.event ∷ more) answer new) shape (subst (λ (f : Event). Step g.shape run.program state (f ∷ more) answer new) (sym same) step);
+      step = subst (λ (h : Shape). Step h run.program state (x.event ∷ more) answer new) shape
+          (subst (λ (f : Event). Step g.shape run.program state (f ∷ more) answer new) (sym same) step);
       like = r.like;
       runs_too = r.runs_too;
       holds = r.holds;
@@ -205,10 +219,12 @@ module _ (g : Given) (Good : Loaded → Cpu → Type 0) (w : World) (c j : ℕ) 
     made leaves = made_too s m r.store c x.event r.like r.runs_too r.holds leaves allowed
 
     -- that step, over the machine's store
-    makes_it : (e : Event) (more : List Event) (answer : Progress) (new : Cpu) → x.event ≡ e → more ≡ [] → Step g.shape run.program state (e ∷ more) answer new → Step r.store.shape run.program state (x.event ∷ []) answer new
+    makes_it : (e : Event) (more : List Event) (answer : Progress) (new : Cpu) → x.event ≡ e → more ≡ [] → Step g.shape run.program state
+        (e ∷ more) answer new → Step r.store.shape run.program state (x.event ∷ []) answer new
     makes_it e more answer new same none step =
         subst (λ (h : Shape). Step h run.program state (x.event ∷ []) answer new) shape
-        (subst (λ (f : Event). Step g.shape run.program state (f ∷ []) answer new) (sym same) (subst (λ (es : List Event). Step g.shape run.program state (e ∷ es) answer new) none step))
+        (subst (λ (f : Event). Step g.shape run.program state (f ∷ []) answer new) (sym same)
+        (subst (λ (es : List Event). Step g.shape run.program state (e ∷ es) answer new) none step))
 
     quietly : (answer : Progress) (new : Cpu) → Step g.shape run.program state [] answer new → Step r.store.shape run.program state [] answer new
     quietly answer new step = subst (λ (h : Shape). Step h run.program state [] answer new) shape step
@@ -216,7 +232,8 @@ module _ (g : Given) (Good : Loaded → Cpu → Type 0) (w : World) (c j : ℕ) 
     -- the last step
     last_step : (n : ℕ) → left ≡ suc n → (steps : List Event) → run.steps ≡ steps → Step g.shape run.program state steps (Done run.end) run.last → Reaches
     last_step n lefts [] none step =
-        let a : Advances run.program c r.store state (suc n) (Some run.end) r.store run.last n = ([], Done run.end, quietly (Done run.end) run.last step, refl, refl, refl) in
+        let a : Advances run.program c r.store state (suc n) (Some run.end) r.store run.last n =
+        ([], Done run.end, quietly (Done run.end) run.last step, refl, refl, refl) in
         finishes run.last n (subst (λ (k : ℕ). Advances run.program c r.store state k (Some run.end) r.store run.last n) (sym lefts) a) none
     last_step n lefts (e ∷ more) is step =
         let all : x.event ∷ events_of c xs ≡ e ∷ (more ++ End ∷ run.rest) = run.is ∙ ap (λ (es : List Event). es ++ End ∷ run.rest) is in
@@ -229,14 +246,17 @@ module _ (g : Given) (Good : Loaded → Cpu → Type 0) (w : World) (c j : ℕ) 
         (tails x.event e (events_of c xs) (more ++ End ∷ run.rest) all ∙ ap (λ (es : List Event). es ++ End ∷ run.rest) one.0)
 
     -- a step that goes on, where the budget has none left after it, or some
-    module _ (again : (n : ℕ) (y : World) (new : Cpu) → left ≡ suc n → Beside g Good w (x ∷ xs) s y → IsReady g c j task new n s y → IsInRun g Good c j task new n (x.event ∷ events_of c xs) → Reaches) where
-      step_on : (n : ℕ) → left ≡ suc n → (first rest : List Event) (mid : Cpu) → run.steps ≡ first ++ rest → Step g.shape run.program state first On mid → MakesSteps g.shape run.program n mid rest run.end run.last → Reaches
+    module _ (again : (n : ℕ) (y : World) (new : Cpu) → left ≡ suc n → Beside g Good w (x ∷ xs) s y → IsReady g c j task new n s y → IsInRun
+        g Good c j task new n (x.event ∷ events_of c xs) → Reaches) where
+      step_on : (n : ℕ) → left ≡ suc n → (first rest : List Event) (mid : Cpu) → run.steps ≡ first ++ rest → Step g.shape run.program state
+          first On mid → MakesSteps g.shape run.program n mid rest run.end run.last → Reaches
       step_on zero lefts [] rest mid is step makes =
           let a : Advances run.program c r.store state 1 (Some run.end) r.store mid 0 = ([], On, quietly On mid step, refl, ap Some makes.1, refl) in
           finishes mid 0 (subst (λ (k : ℕ). Advances run.program c r.store state k (Some run.end) r.store mid 0) (sym lefts) a) (is ∙ makes.0)
       step_on (suc n) lefts [] rest mid is step makes =
           let a : Advances run.program c r.store state (suc (suc n)) None r.store mid (suc n) = ([], On, quietly On mid step, refl, refl, refl) in
-          let run' : IsInRun g Good c j task mid (suc n) (x.event ∷ events_of c xs) = left_over rest (x.event ∷ events_of c xs) mid (suc n) (up run.program state mid run.good step) makes (run.is ∙ ap (λ (es : List Event). es ++ End ∷ run.rest) is) in
+          let run' : IsInRun g Good c j task mid (suc n) (x.event ∷ events_of c xs) = left_over rest (x.event ∷ events_of c xs) mid (suc n)
+          (up run.program state mid run.good step) makes (run.is ∙ ap (λ (es : List Event). es ++ End ∷ run.rest) is) in
           let q = quiet mid (suc n) (subst (λ (k : ℕ). Advances run.program c r.store state k None r.store mid (suc n)) (sym lefts) a) run' in
           again (suc n) q.0 mid lefts q.1 q.2 run'
       step_on n lefts (e ∷ more) rest mid is step makes =
@@ -248,14 +268,19 @@ module _ (g : Given) (Good : Loaded → Cpu → Type 0) (w : World) (c j : ℕ) 
           tails x.event e (events_of c xs) ((more ++ rest) ++ End ∷ run.rest) all ∙ ap (λ (es : List Event). (es ++ rest) ++ End ∷ run.rest) one.0 in
           act n lefts rest mid (one.2 refl) makes made_here (makes_it e more On mid same one.0 step) later
         where
-          act : (n : ℕ) → left ≡ suc n → (rest : List Event) (mid : Cpu) → Good run.program mid → MakesSteps g.shape run.program n mid rest run.end run.last → (made_here : IsMadeToo s m r.store c x.event)
+          act : (n : ℕ) → left ≡ suc n → (rest : List Event) (mid : Cpu) → Good run.program mid → MakesSteps g.shape run.program n mid rest
+              run.end run.last → (made_here : IsMadeToo s m r.store c x.event)
               → Step r.store.shape run.program state (x.event ∷ []) On mid → events_of c xs ≡ rest ++ End ∷ run.rest → Reaches
           act zero lefts rest mid good makes made_here it later =
-              let a : Advances run.program c r.store state 1 (Some run.end) made_here.next mid 0 = (x.event ∷ [], On, it, (made_here.next, made_here.allowed, refl), ap Some makes.1, refl) in
-              ends_by made_here mid 0 (subst (λ (k : ℕ). Advances run.program c r.store state k (Some run.end) made_here.next mid 0) (sym lefts) a) (later ∙ ap (λ (es : List Event). es ++ End ∷ run.rest) makes.0)
+              let a : Advances run.program c r.store state 1 (Some run.end) made_here.next mid 0 =
+              (x.event ∷ [], On, it, (made_here.next, made_here.allowed, refl), ap Some makes.1, refl) in
+              ends_by made_here mid 0 (subst (λ (k : ℕ). Advances run.program c r.store state k (Some run.end) made_here.next mid 0)
+              (sym lefts) a) (later ∙ ap (λ (es : List Event). es ++ End ∷ run.rest) makes.0)
           act (suc n) lefts rest mid good makes made_here it later =
-              let a : Advances run.program c r.store state (suc (suc n)) None made_here.next mid (suc n) = (x.event ∷ [], On, it, (made_here.next, made_here.allowed, refl), refl, refl) in
-              acts made_here mid (suc n) (subst (λ (k : ℕ). Advances run.program c r.store state k None made_here.next mid (suc n)) (sym lefts) a) (left_over rest (events_of c xs) mid (suc n) good makes later)
+              let a : Advances run.program c r.store state (suc (suc n)) None made_here.next mid (suc n) =
+              (x.event ∷ [], On, it, (made_here.next, made_here.allowed, refl), refl, refl) in
+              acts made_here mid (suc n) (subst (λ (k : ℕ). Advances run.program c r.store state k None made_here.next mid (suc n))
+              (sym lefts) a) (left_over rest (events_of c xs) mid (suc n) good makes later)
 
       -- the turn of a job that has a step left
       pub one_turn : (n : ℕ) → left ≡ suc n → MakesSteps g.shape run.program (suc n) state run.steps run.end run.last → Reaches
@@ -269,15 +294,19 @@ module _ (g : Given) (Good : Loaded → Cpu → Type 0) (w : World) (c j : ℕ) 
       finishes state 0 (subst (λ (k : ℕ). Advances run.program c r.store state k (Some run.end) r.store state 0) (sym lefts) a) makes.0
 
 -- turns of the CPU, until the event is made
-pub goes : (g : Given) (Good : Loaded → Cpu → Type 0) (w : World) → IsKeptUp g.shape Good → AreCalm g.shape Good w → (left : ℕ) (c j : ℕ) (task : Task) (state : Cpu) (s m : Plain) (z : World) (x : Entry) (xs : List Entry)
-    → x.cpu ≡ c → c < g.shape.cpus → Beside g Good w (x ∷ xs) s z → IsReady g c j task state left s z → IsInRun g Good c j task state left (x.event ∷ events_of c xs) → Allowed s c x.event m
+pub goes : (g : Given) (Good : Loaded → Cpu → Type 0) (w : World) → IsKeptUp g.shape Good → AreCalm g.shape Good w → (left : ℕ) (c j : ℕ)
+    (task : Task) (state : Cpu) (s m : Plain) (z : World) (x : Entry) (xs : List Entry)
+    → x.cpu ≡ c → c < g.shape.cpus → Beside g Good w (x ∷ xs) s z → IsReady g c j task state left s z → IsInRun g Good c j task state left
+    (x.event ∷ events_of c xs) → Allowed s c x.event m
     → (y : World) × Beside g Good w xs m y
-goes g Good w up calm zero c j task state s m z x xs here inside b r run allowed = no_turn g Good w c j task state 0 s m z x xs here inside b r run allowed refl run.makes
+goes g Good w up calm zero c j task state s m z x xs here inside b r run allowed = no_turn g Good w c j task state 0 s m z x xs here inside
+    b r run allowed refl run.makes
 goes g Good w up calm (suc n) c j task state s m z x xs here inside b r run allowed =
     one_turn g Good w c j task state (suc n) s m z x xs here inside b r run allowed up calm
     (λ k y new lefts both ready run'.
     let same : k ≡ n = one_less k n lefts in
-    goes g Good w up calm n c j task new s m y x xs here inside both (subst (λ (i : ℕ). IsReady g c j task new i s y) same ready) (subst (λ (i : ℕ). IsInRun g Good c j task new i (x.event ∷ events_of c xs)) same run') allowed)
+    goes g Good w up calm n c j task new s m y x xs here inside both (subst (λ (i : ℕ). IsReady g c j task new i s y) same ready)
+    (subst (λ (i : ℕ). IsInRun g Good c j task new i (x.event ∷ events_of c xs)) same run') allowed)
     n refl run.makes
   where
     one_less : (k n : ℕ) → suc n ≡ suc k → k ≡ n

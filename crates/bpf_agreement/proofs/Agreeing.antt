@@ -48,7 +48,8 @@ same_store s t sound sound_too idle like =
 
 module _ (law : WritesAreDetermined) (one_begins : OneInstructionBegins) (replies : CallsHaveOneReply) (legal_sound : LegalIsSound)
     (h : Shape) (programs : List Loaded) (tasks : List Task) (ends : List Outcome) (lists : ℕ → List (List (List ℕ))) (history : List Entry) (last : Plain)
-    (w : World) (first : w.store ≡ as_made h) (has : w.programs ≡ programs) (jobs : w.jobs ≡ tasks) (is_shape : IsShape h) (fresh : IsFresh w) (few : length tasks < 2 ^ 62)
+    (w : World) (first : w.store ≡ as_made h) (has : w.programs ≡ programs) (jobs : w.jobs ≡ tasks) (is_shape : IsShape h)
+    (fresh : IsFresh w) (few : length tasks < 2 ^ 62)
     (explained : IsExplained h 0 [] programs tasks false ends lists history) (legal : Legal (as_made h) history last) where
   abbrev pub given : Given
   given = record { shape = h; programs = programs; tasks = tasks; ends = ends }
@@ -59,7 +60,9 @@ module _ (law : WritesAreDetermined) (one_begins : OneInstructionBegins) (replie
   pub runs_of : (c : ℕ) → c < h.cpus → HasRunsFrom given c 0 (events_of c history)
   runs_of c inside =
       let nothing : lists c ≡ [] = none_listed (lists c) (explained.each_listed c inside) in
-      let mine = subst (λ (ls : List (List (List ℕ))). ExplainsJobs h 0 programs [] (jobs_of c tasks) (ends_of c tasks ends) (keys_events 0 ls) (events_of c history)) nothing (subst (λ (es : List Entry). ExplainsJobs h 0 programs [] (jobs_of c tasks) (ends_of c tasks ends) (keys_events 0 (lists c)) (events_of c es)) (sym explained.begins) (explained.explained c inside)) in
+      let mine = subst (λ (ls : List (List (List ℕ))). ExplainsJobs h 0 programs [] (jobs_of c tasks) (ends_of c tasks ends)
+      (keys_events 0 ls) (events_of c history)) nothing (subst (λ (es : List Entry). ExplainsJobs h 0 programs [] (jobs_of c tasks)
+      (ends_of c tasks ends) (keys_events 0 (lists c)) (events_of c es)) (sym explained.begins) (explained.explained c inside)) in
       record {
         tasks = tasks;
         ends = ends;

@@ -85,7 +85,8 @@ module _ (s : Plain) (runs : ℕ → Bool) (k q : ℕ → ℕ → Bool) (c : ℕ
   })
 
   -- ---- writes
-  written : (m : Plain) (e : Event) (v a size x : ℕ) → m ≡ after_write s v a size x → PlainlyAllowed there c e (after_write there v a size x) → IsMadeToo s m there c e
+  written : (m : Plain) (e : Event) (v a size x : ℕ) → m ≡ after_write s v a size x → PlainlyAllowed there c e
+      (after_write there v a size x) → IsMadeToo s m there c e
   written m e v a size x same allowed = subst (λ (y : Plain). IsMadeToo s y there c e) (sym same) (record {
     next = after_write there v a size x;
     allowed = allowed;
@@ -101,10 +102,14 @@ module _ (s : Plain) (runs : ℕ → Bool) (k q : ℕ → ℕ → Bool) (c : ℕ
   made : (e : Event) (m : Plain) → LeavesMaps e → Allowed s c e m → IsMadeToo s m there c e
   made (Lookup m key found) t leaves a =
       looked t (Lookup m key found) (get (s.maps m) key) a.1.2 ((running, (a.1.0, a.1.1, refl)), tt)
-  made (Update m key bytes flags Invalid) t leaves a = nothing_changes s t there c _ a.1.4.1 refl own ((running, (a.1.0, a.1.1, a.1.2, a.1.3, (a.1.4.0, refl))), tt)
-  made (Update m key bytes flags Exists) t leaves a = nothing_changes s t there c _ a.1.4.1 refl own ((running, (a.1.0, a.1.1, a.1.2, a.1.3, (a.1.4.0, refl))), tt)
-  made (Update m key bytes flags Absent) t leaves a = nothing_changes s t there c _ a.1.4.1 refl own ((running, (a.1.0, a.1.1, a.1.2, a.1.3, (a.1.4.0, refl))), tt)
-  made (Update m key bytes flags Full) t leaves a = nothing_changes s t there c _ a.1.4.1 refl own ((running, (a.1.0, a.1.1, a.1.2, a.1.3, (a.1.4.0, refl))), tt)
+  made (Update m key bytes flags Invalid) t leaves a = nothing_changes s t there c _ a.1.4.1 refl own
+      ((running, (a.1.0, a.1.1, a.1.2, a.1.3, (a.1.4.0, refl))), tt)
+  made (Update m key bytes flags Exists) t leaves a = nothing_changes s t there c _ a.1.4.1 refl own
+      ((running, (a.1.0, a.1.1, a.1.2, a.1.3, (a.1.4.0, refl))), tt)
+  made (Update m key bytes flags Absent) t leaves a = nothing_changes s t there c _ a.1.4.1 refl own
+      ((running, (a.1.0, a.1.1, a.1.2, a.1.3, (a.1.4.0, refl))), tt)
+  made (Update m key bytes flags Full) t leaves a = nothing_changes s t there c _ a.1.4.1 refl own
+      ((running, (a.1.0, a.1.1, a.1.2, a.1.3, (a.1.4.0, refl))), tt)
   made (Delete m key Absent) t leaves a = nothing_changes s t there c _ a.1.1.1 refl own ((running, (a.1.0, (a.1.1.0, refl))), tt)
   made (Load at size found) t leaves a =
       nothing_changes s t there c _ a.1.3 refl own ((running, (a.1.0, reaches a.1.0 at (bytes_in size) a.1.1, a.1.2, refl)), tt)
@@ -115,7 +120,8 @@ module _ (s : Plain) (runs : ℕ → Bool) (k q : ℕ → ℕ → Bool) (c : ℕ
   made e t leaves a = absurd leaves
 
 -- a store that is like another has what it allows to a CPU that runs in both and holds the same
-pub made_too : (s m t : Plain) (c : ℕ) (e : Event) → IsLike s t → t.running c ≡ true → t.held c ≡ s.held c → LeavesMaps e → Allowed s c e m → IsMadeToo s m t c e
+pub made_too : (s m t : Plain) (c : ℕ) (e : Event) → IsLike s t → t.running c ≡ true → t.held c ≡ s.held c → LeavesMaps e → Allowed s c e m
+    → IsMadeToo s m t c e
 made_too s m t c e like running own leaves allowed =
     subst (λ (x : Plain). IsMadeToo s m x c e) (sym like) (made s t.running t.held t.kept c running own e m leaves allowed)
 

@@ -53,23 +53,32 @@ one_program p q e = cc
 module _ (h : Shape) (is_shape : IsShape h) (bare : h.maps ≡ []) where
   -- the state holds nothing, and from it on calls read outside of values
   abbrev IsGood : Loaded → Cpu → Type 0
-  IsGood program state = (state.held ≡ []) × ((steps n : ℕ) (now : Cpu) → LeadsInSteps h program steps state now → Begins program.instructions now.pc (CallHelper n) → AsksOnce n ⊎ ReadsOutside h.arrays n now.registers)
+  IsGood program state = (state.held ≡ []) × ((steps n : ℕ) (now : Cpu) → LeadsInSteps h program steps state now → Begins
+      program.instructions now.pc (CallHelper n) → AsksOnce n ⊎ ReadsOutside h.arrays n now.registers)
 
-  later : (program : Loaded) (state new : Cpu) (events : List Event) → Step h program state events On new → IsGood program state → new.held ≡ [] → IsGood program new
+  later : (program : Loaded) (state new : Cpu) (events : List Event) → Step h program state events On new → IsGood program state → new.held
+      ≡ [] → IsGood program new
   later program state new events step good none = (none, λ steps n now leads begins. good.1 (suc steps) n now (inr (events, new, step, leads)) begins)
 
-  one : (program : Loaded) (state new : Cpu) (events : List Event) (answer : Progress) → IsGood program state → Step h program state events answer new → IsOne events × (new.held ≡ [])
-  one program state new events answer good step = one_step h is_shape bare program state new events answer good.0 (λ n begins. good.1 0 n state refl begins) step
+  one : (program : Loaded) (state new : Cpu) (events : List Event) (answer : Progress) → IsGood program state → Step h program state events
+      answer new → IsOne events × (new.held ≡ [])
+  one program state new events answer good step = one_step h is_shape bare program state new events answer good.0
+      (λ n begins. good.1 0 n state refl begins) step
 
   up : IsKeptUp h IsGood
   up program state mid good step = later program state mid [] step good (one program state mid [] On good step).1
 
   calm : (w : World) → AreCalm h IsGood w
   calm w s m c e more t =
-      let step : Step h t.program t.state (e ∷ more) t.answer t.new = subst (λ (k : Shape). Step k t.program t.state (e ∷ more) t.answer t.new) t.shape t.step in
+      let step : Step h t.program t.state (e ∷ more) t.answer t.new = subst
+      (λ (k : Shape). Step k t.program t.state (e ∷ more) t.answer t.new) t.shape t.step in
       let r = one t.program t.state t.new (e ∷ more) t.answer t.good step in
-      let alone = single r.0 in
-      (alone.0, alone.1, λ on. later t.program t.state t.new (e ∷ more) (subst (λ (p : Progress). Step h t.program t.state (e ∷ more) p t.new) on step) t.good r.1)
+      let alone = single r.0 in (
+        alone.0,
+        alone.1,
+        λ on. later t.program t.state t.new (e ∷ more)
+            (subst (λ (p : Progress). Step h t.program t.state (e ∷ more) p t.new) on step) t.good r.1,
+      )
     where
       none_of : e ∷ more ≡ [] → ⊥
       none_of is = cc
@@ -78,7 +87,8 @@ module _ (h : Shape) (is_shape : IsShape h) (bare : h.maps ≡ []) where
       single (inl none) = absurd (none_of none)
       single (inr (f, is, leaves)) = (tails e f more [] is, subst LeavesMaps (sym (heads e f more [] is)) leaves)
 
-  good_first : (programs : List Loaded) (tasks : List Task) (ends : List Outcome) → All (IsReadWhole h programs) tasks → AreGoodFirst (record { shape = h; programs = programs; tasks = tasks; ends = ends }) IsGood
+  good_first : (programs : List Loaded) (tasks : List Task) (ends : List Outcome) → All (IsReadWhole h programs) tasks → AreGoodFirst
+      (record { shape = h; programs = programs; tasks = tasks; ends = ends }) IsGood
   good_first programs tasks ends whole k task input program at waits loaded =
       let is = all_at (IsReadWhole h programs) tasks k task whole at in
       let same : is.0 ≡ program = one_program is.0 program (sym is.1 ∙ loaded) in
@@ -86,8 +96,10 @@ module _ (h : Shape) (is_shape : IsShape h) (bare : h.maps ≡ []) where
       (refl, λ steps n now leads begins. outside task.cpu steps input now n leads begins)
 
 module _ (law : WritesAreDetermined) (begins : OneInstructionBegins) (replies : CallsHaveOneReply) (sound : LegalIsSound)
-    (h : Shape) (programs : List Loaded) (tasks : List Task) (ends : List Outcome) (lists : ℕ → List (List (List ℕ))) (history : List Entry) (last : Plain) (w : World)
-    (arrays : HasArraysAlone h programs tasks) (is : IsFirst h programs tasks w) (explained : IsExplained h 0 [] programs tasks false ends lists history) (legal : Legal (as_made h) history last) where
+    (h : Shape) (programs : List Loaded) (tasks : List Task) (ends : List Outcome) (lists : ℕ → List (List (List ℕ))) (history : List Entry)
+    (last : Plain) (w : World)
+    (arrays : HasArraysAlone h programs tasks) (is : IsFirst h programs tasks w)
+    (explained : IsExplained h 0 [] programs tasks false ends lists history) (legal : Legal (as_made h) history last) where
   fresh : IsFresh w
   fresh = record {
     store = subst (λ (s : Plain). IsSoundStore s) (sym is.store) (sound h [] (as_made h) arrays.shape refl);
@@ -96,22 +108,26 @@ module _ (law : WritesAreDetermined) (begins : OneInstructionBegins) (replies : 
 
   -- one CPU has all jobs
   alone : (c : ℕ) → c < h.cpus → ((k : ℕ) (task : Task) → slice_get tasks k ≡ Some task → task.cpu ≡ c) → LeadsToo w tasks ends last
-  alone = one_cpu_leads law begins replies sound h programs tasks ends lists history last w is.store is.programs is.jobs arrays.shape fresh arrays.few explained legal arrays.maps
+  alone = one_cpu_leads law begins replies sound h programs tasks ends lists history last w is.store is.programs is.jobs arrays.shape fresh
+      arrays.few explained legal arrays.maps
 
   alone_on : (c : ℕ) → All (λ (task : Task). task.cpu ≡ c) tasks → (some : List Task) → tasks ≡ some → LeadsToo w tasks ends last
-  alone_on c all [] none = alone 0 (positive h.cpus arrays.shape.cpus.0) (λ k task at. absurd (nothing task (ap (λ (ts : List Task). slice_get ts k) (sym none) ∙ at)))
+  alone_on c all [] none = alone 0 (positive h.cpus arrays.shape.cpus.0)
+      (λ k task at. absurd (nothing task (ap (λ (ts : List Task). slice_get ts k) (sym none) ∙ at)))
     where
       nothing : (x : Task) → None ≡ Some x → ⊥
       nothing x e = cc
   alone_on c all (one ∷ more) is_some =
       let at : slice_get tasks 0 ≡ Some one = ap (λ (ts : List Task). slice_get ts 0) is_some in
       let its : one.cpu ≡ c = all_at (λ (task : Task). task.cpu ≡ c) tasks 0 one all at in
-      alone c (subst (λ (k : ℕ). k < h.cpus) its (explained.each_has_cpu one 0 at)) (λ k task there. all_at (λ (task : Task). task.cpu ≡ c) tasks k task all there)
+      alone c (subst (λ (k : ℕ). k < h.cpus) its (explained.each_has_cpu one 0 at))
+      (λ k task there. all_at (λ (task : Task). task.cpu ≡ c) tasks k task all there)
 
   leads : AreOnOneCpu tasks ⊎ All (IsReadWhole h programs) tasks → LeadsToo w tasks ends last
   leads (inl one) = alone_on one.0 one.1 tasks refl
   leads (inr whole) =
-      leads_too law begins replies sound h programs tasks ends lists history last w is.store is.programs is.jobs arrays.shape fresh arrays.few explained legal (IsGood h arrays.shape arrays.maps)
+      leads_too law begins replies sound h programs tasks ends lists history last w is.store is.programs is.jobs arrays.shape fresh
+      arrays.few explained legal (IsGood h arrays.shape arrays.maps)
       (good_first h arrays.shape arrays.maps programs tasks ends whole) (up h arrays.shape arrays.maps) (calm h arrays.shape arrays.maps w)
 
 pub histories_are_schedules : WritesAreDetermined → OneInstructionBegins → CallsHaveOneReply → LegalIsSound → HistoriesAreSchedules

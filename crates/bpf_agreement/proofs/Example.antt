@@ -29,7 +29,8 @@ no_call (i ∷ is) [] after n none e = let first : i ≡ CallHelper n = cc in le
 no_call (i ∷ is) (b ∷ before) after n none e = let rest : is ≡ before ++ CallHelper n ∷ after = cc in no_call is before after n none.1 rest
 
 reads : AllReadOutside one_array stores_and_loads
-reads number steps input now helper leads begins = absurd (no_call stores_and_loads.instructions begins.before begins.after helper (refl, (refl, (refl, (refl, tt)))) begins.parts)
+reads number steps input now helper leads begins = absurd (no_call stores_and_loads.instructions begins.before begins.after helper
+    (refl, (refl, (refl, (refl, tt)))) begins.parts)
 
 -- ---- sizes
 no_map : (m : ℕ) (h : MapShape) → IsMap [] m h → IsMapShape h

@@ -1,5 +1,6 @@
 -- What explains how the jobs of a CPU ended is a run of each.
-use Rattle.std.proofs.Common.{◌≡◌, ◌≢◌, ℕ, suc, ◌+◌, ◌-◌, ◌*◌, ◌^◌, ◌<◌, ◌==◌, Bool, true, false, cond, if◌then◌else◌, List, [], ◌∷◌, ◌++◌, length, Some, ◌⊎◌, inl, inr, refl, sym, ap, subst, ◌∙◌, append_assoc, arith, eq-eqb}
+use Rattle.std.proofs.Common.{◌≡◌, ◌≢◌, ℕ, suc, ◌+◌, ◌-◌, ◌*◌, ◌^◌, ◌<◌, ◌==◌, Bool, true, false, cond, if◌then◌else◌, List, [], ◌∷◌, ◌++◌}
+use Rattle.std.proofs.Common.{length, Some, ◌⊎◌, inl, inr, refl, sym, ap, subst, ◌∙◌, append_assoc, arith, eq-eqb}
 use Rattle.std.specs.Prelude.{slice_get}
 use Rattle.std.proofs.lemmas.Bool.Decides.{nat_tests}
 use Rattle.bpf_shared.specs.declared.events.Event.{Event}
@@ -56,17 +57,21 @@ module _ (g : Given) (c : ℕ) where
   abbrev Explain : List Event → List Task → List Outcome → List Event → Type 0
   Explain before tasks ends events = ExplainsJobs g.shape 0 g.programs before tasks ends [] events
 
-  more_turns : (before mine : List Event) (jobs : ℕ) → turns_of mine ≡ 2 → turns_of before + 2 * suc jobs < 2 ^ 63 → turns_of (before ++ mine) + 2 * jobs < 2 ^ 63
+  more_turns : (before mine : List Event) (jobs : ℕ) → turns_of mine ≡ 2 → turns_of before + 2 * suc jobs < 2 ^ 63 → turns_of
+      (before ++ mine) + 2 * jobs < 2 ^ 63
   more_turns before mine jobs two few =
       let sum : turns_of (before ++ mine) ≡ turns_of before + 2 = turns_of-append before mine ∙ ap (λ (n : ℕ). turns_of before + n) two in
       subst (λ (n : ℕ). n + 2 * jobs < 2 ^ 63) (sym sum) (one_less (turns_of before) jobs few)
 
   -- a job that is the CPU's: it had its run, since the run counter isn't worn
-  own_run : (task : Task) (end : Outcome) (before mine : List Event) (jobs : ℕ) → turns_of before + 2 * suc jobs < 2 ^ 63 → (input : Input) → task.stage ≡ Waiting input → ExplainsJob g.shape 0 g.programs task end before mine
+  own_run : (task : Task) (end : Outcome) (before mine : List Event) (jobs : ℕ) → turns_of before + 2 * suc jobs < 2 ^ 63 → (input : Input)
+      → task.stage ≡ Waiting input → ExplainsJob g.shape 0 g.programs task end before mine
       → (rest events : List Event) → events ≡ mine ++ rest → HasRun g task end events rest × (turns_of mine ≡ 2)
   own_run task end before mine jobs few input waits job rest events is = from job.explained
     where
-      from : ((steps : List Event) × (last : Cpu) × (mine ≡ Begin ∷ (steps ++ End ∷ [])) × MakesSteps g.shape job.program task.budget (start task.cpu (waiting_input task.stage)) steps end last) ⊎ ((mine ≡ []) × (end ≡ Fault Worn 0) × IsWorn 0 before) → HasRun g task end events rest × (turns_of mine ≡ 2)
+      from : ((steps : List Event) × (last : Cpu) × (mine ≡ Begin ∷ (steps ++ End ∷ [])) × MakesSteps g.shape job.program task.budget
+          (start task.cpu (waiting_input task.stage)) steps end last) ⊎ ((mine ≡ []) × (end ≡ Fault Worn 0) × IsWorn 0 before) → HasRun g
+          task end events rest × (turns_of mine ≡ 2)
       from (inl (steps, last, made, makes)) = (
         record {
           input = input;
@@ -83,9 +88,12 @@ module _ (g : Given) (c : ℕ) where
       from (inr worn) = absurd (far (turns_of before) (suc jobs) few worn.2)
 
   -- one job and what is so of the others
-  one : (task : Task) (tasks : List Task) (end : Outcome) (ends : List Outcome) (before events : List Event) → ((input : Input) × (task.stage ≡ Waiting input)) → turns_of before + 2 * suc (length tasks) < 2 ^ 63
-      → ((so_far later : List Event) → turns_of so_far + 2 * length tasks < 2 ^ 63 → Explain so_far (jobs_of c tasks) (ends_of c tasks ends) later → HasRuns g c tasks ends later)
-      → (b : Bool) → (task.cpu == c) ≡ b → Explain before (cond b (task ∷ jobs_of c tasks) (jobs_of c tasks)) (if b then end ∷ ends_of c tasks ends else ends_of c tasks ends) events → HasRuns g c (task ∷ tasks) (end ∷ ends) events
+  one : (task : Task) (tasks : List Task) (end : Outcome) (ends : List Outcome) (before events : List Event) →
+      ((input : Input) × (task.stage ≡ Waiting input)) → turns_of before + 2 * suc (length tasks) < 2 ^ 63
+      → ((so_far later : List Event) → turns_of so_far + 2 * length tasks < 2 ^ 63 → Explain so_far (jobs_of c tasks) (ends_of c tasks ends)
+      later → HasRuns g c tasks ends later)
+      → (b : Bool) → (task.cpu == c) ≡ b → Explain before (cond b (task ∷ jobs_of c tasks) (jobs_of c tasks))
+      (if b then end ∷ ends_of c tasks ends else ends_of c tasks ends) events → HasRuns g c (task ∷ tasks) (end ∷ ends) events
   one task tasks end ends before events (input, waits) few others true its (mine, rest, is, job, more) =
       let of : task.cpu ≡ c = grind (arith, nat_tests) in
       let run = own_run task end before mine (length tasks) few input waits job rest events is in
@@ -94,14 +102,16 @@ module _ (g : Given) (c : ℕ) where
       let ne : task.cpu ≢ c = (λ e. let same : (task.cpu == c) ≡ true = eq-eqb task.cpu c e in cc) in
       inr (ne, others before events (passed (turns_of before) (length tasks) few) is)
 
-  pub has_runs : (tasks : List Task) (ends : List Outcome) (before events : List Event) → AreWaiting tasks → length ends ≡ length tasks → turns_of before + 2 * length tasks < 2 ^ 63
+  pub has_runs : (tasks : List Task) (ends : List Outcome) (before events : List Event) → AreWaiting tasks → length ends ≡ length tasks →
+      turns_of before + 2 * length tasks < 2 ^ 63
       → Explain before (jobs_of c tasks) (ends_of c tasks ends) events → HasRuns g c tasks ends events
   has_runs [] [] before events wait sizes few is = is
   has_runs [] (end ∷ ends) before events wait sizes few is = absurd (let no : suc (length ends) ≡ 0 = sizes in omega arith)
   has_runs (task ∷ tasks) [] before events wait sizes few is = absurd (let no : 0 ≡ suc (length tasks) = sizes in omega arith)
   has_runs (task ∷ tasks) (end ∷ ends) before events wait sizes few is =
       one task tasks end ends before events (wait 0 task refl) few
-      (λ so_far later few' is'. has_runs tasks ends so_far later (λ k t at. wait (suc k) t at) (one_size (length ends) (length tasks) sizes) few' is') (task.cpu == c) refl is
+      (λ so_far later few' is'. has_runs tasks ends so_far later (λ k t at. wait (suc k) t at) (one_size (length ends) (length tasks) sizes)
+      few' is') (task.cpu == c) refl is
     where
       one_size : (m n : ℕ) → suc m ≡ suc n → m ≡ n
       one_size m n e = omega arith

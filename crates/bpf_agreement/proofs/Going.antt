@@ -62,7 +62,8 @@ waiting_not_ended input end e = cc
 some_same : {A : Type 0} (x y : A) → Some x ≡ Some y → x ≡ y
 some_same x y e = cc
 
-apart : (tasks : List Task) (k j : ℕ) (one other : Task) (c : ℕ) → slice_get tasks k ≡ Some one → slice_get tasks j ≡ Some other → other.cpu ≡ c → one.cpu ≢ c → k ≢ j
+apart : (tasks : List Task) (k j : ℕ) (one other : Task) (c : ℕ) → slice_get tasks k ≡ Some one → slice_get tasks j ≡ Some other → other.cpu
+    ≡ c → one.cpu ≢ c → k ≢ j
 apart tasks k j one other c here there of ne same =
     let both : Some one ≡ Some other = sym here ∙ ap (slice_get tasks) same ∙ there in
     ne (ap (λ (t : Task). t.cpu) (some_same one other both) ∙ of)
@@ -89,7 +90,8 @@ pub record IsReady (g : Given) (c j : ℕ) (task : Task) (state : Cpu) (left : �
 abbrev pub AllWait : Given → Type 0
 AllWait g = (k : ℕ) (task : Task) → slice_get g.tasks k ≡ Some task → (input : Input) × (task.stage ≡ Waiting input)
 
-stage_of : (z : World) (k : ℕ) (one other : Task) (was now : Stage) → slice_get z.jobs k ≡ Some one → slice_get z.jobs k ≡ Some other → one.stage ≡ was → other.stage ≡ now → was ≡ now
+stage_of : (z : World) (k : ℕ) (one other : Task) (was now : Stage) → slice_get z.jobs k ≡ Some one → slice_get z.jobs k ≡ Some other →
+    one.stage ≡ was → other.stage ≡ now → was ≡ now
 stage_of z k one other was now a b p q = sym p ∙ ap (λ (t : Task). t.stage) (some_same one other (sym a ∙ b)) ∙ q
 
 pub idle_free : (g : Given) (z : World) (c j : ℕ) → AllWait g → HaveCpus g z → IsIdle g z c j → IsFree z.jobs c
@@ -112,7 +114,8 @@ idle_lowest g z c j cpus idle k task input less at =
     let e = idle.ended k first.0 less first.1 (sym first.2 ∙ at.of) in
     waiting_not_ended input e.0 (stage_of z k task (record first.0 { stage = Ended e.0 }) (Waiting input) (Ended e.0) at.listed e.2 at.at refl)
 
-pub begun_ready : (g : Given) (Good : Loaded → Cpu → Type 0) (w : World) (c : ℕ) (log : List Entry) (s : Plain) (z : World) (events : List Event) → AllWait g → c < g.shape.cpus → Beside g Good w log s z
+pub begun_ready : (g : Given) (Good : Loaded → Cpu → Type 0) (w : World) (c : ℕ) (log : List Entry) (s : Plain) (z : World)
+    (events : List Event) → AllWait g → c < g.shape.cpus → Beside g Good w log s z
     → (b : HasBegun g Good c s z events) → IsReady g c b.job b.task (start c b.input) b.task.budget s z
 begun_ready g Good w c log s z events wait inside both b =
     let there = b.idle.waits b.job b.task (self_from b.job) b.run.listed b.run.of in
@@ -141,7 +144,8 @@ begun_ready g Good w c log s z events wait inside both b =
       waits = λ k task from listed of. b.idle.waits k task (later_from b.job k from) listed of;
     }
 
-pub going_ready : (g : Given) (Good : Loaded → Cpu → Type 0) (w : World) (c : ℕ) (log : List Entry) (s : Plain) (z : World) (events : List Event) → Beside g Good w log s z
+pub going_ready : (g : Given) (Good : Loaded → Cpu → Type 0) (w : World) (c : ℕ) (log : List Entry) (s : Plain) (z : World)
+    (events : List Event) → Beside g Good w log s z
     → (b : IsGoing g Good c s z events) → IsReady g c b.job b.task b.state b.left s z
 going_ready g Good w c log s z events both b = record {
   now = record b.task { stage = InHand b.state b.left };
@@ -160,10 +164,12 @@ going_ready g Good w c log s z events both b = record {
 }
 
 -- ---- after a turn
-module _ (g : Given) (c j : ℕ) (task : Task) (state : Cpu) (left : ℕ) (s : Plain) (z : World) (r : IsReady g c j task state left s z) (listed : slice_get g.tasks j ≡ Some task) (of : task.cpu ≡ c)
+module _ (g : Given) (c j : ℕ) (task : Task) (state : Cpu) (left : ℕ) (s : Plain) (z : World) (r : IsReady g c j task state left s z)
+    (listed : slice_get g.tasks j ≡ Some task) (of : task.cpu ≡ c)
     (stage : Stage) (u : Plain) (t : Turns z c j r.now stage u) where
   pub there : slice_get t.next.jobs j ≡ Some (record task { stage = stage })
-  there = ap (λ (ts : List Task). slice_get ts j) t.jobs ∙ slice_get-set_known z.jobs j (record r.now { stage = stage }) r.now r.listed ∙ ap (λ (x : Task). Some (record x { stage = stage })) r.same
+  there = ap (λ (ts : List Task). slice_get ts j) t.jobs ∙ slice_get-set_known z.jobs j (record r.now { stage = stage }) r.now r.listed ∙ ap
+      (λ (x : Task). Some (record x { stage = stage })) r.same
 
   pub elsewhere : (k : ℕ) → k ≢ j → slice_get t.next.jobs k ≡ slice_get z.jobs k
   elsewhere k ne = ap (λ (ts : List Task). slice_get ts k) t.jobs ∙ slice_get-set_other z.jobs j k (record r.now { stage = stage }) ne
@@ -174,7 +180,8 @@ module _ (g : Given) (c j : ℕ) (task : Task) (state : Cpu) (left : ℕ) (s : P
   pub cpus : HaveCpus g z → HaveCpus g t.next
   cpus before k one at = elim (equal_or_not k j) [
     | inl e ↦
-        let is : one ≡ record task { stage = stage } = some_same one (record task { stage = stage }) (sym at ∙ ap (λ (i : ℕ). slice_get t.next.jobs i) e ∙ there) in
+        let is : one ≡ record task { stage = stage } = some_same one (record task { stage = stage })
+        (sym at ∙ ap (λ (i : ℕ). slice_get t.next.jobs i) e ∙ there) in
         (task, ap (λ (i : ℕ). slice_get g.tasks i) e ∙ listed, ap (λ (x : Task). x.cpu) is)
     | inr ne ↦ before k one (sym (elsewhere k ne) ∙ at)
   ]
@@ -187,7 +194,8 @@ module _ (g : Given) (c j : ℕ) (task : Task) (state : Cpu) (left : ℕ) (s : P
       let e = r.ended k one less at its in
       (e.0, e.1, elsewhere k (λ same. not_self j (subst (λ (i : ℕ). i < j) same less)) ∙ e.2)
 
-  untouched : (m : Plain) (d : ℕ) → d ≢ c → m.running d ≡ s.running d → m.held d ≡ s.held d → u.running d ≡ r.store.running d → u.held d ≡ r.store.held d → IsUntouched g d s m z t.next
+  untouched : (m : Plain) (d : ℕ) → d ≢ c → m.running d ≡ s.running d → m.held d ≡ s.held d → u.running d ≡ r.store.running d → u.held d ≡
+      r.store.held d → IsUntouched g d s m z t.next
   untouched m d ne ran held runs holds = record {
     ran = ran;
     held = held;
@@ -197,15 +205,19 @@ module _ (g : Given) (c j : ℕ) (task : Task) (state : Cpu) (left : ℕ) (s : P
   }
 
   -- the rest of the history from the store m on, and the machine after the turn
-  pub after : (Good : Loaded → Cpu → Type 0) (w : World) (log next : List Entry) (m : Plain) → Beside g Good w log s z → c < g.shape.cpus → m.shape ≡ s.shape → IsLike m u
-      → ((d : ℕ) → d ≢ c → m.running d ≡ s.running d) → ((d : ℕ) → d ≢ c → m.held d ≡ s.held d) → ((d : ℕ) → d ≢ c → u.running d ≡ r.store.running d) → ((d : ℕ) → d ≢ c → u.held d ≡ r.store.held d)
+  pub after : (Good : Loaded → Cpu → Type 0) (w : World) (log next : List Entry) (m : Plain) → Beside g Good w log s z → c < g.shape.cpus →
+      m.shape ≡ s.shape → IsLike m u
+      → ((d : ℕ) → d ≢ c → m.running d ≡ s.running d) → ((d : ℕ) → d ≢ c → m.held d ≡ s.held d) →
+      ((d : ℕ) → d ≢ c → u.running d ≡ r.store.running d) → ((d : ℕ) → d ≢ c → u.held d ≡ r.store.held d)
       → ((d : ℕ) → d ≢ c → events_of d next ≡ events_of d log) → Standing g Good c m t.next (events_of c next) → Beside g Good w next m t.next
   after Good w log next m b inside shape like ran held runs holds events own =
       goes_beside g Good w log next s m z t.next c b inside (b.schedule ++ c ∷ []) (runs_more w b.schedule c z t.answer t.next b.runs t.takes) t.programs shape
-      (subst (IsLike m) (sym t.store) like) size (cpus b.cpus) events (λ d ne. untouched m d ne (ran d ne) (held d ne) (runs d ne) (holds d ne)) own (λ d. equal_or_not d c)
+      (subst (IsLike m) (sym t.store) like) size (cpus b.cpus) events
+      (λ d ne. untouched m d ne (ran d ne) (held d ne) (runs d ne) (holds d ne)) own (λ d. equal_or_not d c)
 
 -- the job has ended as it should
-pub idle_after : (g : Given) (c j : ℕ) (task : Task) (state : Cpu) (left : ℕ) (s : Plain) (z : World) (r : IsReady g c j task state left s z) (listed : slice_get g.tasks j ≡ Some task) (of : task.cpu ≡ c)
+pub idle_after : (g : Given) (c j : ℕ) (task : Task) (state : Cpu) (left : ℕ) (s : Plain) (z : World)
+    (r : IsReady g c j task state left s z) (listed : slice_get g.tasks j ≡ Some task) (of : task.cpu ≡ c)
     (end : Outcome) (u : Plain) (t : Turns z c j r.now (Ended end) u) → slice_get g.ends j ≡ Some end → u.running c ≡ false → IsIdle g t.next c (suc j)
 idle_after g c j task state left s z r listed of end u t ends none = record {
   runs = ap (λ (x : Plain). x.running c) t.store ∙ none;
@@ -214,7 +226,8 @@ idle_after g c j task state left s z r listed of end u t ends none = record {
         let same : one ≡ task = some_same one task (sym at ∙ ap (λ (i : ℕ). slice_get g.tasks i) e ∙ listed) in (
           end,
           ap (λ (i : ℕ). slice_get g.ends i) e ∙ ends,
-          ap (λ (i : ℕ). slice_get t.next.jobs i) e ∙ there g c j task state left s z r listed of (Ended end) u t ∙ ap (λ (x : Task). Some (record x { stage = Ended end })) (sym same),
+          ap (λ (i : ℕ). slice_get t.next.jobs i) e ∙ there g c j task state left s z r listed
+              of (Ended end) u t ∙ ap (λ (x : Task). Some (record x { stage = Ended end })) (sym same),
         )
     | inr ne ↦ ended_before g c j task state left s z r listed of (Ended end) u t k one (below_last k j less ne) at its
   ];

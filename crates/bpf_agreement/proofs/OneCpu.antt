@@ -1,6 +1,7 @@
 -- Where one CPU has all jobs, and there are no hash maps, its turns lead to what a history leads to: the
 -- events of a step come one after the other.
-use Rattle.std.proofs.Common.{◌≡◌, ◌≢◌, ℕ, zero, suc, ◌+◌, ◌^◌, ◌<◌, ◌≤◌, Bool, true, false, List, [], ◌∷◌, ◌++◌, length, Some, None, ◌⊎◌, inl, inr, refl, sym, ap, subst, ◌∙◌, append_assoc, arith}
+use Rattle.std.proofs.Common.{◌≡◌, ◌≢◌, ℕ, zero, suc, ◌+◌, ◌^◌, ◌<◌, ◌≤◌, Bool, true, false, List, [], ◌∷◌, ◌++◌, length, Some, None, ◌⊎◌}
+use Rattle.std.proofs.Common.{inl, inr, refl, sym, ap, subst, ◌∙◌, append_assoc, arith}
 use Rattle.std.specs.Prelude.{map, slice_get}
 use Rattle.bpf_shared.specs.declared.events.Event.{Event}
 use Rattle.bpf_shared.specs.declared.events.Event.TheVariants.{Begin, End, Lookup, Update, Delete, Keys, Load, Store, Atomic}
@@ -34,7 +35,8 @@ use Rattle.bpf_agreement.proofs.Agreeing.{waiting, runs_of}
 use Rattle.bpf_agreement.proofs.Alike.{allowed_here}
 use Rattle.bpf_agreement.proofs.Turns.{goes_on, goes_out}
 use Rattle.bpf_agreement.proofs.Standing.{Given, HasRun, HasRuns, HasRunsFrom, HaveCpus, IsIdle, own_event, other_event}
-use Rattle.bpf_agreement.proofs.Going.{AllWait, IsReady, idle_free, idle_lowest, idle_after, there, waits_after, ended_before, size, cpus, self_from, later_from, equal_or_less}
+use Rattle.bpf_agreement.proofs.Going.{AllWait, IsReady, idle_free, idle_lowest, idle_after, there, waits_after, ended_before, size, cpus}
+use Rattle.bpf_agreement.proofs.Going.{self_from, later_from, equal_or_less}
 use Rattle.bpf_agreement.proofs.Simulating.{next_place, first_place, not_empty}
 use Rattle.bpf_agreement.proofs.StepEvents.{step_inside}
 use Rattle.bpf_agreement.proofs.OneEvent.{inside_list}
@@ -116,7 +118,8 @@ own_running c s t (e ∷ es) bare none (m, a, p) =
     ∙ still_running s m c bare e (first_none (turns_of (e ∷ [])) (turns_of es) (turns_of (e ∷ es)) sum none) a
 
 -- where other CPUs of the store have no events, each is the CPU's
-own_only : (c n : ℕ) → c < n → (log : List Entry) (s t : Plain) → s.shape.maps ≡ [] → s.shape.cpus ≡ n → ((d : ℕ) → n ≤ d → s.running d ≡ false) → Legal s log t → ((d : ℕ) → d ≢ c → d < n → events_of d log ≡ []) → log ≡ map (entry c) (events_of c log)
+own_only : (c n : ℕ) → c < n → (log : List Entry) (s t : Plain) → s.shape.maps ≡ [] → s.shape.cpus ≡ n →
+    ((d : ℕ) → n ≤ d → s.running d ≡ false) → Legal s log t → ((d : ℕ) → d ≢ c → d < n → events_of d log ≡ []) → log ≡ map (entry c) (events_of c log)
 own_only c n inside [] s t bare many idle legal none = refl
 own_only c n inside (x ∷ xs) s t bare many idle (m, a, p) none = elim (equal_or_not x.cpu c) [
   | inl e ↦
@@ -124,8 +127,10 @@ own_only c n inside (x ∷ xs) s t bare many idle (m, a, p) none = elim (equal_o
       own_only c n inside xs m t (bare_later s m (event_shape s m x.cpu x.event a) bare) (ap (λ (h : Shape). h.cpus) (event_shape s m x.cpu x.event a) ∙ many)
       (λ d from. others_run s m x.cpu bare d (λ same. apart (subst (λ (k : ℕ). k < n) (sym e) inside) from same) x.event a ∙ idle d from) p
       (λ d ne below. sym (other_event d x xs (λ same. ne (sym same ∙ e))) ∙ none d ne below) in
-      ap (λ (k : ℕ). entry k x.event ∷ xs) e ∙ ap (λ (es : List Entry). entry c x.event ∷ es) later ∙ ap (λ (es : List Event). map (entry c) es) (sym (own_event c x xs e))
-  | inr ne ↦ absurd (not_empty x.event (events_of x.cpu xs) (sym (own_event x.cpu x xs refl) ∙ none x.cpu ne (here (equal_or_less x.cpu n) (allowed_here s m x.cpu x.event a))))
+      ap (λ (k : ℕ). entry k x.event ∷ xs) e ∙ ap (λ (es : List Entry). entry c x.event ∷ es) later ∙ ap
+      (λ (es : List Event). map (entry c) es) (sym (own_event c x xs e))
+  | inr ne ↦ absurd (not_empty x.event (events_of x.cpu xs) (sym (own_event x.cpu x xs refl) ∙ none x.cpu ne
+      (here (equal_or_less x.cpu n) (allowed_here s m x.cpu x.event a))))
 ]
   where
     apart : {d : ℕ} → x.cpu < n → n ≤ d → d ≡ x.cpu → ⊥
@@ -156,13 +161,16 @@ pub record IsDone (g : Given) (w : World) (c j : ℕ) (rest : List Event) (last 
   pub legal : Own c world.store rest last
 
 -- ---- one job
-module _ (g : Given) (bare : g.shape.maps ≡ []) (w : World) (c j : ℕ) (task : Task) (listed : slice_get g.tasks j ≡ Some task) (of : task.cpu ≡ c) (end : Outcome) (ends : slice_get g.ends j ≡ Some end)
+module _ (g : Given) (bare : g.shape.maps ≡ []) (w : World) (c j : ℕ) (task : Task) (listed : slice_get g.tasks j ≡ Some task)
+    (of : task.cpu ≡ c) (end : Outcome) (ends : slice_get g.ends j ≡ Some end)
     (program : Loaded) (loaded : slice_get g.programs task.program ≡ Some program) (rest : List Event) (last : Plain) where
   -- the job's last turn, and the end of its run
-  ends_now : (state new : Cpu) (left budget : ℕ) (s t m : Plain) (z : World) → Sits g w z → (r : IsReady g c j task state left s z) → Advances program c r.store state left (Some end) t new budget → t.shape ≡ g.shape → Allowed t c End m → Own c m rest last
+  ends_now : (state new : Cpu) (left budget : ℕ) (s t m : Plain) (z : World) → Sits g w z → (r : IsReady g c j task state left s z) →
+      Advances program c r.store state left (Some end) t new budget → t.shape ≡ g.shape → Allowed t c End m → Own c m rest last
       → IsDone g w c (suc j) rest last
   ends_now state new left budget s t m z sits r advances shape allowed legal =
-      let has : slice_get z.programs r.now.program ≡ Some program = ap (λ (ps : List Loaded). slice_get ps r.now.program) sits.programs ∙ ap (λ (x : Task). slice_get g.programs x.program) r.same ∙ loaded in
+      let has : slice_get z.programs r.now.program ≡ Some program = ap (λ (ps : List Loaded). slice_get ps r.now.program) sits.programs ∙ ap
+      (λ (x : Task). slice_get g.programs x.program) r.same ∙ loaded in
       let turn = goes_out z c j r.now state new left budget program end r.store t m r.next has advances (allowed, tt) in
       record {
         world = turn.next;
@@ -179,18 +187,23 @@ module _ (g : Given) (bare : g.shape.maps ≡ []) (w : World) (c j : ℕ) (task 
       }
 
   its_program : (z : World) → Sits g w z → (now : Task) → now ≡ record task { stage = now.stage } → slice_get z.programs now.program ≡ Some program
-  its_program z sits now same = ap (λ (ps : List Loaded). slice_get ps now.program) sits.programs ∙ ap (λ (x : Task). slice_get g.programs x.program) same ∙ loaded
+  its_program z sits now same = ap (λ (ps : List Loaded). slice_get ps now.program) sits.programs ∙ ap
+      (λ (x : Task). slice_get g.programs x.program) same ∙ loaded
 
   -- after a step that goes on, its events have been made
-  goes : (n : ℕ) (state mid final : Cpu) (first more : List Event) (s t : Plain) (z : World) → Sits g w z → (r : IsReady g c j task state (suc n) s z) → t.shape ≡ g.shape → t.running c ≡ true
-      → Step r.store.shape program state first On mid → PlainlyLegal r.store (map (entry c) first) t → MakesSteps g.shape program n mid more end final → Own c t (more ++ End ∷ rest) last
-      → ((x : Plain) (y : World) → Sits g w y → (r' : IsReady g c j task mid n x y) → r'.store ≡ x → x.shape ≡ g.shape → Own c x (more ++ End ∷ rest) last → IsDone g w c (suc j) rest last)
+  goes : (n : ℕ) (state mid final : Cpu) (first more : List Event) (s t : Plain) (z : World) → Sits g w z →
+      (r : IsReady g c j task state (suc n) s z) → t.shape ≡ g.shape → t.running c ≡ true
+      → Step r.store.shape program state first On mid → PlainlyLegal r.store (map (entry c) first) t → MakesSteps g.shape program n mid more
+      end final → Own c t (more ++ End ∷ rest) last
+      → ((x : Plain) (y : World) → Sits g w y → (r' : IsReady g c j task mid n x y) → r'.store ≡ x → x.shape ≡ g.shape → Own c x
+      (more ++ End ∷ rest) last → IsDone g w c (suc j) rest last)
       → IsDone g w c (suc j) rest last
   goes zero state mid final first more s t z sits r shape runs step plain makes legal again =
       let l = subst (λ (es : List Event). Own c t (es ++ End ∷ rest) last) makes.0 legal in
       ends_now state mid 1 0 s t l.0 z sits r (first, On, step, plain, ap Some makes.1, refl) shape l.1 l.2
   goes (suc k) state mid final first more s t z sits r shape runs step plain makes legal again =
-      let turn = goes_on z c j r.now state mid (suc (suc k)) (suc k) program r.store t r.next (its_program z sits r.now r.same) (first, On, step, plain, refl, refl) in
+      let turn = goes_on z c j r.now state mid (suc (suc k)) (suc k) program r.store t r.next (its_program z sits r.now r.same)
+      (first, On, step, plain, refl, refl) in
       let y : World = turn.next in
       let stage : Stage = InHand mid (suc k) in
       let at : slice_get y.jobs j ≡ Some (record task { stage = stage }) = there g c j task state (suc (suc k)) s z r listed of stage t turn in
@@ -217,10 +230,12 @@ module _ (g : Given) (bare : g.shape.maps ≡ []) (w : World) (c j : ℕ) (task 
         ended = ended_before g c j task state (suc (suc k)) s z r listed of stage t turn;
         waits = waits_after g c j task state (suc (suc k)) s z r listed of stage t turn;
       } in
-      again y.store y sits' ready refl (ap (λ (x : Plain). x.shape) turn.store ∙ shape) (subst (λ (x : Plain). Own c x (more ++ End ∷ rest) last) (sym turn.store) legal)
+      again y.store y sits' ready refl (ap (λ (x : Plain). x.shape) turn.store ∙ shape)
+      (subst (λ (x : Plain). Own c x (more ++ End ∷ rest) last) (sym turn.store) legal)
 
   -- the turns of the steps that are left
-  steps_lead : (n : ℕ) (state : Cpu) (steps : List Event) (s : Plain) (z : World) → Sits g w z → (r : IsReady g c j task state n s z) → r.store ≡ s → s.shape ≡ g.shape → (final : Cpu) → MakesSteps g.shape program n state steps end final
+  steps_lead : (n : ℕ) (state : Cpu) (steps : List Event) (s : Plain) (z : World) → Sits g w z → (r : IsReady g c j task state n s z) →
+      r.store ≡ s → s.shape ≡ g.shape → (final : Cpu) → MakesSteps g.shape program n state steps end final
       → Own c s (steps ++ End ∷ rest) last → IsDone g w c (suc j) rest last
   steps_lead zero state steps s z sits r same shape final makes legal =
       let l = subst (λ (es : List Event). Own c s (es ++ End ∷ rest) last) makes.0 legal in
@@ -231,24 +246,29 @@ module _ (g : Given) (bare : g.shape.maps ≡ []) (w : World) (c j : ℕ) (task 
         steps,
         Done end,
         subst (λ (h : Shape). Step h program state steps (Done end) final) (sym (ap (λ (x : Plain). x.shape) same ∙ shape)) step,
-        subst (λ (x : Plain). PlainlyLegal x (map (entry c) steps) cut.0) (sym same) (own_plain c s cut.0 steps (ap (λ (h : Shape). h.maps) shape ∙ bare) cut.1),
+        subst (λ (x : Plain). PlainlyLegal x (map (entry c) steps) cut.0) (sym same)
+            (own_plain c s cut.0 steps (ap (λ (h : Shape). h.maps) shape ∙ bare) cut.1),
         refl,
         refl,
       ) in
       ends_now state final (suc n) n s cut.0 cut.2.0 z sits r a (own_shape c s cut.0 steps cut.1 ∙ shape) cut.2.1 cut.2.2
   steps_lead (suc n) state steps s z sits r same shape final (inr (first, more, mid, is, step, makes)) legal =
-      let whole : Own c s (first ++ (more ++ End ∷ rest)) last = subst (λ (es : List Event). Own c s es last) (ap (λ (es : List Event). es ++ End ∷ rest) is ∙ append_assoc first more (End ∷ rest)) legal in
+      let whole : Own c s (first ++ (more ++ End ∷ rest)) last = subst (λ (es : List Event). Own c s es last)
+      (ap (λ (es : List Event). es ++ End ∷ rest) is ∙ append_assoc first more (End ∷ rest)) legal in
       let cut = own_cut c s last first (more ++ End ∷ rest) whole in
       goes n state mid final first more s cut.0 z sits r (own_shape c s cut.0 first cut.1 ∙ shape)
-      (ap (λ (f : ℕ → Bool). f c) (own_running c s cut.0 first (ap (λ (h : Shape). h.maps) shape ∙ bare) (step_inside g.shape program state mid first On step) cut.1) ∙ r.runs)
+      (ap (λ (f : ℕ → Bool). f c) (own_running c s cut.0 first (ap (λ (h : Shape). h.maps) shape ∙ bare)
+      (step_inside g.shape program state mid first On step) cut.1) ∙ r.runs)
       (subst (λ (h : Shape). Step h program state first On mid) (sym (ap (λ (x : Plain). x.shape) same ∙ shape)) step)
       (subst (λ (x : Plain). PlainlyLegal x (map (entry c) first) cut.0) (sym same) (own_plain c s cut.0 first (ap (λ (h : Shape). h.maps) shape ∙ bare) cut.1))
       makes cut.2 (λ x y sits' r' same' shape' legal'. steps_lead n mid more x y sits' r' same' shape' final makes legal')
 
 -- ---- all of them
-module _ (g : Given) (bare : g.shape.maps ≡ []) (w : World) (c : ℕ) (inside : c < g.shape.cpus) (wait : AllWait g) (mine : (k : ℕ) (task : Task) → slice_get g.tasks k ≡ Some task → task.cpu ≡ c) (last : Plain) where
+module _ (g : Given) (bare : g.shape.maps ≡ []) (w : World) (c : ℕ) (inside : c < g.shape.cpus) (wait : AllWait g)
+    (mine : (k : ℕ) (task : Task) → slice_get g.tasks k ≡ Some task → task.cpu ≡ c) (last : Plain) where
   -- a job's run, from its begin on
-  job_leads : (j : ℕ) (task : Task) (end : Outcome) (events rest : List Event) (z : World) → slice_get g.tasks j ≡ Some task → slice_get g.ends j ≡ Some end → Sits g w z → IsIdle g z c j → z.store.shape ≡ g.shape → HasRun g task end events rest → Own c z.store events last
+  job_leads : (j : ℕ) (task : Task) (end : Outcome) (events rest : List Event) (z : World) → slice_get g.tasks j ≡ Some task → slice_get
+      g.ends j ≡ Some end → Sits g w z → IsIdle g z c j → z.store.shape ≡ g.shape → HasRun g task end events rest → Own c z.store events last
       → IsDone g w c (suc j) rest last
   job_leads j task end events rest z listed ends sits idle shape run legal =
       let of = mine j task listed in
@@ -280,11 +300,14 @@ module _ (g : Given) (bare : g.shape.maps ≡ []) (w : World) (c : ℕ) (inside 
         waits = λ k one from there its. idle.waits k one (later_from j k from) there its;
       } in
       let makes = subst (λ (k : ℕ). MakesSteps g.shape run.program task.budget (start k run.input) run.steps end run.last) of run.makes in
-      steps_lead g bare w c j task listed of end ends run.program run.loaded rest last task.budget (start c run.input) run.steps s z sits ready refl shape run.last makes
+      steps_lead g bare w c j task listed
+      of end ends run.program run.loaded rest last task.budget (start c run.input) run.steps s z sits ready refl shape run.last makes
       (subst (λ (x : Plain). Own c x (run.steps ++ End ∷ rest) last) l.1.2 l.2)
 
-  jobs_lead : (tasks : List Task) (ends : List Outcome) (j : ℕ) (events : List Event) (z : World) → ((i : ℕ) → slice_get tasks i ≡ slice_get g.tasks (j + i)) → ((i : ℕ) → slice_get ends i ≡ slice_get g.ends (j + i))
-      → Sits g w z → IsIdle g z c j → z.store.shape ≡ g.shape → HasRuns g c tasks ends events → Own c z.store events last → IsDone g w c (length tasks + j) [] last
+  jobs_lead : (tasks : List Task) (ends : List Outcome) (j : ℕ) (events : List Event) (z : World) →
+      ((i : ℕ) → slice_get tasks i ≡ slice_get g.tasks (j + i)) → ((i : ℕ) → slice_get ends i ≡ slice_get g.ends (j + i))
+      → Sits g w z → IsIdle g z c j → z.store.shape ≡ g.shape → HasRuns g c tasks ends events → Own c z.store events last → IsDone g w c
+      (length tasks + j) [] last
   jobs_lead [] ends j events z jobs outcomes sits idle shape none legal = record {
     world = z;
     sits = sits;
@@ -297,22 +320,26 @@ module _ (g : Given) (bare : g.shape.maps ≡ []) (w : World) (c : ℕ) (inside 
       none_more j = omega arith
   jobs_lead (task ∷ tasks) [] j events z jobs outcomes sits idle shape none legal = absurd none
   jobs_lead (task ∷ tasks) (end ∷ ends) j events z jobs outcomes sits idle shape (inl (of, (rest, run, more))) legal =
-      let done = job_leads j task end events rest z (listed_first j task tasks jobs) (ap (λ (i : ℕ). slice_get g.ends i) (sym (first_place j)) ∙ sym (outcomes 0)) sits idle shape run legal in
-      let all = jobs_lead tasks ends (suc j) rest done.world (λ i. jobs (suc i) ∙ ap (λ (k : ℕ). slice_get g.tasks k) (next_place j i)) (λ i. outcomes (suc i) ∙ ap (λ (k : ℕ). slice_get g.ends k) (next_place j i))
+      let done = job_leads j task end events rest z (listed_first j task tasks jobs)
+      (ap (λ (i : ℕ). slice_get g.ends i) (sym (first_place j)) ∙ sym (outcomes 0)) sits idle shape run legal in
+      let all = jobs_lead tasks ends (suc j) rest done.world (λ i. jobs (suc i) ∙ ap (λ (k : ℕ). slice_get g.tasks k) (next_place j i))
+      (λ i. outcomes (suc i) ∙ ap (λ (k : ℕ). slice_get g.ends k) (next_place j i))
       done.sits done.idle done.shape more done.legal in
       subst (λ (k : ℕ). IsDone g w c k [] last) (one_more (length tasks) j) all
     where
       one_more : (n j : ℕ) → n + suc j ≡ suc n + j
       one_more n j = omega arith
 
-      listed_first : (j : ℕ) (task : Task) (tasks : List Task) → ((i : ℕ) → slice_get (task ∷ tasks) i ≡ slice_get g.tasks (j + i)) → slice_get g.tasks j ≡ Some task
+      listed_first : (j : ℕ) (task : Task) (tasks : List Task) → ((i : ℕ) → slice_get (task ∷ tasks) i ≡ slice_get g.tasks (j + i)) →
+          slice_get g.tasks j ≡ Some task
       listed_first j task tasks jobs = ap (λ (i : ℕ). slice_get g.tasks i) (sym (first_place j)) ∙ sym (jobs 0)
   jobs_lead (task ∷ tasks) (end ∷ ends) j events z jobs outcomes sits idle shape (inr (ne, more)) legal =
       absurd (ne (mine j task (ap (λ (i : ℕ). slice_get g.tasks i) (sym (first_place j)) ∙ sym (jobs 0))))
 
 -- ---- a history
 -- of a CPU without jobs there are no events
-no_runs : (g : Given) (d : ℕ) (tasks : List Task) (ends : List Outcome) (events : List Event) → HasRuns g d tasks ends events → ((i : ℕ) (task : Task) → slice_get tasks i ≡ Some task → task.cpu ≢ d) → events ≡ []
+no_runs : (g : Given) (d : ℕ) (tasks : List Task) (ends : List Outcome) (events : List Event) → HasRuns g d tasks ends events →
+    ((i : ℕ) (task : Task) → slice_get tasks i ≡ Some task → task.cpu ≢ d) → events ≡ []
 no_runs g d [] ends events runs other = runs
 no_runs g d (task ∷ tasks) [] events runs other = absurd runs
 no_runs g d (task ∷ tasks) (end ∷ ends) events (inl (of, more)) other = absurd (other 0 task refl of)
@@ -320,7 +347,8 @@ no_runs g d (task ∷ tasks) (end ∷ ends) events (inr (ne, more)) other = no_r
 
 module _ (law : WritesAreDetermined) (one_begins : OneInstructionBegins) (replies : CallsHaveOneReply) (legal_sound : LegalIsSound)
     (h : Shape) (programs : List Loaded) (tasks : List Task) (ends : List Outcome) (lists : ℕ → List (List (List ℕ))) (history : List Entry) (last : Plain)
-    (w : World) (first : w.store ≡ as_made h) (has : w.programs ≡ programs) (jobs : w.jobs ≡ tasks) (is_shape : IsShape h) (fresh : IsFresh w) (few : length tasks < 2 ^ 62)
+    (w : World) (first : w.store ≡ as_made h) (has : w.programs ≡ programs) (jobs : w.jobs ≡ tasks) (is_shape : IsShape h)
+    (fresh : IsFresh w) (few : length tasks < 2 ^ 62)
     (explained : IsExplained h 0 [] programs tasks false ends lists history) (legal : Legal (as_made h) history last)
     (bare : h.maps ≡ []) (c : ℕ) (inside : c < h.cpus) (mine : (k : ℕ) (task : Task) → slice_get tasks k ≡ Some task → task.cpu ≡ c) where
   abbrev all : Given
@@ -354,7 +382,8 @@ module _ (law : WritesAreDetermined) (one_begins : OneInstructionBegins) (replie
         ended = λ k task less at its. absurd (none_below k less);
         waits = λ k task since at its. ap (λ (ts : List Task). slice_get ts k) jobs ∙ at;
       } in
-      let done = jobs_lead all bare w c inside (waiting law one_begins replies legal_sound h programs tasks ends lists history last w first has jobs is_shape fresh few explained legal) mine last
+      let done = jobs_lead all bare w c inside (waiting law one_begins replies legal_sound h programs tasks ends lists history last w first
+      has jobs is_shape fresh few explained legal) mine last
       f.tasks f.ends 0 (events_of c history) w f.jobs f.outcomes sits idle (ap (λ (s : Plain). s.shape) first) f.runs own_history in
       record {
         schedule = done.sits.schedule;
@@ -362,7 +391,8 @@ module _ (law : WritesAreDetermined) (one_begins : OneInstructionBegins) (replie
         runs = done.sits.runs;
         store = done.legal;
         size = done.sits.size;
-        each = λ k task at. done.idle.ended k task (below k (length f.tasks) (inside_list f.tasks k task (f.jobs k ∙ ap (λ (i : ℕ). slice_get tasks i) (no_more k) ∙ at))) at (mine k task at);
+        each = λ k task at. done.idle.ended k task (below k (length f.tasks)
+            (inside_list f.tasks k task (f.jobs k ∙ ap (λ (i : ℕ). slice_get tasks i) (no_more k) ∙ at))) at (mine k task at);
       }
     where
       none_below : (k : ℕ) → k < 0 → ⊥

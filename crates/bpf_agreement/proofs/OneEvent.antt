@@ -1,5 +1,6 @@
 -- Where there are no hash maps and calls read outside of values, a step has one event at most.
-use Rattle.std.proofs.Common.{◌≡◌, ℕ, zero, suc, ◌+◌, ◌-◌, ◌/◌, ◌<◌, ◌≤◌, true, false, List, [], ◌∷◌, ◌++◌, length, take, Option, Some, None, is_some, Result, Ok, Err, ◌⊎◌, inl, inr, refl, sym, ap, subst, ◌∙◌, arith}
+use Rattle.std.proofs.Common.{◌≡◌, ℕ, zero, suc, ◌+◌, ◌-◌, ◌/◌, ◌<◌, ◌≤◌, true, false, List, [], ◌∷◌, ◌++◌, length, take, Option, Some}
+use Rattle.std.proofs.Common.{None, is_some, Result, Ok, Err, ◌⊎◌, inl, inr, refl, sym, ap, subst, ◌∙◌, arith}
 use Rattle.std.specs.Prelude.{slice_get, slice_index}
 use Rattle.bpf_base.specs.Bytes.{little_endian}
 use Rattle.bpf_shared.specs.Access.{bytes_in}
@@ -86,7 +87,8 @@ one_copy from to [] bytes few = inl refl
 one_copy from to (size ∷ []) bytes few = inr (Store to size (little_endian (take (bytes_in size) bytes)), refl, tt)
 one_copy from to (size ∷ next ∷ sizes) bytes few = absurd (omega arith)
 
-module _ (shape : Shape) (is_shape : IsShape shape) (bare : shape.maps ≡ []) (memory : PrivateMemory) (registers : List ℕ) (held : List Span) (none : held ≡ []) where
+module _ (shape : Shape) (is_shape : IsShape shape) (bare : shape.maps ≡ []) (memory : PrivateMemory) (registers : List ℕ)
+    (held : List Span) (none : held ≡ []) where
   no_map : (m : ℕ) (h : MapShape) → IsMapAt shape.maps registers m h → ⊥
   no_map m h at = nothing h (ap (λ (maps : List MapShape). slice_get maps m) (sym bare) ∙ at.1)
     where
@@ -94,34 +96,41 @@ module _ (shape : Shape) (is_shape : IsShape shape) (bare : shape.maps ≡ []) (
       nothing h e = cc
 
   -- ---- keys
-  key_unread : (index : ℕ) (events : List Event) → IsOutsideValues (slice_index registers 2) 64 → ReadsIndex shape memory held (slice_index registers 2) index events → events ≡ []
+  key_unread : (index : ℕ) (events : List Event) → IsOutsideValues (slice_index registers 2) 64 → ReadsIndex shape memory held
+      (slice_index registers 2) index events → events ≡ []
   key_unread index events outside (inl r) = r.3
-  key_unread index events outside (inr r) = absurd (not_reached shape is_shape held none (slice_index registers 2) 4 64 (let e : 1 ≤ 64 = omega arith in e) (let e : 0 < 4 = omega arith in e) outside r.1)
+  key_unread index events outside (inr r) = absurd (not_reached shape is_shape held none (slice_index registers 2) 4 64
+      (let e : 1 ≤ 64 = omega arith in e) (let e : 0 < 4 = omega arith in e) outside r.1)
 
   one_read : (index : ℕ) (events : List Event) → ReadsIndex shape memory held (slice_index registers 2) index events → IsOne events
   one_read index events (inl r) = inl r.3
   one_read index events (inr r) = inr (Load (slice_index registers 2) Word index, r.3, tt)
 
-  one_stop : (events : List Event) (result : Result ℕ HelperFault) (after : List Span) → StopsAtKey shape memory registers held events result after → IsOne events × (after ≡ held)
+  one_stop : (events : List Event) (result : Result ℕ HelperFault) (after : List Span) → StopsAtKey shape memory registers held events
+      result after → IsOne events × (after ≡ held)
   one_stop events result after (inl r) = (inl r.1.0, r.1.2)
   one_stop events result after (inr r) = (inl r.1.0, r.1.2)
 
   -- ---- what an update copies
-  module _ (to n : ℕ) (some : 0 < n) (at_once : length (parts_of n) ≤ 1) (outside : IsOutsideValues (slice_index registers 3) 65536) (readable : (is_some (bytes_at memory (slice_index registers 3) n) ≡ true) ⊎ AreReached shape held (slice_index registers 3) n) where
-    one_answer : (refusal : Option ℕ) (events : List Event) (result : Result ℕ HelperFault) → Answers shape memory registers held to n refusal events result → IsOne events
+  module _ (to n : ℕ) (some : 0 < n) (at_once : length (parts_of n) ≤ 1) (outside : IsOutsideValues (slice_index registers 3) 65536)
+      (readable : (is_some (bytes_at memory (slice_index registers 3) n) ≡ true) ⊎ AreReached shape held (slice_index registers 3) n) where
+    one_answer : (refusal : Option ℕ) (events : List Event) (result : Result ℕ HelperFault) → Answers shape memory registers held to n
+        refusal events result → IsOne events
     one_answer (Some refusal) events result r = inl r.0
     one_answer None events result (said, inl r) = subst IsOne (sym r.2) (one_copy (slice_index registers 3) to (parts_of n) r.0 at_once)
     one_answer None events result (said, inr r) = absurd (unread readable)
       where
         unread : (is_some (bytes_at memory (slice_index registers 3) n) ≡ true) ⊎ AreReached shape held (slice_index registers 3) n → ⊥
         unread (inl own) = let no : false ≡ true = sym (ap (λ (o : Option (List ℕ)). is_some o) r.1) ∙ own in absurd cc
-        unread (inr reached) = not_reached shape is_shape held none (slice_index registers 3) n 65536 (let e : 1 ≤ 65536 = omega arith in e) some outside reached
+        unread (inr reached) = not_reached shape is_shape held none (slice_index registers 3) n 65536 (let e : 1 ≤ 65536 = omega arith in e)
+            some outside reached
 
   -- the key is read first, and has no event
   after_key : (first rest events : List Event) → events ≡ first ++ rest → first ≡ [] → IsOne rest → IsOne events
   after_key first rest events is nothing one = subst IsOne (sym (is ∙ ap (λ (es : List Event). es ++ rest) nothing)) one
 
-  one_array : (cpu a : ℕ) (g : ArrayShape) (n : ℕ) (events : List Event) (result : Result ℕ HelperFault) (after : List Span) → IsArrayAt shape.arrays registers a g → ReadsOutside shape.arrays n registers
+  one_array : (cpu a : ℕ) (g : ArrayShape) (n : ℕ) (events : List Event) (result : Result ℕ HelperFault) (after : List Span) → IsArrayAt
+      shape.arrays registers a g → ReadsOutside shape.arrays n registers
       → CallsArray shape memory registers held cpu a g n events result after → IsOne events × (after ≡ held)
   one_array cpu a g n events result after at outside (inl (is, inl stops)) = one_stop events result after stops
   one_array cpu a g n events result after at outside (inl (is, inr r)) = (one_read r.0 events r.1, r.3)
@@ -130,7 +139,8 @@ module _ (shape : Shape) (is_shape : IsShape shape) (bare : shape.maps ≡ []) (
   one_array cpu a g n events result after at outside (inr (inl (is, inr (inr r)))) =
       let some : 0 < g.value = positive g.value (is_shape.arrays a g at.1).0.value.0 in (
         after_key r.1 r.2 events r.5 (key_unread r.0 r.1 outside.key r.4)
-            (one_answer (fixed_span a g (copy_for cpu g) r.0).at g.value some (outside.at_once is a g at) (outside.value is) r.3 (array_refusal g r.0 (slice_index registers 4)) r.2 result r.6),
+            (one_answer (fixed_span a g (copy_for cpu g) r.0).at g.value some (outside.at_once is a g at) (outside.value is) r.3
+            (array_refusal g r.0 (slice_index registers 4)) r.2 result r.6),
         r.7,
       )
   one_array cpu a g n events result after at outside (inr (inr (is, inl stops))) = one_stop events result after stops
@@ -175,22 +185,27 @@ module _ (shape : Shape) (old new : Cpu) (events : List Event) (progress : Progr
   tried_held zero = refl
   tried_held (suc x) = refl
 
-  one_row : IsShape shape → shape.maps ≡ [] → old.held ≡ [] → (i : Insn) → ((n : ℕ) → i ≡ CallHelper n → AsksOnce n ⊎ ReadsOutside shape.arrays n old.registers) → Executes shape i old events progress new → IsOne events × (new.held ≡ old.held)
+  one_row : IsShape shape → shape.maps ≡ [] → old.held ≡ [] → (i : Insn) →
+      ((n : ℕ) → i ≡ CallHelper n → AsksOnce n ⊎ ReadsOutside shape.arrays n old.registers) → Executes shape i old events progress new →
+      IsOne events × (new.held ≡ old.held)
   one_row is_shape bare none i outside (inl r) = (inl r.1, held-quiet old new progress i r.2)
   one_row is_shape bare none i outside (inr (inl (n, is, inl (helper, (result, after, calls, takes))))) =
       let one = one_call shape is_shape bare old.memory old.registers old.held none n old.number events result after (outside n is) calls in
       (one.0, taken result after one.1 takes)
   one_row is_shape bare none i outside (inr (inl (n, is, inr (inl asks)))) = (inl asks.3, made _ asks.5 refl)
   one_row is_shape bare none i outside (inr (inl (n, is, inr (inr (inl (lock, inl refused)))))) = (inl refused.2, made _ refused.3.1 refl)
-  one_row is_shape bare none i outside (inr (inl (n, is, inr (inr (inl (lock, inr r)))))) = (inr (Atomic _ _ _ _ _ r.1.0, r.1.1, tt), made _ r.1.3 (tried_held r.1.0))
+  one_row is_shape bare none i outside (inr (inl (n, is, inr (inr (inl (lock, inr r)))))) =
+      (inr (Atomic _ _ _ _ _ r.1.0, r.1.1, tt), made _ r.1.3 (tried_held r.1.0))
   one_row is_shape bare none i outside (inr (inl (n, is, inr (inr (inr (lock, inl refused)))))) = (inl refused.2, made _ refused.3.1 refl)
   one_row is_shape bare none i outside (inr (inl (n, is, inr (inr (inr (lock, inr r)))))) = (inr (Atomic _ _ _ _ _ r.1.0, r.1.1, tt), made _ r.1.3 refl)
   one_row is_shape bare none i outside (inr (inr r)) = one_value i r.1
 
 -- a step, where nothing is held
-pub one_step : (shape : Shape) → IsShape shape → shape.maps ≡ [] → (program : Loaded) (old new : Cpu) (events : List Event) (progress : Progress) → old.held ≡ []
+pub one_step : (shape : Shape) → IsShape shape → shape.maps ≡ [] → (program : Loaded) (old new : Cpu) (events : List Event)
+    (progress : Progress) → old.held ≡ []
     → ((n : ℕ) → Begins program.instructions old.pc (CallHelper n) → AsksOnce n ⊎ ReadsOutside shape.arrays n old.registers)
     → Step shape program old events progress new → IsOne events × (new.held ≡ [])
 one_step shape is_shape bare program old new events progress none outside step =
-    let one = one_row shape old new events progress is_shape bare none step.instruction (λ n is. outside n (subst (λ (i : Insn). Begins program.instructions old.pc i) is step.begins)) step.row in
+    let one = one_row shape old new events progress is_shape bare none step.instruction
+    (λ n is. outside n (subst (λ (i : Insn). Begins program.instructions old.pc i) is step.begins)) step.row in
     (one.0, one.1 ∙ none)

@@ -25,7 +25,8 @@ use Rattle.bpf_agreement.proofs.Agreeing.{none_listed}
 
 -- ---- jobs that have ended so
 ended_all : (tasks : List Task) (ends : List Outcome) (jobs : List Task) → length ends ≡ length tasks → length jobs ≡ length tasks
-    → ((k : ℕ) (task : Task) → slice_get tasks k ≡ Some task → (end : Outcome) × (slice_get ends k ≡ Some end) × (slice_get jobs k ≡ Some (record task { stage = Ended end })))
+    → ((k : ℕ) (task : Task) → slice_get tasks k ≡ Some task → (end : Outcome) × (slice_get ends k ≡ Some end) ×
+    (slice_get jobs k ≡ Some (record task { stage = Ended end })))
     → jobs ≡ as_ended tasks ends
 ended_all [] ends [] e f each = refl
 ended_all [] ends (job ∷ jobs) e f each = absurd (let no : suc (length jobs) ≡ 0 = f in omega arith)
@@ -36,7 +37,8 @@ ended_all (task ∷ tasks) (end ∷ ends) (job ∷ jobs) e f each =
     let ended : end ≡ first.0 = one_end end first.0 first.1 in
     let is : job ≡ record task { stage = Ended first.0 } = one_task job (record task { stage = Ended first.0 }) first.2 in
     ap (λ (t : Task). t ∷ jobs) (is ∙ ap (λ (o : Outcome). record task { stage = Ended o }) (sym ended))
-    ∙ ap (λ (ts : List Task). record task { stage = Ended end } ∷ ts) (ended_all tasks ends jobs (less (length ends) (length tasks) e) (less (length jobs) (length tasks) f) (λ k t at. each (suc k) t at))
+    ∙ ap (λ (ts : List Task). record task { stage = Ended end } ∷ ts)
+    (ended_all tasks ends jobs (less (length ends) (length tasks) e) (less (length jobs) (length tasks) f) (λ k t at. each (suc k) t at))
   where
     less : (m n : ℕ) → suc m ≡ suc n → m ≡ n
     less m n h = omega arith
@@ -84,21 +86,26 @@ no_pairs h (p ∷ ps) rest history none legal is =
     absurd (let nothing = subst (λ (maps : List MapShape). IsMap maps p.map there.0) none at in cc)
 
 -- no list is in the report, and no pair was put in
-unlisted : (f : File) (asked : Asked) (printed : Printed) (report : IsWorkersReport f asked printed) → f.pairs ≡ [] → asked.keys ≡ false → IsExplained (shape_of f) 0 [] f.programs f.jobs false report.ends report.lists report.closed.history
+unlisted : (f : File) (asked : Asked) (printed : Printed) (report : IsWorkersReport f asked printed) → f.pairs ≡ [] → asked.keys ≡ false →
+    IsExplained (shape_of f) 0 [] f.programs f.jobs false report.ends report.lists report.closed.history
 unlisted f asked printed report bare none =
     subst (λ (ps : List Pair). IsExplained (shape_of f) 0 (first_history ps) f.programs f.jobs false report.ends report.lists report.closed.history) bare
-    (subst (λ (keys : Bool). IsExplained (shape_of f) 0 (first_history f.pairs) f.programs f.jobs keys report.ends report.lists report.closed.history) none report.explained)
+    (subst (λ (keys : Bool). IsExplained (shape_of f) 0 (first_history f.pairs) f.programs f.jobs keys report.ends report.lists
+    report.closed.history) none report.explained)
 
 -- what is printed of the history's end is printed of the machine that turns lead to
-told_alike : (f : File) (asked : Asked) (printed : Printed) (report : IsWorkersReport f asked printed) → f.pairs ≡ [] → asked.keys ≡ false → LeadsToo (machine_of f) f.jobs report.ends report.last → IsOutcome (machine_of f) f.names asked.maps printed.text printed.stopped
+told_alike : (f : File) (asked : Asked) (printed : Printed) (report : IsWorkersReport f asked printed) → f.pairs ≡ [] → asked.keys ≡ false →
+    LeadsToo (machine_of f) f.jobs report.ends report.last → IsOutcome (machine_of f) f.names asked.maps printed.text printed.stopped
 told_alike f asked printed report bare none leads =
     let explained = unlisted f asked printed report bare none in
     let z : World = leads.world in
     let jobs : z.jobs ≡ as_ended f.jobs report.ends = ended_all f.jobs report.ends z.jobs explained.each_ended leads.size leads.each in
     -- the maps' names are those that the report has
     let without : TellsWith [] report.last (as_ended f.jobs report.ends) f.names asked.maps printed.text printed.stopped =
-    subst (λ (text : List ℕ). TellsWith text report.last (as_ended f.jobs report.ends) f.names asked.maps printed.text printed.stopped) (no_lines _ report.lists f.cpus (λ c inside. none_listed (report.lists c) (explained.each_listed c inside))) report.tells in
-    let of_store = subst (λ (s : Plain). TellsWith [] s (as_ended f.jobs report.ends) f.names asked.maps printed.text printed.stopped) (sym leads.store) without in
+    subst (λ (text : List ℕ). TellsWith text report.last (as_ended f.jobs report.ends) f.names asked.maps printed.text printed.stopped)
+    (no_lines _ report.lists f.cpus (λ c inside. none_listed (report.lists c) (explained.each_listed c inside))) report.tells in
+    let of_store = subst (λ (s : Plain). TellsWith [] s (as_ended f.jobs report.ends) f.names asked.maps printed.text printed.stopped)
+    (sym leads.store) without in
     let tells = subst (λ (ts : List Task). TellsWith [] z.store ts f.names asked.maps printed.text printed.stopped) (sym jobs) of_store in
     (leads.schedule, (z, leads.runs, subst HaveEnded (sym jobs) (have_ended f.jobs report.ends), tells))
 
@@ -109,9 +116,11 @@ pub workers_print_outcomes : HistoriesAreSchedules → WorkersPrintOutcomes
 workers_print_outcomes law f asked printed arrays none report =
     let bare = no_pairs (shape_of f) f.pairs report.explained.rest report.closed.history arrays.maps report.explained.legal report.explained.begins in
     told_alike f asked printed report bare none
-    (law (shape_of f) f.programs f.jobs report.ends report.lists report.closed.history report.last (machine_of f) arrays (first f bare) (unlisted f asked printed report bare none) report.leads.legal)
+    (law (shape_of f) f.programs f.jobs report.ends report.lists report.closed.history report.last (machine_of f) arrays (first f bare)
+    (unlisted f asked printed report bare none) report.leads.legal)
 
 pub calm_workers_print_outcomes : CalmHistoriesAreSchedules → CalmWorkersPrintOutcomes
 calm_workers_print_outcomes law f asked printed shape bare few fresh steps none report =
     told_alike f asked printed report bare none
-    (law (shape_of f) f.programs f.jobs report.ends report.lists report.closed.history report.last (machine_of f) shape few (first f bare) fresh steps (unlisted f asked printed report bare none) report.leads.legal)
+    (law (shape_of f) f.programs f.jobs report.ends report.lists report.closed.history report.last (machine_of f) shape few (first f bare)
+    fresh steps (unlisted f asked printed report bare none) report.leads.legal)

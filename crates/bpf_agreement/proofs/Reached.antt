@@ -72,7 +72,8 @@ Any_state program state = Unit {0}
 -- two steps from one state, over one store that is sound: the events of the one are calm, and what the other
 -- asks first the store may do; so it asks nothing else
 module _ (law : WritesAreDetermined) (begins : OneInstructionBegins) (replies : CallsHaveOneReply) where
-  alone : (s : Plain) (c : ℕ) (program : Loaded) (state new other : Cpu) (e : Event) (more events : List Event) (answer end : Progress) (t : Plain) → IsSoundStore s → IsMemory state.memory
+  alone : (s : Plain) (c : ℕ) (program : Loaded) (state new other : Cpu) (e : Event) (more events : List Event) (answer end : Progress)
+      (t : Plain) → IsSoundStore s → IsMemory state.memory
       → Step s.shape program state (e ∷ more) answer new → Step s.shape program state events end other → PlainlyLegal s (map (entry c) events) t → IsCalm events
       → (leaves_maps e ≡ true → (u : Plain) × PlainlyAllowed s c e u) → (more ≡ []) × (leaves_maps e ≡ true)
   alone s c program state new other e more events answer end t sound memory step plain legal calm may = go events alike legal calm
@@ -80,7 +81,8 @@ module _ (law : WritesAreDetermined) (begins : OneInstructionBegins) (replies : 
       alike : AreAskedAlike (e ∷ more) events
       alike = (steps_are_determined law begins s.shape program state new other (e ∷ more) events answer end memory step plain).0
 
-      go : (events : List Event) → AreAskedAlike (e ∷ more) events → PlainlyLegal s (map (entry c) events) t → IsCalm events → (more ≡ []) × (leaves_maps e ≡ true)
+      go : (events : List Event) → AreAskedAlike (e ∷ more) events → PlainlyLegal s (map (entry c) events) t → IsCalm events → (more ≡ []) ×
+          (leaves_maps e ≡ true)
       go [] alike legal calm = absurd (no_call (asked e) (alike [] (e ∷ more) [] refl refl))
       go (f ∷ []) alike legal calm =
           let same_asked : asked e ≡ asked f = some_call (asked e) (asked f) (alike [] (e ∷ more) (f ∷ []) refl refl) in
@@ -92,7 +94,8 @@ module _ (law : WritesAreDetermined) (begins : OneInstructionBegins) (replies : 
       go (f ∷ next ∷ rest) alike legal calm = absurd calm
 
   module _ (w : World) (fresh : IsFresh w) (steps : StepsAreCalm w) where
-    next_sound : (z : World) (c j : ℕ) (task : Task) (state : Cpu) (left : ℕ) (s : Plain) → IsWorld z → IsNextStep z c j task state left s → IsSoundStore s × IsMemory state.memory
+    next_sound : (z : World) (c j : ℕ) (task : Task) (state : Cpu) (left : ℕ) (s : Plain) → IsWorld z → IsNextStep z c j task state left s →
+        IsSoundStore s × IsMemory state.memory
     next_sound z c j task state left s world (inl (at, same)) = (subst IsSoundStore (sym same) world.store, world.memory c j task state left at)
     next_sound z c j task state left s world (inr b) = (
       allowed_sound z.store s c Begin world.store b.begun.0,
@@ -105,7 +108,8 @@ module _ (law : WritesAreDetermined) (begins : OneInstructionBegins) (replies : 
         let ok = next_sound t.world c t.job t.task t.state (suc t.left) t.store world t.next in
         let k = steps t.schedule t.world t.runs c t.job t.task t.state t.left t.store t.next in
         let same : k.program ≡ t.program = one_program k.program t.program (sym k.loaded ∙ t.loaded) in
-        let plain : Step t.store.shape t.program t.state k.events k.answer k.new = subst (λ (p : Loaded). Step t.store.shape p t.state k.events k.answer k.new) same k.step in
+        let plain : Step t.store.shape t.program t.state k.events k.answer k.new = subst
+        (λ (p : Loaded). Step t.store.shape p t.state k.events k.answer k.new) same k.step in
         let r = alone t.store c t.program t.state t.new k.new e more k.events t.answer k.answer k.store ok.0 ok.1 t.step plain k.legal k.calm
         (λ kind. let made = made_too s m t.store c e t.like t.runs_too t.holds (leaves e kind) t.allowed in (made.next, made.allowed)) in
         (r.0, leaves e r.1, λ on. tt)

@@ -18,7 +18,8 @@ use Rattle.bpf_cpu.specs.Step.{MakesSteps}
 use Rattle.bpf_cpu.specs.Task.{Task, Waiting, Ended}
 use Rattle.bpf_machine.specs.Schedule.{World}
 use Rattle.bpf_agreement.proofs.Alike.{like_begin, like_end, allowed_here}
-use Rattle.bpf_agreement.proofs.Standing.{Given, HasRun, HasRuns, IsInRun, IsIdle, IsOver, Standing, Between, Begun, Going, Over, Beside, goes_beside, own_event, other_event}
+use Rattle.bpf_agreement.proofs.Standing.{Given, HasRun, HasRuns, IsInRun, IsIdle, IsOver, Standing, Between, Begun, Going, Over, Beside}
+use Rattle.bpf_agreement.proofs.Standing.{goes_beside, own_event, other_event}
 use Rattle.bpf_agreement.proofs.Going.{AllWait, begun_ready, going_ready, below_last, later_from, equal_or_less}
 use Rattle.bpf_agreement.proofs.Acting.{AreCalm, IsKeptUp, goes, heads, tails}
 
@@ -40,17 +41,22 @@ same_task one other e = cc
 
 -- what a job's first state is known to be
 abbrev pub AreGoodFirst : Given → (Loaded → Cpu → Type 0) → Type 0
-AreGoodFirst g Good = (k : ℕ) (task : Task) (input : Input) (program : Loaded) → slice_get g.tasks k ≡ Some task → task.stage ≡ Waiting input → slice_get g.programs task.program ≡ Some program
+AreGoodFirst g Good = (k : ℕ) (task : Task) (input : Input) (program : Loaded) → slice_get g.tasks k ≡ Some task → task.stage ≡ Waiting
+    input → slice_get g.programs task.program ≡ Some program
     → Good program (start task.cpu input)
 
-module _ (g : Given) (Good : Loaded → Cpu → Type 0) (w : World) (wait : AllWait g) (first : AreGoodFirst g Good) (up : IsKeptUp g.shape Good) (calm : AreCalm g.shape Good w) where
-  module _ (c : ℕ) (s m : Plain) (z : World) (x : Entry) (xs : List Entry) (here : x.cpu ≡ c) (inside : c < g.shape.cpus) (b : Beside g Good w (x ∷ xs) s z) (allowed : Allowed s c x.event m) where
+module _ (g : Given) (Good : Loaded → Cpu → Type 0) (w : World) (wait : AllWait g) (first : AreGoodFirst g Good)
+    (up : IsKeptUp g.shape Good) (calm : AreCalm g.shape Good w) where
+  module _ (c : ℕ) (s m : Plain) (z : World) (x : Entry) (xs : List Entry) (here : x.cpu ≡ c) (inside : c < g.shape.cpus)
+      (b : Beside g Good w (x ∷ xs) s z) (allowed : Allowed s c x.event m) where
     others : (d : ℕ) → d ≢ c → events_of d xs ≡ events_of d (x ∷ xs)
     others d ne = sym (other_event d x xs (λ e. ne (sym e ∙ here)))
 
     -- ---- a run begins
-    begins_here : (task : Task) (tasks : List Task) (end : Outcome) (ends : List Outcome) (j : ℕ) → ((i : ℕ) → slice_get (task ∷ tasks) i ≡ slice_get g.tasks (j + i)) → ((i : ℕ) → slice_get (end ∷ ends) i ≡ slice_get g.ends (j + i))
-        → IsIdle g z c j → task.cpu ≡ c → (rest : List Event) → HasRun g task end (x.event ∷ events_of c xs) rest → HasRuns g c tasks ends rest → (y : World) × Beside g Good w xs m y
+    begins_here : (task : Task) (tasks : List Task) (end : Outcome) (ends : List Outcome) (j : ℕ) →
+        ((i : ℕ) → slice_get (task ∷ tasks) i ≡ slice_get g.tasks (j + i)) → ((i : ℕ) → slice_get (end ∷ ends) i ≡ slice_get g.ends (j + i))
+        → IsIdle g z c j → task.cpu ≡ c → (rest : List Event) → HasRun g task end (x.event ∷ events_of c xs) rest → HasRuns g c tasks ends
+        rest → (y : World) × Beside g Good w xs m y
     begins_here task tasks end ends j jobs outcomes idle of rest run more =
         let is_begin : x.event ≡ Begin = heads x.event Begin (events_of c xs) (run.steps ++ End ∷ rest) run.is in
         let began : Allowed s c Begin m = subst (λ (e : Event). Allowed s c e m) is_begin allowed in
@@ -88,7 +94,14 @@ module _ (g : Given) (Good : Loaded → Cpu → Type 0) (w : World) (wait : AllW
         }) in
         let both : Beside g Good w xs (after_begin s c) z =
         goes_beside g Good w (x ∷ xs) xs s (after_begin s c) z z c b inside b.schedule b.runs refl refl (like_begin s z.store c b.like) refl b.cpus others
-        (λ d ne. record { ran = put-other s.running c d true ne; held = put-other s.held c d never ne; runs = refl; holds = refl; jobs = λ k one at its. refl }) own (λ d. equal_or_not d c) in
+        (λ d ne. record {
+          ran = put-other s.running c d true ne;
+          held = put-other s.held c d never ne;
+          runs = refl;
+          holds = refl;
+          jobs = λ k
+              one at its. refl;
+        }) own (λ d. equal_or_not d c) in
         (z, subst (λ (y : Plain). Beside g Good w xs y z) (sym began.2) both)
 
     -- a job of another CPU is passed over
@@ -102,23 +115,34 @@ module _ (g : Given) (Good : Loaded → Cpu → Type 0) (w : World) (wait : AllW
       waits = λ k one from at its. idle.waits k one (later_from j k from) at its;
     }
 
-    begins : (tasks : List Task) (ends : List Outcome) (j : ℕ) → ((i : ℕ) → slice_get tasks i ≡ slice_get g.tasks (j + i)) → ((i : ℕ) → slice_get ends i ≡ slice_get g.ends (j + i))
+    begins : (tasks : List Task) (ends : List Outcome) (j : ℕ) → ((i : ℕ) → slice_get tasks i ≡ slice_get g.tasks (j + i)) →
+        ((i : ℕ) → slice_get ends i ≡ slice_get g.ends (j + i))
         → IsIdle g z c j → HasRuns g c tasks ends (x.event ∷ events_of c xs) → (y : World) × Beside g Good w xs m y
     begins [] ends j jobs outcomes idle none = absurd (not_empty x.event (events_of c xs) none)
     begins (task ∷ tasks) [] j jobs outcomes idle none = absurd none
-    begins (task ∷ tasks) (end ∷ ends) j jobs outcomes idle (inl (of, (rest, run, more))) = begins_here task tasks end ends j jobs outcomes idle of rest run more
+    begins (task ∷ tasks) (end ∷ ends) j jobs outcomes idle (inl (of, (rest, run, more))) = begins_here task tasks end ends j jobs outcomes
+        idle of rest run more
     begins (task ∷ tasks) (end ∷ ends) j jobs outcomes idle (inr (ne, more)) =
-        begins tasks ends (suc j) (λ i. jobs (suc i) ∙ ap (λ (k : ℕ). slice_get g.tasks k) (next_place j i)) (λ i. outcomes (suc i) ∙ ap (λ (k : ℕ). slice_get g.ends k) (next_place j i))
+        begins tasks ends (suc j) (λ i. jobs (suc i) ∙ ap (λ (k : ℕ). slice_get g.tasks k) (next_place j i))
+        (λ i. outcomes (suc i) ∙ ap (λ (k : ℕ). slice_get g.ends k) (next_place j i))
         (idle_past task j (ap (λ (i : ℕ). slice_get g.tasks i) (sym (first_place j)) ∙ sym (jobs 0)) ne idle) more
 
     -- ---- a run ends, whose job has ended before
     ends_later : IsOver g c s z (x.event ∷ events_of c xs) → (y : World) × Beside g Good w xs m y
     ends_later o =
         let ends : Allowed s c End m = subst (λ (e : Event). Allowed s c e m) (heads x.event End (events_of c xs) o.rest o.is) allowed in
-        let own : Standing g Good c (after_end s c) z o.rest = Between (record { job = o.job; runs = put-same s.running c c false refl; idle = o.idle; more = o.more }) in
+        let own : Standing g Good c (after_end s c) z o.rest = Between
+        (record { job = o.job; runs = put-same s.running c c false refl; idle = o.idle; more = o.more }) in
         let both : Beside g Good w xs (after_end s c) z =
         goes_beside g Good w (x ∷ xs) xs s (after_end s c) z z c b inside b.schedule b.runs refl refl (like_end s z.store c b.like) refl b.cpus others
-        (λ d ne. record { ran = put-other s.running c d false ne; held = put-other s.held c d never ne; runs = refl; holds = refl; jobs = λ k one at its. refl })
+        (λ d ne. record {
+          ran = put-other s.running c d false ne;
+          held = put-other s.held c d never ne;
+          runs = refl;
+          holds = refl;
+          jobs =
+              λ k one at its. refl;
+        })
         (subst (Standing g Good c (after_end s c) z) (sym (tails x.event End (events_of c xs) o.rest o.is)) own) (λ d. equal_or_not d c) in
         (z, subst (λ (y : Plain). Beside g Good w xs y z) (sym ends.1) both)
 
@@ -126,9 +150,11 @@ module _ (g : Given) (Good : Loaded → Cpu → Type 0) (w : World) (wait : AllW
     one_event : Standing g Good c s z (x.event ∷ events_of c xs) → (y : World) × Beside g Good w xs m y
     one_event (Between i) = begins i.more.tasks i.more.ends i.job i.more.jobs i.more.outcomes i.idle i.more.runs
     one_event (Begun i) =
-        goes g Good w up calm i.task.budget c i.job i.task (start c i.input) s m z x xs here inside b (begun_ready g Good w c (x ∷ xs) s z (x.event ∷ events_of c xs) wait inside b i) i.run allowed
+        goes g Good w up calm i.task.budget c i.job i.task (start c i.input) s m z x xs here inside b
+        (begun_ready g Good w c (x ∷ xs) s z (x.event ∷ events_of c xs) wait inside b i) i.run allowed
     one_event (Going i) =
-        goes g Good w up calm i.left c i.job i.task i.state s m z x xs here inside b (going_ready g Good w c (x ∷ xs) s z (x.event ∷ events_of c xs) b i) i.run allowed
+        goes g Good w up calm i.left c i.job i.task i.state s m z x xs here inside b
+        (going_ready g Good w c (x ∷ xs) s z (x.event ∷ events_of c xs) b i) i.run allowed
     one_event (Over i) = ends_later i
 
   -- ---- all of them
@@ -153,7 +179,8 @@ module _ (g : Given) (Good : Loaded → Cpu → Type 0) (w : World) (wait : AllW
       simulates xs m last r.0 r.1 legal
 
   -- ---- where the history ends, each job has
-  none_left : (c : ℕ) (tasks : List Task) (ends : List Outcome) (i : ℕ) (task : Task) → HasRuns g c tasks ends [] → slice_get tasks i ≡ Some task → task.cpu ≡ c → ⊥
+  none_left : (c : ℕ) (tasks : List Task) (ends : List Outcome) (i : ℕ) (task : Task) → HasRuns g c tasks ends [] → slice_get tasks i ≡ Some
+      task → task.cpu ≡ c → ⊥
   none_left c [] ends i task runs at of = cc
   none_left c (t ∷ ts) [] i task runs at of = runs
   none_left c (t ∷ ts) (e ∷ es) i task (inl (its, (rest, run, more))) at of = no_run run.steps rest run.is
@@ -167,7 +194,8 @@ module _ (g : Given) (Good : Loaded → Cpu → Type 0) (w : World) (wait : AllW
       → (end : Outcome) × (slice_get g.ends k ≡ Some end) × (slice_get z.jobs k ≡ Some (record task { stage = Ended end }))
   ended_there c last z (Between i) k task at of = elim (equal_or_less k i.job) [
     | inl less ↦ i.idle.ended k task less at of
-    | inr from ↦ let p = place i.job k from in absurd (none_left c i.more.tasks i.more.ends p.0 task i.more.runs (i.more.jobs p.0 ∙ ap (λ (n : ℕ). slice_get g.tasks n) p.1 ∙ at) of)
+    | inr from ↦ let p = place i.job k from in absurd (none_left c i.more.tasks i.more.ends p.0 task i.more.runs
+        (i.more.jobs p.0 ∙ ap (λ (n : ℕ). slice_get g.tasks n) p.1 ∙ at) of)
   ]
     where
       place : (j k : ℕ) → j ≤ k → (i : ℕ) × (j + i ≡ k)
@@ -178,7 +206,8 @@ module _ (g : Given) (Good : Loaded → Cpu → Type 0) (w : World) (wait : AllW
   ended_there c last z (Going i) k task at of = absurd (not_over i.run.steps i.run.rest i.run.is)
   ended_there c last z (Over i) k task at of = absurd (not_over [] i.rest i.is)
 
-  pub all_ended : ((k : ℕ) (task : Task) → slice_get g.tasks k ≡ Some task → task.cpu < g.shape.cpus) → (last : Plain) (z : World) → Beside g Good w [] last z → (k : ℕ) (task : Task) → slice_get g.tasks k ≡ Some task
+  pub all_ended : ((k : ℕ) (task : Task) → slice_get g.tasks k ≡ Some task → task.cpu < g.shape.cpus) → (last : Plain) (z : World) → Beside
+      g Good w [] last z → (k : ℕ) (task : Task) → slice_get g.tasks k ≡ Some task
       → (end : Outcome) × (slice_get g.ends k ≡ Some end) × (slice_get z.jobs k ≡ Some (record task { stage = Ended end }))
   all_ended on last z b k task at = ended_there task.cpu last z (b.each task.cpu (on k task at)) k task at refl
 

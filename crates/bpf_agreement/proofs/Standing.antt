@@ -1,5 +1,6 @@
 -- A history, and a machine that takes turns beside it: how far each CPU is in both.
-use Rattle.std.proofs.Common.{◌≡◌, ◌≢◌, ℕ, suc, ◌+◌, ◌<◌, ◌≤◌, Bool, true, false, if◌then◌else◌, List, [], ◌∷◌, ◌++◌, length, Some, ◌⊎◌, inl, inr, sym, ap, subst, ◌∙◌, arith, eq-eqb, ne_eqb}
+use Rattle.std.proofs.Common.{◌≡◌, ◌≢◌, ℕ, suc, ◌+◌, ◌<◌, ◌≤◌, Bool, true, false, if◌then◌else◌, List, [], ◌∷◌, ◌++◌, length, Some, ◌⊎◌}
+use Rattle.std.proofs.Common.{inl, inr, sym, ap, subst, ◌∙◌, arith, eq-eqb, ne_eqb}
 use Rattle.std.specs.Prelude.{slice_get}
 use Rattle.bpf_shared.specs.declared.events.Event.{Event}
 use Rattle.bpf_shared.specs.declared.events.Event.TheVariants.{Begin, End}
@@ -207,8 +208,10 @@ pub record Beside (g : Given) (Good : Loaded → Cpu → Type 0) (w : World) (lo
   pub beyond : (c : ℕ) → g.shape.cpus ≤ c → (s.running c ≡ false) × (z.store.running c ≡ false)
 
 -- one CPU went on, in the history, in the machine, or in both
-pub goes_beside : (g : Given) (Good : Loaded → Cpu → Type 0) (w : World) (log next : List Entry) (s m : Plain) (z y : World) (c : ℕ) → Beside g Good w log s z → c < g.shape.cpus
-    → (schedule : List ℕ) → RunsSchedule w schedule y → y.programs ≡ z.programs → m.shape ≡ s.shape → IsLike m y.store → length y.jobs ≡ length z.jobs → HaveCpus g y
+pub goes_beside : (g : Given) (Good : Loaded → Cpu → Type 0) (w : World) (log next : List Entry) (s m : Plain) (z y : World) (c : ℕ) →
+    Beside g Good w log s z → c < g.shape.cpus
+    → (schedule : List ℕ) → RunsSchedule w schedule y → y.programs ≡ z.programs → m.shape ≡ s.shape → IsLike m y.store → length y.jobs ≡
+    length z.jobs → HaveCpus g y
     → ((d : ℕ) → d ≢ c → events_of d next ≡ events_of d log) → ((d : ℕ) → d ≢ c → IsUntouched g d s m z y) → Standing g Good c m y (events_of c next)
     → ((d : ℕ) → (d ≡ c) ⊎ (d ≢ c)) → Beside g Good w next m y
 goes_beside g Good w log next s m z y c b inside schedule runs programs shape like size cpus events others own which = record {

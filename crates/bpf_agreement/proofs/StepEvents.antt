@@ -41,12 +41,15 @@ loads_inside : (a : ℕ) (bytes : List ℕ) → AreInside (loads a bytes)
 loads_inside a [] = refl
 loads_inside a (byte ∷ bytes) = loads_inside (suc a) bytes
 
-copies_inside : (reading : ℕ → List ℕ → List Event) → ((a : ℕ) (bytes : List ℕ) → AreInside (reading a bytes)) → (sizes : List Size) (from to : ℕ) (bytes : List ℕ) → AreInside (copies reading from to sizes bytes)
+copies_inside : (reading : ℕ → List ℕ → List Event) → ((a : ℕ) (bytes : List ℕ) → AreInside (reading a bytes)) → (sizes : List Size)
+    (from to : ℕ) (bytes : List ℕ) → AreInside (copies reading from to sizes bytes)
 copies_inside reading none [] from to bytes = refl
 copies_inside reading none (size ∷ sizes) from to bytes =
     let own : List Event = reading from (take (bytes_in size) bytes) in
-    let rest : List Event = Store to size (little_endian (take (bytes_in size) bytes)) ∷ copies reading (from + bytes_in size) (to + bytes_in size) sizes (drop (bytes_in size) bytes) in
-    both_inside own rest (own ++ rest) refl (none from (take (bytes_in size) bytes)) (copies_inside reading none sizes (from + bytes_in size) (to + bytes_in size) (drop (bytes_in size) bytes))
+    let rest : List Event = Store to size (little_endian (take (bytes_in size) bytes)) ∷ copies reading (from + bytes_in size)
+    (to + bytes_in size) sizes (drop (bytes_in size) bytes) in
+    both_inside own rest (own ++ rest) refl (none from (take (bytes_in size) bytes))
+    (copies_inside reading none sizes (from + bytes_in size) (to + bytes_in size) (drop (bytes_in size) bytes))
 
 module _ (shape : Shape) (memory : PrivateMemory) (registers : List ℕ) (held : List Span) where
   reads_inside : (a n : ℕ) (key : List ℕ) (events : List Event) → Reads shape memory held a n key events → AreInside events
@@ -57,34 +60,41 @@ module _ (shape : Shape) (memory : PrivateMemory) (registers : List ℕ) (held :
   index_inside a index events (inl r) = none_inside events r.3
   index_inside a index events (inr r) = ap turns_of r.3
 
-  map_inside : (m : ℕ) (h : MapShape) (n : ℕ) (events : List Event) (result : Result ℕ HelperFault) (after : List Span) → CallsMap shape memory registers held m h n events result after → AreInside events
+  map_inside : (m : ℕ) (h : MapShape) (n : ℕ) (events : List Event) (result : Result ℕ HelperFault) (after : List Span) → CallsMap shape
+      memory registers held m h n events result after → AreInside events
   map_inside m h n events result after (inl (is, inl stops)) = none_inside events stops.1.0
   map_inside m h n events result after (inl (is, inr r)) = both_inside r.1 (Lookup m r.0 r.2 ∷ []) events r.4 (reads_inside _ _ r.0 r.1 r.3) refl
   map_inside m h n events result after (inr (inl (is, inl stops))) = none_inside events stops.1.0
   map_inside m h n events result after (inr (inl (is, inr r))) =
-      both_inside (r.2 ++ r.3) (Update m r.0 r.1 _ r.4 ∷ []) events r.7 (both_inside r.2 r.3 (r.2 ++ r.3) refl (reads_inside _ _ r.0 r.2 r.5) (reads_inside _ _ r.1 r.3 r.6)) refl
+      both_inside (r.2 ++ r.3) (Update m r.0 r.1 _ r.4 ∷ []) events r.7
+      (both_inside r.2 r.3 (r.2 ++ r.3) refl (reads_inside _ _ r.0 r.2 r.5) (reads_inside _ _ r.1 r.3 r.6)) refl
   map_inside m h n events result after (inr (inr (is, inl stops))) = none_inside events stops.1.0
   map_inside m h n events result after (inr (inr (is, inr r))) = both_inside r.1 (Delete m r.0 r.2 ∷ []) events r.4 (reads_inside _ _ r.0 r.1 r.3) refl
 
-  stops_inside : (events : List Event) (result : Result ℕ HelperFault) (after : List Span) → StopsAtKey shape memory registers held events result after → AreInside events
+  stops_inside : (events : List Event) (result : Result ℕ HelperFault) (after : List Span) → StopsAtKey shape memory registers held events
+      result after → AreInside events
   stops_inside events result after (inl r) = none_inside events r.1.0
   stops_inside events result after (inr r) = none_inside events r.1.0
 
-  answers_inside : (to n : ℕ) (refusal : Option ℕ) (events : List Event) (result : Result ℕ HelperFault) → Answers shape memory registers held to n refusal events result → AreInside events
+  answers_inside : (to n : ℕ) (refusal : Option ℕ) (events : List Event) (result : Result ℕ HelperFault) → Answers shape memory registers
+      held to n refusal events result → AreInside events
   answers_inside to n (Some refusal) events result r = none_inside events r.0
   answers_inside to n None events result (said, inl r) = ap turns_of r.2 ∙ copies_inside no_loads (λ a bytes. refl) (parts_of n) _ to r.0
   answers_inside to n None events result (said, inr r) = ap turns_of r.3 ∙ copies_inside loads loads_inside (parts_of n) _ to r.0
 
-  array_inside : (cpu a : ℕ) (g : ArrayShape) (n : ℕ) (events : List Event) (result : Result ℕ HelperFault) (after : List Span) → CallsArray shape memory registers held cpu a g n events result after → AreInside events
+  array_inside : (cpu a : ℕ) (g : ArrayShape) (n : ℕ) (events : List Event) (result : Result ℕ HelperFault) (after : List Span) → CallsArray
+      shape memory registers held cpu a g n events result after → AreInside events
   array_inside cpu a g n events result after (inl (is, inl stops)) = stops_inside events result after stops
   array_inside cpu a g n events result after (inl (is, inr r)) = index_inside _ r.0 events r.1
   array_inside cpu a g n events result after (inr (inl (is, inl stops))) = none_inside events stops.1.0
   array_inside cpu a g n events result after (inr (inl (is, inr (inl odd)))) = none_inside events odd.2.0
-  array_inside cpu a g n events result after (inr (inl (is, inr (inr r)))) = both_inside r.1 r.2 events r.5 (index_inside _ r.0 r.1 r.4) (answers_inside _ g.value _ r.2 result r.6)
+  array_inside cpu a g n events result after (inr (inl (is, inr (inr r)))) = both_inside r.1 r.2 events r.5 (index_inside _ r.0 r.1 r.4)
+      (answers_inside _ g.value _ r.2 result r.6)
   array_inside cpu a g n events result after (inr (inr (is, inl stops))) = stops_inside events result after stops
   array_inside cpu a g n events result after (inr (inr (is, inr r))) = none_inside events r.2
 
-  helper_inside : (n cpu : ℕ) (events : List Event) (result : Result ℕ HelperFault) (after : List Span) → CallsHelper shape n cpu registers memory held events result after → AreInside events
+  helper_inside : (n cpu : ℕ) (events : List Event) (result : Result ℕ HelperFault) (after : List Span) → CallsHelper shape n cpu registers
+      memory held events result after → AreInside events
   helper_inside n cpu events result after (inl r) = none_inside events r.1
   helper_inside n cpu events result after (inr (inl r)) = none_inside events r.3.0
   helper_inside n cpu events result after (inr (inr (inl r))) = map_inside r.0 r.1 n events result after r.3
@@ -111,14 +121,17 @@ module _ (shape : Shape) (old new : Cpu) (events : List Event) (progress : Progr
   row_inside i (inr (inl (number, is, inr (inr (inl (lock, inr r)))))) = ap turns_of r.1.1
   row_inside i (inr (inl (number, is, inr (inr (inr (lock, inl refused)))))) = none_inside events refused.2
   row_inside i (inr (inl (number, is, inr (inr (inr (lock, inr r)))))) = ap turns_of r.1.1
-  row_inside i (inr (inl (number, is, inl (helper, (result, after, calls, takes))))) = helper_inside shape old.memory old.registers old.held number old.number events result after calls
+  row_inside i (inr (inl (number, is, inl (helper, (result, after, calls, takes))))) = helper_inside shape old.memory old.registers old.held
+      number old.number events result after calls
   row_inside i (inr (inr r)) = value_inside i r.1
 
-pub step_inside : (shape : Shape) (program : Loaded) (old new : Cpu) (events : List Event) (progress : Progress) → Step shape program old events progress new → AreInside events
+pub step_inside : (shape : Shape) (program : Loaded) (old new : Cpu) (events : List Event) (progress : Progress) → Step shape program old
+    events progress new → AreInside events
 step_inside shape program old new events progress step = row_inside shape old new events progress step.instruction step.row
 
 -- nor of the steps of a run
-pub steps_inside : (shape : Shape) (program : Loaded) (n : ℕ) (old : Cpu) (events : List Event) (end : Outcome) (new : Cpu) → MakesSteps shape program n old events end new → turns_of events ≡ 0
+pub steps_inside : (shape : Shape) (program : Loaded) (n : ℕ) (old : Cpu) (events : List Event) (end : Outcome) (new : Cpu) → MakesSteps
+    shape program n old events end new → turns_of events ≡ 0
 steps_inside shape program zero old events end new made = none_inside events made.0
 steps_inside shape program (suc n) old events end new (inl step) = step_inside shape program old new events _ step
 steps_inside shape program (suc n) old events end new (inr (first, rest, mid, is, step, made)) =

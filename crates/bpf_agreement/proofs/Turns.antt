@@ -29,9 +29,11 @@ none_more t ts c none not zero task input at =
     not input (ap (λ (x : Task). x.cpu) same ∙ at.of) (ap (λ (x : Task). x.stage) same ∙ at.at)
 none_more t ts c none not (suc j) task input at = none j task input (record { listed = at.listed; of = at.of; at = at.at })
 
-first_waits : (t : Task) (ts : List Task) (c : ℕ) → NoneWaits ts c → (stage : Stage) → t.stage ≡ stage → (t.cpu ≡ c) ⊎ (t.cpu ≢ c) → SomeWaits (t ∷ ts) c ⊎ NoneWaits (t ∷ ts) c
+first_waits : (t : Task) (ts : List Task) (c : ℕ) → NoneWaits ts c → (stage : Stage) → t.stage ≡ stage → (t.cpu ≡ c) ⊎ (t.cpu ≢ c) →
+    SomeWaits (t ∷ ts) c ⊎ NoneWaits (t ∷ ts) c
 first_waits t ts c none (Waiting input) is (inl of) = inl (zero, t, input, record { listed = refl; of = of; at = is })
-first_waits t ts c none (InHand state left) is of = inr (none_more t ts c none (λ input e waits. let no : InHand state left ≡ Waiting input = sym is ∙ waits in cc))
+first_waits t ts c none (InHand state left) is
+    of = inr (none_more t ts c none (λ input e waits. let no : InHand state left ≡ Waiting input = sym is ∙ waits in cc))
 first_waits t ts c none (Ended end) is of = inr (none_more t ts c none (λ input e waits. let no : Ended end ≡ Waiting input = sym is ∙ waits in cc))
 first_waits t ts c none stage is (inr ne) = inr (none_more t ts c none (λ input e waits. ne e))
 
@@ -52,10 +54,24 @@ lists_there w c = elim (some_or_none w.jobs c) [
 -- ---- turns
 goes_takes : (w z : World) (c j : ℕ) (task : Task) (state : Cpu) (left : ℕ) (s : Plain) (answer : Turn) → IsNextStep w c j task state left s
     → GoesOn (record w { store = s }) c j task state left answer z → TakesTurn w c answer z
-goes_takes w z c j task state left s answer (inl (at, same)) goes = inl (j, task, state, left, at, subst (λ (x : Plain). GoesOn (record w { store = x }) c j task state left answer z) same goes)
+goes_takes w z c j task state left s answer (inl (at, same)) goes = inl
+    (j, task, state, left, at, subst (λ (x : Plain). GoesOn (record w { store = x }) c j task state left answer z) same goes)
 goes_takes w z c j task state left s answer (inr b) goes =
     let G : Cpu → ℕ → Type 0 = λ from n. GoesOn (record w { store = s }) c j task from n answer z in
-    inr (inl (b.free, (j, task, b.input, s, b.at, b.lowest, b.begun, subst (λ (n : ℕ). G (start c b.input) n) b.budget (subst (λ (from : Cpu). G from left) b.fresh goes))))
+    inr (inl (
+      b.free,
+      (
+        j,
+        task,
+        b.input,
+        s,
+        b.at,
+        b.lowest,
+        b.begun,
+        subst (λ (n : ℕ). G (start c b.input) n) b.budget
+            (subst (λ (from : Cpu). G from left) b.fresh goes),
+      ),
+    ))
 
 -- a turn that leaves the job in this stage, and this store
 pub record Turns (w : World) (c j : ℕ) (task : Task) (stage : Stage) (s : Plain) : Type 0 where
@@ -79,8 +95,10 @@ goes_on w c j task state new left rest program s t is loaded advances =
       programs = refl;
     }
 
-pub goes_out : (w : World) (c j : ℕ) (task : Task) (state new : Cpu) (left rest : ℕ) (program : Loaded) (end : Outcome) (s t u : Plain) → IsNextStep w c j task state left s
-    → slice_get w.programs task.program ≡ Some program → Advances program c s state left (Some end) t new rest → PlainlyAllowed t c End u → Turns w c j task (Ended end) u
+pub goes_out : (w : World) (c j : ℕ) (task : Task) (state new : Cpu) (left rest : ℕ) (program : Loaded) (end : Outcome) (s t u : Plain) →
+    IsNextStep w c j task state left s
+    → slice_get w.programs task.program ≡ Some program → Advances program c s state left (Some end) t new rest → PlainlyAllowed t c End u →
+    Turns w c j task (Ended end) u
 goes_out w c j task state new left rest program end s t u is loaded advances ends =
     let y : World = with_end w j task end u in
     let l = lists_there y c in

@@ -47,8 +47,15 @@ module _ (one : OneStateIsAlike) (program : Loaded) (c : ℕ) (some : Plain) whe
         λ s.
             let b = made s in
             let further : b.1 ≡ On = goes_on b.1 n new b.4 in
-            let step = r.2 s.shape b.0 (subst (λ (p : Progress). Step s.shape program old b.0 p new) further b.2) in
-            (b.0, b.1, subst (λ (p : Progress). Step s.shape program other b.0 p r.0) (sym further) step, b.3, b.4 ∙ sym (same_outcome b.1 n new r.0 same), b.5),
+            let step = r.2 s.shape b.0 (subst (λ (p : Progress). Step s.shape program old b.0 p new) further b.2) in (
+              b.0,
+              b.1,
+              subst (λ (p : Progress). Step s.shape program other b.0 p r.0) (sym further) step,
+              b.3,
+              b.4 ∙ sym
+                  (same_outcome b.1 n new r.0 same),
+              b.5,
+            ),
         r.1,
       )
 
@@ -104,7 +111,11 @@ module _ (equal : AlikeIsAnEquivalence) (one : OneStateIsAlike) (mid : MachineSt
       let b = alike_at equal mid.programs mid.jobs jobs j task all at.listed in
       let h = alike_hand equal mid.programs task b.0 state left b.2 at.at in
       let r = turns_quietly one program c some n state h.0 left later rest (h.2 program loaded) made in
-      let there : IsAt jobs c j b.0 (InHand h.0 left) = record { listed = b.1; of = ap (λ (t : Task). t.cpu) h.1 ∙ at.of; at = ap (λ (t : Task). t.stage) h.1 } in
+      let there : IsAt jobs c j b.0 (InHand h.0 left) = record {
+        listed = b.1;
+        of = ap (λ (t : Task). t.cpu) h.1 ∙ at.of;
+        at = ap (λ (t : Task). t.stage) h.1;
+      } in
       let last = with_stage jobs j b.0 (InHand r.0 rest) in
       let alike : IsAlike mid.programs (record task { stage = InHand later rest }) (record b.0 { stage = InHand r.0 rest }) =
       inr (program, later, rest, r.0, loaded, refl, ap (λ (t : Task). record t { stage = InHand r.0 rest }) h.1, r.2) in

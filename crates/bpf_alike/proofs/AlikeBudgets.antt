@@ -63,7 +63,8 @@ module _ (equal : AlikeIsAnEquivalence) (steps : StepsAreAlike) (one : OneStateI
         depth = s.depth;
         budgets = λ j task there. (
             let b = alike_at equal v.programs v.jobs jobs j task all there in
-            subst (λ (n : ℕ). least ≤ n) (alike_budget v.programs task b.0 b.2) (s.budgets j b.0 (ap (λ (ts : List Task). slice_get ts j) (sym shows.jobs) ∙ b.1)));
+            subst (λ (n : ℕ). least ≤ n) (alike_budget v.programs task b.0 b.2)
+            (s.budgets j b.0 (ap (λ (ts : List Task). slice_get ts j) (sym shows.jobs) ∙ b.1)));
         turns = λ c. elim (s.turns c) [
           | inl idle ↦
               inl (

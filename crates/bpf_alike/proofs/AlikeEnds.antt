@@ -107,5 +107,6 @@ alike_all_can_end equal steps one law begins replies kept w z schedule closed en
 pub alike_stuck_are_hung : AlikeIsAnEquivalence → StepsAreAlike → OneStateIsAlike → WritesAreDetermined → OneInstructionBegins → CallsHaveOneReply
     → AlikeStuckAreHung
 alike_stuck_are_hung equal steps one law begins replies kept ends w z schedule i stuck fresh runs off (jobs, rich, (dead, all, (m, at, shows))) =
-    are_hung (IsStuck kept equal steps one ends stuck) (stuck_leads kept equal steps one ends stuck) (stuck_works kept equal steps one ends stuck) (none_stuck kept equal steps one ends stuck)
+    are_hung (IsStuck kept equal steps one ends stuck) (stuck_leads kept equal steps one ends stuck)
+    (stuck_works kept equal steps one ends stuck) (none_stuck kept equal steps one ends stuck)
     law begins replies w z schedule fresh runs (jobs, rich, (dead, all, (i, m, off, at, shows)))

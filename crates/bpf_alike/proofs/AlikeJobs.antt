@@ -93,7 +93,8 @@ module _ (equal : AlikeIsAnEquivalence) (programs : List Loaded) where
   alike_ended (x ∷ xs) [] all ended = absurd all
   alike_ended (x ∷ xs) (y ∷ ys) all ended =
       let end = ended 0 x refl in
-      ap (λ (t : Task). t ∷ ys) (end_alike x y end.0 all.0 end.1) ∙ ap (λ (ts : List Task). x ∷ ts) (alike_ended xs ys all.1 (λ j task at. ended (suc j) task at))
+      ap (λ (t : Task). t ∷ ys) (end_alike x y end.0 all.0 end.1) ∙ ap (λ (ts : List Task). x ∷ ts)
+      (alike_ended xs ys all.1 (λ j task at. ended (suc j) task at))
 
   -- ---- jobs that are alike
   module _ (olds news : List Task) (all : All olds news) where

@@ -48,6 +48,7 @@ alike_patient_sets_have_turns equal steps one law begins replies kept w z schedu
       covered.0,
       covered.1,
       λ c.
-          let r = comes (IsShownAlike kept) (IsShownAlikeRichly kept) (λ v there. (v.jobs, all_rich v.jobs, there)) (rich_leads equal steps one kept closed) (with_jobs z covered.0) c covered.2 in
+          let r = comes (IsShownAlike kept) (IsShownAlikeRichly kept) (λ v there. (v.jobs, all_rich v.jobs, there))
+          (rich_leads equal steps one kept closed) (with_jobs z covered.0) c covered.2 in
           (r.0, r.1, r.2),
     )

@@ -26,7 +26,8 @@ same_outcome (Done end) n new next e = refl
 same_outcome On zero new next e = ap (λ (pc : ℕ). Some (OutOfBudget pc)) e
 same_outcome On (suc n) new next e = refl
 
-pub advance_alike : (steps : StepsAreAlike) (program : Loaded) (c : ℕ) (s : Plain) (old other : Cpu) (left : ℕ) (end : Option Outcome) (t : Plain) (new : Cpu) (rest : ℕ)
+pub advance_alike : (steps : StepsAreAlike) (program : Loaded) (c : ℕ) (s : Plain) (old other : Cpu) (left : ℕ) (end : Option Outcome)
+    (t : Plain) (new : Cpu) (rest : ℕ)
     → AreLike program old other → Advances program c s old left end t new rest
     → (next : Cpu) × Advances program c s other left end t next rest × AreLike program new next
 advance_alike steps program c s old other zero end t new rest alike a =
@@ -48,7 +49,8 @@ module _ (equal : AlikeIsAnEquivalence) (steps : StepsAreAlike) (programs : List
       → AllAlike programs w.jobs jobs
       → ((stage : Stage) → record new { stage = stage } ≡ record task { stage = stage }) → new.program ≡ task.program
       → ((program : Loaded) → slice_get programs task.program ≡ Some program → AreLike program state other)
-      → GoesOn w c j task state left answer z → (later : List Task) × GoesOn (with_jobs w jobs) c j new other left answer (with_jobs z later) × AllAlike programs z.jobs later
+      → GoesOn w c j task state left answer z → (later : List Task) × GoesOn (with_jobs w jobs) c j new other left answer
+      (with_jobs z later) × AllAlike programs z.jobs later
   goes_alike w jobs c j task new state other left answer z known all same program alike g = settle g.1 g.6 g.7
     where
       here : slice_get programs task.program ≡ Some g.0
@@ -74,10 +76,26 @@ module _ (equal : AlikeIsAnEquivalence) (steps : StepsAreAlike) (programs : List
           let later = with_stage jobs j new (Ended end) in
           let m : World = with_end w j task end s.0 in
           let is : z.jobs ≡ m.jobs = lists_jobs m c z s.3 in
-          let both : AllAlike programs m.jobs later = alike_set equal programs w.jobs jobs j (record task { stage = Ended end }) (record new { stage = Ended end }) all (inl (same (Ended end))) in
+          let both : AllAlike programs m.jobs later = alike_set equal programs w.jobs jobs j (record task { stage = Ended end })
+          (record new { stage = Ended end }) all (inl (same (Ended end))) in
           let some : SomeWaits m.jobs c → SomeWaits later c = λ h. (h.0, h.1, h.2, wait_now equal programs m.jobs later both c h.0 h.1 h.2 h.3) in (
             later,
-            (g.0, Some end, g.2, made.0, g.4, loaded, made.1, (s.0, s.1, s.2, lists_along m c z later some (waits_alike equal programs m.jobs later both c) s.3)),
+            (
+              g.0,
+              Some end,
+              g.2,
+              made.0,
+              g.4,
+              loaded,
+              made.1,
+              (
+                s.0,
+                s.1,
+                s.2,
+                lists_along m c z later some
+                    (waits_alike equal programs m.jobs later both c) s.3,
+              ),
+            ),
             subst (λ (ts : List Task). AllAlike programs ts later) (sym is) both,
           )
 
@@ -86,16 +104,33 @@ module _ (equal : AlikeIsAnEquivalence) (steps : StepsAreAlike) (programs : List
   turn_alike w z jobs c answer known all (inl (j, task, state, left, at, g)) =
       let b = alike_at equal programs w.jobs jobs j task all at.listed in
       let h = alike_hand equal programs task b.0 state left b.2 at.at in
-      let r = goes_alike w jobs c j task b.0 state h.0 left answer z known all (λ stage. ap (λ (t : Task). record t { stage = stage }) h.1) (ap (λ (t : Task). t.program) h.1) h.2 g in
-      let there : IsAt jobs c j b.0 (InHand h.0 left) = record { listed = b.1; of = ap (λ (t : Task). t.cpu) h.1 ∙ at.of; at = ap (λ (t : Task). t.stage) h.1 } in
+      let r = goes_alike w jobs c j task b.0 state h.0 left answer z known all (λ stage. ap (λ (t : Task). record t { stage = stage }) h.1)
+      (ap (λ (t : Task). t.program) h.1) h.2 g in
+      let there : IsAt jobs c j b.0 (InHand h.0 left) = record {
+        listed = b.1;
+        of = ap (λ (t : Task). t.cpu) h.1 ∙ at.of;
+        at = ap (λ (t : Task). t.stage) h.1;
+      } in
       (r.0, inl (j, b.0, h.0, left, there, r.1), r.2)
   turn_alike w z jobs c answer known all (inr (inl (free, a))) =
       let there = wait_now equal programs w.jobs jobs all c a.0 a.1 a.2 a.4 in
       let r = goes_alike (record w { store = a.3 }) jobs c a.0 a.1 a.1 (start c a.2) (start c a.2) a.1.budget answer z known all (λ stage. refl) refl
-      (λ program loaded. like_same program (start c a.2)) a.7 in
-      (r.0, inr (inl (free_alike equal programs w.jobs jobs all c free, (a.0, a.1, a.2, a.3, there, below_alike equal programs w.jobs jobs all c a.0 a.5, a.6, r.1))), r.2)
+      (λ program loaded. like_same program (start c a.2)) a.7 in (
+        r.0,
+        inr (inl (
+          free_alike equal programs w.jobs jobs all c free,
+          (a.0, a.1, a.2, a.3, there, below_alike equal programs w.jobs jobs all c a.0 a.5, a.6, r.1),
+        )),
+        r.2,
+      )
   turn_alike w z jobs c answer known all (inr (inr (free, waits, idle, same))) = (
     jobs,
-    inr (inr (free_alike equal programs w.jobs jobs all c free, waits_alike equal programs w.jobs jobs all c waits, idle, ap (λ (x : World). with_jobs x jobs) same)),
+    inr (inr (
+      free_alike equal programs w.jobs jobs all c free,
+      waits_alike equal programs w.jobs jobs all c waits,
+      idle,
+      ap
+          (λ (x : World). with_jobs x jobs) same,
+    )),
     subst (λ (x : World). AllAlike programs x.jobs jobs) (sym same) all,
   )

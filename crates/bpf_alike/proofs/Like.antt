@@ -61,7 +61,8 @@ module _ (program : Loaded) where
 
   -- where a step leads to one state whatever the store
   abbrev Once : Cpu → Cpu → Cpu → Type 0
-  Once old other new = (next : Cpu) × AreLike program new next × ((h : Shape) (es : List Event) → Step h program old es On new → Step h program other es On next)
+  Once old other new = (next : Cpu) × AreLike program new next ×
+      ((h : Shape) (es : List Event) → Step h program old es On new → Step h program other es On next)
 
   once_in : OneStateIsAlike → (shape : Shape) (events : List Event) (n : ℕ) (old other new : Cpu) → In n old other → Step shape program old events On new
       → Once old other new

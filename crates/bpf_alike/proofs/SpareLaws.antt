@@ -56,7 +56,8 @@ went : (w : World) (c j : ℕ) (task : Task) (state : Cpu) (left : ℕ) (answer 
     → Went w.jobs j task left z.jobs
 went w c j task state left answer z two g = settle g.1 left two g.6 g.7
   where
-    settle : (end : Option Outcome) (n : ℕ) → 2 ≤ n → Advances g.0 c w.store state n end g.2 g.3 g.4 → Settles (record w { store = g.2 }) c j task g.3 g.4 end answer z → Went w.jobs j task n z.jobs
+    settle : (end : Option Outcome) (n : ℕ) → 2 ≤ n → Advances g.0 c w.store state n end g.2 g.3 g.4 → Settles (record w { store = g.2 }) c
+        j task g.3 g.4 end answer z → Went w.jobs j task n z.jobs
     settle end zero two' a s = absurd (omega arith)
     settle None (suc n) two' a s =
         let rest : g.4 ≡ n = a.5 in
@@ -70,10 +71,13 @@ went w c j task state left answer z two g = settle g.1 left two g.6 g.7
 abbrev HasSteps : List Task → (ℕ → ℕ) → ℕ → Type 0
 HasSteps jobs ahead depth = (c j : ℕ) (task : Task) (state : Cpu) (left : ℕ) → IsAt jobs c j task (InHand state left) → task.budget + ahead c ≤ left + depth
 
-module _ (jobs news : List Task) (c j : ℕ) (task : Task) (stage : Stage) (at : IsAt jobs c j task stage) (only : (k : ℕ) (other : Task) (state : Cpu) (left : ℕ) → IsAt jobs c k other (InHand state left) → k ≡ j) where
+module _ (jobs news : List Task) (c j : ℕ) (task : Task) (stage : Stage) (at : IsAt jobs c j task stage)
+    (only : (k : ℕ) (other : Task) (state : Cpu) (left : ℕ) → IsAt jobs c k other (InHand state left) → k ≡ j) where
   set_budget : (now : Stage) (k : ℕ) (other : Task) → k ≡ j → slice_get (with_stage jobs j task now) k ≡ Some other → other.budget ≡ task.budget
   set_budget now k other e there =
-      let one : Some (record task { stage = now }) ≡ Some other = sym (slice_get-set_known jobs j (record task { stage = now }) task at.listed) ∙ subst (λ (n : ℕ). slice_get (with_stage jobs j task now) n ≡ Some other) e there in
+      let one : Some (record task { stage = now }) ≡ Some other = sym
+      (slice_get-set_known jobs j (record task { stage = now }) task at.listed) ∙ subst
+      (λ (n : ℕ). slice_get (with_stage jobs j task now) n ≡ Some other) e there in
       let same : record task { stage = now } ≡ other = cc in
       ap (λ (t : Task). t.budget) (sym same)
 
@@ -90,9 +94,11 @@ module _ (jobs news : List Task) (c j : ℕ) (task : Task) (stage : Stage) (at :
       go (Same is of e) = ThisOne of (set_budget now k other is there.listed) e
       go (Other apart was) = Elsewhere (λ of. apart (only k other state left (subst (λ (b : ℕ). IsAt jobs b k other (InHand state left)) of was))) was
 
-  module _ (f g : ℕ → ℕ) (others : (d : ℕ) → d ≢ c → f d ≡ g d) (old deep left : ℕ) (more : old ≤ deep) (steps : HasSteps jobs f old) (enough : task.budget + g c + 1 ≤ left + deep) where
+  module _ (f g : ℕ → ℕ) (others : (d : ℕ) → d ≢ c → f d ≡ g d) (old deep left : ℕ) (more : old ≤ deep) (steps : HasSteps jobs f old)
+      (enough : task.budget + g c + 1 ≤ left + deep) where
     steps_after : Went jobs j task left news → HasSteps news g deep
-    steps_after (inl (new, rest, sum, same)) d k other state now there = go (hand_now (InHand new rest) d k other state now (subst (λ (ts : List Task). IsAt ts d k other (InHand state now)) same there))
+    steps_after (inl (new, rest, sum, same)) d k other state now there = go
+        (hand_now (InHand new rest) d k other state now (subst (λ (ts : List Task). IsAt ts d k other (InHand state now)) same there))
       where
         go : HandNow d k other state now (InHand new rest) → other.budget + g d ≤ now + deep
         go (ThisOne of budget e) =
@@ -103,7 +109,8 @@ module _ (jobs news : List Task) (c j : ℕ) (task : Task) (stage : Stage) (at :
             let before : other.budget + f d ≤ now + old = steps d k other state now was in
             let ahead : f d ≡ g d = others d apart in
             omega arith
-    steps_after (inr (end, not_out, same)) d k other state now there = go (hand_now (Ended end) d k other state now (subst (λ (ts : List Task). IsAt ts d k other (InHand state now)) same there))
+    steps_after (inr (end, not_out, same)) d k other state now there = go
+        (hand_now (Ended end) d k other state now (subst (λ (ts : List Task). IsAt ts d k other (InHand state now)) same there))
       where
         go : HandNow d k other state now (Ended end) → other.budget + g d ≤ now + deep
         go (ThisOne of budget e) = cc
@@ -113,12 +120,16 @@ module _ (jobs news : List Task) (c j : ℕ) (task : Task) (stage : Stage) (at :
             omega arith
 
   none_after : (left : ℕ) → NoneRanOut jobs → Went jobs j task left news → NoneRanOut news
-  none_after left none (inl (new, rest, sum, same)) k other pc there ended = go (changed jobs c j task stage (InHand new rest) other.cpu k other (Ended (OutOfBudget pc)) at (record { listed = subst (λ (ts : List Task). slice_get ts k ≡ Some other) same there; of = refl; at = ended }))
+  none_after left none (inl (new, rest, sum, same)) k other pc there ended = go
+      (changed jobs c j task stage (InHand new rest) other.cpu k other (Ended (OutOfBudget pc)) at
+      (record { listed = subst (λ (ts : List Task). slice_get ts k ≡ Some other) same there; of = refl; at = ended }))
     where
       go : Changed jobs c j (InHand new rest) other.cpu k other (Ended (OutOfBudget pc)) → ⊥
       go (Same is of e) = cc
       go (Other apart was) = none k other pc was.listed was.at
-  none_after left none (inr (end, not_out, same)) k other pc there ended = go (changed jobs c j task stage (Ended end) other.cpu k other (Ended (OutOfBudget pc)) at (record { listed = subst (λ (ts : List Task). slice_get ts k ≡ Some other) same there; of = refl; at = ended }))
+  none_after left none (inr (end, not_out, same)) k other pc there ended = go
+      (changed jobs c j task stage (Ended end) other.cpu k other (Ended (OutOfBudget pc)) at
+      (record { listed = subst (λ (ts : List Task). slice_get ts k ≡ Some other) same there; of = refl; at = ended }))
     where
       go : Changed jobs c j (Ended end) other.cpu k other (Ended (OutOfBudget pc)) → ⊥
       go (Same is of e) = let out : end ≡ OutOfBudget pc = cc in not_out pc out
@@ -169,15 +180,19 @@ module _ (P : ℕ → World → Type 0) (depths : List ℕ) (least : ℕ) (spari
         let two = precedes_budget s.v.programs (turns_in (s.headways b.0.cpu)) b.0 a.0 a.2 in
         omega arith
 
-  module _ (law : WritesAreDetermined) (begins : OneInstructionBegins) (replies : CallsHaveOneReply) (z z' : World) (c : ℕ) (answer : Turn) (world : IsWorld z) (s : IsSpared z) (progress : TakesTurn z c answer z') where
+  module _ (law : WritesAreDetermined) (begins : OneInstructionBegins) (replies : CallsHaveOneReply) (z z' : World) (c : ℕ) (answer : Turn)
+      (world : IsWorld z) (s : IsSpared z) (progress : TakesTurn z c answer z') where
     abbrev p : World
     p = with_jobs z s.jobs
 
     -- the CPU's turn leads to what the k-th shows so
-    module _ (k : ℕ) (other : Turn) (p' u : World) (h : Headway) (taken : TakesTurn p c other p') (shown : Richly (P k) u) (same : with_jobs u p'.jobs ≡ p') (ahead : IsAheadOf (IsAhead (now s.headways c h)) (now s.headways c h) p'.jobs u)
+    module _ (k : ℕ) (other : Turn) (p' u : World) (h : Headway) (taken : TakesTurn p c other p') (shown : Richly (P k) u)
+        (same : with_jobs u p'.jobs ≡ p') (ahead : IsAheadOf (IsAhead (now s.headways c h)) (now s.headways c h) p'.jobs u)
         (more : depth_at depths s.i ≤ depth_at depths k)
-        (hand : (j : ℕ) (task : Task) (state : Cpu) (left : ℕ) → IsAt z.jobs c j task (InHand state left) → (2 ≤ left) × (task.budget + turns_in h + 1 ≤ left + depth_at depths k))
-        (begun : (j : ℕ) (task : Task) (input : Input) → IsFree z.jobs c → IsAt z.jobs c j task (Waiting input) → (2 ≤ task.budget) × (task.budget + turns_in h + 1 ≤ task.budget + depth_at depths k)) where
+        (hand : (j : ℕ) (task : Task) (state : Cpu) (left : ℕ) → IsAt z.jobs c j task (InHand state left) → (2 ≤ left) ×
+        (task.budget + turns_in h + 1 ≤ left + depth_at depths k))
+        (begun : (j : ℕ) (task : Task) (input : Input) → IsFree z.jobs c → IsAt z.jobs c j task (Waiting input) → (2 ≤ task.budget) ×
+        (task.budget + turns_in h + 1 ≤ task.budget + depth_at depths k)) where
       there : (steps : HasSteps z'.jobs (λ d. turns_in (now s.headways c h d)) (depth_at depths k)) → NoneRanOut z'.jobs → IsSpared z'
       there steps none =
           let r = rich_turn z s.jobs c answer z' s.rich progress none in
@@ -205,20 +220,26 @@ module _ (P : ℕ → World → Type 0) (depths : List ℕ) (least : ℕ) (spari
       spared_by : TakesTurn z c answer z' → IsSpared z'
       spared_by (inl (j, task, state, left, at, g)) =
           let bound = hand j task state left at in
-          let only : (k : ℕ) (other : Task) (now : Cpu) (rest : ℕ) → IsAt z.jobs c k other (InHand now rest) → k ≡ j = λ k other now rest too. world.one c k j other task now state rest left too at in
+          let only : (k : ℕ) (other : Task) (now : Cpu) (rest : ℕ) → IsAt z.jobs c k other (InHand now rest) → k ≡ j = λ k other now rest
+          too. world.one c k j other task now state rest left too at in
           let w = went z c j task state left answer z' bound.0 g in
-          let enough : task.budget + turns_in (now s.headways c h c) + 1 ≤ left + depth_at depths k = subst (λ (n : ℕ). task.budget + n + 1 ≤ left + depth_at depths k) at_c bound.1 in
-          there (steps_after z.jobs z'.jobs c j task (InHand state left) at only (λ d. turns_in (s.headways d)) (λ d. turns_in (now s.headways c h d)) others (depth_at depths s.i) (depth_at depths k) left more s.steps enough w)
+          let enough : task.budget + turns_in (now s.headways c h c) + 1 ≤ left + depth_at depths k = subst
+          (λ (n : ℕ). task.budget + n + 1 ≤ left + depth_at depths k) at_c bound.1 in
+          there (steps_after z.jobs z'.jobs c j task (InHand state left) at only (λ d. turns_in (s.headways d))
+          (λ d. turns_in (now s.headways c h d)) others (depth_at depths s.i) (depth_at depths k) left more s.steps enough w)
           (none_after z.jobs z'.jobs c j task (InHand state left) at only left s.none w)
       spared_by (inr (inl (free, a))) =
           let j = a.0 in
           let task = a.1 in
           let at = a.4 in
           let bound = begun j task a.2 free at in
-          let only : (k : ℕ) (other : Task) (now : Cpu) (rest : ℕ) → IsAt z.jobs c k other (InHand now rest) → k ≡ j = λ k other now rest too. absurd (free k other now rest too) in
+          let only : (k : ℕ) (other : Task) (now : Cpu) (rest : ℕ) → IsAt z.jobs c k other (InHand now rest) → k ≡ j = λ k other now rest
+          too. absurd (free k other now rest too) in
           let w = went (record z { store = a.3 }) c j task (start c a.2) task.budget answer z' bound.0 a.7 in
-          let enough : task.budget + turns_in (now s.headways c h c) + 1 ≤ task.budget + depth_at depths k = subst (λ (n : ℕ). task.budget + n + 1 ≤ task.budget + depth_at depths k) at_c bound.1 in
-          there (steps_after z.jobs z'.jobs c j task (Waiting a.2) at only (λ d. turns_in (s.headways d)) (λ d. turns_in (now s.headways c h d)) others (depth_at depths s.i) (depth_at depths k) task.budget more s.steps enough w)
+          let enough : task.budget + turns_in (now s.headways c h c) + 1 ≤ task.budget + depth_at depths k = subst
+          (λ (n : ℕ). task.budget + n + 1 ≤ task.budget + depth_at depths k) at_c bound.1 in
+          there (steps_after z.jobs z'.jobs c j task (Waiting a.2) at only (λ d. turns_in (s.headways d))
+          (λ d. turns_in (now s.headways c h d)) others (depth_at depths s.i) (depth_at depths k) task.budget more s.steps enough w)
           (none_after z.jobs z'.jobs c j task (Waiting a.2) at only task.budget s.none w)
       spared_by (inr (inr a)) = subst IsSpared (sym a.3) s
 

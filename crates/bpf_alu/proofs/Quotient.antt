@@ -42,7 +42,8 @@ cast-below w (pos n) h = h
 cast-below w (negsuc n) h = omega arith
 
 -- what the code's signed division gives, where the divisor isn't zero
-pub quotient_value : (w : Number) (a b r : ℕ) (x y : ℤ) → a < 2 ^ bits w → b < 2 ^ bits w → b ≢ 0 → x ≡ signed w a → y ≡ signed w b → FitsSigned w x → r ≡ cast_unsigned w (cast_signed w (cast_unsigned w (int_div x y))) → r ≡ modulo w (whole w Sdiv (low w a) (low w b))
+pub quotient_value : (w : Number) (a b r : ℕ) (x y : ℤ) → a < 2 ^ bits w → b < 2 ^ bits w → b ≢ 0 → x ≡ signed w a → y ≡ signed w b →
+    FitsSigned w x → r ≡ cast_unsigned w (cast_signed w (cast_unsigned w (int_div x y))) → r ≡ modulo w (whole w Sdiv (low w a) (low w b))
 quotient_value w a b r x y la lb nz ex ey fx er =
     let ea : a % 2 ^ bits w ≡ a = mod-eq_of_lt la in
     let eb : b % 2 ^ bits w ≡ b = mod-eq_of_lt lb in
@@ -54,7 +55,8 @@ fits-int_rem : (w : Number) (x y : ℤ) → FitsSigned w x → mag (int_rem x y)
 fits-int_rem w x y h = omega (arith, h.sfits, mag_rem x y, half-below w)
 
 -- what the code's signed remainder gives, where the divisor isn't zero
-pub remainder_value : (w : Number) (a b r : ℕ) (x y : ℤ) → a < 2 ^ bits w → b < 2 ^ bits w → b ≢ 0 → x ≡ signed w a → y ≡ signed w b → FitsSigned w x → r ≡ cast_unsigned w (cast_signed w (cast_unsigned w (int_rem x y))) → r ≡ modulo w (whole w Smod (low w a) (low w b))
+pub remainder_value : (w : Number) (a b r : ℕ) (x y : ℤ) → a < 2 ^ bits w → b < 2 ^ bits w → b ≢ 0 → x ≡ signed w a → y ≡ signed w b →
+    FitsSigned w x → r ≡ cast_unsigned w (cast_signed w (cast_unsigned w (int_rem x y))) → r ≡ modulo w (whole w Smod (low w a) (low w b))
 remainder_value w a b r x y la lb nz ex ey fx er =
     let ea : a % 2 ^ bits w ≡ a = mod-eq_of_lt la in
     let eb : b % 2 ^ bits w ≡ b = mod-eq_of_lt lb in

@@ -97,9 +97,11 @@ module _ {A B : Type 0} (f g : A → B) where
   map_same (y ∷ ys) same = ap (λ (b : B). b ∷ map g ys) (same 0 y refl) ∙ ap (λ (l : List B). f y ∷ l) (map_same ys (λ k x h. same (suc k) x h))
 
   -- one element is replaced, and the new function differs from the old one nowhere else
-  pub map-set_changed : (xs : List A) (i : ℕ) (a : A) → ((k : ℕ) (x : A) → k ≢ i → slice_get xs k ≡ Some x → g x ≡ f x) → map g (slice_set xs i a) ≡ slice_set (map f xs) i (g a)
+  pub map-set_changed : (xs : List A) (i : ℕ) (a : A) → ((k : ℕ) (x : A) → k ≢ i → slice_get xs k ≡ Some x → g x ≡ f x) → map g
+      (slice_set xs i a) ≡ slice_set (map f xs) i (g a)
   map-set_changed [] i a same = refl
-  map-set_changed (y ∷ ys) zero a same = ap (λ (l : List B). g a ∷ l) (map_same ys (λ k x h. same (suc k) x (λ q. let no : suc k ≡ 0 = q in absurd (omega arith)) h))
+  map-set_changed (y ∷ ys) zero a same = ap (λ (l : List B). g a ∷ l)
+      (map_same ys (λ k x h. same (suc k) x (λ q. let no : suc k ≡ 0 = q in absurd (omega arith)) h))
   map-set_changed (y ∷ ys) (suc i) a same =
       ap (λ (b : B). b ∷ map g (slice_set ys i a)) (same 0 y (λ q. let no : 0 ≡ suc i = q in absurd (omega arith)) refl)
       ∙ ap (λ (l : List B). f y ∷ l) (map-set_changed ys i a (λ k x ne h. same (suc k) x (λ q. ne (let e : suc k ≡ suc i = q in omega arith)) h))

@@ -1,5 +1,6 @@
 -- Lists of bytes with a part replaced.
-use Rattle.std.proofs.Common.{◌≡◌, ℕ, ◌+◌, ◌-◌, ◌<◌, ◌≤◌, List, ◌++◌, length, take, drop, sym, ap, ◌∙◌, arith, ◌⊎◌, inl, inr, length-append, length-drop, append_assoc}
+use Rattle.std.proofs.Common.{◌≡◌, ℕ, ◌+◌, ◌-◌, ◌<◌, ◌≤◌, List, ◌++◌, length, take, drop, sym, ap, ◌∙◌, arith, ◌⊎◌, inl, inr, length-append}
+use Rattle.std.proofs.Common.{length-drop, append_assoc}
 use Rattle.std.proofs.Math.Seq.{take-append_seam, drop-append_seam}
 use Rattle.std.specs.Prelude.{slice_get}
 use Rattle.std.proofs.lemmas.List.{length-take-le}
@@ -18,14 +19,22 @@ module _ (list : List ℕ) (i : ℕ) (others : List ℕ) (h : i + length others 
 
   pub length-with_part : length (with_part list i others) ≡ length list
   length-with_part =
-      omega (arith, front, length-append (take i list ++ others) (drop (i + length others) list), length-append (take i list) others, length-drop (i + length others) list)
+      omega (
+        arith,
+        front,
+        length-append (take i list ++ others) (drop (i + length others) list),
+        length-append (take i list) others,
+        length-drop (i + length others) list,
+      )
 
   -- what was put in
   pub part-with_part : part (with_part list i others) i (length others) ≡ others
   part-with_part =
-      let regrouped : with_part list i others ≡ take i list ++ (others ++ drop (i + length others) list) = append_assoc (take i list) others (drop (i + length others) list) in
+      let regrouped : with_part list i others ≡ take i list ++ (others ++ drop (i + length others) list) = append_assoc (take i list) others
+      (drop (i + length others) list) in
       let dropped : drop i (take i list ++ (others ++ drop (i + length others) list)) ≡ others ++ drop (i + length others) list =
-      ap (λ n. drop n (take i list ++ (others ++ drop (i + length others) list))) (sym front) ∙ drop-append_seam (take i list) (others ++ drop (i + length others) list) in
+      ap (λ n. drop n (take i list ++ (others ++ drop (i + length others) list))) (sym front) ∙ drop-append_seam (take i list)
+      (others ++ drop (i + length others) list) in
       ap (λ xs. take (length others) (drop i xs)) regrouped ∙ ap (take (length others)) dropped ∙ take-append_seam others (drop (i + length others) list)
 
   -- what stays before it, and after it

@@ -42,15 +42,19 @@ module _ (x y : WaitingContents) where
       let m = made s so shows in
       (m.0, m.2, m.3, (m.0, m.1, ap (λ (es : List Stored). alone m.0 x.cpu (map event_of es)) same))
 
-  pub lookup_leads : (m : ℕ) (key : List ℕ) (found : _) → y.waiting ≡ x.waiting → Made x.store x.cpu (Lookup m key found) y.store → Leads x (Lookup m key found) y
+  pub lookup_leads : (m : ℕ) (key : List ℕ) (found : _) → y.waiting ≡ x.waiting → Made x.store x.cpu (Lookup m key found) y.store → Leads x
+      (Lookup m key found) y
   lookup_leads m key found same made = asks_alone (Lookup m key found) same made
 
-  pub refused_leads : (m : ℕ) (key bytes : List ℕ) (flags : ℕ) → y.waiting ≡ x.waiting → Made x.store x.cpu (Update m key bytes flags Invalid) y.store → Leads x (Update m key bytes flags Invalid) y
+  pub refused_leads : (m : ℕ) (key bytes : List ℕ) (flags : ℕ) → y.waiting ≡ x.waiting → Made x.store x.cpu
+      (Update m key bytes flags Invalid) y.store → Leads x (Update m key bytes flags Invalid) y
   refused_leads m key bytes flags same made = asks_alone (Update m key bytes flags Invalid) same made
 
   -- after a drain
-  pub drains_alone : (mid : Contents) (e : Event) → y.waiting ≡ [] → Makes x.cpu x.store x.waiting mid → Made mid x.cpu e y.store → (s : Plain) → IsSoundStore s → StandsFor x.store s
-      → (t : Plain) × IsSoundStore t × StandsFor y.store t × ((d : Buffered) × Drains (alone s x.cpu (buffer_of x)) x.cpu d × AsksMemory d x.cpu e (alone t x.cpu (buffer_of y)))
+  pub drains_alone : (mid : Contents) (e : Event) → y.waiting ≡ [] → Makes x.cpu x.store x.waiting mid → Made mid x.cpu e y.store →
+      (s : Plain) → IsSoundStore s → StandsFor x.store s
+      → (t : Plain) × IsSoundStore t × StandsFor y.store t × ((d : Buffered) × Drains (alone s x.cpu (buffer_of x)) x.cpu d × AsksMemory d
+      x.cpu e (alone t x.cpu (buffer_of y)))
   drains_alone mid e none makes made s so shows =
       let first = makes s so shows in
       let then = made first.0 first.2 first.3 in
@@ -60,11 +64,16 @@ module _ (x y : WaitingContents) where
         then.0,
         then.2,
         then.3,
-        (d, (first.0, sees_alone s first.0 x.cpu (buffer_of x) first.1, refl), (then.0, then.1, ap (λ (f : ℕ → List Event). record { memory = then.0; buffers = f }) buffers)),
+        (
+          d,
+          (first.0, sees_alone s first.0 x.cpu (buffer_of x) first.1, refl),
+          (then.0, then.1, ap (λ (f : ℕ → List Event). record { memory = then.0; buffers = f }) buffers),
+        ),
       )
 
   -- an update, by its flags: above 2 it is refused, and else it drains
-  pub update_refused : (m : ℕ) (key bytes : List ℕ) (flags : ℕ) (answer : MapAnswer) → nat_lt 2 flags ≡ true → y.waiting ≡ x.waiting → Made x.store x.cpu (Update m key bytes flags answer) y.store → Leads x (Update m key bytes flags answer) y
+  pub update_refused : (m : ℕ) (key bytes : List ℕ) (flags : ℕ) (answer : MapAnswer) → nat_lt 2 flags ≡ true → y.waiting ≡ x.waiting → Made
+      x.store x.cpu (Update m key bytes flags answer) y.store → Leads x (Update m key bytes flags answer) y
   update_refused m key bytes flags answer many same made s so shows =
       let first = made s so shows in
       let is : answer ≡ Invalid = refused_alike s first.0 x.cpu m key bytes flags answer many first.1 in
@@ -76,7 +85,8 @@ module _ (x y : WaitingContents) where
             (subst (λ (a : MapAnswer). AsksMemory (alone s x.cpu (buffer_of x)) x.cpu (Update m key bytes flags a) (alone r.0 x.cpu (buffer_of y))) is r.3),
       )
 
-  pub update_leads : (mid : Contents) (m : ℕ) (key bytes : List ℕ) (flags : ℕ) (answer : MapAnswer) → nat_lt 2 flags ≡ false → y.waiting ≡ [] → Makes x.cpu x.store x.waiting mid → Made mid x.cpu (Update m key bytes flags answer) y.store
+  pub update_leads : (mid : Contents) (m : ℕ) (key bytes : List ℕ) (flags : ℕ) (answer : MapAnswer) → nat_lt 2 flags ≡ false → y.waiting ≡
+      [] → Makes x.cpu x.store x.waiting mid → Made mid x.cpu (Update m key bytes flags answer) y.store
       → Leads x (Update m key bytes flags answer) y
   update_leads mid m key bytes flags Invalid few none makes made s so shows =
       let first = makes s so shows in
@@ -91,10 +101,12 @@ module _ (x y : WaitingContents) where
 
   -- a begin, before which nothing waits
   pub begin_leads : x.waiting ≡ [] → y.waiting ≡ [] → Made x.store x.cpu Begin y.store → Leads x Begin y
-  begin_leads was none made = drains_alone x.store Begin none (λ s so shows. (s, subst (λ (es : List Stored). PlainlyLegal s (map (entry x.cpu) (map event_of es)) s) (sym was) refl, so, shows)) made
+  begin_leads was none made = drains_alone x.store Begin none (λ s so shows.
+      (s, subst (λ (es : List Stored). PlainlyLegal s (map (entry x.cpu) (map event_of es)) s) (sym was) refl, so, shows)) made
 
   -- a load: where what waits is made in a copy
-  pub load_leads : (mid after : Contents) (a : ℕ) (size : _) (found : ℕ) → y.waiting ≡ x.waiting → y.store ≡ x.store → Makes x.cpu x.store x.waiting mid → Made mid x.cpu (Load a size found) after → Leads x (Load a size found) y
+  pub load_leads : (mid after : Contents) (a : ℕ) (size : _) (found : ℕ) → y.waiting ≡ x.waiting → y.store ≡ x.store → Makes x.cpu x.store
+      x.waiting mid → Made mid x.cpu (Load a size found) after → Leads x (Load a size found) y
   load_leads mid after a size found same store makes made s so shows =
       let first = makes s so shows in
       let then = made first.0 first.2 first.3 in
@@ -102,17 +114,26 @@ module _ (x y : WaitingContents) where
         s,
         so,
         subst (λ (k : Contents). StandsFor k s) (sym store) shows,
-        (first.0, sees_alone s first.0 x.cpu (buffer_of x) first.1, subst (λ (t : Plain). PlainlyAllowed first.0 x.cpu (Load a size found) t) still then.1, ap (λ (es : List Stored). alone s x.cpu (map event_of es)) same),
+        (
+          first.0,
+          sees_alone s first.0 x.cpu (buffer_of x) first.1,
+          subst
+              (λ (t : Plain). PlainlyAllowed first.0 x.cpu (Load a size found) t) still then.1,
+          ap
+              (λ (es : List Stored). alone s x.cpu (map event_of es)) same,
+        ),
       )
 
   -- a store: one more waits
-  pub store_leads : (mid after : Contents) (e : Stored) → y.waiting ≡ x.waiting ++ e ∷ [] → y.store ≡ x.store → Makes x.cpu x.store x.waiting mid → Made mid x.cpu (event_of e) after → Leads x (event_of e) y
+  pub store_leads : (mid after : Contents) (e : Stored) → y.waiting ≡ x.waiting ++ e ∷ [] → y.store ≡ x.store → Makes x.cpu x.store
+      x.waiting mid → Made mid x.cpu (event_of e) after → Leads x (event_of e) y
   store_leads mid after e more store makes made s so shows =
       let first = makes s so shows in
       let then = made first.0 first.2 first.3 in
       let longer : buffer_of y ≡ buffer_of x ++ event_of e ∷ [] = ap (map event_of) more ∙ map-append event_of x.waiting (e ∷ []) in
       let now : ℕ → List Event = put none_waits x.cpu (buffer_of x) in
-      let last : buffer_of x ++ event_of e ∷ [] ≡ now x.cpu ++ event_of e ∷ [] = ap (λ (es : List Event). es ++ event_of e ∷ []) (sym (put-same none_waits x.cpu x.cpu (buffer_of x) refl)) in
+      let last : buffer_of x ++ event_of e ∷ [] ≡ now x.cpu ++ event_of e ∷ [] = ap (λ (es : List Event). es ++ event_of e ∷ [])
+      (sym (put-same none_waits x.cpu x.cpu (buffer_of x) refl)) in
       let buffers : put none_waits x.cpu (buffer_of y) ≡ put now x.cpu (now x.cpu ++ event_of e ∷ []) =
       ap (λ (es : List Event). put none_waits x.cpu es) (longer ∙ last) ∙ sym (put_twice none_waits x.cpu (buffer_of x) (now x.cpu ++ event_of e ∷ [])) in (
         s,
@@ -126,5 +147,11 @@ module _ (x y : WaitingContents) where
   called serves e same leads = record {
     others = [];
     foreign = λ c served. refl;
-    passage = (e ∷ [], refl, same, λ kept. (let r = leads kept in (r.0, λ s so shows. (let t = r.1 s so shows in (t.0, t.1, t.2, (alone t.0 x.cpu (buffer_of y), t.3, refl))))));
+    passage = (
+      e ∷ [],
+      refl,
+      same,
+      λ kept.
+          (let r = leads kept in (r.0, λ s so shows. (let t = r.1 s so shows in (t.0, t.1, t.2, (alone t.0 x.cpu (buffer_of y), t.3, refl))))),
+    );
   }

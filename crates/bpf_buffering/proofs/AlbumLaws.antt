@@ -30,31 +30,37 @@ states_after old new kept went = ap (λ (ps : List Loaded). map (kept_state ps) 
 pub state_inside : (m : BufferedState) (kept : List Kept) (i : ℕ) → i < length (states m kept) → i < length kept
 state_inside m kept i less = subst (λ (n : ℕ). i < n) (length-map kept (kept_state m.machine.programs)) less
 
-pub state_at : (m : BufferedState) (kept : List Kept) (i : ℕ) (k : Kept) → slice_get kept i ≡ Some k → slice_get (states m kept) i ≡ Some (kept_state m.machine.programs k)
+pub state_at : (m : BufferedState) (kept : List Kept) (i : ℕ) (k : Kept) → slice_get kept i ≡ Some k → slice_get (states m kept) i ≡ Some
+    (kept_state m.machine.programs k)
 state_at m kept i k at = slice_get-map (kept_state m.machine.programs) kept i ∙ ap (option_map (kept_state m.machine.programs)) at
 
 pub fits_at : (m : BufferedState) (kept : List Kept) (i : ℕ) (k : Kept) → All (FitsHost m) kept → slice_get kept i ≡ Some k → FitsHost m k
 fits_at m kept i k all at = subst (FitsHost m) (get_or_from_slice_get kept i k k at) (All-get_or (FitsHost m) kept i k (slice_get_within kept i k at) all)
 
-pub kept_at : (m : BufferedState) (kept : List Kept) (i : ℕ) (s : BufferedState) → slice_get (states m kept) i ≡ Some s → (k : Kept) × (slice_get kept i ≡ Some k) × (kept_state m.machine.programs k ≡ s)
+pub kept_at : (m : BufferedState) (kept : List Kept) (i : ℕ) (s : BufferedState) → slice_get (states m kept) i ≡ Some s → (k : Kept) ×
+    (slice_get kept i ≡ Some k) × (kept_state m.machine.programs k ≡ s)
 kept_at m kept i s is = from (slice_get kept i) refl (sym (slice_get-map (kept_state m.machine.programs) kept i) ∙ is)
   where
-    from : (o : Option Kept) → slice_get kept i ≡ o → option_map (kept_state m.machine.programs) o ≡ Some s → (k : Kept) × (slice_get kept i ≡ Some k) × (kept_state m.machine.programs k ≡ s)
+    from : (o : Option Kept) → slice_get kept i ≡ o → option_map (kept_state m.machine.programs) o ≡ Some s → (k : Kept) ×
+        (slice_get kept i ≡ Some k) × (kept_state m.machine.programs k ≡ s)
     from (Some k) at shown = (k, at, (let two : Some (kept_state m.machine.programs k) ≡ Some s = shown in cc))
     from None at shown = let no : None ≡ Some s = shown in cc
 
 -- it shows all that the machine shows
-pub kept_as : (m : BufferedState) (kept : List Kept) (i : ℕ) (k : Kept) → slice_get kept i ≡ Some k → ((x : X86) → ShowsX86 m x → ShowsX86 (kept_state m.machine.programs k) x) → IsKeptAsX86 (states m kept) m
+pub kept_as : (m : BufferedState) (kept : List Kept) (i : ℕ) (k : Kept) → slice_get kept i ≡ Some k →
+    ((x : X86) → ShowsX86 m x → ShowsX86 (kept_state m.machine.programs k) x) → IsKeptAsX86 (states m kept) m
 kept_as m kept i k at shows x there = (i, kept_state m.machine.programs k, state_at m kept i k at, shows x there)
 
 -- its jobs have ended, or not
-pub ended_at : (m : BufferedState) (kept : List Kept) (i : ℕ) (k : Kept) → slice_get kept i ≡ Some k → HaveEnded (tasks_of k.jobs.items) → HaveEndedAt (states m kept) i
+pub ended_at : (m : BufferedState) (kept : List Kept) (i : ℕ) (k : Kept) → slice_get kept i ≡ Some k → HaveEnded (tasks_of k.jobs.items) →
+    HaveEndedAt (states m kept) i
 ended_at m kept i k at ended s is =
     let two : Some (kept_state m.machine.programs k) ≡ Some s = sym (state_at m kept i k at) ∙ is in
     let same : kept_state m.machine.programs k ≡ s = cc in
     subst (λ (z : BufferedState). HaveEnded z.machine.jobs) same ended
 
-pub open_at : (m : BufferedState) (kept : List Kept) (i : ℕ) (k : Kept) → slice_get kept i ≡ Some k → HaveEndedAt (states m kept) i → HaveEnded (tasks_of k.jobs.items)
+pub open_at : (m : BufferedState) (kept : List Kept) (i : ℕ) (k : Kept) → slice_get kept i ≡ Some k → HaveEndedAt (states m kept) i →
+    HaveEnded (tasks_of k.jobs.items)
 open_at m kept i k at all = all (kept_state m.machine.programs k) (state_at m kept i k at)
 
 -- a CPU beyond the machine's has no move that changes anything
@@ -70,7 +76,8 @@ beyond_at m kept n has all i c s is above =
     )
 
 -- ---- one more
-pub one_more : (m : BufferedState) (old new : List Kept) (k : Kept) → new ≡ old ++ k ∷ [] → kept_state m.machine.programs k ≡ m → states m new ≡ states m old ++ m ∷ []
+pub one_more : (m : BufferedState) (old new : List Kept) (k : Kept) → new ≡ old ++ k ∷ [] → kept_state m.machine.programs k ≡ m → states m
+    new ≡ states m old ++ m ∷ []
 one_more m old new k items is =
     ap (states m) items ∙ map_push (kept_state m.machine.programs) old k ∙ ap (λ (s : BufferedState). states m old ++ s ∷ []) is
 

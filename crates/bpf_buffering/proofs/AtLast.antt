@@ -17,7 +17,8 @@ use Rattle.bpf_machine.specs.Schedule.{World}
 use Rattle.bpf_machine.specs.Work.{HasInHand}
 use Rattle.bpf_machine.proofs.ListLaws.{lists_jobs}
 use Rattle.bpf_x86.specs.Buffers.{Buffered, Drains, AsksMemory, Calls, CallsAll}
-use Rattle.bpf_x86.specs.Machine.{X86, buffered, with_buffered, Advances, Settled, GoesOn, TakesTurn, Move, TurnOf, FlushOf, Moves, RunsMoves, none_waits, drained}
+use Rattle.bpf_x86.specs.Machine.{X86, buffered, with_buffered, Advances, Settled, GoesOn, TakesTurn, Move, TurnOf, FlushOf, Moves}
+use Rattle.bpf_x86.specs.Machine.{RunsMoves, none_waits, drained}
 use Rattle.bpf_buffering.specs.Search.{NothingWaitsAtLast}
 use Rattle.bpf_x86.proofs.Alike.{same_functions}
 
@@ -39,7 +40,8 @@ pub calls_others : (c k : ℕ) → k ≢ c → (es : List Event) (b t : Buffered
 calls_others c k ne [] b t p = ap (λ (z : Buffered). z.buffers k) p
 calls_others c k ne (e ∷ es) b t p = calls_others c k ne es p.0 t p.2 ∙ call_others b p.0 c k e ne p.1
 
-advance_others : (program : Loaded) (c k : ℕ) → k ≢ c → (b : Buffered) (old : Cpu) (left : ℕ) (end : Option Outcome) (t : Buffered) (new : Cpu) (rest : ℕ) → Advances program c b old left end t new rest → t.buffers k ≡ b.buffers k
+advance_others : (program : Loaded) (c k : ℕ) → k ≢ c → (b : Buffered) (old : Cpu) (left : ℕ) (end : Option Outcome) (t : Buffered)
+    (new : Cpu) (rest : ℕ) → Advances program c b old left end t new rest → t.buffers k ≡ b.buffers k
 advance_others program c k ne b old zero end t new rest p = ap (λ (z : Buffered). z.buffers k) p.1
 advance_others program c k ne b old (suc n) end t new rest p = calls_others c k ne p.0 b t p.3
 
@@ -48,7 +50,8 @@ abbrev Holding : X86 → ℕ → Type 0
 Holding x c = (x.buffers c ≡ []) ⊎ ((j : ℕ) × HasInHand x.world.jobs c j)
 
 -- another CPU's job is another
-still_at : (jobs : List Task) (c d j k : ℕ) (task t : Task) (was stage now : Stage) → d ≢ c → IsAt jobs c j task was → IsAt jobs d k t now → IsAt (with_stage jobs j task stage) d k t now
+still_at : (jobs : List Task) (c d j k : ℕ) (task t : Task) (was stage now : Stage) → d ≢ c → IsAt jobs c j task was → IsAt jobs d k t now →
+    IsAt (with_stage jobs j task stage) d k t now
 still_at jobs c d j k task t was stage now ne at there = record {
   listed = slice_get-set_other jobs j k (record task { stage = stage }) apart ∙ there.listed;
   of = there.of;
@@ -61,20 +64,32 @@ still_at jobs c d j k task t was stage now ne at there = record {
         let one : t ≡ task = cc in
         ne (sym there.of ∙ ap (λ (x : Task). x.cpu) one ∙ at.of)
 
-module _ (x : X86) (c j : ℕ) (task : Task) (was : Stage) (old : Cpu) (left : ℕ) (answer : Turn) (z : X86) (at : IsAt x.world.jobs c j task was) (goes : GoesOn x c j task old left answer z) where
+module _ (x : X86) (c j : ℕ) (task : Task) (was : Stage) (old : Cpu) (left : ℕ) (answer : Turn) (z : X86)
+    (at : IsAt x.world.jobs c j task was) (goes : GoesOn x c j task old left answer z) where
   moved_on : (d : ℕ) (stage : Stage) → d ≢ c → z.world.jobs ≡ with_stage x.world.jobs j task stage → z.buffers d ≡ x.buffers d → Holding x d → Holding z d
   moved_on d stage ne jobs same (inl none) = inl (same ∙ none)
   moved_on d stage ne jobs same (inr (k, (t, state, rest, there))) =
-      inr (k, (t, state, rest, subst (λ (ts : List Task). IsAt ts d k t (InHand state rest)) (sym jobs) (still_at x.world.jobs c d j k task t was stage (InHand state rest) ne at there)))
+      inr (
+        k,
+        (
+          t,
+          state,
+          rest,
+          subst (λ (ts : List Task). IsAt ts d k t (InHand state rest)) (sym jobs)
+              (still_at x.world.jobs c d j k task t was stage (InHand state rest) ne at there),
+        ),
+      )
 
   holding_on : ((d : ℕ) → Holding x d) → (d : ℕ) → Holding z d
   holding_on held d = settle goes.1 goes.6 goes.7
     where
-      settle : (end : Option Outcome) → Advances goes.0 c (buffered x) old left end goes.2 goes.3 goes.4 → Settled (with_buffered x goes.2) c j task goes.3 goes.4 end answer z → Holding z d
+      settle : (end : Option Outcome) → Advances goes.0 c (buffered x) old left end goes.2 goes.3 goes.4 → Settled (with_buffered x goes.2)
+          c j task goes.3 goes.4 end answer z → Holding z d
       settle None advances settled = elim (equal_or_not d c) [
         | inl same ↦
             (let now : Task = record task { stage = InHand goes.3 goes.4 } in
-            let listed : slice_get z.world.jobs j ≡ Some now = ap (λ (w : World). slice_get w.jobs j) settled.0.1 ∙ slice_get-set_known x.world.jobs j now task at.listed in
+            let listed : slice_get z.world.jobs j ≡ Some now = ap (λ (w : World). slice_get w.jobs j) settled.0.1 ∙ slice_get-set_known
+            x.world.jobs j now task at.listed in
             inr (j, (now, goes.3, goes.4, record { listed = listed; of = at.of ∙ sym same; at = refl })))
         | inr ne ↦
             moved_on d (InHand goes.3 goes.4) ne (ap (λ (w : World). w.jobs) settled.0.1)
@@ -84,14 +99,16 @@ module _ (x : X86) (c j : ℕ) (task : Task) (was : Stage) (old : Cpu) (left : �
         | inl same ↦ inl (ap (λ (f : ℕ → List Event). f d) settled.3 ∙ ap (λ (b : Buffered). b.buffers d) settled.1.2 ∙ put-same goes.2.buffers c d [] same)
         | inr ne ↦
             moved_on d (Ended end) ne (lists_jobs _ c z.world settled.2.3)
-            (ap (λ (f : ℕ → List Event). f d) settled.3 ∙ drains_others goes.2 settled.0 c d ne settled.1 ∙ advance_others goes.0 c d ne (buffered x) old left (Some end) goes.2 goes.3 goes.4 advances) (held d)
+            (ap (λ (f : ℕ → List Event). f d) settled.3 ∙ drains_others goes.2 settled.0 c d ne settled.1 ∙ advance_others goes.0 c d ne
+            (buffered x) old left (Some end) goes.2 goes.3 goes.4 advances) (held d)
       ]
 
 turn_holding : (x : X86) (c : ℕ) (answer : Turn) (z : X86) → TakesTurn x c answer z → ((d : ℕ) → Holding x d) → (d : ℕ) → Holding z d
 turn_holding x c answer z (inl (j, task, state, left, at, goes)) held = holding_on x c j task (InHand state left) state left answer z at goes held
 turn_holding x c answer z (inr (inl (free, (j, task, input, b, at, lowest, begun, goes)))) held =
     holding_on (with_buffered x b) c j task (Waiting input) (start c input) task.budget answer z at goes (λ d. elim (equal_or_not d c) [
-      | inl same ↦ inl (ap b.buffers same ∙ ap (λ (y : Buffered). y.buffers c) begun.2.2 ∙ ap (λ (y : Buffered). y.buffers c) begun.1.2 ∙ put-same x.buffers c c [] refl)
+      | inl same ↦ inl (ap b.buffers same ∙ ap (λ (y : Buffered). y.buffers c) begun.2.2 ∙ ap (λ (y : Buffered). y.buffers c) begun.1.2 ∙
+          put-same x.buffers c c [] refl)
       | inr ne ↦ elim (held d) [ inl none ↦ inl (call_others (buffered x) b c d Begin ne begun ∙ none) | inr hand ↦ inr hand ]
     ])
 turn_holding x c answer z (inr (inr (free, none, said, same))) held = subst (λ (y : X86). (d : ℕ) → Holding y d) (sym same) held
@@ -112,7 +129,8 @@ all_holding [] x z runs held = subst (λ (y : X86). (d : ℕ) → Holding y d) (
 all_holding (move ∷ moves) x z runs held = all_holding moves runs.0 z runs.2 (move_holding x move runs.0 runs.1 held)
 
 pub nothing_waits_at_last : NothingWaitsAtLast
-nothing_waits_at_last w moves z runs ended = ap (λ (f : ℕ → List Event). record { world = z.world; buffers = f }) (same_functions z.buffers none_waits (λ c. empty c (all_holding moves (drained w) z runs (λ d. inl refl) c)))
+nothing_waits_at_last w moves z runs ended = ap (λ (f : ℕ → List Event). record { world = z.world; buffers = f })
+    (same_functions z.buffers none_waits (λ c. empty c (all_holding moves (drained w) z runs (λ d. inl refl) c)))
   where
     empty : (c : ℕ) → Holding z c → z.buffers c ≡ []
     empty c (inl none) = none

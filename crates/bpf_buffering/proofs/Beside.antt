@@ -36,7 +36,8 @@ module _ (b m : Buffered) (d : ℕ) (memory : m.memory ≡ b.memory) (own : m.bu
         u,
         (called.0, called.1, sees_too called.0 called.2, called.3, refl),
         sym (ap (λ (z : Buffered). z.memory) called.4 ∙ memory),
-        put-same b.buffers d d (more (b.buffers d)) refl ∙ ap more (sym own) ∙ sym (ap (λ (z : Buffered). z.buffers d) called.4 ∙ put-same m.buffers d d (more (m.buffers d)) refl),
+        put-same b.buffers d d (more (b.buffers d)) refl ∙ ap more (sym own) ∙ sym
+            (ap (λ (z : Buffered). z.buffers d) called.4 ∙ put-same m.buffers d d (more (m.buffers d)) refl),
       )
   calls_too (Lookup k key found) t called = (
     record b { memory = called.0 },
@@ -59,5 +60,6 @@ module _ (b m : Buffered) (d : ℕ) (memory : m.memory ≡ b.memory) (own : m.bu
         record (empty b.buffers) { memory = next },
         (empty b.buffers, (s, sees_too s called.1.1, refl), (next, allowed, refl)),
         sym (ap (λ (z : Buffered). z.memory) called.2.2),
-        put-same b.buffers d d [] refl ∙ sym (ap (λ (z : Buffered). z.buffers d) called.2.2 ∙ ap (λ (z : Buffered). z.buffers d) is ∙ put-same m.buffers d d [] refl),
+        put-same b.buffers d d [] refl ∙ sym (ap (λ (z : Buffered). z.buffers d) called.2.2 ∙ ap (λ (z : Buffered). z.buffers d) is ∙
+            put-same m.buffers d d [] refl),
       )

@@ -1,6 +1,7 @@
 -- A move of the x86 machine has one course, and so has a schedule of moves; where no job is left, nothing
 -- waits; and a closed list covers what schedules of moves lead to.
-use Rattle.std.proofs.Common.{◌≡◌, ◌≢◌, ℕ, zero, suc, ◌≤◌, Bool, true, false, List, [], ◌∷◌, ◌++◌, length, Option, Some, None, inl, inr, refl, sym, ap, subst, ◌∙◌}
+use Rattle.std.proofs.Common.{◌≡◌, ◌≢◌, ℕ, zero, suc, ◌≤◌, Bool, true, false, List, [], ◌∷◌, ◌++◌, length, Option, Some, None, inl, inr}
+use Rattle.std.proofs.Common.{refl, sym, ap, subst, ◌∙◌}
 use Rattle.std.specs.Prelude.{map, nat_lt, not, ◌&&◌, ◌==◌, if◌then◌else◌}
 use Rattle.std.specs.FinMap.{len}
 use Rattle.bpf_shared.specs.declared.shapes.MapShape.{MapShape}
@@ -47,9 +48,12 @@ first_flag false false false true e = let no : Some Full ≡ Some Invalid = e in
 first_flag false false false false e = let no : None ≡ Some Invalid = e in cc
 
 flagged : (s : Plain) (m : ℕ) (h : MapShape) (key : List ℕ) (flags : ℕ) → nat_lt 2 flags ≡ true → first_of (refusals s m h key flags) ≡ Some Invalid
-flagged s m h key flags is = ap (λ (a : Bool). if a then Some Invalid else first_of ((Exists, (flags == 1) && has_key s m key) ∷ (Absent, (flags == 2) && not (has_key s m key)) ∷ (Full, not (has_key s m key) && (len (s.maps m) == h.max)) ∷ [])) is
+flagged s m h key flags is = ap (λ (a : Bool). if a then Some Invalid else first_of
+    ((Exists, (flags == 1) && has_key s m key) ∷ (Absent, (flags == 2) && not (has_key s m key)) ∷
+    (Full, not (has_key s m key) && (len (s.maps m) == h.max)) ∷ [])) is
 
-pub refused_alike : (d u : Plain) (c m : ℕ) (key bytes : List ℕ) (flags : ℕ) (answer : MapAnswer) → nat_lt 2 flags ≡ true → PlainlyAllowed d c (Update m key bytes flags answer) u → answer ≡ Invalid
+pub refused_alike : (d u : Plain) (c m : ℕ) (key bytes : List ℕ) (flags : ℕ) (answer : MapAnswer) → nat_lt 2 flags ≡ true → PlainlyAllowed d
+    c (Update m key bytes flags answer) u → answer ≡ Invalid
 refused_alike d u c m key bytes flags Invalid is q = refl
 refused_alike d u c m key bytes flags Busy is q = absurd q.1
 refused_alike d u c m key bytes flags Done is q = let no : Some Invalid ≡ None = sym (flagged d m q.0.1.0 key flags is) ∙ q.0.1.4.0 in cc
@@ -59,7 +63,8 @@ refused_alike d u c m key bytes flags Absent is q = let no : Some Invalid ≡ So
 refused_alike d u c m key bytes flags Full is q = let no : Some Invalid ≡ Some Full = sym (flagged d m q.0.1.0 key flags is) ∙ q.0.1.4.0 in cc
 
 pub too_many : (s t : Plain) (c m : ℕ) (key bytes : List ℕ) (flags : ℕ) → PlainlyAllowed s c (Update m key bytes flags Invalid) t → nat_lt 2 flags ≡ true
-too_many s t c m key bytes flags p = first_flag (nat_lt 2 flags) ((flags == 1) && has_key s m key) ((flags == 2) && not (has_key s m key)) (not (has_key s m key) && (len (s.maps m) == p.0.1.0.max)) p.0.1.4.0
+too_many s t c m key bytes flags p = first_flag (nat_lt 2 flags) ((flags == 1) && has_key s m key) ((flags == 2) && not (has_key s m key))
+    (not (has_key s m key) && (len (s.maps m) == p.0.1.0.max)) p.0.1.4.0
 
 module _ (law : WritesAreDetermined) (begins : OneInstructionBegins) (replies : CallsHaveOneReply) where
   -- ---- what a CPU sees, and a drain
@@ -85,19 +90,24 @@ module _ (law : WritesAreDetermined) (begins : OneInstructionBegins) (replies : 
   abbrev DrainsFirst : Buffered → ℕ → Event → Buffered → Type 0
   DrainsFirst b c e t = (d : Buffered) × Drains b c d × AsksMemory d c e t
 
-  drains_once : (b t u : Buffered) (c : ℕ) (e f : Event) → IsSoundStore b.memory → asked e ≡ asked f → DrainsFirst b c e t → DrainsFirst b c f u → (e ≡ f) × (t ≡ u)
+  drains_once : (b t u : Buffered) (c : ℕ) (e f : Event) → IsSoundStore b.memory → asked e ≡ asked f → DrainsFirst b c e t → DrainsFirst b c
+      f u → (e ≡ f) × (t ≡ u)
   drains_once b t u c e f so same p q =
       let one : p.0 ≡ q.0 = one_drain b p.0 q.0 c so p.1 q.1 in
       asks_once p.0 t u c e f (drain_sound b p.0 c so p.1) same p.2 (subst (λ (z : Buffered). AsksMemory z c f u) (sym one) q.2)
 
-  load_once : (b t u : Buffered) (c : ℕ) (e f : Event) → IsSoundStore b.memory → asked e ≡ asked f → ((s : Plain) × Sees b c s × PlainlyAllowed s c e s × (t ≡ b)) → ((s : Plain) × Sees b c s × PlainlyAllowed s c f s × (u ≡ b)) → (e ≡ f) × (t ≡ u)
+  load_once : (b t u : Buffered) (c : ℕ) (e f : Event) → IsSoundStore b.memory → asked e ≡ asked f →
+      ((s : Plain) × Sees b c s × PlainlyAllowed s c e s × (t ≡ b)) → ((s : Plain) × Sees b c s × PlainlyAllowed s c f s × (u ≡ b)) →
+      (e ≡ f) × (t ≡ u)
   load_once b t u c e f so same p q =
       let one : q.0 ≡ p.0 = same_history c (b.buffers c) b.memory q.0 p.0 so q.1 p.1 in
       let there : PlainlyAllowed p.0 c f p.0 = subst (λ (z : Plain). PlainlyAllowed z c f z) one q.2 in
       ((replies p.0 p.0 p.0 c e f (plainly_sound b.memory p.0 (map (entry c) (b.buffers c)) so p.1) p.2 there same).0, p.3 ∙ sym q.3)
 
   -- of two updates alike, one that is refused for its flags and one that drains
-  mixed : (b t d u : Buffered) (c m n : ℕ) (key other bytes more : List ℕ) (flags flags' : ℕ) (answer : MapAnswer) → Update m key bytes flags Done ≡ Update n other more flags' Done → AsksMemory b c (Update m key bytes flags Invalid) t → AsksMemory d c (Update n other more flags' answer) u → answer ≡ Invalid
+  mixed : (b t d u : Buffered) (c m n : ℕ) (key other bytes more : List ℕ) (flags flags' : ℕ) (answer : MapAnswer) → Update m key bytes
+      flags Done ≡ Update n other more flags' Done → AsksMemory b c (Update m key bytes flags Invalid) t → AsksMemory d c
+      (Update n other more flags' answer) u → answer ≡ Invalid
   mixed b t d u c m n key other bytes more flags flags' answer same p q =
       let one : flags ≡ flags' = cc in
       refused_alike d.memory q.0 c n other more flags' answer (ap (nat_lt 2) (sym one) ∙ too_many b.memory p.0 c m key bytes flags p.1) q.1
@@ -107,12 +117,14 @@ module _ (law : WritesAreDetermined) (begins : OneInstructionBegins) (replies : 
   one_call b t u c (Store a size x) (Store a' size' y) so same p q =
       (same, p.4 ∙ ap (λ (e : Event). record b { buffers = put b.buffers c (b.buffers c ++ e ∷ []) }) same ∙ sym q.4)
   one_call b t u c (Lookup m key x) (Lookup n other y) so same p q = asks_once b t u c (Lookup m key x) (Lookup n other y) so same p q
-  one_call b t u c (Update m key bytes flags Invalid) (Update n other more flags' Invalid) so same p q = asks_once b t u c (Update m key bytes flags Invalid) (Update n other more flags' Invalid) so same p q
+  one_call b t u c (Update m key bytes flags Invalid) (Update n other more flags' Invalid) so same p q = asks_once b t u c
+      (Update m key bytes flags Invalid) (Update n other more flags' Invalid) so same p q
   one_call b t u c (Update m key bytes flags Invalid) (Update n other more flags' y) so same p q =
       let no : y ≡ Invalid = mixed b t q.0 u c m n key other bytes more flags flags' y same p q.2 in cc
   one_call b t u c (Update m key bytes flags x) (Update n other more flags' Invalid) so same p q =
       let no : x ≡ Invalid = mixed b u p.0 t c n m other key more bytes flags' flags x (sym same) q p.2 in cc
-  one_call b t u c (Update m key bytes flags x) (Update n other more flags' y) so same p q = drains_once b t u c (Update m key bytes flags x) (Update n other more flags' y) so same p q
+  one_call b t u c (Update m key bytes flags x) (Update n other more flags' y) so same p q = drains_once b t u c
+      (Update m key bytes flags x) (Update n other more flags' y) so same p q
   one_call b t u c Begin Begin so same p q = drains_once b t u c Begin Begin so same p q
   one_call b t u c End End so same p q = drains_once b t u c End End so same p q
   one_call b t u c (Delete m key x) (Delete n other y) so same p q = drains_once b t u c (Delete m key x) (Delete n other y) so same p q
@@ -122,7 +134,8 @@ module _ (law : WritesAreDetermined) (begins : OneInstructionBegins) (replies : 
   one_call b t u c e f so same p q = absurd cc
 
   drained_sound : (b t : Buffered) (c : ℕ) (e : Event) → IsSoundStore b.memory → DrainsFirst b c e t → IsSoundStore t.memory
-  drained_sound b t c e so p = subst (λ (z : Buffered). IsSoundStore z.memory) (sym p.2.2) (allowed_sound p.0.memory p.2.0 c e (drain_sound b p.0 c so p.1) p.2.1.0)
+  drained_sound b t c e so p = subst (λ (z : Buffered). IsSoundStore z.memory) (sym p.2.2)
+      (allowed_sound p.0.memory p.2.0 c e (drain_sound b p.0 c so p.1) p.2.1.0)
 
   asked_sound : (b t : Buffered) (c : ℕ) (e : Event) → IsSoundStore b.memory → AsksMemory b c e t → IsSoundStore t.memory
   asked_sound b t c e so p = subst (λ (z : Buffered). IsSoundStore z.memory) (sym p.2) (allowed_sound b.memory p.0 c e so p.1.0)
@@ -134,13 +147,15 @@ module _ (law : WritesAreDetermined) (begins : OneInstructionBegins) (replies : 
   call_sound b t c (Update m key bytes flags Invalid) so p = asked_sound b t c (Update m key bytes flags Invalid) so p
   call_sound b t c e so p = drained_sound b t c e so p
 
-  one_calls : (c : ℕ) (es fs : List Event) (b t u : Buffered) → IsSoundStore b.memory → AreAskedAlike es fs → CallsAll b c es t → CallsAll b c fs u → (es ≡ fs) × (t ≡ u)
+  one_calls : (c : ℕ) (es fs : List Event) (b t u : Buffered) → IsSoundStore b.memory → AreAskedAlike es fs → CallsAll b c es t → CallsAll b
+      c fs u → (es ≡ fs) × (t ≡ u)
   one_calls c [] [] b t u so alike p q = (refl, p ∙ sym q)
   one_calls c [] (f ∷ fs) b t u so alike p q = absurd (asks-end f fs alike)
   one_calls c (e ∷ es) [] b t u so alike p q = absurd (asks-end' e es alike)
   one_calls c (e ∷ es) (f ∷ fs) b t u so alike p q =
       let one = one_call b p.0 q.0 c e f so (asks-first e f es fs alike) p.1 q.1 in
-      let rest = one_calls c es fs p.0 t u (call_sound b p.0 c e so p.1) (asks-behind e f es fs one.0 alike) p.2 (subst (λ (z : Buffered). CallsAll z c fs u) (sym one.1) q.2) in
+      let rest = one_calls c es fs p.0 t u (call_sound b p.0 c e so p.1) (asks-behind e f es fs one.0 alike) p.2
+      (subst (λ (z : Buffered). CallsAll z c fs u) (sym one.1) q.2) in
       let front : e ≡ f = one.0 in
       let back : es ≡ fs = rest.0 in
       (cc, rest.1)
@@ -158,7 +173,8 @@ module _ (law : WritesAreDetermined) (begins : OneInstructionBegins) (replies : 
     pub sound : IsSoundStore t.memory
     pub memory : IsMemory new.memory
 
-  one_advance : (program : Loaded) (c : ℕ) (b : Buffered) (old : Cpu) (n : ℕ) (end last : Option Outcome) (t u : Buffered) (new other : Cpu) (left rest : ℕ) → IsSoundStore b.memory → IsMemory old.memory
+  one_advance : (program : Loaded) (c : ℕ) (b : Buffered) (old : Cpu) (n : ℕ) (end last : Option Outcome) (t u : Buffered) (new other : Cpu)
+      (left rest : ℕ) → IsSoundStore b.memory → IsMemory old.memory
       → Advances program c b old n end t new left → Advances program c b old n last u other rest → OneAdvance end last t u new other left rest
   one_advance program c b old zero end last t u new other left rest so memory p q = record {
     ends = p.0 ∙ sym q.0;
@@ -191,9 +207,11 @@ module _ (law : WritesAreDetermined) (begins : OneInstructionBegins) (replies : 
     pub jobs : y.world.jobs ≡ with_stage w.jobs j task stage
 
   same_machine : (y z : X86) → y.world ≡ z.world → y.buffers ≡ z.buffers → y ≡ z
-  same_machine y z worlds buffers = ap (λ (w : World). record { world = w; buffers = y.buffers }) worlds ∙ ap (λ (f : ℕ → List Event). record { world = z.world; buffers = f }) buffers
+  same_machine y z worlds buffers = ap (λ (w : World). record { world = w; buffers = y.buffers }) worlds ∙ ap
+      (λ (f : ℕ → List Event). record { world = z.world; buffers = f }) buffers
 
-  one_settled : (x : X86) (c j : ℕ) (task : Task) (new : Cpu) (left : ℕ) (end : Option Outcome) (answer other : Turn) (y z : X86) → IsSoundStore x.world.store → IsMemory new.memory
+  one_settled : (x : X86) (c j : ℕ) (task : Task) (new : Cpu) (left : ℕ) (end : Option Outcome) (answer other : Turn) (y z : X86) →
+      IsSoundStore x.world.store → IsMemory new.memory
       → Settled x c j task new left end answer y → Settled x c j task new left end other z → OneSettled x.world c j task y z
   one_settled x c j task new left None answer other y z so memory p q = record {
     machines = same_machine y z (p.0.1 ∙ sym q.0.1) (p.1 ∙ sym q.1);
@@ -207,7 +225,8 @@ module _ (law : WritesAreDetermined) (begins : OneInstructionBegins) (replies : 
       let d : Buffered = p.0 in
       let drains : q.0 ≡ d = one_drain (buffered x) q.0 d c so q.1 p.1 in
       let so_d : IsSoundStore d.memory = drain_sound (buffered x) d c so p.1 in
-      let there : Settles (with_buffered x d).world c j task new left (Some end) other z.world = subst (λ (k : Buffered). Settles (with_buffered x k).world c j task new left (Some end) other z.world) drains q.2 in
+      let there : Settles (with_buffered x d).world c j task new left (Some end) other z.world = subst
+      (λ (k : Buffered). Settles (with_buffered x k).world c j task new left (Some end) other z.world) drains q.2 in
       let one = replies d.memory p.2.0 there.0 c End End so_d p.2.1 there.1 refl in
       let m : World = ended p.2.0 in
       let lists : Lists m c z.world = subst (λ (s : Plain). Lists (ended s) c z.world) (sym one.1) there.3 in
@@ -228,14 +247,23 @@ module _ (law : WritesAreDetermined) (begins : OneInstructionBegins) (replies : 
   one_going x c j task old left answer other y z so memory a b =
       let listed : Some a.0 ≡ Some b.0 = sym a.5 ∙ b.5 in
       let program : b.0 ≡ a.0 = cc in
-      let one = one_advance a.0 c (buffered x) old left a.1 b.1 a.2 b.2 a.3 b.3 a.4 b.4 so memory a.6 (subst (λ (p : Loaded). Advances p c (buffered x) old left b.1 b.2 b.3 b.4) program b.6) in
+      let one = one_advance a.0 c (buffered x) old left a.1 b.1 a.2 b.2 a.3 b.3 a.4 b.4 so memory a.6
+      (subst (λ (p : Loaded). Advances p c (buffered x) old left b.1 b.2 b.3 b.4) program b.6) in
       let settles =
       subst (λ (rest : ℕ). Settled (with_buffered x a.2) c j task a.3 rest a.1 other z) (sym one.lefts)
       (subst (λ (new : Cpu). Settled (with_buffered x a.2) c j task new b.4 a.1 other z) (sym one.states)
       (subst (λ (k : Buffered). Settled (with_buffered x k) c j task b.3 b.4 a.1 other z) (sym one.stores)
       (subst (λ (end : Option Outcome). Settled (with_buffered x b.2) c j task b.3 b.4 end other z) (sym one.ends) b.7))) in
       let settled = one_settled (with_buffered x a.2) c j task a.3 a.4 a.1 answer other y z one.sound one.memory a.7 settles in
-      record { machines = settled.machines; sound = settled.sound; stage = settled.stage; kept = settled.kept; waits_not = settled.waits_not; jobs = settled.jobs }
+      record {
+        machines = settled.machines;
+        sound = settled.sound;
+        stage = settled.stage;
+        kept = settled.kept;
+        waits_not =
+            settled.waits_not;
+        jobs = settled.jobs;
+      }
 
   -- ---- a machine after a turn of a CPU on its job: it has no other in hand
   going_world : (w : World) (c j : ℕ) (task : Task) (before : Stage) (y z : X86) → IsWorld w → IsAt w.jobs c j task before
@@ -261,7 +289,8 @@ module _ (law : WritesAreDetermined) (begins : OneInstructionBegins) (replies : 
       only : (d l : ℕ) (u : Task) (now : Cpu) (rest : ℕ) → d ≡ c → l ≢ j → IsAt w.jobs d l u (InHand now rest) → ⊥
       only d l u now rest of ne h = alone l u now rest ne (subst (λ (n : ℕ). IsAt w.jobs n l u (InHand now rest)) of h)
 
-      one : (d k l : ℕ) (t u : Task) (state now : Cpu) (left rest : ℕ) → Changed w.jobs c j settled.stage d k t (InHand state left) → Changed w.jobs c j settled.stage d l u (InHand now rest) → k ≡ l
+      one : (d k l : ℕ) (t u : Task) (state now : Cpu) (left rest : ℕ) → Changed w.jobs c j settled.stage d k t (InHand state left) →
+          Changed w.jobs c j settled.stage d l u (InHand now rest) → k ≡ l
       one d k l t u state now left rest (Same e of is) (Same f at is') = e ∙ sym f
       one d k l t u state now left rest (Same e of is) (Other ne h) = absurd (only d l u now rest of ne h)
       one d k l t u state now left rest (Other ne h) (Same f of is) = absurd (only d k t state left of ne h)
@@ -284,12 +313,16 @@ module _ (law : WritesAreDetermined) (begins : OneInstructionBegins) (replies : 
       (subst (λ (s : Cpu). GoesOn x c j task s rest other z) states
       (subst (λ (u : Task). GoesOn x c j u now rest other z) same.0
       (subst (λ (n : ℕ). GoesOn x c n t now rest other z) jobs goes'))) in
-      let settled = one_going x c j task state left answer other y z world.store (world.memory c j task state left at) goes going in
-      (settled.machines, going_world x.world c j task (InHand state left) y z world at (λ n u s l ne h. ne (world.one c n j u task s state l left h at)) settled)
+      let settled = one_going x c j task state left answer other y z world.store (world.memory c j task state left at) goes going in (
+        settled.machines,
+        going_world x.world c j task (InHand state left) y z world at
+            (λ n u s l ne h. ne (world.one c n j u task s state l left h at)) settled,
+      )
   one_turn x c answer other y z world (inl a) (inr (inl b)) = absurd (b.0 a.0 a.1 a.2 a.3 a.4)
   one_turn x c answer other y z world (inl a) (inr (inr b)) = absurd (b.0 a.0 a.1 a.2 a.3 a.4)
   one_turn x c answer other y z world (inr (inl a)) (inl b) = absurd (a.0 b.0 b.1 b.2 b.3 b.4)
-  one_turn x c answer other y z world (inr (inl (free, (j, task, input, b, at, lowest, begun, goes)))) (inr (inl (free', (k, t, more, d, at', lowest', begun', goes')))) =
+  one_turn x c answer other y z world (inr (inl (free, (j, task, input, b, at, lowest, begun, goes))))
+      (inr (inl (free', (k, t, more, d, at', lowest', begun', goes')))) =
       let jobs : k ≡ j = same_lowest law begins replies x.world.jobs c j k task t input more at lowest at' lowest' in
       let there : IsAt x.world.jobs c j t (Waiting more) = subst (λ (n : ℕ). IsAt x.world.jobs c n t (Waiting more)) jobs at' in
       let same = same_stage x.world.jobs c j t task (Waiting more) (Waiting input) there at in
@@ -303,7 +336,8 @@ module _ (law : WritesAreDetermined) (begins : OneInstructionBegins) (replies : 
       (subst (λ (n : ℕ). GoesOn (with_buffered x d) c n t (start c more) t.budget other z) jobs goes'))) in
       let sound : IsSoundStore b.memory = call_sound (buffered x) b c Begin world.store begun in
       let here : IsWorld (with_buffered x b).world = record { store = sound; memory = world.memory; one = world.one; short = world.short } in
-      let settled = one_going (with_buffered x b) c j task (start c input) task.budget answer other y z sound (start_memory c input (world.short c j task input at)) goes going in
+      let settled = one_going (with_buffered x b) c j task (start c input) task.budget answer other y z sound
+      (start_memory c input (world.short c j task input at)) goes going in
       (settled.machines, going_world (with_buffered x b).world c j task (Waiting input) y z here at (λ n u s l ne h. free n u s l h) settled)
   one_turn x c answer other y z world (inr (inl (free, a))) (inr (inr b)) = absurd (b.1 a.0 a.1 a.2 a.4)
   one_turn x c answer other y z world (inr (inr a)) (inl b) = absurd (a.0 b.0 b.1 b.2 b.3 b.4)
@@ -317,7 +351,8 @@ module _ (law : WritesAreDetermined) (begins : OneInstructionBegins) (replies : 
       let first : q.0 ≡ p.0 = cc in
       let rest : p.1 ≡ q.1 = cc in
       let one = replies b.memory p.2 q.2 c p.0 p.0 so p.4 (subst (λ (e : Event). PlainlyAllowed b.memory c e q.2) first q.4) refl in (
-        p.5 ∙ ap (λ (z : Plain). record { memory = z; buffers = put b.buffers c p.1 }) one.1 ∙ ap (λ (es : List Event). record { memory = q.2; buffers = put b.buffers c es }) rest ∙ sym q.5,
+        p.5 ∙ ap (λ (z : Plain). record { memory = z; buffers = put b.buffers c p.1 }) one.1 ∙ ap
+            (λ (es : List Event). record { memory = q.2; buffers = put b.buffers c es }) rest ∙ sym q.5,
         subst (λ (z : Buffered). IsSoundStore z.memory) (sym p.5) (allowed_sound b.memory p.2 c p.0 so p.4.0),
       )
 
@@ -339,7 +374,8 @@ module _ (law : WritesAreDetermined) (begins : OneInstructionBegins) (replies : 
   moves_are_determined w moves y z fresh p q = one_run moves (drained w) y z (fresh_world law begins replies w fresh) p q
 
   -- ---- closed lists
-  covered : (kept : List BufferedState) → IsClosedX86 kept → (moves : List Move) (x z : X86) → IsWorld x.world → IsShownX86 kept x → RunsMoves x moves z → IsShownX86 kept z
+  covered : (kept : List BufferedState) → IsClosedX86 kept → (moves : List Move) (x z : X86) → IsWorld x.world → IsShownX86 kept x →
+      RunsMoves x moves z → IsShownX86 kept z
   covered kept closed [] x z world shown runs = subst (IsShownX86 kept) (sym runs) shown
   covered kept closed (move ∷ moves) x z world shown runs = elim (closed shown.0 shown.1 shown.2 move) [
     | inl made ↦

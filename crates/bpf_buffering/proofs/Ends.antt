@@ -35,5 +35,6 @@ all_ended jobs n past ended j task at =
     let end = ended j x.0 (omega arith) x.1 in
     (end.0, ap (λ (t : Task). t.stage) (sym x.2) ∙ end.1)
 
-pub one_open : (jobs : List Listed) (j : ℕ) (x : Listed) → slice_get jobs j ≡ Some x → ((outcome : Outcome) → kept_stage x.stage ≡ Ended outcome → ⊥) → HaveEnded (tasks_of jobs) → ⊥
+pub one_open : (jobs : List Listed) (j : ℕ) (x : Listed) → slice_get jobs j ≡ Some x →
+    ((outcome : Outcome) → kept_stage x.stage ≡ Ended outcome → ⊥) → HaveEnded (tasks_of jobs) → ⊥
 one_open jobs j x at goes all = let end = all j (task_of x) (entry_at jobs j x at) in goes end.0 end.1

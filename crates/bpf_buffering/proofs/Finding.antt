@@ -1,5 +1,6 @@
 -- The job that a CPU has in hand, and its lowest that waits, in the list of jobs.
-use Rattle.std.proofs.Common.{◌≡◌, ℕ, ◌+◌, ◌<◌, ◌≤◌, Bool, true, false, ◌==◌, ◌&&◌, List, Option, Some, None, inl, inr, length, refl, sym, ap, ◌∙◌, arith, eq-eqb}
+use Rattle.std.proofs.Common.{◌≡◌, ℕ, ◌+◌, ◌<◌, ◌≤◌, Bool, true, false, ◌==◌, ◌&&◌, List, Option, Some, None, inl, inr, length, refl, sym}
+use Rattle.std.proofs.Common.{ap, ◌∙◌, arith, eq-eqb}
 use Rattle.std.specs.Prelude.{slice_get, option_map}
 use Rattle.std.proofs.lemmas.Bool.{and_parts, cases_lt}
 use Rattle.std.proofs.lemmas.Bool.Decides.{nat_tests}
@@ -21,7 +22,8 @@ both : (a b : Bool) → a ≡ true → b ≡ true → (a && b) ≡ true
 both a b p q = ap (λ (x : Bool). x && b) p ∙ q
 
 -- none of the first passes the test, nor does the next
-pub more_none : (jobs : List Listed) (test : Listed → Bool) (j : ℕ) (x : Listed) → slice_get jobs j ≡ Some x → test x ≡ false → ((k : ℕ) (y : Listed) → k < j → slice_get jobs k ≡ Some y → test y ≡ false)
+pub more_none : (jobs : List Listed) (test : Listed → Bool) (j : ℕ) (x : Listed) → slice_get jobs j ≡ Some x → test x ≡ false →
+    ((k : ℕ) (y : Listed) → k < j → slice_get jobs k ≡ Some y → test y ≡ false)
     → (k : ℕ) (y : Listed) → k < j + 1 → slice_get jobs k ≡ Some y → test y ≡ false
 more_none jobs test j x here fails before k y less at = elim (cases_lt k j) [
   | inl under ↦ before k y under at
@@ -33,7 +35,8 @@ more_none jobs test j x here fails before k y less at = elim (cases_lt k j) [
 ]
 
 -- the task at a place, and the entry
-pub task_at : (jobs : List Listed) (j : ℕ) (task : Task) → slice_get (tasks_of jobs) j ≡ Some task → (x : Listed) × (slice_get jobs j ≡ Some x) × (task_of x ≡ task)
+pub task_at : (jobs : List Listed) (j : ℕ) (task : Task) → slice_get (tasks_of jobs) j ≡ Some task → (x : Listed) ×
+    (slice_get jobs j ≡ Some x) × (task_of x ≡ task)
 task_at jobs j task is = from (slice_get jobs j) refl (sym (slice_get-map task_of jobs j) ∙ is)
   where
     from : (o : Option Listed) → slice_get jobs j ≡ o → option_map task_of o ≡ Some task → (x : Listed) × (slice_get jobs j ≡ Some x) × (task_of x ≡ task)
@@ -69,19 +72,24 @@ found_waiting jobs c j x at is before = (from (kept_stage x.stage) refl (and_par
     below : NoneWaitsBelow (tasks_of jobs) c j
     below k task input less there =
         let y = task_at jobs k task there.listed in
-        let no : false ≡ true = sym (before k y.0 less y.1) ∙ both (y.0.cpu == c) (waits (kept_stage y.0.stage)) (eq-eqb y.0.cpu c (ap (λ (t : Task). t.cpu) y.2 ∙ there.of)) (ap waits (ap (λ (t : Task). t.stage) y.2 ∙ there.at)) in cc
+        let no : false ≡ true = sym (before k y.0 less y.1) ∙ both (y.0.cpu == c) (waits (kept_stage y.0.stage))
+        (eq-eqb y.0.cpu c (ap (λ (t : Task). t.cpu) y.2 ∙ there.of)) (ap waits (ap (λ (t : Task). t.stage) y.2 ∙ there.at)) in cc
 
-pub none_in_hand : (jobs : List Listed) (c n : ℕ) → length jobs ≤ n → ((k : ℕ) (y : Listed) → k < n → slice_get jobs k ≡ Some y → held_by c y ≡ false) → IsFree (tasks_of jobs) c
+pub none_in_hand : (jobs : List Listed) (c n : ℕ) → length jobs ≤ n →
+    ((k : ℕ) (y : Listed) → k < n → slice_get jobs k ≡ Some y → held_by c y ≡ false) → IsFree (tasks_of jobs) c
 none_in_hand jobs c n past none j task state left there =
     let y = task_at jobs j task there.listed in
     let inside : j < length jobs = slice_get_within jobs j y.0 y.1 in
-    let no : false ≡ true = sym (none j y.0 (omega arith) y.1) ∙ both (y.0.cpu == c) (in_hand (kept_stage y.0.stage)) (eq-eqb y.0.cpu c (ap (λ (t : Task). t.cpu) y.2 ∙ there.of)) (ap in_hand (ap (λ (t : Task). t.stage) y.2 ∙ there.at)) in cc
+    let no : false ≡ true = sym (none j y.0 (omega arith) y.1) ∙ both (y.0.cpu == c) (in_hand (kept_stage y.0.stage))
+    (eq-eqb y.0.cpu c (ap (λ (t : Task). t.cpu) y.2 ∙ there.of)) (ap in_hand (ap (λ (t : Task). t.stage) y.2 ∙ there.at)) in cc
 
-pub none_waiting : (jobs : List Listed) (c n : ℕ) → length jobs ≤ n → ((k : ℕ) (y : Listed) → k < n → slice_get jobs k ≡ Some y → waits_for c y ≡ false) → NoneWaits (tasks_of jobs) c
+pub none_waiting : (jobs : List Listed) (c n : ℕ) → length jobs ≤ n →
+    ((k : ℕ) (y : Listed) → k < n → slice_get jobs k ≡ Some y → waits_for c y ≡ false) → NoneWaits (tasks_of jobs) c
 none_waiting jobs c n past none j task input there =
     let y = task_at jobs j task there.listed in
     let inside : j < length jobs = slice_get_within jobs j y.0 y.1 in
-    let no : false ≡ true = sym (none j y.0 (omega arith) y.1) ∙ both (y.0.cpu == c) (waits (kept_stage y.0.stage)) (eq-eqb y.0.cpu c (ap (λ (t : Task). t.cpu) y.2 ∙ there.of)) (ap waits (ap (λ (t : Task). t.stage) y.2 ∙ there.at)) in cc
+    let no : false ≡ true = sym (none j y.0 (omega arith) y.1) ∙ both (y.0.cpu == c) (waits (kept_stage y.0.stage))
+    (eq-eqb y.0.cpu c (ap (λ (t : Task). t.cpu) y.2 ∙ there.of)) (ap waits (ap (λ (t : Task). t.stage) y.2 ∙ there.at)) in cc
 
 pub kept_waits : (s : KeptStage) → waits (kept_stage s) ≡ true → (input : Input) × (s ≡ kept.Waiting input)
 kept_waits (kept.Waiting input) so = (input, refl)

@@ -23,7 +23,8 @@ all_wait [] = refl
 all_wait (job ∷ jobs) = ap (λ (ts : List Task). waiting job ∷ ts) (all_wait jobs)
 
 -- one more buffer
-pub one_empty : (buffers : List (Vec Stored Global)) (v : Vec Stored Global) → v.items ≡ [] → ((c : ℕ) → stored_at buffers c ≡ []) → (c : ℕ) → stored_at (buffers ++ v ∷ []) c ≡ []
+pub one_empty : (buffers : List (Vec Stored Global)) (v : Vec Stored Global) → v.items ≡ [] → ((c : ℕ) → stored_at buffers c ≡ []) → (c : ℕ)
+    → stored_at (buffers ++ v ∷ []) c ≡ []
 one_empty [] v none all zero = none
 one_empty [] v none all (suc c) = refl
 one_empty (b ∷ bs) v none all zero = all zero
@@ -48,16 +49,24 @@ module _ (jobs : List Job) where
   each_is : (P : Job → Type 0) → All P jobs → (j : ℕ) (job : Job) → slice_get jobs j ≡ Some job → P job
   each_is P all j job at = subst P (get_or_from_slice_get jobs j job job at) (all j job (slice_get_within jobs j job at))
 
-  pub first_board : (w : WaitingContents) (programs : List Loaded) (listed : List Listed) (buffers : List (Vec Stored Global)) (cpus : ℕ) → w.waiting ≡ [] → ((c : ℕ) → is_running w.store c ≡ false) → All (λ (job : Job). has_cpu w.store job.cpu ≡ true) jobs → All (λ (job : Job). job.program < length programs) jobs
-      → listed ≡ map first_entry jobs → ((c : ℕ) → has_cpu w.store c ≡ nat_lt c cpus) → length buffers ≡ cpus → ((c : ℕ) → stored_at buffers c ≡ []) → IsBuffering w programs listed buffers
+  pub first_board : (w : WaitingContents) (programs : List Loaded) (listed : List Listed) (buffers : List (Vec Stored Global)) (cpus : ℕ) →
+      w.waiting ≡ [] → ((c : ℕ) → is_running w.store c ≡ false) → All (λ (job : Job). has_cpu w.store job.cpu ≡ true) jobs → All
+      (λ (job : Job). job.program < length programs) jobs
+      → listed ≡ map first_entry jobs → ((c : ℕ) → has_cpu w.store c ≡ nat_lt c cpus) → length buffers ≡ cpus →
+      ((c : ℕ) → stored_at buffers c ≡ []) → IsBuffering w programs listed buffers
   first_board w programs listed buffers cpus none idle served loaded same has count empty = record {
-    stands = subst (λ (ls : List Listed). Stands (state_of w programs ls buffers).machine) (sym same) (subst (λ (ts : List Task). Stands (record { store = w.store; programs = programs; jobs = ts; lists = None })) (sym (all_wait jobs)) (record {
-      served = λ j task is. (let job = at_first j task is in subst (λ (t : Task). has_cpu w.store t.cpu ≡ true) job.2 (each_is (λ (x : Job). has_cpu w.store x.cpu ≡ true) served j job.0 job.1));
-      loaded = λ j task is. (let job = at_first j task is in subst (λ (t : Task). t.program < length programs) job.2 (each_is (λ (x : Job). x.program < length programs) loaded j job.0 job.1));
-      hand = λ c j task state left at. absurd (none_held c j task state left at);
-      one = λ c j k has other. absurd (none_held c j has.0 has.1 has.2 has.3);
-      idle = λ c free. idle c;
-    }));
+    stands = subst (λ (ls : List Listed). Stands (state_of w programs ls buffers).machine) (sym same)
+        (subst (λ (ts : List Task). Stands (record { store = w.store; programs = programs; jobs = ts; lists = None })) (sym (all_wait jobs)) (record {
+          served = λ j task is.
+              (let job = at_first j task is in subst (λ (t : Task). has_cpu w.store t.cpu ≡ true) job.2
+              (each_is (λ (x : Job). has_cpu w.store x.cpu ≡ true) served j job.0 job.1));
+          loaded = λ j task is.
+              (let job = at_first j task is in subst (λ (t : Task). t.program < length programs) job.2
+              (each_is (λ (x : Job). x.program < length programs) loaded j job.0 job.1));
+          hand = λ c j task state left at. absurd (none_held c j task state left at);
+          one = λ c j k has other. absurd (none_held c j has.0 has.1 has.2 has.3);
+          idle = λ c free. idle c;
+        }));
     put_back = none;
     cpus = λ c. has c ∙ ap (nat_lt c) (sym count);
     each = λ c. nothing_waits w.store c (stored_at buffers c) (empty c);

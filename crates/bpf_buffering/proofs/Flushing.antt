@@ -30,7 +30,8 @@ pub cannot_flush : (old : BufferedState) (c : ℕ) → buffer_at old.buffers c �
 cannot_flush old c none x z shows (b, (oldest, rest, s, is, allowed, same), moved) =
     let no : [] ≡ oldest ∷ rest = sym none ∙ ap (λ (f : ℕ → List Event). f c) (sym shows.buffers) ∙ is in cc
 
-module _ (w : WaitingContents) (programs : List Loaded) (jobs : List Listed) (buffers : List (Vec Stored Global)) (board : IsBuffering w programs jobs buffers) where
+module _ (w : WaitingContents) (programs : List Loaded) (jobs : List Listed) (buffers : List (Vec Stored Global))
+    (board : IsBuffering w programs jobs buffers) where
   -- a CPU beyond the machine's
   pub none_beyond : (c : ℕ) → length buffers ≤ c → buffer_at (events_of_all buffers) c ≡ []
   none_beyond c past = beyond buffers c past
@@ -49,7 +50,8 @@ module _ (w : WaitingContents) (programs : List Loaded) (jobs : List Listed) (bu
 
     module _ (h : WaitingContents) (taken : h ≡ record w { waiting = v.items; cpu = c }) (u : Vec Stored Global) (u_is : u.items ≡ w.waiting) where
       buffer_is : buffer_of h ≡ buffer_at (events_of_all buffers) c
-      buffer_is = ap (λ (x : WaitingContents). map event_of x.waiting) taken ∙ ap (map event_of) (read_items buffers c v within read) ∙ sym (events_at buffers c)
+      buffer_is = ap (λ (x : WaitingContents). map event_of x.waiting) taken ∙ ap (map event_of) (read_items buffers c v within read) ∙ sym
+          (events_at buffers c)
 
       pub serves : has_cpu h.store h.cpu ≡ true
       serves = subst (λ (x : WaitingContents). has_cpu x.store x.cpu ≡ true) (sym taken) has_one
@@ -59,13 +61,17 @@ module _ (w : WaitingContents) (programs : List Loaded) (jobs : List Listed) (bu
 
       module _ (x : Vec Stored Global) (again : x ≡ slice_index_or (slice_set buffers c u) c x) where
         nothing_else : x.items ≡ []
-        nothing_else = read_items (slice_set buffers c u) c x (subst (λ (n : ℕ). c < n) (sym (length-set buffers c u)) within) again ∙ stored_same buffers c u within ∙ u_is ∙ board.put_back
+        nothing_else = read_items (slice_set buffers c u) c x (subst (λ (n : ℕ). c < n) (sym (length-set buffers c u)) within) again ∙
+            stored_same buffers c u within ∙ u_is ∙ board.put_back
 
         pub can_put_back : (store : Contents) → CanWait store c x.items
         can_put_back store = nothing_waits store c x.items nothing_else
 
-        module _ (k : WaitingContents) (cpu : k.cpu ≡ h.cpu) (shape : shape_of k.store ≡ shape_of h.store) (held : held_spans k.store ≡ held_spans h.store) (running : is_running k.store ≡ is_running h.store) (serving : has_cpu k.store ≡ has_cpu h.store)
-            (z : WaitingContents) (given : z ≡ record k { waiting = x.items; cpu = c }) (y : Vec Stored Global) (y_is : y.items ≡ k.waiting) (y_can : CanWait k.store k.cpu y.items) where
+        module _ (k : WaitingContents) (cpu : k.cpu ≡ h.cpu) (shape : shape_of k.store ≡ shape_of h.store)
+            (held : held_spans k.store ≡ held_spans h.store) (running : is_running k.store ≡ is_running h.store)
+            (serving : has_cpu k.store ≡ has_cpu h.store)
+            (z : WaitingContents) (given : z ≡ record k { waiting = x.items; cpu = c }) (y : Vec Stored Global) (y_is : y.items ≡ k.waiting)
+            (y_can : CanWait k.store k.cpu y.items) where
           abbrev buffers' : List (Vec Stored Global)
           buffers' = slice_set (slice_set buffers c u) c y
 
@@ -97,7 +103,8 @@ module _ (w : WaitingContents) (programs : List Loaded) (jobs : List Listed) (bu
 
           events_now : buffer_at (events_of_all buffers') ≡ put (buffer_at (events_of_all buffers)) c (buffer_of k)
           events_now =
-              ap (λ (bs : List (Vec Stored Global)). buffer_at (events_of_all bs)) buffers_once ∙ events_set buffers c y within ∙ ap (λ (es : List Stored). put (buffer_at (events_of_all buffers)) c (map event_of es)) y_is
+              ap (λ (bs : List (Vec Stored Global)). buffer_at (events_of_all bs)) buffers_once ∙ events_set buffers c y within ∙ ap
+              (λ (es : List Stored). put (buffer_at (events_of_all buffers)) c (map event_of es)) y_is
 
           stands_now : Stands (state_of z programs jobs buffers').machine
           stands_now = record {
@@ -122,15 +129,18 @@ module _ (w : WaitingContents) (programs : List Loaded) (jobs : List Listed) (bu
             | inl here ↦
                 subst (λ (n : ℕ). CanWait z.store n (stored_at (slice_set buffers c y) n)) (sym here)
                 (subst (λ (es : List Stored). CanWait z.store c es) (sym (stored_same buffers c y within))
-                (subst (λ (n : ℕ). CanWait z.store n y.items) (cpu ∙ ap (λ (a : WaitingContents). a.cpu) taken) (subst (λ (s : Contents). CanWait s k.cpu y.items) (sym store_now) y_can)))
-            | inr ne ↦ subst (λ (es : List Stored). CanWait z.store d es) (sym (stored_other buffers c y within d ne)) (waits_still w.store z.store c d (stored_at buffers d) ne others_now (board.each d))
+                (subst (λ (n : ℕ). CanWait z.store n y.items) (cpu ∙ ap (λ (a : WaitingContents). a.cpu) taken)
+                (subst (λ (s : Contents). CanWait s k.cpu y.items) (sym store_now) y_can)))
+            | inr ne ↦ subst (λ (es : List Stored). CanWait z.store d es) (sym (stored_other buffers c y within d ne))
+                (waits_still w.store z.store c d (stored_at buffers d) ne others_now (board.each d))
           ])
 
           pub board_now : IsBuffering z programs jobs buffers'
           board_now = record {
             stands = stands_now;
             put_back = ap (λ (a : WaitingContents). a.waiting) given ∙ nothing_else;
-            cpus = λ d. ap (λ (f : ℕ → Bool). f d) serving_now ∙ board.cpus d ∙ ap (nat_lt d) (sym (length-set (slice_set buffers c u) c y ∙ length-set buffers c u));
+            cpus = λ d. ap (λ (f : ℕ → Bool). f d) serving_now ∙ board.cpus d ∙ ap (nat_lt d)
+                (sym (length-set (slice_set buffers c u) c y ∙ length-set buffers c u));
             each = each_now;
           }
 
@@ -162,8 +172,11 @@ module _ (w : WaitingContents) (programs : List Loaded) (jobs : List Listed) (bu
           stays same =
               let store : z.store ≡ w.store = store_now ∙ ap (λ (a : WaitingContents). a.store) same ∙ store_first in
               let items : y.items ≡ v.items = y_is ∙ ap (λ (a : WaitingContents). a.waiting) same ∙ ap (λ (a : WaitingContents). a.waiting) taken in
-              let here : events_in y ≡ slice_index_or (events_of_all buffers) c [] = ap (map event_of) (items ∙ read_items buffers c v within read) ∙ sym (events_at buffers c) in
+              let here : events_in y ≡ slice_index_or (events_of_all buffers) c [] = ap (map event_of)
+              (items ∙ read_items buffers c v within read) ∙ sym (events_at buffers c) in
               let events : events_of_all buffers' ≡ events_of_all buffers =
-              ap events_of_all buffers_once ∙ map-set events_in buffers c y ∙ ap (λ (es : List Event). slice_set (events_of_all buffers) c es) here ∙ set-get_or (events_of_all buffers) c [] in
+              ap events_of_all buffers_once ∙ map-set events_in buffers c y ∙ ap
+              (λ (es : List Event). slice_set (events_of_all buffers) c es) here ∙ set-get_or (events_of_all buffers) c [] in
               let P : MachineState = (state_of w programs jobs buffers).machine in
-              ap (λ (s : Contents). record { machine = record P { store = s }; buffers = events_of_all buffers' }) store ∙ ap (λ (es : List (List Event)). record { machine = P; buffers = es }) events
+              ap (λ (s : Contents). record { machine = record P { store = s }; buffers = events_of_all buffers' }) store ∙ ap
+              (λ (es : List (List Event)). record { machine = P; buffers = es }) events

@@ -52,7 +52,8 @@ events_of_items (b ∷ bs) = ap (λ (es : List (List Event)). map event_of b.ite
 pub events_same : (bs cs : List (Vec Stored Global)) → map items_of bs ≡ map items_of cs → events_of_all bs ≡ events_of_all cs
 events_same bs cs items = events_of_items bs ∙ ap (map (map event_of)) items ∙ sym (events_of_items cs)
 
-module _ (w z : WaitingContents) (programs : List Loaded) (jobs jobs' : List Listed) (buffers buffers' : List (Vec Stored Global)) (store : z.store ≡ w.store) (tasks : tasks_of jobs' ≡ tasks_of jobs) (items : map items_of buffers' ≡ map items_of buffers) where
+module _ (w z : WaitingContents) (programs : List Loaded) (jobs jobs' : List Listed) (buffers buffers' : List (Vec Stored Global))
+    (store : z.store ≡ w.store) (tasks : tasks_of jobs' ≡ tasks_of jobs) (items : map items_of buffers' ≡ map items_of buffers) where
   abbrev machine_of : Contents → List Task → MachineState
   machine_of s ts = record { store = s; programs = programs; jobs = ts; lists = None }
 
@@ -67,7 +68,8 @@ module _ (w z : WaitingContents) (programs : List Loaded) (jobs jobs' : List Lis
 
   pub same_board : z.waiting ≡ [] → IsBuffering w programs jobs buffers → IsBuffering z programs jobs' buffers'
   same_board none board = record {
-    stands = subst (λ (s : Contents). Stands (machine_of s (tasks_of jobs'))) (sym store) (subst (λ (ts : List Task). Stands (machine_of w.store ts)) (sym tasks) board.stands);
+    stands = subst (λ (s : Contents). Stands (machine_of s (tasks_of jobs'))) (sym store)
+        (subst (λ (ts : List Task). Stands (machine_of w.store ts)) (sym tasks) board.stands);
     put_back = none;
     cpus = λ c. ap (λ (s : Contents). has_cpu s c) store ∙ board.cpus c ∙ ap (nat_lt c) (sym count_same);
     each = λ c.
@@ -77,7 +79,8 @@ module _ (w z : WaitingContents) (programs : List Loaded) (jobs jobs' : List Lis
 
 -- ---- a kept state
 -- it is the machine's
-pub fits_itself : (m : BufferedState) (k : Kept) (programs : List Loaded) → kept_state programs k ≡ m → IsBuffering (quiet k.store) programs k.jobs.items k.buffers.items → IsSavedAs k.store k.bytes.items → FitsHost m k
+pub fits_itself : (m : BufferedState) (k : Kept) (programs : List Loaded) → kept_state programs k ≡ m → IsBuffering (quiet k.store) programs
+    k.jobs.items k.buffers.items → IsSavedAs k.store k.bytes.items → FitsHost m k
 fits_itself m k programs is board saved =
     subst (λ (s : BufferedState). FitsHost s k) is (record { host = same_host (kept_state programs k).machine; board = board; saved = saved })
 
@@ -95,11 +98,13 @@ fits_after old new k went fits = record {
 }
 
 -- it shows what the machine shows, whose store is saved as the same bytes
-pub shown_alike : (m : BufferedState) (k : Kept) → FitsHost m k → IsSavedAs m.machine.store k.bytes.items → tasks_of k.jobs.items ≡ m.machine.jobs → m.machine.lists ≡ None → events_of_all k.buffers.items ≡ m.buffers
+pub shown_alike : (m : BufferedState) (k : Kept) → FitsHost m k → IsSavedAs m.machine.store k.bytes.items → tasks_of k.jobs.items ≡
+    m.machine.jobs → m.machine.lists ≡ None → events_of_all k.buffers.items ≡ m.buffers
     → (x : X86) → ShowsX86 m x → ShowsX86 (kept_state m.machine.programs k) x
 shown_alike m k fits saved jobs lists buffers x shows = record {
   world = record {
-    store = alike_stand_alike m.machine.store k.store x.world.store (saved_alike_look_alike m.machine.store k.store k.bytes.items fits.host.shape saved fits.saved) shows.world.store;
+    store = alike_stand_alike m.machine.store k.store x.world.store
+        (saved_alike_look_alike m.machine.store k.store k.bytes.items fits.host.shape saved fits.saved) shows.world.store;
     sound = shows.world.sound;
     programs = shows.world.programs;
     jobs = shows.world.jobs ∙ sym jobs;
@@ -109,7 +114,8 @@ shown_alike m k fits saved jobs lists buffers x shows = record {
 }
 
 -- ---- a CPU that the machine doesn't have
-module _ (w : WaitingContents) (programs : List Loaded) (jobs : List Listed) (buffers : List (Vec Stored Global)) (board : IsBuffering w programs jobs buffers) (n : ℕ) (has : (c : ℕ) → has_cpu w.store c ≡ nat_lt c n) (c : ℕ) (above : n ≤ c) where
+module _ (w : WaitingContents) (programs : List Loaded) (jobs : List Listed) (buffers : List (Vec Stored Global))
+    (board : IsBuffering w programs jobs buffers) (n : ℕ) (has : (c : ℕ) → has_cpu w.store c ≡ nat_lt c n) (c : ℕ) (above : n ≤ c) where
   abbrev m : BufferedState
   m = state_of w programs jobs buffers
 
@@ -123,7 +129,8 @@ module _ (w : WaitingContents) (programs : List Loaded) (jobs : List Listed) (bu
 
   pub rests : MovesTo m (TurnOf c) m
   rests x shows =
-      let listed : (j : ℕ) (task : Task) → slice_get x.world.jobs j ≡ Some task → slice_get m.machine.jobs j ≡ Some task = λ j task at. ap (λ (ts : List Task). slice_get ts j) (sym shows.world.jobs) ∙ at in
+      let listed : (j : ℕ) (task : Task) → slice_get x.world.jobs j ≡ Some task → slice_get m.machine.jobs j ≡ Some task = λ j task at. ap
+      (λ (ts : List Task). slice_get ts j) (sym shows.world.jobs) ∙ at in
       let free : IsFree x.world.jobs c = λ j task state left at. has_none j task (listed j task at.listed) at.of in
       let none : NoneWaits x.world.jobs c = λ j task input at. has_none j task (listed j task at.listed) at.of in
       (x, (Idle, inr (inr (free, none, refl, refl))), shows)
@@ -132,7 +139,9 @@ module _ (w : WaitingContents) (programs : List Loaded) (jobs : List Listed) (bu
   none_flushes = cannot_flush m c (none_beyond w programs jobs buffers board c beyond)
 
 -- ---- what goes on stays of its host
-pub host_through : (w h k z : WaitingContents) (programs : List Loaded) (jobs jobs' : List Listed) (buffers buffers' : List (Vec Stored Global)) → h.store ≡ w.store → shape_of k.store ≡ shape_of h.store → has_cpu k.store ≡ has_cpu h.store → z.store ≡ k.store → length jobs' ≡ length jobs
+pub host_through : (w h k z : WaitingContents) (programs : List Loaded) (jobs jobs' : List Listed)
+    (buffers buffers' : List (Vec Stored Global)) → h.store ≡ w.store → shape_of k.store ≡ shape_of h.store → has_cpu k.store ≡ has_cpu
+    h.store → z.store ≡ k.store → length jobs' ≡ length jobs
     → IsSameHost (state_of w programs jobs buffers).machine (state_of z programs jobs' buffers').machine
 host_through w h k z programs jobs jobs' buffers buffers' first shape serves last count = record {
   programs = refl;

@@ -35,7 +35,8 @@ call_beside s t c e es fs others is call =
     let r = calls_are_local s t c es (e ∷ []) fs others is (alone t c fs, call, refl) in
     subst (λ (b : Buffered). Calls (record { memory = s; buffers = others }) c e b) (sym r.2) r.1
 
-advances_beside : (program : Loaded) (c : ℕ) (s t : Plain) (es fs : List Event) (others : ℕ → List Event) (old new : Cpu) (left rest : ℕ) (end : Option Outcome) → others c ≡ es
+advances_beside : (program : Loaded) (c : ℕ) (s t : Plain) (es fs : List Event) (others : ℕ → List Event) (old new : Cpu) (left rest : ℕ)
+    (end : Option Outcome) → others c ≡ es
     → Advances program c (alone s c es) old left end (alone t c fs) new rest
     → Advances program c (record { memory = s; buffers = others }) old left end (record { memory = t; buffers = put others c fs }) new rest
 advances_beside program c s t es fs others old new zero rest end is (ends, same, stays, last) = (ends, there, stays, last)
@@ -50,7 +51,8 @@ advances_beside program c s t es fs others old new zero rest end is (ends, same,
     buffers = ap (λ (x : List Event). put others c x) waiting ∙ sym (put_itself others c es is)
 
     there : ◌≡◌ {A = Buffered} (record { memory = t; buffers = put others c fs }) (record { memory = s; buffers = others })
-    there = ap (λ (m : Plain). record { memory = m; buffers = put others c fs }) stores ∙ ap (λ (f : ℕ → List Event). record { memory = s; buffers = f }) buffers
+    there = ap (λ (m : Plain). record { memory = m; buffers = put others c fs }) stores ∙ ap
+        (λ (f : ℕ → List Event). record { memory = s; buffers = f }) buffers
 advances_beside program c s t es fs others old new (suc n) rest end is (events, progress, step, calls, ends, last) =
     (events, progress, step, calls_are_local s t c es events fs others is calls, ends, last)
 
@@ -61,7 +63,8 @@ waits_here t c = elim (equal_or_not t.cpu c) [
   | inr ne ↦ inr (λ input of at. ne of)
 ]
   where
-    from : (s : Stage) → t.stage ≡ s → t.cpu ≡ c → ((input : Input) × (t.cpu ≡ c) × (t.stage ≡ Waiting input)) ⊎ ((input : Input) → t.cpu ≡ c → t.stage ≡ Waiting input → ⊥)
+    from : (s : Stage) → t.stage ≡ s → t.cpu ≡ c → ((input : Input) × (t.cpu ≡ c) × (t.stage ≡ Waiting input)) ⊎
+        ((input : Input) → t.cpu ≡ c → t.stage ≡ Waiting input → ⊥)
     from (Waiting input) e of = inl (input, of, e)
     from (InHand state left) e of = inr (λ input q at. let no : InHand state left ≡ Waiting input = sym e ∙ at in cc)
     from (Ended end) e of = inr (λ input q at. let no : Ended end ≡ Waiting input = sym e ∙ at in cc)
@@ -99,7 +102,8 @@ moved x c j task stage t fs = record { world = record x.world { store = t; jobs 
 same_hand : (state old : Cpu) (left n : ℕ) → InHand state left ≡ InHand old n → (old ≡ state) × (n ≡ left)
 same_hand state old left n e = (cc, cc)
 
-goes_on : (x : X86) (c j : ℕ) (task : Task) (state : Cpu) (left : ℕ) (program : Loaded) (end : Option Outcome) (t : Plain) (es fs : List Event) (stage : Stage) → slice_get x.world.programs task.program ≡ Some program → x.buffers c ≡ es
+goes_on : (x : X86) (c j : ℕ) (task : Task) (state : Cpu) (left : ℕ) (program : Loaded) (end : Option Outcome) (t : Plain)
+    (es fs : List Event) (stage : Stage) → slice_get x.world.programs task.program ≡ Some program → x.buffers c ≡ es
     → x.world.lists ≡ listing_at None → GoesAlone program c x.world.store es (InHand state left) end t fs stage
     → GoesOn x c j task state left (answer_of j end) (moved x c j task stage t fs)
 goes_on x c j task state left program None t es fs stage loaded is none (old, n, new, rest, was, now, advances) =
@@ -107,8 +111,16 @@ goes_on x c j task state left program None t es fs stage loaded is none (old, n,
     let own : Advances program c (alone x.world.store c es) state left None (alone t c fs) new rest =
     subst (λ (k : ℕ). Advances program c (alone x.world.store c es) state k None (alone t c fs) new rest) same.1
     (subst (λ (s : Cpu). Advances program c (alone x.world.store c es) s n None (alone t c fs) new rest) same.0 advances) in
-    let b : Buffered = record { memory = t; buffers = put x.buffers c fs } in
-    (program, None, b, new, rest, loaded, advances_beside program c x.world.store t es fs x.buffers state new left rest None is own, ((refl, ap (λ (s : Stage). record x.world { store = t; jobs = with_stage x.world.jobs j task s }) now), refl))
+    let b : Buffered = record { memory = t; buffers = put x.buffers c fs } in (
+      program,
+      None,
+      b,
+      new,
+      rest,
+      loaded,
+      advances_beside program c x.world.store t es fs x.buffers state new left rest None is own,
+      ((refl, ap (λ (s : Stage). record x.world { store = t; jobs = with_stage x.world.jobs j task s }) now), refl),
+    )
 goes_on x c j task state left program (Some end) t es fs stage loaded is none (old, n, m, ms, new, rest, was, now, advances, call) =
     let same = same_hand state old left n was in
     let own : Advances program c (alone x.world.store c es) state left (Some end) (alone m c ms) new rest =
@@ -122,11 +134,21 @@ goes_on x c j task state left program (Some end) t es fs stage loaded is none (o
     let allowed : PlainlyAllowed d.memory c End t = subst (λ (k : Plain). PlainlyAllowed d.memory c End k) store last.2.1 in
     let ended : World = record x.world { store = t; jobs = with_stage x.world.jobs j task (Ended end) } in
     let lists : Lists ended c (record x.world { store = t; jobs = with_stage x.world.jobs j task stage }) =
-    subst (λ (s : Stage). Lists ended c (record x.world { store = t; jobs = with_stage x.world.jobs j task s })) (sym now) (lists_nothing ended c none) in
-    (program, Some end, b, new, rest, loaded, advances_beside program c x.world.store m es ms x.buffers state new left rest (Some end) is own, (d, last.1, (t, allowed, refl, lists), buffers))
+    subst (λ (s : Stage). Lists ended c (record x.world { store = t; jobs = with_stage x.world.jobs j task s })) (sym now) (lists_nothing ended c none) in (
+      program,
+      Some end,
+      b,
+      new,
+      rest,
+      loaded,
+      advances_beside program c x.world.store m es ms x.buffers state new left rest (Some end) is
+          own,
+      (d, last.1, (t, allowed, refl, lists), buffers),
+    )
 
 -- ---- turns
-pub turn_in_hand : (old new : BufferedState) (c j : ℕ) (end : Option Outcome) → HasInHand old.machine.jobs c j → Proceeds old c j end new → TurnsTo old c (answer_of j end) new
+pub turn_in_hand : (old new : BufferedState) (c j : ℕ) (end : Option Outcome) → HasInHand old.machine.jobs c j → Proceeds old c j end new →
+    TurnsTo old c (answer_of j end) new
 turn_in_hand old new c j end has proceeds x shows =
     let task = has.0 in
     let p = proceeds task has.1 has.2 has.3 in
@@ -134,7 +156,9 @@ turn_in_hand old new c j end has proceeds x shows =
     let t = p.9 x.world.store w.sound w.store in
     let stage = p.1 in
     let at : IsAt x.world.jobs c j task (InHand has.1 has.2) = subst (λ (ts : List Task). IsAt ts c j task (InHand has.1 has.2)) (sym w.jobs) has.3 in
-    let goes = goes_on x c j task has.1 has.2 p.0 end t.0 (buffer_at old.buffers c) p.2 stage (ap (λ (ps : List Loaded). slice_get ps task.program) w.programs ∙ p.3) (ap (λ (f : ℕ → List Event). f c) shows.buffers) (w.lists ∙ ap listing_at p.6) t.3 in (
+    let goes = goes_on x c j task has.1 has.2 p.0 end t.0 (buffer_at old.buffers c) p.2 stage
+    (ap (λ (ps : List Loaded). slice_get ps task.program) w.programs ∙ p.3) (ap (λ (f : ℕ → List Event). f c) shows.buffers)
+    (w.lists ∙ ap listing_at p.6) t.3 in (
       moved x c j task stage t.0 p.2,
       inl (j, task, has.1, has.2, at, goes),
       record {
@@ -152,19 +176,33 @@ turn_in_hand old new c j end has proceeds x shows =
 pub turn_idle : (old : BufferedState) (c : ℕ) → IsFree old.machine.jobs c → NoneWaits old.machine.jobs c → TurnsTo old c Idle old
 turn_idle old c free none x shows = (
   x,
-  inr (inr (subst (λ (ts : List Task). IsFree ts c) (sym shows.world.jobs) free, subst (λ (ts : List Task). NoneWaits ts c) (sym shows.world.jobs) none, refl, refl)),
+  inr (inr (
+    subst (λ (ts : List Task). IsFree ts c) (sym shows.world.jobs) free,
+    subst (λ (ts : List Task). NoneWaits ts c)
+        (sym shows.world.jobs) none,
+    refl,
+    refl,
+  )),
   shows,
 )
 
-begun_at : (jobs : List Task) (c j : ℕ) (task : Task) (was now : Stage) → IsAt jobs c j task was → IsAt (with_stage jobs j task now) c j (record task { stage = now }) now
+begun_at : (jobs : List Task) (c j : ℕ) (task : Task) (was now : Stage) → IsAt jobs c j task was → IsAt (with_stage jobs j task now) c j
+    (record task { stage = now }) now
 begun_at jobs c j task was now at = record { listed = slice_get-set_known jobs j (record task { stage = now }) task at.listed; of = at.of; at = refl }
 
 pub begun_in_hand : (old new : BufferedState) (c j : ℕ) → Begins old c j new → HasInHand new.machine.jobs c j
 begun_in_hand old new c j begins =
-    let now : Stage = InHand (start c begins.1) begins.0.budget in
-    (record begins.0 { stage = now }, start c begins.1, begins.0.budget, subst (λ (ts : List Task). IsAt ts c j (record begins.0 { stage = now }) now) (sym begins.5) (begun_at old.machine.jobs c j begins.0 (Waiting begins.1) now begins.3))
+    let now : Stage = InHand (start c begins.1) begins.0.budget in (
+      record begins.0 { stage = now },
+      start c begins.1,
+      begins.0.budget,
+      subst
+          (λ (ts : List Task). IsAt ts c j (record begins.0 { stage = now }) now) (sym begins.5)
+          (begun_at old.machine.jobs c j begins.0 (Waiting begins.1) now begins.3),
+    )
 
-pub turn_begins : (old mid new : BufferedState) (c j : ℕ) (end : Option Outcome) → IsFree old.machine.jobs c → IsLowest old.machine.jobs c j → Begins old c j mid → Proceeds mid c j end new → TurnsTo old c (answer_of j end) new
+pub turn_begins : (old mid new : BufferedState) (c j : ℕ) (end : Option Outcome) → IsFree old.machine.jobs c → IsLowest old.machine.jobs c j
+    → Begins old c j mid → Proceeds mid c j end new → TurnsTo old c (answer_of j end) new
 unfolding begun_in_hand
 turn_begins old mid new c j end free lowest begins proceeds x shows =
     let task = begins.0 in
@@ -178,17 +216,23 @@ turn_begins old mid new c j end free lowest begins proceeds x shows =
     let stage = p.1 in
     let b : Buffered = record { memory = run.0; buffers = put x.buffers c begins.2 } in
     let y : X86 = with_buffered x b in
-    let begun : Calls (buffered x) c Begin b = call_beside x.world.store run.0 c Begin (buffer_at old.buffers c) begins.2 x.buffers (ap (λ (f : ℕ → List Event). f c) shows.buffers) run.3 in
+    let begun : Calls (buffered x) c Begin b = call_beside x.world.store run.0 c Begin (buffer_at old.buffers c) begins.2 x.buffers
+    (ap (λ (f : ℕ → List Event). f c) shows.buffers) run.3 in
     let buffers : y.buffers ≡ buffer_at mid.buffers = ap (λ (f : ℕ → List Event). put f c begins.2) shows.buffers ∙ sym begins.7 in
     let programs : y.world.programs ≡ mid.machine.programs = w.programs ∙ sym begins.4 in
     let lists : y.world.lists ≡ listing_at None = w.lists ∙ ap listing_at (sym begins.6 ∙ p.6) in
-    let goes = goes_on y c j task (start c input) task.budget p.0 end t.0 (buffer_at mid.buffers c) p.2 stage (ap (λ (ps : List Loaded). slice_get ps task.program) programs ∙ p.3) (ap (λ (f : ℕ → List Event). f c) buffers) lists t.3 in
+    let goes = goes_on y c j task (start c input) task.budget p.0 end t.0 (buffer_at mid.buffers c) p.2 stage
+    (ap (λ (ps : List Loaded). slice_get ps task.program) programs ∙ p.3) (ap (λ (f : ℕ → List Event). f c) buffers) lists t.3 in
     let at : IsAt x.world.jobs c j task (Waiting input) = subst (λ (ts : List Task). IsAt ts c j task (Waiting input)) (sym w.jobs) begins.3 in
     let over : with_stage x.world.jobs j task stage ≡ new.machine.jobs =
     ap (λ (ts : List Task). with_stage ts j task stage) w.jobs
-    ∙ sym (p.5 ∙ ap (λ (ts : List Task). with_stage ts j (record task { stage = now }) stage) begins.5 ∙ set_twice old.machine.jobs j (record task { stage = now }) (record task { stage = stage })) in (
+    ∙ sym (p.5 ∙ ap (λ (ts : List Task). with_stage ts j (record task { stage = now }) stage) begins.5 ∙ set_twice old.machine.jobs j
+    (record task { stage = now }) (record task { stage = stage })) in (
       moved y c j task stage t.0 p.2,
-      inr (inl (subst (λ (ts : List Task). IsFree ts c) (sym w.jobs) free, (j, task, input, b, at, subst (λ (ts : List Task). NoneWaitsBelow ts c j) (sym w.jobs) lowest.1, begun, goes))),
+      inr (inl (
+        subst (λ (ts : List Task). IsFree ts c) (sym w.jobs) free,
+        (j, task, input, b, at, subst (λ (ts : List Task). NoneWaitsBelow ts c j) (sym w.jobs) lowest.1, begun, goes),
+      )),
       record {
         world = record {
           store = t.2;

@@ -38,10 +38,12 @@ use Rattle.bpf_buffering.proofs.Standing.{stands_changed}
 use Rattle.bpf_buffering.proofs.Waits.{items_of, stored_same, stored_other, events_set, events_at, waits_still, nothing_waits}
 
 -- what is read of the buffers
-pub read_items : (buffers : List (Vec Stored Global)) (c : ℕ) (v : Vec Stored Global) → c < length buffers → v ≡ slice_index_or buffers c v → v.items ≡ stored_at buffers c
+pub read_items : (buffers : List (Vec Stored Global)) (c : ℕ) (v : Vec Stored Global) → c < length buffers → v ≡ slice_index_or buffers c v
+    → v.items ≡ stored_at buffers c
 read_items buffers c v within read = ap items_of read ∙ sym (get_or-map items_of buffers c v [] within)
 
-module _ (w : WaitingContents) (programs : List Loaded) (jobs : List Listed) (buffers : List (Vec Stored Global)) (board : IsBuffering w programs jobs buffers) where
+module _ (w : WaitingContents) (programs : List Loaded) (jobs : List Listed) (buffers : List (Vec Stored Global))
+    (board : IsBuffering w programs jobs buffers) where
   abbrev m : MachineState
   m = (state_of w programs jobs buffers).machine
 
@@ -74,7 +76,8 @@ module _ (w : WaitingContents) (programs : List Loaded) (jobs : List Listed) (bu
       stage_was = ap (λ (t : Task). t.stage) shown ∙ at.at
 
       -- the buffer beside the store, and put back after the job's stage has changed
-      module _ (v : Vec Stored Global) (read : v ≡ slice_index_or buffers c v) (h : WaitingContents) (taken : h ≡ record w { waiting = v.items; cpu = c }) (u : Vec Stored Global) (u_is : u.items ≡ w.waiting) where
+      module _ (v : Vec Stored Global) (read : v ≡ slice_index_or buffers c v) (h : WaitingContents)
+          (taken : h ≡ record w { waiting = v.items; cpu = c }) (u : Vec Stored Global) (u_is : u.items ≡ w.waiting) where
         pub cpu_is : h.cpu ≡ c
         cpu_is = ap (λ (x : WaitingContents). x.cpu) taken
 
@@ -82,7 +85,8 @@ module _ (w : WaitingContents) (programs : List Loaded) (jobs : List Listed) (bu
         store_is = ap (λ (x : WaitingContents). x.store) taken
 
         pub buffer_is : buffer_of h ≡ buffer_at (events_of_all buffers) c
-        buffer_is = ap (λ (x : WaitingContents). map event_of x.waiting) taken ∙ ap (map event_of) (read_items buffers c v cpu_within read) ∙ sym (events_at buffers c)
+        buffer_is = ap (λ (x : WaitingContents). map event_of x.waiting) taken ∙ ap (map event_of) (read_items buffers c v cpu_within read)
+            ∙ sym (events_at buffers c)
 
         pub count_stays : c < length (slice_set buffers c u)
         count_stays = subst (λ (n : ℕ). c < n) (sym (length-set buffers c u)) cpu_within
@@ -93,7 +97,8 @@ module _ (w : WaitingContents) (programs : List Loaded) (jobs : List Listed) (bu
         pub can_put_back : (store : Contents) (x : Vec Stored Global) → x ≡ slice_index_or (slice_set buffers c u) c x → CanWait store c x.items
         can_put_back store x again = nothing_waits store c x.items (nothing_else x again)
 
-        module _ (k : WaitingContents) (cpu_same : k.cpu ≡ h.cpu) (others : LeavesOthers h.cpu h.store k.store) (e' : Listed) (same : e' ≡ record e { stage = e'.stage }) (x : Vec Stored Global) (again : x ≡ slice_index_or (slice_set buffers c u) c x)
+        module _ (k : WaitingContents) (cpu_same : k.cpu ≡ h.cpu) (others : LeavesOthers h.cpu h.store k.store) (e' : Listed)
+            (same : e' ≡ record e { stage = e'.stage }) (x : Vec Stored Global) (again : x ≡ slice_index_or (slice_set buffers c u) c x)
             (z : WaitingContents) (given : z ≡ record k { waiting = x.items; cpu = c }) (y : Vec Stored Global) (y_is : y.items ≡ k.waiting) where
           abbrev jobs' : List Listed
           jobs' = slice_set jobs j e'
@@ -105,21 +110,25 @@ module _ (w : WaitingContents) (programs : List Loaded) (jobs : List Listed) (bu
           store_now = ap (λ (a : WaitingContents). a.store) given
 
           pub others_now : LeavesOthers c w.store z.store
-          others_now = subst (λ (s : Contents). LeavesOthers c w.store s) (sym store_now) (subst (λ (s : Contents). LeavesOthers c s k.store) store_is (subst (λ (n : ℕ). LeavesOthers n h.store k.store) cpu_is others))
+          others_now = subst (λ (s : Contents). LeavesOthers c w.store s) (sym store_now)
+              (subst (λ (s : Contents). LeavesOthers c s k.store) store_is (subst (λ (n : ℕ). LeavesOthers n h.store k.store) cpu_is others))
 
           pub tasks_now : tasks_of jobs' ≡ with_stage (tasks_of jobs) j task (kept_stage e'.stage)
-          tasks_now = map-set task_of jobs j e' ∙ ap (λ (t : Task). slice_set (tasks_of jobs) j t) (ap task_of same ∙ ap (λ (t : Task). record t { stage = kept_stage e'.stage }) shown)
+          tasks_now = map-set task_of jobs j e' ∙ ap (λ (t : Task). slice_set (tasks_of jobs) j t)
+              (ap task_of same ∙ ap (λ (t : Task). record t { stage = kept_stage e'.stage }) shown)
 
           buffers_once : buffers' ≡ slice_set buffers c y
           buffers_once = set_twice buffers c u y
 
           pub events_now : buffer_at (events_of_all buffers') ≡ put (buffer_at (events_of_all buffers)) c (buffer_of k)
           events_now =
-              ap (λ (bs : List (Vec Stored Global)). buffer_at (events_of_all bs)) buffers_once ∙ events_set buffers c y cpu_within ∙ ap (λ (es : List Stored). put (buffer_at (events_of_all buffers)) c (map event_of es)) y_is
+              ap (λ (bs : List (Vec Stored Global)). buffer_at (events_of_all bs)) buffers_once ∙ events_set buffers c y cpu_within ∙ ap
+              (λ (es : List Stored). put (buffer_at (events_of_all buffers)) c (map event_of es)) y_is
 
           -- the machine's parts fit each other still
           module _ (y_can : CanWait k.store k.cpu y.items) (only : (i : ℕ) → i ≢ j → HasInHand m.jobs c i → ⊥)
-              (fits : (state : Cpu) (left : ℕ) → kept_stage e'.stage ≡ InHand state left → FitsHand (state_of z programs jobs' buffers').machine c (record task { stage = kept_stage e'.stage }) state)
+              (fits : (state : Cpu) (left : ℕ) → kept_stage e'.stage ≡ InHand state left → FitsHand
+              (state_of z programs jobs' buffers').machine c (record task { stage = kept_stage e'.stage }) state)
               (idle : in_hand (kept_stage e'.stage) ≡ false → is_running z.store c ≡ false) where
             entry_now : slice_get jobs' j ≡ Some e'
             entry_now = slice_get-set_known jobs j e' e listed
@@ -141,25 +150,30 @@ module _ (w : WaitingContents) (programs : List Loaded) (jobs : List Listed) (bu
                   subst (λ (n : ℕ). CanWait z.store n (stored_at (slice_set buffers c y) n)) (sym here)
                   (subst (λ (es : List Stored). CanWait z.store c es) (sym (stored_same buffers c y cpu_within))
                   (subst (λ (n : ℕ). CanWait z.store n y.items) (cpu_same ∙ cpu_is) (subst (λ (s : Contents). CanWait s k.cpu y.items) (sym store_now) y_can)))
-              | inr ne ↦ subst (λ (es : List Stored). CanWait z.store d es) (sym (stored_other buffers c y cpu_within d ne)) (waits_still w.store z.store c d (stored_at buffers d) ne others_now (board.each d))
+              | inr ne ↦ subst (λ (es : List Stored). CanWait z.store d es) (sym (stored_other buffers c y cpu_within d ne))
+                  (waits_still w.store z.store c d (stored_at buffers d) ne others_now (board.each d))
             ])
 
             pub board_now : IsBuffering z programs jobs' buffers'
             board_now = record {
-              stands = stands_changed m (state_of z programs jobs' buffers').machine c j task (kept_stage e'.stage) at.listed at.of refl tasks_now others_now board.stands only fits free_now;
+              stands = stands_changed m (state_of z programs jobs' buffers').machine c j task (kept_stage e'.stage) at.listed at.of refl
+                  tasks_now others_now board.stands only fits free_now;
               put_back = ap (λ (a : WaitingContents). a.waiting) given ∙ nothing_else x again;
-              cpus = λ d. ap (λ (f : ℕ → Bool). f d) others_now.serves ∙ board.cpus d ∙ ap (nat_lt d) (sym (length-set (slice_set buffers c u) c y ∙ length-set buffers c u));
+              cpus = λ d. ap (λ (f : ℕ → Bool). f d) others_now.serves ∙ board.cpus d ∙ ap (nat_lt d)
+                  (sym (length-set (slice_set buffers c u) c y ∙ length-set buffers c u));
               each = each_now;
             }
 
   -- ---- a job in hand
-  module _ (c j : ℕ) (task : Task) (state : Cpu) (left : ℕ) (at : IsAt m.jobs c j task (InHand state left)) (e : Listed) (listed : slice_get jobs j ≡ Some e) (program : Loaded) (fetched : slice_get programs e.program ≡ Some program) where
+  module _ (c j : ℕ) (task : Task) (state : Cpu) (left : ℕ) (at : IsAt m.jobs c j task (InHand state left)) (e : Listed)
+      (listed : slice_get jobs j ≡ Some e) (program : Loaded) (fetched : slice_get programs e.program ≡ Some program) where
     fit : FitsHand m c task state
     fit = board.stands.hand c j task state left at
 
     program_is : fit.program ≡ program
     program_is =
-        let two : Some fit.program ≡ Some program = sym fit.loaded ∙ (ap (λ (t : Task). slice_get programs t.program) (sym (shown c j task (InHand state left) at e listed)) ∙ fetched) in cc
+        let two : Some fit.program ≡ Some program = sym fit.loaded ∙
+        (ap (λ (t : Task). slice_get programs t.program) (sym (shown c j task (InHand state left) at e listed)) ∙ fetched) in cc
 
     pub only_one : (i : ℕ) → i ≢ j → HasInHand m.jobs c i → ⊥
     only_one i ne other = ne (board.stands.one c i j other (task, state, left, at))
@@ -178,12 +192,14 @@ module _ (w : WaitingContents) (programs : List Loaded) (jobs : List Listed) (bu
       })
 
     -- what it leads to fits
-    module _ (k z : WaitingContents) (x : List Stored) (cpu : k.cpu ≡ c) (given : z ≡ record k { waiting = x; cpu = c }) (e' : Listed) (same : e' ≡ record e { stage = e'.stage }) where
+    module _ (k z : WaitingContents) (x : List Stored) (cpu : k.cpu ≡ c) (given : z ≡ record k { waiting = x; cpu = c }) (e' : Listed)
+        (same : e' ≡ record e { stage = e'.stage }) where
       store_same : z.store ≡ k.store
       store_same = ap (λ (a : WaitingContents). a.store) given
 
       pub still_fits : (end : Option Outcome) (jobs' : List Listed) (buffers' : List (Vec Stored Global)) → StaysFit program k (kept_stage e'.stage) end
-          → (new : Cpu) (rest : ℕ) → kept_stage e'.stage ≡ InHand new rest → FitsHand (state_of z programs jobs' buffers').machine c (record task { stage = kept_stage e'.stage }) new
+          → (new : Cpu) (rest : ℕ) → kept_stage e'.stage ≡ InHand new rest → FitsHand (state_of z programs jobs' buffers').machine c
+          (record task { stage = kept_stage e'.stage }) new
       still_fits (Some end) jobs' buffers' (ended, off) new rest is = let no : Ended end ≡ InHand new rest = sym ended ∙ is in cc
       still_fits None jobs' buffers' can new rest is =
           let two : InHand can.state can.left ≡ InHand new rest = sym can.at ∙ is in
@@ -193,10 +209,13 @@ module _ (w : WaitingContents) (programs : List Loaded) (jobs : List Listed) (bu
             program = program;
             loaded = ap (λ (t : Task). slice_get programs t.program) (sym (shown c j task (InHand state left) at e listed)) ∙ fetched;
             ready = subst (λ (s : Cpu). IsReady program s) one can.ready;
-            held = subst (λ (s : Contents). AreHeld (held_spans s c) new.held) (sym store_same) (subst (λ (n : ℕ). AreHeld (held_spans k.store n) new.held) cpu (subst (λ (s : Cpu). AreHeld (held_spans k.store k.cpu) s.held) one can.held));
+            held = subst (λ (s : Contents). AreHeld (held_spans s c) new.held) (sym store_same)
+                (subst (λ (n : ℕ). AreHeld (held_spans k.store n) new.held) cpu
+                (subst (λ (s : Cpu). AreHeld (held_spans k.store k.cpu) s.held) one can.held));
             runs = ap (λ (s : Contents). is_running s c) store_same ∙ ap (is_running k.store) (sym cpu) ∙ can.runs;
           }
 
-      pub still_idle : (end : Option Outcome) → StaysFit program k (kept_stage e'.stage) end → in_hand (kept_stage e'.stage) ≡ false → is_running z.store c ≡ false
+      pub still_idle : (end : Option Outcome) → StaysFit program k (kept_stage e'.stage) end → in_hand (kept_stage e'.stage) ≡ false →
+          is_running z.store c ≡ false
       still_idle (Some end) (ended, off) not = ap (λ (s : Contents). is_running s c) store_same ∙ ap (is_running k.store) (sym cpu) ∙ off
       still_idle None can not = let no : true ≡ false = sym (ap in_hand can.at) ∙ not in cc

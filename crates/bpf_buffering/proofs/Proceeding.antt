@@ -37,9 +37,13 @@ use Rattle.bpf_buffering.specs.Buffering.{events_of_all, state_of, IsBuffering, 
 use Rattle.bpf_buffering.proofs.Advancing.{call_alone}
 use Rattle.bpf_buffering.proofs.Placing.{shown, stage_was, cpu_is, store_is, buffer_is, tasks_now, events_now}
 
-module _ (w : WaitingContents) (programs : List Loaded) (jobs : List Listed) (buffers : List (Vec Stored Global)) (board : IsBuffering w programs jobs buffers) (c j : ℕ) (e : Listed) (listed : slice_get jobs j ≡ Some e) (program : Loaded) (fetched : slice_get programs e.program ≡ Some program)
-    (v : Vec Stored Global) (read : v ≡ slice_index_or buffers c v) (h : WaitingContents) (taken : h ≡ record w { waiting = v.items; cpu = c }) (u : Vec Stored Global) (u_is : u.items ≡ w.waiting)
-    (k : WaitingContents) (cpu_same : k.cpu ≡ h.cpu) (others : LeavesOthers h.cpu h.store k.store) (e' : Listed) (same : e' ≡ record e { stage = e'.stage }) (x : Vec Stored Global) (again : x ≡ slice_index_or (slice_set buffers c u) c x)
+module _ (w : WaitingContents) (programs : List Loaded) (jobs : List Listed) (buffers : List (Vec Stored Global))
+    (board : IsBuffering w programs jobs buffers) (c j : ℕ) (e : Listed) (listed : slice_get jobs j ≡ Some e) (program : Loaded)
+    (fetched : slice_get programs e.program ≡ Some program)
+    (v : Vec Stored Global) (read : v ≡ slice_index_or buffers c v) (h : WaitingContents)
+    (taken : h ≡ record w { waiting = v.items; cpu = c }) (u : Vec Stored Global) (u_is : u.items ≡ w.waiting)
+    (k : WaitingContents) (cpu_same : k.cpu ≡ h.cpu) (others : LeavesOthers h.cpu h.store k.store) (e' : Listed)
+    (same : e' ≡ record e { stage = e'.stage }) (x : Vec Stored Global) (again : x ≡ slice_index_or (slice_set buffers c u) c x)
     (z : WaitingContents) (given : z ≡ record k { waiting = x.items; cpu = c }) (y : Vec Stored Global) (y_is : y.items ≡ k.waiting) where
   kept_first : z.lost ≡ false → k.lost ≡ false
   kept_first kept = ap (λ (a : WaitingContents). a.lost) (sym given) ∙ kept
@@ -50,7 +54,8 @@ module _ (w : WaitingContents) (programs : List Loaded) (jobs : List Listed) (bu
   shows_first : (s : Plain) → StandsFor w.store s → StandsFor h.store s
   shows_first s shows = subst (λ (p : Contents). StandsFor p s) (ap (λ (a : WaitingContents). a.store) (sym taken)) shows
 
-  pub proceeds_now : z.lost ≡ false → (end : Option Outcome) → GoesOver program h (kept_stage e.stage) end k (kept_stage e'.stage) → Proceeds (state_of w programs jobs buffers) c j end (state_of z programs (slice_set jobs j e') (slice_set (slice_set buffers c u) c y))
+  pub proceeds_now : z.lost ≡ false → (end : Option Outcome) → GoesOver program h (kept_stage e.stage) end k (kept_stage e'.stage) →
+      Proceeds (state_of w programs jobs buffers) c j end (state_of z programs (slice_set jobs j e') (slice_set (slice_set buffers c u) c y))
   proceeds_now kept end goes task state left at =
       let r = goes (kept_first kept) in (
         program,
@@ -61,11 +66,13 @@ module _ (w : WaitingContents) (programs : List Loaded) (jobs : List Listed) (bu
         tasks_now w programs jobs buffers board c j task (InHand state left) at e listed v read h taken u u_is k cpu_same others e' same x again z given y y_is,
         refl,
         refl,
-        events_now w programs jobs buffers board c j task (InHand state left) at e listed v read h taken u u_is k cpu_same others e' same x again z given y y_is,
+        events_now w programs jobs buffers board c j task (InHand state left) at e listed v read h taken u u_is k cpu_same others e' same x
+            again z given y y_is,
         λ s so shows.
             (let t = r.1 s so (shows_first s shows) in
             let cpu : h.cpu ≡ c = cpu_is w programs jobs buffers board c j task (InHand state left) at e listed v read h taken u u_is in
-            let waits : buffer_of h ≡ buffer_at (events_of_all buffers) c = buffer_is w programs jobs buffers board c j task (InHand state left) at e listed v read h taken u u_is in
+            let waits : buffer_of h ≡ buffer_at (events_of_all buffers) c = buffer_is w programs jobs buffers board c j task
+            (InHand state left) at e listed v read h taken u u_is in
             let stage : kept_stage e.stage ≡ InHand state left = stage_was w programs jobs buffers board c j task (InHand state left) at e listed in
             let one : GoesAlone program c s (buffer_of h) (kept_stage e.stage) end t.0 (buffer_of k) (kept_stage e'.stage) =
             subst (λ (n : ℕ). GoesAlone program n s (buffer_of h) (kept_stage e.stage) end t.0 (buffer_of k) (kept_stage e'.stage)) cpu t.3 in
@@ -77,7 +84,8 @@ module _ (w : WaitingContents) (programs : List Loaded) (jobs : List Listed) (bu
       )
 
   -- ---- a job that begins
-  module _ (task : Task) (input : Input) (at : IsAt (state_of w programs jobs buffers).machine.jobs c j task (Waiting input)) (started : (i : Input) → kept_stage e.stage ≡ Waiting i → kept_stage e'.stage ≡ InHand (start e.cpu i) e.budget) where
+  module _ (task : Task) (input : Input) (at : IsAt (state_of w programs jobs buffers).machine.jobs c j task (Waiting input))
+      (started : (i : Input) → kept_stage e.stage ≡ Waiting i → kept_stage e'.stage ≡ InHand (start e.cpu i) e.budget) where
     pub stage_now : kept_stage e'.stage ≡ InHand (start c input) task.budget
     stage_now =
         started input (stage_was w programs jobs buffers board c j task (Waiting input) at e listed)
@@ -89,23 +97,28 @@ module _ (w : WaitingContents) (programs : List Loaded) (jobs : List Listed) (bu
     begins_now kept served call serves =
         let cpu : h.cpu ≡ c = cpu_is w programs jobs buffers board c j task (Waiting input) at e listed v read h taken u u_is in
         let r = call_alone h k c Begin (sym cpu) served call serves (kept_first kept) in
-        let waits : buffer_of h ≡ buffer_at (events_of_all buffers) c = buffer_is w programs jobs buffers board c j task (Waiting input) at e listed v read h taken u u_is in (
+        let waits : buffer_of h ≡ buffer_at (events_of_all buffers) c = buffer_is w programs jobs buffers board c j task (Waiting input) at
+        e listed v read h taken u u_is in (
           task,
           input,
           buffer_of k,
           at,
           refl,
-          tasks_now w programs jobs buffers board c j task (Waiting input) at e listed v read h taken u u_is k cpu_same others e' same x again z given y y_is ∙ ap (λ (g : Stage). slice_set (state_of w programs jobs buffers).machine.jobs j (record task { stage = g })) stage_now,
+          tasks_now w programs jobs buffers board c j task (Waiting input) at e listed v read h taken u u_is k cpu_same others e' same x
+              again z given y y_is ∙ ap (λ (g : Stage). slice_set (state_of w programs jobs buffers).machine.jobs j
+              (record task { stage = g })) stage_now,
           refl,
           events_now w programs jobs buffers board c j task (Waiting input) at e listed v read h taken u u_is k cpu_same others e' same x again z given y y_is,
           λ s so shows.
               (let t = r.1 s so (shows_first s shows) in
-              let one : Calls (alone s c (buffer_of h)) c Begin (alone t.0 c (buffer_of k)) = subst (λ (n : ℕ). Calls (alone s n (buffer_of h)) n Begin (alone t.0 n (buffer_of k))) cpu t.3 in
+              let one : Calls (alone s c (buffer_of h)) c Begin (alone t.0 c (buffer_of k)) = subst
+              (λ (n : ℕ). Calls (alone s n (buffer_of h)) n Begin (alone t.0 n (buffer_of k))) cpu t.3 in
               (t.0, t.1, shows_now t.0 t.2, subst (λ (es : List Event). Calls (alone s c es) c Begin (alone t.0 c (buffer_of k))) waits one)),
         )
 
     -- it fits
-    pub begun_fits : IsStart program.instructions 0 → (is_running k.store ≡ put (is_running h.store) c true) → (jobs' : List Listed) (buffers' : List (Vec Stored Global)) → (new : Cpu) (rest : ℕ) → kept_stage e'.stage ≡ InHand new rest
+    pub begun_fits : IsStart program.instructions 0 → (is_running k.store ≡ put (is_running h.store) c true) → (jobs' : List Listed)
+        (buffers' : List (Vec Stored Global)) → (new : Cpu) (rest : ℕ) → kept_stage e'.stage ≡ InHand new rest
         → FitsHand (state_of z programs jobs' buffers').machine c (record task { stage = kept_stage e'.stage }) new
     begun_fits starts running jobs' buffers' new rest is =
         let two : InHand (start c input) task.budget ≡ InHand new rest = sym stage_now ∙ is in
@@ -124,7 +137,8 @@ module _ (w : WaitingContents) (programs : List Loaded) (jobs : List Listed) (bu
     begun_not_idle not = let no : true ≡ false = sym (ap in_hand stage_now) ∙ not in cc
 
 -- what a begin leaves
-pub begin_leaves : (h k : WaitingContents) (c : ℕ) → h.cpu ≡ c → Called (PassesWaiting h k) (serves_one h) c Begin → shape_of k.store ≡ shape_of h.store → is_running k.store ≡ put (is_running h.store) c true → held_spans k.store ≡ held_without (held_spans h.store) c
+pub begin_leaves : (h k : WaitingContents) (c : ℕ) → h.cpu ≡ c → Called (PassesWaiting h k) (serves_one h) c Begin → shape_of k.store ≡
+    shape_of h.store → is_running k.store ≡ put (is_running h.store) c true → held_spans k.store ≡ held_without (held_spans h.store) c
     → LeavesOthers h.cpu h.store k.store
 begin_leaves h k c cpu call shape running held = record {
   shape = shape;

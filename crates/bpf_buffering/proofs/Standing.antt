@@ -16,8 +16,10 @@ use Rattle.bpf_machine.specs.Work.{HasInHand}
 use Rattle.bpf_buffering.specs.Going.{LeavesOthers}
 use Rattle.bpf_buffering.specs.Buffering.{Stands}
 
-module _ (old new : MachineState) (c j : ℕ) (task : Task) (stage : Stage) (listed : slice_get old.jobs j ≡ Some task) (of : task.cpu ≡ c) (programs : new.programs ≡ old.programs)
-    (jobs : new.jobs ≡ with_stage old.jobs j task stage) (others : LeavesOthers c old.store new.store) (stands : Stands old) (only : (k : ℕ) → k ≢ j → HasInHand old.jobs c k → ⊥) where
+module _ (old new : MachineState) (c j : ℕ) (task : Task) (stage : Stage) (listed : slice_get old.jobs j ≡ Some task) (of : task.cpu ≡ c)
+    (programs : new.programs ≡ old.programs)
+    (jobs : new.jobs ≡ with_stage old.jobs j task stage) (others : LeavesOthers c old.store new.store) (stands : Stands old)
+    (only : (k : ℕ) → k ≢ j → HasInHand old.jobs c k → ⊥) where
   abbrev task' : Task
   task' = record task { stage = stage }
 
@@ -27,7 +29,8 @@ module _ (old new : MachineState) (c j : ℕ) (task : Task) (stage : Stage) (lis
       let there : slice_get (with_stage old.jobs j task stage) k ≡ Some t = subst (λ (ts : List Task). slice_get ts k ≡ Some t) jobs is in
       elim (equal_or_not k j) [
         | inl e ↦
-            let both : Some task' ≡ Some t = sym (slice_get-set_known old.jobs j task' task listed) ∙ subst (λ (n : ℕ). slice_get (with_stage old.jobs j task stage) n ≡ Some t) e there in
+            let both : Some task' ≡ Some t = sym (slice_get-set_known old.jobs j task' task listed) ∙ subst
+            (λ (n : ℕ). slice_get (with_stage old.jobs j task stage) n ≡ Some t) e there in
             inl (e, cc)
         | inr ne ↦ inr (ne, sym (slice_get-set_other old.jobs j k task' ne) ∙ there)
       ]
@@ -54,12 +57,14 @@ module _ (old new : MachineState) (c j : ℕ) (task : Task) (stage : Stage) (lis
   ]
 
   -- where the job is in hand now, the CPU may go on with it; and where it has none in hand, it is in no run
-  module _ (fits : (state : Cpu) (left : ℕ) → stage ≡ InHand state left → FitsHand new c task' state) (idle : IsFree new.jobs c → is_running new.store c ≡ false) where
+  module _ (fits : (state : Cpu) (left : ℕ) → stage ≡ InHand state left → FitsHand new c task' state)
+      (idle : IsFree new.jobs c → is_running new.store c ≡ false) where
     hand : (d k : ℕ) (t : Task) (state : Cpu) (left : ℕ) → IsAt new.jobs d k t (InHand state left) → FitsHand new d t state
     hand d k t state left at = elim (after k t at.listed) [
       | inl same ↦
           let cpu : c ≡ d = sym of ∙ ap (λ (u : Task). u.cpu) same.1 ∙ at.of in
-          subst (λ (n : ℕ). FitsHand new n t state) cpu (subst (λ (u : Task). FitsHand new c u state) same.1 (fits state left (ap (λ (u : Task). u.stage) same.1 ∙ at.at)))
+          subst (λ (n : ℕ). FitsHand new n t state) cpu (subst (λ (u : Task). FitsHand new c u state) same.1
+          (fits state left (ap (λ (u : Task). u.stage) same.1 ∙ at.at)))
       | inr other ↦
           let was : IsAt old.jobs d k t (InHand state left) = record { listed = other.1; of = at.of; at = at.at } in
           let f = stands.hand d k t state left was in
@@ -81,7 +86,12 @@ module _ (old new : MachineState) (c j : ℕ) (task : Task) (stage : Stage) (lis
         let same : t ≡ task = cc in
         ne (sym at.of ∙ ap (λ (u : Task). u.cpu) same ∙ of)
         in
-        free k t state left (record { listed = ap (λ (ts : List Task). slice_get ts k) jobs ∙ slice_get-set_other old.jobs j k task' other ∙ at.listed; of = at.of; at = at.at })
+        free k t state left (record {
+          listed = ap (λ (ts : List Task). slice_get ts k) jobs ∙ slice_get-set_other old.jobs j k task' other ∙
+              at.listed;
+          of = at.of;
+          at = at.at;
+        })
 
     pub stands_changed : Stands new
     stands_changed = record {

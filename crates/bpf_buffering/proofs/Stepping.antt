@@ -41,7 +41,8 @@ pub record HandFits (program : Loaded) (h : WaitingContents) (state : Cpu) : Typ
   pub runs : is_running h.store state.number ≡ true
   pub held : AreHeld (held_spans h.store state.number) state.held
 
-pub hand_fits : (program : Loaded) (h : WaitingContents) (s : KeptStage) (state : Cpu) (left : ℕ) → CanGoOn program h (kept_stage s) → s ≡ kept.InHand state left → HandFits program h state
+pub hand_fits : (program : Loaded) (h : WaitingContents) (s : KeptStage) (state : Cpu) (left : ℕ) → CanGoOn program h (kept_stage s) → s ≡
+    kept.InHand state left → HandFits program h state
 hand_fits program h s state left can is =
     let two : InHand can.state can.left ≡ InHand state left = sym can.at ∙ ap kept_stage is in
     let one : can.state ≡ state = cc in
@@ -51,11 +52,13 @@ hand_fits program h s state left can is =
       ready = subst (λ (x : Cpu). IsReady program x) one can.ready;
       serves = serves_its h state.number number can.served;
       runs = ap (is_running h.store) number ∙ can.runs;
-      held = subst (λ (n : ℕ). AreHeld (held_spans h.store n) state.held) (sym number) (subst (λ (x : Cpu). AreHeld (held_spans h.store h.cpu) x.held) one can.held);
+      held = subst (λ (n : ℕ). AreHeld (held_spans h.store n) state.held) (sym number)
+          (subst (λ (x : Cpu). AreHeld (held_spans h.store h.cpu) x.held) one can.held);
     }
 
 -- ---- after it
-module _ (program : Loaded) (h k : WaitingContents) (old new : Cpu) (left rest : ℕ) (end : Option Outcome) (fits : HandFits program h old) (over : AdvancesOver program h old left end k new rest) (number : new.number ≡ old.number) (keeps : Keeps old.number h k) where
+module _ (program : Loaded) (h k : WaitingContents) (old new : Cpu) (left rest : ℕ) (end : Option Outcome) (fits : HandFits program h old)
+    (over : AdvancesOver program h old left end k new rest) (number : new.number ≡ old.number) (keeps : Keeps old.number h k) where
   cpu : k.cpu ≡ h.cpu
   cpu = (over_cpu program h k old new left rest end over).cpu
 
@@ -106,7 +109,9 @@ module _ (program : Loaded) (h k : WaitingContents) (old new : Cpu) (left rest :
   }
 
   -- it has ended
-  module _ (z : WaitingContents) (call : Called (PassesWaiting k z) (serves_one k) new.number End) (running : is_running z.store ≡ put (is_running k.store) new.number false) (held : held_spans z.store ≡ held_without (held_spans k.store) new.number)
+  module _ (z : WaitingContents) (call : Called (PassesWaiting k z) (serves_one k) new.number End)
+      (running : is_running z.store ≡ put (is_running k.store) new.number false)
+      (held : held_spans z.store ≡ held_without (held_spans k.store) new.number)
       (shape : shape_of z.store ≡ shape_of k.store) where
     pub cpu_last : z.cpu ≡ h.cpu
     cpu_last = call.passage.2.cpu ∙ cpu
@@ -118,8 +123,10 @@ module _ (program : Loaded) (h k : WaitingContents) (old new : Cpu) (left rest :
     end_leaves = record {
       shape = shape ∙ keeps.shape;
       serves = call.passage.2.serves ∙ serving;
-      runs = λ d ne. ap (λ (f : ℕ → Bool). f d) running ∙ put-other (is_running k.store) new.number d false (other d ne) ∙ ap (λ (f : ℕ → Bool). f d) keeps.runs;
-      held = λ d ne. ap (λ (f : ℕ → Span → Bool). f d) held ∙ others_without (held_spans k.store) new.number d (other d ne) ∙ keeps.others d (λ q. ne (q ∙ fits.number));
+      runs = λ d ne. ap (λ (f : ℕ → Bool). f d) running ∙ put-other (is_running k.store) new.number d false (other d ne) ∙ ap
+          (λ (f : ℕ → Bool). f d) keeps.runs;
+      held = λ d ne. ap (λ (f : ℕ → Span → Bool). f d) held ∙ others_without (held_spans k.store) new.number d (other d ne) ∙ keeps.others d
+          (λ q. ne (q ∙ fits.number));
     }
       where
         other : (d : ℕ) → d ≢ h.cpu → d ≢ new.number

@@ -43,7 +43,8 @@ module _ (buffers : List (Vec Stored Global)) (c : ℕ) (v : Vec Stored Global) 
             ap (λ (k : ℕ). slice_index_or (slice_set (map events_in buffers) c (map event_of v.items)) k []) e
             ∙ (get_or-set_same (map events_in buffers) c (map event_of v.items) [] (subst (λ (n : ℕ). c < n) (sym (length-map buffers events_in)) within)
             ∙ sym (put-same (buffer_at (events_of_all buffers)) c d (map event_of v.items) e))
-        | inr ne ↦ get_or-set_other (map events_in buffers) c d (map event_of v.items) [] ne ∙ sym (put-other (buffer_at (events_of_all buffers)) c d (map event_of v.items) ne)
+        | inr ne ↦ get_or-set_other (map events_in buffers) c d (map event_of v.items) [] ne ∙ sym
+            (put-other (buffer_at (events_of_all buffers)) c d (map event_of v.items) ne)
       ]
 
 -- what waits of a CPU, as events and as stores

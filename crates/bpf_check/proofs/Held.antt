@@ -1,5 +1,6 @@
 -- Numbers in n bytes.
-use Rattle.std.proofs.Common.{◌≡◌, ℕ, suc, ◌+◌, ◌-◌, ◌*◌, ◌/◌, ◌%◌, ◌^◌, ◌<◌, ◌≤◌, true, false, cond, List, [], ◌∷◌, ◌++◌, Option, Some, None, MatchOption, length, take, drop, nat_eq, nat_lt, refl, sym, ap, subst, ◌∙◌, append_assoc, arith}
+use Rattle.std.proofs.Common.{◌≡◌, ℕ, suc, ◌+◌, ◌-◌, ◌*◌, ◌/◌, ◌%◌, ◌^◌, ◌<◌, ◌≤◌, true, false, cond, List, [], ◌∷◌, ◌++◌, Option, Some}
+use Rattle.std.proofs.Common.{None, MatchOption, length, take, drop, nat_eq, nat_lt, refl, sym, ap, subst, ◌∙◌, append_assoc, arith}
 use Rattle.std.specs.Prelude.{IfSome, nat_le}
 use Rattle.std.proofs.lemmas.Bool.{eqb-true, le-leb, ltb_from_iff}
 use Rattle.std.proofs.Math.Nat.{div-eq_of_lt, div-lt_iff_lt-mul, one-le-pow, pow-le-pow_right}
@@ -9,7 +10,8 @@ use Rattle.bpf_check.specs.Claim.{field_of, in_64_bits, low_first}
 use Rattle.bpf_check.specs.declared.claim.Field.{Field}
 
 wide_below : (n s : ℕ) → n < 2 ^ 64 → 8 ≤ s → n < 2 ^ (8 * s)
-wide_below n s low large = let grows : 2 ^ 64 ≤ 2 ^ (8 * s) = pow-le-pow_right (omega arith) {i = 64} {j = 8 * s} (omega (arith, large)) in omega (arith, low, grows)
+wide_below n s low large =
+    let grows : 2 ^ 64 ≤ 2 ^ (8 * s) = pow-le-pow_right (omega arith) {i = 64} {j = 8 * s} (omega (arith, large)) in omega (arith, low, grows)
 
 -- 64 bits hold it, and n bytes hold 64 bits
 pub wide : (n s : ℕ) → n < 2 ^ 64 → 8 ≤ s → true ≡ nat_lt n (2 ^ (8 * s))
@@ -35,8 +37,10 @@ byte_more items size count left whole inside is =
 
 -- what fits is there, and what doesn't isn't
 pub by_bits : (o : Option ℕ) (n : ℕ) → MatchOption o (2 ^ 64 ≤ n) (λ m. m ≡ n) → IfSome o (λ m. m < 2 ^ 64) → o ≡ in_64_bits n
-by_bits None n large fits = let no : false ≡ nat_lt n (2 ^ 64) = ltb_from_iff ((λ e. cc), (λ low. absurd (omega (arith, low, large)))) in ap (λ b. cond b (Some n) None) no
-by_bits (Some m) n is fits = let yes : true ≡ nat_lt n (2 ^ 64) = ltb_from_iff ((λ _. omega (arith, is, fits)), (λ _. refl)) in ap Some is ∙ ap (λ b. cond b (Some n) None) yes
+by_bits None n large fits =
+    let no : false ≡ nat_lt n (2 ^ 64) = ltb_from_iff ((λ e. cc), (λ low. absurd (omega (arith, low, large)))) in ap (λ b. cond b (Some n) None) no
+by_bits (Some m) n is fits =
+    let yes : true ≡ nat_lt n (2 ^ 64) = ltb_from_iff ((λ _. omega (arith, is, fits)), (λ _. refl)) in ap Some is ∙ ap (λ b. cond b (Some n) None) yes
 
 -- a field that the value has room for
 pub field_there : (f : Field) (digits : List ℕ) (from bytes : ℕ) → from ≡ f.offset → bytes ≡ bytes_in f.size → 2 * from + 2 * bytes ≤ length digits

@@ -1,5 +1,6 @@
 -- The parts between words of a kind.
-use Rattle.std.proofs.Common.{◌≡◌, ℕ, ◌+◌, ◌-◌, ◌<◌, ◌≤◌, Bool, true, false, cond, not, List, [], ◌∷◌, ◌++◌, Option, Some, None, length, map, take, drop, refl, sym, ap, subst, ◌∙◌, append_assoc, arith, inl, inr, ◌⊎◌, leb}
+use Rattle.std.proofs.Common.{◌≡◌, ℕ, ◌+◌, ◌-◌, ◌<◌, ◌≤◌, Bool, true, false, cond, not, List, [], ◌∷◌, ◌++◌, Option, Some, None, length}
+use Rattle.std.proofs.Common.{map, take, drop, refl, sym, ap, subst, ◌∙◌, append_assoc, arith, inl, inr, ◌⊎◌, leb}
 use Rattle.std.specs.Prelude.{option_and_then, option_map}
 use Rattle.std.specs.List.{onto_first, position_or_len, prefix_len, slice_split}
 use Rattle.std.proofs.lemmas.List.{drop-map, length-drop, length-map, take-map, take_all}
@@ -59,7 +60,8 @@ module _ {A : Type 0} (f : A → List ℕ) (s : Subjects) (joint : List ℕ) (wo
   none_by (inl last) none =
       ap (all_parts s) (split_last last.1) ∙ ap (λ o. option_and_then (λ p. option_map (λ ps. p ∷ ps) (Some [])) o) (sym none)
   none_by (inr inside) none =
-      ap (all_parts s) (split_first inside.1) ∙ ap (λ o. option_and_then (λ p. option_map (λ ps. p ∷ ps) (parts_in s joint (map f (drop (n + 1) words)))) o) (sym none)
+      ap (all_parts s) (split_first inside.1) ∙ ap (λ o. option_and_then
+      (λ p. option_map (λ ps. p ∷ ps) (parts_in s joint (map f (drop (n + 1) words)))) o) (sym none)
 
   -- the first is none
   pub none_first : None ≡ part_in s (map f (take n words)) → parts_in s joint ws ≡ None

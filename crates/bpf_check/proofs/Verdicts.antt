@@ -15,7 +15,9 @@ use Rattle.bpf_check.specs.Expectation.{Expected, agrees, asks_ends, asks_hung, 
 use Rattle.bpf_check.specs.Faults.{IsTrueFault, are_faults_unexpected, has_fault}
 use Rattle.bpf_check.specs.Findings.{Findings}
 use Rattle.bpf_check.specs.Laws.{ArePatientFindings, FaultsAreTrue, PatientFaultsAreTrue, PatientVerdictsAreTrue, VerdictsAreTrue}
-use Rattle.bpf_check.specs.Verdict.{AreTrueEnds, AreTrueRaces, Choose, IsOutcomeText, IsPatientText, IsTrueHang, IsTrueOf, IsTruePatiently, IsTrueRace, decides, decides_by, ends_verdict, hung_verdict, is_empty, outcome_verdict, races_verdict, verdict_at, verdict_of, verdict_of_ends, verdict_of_hung, verdict_of_none, verdict_of_races}
+use Rattle.bpf_check.specs.Verdict.{AreTrueEnds, AreTrueRaces, Choose, IsOutcomeText, IsPatientText, IsTrueHang, IsTrueOf, IsTruePatiently}
+use Rattle.bpf_check.specs.Verdict.{IsTrueRace, decides, decides_by, ends_verdict, hung_verdict, is_empty, outcome_verdict, races_verdict}
+use Rattle.bpf_check.specs.Verdict.{verdict_at, verdict_of, verdict_of_ends, verdict_of_hung, verdict_of_none, verdict_of_races}
 
 -- ---- the first element that passes a test
 module _ {X : Type 0} (test : X → Bool) where
@@ -164,7 +166,8 @@ exact w names f e are have =
 pub verdicts_true : VerdictsAreTrue
 verdicts_true w names f e exactly are have raced =
     let Other : Verdict → Type 0 = IsTrueOf (IsOutcomeText w names) (EndsBy w names true) f e in
-    let rest : Bool → Verdict = λ patient. cond (patient && asks_ends e.often e.line) (ends_verdict f) (cond (patient && asks_hung e.often e.line) (hung_verdict f) (outcome_verdict f e)) in
+    let rest : Bool → Verdict = λ patient. cond (patient && asks_ends e.often e.line) (ends_verdict f)
+    (cond (patient && asks_hung e.often e.line) (hung_verdict f) (outcome_verdict f e)) in
     by_races w f e.often e.line Other (rest f.patient) (asks_of_races e.often e.line) refl raced
     (subst (λ (patient : Bool). Other (rest patient)) (sym exactly) (exact w names f e are have))
 
@@ -172,7 +175,8 @@ verdicts_true w names f e exactly are have raced =
 patiently : (w : World) (names : Names) (f : Findings) (e : Expected) → ArePatientFindings w names f
     → IsTrueOf (IsPatientText w names) (EndsPatiently w names true) f e (outcome_verdict f e)
 patiently w names f e are =
-    decided (IsPatientText w names) (EndsPatiently w names true) f e (λ found ends. (found.stopped, (unrolled found.by, ends.0, ends.1, ends.2, ends.3, ends.4))) are.outcomes.each
+    decided (IsPatientText w names) (EndsPatiently w names true) f e
+    (λ found ends. (found.stopped, (unrolled found.by, ends.0, ends.1, ends.2, ends.3, ends.4))) are.outcomes.each
     e.often _ f.all (is_empty f.answers) refl refl (λ whole text is. let there = are.complete whole text is.0 is.1 in (there.0, there.1, there.2, there.3))
     (finds (λ found. decides e found.text) f.answers)
 
@@ -206,12 +210,15 @@ abbrev IsTrueElse : World → Names → Findings → Expected → Verdict → Ty
 IsTrueElse w names f e v = Choose (asks_ends e.often e.line) (AreTrueEnds w f v)
     (Choose (asks_hung e.often e.line) (IsTrueHang w f v) (IsTrueOf (IsPatientText w names) (EndsPatiently w names true) f e v))
 
-patient_one : (w : World) (names : Names) (f : Findings) → ArePatientFindings w names f → (e : Expected) → (asks_of_races e.often e.line ≡ true → AreTrueRaces w f)
+patient_one : (w : World) (names : Names) (f : Findings) → ArePatientFindings w names f → (e : Expected) →
+    (asks_of_races e.often e.line ≡ true → AreTrueRaces w f)
     → IsTruePatiently w names f e (verdict_of f e)
 patient_one w names f are e raced =
-    let rest : Bool → Verdict = λ patient. cond (patient && asks_ends e.often e.line) (ends_verdict f) (cond (patient && asks_hung e.often e.line) (hung_verdict f) (outcome_verdict f e)) in
+    let rest : Bool → Verdict = λ patient. cond (patient && asks_ends e.often e.line) (ends_verdict f)
+    (cond (patient && asks_hung e.often e.line) (hung_verdict f) (outcome_verdict f e)) in
     by_races w f e.often e.line (IsTrueElse w names f e) (rest f.patient) (asks_of_races e.often e.line) refl raced
-    (subst (λ (patient : Bool). IsTrueElse w names f e (rest patient)) (sym are.patient) (chosen w names f e are (asks_ends e.often e.line) (asks_hung e.often e.line)))
+    (subst (λ (patient : Bool). IsTrueElse w names f e (rest patient)) (sym are.patient)
+    (chosen w names f e are (asks_ends e.often e.line) (asks_hung e.often e.line)))
 
 pub patient_verdicts_true : PatientVerdictsAreTrue
 patient_verdicts_true w names f are = (true_ends w names f are f.all (is_empty f.hung) refl refl, patient_one w names f are)

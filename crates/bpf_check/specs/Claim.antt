@@ -1,5 +1,6 @@
 -- What is claimed of an outcome: that it has a line, or a line with such a number. Our own choice.
-use Rattle.std.specs.Prelude.{ℕ, ◌+◌, ◌*◌, ◌^◌, ◌==◌, ◌&&◌, Bool, false, not, List, [], ◌∷◌, Option, Some, None, codes, drop, if◌then◌else◌, length, nat_eq, nat_le, nat_lt, take}
+use Rattle.std.specs.Prelude.{ℕ, ◌+◌, ◌*◌, ◌^◌, ◌==◌, ◌&&◌, Bool, false, not, List, [], ◌∷◌, Option, Some, None, codes, drop, if◌then◌else◌}
+use Rattle.std.specs.Prelude.{length, nat_eq, nat_le, nat_lt, take}
 use Rattle.std.specs.List.{after_first, list_all, list_any, starts_with}
 use Rattle.std.specs.Str.{bytes_eq}
 use Rattle.std.specs.Str.Parse.{digits_value}

@@ -1,5 +1,6 @@
 -- What a run file expects of its outcomes, in its comments. Our own choice.
-use Rattle.std.specs.Prelude.{ℕ, ◌+◌, Bool, false, ◌==◌, ◌&&◌, ◌||◌, List, [], ◌∷◌, Option, Some, None, if◌then◌else◌, is_none, is_some, option_and_then, option_map, codes, length}
+use Rattle.std.specs.Prelude.{ℕ, ◌+◌, Bool, false, ◌==◌, ◌&&◌, ◌||◌, List, [], ◌∷◌, Option, Some, None, if◌then◌else◌, is_none, is_some}
+use Rattle.std.specs.Prelude.{option_and_then, option_map, codes, length}
 use Rattle.std.specs.List.{filter_map, list_any, position}
 use Rattle.std.specs.Str.{bytes_eq}
 use Rattle.bpf_lines.specs.Lines.{lines_of}

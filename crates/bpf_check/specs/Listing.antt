@@ -1,5 +1,6 @@
 -- How verdicts are printed: in the form of TAP, a test an expectation. Our own choice.
-use Rattle.std.specs.Prelude.{ℕ, zero, suc, ◌+◌, Bool, false, true, ◌==◌, ◌&&◌, ◌||◌, ◌++◌, List, [], Option, Some, None, if◌then◌else◌, codes, length, map, nat_le, slice_get, slice_index_or}
+use Rattle.std.specs.Prelude.{ℕ, zero, suc, ◌+◌, Bool, false, true, ◌==◌, ◌&&◌, ◌||◌, ◌++◌, List, [], Option, Some, None, if◌then◌else◌}
+use Rattle.std.specs.Prelude.{codes, length, map, nat_le, slice_get, slice_index_or}
 use Rattle.std.specs.Fmt.{decimal}
 use Rattle.bpf_lines.specs.Words.{is_word_byte}
 use Rattle.bpf_schedule.specs.Moves.{all_moves_text}

@@ -1,5 +1,6 @@
 -- How a run file's comments ask that it be checked. Our own choice.
-use Rattle.std.specs.Prelude.{ℕ, Bool, true, false, ◌&&◌, ◌||◌, List, [], ◌∷◌, Option, Some, None, codes, if◌then◌else◌, is_none, nat_le, option_and_then, option_map}
+use Rattle.std.specs.Prelude.{ℕ, Bool, true, false, ◌&&◌, ◌||◌, List, [], ◌∷◌, Option, Some, None, codes, if◌then◌else◌, is_none, nat_le}
+use Rattle.std.specs.Prelude.{option_and_then, option_map}
 use Rattle.std.specs.Str.{bytes_eq}
 use Rattle.bpf_lines.specs.Lines.{lines_of}
 use Rattle.bpf_check.specs.Comments.{is_near, words_of}

@@ -18,12 +18,15 @@ some_texts id rows texts is = ap (λ (o : Option (List Text)). unwrap_or o []) i
 pub no_texts : (id : Text) (rows : List Row) → None ≡ all_of id rows → [] ≡ given_texts id rows
 no_texts id rows is = ap (λ (o : Option (List Text)). unwrap_or o []) is
 
-dash_alike : (names : List (Bor Text)) → list_any (λ (name : Bor Text). bytes_eq name.now (codes "-")) names ≡ list_any (λ name. bytes_eq name (codes "-")) (map (λ (name : Bor Text). name.now) names)
+dash_alike : (names : List (Bor Text)) → list_any (λ (name : Bor Text). bytes_eq name.now (codes "-")) names ≡ list_any
+    (λ name. bytes_eq name (codes "-")) (map (λ (name : Bor Text). name.now) names)
 dash_alike [] = refl
 dash_alike (name ∷ names) = ap (λ (b : Bool). bytes_eq name.now (codes "-") || b) (dash_alike names)
 
-pub dash_given : (names : List (Bor Text)) (rows : List Row) (b : Bool) → Some (map (λ (name : Bor Text). name.now) names) ≡ all_of (codes "file") rows → b ≡ list_any (λ (name : Bor Text). bytes_eq name.now (codes "-")) names → b ≡ names_input rows
-dash_given names rows b is found = found ∙ dash_alike names ∙ ap (list_any (λ name. bytes_eq name (codes "-"))) (some_texts (codes "file") rows (map (λ (name : Bor Text). name.now) names) is)
+pub dash_given : (names : List (Bor Text)) (rows : List Row) (b : Bool) → Some (map (λ (name : Bor Text). name.now) names) ≡ all_of
+    (codes "file") rows → b ≡ list_any (λ (name : Bor Text). bytes_eq name.now (codes "-")) names → b ≡ names_input rows
+dash_given names rows b is found = found ∙ dash_alike names ∙ ap (list_any (λ name. bytes_eq name (codes "-")))
+    (some_texts (codes "file") rows (map (λ (name : Bor Text). name.now) names) is)
 
 pub no_dash : (rows : List Row) → None ≡ all_of (codes "file") rows → false ≡ names_input rows
 no_dash rows is = ap (list_any (λ name. bytes_eq name (codes "-"))) (no_texts (codes "file") rows is)

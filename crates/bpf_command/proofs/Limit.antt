@@ -7,7 +7,8 @@ use Rattle.clap.specs.Faults.{level_fault}
 use Rattle.clap.specs.Walk.{with_default, values_or_missing, Held, Row, Rule, Text, answers_to, finished, has_row, nothing_held, rows_after, settled, walk}
 use Rattle.clap.specs.Words.{fault_of, subcommand_of}
 use Rattle.bpf_command.specs.declared.command.TheConstants.{MAX_LIMIT}
-use Rattle.bpf_command.specs.CommandLine.{HasLimit, IsSearchName, check, ebpf, explained, explore, file, files, json, lenient, limit, patient, progress, races, show, states, sync, x86}
+use Rattle.bpf_command.specs.CommandLine.{HasLimit, IsSearchName, check, ebpf, explained, explore, file, files, json, lenient, limit}
+use Rattle.bpf_command.specs.CommandLine.{patient, progress, races, show, states, sync, x86}
 use Rattle.bpf_command.proofs.Limited.{limited_keeps, with_limited}
 use Rattle.bpf_command.proofs.Ranges as range
 use Rattle.bpf_command.proofs.Ranges.{no_default}
@@ -86,19 +87,42 @@ states_keep values rows e fine =
     range.other_used_fine (codes "limit") 0 MAX_LIMIT (codes "states") (values_or_missing (filled states) values) rows refl fine
 
 explore_keeps : range.AllKeep (codes "limit") 0 MAX_LIMIT explore_rules
-explore_keeps =
-    (explained_keeps, (patient_keeps, (json_keeps, (progress_keeps, (x86_keeps, (races_keep, (sync_keeps, (limit_keeps, (show_keeps, (file_keeps, ((λ values rows e fine. fine), tt)))))))))))
+explore_keeps = (
+  explained_keeps,
+  (
+    patient_keeps,
+    (
+      json_keeps,
+      (
+        progress_keeps,
+        (x86_keeps, (races_keep, (sync_keeps, (limit_keeps, (show_keeps, (file_keeps, ((λ values rows e fine. fine), tt))))))),
+      ),
+    ),
+  ),
+)
 
 check_keeps : range.AllKeep (codes "limit") 0 MAX_LIMIT check_rules
-check_keeps =
-    (explained_keeps, (patient_keeps, (json_keeps, (progress_keeps, (x86_keeps, (lenient_keeps, (states_keep, (limit_keeps, (files_keep, ((λ values rows e fine. fine), tt))))))))))
+check_keeps = (
+  explained_keeps,
+  (
+    patient_keeps,
+    (
+      json_keeps,
+      (
+        progress_keeps,
+        (x86_keeps, (lenient_keeps, (states_keep, (limit_keeps, (files_keep, ((λ values rows e fine. fine), tt)))))),
+      ),
+    ),
+  ),
+)
 
 -- ---- the rows
 
 -- the flags have defaults, and the limit
 abbrev waiting : List Row → List Row
 waiting rows =
-    with_default (with_default (with_default (with_default (with_default rows (filled explained)) (filled patient)) (filled json)) (filled progress)) (filled x86)
+    with_default (with_default (with_default (with_default (with_default rows (filled explained)) (filled patient)) (filled json))
+    (filled progress)) (filled x86)
 
 waiting_fine : (rows : List Row) → AreFine rows → AreFine (waiting rows)
 waiting_fine rows fine =

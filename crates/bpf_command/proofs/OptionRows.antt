@@ -1,5 +1,6 @@
 -- An option's values among the rows that a parse found are those that the matches' getters give.
-use Rattle.std.proofs.Common.{Bool, cond, true, false, ◌≡◌, ◌<◌, ◌≤◌, ◌^◌, ◌∙◌, List, ℕ, Option, Some, None, Result, Ok, Err, codes, inr, refl, arith, subst, ap, sym}
+use Rattle.std.proofs.Common.{Bool, cond, true, false, ◌≡◌, ◌<◌, ◌≤◌, ◌^◌, ◌∙◌, List, ℕ, Option, Some, None, Result, Ok, Err, codes, inr}
+use Rattle.std.proofs.Common.{refl, arith, subst, ap, sym}
 use Rattle.std.specs.Prelude.{IfSome, IsSomeAnd, option_and_then}
 use Rattle.bpf_explain.specs.Term.{topic_of}
 use Rattle.bpf_explain.specs.declared.topic.Topic.{Topic}
@@ -14,7 +15,8 @@ use Rattle.clap.specs.Takes.{is_given}
 use Rattle.clap.proofs.TakesLemmas.{present_row}
 use Rattle.clap.proofs.WalkLemmas.{first_value-rows, one_text-rows}
 use Rattle.bpf_command.specs.CommandLine.{HasCount, HasLimited, IsCount, IsLimited, NamesCount, NamesLimited, counts_alone, do_clash}
-use Rattle.bpf_command.specs.Names.{AreMoves, IsContext, IsSchedule, RefusesBy, RefusesContext, RefusesFound, RefusesMoves, RefusesSchedule, file_in, file_named}
+use Rattle.bpf_command.specs.Names.{AreMoves, IsContext, IsSchedule, RefusesBy, RefusesContext, RefusesFound, RefusesMoves, RefusesSchedule}
+use Rattle.bpf_command.specs.Names.{file_in, file_named}
 use Rattle.bpf_command.specs.declared.command_line.CommandError.{CommandError}
 use Rattle.bpf_command.specs.declared.command_line.CommandError.TheVariants as error
 
@@ -40,26 +42,32 @@ pub moves_in_rows : (f : Found) (runs : List (ℕ × ℕ)) → AreMoves (first_v
 moves_in_rows f runs h = rw (← first_value-rows f (codes "by")) h
 
 -- what isn't taken for a schedule, or for moves beside `--x86`, is refused
-pub no_moves_in_rows : (f : Found) (e : CommandError) → do_clash (rows_of f) ≡ false → counts_alone (rows_of f) ≡ false → is_given (codes "x86") (rows_of f) ≡ true
+pub no_moves_in_rows : (f : Found) (e : CommandError) → do_clash (rows_of f) ≡ false → counts_alone (rows_of f) ≡ false → is_given
+    (codes "x86") (rows_of f) ≡ true
     → RefusesMoves (first_value f (codes "by")) e → RefusesFound (codes "run", rows_of f) e
 no_moves_in_rows f e one counted asked h = by_error (first_of (codes "by") (rows_of f)) e refl (rw (← first_value-rows f (codes "by")) h)
   where
-    by_error : (text : Option Text) (e : CommandError) → first_of (codes "by") (rows_of f) ≡ text → RefusesMoves text e → RefusesFound (codes "run", rows_of f) e
+    by_error : (text : Option Text) (e : CommandError) → first_of (codes "by") (rows_of f) ≡ text → RefusesMoves text e → RefusesFound
+        (codes "run", rows_of f) e
     by_error text error.OutOfMemory same h = tt
     by_error (Some text) error.NoSchedule same h =
-        let by : RefusesBy true (first_of (codes "by") (rows_of f)) error.NoSchedule = subst (λ (t : Option Text). RefusesMoves t error.NoSchedule) (sym same) h in
+        let by : RefusesBy true (first_of (codes "by") (rows_of f)) error.NoSchedule = subst
+        (λ (t : Option Text). RefusesMoves t error.NoSchedule) (sym same) h in
         (refl, one, counted, subst (λ (b : Bool). RefusesBy b (first_of (codes "by") (rows_of f)) error.NoSchedule) (sym asked) by)
     by_error None e same h = absurd h
     by_error (Some t) e same h = absurd h
 
-pub no_turns_in_rows : (f : Found) (e : CommandError) → do_clash (rows_of f) ≡ false → counts_alone (rows_of f) ≡ false → is_given (codes "x86") (rows_of f) ≡ false
+pub no_turns_in_rows : (f : Found) (e : CommandError) → do_clash (rows_of f) ≡ false → counts_alone (rows_of f) ≡ false → is_given
+    (codes "x86") (rows_of f) ≡ false
     → RefusesSchedule (first_value f (codes "by")) e → RefusesFound (codes "run", rows_of f) e
 no_turns_in_rows f e one counted asked h = by_error (first_of (codes "by") (rows_of f)) e refl (rw (← first_value-rows f (codes "by")) h)
   where
-    by_error : (text : Option Text) (e : CommandError) → first_of (codes "by") (rows_of f) ≡ text → RefusesSchedule text e → RefusesFound (codes "run", rows_of f) e
+    by_error : (text : Option Text) (e : CommandError) → first_of (codes "by") (rows_of f) ≡ text → RefusesSchedule text e → RefusesFound
+        (codes "run", rows_of f) e
     by_error text error.OutOfMemory same h = tt
     by_error (Some text) error.NoSchedule same h =
-        let by : RefusesBy false (first_of (codes "by") (rows_of f)) error.NoSchedule = subst (λ (t : Option Text). RefusesSchedule t error.NoSchedule) (sym same) h in
+        let by : RefusesBy false (first_of (codes "by") (rows_of f)) error.NoSchedule = subst
+        (λ (t : Option Text). RefusesSchedule t error.NoSchedule) (sym same) h in
         (refl, one, counted, subst (λ (b : Bool). RefusesBy b (first_of (codes "by") (rows_of f)) error.NoSchedule) (sym asked) by)
     by_error None e same h = absurd h
     by_error (Some t) e same h = absurd h

@@ -21,7 +21,8 @@ pub find_missing : (id : Text) (change : Row → List Row) (missing rows : List 
 find_missing id change missing [] e = refl
 find_missing id change missing (r ∷ rest) e = go (bytes_eq r.id id) refl (find_missing id change missing rest) e
   where
-    go : (b : Bool) → bytes_eq r.id id ≡ b → (has_row id rest ≡ false → find (λ r. bytes_eq r.id id) (at_row id change missing rest) ≡ find (λ r. bytes_eq r.id id) missing)
+    go : (b : Bool) → bytes_eq r.id id ≡ b → (has_row id rest ≡ false → find (λ r. bytes_eq r.id id) (at_row id change missing rest) ≡ find
+        (λ r. bytes_eq r.id id) missing)
         → (b || has_row id rest) ≡ false
         → find (λ r. bytes_eq r.id id) (cond b (change r ++ rest) (r ∷ at_row id change missing rest)) ≡ find (λ r. bytes_eq r.id id) missing
     go true is later e = cc
@@ -51,7 +52,8 @@ module _ (id : Text) (low high : ℕ) where
   both_fine [] b fa fb = fb
   both_fine (r ∷ rest) b fa fb = (fa.0, both_fine rest b fa.1 fb)
 
-  at_row_fine : (other : Text) (change : Row → List Row) (missing rows : List Row) → ((r : Row) → IsFine r → AreFine (change r)) → AreFine missing → AreFine rows
+  at_row_fine : (other : Text) (change : Row → List Row) (missing rows : List Row) → ((r : Row) → IsFine r → AreFine (change r)) → AreFine
+      missing → AreFine rows
       → AreFine (at_row other change missing rows)
   at_row_fine other change missing [] changed fine all = fine
   at_row_fine other change missing (r ∷ rest) changed fine all =
@@ -76,7 +78,8 @@ module _ (id : Text) (low high : ℕ) where
       → IsFine (record { id = other; values = values; count = None; source = Some CommandLine; reading = AsWritten }) → AreFine rows
       → AreFine (with_values other AsWritten CommandLine values (without other rows))
   used_fine other values rows fine all =
-      at_row_fine other (more_values CommandLine values) _ (without other rows) (more_fine CommandLine values) (fine, tt) (at_row_fine other (λ _. []) [] rows (λ r f. tt) tt all)
+      at_row_fine other (more_values CommandLine values) _ (without other rows) (more_fine CommandLine values) (fine, tt)
+      (at_row_fine other (λ _. []) [] rows (λ r f. tt) tt all)
 
   -- a use of another option, or its default
   pub other_used_fine : (other : Text) (values : List Text) (rows : List Row) → bytes_eq other id ≡ false → AreFine rows
@@ -94,7 +97,8 @@ module _ (id : Text) (low high : ℕ) where
   default_fine other values rows is fine =
       elim (has_row other rows) as (λ b. AreFine (cond b rows (with_values other AsWritten DefaultValue values rows))) [
         | true ↦ fine
-        | false ↦ at_row_fine other (more_values DefaultValue values) _ rows (more_fine DefaultValue values) ((λ same. absurd (true≢false (sym same ∙ is))), tt) fine
+        | false ↦ at_row_fine other (more_values DefaultValue values) _ rows (more_fine DefaultValue values)
+            ((λ same. absurd (true≢false (sym same ∙ is))), tt) fine
       ]
 
   accepted : (text : Text) → value_kinds false (Unsigned low high) text ≡ [] → InRange text
@@ -131,7 +135,8 @@ module _ (id : Text) (low high : ℕ) where
       let second = settle_fault s.rules s.args_override_self end in
       let first = walk_fault s [] (walk_from nothing_held) words in
       let keeps : (test : Rule → Bool) → IfSome (find test s.rules) (Keeps AreFine s.args_override_self) = λ test. rw own (found_keeps test s.rules all) in
-      let walked : AreFine end.rows = walk_kept AreFine s [] keeps words (walk_from nothing_held) (first_free first (or_else second (or_else third last)) e) tt in
+      let walked : AreFine end.rows = walk_kept AreFine s [] keeps words (walk_from nothing_held)
+      (first_free first (or_else second (or_else third last)) e) tt in
       let settles = first_free second (or_else third last) (last_free first (or_else second (or_else third last)) e) in
       settle_kept AreFine s.rules s.args_override_self keeps end settles walked
 

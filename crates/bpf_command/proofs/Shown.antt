@@ -66,8 +66,19 @@ explained_keeps values rows e fine =
     range.other_used_fine (codes "show") 1 MAX_LIMIT (codes "explain") (values_or_missing (filled explained) values) rows refl fine
 
 rules_keep : range.AllKeep (codes "show") 1 MAX_LIMIT rules
-rules_keep =
-    (explained_keeps, (patient_keeps, (json_keeps, (progress_keeps, (x86_keeps, (races_keep, (sync_keeps, (limit_keeps, (show_keeps, (file_keeps, ((λ values rows e fine. fine), tt)))))))))))
+rules_keep = (
+  explained_keeps,
+  (
+    patient_keeps,
+    (
+      json_keeps,
+      (
+        progress_keeps,
+        (x86_keeps, (races_keep, (sync_keeps, (limit_keeps, (show_keeps, (file_keeps, ((λ values rows e fine. fine), tt))))))),
+      ),
+    ),
+  ),
+)
 
 -- ---- the rows
 

@@ -118,13 +118,16 @@ module _ (Known : Text × List Row → Type 0) where
 
 pub names_known : (words : List Text) → fault_of ebpf words ≡ [] → NamesKnown (subcommand_of ebpf words)
 names_known words e =
-    entered_known (stop_of words) (has_command (finished (built ebpf).top.rules (end_of words)) (is_some (entered (built ebpf) (stop_of words))) (parts_free words e).1)
+    entered_known (stop_of words) (has_command (finished (built ebpf).top.rules (end_of words))
+    (is_some (entered (built ebpf) (stop_of words))) (parts_free words e).1)
 
 -- the same of the name that the matches have
-pub name_known : (m : ArgMatches) (words : List Text) → fault_of ebpf words ≡ [] → subcommand_rows_of m ≡ subcommand_of ebpf words → IsSomeAnd (subcommand_name_of m) IsCommandName
+pub name_known : (m : ArgMatches) (words : List Text) → fault_of ebpf words ≡ [] → subcommand_rows_of m ≡ subcommand_of ebpf words →
+    IsSomeAnd (subcommand_name_of m) IsCommandName
 name_known m words e found = by_name (out-ArgMatches m).subcommand (rw found (names_known words e))
   where
-    by_name : {Z : Type 0} (b : Option (Box SubCommand Z)) → NamesKnown (subcommand_rows b) → IsSomeAnd (option_map (λ b. (out-SubCommand (box_value b)).name.now) b) IsCommandName
+    by_name : {Z : Type 0} (b : Option (Box SubCommand Z)) → NamesKnown (subcommand_rows b) → IsSomeAnd
+        (option_map (λ b. (out-SubCommand (box_value b)).name.now) b) IsCommandName
     by_name None h = h
     by_name (Some b) h = h
 

@@ -7,9 +7,16 @@ use Rattle.std.specs.Str.{bytes_eq, chars}
 use Rattle.clap.specs.Kinds.{Kinds, or_else}
 use Rattle.clap.specs.Lexer.{long_of, short_of}
 use Rattle.clap.specs.Simple.{Shape}
-use Rattle.clap.specs.Faults.{bundle_fault, bundle_step_fault, flag_word_fault, flags_fault, long_fault, option_fault, other_fault, positional_fault, react_fault, settle_fault, short_fault, step_fault, stray_fault, turn_fault, use_fault, walk_fault, word_fault}
+use Rattle.clap.specs.Faults.{bundle_fault, bundle_step_fault, flag_word_fault, flags_fault, long_fault, option_fault, other_fault}
+use Rattle.clap.specs.Faults.{positional_fault, react_fault, settle_fault, short_fault, step_fault, stray_fault, turn_fault, use_fault}
+use Rattle.clap.specs.Faults.{walk_fault, word_fault}
 use Rattle.clap.specs.declared.error.kind.ErrorKind.TheVariants as kind
-use Rattle.clap.specs.Walk.{Held, Names, Outcome, Row, Rule, Step, Text, Waiting, Walk, after_flag, after_step, arg_by_id, arg_by_index, arg_by_long, arg_by_short, attached_value, bundle_met, bundle_step, done, flag_met, has_long, has_short, idle, is_pending, long_met, long_or_other, next, option, option_met, option_word, plain, plain_word, positional, positional_held, reacted, refused, settled, settled_rows, short_met, short_or_plain, subcommand, subcommand_met, subcommand_or_other, takes_several, takes_values, to_positional, trailing, used, used_by_id, value, waits, walked, walked_from, word_met}
+use Rattle.clap.specs.Walk.{Held, Names, Outcome, Row, Rule, Step, Text, Waiting, Walk, after_flag, after_step, arg_by_id, arg_by_index}
+use Rattle.clap.specs.Walk.{arg_by_long, arg_by_short, attached_value, bundle_met, bundle_step, done, flag_met, has_long, has_short, idle}
+use Rattle.clap.specs.Walk.{is_pending, long_met, long_or_other, next, option, option_met, option_word, plain, plain_word, positional}
+use Rattle.clap.specs.Walk.{positional_held, reacted, refused, settled, settled_rows, short_met, short_or_plain, subcommand, subcommand_met}
+use Rattle.clap.specs.Walk.{subcommand_or_other, takes_several, takes_values, to_positional, trailing, used, used_by_id, value, waits}
+use Rattle.clap.specs.Walk.{walked, walked_from, word_met}
 
 pub first_free : (a b : Kinds) → or_else a b ≡ [] → a ≡ []
 first_free [] b e = refl
@@ -52,7 +59,8 @@ module _ (P : List Row → Type 0) (c : List Rule) (again : Bool) (keeps : (test
   flag_kept a k (Some v) h e held = held
   flag_kept a k None h e held = react_kept a k [] h e held
 
-  long_kept : (a : Option Rule) → IfSome a (Keeps P again) → (v : Option Text) (h : Held) → long_fault c again a v h ≡ [] → P h.rows → P (long_met c a v h).0.rows
+  long_kept : (a : Option Rule) → IfSome a (Keeps P again) → (v : Option Text) (h : Held) → long_fault c again a v h ≡ [] → P h.rows → P
+      (long_met c a v h).0.rows
   long_kept None k v h e held = held
   long_kept (Some a) k v h e held =
       elim (takes_values a) as (λ b. cond b (option_fault c again a v h) (cond (is_some v) (kind.TooManyValues ∷ []) (react_fault c again a [] h)) ≡ []
@@ -83,7 +91,8 @@ module _ (P : List Row → Type 0) (c : List Rule) (again : Bool) (keeps : (test
       short_kept (arg_by_short c x) (keeps (λ a. not (is_some a.index) && has_short a x)) rest h (after rest 0 done) (fault rest 0) (kept rest 0 done) e held
   bundle_step_kept (Some x) flags (suc skip) so_far h after fault kept e held = kept (drop (length (encode_utf8 x)) flags) skip so_far h e held
 
-  bundle_kept : (k : ℕ) (flags : Text) (skip : ℕ) (so_far : Outcome) (h : Held) → flags_fault c again k flags skip h ≡ [] → P h.rows → P (bundle_met c k flags skip so_far h).0.rows
+  bundle_kept : (k : ℕ) (flags : Text) (skip : ℕ) (so_far : Outcome) (h : Held) → flags_fault c again k flags skip h ≡ [] → P h.rows → P
+      (bundle_met c k flags skip so_far h).0.rows
   unfolding bundle_met flags_fault
   bundle_kept zero flags skip so_far h e held = held
   bundle_kept (suc k) flags skip so_far h e held =
@@ -153,7 +162,8 @@ module _ (P : List Row → Type 0) (s : Shape) (names : Names)
   word_kept true waiting position word h e held = held
   word_kept false waiting position word h e held = subcommand_kept (subcommand_met names waiting word) waiting position word h e held
 
-  step_kept : (word : Text) (w : Walk) (h : Held) (step : Step) → step_fault s w.position h step ≡ [] → P h.rows → P (after_step s.rules word w h step).held.rows
+  step_kept : (word : Text) (w : Walk) (h : Held) (step : Step) → step_fault s w.position h step ≡ [] → P h.rows → P
+      (after_step s.rules word w h step).held.rows
   step_kept word w h (next waiting) e held = held
   step_kept word w h (trailing position) e held = held
   step_kept word w h (subcommand name) e held = held

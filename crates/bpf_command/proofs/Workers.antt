@@ -73,8 +73,37 @@ explained_keeps values rows e fine =
     range.other_used_fine (codes "workers") 1 MAX_WORKERS (codes "explain") (values_or_missing (filled explained) values) rows refl fine
 
 rules_keep : range.AllKeep (codes "workers") 1 MAX_WORKERS rules
-rules_keep =
-    (explained_keeps, (keys_keep, (maps_keep, (events_keep, (packets_keep, (judged_keeps, (schedule_keeps, (workers_keep, (stats_keep, (x86_keeps, (json_keeps, (file_keeps, ((λ values rows e fine. fine), tt)))))))))))))
+rules_keep = (
+  explained_keeps,
+  (
+    keys_keep,
+    (
+      maps_keep,
+      (
+        events_keep,
+        (
+          packets_keep,
+          (
+            judged_keeps,
+            (
+              schedule_keeps,
+              (
+                workers_keep,
+                (
+                  stats_keep,
+                  (
+                    x86_keeps,
+                    (json_keeps, (file_keeps, ((λ values rows e fine. fine), tt))),
+                  ),
+                ),
+              ),
+            ),
+          ),
+        ),
+      ),
+    ),
+  ),
+)
 
 -- ---- the rows
 

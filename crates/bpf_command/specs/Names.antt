@@ -1,5 +1,6 @@
 -- The command that words name, or why they name none. Our own choice.
-use Rattle.std.specs.Prelude.{◌≡◌, ◌<◌, ◌≤◌, ◌⊎◌, ℕ, Bool, List, true, false, Option, Some, None, Ok, IfOk, IsSomeAnd, codes, [], ◌∷◌, cond, if◌then◌else◌, length, map, option_and_then, option_map, string_bytes}
+use Rattle.std.specs.Prelude.{◌≡◌, ◌<◌, ◌≤◌, ◌⊎◌, ℕ, Bool, List, true, false, Option, Some, None, Ok, IfOk, IsSomeAnd, codes, [], ◌∷◌, cond}
+use Rattle.std.specs.Prelude.{if◌then◌else◌, length, map, option_and_then, option_map, string_bytes}
 use Rattle.std.specs.Str.{bytes_eq}
 use Rattle.bpf_explain.specs.Term.{topic_of}
 use Rattle.bpf_lines.specs.Lines.{fields_of}
@@ -10,7 +11,9 @@ use Rattle.hex.specs.Hex.{decode_of}
 use Rattle.clap.specs.Kinds.{IsAmong}
 use Rattle.clap.specs.Takes.{is_given}
 use Rattle.clap.specs.Words.{Row, Text, fault_of, first_of, kind_of, subcommand_of}
-use Rattle.bpf_command.specs.CommandLine.{NamesBudget, NamesLimitBy, NamesShown, NamesWorkers, IsRunnerName, counts_alone, do_clash, do_part, do_part_races, ebpf, given_texts, names_several, uses_x86_limit, wants_no_flushes, wants_one}
+use Rattle.bpf_command.specs.CommandLine.{NamesBudget, NamesLimitBy, NamesShown, NamesWorkers, IsRunnerName, counts_alone, do_clash}
+use Rattle.bpf_command.specs.CommandLine.{do_part, do_part_races, ebpf, given_texts, names_several, uses_x86_limit, wants_no_flushes}
+use Rattle.bpf_command.specs.CommandLine.{wants_one}
 use Rattle.bpf_command.specs.declared.command.RunOptions.{RunOptions}
 use Rattle.bpf_command.specs.declared.command.CheckOptions.{CheckOptions}
 use Rattle.bpf_command.specs.declared.command.SearchOptions.{SearchOptions}

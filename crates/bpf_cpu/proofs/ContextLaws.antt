@@ -73,7 +73,8 @@ module _ (old new : Cpu) (progress : Progress) where
   quiet_row (insn.Atomic w op b o s) row = operated w op s (effective_address old b o) row
 
   -- ---- accesses to held values
-  value_loaded : (h : Shape) (z : Size) (reading : ℕ → ℕ) (d : Reg) (a : ℕ) (events : List Event) → LoadsValue h z reading d a old events progress new → IsOfOneJob old new
+  value_loaded : (h : Shape) (z : Size) (reading : ℕ → ℕ) (d : Reg) (a : ℕ) (events : List Event) → LoadsValue h z reading d a old events
+      progress new → IsOfOneJob old new
   value_loaded h z reading d a events (inl refused) = made _ refused.3.1 (refl, refl, refl, refl)
   value_loaded h z reading d a events (inr row) = made _ row.1.3 (refl, refl, refl, refl)
 
@@ -81,7 +82,8 @@ module _ (old new : Cpu) (progress : Progress) where
   value_stored h z a x events (inl refused) = made _ refused.3.1 (refl, refl, refl, refl)
   value_stored h z a x events (inr row) = made _ row.3 (refl, refl, refl, refl)
 
-  value_changed : (h : Shape) (w : Width) (op : AtomicOp) (s : Reg) (a : ℕ) (events : List Event) → ChangesValue h w op s a old events progress new → IsOfOneJob old new
+  value_changed : (h : Shape) (w : Width) (op : AtomicOp) (s : Reg) (a : ℕ) (events : List Event) → ChangesValue h w op s a old events
+      progress new → IsOfOneJob old new
   value_changed h w op s a events (inl refused) = made _ refused.3.1 (refl, refl, refl, refl)
   value_changed h w op s a events (inr row) = made _ row.1.3 (refl, refl, refl, refl)
 

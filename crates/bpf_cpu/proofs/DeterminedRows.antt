@@ -1,5 +1,6 @@
 -- What a row asks the store the replies determine, and so the state that it leaves.
-use Rattle.std.proofs.Common.{◌≡◌, ℕ, zero, suc, ◌+◌, ◌-◌, ◌<◌, Bool, true, false, ℤ, List, [], ◌∷◌, ◌++◌, length, take, Option, Some, None, Result, Ok, Err, inl, inr, refl, sym, ap, subst, ◌∙◌, arith, length-append}
+use Rattle.std.proofs.Common.{◌≡◌, ℕ, zero, suc, ◌+◌, ◌-◌, ◌<◌, Bool, true, false, ℤ, List, [], ◌∷◌, ◌++◌, length, take, Option, Some, None}
+use Rattle.std.proofs.Common.{Result, Ok, Err, inl, inr, refl, sym, ap, subst, ◌∙◌, arith, length-append}
 use Rattle.std.specs.Prelude.{is_some, option_map, slice_index}
 use Rattle.std.proofs.lemmas.List.{length-take-le, length-replicate}
 use Rattle.std.proofs.lemmas.List.Elements.{All-push, All-take}
@@ -42,9 +43,11 @@ use Rattle.bpf_helpers.proofs.Answering.{answers_once, of_job, store_or_job, sto
 use Rattle.bpf_helpers.proofs.Determined.{calls_are_determined}
 use Rattle.bpf_cpu.proofs.Asking.{asks-nothing, asks-one}
 use Rattle.bpf_cpu.specs.Helping.{Helper, UsesLock, tried}
-use Rattle.bpf_cpu.specs.Row.{Faults, Quiet, Jumps, JumpsIf, CallsLocal, Exits, Loads, Stores, Atomics, plain_size, extension_of, fetching, remembering, after_helper, TakesResult, AsksStore, AsksJob}
+use Rattle.bpf_cpu.specs.Row.{Faults, Quiet, Jumps, JumpsIf, CallsLocal, Exits, Loads, Stores, Atomics, plain_size, extension_of, fetching}
+use Rattle.bpf_cpu.specs.Row.{remembering, after_helper, TakesResult, AsksStore, AsksJob}
 use Rattle.bpf_cpu.specs.declared.outcome.Fault.TheVariants.{BadAddress, Misaligned, ReadOnly}
-use Rattle.bpf_cpu.specs.Values.{asks_value, event_size_of, MayNotRead, MayNotWrite, IsRefused, IsPlace, IsPlaceToWrite, LoadsValue, StoresValue, ChangesValue, AsksValue}
+use Rattle.bpf_cpu.specs.Values.{asks_value, event_size_of, MayNotRead, MayNotWrite, IsRefused, IsPlace, IsPlaceToWrite, LoadsValue}
+use Rattle.bpf_cpu.specs.Values.{StoresValue, ChangesValue, AsksValue}
 use Rattle.bpf_cpu.specs.Step.{Executes}
 
 -- the same end, with the memory of a CPU
@@ -127,7 +130,8 @@ sound_entered old to sound room =
       brief = sound.brief;
     }
 
-sound_left : (old : Cpu) (others : List Caller) (caller : Caller) → IsMemory old.memory → old.memory.frames.callers ≡ others ++ caller ∷ [] → IsMemory (after_return old others caller).memory
+sound_left : (old : Cpu) (others : List Caller) (caller : Caller) → IsMemory old.memory → old.memory.frames.callers ≡ others ++ caller ∷ []
+    → IsMemory (after_return old others caller).memory
 sound_left old others caller sound e =
     let live = old.memory.frames.live in
     let paired = sound.stack.paired in
@@ -172,14 +176,21 @@ module _ (law : WritesAreDetermined) (old new other : Cpu) (progress end : Progr
       makes (after_call old j.2.0) j.1 k.1 j.2.2 (k.2.2 ∙ ap (after_call old) to) (sound_entered old j.2.0 sound j.0)
 
   exited : Exits old progress new → Exits old end other → Same progress end new other
-  exited (inl f) (inl g) = record { turns = f.1 ∙ sym g.1; states = f.2 ∙ sym g.2; sound = let P : Cpu → Type 0 = λ c. IsMemory c.memory in subst P (sym f.2) sound }
+  exited (inl f) (inl g) = record {
+    turns = f.1 ∙ sym g.1;
+    states = f.2 ∙ sym g.2;
+    sound =
+        let P : Cpu → Type 0 = λ c. IsMemory c.memory in subst P (sym f.2) sound;
+  }
   exited (inl f) (inr k) = absurd (none_last k.0 k.1 (sym k.2 ∙ f.0))
   exited (inr j) (inl g) = absurd (none_last j.0 j.1 (sym j.2 ∙ g.0))
   exited (inr j) (inr k) =
       let same = same_last k.0 j.0 k.1 j.1 (sym k.2 ∙ j.2) in
-      makes (after_return old j.0 j.1) j.3 k.3 j.4 (k.4 ∙ ap (λ callers. after_return old callers k.1) same.0 ∙ ap (after_return old j.0) same.1) (sound_left old j.0 j.1 sound j.2)
+      makes (after_return old j.0 j.1) j.3 k.3 j.4 (k.4 ∙ ap (λ callers. after_return old callers k.1) same.0 ∙ ap (after_return old j.0)
+      same.1) (sound_left old j.0 j.1 sound j.2)
 
-  loaded : (size : Size) (reading : ℕ → ℕ) (d : Reg) (a : ℕ) → Loads size reading d a old progress new → Loads size reading d a old end other → Same progress end new other
+  loaded : (size : Size) (reading : ℕ → ℕ) (d : Reg) (a : ℕ) → Loads size reading d a old progress new → Loads size reading d a old end
+      other → Same progress end new other
   loaded size reading d a (inl f) (inl g) = faults _ f.1 g.1
   loaded size reading d a (inl f) (inr k) = absurd (false≢true (sym f.0 ∙ found_bytes _ _ _ k.1))
   loaded size reading d a (inr j) (inl g) = absurd (false≢true (sym g.0 ∙ found_bytes _ _ _ j.1))
@@ -207,7 +218,8 @@ module _ (law : WritesAreDetermined) (old new other : Cpu) (progress end : Progr
   operated w op s a (inr (inr j)) (inr (inr k)) =
       let x : k.0 ≡ j.0 = cc (j.1, k.1) in
       let done : ℕ → PrivateMemory → Cpu = λ n memory. record (remembering old memory) { registers = fetching (fetched_into op s) n old.registers } in
-      let P : ℕ → Type 0 = λ n. Writes old.memory a (low_bytes (length_of (size_of w)) (number_left op w n (value old s) (slice_index old.registers 0))) k.4.0 in
+      let P : ℕ → Type 0 = λ n. Writes old.memory a (low_bytes (length_of (size_of w))
+      (number_left op w n (value old s) (slice_index old.registers 0))) k.4.0 in
       let one = law old.memory a _ j.4.0 k.4.0 sound j.4.1 (subst P x k.4.1) in
       makes (done j.0 j.4.0) j.3 k.3 j.4.2 (k.4.2 ∙ ap (λ n. done n k.4.0) x ∙ ap (done j.0) (sym one.1)) one.0
 
@@ -233,7 +245,8 @@ module _ (law : WritesAreDetermined) (old new other : Cpu) (progress end : Progr
   -- ---- helpers
 
   -- what the job goes on with, or its fault
-  resulted : (result : Result ℕ HelperFault) (held : List Span) → TakesResult result held old progress new → TakesResult result held old end other → Same progress end new other
+  resulted : (result : Result ℕ HelperFault) (held : List Span) → TakesResult result held old progress new → TakesResult result held old end
+      other → Same progress end new other
   resulted (Ok x) held j k = makes _ j.0 k.0 j.1 k.1 sound
   resulted (Err fault) held j k = faults _ j k
 
@@ -241,7 +254,8 @@ module _ (law : WritesAreDetermined) (old new other : Cpu) (progress end : Progr
   unasked : (events others : List Event) → events ≡ [] → others ≡ [] → Same progress end new other → Agrees events others progress end new other
   unasked events others e f same = record { asks = asks-nothing events others e f; replied = λ _. same }
 
-  store_agrees : (shape : Shape) (number : ℕ) (events others : List Event) → AsksStore shape number old events progress new → AsksStore shape number old others end other → Agrees events others progress end new other
+  store_agrees : (shape : Shape) (number : ℕ) (events others : List Event) → AsksStore shape number old events progress new → AsksStore
+      shape number old others end other → Agrees events others progress end new other
   store_agrees shape number events others j k =
       let calls = calls_are_determined shape number old.number old.registers old.memory old.held j.1 k.1 events others j.0 k.0 j.2 k.2 in
       record {
@@ -253,7 +267,8 @@ module _ (law : WritesAreDetermined) (old new other : Cpu) (progress end : Progr
             resulted j.0 j.1 j.3 (subst Q (sym results.1) (subst P (sym results.0) k.3));
       }
 
-  job_agrees : (number : ℕ) (events others : List Event) → AsksJob number old events progress new → AsksJob number old others end other → Agrees events others progress end new other
+  job_agrees : (number : ℕ) (events others : List Event) → AsksJob number old events progress new → AsksJob number old others end other →
+      Agrees events others progress end new other
   job_agrees number events others j k =
       let same = answers_once number old.given old.drawn j.0 k.0 j.1 k.1 j.2 k.2 in
       let done : ℕ → ℕ → Cpu = λ x drawn. record (after_helper old x) { drawn = drawn } in
@@ -261,16 +276,20 @@ module _ (law : WritesAreDetermined) (old new other : Cpu) (progress end : Progr
 
   -- ---- accesses to values
 
-  refused_agrees : (why : Fault → Type 0) → ((f g : Fault) → why f → why g → f ≡ g) → (events others : List Event) → IsRefused why old events progress new → IsRefused why old others end other → Agrees events others progress end new other
-  refused_agrees why same events others f g = unasked events others f.2 g.2 (faults _ f.3 (subst (λ (x : Fault). Faults x old end other) (same g.0 f.0 g.1 f.1) g.3))
+  refused_agrees : (why : Fault → Type 0) → ((f g : Fault) → why f → why g → f ≡ g) → (events others : List Event) → IsRefused why old
+      events progress new → IsRefused why old others end other → Agrees events others progress end new other
+  refused_agrees why same events others f g = unasked events others f.2 g.2
+      (faults _ f.3 (subst (λ (x : Fault). Faults x old end other) (same g.0 f.0 g.1 f.1) g.3))
 
   tried_sound : (x : ℕ) → IsMemory (tried old x).memory
   tried_sound zero = sound
   tried_sound (suc x) = sound
 
   lock_agrees : (h : Shape) (action : Change) (operand : ℕ) (left : ℕ → Cpu) → ((x : ℕ) → IsMemory (left x).memory) → (events others : List Event)
-      → UsesLock h action operand left old events progress new → UsesLock h action operand left old others end other → Agrees events others progress end new other
-  lock_agrees h action operand left sound_left events others (inl f) (inl g) = refused_agrees (MayNotWrite h Word (slice_index old.registers 1) old) (same_why_write h Word (slice_index old.registers 1) old) events others f g
+      → UsesLock h action operand left old events progress new → UsesLock h action operand left old others end other → Agrees events others
+      progress end new other
+  lock_agrees h action operand left sound_left events others (inl f) (inl g) = refused_agrees
+      (MayNotWrite h Word (slice_index old.registers 1) old) (same_why_write h Word (slice_index old.registers 1) old) events others f g
   lock_agrees h action operand left sound_left events others (inl f) (inr k) = absurd (no_place_to_write h Word (slice_index old.registers 1) old f.0 f.1 k.0)
   lock_agrees h action operand left sound_left events others (inr j) (inl g) = absurd (no_place_to_write h Word (slice_index old.registers 1) old g.0 g.1 j.0)
   lock_agrees h action operand left sound_left events others (inr j) (inr k) =
@@ -283,25 +302,33 @@ module _ (law : WritesAreDetermined) (old new other : Cpu) (progress end : Progr
             makes (left j.1.0) j.1.2 k.1.2 j.1.3 (k.1.3 ∙ ap left x) (sound_left j.1.0);
       }
 
-  helper_agrees : (shape : Shape) (number : ℕ) (events others : List Event) → Helper shape number old events progress new → Helper shape number old others end other → Agrees events others progress end new other
+  helper_agrees : (shape : Shape) (number : ℕ) (events others : List Event) → Helper shape number old events progress new → Helper shape
+      number old others end other → Agrees events others progress end new other
   helper_agrees shape number events others (inl j) (inl k) = store_agrees shape number events others j.1 k.1
   helper_agrees shape number events others (inr (inl j)) (inr (inl k)) = job_agrees number events others j k
-  helper_agrees shape number events others (inr (inr (inl j))) (inr (inr (inl k))) = lock_agrees shape CompareExchange 1 (tried old) tried_sound events others j.1 k.1
-  helper_agrees shape number events others (inr (inr (inr j))) (inr (inr (inr k))) = lock_agrees shape Exchange 0 (λ x. after_helper old 0) (λ x. sound) events others j.1 k.1
+  helper_agrees shape number events others (inr (inr (inl j))) (inr (inr (inl k))) = lock_agrees shape CompareExchange 1 (tried old)
+      tried_sound events others j.1 k.1
+  helper_agrees shape number events others (inr (inr (inr j))) (inr (inr (inr k))) = lock_agrees shape Exchange 0 (λ x. after_helper old 0)
+      (λ x. sound) events others j.1 k.1
   helper_agrees shape number events others (inl j) (inr (inl k)) = absurd (store_or_job number j.0 (of_job number old.given old.drawn k.0 k.1 k.2))
   helper_agrees shape number events others (inr (inl j)) (inl k) = absurd (store_or_job number k.0 (of_job number old.given old.drawn j.0 j.1 j.2))
   helper_agrees shape number events others (inl j) (inr (inr (inl k))) = absurd (store_or_lock number j.0 (inl k.0))
   helper_agrees shape number events others (inl j) (inr (inr (inr k))) = absurd (store_or_lock number j.0 (inr k.0))
   helper_agrees shape number events others (inr (inr (inl j))) (inl k) = absurd (store_or_lock number k.0 (inl j.0))
   helper_agrees shape number events others (inr (inr (inr j))) (inl k) = absurd (store_or_lock number k.0 (inr j.0))
-  helper_agrees shape number events others (inr (inl j)) (inr (inr (inl k))) = absurd (job_or_lock number (of_job number old.given old.drawn j.0 j.1 j.2) (inl k.0))
-  helper_agrees shape number events others (inr (inl j)) (inr (inr (inr k))) = absurd (job_or_lock number (of_job number old.given old.drawn j.0 j.1 j.2) (inr k.0))
-  helper_agrees shape number events others (inr (inr (inl j))) (inr (inl k)) = absurd (job_or_lock number (of_job number old.given old.drawn k.0 k.1 k.2) (inl j.0))
-  helper_agrees shape number events others (inr (inr (inr j))) (inr (inl k)) = absurd (job_or_lock number (of_job number old.given old.drawn k.0 k.1 k.2) (inr j.0))
+  helper_agrees shape number events others (inr (inl j)) (inr (inr (inl k))) = absurd
+      (job_or_lock number (of_job number old.given old.drawn j.0 j.1 j.2) (inl k.0))
+  helper_agrees shape number events others (inr (inl j)) (inr (inr (inr k))) = absurd
+      (job_or_lock number (of_job number old.given old.drawn j.0 j.1 j.2) (inr k.0))
+  helper_agrees shape number events others (inr (inr (inl j))) (inr (inl k)) = absurd
+      (job_or_lock number (of_job number old.given old.drawn k.0 k.1 k.2) (inl j.0))
+  helper_agrees shape number events others (inr (inr (inr j))) (inr (inl k)) = absurd
+      (job_or_lock number (of_job number old.given old.drawn k.0 k.1 k.2) (inr j.0))
   helper_agrees shape number events others (inr (inr (inl j))) (inr (inr (inr k))) = absurd (let e = j.0 in let f = k.0 in omega arith)
   helper_agrees shape number events others (inr (inr (inr j))) (inr (inr (inl k))) = absurd (let e = j.0 in let f = k.0 in omega arith)
 
-  value_loaded : (h : Shape) (z : Size) (reading : ℕ → ℕ) (d : Reg) (a : ℕ) (events others : List Event) → LoadsValue h z reading d a old events progress new → LoadsValue h z reading d a old others end other → Agrees events others progress end new other
+  value_loaded : (h : Shape) (z : Size) (reading : ℕ → ℕ) (d : Reg) (a : ℕ) (events others : List Event) → LoadsValue h z reading d a old
+      events progress new → LoadsValue h z reading d a old others end other → Agrees events others progress end new other
   value_loaded h z reading d a events others (inl f) (inl g) = refused_agrees (MayNotRead h z a old) (same_why_read h z a old) events others f g
   value_loaded h z reading d a events others (inl f) (inr k) = absurd (no_place_to_read h z a old f.0 f.1 k.0)
   value_loaded h z reading d a events others (inr j) (inl g) = absurd (no_place_to_read h z a old g.0 g.1 j.0)
@@ -313,7 +340,8 @@ module _ (law : WritesAreDetermined) (old new other : Cpu) (progress end : Progr
         makes (with_register old d (reading j.1.0) (old.pc + 1)) j.1.2 k.1.2 j.1.3 (k.1.3 ∙ ap (λ n. with_register old d (reading n) (old.pc + 1)) x) sound;
   }
 
-  value_stored : (h : Shape) (z : Size) (a x : ℕ) (events others : List Event) → StoresValue h z a x old events progress new → StoresValue h z a x old others end other → Agrees events others progress end new other
+  value_stored : (h : Shape) (z : Size) (a x : ℕ) (events others : List Event) → StoresValue h z a x old events progress new → StoresValue h
+      z a x old others end other → Agrees events others progress end new other
   value_stored h z a x events others (inl f) (inl g) = refused_agrees (MayNotWrite h z a old) (same_why_write h z a old) events others f g
   value_stored h z a x events others (inl f) (inr k) = absurd (no_place_to_write h z a old f.0 f.1 k.0)
   value_stored h z a x events others (inr j) (inl g) = absurd (no_place_to_write h z a old g.0 g.1 j.0)
@@ -322,8 +350,10 @@ module _ (law : WritesAreDetermined) (old new other : Cpu) (progress end : Progr
     replied = λ same. makes _ j.2 k.2 j.3 k.3 sound;
   }
 
-  value_changed : (h : Shape) (w : Width) (op : AtomicOp) (s : Reg) (a : ℕ) (events others : List Event) → ChangesValue h w op s a old events progress new → ChangesValue h w op s a old others end other → Agrees events others progress end new other
-  value_changed h w op s a events others (inl f) (inl g) = refused_agrees (MayNotWrite h (size_of w) a old) (same_why_write h (size_of w) a old) events others f g
+  value_changed : (h : Shape) (w : Width) (op : AtomicOp) (s : Reg) (a : ℕ) (events others : List Event) → ChangesValue h w op s a old
+      events progress new → ChangesValue h w op s a old others end other → Agrees events others progress end new other
+  value_changed h w op s a events others (inl f) (inl g) = refused_agrees (MayNotWrite h (size_of w) a old)
+      (same_why_write h (size_of w) a old) events others f g
   value_changed h w op s a events others (inl f) (inr k) = absurd (no_place_to_write h (size_of w) a old f.0 f.1 k.0)
   value_changed h w op s a events others (inr j) (inl g) = absurd (no_place_to_write h (size_of w) a old g.0 g.1 j.0)
   value_changed h w op s a events others (inr j) (inr k) =
@@ -337,9 +367,11 @@ module _ (law : WritesAreDetermined) (old new other : Cpu) (progress end : Progr
             makes (done j.1.0) j.1.2 k.1.2 j.1.3 (k.1.3 ∙ ap done x) sound;
       }
 
-  value_agrees : (h : Shape) (i : Insn) (events others : List Event) → AsksValue h i old events progress new → AsksValue h i old others end other → Agrees events others progress end new other
+  value_agrees : (h : Shape) (i : Insn) (events others : List Event) → AsksValue h i old events progress new → AsksValue h i old others end
+      other → Agrees events others progress end new other
   value_agrees h (insn.Load z d b o) events others j k = value_loaded h z (λ x. x) d (effective_address old b o) events others j k
-  value_agrees h (insn.LoadSigned z d b o) events others j k = value_loaded h (plain_size z) (sign_extended (extension_of z)) d (effective_address old b o) events others j k
+  value_agrees h (insn.LoadSigned z d b o) events others j k = value_loaded h (plain_size z) (sign_extended (extension_of z)) d
+      (effective_address old b o) events others j k
   value_agrees h (insn.StoreImmediate z b o n) events others j k = value_stored h z (effective_address old b o) (cast_unsigned w64 n) events others j k
   value_agrees h (insn.Store z b o s) events others j k = value_stored h z (effective_address old b o) (value old s) events others j k
   value_agrees h (insn.Atomic w op b o s) events others j k = value_changed h w op s (effective_address old b o) events others j k
@@ -353,7 +385,8 @@ module _ (law : WritesAreDetermined) (old new other : Cpu) (progress end : Progr
   helper_value : (i : Insn) (number : ℕ) → i ≡ insn.CallHelper number → asks_value i old ≡ true → ⊥
   helper_value i number e asks = false≢true (subst (λ (j : Insn). asks_value j old ≡ true) e asks)
 
-  pub row_agrees : (shape : Shape) (i : Insn) (events others : List Event) → Executes shape i old events progress new → Executes shape i old others end other → Agrees events others progress end new other
+  pub row_agrees : (shape : Shape) (i : Insn) (events others : List Event) → Executes shape i old events progress new → Executes shape i old
+      others end other → Agrees events others progress end new other
   row_agrees shape i events others (inl j) (inl k) = unasked events others j.1 k.1 (quiet_same i j.2 k.2)
   row_agrees shape i events others (inl j) (inr (inl k)) = absurd (quiet_helper i k.0 progress new k.1 j.2)
   row_agrees shape i events others (inl j) (inr (inr k)) = absurd (false≢true (sym j.0 ∙ k.0))

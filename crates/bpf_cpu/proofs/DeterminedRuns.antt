@@ -53,7 +53,8 @@ use Rattle.bpf_cpu.proofs.DeterminedRows.{Agrees, row_agrees, whole_frame}
 
 module _ (law : WritesAreDetermined) (one : OneInstructionBegins) (shape : Shape) (program : Loaded) where
   -- ---- one step
-  pub step_agrees : (old new other : Cpu) (progress end : Progress) (events others : List Event) → IsMemory old.memory → Step shape program old events progress new → Step shape program old others end other → Agrees events others progress end new other
+  pub step_agrees : (old new other : Cpu) (progress end : Progress) (events others : List Event) → IsMemory old.memory → Step shape program
+      old events progress new → Step shape program old others end other → Agrees events others progress end new other
   step_agrees old new other progress end events others sound a b =
       let P = λ (i : Insn). Executes shape i old others end other in
       let same = one program.instructions old.pc b.instruction a.instruction b.begins a.begins in
@@ -61,14 +62,16 @@ module _ (law : WritesAreDetermined) (one : OneInstructionBegins) (shape : Shape
 
   -- ---- a chain of steps, given its events
   -- a step that ends the job, and one that doesn't
-  never : (old new mid : Cpu) (end : Outcome) (events first rest : List Event) → IsMemory old.memory → events ≡ first ++ rest → Step shape program old events (Done end) new → Step shape program old first On mid → ⊥
+  never : (old new mid : Cpu) (end : Outcome) (events first rest : List Event) → IsMemory old.memory → events ≡ first ++ rest → Step shape
+      program old events (Done end) new → Step shape program old first On mid → ⊥
   never old new mid end events first rest sound e a b =
       let agrees = step_agrees old new mid (Done end) On events first sound a b in
       let parts = same_beginnings events first [] rest agrees.asks (append-nil events ∙ e) in
       let turns : Done end ≡ On = (agrees.replied parts.0).turns in
       cc
 
-  steps_once : (n : ℕ) (old new other : Cpu) (events : List Event) (end last : Outcome) → IsMemory old.memory → MakesSteps shape program n old events end new → MakesSteps shape program n old events last other → end ≡ last
+  steps_once : (n : ℕ) (old new other : Cpu) (events : List Event) (end last : Outcome) → IsMemory old.memory → MakesSteps shape program n
+      old events end new → MakesSteps shape program n old events last other → end ≡ last
   steps_once zero old new other events end last sound a b = a.1 ∙ sym b.1
   steps_once (suc n) old new other events end last sound (inl a) (inl b) =
       let same = (step_agrees old new other (Done end) (Done last) events events sound a b).replied refl in
@@ -86,7 +89,8 @@ module _ (law : WritesAreDetermined) (one : OneInstructionBegins) (shape : Shape
 
   -- ---- the same over a plain store, whose replies are determined too
   module _ (replies : CallsHaveOneReply) where
-    pub same_replies : (c : ℕ) (events others : List Event) (s t u : Plain) → IsSoundStore s → PlainlyLegal s (map (entry c) events) t → PlainlyLegal s (map (entry c) others) u → AreAskedAlike events others → (events ≡ others) × (t ≡ u)
+    pub same_replies : (c : ℕ) (events others : List Event) (s t u : Plain) → IsSoundStore s → PlainlyLegal s (map (entry c) events) t →
+        PlainlyLegal s (map (entry c) others) u → AreAskedAlike events others → (events ≡ others) × (t ≡ u)
     same_replies c [] [] s t u sound a b alike = (refl, sym a ∙ b)
     same_replies c [] (f ∷ fs) s t u sound a b alike = absurd (asks-end f fs alike)
     same_replies c (e ∷ es) [] s t u sound a b alike = absurd (asks-end' e es alike)
@@ -104,7 +108,8 @@ module _ (law : WritesAreDetermined) (one : OneInstructionBegins) (shape : Shape
     cut [] ys s t h = (s, refl, h)
     cut (x ∷ xs) ys s t h = let rest = cut xs ys h.0 t h.2 in (rest.0, (h.0, h.1, rest.1), rest.2)
 
-    cut_events : (c : ℕ) (events first rest : List Event) (s t : Plain) → events ≡ first ++ rest → PlainlyLegal s (map (entry c) events) t → (m : Plain) × PlainlyLegal s (map (entry c) first) m × PlainlyLegal m (map (entry c) rest) t
+    cut_events : (c : ℕ) (events first rest : List Event) (s t : Plain) → events ≡ first ++ rest → PlainlyLegal s (map (entry c) events) t →
+        (m : Plain) × PlainlyLegal s (map (entry c) first) m × PlainlyLegal m (map (entry c) rest) t
     cut_events c events first rest s t e h =
         let P : List Entry → Type 0 = λ log. PlainlyLegal s log t in
         cut (map (entry c) first) (map (entry c) rest) s t (subst P (ap (map (entry c)) e ∙ map-append (entry c) first rest) h)
@@ -112,14 +117,17 @@ module _ (law : WritesAreDetermined) (one : OneInstructionBegins) (shape : Shape
     pub stays_sound : (c : ℕ) (events : List Event) (s t : Plain) → IsSoundStore s → PlainlyLegal s (map (entry c) events) t → IsSoundStore t
     stays_sound c events s t sound h = plainly_sound s t (map (entry c) events) sound h
 
-    plainly_never : (c : ℕ) (s t u : Plain) (old new mid : Cpu) (end : Outcome) (events first : List Event) → IsSoundStore s → IsMemory old.memory → PlainlyLegal s (map (entry c) events) t → PlainlyLegal s (map (entry c) first) u → Step shape program old events (Done end) new → Step shape program old first On mid → ⊥
+    plainly_never : (c : ℕ) (s t u : Plain) (old new mid : Cpu) (end : Outcome) (events first : List Event) → IsSoundStore s → IsMemory
+        old.memory → PlainlyLegal s (map (entry c) events) t → PlainlyLegal s (map (entry c) first) u → Step shape program old events
+        (Done end) new → Step shape program old first On mid → ⊥
     plainly_never c s t u old new mid end events first store sound g h a b =
         let agrees = step_agrees old new mid (Done end) On events first sound a b in
         let one = same_replies c events first s t u store g h agrees.asks in
         let turns : Done end ≡ On = (agrees.replied one.0).turns in
         cc
 
-    pub plain_steps_once : (n c : ℕ) (s t u : Plain) (old new other : Cpu) (events others : List Event) (end last : Outcome) → IsSoundStore s → IsMemory old.memory
+    pub plain_steps_once : (n c : ℕ) (s t u : Plain) (old new other : Cpu) (events others : List Event) (end last : Outcome) → IsSoundStore
+        s → IsMemory old.memory
         → MakesSteps shape program n old events end new → PlainlyLegal s (map (entry c) events) t
         → MakesSteps shape program n old others last other → PlainlyLegal s (map (entry c) others) u
         → (events ≡ others) × (end ≡ last) × (new ≡ other) × (t ≡ u)
@@ -148,7 +156,8 @@ module _ (law : WritesAreDetermined) (one : OneInstructionBegins) (shape : Shape
         let same = agrees.replied one.0 in
         let P : Cpu → Type 0 = λ mid. MakesSteps shape program n mid b.1 last other in
         let Q : Plain → Type 0 = λ m. PlainlyLegal m (map (entry c) b.1) u in
-        let rest = plain_steps_once n c left.0 t u a.2 new other a.1 b.1 end last (stays_sound c a.0 s left.0 store left.1) same.sound a.5 left.2 (subst P (sym same.states) b.5) (subst Q (sym one.1) right.2) in
+        let rest = plain_steps_once n c left.0 t u a.2 new other a.1 b.1 end last (stays_sound c a.0 s left.0 store left.1) same.sound a.5
+        left.2 (subst P (sym same.states) b.5) (subst Q (sym one.1) right.2) in
         let fronts : a.0 ≡ b.0 = one.0 in
         let backs : a.1 ≡ b.1 = rest.0 in
         (a.3 ∙ ap (λ es. es ++ a.1) fronts ∙ ap (λ es. b.0 ++ es) backs ∙ sym b.3, rest.1, rest.2, rest.3)
@@ -190,7 +199,8 @@ outcomes_are_determined law one shape program budget number input events end oth
 -- ---- no maps
 
 -- where there is no map, the job goes on with what it held
-taken_held : (result : Result ℕ HelperFault) (held : List Span) (old new : Cpu) (progress : Progress) → TakesResult result held old progress new → held ≡ old.held → new.held ≡ old.held
+taken_held : (result : Result ℕ HelperFault) (held : List Span) (old new : Cpu) (progress : Progress) → TakesResult result held old progress
+    new → held ≡ old.held → new.held ≡ old.held
 taken_held (Ok x) held old new progress row e = ap (λ (k : Cpu). k.held) row.1 ∙ e
 taken_held (Err fault) held old new progress row e = ap (λ (k : Cpu). k.held) row.1
 
@@ -199,22 +209,26 @@ none_there : (cpus : ℕ) (cpu : Cpu) (a : ℕ) (z : Size) → cpu.held ≡ [] �
 none_there cpus cpu a z e (inl covered) = false≢true (sym (ap (λ (spans : List Span). is_covered spans a (length_of z)) e) ∙ covered)
 none_there cpus cpu a z e (inr there) = (let is : slice_get [] (area_of a) ≡ Some there.array = there.is in cc)
 
-no_map_event : (cpus number : ℕ) (old new : Cpu) (progress : Progress) (events : List Event) → old.held ≡ [] → Helper (without_arrays cpus []) number old events progress new → (events ≡ []) × (new.held ≡ old.held)
+no_map_event : (cpus number : ℕ) (old new : Cpu) (progress : Progress) (events : List Event) → old.held ≡ [] → Helper
+    (without_arrays cpus []) number old events progress new → (events ≡ []) × (new.held ≡ old.held)
 no_map_event cpus number old new progress events none (inl asks) =
     let row = asks.1 in
     let empty = no_map_call cpus number old.number old.registers old.memory old.held row.1 events row.0 row.2 in
     (empty.0, taken_held row.0 row.1 old new progress row.3 empty.1)
 no_map_event cpus number old new progress events none (inr (inl asks)) = (asks.3, ap (λ (k : Cpu). k.held) asks.5)
 no_map_event cpus number old new progress events none (inr (inr (inl (is, inl refused)))) = (refused.2, ap (λ (k : Cpu). k.held) refused.3.1)
-no_map_event cpus number old new progress events none (inr (inr (inl (is, inr row)))) = absurd (none_there cpus old (slice_index old.registers 1) Word none row.0.0.0)
+no_map_event cpus number old new progress events none (inr (inr (inl (is, inr row)))) = absurd
+    (none_there cpus old (slice_index old.registers 1) Word none row.0.0.0)
 no_map_event cpus number old new progress events none (inr (inr (inr (is, inl refused)))) = (refused.2, ap (λ (k : Cpu). k.held) refused.3.1)
-no_map_event cpus number old new progress events none (inr (inr (inr (is, inr row)))) = absurd (none_there cpus old (slice_index old.registers 1) Word none row.0.0.0)
+no_map_event cpus number old new progress events none (inr (inr (inr (is, inr row)))) = absurd
+    (none_there cpus old (slice_index old.registers 1) Word none row.0.0.0)
 
 module _ (cpus : ℕ) (old new : Cpu) (progress : Progress) (events : List Event) (none : old.held ≡ []) where
   refused_event : (why : Fault → Type 0) → IsRefused why old events progress new → (events ≡ []) × (new.held ≡ old.held)
   refused_event why row = (row.2, ap (λ (k : Cpu). k.held) row.3.1)
 
-  load_event : (z : Size) (reading : ℕ → ℕ) (d : Reg) (a : ℕ) → LoadsValue (without_arrays cpus []) z reading d a old events progress new → (events ≡ []) × (new.held ≡ old.held)
+  load_event : (z : Size) (reading : ℕ → ℕ) (d : Reg) (a : ℕ) → LoadsValue (without_arrays cpus []) z reading d a old events progress new →
+      (events ≡ []) × (new.held ≡ old.held)
   load_event z reading d a (inl row) = refused_event _ row
   load_event z reading d a (inr row) = absurd (none_there cpus old a z none row.0.0)
 
@@ -222,7 +236,8 @@ module _ (cpus : ℕ) (old new : Cpu) (progress : Progress) (events : List Event
   store_event z a x (inl row) = refused_event _ row
   store_event z a x (inr row) = absurd (none_there cpus old a z none row.0.0.0)
 
-  change_event : (w : Width) (op : AtomicOp) (s : Reg) (a : ℕ) → ChangesValue (without_arrays cpus []) w op s a old events progress new → (events ≡ []) × (new.held ≡ old.held)
+  change_event : (w : Width) (op : AtomicOp) (s : Reg) (a : ℕ) → ChangesValue (without_arrays cpus []) w op s a old events progress new →
+      (events ≡ []) × (new.held ≡ old.held)
   change_event w op s a (inl row) = refused_event _ row
   change_event w op s a (inr row) = absurd (none_there cpus old a (size_of w) none row.0.0.0)
 
@@ -234,12 +249,14 @@ module _ (cpus : ℕ) (old new : Cpu) (progress : Progress) (events : List Event
   value_event (insn.Atomic w op b o s) row = change_event w op s (effective_address old b o) row
   value_event _ row = absurd row
 
-no_row_event : (cpus : ℕ) (i : Insn) (old new : Cpu) (progress : Progress) (events : List Event) → old.held ≡ [] → Executes (without_arrays cpus []) i old events progress new → (events ≡ []) × (new.held ≡ [])
+no_row_event : (cpus : ℕ) (i : Insn) (old new : Cpu) (progress : Progress) (events : List Event) → old.held ≡ [] → Executes
+    (without_arrays cpus []) i old events progress new → (events ≡ []) × (new.held ≡ [])
 no_row_event cpus i old new progress events none (inl row) = (row.1, held-quiet old new progress i row.2 ∙ none)
 no_row_event cpus i old new progress events none (inr (inl row)) = let is = no_map_event cpus row.0 old new progress events none row.2 in (is.0, is.1 ∙ none)
 no_row_event cpus i old new progress events none (inr (inr row)) = let is = value_event cpus old new progress events none i row.1 in (is.0, is.1 ∙ none)
 
-no_step_events : (cpus : ℕ) (program : Loaded) (n : ℕ) (old new : Cpu) (events : List Event) (end : Outcome) → old.held ≡ [] → MakesSteps (without_arrays cpus []) program n old events end new → events ≡ []
+no_step_events : (cpus : ℕ) (program : Loaded) (n : ℕ) (old new : Cpu) (events : List Event) (end : Outcome) → old.held ≡ [] → MakesSteps
+    (without_arrays cpus []) program n old events end new → events ≡ []
 no_step_events cpus program zero old new events end none a = a.0
 no_step_events cpus program (suc n) old new events end none (inl a) = (no_row_event cpus a.instruction old new (Done end) events none a.row).0
 no_step_events cpus program (suc n) old new events end none (inr a) =

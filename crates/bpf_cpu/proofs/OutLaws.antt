@@ -76,7 +76,8 @@ module _ (old new : Cpu) (pc : ℕ) where
   quiet_row (insn.Atomic w op b o s) row = operated w op s (effective_address old b o) row
 
   -- ---- accesses to held values
-  value_loaded : (h : Shape) (z : Size) (reading : ℕ → ℕ) (d : Reg) (a : ℕ) (events : List Event) → LoadsValue h z reading d a old events (Done (OutOfBudget pc)) new → ⊥
+  value_loaded : (h : Shape) (z : Size) (reading : ℕ → ℕ) (d : Reg) (a : ℕ) (events : List Event) → LoadsValue h z reading d a old events
+      (Done (OutOfBudget pc)) new → ⊥
   value_loaded h z reading d a events (inl refused) = never_fault _ _ refused.3.0
   value_loaded h z reading d a events (inr row) = never_on row.1.2
 
@@ -84,7 +85,8 @@ module _ (old new : Cpu) (pc : ℕ) where
   value_stored h z a x events (inl refused) = never_fault _ _ refused.3.0
   value_stored h z a x events (inr row) = never_on row.2
 
-  value_changed : (h : Shape) (w : Width) (op : AtomicOp) (s : Reg) (a : ℕ) (events : List Event) → ChangesValue h w op s a old events (Done (OutOfBudget pc)) new → ⊥
+  value_changed : (h : Shape) (w : Width) (op : AtomicOp) (s : Reg) (a : ℕ) (events : List Event) → ChangesValue h w op s a old events
+      (Done (OutOfBudget pc)) new → ⊥
   value_changed h w op s a events (inl refused) = never_fault _ _ refused.3.0
   value_changed h w op s a events (inr row) = never_on row.1.2
 

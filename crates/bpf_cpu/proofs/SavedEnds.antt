@@ -58,13 +58,15 @@ far_none kind number some far (Exit x) h e = let z : 0 ≡ kind = ap (λ (l : Li
 far_none kind number some far (Fault f pc) h e = let n : pc ≡ number = ap (λ (l : List ℕ). get_or l 1 0) e in omega arith
 far_none kind number some far (OutOfBudget pc) h e = let n : pc ≡ number = ap (λ (l : List ℕ). get_or l 1 0) e in omega arith
 
-pub other_none : (kind number : ℕ) → (kind ≡ 0 → ⊥) → (kind ≡ 7 → ⊥) → ((f : Reason) → fault_number f ≡ kind → ⊥) → (o : Outcome) → IsSavableOutcome o → outcome_words o ≡ kind ∷ number ∷ [] → ⊥
+pub other_none : (kind number : ℕ) → (kind ≡ 0 → ⊥) → (kind ≡ 7 → ⊥) → ((f : Reason) → fault_number f ≡ kind → ⊥) → (o : Outcome) →
+    IsSavableOutcome o → outcome_words o ≡ kind ∷ number ∷ [] → ⊥
 other_none kind number some off none (Exit x) h e = let z : 0 ≡ kind = ap (λ (l : List ℕ). get_or l 0 0) e in some (sym z)
 other_none kind number some off none (Fault f pc) h e = none f (ap (λ (l : List ℕ). get_or l 0 0) e)
 other_none kind number some off none (OutOfBudget pc) h e = let s : 7 ≡ kind = ap (λ (l : List ℕ). get_or l 0 0) e in off (sym s)
 
 -- ---- reading
-pub outcome_read : (bytes words rest : List ℕ) (o : Outcome) → length words ≡ 2 → outcome_words o ≡ get_or words 0 0 ∷ get_or words 1 0 ∷ [] → bytes ≡ words_saved 0 words ++ rest → bytes ≡ outcome_saved o ++ rest
+pub outcome_read : (bytes words rest : List ℕ) (o : Outcome) → length words ≡ 2 → outcome_words o ≡ get_or words 0 0 ∷ get_or words 1 0 ∷ []
+    → bytes ≡ words_saved 0 words ++ rest → bytes ≡ outcome_saved o ++ rest
 unfolding outcome_saved
 outcome_read bytes words rest o size is read = read ∙ ap (λ (l : List ℕ). words_saved 0 l ++ rest) (two_words words size ∙ sym is)
 
@@ -83,7 +85,8 @@ no_outcome bytes words rest size fit read none other more h e =
 
 -- ---- equal bytes are those of equal outcomes
 named : ℕ → Reason
-named n = if n == 1 then BadAddress else if n == 2 then Misaligned else if n == 3 then CallDepth else if n == 4 then NotAMap else if n == 5 then TooManyHeld else if n == 6 then Worn else ReadOnly
+named n = if n == 1 then BadAddress else if n == 2 then Misaligned else if n == 3 then CallDepth else if n == 4 then NotAMap else if n == 5
+    then TooManyHeld else if n == 6 then Worn else ReadOnly
 
 named_back : (f : Reason) → named (fault_number f) ≡ f
 unfolding named
@@ -109,13 +112,15 @@ same_outcome (Exit a) (Exit b) e = ap (λ (n : ℕ). Exit n) (second 0 a 0 b e)
 same_outcome (Exit a) (Fault g b) e = let k = first 0 a (fault_number g) b e in let l = from_one g in absurd (omega arith)
 same_outcome (Exit a) (OutOfBudget b) e = let k = first 0 a 7 b e in absurd (omega arith)
 same_outcome (Fault f a) (Exit b) e = let k = first (fault_number f) a 0 b e in let l = from_one f in absurd (omega arith)
-same_outcome (Fault f a) (Fault g b) e = ap (λ (r : Reason). Fault r a) (same_fault f g (first (fault_number f) a (fault_number g) b e)) ∙ ap (λ (n : ℕ). Fault g n) (second (fault_number f) a (fault_number g) b e)
+same_outcome (Fault f a) (Fault g b) e = ap (λ (r : Reason). Fault r a) (same_fault f g (first (fault_number f) a (fault_number g) b e)) ∙
+    ap (λ (n : ℕ). Fault g n) (second (fault_number f) a (fault_number g) b e)
 same_outcome (Fault f a) (OutOfBudget b) e = absurd (not_seven f (first (fault_number f) a 7 b e))
 same_outcome (OutOfBudget a) (Exit b) e = let k = first 7 a 0 b e in absurd (omega arith)
 same_outcome (OutOfBudget a) (Fault g b) e = absurd (not_seven g (sym (first 7 a (fault_number g) b e)))
 same_outcome (OutOfBudget a) (OutOfBudget b) e = ap (λ (n : ℕ). OutOfBudget n) (second 7 a 7 b e)
 
-pub outcomes_told : (x y : Outcome) (rest more : List ℕ) → IsSavableOutcome x → IsSavableOutcome y → outcome_saved x ++ rest ≡ outcome_saved y ++ more → (x ≡ y) × (rest ≡ more)
+pub outcomes_told : (x y : Outcome) (rest more : List ℕ) → IsSavableOutcome x → IsSavableOutcome y → outcome_saved x ++ rest ≡ outcome_saved
+    y ++ more → (x ≡ y) × (rest ≡ more)
 unfolding outcome_saved
 outcomes_told x y rest more h k e =
     let same = words_prefix 0 (outcome_words x) (outcome_words y) rest more (two_long x ∙ sym (two_long y)) (outcome_fits x h) (outcome_fits y k) e in

@@ -1,5 +1,6 @@
 -- A CPU's state and what it is saved as.
-use Rattle.std.proofs.Common.{◌≡◌, ℕ, ◌-◌, ◌^◌, ◌<◌, ◌≤◌, Option, Some, None, Result, Ok, Err, OnErr, List, [], ◌∷◌, ◌++◌, length, take, drop, get_or, refl, sym, ap, ◌∙◌, arith, append_assoc, length-append}
+use Rattle.std.proofs.Common.{◌≡◌, ℕ, ◌-◌, ◌^◌, ◌<◌, ◌≤◌, Option, Some, None, Result, Ok, Err, OnErr, List, [], ◌∷◌, ◌++◌, length, take}
+use Rattle.std.proofs.Common.{drop, get_or, refl, sym, ap, ◌∙◌, arith, append_assoc, length-append}
 use Rattle.std.specs.Prelude.{All, IfSome, IfNone}
 use Rattle.std.proofs.lemmas.List.{length-take-le, take-append-drop}
 use Rattle.std.proofs.lemmas.List.Elements.{All-nil, All-push, All-take, All-from_get_or}
@@ -29,12 +30,15 @@ pub on_err : {A E P : Type 0} (r : Result A E) → P → OnErr r P
 on_err (Ok a) p = tt
 on_err (Err x) p = p
 
-pub pc_read : (bytes : List ℕ) (pc : ℕ) → 4 ≤ length bytes → ((i : ℕ) → get_or bytes i 0 < 256) → pc ≡ little_endian (take 4 bytes) → bytes ≡ low_bytes 4 pc ++ take (length bytes - 4) (drop 4 bytes)
+pub pc_read : (bytes : List ℕ) (pc : ℕ) → 4 ≤ length bytes → ((i : ℕ) → get_or bytes i 0 < 256) → pc ≡ little_endian (take 4 bytes) → bytes
+    ≡ low_bytes 4 pc ++ take (length bytes - 4) (drop 4 bytes)
 pc_read bytes pc long each is =
     let small : All (λ b. b < 256) bytes = All-from_get_or (λ b. b < 256) bytes 0 (λ i h. each i) in
     let size : length (take 4 bytes) ≡ 4 = length-take-le 4 bytes long in
-    let back : low_bytes 4 (little_endian (take 4 bytes)) ≡ take 4 bytes = ap (λ (n : ℕ). low_bytes n (little_endian (take 4 bytes))) (sym size) ∙ low_bytes-little_endian (take 4 bytes) (All-take (λ b. b < 256) 4 bytes small) in
-    sym (take-append-drop 4 bytes) ∙ (ap (λ (l : List ℕ). l ++ drop 4 bytes) (sym back ∙ ap (low_bytes 4) (sym is)) ∙ ap (λ (l : List ℕ). low_bytes 4 pc ++ l) (sym (all_behind 4 bytes)))
+    let back : low_bytes 4 (little_endian (take 4 bytes)) ≡ take 4 bytes = ap (λ (n : ℕ). low_bytes n (little_endian (take 4 bytes)))
+    (sym size) ∙ low_bytes-little_endian (take 4 bytes) (All-take (λ b. b < 256) 4 bytes small) in
+    sym (take-append-drop 4 bytes) ∙ (ap (λ (l : List ℕ). l ++ drop 4 bytes) (sym back ∙ ap (low_bytes 4) (sym is)) ∙ ap
+    (λ (l : List ℕ). low_bytes 4 pc ++ l) (sym (all_behind 4 bytes)))
 
 pc_told : (x y : ℕ) (rest more : List ℕ) → x < 2 ^ 32 → y < 2 ^ 32 → low_bytes 4 x ++ rest ≡ low_bytes 4 y ++ more → (x ≡ y) × (rest ≡ more)
 pc_told x y rest more h k e =
@@ -45,9 +49,12 @@ pc_told x y rest more h k e =
 regroup : (a b c d e f g more : List ℕ) → (a ++ b ++ c ++ d ++ e ++ f ++ g) ++ more ≡ a ++ (b ++ (c ++ (d ++ (e ++ (f ++ (g ++ more))))))
 regroup a b c d e f g more = simp append_assoc
 
-pub joined : (old a b c d e f g s t u v w x k : List ℕ) → s ≡ old ++ a → t ≡ s ++ b → u ≡ t ++ c → v ≡ u ++ d → w ≡ v ++ e → x ≡ w ++ f → k ≡ x ++ g → k ≡ old ++ (a ++ b ++ c ++ d ++ e ++ f ++ g)
+pub joined : (old a b c d e f g s t u v w x k : List ℕ) → s ≡ old ++ a → t ≡ s ++ b → u ≡ t ++ c → v ≡ u ++ d → w ≡ v ++ e → x ≡ w ++ f → k
+    ≡ x ++ g → k ≡ old ++ (a ++ b ++ c ++ d ++ e ++ f ++ g)
 joined old a b c d e f g s t u v w x k p q r y z h i =
-    i ∙ (ap (λ (l : List ℕ). l ++ g) (h ∙ ap (λ (l : List ℕ). l ++ f) (z ∙ ap (λ (l : List ℕ). l ++ e) (y ∙ ap (λ (l : List ℕ). l ++ d) (r ∙ ap (λ (l : List ℕ). l ++ c) (q ∙ ap (λ (l : List ℕ). l ++ b) p))))) ∙ simp append_assoc)
+    i ∙ (ap (λ (l : List ℕ). l ++ g) (h ∙ ap (λ (l : List ℕ). l ++ f)
+    (z ∙ ap (λ (l : List ℕ). l ++ e) (y ∙ ap (λ (l : List ℕ). l ++ d)
+    (r ∙ ap (λ (l : List ℕ). l ++ c) (q ∙ ap (λ (l : List ℕ). l ++ b) p))))) ∙ simp append_assoc)
 
 context_on : Cpu → List ℕ → List ℕ
 context_on cpu more = cpu.memory.context ++ (cpu.memory.packet ++ more)
@@ -66,19 +73,23 @@ registers_on cpu more = words_saved 0 cpu.registers ++ drawn_on cpu more
 
 whole : (cpu : Cpu) (more : List ℕ) → cpu_saved cpu ++ more ≡ low_bytes 4 cpu.pc ++ registers_on cpu more
 unfolding cpu_saved context_on held_on frames_on drawn_on registers_on
-whole cpu more = regroup (low_bytes 4 cpu.pc) (words_saved 0 cpu.registers) (words_saved 0 (cpu.drawn ∷ [])) (frames_saved cpu.memory.frames) (spans_saved cpu.held) cpu.memory.context cpu.memory.packet more
+whole cpu more = regroup (low_bytes 4 cpu.pc) (words_saved 0 cpu.registers) (words_saved 0 (cpu.drawn ∷ []))
+    (frames_saved cpu.memory.frames) (spans_saved cpu.held) cpu.memory.context cpu.memory.packet more
 
 alone : (x : ℕ) → IsWord x → All IsWord (x ∷ [])
 alone x h = All-push IsWord [] x (All-nil IsWord) h
 
 module _ (cpu : Cpu) (more : List ℕ) (is : IsSavableState cpu) where
-  after_pc : (bytes rest : List ℕ) (pc : ℕ) → pc < 2 ^ 32 → bytes ≡ low_bytes 4 pc ++ rest → bytes ≡ cpu_saved cpu ++ more → (pc ≡ cpu.pc) × (rest ≡ registers_on cpu more)
+  after_pc : (bytes rest : List ℕ) (pc : ℕ) → pc < 2 ^ 32 → bytes ≡ low_bytes 4 pc ++ rest → bytes ≡ cpu_saved cpu ++ more → (pc ≡ cpu.pc) ×
+      (rest ≡ registers_on cpu more)
   after_pc bytes rest pc near read e = pc_told pc cpu.pc rest (registers_on cpu more) near is.pc (sym read ∙ (e ∙ whole cpu more))
 
-  after_registers : (rest behind registers : List ℕ) → length registers ≡ 11 → All IsWord registers → rest ≡ words_saved 0 registers ++ behind → rest ≡ registers_on cpu more
+  after_registers : (rest behind registers : List ℕ) → length registers ≡ 11 → All IsWord registers → rest ≡ words_saved 0 registers ++
+      behind → rest ≡ registers_on cpu more
       → (registers ≡ cpu.registers) × (behind ≡ drawn_on cpu more)
   unfolding registers_on
-  after_registers rest behind registers size fit read e = words_prefix 0 registers cpu.registers behind (drawn_on cpu more) (size ∙ sym is.count) fit is.words (sym read ∙ e)
+  after_registers rest behind registers size fit read e = words_prefix 0 registers cpu.registers behind (drawn_on cpu more)
+      (size ∙ sym is.count) fit is.words (sym read ∙ e)
 
   after_drawn : (rest behind : List ℕ) (drawn : ℕ) → IsWord drawn → rest ≡ words_saved 0 (drawn ∷ []) ++ behind → rest ≡ drawn_on cpu more
       → (drawn ≡ cpu.drawn) × (behind ≡ frames_on cpu more)
@@ -154,11 +165,16 @@ module _ (bytes : List ℕ) (cpu : Cpu) (more : List ℕ) (is : IsSavableState c
                 let long = ap length at6 ∙ length-append cpu.memory.packet more in
                 omega (arith, long)
 
-pub all_read : (cpu : Cpu) (bytes r1 r2 r3 r4 r5 r6 r7 : List ℕ) → bytes ≡ low_bytes 4 cpu.pc ++ r1 → r1 ≡ words_saved 0 cpu.registers ++ r2 → r2 ≡ words_saved 0 (cpu.drawn ∷ []) ++ r3
-    → r3 ≡ frames_saved cpu.memory.frames ++ r4 → r4 ≡ spans_saved cpu.held ++ r5 → r5 ≡ cpu.memory.context ++ r6 → r6 ≡ cpu.memory.packet ++ r7 → bytes ≡ cpu_saved cpu ++ r7
+pub all_read : (cpu : Cpu) (bytes r1 r2 r3 r4 r5 r6 r7 : List ℕ) → bytes ≡ low_bytes 4 cpu.pc ++ r1 → r1 ≡ words_saved 0 cpu.registers ++ r2
+    → r2 ≡ words_saved 0 (cpu.drawn ∷ []) ++ r3
+    → r3 ≡ frames_saved cpu.memory.frames ++ r4 → r4 ≡ spans_saved cpu.held ++ r5 → r5 ≡ cpu.memory.context ++ r6 → r6 ≡ cpu.memory.packet
+    ++ r7 → bytes ≡ cpu_saved cpu ++ r7
 unfolding context_on held_on frames_on drawn_on registers_on
 all_read cpu bytes r1 r2 r3 r4 r5 r6 r7 a b c d e f g =
-    a ∙ (ap (λ (l : List ℕ). low_bytes 4 cpu.pc ++ l) (b ∙ ap (λ (l : List ℕ). words_saved 0 cpu.registers ++ l) (c ∙ ap (λ (l : List ℕ). words_saved 0 (cpu.drawn ∷ []) ++ l) (d ∙ ap (λ (l : List ℕ). frames_saved cpu.memory.frames ++ l) (e ∙ ap (λ (l : List ℕ). spans_saved cpu.held ++ l) (f ∙ ap (λ (l : List ℕ). cpu.memory.context ++ l) g))))) ∙ sym (whole cpu r7))
+    a ∙ (ap (λ (l : List ℕ). low_bytes 4 cpu.pc ++ l) (b ∙ ap (λ (l : List ℕ). words_saved 0 cpu.registers ++ l)
+    (c ∙ ap (λ (l : List ℕ). words_saved 0 (cpu.drawn ∷ []) ++ l)
+    (d ∙ ap (λ (l : List ℕ). frames_saved cpu.memory.frames ++ l)
+    (e ∙ ap (λ (l : List ℕ). spans_saved cpu.held ++ l) (f ∙ ap (λ (l : List ℕ). cpu.memory.context ++ l) g))))) ∙ sym (whole cpu r7))
 
 -- equal bytes are those of equal states
 pub cpus_told : (cpu other : Cpu) (rest more : List ℕ) → IsSavableState cpu → IsSavableState other → IsOfOneJob other cpu
@@ -173,5 +189,16 @@ cpus_told cpu other rest more is k job e =
     let near = same_fronts cpu.memory.context other.memory.context (cpu.memory.packet ++ rest) (other.memory.packet ++ more) job.1 f.1 in
     let last = same_fronts cpu.memory.packet other.memory.packet rest more job.3 near.1 in
     let number = job.0 in
-    let given = job.2 in
-    (λ j. record { registers = b.0 j; number = number j; pc = a.0 j; memory = record { frames = d.0 j; context = near.0 j; packet = last.0 j }; held = f.0 j; given = given j; drawn = c.0 j }, last.1)
+    let given = job.2 in (
+      λ j. record {
+        registers = b.0 j;
+        number = number j;
+        pc = a.0 j;
+        memory = record
+            { frames = d.0 j; context = near.0 j; packet = last.0 j };
+        held = f.0 j;
+        given = given j;
+        drawn = c.0 j;
+      },
+      last.1,
+    )

@@ -1,5 +1,7 @@
 -- The turns of a session, in run lengths.
-use Rattle.std.proofs.Common.{◌≡◌, ℕ, zero, suc, ◌+◌, ◌-◌, ◌<◌, ◌≤◌, take, Bool, true, false, ◌&&◌, List, [], ◌∷◌, ◌++◌, length, drop, get_or, Option, Some, None, refl, sym, ap, subst, ◌∙◌, arith, append_assoc, append-nil, replicate, if◌then◌else◌}
+use Rattle.std.proofs.Common.{◌≡◌, ℕ, zero, suc, ◌+◌, ◌-◌, ◌<◌, ◌≤◌, take, Bool, true, false, ◌&&◌, List, [], ◌∷◌, ◌++◌, length, drop}
+use Rattle.std.proofs.Common.{get_or, Option, Some, None, refl, sym, ap, subst, ◌∙◌, arith, append_assoc, append-nil, replicate}
+use Rattle.std.proofs.Common.{if◌then◌else◌}
 use Rattle.std.specs.Prelude.{◌==◌, nat_lt, slice_set}
 use Rattle.std.specs.List.{list_all}
 use Rattle.std.proofs.lemmas.Bool.{and_parts, ltb-true, eqb-true, eq-eqb, ne_eqb, le-leb, lt-ltb, le-ltb}
@@ -39,7 +41,8 @@ pub keeps_lost : (old : Option (List (ℕ × ℕ))) (more : List ℕ) → KeepsO
 keeps_lost old more turns kept = tt
 
 -- where all turns are kept, as the flag says
-pub keeps_whole : (b : Bool) (old : Option (List (ℕ × ℕ))) (runs new : List (ℕ × ℕ)) (c : ℕ) → b ≡ true → (if b then Some runs else None) ≡ old → new ≡ with_turn runs c
+pub keeps_whole : (b : Bool) (old : Option (List (ℕ × ℕ))) (runs new : List (ℕ × ℕ)) (c : ℕ) → b ≡ true → (if b then Some runs else None) ≡
+    old → new ≡ with_turn runs c
     → KeepsOn old (c ∷ []) (if b then Some new else None)
 keeps_whole true old runs new c whole was is = subst (λ (o : Option (List (ℕ × ℕ))). KeepsOn o (c ∷ []) (Some new)) was (keeps_one runs new c is)
 keeps_whole false old runs new c whole was is = absurd cc
@@ -167,16 +170,20 @@ last_undone (run ∷ next ∷ runs) last d (suc n) some size is =
     (u.0, λ more. ap (λ (rs : List (ℕ × ℕ)). run ∷ rs) (u.1 more), λ few. ap (λ (rs : List (ℕ × ℕ)). run ∷ rs) (u.2 few))
 
 -- of the last of some runs, which has more turns than one, or one
-pub drops_one : (old new : List (ℕ × ℕ)) (last : ℕ × ℕ) (n : ℕ) → n + 1 ≡ length old → last ≡ get_or old n last → 1 < last.1 → new ≡ slice_set old n (last.0, last.1 - 1) → DropsTurn old new last.0
+pub drops_one : (old new : List (ℕ × ℕ)) (last : ℕ × ℕ) (n : ℕ) → n + 1 ≡ length old → last ≡ get_or old n last → 1 < last.1 → new ≡
+    slice_set old n (last.0, last.1 - 1) → DropsTurn old new last.0
 drops_one old new last n size is more put runs d some was =
     let U : List (ℕ × ℕ) → Type 0 = λ rs. (last.0 ≡ d) × (1 < last.1 → slice_set rs n (last.0, last.1 - 1) ≡ runs) × (last.1 ≤ 1 → take n rs ≡ runs) in
-    let u = subst U (sym was) (last_undone runs last d n some (size ∙ ap (λ (rs : List (ℕ × ℕ)). length rs) was) (is ∙ ap (λ (rs : List (ℕ × ℕ)). get_or rs n last) was)) in
+    let u = subst U (sym was) (last_undone runs last d n some (size ∙ ap (λ (rs : List (ℕ × ℕ)). length rs) was)
+    (is ∙ ap (λ (rs : List (ℕ × ℕ)). get_or rs n last) was)) in
     (put ∙ u.1 more, u.0)
 
-pub drops_run : (old new : List (ℕ × ℕ)) (last : ℕ × ℕ) (n : ℕ) → n + 1 ≡ length old → last ≡ get_or old n last → last.1 ≤ 1 → new ≡ take n old → DropsTurn old new last.0
+pub drops_run : (old new : List (ℕ × ℕ)) (last : ℕ × ℕ) (n : ℕ) → n + 1 ≡ length old → last ≡ get_or old n last → last.1 ≤ 1 → new ≡ take n
+    old → DropsTurn old new last.0
 drops_run old new last n size is few put runs d some was =
     let U : List (ℕ × ℕ) → Type 0 = λ rs. (last.0 ≡ d) × (1 < last.1 → slice_set rs n (last.0, last.1 - 1) ≡ runs) × (last.1 ≤ 1 → take n rs ≡ runs) in
-    let u = subst U (sym was) (last_undone runs last d n some (size ∙ ap (λ (rs : List (ℕ × ℕ)). length rs) was) (is ∙ ap (λ (rs : List (ℕ × ℕ)). get_or rs n last) was)) in
+    let u = subst U (sym was) (last_undone runs last d n some (size ∙ ap (λ (rs : List (ℕ × ℕ)). length rs) was)
+    (is ∙ ap (λ (rs : List (ℕ × ℕ)). get_or rs n last) was)) in
     (put ∙ u.2 few, u.0)
 
 -- there is a last one
@@ -218,8 +225,10 @@ kept_runs false old runs told is kept = let both : None ≡ Some told = is ∙ k
 pub unrolled_more : (run : ℕ × ℕ) (runs : List (ℕ × ℕ)) → length (unrolled (run ∷ runs)) ≡ run.1 + length (unrolled runs)
 unrolled_more run runs = length-append (replicate run.1 run.0) (unrolled runs) ∙ ap (λ (k : ℕ). k + length (unrolled runs)) (length-replicate run.1 run.0)
 
-pub left_next : (runs : List (ℕ × ℕ)) (at : ℕ) → at < length runs → length (unrolled (drop at runs)) ≡ (get_or runs at (0, 0)).1 + length (unrolled (drop (at + 1) runs))
-left_next runs at inside = ap (λ (rs : List (ℕ × ℕ)). length (unrolled rs)) (run_next runs at inside) ∙ unrolled_more (get_or runs at (0, 0)) (drop (at + 1) runs)
+pub left_next : (runs : List (ℕ × ℕ)) (at : ℕ) → at < length runs → length (unrolled (drop at runs)) ≡ (get_or runs at (0, 0)).1 + length
+    (unrolled (drop (at + 1) runs))
+left_next runs at inside = ap (λ (rs : List (ℕ × ℕ)). length (unrolled rs)) (run_next runs at inside) ∙ unrolled_more
+    (get_or runs at (0, 0)) (drop (at + 1) runs)
 
 pub left_none : (runs : List (ℕ × ℕ)) (at : ℕ) → length runs ≤ at → length (unrolled (drop at runs)) ≡ 0
 left_none runs at past = ap (λ (rs : List (ℕ × ℕ)). length (unrolled rs)) (none_left runs at past)

@@ -1,5 +1,6 @@
 -- How far a `go` has come, turn by turn.
-use Rattle.std.proofs.Common.{◌≡◌, ℕ, ◌+◌, ◌*◌, ◌<◌, ◌≤◌, Bool, true, false, ◌||◌, List, [], ◌∷◌, ◌++◌, length, get_or, inl, inr, ◌⊎◌, refl, sym, ap, subst, ◌∙◌, arith, append_assoc, replicate}
+use Rattle.std.proofs.Common.{◌≡◌, ℕ, ◌+◌, ◌*◌, ◌<◌, ◌≤◌, Bool, true, false, ◌||◌, List, [], ◌∷◌, ◌++◌, length, get_or, inl, inr, ◌⊎◌, refl}
+use Rattle.std.proofs.Common.{sym, ap, subst, ◌∙◌, arith, append_assoc, replicate}
 use Rattle.std.specs.Prelude.{codes, slice_set, ◌==◌, nat_lt, IfSome, IfNone, Option, Some, None}
 use Rattle.std.proofs.lemmas.List.{get_or-replicate, get_or-set_same, get_or-set_other, append-nil}
 use Rattle.std.proofs.lemmas.Bool.{eq-eqb, ne_eqb, cases_lt, cases_order, le-ltb, lt-ltb}
@@ -56,7 +57,8 @@ same_count a b same = elim (cases_order a b) [
 pub count_is : (m : MachineState) (n : ℕ) → ((c : ℕ) → has_cpu m.store c ≡ nat_lt c n) → n ≡ length m.store.maps.runs
 count_is m n same = sym (same_count (length m.store.maps.runs) n same)
 
-pub up_here : (jobs : List Task) (low high «from» c : ℕ) → low ≤ «from» → («from» ≤ c) × (c < high) × HasWork jobs c × AreIdle jobs «from» c → IsUp jobs low high «from» c
+pub up_here : (jobs : List Task) (low high «from» c : ℕ) → low ≤ «from» → («from» ≤ c) × (c < high) × HasWork jobs c × AreIdle jobs «from» c
+    → IsUp jobs low high «from» c
 up_here jobs low high «from» c below found = record { above = omega (arith, found.0); within = found.1; works = found.2; first = inl (found.0, found.3) }
 
 pub up_again : (jobs : List Task) (low high least «from» c : ℕ) → least ≤ high → least ≤ «from» → AreIdle jobs «from» high
@@ -64,7 +66,8 @@ pub up_again : (jobs : List Task) (low high least «from» c : ℕ) → least �
 up_again jobs low high least «from» c small few none found =
     record { above = found.0; within = omega (arith, found.1); works = found.2; first = inr (omega (arith, found.1), none, found.3) }
 
-pub all_idle : (jobs : List Task) (low high least «from» : ℕ) → (least ≡ «from») ⊎ (least ≡ high) → AreIdle jobs «from» high → AreIdle jobs low least → AreIdle jobs low high
+pub all_idle : (jobs : List Task) (low high least «from» : ℕ) → (least ≡ «from») ⊎ (least ≡ high) → AreIdle jobs «from» high → AreIdle jobs
+    low least → AreIdle jobs low high
 all_idle jobs low high least «from» is beyond before d above below = elim (cases_lt d least) [
   | inl less ↦ before d above less
   | inr past ↦ elim is [ inl same ↦ beyond d (omega arith) below | inr same ↦ absurd (omega arith) ]
@@ -106,7 +109,8 @@ abbrev pub Comes : List Breakpoint → Option Watched → ℕ → ℕ → Notes 
 Comes breaks watch low high noted old before new «from» marks notes after =
     (w : World) → Shows old w → Reached breaks watch low high noted w before new «from» marks notes after
 
-pub starts : (breaks : List Breakpoint) (watch : Option Watched) (low high : ℕ) (noted : Notes) (old : MachineState) (before : List ℕ) → Comes breaks watch low high noted old before old low (replicate 256 false) noted before
+pub starts : (breaks : List Breakpoint) (watch : Option Watched) (low high : ℕ) (noted : Notes) (old : MachineState) (before : List ℕ) →
+    Comes breaks watch low high noted old before old low (replicate 256 false) noted before
 starts breaks watch low high noted old before w shows = record {
   here = w;
   turns = [];
@@ -131,11 +135,14 @@ marked_more marks gone c inside was d small = elim (equal_or_not d c) [
       let gone_now : has_gone (c ∷ gone) c ≡ true = has_gone-cons c gone c ∙ ap (λ (b : Bool). b || has_gone gone c) (eq-eqb c c refl) in
       subst P (sym e) (get_or-set_same marks c true false inside ∙ sym gone_now)
   | inr ne ↦
-      let others : has_gone (c ∷ gone) d ≡ has_gone gone d = has_gone-cons c gone d ∙ ap (λ (b : Bool). b || has_gone gone d) (ne_eqb c d (λ (e : c ≡ d). ne (sym e))) in
+      let others : has_gone (c ∷ gone) d ≡ has_gone gone d = has_gone-cons c gone d ∙ ap (λ (b : Bool). b || has_gone gone d)
+      (ne_eqb c d (λ (e : c ≡ d). ne (sym e))) in
       get_or-set_other marks c d true false ne ∙ was d small ∙ sym others
 ]
 
-module _ (breaks : List Breakpoint) (watch : Option Watched) (low high : ℕ) (noted : Notes) (old new : MachineState) (before : List ℕ) («from» : ℕ) (marks : List Bool) (notes : Notes) (after : List ℕ) (comes : Comes breaks watch low high noted old before new «from» marks notes after) where
+module _ (breaks : List Breakpoint) (watch : Option Watched) (low high : ℕ) (noted : Notes) (old new : MachineState) (before : List ℕ)
+    («from» : ℕ) (marks : List Bool) (notes : Notes) (after : List ℕ)
+    (comes : Comes breaks watch low high noted old before new «from» marks notes after) where
   -- it may make a turn
   free : (c : ℕ) → c < 256 → ((get_or marks c false ≡ false) ⊎ ((p : ℕ) × StandsAt new.jobs c p × (has_break breaks c p ≡ false)))
       → (gone : List ℕ) (here : World) → Shows new here → ((d : ℕ) → d < 256 → get_or marks d false ≡ has_gone gone d)
@@ -179,7 +186,8 @@ module _ (breaks : List Breakpoint) (watch : Option Watched) (low high : ℕ) (n
   -- what a `go` has made of the machine and the notes, and its text
   abbrev pub Leads : MachineState → Notes → List ℕ → Type 0
   Leads final kept last =
-      (w : World) → Shows old w → (z : World) × (turns : List ℕ) × (text : List ℕ) × Goes breaks watch low high w low [] turns text z × Shows final z × KeepsOn noted turns kept × (last ≡ before ++ text)
+      (w : World) → Shows old w → (z : World) × (turns : List ℕ) × (text : List ℕ) × Goes breaks watch low high w low [] turns text z ×
+      Shows final z × KeepsOn noted turns kept × (last ≡ before ++ text)
 
   abbrev pub Ends : List ℕ → Type 0
   Ends last = Leads new notes last
@@ -198,7 +206,8 @@ module _ (breaks : List Breakpoint) (watch : Option Watched) (low high : ℕ) (n
       let J : List Task → Type 0 = λ jobs. IsUp jobs low high «from» c in
       let is_up = subst J (sym r.shows.jobs) up in
       let line = ended_text c answer ++ changed_line c in
-      let differs : watched_values watch t.0.store ≡ watched_values watch r.here.store → ⊥ = λ e. other t.0.store t.2.sound t.2.store (e ∙ was r.here.store r.shows.sound r.shows.store) in (
+      let differs : watched_values watch t.0.store ≡ watched_values watch r.here.store → ⊥ = λ e. other t.0.store t.2.sound t.2.store
+      (e ∙ was r.here.store r.shows.sound r.shows.store) in (
         t.0,
         r.turns ++ c ∷ [],
         r.text ++ line,
@@ -239,7 +248,8 @@ module _ (breaks : List Breakpoint) (watch : Option Watched) (low high : ℕ) (n
       )
 
 -- ---- the measure, and the room
-pub falls : TurnsFall → (breaks : List Breakpoint) (watch : Option Watched) (low high : ℕ) (noted notes : Notes) (old new next : MachineState) (before after : List ℕ) («from» : ℕ) (marks : List Bool) (c : ℕ) (answer : Turn)
+pub falls : TurnsFall → (breaks : List Breakpoint) (watch : Option Watched) (low high : ℕ) (noted notes : Notes)
+    (old new next : MachineState) (before after : List ℕ) («from» : ℕ) (marks : List Bool) (c : ℕ) (answer : Turn)
     → (w : World) → Shows old w → Comes breaks watch low high noted old before new «from» marks notes after
     → ((w : World) → Shows new w → (z : World) × TakesTurn w c answer z × Shows next z)
     → Falls answer new.jobs next.jobs
@@ -251,7 +261,8 @@ falls law breaks watch low high noted notes old new next before after «from» m
     let Q : List Task → Type 0 = λ jobs. Falls answer new.jobs jobs in
     subst Q t.2.jobs (subst P r.shows.jobs f)
 
-pub not_idle : (breaks : List Breakpoint) (watch : Option Watched) (low high : ℕ) (noted notes : Notes) (old new next : MachineState) (before after : List ℕ) («from» : ℕ) (marks : List Bool) (c : ℕ) (answer : Turn)
+pub not_idle : (breaks : List Breakpoint) (watch : Option Watched) (low high : ℕ) (noted notes : Notes) (old new next : MachineState)
+    (before after : List ℕ) («from» : ℕ) (marks : List Bool) (c : ℕ) (answer : Turn)
     → (w : World) → Shows old w → Comes breaks watch low high noted old before new «from» marks notes after → HasWork new.jobs c
     → ((w : World) → Shows new w → (z : World) × TakesTurn w c answer z × Shows next z)
     → answer ≡ turn.Idle → ⊥
@@ -283,8 +294,10 @@ room_left (turn.Ended j end) old new size more room wide f works fits grows most
 room_left turn.Idle old new size more room wide f works fits grows most none = absurd (works refl)
 
 -- ---- the turns of a `go` are a schedule
-pub goes_runs : (breaks : List Breakpoint) (watch : Option Watched) (low high : ℕ) (w : World) («from» : ℕ) (gone turns text : List ℕ) (z : World) → Goes breaks watch low high w «from» gone turns text z → RunsSchedule w turns z
+pub goes_runs : (breaks : List Breakpoint) (watch : Option Watched) (low high : ℕ) (w : World) («from» : ℕ) (gone turns text : List ℕ)
+    (z : World) → Goes breaks watch low high w «from» gone turns text z → RunsSchedule w turns z
 goes_runs breaks watch low high w «from» gone turns text z (Done idle) = refl
 goes_runs breaks watch low high w «from» gone turns text z (Stops up went stands break) = refl
-goes_runs breaks watch low high w «from» gone turns text z (Turns {answer = answer} {m = m} up may takes still goes) = (answer, m, takes, goes_runs breaks watch low high m _ _ _ _ z goes)
+goes_runs breaks watch low high w «from» gone turns text z (Turns {answer = answer} {m = m} up may takes still goes) =
+    (answer, m, takes, goes_runs breaks watch low high m _ _ _ _ z goes)
 goes_runs breaks watch low high w «from» gone turns text z (Changes {answer = answer} {m = m} up may takes differs) = (answer, m, takes, refl)

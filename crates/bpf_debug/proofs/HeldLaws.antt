@@ -5,7 +5,8 @@ use Rattle.bpf_shared.specs.Store.{Plain}
 use Rattle.bpf_cpu.specs.declared.cpu.Cpu.{Cpu}
 use Rattle.bpf_debug.specs.Held.{IsHeldLine, TellsHeld, span_of}
 
-pub held_more : (names : List (List ℕ)) (s : Plain) (state : Cpu) (n : ℕ) (p : Span) (old new line : List ℕ) → p ≡ span_of state.held n → TellsHeld names s state n old
+pub held_more : (names : List (List ℕ)) (s : Plain) (state : Cpu) (n : ℕ) (p : Span) (old new line : List ℕ) → p ≡ span_of state.held n →
+    TellsHeld names s state n old
     → IsHeldLine names s state p line → new ≡ old ++ line → TellsHeld names s state (n + 1) new
 held_more names s state n p old new line is before one put =
     let all : TellsHeld names s state (suc n) new = (old, line, before, subst (λ (q : Span). IsHeldLine names s state q line) is one, put) in

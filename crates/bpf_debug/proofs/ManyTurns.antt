@@ -67,7 +67,8 @@ pub room_kept : (answer : Turn) (old new : List Task) (size more room wide : ℕ
     → (((j : ℕ) (end : Outcome) → answer ≡ turn.Ended j end → ⊥) → more ≡ size)
     → more + 128 * open_jobs new + 128 ≤ wide
 room_kept turn.Ran old new size more room wide f fits grows most none = room_left turn.Ran old new size more room wide f (λ e. cc) fits grows most none
-room_kept (turn.Ended j end) old new size more room wide f fits grows most none = room_left (turn.Ended j end) old new size more room wide f (λ e. cc) fits grows most none
+room_kept (turn.Ended j end) old new size more room wide f fits grows most none = room_left (turn.Ended j end) old new size more room wide f
+    (λ e. cc) fits grows most none
 room_kept turn.Idle old new size more room wide f fits grows most none =
     let same : more ≡ size = none (λ j end e. cc) in
     let opens : open_jobs new ≡ open_jobs old = ap (λ (jobs : List Task). open_jobs jobs) f in
@@ -89,7 +90,8 @@ RunsFar old runs start new rest after =
 pub no_run : (old : MachineState) (runs : List (ℕ × ℕ)) (start : List ℕ) → RunsFar old runs start old runs start
 no_run old runs start w shows = (w, [], shows, sym (append-nil start), λ more z made. made)
 
-pub one_run : (old new next : MachineState) (runs rest left : List (ℕ × ℕ)) (run : ℕ × ℕ) (start after last : List ℕ) → RunsFar old runs start new rest after → rest ≡ run ∷ left
+pub one_run : (old new next : MachineState) (runs rest left : List (ℕ × ℕ)) (run : ℕ × ℕ) (start after last : List ℕ) → RunsFar old runs
+    start new rest after → rest ≡ run ∷ left
     → Made new run.0 after next run.1 last → RunsFar old runs start next left last
 one_run old new next runs rest left run start after last far is made w shows =
     let f = far w shows in

@@ -10,14 +10,16 @@ use Rattle.bpf_machine.specs.Machine.{MachineState}
 use Rattle.bpf_machine.specs.Parts.{CanStand}
 use Rattle.bpf_debug.specs.Nearby.{IsLineAt, TellsLines}
 
-pub line_more : (program : Loaded) (here first n : ℕ) (old line new : List ℕ) → TellsLines program here first n old → IsLineAt program here (first + n) line → new ≡ old ++ line → TellsLines program here first (n + 1) new
+pub line_more : (program : Loaded) (here first n : ℕ) (old line new : List ℕ) → TellsLines program here first n old → IsLineAt program here
+    (first + n) line → new ≡ old ++ line → TellsLines program here first (n + 1) new
 line_more program here first n old line new before is put =
     let all : TellsLines program here first (suc n) new = (old, line, before, is, put) in
     let next : suc n ≡ n + 1 = omega arith in
     subst (λ (k : ℕ). TellsLines program here first k new) next all
 
 -- the CPU's pc is that of an instruction of the job's program
-pub starts_here : (m : MachineState) (c j : ℕ) (task other : Task) (state : Cpu) (left : ℕ) (program : Loaded) → CanStand m → IsAt m.jobs c j task (InHand state left)
+pub starts_here : (m : MachineState) (c j : ℕ) (task other : Task) (state : Cpu) (left : ℕ) (program : Loaded) → CanStand m → IsAt m.jobs c
+    j task (InHand state left)
     → slice_get m.jobs j ≡ Some other → slice_get m.programs other.program ≡ Some program → IsStart program.instructions state.pc
 starts_here m c j task other state left program stands at listed loaded =
     let fits = stands.hand c j task state left at in

@@ -1,5 +1,6 @@
 -- Over a machine whose jobs all wait, a script has one list of answers.
-use Rattle.std.proofs.Common.{◌≡◌, ◌≢◌, ℕ, zero, suc, ◌+◌, ◌<◌, ◌≤◌, Bool, true, false, ◌&&◌, if◌then◌else◌, List, [], ◌∷◌, ◌++◌, length, Option, Some, None, ◌⊎◌, inl, inr, refl, sym, ap, subst, ◌∙◌, arith, replicate}
+use Rattle.std.proofs.Common.{◌≡◌, ◌≢◌, ℕ, zero, suc, ◌+◌, ◌<◌, ◌≤◌, Bool, true, false, ◌&&◌, if◌then◌else◌, List, [], ◌∷◌, ◌++◌, length}
+use Rattle.std.proofs.Common.{Option, Some, None, ◌⊎◌, inl, inr, refl, sym, ap, subst, ◌∙◌, arith, replicate}
 use Rattle.std.specs.Prelude.{◌==◌, nat_lt, Ok, Err}
 use Rattle.std.proofs.lemmas.Bool.{cases_order, lt-ltb}
 use Rattle.bpf_shared.specs.Laws.{CallsHaveOneReply}
@@ -23,7 +24,9 @@ use Rattle.bpf_debug.specs.Recall.{Past, Recalls, IsLastText, is_of, past_after}
 use Rattle.bpf_debug.specs.Show.{IsShownText}
 use Rattle.bpf_debug.proofs.RecallLaws.{recalls_run}
 use Rattle.bpf_debug.specs.Answer.{IsWhere, changed_line, ended_text, stop_line, variable_watch_line, watch_line}
-use Rattle.bpf_debug.specs.Command.{Order, Break, Delete, Step, StepTimes, Steps, Go, Registers, Where, Memory, Map, Keys, Schedule, GoTo, Maps, Variables, Number, Jobs, Mark, Back, Help, Held, Nearby, Last, Show, Watch, WatchVariable, Unwatch, order_of}
+use Rattle.bpf_debug.specs.Command.{Order, Break, Delete, Step, StepTimes, Steps, Go, Registers, Where, Memory, Map, Keys, Schedule, GoTo}
+use Rattle.bpf_debug.specs.Command.{Maps, Variables, Number, Jobs, Mark, Back, Help, Held, Nearby, Last, Show, Watch, WatchVariable}
+use Rattle.bpf_debug.specs.Command.{Unwatch, order_of}
 use Rattle.bpf_debug.specs.Turns.{MakesTurns, MakesRuns, last_cpu}
 use Rattle.bpf_debug.specs.Go.{HasWork, AreIdle, IsUp, StandsAt, Goes, Done, Stops, Changes, Turns, has_break, has_gone}
 use Rattle.bpf_debug.specs.Watch.{Chosen, Watched, chosen_in, variable_watched, watched_values}
@@ -35,7 +38,8 @@ use Rattle.bpf_debug.specs.Script.{Answer, AnswersLine, RunsScript}
 use Rattle.bpf_debug.specs.Laws.{HadMemory, KeysHaveOwnValues, RecallsChangeNothing, ScriptsAreDetermined}
 use Rattle.bpf_debug.proofs.GoLaws.{free_has_no_work}
 use Rattle.bpf_debug.proofs.OwnScenes.{AreOwn, answer_keeps}
-use Rattle.bpf_debug.proofs.OneText.{one_place, IsSoundPast, off_free, one_off, one_where, one_registers, one_stand_text, one_shown_text, one_memory, one_held_text, one_nearby, one_name, one_table, one_table_keys}
+use Rattle.bpf_debug.proofs.OneText.{one_place, IsSoundPast, off_free, one_off, one_where, one_registers, one_stand_text, one_shown_text}
+use Rattle.bpf_debug.proofs.OneText.{one_memory, one_held_text, one_nearby, one_name, one_table, one_table_keys}
 
 -- ---- who is up
 idle_not_up : (jobs : List Task) (a b c : ℕ) → AreIdle jobs a b → HasWork jobs c → a ≤ c → c < b → ⊥
@@ -64,7 +68,8 @@ one_up jobs low high «from» c d a b = elim (cases_order c d) [
 no_cpu : (c cpus : ℕ) → c < cpus → nat_lt c cpus ≡ false → ⊥
 no_cpu c cpus less out = let both : true ≡ false = sym (lt-ltb c cpus less) ∙ out in cc
 
-cpu_refused : (x y : Scene) (order : Order) (text : List ℕ) → CarriesOut x order text y → RefusesOrder x.world.store.shape.cpus x.world.programs x.world.store.shape x.names (Some (length x.turns)) order error.NoCpu → ⊥
+cpu_refused : (x y : Scene) (order : Order) (text : List ℕ) → CarriesOut x order text y → RefusesOrder x.world.store.shape.cpus
+    x.world.programs x.world.store.shape x.names (Some (length x.turns)) order error.NoCpu → ⊥
 cpu_refused x y (Break (Some c) (Some p)) text f r = no_cpu c x.world.store.shape.cpus f.0 r
 cpu_refused x y (Break (Some c) None) text f r = absurd f
 cpu_refused x y (Break None p) text f r = absurd f
@@ -108,7 +113,8 @@ cpu_refused x y (Delete (Some c) (Some p)) text f r = no_cpu c x.world.store.sha
 cpu_refused x y (Delete (Some c) None) text f r = absurd f
 cpu_refused x y (Delete None p) text f r = absurd f
 
-pc_refused : (x y : Scene) (order : Order) (text : List ℕ) → CarriesOut x order text y → RefusesOrder x.world.store.shape.cpus x.world.programs x.world.store.shape x.names (Some (length x.turns)) order error.NoPc → ⊥
+pc_refused : (x y : Scene) (order : Order) (text : List ℕ) → CarriesOut x order text y → RefusesOrder x.world.store.shape.cpus
+    x.world.programs x.world.store.shape x.names (Some (length x.turns)) order error.NoPc → ⊥
 pc_refused x y (Break (Some c) (Some p)) text f r = r.1 f.1.0
 pc_refused x y (Break (Some c) None) text f r = absurd f
 pc_refused x y (Break None p) text f r = absurd f
@@ -143,7 +149,8 @@ pc_refused x y (Delete (Some c) (Some p)) text f r = r.1 f.1.0
 pc_refused x y (Delete (Some c) None) text f r = absurd f
 pc_refused x y (Delete None p) text f r = absurd f
 
-map_refused : (x y : Scene) (order : Order) (text : List ℕ) → CarriesOut x order text y → RefusesOrder x.world.store.shape.cpus x.world.programs x.world.store.shape x.names (Some (length x.turns)) order error.NoMap → ⊥
+map_refused : (x y : Scene) (order : Order) (text : List ℕ) → CarriesOut x order text y → RefusesOrder x.world.store.shape.cpus
+    x.world.programs x.world.store.shape x.names (Some (length x.turns)) order error.NoMap → ⊥
 map_refused x y (Map name) text f r = r f.0.0 f.0.1.0
 map_refused x y (Keys name) text f r = r f.0.0 f.0.1.0
 map_refused x y Schedule text f r = absurd r
@@ -172,12 +179,14 @@ map_refused x y (Registers c) text f r = absurd r
 map_refused x y (Where c) text f r = absurd r
 map_refused x y (Memory c at n) text f r = absurd r
 
-not_chosen : (h : Shape) (names : Names) (name word : List ℕ) (m n : ℕ) (c : Chosen) → IsNamed names.maps name m → IsNamed names.maps name n → chosen_in h m word ≡ Some c → chosen_in h n word ≡ None → ⊥
+not_chosen : (h : Shape) (names : Names) (name word : List ℕ) (m n : ℕ) (c : Chosen) → IsNamed names.maps name m → IsNamed names.maps name n
+    → chosen_in h m word ≡ Some c → chosen_in h n word ≡ None → ⊥
 not_chosen h names name word m n c named also some none =
     let both : Some c ≡ None = sym some ∙ ap (λ (k : ℕ). chosen_in h k word) (one_name names.maps name m n named also) ∙ none in
     cc
 
-turns_refused : (x y : Scene) (order : Order) (text : List ℕ) → CarriesOut x order text y → RefusesOrder x.world.store.shape.cpus x.world.programs x.world.store.shape x.names (Some (length x.turns)) order error.BadOperand → ⊥
+turns_refused : (x y : Scene) (order : Order) (text : List ℕ) → CarriesOut x order text y → RefusesOrder x.world.store.shape.cpus
+    x.world.programs x.world.store.shape x.names (Some (length x.turns)) order error.BadOperand → ⊥
 turns_refused x y (Back n) text f r = omega (arith, f.0, r)
 turns_refused x y (Map name) text f r = absurd r
 turns_refused x y (Keys name) text f r = absurd r
@@ -209,7 +218,8 @@ turns_refused x y (Memory c at n) text f r = absurd r
 same_order : (fields : List (List ℕ)) (a b : Order) → order_of fields ≡ Some a → order_of fields ≡ Some b → a ≡ b
 same_order fields a b e f = let both : Some a ≡ Some b = sym e ∙ f in cc
 
-line_refused : (x y : Scene) (fields : List (List ℕ)) (text : List ℕ) (e : DebugError) → Obeys x fields text y → e ≢ error.OutOfMemory → IsLineRefused x fields e → ⊥
+line_refused : (x y : Scene) (fields : List (List ℕ)) (text : List ℕ) (e : DebugError) → Obeys x fields text y → e ≢ error.OutOfMemory →
+    IsLineRefused x fields e → ⊥
 line_refused x y [] text error.BadCommand o memory r = r.0 refl
 line_refused x y [] text error.OutOfMemory o memory r = memory refl
 line_refused x y [] text error.NoCpu o memory r = let both : None ≡ Some r.0 = r.1 in cc
@@ -320,7 +330,8 @@ module _ (cpus : ℕ) (programs : List Loaded) (h : Shape) (names : Names) (coun
   pc_or_map (Nearby c) a b = absurd b
   pc_or_map (Delete c p) a b = absurd b
 
-  cpu_or_turns : (order : Order) → RefusesOrder cpus programs h names count order error.NoCpu → RefusesOrder cpus programs h names count order error.BadOperand → ⊥
+  cpu_or_turns : (order : Order) → RefusesOrder cpus programs h names count order error.NoCpu → RefusesOrder cpus programs h names count
+      order error.BadOperand → ⊥
   cpu_or_turns (Back n) a b = absurd a
   cpu_or_turns (Break c p) a b = absurd b
   cpu_or_turns (Step c) a b = absurd b
@@ -349,7 +360,8 @@ module _ (cpus : ℕ) (programs : List Loaded) (h : Shape) (names : Names) (coun
   cpu_or_turns (Nearby c) a b = absurd b
   cpu_or_turns (Delete c p) a b = absurd b
 
-  pc_or_turns : (order : Order) → RefusesOrder cpus programs h names count order error.NoPc → RefusesOrder cpus programs h names count order error.BadOperand → ⊥
+  pc_or_turns : (order : Order) → RefusesOrder cpus programs h names count order error.NoPc → RefusesOrder cpus programs h names count order
+      error.BadOperand → ⊥
   pc_or_turns (Back n) a b = absurd a
   pc_or_turns (Break c p) a b = absurd b
   pc_or_turns (Step c) a b = absurd b
@@ -378,7 +390,8 @@ module _ (cpus : ℕ) (programs : List Loaded) (h : Shape) (names : Names) (coun
   pc_or_turns (Nearby c) a b = absurd b
   pc_or_turns (Delete c p) a b = absurd b
 
-  map_or_turns : (order : Order) → RefusesOrder cpus programs h names count order error.NoMap → RefusesOrder cpus programs h names count order error.BadOperand → ⊥
+  map_or_turns : (order : Order) → RefusesOrder cpus programs h names count order error.NoMap → RefusesOrder cpus programs h names count
+      order error.BadOperand → ⊥
   map_or_turns (Back n) a b = absurd a
   map_or_turns (Break c p) a b = absurd b
   map_or_turns (Step c) a b = absurd b
@@ -415,19 +428,23 @@ module _ (cpus : ℕ) (programs : List Loaded) (h : Shape) (names : Names) (coun
     both_cpu_pc a b = cpu_or_pc b.0 (subst (λ (o : Order). RefusesOrder cpus programs h names count o error.NoCpu) (same_order fields a.0 b.0 a.1 b.1) a.2) b.2
 
     both_cpu_map : Why error.NoCpu → Why error.NoMap → ⊥
-    both_cpu_map a b = cpu_or_map b.0 (subst (λ (o : Order). RefusesOrder cpus programs h names count o error.NoCpu) (same_order fields a.0 b.0 a.1 b.1) a.2) b.2
+    both_cpu_map a b = cpu_or_map b.0 (subst (λ (o : Order). RefusesOrder cpus programs h names count o error.NoCpu)
+        (same_order fields a.0 b.0 a.1 b.1) a.2) b.2
 
     both_pc_map : Why error.NoPc → Why error.NoMap → ⊥
     both_pc_map a b = pc_or_map b.0 (subst (λ (o : Order). RefusesOrder cpus programs h names count o error.NoPc) (same_order fields a.0 b.0 a.1 b.1) a.2) b.2
 
     both_cpu_turns : Why error.NoCpu → Why error.BadOperand → ⊥
-    both_cpu_turns a b = cpu_or_turns b.0 (subst (λ (o : Order). RefusesOrder cpus programs h names count o error.NoCpu) (same_order fields a.0 b.0 a.1 b.1) a.2) b.2
+    both_cpu_turns a b = cpu_or_turns b.0 (subst (λ (o : Order). RefusesOrder cpus programs h names count o error.NoCpu)
+        (same_order fields a.0 b.0 a.1 b.1) a.2) b.2
 
     both_pc_turns : Why error.NoPc → Why error.BadOperand → ⊥
-    both_pc_turns a b = pc_or_turns b.0 (subst (λ (o : Order). RefusesOrder cpus programs h names count o error.NoPc) (same_order fields a.0 b.0 a.1 b.1) a.2) b.2
+    both_pc_turns a b = pc_or_turns b.0 (subst (λ (o : Order). RefusesOrder cpus programs h names count o error.NoPc)
+        (same_order fields a.0 b.0 a.1 b.1) a.2) b.2
 
     both_map_turns : Why error.NoMap → Why error.BadOperand → ⊥
-    both_map_turns a b = map_or_turns b.0 (subst (λ (o : Order). RefusesOrder cpus programs h names count o error.NoMap) (same_order fields a.0 b.0 a.1 b.1) a.2) b.2
+    both_map_turns a b = map_or_turns b.0 (subst (λ (o : Order). RefusesOrder cpus programs h names count o error.NoMap)
+        (same_order fields a.0 b.0 a.1 b.1) a.2) b.2
 
     bad : Why error.BadCommand → (order : Order) → order_of fields ≡ Some order → ⊥
     bad a order said = let both : None ≡ Some order = sym a.1 ∙ said in cc
@@ -464,7 +481,8 @@ module _ (cpus : ℕ) (programs : List Loaded) (h : Shape) (names : Names) (coun
 -- ---- what is done
 module _ (law : WritesAreDetermined) (begins : OneInstructionBegins) (replies : CallsHaveOneReply) where
   -- a CPU that has made a turn, and is at a breakpoint, makes no other
-  stops_here : (breaks : List Breakpoint) (w : World) (gone : List ℕ) (c d p : ℕ) → IsWorld w → c ≡ d → has_gone gone c ≡ true → StandsAt w.jobs c p → has_break breaks c p ≡ true
+  stops_here : (breaks : List Breakpoint) (w : World) (gone : List ℕ) (c d p : ℕ) → IsWorld w → c ≡ d → has_gone gone c ≡ true → StandsAt
+      w.jobs c p → has_break breaks c p ≡ true
       → (has_gone gone d ≡ false) ⊎ ((q : ℕ) × StandsAt w.jobs d q × (has_break breaks d q ≡ false)) → ⊥
   stops_here breaks w gone c d p world same went stands break (inl never) =
       let both : true ≡ false = sym went ∙ ap (has_gone gone) same ∙ never in cc
@@ -478,23 +496,35 @@ module _ (law : WritesAreDetermined) (begins : OneInstructionBegins) (replies : 
     worlds : y ≡ z
     world : IsWorld y
 
-  one_go : (breaks : List Breakpoint) (watch : Option Watched) (low high : ℕ) (w : World) («from» : ℕ) (gone turns others text other : List ℕ) (y z : World) → IsWorld w
-      → Goes breaks watch low high w «from» gone turns text y → Goes breaks watch low high w «from» gone others other z → (turns ≡ others) × OneGo text other y z
-  one_go breaks watch low high w «from» gone turns others text other y z world (Done idle) (Done still) = (refl, record { texts = refl; worlds = refl; world = world })
-  one_go breaks watch low high w «from» gone turns others text other y z world (Done idle) (Stops {c = c} up went stands break) = absurd (idle_not_up w.jobs low high c idle up.works up.above up.within)
-  one_go breaks watch low high w «from» gone turns others text other y z world (Done idle) (Turns {c = c} up may takes still goes) = absurd (idle_not_up w.jobs low high c idle up.works up.above up.within)
-  one_go breaks watch low high w «from» gone turns others text other y z world (Stops {c = c} up went stands break) (Done idle) = absurd (idle_not_up w.jobs low high c idle up.works up.above up.within)
-  one_go breaks watch low high w «from» gone turns others text other y z world (Stops {c = c} {p = p} up went stands break) (Stops {c = d} {p = q} up' went' stands' break') =
+  one_go : (breaks : List Breakpoint) (watch : Option Watched) (low high : ℕ) (w : World) («from» : ℕ)
+      (gone turns others text other : List ℕ) (y z : World) → IsWorld w
+      → Goes breaks watch low high w «from» gone turns text y → Goes breaks watch low high w «from» gone others other z → (turns ≡ others) ×
+      OneGo text other y z
+  one_go breaks watch low high w «from» gone turns others text other y z world (Done idle) (Done still) =
+      (refl, record { texts = refl; worlds = refl; world = world })
+  one_go breaks watch low high w «from» gone turns others text other y z world (Done idle) (Stops {c = c} up went stands break) = absurd
+      (idle_not_up w.jobs low high c idle up.works up.above up.within)
+  one_go breaks watch low high w «from» gone turns others text other y z world (Done idle) (Turns {c = c} up may takes still goes) = absurd
+      (idle_not_up w.jobs low high c idle up.works up.above up.within)
+  one_go breaks watch low high w «from» gone turns others text other y z world (Stops {c = c} up went stands break) (Done idle) = absurd
+      (idle_not_up w.jobs low high c idle up.works up.above up.within)
+  one_go breaks watch low high w «from» gone turns others text other y z world (Stops {c = c} {p = p} up went stands break)
+      (Stops {c = d} {p = q} up' went' stands' break') =
       let same : c ≡ d = one_up w.jobs low high «from» c d up up' in
       let P : ℕ → Type 0 = λ n. StandsAt w.jobs n q in
       let place : p ≡ q = one_place w world c p q stands (subst P (sym same) stands') in
       (refl, record { texts = ap (λ (n : ℕ). stop_line n p) same ∙ ap (stop_line d) place; worlds = refl; world = world })
-  one_go breaks watch low high w «from» gone turns others text other y z world (Stops {c = c} {p = p} up went stands break) (Turns {c = d} up' may takes still goes) =
+  one_go breaks watch low high w «from» gone turns others text other y z world (Stops {c = c} {p = p} up went stands break)
+      (Turns {c = d} up' may takes still goes) =
       absurd (stops_here breaks w gone c d p world (one_up w.jobs low high «from» c d up up') went stands break may)
-  one_go breaks watch low high w «from» gone turns others text other y z world (Turns {c = c} up may takes still goes) (Done idle) = absurd (idle_not_up w.jobs low high c idle up.works up.above up.within)
-  one_go breaks watch low high w «from» gone turns others text other y z world (Turns {c = d} up' may takes still goes) (Stops {c = c} {p = p} up went stands break) =
+  one_go breaks watch low high w «from» gone turns others text other y z world (Turns {c = c} up may takes still goes) (Done idle) = absurd
+      (idle_not_up w.jobs low high c idle up.works up.above up.within)
+  one_go breaks watch low high w «from» gone turns others text other y z world (Turns {c = d} up' may takes still goes)
+      (Stops {c = c} {p = p} up went stands break) =
       absurd (stops_here breaks w gone c d p world (one_up w.jobs low high «from» c d up up') went stands break may)
-  one_go breaks watch low high w «from» gone turns others text other y z world (Turns {c = c} {answer = answer} {m = m} {turns = ts} {text = more} up may takes still goes) (Turns {c = d} {answer = reply} {m = n} {turns = us} {text = rest} up' may' takes' still' goes') =
+  one_go breaks watch low high w «from» gone turns others text other y z world
+      (Turns {c = c} {answer = answer} {m = m} {turns = ts} {text = more} up may takes still goes)
+      (Turns {c = d} {answer = reply} {m = n} {turns = us} {text = rest} up' may' takes' still' goes') =
       let same : d ≡ c = one_up w.jobs low high «from» d c up' up in
       let P : ℕ → Type 0 = λ e. TakesTurn w e reply n in
       let one = one_turn law begins replies w c answer reply m n world takes (subst P same takes') in
@@ -510,13 +540,18 @@ module _ (law : WritesAreDetermined) (begins : OneInstructionBegins) (replies : 
           world = go.1.world;
         },
       )
-  one_go breaks watch low high w «from» gone turns others text other y z world (Done idle) (Changes {c = c} up may takes differs) = absurd (idle_not_up w.jobs low high c idle up.works up.above up.within)
-  one_go breaks watch low high w «from» gone turns others text other y z world (Changes {c = c} up may takes differs) (Done idle) = absurd (idle_not_up w.jobs low high c idle up.works up.above up.within)
-  one_go breaks watch low high w «from» gone turns others text other y z world (Stops {c = c} {p = p} up went stands break) (Changes {c = d} up' may takes differs) =
+  one_go breaks watch low high w «from» gone turns others text other y z world (Done idle) (Changes {c = c} up may takes differs) = absurd
+      (idle_not_up w.jobs low high c idle up.works up.above up.within)
+  one_go breaks watch low high w «from» gone turns others text other y z world (Changes {c = c} up may takes differs) (Done idle) = absurd
+      (idle_not_up w.jobs low high c idle up.works up.above up.within)
+  one_go breaks watch low high w «from» gone turns others text other y z world (Stops {c = c} {p = p} up went stands break)
+      (Changes {c = d} up' may takes differs) =
       absurd (stops_here breaks w gone c d p world (one_up w.jobs low high «from» c d up up') went stands break may)
-  one_go breaks watch low high w «from» gone turns others text other y z world (Changes {c = d} up' may takes differs) (Stops {c = c} {p = p} up went stands break) =
+  one_go breaks watch low high w «from» gone turns others text other y z world (Changes {c = d} up' may takes differs)
+      (Stops {c = c} {p = p} up went stands break) =
       absurd (stops_here breaks w gone c d p world (one_up w.jobs low high «from» c d up up') went stands break may)
-  one_go breaks watch low high w «from» gone turns others text other y z world (Changes {c = c} {answer = answer} {m = m} up may takes differs) (Changes {c = d} {answer = reply} {m = n} up' may' takes' differs') =
+  one_go breaks watch low high w «from» gone turns others text other y z world
+      (Changes {c = c} {answer = answer} {m = m} up may takes differs) (Changes {c = d} {answer = reply} {m = n} up' may' takes' differs') =
       let same : d ≡ c = one_up w.jobs low high «from» d c up' up in
       let P : ℕ → Type 0 = λ e. TakesTurn w e reply n in
       let one = one_turn law begins replies w c answer reply m n world takes (subst P same takes') in (
@@ -527,12 +562,14 @@ module _ (law : WritesAreDetermined) (begins : OneInstructionBegins) (replies : 
           world = one.world;
         },
       )
-  one_go breaks watch low high w «from» gone turns others text other y z world (Changes {c = c} {answer = answer} {m = m} up may takes differs) (Turns {c = d} {answer = reply} {m = n} up' may' takes' still' goes') =
+  one_go breaks watch low high w «from» gone turns others text other y z world
+      (Changes {c = c} {answer = answer} {m = m} up may takes differs) (Turns {c = d} {answer = reply} {m = n} up' may' takes' still' goes') =
       let same : d ≡ c = one_up w.jobs low high «from» d c up' up in
       let P : ℕ → Type 0 = λ e. TakesTurn w e reply n in
       let one = one_turn law begins replies w c answer reply m n world takes (subst P same takes') in
       absurd (differs (ap (λ (x : World). watched_values watch x.store) one.worlds ∙ still'))
-  one_go breaks watch low high w «from» gone turns others text other y z world (Turns {c = c} {answer = answer} {m = m} up may takes still goes) (Changes {c = d} {answer = reply} {m = n} up' may' takes' differs') =
+  one_go breaks watch low high w «from» gone turns others text other y z world
+      (Turns {c = c} {answer = answer} {m = m} up may takes still goes) (Changes {c = d} {answer = reply} {m = n} up' may' takes' differs') =
       let same : d ≡ c = one_up w.jobs low high «from» d c up' up in
       let P : ℕ → Type 0 = λ e. TakesTurn w e reply n in
       let one = one_turn law begins replies w c answer reply m n world takes (subst P same takes') in
@@ -551,7 +588,8 @@ module _ (law : WritesAreDetermined) (begins : OneInstructionBegins) (replies : 
         world = one.world;
       }
 
-  one_schedule : (w : World) (runs : List (ℕ × ℕ)) (text other : List ℕ) (y z : World) → IsWorld w → MakesRuns w runs text y → MakesRuns w runs other z → OneGo text other y z
+  one_schedule : (w : World) (runs : List (ℕ × ℕ)) (text other : List ℕ) (y z : World) → IsWorld w → MakesRuns w runs text y → MakesRuns w
+      runs other z → OneGo text other y z
   one_schedule w [] text other y z world a b =
       record { texts = a.0 ∙ sym b.0; worlds = a.1 ∙ sym b.1; world = subst (λ (v : World). IsWorld v) (sym a.1) world }
   one_schedule w (run ∷ runs) text other y z world a b =
@@ -571,7 +609,8 @@ module _ (law : WritesAreDetermined) (begins : OneInstructionBegins) (replies : 
     world : IsWorld y
     sound : IsSoundPast past
 
-  sound_after : (b : Bool) (w : World) (answer : Turn) (old : Option Past) → IsWorld w → IsSoundPast old → IsSoundPast (if b then Some (record { before = w; answer = answer }) else old)
+  sound_after : (b : Bool) (w : World) (answer : Turn) (old : Option Past) → IsWorld w → IsSoundPast old → IsSoundPast
+      (if b then Some (record { before = w; answer = answer }) else old)
   sound_after true w answer old world sound = world
   sound_after false w answer old world sound = sound
 
@@ -590,12 +629,14 @@ module _ (law : WritesAreDetermined) (begins : OneInstructionBegins) (replies : 
       one_recall k c a.1 (past_after k c w d a.0 old) turns past other y z one.world (sound_after ((d == c) && is_of k a.0) w a.0 old world sound) a.3
       (subst Q (sym one.answers) (subst P (sym one.worlds) b.3))
 
-  one_last : (c : ℕ) (past : Option Past) (w : World) (text other : List ℕ) → IsWorld w → IsSoundPast past → IsLastText c past w.jobs text → IsLastText c past w.jobs other → text ≡ other
+  one_last : (c : ℕ) (past : Option Past) (w : World) (text other : List ℕ) → IsWorld w → IsSoundPast past → IsLastText c past w.jobs text →
+      IsLastText c past w.jobs other → text ≡ other
   one_last c None w text other world sound a b = one_where w world c text other a b
   one_last c (Some past) w text other world sound a b =
       a.2 ∙ ap (λ (t : List ℕ). ended_text c past.answer ++ t) (one_stand_text past.before sound c a.0 b.0 a.1 b.1) ∙ sym b.2
 
-  same_again : (k : Kind) (c : ℕ) (x y : Scene) (past : Option Past) (m : World) → IsFresh x.first → IsCourse x → Recalls k c x.first None x.turns past m → y ≡ record x { world = m } → y ≡ x
+  same_again : (k : Kind) (c : ℕ) (x y : Scene) (past : Option Past) (m : World) → IsFresh x.first → IsCourse x → Recalls k c x.first None
+      x.turns past m → y ≡ record x { world = m } → y ≡ x
   same_again k c x y past m fresh course again is =
       let first = fresh_world law begins replies x.first fresh in
       is ∙ ap (λ (w : World). record x { world = w })
@@ -616,7 +657,8 @@ module _ (law : WritesAreDetermined) (begins : OneInstructionBegins) (replies : 
     first : IsWorld y.first
 
   -- a question has one answer
-  one_answer_to : (x : Scene) (order : Order) (text other : List ℕ) → IsWorld x.world → KeysHaveOwnValues x.world.store → Answers x order text → Answers x order other → text ≡ other
+  one_answer_to : (x : Scene) (order : Order) (text other : List ℕ) → IsWorld x.world → KeysHaveOwnValues x.world.store → Answers x order
+      text → Answers x order other → text ≡ other
   one_answer_to x (Registers (Some c)) text other world own a b = one_registers x.world world c text other a.1 b.1
   one_answer_to x (Registers None) text other world own a b = absurd a
   one_answer_to x (Where (Some c)) text other world own a b = one_where x.world world c text other a.1 b.1
@@ -659,7 +701,8 @@ module _ (law : WritesAreDetermined) (begins : OneInstructionBegins) (replies : 
   one_answer_to x (Steps runs) text other world own a b = absurd a
   one_answer_to x Go text other world own a b = absurd a
 
-  asked : (x y z : Scene) (order : Order) (text other : List ℕ) → IsWorld x.world → IsWorld x.first → KeysHaveOwnValues x.world.store → Answers x order text × (y ≡ x) → Answers x order other × (z ≡ x) → OneEnd text other y z
+  asked : (x y z : Scene) (order : Order) (text other : List ℕ) → IsWorld x.world → IsWorld x.first → KeysHaveOwnValues x.world.store →
+      Answers x order text × (y ≡ x) → Answers x order other × (z ≡ x) → OneEnd text other y z
   asked x y z order text other world first own a b = record {
     texts = one_answer_to x order text other world own a.0 b.0;
     scenes = a.1 ∙ sym b.1;
@@ -667,7 +710,8 @@ module _ (law : WritesAreDetermined) (begins : OneInstructionBegins) (replies : 
     first = subst (λ (s : Scene). IsWorld s.first) (sym a.1) first;
   }
 
-  went_alike : (x y z : Scene) (turns others text other : List ℕ) (m n : World) → IsWorld x.first → (turns ≡ others) × OneGo text other m n → y ≡ behind x turns m → z ≡ behind x others n → OneEnd text other y z
+  went_alike : (x y z : Scene) (turns others text other : List ℕ) (m n : World) → IsWorld x.first → (turns ≡ others) × OneGo text other m n
+      → y ≡ behind x turns m → z ≡ behind x others n → OneEnd text other y z
   went_alike x y z turns others text other m n first both a b = record {
     texts = both.1.texts;
     scenes = a ∙ ap (λ (w : World). behind x turns w) both.1.worlds ∙ ap (λ (cs : List ℕ). behind x cs n) both.0 ∙ sym b;
@@ -675,7 +719,8 @@ module _ (law : WritesAreDetermined) (begins : OneInstructionBegins) (replies : 
     first = subst (λ (s : Scene). IsWorld s.first) (sym a) first;
   }
 
-  one_follow : (x y z : Scene) (order : Order) (text other : List ℕ) → IsWorld x.world → IsWorld x.first → KeysHaveOwnValues x.world.store → CarriesOut x order text y → CarriesOut x order other z → OneEnd text other y z
+  one_follow : (x y z : Scene) (order : Order) (text other : List ℕ) → IsWorld x.world → IsWorld x.first → KeysHaveOwnValues x.world.store →
+      CarriesOut x order text y → CarriesOut x order other z → OneEnd text other y z
   one_follow x y z (Break (Some c) (Some p)) text other world first own a b = record {
     texts = a.1.1 ∙ sym b.1.1;
     scenes = a.1.2 ∙ sym b.1.2;
@@ -790,8 +835,10 @@ module _ (law : WritesAreDetermined) (begins : OneInstructionBegins) (replies : 
     world = subst (λ (s : Scene). IsWorld s.world) (sym a.1) world;
     first = subst (λ (s : Scene). IsWorld s.first) (sym a.1) first;
   }
-  one_follow x y z (Show (Some c)) text other world first own (has, inl a) (had, inr b) = absurd (off_free x.world.jobs c text a.0 b.3.0 b.3.1 b.3.2 b.3.3 b.3.6)
-  one_follow x y z (Show (Some c)) text other world first own (has, inr a) (had, inl b) = absurd (off_free x.world.jobs c other b.0 a.3.0 a.3.1 a.3.2 a.3.3 a.3.6)
+  one_follow x y z (Show (Some c)) text other world first own (has, inl a) (had, inr b) = absurd
+      (off_free x.world.jobs c text a.0 b.3.0 b.3.1 b.3.2 b.3.3 b.3.6)
+  one_follow x y z (Show (Some c)) text other world first own (has, inr a) (had, inl b) = absurd
+      (off_free x.world.jobs c other b.0 a.3.0 a.3.1 a.3.2 a.3.3 a.3.6)
   one_follow x y z (Show (Some c)) text other world first own (has, inr a) (had, inr b) =
       let one = one_recall kind.Works c x.first None x.turns a.0 b.0 a.1 b.1 first tt a.2 b.2 in
       let Q : Option Past → Type 0 = λ p. IsShownText c x.names p x.world other in
@@ -816,7 +863,8 @@ module _ (law : WritesAreDetermined) (begins : OneInstructionBegins) (replies : 
   one_follow x y z (Keys name) text other world first own a b = asked x y z (Keys name) text other world first own a b
   one_follow x y z Schedule text other world first own a b = asked x y z Schedule text other world first own a b
 
-  one_line : (x y z : Scene) (fields : List (List ℕ)) (text other : List ℕ) → IsWorld x.world → IsWorld x.first → KeysHaveOwnValues x.world.store → Obeys x fields text y → Obeys x fields other z → OneEnd text other y z
+  one_line : (x y z : Scene) (fields : List (List ℕ)) (text other : List ℕ) → IsWorld x.world → IsWorld x.first → KeysHaveOwnValues
+      x.world.store → Obeys x fields text y → Obeys x fields other z → OneEnd text other y z
   one_line x y z [] text other world first own a b = record {
     texts = a.0 ∙ sym b.0;
     scenes = a.1 ∙ sym b.1;
@@ -834,15 +882,19 @@ module _ (law : WritesAreDetermined) (begins : OneInstructionBegins) (replies : 
     world : IsWorld y.world
     first : IsWorld y.first
 
-  one_answer : (x y z : Scene) (line : List ℕ) (answer other : Answer) → IsWorld x.world → IsWorld x.first → KeysHaveOwnValues x.world.store → AnswersLine x line answer y → AnswersLine x line other z
+  one_answer : (x y z : Scene) (line : List ℕ) (answer other : Answer) → IsWorld x.world → IsWorld x.first → KeysHaveOwnValues x.world.store
+      → AnswersLine x line answer y → AnswersLine x line other z
       → answer ≢ Err error.OutOfMemory → other ≢ Err error.OutOfMemory → OneAnswer answer other y z
   one_answer x y z line (Ok text) (Ok other) world first own a b n m =
       let one = one_line x y z (fields_of line) text other world first own a b in
       record { answers = ap (λ (t : List ℕ). Ok t) one.texts; scenes = one.scenes; world = one.world; first = one.first }
-  one_answer x y z line (Ok text) (Err e) world first own a b n m = absurd (line_refused x y (fields_of line) text e a (λ is. m (ap (λ (f : DebugError). Err f) is)) b.0)
-  one_answer x y z line (Err e) (Ok text) world first own a b n m = absurd (line_refused x z (fields_of line) text e b (λ is. n (ap (λ (f : DebugError). Err f) is)) a.0)
+  one_answer x y z line (Ok text) (Err e) world first own a b n m = absurd
+      (line_refused x y (fields_of line) text e a (λ is. m (ap (λ (f : DebugError). Err f) is)) b.0)
+  one_answer x y z line (Err e) (Ok text) world first own a b n m = absurd
+      (line_refused x z (fields_of line) text e b (λ is. n (ap (λ (f : DebugError). Err f) is)) a.0)
   one_answer x y z line (Err e) (Err f) world first own a b n m =
-      let same = one_reason x.world.store.shape.cpus x.world.programs x.world.store.shape x.names (Some (length x.turns)) (fields_of line) e f (λ is. n (ap (λ (g : DebugError). Err g) is)) (λ is. m (ap (λ (g : DebugError). Err g) is)) a.0 b.0 in
+      let same = one_reason x.world.store.shape.cpus x.world.programs x.world.store.shape x.names (Some (length x.turns)) (fields_of line) e
+      f (λ is. n (ap (λ (g : DebugError). Err g) is)) (λ is. m (ap (λ (g : DebugError). Err g) is)) a.0 b.0 in
       record {
         answers = ap (λ (g : DebugError). Err g) same;
         scenes = a.1 ∙ sym b.1;
@@ -850,7 +902,8 @@ module _ (law : WritesAreDetermined) (begins : OneInstructionBegins) (replies : 
         first = subst (λ (s : Scene). IsWorld s.first) (sym a.1) first;
       }
 
-  one_script : (x y z : Scene) (lines : List (List ℕ)) (answers others : List Answer) → IsWorld x.world → IsWorld x.first → AreOwn x → RunsScript x lines answers y → RunsScript x lines others z
+  one_script : (x y z : Scene) (lines : List (List ℕ)) (answers others : List Answer) → IsWorld x.world → IsWorld x.first → AreOwn x →
+      RunsScript x lines answers y → RunsScript x lines others z
       → HadMemory answers → HadMemory others → (answers ≡ others) × (y ≡ z)
   one_script x y z [] [] [] world first own a b n m = (refl, a ∙ sym b)
   one_script x y z [] [] (c ∷ cs) world first own a b n m = absurd b

@@ -1,5 +1,6 @@
 -- What a question is answered is one text.
-use Rattle.std.proofs.Common.{◌≡◌, ℕ, zero, suc, ◌+◌, ◌-◌, true, false, List, [], ◌∷◌, ◌++◌, length, get_or, Option, Some, None, inl, inr, refl, sym, ap, subst, ◌∙◌, arith}
+use Rattle.std.proofs.Common.{◌≡◌, ℕ, zero, suc, ◌+◌, ◌-◌, true, false, List, [], ◌∷◌, ◌++◌, length, get_or, Option, Some, None, inl, inr}
+use Rattle.std.proofs.Common.{refl, sym, ap, subst, ◌∙◌, arith}
 use Rattle.std.specs.Prelude.{codes, slice_get, slice_index}
 use Rattle.std.proofs.lemmas.Bool.{cases_order}
 use Rattle.std.proofs.lemmas.List.{ext_get_or}
@@ -25,7 +26,8 @@ use Rattle.bpf_debug.specs.Show.{AreShownLines, IsBefore, IsShownLine, IsShownTe
 use Rattle.bpf_debug.specs.Nearby.{IsLineAt, IsNearbyText, TellsLines, count_shown, first_shown, nearby_line}
 use Rattle.bpf_debug.specs.Held.{IsHeldLine, IsHeldText, IsPlace, IsValueName, TellsHeld, held_line, span_of, value_name}
 use Rattle.bpf_debug.specs.Laws.{KeysHaveOwnValues}
-use Rattle.bpf_debug.specs.Read.{MayRead, MayNotRead, AreBytesAt, IsUnreadable, ShowsBytes, IsMemoryText, IsNamed, IsMapText, IsTableText, IsKeysText, AreKeysOf, array_named, indices_text, pair_lines, key_lines, values_text}
+use Rattle.bpf_debug.specs.Read.{MayRead, MayNotRead, AreBytesAt, IsUnreadable, ShowsBytes, IsMemoryText, IsNamed, IsMapText, IsTableText}
+use Rattle.bpf_debug.specs.Read.{IsKeysText, AreKeysOf, array_named, indices_text, pair_lines, key_lines, values_text}
 use Rattle.bpf_debug.proofs.OwnValues.{one_key}
 
 -- ---- where a CPU is
@@ -71,7 +73,8 @@ one_bytes s state a n bytes others x y =
     ext_get_or 0 bytes others (x.count ∙ sym y.count) (λ k inside.
     one_read s state (a + k) (get_or bytes k 0) (get_or others k 0) (x.each k (omega (arith, x.count))) (y.each k (omega (arith, x.count))))
 
-one_shown : (s : Plain) (state : Cpu) (at : Option ℕ) (n : ℕ) (text other : List ℕ) → ShowsBytes s state at n text → ShowsBytes s state at n other → text ≡ other
+one_shown : (s : Plain) (state : Cpu) (at : Option ℕ) (n : ℕ) (text other : List ℕ) → ShowsBytes s state at n text → ShowsBytes s state at n
+    other → text ≡ other
 one_shown s state None n text other a b = a ∙ sym b
 one_shown s state (Some at) n text other (inl a) (inl b) =
     a.2 ∙ ap (λ (bytes : List ℕ). encode_lower bytes ++ codes "\n") (one_bytes s state at n a.0 b.0 a.1 b.1) ∙ sym b.2
@@ -90,28 +93,33 @@ module _ (s : Plain) (sound : IsSoundStore s) (own : KeysHaveOwnValues s) where
   one_value_name : (names : List (List ℕ)) (at : ℕ) (name other : List ℕ) → IsValueName names s at name → IsValueName names s at other → name ≡ other
   one_value_name names at name other a b = a.2 ∙ ap (value_name names at) (one_place_text at a.0 b.0 a.1 b.1) ∙ sym b.2
 
-  one_held_line : (names : List (List ℕ)) (state : Cpu) (p : Span) (line other : List ℕ) → IsHeldLine names s state p line → IsHeldLine names s state p other → line ≡ other
+  one_held_line : (names : List (List ℕ)) (state : Cpu) (p : Span) (line other : List ℕ) → IsHeldLine names s state p line → IsHeldLine
+      names s state p other → line ≡ other
   one_held_line names state p line other a b =
       a.4 ∙ ap (λ (t : List ℕ). held_line t p.at a.1) (one_value_name names p.at a.0 b.0 a.2 b.2)
       ∙ ap (held_line b.0 p.at) (one_shown s state (Some p.at) p.size a.1 b.1 a.3 b.3) ∙ sym b.4
 
-  one_held_lines : (names : List (List ℕ)) (state : Cpu) (n : ℕ) (text other : List ℕ) → TellsHeld names s state n text → TellsHeld names s state n other → text ≡ other
+  one_held_lines : (names : List (List ℕ)) (state : Cpu) (n : ℕ) (text other : List ℕ) → TellsHeld names s state n text → TellsHeld names s
+      state n other → text ≡ other
   one_held_lines names state zero text other a b = a ∙ sym b
   one_held_lines names state (suc n) text other a b =
       let before = one_held_lines names state n a.0 b.0 a.2 b.2 in
       let line = one_held_line names state (span_of state.held n) a.1 b.1 a.3 b.3 in
       a.4 ∙ ap (λ (t : List ℕ). t ++ a.1) before ∙ ap (λ (t : List ℕ). b.0 ++ t) line ∙ sym b.4
 
-  one_words : (names : Names) (n : ℕ) (found : Option Span) (text other : List ℕ) → IsWordsIn names s n found text → IsWordsIn names s n found other → text ≡ other
+  one_words : (names : Names) (n : ℕ) (found : Option Span) (text other : List ℕ) → IsWordsIn names s n found text → IsWordsIn names s n
+      found other → text ≡ other
   one_words names n None text other a b = a ∙ sym b
   one_words names n (Some p) text other a b =
       a.2 ∙ ap (λ (t : List ℕ). place_words t (n - p.at)) (one_value_name names.maps p.at a.0 b.0 a.1 b.1) ∙ sym b.2
 
-  one_shown_line : (names : Names) (held : List Span) (k n : ℕ) (line other : List ℕ) → IsShownLine names s held k n line → IsShownLine names s held k n other → line ≡ other
+  one_shown_line : (names : Names) (held : List Span) (k n : ℕ) (line other : List ℕ) → IsShownLine names s held k n line → IsShownLine
+      names s held k n other → line ≡ other
   one_shown_line names held k n line other a b =
       a.2 ∙ ap (shown_line k n) (one_words names n (value_at held n) a.0 b.0 a.1 b.1) ∙ sym b.2
 
-  pub one_shown_lines : (names : Names) (held : List Span) (k : ℕ) (ns : List ℕ) (lines others : List (List ℕ)) → AreShownLines names s held k ns lines → AreShownLines names s held k ns others
+  pub one_shown_lines : (names : Names) (held : List Span) (k : ℕ) (ns : List ℕ) (lines others : List (List ℕ)) → AreShownLines names s held
+      k ns lines → AreShownLines names s held k ns others
       → lines ≡ others
   one_shown_lines names held k [] [] [] a b = refl
   one_shown_lines names held k [] [] (m ∷ ms) a b = absurd b
@@ -123,14 +131,16 @@ module _ (s : Plain) (sound : IsSoundStore s) (own : KeysHaveOwnValues s) where
       ∙ ap (λ (ts : List (List ℕ)). m ∷ ts) (one_shown_lines names held (suc k) ns ls ms a.1 b.1)
 
 -- ---- instructions
-one_line_at : OneInstructionBegins → (program : Loaded) (here pc : ℕ) (text other : List ℕ) → IsLineAt program here pc text → IsLineAt program here pc other → text ≡ other
+one_line_at : OneInstructionBegins → (program : Loaded) (here pc : ℕ) (text other : List ℕ) → IsLineAt program here pc text → IsLineAt
+    program here pc other → text ≡ other
 one_line_at begins program here pc text other (inl a) (inl b) =
     a.2 ∙ ap (nearby_line here pc) (begins program.instructions pc a.0 b.0 a.1 b.1) ∙ sym b.2
 one_line_at begins program here pc text other (inl a) (inr b) = absurd (b.0 (a.0, a.1))
 one_line_at begins program here pc text other (inr a) (inl b) = absurd (a.0 (b.0, b.1))
 one_line_at begins program here pc text other (inr a) (inr b) = a.1 ∙ sym b.1
 
-one_program_lines : OneInstructionBegins → (program : Loaded) (here first n : ℕ) (text other : List ℕ) → TellsLines program here first n text → TellsLines program here first n other → text ≡ other
+one_program_lines : OneInstructionBegins → (program : Loaded) (here first n : ℕ) (text other : List ℕ) → TellsLines program here first n
+    text → TellsLines program here first n other → text ≡ other
 one_program_lines begins program here first zero text other a b = a ∙ sym b
 one_program_lines begins program here first (suc n) text other a b =
     let before = one_program_lines begins program here first n a.0 b.0 a.2 b.2 in
@@ -144,7 +154,8 @@ module _ (w : World) (world : IsWorld w) where
     pub job : j ≡ k
     pub states : state ≡ now
 
-  pub one_hand : (c j k : ℕ) (task other : Task) (state now : Cpu) (left rest : ℕ) → IsAt w.jobs c j task (InHand state left) → IsAt w.jobs c k other (InHand now rest) → OneHand j k state now
+  pub one_hand : (c j k : ℕ) (task other : Task) (state now : Cpu) (left rest : ℕ) → IsAt w.jobs c j task (InHand state left) → IsAt w.jobs
+      c k other (InHand now rest) → OneHand j k state now
   one_hand c j k task other state now left rest a b =
       let job = world.one c j k task other state now left rest a b in
       let P : ℕ → Type 0 = λ i. slice_get w.jobs i ≡ Some other in
@@ -186,7 +197,8 @@ module _ (w : World) (world : IsWorld w) where
   one_stand_text c text other (inr a) (inl b) = absurd (off_free w.jobs c text a b.0 b.1 b.2 b.3 b.4)
   one_stand_text c text other (inr a) (inr b) = one_off w.jobs c text other a b
 
-  pub one_memory : (c : ℕ) (at : Option ℕ) (n : ℕ) (text other : List ℕ) → IsMemoryText w.store w.jobs c at n text → IsMemoryText w.store w.jobs c at n other → text ≡ other
+  pub one_memory : (c : ℕ) (at : Option ℕ) (n : ℕ) (text other : List ℕ) → IsMemoryText w.store w.jobs c at n text → IsMemoryText w.store
+      w.jobs c at n other → text ≡ other
   one_memory c at n text other (inl a) (inl b) =
       let one = one_hand c a.0 b.0 a.1 b.1 a.2 b.2 a.3 b.3 a.4 b.4 in
       let P : Cpu → Type 0 = λ s. ShowsBytes w.store s at n other in
@@ -195,7 +207,8 @@ module _ (w : World) (world : IsWorld w) where
   one_memory c at n text other (inr a) (inl b) = absurd (off_free w.jobs c text a b.0 b.1 b.2 b.3 b.4)
   one_memory c at n text other (inr a) (inr b) = one_off w.jobs c text other a b
 
-  pub one_held_text : KeysHaveOwnValues w.store → (names : List (List ℕ)) (c : ℕ) (text other : List ℕ) → IsHeldText names w.store w.jobs c text → IsHeldText names w.store w.jobs c other → text ≡ other
+  pub one_held_text : KeysHaveOwnValues w.store → (names : List (List ℕ)) (c : ℕ) (text other : List ℕ) → IsHeldText names w.store w.jobs c
+      text → IsHeldText names w.store w.jobs c other → text ≡ other
   one_held_text own names c text other (inl a) (inl b) =
       let one = one_hand c a.0 b.0 a.1 b.1 a.2 b.2 a.3 b.3 a.4 b.4 in
       let P : Cpu → Type 0 = λ s. TellsHeld names w.store s (length s.held) other in
@@ -204,12 +217,14 @@ module _ (w : World) (world : IsWorld w) where
   one_held_text own names c text other (inr a) (inl b) = absurd (off_free w.jobs c text a b.0 b.1 b.2 b.3 b.4)
   one_held_text own names c text other (inr a) (inr b) = one_off w.jobs c text other a b
 
-  one_task : (c j k : ℕ) (task other : Task) (state now : Cpu) (left rest : ℕ) → IsAt w.jobs c j task (InHand state left) → IsAt w.jobs c k other (InHand now rest) → task ≡ other
+  one_task : (c j k : ℕ) (task other : Task) (state now : Cpu) (left rest : ℕ) → IsAt w.jobs c j task (InHand state left) → IsAt w.jobs c k
+      other (InHand now rest) → task ≡ other
   one_task c j k task other state now left rest a b =
       let P : ℕ → Type 0 = λ i. slice_get w.jobs i ≡ Some other in
       let listed : Some task ≡ Some other = sym a.listed ∙ subst P (sym (world.one c j k task other state now left rest a b)) b.listed in cc
 
-  pub one_nearby : OneInstructionBegins → (c : ℕ) (text other : List ℕ) → IsNearbyText w.programs w.jobs c text → IsNearbyText w.programs w.jobs c other → text ≡ other
+  pub one_nearby : OneInstructionBegins → (c : ℕ) (text other : List ℕ) → IsNearbyText w.programs w.jobs c text → IsNearbyText w.programs
+      w.jobs c other → text ≡ other
   one_nearby begins c text other (inl a) (inl b) =
       let one = one_hand c a.0 b.0 a.1 b.1 a.2 b.2 a.3 b.3 a.5 b.5 in
       let tasks : a.1 ≡ b.1 = one_task c a.0 b.0 a.1 b.1 a.2 b.2 a.3 b.3 a.5 b.5 in

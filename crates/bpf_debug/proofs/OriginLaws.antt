@@ -32,16 +32,19 @@ pub record Kept (all jobs : List Task) (numbers : List ℕ) (count : ℕ) : Type
 pub kept_none : (all : List Task) → Kept all [] [] 0
 kept_none all = record { size = refl; within = λ k d inside. absurd (omega (arith, inside)); are = refl }
 
-pub kept_more : (all jobs : List Task) (numbers : List ℕ) (count : ℕ) (t : Task) → Kept all jobs numbers count → slice_get all count ≡ Some t → Kept all (jobs ++ t ∷ []) (numbers ++ count ∷ []) (count + 1)
+pub kept_more : (all jobs : List Task) (numbers : List ℕ) (count : ℕ) (t : Task) → Kept all jobs numbers count → slice_get all count ≡ Some
+    t → Kept all (jobs ++ t ∷ []) (numbers ++ count ∷ []) (count + 1)
 kept_more all jobs numbers count t kept at =
     let longer : length (jobs ++ t ∷ []) ≡ length jobs + 1 = length-append jobs (t ∷ []) in
     let size = kept.size in
-    let here : get_or (jobs ++ t ∷ []) count no_task ≡ t = ap (λ (k : ℕ). get_or (jobs ++ t ∷ []) k no_task) (sym size) ∙ get_or-append_seam jobs t [] no_task in
+    let here : get_or (jobs ++ t ∷ []) count no_task ≡ t = ap (λ (k : ℕ). get_or (jobs ++ t ∷ []) k no_task) (sym size) ∙ get_or-append_seam
+    jobs t [] no_task in
     let next : suc count ≡ count + 1 = omega arith in
     let last : get_or all count no_task ≡ t = get_or_from_slice_get all count t no_task at in
     record {
       size = omega (arith, longer, size);
-      within = All-append (λ n. n < length (jobs ++ t ∷ [])) numbers (count ∷ []) (λ k d inside. omega (arith, longer, kept.within k d inside)) (λ k d inside. one k d inside longer size);
+      within = All-append (λ n. n < length (jobs ++ t ∷ [])) numbers (count ∷ [])
+          (λ k d inside. omega (arith, longer, kept.within k d inside)) (λ k d inside. one k d inside longer size);
       are = map-append (λ (n : ℕ). get_or (jobs ++ t ∷ []) n no_task) numbers (count ∷ [])
           ∙ ap (λ (ts : List Task). ts ++ get_or (jobs ++ t ∷ []) count no_task ∷ []) (chosen_front jobs (t ∷ []) numbers kept.within ∙ kept.are)
           ∙ ap (λ (u : Task). take count all ++ u ∷ []) (here ∙ sym last)
@@ -66,7 +69,8 @@ made_again o m stored jobs lists =
     ∙ ap (λ (ts : List Task). record { store = m.store; programs = m.programs; jobs = ts; lists = None }) jobs
     ∙ ap (λ (ls : Option (List Listing)). record { store = m.store; programs = m.programs; jobs = m.jobs; lists = ls }) (sym lists)
 
-pub can_again : (h : Shape) (o : OriginState) (m : MachineState) → ((w : World) × Shows m w) → IsOfShape h m.store → CanStand m → All (λ n. n < length o.jobs) o.numbers
+pub can_again : (h : Shape) (o : OriginState) (m : MachineState) → ((w : World) × Shows m w) → IsOfShape h m.store → CanStand m → All
+    (λ n. n < length o.jobs) o.numbers
     → o.store ≡ m.store → chosen o.jobs o.numbers ≡ m.jobs → m.lists ≡ None → CanRewind o m
 can_again h o m shown shape stands within stored jobs lists = record {
   lists = lists;

@@ -4,7 +4,9 @@ use Rattle.std.specs.Prelude.{Ok, Err}
 use Rattle.bpf_lines.specs.Lines.{fields_of}
 use Rattle.bpf_machine.specs.Schedule.{World, RunsSchedule, unrolled}
 use Rattle.bpf_debug.specs.declared.recall.Kind.TheVariants as kind
-use Rattle.bpf_debug.specs.Command.{Order, Break, Delete, Step, StepTimes, Steps, Go, Registers, Where, Memory, Map, Keys, Schedule, GoTo, Maps, Variables, Number, Jobs, Mark, Back, Help, Held, Nearby, Last, Show, Watch, WatchVariable, Unwatch}
+use Rattle.bpf_debug.specs.Command.{Order, Break, Delete, Step, StepTimes, Steps, Go, Registers, Where, Memory, Map, Keys, Schedule, GoTo}
+use Rattle.bpf_debug.specs.Command.{Maps, Variables, Number, Jobs, Mark, Back, Help, Held, Nearby, Last, Show, Watch, WatchVariable}
+use Rattle.bpf_debug.specs.Command.{Unwatch}
 use Rattle.bpf_debug.specs.Course.{turns_before}
 use Rattle.bpf_debug.specs.Session.{Scene, CarriesOut, Obeys, behind}
 use Rattle.bpf_debug.specs.Script.{Answer, AnswersLine}

@@ -73,7 +73,8 @@ updated_own s m key x so own d e v q r found again = elim (was d q v found) [
         let less = so.live_made v (inl (d, (q, found))) in
         omega arith
 
-updates_own : (s t : Plain) (m : ℕ) (h : MapShape) (key bytes : List ℕ) (flags : ℕ) (answer : MapAnswer) → IsSoundStore s → KeysHaveOwnValues s → Updates s m h key bytes flags answer t → KeysHaveOwnValues t
+updates_own : (s t : Plain) (m : ℕ) (h : MapShape) (key bytes : List ℕ) (flags : ℕ) (answer : MapAnswer) → IsSoundStore s →
+    KeysHaveOwnValues s → Updates s m h key bytes flags answer t → KeysHaveOwnValues t
 updates_own s t m h key bytes flags Done so own u = subst KeysHaveOwnValues (sym u.1.2) (updated_own s m key (record { bytes = bytes; span = u.1.0 }) so own)
 updates_own s t m h key bytes flags Invalid so own u = subst KeysHaveOwnValues (sym u.1) own
 updates_own s t m h key bytes flags Busy so own u = subst KeysHaveOwnValues (sym u.1) own
@@ -117,7 +118,8 @@ pub calls_keep : (s t : Plain) (log : List Entry) → IsOwn s → PlainlyLegal s
 calls_keep s t [] is l = subst IsOwn l is
 calls_keep s t (e ∷ es) is l = calls_keep l.0 t es (call_keeps s l.0 e.cpu e.event is l.1.0) l.2
 
-step_keeps : (program : Loaded) (c : ℕ) (s : Plain) (old : Cpu) (n : ℕ) (end : Option Outcome) (t : Plain) (new : Cpu) (left : ℕ) → IsOwn s → Advances program c s old n end t new left → IsOwn t
+step_keeps : (program : Loaded) (c : ℕ) (s : Plain) (old : Cpu) (n : ℕ) (end : Option Outcome) (t : Plain) (new : Cpu) (left : ℕ) → IsOwn s
+    → Advances program c s old n end t new left → IsOwn t
 step_keeps program c s old zero end t new left is a = subst IsOwn (sym a.1) is
 step_keeps program c s old (suc n) end t new left is a = calls_keep s t _ is a.3
 
@@ -128,7 +130,8 @@ list_keeps : (w : World) (c : ℕ) (z : World) → Keeps w → Lists w c z → K
 list_keeps w c z is (inl a) = subst Keeps (sym a.1) is
 list_keeps w c z is (inr a) = subst Keeps (sym a.1) is
 
-end_keeps : (w : World) (c j : ℕ) (task : Task) (new : Cpu) (left : ℕ) (end : Option Outcome) (answer : Turn) (z : World) → Keeps w → Settles w c j task new left end answer z → Keeps z
+end_keeps : (w : World) (c j : ℕ) (task : Task) (new : Cpu) (left : ℕ) (end : Option Outcome) (answer : Turn) (z : World) → Keeps w →
+    Settles w c j task new left end answer z → Keeps z
 end_keeps w c j task new left None answer z is a = subst Keeps (sym a.1) is
 end_keeps w c j task new left (Some end) answer z is a = list_keeps _ c z (call_keeps w.store a.0 c End is a.1.0) a.3
 

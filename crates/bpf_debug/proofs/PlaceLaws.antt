@@ -15,7 +15,8 @@ all_three : (a b c : Bool) → a ≡ true → b ≡ true → c ≡ true → (a &
 all_three a b c x y z = cc
 
 -- of an offset that is in a value
-pub named : (cpus : ℕ) (name : List ℕ) (g : ArrayShape) (offset : ℕ) (text : List ℕ) → copy_in g offset < copies cpus g → index_in g offset < g.max → past_in g offset < g.value
+pub named : (cpus : ℕ) (name : List ℕ) (g : ArrayShape) (offset : ℕ) (text : List ℕ) → copy_in g offset < copies cpus g → index_in g offset
+    < g.max → past_in g offset < g.value
     → text ≡ place_words (element_name name g offset) (past_in g offset) → text ≡ element_words cpus name g offset
 named cpus name g offset text copy index past is = is ∙ sym (chosen (is_in_value cpus g offset) (place_words (element_name name g offset) (past_in g offset))
     (all_three (nat_lt (copy_in g offset) (copies cpus g)) (nat_lt (index_in g offset) g.max) (nat_lt (past_in g offset) g.value)

@@ -1,6 +1,8 @@
 -- Questions change nothing.
 use Rattle.std.proofs.Common.{◌≡◌, ℕ, List, Option, Some, None, ◌⊎◌, inl, inr, ap}
-use Rattle.bpf_debug.specs.Command.{Order, Break, Delete, Step, StepTimes, Steps, Go, Registers, Where, Memory, Map, Keys, Schedule, GoTo, Maps, Variables, Number, Jobs, Mark, Back, Help, Held, Nearby, Last, Show, Watch, WatchVariable, Unwatch}
+use Rattle.bpf_debug.specs.Command.{Order, Break, Delete, Step, StepTimes, Steps, Go, Registers, Where, Memory, Map, Keys, Schedule, GoTo}
+use Rattle.bpf_debug.specs.Command.{Maps, Variables, Number, Jobs, Mark, Back, Help, Held, Nearby, Last, Show, Watch, WatchVariable}
+use Rattle.bpf_debug.specs.Command.{Unwatch}
 use Rattle.bpf_debug.specs.Session.{Scene, CarriesOut}
 use Rattle.bpf_debug.specs.Laws.{IsQuestion, QuestionsChangeNothing}
 
@@ -43,7 +45,8 @@ deletes x y (Some c) (Some p) text f = (ap (λ (z : Scene). z.turns) f.1.2, ap (
 deletes x y (Some c) None text f = absurd f
 deletes x y None p text f = absurd f
 
-watches : (x y : Scene) (name word text : List ℕ) → CarriesOut x (Watch name word) text y ⊎ CarriesOut x (WatchVariable name) text y ⊎ CarriesOut x Unwatch text y → (y.turns ≡ x.turns) × (y.world ≡ x.world)
+watches : (x y : Scene) (name word text : List ℕ) → CarriesOut x (Watch name word) text y ⊎ CarriesOut x (WatchVariable name) text y ⊎
+    CarriesOut x Unwatch text y → (y.turns ≡ x.turns) × (y.world ≡ x.world)
 watches x y name word text (inl f) = (ap (λ (z : Scene). z.turns) f.6, ap (λ (z : Scene). z.world) f.6)
 watches x y name word text (inr (inl f)) = (ap (λ (z : Scene). z.turns) f.3, ap (λ (z : Scene). z.world) f.3)
 watches x y name word text (inr (inr f)) = (ap (λ (z : Scene). z.turns) f.1, ap (λ (z : Scene). z.world) f.1)

@@ -1,5 +1,6 @@
 -- Turns that are made again, and what is kept of them.
-use Rattle.std.proofs.Common.{◌≡◌, ℕ, ◌+◌, Bool, true, false, ◌&&◌, List, [], ◌∷◌, ◌++◌, Option, Some, None, refl, sym, ap, subst, ◌∙◌, if◌then◌else◌, replicate, append_assoc}
+use Rattle.std.proofs.Common.{◌≡◌, ℕ, ◌+◌, Bool, true, false, ◌&&◌, List, [], ◌∷◌, ◌++◌, Option, Some, None, refl, sym, ap, subst, ◌∙◌}
+use Rattle.std.proofs.Common.{if◌then◌else◌, replicate, append_assoc}
 use Rattle.std.proofs.lemmas.Bool.{eq-eqb, ne_eqb}
 use Rattle.std.proofs.lemmas.List.{replicate-append-replicate}
 use Rattle.bpf_machine.specs.declared.machine.Turn.{Turn}
@@ -12,11 +13,13 @@ use Rattle.bpf_debug.specs.Answer.{ended_text}
 use Rattle.bpf_debug.specs.Recall.{Past, Recalls, IsLastText, IsRecall, IsStand, IsStandText, is_of, past_after}
 
 -- ---- they are a schedule
-pub recalls_run : (k : Kind) (c : ℕ) (w : World) (old : Option Past) (turns : List ℕ) (new : Option Past) (z : World) → Recalls k c w old turns new z → RunsSchedule w turns z
+pub recalls_run : (k : Kind) (c : ℕ) (w : World) (old : Option Past) (turns : List ℕ) (new : Option Past) (z : World) → Recalls k c w old
+    turns new z → RunsSchedule w turns z
 recalls_run k c w old [] new z r = r.1
 recalls_run k c w old (d ∷ turns) new z r = (r.0, r.1, r.2, recalls_run k c r.1 (past_after k c w d r.0 old) turns new z r.3)
 
-pub recalls_both : (k : Kind) (c : ℕ) (cs ds : List ℕ) (w m z : World) (old mid new : Option Past) → Recalls k c w old cs mid m → Recalls k c m mid ds new z → Recalls k c w old (cs ++ ds) new z
+pub recalls_both : (k : Kind) (c : ℕ) (cs ds : List ℕ) (w m z : World) (old mid new : Option Past) → Recalls k c w old cs mid m → Recalls k
+    c m mid ds new z → Recalls k c w old (cs ++ ds) new z
 recalls_both k c [] ds w m z old mid new a b =
     subst (λ (p : Option Past). Recalls k c w p ds new z) a.0 (subst (λ (x : World). Recalls k c x mid ds new z) a.1 b)
 recalls_both k c (e ∷ cs) ds w m z old mid new a b = (a.0, a.1, a.2, recalls_both k c cs ds a.1 m z (past_after k c w e a.0 old) mid new a.3 b)
@@ -25,12 +28,14 @@ recalls_both k c (e ∷ cs) ds w m z old mid new a b = (a.0, a.1, a.2, recalls_b
 pub of_another : (k : Kind) (c : ℕ) (w : World) (d : ℕ) (answer : Turn) (old : Option Past) → (d ≡ c → ⊥) → past_after k c w d answer old ≡ old
 of_another k c w d answer old other = ap (λ (b : Bool). if b && is_of k answer then Some (record { before = w; answer = answer }) else old) (ne_eqb d c other)
 
-pub of_kind : (k : Kind) (c : ℕ) (w : World) (d : ℕ) (answer : Turn) (old : Option Past) → d ≡ c → is_of k answer ≡ true → past_after k c w d answer old ≡ Some (record { before = w; answer = answer })
+pub of_kind : (k : Kind) (c : ℕ) (w : World) (d : ℕ) (answer : Turn) (old : Option Past) → d ≡ c → is_of k answer ≡ true → past_after k c w
+    d answer old ≡ Some (record { before = w; answer = answer })
 of_kind k c w d answer old own is =
     ap (λ (b : Bool). if b && is_of k answer then Some (record { before = w; answer = answer }) else old) (eq-eqb d c own)
     ∙ ap (λ (b : Bool). if b then Some (record { before = w; answer = answer }) else old) is
 
-pub of_no_kind : (k : Kind) (c : ℕ) (w : World) (d : ℕ) (answer : Turn) (old : Option Past) → d ≡ c → is_of k answer ≡ false → past_after k c w d answer old ≡ old
+pub of_no_kind : (k : Kind) (c : ℕ) (w : World) (d : ℕ) (answer : Turn) (old : Option Past) → d ≡ c → is_of k answer ≡ false → past_after k
+    c w d answer old ≡ old
 of_no_kind k c w d answer old own is =
     ap (λ (b : Bool). if b && is_of k answer then Some (record { before = w; answer = answer }) else old) (eq-eqb d c own)
     ∙ ap (λ (b : Bool). if b then Some (record { before = w; answer = answer }) else old) is
@@ -44,7 +49,8 @@ RecallsTurn start d k c kept new last =
 abbrev MakesTurn : MachineState → ℕ → Turn → MachineState → Type 0
 MakesTurn start d answer new = (w : World) → Shows start w → (z : World) × TakesTurn w d answer z × Shows new z
 
-pub other_turn : (start new : MachineState) (d : ℕ) (k : Kind) (c : ℕ) (kept : Option Recall) (answer : Turn) → (d ≡ c → ⊥) → MakesTurn start d answer new → RecallsTurn start d k c kept new kept
+pub other_turn : (start new : MachineState) (d : ℕ) (k : Kind) (c : ℕ) (kept : Option Recall) (answer : Turn) → (d ≡ c → ⊥) → MakesTurn
+    start d answer new → RecallsTurn start d k c kept new kept
 other_turn start new d k c kept answer other turns = (
   answer,
   λ w shows. (
@@ -52,7 +58,8 @@ other_turn start new d k c kept answer other turns = (
       (t.0, t.1, t.2, λ old is. subst (λ (p : Option Past). IsRecall c kept p) (sym (of_another k c w d answer old other)) is)),
 )
 
-pub kept_turn : (start new : MachineState) (d : ℕ) (k : Kind) (c : ℕ) (kept : Option Recall) (more : Recall) (answer : Turn) → d ≡ c → is_of k answer ≡ true → IsStand start.jobs c more.stand → more.turn ≡ answer
+pub kept_turn : (start new : MachineState) (d : ℕ) (k : Kind) (c : ℕ) (kept : Option Recall) (more : Recall) (answer : Turn) → d ≡ c → is_of
+    k answer ≡ true → IsStand start.jobs c more.stand → more.turn ≡ answer
     → MakesTurn start c answer new → RecallsTurn start d k c kept new (Some more)
 kept_turn start new d k c kept more answer own is stands same turns = (
   answer,
@@ -66,7 +73,8 @@ kept_turn start new d k c kept more answer own is stands same turns = (
       )),
 )
 
-pub passed_turn : (start new : MachineState) (d : ℕ) (k : Kind) (c : ℕ) (kept : Option Recall) (answer : Turn) → d ≡ c → is_of k answer ≡ false → MakesTurn start c answer new → RecallsTurn start d k c kept new kept
+pub passed_turn : (start new : MachineState) (d : ℕ) (k : Kind) (c : ℕ) (kept : Option Recall) (answer : Turn) → d ≡ c → is_of k answer ≡
+    false → MakesTurn start c answer new → RecallsTurn start d k c kept new kept
 passed_turn start new d k c kept answer own is turns = (
   answer,
   λ w shows. (
@@ -89,7 +97,8 @@ kept_told kept c old mid new jobs put stood (Some past) is =
     let first : mid ≡ old ++ ended = put ∙ ap (λ (t : Turn). old ++ ended_text c t) is.1 in
     (ended ++ s.0, (s.0, s.1, refl), s.2 ∙ ap (λ (m : List ℕ). m ++ s.0) first ∙ append_assoc old ended s.0)
 
-pub recalled_told : (recall : Option Recall) (kept : Recall) (c : ℕ) (old mid new : List ℕ) (jobs : List Task) → recall ≡ Some kept → mid ≡ old ++ ended_text c kept.turn
+pub recalled_told : (recall : Option Recall) (kept : Recall) (c : ℕ) (old mid new : List ℕ) (jobs : List Task) → recall ≡ Some kept → mid ≡
+    old ++ ended_text c kept.turn
     → ((was : List Task) → IsStand was c kept.stand → (text : List ℕ) × IsStandText was c text × (new ≡ mid ++ text))
     → (past : Option Past) → IsRecall c recall past → (text : List ℕ) × IsLastText c past jobs text × (new ≡ old ++ text)
 recalled_told recall kept c old mid new jobs same put stood =
@@ -129,7 +138,8 @@ RecallsFar start runs k c new rest last =
 pub no_run_recalled : (start : MachineState) (runs : List (ℕ × ℕ)) (k : Kind) (c : ℕ) → RecallsFar start runs k c start runs None
 no_run_recalled start runs k c w shows = (w, None, shows, tt, λ more z r. r)
 
-pub one_run_recalled : (start new next : MachineState) (runs rest left : List (ℕ × ℕ)) (run : ℕ × ℕ) (k : Kind) (c : ℕ) (last more : Option Recall) → RecallsFar start runs k c new rest last
+pub one_run_recalled : (start new next : MachineState) (runs rest left : List (ℕ × ℕ)) (run : ℕ × ℕ) (k : Kind) (c : ℕ)
+    (last more : Option Recall) → RecallsFar start runs k c new rest last
     → rest ≡ run ∷ left → RecallsTurns new run.0 k c last next run.1 more → RecallsFar start runs k c next left more
 one_run_recalled start new next runs rest left run k c last more far is made w shows =
     let f = far w shows in
@@ -143,7 +153,8 @@ one_run_recalled start new next runs rest left run k c last more far is made w s
           f.4 past z (subst R (sym is) (recalls_both k c (replicate run.1 run.0) (unrolled left) f.0 t.0 z f.1 t.1 past t.2 r)),
     )
 
-pub runs_recalled : (start new : MachineState) (runs rest : List (ℕ × ℕ)) (k : Kind) (c : ℕ) (last : Option Recall) → RecallsFar start runs k c new rest last → rest ≡ []
+pub runs_recalled : (start new : MachineState) (runs rest : List (ℕ × ℕ)) (k : Kind) (c : ℕ) (last : Option Recall) → RecallsFar start runs
+    k c new rest last → rest ≡ []
     → (w : World) → Shows start w → (z : World) × (past : Option Past) × Recalls k c w None (unrolled runs) past z × Shows new z × IsRecall c last past
 runs_recalled start new runs rest k c last far none w shows =
     let f = far w shows in

@@ -1,5 +1,6 @@
 -- What the words after `steps` spell, and which CPUs they name.
-use Rattle.std.proofs.Common.{◌≡◌, ℕ, zero, suc, ◌<◌, Bool, true, false, ◌&&◌, List, [], ◌∷◌, length, map, Option, Some, None, refl, sym, ap, ◌∙◌, arith, if◌then◌else◌}
+use Rattle.std.proofs.Common.{◌≡◌, ℕ, zero, suc, ◌<◌, Bool, true, false, ◌&&◌, List, [], ◌∷◌, length, map, Option, Some, None, refl, sym}
+use Rattle.std.proofs.Common.{ap, ◌∙◌, arith, if◌then◌else◌}
 use Rattle.std.specs.Prelude.{Any, nat_lt, option_map, option_and_then}
 use Rattle.std.specs.List.{list_all}
 use Rattle.std.proofs.lemmas.Bool.{and_parts, ltb-true}
@@ -27,7 +28,8 @@ module _ (f : List ℕ → Option (ℕ × ℕ)) where
   one_unread (w ∷ ws) (zero, v, inside, at, none) = let here : f w ≡ None = ap f at ∙ none in rw here refl
   one_unread (w ∷ ws) (suc k, v, inside, at, none) = rw (one_unread ws (k, v, omega arith, at, none)) (none_behind (f w))
 
-pub runs_said : (ws : List (List ℕ)) (rs : List (ℕ × ℕ)) → SpellRuns ws rs → true ≡ (nat_lt 0 (length rs) && list_all is_short rs) → schedule_in ws ≡ Some (Steps rs)
+pub runs_said : (ws : List (List ℕ)) (rs : List (ℕ × ℕ)) → SpellRuns ws rs → true ≡ (nat_lt 0 (length rs) && list_all is_short rs) →
+    schedule_in ws ≡ Some (Steps rs)
 runs_said ws rs spells can =
     ap (option_and_then steps_of) (all_read run_in ws rs spells) ∙ ap (λ (b : Bool). if b then Some (Steps rs) else None) (sym can)
 

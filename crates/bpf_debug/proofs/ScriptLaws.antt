@@ -22,7 +22,8 @@ line_refused old new line e refuses same x shown = (x, (refuses x shown, refl), 
 pub record Far (lines : List (List ℕ)) (old new : SessionState) (answers : List Answer) (rest : List (List ℕ)) : Type 0 where
   pub here : (x : Scene) → IsShown old x → Scene
   pub shows : (x : Scene) (shown : IsShown old x) → IsShown new (here x shown)
-  pub onward : (x : Scene) (shown : IsShown old x) (more : List Answer) (y : Scene) → RunsScript (here x shown) rest more y → RunsScript x lines (answers ++ more) y
+  pub onward : (x : Scene) (shown : IsShown old x) (more : List Answer) (y : Scene) → RunsScript (here x shown) rest more y → RunsScript x
+      lines (answers ++ more) y
 
 pub far_start : (lines : List (List ℕ)) (s : SessionState) → Far lines s s [] lines
 far_start lines s = record { here = λ x shown. x; shows = λ x shown. shown; onward = λ x shown more y runs. runs }
@@ -47,5 +48,6 @@ far_end lines old new answers far x shown = (
 )
 
 -- one answer more
-pub more_answers : (items : List (Result (String Global) DebugError)) (one : Result (String Global) DebugError) → map answer_of (items ++ one ∷ []) ≡ map answer_of items ++ answer_of one ∷ []
+pub more_answers : (items : List (Result (String Global) DebugError)) (one : Result (String Global) DebugError) → map answer_of
+    (items ++ one ∷ []) ≡ map answer_of items ++ answer_of one ∷ []
 more_answers items one = map-append answer_of items (one ∷ [])

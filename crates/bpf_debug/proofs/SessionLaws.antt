@@ -1,5 +1,6 @@
 -- What a session's commands do, from what its functions ensure.
-use Rattle.std.proofs.Common.{◌≡◌, ℕ, ◌+◌, ◌-◌, ◌*◌, ◌<◌, ◌≤◌, drop, get_or, Bool, true, false, List, [], ◌∷◌, ◌++◌, length, inl, inr, refl, sym, ap, subst, ◌∙◌, arith, Option, Some, None, if◌then◌else◌, replicate}
+use Rattle.std.proofs.Common.{◌≡◌, ℕ, ◌+◌, ◌-◌, ◌*◌, ◌<◌, ◌≤◌, drop, get_or, Bool, true, false, List, [], ◌∷◌, ◌++◌, length, inl, inr, refl}
+use Rattle.std.proofs.Common.{sym, ap, subst, ◌∙◌, arith, Option, Some, None, if◌then◌else◌, replicate}
 use Rattle.std.proofs.lemmas.Bool.{ltb-true}
 use Rattle.std.proofs.lemmas.List.{get_or-drop, length-drop, take-append-drop}
 use Rattle.std.proofs.lemmas.List.Sums.{sum_by-le}
@@ -23,7 +24,9 @@ use Rattle.bpf_machine.specs.Hands.{IsAt}
 use Rattle.bpf_machine.specs.Work.{IsState}
 use Rattle.bpf_cpu.specs.declared.cpu.Cpu.{Cpu}
 use Rattle.bpf_debug.specs.declared.breakpoint.Breakpoint.{Breakpoint}
-use Rattle.bpf_debug.specs.Command.{Order, Break, Delete, Step, StepTimes, Steps, Go, Registers, Where, Memory, Map, Keys, Schedule, GoTo, Maps, Variables, Number, Jobs, Mark, Back, Help, Held, Nearby, Last, Show, Watch, WatchVariable, Unwatch, order_of}
+use Rattle.bpf_debug.specs.Command.{Order, Break, Delete, Step, StepTimes, Steps, Go, Registers, Where, Memory, Map, Keys, Schedule, GoTo}
+use Rattle.bpf_debug.specs.Command.{Maps, Variables, Number, Jobs, Mark, Back, Help, Held, Nearby, Last, Show, Watch, WatchVariable}
+use Rattle.bpf_debug.specs.Command.{Unwatch, order_of}
 use Rattle.bpf_debug.specs.declared.error.DebugError.{DebugError}
 use Rattle.bpf_debug.specs.declared.error.DebugError.TheVariants as error
 use Rattle.bpf_debug.specs.Answer.{IsWhere, IsRegisters, IsOff, ended_text, break_line, deleted_line, variable_watch_line, watch_line, unwatched_line}
@@ -42,7 +45,8 @@ use Rattle.bpf_debug.specs.Told.{store_lines, told_jobs, mark_line}
 use Rattle.bpf_debug.specs.Course.{AreFewer, IsKept, KeepsOn, TakesBack, count_of, cpu_before, runs_of, turns_before}
 use Rattle.bpf_debug.specs.Origin.{OriginState, CanRewind, first_of}
 use Rattle.bpf_debug.specs.Help.{help_text}
-use Rattle.bpf_debug.specs.Session.{SessionState, Scene, IsShown, IsCourse, IsPc, are_cpus, behind, undone, with_break, CarriesOut, Obeys, Leaves, LeavesLine, HasBadOperand, RefusesOrder, RefusesHere, RefusesLine}
+use Rattle.bpf_debug.specs.Session.{SessionState, Scene, IsShown, IsCourse, IsPc, are_cpus, behind, undone, with_break, CarriesOut, Obeys}
+use Rattle.bpf_debug.specs.Session.{Leaves, LeavesLine, HasBadOperand, RefusesOrder, RefusesHere, RefusesLine}
 use Rattle.bpf_debug.specs.Turns.{MakesTurns, MakesRuns, last_cpu}
 use Rattle.bpf_debug.proofs.CourseLaws.{runs_tell_turns}
 use Rattle.bpf_debug.proofs.GoLaws.{goes_runs}
@@ -80,7 +84,14 @@ can_still o m n same can = record {
 -- the machine that was made again
 pub can_rewound : (o : OriginState) (m n : MachineState) → n ≡ first_of o m.programs → CanRewind o m → CanRewind o n
 can_rewound o m n is can =
-    let first : CanRewind o (first_of o m.programs) = record { lists = refl; shape = (λ c. refl, refl); within = can.within; stands = can.stands; shown = can.shown } in
+    let first : CanRewind o (first_of o m.programs) = record {
+      lists = refl;
+      shape = (λ c. refl, refl);
+      within = can.within;
+      stands =
+          can.stands;
+      shown = can.shown;
+    } in
     subst (CanRewind o) (sym is) first
 
 -- ---- text after an empty one
@@ -108,10 +119,19 @@ module _ (m : MachineState) (o : OriginState) (names : Names) (breaks : List Bre
       let whole : last ≡ ended_text c answer ++ place = put ∙ ap (λ (s : List ℕ). (s ++ ended_text c answer) ++ place) empty in (
         behind x (c ∷ []) t.0,
         (is_cpu m x.world c has shown.world, (answer, t.0, place, t.1, subst J (sym t.2.jobs) stands, whole, refl)),
-        record { world = t.2; first = still_first n x.first same shown.first; names = shown.names; breaks = shown.breaks; watch = shown.watch; turns = keeps x.turns shown.turns },
+        record {
+          world = t.2;
+          first = still_first n x.first same shown.first;
+          names = shown.names;
+          breaks = shown.breaks;
+          watch =
+              shown.watch;
+          turns = keeps x.turns shown.turns;
+        },
       )
 
-  pub stepped_times : (n : MachineState) (more : Option (List (ℕ × ℕ))) (c count : ℕ) (room place last : List ℕ) → has_cpu m.store c ≡ true → room ≡ [] → IsWhere n.jobs c place
+  pub stepped_times : (n : MachineState) (more : Option (List (ℕ × ℕ))) (c count : ℕ) (room place last : List ℕ) → has_cpu m.store c ≡ true
+      → room ≡ [] → IsWhere n.jobs c place
       → ((w : World) → Shows m w → (z : World) × (before : List ℕ) × MakesTurns w c count before z × Shows n z × (last ≡ (room ++ before) ++ place))
       → KeepsOn kept (replicate count c) more → IsSameHost m n → Leaves session (StepTimes (Some c) count) last (moved_on n more)
   stepped_times n more c count room place last has empty stands turns keeps same x shown =
@@ -120,10 +140,19 @@ module _ (m : MachineState) (o : OriginState) (names : Names) (breaks : List Bre
       let whole : last ≡ t.1 ++ place = t.4 ∙ ap (λ (s : List ℕ). (s ++ t.1) ++ place) empty in (
         behind x (replicate count c) t.0,
         (is_cpu m x.world c has shown.world, (t.0, t.1, place, t.2, subst J (sym t.3.jobs) stands, whole, refl)),
-        record { world = t.3; first = still_first n x.first same shown.first; names = shown.names; breaks = shown.breaks; watch = shown.watch; turns = keeps x.turns shown.turns },
+        record {
+          world = t.3;
+          first = still_first n x.first same shown.first;
+          names = shown.names;
+          breaks = shown.breaks;
+          watch =
+              shown.watch;
+          turns = keeps x.turns shown.turns;
+        },
       )
 
-  pub stepped_runs : (n : MachineState) (more : Option (List (ℕ × ℕ))) (runs : List (ℕ × ℕ)) (room place last : List ℕ) → are_cpus (length m.store.maps.runs) runs ≡ true → room ≡ [] → IsWhere n.jobs (last_cpu runs) place
+  pub stepped_runs : (n : MachineState) (more : Option (List (ℕ × ℕ))) (runs : List (ℕ × ℕ)) (room place last : List ℕ) → are_cpus
+      (length m.store.maps.runs) runs ≡ true → room ≡ [] → IsWhere n.jobs (last_cpu runs) place
       → ((w : World) → Shows m w → (z : World) × (before : List ℕ) × MakesRuns w runs before z × Shows n z × (last ≡ (room ++ before) ++ place))
       → KeepsOn kept (unrolled runs) more → IsSameHost m n → Leaves session (Steps runs) last (moved_on n more)
   stepped_runs n more runs room place last has empty stands turns keeps same x shown =
@@ -133,11 +162,20 @@ module _ (m : MachineState) (o : OriginState) (names : Names) (breaks : List Bre
       let whole : last ≡ t.1 ++ place = t.4 ∙ ap (λ (s : List ℕ). (s ++ t.1) ++ place) empty in (
         behind x (unrolled runs) t.0,
         (subst H (sym shown.world.store.maps.cpus) has, (t.0, t.1, place, t.2, subst J (sym t.3.jobs) stands, whole, refl)),
-        record { world = t.3; first = still_first n x.first same shown.first; names = shown.names; breaks = shown.breaks; watch = shown.watch; turns = keeps x.turns shown.turns },
+        record {
+          world = t.3;
+          first = still_first n x.first same shown.first;
+          names = shown.names;
+          breaks = shown.breaks;
+          watch =
+              shown.watch;
+          turns = keeps x.turns shown.turns;
+        },
       )
 
   pub went : (n : MachineState) (more : Option (List (ℕ × ℕ))) (cpus : ℕ) (room last : List ℕ) → room ≡ [] → cpus ≡ length m.store.maps.runs
-      → ((w : World) → Shows m w → (z : World) × (turns : List ℕ) × (text : List ℕ) × Goes breaks watch 0 cpus w 0 [] turns text z × Shows n z × KeepsOn kept turns more × (last ≡ room ++ text))
+      → ((w : World) → Shows m w → (z : World) × (turns : List ℕ) × (text : List ℕ) × Goes breaks watch 0 cpus w 0 [] turns text z × Shows n
+      z × KeepsOn kept turns more × (last ≡ room ++ text))
       → IsSameHost m n → Leaves session Go last (moved_on n more)
   went n more cpus room last empty count goes same x shown =
       let g = goes x.world shown.world in
@@ -145,11 +183,23 @@ module _ (m : MachineState) (o : OriginState) (names : Names) (breaks : List Bre
       let B : List Breakpoint → Type 0 = λ bs. Goes bs watch 0 x.world.store.shape.cpus x.world 0 [] g.1 last g.0 in
       let C : ℕ → Type 0 = λ h. Goes breaks watch 0 h x.world 0 [] g.1 last g.0 in
       let T : List ℕ → Type 0 = λ text. Goes breaks watch 0 cpus x.world 0 [] g.1 text g.0 in
-      let all = subst W (sym shown.watch) (subst B (sym shown.breaks) (subst C (count ∙ sym shown.world.store.maps.cpus) (subst T (sym (alone room last g.2 empty g.6)) g.3))) in
-      (behind x g.1 g.0, (g.0, g.1, all, refl), record { world = g.4; first = still_first n x.first same shown.first; names = shown.names; breaks = shown.breaks; watch = shown.watch; turns = g.5 x.turns shown.turns })
+      let all = subst W (sym shown.watch) (subst B (sym shown.breaks)
+      (subst C (count ∙ sym shown.world.store.maps.cpus) (subst T (sym (alone room last g.2 empty g.6)) g.3))) in (
+        behind x g.1 g.0,
+        (g.0, g.1, all, refl),
+        record {
+          world = g.4;
+          first = still_first n x.first same shown.first;
+          names = shown.names;
+          breaks = shown.breaks;
+          watch = shown.watch;
+          turns = g.5 x.turns shown.turns;
+        },
+      )
 
   pub went_to : (n : MachineState) (more : Option (List (ℕ × ℕ))) (c p : ℕ) (room last : List ℕ) → room ≡ [] → has_cpu m.store c ≡ true → IsPc m.programs p
-      → ((w : World) → Shows m w → (z : World) × (turns : List ℕ) × (text : List ℕ) × Goes (record { cpu = c; pc = p } ∷ []) watch c (c + 1) w c [] turns text z × Shows n z × KeepsOn kept turns more × (last ≡ room ++ text))
+      → ((w : World) → Shows m w → (z : World) × (turns : List ℕ) × (text : List ℕ) × Goes (record { cpu = c; pc = p } ∷ []) watch c (c + 1)
+      w c [] turns text z × Shows n z × KeepsOn kept turns more × (last ≡ room ++ text))
       → IsSameHost m n → Leaves session (GoTo (Some c) (Some p)) last (moved_on n more)
   went_to n more c p room last empty has begins goes same x shown =
       let g = goes x.world shown.world in
@@ -159,37 +209,77 @@ module _ (m : MachineState) (o : OriginState) (names : Names) (breaks : List Bre
       let all = subst W (sym shown.watch) (subst T (sym (alone room last g.2 empty g.6)) g.3) in (
         behind x g.1 g.0,
         (is_cpu m x.world c has shown.world, (subst P (sym shown.world.programs) begins, (g.0, g.1, all, refl))),
-        record { world = g.4; first = still_first n x.first same shown.first; names = shown.names; breaks = shown.breaks; watch = shown.watch; turns = g.5 x.turns shown.turns },
+        record {
+          world = g.4;
+          first = still_first n x.first same shown.first;
+          names = shown.names;
+          breaks = shown.breaks;
+          watch =
+              shown.watch;
+          turns = g.5 x.turns shown.turns;
+        },
       )
 
   pub broken : (c p : ℕ) (more : List Breakpoint) (room last : List ℕ) → has_cpu m.store c ≡ true → IsPc m.programs p
       → more ≡ with_break breaks c p → room ≡ [] → last ≡ room ++ break_line c p
-      → Leaves session (Break (Some c) (Some p)) last (record { machine = m; first = first_of o m.programs; names = names; breaks = more; watch = watch; course = kept })
+      → Leaves session (Break (Some c) (Some p)) last (record {
+        machine = m;
+        first = first_of o m.programs;
+        names = names;
+        breaks = more;
+        watch = watch;
+        course = kept;
+      })
   broken c p more room last has begins same empty put x shown =
       let y : Scene = record x { breaks = with_break x.breaks c p } in
       let P : List Loaded → Type 0 = λ ps. IsPc ps p in (
         y,
         (is_cpu m x.world c has shown.world, (subst P (sym shown.world.programs) begins, alone room last (break_line c p) empty put, refl)),
-        record { world = shown.world; first = shown.first; names = shown.names; breaks = ap (λ (bs : List Breakpoint). with_break bs c p) shown.breaks ∙ sym same; watch = shown.watch; turns = shown.turns },
+        record {
+          world = shown.world;
+          first = shown.first;
+          names = shown.names;
+          breaks = ap (λ (bs : List Breakpoint). with_break bs c p)
+              shown.breaks ∙ sym same;
+          watch = shown.watch;
+          turns = shown.turns;
+        },
       )
 
   pub unbroken : (c p : ℕ) (fewer : List Breakpoint) (room last : List ℕ) → has_cpu m.store c ≡ true → IsPc m.programs p
       → fewer ≡ without_break breaks c p → room ≡ [] → last ≡ room ++ deleted_line c p
-      → Leaves session (Delete (Some c) (Some p)) last (record { machine = m; first = first_of o m.programs; names = names; breaks = fewer; watch = watch; course = kept })
+      → Leaves session (Delete (Some c) (Some p)) last (record {
+        machine = m;
+        first = first_of o m.programs;
+        names = names;
+        breaks = fewer;
+        watch = watch;
+        course = kept;
+      })
   unbroken c p fewer room last has begins same empty put x shown =
       let y : Scene = record x { breaks = without_break x.breaks c p } in
       let P : List Loaded → Type 0 = λ ps. IsPc ps p in (
         y,
         (is_cpu m x.world c has shown.world, (subst P (sym shown.world.programs) begins, alone room last (deleted_line c p) empty put, refl)),
-        record { world = shown.world; first = shown.first; names = shown.names; breaks = ap (λ (bs : List Breakpoint). without_break bs c p) shown.breaks ∙ sym same; watch = shown.watch; turns = shown.turns },
+        record {
+          world = shown.world;
+          first = shown.first;
+          names = shown.names;
+          breaks = ap (λ (bs : List Breakpoint). without_break bs c p)
+              shown.breaks ∙ sym same;
+          watch = shown.watch;
+          turns = shown.turns;
+        },
       )
 
-  pub went_back : (rewound n : MachineState) (runs fewer : List (ℕ × ℕ)) (count c : ℕ) (room last : List ℕ) → kept ≡ Some runs → count ≤ length (unrolled runs) → rewound ≡ first_of o m.programs → TakesBack runs count fewer c
+  pub went_back : (rewound n : MachineState) (runs fewer : List (ℕ × ℕ)) (count c : ℕ) (room last : List ℕ) → kept ≡ Some runs → count ≤
+      length (unrolled runs) → rewound ≡ first_of o m.programs → TakesBack runs count fewer c
       → ((w : World) → Shows rewound w → (z : World) × RunsSchedule w (unrolled fewer) z × Shows n z) → IsSameHost rewound n
       → room ≡ [] → ((text : List ℕ) × IsWhere n.jobs c text × (last ≡ room ++ text)) → Leaves session (Back count) last (moved_on n (Some fewer))
   went_back rewound n runs fewer count c room last is enough again takes turns same empty stands x shown =
       let told : runs ≡ runs_of x.turns = subst (λ (h : Option (List (ℕ × ℕ))). IsKept h x.turns) is shown.turns in
-      let sized : length (unrolled runs) ≡ length x.turns = ap (λ (rs : List (ℕ × ℕ)). length (unrolled rs)) told ∙ ap (λ (cs : List ℕ). length cs) (runs_tell_turns x.turns).0 in
+      let sized : length (unrolled runs) ≡ length x.turns = ap (λ (rs : List (ℕ × ℕ)). length (unrolled rs)) told ∙ ap
+      (λ (cs : List ℕ). length cs) (runs_tell_turns x.turns).0 in
       let before : List ℕ = turns_before x.turns count in
       let more : List ℕ = drop (length x.turns - count) x.turns in
       let cut : before ++ more ≡ x.turns = take-append-drop (length x.turns - count) x.turns in
@@ -202,7 +292,8 @@ module _ (m : MachineState) (o : OriginState) (names : Names) (breaks : List Bre
       let told_place : last ≡ stands.0 = alone room last stands.0 empty stands.2 in
       let W : ℕ → List Task → List ℕ → Type 0 = λ d jobs text. IsWhere jobs d text in
       let place : IsWhere z.0.jobs (cpu_before x.turns count) last =
-      subst (λ (d : ℕ). W d z.0.jobs last) whose (subst (λ (jobs : List Task). W c jobs last) (sym z.2.jobs) (subst (λ (text : List ℕ). W c n.jobs text) (sym told_place) stands.1)) in
+      subst (λ (d : ℕ). W d z.0.jobs last) whose (subst (λ (jobs : List Task). W c jobs last) (sym z.2.jobs)
+      (subst (λ (text : List ℕ). W c n.jobs text) (sym told_place) stands.1)) in
       let programs : n.programs ≡ m.programs = same.programs ∙ ap (λ (r : MachineState). r.programs) again in (
         undone x count z.0,
         (omega (arith, sized, enough), (z.0, subst (λ (cs : List ℕ). RunsSchedule x.first cs z.0) led z.1, place, refl)),
@@ -216,9 +307,12 @@ module _ (m : MachineState) (o : OriginState) (names : Names) (breaks : List Bre
         },
       )
 
-  pub told_last : (rewound n : MachineState) (runs : List (ℕ × ℕ)) (c : ℕ) (recall : Option Recall) (room last : List ℕ) → has_cpu m.store c ≡ true → kept ≡ Some runs → rewound ≡ first_of o m.programs
-      → ((w : World) → Shows rewound w → (z : World) × (past : Option Past) × Recalls kind.Ends c w None (unrolled runs) past z × Shows n z × IsRecall c recall past) → IsSameHost rewound n
-      → room ≡ [] → ((past : Option Past) → IsRecall c recall past → (text : List ℕ) × IsLastText c past n.jobs text × (last ≡ room ++ text)) → Leaves session (Last (Some c)) last (moved_on n kept)
+  pub told_last : (rewound n : MachineState) (runs : List (ℕ × ℕ)) (c : ℕ) (recall : Option Recall) (room last : List ℕ) → has_cpu m.store c
+      ≡ true → kept ≡ Some runs → rewound ≡ first_of o m.programs
+      → ((w : World) → Shows rewound w → (z : World) × (past : Option Past) × Recalls kind.Ends c w None (unrolled runs) past z × Shows n z
+      × IsRecall c recall past) → IsSameHost rewound n
+      → room ≡ [] → ((past : Option Past) → IsRecall c recall past → (text : List ℕ) × IsLastText c past n.jobs text ×
+      (last ≡ room ++ text)) → Leaves session (Last (Some c)) last (moved_on n kept)
   told_last rewound n runs c recall room last has is again turns same empty put x shown =
       let told : runs ≡ runs_of x.turns = subst (λ (h : Option (List (ℕ × ℕ))). IsKept h x.turns) is shown.turns in
       let led : unrolled runs ≡ x.turns = ap (λ (rs : List (ℕ × ℕ)). unrolled rs) told ∙ (runs_tell_turns x.turns).0 in
@@ -241,8 +335,10 @@ module _ (m : MachineState) (o : OriginState) (names : Names) (breaks : List Bre
         },
       )
 
-  pub told_shown : (rewound n : MachineState) (runs : List (ℕ × ℕ)) (c : ℕ) (recall : Option Recall) (state : Cpu) (lines : List (List ℕ)) (last : List ℕ) → has_cpu m.store c ≡ true → kept ≡ Some runs → rewound ≡ first_of o m.programs
-      → ((w : World) → Shows rewound w → (z : World) × (past : Option Past) × Recalls kind.Works c w None (unrolled runs) past z × Shows n z × IsRecall c recall past) → IsSameHost rewound n → IsState m.jobs c state
+  pub told_shown : (rewound n : MachineState) (runs : List (ℕ × ℕ)) (c : ℕ) (recall : Option Recall) (state : Cpu) (lines : List (List ℕ))
+      (last : List ℕ) → has_cpu m.store c ≡ true → kept ≡ Some runs → rewound ≡ first_of o m.programs
+      → ((w : World) → Shows rewound w → (z : World) × (past : Option Past) × Recalls kind.Works c w None (unrolled runs) past z × Shows n z
+      × IsRecall c recall past) → IsSameHost rewound n → IsState m.jobs c state
       → ShowsLines names m.store state.held 0 state.registers lines
       → ((past : Option Past) → IsRecall c recall past → (before : List ℕ) × IsBefore c past before × (last ≡ changed_text before 0 state.registers lines))
       → Leaves session (Show (Some c)) last (moved_on n kept)
@@ -269,8 +365,17 @@ module _ (m : MachineState) (o : OriginState) (names : Names) (breaks : List Bre
         },
       )
 
-  pub set_watch : (name word key : List ℕ) (n : ℕ) (w : Watched) (more : Option Watched) (last : List ℕ) → IsNamed names.maps name n → chosen_in (shape_of m.store) n word ≡ Some (w, key) → more ≡ Some w → last ≡ watch_line name key
-      → Leaves session (Watch name word) last (record { machine = m; first = first_of o m.programs; names = names; breaks = breaks; watch = more; course = kept })
+  pub set_watch : (name word key : List ℕ) (n : ℕ) (w : Watched) (more : Option Watched) (last : List ℕ) → IsNamed names.maps name n →
+      chosen_in (shape_of m.store) n word ≡ Some (w, key) → more ≡ Some w → last ≡ watch_line name key
+      → Leaves session (Watch name word) last (record {
+        machine = m;
+        first = first_of o m.programs;
+        names = names;
+        breaks = breaks;
+        watch =
+            more;
+        course = kept;
+      })
   set_watch name word key n w more last named chosen same put x shown =
       let N : Names → Type 0 = λ ns. IsNamed ns.maps name n in
       let H : Shape → Type 0 = λ h. chosen_in h n word ≡ Some (w, key) in (
@@ -279,8 +384,17 @@ module _ (m : MachineState) (o : OriginState) (names : Names) (breaks : List Bre
         record { world = shown.world; first = shown.first; names = shown.names; breaks = shown.breaks; watch = sym same; turns = shown.turns },
       )
 
-  pub set_variable : (name : List ℕ) (v : Variable) (more : Option Watched) (last : List ℕ) → variable_named name names.variables ≡ Some v → more ≡ Some (variable_watched v) → last ≡ variable_watch_line v.name
-      → Leaves session (WatchVariable name) last (record { machine = m; first = first_of o m.programs; names = names; breaks = breaks; watch = more; course = kept })
+  pub set_variable : (name : List ℕ) (v : Variable) (more : Option Watched) (last : List ℕ) → variable_named name names.variables ≡ Some v →
+      more ≡ Some (variable_watched v) → last ≡ variable_watch_line v.name
+      → Leaves session (WatchVariable name) last (record {
+        machine = m;
+        first = first_of o m.programs;
+        names = names;
+        breaks = breaks;
+        watch
+            = more;
+        course = kept;
+      })
   set_variable name v more last named same put x shown =
       let N : Names → Type 0 = λ ns. variable_named name ns.variables ≡ Some v in (
         record x { watch = Some (variable_watched v) },
@@ -340,8 +454,18 @@ pub told_held : (s : SessionState) (c : ℕ) (last : List ℕ) (state : Cpu) →
 told_held s c last state has hand tells x shown =
     let shows = tells x.world.store shown.world.sound shown.world.store in
     let N : Names → Type 0 = λ names. TellsHeld names.maps x.world.store state (length state.held) last in
-    let J : List Task → Type 0 = λ jobs. IsHeldText x.names.maps x.world.store jobs c last in
-    (x, ((is_cpu s.machine x.world c has shown.world, subst J (sym shown.world.jobs) (inl (hand.0, hand.1, state, hand.2, hand.3, subst N (sym shown.names) shows))), refl), shown)
+    let J : List Task → Type 0 = λ jobs. IsHeldText x.names.maps x.world.store jobs c last in (
+      x,
+      (
+        (
+          is_cpu s.machine x.world c has shown.world,
+          subst J (sym shown.world.jobs)
+              (inl (hand.0, hand.1, state, hand.2, hand.3, subst N (sym shown.names) shows)),
+        ),
+        refl,
+      ),
+      shown,
+    )
 
 pub told_no_held : (s : SessionState) (c : ℕ) (room last : List ℕ) → has_cpu s.machine.store c ≡ true → room ≡ []
     → ((text : List ℕ) × IsOff s.machine.jobs c text × (last ≡ room ++ text)) → Leaves s (Held (Some c)) last s
@@ -359,24 +483,28 @@ told_no_shown s c room last has empty place x shown =
     let same = alone room last place.0 empty place.2 in
     (x, (is_cpu s.machine x.world c has shown.world, inl (subst J (sym shown.world.jobs) (subst T (sym same) place.1), refl)), shown)
 
-pub told_nearby : (s : SessionState) (c : ℕ) (last : List ℕ) → has_cpu s.machine.store c ≡ true → IsNearbyText s.machine.programs s.machine.jobs c last → Leaves s (Nearby (Some c)) last s
+pub told_nearby : (s : SessionState) (c : ℕ) (last : List ℕ) → has_cpu s.machine.store c ≡ true → IsNearbyText s.machine.programs
+    s.machine.jobs c last → Leaves s (Nearby (Some c)) last s
 told_nearby s c last has tells x shown =
     let J : List Task → Type 0 = λ jobs. IsNearbyText x.world.programs jobs c last in
     let P : List Loaded → Type 0 = λ ps. IsNearbyText ps s.machine.jobs c last in
     (x, ((is_cpu s.machine x.world c has shown.world, subst J (sym shown.world.jobs) (subst P (sym shown.world.programs) tells)), refl), shown)
 
-pub told_map : (s : SessionState) (name : List ℕ) (m : ℕ) (last : List ℕ) → IsNamed s.names.maps name m → TellsTable s.machine.store s.names.maps m last → Leaves s (Map name) last s
+pub told_map : (s : SessionState) (name : List ℕ) (m : ℕ) (last : List ℕ) → IsNamed s.names.maps name m → TellsTable s.machine.store
+    s.names.maps m last → Leaves s (Map name) last s
 told_map s name m last named tells x shown =
     let N : Names → Type 0 = λ names. IsNamed names.maps name m in
     let T : Names → Type 0 = λ names. IsTableText x.world.store names.maps m last in
     (x, ((m, subst N (sym shown.names) named, subst T (sym shown.names) (tells x.world.store shown.world.sound shown.world.store)), refl), shown)
 
-pub told_keys : (s : SessionState) (name : List ℕ) (m : ℕ) (last : List ℕ) → IsNamed s.names.maps name m → TellsTableKeys s.machine.store m last → Leaves s (Keys name) last s
+pub told_keys : (s : SessionState) (name : List ℕ) (m : ℕ) (last : List ℕ) → IsNamed s.names.maps name m → TellsTableKeys s.machine.store m
+    last → Leaves s (Keys name) last s
 told_keys s name m last named tells x shown =
     let N : Names → Type 0 = λ names. IsNamed names.maps name m in
     (x, ((m, subst N (sym shown.names) named, tells x.world.store shown.world.sound shown.world.store), refl), shown)
 
-pub told_course : (s : SessionState) (runs : List (ℕ × ℕ)) (last : List ℕ) → s.course ≡ Some runs → last ≡ codes "steps" ++ runs_text (length runs) runs ++ codes "\n"
+pub told_course : (s : SessionState) (runs : List (ℕ × ℕ)) (last : List ℕ) → s.course ≡ Some runs → last ≡ codes "steps" ++ runs_text
+    (length runs) runs ++ codes "\n"
     → Leaves s Schedule last s
 told_course s runs last is put x shown =
     let K : Option (List (ℕ × ℕ)) → Type 0 = λ kept. IsKept kept x.turns in
@@ -390,12 +518,14 @@ told_maps s last put x shown =
     (x, (subst N (sym shown.names) (subst H (sym shown.world.store.shape) put), refl), shown)
 
 pub told_variables : (s : SessionState) (last : List ℕ)
-    → ((p : Plain) → IsSoundStore p → StandsFor s.machine.store p → last ≡ variable_lines p s.names.variables (length s.names.variables)) → Leaves s Variables last s
+    → ((p : Plain) → IsSoundStore p → StandsFor s.machine.store p → last ≡ variable_lines p s.names.variables (length s.names.variables)) →
+    Leaves s Variables last s
 told_variables s last told x shown =
     let N : Names → Type 0 = λ names. last ≡ variable_lines x.world.store names.variables (length names.variables) in
     (x, (subst N (sym shown.names) (told x.world.store shown.world.sound shown.world.store), refl), shown)
 
-pub told_number : (s : SessionState) (name : List ℕ) (v : Variable) (last : List ℕ) → variable_named name s.names.variables ≡ Some v → TellsNumber s.machine.store v last → Leaves s (Number name) last s
+pub told_number : (s : SessionState) (name : List ℕ) (v : Variable) (last : List ℕ) → variable_named name s.names.variables ≡ Some v →
+    TellsNumber s.machine.store v last → Leaves s (Number name) last s
 told_number s name v last named tells x shown =
     let N : Names → Type 0 = λ names. variable_named name names.variables ≡ Some v in
     (x, ((v, subst N (sym shown.names) named, tells x.world.store shown.world.sound shown.world.store), refl), shown)
@@ -471,7 +601,8 @@ no_line s fields text e none x shown =
     let P : List (List ℕ) → Type 0 = λ fs. Obeys x fs text x in
     (x, subst P (sym e) (none, refl), λ course. course, shown)
 
-pub line_done : (s t : SessionState) (fields : List (List ℕ)) (order : Order) (text : List ℕ) → Some order ≡ order_of fields → Leaves s order text t → LeavesLine s fields text t
+pub line_done : (s t : SessionState) (fields : List (List ℕ)) (order : Order) (text : List ℕ) → Some order ≡ order_of fields → Leaves s
+    order text t → LeavesLine s fields text t
 line_done s t [] order text e leaves x shown = let no : Some order ≡ None = e in cc
 line_done s t (f ∷ fs) order text e leaves x shown =
     let l = leaves x shown in
@@ -482,10 +613,12 @@ line_done s t (f ∷ fs) order text e leaves x shown =
 fewer : (kept : Option (List (ℕ × ℕ))) (turns : List ℕ) (n : ℕ) → IsKept kept turns → AreFewer (count_of kept) n → length turns < n
 fewer None turns n is less = absurd less
 fewer (Some runs) turns n is less =
-    let sized : length (unrolled runs) ≡ length turns = ap (λ (rs : List (ℕ × ℕ)). length (unrolled rs)) is ∙ ap (λ (cs : List ℕ). length cs) (runs_tell_turns turns).0 in
+    let sized : length (unrolled runs) ≡ length turns = ap (λ (rs : List (ℕ × ℕ)). length (unrolled rs)) is ∙ ap
+    (λ (cs : List ℕ). length cs) (runs_tell_turns turns).0 in
     omega (arith, sized, less)
 
-few_turns : (h : Shape) (names : Names) (kept : Option (List (ℕ × ℕ))) (turns : List ℕ) (order : Order) → IsKept kept turns → HasBadOperand h names (count_of kept) order → HasBadOperand h names (Some (length turns)) order
+few_turns : (h : Shape) (names : Names) (kept : Option (List (ℕ × ℕ))) (turns : List ℕ) (order : Order) → IsKept kept turns → HasBadOperand
+    h names (count_of kept) order → HasBadOperand h names (Some (length turns)) order
 few_turns h names kept turns (Back n) is few = fewer kept turns n is few
 few_turns h names kept turns (Watch name word) is few = few
 few_turns h names kept turns (WatchVariable name) is few = absurd few
@@ -514,7 +647,8 @@ few_turns h names kept turns Help is few = absurd few
 few_turns h names kept turns (Held c) is few = absurd few
 few_turns h names kept turns (Nearby c) is few = absurd few
 
-counted : (cpus : ℕ) (programs : List Loaded) (h : Shape) (names : Names) (kept : Option (List (ℕ × ℕ))) (turns : List ℕ) (order : Order) (e : DebugError) → IsKept kept turns
+counted : (cpus : ℕ) (programs : List Loaded) (h : Shape) (names : Names) (kept : Option (List (ℕ × ℕ))) (turns : List ℕ) (order : Order)
+    (e : DebugError) → IsKept kept turns
     → RefusesOrder cpus programs h names (count_of kept) order e → RefusesOrder cpus programs h names (Some (length turns)) order e
 counted cpus programs h names kept turns order error.NoCpu is here = here
 counted cpus programs h names kept turns order error.NoPc is here = here
@@ -525,7 +659,8 @@ counted cpus programs h names kept turns order error.BadOperand is here = few_tu
 
 module _ (s : SessionState) (x : Scene) (shown : IsShown s x) where
   -- what a session refuses, its scenes refuse
-  moved : (order : Order) (e : DebugError) → RefusesHere s order e → RefusesOrder x.world.store.shape.cpus x.world.programs x.world.store.shape x.names (Some (length x.turns)) order e
+  moved : (order : Order) (e : DebugError) → RefusesHere s order e → RefusesOrder x.world.store.shape.cpus x.world.programs
+      x.world.store.shape x.names (Some (length x.turns)) order e
   moved order e here =
       let cpus = length s.machine.store.maps.runs in
       let h = shape_of s.machine.store in
@@ -533,9 +668,12 @@ module _ (s : SessionState) (x : Scene) (shown : IsShown s x) where
       let P : List Loaded → Type 0 = λ programs. RefusesOrder cpus programs x.world.store.shape x.names (Some (length x.turns)) order e in
       let H : Shape → Type 0 = λ shape. RefusesOrder cpus s.machine.programs shape x.names (Some (length x.turns)) order e in
       let N : Names → Type 0 = λ names. RefusesOrder cpus s.machine.programs h names (Some (length x.turns)) order e in
-      subst C (sym shown.world.store.maps.cpus) (subst P (sym shown.world.programs) (subst H (sym shown.world.store.shape) (subst N (sym shown.names) (counted cpus s.machine.programs h s.names s.course x.turns order e shown.turns here))))
+      subst C (sym shown.world.store.maps.cpus) (subst P (sym shown.world.programs)
+      (subst H (sym shown.world.store.shape) (subst N (sym shown.names)
+      (counted cpus s.machine.programs h s.names s.course x.turns order e shown.turns here))))
 
-pub line_refused : (s : SessionState) (fields : List (List ℕ)) (order : Order) (e : DebugError) → Some order ≡ order_of fields → RefusesHere s order e → RefusesLine s fields e
+pub line_refused : (s : SessionState) (fields : List (List ℕ)) (order : Order) (e : DebugError) → Some order ≡ order_of fields → RefusesHere
+    s order e → RefusesLine s fields e
 line_refused s fields order error.NoCpu is here x shown = (order, sym is, moved s x shown order error.NoCpu here)
 line_refused s fields order error.NoPc is here x shown = (order, sym is, moved s x shown order error.NoPc here)
 line_refused s fields order error.NoMap is here x shown = (order, sym is, moved s x shown order error.NoMap here)

@@ -14,7 +14,8 @@ abbrev pub Completes : Names → Plain → List Span → ℕ → List ℕ → Li
 Completes names s held k ns lines =
     (rest : List (List ℕ)) → AreShownLines names s held k (drop k ns) rest → AreShownLines names s held 0 ns (lines ++ rest)
 
-pub one_more_line : (names : Names) (s : Plain) (held : List Span) (k n : ℕ) (ns : List ℕ) (lines more : List (List ℕ)) (line : List ℕ) → drop k ns ≡ n ∷ drop (k + 1) ns
+pub one_more_line : (names : Names) (s : Plain) (held : List Span) (k n : ℕ) (ns : List ℕ) (lines more : List (List ℕ)) (line : List ℕ) →
+    drop k ns ≡ n ∷ drop (k + 1) ns
     → Completes names s held k ns lines → IsShownLine names s held k n line → more ≡ lines ++ line ∷ [] → Completes names s held (k + 1) ns more
 one_more_line names s held k n ns lines more line next so_far one put rest are =
     let up : k + 1 ≡ suc k = omega arith in
@@ -24,11 +25,13 @@ one_more_line names s held k n ns lines more line next so_far one put rest are =
     let same : more ++ rest ≡ lines ++ line ∷ rest = ap (λ (ls : List (List ℕ)). ls ++ rest) put ∙ append_assoc lines (line ∷ []) rest in
     subst (λ (ls : List (List ℕ)). AreShownLines names s held 0 ns ls) (sym same) all
 
-pub all_lines : (names : Names) (s : Plain) (held : List Span) (k : ℕ) (ns : List ℕ) (lines : List (List ℕ)) → k ≡ length ns → Completes names s held k ns lines → AreShownLines names s held 0 ns lines
+pub all_lines : (names : Names) (s : Plain) (held : List Span) (k : ℕ) (ns : List ℕ) (lines : List (List ℕ)) → k ≡ length ns → Completes
+    names s held k ns lines → AreShownLines names s held 0 ns lines
 all_lines names s held k ns lines all so_far =
     let none : drop k ns ≡ [] = ap (λ (j : ℕ). drop j ns) all ∙ drop-length ns in
     let rest : AreShownLines names s held k [] [] = tt in
-    subst (λ (ls : List (List ℕ)). AreShownLines names s held 0 ns ls) (append-nil lines) (so_far [] (subst (λ (ms : List ℕ). AreShownLines names s held k ms []) (sym none) rest))
+    subst (λ (ls : List (List ℕ)). AreShownLines names s held 0 ns ls) (append-nil lines)
+    (so_far [] (subst (λ (ms : List ℕ). AreShownLines names s held k ms []) (sym none) rest))
 
 kept_before : (kept : Recall) (registers : List ℕ) → ((jobs : List Task) (c : ℕ) → IsStand jobs c kept.stand → HasRegisters jobs c registers)
     → (c : ℕ) (past : Option Past) → IsRecall c (Some kept) past → IsBefore c past registers

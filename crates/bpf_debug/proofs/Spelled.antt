@@ -1,5 +1,6 @@
 -- Any schedule is spelled by `step` commands, and scripts make turns alone.
-use Rattle.std.proofs.Common.{◌≡◌, ℕ, zero, suc, ◌+◌, ◌<◌, List, [], ◌∷◌, ◌++◌, get_or, append_assoc, append-nil, Option, Some, None, ◌⊎◌, inl, inr, refl, sym, ap, subst, ◌∙◌, arith}
+use Rattle.std.proofs.Common.{◌≡◌, ℕ, zero, suc, ◌+◌, ◌<◌, List, [], ◌∷◌, ◌++◌, get_or, append_assoc, append-nil, Option, Some, None, ◌⊎◌}
+use Rattle.std.proofs.Common.{inl, inr, refl, sym, ap, subst, ◌∙◌, arith}
 use Rattle.std.specs.Prelude.{All, Ok, Err, codes, map, nat_lt, replicate, slice_get, true}
 use Rattle.std.specs.Fmt.{decimal, digits}
 use Rattle.std.proofs.lemmas.Bool.{cases_lt, ltb-true, and_parts}
@@ -34,13 +35,16 @@ use Rattle.bpf_debug.proofs.SessionLaws.{follows_on}
 legal_shape : (s t : Plain) (log : List Entry) → PlainlyLegal s log t → t.shape ≡ s.shape
 legal_shape = history_shape PlainlyAllowed (λ s t c e a. a.0)
 
-advances_shape : (program : Loaded) (c : ℕ) (s t : Plain) (old new : Cpu) (n left : ℕ) (end : Option Outcome) → Advances program c s old n end t new left → t.shape ≡ s.shape
+advances_shape : (program : Loaded) (c : ℕ) (s t : Plain) (old new : Cpu) (n left : ℕ) (end : Option Outcome) → Advances program c s old n
+    end t new left → t.shape ≡ s.shape
 advances_shape program c s t old new zero left end a = ap (λ (p : Plain). p.shape) a.1
 advances_shape program c s t old new (suc n) left end a = legal_shape s t _ a.3
 
-settles_shape : (w z : World) (c j : ℕ) (task : Task) (new : Cpu) (left : ℕ) (end : Option Outcome) (answer : Turn) → Settles w c j task new left end answer z → z.store.shape ≡ w.store.shape
+settles_shape : (w z : World) (c j : ℕ) (task : Task) (new : Cpu) (left : ℕ) (end : Option Outcome) (answer : Turn) → Settles w c j task new
+    left end answer z → z.store.shape ≡ w.store.shape
 settles_shape w z c j task new left None answer a = ap (λ (x : World). x.store.shape) a.1
-settles_shape w z c j task new left (Some end) answer a = ap (λ (s : Plain). s.shape) (lists_store (with_end w j task end a.0) c z a.3) ∙ event_shape w.store a.0 c End a.1.0
+settles_shape w z c j task new left (Some end) answer a = ap (λ (s : Plain). s.shape) (lists_store (with_end w j task end a.0) c z a.3) ∙
+    event_shape w.store a.0 c End a.1.0
 
 goes_shape : (w z : World) (c j : ℕ) (task : Task) (old : Cpu) (left : ℕ) (answer : Turn) → GoesOn w c j task old left answer z → z.store.shape ≡ w.store.shape
 goes_shape w z c j task old left answer g =
@@ -73,7 +77,8 @@ lowest P test (u ∷ us) = elim (test u) [
     other : (P u → ⊥) → (t : Task) → Some u ≡ Some t → P t → ⊥
     other out t at p = let same : t ≡ u = cc in out (subst P same p)
 
-    before : (j : ℕ) → ((k : ℕ) (t : Task) → k < j → slice_get us k ≡ Some t → P t → ⊥) → (P u → ⊥) → (k : ℕ) (t : Task) → k < suc j → slice_get (u ∷ us) k ≡ Some t → P t → ⊥
+    before : (j : ℕ) → ((k : ℕ) (t : Task) → k < j → slice_get us k ≡ Some t → P t → ⊥) → (P u → ⊥) → (k : ℕ) (t : Task) → k < suc j →
+        slice_get (u ∷ us) k ≡ Some t → P t → ⊥
     before j low out zero t less at p = other out t at p
     before j low out (suc k) t less at p = low k t (omega arith) at p
 
@@ -188,7 +193,8 @@ steps_spell_schedules x (c ∷ cs) z few each runs =
     let one = step_done x c runs.0 runs.1 (omega (arith, has)) has runs.2 in
     let rest = steps_spell_schedules m cs z (omega (arith, ap (λ (h : Shape). h.cpus) shape))
     (λ k d inside. subst (λ (h : Shape). P h (get_or cs k d)) (sym shape) (each (suc k) d (omega arith))) runs.3 in
-    let all : RunsScript m (map step_line cs) rest.0 (behind x (c ∷ cs) z) = subst (λ (y : Scene). RunsScript m (map step_line cs) rest.0 y) (behind_both x (c ∷ []) cs runs.1 z) rest.1 in
+    let all : RunsScript m (map step_line cs) rest.0 (behind x (c ∷ cs) z) = subst (λ (y : Scene). RunsScript m (map step_line cs) rest.0 y)
+    (behind_both x (c ∷ []) cs runs.1 z) rest.1 in
     (Ok one.0 ∷ rest.0, (m, one.1, all))
 
 -- ---- a schedule in run lengths
@@ -196,7 +202,8 @@ of_cpus : (x : Scene) (runs : List (ℕ × ℕ)) → are_cpus x.world.store.shap
 of_cpus x [] each = All-nil (IsCpu x)
 of_cpus x (run ∷ runs) each =
     let both = and_parts (nat_lt run.0 x.world.store.shape.cpus) (are_cpus x.world.store.shape.cpus runs) each in
-    All-append (IsCpu x) (replicate run.1 run.0) (unrolled runs) (All-replicate (IsCpu x) run.1 run.0 (ltb-true run.0 x.world.store.shape.cpus both.0)) (of_cpus x runs both.1)
+    All-append (IsCpu x) (replicate run.1 run.0) (unrolled runs)
+    (All-replicate (IsCpu x) run.1 run.0 (ltb-true run.0 x.world.store.shape.cpus both.0)) (of_cpus x runs both.1)
 
 pub schedules_are_steps : SchedulesAreSteps
 schedules_are_steps x y runs text few done =

@@ -1,5 +1,6 @@
 -- The turns that a session has made: its course, as it is printed and kept (our own choice).
-use Rattle.std.specs.Prelude.{◌≡◌, ℕ, ◌+◌, ◌-◌, ◌<◌, ◌==◌, ◌&&◌, nat_lt, if◌then◌else◌, List, [], ◌∷◌, ◌++◌, Option, Some, None, codes, length, option_map, slice_index_or, take}
+use Rattle.std.specs.Prelude.{◌≡◌, ℕ, ◌+◌, ◌-◌, ◌<◌, ◌==◌, ◌&&◌, nat_lt, if◌then◌else◌, List, [], ◌∷◌, ◌++◌, Option, Some, None, codes}
+use Rattle.std.specs.Prelude.{length, option_map, slice_index_or, take}
 use Rattle.bpf_schedule.specs.Spelling.{runs_text}
 use Rattle.bpf_machine.specs.Schedule.{unrolled}
 use Rattle.bpf_debug.specs.Command.{most_turns}

@@ -1,5 +1,6 @@
 -- A listing has the lines that it lists, each with a comment after it.
-use Rattle.std.proofs.Common.{◌≡◌, ℕ, zero, suc, ◌+◌, ◌*◌, ◌/◌, ◌%◌, ◌<◌, Bool, true, false, cond, ◌==◌, ◌&&◌, not, List, [], ◌∷◌, ◌++◌, length, append_assoc, append-nil, codes, drop, take, slice_index, None, refl, sym, ap, subst, ◌∙◌, arith}
+use Rattle.std.proofs.Common.{◌≡◌, ℕ, zero, suc, ◌+◌, ◌*◌, ◌/◌, ◌%◌, ◌<◌, Bool, true, false, cond, ◌==◌, ◌&&◌, not, List, [], ◌∷◌, ◌++◌}
+use Rattle.std.proofs.Common.{length, append_assoc, append-nil, codes, drop, take, slice_index, None, refl, sym, ap, subst, ◌∙◌, arith}
 use Rattle.std.specs.Fmt.{decimal, digits, digits_onto, digit_glyph}
 use Rattle.std.specs.List.{list_all, onto_first}
 use Rattle.std.proofs.lemmas.Bool.{and_parts, and_from}
@@ -34,7 +35,8 @@ hex_in_line : (t bytes : List ℕ) → in_lines t ≡ true → in_lines (encode_
 unfolding encode_with
 hex_in_line t [] h = refl
 hex_in_line t (b ∷ bytes) h =
-    and_from (in_line (slice_index t (b / 16))) _ (digit_in_line t (b / 16) h) (and_from (in_line (slice_index t (b % 16))) _ (digit_in_line t (b % 16) h) (hex_in_line t bytes h))
+    and_from (in_line (slice_index t (b / 16))) _ (digit_in_line t (b / 16) h)
+    (and_from (in_line (slice_index t (b % 16))) _ (digit_in_line t (b % 16) h) (hex_in_line t bytes h))
 
 glyph_in_line : (d : ℕ) → in_line (digit_glyph false d) ≡ true
 glyph_in_line d = grind (arith, nat_tests)
@@ -94,7 +96,8 @@ one_line : (line : List ℕ) → in_lines line ≡ true → lines_of line ≡ li
 one_line [] h = refl
 one_line (b ∷ line) h = by_test (b == 10) refl (and_parts (in_line b) (in_lines line) h).0 (one_line line (and_parts (in_line b) (in_lines line) h).1)
   where
-    by_test : (t : Bool) → b == 10 ≡ t → in_line b ≡ true → lines_of line ≡ line ∷ [] → cond t ([] ∷ lines_of line) (onto_first b (lines_of line)) ≡ (b ∷ line) ∷ []
+    by_test : (t : Bool) → b == 10 ≡ t → in_line b ≡ true → lines_of line ≡ line ∷ [] → cond t ([] ∷ lines_of line)
+        (onto_first b (lines_of line)) ≡ (b ∷ line) ∷ []
     by_test true e f more = let none : not true ≡ true = ap not (sym e) ∙ f in cc
     by_test false e f more = ap (onto_first b) more
 
@@ -107,7 +110,8 @@ listed_lines say pc bytes (line ∷ []) printed (s ∷ ss) some lone listing rea
     let behind = behind_line pc size bytes in
     let whole : printed ≡ line ++ behind = listing.3 ∙ ap (λ more. line ++ (behind ++ more)) listing.4 ∙ ap (λ b. line ++ b) (append-nil behind) in
     let lone : in_lines (line ++ behind) ≡ true = in_lines-append line behind lone.0 (behind_in_line pc size bytes) in
-    subst (λ ls. AreLinesWith None ls (s ∷ ss)) (sym (ap lines_of whole ∙ one_line (line ++ behind) lone)) (say line behind s (no_tokens pc size bytes) read.0, read.1)
+    subst (λ ls. AreLinesWith None ls (s ∷ ss)) (sym (ap lines_of whole ∙ one_line (line ++ behind) lone))
+    (say line behind s (no_tokens pc size bytes) read.0, read.1)
 listed_lines say pc bytes (line ∷ next ∷ lines) printed (s ∷ ss) some lone listing read =
     let size = words_of listing.0.body in
     let behind = behind_line pc size bytes in
@@ -115,7 +119,8 @@ listed_lines say pc bytes (line ∷ next ∷ lines) printed (s ∷ ss) some lone
     let whole : printed ≡ (line ++ behind) ++ 10 ∷ more = listing.3 ∙ sym (append_assoc line behind (10 ∷ more)) in
     let alone : in_lines (line ++ behind) ≡ true = in_lines-append line behind lone.0 (behind_in_line pc size bytes) in
     let rest = listed_lines say (pc + size) (drop (8 * size) bytes) (next ∷ lines) more ss (omega arith) lone.1 listing.4 read.1 in
-    subst (λ ls. AreLinesWith None ls (s ∷ ss)) (sym (ap lines_of whole ∙ fed_line (line ++ behind) more alone)) (say line behind s (no_tokens pc size bytes) read.0, rest)
+    subst (λ ls. AreLinesWith None ls (s ∷ ss)) (sym (ap lines_of whole ∙ fed_line (line ++ behind) more alone))
+    (say line behind s (no_tokens pc size bytes) read.0, rest)
 
 -- A LISTING stands for what its text stands for
 pub assembled_alike : CommentsSayNothing → ListingsAssembleAlike

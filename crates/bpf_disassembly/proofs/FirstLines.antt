@@ -26,6 +26,7 @@ whole (b ∷ bs) h = whole_by b bs (is_feed b) refl h (whole bs)
 pub cut : (text : List ℕ) → position_or_len is_feed text < length text → lines_of text ≡ before_first is_feed text ∷ lines_of (after_first is_feed text)
 cut text h = slice_split_first is_feed text 0 h
 
-pub shorter : (text : List ℕ) → position_or_len is_feed text < length text → length (before_first is_feed text) + (length (after_first is_feed text) + 1) ≤ length text
+pub shorter : (text : List ℕ) → position_or_len is_feed text < length text → length (before_first is_feed text) +
+    (length (after_first is_feed text) + 1) ≤ length text
 shorter text h =
     omega (arith, h, length-take (position_or_len is_feed text) text, length-drop (position_or_len is_feed text + 1) text)

@@ -1,5 +1,6 @@
 -- The canonical text of forms, and of whole programs.
-use Rattle.std.proofs.Common.{◌≡◌, ℕ, ◌+◌, ◌<◌, ◌≤◌, add-one, List, [], ◌∷◌, ◌++◌, append_assoc, append-nil, length, get_or, drop, drop-cons, refl, sym, ap, ◌∙◌}
+use Rattle.std.proofs.Common.{◌≡◌, ℕ, ◌+◌, ◌<◌, ◌≤◌, add-one, List, [], ◌∷◌, ◌++◌, append_assoc, append-nil, length, get_or, drop}
+use Rattle.std.proofs.Common.{drop-cons, refl, sym, ap, ◌∙◌}
 use Rattle.std.proofs.lemmas.List.{drop_all}
 use Rattle.bpf_insn.specs.declared.instruction.Insn.{Insn}
 use Rattle.bpf_spelling.specs.Form.{Item, item_text, text_of, line_of, canonical}
@@ -18,7 +19,8 @@ pub grown : (text new : List ℕ) (is : List Insn) (k : ℕ) (d : Insn) → k < 
 grown text new is k d lt e h =
     let line = line_of (get_or is k d) in
     let rest = canonical (drop (k + 1) is) in
-    let next : canonical (drop k is) ≡ line ++ 10 ∷ rest = ap canonical (drop-cons is k d lt) ∙ ap (λ j. line ++ 10 ∷ canonical (drop j is)) (sym (add-one k)) in
+    let next : canonical (drop k is) ≡ line ++ 10 ∷ rest = ap canonical (drop-cons is k d lt) ∙ ap (λ j. line ++ 10 ∷ canonical (drop j is))
+    (sym (add-one k)) in
     ap (λ t. t ++ rest) e ∙ append_assoc text (line ++ 10 ∷ []) rest ∙ ap (λ t. text ++ t) (behind line rest ∙ sym next) ∙ h
 
 -- no line is left

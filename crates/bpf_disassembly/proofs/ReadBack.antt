@@ -1,5 +1,6 @@
 -- The canonical text of every instruction list reads back to it.
-use Rattle.std.proofs.Common.{◌≡◌, ℕ, ◌+◌, ◌^◌, ◌<◌, ◌≤◌, Bool, true, false, not, ◌==◌, List, [], ◌∷◌, ◌++◌, length, take, Option, Some, None, refl, sym, ap, subst, ◌∙◌, arith}
+use Rattle.std.proofs.Common.{◌≡◌, ℕ, ◌+◌, ◌^◌, ◌<◌, ◌≤◌, Bool, true, false, not, ◌==◌, List, [], ◌∷◌, ◌++◌, length, take, Option, Some}
+use Rattle.std.proofs.Common.{None, refl, sym, ap, subst, ◌∙◌, arith}
 use Rattle.std.specs.Prelude.{ℤ, pos, negsuc}
 use Rattle.std.specs.List.{list_all}
 use Rattle.std.proofs.lemmas.Bool.{and_parts}
@@ -35,7 +36,8 @@ use Rattle.bpf_spelling.specs.declared.operators.Operator.{Operator}
 use Rattle.bpf_spelling.specs.declared.operators.Operator.TheVariants.{Plain, Signed as SignedBy}
 use Rattle.bpf_text.specs.Line.{Written}
 use Rattle.bpf_text.specs.Private.Pieces.{operator_at, target_at, label_at, cell_at}
-use Rattle.bpf_text.specs.Private.Lines.{line_at, statement_at, register_at, operation_at, lock_at, branch_at, jump_at, jump_long_at, call_at, call_local_at, store_at}
+use Rattle.bpf_text.specs.Private.Lines.{line_at, statement_at, register_at, operation_at, lock_at, branch_at, jump_at, jump_long_at}
+use Rattle.bpf_text.specs.Private.Lines.{call_at, call_local_at, store_at}
 use Rattle.bpf_lines.specs.Private.Cutting.{in_line}
 use Rattle.bpf_text.specs.Assembly.{Source, IsLine, AreLinesWith, Assembles, label_of, unlabelled, IsBody, first_place, meaning_of, program_of}
 use Rattle.bpf_lines.specs.Lines.{lines_of}
@@ -84,8 +86,34 @@ alu_small op w d (operand.Immediate n) h = (tt, (tt, operator_small (operator_of
 alu_small op w d (operand.Register r) h = (tt, (tt, operator_small (operator_of op) (Blank ∷ Is (Register w r) ∷ []) (tt, (tt, tt))))
 
 branch_small : (c : Condition) (w : Width) (d : Reg) (s : Operand) (o : ℤ) → Fits (insn.JumpIf w c d s o) → AreSmall (form_of (insn.JumpIf w c d s o) None)
-branch_small c w d (operand.Immediate n) o h = (tt, (tt, (tt, (tt, operator_small (comparison_of c) (Blank ∷ Signed n ∷ Blank ∷ Is (Word key.Goto) ∷ Blank ∷ Target o None ∷ []) (tt, (small32 n h.0, (tt, (tt, (tt, (small16 o h.1, tt))))))))))
-branch_small c w d (operand.Register r) o h = (tt, (tt, (tt, (tt, operator_small (comparison_of c) (Blank ∷ Is (Register w r) ∷ Blank ∷ Is (Word key.Goto) ∷ Blank ∷ Target o None ∷ []) (tt, (tt, (tt, (tt, (tt, (small16 o h, tt))))))))))
+branch_small c w d (operand.Immediate n) o h = (
+  tt,
+  (
+    tt,
+    (
+      tt,
+      (
+        tt,
+        operator_small (comparison_of c)
+            (Blank ∷ Signed n ∷ Blank ∷ Is (Word key.Goto) ∷ Blank ∷ Target o None ∷ []) (tt, (small32 n h.0, (tt, (tt, (tt, (small16 o h.1, tt)))))),
+      ),
+    ),
+  ),
+)
+branch_small c w d (operand.Register r) o h = (
+  tt,
+  (
+    tt,
+    (
+      tt,
+      (
+        tt,
+        operator_small (comparison_of c)
+            (Blank ∷ Is (Register w r) ∷ Blank ∷ Is (Word key.Goto) ∷ Blank ∷ Target o None ∷ []) (tt, (tt, (tt, (tt, (tt, (small16 o h, tt)))))),
+      ),
+    ),
+  ),
+)
 
 atomic_small : (f : AtomicForm) (w : Width) (b : Reg) (o : ℤ) (r : Reg) → SmallInteger o → AreSmall (atomic_items f w b o r)
 atomic_small (form.Locked s) w b o r h = assumption h
@@ -119,7 +147,8 @@ colon_call : (us : List Tok) → call_at (Mark sign.Colon ∷ us) ≡ call_local
 unfolding call_at
 colon_call us = refl
 
-no_jump : (us : List Tok) → (jump_at (Mark sign.Colon ∷ us) ≡ None) × (jump_long_at (Mark sign.Colon ∷ us) ≡ None) × (call_local_at (Mark sign.Colon ∷ us) ≡ None)
+no_jump : (us : List Tok) → (jump_at (Mark sign.Colon ∷ us) ≡ None) × (jump_long_at (Mark sign.Colon ∷ us) ≡ None) ×
+    (call_local_at (Mark sign.Colon ∷ us) ≡ None)
 unfolding jump_at jump_long_at call_local_at
 no_jump us = let e = colon_target us in rw e (refl, refl, refl)
 

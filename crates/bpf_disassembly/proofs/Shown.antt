@@ -1,5 +1,6 @@
 -- Canonical text has the tokens of its form.
-use Rattle.std.proofs.Common.{◌≡◌, ℕ, ◌+◌, ◌-◌, ◌^◌, ◌<◌, ◌≤◌, zero, suc, Bool, true, false, ◌==◌, ◌&&◌, nat_eq, List, [], ◌∷◌, ◌++◌, length, take, drop, Some, None, refl, sym, ap, subst, ◌∙◌, arith, add-one}
+use Rattle.std.proofs.Common.{◌≡◌, ℕ, ◌+◌, ◌-◌, ◌^◌, ◌<◌, ◌≤◌, zero, suc, Bool, true, false, ◌==◌, ◌&&◌, nat_eq, List, [], ◌∷◌, ◌++◌}
+use Rattle.std.proofs.Common.{length, take, drop, Some, None, refl, sym, ap, subst, ◌∙◌, arith, add-one}
 use Rattle.std.specs.Prelude.{ℤ, pos, negsuc, neg_ℤ, nat_lt, replicate}
 use Rattle.std.proofs.Math.Seq.{take-append_seam, drop-append_seam}
 use Rattle.std.specs.List.{list_all, prefix_len, starts_with}
@@ -62,7 +63,8 @@ front_by : (text : List ℕ) (w : List ℕ) (n : ℕ) → word_len text ≡ n �
 unfolding front_tok front_len
 front_by text w n e h t = let some = positive n h in rw (e, some, t) (refl, refl)
 
-pub word_front : (w rest : List ℕ) → list_all is_word_byte w ≡ true → 0 < length w → EndsWord rest → (front_tok (w ++ rest) ≡ word_tok w) × (front_len (w ++ rest) ≡ length w)
+pub word_front : (w rest : List ℕ) → list_all is_word_byte w ≡ true → 0 < length w → EndsWord rest → (front_tok (w ++ rest) ≡ word_tok w) ×
+    (front_len (w ++ rest) ≡ length w)
 word_front w rest h some e = front_by (w ++ rest) w (length w) (word_len-append w rest h e) some (take-append_seam w rest)
 
 pub register_tok : (w : Width) (r : Reg) → word_tok (register_text w r) ≡ Register w r
@@ -127,12 +129,14 @@ sign_no_word : (s : Sign) (rest : List ℕ) → word_len (sign_text s ++ rest) �
 sign_no_word sign.ShlAssign rest = refl
 sign_no_word s rest = refl
 
-pub sign_front : (s : Sign) (rest : List ℕ) → EndsSign rest → (front_tok (sign_text s ++ rest) ≡ Mark s) × (front_len (sign_text s ++ rest) ≡ length (sign_text s))
+pub sign_front : (s : Sign) (rest : List ℕ) → EndsSign rest → (front_tok (sign_text s ++ rest) ≡ Mark s) ×
+    (front_len (sign_text s ++ rest) ≡ length (sign_text s))
 sign_front s rest e = marked s (sign_text s ++ rest) (sign_no_word s rest) (sym (first_is_longest (sign_text s ++ rest)) ∙ sign_first s rest e)
 
 -- ---- one token
 
-pub token_front : (text rest : List ℕ) (t : Tok) (ts : List Tok) → after_blanks (text ++ rest) ≡ text ++ rest → (IsEnd (text ++ rest) → ⊥) → front_tok (text ++ rest) ≡ t → front_len (text ++ rest) ≡ length text → AreTokens (after_blanks rest) ts
+pub token_front : (text rest : List ℕ) (t : Tok) (ts : List Tok) → after_blanks (text ++ rest) ≡ text ++ rest → (IsEnd (text ++ rest) → ⊥) →
+    front_tok (text ++ rest) ≡ t → front_len (text ++ rest) ≡ length text → AreTokens (after_blanks rest) ts
     → AreTokens (after_blanks (text ++ rest)) (t ∷ ts)
 token_front text rest t ts start some tok len more =
     let P : List ℕ → Type 0 = λ x. AreTokens x (t ∷ ts) in
@@ -148,7 +152,8 @@ word_byte b e = (by_test (is_blank b) refl, λ f. let P : ℕ → Type 0 = λ k.
     by_test false h = refl
     by_test true h = grind (arith, nat_tests)
 
-pub word_token : (w rest : List ℕ) (t : Tok) (ts : List Tok) → list_all is_word_byte w ≡ true → 0 < length w → EndsWord rest → word_tok w ≡ t → AreTokens (after_blanks rest) ts → AreTokens (after_blanks (w ++ rest)) (t ∷ ts)
+pub word_token : (w rest : List ℕ) (t : Tok) (ts : List Tok) → list_all is_word_byte w ≡ true → 0 < length w → EndsWord rest → word_tok w ≡
+    t → AreTokens (after_blanks rest) ts → AreTokens (after_blanks (w ++ rest)) (t ∷ ts)
 word_token [] rest t ts all some ends tok more = absurd (omega arith)
 word_token (b ∷ w) rest t ts all some ends tok more =
     let front = word_front (b ∷ w) rest all some ends in
@@ -159,7 +164,8 @@ sign_start : (s : Sign) (rest : List ℕ) → (after_blanks (sign_text s ++ rest
 sign_start sign.ShlAssign rest = (refl, λ e. absurd (omega arith))
 sign_start s rest = (refl, λ e. absurd (omega arith))
 
-pub sign_token : (s : Sign) (rest : List ℕ) (ts : List Tok) → EndsSign rest → AreTokens (after_blanks rest) ts → AreTokens (after_blanks (sign_text s ++ rest)) (Mark s ∷ ts)
+pub sign_token : (s : Sign) (rest : List ℕ) (ts : List Tok) → EndsSign rest → AreTokens (after_blanks rest) ts → AreTokens
+    (after_blanks (sign_text s ++ rest)) (Mark s ∷ ts)
 sign_token s rest ts ends more =
     let front = sign_front s rest ends in
     let start = sign_start s rest in
@@ -361,13 +367,21 @@ shown (Blank ∷ is) apart small =
 shown (Is (Register w r) ∷ is) apart small =
     let p = and_parts (word_stops is) (is_apart is) apart in
     let rest = shown is p.1 small.1 in
-    let b = register_bytes w r in
-    (Register w r ∷ rest.0, word_token (register_text w r) (text_of is) (Register w r) rest.0 b.0 (ltb-true _ _ b.1) (word_stops-ends is p.0) (register_tok w r) rest.1, (refl, rest.2))
+    let b = register_bytes w r in (
+      Register w r ∷ rest.0,
+      word_token (register_text w r) (text_of is) (Register w r) rest.0 b.0 (ltb-true _ _ b.1)
+          (word_stops-ends is p.0) (register_tok w r) rest.1,
+      (refl, rest.2),
+    )
 shown (Is (Word k) ∷ is) apart small =
     let p = and_parts (word_stops is) (is_apart is) apart in
     let rest = shown is p.1 small.1 in
-    let b = keyword_bytes k in
-    (Word k ∷ rest.0, word_token (keyword_text k) (text_of is) (Word k) rest.0 b.0 (ltb-true _ _ b.1) (word_stops-ends is p.0) (keyword_tok k) rest.1, (refl, rest.2))
+    let b = keyword_bytes k in (
+      Word k ∷ rest.0,
+      word_token (keyword_text k) (text_of is) (Word k) rest.0 b.0 (ltb-true _ _ b.1) (word_stops-ends is p.0)
+          (keyword_tok k) rest.1,
+      (refl, rest.2),
+    )
 shown (Is (Mark s) ∷ is) apart small =
     let p = and_parts (sign_stops is) (is_apart is) apart in
     let rest = shown is p.1 small.1 in
@@ -379,34 +393,59 @@ shown (Signed (pos n) ∷ is) apart small =
 shown (Signed (negsuc n) ∷ is) apart small =
     let p = and_parts (word_stops is) (is_apart is) apart in
     let rest = shown is p.1 small.1 in
-    let fits : suc n < 2 ^ 64 = omega (arith, small.0) in
-    (Mark sign.Minus ∷ Number (suc n) ∷ rest.0, sign_token sign.Minus (decimal (suc n) ++ text_of is) (Number (suc n) ∷ rest.0) (number_ends (suc n) (text_of is) fits) (natural_token (suc n) (text_of is) rest.0 fits (word_stops-ends is p.0) rest.1), (refl, rest.2))
+    let fits : suc n < 2 ^ 64 = omega (arith, small.0) in (
+      Mark sign.Minus ∷ Number (suc n) ∷ rest.0,
+      sign_token sign.Minus (decimal (suc n) ++ text_of is) (Number (suc n) ∷ rest.0)
+          (number_ends (suc n) (text_of is) fits) (natural_token (suc n) (text_of is) rest.0 fits (word_stops-ends is p.0) rest.1),
+      (refl, rest.2),
+    )
 shown (Natural n ∷ is) apart small =
     let p = and_parts (word_stops is) (is_apart is) apart in
     let rest = shown is p.1 small.1 in
     (Number n ∷ rest.0, natural_token n (text_of is) rest.0 small.0 (word_stops-ends is p.0) rest.1, (refl, rest.2))
 shown (Hex n ∷ is) apart small =
     let p = and_parts (word_stops is) (is_apart is) apart in
-    let rest = shown is p.1 small.1 in
-    (Number n ∷ rest.0, (let h = wide_facts n small.0 in word_token (wide_text n) (text_of is) (Number n) rest.0 h.1 (omega arith) (word_stops-ends is p.0) h.0 rest.1), (refl, rest.2))
+    let rest = shown is p.1 small.1 in (
+      Number n ∷ rest.0,
+      (let h = wide_facts n small.0 in word_token (wide_text n) (text_of is) (Number n) rest.0 h.1 (omega arith) (word_stops-ends is p.0) h.0 rest.1),
+      (refl, rest.2),
+    )
 shown (Offset (pos n) ∷ is) apart small =
     let p = and_parts (word_stops is) (is_apart is) apart in
-    let rest = shown is p.1 small.1 in
-    (Mark sign.Plus ∷ Number n ∷ rest.0, sign_token sign.Plus (32 ∷ decimal n ++ text_of is) (Number n ∷ rest.0) (refl, refl, refl) (blank_token (decimal n ++ text_of is) (Number n ∷ rest.0) (natural_token n (text_of is) rest.0 small.0 (word_stops-ends is p.0) rest.1)), (refl, rest.2))
+    let rest = shown is p.1 small.1 in (
+      Mark sign.Plus ∷ Number n ∷ rest.0,
+      sign_token sign.Plus (32 ∷ decimal n ++ text_of is) (Number n ∷ rest.0) (refl, refl, refl)
+          (blank_token (decimal n ++ text_of is) (Number n ∷ rest.0) (natural_token n (text_of is) rest.0 small.0 (word_stops-ends is p.0)
+          rest.1)),
+      (refl, rest.2),
+    )
 shown (Offset (negsuc n) ∷ is) apart small =
     let p = and_parts (word_stops is) (is_apart is) apart in
     let rest = shown is p.1 small.1 in
-    let value : negsuc n ≡ neg_ℤ (pos (n + 1)) = ap (λ k. neg_ℤ (pos k)) (sym (add-one n)) in
-    (Mark sign.Minus ∷ Number (n + 1) ∷ rest.0, sign_token sign.Minus (32 ∷ decimal (n + 1) ++ text_of is) (Number (n + 1) ∷ rest.0) (refl, refl, refl) (blank_token (decimal (n + 1) ++ text_of is) (Number (n + 1) ∷ rest.0) (natural_token (n + 1) (text_of is) rest.0 small.0 (word_stops-ends is p.0) rest.1)), (value, rest.2))
+    let value : negsuc n ≡ neg_ℤ (pos (n + 1)) = ap (λ k. neg_ℤ (pos k)) (sym (add-one n)) in (
+      Mark sign.Minus ∷ Number (n + 1) ∷ rest.0,
+      sign_token sign.Minus (32 ∷ decimal (n + 1) ++ text_of is) (Number (n + 1) ∷ rest.0)
+          (refl, refl, refl) (blank_token (decimal (n + 1) ++ text_of is) (Number (n + 1) ∷ rest.0)
+          (natural_token (n + 1) (text_of is) rest.0 small.0 (word_stops-ends is p.0) rest.1)),
+      (value, rest.2),
+    )
 shown (Target (pos n) None ∷ is) apart small =
     let p = and_parts (word_stops is) (is_apart is) apart in
-    let rest = shown is p.1 small.1 in
-    (Mark sign.Plus ∷ Number n ∷ rest.0, sign_token sign.Plus (decimal n ++ text_of is) (Number n ∷ rest.0) (number_ends n (text_of is) small.0) (natural_token n (text_of is) rest.0 small.0 (word_stops-ends is p.0) rest.1), (refl, rest.2))
+    let rest = shown is p.1 small.1 in (
+      Mark sign.Plus ∷ Number n ∷ rest.0,
+      sign_token sign.Plus (decimal n ++ text_of is) (Number n ∷ rest.0)
+          (number_ends n (text_of is) small.0) (natural_token n (text_of is) rest.0 small.0 (word_stops-ends is p.0) rest.1),
+      (refl, rest.2),
+    )
 shown (Target (negsuc n) None ∷ is) apart small =
     let p = and_parts (word_stops is) (is_apart is) apart in
     let rest = shown is p.1 small.1 in
-    let value : negsuc n ≡ neg_ℤ (pos (n + 1)) = ap (λ k. neg_ℤ (pos k)) (sym (add-one n)) in
-    (Mark sign.Minus ∷ Number (n + 1) ∷ rest.0, sign_token sign.Minus (decimal (n + 1) ++ text_of is) (Number (n + 1) ∷ rest.0) (number_ends (n + 1) (text_of is) small.0) (natural_token (n + 1) (text_of is) rest.0 small.0 (word_stops-ends is p.0) rest.1), (value, rest.2))
+    let value : negsuc n ≡ neg_ℤ (pos (n + 1)) = ap (λ k. neg_ℤ (pos k)) (sym (add-one n)) in (
+      Mark sign.Minus ∷ Number (n + 1) ∷ rest.0,
+      sign_token sign.Minus (decimal (n + 1) ++ text_of is) (Number (n + 1) ∷ rest.0)
+          (number_ends (n + 1) (text_of is) small.0) (natural_token (n + 1) (text_of is) rest.0 small.0 (word_stops-ends is p.0) rest.1),
+      (value, rest.2),
+    )
 shown is apart small = cc
 
 -- ---- no text of a form has a line feed
@@ -423,7 +462,8 @@ byte_in_line b e = grind (arith, nat_tests)
 
 word_in_lines : (w : List ℕ) → list_all is_word_byte w ≡ true → in_lines w ≡ true
 word_in_lines [] h = refl
-word_in_lines (b ∷ w) h = let p = and_parts (is_word_byte b) (list_all is_word_byte w) h in and_from (in_line b) (in_lines w) (byte_in_line b p.0) (word_in_lines w p.1)
+word_in_lines (b ∷ w) h =
+    let p = and_parts (is_word_byte b) (list_all is_word_byte w) h in and_from (in_line b) (in_lines w) (byte_in_line b p.0) (word_in_lines w p.1)
 
 sign_in_lines : (s : Sign) → in_lines (sign_text s) ≡ true
 sign_in_lines sign.ShlAssign = refl
@@ -435,7 +475,8 @@ item_in_lines (Is (Register w r)) is apart small = word_in_lines (register_text 
 item_in_lines (Is (Word k)) is apart small = word_in_lines (keyword_text k) (keyword_bytes k).0
 item_in_lines (Is (Mark s)) is apart small = sign_in_lines s
 item_in_lines (Signed (pos n)) is apart small = word_in_lines (decimal n) (decimal_bytes n small).0
-item_in_lines (Signed (negsuc n)) is apart small = let fits : suc n < 2 ^ 64 = omega (arith, small) in word_in_lines (decimal (suc n)) (decimal_bytes (suc n) fits).0
+item_in_lines (Signed (negsuc n)) is apart small =
+    let fits : suc n < 2 ^ 64 = omega (arith, small) in word_in_lines (decimal (suc n)) (decimal_bytes (suc n) fits).0
 item_in_lines (Natural n) is apart small = word_in_lines (decimal n) (decimal_bytes n small).0
 item_in_lines (Hex n) is apart small = word_in_lines (wide_text n) (wide_facts n small).1
 item_in_lines (Offset (pos n)) is apart small = word_in_lines (decimal n) (decimal_bytes n small).0
@@ -458,4 +499,5 @@ apart_rest i is h = cc
 
 pub form_in_line : (is : List Item) → is_apart is ≡ true → AreSmall is → in_lines (text_of is) ≡ true
 form_in_line [] apart small = refl
-form_in_line (i ∷ is) apart small = in_lines-append (item_text i) (text_of is) (item_in_lines i is apart small.0) (form_in_line is (apart_rest i is apart) small.1)
+form_in_line (i ∷ is) apart small = in_lines-append (item_text i) (text_of is) (item_in_lines i is apart small.0)
+    (form_in_line is (apart_rest i is apart) small.1)

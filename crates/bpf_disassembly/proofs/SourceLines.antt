@@ -1,5 +1,6 @@
 -- Listing a text line by line.
-use Rattle.std.proofs.Common.{◌≡◌, ◌≢◌, ◌==◌, ℕ, ◌+◌, ◌*◌, ◌<◌, ◌≤◌, List, [], ◌∷◌, ◌++◌, length, append_assoc, append-nil, drop, take, Option, Some, None, zero, suc, refl, sym, ap, subst, ◌∙◌, arith, codes, Ok}
+use Rattle.std.proofs.Common.{◌≡◌, ◌≢◌, ◌==◌, ℕ, ◌+◌, ◌*◌, ◌<◌, ◌≤◌, List, [], ◌∷◌, ◌++◌, length, append_assoc, append-nil, drop, take}
+use Rattle.std.proofs.Common.{Option, Some, None, zero, suc, refl, sym, ap, subst, ◌∙◌, arith, codes, Ok}
 use Rattle.std.proofs.lemmas.List.Splits.{length-slice_split}
 use Rattle.bpf_text.specs.Assembly.{IsLine, Source, words_of, label_of, unlabelled}
 use Rattle.bpf_lines.specs.Lines.{lines_behind, lines_of, rest_size}
@@ -60,5 +61,6 @@ listed_next source bytes printed now line behind pc size left first second old l
   room = omega (arith, old.room, shorter, small);
 }
 
-pub listed_end : (source bytes printed : List ℕ) (pc : ℕ) (left : List ℕ) → Listed source bytes printed None pc left → IsSourceListing 0 bytes (lines_of source) printed
+pub listed_end : (source bytes printed : List ℕ) (pc : ℕ) (left : List ℕ) → Listed source bytes printed None pc left → IsSourceListing 0
+    bytes (lines_of source) printed
 listed_end source bytes printed pc left old = subst (λ t. IsSourceListing 0 bytes (lines_of source) t) (append-nil printed) (old.whole [] refl)

@@ -24,13 +24,16 @@ same_shape h m w r shows shape made =
     let cpus : (c : ℕ) → has_cpu m.store c ≡ nat_lt c h.cpus = λ c. ap (λ (n : ℕ). nat_lt c n) (sym shows.store.maps.cpus ∙ ap (λ (s : Shape). s.cpus) shape) in
     (λ c. made.0 c ∙ sym (cpus c), made.1 ∙ (sym shape ∙ shows.store.shape))
 
-pub history_told : (w : World) (old mid new : MachineState) (names : Names) (runs : List (ℕ × ℕ)) (maps : Bool) (start between later told text : List ℕ) (stopped : Bool) → Shows old w → start ≡ []
+pub history_told : (w : World) (old mid new : MachineState) (names : Names) (runs : List (ℕ × ℕ)) (maps : Bool)
+    (start between later told text : List ℕ) (stopped : Bool) → Shows old w → start ≡ []
     → AreTold (Turns (unrolled runs)) names.maps old start mid between → AreTold SomeRounds names.maps mid between new later → HaveEnded new.jobs
-    → ((z : World) → Shows new z → TellsWith (lines_of_lists z names.maps) z.store z.jobs names maps told stopped) → text ≡ later ++ told → IsHistory w runs names maps text stopped
+    → ((z : World) → Shows new z → TellsWith (lines_of_lists z names.maps) z.store z.jobs names maps told stopped) → text ≡ later ++ told →
+    IsHistory w runs names maps text stopped
 history_told w old mid new names runs maps start between later told text stopped shows fresh before after ended tells is =
     let a = (subst (λ (x : List ℕ). AreTold (Turns (unrolled runs)) names.maps old x mid between) fresh before) w shows in
     let b = after a.0 a.3 in
-    let all : later ≡ history_lines names.maps (a.1 ++ b.1) = b.4 ∙ (ap (λ (x : List ℕ). x ++ history_lines names.maps b.1) a.4 ∙ sym (history-append names.maps a.1 b.1)) in (
+    let all : later ≡ history_lines names.maps (a.1 ++ b.1) = b.4 ∙
+    (ap (λ (x : List ℕ). x ++ history_lines names.maps b.1) a.4 ∙ sym (history-append names.maps a.1 b.1)) in (
       b.0,
       a.1 ++ b.1,
       told,
@@ -44,9 +47,11 @@ histories_are_of_reports law w runs names maps text stopped (z, log, told, happe
     (history_lines names.maps log, told, (z, law w z (unrolled runs) log happens, tells), is)
 
 pub histories_are_determined : HappeningsAreDetermined → HappeningsAreOfRuns → ReportsByAreDetermined → HistoriesAreDetermined
-histories_are_determined law only reports w runs names maps text other stopped halted fresh (z, log, told, happens, tells, is) (y, rest, said, happens', tells', is') =
+histories_are_determined law only reports w runs names maps text other stopped halted fresh (z, log, told, happens, tells, is)
+    (y, rest, said, happens', tells', is') =
     let one = law w z y (unrolled runs) log rest fresh happens happens' in
-    let same = reports w runs names maps told said stopped halted fresh (z, only w z (unrolled runs) log happens, tells) (y, only w y (unrolled runs) rest happens', tells') in (
+    let same = reports w runs names maps told said stopped halted fresh (z, only w z (unrolled runs) log happens, tells)
+    (y, only w y (unrolled runs) rest happens', tells') in (
       is ∙ (ap (λ (x : List Happening). history_lines names.maps x ++ told) one.0 ∙ (ap (λ (x : List ℕ). history_lines names.maps rest ++ x) same.0 ∙ sym is')),
       same.1,
     )

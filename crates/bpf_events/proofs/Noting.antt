@@ -31,7 +31,8 @@ noted_call x y m c e served call store cpu noted = record {
     log = call.others ++ entry c e ∷ []
 
     here : events_of c log ≡ e ∷ []
-    here = events_of-append c call.others (entry c e ∷ []) ∙ (ap (λ (es : List Event). es ++ events_of c (entry c e ∷ [])) (call.foreign c served) ∙ events_of-own c e)
+    here = events_of-append c call.others (entry c e ∷ []) ∙ (ap (λ (es : List Event). es ++ events_of c (entry c e ∷ []))
+        (call.foreign c served) ∙ events_of-own c e)
 
 -- a call of which nothing is noted
 pub lost_call : (x y : Recording) (m : Contents) (c : ℕ) (e : Event) → Calls (Passes x.store m) (has_cpu x.store) c e

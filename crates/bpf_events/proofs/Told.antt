@@ -1,5 +1,6 @@
 -- Turns that are made one after the other, as they are printed.
-use Rattle.std.proofs.Common.{◌≡◌, ◌∙◌, Bool, false, Option, Some, ℕ, zero, suc, ◌+◌, ◌-◌, ◌<◌, ◌≤◌, List, [], ◌∷◌, ◌++◌, append_assoc, append-nil, length, take, replicate, get_or, map, inl, inr, refl, sym, ap, subst, arith}
+use Rattle.std.proofs.Common.{◌≡◌, ◌∙◌, Bool, false, Option, Some, ℕ, zero, suc, ◌+◌, ◌-◌, ◌<◌, ◌≤◌, List, [], ◌∷◌, ◌++◌, append_assoc}
+use Rattle.std.proofs.Common.{append-nil, length, take, replicate, get_or, map, inl, inr, refl, sym, ap, subst, arith}
 use Rattle.std.proofs.lemmas.List.{replicate-append-replicate, take_more, take_all}
 use Rattle.std.proofs.lemmas.Grind.{replicate_next}
 use Rattle.std.specs.Prelude.{nat_lt, slice_get}
@@ -28,7 +29,8 @@ use Rattle.bpf_events.specs.Private.Watching.{IsWatched, noted}
 pub history-append : (names : List (List ℕ)) (xs ys : List Happening) → history_lines names (xs ++ ys) ≡ history_lines names xs ++ history_lines names ys
 history-append names [] ys = refl
 history-append names (x ∷ xs) ys =
-    ap (λ (text : List ℕ). happening_line names x ++ text) (history-append names xs ys) ∙ sym (append_assoc (happening_line names x) (history_lines names xs) (history_lines names ys))
+    ap (λ (text : List ℕ). happening_line names x ++ text) (history-append names xs ys) ∙ sym
+    (append_assoc (happening_line names x) (history_lines names xs) (history_lines names ys))
 
 -- ---- one after the other
 pub told_nothing : (names : List (List ℕ)) (m : MachineState) (text : List ℕ) → AreTold (Turns []) names m text m text
@@ -52,7 +54,8 @@ told_join first second both names old mid new text between later join before aft
     in
     (t.0, r.1 ++ t.1, join w r.0 t.0 r.1 t.1 r.2 t.2, t.3, all)
 
-told_as : (cs ds : List ℕ) (names : List (List ℕ)) (old new : MachineState) (text later : List ℕ) → cs ≡ ds → AreTold (Turns cs) names old text new later → AreTold (Turns ds) names old text new later
+told_as : (cs ds : List ℕ) (names : List (List ℕ)) (old new : MachineState) (text later : List ℕ) → cs ≡ ds → AreTold (Turns cs) names old
+    text new later → AreTold (Turns ds) names old text new later
 told_as cs ds names old new text later same told = subst (λ (es : List ℕ). AreTold (Turns es) names old text new later) same told
 
 runs_both : (cs ds : List ℕ) (w y z : World) (xs ys : List Happening) → RunsWith w cs xs y → RunsWith y ds ys z → RunsWith w (cs ++ ds) (xs ++ ys) z
@@ -76,7 +79,8 @@ one_turn : (c : ℕ) (answer : Turn) (w z : World) (log : List Happening) → On
 one_turn c answer w z log turn = (answer, z, log, [], turn.0, turn.1, (refl, refl), sym (append-nil log))
 
 pub turn_more : (cs : List ℕ) (c : ℕ) (answer : Turn) (names : List (List ℕ)) (old mid new : MachineState) (text between later : List ℕ)
-    → AreTold (Turns cs) names old text mid between → AreTold (OneTurn c answer) names mid between new later → AreTold (Turns (cs ++ c ∷ [])) names old text new later
+    → AreTold (Turns cs) names old text mid between → AreTold (OneTurn c answer) names mid between new later → AreTold
+    (Turns (cs ++ c ∷ [])) names old text new later
 turn_more cs c answer names old mid new text between later before after =
     told_join (Turns cs) (OneTurn c answer) (Turns (cs ++ c ∷ [])) names old mid new text between later
     (λ w y z xs ys first second. runs_both cs (c ∷ []) w y z xs ys first (one_turn c answer y z ys second)) before after
@@ -84,13 +88,16 @@ turn_more cs c answer names old mid new text between later before after =
 pub turns_more : (cs ds : List ℕ) (names : List (List ℕ)) (old mid new : MachineState) (text between later : List ℕ)
     → AreTold (Turns cs) names old text mid between → AreTold (Turns ds) names mid between new later → AreTold (Turns (cs ++ ds)) names old text new later
 turns_more cs ds names old mid new text between later before after =
-    told_join (Turns cs) (Turns ds) (Turns (cs ++ ds)) names old mid new text between later (λ w y z xs ys first second. runs_both cs ds w y z xs ys first second) before after
+    told_join (Turns cs) (Turns ds) (Turns (cs ++ ds)) names old mid new text between later
+    (λ w y z xs ys first second. runs_both cs ds w y z xs ys first second) before after
 
 -- ---- turns of one CPU
 pub one_more : (n c : ℕ) (answer : Turn) (names : List (List ℕ)) (old mid new : MachineState) (text between later : List ℕ)
-    → AreTold (Turns (replicate n c)) names old text mid between → AreTold (OneTurn c answer) names mid between new later → AreTold (Turns (replicate (n + 1) c)) names old text new later
+    → AreTold (Turns (replicate n c)) names old text mid between → AreTold (OneTurn c answer) names mid between new later → AreTold
+    (Turns (replicate (n + 1) c)) names old text new later
 one_more n c answer names old mid new text between later before after =
-    told_as (replicate n c ++ c ∷ []) (replicate (n + 1) c) names old new text later (sym (replicate_next n c)) (turn_more (replicate n c) c answer names old mid new text between later before after)
+    told_as (replicate n c ++ c ∷ []) (replicate (n + 1) c) names old new text later (sym (replicate_next n c))
+    (turn_more (replicate n c) c answer names old mid new text between later before after)
 
 nothing_more : (n : ℕ) (w : World) (c : ℕ) → IsFree w.jobs c → NoneWaits w.jobs c → RunsWith w (replicate n c) [] w
 nothing_more zero w c free none = (refl, refl)
@@ -98,7 +105,8 @@ nothing_more (suc n) w c free none = (Idle, w, [], [], inr (inr (free, none, ref
 
 -- after an idle turn of it the others change nothing, and nothing happens in them
 pub rest_idle : (k n c : ℕ) (answer : Turn) (names : List (List ℕ)) (old mid new : MachineState) (text between later : List ℕ) → k ≤ n → answer ≡ Idle
-    → AreTold (Turns (replicate k c)) names old text mid between → AreTold (OneTurn c answer) names mid between new later → AreTold (Turns (replicate n c)) names old text new later
+    → AreTold (Turns (replicate k c)) names old text mid between → AreTold (OneTurn c answer) names mid between new later → AreTold
+    (Turns (replicate n c)) names old text new later
 rest_idle k n c answer names old mid new text between later within idle before after =
     let all : replicate k c ++ replicate (n - k) c ≡ replicate n c = replicate-append-replicate k (n - k) c ∙ ap (λ (i : ℕ). replicate i c) (omega arith) in
     told_as (replicate k c ++ replicate (n - k) c) (replicate n c) names old new text later all
@@ -119,7 +127,8 @@ rest_idle k n c answer names old mid new text between later within idle before a
         silent (inr (inl (free, a))) = absurd ((idle_turn y c answer z turn.0 idle).1 a.0 a.1 a.2 a.4)
         silent (inr (inr a)) = a.2
 
-    join : (w y z : World) (xs ys : List Happening) → RunsWith w (replicate k c) xs y → OneTurn c answer y ys z → RunsWith w (replicate k c ++ replicate (n - k) c) (xs ++ ys) z
+    join : (w y z : World) (xs ys : List Happening) → RunsWith w (replicate k c) xs y → OneTurn c answer y ys z → RunsWith w
+        (replicate k c ++ replicate (n - k) c) (xs ++ ys) z
     join w y z xs ys first second =
         let none = still y z ys second in
         let P : World → Type 0 = λ v. RunsWith w (replicate k c ++ replicate (n - k) c) (xs ++ []) v in
@@ -129,10 +138,12 @@ rest_idle k n c answer names old mid new text between later within idle before a
 -- ---- run lengths
 unrolled-append : (xs ys : List (ℕ × ℕ)) → unrolled (xs ++ ys) ≡ unrolled xs ++ unrolled ys
 unrolled-append [] ys = refl
-unrolled-append (x ∷ xs) ys = ap (λ (cs : List ℕ). replicate x.1 x.0 ++ cs) (unrolled-append xs ys) ∙ sym (append_assoc (replicate x.1 x.0) (unrolled xs) (unrolled ys))
+unrolled-append (x ∷ xs) ys = ap (λ (cs : List ℕ). replicate x.1 x.0 ++ cs) (unrolled-append xs ys) ∙ sym
+    (append_assoc (replicate x.1 x.0) (unrolled xs) (unrolled ys))
 
 pub next_run : (runs : List (ℕ × ℕ)) (i : ℕ) (d : ℕ × ℕ) (names : List (List ℕ)) (old mid new : MachineState) (text between later : List ℕ) → i < length runs
-    → AreTold (Turns (unrolled (take i runs))) names old text mid between → AreTold (Turns (replicate (get_or runs i d).1 (get_or runs i d).0)) names mid between new later
+    → AreTold (Turns (unrolled (take i runs))) names old text mid between → AreTold
+    (Turns (replicate (get_or runs i d).1 (get_or runs i d).0)) names mid between new later
     → AreTold (Turns (unrolled (take (i + 1) runs))) names old text new later
 next_run runs i d names old mid new text between later inside before after =
     let run = get_or runs i d in
@@ -145,14 +156,17 @@ next_run runs i d names old mid new text between later inside before after =
 
 pub all_runs : (runs : List (ℕ × ℕ)) (i : ℕ) (names : List (List ℕ)) (old new : MachineState) (text later : List ℕ) → length runs ≤ i
     → AreTold (Turns (unrolled (take i runs))) names old text new later → AreTold (Turns (unrolled runs)) names old text new later
-all_runs runs i names old new text later past told = told_as (unrolled (take i runs)) (unrolled runs) names old new text later (ap unrolled (take_all i runs past)) told
+all_runs runs i names old new text later past told = told_as (unrolled (take i runs)) (unrolled runs) names old new text later
+    (ap unrolled (take_all i runs past)) told
 
 -- ---- rounds
 pub one_cpu_more : (c : ℕ) (answer : Turn) (names : List (List ℕ)) (old mid new : MachineState) (text between later : List ℕ)
-    → AreTold (Turns (below c)) names old text mid between → AreTold (OneTurn c answer) names mid between new later → AreTold (Turns (below (c + 1))) names old text new later
+    → AreTold (Turns (below c)) names old text mid between → AreTold (OneTurn c answer) names mid between new later → AreTold
+    (Turns (below (c + 1))) names old text new later
 one_cpu_more c answer names old mid new text between later before after =
     let more : suc c ≡ c + 1 = omega arith in
-    told_as (below (suc c)) (below (c + 1)) names old new text later (ap below more) (turn_more (below c) c answer names old mid new text between later before after)
+    told_as (below (suc c)) (below (c + 1)) names old new text later (ap below more)
+    (turn_more (below c) c answer names old mid new text between later before after)
 
 pub whole_round : (n : ℕ) (names : List (List ℕ)) (old new : MachineState) (text later : List ℕ) → ((c : ℕ) → has_cpu old.store c ≡ nat_lt c n)
     → AreTold (Turns (below n)) names old text new later → AreTold ARound names old text new later
@@ -198,13 +212,15 @@ module _ (names : List (List ℕ)) (c j pc : ℕ) where
       ∙ sym (append_assoc (happening_line names (happening c j pc x)) (events_lines xs) (events_lines ys))
 
   pub turn_lines : (notes : List Note) (answer : Turn) (start mid later : List ℕ) → mid ≡ start ++ noted_lines notes
-      → later ≡ mid ++ history_lines names (map (happening c j pc) (end_events answer)) → later ≡ start ++ history_lines names (noted c (Some (j, pc)) (map event_of notes) answer)
+      → later ≡ mid ++ history_lines names (map (happening c j pc) (end_events answer)) → later ≡ start ++ history_lines names
+      (noted c (Some (j, pc)) (map event_of notes) answer)
   turn_lines notes answer start mid later before after =
       after ∙ (ap (λ (x : List ℕ). x ++ events_lines (end_events answer)) before
       ∙ (append_assoc start (noted_lines notes) (events_lines (end_events answer))
       ∙ ap (λ (x : List ℕ). start ++ x) (sym (events-append (map event_of notes) (end_events answer)))))
 
-  pub end_line : (answer : Turn) (job : ℕ) (end : Outcome) (text later : List ℕ) → answer ≡ Ended job end → later ≡ text ++ happening_line names (happening c j pc event.End)
+  pub end_line : (answer : Turn) (job : ℕ) (end : Outcome) (text later : List ℕ) → answer ≡ Ended job end → later ≡ text ++ happening_line
+      names (happening c j pc event.End)
       → later ≡ text ++ history_lines names (map (happening c j pc) (end_events answer))
   end_line answer job end text later is line =
       let P : Turn → Type 0 = λ a. later ≡ text ++ history_lines names (map (happening c j pc) (end_events a)) in
@@ -212,7 +228,8 @@ module _ (names : List (List ℕ)) (c j pc : ℕ) where
       subst P (sym is) (line ∙ ap (λ (x : List ℕ). text ++ x) (sym (append-nil last)))
 
 -- ---- a turn
-pub turn_told : (c : ℕ) (at : Option (ℕ × ℕ)) (events : List Event) (answer : Turn) (names : List (List ℕ)) (old new : MachineState) (text later : List ℕ) → IsWatched old c at events
+pub turn_told : (c : ℕ) (at : Option (ℕ × ℕ)) (events : List Event) (answer : Turn) (names : List (List ℕ)) (old new : MachineState)
+    (text later : List ℕ) → IsWatched old c at events
     → ((w : World) → Shows old w → (z : World) × TakesTurn w c answer z × Shows new z) → later ≡ text ++ history_lines names (noted c at events answer)
     → AreTold (OneTurn c answer) names old text new later
 turn_told c at events answer names old new text later watched turn is w shows =
@@ -227,7 +244,8 @@ pub none_yet : (old : MachineState) → IdleSo old 0 false old
 none_yet old e = (refl, λ d less shown. absurd (omega arith))
 
 pub idle_more : (c : ℕ) (answer : Turn) (was now : Bool) (names : List (List ℕ)) (old mid new : MachineState) (text later : List ℕ) → IdleSo old c was mid
-    → (now ≡ false → (was ≡ false) × (answer ≡ Idle)) → AreTold (OneTurn c answer) names mid text new later → (answer ≡ Idle → new ≡ mid) → IdleSo old (c + 1) now new
+    → (now ≡ false → (was ≡ false) × (answer ≡ Idle)) → AreTold (OneTurn c answer) names mid text new later → (answer ≡ Idle → new ≡ mid) →
+    IdleSo old (c + 1) now new
 idle_more c answer was now names old mid new text later before choice turn stays e =
     let both = choice e in
     let so = before both.0 in (

@@ -1,5 +1,6 @@
 -- What a recorder notes of a turn that is to be made.
-use Rattle.std.proofs.Common.{◌≡◌, ◌∙◌, ℕ, suc, Bool, true, false, List, [], ◌∷◌, ◌++◌, append_assoc, append-nil, length, get_or, ◌⊎◌, ◌<◌, zero, arith, Some, None, map, inl, inr, refl, sym, ap, subst}
+use Rattle.std.proofs.Common.{◌≡◌, ◌∙◌, ℕ, suc, Bool, true, false, List, [], ◌∷◌, ◌++◌, append_assoc, append-nil, length, get_or, ◌⊎◌, ◌<◌}
+use Rattle.std.proofs.Common.{zero, arith, Some, None, map, inl, inr, refl, sym, ap, subst}
 use Rattle.bpf_shared.specs.Shape.{Shape}
 use Rattle.std.specs.Prelude.{slice_get}
 use Rattle.std.proofs.lemmas.Option.{slice_get_read}
@@ -36,7 +37,8 @@ serves r = has_cpu r.store
 
 -- ---- a step
 pub none_noted : (program : Loaded) (old : Cpu) (left : ℕ) (x : Recording) → left ≡ 0 → NotesStep program old left x x
-none_noted program old left x none = subst (λ (n : ℕ). NotesStep program old n x x) (sym none) (λ kept. (kept, λ s sound shows. ([], refl, sym (append-nil x.events))))
+none_noted program old left x none = subst (λ (n : ℕ). NotesStep program old n x x) (sym none)
+    (λ kept. (kept, λ s sound shows. ([], refl, sym (append-nil x.events))))
 
 pub step_noted : (program : Loaded) (old new : Cpu) (left m : ℕ) (answer : Progress) (x y : Recording) → left ≡ suc m → old.number ≡ x.cpu
     → (events : List Event) × Chain PassesNoted serves old.number x y events × Step (shape_of x.store) program old events answer new
@@ -69,11 +71,13 @@ quiet_noted program (InHand state left) pc c budget x y (at, more, (new, step)) 
     quiet (suc n) more = λ fine. (kept, λ s sound shows. ([], (On, new, s, step s.shape, refl), same ∙ sym (append-nil x.events)))
 
 -- ---- the beginning of a run
-pub begin_serves : (state : Cpu) (c : ℕ) (input : Input) (x m : Recording) → state ≡ start c input → serves m ≡ serves x → has_cpu x.store c ≡ true → has_cpu m.store state.number ≡ true
+pub begin_serves : (state : Cpu) (c : ℕ) (input : Input) (x m : Recording) → state ≡ start c input → serves m ≡ serves x → has_cpu x.store c
+    ≡ true → has_cpu m.store state.number ≡ true
 begin_serves state c input x m starts same served =
     ap (λ (s : Cpu). has_cpu m.store s.number) starts ∙ (ap (λ (f : ℕ → Bool). f c) same ∙ served)
 
-pub begin_runs : (state : Cpu) (c : ℕ) (input : Input) (x m : Recording) → state ≡ start c input → is_running m.store ≡ put (is_running x.store) c true → is_running m.store state.number ≡ true
+pub begin_runs : (state : Cpu) (c : ℕ) (input : Input) (x m : Recording) → state ≡ start c input → is_running m.store ≡ put
+    (is_running x.store) c true → is_running m.store state.number ≡ true
 begin_runs state c input x m starts runs =
     ap (λ (s : Cpu). is_running m.store s.number) starts ∙ (ap (λ (f : ℕ → Bool). f c) runs ∙ put-same (is_running x.store) c c true refl)
 
@@ -88,7 +92,8 @@ begin_noted program c input budget old x m y own served call same starts step ke
     in
     let log = call.others ++ record { cpu = c; event = Begin } ∷ [] in
     let here : events_of c log ≡ Begin ∷ [] =
-    events_of-append c call.others (record { cpu = c; event = Begin } ∷ []) ∙ (ap (λ (es : List Event). es ++ events_of c (record { cpu = c; event = Begin } ∷ [])) (call.foreign c served) ∙ events_of-own c Begin)
+    events_of-append c call.others (record { cpu = c; event = Begin } ∷ []) ∙
+    (ap (λ (es : List Event). es ++ events_of c (record { cpu = c; event = Begin } ∷ [])) (call.foreign c served) ∙ events_of-own c Begin)
     in
     let mine : events_of x.cpu log ≡ Begin ∷ [] = subst (λ (n : ℕ). events_of n log ≡ Begin ∷ []) own here in (
       note.0,
@@ -125,7 +130,11 @@ stage_fits m c j task program x stands work listed loaded store = elim work [
       let both : Some t ≡ Some task = sym at.listed ∙ listed in
       let same : t ≡ task = cc in
       let stage : task.stage ≡ Waiting input = ap (λ (u : Task). u.stage) (sym same) ∙ at.at in
-      let fit : FitsStage program c (Waiting input) x = (stands.short c j t input at, subst (λ (s : Contents). is_running s c ≡ false) (sym store) (stands.idle c free)) in
+      let fit : FitsStage program c (Waiting input) x = (
+        stands.short c j t input at,
+        subst (λ (s : Contents). is_running s c ≡ false)
+            (sym store) (stands.idle c free),
+      ) in
       subst (λ (s : Stage). FitsStage program c s x) (sym stage) fit
 ]
 
@@ -156,7 +165,20 @@ stage_watched m c j pc task program x y (inl (t, state, left, at)) listed loaded
     let A : List Task → Type 0 = λ jobs. IsAt jobs c j task (InHand state left) in
     let P : List Loaded → Type 0 = λ ps. slice_get ps task.program ≡ Some program in
     let H : ℕ → Type 0 = λ n. HasEvents program n w.store state left r.0 in
-    inl (j, task, state, left, subst A (sym shows.jobs) here, (program, r.0, subst P (sym shows.programs) loaded, subst H fit.0 r.1, same_log c j pc state.pc y.events x.events r.0 answer number.0 fresh r.2))
+    inl (
+      j,
+      task,
+      state,
+      left,
+      subst A (sym shows.jobs) here,
+      (
+        program,
+        r.0,
+        subst P (sym shows.programs) loaded,
+        subst H fit.0 r.1,
+        same_log c j pc state.pc y.events x.events r.0 answer number.0 fresh r.2,
+      ),
+    )
 stage_watched m c j pc task program x y (inr (free, (t, input, at), lowest)) listed loaded store fresh kept fits notes w shows answer =
     let both : Some t ≡ Some task = sym at.listed ∙ listed in
     let same : t ≡ task = cc in
@@ -183,7 +205,8 @@ stage_watched m c j pc task program x y (inr (free, (t, input, at), lowest)) lis
 
 -- ---- the same of a job that is kept
 -- the program by its number
-pub program_read : (m : MachineState) (j : ℕ) (task : Task) (program : Loaded) (xs : List Loaded) (i : ℕ) → CanStand m → slice_get m.jobs j ≡ Some task → xs ≡ m.programs → i ≡ task.program
+pub program_read : (m : MachineState) (j : ℕ) (task : Task) (program : Loaded) (xs : List Loaded) (i : ℕ) → CanStand m → slice_get m.jobs j
+    ≡ Some task → xs ≡ m.programs → i ≡ task.program
     → program ≡ get_or xs i program → slice_get m.programs task.program ≡ Some program
 program_read m j task program xs i stands listed same number is =
     let at : program ≡ get_or m.programs task.program program =
@@ -191,18 +214,21 @@ program_read m j task program xs i stands listed same number is =
     in
     slice_get_read m.programs (length m.programs) task.program program refl (stands.loaded j task listed) at
 
-pub kept_fits : (m : MachineState) (c j : ℕ) (task : Task) (program : Loaded) (x : Recording) (stage : Stage) → CanStand m → HasInHand m.jobs c j ⊎ IsNext m.jobs c j
+pub kept_fits : (m : MachineState) (c j : ℕ) (task : Task) (program : Loaded) (x : Recording) (stage : Stage) → CanStand m → HasInHand
+    m.jobs c j ⊎ IsNext m.jobs c j
     → slice_get m.jobs j ≡ Some task → slice_get m.programs task.program ≡ Some program → x.store ≡ m.store → stage ≡ task.stage → FitsStage program c stage x
 kept_fits m c j task program x stage stands work listed loaded store is =
     subst (λ (s : Stage). FitsStage program c s x) (sym is) (stage_fits m c j task program x stands work listed loaded store)
 
-pub kept_watched : (m : MachineState) (c j pc : ℕ) (task : Task) (program : Loaded) (x y : Recording) (stage : Stage) (budget : ℕ) → CanStand m → HasInHand m.jobs c j ⊎ IsNext m.jobs c j
+pub kept_watched : (m : MachineState) (c j pc : ℕ) (task : Task) (program : Loaded) (x y : Recording) (stage : Stage) (budget : ℕ) →
+    CanStand m → HasInHand m.jobs c j ⊎ IsNext m.jobs c j
     → slice_get m.jobs j ≡ Some task → slice_get m.programs task.program ≡ Some program → x.store ≡ m.store → x.events ≡ [] → y.lost ≡ false
     → stage ≡ task.stage → budget ≡ task.budget → NotesStage program c stage budget x y pc → IsWatched m c (Some (j, pc)) y.events
 kept_watched m c j pc task program x y stage budget stands work listed loaded store fresh kept is all notes =
     let P : Stage → Type 0 = λ s. NotesStage program c s budget x y pc in
     let Q : ℕ → Type 0 = λ n. NotesStage program c task.stage n x y pc in
-    stage_watched m c j pc task program x y work listed loaded store fresh kept (stage_fits m c j task program x stands work listed loaded store) (subst Q all (subst P is notes))
+    stage_watched m c j pc task program x y work listed loaded store fresh kept
+    (stage_fits m c j task program x stands work listed loaded store) (subst Q all (subst P is notes))
 
 -- a job in hand can make a step
 can_step : (program : Loaded) (c : ℕ) (x : Recording) (stage : Stage) → FitsStage program c stage x → CanStepAt program stage
@@ -219,9 +245,11 @@ pub kept_steps : (m : MachineState) (c j : ℕ) (task : Task) (program : Loaded)
 kept_steps m c j task program stage stands work listed loaded is =
     can_step program c (unnoted m.store c) stage (kept_fits m c j task program (unnoted m.store c) stage stands work listed loaded refl is)
 
-pub quiet_watched : (m : MachineState) (c j pc : ℕ) (task : Task) (program : Loaded) (y : Recording) (stage : Stage) → CanStand m → HasInHand m.jobs c j ⊎ IsNext m.jobs c j
+pub quiet_watched : (m : MachineState) (c j pc : ℕ) (task : Task) (program : Loaded) (y : Recording) (stage : Stage) → CanStand m →
+    HasInHand m.jobs c j ⊎ IsNext m.jobs c j
     → slice_get m.jobs j ≡ Some task → slice_get m.programs task.program ≡ Some program → y.events ≡ [] → y.lost ≡ false → stage ≡ task.stage
     → IsQuietAt program stage pc → IsWatched m c (Some (j, pc)) y.events
 quiet_watched m c j pc task program y stage stands work listed loaded none kept is quiet =
     let x = unnoted m.store c in
-    kept_watched m c j pc task program x y stage task.budget stands work listed loaded refl refl kept is refl (quiet_noted program stage pc c task.budget x y quiet refl none)
+    kept_watched m c j pc task program x y stage task.budget stands work listed loaded refl refl kept is refl
+    (quiet_noted program stage pc c task.budget x y quiet refl none)

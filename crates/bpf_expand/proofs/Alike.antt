@@ -16,7 +16,8 @@ pub same_jobs : (h : Host) (x y : MachineState) (bytes : List ℕ) → IsStateOf
 same_jobs h x y bytes a b = (jobs_told h.jobs x.jobs y.jobs a.saved.0 b.saved.0 a.of.jobs b.of.jobs (sym a.saved.2 ∙ b.saved.2)).0
 
 -- they show the same worlds
-pub shows_too : SavedAlikeLookAlike → AlikeStandAlike → (h : Host) (x y : MachineState) (bytes : List ℕ) → IsStateOf h x bytes → IsStateOf h y bytes → (w : World) → Shows x w → Shows y w
+pub shows_too : SavedAlikeLookAlike → AlikeStandAlike → (h : Host) (x y : MachineState) (bytes : List ℕ) → IsStateOf h x bytes → IsStateOf h
+    y bytes → (w : World) → Shows x w → Shows y w
 shows_too look stand h x y bytes a b w shown =
     let told = jobs_told h.jobs x.jobs y.jobs a.saved.0 b.saved.0 a.of.jobs b.of.jobs (sym a.saved.2 ∙ b.saved.2) in
     let shape : IsSameShape x.store y.store = (λ c. b.of.shape.1 c ∙ sym (a.of.shape.1 c), b.of.shape.0 ∙ sym a.of.shape.0) in

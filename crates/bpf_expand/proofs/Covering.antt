@@ -55,7 +55,8 @@ fills_nothing true m c free = inl (free, refl)
 
 -- the race is one in what a machine of one of the states shows
 abbrev pub IsRaceOf : Host → List (List ℕ) → World → Stand → Stand → ℕ → Type 0
-IsRaceOf h states z one other b = (v : World) × (m : MachineState) × (bytes : List ℕ) × IsAmong states bytes × IsStateOf h m bytes × Shows m v × (v.store ≡ z.store) × IsRace v one other b
+IsRaceOf h states z one other b = (v : World) × (m : MachineState) × (bytes : List ℕ) × IsAmong states bytes × IsStateOf h m bytes × Shows m
+    v × (v.store ≡ z.store) × IsRace v one other b
 
 -- ---- they are closed
 module _ (look : SavedAlikeLookAlike) (stand : AlikeStandAlike) (h : Host) (states : List (List ℕ)) (closed : AreClosed h states) where
@@ -85,8 +86,14 @@ module _ (look : SavedAlikeLookAlike) (stand : AlikeStandAlike) (h : Host) (stat
       let same = same_jobs h x m bytes isx is in
       let nothing = free_too x.jobs m.jobs c same free in
       (m, m, idle_turns_to m c nothing (waits_too x.jobs m.jobs c same none), fills_nothing h.patient m c nothing, (i, m, at, λ w shown. shown))
-  turned i m at bytes is c (inr (n, next, (x, new, isx, (mid, turns, fills), then), among)) =
-      (mid, new, turns_too x m c mid (λ w shown. shows_too look stand h m x bytes is isx w shown) (turns_to x c n mid turns), fills, is_kept new next then among)
+  turned i m at bytes is c (inr (n, next, (x, new, isx, (mid, turns, fills), then), among)) = (
+    mid,
+    new,
+    turns_too x m c mid (λ w shown. shows_too look stand h m x bytes is isx w shown) (turns_to x c n mid turns),
+    fills,
+    is_kept
+        new next then among,
+  )
 
   all_turned : (i : ℕ) (m : MachineState) (c : ℕ) → slice_get kept i ≡ Some m → TurnsKept h.patient m c
   unfolding kept
@@ -122,21 +129,27 @@ module _ (look : SavedAlikeLookAlike) (stand : AlikeStandAlike) (h : Host) (stat
 pub states_cover : SavedAlikeLookAlike → AlikeStandAlike → ClosedSetsCover → StatesCover
 states_cover look stand cover h states first bytes w z schedule exact closed is among fresh shown runs =
     let all = kept look stand h states closed in
-    let covers = cover all w z schedule (are_closed look stand h states closed exact) fresh (is_shown look stand h states closed first bytes w is among shown) runs in
+    let covers = cover all w z schedule (are_closed look stand h states closed exact) fresh
+    (is_shown look stand h states closed first bytes w is among shown) runs in
     (all, are_of look stand h states closed, covers.0, covers.1)
 
 pub patient_states_cover : SavedAlikeLookAlike → AlikeStandAlike → PatientSetsCover → PatientStatesCover
 patient_states_cover look stand cover h states first bytes w z schedule passes closed is among fresh shown runs fit =
     let all = kept look stand h states closed in
-    let covers = cover all w z schedule (are_closed_richly look stand h states closed passes) fresh (is_shown look stand h states closed first bytes w is among shown) runs fit in
+    let covers = cover all w z schedule (are_closed_richly look stand h states closed passes) fresh
+    (is_shown look stand h states closed first bytes w is among shown) runs fit in
     (all, are_of look stand h states closed, covers.0, covers.1)
 
 -- each race that schedules lead to is such a one
-pub race_of_state : SavedAlikeLookAlike → AlikeStandAlike → RacesAreKept → PatientRacesAreKept → (h : Host) (states : List (List ℕ)) (first : MachineState) (bytes : List ℕ) (w z : World) (schedule : List ℕ) (patient : Bool) → h.patient ≡ patient
-    → AreClosed h states → IsStateOf h first bytes → IsAmong states bytes → IsFresh w → Shows first w → RunsSchedule w schedule z → FitBudgets h.patient z.jobs → (one other : Stand) (b : ℕ) → IsRace z one other b → IsRaceOf h states z one other b
+pub race_of_state : SavedAlikeLookAlike → AlikeStandAlike → RacesAreKept → PatientRacesAreKept → (h : Host) (states : List (List ℕ))
+    (first : MachineState) (bytes : List ℕ) (w z : World) (schedule : List ℕ) (patient : Bool) → h.patient ≡ patient
+    → AreClosed h states → IsStateOf h first bytes → IsAmong states bytes → IsFresh w → Shows first w → RunsSchedule w schedule z →
+    FitBudgets h.patient z.jobs → (one other : Stand) (b : ℕ) → IsRace z one other b → IsRaceOf h states z one other b
 race_of_state look stand law patiently h states first bytes w z schedule false exact closed is among fresh shown runs fit one other b race =
     of_race look stand h states closed z one other b
-    (law (kept look stand h states closed) w z schedule (are_closed look stand h states closed exact) fresh (is_shown look stand h states closed first bytes w is among shown) runs one other b race)
+    (law (kept look stand h states closed) w z schedule (are_closed look stand h states closed exact) fresh
+    (is_shown look stand h states closed first bytes w is among shown) runs one other b race)
 race_of_state look stand law patiently h states first bytes w z schedule true passes closed is among fresh shown runs fit one other b race =
     of_race look stand h states closed z one other b
-    (patiently (kept look stand h states closed) w z schedule (are_closed_richly look stand h states closed passes) fresh (is_shown look stand h states closed first bytes w is among shown) runs (fit passes) one other b race)
+    (patiently (kept look stand h states closed) w z schedule (are_closed_richly look stand h states closed passes) fresh
+    (is_shown look stand h states closed first bytes w is among shown) runs (fit passes) one other b race)

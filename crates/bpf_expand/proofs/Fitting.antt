@@ -28,7 +28,12 @@ module _ (m : MachineState) (bytes : List ℕ) (stands : CanStand m) (saved : Is
       let hand = stands.hand task.cpu j task state left (record { listed = at; of = refl; at = is }) in
       record {
         savable = fits.1.held;
-        elements = (shapes_of m.store, are_maps m.store saved.0, All-weaker (λ p. (held_spans m.store task.cpu p ≡ true) × IsValueSpan p) (IsElement (shapes_of m.store)) (λ p h. held_is_element m.store saved.0 task.cpu p h.0) state.held hand.held);
+        elements = (
+          shapes_of m.store,
+          are_maps m.store saved.0,
+          All-weaker (λ p. (held_spans m.store task.cpu p ≡ true) × IsValueSpan p)
+              (IsElement (shapes_of m.store)) (λ p h. held_is_element m.store saved.0 task.cpu p h.0) state.held hand.held,
+        );
         once = fits.2;
       }
   holds j task at (Ended end) is fits = tt
@@ -38,7 +43,9 @@ module _ (m : MachineState) (bytes : List ℕ) (stands : CanStand m) (saved : Is
   hold = hold_all m.jobs (λ j task at. holds j task at task.stage refl (fit j task at))
 
 -- the machine of an expander is determined by its bytes
-pub is_state_of : (patient : Bool) (h : Shape) (m : MachineState) (room : Contents) (first : List Task) (numbers bytes : List ℕ) (jobs : List Task) (read : Option (List ℕ)) (placed : Bool) → IsHome h m room first numbers jobs read placed → CanStand m → FitInBytes m.jobs → IsSavedState m bytes
+pub is_state_of : (patient : Bool) (h : Shape) (m : MachineState) (room : Contents) (first : List Task) (numbers bytes : List ℕ)
+    (jobs : List Task) (read : Option (List ℕ)) (placed : Bool) → IsHome h m room first numbers jobs read placed → CanStand m → FitInBytes
+    m.jobs → IsSavedState m bytes
     → IsStateOf (record { shape = h; programs = m.programs; jobs = first; patient = patient }) m bytes
 is_state_of patient h m room first numbers bytes jobs read placed home stands fit saved = record {
   of = record {

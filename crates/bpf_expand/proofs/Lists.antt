@@ -31,25 +31,30 @@ take_front zero (x ∷ xs) ys e = absurd (omega arith)
 take_front (suc n) (x ∷ xs) ys e = ap (λ (l : List _). x ∷ l) (take_front n xs ys (omega arith))
 
 -- one more job is saved
-pub saved_next : (mid new before : List ℕ) (jobs : List Task) (n : ℕ) (task : Task) → slice_get jobs n ≡ Some task → mid ≡ before ++ jobs_saved (take n jobs) → new ≡ mid ++ stage_saved task.stage → new ≡ before ++ jobs_saved (take (n + 1) jobs)
+pub saved_next : (mid new before : List ℕ) (jobs : List Task) (n : ℕ) (task : Task) → slice_get jobs n ≡ Some task → mid ≡ before ++
+    jobs_saved (take n jobs) → new ≡ mid ++ stage_saved task.stage → new ≡ before ++ jobs_saved (take (n + 1) jobs)
 saved_next mid new before jobs n task at so_far more =
     more ∙ (ap (λ (l : List ℕ). l ++ stage_saved task.stage) so_far
     ∙ (append_assoc before (jobs_saved (take n jobs)) (stage_saved task.stage)
-    ∙ (ap (λ (l : List ℕ). before ++ l) (sym (saved_last (take n jobs) task)) ∙ ap (λ (l : List Task). before ++ jobs_saved l) (sym (take_more jobs n task at)))))
+    ∙ (ap (λ (l : List ℕ). before ++ l) (sym (saved_last (take n jobs) task)) ∙ ap (λ (l : List Task). before ++ jobs_saved l)
+    (sym (take_more jobs n task at)))))
 
 -- ---- numbers that count up
 pub chosen_all : (parts : List Task) (numbers : List ℕ) → CountUp numbers (length parts) → chosen parts numbers ≡ parts
 chosen_all parts numbers up =
     ext_get_or no_task (chosen parts numbers) parts (length-map numbers (λ n. slice_index_or parts n no_task) ∙ up.count)
     (λ i inside. let within : i < length numbers = subst (λ (n : ℕ). i < n) (length-map numbers (λ n. slice_index_or parts n no_task)) inside in
-    get_or-map (λ n. slice_index_or parts n no_task) numbers i 0 no_task within ∙ ap (λ (n : ℕ). slice_index_or parts n no_task) (up.each i (subst (λ (n : ℕ). i < n) up.count within)))
+    get_or-map (λ n. slice_index_or parts n no_task) numbers i 0 no_task within ∙ ap (λ (n : ℕ). slice_index_or parts n no_task)
+    (up.each i (subst (λ (n : ℕ). i < n) up.count within)))
 
 pub all_within : (numbers : List ℕ) (n : ℕ) → CountUp numbers n → All (λ k. k < n) numbers
-all_within numbers n up = All-from_get_or (λ k. k < n) numbers 0 (λ i inside. let less : i < n = subst (λ (k : ℕ). i < k) up.count inside in subst (λ (k : ℕ). k < n) (sym (up.each i less)) less)
+all_within numbers n up = All-from_get_or (λ k. k < n) numbers 0
+    (λ i inside. let less : i < n = subst (λ (k : ℕ). i < k) up.count inside in subst (λ (k : ℕ). k < n) (sym (up.each i less)) less)
 
 -- ---- inputs of jobs that are there
 pub are_short : (m : MachineState) → CanStand m → AreShort m.jobs
-are_short m stands = All-from_get_or (λ task. IsShort (input_of task.stage)) m.jobs no_task (λ i inside. short i (get_or m.jobs i no_task) (slice_get-get_or m.jobs i no_task inside))
+are_short m stands = All-from_get_or (λ task. IsShort (input_of task.stage)) m.jobs no_task
+    (λ i inside. short i (get_or m.jobs i no_task) (slice_get-get_or m.jobs i no_task inside))
   where
     waits : (i : ℕ) (task : Task) → slice_get m.jobs i ≡ Some task → (stage : Stage) → task.stage ≡ stage → IsShort (input_of stage)
     waits i task at (Waiting input) is = stands.short task.cpu i task input (record { listed = at; of = refl; at = is })

@@ -20,7 +20,8 @@ use Rattle.bpf_expand.specs.State.{Host, AreSuccessors, HasSuccessor, HasWork, H
 use Rattle.bpf_shared.specs.Shape.{Shape}
 use Rattle.bpf_loader.specs.Loaded.{Loaded}
 use Rattle.bpf_expand.specs.Filter.{IsReportIn, host_of}
-use Rattle.bpf_expand.specs.Laws.{AreAnswered, AreClosed, AreOf, HasLine, IsAmong, IsAnswered, IsReported, FitBudgets, LinesCover, PatientStatesCover, StatesCover}
+use Rattle.bpf_expand.specs.Laws.{AreAnswered, AreClosed, AreOf, HasLine, IsAmong, IsAnswered, IsReported, FitBudgets, LinesCover}
+use Rattle.bpf_expand.specs.Laws.{PatientStatesCover, StatesCover}
 use Rattle.bpf_expand.proofs.Alike.{same_jobs, shows_too}
 
 -- ---- the states that lines are
@@ -79,7 +80,8 @@ module _ (h : Host) (bytes : List ℕ) where
   here_too xs ys j task same at = subst (λ (ts : List Task). slice_get ts j ≡ Some task) (sym same) at
 
   -- a job of a CPU without work has ended
-  has_ended : (m : MachineState) (j : ℕ) (task : Task) (stage : Stage) → IsStateOf h m bytes → slice_get m.jobs j ≡ Some task → task.stage ≡ stage → IsIdleIn h bytes task.cpu
+  has_ended : (m : MachineState) (j : ℕ) (task : Task) (stage : Stage) → IsStateOf h m bytes → slice_get m.jobs j ≡ Some task → task.stage ≡
+      stage → IsIdleIn h bytes task.cpu
       → (outcome : Outcome) × (task.stage ≡ Ended outcome)
   has_ended m j task (Ended outcome) is at stands idle = (outcome, stands)
   has_ended m j task (InHand state left) is at stands (x, isx, free, none) =
@@ -107,7 +109,8 @@ module _ (look : SavedAlikeLookAlike) (stand : AlikeStandAlike) (h : Host) (name
   unfolding all
   is_among bytes (line, (i, at), is) = (i, bytes_at lines each i line bytes at is)
 
-  successor_at : (found : List Successor) → All (λ s. HasLine lines s.bytes.items) found → (i : ℕ) (s : Successor) → slice_get found i ≡ Some s → HasLine lines s.bytes.items
+  successor_at : (found : List Successor) → All (λ s. HasLine lines s.bytes.items) found → (i : ℕ) (s : Successor) → slice_get found i ≡
+      Some s → HasLine lines s.bytes.items
   successor_at [] have i s at = cc
   successor_at (x ∷ xs) have zero s at =
       let same : x ≡ s = cc in
@@ -117,7 +120,8 @@ module _ (look : SavedAlikeLookAlike) (stand : AlikeStandAlike) (h : Host) (name
       All-rest : (xs : List Successor) → All (λ s. HasLine lines s.bytes.items) (x ∷ xs) → All (λ s. HasLine lines s.bytes.items) xs
       All-rest xs have = All-tail (λ s. HasLine lines s.bytes.items) x xs have
 
-  leads_on : (bytes : List ℕ) (c : ℕ) (found : List Successor) → AreSuccessors h bytes found → All (λ s. HasLine lines s.bytes.items) found → (IsIdleIn h bytes c ⊎ HasSuccessor h bytes found c)
+  leads_on : (bytes : List ℕ) (c : ℕ) (found : List Successor) → AreSuccessors h bytes found → All (λ s. HasLine lines s.bytes.items) found
+      → (IsIdleIn h bytes c ⊎ HasSuccessor h bytes found c)
       → IsIdleIn h bytes c ⊎ ((n : ℕ) × (next : List ℕ) × IsSuccessor h bytes c n next × IsAmong all next)
   leads_on bytes c found are have (inl idle) = inl idle
   leads_on bytes c found are have (inr (i, s, at, of, is)) = inr (s.ahead, s.bytes.items, is, is_among s.bytes.items (successor_at found have i s at))
@@ -154,7 +158,8 @@ module _ (look : SavedAlikeLookAlike) (stand : AlikeStandAlike) (h : Host) (name
       let one : b ≡ bytes = cc (sym same ∙ is) in
       (report, subst (λ (b : List ℕ). IsReportIn h names b report) one told)
 
-  reported : (z : World) (bytes : List ℕ) (m : MachineState) → HaveEnded z.jobs → HasLine lines bytes → IsStateOf h m bytes → Shows m z → IsReported h names lines z
+  reported : (z : World) (bytes : List ℕ) (m : MachineState) → HaveEnded z.jobs → HasLine lines bytes → IsStateOf h m bytes → Shows m z →
+      IsReported h names lines z
   reported z bytes m ended (line, among, is) state shows =
       let r = report_of line bytes m is state (subst HaveEnded shows.jobs ended) (answered line among) in
       (bytes, r.0, r.1.3.0, (line, among, is), r.1, tells r.0 r.1)
@@ -168,8 +173,10 @@ module _ (look : SavedAlikeLookAlike) (stand : AlikeStandAlike) (h : Host) (name
 abbrev IsShownAtEnd : Host → List (List ℕ) → World → Type 0
 IsShownAtEnd h states z = (machines : List MachineState) × AreOf h states machines × IsShown machines z
 
-shown_at_end : StatesCover → PatientStatesCover → (h : Host) (states : List (List ℕ)) (first : MachineState) (bytes : List ℕ) (w z : World) (schedule : List ℕ) (patient : Bool) → h.patient ≡ patient
-    → AreClosed h states → IsStateOf h first bytes → IsAmong states bytes → IsFresh w → Shows first w → RunsSchedule w schedule z → FitBudgets h.patient z.jobs → HaveEnded z.jobs → IsShownAtEnd h states z
+shown_at_end : StatesCover → PatientStatesCover → (h : Host) (states : List (List ℕ)) (first : MachineState) (bytes : List ℕ) (w z : World)
+    (schedule : List ℕ) (patient : Bool) → h.patient ≡ patient
+    → AreClosed h states → IsStateOf h first bytes → IsAmong states bytes → IsFresh w → Shows first w → RunsSchedule w schedule z →
+    FitBudgets h.patient z.jobs → HaveEnded z.jobs → IsShownAtEnd h states z
 shown_at_end cover patiently h states first bytes w z schedule false exact closed is among fresh shown runs fit ended =
     let covered = cover h states first bytes w z schedule exact closed is among fresh shown runs in
     (covered.0, covered.1, covered.3 ended)
@@ -179,7 +186,8 @@ shown_at_end cover patiently h states first bytes w z schedule true passes close
 
 pub lines_cover : SavedAlikeLookAlike → AlikeStandAlike → StatesCover → PatientStatesCover → LinesCover
 lines_cover look stand cover patiently h names lines first bytes w z schedule answered is has fresh shown runs fit ended =
-    at_end (shown_at_end cover patiently h (all look stand h names lines answered) first bytes w z schedule h.patient refl (are_closed look stand h names lines answered) is (is_among look stand h names lines answered bytes has) fresh shown runs fit ended)
+    at_end (shown_at_end cover patiently h (all look stand h names lines answered) first bytes w z schedule h.patient refl
+    (are_closed look stand h names lines answered) is (is_among look stand h names lines answered bytes has) fresh shown runs fit ended)
   where
     at_end : IsShownAtEnd h (all look stand h names lines answered) z → IsReported h names lines z
     at_end (machines, of, (i, m, at, shows)) =
@@ -187,7 +195,8 @@ lines_cover look stand cover patiently h names lines first bytes w z schedule an
         reported look stand h names lines answered z b.0 m ended (has_line look stand h names lines answered b.0 b.1) b.2 shows
 
 -- ---- what is made
-pub host_is : (h : Host) (patient : Bool) (shape : Shape) (programs : List Loaded) (jobs : List Task) → h.patient ≡ patient → h.shape ≡ shape → h.programs ≡ programs → h.jobs ≡ jobs
+pub host_is : (h : Host) (patient : Bool) (shape : Shape) (programs : List Loaded) (jobs : List Task) → h.patient ≡ patient → h.shape ≡
+    shape → h.programs ≡ programs → h.jobs ≡ jobs
     → h ≡ host_of patient shape programs jobs
 host_is h patient shape programs jobs a b c d =
     subst (λ (p : Bool). h ≡ host_of p shape programs jobs) a

@@ -74,8 +74,10 @@ module _ (h : Host) (jobs : List Task) (bytes rest : List ℕ) (later : AreLater
       pub no_stand : (CanStand (made_of room h.programs jobs numbers) → ⊥) → (m : MachineState) → IsStateOf h m bytes → ⊥
       no_stand none m is =
           let t = told m is in
-          let alike : LookAlike m.store room = saved_alike_look_alike m.store room rest (one_shape h.shape m.store room is.of.shape (shape_read h.shape old room rest count of stored)) t.1 room_saved in
-          let there : CanStand (record { store = room; programs = m.programs; jobs = m.jobs; lists = None }) = can_stand m.store room alike m.programs m.jobs m.lists None is.of.stands in
+          let alike : LookAlike m.store room = saved_alike_look_alike m.store room rest
+          (one_shape h.shape m.store room is.of.shape (shape_read h.shape old room rest count of stored)) t.1 room_saved in
+          let there : CanStand (record { store = room; programs = m.programs; jobs = m.jobs; lists = None }) = can_stand m.store room alike
+          m.programs m.jobs m.lists None is.of.stands in
           none (subst (λ (ts : List Task). CanStand (record { store = room; programs = h.programs; jobs = ts; lists = None })) (sym t.0 ∙ sym jobs_are)
           (subst (λ (ps : List Loaded). CanStand (record { store = room; programs = ps; jobs = m.jobs; lists = None })) is.of.programs there))
 
@@ -87,11 +89,13 @@ module _ (h : Host) (jobs : List Task) (bytes rest : List ℕ) (later : AreLater
   all_numbered numbers up = all_within numbers (length jobs) (subst (λ (n : ℕ). CountUp numbers n) (sym (later_count h.jobs jobs later)) up)
 
 -- no jobs are at the beginning
-pub no_jobs : (h : Host) (bytes : List ℕ) → ((jobs : List Task) (more : List ℕ) → AreLater h.jobs jobs → HoldWhatMayBe jobs → bytes ≡ jobs_saved jobs ++ more → ⊥) → (m : MachineState) → IsStateOf h m bytes → ⊥
+pub no_jobs : (h : Host) (bytes : List ℕ) → ((jobs : List Task) (more : List ℕ) → AreLater h.jobs jobs → HoldWhatMayBe jobs → bytes ≡
+    jobs_saved jobs ++ more → ⊥) → (m : MachineState) → IsStateOf h m bytes → ⊥
 no_jobs h bytes none m is = none m.jobs is.saved.0 is.of.jobs is.of.held is.saved.2
 
 -- ---- the machine of what was read
-module _ (h : Host) (room : Contents) (numbers : List ℕ) (jobs : List Task) (bytes : List ℕ) (up : CountUp numbers (length h.jobs)) (is : IsReadAs h.programs room h.jobs numbers jobs bytes) where
+module _ (h : Host) (room : Contents) (numbers : List ℕ) (jobs : List Task) (bytes : List ℕ) (up : CountUp numbers (length h.jobs))
+    (is : IsReadAs h.programs room h.jobs numbers jobs bytes) where
   they_are : chosen jobs numbers ≡ jobs
   they_are = chosen_all jobs numbers (subst (λ (n : ℕ). CountUp numbers n) (sym (later_count h.jobs jobs is.later)) up)
 
@@ -116,12 +120,15 @@ module _ (h : Host) (room : Contents) (numbers : List ℕ) (jobs : List Task) (b
   within = all_within numbers (length jobs) (subst (λ (n : ℕ). CountUp numbers n) (sym (later_count h.jobs jobs is.later)) up)
 
 -- ---- a machine that was made of what was read
-pub made_again : (m : MachineState) (room : Contents) (programs : List Loaded) (jobs : List Task) (numbers : List ℕ) → m ≡ made_of room programs jobs numbers → m ≡ made_of room m.programs jobs numbers
+pub made_again : (m : MachineState) (room : Contents) (programs : List Loaded) (jobs : List Task) (numbers : List ℕ) → m ≡ made_of room
+    programs jobs numbers → m ≡ made_of room m.programs jobs numbers
 made_again m room programs jobs numbers e = e ∙ ap (λ (ps : List Loaded). made_of room ps jobs numbers) (sym (ap (λ (x : MachineState). x.programs) e))
 
 -- it is what the bytes are of
-pub placed_state : (h : Host) (m : MachineState) (room : Contents) (numbers : List ℕ) (jobs : List Task) (bytes : List ℕ) → CountUp numbers (length h.jobs) → IsReadAs h.programs room h.jobs numbers jobs bytes → IsOfShape h.shape room
-    → m ≡ made_of room h.programs jobs numbers → FitInBytes m.jobs → IsStateOf (record { shape = h.shape; programs = m.programs; jobs = h.jobs; patient = h.patient }) m bytes
+pub placed_state : (h : Host) (m : MachineState) (room : Contents) (numbers : List ℕ) (jobs : List Task) (bytes : List ℕ) → CountUp numbers
+    (length h.jobs) → IsReadAs h.programs room h.jobs numbers jobs bytes → IsOfShape h.shape room
+    → m ≡ made_of room h.programs jobs numbers → FitInBytes m.jobs → IsStateOf
+    (record { shape = h.shape; programs = m.programs; jobs = h.jobs; patient = h.patient }) m bytes
 placed_state h m room numbers jobs bytes up is shape made fit =
     subst (λ (x : MachineState). IsStateOf (record { shape = h.shape; programs = x.programs; jobs = h.jobs; patient = h.patient }) x bytes) (sym made)
     (is_state h room numbers jobs bytes up is shape (subst (λ (x : MachineState). FitInBytes x.jobs) made fit))

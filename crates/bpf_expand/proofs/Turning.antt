@@ -24,7 +24,8 @@ pub record AreBelow (h : Host) (bytes : List ℕ) (found : List Successor) (n : 
 abbrev pub IdleBeyond : Host → List ℕ → ℕ → Type 0
 IdleBeyond h bytes n = (c : ℕ) → n ≤ c → IsIdleIn h bytes c
 
-pub idle_beyond : (h : Host) (m : MachineState) (bytes : List ℕ) (n : ℕ) → IsStateOf h m bytes → ((c : ℕ) → has_cpu m.store c ≡ nat_lt c n) → IdleBeyond h bytes n
+pub idle_beyond : (h : Host) (m : MachineState) (bytes : List ℕ) (n : ℕ) → IsStateOf h m bytes → ((c : ℕ) → has_cpu m.store c ≡ nat_lt c n)
+    → IdleBeyond h bytes n
 idle_beyond h m bytes n is serves c beyond =
     let nobody : (j : ℕ) (task : Task) (stage : Stage) → IsAt m.jobs c j task stage → ⊥ = λ j task stage here. (
     let there : nat_lt c n ≡ true = sym (serves c) ∙ subst (λ (d : ℕ). has_cpu m.store d ≡ true) here.of (is.of.stands.served j task here.listed) in
@@ -53,7 +54,8 @@ idle_below h bytes found n are idle = record {
   ];
 }
 
-still_has : (h : Host) (bytes : List ℕ) (found : List Successor) (more : List Successor) (c : ℕ) → HasSuccessor h bytes found c → HasSuccessor h bytes (found ++ more) c
+still_has : (h : Host) (bytes : List ℕ) (found : List Successor) (more : List Successor) (c : ℕ) → HasSuccessor h bytes found c →
+    HasSuccessor h bytes (found ++ more) c
 still_has h bytes found more c (i, s, at, of, is) = (i, s, slice_get-front found more i (slice_get_within found i s at) ∙ at, of, is)
 
 slice_get-end : (found : List Successor) (s : Successor) → slice_get (found ++ s ∷ []) (length found) ≡ Some s
@@ -95,13 +97,15 @@ rising_end found s n below rising of i j x later less at then = elim (at_end fou
 pub next_below : (h : Host) (bytes : List ℕ) (found : List Successor) (n : ℕ) (s : Successor) → AreBelow h bytes found n
     → (s.cpu ≡ n) × HasWorkIn h bytes n × IsSuccessor h bytes n s.ahead s.bytes.items → AreBelow h bytes (found ++ s ∷ []) (n + 1)
 next_below h bytes found n s are (of, works, is) = record {
-  each = All-push (λ s. IsSuccessor h bytes s.cpu s.ahead s.bytes.items) found s are.each (subst (λ (c : ℕ). IsSuccessor h bytes c s.ahead s.bytes.items) (sym of) is);
+  each = All-push (λ s. IsSuccessor h bytes s.cpu s.ahead s.bytes.items) found s are.each
+      (subst (λ (c : ℕ). IsSuccessor h bytes c s.ahead s.bytes.items) (sym of) is);
   work = All-push (λ s. HasWorkIn h bytes s.cpu) found s are.work (subst (λ (c : ℕ). HasWorkIn h bytes c) (sym of) works);
   below = below_end found s n are.below of;
   rising = rising_end found s n are.below are.rising of;
   all = λ c less. elim (cases_lt c n) [
     | inl below ↦ still below (are.all c below)
-    | inr past ↦ let same : n ≡ c = omega arith in inr (subst (λ (k : ℕ). HasSuccessor h bytes (found ++ s ∷ []) k) same (length found, s, slice_get-end found s, of, is))
+    | inr past ↦ let same : n ≡ c = omega arith in inr (subst (λ (k : ℕ). HasSuccessor h bytes (found ++ s ∷ []) k) same
+        (length found, s, slice_get-end found s, of, is))
   ];
 }
   where
@@ -109,7 +113,8 @@ next_below h bytes found n s are (of, works, is) = record {
     still {c} less (inl idle) = inl idle
     still {c} less (inr has) = inr (still_has h bytes found (s ∷ []) c has)
 
-pub all_below : (h : Host) (bytes : List ℕ) (found : List Successor) (n end : ℕ) → AreBelow h bytes found n → end ≤ n → IdleBeyond h bytes end → AreSuccessors h bytes found
+pub all_below : (h : Host) (bytes : List ℕ) (found : List Successor) (n end : ℕ) → AreBelow h bytes found n → end ≤ n → IdleBeyond h bytes
+    end → AreSuccessors h bytes found
 all_below h bytes found n end are past beyond = record {
   each = are.each;
   work = are.work;

@@ -1,5 +1,6 @@
 -- A machine and what it is kept as.
-use Rattle.std.proofs.Common.{◌≡◌, ◌∙◌, ℕ, ◌+◌, ◌<◌, ◌≤◌, ◌⊎◌, true, false, inl, inr, List, [], ◌∷◌, ◌++◌, Option, Some, None, length, drop, refl, sym, ap, subst, append-nil, arith}
+use Rattle.std.proofs.Common.{◌≡◌, ◌∙◌, ℕ, ◌+◌, ◌<◌, ◌≤◌, ◌⊎◌, true, false, inl, inr, List, [], ◌∷◌, ◌++◌, Option, Some, None, length, drop}
+use Rattle.std.proofs.Common.{refl, sym, ap, subst, append-nil, arith}
 use Rattle.std.specs.Prelude.{All, nat_lt, slice_get, slice_index_or}
 use Rattle.std.proofs.lemmas.Bool.{ltb-true}
 use Rattle.std.proofs.lemmas.List.{length-drop, length-map}
@@ -27,7 +28,8 @@ use Rattle.bpf_explore.specs.Stores.{IsOfShape, no_store}
 use Rattle.bpf_explore.specs.Tuples.{TupleList, tuple_at, with_tuple}
 use Rattle.bpf_explore.specs.Private.Classes.{AreLoaded, AreOfParts, IsAlikeTuple}
 use Rattle.bpf_explore.proofs.ClassLaws.{are_loaded}
-use Rattle.bpf_explore.specs.Private.Album.{Shelf, machine_of, machine_at, machines, IsState, IsShelf, Grows, FitsShelf, AddsOne, ShowsFirst, AreNumbersOf, AreKeptUnder}
+use Rattle.bpf_explore.specs.Private.Album.{Shelf, machine_of, machine_at, machines, IsState, IsShelf, Grows, FitsShelf, AddsOne}
+use Rattle.bpf_explore.specs.Private.Album.{ShowsFirst, AreNumbersOf, AreKeptUnder}
 use Rattle.bpf_explore.proofs.KeptLaws.{tuple_new}
 use Rattle.bpf_explore.proofs.StandAlike.{can_stand}
 use Rattle.bpf_explore.proofs.ShelfLaws.{machines_length, machines_at, shapes_still, same_shelf, same_kept, more_shelf, more_kept}
@@ -40,8 +42,10 @@ pub shape_still : (h : Shape) (old new : MachineState) → IsSameHost old new �
 shape_still h old new same shape = (same.shape.1 ∙ shape.0, λ c. same.shape.0 c ∙ shape.1 c)
 
 -- what is saved as the machine's store is, with jobs that are as its jobs do
-module _ (h : Shape) (s : Shelf) (m : MachineState) (tuple bytes : List ℕ) (fits : FitsShelf h s m) (shapes : (n : ℕ) → n < length s.stores → IsOfShape h (slice_index_or s.stores n no_store))
-    (stored : slice_index_or tuple 0 0 < length s.stores) (saved : IsSavedAs m.store bytes) (kept : IsSavedAs (slice_index_or s.stores (slice_index_or tuple 0 0) no_store) bytes)
+module _ (h : Shape) (s : Shelf) (m : MachineState) (tuple bytes : List ℕ) (fits : FitsShelf h s m)
+    (shapes : (n : ℕ) → n < length s.stores → IsOfShape h (slice_index_or s.stores n no_store))
+    (stored : slice_index_or tuple 0 0 < length s.stores) (saved : IsSavedAs m.store bytes)
+    (kept : IsSavedAs (slice_index_or s.stores (slice_index_or tuple 0 0) no_store) bytes)
     (within : All (λ n. n < length s.parts) (drop 1 tuple)) (jobs : chosen s.parts (drop 1 tuple) ≡ m.jobs) where
   abbrev store : Contents
   store = slice_index_or s.stores (slice_index_or tuple 0 0) no_store
@@ -89,9 +93,11 @@ module _ (h : Shape) (stores : List Contents) (parts : List Task) (states : Tupl
 -- after turns
 pub all_after : (h : Shape) (stores : List Contents) (parts : List Task) (states : TupleList) (tables : List Table) (m new : MachineState) → IsSameHost m new
     → IsShelf h (shelf_of m.programs stores parts states) × FitsShelf h (shelf_of m.programs stores parts states) m × AreLiveTables m.programs (table_at tables)
-    → IsShelf h (shelf_of new.programs stores parts states) × FitsShelf h (shelf_of new.programs stores parts states) new × AreLiveTables new.programs (table_at tables)
+    → IsShelf h (shelf_of new.programs stores parts states) × FitsShelf h (shelf_of new.programs stores parts states) new × AreLiveTables
+    new.programs (table_at tables)
 all_after h stores parts states tables m new same (is, fits, right) =
-    let r = fits_with h stores parts states m new same.programs is (shape_still h m new same fits.shape) (fits.width ∙ ap (λ (n : ℕ). n + 1) (sym same.jobs)) (same.lists fits.lists) in
+    let r = fits_with h stores parts states m new same.programs is (shape_still h m new same fits.shape)
+    (fits.width ∙ ap (λ (n : ℕ). n + 1) (sym same.jobs)) (same.lists fits.lists) in
     (r.0, r.1, subst (λ (ps : List Loaded). AreLiveTables ps (table_at tables)) (sym same.programs) right)
 
 -- ---- a kept machine to work with
@@ -103,13 +109,16 @@ pub record IsReadable (h : Shape) (s : Shelf) (m : MachineState) (place : ℕ) (
   pub shaped : IsOfShape h store
   pub width : s.states.width ≡ length (chosen parts jobs) + 1
 
-pub readable : (h : Shape) (s : Shelf) (m : MachineState) (place : ℕ) (tuple : List ℕ) (store : Contents) (parts : List Task) (jobs : List ℕ) → IsShelf h s → FitsShelf h s m → place < s.states.count → tuple_at s.states place ≡ tuple → length tuple ≡ s.states.width → 1 ≤ s.states.width
+pub readable : (h : Shape) (s : Shelf) (m : MachineState) (place : ℕ) (tuple : List ℕ) (store : Contents) (parts : List Task)
+    (jobs : List ℕ) → IsShelf h s → FitsShelf h s m → place < s.states.count → tuple_at s.states place ≡ tuple → length tuple ≡
+    s.states.width → 1 ≤ s.states.width
     → store ≡ slice_index_or s.stores (slice_index_or tuple 0 0) no_store → parts ≡ s.parts → jobs ≡ drop 1 tuple → IsReadable h s m place store parts jobs
 readable h s m place tuple store parts jobs is fits less at size some stored same numbered =
     let state : IsState s tuple = subst (IsState s) at (is.states place less) in
     let there = slice_index_or s.stores (slice_index_or tuple 0 0) no_store in
     let shaped : IsOfShape h there = is.shapes (slice_index_or tuple 0 0) state.stored in
-    let made : made_of there m.programs s.parts (drop 1 tuple) ≡ machine_of s tuple = ap (λ (ps : List Loaded). made_of there ps s.parts (drop 1 tuple)) (sym fits.programs) in
+    let made : made_of there m.programs s.parts (drop 1 tuple) ≡ machine_of s tuple = ap
+    (λ (ps : List Loaded). made_of there ps s.parts (drop 1 tuple)) (sym fits.programs) in
     let numbers = length-map (drop 1 tuple) (λ n. slice_index_or s.parts n no_task) in
     let rest = length-drop 1 tuple in
     let ready : IsReadable h s m place there s.parts (drop 1 tuple) = record {
@@ -120,13 +129,17 @@ readable h s m place tuple store parts jobs is fits less at size some stored sam
       shaped = shaped;
       width = omega arith;
     } in
-    subst (λ (p : Contents). IsReadable h s m place p parts jobs) (sym stored) (subst (λ (ts : List Task). IsReadable h s m place there ts jobs) (sym same) (subst (λ (ns : List ℕ). IsReadable h s m place there s.parts ns) (sym numbered) ready))
+    subst (λ (p : Contents). IsReadable h s m place p parts jobs) (sym stored)
+    (subst (λ (ts : List Task). IsReadable h s m place there ts jobs) (sym same)
+    (subst (λ (ns : List ℕ). IsReadable h s m place there s.parts ns) (sym numbered) ready))
 
-pub stored_inside : (h : Shape) (s : Shelf) (place : ℕ) (tuple : List ℕ) → IsShelf h s → place < s.states.count → tuple_at s.states place ≡ tuple → slice_index_or tuple 0 0 < length s.stores
+pub stored_inside : (h : Shape) (s : Shelf) (place : ℕ) (tuple : List ℕ) → IsShelf h s → place < s.states.count → tuple_at s.states place ≡
+    tuple → slice_index_or tuple 0 0 < length s.stores
 stored_inside h s place tuple is less at = let state : IsState s tuple = subst (IsState s) at (is.states place less) in state.stored
 
 -- what is restored
-pub restored_fits : (h : Shape) (stores : List Contents) (parts : List Task) (states : TupleList) (m new : MachineState) (place : ℕ) (store : Contents) (read : List Task) (jobs : List ℕ) → IsShelf h (shelf_of m.programs stores parts states)
+pub restored_fits : (h : Shape) (stores : List Contents) (parts : List Task) (states : TupleList) (m new : MachineState) (place : ℕ)
+    (store : Contents) (read : List Task) (jobs : List ℕ) → IsShelf h (shelf_of m.programs stores parts states)
     → IsReadable h (shelf_of m.programs stores parts states) m place store read jobs → new ≡ made_of store m.programs read jobs
     → IsShelf h (shelf_of new.programs stores parts states) × FitsShelf h (shelf_of new.programs stores parts states) new
 restored_fits h stores parts states m new place there read jobs is ready e =
@@ -134,8 +147,10 @@ restored_fits h stores parts states m new place there read jobs is ready e =
     (ready.width ∙ ap (λ (n : MachineState). length n.jobs + 1) (sym e)) (ap (λ (n : MachineState). n.lists) e)
 
 -- the numbers of a store and of jobs, one after the other
-pub numbered_under : (stores : List Contents) (parts : List Task) (m : MachineState) (before new : List ℕ) (store : ℕ) → before ≡ store ∷ [] → store < length stores
-    → ((saved : List ℕ) × IsSavedAs m.store saved × IsSavedAs (slice_index_or stores store no_store) saved) → ((more : List ℕ) × (new ≡ before ++ more) × AreNumbersOf parts more m.jobs) → AreKeptUnder stores parts m new
+pub numbered_under : (stores : List Contents) (parts : List Task) (m : MachineState) (before new : List ℕ) (store : ℕ) → before ≡ store ∷ []
+    → store < length stores
+    → ((saved : List ℕ) × IsSavedAs m.store saved × IsSavedAs (slice_index_or stores store no_store) saved) →
+    ((more : List ℕ) × (new ≡ before ++ more) × AreNumbersOf parts more m.jobs) → AreKeptUnder stores parts m new
 numbered_under stores parts m before new store first stored alike numbered =
     let more = numbered.0 in
     let e : new ≡ store ∷ more = numbered.1 ∙ ap (λ (ns : List ℕ). ns ++ more) first in
@@ -173,22 +188,26 @@ module _ (h : Shape) (s : Shelf) (m : MachineState) (stores : List Contents) (pa
 
     state_there : (states : TupleList) → states.width ≡ s.states.width → IsState (with_states states) tuple
     state_there states width =
-        is_state h (with_states states) m tuple under.bytes (fits_grown states width) (shapes_there states) under.stored under.saved under.alike under.jobs.0 under.jobs.1 stands
+        is_state h (with_states states) m tuple under.bytes (fits_grown states width) (shapes_there states) under.stored under.saved
+        under.alike under.jobs.0 under.jobs.1 stands
 
     width_after : (states : TupleList) → (states ≡ s.states) ⊎ (states ≡ with_tuple s.states tuple) → states.width ≡ s.states.width
     width_after states (inl e) = ap (λ (t : TupleList). t.width) e
     width_after states (inr e) = ap (λ (t : TupleList). t.width) e
 
     -- the machine of a state that has the same store, and jobs that are alike
-    pub kept_after : (tables : List Table) (states : TupleList) (n : ℕ) → AreLiveTables m.programs (table_at tables) → (states ≡ s.states) ⊎ (states ≡ with_tuple s.states tuple) → n < states.count → IsAlikeTuple tables parts tuple (tuple_at states n)
+    pub kept_after : (tables : List Table) (states : TupleList) (n : ℕ) → AreLiveTables m.programs (table_at tables) → (states ≡ s.states) ⊎
+        (states ≡ with_tuple s.states tuple) → n < states.count → IsAlikeTuple tables parts tuple (tuple_at states n)
         → IsKeptAlikeAt (machines (with_states states) states.count) n m
     kept_after tables states n right now less alike w here =
         let all = with_states states in
-        let shown = shown_there h all m tuple under.bytes (fits_grown states (width_after states now)) (shapes_there states) under.stored under.saved under.alike under.jobs.0 under.jobs.1 w here in
+        let shown = shown_there h all m tuple under.bytes (fits_grown states (width_after states now)) (shapes_there states) under.stored
+        under.saved under.alike under.jobs.0 under.jobs.1 w here in
         let jobs = chosen parts (drop 1 (tuple_at states n)) in
         let loaded = subst (AreLoaded m.programs) (sym under.jobs.1) (are_loaded m stands) in
         let alike_jobs : AllAlike m.programs (chosen parts (drop 1 tuple)) jobs = alike.1 m.programs right loaded in
-        let of_world : AllAlike w.programs w.jobs jobs = subst (λ (ps : List Loaded). AllAlike ps w.jobs jobs) (sym here.programs) (subst (λ (ts : List Task). AllAlike m.programs ts jobs) (sym shown.jobs) alike_jobs) in (
+        let of_world : AllAlike w.programs w.jobs jobs = subst (λ (ps : List Loaded). AllAlike ps w.jobs jobs) (sym here.programs)
+        (subst (λ (ts : List Task). AllAlike m.programs ts jobs) (sym shown.jobs) alike_jobs) in (
           jobs,
           of_world,
           (
@@ -210,18 +229,25 @@ module _ (h : Shape) (s : Shelf) (m : MachineState) (stores : List Contents) (pa
         let size = under.size in
         (size ∙ sym fits.width, omega (arith, size), under.jobs.0, λ i less. (same_invariant.0.states i less).within)
 
-    pub invariant_after : (states : TupleList) → length tuple ≡ s.states.width → (states ≡ s.states) ⊎ (states ≡ with_tuple s.states tuple) → IsShelf h (with_states states) × FitsShelf h (with_states states) m
-    invariant_after states size (inl e) = (same_shelf s (with_states states) m.store (grown states) h fits.shape is e, fits_grown states (ap (λ (t : TupleList). t.width) e))
+    pub invariant_after : (states : TupleList) → length tuple ≡ s.states.width → (states ≡ s.states) ⊎ (states ≡ with_tuple s.states tuple)
+        → IsShelf h (with_states states) × FitsShelf h (with_states states) m
+    invariant_after states size (inl e) = (
+      same_shelf s (with_states states) m.store (grown states) h fits.shape is e,
+      fits_grown states
+          (ap (λ (t : TupleList). t.width) e),
+    )
     invariant_after states size (inr e) =
         let width : states.width ≡ s.states.width = ap (λ (t : TupleList). t.width) e in
         (more_shelf s (with_states states) m.store (grown states) h fits.shape is tuple size (state_there states width) e, fits_grown states width)
 
-    pub adds_after : (states : TupleList) → length tuple ≡ s.states.width → (states ≡ s.states) ⊎ (states ≡ with_tuple s.states tuple) → AddsOne (machines s s.states.count) m (machines (with_states states) states.count)
+    pub adds_after : (states : TupleList) → length tuple ≡ s.states.width → (states ≡ s.states) ⊎ (states ≡ with_tuple s.states tuple) →
+        AddsOne (machines s s.states.count) m (machines (with_states states) states.count)
     adds_after states size (inl e) = inl (same_kept s (with_states states) m.store (grown states) h fits.shape is e)
     adds_after states size (inr e) =
         let width : states.width ≡ s.states.width = ap (λ (t : TupleList). t.width) e in
         let last : tuple_at states s.states.count ≡ tuple = ap (λ (t : TupleList). tuple_at t s.states.count) e ∙ tuple_new s.states tuple is.whole size in
-        let shows = shown_there h (with_states states) m tuple under.bytes (fits_grown states width) (shapes_there states) under.stored under.saved under.alike under.jobs.0 under.jobs.1 in
+        let shows = shown_there h (with_states states) m tuple under.bytes (fits_grown states width) (shapes_there states) under.stored
+        under.saved under.alike under.jobs.0 under.jobs.1 in
         inr (
           machine_at (with_states states) s.states.count,
           more_kept s (with_states states) m.store (grown states) h fits.shape is tuple size (state_there states width) e,
@@ -233,7 +259,8 @@ adds_extends old new m (inl e) = ([], e ∙ sym (append-nil old))
 adds_extends old new m (inr (one, e, shows)) = (one ∷ [], e)
 
 -- the first that is kept
-pub first_kept : (old kept : List MachineState) (m : MachineState) (n : ℕ) → old ≡ [] → AddsOne old m kept → n < length kept → (length kept ≡ 1) × ShowsFirst kept m
+pub first_kept : (old kept : List MachineState) (m : MachineState) (n : ℕ) → old ≡ [] → AddsOne old m kept → n < length kept →
+    (length kept ≡ 1) × ShowsFirst kept m
 first_kept old kept m n none (inl e) less =
     let count : length kept ≡ 0 = ap (λ (ms : List MachineState). length ms) (e ∙ none) in
     absurd (omega arith)
@@ -252,7 +279,8 @@ kept_is s i m at =
     (less, cc)
 
 -- its jobs are those of its numbers
-pub kept_jobs : (s : Shelf) (i : ℕ) (m : MachineState) → slice_get (machines s s.states.count) i ≡ Some m → m.jobs ≡ chosen s.parts (drop 1 (tuple_at s.states i))
+pub kept_jobs : (s : Shelf) (i : ℕ) (m : MachineState) → slice_get (machines s s.states.count) i ≡ Some m → m.jobs ≡ chosen s.parts
+    (drop 1 (tuple_at s.states i))
 kept_jobs s i m at = ap (λ (n : MachineState). n.jobs) (kept_is s i m at).1
 
 -- no job is on a CPU beyond the store's
@@ -261,7 +289,8 @@ idle_beyond h s is i c beyond m at =
     let k = kept_is s i m at in
     let state = is.states i k.0 in
     let stands : CanStand m = subst CanStand (sym k.1) state.stands in
-    let shape : IsOfShape h m.store = subst (λ (n : MachineState). IsOfShape h n.store) (sym k.1) (is.shapes (slice_index_or (tuple_at s.states i) 0 0) state.stored) in
+    let shape : IsOfShape h m.store = subst (λ (n : MachineState). IsOfShape h n.store) (sym k.1)
+    (is.shapes (slice_index_or (tuple_at s.states i) 0 0) state.stored) in
     let nobody : (j : ℕ) (task : Task) (stage : Stage) → IsAt m.jobs c j task stage → ⊥ = λ j task stage here. (
     let serves : nat_lt c h.cpus ≡ true = sym (shape.1 c) ∙ subst (λ (d : ℕ). has_cpu m.store d ≡ true) here.of (stands.served j task here.listed) in
     let less = ltb-true c h.cpus serves in
@@ -270,9 +299,11 @@ idle_beyond h s is i c beyond m at =
 
 -- ---- a turn from a kept machine
 pub still_at : (old new : List MachineState) (place : ℕ) (m : MachineState) → slice_get old place ≡ Some m → Extends old new → slice_get new place ≡ Some m
-still_at old new place m at more = ap (λ (ms : List MachineState). slice_get ms place) more.1 ∙ (slice_get-front old more.0 place (slice_get_within old place m at) ∙ at)
+still_at old new place m at more = ap (λ (ms : List MachineState). slice_get ms place) more.1 ∙
+    (slice_get-front old more.0 place (slice_get_within old place m at) ∙ at)
 
-pub turned : (old new : List MachineState) (place cpu : ℕ) (m after : MachineState) → slice_get old place ≡ Some m → Extends old new → TurnsTo m cpu after → IsKeptAlike new after → IsTurned false new place cpu
+pub turned : (old new : List MachineState) (place cpu : ℕ) (m after : MachineState) → slice_get old place ≡ Some m → Extends old new →
+    TurnsTo m cpu after → IsKeptAlike new after → IsTurned false new place cpu
 turned old new place cpu m after at more turns kept other there =
     let two : Some m ≡ Some other = sym (still_at old new place m at more) ∙ there in
     let same : m ≡ other = cc in

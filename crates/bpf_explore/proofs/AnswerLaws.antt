@@ -1,5 +1,6 @@
 -- Answers, of which one more is put in its place.
-use Rattle.std.proofs.Common.{◌≡◌, ◌∙◌, ℕ, zero, suc, ◌+◌, ◌-◌, ◌<◌, ◌≤◌, Bool, List, [], ◌∷◌, Some, inl, inr, length, get_or, take, drop, refl, sym, ap, subst, arith}
+use Rattle.std.proofs.Common.{◌≡◌, ◌∙◌, ℕ, zero, suc, ◌+◌, ◌-◌, ◌<◌, ◌≤◌, Bool, List, [], ◌∷◌, Some, inl, inr, length, get_or, take, drop}
+use Rattle.std.proofs.Common.{refl, sym, ap, subst, arith}
 use Rattle.std.specs.Prelude.{slice_get, insert}
 use Rattle.std.specs.declared.cmp.Ordering.{Ordering}
 use Rattle.std.specs.declared.cmp.Ordering.TheVariants.{Less, Equal, Greater}
@@ -99,7 +100,8 @@ module _ (xs : List Found) (i : ℕ) (x : Found) (within : i ≤ length xs) wher
   ]
 
 -- ---- where more answers are
-pub answered_still : (kept : List MachineState) (names : Names) (maps : Bool) (old new : List Found) (i : ℕ) → KeepsAll old new → IsAnsweredAt kept names maps old i → IsAnsweredAt kept names maps new i
+pub answered_still : (kept : List MachineState) (names : Names) (maps : Bool) (old new : List Found) (i : ℕ) → KeepsAll old new →
+    IsAnsweredAt kept names maps old i → IsAnsweredAt kept names maps new i
 answered_still kept names maps old new i keeps told m at ended =
     let a = told m at ended in
     let there = keeps a.0 a.1 a.2 in
@@ -112,7 +114,8 @@ pub more_kept : (old mid new : List Found) → KeepsAll old mid → KeepsAll mid
 more_kept old mid new a b i found at = let there = a i found at in b there.0 found there.1
 
 -- after an answer that is greater than a text all are
-pub behind_all : (answers : List Found) (text : List ℕ) (i : ℕ) (here : Found) → AreSorted answers → slice_get answers i ≡ Some here → slice_cmp nat_cmp text here.text ≡ Less
+pub behind_all : (answers : List Found) (text : List ℕ) (i : ℕ) (here : Found) → AreSorted answers → slice_get answers i ≡ Some here →
+    slice_cmp nat_cmp text here.text ≡ Less
     → (k : ℕ) (found : Found) → i ≤ k → slice_get answers k ≡ Some found → slice_cmp nat_cmp text found.text ≡ Less
 behind_all answers text i here sorted at less k found above there = elim (cases_lt i k) [
   | inl past ↦ less_less text here.text found.text less (sorted i k here found past at there)
@@ -131,14 +134,16 @@ module _ (answers : List Found) (i : ℕ) (x : Found) (text : List ℕ) (inside 
   pub is_found : Equal ≡ slice_cmp nat_cmp x.text text → (found : Found) × (slice_get answers i ≡ Some found) × (found.text ≡ text)
   is_found e = (x, at_place, slice_cmp-IsAntisymmetric nat_cmp-IsAntisymmetric x.text text (sym e))
 
-  pub place_before : AreSorted answers → ((k : ℕ) (found : Found) → k < i → slice_get answers k ≡ Some found → slice_cmp nat_cmp found.text text ≡ Less) → Greater ≡ slice_cmp nat_cmp x.text text → IsPlaceOf answers text i
+  pub place_before : AreSorted answers → ((k : ℕ) (found : Found) → k < i → slice_get answers k ≡ Some found → slice_cmp nat_cmp found.text
+      text ≡ Less) → Greater ≡ slice_cmp nat_cmp x.text text → IsPlaceOf answers text i
   place_before sorted far e = record {
     within = omega arith;
     before = far;
     behind = behind_all answers text i x sorted at_place (turned_round x.text text (sym e));
   }
 
-  pub next_less : ((k : ℕ) (found : Found) → k < i → slice_get answers k ≡ Some found → slice_cmp nat_cmp found.text text ≡ Less) → Less ≡ slice_cmp nat_cmp x.text text
+  pub next_less : ((k : ℕ) (found : Found) → k < i → slice_get answers k ≡ Some found → slice_cmp nat_cmp found.text text ≡ Less) → Less ≡
+      slice_cmp nat_cmp x.text text
       → (k : ℕ) (found : Found) → k < i + 1 → slice_get answers k ≡ Some found → slice_cmp nat_cmp found.text text ≡ Less
   next_less far e k found less at = elim (cases_lt k i) [
     | inl below ↦ far k found below at
@@ -149,7 +154,9 @@ module _ (answers : List Found) (i : ℕ) (x : Found) (text : List ℕ) (inside 
         subst (λ (y : Found). slice_cmp nat_cmp y.text text ≡ Less) one (sym e)
   ]
 
-pub place_behind : (answers : List Found) (text : List ℕ) (i : ℕ) → length answers ≤ i → ((k : ℕ) (found : Found) → k < i → slice_get answers k ≡ Some found → slice_cmp nat_cmp found.text text ≡ Less) → IsPlaceOf answers text (length answers)
+pub place_behind : (answers : List Found) (text : List ℕ) (i : ℕ) → length answers ≤ i →
+    ((k : ℕ) (found : Found) → k < i → slice_get answers k ≡ Some found → slice_cmp nat_cmp found.text text ≡ Less) → IsPlaceOf answers text
+    (length answers)
 place_behind answers text i past far = record {
   within = omega arith;
   before = λ k found less at. far k found (omega arith) at;
@@ -164,7 +171,8 @@ none_gathered kept names maps = record {
   answered = λ i less. absurd (omega arith);
 }
 
-pub more_gathered : (kept : List MachineState) (names : Names) (maps : Bool) (place : ℕ) (old new : List Found) → Gathered kept names maps place old → AreSorted new → KeepsAll old new
+pub more_gathered : (kept : List MachineState) (names : Names) (maps : Bool) (place : ℕ) (old new : List Found) → Gathered kept names maps
+    place old → AreSorted new → KeepsAll old new
     → ((w : World) → IsFirst kept w → AllEnd w names maps new) → IsAnsweredAt kept names maps new place → Gathered kept names maps (place + 1) new
 more_gathered kept names maps place old new far sorted keeps ends here = record {
   sorted = sorted;
@@ -175,7 +183,8 @@ more_gathered kept names maps place old new far sorted keeps ends here = record 
   ];
 }
 
-pub all_gathered : (kept : List MachineState) (names : Names) (maps : Bool) (place : ℕ) (answers : List Found) → length kept ≤ place → Gathered kept names maps place answers → (i : ℕ) → IsAnsweredAt kept names maps answers i
+pub all_gathered : (kept : List MachineState) (names : Names) (maps : Bool) (place : ℕ) (answers : List Found) → length kept ≤ place →
+    Gathered kept names maps place answers → (i : ℕ) → IsAnsweredAt kept names maps answers i
 all_gathered kept names maps place answers past far i m at ended =
     let inside = slice_get_within kept i m at in
     far.answered i (omega arith) m at ended

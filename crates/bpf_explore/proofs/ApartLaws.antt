@@ -26,7 +26,8 @@ one_part parts apart n m a b same = elim (cases_lt n m) [
   ]
 ]
 
-one_store : (stores : List Contents) → AreStoresApart stores → (n m : ℕ) (bytes : List ℕ) → n < length stores → m < length stores → IsSavedAs (store_at stores n) bytes → IsSavedAs (store_at stores m) bytes → n ≡ m
+one_store : (stores : List Contents) → AreStoresApart stores → (n m : ℕ) (bytes : List ℕ) → n < length stores → m < length stores →
+    IsSavedAs (store_at stores n) bytes → IsSavedAs (store_at stores m) bytes → n ≡ m
 one_store stores apart n m bytes a b first second = elim (cases_lt n m) [
   | inl less ↦ absurd (apart n m bytes less b first second)
   | inr past ↦ elim (cases_lt m n) [
@@ -35,7 +36,8 @@ one_store stores apart n m bytes a b first second = elim (cases_lt n m) [
   ]
 ]
 
-chosen_once : (parts : List Task) → ArePartsApart parts → (ns ms : List ℕ) → All (λ n. n < length parts) ns → All (λ n. n < length parts) ms → chosen parts ns ≡ chosen parts ms → ns ≡ ms
+chosen_once : (parts : List Task) → ArePartsApart parts → (ns ms : List ℕ) → All (λ n. n < length parts) ns → All (λ n. n < length parts) ms
+    → chosen parts ns ≡ chosen parts ms → ns ≡ ms
 chosen_once parts apart [] [] all too same = refl
 chosen_once parts apart [] (m ∷ ms) all too same = cc
 chosen_once parts apart (n ∷ ns) [] all too same = cc
@@ -55,7 +57,9 @@ both_same ns ms a b first rest =
     first_and_rest ns a ∙ (ap (λ (k : ℕ). k ∷ drop 1 ns) first ∙ (ap (λ (ks : List ℕ). slice_index_or ms 0 0 ∷ ks) rest ∙ sym (first_and_rest ms b)))
 
 -- ---- states
-module _ (h : Shape) (s : Shelf) (is : IsShelf h s) (stores : AreStoresApart s.stores) (saved : (i : ℕ) → i < length s.stores → (bytes : List ℕ) × IsSavedAs (store_at s.stores i) bytes) (parts : ArePartsApart s.parts) (states : AreTuplesApart s.states) where
+module _ (h : Shape) (s : Shelf) (is : IsShelf h s) (stores : AreStoresApart s.stores)
+    (saved : (i : ℕ) → i < length s.stores → (bytes : List ℕ) × IsSavedAs (store_at s.stores i) bytes) (parts : ArePartsApart s.parts)
+    (states : AreTuplesApart s.states) where
   tuple_size : (i : ℕ) → i < s.states.count → 1 ≤ length (tuple_at s.states i)
   tuple_size i less =
       let fits = block_fits i s.states.count s.states.width less in
@@ -64,7 +68,8 @@ module _ (h : Shape) (s : Shelf) (is : IsShelf h s) (stores : AreStoresApart s.s
       let long = length-part s.states.numbers (i * s.states.width) s.states.width (omega arith) in
       omega arith
 
-  one_tuple : (i j : ℕ) (w : World) → i < s.states.count → j < s.states.count → Shows (machine_at s i) w → Shows (machine_at s j) w → tuple_at s.states i ≡ tuple_at s.states j
+  one_tuple : (i j : ℕ) (w : World) → i < s.states.count → j < s.states.count → Shows (machine_at s i) w → Shows (machine_at s j) w →
+      tuple_at s.states i ≡ tuple_at s.states j
   one_tuple i j w a b first second =
       let t = tuple_at s.states i in
       let u = tuple_at s.states j in

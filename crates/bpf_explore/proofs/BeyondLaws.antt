@@ -18,8 +18,10 @@ use Rattle.bpf_explore.specs.Private.Hung.{IsBeyondOne, AllBeyondBelow, AllLeadO
 use Rattle.bpf_explore.proofs.TrailLaws.{gift_first}
 
 -- ---- to an end, or beyond a listed state
-pub ends_or_lies : AlikeCanEnd → (kept : List MachineState) (w z : World) (hung : List (List (ℕ × ℕ))) → AllLeadOrBeyond kept hung → IsFresh w → IsFirst kept w → IsCoveredAlikeRichly kept z → CanEnd z ⊎ LiesBeyondOne w hung z
-ends_or_lies law kept w z hung all fresh first (jobs, rich, (v, headways, (others, alike, (i, m, at, shows)), same, ahead)) = go (all i (slice_get_within kept i m at))
+pub ends_or_lies : AlikeCanEnd → (kept : List MachineState) (w z : World) (hung : List (List (ℕ × ℕ))) → AllLeadOrBeyond kept hung → IsFresh
+    w → IsFirst kept w → IsCoveredAlikeRichly kept z → CanEnd z ⊎ LiesBeyondOne w hung z
+ends_or_lies law kept w z hung all fresh first (jobs, rich, (v, headways, (others, alike, (i, m, at, shows)), same, ahead)) = go
+    (all i (slice_get_within kept i m at))
   where
     go : LeadsToEnd kept i ⊎ IsBeyondOne kept hung i → CanEnd z ⊎ LiesBeyondOne w hung z
     go (inl (n, ends)) = inl (law kept n i z ends (jobs, rich, (v, headways, (others, alike, (m, at, shows)), same, ahead)))
@@ -32,7 +34,11 @@ ends_or_lies law kept w z hung all fresh first (jobs, rich, (v, headways, (other
           k,
           by,
           listed,
-          (m, (c.0, ds, l.0, c.1, gift_first ds c.0 l.0 more c.2.2 l.1, subst (λ (x : MachineState). Shows x l.0) one l.2.2), (jobs, rich, (v, headways, (others, alike, (0, m, refl, shows)), same, ahead))),
+          (
+            m,
+            (c.0, ds, l.0, c.1, gift_first ds c.0 l.0 more c.2.2 l.1, subst (λ (x : MachineState). Shows x l.0) one l.2.2),
+            (jobs, rich, (v, headways, (others, alike, (0, m, refl, shows)), same, ahead)),
+          ),
         )
 
 -- ---- marks
@@ -41,7 +47,8 @@ mark_there [] i less = absurd (omega arith)
 mark_there (b ∷ marks) zero less = (b, refl)
 mark_there (b ∷ marks) (suc i) less = mark_there marks i (omega arith)
 
-pub all_lead_or_beyond : (kept : List MachineState) (marks : List Bool) (hung : List (List (ℕ × ℕ))) → AreMarked kept marks → AllBeyondBelow kept marks hung (length marks) → AllLeadOrBeyond kept hung
+pub all_lead_or_beyond : (kept : List MachineState) (marks : List Bool) (hung : List (List (ℕ × ℕ))) → AreMarked kept marks → AllBeyondBelow
+    kept marks hung (length marks) → AllLeadOrBeyond kept hung
 all_lead_or_beyond kept marks hung marked all i inside = go r.0 r.1
   where
     within : i < length marks

@@ -38,7 +38,8 @@ next_alike programs parts numbers others n far one k less = elim (cases_lt k n) 
   | inr past ↦ let e : n ≡ k = omega arith in subst (λ (i : ℕ). IsAlike programs (chosen_at parts numbers i) (chosen_at parts others i)) e one
 ]
 
-pub all_alike_below : (programs : List Loaded) (parts : List Task) (numbers others : List ℕ) → length others ≡ length numbers → AlikeBelow programs parts numbers others (length numbers)
+pub all_alike_below : (programs : List Loaded) (parts : List Task) (numbers others : List ℕ) → length others ≡ length numbers → AlikeBelow
+    programs parts numbers others (length numbers)
     → AllAlike programs (chosen parts numbers) (chosen parts others)
 all_alike_below programs parts [] [] count all = tt
 all_alike_below programs parts [] (o ∷ os) count all = cc

@@ -17,7 +17,9 @@ use Rattle.bpf_explore.proofs.TellLaws.{this_part}
 abbrev pub EachBelow : (Task → Type 0) → List Task → ℕ → Type 0
 EachBelow P jobs n = (j : ℕ) (task : Task) → j < n → slice_get jobs j ≡ Some task → P task
 
-pub next_each : (P : Task → Type 0) (parts : List Task) (numbers : List ℕ) (n : ℕ) (part : Task) → n < length numbers → slice_index_or numbers n 0 < length parts → part ≡ slice_index_or parts (slice_index_or numbers n 0) part → EachBelow P (chosen parts numbers) n → P part → EachBelow P (chosen parts numbers) (n + 1)
+pub next_each : (P : Task → Type 0) (parts : List Task) (numbers : List ℕ) (n : ℕ) (part : Task) → n < length numbers → slice_index_or
+    numbers n 0 < length parts → part ≡ slice_index_or parts (slice_index_or numbers n 0) part → EachBelow P (chosen parts numbers) n → P
+    part → EachBelow P (chosen parts numbers) (n + 1)
 next_each P parts numbers n part inside within read far here j task less at = elim (cases_lt j n) [
   | inl below ↦ far j task below at
   | inr past ↦
@@ -25,7 +27,8 @@ next_each P parts numbers n part inside within read far here j task less at = el
       subst P (this_part parts numbers n part inside within read task (ap (slice_get (chosen parts numbers)) (sym same) ∙ at)) here
 ]
 
-pub all_each : (P : Task → Type 0) (parts : List Task) (numbers : List ℕ) (n : ℕ) → length numbers ≤ n → EachBelow P (chosen parts numbers) n → (j : ℕ) (task : Task) → slice_get (chosen parts numbers) j ≡ Some task → P task
+pub all_each : (P : Task → Type 0) (parts : List Task) (numbers : List ℕ) (n : ℕ) → length numbers ≤ n → EachBelow P (chosen parts numbers)
+    n → (j : ℕ) (task : Task) → slice_get (chosen parts numbers) j ≡ Some task → P task
 all_each P parts numbers n past far j task at =
     let inside = slice_get_within (chosen parts numbers) j task at in
     let count = chosen_count parts numbers in
@@ -39,7 +42,8 @@ idle_jobs jobs c ended = (
 )
 
 -- ---- budgets
-pub have_budgets : (s : Shelf) (least : ℕ) → ((i : ℕ) → i < s.states.count → IsState s (tuple_at s.states i)) → ((n : ℕ) (task : Task) → slice_get s.parts n ≡ Some task → least ≤ task.budget) → HaveBudgets (machines s s.states.count) least
+pub have_budgets : (s : Shelf) (least : ℕ) → ((i : ℕ) → i < s.states.count → IsState s (tuple_at s.states i)) →
+    ((n : ℕ) (task : Task) → slice_get s.parts n ≡ Some task → least ≤ task.budget) → HaveBudgets (machines s s.states.count) least
 have_budgets s least states all i j m task at there =
     let k = kept_is s i m at in
     let numbers = drop 1 (tuple_at s.states i) in

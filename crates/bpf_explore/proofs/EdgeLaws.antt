@@ -1,5 +1,6 @@
 -- Turns from kept machines, while more are kept.
-use Rattle.std.proofs.Common.{◌≡◌, ◌∙◌, ℕ, zero, suc, ◌+◌, ◌/◌, ◌%◌, ◌<◌, List, [], ◌∷◌, ◌++◌, Some, inl, inr, length, refl, sym, ap, subst, length-append, arith}
+use Rattle.std.proofs.Common.{◌≡◌, ◌∙◌, ℕ, zero, suc, ◌+◌, ◌/◌, ◌%◌, ◌<◌, List, [], ◌∷◌, ◌++◌, Some, inl, inr, length, refl, sym, ap, subst}
+use Rattle.std.proofs.Common.{length-append, arith}
 use Rattle.std.specs.Prelude.{slice_get}
 use Rattle.std.proofs.lemmas.Bool.{cases_lt}
 use Rattle.std.proofs.lemmas.Option.{slice_get_within}
@@ -38,7 +39,8 @@ edges_still old new edges more are k e at =
     }
 
 -- ---- turns by their numbers
-pub one_more_arrival : (cpus n : ℕ) (xs : List Arrival) (a : Arrival) → edges_from cpus n (xs ++ a ∷ []) ≡ edges_from cpus n xs ++ edge_of cpus (n + length xs) a ∷ []
+pub one_more_arrival : (cpus n : ℕ) (xs : List Arrival) (a : Arrival) → edges_from cpus n (xs ++ a ∷ []) ≡ edges_from cpus n xs ++ edge_of
+    cpus (n + length xs) a ∷ []
 one_more_arrival cpus n [] a =
     let here : n ≡ n + 0 = omega arith in
     ap (λ (k : ℕ). edge_of cpus k a ∷ []) here
@@ -57,7 +59,8 @@ pub count_edges : (cpus n : ℕ) (xs : List Arrival) → length (edges_from cpus
 count_edges cpus n [] = refl
 count_edges cpus n (x ∷ xs) = ap suc (count_edges cpus (suc n) xs)
 
-pub read_edge : (cpus n : ℕ) (xs : List Arrival) (k : ℕ) (a : Arrival) → slice_get xs k ≡ Some a → slice_get (edges_from cpus n xs) k ≡ Some (edge_of cpus (n + k) a)
+pub read_edge : (cpus n : ℕ) (xs : List Arrival) (k : ℕ) (a : Arrival) → slice_get xs k ≡ Some a → slice_get (edges_from cpus n xs) k ≡ Some
+    (edge_of cpus (n + k) a)
 read_edge cpus n [] k a at = cc
 read_edge cpus n (x ∷ xs) zero a at =
     let same : x ≡ a = cc in
@@ -68,12 +71,15 @@ read_edge cpus n (x ∷ xs) (suc k) a at =
     read_edge cpus (suc n) xs k a at ∙ ap (λ (m : ℕ). Some (edge_of cpus m a)) next
 
 -- the turn of a number is this one
-pub this_edge : (cpus n place cpu to ahead : ℕ) → n / cpus ≡ place → n % cpus ≡ cpu → (P : Edge → Type 0) → P (record { «from» = place; to = to; ahead = ahead; cpu = cpu }) → P (edge_of cpus n (record { to = to; ahead = ahead }))
+pub this_edge : (cpus n place cpu to ahead : ℕ) → n / cpus ≡ place → n % cpus ≡ cpu → (P : Edge → Type 0) → P
+    (record { «from» = place; to = to; ahead = ahead; cpu = cpu }) → P (edge_of cpus n (record { to = to; ahead = ahead }))
 this_edge cpus n place cpu to ahead here own P is =
-    subst (λ (i : ℕ). P (record { «from» = i; to = to; ahead = ahead; cpu = n % cpus })) (sym here) (subst (λ (c : ℕ). P (record { «from» = place; to = to; ahead = ahead; cpu = c })) (sym own) is)
+    subst (λ (i : ℕ). P (record { «from» = i; to = to; ahead = ahead; cpu = n % cpus })) (sym here)
+    (subst (λ (c : ℕ). P (record { «from» = place; to = to; ahead = ahead; cpu = c })) (sym own) is)
 
 -- the turn by a CPU from a machine, with these given
-pub placed_edge : (kept : List MachineState) (i c : ℕ) (e : Edge) → IsEdgeOf kept i c e → IsEdgeOf kept i c (record { «from» = i; to = e.to; ahead = e.ahead; cpu = c })
+pub placed_edge : (kept : List MachineState) (i c : ℕ) (e : Edge) → IsEdgeOf kept i c e → IsEdgeOf kept i c
+    (record { «from» = i; to = e.to; ahead = e.ahead; cpu = c })
 placed_edge kept i c e (from, own, is) = (
   refl,
   refl,
@@ -91,7 +97,8 @@ at_end : (edges : List Edge) (e : Edge) → slice_get (edges ++ e ∷ []) (lengt
 at_end [] e = refl
 at_end (x ∷ xs) e = at_end xs e
 
-pub one_more_edge : (kept : List MachineState) (edges pushed : List Edge) (e : Edge) → AreEdges kept edges → IsEdge kept e → pushed ≡ edges ++ e ∷ [] → AreEdges kept pushed
+pub one_more_edge : (kept : List MachineState) (edges pushed : List Edge) (e : Edge) → AreEdges kept edges → IsEdge kept e → pushed ≡ edges
+    ++ e ∷ [] → AreEdges kept pushed
 one_more_edge kept edges pushed e are is same k x at = elim (cases_lt k (length edges)) [
   | inl below ↦ are k x (sym (slice_get-front edges (e ∷ []) k below) ∙ there)
   | inr past ↦
@@ -106,7 +113,9 @@ one_more_edge kept edges pushed e are is same k x at = elim (cases_lt k (length 
     there : slice_get (edges ++ e ∷ []) k ≡ Some x
     there = ap (λ (es : List Edge). slice_get es k) (sym same) ∙ at
 
-pub edge_made : (old new : List MachineState) (restored after refilled : MachineState) (place cpu made n : ℕ) (e : Edge) → slice_get old place ≡ Some restored → Extends old new → TurnsAhead restored cpu made after → IsRefilled after cpu refilled → n < length new → IsKeptAlikeAt new n refilled
+pub edge_made : (old new : List MachineState) (restored after refilled : MachineState) (place cpu made n : ℕ) (e : Edge) → slice_get old
+    place ≡ Some restored → Extends old new → TurnsAhead restored cpu made after → IsRefilled after cpu refilled → n < length new →
+    IsKeptAlikeAt new n refilled
     → e.«from» ≡ place → e.to ≡ n → e.ahead ≡ made → e.cpu ≡ cpu → IsEdge new e
 edge_made old new restored after refilled place cpu made n e at more turns refills within is from to ahead own =
     let P : ℕ → Type 0 = λ i. slice_get new i ≡ Some restored in record {
@@ -119,7 +128,10 @@ edge_made old new restored after refilled place cpu made n e at more turns refil
     }
 
 -- one more where it is the next in the order
-pub one_more_placed : (kept : List MachineState) (cpus now : ℕ) (xs pushed : List Arrival) (place cpu to ahead : ℕ) → length xs / cpus ≡ place → length xs % cpus ≡ cpu → now ≡ cpus → AreEdges kept (edges_from now 0 xs) → IsEdge kept (record { «from» = place; to = to; ahead = ahead; cpu = cpu }) → pushed ≡ xs ++ record { to = to; ahead = ahead } ∷ [] → AreEdges kept (edges_from now 0 pushed)
+pub one_more_placed : (kept : List MachineState) (cpus now : ℕ) (xs pushed : List Arrival) (place cpu to ahead : ℕ) → length xs / cpus ≡
+    place → length xs % cpus ≡ cpu → now ≡ cpus → AreEdges kept (edges_from now 0 xs) → IsEdge kept
+    (record { «from» = place; to = to; ahead = ahead; cpu = cpu }) → pushed ≡ xs ++ record { to = to; ahead = ahead } ∷ [] → AreEdges kept
+    (edges_from now 0 pushed)
 one_more_placed kept cpus now xs pushed place cpu to ahead here own width are is push =
     let a : Arrival = record { to = to; ahead = ahead } in
     let P : Edge → Type 0 = IsEdge kept in

@@ -30,7 +30,8 @@ use Rattle.bpf_explore.proofs.TrailLaws.{are_reached}
 use Rattle.bpf_explore.specs.Private.Answers.{IsFirst, IsAnsweredAt, StartsFresh}
 
 -- ---- the first machine
-pub first_shape : (h : Shape) (m : MachineState) (pairs : List Pair) (programs : List Loaded) (jobs : List Task) → Shows m (first_world h pairs programs jobs) → IsOfShape h m.store
+pub first_shape : (h : Shape) (m : MachineState) (pairs : List Pair) (programs : List Loaded) (jobs : List Task) → Shows m
+    (first_world h pairs programs jobs) → IsOfShape h m.store
 first_shape h m pairs programs jobs shows = (
   sym shows.store.shape ∙ filled_shape h pairs,
   λ c. ap (λ (n : ℕ). nat_lt c n) (sym shows.store.maps.cpus ∙ ap (λ (k : Shape). k.cpus) (filled_shape h pairs)),
@@ -42,7 +43,8 @@ none_of (Some all) e =
     let two : Never ≡ Due = ap (λ (f : ℕ → Listing). f (length all)) e ∙ get_or_past all (length all) Due (omega arith) in
     cc
 
-pub first_lists_none : (h : Shape) (m : MachineState) (pairs : List Pair) (programs : List Loaded) (jobs : List Task) → Shows m (first_world h pairs programs jobs) → m.lists ≡ None
+pub first_lists_none : (h : Shape) (m : MachineState) (pairs : List Pair) (programs : List Loaded) (jobs : List Task) → Shows m
+    (first_world h pairs programs jobs) → m.lists ≡ None
 first_lists_none h m pairs programs jobs shows = none_of m.lists shows.lists
 
 -- each job waits
@@ -55,7 +57,9 @@ job_waits (x ∷ xs) all zero task at =
     (x.input, sym (ap (λ (t : Task). t.stage) same), short)
 job_waits (x ∷ xs) all (suc j) task at = job_waits xs (λ k d h. all (suc k) d (omega arith)) j task at
 
-pub first_fresh : (h : Shape) (m : MachineState) (pairs : List Pair) (programs : List Loaded) (jobs : List Job) → All (λ job. IsShort job.input) jobs → Shows m (first_world h pairs programs (map waiting jobs)) → IsFresh (first_world h pairs programs (map waiting jobs))
+pub first_fresh : (h : Shape) (m : MachineState) (pairs : List Pair) (programs : List Loaded) (jobs : List Job) → All
+    (λ job. IsShort job.input) jobs → Shows m (first_world h pairs programs (map waiting jobs)) → IsFresh
+    (first_world h pairs programs (map waiting jobs))
 first_fresh h m pairs programs jobs short shows = record { store = shows.sound; waits = job_waits jobs short }
 
 -- ---- what is kept first
@@ -64,7 +68,15 @@ first_shown kept m w (one, at, shows) here = (one, at, shows w here)
 
 -- it stays first
 pub still_begins : (old new : List MachineState) (w : World) → BeginsAt old w → Extends old new → BeginsAt new w
-still_begins old new w (fresh, (one, at, here)) more = (fresh, (one, ap (λ (ms : List MachineState). slice_get ms 0) more.1 ∙ (slice_get-front old more.0 0 (slice_get_within old 0 one at) ∙ at), here))
+still_begins old new w (fresh, (one, at, here)) more = (
+  fresh,
+  (
+    one,
+    ap (λ (ms : List MachineState). slice_get ms 0) more.1 ∙
+        (slice_get-front old more.0 0 (slice_get_within old 0 one at) ∙ at),
+    here,
+  ),
+)
 
 pub starts_fresh : (kept : List MachineState) (w : World) → BeginsAt kept w → StartsFresh kept
 starts_fresh kept w begins = (w, begins.0, begins.1)
@@ -93,8 +105,11 @@ not_whole Whole h = cc
 not_whole Limited h = refl
 not_whole Refused h = refl
 
-pub explored : CoverTellsAll → (kept : List MachineState) (w : World) (names : Names) (maps : Bool) (answers : List Found) (extent : Extent) (limit : ℕ) → BeginsAt kept w → CameTo false kept extent limit
-    → ((u : World) → IsFirst kept u → AreOutcomes u names maps answers) → (extent ≡ Whole → (i : ℕ) → IsAnsweredAt kept names maps answers i) → AreLed kept → AreApart kept → IsExplored w names maps answers (is_whole extent) (is_refused extent) limit (length kept)
+pub explored : CoverTellsAll → (kept : List MachineState) (w : World) (names : Names) (maps : Bool) (answers : List Found) (extent : Extent)
+    (limit : ℕ) → BeginsAt kept w → CameTo false kept extent limit
+    → ((u : World) → IsFirst kept u → AreOutcomes u names maps answers) →
+    (extent ≡ Whole → (i : ℕ) → IsAnsweredAt kept names maps answers i) → AreLed kept → AreApart kept → IsExplored w names maps answers
+    (is_whole extent) (is_refused extent) limit (length kept)
 explored law kept w names maps answers extent limit begins came outcomes answered led apart =
     let first = begins.1 in
     record {

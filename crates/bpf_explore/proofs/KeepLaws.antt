@@ -1,5 +1,6 @@
 -- The numbers of a machine's jobs, while they are found.
-use Rattle.std.proofs.Common.{◌≡◌, ◌∙◌, ℕ, zero, suc, ◌+◌, ◌<◌, List, [], ◌∷◌, ◌++◌, length, take, get_or, refl, sym, ap, subst, append-nil, append_assoc, arith}
+use Rattle.std.proofs.Common.{◌≡◌, ◌∙◌, ℕ, zero, suc, ◌+◌, ◌<◌, List, [], ◌∷◌, ◌++◌, length, take, get_or, refl, sym, ap, subst, append-nil}
+use Rattle.std.proofs.Common.{append_assoc, arith}
 use Rattle.std.specs.Prelude.{All, slice_index_or}
 use Rattle.std.proofs.lemmas.List.{map-append, take_more, take_all}
 use Rattle.std.proofs.lemmas.List.Elements.{All-append}
@@ -23,15 +24,18 @@ one_within : (parts : List Task) (n : ℕ) → n < length parts → All (λ m. m
 one_within parts n less zero d inside = less
 one_within parts n less (suc k) d inside = absurd (omega arith)
 
-more_parts : (first mid parts : List Task) → ((more : List Task) × (mid ≡ first ++ more)) → ((more : List Task) × (parts ≡ mid ++ more)) → (more : List Task) × (parts ≡ first ++ more)
+more_parts : (first mid parts : List Task) → ((more : List Task) × (mid ≡ first ++ more)) → ((more : List Task) × (parts ≡ mid ++ more)) →
+    (more : List Task) × (parts ≡ first ++ more)
 more_parts first mid parts a b = (a.0 ++ b.0, b.1 ∙ (ap (λ (ts : List Task). ts ++ b.0) a.1 ∙ append_assoc first a.0 b.0))
 
-pub next_kept : (first : List Task) (before : List ℕ) (jobs : List Task) (job : ℕ) (mid parts : List Task) (numbers later : List ℕ) (n : ℕ) → KeptSoFar first before jobs job mid numbers → job < length jobs → ((more : List Task) × (parts ≡ mid ++ more))
+pub next_kept : (first : List Task) (before : List ℕ) (jobs : List Task) (job : ℕ) (mid parts : List Task) (numbers later : List ℕ) (n : ℕ)
+    → KeptSoFar first before jobs job mid numbers → job < length jobs → ((more : List Task) × (parts ≡ mid ++ more))
     → IsNumberOf parts n jobs job → later ≡ numbers ++ n ∷ [] → KeptSoFar first before jobs (job + 1) parts later
 next_kept first before jobs job mid parts numbers later n far inside grows is put =
     let more = far.numbered.0 in
     let all = far.numbered.2.0 in
-    let still : All (λ m. m < length parts) more = subst (λ (ts : List Task). All (λ m. m < length ts) more) (sym grows.1) (within_still mid grows.0 more all) in
+    let still : All (λ m. m < length parts) more = subst (λ (ts : List Task). All (λ m. m < length ts) more) (sym grows.1)
+    (within_still mid grows.0 more all) in
     let same : chosen parts more ≡ take job jobs = ap (λ (ts : List Task). chosen ts more) grows.1 ∙ (chosen_still mid grows.0 more all ∙ far.numbered.2.1) in
     let here : get_or jobs job no_task ≡ slice_index_or parts n no_task = get_or_from_slice_get jobs job (slice_index_or parts n no_task) no_task is.1 in
     record {
@@ -48,7 +52,8 @@ next_kept first before jobs job mid parts numbers later n far inside grows is pu
       );
     }
 
-pub all_numbered : (first : List Task) (before : List ℕ) (jobs : List Task) (job : ℕ) (parts : List Task) (numbers : List ℕ) → length jobs ≡ job → KeptSoFar first before jobs job parts numbers
+pub all_numbered : (first : List Task) (before : List ℕ) (jobs : List Task) (job : ℕ) (parts : List Task) (numbers : List ℕ) → length jobs ≡
+    job → KeptSoFar first before jobs job parts numbers
     → (more : List ℕ) × (numbers ≡ before ++ more) × AreNumbersOf parts more jobs
 all_numbered first before jobs job parts numbers e far =
     (far.numbered.0, far.numbered.1, (far.numbered.2.0, far.numbered.2.1 ∙ take_all job jobs (omega arith)))

@@ -1,5 +1,6 @@
 -- What is kept once is found again, while more is kept.
-use Rattle.std.proofs.Common.{◌≡◌, ◌∙◌, ℕ, ◌+◌, ◌*◌, ◌<◌, ◌≤◌, List, [], ◌∷◌, ◌++◌, Option, Some, inl, inr, length, take, drop, refl, sym, ap, subst, length-append, arith}
+use Rattle.std.proofs.Common.{◌≡◌, ◌∙◌, ℕ, ◌+◌, ◌*◌, ◌<◌, ◌≤◌, List, [], ◌∷◌, ◌++◌, Option, Some, inl, inr, length, take, drop, refl, sym}
+use Rattle.std.proofs.Common.{ap, subst, length-append, arith}
 use Rattle.std.specs.Prelude.{slice_index_or}
 use Rattle.std.proofs.Math.ListN.{get_or-append}
 use Rattle.std.proofs.Math.Seq.{drop-append_seam, get_or-append_seam}
@@ -39,7 +40,8 @@ tuple_new t tuple whole size =
 pub whole_new : (t : TupleList) (tuple : List ℕ) → AreWhole t → length tuple ≡ t.width → AreWhole (with_tuple t tuple)
 whole_new t tuple whole size = (whole.0, length-append t.numbers tuple ∙ (let next = suc-mul t.count t.width in let old = whole.1 in omega arith))
 
-pub more_tuples_put : (t : TupleList) (slots new : List ℕ) (n : ℕ) → StillPut slots new → AreTuplesPut t slots n → IsPut new (hash_of (tuple_at t n)) n → AreTuplesPut t new (n + 1)
+pub more_tuples_put : (t : TupleList) (slots new : List ℕ) (n : ℕ) → StillPut slots new → AreTuplesPut t slots n → IsPut new
+    (hash_of (tuple_at t n)) n → AreTuplesPut t new (n + 1)
 more_tuples_put t slots new n still far here i less = elim (cases_lt i n) [
   | inl below ↦ still (hash_of (tuple_at t i)) i (far i below)
   | inr past ↦ let e : n ≡ i = omega arith in subst (λ (k : ℕ). IsPut new (hash_of (tuple_at t k)) k) e here
@@ -48,14 +50,16 @@ more_tuples_put t slots new n still far here i less = elim (cases_lt i n) [
 pub still_holds_tuples : (t : TupleList) (slots new : List ℕ) → StillPut slots new → HoldsTuples t slots → HoldsTuples t new
 still_holds_tuples t slots new still is = record { whole = is.whole; put = λ i less. still (hash_of (tuple_at t i)) i (is.put i less); apart = is.apart }
 
-pub one_more_tuple : (t : TupleList) (tuple slots new : List ℕ) → StillPut slots new → HoldsTuples t slots → length tuple ≡ t.width → ((n : ℕ) → IsTuple t n tuple → ⊥) → IsPut new (hash_of tuple) t.count → HoldsTuples (with_tuple t tuple) new
+pub one_more_tuple : (t : TupleList) (tuple slots new : List ℕ) → StillPut slots new → HoldsTuples t slots → length tuple ≡ t.width →
+    ((n : ℕ) → IsTuple t n tuple → ⊥) → IsPut new (hash_of tuple) t.count → HoldsTuples (with_tuple t tuple) new
 one_more_tuple t tuple slots new still is size fresh here =
     let whole = is.whole in
     let last : tuple_at (with_tuple t tuple) t.count ≡ tuple = tuple_new t tuple whole size in
     record {
       whole = whole_new t tuple whole size;
       put = λ i less. elim (cases_lt i t.count) [
-        | inl below ↦ subst (λ (x : List ℕ). IsPut new (hash_of x) i) (sym (tuple_still t tuple i whole below)) (still (hash_of (tuple_at t i)) i (is.put i below))
+        | inl below ↦ subst (λ (x : List ℕ). IsPut new (hash_of x) i) (sym (tuple_still t tuple i whole below))
+            (still (hash_of (tuple_at t i)) i (is.put i below))
         | inr past ↦
             let e : t.count ≡ i = omega arith in
             subst (λ (k : ℕ). IsPut new (hash_of (tuple_at (with_tuple t tuple) k)) k) e (subst (λ (x : List ℕ). IsPut new (hash_of x) t.count) (sym last) here)
@@ -75,7 +79,8 @@ pub widened_tuples : (t : TupleList) (slots new : List ℕ) (n : ℕ) → HoldsT
 widened_tuples t slots new n is past all = record { whole = is.whole; put = λ i less. all i (omega arith); apart = is.apart }
 
 -- a tuple that is kept is put where its hash leads
-pub tuple_put : (t view : TupleList) (slots tuple : List ℕ) (n hash : ℕ) → t ≡ view → HoldsTuples t slots → hash ≡ hash_of tuple → IsTuple view n tuple → IsPut slots hash n
+pub tuple_put : (t view : TupleList) (slots tuple : List ℕ) (n hash : ℕ) → t ≡ view → HoldsTuples t slots → hash ≡ hash_of tuple → IsTuple
+    view n tuple → IsPut slots hash n
 tuple_put t view slots tuple n hash same is hashed there =
     let here : IsTuple t n tuple = subst (λ (u : TupleList). IsTuple u n tuple) (sym same) there in
     subst (λ (h : ℕ). IsPut slots h n) (sym hashed) (subst (λ (x : List ℕ). IsPut slots (hash_of x) n) here.1 (is.put n here.0))
@@ -88,10 +93,12 @@ added_tuple old tuple whole size = (omega arith, tuple_new old tuple whole size)
 pub read_part : (parts : List Task) (n : ℕ) (task : Task) → n < length parts → task ≡ slice_index_or parts n task → task ≡ part_at parts n
 read_part parts n task inside read = sym (get_or_from_slice_get parts n task no_task (slice_get_read parts (length parts) n task refl inside read))
 
-pub widened_parts : (parts : List Task) (slots new : List ℕ) (n : ℕ) → HoldsParts parts slots → length parts ≤ n → ArePartsPut parts new n → HoldsParts parts new
+pub widened_parts : (parts : List Task) (slots new : List ℕ) (n : ℕ) → HoldsParts parts slots → length parts ≤ n → ArePartsPut parts new n →
+    HoldsParts parts new
 widened_parts parts slots new n is past all = record { put = λ i less. all i (omega arith); apart = is.apart }
 
-pub more_parts_put : (parts : List Task) (slots new : List ℕ) (n : ℕ) → StillPut slots new → ArePartsPut parts slots n → IsPut new (task_hash (part_at parts n)) n → ArePartsPut parts new (n + 1)
+pub more_parts_put : (parts : List Task) (slots new : List ℕ) (n : ℕ) → StillPut slots new → ArePartsPut parts slots n → IsPut new
+    (task_hash (part_at parts n)) n → ArePartsPut parts new (n + 1)
 more_parts_put parts slots new n still far here i less = elim (cases_lt i n) [
   | inl below ↦ still (task_hash (part_at parts i)) i (far i below)
   | inr past ↦ let e : n ≡ i = omega arith in subst (λ (k : ℕ). IsPut new (task_hash (part_at parts k)) k) e here
@@ -107,7 +114,8 @@ module _ (parts : List Task) (task : Task) where
   pub part_new : part_at (parts ++ task ∷ []) (length parts) ≡ task
   part_new = get_or-append_seam parts task [] no_task
 
-  pub one_more_part : (slots new : List ℕ) → StillPut slots new → HoldsParts parts slots → ((n : ℕ) → n < length parts → part_at parts n ≡ task → ⊥) → IsPut new (task_hash task) (length parts) → HoldsParts (parts ++ task ∷ []) new
+  pub one_more_part : (slots new : List ℕ) → StillPut slots new → HoldsParts parts slots →
+      ((n : ℕ) → n < length parts → part_at parts n ≡ task → ⊥) → IsPut new (task_hash task) (length parts) → HoldsParts (parts ++ task ∷ []) new
   one_more_part slots new still is fresh here =
       let size = length-append parts (task ∷ []) in
       record {
@@ -115,7 +123,8 @@ module _ (parts : List Task) (task : Task) where
           | inl below ↦ subst (λ (x : Task). IsPut new (task_hash x) i) (sym (part_still i below)) (still (task_hash (part_at parts i)) i (is.put i below))
           | inr past ↦
               let e : length parts ≡ i = omega arith in
-              subst (λ (k : ℕ). IsPut new (task_hash (part_at (parts ++ task ∷ []) k)) k) e (subst (λ (x : Task). IsPut new (task_hash x) (length parts)) (sym part_new) here)
+              subst (λ (k : ℕ). IsPut new (task_hash (part_at (parts ++ task ∷ []) k)) k) e
+              (subst (λ (x : Task). IsPut new (task_hash x) (length parts)) (sym part_new) here)
         ];
         apart = λ i j less inside same. elim (cases_lt j (length parts)) [
           | inl below ↦
@@ -132,14 +141,16 @@ module _ (parts : List Task) (task : Task) where
 abbrev pub IsPartOf : List Task → Option Task → ℕ → Type 0
 IsPartOf parts o n = (n < length parts) × (o ≡ Some (part_at parts n))
 
-pub part_put : (parts : List Task) (slots : List ℕ) (o : Option Task) (n hash : ℕ) → HoldsParts parts slots → ((task : Task) → o ≡ Some task → hash ≡ task_hash task) → IsPartOf parts o n → IsPut slots hash n
+pub part_put : (parts : List Task) (slots : List ℕ) (o : Option Task) (n hash : ℕ) → HoldsParts parts slots →
+    ((task : Task) → o ≡ Some task → hash ≡ task_hash task) → IsPartOf parts o n → IsPut slots hash n
 part_put parts slots o n hash is hashed there = subst (λ (h : ℕ). IsPut slots h n) (sym (hashed (part_at parts n) there.1)) (is.put n there.0)
 
 -- ---- stores
 pub read_store : (stores : List Contents) (n : ℕ) (store : Contents) → n < length stores → store ≡ slice_index_or stores n store → store ≡ store_at stores n
 read_store stores n store inside read = sym (get_or_from_slice_get stores n store no_store (slice_get_read stores (length stores) n store refl inside read))
 
-pub widened_stores : (stores : List Contents) (slots new : List ℕ) (n : ℕ) → HoldsStores stores slots → length stores ≤ n → AreStoresPut stores new n → HoldsStores stores new
+pub widened_stores : (stores : List Contents) (slots new : List ℕ) (n : ℕ) → HoldsStores stores slots → length stores ≤ n → AreStoresPut
+    stores new n → HoldsStores stores new
 widened_stores stores slots new n is past all = record { put = λ i bytes less. all i bytes (omega arith); apart = is.apart; saved = is.saved }
 
 -- a store is saved as the same bytes each time
@@ -150,10 +161,12 @@ one_saved p bytes others a b = a.1 ∙ sym b.1
 abbrev pub IsStoreOf : List Contents → List ℕ → ℕ → Type 0
 IsStoreOf stores bytes n = (n < length stores) × IsSavedAs (store_at stores n) bytes
 
-pub store_put : (stores : List Contents) (slots bytes : List ℕ) (n hash : ℕ) → HoldsStores stores slots → hash ≡ hash_of bytes → IsStoreOf stores bytes n → IsPut slots hash n
+pub store_put : (stores : List Contents) (slots bytes : List ℕ) (n hash : ℕ) → HoldsStores stores slots → hash ≡ hash_of bytes → IsStoreOf
+    stores bytes n → IsPut slots hash n
 store_put stores slots bytes n hash is hashed there = subst (λ (h : ℕ). IsPut slots h n) (sym hashed) (is.put n bytes there.0 there.1)
 
-pub more_stores_put : (stores : List Contents) (slots new : List ℕ) (n : ℕ) → StillPut slots new → AreStoresPut stores slots n → ((bytes : List ℕ) → IsSavedAs (store_at stores n) bytes → IsPut new (hash_of bytes) n) → AreStoresPut stores new (n + 1)
+pub more_stores_put : (stores : List Contents) (slots new : List ℕ) (n : ℕ) → StillPut slots new → AreStoresPut stores slots n →
+    ((bytes : List ℕ) → IsSavedAs (store_at stores n) bytes → IsPut new (hash_of bytes) n) → AreStoresPut stores new (n + 1)
 more_stores_put stores slots new n still far here i bytes less saved = elim (cases_lt i n) [
   | inl below ↦ still (hash_of bytes) i (far i bytes below saved)
   | inr past ↦
@@ -162,7 +175,11 @@ more_stores_put stores slots new n still far here i bytes less saved = elim (cas
 ]
 
 pub still_holds_stores : (stores : List Contents) (slots new : List ℕ) → StillPut slots new → HoldsStores stores slots → HoldsStores stores new
-still_holds_stores stores slots new still is = record { put = λ i bytes less saved. still (hash_of bytes) i (is.put i bytes less saved); apart = is.apart; saved = is.saved }
+still_holds_stores stores slots new still is = record {
+  put = λ i bytes less saved. still (hash_of bytes) i (is.put i bytes less saved);
+  apart = is.apart;
+  saved = is.saved;
+}
 
 module _ (stores : List Contents) (store : Contents) where
   pub store_still : (i : ℕ) → i < length stores → store_at (stores ++ store ∷ []) i ≡ store_at stores i
@@ -171,7 +188,9 @@ module _ (stores : List Contents) (store : Contents) where
   pub store_new : store_at (stores ++ store ∷ []) (length stores) ≡ store
   store_new = get_or-append_seam stores store [] no_store
 
-  pub one_more_store : (bytes slots new : List ℕ) → StillPut slots new → HoldsStores stores slots → IsSavedAs store bytes → ((n : ℕ) → n < length stores → IsSavedAs (store_at stores n) bytes → ⊥) → IsPut new (hash_of bytes) (length stores) → HoldsStores (stores ++ store ∷ []) new
+  pub one_more_store : (bytes slots new : List ℕ) → StillPut slots new → HoldsStores stores slots → IsSavedAs store bytes →
+      ((n : ℕ) → n < length stores → IsSavedAs (store_at stores n) bytes → ⊥) → IsPut new (hash_of bytes) (length stores) → HoldsStores
+      (stores ++ store ∷ []) new
   one_more_store bytes slots new still is saved fresh here =
       let size = length-append stores (store ∷ []) in
       record {
@@ -180,17 +199,20 @@ module _ (stores : List Contents) (store : Contents) where
           | inr past ↦
               let e : i ≡ length stores = omega arith in
               let last : IsSavedAs store others = subst (λ (p : Contents). IsSavedAs p others) (ap (store_at (stores ++ store ∷ [])) e ∙ store_new) there in
-              subst (IsPut new (hash_of others)) (sym e) (subst (λ (x : List ℕ). IsPut new (hash_of x) (length stores)) (one_saved store bytes others saved last) here)
+              subst (IsPut new (hash_of others)) (sym e) (subst (λ (x : List ℕ). IsPut new (hash_of x) (length stores))
+              (one_saved store bytes others saved last) here)
         ];
         apart = λ i j others less inside a b. elim (cases_lt j (length stores)) [
           | inl below ↦
               let lower : i < length stores = omega arith in
-              is.apart i j others less below (subst (λ (p : Contents). IsSavedAs p others) (store_still i lower) a) (subst (λ (p : Contents). IsSavedAs p others) (store_still j below) b)
+              is.apart i j others less below (subst (λ (p : Contents). IsSavedAs p others) (store_still i lower) a)
+              (subst (λ (p : Contents). IsSavedAs p others) (store_still j below) b)
           | inr past ↦
               let e : j ≡ length stores = omega arith in
               let lower : i < length stores = omega arith in
               let last : IsSavedAs store others = subst (λ (p : Contents). IsSavedAs p others) (ap (store_at (stores ++ store ∷ [])) e ∙ store_new) b in
-              fresh i lower (subst (λ (x : List ℕ). IsSavedAs (store_at stores i) x) (one_saved store others bytes last saved) (subst (λ (p : Contents). IsSavedAs p others) (store_still i lower) a))
+              fresh i lower (subst (λ (x : List ℕ). IsSavedAs (store_at stores i) x) (one_saved store others bytes last saved)
+              (subst (λ (p : Contents). IsSavedAs p others) (store_still i lower) a))
         ];
         saved = λ i less. elim (cases_lt i (length stores)) [
           | inl below ↦ let there = is.saved i below in (there.0, subst (λ (p : Contents). IsSavedAs p there.0) (sym (store_still i below)) there.1)

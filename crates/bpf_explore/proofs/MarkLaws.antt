@@ -1,5 +1,6 @@
 -- From which kept machines an end can be reached.
-use Rattle.std.proofs.Common.{◌≡◌, ◌∙◌, ℕ, zero, suc, ◌+◌, ◌-◌, ◌<◌, ◌≤◌, ◌⊎◌, Bool, true, false, List, [], ◌∷◌, Some, inl, inr, length, replicate, refl, sym, ap, subst, arith}
+use Rattle.std.proofs.Common.{◌≡◌, ◌∙◌, ℕ, zero, suc, ◌+◌, ◌-◌, ◌<◌, ◌≤◌, ◌⊎◌, Bool, true, false, List, [], ◌∷◌, Some, inl, inr, length}
+use Rattle.std.proofs.Common.{replicate, refl, sym, ap, subst, arith}
 use Rattle.std.specs.Prelude.{slice_get, slice_set}
 use Rattle.std.proofs.lemmas.Bool.{cases_lt}
 use Rattle.bpf_base.proofs.Lists.{slice_get-set_other}
@@ -43,7 +44,8 @@ ended_leads kept i inside ended none =
     let h = there kept i inside in
     (0, (h.0, h.1, ended h.0 h.1, none h.0 h.1))
 
-pub next_leads : (kept : List MachineState) (marks : List Bool) (i c k : ℕ) → LeadsToAlike kept i c k → LeadToEnds kept marks → slice_get marks k ≡ Some true → LeadsToEnd kept i
+pub next_leads : (kept : List MachineState) (marks : List Bool) (i c k : ℕ) → LeadsToAlike kept i c k → LeadToEnds kept marks → slice_get
+    marks k ≡ Some true → LeadsToEnd kept i
 next_leads kept marks i c k leads all at =
     let r = all k at in
     (suc r.0, (c, k, leads, r.1))
@@ -52,13 +54,16 @@ next_leads kept marks i c k leads all at =
 abbrev pub StuckBelow : List MachineState → List Bool → ℕ → ℕ → Type 0
 StuckBelow kept marks i n = (c : ℕ) → c < n → (k : ℕ) × LeadsToAlike kept i c k × (slice_get marks k ≡ Some false)
 
-pub next_stuck : (kept : List MachineState) (marks : List Bool) (i n k : ℕ) → StuckBelow kept marks i n → LeadsToAlike kept i n k → slice_get marks k ≡ Some false → StuckBelow kept marks i (n + 1)
+pub next_stuck : (kept : List MachineState) (marks : List Bool) (i n k : ℕ) → StuckBelow kept marks i n → LeadsToAlike kept i n k →
+    slice_get marks k ≡ Some false → StuckBelow kept marks i (n + 1)
 next_stuck kept marks i n k far leads at c less = elim (cases_lt c n) [
   | inl below ↦ far c below
   | inr past ↦ let e : n ≡ c = omega arith in subst (λ (d : ℕ). (j : ℕ) × LeadsToAlike kept i d j × (slice_get marks j ≡ Some false)) e (k, leads, at)
 ]
 
-pub is_stuck : (kept : List MachineState) (marks : List Bool) (i n cpus : ℕ) → i < length kept → (HaveEndedAt kept i → ⊥) → NoneRanOutAt kept i → ((j c : ℕ) → cpus ≤ c → IsIdleAt kept j c) → cpus ≤ n → StuckBelow kept marks i n → slice_get marks i ≡ Some false → IsStuckAlike kept marks i
+pub is_stuck : (kept : List MachineState) (marks : List Bool) (i n cpus : ℕ) → i < length kept → (HaveEndedAt kept i → ⊥) → NoneRanOutAt
+    kept i → ((j c : ℕ) → cpus ≤ c → IsIdleAt kept j c) → cpus ≤ n → StuckBelow kept marks i n → slice_get marks i ≡ Some false →
+    IsStuckAlike kept marks i
 is_stuck kept marks i n cpus inside works none idle past far off = record {
   works = λ m at ended. works (λ other there. (
       let two : Some m ≡ Some other = sym at ∙ there in
@@ -80,7 +85,8 @@ none_marked kept n i at = absurd (never n i at)
     never (suc n) zero at = cc
     never (suc n) (suc i) at = never n i at
 
-pub one_more_marked : (kept : List MachineState) (marks : List Bool) (i : ℕ) (was : Bool) → slice_get marks i ≡ Some was → LeadToEnds kept marks → LeadsToEnd kept i → LeadToEnds kept (slice_set marks i true)
+pub one_more_marked : (kept : List MachineState) (marks : List Bool) (i : ℕ) (was : Bool) → slice_get marks i ≡ Some was → LeadToEnds kept
+    marks → LeadsToEnd kept i → LeadToEnds kept (slice_set marks i true)
 one_more_marked kept marks i was there all leads k at = elim (equal_or_not k i) [
   | inl e ↦ subst (LeadsToEnd kept) (sym e) leads
   | inr ne ↦ all k (sym (slice_get-set_other marks i k true ne) ∙ at)
@@ -101,7 +107,8 @@ pub record Counted (old new : List Bool) (more : Bool) : Type 0 where
 pub none_counted : (marks : List Bool) → Counted marks marks false
 none_counted marks = record { fewer = λ is. cc; no_more = omega arith }
 
-pub next_counted : (old mid new : List Bool) (more marked now : Bool) → Counted old mid more → (marked ≡ true → unmarked new < unmarked mid) → (marked ≡ false → new ≡ mid) → (now ≡ true → (more ≡ true) ⊎ (marked ≡ true)) → Counted old new now
+pub next_counted : (old mid new : List Bool) (more marked now : Bool) → Counted old mid more → (marked ≡ true → unmarked new < unmarked mid)
+    → (marked ≡ false → new ≡ mid) → (now ≡ true → (more ≡ true) ⊎ (marked ≡ true)) → Counted old new now
 next_counted old mid new more true now far fewer same some =
     let one = fewer refl in
     let least = far.no_more in
@@ -120,14 +127,16 @@ next_counted old mid new more false now far fewer same some =
 abbrev pub StuckFrom : List MachineState → List Bool → ℕ → Type 0
 StuckFrom kept marks n = (i : ℕ) → n ≤ i → slice_get marks i ≡ Some false → IsStuckAlike kept marks i
 
-pub next_stuck_from : (kept : List MachineState) (old new : List Bool) (count step place : ℕ) → step < count → place ≡ count - 1 - step → StuckFrom kept old (count - step) → new ≡ old → (slice_get old place ≡ Some false → IsStuckAlike kept old place)
+pub next_stuck_from : (kept : List MachineState) (old new : List Bool) (count step place : ℕ) → step < count → place ≡ count - 1 - step →
+    StuckFrom kept old (count - step) → new ≡ old → (slice_get old place ≡ Some false → IsStuckAlike kept old place)
     → StuckFrom kept new (count - (step + 1))
-next_stuck_from kept old new count step place less here far same one = subst (λ (marks : List Bool). StuckFrom kept marks (count - (step + 1))) (sym same) (λ i past off. elim (cases_lt i (count - step)) [
-  | inl below ↦
-      let e : place ≡ i = omega arith in
-      subst (IsStuckAlike kept old) e (one (ap (slice_get old) e ∙ off))
-  | inr above ↦ far i above off
-])
+next_stuck_from kept old new count step place less here far same one = subst
+    (λ (marks : List Bool). StuckFrom kept marks (count - (step + 1))) (sym same) (λ i past off. elim (cases_lt i (count - step)) [
+      | inl below ↦
+          let e : place ≡ i = omega arith in
+          subst (IsStuckAlike kept old) e (one (ap (slice_get old) e ∙ off))
+      | inr above ↦ far i above off
+    ])
 
 pub all_stuck : (kept : List MachineState) (marks : List Bool) (count step : ℕ) → count ≤ step → StuckFrom kept marks (count - step) → AreStuckAlike kept marks
 all_stuck kept marks count step past far i off = far i (omega arith) off

@@ -15,7 +15,8 @@ use Rattle.bpf_explore.specs.Laws.{IsAnswered, CoverTellsAll}
 use Rattle.bpf_explore.specs.Patient.{PatientTellAll}
 
 -- of a machine one text is printed
-one_told : (s : Plain) (jobs : List Task) (names : Names) (maps : Bool) (text other : List ℕ) (stopped halted : Bool) → Tells s jobs names maps text stopped → Tells s jobs names maps other halted → (text ≡ other) × (stopped ≡ halted)
+one_told : (s : Plain) (jobs : List Task) (names : Names) (maps : Bool) (text other : List ℕ) (stopped halted : Bool) → Tells s jobs names
+    maps text stopped → Tells s jobs names maps other halted → (text ≡ other) × (stopped ≡ halted)
 one_told s jobs names maps text other stopped halted a b =
     let lines = one_asked maps s names a.0 b.0 a.1 b.1 in
     (a.2 ∙ ap (λ (x : List ℕ). job_lines (length jobs) jobs ++ x) lines ∙ sym b.2, a.3 ∙ sym b.3)
@@ -26,7 +27,8 @@ shown_is_told : (kept : List MachineState) (z : World) (names : Names) (maps : B
     → (text : List ℕ) (stopped : Bool) → Tells z.store z.jobs names maps text stopped → IsTold answers text stopped
 shown_is_told kept z names maps answers (i, m, at, shows) ended told text stopped tells =
     let a = told i m at (subst HaveEnded shows.jobs ended) in
-    let here : Tells z.store z.jobs names maps a.1.text a.1.stopped = subst (λ (jobs : List Task). Tells z.store jobs names maps a.1.text a.1.stopped) (sym shows.jobs) (a.3 z.store shows.sound shows.store) in
+    let here : Tells z.store z.jobs names maps a.1.text a.1.stopped = subst
+    (λ (jobs : List Task). Tells z.store jobs names maps a.1.text a.1.stopped) (sym shows.jobs) (a.3 z.store shows.sound shows.store) in
     let one = one_told z.store z.jobs names maps a.1.text text a.1.stopped stopped here tells in
     (a.0, a.1, a.2, one.0, one.1)
 

@@ -30,7 +30,8 @@ use Rattle.bpf_explore.specs.Private.Answers.{AreSorted, IsFirst, KeepsAll, IsAn
 use Rattle.bpf_explore.specs.Private.Patience.{AllEndPatiently}
 use Rattle.bpf_explore.proofs.AnswerLaws.{Before, Here, Behind, origin, answered_still}
 
-pub all_end_patiently : (xs : List Found) (i : ℕ) (x : Found) (within : i ≤ length xs) (w : World) (names : Names) (maps : Bool) → EndsPatiently w names maps x → AllEndPatiently w names maps xs → AllEndPatiently w names maps (insert xs i x)
+pub all_end_patiently : (xs : List Found) (i : ℕ) (x : Found) (within : i ≤ length xs) (w : World) (names : Names) (maps : Bool) →
+    EndsPatiently w names maps x → AllEndPatiently w names maps xs → AllEndPatiently w names maps (insert xs i x)
 all_end_patiently xs i x within w names maps one all k y at = elim (origin xs i x within k y at) [
   | Before pl there ↦ all k y there
   | Here e same ↦ subst (EndsPatiently w names maps) same one
@@ -44,7 +45,8 @@ some_by P o x e h = subst (λ (s : Option Found). IfSome s P) e h
 pub some_hung : (kept : List MachineState) (o : Option (List (ℕ × ℕ))) (x : List (ℕ × ℕ)) → o ≡ Some x → IfSome o (Hangs kept) → Hangs kept x
 some_hung kept o x e h = subst (λ (s : Option (List (ℕ × ℕ))). IfSome s (Hangs kept)) e h
 
-pub some_there : (kept : List MachineState) (place : ℕ) (o : Option (List (ℕ × ℕ))) (x : List (ℕ × ℕ)) → o ≡ Some x → IfSome o (λ by. ComesTo kept by place) → ComesTo kept x place
+pub some_there : (kept : List MachineState) (place : ℕ) (o : Option (List (ℕ × ℕ))) (x : List (ℕ × ℕ)) → o ≡ Some x → IfSome o
+    (λ by. ComesTo kept by place) → ComesTo kept x place
 some_there kept place o x e h = subst (λ (s : Option (List (ℕ × ℕ))). IfSome s (λ by. ComesTo kept by place)) e h
 
 -- ---- jobs that have ended
@@ -96,8 +98,11 @@ none_gathered kept names maps = record {
   out = λ is. cc;
 }
 
-pub more_gathered : (kept : List MachineState) (names : Names) (maps : Bool) (place : ℕ) (whole answered now : Bool) (old new : List Found) → Gathered kept names maps place whole old → AreSorted new → KeepsAll old new
-    → ((w : World) → IsFirst kept w → AllEndPatiently w names maps old → AllEndPatiently w names maps new) → (answered ≡ true → IsAnsweredAt kept names maps new place) → (answered ≡ false → CanRunOut kept) → (now ≡ true → (whole ≡ true) × (answered ≡ true)) → (now ≡ false → (whole ≡ false) ⊎ (answered ≡ false))
+pub more_gathered : (kept : List MachineState) (names : Names) (maps : Bool) (place : ℕ) (whole answered now : Bool) (old new : List Found)
+    → Gathered kept names maps place whole old → AreSorted new → KeepsAll old new
+    → ((w : World) → IsFirst kept w → AllEndPatiently w names maps old → AllEndPatiently w names maps new) →
+    (answered ≡ true → IsAnsweredAt kept names maps new place) → (answered ≡ false → CanRunOut kept) →
+    (now ≡ true → (whole ≡ true) × (answered ≡ true)) → (now ≡ false → (whole ≡ false) ⊎ (answered ≡ false))
     → Gathered kept names maps (place + 1) now new
 more_gathered kept names maps place whole answered now old new far sorted keeps ends here out both not = record {
   sorted = sorted;
@@ -109,7 +114,8 @@ more_gathered kept names maps place whole answered now old new far sorted keeps 
   out = λ is. elim (not is) [ inl a ↦ far.out a | inr a ↦ out a ];
 }
 
-pub all_gathered : (kept : List MachineState) (names : Names) (maps : Bool) (place : ℕ) (whole : Bool) (answers : List Found) → length kept ≤ place → Gathered kept names maps place whole answers → whole ≡ true → (i : ℕ) → IsAnsweredAt kept names maps answers i
+pub all_gathered : (kept : List MachineState) (names : Names) (maps : Bool) (place : ℕ) (whole : Bool) (answers : List Found) → length kept
+    ≤ place → Gathered kept names maps place whole answers → whole ≡ true → (i : ℕ) → IsAnsweredAt kept names maps answers i
 all_gathered kept names maps place whole answers past far is i m at ended =
     let inside = slice_get_within kept i m at in
     far.answered is i (omega arith) m at ended
@@ -122,14 +128,17 @@ none_of_none : (w : World) (hung : List (List (ℕ × ℕ))) (z : World) → hun
 none_of_none w hung z none (inl ends) = ends
 none_of_none w hung z none (inr (i, by, at, lies)) = let no : None ≡ Some by = ap (λ (hs : List (List (ℕ × ℕ))). slice_get hs i) (sym none) ∙ at in cc
 
-pub explored_patiently : AlikeCanEnd → PatientTellAll → (kept : List MachineState) (w : World) (names : Names) (maps : Bool) (answers : List Found) (extent : Extent) (whole fit all refused : Bool) (limit : ℕ) (hung : List (List (ℕ × ℕ))) (budgets : Budgets) → BeginsAt kept w → CameTo true kept extent limit
+pub explored_patiently : AlikeCanEnd → PatientTellAll → (kept : List MachineState) (w : World) (names : Names) (maps : Bool)
+    (answers : List Found) (extent : Extent) (whole fit all refused : Bool) (limit : ℕ) (hung : List (List (ℕ × ℕ))) (budgets : Budgets) →
+    BeginsAt kept w → CameTo true kept extent limit
     → whole ≡ is_whole extent → refused ≡ is_refused extent
     → ((u : World) → IsFirst kept u → ArePatient u names maps answers) → (extent ≡ Whole → fit ≡ true → (i : ℕ) → IsAnsweredAt kept names maps answers i)
     → AllHang kept hung → (whole ≡ true → fit ≡ true → AllLeadOrBeyond kept hung)
     → (all ≡ true → (whole ≡ true) × (fit ≡ true)) → (all ≡ false → (whole ≡ false) ⊎ (fit ≡ false))
     → (fit ≡ false → budgets ≡ RunOut) → (budgets ≡ Suffice → NoneRunsOut kept) → (budgets ≡ RunOut → CanRunOut kept)
     → AreLedFreely kept → AreApart kept → HaveWholeBudgets kept → IsSearchedPatiently w names maps answers all refused limit (length kept) hung budgets
-explored_patiently ending law kept w names maps answers extent whole fit all refused limit hung budgets (fresh, first) came is_all is_cut outcomes answered hangs leads every every_not unfit suffice out led apart budgeted =
+explored_patiently ending law kept w names maps answers extent whole fit all refused limit hung budgets (fresh, first) came is_all is_cut
+    outcomes answered hangs leads every every_not unfit suffice out led apart budgeted =
     let shown : IsShown kept w = (0, first.0, first.1, first.2) in
     let whole_then : whole ≡ true → extent ≡ Whole = λ is. whole_of extent (sym is_all ∙ is) in
     let not_then : refused ≡ true → whole ≡ false = λ is. is_all ∙ not_whole extent (sym is_cut ∙ is) in
@@ -138,10 +147,14 @@ explored_patiently ending law kept w names maps answers extent whole fit all ref
     ends_or_lies ending kept w z hung (leads a.0 a.1) fresh first (came.covers (whole_then a.0) w z schedule fresh shown runs well).0) in
     record {
       outcomes = outcomes w first;
-      complete = λ is. (let a = every is in law kept w names maps answers (came.covers (whole_then a.0)) fresh shown (λ i m at ended. answered (whole_then a.0) a.1 i m at ended));
+      complete = λ is. (let a = every is in law kept w names maps answers (came.covers (whole_then a.0)) fresh shown
+          (λ i m at ended. answered (whole_then a.0) a.1 i m at ended));
       counted = are_reached_freely kept w first led (budgeted w fresh first) apart;
       met = λ is uncut. elim (every_not is) [ inl a ↦ inl (came.met (limited_of extent (sym is_all ∙ a) (sym is_cut ∙ uncut))) | inr a ↦ inr (unfit a) ];
-      short = λ is. (none_of_all all (λ yes. (let a : whole ≡ true = (every yes).0 in let b : whole ≡ false = not_then is in cc)), came.short (refused_of extent (sym is_cut ∙ is)));
+      short = λ is. (
+        none_of_all all (λ yes. (let a : whole ≡ true = (every yes).0 in let b : whole ≡ false = not_then is in cc)),
+        came.short (refused_of extent (sym is_cut ∙ is)),
+      );
       are_hung = λ i by at. hangs i by at w fresh first;
       no_other = no_other;
       none_hangs = λ is none schedule z runs well. none_of_none w hung z none (no_other is schedule z runs well);

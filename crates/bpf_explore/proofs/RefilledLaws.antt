@@ -35,8 +35,10 @@ first_whole kept count w fresh (first, at, shows) i m there c j task state left 
     cc
 
 -- one more, to which a turn led
-pub more_whole : (old new : List MachineState) (restored after refilled : MachineState) (place cpu made : ℕ) → ((w : World) → IsShownAt old 0 w → (z : World) × IsShownAt old place z) → slice_get old place ≡ Some restored
-    → ((w : World) → Shows restored w → (z : World) × Shows after z) → TurnsAhead restored cpu made after → IsRefilled after cpu refilled → AddsOne old refilled new → HaveWholeBudgets old → HaveWholeBudgets new
+pub more_whole : (old new : List MachineState) (restored after refilled : MachineState) (place cpu made : ℕ) →
+    ((w : World) → IsShownAt old 0 w → (z : World) × IsShownAt old place z) → slice_get old place ≡ Some restored
+    → ((w : World) → Shows restored w → (z : World) × Shows after z) → TurnsAhead restored cpu made after → IsRefilled after cpu refilled →
+    AddsOne old refilled new → HaveWholeBudgets old → HaveWholeBudgets new
 more_whole old new restored after refilled place cpu made led at turns ahead refills (inl same) whole = subst HaveWholeBudgets (sym same) whole
 more_whole old new restored after refilled place cpu made led at turns ahead refills (inr (one, same, shows)) whole = subst HaveWholeBudgets (sym same) both
   where

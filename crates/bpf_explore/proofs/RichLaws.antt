@@ -16,7 +16,8 @@ use Rattle.bpf_explore.specs.Album.{IsKeptAlikeAt}
 use Rattle.bpf_explore.specs.Search.{IsTurned, Extends}
 use Rattle.bpf_explore.proofs.AlbumLaws.{still_at}
 
-rich_set : (jobs : List Task) (j : ℕ) (task : Task) (state : Cpu) (left more : ℕ) → slice_get jobs j ≡ Some task → task.stage ≡ InHand state left → AsRich jobs (with_stage jobs j task (InHand state (left + more)))
+rich_set : (jobs : List Task) (j : ℕ) (task : Task) (state : Cpu) (left more : ℕ) → slice_get jobs j ≡ Some task → task.stage ≡ InHand state
+    left → AsRich jobs (with_stage jobs j task (InHand state (left + more)))
 rich_set [] j task state left more at is = cc
 rich_set (x ∷ xs) zero task state left more at is =
     let same : x ≡ task = cc in
@@ -25,7 +26,8 @@ rich_set (x ∷ xs) zero task state left more at is =
 rich_set (x ∷ xs) (suc j) task state left more at is = (inl refl, rich_set xs j task state left more at is)
 
 -- what is shown before is shown after, but for richer jobs
-pub refilled_shows : (m new : MachineState) (c : ℕ) → IsRefilled m c new → (w : World) → Shows m w → (jobs : List Task) × AsRich w.jobs jobs × Shows new (with_jobs w jobs)
+pub refilled_shows : (m new : MachineState) (c : ℕ) → IsRefilled m c new → (w : World) → Shows m w → (jobs : List Task) × AsRich w.jobs jobs
+    × Shows new (with_jobs w jobs)
 refilled_shows m new c (inl (free, same)) w shows = (w.jobs, all_same w.jobs, subst (λ (x : MachineState). Shows x w) (sym same) shows)
 refilled_shows m new c (inr (j, (task, state, left, more, at, enough, e))) w shows =
     let stage : Stage = InHand state (left + more) in
@@ -48,7 +50,8 @@ richly_kept kept m new c n refills is w shows =
     (r.0, r.1, is (with_jobs w r.0) r.2)
 
 -- ---- a turn from a kept machine
-pub turned_richly : (old new : List MachineState) (place cpu n : ℕ) (m after refilled : MachineState) → slice_get old place ≡ Some m → Extends old new → TurnsTo m cpu after → IsRefilled after cpu refilled → IsKeptAlikeAt new n refilled → IsTurned true new place cpu
+pub turned_richly : (old new : List MachineState) (place cpu n : ℕ) (m after refilled : MachineState) → slice_get old place ≡ Some m →
+    Extends old new → TurnsTo m cpu after → IsRefilled after cpu refilled → IsKeptAlikeAt new n refilled → IsTurned true new place cpu
 turned_richly old new place cpu n m after refilled at more turns refills kept other there =
     let two : Some m ≡ Some other = sym (still_at old new place m at more) ∙ there in
     let same : m ≡ other = cc in (
@@ -62,7 +65,8 @@ gift_last : (cs : List ℕ) (w y : World) (jobs : List Task) → RunsSchedule w 
 gift_last [] w y jobs runs rich = (jobs, subst (λ (x : World). AsRich x.jobs jobs) runs rich, ap (λ (x : World). with_jobs x jobs) runs)
 gift_last (c ∷ cs) w y jobs (answer, m, progress, runs) rich = (w.jobs, answer, m, all_same w.jobs, progress, gift_last cs m y jobs runs rich)
 
-pub led_freely : (restored after refilled : MachineState) (cpu : ℕ) (cs : List ℕ) → ((w : World) → Shows restored w → (z : World) × RunsSchedule w cs z × Shows after z) → IsRefilled after cpu refilled
+pub led_freely : (restored after refilled : MachineState) (cpu : ℕ) (cs : List ℕ) →
+    ((w : World) → Shows restored w → (z : World) × RunsSchedule w cs z × Shows after z) → IsRefilled after cpu refilled
     → (w : World) → Shows restored w → (z : World) × RunsFreely w cs z × Shows refilled z
 led_freely restored after refilled cpu cs runs refills w shows =
     let r = runs w shows in

@@ -1,5 +1,6 @@
 -- The turns of each CPU from each kept machine, in their order.
-use Rattle.std.proofs.Common.{◌≡◌, ◌∙◌, ℕ, zero, suc, ◌+◌, ◌*◌, ◌/◌, ◌%◌, ◌<◌, ◌≤◌, List, [], ◌∷◌, ◌++◌, Option, Some, inl, inr, length, map, refl, sym, ap, subst, append_assoc, length-append, add-one, arith}
+use Rattle.std.proofs.Common.{◌≡◌, ◌∙◌, ℕ, zero, suc, ◌+◌, ◌*◌, ◌/◌, ◌%◌, ◌<◌, ◌≤◌, List, [], ◌∷◌, ◌++◌, Option, Some, inl, inr, length}
+use Rattle.std.proofs.Common.{map, refl, sym, ap, subst, append_assoc, length-append, add-one, arith}
 use Rattle.std.specs.Prelude.{option_map, slice_get}
 use Rattle.std.proofs.Math.Nat.{suc-mul}
 use Rattle.std.proofs.lemmas.Bool.{cases_lt}
@@ -32,7 +33,8 @@ row_length i (suc n) =
 pub rows_length : (cpus n : ℕ) → length (rows_of cpus n) ≡ n * cpus
 rows_length cpus zero = omega arith
 rows_length cpus (suc n) =
-    length-append (rows_of cpus n) (row_of n cpus) ∙ (ap (λ (k : ℕ). k + length (row_of n cpus)) (rows_length cpus n) ∙ (ap (λ (k : ℕ). n * cpus + k) (row_length n cpus) ∙ sym (suc-mul n cpus)))
+    length-append (rows_of cpus n) (row_of n cpus) ∙ (ap (λ (k : ℕ). k + length (row_of n cpus)) (rows_length cpus n) ∙
+    (ap (λ (k : ℕ). n * cpus + k) (row_length n cpus) ∙ sym (suc-mul n cpus)))
 
 row_at : (i n c : ℕ) → c < n → slice_get (row_of i n) c ≡ Some (i, c)
 row_at i zero c less = absurd (omega arith)
@@ -71,12 +73,16 @@ rows_at cpus (suc n) i c less own =
     ]
 
 -- ---- all of them
-pub are_turns : (kept : List MachineState) (turns : Turns) → AreEdges kept (edges_of turns.cpus turns.arrivals.items) → map turn_of (edges_of turns.cpus turns.arrivals.items) ≡ rows_of turns.cpus (length kept) → ((i c : ℕ) → turns.cpus ≤ c → IsIdleAt kept i c) → AreTurns kept turns
+pub are_turns : (kept : List MachineState) (turns : Turns) → AreEdges kept (edges_of turns.cpus turns.arrivals.items) → map turn_of
+    (edges_of turns.cpus turns.arrivals.items) ≡ rows_of turns.cpus (length kept) → ((i c : ℕ) → turns.cpus ≤ c → IsIdleAt kept i c) →
+    AreTurns kept turns
 are_turns kept turns are made idle =
     let edges = edges_of turns.cpus turns.arrivals.items in record {
-      count = sym (count_edges turns.cpus 0 turns.arrivals.items) ∙ (sym (length-map edges turn_of) ∙ (ap (λ (ts : List (ℕ × ℕ)). length ts) made ∙ rows_length turns.cpus (length kept)));
+      count = sym (count_edges turns.cpus 0 turns.arrivals.items) ∙
+          (sym (length-map edges turn_of) ∙ (ap (λ (ts : List (ℕ × ℕ)). length ts) made ∙ rows_length turns.cpus (length kept)));
       each = λ i c e less own at. (
-          let here : slice_get (map turn_of edges) (i * turns.cpus + c) ≡ Some (turn_of e) = slice_get-map turn_of edges (i * turns.cpus + c) ∙ ap (λ (o : Option Edge). option_map turn_of o) at in
+          let here : slice_get (map turn_of edges) (i * turns.cpus + c) ≡ Some (turn_of e) = slice_get-map turn_of edges
+          (i * turns.cpus + c) ∙ ap (λ (o : Option Edge). option_map turn_of o) at in
           let there = rows_at turns.cpus (length kept) i c less own in
           let two : Some (turn_of e) ≡ Some (i, c) = sym here ∙ (ap (λ (ts : List (ℕ × ℕ)). slice_get ts (i * turns.cpus + c)) made ∙ there) in
           let one : turn_of e ≡ (i, c) = cc in
@@ -84,15 +90,19 @@ are_turns kept turns are made idle =
       idle = idle;
     }
 
-pub turn_inside : (kept : List MachineState) (turns : Turns) (i c : ℕ) → AreTurns kept turns → i < length kept → c < turns.cpus → i * turns.cpus + c < length turns.arrivals.items
+pub turn_inside : (kept : List MachineState) (turns : Turns) (i c : ℕ) → AreTurns kept turns → i < length kept → c < turns.cpus → i *
+    turns.cpus + c < length turns.arrivals.items
 turn_inside kept turns i c are less own = subst (λ (n : ℕ). i * turns.cpus + c < n) (sym are.count) (inside_rows i c (length kept) turns.cpus less own)
 
-pub one_more_made : (edges pushed : List Edge) (e : Edge) (turns : List (ℕ × ℕ)) → pushed ≡ edges ++ e ∷ [] → map turn_of edges ≡ turns → map turn_of pushed ≡ turns ++ turn_of e ∷ []
+pub one_more_made : (edges pushed : List Edge) (e : Edge) (turns : List (ℕ × ℕ)) → pushed ≡ edges ++ e ∷ [] → map turn_of edges ≡ turns →
+    map turn_of pushed ≡ turns ++ turn_of e ∷ []
 one_more_made edges pushed e turns push made =
     ap (map turn_of) push ∙ (map-append turn_of edges (e ∷ []) ∙ ap (λ (ts : List (ℕ × ℕ)). ts ++ turn_of e ∷ []) made)
 
 -- one more where it is the next in the order
-pub one_more_made_next : (cpus now : ℕ) (xs pushed : List Arrival) (place cpu to ahead : ℕ) (turns : List (ℕ × ℕ)) → length xs / cpus ≡ place → length xs % cpus ≡ cpu → now ≡ cpus → map turn_of (edges_of cpus xs) ≡ turns → pushed ≡ xs ++ record { to = to; ahead = ahead } ∷ [] → map turn_of (edges_of now pushed) ≡ turns ++ (place, cpu) ∷ []
+pub one_more_made_next : (cpus now : ℕ) (xs pushed : List Arrival) (place cpu to ahead : ℕ) (turns : List (ℕ × ℕ)) → length xs / cpus ≡
+    place → length xs % cpus ≡ cpu → now ≡ cpus → map turn_of (edges_of cpus xs) ≡ turns → pushed ≡ xs ++ record { to = to; ahead = ahead }
+    ∷ [] → map turn_of (edges_of now pushed) ≡ turns ++ (place, cpu) ∷ []
 one_more_made_next cpus now xs pushed place cpu to ahead turns here own width made push =
     let a : Arrival = record { to = to; ahead = ahead } in
     let e = edge_of cpus (length xs) a in

@@ -1,5 +1,6 @@
 -- Turns that were made from kept machines, while more are kept.
-use Rattle.std.proofs.Common.{◌≡◌, ◌∙◌, ◌+◌, ◌<◌, ◌≤◌, ℕ, Bool, true, false, List, [], ◌++◌, Some, length, refl, inl, inr, sym, ap, subst, append-nil, append_assoc, length-append, arith}
+use Rattle.std.proofs.Common.{◌≡◌, ◌∙◌, ◌+◌, ◌<◌, ◌≤◌, ℕ, Bool, true, false, List, [], ◌++◌, Some, length, refl, inl, inr, sym, ap, subst}
+use Rattle.std.proofs.Common.{append-nil, append_assoc, length-append, arith}
 use Rattle.std.specs.Prelude.{slice_get}
 use Rattle.std.proofs.lemmas.Bool.{cases_lt}
 use Rattle.std.proofs.lemmas.Option.{slice_get_within}
@@ -65,7 +66,8 @@ inside_still old new place more inside = subst (λ (ms : List MachineState). pla
     front : (xs ys : List MachineState) (i : ℕ) → i < length xs → i < length (xs ++ ys)
     front xs ys i less = let both = length-append xs ys in omega arith
 
-pub next_turned : (patient now later : Bool) (old kept new : List MachineState) (place cpu : ℕ) → place < length old → TurnsSoFar patient old place cpu now kept → Extends kept new → later ≡ now → IsTurned later new place cpu
+pub next_turned : (patient now later : Bool) (old kept new : List MachineState) (place cpu : ℕ) → place < length old → TurnsSoFar patient
+    old place cpu now kept → Extends kept new → later ≡ now → IsTurned later new place cpu
     → TurnsSoFar patient old place (cpu + 1) later new
 next_turned patient now later old kept new place cpu inside far more same turned =
     let here : later ≡ patient = same ∙ far.same in
@@ -74,11 +76,13 @@ next_turned patient now later old kept new place cpu inside far more same turned
       same = here;
       turned = λ c less. elim (cases_lt c cpu) [
         | inl below ↦ turned_still kept new more patient place c (inside_still old kept place far.extends inside) (far.turned c below)
-        | inr past ↦ let e : c ≡ cpu = omega arith in subst (λ (k : ℕ). IsTurned patient new place k) (sym e) (subst (λ (b : Bool). IsTurned b new place cpu) here turned)
+        | inr past ↦ let e : c ≡ cpu = omega arith in subst (λ (k : ℕ). IsTurned patient new place k) (sym e)
+            (subst (λ (b : Bool). IsTurned b new place cpu) here turned)
       ];
     }
 
-pub all_turned : (patient now : Bool) (old kept : List MachineState) (place cpu n : ℕ) → place < length old → ((i c : ℕ) → n ≤ c → IsIdleAt old i c) → n ≤ cpu → TurnsSoFar patient old place cpu now kept → IsExpanded now kept place
+pub all_turned : (patient now : Bool) (old kept : List MachineState) (place cpu n : ℕ) → place < length old →
+    ((i c : ℕ) → n ≤ c → IsIdleAt old i c) → n ≤ cpu → TurnsSoFar patient old place cpu now kept → IsExpanded now kept place
 all_turned patient now old kept place cpu n inside idle past far c = subst (λ (b : Bool). IsTurned b kept place c) (sym far.same) (elim (cases_lt c cpu) [
   | inl below ↦ far.turned c below
   | inr above ↦ turned_still old kept far.extends patient place c inside (idle_turned patient old place c (idle place c (omega arith)))
@@ -94,7 +98,8 @@ pub record ExpandedSoFar (patient : Bool) (old : List MachineState) (next : ℕ)
 pub none_expanded : (patient : Bool) (kept : List MachineState) → ExpandedSoFar patient kept 0 patient kept
 none_expanded patient kept = record { extends = none_more kept; same = refl; expanded = λ i less. absurd (omega arith); inside = omega arith }
 
-pub next_expanded : (patient now later : Bool) (old kept new : List MachineState) (next : ℕ) → ExpandedSoFar patient old next now kept → next < length kept → Extends kept new → later ≡ now → IsExpanded later new next → ExpandedSoFar patient old (next + 1) later new
+pub next_expanded : (patient now later : Bool) (old kept new : List MachineState) (next : ℕ) → ExpandedSoFar patient old next now kept →
+    next < length kept → Extends kept new → later ≡ now → IsExpanded later new next → ExpandedSoFar patient old (next + 1) later new
 next_expanded patient now later old kept new next far less more same expanded =
     let here : later ≡ patient = same ∙ far.same in
     record {
@@ -111,7 +116,8 @@ whole : (patient : Bool) (kept : List MachineState) → ((i : ℕ) → i < lengt
 whole false kept expanded = λ i m c there. expanded i (slice_get_within kept i m there) c m there
 whole true kept expanded = λ i m c there. expanded i (slice_get_within kept i m there) c m there
 
-pub all_expanded : (patient now : Bool) (old kept : List MachineState) (next : ℕ) → length kept ≤ next → ExpandedSoFar patient old next now kept → IsWhole now kept
+pub all_expanded : (patient now : Bool) (old kept : List MachineState) (next : ℕ) → length kept ≤ next → ExpandedSoFar patient old next now
+    kept → IsWhole now kept
 all_expanded patient now old kept next past far =
     whole now kept (λ i inside. subst (λ (b : Bool). IsExpanded b kept i) (sym far.same) (far.expanded i (omega arith)))
 

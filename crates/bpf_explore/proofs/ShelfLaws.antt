@@ -1,5 +1,6 @@
 -- What is kept of machines stays, where more is kept.
-use Rattle.std.proofs.Common.{◌≡◌, ◌∙◌, ℕ, zero, suc, ◌+◌, ◌<◌, ◌≤◌, List, [], ◌∷◌, ◌++◌, Some, None, inl, inr, length, drop, refl, sym, ap, subst, add-one, length-append, arith}
+use Rattle.std.proofs.Common.{◌≡◌, ◌∙◌, ℕ, zero, suc, ◌+◌, ◌<◌, ◌≤◌, List, [], ◌∷◌, ◌++◌, Some, None, inl, inr, length, drop, refl, sym, ap}
+use Rattle.std.proofs.Common.{subst, add-one, length-append, arith}
 use Rattle.std.specs.Prelude.{All, slice_get, slice_index_or}
 use Rattle.std.proofs.Math.ListN.{get_or-append}
 use Rattle.std.proofs.Math.Seq.{get_or-append_seam}
@@ -70,26 +71,30 @@ module _ (old new : Shelf) (store : Contents) (g : Grows old new store) where
       let numbers = drop 1 tuple in
       ap (λ (p : Contents). standing p new.programs (chosen new.parts numbers)) (store_still n is.stored)
       ∙ (ap (λ (ps : List Loaded). standing (slice_index_or old.stores n no_store) ps (chosen new.parts numbers)) g.programs
-      ∙ ap (λ (ts : List Task). standing (slice_index_or old.stores n no_store) old.programs ts) (ap (λ (parts : List Task). chosen parts numbers) g.parts.1 ∙ chosen_still old.parts g.parts.0 numbers is.within))
+      ∙ ap (λ (ts : List Task). standing (slice_index_or old.stores n no_store) old.programs ts)
+      (ap (λ (parts : List Task). chosen parts numbers) g.parts.1 ∙ chosen_still old.parts g.parts.0 numbers is.within))
 
   state_still : (tuple : List ℕ) → IsState old tuple → IsState new tuple
   state_still tuple is = record {
     stored = let more = stores_more in let here = is.stored in omega arith;
-    within = subst (λ (parts : List Task). All (λ n. n < length parts) (drop 1 tuple)) (sym g.parts.1) (within_still old.parts g.parts.0 (drop 1 tuple) is.within);
+    within = subst (λ (parts : List Task). All (λ n. n < length parts) (drop 1 tuple)) (sym g.parts.1)
+        (within_still old.parts g.parts.0 (drop 1 tuple) is.within);
     stands = subst CanStand (sym (machine_still tuple is)) is.stands;
   }
 
   pub shapes_still : (h : Shape) → IsOfShape h store → ((n : ℕ) → n < length old.stores → IsOfShape h (slice_index_or old.stores n no_store))
       → (n : ℕ) → n < length new.stores → IsOfShape h (slice_index_or new.stores n no_store)
   shapes_still h shape all n less = elim g.stores [
-    | inl e ↦ subst (λ (ps : List Contents). IsOfShape h (slice_index_or ps n no_store)) (sym e) (all n (let same = ap (λ (ps : List Contents). length ps) e in omega arith))
+    | inl e ↦ subst (λ (ps : List Contents). IsOfShape h (slice_index_or ps n no_store)) (sym e)
+        (all n (let same = ap (λ (ps : List Contents). length ps) e in omega arith))
     | inr e ↦
         subst (λ (ps : List Contents). IsOfShape h (slice_index_or ps n no_store)) (sym e) (elim (cases_lt n (length old.stores)) [
           | inl below ↦ subst (IsOfShape h) (sym (get_or-append old.stores (store ∷ []) no_store n below)) (all n below)
           | inr past ↦
               let same = ap (λ (ps : List Contents). length ps) e ∙ length-append old.stores (store ∷ []) in
               let last : n ≡ length old.stores = omega arith in
-              subst (λ (k : ℕ). IsOfShape h (slice_index_or (old.stores ++ store ∷ []) k no_store)) (sym last) (subst (IsOfShape h) (sym (get_or-append_seam old.stores store [] no_store)) shape)
+              subst (λ (k : ℕ). IsOfShape h (slice_index_or (old.stores ++ store ∷ []) k no_store)) (sym last)
+              (subst (IsOfShape h) (sym (get_or-append_seam old.stores store [] no_store)) shape)
         ])
   ]
 
@@ -128,7 +133,8 @@ module _ (old new : Shelf) (store : Contents) (g : Grows old new store) where
         | inl below ↦ subst (IsState new) (sym (tuple_still old.states tuple i is.whole below)) (state_still (tuple_at old.states i) (is.states i below))
         | inr past ↦
             let e : i ≡ old.states.count = omega arith in
-            subst (λ (k : ℕ). IsState new (tuple_at (with_tuple old.states tuple) k)) (sym e) (subst (IsState new) (sym (tuple_new old.states tuple is.whole size)) one)
+            subst (λ (k : ℕ). IsState new (tuple_at (with_tuple old.states tuple) k)) (sym e)
+            (subst (IsState new) (sym (tuple_new old.states tuple is.whole size)) one)
       ]
 
       pub more_shelf : IsShelf h new

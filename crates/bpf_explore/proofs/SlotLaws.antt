@@ -13,7 +13,8 @@ Passed slots hash step P = (e n : ℕ) → e < step → slot_at slots hash e ≡
 pub none_passed : (slots : List ℕ) (hash : ℕ) (P : ℕ → Type 0) → Passed slots hash 0 P
 none_passed slots hash P e n less at is = absurd (omega arith)
 
-pub next_passed : (slots : List ℕ) (hash step m : ℕ) (P : ℕ → Type 0) → Passed slots hash step P → slot_at slots hash step ≡ m + 1 → (P m → ⊥) → Passed slots hash (step + 1) P
+pub next_passed : (slots : List ℕ) (hash step m : ℕ) (P : ℕ → Type 0) → Passed slots hash step P → slot_at slots hash step ≡ m + 1 →
+    (P m → ⊥) → Passed slots hash (step + 1) P
 next_passed slots hash step m P far here never e n less at is = elim (cases_lt e step) [
   | inl below ↦ far e n below at is
   | inr past ↦
@@ -24,7 +25,8 @@ next_passed slots hash step m P far here never e n less at is = elim (cases_lt e
 ]
 
 -- it is none of those that were put
-pub none_at : (slots : List ℕ) (hash step : ℕ) (P : ℕ → Type 0) → Passed slots hash step P → slot_at slots hash step ≡ 0 → (n : ℕ) → IsPut slots hash n → P n → ⊥
+pub none_at : (slots : List ℕ) (hash step : ℕ) (P : ℕ → Type 0) → Passed slots hash step P → slot_at slots hash step ≡ 0 → (n : ℕ) → IsPut
+    slots hash n → P n → ⊥
 none_at slots hash step P far empty n (d, inside, at, before) is = elim (cases_lt d step) [
   | inl below ↦ far d n below at is
   | inr past ↦ elim (cases_lt step d) [
@@ -66,15 +68,18 @@ module _ (slots : List ℕ) (place mark : ℕ) (within : place < length slots) (
   still_put h n is = still_marked h (n + 1) (λ no. absurd (omega arith)) is
 
   -- at a place of which all before are taken
-  pub marked : (hash step : ℕ) → step < length slots → place ≡ place_at hash step (length slots) → ((e : ℕ) → e < step → slot_at slots hash e ≢ 0) → IsMarked after hash mark
+  pub marked : (hash step : ℕ) → step < length slots → place ≡ place_at hash step (length slots) →
+      ((e : ℕ) → e < step → slot_at slots hash e ≢ 0) → IsMarked after hash mark
   marked hash step inside here taken = (
     step,
     omega (arith, size),
-    ap (λ (k : ℕ). slice_index_or after (place_at hash step k) 0) size ∙ (ap (λ (p : ℕ). slice_index_or after p 0) (sym here) ∙ get_or-set_same slots place mark 0 within),
+    ap (λ (k : ℕ). slice_index_or after (place_at hash step k) 0) size ∙
+        (ap (λ (p : ℕ). slice_index_or after p 0) (sym here) ∙ get_or-set_same slots place mark 0 within),
     λ e less no. taken e less (sym (slot_taken hash e (taken e less)) ∙ no),
   )
 
-pub next_taken : (slots : List ℕ) (hash step : ℕ) → ((e : ℕ) → e < step → slot_at slots hash e ≢ 0) → slot_at slots hash step ≢ 0 → (e : ℕ) → e < step + 1 → slot_at slots hash e ≢ 0
+pub next_taken : (slots : List ℕ) (hash step : ℕ) → ((e : ℕ) → e < step → slot_at slots hash e ≢ 0) → slot_at slots hash step ≢ 0 → (e : ℕ)
+    → e < step + 1 → slot_at slots hash e ≢ 0
 next_taken slots hash step far here e less = elim (cases_lt e step) [
   | inl below ↦ far e below
   | inr past ↦ let same : step ≡ e = omega arith in subst (λ (k : ℕ). slot_at slots hash k ≢ 0) same here

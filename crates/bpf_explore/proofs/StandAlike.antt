@@ -18,7 +18,9 @@ module _ (p q : Contents) (alike : LookAlike p q) where
   serves : (c : ℕ) → has_cpu q c ≡ has_cpu p c
   serves c = ap (λ (n : ℕ). nat_lt c n) alike.maps.cpus
 
-  pub can_stand : (programs : List Loaded) (jobs : List Task) (lists others : Option (List Listing)) → CanStand (record { store = p; programs = programs; jobs = jobs; lists = lists }) → CanStand (record { store = q; programs = programs; jobs = jobs; lists = others })
+  pub can_stand : (programs : List Loaded) (jobs : List Task) (lists others : Option (List Listing)) → CanStand
+      (record { store = p; programs = programs; jobs = jobs; lists = lists }) → CanStand
+      (record { store = q; programs = programs; jobs = jobs; lists = others })
   can_stand programs jobs lists others is = record {
     served = λ j task at. serves task.cpu ∙ is.served j task at;
     loaded = is.loaded;

@@ -1,5 +1,6 @@
 -- What is printed of jobs that have ended says whether one of them was stopped.
-use Rattle.std.proofs.Common.{◌≡◌, ◌∙◌, ℕ, zero, suc, ◌+◌, ◌<◌, ◌≤◌, Bool, true, false, ◌||◌, if◌then◌else◌, List, [], ◌∷◌, ◌++◌, Option, Some, None, inl, inr, length, get_or, drop, refl, sym, ap, append_assoc, arith}
+use Rattle.std.proofs.Common.{◌≡◌, ◌∙◌, ℕ, zero, suc, ◌+◌, ◌<◌, ◌≤◌, Bool, true, false, ◌||◌, if◌then◌else◌, List, [], ◌∷◌, ◌++◌, Option}
+use Rattle.std.proofs.Common.{Some, None, inl, inr, length, get_or, drop, refl, sym, ap, append_assoc, arith}
 use Rattle.std.specs.Prelude.{slice_get, option_and_then, ◌==◌, ◌/◌, ◌%◌, nat_lt, codes}
 use Rattle.std.specs.Fmt.{decimal, digits, digits_onto, digit_glyph}
 use Rattle.std.proofs.lemmas.List.{append_cancel_left, length-set}
@@ -80,10 +81,13 @@ line_is j c end x = simp append_assoc
 same_line : (j c d : ℕ) (e f : Outcome) (x y : List ℕ) → job_line j c e ++ x ≡ job_line j d f ++ y → SameStop e f x y
 same_line j c d e f x y same =
     let one : line_onto j c e x ≡ line_onto j d f y = sym (line_is j c e x) ∙ (same ∙ line_is j d f y) in
-    let two : decimal j ++ (codes " cpu " ++ (decimal c ++ 32 ∷ (outcome_text e ++ 10 ∷ x))) ≡ decimal j ++ (codes " cpu " ++ (decimal d ++ 32 ∷ (outcome_text f ++ 10 ∷ y))) = ap (drop 4) one in
-    let three = append_cancel_left (decimal j) (codes " cpu " ++ (decimal c ++ 32 ∷ (outcome_text e ++ 10 ∷ x))) (codes " cpu " ++ (decimal d ++ 32 ∷ (outcome_text f ++ 10 ∷ y))) two in
+    let two : decimal j ++ (codes " cpu " ++ (decimal c ++ 32 ∷ (outcome_text e ++ 10 ∷ x))) ≡ decimal j ++
+    (codes " cpu " ++ (decimal d ++ 32 ∷ (outcome_text f ++ 10 ∷ y))) = ap (drop 4) one in
+    let three = append_cancel_left (decimal j) (codes " cpu " ++ (decimal c ++ 32 ∷ (outcome_text e ++ 10 ∷ x)))
+    (codes " cpu " ++ (decimal d ++ 32 ∷ (outcome_text f ++ 10 ∷ y))) two in
     let four : decimal c ++ 32 ∷ (outcome_text e ++ 10 ∷ x) ≡ decimal d ++ 32 ∷ (outcome_text f ++ 10 ∷ y) = ap (drop 5) three in
-    same_tail e f x y (ends_same (decimal c) (decimal d) 32 (outcome_text e ++ 10 ∷ x) (outcome_text f ++ 10 ∷ y) (omega arith) (decimal_high c) (decimal_high d) four)
+    same_tail e f x y (ends_same (decimal c) (decimal d) 32 (outcome_text e ++ 10 ∷ x) (outcome_text f ++ 10 ∷ y) (omega arith)
+    (decimal_high c) (decimal_high d) four)
 
 -- ---- the lines of all jobs
 record EndsAt (jobs : List Task) (n : ℕ) : Type 0 where
@@ -110,30 +114,36 @@ both_stopped true false s t x y P e more = cc
 both_stopped false true s t x y P e more = cc
 both_stopped false false s t x y P e more = more refl
 
-lines_same : (n : ℕ) (jobs others : List Task) → HaveEnded jobs → HaveEnded others → n ≤ length jobs → n ≤ length others → (x y : List ℕ) → job_lines n jobs ++ x ≡ job_lines n others ++ y
+lines_same : (n : ℕ) (jobs others : List Task) → HaveEnded jobs → HaveEnded others → n ≤ length jobs → n ≤ length others → (x y : List ℕ) →
+    job_lines n jobs ++ x ≡ job_lines n others ++ y
     → (any_stopped n jobs ≡ any_stopped n others) × (any_stopped n jobs ≡ false → x ≡ y)
 lines_same zero jobs others ended too inside within x y e = (refl, λ none. e)
 lines_same (suc n) jobs others ended too inside within x y e =
     let first = task_line n (slice_get jobs n) in
     let second = task_line n (slice_get others n) in
-    let moved : job_lines n jobs ++ (first ++ x) ≡ job_lines n others ++ (second ++ y) = sym (append_assoc (job_lines n jobs) first x) ∙ (e ∙ append_assoc (job_lines n others) second y) in
+    let moved : job_lines n jobs ++ (first ++ x) ≡ job_lines n others ++ (second ++ y) = sym (append_assoc (job_lines n jobs) first x) ∙
+    (e ∙ append_assoc (job_lines n others) second y) in
     let far = lines_same n jobs others ended too (omega arith) (omega arith) (first ++ x) (second ++ y) moved in
     let here = ends_at jobs n ended (omega arith) in
     let there = ends_at others n too (omega arith) in
     both_stopped (any_stopped n jobs) (any_stopped n others) (is_stop (outcome_at jobs n)) (is_stop (outcome_at others n)) x y (x ≡ y) far.0 (λ none.
-    let same : job_line n here.cpu here.end ++ x ≡ job_line n there.cpu there.end ++ y = ap (λ (l : List ℕ). l ++ x) (sym here.line) ∙ (far.1 none ∙ ap (λ (l : List ℕ). l ++ y) there.line) in
+    let same : job_line n here.cpu here.end ++ x ≡ job_line n there.cpu there.end ++ y = ap (λ (l : List ℕ). l ++ x) (sym here.line) ∙
+    (far.1 none ∙ ap (λ (l : List ℕ). l ++ y) there.line) in
     let r = same_line n here.cpu there.cpu here.end there.end x y same in
     (here.stop ∙ (r.0 ∙ sym there.stop), λ off. r.1 (sym here.stop ∙ off)))
 
-pub same_stop : (s t : Plain) (jobs others : List Task) (names : Names) (maps : Bool) (text : List ℕ) (stopped halted : Bool) → length jobs ≡ length others → HaveEnded jobs → HaveEnded others
+pub same_stop : (s t : Plain) (jobs others : List Task) (names : Names) (maps : Bool) (text : List ℕ) (stopped halted : Bool) → length jobs
+    ≡ length others → HaveEnded jobs → HaveEnded others
     → Tells s jobs names maps text stopped → Tells t others names maps text halted → stopped ≡ halted
 same_stop s t jobs others names maps text stopped halted count ended too a b =
-    let same : job_lines (length jobs) jobs ++ a.0 ≡ job_lines (length jobs) others ++ b.0 = sym a.2 ∙ (b.2 ∙ ap (λ (n : ℕ). job_lines n others ++ b.0) (sym count)) in
+    let same : job_lines (length jobs) jobs ++ a.0 ≡ job_lines (length jobs) others ++ b.0 = sym a.2 ∙
+    (b.2 ∙ ap (λ (n : ℕ). job_lines n others ++ b.0) (sym count)) in
     let all = lines_same (length jobs) jobs others ended too (omega arith) (omega arith) a.0 b.0 same in
     a.3 ∙ (all.0 ∙ (ap (λ (n : ℕ). any_stopped n others) count ∙ sym b.3))
 
 -- ---- a schedule keeps the number of jobs
-goes_length : (w : World) (c j : ℕ) (task : Task) (old : Cpu) (left : ℕ) (answer : Turn) (z : World) → GoesOn w c j task old left answer z → length z.jobs ≡ length w.jobs
+goes_length : (w : World) (c j : ℕ) (task : Task) (old : Cpu) (left : ℕ) (answer : Turn) (z : World) → GoesOn w c j task old left answer z →
+    length z.jobs ≡ length w.jobs
 goes_length w c j task old left answer z (program, end, s, new, rest, loaded, advances, settles) = settled end settles
   where
     settled : (end : Option Outcome) → Settles (record w { store = s }) c j task new rest end answer z → length z.jobs ≡ length w.jobs
@@ -143,7 +153,8 @@ goes_length w c j task old left answer z (program, end, s, new, rest, loaded, ad
 
 pub turn_length : (w : World) (c : ℕ) (answer : Turn) (z : World) → TakesTurn w c answer z → length z.jobs ≡ length w.jobs
 turn_length w c answer z (inl (j, task, state, left, at, goes)) = goes_length w c j task state left answer z goes
-turn_length w c answer z (inr (inl (free, (j, task, input, s, at, none, begins, goes)))) = goes_length (record w { store = s }) c j task _ task.budget answer z goes
+turn_length w c answer z (inr (inl (free, (j, task, input, s, at, none, begins, goes)))) = goes_length (record w { store = s }) c j task _
+    task.budget answer z goes
 turn_length w c answer z (inr (inr (free, none, is, same))) = ap (λ (v : World). length v.jobs) same
 
 pub runs_length : (cs : List ℕ) (w z : World) → RunsSchedule w cs z → length z.jobs ≡ length w.jobs

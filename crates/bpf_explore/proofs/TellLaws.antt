@@ -1,5 +1,6 @@
 -- What is printed of machines that list no keys, and which of them have ended.
-use Rattle.std.proofs.Common.{◌≡◌, ◌∙◌, ℕ, zero, suc, ◌+◌, ◌<◌, ◌≤◌, Bool, List, [], Option, Some, None, inl, inr, length, refl, sym, ap, subst, append-nil, arith}
+use Rattle.std.proofs.Common.{◌≡◌, ◌∙◌, ℕ, zero, suc, ◌+◌, ◌<◌, ◌≤◌, Bool, List, [], Option, Some, None, inl, inr, length, refl, sym, ap}
+use Rattle.std.proofs.Common.{subst, append-nil, arith}
 use Rattle.std.specs.Prelude.{slice_get, slice_index_or}
 use Rattle.std.proofs.lemmas.Option.{slice_get_within, slice_get_read, get_or_from_slice_get}
 use Rattle.std.proofs.lemmas.Bool.{cases_lt}
@@ -52,25 +53,30 @@ told_of m names maps text stopped none told s sound stands =
     tells_none m w names maps text stopped none shows (told w shows)
 
 -- an answer with this text
-pub answered_by : (kept : List MachineState) (m : MachineState) (names : Names) (maps : Bool) (answers : List Found) (place i : ℕ) (found : Found) (text : List ℕ) (stopped : Bool)
-    → slice_get kept place ≡ Some m → m.lists ≡ None → ((w : World) → Shows m w → TellsWith (lines_of_lists w names.maps) w.store w.jobs names maps text stopped)
+pub answered_by : (kept : List MachineState) (m : MachineState) (names : Names) (maps : Bool) (answers : List Found) (place i : ℕ)
+    (found : Found) (text : List ℕ) (stopped : Bool)
+    → slice_get kept place ≡ Some m → m.lists ≡ None → ((w : World) → Shows m w → TellsWith (lines_of_lists w names.maps) w.store w.jobs
+    names maps text stopped)
     → slice_get answers i ≡ Some found → found.text ≡ text → found.stopped ≡ stopped → IsAnsweredAt kept names maps answers place
 answered_by kept m names maps answers place i found text stopped at none told there same halts other here ended =
     let two : Some m ≡ Some other = sym at ∙ here in
     let one : m ≡ other = cc in
     let tells : (s : Plain) → IsSoundStore s → StandsFor m.store s → Tells s m.jobs names maps found.text found.stopped = λ s sound stands. (
-    subst (λ (t : List ℕ). Tells s m.jobs names maps t found.stopped) (sym same) (subst (λ (b : Bool). Tells s m.jobs names maps text b) (sym halts) (told_of m names maps text stopped none told s sound stands))) in
+    subst (λ (t : List ℕ). Tells s m.jobs names maps t found.stopped) (sym same)
+    (subst (λ (b : Bool). Tells s m.jobs names maps text b) (sym halts) (told_of m names maps text stopped none told s sound stands))) in
     subst (IsAnswered names maps answers) one (i, found, there, tells)
 
 -- or that has work
-pub has_work : (kept : List MachineState) (names : Names) (maps : Bool) (answers : List Found) (place : ℕ) → (HaveEndedAt kept place → ⊥) → IsAnsweredAt kept names maps answers place
+pub has_work : (kept : List MachineState) (names : Names) (maps : Bool) (answers : List Found) (place : ℕ) → (HaveEndedAt kept place → ⊥) →
+    IsAnsweredAt kept names maps answers place
 has_work kept names maps answers place works m at ended = absurd (works (λ other here. (
     let two : Some m ≡ Some other = sym at ∙ here in
     let one : m ≡ other = cc in
     subst (λ (n : MachineState). HaveEnded n.jobs) one ended)))
 
 -- ---- what is printed of a kept machine without work
-module _ (kept : List MachineState) (m : MachineState) (names : Names) (maps : Bool) (place : ℕ) (text : List ℕ) (stopped : Bool) (at : slice_get kept place ≡ Some m) (none : m.lists ≡ None) (ended : HaveEndedAt kept place)
+module _ (kept : List MachineState) (m : MachineState) (names : Names) (maps : Bool) (place : ℕ) (text : List ℕ) (stopped : Bool)
+    (at : slice_get kept place ≡ Some m) (none : m.lists ≡ None) (ended : HaveEndedAt kept place)
     (told : (w : World) → Shows m w → TellsWith (lines_of_lists w names.maps) w.store w.jobs names maps text stopped) where
   shown_is : (z : World) (other : MachineState) → slice_get kept place ≡ Some other → Shows other z → Shows m z
   shown_is z other there shows =
@@ -85,14 +91,16 @@ module _ (kept : List MachineState) (m : MachineState) (names : Names) (maps : B
   tells_in z shows = tells_none m z names maps text stopped none shows (told z shows)
 
   -- a schedule that leads there ends by it
-  pub ends_by : (by : List (ℕ × ℕ)) → LeadsFrom kept 0 (unrolled by) place → (w : World) → IsFirst kept w → EndsBy w names maps (record { text = text; stopped = stopped; by = by })
+  pub ends_by : (by : List (ℕ × ℕ)) → LeadsFrom kept 0 (unrolled by) place → (w : World) → IsFirst kept w → EndsBy w names maps
+      (record { text = text; stopped = stopped; by = by })
   ends_by by leads w first =
       let r = leads w first in
       let shows = shown_is r.0 r.2.0 r.2.1 r.2.2 in
       (r.0, r.1, ended_in r.0 shows, tells_in r.0 shows)
 
   -- an answer of the same text has the same stops
-  pub stopped_same : (answers : List Found) (i : ℕ) (found : Found) → AreLed kept → place < length kept → ((w : World) × IsFirst kept w) → ((w : World) → IsFirst kept w → AllEnd w names maps answers) → slice_get answers i ≡ Some found → found.text ≡ text → found.stopped ≡ stopped
+  pub stopped_same : (answers : List Found) (i : ℕ) (found : Found) → AreLed kept → place < length kept → ((w : World) × IsFirst kept w) →
+      ((w : World) → IsFirst kept w → AllEnd w names maps answers) → slice_get answers i ≡ Some found → found.text ≡ text → found.stopped ≡ stopped
   stopped_same answers i found led inside (w, first) all there same =
       let other = all w first i found there in
       let way = led place inside in
@@ -104,13 +112,15 @@ module _ (kept : List MachineState) (m : MachineState) (names : Names) (maps : B
       same_stop z.store r.0.store z.jobs r.0.jobs names maps text found.stopped stopped count other.2 (ended_in r.0 shows) tells (tells_in r.0 shows)
 
   -- the same where no budget is used up
-  pub ends_in_budget : (by : List (ℕ × ℕ)) → LeadsInBudget kept by place → (w : World) → IsFirst kept w → EndsPatiently w names maps (record { text = text; stopped = stopped; by = by })
+  pub ends_in_budget : (by : List (ℕ × ℕ)) → LeadsInBudget kept by place → (w : World) → IsFirst kept w → EndsPatiently w names maps
+      (record { text = text; stopped = stopped; by = by })
   ends_in_budget by leads w first =
       let r = leads w first in
       let shows = shown_is r.0 r.3.0 r.3.1 r.3.2 in
       (r.0, r.1, ended_in r.0 shows, r.2, tells_in r.0 shows)
 
-  pub stopped_same_in_budget : (answers : List Found) (i : ℕ) (found : Found) (w : World) → AreLedFreely kept → place < length kept → IsFirst kept w → AllEndPatiently w names maps answers → slice_get answers i ≡ Some found → found.text ≡ text → found.stopped ≡ stopped
+  pub stopped_same_in_budget : (answers : List Found) (i : ℕ) (found : Found) (w : World) → AreLedFreely kept → place < length kept →
+      IsFirst kept w → AllEndPatiently w names maps answers → slice_get answers i ≡ Some found → found.text ≡ text → found.stopped ≡ stopped
   stopped_same_in_budget answers i found w led inside first all there same =
       let other = all i found there in
       let way = led place inside in
@@ -122,17 +132,22 @@ module _ (kept : List MachineState) (m : MachineState) (names : Names) (maps : B
       same_stop z.store r.0.store z.jobs r.0.jobs names maps text found.stopped stopped count other.2 (ended_in r.0 shows) tells (tells_in r.0 shows)
 
 -- ---- jobs that have ended
-pub this_part : (parts : List Task) (numbers : List ℕ) (n : ℕ) (part : Task) → n < length numbers → slice_index_or numbers n 0 < length parts → part ≡ slice_index_or parts (slice_index_or numbers n 0) part → (task : Task) → slice_get (chosen parts numbers) n ≡ Some task → part ≡ task
+pub this_part : (parts : List Task) (numbers : List ℕ) (n : ℕ) (part : Task) → n < length numbers → slice_index_or numbers n 0 < length
+    parts → part ≡ slice_index_or parts (slice_index_or numbers n 0) part → (task : Task) → slice_get (chosen parts numbers) n ≡ Some task →
+    part ≡ task
 this_part parts numbers n part inside within read task at =
     let two : Some (chosen_at parts numbers n) ≡ Some task = sym (chosen_is parts numbers n inside) ∙ at in
     let one : chosen_at parts numbers n ≡ task = cc in
-    let here : slice_index_or parts (slice_index_or numbers n 0) no_task ≡ part = get_or_from_slice_get parts (slice_index_or numbers n 0) part no_task (slice_get_read parts (length parts) (slice_index_or numbers n 0) part refl within read) in
+    let here : slice_index_or parts (slice_index_or numbers n 0) no_task ≡ part = get_or_from_slice_get parts (slice_index_or numbers n 0)
+    part no_task (slice_get_read parts (length parts) (slice_index_or numbers n 0) part refl within read) in
     sym here ∙ one
 
 abbrev pub HaveEndedBelow : List Task → ℕ → Type 0
 HaveEndedBelow jobs n = (j : ℕ) (task : Task) → j < n → slice_get jobs j ≡ Some task → (outcome : Outcome) × (task.stage ≡ Ended outcome)
 
-pub next_ended : (parts : List Task) (numbers : List ℕ) (n : ℕ) (part : Task) → n < length numbers → slice_index_or numbers n 0 < length parts → part ≡ slice_index_or parts (slice_index_or numbers n 0) part → HaveEndedBelow (chosen parts numbers) n → ((outcome : Outcome) × (part.stage ≡ Ended outcome)) → HaveEndedBelow (chosen parts numbers) (n + 1)
+pub next_ended : (parts : List Task) (numbers : List ℕ) (n : ℕ) (part : Task) → n < length numbers → slice_index_or numbers n 0 < length
+    parts → part ≡ slice_index_or parts (slice_index_or numbers n 0) part → HaveEndedBelow (chosen parts numbers) n →
+    ((outcome : Outcome) × (part.stage ≡ Ended outcome)) → HaveEndedBelow (chosen parts numbers) (n + 1)
 next_ended parts numbers n part inside within read far end j task less at = elim (cases_lt j n) [
   | inl below ↦ far j task below at
   | inr past ↦
@@ -141,16 +156,21 @@ next_ended parts numbers n part inside within read far end j task less at = elim
       subst (λ (t : Task). (outcome : Outcome) × (t.stage ≡ Ended outcome)) here end
 ]
 
-pub goes_on : (parts : List Task) (numbers : List ℕ) (n : ℕ) (part : Task) → n < length numbers → slice_index_or numbers n 0 < length parts → part ≡ slice_index_or parts (slice_index_or numbers n 0) part → ((outcome : Outcome) → part.stage ≡ Ended outcome → ⊥) → HaveEnded (chosen parts numbers) → ⊥
+pub goes_on : (parts : List Task) (numbers : List ℕ) (n : ℕ) (part : Task) → n < length numbers → slice_index_or numbers n 0 < length parts
+    → part ≡ slice_index_or parts (slice_index_or numbers n 0) part → ((outcome : Outcome) → part.stage ≡ Ended outcome → ⊥) → HaveEnded
+    (chosen parts numbers) → ⊥
 goes_on parts numbers n part inside within read going all =
     let at = chosen_is parts numbers n inside in
     let end = all n (chosen_at parts numbers n) at in
     going end.0 (ap (λ (t : Task). t.stage) (this_part parts numbers n part inside within read (chosen_at parts numbers n) at) ∙ end.1)
 
-pub ran_out : (parts : List Task) (numbers : List ℕ) (n : ℕ) (part : Task) → n < length numbers → slice_index_or numbers n 0 < length parts → part ≡ slice_index_or parts (slice_index_or numbers n 0) part → ((pc : ℕ) × (part.stage ≡ Ended (OutOfBudget pc))) → NoneRanOut (chosen parts numbers) → ⊥
+pub ran_out : (parts : List Task) (numbers : List ℕ) (n : ℕ) (part : Task) → n < length numbers → slice_index_or numbers n 0 < length parts
+    → part ≡ slice_index_or parts (slice_index_or numbers n 0) part → ((pc : ℕ) × (part.stage ≡ Ended (OutOfBudget pc))) → NoneRanOut
+    (chosen parts numbers) → ⊥
 ran_out parts numbers n part inside within read out none =
     let at = chosen_is parts numbers n inside in
-    none n (chosen_at parts numbers n) out.0 at (ap (λ (t : Task). t.stage) (sym (this_part parts numbers n part inside within read (chosen_at parts numbers n) at)) ∙ out.1)
+    none n (chosen_at parts numbers n) out.0 at (ap (λ (t : Task). t.stage)
+    (sym (this_part parts numbers n part inside within read (chosen_at parts numbers n) at)) ∙ out.1)
 
 pub all_ended : (parts : List Task) (numbers : List ℕ) (n : ℕ) → length numbers ≤ n → HaveEndedBelow (chosen parts numbers) n → HaveEnded (chosen parts numbers)
 all_ended parts numbers n past far j task at =

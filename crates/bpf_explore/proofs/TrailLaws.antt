@@ -1,5 +1,6 @@
 -- Schedules that lead to kept machines.
-use Rattle.std.proofs.Common.{◌≡◌, ◌∙◌, ℕ, zero, suc, ◌+◌, ◌<◌, ◌≤◌, List, [], ◌∷◌, ◌++◌, Some, inl, inr, length, take, replicate, reverse, refl, sym, ap, subst, append_assoc, length-append, add-one, arith}
+use Rattle.std.proofs.Common.{◌≡◌, ◌∙◌, ℕ, zero, suc, ◌+◌, ◌<◌, ◌≤◌, List, [], ◌∷◌, ◌++◌, Some, inl, inr, length, take, replicate, reverse}
+use Rattle.std.proofs.Common.{refl, sym, ap, subst, append_assoc, length-append, add-one, arith}
 use Rattle.std.specs.Prelude.{slice_get, slice_index_or}
 use Rattle.std.proofs.Math.ListN.{get_or-append}
 use Rattle.std.proofs.Math.Seq.{get_or-append_seam}
@@ -49,17 +50,21 @@ free_runs_join = (λ w. (w.jobs, all_same w.jobs, refl), λ w m z cs ds first se
 pub one_back : (by : List (ℕ × ℕ)) (cpu turns : ℕ) → unrolled (reverse (by ++ (cpu, turns) ∷ [])) ≡ replicate turns cpu ++ unrolled (reverse by)
 one_back by cpu turns = ap unrolled (reverse-append by ((cpu, turns) ∷ []))
 
-pub more_back : (by : List (ℕ × ℕ)) (cpu more turns sum : ℕ) → sum ≡ more + turns → unrolled (reverse (by ++ (cpu, sum) ∷ [])) ≡ replicate turns cpu ++ unrolled (reverse (by ++ (cpu, more) ∷ []))
+pub more_back : (by : List (ℕ × ℕ)) (cpu more turns sum : ℕ) → sum ≡ more + turns → unrolled (reverse (by ++ (cpu, sum) ∷ [])) ≡ replicate
+    turns cpu ++ unrolled (reverse (by ++ (cpu, more) ∷ []))
 more_back by cpu more turns sum e =
-    let both : replicate turns cpu ++ replicate more cpu ≡ replicate sum cpu = replicate-append-replicate turns more cpu ∙ ap (λ (n : ℕ). replicate n cpu) (let t : turns + more ≡ sum = omega arith in t) in
+    let both : replicate turns cpu ++ replicate more cpu ≡ replicate sum cpu = replicate-append-replicate turns more cpu ∙ ap
+    (λ (n : ℕ). replicate n cpu) (let t : turns + more ≡ sum = omega arith in t) in
     one_back by cpu sum
     ∙ (ap (λ (cs : List ℕ). cs ++ unrolled (reverse by)) (sym both)
-    ∙ (append_assoc (replicate turns cpu) (replicate more cpu) (unrolled (reverse by)) ∙ ap (λ (cs : List ℕ). replicate turns cpu ++ cs) (sym (one_back by cpu more))))
+    ∙ (append_assoc (replicate turns cpu) (replicate more cpu) (unrolled (reverse by)) ∙ ap (λ (cs : List ℕ). replicate turns cpu ++ cs)
+    (sym (one_back by cpu more))))
 
 -- ---- schedules of one kind
 module _ (runs : World → List ℕ → World → Type 0) (join : StayAndJoin runs) where
   -- ---- the way to a machine
-  pub leads_both : (kept : List MachineState) (i j k : ℕ) (cs ds : List ℕ) → LeadsThrough runs kept i cs j → LeadsThrough runs kept j ds k → LeadsThrough runs kept i (cs ++ ds) k
+  pub leads_both : (kept : List MachineState) (i j k : ℕ) (cs ds : List ℕ) → LeadsThrough runs kept i cs j → LeadsThrough runs kept j ds k →
+      LeadsThrough runs kept i (cs ++ ds) k
   leads_both kept i j k cs ds first second w shown =
       let a = first w shown in
       let b = second a.0 a.2 in
@@ -72,14 +77,20 @@ module _ (runs : World → List ℕ → World → Type 0) (join : StayAndJoin ru
   pub read_origin : (origins : List Origin) (i : ℕ) (o : Origin) → i < length origins → o ≡ slice_index_or origins i o → origin_at origins i ≡ o
   read_origin origins i o inside read = get_or_from_slice_get origins i o no_origin (slice_get_read origins (length origins) i o refl inside read)
 
-  pub one_back_more : (kept : List MachineState) (origins : List Origin) (state place : ℕ) (o : Origin) (by new : List (ℕ × ℕ)) → AreOrigins runs kept origins → 0 < state → state < length kept → origin_at origins state ≡ o → LeadsThrough runs kept state (unrolled (reverse by)) place
-      → unrolled (reverse new) ≡ replicate (o.ahead + 1) o.cpu ++ unrolled (reverse by) → (o.«from» < length kept) × LeadsThrough runs kept o.«from» (unrolled (reverse new)) place
+  pub one_back_more : (kept : List MachineState) (origins : List Origin) (state place : ℕ) (o : Origin) (by new : List (ℕ × ℕ)) → AreOrigins
+      runs kept origins → 0 < state → state < length kept → origin_at origins state ≡ o → LeadsThrough runs kept state (unrolled (reverse by)) place
+      → unrolled (reverse new) ≡ replicate (o.ahead + 1) o.cpu ++ unrolled (reverse by) → (o.«from» < length kept) × LeadsThrough runs kept
+      o.«from» (unrolled (reverse new)) place
   one_back_more kept origins state place o by new are some inside at leads e =
       let is = subst (IsOrigin runs kept state) at (are.each state some inside) in
       let before = is.before in
       let turns : replicate (o.ahead + 1) o.cpu ≡ o.cpu ∷ replicate o.ahead o.cpu = ap (λ (n : ℕ). replicate n o.cpu) (add-one o.ahead) in
-      let all : unrolled (reverse new) ≡ (o.cpu ∷ replicate o.ahead o.cpu) ++ unrolled (reverse by) = e ∙ ap (λ (cs : List ℕ). cs ++ unrolled (reverse by)) turns in
-      (omega arith, subst (λ (cs : List ℕ). LeadsThrough runs kept o.«from» cs place) (sym all) (leads_both kept o.«from» state place (o.cpu ∷ replicate o.ahead o.cpu) (unrolled (reverse by)) is.leads leads))
+      let all : unrolled (reverse new) ≡ (o.cpu ∷ replicate o.ahead o.cpu) ++ unrolled (reverse by) = e ∙ ap
+      (λ (cs : List ℕ). cs ++ unrolled (reverse by)) turns in (
+        omega arith,
+        subst (λ (cs : List ℕ). LeadsThrough runs kept o.«from» cs place) (sym all)
+            (leads_both kept o.«from» state place (o.cpu ∷ replicate o.ahead o.cpu) (unrolled (reverse by)) is.leads leads),
+      )
 
   -- ---- while more are kept
   module _ (old more : List MachineState) where
@@ -93,13 +104,18 @@ module _ (runs : World → List ℕ → World → Type 0) (join : StayAndJoin ru
     leads_still i j cs inside leads w shown = let r = leads w (shown_before i w inside shown) in (r.0, r.1, shown_still j r.0 r.2)
 
     origin_still : (i : ℕ) (o : Origin) → i < length old → IsOrigin runs old i o → IsOrigin runs (old ++ more) i o
-    origin_still i o inside is = record { before = is.before; leads = leads_still o.«from» i (o.cpu ∷ replicate o.ahead o.cpu) (let b = is.before in omega arith) is.leads }
+    origin_still i o inside is = record {
+      before = is.before;
+      leads = leads_still o.«from» i (o.cpu ∷ replicate o.ahead o.cpu)
+          (let b = is.before in omega arith) is.leads;
+    }
 
   -- the turns from an earlier one, of which it is known where they led
   abbrev pub LedThere : List MachineState → Origin → MachineState → Type 0
   LedThere kept o m = (w : World) → IsShownAt kept o.«from» w → (z : World) × runs w (o.cpu ∷ replicate o.ahead o.cpu) z × Shows m z
 
-  pub led_there : (kept : List MachineState) (restored after : MachineState) (place : ℕ) (o : Origin) (made : ℕ) → slice_get kept place ≡ Some restored → o.«from» ≡ place → o.ahead ≡ made
+  pub led_there : (kept : List MachineState) (restored after : MachineState) (place : ℕ) (o : Origin) (made : ℕ) → slice_get kept place ≡
+      Some restored → o.«from» ≡ place → o.ahead ≡ made
       → ((w : World) → Shows restored w → (z : World) × runs w (o.cpu ∷ replicate made o.cpu) z × Shows after z) → LedThere kept o after
   led_there kept restored after place o made at here turns leads w (m, there, shows) =
       let two : Some m ≡ Some restored = sym there ∙ (ap (slice_get kept) here ∙ at) in
@@ -111,11 +127,13 @@ module _ (runs : World → List ℕ → World → Type 0) (join : StayAndJoin ru
   at_last [] one = refl
   at_last (x ∷ xs) one = at_last xs one
 
-  pub kept_origins : (old new : List MachineState) (m : MachineState) (origins : List Origin) (o : Origin) → AreOrigins runs old origins → o.«from» < length old → LedThere old o m → AddsOne old m new → AreOrigins runs new (take (length new) (origins ++ o ∷ []))
+  pub kept_origins : (old new : List MachineState) (m : MachineState) (origins : List Origin) (o : Origin) → AreOrigins runs old origins →
+      o.«from» < length old → LedThere old o m → AddsOne old m new → AreOrigins runs new (take (length new) (origins ++ o ∷ []))
   kept_origins old new m origins o are inside led (inl e) =
       let count = are.count in
       let size : length new ≡ length origins = ap (λ (ms : List MachineState). length ms) e ∙ sym count in
-      let all : take (length new) (origins ++ o ∷ []) ≡ origins = take-append-le (length new) origins (o ∷ []) (omega arith) ∙ take_all (length new) origins (omega arith) in
+      let all : take (length new) (origins ++ o ∷ []) ≡ origins = take-append-le (length new) origins (o ∷ []) (omega arith) ∙ take_all
+      (length new) origins (omega arith) in
       subst (λ (ms : List MachineState). AreOrigins runs ms (take (length new) (origins ++ o ∷ []))) (sym e) (subst (AreOrigins runs old) (sym all) are)
   kept_origins old new m origins o are inside led (inr (one, e, shows)) =
       let count = are.count in
@@ -127,7 +145,8 @@ module _ (runs : World → List ℕ → World → Type 0) (join : StayAndJoin ru
         count = omega arith;
         each = λ i some less. elim (cases_lt i (length old)) [
           | inl below ↦
-              subst (IsOrigin runs (old ++ one ∷ []) i) (sym (get_or-append origins (o ∷ []) no_origin i (omega arith))) (origin_still old (one ∷ []) i (origin_at origins i) below (are.each i some below))
+              subst (IsOrigin runs (old ++ one ∷ []) i) (sym (get_or-append origins (o ∷ []) no_origin i (omega arith)))
+              (origin_still old (one ∷ []) i (origin_at origins i) below (are.each i some below))
           | inr past ↦
               let last : i ≡ length old = omega arith in
               let place : length origins ≡ i = omega arith in
@@ -138,15 +157,20 @@ module _ (runs : World → List ℕ → World → Type 0) (join : StayAndJoin ru
               }))
         ];
       } in
-      subst (λ (ms : List MachineState). AreOrigins runs ms (take (length new) (origins ++ o ∷ []))) (sym e) (subst (AreOrigins runs (old ++ one ∷ [])) (sym all) now)
+      subst (λ (ms : List MachineState). AreOrigins runs ms (take (length new) (origins ++ o ∷ []))) (sym e)
+      (subst (AreOrigins runs (old ++ one ∷ [])) (sym all) now)
 
   -- as many of the origins as machines are kept
-  pub cut_origins : (old new : List MachineState) (m : MachineState) (origins pushed cut : List Origin) (o : Origin) (n : ℕ) → AreOrigins runs old origins → o.«from» < length old → LedThere old o m → AddsOne old m new → pushed ≡ origins ++ o ∷ [] → n ≡ length new → cut ≡ take n pushed → AreOrigins runs new cut
+  pub cut_origins : (old new : List MachineState) (m : MachineState) (origins pushed cut : List Origin) (o : Origin) (n : ℕ) → AreOrigins
+      runs old origins → o.«from» < length old → LedThere old o m → AddsOne old m new → pushed ≡ origins ++ o ∷ [] → n ≡ length new → cut ≡
+      take n pushed → AreOrigins runs new cut
   cut_origins old new m origins pushed cut o n are inside led adds push count is =
-      subst (AreOrigins runs new) (sym (is ∙ (ap (λ (k : ℕ). take k pushed) count ∙ ap (take (length new)) push))) (kept_origins old new m origins o are inside led adds)
+      subst (AreOrigins runs new) (sym (is ∙ (ap (λ (k : ℕ). take k pushed) count ∙ ap (take (length new)) push)))
+      (kept_origins old new m origins o are inside led adds)
 
   -- ---- a schedule to each
-  led_below : (kept : List MachineState) (origins : List Origin) → AreOrigins runs kept origins → (n i : ℕ) → i < n → i < length kept → (schedule : List ℕ) × LeadsThrough runs kept 0 schedule i
+  led_below : (kept : List MachineState) (origins : List Origin) → AreOrigins runs kept origins → (n i : ℕ) → i < n → i < length kept →
+      (schedule : List ℕ) × LeadsThrough runs kept 0 schedule i
   led_below kept origins are zero i less inside = absurd (omega arith)
   led_below kept origins are (suc n) zero less inside = ([], leads_nowhere kept 0)
   led_below kept origins are (suc n) (suc i) less inside =
@@ -156,7 +180,8 @@ module _ (runs : World → List ℕ → World → Type 0) (join : StayAndJoin ru
       let far = led_below kept origins are n o.«from» (omega arith) (omega arith) in
       (far.0 ++ (o.cpu ∷ replicate o.ahead o.cpu), leads_both kept 0 o.«from» (suc i) far.0 (o.cpu ∷ replicate o.ahead o.cpu) far.1 is.leads)
 
-  pub are_led : (kept : List MachineState) (origins : List Origin) → AreOrigins runs kept origins → ((i : ℕ) → i < length kept → (schedule : List ℕ) × LeadsThrough runs kept 0 schedule i)
+  pub are_led : (kept : List MachineState) (origins : List Origin) → AreOrigins runs kept origins →
+      ((i : ℕ) → i < length kept → (schedule : List ℕ) × LeadsThrough runs kept 0 schedule i)
   are_led kept origins are i inside = led_below kept origins are (suc i) i (omega arith) inside
 
   -- ---- n machines are reached
@@ -169,7 +194,8 @@ module _ (runs : World → List ℕ → World → Type 0) (join : StayAndJoin ru
   world_at_end [] z = refl
   world_at_end (x ∷ xs) z = world_at_end xs z
 
-  last_reached : (kept : List MachineState) (w : World) (n : ℕ) (worlds : List World) (schedule : List ℕ) (y : World) → length worlds ≡ n → runs w schedule y → IsShownAt kept n y → (i : ℕ) (z : World) → n ≤ i → slice_get (worlds ++ y ∷ []) i ≡ Some z
+  last_reached : (kept : List MachineState) (w : World) (n : ℕ) (worlds : List World) (schedule : List ℕ) (y : World) → length worlds ≡ n →
+      runs w schedule y → IsShownAt kept n y → (i : ℕ) (z : World) → n ≤ i → slice_get (worlds ++ y ∷ []) i ≡ Some z
       → IsShownAt kept i z × ((cs : List ℕ) × runs w cs z)
   last_reached kept w n worlds schedule y count led shown i z past at =
       let both = length-append worlds (y ∷ []) in
@@ -180,7 +206,8 @@ module _ (runs : World → List ℕ → World → Type 0) (join : StayAndJoin ru
       let one : y ≡ z = cc in
       (subst (λ (k : ℕ). IsShownAt kept k z) last (subst (IsShownAt kept n) one shown), (schedule, subst (runs w schedule) one led))
 
-  one_more_reached : (kept : List MachineState) (w : World) (n : ℕ) (far : Reached kept w n) (schedule : List ℕ) (y : World) → runs w schedule y → IsShownAt kept n y → Reached kept w (suc n)
+  one_more_reached : (kept : List MachineState) (w : World) (n : ℕ) (far : Reached kept w n) (schedule : List ℕ) (y : World) → runs w
+      schedule y → IsShownAt kept n y → Reached kept w (suc n)
   one_more_reached kept w n far schedule y led shown = record {
     worlds = far.worlds ++ y ∷ [];
     count = (let count = far.count in let both = length-append far.worlds (y ∷ []) in omega arith);
@@ -190,14 +217,16 @@ module _ (runs : World → List ℕ → World → Type 0) (join : StayAndJoin ru
     ];
   }
 
-  pub reached_below : (kept : List MachineState) (w : World) → IsShownAt kept 0 w → ((i : ℕ) → i < length kept → (schedule : List ℕ) × LeadsThrough runs kept 0 schedule i) → (n : ℕ) → n ≤ length kept → Reached kept w n
+  pub reached_below : (kept : List MachineState) (w : World) → IsShownAt kept 0 w →
+      ((i : ℕ) → i < length kept → (schedule : List ℕ) × LeadsThrough runs kept 0 schedule i) → (n : ℕ) → n ≤ length kept → Reached kept w n
   reached_below kept w first led zero within = record { worlds = []; count = refl; each = λ i z at. cc }
   reached_below kept w first led (suc n) within =
       let way = led n (omega arith) in
       let r = way.1 w first in
       one_more_reached kept w n (reached_below kept w first led n (omega arith)) way.0 r.0 r.1 r.2
 
-pub are_reached : (kept : List MachineState) (w : World) → IsShownAt kept 0 w → AreLed kept → ((i j : ℕ) (z : World) → IsShownAt kept i z → IsShownAt kept j z → i ≡ j) → AreReached w (length kept)
+pub are_reached : (kept : List MachineState) (w : World) → IsShownAt kept 0 w → AreLed kept →
+    ((i j : ℕ) (z : World) → IsShownAt kept i z → IsShownAt kept j z → i ≡ j) → AreReached w (length kept)
 are_reached kept w first led apart =
     let all = reached_below RunsSchedule schedules_join kept w first led (length kept) (omega arith) in
     record {
@@ -208,10 +237,13 @@ are_reached kept w first led apart =
     }
 
 -- the same where jobs are given steps on the way, and each in hand has its whole budget left
-refilled_there : (kept : List MachineState) (i : ℕ) (z : World) → ((j : ℕ) (m : MachineState) → slice_get kept j ≡ Some m → AreRefilled m.jobs) → IsShownAt kept i z → AreRefilled z.jobs
+refilled_there : (kept : List MachineState) (i : ℕ) (z : World) →
+    ((j : ℕ) (m : MachineState) → slice_get kept j ≡ Some m → AreRefilled m.jobs) → IsShownAt kept i z → AreRefilled z.jobs
 refilled_there kept i z whole (m, at, shows) = subst AreRefilled (sym shows.jobs) (whole i m at)
 
-pub are_reached_freely : (kept : List MachineState) (w : World) → IsShownAt kept 0 w → AreLedFreely kept → ((i : ℕ) (m : MachineState) → slice_get kept i ≡ Some m → AreRefilled m.jobs) → ((i j : ℕ) (z : World) → IsShownAt kept i z → IsShownAt kept j z → i ≡ j)
+pub are_reached_freely : (kept : List MachineState) (w : World) → IsShownAt kept 0 w → AreLedFreely kept →
+    ((i : ℕ) (m : MachineState) → slice_get kept i ≡ Some m → AreRefilled m.jobs) →
+    ((i j : ℕ) (z : World) → IsShownAt kept i z → IsShownAt kept j z → i ≡ j)
     → AreReachedFreely w (length kept)
 are_reached_freely kept w first led whole apart =
     let all = reached_below RunsFreely free_runs_join kept w first led (length kept) (omega arith) in

@@ -23,18 +23,27 @@ abbrev pub IsTracked : List MachineState → ℕ → List Origin → List Arriva
 IsTracked kept cpus origins arrivals =
     AreOrigins RunsFreely kept origins × AreEdges kept (edges_of cpus arrivals) × HaveWholeBudgets kept
 
-pub tracked_still : (old new : List MachineState) (cpus now : ℕ) (origins : List Origin) (arrivals : List Arrival) → new ≡ old → now ≡ cpus → IsTracked old cpus origins arrivals → IsTracked new now origins arrivals
+pub tracked_still : (old new : List MachineState) (cpus now : ℕ) (origins : List Origin) (arrivals : List Arrival) → new ≡ old → now ≡ cpus
+    → IsTracked old cpus origins arrivals → IsTracked new now origins arrivals
 tracked_still old new cpus now origins arrivals same width is =
     subst (λ (n : ℕ). IsTracked new n origins arrivals) (sym width) (subst (λ (kept : List MachineState). IsTracked kept cpus origins arrivals) (sym same) is)
 
-pub turn_kept : (old new : List MachineState) (restored after refilled : MachineState) (origins pushed cut : List Origin) (arrivals : List Arrival) (cpus now : ℕ) (from place number made cpu n : ℕ) → slice_get old place ≡ Some restored → from ≡ place → number ≡ made → place < length old → now ≡ cpus
-    → ((w : World) → Shows restored w → (z : World) × RunsSchedule w (cpu ∷ replicate made cpu) z × Shows after z) → TurnsAhead restored cpu made after → IsRefilled after cpu refilled → AddsOne old refilled new → pushed ≡ origins ++ record { from = from; ahead = number; cpu = cpu } ∷ [] → n ≡ length new → cut ≡ take n pushed
+pub turn_kept : (old new : List MachineState) (restored after refilled : MachineState) (origins pushed cut : List Origin)
+    (arrivals : List Arrival) (cpus now : ℕ) (from place number made cpu n : ℕ) → slice_get old place ≡ Some restored → from ≡ place →
+    number ≡ made → place < length old → now ≡ cpus
+    → ((w : World) → Shows restored w → (z : World) × RunsSchedule w (cpu ∷ replicate made cpu) z × Shows after z) → TurnsAhead restored cpu
+    made after → IsRefilled after cpu refilled → AddsOne old refilled new → pushed ≡ origins ++ record
+    { from = from; ahead = number; cpu = cpu } ∷ [] → n ≡ length new → cut ≡ take n pushed
     → IsTracked old cpus origins arrivals → IsTracked new now cut arrivals
-turn_kept old new restored after refilled origins pushed cut arrivals cpus now from place number made cpu n at here turns less width runs ahead refills adds push count is are =
+turn_kept old new restored after refilled origins pushed cut arrivals cpus now from place number made cpu n at here turns less width runs
+    ahead refills adds push count is are =
     let o : Origin = record { from = from; ahead = number; cpu = cpu } in
-    let led = led_there RunsFreely free_runs_join old restored refilled place o made at here turns (led_freely restored after refilled cpu (cpu ∷ replicate made cpu) runs refills) in
+    let led = led_there RunsFreely free_runs_join old restored refilled place o made at here turns
+    (led_freely restored after refilled cpu (cpu ∷ replicate made cpu) runs refills) in
     let way = are_led RunsFreely free_runs_join old origins are.0 place less in (
       cut_origins RunsFreely free_runs_join old new refilled origins pushed cut o n are.0 (omega arith) led adds push count is,
-      subst (λ (k : ℕ). AreEdges new (edges_of k arrivals)) (sym width) (edges_still old new (edges_of cpus arrivals) (adds_extends old new refilled adds) are.1),
-      more_whole old new restored after refilled place cpu made (λ w first. (let r = way.1 w first in (r.0, r.2))) at (λ w shows. (let r = runs w shows in (r.0, r.2))) ahead refills adds are.2,
+      subst (λ (k : ℕ). AreEdges new (edges_of k arrivals)) (sym width)
+          (edges_still old new (edges_of cpus arrivals) (adds_extends old new refilled adds) are.1),
+      more_whole old new restored after refilled place cpu made (λ w first. (let r = way.1 w first in (r.0, r.2))) at
+          (λ w shows. (let r = runs w shows in (r.0, r.2))) ahead refills adds are.2,
     )

@@ -48,7 +48,8 @@ none_richer xs ys rich none j task pc at out =
 
 pub freely_length : (cs : List ℕ) (w z : World) → RunsFreely w cs z → length z.jobs ≡ length w.jobs
 freely_length [] w z (jobs, rich, same) = ap (λ (v : World). length v.jobs) same ∙ rich_length w.jobs jobs rich
-freely_length (c ∷ cs) w z (jobs, answer, m, rich, turns, runs) = freely_length cs m z runs ∙ (turn_length (with_jobs w jobs) c answer m turns ∙ rich_length w.jobs jobs rich)
+freely_length (c ∷ cs) w z (jobs, answer, m, rich, turns, runs) = freely_length cs m z runs ∙
+    (turn_length (with_jobs w jobs) c answer m turns ∙ rich_length w.jobs jobs rich)
 
 -- ---- the first machine before its first turn
 one_machine : (kept : List MachineState) (i : ℕ) (m n : MachineState) → slice_get kept i ≡ Some m → slice_get kept i ≡ Some n → m ≡ n
@@ -72,7 +73,8 @@ pub record Agrees (kept : List MachineState) (by : List (ℕ × ℕ)) (place : �
   pub rich : AsRich z.jobs jobs
   pub shown : IsShownAt kept place (with_jobs z jobs)
 
-pub agrees : FreeRunsAgree → (kept : List MachineState) (by : List (ℕ × ℕ)) (place : ℕ) (m : MachineState) → LeadsFreely kept 0 (unrolled by) place → IsReplayed kept (unrolled by) m → NoneRanOut m.jobs → (w : World) → IsFresh w → IsFirst kept w → Agrees kept by place w
+pub agrees : FreeRunsAgree → (kept : List MachineState) (by : List (ℕ × ℕ)) (place : ℕ) (m : MachineState) → LeadsFreely kept 0
+    (unrolled by) place → IsReplayed kept (unrolled by) m → NoneRanOut m.jobs → (w : World) → IsFresh w → IsFirst kept w → Agrees kept by place w
 agrees agree kept by place m leads tried none w fresh first =
     let r = tried w first in
     let z = r.0 in
@@ -90,7 +92,8 @@ agrees agree kept by place m leads tried none w fresh first =
     }
 
 -- no job of the kept machine has ended out of budget then
-pub none_out_there : FreeRunsAgree → (kept : List MachineState) (by : List (ℕ × ℕ)) (place : ℕ) (m : MachineState) → StartsFresh kept → LeadsFreely kept 0 (unrolled by) place → IsReplayed kept (unrolled by) m → NoneRanOut m.jobs → NoneRanOutAt kept place
+pub none_out_there : FreeRunsAgree → (kept : List MachineState) (by : List (ℕ × ℕ)) (place : ℕ) (m : MachineState) → StartsFresh kept →
+    LeadsFreely kept 0 (unrolled by) place → IsReplayed kept (unrolled by) m → NoneRanOut m.jobs → NoneRanOutAt kept place
 none_out_there agree kept by place m (w, fresh, first) leads tried none other at =
     let a = agrees agree kept by place m leads tried none w fresh first in
     let one : a.shown.0 ≡ other = one_machine kept place a.shown.0 other a.shown.1 at in
@@ -98,7 +101,9 @@ none_out_there agree kept by place m (w, fresh, first) leads tried none other at
     subst NoneRanOut jobs (none_richer a.z.jobs a.jobs a.rich a.none)
 
 -- and it is the very machine, where that has no work
-pub leads_there : FreeRunsAgree → (kept : List MachineState) (by : List (ℕ × ℕ)) (place : ℕ) (m : MachineState) → StartsFresh kept → HaveEndedAt kept place → LeadsFreely kept 0 (unrolled by) place → IsReplayed kept (unrolled by) m → NoneRanOut m.jobs → LeadsInBudget kept by place
+pub leads_there : FreeRunsAgree → (kept : List MachineState) (by : List (ℕ × ℕ)) (place : ℕ) (m : MachineState) → StartsFresh kept →
+    HaveEndedAt kept place → LeadsFreely kept 0 (unrolled by) place → IsReplayed kept (unrolled by) m → NoneRanOut m.jobs → LeadsInBudget
+    kept by place
 leads_there agree kept by place m starts ended leads tried none w first =
     let a = agrees agree kept by place m leads tried none w (fresh_first kept starts w first) first in
     let all : HaveEnded a.jobs = subst HaveEnded (sym a.shown.2.jobs) (ended a.shown.0 a.shown.1) in

@@ -34,6 +34,7 @@ copies_some n cpus g many some = go g.per_cpu many
     go false e = omega arith
 
 -- its last value
-pub last_low : (cpus a k i n at : ℕ) (g : ArrayShape) → cpus ≤ 16 → IsArrayShape cpus g → a < 16 → n ≡ copies cpus g → k < n → i < g.max → at ≡ (fixed_span a g k i).at → at < array_start 16
+pub last_low : (cpus a k i n at : ℕ) (g : ArrayShape) → cpus ≤ 16 → IsArrayShape cpus g → a < 16 → n ≡ copies cpus g → k < n → i < g.max →
+    at ≡ (fixed_span a g k i).at → at < array_start 16
 last_low cpus a k i n at g few sized low many copy index is =
     subst (λ (x : ℕ). x < array_start 16) (sym is) (fixed_low cpus a k i g few sized low (subst (λ (x : ℕ). k < x) many copy) index)

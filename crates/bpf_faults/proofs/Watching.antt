@@ -1,5 +1,6 @@
 -- What rounds that are watched keep true.
-use Rattle.std.proofs.Common.{◌≡◌, ◌≢◌, ℕ, zero, suc, ◌+◌, ◌<◌, Bool, true, false, ◌||◌, List, [], ◌∷◌, ◌++◌, length, Option, Some, None, inl, inr, refl, sym, ap, subst, ◌∙◌, arith, append_assoc, append-nil}
+use Rattle.std.proofs.Common.{◌≡◌, ◌≢◌, ℕ, zero, suc, ◌+◌, ◌<◌, Bool, true, false, ◌||◌, List, [], ◌∷◌, ◌++◌, length, Option, Some, None}
+use Rattle.std.proofs.Common.{inl, inr, refl, sym, ap, subst, ◌∙◌, arith, append_assoc, append-nil}
 use Rattle.std.specs.Prelude.{◌⊎◌, slice_get, map, nat_lt, All, option_map, option_and_then}
 use Rattle.std.specs.List.{Contains}
 use Rattle.std.proofs.lemmas.Bool.{cases_lt, cases_order}
@@ -34,7 +35,8 @@ use Rattle.bpf_faults.specs.declared.evidence.Evidence.{Evidence}
 use Rattle.bpf_faults.specs.declared.evidence.Seen.{Seen}
 use Rattle.bpf_faults.specs.declared.evidence.Sizes.{Sizes}
 use Rattle.bpf_faults.specs.Evidence.{AreSizes, HasEvidence, HaveEvidence, IsBefore, IsEvidenceIn, IsEvidenceOf, IsSeen, LeavesNoneOut, sizes_of}
-use Rattle.bpf_faults.specs.Private.{AddsEvidence, AreWatched, HasEvidenceOf, HasNoWork, HaveOneInHand, IsToRun, IsEvidenceOfTurn, IsEvidenceOn, SeesNext, Watches, works}
+use Rattle.bpf_faults.specs.Private.{AddsEvidence, AreWatched, HasEvidenceOf, HasNoWork, HaveOneInHand, IsToRun, IsEvidenceOfTurn}
+use Rattle.bpf_faults.specs.Private.{IsEvidenceOn, SeesNext, Watches, works}
 
 -- ---- how many bytes jobs are given
 pub all_sizes : (jobs : List Job) (sizes : List Sizes) → sizes ≡ map (λ (job : Job). sizes_of job.input) jobs → AreSizes (map waiting jobs) sizes
@@ -55,12 +57,14 @@ all_sizes jobs sizes e j task input listed waits = at_job (slice_get jobs j) ref
 
 -- ---- what a turn does to the jobs
 -- a job after the j-th one's stage has changed: it is that one, or another one, as before
-staged : (jobs : List Task) (j k : ℕ) (task other : Task) (stage : Stage) → slice_get jobs j ≡ Some task → slice_get (with_stage jobs j task stage) k ≡ Some other
+staged : (jobs : List Task) (j k : ℕ) (task other : Task) (stage : Stage) → slice_get jobs j ≡ Some task → slice_get
+    (with_stage jobs j task stage) k ≡ Some other
     → ((k ≡ j) × (other ≡ record task { stage = stage })) ⊎ ((k ≢ j) × (slice_get jobs k ≡ Some other))
 staged jobs j k task other stage listed at = elim (equal_or_not k j) [
   | inl e ↦
       let P : ℕ → Type 0 = λ k. slice_get (with_stage jobs j task stage) k ≡ Some other in
-      let both : Some (record task { stage = stage }) ≡ Some other = sym (slice_get-set_known jobs j (record task { stage = stage }) task listed) ∙ subst P e at in
+      let both : Some (record task { stage = stage }) ≡ Some other = sym
+      (slice_get-set_known jobs j (record task { stage = stage }) task listed) ∙ subst P e at in
       let same : record task { stage = stage } ≡ other = cc in
       inl (e, sym same)
   | inr ne ↦ inr (ne, sym (slice_get-set_other jobs j k (record task { stage = stage }) ne) ∙ at)
@@ -98,13 +102,32 @@ record Moves (jobs : List Task) (c : ℕ) (answer : Turn) (new : List Task) : Ty
   answers : IsAnswered job stage answer
   is : new ≡ with_stage jobs job task stage
 
-goes : (w : World) (c j : ℕ) (task : Task) (old : Cpu) (left : ℕ) (answer : Turn) (z : World) → slice_get w.jobs j ≡ Some task → task.cpu ≡ c → IsToRun w.jobs c j
+goes : (w : World) (c j : ℕ) (task : Task) (old : Cpu) (left : ℕ) (answer : Turn) (z : World) → slice_get w.jobs j ≡ Some task → task.cpu ≡
+    c → IsToRun w.jobs c j
     → GoesOn w c j task old left answer z → Moves w.jobs c answer z.jobs
 goes w c j task old left answer z listed of due g = settle g.1 g.7
   where
     settle : (end : Option Outcome) → Settles (record w { store = g.2 }) c j task g.3 g.4 end answer z → Moves w.jobs c answer z.jobs
-    settle None s = record { job = j; task = task; stage = InHand g.3 g.4; listed = listed; of = of; due = due; answers = s.0; is = ap (λ (x : World). x.jobs) s.1 }
-    settle (Some end) s = record { job = j; task = task; stage = Ended end; listed = listed; of = of; due = due; answers = s.2; is = lists_jobs (with_end w j task end s.0) c z s.3 }
+    settle None s = record {
+      job = j;
+      task = task;
+      stage = InHand g.3 g.4;
+      listed = listed;
+      of = of;
+      due = due;
+      answers = s.0;
+      is = ap (λ (x : World). x.jobs) s.1;
+    }
+    settle (Some end) s = record {
+      job = j;
+      task = task;
+      stage = Ended end;
+      listed = listed;
+      of = of;
+      due = due;
+      answers = s.2;
+      is = lists_jobs (with_end w j task end s.0) c z s.3;
+    }
 
 abbrev Turned : World → ℕ → Turn → World → Type 0
 Turned w c answer z = Moves w.jobs c answer z.jobs ⊎ (IsFree w.jobs c × NoneWaits w.jobs c × (answer ≡ turn.Idle) × (z ≡ w))
@@ -137,7 +160,8 @@ not_due jobs c k free none (inl a) = free k a.0 a.1 a.2 a.3
 not_due jobs c k free none (inr a) = none k a.1.0 a.1.1 a.1.2
 
 -- so a turn ends the job that was seen before it
-seen_job : (w : World) (c : ℕ) (answer : Turn) (z : World) (seen : Seen) (job : Option ℕ) (j : ℕ) (end : Outcome) → HaveOneInHand w.jobs → TakesTurn w c answer z → SeesNext w.jobs c seen job
+seen_job : (w : World) (c : ℕ) (answer : Turn) (z : World) (seen : Seen) (job : Option ℕ) (j : ℕ) (end : Outcome) → HaveOneInHand w.jobs →
+    TakesTurn w c answer z → SeesNext w.jobs c seen job
     → answer ≡ turn.Ended j end → job ≡ Some j
 seen_job w c answer z seen job j end one takes sees is = at_turn (turned w c answer z takes)
   where
@@ -151,7 +175,8 @@ seen_job w c answer z seen job j end one takes sees is = at_turn (turned w c ans
 
 -- ---- what turns leave true of the jobs
 -- a job in another stage that isn't waiting: the others wait as before
-still : (jobs : List Task) (j : ℕ) (task : Task) (stage : Stage) (sizes : List Sizes) → slice_get jobs j ≡ Some task → ((input : Input) → stage ≡ Waiting input → ⊥)
+still : (jobs : List Task) (j : ℕ) (task : Task) (stage : Stage) (sizes : List Sizes) → slice_get jobs j ≡ Some task →
+    ((input : Input) → stage ≡ Waiting input → ⊥)
     → AreSizes jobs sizes → AreSizes (with_stage jobs j task stage) sizes
 still jobs j task stage sizes listed works are k other input at waits = elim (staged jobs j k task other stage listed at) [
   | inl e ↦ absurd (works input (ap (λ (t : Task). t.stage) (sym e.1) ∙ waits))
@@ -163,7 +188,8 @@ one_still jobs new c answer m one d j k task other state now left rest a b =
     cases (staged jobs m.job j m.task task m.stage m.listed (subst (λ (ts : List Task). slice_get ts j ≡ Some task) m.is a.listed))
     (staged jobs m.job k m.task other m.stage m.listed (subst (λ (ts : List Task). slice_get ts k ≡ Some other) m.is b.listed))
   where
-    alone : (own t : Task) (i : ℕ) (at : Cpu) (n : ℕ) → own ≡ record m.task { stage = m.stage } → own.cpu ≡ d → i ≢ m.job → slice_get jobs i ≡ Some t → t.cpu ≡ d → t.stage ≡ InHand at n → ⊥
+    alone : (own t : Task) (i : ℕ) (at : Cpu) (n : ℕ) → own ≡ record m.task { stage = m.stage } → own.cpu ≡ d → i ≢ m.job → slice_get jobs i
+        ≡ Some t → t.cpu ≡ d → t.stage ≡ InHand at n → ⊥
     alone own t i at n e of ne listed too stage =
         let here : d ≡ c = sym of ∙ (ap (λ (t : Task). t.cpu) e ∙ m.of) in
         ne (sym (one_due jobs c m.job i one m.due (inl (t, at, n, record { listed = listed; of = too ∙ here; at = stage }))))
@@ -173,20 +199,24 @@ one_still jobs new c answer m one d j k task other state now left rest a b =
     cases (inl e) (inl f) = e.0 ∙ sym f.0
     cases (inl e) (inr f) = absurd (alone task other k now rest e.1 a.of f.0 f.1 b.of b.at)
     cases (inr e) (inl f) = absurd (alone other task j state left f.1 b.of e.0 e.1 a.of a.at)
-    cases (inr e) (inr f) = one d j k task other state now left rest (record { listed = e.1; of = a.of; at = a.at }) (record { listed = f.1; of = b.of; at = b.at })
+    cases (inr e) (inr f) = one d j k task other state now left rest (record { listed = e.1; of = a.of; at = a.at })
+        (record { listed = f.1; of = b.of; at = b.at })
 
 have_still : (jobs new : List Task) (c : ℕ) (answer : Turn) (before evidence : List Evidence) → Moves jobs c answer new
-    → ((j : ℕ) (fault : Fault) (pc : ℕ) → HasEvidence before j fault pc → HasEvidence evidence j fault pc) → HasEvidenceOf answer evidence → HaveEvidence jobs before → HaveEvidence new evidence
+    → ((j : ℕ) (fault : Fault) (pc : ℕ) → HasEvidence before j fault pc → HasEvidence evidence j fault pc) → HasEvidenceOf answer evidence →
+    HaveEvidence jobs before → HaveEvidence new evidence
 have_still jobs new c answer before evidence m grow has have k fault pc ends = elim (equal_or_not k m.job) [
   | inl e ↦
       let moved : Task = record m.task { stage = m.stage } in
       let P : ℕ → Type 0 = λ i. slice_get (with_stage jobs m.job m.task m.stage) i ≡ Some moved in
-      let here : slice_get new k ≡ Some moved = ap (λ (ts : List Task). slice_get ts k) m.is ∙ subst P (sym e) (slice_get-set_known jobs m.job moved m.task m.listed) in
+      let here : slice_get new k ≡ Some moved = ap (λ (ts : List Task). slice_get ts k) m.is ∙ subst P (sym e)
+      (slice_get-set_known jobs m.job moved m.task m.listed) in
       let end : ended m.stage ≡ Some (outcome.Fault fault pc) = sym (ap (λ (r : Option Task). option_and_then (λ task. ended task.stage) r) here) ∙ ends in
       let is = answered_end m.job m.stage answer (outcome.Fault fault pc) m.answers end in
       subst (λ (i : ℕ). HasEvidence evidence i fault pc) (sym e) (has m.job fault pc is)
   | inr ne ↦
-      let same : slice_get new k ≡ slice_get jobs k = ap (λ (ts : List Task). slice_get ts k) m.is ∙ slice_get-set_other jobs m.job k (record m.task { stage = m.stage }) ne in
+      let same : slice_get new k ≡ slice_get jobs k = ap (λ (ts : List Task). slice_get ts k) m.is ∙ slice_get-set_other jobs m.job k
+      (record m.task { stage = m.stage }) ne in
       grow k fault pc (have k fault pc (sym (ap (λ (r : Option Task). option_and_then (λ task. ended task.stage) r) same) ∙ ends))
 ]
 
@@ -284,7 +314,8 @@ idle_rounds (suc n) w z idle runs =
 pub adds_none : (P : Evidence → Type 0) (old : List Evidence) → AddsEvidence P old old
 adds_none P old = ([], sym (append-nil old), All-nil P)
 
-pub adds_more : (P Q : Evidence → Type 0) (old mid new : List Evidence) → ((s : Evidence) → Q s → P s) → AddsEvidence P old mid → AddsEvidence Q mid new → AddsEvidence P old new
+pub adds_more : (P Q : Evidence → Type 0) (old mid new : List Evidence) → ((s : Evidence) → Q s → P s) → AddsEvidence P old mid →
+    AddsEvidence Q mid new → AddsEvidence P old new
 adds_more P Q old mid new fits a b = (
   a.0 ++ b.0,
   b.1 ∙ (ap (λ (l : List Evidence). l ++ b.0) a.1 ∙ append_assoc old a.0 b.0),
@@ -294,16 +325,19 @@ adds_more P Q old mid new fits a b = (
 pub adds_one : (P : Evidence → Type 0) (old new : List Evidence) (evidence : Evidence) → new ≡ old ++ evidence ∷ [] → P evidence → AddsEvidence P old new
 adds_one P old new evidence e p = (evidence ∷ [], e, All-cons P evidence [] p (All-nil P))
 
-pub has_one : (old new : List Evidence) (one : Evidence) (j : ℕ) (fault : Fault) (pc : ℕ) → new ≡ old ++ one ∷ [] → one.job ≡ j → one.fault ≡ fault → one.pc ≡ pc → HasEvidence new j fault pc
+pub has_one : (old new : List Evidence) (one : Evidence) (j : ℕ) (fault : Fault) (pc : ℕ) → new ≡ old ++ one ∷ [] → one.job ≡ j → one.fault
+    ≡ fault → one.pc ≡ pc → HasEvidence new j fault pc
 has_one old new one j fault pc e job is at = (one, subst (λ (l : List Evidence). Contains l one) (sym e) (Contains-push old one), job, is, at)
 
-pub grows : (P : Evidence → Type 0) (old new : List Evidence) → AddsEvidence P old new → (j : ℕ) (fault : Fault) (pc : ℕ) → HasEvidence old j fault pc → HasEvidence new j fault pc
+pub grows : (P : Evidence → Type 0) (old new : List Evidence) → AddsEvidence P old new → (j : ℕ) (fault : Fault) (pc : ℕ) → HasEvidence old
+    j fault pc → HasEvidence new j fault pc
 grows P old new adds j fault pc has =
     (has.0, subst (λ (l : List Evidence). Contains l has.0) (sym adds.1) (Contains-append_left old adds.0 has.0 has.1), has.2, has.3, has.4)
 
 -- ---- a turn
 -- the state before the step of a job that waits
-pub sees_start : (jobs : List Task) (sizes : List Sizes) (cpu j : ℕ) (n : Sizes) (seen : Seen) (r : Standing) → AreSizes jobs sizes → IsStanding jobs cpu r → r ≡ standing.Waiting j
+pub sees_start : (jobs : List Task) (sizes : List Sizes) (cpu j : ℕ) (n : Sizes) (seen : Seen) (r : Standing) → AreSizes jobs sizes →
+    IsStanding jobs cpu r → r ≡ standing.Waiting j
     → slice_get sizes j ≡ Some n → ((input : Input) → sizes_of input ≡ n → IsSeen (start cpu input) seen) → SeesNext jobs cpu seen (Some j)
 sees_start jobs sizes cpu j n seen r are stands is known sees =
     let next : IsNext jobs cpu j = subst (IsStanding jobs cpu) is stands in
@@ -315,19 +349,23 @@ sees_start jobs sizes cpu j n seen r are stands is known sees =
     (start cpu input, inr (task, input, at, refl), sees input same, inr next)
 
 -- how many bytes it is given is known
-pub size_known : (jobs : List Task) (sizes : List Sizes) (cpu j : ℕ) (r : Standing) → AreSizes jobs sizes → IsStanding jobs cpu r → r ≡ standing.Waiting j → slice_get sizes j ≡ None → ⊥
+pub size_known : (jobs : List Task) (sizes : List Sizes) (cpu j : ℕ) (r : Standing) → AreSizes jobs sizes → IsStanding jobs cpu r → r ≡
+    standing.Waiting j → slice_get sizes j ≡ None → ⊥
 size_known jobs sizes cpu j r are stands is none =
     let next : IsNext jobs cpu j = subst (IsStanding jobs cpu) is stands in
     let no : Some (sizes_of next.1.1) ≡ None = sym (are j next.1.0 next.1.1 next.1.2.listed next.1.2.at) ∙ none in
     cc
 
-seen_before : (jobs : List Task) (cpu : ℕ) (seen : Seen) (job : Option ℕ) (evidence : Evidence) → SeesNext jobs cpu seen job → job ≡ Some evidence.job → evidence.cpu ≡ cpu
-    → ((state : Cpu) → IsSeen state seen → IsSeen state evidence.seen) → (state : Cpu) × IsBefore jobs evidence.cpu evidence.job state × IsSeen state evidence.seen
+seen_before : (jobs : List Task) (cpu : ℕ) (seen : Seen) (job : Option ℕ) (evidence : Evidence) → SeesNext jobs cpu seen job → job ≡ Some
+    evidence.job → evidence.cpu ≡ cpu
+    → ((state : Cpu) → IsSeen state seen → IsSeen state evidence.seen) → (state : Cpu) × IsBefore jobs evidence.cpu evidence.job state ×
+    IsSeen state evidence.seen
 seen_before jobs cpu seen job evidence sees is of keeps =
     let s : SeesNext jobs cpu seen (Some evidence.job) = subst (SeesNext jobs cpu seen) is sees in
     (s.0, subst (λ (c : ℕ). IsBefore jobs c evidence.job s.0) (sym of) s.1, keeps s.0 s.2)
 
-pub watches : (old new : MachineState) (cpu : ℕ) (seen : Seen) (job : Option ℕ) (answer : Turn) (before evidence : List Evidence) → HaveOneInHand old.jobs → SeesNext old.jobs cpu seen job
+pub watches : (old new : MachineState) (cpu : ℕ) (seen : Seen) (job : Option ℕ) (answer : Turn) (before evidence : List Evidence) →
+    HaveOneInHand old.jobs → SeesNext old.jobs cpu seen job
     → ((w : World) → Shows old w → (z : World) × TakesTurn w cpu answer z × Shows new z) → (answer ≡ turn.Idle → new ≡ old)
     → AddsEvidence (IsEvidenceOfTurn cpu job answer seen) before evidence
     → ((j : ℕ) (fault : Fault) (pc : ℕ) → job ≡ Some j → answer ≡ turn.Ended j (outcome.Fault fault pc) → HasEvidence evidence j fault pc)
@@ -340,21 +378,25 @@ watches old new cpu seen job answer before evidence one sees turns idle adds has
     is_idle (turn.Ended j end) e = cc
 
     at_world : (w : World) → Shows old w
-        → ((told : Turn) × (z : World) × TakesTurn w cpu told z × Shows new z × (works answer ≡ works told) × HasEvidenceOf told evidence) × AddsEvidence (IsEvidenceOn w cpu) before evidence
+        → ((told : Turn) × (z : World) × TakesTurn w cpu told z × Shows new z × (works answer ≡ works told) × HasEvidenceOf told evidence) ×
+        AddsEvidence (IsEvidenceOn w cpu) before evidence
     at_world w shows =
         let t = turns w shows in
         let own : HaveOneInHand w.jobs = subst HaveOneInHand (sym shows.jobs) one in
         let sight : SeesNext w.jobs cpu seen job = subst (λ (jobs : List Task). SeesNext jobs cpu seen job) (sym shows.jobs) sees in
         let here : (s : Evidence) → IsEvidenceOfTurn cpu job answer seen s → IsEvidenceOn w cpu s = λ s of.
         let b = seen_before w.jobs cpu seen job s sight of.0 of.1 of.3 in
-        let takes = subst (λ (c : ℕ). TakesTurn w c (turn.Ended s.job (outcome.Fault s.fault s.pc)) t.0) (sym of.1) (subst (λ (a : Turn). TakesTurn w cpu a t.0) of.2 t.1) in
+        let takes = subst (λ (c : ℕ). TakesTurn w c (turn.Ended s.job (outcome.Fault s.fault s.pc)) t.0) (sym of.1)
+        (subst (λ (a : Turn). TakesTurn w cpu a t.0) of.2 t.1) in
         (of.1, ((t.0, takes), b.0, b.1, b.2))
         in
-        let ends : HasEvidenceOf answer evidence = λ j fault pc is. has j fault pc (seen_job w cpu answer t.0 seen job j (outcome.Fault fault pc) own t.1 sight is) is in
+        let ends : HasEvidenceOf answer evidence = λ j fault pc is. has j fault pc
+        (seen_job w cpu answer t.0 seen job j (outcome.Fault fault pc) own t.1 sight is) is in
         ((answer, t.0, t.1, t.2, refl, ends), (adds.0, adds.1, All-weaker (IsEvidenceOfTurn cpu job answer seen) (IsEvidenceOn w cpu) here adds.0 adds.2))
 
 -- ---- a round, as far as the CPUs below a number
-pub record IsFar (old : MachineState) (sizes : List Sizes) (before : List Evidence) (c : ℕ) (worked : Bool) (new : MachineState) (evidence : List Evidence) : Type 0 where
+pub record IsFar (old : MachineState) (sizes : List Sizes) (before : List Evidence) (c : ℕ) (worked : Bool) (new : MachineState)
+    (evidence : List Evidence) : Type 0 where
   pub runs : (w : World) → Shows old w → (z : World) × RunsSchedule w (below c) z × Shows new z × AddsEvidence (IsEvidenceIn w) before evidence
   pub watched : AreWatched new.jobs sizes evidence
   pub falls : worked ≡ true → turns_left new.jobs < turns_left old.jobs
@@ -370,21 +412,24 @@ no_turn old sizes before are = record {
 
 pub next_turn : (old mid new : MachineState) (sizes : List Sizes) (before some more : List Evidence) (c : ℕ) (worked busy : Bool) → ((w : World) × Shows old w)
     → IsFar old sizes before c worked mid some → Watches mid c some busy new more → IsFar old sizes before (c + 1) (worked || busy) new more
-next_turn old mid new sizes before some more c worked busy start far watches = record { runs = runs; watched = watched; falls = falls worked busy refl refl; idle = idle worked busy refl refl }
+next_turn old mid new sizes before some more c worked busy start far watches = record
+    { runs = runs; watched = watched; falls = falls worked busy refl refl; idle = idle worked busy refl refl }
   where
     watched : AreWatched new.jobs sizes more
     watched =
         let r = far.runs start.0 start.1 in
         let t = watches.1 r.0 r.2 in
         subst (λ (ts : List Task). AreWatched ts sizes more) t.0.3.jobs
-        (watched_stay r.0 c t.0.0 t.0.1 sizes some more t.0.2 (grows (IsEvidenceOn r.0 c) some more t.1) t.0.5 (subst (λ (ts : List Task). AreWatched ts sizes some) (sym r.2.jobs) far.watched))
+        (watched_stay r.0 c t.0.0 t.0.1 sizes some more t.0.2 (grows (IsEvidenceOn r.0 c) some more t.1) t.0.5
+        (subst (λ (ts : List Task). AreWatched ts sizes some) (sym r.2.jobs) far.watched))
 
     lower : busy ≡ true → turns_left new.jobs < turns_left mid.jobs
     lower e =
         let r = far.runs start.0 start.1 in
         let t = watches.1 r.0 r.2 in
         let fell = less t.0.0 r.0.jobs t.0.1.jobs (sym t.0.4 ∙ e) (turns_fall r.0 t.0.1 c t.0.0 t.0.2).0 in
-        subst (λ (ts : List Task). turns_left ts < turns_left mid.jobs) t.0.3.jobs (subst (λ (ts : List Task). turns_left t.0.1.jobs < turns_left ts) r.2.jobs fell)
+        subst (λ (ts : List Task). turns_left ts < turns_left mid.jobs) t.0.3.jobs
+        (subst (λ (ts : List Task). turns_left t.0.1.jobs < turns_left ts) r.2.jobs fell)
 
     falls : (a b : Bool) → worked ≡ a → busy ≡ b → (a || b) ≡ true → turns_left new.jobs < turns_left old.jobs
     falls true true was is e = let last = lower is in let first = far.falls was in omega arith
@@ -415,21 +460,25 @@ next_turn old mid new sizes before some more c worked busy start far watches = r
         let r = far.runs w shows in
         let t = watches.1 r.0 r.2 in
         let next : suc c ≡ c + 1 = omega arith in
-        let here : (s : Evidence) → IsEvidenceOn r.0 c s → IsEvidenceIn w s = λ s on. (r.0, subst (λ (k : ℕ). RunsSchedule w (below k) r.0) (sym on.0) r.1, on.1) in (
+        let here : (s : Evidence) → IsEvidenceOn r.0 c s → IsEvidenceIn w s = λ s on.
+        (r.0, subst (λ (k : ℕ). RunsSchedule w (below k) r.0) (sym on.0) r.1, on.1) in (
           t.0.1,
           subst (λ (n : ℕ). RunsSchedule w (below n) t.0.1) next (runs_more w (below c) c r.0 t.0.0 t.0.1 r.1 t.0.2),
           t.0.3,
           adds_more (IsEvidenceIn w) (IsEvidenceOn r.0 c) before some more here r.3 t.1,
         )
 
-pub whole : (old new : MachineState) (sizes : List Sizes) (before evidence : List Evidence) (n : ℕ) (worked : Bool) → ((c : ℕ) → has_cpu old.store c ≡ nat_lt c n)
-    → IsFar old sizes before n worked new evidence → (w : World) → Shows old w → (z : World) × RunsRound w z × Shows new z × AddsEvidence (IsEvidenceIn w) before evidence
+pub whole : (old new : MachineState) (sizes : List Sizes) (before evidence : List Evidence) (n : ℕ) (worked : Bool) →
+    ((c : ℕ) → has_cpu old.store c ≡ nat_lt c n)
+    → IsFar old sizes before n worked new evidence → (w : World) → Shows old w → (z : World) × RunsRound w z × Shows new z × AddsEvidence
+    (IsEvidenceIn w) before evidence
 whole old new sizes before evidence n worked same far w shows =
     let r = far.runs w shows in
     (r.0, subst (λ (k : ℕ). RunsSchedule w (below k) r.0) (sym (cpus_shown old w n same shows)) r.1, r.2, r.3)
 
 -- nobody has work after a round in which nobody had
-pub whole_idle : (old new : MachineState) (sizes : List Sizes) (before evidence : List Evidence) (n : ℕ) (worked : Bool) → ((c : ℕ) → has_cpu old.store c ≡ nat_lt c n)
+pub whole_idle : (old new : MachineState) (sizes : List Sizes) (before evidence : List Evidence) (n : ℕ) (worked : Bool) →
+    ((c : ℕ) → has_cpu old.store c ≡ nat_lt c n)
     → IsFar old sizes before n worked new evidence → worked ≡ false → (w : World) → Shows new w → HasNoWork w
 whole_idle old new sizes before evidence n worked same far e w shows c inside =
     let idle = far.idle e in
@@ -445,11 +494,13 @@ pub record IsWatched (old : MachineState) (sizes : List Sizes) (new : MachineSta
 pub no_round : (old : MachineState) (sizes : List Sizes) → AreWatched old.jobs sizes [] → IsWatched old sizes old []
 no_round old sizes are = record { runs = λ w shows. (w, (0, refl), shows, All-nil (IsEvidenceOf w)); watched = are }
 
-pub shown_still : (old new : MachineState) (sizes : List Sizes) (evidence : List Evidence) → ((w : World) × Shows old w) → IsWatched old sizes new evidence → (w : World) × Shows new w
+pub shown_still : (old new : MachineState) (sizes : List Sizes) (evidence : List Evidence) → ((w : World) × Shows old w) → IsWatched old
+    sizes new evidence → (w : World) × Shows new w
 shown_still old new sizes evidence start watched = let r = watched.runs start.0 start.1 in (r.0, r.2)
 
 pub next_round : (old mid new : MachineState) (sizes : List Sizes) (some more : List Evidence) → IsWatched old sizes mid some
-    → ((w : World) → Shows mid w → (z : World) × RunsRound w z × Shows new z × AddsEvidence (IsEvidenceIn w) some more) → AreWatched new.jobs sizes more → IsWatched old sizes new more
+    → ((w : World) → Shows mid w → (z : World) × RunsRound w z × Shows new z × AddsEvidence (IsEvidenceIn w) some more) → AreWatched
+    new.jobs sizes more → IsWatched old sizes new more
 next_round old mid new sizes some more watched round are = record { runs = runs; watched = are }
   where
     runs : (w : World) → Shows old w → (z : World) × ((n : ℕ) × RunsRounds n w z) × Shows new z × All (IsEvidenceOf w) more
@@ -457,11 +508,13 @@ next_round old mid new sizes some more watched round are = record { runs = runs;
         let r = watched.runs w shows in
         let t = round r.0 r.2 in
         let here : (s : Evidence) → IsEvidenceIn r.0 s → IsEvidenceOf w s = λ s in_it. (r.1.0, r.0, r.1.1, in_it) in
-        let all : All (IsEvidenceOf w) (some ++ t.3.0) = All-append (IsEvidenceOf w) some t.3.0 r.3 (All-weaker (IsEvidenceIn r.0) (IsEvidenceOf w) here t.3.0 t.3.2) in
+        let all : All (IsEvidenceOf w) (some ++ t.3.0) = All-append (IsEvidenceOf w) some t.3.0 r.3
+        (All-weaker (IsEvidenceIn r.0) (IsEvidenceOf w) here t.3.0 t.3.2) in
         (t.0, (suc r.1.0, (r.0, r.1.1, t.1)), t.2, subst (All (IsEvidenceOf w)) (sym t.3.1) all)
 
 -- rounds that find no work leave what is
-pub to_end : (old mid new : MachineState) (sizes : List Sizes) (evidence : List Evidence) → IsWatched old sizes mid evidence → ((w : World) → Shows mid w → HasNoWork w)
+pub to_end : (old mid new : MachineState) (sizes : List Sizes) (evidence : List Evidence) → IsWatched old sizes mid evidence →
+    ((w : World) → Shows mid w → HasNoWork w)
     → ((w : World) → Shows mid w → (z : World) × RunsToEnd w z × Shows new z) → (w : World) → Shows old w → LeavesNoneOut w new evidence
 to_end old mid new sizes evidence watched idle ends w shows =
     let r = watched.runs w shows in

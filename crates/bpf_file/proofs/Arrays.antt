@@ -1,5 +1,6 @@
 -- The arrays of a file and what they have at first stay in their ranges, line by line.
-use Rattle.std.proofs.Common.{◌≡◌, ℕ, zero, suc, ◌+◌, ◌-◌, ◌<◌, ◌≤◌, nat_lt, Bool, true, false, List, [], ◌∷◌, ◌++◌, length, length-append, get_or, set, replicate, Some, None, ◌⊎◌, inl, inr, refl, sym, ap, subst, ◌∙◌, arith}
+use Rattle.std.proofs.Common.{◌≡◌, ℕ, zero, suc, ◌+◌, ◌-◌, ◌<◌, ◌≤◌, nat_lt, Bool, true, false, List, [], ◌∷◌, ◌++◌, length, length-append}
+use Rattle.std.proofs.Common.{get_or, set, replicate, Some, None, ◌⊎◌, inl, inr, refl, sym, ap, subst, ◌∙◌, arith}
 use Rattle.std.proofs.lemmas.Bool.Decides.{nat_tests}
 use Rattle.std.proofs.lemmas.Bool.{cases_eq}
 use Rattle.std.proofs.lemmas.List.{length-replicate, get_or-set_same, get_or-set_other, get_or_past, length-map}
@@ -35,10 +36,12 @@ laid_size bytes at others =
     by_size true h e = let below : length bytes < at + length others = grind (arith, nat_tests) in inr (omega (arith, e, below))
     by_size false h e = let above : at + length others ≤ length bytes = grind (arith, nat_tests) in inl (omega (arith, e, above))
 
-laid_good : (cpus filled : ℕ) (g : ArrayShape) (bytes : List ℕ) (at : ℕ) (others : List ℕ) → filled ≡ at + length others → IsGood cpus (length bytes) g → IsGood cpus filled g → IsGood cpus (length (laid bytes at others)) g
+laid_good : (cpus filled : ℕ) (g : ArrayShape) (bytes : List ℕ) (at : ℕ) (others : List ℕ) → filled ≡ at + length others → IsGood cpus
+    (length bytes) g → IsGood cpus filled g → IsGood cpus (length (laid bytes at others)) g
 laid_good cpus filled g bytes at others e old new = by_size (laid_size bytes at others)
   where
-    by_size : (length (laid bytes at others) ≡ length bytes) ⊎ (length (laid bytes at others) ≡ at + length others) → IsGood cpus (length (laid bytes at others)) g
+    by_size : (length (laid bytes at others) ≡ length bytes) ⊎ (length (laid bytes at others) ≡ at + length others) → IsGood cpus
+        (length (laid bytes at others)) g
     by_size (inl h) = subst (λ (n : ℕ). IsGood cpus n g) (sym h) old
     by_size (inr h) = subst (λ (n : ℕ). IsGood cpus n g) (e ∙ sym h) new
 
@@ -60,10 +63,12 @@ array_or_new (x ∷ gs) h g (suc a) is = by_place (array_or_new gs h g a is)
     by_place (inl old) = inl old
     by_place (inr (last, new)) = inr (ap suc last, new)
 
-pub arrays_with_new : (cpus : ℕ) (cs : List (List ℕ)) (gs : List ArrayShape) (h : ArrayShape) → length cs ≡ length gs → first_of (each_array_tests cpus cs 0 gs) ≡ None → first_of (array_tests cpus 0 (length gs) h) ≡ None
+pub arrays_with_new : (cpus : ℕ) (cs : List (List ℕ)) (gs : List ArrayShape) (h : ArrayShape) → length cs ≡ length gs → first_of
+    (each_array_tests cpus cs 0 gs) ≡ None → first_of (array_tests cpus 0 (length gs) h) ≡ None
     → first_of (each_array_tests cpus (cs ++ [] ∷ []) 0 (gs ++ h ∷ [])) ≡ None
 arrays_with_new cpus cs gs h counted old new =
-    arrays_pass cpus (cs ++ [] ∷ []) 0 (gs ++ h ∷ []) (λ k n g e is. let same : k ≡ n = omega (arith, e) in subst (λ (b : ℕ). IsGood cpus (length (get_or (cs ++ [] ∷ []) b [])) g) same (good k g is))
+    arrays_pass cpus (cs ++ [] ∷ []) 0 (gs ++ h ∷ []) (λ k n g e is.
+    let same : k ≡ n = omega (arith, e) in subst (λ (b : ℕ). IsGood cpus (length (get_or (cs ++ [] ∷ []) b [])) g) same (good k g is))
   where
     filled : (a : ℕ) (g : ArrayShape) → IsGood cpus (length (get_or cs a [])) g → IsGood cpus (length (get_or (cs ++ [] ∷ []) a [])) g
     filled a g is = subst (λ (bytes : List ℕ). IsGood cpus (length bytes) g) (sym (no_bytes_more cs a)) is
@@ -88,10 +93,13 @@ has_place [] a g is = cc
 has_place (x ∷ gs) zero g is = omega arith
 has_place (x ∷ gs) (suc a) g is = let below = has_place gs a g is in omega (arith, below)
 
-pub arrays_with_data : (cpus : ℕ) (cs : List (List ℕ)) (gs : List ArrayShape) (a : ℕ) (h : ArrayShape) (at filled : ℕ) (bytes : List ℕ) → length cs ≡ length gs → first_of (each_array_tests cpus cs 0 gs) ≡ None → IsArray gs a h
-    → filled ≡ at + length bytes → first_of (array_tests cpus filled a h) ≡ None → first_of (each_array_tests cpus (set cs a (laid (get_or cs a []) at bytes)) 0 gs) ≡ None
+pub arrays_with_data : (cpus : ℕ) (cs : List (List ℕ)) (gs : List ArrayShape) (a : ℕ) (h : ArrayShape) (at filled : ℕ) (bytes : List ℕ) →
+    length cs ≡ length gs → first_of (each_array_tests cpus cs 0 gs) ≡ None → IsArray gs a h
+    → filled ≡ at + length bytes → first_of (array_tests cpus filled a h) ≡ None → first_of
+    (each_array_tests cpus (set cs a (laid (get_or cs a []) at bytes)) 0 gs) ≡ None
 arrays_with_data cpus cs gs a h at filled bytes counted old there e new =
-    arrays_pass cpus ds 0 gs (λ k n g f is. let same : k ≡ n = omega (arith, f) in subst (λ (b : ℕ). IsGood cpus (length (get_or ds b [])) g) same (good k g is (cases_eq k a)))
+    arrays_pass cpus ds 0 gs
+    (λ k n g f is. let same : k ≡ n = omega (arith, f) in subst (λ (b : ℕ). IsGood cpus (length (get_or ds b [])) g) same (good k g is (cases_eq k a)))
   where
     ds : List (List ℕ)
     ds = set cs a (laid (get_or cs a []) at bytes)
@@ -134,7 +142,8 @@ abbrev pub with_contents : Part → List (List ℕ) → Part
 with_contents p cs = record p { group = 6; file = record p.file { contents = cs } }
 
 -- bytes are put into one of the vectors
-pub put_at : (items : List (Vec ℕ Global)) (k : ℕ) (v w : Vec ℕ Global) (at : ℕ) (bytes : List ℕ) → k < length items → v ≡ get_or items k v → w.items ≡ laid v.items at bytes
+pub put_at : (items : List (Vec ℕ Global)) (k : ℕ) (v w : Vec ℕ Global) (at : ℕ) (bytes : List ℕ) → k < length items → v ≡ get_or items k v
+    → w.items ≡ laid v.items at bytes
     → bytes_of_all (set items k w) ≡ set (bytes_of_all items) k (laid (get_or (bytes_of_all items) k []) at bytes)
 put_at items k v w at bytes below read put =
     let here : v.items ≡ get_or (bytes_of_all items) k [] = ap (λ (x : Vec ℕ Global). x.items) read ∙ sym (bytes_at items k v below) in

@@ -1,5 +1,7 @@
 -- What a line says determines its first word, and so which lines may be before it.
-use Rattle.std.proofs.Common.{◌≡◌, ℕ, zero, suc, ◌*◌, ◌-◌, ◌%◌, ◌^◌, ◌<◌, ◌≤◌, ◌==◌, nat_lt, nat_le, Bool, true, false, not, ◌&&◌, ◌||◌, if◌then◌else◌, List, [], ◌∷◌, ◌++◌, length, map, Option, Some, None, Result, Ok, Err, ◌⊎◌, inl, inr, refl, sym, ap, subst, ◌∙◌, arith}
+use Rattle.std.proofs.Common.{◌≡◌, ℕ, zero, suc, ◌*◌, ◌-◌, ◌%◌, ◌^◌, ◌<◌, ◌≤◌, ◌==◌, nat_lt, nat_le, Bool, true, false, not, ◌&&◌, ◌||◌}
+use Rattle.std.proofs.Common.{if◌then◌else◌, List, [], ◌∷◌, ◌++◌, length, map, Option, Some, None, Result, Ok, Err, ◌⊎◌, inl, inr, refl}
+use Rattle.std.proofs.Common.{sym, ap, subst, ◌∙◌, arith}
 use Rattle.std.specs.Prelude.{slice_get, take}
 use Rattle.std.specs.List.{before_first}
 use Rattle.std.proofs.lemmas.Bool.Decides.{nat_tests}
@@ -16,13 +18,20 @@ use Rattle.bpf_file.specs.declared.line.LineError.TheVariants as line
 use Rattle.bpf_file.specs.declared.packet.Hook.{Hook}
 use Rattle.bpf_file.specs.declared.packet.Hook.TheVariants.{Xdp, Tc}
 use Rattle.bpf_file.specs.Key.{key_text, is_key}
-use Rattle.bpf_file.specs.Form.{is_part, has_form, field_at, version_form, second_version_form, third_version_form, cpus_form, seed_form, map_form, masked_map_form, growing_map_form, growing_masked_map_form, array_form, per_cpu_form, frozen_form, variable_form, data_form, put_form, put_numbers_form, program_form, words_form, job_form, budget_form, context_form, time_form, random_form, xdp_form, tc_form}
+use Rattle.bpf_file.specs.Form.{is_part, has_form, field_at, version_form, second_version_form, third_version_form, cpus_form, seed_form}
+use Rattle.bpf_file.specs.Form.{map_form, masked_map_form, growing_map_form, growing_masked_map_form, array_form, per_cpu_form, frozen_form}
+use Rattle.bpf_file.specs.Form.{variable_form, data_form, put_form, put_numbers_form, program_form, words_form, job_form, budget_form}
+use Rattle.bpf_file.specs.Form.{context_form, time_form, random_form, xdp_form, tc_form}
 use Rattle.bpf_shared.specs.Access.{bytes_in}
 use Rattle.bpf_shared.specs.declared.events.Size.{Size}
 use Rattle.bpf_base.specs.declared.budget.TheConstants.{MAX_BUDGET}
 use Rattle.bpf_file.specs.declared.version.Version.{Version as Edition}
 use Rattle.bpf_file.specs.Version.{may_grow, has_arrays}
-use Rattle.bpf_file.specs.Statement.{Said, Version, Cpus, Seed, Map, Array, Data, Variable, Put, PutNumbers, Program, Words, Job, most_count, count_at, with_number, map_said, array_said, size_of, variable_at, variable_said, size_named, key_number, is_open, with_size, numbers_said, work_of, arrays_of, growing_of, statement_of, JobSaid, with_job, last_two, before_two, last_number, timed_of, seeded_of, packet_for, with_packet, packeted_of}
+use Rattle.bpf_file.specs.Statement.{Said, Version, Cpus, Seed, Map, Array, Data, Variable, Put, PutNumbers, Program, Words, Job}
+use Rattle.bpf_file.specs.Statement.{most_count, count_at, with_number, map_said, array_said, size_of, variable_at, variable_said}
+use Rattle.bpf_file.specs.Statement.{size_named, key_number, is_open, with_size, numbers_said, work_of, arrays_of, growing_of, statement_of}
+use Rattle.bpf_file.specs.Statement.{JobSaid, with_job, last_two, before_two, last_number, timed_of, seeded_of, packet_for, with_packet}
+use Rattle.bpf_file.specs.Statement.{packeted_of}
 use Rattle.bpf_file.specs.Parts.{Part, group_of, is_in_order, is_full}
 use Rattle.bpf_file.specs.declared.draft.Next.{Next}
 use Rattle.bpf_file.specs.declared.error.FileError.{FileError}
@@ -75,7 +84,8 @@ part_at (p ∷ ps) (f ∷ fs) (suc i) q e h =
     part_at ps fs i q both.1 h
 
 -- the first word of a form's line
-worded : (k : Key) (ps : List Piece) (f : List ℕ) (fs : List (List ℕ)) (g : ℕ) → slice_get ps 0 ≡ Some (Word k) → group_of (key_text k) ≡ g → has_form ps (f ∷ fs) ≡ true → group_of f ≡ g
+worded : (k : Key) (ps : List Piece) (f : List ℕ) (fs : List (List ℕ)) (g : ℕ) → slice_get ps 0 ≡ Some (Word k) → group_of (key_text k) ≡ g
+    → has_form ps (f ∷ fs) ≡ true → group_of f ≡ g
 worded k ps f fs g at e h = ap group_of (by_word k f (part_at ps (f ∷ fs) 0 (Word k) h at)) ∙ e
 
 either : (f : List ℕ) (b : Bool) (r q : Result Said LineError) → (b ≡ true → TellsAll f r) → TellsAll f q → TellsAll f (if b then r else q)
@@ -110,7 +120,8 @@ variables_tell f fields e =
     numbered f (count_at fields 4 most_count) _ (λ bytes.
     sized_tell f (field_at fields 1) (field_at fields 2) at (size_of bytes) e))
 
-sizes_tell : (f name : List ℕ) (k : ℕ) (size : Option Size) (numbers : List ℕ) → group_of f ≡ 6 → TellsAll f (with_size size (λ s. Ok (PutNumbers name k s numbers)))
+sizes_tell : (f name : List ℕ) (k : ℕ) (size : Option Size) (numbers : List ℕ) → group_of f ≡ 6 → TellsAll f
+    (with_size size (λ s. Ok (PutNumbers name k s numbers)))
 sizes_tell f name k None numbers e = tt
 sizes_tell f name k (Some size) numbers e = (e, tt)
 
@@ -140,7 +151,8 @@ jobs_tell f fs =
 
 -- ---- a job with more at the end of its line
 
-more_tells : (f : List ℕ) (said : Result Said LineError) (more : JobSaid → Result Said LineError) → ((job : JobSaid) → Tells f (Job job) → TellsAll f (more job)) → TellsAll f said → TellsAll f (with_job said more)
+more_tells : (f : List ℕ) (said : Result Said LineError) (more : JobSaid → Result Said LineError) →
+    ((job : JobSaid) → Tells f (Job job) → TellsAll f (more job)) → TellsAll f said → TellsAll f (with_job said more)
 more_tells f (Ok (Job job)) more h t = h job t
 more_tells f (Ok _) more h t = tt
 more_tells f (Err e) more h t = tt
@@ -153,7 +165,8 @@ front_tells (suc n) f fs = jobs_tell f (take n fs)
 brief_at : (fs : List (List ℕ)) (k : Key) → has_form (Word k ∷ Packet ∷ []) fs ≡ true → length (field_at fs 1) ≤ 2 * max_packet
 brief_at fs k h = let d = part_at (Word k ∷ Packet ∷ []) fs 1 Packet h refl in grind (arith, nat_tests)
 
-in_place : (f : List ℕ) (job : JobSaid) (packet : Hook × List ℕ) (context : Option (List ℕ)) → length packet.1 ≤ 2 * max_packet → Tells f (Job job) → TellsAll f (packet_for packet job context)
+in_place : (f : List ℕ) (job : JobSaid) (packet : Hook × List ℕ) (context : Option (List ℕ)) → length packet.1 ≤ 2 * max_packet → Tells f
+    (Job job) → TellsAll f (packet_for packet job context)
 in_place f job packet None few t = (t.0, (t.1.0, few))
 in_place f job packet (Some digits) few t = tt
 
@@ -296,7 +309,8 @@ placed_comes p f r s tells e = by_first (p.group == 0) refl e
         (subst P told.0 (in_order p.group (group_of f) both.0), told.1)
     by_stand false h e = cc
 
-    by_first : (b : Bool) → (p.group == 0) ≡ b → (if b then first_said r else (if may_stand p (group_of f) then later_said r else Err reason.BadLine)) ≡ Ok s → Comes p s
+    by_first : (b : Bool) → (p.group == 0) ≡ b → (if b then first_said r else
+        (if may_stand p (group_of f) then later_said r else Err reason.BadLine)) ≡ Ok s → Comes p s
     by_first true h e =
         let C : Said → Type 0 = Comes p in
         subst C (sym (only_version r s e).1) (inl (no_group p.group h), tt)

@@ -1,5 +1,6 @@
 -- Cutting a program's assembly off a text, line by line.
-use Rattle.std.proofs.Common.{◌≡◌, ℕ, ◌+◌, ◌≤◌, true, false, List, [], ◌∷◌, ◌++◌, length, length-append, take, append_assoc, append-nil, Option, Some, None, refl, sym, ap, subst, ◌∙◌, arith}
+use Rattle.std.proofs.Common.{◌≡◌, ℕ, ◌+◌, ◌≤◌, true, false, List, [], ◌∷◌, ◌++◌, length, length-append, take, append_assoc, append-nil}
+use Rattle.std.proofs.Common.{Option, Some, None, refl, sym, ap, subst, ◌∙◌, arith}
 use Rattle.std.specs.Option.{option_copied}
 use Rattle.bpf_lines.specs.Lines.{lines_of, lines_behind, rest_size}
 use Rattle.bpf_file.specs.declared.assembly.Assembly.{Assembly}
@@ -33,7 +34,8 @@ seen_start text = record {
   few = omega arith;
 }
 
-pub seen_next : (text left line : List ℕ) (behind : Option (List ℕ)) (len count : ℕ) → Seen text (Some left) len count → lines_of left ≡ line ∷ lines_behind behind → is_end line ≡ false → Seen text behind (len + (length line + 1)) (count + 1)
+pub seen_next : (text left line : List ℕ) (behind : Option (List ℕ)) (len count : ℕ) → Seen text (Some left) len count → lines_of left ≡
+    line ∷ lines_behind behind → is_end line ≡ false → Seen text behind (len + (length line + 1)) (count + 1)
 seen_next text left line behind len count s e unended =
     let sized : length left ≡ length line + rest_size behind = line_size left line behind e in
     record {
@@ -46,7 +48,9 @@ seen_next text left line behind len count s e unended =
       few = omega (arith, s.few);
     }
 
-pub seen_cut : (left line : List ℕ) (behind : Option (List ℕ)) (text : List ℕ) (len count : ℕ) (a : Assembly) → Seen text (Some left) len count → lines_of left ≡ line ∷ lines_behind behind → is_end line ≡ true → a.text.now ≡ take len text → a.lines ≡ count → option_copied a.rest ≡ behind → IsProgramCut text a
+pub seen_cut : (left line : List ℕ) (behind : Option (List ℕ)) (text : List ℕ) (len count : ℕ) (a : Assembly) → Seen text (Some left) len
+    count → lines_of left ≡ line ∷ lines_behind behind → is_end line ≡ true → a.text.now ≡ take len text → a.lines ≡ count → option_copied
+    a.rest ≡ behind → IsProgramCut text a
 seen_cut left line behind text len count a s e ended t n r =
     let sized : length left ≡ length line + rest_size behind = line_size left line behind e in
     let body : a.text.now ≡ text_of_lines s.body = t ∙ passed_text text left s.body len s.remains (omega (arith, s.size, sized)) in
@@ -57,7 +61,8 @@ seen_cut left line behind text len count a s e ended t n r =
       last = line;
       parts = subst P (sym r) (s.parts ∙ ap (λ ls. s.body ++ ls) e);
       assembly = body;
-      short = let now : length a.text.now ≡ length (text_of_lines s.body) = ap length body in omega (arith, now, passed_size text left s.body len s.remains (omega (arith, s.size, sized)), s.size, sized);
+      short = let now : length a.text.now ≡ length (text_of_lines s.body) = ap length body in omega
+          (arith, now, passed_size text left s.body len s.remains (omega (arith, s.size, sized)), s.size, sized);
       count = n ∙ s.counted;
       before = s.before;
       ended = ended;

@@ -1,11 +1,13 @@
 -- Numbers in n bytes.
-use Rattle.std.proofs.Common.{◌≡◌, ℕ, suc, ◌+◌, ◌-◌, ◌*◌, ◌/◌, ◌%◌, ◌^◌, ◌<◌, ◌≤◌, true, List, [], ◌∷◌, ◌++◌, nat_eq, nat_lt, refl, sym, ap, subst, ◌∙◌, append_assoc, append-nil, arith}
+use Rattle.std.proofs.Common.{◌≡◌, ℕ, suc, ◌+◌, ◌-◌, ◌*◌, ◌/◌, ◌%◌, ◌^◌, ◌<◌, ◌≤◌, true, List, [], ◌∷◌, ◌++◌, nat_eq, nat_lt, refl, sym, ap}
+use Rattle.std.proofs.Common.{subst, ◌∙◌, append_assoc, append-nil, arith}
 use Rattle.std.proofs.lemmas.Bool.{eqb-true, ltb_from_iff}
 use Rattle.std.proofs.Math.Nat.{div-eq_of_lt, div-lt_iff_lt-mul, one-le-pow, pow-le-pow_right}
 use Rattle.bpf_base.specs.Bytes.{low_bytes}
 
 wide_below : (n s : ℕ) → n < 2 ^ 64 → 8 ≤ s → n < 2 ^ (8 * s)
-wide_below n s low large = let grows : 2 ^ 64 ≤ 2 ^ (8 * s) = pow-le-pow_right (omega arith) {i = 64} {j = 8 * s} (omega (arith, large)) in omega (arith, low, grows)
+wide_below n s low large =
+    let grows : 2 ^ 64 ≤ 2 ^ (8 * s) = pow-le-pow_right (omega arith) {i = 64} {j = 8 * s} (omega (arith, large)) in omega (arith, low, grows)
 
 -- 64 bits hold it, and n bytes hold 64 bits
 pub wide : (n s : ℕ) → n < 2 ^ 64 → 8 ≤ s → true ≡ nat_lt n (2 ^ (8 * s))

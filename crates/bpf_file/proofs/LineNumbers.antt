@@ -1,5 +1,6 @@
 -- A refusal of assembly names a line that the text has.
-use Rattle.std.proofs.Common.{◌≡◌, ℕ, ◌+◌, ◌<◌, ◌≤◌, ◌^◌, ◌==◌, Bool, true, false, List, [], ◌∷◌, length, Option, Some, None, Result, Ok, Err, ◌⊎◌, inl, inr, refl, sym, ap, subst, arith}
+use Rattle.std.proofs.Common.{◌≡◌, ℕ, ◌+◌, ◌<◌, ◌≤◌, ◌^◌, ◌==◌, Bool, true, false, List, [], ◌∷◌, length, Option, Some, None, Result, Ok}
+use Rattle.std.proofs.Common.{Err, ◌⊎◌, inl, inr, refl, sym, ap, subst, arith}
 use Rattle.std.proofs.lemmas.List.Splits.{length-slice_split}
 use Rattle.std.proofs.lemmas.List.Sums.{count_by-le-length}
 use Rattle.bpf_insn.specs.declared.instruction.Insn.{Insn}
@@ -11,7 +12,8 @@ use Rattle.bpf_text.specs.declared.reading.LineError.TheVariants.{BadLine, BadNu
 use Rattle.bpf_text.specs.Line.{Written}
 use Rattle.bpf_lines.specs.Lines.{lines_of}
 use Rattle.bpf_text.specs.Symbols.{Table}
-use Rattle.bpf_text.specs.Assembly.{Source, AreLinesWith, AssemblesWith, words_of, is_twice, first_place, or_far, unless_twice, or_unknown, at_target, named_meaning, body_meaning, meaning_of, then_meaning, program_of}
+use Rattle.bpf_text.specs.Assembly.{Source, AreLinesWith, AssemblesWith, words_of, is_twice, first_place, or_far, unless_twice, or_unknown}
+use Rattle.bpf_text.specs.Assembly.{at_target, named_meaning, body_meaning, meaning_of, then_meaning, program_of}
 use Rattle.bpf_file.specs.Private.Lines.{line_named}
 
 -- a refusal names this line or one before it
@@ -35,11 +37,13 @@ at_target_up : (twice : Bool) (line pc : ℕ) (i : Insn) (name : List ℕ) (to :
 at_target_up twice line pc i name None = or_unknown_up twice line _
 at_target_up twice line pc i name (Some to) = unless_twice_up twice line _ (or_far_up line _)
 
-named_up : (labels : List ℕ → Option Place) (twice : Bool) (line pc : ℕ) (i : Insn) (name : Option (List ℕ)) → Up (line + 1) (named_meaning labels twice line pc i name)
+named_up : (labels : List ℕ → Option Place) (twice : Bool) (line pc : ℕ) (i : Insn) (name : Option (List ℕ)) → Up (line + 1)
+    (named_meaning labels twice line pc i name)
 named_up labels twice line pc i None = unless_twice_up twice line (Ok (Some i)) tt
 named_up labels twice line pc i (Some name) = at_target_up twice line pc i name (labels name)
 
-body_up : (labels : List ℕ → Option Place) (twice : Bool) (line pc : ℕ) (body : Result (Option Written) LineError) → Up (line + 1) (body_meaning labels twice line pc body)
+body_up : (labels : List ℕ → Option Place) (twice : Bool) (line pc : ℕ) (body : Result (Option Written) LineError) → Up (line + 1)
+    (body_meaning labels twice line pc body)
 body_up labels twice line pc (Err BadLine) = omega arith
 body_up labels twice line pc (Err BadNumber) = omega arith
 body_up labels twice line pc (Err UnknownName) = omega arith
@@ -82,6 +86,7 @@ assembled_up names text e a =
     omega (arith, named, many, lines)
 
 -- so its line of the file has a number
-pub line_has_number : (names : Option Table) (text : List ℕ) (line : ℕ) (e : TextError) → (e ≡ OutOfMemory) ⊎ AssemblesWith names text (Err e) → line + length text + 2 < 2 ^ 64 → line + line_named e < 2 ^ 64
+pub line_has_number : (names : Option Table) (text : List ℕ) (line : ℕ) (e : TextError) → (e ≡ OutOfMemory) ⊎ AssemblesWith names text
+    (Err e) → line + length text + 2 < 2 ^ 64 → line + line_named e < 2 ^ 64
 line_has_number names text line e (inl memory) h = let none : line_named e ≡ 0 = ap line_named memory in omega (arith, none, h)
 line_has_number names text line e (inr a) h = let named = assembled_up names text e a in omega (arith, named, h)

@@ -1,5 +1,6 @@
 -- What is left of a text after its first lines.
-use Rattle.std.proofs.Common.{◌≡◌, ℕ, ◌+◌, ◌==◌, List, [], ◌∷◌, ◌++◌, length, length-append, take, append_assoc, append-nil, Option, Some, None, refl, sym, ap, ◌∙◌, arith}
+use Rattle.std.proofs.Common.{◌≡◌, ℕ, ◌+◌, ◌==◌, List, [], ◌∷◌, ◌++◌, length, length-append, take, append_assoc, append-nil, Option, Some}
+use Rattle.std.proofs.Common.{None, refl, sym, ap, ◌∙◌, arith}
 use Rattle.std.specs.List.{join_with_byte}
 use Rattle.std.proofs.Math.Seq.{take-append_seam}
 use Rattle.std.proofs.lemmas.List.Splits.{join_with_byte-slice_split, length-slice_split}
@@ -47,17 +48,20 @@ abbrev pub Remains : List ℕ → List (List ℕ) → Option (List ℕ) → Type
 Remains text body None = Unit {0}
 Remains text body (Some left) = text ≡ text_of_lines body ++ left
 
-pub remains_next : (text left line : List ℕ) (body : List (List ℕ)) (behind : Option (List ℕ)) → text ≡ text_of_lines body ++ left → left ≡ line ++ behind_line behind → Remains text (body ++ line ∷ []) behind
+pub remains_next : (text left line : List ℕ) (body : List (List ℕ)) (behind : Option (List ℕ)) → text ≡ text_of_lines body ++ left → left ≡
+    line ++ behind_line behind → Remains text (body ++ line ∷ []) behind
 remains_next text left line body None e h = tt
 remains_next text left line body (Some b) e h =
     e ∙ ap (λ t. text_of_lines body ++ t) h ∙ sym (text_of-append body line b)
 
 -- where so much of the text was passed over, those are the lines before what is left
-pub passed_size : (text left : List ℕ) (body : List (List ℕ)) (size : ℕ) → Remains text body (Some left) → size + length left ≡ length text → size ≡ length (text_of_lines body)
+pub passed_size : (text left : List ℕ) (body : List (List ℕ)) (size : ℕ) → Remains text body (Some left) → size + length left ≡ length text
+    → size ≡ length (text_of_lines body)
 passed_size text left body size is sum =
     let all : length text ≡ length (text_of_lines body) + length left = ap length is ∙ length-append (text_of_lines body) left in
     omega (arith, sum, all)
 
-pub passed_text : (text left : List ℕ) (body : List (List ℕ)) (size : ℕ) → Remains text body (Some left) → size + length left ≡ length text → take size text ≡ text_of_lines body
+pub passed_text : (text left : List ℕ) (body : List (List ℕ)) (size : ℕ) → Remains text body (Some left) → size + length left ≡ length text
+    → take size text ≡ text_of_lines body
 passed_text text left body size is sum =
     ap (λ k. take k text) (passed_size text left body size is sum) ∙ ap (take (length (text_of_lines body))) is ∙ take-append_seam (text_of_lines body) left

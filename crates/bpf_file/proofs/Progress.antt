@@ -25,14 +25,17 @@ progress_start text p e = subst (λ q. Progress text 1 q (Some text)) (sym e) (r
   room = omega arith;
 })
 
-pub progress_next : (text left : List ℕ) (line : ℕ) (p q : Part) (r : ℕ × Option (Bor (List ℕ))) → Progress text line p (Some left) → ReadsOnFrom line (Between p) (lines_of left) q (Ok r) → (IsFit p → IsFit q) → r.0 + rest_size (option_copied r.1) ≤ line + length left + 1 → Progress text r.0 q (option_copied r.1)
+pub progress_next : (text left : List ℕ) (line : ℕ) (p q : Part) (r : ℕ × Option (Bor (List ℕ))) → Progress text line p (Some left) →
+    ReadsOnFrom line (Between p) (lines_of left) q (Ok r) → (IsFit p → IsFit q) → r.0 + rest_size (option_copied r.1) ≤ line + length left +
+    1 → Progress text r.0 q (option_copied r.1)
 progress_next text left line p q r g goes fit falls = record {
   reads = λ o h. g.reads o (goes o h);
   fit = fit g.fit;
   room = let room = g.room in omega (arith, room, falls);
 }
 
-pub progress_refused : (text left : List ℕ) (line : ℕ) (p q : Part) (e : FileError) → Progress text line p (Some left) → ReadsOnFrom line (Between p) (lines_of left) q (Err e) → (e ≡ OutOfMemory) ⊎ IsRunFile text (Err e)
+pub progress_refused : (text left : List ℕ) (line : ℕ) (p q : Part) (e : FileError) → Progress text line p (Some left) → ReadsOnFrom line
+    (Between p) (lines_of left) q (Err e) → (e ≡ OutOfMemory) ⊎ IsRunFile text (Err e)
 progress_refused text left line p q OutOfMemory g goes = inl refl
 progress_refused text left line p q (Refused n why) g goes = inr (g.reads (Err (Refused n why)) goes)
 

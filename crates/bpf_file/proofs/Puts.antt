@@ -1,5 +1,7 @@
 -- What lines `put` are refused for, and what their numbers are.
-use Rattle.std.proofs.Common.{◌≡◌, ℕ, zero, suc, ◌+◌, ◌-◌, ◌*◌, ◌^◌, ◌<◌, ◌≤◌, ◌==◌, ◌&&◌, nat_lt, Bool, true, false, if◌then◌else◌, List, [], ◌∷◌, ◌++◌, length, drop, map, get_or, append_assoc, append-nil, Option, Some, None, Result, Ok, Err, refl, sym, ap, subst, ◌∙◌, arith}
+use Rattle.std.proofs.Common.{◌≡◌, ℕ, zero, suc, ◌+◌, ◌-◌, ◌*◌, ◌^◌, ◌<◌, ◌≤◌, ◌==◌, ◌&&◌, nat_lt, Bool, true, false, if◌then◌else◌, List}
+use Rattle.std.proofs.Common.{[], ◌∷◌, ◌++◌, length, drop, map, get_or, append_assoc, append-nil, Option, Some, None, Result, Ok, Err, refl}
+use Rattle.std.proofs.Common.{sym, ap, subst, ◌∙◌, arith}
 use Rattle.std.specs.Prelude.{IfSome, IsSomeAnd, slice_get}
 use Rattle.std.specs.List.{IsLastAndRest}
 use Rattle.std.proofs.lemmas.Bool.Decides.{nat_tests}
@@ -21,7 +23,8 @@ use Rattle.bpf_file.specs.declared.error.Reason.{Reason}
 use Rattle.bpf_file.specs.declared.error.Reason.TheVariants as reason
 use Rattle.bpf_file.specs.Parts.{Part, State}
 use Rattle.bpf_file.specs.Statement.{closed}
-use Rattle.bpf_file.specs.Rows.{element_added, element_numbered, number_of, numbers_of, numbers_put, one_more, pair_added, pair_numbered, put_added, value_place, with_others}
+use Rattle.bpf_file.specs.Rows.{element_added, element_numbered, number_of, numbers_of, numbers_put, one_more, pair_added, pair_numbered}
+use Rattle.bpf_file.specs.Rows.{put_added, value_place, with_others}
 use Rattle.bpf_file.specs.Private.Answers.{OrMemory}
 use Rattle.bpf_file.specs.Private.Drafts.{after}
 use Rattle.bpf_file.specs.Private.Fits.{IsFit}
@@ -42,7 +45,8 @@ too_large size (Some n) large =
     let no : nat_lt n (modulus (bytes_in size)) ≡ false = grind (arith, nat_tests) in
     ap (λ (b : Bool). if b then Ok n else Err reason.BadNumber) (sym no)
 
-pub past_all : (a : ℕ) (g : ArrayShape) (fits : Bool) (o : Option ℕ) → g.max ≤ 65536 → IsSomeAnd o (λ n. 2 ^ 64 ≤ n) → Err (reason.Shape (ArrayContents a)) ≡ value_place a g fits o
+pub past_all : (a : ℕ) (g : ArrayShape) (fits : Bool) (o : Option ℕ) → g.max ≤ 65536 → IsSomeAnd o (λ n. 2 ^ 64 ≤ n) → Err
+    (reason.Shape (ArrayContents a)) ≡ value_place a g fits o
 past_all a g fits None small large = absurd large
 past_all a g fits (Some n) small large =
     let above : g.max ≤ n = omega (arith, small, large) in
@@ -68,14 +72,16 @@ one_and_more bytes some (Err why) = refl
 next_word : (words : List (List ℕ)) (k : ℕ) (word : List ℕ) → k < length words → word ≡ get_or words k [] → drop k words ≡ word ∷ drop (k + 1) words
 next_word words k word inside is = drop_more words k [] inside ∙ ap (λ (x : List ℕ). x ∷ drop (k + 1) words) (sym is)
 
-one_read : (size : Size) (words : List (List ℕ)) (bytes : List ℕ) (k : ℕ) (word : List ℕ) (n : ℕ) → k < length words → word ≡ get_or words k [] → Ok n ≡ number_of size (written_number word)
+one_read : (size : Size) (words : List (List ℕ)) (bytes : List ℕ) (k : ℕ) (word : List ℕ) (n : ℕ) → k < length words → word ≡ get_or words k
+    [] → Ok n ≡ number_of size (written_number word)
     → AreLeft size words bytes k → AreLeft size words (bytes ++ low_bytes (bytes_in size) n) (k + 1)
 one_read size words bytes k word n inside is number left =
     left ∙ ap (λ (ws : List (List ℕ)). one_more bytes (numbers_of size ws)) (next_word words k word inside is)
     ∙ ap (λ (r : Result ℕ Reason). one_more bytes (with_others size r (numbers_of size (drop (k + 1) words)))) (sym number)
     ∙ one_and_more bytes (low_bytes (bytes_in size) n) (numbers_of size (drop (k + 1) words))
 
-one_refused : (size : Size) (words : List (List ℕ)) (bytes : List ℕ) (k : ℕ) (word : List ℕ) (why : Reason) → k < length words → word ≡ get_or words k [] → Err why ≡ number_of size (written_number word)
+one_refused : (size : Size) (words : List (List ℕ)) (bytes : List ℕ) (k : ℕ) (word : List ℕ) (why : Reason) → k < length words → word ≡
+    get_or words k [] → Err why ≡ number_of size (written_number word)
     → AreLeft size words bytes k → numbers_of size words ≡ Err why
 one_refused size words bytes k word why inside is number left =
     left ∙ ap (λ (ws : List (List ℕ)). one_more bytes (numbers_of size ws)) (next_word words k word inside is)
@@ -92,12 +98,14 @@ module _ (size : Size) (words : List (Bor (List ℕ))) (k : ℕ) (d : Bor (List 
   at : (get_or words k d).now ≡ get_or texts k []
   at = sym (get_or-map (λ (w : Bor (List ℕ)). w.now) words k d [] inside)
 
-  pub word_read : (bytes more : List ℕ) (count n : ℕ) → Ok n ≡ number_of size (written_number (get_or words k d).now) → AreLeft size texts bytes k → count ≡ bytes_in size → more ≡ bytes ++ low_bytes count n → AreLeft size texts more (k + 1)
+  pub word_read : (bytes more : List ℕ) (count n : ℕ) → Ok n ≡ number_of size (written_number (get_or words k d).now) → AreLeft size texts
+      bytes k → count ≡ bytes_in size → more ≡ bytes ++ low_bytes count n → AreLeft size texts more (k + 1)
   word_read bytes more count n number left counted pushed =
       subst (λ (bs : List ℕ). AreLeft size texts bs (k + 1)) (sym (pushed ∙ ap (λ (c : ℕ). bytes ++ low_bytes c n) counted))
       (one_read size texts bytes k (get_or words k d).now n there at number left)
 
-  pub word_refused : (bytes : List ℕ) (why : Reason) → Err why ≡ number_of size (written_number (get_or words k d).now) → AreLeft size texts bytes k → numbers_of size texts ≡ Err why
+  pub word_refused : (bytes : List ℕ) (why : Reason) → Err why ≡ number_of size (written_number (get_or words k d).now) → AreLeft size texts
+      bytes k → numbers_of size texts ≡ Err why
   word_refused bytes why number left = one_refused size texts bytes k (get_or words k d).now why there at number left
 
 pub all_read : (size : Size) (words : List (List ℕ)) (bytes : List ℕ) (k : ℕ) → length words ≤ k → AreLeft size words bytes k → numbers_of size words ≡ Ok bytes
@@ -170,28 +178,35 @@ below k m n e h = grind (arith, nat_tests)
 beyond : (k m n : ℕ) → m ≡ n → m ≤ k → nat_lt k n ≡ false
 beyond k m n e h = grind (arith, nat_tests)
 
-pub is_answered : (n : ℕ) (q : Part) (r s : Result State FileError) (a : Result Next FileError) → r ≡ s → OrMemory (λ b. after n q b ≡ r) a → OrMemory (λ b. after n q b ≡ s) a
+pub is_answered : (n : ℕ) (q : Part) (r s : Result State FileError) (a : Result Next FileError) → r ≡ s → OrMemory (λ b. after n q b ≡ r) a
+    → OrMemory (λ b. after n q b ≡ s) a
 is_answered n q r s a e h = subst (λ (t : Result State FileError). OrMemory (λ b. after n q b ≡ t) a) e h
 
 module _ (n : ℕ) (p : Part) (o : Option ℕ) (k m : ℕ) (found : Some k ≡ o) (maps : m ≡ length p.file.maps) where
   pub put_of_map : (key value : List ℕ) → k < m → pair_added n p k key value (slice_get p.file.maps k) ≡ put_added n p o key value
   put_of_map key value h =
-      ap (λ (b : Bool). if b then pair_added n p k key value (slice_get p.file.maps k) else element_added n p (k - length p.file.maps) (written_number key) value (slice_get p.file.arrays (k - length p.file.maps))) (sym (below k m (length p.file.maps) maps h))
+      ap (λ (b : Bool). if b then pair_added n p k key value (slice_get p.file.maps k) else element_added n p (k - length p.file.maps)
+      (written_number key) value (slice_get p.file.arrays (k - length p.file.maps))) (sym (below k m (length p.file.maps) maps h))
       ∙ ap (λ (x : Option ℕ). put_added n p x key value) found
 
-  pub put_of_array : (key value : List ℕ) → m ≤ k → element_added n p (k - m) (written_number key) value (slice_get p.file.arrays (k - m)) ≡ put_added n p o key value
+  pub put_of_array : (key value : List ℕ) → m ≤ k → element_added n p (k - m) (written_number key) value (slice_get p.file.arrays (k - m)) ≡
+      put_added n p o key value
   put_of_array key value h =
       ap (λ (j : ℕ). element_added n p (k - j) (written_number key) value (slice_get p.file.arrays (k - j))) maps
-      ∙ ap (λ (b : Bool). if b then pair_added n p k key value (slice_get p.file.maps k) else element_added n p (k - length p.file.maps) (written_number key) value (slice_get p.file.arrays (k - length p.file.maps))) (sym (beyond k m (length p.file.maps) maps h))
+      ∙ ap (λ (b : Bool). if b then pair_added n p k key value (slice_get p.file.maps k) else element_added n p (k - length p.file.maps)
+      (written_number key) value (slice_get p.file.arrays (k - length p.file.maps))) (sym (beyond k m (length p.file.maps) maps h))
       ∙ ap (λ (x : Option ℕ). put_added n p x key value) found
 
   pub numbers_of_map : (key : ℕ) (bytes : List ℕ) → k < m → pair_numbered n p k key bytes (slice_get p.file.maps k) ≡ numbers_put n p o key bytes
   numbers_of_map key bytes h =
-      ap (λ (b : Bool). if b then pair_numbered n p k key bytes (slice_get p.file.maps k) else element_numbered n p (k - length p.file.maps) key bytes (slice_get p.file.arrays (k - length p.file.maps))) (sym (below k m (length p.file.maps) maps h))
+      ap (λ (b : Bool). if b then pair_numbered n p k key bytes (slice_get p.file.maps k) else element_numbered n p (k - length p.file.maps)
+      key bytes (slice_get p.file.arrays (k - length p.file.maps))) (sym (below k m (length p.file.maps) maps h))
       ∙ ap (λ (x : Option ℕ). numbers_put n p x key bytes) found
 
-  pub numbers_of_array : (key : ℕ) (bytes : List ℕ) → m ≤ k → element_numbered n p (k - m) key bytes (slice_get p.file.arrays (k - m)) ≡ numbers_put n p o key bytes
+  pub numbers_of_array : (key : ℕ) (bytes : List ℕ) → m ≤ k → element_numbered n p (k - m) key bytes (slice_get p.file.arrays (k - m)) ≡
+      numbers_put n p o key bytes
   numbers_of_array key bytes h =
       ap (λ (j : ℕ). element_numbered n p (k - j) key bytes (slice_get p.file.arrays (k - j))) maps
-      ∙ ap (λ (b : Bool). if b then pair_numbered n p k key bytes (slice_get p.file.maps k) else element_numbered n p (k - length p.file.maps) key bytes (slice_get p.file.arrays (k - length p.file.maps))) (sym (beyond k m (length p.file.maps) maps h))
+      ∙ ap (λ (b : Bool). if b then pair_numbered n p k key bytes (slice_get p.file.maps k) else element_numbered n p
+      (k - length p.file.maps) key bytes (slice_get p.file.arrays (k - length p.file.maps))) (sym (beyond k m (length p.file.maps) maps h))
       ∙ ap (λ (x : Option ℕ). numbers_put n p x key bytes) found

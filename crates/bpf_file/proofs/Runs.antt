@@ -23,7 +23,8 @@ at_job (job ∷ jobs) (suc k) d = at_job jobs k d
 mapped : (P : Task → Type 0) (Q : Job → Type 0) → ((job : Job) → P (waiting job) → Q job) → (jobs : List Job) → All P (map waiting jobs) → All Q jobs
 mapped P Q f jobs all = λ k d h. f (get_or jobs k d) (subst P (at_job jobs k d) (all k (waiting d) (omega (arith, length-map jobs waiting, h))))
 
-pub runnable : (f : Setup) (g : File) → f.shape.cpus ≡ g.cpus → f.shape.maps ≡ g.maps → f.shape.arrays ≡ g.arrays → f.programs.items ≡ g.programs → map waiting f.jobs.items ≡ g.jobs → map pair_of f.pairs.items ≡ g.pairs → CanRun g → IsRunnable f
+pub runnable : (f : Setup) (g : File) → f.shape.cpus ≡ g.cpus → f.shape.maps ≡ g.maps → f.shape.arrays ≡ g.arrays → f.programs.items ≡
+    g.programs → map waiting f.jobs.items ≡ g.jobs → map pair_of f.pairs.items ≡ g.pairs → CanRun g → IsRunnable f
 runnable f g ec em ea ep ej eq can =
     let n = length f.programs.items in
     let C : ℕ → Type 0 = λ c. All (IsJobFor c (length g.programs)) g.jobs in

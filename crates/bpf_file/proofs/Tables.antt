@@ -10,7 +10,8 @@ use mathlib.Core.Path.{fun_ext}
 
 -- one that says of each name what the file says
 pub table_made : (p : Part) (t : Table) (maps : ℕ) (arrays : List ArrayShape) → has_arrays p.version ≡ true → maps ≡ length p.file.maps → arrays ≡ p.file.arrays
-    → ((q : List ℕ) → t q ≡ option_or (maps_from (symbol_at maps arrays) 0 p.file.names.maps q) (variables_from p.file.names.variables q)) → Some t ≡ names_for p
+    → ((q : List ℕ) → t q ≡ option_or (maps_from (symbol_at maps arrays) 0 p.file.names.maps q) (variables_from p.file.names.variables q)) →
+    Some t ≡ names_for p
 table_made p t maps arrays has counted same each =
     let T : ℕ → List ArrayShape → Table = λ m gs q. option_or (maps_from (symbol_at m gs) 0 p.file.names.maps q) (variables_from p.file.names.variables q) in
     let whole : t ≡ T maps arrays = fun_ext each in

@@ -1,6 +1,7 @@
 -- What one line adds to a run file, a row for each thing that it may say; or why it is refused
 -- (our own choice).
-use Rattle.std.specs.Prelude.{◌≡◌, ℕ, ◌+◌, ◌-◌, ◌*◌, ◌/◌, ◌==◌, ◌&&◌, ◌||◌, not, nat_le, nat_lt, Bool, if◌then◌else◌, List, [], ◌∷◌, ◌++◌, length, slice_get, Option, Some, None, Result, Ok, Err}
+use Rattle.std.specs.Prelude.{◌≡◌, ℕ, ◌+◌, ◌-◌, ◌*◌, ◌/◌, ◌==◌, ◌&&◌, ◌||◌, not, nat_le, nat_lt, Bool, if◌then◌else◌, List, [], ◌∷◌, ◌++◌}
+use Rattle.std.specs.Prelude.{length, slice_get, Option, Some, None, Result, Ok, Err}
 use Rattle.std.specs.Option.{option_map}
 use Rattle.hex.specs.Hex.{decode_of}
 use Rattle.hex.specs.declared.error.FromHexError.{FromHexError}
@@ -33,7 +34,8 @@ use Rattle.bpf_file.specs.Form.{is_there}
 use Rattle.bpf_file.specs.Limits.{most_pairs, most_variables}
 use Rattle.bpf_file.specs.Statement.{Said, JobSaid, Version, Cpus, Seed, Map, Array, Data, Variable, Put, PutNumbers, Program, Words, Job}
 use Rattle.bpf_file.specs.File.{File, named_by}
-use Rattle.bpf_file.specs.Parts.{Part, State, Between, Within, group_of, is_in_order, is_full, is_taken, place_of, array_place, with_first, with_cpus, with_seed, with_map, with_array, with_data, with_pair, with_variable, with_program, with_job}
+use Rattle.bpf_file.specs.Parts.{Part, State, Between, Within, group_of, is_in_order, is_full, is_taken, place_of, array_place, with_first}
+use Rattle.bpf_file.specs.Parts.{with_cpus, with_seed, with_map, with_array, with_data, with_pair, with_variable, with_program, with_job}
 use Rattle.bpf_file.specs.Packet.{packet_context}
 use Rattle.bpf_file.specs.Programs.{OfDigits}
 

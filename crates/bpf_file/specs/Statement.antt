@@ -1,5 +1,6 @@
 -- What a line of a run file says, where it isn't assembly (our own choice).
-use Rattle.std.specs.Prelude.{◌≡◌, ℕ, ◌-◌, ◌%◌, ◌^◌, ◌==◌, nat_le, nat_lt, Bool, true, false, if◌then◌else◌, List, [], ◌∷◌, ◌++◌, Option, Some, None, Result, Ok, Err, codes, length, take, drop, option_and_then, option_map}
+use Rattle.std.specs.Prelude.{◌≡◌, ℕ, ◌-◌, ◌%◌, ◌^◌, ◌==◌, nat_le, nat_lt, Bool, true, false, if◌then◌else◌, List, [], ◌∷◌, ◌++◌, Option}
+use Rattle.std.specs.Prelude.{Some, None, Result, Ok, Err, codes, length, take, drop, option_and_then, option_map}
 use Rattle.std.specs.List.{after_first, before_first}
 use Rattle.std.specs.Str.{bytes_eq}
 use Rattle.std.specs.Option.{option_copied}
@@ -22,7 +23,10 @@ use Rattle.bpf_file.specs.declared.version.Version.{Version as Edition}
 use Rattle.bpf_file.specs.declared.version.Version.TheVariants.{First, Second, Third}
 use Rattle.bpf_file.specs.Version.{may_grow, has_arrays}
 use Rattle.bpf_file.specs.declared.form.Part.TheVariants.{Name}
-use Rattle.bpf_file.specs.Form.{has_form, field_at, is_part, version_form, second_version_form, third_version_form, cpus_form, seed_form, map_form, masked_map_form, growing_map_form, growing_masked_map_form, array_form, per_cpu_form, frozen_form, data_form, variable_form, put_form, put_numbers_form, program_form, words_form, job_form, budget_form, context_form, xdp_form, tc_form, time_form, random_form}
+use Rattle.bpf_file.specs.Form.{has_form, field_at, is_part, version_form, second_version_form, third_version_form, cpus_form, seed_form}
+use Rattle.bpf_file.specs.Form.{map_form, masked_map_form, growing_map_form, growing_masked_map_form, array_form, per_cpu_form, frozen_form}
+use Rattle.bpf_file.specs.Form.{data_form, variable_form, put_form, put_numbers_form, program_form, words_form, job_form, budget_form}
+use Rattle.bpf_file.specs.Form.{context_form, xdp_form, tc_form, time_form, random_form}
 
 -- a job: its CPU, where 64 bits hold its number, its program's name, and its budget, its context's
 -- digits or its packet's and where the program hangs, its time and its seed, where the line has them

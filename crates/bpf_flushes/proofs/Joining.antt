@@ -1,5 +1,6 @@
 -- Moves follow each other.
-use Rattle.std.proofs.Common.{◌≡◌, ◌∙◌, ℕ, zero, suc, ◌+◌, ◌-◌, ◌<◌, ◌≤◌, List, [], ◌∷◌, ◌++◌, append_assoc, append-nil, length, map, take, replicate, get_or, inl, inr, refl, sym, ap, subst, arith}
+use Rattle.std.proofs.Common.{◌≡◌, ◌∙◌, ℕ, zero, suc, ◌+◌, ◌-◌, ◌<◌, ◌≤◌, List, [], ◌∷◌, ◌++◌, append_assoc, append-nil, length, map, take}
+use Rattle.std.proofs.Common.{replicate, get_or, inl, inr, refl, sym, ap, subst, arith}
 use Rattle.std.proofs.lemmas.List.{map-append, replicate-append-replicate, take_more, take_all}
 use Rattle.std.proofs.lemmas.Grind.{replicate_next}
 use Rattle.bpf_machine.specs.Schedule.{World, unrolled}
@@ -34,12 +35,14 @@ makes_both ms ns old mid new p q x shows =
 pub moved : (old new : BufferedState) (move : Move) → MovesTo old move new → MakesTo old (move ∷ []) new
 moved old new move moves x shows = let t = moves x shows in (t.0, (t.0, inl t.1, refl), t.2)
 
-pub one_more : (old mid new : BufferedState) (move : Move) (n : ℕ) → MakesTo old (replicate n move) mid → MakesTo mid (move ∷ []) new → MakesTo old (replicate (n + 1) move) new
+pub one_more : (old mid new : BufferedState) (move : Move) (n : ℕ) → MakesTo old (replicate n move) mid → MakesTo mid (move ∷ []) new →
+    MakesTo old (replicate (n + 1) move) new
 one_more old mid new move n before here =
     subst (λ (ms : List Move). MakesTo old ms new) (sym (replicate_next n move)) (makes_both (replicate n move) (move ∷ []) old mid new before here)
 
 -- those after one that changes nothing
-pub rest_made : (old mid new : BufferedState) (move : Move) (k n : ℕ) → k ≤ n → MakesTo old (replicate k move) mid → ((i : ℕ) → MakesTo mid (replicate i move) new) → MakesTo old (replicate n move) new
+pub rest_made : (old mid new : BufferedState) (move : Move) (k n : ℕ) → k ≤ n → MakesTo old (replicate k move) mid →
+    ((i : ℕ) → MakesTo mid (replicate i move) new) → MakesTo old (replicate n move) new
 rest_made old mid new move k n within before rest =
     let all : replicate n move ≡ replicate k move ++ replicate (n - k) move =
     ap (λ (i : ℕ). replicate i move) (omega arith) ∙ sym (replicate-append-replicate k (n - k) move)
@@ -49,13 +52,15 @@ rest_made old mid new move k n within before rest =
 -- ---- schedules in which each move has how often it is made
 unrolled-append : (xs ys : List (ℕ × ℕ)) → unrolled (xs ++ ys) ≡ unrolled xs ++ unrolled ys
 unrolled-append [] ys = refl
-unrolled-append (x ∷ xs) ys = ap (λ (cs : List ℕ). replicate x.1 x.0 ++ cs) (unrolled-append xs ys) ∙ sym (append_assoc (replicate x.1 x.0) (unrolled xs) (unrolled ys))
+unrolled-append (x ∷ xs) ys = ap (λ (cs : List ℕ). replicate x.1 x.0 ++ cs) (unrolled-append xs ys) ∙ sym
+    (append_assoc (replicate x.1 x.0) (unrolled xs) (unrolled ys))
 
 moves_alike : (n c : ℕ) → map move_of (replicate n c) ≡ replicate n (move_of c)
 moves_alike zero c = refl
 moves_alike (suc n) c = ap (λ (ms : List Move). move_of c ∷ ms) (moves_alike n c)
 
-pub next_run : (old mid new : BufferedState) (runs : List (ℕ × ℕ)) (i : ℕ) (d : ℕ × ℕ) → i < length runs → MakesTo old (map move_of (unrolled (take i runs))) mid
+pub next_run : (old mid new : BufferedState) (runs : List (ℕ × ℕ)) (i : ℕ) (d : ℕ × ℕ) → i < length runs → MakesTo old
+    (map move_of (unrolled (take i runs))) mid
     → MakesTo mid (replicate (get_or runs i d).1 (move_of (get_or runs i d).0)) new → MakesTo old (map move_of (unrolled (take (i + 1) runs))) new
 next_run old mid new runs i d inside before here =
     let run = get_or runs i d in
@@ -64,9 +69,12 @@ next_run old mid new runs i d inside before here =
     ap unrolled (take_more runs i d inside) ∙ (unrolled-append (take i runs) (run ∷ []) ∙ ap (λ (cs : List ℕ). unrolled (take i runs) ++ cs) last)
     in
     let moves : map move_of (unrolled (take (i + 1) runs)) ≡ map move_of (unrolled (take i runs)) ++ replicate run.1 (move_of run.0) =
-    ap (map move_of) all ∙ (map-append move_of (unrolled (take i runs)) (replicate run.1 run.0) ∙ ap (λ (ms : List Move). map move_of (unrolled (take i runs)) ++ ms) (moves_alike run.1 run.0))
+    ap (map move_of) all ∙ (map-append move_of (unrolled (take i runs)) (replicate run.1 run.0) ∙ ap
+    (λ (ms : List Move). map move_of (unrolled (take i runs)) ++ ms) (moves_alike run.1 run.0))
     in
-    subst (λ (ms : List Move). MakesTo old ms new) (sym moves) (makes_both (map move_of (unrolled (take i runs))) (replicate run.1 (move_of run.0)) old mid new before here)
+    subst (λ (ms : List Move). MakesTo old ms new) (sym moves) (makes_both (map move_of (unrolled (take i runs)))
+    (replicate run.1 (move_of run.0)) old mid new before here)
 
-pub all_runs : (old new : BufferedState) (runs : List (ℕ × ℕ)) (i : ℕ) → length runs ≤ i → MakesTo old (map move_of (unrolled (take i runs))) new → MakesTo old (map move_of (unrolled runs)) new
+pub all_runs : (old new : BufferedState) (runs : List (ℕ × ℕ)) (i : ℕ) → length runs ≤ i → MakesTo old
+    (map move_of (unrolled (take i runs))) new → MakesTo old (map move_of (unrolled runs)) new
 all_runs old new runs i past made = subst (λ (rs : List (ℕ × ℕ)). MakesTo old (map move_of (unrolled rs)) new) (take_all i runs past) made

@@ -19,7 +19,8 @@ clash x (FlushOf c) z (b, (oldest, rest, s, is, allowed, same), moved) nothing =
 module _ (law : MovesAreDetermined) (w : World) (fresh : IsFresh w) where
   one_make : (before : List Move) (x : X86) (move : Move) (y z : X86) → RunsMoves (drained w) before x → Makes x move y → Makes x move z → y ≡ z
   one_make before x move y z runs (inl p) (inl q) =
-      law w (before ++ move ∷ []) y z fresh (runs_both before (move ∷ []) (drained w) x y runs (y, p, refl)) (runs_both before (move ∷ []) (drained w) x z runs (z, q, refl))
+      law w (before ++ move ∷ []) y z fresh (runs_both before (move ∷ []) (drained w) x y runs (y, p, refl))
+      (runs_both before (move ∷ []) (drained w) x z runs (z, q, refl))
   one_make before x move y z runs (inl p) (inr q) = absurd (clash x move y p q.0)
   one_make before x move y z runs (inr p) (inl q) = absurd (clash x move z q p.0)
   one_make before x move y z runs (inr p) (inr q) = p.1 ∙ sym q.1
@@ -41,10 +42,12 @@ module _ (law : MovesAreDetermined) (w : World) (fresh : IsFresh w) where
       let r = all_run moves x p.1.0 p.1.1 in
       one_end n k (before ++ r.0) p.1.0 y z (runs_both before r.0 (drained w) x p.1.0 runs r.1) p.1.2 (subst (λ (s : X86). MakesRounds k s z) same q.1.2)
 
-one_told : (z y : X86) (names : Names) (maps : Bool) (text other : List ℕ) (stopped halted : Bool) → z ≡ y → Tells z.world.store z.world.jobs names maps text stopped → Tells y.world.store y.world.jobs names maps other halted
+one_told : (z y : X86) (names : Names) (maps : Bool) (text other : List ℕ) (stopped halted : Bool) → z ≡ y → Tells z.world.store
+    z.world.jobs names maps text stopped → Tells y.world.store y.world.jobs names maps other halted
     → (text ≡ other) × (stopped ≡ halted)
 one_told z y names maps text other stopped halted same a b =
-    let there : Tells z.world.store z.world.jobs names maps other halted = subst (λ (s : X86). Tells s.world.store s.world.jobs names maps other halted) (sym same) b in
+    let there : Tells z.world.store z.world.jobs names maps other halted = subst
+    (λ (s : X86). Tells s.world.store s.world.jobs names maps other halted) (sym same) b in
     let lines = one_asked maps z.world.store names a.0 there.0 a.1 there.1 in
     (a.2 ∙ ap (λ (x : List ℕ). job_lines (length z.world.jobs) z.world.jobs ++ ([] ++ x)) lines ∙ sym there.2, a.3 ∙ sym there.3)
 
@@ -77,6 +80,7 @@ reached law w schedule z (y, makes, (n, rounds)) =
     ((first.0 ++ rest.0, runs), all, law w (first.0 ++ rest.0) z runs all)
 
 -- what is printed of the machine that rounds leave
-pub told : (w : World) (runs : List (ℕ × ℕ)) (z : X86) (names : Names) (maps : Bool) (text : List ℕ) (stopped : Bool) → (y : X86) → MakesAll (drained w) (map move_of (unrolled runs)) y → ((n : ℕ) × MakesRounds n y z)
+pub told : (w : World) (runs : List (ℕ × ℕ)) (z : X86) (names : Names) (maps : Bool) (text : List ℕ) (stopped : Bool) → (y : X86) → MakesAll
+    (drained w) (map move_of (unrolled runs)) y → ((n : ℕ) × MakesRounds n y z)
     → Tells z.world.store z.world.jobs names maps text stopped → IsReportWithBuffers w runs names maps text stopped
 told w runs z names maps text stopped y made rounds tells = (z, (y, made, rounds), tells)

@@ -1,5 +1,6 @@
 -- Rounds of machines whose CPUs have store buffers.
-use Rattle.std.proofs.Common.{◌≡◌, ◌∙◌, ℕ, zero, suc, ◌+◌, ◌<◌, ◌≤◌, Bool, true, false, ◌||◌, List, [], ◌∷◌, ◌++◌, length, Option, Some, None, inl, inr, refl, sym, ap, subst, arith}
+use Rattle.std.proofs.Common.{◌≡◌, ◌∙◌, ℕ, zero, suc, ◌+◌, ◌<◌, ◌≤◌, Bool, true, false, ◌||◌, List, [], ◌∷◌, ◌++◌, length, Option, Some}
+use Rattle.std.proofs.Common.{None, inl, inr, refl, sym, ap, subst, arith}
 use Rattle.std.specs.Prelude.{is_some, nat_lt, option_and_then, slice_get}
 use Rattle.std.proofs.lemmas.Bool.{cases_lt}
 use Rattle.std.proofs.lemmas.Option.{slice_get_within}
@@ -37,7 +38,8 @@ pub record Took (mid : BufferedState) (c : ℕ) (took : Bool) (new : BufferedSta
   pub idle : took ≡ false → IdlesAt mid c new
   pub falls : took ≡ true → (x : X86) → ShowsX86 mid x → turns_left new.machine.jobs < turns_left mid.machine.jobs
 
-fewer : (b k : Bool) (old mid turned new : List Task) → new ≡ turned → (k ≡ false → turned ≡ mid) → (k ≡ true → turns_left turned < turns_left mid) → (b ≡ true → turns_left mid < turns_left old) → (b ≡ false → mid ≡ old) → (b || k) ≡ true
+fewer : (b k : Bool) (old mid turned new : List Task) → new ≡ turned → (k ≡ false → turned ≡ mid) →
+    (k ≡ true → turns_left turned < turns_left mid) → (b ≡ true → turns_left mid < turns_left old) → (b ≡ false → mid ≡ old) → (b || k) ≡ true
     → turns_left new < turns_left old
 fewer true true old mid turned new same still falls fell none e =
     let count : turns_left new ≡ turns_left turned = ap turns_left same in
@@ -55,7 +57,8 @@ fewer false true old mid turned new same still falls fell none e =
     omega arith
 fewer false false old mid turned new same still falls fell none e = let no : false ≡ true = e in cc
 
-still_idle : (b k : Bool) (c : ℕ) (old mid turned new : List Task) → new ≡ turned → (k ≡ false → (turned ≡ mid) × IsIdle mid c) → (b ≡ false → (mid ≡ old) × ((d : ℕ) → d < c → IsIdle old d)) → (b || k) ≡ false
+still_idle : (b k : Bool) (c : ℕ) (old mid turned new : List Task) → new ≡ turned → (k ≡ false → (turned ≡ mid) × IsIdle mid c) →
+    (b ≡ false → (mid ≡ old) × ((d : ℕ) → d < c → IsIdle old d)) → (b || k) ≡ false
     → (new ≡ old) × ((d : ℕ) → d < c + 1 → IsIdle old d)
 still_idle true k c old mid turned new same idle before e = let no : true ≡ false = e in cc
 still_idle false true c old mid turned new same idle before e = let no : true ≡ false = e in cc
@@ -70,7 +73,8 @@ still_idle false false c old mid turned new same idle before e =
     )
 
 -- one CPU more
-pub next_far : (old mid turned new : BufferedState) (c : ℕ) (worked took : Bool) → (x : X86) → ShowsX86 old x → SoFar old c worked mid → Took mid c took turned → MakesTo turned (FlushOf c ∷ []) new
+pub next_far : (old mid turned new : BufferedState) (c : ℕ) (worked took : Bool) → (x : X86) → ShowsX86 old x → SoFar old c worked mid →
+    Took mid c took turned → MakesTo turned (FlushOf c ∷ []) new
     → ((y : X86) → ShowsX86 turned y → new.machine.jobs ≡ turned.machine.jobs) → SoFar old (c + 1) (worked || took) new
 next_far old mid turned new c worked took x shows far it flushed kept =
     let r = far.makes x shows in
@@ -80,8 +84,10 @@ next_far old mid turned new c worked took x shows far it flushed kept =
     let more : suc c ≡ c + 1 = omega arith in
     record {
       makes = subst (λ (n : ℕ). MakesTo old (round_below n) new) more
-          (makes_both (round_below c) (TurnOf c ∷ FlushOf c ∷ []) old mid new far.makes (makes_both (TurnOf c ∷ []) (FlushOf c ∷ []) mid turned new it.makes flushed));
-      falls = fewer worked took old.machine.jobs mid.machine.jobs turned.machine.jobs new.machine.jobs same (λ e. still (it.idle e)) (λ e. it.falls e r.0 r.2) far.falls (λ e. (far.idle e).0);
+          (makes_both (round_below c) (TurnOf c ∷ FlushOf c ∷ []) old mid new far.makes
+          (makes_both (TurnOf c ∷ []) (FlushOf c ∷ []) mid turned new it.makes flushed));
+      falls = fewer worked took old.machine.jobs mid.machine.jobs turned.machine.jobs new.machine.jobs same (λ e. still (it.idle e))
+          (λ e. it.falls e r.0 r.2) far.falls (λ e. (far.idle e).0);
       idle = still_idle worked took c old.machine.jobs mid.machine.jobs turned.machine.jobs new.machine.jobs same
           (λ e. (let i = it.idle e r.0 r.2 in (still (it.idle e), (i.0, i.1)))) far.idle;
     }

@@ -1,6 +1,7 @@
 -- Turns and flushes of machines whose CPUs have store buffers: which change nothing, and how far turns
 -- lead.
-use Rattle.std.proofs.Common.{◌≡◌, ◌∙◌, ℕ, zero, suc, ◌+◌, ◌-◌, ◌<◌, ◌≤◌, Bool, true, false, List, [], ◌∷◌, Option, Some, None, replicate, inl, inr, refl, sym, ap, subst, arith}
+use Rattle.std.proofs.Common.{◌≡◌, ◌∙◌, ℕ, zero, suc, ◌+◌, ◌-◌, ◌<◌, ◌≤◌, Bool, true, false, List, [], ◌∷◌, Option, Some, None, replicate}
+use Rattle.std.proofs.Common.{inl, inr, refl, sym, ap, subst, arith}
 use Rattle.std.specs.Prelude.{nat_lt, slice_get, if◌then◌else◌}
 use Rattle.std.proofs.lemmas.Bool.{lt-ltb, le-ltb}
 use Rattle.bpf_shared.specs.declared.events.Event.{Event}
@@ -24,11 +25,13 @@ use Rattle.bpf_flushes.specs.Moves.{IdlesAt, MakesAll, MakesTo}
 use Rattle.bpf_flushes.proofs.Joining.{moved}
 
 -- ---- turns without work
-settled_worked : (x : X86) (c j : ℕ) (task : Task) (new : Cpu) (left : ℕ) (end : Option Outcome) (answer : Turn) (z : X86) → Settled x c j task new left end answer z → answer ≡ turn.Idle → ⊥
+settled_worked : (x : X86) (c j : ℕ) (task : Task) (new : Cpu) (left : ℕ) (end : Option Outcome) (answer : Turn) (z : X86) → Settled x c j
+    task new left end answer z → answer ≡ turn.Idle → ⊥
 settled_worked x c j task new left None answer z settled idle = let no : turn.Ran ≡ turn.Idle = sym settled.0.0 ∙ idle in cc
 settled_worked x c j task new left (Some end) answer z settled idle = let no : turn.Ended j end ≡ turn.Idle = sym settled.2.2 ∙ idle in cc
 
-idle_turn : (x : X86) (c : ℕ) (answer : Turn) (z : X86) → TakesTurn x c answer z → answer ≡ turn.Idle → IsFree x.world.jobs c × NoneWaits x.world.jobs c × (z ≡ x)
+idle_turn : (x : X86) (c : ℕ) (answer : Turn) (z : X86) → TakesTurn x c answer z → answer ≡ turn.Idle → IsFree x.world.jobs c × NoneWaits
+    x.world.jobs c × (z ≡ x)
 idle_turn x c answer z (inl a) idle = absurd (settled_worked _ c a.0 a.1 a.5.3 a.5.4 a.5.1 answer z a.5.7 idle)
 idle_turn x c answer z (inr (inl (free, a))) idle = absurd (settled_worked _ c a.0 a.1 a.7.3 a.7.4 a.7.1 answer z a.7.7 idle)
 idle_turn x c answer z (inr (inr a)) idle = (a.0, a.1, a.3)
@@ -60,15 +63,18 @@ idled old new c idle n x shows = (x, stays n, i.2)
     stays (suc n) = (x, inl (turn.Idle, inr (inr (free, none, refl, refl))), stays n)
 
 -- ---- turns with work
-left_falls : (program : Loaded) (c : ℕ) (b : Buffered) (old : Cpu) (left : ℕ) (t : Buffered) (new : Cpu) (rest : ℕ) → Advances program c b old left None t new rest → rest < left
+left_falls : (program : Loaded) (c : ℕ) (b : Buffered) (old : Cpu) (left : ℕ) (t : Buffered) (new : Cpu) (rest : ℕ) → Advances program c b
+    old left None t new rest → rest < left
 left_falls program c b old zero t new rest a = let no : None ≡ Some (OutOfBudget old.pc) = a.0 in cc
 left_falls program c b old (suc n) t new rest a = let e : rest ≡ n = a.5 in omega arith
 
-goes_falls : (x : X86) (c j : ℕ) (task : Task) (old : Cpu) (left : ℕ) (answer : Turn) (z : X86) → slice_get x.world.jobs j ≡ Some task → left < turns_before_end task.budget task.stage → GoesOn x c j task old left answer z
+goes_falls : (x : X86) (c j : ℕ) (task : Task) (old : Cpu) (left : ℕ) (answer : Turn) (z : X86) → slice_get x.world.jobs j ≡ Some task →
+    left < turns_before_end task.budget task.stage → GoesOn x c j task old left answer z
     → turns_left z.world.jobs < turns_left x.world.jobs
 goes_falls x c j task old left answer z at more g = settle g.1 g.6 g.7
   where
-    settle : (end : Option Outcome) → Advances g.0 c (record { memory = x.world.store; buffers = x.buffers }) old left end g.2 g.3 g.4 → Settled (with_buffered x g.2) c j task g.3 g.4 end answer z → turns_left z.world.jobs < turns_left x.world.jobs
+    settle : (end : Option Outcome) → Advances g.0 c (record { memory = x.world.store; buffers = x.buffers }) old left end g.2 g.3 g.4 →
+        Settled (with_buffered x g.2) c j task g.3 g.4 end answer z → turns_left z.world.jobs < turns_left x.world.jobs
     settle None a s =
         let stage : Stage = InHand g.3 g.4 in
         let jobs : z.world.jobs ≡ with_stage x.world.jobs j task stage = ap (λ w. w.jobs) s.0.1 in
@@ -85,10 +91,12 @@ turn_falls : (x z : X86) (c : ℕ) (answer : Turn) → TakesTurn x c answer z �
 turn_falls x z c answer (inl a) works =
     goes_falls x c a.0 a.1 a.2 a.3 answer z a.4.listed (subst (λ (s : Stage). a.3 < turns_before_end a.1.budget s) (sym a.4.at) (omega arith)) a.5
 turn_falls x z c answer (inr (inl (free, a))) works =
-    goes_falls (with_buffered x a.3) c a.0 a.1 (start c a.2) a.1.budget answer z a.4.listed (subst (λ (s : Stage). a.1.budget < turns_before_end a.1.budget s) (sym a.4.at) (omega arith)) a.7
+    goes_falls (with_buffered x a.3) c a.0 a.1 (start c a.2) a.1.budget answer z a.4.listed
+    (subst (λ (s : Stage). a.1.budget < turns_before_end a.1.budget s) (sym a.4.at) (omega arith)) a.7
 turn_falls x z c answer (inr (inr a)) works = absurd (works a.2)
 
-pub turns_fall : (old new : BufferedState) (c : ℕ) (answer : Turn) → TurnsTo old c answer new → (answer ≡ turn.Idle → ⊥) → (x : X86) → ShowsX86 old x → turns_left new.machine.jobs < turns_left old.machine.jobs
+pub turns_fall : (old new : BufferedState) (c : ℕ) (answer : Turn) → TurnsTo old c answer new → (answer ≡ turn.Idle → ⊥) → (x : X86) →
+    ShowsX86 old x → turns_left new.machine.jobs < turns_left old.machine.jobs
 turns_fall old new c answer turns works x shows =
     let t = turns x shows in
     subst (λ (ts : List Task). turns_left ts < turns_left old.machine.jobs) t.2.world.jobs
@@ -106,11 +114,13 @@ passed_over old new c same none n x shows = (x, stays n, subst (λ (m : Buffered
     stays zero = refl
     stays (suc n) = (x, inr (empty, refl), stays n)
 
-pub flush_made : (old new : BufferedState) (c : ℕ) (flushed : Bool) → (flushed ≡ true → MovesTo old (FlushOf c) new) → (flushed ≡ false → buffer_at old.buffers c ≡ []) → (flushed ≡ false → new ≡ old) → MakesTo old (FlushOf c ∷ []) new
+pub flush_made : (old new : BufferedState) (c : ℕ) (flushed : Bool) → (flushed ≡ true → MovesTo old (FlushOf c) new) →
+    (flushed ≡ false → buffer_at old.buffers c ≡ []) → (flushed ≡ false → new ≡ old) → MakesTo old (FlushOf c ∷ []) new
 flush_made old new c true moves none same = moved old new (FlushOf c) (moves refl)
 flush_made old new c false moves none same = passed_over old new c (same refl) (none refl) 1
 
-pub flush_jobs : (old new : BufferedState) (c : ℕ) (flushed : Bool) → (flushed ≡ true → MovesTo old (FlushOf c) new) → (flushed ≡ false → new ≡ old) → (x : X86) → ShowsX86 old x → new.machine.jobs ≡ old.machine.jobs
+pub flush_jobs : (old new : BufferedState) (c : ℕ) (flushed : Bool) → (flushed ≡ true → MovesTo old (FlushOf c) new) →
+    (flushed ≡ false → new ≡ old) → (x : X86) → ShowsX86 old x → new.machine.jobs ≡ old.machine.jobs
 flush_jobs old new c true moves same x shows = let t = moves refl x shows in sym t.2.world.jobs ∙ ap (λ (y : X86). y.world.jobs) t.1.2 ∙ shows.world.jobs
 flush_jobs old new c false moves same x shows = ap (λ (m : BufferedState). m.machine.jobs) (same refl)
 

@@ -1,5 +1,6 @@
 -- Accesses to values of a `HashStore`.
-use Rattle.std.proofs.Common.{◌≡◌, ◌≢◌, ℕ, zero, suc, ◌+◌, ◌-◌, ◌/◌, ◌%◌, ◌<◌, ◌≤◌, Bool, true, false, true≢false, ◌&&◌, ◌||◌, ◌==◌, List, length, slice_index_or, inl, inr, ◌⊎◌, refl, ap, sym, ◌∙◌, subst, arith}
+use Rattle.std.proofs.Common.{◌≡◌, ◌≢◌, ℕ, zero, suc, ◌+◌, ◌-◌, ◌/◌, ◌%◌, ◌<◌, ◌≤◌, Bool, true, false, true≢false, ◌&&◌, ◌||◌, ◌==◌, List}
+use Rattle.std.proofs.Common.{length, slice_index_or, inl, inr, ◌⊎◌, refl, ap, sym, ◌∙◌, subst, arith}
 use Rattle.std.proofs.lemmas.Bool.Decides.{nat_tests}
 use Rattle.bpf_base.specs.Bytes.{little_endian, low_bytes, part, with_part}
 use Rattle.bpf_base.specs.Atomic.{number_after}
@@ -18,7 +19,8 @@ use Rattle.bpf_shared.specs.Sound.{IsSoundStore}
 use Rattle.bpf_shared.specs.Passage.{same_span, IsHeldPlace}
 use Rattle.bpf_hash.specs.Private.Runs.{is_run}
 use Rattle.bpf_hash.specs.Private.Rows.{Rows, bytes_of, key_of, IsLinked, run_looked_up, run_left, stored_row}
-use Rattle.bpf_hash.specs.Private.Contents.{Contents, runs_of, rows, element_count, span_at, shapes_of, has_cpu, is_running, holds, keeps, held_spans, any_below, IsUsed, StandsFor, IsStore, with_table, Makes}
+use Rattle.bpf_hash.specs.Private.Contents.{Contents, runs_of, rows, element_count, span_at, shapes_of, has_cpu, is_running, holds, keeps}
+use Rattle.bpf_hash.specs.Private.Contents.{held_spans, any_below, IsUsed, StandsFor, IsStore, with_table, Makes}
 use Rattle.bpf_hash.specs.Private.Changes.{IsAtValue}
 use Rattle.bpf_shared.proofs.Puts.{equal_or_not, put-same, put-other}
 use Rattle.bpf_shared.proofs.Soundness.{held_writable}
@@ -48,7 +50,8 @@ same_spans q p h =
     λ i. record { at = x i; size = y i }
 
 -- the element whose span is held
-pub held_element : (p : Contents) (c : ℕ) (q : Span) → held_spans p c q ≡ true → (m : ℕ) × (i : ℕ) × (i < element_count p m) × (holds p c m i ≡ true) × (q ≡ span_at p m i)
+pub held_element : (p : Contents) (c : ℕ) (q : Span) → held_spans p c q ≡ true → (m : ℕ) × (i : ℕ) × (i < element_count p m) ×
+    (holds p c m i ≡ true) × (q ≡ span_at p m i)
 held_element p c q e =
     let a = any_some (length p.tables) (λ m. any_below (element_count p m) (λ i. holds p c m i && same_span q (span_at p m i))) e in
     let b = any_some (element_count p a.0) (λ i. holds p c a.0 i && same_span q (span_at p a.0 i)) a.2 in
@@ -70,14 +73,16 @@ is_at_value p c a size place =
     (e.0, e.1, sized_map p e.0 e.1 e.2, e.2, (from, omega arith))
 
 -- where the code looks for an address
-pub reach_facts : (p : Contents) (is : IsStore p) (a : ℕ) (v : IsAtValue p a) (t : Rows) (w : ℕ) → t ≡ rows p ((a - 0x10_0000_0000) / 0x1000_0000) → w ≡ element_stride t.shape
+pub reach_facts : (p : Contents) (is : IsStore p) (a : ℕ) (v : IsAtValue p a) (t : Rows) (w : ℕ) → t ≡ rows p
+    ((a - 0x10_0000_0000) / 0x1000_0000) → w ≡ element_stride t.shape
     → ((a - 0x10_0000_0000) % 0x1000_0000 / w < element_count p ((a - 0x10_0000_0000) / 0x1000_0000))
     × (a ≡ (span_at p ((a - 0x10_0000_0000) / 0x1000_0000) ((a - 0x10_0000_0000) % 0x1000_0000 / w)).at + (a - 0x10_0000_0000) % 0x1000_0000 % w)
     × ((a - 0x10_0000_0000) % 0x1000_0000 % w < (span_at p ((a - 0x10_0000_0000) / 0x1000_0000) ((a - 0x10_0000_0000) % 0x1000_0000 / w)).size)
 reach_facts p is a v t w row wide =
     let x : ℕ = (a - 0x10_0000_0000) % 0x1000_0000 in
     let r = reached v.0 v.1 a (rows p v.0).shape (is.tables v.0 v.2).0.shape v.3 v.4 in
-    let same : w ≡ element_stride (rows p v.0).shape = wide ∙ (ap (λ (y : Rows). element_stride y.shape) row ∙ ap (λ (n : ℕ). element_stride (rows p n).shape) r.0) in
+    let same : w ≡ element_stride (rows p v.0).shape = wide ∙ (ap (λ (y : Rows). element_stride y.shape) row ∙ ap
+    (λ (n : ℕ). element_stride (rows p n).shape) r.0) in
     let element : x / w ≡ v.1 = ap (λ (k : ℕ). x / k) same ∙ r.1 in
     let offset : x % w ≡ a - (span_at p v.0 v.1).at = ap (λ (k : ℕ). x % k) same ∙ r.2 in
     let P : ℕ → ℕ → ℕ → Type 0 = λ m e o. (e < element_count p m) × (a ≡ (span_at p m e).at + o) × (o < (span_at p m e).size) in
@@ -86,7 +91,8 @@ reach_facts p is a v t w row wide =
     subst (λ (m : ℕ). P m (x / w) (x % w)) (sym r.0) (subst (λ (e : ℕ). P v.0 e (x % w)) (sym element) (subst (λ (o : ℕ). P v.0 v.1 o) (sym offset) base))
 
 -- the held element is the one that the code found
-module _ (p : Contents) (is : IsStore p) (c a : ℕ) (size : Size) (place : IsHeldPlace (held_spans p c) a (bytes_in size)) (m i o : ℕ) (l : i < element_count p m) (at : a ≡ (span_at p m i).at + o) (inside : o < (span_at p m i).size) where
+module _ (p : Contents) (is : IsStore p) (c a : ℕ) (size : Size) (place : IsHeldPlace (held_spans p c) a (bytes_in size)) (m i o : ℕ)
+    (l : i < element_count p m) (at : a ≡ (span_at p m i).at + o) (inside : o < (span_at p m i).size) where
   found_in : IsIn a (span_at p m i)
   found_in = (omega arith, omega arith)
 
@@ -147,10 +153,12 @@ module _ (p : Contents) (is : IsStore p) (c a : ℕ) (size : Size) (place : IsHe
     low = length-low_bytes (bytes_in size) word
 
     bytes-here : bytes_of stored i ≡ with_part (bytes_of (rows p m) i) o (low_bytes (bytes_in size) word)
-    bytes-here = block-within (rows p m).values (low_bytes (bytes_in size) word) i (element_count p m) (rows p m).shape.value o (is.tables m mi).0.values l (omega (arith, fits, low))
+    bytes-here = block-within (rows p m).values (low_bytes (bytes_in size) word) i (element_count p m) (rows p m).shape.value o
+        (is.tables m mi).0.values l (omega (arith, fits, low))
 
     bytes-beside : (j : ℕ) → j < element_count p m → j ≢ i → bytes_of stored j ≡ bytes_of (rows p m) j
-    bytes-beside j k ne = block-beside (rows p m).values (low_bytes (bytes_in size) word) i j (element_count p m) (rows p m).shape.value o (is.tables m mi).0.values l k (omega (arith, fits, low)) ne
+    bytes-beside j k ne = block-beside (rows p m).values (low_bytes (bytes_in size) word) i j (element_count p m) (rows p m).shape.value o
+        (is.tables m mi).0.values l k (omega (arith, fits, low)) ne
 
     pub store_shapes : shapes_of (with_table p m stored) ≡ shapes_of p
     store_shapes = shapes-with p m stored mi refl
@@ -191,16 +199,21 @@ module _ (p : Contents) (is : IsStore p) (c a : ℕ) (size : Size) (place : IsHe
 
     module _ (s : Plain) (so : IsSoundStore s) (h : StandsFor p s) where
       abbrev value-new : Value
-      value-new = record (s.value (h.number m i)) { bytes = with_part (s.value (h.number m i)).bytes (a - (s.value (h.number m i)).span.at) (low_bytes (bytes_in size) word) }
+      value-new = record (s.value (h.number m i)) {
+        bytes = with_part (s.value (h.number m i)).bytes (a - (s.value (h.number m i)).span.at)
+            (low_bytes (bytes_in size) word);
+      }
 
       new-is : value-new ≡ record { bytes = bytes_of stored i; span = span_at p m i }
       new-is =
           ap (λ (x : Value). let y : Value = record x { bytes = with_part x.bytes (a - x.span.at) (low_bytes (bytes_in size) word) } in y) (value-is s so h)
-          ∙ (ap (λ (k : ℕ). let y : Value = record { bytes = with_part (bytes_of (rows p m) i) k (low_bytes (bytes_in size) word); span = span_at p m i } in y) (let k : a - (span_at p m i).at ≡ o = omega arith in k)
+          ∙ (ap (λ (k : ℕ). let y : Value = record { bytes = with_part (bytes_of (rows p m) i) k (low_bytes (bytes_in size) word); span = span_at p m i } in y)
+          (let k : a - (span_at p m i).at ≡ o = omega arith in k)
           ∙ ap (λ (b : List ℕ). let y : Value = record { bytes = b; span = span_at p m i } in y) (sym bytes-here))
 
       values-after : (n j : ℕ) → j < element_count p n → IsUsed p n j → (n ≡ m) ⊎ (n ≢ m)
-          → put s.value (h.number m i) value-new (h.number n j) ≡ record { bytes = bytes_of (rows (with_table p m stored) n) j; span = span_at (with_table p m stored) n j }
+          → put s.value (h.number m i) value-new (h.number n j) ≡ record
+          { bytes = bytes_of (rows (with_table p m stored) n) j; span = span_at (with_table p m stored) n j }
       values-after n j k u (inl e) = elim (equal_or_not j i) [
         | inl f ↦
             let here : h.number n j ≡ h.number m i = ap (λ (x : ℕ). h.number x j) e ∙ ap (h.number m) f in
@@ -208,7 +221,8 @@ module _ (p : Contents) (is : IsStore p) (c a : ℕ) (size : Size) (place : IsHe
             ∙ (new-is
             ∙ (ap (λ (x : ℕ). let y : Value = record { bytes = bytes_of stored x; span = span_at p m x } in y) (sym f)
             ∙ (ap (λ (t : Rows). let y : Value = record { bytes = bytes_of t j; span = element_span m t.shape j } in y) (sym (rows-here p m stored mi))
-            ∙ ap (λ (x : ℕ). let y : Value = record { bytes = bytes_of (rows (with_table p m stored) x) j; span = span_at (with_table p m stored) x j } in y) (sym e))))
+            ∙ ap (λ (x : ℕ). let y : Value = record { bytes = bytes_of (rows (with_table p m stored) x) j; span = span_at (with_table p m stored) x j } in y)
+            (sym e))))
         | inr f ↦
             let apart : h.number n j ≢ h.number m i = λ q. f ((one_number p is s so h n m j i k l u (inr (c, inr is_held)) q).1) in
             let k' : j < element_count p m = subst (λ (x : ℕ). j < element_count p x) e k in
@@ -217,7 +231,8 @@ module _ (p : Contents) (is : IsStore p) (c a : ℕ) (size : Size) (place : IsHe
             ∙ (ap (λ (x : ℕ). let y : Value = record { bytes = bytes_of (rows p x) j; span = span_at p x j } in y) e
             ∙ (ap (λ (b : List ℕ). let y : Value = record { bytes = b; span = span_at p m j } in y) (sym (bytes-beside j k' f))
             ∙ (ap (λ (t : Rows). let y : Value = record { bytes = bytes_of t j; span = element_span m t.shape j } in y) (sym (rows-here p m stored mi))
-            ∙ ap (λ (x : ℕ). let y : Value = record { bytes = bytes_of (rows (with_table p m stored) x) j; span = span_at (with_table p m stored) x j } in y) (sym e)))))
+            ∙ ap (λ (x : ℕ). let y : Value = record { bytes = bytes_of (rows (with_table p m stored) x) j; span = span_at (with_table p m stored) x j } in y)
+            (sym e)))))
       ]
       values-after n j k u (inr ne) =
           let apart : h.number n j ≢ h.number m i = λ q. ne ((one_number p is s so h n m j i k l u (inr (c, inr is_held)) q).0) in
@@ -241,7 +256,8 @@ module _ (p : Contents) (is : IsStore p) (c a : ℕ) (size : Size) (place : IsHe
         kept_back = λ d n j k e. h.kept_back d n j (within n j k) (sym (keeps-same d n j) ∙ e);
       }
 
-  pub store_calls : (word : ℕ) → is_running p c ≡ true → Makes p (with_table p m (stored_row i o (low_bytes (bytes_in size) word) (rows p m))) c (Store a size word)
+  pub store_calls : (word : ℕ) → is_running p c ≡ true → Makes p
+      (with_table p m (stored_row i o (low_bytes (bytes_in size) word) (rows p m))) c (Store a size word)
   store_calls word going = calls p (with_table p m (stored_row i o (low_bytes (bytes_in size) word) (rows p m))) c (Store a size word) (λ s so h. (
     after_write s (h.number m i) a (bytes_in size) word,
     (h.running c ∙ going, (h.number m i, may_write s so h, refl)),
@@ -249,11 +265,13 @@ module _ (p : Contents) (is : IsStore p) (c a : ℕ) (size : Size) (place : IsHe
     stored_stands word s so h,
   ))
 
-  pub atomic_calls : (op : Change) (operand expected found word : ℕ) → found ≡ little_endian (part (bytes_of (rows p m) i) o (bytes_in size)) → word ≡ number_after op (bytes_in size) found operand expected → is_running p c ≡ true
+  pub atomic_calls : (op : Change) (operand expected found word : ℕ) → found ≡ little_endian
+      (part (bytes_of (rows p m) i) o (bytes_in size)) → word ≡ number_after op (bytes_in size) found operand expected → is_running p c ≡ true
       → Makes p (with_table p m (stored_row i o (low_bytes (bytes_in size) word) (rows p m))) c (Atomic a size op operand expected found)
-  atomic_calls op operand expected found word is_found is_word going = calls p (with_table p m (stored_row i o (low_bytes (bytes_in size) word) (rows p m))) c (Atomic a size op operand expected found) (λ s so h. (
-    after_write s (h.number m i) a (bytes_in size) word,
-    (h.running c ∙ going, (h.number m i, may_write s so h, is_found ∙ sym (number-is s so h), ap (after_write s (h.number m i) a (bytes_in size)) is_word)),
-    tt,
-    stored_stands word s so h,
-  ))
+  atomic_calls op operand expected found word is_found is_word going = calls p
+      (with_table p m (stored_row i o (low_bytes (bytes_in size) word) (rows p m))) c (Atomic a size op operand expected found) (λ s so h. (
+        after_write s (h.number m i) a (bytes_in size) word,
+        (h.running c ∙ going, (h.number m i, may_write s so h, is_found ∙ sym (number-is s so h), ap (after_write s (h.number m i) a (bytes_in size)) is_word)),
+        tt,
+        stored_stands word s so h,
+      ))

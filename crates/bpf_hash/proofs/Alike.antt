@@ -56,13 +56,28 @@ module _ (p q : Contents) (s : Plain) (alike : LookAlike p q) (shown : StandsFor
     maps = shown.maps ∙ sym alike.maps;
     running = λ c. shown.running c ∙ sym (alike.running c);
     number = shown.number;
-    leads = λ m i is. let there = linked m i is in subst (λ (key : List ℕ). Finds s m key (shown.number m i)) (sym (alike.keys m i there)) (shown.leads m i there);
+    leads = λ m i is. let there = linked m i is in subst (λ (key : List ℕ). Finds s m key (shown.number m i)) (sym (alike.keys m i there))
+        (shown.leads m i there);
     found = found;
     counts = λ m. shown.counts m ∙ ap (λ (bs : List Bool). count_by (λ b. b) bs) (sym (alike.linked m));
     values = value;
-    held = λ c v is. (let h = shown.held c v is in (h.0, h.1, subst (λ (k : MapShape). h.1 < elements k) (sym (shape h.0)) h.2, alike.holds c h.0 h.1 h.2 ∙ h.3, h.4));
+    held = λ c v is. (let h = shown.held c v is in (
+      h.0,
+      h.1,
+      subst (λ (k : MapShape). h.1 < elements k) (sym (shape h.0)) h.2,
+      alike.holds
+          c h.0 h.1 h.2 ∙ h.3,
+      h.4,
+    ));
     held_back = λ c m i less is. (let here = inside m i less in shown.held_back c m i here (sym (alike.holds c m i here) ∙ is));
-    kept = λ c v is. (let h = shown.kept c v is in (h.0, h.1, subst (λ (k : MapShape). h.1 < elements k) (sym (shape h.0)) h.2, alike.keeps c h.0 h.1 h.2 ∙ h.3, h.4));
+    kept = λ c v is. (let h = shown.kept c v is in (
+      h.0,
+      h.1,
+      subst (λ (k : MapShape). h.1 < elements k) (sym (shape h.0)) h.2,
+      alike.keeps
+          c h.0 h.1 h.2 ∙ h.3,
+      h.4,
+    ));
     kept_back = λ c m i less is. (let here = inside m i less in shown.kept_back c m i here (sym (alike.keeps c m i here) ∙ is));
   }
 

@@ -57,7 +57,8 @@ module _ (parts p : Contents) (view : ◌≡◌ {A = Contents} parts p) (ok : Is
         subst (λ (q : Contents). Makes p q c (Delete m key answer)) (sym new)
         (takes_calls p is c m key there answer n going (h, map, size) taken)
 
-  module _ (bytes : List ℕ) (flags : ℕ) (answer : MapAnswer) (size : length key ≡ h.key) (long : length bytes ≡ h.value) (puts : PutsRow runs old key bytes flags answer n) where
+  module _ (bytes : List ℕ) (flags : ℕ) (answer : MapAnswer) (size : length key ≡ h.key) (long : length bytes ≡ h.value)
+      (puts : PutsRow runs old key bytes flags answer n) where
     put : PutsRow p.runs (rows p m) key bytes flags answer n
     put = subst (λ (r : List Runs). PutsRow r (rows p m) key bytes flags answer n) all (subst (λ (t : Rows). PutsRow runs t key bytes flags answer n) row puts)
 

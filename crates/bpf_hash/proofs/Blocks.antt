@@ -1,5 +1,6 @@
 -- Lists that are cut into blocks of one length, and parts of lists that are replaced.
-use Rattle.std.proofs.Common.{◌≡◌, ◌≢◌, ℕ, ◌+◌, ◌-◌, ◌*◌, ◌/◌, ◌<◌, ◌≤◌, List, ◌++◌, length, take, drop, length-append, length-drop, get_or, ◌⊎◌, inl, inr, sym, ap, ◌∙◌, arith}
+use Rattle.std.proofs.Common.{◌≡◌, ◌≢◌, ℕ, ◌+◌, ◌-◌, ◌*◌, ◌/◌, ◌<◌, ◌≤◌, List, ◌++◌, length, take, drop, length-append, length-drop, get_or}
+use Rattle.std.proofs.Common.{◌⊎◌, inl, inr, sym, ap, ◌∙◌, arith}
 use Rattle.std.proofs.Math.Nat.{mul-le-mul_right}
 use Rattle.std.proofs.lemmas.Nat.{div-mul-add}
 use Rattle.std.proofs.lemmas.Bool.{cases_lt}
@@ -61,7 +62,8 @@ module _ (bs others : List ℕ) (i : ℕ) (l : i + length others ≤ length bs) 
   pub get_or-behind : (k : ℕ) → i + length others ≤ k → get_or (with_part bs i others) k 0 ≡ get_or bs k 0
   get_or-behind k h =
       get_or-append_right (take i bs ++ others) (drop (i + length others) bs) (i + length others) k 0 whole h
-      ∙ (get_or-drop (i + length others) bs (k - (i + length others)) 0 ∙ ap (λ (n : ℕ). get_or bs n 0) (let e : i + length others + (k - (i + length others)) ≡ k = omega arith in e))
+      ∙ (get_or-drop (i + length others) bs (k - (i + length others)) 0 ∙ ap (λ (n : ℕ). get_or bs n 0)
+      (let e : i + length others + (k - (i + length others)) ≡ k = omega arith in e))
 
 pub get_or-part : (bs : List ℕ) (i n k : ℕ) → k < n → get_or (part bs i n) k 0 ≡ get_or bs (i + k) 0
 get_or-part bs i n k l = get_or-take n (drop i bs) k 0 l ∙ get_or-drop i bs k 0
@@ -102,7 +104,8 @@ part-within bs others j n o l m =
             let at : k - o < length others = omega arith in
             ap (λ (x : ℕ). get_or (with_part bs (j + o) others) x 0) (let e : j + k ≡ j + o + (k - o) = omega arith in e)
             ∙ (get_or-inside bs others (j + o) fits (k - o) at
-            ∙ (sym (get_or-inside (part bs j n) others o inner (k - o) at) ∙ ap (λ (x : ℕ). get_or (with_part (part bs j n) o others) x 0) (let e : o + (k - o) ≡ k = omega arith in e)))
+            ∙ (sym (get_or-inside (part bs j n) others o inner (k - o) at) ∙ ap (λ (x : ℕ). get_or (with_part (part bs j n) o others) x 0)
+            (let e : o + (k - o) ≡ k = omega arith in e)))
         | inr behind ↦ get_or-behind bs others (j + o) fits (j + k) (omega arith)
             ∙ (sym (get_or-part bs j n k below) ∙ sym (get_or-behind (part bs j n) others o inner k behind))
       ]

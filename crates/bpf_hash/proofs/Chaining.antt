@@ -1,5 +1,6 @@
 -- Chains of elements: to one comes an element, and from one goes an element.
-use Rattle.std.proofs.Common.{◌≡◌, ◌≢◌, ℕ, zero, suc, ◌+◌, ◌-◌, ◌<◌, ◌≤◌, Bool, true, false, List, [], ◌∷◌, length, set, get_or, slice_index, ◌⊎◌, inl, inr, refl, sym, ap, subst, ◌∙◌, arith}
+use Rattle.std.proofs.Common.{◌≡◌, ◌≢◌, ℕ, zero, suc, ◌+◌, ◌-◌, ◌<◌, ◌≤◌, Bool, true, false, List, [], ◌∷◌, length, set, get_or}
+use Rattle.std.proofs.Common.{slice_index, ◌⊎◌, inl, inr, refl, sym, ap, subst, ◌∙◌, arith}
 use Rattle.std.specs.List.{count_by}
 use Rattle.std.proofs.lemmas.List.{get_or-set_same, get_or-set_other, length-set}
 use Rattle.std.proofs.lemmas.List.Sums.{count_by-le-length}
@@ -13,7 +14,8 @@ distinct_marked [] ms d all = omega arith
 distinct_marked (x ∷ xs) ms d all =
     let marked : get_or ms x false ≡ true = all x (inl refl) in
     let one : count_by (λ x. x) (set ms x false) + 1 ≡ count_by (λ x. x) ms = count-unmarked ms x (marked_inside ms x marked) marked in
-    let rest : length xs ≤ count_by (λ x. x) (set ms x false) = distinct_marked xs (set ms x false) d.1 (λ i h. get_or-set_other ms x i false false (λ e. d.0 (subst (Has xs) e h)) ∙ all i (inr h)) in
+    let rest : length xs ≤ count_by (λ x. x) (set ms x false) = distinct_marked xs (set ms x false) d.1
+    (λ i h. get_or-set_other ms x i false false (λ e. d.0 (subst (Has xs) e h)) ∙ all i (inr h)) in
     omega arith
 
 abbrev all_marked : ℕ → List Bool
@@ -70,8 +72,11 @@ chain_end nexts link (x ∷ xs) e p i h = (let a = p.0 in omega arith)
 pub chain-else : (nexts : List ℕ) (i v link : ℕ) (xs : List ℕ) → (Has xs i → ⊥) → IsChain nexts link xs → IsChain (set nexts i v) link xs
 chain-else nexts i v link [] none p = p
 chain-else nexts i v link (x ∷ xs) none p =
-    let ne : x ≢ i = λ e. none (inl (sym e)) in
-    (p.0, subst (λ (n : ℕ). IsChain (set nexts i v) n xs) (sym (get_or-set_other nexts i x v 0 ne)) (chain-else nexts i v (slice_index nexts x) xs (λ h. none (inr h)) p.1))
+    let ne : x ≢ i = λ e. none (inl (sym e)) in (
+      p.0,
+      subst (λ (n : ℕ). IsChain (set nexts i v) n xs) (sym (get_or-set_other nexts i x v 0 ne))
+          (chain-else nexts i v (slice_index nexts x) xs (λ h. none (inr h)) p.1),
+    )
 
 -- the elements without one of them
 pub record IsWithout (e : ℕ) (xs ys : List ℕ) : Type 0 where
@@ -107,13 +112,15 @@ chain-cut nexts p e inside leads link (x ∷ (y ∷ xs)) c d h = elim (equal_or_
       let at : slice_index nexts x ≡ e + 1 = ap (slice_index nexts) (sym s) ∙ leads in
       let next : y ≡ e = (let a : slice_index nexts x ≡ y + 1 = c.1.0 in omega arith) in
       let new : slice_index (set nexts p (slice_index nexts e)) x ≡ slice_index nexts y =
-      ap (slice_index (set nexts p (slice_index nexts e))) (sym s) ∙ (get_or-set_same nexts p (slice_index nexts e) 0 inside ∙ ap (slice_index nexts) (sym next)) in
+      ap (slice_index (set nexts p (slice_index nexts e))) (sym s) ∙
+      (get_or-set_same nexts p (slice_index nexts e) 0 inside ∙ ap (slice_index nexts) (sym next)) in
       let ne : x ≢ e = λ q. d.0 (inl (q ∙ sym next)) in
       let not_in : Has xs p → ⊥ = λ k. d.0 (inr (subst (Has xs) s k)) in (
         x ∷ xs,
         (
           c.0,
-          subst (λ (n : ℕ). IsChain (set nexts p (slice_index nexts e)) n xs) (sym new) (chain-else nexts p (slice_index nexts e) (slice_index nexts y) xs not_in c.1.1),
+          subst (λ (n : ℕ). IsChain (set nexts p (slice_index nexts e)) n xs) (sym new)
+              (chain-else nexts p (slice_index nexts e) (slice_index nexts y) xs not_in c.1.1),
         ),
         without_more e x (y ∷ xs) xs d ne (subst (λ (n : ℕ). IsWithout n (y ∷ xs) xs) next (without_first y xs d.1)),
       )
@@ -121,7 +128,8 @@ chain-cut nexts p e inside leads link (x ∷ (y ∷ xs)) c d h = elim (equal_or_
       let later : Has (y ∷ xs) p = elim h [ inl s ↦ absurd (ne s) | inr k ↦ k ] in
       let rest = chain-cut nexts p e inside leads (slice_index nexts x) (y ∷ xs) c.1 d.1 later in
       let apart : x ≢ e = λ q. d.0 (subst (Has (y ∷ xs)) (sym q) (follows (slice_index nexts x) (y ∷ xs) c.1 later)) in
-      let same : slice_index (set nexts p (slice_index nexts e)) x ≡ slice_index nexts x = get_or-set_other nexts p x (slice_index nexts e) 0 (λ q. ne (sym q)) in (
+      let same : slice_index (set nexts p (slice_index nexts e)) x ≡ slice_index nexts x = get_or-set_other nexts p x (slice_index nexts e)
+      0 (λ q. ne (sym q)) in (
         x ∷ rest.0,
         (c.0, subst (λ (n : ℕ). IsChain (set nexts p (slice_index nexts e)) n rest.0) (sym same) rest.1),
         without_more e x (y ∷ xs) rest.0 d apart rest.2,
@@ -136,7 +144,8 @@ chain-cut nexts p e inside leads link (x ∷ (y ∷ xs)) c d h = elim (equal_or_
       | inr m ↦ m
     ])
     follows l (z ∷ (w ∷ zs)) q k = elim k [
-      | inl s ↦ inr (inl (let a : slice_index nexts z ≡ w + 1 = q.1.0 in let b : slice_index nexts z ≡ e + 1 = ap (slice_index nexts) (sym s) ∙ leads in omega arith))
+      | inl s ↦ inr (inl (let a : slice_index nexts z ≡ w + 1 = q.1.0 in
+          let b : slice_index nexts z ≡ e + 1 = ap (slice_index nexts) (sym s) ∙ leads in omega arith))
       | inr m ↦ inr (follows (slice_index nexts z) (w ∷ zs) q.1 m)
     ]
 
@@ -171,7 +180,8 @@ later_still link e xs some other h = elim h [
 
 pub first_step : (x : Links) (is : IsLinks x) (b e : ℕ) → IsChainedAt x b e → slice_index x.heads b ≢ e + 1
     → (slice_index x.heads b ≢ 0) × IsChainedAt x b (slice_index x.heads b - 1)
-    × ((rest : List ℕ) × IsChain x.nexts (slice_index x.nexts (slice_index x.heads b - 1)) rest × (length rest ≤ length x.nexts) × ((i : ℕ) → Has rest i → IsChainedAt x b i) × Has rest e)
+    × ((rest : List ℕ) × IsChain x.nexts (slice_index x.nexts (slice_index x.heads b - 1)) rest × (length rest ≤ length x.nexts) ×
+    ((i : ℕ) → Has rest i → IsChainedAt x b i) × Has rest e)
 first_step x is b e at other =
     let link = slice_index x.heads b in
     let own = is.chain b in
@@ -203,14 +213,16 @@ module _ (x : Links) (is : IsLinks x) (b i : ℕ) (bi : b < length x.heads) (ii 
   else_ c ne = get_or-set_other x.heads b c (i + 1) 0 ne
 
   kept : (c link : ℕ) (xs : List ℕ) → IsChainOf x c xs → link ≡ slice_index x.heads c → IsChain with_link.nexts link xs
-  kept c link xs p e = subst (λ (n : ℕ). IsChain with_link.nexts n xs) (sym e) (chain-else x.nexts i (slice_index x.heads b) (slice_index x.heads c) xs (λ h. new c (xs, p, h)) p)
+  kept c link xs p e = subst (λ (n : ℕ). IsChain with_link.nexts n xs) (sym e)
+      (chain-else x.nexts i (slice_index x.heads b) (slice_index x.heads c) xs (λ h. new c (xs, p, h)) p)
 
   longer : (xs : List ℕ) → IsChainOf x b xs → IsChainOf with_link b (i ∷ xs)
   longer xs p = (here, kept b (slice_index with_link.nexts i) xs p (get_or-set_same x.nexts i (slice_index x.heads b) 0 ii))
 
   still : (c j : ℕ) → IsChainedAt x c j → IsChainedAt with_link c j
   still c j at = elim (equal_or_not c b) [
-    | inl s ↦ subst (λ (n : ℕ). IsChainedAt with_link n j) (sym s) (let o : IsChainedAt x b j = subst (λ (n : ℕ). IsChainedAt x n j) s at in (i ∷ o.0, longer o.0 o.1, inr o.2))
+    | inl s ↦ subst (λ (n : ℕ). IsChainedAt with_link n j) (sym s)
+        (let o : IsChainedAt x b j = subst (λ (n : ℕ). IsChainedAt x n j) s at in (i ∷ o.0, longer o.0 o.1, inr o.2))
     | inr ne ↦ (at.0, kept c (slice_index with_link.heads c) at.0 at.1 (else_ c ne), at.2)
   ]
 
@@ -240,10 +252,12 @@ module _ (x : Links) (is : IsLinks x) (b i : ℕ) (bi : b < length x.heads) (ii 
       record {
         fits = omega arith;
         chain = λ c. (let own = is.chain c in elim (equal_or_not c b) [
-          | inl s ↦ subst (λ (n : ℕ). (xs : List ℕ) × IsChainOf with_link n xs × IsDistinct xs) (sym s) (let o = is.chain b in (i ∷ o.0, longer o.0 o.1, (λ h. new b (o.0, o.1, h), o.2)))
+          | inl s ↦ subst (λ (n : ℕ). (xs : List ℕ) × IsChainOf with_link n xs × IsDistinct xs) (sym s)
+              (let o = is.chain b in (i ∷ o.0, longer o.0 o.1, (λ h. new b (o.0, o.1, h), o.2)))
           | inr ne ↦ (own.0, kept c (slice_index with_link.heads c) own.0 own.1 (else_ c ne), own.2)
         ]);
-        inside = λ c j at. subst (λ (n : ℕ). j < n) (sym count) (elim (was c j at) [ inl p ↦ subst (λ (n : ℕ). n < length x.nexts) (sym p.1) ii | inr o ↦ is.inside c j o ]);
+        inside = λ c j at. subst (λ (n : ℕ). j < n) (sym count)
+            (elim (was c j at) [ inl p ↦ subst (λ (n : ℕ). n < length x.nexts) (sym p.1) ii | inr o ↦ is.inside c j o ]);
         apart = λ c d j p q. elim (was c j p) [
           | inl a ↦ elim (was d j q) [ inl z ↦ a.0 ∙ sym z.0 | inr z ↦ absurd (new d (subst (IsChainedAt x d) a.1 z)) ]
           | inr a ↦ elim (was d j q) [ inl z ↦ absurd (new c (subst (IsChainedAt x c) z.1 a)) | inr z ↦ is.apart c d j a z ]
@@ -271,7 +285,12 @@ module _ (x y : Links) (is : IsLinks x) (b e : ℕ) (at : IsChainedAt x b e) (ma
   goes = record {
     many = many;
     still = λ c j a none. elim (equal_or_not c b) [
-      | inl s ↦ subst (λ (n : ℕ). IsChainedAt y n j) (sym s) (cut.0, cut.1, cut.2.still j (at_chain x b j (is.chain b).0 (is.chain b).1 (subst (λ (n : ℕ). IsChainedAt x n j) s a)) none)
+      | inl s ↦ subst (λ (n : ℕ). IsChainedAt y n j) (sym s) (
+        cut.0,
+        cut.1,
+        cut.2.still j
+            (at_chain x b j (is.chain b).0 (is.chain b).1 (subst (λ (n : ℕ). IsChainedAt x n j) s a)) none,
+      )
       | inr ne ↦ ((is.chain c).0, others c ne, at_chain x c j (is.chain c).0 (is.chain c).1 a)
     ];
     was = went;
@@ -299,8 +318,12 @@ module _ (x : Links) (is : IsLinks x) (b e : ℕ) (bi : b < length x.heads) (at 
   head_cut : (xs : List ℕ) → IsChainOf x b xs → IsDistinct xs → (ys : List ℕ) × IsChainOf without_head b ys × IsWithout e xs ys
   head_cut [] c d = absurd (let a : slice_index x.heads b ≡ 0 = c in omega arith)
   head_cut (z ∷ zs) c d =
-      let s : z ≡ e = (let a : slice_index x.heads b ≡ z + 1 = c.0 in omega arith) in
-      (zs, subst (λ (n : ℕ). IsChain x.nexts n zs) (ap (slice_index x.nexts) s ∙ sym (get_or-set_same x.heads b (slice_index x.nexts e) 0 bi)) c.1, subst (λ (n : ℕ). IsWithout n (z ∷ zs) zs) s (without_first z zs d))
+      let s : z ≡ e = (let a : slice_index x.heads b ≡ z + 1 = c.0 in omega arith) in (
+        zs,
+        subst (λ (n : ℕ). IsChain x.nexts n zs) (ap (slice_index x.nexts) s ∙ sym
+            (get_or-set_same x.heads b (slice_index x.nexts e) 0 bi)) c.1,
+        subst (λ (n : ℕ). IsWithout n (z ∷ zs) zs) s (without_first z zs d),
+      )
 
   head_many : AreAsMany x without_head
   head_many = record { homes = length-set x.heads b (slice_index x.nexts e); elements = refl }
@@ -323,10 +346,12 @@ module _ (x : Links) (is : IsLinks x) (b p e : ℕ) (at : IsChainedAt x b e) (be
   link_many = record { homes = refl; elements = length-set x.nexts p (slice_index x.nexts e) }
 
   link_cut : (ys : List ℕ) × IsChainOf without_link b ys × IsWithout e (is.chain b).0 ys
-  link_cut = chain-cut x.nexts p e (is.inside b p before) leads (slice_index x.heads b) (is.chain b).0 (is.chain b).1 (is.chain b).2 (at_chain x b p (is.chain b).0 (is.chain b).1 before)
+  link_cut = chain-cut x.nexts p e (is.inside b p before) leads (slice_index x.heads b) (is.chain b).0 (is.chain b).1 (is.chain b).2
+      (at_chain x b p (is.chain b).0 (is.chain b).1 before)
 
   link_others : (c : ℕ) → c ≢ b → IsChainOf without_link c (is.chain c).0
-  link_others c ne = chain-else x.nexts p (slice_index x.nexts e) (slice_index x.heads c) (is.chain c).0 (λ h. ne (is.apart c b p ((is.chain c).0, (is.chain c).1, h) before)) (is.chain c).1
+  link_others c ne = chain-else x.nexts p (slice_index x.nexts e) (slice_index x.heads c) (is.chain c).0
+      (λ h. ne (is.apart c b p ((is.chain c).0, (is.chain c).1, h) before)) (is.chain c).1
 
   pub link_goes : GetsUnchained e x without_link
   link_goes = goes x without_link is b e at link_many link_cut link_others

@@ -1,5 +1,6 @@
 -- A store of which one table is changed.
-use Rattle.std.proofs.Common.{◌≡◌, ◌≢◌, ℕ, zero, suc, ◌<◌, ◌≤◌, Bool, ◌&&◌, List, [], ◌∷◌, inl, inr, ◌⊎◌, length, get_or, set, map, refl, ap, sym, ◌∙◌, subst, arith}
+use Rattle.std.proofs.Common.{◌≡◌, ◌≢◌, ℕ, zero, suc, ◌<◌, ◌≤◌, Bool, ◌&&◌, List, [], ◌∷◌, inl, inr, ◌⊎◌, length, get_or, set, map, refl}
+use Rattle.std.proofs.Common.{ap, sym, ◌∙◌, subst, arith}
 use Rattle.std.proofs.lemmas.List.{get_or-set_same, get_or-set_other, get_or_read, length-set, length-map}
 use Rattle.std.proofs.lemmas.Option.{slice_get_within}
 use Rattle.bpf_shared.specs.declared.events.Span.{Span}
@@ -20,7 +21,8 @@ held-same p q count shape e = λ k c x. go c x k
     span-same : (m i : ℕ) → span_at q m i ≡ span_at p m i
     span-same m i = ap (λ (h : MapShape). element_span m h i) (shape m)
 
-    inner : (c : ℕ) (x : Span) (m : ℕ) → any_below (element_count q m) (λ i. holds q c m i && same_span x (span_at q m i)) ≡ any_below (element_count p m) (λ i. holds p c m i && same_span x (span_at p m i))
+    inner : (c : ℕ) (x : Span) (m : ℕ) → any_below (element_count q m) (λ i. holds q c m i && same_span x (span_at q m i)) ≡ any_below
+        (element_count p m) (λ i. holds p c m i && same_span x (span_at p m i))
     inner c x m =
         ap (λ (n : ℕ). any_below n (λ i. holds q c m i && same_span x (span_at q m i))) (ap elements (shape m))
         ∙ any_below_same (element_count p m) (λ i. holds p c m i && same_span x (span_at p m i)) (λ i. holds q c m i && same_span x (span_at q m i))
@@ -29,7 +31,8 @@ held-same p q count shape e = λ k c x. go c x k
     go : (c : ℕ) (x : Span) → held_spans q c x ≡ held_spans p c x
     go c x =
         ap (λ (n : ℕ). any_below n (λ m. any_below (element_count q m) (λ i. holds q c m i && same_span x (span_at q m i)))) count
-        ∙ any_below_same (length p.tables) (λ m. any_below (element_count p m) (λ i. holds p c m i && same_span x (span_at p m i))) (λ m. any_below (element_count q m) (λ i. holds q c m i && same_span x (span_at q m i))) (λ m l. inner c x m)
+        ∙ any_below_same (length p.tables) (λ m. any_below (element_count p m) (λ i. holds p c m i && same_span x (span_at p m i)))
+        (λ m. any_below (element_count q m) (λ i. holds q c m i && same_span x (span_at q m i))) (λ m l. inner c x m)
 
 shapes-set : (ts : List Rows) (m : ℕ) (n : Rows) → n.shape ≡ (get_or ts m no_rows).shape → map shape_of (set ts m n) ≡ map shape_of ts
 shapes-set [] m n e = refl
@@ -100,6 +103,8 @@ shape_at (t ∷ ts) (suc m) l = shape_at ts m (omega arith)
 pub same_shape : (p : Contents) (m : ℕ) (h : MapShape) → IsMap (shapes_of p) m h → h ≡ (rows p m).shape
 same_shape p m h is = let k = sym is ∙ shape_at p.tables m (map_there p m h is) in cc
 
-pub read_row : (p : Contents) (m : ℕ) (runs : List Runs) (tables : List Rows) (t : Rows) → ◌≡◌ {A = Contents} (record { runs = runs; tables = tables }) p → m < length p.tables
+pub read_row : (p : Contents) (m : ℕ) (runs : List Runs) (tables : List Rows) (t : Rows) → ◌≡◌ {A = Contents}
+    (record { runs = runs; tables = tables }) p → m < length p.tables
     → t ≡ get_or tables m t → t ≡ rows p m
-read_row p m runs tables t view mi read = get_or_read tables m t (subst (λ (q : Contents). m < length q.tables) (sym view) mi) read no_rows ∙ ap (λ (q : Contents). rows q m) view
+read_row p m runs tables t view mi read = get_or_read tables m t (subst (λ (q : Contents). m < length q.tables) (sym view) mi) read no_rows
+    ∙ ap (λ (q : Contents). rows q m) view

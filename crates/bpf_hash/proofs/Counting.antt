@@ -1,5 +1,6 @@
 -- The runs of a `HashStore`: what begins and ends leave.
-use Rattle.std.proofs.Common.{◌≡◌, ◌≢◌, ℕ, ◌+◌, ◌*◌, ◌<◌, ◌≤◌, nat_lt, Bool, true, false, ◌&&◌, ◌==◌, if◌then◌else◌, List, [], ◌⊎◌, inl, inr, length, get_or, set, slice_index, refl, ap, sym, ◌∙◌, subst, arith, ne_eqb}
+use Rattle.std.proofs.Common.{◌≡◌, ◌≢◌, ℕ, ◌+◌, ◌*◌, ◌<◌, ◌≤◌, nat_lt, Bool, true, false, ◌&&◌, ◌==◌, if◌then◌else◌, List, [], ◌⊎◌, inl}
+use Rattle.std.proofs.Common.{inr, length, get_or, set, slice_index, refl, ap, sym, ◌∙◌, subst, arith, ne_eqb}
 use Rattle.std.proofs.lemmas.Bool.Decides.{nat_tests}
 use Rattle.std.proofs.lemmas.List.{get_or-set_same, get_or-set_other, get_or_read, get_or_past, ext_get_or, length-set, length-map}
 use Rattle.std.proofs.Math.ListN.{get_or-map}
@@ -14,7 +15,8 @@ use Rattle.bpf_shared.proofs.Puts.{equal_or_not, put-same, put-other, put_cases}
 use Rattle.bpf_shared.specs.Passage.{held_without}
 use Rattle.bpf_hash.specs.Private.Runs.{no_runs, is_run}
 use Rattle.bpf_hash.specs.Private.Rows.{Rows, no_rows, shape_of, key_of, bytes_of, run_looked_up, run_left}
-use Rattle.bpf_hash.specs.Private.Contents.{Contents, runs_of, rows, shapes_of, has_cpu, is_running, holds, keeps, held_spans, IsUsed, StandsFor, IsStore, started, stopped, Makes}
+use Rattle.bpf_hash.specs.Private.Contents.{Contents, runs_of, rows, shapes_of, has_cpu, is_running, holds, keeps, held_spans, IsUsed}
+use Rattle.bpf_hash.specs.Private.Contents.{StandsFor, IsStore, started, stopped, Makes}
 use Rattle.bpf_hash.specs.Private.Changes.{IsAlike, Recounts}
 use Rattle.bpf_hash.proofs.Passages.{calls}
 use Rattle.bpf_hash.proofs.Showing.{SameContent, same_tables, linked_was, within_was, within_still, shows_after, held_spans-same, held_spans-without}
@@ -37,7 +39,8 @@ module _ (p : Contents) (c : ℕ) (r : Runs) where
     where
       go : (d : ℕ) → is_running (with_runs p c r) d ≡ put (is_running p) c r.running d
       go d = elim (equal_or_not d c) [
-        | inl e ↦ ap (λ (x : ℕ). (runs_of (with_runs p c r) x).running) e ∙ (ap (λ (x : Runs). x.running) (runs-same l) ∙ sym (put-same (is_running p) c d r.running e))
+        | inl e ↦ ap (λ (x : ℕ). (runs_of (with_runs p c r) x).running) e ∙
+            (ap (λ (x : Runs). x.running) (runs-same l) ∙ sym (put-same (is_running p) c d r.running e))
         | inr ne ↦ ap (λ (x : Runs). x.running) (runs-other d ne) ∙ sym (put-other (is_running p) c d r.running ne)
       ]
 
@@ -54,7 +57,8 @@ idle_run : (p : Contents) (c run : ℕ) → is_running p c ≡ false → is_run 
 idle_run p c run e = ap (λ (b : Bool). b && (run == (runs_of p c).count)) e
 
 -- ---- one CPU's run is over, or another begins
-module _ (p q : Contents) (c : ℕ) (same : SameContent p q) (other : (d m i : ℕ) → d ≢ c → (holds q d m i ≡ holds p d m i) × (keeps q d m i ≡ keeps p d m i)) (own : (m i : ℕ) → (holds q c m i ≡ false) × (keeps q c m i ≡ false)) where
+module _ (p q : Contents) (c : ℕ) (same : SameContent p q) (other : (d m i : ℕ) → d ≢ c → (holds q d m i ≡ holds p d m i) ×
+    (keeps q d m i ≡ keeps p d m i)) (own : (m i : ℕ) → (holds q c m i ≡ false) × (keeps q c m i ≡ false)) where
   held_was : (d m i : ℕ) → holds q d m i ≡ true → (d ≢ c) × (holds p d m i ≡ true)
   held_was d m i e = elim (equal_or_not d c) [
     | inl k ↦ absurd (let n = ap (λ (x : ℕ). holds q x m i) k ∙ (own m i).0 in cc)
@@ -76,7 +80,8 @@ module _ (p q : Contents) (c : ℕ) (same : SameContent p q) (other : (d m i : �
   stays : (f : ℕ → ℕ → Bool) (d v : ℕ) → d ≢ c → f d v ≡ true → put f c never d v ≡ true
   stays f d v ne h = ap (λ (g : ℕ → Bool). g v) (put-other f c d never ne) ∙ h
 
-  pub released : (s : Plain) (h : StandsFor p s) (b : Bool) → is_running q ≡ put (is_running p) c b → StandsFor q (record s { running = put s.running c b; held = put s.held c never; kept = put s.kept c never })
+  pub released : (s : Plain) (h : StandsFor p s) (b : Bool) → is_running q ≡ put (is_running p) c b → StandsFor q
+      (record s { running = put s.running c b; held = put s.held c never; kept = put s.kept c never })
   released s h b runs = shows_after p q same s h (put s.running c b) (put s.held c never) (put s.kept c never)
       (λ d. ap (λ (x : Bool). if d == c then b else x) (h.running d) ∙ sym (ap (λ (f : ℕ → Bool). f d) runs))
       (λ m i. elim [ inl l ↦ inl (linked_was p q same m i l) | inr k ↦ inr (k.0, elim k.1 [ inl e ↦ inl (kept_was k.0 m i e).1 | inr e ↦ inr (held_was k.0 m i e).1 ]) ])
@@ -110,7 +115,8 @@ module _ (p : Contents) (c : ℕ) (serves : has_cpu p c ≡ true) where
     after_end s c,
     (h.running c ∙ going, refl),
     tt,
-    released p (stopped p c) c stopped_same stopped_other stopped_own s h false (is_running-with p c (record (runs_of p c) { running = false }) (served p c serves)),
+    released p (stopped p c) c stopped_same stopped_other stopped_own s h false
+        (is_running-with p c (record (runs_of p c) { running = false }) (served p c serves)),
   ))
 
   -- what the code leaves is the store with the run ended
@@ -118,7 +124,8 @@ module _ (p : Contents) (c : ℕ) (serves : has_cpu p c ≡ true) where
       → ◌≡◌ {A = Contents} (record { runs = set runs c (record { count = x.count; running = false }); tables = tables }) (stopped p c)
   ended runs tables x view read =
       let inside : c < length runs = subst (λ (q : Contents). c < length q.runs) (sym view) (served p c serves) in
-      ap (λ (y : Runs). let q : Contents = record { runs = set runs c (record { count = y.count; running = false }); tables = tables } in q) (get_or_read runs c x inside read no_runs) ∙ ap (λ (q : Contents). stopped q c) view
+      ap (λ (y : Runs). let q : Contents = record { runs = set runs c (record { count = y.count; running = false }); tables = tables } in q)
+      (get_or_read runs c x inside read no_runs) ∙ ap (λ (q : Contents). stopped q c) view
 
   pub ended_calls : (n : Contents) → n ≡ stopped p c → is_running p c ≡ true → Makes p n c End
   ended_calls n e going = subst (λ (x : Contents). Makes p x c End) (sym e) (end_calls going)
@@ -128,7 +135,8 @@ module _ (p : Contents) (c : ℕ) (serves : has_cpu p c ≡ true) where
 
 -- ---- runs counted anew
 module _ (p q : Contents) (c : ℕ) (is : IsStore p) (serves : has_cpu p c ≡ true) (idle : is_running p c ≡ false) (anew : Recounts p c q) where
-  table-anew : (m : ℕ) → (m < length p.tables) ⊎ (length p.tables ≤ m) → rows q m ≡ record (rows p m) { looked_up = (rows q m).looked_up; left = (rows q m).left }
+  table-anew : (m : ℕ) → (m < length p.tables) ⊎ (length p.tables ≤ m) → rows q m ≡ record (rows p m)
+      { looked_up = (rows q m).looked_up; left = (rows q m).left }
   table-anew m (inl l) = (anew.tables m l).0.rest
   table-anew m (inr l) =
       let none : rows p m ≡ no_rows = get_or_past p.tables m no_rows l in
@@ -163,7 +171,8 @@ module _ (p q : Contents) (c : ℕ) (is : IsStore p) (serves : has_cpu p c ≡ t
   running-anew d = elim (equal_or_not d c) [
     | inl e ↦
         ap (λ (x : ℕ). is_running q x) e
-        ∙ (ap (λ (x : Runs). x.running) (runs-anew c ∙ runs-same p c (record (runs_of p c) { count = 0 }) (served p c serves)) ∙ ap (λ (x : ℕ). is_running p x) (sym e))
+        ∙ (ap (λ (x : Runs). x.running) (runs-anew c ∙ runs-same p c (record (runs_of p c) { count = 0 }) (served p c serves)) ∙ ap
+        (λ (x : ℕ). is_running p x) (sym e))
     | inr ne ↦ ap (λ (x : Runs). x.running) (runs-anew d ∙ runs-other p c (record (runs_of p c) { count = 0 }) d ne)
   ]
 
@@ -205,8 +214,10 @@ module _ (p q : Contents) (c : ℕ) (is : IsStore p) (serves : has_cpu p c ≡ t
                 ap (λ (x : Runs). is_run x (run_left (rows q m) i d)) run ∙ ap (is_run (runs_of p d)) n.1,
               ))
           | inr l ↦ (
-            ap (λ (x : Runs). is_run x (run_looked_up (rows q m) i d)) run ∙ (idle_past d (run_looked_up (rows q m) i d) l ∙ sym (idle_past d (run_looked_up (rows p m) i d) l)),
-            ap (λ (x : Runs). is_run x (run_left (rows q m) i d)) run ∙ (idle_past d (run_left (rows q m) i d) l ∙ sym (idle_past d (run_left (rows p m) i d) l)),
+            ap (λ (x : Runs). is_run x (run_looked_up (rows q m) i d)) run ∙
+                (idle_past d (run_looked_up (rows q m) i d) l ∙ sym (idle_past d (run_looked_up (rows p m) i d) l)),
+            ap (λ (x : Runs). is_run x (run_left (rows q m) i d)) run ∙
+                (idle_past d (run_left (rows q m) i d) l ∙ sym (idle_past d (run_left (rows p m) i d) l)),
           )
         ]
   ]
@@ -237,9 +248,13 @@ module _ (p q : Contents) (c : ℕ) (is : IsStore p) (serves : has_cpu p c ≡ t
   anew_store = record {
     cpus = subst (λ (n : ℕ). n ≤ 16) (sym anew_same.cpus) is.cpus;
     maps = subst (λ (n : ℕ). n ≤ 16) (sym anew.count) is.maps;
-    tables = λ m l. (let k : m < length p.tables = subst (λ (n : ℕ). m < n) anew.count l in ((anew.tables m k).1, ap (λ (t : Rows). t.cpus) (table-is m) ∙ ((is.tables m k).1 ∙ sym anew_same.cpus)));
-    looked_up = λ m i d l. bound d (run_looked_up (rows q m) i d) (run_looked_up (rows p m) i d) (within d l) (is.looked_up m i d (within d l)) (λ ne. (still-noted d m i (within d l) ne (cases_lt m (length p.tables))).0) (λ e. zero_looked m i d e (cases_lt m (length p.tables)));
-    left = λ m i d l. bound d (run_left (rows q m) i d) (run_left (rows p m) i d) (within d l) (is.left m i d (within d l)) (λ ne. (still-noted d m i (within d l) ne (cases_lt m (length p.tables))).1) (λ e. zero_left m i d e (cases_lt m (length p.tables)));
+    tables = λ m l. (let k : m < length p.tables = subst (λ (n : ℕ). m < n) anew.count l in
+        ((anew.tables m k).1, ap (λ (t : Rows). t.cpus) (table-is m) ∙ ((is.tables m k).1 ∙ sym anew_same.cpus)));
+    looked_up = λ m i d l. bound d (run_looked_up (rows q m) i d) (run_looked_up (rows p m) i d) (within d l)
+        (is.looked_up m i d (within d l)) (λ ne. (still-noted d m i (within d l) ne (cases_lt m (length p.tables))).0)
+        (λ e. zero_looked m i d e (cases_lt m (length p.tables)));
+    left = λ m i d l. bound d (run_left (rows q m) i d) (run_left (rows p m) i d) (within d l) (is.left m i d (within d l))
+        (λ ne. (still-noted d m i (within d l) ne (cases_lt m (length p.tables))).1) (λ e. zero_left m i d e (cases_lt m (length p.tables)));
   }
     where
       within : (d : ℕ) → d < length q.runs → d < length p.runs
@@ -262,7 +277,8 @@ module _ (p q : Contents) (c : ℕ) (is : IsStore p) (serves : has_cpu p c ≡ t
         | inl e ↦ (let z = zero_there e in omega arith)
         | inr ne ↦
             let n = same ne in
-            let count : (runs_of q d).count ≡ (runs_of p d).count = ap (λ (x : Runs). x.count) (runs-anew d ∙ runs-other p c (record (runs_of p c) { count = 0 }) d ne) in
+            let count : (runs_of q d).count ≡ (runs_of p d).count = ap (λ (x : Runs). x.count)
+            (runs-anew d ∙ runs-other p c (record (runs_of p c) { count = 0 }) d ne) in
             omega arith
       ]
 
@@ -287,15 +303,22 @@ module _ (p : Contents) (c : ℕ) (is : IsStore p) (serves : has_cpu p c ≡ tru
   )
 
   not_yet : (run : ℕ) → run ≤ (runs_of p c).count → is_run (runs_of (started p c) c) run ≡ false
-  not_yet run l = is_run-own p c (record { count = (runs_of p c).count + 1; running = true }) (served p c serves) run ∙ ne_eqb run ((runs_of p c).count + 1) (λ e. omega arith)
+  not_yet run l = is_run-own p c (record { count = (runs_of p c).count + 1; running = true }) (served p c serves) run ∙ ne_eqb run
+      ((runs_of p c).count + 1) (λ e. omega arith)
 
   started_own : (m i : ℕ) → (holds (started p c) c m i ≡ false) × (keeps (started p c) c m i ≡ false)
-  started_own m i = (not_yet (run_looked_up (rows p m) i c) (is.looked_up m i c (served p c serves)), not_yet (run_left (rows p m) i c) (is.left m i c (served p c serves)))
+  started_own m i = (
+    not_yet (run_looked_up (rows p m) i c) (is.looked_up m i c (served p c serves)),
+    not_yet (run_left (rows p m) i c)
+        (is.left m i c (served p c serves)),
+  )
 
   pub started_shows : (s : Plain) → IsSoundStore s → StandsFor p s → StandsFor (started p c) (after_begin s c)
   started_shows s so h =
-      subst (λ (k : ℕ → ℕ → Bool). StandsFor (started p c) (record s { running = put s.running c true; held = put s.held c never; kept = k })) (kept-idle s c so (h.running c ∙ idle))
-      (released p (started p c) c started_same started_other started_own s h true (is_running-with p c (record { count = (runs_of p c).count + 1; running = true }) (served p c serves)))
+      subst (λ (k : ℕ → ℕ → Bool). StandsFor (started p c) (record s
+      { running = put s.running c true; held = put s.held c never; kept = k })) (kept-idle s c so (h.running c ∙ idle))
+      (released p (started p c) c started_same started_other started_own s h true
+      (is_running-with p c (record { count = (runs_of p c).count + 1; running = true }) (served p c serves)))
 
   pub started_running : is_running (started p c) ≡ put (is_running p) c true
   started_running = is_running-with p c (record { count = (runs_of p c).count + 1; running = true }) (served p c serves)
@@ -304,7 +327,9 @@ module _ (p : Contents) (c : ℕ) (is : IsStore p) (serves : has_cpu p c ≡ tru
   started_held = released_spans p (started p c) c started_same started_other started_own
 
 -- the store p was made countable, as x, and the code counted the CPU's runs up
-module _ (p x : Contents) (c : ℕ) (serves : has_cpu p c ≡ true) (idle : is_running p c ≡ false) (is_alike : IsAlike p x) (runs : List Runs) (tables : List Rows) (y : Runs) (view : ◌≡◌ {A = Contents} (record { runs = runs; tables = tables }) x) (read : y ≡ get_or runs c y) (store : IsStore (record { runs = runs; tables = tables })) where
+module _ (p x : Contents) (c : ℕ) (serves : has_cpu p c ≡ true) (idle : is_running p c ≡ false) (is_alike : IsAlike p x) (runs : List Runs)
+    (tables : List Rows) (y : Runs) (view : ◌≡◌ {A = Contents} (record { runs = runs; tables = tables }) x) (read : y ≡ get_or runs c y)
+    (store : IsStore (record { runs = runs; tables = tables })) where
   abbrev counted_up : Contents
   counted_up = record { runs = set runs c (record { count = y.count + 1; running = true }); tables = tables }
 
@@ -320,7 +345,8 @@ module _ (p x : Contents) (c : ℕ) (serves : has_cpu p c ≡ true) (idle : is_r
   is_started : counted_up ≡ started x c
   is_started =
       let inside : c < length runs = subst (λ (q : Contents). c < length q.runs) (sym view) (served x c still_served) in
-      ap (λ (z : Runs). let q : Contents = record { runs = set runs c (record { count = z.count + 1; running = true }); tables = tables } in q) (get_or_read runs c y inside read no_runs) ∙ ap (λ (q : Contents). started q c) view
+      ap (λ (z : Runs). let q : Contents = record { runs = set runs c (record { count = z.count + 1; running = true }); tables = tables } in q)
+      (get_or_read runs c y inside read no_runs) ∙ ap (λ (q : Contents). started q c) view
 
   pub begun_calls : Makes p counted_up c Begin
   begun_calls = calls p counted_up c Begin (λ s so h. (
@@ -337,4 +363,8 @@ module _ (p x : Contents) (c : ℕ) (serves : has_cpu p c ≡ true) (idle : is_r
   begun_held = ap held_spans is_started ∙ (started_held x c is_store still_served still_idle ∙ ap (λ (f : ℕ → Span → Bool). held_without f c) is_alike.held)
 
   pub begun_same : (shapes_of counted_up ≡ shapes_of p) × (has_cpu counted_up ≡ has_cpu p)
-  begun_same = (ap shapes_of is_started ∙ is_alike.shapes, ap has_cpu is_started ∙ (has_cpu-same x c (record { count = (runs_of x c).count + 1; running = true }) ∙ is_alike.serves))
+  begun_same = (
+    ap shapes_of is_started ∙ is_alike.shapes,
+    ap has_cpu is_started ∙
+        (has_cpu-same x c (record { count = (runs_of x c).count + 1; running = true }) ∙ is_alike.serves),
+  )

@@ -1,5 +1,6 @@
 -- Elements are read one by one, and put into the chains of their homes.
-use Rattle.std.proofs.Common.{◌≡◌, ◌≢◌, ◌∙◌, ℕ, suc, ◌+◌, ◌*◌, ◌<◌, ◌≤◌, true, false, Bool, List, [], ◌∷◌, ◌++◌, length, length-append, take, drop, inl, inr, refl, sym, ap, subst, append_assoc, arith}
+use Rattle.std.proofs.Common.{◌≡◌, ◌≢◌, ◌∙◌, ℕ, suc, ◌+◌, ◌*◌, ◌<◌, ◌≤◌, true, false, Bool, List, [], ◌∷◌, ◌++◌, length, length-append}
+use Rattle.std.proofs.Common.{take, drop, inl, inr, refl, sym, ap, subst, append_assoc, arith}
 use Rattle.std.specs.Prelude.{slice_index_or}
 use Rattle.std.specs.List.{count_by}
 use Rattle.std.proofs.lemmas.Bool.{cases_lt}
@@ -22,7 +23,9 @@ use Rattle.bpf_hash.proofs.Normal.{behind, normal_table}
 use Rattle.bpf_hash.proofs.Reading.{drop_seam}
 
 -- ---- the next element
-module _ (shape : MapShape) (cpus : ℕ) (bytes : List ℕ) (runs : List Runs) (t : Rows) (more : List ℕ) (saved : IsSavedRows shape cpus bytes runs t more) (i at : ℕ) (inside : i < elements shape) (at_is : at ≡ length (all_below (block_of runs t) i)) where
+module _ (shape : MapShape) (cpus : ℕ) (bytes : List ℕ) (runs : List Runs) (t : Rows) (more : List ℕ)
+    (saved : IsSavedRows shape cpus bytes runs t more) (i at : ℕ) (inside : i < elements shape)
+    (at_is : at ≡ length (all_below (block_of runs t) i)) where
   abbrev f : ℕ → List ℕ
   f = block_of runs t
 
@@ -63,8 +66,10 @@ none_read runs t = record { at_is = refl; linked_is = refl; keys_are = refl; val
 below_more : (f : ℕ → List ℕ) (i : ℕ) (old new : List ℕ) → old ≡ all_below f i → new ≡ old ++ f i → new ≡ all_below f (i + 1)
 below_more f i old new a b = let e : suc i ≡ i + 1 = omega arith in b ∙ (ap (λ (bs : List ℕ). bs ++ f i) a ∙ ap (all_below f) e)
 
-pub more_read : (runs : List Runs) (t : Rows) (i at n : ℕ) (linked linked' : List Bool) (keys keys' values values' held held' left left' : List ℕ) → IsTable t → i < elements t.shape → AreRead runs t i at linked keys values held left
-    → (n ≡ length (block_of runs t i)) × (linked' ≡ linked ++ is_linked t i ∷ []) × (keys' ≡ keys ++ normal_key t i) × (values' ≡ values ++ normal_value runs t i) × (held' ≡ held ++ normal_held runs t i) × (left' ≡ left ++ normal_left runs t i)
+pub more_read : (runs : List Runs) (t : Rows) (i at n : ℕ) (linked linked' : List Bool)
+    (keys keys' values values' held held' left left' : List ℕ) → IsTable t → i < elements t.shape → AreRead runs t i at linked keys values held left
+    → (n ≡ length (block_of runs t i)) × (linked' ≡ linked ++ is_linked t i ∷ []) × (keys' ≡ keys ++ normal_key t i) ×
+    (values' ≡ values ++ normal_value runs t i) × (held' ≡ held ++ normal_held runs t i) × (left' ≡ left ++ normal_left runs t i)
     → AreRead runs t (i + 1) (at + n) linked' keys' values' held' left'
 more_read runs t i at n linked linked' keys keys' values values' held held' left left' is inside far (count, l, k, v, h, e) = record {
   at_is =
@@ -82,10 +87,12 @@ more_read runs t i at n linked linked' keys keys' values values' held held' left
 
 -- ---- the index
 module _ (homes size : ℕ) (linked : List Bool) (keys : List ℕ) where
-  pub none_filled : (x : Links) → length x.heads ≡ homes → length x.nexts ≡ length linked → ((b i : ℕ) → IsChainedAt x b i → ⊥) → IsFilled homes size linked keys 0 x
+  pub none_filled : (x : Links) → length x.heads ≡ homes → length x.nexts ≡ length linked → ((b i : ℕ) → IsChainedAt x b i → ⊥) → IsFilled
+      homes size linked keys 0 x
   none_filled x heads nexts none = record { heads = heads; nexts = nexts; found = λ i l. absurd (omega arith); was = λ b i at. absurd (none b i at) }
 
-  pub one_filled : (i : ℕ) (old new : Links) (here : Bool) (key : List ℕ) → here ≡ slice_index_or linked i false → key ≡ part keys (i * size) size → IsFilled homes size linked keys i old
+  pub one_filled : (i : ℕ) (old new : Links) (here : Bool) (key : List ℕ) → here ≡ slice_index_or linked i false → key ≡ part keys
+      (i * size) size → IsFilled homes size linked keys i old
       → (here ≡ true → GetsChained (home_of homes key) i old new) → (here ≡ false → new ≡ old) → IsFilled homes size linked keys (i + 1) new
   one_filled i old new here key here_is key_is far comes stays = elim (true_or_false here) [
     | inl is_here ↦
@@ -94,11 +101,18 @@ module _ (homes size : ℕ) (linked : List Bool) (keys : List ℕ) where
           heads = g.many.homes ∙ far.heads;
           nexts = g.many.elements ∙ far.nexts;
           found = λ j l is. elim (equal_or_not j i) [
-            | inl e ↦ subst (λ (k : ℕ). IsChainedAt new (home_of homes (part keys (k * size) size)) k) (sym e) (subst (λ (b : ℕ). IsChainedAt new b i) home g.here)
-            | inr ne ↦ g.still (home_of homes (part keys (j * size) size)) j (far.found j (elim (cases_lt j i) [ inl k ↦ k | inr past ↦ absurd (ne (omega arith)) ]) is)
+            | inl e ↦ subst (λ (k : ℕ). IsChainedAt new (home_of homes (part keys (k * size) size)) k) (sym e)
+                (subst (λ (b : ℕ). IsChainedAt new b i) home g.here)
+            | inr ne ↦ g.still (home_of homes (part keys (j * size) size)) j
+                (far.found j (elim (cases_lt j i) [ inl k ↦ k | inr past ↦ absurd (ne (omega arith)) ]) is)
           ];
           was = λ b j at. elim (g.was b j at) [
-            | inl same ↦ (let e : j ≡ i = same.1 in omega arith, ap (λ (k : ℕ). slice_index_or linked k false) same.1 ∙ (sym here_is ∙ is_here), same.0 ∙ (home ∙ ap (λ (k : ℕ). home_of homes (part keys (k * size) size)) (sym same.1)))
+            | inl same ↦ (
+              let e : j ≡ i = same.1 in omega arith,
+              ap (λ (k : ℕ). slice_index_or linked k false) same.1 ∙
+                  (sym here_is ∙ is_here),
+              same.0 ∙ (home ∙ ap (λ (k : ℕ). home_of homes (part keys (k * size) size)) (sym same.1)),
+            )
             | inr before ↦ (let w = far.was b j before in (let l = w.0 in omega arith, w.1, w.2))
           ];
         }
@@ -114,23 +128,29 @@ module _ (homes size : ℕ) (linked : List Bool) (keys : List ℕ) where
   ]
 
 -- ---- keys that aren't there yet
-module _ (homes size : ℕ) (linked : List Bool) (keys : List ℕ) (i : ℕ) (old : Links) (here : Bool) (key : List ℕ) (here_is : here ≡ slice_index_or linked i false) (key_is : key ≡ part keys (i * size) size) (far : IsFilled homes size linked keys i old) where
-  pub one_apart : AreApart size linked keys i → (here ≡ true → (j : ℕ) → IsChainedAt old (home_of homes key) j → part keys (j * size) size ≢ key) → AreApart size linked keys (i + 1)
+module _ (homes size : ℕ) (linked : List Bool) (keys : List ℕ) (i : ℕ) (old : Links) (here : Bool) (key : List ℕ)
+    (here_is : here ≡ slice_index_or linked i false) (key_is : key ≡ part keys (i * size) size) (far : IsFilled homes size linked keys i old) where
+  pub one_apart : AreApart size linked keys i → (here ≡ true → (j : ℕ) → IsChainedAt old (home_of homes key) j → part keys (j * size) size ≢
+      key) → AreApart size linked keys (i + 1)
   one_apart apart alone j k below low is too e = elim (equal_or_not j i) [
     | inl same ↦ elim (equal_or_not k i) [
       | inl also ↦ same ∙ sym also
-      | inr ne ↦ absurd (clash k (below_or_same k i low ne) too (sym e ∙ (ap (λ (n : ℕ). part keys (n * size) size) same ∙ sym key_is)) (subst (λ (n : ℕ). slice_index_or linked n false ≡ true) same is))
+      | inr ne ↦ absurd (clash k (below_or_same k i low ne) too (sym e ∙ (ap (λ (n : ℕ). part keys (n * size) size) same ∙ sym key_is))
+          (subst (λ (n : ℕ). slice_index_or linked n false ≡ true) same is))
     ]
     | inr other ↦ elim (equal_or_not k i) [
-      | inl also ↦ absurd (clash j (below_or_same j i below other) is (e ∙ (ap (λ (n : ℕ). part keys (n * size) size) also ∙ sym key_is)) (subst (λ (n : ℕ). slice_index_or linked n false ≡ true) also too))
+      | inl also ↦ absurd (clash j (below_or_same j i below other) is (e ∙ (ap (λ (n : ℕ). part keys (n * size) size) also ∙ sym key_is))
+          (subst (λ (n : ℕ). slice_index_or linked n false ≡ true) also too))
       | inr ne ↦ apart j k (below_or_same j i below other) (below_or_same k i low ne) is too e
     ]
   ]
     where
       clash : (n : ℕ) → n < i → slice_index_or linked n false ≡ true → part keys (n * size) size ≡ key → slice_index_or linked i false ≡ true → ⊥
-      clash n l marked same linked_here = alone (here_is ∙ linked_here) n (subst (λ (b : ℕ). IsChainedAt old b n) (ap (home_of homes) same) (far.found n l marked)) same
+      clash n l marked same linked_here = alone (here_is ∙ linked_here) n
+          (subst (λ (b : ℕ). IsChainedAt old b n) (ap (home_of homes) same) (far.found n l marked)) same
 
-  pub not_apart : i < length linked → (j : ℕ) (b : ℕ) → IsChainedAt old b j → part keys (j * size) size ≡ key → here ≡ true → AreApart size linked keys (length linked) → ⊥
+  pub not_apart : i < length linked → (j : ℕ) (b : ℕ) → IsChainedAt old b j → part keys (j * size) size ≡ key → here ≡ true → AreApart size
+      linked keys (length linked) → ⊥
   not_apart inside j b at same is apart =
       let w = far.was b j at in
       let less = w.0 in
@@ -151,9 +171,11 @@ module _ (shape : MapShape) (cpus : ℕ) (bytes : List ℕ) (runs : List Runs) (
   rows_are =
       let sh : shape ≡ t.shape = sym saved.shaped in
       let cp : cpus ≡ t.cpus = sym saved.noted in
-      let li : linked ≡ t.linked = far.linked_is ∙ (ap (λ (h : MapShape). take (elements h) t.linked) sh ∙ take_all (elements t.shape) t.linked (let size = saved.table.linked in omega arith)) in
+      let li : linked ≡ t.linked = far.linked_is ∙ (ap (λ (h : MapShape). take (elements h) t.linked) sh ∙ take_all (elements t.shape)
+      t.linked (let size = saved.table.linked in omega arith)) in
       let ks : keys ≡ all_below (normal_key t) (elements t.shape) = far.keys_are ∙ ap (λ (h : MapShape). all_below (normal_key t) (elements h)) sh in
-      let vs : values ≡ all_below (normal_value runs t) (elements t.shape) = far.values_are ∙ ap (λ (h : MapShape). all_below (normal_value runs t) (elements h)) sh in
+      let vs : values ≡ all_below (normal_value runs t) (elements t.shape) = far.values_are ∙ ap
+      (λ (h : MapShape). all_below (normal_value runs t) (elements h)) sh in
       let hs : held ≡ all_below (normal_held runs t) (elements t.shape) = far.held_is ∙ ap (λ (h : MapShape). all_below (normal_held runs t) (elements h)) sh in
       let ls : left ≡ all_below (normal_left runs t) (elements t.shape) = far.left_is ∙ ap (λ (h : MapShape). all_below (normal_left runs t) (elements h)) sh in
       λ j. record { shape = sh j; cpus = cp j; linked = li j; keys = ks j; values = vs j; looked_up = hs j; left = ls j }

@@ -21,7 +21,8 @@ module _ (p q : Contents) (alike : LookAlike p q) where
   span-same : (m i : ℕ) → span_at q m i ≡ span_at p m i
   span-same m i = ap (λ (h : MapShape). element_span m h i) (shape m)
 
-  inner : (c : ℕ) (x : Span) (m : ℕ) → any_below (element_count q m) (λ i. holds q c m i && same_span x (span_at q m i)) ≡ any_below (element_count p m) (λ i. holds p c m i && same_span x (span_at p m i))
+  inner : (c : ℕ) (x : Span) (m : ℕ) → any_below (element_count q m) (λ i. holds q c m i && same_span x (span_at q m i)) ≡ any_below
+      (element_count p m) (λ i. holds p c m i && same_span x (span_at p m i))
   inner c x m =
       ap (λ (n : ℕ). any_below n (λ i. holds q c m i && same_span x (span_at q m i))) (ap elements (shape m))
       ∙ any_below_same (element_count p m) (λ i. holds p c m i && same_span x (span_at p m i)) (λ i. holds q c m i && same_span x (span_at q m i))
@@ -30,4 +31,5 @@ module _ (p q : Contents) (alike : LookAlike p q) where
   pub held_alike : (c : ℕ) (x : Span) → held_spans q c x ≡ held_spans p c x
   held_alike c x =
       ap (λ (n : ℕ). any_below n (λ m. any_below (element_count q m) (λ i. holds q c m i && same_span x (span_at q m i)))) count
-      ∙ any_below_same (length p.tables) (λ m. any_below (element_count p m) (λ i. holds p c m i && same_span x (span_at p m i))) (λ m. any_below (element_count q m) (λ i. holds q c m i && same_span x (span_at q m i))) (λ m l. inner c x m)
+      ∙ any_below_same (length p.tables) (λ m. any_below (element_count p m) (λ i. holds p c m i && same_span x (span_at p m i)))
+      (λ m. any_below (element_count q m) (λ i. holds q c m i && same_span x (span_at q m i))) (λ m l. inner c x m)

@@ -8,14 +8,17 @@ use Rattle.bpf_hash.specs.Private.Home.{home_of}
 use Rattle.bpf_hash.specs.Private.Index.{home_at, IsIndexed}
 use Rattle.bpf_hash.proofs.Linking.{key-here, key-old, linked_here, linked_more, linked_was, unlinked_was, unlinked_still}
 
-pub linked_indexed : (t : Rows) (is : IsTable t) (i : ℕ) (key bytes : List ℕ) → IsMissing t key → i < elements t.shape → (IsLinked t i → ⊥) → length key ≡ t.shape.key → length bytes ≡ t.shape.value
+pub linked_indexed : (t : Rows) (is : IsTable t) (i : ℕ) (key bytes : List ℕ) → IsMissing t key → i < elements t.shape → (IsLinked t i → ⊥)
+    → length key ≡ t.shape.key → length bytes ≡ t.shape.value
     → (x y : Links) (b : ℕ) → b ≡ home_of t.shape.max key → IsIndexed t x → GetsChained b i x y → IsIndexed (linked_row i key bytes t) y
 linked_indexed t is i key bytes missing inside free size long x y b home indexed comes = record {
   homes = comes.many.homes ∙ indexed.homes;
   elements = comes.many.elements ∙ indexed.elements;
   found = λ e l. elim (linked_was t is i key bytes missing inside free size long e l) [
-    | inl s ↦ subst (λ (n : ℕ). IsChainedAt y (home_at (linked_row i key bytes t) n) n) (sym s) (subst (λ (n : ℕ). IsChainedAt y n i) (home ∙ ap (home_of t.shape.max) (sym here)) comes.here)
-    | inr w ↦ subst (λ (n : ℕ). IsChainedAt y n e) (ap (home_of t.shape.max) (sym (key-old t is i key bytes missing inside free size long e w))) (comes.still (home_at t e) e (indexed.found e w))
+    | inl s ↦ subst (λ (n : ℕ). IsChainedAt y (home_at (linked_row i key bytes t) n) n) (sym s)
+        (subst (λ (n : ℕ). IsChainedAt y n i) (home ∙ ap (home_of t.shape.max) (sym here)) comes.here)
+    | inr w ↦ subst (λ (n : ℕ). IsChainedAt y n e) (ap (home_of t.shape.max)
+        (sym (key-old t is i key bytes missing inside free size long e w))) (comes.still (home_at t e) e (indexed.found e w))
   ];
   linked = λ c e at. elim (comes.was c e at) [
     | inl p ↦ (
@@ -23,8 +26,11 @@ linked_indexed t is i key bytes missing inside free size long x y b home indexed
       p.0 ∙ (home ∙ (ap (home_of t.shape.max) (sym here) ∙ ap (home_at (linked_row i key bytes t)) (sym p.1))),
     )
     | inr o ↦
-        let w = indexed.linked c e o in
-        (linked_more t is i key bytes missing inside free size long e w.0, w.1 ∙ ap (home_of t.shape.max) (sym (key-old t is i key bytes missing inside free size long e w.0)))
+        let w = indexed.linked c e o in (
+          linked_more t is i key bytes missing inside free size long e w.0,
+          w.1 ∙ ap (home_of t.shape.max)
+              (sym (key-old t is i key bytes missing inside free size long e w.0)),
+        )
   ];
 }
   where

@@ -1,5 +1,6 @@
 -- The keys of a `HashStore`'s map, listed.
-use Rattle.std.proofs.Common.{◌≡◌, ℕ, ◌+◌, ◌*◌, ◌<◌, ◌≤◌, Bool, true, false, true≢false, ◌||◌, List, [], ◌∷◌, ◌++◌, Option, Some, None, is_some, length, length-append, take, refl, ap, sym, subst, ◌∙◌, arith, inl, inr}
+use Rattle.std.proofs.Common.{◌≡◌, ℕ, ◌+◌, ◌*◌, ◌<◌, ◌≤◌, Bool, true, false, true≢false, ◌||◌, List, [], ◌∷◌, ◌++◌, Option, Some, None}
+use Rattle.std.proofs.Common.{is_some, length, length-append, take, refl, ap, sym, subst, ◌∙◌, arith, inl, inr}
 use Rattle.std.specs.List.{count_by, IsDistinct}
 use Rattle.std.specs.Ordering.{nat_cmp, eq_by_cmp, is_eq}
 use Rattle.std.specs.declared.cmp.Ordering.{Ordering}
@@ -79,13 +80,16 @@ module _ (t : Rows) (n : ℕ) (ks : List (List ℕ)) (a : AreKeysBelow t n ks) (
         part_below k xs = sum_by-take-le _ xs k
 
     new_key : is_among (key_of t n) ks ≡ false
-    new_key = not_true (is_among (key_of t n) ks) (λ h. (let f = a.each (key_of t n) h in let same = is.distinct n f.0 linked f.1 f.3 in let z = f.2 in omega arith))
+    new_key = not_true (is_among (key_of t n) ks)
+        (λ h. (let f = a.each (key_of t n) h in let same = is.distinct n f.0 linked f.1 f.3 in let z = f.2 in omega arith))
 
     pub keys_more : AreKeysBelow t (n + 1) (ks ++ key_of t n ∷ [])
     keys_more = record {
       each = λ q h. at q (sym (among-append q ks (key_of t n ∷ [])) ∙ h);
       all = λ i l b. elim (equal_or_not i n) [
-        | inl e ↦ among-append (key_of t i) ks (key_of t n ∷ []) ∙ (ap (λ (b : Bool). is_among (key_of t i) ks || b) (ap (λ (j : ℕ). is_among (key_of t j) (key_of t n ∷ [])) e ∙ itself (key_of t n)) ∙ or_true (is_among (key_of t i) ks))
+        | inl e ↦ among-append (key_of t i) ks (key_of t n ∷ []) ∙
+            (ap (λ (b : Bool). is_among (key_of t i) ks || b) (ap (λ (j : ℕ). is_among (key_of t j) (key_of t n ∷ [])) e ∙ itself
+            (key_of t n)) ∙ or_true (is_among (key_of t i) ks))
         | inr ne ↦ among-append (key_of t i) ks (key_of t n ∷ []) ∙ ap (λ (b : Bool). b || is_among (key_of t i) (key_of t n ∷ [])) (a.all i l (omega arith))
       ];
       distinct = IsDistinct-push (eq_by_cmp_equiv nat_list_cmp_total) ks (key_of t n) a.distinct new_key;
@@ -137,4 +141,5 @@ keys_calls p c m ks serves there is = calls p p c (Keys m ks) (λ s so h. (
 
 -- an element's key has its size
 pub key_size : (t : Rows) → IsTable t → (i : ℕ) → i < length t.linked → length (key_of t i) ≡ t.shape.key
-key_size t is i inside = length-part t.keys (i * t.shape.key) t.shape.key (let b = block_fits i (elements t.shape) t.shape.key (let e = is.linked in omega arith) in let k = is.keys in omega arith)
+key_size t is i inside = length-part t.keys (i * t.shape.key) t.shape.key
+    (let b = block_fits i (elements t.shape) t.shape.key (let e = is.linked in omega arith) in let k = is.keys in omega arith)

@@ -47,7 +47,8 @@ pub linked_inside : (t : Rows) → IsTable t → (i : ℕ) → IsLinked t i → 
 linked_inside t is i l = omega (arith, marked_inside t.linked i l, is.linked)
 
 -- ---- a key is put into an element
-module _ (t : Rows) (is : IsTable t) (i : ℕ) (key bytes : List ℕ) (missing : IsMissing t key) (inside : i < elements t.shape) (free : IsLinked t i → ⊥) (size : length key ≡ t.shape.key) (long : length bytes ≡ t.shape.value) where
+module _ (t : Rows) (is : IsTable t) (i : ℕ) (key bytes : List ℕ) (missing : IsMissing t key) (inside : i < elements t.shape)
+    (free : IsLinked t i → ⊥) (size : length key ≡ t.shape.key) (long : length bytes ≡ t.shape.value) where
   abbrev after : Rows
   after = linked_row i key bytes t
 
@@ -122,7 +123,8 @@ module _ (runs : List Runs) (t : Rows) (is : IsTable t) (o : ℕ) (linked : IsLi
 
   pub unlinked_was : (e : ℕ) → IsLinked without e → IsLinked t e × (e ≢ o)
   unlinked_was e l = elim (equal_or_not e o) [
-    | inl s ↦ absurd (let f : false ≡ true = sym (ap (λ (n : ℕ). get_or (set t.linked o false) n false) s ∙ get_or-set_same t.linked o false false marked) ∙ l in cc)
+    | inl s ↦ absurd (let f : false ≡ true = sym (ap (λ (n : ℕ). get_or (set t.linked o false) n false) s ∙ get_or-set_same t.linked o false false marked) ∙ l in
+        cc)
     | inr ne ↦ (sym (get_or-set_other t.linked o e false false ne) ∙ l, ne)
   ]
 
@@ -140,7 +142,8 @@ module _ (runs : List Runs) (t : Rows) (is : IsTable t) (o : ℕ) (linked : IsLi
     keys = is.keys;
     values = is.values;
     looked_up = is.looked_up;
-    left = length-with_part t.left (o * t.cpus) (map count_of runs) (omega (arith, block_fits o (elements t.shape) t.cpus within, is.left, length-map runs count_of)) ∙ is.left;
+    left = length-with_part t.left (o * t.cpus) (map count_of runs)
+        (omega (arith, block_fits o (elements t.shape) t.cpus within, is.left, length-map runs count_of)) ∙ is.left;
     count = (let c : linked_count without + 1 ≡ linked_count t = count-less in let m = is.count in omega arith);
     distinct = λ p q lp lq e. is.distinct p q (unlinked_was p lp).0 (unlinked_was q lq).0 e;
   }

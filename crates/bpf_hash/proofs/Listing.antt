@@ -1,5 +1,6 @@
 -- A listing of a map, and the byte at an address.
-use Rattle.std.proofs.Common.{◌≡◌, ℕ, ◌+◌, ◌-◌, ◌*◌, ◌/◌, ◌%◌, ◌<◌, ◌≤◌, true, false, List, [], Option, Some, None, option_map, length, slice_index, inl, inr, refl, ap, sym, ◌∙◌, subst, arith}
+use Rattle.std.proofs.Common.{◌≡◌, ℕ, ◌+◌, ◌-◌, ◌*◌, ◌/◌, ◌%◌, ◌<◌, ◌≤◌, true, false, List, [], Option, Some, None, option_map, length}
+use Rattle.std.proofs.Common.{slice_index, inl, inr, refl, ap, sym, ◌∙◌, subst, arith}
 use Rattle.std.proofs.lemmas.Nat.{div-add-mod'}
 use Rattle.std.specs.Option.{IfNone}
 use Rattle.std.specs.Prelude.{IfSome}
@@ -27,9 +28,14 @@ module _ (p : Contents) (is : IsStore p) where
     each = λ k b.
         (let f = are.each k b in
         let i = f.0 in
-        let value : s.value (h.number m i) ≡ record { bytes = bytes_of (rows p m) i; span = span_at p m i } = h.values m i (linked_size p is m i f.1) (inl f.1) in
-        let leads : Finds s m (key_of (rows p m) i) (h.number m i) = h.leads m i f.1 in
-        (h.number m i, subst (λ (x : Pair). Finds s m x.0 (h.number m i)) (sym f.2) leads, ap (λ (x : Pair). x.1) f.2 ∙ sym (ap (λ (x : Value). x.bytes) value)));
+        let value : s.value (h.number m i) ≡ record { bytes = bytes_of (rows p m) i; span = span_at p m i } = h.values m i
+        (linked_size p is m i f.1) (inl f.1) in
+        let leads : Finds s m (key_of (rows p m) i) (h.number m i) = h.leads m i f.1 in (
+          h.number m i,
+          subst (λ (x : Pair). Finds s m x.0 (h.number m i)) (sym f.2) leads,
+          ap (λ (x : Pair). x.1) f.2 ∙ sym
+              (ap (λ (x : Value). x.bytes) value),
+        ));
     all = λ key v e.
         (let f = h.found m key v e in
         let a = are.all f.0 f.1 in
@@ -70,17 +76,34 @@ module _ (p : Contents) (is : IsStore p) where
         ap (λ (z : ℕ). byte_at s z a) e ∙ ap (λ (x : Value). slice_index x.bytes (a - x.span.at)) (h.values m i l used)
 
     -- in which element the byte lies, and at which of its bytes
-    stands_at : (a b : ℕ) → IsElementByteAt s a b → (m : ℕ) × (i : ℕ) × (i < element_count p m) × IsTakenRow p.runs (rows p m) i × IsIn a (span_at p m i) × (b ≡ byte_in m i a)
+    stands_at : (a b : ℕ) → IsElementByteAt s a b → (m : ℕ) × (i : ℕ) × (i < element_count p m) × IsTakenRow p.runs (rows p m) i × IsIn a
+        (span_at p m i) × (b ≡ byte_in m i a)
     stands_at a b (v, inl k, inside, e) =
         let f = h.found k.0 k.1.0 v k.1.1 in
-        let l = linked_size p is k.0 f.0 f.1 in
-        (k.0, f.0, l, inl f.1, subst (IsIn a) (ap (λ (z : ℕ). (s.value z).span) f.3 ∙ span-number p is s so h k.0 f.0 l (inl f.1)) inside, e ∙ byte_of v k.0 f.0 a l (inl f.1) f.3)
+        let l = linked_size p is k.0 f.0 f.1 in (
+          k.0,
+          f.0,
+          l,
+          inl f.1,
+          subst (IsIn a) (ap (λ (z : ℕ). (s.value z).span) f.3 ∙ span-number p is s so h k.0 f.0 l (inl f.1)) inside,
+          e
+              ∙ byte_of v k.0 f.0 a l (inl f.1) f.3,
+        )
     stands_at a b (v, inr k, inside, e) =
-        let f = h.kept k.0 v k.1 in
-        (f.0, f.1, f.2, inr (k.0, keeps_cpu p k.0 f.0 f.1 f.3, f.3), subst (IsIn a) (ap (λ (z : ℕ). (s.value z).span) f.4 ∙ span-number p is s so h f.0 f.1 f.2 (inr (k.0, inl f.3))) inside, e ∙ byte_of v f.0 f.1 a f.2 (inr (k.0, inl f.3)) f.4)
+        let f = h.kept k.0 v k.1 in (
+          f.0,
+          f.1,
+          f.2,
+          inr (k.0, keeps_cpu p k.0 f.0 f.1 f.3, f.3),
+          subst (IsIn a)
+              (ap (λ (z : ℕ). (s.value z).span) f.4 ∙ span-number p is s so h f.0 f.1 f.2 (inr (k.0, inl f.3))) inside,
+          e ∙ byte_of v f.0 f.1
+              a f.2 (inr (k.0, inl f.3)) f.4,
+        )
 
   -- in which element of its map the value of a key lies
-  led_to : (s : Plain) → IsSoundStore s → (h : StandsFor p s) → (a : ℕ) (key : List ℕ) → LeadsTo s a key → (m : ℕ) × (i : ℕ) × (i < element_count p m) × IsLinked (rows p m) i × IsIn a (span_at p m i)
+  led_to : (s : Plain) → IsSoundStore s → (h : StandsFor p s) → (a : ℕ) (key : List ℕ) → LeadsTo s a key → (m : ℕ) × (i : ℕ) ×
+      (i < element_count p m) × IsLinked (rows p m) i × IsIn a (span_at p m i)
   led_to s so h a key (m, v, finds, inside) =
       let f = h.found m key v finds in
       let l = linked_size p is m f.0 f.1 in
@@ -145,7 +168,8 @@ module _ (p : Contents) (is : IsStore p) where
       there : IsTakenRow p.runs row r.element → IsElementByteAt s a b
       there (inl k) =
           let v = h.number r.map r.element in
-          let value : s.value v ≡ record { bytes = bytes_of row r.element; span = span_at p r.map r.element } = h.values r.map r.element reach.element (inl k) in (
+          let value : s.value v ≡ record { bytes = bytes_of row r.element; span = span_at p r.map r.element } = h.values r.map r.element
+          reach.element (inl k) in (
             v,
             inl (r.map, (_, h.leads r.map r.element k)),
             subst (IsIn a) (sym (ap (λ (x : Value). x.span) value)) is_in,
@@ -153,7 +177,8 @@ module _ (p : Contents) (is : IsStore p) where
           )
       there (inr k) =
           let v = h.number r.map r.element in
-          let value : s.value v ≡ record { bytes = bytes_of row r.element; span = span_at p r.map r.element } = h.values r.map r.element reach.element (inr (k.0, inl k.2)) in (
+          let value : s.value v ≡ record { bytes = bytes_of row r.element; span = span_at p r.map r.element } = h.values r.map r.element
+          reach.element (inr (k.0, inl k.2)) in (
             v,
             inr (k.0, h.kept_back k.0 r.map r.element reach.element k.2),
             subst (IsIn a) (sym (ap (λ (x : Value). x.span) value)) is_in,
@@ -171,7 +196,8 @@ module _ (p : Contents) (is : IsStore p) where
 
 -- where an address lies, by its quotients and remainders
 pub at_place : (a w : ℕ) → 0x10_0000_0000 ≤ a
-    → a ≡ 0x10_0000_0000 + 0x1000_0000 * ((a - 0x10_0000_0000) / 0x1000_0000) + (a - 0x10_0000_0000) % 0x1000_0000 / w * w + (a - 0x10_0000_0000) % 0x1000_0000 % w
+    → a ≡ 0x10_0000_0000 + 0x1000_0000 * ((a - 0x10_0000_0000) / 0x1000_0000) + (a - 0x10_0000_0000) % 0x1000_0000 / w * w +
+    (a - 0x10_0000_0000) % 0x1000_0000 % w
 at_place a w l =
     let x : ℕ = (a - 0x10_0000_0000) % 0x1000_0000 in
     let whole : x / w * w + x % w ≡ x = div-add-mod' x w in

@@ -1,5 +1,6 @@
 -- What a lookup leaves of a `HashStore`.
-use Rattle.std.proofs.Common.{◌≡◌, ◌≢◌, ℕ, ◌+◌, ◌*◌, ◌<◌, ◌≤◌, Bool, true, false, ◌&&◌, ◌||◌, ◌==◌, List, Option, Some, None, ◌⊎◌, inl, inr, length, slice_index, refl, ap, sym, ◌∙◌, subst, arith, eq-eqb, ne_eqb}
+use Rattle.std.proofs.Common.{◌≡◌, ◌≢◌, ℕ, ◌+◌, ◌*◌, ◌<◌, ◌≤◌, Bool, true, false, ◌&&◌, ◌||◌, ◌==◌, List, Option, Some, None, ◌⊎◌, inl, inr}
+use Rattle.std.proofs.Common.{length, slice_index, refl, ap, sym, ◌∙◌, subst, arith, eq-eqb, ne_eqb}
 use Rattle.std.proofs.lemmas.Bool.{cases_lt}
 use Rattle.std.proofs.lemmas.List.{get_or-set_same, get_or-set_other, get_or_past, length-set}
 use Rattle.std.specs.FinMap.{get}
@@ -13,7 +14,8 @@ use Rattle.bpf_shared.specs.Events.{span_of, after_lookup}
 use Rattle.bpf_shared.specs.Passage.{same_span, held_with}
 use Rattle.bpf_hash.specs.Private.Runs.{no_runs, is_run}
 use Rattle.bpf_hash.specs.Private.Rows.{Rows, key_of, bytes_of, run_looked_up, run_left, IsLinked, IsTable, noted_row}
-use Rattle.bpf_hash.specs.Private.Contents.{Contents, runs_of, rows, element_count, span_at, shapes_of, has_cpu, is_running, holds, keeps, any_below, held_spans, IsUsed, StandsFor, IsStore, looked, Makes}
+use Rattle.bpf_hash.specs.Private.Contents.{Contents, runs_of, rows, element_count, span_at, shapes_of, has_cpu, is_running, holds, keeps}
+use Rattle.bpf_hash.specs.Private.Contents.{any_below, held_spans, IsUsed, StandsFor, IsStore, looked, Makes}
 use Rattle.bpf_shared.proofs.Puts.{equal_or_not, put_pair, put_pair-old, put_pair-new}
 use Rattle.bpf_hash.proofs.Passages.{calls}
 use Rattle.bpf_hash.proofs.AnyBelow.{any_below_one}
@@ -53,7 +55,8 @@ module _ (p : Contents) (is : IsStore p) (c m i : ℕ) (mi : m < length p.tables
   noted_now : run_looked_up row i c ≡ (runs_of p c).count
   noted_now =
       let inside : c < (rows p m).cpus = subst (λ (w : ℕ). c < w) (sym width) ci in
-      get_or-set_same (rows p m).looked_up (i * (rows p m).cpus + c) (runs_of p c).count 0 (omega (arith, in_block i (element_count p m) (rows p m).cpus c ii inside, table.looked_up))
+      get_or-set_same (rows p m).looked_up (i * (rows p m).cpus + c) (runs_of p c).count 0
+      (omega (arith, in_block i (element_count p m) (rows p m).cpus c ii inside, table.looked_up))
 
   holds_now : is_running p c ≡ true → holds (looked p c m i) c m i ≡ true
   holds_now going =
@@ -89,7 +92,8 @@ module _ (p : Contents) (is : IsStore p) (c m i : ℕ) (mi : m < length p.tables
   holds_other d n j ne = elim (holds_cases d n j) [ inl k ↦ absurd (ne k.0 k.2) | inr k ↦ k ]
 
   same_place : (d n j : ℕ) → d ≡ c → n ≡ m → j ≡ i → holds (looked p c m i) d n j ≡ holds (looked p c m i) c m i
-  same_place d n j x y z = ap (λ (k : ℕ). holds (looked p c m i) k n j) x ∙ (ap (λ (k : ℕ). holds (looked p c m i) c k j) y ∙ ap (λ (k : ℕ). holds (looked p c m i) c m k) z)
+  same_place d n j x y z = ap (λ (k : ℕ). holds (looked p c m i) k n j) x ∙
+      (ap (λ (k : ℕ). holds (looked p c m i) c k j) y ∙ ap (λ (k : ℕ). holds (looked p c m i) c m k) z)
 
   module _ (going : is_running p c ≡ true) (linked : IsLinked (rows p m) i) where
     used_was : (n j : ℕ) → IsUsed (looked p c m i) n j → IsUsed p n j
@@ -123,7 +127,8 @@ module _ (p : Contents) (is : IsStore p) (c m i : ℕ) (mi : m < length p.tables
         (λ d v e. let x = h.kept d v e in (x.0, x.1, within_still p (looked p c m i) looked_same x.0 x.1 x.2, keeps-looked d x.0 x.1 ∙ x.3, x.4))
         (λ d n j l e. h.kept_back d n j (within_was p (looked p c m i) looked_same n j l) (sym (keeps-looked d n j) ∙ e))
 
-    pub looked_calls : (key : List ℕ) → IsKeyOf (shapes_of p) m key → key_of (rows p m) i ≡ key → Makes p (looked p c m i) c (Lookup m key (Some (span_at p m i)))
+    pub looked_calls : (key : List ℕ) → IsKeyOf (shapes_of p) m key → key_of (rows p m) i ≡ key → Makes p (looked p c m i) c
+        (Lookup m key (Some (span_at p m i)))
     looked_calls key is keyed = calls p (looked p c m i) c (Lookup m key (Some (span_at p m i))) (λ s so h.
         let leads : get (s.maps m) key ≡ Some (h.number m i) = subst (λ (k : List ℕ). Finds s m k (h.number m i)) keyed (h.leads m i linked) in (
           after_lookup s c (Some (h.number m i)),
@@ -143,7 +148,8 @@ module _ (p : Contents) (is : IsStore p) (c m i : ℕ) (mi : m < length p.tables
     pub looked_held : held_spans (looked p c m i) ≡ held_with (held_spans p) c (Some (span_at p m i))
     looked_held = λ k d x. go d x k
       where
-        at_place : (d : ℕ) (x : Span) → (holds (looked p c m i) d m i && same_span x (span_at (looked p c m i) m i)) ≡ (((d == c) && same_span x (span_at p m i)) || (holds p d m i && same_span x (span_at p m i)))
+        at_place : (d : ℕ) (x : Span) → (holds (looked p c m i) d m i && same_span x (span_at (looked p c m i) m i)) ≡
+            (((d == c) && same_span x (span_at p m i)) || (holds p d m i && same_span x (span_at p m i)))
         at_place d x =
             ap (λ (y : Span). holds (looked p c m i) d m i && same_span x y) (span-same p (looked p c m i) looked_same m i)
             ∙ elim (equal_or_not d c) [
@@ -156,30 +162,41 @@ module _ (p : Contents) (is : IsStore p) (c m i : ℕ) (mi : m < length p.tables
                   ∙ sym (ap (λ (b : Bool). (b && same_span x (span_at p m i)) || (holds p d m i && same_span x (span_at p m i))) (ne_eqb d c ne))
             ]
 
-        beside : (d : ℕ) (x : Span) (j : ℕ) → j ≢ i → (holds (looked p c m i) d m j && same_span x (span_at (looked p c m i) m j)) ≡ (holds p d m j && same_span x (span_at p m j))
+        beside : (d : ℕ) (x : Span) (j : ℕ) → j ≢ i → (holds (looked p c m i) d m j && same_span x (span_at (looked p c m i) m j)) ≡
+            (holds p d m j && same_span x (span_at p m j))
         beside d x j ne =
             ap (λ (b : Bool). b && same_span x (span_at (looked p c m i) m j)) (holds_other d m j (λ e f. ne f))
             ∙ ap (λ (y : Span). holds p d m j && same_span x y) (span-same p (looked p c m i) looked_same m j)
 
-        in_map : (d : ℕ) (x : Span) → any_below (element_count (looked p c m i) m) (λ j. holds (looked p c m i) d m j && same_span x (span_at (looked p c m i) m j))
+        in_map : (d : ℕ) (x : Span) → any_below (element_count (looked p c m i) m)
+            (λ j. holds (looked p c m i) d m j && same_span x (span_at (looked p c m i) m j))
             ≡ (((d == c) && same_span x (span_at p m i)) || any_below (element_count p m) (λ j. holds p d m j && same_span x (span_at p m j)))
         in_map d x =
             ap (λ (n : ℕ). any_below n (λ j. holds (looked p c m i) d m j && same_span x (span_at (looked p c m i) m j))) (ap elements (looked_same.shape m))
-            ∙ any_below_one (element_count p m) i (λ j. holds p d m j && same_span x (span_at p m j)) (λ j. holds (looked p c m i) d m j && same_span x (span_at (looked p c m i) m j)) ((d == c) && same_span x (span_at p m i)) ii (at_place d x) (beside d x)
+            ∙ any_below_one (element_count p m) i (λ j. holds p d m j && same_span x (span_at p m j))
+            (λ j. holds (looked p c m i) d m j && same_span x (span_at (looked p c m i) m j)) ((d == c) && same_span x (span_at p m i))
+            ii (at_place d x) (beside d x)
 
-        in_other : (d : ℕ) (x : Span) (n : ℕ) → n ≢ m → any_below (element_count (looked p c m i) n) (λ j. holds (looked p c m i) d n j && same_span x (span_at (looked p c m i) n j))
+        in_other : (d : ℕ) (x : Span) (n : ℕ) → n ≢ m → any_below (element_count (looked p c m i) n)
+            (λ j. holds (looked p c m i) d n j && same_span x (span_at (looked p c m i) n j))
             ≡ any_below (element_count p n) (λ j. holds p d n j && same_span x (span_at p n j))
-        in_other d x n ne = ap (λ (t : Rows). any_below (elements t.shape) (λ j. is_run (runs_of p d) (run_looked_up t j d) && same_span x (element_span n t.shape j))) (rows-else p m row mi n ne)
+        in_other d x n ne = ap (λ (t : Rows). any_below (elements t.shape)
+            (λ j. is_run (runs_of p d) (run_looked_up t j d) && same_span x (element_span n t.shape j))) (rows-else p m row mi n ne)
 
         go : (d : ℕ) (x : Span) → held_spans (looked p c m i) d x ≡ (((d == c) && same_span x (span_at p m i)) || held_spans p d x)
         go d x =
-            ap (λ (k : ℕ). any_below k (λ n. any_below (element_count (looked p c m i) n) (λ j. holds (looked p c m i) d n j && same_span x (span_at (looked p c m i) n j)))) looked_same.tables
-            ∙ any_below_one (length p.tables) m (λ n. any_below (element_count p n) (λ j. holds p d n j && same_span x (span_at p n j))) (λ n. any_below (element_count (looked p c m i) n) (λ j. holds (looked p c m i) d n j && same_span x (span_at (looked p c m i) n j))) ((d == c) && same_span x (span_at p m i)) mi (in_map d x) (in_other d x)
+            ap (λ (k : ℕ). any_below k (λ n. any_below (element_count (looked p c m i) n)
+            (λ j. holds (looked p c m i) d n j && same_span x (span_at (looked p c m i) n j)))) looked_same.tables
+            ∙ any_below_one (length p.tables) m (λ n. any_below (element_count p n) (λ j. holds p d n j && same_span x (span_at p n j)))
+            (λ n. any_below (element_count (looked p c m i) n) (λ j. holds (looked p c m i) d n j && same_span x
+            (span_at (looked p c m i) n j))) ((d == c) && same_span x (span_at p m i)) mi (in_map d x) (in_other d x)
 
   pub looked_store : IsTable row → IsStore (looked p c m i)
-  looked_store after = store-with p m row mi is after refl (λ j d l. bound j d l (equal_or_not (j * (rows p m).cpus + d) (i * (rows p m).cpus + c))) (λ j d l. is.left m j d l)
+  looked_store after = store-with p m row mi is after refl (λ j d l. bound j d l
+      (equal_or_not (j * (rows p m).cpus + d) (i * (rows p m).cpus + c))) (λ j d l. is.left m j d l)
     where
-      bound : (j d : ℕ) → d < length p.runs → ((j * (rows p m).cpus + d) ≡ (i * (rows p m).cpus + c)) ⊎ ((j * (rows p m).cpus + d) ≢ (i * (rows p m).cpus + c)) → run_looked_up row j d ≤ (runs_of p d).count
+      bound : (j d : ℕ) → d < length p.runs → ((j * (rows p m).cpus + d) ≡ (i * (rows p m).cpus + c)) ⊎
+          ((j * (rows p m).cpus + d) ≢ (i * (rows p m).cpus + c)) → run_looked_up row j d ≤ (runs_of p d).count
       bound j d l (inl q) =
           let w = (rows p m).cpus in
           let di : d < w = subst (λ (x : ℕ). d < x) (sym width) l in
@@ -189,17 +206,27 @@ module _ (p : Contents) (is : IsStore p) (c m i : ℕ) (mi : m < length p.tables
           let run : (runs_of p d).count ≡ (runs_of p c).count = ap (λ (x : ℕ). (runs_of p x).count) same in
           omega arith
       bound j d l (inr ne) =
-          let at : run_looked_up row j d ≡ run_looked_up (rows p m) j d = get_or-set_other (rows p m).looked_up (i * (rows p m).cpus + c) (j * (rows p m).cpus + d) (runs_of p c).count 0 ne in
+          let at : run_looked_up row j d ≡ run_looked_up (rows p m) j d = get_or-set_other (rows p m).looked_up (i * (rows p m).cpus + c)
+          (j * (rows p m).cpus + d) (runs_of p c).count 0 ne in
           let old = is.looked_up m j d l in
           omega arith
 
 -- ---- a key that is not there
-pub unlooked_calls : (p : Contents) (c m : ℕ) (key : List ℕ) → is_running p c ≡ true → IsKeyOf (shapes_of p) m key → ((i : ℕ) → IsLinked (rows p m) i → key_of (rows p m) i ≡ key → ⊥)
+pub unlooked_calls : (p : Contents) (c m : ℕ) (key : List ℕ) → is_running p c ≡ true → IsKeyOf (shapes_of p) m key →
+    ((i : ℕ) → IsLinked (rows p m) i → key_of (rows p m) i ≡ key → ⊥)
     → Makes p p c (Lookup m key None)
 unlooked_calls p c m key going is absent = calls p p c (Lookup m key None) (λ s so h.
     let leads : get (s.maps m) key ≡ None = nowhere s h (get (s.maps m) key) refl in (
       s,
-      (h.running c ∙ going, (subst (λ (maps : List MapShape). IsKeyOf maps m key) (sym h.maps) is, sym (ap (span_of s) leads), ap (after_lookup s c) (sym leads))),
+      (
+        h.running c ∙ going,
+        (
+          subst (λ (maps : List MapShape). IsKeyOf maps m key) (sym h.maps) is,
+          sym (ap (span_of s) leads),
+          ap
+              (after_lookup s c) (sym leads),
+        ),
+      ),
       tt,
       h,
     ))

@@ -9,14 +9,17 @@ use Rattle.bpf_shared.specs.Shape.{IsMap, IsElementSpan, elements, element_span}
 use Rattle.bpf_shared.specs.Passage.{held_with}
 use Rattle.bpf_hash.specs.Private.Runs.{no_runs}
 use Rattle.bpf_hash.specs.Private.Rows.{Rows, key_of, IsLinked, IsTable, noted_row}
-use Rattle.bpf_hash.specs.Private.Contents.{Contents, runs_of, rows, element_count, span_at, shapes_of, has_cpu, is_running, held_spans, IsStore, looked, with_table, Makes}
+use Rattle.bpf_hash.specs.Private.Contents.{Contents, runs_of, rows, element_count, span_at, shapes_of, has_cpu, is_running, held_spans}
+use Rattle.bpf_hash.specs.Private.Contents.{IsStore, looked, with_table, Makes}
 use Rattle.bpf_hash.proofs.Counting.{served}
 use Rattle.bpf_hash.proofs.Changing.{map_there, shape_at, read_row}
 use Rattle.bpf_hash.proofs.Looking.{looked_calls, looked_held, looked_same, looked_store}
 
 -- the CPU is served, and the map's table, read twice, has the element
-module _ (parts p : Contents) (view : ◌≡◌ {A = Contents} parts p) (ok : IsStore parts) (c m : ℕ) (serves : has_cpu p c ≡ true) (h : MapShape) (map : IsMap (shapes_of p) m h)
-    (seen : Rows) (seen_is : seen ≡ get_or parts.tables m seen) (old : Rows) (old_is : old ≡ get_or parts.tables m old) (i : ℕ) (inside : i < elements seen.shape) where
+module _ (parts p : Contents) (view : ◌≡◌ {A = Contents} parts p) (ok : IsStore parts) (c m : ℕ) (serves : has_cpu p c ≡ true)
+    (h : MapShape) (map : IsMap (shapes_of p) m h)
+    (seen : Rows) (seen_is : seen ≡ get_or parts.tables m seen) (old : Rows) (old_is : old ≡ get_or parts.tables m old) (i : ℕ)
+    (inside : i < elements seen.shape) where
   is : IsStore p
   is = subst IsStore view ok
 
@@ -58,10 +61,12 @@ module _ (parts p : Contents) (view : ◌≡◌ {A = Contents} parts p) (ok : Is
     pub lookup_store : IsTable n → IsStore (with_table parts m n)
     lookup_store table = subst IsStore (sym new) (looked_store p is c m i there within on (subst IsTable note table))
 
-    pub lookup_same : (shapes_of (with_table parts m n) ≡ shapes_of p) × (has_cpu (with_table parts m n) ≡ has_cpu p) × (is_running (with_table parts m n) ≡ is_running p)
+    pub lookup_same : (shapes_of (with_table parts m n) ≡ shapes_of p) × (has_cpu (with_table parts m n) ≡ has_cpu p) ×
+        (is_running (with_table parts m n) ≡ is_running p)
     lookup_same = (ap shapes_of new ∙ (looked_same p is c m i there within on).shapes, ap has_cpu new, ap is_running new)
 
-    module _ (going : is_running p c ≡ true) (key : List ℕ) (size : length key ≡ h.key) (linked : IsLinked seen i) (keyed : key_of seen i ≡ key) (span : Span) (span_is : span ≡ element_span m seen.shape i) where
+    module _ (going : is_running p c ≡ true) (key : List ℕ) (size : length key ≡ h.key) (linked : IsLinked seen i)
+        (keyed : key_of seen i ≡ key) (span : Span) (span_is : span ≡ element_span m seen.shape i) where
       in_map : IsLinked (rows p m) i
       in_map = subst (λ (t : Rows). IsLinked t i) row linked
 

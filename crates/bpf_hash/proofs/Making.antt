@@ -1,5 +1,6 @@
 -- A `HashStore` as made shows the plain store as made.
-use Rattle.std.proofs.Common.{◌≡◌, ℕ, zero, suc, ◌+◌, ◌*◌, ◌<◌, ◌≤◌, nat_lt, Bool, true, false, ◌&&◌, List, [], ◌∷◌, ◌++◌, inl, inr, length, get_or, slice_index, slice_index_or, replicate, cond, map, refl, ap, sym, ◌∙◌, subst, arith}
+use Rattle.std.proofs.Common.{◌≡◌, ℕ, zero, suc, ◌+◌, ◌*◌, ◌<◌, ◌≤◌, nat_lt, Bool, true, false, ◌&&◌, List, [], ◌∷◌, ◌++◌, inl, inr, length}
+use Rattle.std.proofs.Common.{get_or, slice_index, slice_index_or, replicate, cond, map, refl, ap, sym, ◌∙◌, subst, arith}
 use Rattle.std.proofs.lemmas.List.{length-map, length-replicate}
 use Rattle.std.proofs.lemmas.List.Folds.{sum_by-replicate}
 use Rattle.std.specs.List.{count_by}
@@ -120,7 +121,8 @@ module _ (p : Contents) (runs : (c : ℕ) → runs_of p c ≡ no_runs) (tables :
     shapes = maps;
     serves = λ c. ap (nat_lt c) cpus;
     idle = λ c. ap (λ (x : Runs). x.running) (runs c);
-    holds_nothing = λ c q. any_below_none (length p.tables) _ (λ m l. any_below_none (element_count p m) _ (λ i k. ap (λ (b : Bool). b && same_span q (span_at p m i)) (no_run c (run_looked_up (rows p m) i c))));
+    holds_nothing = λ c q. any_below_none (length p.tables) _ (λ m l. any_below_none (element_count p m) _
+        (λ i k. ap (λ (b : Bool). b && same_span q (span_at p m i)) (no_run c (run_looked_up (rows p m) i c))));
     shows = shows_made h cpus maps;
   }
 
@@ -134,7 +136,8 @@ module _ (p : Contents) (runs : (c : ℕ) → runs_of p c ≡ no_runs) (tables :
     left = λ m i c l. (let z = (tables m).left (i * (rows p m).cpus + c) in omega arith);
   }
 
-pub tables_push : (ts : List Rows) (t : Rows) (n : ℕ) → ((m : ℕ) → m < length ts → IsTable (get_or ts m no_rows) × ((get_or ts m no_rows).cpus ≡ n)) → IsTable t → t.cpus ≡ n
+pub tables_push : (ts : List Rows) (t : Rows) (n : ℕ) → ((m : ℕ) → m < length ts → IsTable (get_or ts m no_rows) ×
+    ((get_or ts m no_rows).cpus ≡ n)) → IsTable t → t.cpus ≡ n
     → (m : ℕ) → m < length (ts ++ t ∷ []) → IsTable (get_or (ts ++ t ∷ []) m no_rows) × ((get_or (ts ++ t ∷ []) m no_rows).cpus ≡ n)
 tables_push [] t n all is e zero l = (is, e)
 tables_push [] t n all is e (suc m) l = absurd (omega arith)

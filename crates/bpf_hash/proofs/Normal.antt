@@ -1,5 +1,6 @@
 -- Contents look like their normal form.
-use Rattle.std.proofs.Common.{◌≡◌, ◌∙◌, ℕ, zero, suc, ◌+◌, ◌-◌, ◌*◌, ◌<◌, ◌≤◌, true, false, Bool, ◌||◌, ◌&&◌, ◌==◌, if◌then◌else◌, List, [], ◌∷◌, ◌++◌, length, length-append, inl, inr, refl, sym, ap, subst, append-nil, append_assoc, arith}
+use Rattle.std.proofs.Common.{◌≡◌, ◌∙◌, ℕ, zero, suc, ◌+◌, ◌-◌, ◌*◌, ◌<◌, ◌≤◌, true, false, Bool, ◌||◌, ◌&&◌, ◌==◌, if◌then◌else◌, List, []}
+use Rattle.std.proofs.Common.{◌∷◌, ◌++◌, length, length-append, inl, inr, refl, sym, ap, subst, append-nil, append_assoc, arith}
 use Rattle.std.specs.Prelude.{map, replicate, slice_index, slice_index_or}
 use Rattle.std.proofs.lemmas.Bool.{cases_lt}
 use Rattle.std.proofs.lemmas.List.{get_or_past, length-map, get_or-append_right}
@@ -27,8 +28,11 @@ pub behind : (f : ℕ → List ℕ) (n i : ℕ) → i < n → (rest : List ℕ) 
 behind f zero i l = absurd (omega arith)
 behind f (suc n) i l = elim (cases_lt i n) [
   | inl below ↦
-      let r = behind f n i below in
-      (r.0 ++ f n, ap (λ (bs : List ℕ). bs ++ f n) r.1 ∙ (append_assoc (all_below f i) (f i ++ r.0) (f n) ∙ ap (λ (bs : List ℕ). all_below f i ++ bs) (append_assoc (f i) r.0 (f n))))
+      let r = behind f n i below in (
+        r.0 ++ f n,
+        ap (λ (bs : List ℕ). bs ++ f n) r.1 ∙ (append_assoc (all_below f i) (f i ++ r.0) (f n) ∙ ap
+            (λ (bs : List ℕ). all_below f i ++ bs) (append_assoc (f i) r.0 (f n))),
+      )
   | inr past ↦
       let e : i ≡ n = omega arith in
       ([], subst (λ (k : ℕ). all_below f n ++ f n ≡ all_below f k ++ (f k ++ [])) (sym e) (ap (λ (bs : List ℕ). all_below f n ++ bs) (sym (append-nil (f n)))))
@@ -56,7 +60,8 @@ module _ (f : ℕ → List ℕ) (n w : ℕ) (sizes : (i : ℕ) → i < n → len
       let r = behind f n i l in
       let before : length (all_below f i) ≡ i * w = blocks_length f i w (λ j k. sizes j (omega arith)) in
       ap (λ (bs : List ℕ). part bs (i * w) w) r.1
-      ∙ (ap (λ (k : ℕ). part (all_below f i ++ (f i ++ r.0)) k w) (sym before) ∙ (ap (λ (k : ℕ). part (all_below f i ++ (f i ++ r.0)) (length (all_below f i)) k) (sym (sizes i l)) ∙ cut_part (all_below f i) (f i) r.0))
+      ∙ (ap (λ (k : ℕ). part (all_below f i ++ (f i ++ r.0)) k w) (sym before) ∙
+      (ap (λ (k : ℕ). part (all_below f i ++ (f i ++ r.0)) (length (all_below f i)) k) (sym (sizes i l)) ∙ cut_part (all_below f i) (f i) r.0))
 
   pub in_block_is : (i c : ℕ) → i < n → c < w → slice_index (all_below f n) (i * w + c) ≡ slice_index (f i) c
   in_block_is i c l k =
@@ -119,7 +124,8 @@ module _ (runs : List Runs) (t : Rows) (is : IsTable t) (cpus : length runs ≡ 
   key_kept i l linked = block_is (normal_key t) n t.shape.key key_sizes i l ∙ either_is (is_linked t i) (key_of t i) (replicate t.shape.key 0) linked
 
   pub value_kept : (i : ℕ) → i < n → (is_linked t i || is_noted runs t i) ≡ true → bytes_of new i ≡ bytes_of t i
-  value_kept i l used = block_is (normal_value runs t) n t.shape.value value_sizes i l ∙ either_is (is_linked t i || is_noted runs t i) (bytes_of t i) (replicate t.shape.value 0) used
+  value_kept i l used = block_is (normal_value runs t) n t.shape.value value_sizes i l ∙ either_is (is_linked t i || is_noted runs t i)
+      (bytes_of t i) (replicate t.shape.value 0) used
 
   pub held_kept : (i c : ℕ) → i < n → c < length runs → run_looked_up new i c ≡ bit 1 (holds_row t i c (run_of runs c))
   held_kept i c l k =
@@ -153,7 +159,8 @@ first_running [] c = refl
 first_running (r ∷ rs) zero = refl
 first_running (r ∷ rs) (suc c) = first_running rs c
 
-pub normal_row : (runs : List Runs) (ts : List Rows) (m : ℕ) → m < length ts → slice_index_or (map (normal_rows runs) ts) m no_rows ≡ normal_rows runs (slice_index_or ts m no_rows)
+pub normal_row : (runs : List Runs) (ts : List Rows) (m : ℕ) → m < length ts → slice_index_or (map (normal_rows runs) ts) m no_rows ≡
+    normal_rows runs (slice_index_or ts m no_rows)
 normal_row runs [] m l = absurd (omega arith)
 normal_row runs (t ∷ ts) zero l = refl
 normal_row runs (t ∷ ts) (suc m) l = normal_row runs ts m (omega arith)
@@ -185,7 +192,8 @@ module _ (p : Contents) (is : IsStore p) where
   count m l = sym (is.tables m l).1
 
   no_row : (m : ℕ) → length p.tables ≤ m → rows q m ≡ rows p m
-  no_row m past = get_or_past q.tables m no_rows (let many = length-map p.tables (normal_rows p.runs) in omega arith) ∙ sym (get_or_past p.tables m no_rows past)
+  no_row m past = get_or_past q.tables m no_rows (let many = length-map p.tables (normal_rows p.runs) in omega arith) ∙ sym
+      (get_or_past p.tables m no_rows past)
 
   same_linked : (m : ℕ) → (rows q m).linked ≡ (rows p m).linked
   same_linked m = elim (cases_lt m (length p.tables)) [
@@ -193,7 +201,8 @@ module _ (p : Contents) (is : IsStore p) where
     | inr past ↦ ap (λ (t : Rows). t.linked) (no_row m past)
   ]
 
-  note_same : (c m i : ℕ) → i < element_count p m → (notes : Rows → ℕ → ℕ → ℕ) → (c < length p.runs → notes (rows q m) i c ≡ bit 1 (is_run (runs_of p c) (notes (rows p m) i c)))
+  note_same : (c m i : ℕ) → i < element_count p m → (notes : Rows → ℕ → ℕ → ℕ) →
+      (c < length p.runs → notes (rows q m) i c ≡ bit 1 (is_run (runs_of p c) (notes (rows p m) i c)))
       → is_run (runs_of q c) (notes (rows q m) i c) ≡ is_run (runs_of p c) (notes (rows p m) i c)
   note_same c m i inside notes kept = elim (cases_lt c (length p.runs)) [
     | inl l ↦
@@ -216,7 +225,8 @@ module _ (p : Contents) (is : IsStore p) where
         ap (λ (t : Rows). bytes_of t i) (row m l) ∙ value_kept p.runs (rows p m) (table m l) (count m l) i inside (used_in_use p m i used));
     holds = λ c m i inside.
         (let l = sized_map p m i inside in
-        note_same c m i inside run_looked_up (λ k. ap (λ (t : Rows). run_looked_up t i c) (row m l) ∙ held_kept p.runs (rows p m) (table m l) (count m l) i c inside k));
+        note_same c m i inside run_looked_up (λ k. ap (λ (t : Rows). run_looked_up t i c) (row m l) ∙ held_kept p.runs (rows p m)
+        (table m l) (count m l) i c inside k));
     keeps = λ c m i inside.
         (let l = sized_map p m i inside in
         note_same c m i inside run_left (λ k. ap (λ (t : Rows). run_left t i c) (row m l) ∙ left_kept p.runs (rows p m) (table m l) (count m l) i c inside k));
@@ -234,10 +244,13 @@ module _ (p : Contents) (is : IsStore p) where
   counts_one c l = ap (λ (r : Runs). r.count) (first_run_of p.runs c (served c l))
 
   made : (m : ℕ) → m < length p.tables → IsTable (rows q m)
-  made m there = subst IsTable (sym (row m there)) (normal_table p.runs (rows p m) (table m there) (count m there) (λ i linked. linked_inside (rows p m) (table m there) i linked))
+  made m there = subst IsTable (sym (row m there)) (normal_table p.runs (rows p m) (table m there) (count m there)
+      (λ i linked. linked_inside (rows p m) (table m there) i linked))
 
-  note_small : (m i c : ℕ) → c < length q.runs → (notes : Rows → List ℕ) → notes no_rows ≡ [] → (m < length p.tables → i < elements (rows p m).shape → (b : Bool) × (slice_index (notes (rows q m)) (i * (rows q m).cpus + c) ≡ bit 1 b))
-      → (m < length p.tables → length (notes (rows q m)) ≡ elements (rows q m).shape * (rows q m).cpus) → slice_index (notes (rows q m)) (i * (rows q m).cpus + c) ≤ (runs_of q c).count
+  note_small : (m i c : ℕ) → c < length q.runs → (notes : Rows → List ℕ) → notes no_rows ≡ [] →
+      (m < length p.tables → i < elements (rows p m).shape → (b : Bool) × (slice_index (notes (rows q m)) (i * (rows q m).cpus + c) ≡ bit 1 b))
+      → (m < length p.tables → length (notes (rows q m)) ≡ elements (rows q m).shape * (rows q m).cpus) → slice_index (notes (rows q m))
+      (i * (rows q m).cpus + c) ≤ (runs_of q c).count
   note_small m i c l notes empty inside size = elim (cases_lt m (length p.tables)) [
     | inl there ↦ elim (cases_lt i (elements (rows p m).shape)) [
       | inl low ↦
@@ -251,12 +264,15 @@ module _ (p : Contents) (is : IsStore p) where
           let above : elements (rows q m).shape ≤ i = omega arith in
           let far : elements (rows q m).shape * (rows q m).cpus ≤ i * (rows q m).cpus = mul-le-mul_right (rows q m).cpus above in
           let long = size there in
-          let e : slice_index (notes (rows q m)) (i * (rows q m).cpus + c) ≡ 0 = get_or_past (notes (rows q m)) (i * (rows q m).cpus + c) 0 (omega (arith, far, long)) in
+          let e : slice_index (notes (rows q m)) (i * (rows q m).cpus + c) ≡ 0 = get_or_past (notes (rows q m)) (i * (rows q m).cpus + c) 0
+          (omega (arith, far, long)) in
           omega (arith, e)
     ]
     | inr beyond ↦
         let none : rows q m ≡ no_rows = get_or_past q.tables m no_rows (let many = length-map p.tables (normal_rows p.runs) in omega arith) in
-        let e : slice_index (notes (rows q m)) (i * (rows q m).cpus + c) ≡ 0 = ap (λ (t : Rows). slice_index (notes t) (i * (rows q m).cpus + c)) none ∙ ap (λ (bs : List ℕ). slice_index bs (i * (rows q m).cpus + c)) empty in
+        let e : slice_index (notes (rows q m)) (i * (rows q m).cpus + c) ≡ 0 = ap
+        (λ (t : Rows). slice_index (notes t) (i * (rows q m).cpus + c)) none ∙ ap
+        (λ (bs : List ℕ). slice_index bs (i * (rows q m).cpus + c)) empty in
         omega (arith, e)
   ]
 
@@ -268,9 +284,17 @@ module _ (p : Contents) (is : IsStore p) where
         (let there : m < length p.tables = (let many = length-map p.tables (normal_rows p.runs) in omega arith) in
         (made m there, ap (λ (t : Rows). t.cpus) (row m there) ∙ ((is.tables m there).1 ∙ sym (length-map p.runs first_run))));
     looked_up = λ m i c l. note_small m i c l (λ t. t.looked_up) refl
-        (λ there low. (holds_row (rows p m) i c (run_of p.runs c), ap (λ (t : Rows). run_looked_up t i c) (row m there) ∙ held_kept p.runs (rows p m) (table m there) (count m there) i c low (served c l)))
+        (λ there low. (
+          holds_row (rows p m) i c (run_of p.runs c),
+          ap (λ (t : Rows). run_looked_up t i c) (row m there) ∙ held_kept p.runs
+              (rows p m) (table m there) (count m there) i c low (served c l),
+        ))
         (λ there. (made m there).looked_up);
     left = λ m i c l. note_small m i c l (λ t. t.left) refl
-        (λ there low. (keeps_row (rows p m) i c (run_of p.runs c), ap (λ (t : Rows). run_left t i c) (row m there) ∙ left_kept p.runs (rows p m) (table m there) (count m there) i c low (served c l)))
+        (λ there low. (
+          keeps_row (rows p m) i c (run_of p.runs c),
+          ap (λ (t : Rows). run_left t i c) (row m there) ∙ left_kept p.runs
+              (rows p m) (table m there) (count m there) i c low (served c l),
+        ))
         (λ there. (made m there).left);
   }

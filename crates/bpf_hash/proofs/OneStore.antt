@@ -1,5 +1,6 @@
 -- Stores of one shape that stand for one plain store are saved as the same bytes.
-use Rattle.std.proofs.Common.{◌≡◌, ◌∙◌, ℕ, zero, suc, ◌+◌, ◌<◌, ◌⊎◌, Bool, true, false, ◌||◌, if◌then◌else◌, List, [], ◌∷◌, ◌++◌, inl, inr, length, map, refl, sym, ap, subst, arith}
+use Rattle.std.proofs.Common.{◌≡◌, ◌∙◌, ℕ, zero, suc, ◌+◌, ◌<◌, ◌⊎◌, Bool, true, false, ◌||◌, if◌then◌else◌, List, [], ◌∷◌, ◌++◌, inl, inr}
+use Rattle.std.proofs.Common.{length, map, refl, sym, ap, subst, arith}
 use Rattle.std.proofs.lemmas.List.{ext_get_or, get_or-map, length-map}
 use Rattle.bpf_shared.specs.declared.events.Span.{Span}
 use Rattle.bpf_shared.specs.declared.shapes.MapShape.{MapShape}
@@ -8,7 +9,8 @@ use Rattle.bpf_shared.specs.Store.{Plain, Value}
 use Rattle.bpf_hash.specs.Private.Runs.{no_runs, run_of}
 use Rattle.bpf_hash.specs.Private.Rows.{shape_of, key_of, bytes_of, IsLinked}
 use Rattle.bpf_hash.specs.Private.Contents.{Contents, rows, element_count, span_at, shapes_of, holds, keeps, any_below, IsUsed, StandsFor, IsStore}
-use Rattle.bpf_hash.specs.Private.Saved.{bit, all_below, note_of, notes_of, is_linked, marks_of, is_noted, content_of, block_of, map_block, is_in_run, saved, IsSavedAs}
+use Rattle.bpf_hash.specs.Private.Saved.{bit, all_below, note_of, notes_of, is_linked, marks_of, is_noted, content_of, block_of, map_block}
+use Rattle.bpf_hash.specs.Private.Saved.{is_in_run, saved, IsSavedAs}
 use Rattle.bpf_hash.proofs.Alike.{shapes_alike}
 use Rattle.bpf_hash.proofs.AnyBelow.{any_below_same}
 use Rattle.bpf_hash.proofs.Linking.{linked_inside}
@@ -32,7 +34,8 @@ any_true : (n : ℕ) (f : ℕ → Bool) → any_below n f ≡ true → (i : ℕ)
 any_true zero f is = cc
 any_true (suc n) f is = here n f (any_true n f) (f n) refl is
   where
-    here : (n : ℕ) (f : ℕ → Bool) → (any_below n f ≡ true → (i : ℕ) × (i < n) × (f i ≡ true)) → (b : Bool) → f n ≡ b → (b || any_below n f) ≡ true → (i : ℕ) × (i < suc n) × (f i ≡ true)
+    here : (n : ℕ) (f : ℕ → Bool) → (any_below n f ≡ true → (i : ℕ) × (i < n) × (f i ≡ true)) → (b : Bool) → f n ≡ b → (b || any_below n f)
+        ≡ true → (i : ℕ) × (i < suc n) × (f i ≡ true)
     here n f more true e h = (n, omega arith, e)
     here n f more false e h = let r = more h in let less = r.1 in (r.0, omega arith, r.2)
 
@@ -40,7 +43,8 @@ or_true : (a b : Bool) → (a || b) ≡ true → (a ≡ true) ⊎ (b ≡ true)
 or_true true b e = inl refl
 or_true false b e = inr e
 
-module _ (p q : Contents) (s : Plain) (is : IsStore p) (too : IsStore q) (shapes : shapes_of q ≡ shapes_of p) (shown : StandsFor p s) (other : StandsFor q s) where
+module _ (p q : Contents) (s : Plain) (is : IsStore p) (too : IsStore q) (shapes : shapes_of q ≡ shapes_of p) (shown : StandsFor p s)
+    (other : StandsFor q s) where
   shape : (m : ℕ) → (rows q m).shape ≡ (rows p m).shape
   shape = shapes_alike p q shapes
 
@@ -59,25 +63,29 @@ module _ (p q : Contents) (s : Plain) (is : IsStore p) (too : IsStore q) (shapes
       let here : IsIn a (element_span m g i) = (omega arith, omega arith) in
       let there : IsIn a (element_span n h j) = subst (λ (x : Span). IsIn a x) same here in
       let maps : m ≡ n = one_map m n i j g h a sg sh less inside here there in
-      let back : IsIn a (element_span m g j) = subst (λ (x : MapShape). IsIn a (element_span m x j)) (shape m) (subst (λ (k : ℕ). IsIn a (element_span k (rows q k).shape j)) (sym maps) there) in
+      let back : IsIn a (element_span m g j) = subst (λ (x : MapShape). IsIn a (element_span m x j)) (shape m)
+      (subst (λ (k : ℕ). IsIn a (element_span k (rows q k).shape j)) (sym maps) there) in
       (sym maps, sym (one_element m i j g a sg here back))
 
   abbrev value_of : Contents → ℕ → ℕ → Value
   value_of x m i = record { bytes = bytes_of (rows x m) i; span = span_at x m i }
 
   -- values of one number are one
-  one_value : (m i n j : ℕ) → i < element_count p m → j < element_count q n → IsUsed p m i → IsUsed q n j → shown.number m i ≡ other.number n j → value_of p m i ≡ value_of q n j
+  one_value : (m i n j : ℕ) → i < element_count p m → j < element_count q n → IsUsed p m i → IsUsed q n j → shown.number m i ≡ other.number
+      n j → value_of p m i ≡ value_of q n j
   one_value m i n j less inside used again e =
       sym (shown.values m i less used) ∙ (ap s.value e ∙ other.values n j inside again)
 
-  one_place : (m i n j : ℕ) → i < element_count p m → j < element_count q n → IsUsed p m i → IsUsed q n j → shown.number m i ≡ other.number n j → (n ≡ m) × (j ≡ i)
+  one_place : (m i n j : ℕ) → i < element_count p m → j < element_count q n → IsUsed p m i → IsUsed q n j → shown.number m i ≡ other.number
+      n j → (n ≡ m) × (j ≡ i)
   one_place m i n j less inside used again e = one_span m i n j less inside (ap (λ (v : Value). v.span) (one_value m i n j less inside used again e))
 
   count_same : (m : ℕ) → element_count q m ≡ element_count p m
   count_same m = ap elements (shape m)
 
   -- ---- what is in a map, with its key and its value
-  pub linked_there : (m i : ℕ) → IsLinked (rows p m) i → IsLinked (rows q m) i × (key_of (rows q m) i ≡ key_of (rows p m) i) × (bytes_of (rows q m) i ≡ bytes_of (rows p m) i)
+  pub linked_there : (m i : ℕ) → IsLinked (rows p m) i → IsLinked (rows q m) i × (key_of (rows q m) i ≡ key_of (rows p m) i) ×
+      (bytes_of (rows q m) i ≡ bytes_of (rows p m) i)
   linked_there m i linked =
       let f = other.found m (key_of (rows p m) i) (shown.number m i) (shown.leads m i linked) in
       let less = linked_inside_of p is m i linked in
@@ -108,7 +116,8 @@ module _ (p q : Contents) (s : Plain) (is : IsStore p) (too : IsStore q) (shapes
       subst (P m) place.1 (subst (λ (n : ℕ). P n h.1) place.0 (h.3, sym (ap (λ (v : Value). v.bytes) one)))
 
 -- ---- both ways
-module _ (p q : Contents) (s : Plain) (is : IsStore p) (too : IsStore q) (shapes : shapes_of q ≡ shapes_of p) (shown : StandsFor p s) (other : StandsFor q s) where
+module _ (p q : Contents) (s : Plain) (is : IsStore p) (too : IsStore q) (shapes : shapes_of q ≡ shapes_of p) (shown : StandsFor p s)
+    (other : StandsFor q s) where
   back : shapes_of p ≡ shapes_of q
   back = sym shapes
 
@@ -120,17 +129,20 @@ module _ (p q : Contents) (s : Plain) (is : IsStore p) (too : IsStore q) (shapes
 
   linked_same : (m i : ℕ) → is_linked (rows p m) i ≡ is_linked (rows q m) i
   linked_same m i =
-      true_both (is_linked (rows p m) i) (is_linked (rows q m) i) (λ e. (linked_there p q s is too shapes shown other m i e).0) (λ e. (linked_there q p s too is back other shown m i e).0)
+      true_both (is_linked (rows p m) i) (is_linked (rows q m) i) (λ e. (linked_there p q s is too shapes shown other m i e).0)
+      (λ e. (linked_there q p s too is back other shown m i e).0)
 
   holds_same : (c m i : ℕ) → i < element_count p m → holds p c m i ≡ holds q c m i
   holds_same c m i less =
       let inside : i < element_count q m = subst (λ (n : ℕ). i < n) (sym (counts m)) less in
-      true_both (holds p c m i) (holds q c m i) (λ e. (held_there p q s is too shapes shown other c m i less e).0) (λ e. (held_there q p s too is back other shown c m i inside e).0)
+      true_both (holds p c m i) (holds q c m i) (λ e. (held_there p q s is too shapes shown other c m i less e).0)
+      (λ e. (held_there q p s too is back other shown c m i inside e).0)
 
   keeps_same : (c m i : ℕ) → i < element_count p m → keeps p c m i ≡ keeps q c m i
   keeps_same c m i less =
       let inside : i < element_count q m = subst (λ (n : ℕ). i < n) (sym (counts m)) less in
-      true_both (keeps p c m i) (keeps q c m i) (λ e. (kept_there p q s is too shapes shown other c m i less e).0) (λ e. (kept_there q p s too is back other shown c m i inside e).0)
+      true_both (keeps p c m i) (keeps q c m i) (λ e. (kept_there p q s is too shapes shown other c m i less e).0)
+      (λ e. (kept_there q p s too is back other shown c m i inside e).0)
 
   abbrev noted : Contents → ℕ → ℕ → ℕ → Bool
   noted x m i c = holds x c m i || keeps x c m i
@@ -138,16 +150,19 @@ module _ (p q : Contents) (s : Plain) (is : IsStore p) (too : IsStore q) (shapes
   noted_same : (m i : ℕ) → i < element_count p m → is_noted p.runs (rows p m) i ≡ is_noted q.runs (rows q m) i
   noted_same m i less =
       ap (λ (n : ℕ). any_below n (noted p m i)) (sym cpus)
-      ∙ any_below_same (length q.runs) (noted q m i) (noted p m i) (λ c l. ap (λ (b : Bool). b || keeps p c m i) (holds_same c m i less) ∙ ap (λ (b : Bool). holds q c m i || b) (keeps_same c m i less))
+      ∙ any_below_same (length q.runs) (noted q m i) (noted p m i)
+      (λ c l. ap (λ (b : Bool). b || keeps p c m i) (holds_same c m i less) ∙ ap (λ (b : Bool). holds q c m i || b) (keeps_same c m i less))
 
   notes_same : (m i : ℕ) → i < element_count p m → notes_of p.runs (rows p m) i ≡ notes_of q.runs (rows q m) i
   notes_same m i less =
       let f : Contents → ℕ → List ℕ = λ x c. note_of (rows x m) i c (run_of x.runs c) ∷ [] in
       ap (λ (n : ℕ). all_below (f p) n) (sym cpus)
       ∙ all_below_same (length q.runs) (f p) (f q) (λ c l.
-      ap (λ (b : Bool). (bit 1 b + bit 2 (keeps p c m i)) ∷ []) (holds_same c m i less) ∙ ap (λ (b : Bool). (bit 1 (holds q c m i) + bit 2 b) ∷ []) (keeps_same c m i less))
+      ap (λ (b : Bool). (bit 1 b + bit 2 (keeps p c m i)) ∷ []) (holds_same c m i less) ∙ ap
+      (λ (b : Bool). (bit 1 (holds q c m i) + bit 2 b) ∷ []) (keeps_same c m i less))
 
-  bytes_same : (m i : ℕ) → i < element_count p m → (is_linked (rows p m) i || is_noted p.runs (rows p m) i) ≡ true → bytes_of (rows p m) i ≡ bytes_of (rows q m) i
+  bytes_same : (m i : ℕ) → i < element_count p m → (is_linked (rows p m) i || is_noted p.runs (rows p m) i) ≡ true → bytes_of (rows p m) i ≡
+      bytes_of (rows q m) i
   bytes_same m i less used = elim (or_true (is_linked (rows p m) i) (is_noted p.runs (rows p m) i) used) [
     | inl linked ↦ sym (linked_there p q s is too shapes shown other m i linked).2
     | inr some ↦
@@ -160,7 +175,8 @@ module _ (p q : Contents) (s : Plain) (is : IsStore p) (too : IsStore q) (shapes
 
   content_same : (m i : ℕ) → i < element_count p m → content_of p.runs (rows p m) i ≡ content_of q.runs (rows q m) i
   content_same m i less =
-      let keys = chosen_same (is_linked (rows p m) i) (key_of (rows p m) i) (key_of (rows q m) i) (λ e. sym (linked_there p q s is too shapes shown other m i e).1) in
+      let keys = chosen_same (is_linked (rows p m) i) (key_of (rows p m) i) (key_of (rows q m) i)
+      (λ e. sym (linked_there p q s is too shapes shown other m i e).1) in
       let bytes = chosen_same (is_linked (rows p m) i || is_noted p.runs (rows p m) i) (bytes_of (rows p m) i) (bytes_of (rows q m) i) (bytes_same m i less) in
       let first : Bool → List ℕ = λ b. if b then key_of (rows q m) i else [] in
       let second : Bool → List ℕ = λ b. if b then bytes_of (rows q m) i else [] in
@@ -182,7 +198,8 @@ module _ (p q : Contents) (s : Plain) (is : IsStore p) (too : IsStore q) (shapes
       ∙ ap (λ (n : ℕ). all_below (block_of q.runs (rows q m)) n) (sym (counts m))
 
   runs_same : map is_in_run p.runs ≡ map is_in_run q.runs
-  runs_same = ext_get_or 0 (map is_in_run p.runs) (map is_in_run q.runs) (length-map p.runs is_in_run ∙ (sym cpus ∙ sym (length-map q.runs is_in_run))) (λ c less.
+  runs_same = ext_get_or 0 (map is_in_run p.runs) (map is_in_run q.runs)
+      (length-map p.runs is_in_run ∙ (sym cpus ∙ sym (length-map q.runs is_in_run))) (λ c less.
       let inside : c < length p.runs = subst (λ (n : ℕ). c < n) (length-map p.runs is_in_run) less in
       let there : c < length q.runs = omega (arith, cpus) in
       get_or-map is_in_run p.runs c no_runs 0 inside
@@ -197,5 +214,6 @@ module _ (p q : Contents) (s : Plain) (is : IsStore p) (too : IsStore q) (shapes
       ∙ (ap (λ (n : ℕ). map is_in_run q.runs ++ all_below (map_block p) n) (sym tables)
       ∙ ap (λ (xs : List ℕ). map is_in_run q.runs ++ xs) (all_below_same (length q.tables) (map_block p) (map_block q) (λ m less. map_same m)))
 
-pub one_saving : (p q : Contents) (s : Plain) (bytes others : List ℕ) → shapes_of q ≡ shapes_of p → StandsFor p s → StandsFor q s → IsSavedAs p bytes → IsSavedAs q others → bytes ≡ others
+pub one_saving : (p q : Contents) (s : Plain) (bytes others : List ℕ) → shapes_of q ≡ shapes_of p → StandsFor p s → StandsFor q s →
+    IsSavedAs p bytes → IsSavedAs q others → bytes ≡ others
 one_saving p q s bytes others shapes shown other first second = first.1 ∙ (saved_same p q s first.0 second.0 shapes shown other ∙ sym second.1)

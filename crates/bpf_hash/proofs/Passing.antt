@@ -3,7 +3,8 @@ use Rattle.std.proofs.Common.{◌≡◌, ℕ, ◌*◌, ◌<◌, ◌≤◌, List,
 use Rattle.bpf_hash.specs.declared.runs.Runs.{Runs}
 use Rattle.bpf_hash.specs.Private.Runs.{run_of, is_run}
 use Rattle.bpf_shared.specs.Shape.{elements}
-use Rattle.bpf_hash.specs.Private.Rows.{Rows, AreMarked, ArePassed, GoOn, HasCurrentAt, IsMissing, IsKeptRow, IsLinked, IsTable, linked_row, run_left, unlinked_row}
+use Rattle.bpf_hash.specs.Private.Rows.{Rows, AreMarked, ArePassed, GoOn, HasCurrentAt, IsMissing, IsKeptRow, IsLinked, IsTable, linked_row}
+use Rattle.bpf_hash.specs.Private.Rows.{run_left, unlinked_row}
 use Rattle.bpf_shared.proofs.Puts.{equal_or_not}
 use Rattle.bpf_hash.proofs.Linking.{linked_here, linked_more, unlinked_still}
 use Rattle.bpf_hash.proofs.Updating.{left-else}
@@ -27,7 +28,8 @@ linked_passed seen t is i key bytes missing inside free size long n passed j l =
 
 -- that element is passed, too
 pub linked_more_passed : (seen : List Runs) (t : Rows) → IsTable t → (i : ℕ) (key bytes : List ℕ) → IsMissing t key → i < elements t.shape → (IsLinked t i → ⊥)
-    → length key ≡ t.shape.key → length bytes ≡ t.shape.value → (n m : ℕ) → ArePassed seen t n → ((j : ℕ) → j < m → (j < n) ⊎ (j ≡ i)) → ArePassed seen (linked_row i key bytes t) m
+    → length key ≡ t.shape.key → length bytes ≡ t.shape.value → (n m : ℕ) → ArePassed seen t n → ((j : ℕ) → j < m → (j < n) ⊎ (j ≡ i)) →
+    ArePassed seen (linked_row i key bytes t) m
 linked_more_passed seen t is i key bytes missing inside free size long n m passed most j l = elim (most j l) [
   | inl k ↦ linked_passed seen t is i key bytes missing inside free size long n passed j k
   | inr e ↦ inl (subst (IsLinked (linked_row i key bytes t)) (sym e) (linked_here t is i key bytes missing inside free size long))

@@ -17,7 +17,8 @@ use Rattle.bpf_shared.proofs.Fixed.{element_apart}
 use Rattle.bpf_hash.proofs.Blocks.{apart_blocks}
 use Rattle.bpf_hash.proofs.Linking.{linked_inside}
 
-pub one_map : (m n i j : ℕ) (g h : MapShape) (a : ℕ) → IsMapShape g → IsMapShape h → i < elements g → j < elements h → IsIn a (element_span m g i) → IsIn a (element_span n h j) → m ≡ n
+pub one_map : (m n i j : ℕ) (g h : MapShape) (a : ℕ) → IsMapShape g → IsMapShape h → i < elements g → j < elements h → IsIn a
+    (element_span m g i) → IsIn a (element_span n h j) → m ≡ n
 one_map m n i j g h a sg sh li lj x y =
     let bm = reach_most g i sg li in
     let bn = reach_most h j sh lj in
@@ -85,7 +86,8 @@ module _ (p : Contents) (is : IsStore p) where
     pub span-number : (m i : ℕ) → i < element_count p m → IsUsed p m i → (s.value (h.number m i)).span ≡ span_at p m i
     span-number m i l u = ap (λ (x : Value). x.span) (h.values m i l u)
 
-    pub one_number : (m n i j : ℕ) → i < element_count p m → j < element_count p n → IsUsed p m i → IsUsed p n j → h.number m i ≡ h.number n j → (m ≡ n) × (i ≡ j)
+    pub one_number : (m n i j : ℕ) → i < element_count p m → j < element_count p n → IsUsed p m i → IsUsed p n j → h.number m i ≡ h.number n
+        j → (m ≡ n) × (i ≡ j)
     one_number m n i j li lj u w e =
         one_span m n i j li lj (sym (span-number m i li u) ∙ (ap (λ (v : ℕ). (s.value v).span) e ∙ span-number n j lj w))
 

@@ -1,5 +1,6 @@
 -- An element of a table, read from the bytes that it was saved as.
-use Rattle.std.proofs.Common.{◌≡◌, ◌∙◌, ℕ, zero, suc, ◌+◌, ◌≤◌, ◌==◌, true, false, Bool, ◌||◌, if◌then◌else◌, List, [], ◌∷◌, ◌++◌, length, length-append, take, drop, map, replicate, slice_index, refl, sym, ap, subst, append_assoc, arith}
+use Rattle.std.proofs.Common.{◌≡◌, ◌∙◌, ℕ, zero, suc, ◌+◌, ◌≤◌, ◌==◌, true, false, Bool, ◌||◌, if◌then◌else◌, List, [], ◌∷◌, ◌++◌, length}
+use Rattle.std.proofs.Common.{length-append, take, drop, map, replicate, slice_index, refl, sym, ap, subst, append_assoc, arith}
 use Rattle.std.proofs.lemmas.List.{map-append}
 use Rattle.std.proofs.Math.Seq.{take-append_seam}
 use Rattle.bpf_hash.specs.declared.runs.Runs.{Runs}
@@ -53,19 +54,23 @@ module _ (runs : List Runs) (t : Rows) (i : ℕ) where
   x c = note_of t i c (run_of runs c)
 
   pub held_of : map low_bit (notes_of runs t i) ≡ normal_held runs t i
-  held_of = map_singles low_bit x (λ c. bit 1 (holds_row t i c (run_of runs c))) (length runs) (λ c. low_is (holds_row t i c (run_of runs c)) (keeps_row t i c (run_of runs c)))
+  held_of = map_singles low_bit x (λ c. bit 1 (holds_row t i c (run_of runs c))) (length runs)
+      (λ c. low_is (holds_row t i c (run_of runs c)) (keeps_row t i c (run_of runs c)))
 
   pub left_of : map high_bit (notes_of runs t i) ≡ normal_left runs t i
-  left_of = map_singles high_bit x (λ c. bit 1 (keeps_row t i c (run_of runs c))) (length runs) (λ c. high_is (holds_row t i c (run_of runs c)) (keeps_row t i c (run_of runs c)))
+  left_of = map_singles high_bit x (λ c. bit 1 (keeps_row t i c (run_of runs c))) (length runs)
+      (λ c. high_is (holds_row t i c (run_of runs c)) (keeps_row t i c (run_of runs c)))
 
   pub noted_of : any_below (length (notes_of runs t i)) (λ c. is_note (slice_index (notes_of runs t i) c)) ≡ is_noted runs t i
   noted_of =
       ap (λ (n : ℕ). any_below n (λ c. is_note (slice_index (notes_of runs t i) c))) (singles x (length runs))
-      ∙ any_below_same (length runs) (λ c. holds_row t i c (run_of runs c) || keeps_row t i c (run_of runs c)) (λ c. is_note (slice_index (notes_of runs t i) c))
+      ∙ any_below_same (length runs) (λ c. holds_row t i c (run_of runs c) || keeps_row t i c (run_of runs c))
+      (λ c. is_note (slice_index (notes_of runs t i) c))
       (λ c l. ap is_note (single_is x (length runs) c l) ∙ note_is (holds_row t i c (run_of runs c)) (keeps_row t i c (run_of runs c)))
 
 -- ---- a part that is there or not
-part_or : (b : Bool) (xs more : List ℕ) (n : ℕ) → length xs ≡ n → (if b then take n ((if b then xs else []) ++ more) else replicate n 0) ≡ (if b then xs else replicate n 0)
+part_or : (b : Bool) (xs more : List ℕ) (n : ℕ) → length xs ≡ n → (if b then take n ((if b then xs else []) ++ more) else replicate n 0) ≡
+    (if b then xs else replicate n 0)
 part_or true xs more n e = take_seam xs more n (sym e)
 part_or false xs more n e = refl
 
@@ -82,7 +87,8 @@ bit_is true = refl
 bit_is false = refl
 
 -- ---- an element at the head of the bytes
-module _ (shape : MapShape) (cpus : ℕ) (bytes : List ℕ) (runs : List Runs) (t : Rows) (i : ℕ) (more : List ℕ) (at : IsBlockAt shape cpus bytes runs t i more) where
+module _ (shape : MapShape) (cpus : ℕ) (bytes : List ℕ) (runs : List Runs) (t : Rows) (i : ℕ) (more : List ℕ)
+    (at : IsBlockAt shape cpus bytes runs t i more) where
   abbrev marks : List ℕ
   marks = marks_of runs t i
 
@@ -128,16 +134,19 @@ module _ (shape : MapShape) (cpus : ℕ) (bytes : List ℕ) (runs : List Runs) (
   pub key_at : (if is_linked t i then take shape.key (drop (1 + cpus) bytes) else replicate shape.key 0) ≡ normal_key t i
   key_at =
       ap (λ (bs : List ℕ). if is_linked t i then take shape.key bs else replicate shape.key 0) content_at
-      ∙ (part_or (is_linked t i) (key_of t i) (value_bytes ++ more) shape.key key_length ∙ ap (λ (h : MapShape). if is_linked t i then key_of t i else replicate h.key 0) (sym at.shaped))
+      ∙ (part_or (is_linked t i) (key_of t i) (value_bytes ++ more) shape.key key_length ∙ ap
+      (λ (h : MapShape). if is_linked t i then key_of t i else replicate h.key 0) (sym at.shaped))
 
   pub key_fits : is_linked t i ≡ true → shape.key ≤ length (drop (1 + cpus) bytes)
-  key_fits linked = subst (λ (bs : List ℕ). shape.key ≤ length bs) (sym content_at) (part_fits (is_linked t i) (key_of t i) (value_bytes ++ more) shape.key key_length linked)
+  key_fits linked = subst (λ (bs : List ℕ). shape.key ≤ length bs) (sym content_at)
+      (part_fits (is_linked t i) (key_of t i) (value_bytes ++ more) shape.key key_length linked)
 
   abbrev key_there : ℕ
   key_there = if is_linked t i then shape.key else 0
 
   pub behind_key : drop key_there (drop (1 + cpus) bytes) ≡ value_bytes ++ more
-  behind_key = ap (drop key_there) content_at ∙ drop_seam key_bytes (value_bytes ++ more) key_there (sym (part_size (is_linked t i) (key_of t i) shape.key key_length))
+  behind_key = ap (drop key_there) content_at ∙ drop_seam key_bytes (value_bytes ++ more) key_there
+      (sym (part_size (is_linked t i) (key_of t i) shape.key key_length))
 
   pub key_inside : key_there ≤ length (drop (1 + cpus) bytes)
   key_inside =

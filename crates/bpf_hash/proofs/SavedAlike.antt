@@ -1,5 +1,6 @@
 -- Contents of one shape that are saved as the same bytes look alike.
-use Rattle.std.proofs.Common.{◌≡◌, ◌∙◌, ℕ, zero, suc, ◌+◌, ◌*◌, ◌<◌, ◌≤◌, true, false, Bool, ◌||◌, ◌⊎◌, if◌then◌else◌, List, [], ◌∷◌, ◌++◌, length, length-append, append-nil, append_assoc, inl, inr, refl, sym, ap, subst, arith}
+use Rattle.std.proofs.Common.{◌≡◌, ◌∙◌, ℕ, zero, suc, ◌+◌, ◌*◌, ◌<◌, ◌≤◌, true, false, Bool, ◌||◌, ◌⊎◌, if◌then◌else◌, List, [], ◌∷◌, ◌++◌}
+use Rattle.std.proofs.Common.{length, length-append, append-nil, append_assoc, inl, inr, refl, sym, ap, subst, arith}
 use Rattle.std.specs.Prelude.{map, nat_lt}
 use Rattle.std.proofs.lemmas.Bool.{cases_lt, cases_order, le-ltb, lt-ltb}
 use Rattle.std.proofs.lemmas.List.{ext_get_or, get_or_past, length-map}
@@ -58,10 +59,12 @@ front f (suc n) = ap (λ (bs : List ℕ). bs ++ f (suc n)) (front f n) ∙ appen
 abbrev TellsEnd : List ℕ → List ℕ → Type 0
 TellsEnd xs ys = (rest more : List ℕ) → xs ++ rest ≡ ys ++ more → (xs ≡ ys) × (rest ≡ more)
 
-same_front : (f g : ℕ → List ℕ) (n : ℕ) → ((i : ℕ) → i < n → TellsEnd (f i) (g i)) → (rest more : List ℕ) → all_below f n ++ rest ≡ all_below g n ++ more → ((i : ℕ) → i < n → f i ≡ g i) × (rest ≡ more)
+same_front : (f g : ℕ → List ℕ) (n : ℕ) → ((i : ℕ) → i < n → TellsEnd (f i) (g i)) → (rest more : List ℕ) → all_below f n ++ rest ≡
+    all_below g n ++ more → ((i : ℕ) → i < n → f i ≡ g i) × (rest ≡ more)
 same_front f g zero ends rest more e = (λ i l. absurd (omega arith), e)
 same_front f g (suc n) ends rest more e =
-    let first : (h : ℕ → List ℕ) (bs : List ℕ) → all_below h (suc n) ++ bs ≡ h 0 ++ (all_below (λ i. h (suc i)) n ++ bs) = λ h bs. ap (λ (x : List ℕ). x ++ bs) (front h n) ∙ append_assoc (h 0) (all_below (λ i. h (suc i)) n) bs in
+    let first : (h : ℕ → List ℕ) (bs : List ℕ) → all_below h (suc n) ++ bs ≡ h 0 ++ (all_below (λ i. h (suc i)) n ++ bs) = λ h bs. ap
+    (λ (x : List ℕ). x ++ bs) (front h n) ∙ append_assoc (h 0) (all_below (λ i. h (suc i)) n) bs in
     let here = ends 0 (omega arith) (all_below (λ i. f (suc i)) n ++ rest) (all_below (λ i. g (suc i)) n ++ more) (sym (first f rest) ∙ (e ∙ first g more)) in
     let behind = same_front (λ i. f (suc i)) (λ i. g (suc i)) n (λ i l. ends (suc i) (omega arith)) rest more here.1 in
     (each here.0 behind.0, behind.1)
@@ -105,7 +108,8 @@ pub key_size : (t : Rows) (i : ℕ) → IsTable t → i < elements t.shape → l
 key_size t i is l = let size = is.keys in length-part t.keys (i * t.shape.key) t.shape.key (omega (arith, size, block_fits i (elements t.shape) t.shape.key l))
 
 pub bytes_size : (t : Rows) (i : ℕ) → IsTable t → i < elements t.shape → length (bytes_of t i) ≡ t.shape.value
-bytes_size t i is l = let size = is.values in length-part t.values (i * t.shape.value) t.shape.value (omega (arith, size, block_fits i (elements t.shape) t.shape.value l))
+bytes_size t i is l =
+    let size = is.values in length-part t.values (i * t.shape.value) t.shape.value (omega (arith, size, block_fits i (elements t.shape) t.shape.value l))
 
 run_bit : (xs ys : List Runs) (c : ℕ) → map is_in_run xs ≡ map is_in_run ys → bit 1 (run_of xs c).running ≡ bit 1 (run_of ys c).running
 run_bit [] [] c e = refl
@@ -119,12 +123,14 @@ no_run p c n past = ap (λ (r : Runs). is_run r n) (get_or_past p.runs c no_runs
 
 pub singles : (x : ℕ → ℕ) (n : ℕ) → length (all_below (λ c. x c ∷ []) n) ≡ n
 singles x zero = refl
-singles x (suc n) = let before = singles x n in length-append (all_below (λ c. x c ∷ []) n) (x n ∷ []) ∙ (let e : length (all_below (λ c. x c ∷ []) n) + 1 ≡ suc n = omega arith in e)
+singles x (suc n) = let before = singles x n in length-append (all_below (λ c. x c ∷ []) n) (x n ∷ []) ∙
+    (let e : length (all_below (λ c. x c ∷ []) n) + 1 ≡ suc n = omega arith in e)
 
 -- an element that is in use is saved
 pub used_in_use : (p : Contents) (m i : ℕ) → IsUsed p m i → (is_linked (rows p m) i || is_noted p.runs (rows p m) i) ≡ true
 used_in_use p m i (inl linked) = or_left (is_linked (rows p m) i) (is_noted p.runs (rows p m) i) linked
-used_in_use p m i (inr (c, either)) = or_right (is_linked (rows p m) i) (is_noted p.runs (rows p m) i) (any_below_some (length p.runs) (λ d. holds p d m i || keeps p d m i) c (within either) (noted either))
+used_in_use p m i (inr (c, either)) = or_right (is_linked (rows p m) i) (is_noted p.runs (rows p m) i)
+    (any_below_some (length p.runs) (λ d. holds p d m i || keeps p d m i) c (within either) (noted either))
   where
     noted : (keeps p c m i ≡ true) ⊎ (holds p c m i ≡ true) → (holds p c m i || keeps p c m i) ≡ true
     noted (inl kept) = or_right (holds p c m i) (keeps p c m i) kept
@@ -142,7 +148,8 @@ used_in_use p m i (inr (c, either)) = or_right (is_linked (rows p m) i) (is_note
 -- equal lists, one after the other
 pub below_same : (f g : ℕ → List ℕ) (n : ℕ) → ((i : ℕ) → i < n → f i ≡ g i) → all_below f n ≡ all_below g n
 below_same f g zero same = refl
-below_same f g (suc n) same = ap (λ (bs : List ℕ). bs ++ f n) (below_same f g n (λ i l. same i (omega arith))) ∙ ap (λ (bs : List ℕ). all_below g n ++ bs) (same n (omega arith))
+below_same f g (suc n) same = ap (λ (bs : List ℕ). bs ++ f n) (below_same f g n (λ i l. same i (omega arith))) ∙ ap
+    (λ (bs : List ℕ). all_below g n ++ bs) (same n (omega arith))
 
 module _ (p q : Contents) (is : IsStore p) (too : IsStore q) (cpus : length q.runs ≡ length p.runs) (maps : shapes_of q ≡ shapes_of p) where
   shape : (m : ℕ) → (rows q m).shape ≡ (rows p m).shape
@@ -191,7 +198,8 @@ module _ (p q : Contents) (is : IsStore p) (too : IsStore q) (cpus : length q.ru
         let f : ℕ → List ℕ = λ c. note_of (rows p m) i c (run_of p.runs c) ∷ [] in
         let g : ℕ → List ℕ = λ c. note_of (rows q m) i c (run_of q.runs c) ∷ [] in
         let whole : all_below f (length p.runs) ≡ all_below g (length p.runs) = tail ∙ ap (λ (n : ℕ). all_below g n) cpus in
-        let here : f c ≡ g c = (same_front f g (length p.runs) (λ k l rest more h. same_fronts (f k) (g k) rest more refl h) [] [] (ap (λ (bs : List ℕ). bs ++ []) whole)).0 c below in
+        let here : f c ≡ g c = (same_front f g (length p.runs) (λ k l rest more h. same_fronts (f k) (g k) rest more refl h) [] []
+        (ap (λ (bs : List ℕ). bs ++ []) whole)).0 c below in
         cc
 
     hold : (c : ℕ) → holds p c m i ≡ holds q c m i
@@ -218,11 +226,13 @@ module _ (p q : Contents) (is : IsStore p) (too : IsStore q) (cpus : length q.ru
 
     key_part_size : length (key_part p m i) ≡ length (key_part q m i)
     key_part_size = some_size (is_linked (rows p m) i) (is_linked (rows q m) i) (key_of (rows p m) i) (key_of (rows q m) i) link
-        (key_size (rows p m) i (table m within) inside ∙ (ap (λ (h : MapShape). h.key) (sym (shape m)) ∙ sym (key_size (rows q m) i (table_too m within) there)))
+        (key_size (rows p m) i (table m within) inside ∙ (ap (λ (h : MapShape). h.key) (sym (shape m)) ∙ sym
+        (key_size (rows q m) i (table_too m within) there)))
 
     value_part_size : length (value_part p m i) ≡ length (value_part q m i)
     value_part_size = some_size (in_use p m i) (in_use q m i) (bytes_of (rows p m) i) (bytes_of (rows q m) i) use_same
-        (bytes_size (rows p m) i (table m within) inside ∙ (ap (λ (h : MapShape). h.value) (sym (shape m)) ∙ sym (bytes_size (rows q m) i (table_too m within) there)))
+        (bytes_size (rows p m) i (table m within) inside ∙ (ap (λ (h : MapShape). h.value) (sym (shape m)) ∙ sym
+        (bytes_size (rows q m) i (table_too m within) there)))
 
     content_size : length (content_of p.runs (rows p m) i) ≡ length (content_of q.runs (rows q m) i)
     content_size =
@@ -250,15 +260,19 @@ module _ (p q : Contents) (is : IsStore p) (too : IsStore q) (cpus : length q.ru
       (ap (λ (bs : List ℕ). bs ++ content_of p.runs (rows p m) i) parts.0 ∙ ap (λ (bs : List ℕ). marks_of q.runs (rows q m) i ++ bs) parts.1, parts.2)
 
   -- one map's elements
-  map_parts : (m : ℕ) (rest more : List ℕ) → map_block p m ++ rest ≡ map_block q m ++ more → ((i : ℕ) → i < element_count p m → block_of p.runs (rows p m) i ≡ block_of q.runs (rows q m) i) × (rest ≡ more)
+  map_parts : (m : ℕ) (rest more : List ℕ) → map_block p m ++ rest ≡ map_block q m ++ more →
+      ((i : ℕ) → i < element_count p m → block_of p.runs (rows p m) i ≡ block_of q.runs (rows q m) i) × (rest ≡ more)
   map_parts m rest more e =
       same_front (block_of p.runs (rows p m)) (block_of q.runs (rows q m)) (element_count p m) (block_ends m) rest more
       (e ∙ ap (λ (h : MapShape). all_below (block_of q.runs (rows q m)) (elements h) ++ more) (shape m))
 
   map_ends : (m : ℕ) → TellsEnd (map_block p m) (map_block q m)
   map_ends m rest more e =
-      let parts = map_parts m rest more e in
-      (below_same (block_of p.runs (rows p m)) (block_of q.runs (rows q m)) (element_count p m) parts.0 ∙ ap (λ (h : MapShape). all_below (block_of q.runs (rows q m)) (elements h)) (sym (shape m)), parts.1)
+      let parts = map_parts m rest more e in (
+        below_same (block_of p.runs (rows p m)) (block_of q.runs (rows q m)) (element_count p m) parts.0 ∙ ap
+            (λ (h : MapShape). all_below (block_of q.runs (rows q m)) (elements h)) (sym (shape m)),
+        parts.1,
+      )
 
   module _ (same : saved p ≡ saved q) where
     parts : (map is_in_run p.runs ≡ map is_in_run q.runs) × (all_below (map_block p) (length p.tables) ≡ all_below (map_block q) (length q.tables))
@@ -266,10 +280,12 @@ module _ (p q : Contents) (is : IsStore p) (too : IsStore q) (cpus : length q.ru
 
     same_map : (m : ℕ) → m < length p.tables → map_block p m ≡ map_block q m
     same_map m l =
-        let whole : all_below (map_block p) (length p.tables) ≡ all_below (map_block q) (length p.tables) = parts.1 ∙ ap (λ (n : ℕ). all_below (map_block q) n) count in
+        let whole : all_below (map_block p) (length p.tables) ≡ all_below (map_block q) (length p.tables) = parts.1 ∙ ap
+        (λ (n : ℕ). all_below (map_block q) n) count in
         (same_front (map_block p) (map_block q) (length p.tables) (λ k h. map_ends k) [] [] (ap (λ (bs : List ℕ). bs ++ []) whole)).0 m l
 
-    same_block : (m i : ℕ) → i < element_count p m → (marks_of p.runs (rows p m) i ≡ marks_of q.runs (rows q m) i) × (content_of p.runs (rows p m) i ≡ content_of q.runs (rows q m) i)
+    same_block : (m i : ℕ) → i < element_count p m → (marks_of p.runs (rows p m) i ≡ marks_of q.runs (rows q m) i) ×
+        (content_of p.runs (rows p m) i ≡ content_of q.runs (rows q m) i)
     same_block m i inside =
         let e = (map_parts m [] [] (ap (λ (bs : List ℕ). bs ++ []) (same_map m (sized_map p m i inside)))).0 i inside in
         let two = parts_of m i inside [] [] (ap (λ (bs : List ℕ). bs ++ []) e) in
@@ -285,7 +301,8 @@ module _ (p q : Contents) (is : IsStore p) (too : IsStore q) (cpus : length q.ru
       | inl l ↦
           let a = (table m l).linked in
           let b = (table_too m l).linked ∙ ap elements (shape m) in
-          ext_get_or false (rows q m).linked (rows p m).linked (b ∙ sym a) (λ i h. let inside : i < element_count p m = omega (arith, b) in sym (link m i inside (same_block m i inside).0))
+          ext_get_or false (rows q m).linked (rows p m).linked (b ∙ sym a)
+          (λ i h. let inside : i < element_count p m = omega (arith, b) in sym (link m i inside (same_block m i inside).0))
       | inr past ↦
           let none : rows p m ≡ no_rows = get_or_past p.tables m no_rows past in
           let nothing : rows q m ≡ no_rows = get_or_past q.tables m no_rows (omega (arith, count)) in
@@ -298,12 +315,14 @@ module _ (p q : Contents) (is : IsStore p) (too : IsStore q) (cpus : length q.ru
     same_keys : (m i : ℕ) → IsLinked (rows p m) i → key_of (rows q m) i ≡ key_of (rows p m) i
     same_keys m i linked =
         let inside = linked_size p is m i linked in
-        sym (some_is (is_linked (rows p m) i) (is_linked (rows q m) i) (key_of (rows p m) i) (key_of (rows q m) i) linked (sym (link m i inside (same_block m i inside).0) ∙ linked) (same_parts m i inside).0)
+        sym (some_is (is_linked (rows p m) i) (is_linked (rows q m) i) (key_of (rows p m) i) (key_of (rows q m) i) linked
+        (sym (link m i inside (same_block m i inside).0) ∙ linked) (same_parts m i inside).0)
 
     same_bytes : (m i : ℕ) → i < element_count p m → IsUsed p m i → bytes_of (rows q m) i ≡ bytes_of (rows p m) i
     same_bytes m i inside used =
         let u = used_is m i used in
-        sym (some_is (in_use p m i) (in_use q m i) (bytes_of (rows p m) i) (bytes_of (rows q m) i) u (sym (use_same m i inside (same_block m i inside).0) ∙ u) (same_parts m i inside).1)
+        sym (some_is (in_use p m i) (in_use q m i) (bytes_of (rows p m) i) (bytes_of (rows q m) i) u
+        (sym (use_same m i inside (same_block m i inside).0) ∙ u) (same_parts m i inside).1)
 
     look_alike : LookAlike p q
     look_alike = record {

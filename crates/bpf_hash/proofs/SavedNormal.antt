@@ -1,5 +1,6 @@
 -- The normal form of contents is saved as the same bytes.
-use Rattle.std.proofs.Common.{◌≡◌, ◌∙◌, Option, Some, None, ℕ, ◌+◌, ◌<◌, Bool, true, false, ◌||◌, if◌then◌else◌, List, [], ◌∷◌, ◌++◌, ◌≤◌, length, take, map, refl, sym, ap, subst, arith}
+use Rattle.std.proofs.Common.{◌≡◌, ◌∙◌, Option, Some, None, ℕ, ◌+◌, ◌<◌, Bool, true, false, ◌||◌, if◌then◌else◌, List, [], ◌∷◌, ◌++◌, ◌≤◌}
+use Rattle.std.proofs.Common.{length, take, map, refl, sym, ap, subst, arith}
 use Rattle.std.specs.Prelude.{IfSome, IfNone}
 use Rattle.std.proofs.lemmas.List.{length-map, length-take-le}
 use Rattle.bpf_hash.specs.declared.runs.Runs.{Runs}
@@ -7,7 +8,8 @@ use Rattle.bpf_shared.specs.Shape.{elements}
 use Rattle.bpf_hash.specs.Private.Runs.{run_of, is_run}
 use Rattle.bpf_hash.specs.Private.Rows.{Rows, key_of, bytes_of, run_looked_up, run_left, IsTable}
 use Rattle.bpf_hash.specs.Private.Contents.{Contents, rows, any_below, IsStore}
-use Rattle.bpf_hash.specs.Private.Saved.{bit, all_below, holds_row, keeps_row, note_of, notes_of, is_linked, marks_of, is_noted, content_of, block_of, map_block, is_in_run, saved, IsSavedAs}
+use Rattle.bpf_hash.specs.Private.Saved.{bit, all_below, holds_row, keeps_row, note_of, notes_of, is_linked, marks_of, is_noted, content_of}
+use Rattle.bpf_hash.specs.Private.Saved.{block_of, map_block, is_in_run, saved, IsSavedAs}
 use Rattle.bpf_hash.specs.Private.Normal.{first_run, normal_rows, normal}
 use Rattle.bpf_hash.specs.Alike.{IsSameShape}
 use Rattle.bpf_hash.specs.Read.{IsSavedFirst, IsRead, SavesNone}
@@ -45,13 +47,16 @@ module _ (runs : List Runs) (t : Rows) (is : IsTable t) (cpus : length runs ≡ 
     notes_same : notes_of firsts new i ≡ notes_of runs t i
     notes_same =
         ap (λ (n : ℕ). all_below (λ c. note_of new i c (run_of firsts c) ∷ []) n) (length-map runs first_run)
-        ∙ below_same (λ c. note_of new i c (run_of firsts c) ∷ []) (λ c. note_of t i c (run_of runs c) ∷ []) (length runs) (λ c l. ap (λ (x : ℕ). x ∷ []) (note_same c l))
+        ∙ below_same (λ c. note_of new i c (run_of firsts c) ∷ []) (λ c. note_of t i c (run_of runs c) ∷ []) (length runs)
+        (λ c l. ap (λ (x : ℕ). x ∷ []) (note_same c l))
 
     noted_same : is_noted firsts new i ≡ is_noted runs t i
     noted_same =
         ap (λ (n : ℕ). any_below n (λ c. holds_row new i c (run_of firsts c) || keeps_row new i c (run_of firsts c))) (length-map runs first_run)
-        ∙ any_below_same (length runs) (λ c. holds_row t i c (run_of runs c) || keeps_row t i c (run_of runs c)) (λ c. holds_row new i c (run_of firsts c) || keeps_row new i c (run_of firsts c))
-        (λ c l. ap (λ (b : Bool). b || keeps_row new i c (run_of firsts c)) (hold_same c l) ∙ ap (λ (b : Bool). holds_row t i c (run_of runs c) || b) (keep_same c l))
+        ∙ any_below_same (length runs) (λ c. holds_row t i c (run_of runs c) || keeps_row t i c (run_of runs c))
+        (λ c. holds_row new i c (run_of firsts c) || keeps_row new i c (run_of firsts c))
+        (λ c l. ap (λ (b : Bool). b || keeps_row new i c (run_of firsts c)) (hold_same c l) ∙ ap
+        (λ (b : Bool). holds_row t i c (run_of runs c) || b) (keep_same c l))
 
     abbrev used : Bool
     used = is_linked t i || is_noted runs t i
@@ -59,8 +64,10 @@ module _ (runs : List Runs) (t : Rows) (is : IsTable t) (cpus : length runs ≡ 
     content_same : content_of firsts new i ≡ content_of runs t i
     content_same =
         ap (λ (b : Bool). (if is_linked t i then key_of new i else []) ++ (if is_linked t i || b then bytes_of new i else [])) noted_same
-        ∙ (ap (λ (bs : List ℕ). bs ++ (if used then bytes_of new i else [])) (some_same (is_linked t i) (key_of new i) (key_of t i) (key_kept runs t is cpus i inside))
-        ∙ ap (λ (bs : List ℕ). (if is_linked t i then key_of t i else []) ++ bs) (some_same used (bytes_of new i) (bytes_of t i) (value_kept runs t is cpus i inside)))
+        ∙ (ap (λ (bs : List ℕ). bs ++ (if used then bytes_of new i else []))
+        (some_same (is_linked t i) (key_of new i) (key_of t i) (key_kept runs t is cpus i inside))
+        ∙ ap (λ (bs : List ℕ). (if is_linked t i then key_of t i else []) ++ bs)
+        (some_same used (bytes_of new i) (bytes_of t i) (value_kept runs t is cpus i inside)))
 
     block_same : block_of firsts new i ≡ block_of runs t i
     block_same =
@@ -84,7 +91,8 @@ module _ (p : Contents) (is : IsStore p) where
   saved_normal =
       ap (λ (bs : List ℕ). bs ++ all_below (map_block (normal p)) (length (normal p).tables)) (runs_same p.runs)
       ∙ ap (λ (bs : List ℕ). map is_in_run p.runs ++ bs)
-      (ap (λ (n : ℕ). all_below (map_block (normal p)) n) (length-map p.tables (normal_rows p.runs)) ∙ below_same (map_block (normal p)) (map_block p) (length p.tables) map_same)
+      (ap (λ (n : ℕ). all_below (map_block (normal p)) n) (length-map p.tables (normal_rows p.runs)) ∙ below_same (map_block (normal p))
+      (map_block p) (length p.tables) map_same)
 
 pub normal_saved : (p : Contents) (bytes : List ℕ) → IsSavedAs p bytes → IsSavedAs (normal p) bytes
 normal_saved p bytes is = (normal_store p is.0, is.1 ∙ sym (saved_normal p is.0))

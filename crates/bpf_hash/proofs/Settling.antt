@@ -1,5 +1,6 @@
 -- Updates and deletions of a `HashStore` are calls.
-use Rattle.std.proofs.Common.{◌≡◌, ◌≢◌, ℕ, ◌+◌, ◌-◌, ◌*◌, ◌<◌, ◌≤◌, Bool, true, false, not, cond, ◌&&◌, ◌==◌, List, [], ◌∷◌, Option, Some, None, is_some, length, slice_index, inl, inr, refl, ap, sym, ◌∙◌, subst, arith, eq-eqb, ne_eqb}
+use Rattle.std.proofs.Common.{◌≡◌, ◌≢◌, ℕ, ◌+◌, ◌-◌, ◌*◌, ◌<◌, ◌≤◌, Bool, true, false, not, cond, ◌&&◌, ◌==◌, List, [], ◌∷◌, Option, Some}
+use Rattle.std.proofs.Common.{None, is_some, length, slice_index, inl, inr, refl, ap, sym, ◌∙◌, subst, arith, eq-eqb, ne_eqb}
 use Rattle.std.proofs.lemmas.Bool.Decides.{nat_tests}
 use Rattle.std.proofs.lemmas.Cmp.{nat_list_cmp_total}
 use Rattle.std.proofs.lemmas.List.{set-get_or}
@@ -17,8 +18,10 @@ use Rattle.bpf_shared.specs.Store.{KeyMap, Plain, Value, put}
 use Rattle.bpf_shared.specs.Events.{has_key, refusals, kept_after, after_delete, after_update}
 use Rattle.bpf_shared.specs.Sound.{IsSoundStore}
 use Rattle.bpf_hash.specs.Private.Runs.{is_run}
-use Rattle.bpf_hash.specs.Private.Rows.{Rows, no_rows, key_of, run_looked_up, run_left, IsTable, IsLinked, IsMissing, linked_count, IsKeyAt, IsLowestFreeRow, HasRoomAt, PutsRow, TakesRow, linked_row, unlinked_row}
-use Rattle.bpf_hash.specs.Private.Contents.{Contents, runs_of, rows, span_at, shapes_of, has_cpu, is_running, holds, keeps, held_spans, StandsFor, MayLack, IsStore, with_table, Makes}
+use Rattle.bpf_hash.specs.Private.Rows.{Rows, no_rows, key_of, run_looked_up, run_left, IsTable, IsLinked, IsMissing, linked_count, IsKeyAt}
+use Rattle.bpf_hash.specs.Private.Rows.{IsLowestFreeRow, HasRoomAt, PutsRow, TakesRow, linked_row, unlinked_row}
+use Rattle.bpf_hash.specs.Private.Contents.{Contents, runs_of, rows, span_at, shapes_of, has_cpu, is_running, holds, keeps, held_spans}
+use Rattle.bpf_hash.specs.Private.Contents.{StandsFor, MayLack, IsStore, with_table, Makes}
 use Rattle.bpf_shared.proofs.Puts.{equal_or_not, put-same, put-other, gone_key}
 use Rattle.bpf_shared.proofs.Soundness.{after_delete_sound}
 use Rattle.bpf_hash.proofs.Passages.{calls}
@@ -55,7 +58,8 @@ unchanged : (p : Contents) (m : ℕ) (n : Rows) → n ≡ rows p m → with_tabl
 unchanged p m n e = ap (with_table p m) e ∙ ap (λ (ts : List Rows). let q : Contents = record p { tables = ts } in q) (set-get_or p.tables m no_rows)
 
 -- the store with other finite maps that have the same keys and values
-other_maps : (r : Contents) (s : Plain) (maps : ℕ → KeyMap) → ((n : ℕ) (q : List ℕ) → get (maps n) q ≡ get (s.maps n) q) → ((n : ℕ) → len (maps n) ≡ len (s.maps n))
+other_maps : (r : Contents) (s : Plain) (maps : ℕ → KeyMap) → ((n : ℕ) (q : List ℕ) → get (maps n) q ≡ get (s.maps n) q) →
+    ((n : ℕ) → len (maps n) ≡ len (s.maps n))
     → StandsFor r s → StandsFor r (record s { maps = maps })
 other_maps r s maps same count h = record {
   cpus = h.cpus;
@@ -76,7 +80,8 @@ module _ (k : KeyMap) (key : List ℕ) (n v : ℕ) (there : get k key ≡ Some v
   inserted_again : (q : List ℕ) → get (insert k key n) q ≡ get (insert (remove k key) key n) q
   inserted_again q =
       get-insert nat_list_cmp_total k key n q
-      ∙ (go (eq_by_cmp (slice_cmp nat_cmp) q key) ∙ sym (get-insert nat_list_cmp_total (remove k key) key n q ∙ ap (cond (eq_by_cmp (slice_cmp nat_cmp) q key) (Some n)) (get-remove nat_list_cmp_total k key q)))
+      ∙ (go (eq_by_cmp (slice_cmp nat_cmp) q key) ∙ sym (get-insert nat_list_cmp_total (remove k key) key n q ∙ ap
+      (cond (eq_by_cmp (slice_cmp nat_cmp) q key) (Some n)) (get-remove nat_list_cmp_total k key q)))
     where
       go : (b : Bool) → cond b (Some n) (get k q) ≡ cond b (Some n) (cond b None (get k q))
       go true = refl
@@ -88,7 +93,8 @@ module _ (k : KeyMap) (key : List ℕ) (n v : ℕ) (there : get k key ≡ Some v
       let now : contains_key (remove k key) key ≡ false = ap is_some (gone_key k key) in
       let less : len (remove k key) ≡ len k - 1 = len-remove nat_list_cmp_total k key ∙ ap (λ (b : Bool). cond b (len k - 1) (len k)) had in
       let first : len (insert k key n) ≡ len k = len-insert nat_list_cmp_total k key n ∙ ap (λ (b : Bool). cond b (len k) (len k + 1)) had in
-      let second : len (insert (remove k key) key n) ≡ len (remove k key) + 1 = len-insert nat_list_cmp_total (remove k key) key n ∙ ap (λ (b : Bool). cond b (len (remove k key)) (len (remove k key) + 1)) now in
+      let second : len (insert (remove k key) key n) ≡ len (remove k key) + 1 = len-insert nat_list_cmp_total (remove k key) key n ∙ ap
+      (λ (b : Bool). cond b (len (remove k key)) (len (remove k key) + 1)) now in
       omega arith
 
 module _ (p : Contents) (is : IsStore p) (c m : ℕ) (key : List ℕ) (mi : m < length p.tables) where
@@ -109,7 +115,8 @@ module _ (p : Contents) (is : IsStore p) (c m : ℕ) (key : List ℕ) (mi : m < 
       let di : d < row.cpus = subst (λ (x : ℕ). d < x) width inside in
       elim (equal_or_not i k) [
         | inl e ↦
-            let at : run_left (unlinked_row p.runs k row) i d ≡ (runs_of p d).count = ap (λ (x : ℕ). run_left (unlinked_row p.runs k row) x d) e ∙ left-here p.runs row table k l width d di in
+            let at : run_left (unlinked_row p.runs k row) i d ≡ (runs_of p d).count = ap
+            (λ (x : ℕ). run_left (unlinked_row p.runs k row) x d) e ∙ left-here p.runs row table k l width d di in
             omega arith
         | inr ne ↦
             let at : run_left (unlinked_row p.runs k row) i d ≡ run_left row i d = left-else p.runs row table k l width i d di ne in
@@ -118,7 +125,8 @@ module _ (p : Contents) (is : IsStore p) (c m : ℕ) (key : List ℕ) (mi : m < 
       ]
 
   gone_store : (k : ℕ) → IsLinked row k → IsStore (with_table p m (unlinked_row p.runs k row))
-  gone_store k l = store-with p m (unlinked_row p.runs k row) mi is (unlinked_table p.runs row table k l width) refl (λ i d x. is.looked_up m i d x) (gone_left k l)
+  gone_store k l = store-with p m (unlinked_row p.runs k row) mi is (unlinked_table p.runs row table k l width) refl
+      (λ i d x. is.looked_up m i d x) (gone_left k l)
 
   -- ---- deletions
   pub takes_calls : (answer : MapAnswer) (n : Rows) → is_running p c ≡ true → IsKeyOf (shapes_of p) m key → TakesRow p.runs row key answer n
@@ -177,7 +185,8 @@ module _ (p : Contents) (is : IsStore p) (c m : ℕ) (key : List ℕ) (mi : m < 
       looked i d = ap (λ (x : ℕ). slice_index n.looked_up (i * x + d)) k.1 ∙ ap (λ (x : List ℕ). slice_index x (i * row.cpus + d)) k.2
 
   pub keeps_held : (n : Rows) → Keeps n → held_spans (with_table p m n) ≡ held_spans p
-  keeps_held n k = held-same p (with_table p m n) (count-with p m n mi) (shape-with p m n mi k.0) (λ d x j. ap (is_run (runs_of p d)) (tells-with p m n mi run_looked_up looked x j d))
+  keeps_held n k = held-same p (with_table p m n) (count-with p m n mi) (shape-with p m n mi k.0)
+      (λ d x j. ap (is_run (runs_of p d)) (tells-with p m n mi run_looked_up looked x j d))
     where
       looked : (i d : ℕ) → run_looked_up n i d ≡ run_looked_up row i d
       looked i d = ap (λ (x : ℕ). slice_index n.looked_up (i * x + d)) k.1 ∙ ap (λ (x : List ℕ). slice_index x (i * row.cpus + d)) k.2
@@ -210,7 +219,8 @@ module _ (p : Contents) (is : IsStore p) (c m : ℕ) (key : List ℕ) (mi : m < 
 
     room_passes : (s : Plain) → StandsFor p s → HasRoomAt row key flags → passing s
     room_passes s h (inl r) = passes_there s r.0 r.1 (there p m key s h r.2.0 r.2.1)
-    room_passes s h (inr r) = passes_missing s r.0 (ap is_some (missing p m key s h r.1)) (λ e. (let x = r.2 in let y = h.counts m in let z : len (s.maps m) ≡ row.shape.max = e in omega arith))
+    room_passes s h (inr r) = passes_missing s r.0 (ap is_some (missing p m key s h r.1))
+        (λ e. (let x = r.2 in let y = h.counts m in let z : len (s.maps m) ≡ row.shape.max = e in omega arith))
 
     module _ (i : ℕ) (free : IsLowestFreeRow p.runs row i) (s : Plain) (so : IsSoundStore s) (h : StandsFor p s) where
       abbrev value : Value
@@ -250,19 +260,28 @@ module _ (p : Contents) (is : IsStore p) (c m : ℕ) (key : List ℕ) (mi : m < 
           (λ d e. unkept d (sym (keeps-else p is m k mi at.linked d m i (λ _. apart)) ∙ e)) in
           let same_contents : with_table q m (linked_row i key bytes (rows q m)) ≡ with_table p m (linked_row i key bytes (unlinked_row p.runs k row)) =
           ap (λ (x : Rows). with_table q m (linked_row i key bytes x)) here
-          ∙ ap (λ (ts : List Rows). let y : Contents = record p { tables = ts } in y) (set_twice p.tables m (unlinked_row p.runs k row) (linked_row i key bytes (unlinked_row p.runs k row))) in
-          let same_value : ◌≡◌ {A = Value} (record { bytes = bytes; span = span_at q m i }) value = ap (λ (x : MapShape). let y : Value = record { bytes = bytes; span = element_span m x i } in y) shape in
-          let moved = subst (λ (x : Contents). StandsFor x (with_value t m key value)) same_contents (subst (λ (x : Value). StandsFor (with_table q m (linked_row i key bytes (rows q m))) (with_value t m key x)) same_value stands) in
-          let some : 0 < len (s.maps m) = (let x = h.counts m in let y : linked_count (unlinked_row p.runs k row) + 1 ≡ linked_count row = count-less p.runs row table k at.linked width in omega arith) in
-          other_maps (with_table p m (linked_row i key bytes (unlinked_row p.runs k row))) (with_value t m key value) (put s.maps m (insert (s.maps m) key s.made))
+          ∙ ap (λ (ts : List Rows). let y : Contents = record p { tables = ts } in y)
+          (set_twice p.tables m (unlinked_row p.runs k row) (linked_row i key bytes (unlinked_row p.runs k row))) in
+          let same_value : ◌≡◌ {A = Value} (record { bytes = bytes; span = span_at q m i }) value = ap
+          (λ (x : MapShape). let y : Value = record { bytes = bytes; span = element_span m x i } in y) shape in
+          let moved = subst (λ (x : Contents). StandsFor x (with_value t m key value)) same_contents
+          (subst (λ (x : Value). StandsFor (with_table q m (linked_row i key bytes (rows q m))) (with_value t m key x)) same_value stands) in
+          let some : 0 < len (s.maps m) =
+          (let x = h.counts m in
+          let y : linked_count (unlinked_row p.runs k row) + 1 ≡ linked_count row = count-less p.runs row table k at.linked width in omega arith)
+          in
+          other_maps (with_table p m (linked_row i key bytes (unlinked_row p.runs k row))) (with_value t m key value)
+          (put s.maps m (insert (s.maps m) key s.made))
           (λ n x. elim (equal_or_not n m) [
             | inr ne ↦
                 ap (λ (y : KeyMap). get y x) (put-other s.maps m n (insert (s.maps m) key s.made) ne)
-                ∙ sym (ap (λ (y : KeyMap). get y x) (put-other t.maps m n (insert (t.maps m) key s.made) ne) ∙ ap (λ (y : KeyMap). get y x) (put-other s.maps m n (remove (s.maps m) key) ne))
+                ∙ sym (ap (λ (y : KeyMap). get y x) (put-other t.maps m n (insert (t.maps m) key s.made) ne) ∙ ap (λ (y : KeyMap). get y x)
+                (put-other s.maps m n (remove (s.maps m) key) ne))
             | inl e ↦
                 ap (λ (y : KeyMap). get y x) (put-same s.maps m n (insert (s.maps m) key s.made) e)
                 ∙ (inserted_again (s.maps m) key s.made (h.number m k) leads x
-                ∙ sym (ap (λ (y : KeyMap). get y x) (put-same t.maps m n (insert (t.maps m) key s.made) e) ∙ ap (λ (y : KeyMap). get (insert y key s.made) x) (put-same s.maps m m (remove (s.maps m) key) refl)))
+                ∙ sym (ap (λ (y : KeyMap). get y x) (put-same t.maps m n (insert (t.maps m) key s.made) e) ∙ ap
+                (λ (y : KeyMap). get (insert y key s.made) x) (put-same s.maps m m (remove (s.maps m) key) refl)))
           ])
           (λ n. elim (equal_or_not n m) [
             | inr ne ↦
@@ -271,7 +290,8 @@ module _ (p : Contents) (is : IsStore p) (c m : ℕ) (key : List ℕ) (mi : m < 
             | inl e ↦
                 ap len (put-same s.maps m n (insert (s.maps m) key s.made) e)
                 ∙ (len_again (s.maps m) key s.made (h.number m k) leads some
-                ∙ sym (ap len (put-same t.maps m n (insert (t.maps m) key s.made) e) ∙ ap (λ (y : KeyMap). len (insert y key s.made)) (put-same s.maps m m (remove (s.maps m) key) refl)))
+                ∙ sym (ap len (put-same t.maps m n (insert (t.maps m) key s.made) e) ∙ ap (λ (y : KeyMap). len (insert y key s.made))
+                (put-same s.maps m m (remove (s.maps m) key) refl)))
           ])
           moved
 
@@ -287,7 +307,18 @@ module _ (p : Contents) (is : IsStore p) (c m : ℕ) (key : List ℕ) (mi : m < 
       s,
       (
         h.running c ∙ going,
-        (row.shape, is_map s h, size, long, (tests _ _ _ _ false true _ _ (let l = t.0 in grind (arith, nat_tests)) (let has = there p m key s h t.1.0 t.1.1 in ap (λ (b : Bool). (flags == 1) && b) has ∙ (ap (λ (b : Bool). b && true) (eq-eqb flags 1 t.0))) refl refl, refl)),
+        (
+          row.shape,
+          is_map s h,
+          size,
+          long,
+          (
+            tests _ _ _ _ false true _ _ (let l = t.0 in grind (arith, nat_tests))
+                (let has = there p m key s h t.1.0 t.1.1 in ap (λ (b : Bool). (flags == 1) && b) has ∙ (ap (λ (b : Bool). b && true) (eq-eqb flags 1 t.0)))
+                refl refl,
+            refl,
+          ),
+        ),
       ),
       tt,
       refused Exists n t.2 s h,
@@ -296,7 +327,20 @@ module _ (p : Contents) (is : IsStore p) (c m : ℕ) (key : List ℕ) (mi : m < 
       s,
       (
         h.running c ∙ going,
-        (row.shape, is_map s h, size, long, (tests _ _ _ _ false false true _ (let l = t.0 in grind (arith, nat_tests)) (let has : has_key s m key ≡ false = ap is_some (missing p m key s h t.1) in ap (λ (b : Bool). (flags == 1) && b) has ∙ and_false (flags == 1)) (let has : has_key s m key ≡ false = ap is_some (missing p m key s h t.1) in ap (λ (b : Bool). (flags == 2) && not b) has ∙ ap (λ (b : Bool). b && true) (eq-eqb flags 2 t.0)) refl, refl)),
+        (
+          row.shape,
+          is_map s h,
+          size,
+          long,
+          (
+            tests _ _ _ _ false false true _ (let l = t.0 in grind (arith, nat_tests))
+                (let has : has_key s m key ≡ false = ap is_some (missing p m key s h t.1) in ap (λ (b : Bool). (flags == 1) && b) has ∙ and_false (flags == 1))
+                (let has : has_key s m key ≡ false = ap is_some (missing p m key s h t.1) in ap (λ (b : Bool). (flags == 2) && not b) has ∙
+                ap (λ (b : Bool). b && true) (eq-eqb flags 2 t.0))
+                refl,
+            refl,
+          ),
+        ),
       ),
       tt,
       refused Absent n t.2 s h,
@@ -311,7 +355,8 @@ module _ (p : Contents) (is : IsStore p) (c m : ℕ) (key : List ℕ) (mi : m < 
       refused Full n t.3 s h,
     ))
       where
-        full_test : (s : Plain) → StandsFor p s → flags < 2 → has_key s m key ≡ false → len (s.maps m) ≡ row.shape.max → first_of (refusals s m row.shape key flags) ≡ Some Full
+        full_test : (s : Plain) → StandsFor p s → flags < 2 → has_key s m key ≡ false → len (s.maps m) ≡ row.shape.max → first_of
+            (refusals s m row.shape key flags) ≡ Some Full
         full_test s h l has full = tests _ _ _ _ false false false true
             (grind (arith, nat_tests))
             (ap (λ (b : Bool). (flags == 1) && b) has ∙ and_false (flags == 1))
@@ -333,7 +378,10 @@ module _ (p : Contents) (is : IsStore p) (c m : ℕ) (key : List ℕ) (mi : m < 
           is_map s h,
           size,
           long,
-          (passes_there s t.0 t.1 (there p m key s h t.2.0 t.2.1), (span_at p m i, record { element = (i, free.inside, refl); apart = free_apart p is s so h m i free.inside free.free }, refl)),
+          (
+            passes_there s t.0 t.1 (there p m key s h t.2.0 t.2.1),
+            (span_at p m i, record { element = (i, free.inside, refl); apart = free_apart p is s so h m i free.inside free.free }, refl),
+          ),
         ),
       ),
       (row.shape, i, is_map s h, lowest_up p is s so h m i free, ap (λ (x : Value). x.span) (put-same s.value s.made s.made (value i free s so h) refl)),
@@ -348,7 +396,11 @@ module _ (p : Contents) (is : IsStore p) (c m : ℕ) (key : List ℕ) (mi : m < 
           is_map s h,
           size,
           long,
-          (passes_missing s t.0 (ap is_some (missing p m key s h t.2)) (λ e. (let x = t.1 in let y = h.counts m in let z : len (s.maps m) ≡ row.shape.max = e in omega arith)), (span_at p m i, record { element = (i, free.inside, refl); apart = free_apart p is s so h m i free.inside free.free }, refl)),
+          (
+            passes_missing s t.0 (ap is_some (missing p m key s h t.2))
+                (λ e. (let x = t.1 in let y = h.counts m in let z : len (s.maps m) ≡ row.shape.max = e in omega arith)),
+            (span_at p m i, record { element = (i, free.inside, refl); apart = free_apart p is s so h m i free.inside free.free }, refl),
+          ),
         ),
       ),
       (row.shape, i, is_map s h, lowest_up p is s so h m i free, ap (λ (x : Value). x.span) (put-same s.value s.made s.made (value i free s so h) refl)),

@@ -1,5 +1,6 @@
 -- What a store shows after a call that leaves keys, bytes and places as they are.
-use Rattle.std.proofs.Common.{◌≡◌, ◌≢◌, ℕ, ◌<◌, Bool, true, false, ◌&&◌, ◌==◌, if◌then◌else◌, List, inl, inr, length, slice_index_or, ap, sym, ◌∙◌, subst, eq-eqb, ne_eqb}
+use Rattle.std.proofs.Common.{◌≡◌, ◌≢◌, ℕ, ◌<◌, Bool, true, false, ◌&&◌, ◌==◌, if◌then◌else◌, List, inl, inr, length, slice_index_or, ap}
+use Rattle.std.proofs.Common.{sym, ◌∙◌, subst, eq-eqb, ne_eqb}
 use Rattle.std.specs.List.{count_by}
 use Rattle.bpf_shared.specs.declared.events.Span.{Span}
 use Rattle.bpf_shared.specs.declared.shapes.MapShape.{MapShape}
@@ -8,7 +9,8 @@ use Rattle.bpf_shared.specs.Store.{Plain, Finds}
 use Rattle.bpf_shared.specs.Passage.{same_span, held_without}
 use Rattle.bpf_shared.proofs.Puts.{equal_or_not}
 use Rattle.bpf_hash.specs.Private.Rows.{Rows, key_of, bytes_of, IsLinked}
-use Rattle.bpf_hash.specs.Private.Contents.{Contents, rows, element_count, span_at, shapes_of, is_running, holds, keeps, any_below, held_spans, IsUsed, StandsFor}
+use Rattle.bpf_hash.specs.Private.Contents.{Contents, rows, element_count, span_at, shapes_of, is_running, holds, keeps, any_below}
+use Rattle.bpf_hash.specs.Private.Contents.{held_spans, IsUsed, StandsFor}
 use Rattle.bpf_hash.proofs.AnyBelow.{any_below_same, any_below_none}
 
 -- the same keys, bytes and places
@@ -79,7 +81,8 @@ module _ (p q : Contents) (same : SameContent p q) where
   pub held_spans-same : ((c m i : ℕ) → holds q c m i ≡ holds p c m i) → held_spans q ≡ held_spans p
   held_spans-same e = λ k c x. go c x k
     where
-      inner : (c : ℕ) (x : Span) (m : ℕ) → any_below (element_count q m) (λ i. holds q c m i && same_span x (span_at q m i)) ≡ any_below (element_count p m) (λ i. holds p c m i && same_span x (span_at p m i))
+      inner : (c : ℕ) (x : Span) (m : ℕ) → any_below (element_count q m) (λ i. holds q c m i && same_span x (span_at q m i)) ≡ any_below
+          (element_count p m) (λ i. holds p c m i && same_span x (span_at p m i))
       inner c x m =
           ap (λ (n : ℕ). any_below n (λ i. holds q c m i && same_span x (span_at q m i))) (ap elements (same.shape m))
           ∙ any_below_same (element_count p m) (λ i. holds p c m i && same_span x (span_at p m i)) (λ i. holds q c m i && same_span x (span_at q m i))
@@ -88,13 +91,16 @@ module _ (p q : Contents) (same : SameContent p q) where
       go : (c : ℕ) (x : Span) → held_spans q c x ≡ held_spans p c x
       go c x =
           ap (λ (n : ℕ). any_below n (λ m. any_below (element_count q m) (λ i. holds q c m i && same_span x (span_at q m i)))) same.tables
-          ∙ any_below_same (length p.tables) (λ m. any_below (element_count p m) (λ i. holds p c m i && same_span x (span_at p m i))) (λ m. any_below (element_count q m) (λ i. holds q c m i && same_span x (span_at q m i))) (λ m l. inner c x m)
+          ∙ any_below_same (length p.tables) (λ m. any_below (element_count p m) (λ i. holds p c m i && same_span x (span_at p m i)))
+          (λ m. any_below (element_count q m) (λ i. holds q c m i && same_span x (span_at q m i))) (λ m l. inner c x m)
 
   -- one CPU holds nothing any more
-  pub held_spans-without : (c : ℕ) → ((d m i : ℕ) → d ≢ c → holds q d m i ≡ holds p d m i) → ((m i : ℕ) → holds q c m i ≡ false) → held_spans q ≡ held_without (held_spans p) c
+  pub held_spans-without : (c : ℕ) → ((d m i : ℕ) → d ≢ c → holds q d m i ≡ holds p d m i) → ((m i : ℕ) → holds q c m i ≡ false) →
+      held_spans q ≡ held_without (held_spans p) c
   held_spans-without c other own = λ k d x. go d x k
     where
-      inner : (d : ℕ) (x : Span) → d ≢ c → (m : ℕ) → any_below (element_count q m) (λ i. holds q d m i && same_span x (span_at q m i)) ≡ any_below (element_count p m) (λ i. holds p d m i && same_span x (span_at p m i))
+      inner : (d : ℕ) (x : Span) → d ≢ c → (m : ℕ) → any_below (element_count q m) (λ i. holds q d m i && same_span x (span_at q m i)) ≡
+          any_below (element_count p m) (λ i. holds p d m i && same_span x (span_at p m i))
       inner d x ne m =
           ap (λ (n : ℕ). any_below n (λ i. holds q d m i && same_span x (span_at q m i))) (ap elements (same.shape m))
           ∙ any_below_same (element_count p m) (λ i. holds p d m i && same_span x (span_at p m i)) (λ i. holds q d m i && same_span x (span_at q m i))
@@ -102,13 +108,15 @@ module _ (p q : Contents) (same : SameContent p q) where
 
       nothing : (x : Span) (d : ℕ) → d ≡ c → held_spans q d x ≡ false
       nothing x d e = any_below_none (length q.tables) (λ m. any_below (element_count q m) (λ i. holds q d m i && same_span x (span_at q m i)))
-          (λ m l. any_below_none (element_count q m) (λ i. holds q d m i && same_span x (span_at q m i)) (λ i k. ap (λ (b : Bool). b && same_span x (span_at q m i)) (ap (λ (z : ℕ). holds q z m i) e ∙ own m i)))
+          (λ m l. any_below_none (element_count q m) (λ i. holds q d m i && same_span x (span_at q m i))
+          (λ i k. ap (λ (b : Bool). b && same_span x (span_at q m i)) (ap (λ (z : ℕ). holds q z m i) e ∙ own m i)))
 
       go : (d : ℕ) (x : Span) → held_spans q d x ≡ (if d == c then false else held_spans p d x)
       go d x = elim (equal_or_not d c) [
         | inl e ↦ nothing x d e ∙ sym (ap (λ (b : Bool). if b then false else held_spans p d x) (eq-eqb d c e))
         | inr ne ↦
             ap (λ (n : ℕ). any_below n (λ m. any_below (element_count q m) (λ i. holds q d m i && same_span x (span_at q m i)))) same.tables
-            ∙ (any_below_same (length p.tables) (λ m. any_below (element_count p m) (λ i. holds p d m i && same_span x (span_at p m i))) (λ m. any_below (element_count q m) (λ i. holds q d m i && same_span x (span_at q m i))) (λ m l. inner d x ne m)
+            ∙ (any_below_same (length p.tables) (λ m. any_below (element_count p m) (λ i. holds p d m i && same_span x (span_at p m i)))
+            (λ m. any_below (element_count q m) (λ i. holds q d m i && same_span x (span_at q m i))) (λ m l. inner d x ne m)
             ∙ sym (ap (λ (b : Bool). if b then false else held_spans p d x) (ne_eqb d c ne)))
       ]

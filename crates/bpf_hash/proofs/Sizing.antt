@@ -1,5 +1,6 @@
 -- What is read has its sizes, whatever the bytes are.
-use Rattle.std.proofs.Common.{◌≡◌, ◌∙◌, ℕ, zero, suc, ◌+◌, ◌*◌, ◌<◌, ◌≤◌, Bool, true, false, if◌then◌else◌, List, [], ◌∷◌, ◌++◌, length, length-append, take, map, replicate, inl, inr, refl, sym, ap, arith}
+use Rattle.std.proofs.Common.{◌≡◌, ◌∙◌, ℕ, zero, suc, ◌+◌, ◌*◌, ◌<◌, ◌≤◌, Bool, true, false, if◌then◌else◌, List, [], ◌∷◌, ◌++◌, length}
+use Rattle.std.proofs.Common.{length-append, take, map, replicate, inl, inr, refl, sym, ap, arith}
 use Rattle.std.specs.Prelude.{slice_index, slice_index_or}
 use Rattle.std.specs.List.{count_by}
 use Rattle.std.proofs.lemmas.Bool.{cases_lt}
@@ -54,7 +55,8 @@ sized_none shape cpus = record {
   left_first = λ k. omega arith;
 }
 
-pub sized_more : (shape : MapShape) (cpus n : ℕ) (linked linked' : List Bool) (keys keys' values values' held held' left left' key value notes : List ℕ) (here : Bool) → AreSized shape cpus n linked keys values held left
+pub sized_more : (shape : MapShape) (cpus n : ℕ) (linked linked' : List Bool)
+    (keys keys' values values' held held' left left' key value notes : List ℕ) (here : Bool) → AreSized shape cpus n linked keys values held left
     → linked' ≡ linked ++ here ∷ [] → keys' ≡ keys ++ key → length key ≡ shape.key → values' ≡ values ++ value → length value ≡ shape.value
     → length notes ≡ cpus → held' ≡ held ++ map low_bit notes → left' ≡ left ++ map high_bit notes
     → AreSized shape cpus (n + 1) linked' keys' values' held' left'
@@ -68,8 +70,10 @@ sized_more shape cpus n linked linked' keys keys' values values' held held' left
   values_size = more_size n shape.value values values' value is.values_size v value_size;
   held_size = more_size n cpus held held' (map low_bit notes) is.held_size h (length-map notes low_bit ∙ many);
   left_size = more_size n cpus left left' (map high_bit notes) is.left_size e (length-map notes high_bit ∙ many);
-  held_first = λ i. (let first = first_more held (map low_bit notes) is.held_first (first_low notes) i in let same = ap (λ (xs : List ℕ). slice_index xs i) h in omega (arith, first, same));
-  left_first = λ i. (let first = first_more left (map high_bit notes) is.left_first (first_high notes) i in let same = ap (λ (xs : List ℕ). slice_index xs i) e in omega (arith, first, same));
+  held_first = λ i. (let first = first_more held (map low_bit notes) is.held_first (first_low notes) i in
+      let same = ap (λ (xs : List ℕ). slice_index xs i) h in omega (arith, first, same));
+  left_first = λ i. (let first = first_more left (map high_bit notes) is.left_first (first_high notes) i in
+      let same = ap (λ (xs : List ℕ). slice_index xs i) e in omega (arith, first, same));
 }
 
 -- ---- a table
@@ -79,7 +83,8 @@ marked_inside linked i marked = elim (cases_lt i (length linked)) [
   | inr past ↦ let no : false ≡ true = sym (get_or_past linked i false past) ∙ marked in cc
 ]
 
-pub sized_table : (shape : MapShape) (cpus : ℕ) (linked : List Bool) (keys values held left : List ℕ) → IsMapShape shape → cpus ≤ 16 → AreSized shape cpus (elements shape) linked keys values held left
+pub sized_table : (shape : MapShape) (cpus : ℕ) (linked : List Bool) (keys values held left : List ℕ) → IsMapShape shape → cpus ≤ 16 →
+    AreSized shape cpus (elements shape) linked keys values held left
     → count_by (λ b. b) linked ≤ shape.max → AreApart shape.key linked keys (length linked)
     → IsReadTable cpus (record { shape = shape; cpus = cpus; linked = linked; keys = keys; values = values; looked_up = held; left = left })
 sized_table shape cpus linked keys values held left is few sized count apart = record {
@@ -116,7 +121,8 @@ module _ (p : Contents) (bytes : List ℕ) (runs : p.runs ≡ map run_read bytes
         | inl there ↦ let small = first m there k in omega (arith, small, one)
         | inr past ↦
             let none : slice_index_or p.tables m no_rows ≡ no_rows = get_or_past p.tables m no_rows past in
-            let e : slice_index (notes (slice_index_or p.tables m no_rows)) k ≡ 0 = ap (λ (t : Rows). slice_index (notes t) k) none ∙ ap (λ (xs : List ℕ). slice_index xs k) empty in
+            let e : slice_index (notes (slice_index_or p.tables m no_rows)) k ≡ 0 = ap (λ (t : Rows). slice_index (notes t) k) none ∙ ap
+            (λ (xs : List ℕ). slice_index xs k) empty in
             omega (arith, e)
       ]
 

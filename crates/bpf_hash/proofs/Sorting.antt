@@ -1,5 +1,6 @@
 -- The pairs of a map's elements, collected and then sorted by their keys.
-use Rattle.std.proofs.Common.{◌≡◌, ◌≢◌, ℕ, zero, suc, ◌+◌, ◌-◌, ◌<◌, ◌≤◌, true, false, List, [], ◌∷◌, ◌++◌, length, map, get_or, slice_index_or, ◌⊎◌, inl, inr, refl, sym, ap, subst, ◌∙◌, arith, length-append}
+use Rattle.std.proofs.Common.{◌≡◌, ◌≢◌, ℕ, zero, suc, ◌+◌, ◌-◌, ◌<◌, ◌≤◌, true, false, List, [], ◌∷◌, ◌++◌, length, map, get_or}
+use Rattle.std.proofs.Common.{slice_index_or, ◌⊎◌, inl, inr, refl, sym, ap, subst, ◌∙◌, arith, length-append}
 use Rattle.std.specs.Prelude.{Vec}
 use Rattle.std.specs.declared.alloc.Global.{Global}
 use Rattle.std.specs.declared.cmp.Ordering.{Ordering}
@@ -39,7 +40,8 @@ pairs_past t n pairs unset a = record {
     below : (i n : ℕ) → i < n + 1 → i ≢ n → i < n
     below i n l ne = elim (cases_lt i n) [ inl k ↦ k | inr k ↦ absurd (ne (omega arith)) ]
 
-pub pairs_more : (t : Rows) → IsTable t → (n : ℕ) (pairs : List Pair) (q : Pair) → IsLinked t n → q ≡ row_pair t n → ArePairsBelow t n pairs → ArePairsBelow t (n + 1) (pairs ++ q ∷ [])
+pub pairs_more : (t : Rows) → IsTable t → (n : ℕ) (pairs : List Pair) (q : Pair) → IsLinked t n → q ≡ row_pair t n → ArePairsBelow t n pairs
+    → ArePairsBelow t (n + 1) (pairs ++ q ∷ [])
 pairs_more t is n pairs q linked e a = record {
   each = λ k l. elim (cases_lt k (length pairs)) [
     | inl b ↦ (let f = a.each k b in (f.0, f.1, omega (arith, f.2), front k b ∙ f.3))
@@ -68,7 +70,8 @@ pairs_more t is n pairs q linked e a = record {
     front k l = get_or-append pairs (q ∷ []) ([], []) k l
 
     last : (k : ℕ) → k ≡ length pairs → pair_at (pairs ++ q ∷ []) k ≡ q
-    last k s = get_or-append_right pairs (q ∷ []) k k ([], []) (sym s) (omega arith) ∙ ap (λ (n : ℕ). get_or (q ∷ []) n ([], [])) (let z : k - k ≡ 0 = omega arith in z)
+    last k s = get_or-append_right pairs (q ∷ []) k k ([], []) (sym s) (omega arith) ∙ ap (λ (n : ℕ). get_or (q ∷ []) n ([], []))
+        (let z : k - k ≡ 0 = omega arith in z)
 
     apart : (k : ℕ) → k < length pairs → key_at pairs k ≡ q.0 → ⊥
     apart k l s =
@@ -125,7 +128,8 @@ once_swapped l a b la lb once j k lj lk same =
 abbrev Two : Type 0
 Two = Vec ℕ Global × Vec ℕ Global
 
-module _ (t : Rows) (n : ℕ) (whole : (i : ℕ) → IsLinked t i → i < n) (old new : List Two) (below : ArePairsBelow t n (map pair_of old)) (moved : IsPermutation old new)
+module _ (t : Rows) (n : ℕ) (whole : (i : ℕ) → IsLinked t i → i < n) (old new : List Two) (below : ArePairsBelow t n (map pair_of old))
+    (moved : IsPermutation old new)
     (compare : Two → Two → Ordering) (second : Two → Two → Ordering)
     (first : (x y : Two) → compare x y ≡ ordering_then (slice_cmp nat_cmp x.0.items y.0.items) (second x y)) (up : IsSorted compare new) where
   abbrev before : List Pair
@@ -144,7 +148,8 @@ module _ (t : Rows) (n : ℕ) (whole : (i : ℕ) → IsLinked t i → i < n) (ol
   count = length-map new pair_of
 
   -- neighbours rise
-  module _ (v : Two) (vs : List Two) (sorted : IsSorted compare (v ∷ vs)) (one : HasOnce (map pair_of (v ∷ vs))) (k : ℕ) (l : k + 1 < length (map pair_of (v ∷ vs))) where
+  module _ (v : Two) (vs : List Two) (sorted : IsSorted compare (v ∷ vs)) (one : HasOnce (map pair_of (v ∷ vs))) (k : ℕ)
+      (l : k + 1 < length (map pair_of (v ∷ vs))) where
     abbrev all : List Two
     all = v ∷ vs
 
@@ -170,9 +175,12 @@ module _ (t : Rows) (n : ℕ) (whole : (i : ℕ) → IsLinked t i → i < n) (ol
     not_less = sorted k v (omega arith) inside
 
     rises : (o : Ordering) → slice_cmp nat_cmp high low ≡ o → slice_cmp nat_cmp (key_at (map pair_of all) k) (key_at (map pair_of all) (k + 1)) ≡ Less
-    rises Less e = absurd (let f : true ≡ false = sym (ap is_lt (first (get_or all (k + 1) v) (get_or all k v) ∙ ap (λ (o : Ordering). ordering_then o (second (get_or all (k + 1) v) (get_or all k v))) e)) ∙ not_less in cc)
+    rises Less e = absurd
+        (let f : true ≡ false = sym (ap is_lt (first (get_or all (k + 1) v) (get_or all k v) ∙ ap (λ (o : Ordering). ordering_then o (second (get_or all (k + 1) v) (get_or all k v))) e)) ∙ not_less in
+        cc)
     rises Equal e = absurd (let s : k + 1 ≡ k = one (k + 1) k l (omega (arith, l)) (at_high ∙ (exact_bytes high low e ∙ sym at_low)) in omega arith)
-    rises Greater e = ap (λ (x : List ℕ). slice_cmp nat_cmp x (key_at (map pair_of all) (k + 1))) at_low ∙ (ap (slice_cmp nat_cmp low) at_high ∙ (nat_list_cmp_total.antisymm low high ∙ ap ordering_reverse e))
+    rises Greater e = ap (λ (x : List ℕ). slice_cmp nat_cmp x (key_at (map pair_of all) (k + 1))) at_low ∙
+        (ap (slice_cmp nat_cmp low) at_high ∙ (nat_list_cmp_total.antisymm low high ∙ ap ordering_reverse e))
 
   next : (vs : List Two) → IsSorted compare vs → HasOnce (map pair_of vs) → (k : ℕ) → k + 1 < length (map pair_of vs)
       → slice_cmp nat_cmp (key_at (map pair_of vs) k) (key_at (map pair_of vs) (k + 1)) ≡ Less
@@ -184,7 +192,8 @@ module _ (t : Rows) (n : ℕ) (whole : (i : ℕ) → IsLinked t i → i < n) (ol
   far j (suc d) l =
       let m : j + suc (suc d) ≡ j + suc d + 1 = omega arith in
       ap (λ (x : ℕ). slice_cmp nat_cmp (key_at after j) (key_at after x)) m
-      ∙ nat_list_cmp_total.trans (key_at after j) (key_at after (j + suc d)) (key_at after (j + suc d + 1)) (far j d (omega arith)) (next new up once (j + suc d) (omega arith))
+      ∙ nat_list_cmp_total.trans (key_at after j) (key_at after (j + suc d)) (key_at after (j + suc d + 1)) (far j d (omega arith))
+      (next new up once (j + suc d) (omega arith))
 
   pub sorted_pairs : AreRowPairs t after
   sorted_pairs = record {
@@ -197,7 +206,8 @@ module _ (t : Rows) (n : ℕ) (whole : (i : ℕ) → IsLinked t i → i < n) (ol
         (f.0, f.1, sym (in_list before c.0 (pair_at after k) c.1 c.2) ∙ f.3));
     all = λ i linked.
         (let f = below.all i linked (whole i linked) in
-        let c : Contains after (row_pair t i) = Contains-permutation before after (row_pair t i) pairs_moved (f.0, f.1, (get_any before f.0 (row_pair t i) f.1) ∙ f.2) in
+        let c : Contains after (row_pair t i) = Contains-permutation before after (row_pair t i) pairs_moved
+        (f.0, f.1, (get_any before f.0 (row_pair t i) f.1) ∙ f.2) in
         (c.0, c.1, in_list after c.0 (row_pair t i) c.1 c.2));
   }
     where

@@ -1,5 +1,6 @@
 -- What updates and deletions leave of a `HashStore`.
-use Rattle.std.proofs.Common.{◌≡◌, ◌≢◌, ℕ, ◌+◌, ◌-◌, ◌*◌, ◌<◌, ◌≤◌, Bool, true, false, cond, ◌&&◌, List, Option, Some, None, is_some, length, map, inl, inr, ◌⊎◌, refl, ap, sym, ◌∙◌, subst, arith, eq-eqb, if◌then◌else◌}
+use Rattle.std.proofs.Common.{◌≡◌, ◌≢◌, ℕ, ◌+◌, ◌-◌, ◌*◌, ◌<◌, ◌≤◌, Bool, true, false, cond, ◌&&◌, List, Option, Some, None, is_some}
+use Rattle.std.proofs.Common.{length, map, inl, inr, ◌⊎◌, refl, ap, sym, ◌∙◌, subst, arith, eq-eqb, if◌then◌else◌}
 use Rattle.std.proofs.lemmas.Bool.{cases_lt}
 use Rattle.std.proofs.lemmas.Cmp.{nat_list_cmp_total}
 use Rattle.std.proofs.lemmas.List.{length-map, get_or_past}
@@ -18,7 +19,8 @@ use Rattle.bpf_shared.proofs.Puts.{true_or_false, equal_or_not, put-same, put-ot
 use Rattle.bpf_shared.proofs.Soundness.{kept_still, kept_now}
 use Rattle.bpf_shared.proofs.Lawful.{leads_new}
 use Rattle.bpf_hash.proofs.Blocks.{block_fits, apart_blocks, get_or-before, get_or-inside, get_or-behind}
-use Rattle.bpf_hash.proofs.Linking.{linked_inside, count-less, count-more, unlinked_was, unlinked_still, linked_here, linked_more, linked_was, key-here, key-beside, bytes-here, bytes-beside}
+use Rattle.bpf_hash.proofs.Linking.{linked_inside, count-less, count-more, unlinked_was, unlinked_still, linked_here, linked_more}
+use Rattle.bpf_hash.proofs.Linking.{linked_was, key-here, key-beside, bytes-here, bytes-beside}
 use Rattle.bpf_hash.proofs.Changing.{rows-here, rows-else, rows_cases, shapes-with, shape-with, tells-with}
 use Rattle.bpf_hash.proofs.Places.{linked_size, one_number}
 
@@ -125,7 +127,8 @@ module _ (p : Contents) (is : IsStore p) (m k : ℕ) (mi : m < length p.tables) 
   pub gone_still : (n j : ℕ) → IsLinked (rows p n) j → ((n ≡ m) → j ≢ old) → IsLinked (rows after n) j
   gone_still n j l ne = elim (rows_cases p m gone mi n) [
     | inr e ↦ subst (λ (t : Rows). IsLinked t j) (sym e.1) l
-    | inl e ↦ subst (λ (t : Rows). IsLinked t j) (sym e.1) (unlinked_still p.runs (rows p m) table k inside width j (subst (λ (x : ℕ). IsLinked (rows p x) j) e.0 l) (ne e.0))
+    | inl e ↦ subst (λ (t : Rows). IsLinked t j) (sym e.1) (unlinked_still p.runs (rows p m) table k inside width j
+        (subst (λ (x : ℕ). IsLinked (rows p x) j) e.0 l) (ne e.0))
   ]
 
   same_or_not : (n j : ℕ) → ((n ≡ m) × (j ≡ old)) ⊎ ((n ≡ m) → j ≢ old)
@@ -158,7 +161,8 @@ module _ (p : Contents) (is : IsStore p) (m k : ℕ) (mi : m < length p.tables) 
     still_leads : (q : List ℕ) → q ≢ key → get (remove (s.maps m) key) q ≡ get (s.maps m) q
     still_leads q ne = elim (remove_cases (s.maps m) key q) [ inl e ↦ absurd (ne e.0) | inr e ↦ e ]
 
-    leads-after : (n j : ℕ) → IsLinked (rows after n) j → (n ≡ m) ⊎ (n ≢ m) → get (put s.maps m (remove (s.maps m) key) n) (key_of (rows after n) j) ≡ Some (h.number n j)
+    leads-after : (n j : ℕ) → IsLinked (rows after n) j → (n ≡ m) ⊎ (n ≢ m) → get (put s.maps m (remove (s.maps m) key) n)
+        (key_of (rows after n) j) ≡ Some (h.number n j)
     leads-after n j l (inr ne) =
         let was = gone_was n j l in
         ap (λ (x : KeyMap). get x (key_of (rows after n) j)) (put-other s.maps m n (remove (s.maps m) key) ne)
@@ -189,7 +193,8 @@ module _ (p : Contents) (is : IsStore p) (m k : ℕ) (mi : m < length p.tables) 
     one_less : len (remove (s.maps m) key) + 1 ≡ len (s.maps m)
     one_less =
         let there : contains_key (s.maps m) key ≡ true = ap is_some leads-old in
-        let less : len (remove (s.maps m) key) ≡ len (s.maps m) - 1 = len-remove nat_list_cmp_total (s.maps m) key ∙ ap (λ (b : Bool). cond b (len (s.maps m) - 1) (len (s.maps m))) there in
+        let less : len (remove (s.maps m) key) ≡ len (s.maps m) - 1 = len-remove nat_list_cmp_total (s.maps m) key ∙ ap
+        (λ (b : Bool). cond b (len (s.maps m) - 1) (len (s.maps m))) there in
         let count = h.counts m in
         let some : linked_count gone + 1 ≡ linked_count (rows p m) = count-less p.runs (rows p m) table k inside width in
         omega arith
@@ -204,7 +209,8 @@ module _ (p : Contents) (is : IsStore p) (m k : ℕ) (mi : m < length p.tables) 
         ∙ (let same : len (remove (s.maps m) key) ≡ linked_count gone = omega arith in
         same ∙ ap linked_count (sym (ap (rows after) e ∙ rows-here p m gone mi)))
 
-    kept-after : (c v : ℕ) → kept_after s (get (s.maps m) key) c v ≡ true → (n : ℕ) × (i : ℕ) × (i < element_count after n) × (keeps after c n i ≡ true) × (v ≡ h.number n i)
+    kept-after : (c v : ℕ) → kept_after s (get (s.maps m) key) c v ≡ true → (n : ℕ) × (i : ℕ) × (i < element_count after n) ×
+        (keeps after c n i ≡ true) × (v ≡ h.number n i)
     kept-after c v e = go (true_or_false (s.running c)) (ap (λ (o : Option ℕ). kept_after s o c v) (sym leads-old) ∙ e)
       where
         before : s.kept c v ≡ true → (n : ℕ) × (i : ℕ) × (i < element_count after n) × (keeps after c n i ≡ true) × (v ≡ h.number n i)
@@ -221,7 +227,8 @@ module _ (p : Contents) (is : IsStore p) (m k : ℕ) (mi : m < length p.tables) 
             running_of true b h = refl
             running_of false b h = h
 
-        go : (s.running c ≡ true) ⊎ (s.running c ≡ false) → kept_after s (Some (h.number m old)) c v ≡ true → (n : ℕ) × (i : ℕ) × (i < element_count after n) × (keeps after c n i ≡ true) × (v ≡ h.number n i)
+        go : (s.running c ≡ true) ⊎ (s.running c ≡ false) → kept_after s (Some (h.number m old)) c v ≡ true → (n : ℕ) × (i : ℕ) ×
+            (i < element_count after n) × (keeps after c n i ≡ true) × (v ≡ h.number n i)
         go (inr r) x = before (sym (ap (λ (b : Bool). (if b then put (s.kept c) (h.number m old) true else s.kept c) v) r) ∙ x)
         go (inl r) x = elim (put_cases (s.kept c) (h.number m old) v true) [
           | inl y ↦ (m, old, back m old old_size, keeps-here c ∙ (sym (h.running c) ∙ r), y.0)
@@ -247,7 +254,8 @@ module _ (p : Contents) (is : IsStore p) (m k : ℕ) (mi : m < length p.tables) 
       kept_back = λ c n j l e. elim (same_or_not n j) [
         | inr ne ↦ kept_still s (get (s.maps m) key) c (h.number n j) (h.kept_back c n j (within n j l) (sym (keeps-else c n j ne) ∙ e))
         | inl s' ↦
-            let going : s.running c ≡ true = h.running c ∙ (sym (keeps-here c) ∙ (sym (ap (λ (z : ℕ). keeps after c z j) s'.0 ∙ ap (keeps after c m) s'.1) ∙ e)) in
+            let going : s.running c ≡ true = h.running c ∙ (sym (keeps-here c) ∙
+            (sym (ap (λ (z : ℕ). keeps after c z j) s'.0 ∙ ap (keeps after c m) s'.1) ∙ e)) in
             let at : h.number n j ≡ h.number m old = ap (λ (z : ℕ). h.number z j) s'.0 ∙ ap (h.number m) s'.1 in
             ap (kept_after s (get (s.maps m) key) c) at ∙ kept_now s (get (s.maps m) key) c (h.number m old) leads-old going
       ];
@@ -257,7 +265,9 @@ module _ (p : Contents) (is : IsStore p) (m k : ℕ) (mi : m < length p.tables) 
 abbrev pub with_value : Plain → ℕ → List ℕ → Value → Plain
 with_value s m key x = record s { maps = put s.maps m (insert (s.maps m) key s.made); made = s.made + 1; value = put s.value s.made x }
 
-module _ (p : Contents) (is : IsStore p) (m i : ℕ) (key bytes : List ℕ) (mi : m < length p.tables) (gap : IsMissing (rows p m) key) (ii : i < element_count p m) (free : IsLinked (rows p m) i → ⊥) (size : length key ≡ (rows p m).shape.key) (long : length bytes ≡ (rows p m).shape.value) where
+module _ (p : Contents) (is : IsStore p) (m i : ℕ) (key bytes : List ℕ) (mi : m < length p.tables) (gap : IsMissing (rows p m) key)
+    (ii : i < element_count p m) (free : IsLinked (rows p m) i → ⊥) (size : length key ≡ (rows p m).shape.key)
+    (long : length bytes ≡ (rows p m).shape.value) where
   abbrev full : Rows
   full = linked_row i key bytes (rows p m)
 
@@ -300,7 +310,8 @@ module _ (p : Contents) (is : IsStore p) (m i : ℕ) (key bytes : List ℕ) (mi 
   link_still : (n j : ℕ) → IsLinked (rows p n) j → IsLinked (rows later n) j
   link_still n j l = elim (rows_cases p m full mi n) [
     | inr e ↦ subst (λ (t : Rows). IsLinked t j) (sym e.1) l
-    | inl e ↦ subst (λ (t : Rows). IsLinked t j) (sym e.1) (linked_more (rows p m) here-table i key bytes gap ii free size long j (subst (λ (x : ℕ). IsLinked (rows p x) j) e.0 l))
+    | inl e ↦ subst (λ (t : Rows). IsLinked t j) (sym e.1) (linked_more (rows p m) here-table i key bytes gap ii free size long j
+        (subst (λ (x : ℕ). IsLinked (rows p x) j) e.0 l))
   ]
 
   link_here : IsLinked (rows later m) i
@@ -319,14 +330,16 @@ module _ (p : Contents) (is : IsStore p) (m i : ℕ) (key bytes : List ℕ) (mi 
   key-still n j l ne = elim (rows_cases p m full mi n) [
     | inr e ↦ ap (λ (t : Rows). key_of t j) e.1
     | inl e ↦ ap (λ (t : Rows). key_of t j) e.1
-        ∙ (key-beside (rows p m) here-table i key bytes gap ii free size long j (subst (λ (x : ℕ). j < element_count p x) e.0 l) (ne e.0) ∙ ap (λ (x : ℕ). key_of (rows p x) j) (sym e.0))
+        ∙ (key-beside (rows p m) here-table i key bytes gap ii free size long j (subst (λ (x : ℕ). j < element_count p x) e.0 l) (ne e.0) ∙
+        ap (λ (x : ℕ). key_of (rows p x) j) (sym e.0))
   ]
 
   bytes-still : (n j : ℕ) → j < element_count p n → ((n ≡ m) → j ≢ i) → bytes_of (rows later n) j ≡ bytes_of (rows p n) j
   bytes-still n j l ne = elim (rows_cases p m full mi n) [
     | inr e ↦ ap (λ (t : Rows). bytes_of t j) e.1
     | inl e ↦ ap (λ (t : Rows). bytes_of t j) e.1
-        ∙ (bytes-beside (rows p m) here-table i key bytes gap ii free size long j (subst (λ (x : ℕ). j < element_count p x) e.0 l) (ne e.0) ∙ ap (λ (x : ℕ). bytes_of (rows p x) j) (sym e.0))
+        ∙ (bytes-beside (rows p m) here-table i key bytes gap ii free size long j (subst (λ (x : ℕ). j < element_count p x) e.0 l) (ne e.0)
+        ∙ ap (λ (x : ℕ). bytes_of (rows p x) j) (sym e.0))
   ]
 
   module _ (s : Plain) (so : IsSoundStore s) (h : StandsFor p s) (new : get (s.maps m) key ≡ None)
@@ -351,7 +364,8 @@ module _ (p : Contents) (is : IsStore p) (m i : ℕ) (key bytes : List ℕ) (mi 
 
     old_key : (n j : ℕ) (l : IsLinked (rows p n) j) → (n ≡ m) → key_of (rows p n) j ≢ key
     old_key n j l e f =
-        let there : get (s.maps m) key ≡ Some (h.number n j) = subst (λ (x : ℕ). get (s.maps x) key ≡ Some (h.number n j)) e (subst (λ (q : List ℕ). get (s.maps n) q ≡ Some (h.number n j)) f (h.leads n j l)) in
+        let there : get (s.maps m) key ≡ Some (h.number n j) = subst (λ (x : ℕ). get (s.maps x) key ≡ Some (h.number n j)) e
+        (subst (λ (q : List ℕ). get (s.maps n) q ≡ Some (h.number n j)) f (h.leads n j l)) in
         let none : None ≡ Some (h.number n j) = sym new ∙ there in
         cc
 
@@ -375,13 +389,15 @@ module _ (p : Contents) (is : IsStore p) (m i : ℕ) (key bytes : List ℕ) (mi 
           ] ∙ (old ∙ ap (λ (x : ℕ). Some x) (sym number)))
     ]
 
-    was_found : (n : ℕ) (q : List ℕ) (v : ℕ) → get (s.maps n) q ≡ Some v → (j : ℕ) × IsLinked (rows later n) j × (key_of (rows later n) j ≡ q) × (v ≡ numbers n j)
+    was_found : (n : ℕ) (q : List ℕ) (v : ℕ) → get (s.maps n) q ≡ Some v → (j : ℕ) × IsLinked (rows later n) j ×
+        (key_of (rows later n) j ≡ q) × (v ≡ numbers n j)
     was_found n q v e =
         let f = h.found n q v e in
         let ne : (n ≡ m) → f.0 ≢ i = not_it n f.0 f.1 in
         (f.0, link_still n f.0 f.1, key-still n f.0 (linked_size p is n f.0 f.1) ne ∙ f.2, f.3 ∙ sym (number-else n f.0 ne))
 
-    found-later : (n : ℕ) (q : List ℕ) (v : ℕ) → get (put s.maps m (insert (s.maps m) key s.made) n) q ≡ Some v → (j : ℕ) × IsLinked (rows later n) j × (key_of (rows later n) j ≡ q) × (v ≡ numbers n j)
+    found-later : (n : ℕ) (q : List ℕ) (v : ℕ) → get (put s.maps m (insert (s.maps m) key s.made) n) q ≡ Some v → (j : ℕ) × IsLinked
+        (rows later n) j × (key_of (rows later n) j ≡ q) × (v ≡ numbers n j)
     found-later n q v e = elim (put_cases s.maps m n (insert (s.maps m) key s.made)) [
       | inr x ↦ was_found n q v (sym (ap (λ (y : KeyMap). get y q) x.1) ∙ e)
       | inl x ↦
@@ -403,7 +419,8 @@ module _ (p : Contents) (is : IsStore p) (m i : ℕ) (key bytes : List ℕ) (mi 
       | inr x ↦ ap len x.1 ∙ (h.counts n ∙ ap linked_count (sym (rows-else p m full mi n x.0)))
       | inl x ↦
           let absent : contains_key (s.maps m) key ≡ false = ap is_some new in
-          let more : len (insert (s.maps m) key s.made) ≡ len (s.maps m) + 1 = len-insert nat_list_cmp_total (s.maps m) key s.made ∙ ap (λ (b : Bool). cond b (len (s.maps m)) (len (s.maps m) + 1)) absent in
+          let more : len (insert (s.maps m) key s.made) ≡ len (s.maps m) + 1 = len-insert nat_list_cmp_total (s.maps m) key s.made ∙ ap
+          (λ (b : Bool). cond b (len (s.maps m)) (len (s.maps m) + 1)) absent in
           let more_linked : linked_count full ≡ linked_count (rows p m) + 1 = count-more (rows p m) here-table i key bytes gap ii free size long in
           let count = h.counts m in
           let same : len (insert (s.maps m) key s.made) ≡ linked_count full = omega arith in
@@ -421,7 +438,8 @@ module _ (p : Contents) (is : IsStore p) (m i : ℕ) (key bytes : List ℕ) (mi 
       | inr e ↦ so.live_made (h.number n j) (inr (inl (u.0, h.held_back u.0 n j l e)))
     ]
 
-    values-later : (n j : ℕ) → j < element_count later n → IsUsed later n j → put s.value s.made value (numbers n j) ≡ record { bytes = bytes_of (rows later n) j; span = span_at later n j }
+    values-later : (n j : ℕ) → j < element_count later n → IsUsed later n j → put s.value s.made value (numbers n j) ≡ record
+        { bytes = bytes_of (rows later n) j; span = span_at later n j }
     values-later n j l u = elim (it_or_not n j) [
       | inl e ↦
           let number : numbers n j ≡ s.made = ap (λ (x : ℕ). numbers x j) e.0 ∙ (ap (numbers m) e.1 ∙ number-here) in
@@ -452,10 +470,26 @@ module _ (p : Contents) (is : IsStore p) (m i : ℕ) (key bytes : List ℕ) (mi 
       found = found-later;
       counts = counts-later;
       values = values-later;
-      held = λ c v e. (let f = h.held c v e in (f.0, f.1, inside-still f.0 f.1 f.2, holds-still c f.0 f.1 ∙ f.3, f.4 ∙ sym (number-else f.0 f.1 (unheld_at c f.0 f.1 f.3))));
-      held_back = λ c n j l e. (let w = sym (holds-still c n j) ∙ e in ap (s.held c) (number-else n j (unheld_at c n j w)) ∙ h.held_back c n j (inside-was n j l) w);
-      kept = λ c v e. (let f = h.kept c v e in (f.0, f.1, inside-still f.0 f.1 f.2, keeps-still c f.0 f.1 ∙ f.3, f.4 ∙ sym (number-else f.0 f.1 (unkept_at c f.0 f.1 f.3))));
-      kept_back = λ c n j l e. (let w = sym (keeps-still c n j) ∙ e in ap (s.kept c) (number-else n j (unkept_at c n j w)) ∙ h.kept_back c n j (inside-was n j l) w);
+      held = λ c v e. (let f = h.held c v e in (
+        f.0,
+        f.1,
+        inside-still f.0 f.1 f.2,
+        holds-still c f.0 f.1 ∙ f.3,
+        f.4 ∙ sym
+            (number-else f.0 f.1 (unheld_at c f.0 f.1 f.3)),
+      ));
+      held_back = λ c n j l e.
+          (let w = sym (holds-still c n j) ∙ e in ap (s.held c) (number-else n j (unheld_at c n j w)) ∙ h.held_back c n j (inside-was n j l) w);
+      kept = λ c v e. (let f = h.kept c v e in (
+        f.0,
+        f.1,
+        inside-still f.0 f.1 f.2,
+        keeps-still c f.0 f.1 ∙ f.3,
+        f.4 ∙ sym
+            (number-else f.0 f.1 (unkept_at c f.0 f.1 f.3)),
+      ));
+      kept_back = λ c n j l e.
+          (let w = sym (keeps-still c n j) ∙ e in ap (s.kept c) (number-else n j (unkept_at c n j w)) ∙ h.kept_back c n j (inside-was n j l) w);
     }
       where
         unheld_at : (c n j : ℕ) → holds p c n j ≡ true → (n ≡ m) → j ≢ i

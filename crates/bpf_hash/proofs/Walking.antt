@@ -7,7 +7,8 @@ use Rattle.bpf_hash.proofs.Chaining.{chain_step, chain-length}
 module _ (parts x : Links) (view : parts ≡ x) (ok : IsLinks parts) (b : ℕ) where
   -- the link of the home
   pub head_read : (link : ℕ) → b < length x.heads → link ≡ get_or parts.heads b link → link ≡ slice_index x.heads b
-  head_read link home read = get_or_read parts.heads b link (subst (λ (y : Links). b < length y.heads) (sym view) home) read 0 ∙ ap (λ (y : Links). slice_index y.heads b) view
+  head_read link home read = get_or_read parts.heads b link (subst (λ (y : Links). b < length y.heads) (sym view) home) read 0 ∙ ap
+      (λ (y : Links). slice_index y.heads b) view
 
   -- an element of the home
   module _ (e : ℕ) (at : IsChainedAt x b e) where
@@ -18,7 +19,8 @@ module _ (parts x : Links) (view : parts ≡ x) (ok : IsLinks parts) (b : ℕ) w
     next_read next read = get_or_read parts.nexts e next element_inside read 0 ∙ ap (λ (y : Links). slice_index y.nexts e) view
 
   -- from a link on, which isn't the end, these are elements of the home
-  module _ (link : ℕ) (rest : List ℕ) (chain : IsChain x.nexts link rest) (most : length rest ≤ length x.nexts) (chained : (i : ℕ) → Has rest i → IsChainedAt x b i) (some : link ≢ 0) where
+  module _ (link : ℕ) (rest : List ℕ) (chain : IsChain x.nexts link rest) (most : length rest ≤ length x.nexts)
+      (chained : (i : ℕ) → Has rest i → IsChainedAt x b i) (some : link ≢ 0) where
     abbrev pub later : List ℕ
     later = (chain_step x.nexts link rest some chain).0
 

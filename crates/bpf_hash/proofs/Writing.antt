@@ -15,8 +15,10 @@ use Rattle.bpf_hash.proofs.Accessing.{fits, load_calls, store_calls, atomic_call
 use Rattle.bpf_hash.proofs.Answering.{Leaves}
 
 -- of the store whose parts are these, the code found the element i of the map m, in whose value the place lies from o on
-module _ (parts p : Contents) (view : ◌≡◌ {A = Contents} parts p) (ok : IsStore parts) (c a : ℕ) (size : Size) (place : IsHeldPlace (held_spans p c) a (bytes_in size))
-    (m i o : ℕ) (l : i < element_count p m) (at : a ≡ (span_at p m i).at + o) (inside : o < (span_at p m i).size) (old : Rows) (old_is : old ≡ get_or parts.tables m old) where
+module _ (parts p : Contents) (view : ◌≡◌ {A = Contents} parts p) (ok : IsStore parts) (c a : ℕ) (size : Size)
+    (place : IsHeldPlace (held_spans p c) a (bytes_in size))
+    (m i o : ℕ) (l : i < element_count p m) (at : a ≡ (span_at p m i).at + o) (inside : o < (span_at p m i).size) (old : Rows)
+    (old_is : old ≡ get_or parts.tables m old) where
   is : IsStore p
   is = subst IsStore view ok
 
@@ -56,7 +58,8 @@ module _ (parts p : Contents) (view : ◌≡◌ {A = Contents} parts p) (ok : Is
     pub stored_calls : is_running p c ≡ true → Makes p (with_table parts m n) c (Store a size word)
     stored_calls going = subst (λ (q : Contents). Makes p q c (Store a size word)) (sym new) (store_calls p is c a size place m i o l at inside word going)
 
-    pub changed_calls : (op : Change) (operand expected found : ℕ) → found ≡ little_endian (part (bytes_of old i) o (bytes_in size)) → word ≡ number_after op (bytes_in size) found operand expected → is_running p c ≡ true
+    pub changed_calls : (op : Change) (operand expected found : ℕ) → found ≡ little_endian (part (bytes_of old i) o (bytes_in size)) → word
+        ≡ number_after op (bytes_in size) found operand expected → is_running p c ≡ true
         → Makes p (with_table parts m n) c (Atomic a size op operand expected found)
     changed_calls op operand expected found is_found is_word going = subst (λ (q : Contents). Makes p q c (Atomic a size op operand expected found)) (sym new)
         (atomic_calls p is c a size place m i o l at inside op operand expected found word (read found is_found) is_word going)

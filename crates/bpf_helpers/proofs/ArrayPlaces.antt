@@ -60,7 +60,8 @@ array_place h a n is even = record {
 }
 
 -- each of the bytes is in the same value
-pub array_byte : (h : Shape) (a n : ℕ) (g : ArrayShape) → h.cpus ≤ 16 → IsArrayShape h.cpus g → (is : IsInArray h a n) → is.array ≡ g → (k : ℕ) → k < n → IsInArray h (a + k) 1
+pub array_byte : (h : Shape) (a n : ℕ) (g : ArrayShape) → h.cpus ≤ 16 → IsArrayShape h.cpus g → (is : IsInArray h a n) → is.array ≡ g →
+    (k : ℕ) → k < n → IsInArray h (a + k) 1
 array_byte h a n g few sized is same k l =
     let x = a + k in
     let w = is.within in
@@ -71,7 +72,8 @@ array_byte h a n g few sized is same k l =
     let to : x < span.at + is.array.value = (let c = covers.1 in up a k n (span.at + is.array.value) c l) in
     let r = fixed_reached h.cpus (area_of a) w.copy w.index x is.array few sized' w.has_copy w.has_index (from, to) in
     let area : area_of x ≡ area_of a = area_same x (area_of a) (is.after) (let e = is.after in omega arith) r.area in
-    let offset : offset_of x ≡ w.copy * copy_stride is.array + (w.index * array_stride is.array + (x - span.at)) = offset_same x (w.copy * copy_stride is.array + (w.index * array_stride is.array + (x - span.at))) (let e = is.after in omega arith) r.within in
+    let offset : offset_of x ≡ w.copy * copy_stride is.array + (w.index * array_stride is.array + (x - span.at)) = offset_same x
+    (w.copy * copy_stride is.array + (w.index * array_stride is.array + (x - span.at))) (let e = is.after in omega arith) r.within in
     record {
       array = is.array;
       after = (let e = is.after in omega arith);
@@ -102,7 +104,8 @@ array_byte h a n g few sized is same k l =
     high o p q x at v e l m = omega arith
 
 -- ---- what a run may read
-pub readable_byte : (h : Shape) (holds : Span → Bool) (held : List Span) (a : ℕ) → AreHeld holds held → (reaches held a ≡ true) ⊎ IsInArray h a 1 → IsReadable h holds a 1
+pub readable_byte : (h : Shape) (holds : Span → Bool) (held : List Span) (a : ℕ) → AreHeld holds held → (reaches held a ≡ true) ⊎ IsInArray
+    h a 1 → IsReadable h holds a 1
 readable_byte h holds held a are (inl e) = inl (held_byte holds held a are e)
 readable_byte h holds held a are (inr is) = inr (array_place h a 1 is (omega arith))
 
@@ -113,9 +116,11 @@ lower : (a at : ℕ) → at % 8 ≡ 0 → a % 4 ≡ 0 → at ≤ a + 3 → at �
 lower a at e f l = omega arith
 
 -- four bytes at once: they are in one value, since values begin at multiples of eight
-readable_end : (h : Shape) (holds : Span → Bool) (held : List Span) (a : ℕ) → AreHeld holds held → All IsAligned held → (reaches held (a + 3) ≡ true) ⊎ IsInArray h (a + 3) 1 → a % 4 ≡ 0 → IsReadable h holds a 4
+readable_end : (h : Shape) (holds : Span → Bool) (held : List Span) (a : ℕ) → AreHeld holds held → All IsAligned held →
+    (reaches held (a + 3) ≡ true) ⊎ IsInArray h (a + 3) 1 → a % 4 ≡ 0 → IsReadable h holds a 4
 readable_end h holds held a are even (inl e) four =
-    let f = found (λ p. ((holds p ≡ true) × IsValueSpan p) × IsAligned p) held (a + 3) (both_all (λ p. (holds p ≡ true) × IsValueSpan p) IsAligned held are even) e in
+    let f = found (λ p. ((holds p ≡ true) × IsValueSpan p) × IsAligned p) held (a + 3)
+    (both_all (λ p. (holds p ≡ true) × IsValueSpan p) IsAligned held are even) e in
     inl (record {
       span = f.span;
       holds = f.fact.0.0;
@@ -139,7 +144,8 @@ readable_end h holds held a are even (inr is) four =
       aligned = four;
     })
 
-pub readable_word : (h : Shape) (holds : Span → Bool) (held : List Span) (a : ℕ) → AreHeld holds held → All IsAligned held → AreReached h held a 4 → a % 4 ≡ 0 → IsReadable h holds a 4
+pub readable_word : (h : Shape) (holds : Span → Bool) (held : List Span) (a : ℕ) → AreHeld holds held → All IsAligned held → AreReached h
+    held a 4 → a % 4 ≡ 0 → IsReadable h holds a 4
 readable_word h holds held a are even reached four = readable_end h holds held a are even (reached 3 (omega arith)) four
 
 -- ---- where an update writes
@@ -149,7 +155,8 @@ even_sum Half to done e f = omega arith
 even_sum Word to done e f = omega arith
 even_sum Double to done e f = omega arith
 
-pub target_place : (h : Shape) (holds : Span → Bool) (to n done : ℕ) (size : Size) → IsTarget h to n → done + bytes_in size ≤ n → done % bytes_in size ≡ 0 → IsWritable h holds (to + done) (bytes_in size)
+pub target_place : (h : Shape) (holds : Span → Bool) (to n done : ℕ) (size : Size) → IsTarget h to n → done + bytes_in size ≤ n → done %
+    bytes_in size ≡ 0 → IsWritable h holds (to + done) (bytes_in size)
 target_place h holds to n done size t fits even =
     let span = fixed_span t.number t.array t.copy t.index in
     let at : to ≡ span.at = t.at in
@@ -177,7 +184,8 @@ target_place h holds to n done size t fits even =
     high to done n k v at e f l = omega arith
 
 -- an array's values are below the area after the last array's
-pub fixed_low : (cpus a k i : ℕ) (g : ArrayShape) → cpus ≤ 16 → IsArrayShape cpus g → a < 16 → k < copies cpus g → i < g.max → (fixed_span a g k i).at < array_start 16
+pub fixed_low : (cpus a k i : ℕ) (g : ArrayShape) → cpus ≤ 16 → IsArrayShape cpus g → a < 16 → k < copies cpus g → i < g.max →
+    (fixed_span a g k i).at < array_start 16
 fixed_low cpus a k i g few sized low has_copy has_index =
     let at = (fixed_span a g k i).at in
     let some = sized.value.0 in
@@ -189,7 +197,8 @@ fixed_low cpus a k i g few sized low has_copy has_index =
     top x a l e = omega arith
 
 -- ---- what is in an array, by the number and the offset that the code computes
-pub in_array : (h : Shape) (a n cpus i o : ℕ) (g : ArrayShape) → cpus ≡ h.cpus → array_start 0 ≤ a → i ≡ area_of a → o ≡ offset_of a → Some g ≡ slice_get h.arrays i → IsWithin cpus g o n
+pub in_array : (h : Shape) (a n cpus i o : ℕ) (g : ArrayShape) → cpus ≡ h.cpus → array_start 0 ≤ a → i ≡ area_of a → o ≡ offset_of a → Some
+    g ≡ slice_get h.arrays i → IsWithin cpus g o n
     → (is : IsInArray h a n) × (is.array ≡ g)
 in_array h a n cpus i o g served above area at there within = (
   record {

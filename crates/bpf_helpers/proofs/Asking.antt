@@ -32,7 +32,8 @@ pub asked-none : AreAskedAlike [] []
 asked-none before rest later g h = ap first_call (nothing_behind before rest g) ∙ sym (ap first_call (nothing_behind before later h))
 
 -- loads of as many bytes, and what comes after equal ones
-pub asked-loads : (a : ℕ) (bytes others : List ℕ) (es fs : List Event) → length bytes ≡ length others → (bytes ≡ others → AreAskedAlike es fs) → AreAskedAlike (loads a bytes ++ es) (loads a others ++ fs)
+pub asked-loads : (a : ℕ) (bytes others : List ℕ) (es fs : List Event) → length bytes ≡ length others →
+    (bytes ≡ others → AreAskedAlike es fs) → AreAskedAlike (loads a bytes ++ es) (loads a others ++ fs)
 asked-loads a [] [] es fs n behind = behind refl
 asked-loads a [] (y ∷ ys) es fs n behind = absurd (omega arith)
 asked-loads a (x ∷ xs) [] es fs n behind = absurd (omega arith)
@@ -43,7 +44,8 @@ asked-loads a (x ∷ xs) (y ∷ ys) es fs n behind =
     behind cc))
 
 -- equal loads are of equal bytes
-pub same_loads : (a : ℕ) (bytes others : List ℕ) (es fs : List Event) → length bytes ≡ length others → loads a bytes ++ es ≡ loads a others ++ fs → (bytes ≡ others) × (es ≡ fs)
+pub same_loads : (a : ℕ) (bytes others : List ℕ) (es fs : List Event) → length bytes ≡ length others → loads a bytes ++ es ≡ loads a others
+    ++ fs → (bytes ≡ others) × (es ≡ fs)
 same_loads a [] [] es fs n e = (refl, e)
 same_loads a [] (y ∷ ys) es fs n e = absurd (omega arith)
 same_loads a (x ∷ xs) [] es fs n e = absurd (omega arith)
@@ -59,7 +61,8 @@ same_loads a (x ∷ xs) (y ∷ ys) es fs n e =
 
 module _ (h : Shape) (m : PrivateMemory) (held : List Span) (a n : ℕ) where
   -- what is read after equal replies is the same, and so is what comes after it
-  pub asked-reads : (bytes others : List ℕ) (first second es fs : List Event) → Reads h m held a n bytes first → Reads h m held a n others second → (bytes ≡ others → AreAskedAlike es fs) → AreAskedAlike (first ++ es) (second ++ fs)
+  pub asked-reads : (bytes others : List ℕ) (first second es fs : List Event) → Reads h m held a n bytes first → Reads h m held a n others
+      second → (bytes ≡ others → AreAskedAlike es fs) → AreAskedAlike (first ++ es) (second ++ fs)
   asked-reads bytes others first second es fs (inl r) (inl s) behind =
       let same : bytes ≡ others = let e : Some bytes ≡ Some others = sym r.0 ∙ s.0 in cc in
       rw (r.1, s.1) (behind same)
@@ -68,7 +71,8 @@ module _ (h : Shape) (m : PrivateMemory) (held : List Span) (a n : ℕ) where
   asked-reads bytes others first second es fs (inr r) (inr s) behind =
       rw (r.3, s.3) (asked-loads a bytes others es fs (r.2 ∙ sym s.2) behind)
 
-  pub same_reads : (bytes others : List ℕ) (first second es fs : List Event) → Reads h m held a n bytes first → Reads h m held a n others second → first ++ es ≡ second ++ fs → (bytes ≡ others) × (es ≡ fs)
+  pub same_reads : (bytes others : List ℕ) (first second es fs : List Event) → Reads h m held a n bytes first → Reads h m held a n others
+      second → first ++ es ≡ second ++ fs → (bytes ≡ others) × (es ≡ fs)
   same_reads bytes others first second es fs (inl r) (inl s) e =
       let same : bytes ≡ others = let e : Some bytes ≡ Some others = sym r.0 ∙ s.0 in cc in
       let both : [] ++ es ≡ [] ++ fs = rw (r.1, s.1) at e in
@@ -94,7 +98,8 @@ pub record Alike (events others : List Event) (result end : Result ℕ HelperFau
 pub asked-same : (events others es fs : List Event) → events ≡ es → others ≡ fs → AreAskedAlike es fs → AreAskedAlike events others
 asked-same events others es fs e f alike = rw (e, f) alike
 
-pub unasked : (events others : List Event) (result end : Result ℕ HelperFault) (after other : List Span) → events ≡ [] → others ≡ [] → result ≡ end → after ≡ other → Alike events others result end after other
+pub unasked : (events others : List Event) (result end : Result ℕ HelperFault) (after other : List Span) → events ≡ [] → others ≡ [] →
+    result ≡ end → after ≡ other → Alike events others result end after other
 unasked events others result end after other e f same held = record {
   asks = asked-same events others [] [] e f asked-none;
   replied = λ _. (same, held);

@@ -1,5 +1,6 @@
 -- Calls of helpers on an array ask the store alike.
-use Rattle.std.proofs.Common.{◌≡◌, ℕ, ◌+◌, List, [], ◌∷◌, ◌++◌, length, take, drop, Option, Some, None, Result, Ok, inl, inr, ◌⊎◌, refl, sym, ap, subst, ◌∙◌, slice_index, arith, length-drop}
+use Rattle.std.proofs.Common.{◌≡◌, ℕ, ◌+◌, List, [], ◌∷◌, ◌++◌, length, take, drop, Option, Some, None, Result, Ok, inl, inr, ◌⊎◌, refl}
+use Rattle.std.proofs.Common.{sym, ap, subst, ◌∙◌, slice_index, arith, length-drop}
 use Rattle.std.proofs.lemmas.List.{append-nil, length-take}
 use Rattle.std.specs.Prelude.{is_some, nat_lt, if◌then◌else◌, min}
 use Rattle.bpf_base.specs.Bytes.{little_endian}
@@ -21,7 +22,8 @@ use Rattle.bpf_helpers.proofs.Asking.{Alike, asked-cons, asked-loads, asked-none
 
 -- ---- the key
 module _ (h : Shape) (m : PrivateMemory) (held : List Span) (a : ℕ) where
-  asked-index : (i j : ℕ) (first second es fs : List Event) → ReadsIndex h m held a i first → ReadsIndex h m held a j second → (i ≡ j → AreAskedAlike es fs) → AreAskedAlike (first ++ es) (second ++ fs)
+  asked-index : (i j : ℕ) (first second es fs : List Event) → ReadsIndex h m held a i first → ReadsIndex h m held a j second →
+      (i ≡ j → AreAskedAlike es fs) → AreAskedAlike (first ++ es) (second ++ fs)
   asked-index i j first second es fs (inl r) (inl s) behind =
       let both : Some r.0 ≡ Some s.0 = sym r.1 ∙ s.1 in
       let key : r.0 ≡ s.0 = cc in
@@ -31,7 +33,8 @@ module _ (h : Shape) (m : PrivateMemory) (held : List Span) (a : ℕ) where
   asked-index i j first second es fs (inr r) (inr s) behind =
       rw (r.3, s.3) (asked-cons (Load a Word i) (Load a Word j) es fs refl (λ e. let same : i ≡ j = cc in behind same))
 
-  same_index : (i j : ℕ) (first second es fs : List Event) → ReadsIndex h m held a i first → ReadsIndex h m held a j second → first ++ es ≡ second ++ fs → (i ≡ j) × (es ≡ fs)
+  same_index : (i j : ℕ) (first second es fs : List Event) → ReadsIndex h m held a i first → ReadsIndex h m held a j second → first ++ es ≡
+      second ++ fs → (i ≡ j) × (es ≡ fs)
   same_index i j first second es fs (inl r) (inl s) e =
       let both : Some r.0 ≡ Some s.0 = sym r.1 ∙ s.1 in
       let key : r.0 ≡ s.0 = cc in
@@ -53,7 +56,8 @@ module _ (h : Shape) (m : PrivateMemory) (held : List Span) (a : ℕ) where
   index_even i events (inr r) odd = odd.2 r.2
 
 -- ---- copying
-asked-copied : (from to : ℕ) (sizes : List Size) (v w : List ℕ) → length v ≡ length w → AreAskedAlike (copies loads from to sizes v) (copies loads from to sizes w)
+asked-copied : (from to : ℕ) (sizes : List Size) (v w : List ℕ) → length v ≡ length w → AreAskedAlike (copies loads from to sizes v)
+    (copies loads from to sizes w)
 asked-copied from to [] v w e = asked-none
 asked-copied from to (size ∷ sizes) v w e =
     let k = bytes_in size in
@@ -72,25 +76,29 @@ copied m from to n es fs (inl r) (inl s) =
 copied m from to n es fs (inl r) (inr s) = let no : Some r.0 ≡ None = sym r.1 ∙ s.1 in absurd cc
 copied m from to n es fs (inr r) (inl s) = let no : Some s.0 ≡ None = sym s.1 ∙ r.1 in absurd cc
 copied m from to n es fs (inr r) (inr s) =
-    asked-same es fs (copies loads from to (parts_of n) r.0) (copies loads from to (parts_of n) s.0) r.3 s.3 (asked-copied from to (parts_of n) r.0 s.0 (r.2 ∙ sym s.2))
+    asked-same es fs (copies loads from to (parts_of n) r.0) (copies loads from to (parts_of n) s.0) r.3 s.3
+    (asked-copied from to (parts_of n) r.0 s.0 (r.2 ∙ sym s.2))
 
 lacked : {K V : Type 0} → (¬ K) ⊎ (¬ V) → K → V → ⊥
 lacked (inl f) k v = f k
 lacked (inr f) k v = f v
 
 module _ (shape : Shape) (memory : PrivateMemory) (registers : List ℕ) (held : List Span) where
-  answered : (to n : ℕ) (o : Option ℕ) (es fs : List Event) (result end : Result ℕ HelperFault) → Answers shape memory registers held to n o es result → Answers shape memory registers held to n o fs end → AreAskedAlike es fs × (result ≡ end)
+  answered : (to n : ℕ) (o : Option ℕ) (es fs : List Event) (result end : Result ℕ HelperFault) → Answers shape memory registers held to n o
+      es result → Answers shape memory registers held to n o fs end → AreAskedAlike es fs × (result ≡ end)
   answered to n (Some x) es fs result end r s = (asked-same es fs [] [] r.0 s.0 asked-none, r.1 ∙ sym s.1)
   answered to n None es fs result end r s = (copied memory (slice_index registers 3) to n es fs r.1 s.1, r.0 ∙ sym s.0)
 
   module _ (cpu a : ℕ) (g : ArrayShape) (after other : List Span) (events others : List Event) (result end : Result ℕ HelperFault) where
-    stopped : StopsAtKey shape memory registers held events result after → StopsAtKey shape memory registers held others end other → Alike events others result end after other
+    stopped : StopsAtKey shape memory registers held events result after → StopsAtKey shape memory registers held others end other → Alike
+        events others result end after other
     stopped (inl r) (inl s) = unasked events others result end after other r.1.0 s.1.0 (r.1.1 ∙ sym s.1.1) (r.1.2 ∙ sym s.1.2)
     stopped (inl r) (inr s) = absurd (r.0 (inr s.0.1))
     stopped (inr r) (inl s) = absurd (s.0 (inr r.0.1))
     stopped (inr r) (inr s) = unasked events others result end after other r.1.0 s.1.0 (r.1.1 ∙ sym s.1.1) (r.1.2 ∙ sym s.1.2)
 
-    index_looked_up : LooksUpIndex shape memory registers held cpu a g events result after → LooksUpIndex shape memory registers held cpu a g others end other → Alike events others result end after other
+    index_looked_up : LooksUpIndex shape memory registers held cpu a g events result after → LooksUpIndex shape memory registers held cpu a
+        g others end other → Alike events others result end after other
     index_looked_up (inl r) (inl s) = stopped r s
     index_looked_up (inl (inl r)) (inr s) = absurd (r.0 (index_readable shape memory held (slice_index registers 2) s.0 others s.1))
     index_looked_up (inl (inr r)) (inr s) = absurd (index_even shape memory held (slice_index registers 2) s.0 others s.1 r.0)
@@ -104,7 +112,8 @@ module _ (shape : Shape) (memory : PrivateMemory) (registers : List ℕ) (held :
           (r.2 ∙ ap (λ (i : ℕ). Ok (if nat_lt i g.max then (fixed_span a g (copy_for cpu g) i).at else 0)) same.0 ∙ sym s.2, r.3 ∙ sym s.3);
     }
 
-    index_updated : UpdatesIndex shape memory registers held cpu a g events result after → UpdatesIndex shape memory registers held cpu a g others end other → Alike events others result end after other
+    index_updated : UpdatesIndex shape memory registers held cpu a g events result after → UpdatesIndex shape memory registers held cpu a g
+        others end other → Alike events others result end after other
     index_updated (inl r) (inl s) = unasked events others result end after other r.1.0 s.1.0 (r.1.1 ∙ sym s.1.1) (r.1.2 ∙ sym s.1.2)
     index_updated (inl r) (inr (inl s)) = absurd (lacked r.0 (inr s.1.1) s.0)
     index_updated (inl r) (inr (inr s)) = absurd (lacked r.0 (index_readable shape memory held (slice_index registers 2) s.0 s.1 s.4) s.3)
@@ -114,9 +123,11 @@ module _ (shape : Shape) (memory : PrivateMemory) (registers : List ℕ) (held :
     index_updated (inr (inr r)) (inl s) = absurd (lacked s.0 (index_readable shape memory held (slice_index registers 2) r.0 r.1 r.4) r.3)
     index_updated (inr (inr r)) (inr (inl s)) = absurd (index_even shape memory held (slice_index registers 2) r.0 r.1 r.4 s.1)
     index_updated (inr (inr r)) (inr (inr s)) =
-        let P : ℕ → Type 0 = λ i. Answers shape memory registers held (fixed_span a g (copy_for cpu g) i).at g.value (array_refusal g i (slice_index registers 4)) s.2 end in
+        let P : ℕ → Type 0 = λ i. Answers shape memory registers held (fixed_span a g (copy_for cpu g) i).at g.value
+        (array_refusal g i (slice_index registers 4)) s.2 end in
         let both : (i : ℕ) → r.0 ≡ s.0 → AreAskedAlike r.2 s.2 × (result ≡ end) = λ i same.
-        answered (fixed_span a g (copy_for cpu g) r.0).at g.value (array_refusal g r.0 (slice_index registers 4)) r.2 s.2 result end r.6 (subst P (sym same) s.6) in
+        answered (fixed_span a g (copy_for cpu g) r.0).at g.value (array_refusal g r.0 (slice_index registers 4)) r.2 s.2 result end r.6
+        (subst P (sym same) s.6) in
         record {
           asks = asked-same events others (r.1 ++ r.2) (s.1 ++ s.2) r.5 s.5
               (asked-index shape memory held (slice_index registers 2) r.0 s.0 r.1 s.1 r.2 s.2 r.4 s.4 (λ same. (both 0 same).0));
@@ -125,7 +136,8 @@ module _ (shape : Shape) (memory : PrivateMemory) (registers : List ℕ) (held :
               ((both 0 same.0).1, r.7 ∙ sym s.7);
         }
 
-    index_deleted : DeletesIndex shape memory registers held events result after → DeletesIndex shape memory registers held others end other → Alike events others result end after other
+    index_deleted : DeletesIndex shape memory registers held events result after → DeletesIndex shape memory registers held others end other
+        → Alike events others result end after other
     index_deleted (inl r) (inl s) = stopped r s
     index_deleted (inl (inl r)) (inr s) = absurd (r.0 s.0)
     index_deleted (inl (inr r)) (inr s) = absurd (s.1 r.0)
@@ -133,7 +145,8 @@ module _ (shape : Shape) (memory : PrivateMemory) (registers : List ℕ) (held :
     index_deleted (inr r) (inl (inr s)) = absurd (r.1 s.0)
     index_deleted (inr r) (inr s) = unasked events others result end after other r.2 s.2 (r.3 ∙ sym s.3) (r.4 ∙ sym s.4)
 
-    pub array_called : (n : ℕ) → CallsArray shape memory registers held cpu a g n events result after → CallsArray shape memory registers held cpu a g n others end other → Alike events others result end after other
+    pub array_called : (n : ℕ) → CallsArray shape memory registers held cpu a g n events result after → CallsArray shape memory registers
+        held cpu a g n others end other → Alike events others result end after other
     array_called n (inl r) (inl s) = index_looked_up r.1 s.1
     array_called n (inl r) (inr (inl s)) = absurd (let a = r.0 in let b = s.0 in omega arith)
     array_called n (inl r) (inr (inr s)) = absurd (let a = r.0 in let b = s.0 in omega arith)

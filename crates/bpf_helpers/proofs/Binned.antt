@@ -1,5 +1,6 @@
 -- Spans in bins: what a walk through one bin finds, and one span more.
-use Rattle.std.proofs.Common.{◌≡◌, ℕ, zero, suc, ◌+◌, ◌-◌, ◌<◌, ◌≤◌, Bool, true, false, List, [], ◌∷◌, ◌++◌, length, Some, inl, inr, ◌⊎◌, refl, sym, ap, subst, ◌∙◌, ◌==◌, ◌||◌, slice_get, slice_index, arith, get_or, set}
+use Rattle.std.proofs.Common.{◌≡◌, ℕ, zero, suc, ◌+◌, ◌-◌, ◌<◌, ◌≤◌, Bool, true, false, List, [], ◌∷◌, ◌++◌, length, Some, inl, inr, ◌⊎◌}
+use Rattle.std.proofs.Common.{refl, sym, ap, subst, ◌∙◌, ◌==◌, ◌||◌, slice_get, slice_index, arith, get_or, set}
 use Rattle.std.specs.List.{list_any}
 use Rattle.std.proofs.Math.ListN.{replicate}
 use Rattle.std.proofs.lemmas.Bool.{cases_eq, and_parts, eqb-true}
@@ -124,7 +125,8 @@ split [] s (suc k) p e = absurd cc
 split (x ∷ xs) s zero p e = inl (omega arith, e)
 split (x ∷ xs) s (suc k) p e = risen (split xs s k p e)
 
-written_at : (l : List ℕ) (i v j : ℕ) → i < length l → (j ≡ i) ⊎ (j ≡ i → ⊥) → ((j ≡ i) × (get_or (set l i v) j 0 ≡ v)) ⊎ ((j ≡ i → ⊥) × (get_or (set l i v) j 0 ≡ get_or l j 0))
+written_at : (l : List ℕ) (i v j : ℕ) → i < length l → (j ≡ i) ⊎ (j ≡ i → ⊥) → ((j ≡ i) × (get_or (set l i v) j 0 ≡ v)) ⊎
+    ((j ≡ i → ⊥) × (get_or (set l i v) j 0 ≡ get_or l j 0))
 written_at l i v j h (inl e) = inl (e, ap (λ (x : ℕ). get_or (set l i v) x 0) e ∙ get_or-set_same l i v 0 h)
 written_at l i v j h (inr d) = inr (d, get_or-set_other l i j v 0 d)
 
@@ -142,7 +144,8 @@ module _ (latest earlier : List ℕ) (spans : List Span) (s : Span) (b n : ℕ) 
   longer : length (spans ++ s ∷ []) ≡ n + 1
   longer = ap (λ (k : ℕ). k) (length_push spans s) ∙ ap (λ (k : ℕ). k + 1) (sym number)
 
-  few_more : (c : ℕ) → ((c ≡ b) × (get_or latest' c 0 ≡ n)) ⊎ ((c ≡ b → ⊥) × (get_or latest' c 0 ≡ get_or latest c 0)) → get_or latest' c 0 ≤ length (spans ++ s ∷ []) - 1
+  few_more : (c : ℕ) → ((c ≡ b) × (get_or latest' c 0 ≡ n)) ⊎ ((c ≡ b → ⊥) × (get_or latest' c 0 ≡ get_or latest c 0)) → get_or latest' c 0
+      ≤ length (spans ++ s ∷ []) - 1
   few_more c (inl h) = let e = h.1 in let l = longer in omega arith
   few_more c (inr h) =
       let e : get_or latest' c 0 ≡ get_or latest c 0 = h.1 in
@@ -150,7 +153,8 @@ module _ (latest earlier : List ℕ) (spans : List Span) (s : Span) (b n : ℕ) 
       let old : get_or latest c 0 ≤ length spans - 1 = are.few c in
       omega arith
 
-  falling_more : (k : ℕ) → k < length (spans ++ s ∷ []) → ((k ≡ n) × (get_or earlier' k 0 ≡ get_or latest b 0)) ⊎ ((k ≡ n → ⊥) × (get_or earlier' k 0 ≡ get_or earlier k 0)) → get_or earlier' k 0 ≤ k - 1
+  falling_more : (k : ℕ) → k < length (spans ++ s ∷ []) → ((k ≡ n) × (get_or earlier' k 0 ≡ get_or latest b 0)) ⊎
+      ((k ≡ n → ⊥) × (get_or earlier' k 0 ≡ get_or earlier k 0)) → get_or earlier' k 0 ≤ k - 1
   falling_more k h (inl at) =
       let e : get_or earlier' k 0 ≡ get_or latest b 0 = at.1 in
       let here : k ≡ n = at.0 in
@@ -210,11 +214,13 @@ module _ (latest earlier : List ℕ) (spans : List Span) (s : Span) (b n : ℕ) 
       alike_old k p q (omega arith) old.0 old.1 (split spans s (get_or earlier k 0) q there)
   alike_more k p q pos (inr h) (inr new) e = absurd (h.0 (new.0 ∙ sym number))
 
-  last_new : (c k : ℕ) → k ≤ n → c ≡ b → ((c ≡ b) × (get_or latest' c 0 ≡ n)) ⊎ ((c ≡ b → ⊥) × (get_or latest' c 0 ≡ get_or latest c 0)) → k ≤ get_or latest' c 0
+  last_new : (c k : ℕ) → k ≤ n → c ≡ b → ((c ≡ b) × (get_or latest' c 0 ≡ n)) ⊎ ((c ≡ b → ⊥) × (get_or latest' c 0 ≡ get_or latest c 0)) → k
+      ≤ get_or latest' c 0
   last_new c k le here (inl h) = let e = h.1 in omega arith
   last_new c k le here (inr h) = absurd (h.0 here)
 
-  last_old : (c k : ℕ) → k < n → k ≤ get_or latest c 0 → ((c ≡ b) × (get_or latest' c 0 ≡ n)) ⊎ ((c ≡ b → ⊥) × (get_or latest' c 0 ≡ get_or latest c 0)) → k ≤ get_or latest' c 0
+  last_old : (c k : ℕ) → k < n → k ≤ get_or latest c 0 → ((c ≡ b) × (get_or latest' c 0 ≡ n)) ⊎
+      ((c ≡ b → ⊥) × (get_or latest' c 0 ≡ get_or latest c 0)) → k ≤ get_or latest' c 0
   last_old c k lt le (inl h) = let e = h.1 in omega arith
   last_old c k lt le (inr h) = let e = h.1 in omega arith
 

@@ -1,5 +1,6 @@
 -- A call asks what the replies before it determine, and its result is what they determine.
-use Rattle.std.proofs.Common.{◌≡◌, ℕ, List, [], ◌∷◌, ◌++◌, Option, Some, None, Result, Ok, inl, inr, ◌⊎◌, sym, ap, subst, ◌∙◌, slice_index, slice_get, append_assoc, arith}
+use Rattle.std.proofs.Common.{◌≡◌, ℕ, List, [], ◌∷◌, ◌++◌, Option, Some, None, Result, Ok, inl, inr, ◌⊎◌, sym, ap, subst, ◌∙◌, slice_index}
+use Rattle.std.proofs.Common.{slice_get, append_assoc, arith}
 use Rattle.bpf_mem.specs.declared.memory.PrivateMemory.{PrivateMemory}
 use Rattle.bpf_shared.specs.Laws.{asked}
 use Rattle.bpf_shared.specs.declared.events.Event.{Event}
@@ -17,15 +18,18 @@ use Rattle.bpf_helpers.specs.Laws.{CallsAreDetermined}
 use Rattle.bpf_helpers.proofs.Asking.{Alike, asked-cons, asked-none, asked-reads, asked-same, readable, same_reads, unasked}
 use Rattle.bpf_helpers.proofs.AskingIndexed.{array_called}
 
-taken : (answer : Option Span) (held : List Span) (result end : Result ℕ HelperFault) (after other : List Span) → TakesAnswer answer held result after → TakesAnswer answer held end other → (result ≡ end) × (after ≡ other)
+taken : (answer : Option Span) (held : List Span) (result end : Result ℕ HelperFault) (after other : List Span) → TakesAnswer answer held
+    result after → TakesAnswer answer held end other → (result ≡ end) × (after ≡ other)
 taken None held result end after other r s = (r.0 ∙ sym s.0, r.1 ∙ sym s.1)
 taken (Some p) held result end after other (inl r) (inl s) = (r.1 ∙ sym s.1, r.2 ∙ sym s.2)
 taken (Some p) held result end after other (inl r) (inr s) = absurd (s.0 r.0)
 taken (Some p) held result end after other (inr r) (inl s) = absurd (r.0 s.0)
 taken (Some p) held result end after other (inr r) (inr s) = (r.1 ∙ sym s.1, r.2 ∙ sym s.2)
 
-module _ (shape : Shape) (memory : PrivateMemory) (registers : List ℕ) (m : ℕ) (h : MapShape) (held after other : List Span) (events others : List Event) (result end : Result ℕ HelperFault) where
-  looked_up : LooksUp shape memory registers held m h events result after → LooksUp shape memory registers held m h others end other → Alike events others result end after other
+module _ (shape : Shape) (memory : PrivateMemory) (registers : List ℕ) (m : ℕ) (h : MapShape) (held after other : List Span)
+    (events others : List Event) (result end : Result ℕ HelperFault) where
+  looked_up : LooksUp shape memory registers held m h events result after → LooksUp shape memory registers held m h others end other → Alike
+      events others result end after other
   looked_up (inl r) (inl s) = unasked events others result end after other r.1.0 s.1.0 (r.1.1 ∙ sym s.1.1) (r.1.2 ∙ sym s.1.2)
   looked_up (inl r) (inr s) = absurd (r.0 (readable shape memory held (slice_index registers 2) h.key s.0 s.1 s.3))
   looked_up (inr r) (inl s) = absurd (s.0 (readable shape memory held (slice_index registers 2) h.key r.0 r.1 r.3))
@@ -45,7 +49,8 @@ module _ (shape : Shape) (memory : PrivateMemory) (registers : List ℕ) (m : �
             taken r.2 held result end after other r.5 (subst P (sym answer) s.5);
       }
 
-  deleted : DeletesKey shape memory registers held m h events result after → DeletesKey shape memory registers held m h others end other → Alike events others result end after other
+  deleted : DeletesKey shape memory registers held m h events result after → DeletesKey shape memory registers held m h others end other →
+      Alike events others result end after other
   deleted (inl r) (inl s) = unasked events others result end after other r.1.0 s.1.0 (r.1.1 ∙ sym s.1.1) (r.1.2 ∙ sym s.1.2)
   deleted (inl r) (inr s) = absurd (r.0 (readable shape memory held (slice_index registers 2) h.key s.0 s.1 s.3))
   deleted (inr r) (inl s) = absurd (s.0 (readable shape memory held (slice_index registers 2) h.key r.0 r.1 r.3))
@@ -64,11 +69,14 @@ module _ (shape : Shape) (memory : PrivateMemory) (registers : List ℕ) (m : �
             (r.5 ∙ ap (λ a. Ok (answer_number a)) answer ∙ sym s.5, r.6 ∙ sym s.6);
       }
 
-  unread : (key value : List ℕ) (first second : List Event) → (¬ IsReadable shape memory held (slice_index registers 2) h.key) ⊎ (¬ IsReadable shape memory held (slice_index registers 3) h.value) → Reads shape memory held (slice_index registers 2) h.key key first → Reads shape memory held (slice_index registers 3) h.value value second → ⊥
+  unread : (key value : List ℕ) (first second : List Event) → (¬ IsReadable shape memory held (slice_index registers 2) h.key) ⊎
+      (¬ IsReadable shape memory held (slice_index registers 3) h.value) → Reads shape memory held (slice_index registers 2) h.key key first
+      → Reads shape memory held (slice_index registers 3) h.value value second → ⊥
   unread key value first second (inl lacks) k v = lacks (readable shape memory held (slice_index registers 2) h.key key first k)
   unread key value first second (inr lacks) k v = lacks (readable shape memory held (slice_index registers 3) h.value value second v)
 
-  changed : UpdatesMap shape memory registers held m h events result after → UpdatesMap shape memory registers held m h others end other → Alike events others result end after other
+  changed : UpdatesMap shape memory registers held m h events result after → UpdatesMap shape memory registers held m h others end other →
+      Alike events others result end after other
   changed (inl r) (inl s) = unasked events others result end after other r.1.0 s.1.0 (r.1.1 ∙ sym s.1.1) (r.1.2 ∙ sym s.1.2)
   changed (inl r) (inr s) = absurd (unread s.0 s.1 s.2 s.3 r.0 s.5 s.6)
   changed (inr r) (inl s) = absurd (unread r.0 r.1 r.2 r.3 s.0 r.5 r.6)
@@ -81,7 +89,8 @@ module _ (shape : Shape) (memory : PrivateMemory) (registers : List ℕ) (m : �
         asks = asked-same events others (r.2 ++ (r.3 ++ x ∷ [])) (s.2 ++ (s.3 ++ y ∷ [])) left right
             (asked-reads shape memory held (slice_index registers 2) h.key r.0 s.0 r.2 s.2 (r.3 ++ x ∷ []) (s.3 ++ y ∷ []) r.5 s.5 (λ key.
             asked-reads shape memory held (slice_index registers 3) h.value r.1 s.1 r.3 s.3 (x ∷ []) (y ∷ []) r.6 s.6 (λ value.
-            let same : asked x ≡ asked y = ap (λ k. Update m k r.1 (slice_index registers 4) Done) key ∙ ap (λ v. Update m s.0 v (slice_index registers 4) Done) value in
+            let same : asked x ≡ asked y = ap (λ k. Update m k r.1 (slice_index registers 4) Done) key ∙ ap
+            (λ v. Update m s.0 v (slice_index registers 4) Done) value in
             asked-cons x y [] [] same (λ _. asked-none))));
         replied = λ e.
             let both : r.2 ++ (r.3 ++ x ∷ []) ≡ s.2 ++ (s.3 ++ y ∷ []) = sym left ∙ e ∙ right in
@@ -92,7 +101,8 @@ module _ (shape : Shape) (memory : PrivateMemory) (registers : List ℕ) (m : �
             (r.8 ∙ ap (λ a. Ok (answer_number a)) answer ∙ sym s.8, r.9 ∙ sym s.9);
       }
 
-  map_called : (n : ℕ) → CallsMap shape memory registers held m h n events result after → CallsMap shape memory registers held m h n others end other → Alike events others result end after other
+  map_called : (n : ℕ) → CallsMap shape memory registers held m h n events result after → CallsMap shape memory registers held m h n others
+      end other → Alike events others result end after other
   map_called n (inl r) (inl s) = looked_up r.1 s.1
   map_called n (inl r) (inr (inl s)) = absurd (let a = r.0 in let b = s.0 in omega arith)
   map_called n (inl r) (inr (inr s)) = absurd (let a = r.0 in let b = s.0 in omega arith)
@@ -103,7 +113,8 @@ module _ (shape : Shape) (memory : PrivateMemory) (registers : List ℕ) (m : �
   map_called n (inr (inr r)) (inr (inl s)) = absurd (let a = r.0 in let b = s.0 in omega arith)
   map_called n (inr (inr r)) (inr (inr s)) = deleted r.1 s.1
 
-module _ (shape : Shape) (memory : PrivateMemory) (registers : List ℕ) (held after : List Span) (n : ℕ) (events : List Event) (result : Result ℕ HelperFault) where
+module _ (shape : Shape) (memory : PrivateMemory) (registers : List ℕ) (held after : List Span) (n : ℕ) (events : List Event)
+    (result : Result ℕ HelperFault) where
   other_number : (m : ℕ) (h : MapShape) → n ≡ processor_number → CallsMap shape memory registers held m h n events result after → ⊥
   other_number m h e (inl r) = let a = r.0 in omega arith
   other_number m h e (inr (inl r)) = let a = r.0 in omega arith
@@ -114,8 +125,10 @@ module _ (shape : Shape) (memory : PrivateMemory) (registers : List ℕ) (held a
   no_array_helper cpu a g e (inr (inl r)) = let b = r.0 in omega arith
   no_array_helper cpu a g e (inr (inr r)) = let b = r.0 in omega arith
 
-module _ (shape : Shape) (n cpu : ℕ) (registers : List ℕ) (memory : PrivateMemory) (held after other : List Span) (events others : List Event) (result end : Result ℕ HelperFault) where
-  alike : CallsHelper shape n cpu registers memory held events result after → CallsHelper shape n cpu registers memory held others end other → Alike events others result end after other
+module _ (shape : Shape) (n cpu : ℕ) (registers : List ℕ) (memory : PrivateMemory) (held after other : List Span)
+    (events others : List Event) (result end : Result ℕ HelperFault) where
+  alike : CallsHelper shape n cpu registers memory held events result after → CallsHelper shape n cpu registers memory held others end other
+      → Alike events others result end after other
   alike (inl r) (inl s) = unasked events others result end after other r.1 s.1 (r.2 ∙ sym s.2) (r.3 ∙ sym s.3)
   alike (inl r) (inr (inl s)) = absurd (s.0 r.0)
   alike (inl r) (inr (inr (inl s))) = absurd (other_number shape memory registers held other n others end s.0 s.1 r.0 s.3)

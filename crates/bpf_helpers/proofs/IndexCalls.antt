@@ -19,7 +19,8 @@ module _ (h : Shape) (m : PrivateMemory) (held : List Span) (a : ℕ) where
   odd_key Shared is odd = (is.0, is.1, odd)
 
   pub even_key : (s : Source) → IsSource h m held a 4 s → (IsOdd s a → ⊥) → IsOddKey h m held a → ⊥
-  even_key (Private place) is even odd = let no : is_some (bytes_at m a 4) ≡ false = ap is_some odd.0 in absurd (let yes : is_some (bytes_at m a 4) ≡ true = is.2 in cc)
+  even_key (Private place) is even odd =
+      let no : is_some (bytes_at m a 4) ≡ false = ap is_some odd.0 in absurd (let yes : is_some (bytes_at m a 4) ≡ true = is.2 in cc)
   even_key Shared is even odd = even odd.2
 
   pub source_readable : (n : ℕ) (s : Source) → IsSource h m held a n s → IsReadable h m held a n

@@ -7,7 +7,8 @@ use Rattle.bpf_shared.specs.declared.shapes.ArrayShape.{ArrayShape}
 use Rattle.bpf_shared.specs.declared.shapes.MapShape.{MapShape}
 use Rattle.bpf_shared.specs.Shape.{Shape, without_arrays}
 use Rattle.bpf_helpers.specs.declared.fault.HelperFault.{HelperFault}
-use Rattle.bpf_helpers.specs.Calls.{TakesAnswer, LooksUp, UpdatesMap, DeletesKey, CallsMap, StopsAtKey, LooksUpIndex, UpdatesIndex, DeletesIndex, CallsArray, CallsHelper}
+use Rattle.bpf_helpers.specs.Calls.{TakesAnswer, LooksUp, UpdatesMap, DeletesKey, CallsMap, StopsAtKey, LooksUpIndex, UpdatesIndex}
+use Rattle.bpf_helpers.specs.Calls.{DeletesIndex, CallsArray, CallsHelper}
 
 -- a result is a number or a fault
 not_both : (result : Result ℕ HelperFault) (x : ℕ) (fault : HelperFault) → result ≡ Err fault → result ≡ Ok x → ⊥
@@ -38,7 +39,8 @@ module _ (held after : List Span) (result : Result ℕ HelperFault) (fault : Hel
     map_holds n (inr (inr row)) = delete_holds row.1
 
 -- a call on an array leaves what the run holds, whatever its result
-module _ (shape : Shape) (memory : PrivateMemory) (registers : List ℕ) (held after : List Span) (events : List Event) (result : Result ℕ HelperFault) (cpu a : ℕ) (g : ArrayShape) where
+module _ (shape : Shape) (memory : PrivateMemory) (registers : List ℕ) (held after : List Span) (events : List Event)
+    (result : Result ℕ HelperFault) (cpu a : ℕ) (g : ArrayShape) where
   stop_holds : StopsAtKey shape memory registers held events result after → after ≡ held
   stop_holds (inl out) = out.1.2
   stop_holds (inr out) = out.1.2
@@ -62,14 +64,20 @@ module _ (shape : Shape) (memory : PrivateMemory) (registers : List ℕ) (held a
   array_holds n (inr (inr row)) = index_deleted row.1
 
 -- where a call is a fault, the run holds what it held
-pub fault_holds : (shape : Shape) (n cpu : ℕ) (registers : List ℕ) (memory : PrivateMemory) (held after : List Span) (events : List Event) (result : Result ℕ HelperFault) (fault : HelperFault) → result ≡ Err fault → CallsHelper shape n cpu registers memory held events result after → after ≡ held
+pub fault_holds : (shape : Shape) (n cpu : ℕ) (registers : List ℕ) (memory : PrivateMemory) (held after : List Span) (events : List Event)
+    (result : Result ℕ HelperFault) (fault : HelperFault) → result ≡ Err fault → CallsHelper shape n cpu registers memory held events result
+    after → after ≡ held
 fault_holds shape n cpu registers memory held after events result fault e (inl named) = named.3
 fault_holds shape n cpu registers memory held after events result fault e (inr (inl none)) = none.3.2
-fault_holds shape n cpu registers memory held after events result fault e (inr (inr (inl (m, h, at, row)))) = map_holds held after result fault e shape memory registers m h events n row
-fault_holds shape n cpu registers memory held after events result fault e (inr (inr (inr (a, g, at, other, row)))) = array_holds shape memory registers held after events result cpu a g n row
+fault_holds shape n cpu registers memory held after events result fault e (inr (inr (inl (m, h, at, row)))) = map_holds held after result
+    fault e shape memory registers m h events n row
+fault_holds shape n cpu registers memory held after events result fault e (inr (inr (inr (a, g, at, other, row)))) = array_holds shape
+    memory registers held after events result cpu a g n row
 
 -- where there is no map and no array, a call asks nothing, and the run holds what it held
-pub no_map_call : (cpus number cpu : ℕ) (registers : List ℕ) (memory : PrivateMemory) (held after : List Span) (events : List Event) (result : Result ℕ HelperFault) → CallsHelper (without_arrays cpus []) number cpu registers memory held events result after → (events ≡ []) × (after ≡ held)
+pub no_map_call : (cpus number cpu : ℕ) (registers : List ℕ) (memory : PrivateMemory) (held after : List Span) (events : List Event)
+    (result : Result ℕ HelperFault) → CallsHelper (without_arrays cpus []) number cpu registers memory held events result after →
+    (events ≡ []) × (after ≡ held)
 no_map_call cpus number cpu registers memory held after events result (inl named) = (named.1, named.3)
 no_map_call cpus number cpu registers memory held after events result (inr (inl none)) = (none.3.0, none.3.2)
 no_map_call cpus number cpu registers memory held after events result (inr (inr (inl (m, h, at, rest)))) = let none : None ≡ Some h = at.1 in absurd cc

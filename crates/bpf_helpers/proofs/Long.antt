@@ -13,7 +13,8 @@ and_false : (b : Bool) → b && false ≡ false
 and_false true = refl
 and_false false = refl
 
-module _ (m : PrivateMemory) (a n : ℕ) (small : length m.context ≤ max_context) (brief : length m.packet ≤ max_packet) (sized : Sized m.frames.live) (long : max_packet < n) where
+module _ (m : PrivateMemory) (a n : ℕ) (small : length m.context ≤ max_context) (brief : length m.packet ≤ max_packet)
+    (sized : Sized m.frames.live) (long : max_packet < n) where
   in_packet : (o : ℕ) → a ≡ 0x10000000 + o → a < 0x200000000 → is_some (bytes_at m a n) ≡ false
   in_packet o e low =
       let no : nat_le (o + n) (length m.packet) ≡ false = grind (arith, nat_tests) in
@@ -29,7 +30,8 @@ module _ (m : PrivateMemory) (a n : ℕ) (small : length m.context ≤ max_conte
       let d = o / 0x1000 in
       let r = o % 0x1000 in
       let no : nat_le (r + n) 512 ≡ false = grind (arith, nat_tests) in
-      reached-stack m a d r n small brief sized (omega arith) (omega arith) (omega arith) ∙ (ap (λ (b : Bool). nat_lt d (length m.frames.live) && b) no ∙ and_false (nat_lt d (length m.frames.live)))
+      reached-stack m a d r n small brief sized (omega arith) (omega arith) (omega arith) ∙
+      (ap (λ (b : Bool). nat_lt d (length m.frames.live) && b) no ∙ and_false (nat_lt d (length m.frames.live)))
 
   pub long_not_own : is_some (bytes_at m a n) ≡ false
   long_not_own = elim (cases_lt a 0x200000000) [

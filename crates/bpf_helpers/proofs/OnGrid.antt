@@ -57,7 +57,8 @@ whole sizes p m o on offset =
     (ap (λ (k : ℕ). k % stride_of p.size) at ∙ mod-mul-add on.element (stride_of p.size) 0 wide, let e = same.1 in omega arith)
 
 -- what the tests of a span say
-module _ (sizes : List ℕ) (p : Span) (m o size stride : ℕ) (offset : IsOffset p.at m o) (noted : size ≡ slice_index sizes m) (same : size ≡ p.size) (some : size ≡ 0 → ⊥) (long : stride ≡ stride_of size) where
+module _ (sizes : List ℕ) (p : Span) (m o size stride : ℕ) (offset : IsOffset p.at m o) (noted : size ≡ slice_index sizes m)
+    (same : size ≡ p.size) (some : size ≡ 0 → ⊥) (long : stride ≡ stride_of size) where
   wide : stride ≡ stride_of p.size
   wide = long ∙ ap stride_of same
 

@@ -1,5 +1,6 @@
 -- A value that is copied part by part.
-use Rattle.std.proofs.Common.{◌≡◌, ℕ, suc, ◌+◌, ◌-◌, ◌/◌, ◌%◌, ◌<◌, ◌≤◌, nat_lt, true, false, List, [], ◌∷◌, ◌++◌, length, take, drop, ◌⊎◌, refl, sym, ap, subst, ◌∙◌, arith, ◌==◌, if◌then◌else◌, append_assoc, length-append, length-drop}
+use Rattle.std.proofs.Common.{◌≡◌, ℕ, suc, ◌+◌, ◌-◌, ◌/◌, ◌%◌, ◌<◌, ◌≤◌, nat_lt, true, false, List, [], ◌∷◌, ◌++◌, length, take, drop, ◌⊎◌}
+use Rattle.std.proofs.Common.{refl, sym, ap, subst, ◌∙◌, arith, ◌==◌, if◌then◌else◌, append_assoc, length-append, length-drop}
 use Rattle.std.specs.Prelude.{replicate}
 use Rattle.std.proofs.lemmas.Bool.Decides.{nat_tests}
 use Rattle.std.proofs.lemmas.List.{append-nil, length-take-le, take_all, take-append-drop}
@@ -95,7 +96,8 @@ cut_next Double done rest left cut is e =
 -- ---- the events of it
 -- one part, and what comes after it
 pub copied_next : (reading : ℕ → List ℕ → List Event) (from to : ℕ) (size : Size) (sizes : List Size) (bytes others : List ℕ) → length bytes ≡ bytes_in size
-    → copies reading from to (size ∷ sizes) (bytes ++ others) ≡ (reading from bytes ++ Store to size (little_endian bytes) ∷ []) ++ copies reading (from + bytes_in size) (to + bytes_in size) sizes others
+    → copies reading from to (size ∷ sizes) (bytes ++ others) ≡ (reading from bytes ++ Store to size (little_endian bytes) ∷ []) ++ copies
+    reading (from + bytes_in size) (to + bytes_in size) sizes others
 copied_next reading from to size sizes bytes others e =
     let front : take (bytes_in size) (bytes ++ others) ≡ bytes = ap (λ (n : ℕ). take n (bytes ++ others)) (sym e) ∙ take-append_seam bytes others in
     let back : drop (bytes_in size) (bytes ++ others) ≡ others = ap (λ (n : ℕ). drop n (bytes ++ others)) (sym e) ∙ drop-append_seam bytes others in
@@ -118,7 +120,8 @@ begins_nothing reading from to n others =
     ap (λ (x : ℕ). copies reading x to (parts_of n) others) a
     ∙ (ap (λ (x : ℕ). copies reading (from + 0) x (parts_of n) others) b ∙ ap (λ (x : ℕ). copies reading (from + 0) (to + 0) (parts_of x) others) c)
 
-pub begins_more : (reading : ℕ → List ℕ → List Event) (from to n done : ℕ) (size : Size) (bytes more : List ℕ) (events : List Event) → length bytes ≡ done → Begins reading from to n bytes events
+pub begins_more : (reading : ℕ → List ℕ → List Event) (from to n done : ℕ) (size : Size) (bytes more : List ℕ) (events : List Event) →
+    length bytes ≡ done → Begins reading from to n bytes events
     → IsNextPart (n - done) size → length more ≡ bytes_in size
     → Begins reading from to n (bytes ++ more) (events ++ (reading (from + done) more ++ Store (to + done) size (little_endian more) ∷ []))
 begins_more reading from to n done size bytes more events at begins is long others =
@@ -129,26 +132,33 @@ begins_more reading from to n done size bytes more events at begins is long othe
     let whole : copies reading from to (parts_of n) ((bytes ++ more) ++ others) ≡ events ++ copies reading f t (parts_of (n - length bytes)) (more ++ others) =
     ap (copies reading from to (parts_of n)) (append_assoc bytes more others) ∙ begins (more ++ others) in
     let is' : IsNextPart (n - length bytes) size = subst (λ (x : ℕ). IsNextPart (n - x) size) (sym at) is in
-    let cut : copies reading f t (parts_of (n - length bytes)) (more ++ others) ≡ (reading f more ++ Store t size (little_endian more) ∷ []) ++ copies reading (f + k) (t + k) (parts_of (n - length bytes - k)) others =
-    ap (λ (l : List Size). copies reading f t l (more ++ others)) (next_parts size (n - length bytes) is') ∙ copied_next reading f t size (parts_of (n - length bytes - k)) more others long in
+    let cut : copies reading f t (parts_of (n - length bytes)) (more ++ others) ≡ (reading f more ++ Store t size (little_endian more) ∷ [])
+    ++ copies reading (f + k) (t + k) (parts_of (n - length bytes - k)) others =
+    ap (λ (l : List Size). copies reading f t l (more ++ others)) (next_parts size (n - length bytes) is') ∙ copied_next reading f t size
+    (parts_of (n - length bytes - k)) more others long in
     let one : reading f more ++ Store t size (little_endian more) ∷ [] ≡ reading (from + done) more ++ Store (to + done) size (little_endian more) ∷ [] =
     ap (λ (x : ℕ). reading (from + x) more ++ Store (to + x) size (little_endian more) ∷ []) at in
     let a : f + k ≡ from + length (bytes ++ more) = omega arith in
     let b : t + k ≡ to + length (bytes ++ more) = omega arith in
     let c : n - length bytes - k ≡ n - length (bytes ++ more) = omega arith in
-    let rest : copies reading (f + k) (t + k) (parts_of (n - length bytes - k)) others ≡ copies reading (from + length (bytes ++ more)) (to + length (bytes ++ more)) (parts_of (n - length (bytes ++ more))) others =
+    let rest : copies reading (f + k) (t + k) (parts_of (n - length bytes - k)) others ≡ copies reading (from + length (bytes ++ more))
+    (to + length (bytes ++ more)) (parts_of (n - length (bytes ++ more))) others =
     ap (λ (x : ℕ). copies reading x (t + k) (parts_of (n - length bytes - k)) others) a
-    ∙ (ap (λ (x : ℕ). copies reading (from + length (bytes ++ more)) x (parts_of (n - length bytes - k)) others) b ∙ ap (λ (x : ℕ). copies reading (from + length (bytes ++ more)) (to + length (bytes ++ more)) (parts_of x) others) c) in
+    ∙ (ap (λ (x : ℕ). copies reading (from + length (bytes ++ more)) x (parts_of (n - length bytes - k)) others) b ∙ ap
+    (λ (x : ℕ). copies reading (from + length (bytes ++ more)) (to + length (bytes ++ more)) (parts_of x) others) c) in
     whole
     ∙ (ap (λ (l : List Event). events ++ l) cut
     ∙ (ap (λ (l : List Event). events ++ (l ++ copies reading (f + k) (t + k) (parts_of (n - length bytes - k)) others)) one
     ∙ (ap (λ (l : List Event). events ++ ((reading (from + done) more ++ Store (to + done) size (little_endian more) ∷ []) ++ l)) rest
-    ∙ sym (append_assoc events (reading (from + done) more ++ Store (to + done) size (little_endian more) ∷ []) (copies reading (from + length (bytes ++ more)) (to + length (bytes ++ more)) (parts_of (n - length (bytes ++ more))) others)))))
+    ∙ sym (append_assoc events (reading (from + done) more ++ Store (to + done) size (little_endian more) ∷ [])
+    (copies reading (from + length (bytes ++ more)) (to + length (bytes ++ more)) (parts_of (n - length (bytes ++ more))) others)))))
 
-pub begins_all : (reading : ℕ → List ℕ → List Event) (from to n : ℕ) (bytes : List ℕ) (events : List Event) → length bytes ≡ n → Begins reading from to n bytes events → events ≡ copies reading from to (parts_of n) bytes
+pub begins_all : (reading : ℕ → List ℕ → List Event) (from to n : ℕ) (bytes : List ℕ) (events : List Event) → length bytes ≡ n → Begins
+    reading from to n bytes events → events ≡ copies reading from to (parts_of n) bytes
 begins_all reading from to n bytes events e begins =
     let none : n - length bytes ≡ 0 = omega arith in
-    let last : copies reading (from + length bytes) (to + length bytes) (parts_of (n - length bytes)) [] ≡ [] = ap (λ (x : ℕ). copies reading (from + length bytes) (to + length bytes) (parts_of x) []) none in
+    let last : copies reading (from + length bytes) (to + length bytes) (parts_of (n - length bytes)) [] ≡ [] = ap
+    (λ (x : ℕ). copies reading (from + length bytes) (to + length bytes) (parts_of x) []) none in
     sym (ap (copies reading from to (parts_of n)) (sym (append-nil bytes)) ∙ (begins [] ∙ (ap (λ (l : List Event). events ++ l) last ∙ append-nil events)))
 
 -- ---- one turn of the loops
@@ -157,7 +167,8 @@ take_part xs a m l =
     ap (take (a + m)) (sym (take-append-drop a xs))
     ∙ (ap (λ (n : ℕ). take (n + m) (take a xs ++ drop a xs)) (sym (length-take-le a xs l)) ∙ take-append-add (take a xs) (drop a xs) m)
 
-pub own_more : (from to : ℕ) (bytes : List ℕ) (done k : ℕ) (size : Size) (word : ℕ) (events : List Event) → k ≡ bytes_in size → done ≤ length bytes → IsNextPart (length bytes - done) size
+pub own_more : (from to : ℕ) (bytes : List ℕ) (done k : ℕ) (size : Size) (word : ℕ) (events : List Event) → k ≡ bytes_in size → done ≤
+    length bytes → IsNextPart (length bytes - done) size
     → word ≡ little_endian (part bytes done (bytes_in size)) → Begins no_loads from to (length bytes) (take done bytes) events
     → Begins no_loads from to (length bytes) (take (done + k) bytes) (events ++ Store (to + done) size word ∷ [])
 own_more from to bytes done k size word events e within is number begins =
@@ -166,12 +177,14 @@ own_more from to bytes done k size word events e within is number begins =
     let rest : bytes_in size ≤ length (drop done bytes) = omega (arith, length-drop done bytes, fits.0) in
     let long : length more ≡ bytes_in size = length-take-le (bytes_in size) (drop done bytes) rest in
     let next = begins_more no_loads from to (length bytes) done size (take done bytes) more events (length-take-le done bytes within) begins is long in
-    let whole : take done bytes ++ more ≡ take (done + k) bytes = sym (take_part bytes done (bytes_in size) within) ∙ ap (λ (n : ℕ). take (done + n) bytes) (sym e) in
+    let whole : take done bytes ++ more ≡ take (done + k) bytes = sym (take_part bytes done (bytes_in size) within) ∙ ap
+    (λ (n : ℕ). take (done + n) bytes) (sym e) in
     let P : List ℕ → Type 0 = λ l. Begins no_loads from to (length bytes) l (events ++ Store (to + done) size (little_endian more) ∷ []) in
     let Q : ℕ → Type 0 = λ w. Begins no_loads from to (length bytes) (take (done + k) bytes) (events ++ Store (to + done) size w ∷ []) in
     subst Q (sym number) (subst P whole next)
 
-pub shared_more : (from to n done : ℕ) (size : Size) (word : ℕ) (bytes more : List ℕ) (events : List Event) → length bytes ≡ done → IsNextPart (n - done) size → length more ≡ bytes_in size
+pub shared_more : (from to n done : ℕ) (size : Size) (word : ℕ) (bytes more : List ℕ) (events : List Event) → length bytes ≡ done →
+    IsNextPart (n - done) size → length more ≡ bytes_in size
     → word ≡ little_endian (part more 0 (bytes_in size)) → Begins loads from to n bytes events
     → Begins loads from to n (bytes ++ more) (events ++ (loads (from + done) more ++ Store (to + done) size word ∷ []))
 shared_more from to n done size word bytes more events at is long number begins =

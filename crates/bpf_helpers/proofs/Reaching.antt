@@ -34,7 +34,8 @@ within a p e =
     let gap : a - p.at < p.size = grind (arith, nat_tests) in
     (since, omega arith)
 
-here : (P : Span → Type 0) (p : Span) (held : List Span) (a : ℕ) (b : Bool) → All P (p ∷ held) → (list_any (is_in a) held ≡ true → Found P a) → is_in a p ≡ b → b || list_any (is_in a) held ≡ true → Found P a
+here : (P : Span → Type 0) (p : Span) (held : List Span) (a : ℕ) (b : Bool) → All P (p ∷ held) →
+    (list_any (is_in a) held ≡ true → Found P a) → is_in a p ≡ b → b || list_any (is_in a) held ≡ true → Found P a
 here P p held a true all rest inside e =
     let w = within a p inside in
     record { span = p; fact = All-head P p held all; since = w.0; before = w.1 }

@@ -64,7 +64,8 @@ map_is maps m n o p are e offset =
     let start = start_of maps m p e are in
     (one_offset p.at n m o (e.1 * stride_of p.size) offset start.offset).0
 
-pub on_known : (maps : List MapShape) (sizes : List ℕ) (m n o : ℕ) (p : Span) → AreMaps maps → AreSizesOf maps sizes → IsElementSpan maps m p → IsOffset p.at n o
+pub on_known : (maps : List MapShape) (sizes : List ℕ) (m n o : ℕ) (p : Span) → AreMaps maps → AreSizesOf maps sizes → IsElementSpan maps m
+    p → IsOffset p.at n o
     → (slice_index sizes n ≡ 0 → ⊥) → IsOnGrid sizes p
 on_known maps sizes m n o p are sized e offset there =
     let same = map_is maps m n o p are e offset in
@@ -80,7 +81,8 @@ sizes_more maps sizes m v k h is value (inl w) old = inr (h, subst (λ (n : ℕ)
 sizes_more maps sizes m v k h is value (inr w) (inl none) = inl (w.1 ∙ none)
 sizes_more maps sizes m v k h is value (inr w) (inr j) = inr (j.0, j.1, w.1 ∙ j.2)
 
-here : (sizes : List ℕ) (m v : ℕ) → m < length sizes → ((m ≡ m) × (get_or (set sizes m v) m 0 ≡ v)) ⊎ ((m ≡ m → ⊥) × (get_or (set sizes m v) m 0 ≡ get_or sizes m 0))
+here : (sizes : List ℕ) (m v : ℕ) → m < length sizes → ((m ≡ m) × (get_or (set sizes m v) m 0 ≡ v)) ⊎
+    ((m ≡ m → ⊥) × (get_or (set sizes m v) m 0 ≡ get_or sizes m 0))
     → get_or (set sizes m v) m 0 ≡ v
 here sizes m v l (inl w) = w.1
 here sizes m v l (inr w) = absurd (w.0 refl)
@@ -94,7 +96,8 @@ noted maps sizes m v p are sized e room size =
       on (set sizes m v) m e.1 e.0 p start (here sizes m v room (written sizes m v m room) ∙ value),
     )
 
-pub on_noted : (maps : List MapShape) (sizes : List ℕ) (m n o v : ℕ) (p : Span) → AreMaps maps → AreSizesOf maps sizes → IsElementSpan maps m p → IsOffset p.at n o
+pub on_noted : (maps : List MapShape) (sizes : List ℕ) (m n o v : ℕ) (p : Span) → AreMaps maps → AreSizesOf maps sizes → IsElementSpan maps
+    m p → IsOffset p.at n o
     → n < length sizes → v ≡ p.size → AreSizesOf maps (set sizes n v) × IsOnGrid (set sizes n v) p
 on_noted maps sizes m n o v p are sized e offset room size =
     let same = map_is maps m n o p are e offset in

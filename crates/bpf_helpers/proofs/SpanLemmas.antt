@@ -1,5 +1,6 @@
 -- Spans and what they are saved as.
-use Rattle.std.proofs.Common.{◌≡◌, ℕ, suc, ◌<◌, ◌≤◌, false, List, [], ◌∷◌, ◌++◌, length, take, drop, get_or, Option, Some, None, ◌-◌, refl, sym, ap, subst, ◌∙◌, arith, append_assoc, ◌+◌, inl, inr, length-append}
+use Rattle.std.proofs.Common.{◌≡◌, ℕ, suc, ◌<◌, ◌≤◌, false, List, [], ◌∷◌, ◌++◌, length, take, drop, get_or, Option, Some, None, ◌-◌, refl}
+use Rattle.std.proofs.Common.{sym, ap, subst, ◌∙◌, arith, append_assoc, ◌+◌, inl, inr, length-append}
 use Rattle.std.specs.Prelude.{All, IfSome, slice_get}
 use Rattle.std.proofs.lemmas.Bool.{cases_lt}
 use Rattle.std.proofs.lemmas.Option.{slice_get-get_or, slice_get_within}
@@ -61,19 +62,25 @@ count_told n m h k e =
     let b : m < modulus 2 = omega arith in
     sym (little_endian-low_bytes 2 n a) ∙ (ap little_endian e ∙ little_endian-low_bytes 2 m b)
 
-pub spans_told : (xs ys : List Span) (rest more : List ℕ) → AreSavable xs → AreSavable ys → spans_saved xs ++ rest ≡ spans_saved ys ++ more → (xs ≡ ys) × (rest ≡ more)
+pub spans_told : (xs ys : List Span) (rest more : List ℕ) → AreSavable xs → AreSavable ys → spans_saved xs ++ rest ≡ spans_saved ys ++ more
+    → (xs ≡ ys) × (rest ≡ more)
 spans_told xs ys rest more h k e =
     let n = low_bytes 2 (length xs) in
     let m = low_bytes 2 (length ys) in
-    let cut = same_fronts n m (flat_map span_saved xs ++ rest) (flat_map span_saved ys ++ more) refl (sym (append_assoc n (flat_map span_saved xs) rest) ∙ (e ∙ append_assoc m (flat_map span_saved ys) more)) in
+    let cut = same_fronts n m (flat_map span_saved xs ++ rest) (flat_map span_saved ys ++ more) refl
+    (sym (append_assoc n (flat_map span_saved xs) rest) ∙ (e ∙ append_assoc m (flat_map span_saved ys) more)) in
     flat_prefix IsWide span_saved no_span span_told xs ys rest more (count_told (length xs) (length ys) h.few k.few cut.0) h.wide k.wide cut.1
 
 -- ---- reading
 front_elements : (done back : List Span) (p : Span) → AreElements (done ++ p ∷ back) → AreElements (done ++ p ∷ [])
 front_elements done back p (maps, are, all) =
     let whole : done ++ p ∷ back ≡ (done ++ p ∷ []) ++ back = sym (append_assoc done (p ∷ []) back) in
-    let each : All (IsElement maps) ((done ++ p ∷ []) ++ back) = subst (λ (l : List Span). All (IsElement maps) l) whole all in
-    (maps, are, subst (λ (l : List Span). All (IsElement maps) l) (take-append_seam (done ++ p ∷ []) back) (All-take (IsElement maps) (length (done ++ p ∷ [])) ((done ++ p ∷ []) ++ back) each))
+    let each : All (IsElement maps) ((done ++ p ∷ []) ++ back) = subst (λ (l : List Span). All (IsElement maps) l) whole all in (
+      maps,
+      are,
+      subst (λ (l : List Span). All (IsElement maps) l) (take-append_seam (done ++ p ∷ []) back)
+          (All-take (IsElement maps) (length (done ++ p ∷ [])) ((done ++ p ∷ []) ++ back) each),
+    )
 
 module _ (bytes : List ℕ) (done : List Span) (rest : List ℕ) (wide : All IsWide done) (read : bytes ≡ flat_map span_saved done ++ rest)
     (others : List Span) (more : List ℕ) (inside : length done < length others) (may : MayBeHeld others) (e : bytes ≡ flat_map span_saved others ++ more) where
@@ -81,7 +88,8 @@ module _ (bytes : List ℕ) (done : List Span) (rest : List ℕ) (wide : All IsW
   pub none_next : ((other : Span) (more : List ℕ) → IsWide other → rest ≡ span_saved other ++ more → ⊥) → ⊥
   none_next none =
       let on = goes_on IsWide span_saved no_span span_told bytes done rest wide read others more inside may.savable.wide e in
-      none (get_or others (length done) no_span) (flat_map span_saved (drop (suc (length done)) others) ++ more) (All-get_or IsWide others (length done) no_span inside may.savable.wide) on.1
+      none (get_or others (length done) no_span) (flat_map span_saved (drop (suc (length done)) others) ++ more)
+      (All-get_or IsWide others (length done) no_span inside may.savable.wide) on.1
 
   -- where the one that is read can't be held
   pub none_held : (p : Span) (behind : List ℕ) → IsWide p → rest ≡ span_saved p ++ behind
@@ -90,10 +98,12 @@ module _ (bytes : List ℕ) (done : List Span) (rest : List ℕ) (wide : All IsW
       let on = goes_on IsWide span_saved no_span span_told bytes done rest wide read others more inside may.savable.wide e in
       let x = get_or others (length done) no_span in
       let back = drop (suc (length done)) others in
-      let same = span_told x p (flat_map span_saved back ++ more) behind (All-get_or IsWide others (length done) no_span inside may.savable.wide) fit (sym on.1 ∙ here) in
+      let same = span_told x p (flat_map span_saved back ++ more) behind
+      (All-get_or IsWide others (length done) no_span inside may.savable.wide) fit (sym on.1 ∙ here) in
       let few = may.savable.few in
       let front : take (length done) others ≡ done = ap (take (length done)) on.0 ∙ take-append_seam done (x ∷ back) in
-      let once : has_span done x ≡ false = ap (λ (l : List Span). has_span l x) (sym front) ∙ may.once (length done) x (slice_get-get_or others (length done) no_span inside) in
+      let once : has_span done x ≡ false = ap (λ (l : List Span). has_span l x) (sym front) ∙ may.once (length done) x
+      (slice_get-get_or others (length done) no_span inside) in
       let elements : AreElements (done ++ x ∷ []) = front_elements done back x (subst AreElements on.0 may.elements) in
       refused (omega arith) (subst (λ (q : Span). has_span done q ≡ false) same.0 once) (subst (λ (q : Span). AreElements (done ++ q ∷ [])) same.0 elements)
 
@@ -119,24 +129,34 @@ once_more done p once fresh k q e =
     ]
 
 -- one more is read
-pub one_read : (bytes : List ℕ) (done new : List Span) (p : Span) (rest behind : List ℕ) → bytes ≡ flat_map span_saved done ++ rest → rest ≡ span_saved p ++ behind → new ≡ done ++ p ∷ []
+pub one_read : (bytes : List ℕ) (done new : List Span) (p : Span) (rest behind : List ℕ) → bytes ≡ flat_map span_saved done ++ rest → rest ≡
+    span_saved p ++ behind → new ≡ done ++ p ∷ []
     → bytes ≡ flat_map span_saved new ++ behind
 one_read bytes done new p rest behind read here is =
-    let one : flat_map span_saved (done ++ p ∷ []) ≡ flat_map span_saved done ++ span_saved p = flat_map-append span_saved done (p ∷ []) ∙ ap (λ (l : List ℕ). flat_map span_saved done ++ l) (append-nil (span_saved p)) in
-    read ∙ (ap (λ (l : List ℕ). flat_map span_saved done ++ l) here ∙ (sym (append_assoc (flat_map span_saved done) (span_saved p) behind) ∙ ap (λ (l : List ℕ). l ++ behind) (sym one ∙ ap (flat_map span_saved) (sym is))))
+    let one : flat_map span_saved (done ++ p ∷ []) ≡ flat_map span_saved done ++ span_saved p = flat_map-append span_saved done (p ∷ []) ∙
+    ap (λ (l : List ℕ). flat_map span_saved done ++ l) (append-nil (span_saved p)) in
+    read ∙ (ap (λ (l : List ℕ). flat_map span_saved done ++ l) here ∙
+    (sym (append_assoc (flat_map span_saved done) (span_saved p) behind) ∙ ap (λ (l : List ℕ). l ++ behind)
+    (sym one ∙ ap (flat_map span_saved) (sym is))))
 
 -- ---- reading all of them
 pub both_some : {A : Type 0} (P Q R : A → Type 0) (r : Option A) → IfSome r P → IfSome r Q → ((a : A) → P a → Q a → R a) → IfSome r R
 both_some P Q R None p q f = tt
 both_some P Q R (Some a) p q f = f a p q
 
-pub counted : (bytes : List ℕ) → 2 ≤ length bytes → ((i : ℕ) → get_or bytes i 0 < 256) → bytes ≡ low_bytes 2 (little_endian (take 2 bytes)) ++ take (length bytes - 2) (drop 2 bytes)
+pub counted : (bytes : List ℕ) → 2 ≤ length bytes → ((i : ℕ) → get_or bytes i 0 < 256) → bytes ≡ low_bytes 2 (little_endian (take 2 bytes))
+    ++ take (length bytes - 2) (drop 2 bytes)
 counted bytes long each =
     let small : All (λ b. b < 256) bytes = All-from_get_or (λ b. b < 256) bytes 0 (λ i h. each i) in
     let size : length (take 2 bytes) ≡ 2 = length-take-le 2 bytes long in
-    let back : low_bytes 2 (little_endian (take 2 bytes)) ≡ take 2 bytes = ap (λ (n : ℕ). low_bytes n (little_endian (take 2 bytes))) (sym size) ∙ low_bytes-little_endian (take 2 bytes) (All-take (λ b. b < 256) 2 bytes small) in
-    sym (take-append-drop 2 bytes) ∙ (ap (λ (l : List ℕ). l ++ drop 2 bytes) (sym back) ∙ ap (λ (l : List ℕ). low_bytes 2 (little_endian (take 2 bytes)) ++ l) (sym (all_behind 2 bytes)))
+    let back : low_bytes 2 (little_endian (take 2 bytes)) ≡ take 2 bytes = ap (λ (n : ℕ). low_bytes n (little_endian (take 2 bytes)))
+    (sym size) ∙ low_bytes-little_endian (take 2 bytes) (All-take (λ b. b < 256) 2 bytes small) in
+    sym (take-append-drop 2 bytes) ∙ (ap (λ (l : List ℕ). l ++ drop 2 bytes) (sym back) ∙ ap
+    (λ (l : List ℕ). low_bytes 2 (little_endian (take 2 bytes)) ++ l) (sym (all_behind 2 bytes)))
 
-pub all_read : (bytes rest behind : List ℕ) (count : ℕ) (spans : List Span) → bytes ≡ low_bytes 2 count ++ rest → rest ≡ flat_map span_saved spans ++ behind → length spans ≡ count → bytes ≡ spans_saved spans ++ behind
+pub all_read : (bytes rest behind : List ℕ) (count : ℕ) (spans : List Span) → bytes ≡ low_bytes 2 count ++ rest → rest ≡ flat_map span_saved
+    spans ++ behind → length spans ≡ count → bytes ≡ spans_saved spans ++ behind
 all_read bytes rest behind count spans begins read size =
-    begins ∙ (ap (λ (l : List ℕ). low_bytes 2 count ++ l) read ∙ (ap (λ (n : ℕ). low_bytes 2 n ++ (flat_map span_saved spans ++ behind)) (sym size) ∙ sym (append_assoc (low_bytes 2 (length spans)) (flat_map span_saved spans) behind)))
+    begins ∙ (ap (λ (l : List ℕ). low_bytes 2 count ++ l) read ∙
+    (ap (λ (n : ℕ). low_bytes 2 n ++ (flat_map span_saved spans ++ behind)) (sym size) ∙ sym
+    (append_assoc (low_bytes 2 (length spans)) (flat_map span_saved spans) behind)))

@@ -1,5 +1,6 @@
 -- Values of arrays that addresses name, and what an update of an array answers and copies.
-use Rattle.std.specs.Prelude.{ℕ, ◌+◌, ◌-◌, ◌≤◌, ◌*◌, ◌/◌, ◌%◌, ◌^◌, nat_lt, nat_le, List, [], ◌∷◌, ◌++◌, Option, Some, None, ◌==◌, if◌then◌else◌, take, drop, replicate}
+use Rattle.std.specs.Prelude.{ℕ, ◌+◌, ◌-◌, ◌≤◌, ◌*◌, ◌/◌, ◌%◌, ◌^◌, nat_lt, nat_le, List, [], ◌∷◌, ◌++◌, Option, Some, None, ◌==◌}
+use Rattle.std.specs.Prelude.{if◌then◌else◌, take, drop, replicate}
 use Rattle.bpf_base.specs.Bytes.{little_endian}
 use Rattle.bpf_shared.specs.declared.events.Event.{Event}
 use Rattle.bpf_shared.specs.declared.events.Event.TheVariants.{Store}

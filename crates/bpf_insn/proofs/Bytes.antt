@@ -18,7 +18,8 @@ word_at-bytes : (w : Word) (rest : List ℕ) → IsNarrow w → word_at (word_by
 word_at-bytes w rest h =
     let d = h.dst in
     let s = h.src in
-    word_is _ w refl (omega arith) (omega arith) (little_number-reads_back 2 w.offset (little_bytes 4 w.imm ++ rest) h.offset) (little_number-reads_back 4 w.imm rest h.imm)
+    word_is _ w refl (omega arith) (omega arith) (little_number-reads_back 2 w.offset (little_bytes 4 w.imm ++ rest) h.offset)
+    (little_number-reads_back 4 w.imm rest h.imm)
 
 next_of : (bytes : List ℕ) → 16 ≤ length bytes → next_at bytes ≡ Some (word_at (drop 8 bytes))
 next_of bytes h = rw (le-ltb (length bytes) 16 h) refl
@@ -30,11 +31,18 @@ record Splits (s : Encoding) (w : Word) (rest bytes : List ℕ) : Type 0 where
   next : IsFollowed s (next_at bytes)
   rest_is : drop (8 * word_count s) bytes ≡ rest
 
-splits : (s : Encoding) (w : Word) (rest : List ℕ) → IsNarrow w → IfSome (second_word s) IsNarrow → Splits s w rest ((word_bytes w ++ second_bytes (second_word s)) ++ rest)
+splits : (s : Encoding) (w : Word) (rest : List ℕ) → IsNarrow w → IfSome (second_word s) IsNarrow → Splits s w rest
+    ((word_bytes w ++ second_bytes (second_word s)) ++ rest)
 splits Basic w rest h k = record { long = omega arith; first = word_at-bytes w rest h; next = tt; rest_is = refl }
 splits (Wide f) w rest h k =
     let v : Word = record { opcode = 0; dst = 0; src = 0; offset = 0; imm = value_of f } in
-    record { long = omega arith; first = word_at-bytes w (word_bytes v ++ rest) h; next = next_of (word_bytes w ++ (word_bytes v ++ rest)) (omega arith) ∙ ap (λ (x : Word). Some x) (word_at-bytes v rest k); rest_is = refl }
+    record {
+      long = omega arith;
+      first = word_at-bytes w (word_bytes v ++ rest) h;
+      next = next_of (word_bytes w ++ (word_bytes v ++ rest))
+          (omega arith) ∙ ap (λ (x : Word). Some x) (word_at-bytes v rest k);
+      rest_is = refl;
+    }
 
 -- what is written goes before whatever instructions follow
 pub record IsWritten (insns : List Insn) (bytes : List ℕ) : Type 0 where
@@ -43,7 +51,8 @@ pub record IsWritten (insns : List Insn) (bytes : List ℕ) : Type 0 where
 pub written_none : (bytes : List ℕ) → bytes ≡ [] → IsWritten [] bytes
 written_none bytes e = record { encoded = λ tail rest c. rw e c }
 
-pub written_next : (insns : List Insn) (k : ℕ) (d : Insn) (old new : List ℕ) → k < length insns → IsWritten (take k insns) old → new ≡ old ++ insn_bytes (get_or insns k d) → IsWritable (get_or insns k d) → IsWritten (take (k + 1) insns) new
+pub written_next : (insns : List Insn) (k : ℕ) (d : Insn) (old new : List ℕ) → k < length insns → IsWritten (take k insns) old → new ≡ old
+    ++ insn_bytes (get_or insns k d) → IsWritable (get_or insns k d) → IsWritten (take (k + 1) insns) new
 written_next insns k d old new l w e h = record {
   encoded = λ tail rest c.
       let i = get_or insns k d in

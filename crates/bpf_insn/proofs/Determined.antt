@@ -1,5 +1,6 @@
 -- What bytes stand for is one thing alone.
-use Rattle.std.proofs.Common.{◌≡◌, ◌≢◌, ℕ, ◌+◌, ◌*◌, ◌/◌, ◌%◌, ◌<◌, ◌≤◌, nat_eq, cond, List, [], ◌∷◌, ◌++◌, length, drop, Some, refl, sym, ap, subst, ◌∙◌, arith, All}
+use Rattle.std.proofs.Common.{◌≡◌, ◌≢◌, ℕ, ◌+◌, ◌*◌, ◌/◌, ◌%◌, ◌<◌, ◌≤◌, nat_eq, cond, List, [], ◌∷◌, ◌++◌, length, drop, Some, refl, sym}
+use Rattle.std.proofs.Common.{ap, subst, ◌∙◌, arith, All}
 use Rattle.std.proofs.lemmas.Bool.{le-ltb}
 use Rattle.std.proofs.lemmas.List.{drop-drop, length-drop}
 use Rattle.std.proofs.lemmas.List.Elements.{All-drop}
@@ -66,25 +67,30 @@ rejoined bytes small l = absurd (omega arith)
 
 one_word : (a b : List ℕ) → All (λ x. x < 256) a → All (λ x. x < 256) b → 8 ≤ length a → 8 ≤ length b → word_at a ≡ word_at b → drop 8 a ≡ drop 8 b → a ≡ b
 one_word a b x y k l w r =
-    let front : word_bytes (word_at a) ++ drop 8 a ≡ word_bytes (word_at b) ++ drop 8 b = ap (λ (v : Word). word_bytes v ++ drop 8 a) w ∙ ap (λ (v : List ℕ). word_bytes (word_at b) ++ v) r in
+    let front : word_bytes (word_at a) ++ drop 8 a ≡ word_bytes (word_at b) ++ drop 8 b = ap (λ (v : Word). word_bytes v ++ drop 8 a) w ∙ ap
+    (λ (v : List ℕ). word_bytes (word_at b) ++ v) r in
     sym (rejoined a x k) ∙ front ∙ rejoined b y l
 
 next_of : (bytes : List ℕ) → 16 ≤ length bytes → next_at bytes ≡ Some (word_at (drop 8 bytes))
 next_of bytes h = rw (le-ltb (length bytes) 16 h) refl
 
-one_front_bytes : (s : Encoding) (a b : List ℕ) → All (λ x. x < 256) a → All (λ x. x < 256) b → 8 * word_count s ≤ length a → 8 * word_count s ≤ length b → word_at a ≡ word_at b → IsFollowed s (next_at a) → IsFollowed s (next_at b) → drop (8 * word_count s) a ≡ drop (8 * word_count s) b → a ≡ b
+one_front_bytes : (s : Encoding) (a b : List ℕ) → All (λ x. x < 256) a → All (λ x. x < 256) b → 8 * word_count s ≤ length a → 8 * word_count
+    s ≤ length b → word_at a ≡ word_at b → IsFollowed s (next_at a) → IsFollowed s (next_at b) → drop (8 * word_count s) a ≡ drop
+    (8 * word_count s) b → a ≡ b
 one_front_bytes Basic a b x y k l w f g r = one_word a b x y (omega arith) (omega arith) w r
 one_front_bytes (Wide h) a b x y k l w f g r =
     let both : Some (word_at (drop 8 a)) ≡ Some (word_at (drop 8 b)) = sym (next_of a k) ∙ f ∙ sym g ∙ next_of b l in
     let second : word_at (drop 8 a) ≡ word_at (drop 8 b) = cc in
     let rest : drop 8 (drop 8 a) ≡ drop 8 (drop 8 b) = drop-drop 8 8 a ∙ r ∙ sym (drop-drop 8 8 b) in
-    let behind : drop 8 a ≡ drop 8 b = one_word (drop 8 a) (drop 8 b) (All-drop (λ x. x < 256) 8 a x) (All-drop (λ x. x < 256) 8 b y) (omega (arith, length-drop 8 a)) (omega (arith, length-drop 8 b)) second rest in
+    let behind : drop 8 a ≡ drop 8 b = one_word (drop 8 a) (drop 8 b) (All-drop (λ x. x < 256) 8 a x) (All-drop (λ x. x < 256) 8 b y)
+    (omega (arith, length-drop 8 a)) (omega (arith, length-drop 8 b)) second rest in
     one_word a b x y (omega arith) (omega arith) w behind
 
 one_encoding : (is : List Insn) (a b : List ℕ) → All (λ x. x < 256) a → All (λ x. x < 256) b → IsEncodedAs is a → IsEncodedAs is b → a ≡ b
 one_encoding [] a b x y c d = c ∙ sym d
 one_encoding (i ∷ is) a b x y c d =
-    let rest = one_encoding is (drop (8 * words i) a) (drop (8 * words i) b) (All-drop (λ x. x < 256) (8 * words i) a x) (All-drop (λ x. x < 256) (8 * words i) b y) c.1 d.1 in
+    let rest = one_encoding is (drop (8 * words i) a) (drop (8 * words i) b) (All-drop (λ x. x < 256) (8 * words i) a x)
+    (All-drop (λ x. x < 256) (8 * words i) b y) c.1 d.1 in
     one_front_bytes (row_of i).encoding a b x y c.0.long d.0.long (c.0.written.first ∙ sym d.0.written.first) c.0.written.second d.0.written.second rest
 
 pub encodings_are_determined : EncodingsAreDetermined
@@ -176,7 +182,8 @@ only_ragged error.TooLong bytes z n r = absurd (z r.0)
 only_ragged error.OutOfMemory bytes z n r = absurd (n refl)
 only_ragged e bytes z n r = absurd (z r.0.whole)
 
-only_long : (e : InsnError) (bytes : List ℕ) → length bytes % 8 ≡ 0 → 8 * max_words < length bytes → e ≢ error.OutOfMemory → IsRefused e bytes → error.TooLong ≡ e
+only_long : (e : InsnError) (bytes : List ℕ) → length bytes % 8 ≡ 0 → 8 * max_words < length bytes → e ≢ error.OutOfMemory → IsRefused e
+    bytes → error.TooLong ≡ e
 only_long error.Empty bytes w z n r = let none : length bytes ≡ 0 = ap length r in absurd (omega arith)
 only_long (error.Ragged k) bytes w z n r = absurd (r.1 w)
 only_long error.TooLong bytes w z n r = refl
@@ -213,5 +220,6 @@ only_memory is e bytes s c r = absurd (refusals_are_determined.1 bytes is e (λ 
 pub encodings_are_decoded : EncodingsAreDecoded
 encodings_are_decoded is bytes some few c =
     let long = encoded_length is bytes c in
-    let sized : IsSized bytes = record { some = λ e. let none : length bytes ≡ 0 = ap length e in absurd (omega arith); whole = omega arith; bounded = omega arith } in
+    let sized : IsSized bytes = record
+    { some = λ e. let none : length bytes ≡ 0 = ap length e in absurd (omega arith); whole = omega arith; bounded = omega arith } in
     (sized, λ js d. one_list js is bytes d c, λ e r. only_memory is e bytes sized c r)

@@ -2,8 +2,10 @@
 use Rattle.std.proofs.Common.{◌≡◌, ℤ, ◌+◌, ◌*◌, ◌^◌, Option, Some, refl, sym, ap, ◌∙◌}
 use Rattle.bpf_insn.specs.Table.{row_of}
 use Rattle.bpf_insn.specs.Refusal.{IsOfRow}
-use Rattle.bpf_insn.specs.Private.Lookup.{alu_op_at, extension_at, byte_swap_at, swap_width_at, condition_at, size_at, signed_size_at, atomic_width_at, atomic_op_at}
-use Rattle.bpf_insn.specs.Private.Candidate.{dst_of, src_of, offset_of, imm_of, high_of, alu_at, swap_bytes_at, arithmetic_at, jump_if_at, jumps_at, loads_at, immediate_stores_at, stores_at, candidate_at}
+use Rattle.bpf_insn.specs.Private.Lookup.{alu_op_at, extension_at, byte_swap_at, swap_width_at, condition_at, size_at, signed_size_at}
+use Rattle.bpf_insn.specs.Private.Lookup.{atomic_width_at, atomic_op_at}
+use Rattle.bpf_insn.specs.Private.Candidate.{dst_of, src_of, offset_of, imm_of, high_of, alu_at, swap_bytes_at, arithmetic_at, jump_if_at}
+use Rattle.bpf_insn.specs.Private.Candidate.{jumps_at, loads_at, immediate_stores_at, stores_at, candidate_at}
 use Rattle.bpf_insn.specs.declared.register.Reg.{Reg}
 use Rattle.bpf_insn.specs.declared.operation.widths.Width.{Width}
 use Rattle.bpf_insn.specs.declared.operation.widths.Width.TheVariants.{Bits32, Bits64}

@@ -45,7 +45,8 @@ half j w o c n = record { applies = (j, o, n); lowest = λ g a. omega arith; lea
     least ReservedNotZero a = absurd (a.2 (clean_by_shape (row_of j) (row_of a.0) w (one_shape j a.0 w o a.1) c))
     least g a = omega arith
 
-misnamed : (j : Insn) (w : Window) → IsOfRow (row_of j) w.word → IsClean (row_of j) w → IsWhole (row_of j).encoding w.next → ¬ HasRegisters (row_of j) w.word → IsFirstAmiss w BadRegister
+misnamed : (j : Insn) (w : Window) → IsOfRow (row_of j) w.word → IsClean (row_of j) w → IsWhole (row_of j).encoding w.next → ¬ HasRegisters
+    (row_of j) w.word → IsFirstAmiss w BadRegister
 misnamed j w o c h n = record { applies = (j, o, n); lowest = λ g a. omega arith; least = λ g a s. least g a }
   where
     least : (g : Fault) → IsAmiss w g → 7 ≤ error_number (error_at g 0)
@@ -80,4 +81,5 @@ pub none_amiss : (f : Fault) (j : Insn) (w : Window) → IsWrittenAs j w → ¬ 
 none_amiss UnknownOpcode j w p a = a j (written_of_row j w p)
 none_amiss ReservedNotZero j w p a = a.2 (clean_by_shape (row_of j) (row_of a.0) w (one_shape j a.0 w (written_of_row j w p) a.1) (written_clean j w p))
 none_amiss HalfWide j w p a = a.2 (whole_by_shape (row_of j) (row_of a.0) w.next (one_shape j a.0 w (written_of_row j w p) a.1) (written_whole j w p))
-none_amiss BadRegister j w p a = a.2 (registers_by_shape (row_of j) (row_of a.0) w.word (one_shape j a.0 w (written_of_row j w p) a.1) (written_registers j w p))
+none_amiss BadRegister j w p a = a.2 (registers_by_shape (row_of j) (row_of a.0) w.word (one_shape j a.0 w (written_of_row j w p) a.1)
+    (written_registers j w p))

@@ -1,5 +1,6 @@
 -- One more instruction of a program.
-use Rattle.std.proofs.Common.{◌≡◌, ℕ, ◌+◌, ◌*◌, ◌/◌, ◌%◌, ◌<◌, ◌≤◌, Bool, true, false, cond, ltb, List, [], ◌∷◌, ◌++◌, length, drop, Some, None, refl, sym, ap, subst, ◌∙◌, arith, append_assoc}
+use Rattle.std.proofs.Common.{◌≡◌, ℕ, ◌+◌, ◌*◌, ◌/◌, ◌%◌, ◌<◌, ◌≤◌, Bool, true, false, cond, ltb, List, [], ◌∷◌, ◌++◌, length, drop, Some}
+use Rattle.std.proofs.Common.{None, refl, sym, ap, subst, ◌∙◌, arith, append_assoc}
 use Rattle.std.proofs.lemmas.Bool.{ltb-false}
 use Rattle.std.proofs.lemmas.List.{drop-drop, length-drop, append-nil}
 use Rattle.bpf_insn.specs.declared.instruction.Insn.{Insn}
@@ -18,7 +19,8 @@ use Rattle.bpf_insn.proofs.Law.{one_written, none_amiss}
 -- ---- at the front of some bytes
 
 -- an instruction of two words has them both
-long_by : (s : Encoding) (bytes : List ℕ) (b : Bool) → ltb (length bytes) 16 ≡ b → 8 ≤ length bytes → IsFollowed s (cond b None (Some (word_at (drop 8 bytes)))) → 8 * word_count s ≤ length bytes
+long_by : (s : Encoding) (bytes : List ℕ) (b : Bool) → ltb (length bytes) 16 ≡ b → 8 ≤ length bytes → IsFollowed s
+    (cond b None (Some (word_at (drop 8 bytes)))) → 8 * word_count s ≤ length bytes
 long_by Basic bytes b e h n = omega arith
 long_by (Wide f) bytes true e h n = absurd cc
 long_by (Wide f) bytes false e h n = let long = ltb-false _ _ e in omega (arith, long)
@@ -61,13 +63,15 @@ start bytes h = record {
 }
 
 -- what begins with this instruction is encoded as it and some more
-rest_only : (i : Insn) (is : List Insn) (rest : List ℕ) → BeginsWith i rest → 8 ≤ length rest → IsEncodedAs is rest → (more : List Insn) × (is ≡ i ∷ more) × IsEncodedAs more (drop (8 * words i) rest)
+rest_only : (i : Insn) (is : List Insn) (rest : List ℕ) → BeginsWith i rest → 8 ≤ length rest → IsEncodedAs is rest → (more : List Insn) ×
+    (is ≡ i ∷ more) × IsEncodedAs more (drop (8 * words i) rest)
 rest_only i [] rest b l c = absurd (let e : length rest ≡ 0 = ap length c in omega arith)
 rest_only i (j ∷ js) rest b l c =
     let e : j ≡ i = one_front j i rest c.0 b in
     (js, ap (λ (x : Insn). x ∷ js) e, subst (λ (x : Insn). IsEncodedAs js (drop (8 * words x) rest)) e c.1)
 
-step : (bytes rest : List ℕ) (insns : List Insn) (pc : ℕ) (i : Insn) → Progress bytes rest insns pc → BeginsWith i rest → 8 ≤ length rest → Progress bytes (drop (8 * words i) rest) (insns ++ i ∷ []) (pc + words i)
+step : (bytes rest : List ℕ) (insns : List Insn) (pc : ℕ) (i : Insn) → Progress bytes rest insns pc → BeginsWith i rest → 8 ≤ length rest →
+    Progress bytes (drop (8 * words i) rest) (insns ++ i ∷ []) (pc + words i)
 step bytes rest insns pc i p b l = record {
   position = let long = b.long in let at = p.position in omega (arith, length-drop (8 * words i) rest);
   whole = let long = b.long in let w = p.whole in omega (arith, length-drop (8 * words i) rest);
@@ -95,10 +99,12 @@ all_read : (bytes rest : List ℕ) (insns : List Insn) (pc : ℕ) → Progress b
 all_read bytes rest insns pc p r = let P = λ (x : List Insn). IsEncodedAs x bytes in subst P (append-nil insns) (p.before [] r)
 
 -- where something is wrong, the bytes encode nothing
-none_at_all : (bytes rest : List ℕ) (insns is : List Insn) (pc : ℕ) (f : Fault) → Progress bytes rest insns pc → 8 ≤ length rest → IsFirstAmiss (window_at rest) f → IsEncodedAs is bytes → ⊥
+none_at_all : (bytes rest : List ℕ) (insns is : List Insn) (pc : ℕ) (f : Fault) → Progress bytes rest insns pc → 8 ≤ length rest →
+    IsFirstAmiss (window_at rest) f → IsEncodedAs is bytes → ⊥
 none_at_all bytes rest insns is pc f p l e c = let m = p.only is c in no_front rest m.0 f l e m.2
 
-wrong_here : (bytes rest : List ℕ) (insns : List Insn) (pc : ℕ) (f : Fault) → Progress bytes rest insns pc → 8 ≤ length rest → IsFirstAmiss (window_at rest) f → IsWrong pc f bytes
+wrong_here : (bytes rest : List ℕ) (insns : List Insn) (pc : ℕ) (f : Fault) → Progress bytes rest insns pc → 8 ≤ length rest → IsFirstAmiss
+    (window_at rest) f → IsWrong pc f bytes
 wrong_here bytes rest insns pc f p l e =
     let z : pc + 0 ≡ pc = omega arith in
     let P = λ (n : ℕ). IsWrong n f bytes in
@@ -119,10 +125,12 @@ rest_none (x ∷ xs) e = absurd (omega arith)
 pub reached_start : (bytes : List ℕ) → length bytes % 8 ≡ 0 → Reached bytes [] 0
 reached_start bytes h = record { progress = start bytes h }
 
-pub reached_next : (bytes : List ℕ) (insns new : List Insn) (pc n : ℕ) (i : Insn) → Reached bytes insns pc → pc < length bytes / 8 → BeginsWith i (drop (8 * pc) bytes) → new ≡ insns ++ i ∷ [] → n ≡ words i → Reached bytes new (pc + n)
+pub reached_next : (bytes : List ℕ) (insns new : List Insn) (pc n : ℕ) (i : Insn) → Reached bytes insns pc → pc < length bytes / 8 →
+    BeginsWith i (drop (8 * pc) bytes) → new ≡ insns ++ i ∷ [] → n ≡ words i → Reached bytes new (pc + n)
 reached_next bytes insns new pc n i r l b a c =
     let p = step bytes (drop (8 * pc) bytes) insns pc i r.progress b (rest_long bytes pc l) in
-    let at : drop (8 * words i) (drop (8 * pc) bytes) ≡ drop (8 * (pc + words i)) bytes = drop-drop (8 * words i) (8 * pc) bytes ∙ ap (λ (k : ℕ). drop k bytes) (omega arith) in
+    let at : drop (8 * words i) (drop (8 * pc) bytes) ≡ drop (8 * (pc + words i)) bytes = drop-drop (8 * words i) (8 * pc) bytes ∙ ap
+    (λ (k : ℕ). drop k bytes) (omega arith) in
     rw (a, c) (record { progress = subst (λ (x : List ℕ). Progress bytes x (insns ++ i ∷ []) (pc + words i)) at p })
 
 -- at the end of the bytes
@@ -148,7 +156,8 @@ refused_by bytes pc ReservedNotZero s w = (s, w)
 refused_by bytes pc HalfWide s w = (s, w)
 refused_by bytes pc BadRegister s w = (s, w)
 
-pub reached_wrong : (bytes : List ℕ) (insns : List Insn) (pc : ℕ) (e : InsnError) → Reached bytes insns pc → IsSized bytes → pc < length bytes / 8 → IsRefusedAt e pc bytes → Ends bytes e
+pub reached_wrong : (bytes : List ℕ) (insns : List Insn) (pc : ℕ) (e : InsnError) → Reached bytes insns pc → IsSized bytes → pc < length
+    bytes / 8 → IsRefusedAt e pc bytes → Ends bytes e
 reached_wrong bytes insns pc e r s h x =
     let long = rest_long bytes pc h in
     let wrong = wrong_here bytes _ insns pc x.fault r.progress long x.first in
@@ -156,9 +165,11 @@ reached_wrong bytes insns pc e r s h x =
 
 -- ---- the answer at a pc, from the answer at its words
 
-pub begins_at : (bytes : List ℕ) (pc : ℕ) (w : Window) (i : Insn) → 8 * pc + 8 ≤ length bytes → w ≡ window_at (drop (8 * pc) bytes) → IsWord i w → BeginsWith i (drop (8 * pc) bytes)
+pub begins_at : (bytes : List ℕ) (pc : ℕ) (w : Window) (i : Insn) → 8 * pc + 8 ≤ length bytes → w ≡ window_at (drop (8 * pc) bytes) → IsWord
+    i w → BeginsWith i (drop (8 * pc) bytes)
 begins_at bytes pc w i l a x =
     begins i (drop (8 * pc) bytes) (omega (arith, length-drop (8 * pc) bytes)) (subst (λ (v : Window). IsWord i v) a x)
 
-pub refused_at : (bytes : List ℕ) (pc : ℕ) (w : Window) (f : Fault) (e : InsnError) → w ≡ window_at (drop (8 * pc) bytes) → IsFirstAmiss w f → e ≡ error_at f pc → IsRefusedAt e pc bytes
+pub refused_at : (bytes : List ℕ) (pc : ℕ) (w : Window) (f : Fault) (e : InsnError) → w ≡ window_at (drop (8 * pc) bytes) → IsFirstAmiss w f
+    → e ≡ error_at f pc → IsRefusedAt e pc bytes
 refused_at bytes pc w f e a x n = record { fault = f; named = n; first = subst (λ (v : Window). IsFirstAmiss v f) a x }

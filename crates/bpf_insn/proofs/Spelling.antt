@@ -122,8 +122,10 @@ held (insn.SignExtend x d s) w p f = held_by (insn.SignExtend x d s) w p (rw (re
 held (insn.SwapBytes k b d) w p f = held_by (insn.SwapBytes k b d) w p (rw (register_at-number d) refl)
 held (insn.Jump o) w p f = held_by (insn.Jump o) w p (rw (to_z-of_z w16 o f) refl)
 held (insn.JumpLong n) w p f = held_by (insn.JumpLong n) w p (rw (to_z-of_z w32 n f) refl)
-held (insn.JumpIf width c d (Immediate n) o) w p f = held_by (insn.JumpIf width c d (Immediate n) o) w p (rw (register_at-number d, to_z-of_z w32 n f.0, to_z-of_z w16 o f.1) refl)
-held (insn.JumpIf width c d (Register s) o) w p f = held_by (insn.JumpIf width c d (Register s) o) w p (rw (register_at-number d, register_at-number s, to_z-of_z w16 o f) refl)
+held (insn.JumpIf width c d (Immediate n) o) w p f = held_by (insn.JumpIf width c d (Immediate n) o) w p
+    (rw (register_at-number d, to_z-of_z w32 n f.0, to_z-of_z w16 o f.1) refl)
+held (insn.JumpIf width c d (Register s) o) w p f = held_by (insn.JumpIf width c d (Register s) o) w p
+    (rw (register_at-number d, register_at-number s, to_z-of_z w16 o f) refl)
 held (insn.CallHelper n) w p f = held_by (insn.CallHelper n) w p refl
 held (insn.CallLocal n) w p f = held_by (insn.CallLocal n) w p (rw (to_z-of_z w32 n f) refl)
 held insn.Exit w p f = refl
@@ -163,7 +165,8 @@ fixed_x alu.Add = tt
 fixed_x op = tt
 
 -- the second word of a number, and of a map
-second_number : (next : Option Word) (n m : ℕ) → IsWhole (Wide (Holds n)) next → IsZeroedSecond (Wide (Holds n)) next → high_of next ≡ m → next ≡ second_word (Wide (Holds m))
+second_number : (next : Option Word) (n m : ℕ) → IsWhole (Wide (Holds n)) next → IsZeroedSecond (Wide (Holds n)) next → high_of next ≡ m →
+    next ≡ second_word (Wide (Holds m))
 second_number None n m h z k = absurd (h refl)
 second_number (Some v) n m h z k = ap (λ (x : Word). Some x) (word_is v _ z.0 z.1 z.2 z.3 k)
 
@@ -181,16 +184,21 @@ s_is w h = sym (register-there w.src h)
 narrow : (i : Insn) (w : Window) → IsFollowed (row_of i).encoding w.next → w.word ≡ first_word (row_of i) → IsWrittenAs i w
 narrow i w n e = record { first = e; second = n }
 
-pub passing : (i : Insn) (w : Window) → IsNarrow w.word → IsOfRow (row_of i) w.word → IsClean (row_of i) w → IsWhole (row_of i).encoding w.next → HasRegisters (row_of i) w.word → IsWrittenAs (rebuilt i w.word w.next) w
-passing (insn.Alu width op d (Immediate n)) w k e z h r = narrow _ w tt (word_is w.word _ e.opcode (d_is w.word r.dst) z.src (fixed_value (offset_k op) w.word.offset (fixed_k op) e.offset z.offset) (back32 _ k.imm))
-passing (insn.Alu width op d (Register s)) w k e z h r = narrow _ w tt (word_is w.word _ e.opcode (d_is w.word r.dst) (s_is w.word r.src) (fixed_value (offset_x op) w.word.offset (fixed_x op) e.offset z.offset) z.imm)
+pub passing : (i : Insn) (w : Window) → IsNarrow w.word → IsOfRow (row_of i) w.word → IsClean (row_of i) w → IsWhole (row_of i).encoding
+    w.next → HasRegisters (row_of i) w.word → IsWrittenAs (rebuilt i w.word w.next) w
+passing (insn.Alu width op d (Immediate n)) w k e z h r = narrow _ w tt
+    (word_is w.word _ e.opcode (d_is w.word r.dst) z.src (fixed_value (offset_k op) w.word.offset (fixed_k op) e.offset z.offset) (back32 _ k.imm))
+passing (insn.Alu width op d (Register s)) w k e z h r = narrow _ w tt
+    (word_is w.word _ e.opcode (d_is w.word r.dst) (s_is w.word r.src) (fixed_value (offset_x op) w.word.offset (fixed_x op) e.offset z.offset) z.imm)
 passing (insn.Negate width d) w k e z h r = narrow _ w tt (word_is w.word _ e.opcode (d_is w.word r.dst) z.src z.offset z.imm)
 passing (insn.SignExtend x d s) w k e z h r = narrow _ w tt (word_is w.word _ e.opcode (d_is w.word r.dst) (s_is w.word r.src) e.offset z.imm)
 passing (insn.SwapBytes b c d) w k e z h r = narrow _ w tt (word_is w.word _ e.opcode (d_is w.word r.dst) z.src z.offset e.imm)
 passing (insn.Jump o) w k e z h r = narrow _ w tt (word_is w.word _ e.opcode z.dst z.src (back16 _ k.offset) z.imm)
 passing (insn.JumpLong n) w k e z h r = narrow _ w tt (word_is w.word _ e.opcode z.dst z.src z.offset (back32 _ k.imm))
-passing (insn.JumpIf width c d (Immediate n) o) w k e z h r = narrow _ w tt (word_is w.word _ e.opcode (d_is w.word r.dst) z.src (back16 _ k.offset) (back32 _ k.imm))
-passing (insn.JumpIf width c d (Register s) o) w k e z h r = narrow _ w tt (word_is w.word _ e.opcode (d_is w.word r.dst) (s_is w.word r.src) (back16 _ k.offset) z.imm)
+passing (insn.JumpIf width c d (Immediate n) o) w k e z h r = narrow _ w tt
+    (word_is w.word _ e.opcode (d_is w.word r.dst) z.src (back16 _ k.offset) (back32 _ k.imm))
+passing (insn.JumpIf width c d (Register s) o) w k e z h r = narrow _ w tt
+    (word_is w.word _ e.opcode (d_is w.word r.dst) (s_is w.word r.src) (back16 _ k.offset) z.imm)
 passing (insn.CallHelper n) w k e z h r = narrow _ w tt (word_is w.word _ e.opcode z.dst e.src z.offset refl)
 passing (insn.CallLocal n) w k e z h r = narrow _ w tt (word_is w.word _ e.opcode z.dst e.src z.offset (back32 _ k.imm))
 passing insn.Exit w k e z h r = narrow _ w tt (word_is w.word _ e.opcode z.dst z.src z.offset z.imm)

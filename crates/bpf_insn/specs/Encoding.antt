@@ -1,5 +1,6 @@
 -- RFC 9669, section 3: instructions as bytes.
-use Rattle.std.specs.Prelude.{◌≡◌, ℕ, ◌*◌, ◌/◌, ◌%◌, ◌^◌, ◌≤◌, ◌<◌, List, [], ◌∷◌, length, drop, slice_index, Option, Some, None, if◌then◌else◌, nat_lt, FitsSigned}
+use Rattle.std.specs.Prelude.{◌≡◌, ℕ, ◌*◌, ◌/◌, ◌%◌, ◌^◌, ◌≤◌, ◌<◌, List, [], ◌∷◌, length, drop, slice_index, Option, Some, None}
+use Rattle.std.specs.Prelude.{if◌then◌else◌, nat_lt, FitsSigned}
 use Rattle.std.specs.Int.{w16, w32}
 use Rattle.byteorder.specs.Endian.{little_number}
 use Rattle.bpf_insn.specs.Table.{row_of, words}

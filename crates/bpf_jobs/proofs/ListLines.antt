@@ -10,7 +10,8 @@ use Rattle.bpf_machine.specs.Schedule.{World}
 use Rattle.bpf_jobs.specs.Printed.{key_word, key_words, list_line, cpu_lines, list_lines, lines_of_lists}
 
 -- one key more
-pub one_word_more : (keys : List (List ℕ)) (n : ℕ) (key old text new : List ℕ) → slice_get keys n ≡ Some key → text ≡ old ++ key_words n keys → new ≡ text ++ key_word key
+pub one_word_more : (keys : List (List ℕ)) (n : ℕ) (key old text new : List ℕ) → slice_get keys n ≡ Some key → text ≡ old ++ key_words n
+    keys → new ≡ text ++ key_word key
     → new ≡ old ++ key_words (n + 1) keys
 one_word_more keys n key old text new at so_far more =
     let read : slice_index_or keys n [] ≡ key = get_or_from_slice_get keys n key [] at in
@@ -20,7 +21,8 @@ one_word_more keys n key old text new at so_far more =
     ∙ ap (λ (x : List ℕ). old ++ (key_words n keys ++ key_word x)) (sym read))))
 
 -- one map more
-pub one_list_more : (cpu : ℕ) (names : List (List ℕ)) (lists : List Listed) (m : ℕ) (d : Listed) (name old text new : List ℕ) → m < length lists → d ≡ get_or lists m d → name ≡ slice_index_or names m []
+pub one_list_more : (cpu : ℕ) (names : List (List ℕ)) (lists : List Listed) (m : ℕ) (d : Listed) (name old text new : List ℕ) → m < length
+    lists → d ≡ get_or lists m d → name ≡ slice_index_or names m []
     → text ≡ old ++ cpu_lines cpu names m (map (λ list. list.keys) lists) → new ≡ text ++ list_line cpu name d.keys
     → new ≡ old ++ cpu_lines cpu names (m + 1) (map (λ list. list.keys) lists)
 one_list_more cpu names lists m d name old text new inside is named so_far more =
@@ -33,7 +35,8 @@ one_list_more cpu names lists m d name old text new inside is named so_far more 
     ∙ ap (λ (ks : List (List ℕ)). old ++ (cpu_lines cpu names m all ++ list_line cpu (slice_index_or names m []) ks)) (sym read)))))
 
 -- one CPU more
-pub one_cpu_more : (lists : ℕ → List (List (List ℕ))) (names : List (List ℕ)) (c n : ℕ) (found : List (List (List ℕ))) (text new : List ℕ) → found ≡ lists c → n ≡ length found
+pub one_cpu_more : (lists : ℕ → List (List (List ℕ))) (names : List (List ℕ)) (c n : ℕ) (found : List (List (List ℕ))) (text new : List ℕ) →
+    found ≡ lists c → n ≡ length found
     → text ≡ list_lines lists names c → new ≡ text ++ cpu_lines c names n found → new ≡ list_lines lists names (c + 1)
 one_cpu_more lists names c n found text new is many so_far more =
     let next : suc c ≡ c + 1 = omega arith in
@@ -42,7 +45,8 @@ one_cpu_more lists names c n found text new is many so_far more =
     ∙ ap (λ (x : List (List (List ℕ))). list_lines lists names c ++ cpu_lines c names (length x) x) is)))
 
 -- what a machine says of its lists is what the world that it shows has
-pub shown_lines : (m : MachineState) (w : World) (names : List (List ℕ)) (n : ℕ) → Shows m w → w.store.shape.cpus ≡ n → list_lines (λ c. made_keys (listing_at m.lists c)) names n ≡ lines_of_lists w names
+pub shown_lines : (m : MachineState) (w : World) (names : List (List ℕ)) (n : ℕ) → Shows m w → w.store.shape.cpus ≡ n → list_lines
+    (λ c. made_keys (listing_at m.lists c)) names n ≡ lines_of_lists w names
 shown_lines m w names n shows cpus =
     ap (list_lines (λ c. made_keys (listing_at m.lists c)) names) (sym cpus)
     ∙ ap (λ (f : ℕ → Listing). list_lines (λ c. made_keys (f c)) names w.store.shape.cpus) (sym shows.lists)

@@ -8,7 +8,8 @@ use Rattle.bpf_shared.specs.Store.{Plain}
 use Rattle.bpf_jobs.specs.Printed.{AreMapLines, key_lines}
 
 -- one map more
-pub one_map_more : (s : Plain) (names : List (List ℕ)) (m : ℕ) (pairs items : List (Vec ℕ Global × Vec ℕ Global)) (name text new : List ℕ) → items ≡ pairs → name ≡ slice_index_or names m []
+pub one_map_more : (s : Plain) (names : List (List ℕ)) (m : ℕ) (pairs items : List (Vec ℕ Global × Vec ℕ Global)) (name text new : List ℕ) →
+    items ≡ pairs → name ≡ slice_index_or names m []
     → AreMapLines s names m text → IsListing s m (listed pairs) → new ≡ text ++ key_lines name (length items) (listed items) → AreMapLines s names (m + 1) new
 one_map_more s names m pairs items name text new same named before lists more =
     let next : suc m ≡ m + 1 = omega arith in

@@ -15,7 +15,8 @@ one_map_text s names (suc m) text other a b =
     a.4 ∙ ap (λ (x : List ℕ). x ++ key_lines (slice_index_or names m []) (length a.1) a.1) before
     ∙ ap (λ (p : List Pair). b.0 ++ key_lines (slice_index_or names m []) (length p) p) pairs ∙ sym b.4
 
-pub one_asked : (maps : Bool) (s : Plain) (names : Names) (text other : List ℕ) → AreMapsAsked maps s names text → AreMapsAsked maps s names other → text ≡ other
+pub one_asked : (maps : Bool) (s : Plain) (names : Names) (text other : List ℕ) → AreMapsAsked maps s names text → AreMapsAsked maps s names
+    other → text ≡ other
 one_asked false s names text other a b = a ∙ sym b
 one_asked true s names text other a b =
     let lines = one_map_text s names.maps (length s.shape.maps) a.0 b.0 a.1 b.1 in

@@ -11,7 +11,8 @@ use Rattle.bpf_jobs.proofs.OneListing.{one_asked}
 
 -- what is printed of one machine
 one_told : (z y : World) (names : Names) (maps : Bool) (text other : List ℕ) (stopped halted : Bool) → z ≡ y
-    → TellsWith (lines_of_lists z names.maps) z.store z.jobs names maps text stopped → TellsWith (lines_of_lists y names.maps) y.store y.jobs names maps other halted
+    → TellsWith (lines_of_lists z names.maps) z.store z.jobs names maps text stopped → TellsWith (lines_of_lists y names.maps) y.store
+    y.jobs names maps other halted
     → (text ≡ other) × (stopped ≡ halted)
 one_told z y names maps text other stopped halted same a b =
     let P : World → Type 0 = λ z. TellsWith (lines_of_lists z names.maps) z.store z.jobs names maps other halted in

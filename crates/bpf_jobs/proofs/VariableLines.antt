@@ -1,5 +1,6 @@
 -- Lines of variables.
-use Rattle.std.proofs.Common.{◌≡◌, ℕ, zero, suc, ◌+◌, ◌<◌, ◌≤◌, Bool, false, true, ◌||◌, if◌then◌else◌, List, [], ◌∷◌, ◌++◌, Option, Some, None, length, map, drop, get_or, refl, sym, ap, append-nil, subst, ◌∙◌, arith}
+use Rattle.std.proofs.Common.{◌≡◌, ℕ, zero, suc, ◌+◌, ◌<◌, ◌≤◌, Bool, false, true, ◌||◌, if◌then◌else◌, List, [], ◌∷◌, ◌++◌, Option, Some}
+use Rattle.std.proofs.Common.{None, length, map, drop, get_or, refl, sym, ap, append-nil, subst, ◌∙◌, arith}
 use Rattle.std.specs.Prelude.{slice_get, slice_index}
 use Rattle.std.proofs.Math.Seq.{drop-cons}
 use Rattle.std.proofs.lemmas.List.{drop_all}
@@ -26,7 +27,8 @@ one_variable_more s vs i v text new inside is so_far more =
     let all = map variable_of vs in
     let line = variable_text s (variable_of v) (slice_get s.shape.arrays v.array) in
     subst (λ (n : ℕ). new ≡ variable_lines s all n) next
-    (more ∙ (ap (λ (t : List ℕ). t ++ line) so_far ∙ ap (λ (o : Option Variable). variable_lines s all i ++ line_of_variable s o) (sym (there vs i v inside is))))
+    (more ∙ (ap (λ (t : List ℕ). t ++ line) so_far ∙ ap (λ (o : Option Variable). variable_lines s all i ++ line_of_variable s o)
+    (sym (there vs i v inside is))))
 
 -- the line of one whose array may be written
 pub variable_open : (s : Plain) (v : Variable) (g : ArrayShape) → g.frozen ≡ false → IsArray s.shape.arrays v.array g
@@ -34,31 +36,38 @@ pub variable_open : (s : Plain) (v : Variable) (g : ArrayShape) → g.frozen ≡
 variable_open s v g is array = ap (variable_text s v) array ∙ ap (λ (b : Bool). if b then [] else variable_line v (s.value (fixed_number v.array 0 0)).bytes) is
 
 -- there is none of one whose array may only be read
-pub variable_closed : (s : Plain) (v : Variable) (g : ArrayShape) → g.frozen ≡ true → IsArray s.shape.arrays v.array g → variable_text s v (slice_get s.shape.arrays v.array) ≡ []
-variable_closed s v g is array = ap (variable_text s v) array ∙ ap (λ (b : Bool). if b then [] else variable_line v (s.value (fixed_number v.array 0 0)).bytes) is
+pub variable_closed : (s : Plain) (v : Variable) (g : ArrayShape) → g.frozen ≡ true → IsArray s.shape.arrays v.array g → variable_text s v
+    (slice_get s.shape.arrays v.array) ≡ []
+variable_closed s v g is array = ap (variable_text s v) array ∙ ap
+    (λ (b : Bool). if b then [] else variable_line v (s.value (fixed_number v.array 0 0)).bytes) is
 
 -- that of its number
-pub number_line : (s : Plain) (v : Variable) (g : ArrayShape) (value old new : List ℕ) → g.frozen ≡ false → IsArray s.shape.arrays v.array g → Some value ≡ Some (s.value (fixed_number v.array 0 0)).bytes
+pub number_line : (s : Plain) (v : Variable) (g : ArrayShape) (value old new : List ℕ) → g.frozen ≡ false → IsArray s.shape.arrays v.array g
+    → Some value ≡ Some (s.value (fixed_number v.array 0 0)).bytes
     → new ≡ old ++ variable_line v value → new ≡ old ++ variable_text s v (slice_get s.shape.arrays v.array)
 number_line s v g value old new written there found more =
     let same : value ≡ (s.value (fixed_number v.array 0 0)).bytes = cc in
     more ∙ (ap (λ (b : List ℕ). old ++ variable_line v b) same ∙ ap (λ (t : List ℕ). old ++ t) (sym (variable_open s v g written there)))
 
 -- and nothing
-pub no_line : (s : Plain) (v : Variable) (g : ArrayShape) (old : List ℕ) → g.frozen ≡ true → IsArray s.shape.arrays v.array g → old ≡ old ++ variable_text s v (slice_get s.shape.arrays v.array)
+pub no_line : (s : Plain) (v : Variable) (g : ArrayShape) (old : List ℕ) → g.frozen ≡ true → IsArray s.shape.arrays v.array g → old ≡ old ++
+    variable_text s v (slice_get s.shape.arrays v.array)
 no_line s v g old closed there = sym (append-nil old) ∙ ap (λ (t : List ℕ). old ++ t) (sym (variable_closed s v g closed there))
 
 -- ---- bytes of an array's first value
-at_byte : (c : Called) (bytes : List ℕ) (at : ℕ) → at < length bytes → is_set_outside c at (drop at bytes) ≡ (is_shown c at (slice_index bytes at) || is_set_outside c (at + 1) (drop (at + 1) bytes))
+at_byte : (c : Called) (bytes : List ℕ) (at : ℕ) → at < length bytes → is_set_outside c at (drop at bytes) ≡
+    (is_shown c at (slice_index bytes at) || is_set_outside c (at + 1) (drop (at + 1) bytes))
 at_byte c bytes at inside =
     let next : suc at ≡ at + 1 = omega arith in
     ap (is_set_outside c at) (drop-cons bytes at 0 inside)
     ∙ ap (λ (n : ℕ). is_shown c at (slice_index bytes at) || is_set_outside c (at + 1) (drop n bytes)) next
 
-pub byte_shown : (c : Called) (bytes : List ℕ) (at : ℕ) → at < length bytes → is_shown c at (slice_index bytes at) ≡ true → is_set_outside c at (drop at bytes) ≡ true
+pub byte_shown : (c : Called) (bytes : List ℕ) (at : ℕ) → at < length bytes → is_shown c at (slice_index bytes at) ≡ true → is_set_outside c
+    at (drop at bytes) ≡ true
 byte_shown c bytes at inside so = at_byte c bytes at inside ∙ ap (λ (b : Bool). b || is_set_outside c (at + 1) (drop (at + 1) bytes)) so
 
-pub byte_hidden : (c : Called) (bytes : List ℕ) (at : ℕ) → at < length bytes → is_shown c at (slice_index bytes at) ≡ false → is_set_outside c at (drop at bytes) ≡ is_set_outside c (at + 1) (drop (at + 1) bytes)
+pub byte_hidden : (c : Called) (bytes : List ℕ) (at : ℕ) → at < length bytes → is_shown c at (slice_index bytes at) ≡ false → is_set_outside
+    c at (drop at bytes) ≡ is_set_outside c (at + 1) (drop (at + 1) bytes)
 byte_hidden c bytes at inside so = at_byte c bytes at inside ∙ ap (λ (b : Bool). b || is_set_outside c (at + 1) (drop (at + 1) bytes)) so
 
 pub bytes_over : (c : Called) (bytes : List ℕ) (at : ℕ) → length bytes ≤ at → is_set_outside c at (drop at bytes) ≡ false

@@ -4,7 +4,8 @@ use Rattle.std.specs.Fmt.{decimal}
 use Rattle.std.specs.declared.alloc.Global.{Global}
 use Rattle.bpf_base.specs.Bytes.{little_endian}
 use Rattle.bpf_lines.specs.HexText.{IsHexOf}
-use Rattle.bpf_json.specs.Texts.{all_text, by_text, digits_members, exact_members, joined, line_at, line_member, line_of_job, member, text_member, truth, verdict}
+use Rattle.bpf_json.specs.Texts.{all_text, by_text, digits_members, exact_members, joined, line_at, line_member, line_of_job, member}
+use Rattle.bpf_json.specs.Texts.{text_member, truth, verdict}
 use Rattle.bpf_json.specs.declared.digits.Digits.{Digits}
 use Rattle.bpf_json.specs.declared.event.Call.{Call}
 use Rattle.bpf_json.specs.declared.event.Call.TheVariants as call

@@ -1,5 +1,6 @@
 -- Parts of printed lines, and of JSON (RFC 8259). Our own choice.
-use Rattle.std.specs.Prelude.{ℕ, Bool, List, [], ◌++◌, Option, Some, None, codes, map, nat_lt, not, ◌==◌, ◌&&◌, option_and_then, slice_get, string_bytes, if◌then◌else◌}
+use Rattle.std.specs.Prelude.{ℕ, Bool, List, [], ◌++◌, Option, Some, None, codes, map, nat_lt, not, ◌==◌, ◌&&◌, option_and_then, slice_get}
+use Rattle.std.specs.Prelude.{string_bytes, if◌then◌else◌}
 use Rattle.std.specs.Fmt.{decimal}
 use Rattle.bpf_json.specs.declared.digits.Digits.{Digits}
 use Rattle.bpf_json.specs.declared.known.Known.{Known}

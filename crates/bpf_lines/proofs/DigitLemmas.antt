@@ -15,10 +15,12 @@ grows base n (d ∷ ds) h =
     omega arith
 
 -- where one more digit doesn't fit, the number doesn't
-pub too_large_at : (base n : ℕ) (ds : List ℕ) (i x : ℕ) → 0 < base → i < length ds → digits_value_after base n (drop i ds) ≡ x → 2 ^ 64 ≤ n * base + digit_value (get_or ds i 0) → 2 ^ 64 ≤ x
+pub too_large_at : (base n : ℕ) (ds : List ℕ) (i x : ℕ) → 0 < base → i < length ds → digits_value_after base n (drop i ds) ≡ x → 2 ^ 64 ≤ n
+    * base + digit_value (get_or ds i 0) → 2 ^ 64 ≤ x
 too_large_at base n ds i x some within value large =
     let rest = grows base (n * base + digit_value (get_or ds i 0)) (drop (suc i) ds) some in
-    let step : digits_value_after base n (drop i ds) ≡ digits_value_after base (n * base + digit_value (get_or ds i 0)) (drop (suc i) ds) = ap (digits_value_after base n) (drop-cons ds i 0 within) in
+    let step : digits_value_after base n (drop i ds) ≡ digits_value_after base (n * base + digit_value (get_or ds i 0)) (drop (suc i) ds) =
+    ap (digits_value_after base n) (drop-cons ds i 0 within) in
     omega (arith, value, step, rest)
 
 -- after the last digit the number is read

@@ -101,7 +101,8 @@ module _ (shape : Shape) (cpu : ℕ) (memory : PrivateMemory) (held : List Span)
         let same = subst (λ (m : ℕ). Each Is (arguments_of m)) e arguments in
         let of_it : Of lookup_number xs = subst (λ (m : ℕ). Of m xs) e j in
         subst (λ (m : ℕ). Of m ys) (sym e)
-        (two lookup_number same.0 same.1.0 (lookup (slice_index xs 1) (slice_index xs 2) (slice_index xs 3) (slice_index xs 4) (slice_index ys 3) (slice_index ys 4) of_it))
+        (two lookup_number same.0 same.1.0 (lookup (slice_index xs 1) (slice_index xs 2) (slice_index xs 3) (slice_index xs 4)
+        (slice_index ys 3) (slice_index ys 4) of_it))
     calls_alike n (inr (inl e)) arguments j =
         let same = subst (λ (m : ℕ). Each Is (arguments_of m)) e arguments in
         let of_it : Of update_number xs = subst (λ (m : ℕ). Of m xs) e j in
@@ -110,8 +111,10 @@ module _ (shape : Shape) (cpu : ℕ) (memory : PrivateMemory) (held : List Span)
         let same = subst (λ (m : ℕ). Each Is (arguments_of m)) e arguments in
         let of_it : Of delete_number xs = subst (λ (m : ℕ). Of m xs) e j in
         subst (λ (m : ℕ). Of m ys) (sym e)
-        (two delete_number same.0 same.1.0 (delete (slice_index xs 1) (slice_index xs 2) (slice_index xs 3) (slice_index xs 4) (slice_index ys 3) (slice_index ys 4) of_it))
+        (two delete_number same.0 same.1.0 (delete (slice_index xs 1) (slice_index xs 2) (slice_index xs 3) (slice_index xs 4)
+        (slice_index ys 3) (slice_index ys 4) of_it))
     calls_alike n (inr (inr (inr e))) arguments j =
         let of_it : Of processor_number xs = subst (λ (m : ℕ). Of m xs) e j in
         subst (λ (m : ℕ). Of m ys) (sym e)
-        (processor (slice_index xs 1) (slice_index xs 2) (slice_index xs 3) (slice_index xs 4) (slice_index ys 1) (slice_index ys 2) (slice_index ys 3) (slice_index ys 4) of_it)
+        (processor (slice_index xs 1) (slice_index xs 2) (slice_index xs 3) (slice_index xs 4) (slice_index ys 1) (slice_index ys 2)
+        (slice_index ys 3) (slice_index ys 4) of_it)

@@ -9,7 +9,8 @@ pub same_long : (xs ys : List ℕ) (k l v w : ℕ) → length ys ≡ length xs �
 same_long xs ys k l v w e = length-set ys k v ∙ e ∙ sym (length-set xs l w)
 
 -- what both had, or what was put there
-pub set_alike : (xs ys : List ℕ) (k v r : ℕ) → length ys ≡ length xs → (r ≢ k → slice_index ys r ≡ slice_index xs r) → slice_index (slice_set ys k v) r ≡ slice_index (slice_set xs k v) r
+pub set_alike : (xs ys : List ℕ) (k v r : ℕ) → length ys ≡ length xs → (r ≢ k → slice_index ys r ≡ slice_index xs r) → slice_index
+    (slice_set ys k v) r ≡ slice_index (slice_set xs k v) r
 set_alike [] [] k v r e f = refl
 set_alike [] (y ∷ ys) k v r e f = absurd (omega (arith, e))
 set_alike (x ∷ xs) [] k v r e f = absurd (omega (arith, e))
@@ -28,7 +29,8 @@ helped_long xs ys x e =
     let e2 = same_long (slice_set xs 1 0) (slice_set ys 1 0) 2 2 0 0 e1 in
     let e3 = same_long (slice_set (slice_set xs 1 0) 2 0) (slice_set (slice_set ys 1 0) 2 0) 3 3 0 0 e2 in
     let e4 = same_long (slice_set (slice_set (slice_set xs 1 0) 2 0) 3 0) (slice_set (slice_set (slice_set ys 1 0) 2 0) 3 0) 4 4 0 0 e3 in
-    let e5 = same_long (slice_set (slice_set (slice_set (slice_set xs 1 0) 2 0) 3 0) 4 0) (slice_set (slice_set (slice_set (slice_set ys 1 0) 2 0) 3 0) 4 0) 5 5 0 0 e4 in
+    let e5 = same_long (slice_set (slice_set (slice_set (slice_set xs 1 0) 2 0) 3 0) 4 0)
+    (slice_set (slice_set (slice_set (slice_set ys 1 0) 2 0) 3 0) 4 0) 5 5 0 0 e4 in
     same_long _ _ 0 0 x x e5
 
 pub helped_alike : (xs ys : List ℕ) (x r : ℕ) → length ys ≡ length xs
@@ -68,7 +70,8 @@ helped_kept ys x r n0 n5 n4 n3 n2 n1 =
 -- ---- a caller's registers
 module _ (caller : Caller) (top : ℕ) where
   abbrev back : List ℕ → List ℕ
-  back xs = slice_set (slice_set (slice_set (slice_set xs 6 (slice_index caller.saved 0)) 7 (slice_index caller.saved 1)) 8 (slice_index caller.saved 2)) 9 (slice_index caller.saved 3)
+  back xs = slice_set (slice_set (slice_set (slice_set xs 6 (slice_index caller.saved 0)) 7 (slice_index caller.saved 1)) 8
+      (slice_index caller.saved 2)) 9 (slice_index caller.saved 3)
 
   back_long : (xs ys : List ℕ) → length ys ≡ length xs → length (back ys) ≡ length (back xs)
   back_long xs ys e =

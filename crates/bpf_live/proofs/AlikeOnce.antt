@@ -44,7 +44,8 @@ module _ (written rs : List ℕ) (new next last : Cpu) (one : Differ written rs 
   same_registers : length last.registers ≡ length next.registers → last.registers ≡ next.registers
   same_registers e = same_lists next.registers last.registers e (λ r. same_here r (none_or_one written r))
 
-module _ (begins : OneInstructionBegins) (program : Loaded) (table : Table) (old other new : Cpu) (sound : IsLiveTable program.instructions table) (alike : AreAlike program table old other)
+module _ (begins : OneInstructionBegins) (program : Loaded) (table : Table) (old other new : Cpu)
+    (sound : IsLiveTable program.instructions table) (alike : AreAlike program table old other)
     (shape : Shape) (events : List Event) (step : Step shape program old events On new) where
   abbrev Leads : Cpu → Cpu → Type 0
   Leads c next = (h : Shape) (es : List Event) → Step h program old es On new → Step h program c es On next

@@ -39,7 +39,8 @@ module _ (program : Loaded) (table : Table) (a b : Cpu) (alike : AreAlike progra
   }
 
   module _ (c : Cpu) (more : AreAlike program table b c) where
-    entered_on : (b.registers ≡ a.registers) ⊎ IsEntered program a → (c.registers ≡ b.registers) ⊎ IsEntered program b → (c.registers ≡ a.registers) ⊎ IsEntered program a
+    entered_on : (b.registers ≡ a.registers) ⊎ IsEntered program a → (c.registers ≡ b.registers) ⊎ IsEntered program b →
+        (c.registers ≡ a.registers) ⊎ IsEntered program a
     entered_on (inl one) (inl two) = inl (two ∙ one)
     entered_on (inr entered) two = inr entered
     entered_on (inl one) (inr entered) = inr (entered_here entered)
@@ -55,5 +56,6 @@ module _ (program : Loaded) (table : Table) (a b : Cpu) (alike : AreAlike progra
 pub states_are_alike_back : (program : Loaded) (table : Table) (a b : Cpu) → AreAlike program table a b → AreAlike program table b a
 states_are_alike_back program table a b alike = alike_back program table a b alike
 
-pub states_are_alike_again : (program : Loaded) (table : Table) (a b c : Cpu) → AreAlike program table a b → AreAlike program table b c → AreAlike program table a c
+pub states_are_alike_again : (program : Loaded) (table : Table) (a b c : Cpu) → AreAlike program table a b → AreAlike program table b c →
+    AreAlike program table a c
 states_are_alike_again program table a b c alike more = alike_again program table a b alike c more

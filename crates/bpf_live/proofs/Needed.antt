@@ -1,5 +1,6 @@
 -- A table that has what each instruction needs is right.
-use Rattle.std.proofs.Common.{◌≡◌, ◌≢◌, inl, inr, ℕ, ◌+◌, ◌<◌, Bool, true, false, ℤ, pos, List, [], ◌∷◌, Option, Some, None, refl, sym, ap, subst, ◌∙◌, arith, eq-eqb}
+use Rattle.std.proofs.Common.{◌≡◌, ◌≢◌, inl, inr, ℕ, ◌+◌, ◌<◌, Bool, true, false, ℤ, pos, List, [], ◌∷◌, Option, Some, None, refl, sym, ap}
+use Rattle.std.proofs.Common.{subst, ◌∙◌, arith, eq-eqb}
 use Rattle.std.specs.Prelude.{◌==◌, ◌&&◌, ◌||◌, not, nat_le, if◌then◌else◌, get_or}
 use Rattle.std.proofs.lemmas.Bool.{leb-false, lt-leb, ne_eqb}
 use Rattle.bpf_insn.specs.Atomic.{fetched_into}
@@ -14,7 +15,8 @@ use Rattle.bpf_loader.specs.Places.{target}
 use Rattle.bpf_loader.specs.Rows.{jump_offset}
 use Rattle.bpf_live.specs.Live.{Each, HasCalls, HasLive, IsLive, Table, next_word}
 use Rattle.bpf_live.specs.Registers.{is_move, only, reads, with_operand, writes}
-use Rattle.bpf_live.specs.Private.Needs.{HasNeeded, is_destination, is_left, is_live_after, is_live_by, is_live_to, is_operand, is_read, is_within, is_written, needs}
+use Rattle.bpf_live.specs.Private.Needs.{HasNeeded, is_destination, is_left, is_live_after, is_live_by, is_live_to, is_operand, is_read}
+use Rattle.bpf_live.specs.Private.Needs.{is_within, is_written, needs}
 
 same : (k : ℕ) → (k == k) ≡ true
 same k = eq-eqb k k refl
@@ -81,8 +83,11 @@ module _ (P : ℕ → Type 0) where
   each_read (insn.Jump o) f = tt
   each_read (insn.JumpLong o) f = tt
   each_read (insn.JumpIf w c d s o) f =
-      each_operand s (register_number d ∷ []) (λ r e. f r (ap (λ (b : Bool). b || (register_number d == r)) e))
-      (f (register_number d) (ap (λ (b : Bool). is_operand s (register_number d) || b) (same (register_number d)) ∙ or_true (is_operand s (register_number d))), tt)
+      each_operand s (register_number d ∷ []) (λ r e. f r (ap (λ (b : Bool). b || (register_number d == r)) e)) (
+        f (register_number d) (ap (λ (b : Bool). is_operand s (register_number d) || b) (same (register_number d)) ∙ or_true
+            (is_operand s (register_number d))),
+        tt,
+      )
   each_read (insn.CallHelper n) f = each_argument (n == 2) ((n == 1) || (n == 3)) ((n == 93) || (n == 94)) f
   each_read (insn.CallLocal o) f = (f 6 refl, (f 7 refl, (f 8 refl, (f 9 refl, tt))))
   each_read insn.Exit f = (f 0 refl, tt)
@@ -91,7 +96,11 @@ module _ (P : ℕ → Type 0) where
   each_read (insn.StoreImmediate z b o v) f = (f (register_number b) (same (register_number b)), tt)
   each_read (insn.Store z b o s) f = (
     f (register_number b) (ap (λ (t : Bool). t || (register_number s == register_number b)) (same (register_number b))),
-    (f (register_number s) (ap (λ (t : Bool). (register_number b == register_number s) || t) (same (register_number s)) ∙ or_true (register_number b == register_number s)), tt),
+    (
+      f (register_number s) (ap (λ (t : Bool). (register_number b == register_number s) || t) (same (register_number s)) ∙ or_true
+          (register_number b == register_number s)),
+      tt,
+    ),
   )
   each_read (insn.Atomic w op b o s) f =
       let x = register_number b in
@@ -121,12 +130,14 @@ module _ (is : List Insn) (table : Table) (calls : Bool) (pc : ℕ) (i : Insn) (
   from_read r e = live_if r (ap (λ (b : Bool). (b || is_left calls i r) || (not (is_written i r) && after r)) e)
 
   from_left : (r : ℕ) → is_left calls i r ≡ true → IsLive table pc r
-  from_left r e = live_if r (ap (λ (b : Bool). (is_read i r || b) || (not (is_written i r) && after r)) e ∙ ap (λ (b : Bool). b || (not (is_written i r) && after r)) (or_true (is_read i r)))
+  from_left r e = live_if r (ap (λ (b : Bool). (is_read i r || b) || (not (is_written i r) && after r)) e ∙ ap
+      (λ (b : Bool). b || (not (is_written i r) && after r)) (or_true (is_read i r)))
 
   from_after : (r : ℕ) → Each (λ w. r ≢ w) (writes i) → after r ≡ true → IsLive table pc r
   from_after r n e =
       live_if r
-      (ap (λ (b : Bool). (is_read i r || is_left calls i r) || (not b && after r)) (unwritten i r n) ∙ ap (λ (b : Bool). (is_read i r || is_left calls i r) || b) e
+      (ap (λ (b : Bool). (is_read i r || is_left calls i r) || (not b && after r)) (unwritten i r n) ∙ ap
+      (λ (b : Bool). (is_read i r || is_left calls i r) || b) e
       ∙ or_true (is_read i r || is_left calls i r))
 
   left_live : i ≡ insn.Exit → HasCalls is → (r : ℕ) → is_within 1 5 r ≡ true → IsLive table pc r
@@ -134,7 +145,8 @@ module _ (is : List Insn) (table : Table) (calls : Bool) (pc : ℕ) (i : Insn) (
 
   after_next : (n : ℕ) → next_word i ≡ Some n → (r : ℕ) → IsLive table (pc + n) r → after r ≡ true
   after_next n e r l =
-      ap (λ (o : Option ℕ). is_live_after table pc o r || is_live_by table pc (jump_offset i) r) e ∙ ap (λ (b : Bool). b || is_live_by table pc (jump_offset i) r) l
+      ap (λ (o : Option ℕ). is_live_after table pc o r || is_live_by table pc (jump_offset i) r) e ∙ ap
+      (λ (b : Bool). b || is_live_by table pc (jump_offset i) r) l
 
   after_jump : (offset : ℤ) (to : ℕ) → jump_offset i ≡ Some offset → pos to ≡ target pc offset → (r : ℕ) → IsLive table to r → after r ≡ true
   after_jump offset to e t r l =

@@ -39,7 +39,8 @@ error_at_code (error.UnknownMap pc) = refl
 error_at_code error.OutOfMemory = refl
 
 -- where the refusal with the next number doesn't apply, the checks go on to the one after it
-pub clear_next : (named : Named) (is : List Insn) (pc number : ℕ) → IsClearBelow named is pc number → ¬ Applies named is (error_at number pc) → IsClearBelow named is pc (number + 1)
+pub clear_next : (named : Named) (is : List Insn) (pc number : ℕ) → IsClearBelow named is pc number → ¬ Applies named is
+    (error_at number pc) → IsClearBelow named is pc (number + 1)
 clear_next named is pc number clear not_here e applies at =
     let from = clear e applies at in
     elim (cases_eq number (refusal_number e)) [
@@ -50,7 +51,8 @@ clear_next named is pc number clear not_here e applies at =
     ]
 
 -- or doesn't hold of the instruction that begins there
-pub clear_past : (named : Named) (is : List Insn) (pc number : ℕ) (i : Insn) (P : Insn → Type 0) → Begins is pc i → IsClearBelow named is pc number → (Applies named is (error_at number pc) → HasAt is pc P) → ¬ P i → IsClearBelow named is pc (number + 1)
+pub clear_past : (named : Named) (is : List Insn) (pc number : ℕ) (i : Insn) (P : Insn → Type 0) → Begins is pc i → IsClearBelow named is pc
+    number → (Applies named is (error_at number pc) → HasAt is pc P) → ¬ P i → IsClearBelow named is pc (number + 1)
 clear_past named is pc number i P b clear means not_it =
     clear_next named is pc number clear (λ applies. let has = means applies in not_it (subst P (begins_unique is pc has.0 i has.1 b) has.2))
 

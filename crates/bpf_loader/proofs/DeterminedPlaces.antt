@@ -7,7 +7,8 @@ use Rattle.bpf_loader.specs.Laws.{OneInstructionBegins}
 use Rattle.bpf_loader.proofs.WordLemmas.{words_some}
 
 -- after as many words is the same instruction
-same_place : (before other : List Insn) (i j : Insn) (after rest : List Insn) → before ++ i ∷ after ≡ other ++ j ∷ rest → word_length before ≡ word_length other → i ≡ j
+same_place : (before other : List Insn) (i j : Insn) (after rest : List Insn) → before ++ i ∷ after ≡ other ++ j ∷ rest → word_length before
+    ≡ word_length other → i ≡ j
 same_place [] [] i j after rest e w = cc
 same_place [] (b ∷ other) i j after rest e w = absurd (omega (arith, words_some b))
 same_place (b ∷ before) [] i j after rest e w = absurd (omega (arith, words_some b))

@@ -6,7 +6,8 @@ use Rattle.std.specs.Prelude.{◌≡◌, ◌≢◌, ℕ, ◌+◌, ◌<◌, IsTru
 use Rattle.bpf_insn.specs.declared.register.Reg.TheVariants.{R10}
 use Rattle.bpf_insn.specs.declared.instruction.Insn.{Insn}
 use Rattle.bpf_loader.specs.declared.refusal.LoadError.{LoadError}
-use Rattle.bpf_loader.specs.declared.refusal.LoadError.TheVariants.{Empty, TooLong, WritesR10, JumpOut, JumpIntoWide, FallsOff, UnknownHelper, UnknownMap, OutOfMemory}
+use Rattle.bpf_loader.specs.declared.refusal.LoadError.TheVariants.{Empty, TooLong, WritesR10, JumpOut, JumpIntoWide, FallsOff}
+use Rattle.bpf_loader.specs.declared.refusal.LoadError.TheVariants.{UnknownHelper, UnknownMap, OutOfMemory}
 use Rattle.bpf_insn.specs.Table.{words}
 use Rattle.bpf_insn.specs.First.{IsFirst}
 use Rattle.bpf_insn.specs.Refusal.{max_words}

@@ -24,7 +24,8 @@ StepLeads program x y old n end new left =
 
 module _ (program : Loaded) (x y : Contents) (old new : Cpu) where
   pub no_step_leads : (n : ℕ) → n ≡ 0 → StepLeads program x x old n (Some (OutOfBudget old.pc)) old n
-  no_step_leads n e = let P : ℕ → Type 0 = λ k. StepLeads program x x old k (Some (OutOfBudget old.pc)) old k in subst P (sym e) (λ s sound shows. (s, (refl, refl, refl, refl), sound, shows))
+  no_step_leads n e = let P : ℕ → Type 0 = λ k. StepLeads program x x old k (Some (OutOfBudget old.pc)) old k in subst P (sym e)
+      (λ s sound shows. (s, (refl, refl, refl, refl), sound, shows))
 
   pub step_leads : (progress : Progress) (n m : ℕ) (end : Option Outcome) → n ≡ suc m → end ≡ outcome_after progress m new
       → (events : List Event) × Chain Passes has_cpu old.number x y events × Step (shape_of x) program old events progress new
@@ -47,7 +48,8 @@ not_last_step (suc m) new ne = refl
 
 -- ---- steps that no store sees
 -- steps of a job whose budget has more left are turns
-pub quiet_turns : (program : Loaded) (c n : ℕ) (old : Cpu) (left : ℕ) (new : Cpu) (rest : ℕ) → MakesQuietSteps program n old new → left ≡ n + suc rest → TakesQuietTurns program c n old left new (suc rest)
+pub quiet_turns : (program : Loaded) (c n : ℕ) (old : Cpu) (left : ℕ) (new : Cpu) (rest : ℕ) → MakesQuietSteps program n old new → left ≡ n
+    + suc rest → TakesQuietTurns program c n old left new (suc rest)
 quiet_turns program c zero old left new rest made e = (made, omega arith)
 quiet_turns program c (suc n) old left new rest made e = (
   made.0,

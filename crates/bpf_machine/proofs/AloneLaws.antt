@@ -36,7 +36,8 @@ module _ (jobs : List Task) (c j : ℕ) (task : Task) (stage : Stage) (listed : 
   keeps_at d k other now ne at = elim (equal_or_not k j) [
     | inl e ↦
         let P : ℕ → Type 0 = λ k. slice_get (with_stage jobs j task stage) k ≡ Some other in
-        let both : Some (record task { stage = stage }) ≡ Some other = sym (slice_get-set_known jobs j (record task { stage = stage }) task listed) ∙ subst P e at.listed in
+        let both : Some (record task { stage = stage }) ≡ Some other = sym
+        (slice_get-set_known jobs j (record task { stage = stage }) task listed) ∙ subst P e at.listed in
         let same : record task { stage = stage } ≡ other = cc in
         absurd (ne (sym at.of ∙ ap (λ (t : Task). t.cpu) (sym same) ∙ of))
     | inr other_job ↦ record { listed = sym (slice_get-set_other jobs j k (record task { stage = stage }) other_job) ∙ at.listed; of = at.of; at = at.at }
@@ -100,7 +101,8 @@ rounds_before zero w m z first rest = (w, refl, subst (λ (x : World). RunsRound
 rounds_before (suc n) w m z first rest = (rest.0, rounds_before n w m rest.0 first rest.1, rest.2)
 
 -- ---- until its job ends
-advances_shape : (program : Loaded) (c : ℕ) (s : Plain) (old : Cpu) (n : ℕ) (end : Option Outcome) (t : Plain) (new : Cpu) (left : ℕ) → RunsWithin s → Advances program c s old n end t new left → (t.shape ≡ s.shape) × RunsWithin t
+advances_shape : (program : Loaded) (c : ℕ) (s : Plain) (old : Cpu) (n : ℕ) (end : Option Outcome) (t : Plain) (new : Cpu) (left : ℕ) →
+    RunsWithin s → Advances program c s old n end t new left → (t.shape ≡ s.shape) × RunsWithin t
 advances_shape program c s old zero end t new left within a = (ap (λ (x : Plain). x.shape) a.1, subst RunsWithin (sym a.1) within)
 advances_shape program c s old (suc n) end t new left within a = legal_shape s t (map (entry c) a.0) within a.3
 
@@ -109,7 +111,14 @@ module _ (c j : ℕ) (program : Loaded) (end : Outcome) (t q : Plain) (allowed :
       → slice_get w.programs task.program ≡ Some program → IsAt w.jobs c j task (InHand state left) → Lasts program c k w.store state left end t
       → Lists (with_end w j task end q) c z → RunsRounds (suc k) w z
   rounds_left zero w z task state left within inside alone loaded at lasts lists =
-      let progress : TakesTurn w c (turn.Ended j end) z = inl (j, task, state, left, at, (program, Some end, t, lasts.0, lasts.1, loaded, lasts.2, (q, allowed, refl, lists))) in
+      let progress : TakesTurn w c (turn.Ended j end) z = inl (
+        j,
+        task,
+        state,
+        left,
+        at,
+        (program, Some end, t, lasts.0, lasts.1, loaded, lasts.2, (q, allowed, refl, lists)),
+      ) in
       let P : List Task → Type 0 = λ ts. IsAlone ts c in
       let still = subst P (sym (lists_jobs (with_end w j task end q) c z lists)) (stays_alone w.jobs c j task (Ended end) at.listed at.of alone) in
       (w, refl, round_alone w c (turn.Ended j end) z progress alone still inside)
@@ -123,7 +132,8 @@ module _ (c j : ℕ) (program : Loaded) (end : Outcome) (t q : Plain) (allowed :
       let there : c < y.store.shape.cpus = subst (λ (h : Shape). c < h.cpus) (sym kept.0) inside in
       let same = set_twice w.jobs j (record task { stage = now }) (record task { stage = Ended end }) in
       let listing = subst (λ (ts : List Task). Lists (record w { store = q; jobs = ts }) c z) (sym same) lists in
-      let rest = rounds_left k y z (record task { stage = now }) lasts.1 lasts.2 kept.1 there still loaded (begun_at w.jobs c j task (InHand state left) now at) lasts.4 listing in
+      let rest = rounds_left k y z (record task { stage = now }) lasts.1 lasts.2 kept.1 there still loaded
+      (begun_at w.jobs c j task (InHand state left) now at) lasts.4 listing in
       rounds_before (suc k) w y z (round_alone w c turn.Ran y progress alone still inside) rest
 
 -- ---- steps that are made in one loop are turns
@@ -135,7 +145,8 @@ map_entries : (c : ℕ) (xs ys : List Event) → map (entry c) (xs ++ ys) ≡ ma
 map_entries c [] ys = refl
 map_entries c (x ∷ xs) ys = ap (λ (es : List Entry). entry c x ∷ es) (map_entries c xs ys)
 
-pub lasts : (program : Loaded) (shape : Shape) (c n : ℕ) (old : Cpu) (events : List Event) (end : Outcome) (new : Cpu) (s t : Plain) → RunsWithin s → s.shape ≡ shape
+pub lasts : (program : Loaded) (shape : Shape) (c n : ℕ) (old : Cpu) (events : List Event) (end : Outcome) (new : Cpu) (s t : Plain) →
+    RunsWithin s → s.shape ≡ shape
     → MakesSteps shape program n old events end new → PlainlyLegal s (map (entry c) events) t → (k : ℕ) × Lasts program c k s old n end t
 lasts program shape c zero old events end new s t within same steps legal =
     let none : s ≡ t = subst (λ (es : List Event). PlainlyLegal s (map (entry c) es) t) steps.0 legal in
@@ -150,8 +161,10 @@ lasts program shape c (suc n) old events end new s t within same (inr (first, re
     let split = legal_parts s t (map (entry c) first) (map (entry c) rest) both in
     goes_on n split.0 split.1 split.2 here steps (λ m inside shape_same steps legal. lasts program shape c n mid rest end new m t inside shape_same steps legal)
   where
-    goes_on : (n : ℕ) (m : Plain) → PlainlyLegal s (map (entry c) first) m → PlainlyLegal m (map (entry c) rest) t → Step s.shape program old first On mid → MakesSteps shape program n mid rest end new
-        → ((m : Plain) → RunsWithin m → m.shape ≡ shape → MakesSteps shape program n mid rest end new → PlainlyLegal m (map (entry c) rest) t → (k : ℕ) × Lasts program c k m mid n end t)
+    goes_on : (n : ℕ) (m : Plain) → PlainlyLegal s (map (entry c) first) m → PlainlyLegal m (map (entry c) rest) t → Step s.shape program
+        old first On mid → MakesSteps shape program n mid rest end new
+        → ((m : Plain) → RunsWithin m → m.shape ≡ shape → MakesSteps shape program n mid rest end new → PlainlyLegal m (map (entry c) rest)
+        t → (k : ℕ) × Lasts program c k m mid n end t)
         → (k : ℕ) × Lasts program c k s old (suc n) end t
     goes_on zero m before after here steps again =
         let none : m ≡ t = subst (λ (es : List Event). PlainlyLegal m (map (entry c) es) t) steps.0 after in

@@ -1,5 +1,6 @@
 -- A CPU's next job is begun.
-use Rattle.std.proofs.Common.{◌≡◌, ◌≢◌, ℕ, ◌<◌, ◌≤◌, ◌+◌, Bool, true, false, List, Option, Some, None, is_some, inl, inr, length, refl, sym, ap, subst, ◌∙◌, arith}
+use Rattle.std.proofs.Common.{◌≡◌, ◌≢◌, ℕ, ◌<◌, ◌≤◌, ◌+◌, Bool, true, false, List, Option, Some, None, is_some, inl, inr, length, refl, sym}
+use Rattle.std.proofs.Common.{ap, subst, ◌∙◌, arith}
 use Rattle.std.specs.Prelude.{slice_get, slice_set, slice_index_or}
 use Rattle.std.proofs.lemmas.Bool.{cases_lt}
 use Rattle.std.proofs.lemmas.List.{length-set}
@@ -40,7 +41,8 @@ ready_to_start program number input starts = start_ready program (start number i
 pub next_job : (s t : MachineState) (c j : ℕ) → s ≡ t → IsNext t.jobs c j → IsNext s.jobs c j
 next_job s t c j same next = subst (λ (m : MachineState). IsNext m.jobs c j) (sym same) next
 
-module _ (store : Contents) (programs : List Loaded) (jobs : List Listed) (lanes : List Lane) (board : IsBoard (has_cpu store) (is_running store) (held_spans store) programs jobs lanes)
+module _ (store : Contents) (programs : List Loaded) (jobs : List Listed) (lanes : List Lane)
+    (board : IsBoard (has_cpu store) (is_running store) (held_spans store) programs jobs lanes)
     (c j : ℕ) (next : IsNext (tasks_of lanes jobs) c j) where
   at : WaitsAt (has_cpu store) (is_running store) (held_spans store) programs jobs lanes board c j next.1.0 next.1.1
   at = waits_at (has_cpu store) (is_running store) (held_spans store) programs jobs lanes board c j next.1.0 next.1.1 next.1.2
@@ -79,8 +81,10 @@ module _ (store : Contents) (programs : List Loaded) (jobs : List Listed) (lanes
     shown : next.1.0 ≡ task_of lanes e
     shown = at.shown ∙ ap (λ (x : Listed). task_of lanes x) same
 
-    module _ (l : Lane) (read : l ≡ slice_index_or lanes c l) (p : Phase) (in_hand : p ≡ phase.InHand) (v : Input) (waits : e.phase ≡ phase.Waiting v) (state : Cpu) (starting : state ≡ start c v)
-        (others : List Listed) (listed_now : others ≡ slice_set jobs j (record { cpu = e.cpu; program = e.program; budget = e.budget; phase = p })) (n : ℕ) (first_after : IsFirstJob others c (j + 1) n) where
+    module _ (l : Lane) (read : l ≡ slice_index_or lanes c l) (p : Phase) (in_hand : p ≡ phase.InHand) (v : Input)
+        (waits : e.phase ≡ phase.Waiting v) (state : Cpu) (starting : state ≡ start c v)
+        (others : List Listed) (listed_now : others ≡ slice_set jobs j
+        (record { cpu = e.cpu; program = e.program; budget = e.budget; phase = p })) (n : ℕ) (first_after : IsFirstJob others c (j + 1) n) where
       was : lane_of lanes c ≡ l
       was = lane_read lanes c l lane_within read
 
@@ -110,18 +114,22 @@ module _ (store : Contents) (programs : List Loaded) (jobs : List Listed) (lanes
 
       moves : (k : ℕ) (x : Listed) → k ≢ j → slice_get jobs k ≡ Some x → x.cpu ≡ c → (l.next ≤ k → n ≤ k) × (k < l.next → k < n)
       moves k x ne there own = (
-        λ above. (let e = next_was in elim (cases_lt k n) [ inl below ↦ absurd (first.none k x (omega arith) below (slice_get-set_other jobs j k e' ne ∙ there) own) | inr past ↦ past ]),
+        λ above. (let e = next_was in
+            elim (cases_lt k n) [ inl below ↦ absurd (first.none k x (omega arith) below (slice_get-set_other jobs j k e' ne ∙ there) own) | inr past ↦ past ]),
         λ below. (let e = next_was in let a = first.above in omega arith),
       )
 
-      pub begun_tasks : tasks_of (slice_set lanes c l') (slice_set jobs j e') ≡ with_stage (tasks_of lanes jobs) j next.1.0 (InHand (start c next.1.1) next.1.0.budget)
+      pub begun_tasks : tasks_of (slice_set lanes c l') (slice_set jobs j e') ≡ with_stage (tasks_of lanes jobs) j next.1.0
+          (InHand (start c next.1.1) next.1.0.budget)
       begun_tasks =
-          tasks_changed (has_cpu store) (has_cpu store) (is_running store) (is_running store) (held_spans store) (held_spans store) programs jobs lanes c j e e' l l' board listed of was refl refl refl alone moves
+          tasks_changed (has_cpu store) (has_cpu store) (is_running store) (is_running store) (held_spans store) (held_spans store) programs
+          jobs lanes c j e e' l l' board listed of was refl refl refl alone moves
           ∙ (ap (λ (q : Phase). with_stage (tasks_of lanes jobs) j (task_of lanes e) (stage_of (Some h') q)) in_hand
           ∙ (ap (λ (s : Cpu). with_stage (tasks_of lanes jobs) j (task_of lanes e) (InHand s e.budget)) started
           ∙ ap (λ (t : Task). with_stage (tasks_of lanes jobs) j t (InHand (start c next.1.1) t.budget)) (sym shown)))
 
-      module _ (after : Contents) (serves_same : has_cpu after ≡ has_cpu store) (running : is_running after ≡ put (is_running store) c true) (unreached : held_spans after ≡ held_without (held_spans store) c)
+      module _ (after : Contents) (serves_same : has_cpu after ≡ has_cpu store) (running : is_running after ≡ put (is_running store) c true)
+          (unreached : held_spans after ≡ held_without (held_spans store) c)
           (program : Loaded) (fetched : program ≡ slice_index_or programs e.program program) (starts : IsStart program.instructions 0) where
         loaded : slice_get programs e.program ≡ Some program
         loaded = slice_get_read programs (length programs) e.program program refl program_within fetched
@@ -146,7 +154,8 @@ module _ (store : Contents) (programs : List Loaded) (jobs : List Listed) (lanes
 
         pub begun_board : IsBoard (has_cpu after) (is_running after) (held_spans after) programs (slice_set jobs j e') (slice_set lanes c l')
         begun_board =
-            board_changed (has_cpu store) (has_cpu after) (is_running store) (is_running after) (held_spans store) (held_spans after) programs jobs lanes c j e e' l l' board listed of was refl refl refl alone moves
+            board_changed (has_cpu store) (has_cpu after) (is_running store) (is_running after) (held_spans store) (held_spans after)
+            programs jobs lanes c j e e' l l' board listed of was refl refl refl alone moves
             serves_same
             (λ d ne. ap (λ (f : ℕ → Bool). f d) running ∙ put-other (is_running store) c d true ne)
             (ap (λ (f : ℕ → Bool). f c) running ∙ put-same (is_running store) c c true refl)

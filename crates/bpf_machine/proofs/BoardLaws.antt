@@ -19,7 +19,8 @@ use Rattle.bpf_machine.specs.Private.Lanes.{lane_of, no_lane, stage_of, task_of,
 use Rattle.bpf_base.proofs.Lists.{slice_get-set_known, slice_get-set_other, map-set_changed}
 
 -- ---- one job and its CPU's lane are changed
-module _ (serves serves' running running' : ℕ → Bool) (reach reach' : ℕ → Span → Bool) (programs : List Loaded) (jobs : List Listed) (lanes : List Lane) (c j : ℕ) (e e' : Listed) (l l' : Lane)
+module _ (serves serves' running running' : ℕ → Bool) (reach reach' : ℕ → Span → Bool) (programs : List Loaded) (jobs : List Listed)
+    (lanes : List Lane) (c j : ℕ) (e e' : Listed) (l l' : Lane)
     (board : IsBoard serves running reach programs jobs lanes)
     (listed : slice_get jobs j ≡ Some e) (of : e.cpu ≡ c) (was : lane_of lanes c ≡ l)
     (cpu : e'.cpu ≡ e.cpu) (program : e'.program ≡ e.program) (budget : e'.budget ≡ e.budget)
@@ -60,7 +61,8 @@ module _ (serves serves' running running' : ℕ → Bool) (reach reach' : ℕ �
         ap (λ (y : Lane). stage_of y.hand x.phase) here ∙ (stage_still k x.phase ne fits ∙ ap (λ (y : Lane). stage_of y.hand x.phase) (sym before))
         in
         ap (λ (s : Stage). record { cpu = x.cpu; program = x.program; budget = x.budget; stage = s }) same
-    | inr other ↦ ap (λ (y : Lane). record { cpu = x.cpu; program = x.program; budget = x.budget; stage = stage_of y.hand x.phase }) (lane_elsewhere x.cpu other)
+    | inr other ↦ ap (λ (y : Lane). record { cpu = x.cpu; program = x.program; budget = x.budget; stage = stage_of y.hand x.phase })
+        (lane_elsewhere x.cpu other)
   ]
 
   task_here : task_of (slice_set lanes c l') e' ≡ record (task_of lanes e) { stage = stage_of l'.hand e'.phase }
@@ -89,7 +91,8 @@ module _ (serves serves' running running' : ℕ → Bool) (reach reach' : ℕ �
         record {
           program = subst (λ (n : ℕ). n < length programs) (sym program) old.program;
           served = ap (λ (f : ℕ → Bool). f e'.cpu) serves_same ∙ (ap (λ (n : ℕ). serves n) cpu ∙ old.served);
-          within = (let below : e'.cpu < length lanes = subst (λ (n : ℕ). n < length lanes) (sym cpu) old.within in subst (λ (n : ℕ). e'.cpu < n) (sym (length-set lanes c l')) below);
+          within = (let below : e'.cpu < length lanes = subst (λ (n : ℕ). n < length lanes) (sym cpu) old.within in subst
+              (λ (n : ℕ). e'.cpu < n) (sym (length-set lanes c l')) below);
           fits = subst (λ (y : Lane). FitsLane y j e'.phase) (sym at) fits;
           short = short;
         }
@@ -101,7 +104,8 @@ module _ (serves serves' running running' : ℕ → Bool) (reach reach' : ℕ �
           | inl own ↦
               let here : lane_of (slice_set lanes c l') x.cpu ≡ l' = ap (λ (d : ℕ). lane_of (slice_set lanes c l') d) own ∙ lane_here in
               let before : lane_of lanes x.cpu ≡ l = ap (λ (d : ℕ). lane_of lanes d) own ∙ was in
-              subst (λ (y : Lane). FitsLane y k x.phase) (sym here) (fits_still k x x.phase ne at own (subst (λ (y : Lane). FitsLane y k x.phase) before old.fits))
+              subst (λ (y : Lane). FitsLane y k x.phase) (sym here)
+              (fits_still k x x.phase ne at own (subst (λ (y : Lane). FitsLane y k x.phase) before old.fits))
           | inr other ↦ subst (λ (y : Lane). FitsLane y k x.phase) (sym (lane_elsewhere x.cpu other)) old.fits
         ] in
         record {
@@ -115,7 +119,8 @@ module _ (serves serves' running running' : ℕ → Bool) (reach reach' : ℕ �
     each_job : (k : ℕ) (x : Listed) → slice_get (slice_set jobs j e') k ≡ Some x → IsListed serves' programs (slice_set lanes c l') k x
     each_job k x at = elim (equal_or_not k j) [
       | inl here ↦
-          let put : slice_get (slice_set jobs j e') k ≡ Some e' = ap (λ (n : ℕ). slice_get (slice_set jobs j e') n) here ∙ slice_get-set_known jobs j e' e listed in
+          let put : slice_get (slice_set jobs j e') k ≡ Some e' = ap (λ (n : ℕ). slice_get (slice_set jobs j e') n) here ∙
+          slice_get-set_known jobs j e' e listed in
           let is : x ≡ e' = cc in
           let P : ℕ → Listed → Type 0 = λ n y. IsListed serves' programs (slice_set lanes c l') n y in
           subst (λ (n : ℕ). P n x) (sym here) (subst (λ (y : Listed). P j y) (sym is) listed_here)
@@ -141,7 +146,8 @@ module _ (serves serves' running running' : ℕ → Bool) (reach reach' : ℕ �
     cpu_still : (d n : ℕ) → ((x : Listed) → slice_get jobs n ≡ Some x → x.cpu ≡ d) → (x : Listed) → slice_get (slice_set jobs j e') n ≡ Some x → x.cpu ≡ d
     cpu_still d n old x at = elim (equal_or_not n j) [
       | inl here ↦
-          let put : slice_get (slice_set jobs j e') n ≡ Some e' = ap (λ (k : ℕ). slice_get (slice_set jobs j e') k) here ∙ slice_get-set_known jobs j e' e listed in
+          let put : slice_get (slice_set jobs j e') n ≡ Some e' = ap (λ (k : ℕ). slice_get (slice_set jobs j e') k) here ∙
+          slice_get-set_known jobs j e' e listed in
           let is : x ≡ e' = cc in
           ap (λ (y : Listed). y.cpu) is ∙ (cpu ∙ old e (ap (λ (k : ℕ). slice_get jobs k) here ∙ listed))
       | inr ne ↦ old x (sym (slice_get-set_other jobs j n e' ne) ∙ at)
@@ -151,7 +157,14 @@ module _ (serves serves' running running' : ℕ → Bool) (reach reach' : ℕ �
     each_lane d below = elim (equal_or_not d c) [
       | inl here ↦
           let P : ℕ → Lane → Type 0 = λ n y. IsLane running' reach' programs (slice_set jobs j e') n y in
-          let new : P c l' = record { runs = runs; hand = hand; held = held; next = cpu_still c l'.next next; within = subst (λ (n : ℕ). l'.next ≤ n) (sym (length-set jobs j e')) inside } in
+          let new : P c l' = record {
+            runs = runs;
+            hand = hand;
+            held = held;
+            next = cpu_still c l'.next next;
+            within = subst
+                (λ (n : ℕ). l'.next ≤ n) (sym (length-set jobs j e')) inside;
+          } in
           subst (λ (n : ℕ). P n (lane_of (slice_set lanes c l') n)) (sym here) (subst (λ (y : Lane). P c y) (sym lane_here) new)
       | inr ne ↦
           let old = board.each_lane d (subst (λ (n : ℕ). d < n) (length-set lanes c l') below) in

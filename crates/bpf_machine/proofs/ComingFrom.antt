@@ -22,7 +22,8 @@ use Rattle.bpf_machine.specs.Saved.{input_of, AreLater, ComeFrom, ComeFromSame, 
 use Rattle.bpf_machine.specs.Private.Turns.{StaysOrEnds}
 
 -- ---- one of the jobs in another stage
-with_one : (firsts jobs : List Task) (j : ℕ) (task : Task) (stage : Stage) → slice_get jobs j ≡ Some task → ((first : Task) → ComesFrom first task → ComesFrom first (record task { stage = stage }))
+with_one : (firsts jobs : List Task) (j : ℕ) (task : Task) (stage : Stage) → slice_get jobs j ≡ Some task →
+    ((first : Task) → ComesFrom first task → ComesFrom first (record task { stage = stage }))
     → ComeFrom firsts jobs → ComeFrom firsts (with_stage jobs j task stage)
 with_one [] [] j task stage at step come = cc
 with_one [] (t ∷ ts) j task stage at step come = absurd come
@@ -30,25 +31,36 @@ with_one (f ∷ fs) [] j task stage at step come = absurd come
 with_one (f ∷ fs) (t ∷ ts) zero task stage at step come = let same : t ≡ task = cc in (step f (subst (λ (x : Task). ComesFrom f x) same come.0), come.1)
 with_one (f ∷ fs) (t ∷ ts) (suc j) task stage at step come = (come.0, with_one fs ts j task stage at step come.1)
 
-begun : (first task : Task) (c : ℕ) (input : Input) → task.cpu ≡ c → task.stage ≡ Waiting input → ComesFrom first task → ComesFrom first (record task { stage = InHand (start c input) task.budget })
+begun : (first task : Task) (c : ℕ) (input : Input) → task.cpu ≡ c → task.stage ≡ Waiting input → ComesFrom first task → ComesFrom first
+    (record task { stage = InHand (start c input) task.budget })
 begun first task c input of is come =
     let waits : input ≡ input_of first.stage = subst (λ (s : Stage). IsStageOf first.cpu (input_of first.stage) s) is come.stage in
-    record { cpu = come.cpu; program = come.program; budget = come.budget; stage = (sym of ∙ come.cpu, ap (λ (i : Input). length i.context) waits, ap (λ (i : Input). i.given) waits, ap (λ (i : Input). length i.packet) waits) }
+    record {
+      cpu = come.cpu;
+      program = come.program;
+      budget = come.budget;
+      stage =
+          (sym of ∙ come.cpu, ap (λ (i : Input). length i.context) waits, ap (λ (i : Input). i.given) waits, ap (λ (i : Input). length i.packet) waits);
+    }
 
-gone_on : (first task : Task) (state later : Cpu) (left rest : ℕ) → task.stage ≡ InHand state left → IsOfOneJob state later → ComesFrom first task → ComesFrom first (record task { stage = InHand later rest })
+gone_on : (first task : Task) (state later : Cpu) (left rest : ℕ) → task.stage ≡ InHand state left → IsOfOneJob state later → ComesFrom
+    first task → ComesFrom first (record task { stage = InHand later rest })
 gone_on first task state later left rest is one come =
-    let was : IsStageOf first.cpu (input_of first.stage) (InHand state left) = subst (λ (s : Stage). IsStageOf first.cpu (input_of first.stage) s) is come.stage in
+    let was : IsStageOf first.cpu (input_of first.stage) (InHand state left) = subst
+    (λ (s : Stage). IsStageOf first.cpu (input_of first.stage) s) is come.stage in
     record { cpu = come.cpu; program = come.program; budget = come.budget; stage = (one.0 ∙ was.0, one.1 ∙ was.1, one.2 ∙ was.2, one.3 ∙ was.3) }
 
 -- ---- turns
 pub begins_same : (old new : MachineState) (c j : ℕ) → BeginsJob old c j new → ComeFromSame old.jobs new.jobs
 begins_same old new c j (task, input, at, programs, jobs, leads, lists) first come =
     let stage : Stage = InHand (start c input) task.budget in
-    subst (λ (l : List Task). ComeFrom first l) (sym jobs) (with_one first old.jobs j task stage at.listed (λ f from. begun f task c input at.of at.at from) come)
+    subst (λ (l : List Task). ComeFrom first l) (sym jobs) (with_one first old.jobs j task stage at.listed
+    (λ f from. begun f task c input at.of at.at from) come)
 
 pub stays_same : (old new : List Task) (c j : ℕ) → StaysOrEnds old c j new → ComeFromSame old new
 stays_same old new c j (task, state, left, at, inl (later, rest, one, is)) first come =
-    subst (λ (l : List Task). ComeFrom first l) (sym is) (with_one first old j task (InHand later rest) at.listed (λ f from. gone_on f task state later left rest at.at one from) come)
+    subst (λ (l : List Task). ComeFrom first l) (sym is) (with_one first old j task (InHand later rest) at.listed
+    (λ f from. gone_on f task state later left rest at.at one from) come)
 stays_same old new c j (task, state, left, at, inr (end, is)) first come =
     subst (λ (l : List Task). ComeFrom first l) (sym is)
     (with_one first old j task (Ended end) at.listed (λ f from. record { cpu = from.cpu; program = from.program; budget = from.budget; stage = tt }) come)
@@ -87,7 +99,8 @@ stage_of cpu input (Waiting own) is = is
 stage_of cpu input (InHand state left) is = is.1
 stage_of cpu input (Ended end) is = tt
 
-pub come_later : (firsts jobs : List Task) → ComeFrom firsts jobs → ((j : ℕ) (task : Task) → slice_get jobs j ≡ Some task → FitsBytes task.stage) → AreLater firsts jobs
+pub come_later : (firsts jobs : List Task) → ComeFrom firsts jobs →
+    ((j : ℕ) (task : Task) → slice_get jobs j ≡ Some task → FitsBytes task.stage) → AreLater firsts jobs
 come_later [] [] come fit = tt
 come_later [] (t ∷ ts) come fit = absurd come
 come_later (f ∷ fs) [] come fit = absurd come
@@ -106,9 +119,13 @@ later_come (f ∷ fs) (t ∷ ts) later = (
 )
 
 -- jobs that wait come from themselves
-pub waiting_come : (jobs : List Task) → ((j : ℕ) (task : Task) → slice_get jobs j ≡ Some task → (input : Input) × (task.stage ≡ Waiting input)) → ComeFrom jobs jobs
+pub waiting_come : (jobs : List Task) → ((j : ℕ) (task : Task) → slice_get jobs j ≡ Some task → (input : Input) ×
+    (task.stage ≡ Waiting input)) → ComeFrom jobs jobs
 waiting_come [] wait = tt
-waiting_come (t ∷ ts) wait = (record { cpu = refl; program = refl; budget = refl; stage = own t.stage (wait 0 t refl).0 (wait 0 t refl).1 }, waiting_come ts (λ j task at. wait (suc j) task at))
+waiting_come (t ∷ ts) wait = (
+  record { cpu = refl; program = refl; budget = refl; stage = own t.stage (wait 0 t refl).0 (wait 0 t refl).1 },
+  waiting_come ts (λ j task at. wait (suc j) task at),
+)
   where
     own : (stage : Stage) (input : Input) → stage ≡ Waiting input → IsStageOf t.cpu (input_of stage) stage
     own (Waiting c) input is = refl
@@ -120,4 +137,5 @@ pub refilled_same : (old new : MachineState) (c : ℕ) → IsRefilled old c new 
 refilled_same old new c (inl (free, same)) first come = subst (λ (m : MachineState). ComeFrom first m.jobs) (sym same) come
 refilled_same old new c (inr (j, (task, state, left, more, at, enough, is))) first come =
     subst (λ (m : MachineState). ComeFrom first m.jobs) (sym is)
-    (with_one first old.jobs j task (InHand state (left + more)) at.listed (λ f from. gone_on f task state state left (left + more) at.at (refl, refl, refl, refl) from) come)
+    (with_one first old.jobs j task (InHand state (left + more)) at.listed
+    (λ f from. gone_on f task state state left (left + more) at.at (refl, refl, refl, refl) from) come)

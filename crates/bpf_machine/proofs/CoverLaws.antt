@@ -70,7 +70,8 @@ module _ (programs : List Loaded) (turns : ℕ → ℕ) where
   ended_stays old new end (inl a) = sym a.0
   ended_stays old new end (inr a) = let no : Ended end.0 ≡ InHand a.1 a.2 = sym end.1 ∙ a.6 in cc
 
-  both_ended : (o p : Option Task) → ((task : Task) → o ≡ Some task → (outcome : Outcome) × (task.stage ≡ Ended outcome)) → BothPrecede programs turns o p → o ≡ p
+  both_ended : (o p : Option Task) → ((task : Task) → o ≡ Some task → (outcome : Outcome) × (task.stage ≡ Ended outcome)) → BothPrecede
+      programs turns o p → o ≡ p
   both_ended None None ended both = refl
   both_ended None (Some new) ended both = absurd both
   both_ended (Some old) None ended both = absurd both
@@ -90,32 +91,37 @@ ended_has P z (v, headways, shown, same, ahead) ended =
 -- what is true of a world is true of another after the CPU's turn and its turns that no store sees
 abbrev pub LeadsBy : (World → Type 0) → (Headway → World → Type 0) → ℕ → Type 0
 LeadsBy P Q c = (v : World) → P v
-    → (answer : Turn) × (mid : MachineState) × (m : MachineState) × (h : Headway) × ((y : World) × TakesTurn v c answer y × Shows mid y) × RunsAhead mid c h m × ((y : World) → Shows m y → Q h y)
+    → (answer : Turn) × (mid : MachineState) × (m : MachineState) × (h : Headway) × ((y : World) × TakesTurn v c answer y × Shows mid y) ×
+    RunsAhead mid c h m × ((y : World) → Shows m y → Q h y)
 
 -- the same of each CPU
 abbrev pub LeadsOn : (World → Type 0) → (World → Type 0) → Type 0
 LeadsOn P Q = (v : World) (c : ℕ) → P v
-    → (answer : Turn) × (mid : MachineState) × (m : MachineState) × (h : Headway) × ((y : World) × TakesTurn v c answer y × Shows mid y) × RunsAhead mid c h m × ((y : World) → Shows m y → Q y)
+    → (answer : Turn) × (mid : MachineState) × (m : MachineState) × (h : Headway) × ((y : World) × TakesTurn v c answer y × Shows mid y) ×
+    RunsAhead mid c h m × ((y : World) → Shows m y → Q y)
 
 module _ (w : World) (c : ℕ) (v : World) (headways : ℕ → Headway) (same : with_jobs v w.jobs ≡ w) (ahead : IsAheadOf (IsAhead headways) headways w.jobs v) where
   taken_here : (other : Turn) (y : World) → TakesTurn (with_jobs v w.jobs) c other y → TakesTurn w c other y
   taken_here other y taken = subst (λ (x : World). TakesTurn x c other y) same taken
 
   -- the turn was made ahead
-  pub comes_made : (n : ℕ) → headways c ≡ Turns (suc n) → (y : World) × TakesTurn w c turn.Ran y × (with_jobs v y.jobs ≡ y) × IsAheadOf (IsAhead (now headways c (Turns n))) (now headways c (Turns n)) y.jobs v
+  pub comes_made : (n : ℕ) → headways c ≡ Turns (suc n) → (y : World) × TakesTurn w c turn.Ran y × (with_jobs v y.jobs ≡ y) × IsAheadOf
+      (IsAhead (now headways c (Turns n))) (now headways c (Turns n)) y.jobs v
   comes_made n many =
       let fits = subst (λ (h : Headway). FitsHeadway v.jobs c h) many (ahead.fits c (n, many)) in
       let new = now headways c (Turns n) in
       let new_is = now_is headways c (Turns n) in
       let others = others_are headways c (Turns n) in
-      let t = turn_comes (λ d. turns_in (headways d)) (λ d. turns_in (new d)) c n v w.jobs ahead.each (ap turns_in many) (ap turns_in new_is) (λ d ne. ap turns_in (others d ne)) fits.0 fits.1 fits.2 in (
+      let t = turn_comes (λ d. turns_in (headways d)) (λ d. turns_in (new d)) c n v w.jobs ahead.each (ap turns_in many)
+      (ap turns_in new_is) (λ d ne. ap turns_in (others d ne)) fits.0 fits.1 fits.2 in (
         with_jobs v t.0,
         taken_here turn.Ran (with_jobs v t.0) t.1,
         refl,
         record {
           each = t.2;
           fits = λ d far. elim (equal_or_not d c) [
-            | inl e ↦ subst (λ (k : ℕ). FitsHeadway v.jobs k (new k)) (sym e) (subst (λ (h : Headway). FitsHeadway v.jobs c h) (sym new_is) (still_fits v.jobs c n fits))
+            | inl e ↦ subst (λ (k : ℕ). FitsHeadway v.jobs k (new k)) (sym e)
+                (subst (λ (h : Headway). FitsHeadway v.jobs c h) (sym new_is) (still_fits v.jobs c n fits))
             | inr ne ↦ subst (λ (h : Headway). FitsHeadway v.jobs d h) (others d ne) (ahead.fits d (was_ahead headways c (Turns n) d ne far))
           ];
         },
@@ -123,7 +129,8 @@ module _ (w : World) (c : ℕ) (v : World) (headways : ℕ → Headway) (same : 
 
   -- it is made from the kept machine
   pub comes_new : (P : World → Type 0) (Q : Headway → World → Type 0) → LeadsBy P Q c → P v → turns_in (headways c) ≡ 0
-      → (answer : Turn) × (y : World) × (u : World) × (h : Headway) × TakesTurn w c answer y × Q h u × (with_jobs u y.jobs ≡ y) × IsAheadOf (IsAhead (now headways c h)) (now headways c h) y.jobs u
+      → (answer : Turn) × (y : World) × (u : World) × (h : Headway) × TakesTurn w c answer y × Q h u × (with_jobs u y.jobs ≡ y) × IsAheadOf
+      (IsAhead (now headways c h)) (now headways c h) y.jobs u
   comes_new P Q leads shown none =
       let r = leads v shown in
       let h = r.3 in
@@ -153,7 +160,8 @@ module _ (w : World) (c : ℕ) (v : World) (headways : ℕ → Headway) (same : 
       )
 
   -- a turn comes of each CPU
-  comes_from : (P Q : World → Type 0) → ((u : World) → P u → Q u) → LeadsOn P Q → P v → (h : Headway) → headways c ≡ h → (answer : Turn) × (y : World) × TakesTurn w c answer y × IsCoveredBy Q y
+  comes_from : (P Q : World → Type 0) → ((u : World) → P u → Q u) → LeadsOn P Q → P v → (h : Headway) → headways c ≡ h → (answer : Turn) ×
+      (y : World) × TakesTurn w c answer y × IsCoveredBy Q y
   comes_from P Q stays leads shown Idle e =
       let r = comes_new P (λ h u. Q u) (λ u p. leads u c p) shown (ap turns_in e) in
       (r.0, r.1, r.4, (r.2, now headways c r.3, r.5, r.6, r.7))
@@ -164,12 +172,14 @@ module _ (w : World) (c : ℕ) (v : World) (headways : ℕ → Headway) (same : 
       let r = comes_made n e in
       (turn.Ran, r.0, r.1, (v, now headways c (Turns n), stays v shown, r.2, r.3))
 
-pub comes : (P Q : World → Type 0) → ((v : World) → P v → Q v) → LeadsOn P Q → (w : World) (c : ℕ) → IsCoveredBy P w → (answer : Turn) × (y : World) × TakesTurn w c answer y × IsCoveredBy Q y
+pub comes : (P Q : World → Type 0) → ((v : World) → P v → Q v) → LeadsOn P Q → (w : World) (c : ℕ) → IsCoveredBy P w → (answer : Turn) ×
+    (y : World) × TakesTurn w c answer y × IsCoveredBy Q y
 comes P Q stays leads w c (v, headways, shown, same, ahead) = comes_from w c v headways same ahead P Q stays leads shown (headways c) refl
 
 -- the turn that the definitions lead to is the one that was taken
 pub turned : WritesAreDetermined → OneInstructionBegins → CallsHaveOneReply
-    → (P Q : World → Type 0) → ((v : World) → P v → Q v) → LeadsOn P Q → (w z : World) (c : ℕ) (answer : Turn) → IsWorld w → IsCoveredBy P w → TakesTurn w c answer z → IsCoveredBy Q z
+    → (P Q : World → Type 0) → ((v : World) → P v → Q v) → LeadsOn P Q → (w z : World) (c : ℕ) (answer : Turn) → IsWorld w → IsCoveredBy P w
+    → TakesTurn w c answer z → IsCoveredBy Q z
 turned law begins replies P Q stays leads w z c answer world covered progress =
     let r = comes P Q stays leads w c covered in
     let one = one_turn law begins replies w c answer r.0 z r.1 world progress r.2 in
@@ -191,8 +201,10 @@ closed_leads kept closed v c (i, m, at, shows) =
     let r = closed i m at c in
     (r.1.0, r.1.1, r.0, r.1.2, r.1.3 v shows, r.1.4, λ y seen. (r.2.0, r.2.1, r.2.2, r.2.3 y seen))
 
-pub covered_from : WritesAreDetermined → OneInstructionBegins → CallsHaveOneReply → (kept : List MachineState) → IsClosed kept → (w z : World) (schedule : List ℕ) → IsFresh w → IsShown kept w → RunsSchedule w schedule z → IsCovered kept z × IsWorld z
-covered_from law begins replies kept closed w z schedule fresh shown runs = covered_by law begins replies (IsShown kept) (closed_leads kept closed) w z schedule fresh shown runs
+pub covered_from : WritesAreDetermined → OneInstructionBegins → CallsHaveOneReply → (kept : List MachineState) → IsClosed kept →
+    (w z : World) (schedule : List ℕ) → IsFresh w → IsShown kept w → RunsSchedule w schedule z → IsCovered kept z × IsWorld z
+covered_from law begins replies kept closed w z schedule fresh shown runs = covered_by law begins replies (IsShown kept)
+    (closed_leads kept closed) w z schedule fresh shown runs
 
 pub closed_sets_cover : WritesAreDetermined → OneInstructionBegins → CallsHaveOneReply → ClosedSetsCover
 closed_sets_cover law begins replies kept w z schedule closed fresh shown runs =

@@ -32,11 +32,13 @@ use Rattle.bpf_base.proofs.Lists.{slice_get-set_known, slice_get-set_other}
 pub record IsWorld (w : World) : Type 0 where
   pub store : IsSoundStore w.store
   pub memory : (c j : ℕ) (task : Task) (state : Cpu) (left : ℕ) → IsAt w.jobs c j task (InHand state left) → IsMemory state.memory
-  pub one : (c j k : ℕ) (task other : Task) (state now : Cpu) (left rest : ℕ) → IsAt w.jobs c j task (InHand state left) → IsAt w.jobs c k other (InHand now rest) → j ≡ k
+  pub one : (c j k : ℕ) (task other : Task) (state now : Cpu) (left rest : ℕ) → IsAt w.jobs c j task (InHand state left) → IsAt w.jobs c k
+      other (InHand now rest) → j ≡ k
   pub short : (c j : ℕ) (task : Task) (input : Input) → IsAt w.jobs c j task (Waiting input) → IsShort input
 
 -- a job in two stages is in one
-pub same_stage : (jobs : List Task) (c j : ℕ) (task other : Task) (stage now : Stage) → IsAt jobs c j task stage → IsAt jobs c j other now → (task ≡ other) × (stage ≡ now)
+pub same_stage : (jobs : List Task) (c j : ℕ) (task other : Task) (stage now : Stage) → IsAt jobs c j task stage → IsAt jobs c j other now →
+    (task ≡ other) × (stage ≡ now)
 same_stage jobs c j task other stage now a b =
     let listed : Some task ≡ Some other = sym a.listed ∙ b.listed in
     let same : task ≡ other = cc in
@@ -47,7 +49,8 @@ pub data Changed (jobs : List Task) (c j : ℕ) (stage : Stage) (d k : ℕ) (tas
   Same : k ≡ j → d ≡ c → now ≡ stage → Changed jobs c j stage d k task now
   Other : k ≢ j → IsAt jobs d k task now → Changed jobs c j stage d k task now
 
-pub changed : (jobs : List Task) (c j : ℕ) (was : Task) (before stage : Stage) (d k : ℕ) (task : Task) (now : Stage) → IsAt jobs c j was before → IsAt (with_stage jobs j was stage) d k task now → Changed jobs c j stage d k task now
+pub changed : (jobs : List Task) (c j : ℕ) (was : Task) (before stage : Stage) (d k : ℕ) (task : Task) (now : Stage) → IsAt jobs c j was
+    before → IsAt (with_stage jobs j was stage) d k task now → Changed jobs c j stage d k task now
 changed jobs c j was before stage d k task now at new = elim (equal_or_not k j) [
   | inl e ↦
       let P : ℕ → Type 0 = λ k. slice_get (with_stage jobs j was stage) k ≡ Some task in
@@ -70,12 +73,20 @@ module _ (law : WritesAreDetermined) (begins : OneInstructionBegins) (replies : 
     pub store : IsSoundStore t
     pub memory : IsMemory new.memory
 
-  one_advance : (program : Loaded) (c : ℕ) (s : Plain) (old : Cpu) (n : ℕ) (end last : Option Outcome) (t u : Plain) (new other : Cpu) (left rest : ℕ) → IsSoundStore s → IsMemory old.memory
+  one_advance : (program : Loaded) (c : ℕ) (s : Plain) (old : Cpu) (n : ℕ) (end last : Option Outcome) (t u : Plain) (new other : Cpu)
+      (left rest : ℕ) → IsSoundStore s → IsMemory old.memory
       → Advances program c s old n end t new left → Advances program c s old n last u other rest → OneAdvance end last t u new other left rest
   one_advance program c s old zero end last t u new other left rest store sound a b =
       let P : Plain → Type 0 = IsSoundStore in
       let Q : Cpu → Type 0 = λ c. IsMemory c.memory in
-      record { ends = a.0 ∙ sym b.0; stores = a.1 ∙ sym b.1; states = a.2 ∙ sym b.2; lefts = a.3 ∙ sym b.3; store = subst P (sym a.1) store; memory = subst Q (sym a.2) sound }
+      record {
+        ends = a.0 ∙ sym b.0;
+        stores = a.1 ∙ sym b.1;
+        states = a.2 ∙ sym b.2;
+        lefts = a.3 ∙ sym b.3;
+        store = subst P (sym a.1) store;
+        memory = subst Q (sym a.2) sound;
+      }
   one_advance program c s old (suc n) end last t u new other left rest store sound a b =
       let agrees = step_agrees law begins s.shape program old new other a.1 b.1 a.0 b.0 sound a.2 b.2 in
       let one = same_replies law begins s.shape program replies c a.0 b.0 s t u store a.3 b.3 agrees.asks in
@@ -104,7 +115,8 @@ module _ (law : WritesAreDetermined) (begins : OneInstructionBegins) (replies : 
     pub waits_not : (input : Input) → stage ≡ Waiting input → ⊥
     pub jobs : y.jobs ≡ with_stage w.jobs j task stage
 
-  one_settled : (w : World) (c j : ℕ) (task : Task) (new : Cpu) (left : ℕ) (end : Option Outcome) (answer other : Turn) (y z : World) → IsSoundStore w.store → IsMemory new.memory
+  one_settled : (w : World) (c j : ℕ) (task : Task) (new : Cpu) (left : ℕ) (end : Option Outcome) (answer other : Turn) (y z : World) →
+      IsSoundStore w.store → IsMemory new.memory
       → Settles w c j task new left end answer y → Settles w c j task new left end other z → OneSettled w c j task answer other y z
   one_settled w c j task new left None answer other y z store memory a b =
       let Q : World → Type 0 = λ w. IsSoundStore w.store in
@@ -182,7 +194,8 @@ module _ (law : WritesAreDetermined) (begins : OneInstructionBegins) (replies : 
       only : (d l : ℕ) (u : Task) (now : Cpu) (rest : ℕ) → d ≡ c → l ≢ j → IsAt w.jobs d l u (InHand now rest) → ⊥
       only d l u now rest of ne h = let P : ℕ → Type 0 = λ n. IsAt w.jobs n l u (InHand now rest) in alone l u now rest ne (subst P of h)
 
-      one : (d k l : ℕ) (t u : Task) (state now : Cpu) (left rest : ℕ) → Changed w.jobs c j settled.stage d k t (InHand state left) → Changed w.jobs c j settled.stage d l u (InHand now rest) → k ≡ l
+      one : (d k l : ℕ) (t u : Task) (state now : Cpu) (left rest : ℕ) → Changed w.jobs c j settled.stage d k t (InHand state left) →
+          Changed w.jobs c j settled.stage d l u (InHand now rest) → k ≡ l
       one d k l t u state now left rest (Same e of is) (Same f at is') = e ∙ sym f
       one d k l t u state now left rest (Same e of is) (Other ne h) = absurd (only d l u now rest of ne h)
       one d k l t u state now left rest (Other ne h) (Same f of is) = absurd (only d k t state left of ne h)
@@ -202,7 +215,8 @@ module _ (law : WritesAreDetermined) (begins : OneInstructionBegins) (replies : 
 
   -- its job in hand
   in_hand_turn : (w : World) (c : ℕ) (answer other : Turn) (y z : World) (j : ℕ) (task t : Task) (state now : Cpu) (left rest : ℕ) → IsWorld w
-      → IsAt w.jobs c j task (InHand state left) → GoesOn w c j task state left answer y → IsAt w.jobs c j t (InHand now rest) → GoesOn w c j t now rest other z → OneTurn answer other y z
+      → IsAt w.jobs c j task (InHand state left) → GoesOn w c j task state left answer y → IsAt w.jobs c j t (InHand now rest) → GoesOn w c
+      j t now rest other z → OneTurn answer other y z
   in_hand_turn w c answer other y z j task t state now left rest world at goes at' goes' =
       let same = same_stage w.jobs c j t task (InHand now rest) (InHand state left) at' at in
       let stages : InHand now rest ≡ InHand state left = same.1 in
@@ -211,13 +225,16 @@ module _ (law : WritesAreDetermined) (begins : OneInstructionBegins) (replies : 
       let P : Task → Type 0 = λ t. GoesOn w c j t now rest other z in
       let Q : Cpu → Type 0 = λ now. GoesOn w c j task now rest other z in
       let R : ℕ → Type 0 = λ rest. GoesOn w c j task state rest other z in
-      let settled = one_going w c j task state left answer other y z world.store (world.memory c j task state left at) goes (subst R lefts (subst Q states (subst P same.0 goes'))) in
+      let settled = one_going w c j task state left answer other y z world.store (world.memory c j task state left at) goes
+      (subst R lefts (subst Q states (subst P same.0 goes'))) in
       settled_turn w c j task (InHand state left) answer other y z world at (λ k u s l ne h. ne (world.one c k j u task s state l left h at)) settled
 
   -- its lowest job that waits
-  waiting_turn : (w : World) (c : ℕ) (answer other : Turn) (y z : World) (j : ℕ) (task t : Task) (input second : Input) (s u : Plain) → IsWorld w → IsFree w.jobs c
+  waiting_turn : (w : World) (c : ℕ) (answer other : Turn) (y z : World) (j : ℕ) (task t : Task) (input second : Input) (s u : Plain) →
+      IsWorld w → IsFree w.jobs c
       → IsAt w.jobs c j task (Waiting input) → PlainlyAllowed w.store c Begin s → GoesOn (record w { store = s }) c j task (start c input) task.budget answer y
-      → IsAt w.jobs c j t (Waiting second) → PlainlyAllowed w.store c Begin u → GoesOn (record w { store = u }) c j t (start c second) t.budget other z → OneTurn answer other y z
+      → IsAt w.jobs c j t (Waiting second) → PlainlyAllowed w.store c Begin u → GoesOn (record w { store = u }) c j t (start c second)
+      t.budget other z → OneTurn answer other y z
   waiting_turn w c answer other y z j task t input second s u world free at begun goes at' begun' goes' =
       let same = same_stage w.jobs c j t task (Waiting second) (Waiting input) at' at in
       let stages : Waiting second ≡ Waiting input = same.1 in
@@ -227,11 +244,13 @@ module _ (law : WritesAreDetermined) (begins : OneInstructionBegins) (replies : 
       let Q : Input → Type 0 = λ second. GoesOn (record w { store = u }) c j task (start c second) task.budget other z in
       let R : Plain → Type 0 = λ u. GoesOn (record w { store = u }) c j task (start c input) task.budget other z in
       let sound = allowed_sound w.store s c Begin world.store begun.0 in
-      let settled = one_going (record w { store = s }) c j task (start c input) task.budget answer other y z sound (start_memory c input (world.short c j task input at)) goes (subst R stores (subst Q inputs (subst P same.0 goes'))) in
+      let settled = one_going (record w { store = s }) c j task (start c input) task.budget answer other y z sound
+      (start_memory c input (world.short c j task input at)) goes (subst R stores (subst Q inputs (subst P same.0 goes'))) in
       let here : IsWorld (record w { store = s }) = record { store = sound; memory = world.memory; one = world.one; short = world.short } in
       settled_turn (record w { store = s }) c j task (Waiting input) answer other y z here at (λ k v now l ne h. free k v now l h) settled
 
-  pub same_lowest : (jobs : List Task) (c j k : ℕ) (task t : Task) (input second : Input) → IsAt jobs c j task (Waiting input) → NoneWaitsBelow jobs c j → IsAt jobs c k t (Waiting second) → NoneWaitsBelow jobs c k → k ≡ j
+  pub same_lowest : (jobs : List Task) (c j k : ℕ) (task t : Task) (input second : Input) → IsAt jobs c j task (Waiting input) →
+      NoneWaitsBelow jobs c j → IsAt jobs c k t (Waiting second) → NoneWaitsBelow jobs c k → k ≡ j
   same_lowest jobs c j k task t input second at lowest at' lowest' = elim (cases_order k j) [
     | inl e ↦ e
     | inr rest ↦ elim rest [
@@ -257,7 +276,8 @@ module _ (law : WritesAreDetermined) (begins : OneInstructionBegins) (replies : 
   one_turn w c answer other y z world (inr (inl (free, a))) (inr (inr b)) = absurd (b.1 a.0 a.1 a.2 a.4)
   one_turn w c answer other y z world (inr (inr a)) (inl b) = absurd (a.0 b.0 b.1 b.2 b.3 b.4)
   one_turn w c answer other y z world (inr (inr a)) (inr (inl (free, b))) = absurd (a.1 b.0 b.1 b.2 b.4)
-  one_turn w c answer other y z world (inr (inr a)) (inr (inr b)) = record { answers = a.2 ∙ sym b.2; worlds = a.3 ∙ sym b.3; world = subst IsWorld (sym a.3) world }
+  one_turn w c answer other y z world (inr (inr a)) (inr (inr b)) = record
+      { answers = a.2 ∙ sym b.2; worlds = a.3 ∙ sym b.3; world = subst IsWorld (sym a.3) world }
 
   -- ---- a schedule
   pub one_run : (cs : List ℕ) (w y z : World) → IsWorld w → RunsSchedule w cs y → RunsSchedule w cs z → y ≡ z
@@ -305,7 +325,8 @@ module _ (law : WritesAreDetermined) (begins : OneInstructionBegins) (replies : 
 
   -- a job that waits isn't in hand
   none_in_hand : (w : World) → IsFresh w → (c j : ℕ) (task : Task) (state : Cpu) (left : ℕ) → IsAt w.jobs c j task (InHand state left) → ⊥
-  none_in_hand w fresh c j task state left at = let waits = fresh.waits j task at.listed in let both : InHand state left ≡ Waiting waits.0 = sym at.at ∙ waits.1 in cc
+  none_in_hand w fresh c j task state left at =
+      let waits = fresh.waits j task at.listed in let both : InHand state left ≡ Waiting waits.0 = sym at.at ∙ waits.1 in cc
 
   pub fresh_world : (w : World) → IsFresh w → IsWorld w
   fresh_world w fresh = record {

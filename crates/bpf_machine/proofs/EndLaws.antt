@@ -23,7 +23,8 @@ use Rattle.bpf_machine.specs.Ends.{RunsFreely, CanEnd, IsHung, FreeRunsAgree}
 use Rattle.bpf_machine.proofs.DeterminedTurns.{IsWorld, one_turn, fresh_world}
 use Rattle.bpf_machine.proofs.HeadwayLaws.{before}
 use Rattle.bpf_machine.proofs.CoverLaws.{now, now_is, IsCoveredBy, LeadsBy, LeadsOn, comes_made, comes_new, comes, true_is_covered, ended_jobs}
-use Rattle.bpf_machine.proofs.PatientLaws.{all_same, richer_hand, end_richer, rich_at, rich_again, rich_ended, rich_world, rich_turn, stays_ended, none_ran_before, Richly, enriched, IsCoveredRichlyBy}
+use Rattle.bpf_machine.proofs.PatientLaws.{all_same, richer_hand, end_richer, rich_at, rich_again, rich_ended, rich_world, rich_turn}
+use Rattle.bpf_machine.proofs.PatientLaws.{stays_ended, none_ran_before, Richly, enriched, IsCoveredRichlyBy}
 use Rattle.bpf_machine.proofs.PatientRaceLaws.{world_after}
 
 -- ---- two lists of richer jobs have a third that is richer than both
@@ -36,7 +37,14 @@ richer_join x y z (inr (state, left, k, was, is)) more =
     let sum : left + k + n ≡ left + n + k = omega arith in (
       t,
       inr (state, left + k, n, ap (λ (u : Task). u.stage) is, sym (ap (λ (u : Task). record u { stage = InHand state (left + k + n) }) is)),
-      inr (state, left + n, k, ap (λ (u : Task). u.stage) there.1, ap (λ (i : ℕ). record x { stage = InHand state i }) sum ∙ sym (ap (λ (u : Task). record u { stage = InHand state (left + n + k) }) there.1)),
+      inr (
+        state,
+        left + n,
+        k,
+        ap (λ (u : Task). u.stage) there.1,
+        ap (λ (i : ℕ). record x { stage = InHand state i }) sum ∙ sym
+            (ap (λ (u : Task). record u { stage = InHand state (left + n + k) }) there.1),
+      ),
     )
 
 rich_join : (xs ys zs : List Task) → AsRich xs ys → AsRich xs zs → (ts : List Task) × AsRich ys ts × AsRich zs ts
@@ -61,7 +69,8 @@ poor_ended [] (y ∷ ys) rich ended = absurd rich
 poor_ended (x ∷ xs) [] rich ended = absurd rich
 poor_ended (x ∷ xs) (y ∷ ys) rich ended =
     let end = ended 0 y refl in
-    ap (λ (t : Task). t ∷ ys) (richer_end x y end.0 rich.0 end.1) ∙ ap (λ (ts : List Task). x ∷ ts) (poor_ended xs ys rich.1 (λ j task at. ended (suc j) task at))
+    ap (λ (t : Task). t ∷ ys) (richer_end x y end.0 rich.0 end.1) ∙ ap (λ (ts : List Task). x ∷ ts)
+    (poor_ended xs ys rich.1 (λ j task at. ended (suc j) task at))
 
 none_poor : (xs ys : List Task) → AsRich xs ys → NoneRanOut ys → NoneRanOut xs
 none_poor xs ys rich none j task pc at ended =
@@ -112,7 +121,8 @@ freely_none : (cs : List ℕ) (w z : World) → RunsFreely w cs z → NoneRanOut
 freely_none [] w z (jobs, rich, same) none = none_poor w.jobs jobs rich (subst (λ (x : World). NoneRanOut x.jobs) same none)
 freely_none (c ∷ cs) w z (jobs, answer, m, rich, progress, runs) none =
     let after = freely_none cs m z runs none in
-    none_poor w.jobs jobs rich (λ j task pc at ended. after j task pc (stays_ended (with_jobs w jobs) c answer m j task (OutOfBudget pc) progress at ended) ended)
+    none_poor w.jobs jobs rich (λ j task pc at ended. after j task pc
+    (stays_ended (with_jobs w jobs) c answer m j task (OutOfBudget pc) progress at ended) ended)
 
 -- ---- from each kept machine an end
 -- the i-th shows the world
@@ -124,7 +134,8 @@ is_turns Idle n e = let no : 0 ≡ suc n = e in cc
 is_turns (Turns m) n e = ap Turns e
 
 -- turns of one CPU lead through those that were made ahead to the next kept machine
-through : (P Q : World → Type 0) (c n : ℕ) → LeadsBy P (λ h u. Q u) c → (w v : World) (headways : ℕ → Headway) → P v → with_jobs v w.jobs ≡ w → IsAheadOf (IsAhead headways) headways w.jobs v → turns_in (headways c) ≡ n
+through : (P Q : World → Type 0) (c n : ℕ) → LeadsBy P (λ h u. Q u) c → (w v : World) (headways : ℕ → Headway) → P v → with_jobs v w.jobs ≡
+    w → IsAheadOf (IsAhead headways) headways w.jobs v → turns_in (headways c) ≡ n
     → (cs : List ℕ) × (y : World) × RunsSchedule w cs y × IsCoveredBy Q y
 through P Q c zero leads w v headways shown same ahead none =
     let r = comes_new w c v headways same ahead P (λ h u. Q u) leads shown none in
@@ -161,7 +172,8 @@ module _ (kept : List MachineState) where
   one_machine i m n a b = let both : Some m ≡ Some n = sym a ∙ b in cc
 
 -- ---- from these machines none
-module _ (P : World → Type 0) (leads : LeadsOn P (Richly P)) (works : (w : World) → P w → HaveEnded w.jobs → ⊥) (none_out : (w : World) → P w → NoneRanOut w.jobs) where
+module _ (P : World → Type 0) (leads : LeadsOn P (Richly P)) (works : (w : World) → P w → HaveEnded w.jobs → ⊥)
+    (none_out : (w : World) → P w → NoneRanOut w.jobs) where
   stays : (v : World) → P v → Richly P v
   stays v shown = (v.jobs, all_same v.jobs, shown)
 
@@ -222,7 +234,8 @@ module _ (P : World → Type 0) (leads : LeadsOn P (Richly P)) (works : (w : Wor
 
 -- ---- one schedule, with steps that are given and without
 module _ (law : WritesAreDetermined) (begins : OneInstructionBegins) (replies : CallsHaveOneReply) where
-  agree : (cs : List ℕ) (w z y : World) (jobs : List Task) → IsWorld w → AsRich w.jobs jobs → RunsSchedule w cs z → NoneRanOut z.jobs → RunsFreely (with_jobs w jobs) cs y → AsRich z.jobs y.jobs × (with_jobs z y.jobs ≡ y)
+  agree : (cs : List ℕ) (w z y : World) (jobs : List Task) → IsWorld w → AsRich w.jobs jobs → RunsSchedule w cs z → NoneRanOut z.jobs →
+      RunsFreely (with_jobs w jobs) cs y → AsRich z.jobs y.jobs × (with_jobs z y.jobs ≡ y)
   agree [] w z y jobs world rich runs none (more, richer, same) =
       let P : World → Type 0 = λ x. AsRich x.jobs y.jobs × (with_jobs x y.jobs ≡ y) in
       let jobs_are : y.jobs ≡ more = ap (λ (x : World). x.jobs) same in

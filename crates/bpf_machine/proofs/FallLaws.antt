@@ -28,7 +28,8 @@ summed f jobs j task stage at =
     ap (λ t. sum_by f (with_stage jobs j task stage) + f t) (sym same) ∙ sum_by-set f jobs j (record task { stage = stage }) task within
 
 -- a job in hand has fewer steps left after a step, unless it ends
-pub left_falls : (program : Loaded) (c : ℕ) (s : Plain) (old : Cpu) (left : ℕ) (t : Plain) (new : Cpu) (rest : ℕ) → Advances program c s old left None t new rest → rest < left
+pub left_falls : (program : Loaded) (c : ℕ) (s : Plain) (old : Cpu) (left : ℕ) (t : Plain) (new : Cpu) (rest : ℕ) → Advances program c s old
+    left None t new rest → rest < left
 left_falls program c s old zero t new rest a = let no : None ≡ Some (OutOfBudget old.pc) = a.0 in cc
 left_falls program c s old (suc n) t new rest a = let e : rest ≡ n = a.5 in omega arith
 

@@ -11,8 +11,10 @@ use Rattle.bpf_machine.specs.Private.Lanes.{lane_of, no_lane}
 use Rattle.bpf_machine.specs.Private.Parts.{in_hand, IsLaneOf, IsFirstHand, FitsIn, CanFill}
 
 -- the job of a number that was read
-pub read_chosen : (parts : List Task) (numbers : List ℕ) (k : ℕ) (part : Task) → k < length numbers → All (λ n. n < length parts) numbers → part ≡ slice_index_or parts (slice_index_or numbers k 0) part → chosen_at parts numbers k ≡ part
-read_chosen parts numbers k part inside all read = get_or_from_slice_get parts (slice_index_or numbers k 0) part no_task (slice_get_read parts (length parts) (slice_index_or numbers k 0) part refl (all k 0 inside) read)
+pub read_chosen : (parts : List Task) (numbers : List ℕ) (k : ℕ) (part : Task) → k < length numbers → All (λ n. n < length parts) numbers →
+    part ≡ slice_index_or parts (slice_index_or numbers k 0) part → chosen_at parts numbers k ≡ part
+read_chosen parts numbers k part inside all read = get_or_from_slice_get parts (slice_index_or numbers k 0) part no_task
+    (slice_get_read parts (length parts) (slice_index_or numbers k 0) part refl (all k 0 inside) read)
 
 -- a CPU has one first job in hand
 pub one_first : (parts : List Task) (numbers : List ℕ) (c j k : ℕ) → IsFirstHand parts numbers c j → IsFirstHand parts numbers c k → j ≡ k
@@ -24,10 +26,14 @@ one_first parts numbers c j k a b = elim (cases_lt j k) [
   ]
 ]
 
-pub fits_first : (parts : List Task) (numbers : List ℕ) (c j : ℕ) (l : Lane) → IsFirstHand parts numbers c j → FitsIn (chosen_at parts numbers j).stage l.hand → CanFill parts numbers c l
-fits_first parts numbers c j l first fits k is = subst (λ (i : ℕ). FitsIn (chosen_at parts numbers i).stage l.hand) (one_first parts numbers c j k first is) fits
+pub fits_first : (parts : List Task) (numbers : List ℕ) (c j : ℕ) (l : Lane) → IsFirstHand parts numbers c j → FitsIn
+    (chosen_at parts numbers j).stage l.hand → CanFill parts numbers c l
+fits_first parts numbers c j l first fits k is = subst (λ (i : ℕ). FitsIn (chosen_at parts numbers i).stage l.hand)
+    (one_first parts numbers c j k first is) fits
 
-pub none_first : (parts : List Task) (numbers : List ℕ) (c : ℕ) (l : Lane) → ((k : ℕ) → k < length numbers → (chosen_at parts numbers k).cpu ≡ c → in_hand (chosen_at parts numbers k).stage ≡ false) → CanFill parts numbers c l
+pub none_first : (parts : List Task) (numbers : List ℕ) (c : ℕ) (l : Lane) →
+    ((k : ℕ) → k < length numbers → (chosen_at parts numbers k).cpu ≡ c → in_hand (chosen_at parts numbers k).stage ≡ false) → CanFill parts
+    numbers c l
 none_first parts numbers c l none j is = absurd (let no : false ≡ true = sym (none j is.within is.of) ∙ is.found in cc)
 
 -- ---- the lanes below a number are filled, and the others can be
@@ -36,10 +42,12 @@ pub record FilledSoFar (parts : List Task) (numbers : List ℕ) (cpus cpu : ℕ)
   pub filled : (c : ℕ) → c < cpu → IsLaneOf parts numbers c (lane_of lanes c)
   pub rest : (c : ℕ) → cpu ≤ c → c < cpus → CanFill parts numbers c (lane_of lanes c)
 
-pub none_filled : (parts : List Task) (numbers : List ℕ) (cpus : ℕ) (lanes : List Lane) → length lanes ≡ cpus → ((c : ℕ) → c < cpus → CanFill parts numbers c (lane_of lanes c)) → FilledSoFar parts numbers cpus 0 lanes
+pub none_filled : (parts : List Task) (numbers : List ℕ) (cpus : ℕ) (lanes : List Lane) → length lanes ≡ cpus →
+    ((c : ℕ) → c < cpus → CanFill parts numbers c (lane_of lanes c)) → FilledSoFar parts numbers cpus 0 lanes
 none_filled parts numbers cpus lanes count each = record { count = count; filled = λ c less. absurd (omega arith); rest = λ c past less. each c less }
 
-pub next_filled : (parts : List Task) (numbers : List ℕ) (cpus cpu : ℕ) (lanes : List Lane) (l : Lane) → FilledSoFar parts numbers cpus cpu lanes → cpu < cpus → IsLaneOf parts numbers cpu l → FilledSoFar parts numbers cpus (cpu + 1) (slice_set lanes cpu l)
+pub next_filled : (parts : List Task) (numbers : List ℕ) (cpus cpu : ℕ) (lanes : List Lane) (l : Lane) → FilledSoFar parts numbers cpus cpu
+    lanes → cpu < cpus → IsLaneOf parts numbers cpu l → FilledSoFar parts numbers cpus (cpu + 1) (slice_set lanes cpu l)
 next_filled parts numbers cpus cpu lanes l far inside is =
     let count = far.count in
     let within : cpu < length lanes = omega arith in
@@ -49,10 +57,13 @@ next_filled parts numbers cpus cpu lanes l far inside is =
         | inl below ↦ subst (IsLaneOf parts numbers c) (sym (get_or-set_other lanes cpu c l no_lane (λ e. absurd (omega arith)))) (far.filled c below)
         | inr past ↦
             let same : cpu ≡ c = omega arith in
-            subst (λ (k : ℕ). IsLaneOf parts numbers k (lane_of (slice_set lanes cpu l) k)) same (subst (IsLaneOf parts numbers cpu) (sym (get_or-set_same lanes cpu l no_lane within)) is)
+            subst (λ (k : ℕ). IsLaneOf parts numbers k (lane_of (slice_set lanes cpu l) k)) same
+            (subst (IsLaneOf parts numbers cpu) (sym (get_or-set_same lanes cpu l no_lane within)) is)
       ];
-      rest = λ c past less. subst (CanFill parts numbers c) (sym (get_or-set_other lanes cpu c l no_lane (λ e. absurd (omega arith)))) (far.rest c (omega arith) less);
+      rest = λ c past less. subst (CanFill parts numbers c) (sym (get_or-set_other lanes cpu c l no_lane (λ e. absurd (omega arith))))
+          (far.rest c (omega arith) less);
     }
 
-pub all_filled : (parts : List Task) (numbers : List ℕ) (cpus cpu : ℕ) (lanes : List Lane) → cpus ≤ cpu → FilledSoFar parts numbers cpus cpu lanes → (c : ℕ) → c < cpus → IsLaneOf parts numbers c (lane_of lanes c)
+pub all_filled : (parts : List Task) (numbers : List ℕ) (cpus cpu : ℕ) (lanes : List Lane) → cpus ≤ cpu → FilledSoFar parts numbers cpus cpu
+    lanes → (c : ℕ) → c < cpus → IsLaneOf parts numbers c (lane_of lanes c)
 all_filled parts numbers cpus cpu lanes past far c less = far.filled c (omega arith)

@@ -106,7 +106,9 @@ module _ (store : Contents) (programs : List Loaded) (parts : List Task) (number
         let hand = stands.hand (part k).cpu k (part k) state left (record { listed = chosen_is parts numbers k l; of = refl; at = is }) in
         record {
           number = hand.number;
-          ready = λ program there. (let same : Some hand.program ≡ Some program = sym hand.loaded ∙ there in let e : hand.program ≡ program = cc in subst (λ (p : Loaded). IsReady p state) e hand.ready);
+          ready = λ program there.
+              (let same : Some hand.program ≡ Some program = sym hand.loaded ∙ there in let e : hand.program ≡ program = cc in subst
+              (λ (p : Loaded). IsReady p state) e hand.ready);
           held = hand.held;
           runs = hand.runs;
         }
@@ -129,7 +131,8 @@ module _ (store : Contents) (programs : List Loaded) (parts : List Task) (number
         order = λ same is.
             (let w = waiting_or_not (part j).stage is in
             let before : j < length numbers = omega arith in
-            let more = stands.order (part j).cpu j k (part j) (part k) w.0 (record { listed = chosen_is parts numbers j before; of = refl; at = w.1 }) less (chosen_is parts numbers k l) (sym same) in
+            let more = stands.order (part j).cpu j k (part j) (part k) w.0
+            (record { listed = chosen_is parts numbers j before; of = refl; at = w.1 }) less (chosen_is parts numbers k l) (sym same) in
             ap waits more.1);
       };
       idle = λ c none. stands.idle c (λ j task state left at.

@@ -34,7 +34,8 @@ rounds_only zero w z log runs = runs.0
 rounds_only (suc n) w z log runs = (runs.0, rounds_only n w runs.0 runs.1 runs.3, runs_only (below runs.0.store.shape.cpus) runs.0 z runs.2 runs.4)
 
 pub happenings_are_of_runs : HappeningsAreOfRuns
-happenings_are_of_runs w z schedule log (y, first, n, rest, turned, rounds, ended, all) = (y, runs_only schedule w y first turned, (n, rounds_only n y z rest rounds, ended))
+happenings_are_of_runs w z schedule log (y, first, n, rest, turned, rounds, ended, all) =
+    (y, runs_only schedule w y first turned, (n, rounds_only n y z rest rounds, ended))
 
 -- ---- a turn where all jobs have ended
 nothing_happens : (w : World) (c : ℕ) (answer : Turn) (log : List Happening) → HaveEnded w.jobs → Happens w c answer log → log ≡ []
@@ -52,7 +53,8 @@ module _ (law : WritesAreDetermined) (begins : OneInstructionBegins) (replies : 
       (same_replies law begins s.shape program replies c events others s a.2 b.2 store a.4 b.4 agrees.asks).0
 
   -- ---- a turn
-  one_going : (w : World) (c j : ℕ) (task : Task) (old : Cpu) (left : ℕ) (answer : Turn) (before : List Event) (log other : List Happening) → IsSoundStore w.store → IsMemory old.memory
+  one_going : (w : World) (c j : ℕ) (task : Task) (old : Cpu) (left : ℕ) (answer : Turn) (before : List Event) (log other : List Happening)
+      → IsSoundStore w.store → IsMemory old.memory
       → HappensOn w c j task old left answer before log → HappensOn w c j task old left answer before other → log ≡ other
   one_going w c j task old left answer before log other store memory a b =
       let listed : Some a.0 ≡ Some b.0 = sym a.2 ∙ b.2 in
@@ -72,11 +74,14 @@ module _ (law : WritesAreDetermined) (begins : OneInstructionBegins) (replies : 
       let P : Task → Type 0 = λ t. HappensOn w c j t now rest answer [] other in
       let Q : Cpu → Type 0 = λ now. HappensOn w c j task now rest answer [] other in
       let R : ℕ → Type 0 = λ rest. HappensOn w c j task state rest answer [] other in
-      one_going w c j task state left answer [] log other world.store (world.memory c j task state left at) on (subst R lefts (subst Q states (subst P same.0 on')))
+      one_going w c j task state left answer [] log other world.store (world.memory c j task state left at) on
+      (subst R lefts (subst Q states (subst P same.0 on')))
 
   waiting : (w : World) (c : ℕ) (answer : Turn) (log other : List Happening) (j : ℕ) (task t : Task) (input second : Input) (s u : Plain) → IsWorld w
-      → IsAt w.jobs c j task (Waiting input) → PlainlyAllowed w.store c Begin s → HappensOn (record w { store = s }) c j task (start c input) task.budget answer (Begin ∷ []) log
-      → IsAt w.jobs c j t (Waiting second) → PlainlyAllowed w.store c Begin u → HappensOn (record w { store = u }) c j t (start c second) t.budget answer (Begin ∷ []) other → log ≡ other
+      → IsAt w.jobs c j task (Waiting input) → PlainlyAllowed w.store c Begin s → HappensOn (record w { store = s }) c j task
+      (start c input) task.budget answer (Begin ∷ []) log
+      → IsAt w.jobs c j t (Waiting second) → PlainlyAllowed w.store c Begin u → HappensOn (record w { store = u }) c j t (start c second)
+      t.budget answer (Begin ∷ []) other → log ≡ other
   waiting w c answer log other j task t input second s u world at begun on at' begun' on' =
       let same = same_stage w.jobs c j t task (Waiting second) (Waiting input) at' at in
       let stages : Waiting second ≡ Waiting input = same.1 in
@@ -86,7 +91,8 @@ module _ (law : WritesAreDetermined) (begins : OneInstructionBegins) (replies : 
       let Q : Input → Type 0 = λ second. HappensOn (record w { store = u }) c j task (start c second) task.budget answer (Begin ∷ []) other in
       let R : Plain → Type 0 = λ u. HappensOn (record w { store = u }) c j task (start c input) task.budget answer (Begin ∷ []) other in
       let sound = allowed_sound w.store s c Begin world.store begun.0 in
-      one_going (record w { store = s }) c j task (start c input) task.budget answer (Begin ∷ []) log other sound (start_memory c input (world.short c j task input at)) on
+      one_going (record w { store = s }) c j task (start c input) task.budget answer (Begin ∷ []) log other sound
+      (start_memory c input (world.short c j task input at)) on
       (subst R stores (subst Q inputs (subst P same.0 on')))
 
   one_happens : (w : World) (c : ℕ) (answer : Turn) (log other : List Happening) → IsWorld w → Happens w c answer log → Happens w c answer other → log ≡ other
@@ -112,7 +118,8 @@ module _ (law : WritesAreDetermined) (begins : OneInstructionBegins) (replies : 
   both : (xs ys us vs : List Happening) → xs ≡ us → ys ≡ vs → xs ++ ys ≡ us ++ vs
   both xs ys us vs first second = ap (λ (zs : List Happening). zs ++ ys) first ∙ ap (λ (zs : List Happening). us ++ zs) second
 
-  one_run : (cs : List ℕ) (w y z : World) (log other : List Happening) → IsWorld w → RunsWith w cs log y → RunsWith w cs other z → (log ≡ other) × (y ≡ z) × IsWorld y
+  one_run : (cs : List ℕ) (w y z : World) (log other : List Happening) → IsWorld w → RunsWith w cs log y → RunsWith w cs other z →
+      (log ≡ other) × (y ≡ z) × IsWorld y
   one_run [] w y z log other world a b = (a.1 ∙ sym b.1, a.0 ∙ sym b.0, subst IsWorld (sym a.0) world)
   one_run (c ∷ cs) w y z log other world a b =
       let progress = one_turn law begins replies w c a.0 b.0 a.1 b.1 world a.4 b.4 in
@@ -123,7 +130,8 @@ module _ (law : WritesAreDetermined) (begins : OneInstructionBegins) (replies : 
       (a.7 ∙ (both a.2 a.3 b.2 b.3 here later.0 ∙ sym b.7), later.1, later.2)
 
   -- ---- rounds
-  one_of_rounds : (n : ℕ) (w y z : World) (log other : List Happening) → IsWorld w → RunsRoundsWith n w log y → RunsRoundsWith n w other z → (log ≡ other) × (y ≡ z) × IsWorld y
+  one_of_rounds : (n : ℕ) (w y z : World) (log other : List Happening) → IsWorld w → RunsRoundsWith n w log y → RunsRoundsWith n w other z →
+      (log ≡ other) × (y ≡ z) × IsWorld y
   one_of_rounds zero w y z log other world a b = (a.1 ∙ sym b.1, a.0 ∙ sym b.0, subst IsWorld (sym a.0) world)
   one_of_rounds (suc n) w y z log other world a b =
       let before = one_of_rounds n w a.0 b.0 a.1 b.1 world a.3 b.3 in
@@ -140,7 +148,8 @@ module _ (law : WritesAreDetermined) (begins : OneInstructionBegins) (replies : 
       let rest = all_ended cs runs.1 z runs.3 (subst P (sym same) ended) runs.6 in
       (runs.7 ∙ both runs.2 runs.3 [] [] (nothing_happens w c runs.0 runs.2 ended runs.5) rest.0, rest.1 ∙ same)
 
-  more_rounds : (k n m : ℕ) (w y z : World) (log other : List Happening) → m ≡ n + k → IsWorld w → HaveEnded y.jobs → RunsRoundsWith n w log y → RunsRoundsWith m w other z → (log ≡ other) × (y ≡ z)
+  more_rounds : (k n m : ℕ) (w y z : World) (log other : List Happening) → m ≡ n + k → IsWorld w → HaveEnded y.jobs → RunsRoundsWith n w log
+      y → RunsRoundsWith m w other z → (log ≡ other) × (y ≡ z)
   more_rounds zero n m w y z log other sum world ended a b =
       let same : m ≡ n = omega arith in
       let one = one_of_rounds n w y z log other world a (subst (λ (i : ℕ). RunsRoundsWith i w other z) same b) in

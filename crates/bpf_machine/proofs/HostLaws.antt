@@ -27,7 +27,8 @@ tasks_count lanes [] = refl
 tasks_count lanes (x ∷ xs) = ap suc (tasks_count lanes xs)
 
 -- one job is listed anew
-pub same_count : (lanes later : List Lane) (jobs : List Listed) (j : ℕ) (x : Listed) → length (tasks_of later (slice_set jobs j x)) ≡ length (tasks_of lanes jobs)
+pub same_count : (lanes later : List Lane) (jobs : List Listed) (j : ℕ) (x : Listed) → length (tasks_of later (slice_set jobs j x)) ≡ length
+    (tasks_of lanes jobs)
 same_count lanes later jobs j x = tasks_count later (slice_set jobs j x) ∙ (length-set jobs j x ∙ sym (tasks_count lanes jobs))
 
 -- lists are asked for where a machine shows some

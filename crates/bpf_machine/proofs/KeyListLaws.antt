@@ -1,5 +1,6 @@
 -- What CPUs list the keys of the maps in: what it shows, and that it stays fit.
-use Rattle.std.proofs.Common.{◌≡◌, ◌≢◌, ℕ, ◌<◌, ◌≤◌, Bool, true, false, List, [], ◌∷◌, ◌++◌, ◌+◌, Some, None, take, length, inl, inr, refl, sym, ap, subst, ◌∙◌, if◌then◌else◌, arith}
+use Rattle.std.proofs.Common.{◌≡◌, ◌≢◌, ℕ, ◌<◌, ◌≤◌, Bool, true, false, List, [], ◌∷◌, ◌++◌, ◌+◌, Some, None, take, length, inl, inr, refl}
+use Rattle.std.proofs.Common.{sym, ap, subst, ◌∙◌, if◌then◌else◌, arith}
 use Rattle.std.specs.Prelude.{◌⊎◌, get_or, map, slice_get, slice_index_or, slice_set, option_map}
 use mathlib.Core.Path.{fun_ext}
 use Rattle.std.specs.FinMap.{keys}
@@ -32,14 +33,17 @@ shown_past all c past = get_or_past (map shown_lists all) c Due (omega (arith, l
 pub all_due : (all : List KeyLists) → AreFirst all → listing_at (listings true all) ≡ first_lists true
 all_due all first = fun_ext (λ c. due_at c (slice_get_cases all c).1)
   where
-    due_at : (c : ℕ) → ((x : KeyLists) × (c < length all) × (slice_get all c ≡ Some x) × (get_or all c x ≡ x)) ⊎ ((length all ≤ c) × (slice_get all c ≡ None)) → listing_at (listings true all) c ≡ Due
-    due_at c (inl (l, inside, at, same)) = shown_at all c l at ∙ ap (λ (b : Bool). if b then Made (map (λ list. list.keys) l.maps.items) else Due) (first c l at)
+    due_at : (c : ℕ) → ((x : KeyLists) × (c < length all) × (slice_get all c ≡ Some x) × (get_or all c x ≡ x)) ⊎
+        ((length all ≤ c) × (slice_get all c ≡ None)) → listing_at (listings true all) c ≡ Due
+    due_at c (inl (l, inside, at, same)) = shown_at all c l at ∙ ap
+        (λ (b : Bool). if b then Made (map (λ list. list.keys) l.maps.items) else Due) (first c l at)
     due_at c (inr (past, none)) = shown_past all c past
 
 pub none_asked : (all : List KeyLists) → listing_at (listings false all) ≡ first_lists false
 none_asked all = fun_ext (λ c. refl)
 
-pub first_fit : (shapes : List MapShape) (jobs : List Job) (list : List job.Listed) (keys : Bool) (all : List KeyLists) → list ≡ map first_entry jobs → AreAsked shapes jobs keys all → FitLists shapes list keys all
+pub first_fit : (shapes : List MapShape) (jobs : List Job) (list : List job.Listed) (keys : Bool) (all : List KeyLists) → list ≡ map
+    first_entry jobs → AreAsked shapes jobs keys all → FitLists shapes list keys all
 first_fit shapes jobs list false all is asked = tt
 first_fit shapes jobs list true all is asked = λ k x at.
     let j = listed_at jobs k x (subst (λ (xs : List job.Listed). slice_get xs k ≡ Some x) is at) in
@@ -47,7 +51,8 @@ first_fit shapes jobs list true all is asked = λ k x at.
     subst (λ (c : ℕ). HasLists shapes all c) (sym own) (asked k j.0 j.1)
 
 -- ---- a job's entry is changed
-pub still_fit : (shapes after : List MapShape) (jobs : List job.Listed) (j : ℕ) (e e' : job.Listed) (keys : Bool) (all : List KeyLists) → after ≡ shapes → slice_get jobs j ≡ Some e → e'.cpu ≡ e.cpu
+pub still_fit : (shapes after : List MapShape) (jobs : List job.Listed) (j : ℕ) (e e' : job.Listed) (keys : Bool) (all : List KeyLists) →
+    after ≡ shapes → slice_get jobs j ≡ Some e → e'.cpu ≡ e.cpu
     → FitLists shapes jobs keys all → FitLists after (slice_set jobs j e') keys all
 still_fit shapes after jobs j e e' false all same at own fit = tt
 still_fit shapes after jobs j e e' true all same at own fit = λ k x there. elim (equal_or_not k j) [
@@ -73,7 +78,8 @@ module _ (all : List KeyLists) (c : ℕ) (l l' : KeyLists) (at : slice_get all c
     after = listing_at (listings true (slice_set all c l'))
 
     elsewhere : (d : ℕ) → d ≢ c → after d ≡ before d
-    elsewhere d ne = ap (λ (ls : List Listing). slice_index_or ls d Due) (map-set shown_lists all c l') ∙ get_or-set_other (map shown_lists all) c d (shown_lists l') Due ne
+    elsewhere d ne = ap (λ (ls : List Listing). slice_index_or ls d Due) (map-set shown_lists all c l') ∙ get_or-set_other
+        (map shown_lists all) c d (shown_lists l') Due ne
 
     here : before c ≡ shown_lists l
     here = shown_at all c l at
@@ -92,9 +98,11 @@ module _ (all : List KeyLists) (c : ℕ) (l l' : KeyLists) (at : slice_get all c
     pub now_listed : put (listing_at (listings true all)) c (listed_now s (listing_at (listings true all) c)) ≡ listing_at (listings true (slice_set all c l'))
     now_listed = fun_ext shown
 
-  pub fit_listed : (shapes after : List MapShape) (jobs : List job.Listed) → after ≡ shapes → AreListsOf shapes l'.maps.items → FitLists shapes jobs true all → FitLists after jobs true (slice_set all c l')
+  pub fit_listed : (shapes after : List MapShape) (jobs : List job.Listed) → after ≡ shapes → AreListsOf shapes l'.maps.items → FitLists
+      shapes jobs true all → FitLists after jobs true (slice_set all c l')
   fit_listed shapes after jobs same own fit = λ k x there. elim (equal_or_not x.cpu c) [
-    | inl is ↦ subst (λ (hs : List MapShape). HasLists hs (slice_set all c l') x.cpu) (sym same) (l', ap (λ (n : ℕ). slice_get (slice_set all c l') n) is ∙ slice_get-set_known all c l' l at, own)
+    | inl is ↦ subst (λ (hs : List MapShape). HasLists hs (slice_set all c l') x.cpu) (sym same)
+        (l', ap (λ (n : ℕ). slice_get (slice_set all c l') n) is ∙ slice_get-set_known all c l' l at, own)
     | inr ne ↦
         let h = fit k x there in
         subst (λ (hs : List MapShape). HasLists hs (slice_set all c l') x.cpu) (sym same) (h.0, slice_get-set_other all c x.cpu l' ne ∙ h.1, h.2)
@@ -111,7 +119,8 @@ pub none_listed : (c : ℕ) (s : Plain) → put (listing_at None) c (listed_now 
 none_listed c s = never_now (listing_at None) c s refl
 
 -- ---- one map more, as lists are made and as they are filled
-pub one_more_map : (shapes : List MapShape) (lists new : List Listed) (x : Listed) (h : MapShape) → AreListsOf (take (length lists) shapes) lists → slice_get shapes (length lists) ≡ Some h → length lists < 16 → x.shape ≡ h
+pub one_more_map : (shapes : List MapShape) (lists new : List Listed) (x : Listed) (h : MapShape) → AreListsOf (take (length lists) shapes)
+    lists → slice_get shapes (length lists) ≡ Some h → length lists < 16 → x.shape ≡ h
     → new ≡ lists ++ x ∷ [] → AreListsOf (take (length new) shapes) new
 one_more_map shapes lists new x h are at few same is =
     let n = length lists in
@@ -127,21 +136,25 @@ one_more_map shapes lists new x h are at few same is =
       few = omega arith;
     }
 
-pub all_maps : (shapes : List MapShape) (lists : List Listed) (n : ℕ) → n ≡ length lists → slice_get shapes n ≡ None → AreListsOf (take (length lists) shapes) lists → AreListsOf shapes lists
+pub all_maps : (shapes : List MapShape) (lists : List Listed) (n : ℕ) → n ≡ length lists → slice_get shapes n ≡ None → AreListsOf
+    (take (length lists) shapes) lists → AreListsOf shapes lists
 all_maps shapes lists n is none are =
     let past : length shapes ≤ n = beyond (slice_get_cases shapes n).1 in
     subst (λ (hs : List MapShape). AreListsOf hs lists) (take_all (length lists) shapes (omega arith)) are
   where
-    beyond : ((x : MapShape) × (n < length shapes) × (slice_get shapes n ≡ Some x) × (get_or shapes n x ≡ x)) ⊎ ((length shapes ≤ n) × (slice_get shapes n ≡ None)) → length shapes ≤ n
+    beyond : ((x : MapShape) × (n < length shapes) × (slice_get shapes n ≡ Some x) × (get_or shapes n x ≡ x)) ⊎
+        ((length shapes ≤ n) × (slice_get shapes n ≡ None)) → length shapes ≤ n
     beyond (inl (x, inside, at, same)) = let no : None ≡ Some x = sym none ∙ at in absurd cc
     beyond (inr (past, same)) = past
 
-pub list_shape : (shapes : List MapShape) (lists : List Listed) (m : ℕ) (d : Listed) → map (λ list. list.shape) lists ≡ shapes → m < length lists → slice_get shapes m ≡ Some (get_or lists m d).shape
+pub list_shape : (shapes : List MapShape) (lists : List Listed) (m : ℕ) (d : Listed) → map (λ list. list.shape) lists ≡ shapes → m < length
+    lists → slice_get shapes m ≡ Some (get_or lists m d).shape
 list_shape shapes lists m d are inside =
     ap (λ (hs : List MapShape). slice_get hs m) (sym are)
     ∙ (slice_get-map (λ (list : Listed). list.shape) lists m ∙ ap (option_map (λ (list : Listed). list.shape)) (slice_get-get_or lists m d inside))
 
-pub one_more_keys : (lists : List Listed) (m : ℕ) (new : Listed) (found : ℕ → List (List ℕ)) → m < length lists → ((k : ℕ) (x : Listed) → k < m → slice_get lists k ≡ Some x → x.keys ≡ found k) → new.keys ≡ found m
+pub one_more_keys : (lists : List Listed) (m : ℕ) (new : Listed) (found : ℕ → List (List ℕ)) → m < length lists →
+    ((k : ℕ) (x : Listed) → k < m → slice_get lists k ≡ Some x → x.keys ≡ found k) → new.keys ≡ found m
     → (k : ℕ) (x : Listed) → k < m + 1 → slice_get (slice_set lists m new) k ≡ Some x → x.keys ≡ found k
 one_more_keys lists m new found inside before here k x below at = elim (equal_or_not k m) [
   | inl is ↦
@@ -151,21 +164,25 @@ one_more_keys lists m new found inside before here k x below at = elim (equal_or
   | inr ne ↦ before k x (omega arith) (sym (slice_get-set_other lists m k new ne) ∙ at)
 ]
 
-pub same_maps : (shapes : List MapShape) (lists : List Listed) (m : ℕ) (new d : Listed) → AreListsOf shapes lists → new.shape ≡ (get_or lists m d).shape → AreListsOf shapes (slice_set lists m new)
+pub same_maps : (shapes : List MapShape) (lists : List Listed) (m : ℕ) (new d : Listed) → AreListsOf shapes lists → new.shape ≡
+    (get_or lists m d).shape → AreListsOf shapes (slice_set lists m new)
 same_maps shapes lists m new d are same = record {
   shapes_are = map-set_same (λ (list : Listed). list.shape) lists m new d same ∙ are.shapes_are;
   few = omega (arith, length-set lists m new, are.few);
 }
 
-pub all_keys : (shapes : List MapShape) (lists : List Listed) (s : Plain) (n : ℕ) → map (λ list. list.shape) lists ≡ shapes → s.shape.maps ≡ shapes → length lists ≤ n
+pub all_keys : (shapes : List MapShape) (lists : List Listed) (s : Plain) (n : ℕ) → map (λ list. list.shape) lists ≡ shapes → s.shape.maps ≡
+    shapes → length lists ≤ n
     → ((k : ℕ) (x : Listed) → k < n → slice_get lists k ≡ Some x → x.keys ≡ keys (s.maps k)) → map (λ list. list.keys) lists ≡ keys_by_map s
 all_keys shapes lists s n are stands past each =
     let many : length lists ≡ length s.shape.maps = sym (length-map lists (λ (list : Listed). list.shape)) ∙ (ap length are ∙ ap length (sym stands)) in
     fill_by_all (λ m. keys (s.maps m)) (map (λ list. list.keys) lists) (length s.shape.maps) [] (length-map lists (λ (list : Listed). list.keys) ∙ many)
     (λ k below. read k (omega arith) (slice_get_cases lists k).1)
   where
-    read : (k : ℕ) → k < length lists → ((x : Listed) × (k < length lists) × (slice_get lists k ≡ Some x) × (get_or lists k x ≡ x)) ⊎ ((length lists ≤ k) × (slice_get lists k ≡ None)) → get_or (map (λ list. list.keys) lists) k [] ≡ keys (s.maps k)
-    read k inside (inl (x, below, at, same)) = get_or-map (λ (list : Listed). list.keys) lists k x [] inside ∙ (ap (λ (list : Listed). list.keys) same ∙ each k x (omega arith) at)
+    read : (k : ℕ) → k < length lists → ((x : Listed) × (k < length lists) × (slice_get lists k ≡ Some x) × (get_or lists k x ≡ x)) ⊎
+        ((length lists ≤ k) × (slice_get lists k ≡ None)) → get_or (map (λ list. list.keys) lists) k [] ≡ keys (s.maps k)
+    read k inside (inl (x, below, at, same)) = get_or-map (λ (list : Listed). list.keys) lists k x [] inside ∙
+        (ap (λ (list : Listed). list.keys) same ∙ each k x (omega arith) at)
     read k inside (inr (out, none)) = absurd (omega arith)
 
 -- ---- one CPU more
@@ -191,7 +208,8 @@ module _ (all new : List KeyLists) (l : KeyLists) (is : new ≡ all ++ l ∷ [])
             ap (λ (y : KeyLists). y.made) (sym one) ∙ none
       ]
 
-  pub one_more_cpu : (shapes : List MapShape) (jobs : List Job) → ((j : ℕ) (x : Job) → slice_get jobs j ≡ Some x → x.cpu < length all → HasLists shapes all x.cpu)
+  pub one_more_cpu : (shapes : List MapShape) (jobs : List Job) →
+      ((j : ℕ) (x : Job) → slice_get jobs j ≡ Some x → x.cpu < length all → HasLists shapes all x.cpu)
       → ((j : ℕ) (x : Job) → slice_get jobs j ≡ Some x → x.cpu ≡ length all → AreListsOf shapes l.maps.items)
       → (j : ℕ) (x : Job) → slice_get jobs j ≡ Some x → x.cpu < length all + 1 → HasLists shapes new x.cpu
   one_more_cpu shapes jobs have own j x at below = elim (cases_lt x.cpu (length all)) [

@@ -1,5 +1,6 @@
 -- Schedules that are given in run lengths.
-use Rattle.std.proofs.Common.{◌≡◌, ◌∙◌, ℕ, zero, suc, ◌+◌, ◌-◌, ◌<◌, ◌≤◌, List, [], ◌∷◌, ◌++◌, append_assoc, append-nil, length, take, replicate, get_or, inr, refl, sym, ap, subst, arith}
+use Rattle.std.proofs.Common.{◌≡◌, ◌∙◌, ℕ, zero, suc, ◌+◌, ◌-◌, ◌<◌, ◌≤◌, List, [], ◌∷◌, ◌++◌, append_assoc, append-nil, length, take}
+use Rattle.std.proofs.Common.{replicate, get_or, inr, refl, sym, ap, subst, arith}
 use Rattle.std.proofs.lemmas.List.{replicate-append-replicate, take_more, take_all}
 use Rattle.std.proofs.lemmas.Grind.{replicate_next}
 use Rattle.bpf_machine.specs.declared.machine.Turn.{Turn}
@@ -19,7 +20,8 @@ runs_both w [] ds m z first second = subst (λ (x : World). RunsSchedule x ds z)
 runs_both w (c ∷ cs) ds m z first second = (first.0, first.1, first.2, runs_both first.1 cs ds m z first.3 second)
 
 -- ---- turns of one CPU
-pub one_more : (old mid new : MachineState) (c n : ℕ) (answer : Turn) → Runs old (replicate n c) mid → ((w : World) → Shows mid w → (z : World) × TakesTurn w c answer z × Shows new z) → Runs old (replicate (n + 1) c) new
+pub one_more : (old mid new : MachineState) (c n : ℕ) (answer : Turn) → Runs old (replicate n c) mid →
+    ((w : World) → Shows mid w → (z : World) × TakesTurn w c answer z × Shows new z) → Runs old (replicate (n + 1) c) new
 one_more old mid new c n answer runs turn w shows =
     let r = runs w shows in
     let t = turn r.0 r.2 in
@@ -30,7 +32,8 @@ idle_turns w c zero free none = refl
 idle_turns w c (suc n) free none = (Idle, w, inr (inr (free, none, refl, refl)), idle_turns w c n free none)
 
 -- after an idle turn of it the others change nothing
-pub rest_idle : (old mid new : MachineState) (c k n : ℕ) (answer : Turn) → k ≤ n → Runs old (replicate k c) mid → ((w : World) → Shows mid w → (z : World) × TakesTurn w c answer z × Shows new z)
+pub rest_idle : (old mid new : MachineState) (c k n : ℕ) (answer : Turn) → k ≤ n → Runs old (replicate k c) mid →
+    ((w : World) → Shows mid w → (z : World) × TakesTurn w c answer z × Shows new z)
     → answer ≡ Idle → new ≡ mid → Runs old (replicate n c) new
 rest_idle old mid new c k n answer within runs turn idle stays w shows =
     let r = runs w shows in
@@ -46,9 +49,11 @@ rest_idle old mid new c k n answer within runs turn idle stays w shows =
 -- ---- run lengths
 unrolled-append : (xs ys : List (ℕ × ℕ)) → unrolled (xs ++ ys) ≡ unrolled xs ++ unrolled ys
 unrolled-append [] ys = refl
-unrolled-append (x ∷ xs) ys = ap (λ (cs : List ℕ). replicate x.1 x.0 ++ cs) (unrolled-append xs ys) ∙ sym (append_assoc (replicate x.1 x.0) (unrolled xs) (unrolled ys))
+unrolled-append (x ∷ xs) ys = ap (λ (cs : List ℕ). replicate x.1 x.0 ++ cs) (unrolled-append xs ys) ∙ sym
+    (append_assoc (replicate x.1 x.0) (unrolled xs) (unrolled ys))
 
-pub next_run : (old mid new : MachineState) (runs : List (ℕ × ℕ)) (i : ℕ) (d : ℕ × ℕ) → i < length runs → Runs old (unrolled (take i runs)) mid → Runs mid (replicate (get_or runs i d).1 (get_or runs i d).0) new → Runs old (unrolled (take (i + 1) runs)) new
+pub next_run : (old mid new : MachineState) (runs : List (ℕ × ℕ)) (i : ℕ) (d : ℕ × ℕ) → i < length runs → Runs old (unrolled (take i runs))
+    mid → Runs mid (replicate (get_or runs i d).1 (get_or runs i d).0) new → Runs old (unrolled (take (i + 1) runs)) new
 next_run old mid new runs i d inside before here w shows =
     let run = get_or runs i d in
     let r = before w shows in
@@ -60,4 +65,5 @@ next_run old mid new runs i d inside before here w shows =
     (t.0, subst (λ (cs : List ℕ). RunsSchedule w cs t.0) (sym all) (runs_both w (unrolled (take i runs)) (replicate run.1 run.0) r.0 t.0 r.1 t.1), t.2)
 
 pub all_runs : (old new : MachineState) (runs : List (ℕ × ℕ)) (i : ℕ) → length runs ≤ i → Runs old (unrolled (take i runs)) new → Runs old (unrolled runs) new
-all_runs old new runs i past made w shows = let r = made w shows in (r.0, subst (λ (rs : List (ℕ × ℕ)). RunsSchedule w (unrolled rs) r.0) (take_all i runs past) r.1, r.2)
+all_runs old new runs i past made w shows =
+    let r = made w shows in (r.0, subst (λ (rs : List (ℕ × ℕ)). RunsSchedule w (unrolled rs) r.0) (take_all i runs past) r.1, r.2)

@@ -27,14 +27,17 @@ pub has_job : (s t : MachineState) (c : ℕ) → s ≡ t → HasJob t.jobs c →
 has_job s t c same has = subst (λ (m : MachineState). HasJob m.jobs c) (sym same) has
 
 -- the board of a store that says the same of its CPUs as another
-pub same_board : (store after : Contents) (programs : List Loaded) (jobs : List Listed) (lanes : List Lane) → has_cpu after ≡ has_cpu store → is_running after ≡ is_running store → held_spans after ≡ held_spans store
-    → IsBoard (has_cpu store) (is_running store) (held_spans store) programs jobs lanes → IsBoard (has_cpu after) (is_running after) (held_spans after) programs jobs lanes
+pub same_board : (store after : Contents) (programs : List Loaded) (jobs : List Listed) (lanes : List Lane) → has_cpu after ≡ has_cpu store
+    → is_running after ≡ is_running store → held_spans after ≡ held_spans store
+    → IsBoard (has_cpu store) (is_running store) (held_spans store) programs jobs lanes → IsBoard (has_cpu after) (is_running after)
+    (held_spans after) programs jobs lanes
 same_board store after programs jobs lanes serves runs held board =
     subst (λ (f : ℕ → Span → Bool). IsBoard (has_cpu after) (is_running after) f programs jobs lanes) (sym held)
     (subst (λ (f : ℕ → Bool). IsBoard (has_cpu after) f (held_spans store) programs jobs lanes) (sym runs)
     (subst (λ (f : ℕ → Bool). IsBoard f (is_running store) (held_spans store) programs jobs lanes) (sym serves) board))
 
-module _ (store : Contents) (programs : List Loaded) (jobs : List Listed) (lanes : List Lane) (board : IsBoard (has_cpu store) (is_running store) (held_spans store) programs jobs lanes)
+module _ (store : Contents) (programs : List Loaded) (jobs : List Listed) (lanes : List Lane)
+    (board : IsBoard (has_cpu store) (is_running store) (held_spans store) programs jobs lanes)
     (c : ℕ) (has : HasJob (tasks_of lanes jobs) c) where
   there : IsBehind jobs lanes c has.0 has.1
   there = behind jobs lanes c has.0 has.1 has.1.stage (record { listed = has.2; of = has.3; at = refl })
@@ -62,16 +65,20 @@ module _ (store : Contents) (programs : List Loaded) (jobs : List Listed) (lanes
           let one : has_lists.0 ≡ l = cc in
           subst (λ (x : KeyLists). AreListsOf (shapes_of store) x.maps.items) one has_lists.2
 
-      module _ (l' : KeyLists) (made : l'.made ≡ true) (after : Contents) (same : shapes_of after ≡ shapes_of store) (own : AreListsOf (shapes_of store) l'.maps.items) where
+      module _ (l' : KeyLists) (made : l'.made ≡ true) (after : Contents) (same : shapes_of after ≡ shapes_of store)
+          (own : AreListsOf (shapes_of store) l'.maps.items) where
         pub still_fit : FitLists (shapes_of after) jobs keys (slice_set all c l')
-        still_fit = subst (λ (b : Bool). FitLists (shapes_of after) jobs b (slice_set all c l')) (sym is) (fit_listed all c l l' listed made (shapes_of store) (shapes_of after) jobs same own fit_all)
+        still_fit = subst (λ (b : Bool). FitLists (shapes_of after) jobs b (slice_set all c l')) (sym is)
+            (fit_listed all c l l' listed made (shapes_of store) (shapes_of after) jobs same own fit_all)
 
         pub shows_listed : ((s : Plain) → IsSoundStore s → StandsFor store s → StandsFor after s × (map (λ list. list.keys) l'.maps.items ≡ keys_by_map s))
             → (view : MachineState) → record { store = store; programs = programs; jobs = tasks_of lanes jobs; lists = listings keys all } ≡ view
             → (w : World) → Shows view w
-            → Shows (record { store = after; programs = programs; jobs = tasks_of lanes jobs; lists = listings keys (slice_set all c l') }) (record w { lists = put w.lists c (listed_now w.store (w.lists c)) })
+            → Shows (record { store = after; programs = programs; jobs = tasks_of lanes jobs; lists = listings keys (slice_set all c l') })
+            (record w { lists = put w.lists c (listed_now w.store (w.lists c)) })
         shows_listed listing view view_is w shown =
-            let shows : Shows (record { store = store; programs = programs; jobs = tasks_of lanes jobs; lists = listings keys all }) w = subst (λ (m : MachineState). Shows m w) (sym view_is) shown in
+            let shows : Shows (record { store = store; programs = programs; jobs = tasks_of lanes jobs; lists = listings keys all }) w =
+            subst (λ (m : MachineState). Shows m w) (sym view_is) shown in
             let told = listing w.store shows.sound shows.store in
             let before : w.lists ≡ listing_at (listings true all) = shows.lists ∙ ap (λ (b : Bool). listing_at (listings b all)) is in
             record {
@@ -79,11 +86,13 @@ module _ (store : Contents) (programs : List Loaded) (jobs : List Listed) (lanes
               sound = shows.sound;
               programs = shows.programs;
               jobs = shows.jobs;
-              lists = ap (λ (f : ℕ → Listing). put f c (listed_now w.store (f c))) before ∙ (now_listed all c l l' listed made w.store told.1 ∙ ap (λ (b : Bool). listing_at (listings b (slice_set all c l'))) (sym is));
+              lists = ap (λ (f : ℕ → Listing). put f c (listed_now w.store (f c))) before ∙
+                  (now_listed all c l l' listed made w.store told.1 ∙ ap (λ (b : Bool). listing_at (listings b (slice_set all c l'))) (sym is));
             }
 
 -- where no lists are asked for
-pub shows_none : (m : MachineState) (c : ℕ) → m.lists ≡ None → (w : World) → Shows m w → Shows m (record w { lists = put w.lists c (listed_now w.store (w.lists c)) })
+pub shows_none : (m : MachineState) (c : ℕ) → m.lists ≡ None → (w : World) → Shows m w → Shows m
+    (record w { lists = put w.lists c (listed_now w.store (w.lists c)) })
 shows_none m c none w shows =
     let before : w.lists ≡ listing_at None = shows.lists ∙ ap listing_at none in
     record {
@@ -95,7 +104,8 @@ shows_none m c none w shows =
     }
 
 -- ---- with the end of a job
-pub lists_with_last : (old new : MachineState) (c : ℕ) → NoneWaits old.jobs c → ((w : World) → Shows old w → Shows new (record w { lists = put w.lists c (listed_now w.store (w.lists c)) }))
+pub lists_with_last : (old new : MachineState) (c : ℕ) → NoneWaits old.jobs c →
+    ((w : World) → Shows old w → Shows new (record w { lists = put w.lists c (listed_now w.store (w.lists c)) }))
     → (w : World) → Shows old w → (z : World) × Lists w c z × Shows new z
 lists_with_last old new c none lists w shows =
     let P : List Task → Type 0 = λ ts. NoneWaits ts c in

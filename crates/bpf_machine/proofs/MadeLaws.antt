@@ -1,5 +1,6 @@
 -- A machine as made.
-use Rattle.std.proofs.Common.{◌≡◌, ℕ, ◌<◌, ◌≤◌, Bool, true, false, List, [], ◌∷◌, Option, Some, None, is_some, inl, inr, length, refl, sym, ap, subst, ◌∙◌, arith}
+use Rattle.std.proofs.Common.{◌≡◌, ℕ, ◌<◌, ◌≤◌, Bool, true, false, List, [], ◌∷◌, Option, Some, None, is_some, inl, inr, length, refl, sym}
+use Rattle.std.proofs.Common.{ap, subst, ◌∙◌, arith}
 use Rattle.std.specs.Prelude.{map, All, slice_get, option_map}
 use Rattle.std.proofs.lemmas.Bool.{cases_lt}
 use Rattle.std.proofs.lemmas.List.Elements.{All-get_or}
@@ -21,7 +22,8 @@ pub all_at : {A : Type 0} (P : A → Type 0) (xs : List A) (k : ℕ) (x : A) →
 all_at P xs k x all at = subst P (get_or_from_slice_get xs k x x at) (All-get_or P xs k x (slice_get_within xs k x at) all)
 
 -- the job that a listed one was made of
-pub listed_at : (jobs : List Job) (k : ℕ) (x : Listed) → slice_get (map first_entry jobs) k ≡ Some x → (job : Job) × (slice_get jobs k ≡ Some job) × (x ≡ first_entry job)
+pub listed_at : (jobs : List Job) (k : ℕ) (x : Listed) → slice_get (map first_entry jobs) k ≡ Some x → (job : Job) ×
+    (slice_get jobs k ≡ Some job) × (x ≡ first_entry job)
 listed_at jobs k x at = go (slice_get jobs k) refl
   where
     shown : option_map first_entry (slice_get jobs k) ≡ Some x
@@ -35,11 +37,13 @@ made_tasks_of : (lanes : List Lane) (jobs : List Job) → tasks_of lanes (map fi
 made_tasks_of lanes [] = refl
 made_tasks_of lanes (job ∷ jobs) = ap (λ (ts : List Task). waiting job ∷ ts) (made_tasks_of lanes jobs)
 
-module _ (serves running : ℕ → Bool) (reach : ℕ → Span → Bool) (programs : List Loaded) (jobs : List Job) (list : List Listed) (lanes : List Lane) (is : list ≡ map first_entry jobs) where
+module _ (serves running : ℕ → Bool) (reach : ℕ → Span → Bool) (programs : List Loaded) (jobs : List Job) (list : List Listed)
+    (lanes : List Lane) (is : list ≡ map first_entry jobs) where
   pub made_tasks : tasks_of lanes list ≡ map waiting jobs
   made_tasks = ap (λ (xs : List Listed). tasks_of lanes xs) is ∙ made_tasks_of lanes jobs
 
-  module _ (cpus : ℕ) (count : length lanes ≡ cpus) (none : (c : ℕ) → c < cpus → (lane_of lanes c).hand ≡ None) (first : (c : ℕ) → c < cpus → IsFirstJob list c 0 (lane_of lanes c).next)
+  module _ (cpus : ℕ) (count : length lanes ≡ cpus) (none : (c : ℕ) → c < cpus → (lane_of lanes c).hand ≡ None)
+      (first : (c : ℕ) → c < cpus → IsFirstJob list c 0 (lane_of lanes c).next)
       (idle : (c : ℕ) → running c ≡ false) (below : All (λ job. job.cpu < cpus) jobs) (served : All (λ job. serves job.cpu ≡ true) jobs)
       (loaded : All (λ job. job.program < length programs) jobs) (short : All (λ job. IsShort job.input) jobs) where
     each_job : (k : ℕ) (x : Listed) → slice_get list k ≡ Some x → IsListed serves programs lanes k x
@@ -49,7 +53,8 @@ module _ (serves running : ℕ → Bool) (reach : ℕ → Span → Bool) (progra
         let within : job.cpu < cpus = all_at (λ (y : Job). y.cpu < cpus) jobs k job below j.1 in
         let own : x.cpu ≡ job.cpu = ap (λ (y : Listed). y.cpu) j.2 in
         let start = first job.cpu within in
-        let next : (lane_of lanes job.cpu).next ≤ k = elim (cases_lt k (lane_of lanes job.cpu).next) [ inl low ↦ absurd (start.none k x (omega arith) low at own) | inr past ↦ past ] in
+        let next : (lane_of lanes job.cpu).next ≤ k =
+        elim (cases_lt k (lane_of lanes job.cpu).next) [ inl low ↦ absurd (start.none k x (omega arith) low at own) | inr past ↦ past ] in
         let P : Listed → Type 0 = IsListed serves programs lanes k in
         subst P (sym j.2) (record {
           program = all_at (λ (y : Job). y.program < length programs) jobs k job loaded j.1;

@@ -1,5 +1,6 @@
 -- Over a `PlainStore` a CPU's events are all that a passage has, and they lead from store to store.
-use Rattle.std.proofs.Common.{◌≡◌, ◌≢◌, ℕ, ◌<◌, Bool, true, false, List, [], ◌∷◌, Option, Some, None, inl, inr, refl, sym, ap, subst, ◌∙◌, if◌then◌else◌, length, eq-eqb, ne_eqb}
+use Rattle.std.proofs.Common.{◌≡◌, ◌≢◌, ℕ, ◌<◌, Bool, true, false, List, [], ◌∷◌, Option, Some, None, inl, inr, refl, sym, ap, subst, ◌∙◌}
+use Rattle.std.proofs.Common.{if◌then◌else◌, length, eq-eqb, ne_eqb}
 use Rattle.std.specs.Prelude.{map}
 use Rattle.std.proofs.lemmas.Bool.{lt-ltb}
 use Rattle.bpf_shared.specs.declared.events.Event.{Event}
@@ -111,7 +112,8 @@ events_of-elsewhere : (c : ℕ) (x : Entry) (xs : List Entry) → x.cpu ≢ c �
 events_of-elsewhere c x xs ne = ap (λ (b : Bool). if b then x.event ∷ events_of c xs else events_of c xs) (ne_eqb x.cpu c ne)
 
 -- where no other CPU of the store has events, a history is the CPU's events
-history_is_own : (s t : Plain) (c : ℕ) (log : List Entry) → RunsWithin s → PlainlyLegal s log t → ((d : ℕ) → d < s.shape.cpus → d ≢ c → events_of d log ≡ []) → log ≡ map (entry c) (events_of c log)
+history_is_own : (s t : Plain) (c : ℕ) (log : List Entry) → RunsWithin s → PlainlyLegal s log t →
+    ((d : ℕ) → d < s.shape.cpus → d ≢ c → events_of d log ≡ []) → log ≡ map (entry c) (events_of c log)
 history_is_own s t c [] within legal foreign = refl
 history_is_own s t c (x ∷ xs) within legal foreign =
     let kept = allowed_kept s legal.0 x.cpu x.event within legal.1.0 in
@@ -122,7 +124,8 @@ history_is_own s t c (x ∷ xs) within legal foreign =
           in
           let rest : xs ≡ map (entry c) (events_of c xs) = history_is_own legal.0 t c xs kept.within legal.2 others in
           let first : x ≡ entry c x.event = ap (λ (n : ℕ). entry n x.event) e in
-          ap (λ (l : List Entry). x ∷ l) rest ∙ (ap (λ (y : Entry). y ∷ map (entry c) (events_of c xs)) first ∙ ap (λ (es : List Event). map (entry c) es) (sym (events_of-here c x xs e)))
+          ap (λ (l : List Entry). x ∷ l) rest ∙ (ap (λ (y : Entry). y ∷ map (entry c) (events_of c xs)) first ∙ ap
+          (λ (es : List Event). map (entry c) es) (sym (events_of-here c x xs e)))
       | inr ne ↦
           let none : x.event ∷ events_of x.cpu xs ≡ [] = sym (events_of-here x.cpu x xs refl) ∙ foreign x.cpu kept.below ne in
           cc
@@ -142,7 +145,8 @@ chain_leads x y c events chain s sound shows =
     let foreign : (d : ℕ) → d < s.shape.cpus → d ≢ c → events_of d chain.log ≡ [] =
     λ d l ne. chain.foreign d (lt-ltb d (length x.maps.runs) (subst (λ (n : ℕ). d < n) shows.maps.cpus l)) ne
     in
-    let own : chain.log ≡ map (entry c) events = history_is_own s end.0 c chain.log (shown_within x s shows) end.1 foreign ∙ ap (λ (es : List Event). map (entry c) es) chain.own in
+    let own : chain.log ≡ map (entry c) events = history_is_own s end.0 c chain.log (shown_within x s shows) end.1 foreign ∙ ap
+    (λ (es : List Event). map (entry c) es) chain.own in
     (end.0, subst (λ (l : List Entry). PlainlyLegal s l end.0) own end.1, end.2, end.3)
 
 -- a call alone

@@ -1,5 +1,6 @@
 -- A machine that is made again of parts.
-use Rattle.std.proofs.Common.{◌≡◌, ℕ, suc, ◌<◌, ◌≤◌, true, false, List, [], ◌∷◌, Option, Some, None, is_some, inl, inr, length, refl, sym, ap, subst, ◌∙◌, arith}
+use Rattle.std.proofs.Common.{◌≡◌, ℕ, suc, ◌<◌, ◌≤◌, true, false, List, [], ◌∷◌, Option, Some, None, is_some, inl, inr, length, refl, sym}
+use Rattle.std.proofs.Common.{ap, subst, ◌∙◌, arith}
 use Rattle.std.specs.Prelude.{slice_get, slice_index_or, nat_lt, option_map}
 use Rattle.std.proofs.lemmas.Bool.{cases_lt, ltb-true}
 use Rattle.std.proofs.lemmas.Option.{slice_get-map, slice_get_within, slice_get-get_or}
@@ -49,7 +50,8 @@ module _ (store : Contents) (programs : List Loaded) (parts : List Task) (number
   at = chosen_is parts numbers
 
   -- a job of a CPU in its stage
-  is_at : (c k : ℕ) (stage : Stage) → k < length numbers → (chosen_at parts numbers k).cpu ≡ c → (chosen_at parts numbers k).stage ≡ stage → IsAt tasks c k (chosen_at parts numbers k) stage
+  is_at : (c k : ℕ) (stage : Stage) → k < length numbers → (chosen_at parts numbers k).cpu ≡ c → (chosen_at parts numbers k).stage ≡ stage →
+      IsAt tasks c k (chosen_at parts numbers k) stage
   is_at c k stage within of is = record { listed = at k within; of = of; at = is }
 
   served : (k : ℕ) → k < length numbers → (chosen_at parts numbers k).cpu < cpus
@@ -71,7 +73,8 @@ module _ (store : Contents) (programs : List Loaded) (parts : List Task) (number
     abbrev l : Lane
     l = lane_of lanes c
 
-    hand_is : (k : ℕ) (state : Cpu) (left : ℕ) → k < length numbers → (chosen_at parts numbers k).cpu ≡ c → (chosen_at parts numbers k).stage ≡ InHand state left
+    hand_is : (k : ℕ) (state : Cpu) (left : ℕ) → k < length numbers → (chosen_at parts numbers k).cpu ≡ c →
+        (chosen_at parts numbers k).stage ≡ InHand state left
         → (h : Hand) × (l.hand ≡ Some h) × (h.job ≡ k)
     hand_is k state left within of is = go l.hand refl
       where
@@ -100,7 +103,8 @@ module _ (store : Contents) (programs : List Loaded) (parts : List Task) (number
                 cc
             | inr other ↦
                 let less : l.next < k = omega (arith, past, other) in
-                let late = stands.order c l.next k (chosen_at parts numbers l.next) (chosen_at parts numbers k) stage.0 (is_at c l.next (Waiting stage.0) next found.0 stage.1) less (at k within) of in
+                let late = stands.order c l.next k (chosen_at parts numbers l.next) (chosen_at parts numbers k) stage.0
+                (is_at c l.next (Waiting stage.0) next found.0 stage.1) less (at k within) of in
                 let late_waits : waits (chosen_at parts numbers k).stage ≡ true = ap waits late.1 in
                 cc
           ]
@@ -112,7 +116,8 @@ module _ (store : Contents) (programs : List Loaded) (parts : List Task) (number
       | inr past ↦ omega (arith, past)
     ]
 
-    fits : (k : ℕ) (p : Phase) (s : Stage) → k < length numbers → (chosen_at parts numbers k).cpu ≡ c → (chosen_at parts numbers k).stage ≡ s → IsPhaseOf s p → FitsLane l k p
+    fits : (k : ℕ) (p : Phase) (s : Stage) → k < length numbers → (chosen_at parts numbers k).cpu ≡ c → (chosen_at parts numbers k).stage ≡
+        s → IsPhaseOf s p → FitsLane l k p
     fits k (phase.Waiting v) (Waiting input) within of is same = next_before k of (ap waits is)
     fits k phase.InHand (InHand state left) within of is same = (before_next k within of (ap waits is), hand_is k state left within of is)
     fits k (phase.Ended end) (Ended outcome) within of is same = before_next k within of (ap waits is)
@@ -124,7 +129,8 @@ module _ (store : Contents) (programs : List Loaded) (parts : List Task) (number
     fits k (phase.Ended end) (InHand state left) within of is same = absurd same
 
     -- what its lane and an entry show
-    shown : (k : ℕ) (p : Phase) (s : Stage) → k < length numbers → (chosen_at parts numbers k).cpu ≡ c → (chosen_at parts numbers k).stage ≡ s → IsPhaseOf s p → stage_of l.hand p ≡ s
+    shown : (k : ℕ) (p : Phase) (s : Stage) → k < length numbers → (chosen_at parts numbers k).cpu ≡ c → (chosen_at parts numbers k).stage ≡
+        s → IsPhaseOf s p → stage_of l.hand p ≡ s
     shown k (phase.Waiting v) (Waiting input) within of is same = ap Waiting same
     shown k phase.InHand (InHand state left) within of is same =
         let h = hand_is k state left within of is in
@@ -140,10 +146,12 @@ module _ (store : Contents) (programs : List Loaded) (parts : List Task) (number
     shown k (phase.Ended end) (InHand state left) within of is same = absurd same
 
   -- ---- the jobs
-  short : (k : ℕ) (x : Listed) (s : Stage) (v : Input) → k < length numbers → (chosen_at parts numbers k).stage ≡ s → IsPhaseOf s x.phase → x.phase ≡ phase.Waiting v → IsShort v
+  short : (k : ℕ) (x : Listed) (s : Stage) (v : Input) → k < length numbers → (chosen_at parts numbers k).stage ≡ s → IsPhaseOf s x.phase →
+      x.phase ≡ phase.Waiting v → IsShort v
   short k x (Waiting input) v within is same waits =
       let there : IsPhaseOf (Waiting input) (phase.Waiting v) = subst (λ (p : Phase). IsPhaseOf (Waiting input) p) waits same in
-      subst (λ (i : Input). IsShort i) (sym there) (stands.short (chosen_at parts numbers k).cpu k (chosen_at parts numbers k) input (is_at (chosen_at parts numbers k).cpu k (Waiting input) within refl is))
+      subst (λ (i : Input). IsShort i) (sym there) (stands.short (chosen_at parts numbers k).cpu k (chosen_at parts numbers k) input
+      (is_at (chosen_at parts numbers k).cpu k (Waiting input) within refl is))
   short k x (InHand state left) v within is same waits = absurd (subst (λ (p : Phase). IsPhaseOf (InHand state left) p) waits same)
   short k x (Ended outcome) v within is same waits = absurd (subst (λ (p : Phase). IsPhaseOf (Ended outcome) p) waits same)
 
@@ -169,7 +177,8 @@ module _ (store : Contents) (programs : List Loaded) (parts : List Task) (number
       go phase.InHand other = refl
       go (phase.Ended end) other = absurd other
 
-  is_hand : (c : ℕ) → c < cpus → (h : Hand) → (lane_of lanes c).hand ≡ Some h → IsHand programs jobs c h × FitsHand (made_of store programs parts numbers) c (chosen_at parts numbers h.job) h.cpu
+  is_hand : (c : ℕ) → c < cpus → (h : Hand) → (lane_of lanes c).hand ≡ Some h → IsHand programs jobs c h × FitsHand
+      (made_of store programs parts numbers) c (chosen_at parts numbers h.job) h.cpu
   is_hand c inside h is =
       let has = (lane c inside).hand h is in
       let task = chosen_at parts numbers h.job in
@@ -195,7 +204,8 @@ module _ (store : Contents) (programs : List Loaded) (parts : List Task) (number
     where
       go : (o : Option Hand) → (lane_of lanes c).hand ≡ o → is_running store c ≡ is_some (lane_of lanes c).hand
       go None none = stands.idle c (λ j task state left here.
-          let within : j < length numbers = (let n = slice_get_within tasks j task here.listed in let same = chosen_count parts numbers in omega (arith, n, same)) in
+          let within : j < length numbers =
+          (let n = slice_get_within tasks j task here.listed in let same = chosen_count parts numbers in omega (arith, n, same)) in
           let two : Some (chosen_at parts numbers j) ≡ Some task = sym (at j within) ∙ here.listed in
           let same : chosen_at parts numbers j ≡ task = cc in
           let no : in_hand (chosen_at parts numbers j).stage ≡ false = (lane c inside).free none j within (ap (λ (t : Task). t.cpu) same ∙ here.of) in
@@ -245,5 +255,7 @@ module _ (store : Contents) (programs : List Loaded) (parts : List Task) (number
 
   pub tasks_made : tasks_of lanes jobs ≡ chosen parts numbers
   tasks_made =
-      let counted : length (tasks_of lanes jobs) ≡ length (chosen parts numbers) = (let n = chosen_count parts numbers in let k : length (tasks_of lanes jobs) ≡ length jobs = tasks_count lanes jobs in omega (arith, n, k, count)) in
+      let counted : length (tasks_of lanes jobs) ≡ length (chosen parts numbers) =
+      (let n = chosen_count parts numbers in let k : length (tasks_of lanes jobs) ≡ length jobs = tasks_count lanes jobs in omega (arith, n, k, count))
+      in
       same_elements no_task (tasks_of lanes jobs) (chosen parts numbers) counted task_made

@@ -42,7 +42,8 @@ module _ (program : Loaded) (c : ℕ) (k : ℕ) where
   on_more On zero new e = let no : None ≡ Some (OutOfBudget new.pc) = e in cc
   on_more On (suc n) new e = subst (λ (i : ℕ). None ≡ outcome_after On i new) (suc_more n k) refl
 
-  end_more : (answer : Progress) (n : ℕ) (new : Cpu) (end : Outcome) → ((pc : ℕ) → end ≡ OutOfBudget pc → ⊥) → Some end ≡ outcome_after answer n new → Some end ≡ outcome_after answer (n + k) new
+  end_more : (answer : Progress) (n : ℕ) (new : Cpu) (end : Outcome) → ((pc : ℕ) → end ≡ OutOfBudget pc → ⊥) → Some end ≡ outcome_after
+      answer n new → Some end ≡ outcome_after answer (n + k) new
   end_more (Done other) n new end not_out e = e
   end_more On zero new end not_out e =
       let both : Some end ≡ Some (OutOfBudget new.pc) = e in
@@ -50,13 +51,16 @@ module _ (program : Loaded) (c : ℕ) (k : ℕ) where
       absurd (not_out new.pc same)
   end_more On (suc n) new end not_out e = let no : Some end ≡ None = e in cc
 
-  advance_more : (s : Plain) (old : Cpu) (left : ℕ) (t : Plain) (new : Cpu) (rest : ℕ) → Advances program c s old left None t new rest → Advances program c s old (left + k) None t new (rest + k)
+  advance_more : (s : Plain) (old : Cpu) (left : ℕ) (t : Plain) (new : Cpu) (rest : ℕ) → Advances program c s old left None t new rest →
+      Advances program c s old (left + k) None t new (rest + k)
   advance_more s old zero t new rest a = let no : None ≡ Some (OutOfBudget old.pc) = a.0 in cc
   advance_more s old (suc n) t new rest a =
       subst (λ (i : ℕ). Advances program c s old i None t new (rest + k)) (suc_more n k)
       (a.0, a.1, a.2, a.3, on_more a.1 n new a.4, ap (λ (i : ℕ). i + k) a.5)
 
-  advance_end : (s : Plain) (old : Cpu) (left : ℕ) (end : Outcome) (t : Plain) (new : Cpu) (rest : ℕ) → ((pc : ℕ) → end ≡ OutOfBudget pc → ⊥) → Advances program c s old left (Some end) t new rest → Advances program c s old (left + k) (Some end) t new (rest + k)
+  advance_end : (s : Plain) (old : Cpu) (left : ℕ) (end : Outcome) (t : Plain) (new : Cpu) (rest : ℕ) →
+      ((pc : ℕ) → end ≡ OutOfBudget pc → ⊥) → Advances program c s old left (Some end) t new rest → Advances program c s old (left + k)
+      (Some end) t new (rest + k)
   advance_end s old zero end t new rest not_out a =
       let both : Some end ≡ Some (OutOfBudget old.pc) = a.0 in
       let same : end ≡ OutOfBudget old.pc = cc in
@@ -65,7 +69,8 @@ module _ (program : Loaded) (c : ℕ) (k : ℕ) where
       subst (λ (i : ℕ). Advances program c s old i (Some end) t new (rest + k)) (suc_more n k)
       (a.0, a.1, a.2, a.3, end_more a.1 n new end not_out a.4, ap (λ (i : ℕ). i + k) a.5)
 
-  quiet_more : (n : ℕ) (old : Cpu) (left : ℕ) (new : Cpu) (rest : ℕ) → TakesQuietTurns program c n old left new rest → TakesQuietTurns program c n old (left + k) new (rest + k)
+  quiet_more : (n : ℕ) (old : Cpu) (left : ℕ) (new : Cpu) (rest : ℕ) → TakesQuietTurns program c n old left new rest → TakesQuietTurns
+      program c n old (left + k) new (rest + k)
   quiet_more zero old left new rest made = (made.0, ap (λ (i : ℕ). i + k) made.1)
   quiet_more (suc n) old left new rest made =
       (made.0, made.1 + k, λ s. advance_more s old left s made.0 made.1 (made.2 s), quiet_more n made.0 made.1 new rest made.3)
@@ -79,7 +84,8 @@ all_same [] = tt
 all_same (job ∷ jobs) = (inl refl, all_same jobs)
 
 -- a job in hand
-pub richer_hand : (old new : Task) (state : Cpu) (left : ℕ) → IsRicher old new → old.stage ≡ InHand state left → (k : ℕ) × (new ≡ record old { stage = InHand state (left + k) })
+pub richer_hand : (old new : Task) (state : Cpu) (left : ℕ) → IsRicher old new → old.stage ≡ InHand state left → (k : ℕ) ×
+    (new ≡ record old { stage = InHand state (left + k) })
 richer_hand old new state left (inl same) at =
     let more : left ≡ left + 0 = omega arith in
     (0, same ∙ ap (λ (s : Stage). record old { stage = s }) (at ∙ ap (InHand state) more))
@@ -118,7 +124,14 @@ richer_again x y z (inl same) more = subst (λ (t : Task). IsRicher t z) same mo
 richer_again x y z (inr (state, left, k, was, is)) more =
     let there = richer_hand y z state (left + k) more (ap (λ (t : Task). t.stage) is) in
     let sum : left + k + there.0 ≡ left + (k + there.0) = omega arith in
-    inr (state, left, k + there.0, was, there.1 ∙ (ap (λ (t : Task). record t { stage = InHand state (left + k + there.0) }) is ∙ ap (λ (n : ℕ). record x { stage = InHand state n }) sum))
+    inr (
+      state,
+      left,
+      k + there.0,
+      was,
+      there.1 ∙ (ap (λ (t : Task). record t { stage = InHand state (left + k + there.0) }) is ∙ ap
+          (λ (n : ℕ). record x { stage = InHand state n }) sum),
+    )
 
 pub rich_again : (xs ys zs : List Task) → AsRich xs ys → AsRich ys zs → AsRich xs zs
 rich_again [] [] [] a b = tt
@@ -153,11 +166,13 @@ rich_ended [] (y ∷ ys) rich ended = absurd rich
 rich_ended (x ∷ xs) [] rich ended = absurd rich
 rich_ended (x ∷ xs) (y ∷ ys) rich ended =
     let end = ended 0 x refl in
-    ap (λ (t : Task). t ∷ ys) (end_richer x y end.0 rich.0 end.1) ∙ ap (λ (ts : List Task). x ∷ ts) (rich_ended xs ys rich.1 (λ j task at. ended (suc j) task at))
+    ap (λ (t : Task). t ∷ ys) (end_richer x y end.0 rich.0 end.1) ∙ ap (λ (ts : List Task). x ∷ ts)
+    (rich_ended xs ys rich.1 (λ j task at. ended (suc j) task at))
 
 -- ---- a world with richer jobs
 module _ (olds news : List Task) (rich : AsRich olds news) where
-  pub hand_back : (c j : ℕ) (task : Task) (state : Cpu) (left : ℕ) → IsAt news c j task (InHand state left) → (old : Task) × (rest : ℕ) × IsAt olds c j old (InHand state rest)
+  pub hand_back : (c j : ℕ) (task : Task) (state : Cpu) (left : ℕ) → IsAt news c j task (InHand state left) → (old : Task) × (rest : ℕ) ×
+      IsAt olds c j old (InHand state rest)
   hand_back c j task state left at =
       let b = rich_back olds news j task rich at.listed in
       let h = richer_back b.0 task state left b.2 at.at in
@@ -195,12 +210,15 @@ rich_world w jobs rich world = record {
 
 -- ---- a turn with richer jobs
 -- in the j-th job the stage was set
-set_there : (jobs : List Task) (j : ℕ) (task : Task) (end : Outcome) → slice_get jobs j ≡ Some task → slice_get (with_stage jobs j task (Ended end)) j ≡ Some (record task { stage = Ended end })
+set_there : (jobs : List Task) (j : ℕ) (task : Task) (end : Outcome) → slice_get jobs j ≡ Some task → slice_get
+    (with_stage jobs j task (Ended end)) j ≡ Some (record task { stage = Ended end })
 set_there jobs j task end at = slice_get-set_known jobs j (record task { stage = Ended end }) task at
 
-goes_rich : (w : World) (jobs : List Task) (c j : ℕ) (task new : Task) (state : Cpu) (left more k : ℕ) (answer : Turn) (z : World) → AsRich w.jobs jobs → slice_get w.jobs j ≡ Some task → more ≡ left + k
+goes_rich : (w : World) (jobs : List Task) (c j : ℕ) (task new : Task) (state : Cpu) (left more k : ℕ) (answer : Turn) (z : World) → AsRich
+    w.jobs jobs → slice_get w.jobs j ≡ Some task → more ≡ left + k
     → ((stage : Stage) → record new { stage = stage } ≡ record task { stage = stage }) → new.program ≡ task.program
-    → GoesOn w c j task state left answer z → NoneRanOut z.jobs → (later : List Task) × GoesOn (with_jobs w jobs) c j new state more answer (with_jobs z later) × AsRich z.jobs later
+    → GoesOn w c j task state left answer z → NoneRanOut z.jobs → (later : List Task) × GoesOn (with_jobs w jobs) c j new state more answer
+    (with_jobs z later) × AsRich z.jobs later
 goes_rich w jobs c j task new state left more k answer z rich at sum same program g none = settle g.1 g.6 g.7
   where
     loaded : slice_get w.programs new.program ≡ Some g.0
@@ -211,19 +229,24 @@ goes_rich w jobs c j task new state left more k answer z rich at sum same progra
     settle None a s =
         let later = with_stage jobs j new (InHand g.3 (g.4 + k)) in
         let made = subst (λ (n : ℕ). Advances g.0 c w.store state n None g.2 g.3 (g.4 + k)) (sym sum) (advance_more g.0 c k w.store state left g.2 g.3 g.4 a) in
-        let richer : IsRicher (record task { stage = InHand g.3 g.4 }) (record new { stage = InHand g.3 (g.4 + k) }) = inr (g.3, g.4, k, refl, same (InHand g.3 (g.4 + k))) in (
+        let richer : IsRicher (record task { stage = InHand g.3 g.4 }) (record new { stage = InHand g.3 (g.4 + k) }) = inr
+        (g.3, g.4, k, refl, same (InHand g.3 (g.4 + k))) in (
           later,
           (g.0, None, g.2, g.3, g.4 + k, loaded, made, (s.0, ap (λ (x : World). with_jobs x later) s.1)),
-          subst (λ (ts : List Task). AsRich ts later) (sym (ap (λ (x : World). x.jobs) s.1)) (rich_set w.jobs jobs j (record task { stage = InHand g.3 g.4 }) (record new { stage = InHand g.3 (g.4 + k) }) rich richer),
+          subst (λ (ts : List Task). AsRich ts later) (sym (ap (λ (x : World). x.jobs) s.1))
+              (rich_set w.jobs jobs j (record task { stage = InHand g.3 g.4 }) (record new { stage = InHand g.3 (g.4 + k) }) rich richer),
         )
     settle (Some end) a s =
         let later = with_stage jobs j new (Ended end) in
         let m : World = with_end w j task end s.0 in
         let is : z.jobs ≡ m.jobs = lists_jobs m c z s.3 in
-        let both : AsRich m.jobs later = rich_set w.jobs jobs j (record task { stage = Ended end }) (record new { stage = Ended end }) rich (inl (same (Ended end))) in
+        let both : AsRich m.jobs later = rich_set w.jobs jobs j (record task { stage = Ended end }) (record new { stage = Ended end }) rich
+        (inl (same (Ended end))) in
         let some : SomeWaits m.jobs c → SomeWaits later c = λ h. (h.0, h.1, h.2, wait_now m.jobs later both c h.0 h.1 h.2 h.3) in
-        let not_out : (pc : ℕ) → end ≡ OutOfBudget pc → ⊥ = λ pc e. none j (record task { stage = Ended end }) pc (ap (λ (ts : List Task). slice_get ts j) is ∙ set_there w.jobs j task end at) (ap Ended e) in
-        let made = subst (λ (n : ℕ). Advances g.0 c w.store state n (Some end) g.2 g.3 (g.4 + k)) (sym sum) (advance_end g.0 c k w.store state left end g.2 g.3 g.4 not_out a) in (
+        let not_out : (pc : ℕ) → end ≡ OutOfBudget pc → ⊥ = λ pc e. none j (record task { stage = Ended end }) pc
+        (ap (λ (ts : List Task). slice_get ts j) is ∙ set_there w.jobs j task end at) (ap Ended e) in
+        let made = subst (λ (n : ℕ). Advances g.0 c w.store state n (Some end) g.2 g.3 (g.4 + k)) (sym sum)
+        (advance_end g.0 c k w.store state left end g.2 g.3 g.4 not_out a) in (
           later,
           (g.0, Some end, g.2, g.3, g.4 + k, loaded, made, (s.0, s.1, s.2, lists_along m c z later some (waits_rich m.jobs later both c) s.3)),
           subst (λ (ts : List Task). AsRich ts later) (sym is) both,
@@ -234,14 +257,17 @@ pub rich_turn : (w : World) (jobs : List Task) (c : ℕ) (answer : Turn) (z : Wo
 rich_turn w jobs c answer z rich (inl (j, task, state, left, at, g)) none =
     let b = rich_at w.jobs jobs j task rich at.listed in
     let h = richer_hand task b.0 state left b.2 at.at in
-    let r = goes_rich w jobs c j task b.0 state left (left + h.0) h.0 answer z rich at.listed refl (λ stage. ap (λ (t : Task). record t { stage = stage }) h.1) (ap (λ (t : Task). t.program) h.1) g none in
-    let there : IsAt jobs c j b.0 (InHand state (left + h.0)) = record { listed = b.1; of = ap (λ (t : Task). t.cpu) h.1 ∙ at.of; at = ap (λ (t : Task). t.stage) h.1 } in
+    let r = goes_rich w jobs c j task b.0 state left (left + h.0) h.0 answer z rich at.listed refl
+    (λ stage. ap (λ (t : Task). record t { stage = stage }) h.1) (ap (λ (t : Task). t.program) h.1) g none in
+    let there : IsAt jobs c j b.0 (InHand state (left + h.0)) = record
+    { listed = b.1; of = ap (λ (t : Task). t.cpu) h.1 ∙ at.of; at = ap (λ (t : Task). t.stage) h.1 } in
     (r.0, inl (j, b.0, state, left + h.0, there, r.1), r.2)
 rich_turn w jobs c answer z rich (inr (inl (free, a))) none =
     let at = a.4 in
     let there = wait_now w.jobs jobs rich c a.0 a.1 a.2 at in
     let sum : a.1.budget ≡ a.1.budget + 0 = omega arith in
-    let r = goes_rich (record w { store = a.3 }) jobs c a.0 a.1 a.1 (start c a.2) a.1.budget a.1.budget 0 answer z rich at.listed sum (λ stage. refl) refl a.7 none in
+    let r = goes_rich (record w { store = a.3 }) jobs c a.0 a.1 a.1 (start c a.2) a.1.budget a.1.budget 0 answer z rich at.listed sum
+    (λ stage. refl) refl a.7 none in
     (r.0, inr (inl (free_rich w.jobs jobs rich c free, (a.0, a.1, a.2, a.3, there, below_rich w.jobs jobs rich c a.0 a.5, a.6, r.1))), r.2)
 rich_turn w jobs c answer z rich (inr (inr (free, waits, idle, same))) none = (
   jobs,
@@ -250,7 +276,8 @@ rich_turn w jobs c answer z rich (inr (inr (free, waits, idle, same))) none = (
 )
 
 -- ---- what has ended stays so
-goes_keeps : (w : World) (c k j : ℕ) (task : Task) (state : Cpu) (left : ℕ) (answer : Turn) (z : World) → GoesOn w c k task state left answer z → j ≢ k → slice_get z.jobs j ≡ slice_get w.jobs j
+goes_keeps : (w : World) (c k j : ℕ) (task : Task) (state : Cpu) (left : ℕ) (answer : Turn) (z : World) → GoesOn w c k task state left
+    answer z → j ≢ k → slice_get z.jobs j ≡ slice_get w.jobs j
 goes_keeps w c k j task state left answer z g ne = settle g.1 g.7
   where
     settle : (end : Option Outcome) → Settles (record w { store = g.2 }) c k task g.3 g.4 end answer z → slice_get z.jobs j ≡ slice_get w.jobs j
@@ -258,17 +285,20 @@ goes_keeps w c k j task state left answer z g ne = settle g.1 g.7
     settle (Some end) s = ap (λ (ts : List Task). slice_get ts j) (lists_jobs (with_end w k task end s.0) c z s.3) ∙ slice_get-set_other w.jobs k j _ ne
 
 -- jobs in two stages are two
-other_job : (jobs : List Task) (c j k : ℕ) (task was : Task) (end : Outcome) (stage : Stage) → slice_get jobs j ≡ Some task → task.stage ≡ Ended end → IsAt jobs c k was stage → (stage ≡ Ended end → ⊥) → j ≢ k
+other_job : (jobs : List Task) (c j k : ℕ) (task was : Task) (end : Outcome) (stage : Stage) → slice_get jobs j ≡ Some task → task.stage ≡
+    Ended end → IsAt jobs c k was stage → (stage ≡ Ended end → ⊥) → j ≢ k
 other_job jobs c j k task was end stage at ended there differs e =
     let both : Some task ≡ Some was = sym at ∙ (ap (slice_get jobs) e ∙ there.listed) in
     let same : task ≡ was = cc in
     differs (sym there.at ∙ (ap (λ (t : Task). t.stage) (sym same) ∙ ended))
 
-pub stays_ended : (w : World) (c : ℕ) (answer : Turn) (z : World) (j : ℕ) (task : Task) (end : Outcome) → TakesTurn w c answer z → slice_get w.jobs j ≡ Some task → task.stage ≡ Ended end → slice_get z.jobs j ≡ Some task
+pub stays_ended : (w : World) (c : ℕ) (answer : Turn) (z : World) (j : ℕ) (task : Task) (end : Outcome) → TakesTurn w c answer z → slice_get
+    w.jobs j ≡ Some task → task.stage ≡ Ended end → slice_get z.jobs j ≡ Some task
 stays_ended w c answer z j task end (inl a) at ended =
     goes_keeps w c a.0 j a.1 a.2 a.3 answer z a.5 (other_job w.jobs c j a.0 task a.1 end (InHand a.2 a.3) at ended a.4 (λ e. cc)) ∙ at
 stays_ended w c answer z j task end (inr (inl (free, a))) at ended =
-    goes_keeps (record w { store = a.3 }) c a.0 j a.1 (start c a.2) a.1.budget answer z a.7 (other_job w.jobs c j a.0 task a.1 end (Waiting a.2) at ended a.4 (λ e. cc)) ∙ at
+    goes_keeps (record w { store = a.3 }) c a.0 j a.1 (start c a.2) a.1.budget answer z a.7
+    (other_job w.jobs c j a.0 task a.1 end (Waiting a.2) at ended a.4 (λ e. cc)) ∙ at
 stays_ended w c answer z j task end (inr (inr a)) at ended = ap (λ (x : World). slice_get x.jobs j) a.3 ∙ at
 
 pub none_ran_before : (cs : List ℕ) (w z : World) → RunsSchedule w cs z → NoneRanOut z.jobs → NoneRanOut w.jobs
@@ -278,14 +308,30 @@ none_ran_before (c ∷ cs) w z runs none = λ j task pc at ended.
 
 -- ---- richer ahead, richer after
 module _ (programs : List Loaded) (turns : ℕ → ℕ) where
-  behind_one : (old new rich : Task) → Precedes programs (turns old.cpu) old new → IsRicher new rich → (more : Task) × IsRicher old more × Precedes programs (turns more.cpu) more rich
+  behind_one : (old new rich : Task) → Precedes programs (turns old.cpu) old new → IsRicher new rich → (more : Task) × IsRicher old more ×
+      Precedes programs (turns more.cpu) more rich
   behind_one old new rich (inl a) richer =
       let up : IsRicher old rich = subst (λ (t : Task). IsRicher t rich) a.0 richer in
       (rich, up, inl (refl, λ state left at. (let b = richer_back old rich state left up at in ap turns (richer_cpu old rich up) ∙ a.1 state b.0 b.1)))
   behind_one old new rich (inr (program, state, left, later, rest, loaded, was, is, made)) richer =
       let h = richer_hand new rich later rest richer (ap (λ (t : Task). t.stage) is) in
-      let more : Task = record old { stage = InHand state (left + h.0) } in
-      (more, inr (state, left, h.0, was, refl), inr (program, state, left + h.0, later, rest + h.0, loaded, refl, h.1 ∙ ap (λ (t : Task). record t { stage = InHand later (rest + h.0) }) is, quiet_more program old.cpu h.0 (turns old.cpu) state left later rest made))
+      let more : Task = record old { stage = InHand state (left + h.0) } in (
+        more,
+        inr (state, left, h.0, was, refl),
+        inr (
+          program,
+          state,
+          left + h.0,
+          later,
+          rest + h.0,
+          loaded,
+          refl,
+          h.1 ∙ ap
+              (λ (t : Task). record t { stage = InHand later (rest + h.0) }) is,
+          quiet_more program old.cpu h.0 (turns old.cpu) state left later
+              rest made,
+        ),
+      )
 
   behind_rich : (olds news richs : List Task) → ((j : ℕ) → BothPrecede programs turns (slice_get olds j) (slice_get news j)) → AsRich news richs
       → (mores : List Task) × AsRich olds mores × ((j : ℕ) → BothPrecede programs turns (slice_get mores j) (slice_get richs j))
@@ -299,7 +345,9 @@ module _ (programs : List Loaded) (turns : ℕ → ℕ) where
       let rest = behind_rich os ns rs (λ j. each (suc j)) rich.1 in
       (one.0 ∷ rest.0, (one.1, rest.1), both one.0 rest.0 r rs one.2 rest.2)
     where
-      both : (m : Task) (ms : List Task) (r : Task) (rs : List Task) → Precedes programs (turns m.cpu) m r → ((j : ℕ) → BothPrecede programs turns (slice_get ms j) (slice_get rs j)) → (j : ℕ) → BothPrecede programs turns (slice_get (m ∷ ms) j) (slice_get (r ∷ rs) j)
+      both : (m : Task) (ms : List Task) (r : Task) (rs : List Task) → Precedes programs (turns m.cpu) m r →
+          ((j : ℕ) → BothPrecede programs turns (slice_get ms j) (slice_get rs j)) → (j : ℕ) → BothPrecede programs turns
+          (slice_get (m ∷ ms) j) (slice_get (r ∷ rs) j)
       both m ms r rs here there zero = here
       both m ms r rs here there (suc j) = there j
 
@@ -322,8 +370,10 @@ module _ (olds news : List Task) (rich : AsRich olds news) where
 abbrev pub Richly : (World → Type 0) → World → Type 0
 Richly P w = (jobs : List Task) × AsRich w.jobs jobs × P (with_jobs w jobs)
 
-pub enriched_by : (y v : World) (headways : ℕ → Headway) (jobs : List Task) → AsRich v.jobs jobs → with_jobs v y.jobs ≡ y → IsAheadOf (IsAhead headways) headways y.jobs v
-    → (more : List Task) × AsRich y.jobs more × (with_jobs (with_jobs v jobs) more ≡ with_jobs y more) × IsAheadOf (IsAhead headways) headways more (with_jobs v jobs)
+pub enriched_by : (y v : World) (headways : ℕ → Headway) (jobs : List Task) → AsRich v.jobs jobs → with_jobs v y.jobs ≡ y → IsAheadOf
+    (IsAhead headways) headways y.jobs v
+    → (more : List Task) × AsRich y.jobs more × (with_jobs (with_jobs v jobs) more ≡ with_jobs y more) × IsAheadOf (IsAhead headways)
+    headways more (with_jobs v jobs)
 enriched_by y v headways jobs rich same ahead =
     let turns : ℕ → ℕ = λ c. turns_in (headways c) in
     let b = behind_rich v.programs turns y.jobs v.jobs jobs ahead.each rich in (
@@ -332,7 +382,8 @@ enriched_by y v headways jobs rich same ahead =
       ap (λ (x : World). with_jobs x b.0) same,
       record {
         each = b.2;
-        fits = λ c far. subst (λ (h : Headway). FitsHeadway jobs c h) (sym far.1) (fits_rich v.jobs jobs rich c far.0 (subst (λ (h : Headway). FitsHeadway v.jobs c h) far.1 (ahead.fits c far)));
+        fits = λ c far. subst (λ (h : Headway). FitsHeadway jobs c h) (sym far.1)
+            (fits_rich v.jobs jobs rich c far.0 (subst (λ (h : Headway). FitsHeadway v.jobs c h) far.1 (ahead.fits c far)));
       },
     )
 
@@ -350,7 +401,8 @@ module _ (law : WritesAreDetermined) (begins : OneInstructionBegins) (replies : 
   rich_covered : (w z : World) (c : ℕ) (answer : Turn) → IsWorld w → IsCoveredRichlyBy P w → TakesTurn w c answer z → NoneRanOut z.jobs → IsCoveredRichlyBy P z
   rich_covered w z c answer world (jobs, rich, covered) progress none =
       let t = rich_turn w jobs c answer z rich progress none in
-      let there = turned law begins replies P (Richly P) (λ v shown. (v.jobs, all_same v.jobs, shown)) leads (with_jobs w jobs) (with_jobs z t.0) c answer (rich_world w jobs rich world) covered t.1 in
+      let there = turned law begins replies P (Richly P) (λ v shown. (v.jobs, all_same v.jobs, shown)) leads (with_jobs w jobs)
+      (with_jobs z t.0) c answer (rich_world w jobs rich world) covered t.1 in
       let e = enriched P (with_jobs z t.0) there in
       (e.0, rich_again z.jobs t.0 e.0 t.2 e.1, e.2)
 
@@ -372,7 +424,8 @@ ended_richly P z (jobs, rich, covered) ended =
 closed_richly : (kept : List MachineState) → IsClosedRichly kept → LeadsOn (IsShown kept) (IsShownRichly kept)
 closed_richly kept closed v c (i, m, at, shows) = let r = closed i m c at in (r.1.0, r.1.1, r.0, r.1.2, r.1.3 v shows, r.1.4, r.2)
 
-module _ (law : WritesAreDetermined) (begins : OneInstructionBegins) (replies : CallsHaveOneReply) (kept : List MachineState) (closed : IsClosedRichly kept) where
+module _ (law : WritesAreDetermined) (begins : OneInstructionBegins) (replies : CallsHaveOneReply) (kept : List MachineState)
+    (closed : IsClosedRichly kept) where
   pub patient_run : (cs : List ℕ) (w z : World) → IsWorld w → IsCoveredRichly kept w → RunsSchedule w cs z → NoneRanOut z.jobs → IsCoveredRichly kept z
   patient_run = rich_run law begins replies (IsShown kept) (closed_richly kept closed)
 

@@ -23,7 +23,8 @@ set_same jobs j task at = equal_lists (slice_set jobs j task) jobs (λ k. elim (
   | inr apart ↦ slice_get-set_other jobs j k task apart
 ])
 
-pub quiet_runs : (n : ℕ) (w : World) (c j : ℕ) (task : Task) (state : Cpu) (left : ℕ) (program : Loaded) (later : Cpu) (rest : ℕ) → IsAt w.jobs c j task (InHand state left) → slice_get w.programs task.program ≡ Some program
+pub quiet_runs : (n : ℕ) (w : World) (c j : ℕ) (task : Task) (state : Cpu) (left : ℕ) (program : Loaded) (later : Cpu) (rest : ℕ) → IsAt
+    w.jobs c j task (InHand state left) → slice_get w.programs task.program ≡ Some program
     → TakesQuietTurns program c n state left later rest → RunsSchedule w (replicate n c) (with_jobs w (with_stage w.jobs j task (InHand later rest)))
 quiet_runs zero w c j task state left program later rest at loaded made =
     let stage : InHand later rest ≡ task.stage = ap (λ (x : Cpu). InHand x rest) made.0 ∙ (ap (λ (k : ℕ). InHand state k) made.1 ∙ sym at.at) in
@@ -35,7 +36,8 @@ quiet_runs (suc n) w c j task state left program later rest at loaded (mid, more
     let there : IsAt v.jobs c j one now = record { listed = slice_get-set_known w.jobs j one task at.listed; of = at.of; at = refl } in
     let first : TakesTurn w c turn.Ran v = inl (j, task, state, left, at, (program, None, w.store, mid, more, loaded, steps w.store, (refl, refl))) in
     let last = quiet_runs n v c j one mid more program later rest there loaded made in
-    let both : with_stage v.jobs j one (InHand later rest) ≡ with_stage w.jobs j task (InHand later rest) = set_twice w.jobs j one (record task { stage = InHand later rest }) in
+    let both : with_stage v.jobs j one (InHand later rest) ≡ with_stage w.jobs j task (InHand later rest) = set_twice w.jobs j one
+    (record task { stage = InHand later rest }) in
     (turn.Ran, v, first, subst (λ (ts : List Task). RunsSchedule v (replicate n c) (with_jobs w ts)) both last)
 
 ahead_runs : (mid new : MachineState) (c : ℕ) (h : Headway) → RunsAhead mid c h new → Runs mid (replicate (turns_in h) c) new
@@ -50,10 +52,19 @@ ahead_runs mid new c (Turns n) (inr (j, goes, one)) w shows =
     let loaded : slice_get w.programs task.program ≡ Some goes.3 = ap (λ (ps : List Loaded). slice_get ps task.program) shows.programs ∙ goes.7 in (
       z,
       quiet_runs n w c j task goes.1 goes.2 goes.3 goes.4 goes.5 at loaded goes.8,
-      subst (λ (x : MachineState). Shows x z) (sym goes.9) (record { store = shows.store; sound = shows.sound; programs = shows.programs; jobs = ap (λ (ts : List Task). with_stage ts j task now) shows.jobs; lists = shows.lists }),
+      subst (λ (x : MachineState). Shows x z) (sym goes.9) (record {
+        store = shows.store;
+        sound = shows.sound;
+        programs = shows.programs;
+        jobs = ap (λ (ts : List Task). with_stage ts j task now)
+            shows.jobs;
+        lists = shows.lists;
+      }),
     )
 
-pub ran_runs : (old mid new : MachineState) (c : ℕ) (answer : Turn) (h : Headway) → ((w : World) → Shows old w → (z : World) × TakesTurn w c answer z × Shows mid z) → RunsAhead mid c h new → Runs old (c ∷ replicate (turns_in h) c) new
+pub ran_runs : (old mid new : MachineState) (c : ℕ) (answer : Turn) (h : Headway) →
+    ((w : World) → Shows old w → (z : World) × TakesTurn w c answer z × Shows mid z) → RunsAhead mid c h new → Runs old
+    (c ∷ replicate (turns_in h) c) new
 ran_runs old mid new c answer h turn ahead w shows =
     let t = turn w shows in
     let r = ahead_runs mid new c h ahead t.0 t.2 in

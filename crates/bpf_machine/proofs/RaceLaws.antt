@@ -65,7 +65,8 @@ module _ (begins : OneInstructionBegins) where
       goes_on (Done end) n new e = cc
       goes_on On n new e = refl
 
-  quiet_has_none : (program : Loaded) (c n : ℕ) (h : Shape) (old : Cpu) (left : ℕ) (later : Cpu) (rest : ℕ) (events : List Event) (answer : Progress) (after : Cpu) → 0 < left
+  quiet_has_none : (program : Loaded) (c n : ℕ) (h : Shape) (old : Cpu) (left : ℕ) (later : Cpu) (rest : ℕ) (events : List Event)
+      (answer : Progress) (after : Cpu) → 0 < left
       → TakesQuietTurns program c n old left later rest → Step h program old events answer after → (n ≡ 0) ⊎ (events ≡ [])
   quiet_has_none program c zero h old left later rest events answer after may made step = inl refl
   quiet_has_none program c (suc n) h old left later rest events answer after may made step =
@@ -78,8 +79,10 @@ module _ (begins : OneInstructionBegins) where
         let b = before v.programs (λ c. turns_in (headways c)) z.jobs v.jobs ahead.each next.job next.task next.at.listed in
         let store : z.store ≡ v.store = ap (λ (x : World). x.store) (sym same) in
         let programs : z.programs ≡ v.programs = ap (λ (x : World). x.programs) (sym same) in
-        let loaded : slice_get v.programs next.task.program ≡ Some next.program = subst (λ (ps : List Loaded). slice_get ps next.task.program ≡ Some next.program) programs next.loaded in
-        let step : Step v.store.shape next.program next.state next.events next.answer next.after = subst (λ (s : Plain). Step s.shape next.program next.state next.events next.answer next.after) store next.step in
+        let loaded : slice_get v.programs next.task.program ≡ Some next.program = subst
+        (λ (ps : List Loaded). slice_get ps next.task.program ≡ Some next.program) programs next.loaded in
+        let step : Step v.store.shape next.program next.state next.events next.answer next.after = subst
+        (λ (s : Plain). Step s.shape next.program next.state next.events next.answer next.after) store next.step in
         let kept : b.0 ≡ next.task = stays b.0 loaded step b.2 in
         record {
           job = next.job;
@@ -102,7 +105,8 @@ module _ (begins : OneInstructionBegins) where
           among = next.among;
         }
       where
-        stays : (new : Task) → slice_get v.programs next.task.program ≡ Some next.program → Step v.store.shape next.program next.state next.events next.answer next.after
+        stays : (new : Task) → slice_get v.programs next.task.program ≡ Some next.program → Step v.store.shape next.program next.state
+            next.events next.answer next.after
             → Precedes v.programs (turns_in (headways next.task.cpu)) next.task new → new ≡ next.task
         stays new loaded step (inl a) = a.0
         stays new loaded step (inr (program, state, left, later, rest, loaded', was, is, made)) =
@@ -112,10 +116,14 @@ module _ (begins : OneInstructionBegins) where
             let states : state ≡ next.state = cc in
             let lefts : left ≡ next.left = cc in
             let n = turns_in (headways next.task.cpu) in
-            let made' : TakesQuietTurns next.program next.task.cpu n next.state next.left later rest = subst (λ (p : Loaded). TakesQuietTurns p next.task.cpu n next.state next.left later rest) one
-            (subst (λ (x : Cpu). TakesQuietTurns program next.task.cpu n x next.left later rest) states (subst (λ (i : ℕ). TakesQuietTurns program next.task.cpu n state i later rest) lefts made)) in
-            elim (quiet_has_none next.program next.task.cpu n v.store.shape next.state next.left later rest next.events next.answer next.after next.may made' step) [
-              | inl none ↦ not_ahead v.programs (λ c. turns_in (headways c)) n next.task new none (inr (program, state, left, later, rest, loaded', was, is, made))
+            let made' : TakesQuietTurns next.program next.task.cpu n next.state next.left later rest = subst
+            (λ (p : Loaded). TakesQuietTurns p next.task.cpu n next.state next.left later rest) one
+            (subst (λ (x : Cpu). TakesQuietTurns program next.task.cpu n x next.left later rest) states
+            (subst (λ (i : ℕ). TakesQuietTurns program next.task.cpu n state i later rest) lefts made)) in
+            elim (quiet_has_none next.program next.task.cpu n v.store.shape next.state next.left later rest next.events next.answer
+            next.after next.may made' step) [
+              | inl none ↦ not_ahead v.programs (λ c. turns_in (headways c)) n next.task new none
+                  (inr (program, state, left, later, rest, loaded', was, is, made))
               | inr none ↦ let no : None ≡ Some event = subst (λ (es : List Event). slice_get es next.place ≡ Some event) none next.among in cc
             ]
 

@@ -26,21 +26,25 @@ use Rattle.bpf_machine.proofs.ListLaws.{with_end, lists_jobs}
 -- ---- while a CPU makes turns
 -- no job in hand has more than its budget left, and one of another CPU has all of it
 abbrev Spent : List Task → ℕ → Type 0
-Spent jobs c = (d j : ℕ) (task : Task) (state : Cpu) (left : ℕ) → IsAt jobs d j task (InHand state left) → (left ≤ task.budget) × ((d ≡ c) ⊎ (left ≡ task.budget))
+Spent jobs c = (d j : ℕ) (task : Task) (state : Cpu) (left : ℕ) → IsAt jobs d j task (InHand state left) → (left ≤ task.budget) ×
+    ((d ≡ c) ⊎ (left ≡ task.budget))
 
 -- the CPU has at most one job in hand
 abbrev HasOne : List Task → ℕ → Type 0
 HasOne jobs c = (j k : ℕ) → HasInHand jobs c j → HasInHand jobs c k → j ≡ k
 
-set_budget : (jobs : List Task) (j k : ℕ) (task other : Task) (stage : Stage) → slice_get jobs j ≡ Some task → k ≡ j → slice_get (with_stage jobs j task stage) k ≡ Some other → other.budget ≡ task.budget
+set_budget : (jobs : List Task) (j k : ℕ) (task other : Task) (stage : Stage) → slice_get jobs j ≡ Some task → k ≡ j → slice_get
+    (with_stage jobs j task stage) k ≡ Some other → other.budget ≡ task.budget
 set_budget jobs j k task other stage at e there =
     let new : Task = record task { stage = stage } in
-    let two : Some new ≡ Some other = sym (slice_get-set_known jobs j new task at) ∙ subst (λ (n : ℕ). slice_get (with_stage jobs j task stage) n ≡ Some other) e there in
+    let two : Some new ≡ Some other = sym (slice_get-set_known jobs j new task at) ∙ subst
+    (λ (n : ℕ). slice_get (with_stage jobs j task stage) n ≡ Some other) e there in
     let one : new ≡ other = cc in
     ap (λ (t : Task). t.budget) (sym one)
 
 -- its job is in another stage
-set_spent : (jobs : List Task) (c j : ℕ) (task : Task) (before now : Stage) → IsAt jobs c j task before → ((state : Cpu) (left : ℕ) → InHand state left ≡ now → left ≤ task.budget) → Spent jobs c → Spent (with_stage jobs j task now) c
+set_spent : (jobs : List Task) (c j : ℕ) (task : Task) (before now : Stage) → IsAt jobs c j task before →
+    ((state : Cpu) (left : ℕ) → InHand state left ≡ now → left ≤ task.budget) → Spent jobs c → Spent (with_stage jobs j task now) c
 set_spent jobs c j task before now at fits spent d k other state left there = go (changed jobs c j task before now d k other (InHand state left) at there)
   where
     go : Changed jobs c j now d k other (InHand state left) → (left ≤ other.budget) × ((d ≡ c) ⊎ (left ≡ other.budget))
@@ -57,12 +61,14 @@ same_left : (state other : Cpu) (left rest most : ℕ) → InHand state left ≡
 same_left state other left rest most e few = let lefts : left ≡ rest = cc in omega arith
 
 -- no step gives steps
-advances_less : (program : Loaded) (c : ℕ) (s : Plain) (old : Cpu) (left : ℕ) (end : Option Outcome) (t : Plain) (new : Cpu) (rest : ℕ) → Advances program c s old left end t new rest → rest ≤ left
+advances_less : (program : Loaded) (c : ℕ) (s : Plain) (old : Cpu) (left : ℕ) (end : Option Outcome) (t : Plain) (new : Cpu) (rest : ℕ) →
+    Advances program c s old left end t new rest → rest ≤ left
 advances_less program c s old zero end t new rest made = let none : rest ≡ 0 = made.3 in omega arith
 advances_less program c s old (suc n) end t new rest made = let one : rest ≡ n = made.5 in omega arith
 
 module _ (w : World) (c j : ℕ) (task : Task) (before : Stage) (at : IsAt w.jobs c j task before) (spent : Spent w.jobs c) where
-  settles_spent : (s : Plain) (new : Cpu) (rest : ℕ) (end : Option Outcome) (answer : Turn) (z : World) → rest ≤ task.budget → Settles (record w { store = s }) c j task new rest end answer z → Spent z.jobs c
+  settles_spent : (s : Plain) (new : Cpu) (rest : ℕ) (end : Option Outcome) (answer : Turn) (z : World) → rest ≤ task.budget → Settles
+      (record w { store = s }) c j task new rest end answer z → Spent z.jobs c
   settles_spent s new rest None answer z few settles =
       set_as (with_stage w.jobs j task (InHand new rest)) z.jobs c (ap (λ (x : World). x.jobs) settles.1)
       (set_spent w.jobs c j task before (InHand new rest) at (λ state left e. same_left state new left rest task.budget e few) spent)
@@ -70,7 +76,8 @@ module _ (w : World) (c j : ℕ) (task : Task) (before : Stage) (at : IsAt w.job
       set_as (with_stage w.jobs j task (Ended end)) z.jobs c (lists_jobs (with_end w j task end settles.0) c z settles.3)
       (set_spent w.jobs c j task before (Ended end) at (λ state left e. cc) spent)
 
-goes_spent : (w : World) (c j : ℕ) (task : Task) (before : Stage) (state : Cpu) (left : ℕ) (answer : Turn) (z : World) → IsAt w.jobs c j task before → Spent w.jobs c → left ≤ task.budget → GoesOn w c j task state left answer z → Spent z.jobs c
+goes_spent : (w : World) (c j : ℕ) (task : Task) (before : Stage) (state : Cpu) (left : ℕ) (answer : Turn) (z : World) → IsAt w.jobs c j
+    task before → Spent w.jobs c → left ≤ task.budget → GoesOn w c j task state left answer z → Spent z.jobs c
 goes_spent w c j task before state left answer z at spent few g =
     let less = advances_less g.0 c w.store state left g.1 g.2 g.3 g.4 g.6 in
     settles_spent w c j task before at spent g.2 g.3 g.4 g.1 answer z (omega arith) g.7
@@ -102,8 +109,11 @@ ahead_spent old new c Idle spent (same, free, none) =
     let jobs : new.jobs ≡ old.jobs = ap (λ (m : MachineState). m.jobs) same in
     (set_as old.jobs new.jobs c jobs spent, subst (λ (ts : List Task). HasOne ts c) (sym jobs) (λ j k here there. absurd (free j here.0 here.1 here.2 here.3)))
 ahead_spent old new c (Turns n) spent (inl (same, zeros, (i, next))) =
-    let jobs : new.jobs ≡ old.jobs = ap (λ (m : MachineState). m.jobs) same in
-    (set_as old.jobs new.jobs c jobs spent, subst (λ (ts : List Task). HasOne ts c) (sym jobs) (λ j k here there. absurd (next.0 j here.0 here.1 here.2 here.3)))
+    let jobs : new.jobs ≡ old.jobs = ap (λ (m : MachineState). m.jobs) same in (
+      set_as old.jobs new.jobs c jobs spent,
+      subst (λ (ts : List Task). HasOne ts c) (sym jobs)
+          (λ j k here there. absurd (next.0 j here.0 here.1 here.2 here.3)),
+    )
 ahead_spent old new c (Turns n) spent (inr (i, goes, one)) =
     let task = goes.0 in
     let later = goes.4 in
@@ -111,8 +121,12 @@ ahead_spent old new c (Turns n) spent (inr (i, goes, one)) =
     let few = (spent c i task goes.1 goes.2 goes.6).0 in
     let less = quiet_less n goes.3 c goes.1 later goes.2 rest goes.8 in
     let fits : rest ≤ task.budget = omega arith in
-    let set = set_spent old.jobs c i task (InHand goes.1 goes.2) (InHand later rest) goes.6 (λ state left e. same_left state later left rest task.budget e fits) spent in
-    (set_as (with_stage old.jobs i task (InHand later rest)) new.jobs c (ap (λ (m : MachineState). m.jobs) goes.9) set, λ j k here there. one j here ∙ sym (one k there))
+    let set = set_spent old.jobs c i task (InHand goes.1 goes.2) (InHand later rest) goes.6
+    (λ state left e. same_left state later left rest task.budget e fits) spent in (
+      set_as (with_stage old.jobs i task (InHand later rest)) new.jobs c (ap (λ (m : MachineState). m.jobs) goes.9) set,
+      λ j k here there.
+          one j here ∙ sym (one k there),
+    )
 
 -- ---- the job in hand has its whole budget back
 refill_whole : (old new : MachineState) (c : ℕ) → Spent old.jobs c → HasOne old.jobs c → IsRefilled old c new → AreRefilled new.jobs
@@ -123,7 +137,8 @@ refill_whole old new c spent one (inl (free, same)) d j task state left at =
       | inl own ↦ absurd (free j task state left (subst (λ (b : ℕ). IsAt old.jobs b j task (InHand state left)) own there))
       | inr whole ↦ whole
     ]
-refill_whole old new c spent one (inr (i, (own, cpu, had, more, here, exact, same))) d j task state left at = go (changed old.jobs c i own (InHand cpu had) (InHand cpu (had + more)) d j task (InHand state left) here there)
+refill_whole old new c spent one (inr (i, (own, cpu, had, more, here, exact, same))) d j task state left at = go
+    (changed old.jobs c i own (InHand cpu had) (InHand cpu (had + more)) d j task (InHand state left) here there)
   where
     there : IsAt (with_stage old.jobs i own (InHand cpu (had + more))) d j task (InHand state left)
     there = subst (λ (m : MachineState). IsAt m.jobs d j task (InHand state left)) same at
@@ -143,7 +158,8 @@ refill_whole old new c spent one (inr (i, (own, cpu, had, more, here, exact, sam
     go (Other ne was) = other ne was
 
 -- after a turn from a machine in which each has its own
-pub turn_whole : (restored after refilled : MachineState) (c made : ℕ) (w : World) → Shows restored w → AreRefilled restored.jobs → TurnsAhead restored c made after → IsRefilled after c refilled → AreRefilled refilled.jobs
+pub turn_whole : (restored after refilled : MachineState) (c made : ℕ) (w : World) → Shows restored w → AreRefilled restored.jobs →
+    TurnsAhead restored c made after → IsRefilled after c refilled → AreRefilled refilled.jobs
 turn_whole restored after refilled c made w shows whole (answer, mid, headway, turns, ahead, count) refills =
     let r = turns w shows in
     let spent = turn_spent w c answer r.0 (subst AreRefilled (sym shows.jobs) whole) r.1 in

@@ -34,7 +34,8 @@ pub cpus_shown : (m : MachineState) (w : World) (n : ℕ) → ((c : ℕ) → has
 cpus_shown m w n same shows = shows.store.maps.cpus ∙ same_count (length m.store.maps.runs) n same
 
 -- ---- turns without work
-settles_worked : (w : World) (c j : ℕ) (task : Task) (new : Cpu) (left : ℕ) (end : Option Outcome) (answer : Turn) (z : World) → Settles w c j task new left end answer z → answer ≡ turn.Idle → ⊥
+settles_worked : (w : World) (c j : ℕ) (task : Task) (new : Cpu) (left : ℕ) (end : Option Outcome) (answer : Turn) (z : World) → Settles w c
+    j task new left end answer z → answer ≡ turn.Idle → ⊥
 settles_worked w c j task new left None answer z settles idle = let no : turn.Ran ≡ turn.Idle = sym settles.0 ∙ idle in cc
 settles_worked w c j task new left (Some end) answer z settles idle = let no : turn.Ended j end ≡ turn.Idle = sym settles.2 ∙ idle in cc
 
@@ -43,7 +44,8 @@ idle_turn w c answer z (inl a) idle = absurd (settles_worked _ c a.0 a.1 a.5.3 a
 idle_turn w c answer z (inr (inl (free, a))) idle = absurd (settles_worked _ c a.0 a.1 a.7.3 a.7.4 a.7.1 answer z a.7.7 idle)
 idle_turn w c answer z (inr (inr a)) idle = (a.0, a.1)
 
-pub all_ended : (jobs : List Task) (n : ℕ) → ((j : ℕ) (task : Task) → slice_get jobs j ≡ Some task → task.cpu < n) → ((c : ℕ) → c < n → IsFree jobs c × NoneWaits jobs c) → HaveEnded jobs
+pub all_ended : (jobs : List Task) (n : ℕ) → ((j : ℕ) (task : Task) → slice_get jobs j ≡ Some task → task.cpu < n) →
+    ((c : ℕ) → c < n → IsFree jobs c × NoneWaits jobs c) → HaveEnded jobs
 all_ended jobs n inside idle j task listed = at_stage task.stage refl
   where
     at_stage : (stage : Stage) → task.stage ≡ stage → (outcome : Outcome) × (task.stage ≡ Ended outcome)
@@ -79,7 +81,8 @@ one_more old mid new c worked answer far progress w shows =
     let more : suc c ≡ c + 1 = omega arith in
     (t.0, subst (λ (n : ℕ). RunsSchedule w (below n) t.0) more (runs_more w (below c) c r.0 answer t.0 r.1 t.1), t.2)
 
-pub next_idle : (old mid new : MachineState) (c : ℕ) (worked : Worked) (answer : Turn) → SoFar old c worked mid → (w : World) → Shows old w → Turns mid c answer new → answer ≡ turn.Idle → new ≡ mid → SoFar old (c + 1) worked new
+pub next_idle : (old mid new : MachineState) (c : ℕ) (worked : Worked) (answer : Turn) → SoFar old c worked mid → (w : World) → Shows old w
+    → Turns mid c answer new → answer ≡ turn.Idle → new ≡ mid → SoFar old (c + 1) worked new
 next_idle old mid new c worked answer far w shows progress idle stays = record {
   runs = one_more old mid new c worked answer far progress;
   falls = λ some. subst (λ (m : MachineState). turns_left m.jobs < turns_left old.jobs) (sym stays) (far.falls some);
@@ -110,7 +113,8 @@ fell turn.Idle old new works falls = absurd (works refl)
 fell turn.Ran old new works falls = falls.0
 fell (turn.Ended j end) old new works falls = falls.0
 
-pub next_worked : (old mid new : MachineState) (c : ℕ) (worked : Worked) (answer : Turn) → SoFar old c worked mid → (w : World) → Shows old w → Turns mid c answer new → (answer ≡ turn.Idle → ⊥) → SoFar old (c + 1) (with_worked worked c) new
+pub next_worked : (old mid new : MachineState) (c : ℕ) (worked : Worked) (answer : Turn) → SoFar old c worked mid → (w : World) → Shows old
+    w → Turns mid c answer new → (answer ≡ turn.Idle → ⊥) → SoFar old (c + 1) (with_worked worked c) new
 next_worked old mid new c worked answer far w shows progress works = record {
   runs = one_more old mid new c worked answer far progress;
   falls = λ some. at_most worked refl;
@@ -165,13 +169,15 @@ whole_round old new n worked same far w shows =
     let r = far.runs w shows in
     (r.0, subst (λ (k : ℕ). RunsSchedule w (below k) r.0) (sym (cpus_shown old w n same shows)) r.1, r.2)
 
-pub idle_round : (old new : MachineState) (n : ℕ) (worked : Worked) → ((j : ℕ) (task : Task) → slice_get old.jobs j ≡ Some task → task.cpu < n) → SoFar old n worked new → worked ≡ Nobody → HaveEnded new.jobs
+pub idle_round : (old new : MachineState) (n : ℕ) (worked : Worked) →
+    ((j : ℕ) (task : Task) → slice_get old.jobs j ≡ Some task → task.cpu < n) → SoFar old n worked new → worked ≡ Nobody → HaveEnded new.jobs
 idle_round old new n worked inside far e =
     let idle = far.idle e in
     subst (λ (m : MachineState). HaveEnded m.jobs) (sym idle.0) (all_ended old.jobs n inside idle.1)
 
 -- a CPU that the store hasn't has no work
-pub alone_round : (old new : MachineState) (n : ℕ) (worked : Worked) → ((j : ℕ) (task : Task) → slice_get old.jobs j ≡ Some task → task.cpu < n) → SoFar old n worked new → (e : ℕ) → worked ≡ One e → IsAlone new.jobs e
+pub alone_round : (old new : MachineState) (n : ℕ) (worked : Worked) →
+    ((j : ℕ) (task : Task) → slice_get old.jobs j ≡ Some task → task.cpu < n) → SoFar old n worked new → (e : ℕ) → worked ≡ One e → IsAlone new.jobs e
 alone_round old new n worked inside far e one d ne = elim (cases_lt d n) [
   | inl less ↦ far.alone e one d less ne
   | inr past ↦ far.kept d past (

@@ -36,9 +36,12 @@ on state left more = ap (λ (l : List ℕ). 1 ∷ l) (append_assoc (words_saved 
 pub hand_read : (bytes rest last words : List ℕ) (state : Cpu) → length words ≡ 1 → bytes ≡ words_saved 0 words ++ rest → rest ≡ cpu_saved state ++ last
     → 1 ∷ bytes ≡ stage_saved (InHand state (get_or words 0 0)) ++ last
 hand_read bytes rest last words state size read e =
-    ap (λ (l : List ℕ). 1 ∷ l) (read ∙ (ap (λ (l : List ℕ). words_saved 0 words ++ l) e ∙ ap (λ (l : List ℕ). words_saved 0 l ++ (cpu_saved state ++ last)) (one_word words size))) ∙ sym (on state (get_or words 0 0) last)
+    ap (λ (l : List ℕ). 1 ∷ l) (read ∙ (ap (λ (l : List ℕ). words_saved 0 words ++ l) e ∙ ap
+    (λ (l : List ℕ). words_saved 0 l ++ (cpu_saved state ++ last)) (one_word words size))) ∙ sym (on state (get_or words 0 0) last)
 
-module _ (cpu : ℕ) (input : Input) (bytes : List ℕ) (state : Cpu) (left : ℕ) (more : List ℕ) (is : IsSavableStage cpu input (InHand state left)) (may : HoldsWhatMayBe (InHand state left)) (e : 1 ∷ bytes ≡ stage_saved (InHand state left) ++ more) where
+module _ (cpu : ℕ) (input : Input) (bytes : List ℕ) (state : Cpu) (left : ℕ) (more : List ℕ)
+    (is : IsSavableStage cpu input (InHand state left)) (may : HoldsWhatMayBe (InHand state left))
+    (e : 1 ∷ bytes ≡ stage_saved (InHand state left) ++ more) where
   rest_is : bytes ≡ words_saved 0 (left ∷ []) ++ (cpu_saved state ++ more)
   rest_is = behind 1 1 bytes (words_saved 0 (left ∷ []) ++ (cpu_saved state ++ more)) (e ∙ on state left more)
 
@@ -52,20 +55,26 @@ module _ (cpu : ℕ) (input : Input) (bytes : List ℕ) (state : Cpu) (left : �
       none state more is.2 may is.1 same.1
 
 -- ---- equal bytes are those of equal stages
-pub stages_told : (cpu : ℕ) (input : Input) (x y : Stage) (rest more : List ℕ) → IsSavableStage cpu input x → IsSavableStage cpu input y → stage_saved x ++ rest ≡ stage_saved y ++ more → (x ≡ y) × (rest ≡ more)
+pub stages_told : (cpu : ℕ) (input : Input) (x y : Stage) (rest more : List ℕ) → IsSavableStage cpu input x → IsSavableStage cpu input y →
+    stage_saved x ++ rest ≡ stage_saved y ++ more → (x ≡ y) × (rest ≡ more)
 stages_told cpu input (Waiting a) (Waiting b) rest more h k e = (ap (λ (i : Input). Waiting i) (h ∙ sym k), behind 0 0 rest more e)
-stages_told cpu input (Waiting a) (InHand s l) rest more h k e = let n = first 0 1 rest (words_saved 0 (l ∷ []) ++ (cpu_saved s ++ more)) (e ∙ on s l more) in absurd (omega arith)
+stages_told cpu input (Waiting a) (InHand s l) rest more h k e =
+    let n = first 0 1 rest (words_saved 0 (l ∷ []) ++ (cpu_saved s ++ more)) (e ∙ on s l more) in absurd (omega arith)
 stages_told cpu input (Waiting a) (Ended o) rest more h k e = let n = first 0 2 rest (outcome_saved o ++ more) e in absurd (omega arith)
-stages_told cpu input (InHand s l) (Waiting b) rest more h k e = let n = first 1 0 (words_saved 0 (l ∷ []) ++ (cpu_saved s ++ rest)) more (sym (on s l rest) ∙ e) in absurd (omega arith)
+stages_told cpu input (InHand s l) (Waiting b) rest more h k e =
+    let n = first 1 0 (words_saved 0 (l ∷ []) ++ (cpu_saved s ++ rest)) more (sym (on s l rest) ∙ e) in absurd (omega arith)
 stages_told cpu input (InHand s l) (InHand t m) rest more h k e =
-    let is = behind 1 1 (words_saved 0 (l ∷ []) ++ (cpu_saved s ++ rest)) (words_saved 0 (m ∷ []) ++ (cpu_saved t ++ more)) (sym (on s l rest) ∙ (e ∙ on t m more)) in
+    let is = behind 1 1 (words_saved 0 (l ∷ []) ++ (cpu_saved s ++ rest)) (words_saved 0 (m ∷ []) ++ (cpu_saved t ++ more))
+    (sym (on s l rest) ∙ (e ∙ on t m more)) in
     let a = words_prefix 0 (l ∷ []) (m ∷ []) (cpu_saved s ++ rest) (cpu_saved t ++ more) refl (one_fits l h.0) (one_fits m k.0) is in
     let left : l ≡ m = first l m [] [] a.0 in
     let b = cpus_told s t rest more h.2 k.2 (h.1.0 ∙ sym k.1.0, h.1.1 ∙ sym k.1.1, h.1.2 ∙ sym k.1.2, h.1.3 ∙ sym k.1.3) a.1 in
     (ap (λ (c : Cpu). InHand c l) b.0 ∙ ap (λ (n : ℕ). InHand t n) left, b.1)
-stages_told cpu input (InHand s l) (Ended o) rest more h k e = let n = first 1 2 (words_saved 0 (l ∷ []) ++ (cpu_saved s ++ rest)) (outcome_saved o ++ more) (sym (on s l rest) ∙ e) in absurd (omega arith)
+stages_told cpu input (InHand s l) (Ended o) rest more h k e =
+    let n = first 1 2 (words_saved 0 (l ∷ []) ++ (cpu_saved s ++ rest)) (outcome_saved o ++ more) (sym (on s l rest) ∙ e) in absurd (omega arith)
 stages_told cpu input (Ended o) (Waiting b) rest more h k e = let n = first 2 0 (outcome_saved o ++ rest) more e in absurd (omega arith)
-stages_told cpu input (Ended o) (InHand t m) rest more h k e = let n = first 2 1 (outcome_saved o ++ rest) (words_saved 0 (m ∷ []) ++ (cpu_saved t ++ more)) (e ∙ on t m more) in absurd (omega arith)
+stages_told cpu input (Ended o) (InHand t m) rest more h k e =
+    let n = first 2 1 (outcome_saved o ++ rest) (words_saved 0 (m ∷ []) ++ (cpu_saved t ++ more)) (e ∙ on t m more) in absurd (omega arith)
 stages_told cpu input (Ended o) (Ended p) rest more h k e =
     let same = outcomes_told o p rest more h k (behind 2 2 (outcome_saved o ++ rest) (outcome_saved p ++ more) e) in
     (ap (λ (x : Outcome). Ended x) same.0, same.1)

@@ -29,7 +29,8 @@ use Rattle.bpf_machine.specs.Private.Parts.{IsReadAs}
 use Rattle.bpf_machine.proofs.HostLaws.{tasks_count}
 use Rattle.bpf_machine.proofs.WorkLaws.{served, behind, hand_at, waits_at, no_hand, lane_read, shows_job}
 
-module _ (store : Contents) (programs : List Loaded) (jobs : List Listed) (lanes : List Lane) (lists : Option (List Listing)) (board : IsBoard (has_cpu store) (is_running store) (held_spans store) programs jobs lanes) where
+module _ (store : Contents) (programs : List Loaded) (jobs : List Listed) (lanes : List Lane) (lists : Option (List Listing))
+    (board : IsBoard (has_cpu store) (is_running store) (held_spans store) programs jobs lanes) where
   abbrev pub m : MachineState
   m = record { store = store; programs = programs; jobs = tasks_of lanes jobs; lists = lists }
 
@@ -74,12 +75,14 @@ module _ (store : Contents) (programs : List Loaded) (jobs : List Listed) (lanes
     | inr past ↦ board.idle c (omega (arith, past))
   ]
 
-  waits_behind : (c j k : ℕ) (later : Task) (l : Lane) (p : Phase) (o : Option Hand) → l.next ≤ j → j < k → FitsLane l k p → (more : Input) × (stage_of o p ≡ Waiting more)
+  waits_behind : (c j k : ℕ) (later : Task) (l : Lane) (p : Phase) (o : Option Hand) → l.next ≤ j → j < k → FitsLane l k p → (more : Input)
+      × (stage_of o p ≡ Waiting more)
   waits_behind c j k later l (phase.Waiting v) o before behind fits = (v, refl)
   waits_behind c j k later l phase.InHand o before behind fits = let less : k < l.next = fits.0 in absurd (omega arith)
   waits_behind c j k later l (phase.Ended outcome) o before behind fits = let less : k < l.next = fits in absurd (omega arith)
 
-  order : (c j k : ℕ) (task later : Task) (input : Input) → IsAt m.jobs c j task (Waiting input) → j < k → slice_get m.jobs k ≡ Some later → later.cpu ≡ c → (more : Input) × (later.stage ≡ Waiting more)
+  order : (c j k : ℕ) (task later : Task) (input : Input) → IsAt m.jobs c j task (Waiting input) → j < k → slice_get m.jobs k ≡ Some later →
+      later.cpu ≡ c → (more : Input) × (later.stage ≡ Waiting more)
   order c j k task later input at less there of =
       let w = waits_at (has_cpu store) (is_running store) (held_spans store) programs jobs lanes board c j task input at in
       let b = behind jobs lanes c k later later.stage (record { listed = there; of = of; at = refl }) in
@@ -104,7 +107,8 @@ module _ (store : Contents) (programs : List Loaded) (jobs : List Listed) (lanes
   entry_inside j e inside read = (board.each_job j e (slice_get_read jobs (length jobs) j e refl inside read)).within
 
 -- what a job and its lane, which were read, show
-pub read_task : (jobs : List Listed) (lanes : List Lane) (j : ℕ) (e : Listed) (l : Lane) (s : Stage) → j < length jobs → e ≡ slice_index_or jobs j e → e.cpu < length lanes → l ≡ slice_index_or lanes e.cpu l
+pub read_task : (jobs : List Listed) (lanes : List Lane) (j : ℕ) (e : Listed) (l : Lane) (s : Stage) → j < length jobs → e ≡ slice_index_or
+    jobs j e → e.cpu < length lanes → l ≡ slice_index_or lanes e.cpu l
     → s ≡ stage_of l.hand e.phase → slice_get (tasks_of lanes jobs) j ≡ Some (record { cpu = e.cpu; program = e.program; budget = e.budget; stage = s })
 read_task jobs lanes j e l s inside read within lane is =
     let at = shows_job jobs lanes j e (slice_get_read jobs (length jobs) j e refl inside read) in
@@ -112,22 +116,27 @@ read_task jobs lanes j e l s inside read within lane is =
     let same : stage_of (lane_of lanes e.cpu).hand e.phase ≡ s = ap (λ (x : Lane). stage_of x.hand e.phase) there ∙ sym is in
     at ∙ ap (λ (x : Stage). Some (record { cpu = e.cpu; program = e.program; budget = e.budget; stage = x })) same
 
-pub job_inside : (lanes : List Lane) (jobs : List Listed) (m : MachineState) (store : Contents) (programs : List Loaded) (lists : Option (List Listing)) (j : ℕ) → record { store = store; programs = programs; jobs = tasks_of lanes jobs; lists = lists } ≡ m → j < length m.jobs → j < length jobs
+pub job_inside : (lanes : List Lane) (jobs : List Listed) (m : MachineState) (store : Contents) (programs : List Loaded)
+    (lists : Option (List Listing)) (j : ℕ) → record { store = store; programs = programs; jobs = tasks_of lanes jobs; lists = lists } ≡ m →
+    j < length m.jobs → j < length jobs
 job_inside lanes jobs m store programs lists j same less =
     let there : j < length (tasks_of lanes jobs) = subst (λ (x : MachineState). j < length x.jobs) (sym same) less in
     subst (λ (n : ℕ). j < n) (tasks_count lanes jobs) there
 
 -- one lane more
-pub lane_more : (P : ℕ → Lane → Type 0) (lanes : List Lane) (l : Lane) (n : ℕ) → length lanes ≡ n → ((c : ℕ) → c < n → P c (lane_of lanes c)) → P n l → (c : ℕ) → c < n + 1 → P c (lane_of (lanes ++ l ∷ []) c)
+pub lane_more : (P : ℕ → Lane → Type 0) (lanes : List Lane) (l : Lane) (n : ℕ) → length lanes ≡ n →
+    ((c : ℕ) → c < n → P c (lane_of lanes c)) → P n l → (c : ℕ) → c < n + 1 → P c (lane_of (lanes ++ l ∷ []) c)
 lane_more P lanes l n count before last c less = elim (cases_lt c n) [
   | inl below ↦ subst (P c) (sym (get_or-append lanes (l ∷ []) no_lane c (omega (arith, below, count)))) (before c below)
   | inr past ↦
       let here : c ≡ n = omega (arith, past, less) in
-      let at : lane_of (lanes ++ l ∷ []) c ≡ l = get_or-append_right lanes (l ∷ []) n c no_lane count (omega arith) ∙ ap (λ (k : ℕ). slice_index_or (l ∷ []) k no_lane) (let z : c - n ≡ 0 = omega (arith, here) in z) in
+      let at : lane_of (lanes ++ l ∷ []) c ≡ l = get_or-append_right lanes (l ∷ []) n c no_lane count (omega arith) ∙ ap
+      (λ (k : ℕ). slice_index_or (l ∷ []) k no_lane) (let z : c - n ≡ 0 = omega (arith, here) in z) in
       subst (P c) (sym at) (subst (λ (k : ℕ). P k l) (sym here) last)
 ]
 
-pub read_as : (jobs : List Listed) (lanes : List Lane) (j : ℕ) (e : Listed) (l : Lane) (task : Task) → j < length jobs → e ≡ slice_index_or jobs j e → e.cpu < length lanes → l ≡ slice_index_or lanes e.cpu l
+pub read_as : (jobs : List Listed) (lanes : List Lane) (j : ℕ) (e : Listed) (l : Lane) (task : Task) → j < length jobs → e ≡ slice_index_or
+    jobs j e → e.cpu < length lanes → l ≡ slice_index_or lanes e.cpu l
     → IsReadAs l e task → slice_get (tasks_of lanes jobs) j ≡ Some task
 read_as jobs lanes j e l task inside read within lane is =
     read_task jobs lanes j e l task.stage inside read within lane is.stage
@@ -136,13 +145,20 @@ read_as jobs lanes j e l task inside read within lane is =
     ∙ ap (λ (n : ℕ). Some (record { cpu = task.cpu; program = task.program; budget = n; stage = task.stage })) is.budget))
 
 -- and back
-pub read_back : (jobs : List Listed) (lanes : List Lane) (j : ℕ) (e : Listed) (l : Lane) (task : Task) → j < length jobs → e ≡ slice_index_or jobs j e → e.cpu < length lanes → l ≡ slice_index_or lanes e.cpu l
+pub read_back : (jobs : List Listed) (lanes : List Lane) (j : ℕ) (e : Listed) (l : Lane) (task : Task) → j < length jobs → e ≡
+    slice_index_or jobs j e → e.cpu < length lanes → l ≡ slice_index_or lanes e.cpu l
     → slice_get (tasks_of lanes jobs) j ≡ Some task → IsReadAs l e task
 read_back jobs lanes j e l task inside read within lane at =
     let here : Task = record { cpu = e.cpu; program = e.program; budget = e.budget; stage = stage_of l.hand e.phase } in
     let two : Some here ≡ Some task = sym (read_task jobs lanes j e l (stage_of l.hand e.phase) inside read within lane refl) ∙ at in
     let one : here ≡ task = cc in
-    record { cpu = ap (λ (t : Task). t.cpu) one; program = ap (λ (t : Task). t.program) one; budget = ap (λ (t : Task). t.budget) one; stage = sym (ap (λ (t : Task). t.stage) one) }
+    record {
+      cpu = ap (λ (t : Task). t.cpu) one;
+      program = ap (λ (t : Task). t.program) one;
+      budget = ap (λ (t : Task). t.budget) one;
+      stage
+          = sym (ap (λ (t : Task). t.stage) one);
+    }
 
 pub hashed_as : (l : Lane) (e : Listed) (task : Task) → IsReadAs l e task → stage_hash (mix e.cpu e.program) (stage_of l.hand e.phase) ≡ task_hash task
 hashed_as l e task is =

@@ -15,7 +15,8 @@ use Rattle.bpf_machine.specs.Work.{HasInHand, IsNext, BeginsJob, Proceeds}
 use Rattle.bpf_base.proofs.Lists.{slice_get-set_known, set_twice}
 
 -- the job that was begun is in hand
-pub begun_at : (jobs : List Task) (c j : ℕ) (task : Task) (was now : Stage) → IsAt jobs c j task was → IsAt (with_stage jobs j task now) c j (record task { stage = now }) now
+pub begun_at : (jobs : List Task) (c j : ℕ) (task : Task) (was now : Stage) → IsAt jobs c j task was → IsAt (with_stage jobs j task now) c j
+    (record task { stage = now }) now
 begun_at jobs c j task was now at = record { listed = slice_get-set_known jobs j (record task { stage = now }) task at.listed; of = at.of; at = refl }
 
 begun_now : (old new : MachineState) (c j : ℕ) (begins : BeginsJob old c j new)
@@ -31,9 +32,13 @@ begun_in_hand old new c j begins =
 
 -- a job's stage is overwritten
 settles_over : (w : World) (c j : ℕ) (task : Task) (stage : Stage) (new : Cpu) (left : ℕ) (end : Option Outcome) (answer : Turn) (z : World)
-    → Settles (record w { jobs = with_stage w.jobs j task stage }) c j (record task { stage = stage }) new left end answer z → Settles w c j task new left end answer z
-settles_over w c j task stage new left None answer z settles =
-    (settles.0, settles.1 ∙ ap (λ (ts : List Task). record w { jobs = ts }) (set_twice w.jobs j (record task { stage = stage }) (record task { stage = InHand new left })))
+    → Settles (record w { jobs = with_stage w.jobs j task stage }) c j (record task { stage = stage }) new left end answer z → Settles w c j
+    task new left end answer z
+settles_over w c j task stage new left None answer z settles = (
+  settles.0,
+  settles.1 ∙ ap (λ (ts : List Task). record w { jobs = ts })
+      (set_twice w.jobs j (record task { stage = stage }) (record task { stage = InHand new left })),
+)
 settles_over w c j task stage new left (Some end) answer z settles =
     let P : List Task → Type 0 = λ ts. Lists (record w { store = settles.0; jobs = ts }) c z in
     (settles.0, settles.1, settles.2, subst P (set_twice w.jobs j (record task { stage = stage }) (record task { stage = Ended end })) settles.3)
@@ -68,17 +73,35 @@ turn_begins old mid new c j answer next begins proceeds w shows =
     let B : List Task → Type 0 = λ jobs. NoneWaitsBelow jobs c j in
     let goes : GoesOn begun c j task state task.budget answer r.0 =
     (on.0, on.1, on.2, on.3, on.4, on.5, on.6, settles_over (record begun { store = on.2 }) c j task now on.3 on.4 on.1 answer r.0 on.7)
-    in
-    (r.0, inr (inl (subst F (sym shows.jobs) next.0, (j, task, begins.1, run.0, subst P (sym shows.jobs) begins.2, subst B (sym shows.jobs) next.2, run.1, goes))), r.2)
+    in (
+      r.0,
+      inr (inl (
+        subst F (sym shows.jobs) next.0,
+        (
+          j,
+          task,
+          begins.1,
+          run.0,
+          subst P (sym shows.jobs) begins.2,
+          subst B (sym shows.jobs)
+              next.2,
+          run.1,
+          goes,
+        ),
+      )),
+      r.2,
+    )
 
-pub turn_idle : (old : MachineState) (c : ℕ) → IsFree old.jobs c → NoneWaits old.jobs c → (w : World) → Shows old w → (z : World) × TakesTurn w c Idle z × Shows old z
+pub turn_idle : (old : MachineState) (c : ℕ) → IsFree old.jobs c → NoneWaits old.jobs c → (w : World) → Shows old w → (z : World) ×
+    TakesTurn w c Idle z × Shows old z
 turn_idle old c free none w shows =
     let F : List Task → Type 0 = λ jobs. IsFree jobs c in
     let N : List Task → Type 0 = λ jobs. NoneWaits jobs c in
     (w, inr (inr (subst F (sym shows.jobs) free, subst N (sym shows.jobs) none, refl, refl)), shows)
 
 -- ---- schedules
-pub runs_more : (w : World) (cs : List ℕ) (c : ℕ) (m : World) (answer : Turn) (z : World) → RunsSchedule w cs m → TakesTurn m c answer z → RunsSchedule w (cs ++ c ∷ []) z
+pub runs_more : (w : World) (cs : List ℕ) (c : ℕ) (m : World) (answer : Turn) (z : World) → RunsSchedule w cs m → TakesTurn m c answer z →
+    RunsSchedule w (cs ++ c ∷ []) z
 runs_more w [] c m answer z runs progress = (answer, z, subst (λ (x : World). TakesTurn x c answer z) runs progress, refl)
 runs_more w (d ∷ ds) c m answer z runs progress = (runs.0, runs.1, runs.2, runs_more runs.1 ds c m answer z runs.3 progress)
 
@@ -94,5 +117,7 @@ next_turn old mid new schedule n answer inside runs progress w shows =
     let all = runs_more w (take n schedule) (get_or schedule n 0) r.0 answer t.0 r.1 t.1 in
     (t.0, subst (λ (cs : List ℕ). RunsSchedule w cs t.0) (sym (take_more schedule n 0 inside)) all, t.2)
 
-pub all_turns : (old new : MachineState) (schedule : List ℕ) (n : ℕ) → length schedule ≤ n → RunsSo old schedule n new → (w : World) → Shows old w → (z : World) × RunsSchedule w schedule z × Shows new z
-all_turns old new schedule n past runs w shows = let r = runs w shows in (r.0, subst (λ (cs : List ℕ). RunsSchedule w cs r.0) (take_all n schedule past) r.1, r.2)
+pub all_turns : (old new : MachineState) (schedule : List ℕ) (n : ℕ) → length schedule ≤ n → RunsSo old schedule n new → (w : World) → Shows
+    old w → (z : World) × RunsSchedule w schedule z × Shows new z
+all_turns old new schedule n past runs w shows =
+    let r = runs w shows in (r.0, subst (λ (cs : List ℕ). RunsSchedule w cs r.0) (take_all n schedule past) r.1, r.2)

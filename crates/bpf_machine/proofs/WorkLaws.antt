@@ -30,7 +30,8 @@ pub record IsBehind (jobs : List Listed) (lanes : List Lane) (c j : ℕ) (task :
   pub of : job.cpu ≡ c
   pub shown : task ≡ task_of lanes job
 
-pub behind : (jobs : List Listed) (lanes : List Lane) (c j : ℕ) (task : Task) (stage : Stage) → IsAt (tasks_of lanes jobs) c j task stage → IsBehind jobs lanes c j task
+pub behind : (jobs : List Listed) (lanes : List Lane) (c j : ℕ) (task : Task) (stage : Stage) → IsAt (tasks_of lanes jobs) c j task stage →
+    IsBehind jobs lanes c j task
 behind jobs lanes c j task stage at = go (slice_get jobs j) refl
   where
     shown : option_map (task_of lanes) (slice_get jobs j) ≡ Some task
@@ -44,17 +45,20 @@ behind jobs lanes c j task stage at = go (slice_get jobs j) refl
         record { job = x; listed = e; of = sym (ap (λ (t : Task). t.cpu) same) ∙ at.of; shown = same }
 
 -- a listed job is shown
-pub shows_job : (jobs : List Listed) (lanes : List Lane) (j : ℕ) (x : Listed) → slice_get jobs j ≡ Some x → slice_get (tasks_of lanes jobs) j ≡ Some (task_of lanes x)
+pub shows_job : (jobs : List Listed) (lanes : List Lane) (j : ℕ) (x : Listed) → slice_get jobs j ≡ Some x → slice_get (tasks_of lanes jobs)
+    j ≡ Some (task_of lanes x)
 shows_job jobs lanes j x at = slice_get-map (task_of lanes) jobs j ∙ ap (λ (o : Option Listed). option_map (task_of lanes) o) at
 
 -- a hand that is shown is there
-pub shown_hand : (o : Option Hand) (p : Phase) (state : Cpu) (left : ℕ) → stage_of o p ≡ InHand state left → (h : Hand) × (o ≡ Some h) × (p ≡ phase.InHand) × (h.cpu ≡ state) × (h.left ≡ left)
+pub shown_hand : (o : Option Hand) (p : Phase) (state : Cpu) (left : ℕ) → stage_of o p ≡ InHand state left → (h : Hand) × (o ≡ Some h) ×
+    (p ≡ phase.InHand) × (h.cpu ≡ state) × (h.left ≡ left)
 shown_hand o (phase.Waiting input) state left e = cc
 shown_hand o (phase.Ended outcome) state left e = cc
 shown_hand None phase.InHand state left e = cc
 shown_hand (Some h) phase.InHand state left e = let same : InHand h.cpu h.left ≡ InHand state left = e in (h, refl, refl, cc, cc)
 
-shown_waiting : (l : Lane) (j : ℕ) (p : Phase) (input : Input) → FitsLane l j p → stage_of l.hand p ≡ Waiting input → (v : Input) × (p ≡ phase.Waiting v) × (v ≡ input) × (l.next ≤ j)
+shown_waiting : (l : Lane) (j : ℕ) (p : Phase) (input : Input) → FitsLane l j p → stage_of l.hand p ≡ Waiting input → (v : Input) ×
+    (p ≡ phase.Waiting v) × (v ≡ input) × (l.next ≤ j)
 shown_waiting l j (phase.Waiting v) input fits e = let same : Waiting v ≡ Waiting input = e in (v, refl, cc, fits)
 shown_waiting l j (phase.Ended outcome) input fits e = cc
 shown_waiting l j phase.InHand input fits e =
@@ -63,13 +67,15 @@ shown_waiting l j phase.InHand input fits e =
     cc
 
 -- the CPU of each job is one that is served
-pub served : (serves running : ℕ → Bool) (reach : ℕ → Span → Bool) (programs : List Loaded) (jobs : List Listed) (lanes : List Lane) → IsBoard serves running reach programs jobs lanes
+pub served : (serves running : ℕ → Bool) (reach : ℕ → Span → Bool) (programs : List Loaded) (jobs : List Listed) (lanes : List Lane) →
+    IsBoard serves running reach programs jobs lanes
     → (j : ℕ) (task : Task) → slice_get (tasks_of lanes jobs) j ≡ Some task → serves task.cpu ≡ true
 served serves running reach programs jobs lanes board j task listed =
     let b = behind jobs lanes task.cpu j task task.stage (record { listed = listed; of = refl; at = refl }) in
     subst (λ (n : ℕ). serves n ≡ true) b.of (board.each_job j b.job b.listed).served
 
-module _ (serves running : ℕ → Bool) (reach : ℕ → Span → Bool) (programs : List Loaded) (jobs : List Listed) (lanes : List Lane) (board : IsBoard serves running reach programs jobs lanes) (c : ℕ) where
+module _ (serves running : ℕ → Bool) (reach : ℕ → Span → Bool) (programs : List Loaded) (jobs : List Listed) (lanes : List Lane)
+    (board : IsBoard serves running reach programs jobs lanes) (c : ℕ) where
   -- ---- in hand
   pub record HandAt (j : ℕ) (task : Task) (state : Cpu) (left : ℕ) : Type 0 where
     pub job : Listed
@@ -155,14 +161,16 @@ module _ (serves running : ℕ → Bool) (reach : ℕ → Span → Bool) (progra
       }
 
   -- the CPU's next job waits
-  pub next_waits : c < length lanes → (x : Listed) → slice_get jobs (lane_of lanes c).next ≡ Some x → (task : Task) × (input : Input) × IsAt (tasks_of lanes jobs) c (lane_of lanes c).next task (Waiting input)
+  pub next_waits : c < length lanes → (x : Listed) → slice_get jobs (lane_of lanes c).next ≡ Some x → (task : Task) × (input : Input) × IsAt
+      (tasks_of lanes jobs) c (lane_of lanes c).next task (Waiting input)
   next_waits within x at =
       let n = (lane_of lanes c).next in
       let of : x.cpu ≡ c = (board.each_lane c within).next x at in
       let fits : FitsLane (lane_of lanes c) n x.phase = subst (λ (d : ℕ). FitsLane (lane_of lanes d) n x.phase) of (board.each_job n x at).fits in
       go x.phase refl fits
     where
-      go : (p : Phase) → x.phase ≡ p → FitsLane (lane_of lanes c) (lane_of lanes c).next p → (task : Task) × (input : Input) × IsAt (tasks_of lanes jobs) c (lane_of lanes c).next task (Waiting input)
+      go : (p : Phase) → x.phase ≡ p → FitsLane (lane_of lanes c) (lane_of lanes c).next p → (task : Task) × (input : Input) × IsAt
+          (tasks_of lanes jobs) c (lane_of lanes c).next task (Waiting input)
       go (phase.Waiting v) e fits = (
         task_of lanes x,
         v,
@@ -220,12 +228,15 @@ lane_there lanes read c l same test found =
     (within, lane_read lanes c l within (subst (λ (xs : List Lane). l ≡ slice_index_or xs c l) same found))
 
 -- what a lane that was read says of its CPU
-module _ (serves running : ℕ → Bool) (reach : ℕ → Span → Bool) (programs : List Loaded) (jobs : List Listed) (lanes : List Lane) (board : IsBoard serves running reach programs jobs lanes) (c : ℕ) (l : Lane) (within : c < length lanes) (was : lane_of lanes c ≡ l) where
+module _ (serves running : ℕ → Bool) (reach : ℕ → Span → Bool) (programs : List Loaded) (jobs : List Listed) (lanes : List Lane)
+    (board : IsBoard serves running reach programs jobs lanes) (c : ℕ) (l : Lane) (within : c < length lanes) (was : lane_of lanes c ≡ l) where
   pub work_in_hand : (h : Hand) → l.hand ≡ Some h → HasInHand (tasks_of lanes jobs) c h.job
-  work_in_hand h held = let has = has_hand serves running reach programs jobs lanes board c h within (ap (λ (x : Lane). x.hand) was ∙ held) in (has.0, h.cpu, h.left, has.1)
+  work_in_hand h held =
+      let has = has_hand serves running reach programs jobs lanes board c h within (ap (λ (x : Lane). x.hand) was ∙ held) in (has.0, h.cpu, h.left, has.1)
 
   pub state_in_hand : (h : Hand) → l.hand ≡ Some h → IsState (tasks_of lanes jobs) c h.cpu
-  state_in_hand h held = let has = has_hand serves running reach programs jobs lanes board c h within (ap (λ (x : Lane). x.hand) was ∙ held) in (h.job, has.0, h.left, has.1)
+  state_in_hand h held =
+      let has = has_hand serves running reach programs jobs lanes board c h within (ap (λ (x : Lane). x.hand) was ∙ held) in (h.job, has.0, h.left, has.1)
 
   pub work_free : l.hand ≡ None → IsFree (tasks_of lanes jobs) c
   work_free none = is_free serves running reach programs jobs lanes board c (ap (λ (x : Lane). x.hand) was ∙ none)

@@ -88,9 +88,11 @@ one n i j a b address (inl f) (inr (inl g)) p q = (let f0 = f.0 in let f1 = f.1 
 one n i j a b address (inl f) (inr (inr g)) p q = (let f0 = f.0 in let f1 = f.1 in let f2 = f.2 in let g0 = g.0 in let g1 = g.1 in let g2 = g.2 in omega arith)
 one n i j a b address (inr (inl f)) (inl g) p q = (let f0 = f.0 in let f1 = f.1 in let f2 = f.2 in let g0 = g.0 in let g1 = g.1 in let g2 = g.2 in omega arith)
 one n i j a b address (inr (inl f)) (inr (inl g)) p q = f.0 ∙ sym g.0
-one n i j a b address (inr (inl f)) (inr (inr g)) p q = (let f0 = f.0 in let f1 = f.1 in let f2 = f.2 in let g0 = g.0 in let g1 = g.1 in let g2 = g.2 in omega arith)
+one n i j a b address (inr (inl f)) (inr (inr g)) p q =
+    (let f0 = f.0 in let f1 = f.1 in let f2 = f.2 in let g0 = g.0 in let g1 = g.1 in let g2 = g.2 in omega arith)
 one n i j a b address (inr (inr f)) (inl g) p q = (let f0 = f.0 in let f1 = f.1 in let f2 = f.2 in let g0 = g.0 in let g1 = g.1 in let g2 = g.2 in omega arith)
-one n i j a b address (inr (inr f)) (inr (inl g)) p q = (let f0 = f.0 in let f1 = f.1 in let f2 = f.2 in let g0 = g.0 in let g1 = g.1 in let g2 = g.2 in omega arith)
+one n i j a b address (inr (inr f)) (inr (inl g)) p q =
+    (let f0 = f.0 in let f1 = f.1 in let f2 = f.2 in let g0 = g.0 in let g1 = g.1 in let g2 = g.2 in omega arith)
 one n i j a b address (inr (inr f)) (inr (inr g)) p q = f.0 ∙ sym g.0
 
 pub areas_are_apart : AreasAreApart

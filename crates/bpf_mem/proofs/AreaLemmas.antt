@@ -62,7 +62,8 @@ frame_areas-below d (frame ∷ frames) a h =
     let first : Area = record { base = frame_base d; bytes = frame } in
     byte_among-others first (frame_areas (suc d) frames) a (byte_in-below first a h) ∙ frame_areas-below (suc d) frames a (omega arith)
 
-frame_areas-at : (d k o : ℕ) (frames : List (List ℕ)) (a : ℕ) → Sized frames → o < 0x1000 → a ≡ frame_base (d + k) + o → byte_among (frame_areas d frames) a ≡ option_and_then (λ frame. slice_get frame o) (slice_get frames k)
+frame_areas-at : (d k o : ℕ) (frames : List (List ℕ)) (a : ℕ) → Sized frames → o < 0x1000 → a ≡ frame_base (d + k) + o → byte_among
+    (frame_areas d frames) a ≡ option_and_then (λ frame. slice_get frame o) (slice_get frames k)
 frame_areas-at d k o [] a sized h e = byte_among-none a
 frame_areas-at d zero o (frame ∷ frames) a sized h e =
     let first : Area = record { base = frame_base d; bytes = frame } in
@@ -102,13 +103,15 @@ unfolding byte_at frame_byte context_byte packet_byte
 byte_at-parts m a =
     let context : Area = record { base = context_base; bytes = m.context } in
     let packet : Area = record { base = packet_base; bytes = m.packet } in
-    byte_among-append (frame_areas 0 m.frames.live) (context ∷ packet ∷ []) a ∙ ap (option_or (byte_among (frame_areas 0 m.frames.live) a)) (byte_among-two context packet a)
+    byte_among-append (frame_areas 0 m.frames.live) (context ∷ packet ∷ []) a ∙ ap (option_or (byte_among (frame_areas 0 m.frames.live) a))
+    (byte_among-two context packet a)
 
 pub frame_byte-below : (m : PrivateMemory) (a : ℕ) → a < frame_base 0 → frame_byte m a ≡ None
 unfolding frame_byte
 frame_byte-below m a h = frame_areas-below 0 m.frames.live a h
 
-pub frame_byte-at : (m : PrivateMemory) (a d o : ℕ) → Sized m.frames.live → a ≡ frame_base d + o → o < 0x1000 → frame_byte m a ≡ option_and_then (λ frame. slice_get frame o) (slice_get m.frames.live d)
+pub frame_byte-at : (m : PrivateMemory) (a d o : ℕ) → Sized m.frames.live → a ≡ frame_base d + o → o < 0x1000 → frame_byte m a ≡
+    option_and_then (λ frame. slice_get frame o) (slice_get m.frames.live d)
 unfolding frame_byte
 frame_byte-at m a d o sized e h = frame_areas-at 0 d o m.frames.live a sized h (omega arith)
 
@@ -148,9 +151,11 @@ byte_at-below m a h = rw (byte_at-parts, frame_byte-below m a (omega arith), con
 pub byte_at-packet : (m : PrivateMemory) (a o : ℕ) → a ≡ packet_base + o → a < context_base → byte_at m a ≡ slice_get m.packet o
 byte_at-packet m a o e h = rw (byte_at-parts, frame_byte-below m a (omega arith), context_byte-below m a h) (packet_byte-at m a o e)
 
-pub byte_at-context : (m : PrivateMemory) (a o : ℕ) → length m.packet ≤ max_packet → a ≡ context_base + o → o < 0x100000000 → byte_at m a ≡ slice_get m.context o
+pub byte_at-context : (m : PrivateMemory) (a o : ℕ) → length m.packet ≤ max_packet → a ≡ context_base + o → o < 0x100000000 → byte_at m a ≡
+    slice_get m.context o
 byte_at-context m a o brief e h =
-    rw (byte_at-parts, frame_byte-below m a (omega arith), packet_byte-past m a brief (omega arith)) (option_or-none (context_byte m a) ∙ context_byte-at m a o e)
+    rw (byte_at-parts, frame_byte-below m a (omega arith), packet_byte-past m a brief (omega arith))
+    (option_or-none (context_byte m a) ∙ context_byte-at m a o e)
 
 -- within the context
 pub byte_at-in_context : (m : PrivateMemory) (a o : ℕ) → a ≡ context_base + o → o < 0x100000000 → o < length m.context → byte_at m a ≡ slice_get m.context o
@@ -160,7 +165,8 @@ byte_at-in_context m a o e h within =
     rw (byte_at-parts, frame_byte-below m a (omega arith), found, byte)
 
 -- in a frame
-pub byte_at-frame : (m : PrivateMemory) (a d o : ℕ) → Sized m.frames.live → a ≡ frame_base d + o → d < length m.frames.live → o < 512 → byte_at m a ≡ slice_get (get_or m.frames.live d []) o
+pub byte_at-frame : (m : PrivateMemory) (a d o : ℕ) → Sized m.frames.live → a ≡ frame_base d + o → d < length m.frames.live → o < 512 →
+    byte_at m a ≡ slice_get (get_or m.frames.live d []) o
 byte_at-frame m a d o sized e live h =
     let frame = get_or m.frames.live d [] in
     let found : slice_get m.frames.live d ≡ Some frame = slice_get-get_or m.frames.live d [] live in
@@ -168,7 +174,8 @@ byte_at-frame m a d o sized e live h =
     rw (byte_at-parts, frame_byte-at m a d o sized e (omega arith), found, byte)
 
 -- between two frames, or past the last one
-pub byte_at-gap : (m : PrivateMemory) (a d o : ℕ) → length m.context ≤ max_context → length m.packet ≤ max_packet → Sized m.frames.live → a ≡ frame_base d + o → o < 0x1000 → (length m.frames.live ≤ d) ⊎ (512 ≤ o) → byte_at m a ≡ None
+pub byte_at-gap : (m : PrivateMemory) (a d o : ℕ) → length m.context ≤ max_context → length m.packet ≤ max_packet → Sized m.frames.live → a
+    ≡ frame_base d + o → o < 0x1000 → (length m.frames.live ≤ d) ⊎ (512 ≤ o) → byte_at m a ≡ None
 byte_at-gap m a d o small brief sized e h gap =
     let context : context_byte m a ≡ None =
     context_byte-at m a (a - context_base) (omega arith) ∙ slice_get_past m.context (a - context_base) (omega arith) in

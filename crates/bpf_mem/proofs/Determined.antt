@@ -53,7 +53,8 @@ record Read (o : Option ℕ) (r : Option (List ℕ)) (bytes : List ℕ) : Type 0
   behind : r ≡ Some rest
   all : bytes ≡ byte ∷ rest
 
-read_parts : (o : Option ℕ) (r : Option (List ℕ)) (bytes : List ℕ) → option_and_then (λ byte. option_map (λ bytes. byte ∷ bytes) r) o ≡ Some bytes → Read o r bytes
+read_parts : (o : Option ℕ) (r : Option (List ℕ)) (bytes : List ℕ) → option_and_then (λ byte. option_map (λ bytes. byte ∷ bytes) r) o ≡ Some
+    bytes → Read o r bytes
 read_parts None r bytes e = absurd cc
 read_parts (Some b) None bytes e = absurd cc
 read_parts (Some b) (Some bs) bytes e = record { byte = b; rest = bs; first = refl; behind = refl; all = cc }
@@ -69,11 +70,13 @@ byte_of m a (suc n) bytes (suc i) b e h s =
     let r = read_parts (byte_at m a) (bytes_at m (suc a) n) bytes e in
     rw r.all (byte_of m (suc a) n r.rest i b r.behind (omega arith) (omega arith))
 
-same_bytes : (old new other : PrivateMemory) (a : ℕ) (bytes : List ℕ) → Writes old a bytes new → Writes old a bytes other → (b : ℕ) → byte_at new b ≡ byte_at other b
+same_bytes : (old new other : PrivateMemory) (a : ℕ) (bytes : List ℕ) → Writes old a bytes new → Writes old a bytes other → (b : ℕ) →
+    byte_at new b ≡ byte_at other b
 same_bytes old new other a bytes w v b =
     by_le a b (λ from. by_le (a + length bytes) b
     (λ past. w.others b (inr past) ∙ sym (v.others b (inr past)))
-    (λ within. byte_of new a (length bytes) bytes (b - a) b w.written (omega arith) (omega arith) ∙ sym (byte_of other a (length bytes) bytes (b - a) b v.written (omega arith) (omega arith))))
+    (λ within. byte_of new a (length bytes) bytes (b - a) b w.written (omega arith) (omega arith) ∙ sym
+    (byte_of other a (length bytes) bytes (b - a) b v.written (omega arith) (omega arith))))
     (λ below. w.others b (inl below) ∙ sym (v.others b (inl below)))
 
 -- ---- so the memories are
@@ -81,14 +84,18 @@ same_bytes old new other a bytes w v b =
 same_packet : (m n : PrivateMemory) → IsMemory m → length m.packet ≡ length n.packet → ((b : ℕ) → byte_at m b ≡ byte_at n b) → m.packet ≡ n.packet
 same_packet m n sound e each =
     let brief = sound.brief in
-    same_elements 0 m.packet n.packet e (λ k h. sym (byte_at-packet m (packet_base + k) k refl (omega arith)) ∙ each (packet_base + k) ∙ byte_at-packet n (packet_base + k) k refl (omega arith))
+    same_elements 0 m.packet n.packet e (λ k h. sym (byte_at-packet m (packet_base + k) k refl (omega arith)) ∙ each (packet_base + k) ∙
+    byte_at-packet n (packet_base + k) k refl (omega arith))
 
-same_context : (m n : PrivateMemory) → IsMemory m → IsMemory n → length m.context ≡ length n.context → ((b : ℕ) → byte_at m b ≡ byte_at n b) → m.context ≡ n.context
+same_context : (m n : PrivateMemory) → IsMemory m → IsMemory n → length m.context ≡ length n.context → ((b : ℕ) → byte_at m b ≡ byte_at n b)
+    → m.context ≡ n.context
 same_context m n sound sound' e each =
     let small = sound.small in
-    same_elements 0 m.context n.context e (λ k h. sym (byte_at-context m (context_base + k) k sound.brief refl (omega arith)) ∙ each (context_base + k) ∙ byte_at-context n (context_base + k) k sound'.brief refl (omega arith))
+    same_elements 0 m.context n.context e (λ k h. sym (byte_at-context m (context_base + k) k sound.brief refl (omega arith)) ∙ each
+    (context_base + k) ∙ byte_at-context n (context_base + k) k sound'.brief refl (omega arith))
 
-same_frames : (m n : PrivateMemory) → IsMemory m → IsMemory n → length m.frames.live ≡ length n.frames.live → ((b : ℕ) → byte_at m b ≡ byte_at n b) → m.frames.live ≡ n.frames.live
+same_frames : (m n : PrivateMemory) → IsMemory m → IsMemory n → length m.frames.live ≡ length n.frames.live →
+    ((b : ℕ) → byte_at m b ≡ byte_at n b) → m.frames.live ≡ n.frames.live
 same_frames m n sound sound' e each = ext_get_or [] m.frames.live n.frames.live e frame
   where
     frame : (d : ℕ) → d < length m.frames.live → get_or m.frames.live d [] ≡ get_or n.frames.live d []
@@ -105,7 +112,8 @@ memory live callers context packet = record { frames = record { live = live; cal
 same_memory : (m n : PrivateMemory) → m.frames.live ≡ n.frames.live → m.frames.callers ≡ n.frames.callers → m.context ≡ n.context → m.packet ≡ n.packet → m ≡ n
 unfolding memory
 same_memory m n live callers context packet =
-    let first : memory m.frames.live m.frames.callers m.context m.packet ≡ memory n.frames.live n.frames.callers n.context n.packet = rw (live, callers, context, packet) in
+    let first : memory m.frames.live m.frames.callers m.context m.packet ≡ memory n.frames.live n.frames.callers n.context n.packet = rw
+    (live, callers, context, packet) in
     first
 
 pub writes_are_determined : WritesAreDetermined
@@ -116,5 +124,8 @@ writes_are_determined old a bytes new other sound w v =
     let context : length new.context ≡ length other.context = w.context ∙ sym v.context in
     let packet : length new.packet ≡ length other.packet = w.packet ∙ sym v.packet in
     let frames : map length other.frames.live ≡ map length new.frames.live = v.frames ∙ sym w.frames in
-    let count = length-map new.frames.live other.frames.live frames in
-    (here, same_memory new other (same_frames new other here there (sym count) each) (w.callers ∙ sym v.callers) (same_context new other here there context each) (same_packet new other here packet each))
+    let count = length-map new.frames.live other.frames.live frames in (
+      here,
+      same_memory new other (same_frames new other here there (sym count) each) (w.callers ∙ sym v.callers)
+          (same_context new other here there context each) (same_packet new other here packet each),
+    )

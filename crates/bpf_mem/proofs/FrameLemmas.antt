@@ -1,5 +1,6 @@
 -- Frames and callers, and what they are saved as.
-use Rattle.std.proofs.Common.{◌≡◌, ℕ, zero, suc, ◌-◌, ◌+◌, ◌*◌, ◌^◌, ◌<◌, ◌≤◌, List, [], ◌∷◌, ◌++◌, length, take, drop, get_or, refl, sym, ap, ◌∙◌, subst, arith, append_assoc, length-append, length-drop, add-one}
+use Rattle.std.proofs.Common.{◌≡◌, ℕ, zero, suc, ◌-◌, ◌+◌, ◌*◌, ◌^◌, ◌<◌, ◌≤◌, List, [], ◌∷◌, ◌++◌, length, take, drop, get_or, refl, sym}
+use Rattle.std.proofs.Common.{ap, ◌∙◌, subst, arith, append_assoc, length-append, length-drop, add-one}
 use Rattle.std.specs.Prelude.{All, slice_set}
 use Rattle.std.specs.List.{flat_map}
 use Rattle.std.proofs.Math.Seq.{take-append_seam, drop-append_seam}
@@ -25,7 +26,8 @@ pub words_more : (n : ℕ) (bytes : List ℕ) → words_of (suc n) bytes ≡ wor
 unfolding words_of
 words_more zero bytes = refl
 words_more (suc n) bytes =
-    let cut : part (drop 8 bytes) (8 * n) 8 ≡ part bytes (8 * suc n) 8 = ap (take 8) (drop-drop (8 * n) 8 bytes ∙ ap (λ (k : ℕ). drop k bytes) (let e : 8 + 8 * n ≡ 8 * suc n = omega arith in e)) in
+    let cut : part (drop 8 bytes) (8 * n) 8 ≡ part bytes (8 * suc n) 8 = ap (take 8)
+    (drop-drop (8 * n) 8 bytes ∙ ap (λ (k : ℕ). drop k bytes) (let e : 8 + 8 * n ≡ 8 * suc n = omega arith in e)) in
     let first = little_endian (take 8 bytes) in
     ap (λ (l : List ℕ). first ∷ l) (words_more n (drop 8 bytes) ∙ ap (λ (p : List ℕ). words_of n (drop 8 bytes) ++ little_endian p ∷ []) cut)
 
@@ -37,7 +39,8 @@ unfolding words_of
 words_fit zero bytes size each = All-nil IsWord
 words_fit (suc n) bytes size each =
     let first = wide (take 8 bytes) (length-take-le 8 bytes (omega arith)) (All-take (λ b. b < 256) 8 bytes each) in
-    All-cons IsWord (little_endian (take 8 bytes)) (words_of n (drop 8 bytes)) first (words_fit n (drop 8 bytes) (omega (arith, length-drop 8 bytes)) (All-drop (λ b. b < 256) 8 bytes each))
+    All-cons IsWord (little_endian (take 8 bytes)) (words_of n (drop 8 bytes)) first
+    (words_fit n (drop 8 bytes) (omega (arith, length-drop 8 bytes)) (All-drop (λ b. b < 256) 8 bytes each))
 
 -- bytes are those of their words
 pub whole_words : (n : ℕ) (bytes : List ℕ) → length bytes ≡ 8 * n → All (λ b. b < 256) bytes → flat_map word_bytes (words_of n bytes) ≡ bytes
@@ -45,8 +48,10 @@ unfolding words_of
 whole_words zero [] size each = refl
 whole_words zero (b ∷ bytes) size each = absurd (omega arith)
 whole_words (suc n) bytes size each =
-    let first : word_bytes (little_endian (take 8 bytes)) ≡ take 8 bytes = word_back (take 8 bytes) (length-take-le 8 bytes (omega arith)) (All-take (λ b. b < 256) 8 bytes each) in
-    let behind : flat_map word_bytes (words_of n (drop 8 bytes)) ≡ drop 8 bytes = whole_words n (drop 8 bytes) (omega (arith, length-drop 8 bytes)) (All-drop (λ b. b < 256) 8 bytes each) in
+    let first : word_bytes (little_endian (take 8 bytes)) ≡ take 8 bytes = word_back (take 8 bytes) (length-take-le 8 bytes (omega arith))
+    (All-take (λ b. b < 256) 8 bytes each) in
+    let behind : flat_map word_bytes (words_of n (drop 8 bytes)) ≡ drop 8 bytes = whole_words n (drop 8 bytes)
+    (omega (arith, length-drop 8 bytes)) (All-drop (λ b. b < 256) 8 bytes each) in
     ap (λ (l : List ℕ). l ++ flat_map word_bytes (words_of n (drop 8 bytes))) first ∙ (ap (λ (l : List ℕ). take 8 bytes ++ l) behind ∙ take-append-drop 8 bytes)
 
 word_read : (x : ℕ) → IsWord x → little_endian (word_bytes x) ≡ x
@@ -59,25 +64,37 @@ unfolding words_of
 words_back [] h = refl
 words_back (x ∷ words) h =
     let more = flat_map word_bytes words in
-    let front : take 8 (word_bytes x ++ more) ≡ word_bytes x = ap (λ (n : ℕ). take n (word_bytes x ++ more)) (sym (length-word_bytes x)) ∙ take-append_seam (word_bytes x) more in
-    let behind : drop 8 (word_bytes x ++ more) ≡ more = ap (λ (n : ℕ). drop n (word_bytes x ++ more)) (sym (length-word_bytes x)) ∙ drop-append_seam (word_bytes x) more in
+    let front : take 8 (word_bytes x ++ more) ≡ word_bytes x = ap (λ (n : ℕ). take n (word_bytes x ++ more)) (sym (length-word_bytes x)) ∙
+    take-append_seam (word_bytes x) more in
+    let behind : drop 8 (word_bytes x ++ more) ≡ more = ap (λ (n : ℕ). drop n (word_bytes x ++ more)) (sym (length-word_bytes x)) ∙
+    drop-append_seam (word_bytes x) more in
     let first : little_endian (take 8 (word_bytes x ++ more)) ≡ x = ap little_endian front ∙ word_read x (All-head IsWord x words h) in
-    ap (λ (y : ℕ). y ∷ words_of (length words) (drop 8 (word_bytes x ++ more))) first ∙ ap (λ (l : List ℕ). x ∷ l) (ap (words_of (length words)) behind ∙ words_back words (All-tail IsWord x words h))
+    ap (λ (y : ℕ). y ∷ words_of (length words) (drop 8 (word_bytes x ++ more))) first ∙ ap (λ (l : List ℕ). x ∷ l)
+    (ap (words_of (length words)) behind ∙ words_back words (All-tail IsWord x words h))
 
 -- ---- loops over the words of a frame
 pub word_got : (frame words : List ℕ) (i x : ℕ) → i < length words → x ≡ little_endian (part frame (8 * i) 8) → take i words ≡ words_of i frame
     → take (i + 1) (slice_set words i x) ≡ words_of (i + 1) frame
 word_got frame words i x inside is got =
-    take_more_set words i x inside ∙ (ap (λ (l : List ℕ). l ++ x ∷ []) got ∙ (ap (λ (y : ℕ). words_of i frame ++ y ∷ []) is ∙ (sym (words_more i frame) ∙ ap (λ (n : ℕ). words_of n frame) (sym (add-one i)))))
+    take_more_set words i x inside ∙ (ap (λ (l : List ℕ). l ++ x ∷ []) got ∙
+    (ap (λ (y : ℕ). words_of i frame ++ y ∷ []) is ∙ (sym (words_more i frame) ∙ ap (λ (n : ℕ). words_of n frame) (sym (add-one i)))))
 
-pub word_set : (frame words : List ℕ) (i x : ℕ) → i < length words → 8 * i + 8 ≤ length frame → x ≡ get_or words i 0 → take (8 * i) frame ≡ flat_map word_bytes (take i words)
+pub word_set : (frame words : List ℕ) (i x : ℕ) → i < length words → 8 * i + 8 ≤ length frame → x ≡ get_or words i 0 → take (8 * i) frame ≡
+    flat_map word_bytes (take i words)
     → take (8 * (i + 1)) (with_part frame (8 * i) (low_bytes 8 x)) ≡ flat_map word_bytes (take (i + 1) words)
 unfolding word_bytes
 word_set frame words i x inside fits is set =
     let front = take (8 * i) frame ++ low_bytes 8 x in
     let rest = drop (8 * i + length (low_bytes 8 x)) frame in
-    let size : 8 * (i + 1) ≡ length front = omega (arith, length-append (take (8 * i) frame) (low_bytes 8 x), length-take-le (8 * i) frame (omega arith), length-low_bytes 8 x) in
-    let one : flat_map word_bytes (take i words ++ x ∷ []) ≡ flat_map word_bytes (take i words) ++ word_bytes x = flat_map-append word_bytes (take i words) (x ∷ []) ∙ ap (λ (l : List ℕ). flat_map word_bytes (take i words) ++ l) (append-nil (word_bytes x)) in
+    let size : 8 * (i + 1) ≡ length front = omega (
+      arith,
+      length-append (take (8 * i) frame) (low_bytes 8 x),
+      length-take-le (8 * i) frame
+          (omega arith),
+      length-low_bytes 8 x,
+    ) in
+    let one : flat_map word_bytes (take i words ++ x ∷ []) ≡ flat_map word_bytes (take i words) ++ word_bytes x = flat_map-append word_bytes
+    (take i words) (x ∷ []) ∙ ap (λ (l : List ℕ). flat_map word_bytes (take i words) ++ l) (append-nil (word_bytes x)) in
     ap (λ (n : ℕ). take n (front ++ rest)) size ∙ (take-append_seam front rest ∙ (ap (λ (l : List ℕ). l ++ low_bytes 8 x) set
     ∙ (sym one ∙ ap (flat_map word_bytes) (ap (λ (y : ℕ). take i words ++ y ∷ []) is ∙ sym (take_more words i 0 inside)))))
 
@@ -85,10 +102,12 @@ word_set frame words i x inside fits is set =
 pub frame_told : (x y rest more : List ℕ) → IsFrame x → IsFrame y → frame_saved x ++ rest ≡ frame_saved y ++ more → (x ≡ y) × (rest ≡ more)
 unfolding frame_saved
 frame_told x y rest more h k e =
-    let same = words_prefix 0 (words_of 64 x) (words_of 64 y) rest more (length-words_of 64 x ∙ sym (length-words_of 64 y)) (words_fit 64 x h.size h.bytes) (words_fit 64 y k.size k.bytes) e in
+    let same = words_prefix 0 (words_of 64 x) (words_of 64 y) rest more (length-words_of 64 x ∙ sym (length-words_of 64 y))
+    (words_fit 64 x h.size h.bytes) (words_fit 64 y k.size k.bytes) e in
     (sym (whole_words 64 x h.size h.bytes) ∙ (ap (flat_map word_bytes) same.0 ∙ whole_words 64 y k.size k.bytes), same.1)
 
-pub frame_read : (bytes words frame rest : List ℕ) → length words ≡ 64 → All IsWord words → frame ≡ flat_map word_bytes words → bytes ≡ words_saved 0 words ++ rest → bytes ≡ frame_saved frame ++ rest
+pub frame_read : (bytes words frame rest : List ℕ) → length words ≡ 64 → All IsWord words → frame ≡ flat_map word_bytes words → bytes ≡
+    words_saved 0 words ++ rest → bytes ≡ frame_saved frame ++ rest
 unfolding frame_saved
 frame_read bytes words frame rest size fit is e =
     let same : words_of 64 frame ≡ words = ap (words_of 64) is ∙ (ap (λ (n : ℕ). words_of n (flat_map word_bytes words)) (sym size) ∙ words_back words fit) in
@@ -186,10 +205,12 @@ frames_told x y rest more h k e =
     let xs = flat_map frame_saved x.live in
     let ys = flat_map frame_saved y.live in
     let behind : length x.live ∷ (xs ++ (flat_map caller_saved x.callers ++ rest)) ≡ length y.live ∷ (ys ++ (flat_map caller_saved y.callers ++ more)) =
-    sym (append_assoc (length x.live ∷ xs) (flat_map caller_saved x.callers) rest) ∙ (e ∙ append_assoc (length y.live ∷ ys) (flat_map caller_saved y.callers) more) in
+    sym (append_assoc (length x.live ∷ xs) (flat_map caller_saved x.callers) rest) ∙
+    (e ∙ append_assoc (length y.live ∷ ys) (flat_map caller_saved y.callers) more) in
     let count : length x.live ≡ length y.live = cc in
     let frames : xs ++ (flat_map caller_saved x.callers ++ rest) ≡ ys ++ (flat_map caller_saved y.callers ++ more) = cc in
-    let cut = flat_prefix IsFrame frame_saved [] frame_told x.live y.live (flat_map caller_saved x.callers ++ rest) (flat_map caller_saved y.callers ++ more) count h.frames k.frames frames in
+    let cut = flat_prefix IsFrame frame_saved [] frame_told x.live y.live (flat_map caller_saved x.callers ++ rest)
+    (flat_map caller_saved y.callers ++ more) count h.frames k.frames frames in
     let p = h.is_stack in
     let q = k.is_stack in
     let few : length x.callers ≡ length y.callers = omega (arith, p.paired, q.paired) in
@@ -211,12 +232,15 @@ module _ (bytes rest : List ℕ) (live : ℕ) (begins : bytes ≡ live ∷ rest)
       let behind : rest ≡ flat_map frame_saved other.live ++ (flat_map caller_saved other.callers ++ more) = cc in
       (count, behind)
 
-  module _ (frames : List (List ℕ)) (behind : List ℕ) (size : length frames ≡ live) (each : All IsFrame frames) (read : rest ≡ flat_map frame_saved frames ++ behind) where
-    pub no_callers : ((others : List Caller) (more : List ℕ) → length others ≡ live - 1 → All IsCaller others → behind ≡ flat_map caller_saved others ++ more → ⊥)
+  module _ (frames : List (List ℕ)) (behind : List ℕ) (size : length frames ≡ live) (each : All IsFrame frames)
+      (read : rest ≡ flat_map frame_saved frames ++ behind) where
+    pub no_callers : ((others : List Caller) (more : List ℕ) → length others ≡ live - 1 → All IsCaller others → behind ≡ flat_map
+        caller_saved others ++ more → ⊥)
         → (other : Stack) (more : List ℕ) → IsSavable other → bytes ≡ frames_saved other ++ more → ⊥
     no_callers none other more h e =
         let p = parts other more e in
         let count = p.0 in
         let paired = h.is_stack.paired in
-        let cut = flat_prefix IsFrame frame_saved [] frame_told frames other.live behind (flat_map caller_saved other.callers ++ more) (size ∙ count) each h.frames (sym read ∙ p.1) in
+        let cut = flat_prefix IsFrame frame_saved [] frame_told frames other.live behind (flat_map caller_saved other.callers ++ more)
+        (size ∙ count) each h.frames (sym read ∙ p.1) in
         none other.callers more (omega arith) h.callers cut.1

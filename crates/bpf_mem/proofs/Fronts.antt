@@ -14,12 +14,14 @@ still_same (Ok a) new mid old e starts = tt
 still_same (Err x) new mid old e starts = subst (λ (l : List ℕ). StartsWith l old) (sym e) starts
 
 -- and in a later part
-pub still_starts : {A : Type 0} {E : Type 0} (r : Result A E) (old mid new more : List ℕ) → mid ≡ old ++ more → StartsWith new mid → OnErr r (StartsWith new old)
+pub still_starts : {A : Type 0} {E : Type 0} (r : Result A E) (old mid new more : List ℕ) → mid ≡ old ++ more → StartsWith new mid → OnErr r
+    (StartsWith new old)
 still_starts (Ok a) old mid new more e starts = tt
 still_starts (Err x) old mid new more e starts = starts_with_trans new mid old starts (starts_with_of_append mid old more e)
 
 -- and in the last part, whose result is handed on
-pub starts_on : {A : Type 0} {E : Type 0} (r : Result A E) (new mid old : List ℕ) → StartsWith mid old → OnErr r (StartsWith new mid) → OnErr r (StartsWith new old)
+pub starts_on : {A : Type 0} {E : Type 0} (r : Result A E) (new mid old : List ℕ) → StartsWith mid old → OnErr r (StartsWith new mid) →
+    OnErr r (StartsWith new old)
 starts_on r new mid old starts err = on_err_weaker r (λ s. starts_with_trans new mid old s starts) err
 
 -- what is said of `None` holds

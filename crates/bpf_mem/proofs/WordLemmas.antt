@@ -1,5 +1,6 @@
 -- Words and what they are saved as.
-use Rattle.std.proofs.Common.{◌≡◌, ℕ, zero, suc, ◌<◌, ◌≤◌, List, [], ◌∷◌, ◌++◌, length, take, drop, get_or, refl, sym, ap, subst, ◌∙◌, arith, append_assoc, length-append, drop-cons, length-set}
+use Rattle.std.proofs.Common.{◌≡◌, ℕ, zero, suc, ◌<◌, ◌≤◌, List, [], ◌∷◌, ◌++◌, length, take, drop, get_or, refl, sym, ap, subst, ◌∙◌}
+use Rattle.std.proofs.Common.{arith, append_assoc, length-append, drop-cons, length-set}
 use Rattle.std.specs.Prelude.{All, slice_set}
 use Rattle.std.proofs.Math.Seq.{take-suc, take-suc-set}
 use Rattle.std.proofs.lemmas.List.{append-nil, take_all, drop_all}
@@ -62,7 +63,10 @@ words_prefix past (suc x ∷ words) (zero ∷ others) rest more n h k e =
     let l : suc past ≤ past = least (suc past) others more past ((word_bytes (suc x) ++ words_saved 0 words) ++ rest) e in absurd (omega arith)
 words_prefix past (suc x ∷ words) (suc y ∷ others) rest more n h k e =
     let behind : (word_bytes (suc x) ++ words_saved 0 words) ++ rest ≡ (word_bytes (suc y) ++ words_saved 0 others) ++ more = cc in
-    let cut = same_fronts (word_bytes (suc x)) (word_bytes (suc y)) (words_saved 0 words ++ rest) (words_saved 0 others ++ more) (length-word_bytes (suc x) ∙ sym (length-word_bytes (suc y))) (sym (append_assoc (word_bytes (suc x)) (words_saved 0 words) rest) ∙ (behind ∙ append_assoc (word_bytes (suc y)) (words_saved 0 others) more)) in
+    let cut = same_fronts (word_bytes (suc x)) (word_bytes (suc y)) (words_saved 0 words ++ rest) (words_saved 0 others ++ more)
+    (length-word_bytes (suc x) ∙ sym (length-word_bytes (suc y)))
+    (sym (append_assoc (word_bytes (suc x)) (words_saved 0 words) rest) ∙
+    (behind ∙ append_assoc (word_bytes (suc y)) (words_saved 0 others) more)) in
     let word : suc x ≡ suc y = same_word (suc x) (suc y) (All-head IsWord (suc x) words h) (All-head IsWord (suc y) others k) cut.0 in
     let same = words_prefix 0 words others rest more (omega arith) (All-tail IsWord (suc x) words h) (All-tail IsWord (suc y) others k) cut.1 in
     let tail : words ≡ others = same.0 in
@@ -100,9 +104,11 @@ module _ (bytes words : List ℕ) (i run past : ℕ) (rest : List ℕ) (read : A
   kept : (x : ℕ) (others : List ℕ) → length others ≡ length (slice_set words i x) → length others ≡ length words
   kept x others n = n ∙ length-set words i x
 
-  front : (x : ℕ) (others : List ℕ) → length others ≡ length words → take i others ≡ take i words → get_or others i 0 ≡ x → take (suc i) others ≡ take (suc i) (slice_set words i x)
+  front : (x : ℕ) (others : List ℕ) → length others ≡ length words → take i others ≡ take i words → get_or others i 0 ≡ x → take (suc i)
+      others ≡ take (suc i) (slice_set words i x)
   front x others n same here =
-      one_more others n ∙ (ap (λ (l : List ℕ). l ++ get_or others i 0 ∷ []) same ∙ (ap (λ (y : ℕ). take i words ++ y ∷ []) here ∙ sym (take-suc-set words i x inside)))
+      one_more others n ∙ (ap (λ (l : List ℕ). l ++ get_or others i 0 ∷ []) same ∙
+      (ap (λ (y : ℕ). take i words ++ y ∷ []) here ∙ sym (take-suc-set words i x inside)))
 
   fits : (x : ℕ) → IsWord x → All IsWord (take (suc i) (slice_set words i x))
   fits x h = subst (λ (l : List ℕ). All IsWord l) (sym (take-suc-set words i x inside)) (All-push IsWord (take i words) x read.fit h)
@@ -116,7 +122,8 @@ module _ (bytes words : List ℕ) (i run past : ℕ) (rest : List ℕ) (read : A
     whole = λ others more n h e.
         let long = kept 0 others n in
         let was = read.whole others more long h e in
-        let is = zero_next run past rest (get_or others i 0) (drop (suc i) others) more less (was.1 ∙ ap (λ (l : List ℕ). words_saved past l ++ more) (next others long)) in
+        let is = zero_next run past rest (get_or others i 0) (drop (suc i) others) more less
+        (was.1 ∙ ap (λ (l : List ℕ). words_saved past l ++ more) (next others long)) in
         (front 0 others long was.0 is.0, is.1);
   }
 
@@ -126,7 +133,8 @@ module _ (bytes words : List ℕ) (i run past : ℕ) (rest : List ℕ) (read : A
 
     again : (words' more : List ℕ) → 0 < x → run' ∷ rest' ≡ words_saved 0 words' ++ more → run ∷ rest ≡ words_saved past (x ∷ words') ++ more
     again words' more some e =
-        ap (λ (n : ℕ). n ∷ rest) same_run ∙ (ap (λ (l : List ℕ). past ∷ l) (here ∙ (ap (λ (l : List ℕ). word_bytes x ++ l) e ∙ sym (append_assoc (word_bytes x) (words_saved 0 words') more)))
+        ap (λ (n : ℕ). n ∷ rest) same_run ∙ (ap (λ (l : List ℕ). past ∷ l)
+        (here ∙ (ap (λ (l : List ℕ). word_bytes x ++ l) e ∙ sym (append_assoc (word_bytes x) (words_saved 0 words') more)))
         ∙ ap (λ (l : List ℕ). l ++ more) (sym (saved_some past x words' some)))
 
     -- what others' next word is, and what comes after it
@@ -134,8 +142,10 @@ module _ (bytes words : List ℕ) (i run past : ℕ) (rest : List ℕ) (read : A
         → (0 < x) × (get_or others i 0 ≡ x) × (run' ∷ rest' ≡ words_saved 0 (drop (suc i) others) ++ more)
     other others more n h e =
         let was = read.whole others more n h e in
-        let is = word_next run past rest (get_or others i 0) (drop (suc i) others) more most (was.1 ∙ ap (λ (l : List ℕ). words_saved past l ++ more) (next others n)) in
-        let cut = same_fronts (word_bytes (get_or others i 0)) (word_bytes x) (words_saved 0 (drop (suc i) others) ++ more) (run' ∷ rest') (length-word_bytes (get_or others i 0) ∙ sym (length-word_bytes x)) (sym is.1 ∙ here) in
+        let is = word_next run past rest (get_or others i 0) (drop (suc i) others) more most
+        (was.1 ∙ ap (λ (l : List ℕ). words_saved past l ++ more) (next others n)) in
+        let cut = same_fronts (word_bytes (get_or others i 0)) (word_bytes x) (words_saved 0 (drop (suc i) others) ++ more) (run' ∷ rest')
+        (length-word_bytes (get_or others i 0) ∙ sym (length-word_bytes x)) (sym is.1 ∙ here) in
         let same : get_or others i 0 ≡ x = same_word (get_or others i 0) x (All-get_or IsWord others i 0 (omega arith) h) wide cut.0 in
         let some = is.0 in
         (omega arith, same, sym cut.1)
@@ -158,10 +168,12 @@ module _ (bytes words : List ℕ) (i run past : ℕ) (rest : List ℕ) (read : A
     no_zero none others more n h e = let is = other others more n h e in let some = is.0 in omega arith
 
   -- the bytes end too soon
-  pub too_short : run ≤ past → length rest < 9 → (others more : List ℕ) → length others ≡ length words → All IsWord others → bytes ≡ words_saved 0 others ++ more → ⊥
+  pub too_short : run ≤ past → length rest < 9 → (others more : List ℕ) → length others ≡ length words → All IsWord others → bytes ≡
+      words_saved 0 others ++ more → ⊥
   too_short most short others more n h e =
       let was = read.whole others more n h e in
-      let is = word_next run past rest (get_or others i 0) (drop (suc i) others) more most (was.1 ∙ ap (λ (l : List ℕ). words_saved past l ++ more) (next others n)) in
+      let is = word_next run past rest (get_or others i 0) (drop (suc i) others) more most
+      (was.1 ∙ ap (λ (l : List ℕ). words_saved past l ++ more) (next others n)) in
       let size = ap length is.1 ∙ length-append (word_bytes (get_or others i 0)) (words_saved 0 (drop (suc i) others) ++ more) in
       let behind = length-append (words_saved 0 (drop (suc i) others)) more in
       omega (arith, size, behind, length-word_bytes (get_or others i 0), some_saved 0 (drop (suc i) others))

@@ -1,5 +1,6 @@
 -- How words are read: this many zeros are to come, and then what the rest of the bytes shows.
-use Rattle.std.proofs.Common.{◌≡◌, ℕ, suc, ◌+◌, ◌-◌, ◌<◌, ◌≤◌, List, [], ◌∷◌, ◌++◌, length, take, drop, get_or, sym, ap, ◌∙◌, arith, length-append, length-drop, drop-cons, add-one}
+use Rattle.std.proofs.Common.{◌≡◌, ℕ, suc, ◌+◌, ◌-◌, ◌<◌, ◌≤◌, List, [], ◌∷◌, ◌++◌, length, take, drop, get_or, sym, ap, ◌∙◌, arith}
+use Rattle.std.proofs.Common.{length-append, length-drop, drop-cons, add-one}
 use Rattle.std.specs.Prelude.{All, slice_set}
 use Rattle.std.proofs.lemmas.List.{take-append-drop, length-take-le, take_all}
 use Rattle.std.proofs.lemmas.List.Elements.{All-from_get_or, All-take}
@@ -13,7 +14,8 @@ pub word_back : (bytes : List ℕ) → length bytes ≡ 8 → All (λ b. b < 256
 unfolding word_bytes
 word_back bytes size each = ap (λ (n : ℕ). low_bytes n (little_endian bytes)) (sym size) ∙ low_bytes-little_endian bytes each
 
-pub first_back : (bytes : List ℕ) (x : ℕ) → 8 ≤ length bytes → ((i : ℕ) → get_or bytes i 0 < 256) → x ≡ little_endian (take 8 bytes) → word_bytes x ≡ take 8 bytes
+pub first_back : (bytes : List ℕ) (x : ℕ) → 8 ≤ length bytes → ((i : ℕ) → get_or bytes i 0 < 256) → x ≡ little_endian (take 8 bytes) →
+    word_bytes x ≡ take 8 bytes
 first_back bytes x long each e =
     let all : All (λ b. b < 256) bytes = All-from_get_or (λ b. b < 256) bytes 0 (λ i h. each i) in
     ap word_bytes e ∙ word_back (take 8 bytes) (length-take-le 8 bytes long) (All-take (λ b. b < 256) 8 bytes all)
@@ -54,7 +56,8 @@ module _ (bytes words : List ℕ) (i : ℕ) (rest : List ℕ) (inside : i < leng
     most = omega arith
 
     pub left_short : (n : ℕ) → length words ≡ n → length rest < 9 → HaveNone bytes n
-    left_short n size short others more long h e = too_short bytes words i (left + read.0) read.0 rest read.1 inside most short others more (long ∙ sym size) h e
+    left_short n size short others more long h e = too_short bytes words i (left + read.0) read.0 rest read.1 inside most short others more
+        (long ∙ sym size) h e
 
     module _ (long : 9 ≤ length rest) (x : ℕ) (wide : IsWord x) (is : word_bytes x ≡ take 8 rest) where
       here : rest ≡ word_bytes x ++ get_or rest 8 0 ∷ drop 9 rest
@@ -65,11 +68,15 @@ module _ (bytes words : List ℕ) (i : ℕ) (rest : List ℕ) (inside : i < leng
       pub left_word : 0 < x → AreLeft bytes (slice_set words i x) (i + 1) (get_or rest 8 0) (take (length rest - 9) (drop 9 rest))
       left_word some =
           let n : get_or rest 8 0 + 0 ≡ get_or rest 8 0 = omega arith in
-          let behind : take (length rest - 9) (drop 9 rest) ≡ drop 9 rest = all_behind 9 rest in
-          (0, rw (n, add-one, behind) (reads_word bytes words i (left + read.0) read.0 rest read.1 inside x (get_or rest 8 0) (drop 9 rest) wide here most some))
+          let behind : take (length rest - 9) (drop 9 rest) ≡ drop 9 rest = all_behind 9 rest in (
+            0,
+            rw (n, add-one, behind) (reads_word bytes words i (left + read.0) read.0 rest read.1 inside x (get_or rest 8 0) (drop 9 rest)
+                wide here most some),
+          )
 
       pub left_no_zero : (n : ℕ) → length words ≡ n → x ≡ 0 → HaveNone bytes n
-      left_no_zero n size none others more l h e = no_zero bytes words i (left + read.0) read.0 rest read.1 inside x (get_or rest 8 0) (drop 9 rest) wide here most none others more (l ∙ sym size) h e
+      left_no_zero n size none others more l h e = no_zero bytes words i (left + read.0) read.0 rest read.1 inside x (get_or rest 8 0)
+          (drop 9 rest) wide here most none others more (l ∙ sym size) h e
 
 module _ (bytes words : List ℕ) (i : ℕ) (rest : List ℕ) (all : length words ≤ i) (left : ℕ) (read : AreLeft bytes words i left rest) where
   pub left_none : left ≡ 0 → bytes ≡ words_saved 0 words ++ rest
@@ -79,4 +86,5 @@ module _ (bytes words : List ℕ) (i : ℕ) (rest : List ℕ) (all : length word
   left_fit = reads_fit bytes words i (left + read.0) read.0 rest read.1 all
 
   pub left_some : (n : ℕ) → length words ≡ n → (left ≡ 0 → ⊥) → HaveNone bytes n
-  left_some n size some others more l h e = zeros_left bytes words i (left + read.0) read.0 rest read.1 all (λ same. some (omega arith)) others more (l ∙ sym size) h e
+  left_some n size some others more l h e = zeros_left bytes words i (left + read.0) read.0 rest read.1 all (λ same. some (omega arith))
+      others more (l ∙ sym size) h e

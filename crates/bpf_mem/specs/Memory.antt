@@ -1,6 +1,7 @@
 -- The memory that a program reaches on its own, by addresses: its packet, its context and its live
 -- frames.
-use Rattle.std.specs.Prelude.{◌≡◌, ℕ, zero, suc, ◌+◌, ◌-◌, ◌<◌, ◌≤◌, ◌⊎◌, nat_lt, if◌then◌else◌, Option, Some, None, option_map, option_and_then, List, [], ◌∷◌, ◌++◌, length, map, slice_get}
+use Rattle.std.specs.Prelude.{◌≡◌, ℕ, zero, suc, ◌+◌, ◌-◌, ◌<◌, ◌≤◌, ◌⊎◌, nat_lt, if◌then◌else◌, Option, Some, None, option_map}
+use Rattle.std.specs.Prelude.{option_and_then, List, [], ◌∷◌, ◌++◌, length, map, slice_get}
 use Rattle.std.specs.Option.{option_or}
 use Rattle.bpf_mem.specs.declared.memory.PrivateMemory.{PrivateMemory}
 use Rattle.bpf_mem.specs.Addresses.{context_base, frame_base, packet_base}

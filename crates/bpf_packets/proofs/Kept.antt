@@ -1,5 +1,6 @@
 -- Turns that are made one after the other, while packets are kept.
-use Rattle.std.proofs.Common.{◌≡◌, ◌∙◌, Bool, false, Some, ℕ, zero, suc, ◌+◌, ◌-◌, ◌<◌, ◌≤◌, List, [], ◌∷◌, ◌++◌, append_assoc, append-nil, length, take, replicate, get_or, inl, inr, refl, sym, ap, subst, arith}
+use Rattle.std.proofs.Common.{◌≡◌, ◌∙◌, Bool, false, Some, ℕ, zero, suc, ◌+◌, ◌-◌, ◌<◌, ◌≤◌, List, [], ◌∷◌, ◌++◌, append_assoc, append-nil}
+use Rattle.std.proofs.Common.{length, take, replicate, get_or, inl, inr, refl, sym, ap, subst, arith}
 use Rattle.std.proofs.lemmas.List.{replicate-append-replicate, take_more, take_all}
 use Rattle.std.proofs.lemmas.Grind.{replicate_next}
 use Rattle.std.specs.Prelude.{nat_lt, slice_get}
@@ -108,7 +109,8 @@ rest_idle k n c answer old mid new packets between later within idle before afte
         let P : World → Type 0 = λ v. RunsKeeping w (replicate k c ++ replicate (n - k) c) packets between v in
         let Q : Bytes → Type 0 = λ b. RunsKeeping w (replicate k c ++ replicate (n - k) c) packets b z in
         subst Q (sym none.3)
-        (subst P (sym none.2) (runs_both (replicate k c) (replicate (n - k) c) w y y packets between between first (nothing_more (n - k) y c between none.0 none.1)))
+        (subst P (sym none.2) (runs_both (replicate k c) (replicate (n - k) c) w y y packets between between first
+        (nothing_more (n - k) y c between none.0 none.1)))
 
 -- ---- run lengths
 unrolled-append : (xs ys : List (ℕ × ℕ)) → unrolled (xs ++ ys) ≡ unrolled xs ++ unrolled ys

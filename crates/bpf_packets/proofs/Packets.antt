@@ -1,5 +1,6 @@
 -- Packets by job, and their lines.
-use Rattle.std.proofs.Common.{◌≡◌, ◌∙◌, ℕ, zero, suc, ◌+◌, ◌≤◌, Bool, Option, List, [], ◌∷◌, ◌++◌, append_assoc, length, map, inl, inr, refl, sym, ap, subst, arith}
+use Rattle.std.proofs.Common.{◌≡◌, ◌∙◌, ℕ, zero, suc, ◌+◌, ◌≤◌, Bool, Option, List, [], ◌∷◌, ◌++◌, append_assoc, length, map, inl, inr}
+use Rattle.std.proofs.Common.{refl, sym, ap, subst, arith}
 use Rattle.std.specs.Prelude.{slice_index_or, slice_set, Vec}
 use Rattle.std.specs.declared.alloc.Global.{Global}
 use Rattle.bpf_shared.specs.Contents.{bytes_of_all}
@@ -20,7 +21,8 @@ use Rattle.bpf_packets.specs.Private.{AreKept, Puts, SomeRounds, Turns}
 use Rattle.bpf_packets.specs.Reports.{IsReportWithPackets}
 
 -- ---- packets by job
-pub put_at : (vs : List (Vec ℕ Global)) (j : ℕ) (v : Vec ℕ Global) (bytes : List ℕ) → v.items ≡ bytes → bytes_of_all (slice_set vs j v) ≡ slice_set (bytes_of_all vs) j bytes
+pub put_at : (vs : List (Vec ℕ Global)) (j : ℕ) (v : Vec ℕ Global) (bytes : List ℕ) → v.items ≡ bytes → bytes_of_all (slice_set vs j v) ≡
+    slice_set (bytes_of_all vs) j bytes
 put_at [] j v bytes e = refl
 put_at (u ∷ us) zero v bytes e = ap (λ (b : List ℕ). b ∷ bytes_of_all us) e
 put_at (u ∷ us) (suc j) v bytes e = ap (λ (bs : List (List ℕ)). u.items ∷ bs) (put_at us j v bytes e)

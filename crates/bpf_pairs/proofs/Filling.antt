@@ -1,5 +1,7 @@
 -- The store that updates of pairs leave, one after the other.
-use Rattle.std.proofs.Common.{◌≡◌, ◌≢◌, ℕ, ◌+◌, ◌-◌, ◌/◌, ◌%◌, ◌<◌, ◌≤◌, ◌==◌, ◌&&◌, ◌||◌, not, Bool, true, false, cond, if◌then◌else◌, List, [], ◌∷◌, ◌++◌, length, map, Option, Some, None, is_some, slice_get, inl, inr, All, refl, sym, ap, subst, ◌∙◌, arith, rules, eq-eqb, ne_eqb}
+use Rattle.std.proofs.Common.{◌≡◌, ◌≢◌, ℕ, ◌+◌, ◌-◌, ◌/◌, ◌%◌, ◌<◌, ◌≤◌, ◌==◌, ◌&&◌, ◌||◌, not, Bool, true, false, cond, if◌then◌else◌}
+use Rattle.std.proofs.Common.{List, [], ◌∷◌, ◌++◌, length, map, Option, Some, None, is_some, slice_get, inl, inr, All, refl, sym, ap, subst}
+use Rattle.std.proofs.Common.{◌∙◌, arith, rules, eq-eqb, ne_eqb}
 use Rattle.std.proofs.lemmas.Cmp.{nat_list_cmp_total}
 use Rattle.std.proofs.lemmas.List.{append-nil, append_assoc}
 use Rattle.std.proofs.lemmas.Option.{slice_get_within}
@@ -44,7 +46,8 @@ one_more m p before e = pairs_in-append m before (p ∷ []) ∙ ap (λ (b : Bool
 
 pub no_more : (m : ℕ) (p : Pair) (before : List Pair) → p.map ≢ m → pairs_in m (before ++ p ∷ []) ≡ pairs_in m before
 no_more m p before ne =
-    let e : pairs_in m (before ++ p ∷ []) ≡ pairs_in m before + 0 = pairs_in-append m before (p ∷ []) ∙ ap (λ (b : Bool). pairs_in m before + (if b then 1 else 0)) (ne_eqb p.map m ne) in
+    let e : pairs_in m (before ++ p ∷ []) ≡ pairs_in m before + 0 = pairs_in-append m before (p ∷ []) ∙ ap
+    (λ (b : Bool). pairs_in m before + (if b then 1 else 0)) (ne_eqb p.map m ne) in
     omega arith
 
 or_true : (a b : Bool) → b ≡ true → (a || b) ≡ true
@@ -84,7 +87,8 @@ module _ (h : Shape) (is : IsShape h) where
   few m g at = let l = is.count in let k = slice_get_within h.maps m g at in omega arith
 
   -- two elements with an address in common are one
-  one_place : (m n i j a : ℕ) (g k : MapShape) → IsMap h.maps m g → IsMap h.maps n k → i < elements g → j < elements k → IsIn a (element_span m g i) → IsIn a (element_span n k j) → (m ≡ n) × (i ≡ j)
+  one_place : (m n i j a : ℕ) (g k : MapShape) → IsMap h.maps m g → IsMap h.maps n k → i < elements g → j < elements k → IsIn a
+      (element_span m g i) → IsIn a (element_span n k j) → (m ≡ n) × (i ≡ j)
   one_place m n i j a g k at to li lj x y =
       let u = reached m i a g (shaped m g at) li x in
       let t = reached n j a k (shaped n k to) lj y in
@@ -117,7 +121,9 @@ module _ (h : Shape) (is : IsShape h) where
   }
 
   -- ---- one pair more
-  module _ (before : List Pair) (p : Pair) (s : Plain) (has : Has before s) (g : MapShape) (at : IsMap h.maps p.map g) (long : length p.key ≡ g.key) (wide : length p.value ≡ g.value) (new : has_key p.map p.key before ≡ false) (room : pairs_in p.map before < g.max) where
+  module _ (before : List Pair) (p : Pair) (s : Plain) (has : Has before s) (g : MapShape) (at : IsMap h.maps p.map g)
+      (long : length p.key ≡ g.key) (wide : length p.value ≡ g.value) (new : has_key p.map p.key before ≡ false)
+      (room : pairs_in p.map before < g.max) where
     abbrev pub x : Value
     x = record { bytes = p.value; span = element_span p.map g (pairs_in p.map before) }
 
@@ -240,14 +246,19 @@ module _ (h : Shape) (is : IsShape h) where
           | inr r ↦ ap (λ (z : KeyMap). get z q.0) r.1 ∙ q.1
           | inl r ↦ ap (λ (z : KeyMap). get z q.0) r.1 ∙ elim (insert_cases (s.maps p.map) p.key s.made q.0) [
             | inr w ↦ w ∙ (ap (λ (z : ℕ). get (s.maps z) q.0) (sym r.0) ∙ q.1)
-            | inl w ↦ absurd (let f : None ≡ Some v = sym free_key ∙ (ap (λ (z : List ℕ). get (s.maps p.map) z) (sym w.0) ∙ (ap (λ (z : ℕ). get (s.maps z) q.0) (sym r.0) ∙ q.1)) in cc)
+            | inl w ↦ absurd (let f : None ≡ Some v = sym free_key ∙ (ap (λ (z : List ℕ). get (s.maps p.map) z) (sym w.0) ∙ (ap (λ (z : ℕ). get (s.maps z) q.0) (sym r.0) ∙ q.1)) in
+                cc)
           ]
         ]
 
     newest : IsTaken t p.map g (pairs_in p.map before)
     newest = (
       s.made,
-      inl (p.key, ap (λ (z : KeyMap). get z p.key) (put-same s.maps p.map p.map (insert (s.maps p.map) p.key s.made) refl) ∙ leads_new (s.maps p.map) p.key s.made),
+      inl (
+        p.key,
+        ap (λ (z : KeyMap). get z p.key) (put-same s.maps p.map p.map (insert (s.maps p.map) p.key s.made) refl) ∙ leads_new
+            (s.maps p.map) p.key s.made,
+      ),
       made,
     )
 
@@ -288,14 +299,16 @@ module _ (h : Shape) (is : IsShape h) where
   puts (p ∷ ps) before s has sized new room =
       let of = All-head (λ (q : Pair). IsPairOf h.maps q.map q.key q.value) p ps sized in
       let u = with_pair s p (pairs_in p.map before) (slice_get s.shape.maps p.map) in
-      let here : pairs_in p.map (p ∷ ps) ≡ pairs_in p.map ps + 1 = ap (λ (b : Bool). if b then pairs_in p.map ps + 1 else pairs_in p.map ps) (eq-eqb p.map p.map refl) in
+      let here : pairs_in p.map (p ∷ ps) ≡ pairs_in p.map ps + 1 = ap (λ (b : Bool). if b then pairs_in p.map ps + 1 else pairs_in p.map ps)
+      (eq-eqb p.map p.map refl) in
       let fits : pairs_in p.map before < of.0.max = (let r = room p.map of.0 of.1 in omega arith) in
       let it = is_it before p s has of.0 of.1 of.2 of.3 new.0 fits in
       let does = allowed before p s has of.0 of.1 of.2 of.3 new.0 fits in
       let later = has_now before p s has of.0 of.1 of.2 of.3 new.0 fits in (
         u,
         subst (PlainlyAllowed s 0 (Update p.map p.key p.value 0 Done)) (sym it) does,
-        puts ps (before ++ p ∷ []) u (subst (Has (before ++ p ∷ [])) (sym it) later) (All-tail (λ (q : Pair). IsPairOf h.maps q.map q.key q.value) p ps sized) new.1
+        puts ps (before ++ p ∷ []) u (subst (Has (before ++ p ∷ [])) (sym it) later)
+            (All-tail (λ (q : Pair). IsPairOf h.maps q.map q.key q.value) p ps sized) new.1
             (λ m g to. let r = room m g to in let a = pairs_in-append m before (p ∷ []) in let b = pairs_in-append m (p ∷ []) ps in omega arith),
       )
 
@@ -341,12 +354,15 @@ new_more before [] p new e = (ap (has_key p.map p.key) (sym (append-nil before))
 new_more before (q ∷ ps) p new e =
     (new.0, new_more (before ++ q ∷ []) ps p new.1 (ap (has_key p.map p.key) (append_assoc before (q ∷ []) ps) ∙ e))
 
-pub are_more : (maps : List MapShape) (ps : List Pair) (p : Pair) → ArePairs maps ps → IsPairOf maps p.map p.key p.value → has_key p.map p.key ps ≡ false → ((g : MapShape) → IsMap maps p.map g → pairs_in p.map ps < g.max) → ArePairs maps (ps ++ p ∷ [])
+pub are_more : (maps : List MapShape) (ps : List Pair) (p : Pair) → ArePairs maps ps → IsPairOf maps p.map p.key p.value → has_key p.map
+    p.key ps ≡ false → ((g : MapShape) → IsMap maps p.map g → pairs_in p.map ps < g.max) → ArePairs maps (ps ++ p ∷ [])
 are_more maps ps p are of new room = record {
-  sized = All-append (λ q. IsPairOf maps q.map q.key q.value) ps (p ∷ []) are.sized (All-cons (λ q. IsPairOf maps q.map q.key q.value) p [] of (All-nil (λ q. IsPairOf maps q.map q.key q.value)));
+  sized = All-append (λ q. IsPairOf maps q.map q.key q.value) ps (p ∷ []) are.sized
+      (All-cons (λ q. IsPairOf maps q.map q.key q.value) p [] of (All-nil (λ q. IsPairOf maps q.map q.key q.value)));
   new = new_more [] ps p are.new new;
   room = λ m g at. elim (equal_or_not p.map m) [
-    | inl e ↦ (let c = one_more m p ps e in let r = room g (subst (λ (k : ℕ). IsMap maps k g) (sym e) at) in let same : pairs_in p.map ps ≡ pairs_in m ps = ap (λ (k : ℕ). pairs_in k ps) e in omega arith)
+    | inl e ↦ (let c = one_more m p ps e in let r = room g (subst (λ (k : ℕ). IsMap maps k g) (sym e) at) in
+        let same : pairs_in p.map ps ≡ pairs_in m ps = ap (λ (k : ℕ). pairs_in k ps) e in omega arith)
     | inr ne ↦ (let c = no_more m p ps ne in let r = are.room m g at in omega arith)
   ];
 }

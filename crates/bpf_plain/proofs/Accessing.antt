@@ -1,5 +1,6 @@
 -- Accesses to fixed values.
-use Rattle.std.proofs.Common.{◌≡◌, ◌≢◌, ℕ, ◌+◌, ◌-◌, ◌*◌, ◌<◌, ◌≤◌, true, false, true≢false, List, [], length, get_or, inl, inr, ◌⊎◌, refl, ap, sym, subst, ◌∙◌, arith}
+use Rattle.std.proofs.Common.{◌≡◌, ◌≢◌, ℕ, ◌+◌, ◌-◌, ◌*◌, ◌<◌, ◌≤◌, true, false, true≢false, List, [], length, get_or, inl, inr, ◌⊎◌, refl}
+use Rattle.std.proofs.Common.{ap, sym, subst, ◌∙◌, arith}
 use Rattle.std.proofs.lemmas.Bool.{cases_lt}
 use Rattle.std.proofs.lemmas.List.{get_or-set_same, get_or-set_other, length-set}
 use Rattle.bpf_base.specs.Bytes.{little_endian, low_bytes, part, with_part}
@@ -23,7 +24,8 @@ use Rattle.bpf_shared.proofs.Soundness.{allowed_sound}
 use Rattle.bpf_shared.proofs.Fixed.{fixed_apart, fixed_below, fixed_is, place_array, place_copy, place_frozen, place_index, place_is, place_number, place_span}
 use Rattle.bpf_hash.proofs.Beside.{stands_beside}
 use Rattle.bpf_hash.proofs.Blocks.{get_or-before, get_or-behind, part-beside, part-within}
-use Rattle.bpf_plain.specs.Private.Contents.{Contents, bytes_of, fixed_bytes, offset_in, value_in, is_running, StandsFor, Makes, IsAsMade, IsStore, first_at, with_array}
+use Rattle.bpf_plain.specs.Private.Contents.{Contents, bytes_of, fixed_bytes, offset_in, value_in, is_running, StandsFor, Makes, IsAsMade}
+use Rattle.bpf_plain.specs.Private.Contents.{IsStore, first_at, with_array}
 use Rattle.bpf_plain.specs.Private.Places.{array_at, offset_at}
 use Rattle.bpf_plain.proofs.Lifting.{same_fixed}
 use Rattle.bpf_plain.proofs.Places.{part-part, value_inside, array-is, offset-is, within, inside, array_there}
@@ -108,7 +110,8 @@ module _ (p : Contents) (is : IsStore p) (c a n : ℕ) (some : 0 < n) (place : I
 
     size-new : (b : ℕ) → length (bytes_of after b) ≡ length (bytes_of p b)
     size-new b = elim (equal_or_not b (array_at a)) [
-      | inl e ↦ ap (λ (x : ℕ). length (bytes_of after x)) e ∙ (ap (λ (bs : List ℕ). length bs) here ∙ (length-with_part (bytes_of p (array_at a)) (offset_at a) low fits ∙ ap (λ (x : ℕ). length (bytes_of p x)) (sym e)))
+      | inl e ↦ ap (λ (x : ℕ). length (bytes_of after x)) e ∙ (ap (λ (bs : List ℕ). length bs) here ∙
+          (length-with_part (bytes_of p (array_at a)) (offset_at a) low fits ∙ ap (λ (x : ℕ). length (bytes_of p x)) (sym e)))
       | inr ne ↦ ap (λ (bs : List ℕ). length bs) (else b ne)
     ]
 
@@ -157,7 +160,8 @@ module _ (p : Contents) (is : IsStore p) (c a n : ℕ) (some : 0 < n) (place : I
                 | inl e ↦
                     ap (λ (y : ℕ). get_or (bytes_of after y) x 0) e
                     ∙ (ap (λ (bs : List ℕ). get_or bs x 0) here
-                    ∙ (padded_here x (subst (λ (k : ArrayShape). IsWithin p.shape.cpus k x 1 → ⊥) (is_here b g at e) none) ∙ (ap (λ (y : ℕ). get_or (bytes_of p y) x 0) (sym e) ∙ was)))
+                    ∙ (padded_here x (subst (λ (k : ArrayShape). IsWithin p.shape.cpus k x 1 → ⊥) (is_here b g at e) none) ∙
+                    (ap (λ (y : ℕ). get_or (bytes_of p y) x 0) (sym e) ∙ was)))
                 | inr ne ↦ ap (λ (bs : List ℕ). get_or bs x 0) (else b ne) ∙ was
               ]);
         };
@@ -165,7 +169,8 @@ module _ (p : Contents) (is : IsStore p) (c a n : ℕ) (some : 0 < n) (place : I
     }
 
     -- the value's bytes are written
-    value_new : value_in (bytes_of after place.number) place.array place.copy place.index ≡ with_part (value_in (bytes_of p place.number) place.array place.copy place.index) (a - span.at) low
+    value_new : value_in (bytes_of after place.number) place.array place.copy place.index ≡ with_part
+        (value_in (bytes_of p place.number) place.array place.copy place.index) (a - span.at) low
     value_new =
         let at = offset_in place.array place.copy place.index in
         let same = array-is p is a n some place in
@@ -188,7 +193,8 @@ module _ (p : Contents) (is : IsStore p) (c a n : ℕ) (some : 0 < n) (place : I
           let wide = sized.value.0 in
           let number : array_of w ≡ place.number = e ∙ array-is p is a n some place in
           let base = 0x10_0000_0000 + 0x1000_0000 * (16 + place.number) in
-          let span_w : (fixed_value p.shape w).span ≡ fixed_span (array_of w) f.array (copy_of w) (index_of w) = ap (λ (y : Value). y.span) (fixed_is p.shape w f) in
+          let span_w : (fixed_value p.shape w).span ≡ fixed_span (array_of w) f.array (copy_of w) (index_of w) = ap (λ (y : Value). y.span)
+          (fixed_is p.shape w f) in
           let apart : IsApart (fixed_span (array_of w) f.array (copy_of w) (index_of w)) span =
           subst (λ (q : Span). IsApart q span) span_w
           (subst (IsApart (fixed_value p.shape w).span) (place_span p.shape is.shape a n place) (fixed_apart p.shape is.shape w v f there ne)) in
@@ -200,7 +206,8 @@ module _ (p : Contents) (is : IsStore p) (c a n : ℕ) (some : 0 < n) (place : I
           let fit = value_inside p.shape.cpus (copy_of w) (index_of w) f.array f.copy f.index in
           let size = (is.arrays.each (array_of w) f.array f.is).size in
           let same : bytes_of p (array_of w) ≡ bytes_of p (array_at a) = ap (bytes_of p) e in
-          let long_w : length (bytes_of p (array_at a)) ≡ copies p.shape.cpus f.array * copy_stride f.array = ap (λ (bs : List ℕ). length bs) (sym same) ∙ size in
+          let long_w : length (bytes_of p (array_at a)) ≡ copies p.shape.cpus f.array * copy_stride f.array = ap
+          (λ (bs : List ℕ). length bs) (sym same) ∙ size in
           ap (λ (b : ℕ). value_in (bytes_of after b) f.array (copy_of w) (index_of w)) e
           ∙ (ap (λ (bs : List ℕ). value_in bs f.array (copy_of w) (index_of w)) here
           ∙ (part-beside (bytes_of p (array_at a)) low (offset_at a) x f.array.value fits (omega arith) (turned beside)
@@ -235,19 +242,22 @@ module _ (p : Contents) (is : IsStore p) (c a n : ℕ) (some : 0 < n) (place : I
       ];
     }
       where
-        shown_at : (w : ℕ) (f : IsFixed p.shape w) → w ≡ v → fixed_bytes stored w f.array ≡ value_in (bytes_of stored place.number) place.array place.copy place.index
+        shown_at : (w : ℕ) (f : IsFixed p.shape w) → w ≡ v → fixed_bytes stored w f.array ≡ value_in (bytes_of stored place.number)
+            place.array place.copy place.index
         shown_at w f e =
             let array : array_of w ≡ place.number = ap array_of e ∙ place_array p.shape is.shape a n place in
             let copy : copy_of w ≡ place.copy = ap copy_of e ∙ place_copy p.shape is.shape a n place in
             let index : index_of w ≡ place.index = ap index_of e ∙ place_index p.shape is.shape a n place in
-            let same : f.array ≡ place.array = Rattle.bpf_shared.proofs.Fixed.same_array p.shape.arrays place.number f.array place.array (subst (λ (x : ℕ). IsArray p.shape.arrays x f.array) array f.is) place.is in
+            let same : f.array ≡ place.array = Rattle.bpf_shared.proofs.Fixed.same_array p.shape.arrays place.number f.array place.array
+            (subst (λ (x : ℕ). IsArray p.shape.arrays x f.array) array f.is) place.is in
             ap (λ (b : ℕ). value_in (bytes_of stored b) f.array (copy_of w) (index_of w)) array
             ∙ (ap (λ (k : ℕ). value_in (bytes_of stored place.number) f.array k (index_of w)) copy
             ∙ (ap (λ (i : ℕ). value_in (bytes_of stored place.number) f.array place.copy i) index
             ∙ ap (λ (g : ArrayShape). value_in (bytes_of stored place.number) g place.copy place.index) same))
 
 -- ---- events
-module _ (p : Contents) (is : IsStore p) (c a : ℕ) (size : Size) (some : 0 < bytes_in size) (place : IsFixedPlace p.shape a (bytes_in size)) (going : is_running p c ≡ true) where
+module _ (p : Contents) (is : IsStore p) (c a : ℕ) (size : Size) (some : 0 < bytes_in size) (place : IsFixedPlace p.shape a (bytes_in size))
+    (going : is_running p c ≡ true) where
   abbrev n : ℕ
   n = bytes_in size
 
@@ -260,13 +270,28 @@ module _ (p : Contents) (is : IsStore p) (c a : ℕ) (size : Size) (some : 0 < b
 
   pub store_makes : (word : ℕ) → place.array.frozen ≡ false → Makes p (stored p is c a n some place word) c (Store a size word)
   store_makes word thawed = makes p (stored p is c a n some place word) c (Store a size word)
-      (λ s so h. (after_write s at a n word, (h.maps.running c ∙ going, (at, may_write p is c a n some place s so h thawed, refl)), stands p is c a n some place word s so h)) (λ s t. tt)
+      (λ s so h. (
+        after_write s at a n word,
+        (h.maps.running c ∙ going, (at, may_write p is c a n some place s so h thawed, refl)),
+        stands p
+            is c a n some place word s so h,
+      )) (λ s t. tt)
 
-  pub atomic_makes : (op : Change) (operand expected found word : ℕ) → place.array.frozen ≡ false → found ≡ little_endian (part (bytes_of p (array_at a)) (offset_at a) n) → word ≡ number_after op n found operand expected
+  pub atomic_makes : (op : Change) (operand expected found word : ℕ) → place.array.frozen ≡ false → found ≡ little_endian
+      (part (bytes_of p (array_at a)) (offset_at a) n) → word ≡ number_after op n found operand expected
       → Makes p (stored p is c a n some place word) c (Atomic a size op operand expected found)
   atomic_makes op operand expected found word thawed is_found is_word = makes p (stored p is c a n some place word) c (Atomic a size op operand expected found)
       (λ s so h. (
         after_write s at a n word,
-        (h.maps.running c ∙ going, (at, may_write p is c a n some place s so h thawed, is_found ∙ sym (number-is p is c a n some place s so h), ap (after_write s at a n) is_word)),
+        (
+          h.maps.running c ∙ going,
+          (
+            at,
+            may_write p is c a n some place s so h thawed,
+            is_found ∙ sym
+                (number-is p is c a n some place s so h),
+            ap (after_write s at a n) is_word,
+          ),
+        ),
         stands p is c a n some place word s so h,
       )) (λ s t. tt)

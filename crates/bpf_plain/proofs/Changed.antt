@@ -1,5 +1,6 @@
 -- The bytes of a list that aren't as at first, one after the other.
-use Rattle.std.proofs.Common.{◌≡◌, ◌≢◌, ◌⊎◌, ℕ, ◌+◌, ◌==◌, ◌^◌, ◌<◌, ◌≤◌, Bool, true, false, if◌then◌else◌, List, [], ◌∷◌, ◌++◌, length, take, append_assoc, append-nil, get_or, Result, Ok, Err, OnErr, inl, inr, refl, sym, ap, ◌∙◌, arith, lit<}
+use Rattle.std.proofs.Common.{◌≡◌, ◌≢◌, ◌⊎◌, ℕ, ◌+◌, ◌==◌, ◌^◌, ◌<◌, ◌≤◌, Bool, true, false, if◌then◌else◌, List, [], ◌∷◌, ◌++◌, length}
+use Rattle.std.proofs.Common.{take, append_assoc, append-nil, get_or, Result, Ok, Err, OnErr, inl, inr, refl, sym, ap, ◌∙◌, arith, lit<}
 use Rattle.std.specs.Io.{StartsWith}
 use Rattle.std.proofs.Transfers.{starts_with_of_append, starts_with_trans}
 use Rattle.std.proofs.lemmas.Bool.Decides.{nat_tests}
@@ -39,7 +40,8 @@ here_other first o byte ne = elim (test byte (first o)) [
 ]
 
 -- more bytes
-pub changes-append : (first : ℕ → ℕ) (o n : ℕ) (xs ys : List ℕ) → n ≡ o + length xs → changes_from first o (xs ++ ys) ≡ changes_from first o xs ++ changes_from first n ys
+pub changes-append : (first : ℕ → ℕ) (o n : ℕ) (xs ys : List ℕ) → n ≡ o + length xs → changes_from first o (xs ++ ys) ≡ changes_from first o
+    xs ++ changes_from first n ys
 changes-append first o n [] ys e = ap (λ (k : ℕ). changes_from first k ys) (let z : o ≡ n = omega arith in z)
 changes-append first o n (x ∷ xs) ys e =
     ap (λ (bs : List ℕ). here first o x ++ bs) (changes-append first (o + 1) n xs ys (omega arith))
@@ -49,7 +51,8 @@ pub one_change : (first : ℕ → ℕ) (o x : ℕ) → changes_from first o (x �
 one_change first o x = append-nil (here first o x)
 
 -- the first bytes matter where the others are
-pub changes-first : (first other : ℕ → ℕ) (o : ℕ) (xs : List ℕ) → ((x : ℕ) → o ≤ x → x < o + length xs → first x ≡ other x) → changes_from first o xs ≡ changes_from other o xs
+pub changes-first : (first other : ℕ → ℕ) (o : ℕ) (xs : List ℕ) → ((x : ℕ) → o ≤ x → x < o + length xs → first x ≡ other x) → changes_from
+    first o xs ≡ changes_from other o xs
 changes-first first other o [] same = refl
 changes-first first other o (x ∷ xs) same =
     ap (λ (f : ℕ). (if x == f then [] else change o x) ++ changes_from first (o + 1) xs) (same o (omega arith) (omega arith))
@@ -87,7 +90,8 @@ begins first o (x ∷ xs) more few = elim (test x (first o)) [
     later o n (inr l) = inr (omega arith, l.1)
 
 -- so they don't begin with one before these
-pub none_before : (first : ℕ → ℕ) (o d byte : ℕ) (xs more rest : List ℕ) → o + length xs < 2 ^ 32 → d < o → changes_from first o xs ++ (low_bytes 4 0 ++ more) ≡ change d byte ++ rest → ⊥
+pub none_before : (first : ℕ → ℕ) (o d byte : ℕ) (xs more rest : List ℕ) → o + length xs < 2 ^ 32 → d < o → changes_from first o xs ++
+    (low_bytes 4 0 ++ more) ≡ change d byte ++ rest → ⊥
 none_before first o d byte xs more rest few before e =
     let r = begins first o xs more few in
     no r.number (number_told r.number (d + 1) r.rest (byte ∷ rest) (small r.number r.which) (omega arith) (sym r.is ∙ e)).0 r.which
@@ -104,8 +108,10 @@ none_before first o d byte xs more rest few before e =
 pub step_same : (first : ℕ → ℕ) (o x : ℕ) (xs more : List ℕ) → x ≡ first o → changes_from first o (x ∷ xs) ++ more ≡ changes_from first (o + 1) xs ++ more
 step_same first o x xs more e = ap (λ (bs : List ℕ). (bs ++ changes_from first (o + 1) xs) ++ more) (here_same first o x e)
 
-pub step_other : (first : ℕ → ℕ) (o x : ℕ) (xs more : List ℕ) → x ≢ first o → changes_from first o (x ∷ xs) ++ more ≡ change o x ++ (changes_from first (o + 1) xs ++ more)
-step_other first o x xs more ne = ap (λ (bs : List ℕ). (bs ++ changes_from first (o + 1) xs) ++ more) (here_other first o x ne) ∙ append_assoc (change o x) (changes_from first (o + 1) xs) more
+pub step_other : (first : ℕ → ℕ) (o x : ℕ) (xs more : List ℕ) → x ≢ first o → changes_from first o (x ∷ xs) ++ more ≡ change o x ++
+    (changes_from first (o + 1) xs ++ more)
+step_other first o x xs more ne = ap (λ (bs : List ℕ). (bs ++ changes_from first (o + 1) xs) ++ more) (here_other first o x ne) ∙
+    append_assoc (change o x) (changes_from first (o + 1) xs) more
 
 -- equal changes are those of equal bytes, and show where they end
 pub changes_told : (first : ℕ → ℕ) (o : ℕ) (xs ys rest more : List ℕ) → length xs ≡ length ys → o + length xs < 2 ^ 32
@@ -127,9 +133,11 @@ changes_told first o (x ∷ xs) (y ∷ ys) rest more n few e = elim (test x (fir
         (sym (step_same first o y ys (low_bytes 4 0 ++ more) u.0) ∙ (sym e ∙ step_other first o x xs (low_bytes 4 0 ++ rest) t.0)))
     | inr u ↦
         let whole = sym (step_other first o x xs (low_bytes 4 0 ++ rest) t.0) ∙ (e ∙ step_other first o y ys (low_bytes 4 0 ++ more) u.0) in
-        let cut = number_told (o + 1) (o + 1) (x ∷ (changes_from first (o + 1) xs ++ (low_bytes 4 0 ++ rest))) (y ∷ (changes_from first (o + 1) ys ++ (low_bytes 4 0 ++ more))) (omega arith) (omega arith) whole in
+        let cut = number_told (o + 1) (o + 1) (x ∷ (changes_from first (o + 1) xs ++ (low_bytes 4 0 ++ rest)))
+        (y ∷ (changes_from first (o + 1) ys ++ (low_bytes 4 0 ++ more))) (omega arith) (omega arith) whole in
         let head : x ≡ y = (let c = cut.1 in cc) in
-        let tail : changes_from first (o + 1) xs ++ (low_bytes 4 0 ++ rest) ≡ changes_from first (o + 1) ys ++ (low_bytes 4 0 ++ more) = (let c = cut.1 in cc) in
+        let tail : changes_from first (o + 1) xs ++ (low_bytes 4 0 ++ rest) ≡ changes_from first (o + 1) ys ++ (low_bytes 4 0 ++ more) =
+        (let c = cut.1 in cc) in
         let r = changes_told first (o + 1) xs ys rest more (omega arith) (omega arith) tail in
         (both head r.0, r.1)
   ]
@@ -139,22 +147,27 @@ changes_told first o (x ∷ xs) (y ∷ ys) rest more n few e = elim (test x (fir
     both p q = cc
 
 -- ---- the changes of the first bytes, and of one more
-pub one_more : (first : ℕ → ℕ) (bytes old out new : List ℕ) (o : ℕ) → o < length bytes → out ≡ old ++ changes_from first 0 (take o bytes) → new ≡ out ++ here first o (get_or bytes o 0)
+pub one_more : (first : ℕ → ℕ) (bytes old out new : List ℕ) (o : ℕ) → o < length bytes → out ≡ old ++ changes_from first 0 (take o bytes) →
+    new ≡ out ++ here first o (get_or bytes o 0)
     → new ≡ old ++ changes_from first 0 (take (o + 1) bytes)
 one_more first bytes old out new o l before e =
     let x = get_or bytes o 0 in
     let these = changes_from first 0 (take o bytes) in
     let all : changes_from first 0 (take (o + 1) bytes) ≡ these ++ here first o x =
     ap (changes_from first 0) (take_more bytes o 0 l)
-    ∙ (changes-append first 0 o (take o bytes) (x ∷ []) (let s = length-take-le o bytes (omega arith) in omega arith) ∙ ap (λ (bs : List ℕ). these ++ bs) (one_change first o x)) in
+    ∙ (changes-append first 0 o (take o bytes) (x ∷ []) (let s = length-take-le o bytes (omega arith) in omega arith) ∙ ap
+    (λ (bs : List ℕ). these ++ bs) (one_change first o x)) in
     e ∙ (ap (λ (bs : List ℕ). bs ++ here first o x) before ∙ (append_assoc old these (here first o x) ∙ ap (λ (bs : List ℕ). old ++ bs) (sym all)))
 
-pub all_changes : (first : ℕ → ℕ) (bytes old out new : List ℕ) (n : ℕ) → n ≡ length bytes → out ≡ old ++ changes_from first 0 (take n bytes) → new ≡ out ++ low_bytes 4 0 → new ≡ old ++ changes first bytes
+pub all_changes : (first : ℕ → ℕ) (bytes old out new : List ℕ) (n : ℕ) → n ≡ length bytes → out ≡ old ++ changes_from first 0 (take n bytes)
+    → new ≡ out ++ low_bytes 4 0 → new ≡ old ++ changes first bytes
 all_changes first bytes old out new n long before e =
     let whole : take n bytes ≡ bytes = take_all n bytes (omega arith) in
-    e ∙ (ap (λ (bs : List ℕ). bs ++ low_bytes 4 0) (before ∙ ap (λ (bs : List ℕ). old ++ changes_from first 0 bs) whole) ∙ append_assoc old (changes_from first 0 bytes) (low_bytes 4 0))
+    e ∙ (ap (λ (bs : List ℕ). bs ++ low_bytes 4 0) (before ∙ ap (λ (bs : List ℕ). old ++ changes_from first 0 bs) whole) ∙ append_assoc old
+    (changes_from first 0 bytes) (low_bytes 4 0))
 
 -- ---- bytes that begin with what was there, where memory was refused
-pub on_err_starts : {A : Type 0} {E : Type 0} (r : Result A E) (old mid new more : List ℕ) → mid ≡ old ++ more → OnErr r (StartsWith new mid) → OnErr r (StartsWith new old)
+pub on_err_starts : {A : Type 0} {E : Type 0} (r : Result A E) (old mid new more : List ℕ) → mid ≡ old ++ more → OnErr r
+    (StartsWith new mid) → OnErr r (StartsWith new old)
 on_err_starts (Ok a) old mid new more e starts = tt
 on_err_starts (Err x) old mid new more e starts = starts_with_trans new mid old starts (starts_with_of_append mid old more e)

@@ -1,5 +1,6 @@
 -- Arrays' bytes as they are at first.
-use Rattle.std.proofs.Common.{◌≡◌, ℕ, zero, suc, ◌+◌, ◌-◌, ◌*◌, ◌/◌, ◌%◌, ◌<◌, ◌≤◌, List, ◌++◌, length, drop, replicate, get_or, inl, inr, refl, ap, sym, ◌∙◌, arith}
+use Rattle.std.proofs.Common.{◌≡◌, ℕ, zero, suc, ◌+◌, ◌-◌, ◌*◌, ◌/◌, ◌%◌, ◌<◌, ◌≤◌, List, ◌++◌, length, drop, replicate, get_or, inl, inr}
+use Rattle.std.proofs.Common.{refl, ap, sym, ◌∙◌, arith}
 use Rattle.std.proofs.lemmas.Bool.{cases_lt}
 use Rattle.std.proofs.lemmas.List.{ext_get_or, get_or_past, get_or-take, get_or-drop, get_or_append_left, get_or-append_right}
 use Rattle.std.proofs.lemmas.Nat.{div-add-mod', div_below, mod_below}
@@ -36,16 +37,19 @@ module _ (stride copy count : ℕ) (first bytes : List ℕ) (size : length bytes
         ap (λ (x : ℕ). get_or (with_part bytes (copy * stride) first) x 0) here
         ∙ elim (cases_lt o (length first)) [
           | inl m ↦ get_or-inside bytes first (copy * stride) room o m
-          | inr m ↦ get_or-behind bytes first (copy * stride) room (copy * stride + o) (omega arith) ∙ (blank (copy * stride + o) (omega arith) ∙ sym (get_or_past first o 0 m))
+          | inr m ↦ get_or-behind bytes first (copy * stride) room (copy * stride + o) (omega arith) ∙
+              (blank (copy * stride + o) (omega arith) ∙ sym (get_or_past first o 0 m))
         ]
   ]
 
-  pub none_after : ((x : ℕ) → copy * stride ≤ x → get_or bytes x 0 ≡ 0) → (x : ℕ) → (copy + 1) * stride ≤ x → get_or (with_part bytes (copy * stride) first) x 0 ≡ 0
+  pub none_after : ((x : ℕ) → copy * stride ≤ x → get_or bytes x 0 ≡ 0) → (x : ℕ) → (copy + 1) * stride ≤ x → get_or
+      (with_part bytes (copy * stride) first) x 0 ≡ 0
   none_after blank x above = let m = suc-mul copy stride in get_or-behind bytes first (copy * stride) room x (omega arith) ∙ blank x (omega arith)
 
   -- the same of what the code left
   module _ (new : List ℕ) (put : new ≡ with_part bytes (copy * stride) first) where
-    pub one_more_of : ((k o : ℕ) → k < copy → o < stride → get_or bytes (k * stride + o) 0 ≡ get_or first o 0) → ((x : ℕ) → copy * stride ≤ x → get_or bytes x 0 ≡ 0)
+    pub one_more_of : ((k o : ℕ) → k < copy → o < stride → get_or bytes (k * stride + o) 0 ≡ get_or first o 0) →
+        ((x : ℕ) → copy * stride ≤ x → get_or bytes x 0 ≡ 0)
         → (k o : ℕ) → k < copy + 1 → o < stride → get_or new (k * stride + o) 0 ≡ get_or first o 0
     one_more_of front blank k o below inside = ap (λ (bs : List ℕ). get_or bs (k * stride + o) 0) put ∙ one_more front blank k o below inside
 
@@ -63,10 +67,12 @@ first_at bytes at n j l =
     ∙ (get_or-drop at all j 0
     ∙ elim (cases_lt (at + j) (length bytes)) [
       | inl k ↦ get_or_append_left bytes (replicate (at + n) 0) 0 (at + j) k
-      | inr k ↦ get_or-append_right bytes (replicate (at + n) 0) (length bytes) (at + j) 0 refl k ∙ (zeros (at + n) (at + j - length bytes) ∙ sym (get_or_past bytes (at + j) 0 k))
+      | inr k ↦ get_or-append_right bytes (replicate (at + n) 0) (length bytes) (at + j) 0 refl k ∙
+          (zeros (at + n) (at + j - length bytes) ∙ sym (get_or_past bytes (at + j) 0 k))
     ])
 
-pub value_made : (cpus k i : ℕ) (g : ArrayShape) (first bytes : List ℕ) → k < copies cpus g → i < g.max → IsAsMade cpus g first bytes → first_bytes first (i * array_stride g) g.value ≡ value_in bytes g k i
+pub value_made : (cpus k i : ℕ) (g : ArrayShape) (first bytes : List ℕ) → k < copies cpus g → i < g.max → IsAsMade cpus g first bytes →
+    first_bytes first (i * array_stride g) g.value ≡ value_in bytes g k i
 value_made cpus k i g first bytes has_copy has_index made =
     let n = g.value in
     let at = i * array_stride g in
@@ -90,7 +96,8 @@ value_made cpus k i g first bytes has_copy has_index made =
         omega arith
 
 -- ---- each byte
-pub filled_at : (stride : ℕ) (first : List ℕ) (count : ℕ) (bytes : List ℕ) → IsFilled stride first count bytes → (x : ℕ) → x < length bytes → get_or bytes x 0 ≡ get_or first (x % stride) 0
+pub filled_at : (stride : ℕ) (first : List ℕ) (count : ℕ) (bytes : List ℕ) → IsFilled stride first count bytes → (x : ℕ) → x < length bytes
+    → get_or bytes x 0 ≡ get_or first (x % stride) 0
 filled_at stride first count bytes filled x l =
     let size = filled.size in
     let some : 0 < stride = elim (cases_lt 0 stride) [
@@ -98,10 +105,12 @@ filled_at stride first count bytes filled x l =
       | inr m ↦ absurd (let none : count * stride ≡ count * 0 = ap (λ (s : ℕ). count * s) (let z : stride ≡ 0 = omega arith in z) in omega arith)
     ] in
     let below : x < count * stride = omega arith in
-    ap (λ (y : ℕ). get_or bytes y 0) (sym (div-add-mod' x stride)) ∙ filled.each (x / stride) (x % stride) (div_below x stride count some below) (mod_below x stride some)
+    ap (λ (y : ℕ). get_or bytes y 0) (sym (div-add-mod' x stride)) ∙ filled.each (x / stride) (x % stride)
+    (div_below x stride count some below) (mod_below x stride some)
 
 -- there is one such list
-pub filled_one : (stride : ℕ) (first : List ℕ) (count : ℕ) (bytes others : List ℕ) → IsFilled stride first count bytes → IsFilled stride first count others → bytes ≡ others
+pub filled_one : (stride : ℕ) (first : List ℕ) (count : ℕ) (bytes others : List ℕ) → IsFilled stride first count bytes → IsFilled stride
+    first count others → bytes ≡ others
 filled_one stride first count bytes others one two = ext_get_or 0 bytes others (one.size ∙ sym two.size) (λ x l.
     let s = one.size in
     let t = two.size in

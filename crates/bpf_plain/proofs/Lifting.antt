@@ -77,9 +77,11 @@ pub call_lifted : (parts p : Contents) (view : ◌≡◌ {A = Contents} parts p)
     → ((s : Plain) → IsSoundStore s → hash.StandsFor parts.maps s → (v : ℕ) → IsFixed s.shape v → WritesInto s c v e → ⊥)
     → Calls (Passes p (with_maps parts maps)) (has_cpu p) c e
 call_lifted parts p view maps c e makes beside =
-    subst (λ (x : Contents). Calls (Passes x (with_maps parts maps)) (has_cpu x) c e) view (is_call parts (with_maps parts maps) c e (lifted parts maps c e makes beside))
+    subst (λ (x : Contents). Calls (Passes x (with_maps parts maps)) (has_cpu x) c e) view
+    (is_call parts (with_maps parts maps) c e (lifted parts maps c e makes beside))
 
-pub maps_store : (parts : Contents) (maps : hash.Contents) → IsStore parts → hash.shapes_of maps ≡ hash.shapes_of parts.maps → hash.has_cpu maps ≡ hash.has_cpu parts.maps → IsStore (with_maps parts maps)
+pub maps_store : (parts : Contents) (maps : hash.Contents) → IsStore parts → hash.shapes_of maps ≡ hash.shapes_of parts.maps → hash.has_cpu
+    maps ≡ hash.has_cpu parts.maps → IsStore (with_maps parts maps)
 maps_store parts maps is shapes serves = record {
   shape = is.shape;
   maps = shapes ∙ is.maps;
@@ -87,7 +89,8 @@ maps_store parts maps is shapes serves = record {
   arrays = is.arrays;
 }
 
-pub lacks : (p : Contents) (maps : hash.Contents) (m : ℕ) (key : List ℕ) (answer : MapAnswer) → hash.MayLack p.maps maps m key answer → MayLack p (with_maps p maps) m key answer
+pub lacks : (p : Contents) (maps : hash.Contents) (m : ℕ) (key : List ℕ) (answer : MapAnswer) → hash.MayLack p.maps maps m key answer →
+    MayLack p (with_maps p maps) m key answer
 lacks p maps m key Done l = l
 lacks p maps m key Invalid l = l
 lacks p maps m key Busy l = l

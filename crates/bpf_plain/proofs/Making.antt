@@ -38,6 +38,7 @@ module _ (h : Shape) (is : IsShape h) (maps : hash.Contents) (arrays : List (Lis
     shows = record {
       shape = refl;
       maps = made.shows;
-      fixed = λ v f. ap (λ (x : Value). x.bytes) (fixed_is h v f) ∙ value_made h.cpus (copy_of v) (index_of v) f.array _ (bytes_of new (array_of v)) f.copy f.index (filled.each (array_of v) f.array f.is);
+      fixed = λ v f. ap (λ (x : Value). x.bytes) (fixed_is h v f) ∙ value_made h.cpus (copy_of v) (index_of v) f.array _
+          (bytes_of new (array_of v)) f.copy f.index (filled.each (array_of v) f.array f.is);
     };
   }

@@ -49,7 +49,8 @@ module _ (p q : Contents) (is : IsStore p) (too : IsStore q) (s : Plain) (one : 
         sym (value_shown q a w.copy w.index g here too has w.has_index s two) ∙ value_shown p a w.copy w.index g there is w.has_copy w.has_index s one in
         ap (λ (y : ℕ). get_or (bytes_of q a) y 0) (sym at)
         ∙ (sym (get_or-part (bytes_of q a) o g.value (x - o) (omega arith))
-        ∙ (ap (λ (bs : List ℕ). get_or bs (x - o) 0) values ∙ (get_or-part (bytes_of p a) o g.value (x - o) (omega arith) ∙ ap (λ (y : ℕ). get_or (bytes_of p a) y 0) at)))
+        ∙ (ap (λ (bs : List ℕ). get_or bs (x - o) 0) values ∙ (get_or-part (bytes_of p a) o g.value (x - o) (omega arith) ∙ ap
+        (λ (y : ℕ). get_or (bytes_of p a) y 0) at)))
 
     same_size : length (bytes_of q a) ≡ length (bytes_of p a)
     same_size = (too.arrays.each a g here).size ∙ (ap (λ (h : Shape). copies h.cpus g * copy_stride g) same_shape ∙ sym (is.arrays.each a g there).size)
@@ -70,7 +71,8 @@ module _ (p q : Contents) (is : IsStore p) (too : IsStore q) (s : Plain) (one : 
       let many = is.arrays.count in
       let others = too.arrays.count in
       let counts = ap (λ (h : Shape). length h.arrays) same_shape in
-      ext_get_or [] q.arrays p.arrays (omega arith) (λ a l. same_array a (get_or p.shape.arrays a blank) (slice_get-get_or p.shape.arrays a blank (omega arith)))
+      ext_get_or [] q.arrays p.arrays (omega arith) (λ a l. same_array a (get_or p.shape.arrays a blank)
+      (slice_get-get_or p.shape.arrays a blank (omega arith)))
 
 -- ---- and are saved as the same bytes
 saved_alike : (h k : Shape) (xs ys : List (List ℕ)) (bs cs : List ℕ) → k ≡ h → ys ≡ xs → bs ≡ cs → saved_arrays h xs ++ bs ≡ saved_arrays k ys ++ cs

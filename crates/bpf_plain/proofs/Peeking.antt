@@ -51,7 +51,8 @@ module _ (parts p : Contents) (view : ◌≡◌ {A = Contents} parts p) (a : ℕ
 -- ---- in them
 module _ (p : Contents) (is : IsStore p) (a : ℕ) (above : first_fixed ≤ a) (low : (s : Plain) → IsSoundStore s → StandsFor p s → shows.AreElementsLow s) where
   -- of which array and offset a fixed value's byte is
-  fixed_at : (s : Plain) → IsSoundStore s → (h : StandsFor p s) → (b : ℕ) → IsFixedByteAt s a b → (g : ArrayShape) × IsArray p.shape.arrays (array_at a) g × IsWithin p.shape.cpus g (offset_at a) 1
+  fixed_at : (s : Plain) → IsSoundStore s → (h : StandsFor p s) → (b : ℕ) → IsFixedByteAt s a b → (g : ArrayShape) × IsArray p.shape.arrays
+      (array_at a) g × IsWithin p.shape.cpus g (offset_at a) 1
   fixed_at s so h b (v, f, inside, e) =
       let span = span_of_fixed s so v f in
       let there : IsIn a (fixed_span (array_of v) f.array (copy_of v) (index_of v)) = subst (IsIn a) span inside in
@@ -69,7 +70,8 @@ module _ (p : Contents) (is : IsStore p) (a : ℕ) (above : first_fixed ≤ a) (
           has_copy = subst (λ (k : Shape). copy_of v < Rattle.bpf_shared.specs.Shape.copies k.cpus g) h.shape f.copy;
           has_index = f.index;
           from = from_is (copy_of v * copy_stride g) (index_of v * array_stride g) (a - (fixed_span (array_of v) g (copy_of v) (index_of v)).at) rest;
-          to = to_is (copy_of v * copy_stride g) (index_of v * array_stride g) (a - (fixed_span (array_of v) g (copy_of v) (index_of v)).at) g.value rest (omega arith);
+          to = to_is (copy_of v * copy_stride g) (index_of v * array_stride g) (a - (fixed_span (array_of v) g (copy_of v) (index_of v)).at)
+              g.value rest (omega arith);
         },
       )
     where
@@ -79,7 +81,8 @@ module _ (p : Contents) (is : IsStore p) (a : ℕ) (above : first_fixed ≤ a) (
       to_is : (x y o v : ℕ) → offset_at a ≡ x + (y + o) → o < v → offset_at a + 1 ≤ x + y + v
       to_is x y o v e l = omega (arith, e)
 
-  none_at : ((g : ArrayShape) → IsArray p.shape.arrays (array_at a) g → IsWithin p.shape.cpus g (offset_at a) 1 → ⊥) → (s : Plain) → IsSoundStore s → StandsFor p s → (b : ℕ) → IsByteAt s a b → ⊥
+  none_at : ((g : ArrayShape) → IsArray p.shape.arrays (array_at a) g → IsWithin p.shape.cpus g (offset_at a) 1 → ⊥) → (s : Plain) →
+      IsSoundStore s → StandsFor p s → (b : ℕ) → IsByteAt s a b → ⊥
   none_at none s so h b (inl e) = let l = low s so h a b e in absurd (omega arith)
   none_at none s so h b (inr f) = let at = fixed_at s so h b f in none at.0 at.1 at.2
 
@@ -87,7 +90,8 @@ module _ (p : Contents) (is : IsStore p) (a : ℕ) (above : first_fixed ≤ a) (
   no_array none = none_at (λ g is w. absurd (let k : None ≡ Some g = sym none ∙ is in cc))
 
   pub no_value : (g : ArrayShape) → IsArray p.shape.arrays (array_at a) g → (IsWithin p.shape.cpus g (offset_at a) 1 → ⊥) → ShowsNoByte p a
-  no_value g is none = none_at (λ k there w. none (subst (λ (x : ArrayShape). IsWithin p.shape.cpus x (offset_at a) 1) (Rattle.bpf_shared.proofs.Fixed.same_array p.shape.arrays (array_at a) k g there is) w))
+  no_value g is none = none_at (λ k there w. none (subst (λ (x : ArrayShape). IsWithin p.shape.cpus x (offset_at a) 1)
+      (Rattle.bpf_shared.proofs.Fixed.same_array p.shape.arrays (array_at a) k g there is) w))
 
   module _ (g : ArrayShape) (here : IsArray p.shape.arrays (array_at a) g) (w : IsWithin p.shape.cpus g (offset_at a) 1) where
     whole : a ≡ 0x10_0000_0000 + 0x1000_0000 * (16 + array_at a) + offset_at a
@@ -138,8 +142,10 @@ module _ (p : Contents) (is : IsStore p) (a : ℕ) (above : first_fixed ≤ a) (
         let in_v : IsIn a (s.value v).span = subst (IsIn a) (sym span) (place.covers.0, (let to = place.covers.1 in omega arith)) in
         (inr (v, f, in_v, sym byte), other_byte s so h v f in_v byte)
       where
-        other_byte : (s : Plain) → (so : IsSoundStore s) → StandsFor p s → (v : ℕ) → IsFixed s.shape v → IsIn a (s.value v).span → byte_at s v a ≡ b → (other : ℕ) → IsByteAt s a other → other ≡ b
+        other_byte : (s : Plain) → (so : IsSoundStore s) → StandsFor p s → (v : ℕ) → IsFixed s.shape v → IsIn a (s.value v).span → byte_at s
+            v a ≡ b → (other : ℕ) → IsByteAt s a other → other ≡ b
         other_byte s so h v f in_v byte other (inl e) = let l = low s so h a other e in absurd (omega arith)
         other_byte s so h v f in_v byte other (inr (x, k, in_x, e)) =
-            let same : x ≡ v = fixed_one s.shape so.fixed.shape x v a k f (subst (IsIn a) (so.fixed.spans x k) in_x) (subst (IsIn a) (so.fixed.spans v f) in_v) in
+            let same : x ≡ v = fixed_one s.shape so.fixed.shape x v a k f (subst (IsIn a) (so.fixed.spans x k) in_x)
+            (subst (IsIn a) (so.fixed.spans v f) in_v) in
             e ∙ (ap (λ (y : ℕ). byte_at s y a) same ∙ byte)

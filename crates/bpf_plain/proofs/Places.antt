@@ -1,5 +1,6 @@
 -- Places in fixed values, and where their bytes are.
-use Rattle.std.proofs.Common.{◌≡◌, ℕ, Bool, true, false, ◌+◌, ◌-◌, ◌*◌, ◌<◌, ◌≤◌, List, length, take, drop, get_or, Option, Some, None, slice_get, inl, inr, ap, sym, subst, ◌∙◌, arith}
+use Rattle.std.proofs.Common.{◌≡◌, ℕ, Bool, true, false, ◌+◌, ◌-◌, ◌*◌, ◌<◌, ◌≤◌, List, length, take, drop, get_or, Option, Some, None}
+use Rattle.std.proofs.Common.{slice_get, inl, inr, ap, sym, subst, ◌∙◌, arith}
 use Rattle.std.proofs.lemmas.List.{take-take, drop-drop, drop-take}
 use Rattle.std.proofs.lemmas.Option.{slice_get_within, slice_get-get_or}
 use Rattle.std.specs.Option.{IfNone}
@@ -77,7 +78,8 @@ if_none (Some x) p f = tt
 pub fixed_high : (h : Shape) (a n : ℕ) → IsFixedPlace h a n → 0x10_0000_0000 + 0x1000_0000 * 16 ≤ a
 fixed_high h a n place = let from = place.covers.0 in omega arith
 
-pub held_low : (held : Span → Bool) (a n : ℕ) → 0 < n → ((q : Span) → held q ≡ true → IsValueSpan q) → IsHeldPlace held a n → a < 0x10_0000_0000 + 0x1000_0000 * 16
+pub held_low : (held : Span → Bool) (a n : ℕ) → 0 < n → ((q : Span) → held q ≡ true → IsValueSpan q) → IsHeldPlace held a n → a <
+    0x10_0000_0000 + 0x1000_0000 * 16
 held_low held a n some low place = let to = (low place.span place.holds).to in let end = place.covers.1 in omega arith
 
 module _ (h : Shape) (held : Span → Bool) (a n : ℕ) where
@@ -93,7 +95,8 @@ module _ (h : Shape) (held : Span → Bool) (a n : ℕ) where
   fixed_read some low above (inl place) = absurd (let below = held_low held a n some low place in omega arith)
   fixed_read some low above (inr place) = place
 
-  pub fixed_write : 0 < n → ((q : Span) → held q ≡ true → IsValueSpan q) → 0x10_0000_0000 + 0x1000_0000 * 16 ≤ a → IsWritable h held a n → (p : IsFixedPlace h a n) × (p.array.frozen ≡ false)
+  pub fixed_write : 0 < n → ((q : Span) → held q ≡ true → IsValueSpan q) → 0x10_0000_0000 + 0x1000_0000 * 16 ≤ a → IsWritable h held a n →
+      (p : IsFixedPlace h a n) × (p.array.frozen ≡ false)
   fixed_write some low above (inl place) = absurd (let below = held_low held a n some low place in omega arith)
   fixed_write some low above (inr place) = place
 
@@ -105,7 +108,8 @@ module _ (p : Contents) (is : IsStore p) (a n : ℕ) (some : 0 < n) (place : IsF
   reached_there =
       let from = place.covers.0 in
       let to = place.covers.1 in
-      fixed_reached p.shape.cpus place.number place.copy place.index a place.array is.shape.cpus.1 (is.shape.arrays place.number place.array place.is).0 place.has_copy place.has_index (from, omega arith)
+      fixed_reached p.shape.cpus place.number place.copy place.index a place.array is.shape.cpus.1
+      (is.shape.arrays place.number place.array place.is).0 place.has_copy place.has_index (from, omega arith)
 
   pub array-is : array_at a ≡ place.number
   array-is = let area = reached_there.area in omega arith

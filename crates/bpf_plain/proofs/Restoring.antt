@@ -1,5 +1,6 @@
 -- What is read from the first of some bytes.
-use Rattle.std.proofs.Common.{◌≡◌, ℕ, ◌+◌, ◌≤◌, Option, Some, None, List, ◌++◌, length, length-append, length-drop, take, drop, take-append-drop, append_assoc, refl, sym, ap, subst, ◌∙◌, arith}
+use Rattle.std.proofs.Common.{◌≡◌, ℕ, ◌+◌, ◌≤◌, Option, Some, None, List, ◌++◌, length, length-append, length-drop, take, drop}
+use Rattle.std.proofs.Common.{take-append-drop, append_assoc, refl, sym, ap, subst, ◌∙◌, arith}
 use Rattle.std.specs.Prelude.{IfSome, IfNone}
 use Rattle.std.proofs.lemmas.List.{length-take-le}
 use Rattle.bpf_base.proofs.Lists.{same_fronts}
@@ -49,7 +50,8 @@ module _ (old : Contents) (is : IsStore old) (arrays : List (List ℕ)) (bytes :
         ∙ append_assoc (saved_arrays old.shape p.arrays) (saving.saved p.maps) (drop k bytes))
 
     pub same_arrays : arrays ≡ p.arrays
-    same_arrays = read p.arrays (saving.saved p.maps ++ drop k bytes) (subst (λ (h : Shape). AreArrays h p.arrays) (sym first.shape.1) first.saved.0.arrays) whole
+    same_arrays = read p.arrays (saving.saved p.maps ++ drop k bytes)
+        (subst (λ (h : Shape). AreArrays h p.arrays) (sym first.shape.1) first.saved.0.arrays) whole
 
     pub begins_so : bytes ≡ saved_arrays old.shape arrays ++ (saving.saved p.maps ++ drop k bytes)
     begins_so = whole ∙ ap (λ (others : List (List ℕ)). saved_arrays old.shape others ++ (saving.saved p.maps ++ drop k bytes)) (sym same_arrays)
@@ -57,15 +59,22 @@ module _ (old : Contents) (is : IsStore old) (arrays : List (List ℕ)) (bytes :
   pub no_arrays : ((more : List ℕ) → bytes ≡ saved_arrays old.shape arrays ++ more → ⊥) → SavesNone old bytes
   no_arrays none k p first = none (saving.saved p.maps ++ drop k bytes) (begins_so k p first)
 
-  module _ (count : ℕ) (inside : count ≤ length bytes) (front : take count bytes ≡ saved_arrays old.shape arrays) (rest : List ℕ) (rest_is : rest ≡ drop count bytes) where
+  module _ (count : ℕ) (inside : count ≤ length bytes) (front : take count bytes ≡ saved_arrays old.shape arrays) (rest : List ℕ)
+      (rest_is : rest ≡ drop count bytes) where
     first_maps : (k : ℕ) (p : Contents) → IsSavedFirst old bytes k p → maps_read.IsSavedFirst old.maps rest (length (saving.saved p.maps)) p.maps
     first_maps k p first =
         let split : saved_arrays old.shape arrays ++ rest ≡ saved_arrays old.shape arrays ++ (saving.saved p.maps ++ drop k bytes) =
-        ap (λ (bs : List ℕ). bs ++ rest) (sym front) ∙ (ap (λ (bs : List ℕ). take count bytes ++ bs) rest_is ∙ (take-append-drop count bytes ∙ begins_so k p first)) in
-        let here : rest ≡ saving.saved p.maps ++ drop k bytes = (same_fronts (saved_arrays old.shape arrays) (saved_arrays old.shape arrays) rest (saving.saved p.maps ++ drop k bytes) refl split).1 in
+        ap (λ (bs : List ℕ). bs ++ rest) (sym front) ∙ (ap (λ (bs : List ℕ). take count bytes ++ bs) rest_is ∙
+        (take-append-drop count bytes ∙ begins_so k p first)) in
+        let here : rest ≡ saving.saved p.maps ++ drop k bytes = (same_fronts (saved_arrays old.shape arrays) (saved_arrays old.shape arrays)
+        rest (saving.saved p.maps ++ drop k bytes) refl split).1 in
         record {
           shape = (first.shape.0, is.maps ∙ (ap (λ (h : Shape). h.maps) first.shape.1 ∙ sym first.saved.0.maps));
-          saved = (first.saved.2.0, ap (take (length (saving.saved p.maps))) here ∙ take_seam (saving.saved p.maps) (drop k bytes) (length (saving.saved p.maps)) refl);
+          saved = (
+            first.saved.2.0,
+            ap (take (length (saving.saved p.maps))) here ∙ take_seam (saving.saved p.maps) (drop k bytes)
+                (length (saving.saved p.maps)) refl,
+          );
         }
 
     pub no_maps : maps_read.SavesNone old.maps rest → SavesNone old bytes
@@ -97,7 +106,8 @@ module _ (old : Contents) (is : IsStore old) (arrays : List (List ℕ)) (bytes :
           let two : bytes ≡ (saved_arrays old.shape arrays ++ saving.saved maps) ++ drop n rest =
           sym one
           ∙ (ap (λ (bs : List ℕ). bs ++ (take n rest ++ drop n rest)) front
-          ∙ (ap (λ (bs : List ℕ). saved_arrays old.shape arrays ++ (bs ++ drop n rest)) r.saved.saved.1 ∙ sym (append_assoc (saved_arrays old.shape arrays) (saving.saved maps) (drop n rest)))) in
+          ∙ (ap (λ (bs : List ℕ). saved_arrays old.shape arrays ++ (bs ++ drop n rest)) r.saved.saved.1 ∙ sym
+          (append_assoc (saved_arrays old.shape arrays) (saving.saved maps) (drop n rest)))) in
           let size : count + n ≡ length (saved_arrays old.shape arrays ++ saving.saved maps) =
           (let a = length-take-le count bytes inside in
           let b = length-take-le n rest r.inside in

@@ -1,5 +1,7 @@
 -- Contents of one shape that are saved as the same bytes look alike.
-use Rattle.std.proofs.Common.{◌≡◌, ℕ, zero, suc, ◌*◌, ◌%◌, ◌<◌, ◌≤◌, Bool, true, false, if◌then◌else◌, List, [], ◌++◌, length, append-nil, append_assoc, Option, Some, Result, Ok, Err, OnOk, slice_get, slice_index, slice_index_or, refl, sym, ap, subst, ◌∙◌, arith}
+use Rattle.std.proofs.Common.{◌≡◌, ℕ, zero, suc, ◌*◌, ◌%◌, ◌<◌, ◌≤◌, Bool, true, false, if◌then◌else◌, List, [], ◌++◌, length, append-nil}
+use Rattle.std.proofs.Common.{append_assoc, Option, Some, Result, Ok, Err, OnOk, slice_get, slice_index, slice_index_or, refl, sym, ap}
+use Rattle.std.proofs.Common.{subst, ◌∙◌, arith}
 use Rattle.std.proofs.lemmas.List.{ext_get_or}
 use Rattle.std.proofs.lemmas.Option.{slice_get-get_or}
 use Rattle.bpf_base.specs.Bytes.{low_bytes}
@@ -24,13 +26,15 @@ front f (suc n) = ap (λ (bs : List ℕ). bs ++ f (suc n)) (front f n) ∙ appen
 abbrev pub Tells : Type 0 → List ℕ → List ℕ → Type 0
 Tells P xs ys = (rest more : List ℕ) → xs ++ rest ≡ ys ++ more → P × (rest ≡ more)
 
-pub told_all : (P : ℕ → Type 0) (f g : ℕ → List ℕ) (n : ℕ) → ((i : ℕ) → i < n → Tells (P i) (f i) (g i)) → (rest more : List ℕ) → saving.all_below f n ++ rest ≡ saving.all_below g n ++ more
+pub told_all : (P : ℕ → Type 0) (f g : ℕ → List ℕ) (n : ℕ) → ((i : ℕ) → i < n → Tells (P i) (f i) (g i)) → (rest more : List ℕ) →
+    saving.all_below f n ++ rest ≡ saving.all_below g n ++ more
     → ((i : ℕ) → i < n → P i) × (rest ≡ more)
 told_all P f g zero ends rest more e = (λ i l. absurd (omega arith), e)
 told_all P f g (suc n) ends rest more e =
     let first : (h : ℕ → List ℕ) (bs : List ℕ) → saving.all_below h (suc n) ++ bs ≡ h 0 ++ (saving.all_below (λ i. h (suc i)) n ++ bs) =
     λ h bs. ap (λ (x : List ℕ). x ++ bs) (front h n) ∙ append_assoc (h 0) (saving.all_below (λ i. h (suc i)) n) bs in
-    let here = ends 0 (omega arith) (saving.all_below (λ i. f (suc i)) n ++ rest) (saving.all_below (λ i. g (suc i)) n ++ more) (sym (first f rest) ∙ (e ∙ first g more)) in
+    let here = ends 0 (omega arith) (saving.all_below (λ i. f (suc i)) n ++ rest) (saving.all_below (λ i. g (suc i)) n ++ more)
+    (sym (first f rest) ∙ (e ∙ first g more)) in
     let after = told_all (λ i. P (suc i)) (λ i. f (suc i)) (λ i. g (suc i)) n (λ i l. ends (suc i) (omega arith)) rest more here.1 in
     (each here.0 after.0, after.1)
   where
@@ -47,14 +51,19 @@ few_bytes cpus g few sized = subst (λ (n : ℕ). n ≤ 0x1000_0000) (turned (co
     turned x y = grind arith
 
 module _ (h : Shape) (is : IsShape h) (xs ys : List (List ℕ)) (one : AreArrays h xs) (two : AreArrays h ys) where
-  array_told : (a : ℕ) (g : ArrayShape) → IsArray h.arrays a g → Tells (slice_index_or xs a [] ≡ slice_index_or ys a []) (array_block h xs a) (array_block h ys a)
+  array_told : (a : ℕ) (g : ArrayShape) → IsArray h.arrays a g → Tells (slice_index_or xs a [] ≡ slice_index_or ys a [])
+      (array_block h xs a) (array_block h ys a)
   array_told a g there rest more e =
-      go g.frozen refl (ap (λ (o : Option ArrayShape). saved_array h a o (slice_index_or xs a []) ++ rest) (sym there) ∙ (e ∙ ap (λ (o : Option ArrayShape). saved_array h a o (slice_index_or ys a []) ++ more) there))
+      go g.frozen refl (ap (λ (o : Option ArrayShape). saved_array h a o (slice_index_or xs a []) ++ rest) (sym there) ∙
+      (e ∙ ap (λ (o : Option ArrayShape). saved_array h a o (slice_index_or ys a []) ++ more) there))
     where
-      go : (b : Bool) → g.frozen ≡ b → saved_array h a (Some g) (slice_index_or xs a []) ++ rest ≡ saved_array h a (Some g) (slice_index_or ys a []) ++ more → (slice_index_or xs a [] ≡ slice_index_or ys a []) × (rest ≡ more)
+      go : (b : Bool) → g.frozen ≡ b → saved_array h a (Some g) (slice_index_or xs a []) ++ rest ≡ saved_array h a (Some g)
+          (slice_index_or ys a []) ++ more → (slice_index_or xs a [] ≡ slice_index_or ys a []) × (rest ≡ more)
       go true frozen same = (
-        filled_one (copy_stride g) (contents_of h a) (copies h.cpus g) (slice_index_or xs a []) (slice_index_or ys a []) (((one.each a g there).frozen frozen)) (((two.each a g there).frozen frozen)),
-        subst (λ (b : Bool). (if b then [] else changes (first_at h a g) (slice_index_or xs a [])) ++ rest ≡ (if b then [] else changes (first_at h a g) (slice_index_or ys a [])) ++ more) frozen same,
+        filled_one (copy_stride g) (contents_of h a) (copies h.cpus g) (slice_index_or xs a []) (slice_index_or ys a [])
+            (((one.each a g there).frozen frozen)) (((two.each a g there).frozen frozen)),
+        subst (λ (b : Bool). (if b then [] else changes (first_at h a g) (slice_index_or xs a [])) ++ rest ≡
+            (if b then [] else changes (first_at h a g) (slice_index_or ys a [])) ++ more) frozen same,
       )
       go false thawed same =
           let x = slice_index_or xs a [] in
@@ -77,8 +86,10 @@ module _ (h : Shape) (is : IsShape h) (xs ys : List (List ℕ)) (one : AreArrays
       (ext_get_or [] xs ys (one.count ∙ sym two.count) (λ a l. r.0 a (omega arith)), r.1)
 
 -- an array that isn't only read is saved as its changes
-pub thawed_saved : {E : Type 0} (h : Shape) (a : ℕ) (g : ArrayShape) → IsArray h.arrays a g → g.frozen ≡ false → (first : List ℕ) → first ≡ contents_of h a → (stride : ℕ) → stride ≡ copy_stride g
-    → (bytes old new : List ℕ) (r : Result (Unit {0}) E) → OnOk r (new ≡ old ++ changes (λ x. slice_index first (x % stride)) bytes) → OnOk r (new ≡ old ++ saved_array h a (slice_get h.arrays a) bytes)
+pub thawed_saved : {E : Type 0} (h : Shape) (a : ℕ) (g : ArrayShape) → IsArray h.arrays a g → g.frozen ≡ false → (first : List ℕ) → first ≡
+    contents_of h a → (stride : ℕ) → stride ≡ copy_stride g
+    → (bytes old new : List ℕ) (r : Result (Unit {0}) E) → OnOk r (new ≡ old ++ changes (λ x. slice_index first (x % stride)) bytes) → OnOk
+    r (new ≡ old ++ saved_array h a (slice_get h.arrays a) bytes)
 thawed_saved h a g there thawed first first_is stride stride_is bytes old new (Err e) pushed = tt
 thawed_saved h a g there thawed first first_is stride stride_is bytes old new (Ok u) pushed =
     pushed
@@ -95,6 +106,7 @@ saved_alike_look_alike p q bytes shape a b =
     let told = arrays_told p.shape a.0.shape p.arrays q.arrays a.0.arrays arrays_too (saving.saved p.maps) (saving.saved q.maps) whole in
     record {
       shape = shape.1;
-      maps = maps_saved.saved_alike_look_alike p.maps q.maps (saving.saved p.maps) (shape.0, b.0.maps ∙ (ap (λ (h : Shape). h.maps) shape.1 ∙ sym a.0.maps)) a.2 (b.2.0, told.1 ∙ refl);
+      maps = maps_saved.saved_alike_look_alike p.maps q.maps (saving.saved p.maps)
+          (shape.0, b.0.maps ∙ (ap (λ (h : Shape). h.maps) shape.1 ∙ sym a.0.maps)) a.2 (b.2.0, told.1 ∙ refl);
       arrays = sym told.0;
     }

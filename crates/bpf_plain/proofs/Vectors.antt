@@ -28,15 +28,19 @@ push_bytes [] v = refl
 push_bytes (w ∷ vs) v = ap (λ (l : List (List ℕ)). w.items ∷ l) (push_bytes vs v)
 
 -- a store of which one array's bytes are written
-pub stored_is : (shape : Shape) (maps : hash.Contents) (items : List (Vec ℕ Global)) (p : Contents) → ◌≡◌ {A = Contents} (record { shape = shape; maps = maps; arrays = bytes_of_all items }) p
-    → (a k o : ℕ) → k ≡ array_at a → o ≡ offset_at a → k < length items → (v w : Vec ℕ Global) → v ≡ get_or items k v → (now : List ℕ) → now ≡ v.items → (low : List ℕ) → w.items ≡ with_part now o low
-    → ◌≡◌ {A = Contents} (record { shape = shape; maps = maps; arrays = bytes_of_all (set items k w) }) (with_array p (array_at a) (with_part (bytes_in p (array_at a)) (offset_at a) low))
+pub stored_is : (shape : Shape) (maps : hash.Contents) (items : List (Vec ℕ Global)) (p : Contents) → ◌≡◌ {A = Contents}
+    (record { shape = shape; maps = maps; arrays = bytes_of_all items }) p
+    → (a k o : ℕ) → k ≡ array_at a → o ≡ offset_at a → k < length items → (v w : Vec ℕ Global) → v ≡ get_or items k v → (now : List ℕ) → now
+    ≡ v.items → (low : List ℕ) → w.items ≡ with_part now o low
+    → ◌≡◌ {A = Contents} (record { shape = shape; maps = maps; arrays = bytes_of_all (set items k w) })
+    (with_array p (array_at a) (with_part (bytes_in p (array_at a)) (offset_at a) low))
 stored_is shape maps items p view a k o ek eo l v w ev now enow low ew =
     let here : now ≡ get_or (bytes_of_all items) k [] = enow ∙ (ap (λ (x : Vec ℕ Global). x.items) ev ∙ sym (bytes_at items k v l)) in
     let one : bytes_of_all (set items k w) ≡ set (bytes_of_all items) k (with_part (get_or (bytes_of_all items) k []) o low) =
     set_bytes items k w ∙ ap (set (bytes_of_all items) k) (ew ∙ ap (λ (bs : List ℕ). with_part bs o low) here)
     in
-    let two : set (bytes_of_all items) k (with_part (get_or (bytes_of_all items) k []) o low) ≡ set (bytes_of_all items) (array_at a) (with_part (get_or (bytes_of_all items) (array_at a) []) (offset_at a) low) =
+    let two : set (bytes_of_all items) k (with_part (get_or (bytes_of_all items) k []) o low) ≡ set (bytes_of_all items) (array_at a)
+    (with_part (get_or (bytes_of_all items) (array_at a) []) (offset_at a) low) =
     ap (λ (x : ℕ). set (bytes_of_all items) x (with_part (get_or (bytes_of_all items) x []) o low)) ek
     ∙ ap (λ (y : ℕ). set (bytes_of_all items) (array_at a) (with_part (get_or (bytes_of_all items) (array_at a) []) y low)) eo
     in
@@ -45,7 +49,8 @@ stored_is shape maps items p view a k o ek eo l v w ev now enow low ew =
 
 -- one vector put in the place of another
 pub bytes_put : (vs : List (Vec ℕ Global)) (i : ℕ) (v : Vec ℕ Global) → i < length vs → get_or (bytes_of_all (set vs i v)) i [] ≡ v.items
-bytes_put vs i v l = let all = count_all vs in ap (λ (bs : List (List ℕ)). get_or bs i []) (set_bytes vs i v) ∙ get_or-set_same (bytes_of_all vs) i v.items [] (omega arith)
+bytes_put vs i v l = let all = count_all vs in ap (λ (bs : List (List ℕ)). get_or bs i []) (set_bytes vs i v) ∙ get_or-set_same
+    (bytes_of_all vs) i v.items [] (omega arith)
 
 pub bytes_kept : (vs : List (Vec ℕ Global)) (i j : ℕ) (v : Vec ℕ Global) → j ≢ i → get_or (bytes_of_all (set vs i v)) j [] ≡ get_or (bytes_of_all vs) j []
 bytes_kept vs i j v ne = ap (λ (bs : List (List ℕ)). get_or bs j []) (set_bytes vs i v) ∙ get_or-set_other (bytes_of_all vs) i j v.items [] ne

@@ -21,14 +21,16 @@ pub none_below : (events : List Event) → AccessesBelow events 0 []
 none_below events = record { each = λ a (i, at). cc; all = λ a event k less at is. absurd (omega arith) }
 
 -- the note that is read
-pub event_at : (notes : List Note) (n : ℕ) (note : Note) → n < length notes → note ≡ get_or notes n note → slice_get (map event_of notes) n ≡ Some (event_of note)
+pub event_at : (notes : List Note) (n : ℕ) (note : Note) → n < length notes → note ≡ get_or notes n note → slice_get (map event_of notes) n
+    ≡ Some (event_of note)
 event_at notes n note inside read =
     slice_get-map event_of notes n ∙ ap (λ (o : Option Note). option_map event_of o) (slice_get_read notes (length notes) n note refl inside read)
 
 same_event : (o : Option Event) (event other : Event) → o ≡ Some event → o ≡ Some other → event ≡ other
 same_event o event other a b = let both : Some event ≡ Some other = sym a ∙ b in cc
 
-pub none_more : (events : List Event) (n : ℕ) (accesses : List Access) (event : Event) → AccessesBelow events n accesses → slice_get events n ≡ Some event → access_of event ≡ None → AccessesBelow events (n + 1) accesses
+pub none_more : (events : List Event) (n : ℕ) (accesses : List Access) (event : Event) → AccessesBelow events n accesses → slice_get events
+    n ≡ Some event → access_of event ≡ None → AccessesBelow events (n + 1) accesses
 none_more events n accesses event far here none = record {
   each = far.each;
   all = λ a other k less at is. elim (cases_lt k n) [
@@ -41,7 +43,8 @@ none_more events n accesses event far here none = record {
   ];
 }
 
-pub one_more : (events : List Event) (n : ℕ) (old new : List Access) (event : Event) (access : Access) → AccessesBelow events n old → slice_get events n ≡ Some event → access_of event ≡ Some access → new ≡ old ++ access ∷ [] → AccessesBelow events (n + 1) new
+pub one_more : (events : List Event) (n : ℕ) (old new : List Access) (event : Event) (access : Access) → AccessesBelow events n old →
+    slice_get events n ≡ Some event → access_of event ≡ Some access → new ≡ old ++ access ∷ [] → AccessesBelow events (n + 1) new
 one_more events n old new event access far here some is = subst (AccessesBelow events (n + 1)) (sym is) (record {
   each = λ a there. elim (in_cases old access a there) [
     | inl before ↦ far.each a before
@@ -58,15 +61,18 @@ one_more events n old new event access far here some is = subst (AccessesBelow e
   ];
 })
 
-pub next_below : (events : List Event) (n : ℕ) (old new : List Access) (event : Event) → AccessesBelow events n old → slice_get events n ≡ Some event → Adds old (access_of event) new → AccessesBelow events (n + 1) new
+pub next_below : (events : List Event) (n : ℕ) (old new : List Access) (event : Event) → AccessesBelow events n old → slice_get events n ≡
+    Some event → Adds old (access_of event) new → AccessesBelow events (n + 1) new
 next_below events n old new event far here adds = go (access_of event) refl adds
   where
     go : (o : Option Access) → access_of event ≡ o → Adds old o new → AccessesBelow events (n + 1) new
     go None none same = subst (AccessesBelow events (n + 1)) (sym same) (none_more events n old event far here none)
     go (Some a) some is = one_more events n old new event a far here some is
 
-pub all_below : (notes : List Note) (n : ℕ) (accesses : List Access) → length notes ≤ n → AccessesBelow (map event_of notes) n accesses → AreAccesses (map event_of notes) accesses
+pub all_below : (notes : List Note) (n : ℕ) (accesses : List Access) → length notes ≤ n → AccessesBelow (map event_of notes) n accesses →
+    AreAccesses (map event_of notes) accesses
 all_below notes n accesses past far = record {
   each = far.each;
-  all = λ a (event, (k, at), is). (let inside = slice_get_within (map event_of notes) k event at in let count = length-map notes event_of in far.all a event k (omega arith) at is);
+  all = λ a (event, (k, at), is).
+      (let inside = slice_get_within (map event_of notes) k event at in let count = length-map notes event_of in far.all a event k (omega arith) at is);
 }

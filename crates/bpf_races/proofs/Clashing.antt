@@ -37,7 +37,8 @@ module _ (sync : List Part) where
   pub none_yet : (P : ℕ → Type 0) (old : List ℕ) → ((b : ℕ) → P b → ⊥) → Collects P sync old old
   none_yet P old none = record { keeps = λ b there. there; each = λ b there. inl there; all = λ b is. absurd (none b is) }
 
-  pub joined : (P Q R : ℕ → Type 0) (old mid new : List ℕ) → ((b : ℕ) → R b → P b ⊎ Q b) → ((b : ℕ) → P b → R b) → ((b : ℕ) → Q b → R b) → Collects P sync old mid → Collects Q sync mid new → Collects R sync old new
+  pub joined : (P Q R : ℕ → Type 0) (old mid new : List ℕ) → ((b : ℕ) → R b → P b ⊎ Q b) → ((b : ℕ) → P b → R b) → ((b : ℕ) → Q b → R b) →
+      Collects P sync old mid → Collects Q sync mid new → Collects R sync old new
   joined P Q R old mid new split left right first second = record {
     keeps = λ b there. second.keeps b (first.keeps b there);
     each = λ b there. elim (second.each b there) [
@@ -61,17 +62,21 @@ module _ (sync : List Part) where
   pub range_begins : (low high : ℕ) (old : List ℕ) → Collects (InRange low high low) sync old old
   range_begins low high old = none_yet (InRange low high low) old (λ b is. absurd (let from = is.0 in let past = is.1 in omega arith))
 
-  pub range_goes_on : (low high n : ℕ) (old mid new : List ℕ) → low ≤ n → n < high → Collects (InRange low high n) sync old mid → Collects (λ b. b ≡ n) sync mid new → Collects (InRange low high (n + 1)) sync old new
+  pub range_goes_on : (low high n : ℕ) (old mid new : List ℕ) → low ≤ n → n < high → Collects (InRange low high n) sync old mid → Collects
+      (λ b. b ≡ n) sync mid new → Collects (InRange low high (n + 1)) sync old new
   range_goes_on low high n old mid new from below far one = joined (InRange low high n) (λ b. b ≡ n) (InRange low high (n + 1)) old mid new
       (λ b is. elim (cases_lt b n) [ inl less ↦ inl (is.0, less, is.2) | inr past ↦ inr (let next = is.1 in omega arith) ])
-      (λ b is. (is.0, (let less = is.1 in omega arith), is.2)) (λ b is. ((let same : b ≡ n = is in omega arith), (let same : b ≡ n = is in omega arith), (let same : b ≡ n = is in omega arith))) far one
+      (λ b is. (is.0, (let less = is.1 in omega arith), is.2)) (λ b is.
+      ((let same : b ≡ n = is in omega arith), (let same : b ≡ n = is in omega arith), (let same : b ≡ n = is in omega arith))) far one
 
   -- ---- those that some accesses have, one by one
   pub access_begins : (Q : Access → ℕ → Type 0) (xs : List Access) (old : List ℕ) → Collects (Below Q xs 0) sync old old
   access_begins Q xs old = none_yet (Below Q xs 0) old (λ b is. absurd (let less = is.2 in omega arith))
 
-  pub access_goes_on : (Q : Access → ℕ → Type 0) (xs : List Access) (n : ℕ) (x : Access) (old mid new : List ℕ) → slice_get xs n ≡ Some x → Collects (Below Q xs n) sync old mid → Collects (Q x) sync mid new → Collects (Below Q xs (n + 1)) sync old new
-  access_goes_on Q xs n x old mid new at far one = joined (Below Q xs n) (Q x) (Below Q xs (n + 1)) old mid new split (λ b (i, y, less, there, is). (i, y, (omega arith), there, is)) (λ b is. (n, x, (omega arith), at, is)) far one
+  pub access_goes_on : (Q : Access → ℕ → Type 0) (xs : List Access) (n : ℕ) (x : Access) (old mid new : List ℕ) → slice_get xs n ≡ Some x →
+      Collects (Below Q xs n) sync old mid → Collects (Q x) sync mid new → Collects (Below Q xs (n + 1)) sync old new
+  access_goes_on Q xs n x old mid new at far one = joined (Below Q xs n) (Q x) (Below Q xs (n + 1)) old mid new split
+      (λ b (i, y, less, there, is). (i, y, (omega arith), there, is)) (λ b is. (n, x, (omega arith), at, is)) far one
     where
       split : (b : ℕ) → Below Q xs (n + 1) b → Below Q xs n b ⊎ Q x b
       split b (i, y, less, there, is) = elim (cases_lt i n) [
@@ -83,9 +88,11 @@ module _ (sync : List Part) where
             inr (subst (λ (z : Access). Q z b) same is)
       ]
 
-  pub access_ends : (Q : Access → ℕ → Type 0) (xs : List Access) (n : ℕ) (old new : List ℕ) → length xs ≤ n → Collects (Below Q xs n) sync old new → Collects (λ b. (x : Access) × IsAmong xs x × Q x b) sync old new
+  pub access_ends : (Q : Access → ℕ → Type 0) (xs : List Access) (n : ℕ) (old new : List ℕ) → length xs ≤ n → Collects (Below Q xs n) sync
+      old new → Collects (λ b. (x : Access) × IsAmong xs x × Q x b) sync old new
   access_ends Q xs n old new past far = as_well (Below Q xs n) (λ b. (x : Access) × IsAmong xs x × Q x b) old new
-      (λ b (i, y, less, there, is). (y, (i, there), is)) (λ b (y, (i, there), is). (let inside = slice_get_within xs i y there in (i, y, (omega arith), there, is))) far
+      (λ b (i, y, less, there, is). (y, (i, there), is)) (λ b (y, (i, there), is).
+      (let inside = slice_get_within xs i y there in (i, y, (omega arith), there, is))) far
 
 -- the access that is read
 abbrev pub no_access : Access

@@ -1,5 +1,6 @@
 -- Lists, and what is appended to them.
-use Rattle.std.proofs.Common.{◌≡◌, ◌∙◌, ℕ, Bool, true, false, zero, suc, ◌<◌, ◌⊎◌, List, [], ◌∷◌, ◌++◌, Option, Some, None, length, inl, inr, refl, sym, ap, arith}
+use Rattle.std.proofs.Common.{◌≡◌, ◌∙◌, ℕ, Bool, true, false, zero, suc, ◌<◌, ◌⊎◌, List, [], ◌∷◌, ◌++◌, Option, Some, None, length, inl}
+use Rattle.std.proofs.Common.{inr, refl, sym, ap, arith}
 use Rattle.std.specs.Prelude.{is_some, not, slice_get}
 use Rattle.bpf_races.specs.Touch.{IsAmong}
 

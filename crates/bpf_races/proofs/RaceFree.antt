@@ -73,10 +73,12 @@ none_led_to : (patient : Bool) (w : World) → HaveAllRaces patient w [] [] → 
 none_led_to false w have schedule z runs counts one other b race = none_listed z (have schedule z runs) one other b race
 none_led_to true w have schedule z runs counts one other b race = none_listed z (have schedule z runs counts) one other b race
 
-pub is_race_free_so : (patient : Bool) (w : World) (sync : List Part) (races : List RaceFound) (all : Bool) → (all ≡ true → HaveAllRaces patient w sync races) → is_race_free sync races all ≡ true → IsRaceFree patient w
+pub is_race_free_so : (patient : Bool) (w : World) (sync : List Part) (races : List RaceFound) (all : Bool) →
+    (all ≡ true → HaveAllRaces patient w sync races) → is_race_free sync races all ≡ true → IsRaceFree patient w
 is_race_free_so patient w sync races all complete h =
     let p = free_parts sync races all h in
-    none_led_to patient w (subst (λ (xs : List Part). HaveAllRaces patient w xs []) p.1 (subst (λ (xs : List RaceFound). HaveAllRaces patient w sync xs) p.2 (complete p.0)))
+    none_led_to patient w (subst (λ (xs : List Part). HaveAllRaces patient w xs []) p.1
+    (subst (λ (xs : List RaceFound). HaveAllRaces patient w sync xs) p.2 (complete p.0)))
 
 pub answers_hold_on_x86 : AnswersHoldOnX86
 answers_hold_on_x86 false w names maps answers have same text stopped (moves, z, runs, ended, counts, tells) =

@@ -1,5 +1,6 @@
 -- Bytes that are named by texts.
-use Rattle.std.proofs.Common.{◌≡◌, ◌∙◌, ℕ, ◌+◌, ◌<◌, ◌≤◌, String, List, [], ◌∷◌, ◌++◌, Option, Some, None, length, get_or, map, false, inl, inr, refl, sym, ap, subst, arith}
+use Rattle.std.proofs.Common.{◌≡◌, ◌∙◌, ℕ, ◌+◌, ◌<◌, ◌≤◌, String, List, [], ◌∷◌, ◌++◌, Option, Some, None, length, get_or, map, false, inl}
+use Rattle.std.proofs.Common.{inr, refl, sym, ap, subst, arith}
 use Rattle.std.specs.declared.alloc.Global.{Global}
 use Rattle.std.specs.Prelude.{IfNone, IfSome, slice_get, option_map, string_bytes}
 use Rattle.std.specs.List.{before_first}
@@ -15,9 +16,11 @@ use Rattle.bpf_races.specs.Private.Parts.{IsPart}
 use Rattle.bpf_races.proofs.Lists.{in_front, in_last, in_cases}
 
 -- the text that is read
-pub name_there : (names : List (String Global)) (own : String Global) (m : ℕ) → m < length names → own ≡ get_or names m own → slice_get (map string_bytes names) m ≡ Some (string_bytes own)
+pub name_there : (names : List (String Global)) (own : String Global) (m : ℕ) → m < length names → own ≡ get_or names m own → slice_get
+    (map string_bytes names) m ≡ Some (string_bytes own)
 name_there names own m inside is =
-    slice_get-map string_bytes names m ∙ ap (λ (o : Option (String Global)). option_map string_bytes o) (slice_get_read names (length names) m own refl inside is)
+    slice_get-map string_bytes names m ∙ ap (λ (o : Option (String Global)). option_map string_bytes o)
+    (slice_get_read names (length names) m own refl inside is)
 
 module _ (names : List (List ℕ)) (maps : List MapShape) (text : List ℕ) where
   -- no map has the number
@@ -25,7 +28,8 @@ module _ (names : List (List ℕ)) (maps : List MapShape) (text : List ℕ) wher
   none_beyond n past part at says = let inside = slice_get_within maps part.map says.shape says.map in absurd (omega arith)
 
   -- the map of the number has another name
-  pub none_named : (n : ℕ) (name : List ℕ) → slice_get names n ≡ Some name → (name ≡ before_first (is_mark 43) text → ⊥) → (part : Part) → part.map ≡ n → SaysOfMap names maps text part → ⊥
+  pub none_named : (n : ℕ) (name : List ℕ) → slice_get names n ≡ Some name → (name ≡ before_first (is_mark 43) text → ⊥) → (part : Part) →
+      part.map ≡ n → SaysOfMap names maps text part → ⊥
   none_named n name here other part at says =
       let two : Some name ≡ Some (before_first (is_mark 43) text) = sym here ∙ (ap (λ (k : ℕ). slice_get names k) (sym at) ∙ says.named) in
       other cc
@@ -34,7 +38,8 @@ module _ (names : List (List ℕ)) (maps : List MapShape) (text : List ℕ) wher
   same_shape o one other a b = let both : Some one ≡ Some other = sym a ∙ b in cc
 
   -- it has the name, and not the bytes
-  pub none_ranged : (n : ℕ) (sizes : MapShape) → slice_get maps n ≡ Some sizes → range_in text sizes.value ≡ None → (part : Part) → part.map ≡ n → SaysOfMap names maps text part → ⊥
+  pub none_ranged : (n : ℕ) (sizes : MapShape) → slice_get maps n ≡ Some sizes → range_in text sizes.value ≡ None → (part : Part) → part.map
+      ≡ n → SaysOfMap names maps text part → ⊥
   none_ranged n sizes here none part at says =
       let same : sizes ≡ says.shape = same_shape (slice_get maps n) sizes says.shape here (ap (λ (k : ℕ). slice_get maps k) (sym at) ∙ says.map) in
       let none_there : Option (ℕ × ℕ) = None in
@@ -42,7 +47,8 @@ module _ (names : List (List ℕ)) (maps : List MapShape) (text : List ℕ) wher
       cc
 
   -- it has both
-  pub one_said : (n : ℕ) (sizes : MapShape) → slice_get maps n ≡ Some sizes → slice_get names n ≡ Some (before_first (is_mark 43) text) → (part : Part) → IsPart sizes n text part → SaysOfMap names maps text part
+  pub one_said : (n : ℕ) (sizes : MapShape) → slice_get maps n ≡ Some sizes → slice_get names n ≡ Some (before_first (is_mark 43) text) →
+      (part : Part) → IsPart sizes n text part → SaysOfMap names maps text part
   one_said n sizes here named part is = record {
     shape = sizes;
     map = ap (λ (k : ℕ). slice_get maps k) is.map ∙ here;
@@ -51,11 +57,13 @@ module _ (names : List (List ℕ)) (maps : List MapShape) (text : List ℕ) wher
     range = is.range;
   }
 
-  pub all_said : (n : ℕ) (sizes : MapShape) → slice_get maps n ≡ Some sizes → slice_get names n ≡ Some (before_first (is_mark 43) text) → (o : Option Part) → IfSome o (IsPart sizes n text) → IfSome o (SaysOfMap names maps text)
+  pub all_said : (n : ℕ) (sizes : MapShape) → slice_get maps n ≡ Some sizes → slice_get names n ≡ Some (before_first (is_mark 43) text) →
+      (o : Option Part) → IfSome o (IsPart sizes n text) → IfSome o (SaysOfMap names maps text)
   all_said n sizes here named None is = tt
   all_said n sizes here named (Some part) is = one_said n sizes here named part is
 
-  pub none_left : (n : ℕ) (sizes : MapShape) → slice_get maps n ≡ Some sizes → (o : Option Part) → IfNone o (range_in text sizes.value ≡ None) → IfNone o ((part : Part) → part.map ≡ n → SaysOfMap names maps text part → ⊥)
+  pub none_left : (n : ℕ) (sizes : MapShape) → slice_get maps n ≡ Some sizes → (o : Option Part) → IfNone o
+      (range_in text sizes.value ≡ None) → IfNone o ((part : Part) → part.map ≡ n → SaysOfMap names maps text part → ⊥)
   none_left n sizes here None none = none_ranged n sizes here none
   none_left n sizes here (Some part) none = tt
 
@@ -80,15 +88,18 @@ pub sizes_there : (maps own : List MapShape) (n : ℕ) → own ≡ maps → n < 
 sizes_there maps own n same inside = ap (λ (ms : List MapShape). slice_get ms n) (sym same) ∙ slice_get-get_or own n no_sizes inside
 
 -- the text names the bytes of a variable, or else of a map
-pub said_variable : (names : Names) (maps : List MapShape) (text : List ℕ) (v : Variable) (part : Part) → Some v ≡ variable_named text names.variables → part ≡ variable_part v → Says names maps text part
+pub said_variable : (names : Names) (maps : List MapShape) (text : List ℕ) (v : Variable) (part : Part) → Some v ≡ variable_named text
+    names.variables → part ≡ variable_part v → Says names maps text part
 said_variable names maps text v part found is =
     inl (ap (λ (o : Option Variable). option_map variable_part o) (sym found) ∙ ap (λ (p : Part). Some p) (sym is))
 
-pub said_by_map : (names : Names) (maps : List MapShape) (text : List ℕ) (o : Option Part) → IfSome o (SaysOfMap names.maps maps text) → IfSome o (Says names maps text)
+pub said_by_map : (names : Names) (maps : List MapShape) (text : List ℕ) (o : Option Part) → IfSome o (SaysOfMap names.maps maps text) →
+    IfSome o (Says names maps text)
 said_by_map names maps text None is = tt
 said_by_map names maps text (Some part) is = inr is
 
-pub none_by_map : (names : Names) (maps : List MapShape) (text : List ℕ) (o : Option Part) → option_map variable_part (variable_named text names.variables) ≡ None
+pub none_by_map : (names : Names) (maps : List MapShape) (text : List ℕ) (o : Option Part) → option_map variable_part
+    (variable_named text names.variables) ≡ None
     → IfNone o ((part : Part) → SaysOfMap names.maps maps text part → ⊥) → IfNone o ((part : Part) → Says names maps text part → ⊥)
 none_by_map names maps text (Some part) lacks none = tt
 none_by_map names maps text None lacks none = λ part says. elim says [
@@ -108,7 +119,8 @@ module _ (names : Names) (maps : List MapShape) (sync : List (List ℕ)) where
   same_text : (o : Option (List ℕ)) (one other : List ℕ) → o ≡ Some one → o ≡ Some other → one ≡ other
   same_text o one other a b = let both : Some one ≡ Some other = sym a ∙ b in cc
 
-  pub one_more : (n : ℕ) (old new : List Part) (text : List ℕ) (part : Part) → PartsBelow names maps sync n old → slice_get sync n ≡ Some text → Says names maps text part → new ≡ old ++ part ∷ [] → PartsBelow names maps sync (n + 1) new
+  pub one_more : (n : ℕ) (old new : List Part) (text : List ℕ) (part : Part) → PartsBelow names maps sync n old → slice_get sync n ≡ Some
+      text → Says names maps text part → new ≡ old ++ part ∷ [] → PartsBelow names maps sync (n + 1) new
   one_more n old new text part far here says is = subst (PartsBelow names maps sync (n + 1)) (sym is) (record {
     said = λ one there. elim (in_cases old part one there) [
       | inl before ↦ far.said one before
@@ -123,7 +135,8 @@ module _ (names : Names) (maps : List MapShape) (sync : List (List ℕ)) where
     ];
   })
 
-pub all_below : (names : Names) (maps : List MapShape) (sync : List (String Global)) (n : ℕ) (parts : List Part) → length sync ≤ n → PartsBelow names maps (map string_bytes sync) n parts → ArePartsOf names maps (map string_bytes sync) parts
+pub all_below : (names : Names) (maps : List MapShape) (sync : List (String Global)) (n : ℕ) (parts : List Part) → length sync ≤ n →
+    PartsBelow names maps (map string_bytes sync) n parts → ArePartsOf names maps (map string_bytes sync) parts
 all_below names maps sync n parts past far = record {
   said = far.said;
   each = λ text (k, at).

@@ -10,7 +10,8 @@ use Rattle.bpf_races.specs.declared.access.Access.{Access}
 use Rattle.bpf_races.specs.Touch.{access_at, access_of, Hits, AreAtOdds, Clash}
 use Rattle.bpf_races.specs.Next.{NextStep, IsNext}
 
-pub touches_access : (event : Event) (b : ℕ) (writes atomic : Bool) → Touches event b writes atomic → (a : Access) × (access_of event ≡ Some a) × Hits a b × (writes ≡ a.writes) × (atomic ≡ a.atomic)
+pub touches_access : (event : Event) (b : ℕ) (writes atomic : Bool) → Touches event b writes atomic → (a : Access) ×
+    (access_of event ≡ Some a) × Hits a b × (writes ≡ a.writes) × (atomic ≡ a.atomic)
 touches_access (Load at size found) b writes atomic t = (access_at at size false false, refl, (t.0, t.1), t.2, t.3)
 touches_access (Store at size word) b writes atomic t = (access_at at size true false, refl, (t.0, t.1), t.2, t.3)
 touches_access (Atomic at size op operand expected found) b writes atomic t = (access_at at size true true, refl, (t.0, t.1), t.2, t.3)
@@ -26,9 +27,15 @@ touches_by event b a x same hits touches =
     subst (λ (y : Access). Touches event b y.writes y.atomic) same (touches (subst (λ (y : Access). Hits y b) (sym same) hits))
 
 pub access_touches : (event : Event) (b : ℕ) (a : Access) → access_of event ≡ Some a → Hits a b → Touches event b a.writes a.atomic
-access_touches (Load at size found) b a is hits = let same : access_at at size false false ≡ a = cc in touches_by (Load at size found) b a (access_at at size false false) same hits (λ h. (h.0, h.1, refl, refl))
-access_touches (Store at size word) b a is hits = let same : access_at at size true false ≡ a = cc in touches_by (Store at size word) b a (access_at at size true false) same hits (λ h. (h.0, h.1, refl, refl))
-access_touches (Atomic at size op operand expected found) b a is hits = let same : access_at at size true true ≡ a = cc in touches_by (Atomic at size op operand expected found) b a (access_at at size true true) same hits (λ h. (h.0, h.1, refl, refl))
+access_touches (Load at size found) b a is hits =
+    let same : access_at at size false false ≡ a = cc in touches_by (Load at size found) b a (access_at at size false false) same hits
+    (λ h. (h.0, h.1, refl, refl))
+access_touches (Store at size word) b a is hits =
+    let same : access_at at size true false ≡ a = cc in touches_by (Store at size word) b a (access_at at size true false) same hits
+    (λ h. (h.0, h.1, refl, refl))
+access_touches (Atomic at size op operand expected found) b a is hits =
+    let same : access_at at size true true ≡ a = cc in touches_by (Atomic at size op operand expected found) b a
+    (access_at at size true true) same hits (λ h. (h.0, h.1, refl, refl))
 access_touches Begin b a is hits = cc
 access_touches End b a is hits = cc
 access_touches (Lookup m key answer) b a is hits = cc
@@ -57,7 +64,8 @@ module _ (w : World) (first second : NextStep) (b : ℕ) (next : IsNext w first)
         not_both = odds.not_both;
       }
 
-  pub race_clash : (one other : Stand) → one.cpu ≡ first.here.cpu → other.cpu ≡ second.here.cpu → IsRace w one other b → (one ≡ first.here) × (other ≡ second.here) × Clash first.accesses second.accesses b
+  pub race_clash : (one other : Stand) → one.cpu ≡ first.here.cpu → other.cpu ≡ second.here.cpu → IsRace w one other b → (one ≡ first.here)
+      × (other ≡ second.here) × Clash first.accesses second.accesses b
   race_clash one other cpu other_cpu race =
       let x = touches_access race.first b race.writes race.atomic race.touches in
       let y = touches_access race.second b race.writes_too race.atomic_too race.touches_too in

@@ -57,10 +57,12 @@ nothing_at : {A : Type 0} → (i : ℕ) (x : A) → slice_get [] i ≡ Some x �
 nothing_at i x at = cc
 
 -- a CPU without a job in hand has no race
-none_of_free : (m : MachineState) (races : List RaceFound) (sync : List Part) (w : World) (pair : Pair) (b : ℕ) → IsFree m.jobs pair.other.cpu → Shows m w → IsRace w pair.one pair.other b → IsTold races w.store pair b ⊎ IsLeftOut sync b
+none_of_free : (m : MachineState) (races : List RaceFound) (sync : List Part) (w : World) (pair : Pair) (b : ℕ) → IsFree m.jobs
+    pair.other.cpu → Shows m w → IsRace w pair.one pair.other b → IsTold races w.store pair b ⊎ IsLeftOut sync b
 none_of_free m races sync w pair b free shows race =
     let next = race.next_too in
-    absurd (free next.job next.task next.state next.left (subst (λ (jobs : List Task). IsAt jobs pair.other.cpu next.job next.task (InHand next.state next.left)) shows.jobs next.at))
+    absurd (free next.job next.task next.state next.left (subst (λ (jobs : List Task). IsAt jobs pair.other.cpu next.job next.task
+    (InHand next.state next.left)) shows.jobs next.at))
 
 module _ (m : MachineState) (sync : List Part) (nexts : List NextStep) where
   pub none_yet : UpTo m sync nexts 0 0 []
@@ -126,7 +128,8 @@ adds_once : (old new : List RaceFound) (race : RaceFound) → AddsRace old race 
 adds_once old new race (inl (listed, same)) once = subst AreOnce (sym same) once
 adds_once old new race (inr (not, is)) once = subst AreOnce (sym is) (once_pushed old race once not)
 
-adds_rising : (old new : List RaceFound) (race : RaceFound) → ((one : RaceFound) → IsAmong old one → IsBefore one.pair race.pair) → AddsRace old race new → AreRising old → AreRising new
+adds_rising : (old new : List RaceFound) (race : RaceFound) → ((one : RaceFound) → IsAmong old one → IsBefore one.pair race.pair) → AddsRace
+    old race new → AreRising old → AreRising new
 adds_rising old new race before (inl (listed, same)) rising = subst AreRising (sym same) rising
 adds_rising old new race before (inr (not, is)) rising = subst AreRising (sym is) pushed
   where
@@ -143,7 +146,8 @@ adds_rising old new race before (inr (not, is)) rising = subst AreRising (sym is
     ]
 
 -- where such a race is listed or put there, the byte is printed
-adds_told : (m : MachineState) (old new : List RaceFound) (race : RaceFound) (pair : Pair) (b : ℕ) → IsFor m pair b race → AddsRace old race new → IsByteTold m pair new b
+adds_told : (m : MachineState) (old new : List RaceFound) (race : RaceFound) (pair : Pair) (b : ℕ) → IsFor m pair b race → AddsRace old race
+    new → IsByteTold m pair new b
 adds_told m old new race pair b for (inl ((one, among, same), is)) w shows =
     let keys : one.key ≡ race.key = ap (λ (s : Spot). s.key) same in (
       one,
@@ -159,7 +163,8 @@ adds_told m old new race pair b for (inr (not, is)) w shows =
 apart : (c d : ℕ) → c < d → c ≢ d
 apart c d less same = absurd (omega arith)
 
-module _ (m : MachineState) (sync : List Part) (nexts : List NextStep) (first second : NextStep) (pair : Pair) (one : pair.one ≡ first.here) (other : pair.other ≡ second.here) where
+module _ (m : MachineState) (sync : List Part) (nexts : List NextStep) (first second : NextStep) (pair : Pair) (one : pair.one ≡ first.here)
+    (other : pair.other ≡ second.here) where
   one_cpu : pair.one.cpu ≡ first.here.cpu
   one_cpu = ap (λ (s : Stand). s.cpu) one
 
@@ -167,14 +172,17 @@ module _ (m : MachineState) (sync : List Part) (nexts : List NextStep) (first se
   other_cpu = ap (λ (s : Stand). s.cpu) other
 
   -- a byte for which their next steps are at odds is a race in what the machine shows
-  is_there : (race : RaceFound) (b : ℕ) → first.here.cpu < second.here.cpu → IsNextIn m first → IsNextIn m second → Clash first.accesses second.accesses b → (IsLeftOut sync b → ⊥) → IsFor m pair b race → IsThere m sync race
+  is_there : (race : RaceFound) (b : ℕ) → first.here.cpu < second.here.cpu → IsNextIn m first → IsNextIn m second → Clash first.accesses
+      second.accesses b → (IsLeftOut sync b → ⊥) → IsFor m pair b race → IsThere m sync race
   is_there race b order next next_too clash counts for = record {
     races = λ w shows. record {
       counts = subst (λ (x : ℕ). IsLeftOut sync x → ⊥) (sym for.at) counts;
-      race = subst (λ (x : ℕ). IsRace w race.pair.one race.pair.other x) (sym for.at) (subst (λ (p : Pair). IsRace w p.one p.other b) (sym for.pair) (here w shows));
+      race = subst (λ (x : ℕ). IsRace w race.pair.one race.pair.other x) (sym for.at)
+          (subst (λ (p : Pair). IsRace w p.one p.other b) (sym for.pair) (here w shows));
       key = subst (λ (x : ℕ). IsKeyAt w.store x race.key) (sym for.at) (for.key w shows);
     };
-    order = subst (λ (p : Pair). p.one.cpu < p.other.cpu) (sym for.pair) (subst (λ (n : ℕ). n < pair.other.cpu) (sym one_cpu) (subst (λ (n : ℕ). first.here.cpu < n) (sym other_cpu) order));
+    order = subst (λ (p : Pair). p.one.cpu < p.other.cpu) (sym for.pair)
+        (subst (λ (n : ℕ). n < pair.other.cpu) (sym one_cpu) (subst (λ (n : ℕ). first.here.cpu < n) (sym other_cpu) order));
     here = for.by;
   }
     where
@@ -193,9 +201,11 @@ module _ (m : MachineState) (sync : List Part) (nexts : List NextStep) (first se
   }
     where
       up : UpTo m sync nexts pair.one.cpu pair.other.cpu races
-      up = subst (λ (c : ℕ). UpTo m sync nexts c pair.other.cpu races) (sym one_cpu) (subst (λ (d : ℕ). UpTo m sync nexts first.here.cpu d races) (sym other_cpu) far)
+      up = subst (λ (c : ℕ). UpTo m sync nexts c pair.other.cpu races) (sym one_cpu)
+          (subst (λ (d : ℕ). UpTo m sync nexts first.here.cpu d races) (sym other_cpu) far)
 
-  pub amid_goes_on : (bytes : List ℕ) (k : ℕ) (b : ℕ) (race : RaceFound) (old new : List RaceFound) → first.here.cpu < second.here.cpu → IsNextIn m first → IsNextIn m second → Collects (Clash first.accesses second.accesses) sync [] bytes
+  pub amid_goes_on : (bytes : List ℕ) (k : ℕ) (b : ℕ) (race : RaceFound) (old new : List RaceFound) → first.here.cpu < second.here.cpu →
+      IsNextIn m first → IsNextIn m second → Collects (Clash first.accesses second.accesses) sync [] bytes
       → slice_get bytes k ≡ Some b → IsFor m pair b race → AddsRace old race new → Amid m sync nexts pair bytes k old → Amid m sync nexts pair bytes (k + 1) new
   amid_goes_on bytes k b race old new order next next_too collects at for adds far = record {
     each = λ x there. elim (adds_cases old new race x adds there) [
@@ -241,9 +251,11 @@ module _ (m : MachineState) (sync : List Part) (nexts : List NextStep) (first se
       before_last : (x : RaceFound) → IsAmong old x → IsBefore x.pair race.pair
       before_last x there = subst (IsBefore x.pair) (sym for.pair) (before_pair x.pair (far.passed x there))
 
-  pub amid_ends : (bytes : List ℕ) (k : ℕ) (races : List RaceFound) → IsNextIn m first → IsNextIn m second → Collects (Clash first.accesses second.accesses) sync [] bytes → length bytes ≤ k
+  pub amid_ends : (bytes : List ℕ) (k : ℕ) (races : List RaceFound) → IsNextIn m first → IsNextIn m second → Collects
+      (Clash first.accesses second.accesses) sync [] bytes → length bytes ≤ k
       → Amid m sync nexts pair bytes k races → UpTo m sync nexts first.here.cpu (second.here.cpu + 1) races
-  amid_ends bytes k races next next_too collects past far = subst (λ (c : ℕ). UpTo m sync nexts c (second.here.cpu + 1) races) one_cpu (subst (λ (d : ℕ). UpTo m sync nexts pair.one.cpu (d + 1) races) other_cpu up)
+  amid_ends bytes k races next next_too collects past far = subst (λ (c : ℕ). UpTo m sync nexts c (second.here.cpu + 1) races) one_cpu
+      (subst (λ (d : ℕ). UpTo m sync nexts pair.one.cpu (d + 1) races) other_cpu up)
     where
       told : (w : World) → Shows m w → (own : Pair) (b : ℕ) → own ≡ pair → IsAmong bytes b → IsTold races w.store own b
       told w shows own b same (i, at) =
@@ -251,7 +263,8 @@ module _ (m : MachineState) (sync : List Part) (nexts : List NextStep) (first se
           subst (λ (p : Pair). IsTold races w.store p b) (sym same) (far.told i b (omega arith) at w shows)
 
       same_pair : (own : Pair) → own.one ≡ first.here → own.other ≡ second.here → own ≡ pair
-      same_pair own a b = ap (λ (s : Stand). record { one = s; other = own.other }) (a ∙ sym one) ∙ ap (λ (s : Stand). record { one = pair.one; other = s }) (b ∙ sym other)
+      same_pair own a b = ap (λ (s : Stand). record { one = s; other = own.other }) (a ∙ sym one) ∙ ap
+          (λ (s : Stand). record { one = pair.one; other = s }) (b ∙ sym other)
 
       of_these : AreListedOf races sync m pair.one.cpu pair.other.cpu
       of_these w shows own b cpu cpu_too race =
@@ -267,7 +280,8 @@ module _ (m : MachineState) (sync : List Part) (nexts : List NextStep) (first se
         passed = far.passed;
         listed = λ a b order inside passed. elim (passed_cases pair.one.cpu pair.other.cpu a b passed) [
           | inl before ↦ far.listed a b order inside before
-          | inr (cpu, cpu_too) ↦ subst (λ (x : ℕ). AreListedOf races sync m x b) cpu (subst (λ (y : ℕ). AreListedOf races sync m pair.one.cpu y) cpu_too of_these)
+          | inr (cpu, cpu_too) ↦ subst (λ (x : ℕ). AreListedOf races sync m x b) cpu
+              (subst (λ (y : ℕ). AreListedOf races sync m pair.one.cpu y) cpu_too of_these)
         ];
         once = far.once;
         rising = far.rising;
@@ -281,9 +295,11 @@ pub own_next : (m : MachineState) (c : ℕ) (next : NextStep) → IsNextOf m c n
 own_next m c next is = record { of = refl; is = is.is }
 
 -- pairs of CPUs, by their own numbers
-module _ (m : MachineState) (sync : List Part) (nexts : List NextStep) (c d : ℕ) (first second : NextStep) (one : IsNextOf m c first) (two : IsNextOf m d second) where
+module _ (m : MachineState) (sync : List Part) (nexts : List NextStep) (c d : ℕ) (first second : NextStep) (one : IsNextOf m c first)
+    (two : IsNextOf m d second) where
   pub own_up : (races : List RaceFound) → UpTo m sync nexts c d races → UpTo m sync nexts first.here.cpu second.here.cpu races
   own_up races far = subst (λ (x : ℕ). UpTo m sync nexts x second.here.cpu races) (sym one.of) (subst (λ (y : ℕ). UpTo m sync nexts c y races) (sym two.of) far)
 
   pub own_back : (races : List RaceFound) → UpTo m sync nexts first.here.cpu (second.here.cpu + 1) races → UpTo m sync nexts c (d + 1) races
-  own_back races far = subst (λ (x : ℕ). UpTo m sync nexts x (d + 1) races) one.of (subst (λ (y : ℕ). UpTo m sync nexts first.here.cpu (y + 1) races) two.of far)
+  own_back races far = subst (λ (x : ℕ). UpTo m sync nexts x (d + 1) races) one.of
+      (subst (λ (y : ℕ). UpTo m sync nexts first.here.cpu (y + 1) races) two.of far)

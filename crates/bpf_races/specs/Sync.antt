@@ -1,6 +1,7 @@
 -- Bytes that are left out, by the texts that name them: `NAME` of a map or a variable, or
 -- `NAME+AT:SIZE` of a map. Our own choice.
-use Rattle.std.specs.Prelude.{◌≡◌, ℕ, ◌+◌, ◌^◌, ◌==◌, ◌⊎◌, Bool, nat_le, nat_lt, if◌then◌else◌, List, Option, Some, None, option_and_then, option_map, length, slice_get}
+use Rattle.std.specs.Prelude.{◌≡◌, ℕ, ◌+◌, ◌^◌, ◌==◌, ◌⊎◌, Bool, nat_le, nat_lt, if◌then◌else◌, List, Option, Some, None, option_and_then}
+use Rattle.std.specs.Prelude.{option_map, length, slice_get}
 use Rattle.std.specs.List.{after_first, before_first}
 use Rattle.bpf_schedule.specs.Spelling.{number_below}
 use Rattle.bpf_shared.specs.declared.shapes.MapShape.{MapShape}

@@ -1,5 +1,6 @@
 -- Moves that were made from kept machines, while more are kept.
-use Rattle.std.proofs.Common.{◌≡◌, ◌∙◌, ◌+◌, ◌-◌, ◌<◌, ◌≤◌, ℕ, Bool, true, false, List, [], ◌∷◌, ◌++◌, Some, length, refl, inl, inr, sym, ap, subst, append-nil, append_assoc, length-append, arith}
+use Rattle.std.proofs.Common.{◌≡◌, ◌∙◌, ◌+◌, ◌-◌, ◌<◌, ◌≤◌, ℕ, Bool, true, false, List, [], ◌∷◌, ◌++◌, Some, length, refl, inl, inr, sym}
+use Rattle.std.proofs.Common.{ap, subst, append-nil, append_assoc, length-append, arith}
 use Rattle.std.specs.Prelude.{Result, Ok, Err, IfOk, OnErr, slice_get}
 use Rattle.std.specs.declared.alloc.AllocError.{AllocError}
 use Rattle.std.proofs.lemmas.Bool.{cases_lt}
@@ -24,7 +25,8 @@ adds_extends old new m (inl e) = ([], e ∙ sym (append-nil old))
 adds_extends old new m (inr e) = (m ∷ [], e)
 
 -- what is answered says whether one more is kept
-pub adds_one : (old new : List BufferedState) (m : BufferedState) (r : Result Bool AllocError) → IfOk r (λ fresh. fresh ≡ true → new ≡ old ++ m ∷ []) → IfOk r (λ fresh. fresh ≡ false → new ≡ old) → OnErr r (new ≡ old) → AddsOne old m new
+pub adds_one : (old new : List BufferedState) (m : BufferedState) (r : Result Bool AllocError) → IfOk r
+    (λ fresh. fresh ≡ true → new ≡ old ++ m ∷ []) → IfOk r (λ fresh. fresh ≡ false → new ≡ old) → OnErr r (new ≡ old) → AddsOne old m new
 adds_one old new m (Ok true) adds known err = inr (adds refl)
 adds_one old new m (Ok false) adds known err = inl (known refl)
 adds_one old new m (Err e) adds known err = inl err
@@ -50,14 +52,16 @@ module _ (old new : List BufferedState) (more : Extends old new) where
 
 -- ---- one move
 -- the machine where it leads is kept
-pub moved_to : (old new : List BufferedState) (place : ℕ) (move : Move) (m after : BufferedState) → Extends old new → slice_get old place ≡ Some m → MovesTo m move after → IsKeptAsX86 new after → IsMoved new place move
+pub moved_to : (old new : List BufferedState) (place : ℕ) (move : Move) (m after : BufferedState) → Extends old new → slice_get old place ≡
+    Some m → MovesTo m move after → IsKeptAsX86 new after → IsMoved new place move
 moved_to old new place move m after more at moves is other there =
     let two : Some m ≡ Some other = sym at ∙ (sym (same_at old new more place (slice_get_within old place m at)) ∙ there) in
     let one : m ≡ other = cc in
     inl (after, subst (λ (n : BufferedState). MovesTo n move after) one moves, is)
 
 -- it leads to the same machine
-pub stays : (kept : List BufferedState) (place : ℕ) (move : Move) (m : BufferedState) → slice_get kept place ≡ Some m → MovesTo m move m → IsMoved kept place move
+pub stays : (kept : List BufferedState) (place : ℕ) (move : Move) (m : BufferedState) → slice_get kept place ≡ Some m → MovesTo m move m →
+    IsMoved kept place move
 stays kept place move m at moves = moved_to kept kept place move m m (none_more kept) at moves (λ x shows. (place, m, at, shows))
 
 -- ---- the album where a move was made, or none
@@ -93,7 +97,8 @@ pub record MovedSoFar (old : List BufferedState) (place cpu : ℕ) (kept : List 
 pub none_moved : (kept : List BufferedState) (place : ℕ) → MovedSoFar kept place 0 kept
 none_moved kept place = record { extends = none_more kept; turned = λ c less. absurd (omega arith); flushed = λ c less. absurd (omega arith) }
 
-pub next_moved : (old kept mid new : List BufferedState) (place cpu : ℕ) → place < length old → MovedSoFar old place cpu kept → Extends kept mid → IsMoved mid place (TurnOf cpu) → Extends mid new → IsMoved new place (FlushOf cpu) → MovedSoFar old place (cpu + 1) new
+pub next_moved : (old kept mid new : List BufferedState) (place cpu : ℕ) → place < length old → MovedSoFar old place cpu kept → Extends kept
+    mid → IsMoved mid place (TurnOf cpu) → Extends mid new → IsMoved new place (FlushOf cpu) → MovedSoFar old place (cpu + 1) new
 next_moved old kept mid new place cpu inside far more turned again flushed =
     let there : place < length kept = inside_still old kept far.extends place inside in
     let all : Extends kept new = more_again kept mid new more again in
@@ -101,7 +106,8 @@ next_moved old kept mid new place cpu inside far more turned again flushed =
       extends = more_again old kept new far.extends all;
       turned = λ c less. elim (cases_lt c cpu) [
         | inl below ↦ moved_still kept new all place (TurnOf c) there (far.turned c below)
-        | inr past ↦ let e : cpu ≡ c = omega arith in subst (λ (k : ℕ). IsMoved new place (TurnOf k)) e (moved_still mid new again place (TurnOf cpu) (inside_still kept mid more place there) turned)
+        | inr past ↦ let e : cpu ≡ c = omega arith in subst (λ (k : ℕ). IsMoved new place (TurnOf k)) e
+            (moved_still mid new again place (TurnOf cpu) (inside_still kept mid more place there) turned)
       ];
       flushed = λ c less. elim (cases_lt c cpu) [
         | inl below ↦ moved_still kept new all place (FlushOf c) there (far.flushed c below)
@@ -113,7 +119,8 @@ next_moved old kept mid new place cpu inside far more turned again flushed =
 abbrev pub Beyond : List BufferedState → ℕ → Type 0
 Beyond kept n = (i c : ℕ) (m : BufferedState) → slice_get kept i ≡ Some m → n ≤ c → MovesTo m (TurnOf c) m × CannotMove m (FlushOf c)
 
-pub all_moved : (old kept : List BufferedState) (place cpu n : ℕ) → place < length old → Beyond old n → n ≤ cpu → MovedSoFar old place cpu kept → IsExpanded kept place
+pub all_moved : (old kept : List BufferedState) (place cpu n : ℕ) → place < length old → Beyond old n → n ≤ cpu → MovedSoFar old place cpu
+    kept → IsExpanded kept place
 all_moved old kept place cpu n inside beyond past far (TurnOf c) = elim (cases_lt c cpu) [
   | inl below ↦ far.turned c below
   | inr above ↦ moved_still old kept far.extends place (TurnOf c) inside (λ m at. stays old place (TurnOf c) m at (beyond place c m at (omega arith)).0 m at)
@@ -132,7 +139,8 @@ pub record ExpandedSoFar (old : List BufferedState) (next : ℕ) (kept : List Bu
 pub none_expanded : (kept : List BufferedState) → ExpandedSoFar kept 0 kept
 none_expanded kept = record { extends = none_more kept; expanded = λ i less. absurd (omega arith); inside = omega arith }
 
-pub next_expanded : (old kept new : List BufferedState) (next : ℕ) → ExpandedSoFar old next kept → next < length kept → Extends kept new → IsExpanded new next → ExpandedSoFar old (next + 1) new
+pub next_expanded : (old kept new : List BufferedState) (next : ℕ) → ExpandedSoFar old next kept → next < length kept → Extends kept new →
+    IsExpanded new next → ExpandedSoFar old (next + 1) new
 next_expanded old kept new next far less more expanded = record {
   extends = more_again old kept new far.extends more;
   expanded = λ i below. elim (cases_lt i next) [

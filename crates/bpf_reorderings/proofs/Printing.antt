@@ -29,16 +29,19 @@ use Rattle.bpf_reorderings.specs.Private.Searching.{AreLed, BeginsAt}
 use Rattle.bpf_reorderings.specs.Private.Answers.{AllEnd, Gathered, IsAnsweredAt, IsFirst, IsPrinted}
 
 -- ---- moves keep the number of jobs
-goes_length : (x : X86) (c j : ℕ) (task : Task) (old : Cpu) (left : ℕ) (answer : Turn) (z : X86) → GoesOn x c j task old left answer z → length z.world.jobs ≡ length x.world.jobs
+goes_length : (x : X86) (c j : ℕ) (task : Task) (old : Cpu) (left : ℕ) (answer : Turn) (z : X86) → GoesOn x c j task old left answer z →
+    length z.world.jobs ≡ length x.world.jobs
 goes_length x c j task old left answer z (program, end, b, new, rest, loaded, advances, settles) = settled end settles
   where
     settled : (end : Option Outcome) → Settled (with_buffered x b) c j task new rest end answer z → length z.world.jobs ≡ length x.world.jobs
     settled None s = ap (λ (v : World). length v.jobs) s.0.1 ∙ length-set x.world.jobs j (record task { stage = InHand new rest })
-    settled (Some outcome) s = ap (λ (ts : List Task). length ts) (lists_jobs _ c z.world s.2.3) ∙ length-set x.world.jobs j (record task { stage = Ended outcome })
+    settled (Some outcome) s = ap (λ (ts : List Task). length ts) (lists_jobs _ c z.world s.2.3) ∙ length-set x.world.jobs j
+        (record task { stage = Ended outcome })
 
 move_length : (x : X86) (move : Move) (z : X86) → Moves x move z → length z.world.jobs ≡ length x.world.jobs
 move_length x (TurnOf c) z (answer, inl (j, task, state, left, at, goes)) = goes_length x c j task state left answer z goes
-move_length x (TurnOf c) z (answer, inr (inl (free, (j, task, input, b, at, none, begins, goes)))) = goes_length (with_buffered x b) c j task (start c input) task.budget answer z goes
+move_length x (TurnOf c) z (answer, inr (inl (free, (j, task, input, b, at, none, begins, goes)))) = goes_length (with_buffered x b) c j
+    task (start c input) task.budget answer z goes
 move_length x (TurnOf c) z (answer, inr (inr (free, none, is, same))) = ap (λ (y : X86). length y.world.jobs) same
 move_length x (FlushOf c) z (b, flushes, same) = ap (λ (y : X86). length y.world.jobs) same
 
@@ -47,14 +50,16 @@ moves_length [] x z runs = ap (λ (y : X86). length y.world.jobs) runs
 moves_length (move ∷ moves) x z (y, makes, rest) = moves_length moves y z rest ∙ move_length x move y makes
 
 -- ---- answers
-pub all_end_still : (xs : List Found) (i : ℕ) (found : Found) → i ≤ length xs → (w : World) (names : Names) (maps : Bool) → EndsByX86 w names maps found → AllEnd w names maps xs → AllEnd w names maps (insert xs i found)
+pub all_end_still : (xs : List Found) (i : ℕ) (found : Found) → i ≤ length xs → (w : World) (names : Names) (maps : Bool) → EndsByX86 w
+    names maps found → AllEnd w names maps xs → AllEnd w names maps (insert xs i found)
 all_end_still xs i found within w names maps one all k y at = elim (origin xs i found within k y at) [
   | Before less there ↦ all k y there
   | Here e same ↦ subst (EndsByX86 w names maps) same one
   | Behind j e above there ↦ all j y there
 ]
 
-answered_still : (kept : List BufferedState) (names : Names) (maps : Bool) (old new : List Found) (i : ℕ) → KeepsAll old new → IsAnsweredAt kept names maps old i → IsAnsweredAt kept names maps new i
+answered_still : (kept : List BufferedState) (names : Names) (maps : Bool) (old new : List Found) (i : ℕ) → KeepsAll old new → IsAnsweredAt
+    kept names maps old i → IsAnsweredAt kept names maps new i
 answered_still kept names maps old new i keeps told m at ended =
     let a = told m at ended in
     let there = keeps a.0 a.1 a.2 in
@@ -67,7 +72,8 @@ none_gathered kept names maps = record {
   answered = λ i less. absurd (omega arith);
 }
 
-pub more_gathered : (kept : List BufferedState) (names : Names) (maps : Bool) (place : ℕ) (old new : List Found) → Gathered kept names maps place old → AreSorted new → KeepsAll old new
+pub more_gathered : (kept : List BufferedState) (names : Names) (maps : Bool) (place : ℕ) (old new : List Found) → Gathered kept names maps
+    place old → AreSorted new → KeepsAll old new
     → ((w : World) → IsFirst kept w → AllEnd w names maps new) → IsAnsweredAt kept names maps new place → Gathered kept names maps (place + 1) new
 more_gathered kept names maps place old new far sorted keeps ends here = record {
   sorted = sorted;
@@ -78,7 +84,8 @@ more_gathered kept names maps place old new far sorted keeps ends here = record 
   ];
 }
 
-pub all_gathered : (kept : List BufferedState) (names : Names) (maps : Bool) (place : ℕ) (answers : List Found) → length kept ≤ place → Gathered kept names maps place answers → (i : ℕ) → IsAnsweredAt kept names maps answers i
+pub all_gathered : (kept : List BufferedState) (names : Names) (maps : Bool) (place : ℕ) (answers : List Found) → length kept ≤ place →
+    Gathered kept names maps place answers → (i : ℕ) → IsAnsweredAt kept names maps answers i
 all_gathered kept names maps place answers past far i m at ended =
     let inside = slice_get_within kept i m at in
     far.answered i (omega arith) m at ended
@@ -87,15 +94,20 @@ one_machine : (kept : List BufferedState) (i : ℕ) (m n : BufferedState) → sl
 one_machine kept i m n at there = let two : Some m ≡ Some n = sym at ∙ there in cc
 
 -- the machine has work
-pub has_work : (kept : List BufferedState) (names : Names) (maps : Bool) (answers : List Found) (place : ℕ) → (HaveEndedAt kept place → ⊥) → IsAnsweredAt kept names maps answers place
-has_work kept names maps answers place works m at ended = absurd (works (λ other here. subst (λ (n : BufferedState). HaveEnded n.machine.jobs) (one_machine kept place m other at here) ended))
+pub has_work : (kept : List BufferedState) (names : Names) (maps : Bool) (answers : List Found) (place : ℕ) → (HaveEndedAt kept place → ⊥) →
+    IsAnsweredAt kept names maps answers place
+has_work kept names maps answers place works m at ended = absurd
+    (works (λ other here. subst (λ (n : BufferedState). HaveEnded n.machine.jobs) (one_machine kept place m other at here) ended))
 
 -- ---- what is printed of a kept machine without work
-module _ (kept : List BufferedState) (m : BufferedState) (names : Names) (maps : Bool) (place : ℕ) (text : List ℕ) (stopped : Bool) (at : slice_get kept place ≡ Some m) (ended : HaveEndedAt kept place) (told : IsPrinted m names maps text stopped) where
+module _ (kept : List BufferedState) (m : BufferedState) (names : Names) (maps : Bool) (place : ℕ) (text : List ℕ) (stopped : Bool)
+    (at : slice_get kept place ≡ Some m) (ended : HaveEndedAt kept place) (told : IsPrinted m names maps text stopped) where
   -- an answer with this text
-  pub answered_by : (answers : List Found) (i : ℕ) (found : Found) → slice_get answers i ≡ Some found → found.text ≡ text → found.stopped ≡ stopped → IsAnsweredAt kept names maps answers place
+  pub answered_by : (answers : List Found) (i : ℕ) (found : Found) → slice_get answers i ≡ Some found → found.text ≡ text → found.stopped ≡
+      stopped → IsAnsweredAt kept names maps answers place
   answered_by answers i found there same halts other here over =
-      let printed : IsPrinted m names maps found.text found.stopped = subst (λ (t : List ℕ). IsPrinted m names maps t found.stopped) (sym same) (subst (λ (b : Bool). IsPrinted m names maps text b) (sym halts) told) in
+      let printed : IsPrinted m names maps found.text found.stopped = subst (λ (t : List ℕ). IsPrinted m names maps t found.stopped)
+      (sym same) (subst (λ (b : Bool). IsPrinted m names maps text b) (sym halts) told) in
       (i, found, there, subst (λ (n : BufferedState). IsPrinted n names maps found.text found.stopped) (one_machine kept place m other at here) printed)
 
   shown_is : (x : X86) → IsShownAt kept place x → ShowsX86 m x
@@ -105,7 +117,8 @@ module _ (kept : List BufferedState) (m : BufferedState) (names : Names) (maps :
   ended_in x shows = subst HaveEnded (sym shows.world.jobs) (ended m at)
 
   -- a schedule that leads there ends by it
-  pub ends_by : NothingWaitsAtLast → (by : List (ℕ × ℕ)) → LeadsBy kept 0 (map move_of (unrolled by)) place → (w : World) → IsFirst kept w → EndsByX86 w names maps (record { text = text; stopped = stopped; by = by })
+  pub ends_by : NothingWaitsAtLast → (by : List (ℕ × ℕ)) → LeadsBy kept 0 (map move_of (unrolled by)) place → (w : World) → IsFirst kept w →
+      EndsByX86 w names maps (record { text = text; stopped = stopped; by = by })
   ends_by law by leads w first =
       let moves = map move_of (unrolled by) in
       let r = leads (drained w) first in
@@ -115,25 +128,29 @@ module _ (kept : List BufferedState) (m : BufferedState) (names : Names) (maps :
       (r.0.world, subst (RunsMoves (drained w) moves) calm r.1, over, told r.0 shows)
 
   -- an answer of the same text has the same stops
-  pub stopped_same : (answers : List Found) (i : ℕ) (found : Found) → AreLed kept → place < length kept → ((w : World) × IsFirst kept w) → ((w : World) → IsFirst kept w → AllEnd w names maps answers) → slice_get answers i ≡ Some found → found.text ≡ text → found.stopped ≡ stopped
+  pub stopped_same : (answers : List Found) (i : ℕ) (found : Found) → AreLed kept → place < length kept → ((w : World) × IsFirst kept w) →
+      ((w : World) → IsFirst kept w → AllEnd w names maps answers) → slice_get answers i ≡ Some found → found.text ≡ text → found.stopped ≡ stopped
   stopped_same answers i found led inside (w, first) all there same =
       let other = all w first i found there in
       let way = led place inside in
       let r = way.1 (drained w) first in
       let shows = shown_is r.0 r.2 in
       let z = other.0 in
-      let count : length z.jobs ≡ length r.0.world.jobs = moves_length (map move_of (unrolled found.by)) (drained w) (drained z) other.1 ∙ sym (moves_length (map move_of way.0) (drained w) r.0 r.1) in
+      let count : length z.jobs ≡ length r.0.world.jobs = moves_length (map move_of (unrolled found.by)) (drained w) (drained z) other.1 ∙
+      sym (moves_length (map move_of way.0) (drained w) r.0 r.1) in
       let tells : Tells z.store z.jobs names maps text found.stopped = subst (λ (t : List ℕ). Tells z.store z.jobs names maps t found.stopped) same other.3 in
       same_stop z.store r.0.world.store z.jobs r.0.world.jobs names maps text found.stopped stopped count other.2 (ended_in r.0 shows) tells (told r.0 shows)
 
 -- ---- no outcome is left out
 -- of a machine one text is printed
-one_told : (s : Plain) (jobs : List Task) (names : Names) (maps : Bool) (text other : List ℕ) (stopped halted : Bool) → Tells s jobs names maps text stopped → Tells s jobs names maps other halted → (text ≡ other) × (stopped ≡ halted)
+one_told : (s : Plain) (jobs : List Task) (names : Names) (maps : Bool) (text other : List ℕ) (stopped halted : Bool) → Tells s jobs names
+    maps text stopped → Tells s jobs names maps other halted → (text ≡ other) × (stopped ≡ halted)
 one_told s jobs names maps text other stopped halted a b =
     let lines = one_asked maps s names a.0 b.0 a.1 b.1 in
     (a.2 ∙ ap (λ (x : List ℕ). job_lines (length jobs) jobs ++ ([] ++ x)) lines ∙ sym b.2, a.3 ∙ sym b.3)
 
-pub have_all : ClosedSetsCoverX86 → (kept : List BufferedState) (w : World) (names : Names) (maps : Bool) (answers : List Found) → IsClosedX86 kept → BeginsAt kept w → ((i : ℕ) → IsAnsweredAt kept names maps answers i) → HaveAllX86 w names maps answers
+pub have_all : ClosedSetsCoverX86 → (kept : List BufferedState) (w : World) (names : Names) (maps : Bool) (answers : List Found) →
+    IsClosedX86 kept → BeginsAt kept w → ((i : ℕ) → IsAnsweredAt kept names maps answers i) → HaveAllX86 w names maps answers
 have_all law kept w names maps answers closed (fresh, (m, at, shows)) answered text stopped (moves, (z, runs, ended, tells)) =
     let first : IsShownX86 kept (drained w) = (0, m, at, shows) in
     let r = law kept w moves z closed fresh first runs in

@@ -69,8 +69,10 @@ pub first_shown : (kept : List BufferedState) (m : BufferedState) (x : X86) → 
 first_shown kept m x e shows = (m, ap (λ (ms : List BufferedState). slice_get ms 0) e, shows)
 
 -- ---- what a search found
-pub explored : ClosedSetsCoverX86 → (kept : List BufferedState) (w : World) (names : Names) (maps : Bool) (limit : ℕ) (e : Explored) (extent : Extent) → BeginsAt kept w → CameTo kept extent limit → e.all ≡ is_whole extent → e.refused ≡ is_refused extent → e.states ≡ length kept
-    → AreOutcomesX86 w names maps e.answers.items → ((i : ℕ) → IsAnsweredAt kept names maps e.answers.items i) → AreLed kept → IsExploredX86 w names maps limit e
+pub explored : ClosedSetsCoverX86 → (kept : List BufferedState) (w : World) (names : Names) (maps : Bool) (limit : ℕ) (e : Explored)
+    (extent : Extent) → BeginsAt kept w → CameTo kept extent limit → e.all ≡ is_whole extent → e.refused ≡ is_refused extent → e.states ≡ length kept
+    → AreOutcomesX86 w names maps e.answers.items → ((i : ℕ) → IsAnsweredAt kept names maps e.answers.items i) → AreLed kept → IsExploredX86
+    w names maps limit e
 explored law kept w names maps limit e extent begins came all refused count outcomes answered led = record {
   outcomes = outcomes;
   complete = λ is. have_all law kept w names maps e.answers.items (came.whole (whole_of extent (sym all ∙ is))) begins answered;

@@ -1,5 +1,6 @@
 -- Moves that lead to kept machines, one after the other and backwards.
-use Rattle.std.proofs.Common.{◌≡◌, ◌∙◌, ℕ, zero, suc, ◌<◌, List, [], ◌∷◌, ◌++◌, Some, inl, inr, ◌⊎◌, length, map, take, reverse, refl, sym, ap, subst, length-append, arith}
+use Rattle.std.proofs.Common.{◌≡◌, ◌∙◌, ℕ, zero, suc, ◌<◌, List, [], ◌∷◌, ◌++◌, Some, inl, inr, ◌⊎◌, length, map, take, reverse, refl, sym}
+use Rattle.std.proofs.Common.{ap, subst, length-append, arith}
 use Rattle.std.specs.Prelude.{slice_get, slice_index_or}
 use Rattle.std.proofs.Math.ListN.{get_or-append}
 use Rattle.std.proofs.Math.Seq.{get_or-append_seam}
@@ -30,7 +31,8 @@ leads_nowhere kept i x shown = (x, refl, shown)
 pub read_origin : (origins : List Origin) (i : ℕ) (o : Origin) → i < length origins → o ≡ slice_index_or origins i o → origin_at origins i ≡ o
 read_origin origins i o inside read = get_or_from_slice_get origins i o no_origin (slice_get_read origins (length origins) i o refl inside read)
 
-pub one_back : (kept : List BufferedState) (origins : List Origin) (state place : ℕ) (o : Origin) (by new : List (ℕ × ℕ)) → AreOrigins kept origins → 0 < state → state < length kept → origin_at origins state ≡ o
+pub one_back : (kept : List BufferedState) (origins : List Origin) (state place : ℕ) (o : Origin) (by new : List (ℕ × ℕ)) → AreOrigins kept
+    origins → 0 < state → state < length kept → origin_at origins state ≡ o
     → LeadsBy kept state (map move_of (unrolled (reverse by))) place → unrolled (reverse new) ≡ o.made ∷ unrolled (reverse by)
     → (o.«from» < length kept) × (o.«from» < state) × LeadsBy kept o.«from» (map move_of (unrolled (reverse new))) place
 one_back kept origins state place o by new are some inside at leads e =
@@ -38,7 +40,8 @@ one_back kept origins state place o by new are some inside at leads e =
     let before = is.before in (
       omega arith,
       before,
-      subst (λ (cs : List ℕ). LeadsBy kept o.«from» (map move_of cs) place) (sym e) (leads_both kept o.«from» state place (move_of o.made ∷ []) (map move_of (unrolled (reverse by))) is.leads leads),
+      subst (λ (cs : List ℕ). LeadsBy kept o.«from» (map move_of cs) place) (sym e)
+          (leads_both kept o.«from» state place (move_of o.made ∷ []) (map move_of (unrolled (reverse by))) is.leads leads),
     )
 
 -- ---- while more are kept
@@ -60,7 +63,8 @@ at_last [] one = refl
 at_last (x ∷ xs) one = at_last xs one
 
 -- the move of an origin leads to the machine that is kept after the others
-led_last : (old : List BufferedState) (m : BufferedState) (o : Origin) → o.«from» < length old → IsLedFrom old o.«from» (move_of o.made) m → LeadsBy (old ++ m ∷ []) o.«from» (move_of o.made ∷ []) (length old)
+led_last : (old : List BufferedState) (m : BufferedState) (o : Origin) → o.«from» < length old → IsLedFrom old o.«from» (move_of o.made) m →
+    LeadsBy (old ++ m ∷ []) o.«from» (move_of o.made ∷ []) (length old)
 led_last old m o inside (before, at, moves) x shown =
     let (other, there, shows) = shown_before old (m ∷ []) o.«from» x inside shown in
     let two : Some other ≡ Some before = sym there ∙ at in
@@ -72,11 +76,13 @@ led_last old m o inside (before, at, moves) x shown =
 abbrev pub AddsOne : List BufferedState → BufferedState → List BufferedState → Type 0
 AddsOne old m new = (new ≡ old) ⊎ (new ≡ old ++ m ∷ [])
 
-kept_origins : (old new : List BufferedState) (m : BufferedState) (origins : List Origin) (o : Origin) → AreOrigins old origins → o.«from» < length old → IsLedFrom old o.«from» (move_of o.made) m → AddsOne old m new → AreOrigins new (take (length new) (origins ++ o ∷ []))
+kept_origins : (old new : List BufferedState) (m : BufferedState) (origins : List Origin) (o : Origin) → AreOrigins old origins → o.«from» <
+    length old → IsLedFrom old o.«from» (move_of o.made) m → AddsOne old m new → AreOrigins new (take (length new) (origins ++ o ∷ []))
 kept_origins old new m origins o are inside led (inl e) =
     let count = are.count in
     let size : length new ≡ length origins = ap (λ (ms : List BufferedState). length ms) e ∙ sym count in
-    let all : take (length new) (origins ++ o ∷ []) ≡ origins = take-append-le (length new) origins (o ∷ []) (omega arith) ∙ take_all (length new) origins (omega arith) in
+    let all : take (length new) (origins ++ o ∷ []) ≡ origins = take-append-le (length new) origins (o ∷ []) (omega arith) ∙ take_all
+    (length new) origins (omega arith) in
     subst (λ (ms : List BufferedState). AreOrigins ms (take (length new) (origins ++ o ∷ []))) (sym e) (subst (AreOrigins old) (sym all) are)
 kept_origins old new m origins o are inside led (inr e) =
     let count = are.count in
@@ -88,24 +94,29 @@ kept_origins old new m origins o are inside led (inr e) =
       count = omega arith;
       each = λ i some less. elim (cases_lt i (length old)) [
         | inl below ↦
-            subst (IsOrigin (old ++ m ∷ []) i) (sym (get_or-append origins (o ∷ []) no_origin i (omega arith))) (origin_still old (m ∷ []) i (origin_at origins i) below (are.each i some below))
+            subst (IsOrigin (old ++ m ∷ []) i) (sym (get_or-append origins (o ∷ []) no_origin i (omega arith)))
+            (origin_still old (m ∷ []) i (origin_at origins i) below (are.each i some below))
         | inr past ↦
             let last : i ≡ length old = omega arith in
             let place : length origins ≡ i = omega arith in
             let at : origin_at (origins ++ o ∷ []) i ≡ o = ap (origin_at (origins ++ o ∷ [])) (sym place) ∙ get_or-append_seam origins o [] no_origin in
-            subst (IsOrigin (old ++ m ∷ []) i) (sym at) (subst (λ (k : ℕ). IsOrigin (old ++ m ∷ []) k o) (sym last) (record { before = inside; leads = led_last old m o inside led }))
+            subst (IsOrigin (old ++ m ∷ []) i) (sym at) (subst (λ (k : ℕ). IsOrigin (old ++ m ∷ []) k o) (sym last)
+            (record { before = inside; leads = led_last old m o inside led }))
       ];
     } in
     subst (λ (ms : List BufferedState). AreOrigins ms (take (length new) (origins ++ o ∷ []))) (sym e) (subst (AreOrigins (old ++ m ∷ [])) (sym all) now)
 
 -- as many of the origins as machines are kept
-pub cut_origins : (old new : List BufferedState) (m : BufferedState) (origins pushed cut : List Origin) (o : Origin) (n : ℕ) → AreOrigins old origins → o.«from» < length old → IsLedFrom old o.«from» (move_of o.made) m → AddsOne old m new
+pub cut_origins : (old new : List BufferedState) (m : BufferedState) (origins pushed cut : List Origin) (o : Origin) (n : ℕ) → AreOrigins
+    old origins → o.«from» < length old → IsLedFrom old o.«from» (move_of o.made) m → AddsOne old m new
     → pushed ≡ origins ++ o ∷ [] → n ≡ length new → cut ≡ take n pushed → AreOrigins new cut
 cut_origins old new m origins pushed cut o n are inside led adds push count is =
-    subst (AreOrigins new) (sym (is ∙ (ap (λ (k : ℕ). take k pushed) count ∙ ap (take (length new)) push))) (kept_origins old new m origins o are inside led adds)
+    subst (AreOrigins new) (sym (is ∙ (ap (λ (k : ℕ). take k pushed) count ∙ ap (take (length new)) push)))
+    (kept_origins old new m origins o are inside led adds)
 
 -- ---- a schedule to each
-led_below : (kept : List BufferedState) (origins : List Origin) → AreOrigins kept origins → (n i : ℕ) → i < n → i < length kept → (schedule : List ℕ) × LeadsBy kept 0 (map move_of schedule) i
+led_below : (kept : List BufferedState) (origins : List Origin) → AreOrigins kept origins → (n i : ℕ) → i < n → i < length kept →
+    (schedule : List ℕ) × LeadsBy kept 0 (map move_of schedule) i
 led_below kept origins are zero i less inside = absurd (omega arith)
 led_below kept origins are (suc n) zero less inside = ([], leads_nowhere kept 0)
 led_below kept origins are (suc n) (suc i) less inside =
@@ -114,7 +125,8 @@ led_below kept origins are (suc n) (suc i) less inside =
     let before = is.before in
     let far = led_below kept origins are n o.«from» (omega arith) (omega arith) in (
       far.0 ++ o.made ∷ [],
-      subst (λ (ms : List Move). LeadsBy kept 0 ms (suc i)) (sym (map-append move_of far.0 (o.made ∷ []))) (leads_both kept 0 o.«from» (suc i) (map move_of far.0) (move_of o.made ∷ []) far.1 is.leads),
+      subst (λ (ms : List Move). LeadsBy kept 0 ms (suc i)) (sym (map-append move_of far.0 (o.made ∷ [])))
+          (leads_both kept 0 o.«from» (suc i) (map move_of far.0) (move_of o.made ∷ []) far.1 is.leads),
     )
 
 pub are_led : (kept : List BufferedState) (origins : List Origin) → AreOrigins kept origins → AreLed kept

@@ -31,7 +31,8 @@ exact w names f e are have =
 pub verdicts_on_x86_true : VerdictsOnX86AreTrue
 verdicts_on_x86_true w names f e exactly are have silent =
     let IsTrue : Verdict → Type 0 = IsTrueOf (IsOutcomeTextX86 w names) (EndsByX86 w names true) f e in
-    let rest : Bool → Verdict = λ patient. cond (patient && asks_ends e.often e.line) (ends_verdict f) (cond (patient && asks_hung e.often e.line) (hung_verdict f) (outcome_verdict f e)) in
+    let rest : Bool → Verdict = λ patient. cond (patient && asks_ends e.often e.line) (ends_verdict f)
+    (cond (patient && asks_hung e.often e.line) (hung_verdict f) (outcome_verdict f e)) in
     subst (λ (races : Bool). IsTrue (cond races (races_verdict f e.often) (rest f.patient))) (sym silent)
     (subst (λ (patient : Bool). IsTrue (rest patient)) (sym exactly) (exact w names f e are have))
 

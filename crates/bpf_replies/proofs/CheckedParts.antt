@@ -27,8 +27,10 @@ text_made : (o : CheckOptions) (name lines : List ℕ) (before : ℕ) (f : Findi
 text_made o name lines before f threads expected text tests head are is made =
     made ∙ (ap (λ (h : List ℕ). h ++ tests) is ∙ ap (λ (t : List ℕ). head_text (name ++ codes ": ") (states_of o f) threads ++ t) are)
 
-pub part_made : (o : CheckOptions) (name lines : List ℕ) (before : ℕ) (f : Findings) (threads : Threads) (expected given : List Expected) (text tests head : List ℕ) (count : ℕ) (end : Conclusion) (unmet told : Bool)
-    → given ≡ expected → tests ≡ listed_text (name_text name) lines before f given (verdicts_of f given) → count ≡ count_of f given → end ≡ conclusion_of f given
+pub part_made : (o : CheckOptions) (name lines : List ℕ) (before : ℕ) (f : Findings) (threads : Threads) (expected given : List Expected)
+    (text tests head : List ℕ) (count : ℕ) (end : Conclusion) (unmet told : Bool)
+    → given ≡ expected → tests ≡ listed_text (name_text name) lines before f given (verdicts_of f given) → count ≡ count_of f given → end ≡
+    conclusion_of f given
     → head ≡ head_text (name ++ codes ": ") (states_of o f) threads → text ≡ head ++ tests → unmet ≡ is_unmet end → told ≡ is_told end
     → part text count unmet told ≡ checked_part o name lines before f threads expected
 part_made o name lines before f threads expected given text tests head count end unmet told same are number ends is made met all =

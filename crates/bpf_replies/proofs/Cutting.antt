@@ -1,5 +1,6 @@
 -- Cutting a run file off an input, line by line.
-use Rattle.std.proofs.Common.{◌≡◌, ℕ, ◌+◌, true, false, List, [], ◌∷◌, ◌++◌, length, take, append_assoc, append-nil, Option, Some, None, inl, inr, refl, sym, ap, subst, ◌∙◌, arith}
+use Rattle.std.proofs.Common.{◌≡◌, ℕ, ◌+◌, true, false, List, [], ◌∷◌, ◌++◌, length, take, append_assoc, append-nil, Option, Some, None}
+use Rattle.std.proofs.Common.{inl, inr, refl, sym, ap, subst, ◌∙◌, arith}
 use Rattle.bpf_lines.specs.Lines.{lines_of, lines_behind, rest_size}
 use Rattle.bpf_file.proofs.LinesLeft.{line_cut, line_size, Remains, remains_next, passed_text}
 use Rattle.bpf_replies.specs.Script.{ends_file, NoneEnds, IsCut}
@@ -25,7 +26,8 @@ seen_start text = record {
   whole = omega arith;
 }
 
-pub seen_next : (text left line : List ℕ) (behind : Option (List ℕ)) (size : ℕ) → Seen text (Some left) size → lines_of left ≡ line ∷ lines_behind behind → ends_file line ≡ false → Seen text behind (size + (length line + 1))
+pub seen_next : (text left line : List ℕ) (behind : Option (List ℕ)) (size : ℕ) → Seen text (Some left) size → lines_of left ≡ line ∷
+    lines_behind behind → ends_file line ≡ false → Seen text behind (size + (length line + 1))
 seen_next text left line behind size s e unended =
     let sized : length left ≡ length line + rest_size behind = line_size left line behind e in
     record {
@@ -36,7 +38,8 @@ seen_next text left line behind size s e unended =
       whole = omega (arith, s.whole, sized);
     }
 
-pub seen_cut : (left line : List ℕ) (behind : Option (List ℕ)) (text : List ℕ) (size : ℕ) (file : List ℕ) → Seen text (Some left) size → lines_of left ≡ line ∷ lines_behind behind → ends_file line ≡ true → file ≡ take size text → IsCut text file (lines_behind behind)
+pub seen_cut : (left line : List ℕ) (behind : Option (List ℕ)) (text : List ℕ) (size : ℕ) (file : List ℕ) → Seen text (Some left) size →
+    lines_of left ≡ line ∷ lines_behind behind → ends_file line ≡ true → file ≡ take size text → IsCut text file (lines_behind behind)
 seen_cut left line behind text size file s e ended t =
     let sized : length left ≡ length line + rest_size behind = line_size left line behind e in
     inl (

@@ -54,7 +54,11 @@ fresh f shape can = record {
 
 -- and no two keys lead to one value
 pub is_new : (f : File) → IsShape (shape_of f) → CanRun f → IsNew (first_world_of f)
-is_new f shape can = record { fresh = fresh f shape can; own = (calls_keep (as_made (shape_of f)) (filled (shape_of f) f.pairs) (first_history f.pairs) (as_made_sound (shape_of f) shape, made_own (shape_of f)) (pairs_are_put (shape_of f) f.pairs shape can.pairs)).1 }
+is_new f shape can = record {
+  fresh = fresh f shape can;
+  own = (calls_keep (as_made (shape_of f)) (filled (shape_of f) f.pairs)
+      (first_history f.pairs) (as_made_sound (shape_of f) shape, made_own (shape_of f)) (pairs_are_put (shape_of f) f.pairs shape can.pairs)).1;
+}
 
 pub fresh_asked : (keys : Bool) (f : File) → IsShape (shape_of f) → CanRun f → IsFresh (asked_world_of keys f)
 fresh_asked keys f shape can = record { store = (fresh f shape can).store; waits = (fresh f shape can).waits }

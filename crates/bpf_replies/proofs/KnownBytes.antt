@@ -1,5 +1,6 @@
 -- Several reads, and several writes, in a row.
-use Rattle.std.proofs.Common.{◌≡◌, ◌∙◌, ℕ, ◌+◌, ◌<◌, ◌≤◌, List, ◌++◌, drop, length, take, Option, Some, None, ap, sym, append_assoc, arith, length-append, length-drop, ◌-◌}
+use Rattle.std.proofs.Common.{◌≡◌, ◌∙◌, ℕ, ◌+◌, ◌<◌, ◌≤◌, List, ◌++◌, drop, length, take, Option, Some, None, ap, sym, append_assoc, arith}
+use Rattle.std.proofs.Common.{length-append, length-drop, ◌-◌}
 use Rattle.std.specs.Prelude.{IfSome}
 use Rattle.std.proofs.lemmas.List.{take_all}
 use Rattle.std.proofs.Math.Seq.{take-add}

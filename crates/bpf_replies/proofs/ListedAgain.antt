@@ -41,7 +41,8 @@ moved a b alike (reply.Several printed refused unmet told) h = absurd h
 
 pub listing_answered : TextsAreDetermined → ListingsAssembleAlike → ListingsAreAnsweredAlike
 listing_answered texts listings text listing r h =
-    let there : (o : Result (List Insn) TextError) → Assembles text o → Assembles (string_bytes listing) o = λ o a. listings 0 h.1 text (string_bytes listing) o h.5 a in
+    let there : (o : Result (List Insn) TextError) → Assembles text o → Assembles (string_bytes listing) o = λ o a. listings 0 h.1 text
+    (string_bytes listing) o h.5 a in
     let back : (o : Result (List Insn) TextError) → Assembles (string_bytes listing) o → Assembles text o =
     λ o a. subst (λ (p : Result (List Insn) TextError). Assembles text p) (texts (string_bytes listing) (Ok h.0) o (there (Ok h.0) h.2) a) h.2 in
     (moved (string_bytes listing) text back r, moved text (string_bytes listing) there r)
@@ -53,7 +54,8 @@ small_bytes [] h = All-nil (λ b. b < 256)
 small_bytes (b ∷ bytes) h = All-cons (λ b. b < 256) b bytes (h 0) (small_bytes bytes (λ i. h (suc i)))
 
 module _ (texts : TextsAreDetermined) (encodings : EncodingsAreDetermined) (lines : ProgramLinesAssembleToTheirWords) where
-  words_printed : (text bytes : List ℕ) (is : List Insn) (r : Reply) → Assembles text (Ok is) → IsEncodedAs is bytes → All (λ b. b < 256) bytes → OfAssembly false text r
+  words_printed : (text bytes : List ℕ) (is : List Insn) (r : Reply) → Assembles text (Ok is) → IsEncodedAs is bytes → All (λ b. b < 256)
+      bytes → OfAssembly false text r
       → reply_text r ≡ word_lines (length bytes / 8) bytes
   words_printed text bytes is r stands encoded small (Assembled printed h) =
       let both : Ok h.0 ≡ Ok is = texts text (Ok h.0) (Ok is) h.2 stands in

@@ -1,5 +1,6 @@
 -- The replies of `debug` to one input print one text.
-use Rattle.std.proofs.Common.{◌≡◌, Bool, true, false, ℕ, List, [], ◌∷◌, ◌++◌, length, Option, option_map, Global, inl, inr, refl, sym, ap, subst, ◌∙◌, Ok, Err, map}
+use Rattle.std.proofs.Common.{◌≡◌, Bool, true, false, ℕ, List, [], ◌∷◌, ◌++◌, length, Option, option_map, Global, inl, inr, refl, sym, ap}
+use Rattle.std.proofs.Common.{subst, ◌∙◌, Ok, Err, map}
 use Rattle.std.specs.Prelude.{◌&&◌, Vec}
 use Rattle.bpf_lines.specs.Lines.{lines_behind}
 use Rattle.bpf_jobs.specs.Printed.{any_stopped}
@@ -25,7 +26,8 @@ use Rattle.bpf_replies.proofs.Shaped.{shaped}
 never_ends : (line : List ℕ) → ends_file line ≡ false → ends_file line ≡ true → ⊥
 never_ends line out is = let both : false ≡ true = sym out ∙ is in cc
 
-one_end : (xs ys : List (List ℕ)) (x y : List ℕ) (cs ds : List (List ℕ)) → xs ++ x ∷ cs ≡ ys ++ y ∷ ds → NoneEnds xs → ends_file x ≡ true → NoneEnds ys → ends_file y ≡ true → (xs ≡ ys) × (cs ≡ ds)
+one_end : (xs ys : List (List ℕ)) (x y : List ℕ) (cs ds : List (List ℕ)) → xs ++ x ∷ cs ≡ ys ++ y ∷ ds → NoneEnds xs → ends_file x ≡ true →
+    NoneEnds ys → ends_file y ≡ true → (xs ≡ ys) × (cs ≡ ds)
 one_end [] [] x y cs ds e a p b q = (refl, cc)
 one_end [] (z ∷ ys) x y cs ds e a p b q = let same : x ≡ z = cc in absurd (never_ends z b.0 (subst (λ (l : List ℕ). ends_file l ≡ true) same p))
 one_end (z ∷ xs) [] x y cs ds e a p b q = let same : z ≡ y = cc in absurd (never_ends z a.0 (subst (λ (l : List ℕ). ends_file l ≡ true) (sym same) q))
@@ -78,7 +80,8 @@ PrintsAs r s = (reply_text r ≡ reply_text s) × (status_of r ≡ status_of s)
 
 module _ (files : FilesAreDetermined) (runs : FilesCanRun) (scripts : ScriptsAreDetermined) where
   -- a file isn't both read and refused
-  not_both : (input file other : List ℕ) (cs ds : List (List ℕ)) (f : File) (line : ℕ) (why : Reason) → IsCut input file cs → IsRunFile file (Ok f) → IsCut input other ds → IsRunFile other (Err (FileError.Refused line why)) → ⊥
+  not_both : (input file other : List ℕ) (cs ds : List (List ℕ)) (f : File) (line : ℕ) (why : Reason) → IsCut input file cs → IsRunFile file
+      (Ok f) → IsCut input other ds → IsRunFile other (Err (FileError.Refused line why)) → ⊥
   not_both input file other cs ds f line why a said b refused =
       let one = one_cut input file other cs ds a b in
       let P : List ℕ → Type 0 = λ text. IsRunFile text (Err (FileError.Refused line why)) in
@@ -105,8 +108,10 @@ module _ (files : FilesAreDetermined) (runs : FilesCanRun) (scripts : ScriptsAre
             ∙ ap (shown_text (lines_behind (option_map (λ (v : Vec ℕ Global). v.items) more))) one.0,
         ap (λ (x : Bool). script_status x refused) ended ∙ ap (script_status halted) denies,
       )
-  one_reply echo strict input r s (Scripted answers lines stopped refused a had) (NoScript line why b) = absurd (not_both input a.0 b.0 a.1 b.1 a.2 line why a.4 a.5 b.2 b.3)
-  one_reply echo strict input r s (NoScript line why b) (Scripted answers lines stopped refused a had) = absurd (not_both input a.0 b.0 a.1 b.1 a.2 line why a.4 a.5 b.2 b.3)
+  one_reply echo strict input r s (Scripted answers lines stopped refused a had) (NoScript line why b) = absurd
+      (not_both input a.0 b.0 a.1 b.1 a.2 line why a.4 a.5 b.2 b.3)
+  one_reply echo strict input r s (NoScript line why b) (Scripted answers lines stopped refused a had) = absurd
+      (not_both input a.0 b.0 a.1 b.1 a.2 line why a.4 a.5 b.2 b.3)
   one_reply echo strict input r s (NoScript line why a) (NoScript place reason b) =
       let cut = one_cut input a.0 b.0 a.1 b.1 a.2 b.2 in
       let P : List ℕ → Type 0 = λ text. IsRunFile text (Err (FileError.Refused place reason)) in
@@ -114,5 +119,6 @@ module _ (files : FilesAreDetermined) (runs : FilesCanRun) (scripts : ScriptsAre
       let same : reply.Refused (refusal.File line why) ≡ reply.Refused (refusal.File place reason) = cc in
       (ap reply_text same, ap status_of same)
 
-  pub one_debug : (echo strict : Bool) (input : List ℕ) (r s : Reply) → IsScriptOfFile echo strict input r → IsScriptOfFile echo strict input s → IsOfInput r → IsOfInput s → PrintsAs r s
+  pub one_debug : (echo strict : Bool) (input : List ℕ) (r s : Reply) → IsScriptOfFile echo strict input r → IsScriptOfFile echo strict
+      input s → IsOfInput r → IsOfInput s → PrintsAs r s
   one_debug echo strict input r s a b n m = one_reply echo strict input r s (of_debug echo strict input r a n) (of_debug echo strict input s b m)

@@ -106,5 +106,6 @@ outcomes_are_determined files text xs ys limit states more others a b =
     let w = first_world_of a.0 in
     let names = a.0.names in
     let other = subst (λ (f : File). IsExplored (first_world_of f) f.names true ys true b.2 more others) (sym same) b.3 in
-    let told = same_told xs ys a.3.outcomes.sorted other.outcomes.sorted (all_told w names xs ys a.2 b.2 limit states more others a.3 other) (all_told w names ys xs b.2 a.2 more others limit states other a.3) in
+    let told = same_told xs ys a.3.outcomes.sorted other.outcomes.sorted (all_told w names xs ys a.2 b.2 limit states more others a.3 other)
+    (all_told w names ys xs b.2 a.2 more others limit states other a.3) in
     (told, stopped_told xs ∙ ap (list_any (λ (p : List ℕ × Bool). p.1)) told ∙ sym (stopped_told ys))

@@ -76,15 +76,18 @@ module _ (files : FilesAreDetermined) (runs : FilesCanRun) (reports : ReportsByA
 
   both_judged : (by : List (ℕ × ℕ)) (keys : Bool) (text : List ℕ) (p q : String Global) (x y : Bool) → IsJudgedOfFile by keys text (reply.Jobs p x)
       → IsJudgedOfFile by keys text (reply.Jobs q y) → PrintsAs (reply.Jobs p x) (reply.Jobs q y)
-  both_judged by keys text p q x y (expected, (f, said, is, none), (g, read, (lines, stopped, told, shows, refutes))) (wanted, (h, known, are, clean), (k, seen, (others, halted, heard, shown, denied))) =
+  both_judged by keys text p q x y (expected, (f, said, is, none), (g, read, (lines, stopped, told, shows, refutes)))
+      (wanted, (h, known, are, clean), (k, seen, (others, halted, heard, shown, denied))) =
       let same = one_file text f h said known in
       let want : expected ≡ wanted = is ∙ (ap (λ (m : File). expectations_of (subjects_of (for_run keys) m) text) same ∙ sym are) in
       let file = one_file text k g seen read in
       let there = subst (λ (m : File). IsToldBy by keys true m others halted) file heard in
       let w = asked_world_of keys g in
-      let line : lines ≡ others = (reports w by g.names true lines others stopped halted (fresh_asked keys g (shaped text g read) (runs text g read)) told there).0 in (
+      let line : lines ≡ others = (reports w by g.names true lines others stopped halted
+      (fresh_asked keys g (shaped text g read) (runs text g read)) told there).0 in (
         shows ∙ (ap (λ (t : List ℕ). judged_text t expected) line ∙ (ap (λ (es : List Expected). judged_text others es) want ∙ sym shown)),
-        ap jobs_status (refutes ∙ (ap (λ (t : List ℕ). is_any_refuted t expected) line ∙ (ap (λ (es : List Expected). is_any_refuted others es) want ∙ sym denied))),
+        ap jobs_status (refutes ∙ (ap (λ (t : List ℕ). is_any_refuted t expected) line ∙
+            (ap (λ (es : List Expected). is_any_refuted others es) want ∙ sym denied))),
       )
 
   one_reply : (by : List (ℕ × ℕ)) (keys : Bool) (text : List ℕ) (r s : Reply) → OfJudged by keys text r → OfJudged by keys text s → PrintsAs r s
@@ -106,7 +109,8 @@ module _ (files : FilesAreDetermined) (runs : FilesCanRun) (reports : ReportsByA
   one_reply by keys text r s (NoFile line why a) (Amiss place b) = let (strict, (g, read, rest)) = b in absurd (no_file text g line why read a)
   one_reply by keys text r s (Amiss place a) (NoFile line why b) = let (strict, (g, read, rest)) = a in absurd (no_file text g line why read b)
   one_reply by keys text r s (Amiss line a) (Amiss place b) =
-      let same : reply.Refused (refusal.Comment line) ≡ reply.Refused (refusal.Comment place) = ap (λ (n : ℕ). reply.Refused (refusal.Comment n)) (one_amiss text keys line place a b) in
+      let same : reply.Refused (refusal.Comment line) ≡ reply.Refused (refusal.Comment place) = ap
+      (λ (n : ℕ). reply.Refused (refusal.Comment n)) (one_amiss text keys line place a b) in
       (ap reply_text same, ap status_of same)
 
   pub one_judged : (by : List (ℕ × ℕ)) (keys : Bool) (text : List ℕ) (r s : Reply) → IsJudgedOfFile by keys text r → IsJudgedOfFile by keys text s

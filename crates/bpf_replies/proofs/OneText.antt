@@ -38,7 +38,8 @@ use Rattle.bpf_replies.proofs.FreshFiles.{fresh_asked}
 use Rattle.bpf_replies.proofs.Shaped.{shaped}
 use Rattle.bpf_replies.proofs.OneDebug.{PrintsAs}
 use Rattle.bpf_replies.specs.Answer.{jobs_status, status_of, reply_text}
-use Rattle.bpf_replies.specs.Programs.{IsAssembled, IsAssembledRun, IsDisassembled, IsRun, IsWordsOf, RefusesAssembly, RefusesProgram, RefusesWords, ShowsWords, shown_program, no_names, bare_shape}
+use Rattle.bpf_replies.specs.Programs.{IsAssembled, IsAssembledRun, IsDisassembled, IsRun, IsWordsOf, RefusesAssembly, RefusesProgram}
+use Rattle.bpf_replies.specs.Programs.{RefusesWords, ShowsWords, shown_program, no_names, bare_shape}
 use Rattle.bpf_replies.specs.Running.{IsHistoryBy, IsOfFile, IsToldBy}
 use Rattle.bpf_replies.specs.Script.{asked_world_of}
 use Rattle.bpf_replies.specs.Laws.{IsOfInput, IsForAnyInput}
@@ -59,7 +60,8 @@ abbrev pub loaded : List Insn → Loaded
 loaded is = record { instructions = is; named = no_names }
 
 -- a run whose counter can't be worn is one whose counter may be
-unworn : (program : Loaded) (budget : ℕ) (old : Cpu) (events : List Event) (outcome : Outcome) → Explains ⊥ bare_shape program budget old events outcome → Explains (Unit {0}) bare_shape program budget old events outcome
+unworn : (program : Loaded) (budget : ℕ) (old : Cpu) (events : List Event) (outcome : Outcome) → Explains ⊥ bare_shape program budget old
+    events outcome → Explains (Unit {0}) bare_shape program budget old events outcome
 unworn program budget old events outcome (inl runs) = inl runs
 unworn program budget old events outcome (inr worn) = absurd worn.2
 
@@ -67,12 +69,15 @@ unworn program budget old events outcome (inr worn) = absurd worn.2
 
 pub data OfWords (text : List ℕ) : Refusal → Type 0 where
   NoDigits : ((bytes : List ℕ) → ¬ IsHexOf text bytes) → OfWords text (refusal.Hex hex_error.NotHex)
-  NoWords : (error : InsnError) (bytes : List ℕ) → IsHexOf text bytes → IsRefused error bytes → error ≢ insn_error.OutOfMemory → OfWords text (refusal.Insn error)
+  NoWords : (error : InsnError) (bytes : List ℕ) → IsHexOf text bytes → IsRefused error bytes → error ≢ insn_error.OutOfMemory → OfWords
+      text (refusal.Insn error)
 
 pub data OfRun (budget : ℕ) (context text : List ℕ) : Reply → Type 0 where
   Ran : (outcome : Outcome) (is : List Insn) (events : List Event) → IsWordsOf text is → IsSound no_names is
-      → Explains ⊥ bare_shape (record { instructions = is; named = no_names }) budget (start 0 (of_bytes context)) events outcome → OfRun budget context text (reply.Ended outcome)
-  Unsound : (error : LoadError) (is : List Insn) → IsWordsOf text is → IsFirstRefusal no_names is error → OfRun budget context text (reply.Refused (refusal.Load error))
+      → Explains ⊥ bare_shape (record { instructions = is; named = no_names }) budget (start 0 (of_bytes context)) events outcome → OfRun
+      budget context text (reply.Ended outcome)
+  Unsound : (error : LoadError) (is : List Insn) → IsWordsOf text is → IsFirstRefusal no_names is error → OfRun budget context text
+      (reply.Refused (refusal.Load error))
   Unread : (r : Refusal) → OfWords text r → OfRun budget context text (reply.Refused r)
 
 pub data OfAssembly (listing : Bool) (text : List ℕ) : Reply → Type 0 where
@@ -83,7 +88,8 @@ pub data OfListing (pc : Bool) (text : List ℕ) : Reply → Type 0 where
   Listed : (printed : _) → IsDisassembled pc text (reply.Text printed) → OfListing pc text (reply.Text printed)
   Unlisted : (r : Refusal) → OfWords text r → OfListing pc text (reply.Refused r)
 
-of_insn : (text : List ℕ) (error : InsnError) → RefusesWords text (refusal.Insn error) → ¬ IsForAnyInput (refusal.Insn error) → OfWords text (refusal.Insn error)
+of_insn : (text : List ℕ) (error : InsnError) → RefusesWords text (refusal.Insn error) → ¬ IsForAnyInput (refusal.Insn error) → OfWords text
+    (refusal.Insn error)
 of_insn text insn_error.OutOfMemory h n = absurd (n tt)
 of_insn text error h n = NoWords error h.0 h.1 h.2 (λ e. cc)
 
@@ -111,7 +117,8 @@ of_run budget context text (reply.Outcomes printed stopped all) h n = absurd h
 of_run budget context text (reply.NoOutcome printed all) h n = absurd h
 of_run budget context text (reply.Several printed refused unmet told) h n = absurd h
 
-of_refused_text : (listing : Bool) (text : List ℕ) (error : TextError) → RefusesAssembly text (refusal.Text error) → ¬ IsForAnyInput (refusal.Text error) → OfAssembly listing text (reply.Refused (refusal.Text error))
+of_refused_text : (listing : Bool) (text : List ℕ) (error : TextError) → RefusesAssembly text (refusal.Text error) → ¬ IsForAnyInput
+    (refusal.Text error) → OfAssembly listing text (reply.Refused (refusal.Text error))
 of_refused_text listing text error (inl memory) n = absurd (n (subst (λ (e : TextError). IsForAnyInput (refusal.Text e)) (sym memory) tt))
 of_refused_text listing text error (inr h) n = NoAssembly error h
 
@@ -178,7 +185,9 @@ one_showing : (listing : Bool) (text bytes p q : List ℕ) → ShowsWords listin
 one_showing false text bytes p q a b = a ∙ sym b
 one_showing true text bytes p q a b = one_listing_of 0 bytes (lines_of text) p q a b
 
-module _ (words : WordsAreDetermined) (encodings : EncodingsAreDetermined) (refusals : RefusalsAreDetermined) (firsts : FirstIsDetermined) (texts : TextsAreDetermined) (outcomes : OutcomesAreDetermined) (events : NoMapsNoEvents) (files : FilesAreDetermined) (runs : FilesCanRun) (reports : ReportsByAreDetermined) (histories : HistoriesAreDetermined) (scripts : ScriptsAreDetermined) where
+module _ (words : WordsAreDetermined) (encodings : EncodingsAreDetermined) (refusals : RefusalsAreDetermined) (firsts : FirstIsDetermined)
+    (texts : TextsAreDetermined) (outcomes : OutcomesAreDetermined) (events : NoMapsNoEvents) (files : FilesAreDetermined)
+    (runs : FilesCanRun) (reports : ReportsByAreDetermined) (histories : HistoriesAreDetermined) (scripts : ScriptsAreDetermined) where
   same_bytes : (text xs ys : List ℕ) → IsHexOf text xs → IsHexOf text ys → xs ≡ ys
   same_bytes text xs ys a b = cc
 
@@ -210,7 +219,8 @@ module _ (words : WordsAreDetermined) (encodings : EncodingsAreDetermined) (refu
       let alone = events 1 (loaded is) budget 0 (of_bytes context) es x runs in
       let alone' = events 1 (loaded is) budget 0 (of_bytes context) fs y other in
       let Q : List Event → Type 0 = λ es. Explains ⊥ bare_shape (loaded is) budget (start 0 (of_bytes context)) es y in
-      ap reply.Ended (outcomes bare_shape (loaded is) budget 0 (of_bytes context) es x y (h, omega arith) (unworn (loaded is) budget (start 0 (of_bytes context)) es x runs)
+      ap reply.Ended (outcomes bare_shape (loaded is) budget 0 (of_bytes context) es x y (h, omega arith)
+      (unworn (loaded is) budget (start 0 (of_bytes context)) es x runs)
       (unworn (loaded is) budget (start 0 (of_bytes context)) es y (subst Q (alone' ∙ sym alone) other)))
   one_run budget context text r s h (Ran x is es a sound runs) (Unsound error js b first) =
       let P : List Insn → Type 0 = λ is. IsFirstRefusal no_names is error in
@@ -245,24 +255,30 @@ module _ (words : WordsAreDetermined) (encodings : EncodingsAreDetermined) (refu
       (one_showing listing text a.1 (string_bytes p) (string_bytes q) a.5 (subst Q (sym bytes) b.5), refl)
   one_assembly listing text r s (Assembled p a) (NoAssembly e b) = let both : Ok a.0 ≡ Err e = texts text (Ok a.0) (Err e) a.2 b in absurd cc
   one_assembly listing text r s (NoAssembly e b) (Assembled p a) = let both : Ok a.0 ≡ Err e = texts text (Ok a.0) (Err e) a.2 b in absurd cc
-  one_assembly listing text r s (NoAssembly e a) (NoAssembly f b) = let both = texts text (Err e) (Err f) a b in let same : e ≡ f = cc in prints r s (ap (λ error. reply.Refused (refusal.Text error)) same)
+  one_assembly listing text r s (NoAssembly e a) (NoAssembly f b) =
+      let both = texts text (Err e) (Err f) a b in let same : e ≡ f = cc in prints r s (ap (λ error. reply.Refused (refusal.Text error)) same)
 
   -- `asm` followed by `hex`
-  pub one_assembled_run : (budget : ℕ) (context text : List ℕ) (r s : Reply) → length context ≤ max_context → IsAssembledRun budget context text r → IsAssembledRun budget context text s → IsOfInput r → IsOfInput s → PrintsAs r s
+  pub one_assembled_run : (budget : ℕ) (context text : List ℕ) (r s : Reply) → length context ≤ max_context → IsAssembledRun budget context
+      text r → IsAssembledRun budget context text s → IsOfInput r → IsOfInput s → PrintsAs r s
   one_assembled_run budget context text r s h (inl (e, same, a)) (inl (f, other, b)) n m =
       let first = refused_assembly text e a (subst IsOfInput same n) in
       let second = refused_assembly text f b (subst IsOfInput other m) in
       let both = one_assembly false text (reply.Refused e) (reply.Refused f) first second in
       (ap reply_text same ∙ both.0 ∙ sym (ap reply_text other), ap status_of same ∙ both.1 ∙ sym (ap status_of other))
   one_assembled_run budget context text r s h (inl (e, same, a)) (inr (q, b, run)) n m =
-      absurd (not_both (one_assembly false text (reply.Refused e) (reply.Text q) (refused_assembly text e a (subst IsOfInput same n)) (of_assembly false text (reply.Text q) b tt)).1)
+      absurd (not_both (one_assembly false text (reply.Refused e) (reply.Text q) (refused_assembly text e a (subst IsOfInput same n))
+      (of_assembly false text (reply.Text q) b tt)).1)
   one_assembled_run budget context text r s h (inr (p, a, run)) (inl (f, other, b)) n m =
-      absurd (not_both (sym (one_assembly false text (reply.Text p) (reply.Refused f) (of_assembly false text (reply.Text p) a tt) (refused_assembly text f b (subst IsOfInput other m))).1))
+      absurd (not_both (sym (one_assembly false text (reply.Text p) (reply.Refused f) (of_assembly false text (reply.Text p) a tt)
+      (refused_assembly text f b (subst IsOfInput other m))).1))
   one_assembled_run budget context text r s h (inr (p, a, run)) (inr (q, b, other)) n m =
-      let same : string_bytes p ≡ string_bytes q = (one_assembly false text (reply.Text p) (reply.Text q) (of_assembly false text (reply.Text p) a tt) (of_assembly false text (reply.Text q) b tt)).0 in
+      let same : string_bytes p ≡ string_bytes q = (one_assembly false text (reply.Text p) (reply.Text q)
+      (of_assembly false text (reply.Text p) a tt) (of_assembly false text (reply.Text q) b tt)).0 in
       let P : List ℕ → Type 0 = λ bytes. IsRun budget context bytes s in
       let again = subst P (sym same) other in
-      prints r s (one_run budget context (string_bytes p) r s h (of_run budget context (string_bytes p) r run n) (of_run budget context (string_bytes p) s again m))
+      prints r s (one_run budget context (string_bytes p) r s h (of_run budget context (string_bytes p) r run n)
+      (of_run budget context (string_bytes p) s again m))
 
   pub one_told : (by : List (ℕ × ℕ)) (keys maps : Bool) → IsOne (IsToldBy by keys maps)
   one_told by keys maps f shape can p q x y a b = reports (asked_world_of keys f) by f.names maps p q x y (fresh_asked keys f shape can) a b
@@ -277,12 +293,15 @@ module _ (words : WordsAreDetermined) (encodings : EncodingsAreDetermined) (refu
       let P : File → Type 0 = λ f. Told f (string_bytes q) y in
       let told = one a.0 (shaped text a.0 a.1) (runs text a.0 a.1) (string_bytes p) (string_bytes q) x y a.2 (subst P (sym same) b.2) in
       (told.0, ap jobs_status told.1)
-  one_file Told one text r s (Told_of p x a) (NoFile line why b) = let both : Ok a.0 ≡ Err (FileError.Refused line why) = files text (Ok a.0) (Err (FileError.Refused line why)) a.1 b in absurd cc
-  one_file Told one text r s (NoFile line why b) (Told_of p x a) = let both : Ok a.0 ≡ Err (FileError.Refused line why) = files text (Ok a.0) (Err (FileError.Refused line why)) a.1 b in absurd cc
+  one_file Told one text r s (Told_of p x a) (NoFile line why b) =
+      let both : Ok a.0 ≡ Err (FileError.Refused line why) = files text (Ok a.0) (Err (FileError.Refused line why)) a.1 b in absurd cc
+  one_file Told one text r s (NoFile line why b) (Told_of p x a) =
+      let both : Ok a.0 ≡ Err (FileError.Refused line why) = files text (Ok a.0) (Err (FileError.Refused line why)) a.1 b in absurd cc
   one_file Told one text r s (NoFile line why a) (NoFile place reason b) =
       let both = files text (Err (FileError.Refused line why)) (Err (FileError.Refused place reason)) a b in
       prints r s cc
 
   -- and so to all that is printed of a file
-  pub one_of_file : (Told : File → List ℕ → Bool → Type 0) → IsOne Told → (text : List ℕ) (r s : Reply) → IsOfFile Told text r → IsOfFile Told text s → IsOfInput r → IsOfInput s → PrintsAs r s
+  pub one_of_file : (Told : File → List ℕ → Bool → Type 0) → IsOne Told → (text : List ℕ) (r s : Reply) → IsOfFile Told text r → IsOfFile
+      Told text s → IsOfInput r → IsOfInput s → PrintsAs r s
   one_of_file Told one text r s a b n m = one_file Told one text r s (of_file Told text r a n) (of_file Told text s b m)

@@ -20,9 +20,11 @@ use Rattle.bpf_replies.specs.declared.reply.Reply.{Reply}
 use Rattle.bpf_replies.specs.declared.reply.Reply.TheVariants as reply
 
 -- the reply to a file that was read is one to the input that it was cut off
-pub of_file : (echo strict : Bool) (input file : List ℕ) (commands : List (List ℕ)) (f : RunFile) (r : Reply) → IsCut input file commands → IsRunFile file (Ok (file_of f))
+pub of_file : (echo strict : Bool) (input file : List ℕ) (commands : List (List ℕ)) (f : RunFile) (r : Reply) → IsCut input file commands →
+    IsRunFile file (Ok (file_of f))
     → IsDebugReply echo strict f commands r → IsScriptOfFile echo strict input r
-of_file echo strict input file commands f (reply.Script answers lines stopped refused) cut said h = (file, commands, file_of f, h.0, cut, said, h.1, h.2, h.3, h.4)
+of_file echo strict input file commands f (reply.Script answers lines stopped refused) cut said h =
+    (file, commands, file_of f, h.0, cut, said, h.1, h.2, h.3, h.4)
 of_file echo strict input file commands f (reply.Refused r) cut said h = absurd h
 of_file echo strict input file commands f (reply.Ended outcome) cut said h = absurd h
 of_file echo strict input file commands f (reply.Text text) cut said h = absurd h
@@ -33,7 +35,8 @@ of_file echo strict input file commands f (reply.NoOutcome text all) cut said h 
 of_file echo strict input file commands f (reply.Several text refused unmet told) cut said h = absurd h
 
 -- that of a file that isn't read
-pub of_no_file : (echo strict : Bool) (input file : List ℕ) (commands : List (List ℕ)) (e : FileError) → IsCut input file commands → (e ≡ file_error.OutOfMemory) ⊎ IsRunFile file (Err e)
+pub of_no_file : (echo strict : Bool) (input file : List ℕ) (commands : List (List ℕ)) (e : FileError) → IsCut input file commands →
+    (e ≡ file_error.OutOfMemory) ⊎ IsRunFile file (Err e)
     → IsScriptOfFile echo strict input (reply.Refused (file_refusal e))
 of_no_file echo strict input file commands (file_error.Refused line why) cut (inl lacks) = absurd (let wrong : ⊥ = cc in wrong)
 of_no_file echo strict input file commands (file_error.Refused line why) cut (inr said) = (file, commands, cut, said)
@@ -46,8 +49,10 @@ refused_alike (Ok text ∷ answers) = refused_alike answers
 refused_alike (Err e ∷ answers) = refl
 
 -- the session that was made of a file, and what is printed of its machine in the end
-pub ended : (echo strict : Bool) (f : RunFile) (commands : List (List ℕ)) (s t : SessionState) (answers : List Answer) (lines : Option (Vec ℕ Global)) (stopped refused : Bool)
-    → Shows s.machine (first_world_of (file_of f)) → Shows s.first (first_world_of (file_of f)) → s.names ≡ (file_of f).names → s.breaks ≡ [] → s.watch ≡ None → s.course ≡ Some []
+pub ended : (echo strict : Bool) (f : RunFile) (commands : List (List ℕ)) (s t : SessionState) (answers : List Answer)
+    (lines : Option (Vec ℕ Global)) (stopped refused : Bool)
+    → Shows s.machine (first_world_of (file_of f)) → Shows s.first (first_world_of (file_of f)) → s.names ≡ (file_of f).names → s.breaks ≡
+    [] → s.watch ≡ None → s.course ≡ Some []
     → ((x : Scene) → IsShown s x → (y : Scene) × RunsScript x commands answers y × IsShown t y)
     → AreShown echo commands lines → stopped ≡ any_stopped (length t.machine.jobs) t.machine.jobs
     → refused ≡ (strict && any_refused answers)
@@ -56,7 +61,15 @@ pub ended : (echo strict : Bool) (f : RunFile) (commands : List (List ℕ)) (s t
     × (refused ≡ (strict && any_refused answers))
 ended echo strict f commands s t answers lines stopped refused shows first names breaks watch course follows shown tells denies =
     let kept : IsKept s.course [] = subst (λ (o : Option (List (ℕ × ℕ))). IsKept o []) (sym course) refl in
-    let done = follows (scene_of (file_of f)) (record { world = shows; first = first; names = sym names; breaks = sym breaks; watch = sym watch; turns = kept }) in
+    let done = follows (scene_of (file_of f)) (record {
+      world = shows;
+      first = first;
+      names = sym names;
+      breaks = sym breaks;
+      watch = sym
+          watch;
+      turns = kept;
+    }) in
     let P : List Task → Type 0 = λ jobs. stopped ≡ any_stopped (length jobs) jobs in (
       done.0,
       done.1,

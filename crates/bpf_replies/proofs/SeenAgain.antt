@@ -1,5 +1,6 @@
 -- What a search shows of an outcome, its schedule and rounds after it show again.
-use Rattle.std.proofs.Common.{◌≡◌, ◌∙◌, ℕ, zero, suc, ◌==◌, Bool, true, false, List, [], ◌∷◌, ◌++◌, Option, Some, None, Ok, inl, inr, cond, length, refl, sym, ap, subst, string_bytes}
+use Rattle.std.proofs.Common.{◌≡◌, ◌∙◌, ℕ, zero, suc, ◌==◌, Bool, true, false, List, [], ◌∷◌, ◌++◌, Option, Some, None, Ok, inl, inr, cond}
+use Rattle.std.proofs.Common.{length, refl, sym, ap, subst, string_bytes}
 use Rattle.std.specs.Prelude.{slice_get}
 use Rattle.bpf_shared.specs.Store.{Plain, put}
 use Rattle.bpf_names.specs.Names.{Names}
@@ -97,7 +98,8 @@ one_report files runs reports text found g printed stopped (f, said, ends) read 
     let same : g ≡ f = cc in
     let w = first_world_of f in
     let known = subst (λ (h : File). IsReportBy (first_world_of h) found.by h.names true printed stopped) same report in
-    reports w found.by f.names true printed found.text stopped found.stopped (fresh f (shaped text f said) (runs text f said)) known (reported w f.names true found (λ c. refl) ends)
+    reports w found.by f.names true printed found.text stopped found.stopped (fresh f (shaped text f said) (runs text f said)) known
+    (reported w f.names true found (λ c. refl) ends)
 
 pub witnesses_are_seen_again : FilesAreDetermined → FilesCanRun → ReportsByAreDetermined → WitnessesAreSeenAgain
 witnesses_are_seen_again files runs reports patient text answers all limit states i found printed stopped explored at (g, read, report) =

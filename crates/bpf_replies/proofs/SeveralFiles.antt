@@ -1,5 +1,6 @@
 -- Files one after the other.
-use Rattle.std.proofs.Common.{◌≡◌, ℕ, Bool, ◌+◌, ◌<◌, List, ◌∷◌, Option, Some, None, Result, Ok, Err, String, Global, inl, length, get_or, drop, map, string_bytes, sym, ap, subst, ◌∙◌}
+use Rattle.std.proofs.Common.{◌≡◌, ℕ, Bool, ◌+◌, ◌<◌, List, ◌∷◌, Option, Some, None, Result, Ok, Err, String, Global, inl, length, get_or}
+use Rattle.std.proofs.Common.{drop, map, string_bytes, sym, ap, subst, ◌∙◌}
 use Rattle.std.specs.Prelude.{IfOk, IfSome}
 use Rattle.std.proofs.lemmas.List.{drop_more}
 use Rattle.bpf_check.specs.Findings.{Raced}
@@ -17,7 +18,8 @@ of_file (Some bytes) read (Ok p) P same h = subst (λ (bs : List ℕ). P bs p) s
 of_file file read (Err e) P same h = tt
 
 -- a file whose bytes can't be read is refused
-pub of_no_file : {E : Type 0} (Finds : Bool → ℕ → List ℕ → Raced → Type 0) (file : Option (List ℕ)) (o : CheckOptions) (name : List ℕ) (before : ℕ) (why : Refusal) (r : Result FilePart E)
+pub of_no_file : {E : Type 0} (Finds : Bool → ℕ → List ℕ → Raced → Type 0) (file : Option (List ℕ)) (o : CheckOptions) (name : List ℕ)
+    (before : ℕ) (why : Refusal) (r : Result FilePart E)
     → IfSome file (λ bytes. RefusesInput bytes why) → IfOk r (λ p. seen p ≡ refused_part name why)
     → IfOk r (λ p. IfSome file (λ bytes. IsPart Finds o name before bytes (seen p)))
 of_no_file Finds None o name before why (Ok p) refuses is = tt
@@ -25,18 +27,21 @@ of_no_file Finds (Some bytes) o name before why (Ok p) refuses is = inl (why, re
 of_no_file Finds file o name before why (Err e) refuses is = tt
 
 -- bytes that are no text are refused
-pub of_no_text : {E : Type 0} (Finds : Bool → ℕ → List ℕ → Raced → Type 0) (o : CheckOptions) (name : List ℕ) (before : ℕ) (bytes : List ℕ) (why : Refusal) (r : Result FilePart E)
+pub of_no_text : {E : Type 0} (Finds : Bool → ℕ → List ℕ → Raced → Type 0) (o : CheckOptions) (name : List ℕ) (before : ℕ) (bytes : List ℕ)
+    (why : Refusal) (r : Result FilePart E)
     → RefusesInput bytes why → IfOk r (λ p. seen p ≡ refused_part name why) → IfOk r (λ p. IsPart Finds o name before bytes (seen p))
 of_no_text Finds o name before bytes why (Ok p) refuses is = inl (why, refuses, is)
 of_no_text Finds o name before bytes why (Err e) refuses is = tt
 
 -- what is printed of the files from this one on is printed after what is printed of those before it
-abbrev pub Follows : (Finds : Bool → ℕ → List ℕ → Raced → Type 0) → CheckOptions → (List ℕ → Option (List ℕ)) → List (String Global) → ℕ → (first so_far : Part) → Type 0
+abbrev pub Follows : (Finds : Bool → ℕ → List ℕ → Raced → Type 0) → CheckOptions → (List ℕ → Option (List ℕ)) → List (String Global) → ℕ →
+    (first so_far : Part) → Type 0
 Follows Finds o files names i first so_far = (all : Part)
     → AreTold Finds o files (map string_bytes (drop i names)) so_far all
     → AreTold Finds o files (map string_bytes names) first all
 
-pub one_more : (Finds : Bool → ℕ → List ℕ → Raced → Type 0) (o : CheckOptions) (files now : List ℕ → Option (List ℕ)) (names : List (String Global)) (i : ℕ) (name : String Global) (first so_far after part : Part)
+pub one_more : (Finds : Bool → ℕ → List ℕ → Raced → Type 0) (o : CheckOptions) (files now : List ℕ → Option (List ℕ))
+    (names : List (String Global)) (i : ℕ) (name : String Global) (first so_far after part : Part)
     → i < length names → name ≡ get_or names i name → now ≡ files
     → IfSome (now (string_bytes name)) (λ bytes. IsPart Finds o (string_bytes name) so_far.tests bytes part)
     → after ≡ with_part so_far part

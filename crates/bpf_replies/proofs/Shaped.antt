@@ -1,5 +1,6 @@
 -- Every file that a text says has a shape that a store may have.
-use Rattle.std.proofs.Common.{◌≡◌, ℕ, ◌+◌, ◌-◌, ◌/◌, ◌≤◌, ◌==◌, nat_le, nat_lt, Bool, true, false, if◌then◌else◌, List, [], ◌∷◌, length, Option, Some, None, Result, Ok, Err, sym, subst, arith}
+use Rattle.std.proofs.Common.{◌≡◌, ℕ, ◌+◌, ◌-◌, ◌/◌, ◌≤◌, ◌==◌, nat_le, nat_lt, Bool, true, false, if◌then◌else◌, List, [], ◌∷◌, length}
+use Rattle.std.proofs.Common.{Option, Some, None, Result, Ok, Err, sym, subst, arith}
 use Rattle.std.proofs.lemmas.Bool.Decides.{nat_tests}
 use Rattle.std.specs.Prelude.{MatchResult, slice_get}
 use Rattle.hex.specs.Hex.{decode_of}
@@ -25,7 +26,11 @@ use Rattle.bpf_file.specs.Statement.{Said, Version, Cpus, Seed, Map, Array, Data
 use Rattle.bpf_file.specs.File.{File, shape_of}
 use Rattle.bpf_file.specs.Parts.{Part, State, Between, Within, nothing, place_of, array_place, with_cpus, with_map, with_array, with_pair, with_variable}
 use Rattle.bpf_file.specs.Programs.{text_of_lines}
-use Rattle.bpf_file.specs.Rows.{unless, cpus_refusal, map_refusal, array_refusal, data_refusal, data_laid, or_refused, data_added, name_refusal, place_refusal, variable_added, is_sized, is_numbered, pair_refusal, pair_put, value_put, key_put, pair_added, value_place, element_put, element_added, numbered_bytes, pair_numbered, element_numbered, put_added, numbers_added, program_added, WordsAdd, served, context_of, job_added, placed, AddsLine, input_said, job_put}
+use Rattle.bpf_file.specs.Rows.{unless, cpus_refusal, map_refusal, array_refusal, data_refusal, data_laid, or_refused, data_added}
+use Rattle.bpf_file.specs.Rows.{name_refusal, place_refusal, variable_added, is_sized, is_numbered, pair_refusal, pair_put, value_put}
+use Rattle.bpf_file.specs.Rows.{key_put, pair_added, value_place, element_put, element_added, numbered_bytes, pair_numbered}
+use Rattle.bpf_file.specs.Rows.{element_numbered, put_added, numbers_added, program_added, WordsAdd, served, context_of, job_added, placed}
+use Rattle.bpf_file.specs.Rows.{AddsLine, input_said, job_put}
 use Rattle.bpf_file.specs.Reading.{AddsOrRefuses, FieldsSay, is_end, Belongs, ReadsLine, finished, AreRead, IsRunFile}
 use Rattle.bpf_file.specs.Private.Fits.{IsFit, IsFitState, IsFitResult}
 use Rattle.bpf_file.proofs.Fits.{fit_nothing, line_fits, opening_fits, section_fits}
@@ -78,7 +83,8 @@ key_closed n p m (Err e) value = tt
 pair_added_closed : (n : ℕ) (p : Part) (m : ℕ) (key value : List ℕ) (h : Option MapShape) → IsClosed (pair_added n p m key value h)
 pair_added_closed n p m key value None = tt
 pair_added_closed n p m key value (Some h) =
-    or_closed n (pair_refusal p.file m (is_sized (length key / 2) (length value / 2) h) h) (key_put n p m (decode_of key) (decode_of value)) (key_closed n p m (decode_of key) (decode_of value))
+    or_closed n (pair_refusal p.file m (is_sized (length key / 2) (length value / 2) h) h) (key_put n p m (decode_of key) (decode_of value))
+    (key_closed n p m (decode_of key) (decode_of value))
 
 element_closed : (n : ℕ) (p : Part) (a : ℕ) (at : Result ℕ Reason) (bytes : Result (List ℕ) FromHexError) → IsClosed (element_put n p a at bytes)
 element_closed n p a (Ok at) bytes = laid_closed n p a at bytes
@@ -103,7 +109,8 @@ put_closed n p None key value = tt
 put_closed n p (Some k) key value =
     let maps = p.file.maps in
     let a = k - length maps in
-    if_closed (nat_lt k (length maps)) (pair_added n p k key value (slice_get maps k)) (element_added n p a (written_number key) value (slice_get p.file.arrays a))
+    if_closed (nat_lt k (length maps)) (pair_added n p k key value (slice_get maps k))
+    (element_added n p a (written_number key) value (slice_get p.file.arrays a))
     (pair_added_closed n p k key value (slice_get maps k)) (element_added_closed n p a (written_number key) value (slice_get p.file.arrays a))
 
 numbers_closed : (n : ℕ) (p : Part) (k : Option ℕ) (key : ℕ) (r : Result (List ℕ) Reason) → IsClosed (numbers_added n p k key r)
@@ -145,15 +152,21 @@ module _ (n : ℕ) (p q : Part) (from : ℕ) (name : List ℕ) (lines : List (Li
   adds_first (Version version) e = cc
   adds_first (Cpus c) e = absurd (never (unless n (cpus_refusal c) (with_cpus p c)) e (unless_closed n (cpus_refusal c) (with_cpus p c)))
   adds_first (Seed s) e = cc
-  adds_first (Map title h) e = absurd (never (unless n (map_refusal p title h) (with_map p title h)) e (unless_closed n (map_refusal p title h) (with_map p title h)))
-  adds_first (Array title g) e = absurd (never (unless n (array_refusal p title g) (with_array p title g)) e (unless_closed n (array_refusal p title g) (with_array p title g)))
-  adds_first (Data title at digits) e = absurd (never (data_added n p (array_place p.file title) at digits) e (data_closed n p (array_place p.file title) at digits))
+  adds_first (Map title h) e = absurd (never (unless n (map_refusal p title h) (with_map p title h)) e
+      (unless_closed n (map_refusal p title h) (with_map p title h)))
+  adds_first (Array title g) e = absurd (never (unless n (array_refusal p title g) (with_array p title g)) e
+      (unless_closed n (array_refusal p title g) (with_array p title g)))
+  adds_first (Data title at digits) e = absurd (never (data_added n p (array_place p.file title) at digits) e
+      (data_closed n p (array_place p.file title) at digits))
   adds_first (Variable title array at size) e =
       absurd (never (or_refused n (name_refusal p.file title) (variable_added n p title (array_place p.file array) at size)) e
-      (or_closed n (name_refusal p.file title) (variable_added n p title (array_place p.file array) at size) (variable_closed n p title (array_place p.file array) at size)))
-  adds_first (Put title key value) e = absurd (never (put_added n p (place_of title p.file.names.maps) key value) e (put_closed n p (place_of title p.file.names.maps) key value))
+      (or_closed n (name_refusal p.file title) (variable_added n p title (array_place p.file array) at size)
+      (variable_closed n p title (array_place p.file array) at size)))
+  adds_first (Put title key value) e = absurd (never (put_added n p (place_of title p.file.names.maps) key value) e
+      (put_closed n p (place_of title p.file.names.maps) key value))
   adds_first (PutNumbers title key size numbers) e =
-      absurd (never (numbers_added n p (place_of title p.file.names.maps) key (numbered_bytes size numbers)) e (numbers_closed n p (place_of title p.file.names.maps) key (numbered_bytes size numbers)))
+      absurd (never (numbers_added n p (place_of title p.file.names.maps) key (numbered_bytes size numbers)) e
+      (numbers_closed n p (place_of title p.file.names.maps) key (numbered_bytes size numbers)))
   adds_first (Program title) e = opened (is_there (place_of title p.titles)) title e
   adds_first (Words title digits) w = absurd (words_closed (place_of title p.titles) n p title digits (Ok (Within q from name lines)) w)
   adds_first (Job line) e =
@@ -169,7 +182,8 @@ module _ (n : ℕ) (p q : Part) (from : ℕ) (name : List ℕ) (lines : List (Li
   fields_first (g ∷ gs) a = says_first (placed p g (statement_of p.version (g ∷ gs))) a
 
 -- ---- every line keeps to the sizes
-belongs_fit : (end : Bool) (p : Part) (from : ℕ) (name : List ℕ) (ls : List (List ℕ)) (l : List ℕ) (t : State) → Belongs end p from name ls l (Ok t) → IsFit p → p.file.jobs ≡ [] → IsFitState t
+belongs_fit : (end : Bool) (p : Part) (from : ℕ) (name : List ℕ) (ls : List (List ℕ)) (l : List ℕ) (t : State) → Belongs end p from name ls
+    l (Ok t) → IsFit p → p.file.jobs ≡ [] → IsFitState t
 belongs_fit true p from name ls l (Between q) a f j = section_fits from p q name (text_of_lines ls) a (f, j)
 belongs_fit true p from name ls l (Within q m title lines) (o, of, e) f j = absurd (subst IsClosed (sym e) (program_closed p name o))
 belongs_fit false p from name ls l t e f j = subst IsFitResult (sym e) (f, j)

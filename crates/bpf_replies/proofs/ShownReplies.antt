@@ -22,7 +22,9 @@ shown patient limit number text answers all states found (reply.NoOutcome printe
 shown patient limit number text answers all states found (reply.Several printed refused unmet told) are at h = absurd h
 
 pub all_shown : (patient : Bool) (limit number : ℕ) (text : List ℕ) (answers : List Found) (all : Bool) (states : ℕ) (found : Found) (r : Result Reply Refusal)
-    → AreFoundBy patient text answers all limit states → slice_get answers (number - 1) ≡ Some found → Replies (IsShownBy found.by all (length answers) states text) r
+    → AreFoundBy patient text answers all limit states → slice_get answers (number - 1) ≡ Some found → Replies
+    (IsShownBy found.by all (length answers) states text) r
     → Replies (IsShownFile patient limit number text) r
 all_shown patient limit number text answers all states found (Ok r) are at h = shown patient limit number text answers all states found r are at h
-all_shown patient limit number text answers all states found (Err e) are at h = shown patient limit number text answers all states found (reply.Refused e) are at h
+all_shown patient limit number text answers all states found (Err e) are at h = shown patient limit number text answers all states found
+    (reply.Refused e) are at h

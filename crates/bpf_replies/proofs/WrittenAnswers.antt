@@ -1,5 +1,6 @@
 -- What is written of answers, one after the other.
-use Rattle.std.proofs.Common.{◌≡◌, ℕ, ◌+◌, ◌<◌, List, [], ◌∷◌, ◌++◌, Option, Some, None, length, get_or, take, drop, map, Result, Ok, Err, inl, inr, ◌⊎◌, refl, sym, ap, subst, ◌∙◌, append_assoc, append-nil, String, Global}
+use Rattle.std.proofs.Common.{◌≡◌, ℕ, ◌+◌, ◌<◌, List, [], ◌∷◌, ◌++◌, Option, Some, None, length, get_or, take, drop, map, Result, Ok, Err}
+use Rattle.std.proofs.Common.{inl, inr, ◌⊎◌, refl, sym, ap, subst, ◌∙◌, append_assoc, append-nil, String, Global}
 use Rattle.std.specs.Prelude.{true, false, is_err, string_bytes, IfOk, OnErr, OnOk}
 use Rattle.std.specs.Io.KnownBytes.{Appends}
 use Rattle.std.proofs.lemmas.List.{drop_more, take-append-drop}
@@ -32,7 +33,8 @@ wrote_none old all = record { before = []; put = none_put old; whole = refl }
 all_put : (old now : Option (List ℕ)) (all : List ℕ) → Wrote old now all [] → Appends old now all
 all_put old now all w = subst (Appends old now) (sym (w.whole ∙ append-nil w.before)) w.put
 
-pub wrote_more : (old mid new : Option (List ℕ)) (all left part more : List ℕ) → Wrote old mid all left → left ≡ part ++ more → Appends mid new part → Wrote old new all more
+pub wrote_more : (old mid new : Option (List ℕ)) (all left part more : List ℕ) → Wrote old mid all left → left ≡ part ++ more → Appends mid
+    new part → Wrote old new all more
 wrote_more old mid new all left part more w is put = record {
   before = w.before ++ part;
   put = appended old mid new w.before part w.put put;
@@ -45,7 +47,8 @@ pub wrote_some : (old mid new : Option (List ℕ)) (all left part more : List �
 wrote_some old mid new all left part more w is (k, put) =
     let begun = w.before ++ take k part in
     let rest = drop k part ++ more in
-    let parts : left ≡ take k part ++ rest = is ∙ ap (λ (t : List ℕ). t ++ more) (sym (take-append-drop k part)) ∙ append_assoc (take k part) (drop k part) more in
+    let parts : left ≡ take k part ++ rest = is ∙ ap (λ (t : List ℕ). t ++ more) (sym (take-append-drop k part)) ∙ append_assoc
+    (take k part) (drop k part) more in
     let whole : all ≡ begun ++ rest = w.whole ∙ ap (λ (t : List ℕ). w.before ++ t) parts ∙ sym (append_assoc w.before (take k part) rest) in
     let same : begun ≡ take (length begun) all = sym (ap (take (length begun)) whole ∙ take-append_seam begun rest) in
     (length begun, subst (Appends old new) same (appended old mid new w.before (take k part) w.put put))
@@ -55,7 +58,8 @@ wrote_some old mid new all left part more w is (k, put) =
 abbrev pub texts_left : List (Bor (List ℕ)) → ℕ → List ℕ
 texts_left texts i = all_of (map (λ (t : Bor (List ℕ)). t.now) (drop i texts))
 
-pub next_text : (texts : List (Bor (List ℕ))) (i : ℕ) (d : Bor (List ℕ)) → i < length texts → texts_left texts i ≡ (get_or texts i d).now ++ texts_left texts (i + 1)
+pub next_text : (texts : List (Bor (List ℕ))) (i : ℕ) (d : Bor (List ℕ)) → i < length texts → texts_left texts i ≡ (get_or texts i d).now ++
+    texts_left texts (i + 1)
 next_text texts i d inside = ap (λ (ts : List (Bor (List ℕ))). all_of (map (λ (t : Bor (List ℕ)). t.now) ts)) (drop_more texts i d inside)
 
 abbrev pub answers_left : List (List ℕ) → Replies → ℕ → List ℕ
@@ -68,7 +72,8 @@ next_answer lines answers i a inside is =
     (drop_more answers i a inside ∙ ap (λ (b : Result (String Global) DebugError). b ∷ drop (i + 1) answers) (sym is))
 
 -- a line that was made, with its status, or a refusal since memory ran out
-pub printed_line : {E : Type 0} {S : Type 0} (line : Result (String Global) E) (text : List ℕ) (given meant : S) (P : List ℕ → S → Type 0) (Q : Type 0) → given ≡ meant
+pub printed_line : {E : Type 0} {S : Type 0} (line : Result (String Global) E) (text : List ℕ) (given meant : S) (P : List ℕ → S → Type 0)
+    (Q : Type 0) → given ≡ meant
     → IfOk line (λ t. string_bytes t ≡ text) → IfOk line (λ t. P (string_bytes t) given) → OnErr line Q → P text meant ⊎ Q
 printed_line (Ok t) text given meant P Q same is p q = inl (subst (P text) same (subst (λ (bs : List ℕ). P bs given) is p))
 printed_line (Err e) text given meant P Q same is p q = inr q

@@ -4,7 +4,8 @@ use Rattle.bpf_json.specs.declared.known.Known.{Known}
 use Rattle.bpf_replies.specs.declared.reply.Status.{Status}
 use Rattle.bpf_run.specs.Objects.{AreWritten, IsShown}
 
-pub as_objects : (printing : (old new : Option (List ℕ)) → (failed : Bool) → Status → Type 0) (json : Bool) (old new printed : Option (List ℕ)) (failed cut : Bool)
+pub as_objects : (printing : (old new : Option (List ℕ)) → (failed : Bool) → Status → Type 0) (json : Bool)
+    (old new printed : Option (List ℕ)) (failed cut : Bool)
     (meant answered : Status) (k : Known) → json ≡ true → printing (Some []) printed cut meant → AreWritten k printed cut meant old new failed answered
     → IsShown json printing old new failed answered
 as_objects printing true old new printed failed cut meant answered k is shown written = (printed, cut, meant, shown, k, written)

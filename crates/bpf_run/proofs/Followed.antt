@@ -39,7 +39,13 @@ shows : (words : List Text) (asked : Result Request CommandError) (end : Ending)
     → IfShown end (λ e. (asked ≡ Err (error.Shown e)) × U × V × W) → IfShown end (λ e. Refuses words (error.Shown e) × U × V × W)
 shows words asked (ending.Exit status) U V W refused shown = tt
 shows words asked (ending.NoContext status) U V W refused shown = tt
-shows words asked (ending.Shown e) U V W refused shown = (subst (λ (a : Result Request CommandError). IfErr a (Refuses words)) shown.0 refused, shown.1, shown.2, shown.3)
+shows words asked (ending.Shown e) U V W refused shown = (
+  subst (λ (a : Result Request CommandError). IfErr a (Refuses words)) shown.0
+      refused,
+  shown.1,
+  shown.2,
+  shown.3,
+)
 shows words asked ending.NotText U V W refused shown = tt
 shows words asked (ending.Performed done) U V W refused shown = tt
 shows words asked (ending.Explained language done) U V W refused shown = tt
@@ -68,7 +74,8 @@ module _ (X A E : Type 0) (text : X → Text) (items_of : A → List X) (words :
   followed P U R accepted named refused performed printed =
       let known : Exits (map text (items_of v)) end P U R = subst (λ (xs : List X). Exits (map text xs) end P U R) same
       (exits (map text given) asked end P U R accepted named refused performed printed) in
-      subst (λ (w : Result A E). IfExit end (λ status stats. IfOk w (λ w. ((request : Request) × IsAsked (map text (items_of w)) request × P request status stats)
+      subst (λ (w : Result A E). IfExit end (λ status stats. IfOk w
+      (λ w. ((request : Request) × IsAsked (map text (items_of w)) request × P request status stats)
       ⊎ ((e : CommandError) × Refuses (map text (items_of w)) e × U × (stats ≡ []) × R e status)))) (sym is) known
 
   pub shown_of : (U V W : Type 0) → IfErr asked (Refuses (map text given)) → IfShown end (λ e. (asked ≡ Err (error.Shown e)) × U × V × W)

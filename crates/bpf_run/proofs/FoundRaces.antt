@@ -31,7 +31,8 @@ nothing_there i x e = cc
 has_race : (w : World) (race : RaceFound) → RacesBy w [] race → HasRace w
 has_race w race by = (unrolled race.by, by.last, by.runs, (race.pair.one, race.pair.other, race.at, by.order, by.races.race))
 
-from_some : (w : World) (races : List RaceFound) → ((race : RaceFound) → IsAmong races race → RacesBy w [] race) → (race : RaceFound) × IsAmong races race → HasRace w
+from_some : (w : World) (races : List RaceFound) → ((race : RaceFound) → IsAmong races race → RacesBy w [] race) → (race : RaceFound) ×
+    IsAmong races race → HasRace w
 from_some w races each (race, among) = has_race w race (each race among)
 
 never : (z : World) (pair : Pair) (b : ℕ) → IsTold [] z.store pair b ⊎ IsLeftOut [] b → ⊥
@@ -50,5 +51,6 @@ true_races limit f found (races, refused, are, lines, some) =
     let w = first_world_of f in
     record {
       there = λ is. from_some w races are.each (some_race races (sym some ∙ is));
-      none = λ is all. has_none found.patient w (subst (λ (rs : List RaceFound). HaveAllRaces found.patient w [] rs) (no_races races (sym some ∙ is)) (are.complete all));
+      none = λ is all. has_none found.patient w (subst (λ (rs : List RaceFound). HaveAllRaces found.patient w [] rs)
+          (no_races races (sym some ∙ is)) (are.complete all));
     }

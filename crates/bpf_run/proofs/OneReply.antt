@@ -14,7 +14,8 @@ use Rattle.bpf_debug.specs.Laws.{ScriptsAreDetermined}
 use Rattle.bpf_replies.proofs.OneDebug.{PrintsAs, one_debug}
 use Rattle.bpf_replies.proofs.OneJudged.{one_judged}
 use Rattle.bpf_replies.proofs.FreshFiles.{fresh, fresh_asked}
-use Rattle.bpf_replies.proofs.OneText.{prints, of_run, of_assembly, of_listing, one_run, one_listing, one_assembly, one_assembled_run, one_told, one_history, one_of_file}
+use Rattle.bpf_replies.proofs.OneText.{prints, of_run, of_assembly, of_listing, one_run, one_listing, one_assembly, one_assembled_run}
+use Rattle.bpf_replies.proofs.OneText.{one_told, one_history, one_of_file}
 use Rattle.bpf_run.specs.Commands.{IsAnswer, IsForOneSchedule, IsForOneThread, IsReply}
 use Rattle.bpf_replies.specs.Input.{RefusesInput}
 use Rattle.bpf_replies.specs.Running.{IsHistoryBy, IsRunBy, IsRunWithBuffers, IsRunWithPackets, IsToldBy}
@@ -48,23 +49,35 @@ of_input c input r (inl refused) n =
     subst (OfInput c input) (sym refused.1) made
 of_input c input r (inr answered) n = Answered r answered.0 answered.1 answered.2
 
-module _ (words : WordsAreDetermined) (encodings : EncodingsAreDetermined) (refusals : RefusalsAreDetermined) (firsts : FirstIsDetermined) (texts : TextsAreDetermined) (outcomes : OutcomesAreDetermined) (events : NoMapsNoEvents) (files : FilesAreDetermined) (runs : FilesCanRun) (reports : ReportsByAreDetermined) (histories : HistoriesAreDetermined) (scripts : ScriptsAreDetermined) (carried : ReportsWithPacketsAreDetermined) (buffered : ReportsWithBuffersAreDetermined) where
-  one_answer : (c : Command) (text : List ℕ) (r s : Reply) → HasShortContext c → IsForOneThread c → IsForOneSchedule c → IsAnswer c text r → IsAnswer c text s → IsOfInput r → IsOfInput s → PrintsAs r s
+module _ (words : WordsAreDetermined) (encodings : EncodingsAreDetermined) (refusals : RefusalsAreDetermined) (firsts : FirstIsDetermined)
+    (texts : TextsAreDetermined) (outcomes : OutcomesAreDetermined) (events : NoMapsNoEvents) (files : FilesAreDetermined)
+    (runs : FilesCanRun) (reports : ReportsByAreDetermined) (histories : HistoriesAreDetermined) (scripts : ScriptsAreDetermined)
+    (carried : ReportsWithPacketsAreDetermined) (buffered : ReportsWithBuffersAreDetermined) where
+  one_answer : (c : Command) (text : List ℕ) (r s : Reply) → HasShortContext c → IsForOneThread c → IsForOneSchedule c → IsAnswer c text r →
+      IsAnswer c text s → IsOfInput r → IsOfInput s → PrintsAs r s
   one_answer (command.Hex options) text r s h t o a b n m =
-      prints r s (one_run words encodings refusals firsts texts outcomes events files runs reports histories scripts options.budget options.context.items text r s h (of_run options.budget options.context.items text r a n) (of_run options.budget options.context.items text s b m))
-  one_answer (command.Asm listing) text r s h t o a b n m = one_assembly words encodings refusals firsts texts outcomes events files runs reports histories scripts listing text r s (of_assembly listing text r a n) (of_assembly listing text s b m)
-  one_answer (command.AsmRun options) text r s h t o a b n m = one_assembled_run words encodings refusals firsts texts outcomes events files runs reports histories scripts options.budget options.context.items text r s h a b n m
-  one_answer (command.Disasm pc) text r s h t o a b n m = one_listing words encodings refusals firsts texts outcomes events files runs reports histories scripts pc text r s (of_listing pc text r a n) (of_listing pc text s b m)
+      prints r s (one_run words encodings refusals firsts texts outcomes events files runs reports histories scripts options.budget
+      options.context.items text r s h (of_run options.budget options.context.items text r a n)
+      (of_run options.budget options.context.items text s b m))
+  one_answer (command.Asm listing) text r s h t o a b n m = one_assembly words encodings refusals firsts texts outcomes events files runs
+      reports histories scripts listing text r s (of_assembly listing text r a n) (of_assembly listing text s b m)
+  one_answer (command.AsmRun options) text r s h t o a b n m = one_assembled_run words encodings refusals firsts texts outcomes events files
+      runs reports histories scripts options.budget options.context.items text r s h a b n m
+  one_answer (command.Disasm pc) text r s h t o a b n m = one_listing words encodings refusals firsts texts outcomes events files runs
+      reports histories scripts pc text r s (of_listing pc text r a n) (of_listing pc text s b m)
   one_answer (command.Run options) text r s h t o a b n m =
       let by = options.by.items in
       let keys = options.keys in
       let maps = options.maps in
       let one = subst (λ (w : Option ℕ). IsRunBy w options.stats by keys maps text r) t a in
       let other = subst (λ (w : Option ℕ). IsRunBy w options.stats by keys maps text s) t b in
-      one_of_file words encodings refusals firsts texts outcomes events files runs reports histories scripts (IsToldBy by keys maps) (one_told words encodings refusals firsts texts outcomes events files runs reports histories scripts by keys maps) text r s one other n m
+      one_of_file words encodings refusals firsts texts outcomes events files runs reports histories scripts (IsToldBy by keys maps)
+      (one_told words encodings refusals firsts texts outcomes events files runs reports histories scripts by keys maps) text r s one other n m
   one_answer (command.History options) text r s h t o a b n m =
       let by = options.by.items in
-      one_of_file words encodings refusals firsts texts outcomes events files runs reports histories scripts (IsHistoryBy by options.keys options.maps) (one_history words encodings refusals firsts texts outcomes events files runs reports histories scripts by options.keys options.maps) text r s a b n m
+      one_of_file words encodings refusals firsts texts outcomes events files runs reports histories scripts
+      (IsHistoryBy by options.keys options.maps) (one_history words encodings refusals firsts texts outcomes events files runs reports
+      histories scripts by options.keys options.maps) text r s a b n m
   one_answer (command.Packets options) text r s h t o a b n m =
       let by = options.by.items in
       let keys = options.keys in
@@ -85,7 +98,8 @@ module _ (words : WordsAreDetermined) (encodings : EncodingsAreDetermined) (refu
   one_answer (command.Check options) text r s h t o a b n m = absurd o
   one_answer (command.Expand first patient races) text r s h t o a b n m = absurd o
 
-  one_input : (c : Command) (input : List ℕ) (r s : Reply) → HasShortContext c → IsForOneThread c → IsForOneSchedule c → OfInput c input r → OfInput c input s → IsOfInput r → IsOfInput s → PrintsAs r s
+  one_input : (c : Command) (input : List ℕ) (r s : Reply) → HasShortContext c → IsForOneThread c → IsForOneSchedule c → OfInput c input r →
+      OfInput c input s → IsOfInput r → IsOfInput s → PrintsAs r s
   one_input c input r s h t o (TooLong long) (TooLong more) n m = prints r s refl
   one_input c input r s h t o (TooLong long) (NotText fits other) n m = absurd (omega arith)
   one_input c input r s h t o (TooLong long) (Answered q fits text b) n m = absurd (omega arith)

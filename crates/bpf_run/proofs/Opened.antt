@@ -43,15 +43,18 @@ some_ends (line ∷ lines) e none = some_ends lines (subst (λ (ends : Bool). (e
 
 -- ---- what a text amounts to
 
-pub opened_script : (echo strict : Bool) (text : List ℕ) (r : Reply) → list_any ends_file (lines_of text) ≡ true → IsScriptOfFile echo strict text r → IsOpened echo strict text (opening.Reply r)
+pub opened_script : (echo strict : Bool) (text : List ℕ) (r : Reply) → list_any ends_file (lines_of text) ≡ true → IsScriptOfFile echo
+    strict text r → IsOpened echo strict text (opening.Reply r)
 opened_script echo strict text r ends said = (said, λ none. absurd (some_ends (lines_of text) ends none))
 
-pub opened_refusal : (echo strict : Bool) (text : List ℕ) (e : Refusal) → list_any ends_file (lines_of text) ≡ false → RefusesFile text e → IsOpened echo strict text (opening.Reply (reply.Refused e))
+pub opened_refusal : (echo strict : Bool) (text : List ℕ) (e : Refusal) → list_any ends_file (lines_of text) ≡ false → RefusesFile text e →
+    IsOpened echo strict text (opening.Reply (reply.Refused e))
 opened_refusal echo strict text (refusal.File line why) none said = ((text, [], inr (none_ends (lines_of text) none, refl, refl), said), λ n. tt)
 opened_refusal echo strict text refusal.OutOfMemory none said = (tt, λ n. tt)
 opened_refusal echo strict text e none said = absurd said
 
-pub opened_talk : (echo strict : Bool) (text : List ℕ) (s : SessionState) (f : File) → list_any ends_file (lines_of text) ≡ false → IsRunFile text (Ok f) → IsShown s (scene_of f)
+pub opened_talk : (echo strict : Bool) (text : List ℕ) (s : SessionState) (f : File) → list_any ends_file (lines_of text) ≡ false →
+    IsRunFile text (Ok f) → IsShown s (scene_of f)
     → IsOpened echo strict text (opening.Talk s)
 opened_talk echo strict text s f none said shown = (none_ends (lines_of text) none, (f, said, shown))
 
@@ -63,21 +66,25 @@ script_read echo strict text (reply.Refused why) said = refl
 script_read echo strict text r said = refl
 
 -- a reply to a text
-pub replied : (echo strict : Bool) (text : List ℕ) (r : Reply) (silent : Type 0) (talks : File → Status → Type 0) (old new : Option (List ℕ)) (lost : Bool) (s : Status)
+pub replied : (echo strict : Bool) (text : List ℕ) (r : Reply) (silent : Type 0) (talks : File → Status → Type 0)
+    (old new : Option (List ℕ)) (lost : Bool) (s : Status)
     → length text ≤ MAX_INPUT → IsUtf8 text → silent → IsOpened echo strict text (opening.Reply r) → Prints r old new lost s
     → Holds (partner.Debugger echo strict) (Some text) silent talks false old new lost s (stats_of r)
 replied echo strict text r silent talks old new lost s short utf8 quiet opened printed =
     inl (quiet, (r, sym (script_read echo strict text r opened.0), (inr (short, utf8, opened.0), opened.1), printed, refl))
 
 -- a conversation
-pub talked : (echo strict : Bool) (text : List ℕ) (session : SessionState) (silent : Type 0) (talks : File → Status → Type 0) (kept : Option (List ℕ)) (lost : Bool) (s : Status) (stats : List ℕ)
-    → length text ≤ MAX_INPUT → IsUtf8 text → lost ≡ false → stats ≡ [] → IsOpened echo strict text (opening.Talk session) → ((f : File) → IsShown session (scene_of f) → talks f s)
+pub talked : (echo strict : Bool) (text : List ℕ) (session : SessionState) (silent : Type 0) (talks : File → Status → Type 0)
+    (kept : Option (List ℕ)) (lost : Bool) (s : Status) (stats : List ℕ)
+    → length text ≤ MAX_INPUT → IsUtf8 text → lost ≡ false → stats ≡ [] → IsOpened echo strict text (opening.Talk session) →
+    ((f : File) → IsShown session (scene_of f) → talks f s)
     → Holds (partner.Debugger echo strict) (Some text) silent talks false kept kept lost s stats
 talked echo strict text session silent talks kept lost s stats short utf8 works counts opened held =
     inr (refl, refl, works, counts, (opened.1.0, (short, utf8, opened.0, opened.1.1), held opened.1.0 opened.1.2))
 
 -- states of a file
-pub states_talked : (patient races : Bool) (text : List ℕ) (f : File) (silent : Type 0) (talks : File → Status → Type 0) (kept : Option (List ℕ)) (lost : Bool) (s : Status) (stats : List ℕ)
+pub states_talked : (patient races : Bool) (text : List ℕ) (f : File) (silent : Type 0) (talks : File → Status → Type 0)
+    (kept : Option (List ℕ)) (lost : Bool) (s : Status) (stats : List ℕ)
     → length text ≤ MAX_INPUT → IsUtf8 text → lost ≡ false → stats ≡ [] → IsRunFile text (Ok f) → talks f s
     → Holds (partner.States patient races) (Some text) silent talks false kept kept lost s stats
 states_talked patient races text f silent talks kept lost s stats short utf8 works counts said held =
@@ -87,7 +94,8 @@ file_read : (text : List ℕ) (r : Refusal) → RefusesFile text r → is_unread
 file_read text (refusal.Input e) said = absurd said
 file_read text r said = refl
 
-pub states_refused : (patient races : Bool) (text : List ℕ) (r : Refusal) (silent : Type 0) (talks : File → Status → Type 0) (old new : Option (List ℕ)) (lost : Bool) (s : Status)
+pub states_refused : (patient races : Bool) (text : List ℕ) (r : Refusal) (silent : Type 0) (talks : File → Status → Type 0)
+    (old new : Option (List ℕ)) (lost : Bool) (s : Status)
     → length text ≤ MAX_INPUT → IsUtf8 text → silent → RefusesFile text r → Prints (reply.Refused r) old new lost s
     → Holds (partner.States patient races) (Some text) silent talks false old new lost s (stats_of (reply.Refused r))
 states_refused patient races text r silent talks old new lost s short utf8 quiet refused printed =
@@ -101,15 +109,20 @@ not_text p bytes silent talks old new lost s short bad quiet printed =
     inl (quiet, (reply.Refused refusal.NotText, refl, (inl (refusal.NotText, refl, (short, bad)), λ none. tt), printed, refl))
 
 -- a file whose bytes may not be known
-known : (p : Partner) (input : Option (List ℕ)) (bytes : List ℕ) (silent : Type 0) (talks : File → Status → Type 0) (failed : Bool) (old new : Option (List ℕ)) (lost : Bool) (s : Status) (stats : List ℕ)
-    → IfSome input (λ whole. bytes ≡ whole) → Holds p (Some bytes) silent talks failed old new lost s stats → Holds p input silent talks failed old new lost s stats
+known : (p : Partner) (input : Option (List ℕ)) (bytes : List ℕ) (silent : Type 0) (talks : File → Status → Type 0) (failed : Bool)
+    (old new : Option (List ℕ)) (lost : Bool) (s : Status) (stats : List ℕ)
+    → IfSome input (λ whole. bytes ≡ whole) → Holds p (Some bytes) silent talks failed old new lost s stats → Holds p input silent talks
+    failed old new lost s stats
 known p None bytes silent talks failed old new lost s stats same (inl (quiet, (r, reads, told, printed, counts))) = inl (quiet, (r, reads, tt, printed, counts))
-known p None bytes silent talks failed old new lost s stats same (inr (reads, kept, works, counts, (f, said, held))) = inr (reads, kept, works, counts, (f, tt, held))
+known p None bytes silent talks failed old new lost s stats same (inr (reads, kept, works, counts, (f, said, held))) = inr
+    (reads, kept, works, counts, (f, tt, held))
 known p (Some input) bytes silent talks failed old new lost s stats same done =
     subst (λ (t : List ℕ). Holds p (Some t) silent talks failed old new lost s stats) same done
 
-pub was_read : (p : Partner) (input : Option (List ℕ)) (bytes : List ℕ) (silent : Type 0) (talks : File → Status → Type 0) (failed : Bool) (old new : Option (List ℕ)) (lost : Bool) (s : Status) (stats : List ℕ)
-    → failed ≡ false → IfSome input (λ whole. bytes ≡ whole) → Holds p (Some bytes) silent talks false old new lost s stats → Holds p input silent talks failed old new lost s stats
+pub was_read : (p : Partner) (input : Option (List ℕ)) (bytes : List ℕ) (silent : Type 0) (talks : File → Status → Type 0) (failed : Bool)
+    (old new : Option (List ℕ)) (lost : Bool) (s : Status) (stats : List ℕ)
+    → failed ≡ false → IfSome input (λ whole. bytes ≡ whole) → Holds p (Some bytes) silent talks false old new lost s stats → Holds p input
+    silent talks failed old new lost s stats
 was_read p input bytes silent talks failed old new lost s stats reads same done =
     subst (λ (b : Bool). Holds p input silent talks b old new lost s stats) (sym reads) (known p input bytes silent talks false old new lost s stats same done)
 
@@ -120,11 +133,13 @@ failed_alike input_error.TooLong = refl
 failed_alike input_error.OutOfMemory = refl
 
 refused_read : (p : Partner) (input : Option (List ℕ)) (e : InputError) → IfSome input (λ bytes. IsReply (command_of p) bytes (reply.Refused (refusal.Input e)))
-    → IfSome input (λ bytes. IsReply (command_of p) bytes (reply.Refused (refusal.Input e)) × (LeavesLines p bytes → IsRefusal (reply.Refused (refusal.Input e))))
+    → IfSome input (λ bytes. IsReply (command_of p) bytes (reply.Refused (refusal.Input e)) ×
+    (LeavesLines p bytes → IsRefusal (reply.Refused (refusal.Input e))))
 refused_read p None e h = tt
 refused_read p (Some bytes) e h = (h, λ none. tt)
 
-pub not_read : (p : Partner) (input : Option (List ℕ)) (e : InputError) (r : Reply) (silent : Type 0) (talks : File → Status → Type 0) (failed : Bool) (old new : Option (List ℕ)) (lost : Bool) (s : Status)
+pub not_read : (p : Partner) (input : Option (List ℕ)) (e : InputError) (r : Reply) (silent : Type 0) (talks : File → Status → Type 0)
+    (failed : Bool) (old new : Option (List ℕ)) (lost : Bool) (s : Status)
     → (e ≡ input_error.TooLong → IfSome input (λ bytes. MAX_INPUT < length bytes)) → failed ≡ is_failed_read {T = Vec ℕ Global} (Err e) → silent
     → r ≡ reply.Refused (refusal.Input e) → Prints (reply.Refused (refusal.Input e)) old new lost s
     → Holds p input silent talks failed old new lost s (stats_of r)

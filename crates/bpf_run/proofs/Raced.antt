@@ -11,6 +11,7 @@ use Rattle.bpf_run.specs.Racing.{IsRacesFile, TellsRaces}
 use Rattle.bpf_replies.specs.declared.reply.Reply.TheVariants as reply
 
 pub raced : (patient : Bool) (limit : ℕ) (sync : List (List ℕ)) (text : List ℕ) (file : RunFile) (parts : List Part) (printed : String Global) (any all : Bool)
-    → IsRunFile text (Ok (file_of file)) → ArePartsOf (names_of file.names) file.setup.shape.maps sync parts → TellsRaces patient limit (file_of file) parts (string_bytes printed) any all
+    → IsRunFile text (Ok (file_of file)) → ArePartsOf (names_of file.names) file.setup.shape.maps sync parts → TellsRaces patient limit
+    (file_of file) parts (string_bytes printed) any all
     → IsRacesFile patient limit sync text (reply.Outcomes printed any all)
 raced patient limit sync text file parts printed any all said named told = (file_of file, parts, said, named, told)

@@ -13,7 +13,8 @@ use Rattle.bpf_replies.specs.declared.refusal.Refusal.TheVariants as refusal
 use Rattle.bpf_replies.specs.declared.reply.Reply.{Reply}
 use Rattle.bpf_replies.specs.declared.reply.Reply.TheVariants as reply
 
-pub replied : (known : Option (List ℕ)) (c : Command) (read : List ℕ) (r : Reply) → IfSome known (λ input. read ≡ input) → IsReply c read r → IfSome known (λ input. IsReply c input r)
+pub replied : (known : Option (List ℕ)) (c : Command) (read : List ℕ) (r : Reply) → IfSome known (λ input. read ≡ input) → IsReply c read r
+    → IfSome known (λ input. IsReply c input r)
 replied None c read r whole h = tt
 replied (Some input) c read r whole h = subst (λ (bytes : List ℕ). IsReply c bytes r) whole h
 

@@ -34,10 +34,12 @@ Asks old new = SessionAnswers old.session new.session
 abbrev Shows : Answering → Scene → Type 0
 Shows s x = IsShown s.session x
 
-follows : (s t : Answering) (line text : List ℕ) (refused : Bool) (x : Scene) → Asks s t line text refused → Shows s x → (y : Scene) × AnswersText x y line text refused × Shows t y
+follows : (s t : Answering) (line text : List ℕ) (refused : Bool) (x : Scene) → Asks s t line text refused → Shows s x → (y : Scene) ×
+    AnswersText x y line text refused × Shows t y
 follows s t line text refused x answers shown = answers x shown
 
-status_alike : (told : Talked) (strict stopped : Bool) (t : Answering) (y : Scene) → stopped ≡ any_stopped (length t.session.machine.jobs) t.session.machine.jobs
+status_alike : (told : Talked) (strict stopped : Bool) (t : Answering) (y : Scene) → stopped ≡ any_stopped (length t.session.machine.jobs)
+    t.session.machine.jobs
     → Left Asks AnswersText Shows follows told t y → talk_status strict stopped told ≡ talk_status strict (any_stopped (length y.world.jobs) y.world.jobs) told
 status_alike (talked.Over refused) strict stopped t y tells shown =
     let P : List Task → Type 0 = λ jobs. stopped ≡ any_stopped (length jobs) jobs in
@@ -45,26 +47,31 @@ status_alike (talked.Over refused) strict stopped t y tells shown =
 status_alike (talked.Refused why) strict stopped t y tells shown = refl
 status_alike talked.CutOff strict stopped t y tells shown = refl
 
-pub converses : (passes : List Call → Type 0) (echo strict : Bool) (s t : Answering) (session : SessionState) (unread unwritten stopped : Bool) (told : Talked) (answered : Status)
+pub converses : (passes : List Call → Type 0) (echo strict : Bool) (s t : Answering) (session : SessionState)
+    (unread unwritten stopped : Bool) (told : Talked) (answered : Status)
     → s.session ≡ session → stopped ≡ any_stopped (length t.session.machine.jobs) t.session.machine.jobs → answered ≡ talk_status strict stopped told
     → ((calls : List Call) × passes calls × Talks Asks echo s t calls unread unwritten told)
     → (x : Scene) → IsShown session x → DebugsFrom passes unread unwritten echo strict x answered
 converses passes echo strict s t session unread unwritten stopped told answered same tells means (calls, made, talks) x shown =
-    let alike = talks_alike Asks AnswersText Shows follows echo s t x calls unread unwritten told (subst (λ (u : SessionState). IsShown u x) (sym same) shown) talks in
+    let alike = talks_alike Asks AnswersText Shows follows echo s t x calls unread unwritten told
+    (subst (λ (u : SessionState). IsShown u x) (sym same) shown) talks in
     (calls, told, alike.0, made, alike.1, means ∙ status_alike told strict stopped t alike.0 tells alike.2)
 
 -- ---- what is asked for
 
 pub does_talk : (command : Command) (json : Bool) (file : Option Text) (asked : Option (Partner × Text)) (p : Partner) (name : Text) (silent : Type 0)
-    (talks : Partner → File → Status → Type 0) (standard : Option (List ℕ)) (files : Text → Option (List ℕ)) (failed : Bool) (old new : Option (List ℕ)) (lost : Bool) (s : Status) (stats : List ℕ)
+    (talks : Partner → File → Status → Type 0) (standard : Option (List ℕ)) (files : Text → Option (List ℕ)) (failed : Bool)
+    (old new : Option (List ℕ)) (lost : Bool) (s : Status) (stats : List ℕ)
     → Some (p, name) ≡ asked → Holds p (files name) silent (talks p) failed old new lost s stats
     → Does command json file asked silent talks standard files failed old new lost s stats
 does_talk command json file asked p name silent talks standard files failed old new lost s stats is done =
     subst (λ (a : Option (Partner × Text)). Does command json file a silent talks standard files failed old new lost s stats) is done
 
 pub does_else : (command : Command) (json : Bool) (file : Option Text) (asked : Option (Partner × Text)) (silent : Type 0)
-    (talks : Partner → File → Status → Type 0) (standard : Option (List ℕ)) (files : Text → Option (List ℕ)) (failed : Bool) (old new : Option (List ℕ)) (lost : Bool) (s : Status) (stats : List ℕ)
-    → None ≡ asked → silent → IsShownAs json (λ before after cut answered. Performs command (input_of standard files file) failed before after cut answered stats) old new lost s
+    (talks : Partner → File → Status → Type 0) (standard : Option (List ℕ)) (files : Text → Option (List ℕ)) (failed : Bool)
+    (old new : Option (List ℕ)) (lost : Bool) (s : Status) (stats : List ℕ)
+    → None ≡ asked → silent → IsShownAs json (λ before after cut answered. Performs command (input_of standard files file) failed before
+    after cut answered stats) old new lost s
     → Does command json file asked silent talks standard files failed old new lost s stats
 does_else command json file asked silent talks standard files failed old new lost s stats is quiet done =
     subst (λ (a : Option (Partner × Text)). Does command json file a silent talks standard files failed old new lost s stats) is (quiet, done)

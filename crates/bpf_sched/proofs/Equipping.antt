@@ -15,7 +15,8 @@ module _ (first : List Worker) where
   abbrev with_port : Worker → Port → Worker
   with_port w p = record { port = Some p; workload = w.workload }
 
-  module _ (given : List Port) (workers : List Worker) (are : AreEquipped given workers) (k : ℕ) (here : k ≡ length given) (inside : k < length workers) (q : Port) (e : Worker) where
+  module _ (given : List Port) (workers : List Worker) (are : AreEquipped given workers) (k : ℕ) (here : k ≡ length given)
+      (inside : k < length workers) (q : Port) (e : Worker) where
     abbrev now : List Worker
     now = set workers k (with_port (get_or workers k e) q)
 
@@ -32,7 +33,8 @@ module _ (first : List Worker) where
     work_at c d (yes same) =
         ap (λ (i : ℕ). (get_or now i d).workload) same
         ∙ (ap (λ (w : Worker). w.workload) (get_or-set_same workers k (with_port (get_or workers k e) q) d inside)
-        ∙ (are.workloads k e ∙ ap (λ (w : Worker). w.workload) (get_or_default first k e d (omega (arith, are.size))) ∙ ap (λ (i : ℕ). (get_or first i d).workload) (sym same)))
+        ∙ (are.workloads k e ∙ ap (λ (w : Worker). w.workload) (get_or_default first k e d (omega (arith, are.size))) ∙ ap
+        (λ (i : ℕ). (get_or first i d).workload) (sym same)))
     work_at c d (no other) =
         ap (λ (w : Worker). w.workload) (get_or-set_other workers k c (with_port (get_or workers k e) q) d other) ∙ are.workloads c d
 

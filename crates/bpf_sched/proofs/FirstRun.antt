@@ -1,5 +1,6 @@
 -- The ports of a new store, which have seen nothing; and after CPU 0 alone has had a run, which all have seen.
-use Rattle.std.proofs.Common.{◌≡◌, ◌≢◌, ◌⊎◌, ℕ, zero, suc, ◌+◌, ◌<◌, ◌≤◌, if◌then◌else◌, false, Bool, List, [], ◌∷◌, ◌++◌, Some, None, slice_get, length, map, get_or, inl, inr, ⊎_elim, refl, ap, sym, subst, ◌∙◌, arith, eq-eqb, ne_eqb}
+use Rattle.std.proofs.Common.{◌≡◌, ◌≢◌, ◌⊎◌, ℕ, zero, suc, ◌+◌, ◌<◌, ◌≤◌, if◌then◌else◌, false, Bool, List, [], ◌∷◌, ◌++◌, Some, None}
+use Rattle.std.proofs.Common.{slice_get, length, map, get_or, inl, inr, ⊎_elim, refl, ap, sym, subst, ◌∙◌, arith, eq-eqb, ne_eqb}
 use Rattle.std.proofs.lemmas.List.{get_or-map, length-map}
 use Rattle.std.proofs.lemmas.Option.{slice_get-get_or, slice_get_within, get_or_from_slice_get}
 use mathlib.Core.Logic.{dite}
@@ -71,7 +72,8 @@ its_place [] rest p = refl
 its_place (q ∷ yielded) rest p = its_place yielded rest p
 
 pub next_of : (ports yielded left rest : List Port) (p : Port) → yielded ++ left ≡ ports → left ≡ p ∷ rest → slice_get ports (length yielded) ≡ Some p
-next_of ports yielded left rest p whole is = ap (λ (l : List Port). slice_get l (length yielded)) (sym whole ∙ ap (λ (l : List Port). yielded ++ l) is) ∙ its_place yielded rest p
+next_of ports yielded left rest p whole is = ap (λ (l : List Port). slice_get l (length yielded))
+    (sym whole ∙ ap (λ (l : List Port). yielded ++ l) is) ∙ its_place yielded rest p
 
 -- ---- the first history
 pub own_run : (es : List Event) → events_of 0 (map (entry 0) es) ≡ es
@@ -88,13 +90,16 @@ alone : (h : List Entry) → ((c : ℕ) → c ≢ 0 → events_of c h ≡ []) �
 alone [] others = refl
 alone (e ∷ h) others = elim (equal_or_not e.cpu 0) [
   | inl zeroth ↦
-      let own : events_of 0 (e ∷ h) ≡ e.event ∷ events_of 0 h = ap (λ (b : Bool). if b then e.event ∷ events_of 0 h else events_of 0 h) (eq-eqb e.cpu 0 zeroth) in
-      let skip : (c : ℕ) → c ≢ 0 → events_of c (e ∷ h) ≡ events_of c h = λ c other. ap (λ (b : Bool). if b then e.event ∷ events_of c h else events_of c h) (ne_eqb e.cpu c (λ same. other (sym same ∙ zeroth))) in
+      let own : events_of 0 (e ∷ h) ≡ e.event ∷ events_of 0 h = ap (λ (b : Bool). if b then e.event ∷ events_of 0 h else events_of 0 h)
+      (eq-eqb e.cpu 0 zeroth) in
+      let skip : (c : ℕ) → c ≢ 0 → events_of c (e ∷ h) ≡ events_of c h = λ c other. ap
+      (λ (b : Bool). if b then e.event ∷ events_of c h else events_of c h) (ne_eqb e.cpu c (λ same. other (sym same ∙ zeroth))) in
       let one : e ≡ entry 0 e.event = λ i. record { cpu = zeroth i; event = e.event } in
       let rest = alone h (λ c other. sym (skip c other) ∙ others c other) in
       (λ i. one i ∷ rest i) ∙ ap (map (entry 0)) (sym own)
   | inr other ↦
-      let own : events_of e.cpu (e ∷ h) ≡ e.event ∷ events_of e.cpu h = ap (λ (b : Bool). if b then e.event ∷ events_of e.cpu h else events_of e.cpu h) (eq-eqb e.cpu e.cpu refl) in
+      let own : events_of e.cpu (e ∷ h) ≡ e.event ∷ events_of e.cpu h = ap
+      (λ (b : Bool). if b then e.event ∷ events_of e.cpu h else events_of e.cpu h) (eq-eqb e.cpu e.cpu refl) in
       absurd (let n = ap length (sym own ∙ others e.cpu other) in omega arith)
 ]
 
@@ -119,7 +124,8 @@ module _ (t : Shown) (ps : List Pair) where
   last_or_before [] x y zero e = inr (refl, some_same x y e)
   last_or_before [] x y (suc c) e = absurd (not_there y e)
   last_or_before (z ∷ xs) x y zero e = inl e
-  last_or_before (z ∷ xs) x y (suc c) e = ⊎_elim (λ (h : slice_get xs c ≡ Some y). inl h) (λ (h : (c ≡ length xs) × (x ≡ y)). inr (ap suc h.0, h.1)) (last_or_before xs x y c e)
+  last_or_before (z ∷ xs) x y (suc c) e = ⊎_elim (λ (h : slice_get xs c ≡ Some y). inl h)
+      (λ (h : (c ≡ length xs) × (x ≡ y)). inr (ap suc h.0, h.1)) (last_or_before xs x y c e)
 
   pub none_filled : (ports : List Port) → ports ≡ [] → AreFilled ports
   none_filled ports none c p is = absurd (let inside = slice_get_within ports c p is in let n = ap length none in omega arith)

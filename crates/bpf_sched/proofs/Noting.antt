@@ -57,7 +57,8 @@ module _ (cpu : ℕ) (jobs : List Job) (work : List Assignment) (first : List Ou
               ∙ ap (λ b. ends_of cpu (take place tasks) (take place ends) ++ cond b ((get_or work next e).outcome ∷ []) []) (one cpu mine)
               ∙ ap (λ (l : List Outcome). l ++ (get_or work next e).outcome ∷ []) is.noted
               ∙ sym (ap (map outcome_of) (take_more work next e (has_next mine)) ∙ map-append outcome_of (take next work) (get_or work next e ∷ []));
-          others = λ c other. picked-set (test c) tasks ends place (get_or work next e).outcome (waiting d) at (long ∙ sym (is.room ∙ room)) (none_of c (λ same. other (sym same ∙ mine))) ∙ is.others c other;
+          others = λ c other. picked-set (test c) tasks ends place (get_or work next e).outcome (waiting d) at (long ∙ sym (is.room ∙ room))
+              (none_of c (λ same. other (sym same ∙ mine))) ∙ is.others c other;
         }
 
     pub noted_none : (get_or jobs place d).cpu ≢ cpu → IsNoted (place + 1) next ends

@@ -1,5 +1,6 @@
 -- What is picked of a list by a test on another.
-use Rattle.std.proofs.Common.{◌≡◌, ℕ, ◌+◌, ◌<◌, ◌≤◌, zero, suc, Bool, true, false, List, [], ◌∷◌, ◌++◌, refl, ap, sym, ◌∙◌, length, take, drop, set, get_or, filter, cond, arith}
+use Rattle.std.proofs.Common.{◌≡◌, ℕ, ◌+◌, ◌<◌, ◌≤◌, zero, suc, Bool, true, false, List, [], ◌∷◌, ◌++◌, refl, ap, sym, ◌∙◌, length, take}
+use Rattle.std.proofs.Common.{drop, set, get_or, filter, cond, arith}
 use Rattle.std.proofs.lemmas.List.{length-append, take-append-drop, take_more, take_more_set, length-take-le}
 use Rattle.std.proofs.lemmas.List.Elements.{filter-append}
 use Rattle.std.proofs.lemmas.List.Filters.{length-filter_more}
@@ -28,7 +29,8 @@ module _ {A B : Type 0} (test : A → Bool) where
   length-picked (x ∷ xs) (y ∷ ys) same = lengths (test x) x y (filter test xs) (picked test xs ys) (length-picked xs ys (omega arith))
 
   -- a change at a place that isn't picked changes nothing of what is
-  pub picked-set : (xs : List A) (ys : List B) (i : ℕ) (y : B) (d : A) → i < length xs → length xs ≡ length ys → test (get_or xs i d) ≡ false → picked test xs (set ys i y) ≡ picked test xs ys
+  pub picked-set : (xs : List A) (ys : List B) (i : ℕ) (y : B) (d : A) → i < length xs → length xs ≡ length ys → test (get_or xs i d) ≡
+      false → picked test xs (set ys i y) ≡ picked test xs ys
   picked-set [] ys i y d inside same off = absurd (omega arith)
   picked-set (x ∷ xs) [] i y d inside same off = absurd (omega arith)
   picked-set (x ∷ xs) (z ∷ ys) zero y d inside same off =
@@ -42,14 +44,16 @@ module _ {A B : Type 0} (test : A → Bool) where
   picked_more_set xs ys i y d inside same =
       ap (λ (l : List A). picked test l (take (i + 1) (set ys i y))) (take_more xs i d inside)
       ∙ ap (picked test (take i xs ++ get_or xs i d ∷ [])) (take_more_set ys i y (omega arith))
-      ∙ picked-append (take i xs) (get_or xs i d ∷ []) (take i ys) (y ∷ []) (omega (arith, length-take-le i xs (omega arith), length-take-le i ys (omega arith)))
+      ∙ picked-append (take i xs) (get_or xs i d ∷ []) (take i ys) (y ∷ [])
+      (omega (arith, length-take-le i xs (omega arith), length-take-le i ys (omega arith)))
 
   pub picked_more : (xs : List A) (ys : List B) (i : ℕ) (e : B) (d : A) → i < length xs → length xs ≡ length ys
       → picked test (take (i + 1) xs) (take (i + 1) ys) ≡ picked test (take i xs) (take i ys) ++ cond (test (get_or xs i d)) (get_or ys i e ∷ []) []
   picked_more xs ys i e d inside same =
       ap (λ (l : List A). picked test l (take (i + 1) ys)) (take_more xs i d inside)
       ∙ ap (picked test (take i xs ++ get_or xs i d ∷ [])) (take_more ys i e (omega arith))
-      ∙ picked-append (take i xs) (get_or xs i d ∷ []) (take i ys) (get_or ys i e ∷ []) (omega (arith, length-take-le i xs (omega arith), length-take-le i ys (omega arith)))
+      ∙ picked-append (take i xs) (get_or xs i d ∷ []) (take i ys) (get_or ys i e ∷ [])
+      (omega (arith, length-take-le i xs (omega arith), length-take-le i ys (omega arith)))
 
 module _ {A : Type 0} (test : A → Bool) where
   few : (xs : List A) (n : ℕ) → length (filter test (take n xs)) ≤ length (filter test xs)

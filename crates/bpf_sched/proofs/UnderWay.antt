@@ -12,7 +12,8 @@ use Rattle.bpf_sched.specs.declared.assignment.Assignment.{Assignment}
 use Rattle.bpf_sched.specs.Working.{IsNew, Runs, RunsAll}
 use Rattle.bpf_sched.proofs.Working.{one_more, number_is, own_number, still_there}
 
-module _ {T : Type 0} (passes : T → T → List Entry → Type 0) (serves running : T → ℕ → Bool) (held : T → ℕ → Span → Bool) (may_wear : T → ℕ → Type 0) (shapes : T → Shape)
+module _ {T : Type 0} (passes : T → T → List Entry → Type 0) (serves running : T → ℕ → Bool) (held : T → ℕ → Span → Bool)
+    (may_wear : T → ℕ → Type 0) (shapes : T → Shape)
     (programs : List Loaded) (cpu : ℕ) (x : T) (olds : List Assignment) where
   -- the first k jobs are run, and the others are as they were
   pub record IsUnderWay (k : ℕ) (y : T) (number : ℕ) (news : List Assignment) : Type 0 where
@@ -25,7 +26,8 @@ module _ {T : Type 0} (passes : T → T → List Entry → Type 0) (serves runni
     pub runs : running y ≡ running x
     pub shaped : shapes y ≡ shapes x
 
-  module _ (new : All (IsNew cpu (length programs)) olds) (k : ℕ) (y : T) (number : ℕ) (news : List Assignment) (is : IsUnderWay k y number news) (inside : k < length olds)
+  module _ (new : All (IsNew cpu (length programs)) olds) (k : ℕ) (y : T) (number : ℕ) (news : List Assignment)
+      (is : IsUnderWay k y number news) (inside : k < length olds)
       (job : Assignment) (at : job ≡ get_or news k job) where
     abbrev now_new : IsNew cpu (length programs) job
     now_new = subst (IsNew cpu (length programs)) (sym (at ∙ still_there olds news k job is.rest)) (new k job inside)
@@ -52,7 +54,8 @@ module _ {T : Type 0} (passes : T → T → List Entry → Type 0) (serves runni
         let there : Runs (Chain passes serves cpu) (λ w. may_wear w cpu) (shapes x) programs y (get_or olds k job) done mine z =
         subst (λ a. Runs (Chain passes serves cpu) (λ w. may_wear w cpu) (shapes x) programs y a done mine z) (at ∙ still_there olds news k job is.rest)
         (subst (λ h. Runs (Chain passes serves cpu) (λ w. may_wear w cpu) h programs y job done mine z) is.shaped own) in
-        let so_far : List Assignment → List Assignment → Type 0 = λ os ns. RunsAll (Chain passes serves cpu) (λ w. may_wear w cpu) (shapes x) programs x os ns (is.events ++ mine) z in
+        let so_far : List Assignment → List Assignment → Type 0 = λ os ns. RunsAll (Chain passes serves cpu) (λ w. may_wear w cpu)
+        (shapes x) programs x os ns (is.events ++ mine) z in
         record {
           same_cpu = is.same_cpu;
           size = length-set news k done ∙ is.size;
@@ -60,7 +63,8 @@ module _ {T : Type 0} (passes : T → T → List Entry → Type 0) (serves runni
           events = is.events ++ mine;
           run = subst (so_far (take (k + 1) olds)) (sym (take_more_set news k done (omega (arith, is.size))))
               (subst (λ os. so_far os (take k news ++ done ∷ [])) (sym (take_more olds k job inside))
-              (one_more (Chain passes serves cpu) (λ w. may_wear w cpu) (shapes x) programs x y z (take k olds) (take k news) (get_or olds k job) done is.events mine is.run there));
+              (one_more (Chain passes serves cpu) (λ w. may_wear w cpu) (shapes x) programs x y z (take k olds) (take k news)
+              (get_or olds k job) done is.events mine is.run there));
           served = own.way.serves_same ∙ is.served;
           runs = keeps.runs ∙ is.runs;
           shaped = keeps.shape ∙ is.shaped;

@@ -1,5 +1,6 @@
 -- What is printed of a schedule of moves is read back.
-use Rattle.std.proofs.Common.{◌≡◌, ℕ, zero, suc, ◌+◌, ◌-◌, ◌^◌, ◌<◌, ◌≤◌, Bool, true, false, ◌==◌, not, List, [], ◌∷◌, ◌++◌, length, map, Option, Some, refl, sym, ap, subst, ◌∙◌, arith, rules, tests}
+use Rattle.std.proofs.Common.{◌≡◌, ℕ, zero, suc, ◌+◌, ◌-◌, ◌^◌, ◌<◌, ◌≤◌, Bool, true, false, ◌==◌, not, List, [], ◌∷◌, ◌++◌, length, map}
+use Rattle.std.proofs.Common.{Option, Some, refl, sym, ap, subst, ◌∙◌, arith, rules, tests}
 use Rattle.std.specs.Prelude.{All, codes, filter, nat_lt, slice_index_or, option_map, option_and_then, if◌then◌else◌}
 use Rattle.std.specs.Fmt.{decimal}
 use Rattle.std.specs.List.{before_first, after_first, prefix_len, slice_split}
@@ -9,7 +10,8 @@ use Rattle.std.proofs.lemmas.List.Splits.{slice_split_at, slice_split_none, slic
 use Rattle.bpf_lines.specs.Lines.{fields_of, is_blank, is_field}
 use Rattle.bpf_schedule.specs.Spelling.{is_star, number_below}
 use Rattle.bpf_schedule.specs.Moves.{IsMoves, MovesAreReadBack, SpellMoves, is_mark, marked, mover_in, mover_text, moves_in, moves_text, all_moves_text}
-use Rattle.bpf_schedule.proofs.ReadBack.{IsDigit, AreDigits, decimal_digits, not_nat, below, IsWordByte, AreWordBytes, digits_in_word, not_blank, HasNoMark, unmarked, uncut}
+use Rattle.bpf_schedule.proofs.ReadBack.{IsDigit, AreDigits, decimal_digits, not_nat, below, IsWordByte, AreWordBytes, digits_in_word}
+use Rattle.bpf_schedule.proofs.ReadBack.{not_blank, HasNoMark, unmarked, uncut}
 
 -- ---- bytes of which a test finds none
 abbrev HasNone : (ℕ → Bool) → List ℕ → Type 0
@@ -57,7 +59,8 @@ no_mark (d ∷ ds) none =
     rw (none.0, one) (ap (λ xs. d ∷ xs) (no_mark ds none.1))
 
 -- ---- which move
-read_as : (word cpu : List ℕ) (c n : ℕ) → before_first is_mark word ≡ cpu → number_below 128 cpu ≡ Some c → length word - length cpu ≡ n → mover_in word ≡ marked c n
+read_as : (word cpu : List ℕ) (c n : ℕ) → before_first is_mark word ≡ cpu → number_below 128 cpu ≡ Some c → length word - length cpu ≡ n →
+    mover_in word ≡ marked c n
 read_as word cpu c n before number rest =
     ap (λ (xs : List ℕ). option_and_then (λ k. marked k (length word - length xs)) (number_below 128 xs)) before
     ∙ ap (λ (o : Option ℕ). option_and_then (λ k. marked k (length word - length cpu)) o) number ∙ ap (marked c) rest
@@ -71,10 +74,12 @@ flush_read : (c : ℕ) → c < 128 → mover_in (decimal c ++ 33 ∷ []) ≡ Som
 flush_read c small =
     let digits = decimal_digits c (omega arith) in
     let longer = length-append (decimal c) (33 ∷ []) in
-    read_as (decimal c ++ 33 ∷ []) (decimal c) c 1 (cut_mark (decimal c) [] (no_marks (decimal c) digits)) (below 128 c (omega arith) small) (omega (arith, longer))
+    read_as (decimal c ++ 33 ∷ []) (decimal c) c 1 (cut_mark (decimal c) [] (no_marks (decimal c) digits)) (below 128 c (omega arith) small)
+    (omega (arith, longer))
 
 -- what is so of a turn and of a flush
-each_mover : (P : ℕ → List ℕ → Type 0) → ((c : ℕ) → c < 128 → P c (decimal c)) → ((c : ℕ) → c < 128 → P (128 + c) (decimal c ++ 33 ∷ [])) → (m : ℕ) → m < 2 ^ 8 → P m (mover_text m)
+each_mover : (P : ℕ → List ℕ → Type 0) → ((c : ℕ) → c < 128 → P c (decimal c)) → ((c : ℕ) → c < 128 → P (128 + c) (decimal c ++ 33 ∷ [])) →
+    (m : ℕ) → m < 2 ^ 8 → P m (mover_text m)
 each_mover P turn flush m small = from (nat_lt m 128) refl
   where
     from : (b : Bool) → nat_lt m 128 ≡ b → P m (mover_text m)
@@ -91,7 +96,8 @@ mover_read : (m : ℕ) → m < 2 ^ 8 → mover_in (mover_text m) ≡ Some m
 mover_read = each_mover (λ m text. mover_in text ≡ Some m) turn_read flush_read
 
 mover_stars : (m : ℕ) → m < 2 ^ 8 → HasNone is_star (mover_text m)
-mover_stars = each_mover (λ m text. HasNone is_star text) (λ c small. no_stars (decimal c) (decimal_digits c (omega arith))) (λ c small. one_more (decimal c) (no_stars (decimal c) (decimal_digits c (omega arith))))
+mover_stars = each_mover (λ m text. HasNone is_star text) (λ c small. no_stars (decimal c) (decimal_digits c (omega arith)))
+    (λ c small. one_more (decimal c) (no_stars (decimal c) (decimal_digits c (omega arith))))
 
 mover_bytes : (m : ℕ) → m < 2 ^ 8 → AreWordBytes (mover_text m)
 mover_bytes = each_mover (λ m text. AreWordBytes text)
@@ -130,7 +136,8 @@ spelled (r ∷ rs) = 32 ∷ (word r ++ spelled rs)
 more : (n : ℕ) (r : ℕ × ℕ) (rs : List (ℕ × ℕ)) → all_moves_text (suc n) (r ∷ rs) ≡ moves_text r ++ all_moves_text n rs
 more zero r rs = sym (append-nil (moves_text r))
 more (suc n) r rs =
-    ap (λ x. x ++ moves_text (slice_index_or rs n (0, 0))) (more n r rs) ∙ append_assoc (moves_text r) (all_moves_text n rs) (moves_text (slice_index_or rs n (0, 0)))
+    ap (λ x. x ++ moves_text (slice_index_or rs n (0, 0))) (more n r rs) ∙ append_assoc (moves_text r) (all_moves_text n rs)
+    (moves_text (slice_index_or rs n (0, 0)))
 
 shape_of : (text ds xs : List ℕ) → (codes " " ++ text ++ codes "*" ++ ds) ++ xs ≡ 32 ∷ ((text ++ 42 ∷ ds) ++ xs)
 shape_of text ds xs = simp append_assoc

@@ -1,5 +1,6 @@
 -- What is printed of a schedule is read back.
-use Rattle.std.proofs.Common.{◌≡◌, ℕ, zero, suc, ◌+◌, ◌%◌, ◌^◌, ◌<◌, ◌≤◌, Bool, true, false, ◌==◌, ◌&&◌, not, List, [], ◌∷◌, ◌++◌, length, map, Some, refl, sym, ap, subst, ◌∙◌, arith, rules, tests}
+use Rattle.std.proofs.Common.{◌≡◌, ℕ, zero, suc, ◌+◌, ◌%◌, ◌^◌, ◌<◌, ◌≤◌, Bool, true, false, ◌==◌, ◌&&◌, not, List, [], ◌∷◌, ◌++◌, length}
+use Rattle.std.proofs.Common.{map, Some, refl, sym, ap, subst, ◌∙◌, arith, rules, tests}
 use Rattle.std.specs.Prelude.{All, codes, filter, nat_eq, nat_lt, slice_index_or}
 use Rattle.std.specs.Fmt.{decimal}
 use Rattle.std.specs.List.{before_first, after_first, list_all, prefix_len, slice_split, starts_with}
@@ -98,7 +99,8 @@ spelled (r ∷ rs) = 32 ∷ (word r ++ spelled rs)
 
 more : (n : ℕ) (r : ℕ × ℕ) (rs : List (ℕ × ℕ)) → runs_text (suc n) (r ∷ rs) ≡ run_text r ++ runs_text n rs
 more zero r rs = sym (append-nil (run_text r))
-more (suc n) r rs = ap (λ x. x ++ run_text (slice_index_or rs n (0, 0))) (more n r rs) ∙ append_assoc (run_text r) (runs_text n rs) (run_text (slice_index_or rs n (0, 0)))
+more (suc n) r rs = ap (λ x. x ++ run_text (slice_index_or rs n (0, 0))) (more n r rs) ∙ append_assoc (run_text r) (runs_text n rs)
+    (run_text (slice_index_or rs n (0, 0)))
 
 shape : (r : ℕ × ℕ) (xs : List ℕ) → run_text r ++ xs ≡ 32 ∷ (word r ++ xs)
 shape r xs = simp append_assoc

@@ -1,6 +1,7 @@
 -- How schedules of moves are spelled: turns of CPUs, and flushes of their buffers, each with how often.
 -- Our own choice. A number below 128 is a CPU's turn; 128 more is a flush of its buffer.
-use Rattle.std.specs.Prelude.{◌≡◌, ℕ, zero, suc, ◌+◌, ◌-◌, ◌^◌, ◌<◌, ◌==◌, ◌++◌, Bool, nat_lt, if◌then◌else◌, List, [], All, Any, Option, Some, None, option_map, option_and_then, codes, length, map, slice_index_or}
+use Rattle.std.specs.Prelude.{◌≡◌, ℕ, zero, suc, ◌+◌, ◌-◌, ◌^◌, ◌<◌, ◌==◌, ◌++◌, Bool, nat_lt, if◌then◌else◌, List, [], All, Any, Option}
+use Rattle.std.specs.Prelude.{Some, None, option_map, option_and_then, codes, length, map, slice_index_or}
 use Rattle.std.specs.Fmt.{decimal}
 use Rattle.std.specs.List.{before_first, after_first}
 use Rattle.bpf_lines.specs.Lines.{fields_of}

@@ -1,6 +1,7 @@
 -- How schedules are spelled: CPUs, each with how many turns it makes before the next. Our own
 -- choice.
-use Rattle.std.specs.Prelude.{◌≡◌, ℕ, zero, suc, ◌^◌, ◌<◌, ◌==◌, ◌++◌, Bool, nat_lt, if◌then◌else◌, List, [], All, Any, Option, Some, None, option_map, option_and_then, codes, length, map, slice_index_or}
+use Rattle.std.specs.Prelude.{◌≡◌, ℕ, zero, suc, ◌^◌, ◌<◌, ◌==◌, ◌++◌, Bool, nat_lt, if◌then◌else◌, List, [], All, Any, Option, Some, None}
+use Rattle.std.specs.Prelude.{option_map, option_and_then, codes, length, map, slice_index_or}
 use Rattle.std.specs.Fmt.{decimal}
 use Rattle.std.specs.List.{before_first, after_first}
 use Rattle.bpf_lines.specs.Lines.{fields_of}

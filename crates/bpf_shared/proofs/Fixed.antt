@@ -1,5 +1,7 @@
 -- Fixed values: their numbers, and that no two of them have an address in common.
-use Rattle.std.proofs.Common.{◌≡◌, ◌≢◌, ℕ, ◌+◌, ◌-◌, ◌*◌, ◌/◌, ◌%◌, ◌<◌, ◌≤◌, nat_lt, Bool, true, false, ◌&&◌, List, ◌++◌, length, drop, replicate, Option, Some, None, if◌then◌else◌, slice_get, refl, sym, ap, subst, ◌∙◌, arith, length-append, length-drop}
+use Rattle.std.proofs.Common.{◌≡◌, ◌≢◌, ℕ, ◌+◌, ◌-◌, ◌*◌, ◌/◌, ◌%◌, ◌<◌, ◌≤◌, nat_lt, Bool, true, false, ◌&&◌, List, ◌++◌, length, drop}
+use Rattle.std.proofs.Common.{replicate, Option, Some, None, if◌then◌else◌, slice_get, refl, sym, ap, subst, ◌∙◌, arith, length-append}
+use Rattle.std.proofs.Common.{length-drop}
 use Rattle.std.proofs.Math.Nat.{mul-le-mul, add-mul}
 use Rattle.std.proofs.lemmas.Nat.{div-mul-add, mod-mul-add, mul-add-lt, div-add-mod'}
 use Rattle.std.proofs.lemmas.Bool.Decides.{nat_tests}
@@ -7,8 +9,10 @@ use Rattle.std.proofs.lemmas.List.{length-take-le, length-replicate}
 use Rattle.std.proofs.lemmas.Option.{slice_get_within}
 use Rattle.bpf_shared.specs.declared.shapes.ArrayShape.{ArrayShape}
 use Rattle.bpf_shared.specs.declared.shapes.MapShape.{MapShape}
-use Rattle.bpf_shared.specs.Shape.{Shape, IsShape, IsArray, IsArrayShape, IsMapShape, IsWithin, IsIn, IsApart, copies, array_stride, copy_size, copy_stride, contents_of, elements, element_span, fixed_span}
-use Rattle.bpf_shared.specs.Store.{Value, array_of, copy_of, index_of, fixed_number, fixed_count, IsFixed, IsFrozen, first_bytes, no_value, value_in_array, fixed_value}
+use Rattle.bpf_shared.specs.Shape.{Shape, IsShape, IsArray, IsArrayShape, IsMapShape, IsWithin, IsIn, IsApart, copies, array_stride}
+use Rattle.bpf_shared.specs.Shape.{copy_size, copy_stride, contents_of, elements, element_span, fixed_span}
+use Rattle.bpf_shared.specs.Store.{Value, array_of, copy_of, index_of, fixed_number, fixed_count, IsFixed, IsFrozen, first_bytes, no_value}
+use Rattle.bpf_shared.specs.Store.{value_in_array, fixed_value}
 use Rattle.bpf_shared.specs.Passage.{IsFixedPlace}
 use Rattle.bpf_shared.proofs.Places.{reached}
 
@@ -59,7 +63,8 @@ module _ (cpus : ℕ) (g : ArrayShape) where
   whole_fits few sized =
       let few_copies = copies_most few in
       let up : copy_stride g ≤ copy_size g + 63 = least (copy_size g) in
-      let more : copy_stride g * copies cpus g ≤ (copy_size g + 63) * copies cpus g = mul-le-mul up (let l : copies cpus g ≤ copies cpus g = omega arith in l) in
+      let more : copy_stride g * copies cpus g ≤ (copy_size g + 63) * copies cpus g = mul-le-mul up
+      (let l : copies cpus g ≤ copies cpus g = omega arith in l) in
       parted (copy_stride g * copies cpus g) (copy_size g) (copies cpus g) few_copies sized.whole more
     where
       least : (n : ℕ) → (n + 63) / 64 * 64 ≤ n + 63
@@ -107,7 +112,8 @@ offset_is : (b k c i s v at x : ℕ) → at ≡ 0x10_0000_0000 + 0x1000_0000 * b
     → (x - at < s) × (x ≡ 0x10_0000_0000 + 0x1000_0000 * b + (k * c + (i * s + (x - at))))
 offset_is b k c i s v at x e l from to = (omega arith, omega arith)
 
-pub fixed_reached : (cpus a k i x : ℕ) (g : ArrayShape) → cpus ≤ 16 → IsArrayShape cpus g → k < copies cpus g → i < g.max → IsIn x (fixed_span a g k i) → IsReached a k i x g
+pub fixed_reached : (cpus a k i x : ℕ) (g : ArrayShape) → cpus ≤ 16 → IsArrayShape cpus g → k < copies cpus g → i < g.max → IsIn x
+    (fixed_span a g k i) → IsReached a k i x g
 fixed_reached cpus a k i x g few sized has_copy has_index inside =
     let s = array_stride g in
     let c = copy_stride g in
@@ -135,7 +141,8 @@ value_there h v g = record {
 pub fixed_is : (h : Shape) (v : ℕ) (f : IsFixed h v) → fixed_value h v ≡ value_there h v f.array
 fixed_is h v f =
     ap (value_in_array h v) f.is
-    ∙ ap (λ (b : Bool). if b then value_there h v f.array else no_value) (both_below (copy_of v) (copies h.cpus f.array) (index_of v) f.array.max f.copy f.index)
+    ∙ ap (λ (b : Bool). if b then value_there h v f.array else no_value)
+    (both_below (copy_of v) (copies h.cpus f.array) (index_of v) f.array.max f.copy f.index)
 
 pub length-first_bytes : (bytes : List ℕ) (at n : ℕ) → length (first_bytes bytes at n) ≡ n
 length-first_bytes bytes at n =
@@ -169,7 +176,8 @@ module _ (h : Shape) (is : IsShape h) where
       let area : array_of v ≡ array_of w = (let y = u.area in let z = t.area in omega arith) in
       let same : f.array ≡ k.array = same_array h.arrays (array_of w) f.array k.array (subst (λ (a : ℕ). IsArray h.arrays a f.array) area f.is) k.is in
       let copy : copy_of v ≡ copy_of w = sym u.block ∙ (ap (λ (g : ArrayShape). (x - 0x10_0000_0000) % 0x1000_0000 / copy_stride g) same ∙ t.block) in
-      let index : index_of v ≡ index_of w = sym u.index ∙ (ap (λ (g : ArrayShape). (x - 0x10_0000_0000) % 0x1000_0000 % copy_stride g / array_stride g) same ∙ t.index) in
+      let index : index_of v ≡ index_of w = sym u.index ∙ (ap (λ (g : ArrayShape). (x - 0x10_0000_0000) % 0x1000_0000 % copy_stride g /
+      array_stride g) same ∙ t.index) in
       sym (number_back v) ∙ (ap (λ (a : ℕ). fixed_number a (copy_of v) (index_of v)) area
       ∙ (ap (λ (c : ℕ). fixed_number (array_of w) c (index_of v)) copy
       ∙ (ap (λ (i : ℕ). fixed_number (array_of w) (copy_of w) i) index ∙ number_back w)))
@@ -227,7 +235,8 @@ module _ (h : Shape) (is : IsShape h) where
 
 -- ---- offsets
 -- an offset in the i-th of m values, s bytes from one to the next, of the k-th block, c bytes from one to the next
-module _ (k i m v s c o n : ℕ) (has_index : i < m) (fits : v ≤ s) (block : s * m ≤ c) (some : 1 ≤ n) (from : k * c + i * s ≤ o) (to : o + n ≤ k * c + i * s + v) where
+module _ (k i m v s c o n : ℕ) (has_index : i < m) (fits : v ≤ s) (block : s * m ≤ c) (some : 1 ≤ n) (from : k * c + i * s ≤ o)
+    (to : o + n ≤ k * c + i * s + v) where
   row_fits : i * s + (o - (k * c + i * s)) < c
   row_fits = let row = mul-add-lt i s (o - (k * c + i * s)) m has_index (omega arith) in omega arith
 

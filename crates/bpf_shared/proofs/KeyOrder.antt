@@ -1,5 +1,6 @@
 -- Keys in their order: a map's keys are what any list of them, put in order, is.
-use Rattle.std.proofs.Common.{◌≡◌, ℕ, zero, suc, ◌+◌, ◌-◌, ◌≤◌, true, false, true≢false, Bool, length, get_or, arith, cond, ◌&&◌, ◌||◌, List, [], ◌∷◌, Option, Some, None, is_some, T, map, refl, ap, sym, subst, ◌∙◌}
+use Rattle.std.proofs.Common.{◌≡◌, ℕ, zero, suc, ◌+◌, ◌-◌, ◌≤◌, true, false, true≢false, Bool, length, get_or, arith, cond, ◌&&◌, ◌||◌}
+use Rattle.std.proofs.Common.{List, [], ◌∷◌, Option, Some, None, is_some, T, map, refl, ap, sym, subst, ◌∙◌}
 use Rattle.std.specs.Prelude.{Vec}
 use Rattle.std.specs.declared.alloc.Global.{Global}
 use Rattle.std.specs.declared.cmp.Ordering.{Ordering}
@@ -12,7 +13,9 @@ use Rattle.std.proofs.lemmas.List.{length-map, get_or-map}
 use Rattle.std.proofs.lemmas.List.Sorted.{IsPermutation-map, list_any-IsPermutation}
 use Rattle.std.proofs.lemmas.Map.Keys.{sorted_from_all_adjacent, apart_from_distinct, IsDistinct-IsPermutation}
 use Rattle.std.specs.Cmp.Lexicographic.{slice_cmp}
-use Rattle.std.specs.FinMap.{find, is_sorted, entries, entries_sorted, get, keys, from_sorted, from_entries, len, remove, len-remove, get-remove, get-empty, empty_of_len, get-entries, get-from_entries, get-from_sorted, entries-from_sorted, same_map, contains_key}
+use Rattle.std.specs.FinMap.{find, is_sorted, entries, entries_sorted, get, keys, from_sorted, from_entries, len, remove, len-remove}
+use Rattle.std.specs.FinMap.{get-remove, get-empty, empty_of_len, get-entries, get-from_entries, get-from_sorted, entries-from_sorted}
+use Rattle.std.specs.FinMap.{same_map, contains_key}
 use Rattle.std.specs.FinMap.Entries.{below_all}
 use Rattle.std.proofs.lemmas.Cmp.{nat_list_cmp_total}
 use Rattle.std.proofs.lemmas.Map.Lookups.{exact_bytes}
@@ -48,7 +51,8 @@ bare_find : (q : List ℕ) (es : List (List ℕ × ℕ)) → find R q (bare es) 
 bare_find q [] = refl
 bare_find q (e ∷ es) = go (eq_by_cmp R q e.0) (bare_find q es)
   where
-    go : (b : Bool) → find R q (bare es) ≡ pick (is_some (find R q es)) → cond b (Some 0) (find R q (bare es)) ≡ pick (is_some (cond b (Some e.1) (find R q es)))
+    go : (b : Bool) → find R q (bare es) ≡ pick (is_some (find R q es)) → cond b (Some 0) (find R q (bare es)) ≡ pick
+        (is_some (cond b (Some e.1) (find R q es)))
     go true rest = refl
     go false rest = rest
 
@@ -59,13 +63,16 @@ still_sorted : (m : KeyMap) → T (is_sorted R (bare (entries m)))
 still_sorted m = subst T (sym (bare_sorted (entries m))) (entries_sorted m)
 
 stripped_get : (m : KeyMap) (q : List ℕ) → get (stripped m) q ≡ pick (contains_key m q)
-stripped_get m q = get-from_sorted R (bare (entries m)) q (still_sorted m) ∙ (bare_find q (entries m) ∙ ap (λ (o : Option ℕ). pick (is_some o)) (sym (get-entries m q)))
+stripped_get m q = get-from_sorted R (bare (entries m)) q (still_sorted m) ∙
+    (bare_find q (entries m) ∙ ap (λ (o : Option ℕ). pick (is_some o)) (sym (get-entries m q)))
 
 -- two maps with the same keys have them in one order
 pub same_keys : (m n : KeyMap) → ((q : List ℕ) → contains_key m q ≡ contains_key n q) → keys m ≡ keys n
 same_keys m n is =
-    let one : stripped m ≡ stripped n = same_map nat_list_cmp_total exact_bytes (stripped m) (stripped n) (λ q. stripped_get m q ∙ (ap pick (is q) ∙ sym (stripped_get n q))) in
-    let bares : bare (entries m) ≡ bare (entries n) = sym (entries-from_sorted R (bare (entries m)) (still_sorted m)) ∙ (ap entries one ∙ entries-from_sorted R (bare (entries n)) (still_sorted n)) in
+    let one : stripped m ≡ stripped n = same_map nat_list_cmp_total exact_bytes (stripped m) (stripped n)
+    (λ q. stripped_get m q ∙ (ap pick (is q) ∙ sym (stripped_get n q))) in
+    let bares : bare (entries m) ≡ bare (entries n) = sym (entries-from_sorted R (bare (entries m)) (still_sorted m)) ∙
+    (ap entries one ∙ entries-from_sorted R (bare (entries n)) (still_sorted n)) in
     sym (bare_names (entries m)) ∙ (ap names bares ∙ bare_names (entries n))
 
 -- ---- any list of keys
@@ -120,7 +127,8 @@ rises x y Greater is apart above = absurd (true≢false (sym (ap is_lt (nat_list
 
 strict : (ks : List (List ℕ)) → IsSorted R ks → AreDistinct ks → IsStrictlySortedBy R ks
 strict ks sorted apart = sorted_from_all_adjacent nat_list_cmp_total ks [] (λ k l.
-    rises (get_or ks k []) (get_or ks (k + 1) []) (R (get_or ks k []) (get_or ks (k + 1) [])) refl (apart_from_distinct (eq_by_cmp R) ks k (k + 1) [] apart (omega arith) l) (sorted k [] (omega arith) l))
+    rises (get_or ks k []) (get_or ks (k + 1) []) (R (get_or ks k []) (get_or ks (k + 1) [])) refl
+    (apart_from_distinct (eq_by_cmp R) ks k (k + 1) [] apart (omega arith) l) (sorted k [] (omega arith) l))
 
 -- a sort puts distinct keys in order
 pub sorted_is : (ks js : List (List ℕ)) → IsPermutation ks js → IsSorted R js → AreDistinct ks → in_order ks ≡ js
@@ -139,7 +147,8 @@ sorted_vectors (v ∷ vs) sorted k d low high =
     ap (λ (x : List ℕ). is_lt (R x (get_or (map bytes_of (v ∷ vs)) k d))) (get_or-map bytes_of (v ∷ vs) (k + 1) v d (omega arith))
     ∙ (ap (λ (x : List ℕ). is_lt (R (get_or (v ∷ vs) (k + 1) v).items x)) (get_or-map bytes_of (v ∷ vs) k v d (omega arith)) ∙ sorted k v low (omega arith))
 
-pub sorted_list : (vs ws : List (Vec ℕ Global)) → IsPermutation vs ws → IsSorted (λ x y. R x.items y.items) ws → AreDistinct (map bytes_of vs) → in_order (map bytes_of vs) ≡ map bytes_of ws
+pub sorted_list : (vs ws : List (Vec ℕ Global)) → IsPermutation vs ws → IsSorted (λ x y. R x.items y.items) ws → AreDistinct
+    (map bytes_of vs) → in_order (map bytes_of vs) ≡ map bytes_of ws
 sorted_list vs ws moved sorted apart = sorted_is (map bytes_of vs) (map bytes_of ws) (IsPermutation-map bytes_of vs ws moved) (sorted_vectors ws sorted) apart
 
 -- ---- how many there may be
@@ -161,7 +170,8 @@ distinct_fits (k ∷ ks) m apart there =
         go zero none = absurd (true≢false (sym is ∙ (ap (λ (z : KeyMap). contains_key z k) (empty_of_len m none) ∙ ap is_some (get-empty R k))))
         go (suc n) e = omega arith
 
-    still : (js : List (List ℕ)) → AllByRecursion (λ y. eq_by_cmp R k y ≡ false) js → AllByRecursion (λ j. contains_key m j ≡ true) js → AllByRecursion (λ j. contains_key (remove m k) j ≡ true) js
+    still : (js : List (List ℕ)) → AllByRecursion (λ y. eq_by_cmp R k y ≡ false) js → AllByRecursion (λ j. contains_key m j ≡ true) js →
+        AllByRecursion (λ j. contains_key (remove m k) j ≡ true) js
     still [] a t = tt
     still (j ∷ js) a t = (
       ap is_some (get-remove nat_list_cmp_total m k j ∙ ap (λ (b : Bool). cond b None (get m j)) ((eq_by_cmp_equiv nat_list_cmp_total).symm j k ∙ a.0)) ∙ t.0,

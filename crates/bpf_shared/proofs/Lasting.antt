@@ -1,5 +1,6 @@
 -- What lasts between two events of a history.
-use Rattle.std.proofs.Common.{◌≡◌, ◌≢◌, ℕ, ◌+◌, ◌-◌, ◌<◌, ◌≤◌, Bool, true, false, List, [], ◌∷◌, length, slice_index, Option, Some, None, ◌⊎◌, inl, inr, refl, sym, ap, subst, ◌∙◌, arith}
+use Rattle.std.proofs.Common.{◌≡◌, ◌≢◌, ℕ, ◌+◌, ◌-◌, ◌<◌, ◌≤◌, Bool, true, false, List, [], ◌∷◌, length, slice_index, Option, Some, None}
+use Rattle.std.proofs.Common.{◌⊎◌, inl, inr, refl, sym, ap, subst, ◌∙◌, arith}
 use Rattle.std.proofs.lemmas.Bool.{cases_lt}
 use Rattle.std.specs.FinMap.{get, insert, remove}
 use Rattle.bpf_shared.specs.declared.events.Span.{Span}
@@ -32,7 +33,8 @@ module _ (s t : Plain) (c m : ℕ) (key : List ℕ) where
   looked_keys (Some v) = refl
 
   -- another key of a map is put or taken
-  others_keys : (n : ℕ) (other : List ℕ) (k : KeyMap) → ((n ≡ m) × (other ≡ key) → ⊥) → ((key ≡ other) ⊎ (get k key ≡ get (s.maps n) key)) → get (put s.maps n k m) key ≡ led s
+  others_keys : (n : ℕ) (other : List ℕ) (k : KeyMap) → ((n ≡ m) × (other ≡ key) → ⊥) → ((key ≡ other) ⊎ (get k key ≡ get (s.maps n) key)) →
+      get (put s.maps n k m) key ≡ led s
   others_keys n other k without cases = elim (put_cases s.maps n m k) [
     | inr e ↦ ap (λ (x : KeyMap). get x key) e.1
     | inl e ↦ elim cases [
@@ -42,12 +44,15 @@ module _ (s t : Plain) (c m : ℕ) (key : List ℕ) where
   ]
 
   put_keys : (n : ℕ) (other : List ℕ) → ((n ≡ m) × (other ≡ key) → ⊥) → get (put s.maps n (insert (s.maps n) other s.made) m) key ≡ led s
-  put_keys n other without = others_keys n other (insert (s.maps n) other s.made) without (elim (insert_cases (s.maps n) other s.made key) [ inl k ↦ inl k.0 | inr k ↦ inr k ])
+  put_keys n other without = others_keys n other (insert (s.maps n) other s.made) without
+      (elim (insert_cases (s.maps n) other s.made key) [ inl k ↦ inl k.0 | inr k ↦ inr k ])
 
   taken_keys : (n : ℕ) (other : List ℕ) → ((n ≡ m) × (other ≡ key) → ⊥) → get (put s.maps n (remove (s.maps n) other) m) key ≡ led s
-  taken_keys n other without = others_keys n other (remove (s.maps n) other) without (elim (remove_cases (s.maps n) other key) [ inl k ↦ inl k.0 | inr k ↦ inr k ])
+  taken_keys n other without = others_keys n other (remove (s.maps n) other) without
+      (elim (remove_cases (s.maps n) other key) [ inl k ↦ inl k.0 | inr k ↦ inr k ])
 
-  update_keys : (n : ℕ) (other bytes : List ℕ) (flags : ℕ) (answer : MapAnswer) → Allowed s c (Update n other bytes flags answer) t → (ChangesKey m key c (Update n other bytes flags answer) → ⊥) → led t ≡ led s
+  update_keys : (n : ℕ) (other bytes : List ℕ) (flags : ℕ) (answer : MapAnswer) → Allowed s c (Update n other bytes flags answer) t →
+      (ChangesKey m key c (Update n other bytes flags answer) → ⊥) → led t ≡ led s
   update_keys n other bytes flags Done a without = ap led a.1.4.1.2 ∙ put_keys n other without
   update_keys n other bytes flags Invalid a without = ap led (refusals_change_nothing.0 s t c n other bytes flags Invalid (λ e. cc) a)
   update_keys n other bytes flags Busy a without = ap led (refusals_change_nothing.0 s t c n other bytes flags Busy (λ e. cc) a)
@@ -56,7 +61,8 @@ module _ (s t : Plain) (c m : ℕ) (key : List ℕ) where
   update_keys n other bytes flags Full a without = ap led (refusals_change_nothing.0 s t c n other bytes flags Full (λ e. cc) a)
   update_keys n other bytes flags NoMemory a without = ap led (refusals_change_nothing.0 s t c n other bytes flags NoMemory (λ e. cc) a)
 
-  delete_keys : (n : ℕ) (other : List ℕ) (answer : MapAnswer) → Allowed s c (Delete n other answer) t → (ChangesKey m key c (Delete n other answer) → ⊥) → led t ≡ led s
+  delete_keys : (n : ℕ) (other : List ℕ) (answer : MapAnswer) → Allowed s c (Delete n other answer) t →
+      (ChangesKey m key c (Delete n other answer) → ⊥) → led t ≡ led s
   delete_keys n other Done a without = ap led a.1.1.1 ∙ taken_keys n other without
   delete_keys n other Invalid a without = ap led (refusals_change_nothing.1 s t c n other Invalid (λ e. cc) a)
   delete_keys n other Busy a without = ap led (refusals_change_nothing.1 s t c n other Busy (λ e. cc) a)
@@ -99,7 +105,8 @@ module _ (s t : Plain) (c v b : ℕ) (so : IsSoundStore s) (there : v < s.made) 
               | inl k ↦ inl k
               | inr k ↦ elim (cases_lt b (a + n)) [ inl l ↦ absurd (without (k, l)) | inr l ↦ inr l ]
             ] in
-            ap (λ (i : ℕ). byte_at (after_write s w a n x) i b) e ∙ (law.1 b (subst (λ (i : ℕ). IsIn b (s.value i).span) e inside) beside ∙ ap (λ (i : ℕ). byte_at s i b) (sym e))
+            ap (λ (i : ℕ). byte_at (after_write s w a n x) i b) e ∙
+            (law.1 b (subst (λ (i : ℕ). IsIn b (s.value i).span) e inside) beside ∙ ap (λ (i : ℕ). byte_at s i b) (sym e))
       ]
 
   updated_byte : (m : ℕ) (key bytes : List ℕ) (flags : ℕ) (answer : MapAnswer) → Allowed s c (Update m key bytes flags answer) t → byte_in t ≡ byte_in s
@@ -131,7 +138,8 @@ module _ (s t : Plain) (c v b : ℕ) (so : IsSoundStore s) (there : v < s.made) 
   event_byte (Store at size word) a without = ap byte_in a.1.2 ∙ written_byte a.1.0 at (bytes_in size) word a.1.1.reaches without
   event_byte (Atomic at size op operand expected found) a without = ap byte_in a.1.3 ∙ written_byte a.1.0 at (bytes_in size) _ a.1.1.reaches without
 
-bytes_last : (s t : Plain) (v b : ℕ) (log : List Entry) → IsSoundStore s → v < s.made → IsIn b (s.value v).span → Legal s log t → Without (WritesAt b) log → byte_at t v b ≡ byte_at s v b
+bytes_last : (s t : Plain) (v b : ℕ) (log : List Entry) → IsSoundStore s → v < s.made → IsIn b (s.value v).span → Legal s log t → Without
+    (WritesAt b) log → byte_at t v b ≡ byte_at s v b
 bytes_last s t v b [] so there inside h without = ap (λ (z : Plain). byte_at z v b) (sym h)
 bytes_last s t v b (e ∷ es) so there inside h without =
     let stays = values_stay s h.0 (e ∷ []) v (h.0, h.1, refl) there in
@@ -156,7 +164,8 @@ updates_are_found s t u w c d m key bytes flags log found so a h without l =
 
 pub deletions_are_found : DeletionsAreFound
 deletions_are_found s t u w c d m key log found a h without l =
-    let gone : get (t.maps m) key ≡ None = ap (λ (z : Plain). get (z.maps m) key) a.1.1.1 ∙ (ap (λ (k : KeyMap). get k key) (put-same s.maps m m (remove (s.maps m) key) refl) ∙ gone_key (s.maps m) key) in
+    let gone : get (t.maps m) key ≡ None = ap (λ (z : Plain). get (z.maps m) key) a.1.1.1 ∙
+    (ap (λ (k : KeyMap). get k key) (put-same s.maps m m (remove (s.maps m) key) refl) ∙ gone_key (s.maps m) key) in
     l.1.1 ∙ ap (span_of u) (keys_last t u m key log h without ∙ gone)
 
 -- ---- held values
@@ -225,18 +234,26 @@ module _ (s t : Plain) (c v : ℕ) (going : s.running c ≡ true) (holds : s.hel
   looked_made d None = refl
   looked_made d (Some w) = refl
 
-  updated_apart : (d m : ℕ) (key bytes : List ℕ) (flags : ℕ) (answer : MapAnswer) (w : ℕ) → Allowed s d (Update m key bytes flags answer) t → s.made ≤ w → w < t.made → Apart w
+  updated_apart : (d m : ℕ) (key bytes : List ℕ) (flags : ℕ) (answer : MapAnswer) (w : ℕ) → Allowed s d (Update m key bytes flags answer) t
+      → s.made ≤ w → w < t.made → Apart w
   updated_apart d m key bytes flags Done w a l k =
       let next : t.made ≡ s.made + 1 = ap (λ (z : Plain). z.made) a.1.4.1.2 in
       let here : w ≡ s.made = omega arith in
-      let placed : (t.value w).span ≡ a.1.4.1.0 = ap (λ (z : Plain). (z.value w).span) a.1.4.1.2 ∙ ap (λ (x : Value). x.span) (put-same s.value s.made w (record { bytes = bytes; span = a.1.4.1.0 }) here) in
+      let placed : (t.value w).span ≡ a.1.4.1.0 = ap (λ (z : Plain). (z.value w).span) a.1.4.1.2 ∙ ap (λ (x : Value). x.span)
+      (put-same s.value s.made w (record { bytes = bytes; span = a.1.4.1.0 }) here) in
       subst (λ (p : Span). IsApart p (s.value v).span) (sym placed) (a.1.4.1.1.apart v (inr (inl (c, holds))))
-  updated_apart d m key bytes flags Invalid w a l k = none_new w (ap (λ (z : Plain). z.made) (refusals_change_nothing.0 s t d m key bytes flags Invalid (λ e. cc) a)) l k
-  updated_apart d m key bytes flags Busy w a l k = none_new w (ap (λ (z : Plain). z.made) (refusals_change_nothing.0 s t d m key bytes flags Busy (λ e. cc) a)) l k
-  updated_apart d m key bytes flags Exists w a l k = none_new w (ap (λ (z : Plain). z.made) (refusals_change_nothing.0 s t d m key bytes flags Exists (λ e. cc) a)) l k
-  updated_apart d m key bytes flags Absent w a l k = none_new w (ap (λ (z : Plain). z.made) (refusals_change_nothing.0 s t d m key bytes flags Absent (λ e. cc) a)) l k
-  updated_apart d m key bytes flags Full w a l k = none_new w (ap (λ (z : Plain). z.made) (refusals_change_nothing.0 s t d m key bytes flags Full (λ e. cc) a)) l k
-  updated_apart d m key bytes flags NoMemory w a l k = none_new w (ap (λ (z : Plain). z.made) (refusals_change_nothing.0 s t d m key bytes flags NoMemory (λ e. cc) a)) l k
+  updated_apart d m key bytes flags Invalid w a l k = none_new w
+      (ap (λ (z : Plain). z.made) (refusals_change_nothing.0 s t d m key bytes flags Invalid (λ e. cc) a)) l k
+  updated_apart d m key bytes flags Busy w a l k = none_new w (ap (λ (z : Plain). z.made)
+      (refusals_change_nothing.0 s t d m key bytes flags Busy (λ e. cc) a)) l k
+  updated_apart d m key bytes flags Exists w a l k = none_new w (ap (λ (z : Plain). z.made)
+      (refusals_change_nothing.0 s t d m key bytes flags Exists (λ e. cc) a)) l k
+  updated_apart d m key bytes flags Absent w a l k = none_new w (ap (λ (z : Plain). z.made)
+      (refusals_change_nothing.0 s t d m key bytes flags Absent (λ e. cc) a)) l k
+  updated_apart d m key bytes flags Full w a l k = none_new w (ap (λ (z : Plain). z.made)
+      (refusals_change_nothing.0 s t d m key bytes flags Full (λ e. cc) a)) l k
+  updated_apart d m key bytes flags NoMemory w a l k = none_new w
+      (ap (λ (z : Plain). z.made) (refusals_change_nothing.0 s t d m key bytes flags NoMemory (λ e. cc) a)) l k
 
   deleted_made : (d m : ℕ) (key : List ℕ) (answer : MapAnswer) → Allowed s d (Delete m key answer) t → t.made ≡ s.made
   deleted_made d m key Done a = ap (λ (z : Plain). z.made) a.1.1.1

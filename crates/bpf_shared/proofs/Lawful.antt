@@ -1,5 +1,6 @@
 -- Proofs of the laws.
-use Rattle.std.proofs.Common.{◌≡◌, ◌≢◌, ℕ, ◌+◌, ◌-◌, ◌<◌, ◌≤◌, Bool, true, cond, List, [], ◌∷◌, ◌++◌, length, take, drop, length-append, get_or, slice_index, Option, Some, None, ◌⊎◌, inl, inr, refl, sym, ap, subst, ◌∙◌, arith}
+use Rattle.std.proofs.Common.{◌≡◌, ◌≢◌, ℕ, ◌+◌, ◌-◌, ◌<◌, ◌≤◌, Bool, true, cond, List, [], ◌∷◌, ◌++◌, length, take, drop, length-append}
+use Rattle.std.proofs.Common.{get_or, slice_index, Option, Some, None, ◌⊎◌, inl, inr, refl, sym, ap, subst, ◌∙◌, arith}
 use Rattle.std.proofs.lemmas.Bool.{cases_order}
 use Rattle.std.proofs.lemmas.Cmp.{nat_list_cmp_total}
 use Rattle.std.proofs.Math.ListN.{get_or-append}
@@ -30,13 +31,15 @@ use Rattle.bpf_shared.specs.Choice.{IsShort, IsLowestFree, Chosen, PlainlyAllowe
 use Rattle.bpf_shared.specs.Sound.{IsSoundStore}
 use Rattle.bpf_shared.proofs.Soundness.{as_made_sound, legal_sound, reached_live, span-after_write}
 use Rattle.bpf_shared.proofs.Puts.{equal_or_not, put-same, put-other}
-use Rattle.bpf_shared.specs.Laws.{LegalIsSound, ValuesStay, RefusalsChangeNothing, MakesValue, UpdatesMakeValues, OneValueIsReached, WritesTouchNamedBytes, asked, CallsHaveOneReply}
+use Rattle.bpf_shared.specs.Laws.{LegalIsSound, ValuesStay, RefusalsChangeNothing, MakesValue, UpdatesMakeValues, OneValueIsReached}
+use Rattle.bpf_shared.specs.Laws.{WritesTouchNamedBytes, asked, CallsHaveOneReply}
 
 pub legal_is_sound : LegalIsSound
 legal_is_sound h log s is l = legal_sound _ s log (as_made_sound h is) l
 
 -- ---- refusals
-refused_update : (s t : Plain) (m : ℕ) (h : MapShape) (key bytes : List ℕ) (flags : ℕ) (answer : MapAnswer) → answer ≢ Done → Updates s m h key bytes flags answer t → t ≡ s
+refused_update : (s t : Plain) (m : ℕ) (h : MapShape) (key bytes : List ℕ) (flags : ℕ) (answer : MapAnswer) → answer ≢ Done → Updates s m h
+    key bytes flags answer t → t ≡ s
 refused_update s t m h key bytes flags Done ne u = absurd (ne refl)
 refused_update s t m h key bytes flags Invalid ne u = u.1
 refused_update s t m h key bytes flags Busy ne u = u.1
@@ -76,7 +79,8 @@ after_update_makes s m key x = record {
 }
 
 pub updates_make_values : UpdatesMakeValues
-updates_make_values s t c m key bytes flags a = subst (MakesValue s m key bytes) (sym a.1.4.1.2) (after_update_makes s m key (record { bytes = bytes; span = a.1.4.1.0 }))
+updates_make_values s t c m key bytes flags a = subst (MakesValue s m key bytes) (sym a.1.4.1.2)
+    (after_update_makes s m key (record { bytes = bytes; span = a.1.4.1.0 }))
 
 -- ---- values stay
 abbrev Stays : Plain → Plain → ℕ → Type 0
@@ -85,8 +89,10 @@ Stays s t v = (v < t.made) × ((t.value v).span ≡ (s.value v).span)
 same_stays : (s t : Plain) (v : ℕ) → t ≡ s → v < s.made → Stays s t v
 same_stays s t v e l = subst (λ (z : Plain). Stays s z v) (sym e) (l, refl)
 
-update_stays : (s t : Plain) (m : ℕ) (h : MapShape) (key bytes : List ℕ) (flags : ℕ) (answer : MapAnswer) (v : ℕ) → Updates s m h key bytes flags answer t → v < s.made → Stays s t v
-update_stays s t m h key bytes flags Done v u l = subst (λ (z : Plain). Stays s z v) (sym u.1.2) (omega arith, ap (λ (x : Value). x.span) ((after_update_makes s m key (record { bytes = bytes; span = u.1.0 })).old v l))
+update_stays : (s t : Plain) (m : ℕ) (h : MapShape) (key bytes : List ℕ) (flags : ℕ) (answer : MapAnswer) (v : ℕ) → Updates s m h key bytes
+    flags answer t → v < s.made → Stays s t v
+update_stays s t m h key bytes flags Done v u l = subst (λ (z : Plain). Stays s z v) (sym u.1.2)
+    (omega arith, ap (λ (x : Value). x.span) ((after_update_makes s m key (record { bytes = bytes; span = u.1.0 })).old v l))
 update_stays s t m h key bytes flags Invalid v u l = same_stays s t v u.1 l
 update_stays s t m h key bytes flags Busy v u l = same_stays s t v u.1 l
 update_stays s t m h key bytes flags Exists v u l = same_stays s t v u.1 l
@@ -129,7 +135,8 @@ values_stay s t (e ∷ es) v h l =
 pub one_value_is_reached : OneValueIsReached
 one_value_is_reached s c d v w a n so l p q = elim (equal_or_not v w) [
   | inl e ↦ e
-  | inr ne ↦ absurd (so.apart v w (reached_live s c v a n p) (reached_live s d w a n q) ne a (p.covers.0, (let k = p.covers.1 in omega arith)) (q.covers.0, (let k = q.covers.1 in omega arith)))
+  | inr ne ↦ absurd (so.apart v w (reached_live s c v a n p) (reached_live s d w a n q) ne a
+      (p.covers.0, (let k = p.covers.1 in omega arith)) (q.covers.0, (let k = q.covers.1 in omega arith)))
 ]
 
 -- ---- writes
@@ -149,7 +156,8 @@ module _ (bs others : List ℕ) (i : ℕ) (l : i + length others ≤ length bs) 
   byte_behind : (k : ℕ) → i + length others ≤ k → slice_index (with_part bs i others) k ≡ slice_index bs k
   byte_behind k h =
       get_or-append_right (take i bs ++ others) (drop (i + length others) bs) (i + length others) k 0 whole h
-      ∙ (get_or-drop (i + length others) bs (k - (i + length others)) 0 ∙ ap (λ (n : ℕ). get_or bs n 0) (let e : i + length others + (k - (i + length others)) ≡ k = omega arith in e))
+      ∙ (get_or-drop (i + length others) bs (k - (i + length others)) 0 ∙ ap (λ (n : ℕ). get_or bs n 0)
+      (let e : i + length others + (k - (i + length others)) ≡ k = omega arith in e))
 
 pub writes_touch_named_bytes : WritesTouchNamedBytes
 writes_touch_named_bytes s c v a n x so r =
@@ -190,19 +198,31 @@ Lacking s m h key flags answer t = (answer ≡ NoMemory) × (first_of (refusals 
 
 abbrev Placed : Plain → ℕ → MapShape → List ℕ → List ℕ → ℕ → MapAnswer → Plain → Type 0
 Placed s m h key bytes flags answer t =
-    (answer ≡ Done) × (first_of (refusals s m h key flags) ≡ None) × ((i : ℕ) × IsLowestFree s m h i × (t ≡ after_update s m key (record { bytes = bytes; span = element_span m h i })))
+    (answer ≡ Done) × (first_of (refusals s m h key flags) ≡ None) ×
+    ((i : ℕ) × IsLowestFree s m h i × (t ≡ after_update s m key (record { bytes = bytes; span = element_span m h i })))
 
 same_map : (s : Plain) (m : ℕ) (g h : MapShape) → IsMap s.shape.maps m g → IsMap s.shape.maps m h → g ≡ h
 same_map s m g h p q = let k : Some g ≡ Some h = sym p ∙ q in cc
 
-placed : (s t : Plain) (c m : ℕ) (h : MapShape) (key bytes : List ℕ) (flags : ℕ) → IsMap s.shape.maps m h → Updates s m h key bytes flags Done t → Chosen s (Update m key bytes flags Done) t → Placed s m h key bytes flags Done t
+placed : (s t : Plain) (c m : ℕ) (h : MapShape) (key bytes : List ℕ) (flags : ℕ) → IsMap s.shape.maps m h → Updates s m h key bytes flags
+    Done t → Chosen s (Update m key bytes flags Done) t → Placed s m h key bytes flags Done t
 placed s t c m h key bytes flags is u ch =
     let same : ch.0 ≡ h = same_map s m ch.0 h ch.2 is in
-    let here : (t.value s.made).span ≡ u.1.0 = ap (λ (z : Plain). (z.value s.made).span) u.1.2 ∙ ap (λ (x : Value). x.span) (put-same s.value s.made s.made (record { bytes = bytes; span = u.1.0 }) refl) in
-    let span : u.1.0 ≡ element_span m h ch.1 = sym here ∙ (ch.4 ∙ ap (λ (g : MapShape). element_span m g ch.1) same) in
-    (refl, u.0, (ch.1, subst (λ (g : MapShape). IsLowestFree s m g ch.1) same ch.3, u.1.2 ∙ ap (λ (p : Span). after_update s m key (record { bytes = bytes; span = p })) span))
+    let here : (t.value s.made).span ≡ u.1.0 = ap (λ (z : Plain). (z.value s.made).span) u.1.2 ∙ ap (λ (x : Value). x.span)
+    (put-same s.value s.made s.made (record { bytes = bytes; span = u.1.0 }) refl) in
+    let span : u.1.0 ≡ element_span m h ch.1 = sym here ∙ (ch.4 ∙ ap (λ (g : MapShape). element_span m g ch.1) same) in (
+      refl,
+      u.0,
+      (
+        ch.1,
+        subst (λ (g : MapShape). IsLowestFree s m g ch.1) same ch.3,
+        u.1.2 ∙ ap
+            (λ (p : Span). after_update s m key (record { bytes = bytes; span = p })) span,
+      ),
+    )
 
-outcome : (s t : Plain) (c m : ℕ) (h : MapShape) (key bytes : List ℕ) (flags : ℕ) (answer : MapAnswer) → IsMap s.shape.maps m h → Updates s m h key bytes flags answer t → Chosen s (Update m key bytes flags answer) t
+outcome : (s t : Plain) (c m : ℕ) (h : MapShape) (key bytes : List ℕ) (flags : ℕ) (answer : MapAnswer) → IsMap s.shape.maps m h → Updates s
+    m h key bytes flags answer t → Chosen s (Update m key bytes flags answer) t
     → Refused s m h key flags answer t ⊎ (Lacking s m h key flags answer t ⊎ Placed s m h key bytes flags answer t)
 outcome s t c m h key bytes flags Done is u ch = inr (inr (placed s t c m h key bytes flags is u ch))
 outcome s t c m h key bytes flags NoMemory is u ch = inr (inl (refl, u.0, subst (IsShort s m) (same_map s m ch.0 h ch.1 is) ch.2, u.1))
@@ -236,7 +256,8 @@ one_outcome s t u m h key bytes flags x y (inr (inr p)) (inr (inr q)) = (
   p.2.2 ∙ (ap (λ (i : ℕ). after_update s m key (record { bytes = bytes; span = element_span m h i })) (lowest_one s m h p.2.0 q.2.0 p.2.1 q.2.1) ∙ sym q.2.2),
 )
 
-updates_once : (s t u : Plain) (c m : ℕ) (key bytes : List ℕ) (flags : ℕ) (x y : MapAnswer) → PlainlyAllowed s c (Update m key bytes flags x) t → PlainlyAllowed s c (Update m key bytes flags y) u → (x ≡ y) × (t ≡ u)
+updates_once : (s t u : Plain) (c m : ℕ) (key bytes : List ℕ) (flags : ℕ) (x y : MapAnswer) → PlainlyAllowed s c
+    (Update m key bytes flags x) t → PlainlyAllowed s c (Update m key bytes flags y) u → (x ≡ y) × (t ≡ u)
 updates_once s t u c m key bytes flags x y p q =
     let h = p.0.1.0 in
     let same : q.0.1.0 ≡ h = same_map s m q.0.1.0 h q.0.1.1 p.0.1.1 in
@@ -244,7 +265,8 @@ updates_once s t u c m key bytes flags x y p q =
     (outcome s t c m h key bytes flags x p.0.1.1 p.0.1.4 p.1)
     (outcome s u c m h key bytes flags y p.0.1.1 (subst (λ (g : MapShape). Updates s m g key bytes flags y u) same q.0.1.4) q.1)
 
-deletes_once : (s t u : Plain) (m : ℕ) (key : List ℕ) (x y : MapAnswer) → Deletes s m key x t → Deletes s m key y u → Chosen s (Delete m key x) t → Chosen s (Delete m key y) u → (x ≡ y) × (t ≡ u)
+deletes_once : (s t u : Plain) (m : ℕ) (key : List ℕ) (x y : MapAnswer) → Deletes s m key x t → Deletes s m key y u → Chosen s
+    (Delete m key x) t → Chosen s (Delete m key y) u → (x ≡ y) × (t ≡ u)
 deletes_once s t u m key Done Done p q a b = (refl, p.1 ∙ sym q.1)
 deletes_once s t u m key Done Absent p q a b = absurd (let k = sym p.0 ∙ q.0 in cc)
 deletes_once s t u m key Absent Done p q a b = absurd (let k = sym p.0 ∙ q.0 in cc)
@@ -279,7 +301,8 @@ module _ (s : Plain) (so : IsSoundStore s) (c : ℕ) (at : ℕ) (size : Size) wh
   stores_once : (t u : Plain) (x : ℕ) → Allowed s c (Store at size x) t → Allowed s c (Store at size x) u → t ≡ u
   stores_once t u x p q = p.1.2 ∙ (ap (λ (v : ℕ). after_write s v at (bytes_in size) x) (sym (one_reached p.1.0 q.1.0 p.1.1.reaches q.1.1.reaches)) ∙ sym q.1.2)
 
-  atomics_once : (t u : Plain) (op : Change) (operand expected x y : ℕ) → Allowed s c (Atomic at size op operand expected x) t → Allowed s c (Atomic at size op operand expected y) u → (x ≡ y) × (t ≡ u)
+  atomics_once : (t u : Plain) (op : Change) (operand expected x y : ℕ) → Allowed s c (Atomic at size op operand expected x) t → Allowed s c
+      (Atomic at size op operand expected y) u → (x ≡ y) × (t ≡ u)
   atomics_once t u op operand expected x y p q =
       let reached = one_reached p.1.0 q.1.0 p.1.1.reaches q.1.1.reaches in
       let found : x ≡ y = p.1.2 ∙ (ap (λ (v : ℕ). number_in s v at (bytes_in size)) (sym reached) ∙ sym q.1.2) in (

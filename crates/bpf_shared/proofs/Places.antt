@@ -26,7 +26,8 @@ reached m i a g sg l x =
     let small : off < element_stride g = omega arith in
     let rest : (a - 0x10_0000_0000) % 0x1000_0000 ≡ i * element_stride g + off = omega arith in
     let quotient : (i * element_stride g + off) / element_stride g ≡ i = div-mul-add i (element_stride g) off small in
-    let whole : (i * element_stride g + off) / element_stride g * element_stride g + (i * element_stride g + off) % element_stride g ≡ i * element_stride g + off = div-add-mod' (i * element_stride g + off) (element_stride g) in
+    let whole : (i * element_stride g + off) / element_stride g * element_stride g + (i * element_stride g + off) % element_stride g ≡ i *
+    element_stride g + off = div-add-mod' (i * element_stride g + off) (element_stride g) in
     let at : (i * element_stride g + off) / element_stride g * element_stride g ≡ i * element_stride g = ap (λ (k : ℕ). k * element_stride g) quotient in (
       omega arith,
       ap (λ (k : ℕ). k / element_stride g) rest ∙ quotient,

@@ -1,5 +1,6 @@
 -- Each store that a legal history leads to is sound.
-use Rattle.std.proofs.Common.{◌≡◌, ◌≢◌, ℕ, ◌+◌, ◌-◌, ◌<◌, ◌≤◌, nat_lt, Bool, true, false, not, cond, ◌&&◌, ◌==◌, List, [], ◌∷◌, length, Option, Some, None, is_some, ◌⊎◌, inl, inr, if◌then◌else◌, refl, sym, ap, subst, ◌∙◌, arith}
+use Rattle.std.proofs.Common.{◌≡◌, ◌≢◌, ℕ, ◌+◌, ◌-◌, ◌<◌, ◌≤◌, nat_lt, Bool, true, false, not, cond, ◌&&◌, ◌==◌, List, [], ◌∷◌, length}
+use Rattle.std.proofs.Common.{Option, Some, None, is_some, ◌⊎◌, inl, inr, if◌then◌else◌, refl, sym, ap, subst, ◌∙◌, arith}
 use Rattle.std.proofs.lemmas.Bool.Decides.{nat_tests}
 use Rattle.std.proofs.lemmas.Cmp.{nat_list_cmp_total}
 use Rattle.std.specs.FinMap.{get, insert, remove, len, contains_key, get-empty, len-empty, len-insert, len-remove}
@@ -18,7 +19,8 @@ use Rattle.bpf_base.specs.Bytes.{low_bytes, with_part}
 use Rattle.bpf_base.proofs.Numbers.{length-low_bytes}
 use Rattle.bpf_base.proofs.Parts.{length-with_part}
 use Rattle.bpf_shared.specs.Store.{KeyMap, Value, Plain, put, never, as_made, Finds, IsInMap, IsKept, IsLive, IsFixed, IsFrozen, fixed_count}
-use Rattle.bpf_shared.specs.Events.{after_begin, after_end, after_lookup, has_key, refusals, kept_after, after_update, Updates, after_delete, Deletes, Reaches, MayWrite, after_write, Allowed}
+use Rattle.bpf_shared.specs.Events.{after_begin, after_end, after_lookup, has_key, refusals, kept_after, after_update, Updates}
+use Rattle.bpf_shared.specs.Events.{after_delete, Deletes, Reaches, MayWrite, after_write, Allowed}
 use Rattle.bpf_shared.specs.History.{Legal, PlainlyLegal}
 use Rattle.bpf_shared.specs.Sound.{IsSoundStore}
 use Rattle.bpf_shared.proofs.Fixed.{fixed_below, frozen_below, fixed_size, fixed_apart}
@@ -161,7 +163,8 @@ looked_sound s c m v i r so = record {
   apart = λ x y p q. so.apart x y (looked_live s c m v i x p) (looked_live s c m v i y q);
 }
 
-pub after_lookup_sound : (s : Plain) (c m : ℕ) (key : List ℕ) (o : Option ℕ) → get (s.maps m) key ≡ o → s.running c ≡ true → IsSoundStore s → IsSoundStore (after_lookup s c o)
+pub after_lookup_sound : (s : Plain) (c m : ℕ) (key : List ℕ) (o : Option ℕ) → get (s.maps m) key ≡ o → s.running c ≡ true → IsSoundStore s
+    → IsSoundStore (after_lookup s c o)
 after_lookup_sound s c m key None e r so = so
 after_lookup_sound s c m key (Some v) e r so = looked_sound s c m v (key, e) r so
 
@@ -194,7 +197,8 @@ kept_from s (Some v) c w h = go (s.running c) h
 -- ---- a map changed at one key
 module _ (s : Plain) (m : ℕ) (key : List ℕ) (new : KeyMap) where
   -- a value stays in its map, or it is the one that left
-  stays : ((q : List ℕ) → (q ≡ key) ⊎ (get new q ≡ get (s.maps m) q)) → (d : ℕ) (q : List ℕ) (v : ℕ) → Finds s d q v → (get (put s.maps m new d) q ≡ Some v) ⊎ (get (s.maps m) key ≡ Some v)
+  stays : ((q : List ℕ) → (q ≡ key) ⊎ (get new q ≡ get (s.maps m) q)) → (d : ℕ) (q : List ℕ) (v : ℕ) → Finds s d q v →
+      (get (put s.maps m new d) q ≡ Some v) ⊎ (get (s.maps m) key ≡ Some v)
   stays same d q v h = elim (put_cases s.maps m d new) [
     | inr k ↦ inl (ap (λ (x : KeyMap). get x q) k.1 ∙ h)
     | inl k ↦
@@ -206,7 +210,8 @@ module _ (s : Plain) (m : ℕ) (key : List ℕ) (new : KeyMap) where
   ]
 
   -- and a value that is in it was there, or is what the key leads to now
-  was : (o : Option ℕ) → ((q : List ℕ) → (get new q ≡ o) ⊎ (get new q ≡ get (s.maps m) q)) → (d : ℕ) (q : List ℕ) (v : ℕ) → get (put s.maps m new d) q ≡ Some v → (o ≡ Some v) ⊎ Finds s d q v
+  was : (o : Option ℕ) → ((q : List ℕ) → (get new q ≡ o) ⊎ (get new q ≡ get (s.maps m) q)) → (d : ℕ) (q : List ℕ) (v : ℕ) → get
+      (put s.maps m new d) q ≡ Some v → (o ≡ Some v) ⊎ Finds s d q v
   was o same d q v h = elim (put_cases s.maps m d new) [
     | inr k ↦ inr (sym (ap (λ (x : KeyMap). get x q) k.1) ∙ h)
     | inl k ↦
@@ -225,7 +230,8 @@ module _ (s : Plain) (m : ℕ) (key : List ℕ) (so : IsSoundStore s) where
   keeps_made w k = elim (kept_from s (get (s.maps m) key) k.0 w k.1) [ inl e ↦ gone_made w e | inr e ↦ so.kept_made w (k.0, e) ]
 
   after_delete_was : (d w : ℕ) → IsInMap (after_delete s m key) d w → IsInMap s d w
-  after_delete_was d w p = (p.0, elim (was s m key (remove (s.maps m) key) None (λ q. elim (remove_cases (s.maps m) key q) [ inl e ↦ inl e.1 | inr e ↦ inr e ]) d p.0 w p.1) [ inl e ↦ cc | inr h ↦ h ])
+  after_delete_was d w p =
+      (p.0, elim (was s m key (remove (s.maps m) key) None (λ q. elim (remove_cases (s.maps m) key q) [ inl e ↦ inl e.1 | inr e ↦ inr e ]) d p.0 w p.1) [ inl e ↦ cc | inr h ↦ h ])
 
   after_delete_live : (w : ℕ) → IsLive (after_delete s m key) w → IsLive s w
   after_delete_live w (inl p) = inl (p.0, after_delete_was p.0 w p.1)
@@ -234,7 +240,8 @@ module _ (s : Plain) (m : ℕ) (key : List ℕ) (so : IsSoundStore s) where
   fewer : (h : MapShape) → IsMap s.shape.maps m h → len (remove (s.maps m) key) ≤ h.max
   fewer h is = go (contains_key (s.maps m) key) (len-remove nat_list_cmp_total (s.maps m) key) (so.keys m h is)
     where
-      go : (b : Bool) → len (remove (s.maps m) key) ≡ cond b (len (s.maps m) - 1) (len (s.maps m)) → len (s.maps m) ≤ h.max → len (remove (s.maps m) key) ≤ h.max
+      go : (b : Bool) → len (remove (s.maps m) key) ≡ cond b (len (s.maps m) - 1) (len (s.maps m)) → len (s.maps m) ≤ h.max → len
+          (remove (s.maps m) key) ≤ h.max
       go true e l = omega arith
       go false e l = omega arith
 
@@ -272,7 +279,10 @@ module _ (s : Plain) (m : ℕ) (key : List ℕ) (so : IsSoundStore s) where
 
   module _ (x : Value) where
     after_update_was : (d w : ℕ) → IsInMap (after_update s m key x) d w → (w ≡ s.made) ⊎ IsInMap s d w
-    after_update_was d w p = elim (was s m key (insert (s.maps m) key s.made) (Some s.made) (λ q. elim (insert_cases (s.maps m) key s.made q) [ inl e ↦ inl e.1 | inr e ↦ inr e ]) d p.0 w p.1) [ inl e ↦ inl (let k : Some s.made ≡ Some w = e in cc) | inr h ↦ inr (p.0, h) ]
+    after_update_was d w p =
+        elim (was s m key (insert (s.maps m) key s.made) (Some s.made)
+        (λ q. elim (insert_cases (s.maps m) key s.made q) [ inl e ↦ inl e.1 | inr e ↦ inr e ]) d p.0 w p.1)
+        [ inl e ↦ inl (let k : Some s.made ≡ Some w = e in cc) | inr h ↦ inr (p.0, h) ]
 
     after_update_live : (w : ℕ) → IsLive (after_update s m key x) w → (w ≡ s.made) ⊎ IsLive s w
     after_update_live w (inl p) = elim (after_update_was p.0 w p.1) [ inl e ↦ inl e | inr h ↦ inr (inl (p.0, h)) ]
@@ -288,14 +298,18 @@ module _ (s : Plain) (m : ℕ) (key : List ℕ) (so : IsSoundStore s) where
     back p q h = λ a i j. h a j i
 
     -- there is room for the key, if it is new
-    more : (h : MapShape) → (is_some (get (s.maps m) key) ≡ false → len (s.maps m) < h.max) → len (s.maps m) ≤ h.max → len (insert (s.maps m) key s.made) ≤ h.max
+    more : (h : MapShape) → (is_some (get (s.maps m) key) ≡ false → len (s.maps m) < h.max) → len (s.maps m) ≤ h.max → len
+        (insert (s.maps m) key s.made) ≤ h.max
     more h room l = go (is_some (get (s.maps m) key)) refl (len-insert nat_list_cmp_total (s.maps m) key s.made)
       where
-        go : (b : Bool) → is_some (get (s.maps m) key) ≡ b → len (insert (s.maps m) key s.made) ≡ cond b (len (s.maps m)) (len (s.maps m) + 1) → len (insert (s.maps m) key s.made) ≤ h.max
+        go : (b : Bool) → is_some (get (s.maps m) key) ≡ b → len (insert (s.maps m) key s.made) ≡ cond b (len (s.maps m))
+            (len (s.maps m) + 1) → len (insert (s.maps m) key s.made) ≤ h.max
         go true t e = omega arith
         go false t e = let k = room t in omega arith
 
-    pub after_update_sound : ((v : ℕ) → IsLive s v → IsApart x.span (s.value v).span) → length x.bytes ≡ x.span.size → ((h : MapShape) → IsMap s.shape.maps m h → is_some (get (s.maps m) key) ≡ false → len (s.maps m) < h.max) → IsSoundStore (after_update s m key x)
+    pub after_update_sound : ((v : ℕ) → IsLive s v → IsApart x.span (s.value v).span) → length x.bytes ≡ x.span.size →
+        ((h : MapShape) → IsMap s.shape.maps m h → is_some (get (s.maps m) key) ≡ false → len (s.maps m) < h.max) → IsSoundStore
+        (after_update s m key x)
     after_update_sound free size room = record {
       fixed = record {
         shape = so.fixed.shape;
@@ -306,7 +320,8 @@ module _ (s : Plain) (m : ℕ) (key : List ℕ) (so : IsSoundStore s) where
         frozen = λ w f. first_value w (frozen_below s.shape w f) ∙ so.fixed.frozen w f;
       };
       keys = λ d h is. elim (put_cases s.maps m d (insert (s.maps m) key s.made)) [
-        | inl k ↦ (let here = subst (λ (z : ℕ). IsMap s.shape.maps z h) k.0 is in subst (λ (z : KeyMap). len z ≤ h.max) (sym k.1) (more h (room h here) (so.keys m h here)))
+        | inl k ↦ (let here = subst (λ (z : ℕ). IsMap s.shape.maps z h) k.0 is in subst (λ (z : KeyMap). len z ≤ h.max) (sym k.1)
+            (more h (room h here) (so.keys m h here)))
         | inr k ↦ subst (λ (z : KeyMap). len z ≤ h.max) (sym k.1) (so.keys d h is)
       ];
       sizes = λ v l. elim (put_cases s.value s.made v x) [
@@ -361,7 +376,8 @@ reached_live s c v a n r = go r.holds
     go (inl h) = inr (inl (c, h))
     go (inr f) = inr (inr f)
 
-length-after_write : (s : Plain) (v a n x : ℕ) → IsSoundStore s → (c : ℕ) → Reaches s c v a n → length (with_part (s.value v).bytes (a - (s.value v).span.at) (low_bytes n x)) ≡ (s.value v).span.size
+length-after_write : (s : Plain) (v a n x : ℕ) → IsSoundStore s → (c : ℕ) → Reaches s c v a n → length
+    (with_part (s.value v).bytes (a - (s.value v).span.at) (low_bytes n x)) ≡ (s.value v).span.size
 length-after_write s v a n x so c r =
     let size : length (s.value v).bytes ≡ (s.value v).span.size = so.sizes v (so.live_made v (reached_live s c v a n r)) in
     let low : length (low_bytes n x) ≡ n = length-low_bytes n x in
@@ -401,17 +417,21 @@ four_false false false true d e = cc
 four_false false false false true e = cc
 four_false false false false false e = refl
 
-not_full : (s : Plain) (m : ℕ) (h : MapShape) (key : List ℕ) (flags : ℕ) → first_of (refusals s m h key flags) ≡ None → len (s.maps m) ≤ h.max → has_key s m key ≡ false → len (s.maps m) < h.max
+not_full : (s : Plain) (m : ℕ) (h : MapShape) (key : List ℕ) (flags : ℕ) → first_of (refusals s m h key flags) ≡ None → len (s.maps m) ≤
+    h.max → has_key s m key ≡ false → len (s.maps m) < h.max
 not_full s m h key flags e l new =
-    let last = four_false (nat_lt 2 flags) ((flags == 1) && has_key s m key) ((flags == 2) && not (has_key s m key)) (not (has_key s m key) && (len (s.maps m) == h.max)) e in
+    let last = four_false (nat_lt 2 flags) ((flags == 1) && has_key s m key) ((flags == 2) && not (has_key s m key))
+    (not (has_key s m key) && (len (s.maps m) == h.max)) e in
     let apart : (len (s.maps m) == h.max) ≡ false = sym (ap (λ (b : Bool). not b && (len (s.maps m) == h.max)) new) ∙ last in
     grind (arith, nat_tests)
 
-updates_sound : (s t : Plain) (m : ℕ) (h : MapShape) (key bytes : List ℕ) (flags : ℕ) (answer : MapAnswer) → IsSoundStore s → IsMap s.shape.maps m h → length bytes ≡ h.value → Updates s m h key bytes flags answer t → IsSoundStore t
+updates_sound : (s t : Plain) (m : ℕ) (h : MapShape) (key bytes : List ℕ) (flags : ℕ) (answer : MapAnswer) → IsSoundStore s → IsMap
+    s.shape.maps m h → length bytes ≡ h.value → Updates s m h key bytes flags answer t → IsSoundStore t
 updates_sound s t m h key bytes flags Done so is size u =
     subst IsSoundStore (sym u.1.2) (after_update_sound s m key so (record { bytes = bytes; span = u.1.0 }) u.1.1.apart
     (size ∙ sym (ap (λ (q : Span). q.size) u.1.1.element.2))
-    (λ g here new. let same : g ≡ h = (let k : Some g ≡ Some h = sym here ∙ is in cc) in subst (λ (z : MapShape). len (s.maps m) < z.max) (sym same) (not_full s m h key flags u.0 (so.keys m h is) new)))
+    (λ g here new. let same : g ≡ h = (let k : Some g ≡ Some h = sym here ∙ is in cc) in subst (λ (z : MapShape). len (s.maps m) < z.max)
+    (sym same) (not_full s m h key flags u.0 (so.keys m h is) new)))
 updates_sound s t m h key bytes flags Invalid so is size u = subst IsSoundStore (sym u.1) so
 updates_sound s t m h key bytes flags Busy so is size u = subst IsSoundStore (sym u.1) so
 updates_sound s t m h key bytes flags Exists so is size u = subst IsSoundStore (sym u.1) so

@@ -55,4 +55,5 @@ module _ (s t : Plain) (c v : ℕ) (there : v < s.made) where
   value_left (Keys m ks) a without = same_value a.3
   value_left (Load at size found) a without = same_value a.1.3
   value_left (Store at size word) a without = ap (λ (z : Plain). z.value v) a.1.2 ∙ written_value a.1.0 at (bytes_in size) word a.1.1.reaches without
-  value_left (Atomic at size op operand expected found) a without = ap (λ (z : Plain). z.value v) a.1.3 ∙ written_value a.1.0 at (bytes_in size) _ a.1.1.reaches without
+  value_left (Atomic at size op operand expected found) a without = ap (λ (z : Plain). z.value v) a.1.3 ∙ written_value a.1.0 at
+      (bytes_in size) _ a.1.1.reaches without

@@ -3,7 +3,8 @@ use Rattle.std.specs.Prelude.{ℕ, ◌+◌, ◌*◌, nat_lt, Bool, ◌||◌, Lis
 use Rattle.bpf_shared.specs.declared.shapes.ArrayShape.{ArrayShape}
 use Rattle.bpf_shared.specs.declared.shapes.MapShape.{MapShape}
 use Rattle.bpf_shared.specs.declared.shapes.ShapeError.{ShapeError}
-use Rattle.bpf_shared.specs.declared.shapes.ShapeError.TheVariants.{KeySize, ValueSize, KeyCount, SpareCount, TooManyMaps, CpuCount, ArrayValueSize, ArrayCount, ArraySize, ArrayContents, TooManyArrays}
+use Rattle.bpf_shared.specs.declared.shapes.ShapeError.TheVariants.{KeySize, ValueSize, KeyCount, SpareCount, TooManyMaps, CpuCount}
+use Rattle.bpf_shared.specs.declared.shapes.ShapeError.TheVariants.{ArrayValueSize, ArrayCount, ArraySize, ArrayContents, TooManyArrays}
 use Rattle.bpf_shared.specs.Shape.{copies, copy_size}
 
 abbrev pub outside : ℕ → ℕ → ℕ → Bool

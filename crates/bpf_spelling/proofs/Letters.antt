@@ -73,7 +73,8 @@ on_x : (b : ℕ) (w : List ℕ) → b ≡ 120 → spelled ON_X (b ∷ w) ≡ key
 unfolding keyword_of
 on_x b w e = let P : ℕ → Type 0 = λ a. spelled ON_X (a ∷ w) ≡ keyword_of (a ∷ w) in subst P (sym e) refl
 
-on_no_keyword : (b : ℕ) (w : List ℕ) → b ≢ 115 → b ≢ 105 → b ≢ 103 → b ≢ 99 → b ≢ 101 → b ≢ 108 → b ≢ 109 → b ≢ 117 → b ≢ 98 → b ≢ 97 → b ≢ 120 → keyword_of (b ∷ w) ≡ None
+on_no_keyword : (b : ℕ) (w : List ℕ) → b ≢ 115 → b ≢ 105 → b ≢ 103 → b ≢ 99 → b ≢ 101 → b ≢ 108 → b ≢ 109 → b ≢ 117 → b ≢ 98 → b ≢ 97 → b ≢
+    120 → keyword_of (b ∷ w) ≡ None
 unfolding keyword_of
 on_no_keyword b w hs hi hg hc he hl hm hu hb ha hx =
     let xs = other 115 b hs in
@@ -155,6 +156,8 @@ pub first_x : (w : List ℕ) → 1 ≤ length w → get_or w 0 0 ≡ 120 → spe
 first_x [] h e = absurd (omega arith)
 first_x (b ∷ w) h e = on_x b w e
 
-pub no_keyword_first : (w : List ℕ) → 1 ≤ length w → get_or w 0 0 ≢ 115 → get_or w 0 0 ≢ 105 → get_or w 0 0 ≢ 103 → get_or w 0 0 ≢ 99 → get_or w 0 0 ≢ 101 → get_or w 0 0 ≢ 108 → get_or w 0 0 ≢ 109 → get_or w 0 0 ≢ 117 → get_or w 0 0 ≢ 98 → get_or w 0 0 ≢ 97 → get_or w 0 0 ≢ 120 → keyword_of w ≡ None
+pub no_keyword_first : (w : List ℕ) → 1 ≤ length w → get_or w 0 0 ≢ 115 → get_or w 0 0 ≢ 105 → get_or w 0 0 ≢ 103 → get_or w 0 0 ≢ 99 →
+    get_or w 0 0 ≢ 101 → get_or w 0 0 ≢ 108 → get_or w 0 0 ≢ 109 → get_or w 0 0 ≢ 117 → get_or w 0 0 ≢ 98 → get_or w 0 0 ≢ 97 → get_or w 0 0
+    ≢ 120 → keyword_of w ≡ None
 no_keyword_first [] h hs hi hg hc he hl hm hu hb ha hx = absurd (omega arith)
 no_keyword_first (b ∷ w) h hs hi hg hc he hl hm hu hb ha hx = on_no_keyword b w hs hi hg hc he hl hm hu hb ha hx

@@ -29,7 +29,8 @@ longest_short n p (s ∷ ss) h =
     let both = and_parts (is_short n s) (list_all (is_short n) ss) h in
     by_test n p s ss (p s) refl both.0 (longest_short n p ss both.1)
   where
-    by_test : (n : ℕ) (p : Sign → Bool) (s : Sign) (ss : List Sign) (b : Bool) → p s ≡ b → is_short n s ≡ true → IfSome (longest (filter p ss)) (λ t. is_short n t ≡ true)
+    by_test : (n : ℕ) (p : Sign → Bool) (s : Sign) (ss : List Sign) (b : Bool) → p s ≡ b → is_short n s ≡ true → IfSome
+        (longest (filter p ss)) (λ t. is_short n t ≡ true)
         → IfSome (longest (filter p (s ∷ ss))) (λ t. is_short n t ≡ true)
     by_test n p s ss true e h k = rw e (longer_short n s (longest (filter p ss)) h k)
     by_test n p s ss false e h k = rw e k
@@ -48,7 +49,8 @@ first_longest p (s ∷ ss) h =
     let both = and_parts (list_all (is_short (length (sign_text s))) ss) (descends ss) h in
     by_test p s ss (p s) refl (longest_short (length (sign_text s)) p ss both.0) (first_longest p ss both.1)
   where
-    by_test : (p : Sign → Bool) (s : Sign) (ss : List Sign) (b : Bool) → p s ≡ b → IfSome (longest (filter p ss)) (λ t. is_short (length (sign_text s)) t ≡ true) → find p ss ≡ longest (filter p ss)
+    by_test : (p : Sign → Bool) (s : Sign) (ss : List Sign) (b : Bool) → p s ≡ b → IfSome (longest (filter p ss))
+        (λ t. is_short (length (sign_text s)) t ≡ true) → find p ss ≡ longest (filter p ss)
         → find p (s ∷ ss) ≡ longest (filter p (s ∷ ss))
     by_test p s ss true e h k = rw e (sym (not_longer s (longest (filter p ss)) h))
     by_test p s ss false e h k = rw e k

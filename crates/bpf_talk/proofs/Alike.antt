@@ -12,8 +12,10 @@ each P Q f [] all = All-nil Q
 each P Q f (x ∷ xs) all = All-cons Q x xs (f x (All-head P x xs all)) (each P Q f xs (All-tail P x xs all))
 
 module _ {S T : Type 0} (answers : Answering S) (others : Answering T) (Shows : S → T → Type 0)
-    (follows : (s t : S) (line text : List ℕ) (refused : Bool) (x : T) → answers s t line text refused → Shows s x → (y : T) × others x y line text refused × Shows t y) where
-  lines_alike : (s t : S) (lines : List (List ℕ)) (tolds : List Told) (x : T) → AnswersLines answers s lines tolds t → Shows s x → (y : T) × AnswersLines others x lines tolds y × Shows t y
+    (follows : (s t : S) (line text : List ℕ) (refused : Bool) (x : T) → answers s t line text refused → Shows s x → (y : T) × others x y
+    line text refused × Shows t y) where
+  lines_alike : (s t : S) (lines : List (List ℕ)) (tolds : List Told) (x : T) → AnswersLines answers s lines tolds t → Shows s x → (y : T) ×
+      AnswersLines others x lines tolds y × Shows t y
   lines_alike s t [] [] x same shown = (x, refl, subst (λ (u : S). Shows u x) (sym same) shown)
   lines_alike s t (line ∷ lines) ((text, refused) ∷ tolds) x runs shown =
       let one = follows s runs.0 line text refused x runs.1 shown in
@@ -33,7 +35,8 @@ module _ {S T : Type 0} (answers : Answering S) (others : Answering T) (Shows : 
   Left (talked.Refused why) s x = Unit {0}
   Left talked.CutOff s x = Unit {0}
 
-  pub talks_alike : (echo : Bool) (s t : S) (x : T) (calls : List Call) (unread unwritten : Bool) (told : Talked) → Shows s x → Talks answers echo s t calls unread unwritten told
+  pub talks_alike : (echo : Bool) (s t : S) (x : T) (calls : List Call) (unread unwritten : Bool) (told : Talked) → Shows s x → Talks
+      answers echo s t calls unread unwritten told
       → (y : T) × Talks others echo x y calls unread unwritten told × Left told t y
   talks_alike echo s t x calls unread unwritten (talked.Over refused) shown (turns, ((tolds, ended, told, denies), quiet, works)) =
       let runs = lines_alike s t _ tolds x told.0.0 shown in (
@@ -44,7 +47,8 @@ module _ {S T : Type 0} (answers : Answering S) (others : Answering T) (Shows : 
         ),
         runs.2,
       )
-  talks_alike echo s t x calls unread unwritten (talked.Refused why) shown (turns, ((y, lines, left, tolds, cut, answered, wrote, flushed, early), quiet, works)) =
+  talks_alike echo s t x calls unread unwritten (talked.Refused why) shown
+      (turns, ((y, lines, left, tolds, cut, answered, wrote, flushed, early), quiet, works)) =
       let runs = lines_alike s y lines tolds x answered.0 shown in (
         runs.0,
         (

@@ -41,7 +41,8 @@ first_of (b ∷ text) = first_at b text (b == 10) refl (first_of text)
 abbrev Goes : (text more : List ℕ) (lines : List (List ℕ)) → Type 0
 Goes text more lines = lines_of (text ++ more) ≡ body_of lines ++ lines_of (last_of lines ++ more)
 
-one_more : (b : ℕ) (text more line : List ℕ) (lines : List (List ℕ)) (ends : Bool) → (b == 10) ≡ ends → lines_of text ≡ line ∷ lines → Goes text more (line ∷ lines)
+one_more : (b : ℕ) (text more line : List ℕ) (lines : List (List ℕ)) (ends : Bool) → (b == 10) ≡ ends → lines_of text ≡ line ∷ lines → Goes
+    text more (line ∷ lines)
     → Goes (b ∷ text) more (lines_of (b ∷ text))
 one_more b text more line lines true e is goes =
     subst (Goes (b ∷ text) more) (sym (slice_split-cons_yes (λ b. b == 10) b text e ∙ ap (λ (ls : List (List ℕ)). [] ∷ ls) is))
@@ -60,7 +61,8 @@ goes (b ∷ text) more =
     one_more b text more first.0 first.1 (b == 10) refl first.2 (subst (Goes text more) first.2 (goes text more))
 
 -- what is read goes on with the last line
-pub lines_on : (text more : List ℕ) (lines : List (List ℕ)) (last : List ℕ) → lines_of text ≡ lines ++ last ∷ [] → lines_of (text ++ more) ≡ lines ++ lines_of (last ++ more)
+pub lines_on : (text more : List ℕ) (lines : List (List ℕ)) (last : List ℕ) → lines_of text ≡ lines ++ last ∷ [] → lines_of (text ++ more) ≡
+    lines ++ lines_of (last ++ more)
 lines_on text more lines last is =
     goes text more ∙ ap (λ (ls : List (List ℕ)). body_of ls ++ lines_of (last_of ls ++ more)) is
     ∙ ap (λ (ls : List (List ℕ)). ls ++ lines_of (last_of (lines ++ last ∷ []) ++ more)) (body_is lines last)

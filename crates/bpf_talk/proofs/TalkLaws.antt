@@ -1,11 +1,13 @@
 -- Where a conversation is, line by line and read by read.
-use Rattle.std.proofs.Common.{◌≡◌, ◌∙◌, ℕ, ◌+◌, ◌^◌, ◌≤◌, ◌⊎◌, inl, inr, Bool, true, false, List, [], ◌∷◌, ◌++◌, length, length-append, take, ap, refl, sym, subst, append_assoc, append-nil, arith}
+use Rattle.std.proofs.Common.{◌≡◌, ◌∙◌, ℕ, ◌+◌, ◌^◌, ◌≤◌, ◌⊎◌, inl, inr, Bool, true, false, List, [], ◌∷◌, ◌++◌, length, length-append}
+use Rattle.std.proofs.Common.{take, ap, refl, sym, subst, append_assoc, append-nil, arith}
 use Rattle.std.specs.Prelude.{◌||◌, All, IsUtf8}
 use Rattle.std.proofs.lemmas.List.{take_all}
 use Rattle.std.proofs.lemmas.List.Elements.{All-cons, All-nil, All-push}
 use Rattle.bpf_lines.specs.Lines.{lines_of}
 use Rattle.bpf_talk.specs.Terminal.{Call, Read, AreWrites, IsPut, IsSaid, before_reads, bytes_read, bytes_written, is_none}
-use Rattle.bpf_talk.specs.Talking.{Told, Answering, AnswersLines, AreTold, EndsEarly, IsAt, IsCaughtUp, IsSaidWhy, IsStopped, Talks, any_refused, is_unread, is_unwritten, line_text, said, stop_line}
+use Rattle.bpf_talk.specs.Talking.{Told, Answering, AnswersLines, AreTold, EndsEarly, IsAt, IsCaughtUp, IsSaidWhy, IsStopped, Talks}
+use Rattle.bpf_talk.specs.Talking.{any_refused, is_unread, is_unwritten, line_text, said, stop_line}
 use Rattle.bpf_talk.specs.declared.talking.Stop.{Stop}
 use Rattle.bpf_talk.specs.declared.talking.Stop.TheVariants as stop
 use Rattle.bpf_talk.specs.declared.talking.Talked.{Talked}
@@ -52,7 +54,8 @@ keeps_any stop.Unwritten calls more left w e = absurd e
 module _ {S : Type 0} (answers : Answering S) (echo : Bool) (x : S) where
   -- ---- one line more
 
-  script_more : (y m z : S) (lines : List (List ℕ)) (tolds : List Told) (line text : List ℕ) (refused : Bool) → AnswersLines answers y lines tolds m → answers m z line text refused
+  script_more : (y m z : S) (lines : List (List ℕ)) (tolds : List Told) (line text : List ℕ) (refused : Bool) → AnswersLines answers y lines
+      tolds m → answers m z line text refused
       → AnswersLines answers y (lines ++ line ∷ []) (tolds ++ (text, refused) ∷ []) z
   script_more y m z [] [] line text refused runs one = (z, subst (λ (s : S). answers s z line text refused) runs one, refl)
   script_more y m z (l ∷ lines) ((t, r) ∷ tolds) line text refused runs one = (runs.0, runs.1, script_more runs.0 m z lines tolds line text refused runs.2 one)
@@ -75,7 +78,8 @@ module _ {S : Type 0} (answers : Answering S) (echo : Bool) (x : S) where
       → (old new : S) (line : List ℕ) (left : List (List ℕ)) (size : ℕ) (ended refused : Bool) (text : List ℕ) (one : Bool)
       → IsUtf8 line → answers old new line text one → IsSaid (line_text echo line text) more
       → IsAt answers Old echo x old (line ∷ left) size ended refused → IsAt answers New echo x new left size ended (refused || one)
-  at_next Old New more on old new line left size ended refused text one utf8 answered put (calls, lines, before, reached, cut, told, turns, sized, over, denies) =
+  at_next Old New more on old new line left size ended refused text one utf8 answered put
+      (calls, lines, before, reached, cut, told, turns, sized, over, denies) =
       let writes = put.0.0 in
       let read = read_same more calls writes in (
         more ++ calls,
@@ -115,7 +119,8 @@ module _ {S : Type 0} (answers : Answering S) (echo : Bool) (x : S) where
       → (old new : S) (line : List ℕ) (left : List (List ℕ)) (size : ℕ) (ended refused : Bool) (text : List ℕ) (one : Bool) (k : ℕ)
       → IsUtf8 line → answers old new line text one → IsPut (take k (line_text echo line text)) more
       → IsAt answers Old echo x old (line ∷ left) size ended refused → IsStopped answers New echo x stop.Unwritten
-  cut_at Old New more on old new line left size ended refused text one k utf8 answered put (calls, lines, before, reached, cut, told, turns, sized, over, denies) =
+  cut_at Old New more on old new line left size ended refused text one k utf8 answered put
+      (calls, lines, before, reached, cut, told, turns, sized, over, denies) =
       let writes = put.0 in
       let begun = said echo lines before in
       let all = said echo (lines ++ line ∷ []) (before ++ (text, one) ∷ []) in
@@ -139,7 +144,8 @@ module _ {S : Type 0} (answers : Answering S) (echo : Bool) (x : S) where
 
   at_read : (Old New : List Call → Type 0) (bytes : List ℕ) → ((calls : List Call) → Old calls → New (Read bytes ∷ calls))
       → (now : S) (held : List ℕ) (size : ℕ) (ended refused : Bool)
-      → IsAt answers Old echo x now (held ∷ []) size ended refused → IsAt answers New echo x now (lines_of (held ++ bytes)) (size + length bytes) (is_none bytes) refused
+      → IsAt answers Old echo x now (held ∷ []) size ended refused → IsAt answers New echo x now (lines_of (held ++ bytes))
+      (size + length bytes) (is_none bytes) refused
   at_read Old New bytes on now held size ended refused (calls, lines, before, reached, cut, told, turns, sized, over, denies) = (
     Read bytes ∷ calls,
     lines,
@@ -153,20 +159,24 @@ module _ {S : Type 0} (answers : Answering S) (echo : Bool) (x : S) where
     denies,
   )
 
-  pub at_heard : (Old New : List Call → Type 0) (bytes held all : List ℕ) (n : ℕ) → ((calls : List Call) → Old calls → New (Read bytes ∷ calls)) → all ≡ held ++ bytes → length bytes ≡ n → (n ≡ 0 → ⊥)
+  pub at_heard : (Old New : List Call → Type 0) (bytes held all : List ℕ) (n : ℕ) →
+      ((calls : List Call) → Old calls → New (Read bytes ∷ calls)) → all ≡ held ++ bytes → length bytes ≡ n → (n ≡ 0 → ⊥)
       → (now : S) (size : ℕ) (ended refused : Bool)
       → IsAt answers Old echo x now (held ∷ []) size ended refused → IsAt answers New echo x now (lines_of all) (size + n) false refused
   at_heard Old New bytes held all n on is long some now size ended refused at =
       subst (λ (k : ℕ). IsAt answers New echo x now (lines_of all) (size + k) false refused) long
       (subst (λ (b : Bool). IsAt answers New echo x now (lines_of all) (size + length bytes) b refused) (some_bytes bytes (λ none. some (sym long ∙ none)))
-      (subst (λ (t : List ℕ). IsAt answers New echo x now (lines_of t) (size + length bytes) (is_none bytes) refused) (sym is) (at_read Old New bytes on now held size ended refused at)))
+      (subst (λ (t : List ℕ). IsAt answers New echo x now (lines_of t) (size + length bytes) (is_none bytes) refused) (sym is)
+      (at_read Old New bytes on now held size ended refused at)))
 
   -- nothing was read, since there is no more
-  pub at_over : (Old New : List Call → Type 0) (bytes held all : List ℕ) → length bytes ≡ 0 → all ≡ held ++ bytes → ((calls : List Call) → Old calls → New (Read bytes ∷ calls))
+  pub at_over : (Old New : List Call → Type 0) (bytes held all : List ℕ) → length bytes ≡ 0 → all ≡ held ++ bytes →
+      ((calls : List Call) → Old calls → New (Read bytes ∷ calls))
       → (now : S) (size : ℕ) (ended refused : Bool)
       → IsAt answers Old echo x now (held ∷ []) size ended refused → IsAt answers New echo x now (all ∷ []) size true refused
   at_over Old New bytes held all none is on now size ended refused (calls, lines, before, reached, cut, told, turns, sized, over, denies) =
-      let same : bytes_read calls ++ bytes ≡ bytes_read calls = ap (λ (t : List ℕ). bytes_read calls ++ t) (no_bytes bytes none) ∙ append-nil (bytes_read calls) in
+      let same : bytes_read calls ++ bytes ≡ bytes_read calls = ap (λ (t : List ℕ). bytes_read calls ++ t) (no_bytes bytes none) ∙
+      append-nil (bytes_read calls) in
       let all_held : all ≡ held = is ∙ ap (λ (t : List ℕ). held ++ t) (no_bytes bytes none) ∙ append-nil held in (
         Read bytes ∷ calls,
         lines,
@@ -183,28 +193,35 @@ module _ {S : Type 0} (answers : Answering S) (echo : Bool) (x : S) where
   pub at_same : (Reached : List Call → Type 0) (now : S) (left left' : List (List ℕ)) (size : ℕ) (ended refused refused' : Bool)
       → left ≡ left' → refused ≡ refused' → IsAt answers Reached echo x now left size ended refused → IsAt answers Reached echo x now left' size ended refused'
   at_same Reached now left left' size ended refused refused' p q at =
-      subst (λ (b : Bool). IsAt answers Reached echo x now left' size ended b) q (subst (λ (ls : List (List ℕ)). IsAt answers Reached echo x now ls size ended refused) p at)
+      subst (λ (b : Bool). IsAt answers Reached echo x now left' size ended b) q
+      (subst (λ (ls : List (List ℕ)). IsAt answers Reached echo x now ls size ended refused) p at)
 
   pub at_first : (Reached : List Call → Type 0) → Reached [] → IsAt answers Reached echo x x ([] ∷ []) 0 false false
   at_first Reached reached = ([], [], [], reached, refl, ((refl, All-nil IsUtf8), refl, refl), All-nil (IsCaughtUp answers echo x), refl, refl, refl)
 
   -- a read failed, or what it brought found no room
-  stops : (New : List Call → Type 0) (now : S) (left : List (List ℕ)) (size : ℕ) (ended refused : Bool) (why : Stop) → ((why ≡ stop.Unread) ⊎ (why ≡ stop.OutOfMemory))
+  stops : (New : List Call → Type 0) (now : S) (left : List (List ℕ)) (size : ℕ) (ended refused : Bool) (why : Stop) →
+      ((why ≡ stop.Unread) ⊎ (why ≡ stop.OutOfMemory))
       → IsAt answers New echo x now left size ended refused → IsStopped answers New echo x why
   stops New now left size ended refused why (inl is) at =
-      subst (λ (w : Stop). IsStopped answers New echo x w) (sym is) (stopped_at New New (λ calls p. p) now left size ended refused stop.Unread refl (λ calls sized. tt) at)
+      subst (λ (w : Stop). IsStopped answers New echo x w) (sym is)
+      (stopped_at New New (λ calls p. p) now left size ended refused stop.Unread refl (λ calls sized. tt) at)
   stops New now left size ended refused why (inr is) at =
-      subst (λ (w : Stop). IsStopped answers New echo x w) (sym is) (stopped_at New New (λ calls p. p) now left size ended refused stop.OutOfMemory refl (λ calls sized. tt) at)
+      subst (λ (w : Stop). IsStopped answers New echo x w) (sym is)
+      (stopped_at New New (λ calls p. p) now left size ended refused stop.OutOfMemory refl (λ calls sized. tt) at)
 
   kept : (Old New : List Call → Type 0) → ((calls : List Call) → Old calls → New calls) → (now : S) (left : List (List ℕ)) (size : ℕ) (ended refused : Bool)
       → IsAt answers Old echo x now left size ended refused → IsAt answers New echo x now left size ended refused
-  kept Old New on now left size ended refused (calls, lines, before, reached, cut, told, turns, sized, over, denies) = (calls, lines, before, on calls reached, cut, told, turns, sized, over, denies)
+  kept Old New on now left size ended refused (calls, lines, before, reached, cut, told, turns, sized, over, denies) =
+      (calls, lines, before, on calls reached, cut, told, turns, sized, over, denies)
 
-  pub lost_at : (Old Step New : List Call → Type 0) (on : (calls more : List Call) → Old calls → Step more → New (more ++ calls)) (now : S) (held : List ℕ) (size : ℕ) (ended refused : Bool) (why : Stop)
+  pub lost_at : (Old Step New : List Call → Type 0) (on : (calls more : List Call) → Old calls → Step more → New (more ++ calls)) (now : S)
+      (held : List ℕ) (size : ℕ) (ended refused : Bool) (why : Stop)
       → ((bytes : List ℕ) × Step (Read bytes ∷ [])) ⊎ Step [] → ((why ≡ stop.Unread) ⊎ (why ≡ stop.OutOfMemory))
       → IsAt answers Old echo x now (held ∷ []) size ended refused → IsStopped answers New echo x why
   lost_at Old Step New on now held size ended refused why (inl (bytes, step)) reason at =
-      stops New now (lines_of (held ++ bytes)) (size + length bytes) (is_none bytes) refused why reason (at_read Old New bytes (λ calls p. on calls (Read bytes ∷ []) p step) now held size ended refused at)
+      stops New now (lines_of (held ++ bytes)) (size + length bytes) (is_none bytes) refused why reason
+      (at_read Old New bytes (λ calls p. on calls (Read bytes ∷ []) p step) now held size ended refused at)
   lost_at Old Step New on now held size ended refused why (inr step) reason at =
       stops New now (held ∷ []) size ended refused why reason (kept Old New (λ calls p. on calls [] p step) now (held ∷ []) size ended refused at)
 
@@ -214,7 +231,8 @@ module _ {S : Type 0} (answers : Answering S) (echo : Bool) (x : S) where
   Ended Reached last unread unwritten told = (calls : List Call) × Reached calls × Talks answers echo x last calls unread unwritten told
 
   pub over : (Reached : List Call → Type 0) (last : S) (size : ℕ) (refused unread unwritten : Bool) → unread ≡ false → unwritten ≡ false
-      → IsAt answers Reached echo x last [] size true refused → (calls : List Call) × Reached calls × Talks answers echo x last calls unread unwritten (talked.Over refused)
+      → IsAt answers Reached echo x last [] size true refused → (calls : List Call) × Reached calls × Talks answers echo x last calls unread
+      unwritten (talked.Over refused)
   over Reached last size refused unread unwritten quiet works (calls, lines, before, reached, cut, told, turns, sized, ended, denies) = (
     calls,
     reached,
@@ -238,9 +256,11 @@ module _ {S : Type 0} (answers : Answering S) (echo : Bool) (x : S) where
       × (lines_of (bytes_read calls) ≡ lines ++ left) × AreTold answers echo x lines tolds y calls × EndsEarly why left calls × Turns (before_reads calls)
 
   -- what is stopped while something can be written
-  early : (Old Says New : List Call → Type 0) (on : (calls more : List Call) → Old calls → Says more → New (more ++ calls)) (last : S) (why : Stop) (unread unwritten : Bool) (end : Talked)
+  early : (Old Says New : List Call → Type 0) (on : (calls more : List Call) → Old calls → Says more → New (more ++ calls)) (last : S)
+      (why : Stop) (unread unwritten : Bool) (end : Talked)
       → unread ≡ is_unread why → IsSaidWhy Says why unwritten end → Early Old why → Ended New last unread unwritten end
-  early Old Says New on last why unread unwritten end reads (inl (more, says, put, works, written, meant)) (calls, y, lines, left, before, reached, cut, told, ends, turns) =
+  early Old Says New on last why unread unwritten end reads (inl (more, says, put, works, written, meant))
+      (calls, y, lines, left, before, reached, cut, told, ends, turns) =
       let writes = put.0.0 in
       subst (Ended New last unread unwritten) (sym meant) (
         more ++ calls,
@@ -264,7 +284,8 @@ module _ {S : Type 0} (answers : Answering S) (echo : Bool) (x : S) where
           ),
         ),
       )
-  early Old Says New on last why unread unwritten end reads (inr (k, more, says, put, written, meant)) (calls, y, lines, left, before, reached, cut, told, ends, turns) =
+  early Old Says New on last why unread unwritten end reads (inr (k, more, says, put, written, meant))
+      (calls, y, lines, left, before, reached, cut, told, ends, turns) =
       let writes = put.0 in
       let text = said echo lines before in
       subst (Ended New last unread unwritten) (sym meant) (
@@ -291,10 +312,12 @@ module _ {S : Type 0} (answers : Answering S) (echo : Bool) (x : S) where
       )
 
   -- what is stopped since nothing can be written any more
-  lost : (Old Says New : List Call → Type 0) (on : (calls more : List Call) → Old calls → Says more → New (more ++ calls)) (last : S) (unread unwritten : Bool) (end : Talked)
+  lost : (Old Says New : List Call → Type 0) (on : (calls more : List Call) → Old calls → Says more → New (more ++ calls)) (last : S)
+      (unread unwritten : Bool) (end : Talked)
       → IsSaidWhy Says stop.Unwritten unwritten end → IsStopped answers Old echo x stop.Unwritten → Ended New last unread unwritten end
   lost Old Says New on last unread unwritten end (inl (more, says, put, works, written, meant)) at = cc
-  lost Old Says New on last unread unwritten end (inr (k, more, says, put, written, meant)) (calls, y, lines, left, before, n, reached, cut, told, wrote, turns) =
+  lost Old Says New on last unread unwritten end (inr (k, more, says, put, written, meant))
+      (calls, y, lines, left, before, n, reached, cut, told, wrote, turns) =
       let writes = put.0 in
       let text = said echo lines before in
       subst (Ended New last unread unwritten) (sym meant) (
@@ -312,14 +335,16 @@ module _ {S : Type 0} (answers : Answering S) (echo : Bool) (x : S) where
               n,
               ap lines_of (read_same more calls writes) ∙ cut,
               told,
-              written_more more calls ∙ ap (λ (t : List ℕ). bytes_written calls ++ t) (put.1 ∙ take_none k) ∙ append-nil (bytes_written calls) ∙ wrote ∙ ap (take n) (sym (append-nil text)),
+              written_more more calls ∙ ap (λ (t : List ℕ). bytes_written calls ++ t) (put.1 ∙ take_none k) ∙ append-nil
+                  (bytes_written calls) ∙ wrote ∙ ap (take n) (sym (append-nil text)),
             ),
             written,
           ),
         ),
       )
 
-  pub ends : (Old Says New : List Call → Type 0) (on : (calls more : List Call) → Old calls → Says more → New (more ++ calls)) (last : S) (why : Stop) (unread unwritten : Bool) (end : Talked)
+  pub ends : (Old Says New : List Call → Type 0) (on : (calls more : List Call) → Old calls → Says more → New (more ++ calls)) (last : S)
+      (why : Stop) (unread unwritten : Bool) (end : Talked)
       → unread ≡ is_unread why → IsSaidWhy Says why unwritten end → IsStopped answers Old echo x why
       → (calls : List Call) × New calls × Talks answers echo x last calls unread unwritten end
   ends Old Says New on last stop.Unread unread unwritten end reads says at = early Old Says New on last stop.Unread unread unwritten end reads says at

@@ -1,5 +1,6 @@
 -- Calls of a terminal that only write.
-use Rattle.std.proofs.Common.{◌≡◌, ◌∙◌, ℕ, ◌+◌, ◌-◌, ◌≤◌, true, List, [], ◌∷◌, ◌++◌, drop, length, take, ap, refl, sym, subst, append_assoc, append-nil, arith, length-drop}
+use Rattle.std.proofs.Common.{◌≡◌, ◌∙◌, ℕ, ◌+◌, ◌-◌, ◌≤◌, true, List, [], ◌∷◌, ◌++◌, drop, length, take, ap, refl, sym, subst, append_assoc}
+use Rattle.std.proofs.Common.{append-nil, arith, length-drop}
 use Rattle.std.proofs.lemmas.List.{take_all, take-append-drop}
 use Rattle.std.proofs.Math.Seq.{take-add, take-append_seam}
 use Rattle.bpf_talk.specs.Terminal.{Call, Read, Wrote, Flushed, AreWrites, IsPut, before_reads, bytes_read, bytes_written, is_ended, is_flushed}
@@ -13,7 +14,8 @@ writes_more (Flushed ∷ more) calls p q = writes_more more calls p q
 pub written_more : (more calls : List Call) → bytes_written (more ++ calls) ≡ bytes_written calls ++ bytes_written more
 written_more [] calls = sym (append-nil (bytes_written calls))
 written_more (Read bytes ∷ more) calls = written_more more calls
-written_more (Wrote bytes ∷ more) calls = ap (λ (t : List ℕ). t ++ bytes) (written_more more calls) ∙ append_assoc (bytes_written calls) (bytes_written more) bytes
+written_more (Wrote bytes ∷ more) calls = ap (λ (t : List ℕ). t ++ bytes) (written_more more calls) ∙ append_assoc (bytes_written calls)
+    (bytes_written more) bytes
 written_more (Flushed ∷ more) calls = written_more more calls
 
 pub read_same : (more calls : List Call) → AreWrites more → bytes_read (more ++ calls) ≡ bytes_read calls
@@ -68,10 +70,15 @@ pub begins : (before text rest all : List ℕ) (k : ℕ) → all ≡ before ++ (
 begins before text rest all k is =
     let begun = before ++ take k text in
     let parts : all ≡ begun ++ (drop k text ++ rest) =
-    is ∙ ap (λ (t : List ℕ). before ++ (t ++ rest)) (sym (take-append-drop k text)) ∙ ap (λ (t : List ℕ). before ++ t) (append_assoc (take k text) (drop k text) rest) ∙ sym (append_assoc before (take k text) (drop k text ++ rest)) in
+    is ∙ ap (λ (t : List ℕ). before ++ (t ++ rest)) (sym (take-append-drop k text)) ∙ ap (λ (t : List ℕ). before ++ t)
+    (append_assoc (take k text) (drop k text) rest) ∙ sym (append_assoc before (take k text) (drop k text ++ rest)) in
     sym (ap (take (length begun)) parts ∙ take-append_seam begun (drop k text ++ rest))
 
-pub put_begun : (before text rest all : List ℕ) (k : ℕ) (calls more : List Call) → all ≡ before ++ (text ++ rest) → IsPut before calls → IsPut (take k text) more
+pub put_begun : (before text rest all : List ℕ) (k : ℕ) (calls more : List Call) → all ≡ before ++ (text ++ rest) → IsPut before calls →
+    IsPut (take k text) more
     → (n : ℕ) × IsPut (take n all) (more ++ calls)
-put_begun before text rest all k calls more is p q =
-    (length (before ++ take k text), subst (λ (t : List ℕ). IsPut t (more ++ calls)) (begins before text rest all k is) (put_next before (take k text) calls more p q))
+put_begun before text rest all k calls more is p q = (
+  length (before ++ take k text),
+  subst (λ (t : List ℕ). IsPut t (more ++ calls)) (begins before text rest all k is)
+      (put_next before (take k text) calls more p q),
+)

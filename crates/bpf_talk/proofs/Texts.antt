@@ -10,7 +10,8 @@ use denote.Ref.{Bor}
 abbrev pub texts_left : List (Bor (List ℕ)) → ℕ → List ℕ
 texts_left texts i = concat (map (λ (t : Bor (List ℕ)). t.now) (drop i texts))
 
-pub next_text : (texts : List (Bor (List ℕ))) (i : ℕ) (d : Bor (List ℕ)) → i < length texts → texts_left texts i ≡ (get_or texts i d).now ++ texts_left texts (i + 1)
+pub next_text : (texts : List (Bor (List ℕ))) (i : ℕ) (d : Bor (List ℕ)) → i < length texts → texts_left texts i ≡ (get_or texts i d).now ++
+    texts_left texts (i + 1)
 next_text texts i d inside = ap (λ (ts : List (Bor (List ℕ))). concat (map (λ (t : Bor (List ℕ)). t.now) ts)) (drop_more texts i d inside)
 
 -- some of them are written, and this is left
@@ -21,7 +22,8 @@ pub record Far (Reached : List Call → Type 0) (all left : List ℕ) : Type 0 w
   pub put : IsPut before calls
   pub whole : all ≡ before ++ left
 
-pub far_more : (Old New : List Call → Type 0) (all left text rest : List ℕ) (more : List Call) → ((calls : List Call) → Old calls → New (more ++ calls)) → left ≡ text ++ rest
+pub far_more : (Old New : List Call → Type 0) (all left text rest : List ℕ) (more : List Call) →
+    ((calls : List Call) → Old calls → New (more ++ calls)) → left ≡ text ++ rest
     → IsPut text more → Far Old all left → Far New all rest
 far_more Old New all left text rest more on is put f = record {
   before = f.before ++ text;
@@ -34,7 +36,8 @@ far_more Old New all left text rest more on is put f = record {
 pub far_end : (Reached : List Call → Type 0) (all : List ℕ) → Far Reached all [] → (calls : List Call) × Reached calls × IsPut all calls
 far_end Reached all f = (f.calls, f.reached, subst (λ (t : List ℕ). IsPut t f.calls) (sym (f.whole ∙ append-nil f.before)) f.put)
 
-pub far_cut : (Old New : List Call → Type 0) (all left text rest : List ℕ) (k : ℕ) (more : List Call) → ((calls : List Call) → Old calls → New (more ++ calls)) → left ≡ text ++ rest
+pub far_cut : (Old New : List Call → Type 0) (all left text rest : List ℕ) (k : ℕ) (more : List Call) →
+    ((calls : List Call) → Old calls → New (more ++ calls)) → left ≡ text ++ rest
     → IsPut (take k text) more → Far Old all left → (n : ℕ) × (calls : List Call) × New calls × IsPut (take n all) calls
 far_cut Old New all left text rest k more on is put f =
     let cut = put_begun f.before text rest all k f.calls more (f.whole ∙ ap (λ (t : List ℕ). f.before ++ t) is) f.put put in

@@ -22,7 +22,8 @@ use Rattle.bpf_spelling.specs.declared.operators.Operator.{Operator}
 use Rattle.bpf_spelling.specs.declared.operators.Operator.TheVariants.{Plain, Signed as SignedBy}
 use Rattle.bpf_spelling.specs.declared.registers.TheConstants.{REGISTERS}
 use Rattle.bpf_spelling.specs.declared.signs.Sign.TheVariants as sign
-use Rattle.bpf_spelling.specs.Form.{Item, Blank, Target, cell_items, word, mark, reg, operator_items, operand_item, atomic_items, extended_width, extended_size, form_of}
+use Rattle.bpf_spelling.specs.Form.{Item, Blank, Target, cell_items, word, mark, reg, operator_items, operand_item, atomic_items}
+use Rattle.bpf_spelling.specs.Form.{extended_width, extended_size, form_of}
 use Rattle.bpf_spelling.specs.Operators.{operator_of, comparison_of, atomic_form}
 use Rattle.bpf_spelling.specs.Token.{Tok}
 use Rattle.bpf_text.specs.declared.forms.TheConstants.{FORMS}
@@ -50,7 +51,8 @@ of_any : {A : Type 0} (p : A → Bool) (xs : List A) → list_any p xs ≡ true 
 of_any p [] e = cc
 of_any {A} p (x ∷ xs) e = by_test (p x) refl e (λ h. of_any p xs h)
   where
-    by_test : (b : Bool) → p x ≡ b → b || list_any p xs ≡ true → (list_any p xs ≡ true → Among (λ (y : A). p y ≡ true) xs) → (p x ≡ true) ⊎ Among (λ (y : A). p y ≡ true) xs
+    by_test : (b : Bool) → p x ≡ b → b || list_any p xs ≡ true → (list_any p xs ≡ true → Among (λ (y : A). p y ≡ true) xs) → (p x ≡ true) ⊎
+        Among (λ (y : A). p y ≡ true) xs
     by_test true f e more = inl f
     by_test false f e more = inr (more e)
 
@@ -100,35 +102,72 @@ alu_begun : (w : Width) (d : Reg) (op : AluOp) (src : Operand) (o : Operator) (t
 alu_begun w d op src (Plain m) ts others e s = inl (fits_complete w d _ (tt, ((op, m, e), (src, tt))) ts others s)
 alu_begun w d op src (SignedBy m) ts others e s = inr (inl (fits_complete w d _ (tt, (tt, ((op, m, e), (src, tt)))) ts others s))
 
-branch_begun : (w : Width) (c : Condition) (d : Reg) (src : Operand) (z : ℤ) (name : Option (List ℕ)) (o : Operator) (ts others : List Tok) → comparison_of c ≡ o
-    → Spells (word key.If ∷ Blank ∷ reg w d ∷ Blank ∷ (operator_items o ++ Blank ∷ operand_item w src ∷ Blank ∷ word key.Goto ∷ Blank ∷ Target z name ∷ [])) (ts ++ others) → InTable w d ts
-branch_begun w c d src z name (Plain m) ts others e s = inr (inr (inr (inr (inr (inr (inr (inr (inr (inr (inr (inr (inr (inr (inr (inr (inl (fits_complete w d _ (tt, (d, ((c, m, e), (src, (tt, ((z, name), tt)))))) ts others s)))))))))))))))))
-branch_begun w c d src z name (SignedBy m) ts others e s = inr (inr (inr (inr (inr (inr (inr (inr (inr (inr (inr (inr (inr (inr (inr (inr (inr (inl (fits_complete w d _ (tt, (d, (tt, ((c, m, e), (src, (tt, ((z, name), tt))))))) ts others s))))))))))))))))))
+branch_begun : (w : Width) (c : Condition) (d : Reg) (src : Operand) (z : ℤ) (name : Option (List ℕ)) (o : Operator) (ts others : List Tok)
+    → comparison_of c ≡ o
+    → Spells (word key.If ∷ Blank ∷ reg w d ∷ Blank ∷ (operator_items o ++ Blank ∷ operand_item w src ∷ Blank ∷ word key.Goto ∷ Blank ∷
+    Target z name ∷ [])) (ts ++ others) → InTable w d ts
+branch_begun w c d src z name (Plain m) ts others e s = inr (inr
+    (inr (inr (inr (inr (inr (inr (inr (inr (inr (inr (inr (inr (inr
+    (inr (inl (fits_complete w d _ (tt, (d, ((c, m, e), (src, (tt, ((z, name), tt)))))) ts others s)))))))))))))))))
+branch_begun w c d src z name (SignedBy m) ts others e s = inr (inr
+    (inr (inr (inr (inr (inr (inr (inr (inr (inr (inr (inr (inr (inr
+    (inr (inr (inl (fits_complete w d _ (tt, (d, (tt, ((c, m, e), (src, (tt, ((z, name), tt))))))) ts others s))))))))))))))))))
 
-atomic_begun : (op : AtomicOp) (w : Width) (b : Reg) (z : ℤ) (d : Reg) (f : AtomicForm) (ts others : List Tok) → atomic_form op ≡ f → Spells (atomic_items f w b z d) (ts ++ others) → InTable w d ts
-atomic_begun op w b z d (form.Locked m) ts others e s = inr (inr (inr (inr (inr (inr (inr (inr (inr (inr (inl (fits_complete w d _ (tt, (tt, (tt, (tt, (tt, (tt, (tt, (b, (z, (tt, ((op, m, e), (d, tt)))))))))))) ts others s)))))))))))
-atomic_begun op w b z d (form.Fetch k) ts others e s = inr (inr (inr (inr (inr (inr (inr (inr (inr (inr (inr (inl (fits_complete w d _ (tt, (tt, ((op, k, e), (tt, (tt, (tt, (tt, (tt, (tt, (b, (z, (tt, (tt, (tt, (tt, tt))))))))))))))) ts others s))))))))))))
-atomic_begun op w b z d form.Exchange ts others e s = inr (inr (inr (inr (inr (inr (inr (inr (inr (inr (inr (inr (inl (fits_complete w d _ (tt, (tt, (tt, (tt, (b, (z, (tt, (tt, (tt, tt))))))))) ts others s)))))))))))))
-atomic_begun op w b z d form.CompareExchange ts others e s = inr (inr (inr (inr (inr (inr (inr (inr (inr (inr (inr (inr (inr (inl (fits_complete w d _ (tt, (tt, (tt, (tt, (b, (z, (tt, (tt, (tt, (d, (tt, tt))))))))))) ts others s))))))))))))))
+atomic_begun : (op : AtomicOp) (w : Width) (b : Reg) (z : ℤ) (d : Reg) (f : AtomicForm) (ts others : List Tok) → atomic_form op ≡ f → Spells
+    (atomic_items f w b z d) (ts ++ others) → InTable w d ts
+atomic_begun op w b z d (form.Locked m) ts others e s = inr (inr
+    (inr (inr (inr (inr (inr (inr (inr (inr (inl (fits_complete w d _
+    (tt, (tt, (tt, (tt, (tt, (tt, (tt, (b, (z, (tt, ((op, m, e), (d, tt)))))))))))) ts others s)))))))))))
+atomic_begun op w b z d (form.Fetch k) ts others e s = inr (inr (inr
+    (inr (inr (inr (inr (inr (inr (inr (inr (inl (fits_complete w d _
+    (tt, (tt, ((op, k, e), (tt, (tt, (tt, (tt, (tt, (tt, (b, (z, (tt, (tt, (tt, (tt, tt))))))))))))))) ts others s))))))))))))
+atomic_begun op w b z d form.Exchange ts others e s = inr (inr (inr
+    (inr (inr (inr (inr (inr (inr (inr (inr (inr (inl (fits_complete w d _ (tt, (tt, (tt, (tt, (b, (z, (tt, (tt, (tt, tt))))))))) ts others
+    s)))))))))))))
+atomic_begun op w b z d form.CompareExchange ts others e s = inr
+    (inr (inr (inr (inr (inr (inr (inr (inr (inr (inr (inr (inr (inl
+    (fits_complete w d _ (tt, (tt, (tt, (tt, (b, (z, (tt, (tt, (tt, (d, (tt, tt))))))))))) ts others s))))))))))))))
 
 pub language_begun : (i : Insn) (name : Option (List ℕ)) (ts others : List Tok) → Spells (form_of i name) (ts ++ others) → begins ts ≡ true
 language_begun (insn.Alu w op d src) None ts others s = begun w d ts (alu_begun w d op src (operator_of op) ts others refl s)
 language_begun (insn.Negate w d) None ts others s = begun w d ts (inr (inr (inl (fits_complete w d _ (tt, (tt, (tt, (tt, tt)))) ts others s))))
-language_begun (insn.SignExtend e d r) None ts others s = begun (extended_width e) d ts (inr (inr (inr (inl (fits_complete (extended_width e) d _ (tt, (tt, (tt, ((e, refl), (tt, (r, tt)))))) ts others s)))))
-language_begun (insn.SwapBytes k z d) None ts others s = begun Bits64 d ts (inr (inr (inr (inr (inl (fits_complete Bits64 d _ (tt, (tt, ((k, z), (tt, tt)))) ts others s))))))
-language_begun (insn.Jump z) name ts others s = begun Bits64 R0 ts (inr (inr (inr (inr (inr (inr (inr (inr (inr (inr (inr (inr (inr (inr (inl (fits_complete Bits64 R0 _ (tt, ((z, name), tt)) ts others s))))))))))))))))
-language_begun (insn.JumpLong z) name ts others s = begun Bits64 R0 ts (inr (inr (inr (inr (inr (inr (inr (inr (inr (inr (inr (inr (inr (inr (inr (inl (fits_complete Bits64 R0 _ (tt, ((z, name), tt)) ts others s)))))))))))))))))
+language_begun (insn.SignExtend e d r) None ts others s = begun (extended_width e) d ts
+    (inr (inr (inr (inl (fits_complete (extended_width e) d _ (tt, (tt, (tt, ((e, refl), (tt, (r, tt)))))) ts others s)))))
+language_begun (insn.SwapBytes k z d) None ts others s = begun Bits64 d ts
+    (inr (inr (inr (inr (inl (fits_complete Bits64 d _ (tt, (tt, ((k, z), (tt, tt)))) ts others s))))))
+language_begun (insn.Jump z) name ts others s = begun Bits64 R0 ts
+    (inr (inr (inr (inr (inr (inr (inr (inr (inr (inr (inr (inr (inr
+    (inr (inl (fits_complete Bits64 R0 _ (tt, ((z, name), tt)) ts others s))))))))))))))))
+language_begun (insn.JumpLong z) name ts others s = begun Bits64 R0 ts
+    (inr (inr (inr (inr (inr (inr (inr (inr (inr (inr (inr (inr (inr
+    (inr (inr (inl (fits_complete Bits64 R0 _ (tt, ((z, name), tt)) ts others s)))))))))))))))))
 language_begun (insn.JumpIf w c d src z) name ts others s = begun w d ts (branch_begun w c d src z name (comparison_of c) ts others refl s)
-language_begun (insn.CallHelper n) None ts others s = begun Bits64 R0 ts (inr (inr (inr (inr (inr (inr (inr (inr (inr (inr (inr (inr (inr (inr (inr (inr (inr (inr (inl (fits_complete Bits64 R0 _ (tt, (n, tt)) ts others s))))))))))))))))))))
-language_begun (insn.CallLocal z) name ts others s = begun Bits64 R0 ts (inr (inr (inr (inr (inr (inr (inr (inr (inr (inr (inr (inr (inr (inr (inr (inr (inr (inr (inr (inl (fits_complete Bits64 R0 _ (tt, ((z, name), tt)) ts others s)))))))))))))))))))))
-language_begun insn.Exit None ts others s = begun Bits64 R0 ts (inr (inr (inr (inr (inr (inr (inr (inr (inr (inr (inr (inr (inr (inr (inr (inr (inr (inr (inr (inr (inl (fits_complete Bits64 R0 _ (tt, tt) ts others s))))))))))))))))))))))
-language_begun (insn.Load z d b o) None ts others s = begun Bits64 R0 ts (inr (inr (inr (inr (inr (inr (inr (inl (fits_complete Bits64 R0 _ (d, (tt, (tt, (tt, (z, (tt, (tt, (tt, (b, (o, (tt, tt))))))))))) ts others s)))))))))
-language_begun (insn.LoadSigned z d b o) None ts others s = begun Bits64 R0 ts (inr (inr (inr (inr (inr (inr (inr (inr (inl (fits_complete Bits64 R0 _ (d, (tt, (tt, (tt, (z, (tt, (tt, (tt, (b, (o, (tt, tt))))))))))) ts others s))))))))))
-language_begun (insn.StoreImmediate z b o v) None ts others s = begun Bits64 R0 ts (inr (inr (inr (inr (inr (inr (inr (inr (inr (inl (fits_complete Bits64 R0 _ (tt, (tt, (z, (tt, (tt, (tt, (b, (o, (tt, (tt, (operand.Immediate v, tt))))))))))) ts others s)))))))))))
-language_begun (insn.Store z b o r) None ts others s = begun Bits64 R0 ts (inr (inr (inr (inr (inr (inr (inr (inr (inr (inl (fits_complete Bits64 R0 _ (tt, (tt, (z, (tt, (tt, (tt, (b, (o, (tt, (tt, (operand.Register r, tt))))))))))) ts others s)))))))))))
+language_begun (insn.CallHelper n) None ts others s = begun Bits64 R0 ts
+    (inr (inr (inr (inr (inr (inr (inr (inr (inr (inr (inr (inr (inr
+    (inr (inr (inr (inr (inr (inl (fits_complete Bits64 R0 _ (tt, (n, tt)) ts others s))))))))))))))))))))
+language_begun (insn.CallLocal z) name ts others s = begun Bits64 R0 ts
+    (inr (inr (inr (inr (inr (inr (inr (inr (inr (inr (inr (inr (inr
+    (inr (inr (inr (inr (inr (inr (inl (fits_complete Bits64 R0 _ (tt, ((z, name), tt)) ts others s)))))))))))))))))))))
+language_begun insn.Exit None ts others s = begun Bits64 R0 ts (inr
+    (inr (inr (inr (inr (inr (inr (inr (inr (inr (inr (inr (inr (inr
+    (inr (inr (inr (inr (inr (inr (inl (fits_complete Bits64 R0 _ (tt, tt) ts others s))))))))))))))))))))))
+language_begun (insn.Load z d b o) None ts others s = begun Bits64 R0 ts
+    (inr (inr (inr (inr (inr (inr (inr (inl (fits_complete Bits64 R0 _ (d, (tt, (tt, (tt, (z, (tt, (tt, (tt, (b, (o, (tt, tt))))))))))) ts
+    others s)))))))))
+language_begun (insn.LoadSigned z d b o) None ts others s = begun Bits64 R0 ts
+    (inr (inr (inr (inr (inr (inr (inr (inr (inl (fits_complete Bits64 R0 _ (d, (tt, (tt, (tt, (z, (tt, (tt, (tt, (b, (o, (tt, tt)))))))))))
+    ts others s))))))))))
+language_begun (insn.StoreImmediate z b o v) None ts others s = begun Bits64 R0 ts
+    (inr (inr (inr (inr (inr (inr (inr (inr (inr (inl (fits_complete Bits64 R0 _
+    (tt, (tt, (z, (tt, (tt, (tt, (b, (o, (tt, (tt, (operand.Immediate v, tt))))))))))) ts others s)))))))))))
+language_begun (insn.Store z b o r) None ts others s = begun Bits64 R0 ts
+    (inr (inr (inr (inr (inr (inr (inr (inr (inr (inl (fits_complete Bits64 R0 _
+    (tt, (tt, (z, (tt, (tt, (tt, (b, (o, (tt, (tt, (operand.Register r, tt))))))))))) ts others s)))))))))))
 language_begun (insn.Atomic w op b o d) None ts others s = begun w d ts (atomic_begun op w b o d (atomic_form op) ts others refl s)
-language_begun (insn.LoadNumber d n) None ts others s = begun Bits64 R0 ts (inr (inr (inr (inr (inr (inl (fits_complete Bits64 R0 _ (d, (tt, (n, (tt, tt)))) ts others s)))))))
-language_begun (insn.LoadMap d n) None ts others s = begun Bits64 R0 ts (inr (inr (inr (inr (inr (inr (inl (fits_complete Bits64 R0 _ (d, (tt, (tt, (n, tt)))) ts others s))))))))
+language_begun (insn.LoadNumber d n) None ts others s = begun Bits64 R0 ts
+    (inr (inr (inr (inr (inr (inl (fits_complete Bits64 R0 _ (d, (tt, (n, (tt, tt)))) ts others s)))))))
+language_begun (insn.LoadMap d n) None ts others s = begun Bits64 R0 ts
+    (inr (inr (inr (inr (inr (inr (inl (fits_complete Bits64 R0 _ (d, (tt, (tt, (n, tt)))) ts others s))))))))
 language_begun i (Some name) ts others s = absurd s
 
 -- ---- and each form of the table is one of the language
@@ -136,47 +175,88 @@ language_begun i (Some name) ts others s = absurd s
 spelled_by : (ts : List Tok) (i : Insn) (name : Option (List ℕ)) (others : List Tok) → Spells (form_of i name) (ts ++ others) → FormGoesOn ts
 spelled_by ts i name others s = (record { insn = i; name = name }, others, s)
 
-by_operator : (w : Width) (d : Reg) (src : Operand) (a b : Operator) (us : List Tok) → a ≡ b → Spells (reg w d ∷ Blank ∷ (operator_items b ++ Blank ∷ operand_item w src ∷ [])) us → Spells (reg w d ∷ Blank ∷ (operator_items a ++ Blank ∷ operand_item w src ∷ [])) us
-by_operator w d src a b us e s = let P : Operator → Type 0 = λ o. Spells (reg w d ∷ Blank ∷ (operator_items o ++ Blank ∷ operand_item w src ∷ [])) us in subst P (sym e) s
+by_operator : (w : Width) (d : Reg) (src : Operand) (a b : Operator) (us : List Tok) → a ≡ b → Spells
+    (reg w d ∷ Blank ∷ (operator_items b ++ Blank ∷ operand_item w src ∷ [])) us → Spells
+    (reg w d ∷ Blank ∷ (operator_items a ++ Blank ∷ operand_item w src ∷ [])) us
+by_operator w d src a b us e s =
+    let P : Operator → Type 0 = λ o. Spells (reg w d ∷ Blank ∷ (operator_items o ++ Blank ∷ operand_item w src ∷ [])) us in subst P (sym e) s
 
 by_comparison : (w : Width) (d : Reg) (src : Operand) (z : ℤ) (name : Option (List ℕ)) (a b : Operator) (us : List Tok) → a ≡ b
     → Spells (word key.If ∷ Blank ∷ reg w d ∷ Blank ∷ (operator_items b ++ Blank ∷ operand_item w src ∷ Blank ∷ word key.Goto ∷ Blank ∷ Target z name ∷ [])) us
     → Spells (word key.If ∷ Blank ∷ reg w d ∷ Blank ∷ (operator_items a ++ Blank ∷ operand_item w src ∷ Blank ∷ word key.Goto ∷ Blank ∷ Target z name ∷ [])) us
-by_comparison w d src z name a b us e s = let P : Operator → Type 0 = λ o. Spells (word key.If ∷ Blank ∷ reg w d ∷ Blank ∷ (operator_items o ++ Blank ∷ operand_item w src ∷ Blank ∷ word key.Goto ∷ Blank ∷ Target z name ∷ [])) us in subst P (sym e) s
+by_comparison w d src z name a b us e s =
+    let P : Operator → Type 0 = λ o. Spells (word key.If ∷ Blank ∷ reg w d ∷ Blank ∷
+    (operator_items o ++ Blank ∷ operand_item w src ∷ Blank ∷ word key.Goto ∷ Blank ∷ Target z name ∷ [])) us in subst P (sym e) s
 
-by_atomic : (w : Width) (b : Reg) (z : ℤ) (d : Reg) (f g : AtomicForm) (us : List Tok) → f ≡ g → Spells (atomic_items g w b z d) us → Spells (atomic_items f w b z d) us
+by_atomic : (w : Width) (b : Reg) (z : ℤ) (d : Reg) (f g : AtomicForm) (us : List Tok) → f ≡ g → Spells (atomic_items g w b z d) us → Spells
+    (atomic_items f w b z d) us
 by_atomic w b z d f g us e s = let P : AtomicForm → Type 0 = λ x. Spells (atomic_items x w b z d) us in subst P (sym e) s
 
 -- a sign extension, of the width that the form is taken with
-by_extension : (w v : Width) (z : Item) (d r : Reg) (us : List Tok) → v ≡ w → Spells (reg w d ∷ mark sign.Assign ∷ mark sign.Open ∷ z ∷ mark sign.Close ∷ reg w r ∷ []) us → Spells (reg v d ∷ mark sign.Assign ∷ mark sign.Open ∷ z ∷ mark sign.Close ∷ reg v r ∷ []) us
-by_extension w v z d r us e s = let P : Width → Type 0 = λ x. Spells (reg x d ∷ mark sign.Assign ∷ mark sign.Open ∷ z ∷ mark sign.Close ∷ reg x r ∷ []) us in subst P (sym e) s
+by_extension : (w v : Width) (z : Item) (d r : Reg) (us : List Tok) → v ≡ w → Spells
+    (reg w d ∷ mark sign.Assign ∷ mark sign.Open ∷ z ∷ mark sign.Close ∷ reg w r ∷ []) us → Spells
+    (reg v d ∷ mark sign.Assign ∷ mark sign.Open ∷ z ∷ mark sign.Close ∷ reg v r ∷ []) us
+by_extension w v z d r us e s =
+    let P : Width → Type 0 = λ x. Spells (reg x d ∷ mark sign.Assign ∷ mark sign.Open ∷ z ∷ mark sign.Close ∷ reg x r ∷ []) us in subst P (sym e) s
 
-stored : (z : Size) (b : Reg) (o : ℤ) (src : Operand) (ts others : List Tok) → Spells (mark sign.Star ∷ cell_items (key.Unsigned z) b o (Blank ∷ mark sign.Assign ∷ Blank ∷ operand_item Bits64 src ∷ [])) (ts ++ others) → FormGoesOn ts
+stored : (z : Size) (b : Reg) (o : ℤ) (src : Operand) (ts others : List Tok) → Spells
+    (mark sign.Star ∷ cell_items (key.Unsigned z) b o (Blank ∷ mark sign.Assign ∷ Blank ∷ operand_item Bits64 src ∷ [])) (ts ++ others) →
+    FormGoesOn ts
 stored z b o (operand.Immediate v) ts others s = spelled_by ts (insn.StoreImmediate z b o v) None others s
 stored z b o (operand.Register r) ts others s = spelled_by ts (insn.Store z b o r) None others s
 
 in_table : (w : Width) (r : Reg) (ts : List Tok) → InTable w r ts → FormGoesOn ts
-in_table w r ts (inl h) = let f = fits_sound w r _ ts h in spelled_by ts (insn.Alu w f.0.1.0.0 r f.0.1.1.0) None f.1 (by_operator w r f.0.1.1.0 (operator_of f.0.1.0.0) (Plain f.0.1.0.1) (ts ++ f.1) f.0.1.0.2 f.2)
-in_table w r ts (inr (inl h)) = let f = fits_sound w r _ ts h in spelled_by ts (insn.Alu w f.0.1.1.0.0 r f.0.1.1.1.0) None f.1 (by_operator w r f.0.1.1.1.0 (operator_of f.0.1.1.0.0) (SignedBy f.0.1.1.0.1) (ts ++ f.1) f.0.1.1.0.2 f.2)
+in_table w r ts (inl h) =
+    let f = fits_sound w r _ ts h in spelled_by ts (insn.Alu w f.0.1.0.0 r f.0.1.1.0) None f.1
+    (by_operator w r f.0.1.1.0 (operator_of f.0.1.0.0) (Plain f.0.1.0.1) (ts ++ f.1) f.0.1.0.2 f.2)
+in_table w r ts (inr (inl h)) =
+    let f = fits_sound w r _ ts h in spelled_by ts (insn.Alu w f.0.1.1.0.0 r f.0.1.1.1.0) None f.1
+    (by_operator w r f.0.1.1.1.0 (operator_of f.0.1.1.0.0) (SignedBy f.0.1.1.0.1) (ts ++ f.1) f.0.1.1.0.2 f.2)
 in_table w r ts (inr (inr (inl h))) = let f = fits_sound w r _ ts h in spelled_by ts (insn.Negate w r) None f.1 f.2
-in_table w r ts (inr (inr (inr (inl h)))) = let f = fits_sound w r _ ts h in spelled_by ts (insn.SignExtend f.0.1.1.1.0.0 r f.0.1.1.1.1.1.0) None f.1 (by_extension w (extended_width f.0.1.1.1.0.0) (word (key.Extended (extended_size f.0.1.1.1.0.0))) r f.0.1.1.1.1.1.0 (ts ++ f.1) f.0.1.1.1.0.1 f.2)
+in_table w r ts (inr (inr (inr (inl h)))) =
+    let f = fits_sound w r _ ts h in spelled_by ts (insn.SignExtend f.0.1.1.1.0.0 r f.0.1.1.1.1.1.0) None f.1
+    (by_extension w (extended_width f.0.1.1.1.0.0) (word (key.Extended (extended_size f.0.1.1.1.0.0))) r f.0.1.1.1.1.1.0 (ts ++ f.1)
+    f.0.1.1.1.0.1 f.2)
 in_table w r ts (inr (inr (inr (inr (inl h))))) = let f = fits_sound w r _ ts h in spelled_by ts (insn.SwapBytes f.0.1.1.0.0 f.0.1.1.0.1 r) None f.1 f.2
 in_table w r ts (inr (inr (inr (inr (inr (inl h)))))) = let f = fits_sound w r _ ts h in spelled_by ts (insn.LoadNumber f.0.0 f.0.1.1.0) None f.1 f.2
 in_table w r ts (inr (inr (inr (inr (inr (inr (inl h))))))) = let f = fits_sound w r _ ts h in spelled_by ts (insn.LoadMap f.0.0 f.0.1.1.1.0) None f.1 f.2
-in_table w r ts (inr (inr (inr (inr (inr (inr (inr (inl h)))))))) = let f = fits_sound w r _ ts h in spelled_by ts (insn.Load f.0.1.1.1.1.0 f.0.0 f.0.1.1.1.1.1.1.1.1.0 f.0.1.1.1.1.1.1.1.1.1.0) None f.1 f.2
-in_table w r ts (inr (inr (inr (inr (inr (inr (inr (inr (inl h))))))))) = let f = fits_sound w r _ ts h in spelled_by ts (insn.LoadSigned f.0.1.1.1.1.0 f.0.0 f.0.1.1.1.1.1.1.1.1.0 f.0.1.1.1.1.1.1.1.1.1.0) None f.1 f.2
-in_table w r ts (inr (inr (inr (inr (inr (inr (inr (inr (inr (inl h)))))))))) = let f = fits_sound w r _ ts h in stored f.0.1.1.0 f.0.1.1.1.1.1.1.0 f.0.1.1.1.1.1.1.1.0 f.0.1.1.1.1.1.1.1.1.1.1.0 ts f.1 f.2
-in_table w r ts (inr (inr (inr (inr (inr (inr (inr (inr (inr (inr (inl h))))))))))) = let f = fits_sound w r _ ts h in spelled_by ts (insn.Atomic w f.0.1.1.1.1.1.1.1.1.1.1.0.0 f.0.1.1.1.1.1.1.1.0 f.0.1.1.1.1.1.1.1.1.0 f.0.1.1.1.1.1.1.1.1.1.1.1.0) None f.1 (by_atomic w f.0.1.1.1.1.1.1.1.0 f.0.1.1.1.1.1.1.1.1.0 f.0.1.1.1.1.1.1.1.1.1.1.1.0 (atomic_form f.0.1.1.1.1.1.1.1.1.1.1.0.0) (form.Locked f.0.1.1.1.1.1.1.1.1.1.1.0.1) (ts ++ f.1) f.0.1.1.1.1.1.1.1.1.1.1.0.2 f.2)
-in_table w r ts (inr (inr (inr (inr (inr (inr (inr (inr (inr (inr (inr (inl h)))))))))))) = let f = fits_sound w r _ ts h in spelled_by ts (insn.Atomic w f.0.1.1.0.0 f.0.1.1.1.1.1.1.1.1.1.0 f.0.1.1.1.1.1.1.1.1.1.1.0 r) None f.1 (by_atomic w f.0.1.1.1.1.1.1.1.1.1.0 f.0.1.1.1.1.1.1.1.1.1.1.0 r (atomic_form f.0.1.1.0.0) (form.Fetch f.0.1.1.0.1) (ts ++ f.1) f.0.1.1.0.2 f.2)
-in_table w r ts (inr (inr (inr (inr (inr (inr (inr (inr (inr (inr (inr (inr (inl h))))))))))))) = let f = fits_sound w r _ ts h in spelled_by ts (insn.Atomic w atomic.Exchange f.0.1.1.1.1.0 f.0.1.1.1.1.1.0 r) None f.1 f.2
-in_table w r ts (inr (inr (inr (inr (inr (inr (inr (inr (inr (inr (inr (inr (inr (inl h)))))))))))))) = let f = fits_sound w r _ ts h in spelled_by ts (insn.Atomic w atomic.CompareExchange f.0.1.1.1.1.0 f.0.1.1.1.1.1.0 f.0.1.1.1.1.1.1.1.1.1.0) None f.1 f.2
-in_table w r ts (inr (inr (inr (inr (inr (inr (inr (inr (inr (inr (inr (inr (inr (inr (inl h))))))))))))))) = let f = fits_sound w r _ ts h in spelled_by ts (insn.Jump f.0.1.0.0) f.0.1.0.1 f.1 f.2
-in_table w r ts (inr (inr (inr (inr (inr (inr (inr (inr (inr (inr (inr (inr (inr (inr (inr (inl h)))))))))))))))) = let f = fits_sound w r _ ts h in spelled_by ts (insn.JumpLong f.0.1.0.0) f.0.1.0.1 f.1 f.2
-in_table w r ts (inr (inr (inr (inr (inr (inr (inr (inr (inr (inr (inr (inr (inr (inr (inr (inr (inl h))))))))))))))))) = let f = fits_sound w r _ ts h in spelled_by ts (insn.JumpIf w f.0.1.1.0.0 f.0.1.0 f.0.1.1.1.0 f.0.1.1.1.1.1.0.0) f.0.1.1.1.1.1.0.1 f.1 (by_comparison w f.0.1.0 f.0.1.1.1.0 f.0.1.1.1.1.1.0.0 f.0.1.1.1.1.1.0.1 (comparison_of f.0.1.1.0.0) (Plain f.0.1.1.0.1) (ts ++ f.1) f.0.1.1.0.2 f.2)
-in_table w r ts (inr (inr (inr (inr (inr (inr (inr (inr (inr (inr (inr (inr (inr (inr (inr (inr (inr (inl h)))))))))))))))))) = let f = fits_sound w r _ ts h in spelled_by ts (insn.JumpIf w f.0.1.1.1.0.0 f.0.1.0 f.0.1.1.1.1.0 f.0.1.1.1.1.1.1.0.0) f.0.1.1.1.1.1.1.0.1 f.1 (by_comparison w f.0.1.0 f.0.1.1.1.1.0 f.0.1.1.1.1.1.1.0.0 f.0.1.1.1.1.1.1.0.1 (comparison_of f.0.1.1.1.0.0) (SignedBy f.0.1.1.1.0.1) (ts ++ f.1) f.0.1.1.1.0.2 f.2)
-in_table w r ts (inr (inr (inr (inr (inr (inr (inr (inr (inr (inr (inr (inr (inr (inr (inr (inr (inr (inr (inl h))))))))))))))))))) = let f = fits_sound w r _ ts h in spelled_by ts (insn.CallHelper f.0.1.0) None f.1 f.2
-in_table w r ts (inr (inr (inr (inr (inr (inr (inr (inr (inr (inr (inr (inr (inr (inr (inr (inr (inr (inr (inr (inl h)))))))))))))))))))) = let f = fits_sound w r _ ts h in spelled_by ts (insn.CallLocal f.0.1.0.0) f.0.1.0.1 f.1 f.2
-in_table w r ts (inr (inr (inr (inr (inr (inr (inr (inr (inr (inr (inr (inr (inr (inr (inr (inr (inr (inr (inr (inr (inl h))))))))))))))))))))) = let f = fits_sound w r _ ts h in spelled_by ts (insn.Exit) None f.1 f.2
+in_table w r ts (inr (inr (inr (inr (inr (inr (inr (inl h)))))))) =
+    let f = fits_sound w r _ ts h in spelled_by ts (insn.Load f.0.1.1.1.1.0 f.0.0 f.0.1.1.1.1.1.1.1.1.0 f.0.1.1.1.1.1.1.1.1.1.0) None f.1 f.2
+in_table w r ts (inr (inr (inr (inr (inr (inr (inr (inr (inl h))))))))) =
+    let f = fits_sound w r _ ts h in spelled_by ts (insn.LoadSigned f.0.1.1.1.1.0 f.0.0 f.0.1.1.1.1.1.1.1.1.0 f.0.1.1.1.1.1.1.1.1.1.0) None f.1 f.2
+in_table w r ts (inr (inr (inr (inr (inr (inr (inr (inr (inr (inl h)))))))))) =
+    let f = fits_sound w r _ ts h in stored f.0.1.1.0 f.0.1.1.1.1.1.1.0 f.0.1.1.1.1.1.1.1.0 f.0.1.1.1.1.1.1.1.1.1.1.0 ts f.1 f.2
+in_table w r ts (inr (inr (inr (inr (inr (inr (inr (inr (inr (inr (inl h))))))))))) =
+    let f = fits_sound w r _ ts h in spelled_by ts (insn.Atomic w f.0.1.1.1.1.1.1.1.1.1.1.0.0 f.0.1.1.1.1.1.1.1.0 f.0.1.1.1.1.1.1.1.1.0
+    f.0.1.1.1.1.1.1.1.1.1.1.1.0) None f.1 (by_atomic w f.0.1.1.1.1.1.1.1.0 f.0.1.1.1.1.1.1.1.1.0 f.0.1.1.1.1.1.1.1.1.1.1.1.0
+    (atomic_form f.0.1.1.1.1.1.1.1.1.1.1.0.0) (form.Locked f.0.1.1.1.1.1.1.1.1.1.1.0.1) (ts ++ f.1) f.0.1.1.1.1.1.1.1.1.1.1.0.2 f.2)
+in_table w r ts (inr (inr (inr (inr (inr (inr (inr (inr (inr (inr (inr (inl h)))))))))))) =
+    let f = fits_sound w r _ ts h in spelled_by ts (insn.Atomic w f.0.1.1.0.0 f.0.1.1.1.1.1.1.1.1.1.0 f.0.1.1.1.1.1.1.1.1.1.1.0 r) None f.1
+    (by_atomic w f.0.1.1.1.1.1.1.1.1.1.0 f.0.1.1.1.1.1.1.1.1.1.1.0 r (atomic_form f.0.1.1.0.0) (form.Fetch f.0.1.1.0.1) (ts ++ f.1)
+    f.0.1.1.0.2 f.2)
+in_table w r ts (inr (inr (inr (inr (inr (inr (inr (inr (inr (inr (inr (inr (inl h))))))))))))) =
+    let f = fits_sound w r _ ts h in spelled_by ts (insn.Atomic w atomic.Exchange f.0.1.1.1.1.0 f.0.1.1.1.1.1.0 r) None f.1 f.2
+in_table w r ts (inr (inr (inr (inr (inr (inr (inr (inr (inr (inr (inr (inr (inr (inl h)))))))))))))) =
+    let f = fits_sound w r _ ts h in spelled_by ts (insn.Atomic w atomic.CompareExchange f.0.1.1.1.1.0 f.0.1.1.1.1.1.0 f.0.1.1.1.1.1.1.1.1.1.0) None f.1 f.2
+in_table w r ts (inr (inr (inr (inr (inr (inr (inr (inr (inr (inr (inr (inr (inr (inr (inl h))))))))))))))) =
+    let f = fits_sound w r _ ts h in spelled_by ts (insn.Jump f.0.1.0.0) f.0.1.0.1 f.1 f.2
+in_table w r ts (inr (inr (inr (inr (inr (inr (inr (inr (inr (inr (inr (inr (inr (inr (inr (inl h)))))))))))))))) =
+    let f = fits_sound w r _ ts h in spelled_by ts (insn.JumpLong f.0.1.0.0) f.0.1.0.1 f.1 f.2
+in_table w r ts (inr (inr (inr (inr (inr (inr (inr (inr (inr (inr (inr (inr (inr (inr (inr (inr (inl h))))))))))))))))) =
+    let f = fits_sound w r _ ts h in spelled_by ts (insn.JumpIf w f.0.1.1.0.0 f.0.1.0 f.0.1.1.1.0 f.0.1.1.1.1.1.0.0) f.0.1.1.1.1.1.0.1 f.1
+    (by_comparison w f.0.1.0 f.0.1.1.1.0 f.0.1.1.1.1.1.0.0 f.0.1.1.1.1.1.0.1 (comparison_of f.0.1.1.0.0) (Plain f.0.1.1.0.1)
+    (ts ++ f.1) f.0.1.1.0.2 f.2)
+in_table w r ts (inr (inr (inr (inr (inr (inr (inr (inr (inr (inr (inr (inr (inr (inr (inr (inr (inr (inl h)))))))))))))))))) =
+    let f = fits_sound w r _ ts h in spelled_by ts (insn.JumpIf w f.0.1.1.1.0.0 f.0.1.0 f.0.1.1.1.1.0 f.0.1.1.1.1.1.1.0.0)
+    f.0.1.1.1.1.1.1.0.1 f.1 (by_comparison w f.0.1.0 f.0.1.1.1.1.0 f.0.1.1.1.1.1.1.0.0 f.0.1.1.1.1.1.1.0.1
+    (comparison_of f.0.1.1.1.0.0) (SignedBy f.0.1.1.1.0.1) (ts ++ f.1) f.0.1.1.1.0.2 f.2)
+in_table w r ts (inr (inr (inr (inr (inr (inr (inr (inr (inr (inr (inr (inr (inr (inr (inr (inr (inr (inr (inl h))))))))))))))))))) =
+    let f = fits_sound w r _ ts h in spelled_by ts (insn.CallHelper f.0.1.0) None f.1 f.2
+in_table w r ts (inr (inr (inr (inr (inr (inr (inr (inr (inr (inr (inr (inr (inr (inr (inr (inr (inr (inr (inr (inl h)))))))))))))))))))) =
+    let f = fits_sound w r _ ts h in spelled_by ts (insn.CallLocal f.0.1.0.0) f.0.1.0.1 f.1 f.2
+in_table w r ts (inr (inr (inr (inr (inr (inr (inr (inr (inr (inr
+    (inr (inr (inr (inr (inr (inr (inr (inr (inr (inr (inl h))))))))))))))))))))) =
+    let f = fits_sound w r _ ts h in spelled_by ts (insn.Exit) None f.1 f.2
 in_table w r ts (inr (inr (inr (inr (inr (inr (inr (inr (inr (inr (inr (inr (inr (inr (inr (inr (inr (inr (inr (inr (inr x))))))))))))))))))))) = elim x [ ]
 
 pub begun_goes_on : (ts : List Tok) → begins ts ≡ true → FormGoesOn ts

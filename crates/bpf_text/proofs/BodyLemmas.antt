@@ -17,7 +17,8 @@ spelled : (ts : List Tok) (o : Option Written) (i : Written) → o ≡ Some i �
 spelled ts (Some j) i e h = let same : j ≡ i = cc in let P : Written → Type 0 = λ x. IsSpelled x ts in subst P same h
 spelled ts None i e h = cc
 
-unfit : (ts : List Tok) (o : Option Written) → IsSomeAnd o (λ i. Fits i.insn → ⊥) → IfSome o (λ j. IsSpelled j ts) → (i : Written) × IsSpelled i ts × (Fits i.insn → ⊥)
+unfit : (ts : List Tok) (o : Option Written) → IsSomeAnd o (λ i. Fits i.insn → ⊥) → IfSome o (λ j. IsSpelled j ts) → (i : Written) ×
+    IsSpelled i ts × (Fits i.insn → ⊥)
 unfit ts (Some i) h s = (i, s, h)
 unfit ts None h s = absurd h
 

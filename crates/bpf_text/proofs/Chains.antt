@@ -14,7 +14,8 @@ use Rattle.bpf_text.specs.Private.Pieces.{◌>>=◌, same_width, same_register}
 use Rattle.bpf_text.specs.Private.Lines.{ends}
 
 -- what holds of a step's value, and of the next step's
-pub IfSome-then : {A B : Type 0} (o : Option A) (f : A → Option B) (P : A → Type 0) (Q : B → Type 0) → IfSome o P → ((a : A) → P a → IfSome (f a) Q) → IfSome (o >>= f) Q
+pub IfSome-then : {A B : Type 0} (o : Option A) (f : A → Option B) (P : A → Type 0) (Q : B → Type 0) → IfSome o P →
+    ((a : A) → P a → IfSome (f a) Q) → IfSome (o >>= f) Q
 IfSome-then None f P Q h k = tt
 IfSome-then (Some a) f P Q h k = k a h
 
@@ -39,7 +40,8 @@ same_width-refl Bits32 = refl
 same_width-refl Bits64 = refl
 
 numbered : ℕ → Reg
-numbered n = cond (n == 0) R0 (cond (n == 1) R1 (cond (n == 2) R2 (cond (n == 3) R3 (cond (n == 4) R4 (cond (n == 5) R5 (cond (n == 6) R6 (cond (n == 7) R7 (cond (n == 8) R8 (cond (n == 9) R9 R10)))))))))
+numbered n = cond (n == 0) R0 (cond (n == 1) R1 (cond (n == 2) R2
+    (cond (n == 3) R3 (cond (n == 4) R4 (cond (n == 5) R5 (cond (n == 6) R6 (cond (n == 7) R7 (cond (n == 8) R8 (cond (n == 9) R9 R10)))))))))
 
 numbered-register_number : (r : Reg) → numbered (register_number r) ≡ r
 unfolding numbered

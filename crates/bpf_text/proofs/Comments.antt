@@ -1,5 +1,6 @@
 -- Blanks and a comment after a line leave its tokens as they are.
-use Rattle.std.proofs.Common.{◌≡◌, ℕ, suc, ◌+◌, ◌<◌, ◌≤◌, Bool, true, false, cond, ◌==◌, ◌&&◌, ◌||◌, not, nat_eq, List, [], ◌∷◌, ◌++◌, length, take, take_while, drop, Option, Some, None, refl, sym, ap, subst, ◌∙◌, arith}
+use Rattle.std.proofs.Common.{◌≡◌, ℕ, suc, ◌+◌, ◌<◌, ◌≤◌, Bool, true, false, cond, ◌==◌, ◌&&◌, ◌||◌, not, nat_eq, List, [], ◌∷◌, ◌++◌}
+use Rattle.std.proofs.Common.{length, take, take_while, drop, Option, Some, None, refl, sym, ap, subst, ◌∙◌, arith}
 use Rattle.std.specs.Prelude.{filter, nat_lt}
 use Rattle.std.specs.List.{list_all, prefix_len, starts_with}
 use Rattle.std.proofs.lemmas.Bool.{and_parts, eqb-true}
@@ -168,12 +169,20 @@ tokens_behind (t ∷ ts) (b ∷ text) behind h tokens =
     let clear = gap behind h in
     let left = drop (front_len (b ∷ text)) (b ∷ text) in
     let rest : drop (front_len (b ∷ (text ++ behind))) (b ∷ (text ++ behind)) ≡ left ++ behind =
-    ap (λ n. drop n (b ∷ (text ++ behind))) (front_len_behind (b ∷ text) behind clear) ∙ drop-append-le (front_len (b ∷ text)) (b ∷ text) behind (front_within (b ∷ text) (omega arith)) in
-    let place : after_blanks (drop (front_len (b ∷ (text ++ behind))) (b ∷ (text ++ behind))) ≡ joined (after_blanks left) behind = ap after_blanks rest ∙ blanks_behind left behind in
+    ap (λ n. drop n (b ∷ (text ++ behind))) (front_len_behind (b ∷ text) behind clear) ∙ drop-append-le (front_len (b ∷ text)) (b ∷ text)
+    behind (front_within (b ∷ text) (omega arith)) in
+    let place : after_blanks (drop (front_len (b ∷ (text ++ behind))) (b ∷ (text ++ behind))) ≡ joined (after_blanks left) behind = ap
+    after_blanks rest ∙ blanks_behind left behind in
     let P : List ℕ → Type 0 = λ bs. AreTokens bs ts in
     (tokens.0, tokens.1 ∙ sym (front_tok_behind (b ∷ text) behind clear), subst P (sym place) (tokens_behind ts (after_blanks left) behind h tokens.2))
 
 pub comments_say_nothing : CommentsSayNothing
 comments_say_nothing line behind s h l =
     let P : List ℕ → Type 0 = λ bs. AreTokens bs l.tokens in
-    record { tokens = l.tokens; cut_up = subst P (sym (blanks_behind line behind)) (tokens_behind l.tokens (after_blanks line) behind h l.cut_up); labelled = l.labelled; body = l.body }
+    record {
+      tokens = l.tokens;
+      cut_up = subst P (sym (blanks_behind line behind))
+          (tokens_behind l.tokens (after_blanks line) behind h l.cut_up);
+      labelled = l.labelled;
+      body = l.body;
+    }

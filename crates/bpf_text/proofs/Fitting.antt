@@ -1,5 +1,6 @@
 -- Tokens fit pieces where those tokens, and others after them, spell them; and only there.
-use Rattle.std.proofs.Common.{◌≡◌, ℕ, ◌<◌, Bool, true, false, ◌&&◌, List, [], ◌∷◌, ◌++◌, length, map, drop, drop-cons, Option, Some, None, is_some, ◌⊎◌, inl, inr, refl, sym, ap, subst, ◌∙◌}
+use Rattle.std.proofs.Common.{◌≡◌, ℕ, ◌<◌, Bool, true, false, ◌&&◌, List, [], ◌∷◌, ◌++◌, length, map, drop, drop-cons, Option, Some, None}
+use Rattle.std.proofs.Common.{is_some, ◌⊎◌, inl, inr, refl, sym, ap, subst, ◌∙◌}
 use Rattle.std.specs.Prelude.{IfSome, ℤ, pos, neg_ℤ}
 use Rattle.std.proofs.lemmas.Bool.{and_parts}
 use Rattle.std.proofs.lemmas.Slice.Eq.{bytes_eq-Decides}
@@ -36,10 +37,13 @@ use Rattle.bpf_text.specs.declared.token.Token.TheVariants as token
 use Rattle.bpf_text.specs.Line.{ItemThen, Spells, TokenThen, NaturalThen, OffsetThen, TargetThen, name_of}
 use Rattle.bpf_text.specs.Private.Look.{look}
 use Rattle.bpf_text.specs.Private.Pieces.{same_width, same_register, extension_of}
-use Rattle.bpf_text.specs.Private.Forms.{fit_of, fits, whole_if, is_register, is_of_width, is_word, is_mark, is_operation, is_signed_operation, is_comparison, is_signed_comparison, is_lock_sign, is_fetch_name, is_extended, operand_fit, offset_fit, target_fit}
+use Rattle.bpf_text.specs.Private.Forms.{fit_of, fits, whole_if, is_register, is_of_width, is_word, is_mark, is_operation}
+use Rattle.bpf_text.specs.Private.Forms.{is_signed_operation, is_comparison, is_signed_comparison, is_lock_sign, is_fetch_name, is_extended}
+use Rattle.bpf_text.specs.Private.Forms.{operand_fit, offset_fit, target_fit}
 use Rattle.bpf_text.proofs.Chains.{same_width-true, same_width-refl, same_register-true, same_register-refl}
 use Rattle.bpf_text.proofs.Sound.{operation_sound, condition_sound, locked_op_sound, fetched_op_sound, extension_sound}
-use Rattle.bpf_text.proofs.Complete.{token_then, natural_then, signed_then, offset_then, minus, either_sign, named_operation, named_condition, IsNamed, named_atomic}
+use Rattle.bpf_text.proofs.Complete.{token_then, natural_then, signed_then, offset_then, minus, either_sign, named_operation}
+use Rattle.bpf_text.proofs.Complete.{named_condition, IsNamed, named_atomic}
 use Rattle.bpf_text.proofs.Choices.{Choice, item_of, Choices, items_of, Opens, Completed, spelled}
 
 -- ---- a token that fits a piece spells it
@@ -80,7 +84,8 @@ is_operation-true (Mark s) e = let o = taken (operation_named (Plain s)) (λ op.
 is_operation-true t e = cc
 
 is_signed_operation-true : (t : Tok) → is_signed_operation t ≡ true → (op : AluOp) × (s : Sign) × (operator_of op ≡ SignedBy s) × (t ≡ Mark s)
-is_signed_operation-true (Mark s) e = let o = taken (operation_named (SignedBy s)) (λ op. operator_of op ≡ SignedBy s) e (operation_sound (SignedBy s)) in (o.0, s, o.1, refl)
+is_signed_operation-true (Mark s) e =
+    let o = taken (operation_named (SignedBy s)) (λ op. operator_of op ≡ SignedBy s) e (operation_sound (SignedBy s)) in (o.0, s, o.1, refl)
 is_signed_operation-true t e = cc
 
 is_comparison-true : (t : Tok) → is_comparison t ≡ true → (c : Condition) × (s : Sign) × (comparison_of c ≡ Plain s) × (t ≡ Mark s)
@@ -88,7 +93,8 @@ is_comparison-true (Mark s) e = let o = taken (condition_named (Plain s)) (λ c.
 is_comparison-true t e = cc
 
 is_signed_comparison-true : (t : Tok) → is_signed_comparison t ≡ true → (c : Condition) × (s : Sign) × (comparison_of c ≡ SignedBy s) × (t ≡ Mark s)
-is_signed_comparison-true (Mark s) e = let o = taken (condition_named (SignedBy s)) (λ c. comparison_of c ≡ SignedBy s) e (condition_sound (SignedBy s)) in (o.0, s, o.1, refl)
+is_signed_comparison-true (Mark s) e =
+    let o = taken (condition_named (SignedBy s)) (λ c. comparison_of c ≡ SignedBy s) e (condition_sound (SignedBy s)) in (o.0, s, o.1, refl)
 is_signed_comparison-true t e = cc
 
 is_lock_sign-true : (t : Tok) → is_lock_sign t ≡ true → (op : AtomicOp) × (s : Sign) × (atomic_form op ≡ form.Locked s) × (t ≡ Mark s)
@@ -109,13 +115,15 @@ is_extended-true w t e = cc
 abbrev Spelled : Width → Reg → Piece → Tok → Type 1
 Spelled w r p t = (c : Choice w p) × Opens w r p c (t ∷ [])
 
-operand_whole : (w : Width) (t : Tok) → operand_fit w t ≡ fitting.Whole → (c : Operand) × ((next : List Tok → Type 0) (ts : List Tok) → next ts → ItemThen (operand_item w c) next (t ∷ ts))
+operand_whole : (w : Width) (t : Tok) → operand_fit w t ≡ fitting.Whole → (c : Operand) ×
+    ((next : List Tok → Type 0) (ts : List Tok) → next ts → ItemThen (operand_item w c) next (t ∷ ts))
 operand_whole w (Register v r) e = (operand.Register r, λ next ts h. (ap (λ x. Register x r) (same_width-true v w (whole-true _ e)), h))
 operand_whole w (Number n) e = (operand.Immediate (pos n), λ next ts h. (refl, h))
 operand_whole w (Mark sign.Minus) e = cc
 operand_whole w t e = cc
 
-target_whole : (t : Tok) → target_fit t ≡ fitting.Whole → (c : ℤ × Option (List ℕ)) × ((next : List Tok → Type 0) (ts : List Tok) → next ts → TargetThen c.0 c.1 next (t ∷ ts))
+target_whole : (t : Tok) → target_fit t ≡ fitting.Whole → (c : ℤ × Option (List ℕ)) ×
+    ((next : List Tok → Type 0) (ts : List Tok) → next ts → TargetThen c.0 c.1 next (t ∷ ts))
 target_whole (Register w r) e = ((pos 0, Some (register_text w r)), λ next ts h. (refl, refl, h))
 target_whole (Word k) e = ((pos 0, Some (keyword_text k)), λ next ts h. (refl, refl, h))
 target_whole (Name w) e = ((pos 0, Some w), λ next ts h. (refl, refl, h))
@@ -161,17 +169,20 @@ whole_spells w r piece.Target t e = target_whole t e
 abbrev SpelledBy : Width → Reg → Piece → Tok → ℕ → Type 1
 SpelledBy w r p t n = (c : Choice w p) × Opens w r p c (t ∷ Number n ∷ [])
 
-operand_sign : (w : Width) (t : Tok) (n : ℕ) → operand_fit w t ≡ fitting.Sign → (c : Operand) × ((next : List Tok → Type 0) (ts : List Tok) → next ts → ItemThen (operand_item w c) next (t ∷ Number n ∷ ts))
+operand_sign : (w : Width) (t : Tok) (n : ℕ) → operand_fit w t ≡ fitting.Sign → (c : Operand) ×
+    ((next : List Tok → Type 0) (ts : List Tok) → next ts → ItemThen (operand_item w c) next (t ∷ Number n ∷ ts))
 operand_sign w (Register v r) n e = absurd (whole-sign _ e)
 operand_sign w (Mark sign.Minus) n e = (operand.Immediate (neg_ℤ (pos n)), λ next ts h. (refl, h))
 operand_sign w t n e = cc
 
-offset_sign : (t : Tok) (n : ℕ) → offset_fit t ≡ fitting.Sign → (z : ℤ) × ((next : List Tok → Type 0) (ts : List Tok) → next ts → OffsetThen z next (t ∷ Number n ∷ ts))
+offset_sign : (t : Tok) (n : ℕ) → offset_fit t ≡ fitting.Sign → (z : ℤ) ×
+    ((next : List Tok → Type 0) (ts : List Tok) → next ts → OffsetThen z next (t ∷ Number n ∷ ts))
 offset_sign (Mark sign.Plus) n e = (pos n, λ next ts h. (refl, h))
 offset_sign (Mark sign.Minus) n e = (neg_ℤ (pos n), λ next ts h. (refl, h))
 offset_sign t n e = cc
 
-target_sign : (t : Tok) (n : ℕ) → target_fit t ≡ fitting.Sign → (c : ℤ × Option (List ℕ)) × ((next : List Tok → Type 0) (ts : List Tok) → next ts → TargetThen c.0 c.1 next (t ∷ Number n ∷ ts))
+target_sign : (t : Tok) (n : ℕ) → target_fit t ≡ fitting.Sign → (c : ℤ × Option (List ℕ)) ×
+    ((next : List Tok → Type 0) (ts : List Tok) → next ts → TargetThen c.0 c.1 next (t ∷ Number n ∷ ts))
 target_sign (Mark sign.Plus) n e = ((pos n, None), λ next ts h. (refl, h))
 target_sign (Mark sign.Minus) n e = ((neg_ℤ (pos n), None), λ next ts h. (refl, h))
 target_sign t n e = cc
@@ -190,8 +201,10 @@ fits_sound w r ps [] e = spelled w r ps
 fits_sound w r [] (t ∷ ts) e = cc
 fits_sound w r (p ∷ ps) (t ∷ ts) e = by_fit (fit_of w r p t) refl e (λ h. fits_sound w r ps ts h) (λ h. fits_sound w r (piece.Number ∷ ps) ts h)
   where
-    by_fit : (f : Fit) → fit_of w r p t ≡ f → elim f [ fitting.Not ↦ false | fitting.Whole ↦ fits w r ps ts | fitting.Sign ↦ fits w r (piece.Number ∷ ps) ts ] ≡ true
-        → (fits w r ps ts ≡ true → Completed w r ps ts) → (fits w r (piece.Number ∷ ps) ts ≡ true → Completed w r (piece.Number ∷ ps) ts) → Completed w r (p ∷ ps) (t ∷ ts)
+    by_fit : (f : Fit) → fit_of w r p t ≡ f →
+        elim f [ fitting.Not ↦ false | fitting.Whole ↦ fits w r ps ts | fitting.Sign ↦ fits w r (piece.Number ∷ ps) ts ] ≡ true
+        → (fits w r ps ts ≡ true → Completed w r ps ts) → (fits w r (piece.Number ∷ ps) ts ≡ true → Completed w r (piece.Number ∷ ps) ts) →
+        Completed w r (p ∷ ps) (t ∷ ts)
     by_fit fitting.Not fit e whole sign = cc
     by_fit fitting.Whole fit e whole sign =
         let behind = whole e in
@@ -216,7 +229,8 @@ FitsSigned w r p next ts = (t : Tok) × (n : ℕ) × (us : List Tok) × (ts ≡ 
 abbrev FitsFirst : Width → Reg → Piece → (List Tok → Type 0) → List Tok → Type 0
 FitsFirst w r p next ts = FitsWhole w r p next ts ⊎ FitsSigned w r p next ts
 
-by_token : (w : Width) (r : Reg) (p : Piece) (t : Tok) (next : List Tok → Type 0) (ts : List Tok) → fit_of w r p t ≡ fitting.Whole → TokenThen t next ts → FitsFirst w r p next ts
+by_token : (w : Width) (r : Reg) (p : Piece) (t : Tok) (next : List Tok → Type 0) (ts : List Tok) → fit_of w r p t ≡ fitting.Whole →
+    TokenThen t next ts → FitsFirst w r p next ts
 by_token w r p t next ts e h = let first = token_then t next ts h in inl (t, first.0, first.1, e, first.2)
 
 same_keyword-refl : (k : Keyword) → same_keyword k k ≡ true
@@ -251,7 +265,8 @@ own_extension extend.From32To64 = refl
 known_extension : (w : Width) (e : SignExtension) → extended_width e ≡ w → is_some (extension_of w (extended_size e)) ≡ true
 known_extension w e q = let P : Width → Type 0 = λ v. is_some (extension_of v (extended_size e)) ≡ true in subst P q (own_extension e)
 
-operand_first : (w : Width) (r : Reg) (p : Piece) (v : Width) (c : Operand) (next : List Tok → Type 0) (ts : List Tok) → ((t : Tok) → fit_of w r p t ≡ operand_fit v t) → ItemThen (operand_item v c) next ts → FitsFirst w r p next ts
+operand_first : (w : Width) (r : Reg) (p : Piece) (v : Width) (c : Operand) (next : List Tok → Type 0) (ts : List Tok) →
+    ((t : Tok) → fit_of w r p t ≡ operand_fit v t) → ItemThen (operand_item v c) next ts → FitsFirst w r p next ts
 operand_first w r p v (operand.Register s) next ts same h = by_token w r p (Register v s) next ts (same (Register v s) ∙ ap whole_if (same_width-refl v)) h
 operand_first w r p v (operand.Immediate z) next ts same h = let n = signed_then z next ts h in by_sign n.negative n.size n.rest n.tokens n.follows
   where
@@ -259,7 +274,8 @@ operand_first w r p v (operand.Immediate z) next ts same h = let n = signed_then
     by_sign true n rest e f = inr (Mark sign.Minus, n, rest, e, same (Mark sign.Minus), f)
     by_sign false n rest e f = inl (Number n, rest, e, same (Number n), f)
 
-offset_first : (w : Width) (r : Reg) (p : Piece) (z : ℤ) (next : List Tok → Type 0) (ts : List Tok) → fit_of w r p (Mark sign.Plus) ≡ fitting.Sign → fit_of w r p (Mark sign.Minus) ≡ fitting.Sign → OffsetThen z next ts → FitsFirst w r p next ts
+offset_first : (w : Width) (r : Reg) (p : Piece) (z : ℤ) (next : List Tok → Type 0) (ts : List Tok) → fit_of w r p (Mark sign.Plus) ≡
+    fitting.Sign → fit_of w r p (Mark sign.Minus) ≡ fitting.Sign → OffsetThen z next ts → FitsFirst w r p next ts
 offset_first w r p z next ts plus less h = let n = offset_then z next ts h in by_sign n.negative n.size n.rest n.tokens n.follows
   where
     by_sign : (negative : Bool) (n : ℕ) (rest : List Tok) → ts ≡ either_sign negative (Number n ∷ rest) → next rest → FitsFirst w r p next ts
@@ -272,7 +288,8 @@ named_whole (Word k) name e = refl
 named_whole (Name w) name e = refl
 named_whole t name e = cc
 
-fits_first : (w : Width) (r : Reg) (p : Piece) (c : Choice w p) (next : List Tok → Type 0) (ts : List Tok) → ItemThen (item_of w r p c) next ts → FitsFirst w r p next ts
+fits_first : (w : Width) (r : Reg) (p : Piece) (c : Choice w p) (next : List Tok → Type 0) (ts : List Tok) → ItemThen (item_of w r p c) next
+    ts → FitsFirst w r p next ts
 unfolding fit_of
 fits_first w r (piece.Word k) c next ts h = by_token w r (piece.Word k) (Word k) next ts (ap whole_if (same_keyword-refl k)) h
 fits_first w r (piece.Mark s) c next ts h = by_token w r (piece.Mark s) (Mark s) next ts (ap whole_if (same_sign-refl s)) h
@@ -282,20 +299,24 @@ fits_first w r piece.Source c next ts h = by_token w r piece.Source (Register w 
 fits_first w r piece.Whole c next ts h = by_token w r piece.Whole (Register Bits64 c) next ts refl h
 fits_first w r piece.Zero c next ts h = by_token w r piece.Zero (Register w R0) next ts (ap whole_if (same_register_whole w R0)) h
 fits_first w r piece.Operation c next ts h = by_token w r piece.Operation (Mark c.1) next ts (ap whole_if (known_operation c.0 (Plain c.1) c.2)) h
-fits_first w r piece.SignedOperation c next ts h = by_token w r piece.SignedOperation (Mark c.1) next ts (ap whole_if (known_operation c.0 (SignedBy c.1) c.2)) h
+fits_first w r piece.SignedOperation c next ts h = by_token w r piece.SignedOperation (Mark c.1) next ts
+    (ap whole_if (known_operation c.0 (SignedBy c.1) c.2)) h
 fits_first w r piece.Comparison c next ts h = by_token w r piece.Comparison (Mark c.1) next ts (ap whole_if (known_condition c.0 (Plain c.1) c.2)) h
-fits_first w r piece.SignedComparison c next ts h = by_token w r piece.SignedComparison (Mark c.1) next ts (ap whole_if (known_condition c.0 (SignedBy c.1) c.2)) h
+fits_first w r piece.SignedComparison c next ts h = by_token w r piece.SignedComparison (Mark c.1) next ts
+    (ap whole_if (known_condition c.0 (SignedBy c.1) c.2)) h
 fits_first w r piece.LockSign c next ts h = by_token w r piece.LockSign (Mark c.1) next ts (ap whole_if (known_lock c.0 c.1 c.2)) h
 fits_first w r piece.FetchName c next ts h = by_token w r piece.FetchName (Word c.1) next ts (ap whole_if (known_fetch c.0 c.1 c.2)) h
 fits_first w r piece.Operand c next ts h = operand_first w r piece.Operand w c next ts (λ t. refl) h
 fits_first w r piece.Stored c next ts h = operand_first w r piece.Stored Bits64 c next ts (λ t. refl) h
-fits_first w r piece.Extended c next ts h = by_token w r piece.Extended (Word (key.Extended (extended_size c.0))) next ts (ap whole_if (known_extension w c.0 c.1)) h
+fits_first w r piece.Extended c next ts h = by_token w r piece.Extended (Word (key.Extended (extended_size c.0))) next ts
+    (ap whole_if (known_extension w c.0 c.1)) h
 fits_first w r piece.Swap c next ts h = by_token w r piece.Swap (Word (key.Swap c.0 c.1)) next ts refl h
 fits_first w r piece.Unsigned c next ts h = by_token w r piece.Unsigned (Word (key.Unsigned c)) next ts refl h
 fits_first w r piece.SignedSize c next ts h = by_token w r piece.SignedSize (Word (key.Extended c)) next ts refl h
 fits_first w r piece.Cell c next ts h = by_token w r piece.Cell (Word (cell_size w)) next ts (ap whole_if (same_keyword-refl (cell_size w))) h
 fits_first w r piece.Exchange c next ts h = by_token w r piece.Exchange (Word (key.Exchange w)) next ts (ap whole_if (same_keyword-refl (key.Exchange w))) h
-fits_first w r piece.CompareExchange c next ts h = by_token w r piece.CompareExchange (Word (key.CompareExchange w)) next ts (ap whole_if (same_keyword-refl (key.CompareExchange w))) h
+fits_first w r piece.CompareExchange c next ts h = by_token w r piece.CompareExchange (Word (key.CompareExchange w)) next ts
+    (ap whole_if (same_keyword-refl (key.CompareExchange w))) h
 fits_first w r piece.Number c next ts h = let n = natural_then (pos c) next ts h in inl (Number n.0, n.1, n.3, refl, n.4)
 fits_first w r piece.Offset c next ts h = offset_first w r piece.Offset c next ts refl refl h
 fits_first w r piece.Target (z, None) next ts h = offset_first w r piece.Target z next ts refl refl h
@@ -312,8 +333,10 @@ other_tokens t u ts us e = cc
 abbrev chosen : Width → Reg → List Piece → List Tok → Fit → Bool
 chosen w r ps ts f = elim f [ fitting.Not ↦ false | fitting.Whole ↦ fits w r ps ts | fitting.Sign ↦ fits w r (piece.Number ∷ ps) ts ]
 
-fits_next : (w : Width) (r : Reg) (p : Piece) (ps : List Piece) (t : Tok) (ts others : List Tok) (next : List Tok → Type 0) → FitsFirst w r p next (t ∷ (ts ++ others))
-    → (next (ts ++ others) → fits w r ps ts ≡ true) → ((n : ℕ) → NaturalThen (pos n) next (ts ++ others) → fits w r (piece.Number ∷ ps) ts ≡ true) → fits w r (p ∷ ps) (t ∷ ts) ≡ true
+fits_next : (w : Width) (r : Reg) (p : Piece) (ps : List Piece) (t : Tok) (ts others : List Tok) (next : List Tok → Type 0) → FitsFirst w r
+    p next (t ∷ (ts ++ others))
+    → (next (ts ++ others) → fits w r ps ts ≡ true) → ((n : ℕ) → NaturalThen (pos n) next (ts ++ others) → fits w r (piece.Number ∷ ps) ts ≡
+    true) → fits w r (p ∷ ps) (t ∷ ts) ≡ true
 fits_next w r p ps t ts others next (inl (u, us, e, fit, h)) whole sign =
     let same : fit_of w r p t ≡ fitting.Whole = ap (λ x. fit_of w r p x) (sym (first_token t u (ts ++ others) us e)) ∙ fit in
     ap (chosen w r ps ts) same ∙ whole (subst next (other_tokens t u (ts ++ others) us e) h)
@@ -323,7 +346,8 @@ fits_next w r p ps t ts others next (inr (u, n, us, e, fit, h)) whole sign =
     ap (chosen w r ps ts) same ∙ sign n (subst P (other_tokens t u (ts ++ others) (Number n ∷ us) e) (refl, h))
 
 -- ---- WHAT PIECES ARE SPELLED BY fits them, as far as it goes
-pub fits_complete : (w : Width) (r : Reg) (ps : List Piece) (c : Choices w ps) (ts others : List Tok) → Spells (items_of w r ps c) (ts ++ others) → fits w r ps ts ≡ true
+pub fits_complete : (w : Width) (r : Reg) (ps : List Piece) (c : Choices w ps) (ts others : List Tok) → Spells (items_of w r ps c)
+    (ts ++ others) → fits w r ps ts ≡ true
 fits_complete w r ps c [] others s = refl
 fits_complete w r [] c (t ∷ ts) others s = cc
 fits_complete w r (p ∷ ps) c (t ∷ ts) others s =
@@ -332,6 +356,8 @@ fits_complete w r (p ∷ ps) c (t ∷ ts) others s =
 
 -- ---- the loop
 
-pub nothing_left : (w : Width) (r : Reg) (ps : List Piece) (tokens : List Token) (i : ℕ) (whole : Bool) → i < length tokens → ps ≡ [] → fits w r ps (map look (drop i tokens)) ≡ whole → false ≡ whole
+pub nothing_left : (w : Width) (r : Reg) (ps : List Piece) (tokens : List Token) (i : ℕ) (whole : Bool) → i < length tokens → ps ≡ [] → fits
+    w r ps (map look (drop i tokens)) ≡ whole → false ≡ whole
 nothing_left w r ps tokens i whole lt none h =
-    ap (λ (ts : List Token). fits w r [] (map look ts)) (sym (drop-cons tokens i token.Junk lt)) ∙ ap (λ (qs : List Piece). fits w r qs (map look (drop i tokens))) (sym none) ∙ h
+    ap (λ (ts : List Token). fits w r [] (map look ts)) (sym (drop-cons tokens i token.Junk lt)) ∙ ap
+    (λ (qs : List Piece). fits w r qs (map look (drop i tokens))) (sym none) ∙ h

@@ -20,7 +20,8 @@ kept {A} f name q p e = by_test (bytes_eq name q) refl
     by_test false h = sym (or_none (f q))
 
 -- a new one is put after the others
-pub added : {A : Type 0} (f : List ℕ → Option A) (name q : List ℕ) (p : A) → is_some (f name) ≡ false → cond (bytes_eq name q) (Some p) (f q) ≡ or_else (f q) (cond (bytes_eq name q) (Some p) None)
+pub added : {A : Type 0} (f : List ℕ → Option A) (name q : List ℕ) (p : A) → is_some (f name) ≡ false → cond (bytes_eq name q) (Some p)
+    (f q) ≡ or_else (f q) (cond (bytes_eq name q) (Some p) None)
 added {A} f name q p e = by_test (bytes_eq name q) refl
   where
     none_first : (o x : Option A) → is_some o ≡ false → x ≡ or_else o x

@@ -1,5 +1,7 @@
 -- Where a line is refused, by its first tokens.
-use Rattle.std.proofs.Common.{◌≡◌, ℕ, zero, suc, ◌+◌, ◌-◌, ◌<◌, ◌≤◌, Bool, true, false, ◌||◌, List, [], ◌∷◌, ◌++◌, length, map, take, drop, Option, Some, None, Result, Ok, Err, ◌⊎◌, inl, inr, refl, sym, ap, subst, ◌∙◌, arith, length-append, append-nil}
+use Rattle.std.proofs.Common.{◌≡◌, ℕ, zero, suc, ◌+◌, ◌-◌, ◌<◌, ◌≤◌, Bool, true, false, ◌||◌, List, [], ◌∷◌, ◌++◌, length, map, take, drop}
+use Rattle.std.proofs.Common.{Option, Some, None, Result, Ok, Err, ◌⊎◌, inl, inr, refl, sym, ap, subst, ◌∙◌, arith, length-append}
+use Rattle.std.proofs.Common.{append-nil}
 use Rattle.std.specs.Prelude.{IsTrue, ◌↔◌, OnErr}
 use Rattle.std.proofs.Math.Nat.{eq-or-lt_of_le}
 use Rattle.std.proofs.lemmas.List.{length-map, length-take, take-append-le}
@@ -27,13 +29,15 @@ use Rattle.bpf_text.proofs.Unique.{one_body_with, not_nothing}
 
 -- ---- numbers
 
-bad_number : (names : Option Table) (body : Result (Option Written) LineError) (ts : List Tok) → is_bad_number body ≡ true → IsBodyWith names body ts → IsUnfit names ts
+bad_number : (names : Option Table) (body : Result (Option Written) LineError) (ts : List Tok) → is_bad_number body ≡ true → IsBodyWith
+    names body ts → IsUnfit names ts
 bad_number names (Err BadNumber) ts e h = h
 bad_number names (Err BadLine) ts e h = cc
 bad_number names (Err UnknownName) ts e h = cc
 bad_number names (Ok o) ts e h = cc
 
-pub unfit_is : (names : Option Table) (body : Result (Option Written) LineError) (ts : List Tok) (b : Bool) → b ≡ is_bad_number body → IsBodyWith names body ts → IsTrue b ↔ IsUnfit names ts
+pub unfit_is : (names : Option Table) (body : Result (Option Written) LineError) (ts : List Tok) (b : Bool) → b ≡ is_bad_number body →
+    IsBodyWith names body ts → IsTrue b ↔ IsUnfit names ts
 unfit_is names body ts b e h = (λ t. bad_number names body ts (sym e ∙ t) h, λ u. e ∙ ap is_bad_number (one_body_with names ts body (Err BadNumber) h u))
 
 pub map-take : {A B : Type 0} (f : A → B) (n : ℕ) (xs : List A) → map f (take n xs) ≡ take n (map f xs)
@@ -112,7 +116,8 @@ unlabelled_within ts = omega arith
 
 -- ---- a line by its first tokens
 
-long_stands : (names : Option Table) (why : LineError) (n : ℕ) (us rest : List Tok) → 41 ≤ length us → IsBodyWith names (Err why) us → StandsAt names why n us → StandsAt names why n (us ++ rest)
+long_stands : (names : Option Table) (why : LineError) (n : ℕ) (us rest : List Tok) → 41 ≤ length us → IsBodyWith names (Err why) us →
+    StandsAt names why n us → StandsAt names why n (us ++ rest)
 long_stands names BadNumber n us rest long body stands = absurd (let short = unfit_short names us body in omega arith)
 long_stands names UnknownName n us rest long body stands = stands
 long_stands names BadLine n us rest long body (goes, inl same) = absurd (let short = goes_on_short names n us (omega arith) goes in omega arith)
@@ -121,7 +126,9 @@ long_stands names BadLine n us rest long body (goes, inr (lt, left)) =
     let more : take (n + 1) (us ++ rest) ≡ take (n + 1) us = take-append-le (n + 1) us rest (omega arith) in
     (subst (GoesOnWith names) (sym front) goes, inr (omega (arith, length-append us rest), λ g. left (subst (GoesOnWith names) more g)))
 
-refused_long : (names : Option Table) (line : List ℕ) (ts rest : List Tok) (m : Misfit) (n : ℕ) → IsTokens line (ts ++ rest) → 64 ≤ length ts → IsBodyWith names (Err m.why) (unlabelled ts) → StandsAt names m.why n (unlabelled ts) → m.token + length (unlabelled ts) ≡ length ts + n → IsLineRefusedAt names line m
+refused_long : (names : Option Table) (line : List ℕ) (ts rest : List Tok) (m : Misfit) (n : ℕ) → IsTokens line (ts ++ rest) → 64 ≤ length
+    ts → IsBodyWith names (Err m.why) (unlabelled ts) → StandsAt names m.why n (unlabelled ts) → m.token + length (unlabelled ts) ≡ length
+    ts + n → IsLineRefusedAt names line m
 refused_long names line [] rest m n cut_up long body stands counted = absurd (omega arith)
 refused_long names line (a ∷ []) rest m n cut_up long body stands counted = absurd (omega arith)
 refused_long names line (a ∷ b ∷ ts) rest m n cut_up long body stands counted =
@@ -139,7 +146,9 @@ refused_long names line (a ∷ b ∷ ts) rest m n cut_up long body stands counte
       stands = subst Q (sym same) (long_stands names m.why n us rest (omega arith) body stands);
     }
 
-pub refused_at : (names : Option Table) (line : List ℕ) (ts : List Tok) (m : Misfit) (n : ℕ) → BeginTokens line ts → IsBodyWith names (Err m.why) (unlabelled ts) → StandsAt names m.why n (unlabelled ts) → m.token + length (unlabelled ts) ≡ length ts + n → IsLineRefusedAt names line m
+pub refused_at : (names : Option Table) (line : List ℕ) (ts : List Tok) (m : Misfit) (n : ℕ) → BeginTokens line ts → IsBodyWith names
+    (Err m.why) (unlabelled ts) → StandsAt names m.why n (unlabelled ts) → m.token + length (unlabelled ts) ≡ length ts + n →
+    IsLineRefusedAt names line m
 refused_at names line ts m n (rest, cut_up, inl none) body stands counted = record {
   tokens = ts;
   cut_up = subst (λ (us : List Tok). IsTokens line us) (ap (λ (r : List Tok). ts ++ r) none ∙ append-nil ts) cut_up;
@@ -156,7 +165,8 @@ not_refused (Code i) none = tt
 not_refused (Named i name) none = tt
 not_refused (Refused e) none = none e refl
 
-pub not_misfit : (names : Option Table) (line : List ℕ) (ts : List Tok) (body : Body) → BeginTokens line ts → IsBodyWith names (body_of body) (unlabelled ts) → ((e : LineError) → body ≡ Refused e → ⊥) → IsMisfit names line None
+pub not_misfit : (names : Option Table) (line : List ℕ) (ts : List Tok) (body : Body) → BeginTokens line ts → IsBodyWith names
+    (body_of body) (unlabelled ts) → ((e : LineError) → body ≡ Refused e → ⊥) → IsMisfit names line None
 not_misfit names line ts body begin is none =
     let s : Source = record { label = label_of ts; body = body_of body } in
     (s, line_of_tokens names line ts s begin refl is, not_refused body none)
@@ -164,27 +174,41 @@ not_misfit names line ts body begin is none =
 -- ---- for the functions
 
 -- what is known of a length
-pub seen_within : (tokens seen rest : List Token) (len : ℕ) → seen ≡ tokens → map look rest ≡ unlabelled (map look seen) → len ≡ length tokens → length rest ≤ len
-seen_within tokens seen rest len same label l = omega (arith, ap length label, unlabelled_within (map look seen), length-map rest look, length-map seen look, ap length same, l)
+pub seen_within : (tokens seen rest : List Token) (len : ℕ) → seen ≡ tokens → map look rest ≡ unlabelled (map look seen) → len ≡ length
+    tokens → length rest ≤ len
+seen_within tokens seen rest len same label l = omega (
+  arith,
+  ap length label,
+  unlabelled_within (map look seen),
+  length-map rest look,
+  length-map seen look,
+  ap length same,
+  l,
+)
 
-pub misfit_found : (names : Option Table) (line : List ℕ) (tokens seen rest : List Token) (why : LineError) (len n : ℕ) → BeginTokens line (map look tokens) → seen ≡ tokens → map look rest ≡ unlabelled (map look seen)
-    → IsBodyWith names (Err why) (map look rest) → StandsAt names why n (map look rest) → len ≡ length tokens → IsLineRefusedAt names line (record { why = why; token = (len - length rest) + n })
+pub misfit_found : (names : Option Table) (line : List ℕ) (tokens seen rest : List Token) (why : LineError) (len n : ℕ) → BeginTokens line
+    (map look tokens) → seen ≡ tokens → map look rest ≡ unlabelled (map look seen)
+    → IsBodyWith names (Err why) (map look rest) → StandsAt names why n (map look rest) → len ≡ length tokens → IsLineRefusedAt names line
+    (record { why = why; token = (len - length rest) + n })
 misfit_found names line tokens seen rest why len n begin same label body stands l =
     let le = seen_within tokens seen rest len same label l in
     let B : List Token → Type 0 = λ ts. BeginTokens line (map look ts) in
     let P : List Tok → Type 0 = λ us. IsBodyWith names (Err why) us in
     let Q : List Tok → Type 0 = λ us. StandsAt names why n us in
-    refused_at names line (map look seen) (record { why = why; token = (len - length rest) + n }) n (subst B (sym same) begin) (subst P label body) (subst Q label stands)
+    refused_at names line (map look seen) (record { why = why; token = (len - length rest) + n }) n (subst B (sym same) begin)
+    (subst P label body) (subst Q label stands)
     (omega (arith, le, ap length label, length-map rest look, length-map seen look, ap length same, l))
 
-pub none_found : (names : Option Table) (line : List ℕ) (tokens seen rest : List Token) (body : Body) → BeginTokens line (map look tokens) → seen ≡ tokens → map look rest ≡ unlabelled (map look seen)
+pub none_found : (names : Option Table) (line : List ℕ) (tokens seen rest : List Token) (body : Body) → BeginTokens line (map look tokens) →
+    seen ≡ tokens → map look rest ≡ unlabelled (map look seen)
     → IsBodyWith names (body_of body) (map look rest) → ((e : LineError) → body ≡ Refused e → ⊥) → IsMisfit names line None
 none_found names line tokens seen rest body begin same label is none =
     let B : List Token → Type 0 = λ ts. BeginTokens line (map look ts) in
     let P : List Tok → Type 0 = λ us. IsBodyWith names (body_of body) us in
     not_misfit names line (map look seen) body (subst B (sym same) begin) (subst P label is) none
 
-pub none_unfit : (names : Option Table) (ts : List Tok) (made seen : List Token) (n : ℕ) (b : Bool) → ((k : ℕ) → k < n → IsUnfit names (with_numbers (k + 1) ts) → ⊥) → seen ≡ made → map look made ≡ with_numbers (n + 1) ts
+pub none_unfit : (names : Option Table) (ts : List Tok) (made seen : List Token) (n : ℕ) (b : Bool) →
+    ((k : ℕ) → k < n → IsUnfit names (with_numbers (k + 1) ts) → ⊥) → seen ≡ made → map look made ≡ with_numbers (n + 1) ts
     → b ≡ false → (IsTrue b ↔ IsUnfit names (map look seen)) → (k : ℕ) → k < n + 1 → IsUnfit names (with_numbers (k + 1) ts) → ⊥
 none_unfit names ts made seen n b before same with none is k lt u = by_place (eq-or-lt_of_le {n = k} {m = n} (omega arith))
   where
@@ -210,5 +234,6 @@ either P Q false false c e p q = (λ t. absurd (false_true (sym e ∙ t)), one_o
     one_of (inl h) = e ∙ p.1 h
     one_of (inr h) = e ∙ q.1 h
 
-pub goes_on_of : (names : Option Table) (b : Bool) (n : ℕ) (tokens : List Token) → (IsTrue b ↔ GoesOnWith names (map look (take n tokens))) → IsTrue b ↔ GoesOnWith names (take n (map look tokens))
+pub goes_on_of : (names : Option Table) (b : Bool) (n : ℕ) (tokens : List Token) → (IsTrue b ↔ GoesOnWith names (map look (take n tokens)))
+    → IsTrue b ↔ GoesOnWith names (take n (map look tokens))
 goes_on_of names b n tokens h = let P : List Tok → Type 0 = λ ts. IsTrue b ↔ GoesOnWith names ts in subst P (map-take look n tokens) h

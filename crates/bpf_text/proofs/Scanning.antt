@@ -1,5 +1,6 @@
 -- Cutting a line into tokens.
-use Rattle.std.proofs.Common.{◌≡◌, ℕ, ◌+◌, ◌≤◌, true, List, [], ◌∷◌, ◌++◌, length, map, take, take_while, drop, append_assoc, append-nil, Option, Some, None, ◌⊎◌, inl, inr, refl, sym, ap, ◌∙◌, subst, arith}
+use Rattle.std.proofs.Common.{◌≡◌, ℕ, ◌+◌, ◌≤◌, true, List, [], ◌∷◌, ◌++◌, length, map, take, take_while, drop, append_assoc, append-nil}
+use Rattle.std.proofs.Common.{Option, Some, None, ◌⊎◌, inl, inr, refl, sym, ap, ◌∙◌, subst, arith}
 use Rattle.std.specs.Prelude.{IfSome, nat_eq}
 use Rattle.std.specs.List.{starts_with}
 use Rattle.std.proofs.lemmas.List.{map-append, drop-drop, length-map}
@@ -26,7 +27,8 @@ length-starts text xs e =
     let same : xs ≡ take (length xs) text = (bytes_eq-Decides xs (take (length xs) text)).0 e in
     omega (arith, ap length same, length-take (length xs) text)
 
-begins-longest : (text : List ℕ) (o : Option Sign) (s : Sign) → o ≡ Some s → IfSome o (λ t. starts_with nat_eq text (sign_text t) ≡ true) → starts_with nat_eq text (sign_text s) ≡ true
+begins-longest : (text : List ℕ) (o : Option Sign) (s : Sign) → o ≡ Some s → IfSome o (λ t. starts_with nat_eq text (sign_text t) ≡ true) →
+    starts_with nat_eq text (sign_text s) ≡ true
 begins-longest text (Some t) s e h = let same : t ≡ s = cc in ap (λ x. starts_with nat_eq text (sign_text x)) (sym same) ∙ h
 begins-longest text None s e h = cc
 
@@ -45,7 +47,9 @@ pub record Reached (line : List ℕ) (done : List Tok) (at : ℕ) : Type 0 where
 pub reached_start : (line : List ℕ) (at : ℕ) → at ≡ length (take_while is_blank line) → Reached line [] at
 reached_start line at e = record { on = λ ts h. let P : ℕ → Type 0 = λ k. AreTokens (drop k line) ts in subst P e h }
 
-pub reached_next : (line : List ℕ) (done : List Tok) (at n next : ℕ) (t : Tok) → Reached line done at → (IsEnd (drop at line) → ⊥) → t ≡ front_tok (drop at line) → n ≡ front_len (drop at line) → next ≡ (at + n) + length (take_while is_blank (drop (at + n) line)) → Reached line (done ++ t ∷ []) next
+pub reached_next : (line : List ℕ) (done : List Tok) (at n next : ℕ) (t : Tok) → Reached line done at → (IsEnd (drop at line) → ⊥) → t ≡
+    front_tok (drop at line) → n ≡ front_len (drop at line) → next ≡ (at + n) + length (take_while is_blank (drop (at + n) line)) → Reached
+    line (done ++ t ∷ []) next
 reached_next line done at n next t r more token len e = record { on = on }
   where
     place : drop next line ≡ after_blanks (drop (front_len (drop at line)) (drop at line))
@@ -74,7 +78,9 @@ cut_start line none at e start =
     let P : List Tok → Type 0 = λ ts. Reached line ts at in
     record { rest = []; reached = subst P (sym (ap (λ (ts : List Token). map look ts ++ []) e)) (reached_start line at start); many = inl refl }
 
-pub cut_next : (line : List ℕ) (old new : List Token) (t : Token) (at n next : ℕ) → IsCut line old at → (IsEnd (drop at line) → ⊥) → look t ≡ front_tok (drop at line) → n ≡ front_len (drop at line) → next ≡ (at + n) + length (take_while is_blank (drop (at + n) line)) → KeepsToken old t new → IsCut line new next
+pub cut_next : (line : List ℕ) (old new : List Token) (t : Token) (at n next : ℕ) → IsCut line old at → (IsEnd (drop at line) → ⊥) → look t
+    ≡ front_tok (drop at line) → n ≡ front_len (drop at line) → next ≡ (at + n) + length (take_while is_blank (drop (at + n) line)) →
+    KeepsToken old t new → IsCut line new next
 cut_next line old new t at n next cut more token len e kept = go cut.many kept
   where
     P : List Tok → Type 0
@@ -96,7 +102,12 @@ cut_next line old new t at n next cut more token len e kept = go cut.many kept
     go : (cut.rest ≡ []) ⊎ (64 ≤ length old) → KeepsToken old t new → IsCut line new next
     go (inl none) (inl (few, pushed)) = record { rest = []; reached = subst P (whole none pushed) on; many = inl refl }
     go (inr long) (inl (few, pushed)) = absurd (omega arith)
-    go many (inr (long, same)) = record { rest = cut.rest ++ look t ∷ []; reached = subst P (left same) on; many = inr (subst (λ (ts : List Token). 64 ≤ length ts) (sym same) long) }
+    go many (inr (long, same)) = record {
+      rest = cut.rest ++ look t ∷ [];
+      reached = subst P (left same) on;
+      many = inr
+          (subst (λ (ts : List Token). 64 ≤ length ts) (sym same) long);
+    }
 
 pub cut_end : (line : List ℕ) (kept : List Token) (at : ℕ) → IsCut line kept at → IsEnd (drop at line) → BeginTokens line (map look kept)
 cut_end line kept at cut e = (
@@ -130,7 +141,8 @@ placed_start line placed at none e = record {
       subst Q (sym none) (subst P e h);
 }
 
-pub placed_next : (line placed new : List ℕ) (at n next : ℕ) → Placed line placed at → (IsEnd (drop at line) → ⊥) → at ≤ length line → new ≡ placed ++ at ∷ [] → n ≡ front_len (drop at line) → next ≡ (at + n) + length (take_while is_blank (drop (at + n) line)) → Placed line new next
+pub placed_next : (line placed new : List ℕ) (at n next : ℕ) → Placed line placed at → (IsEnd (drop at line) → ⊥) → at ≤ length line → new ≡
+    placed ++ at ∷ [] → n ≡ front_len (drop at line) → next ≡ (at + n) + length (take_while is_blank (drop (at + n) line)) → Placed line new next
 placed_next line placed new at n next p more within pushed len e = record { on = on }
   where
     place : drop next line ≡ after_blanks (drop (front_len (drop at line)) (drop at line))
@@ -144,7 +156,9 @@ placed_next line placed new at n next p more within pushed len e = record { on =
     on (q ∷ ps) h =
         let P : List ℕ → Type 0 = λ text. StandBehind line text (q ∷ ps) in
         let Q : List ℕ → Type 0 = λ qs. ArePlaces line qs in
-        subst Q (sym (ap (λ (qs : List ℕ). qs ++ q ∷ ps) pushed ∙ append_assoc placed (at ∷ []) (q ∷ ps))) (p.on (at ∷ q ∷ ps) (within, refl, more, subst P place h))
+        subst Q (sym (ap (λ (qs : List ℕ). qs ++ q ∷ ps) pushed ∙ append_assoc placed (at ∷ []) (q ∷ ps)))
+        (p.on (at ∷ q ∷ ps) (within, refl, more, subst P place h))
 
-pub placed_end : (line placed new : List ℕ) (at : ℕ) → Placed line placed at → IsEnd (drop at line) → at ≤ length line → new ≡ placed ++ at ∷ [] → ArePlaces line new
+pub placed_end : (line placed new : List ℕ) (at : ℕ) → Placed line placed at → IsEnd (drop at line) → at ≤ length line → new ≡ placed ++ at
+    ∷ [] → ArePlaces line new
 placed_end line placed new at p e within pushed = let Q : List ℕ → Type 0 = λ qs. ArePlaces line qs in subst Q (sym pushed) (p.on (at ∷ []) (within, refl, e))

@@ -1,5 +1,6 @@
 -- No form has more than 40 tokens, so the first ones of a long line show as much as all.
-use Rattle.std.proofs.Common.{◌≡◌, ℕ, ◌+◌, ◌*◌, ◌≤◌, List, [], ◌∷◌, ◌++◌, length, Option, Some, None, inl, inr, Ok, Err, Result, refl, sym, ap, subst, ◌∙◌, arith, length-append, append-nil}
+use Rattle.std.proofs.Common.{◌≡◌, ℕ, ◌+◌, ◌*◌, ◌≤◌, List, [], ◌∷◌, ◌++◌, length, Option, Some, None, inl, inr, Ok, Err, Result, refl, sym}
+use Rattle.std.proofs.Common.{ap, subst, ◌∙◌, arith, length-append, append-nil}
 use Rattle.std.specs.Prelude.{ℤ}
 use Rattle.bpf_insn.specs.declared.instruction.Insn.{Insn}
 use Rattle.bpf_insn.specs.declared.instruction.Insn.TheVariants as insn
@@ -77,8 +78,18 @@ atomic_length form.Exchange w b o r = omega arith
 atomic_length form.CompareExchange w b o r = omega arith
 
 form_length : (i : Insn) (name : Option (List ℕ)) → length (form_of i name) ≤ 20
-form_length (insn.Alu w op d s) None = omega (arith, operator_length (operator_of op), length-append (operator_items (operator_of op)) (Blank ∷ operand_item w s ∷ []))
-form_length (insn.JumpIf w c d s o) name = omega (arith, operator_length (comparison_of c), length-append (operator_items (comparison_of c)) (Blank ∷ operand_item w s ∷ Blank ∷ word key.Goto ∷ Blank ∷ Target o name ∷ []))
+form_length (insn.Alu w op d s) None = omega (
+  arith,
+  operator_length (operator_of op),
+  length-append (operator_items (operator_of op))
+      (Blank ∷ operand_item w s ∷ []),
+)
+form_length (insn.JumpIf w c d s o) name = omega (
+  arith,
+  operator_length (comparison_of c),
+  length-append (operator_items (comparison_of c))
+      (Blank ∷ operand_item w s ∷ Blank ∷ word key.Goto ∷ Blank ∷ Target o name ∷ []),
+)
 form_length (insn.Atomic w op b o s) None = atomic_length (atomic_form op) w b o s
 form_length (insn.Negate w d) None = omega arith
 form_length (insn.SignExtend e d s) None = omega arith
@@ -147,7 +158,8 @@ still_none (Err BadLine) ts rest long is = (
 )
 still_none (Err UnknownName) ts rest long is = absurd is
 
-pub still_refused : (names : Option Table) (body : Result (Option Written) LineError) (ts rest : List Tok) → 41 ≤ length ts → IsBodyWith names body ts → IsBodyWith names body (ts ++ rest)
+pub still_refused : (names : Option Table) (body : Result (Option Written) LineError) (ts rest : List Tok) → 41 ≤ length ts → IsBodyWith
+    names body ts → IsBodyWith names body (ts ++ rest)
 still_refused None body ts rest long is = still_none body ts rest long is
 still_refused (Some table) body ts rest long is =
     let none : load_of ts ≡ None = no_load ts (omega arith) in
@@ -155,7 +167,8 @@ still_refused (Some table) body ts rest long is =
     let unnamed : IsBody body ts = subst (λ l. IsBodyOr table l body ts) none is in
     subst (λ l. IsBodyOr table l body (ts ++ rest)) (sym still) (still_none body ts rest long unnamed)
 
-long_line : (names : Option Table) (line : List ℕ) (ts rest : List Tok) (s : Source) → IsTokens line (ts ++ rest) → 64 ≤ length ts → s.label ≡ label_of ts → IsBodyWith names s.body (unlabelled ts) → IsLineWith names line s
+long_line : (names : Option Table) (line : List ℕ) (ts rest : List Tok) (s : Source) → IsTokens line (ts ++ rest) → 64 ≤ length ts → s.label
+    ≡ label_of ts → IsBodyWith names s.body (unlabelled ts) → IsLineWith names line s
 long_line names line [] rest s cut_up long label body = absurd (omega arith)
 long_line names line (a ∷ []) rest s cut_up long label body = absurd (omega arith)
 long_line names line (a ∷ b ∷ ts) rest s cut_up long label body = record {
@@ -169,7 +182,8 @@ long_line names line (a ∷ b ∷ ts) rest s cut_up long label body = record {
 }
 
 -- a line by its first tokens
-pub line_of_tokens : (names : Option Table) (line : List ℕ) (ts : List Tok) (s : Source) → BeginTokens line ts → s.label ≡ label_of ts → IsBodyWith names s.body (unlabelled ts) → IsLineWith names line s
+pub line_of_tokens : (names : Option Table) (line : List ℕ) (ts : List Tok) (s : Source) → BeginTokens line ts → s.label ≡ label_of ts →
+    IsBodyWith names s.body (unlabelled ts) → IsLineWith names line s
 line_of_tokens names line ts s (rest, cut_up, inl none) label body = record {
   tokens = ts;
   cut_up = subst (λ (us : List Tok). IsTokens line us) (ap (λ (r : List Tok). ts ++ r) none ∙ append-nil ts) cut_up;

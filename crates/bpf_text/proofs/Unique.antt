@@ -15,7 +15,8 @@ use Rattle.bpf_text.specs.Tokens.{after_blanks}
 use Rattle.bpf_text.specs.Line.{Written, IsSpelled}
 use Rattle.bpf_text.specs.Private.Lines.{line_at}
 use Rattle.bpf_text.specs.Symbols.{Table, Load, load_of}
-use Rattle.bpf_text.specs.Assembly.{Source, IsBody, IsBodyOr, IsBodyWith, IsLineWith, AreLinesWith, AssemblesWith, label_of, unlabelled, first_place, program_of}
+use Rattle.bpf_text.specs.Assembly.{Source, IsBody, IsBodyOr, IsBodyWith, IsLineWith, AreLinesWith, AssemblesWith, label_of, unlabelled}
+use Rattle.bpf_text.specs.Assembly.{first_place, program_of}
 use Rattle.bpf_lines.specs.Lines.{lines_of}
 use Rattle.bpf_text.proofs.Complete.{line_complete}
 use Rattle.bpf_text.specs.Private.Sources.{KeptLine, kept_program, Gathers}
@@ -52,7 +53,8 @@ one_body ts (Err BadLine) (Err BadLine) x y = refl
 one_body ts (Err UnknownName) b x y = absurd x
 one_body ts a (Err UnknownName) x y = absurd y
 
-one_body_or : (table : Table) (load : Option Load) (ts : List Tok) (a b : Result (Option Written) LineError) → IsBodyOr table load a ts → IsBodyOr table load b ts → a ≡ b
+one_body_or : (table : Table) (load : Option Load) (ts : List Tok) (a b : Result (Option Written) LineError) → IsBodyOr table load a ts →
+    IsBodyOr table load b ts → a ≡ b
 one_body_or table (Some load) ts a b x y = x ∙ sym y
 one_body_or table None ts a b x y = one_body ts a b x y
 
@@ -88,7 +90,8 @@ one_outcome names text r q x y =
     y.meant ∙ ap (λ ss. program_of (first_place ss 0 0) 0 0 ss) same ∙ sym x.meant
 
 -- what the lines that are kept mean is what the text stands for
-pub gathered_outcome : (names : Option Table) (text : List ℕ) (labels : List ℕ → Option Place) (kept : List KeptLine) → Gathers names text labels kept → AssemblesWith names text (kept_program labels 0 kept)
+pub gathered_outcome : (names : Option Table) (text : List ℕ) (labels : List ℕ → Option Place) (kept : List KeptLine) → Gathers names text
+    labels kept → AssemblesWith names text (kept_program labels 0 kept)
 gathered_outcome names text labels kept g = record {
   sources = g.sources;
   lines = g.lines;
@@ -99,15 +102,22 @@ gathered_outcome names text labels kept g = record {
 abbrev pub Answers : {V : Type 0} → (V → List Insn) → Result V TextError → Result (List Insn) TextError → Type 0
 Answers items result outcome = MatchResult result (λ v. outcome ≡ Ok (items v)) (λ e. (e ≡ OutOfMemory) ⊎ (outcome ≡ Err e))
 
-pub answered : {V : Type 0} (items : V → List Insn) (names : Option Table) (text : List ℕ) (outcome : Result (List Insn) TextError) (result : Result V TextError) → AssemblesWith names text outcome → Answers items result outcome → IfOk result (λ v. AssemblesWith names text (Ok (items v)))
+pub answered : {V : Type 0} (items : V → List Insn) (names : Option Table) (text : List ℕ) (outcome : Result (List Insn) TextError)
+    (result : Result V TextError) → AssemblesWith names text outcome → Answers items result outcome → IfOk result
+    (λ v. AssemblesWith names text (Ok (items v)))
 answered items names text outcome (Ok v) h e = let P : Result (List Insn) TextError → Type 0 = λ r. AssemblesWith names text r in subst P e h
 answered items names text outcome (Err e) h k = tt
 
-pub answered_refusal : {V : Type 0} (items : V → List Insn) (names : Option Table) (text : List ℕ) (outcome : Result (List Insn) TextError) (result : Result V TextError) → AssemblesWith names text outcome → Answers items result outcome
+pub answered_refusal : {V : Type 0} (items : V → List Insn) (names : Option Table) (text : List ℕ) (outcome : Result (List Insn) TextError)
+    (result : Result V TextError) → AssemblesWith names text outcome → Answers items result outcome
     → IfErr result (λ e. (e ≡ OutOfMemory) ⊎ AssemblesWith names text (Err e))
 answered_refusal items names text outcome (Ok v) h e = tt
 answered_refusal items names text outcome (Err e) h (inl memory) = inl memory
-answered_refusal items names text outcome (Err e) h (inr refused) = inr (let P : Result (List Insn) TextError → Type 0 = λ r. AssemblesWith names text r in subst P refused h)
+answered_refusal items names text outcome (Err e) h (inr refused) = inr
+    (let P : Result (List Insn) TextError → Type 0 = λ r. AssemblesWith names text r in subst P refused h)
 
-pub answered_only : {V : Type 0} (items : V → List Insn) (names : Option Table) (text : List ℕ) (outcome other : Result (List Insn) TextError) (result : Result V TextError) → AssemblesWith names text outcome → Answers items result outcome → AssemblesWith names text other → Answers items result other
-answered_only {V} items names text outcome other result h k o = let P : Result (List Insn) TextError → Type 0 = λ r. Answers items result r in subst P (sym (one_outcome names text outcome other h o)) k
+pub answered_only : {V : Type 0} (items : V → List Insn) (names : Option Table) (text : List ℕ)
+    (outcome other : Result (List Insn) TextError) (result : Result V TextError) → AssemblesWith names text outcome → Answers items result
+    outcome → AssemblesWith names text other → Answers items result other
+answered_only {V} items names text outcome other result h k o =
+    let P : Result (List Insn) TextError → Type 0 = λ r. Answers items result r in subst P (sym (one_outcome names text outcome other h o)) k

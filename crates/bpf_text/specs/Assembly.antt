@@ -1,6 +1,7 @@
 -- The assembly language: what a line is, what a label names, and what a whole text stands for
 -- (our own choice).
-use Rattle.std.specs.Prelude.{◌≡◌, ◌≢◌, ℕ, ◌+◌, ◌^◌, ◌==◌, ◌&&◌, nat_lt, nat_le, Bool, true, false, not, if◌then◌else◌, List, [], ◌∷◌, ◌++◌, Option, Some, None, option_to_list, Result, Ok, Err, ℤ, pos, ◌-ℤ◌}
+use Rattle.std.specs.Prelude.{◌≡◌, ◌≢◌, ℕ, ◌+◌, ◌^◌, ◌==◌, ◌&&◌, nat_lt, nat_le, Bool, true, false, not, if◌then◌else◌, List, [], ◌∷◌, ◌++◌}
+use Rattle.std.specs.Prelude.{Option, Some, None, option_to_list, Result, Ok, Err, ℤ, pos, ◌-ℤ◌}
 use Rattle.std.specs.Str.{bytes_eq}
 use Rattle.bpf_insn.specs.Table.{words}
 use Rattle.bpf_insn.specs.Encoding.{Fits}

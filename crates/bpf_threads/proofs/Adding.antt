@@ -1,5 +1,6 @@
 -- Lists of charts, bounds and jobs that grow by one.
-use Rattle.std.proofs.Common.{◌≡◌, ℕ, zero, suc, ◌+◌, ◌<◌, List, [], ◌∷◌, ◌++◌, length, drop, map, Option, Some, None, Result, Ok, Err, IfOk, ◌⊎◌, inl, inr, refl, sym, ap, subst, ◌∙◌, arith, length-append}
+use Rattle.std.proofs.Common.{◌≡◌, ℕ, zero, suc, ◌+◌, ◌<◌, List, [], ◌∷◌, ◌++◌, length, drop, map, Option, Some, None, Result, Ok, Err}
+use Rattle.std.proofs.Common.{IfOk, ◌⊎◌, inl, inr, refl, sym, ap, subst, ◌∙◌, arith, length-append}
 use Rattle.std.specs.Prelude.{All, IfSome, slice_get}
 use Rattle.std.proofs.lemmas.Option.{slice_get_within}
 use Rattle.std.proofs.lemmas.List.Elements.{All-cons}
@@ -31,7 +32,8 @@ module _ {A : Type 0} where
   drop_at (y ∷ xs) zero x e = ap (λ (z : A). z ∷ xs) (let same : y ≡ x = cc in same)
   drop_at (y ∷ xs) (suc i) x e = drop_at xs i x e
 
-pub charts_more : (programs : List Loaded) (charts : List Drawn) (k : ℕ) (program : Loaded) (new : Drawn) → length charts ≡ k → slice_get programs k ≡ Some program → IsChartOf program new → AreCharts programs charts → AreCharts programs (charts ++ new ∷ [])
+pub charts_more : (programs : List Loaded) (charts : List Drawn) (k : ℕ) (program : Loaded) (new : Drawn) → length charts ≡ k → slice_get
+    programs k ≡ Some program → IsChartOf program new → AreCharts programs charts → AreCharts programs (charts ++ new ∷ [])
 charts_more programs charts k program new count there is are i other chart at in_charts = elim (last_or_before charts new chart i in_charts) [
   | inl before ↦ are i other chart at before
   | inr last ↦
@@ -40,7 +42,8 @@ charts_more programs charts k program new count there is are i other chart at in
       subst (λ (p : Loaded). IsChartOf p chart) same (subst (IsChartOf program) last.1 is)
 ]
 
-pub bounds_more : (q : Counted) (programs : List Loaded) (bounds : List (Option ℕ)) (k : ℕ) (new : Option ℕ) → length bounds ≡ k → IsBoundAt q programs k new → AreBounds q programs bounds → AreBounds q programs (bounds ++ new ∷ [])
+pub bounds_more : (q : Counted) (programs : List Loaded) (bounds : List (Option ℕ)) (k : ℕ) (new : Option ℕ) → length bounds ≡ k → IsBoundAt
+    q programs k new → AreBounds q programs bounds → AreBounds q programs (bounds ++ new ∷ [])
 bounds_more q programs bounds k new count is are i most program at in_bounds = elim (last_or_before bounds new (Some most) i in_bounds) [
   | inl before ↦ are i most program at before
   | inr last ↦ is most program (ap (slice_get programs) (sym (last.0 ∙ count)) ∙ at) last.1
@@ -57,19 +60,22 @@ bound_of_program q programs k program at (Ok (Some n)) is = λ most other there 
     subst (λ (p : Loaded). HasAtMost q p most) one (subst (HasAtMost q program) count is)
 
 -- what jobs' bounds sum to is what they have at most
-pub at_most : (q : Counted) (programs : List Loaded) (bounds : List (Option ℕ)) (jobs : List Task) → AreBounds q programs bounds → (o : Option ℕ) → IfSome o (AddUp bounds jobs)
+pub at_most : (q : Counted) (programs : List Loaded) (bounds : List (Option ℕ)) (jobs : List Task) → AreBounds q programs bounds →
+    (o : Option ℕ) → IfSome o (AddUp bounds jobs)
     → IfSome o (HaveAtMost q programs jobs)
 at_most q programs bounds jobs are None is = is
 at_most q programs bounds jobs are (Some n) is = (bounds, are, is)
 
 -- one more job, before those that were added
-pub add_more : (bounds : List (Option ℕ)) (jobs : List Job) (i : ℕ) (job : Job) (most sum : ℕ) → slice_get jobs i ≡ Some job → slice_get bounds job.program ≡ Some (Some most)
+pub add_more : (bounds : List (Option ℕ)) (jobs : List Job) (i : ℕ) (job : Job) (most sum : ℕ) → slice_get jobs i ≡ Some job → slice_get
+    bounds job.program ≡ Some (Some most)
     → AddUp bounds (map waiting (drop (suc i) jobs)) sum → AddUp bounds (map waiting (drop i jobs)) (most + sum)
 add_more bounds jobs i job most sum at has rest =
     subst (λ (xs : List Job). AddUp bounds (map waiting xs) (most + sum)) (sym (drop_at jobs i job at)) (most, sum, has, rest, refl)
 
 -- the same of what is so of each
-pub all_more : (P : Task → Type 0) (jobs : List Job) (i : ℕ) (job : Job) → slice_get jobs i ≡ Some job → P (waiting job) → All P (map waiting (drop (suc i) jobs)) → All P (map waiting (drop i jobs))
+pub all_more : (P : Task → Type 0) (jobs : List Job) (i : ℕ) (job : Job) → slice_get jobs i ≡ Some job → P (waiting job) → All P
+    (map waiting (drop (suc i) jobs)) → All P (map waiting (drop i jobs))
 all_more P jobs i job at is rest =
     subst (λ (xs : List Job). All P (map waiting xs)) (sym (drop_at jobs i job at)) (All-cons P (waiting job) (map waiting (drop (suc i) jobs)) is rest)
 

@@ -39,16 +39,19 @@ lock_weight Removals flags b = refl
 
 module _ (program : Loaded) (spots : List Spot) (chart : IsChart program spots) where
   -- the instruction of a step is the spot's
-  same_instruction : (p : Spot) (old : Cpu) → Stands program p old → (i j : Insn) → Begins program.instructions p.pc i → Begins program.instructions old.pc j → i ≡ j
+  same_instruction : (p : Spot) (old : Cpu) → Stands program p old → (i j : Insn) → Begins program.instructions p.pc i → Begins
+      program.instructions old.pc j → i ≡ j
   same_instruction p old at i j here there =
       one_instruction_begins program.instructions p.pc i j here (subst (λ (pc : ℕ). Begins program.instructions pc j) at.here there)
 
   -- what the instruction of a step is, whatever comes of the step
-  follows_at : (p : Spot) (old : Cpu) → Stands program p old → (spot : IsCharted program spots p) → (i : Insn) → Begins program.instructions old.pc i → FollowsSpots spots p i
+  follows_at : (p : Spot) (old : Cpu) → Stands program p old → (spot : IsCharted program spots p) → (i : Insn) → Begins program.instructions
+      old.pc i → FollowsSpots spots p i
   follows_at p old at spot i begins =
       subst (FollowsSpots spots p) (same_instruction p old at spot.instruction i spot.begins begins) spot.follows
 
-  ready_after : (p : Spot) (old new : Cpu) (shape : Shape) (events : List Event) → Stands program p old → IsCharted program spots p → Step shape program old events On new → IsReady program new
+  ready_after : (p : Spot) (old new : Cpu) (shape : Shape) (events : List Event) → Stands program p old → IsCharted program spots p → Step
+      shape program old events On new → IsReady program new
   ready_after p old new shape events at spot step =
       let same = same_instruction p old at spot.instruction step.instruction spot.begins step.begins in
       let safe = subst (λ (i : Insn). IsSafe program.named program.instructions p.pc i) same spot.safe in
@@ -56,9 +59,11 @@ module _ (program : Loaded) (spots : List Spot) (chart : IsChart program spots) 
       executes_ready program old new at.ready shape step.instruction events On here step.row
 
   -- a step that goes on leads to a spot that comes next
-  step_comes : (p : Spot) (old new : Cpu) (shape : Shape) (events : List Event) → Stands program p old → IsCharted program spots p → (step : Step shape program old events On new) → Comes program spots p new ⊎ Tries step.instruction old new
+  step_comes : (p : Spot) (old new : Cpu) (shape : Shape) (events : List Event) → Stands program p old → IsCharted program spots p →
+      (step : Step shape program old events On new) → Comes program spots p new ⊎ Tries step.instruction old new
   step_comes p old new shape events at spot step =
-      comes program p old at spots new (ready_after p old new shape events at spot step) shape step.instruction events (follows_at p old at spot step.instruction step.begins) step.row
+      comes program p old at spots new (ready_after p old new shape events at spot step) shape step.instruction events
+      (follows_at p old at spot step.instruction step.begins) step.row
 
   -- runs begin at the first spot
   begins : (number : ℕ) (input : Input) → (ready : IsReady program (start number input)) → Stands program chart.first.0 (start number input)
@@ -69,19 +74,25 @@ module _ (program : Loaded) (spots : List Spot) (chart : IsChart program spots) 
   start_there : (number : ℕ) (input : Input) → IsReady program (start number input)
   start_there number input =
       let spot = chart.each 0 chart.first.0 chart.first.1 in
-      let here : IsStart program.instructions 0 = (spot.instruction, subst (λ (pc : ℕ). Begins program.instructions pc spot.instruction) chart.first.2.here spot.begins) in
+      let here : IsStart program.instructions 0 = (
+        spot.instruction,
+        subst (λ (pc : ℕ). Begins program.instructions pc spot.instruction)
+            chart.first.2.here spot.begins,
+      ) in
       start_ready program (start number input) input refl here
 
   -- ---- what is counted
   module _ (q : Counted) (most : List (Option ℕ)) (numbers : AreAllBounds q program spots most) where
     -- where a way leads, less is left
-    left_there : (place : Option ℕ) (own n : ℕ) (new : Cpu) → LeavesEnough most place own n → Arrives program spots new place → (j : ℕ) × (r : Spot) × (m : ℕ) × (slice_get spots j ≡ Some r) × Stands program r new × HasNumber most j m × (own + m ≤ n)
+    left_there : (place : Option ℕ) (own n : ℕ) (new : Cpu) → LeavesEnough most place own n → Arrives program spots new place → (j : ℕ) ×
+        (r : Spot) × (m : ℕ) × (slice_get spots j ≡ Some r) × Stands program r new × HasNumber most j m × (own + m ≤ n)
     left_there None own n new left arrives = absurd (let place = arrives.2 in cc)
     left_there (Some i) own n new left arrives =
         let same : i ≡ arrives.0 = cc in
         (arrives.0, arrives.1, left.0, arrives.3, arrives.4, subst (λ (j : ℕ). HasNumber most j left.0) same left.1, left.2)
 
-    left_next : (p : Spot) (own n : ℕ) (new : Cpu) → LeavesEnough most p.next own n → LeavesEnough most p.jump own n → Comes program spots p new → (j : ℕ) × (r : Spot) × (m : ℕ) × (slice_get spots j ≡ Some r) × Stands program r new × HasNumber most j m × (own + m ≤ n)
+    left_next : (p : Spot) (own n : ℕ) (new : Cpu) → LeavesEnough most p.next own n → LeavesEnough most p.jump own n → Comes program spots p
+        new → (j : ℕ) × (r : Spot) × (m : ℕ) × (slice_get spots j ≡ Some r) × Stands program r new × HasNumber most j m × (own + m ≤ n)
     left_next p own n new next jump (inl arrives) = left_there p.next own n new next arrives
     left_next p own n new next jump (inr arrives) = left_there p.jump own n new jump arrives
 
@@ -117,11 +128,13 @@ module _ (program : Loaded) (spots : List Spot) (chart : IsChart program spots) 
 
   -- ---- what is read
   module _ (shape : Shape) (outside : (k : ℕ) → PlaceReadsOutside shape.arrays program spots k) where
-    at_once : (p : Spot) (now : Cpu) (at : Stands program p now) → UpdatesAtOnce shape.arrays p → (a : ℕ) (g : ArrayShape) → IsArrayAt shape.arrays now.registers a g → IsCopiedAtOnce g
+    at_once : (p : Spot) (now : Cpu) (at : Stands program p now) → UpdatesAtOnce shape.arrays p → (a : ℕ) (g : ArrayShape) → IsArrayAt
+        shape.arrays now.registers a g → IsCopiedAtOnce g
     at_once p now at (inl (x, known, is)) a g array = is a g array.1 (sym (knows program p now at R1 x known) ∙ array.0)
     at_once p now at (inr all) a g array = all a g array.1
 
-    lies : (p : Spot) (now : Cpu) (at : Stands program p now) (n : ℕ) → ReadsOutsideAt shape.arrays p (CallHelper n) → AsksOnce n ⊎ ReadsOutside shape.arrays n now.registers
+    lies : (p : Spot) (now : Cpu) (at : Stands program p now) (n : ℕ) → ReadsOutsideAt shape.arrays p (CallHelper n) → AsksOnce n ⊎
+        ReadsOutside shape.arrays n now.registers
     lies p now at n (inl own) = inl own
     lies p now at n (inr (key, value)) = inr (record {
       key = subst (λ (a : ℕ). IsOutsideValues a 64) (sym (knows program p now at R2 key.0 key.1)) key.2;
@@ -133,9 +146,11 @@ module _ (program : Loaded) (spots : List Spot) (chart : IsChart program spots) 
         → Begins program.instructions now.pc (CallHelper helper) → AsksOnce helper ⊎ ReadsOutside shape.arrays helper now.registers
     reads_here k p old now helper here at same begins =
         let moved = subst (λ (c : Cpu). Stands program p c) (sym same) at in
-        lies p now moved helper (outside k p here (CallHelper helper) (subst (λ (pc : ℕ). Begins program.instructions pc (CallHelper helper)) moved.here begins))
+        lies p now moved helper (outside k p here (CallHelper helper)
+        (subst (λ (pc : ℕ). Begins program.instructions pc (CallHelper helper)) moved.here begins))
 
-    reads_from : (steps k : ℕ) (p : Spot) (old now : Cpu) (helper : ℕ) → slice_get spots k ≡ Some p → Stands program p old → LeadsInSteps shape program steps old now
+    reads_from : (steps k : ℕ) (p : Spot) (old now : Cpu) (helper : ℕ) → slice_get spots k ≡ Some p → Stands program p old → LeadsInSteps
+        shape program steps old now
         → Begins program.instructions now.pc (CallHelper helper) → AsksOnce helper ⊎ ReadsOutside shape.arrays helper now.registers
     reads_from zero k p old now helper here at same begins = reads_here k p old now helper here at same begins
     reads_from (suc steps) k p old now helper here at (inl same) begins = reads_here k p old now helper here at same begins
@@ -153,6 +168,7 @@ module _ (program : Loaded) (spots : List Spot) (chart : IsChart program spots) 
     all_read_outside cpu steps input now helper leads begins_there =
         reads_from steps 0 chart.first.0 (start cpu input) now helper chart.first.1 (begins cpu input (start_there cpu input)) leads begins_there
 
-pub found_at_most : (program : Loaded) (spots : List Spot) → IsChart program spots → (q : Counted) (most : List (Option ℕ)) → AreAllBounds q program spots most → (o : Option ℕ) → IfSome o (HasNumber most 0) → IfSome o (HasAtMost q program)
+pub found_at_most : (program : Loaded) (spots : List Spot) → IsChart program spots → (q : Counted) (most : List (Option ℕ)) → AreAllBounds q
+    program spots most → (o : Option ℕ) → IfSome o (HasNumber most 0) → IfSome o (HasAtMost q program)
 found_at_most program spots chart q most numbers None has = has
 found_at_most program spots chart q most numbers (Some n) has = has_at_most program spots chart q most numbers n has

@@ -1,5 +1,6 @@
 -- How many counted events a step has, and what follows for runs.
-use Rattle.std.proofs.Common.{◌≡◌, ℕ, suc, ◌+◌, ◌<◌, ◌≤◌, Bool, true, false, List, [], ◌∷◌, ◌++◌, Option, Some, None, Result, inl, inr, refl, sym, ap, subst, ◌∙◌, take, drop, arith, eq-eqb}
+use Rattle.std.proofs.Common.{◌≡◌, ℕ, suc, ◌+◌, ◌<◌, ◌≤◌, Bool, true, false, List, [], ◌∷◌, ◌++◌, Option, Some, None, Result, inl, inr}
+use Rattle.std.proofs.Common.{refl, sym, ap, subst, ◌∙◌, take, drop, arith, eq-eqb}
 use Rattle.std.specs.Prelude.{◌==◌, ◌&&◌, slice_get, slice_index}
 use Rattle.bpf_insn.specs.declared.instruction.Insn.{Insn}
 use Rattle.bpf_insn.specs.declared.instruction.Insn.TheVariants as insn
@@ -30,7 +31,9 @@ use Rattle.bpf_shared.specs.declared.events.Span.{Span}
 use Rattle.bpf_shared.specs.declared.shapes.MapShape.{MapShape}
 use Rattle.bpf_shared.specs.declared.shapes.ArrayShape.{ArrayShape}
 use Rattle.bpf_helpers.specs.Arrays.{array_refusal, copies, parts_of}
-use Rattle.bpf_helpers.specs.Calls.{lookup_number, update_number, delete_number, map_value, copy_for, LooksUp, UpdatesMap, DeletesKey, CallsMap, Copies, StopsAtKey, LooksUpIndex, Answers, UpdatesIndex, DeletesIndex, CallsArray, CallsHelper}
+use Rattle.bpf_helpers.specs.Calls.{lookup_number, update_number, delete_number, map_value, copy_for, LooksUp, UpdatesMap, DeletesKey}
+use Rattle.bpf_helpers.specs.Calls.{CallsMap, Copies, StopsAtKey, LooksUpIndex, Answers, UpdatesIndex, DeletesIndex, CallsArray}
+use Rattle.bpf_helpers.specs.Calls.{CallsHelper}
 use Rattle.bpf_helpers.specs.Reads.{Reads, ReadsIndex, loads, no_loads}
 use Rattle.bpf_helpers.specs.declared.fault.HelperFault.{HelperFault}
 use Rattle.bpf_cpu.specs.declared.cpu.Cpu.{Cpu}
@@ -77,7 +80,8 @@ none_loaded q a (b ∷ bytes) =
     omega (arith, first, none_loaded q (suc a) bytes)
 
 -- reading a key or a value has no counted event
-none_read : (q : Counted) (s : Shape) (memory : PrivateMemory) (held : List Span) (a n : ℕ) (bytes : List ℕ) (events : List Event) → Reads s memory held a n bytes events → how_many q events ≡ 0
+none_read : (q : Counted) (s : Shape) (memory : PrivateMemory) (held : List Span) (a n : ℕ) (bytes : List ℕ) (events : List Event) → Reads s
+    memory held a n bytes events → how_many q events ≡ 0
 none_read q s memory held a n bytes events (inl own) = ap (how_many q) own.1
 none_read q s memory held a n bytes events (inr held_bytes) = ap (how_many q) held_bytes.3 ∙ none_loaded q a bytes
 
@@ -116,18 +120,23 @@ module _ (q : Counted) (p : Spot) (registers : List ℕ) (h : IsKnownOf p.known 
   here : m ≡ q.map → may_be (known_at p 1) q.map ≡ true
   here same = map_seen (known_at p 1) q.map (slice_index registers 1) (λ x e. read_known p registers h 1 x (omega arith) e) (is ∙ ap map_value same)
 
-  update_weight : (k : Kind) (key bytes : List ℕ) (answer : MapAnswer) → is_counted k (Update m key bytes (slice_index registers 4) answer) q.map ≡ true → is_counted_call k update_number (known_at p 4) && may_be (known_at p 1) q.map ≡ true
+  update_weight : (k : Kind) (key bytes : List ℕ) (answer : MapAnswer) → is_counted k (Update m key bytes (slice_index registers 4) answer)
+      q.map ≡ true → is_counted_call k update_number (known_at p 4) && may_be (known_at p 1) q.map ≡ true
   update_weight Updates key bytes answer e = and_from true (may_be (known_at p 1) q.map) refl (here (same_number m q.map e))
   update_weight Removals key bytes answer e =
       let parts = and_parts (m == q.map) (may_replace (slice_index registers 4)) e in
-      and_from (may_replace_by (known_at p 4)) (may_be (known_at p 1) q.map) (flags_seen (known_at p 4) (slice_index registers 4) (λ x f. read_known p registers h 4 x (omega arith) f) parts.1) (here (same_number m q.map parts.0))
+      and_from (may_replace_by (known_at p 4)) (may_be (known_at p 1) q.map)
+      (flags_seen (known_at p 4) (slice_index registers 4) (λ x f. read_known p registers h 4 x (omega arith) f) parts.1)
+      (here (same_number m q.map parts.0))
 
-  delete_weight : (k : Kind) (key : List ℕ) (answer : MapAnswer) → is_counted k (Delete m key answer) q.map ≡ true → is_counted_call k delete_number (known_at p 4) && may_be (known_at p 1) q.map ≡ true
+  delete_weight : (k : Kind) (key : List ℕ) (answer : MapAnswer) → is_counted k (Delete m key answer) q.map ≡ true → is_counted_call k
+      delete_number (known_at p 4) && may_be (known_at p 1) q.map ≡ true
   delete_weight Updates key answer e = absurd cc
   delete_weight Removals key answer e = and_from true (may_be (known_at p 1) q.map) refl (here (same_number m q.map e))
 
   -- an event after some that aren't counted
-  last_counts : (first events : List Event) (e : Event) → how_many q first ≡ 0 → events ≡ first ++ e ∷ [] → how_many q events ≡ one_if (is_counted q.kind e q.map)
+  last_counts : (first events : List Event) (e : Event) → how_many q first ≡ 0 → events ≡ first ++ e ∷ [] → how_many q events ≡ one_if
+      (is_counted q.kind e q.map)
   last_counts first events e none is_last =
       ap (how_many q) is_last ∙ omega (arith, count-append q first (e ∷ []), none)
 
@@ -171,7 +180,8 @@ module _ (q : Counted) where
       let part = take (bytes_in z) bytes in
       let store = Store to z (little_endian part) in
       let rest = copies reading (from + bytes_in z) (to + bytes_in z) sizes (drop (bytes_in z) bytes) in
-      let both : how_many q (reading from part ++ store ∷ rest) ≡ how_many q (reading from part) + how_many q (store ∷ rest) = count-append q (reading from part) (store ∷ rest) in
+      let both : how_many q (reading from part ++ store ∷ rest) ≡ how_many q (reading from part) + how_many q (store ∷ rest) = count-append
+      q (reading from part) (store ∷ rest) in
       let stored : one_if (is_counted q.kind store q.map) ≡ 0 = ap one_if (store_uncounted q.kind to z (little_endian part) q.map) in
       let behind = none_copied reading none (from + bytes_in z) (to + bytes_in z) sizes (drop (bytes_in z) bytes) in
       omega (arith, both, none from part, stored, behind)
@@ -188,7 +198,8 @@ module _ (q : Counted) where
     index_counts a index events (inr (none, reached, even, e)) =
         ap (how_many q) e ∙ one_uncounted q (Load a Word index) (load_uncounted q.kind a Word index q.map)
 
-    answer_counts : (to n : ℕ) (refusal : Option ℕ) (events : List Event) (result : Result ℕ HelperFault) → Answers s memory registers held to n refusal events result → how_many q events ≡ 0
+    answer_counts : (to n : ℕ) (refusal : Option ℕ) (events : List Event) (result : Result ℕ HelperFault) → Answers s memory registers held
+        to n refusal events result → how_many q events ≡ 0
     answer_counts to n (Some refusal) events result row = ap (how_many q) row.0
     answer_counts to n None events result row = value_counts memory (slice_index registers 3) to n events row.1
 
@@ -215,7 +226,8 @@ module _ (q : Counted) where
       remove_counts (inl stops) = stop_counts stops
       remove_counts (inr row) = ap (how_many q) row.2
 
-    array_counts : (cpu a : ℕ) (g : ArrayShape) (n : ℕ) (events : List Event) (result : Result ℕ HelperFault) (after : List Span) → CallsArray s memory registers held cpu a g n events result after → how_many q events ≡ 0
+    array_counts : (cpu a : ℕ) (g : ArrayShape) (n : ℕ) (events : List Event) (result : Result ℕ HelperFault) (after : List Span) →
+        CallsArray s memory registers held cpu a g n events result after → how_many q events ≡ 0
     array_counts cpu a g n events result after (inl (e, row)) = look_counts cpu a g events result after row
     array_counts cpu a g n events result after (inr (inl (e, row))) = change_counts cpu a g events result after row
     array_counts cpu a g n events result after (inr (inr (e, row))) = remove_counts cpu a g events result after row
@@ -228,7 +240,8 @@ module _ (q : Counted) (p : Spot) (old : Cpu) (h : IsKnownOf p.known old.registe
       → CallsHelper s n old.number old.registers old.memory old.held events result after → how_many q events ≤ weight q p (insn.CallHelper n)
   call_counts s n events result after (inl own) = none_at_all events (insn.CallHelper n) own.1
   call_counts s n events result after (inr (inl none)) = none_at_all events (insn.CallHelper n) none.3.0
-  call_counts s n events result after (inr (inr (inl (m, shape, is, calls)))) = map_counts q p old.registers h s m is.0 old.memory shape old.held after events result n calls
+  call_counts s n events result after (inr (inr (inl (m, shape, is, calls)))) = map_counts q p old.registers h s m is.0 old.memory shape
+      old.held after events result n calls
   call_counts s n events result after (inr (inr (inr (a, g, is, no_map, calls)))) =
       let none = array_counts q s old.memory old.registers old.held old.number a g n events result after calls in
       omega (arith, none)
@@ -247,26 +260,37 @@ module _ (q : Counted) (p : Spot) (old : Cpu) (h : IsKnownOf p.known old.registe
 
     changes_count : (w : Width) (op : ops.AtomicOp) (r : Reg) (a : ℕ) → ChangesValue s w op r a old events progress new → how_many q events ≤ weight q p i
     changes_count w op r a (inl odd) = none_at_all events i odd.2
-    changes_count w op r a (inr row) = single i events _ (atomic_uncounted q.kind a (event_size_of (size_of w)) (change_of op) (value old r) (slice_index old.registers 0) row.1.0 q.map) row.1.1
+    changes_count w op r a (inr row) = single i events _ (atomic_uncounted q.kind a (event_size_of (size_of w)) (change_of op) (value old r)
+        (slice_index old.registers 0) row.1.0 q.map) row.1.1
 
-  asks_count : (shape : Shape) (i : Insn) (events : List Event) (progress : Progress) (new : Cpu) → AsksValue shape i old events progress new → how_many q events ≤ weight q p i
-  asks_count shape (insn.Load z d b o) events progress new row = loads_count shape (insn.Load z d b o) events progress new z (λ x. x) d (effective_address old b o) row
-  asks_count shape (insn.LoadSigned z d b o) events progress new row = loads_count shape (insn.LoadSigned z d b o) events progress new (plain_size z) (sign_extended (extension_of z)) d (effective_address old b o) row
-  asks_count shape (insn.StoreImmediate z b o n) events progress new row = stores_count shape (insn.StoreImmediate z b o n) events progress new z (effective_address old b o) (cast_unsigned w64 n) row
-  asks_count shape (insn.Store z b o s) events progress new row = stores_count shape (insn.Store z b o s) events progress new z (effective_address old b o) (value old s) row
-  asks_count shape (insn.Atomic w op b o s) events progress new row = changes_count shape (insn.Atomic w op b o s) events progress new w op s (effective_address old b o) row
+  asks_count : (shape : Shape) (i : Insn) (events : List Event) (progress : Progress) (new : Cpu) → AsksValue shape i old events progress
+      new → how_many q events ≤ weight q p i
+  asks_count shape (insn.Load z d b o) events progress new row = loads_count shape (insn.Load z d b o) events progress new z (λ x. x) d
+      (effective_address old b o) row
+  asks_count shape (insn.LoadSigned z d b o) events progress new row = loads_count shape (insn.LoadSigned z d b o) events progress new
+      (plain_size z) (sign_extended (extension_of z)) d (effective_address old b o) row
+  asks_count shape (insn.StoreImmediate z b o n) events progress new row = stores_count shape (insn.StoreImmediate z b o n) events progress
+      new z (effective_address old b o) (cast_unsigned w64 n) row
+  asks_count shape (insn.Store z b o s) events progress new row = stores_count shape (insn.Store z b o s) events progress new z
+      (effective_address old b o) (value old s) row
+  asks_count shape (insn.Atomic w op b o s) events progress new row = changes_count shape (insn.Atomic w op b o s) events progress new w op
+      s (effective_address old b o) row
   asks_count shape _ events progress new row = absurd row
 
-  helper_counts : (s : Shape) (n : ℕ) (events : List Event) (progress : Progress) (new : Cpu) → Helper s n old events progress new → how_many q events ≤ weight q p (insn.CallHelper n)
+  helper_counts : (s : Shape) (n : ℕ) (events : List Event) (progress : Progress) (new : Cpu) → Helper s n old events progress new →
+      how_many q events ≤ weight q p (insn.CallHelper n)
   helper_counts s n events progress new (inl asks) = call_counts s n events asks.1.0 asks.1.1 asks.1.2
   helper_counts s n events progress new (inr (inl asks)) = none_at_all events (insn.CallHelper n) asks.3
   helper_counts s n events progress new (inr (inr (inl (is, inl refused)))) = none_at_all events (insn.CallHelper n) refused.2
-  helper_counts s n events progress new (inr (inr (inl (is, inr row)))) = single (insn.CallHelper n) events _ (atomic_uncounted q.kind (slice_index old.registers 1) Word CompareExchange 1 0 row.1.0 q.map) row.1.1
+  helper_counts s n events progress new (inr (inr (inl (is, inr row)))) = single (insn.CallHelper n) events _
+      (atomic_uncounted q.kind (slice_index old.registers 1) Word CompareExchange 1 0 row.1.0 q.map) row.1.1
   helper_counts s n events progress new (inr (inr (inr (is, inl refused)))) = none_at_all events (insn.CallHelper n) refused.2
-  helper_counts s n events progress new (inr (inr (inr (is, inr row)))) = single (insn.CallHelper n) events _ (atomic_uncounted q.kind (slice_index old.registers 1) Word Exchange 0 0 row.1.0 q.map) row.1.1
+  helper_counts s n events progress new (inr (inr (inr (is, inr row)))) = single (insn.CallHelper n) events _
+      (atomic_uncounted q.kind (slice_index old.registers 1) Word Exchange 0 0 row.1.0 q.map) row.1.1
 
   -- a step has at most the counted events of its instruction's weight
-  pub step_counts : (s : Shape) (i : Insn) (events : List Event) (progress : Progress) (new : Cpu) → Executes s i old events progress new → how_many q events ≤ weight q p i
+  pub step_counts : (s : Shape) (i : Insn) (events : List Event) (progress : Progress) (new : Cpu) → Executes s i old events progress new →
+      how_many q events ≤ weight q p i
   step_counts s i events progress new (inl row) = none_at_all events i row.1
   step_counts s i events progress new (inr (inl (n, e, call))) =
       subst (λ (j : Insn). how_many q events ≤ weight q p j) (sym e) (helper_counts s n events progress new call)

@@ -6,7 +6,8 @@ use Rattle.bpf_insn.specs.declared.instruction.Insn.TheVariants as insn
 use Rattle.bpf_threads.specs.declared.spot.Spot.{Spot}
 use Rattle.bpf_threads.specs.Chart.{IsAfter, IsSpotThere, FollowsSpots, goes_straight}
 
-pub straight : (spots : List Spot) (p : Spot) (i : Insn) → goes_straight i ≡ true → (known : List (Option ℕ)) → IsAfter p i known → IsSpotThere spots p.next (pos (p.pc + words i)) p.callers.items known → FollowsSpots spots p i
+pub straight : (spots : List Spot) (p : Spot) (i : Insn) → goes_straight i ≡ true → (known : List (Option ℕ)) → IsAfter p i known →
+    IsSpotThere spots p.next (pos (p.pc + words i)) p.callers.items known → FollowsSpots spots p i
 straight spots p (insn.Alu w op d s) e known after there = (known, after, there)
 straight spots p (insn.Negate w d) e known after there = (known, after, there)
 straight spots p (insn.SignExtend x d s) e known after there = (known, after, there)

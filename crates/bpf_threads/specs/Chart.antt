@@ -1,6 +1,7 @@
 -- Charts of a program: the spots where its runs may be, and what registers hold there, whatever a
 -- store answers.
-use Rattle.std.specs.Prelude.{◌≡◌, ◌⊎◌, ℕ, ◌+◌, ◌<◌, ◌≤◌, ℤ, pos, Bool, true, false, List, [], ◌∷◌, ◌++◌, Option, Some, None, IfSome, length, slice_get, slice_set, slice_index}
+use Rattle.std.specs.Prelude.{◌≡◌, ◌⊎◌, ℕ, ◌+◌, ◌<◌, ◌≤◌, ℤ, pos, Bool, true, false, List, [], ◌∷◌, ◌++◌, Option, Some, None, IfSome}
+use Rattle.std.specs.Prelude.{length, slice_get, slice_set, slice_index}
 use Rattle.std.specs.Int.{w64, cast_unsigned}
 use Rattle.bpf_insn.specs.Register.{register_number}
 use Rattle.bpf_insn.specs.Table.{words}

@@ -1,5 +1,6 @@
 -- Jobs that have ended, one by one.
-use Rattle.std.proofs.Common.{◌≡◌, ℕ, zero, suc, ◌+◌, ◌<◌, List, [], ◌∷◌, ◌++◌, length, map, get_or, Option, Some, refl, sym, ap, subst, ◌∙◌, append_assoc, arith}
+use Rattle.std.proofs.Common.{◌≡◌, ℕ, zero, suc, ◌+◌, ◌<◌, List, [], ◌∷◌, ◌++◌, length, map, get_or, Option, Some, refl, sym, ap, subst}
+use Rattle.std.proofs.Common.{◌∙◌, append_assoc, arith}
 use Rattle.std.proofs.lemmas.List.{length-map}
 use Rattle.std.specs.Prelude.{Bool, ◌||◌, option_and_then, slice_get}
 use Rattle.bpf_shared.specs.Store.{Plain}
@@ -43,7 +44,8 @@ waits (x ∷ xs) zero job a = let same : x ≡ job = cc in ap (λ (y : Job). Som
 waits (x ∷ xs) (suc j) job a = waits xs j job a
 
 -- the lines of one job more
-pub one_line_more : (jobs : List Job) (ends : List Outcome) (j : ℕ) (job : Job) (end : Outcome) (text new : List ℕ) → j < length jobs → length ends ≡ length jobs
+pub one_line_more : (jobs : List Job) (ends : List Outcome) (j : ℕ) (job : Job) (end : Outcome) (text new : List ℕ) → j < length jobs →
+    length ends ≡ length jobs
     → text ≡ job_lines j (as_ended (map waiting jobs) ends) → new ≡ text ++ job_line j (get_or jobs j job).cpu (get_or ends j end)
     → new ≡ job_lines (j + 1) (as_ended (map waiting jobs) ends)
 one_line_more jobs ends j job end text new inside sizes so_far more =

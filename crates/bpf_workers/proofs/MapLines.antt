@@ -1,5 +1,6 @@
 -- The lines of maps' numbers, one by one.
-use Rattle.std.proofs.Common.{◌≡◌, ℕ, suc, ◌+◌, ◌<◌, ◌≤◌, List, [], ◌++◌, Some, None, length, map, get_or, sym, ap, subst, ◌∙◌, append_assoc, arith, string_bytes, String, Global}
+use Rattle.std.proofs.Common.{◌≡◌, ℕ, suc, ◌+◌, ◌<◌, ◌≤◌, List, [], ◌++◌, Some, None, length, map, get_or, sym, ap, subst, ◌∙◌}
+use Rattle.std.proofs.Common.{append_assoc, arith, string_bytes, String, Global}
 use Rattle.std.specs.Prelude.{slice_index_or}
 use Rattle.std.proofs.lemmas.List.{append-nil, get_or-map}
 use Rattle.hop_words.specs.Closing.{Ending}

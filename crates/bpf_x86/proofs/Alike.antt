@@ -100,7 +100,8 @@ module _ (but : ℕ → Type 0) (p : Plain) (g : ℕ → Value) (k : ℕ → ℕ
     | inr n ↦ put-other k c d (put (k c) v true) n ∙ others d ne ∙ sym (put-other p.held c d (put (p.held c) v true) n)
   ]
 
-  looked_like : (c : ℕ) → (but c → ⊥) → (o : Option ℕ) → IsLike but (after_lookup here c o) (after_lookup p c o) × HasValues here p (after_lookup here c o) (after_lookup p c o)
+  looked_like : (c : ℕ) → (but c → ⊥) → (o : Option ℕ) → IsLike but (after_lookup here c o) (after_lookup p c o) × HasValues here p
+      (after_lookup here c o) (after_lookup p c o)
   looked_like c ne None = (like_here, inl (refl, refl, refl))
   looked_like c ne (Some v) = (
     record { same = refl; spans = spans; fewer = one_more c v (others c ne); others = more_others c v (others c ne) },
@@ -159,7 +160,8 @@ module _ (but : ℕ → Type 0) (p : Plain) (g : ℕ → Value) (k : ℕ → ℕ
   }
 
   -- done, at the lowest free element
-  update_done : (c m flags : ℕ) (key bytes : List ℕ) (t : Plain) → PlainlyAllowed p c (Update m key bytes flags Done) t → Follows but here p c (Update m key bytes flags Done) t
+  update_done : (c m flags : ℕ) (key bytes : List ℕ) (t : Plain) → PlainlyAllowed p c (Update m key bytes flags Done) t → Follows but here p
+      c (Update m key bytes flags Done) t
   update_done c m flags key bytes t a =
       let u = a.0.1 in
       let h = a.1.0 in
@@ -177,23 +179,28 @@ module _ (but : ℕ → Type 0) (p : Plain) (g : ℕ → Value) (k : ℕ → ℕ
         values = inr (x, refl, refl, refl, refl);
       })
 
-  refused : (c m flags : ℕ) (key bytes : List ℕ) (answer : MapAnswer) (t : Plain) → t ≡ p → PlainlyAllowed here c (Update m key bytes flags answer) here → Follows but here p c (Update m key bytes flags answer) t
+  refused : (c m flags : ℕ) (key bytes : List ℕ) (answer : MapAnswer) (t : Plain) → t ≡ p → PlainlyAllowed here c
+      (Update m key bytes flags answer) here → Follows but here p c (Update m key bytes flags answer) t
   refused c m flags key bytes answer t e a =
-      subst (λ (z : Plain). Follows but here p c (Update m key bytes flags answer) z) (sym e) (record { next = here; allowed = a; like = like_here; values = inl (refl, refl, refl) })
+      subst (λ (z : Plain). Follows but here p c (Update m key bytes flags answer) z) (sym e)
+      (record { next = here; allowed = a; like = like_here; values = inl (refl, refl, refl) })
 
-  update_follows : (c m flags : ℕ) (key bytes : List ℕ) (answer : MapAnswer) (t : Plain) → PlainlyAllowed p c (Update m key bytes flags answer) t → Follows but here p c (Update m key bytes flags answer) t
+  update_follows : (c m flags : ℕ) (key bytes : List ℕ) (answer : MapAnswer) (t : Plain) → PlainlyAllowed p c
+      (Update m key bytes flags answer) t → Follows but here p c (Update m key bytes flags answer) t
   update_follows c m flags key bytes Done t a = update_done c m flags key bytes t a
   update_follows c m flags key bytes Busy t a = absurd a.1
   update_follows c m flags key bytes NoMemory t a =
       let u = a.0.1 in
       refused c m flags key bytes NoMemory t u.4.1 ((a.0.0, (u.0, u.1, u.2, u.3, (u.4.0, refl))), (a.1.0, a.1.1, λ i less. taken_here m i a.1.0 (a.1.2 i less)))
-  update_follows c m flags key bytes Invalid t a = let u = a.0.1 in refused c m flags key bytes Invalid t u.4.1 ((a.0.0, (u.0, u.1, u.2, u.3, (u.4.0, refl))), tt)
+  update_follows c m flags key bytes Invalid t a =
+      let u = a.0.1 in refused c m flags key bytes Invalid t u.4.1 ((a.0.0, (u.0, u.1, u.2, u.3, (u.4.0, refl))), tt)
   update_follows c m flags key bytes Exists t a = let u = a.0.1 in refused c m flags key bytes Exists t u.4.1 ((a.0.0, (u.0, u.1, u.2, u.3, (u.4.0, refl))), tt)
   update_follows c m flags key bytes Absent t a = let u = a.0.1 in refused c m flags key bytes Absent t u.4.1 ((a.0.0, (u.0, u.1, u.2, u.3, (u.4.0, refl))), tt)
   update_follows c m flags key bytes Full t a = let u = a.0.1 in refused c m flags key bytes Full t u.4.1 ((a.0.0, (u.0, u.1, u.2, u.3, (u.4.0, refl))), tt)
 
   -- ---- deletions
-  deletes : (c m : ℕ) (key : List ℕ) (answer : MapAnswer) (t : Plain) → PlainlyAllowed p c (Delete m key answer) t → Follows but here p c (Delete m key answer) t
+  deletes : (c m : ℕ) (key : List ℕ) (answer : MapAnswer) (t : Plain) → PlainlyAllowed p c (Delete m key answer) t → Follows but here p c
+      (Delete m key answer) t
   deletes c m key Done t a =
       subst (λ (z : Plain). Follows but here p c (Delete m key Done) z) (sym a.0.1.1.1) (record {
         next = after_delete here m key;
@@ -208,7 +215,8 @@ module _ (but : ℕ → Type 0) (p : Plain) (g : ℕ → Value) (k : ℕ → ℕ
       })
   deletes c m key Busy t a = absurd a.1
   deletes c m key Absent t a =
-      subst (λ (z : Plain). Follows but here p c (Delete m key Absent) z) (sym a.0.1.1.1) (record { next = here; allowed = ((a.0.0, (a.0.1.0, (a.0.1.1.0, refl))), tt); like = like_here; values = inl (refl, refl, refl) })
+      subst (λ (z : Plain). Follows but here p c (Delete m key Absent) z) (sym a.0.1.1.1)
+      (record { next = here; allowed = ((a.0.0, (a.0.1.0, (a.0.1.1.0, refl))), tt); like = like_here; values = inl (refl, refl, refl) })
   deletes c m key Invalid t a = absurd a.0.1.1
   deletes c m key Exists t a = absurd a.0.1.1
   deletes c m key Full t a = absurd a.0.1.1
@@ -223,12 +231,14 @@ module _ (but : ℕ → Type 0) (p : Plain) (g : ℕ → Value) (k : ℕ → ℕ
   follow_here c (Update m key bytes flags answer) t ne it a = update_follows c m flags key bytes answer t a
   follow_here c (Delete m key answer) t ne it a = deletes c m key answer t a
   follow_here c (Keys m ks) t ne it a =
-      subst (Follows but here p c (Keys m ks)) (sym a.0.3) (record { next = here; allowed = ((a.0.0, a.0.1, a.0.2, refl), tt); like = like_here; values = inl (refl, refl, refl) })
+      subst (Follows but here p c (Keys m ks)) (sym a.0.3) (record
+      { next = here; allowed = ((a.0.0, a.0.1, a.0.2, refl), tt); like = like_here; values = inl (refl, refl, refl) })
   follow_here c (Load a size found) t ne it h = absurd cc
   follow_here c (Store a size x) t ne it h = absurd cc
   follow_here c (Atomic a size op operand expected found) t ne it h = absurd cc
 
-pub follow : (but : ℕ → Type 0) (s p t : Plain) (c : ℕ) (e : Event) → (but c → ⊥) → is_access e ≡ false → IsLike but s p → PlainlyAllowed p c e t → Follows but s p c e t
+pub follow : (but : ℕ → Type 0) (s p t : Plain) (c : ℕ) (e : Event) → (but c → ⊥) → is_access e ≡ false → IsLike but s p → PlainlyAllowed p
+    c e t → Follows but s p c e t
 follow but s p t c e ne it like a =
     subst (λ (z : Plain). Follows but z p c e t) (sym like.same) (follow_here but p s.value s.held like.spans like.fewer like.others c e t ne it a)
 

@@ -52,7 +52,8 @@ writes_like but l s v a n x like = record {
   others = like.others;
 }
 
-module _ (d : ℕ) (lacking : List Event) (l s : Plain) (so_l : IsSoundStore l) (so_s : IsSoundStore s) (behind : IsBehind d lacking l s) (c : ℕ) (ne : c ≢ d) where
+module _ (d : ℕ) (lacking : List Event) (l s : Plain) (so_l : IsSoundStore l) (so_s : IsSoundStore s) (behind : IsBehind d lacking l s)
+    (c : ℕ) (ne : c ≢ d) where
   reaches_l : (v a n : ℕ) → Reaches s c v a n → Reaches l c v a n
   reaches_l v a n r = record {
     holds = from r.holds;
@@ -93,7 +94,8 @@ module _ (d : ℕ) (lacking : List Event) (l s : Plain) (so_l : IsSoundStore l) 
         ];
   }
     where
-      here : (v i n a x : ℕ) → Reaches s c v a n → (reached s d v ≡ true → changes_any lacking (address s v i) ≡ false) → at (after_write l v a n x) v i ≡ at (after_write s v a n x) v i
+      here : (v i n a x : ℕ) → Reaches s c v a n → (reached s d v ≡ true → changes_any lacking (address s v i) ≡ false) → at
+          (after_write l v a n x) v i ≡ at (after_write s v a n x) v i
       here v i n a x r old =
           write_here l c v a n so_l (reaches_l v a n r) x i
           ∙ ap (λ (q : ℕ). written a n x q (at l v i)) (address_l v i)
@@ -103,10 +105,18 @@ module _ (d : ℕ) (lacking : List Event) (l s : Plain) (so_l : IsSoundStore l) 
   -- what isn't an access
   quiet_l : (e : Event) (t : Plain) → is_access e ≡ false → PlainlyAllowed s c e t → (next : Plain) × PlainlyAllowed l c e next × IsBehind d lacking next t
   quiet_l e t it a =
-      let f = follow (is_it d) l s t c e ne it behind.like a in
-      (f.next, f.allowed, record { like = f.like; bytes = λ v i clean. from f.next t f.values v i (sym (reached_same t s d v (event_shape s t c e a.0) (ap (λ (g : ℕ → Bool). g v) (held_others s t c d e (λ q. ne (sym q)) a)))) clean })
+      let f = follow (is_it d) l s t c e ne it behind.like a in (
+        f.next,
+        f.allowed,
+        record {
+          like = f.like;
+          bytes = λ v i clean. from f.next t f.values v i
+              (sym (reached_same t s d v (event_shape s t c e a.0) (ap (λ (g : ℕ → Bool). g v) (held_others s t c d e (λ q. ne (sym q)) a)))) clean;
+        },
+      )
     where
-      from : (next t : Plain) → HasValues l s next t → (v i : ℕ) → reached s d v ≡ reached t d v → (reached t d v ≡ true → changes_any lacking (address t v i) ≡ false) → at next v i ≡ at t v i
+      from : (next t : Plain) → HasValues l s next t → (v i : ℕ) → reached s d v ≡ reached t d v →
+          (reached t d v ≡ true → changes_any lacking (address t v i) ≡ false) → at next v i ≡ at t v i
       from next t (inl q) v i held clean =
           let here : next.value v ≡ l.value v = ap (λ (g : ℕ → Value). g v) q.0 in
           let there : t.value v ≡ s.value v = ap (λ (g : ℕ → Value). g v) q.1 in
@@ -116,7 +126,8 @@ module _ (d : ℕ) (lacking : List Event) (l s : Plain) (so_l : IsSoundStore l) 
       from next t (inr q) v i held clean =
           let made : l.made ≡ s.made = ap (λ (z : Plain). z.made) behind.like.same in
           elim (equal_or_not v s.made) [
-            | inl e ↦ ap (λ (y : Value). slice_get y.bytes i) (ap (λ (g : ℕ → Value). g v) q.1 ∙ put-same l.value l.made v q.0 (e ∙ sym made) ∙ sym (ap (λ (g : ℕ → Value). g v) q.2 ∙ put-same s.value s.made v q.0 e))
+            | inl e ↦ ap (λ (y : Value). slice_get y.bytes i) (ap (λ (g : ℕ → Value). g v) q.1 ∙ put-same l.value l.made v q.0
+                (e ∙ sym made) ∙ sym (ap (λ (g : ℕ → Value). g v) q.2 ∙ put-same s.value s.made v q.0 e))
             | inr far ↦
                 let here : next.value v ≡ l.value v = ap (λ (g : ℕ → Value). g v) q.1 ∙ put-other l.value l.made v q.0 (λ e. far (e ∙ made)) in
                 let there : t.value v ≡ s.value v = ap (λ (g : ℕ → Value). g v) q.2 ∙ put-other s.value s.made v q.0 far in
@@ -125,7 +136,8 @@ module _ (d : ℕ) (lacking : List Event) (l s : Plain) (so_l : IsSoundStore l) 
                 ∙ ap (λ (y : Value). slice_get y.bytes i) (sym there)
           ]
 
-  pub behind_event : (e : Event) (t : Plain) → Misses lacking e → PlainlyAllowed s c e t → (next : Plain) × PlainlyAllowed l c e next × IsBehind d lacking next t
+  pub behind_event : (e : Event) (t : Plain) → Misses lacking e → PlainlyAllowed s c e t → (next : Plain) × PlainlyAllowed l c e next ×
+      IsBehind d lacking next t
   behind_event (Load a size found) t misses allowed =
       let v : ℕ = allowed.0.1.0 in
       let r : Reaches s c v a (bytes_in size) = allowed.0.1.1 in (
@@ -151,17 +163,20 @@ module _ (d : ℕ) (lacking : List Event) (l s : Plain) (so_l : IsSoundStore l) 
   behind_event e t misses allowed = quiet_l e t refl allowed
 
 -- events in order
-pub behind_events : (d c : ℕ) → c ≢ d → (lacking es : List Event) (l s t : Plain) → IsSoundStore l → IsSoundStore s → IsBehind d lacking l s → AllMiss lacking es → PlainlyLegal s (map (entry c) es) t
+pub behind_events : (d c : ℕ) → c ≢ d → (lacking es : List Event) (l s t : Plain) → IsSoundStore l → IsSoundStore s → IsBehind d lacking l s
+    → AllMiss lacking es → PlainlyLegal s (map (entry c) es) t
     → (next : Plain) × PlainlyLegal l (map (entry c) es) next × IsBehind d lacking next t
 behind_events d c ne lacking [] l s t so_l so_s behind miss legal = (l, refl, subst (IsBehind d lacking l) legal behind)
 behind_events d c ne lacking (e ∷ es) l s t so_l so_s behind miss legal =
     let first = behind_event d lacking l s so_l so_s behind c ne e legal.0 miss.0 legal.1 in
-    let rest = behind_events d c ne lacking es first.0 legal.0 t (allowed_sound l first.0 c e so_l first.1.0) (allowed_sound s legal.0 c e so_s legal.1.0) first.2 miss.1 legal.2 in
+    let rest = behind_events d c ne lacking es first.0 legal.0 t (allowed_sound l first.0 c e so_l first.1.0)
+    (allowed_sound s legal.0 c e so_s legal.1.0) first.2 miss.1 legal.2 in
     (rest.0, (first.0, first.1, rest.1), rest.2)
 
 -- ---- the CPU's own events
 -- a store of its own is one more that the first lacks
-pub own_store_behind : (d : ℕ) (lacking : List Event) (l s t : Plain) (a : ℕ) (size : Size) (x : ℕ) → IsSoundStore s → IsBehind d lacking l s → PlainlyAllowed s d (Store a size x) t → IsBehind d (lacking ++ Store a size x ∷ []) l t
+pub own_store_behind : (d : ℕ) (lacking : List Event) (l s t : Plain) (a : ℕ) (size : Size) (x : ℕ) → IsSoundStore s → IsBehind d lacking l
+    s → PlainlyAllowed s d (Store a size x) t → IsBehind d (lacking ++ Store a size x ∷ []) l t
 own_store_behind d lacking l s t a size x so behind allowed = subst (IsBehind d (lacking ++ Store a size x ∷ []) l) (sym allowed.0.1.2) (record {
   like = record {
     same = behind.like.same;
@@ -170,8 +185,11 @@ own_store_behind d lacking l s t a size x so behind allowed = subst (IsBehind d 
     others = behind.like.others;
   };
   bytes = λ w i clean. elim (true_or_false (reached s d w)) [
-    | inl h ↦ missed_both w i h (last_missed changes lacking (Store a size x) (address s w i) (ap (λ (q : Span). changes_any (lacking ++ Store a size x ∷ []) (q.at + i)) (sym (span-after_write s v a n x w)) ∙ clean h))
-    | inr h ↦ behind.bytes w i (λ k. let no : true ≡ false = sym k ∙ h in cc) ∙ sym (write_there s d v a n so r x w i (λ e. let has : reached s d w ≡ true = ap (reached s d) e ∙ (reaches_at s d v a n r).holds in let no : true ≡ false = sym has ∙ h in cc))
+    | inl h ↦ missed_both w i h (last_missed changes lacking (Store a size x) (address s w i)
+        (ap (λ (q : Span). changes_any (lacking ++ Store a size x ∷ []) (q.at + i)) (sym (span-after_write s v a n x w)) ∙ clean h))
+    | inr h ↦ behind.bytes w i (λ k. let no : true ≡ false = sym k ∙ h in cc) ∙ sym
+        (write_there s d v a n so r x w i
+        (λ e. let has : reached s d w ≡ true = ap (reached s d) e ∙ (reaches_at s d v a n r).holds in let no : true ≡ false = sym has ∙ h in cc))
   ];
 })
   where
@@ -184,7 +202,8 @@ own_store_behind d lacking l s t a size x so behind allowed = subst (IsBehind d 
     r : Reaches s d v a n
     r = allowed.0.1.1.reaches
 
-    missed_both : (w i : ℕ) → reached s d w ≡ true → (changes_any lacking (address s w i) ≡ false) × (within a (bytes_in size) (address s w i) ≡ false) → at l w i ≡ at (after_write s v a n x) w i
+    missed_both : (w i : ℕ) → reached s d w ≡ true → (changes_any lacking (address s w i) ≡ false) ×
+        (within a (bytes_in size) (address s w i) ≡ false) → at l w i ≡ at (after_write s v a n x) w i
     missed_both w i h both = behind.bytes w i (λ k. both.0) ∙ sym (elim (equal_or_not w v) [
       | inl e ↦ subst (λ (k : ℕ). at (after_write s v a n x) k i ≡ at s k i) (sym e)
           (write_here s d v a n so r x i ∙ not_written a n x (address s v i) (at s v i) (subst (λ (k : ℕ). within a n (address s k i) ≡ false) e both.1))
@@ -192,20 +211,25 @@ own_store_behind d lacking l s t a size x so behind allowed = subst (IsBehind d 
     ])
 
 -- it may lack more
-pub more_behind : (d : ℕ) (lacking more : List Event) (l s : Plain) → ((x : ℕ) → changes_any lacking x ≡ true → changes_any more x ≡ true) → IsBehind d lacking l s → IsBehind d more l s
+pub more_behind : (d : ℕ) (lacking more : List Event) (l s : Plain) → ((x : ℕ) → changes_any lacking x ≡ true → changes_any more x ≡ true) →
+    IsBehind d lacking l s → IsBehind d more l s
 more_behind d lacking more l s all behind = record {
   like = behind.like;
-  bytes = λ v i clean. behind.bytes v i (λ h. false_from_ne_true (changes_any lacking (address s v i)) (λ hit. let no : true ≡ false = sym (all (address s v i) hit) ∙ clean h in cc));
+  bytes = λ v i clean. behind.bytes v i (λ h. false_from_ne_true (changes_any lacking (address s v i))
+      (λ hit. let no : true ≡ false = sym (all (address s v i) hit) ∙ clean h in cc));
 }
 
 -- what neither stores nor drains
-pub own_load_behind : (d : ℕ) (lacking : List Event) (l s t : Plain) (a : ℕ) (size : Size) (found : ℕ) → IsBehind d lacking l s → PlainlyAllowed s d (Load a size found) t → IsBehind d lacking l t
+pub own_load_behind : (d : ℕ) (lacking : List Event) (l s t : Plain) (a : ℕ) (size : Size) (found : ℕ) → IsBehind d lacking l s →
+    PlainlyAllowed s d (Load a size found) t → IsBehind d lacking l t
 own_load_behind d lacking l s t a size found behind allowed = subst (IsBehind d lacking l) (sym allowed.0.1.3) behind
 
-pub own_refused_behind : (d : ℕ) (lacking : List Event) (l s t : Plain) (m flags : ℕ) (key bytes : List ℕ) → IsBehind d lacking l s → PlainlyAllowed s d (Update m key bytes flags Invalid) t → IsBehind d lacking l t
+pub own_refused_behind : (d : ℕ) (lacking : List Event) (l s t : Plain) (m flags : ℕ) (key bytes : List ℕ) → IsBehind d lacking l s →
+    PlainlyAllowed s d (Update m key bytes flags Invalid) t → IsBehind d lacking l t
 own_refused_behind d lacking l s t m flags key bytes behind allowed = subst (IsBehind d lacking l) (sym allowed.0.1.4.1) behind
 
-pub own_lookup_behind : (d : ℕ) (lacking : List Event) (l s t : Plain) (m : ℕ) (key : List ℕ) (found : Option Span) → IsBehind d lacking l s → PlainlyAllowed s d (Lookup m key found) t → IsBehind d lacking l t
+pub own_lookup_behind : (d : ℕ) (lacking : List Event) (l s t : Plain) (m : ℕ) (key : List ℕ) (found : Option Span) → IsBehind d lacking l s
+    → PlainlyAllowed s d (Lookup m key found) t → IsBehind d lacking l t
 own_lookup_behind d lacking l s t m key found behind allowed = subst (IsBehind d lacking l) (sym allowed.0.1.2) (looked (get (s.maps m) key))
   where
     looked : (o : Option ℕ) → IsBehind d lacking l (after_lookup s d o)

@@ -62,8 +62,16 @@ module _ (s p : Plain) (like : IsLike nobody s p) where
   reach_here c v a n r = record { holds = same_reached c v ∙ r.holds; covers = subst (λ (q : Span). Covers q a n) (sym (like.spans v)) r.covers }
 
 -- ---- waiting stores stay waiting where the CPU reaches what it did
-pub still_waits : (s t : Plain) (c : ℕ) (e : Event) → ((v : ℕ) → reached s c v ≡ true → (reached t c v ≡ true) × ((t.value v).span ≡ (s.value v).span)) → IsWaiting s c e → IsWaiting t c e
-still_waits s t c (Store a size x) stays (v, r) = (v, record { holds = (stays v r.holds).0; covers = subst (λ (q : Span). Covers q a (bytes_in size)) (sym (stays v r.holds).1) r.covers })
+pub still_waits : (s t : Plain) (c : ℕ) (e : Event) → ((v : ℕ) → reached s c v ≡ true → (reached t c v ≡ true) ×
+    ((t.value v).span ≡ (s.value v).span)) → IsWaiting s c e → IsWaiting t c e
+still_waits s t c (Store a size x) stays (v, r) = (
+  v,
+  record {
+    holds = (stays v r.holds).0;
+    covers = subst
+        (λ (q : Span). Covers q a (bytes_in size)) (sym (stays v r.holds).1) r.covers;
+  },
+)
 still_waits s t c Begin stays h = absurd h
 still_waits s t c End stays h = absurd h
 still_waits s t c (Lookup m key found) stays h = absurd h
@@ -73,7 +81,8 @@ still_waits s t c (Keys m ks) stays h = absurd h
 still_waits s t c (Load a size found) stays h = absurd h
 still_waits s t c (Atomic a size op operand expected found) stays h = absurd h
 
-pub still_waiting : (s t : Plain) (c : ℕ) (es : List Event) → ((v : ℕ) → reached s c v ≡ true → (reached t c v ≡ true) × ((t.value v).span ≡ (s.value v).span)) → AreWaiting s c es → AreWaiting t c es
+pub still_waiting : (s t : Plain) (c : ℕ) (es : List Event) → ((v : ℕ) → reached s c v ≡ true → (reached t c v ≡ true) ×
+    ((t.value v).span ≡ (s.value v).span)) → AreWaiting s c es → AreWaiting t c es
 still_waiting s t c [] stays h = tt
 still_waiting s t c (e ∷ es) stays h = (still_waits s t c e stays h.0, still_waiting s t c es stays h.1)
 
@@ -82,13 +91,15 @@ waiting-last s c [] e h k = (k, tt)
 waiting-last s c (f ∷ fs) e h k = (h.0, waiting-last s c fs e h.1 k)
 
 -- stores that wait don't touch a live value that their CPU doesn't reach
-pub unreached_missed : (s : Plain) (c : ℕ) (es : List Event) → IsSoundStore s → AreWaiting s c es → (v i : ℕ) → IsLive s v → i < (s.value v).span.size → reached s c v ≡ false → hits_any es (address s v i) ≡ false
+pub unreached_missed : (s : Plain) (c : ℕ) (es : List Event) → IsSoundStore s → AreWaiting s c es → (v i : ℕ) → IsLive s v → i <
+    (s.value v).span.size → reached s c v ≡ false → hits_any es (address s v i) ≡ false
 unreached_missed s c [] so h v i live inside none = refl
 unreached_missed s c (e ∷ es) so h v i live inside none =
     or_from (hits e (address s v i)) (hits_any es (address s v i)) (one e h.0) (unreached_missed s c es so h.1 v i live inside none)
   where
     one : (e : Event) → IsWaiting s c e → hits e (address s v i) ≡ false
-    one (Store a size x) (w, r) = apart_missed s c w a (bytes_in size) so (at_reaches s c w a (bytes_in size) r) v i live (λ e. let has : reached s c v ≡ true = ap (reached s c) e ∙ r.holds in cc) inside
+    one (Store a size x) (w, r) = apart_missed s c w a (bytes_in size) so (at_reaches s c w a (bytes_in size) r) v i live
+        (λ e. let has : reached s c v ≡ true = ap (reached s c) e ∙ r.holds in cc) inside
     one Begin h = absurd h
     one End h = absurd h
     one (Lookup m key found) h = absurd h
@@ -100,7 +111,8 @@ unreached_missed s c (e ∷ es) so h v i live inside none =
 
 -- ---- a flush
 module _ (b : Buffered) (s : Plain) (ahead : IsAhead b s) (c : ℕ) (a : ℕ) (size : Size) (x : ℕ) (rest : List Event) (is : b.buffers c ≡ Store a size x ∷ rest)
-    (buffers : ℕ → List Event) (here : buffers c ≡ rest) (there : (d : ℕ) → d ≢ c → buffers d ≡ b.buffers d) (v : ℕ) (r : ReachesAt b.memory c v a (bytes_in size)) where
+    (buffers : ℕ → List Event) (here : buffers c ≡ rest) (there : (d : ℕ) → d ≢ c → buffers d ≡ b.buffers d) (v : ℕ)
+    (r : ReachesAt b.memory c v a (bytes_in size)) where
   abbrev n : ℕ
   n = bytes_in size
 
@@ -140,7 +152,8 @@ module _ (b : Buffered) (s : Plain) (ahead : IsAhead b s) (c : ℕ) (a : ℕ) (s
         ∙ ap (λ (k : ℕ). written a n x k (at b.memory w i)) (sym (address_same s b.memory ahead.like w i))
 
     byte_same : reached s c w ≡ false → at after w i ≡ at b.memory w i
-    byte_same h = write_unreached b.memory c v a n ahead.sound (at_reaches b.memory c v a n r) (reached b.memory c) x w i r.holds (sym (same_reached s b.memory ahead.like c w) ∙ h)
+    byte_same h = write_unreached b.memory c v a n ahead.sound (at_reaches b.memory c v a n r) (reached b.memory c) x w i r.holds
+        (sym (same_reached s b.memory ahead.like c w) ∙ h)
 
     -- its own CPU
     clean_own : IsClean buffers s c w i → IsClean b.buffers s c w i
@@ -174,7 +187,8 @@ module _ (b : Buffered) (s : Plain) (ahead : IsAhead b s) (c : ℕ) (a : ℕ) (s
       clean_before missed k other h = elim (equal_or_not k c) [
         | inl e ↦ (let held : reached s c w ≡ true = ap (λ (j : ℕ). reached s j w) (sym e) ∙ h in
             ap (λ (j : ℕ). hits_any (b.buffers j) b_at) e ∙ ap (λ (es : List Event). hits_any es b_at) is
-            ∙ or_from (within a n b_at) (hits_any rest b_at) (missed held) (sym (ap (λ (es : List Event). hits_any es b_at) here) ∙ clean c (λ q. ne (sym q)) held))
+            ∙ or_from (within a n b_at) (hits_any rest b_at) (missed held)
+            (sym (ap (λ (es : List Event). hits_any es b_at) here) ∙ clean c (λ q. ne (sym q)) held))
         | inr far ↦ sym (ap (λ (es : List Event). hits_any es b_at) (there k far)) ∙ clean k other h
       ]
 
@@ -187,7 +201,8 @@ module _ (b : Buffered) (s : Plain) (ahead : IsAhead b s) (c : ℕ) (a : ℕ) (s
       other_seen : reached s d w ≡ true → at s w i ≡ overlaid (buffers d) b_at (at after w i)
       other_seen h = elim (true_or_false (reached s c w)) [
         | inl hc ↦ elim (true_or_false (within a n b_at)) [
-          | inl hit ↦ wrote hc hit ∙ sym (all_missed (buffers d) b_at (at after w i) (ap (λ (es : List Event). hits_any es b_at) (there d ne) ∙ not_too d ne hit))
+          | inl hit ↦ wrote hc hit ∙ sym (all_missed (buffers d) b_at (at after w i)
+              (ap (λ (es : List Event). hits_any es b_at) (there d ne) ∙ not_too d ne hit))
           | inr miss ↦ other_missed (λ q. miss) h
         ]
         | inr hc ↦ other_missed (λ q. let no : true ≡ false = sym q ∙ hc in cc) h

@@ -29,12 +29,15 @@ abbrev pub IsClear : (ℕ → List Event) → ℕ → Event → Type 0
 IsClear buffers c e = (d x : ℕ) → d ≢ c → hits e x ≡ true → hits_any (buffers d) x ≡ true → ⊥
 
 -- ---- flushes
-pub flush_of : (b : Buffered) (s : Plain) (c : ℕ) (oldest : Event) (rest : List Event) (q : Plain) (buffers : ℕ → List Event) → IsAhead b s → b.buffers c ≡ oldest ∷ rest → PlainlyAllowed b.memory c oldest q
+pub flush_of : (b : Buffered) (s : Plain) (c : ℕ) (oldest : Event) (rest : List Event) (q : Plain) (buffers : ℕ → List Event) → IsAhead b s
+    → b.buffers c ≡ oldest ∷ rest → PlainlyAllowed b.memory c oldest q
     → buffers c ≡ rest → ((d : ℕ) → d ≢ c → buffers d ≡ b.buffers d) → IsAhead (record { memory = q; buffers = buffers }) s
 flush_of b s c (Store a size x) rest q buffers ahead is allowed here there =
-    let sound : IsSoundStore (after_write b.memory allowed.0.1.0 a (bytes_in size) x) = after_write_sound b.memory c allowed.0.1.0 a (bytes_in size) x ahead.sound allowed.0.1.1 in
+    let sound : IsSoundStore (after_write b.memory allowed.0.1.0 a (bytes_in size) x) = after_write_sound b.memory c allowed.0.1.0 a
+    (bytes_in size) x ahead.sound allowed.0.1.1 in
     subst (λ (z : Plain). IsAhead (record { memory = z; buffers = buffers }) s) (sym allowed.0.1.2)
-    (flush_ahead b s ahead c a size x rest is buffers here there allowed.0.1.0 (reaches_at b.memory c allowed.0.1.0 a (bytes_in size) allowed.0.1.1.reaches) sound)
+    (flush_ahead b s ahead c a size x rest is buffers here there allowed.0.1.0
+    (reaches_at b.memory c allowed.0.1.0 a (bytes_in size) allowed.0.1.1.reaches) sound)
 flush_of b s c e rest q buffers ahead is allowed here there = absurd (subst (AreWaiting s c) is (ahead.waiting c)).0
 
 pub flushes_ahead : (b t : Buffered) (s : Plain) (c : ℕ) → IsAhead b s → Flushes b c t → IsAhead t s
@@ -55,7 +58,8 @@ put_itself f c x e = same_functions f (put f c x) (λ d. elim (equal_or_not d c)
   | inr ne ↦ sym (put-other f c d x ne)
 ])
 
-drain_of : (es : List Event) (b : Buffered) (s m : Plain) (c : ℕ) → IsAhead b s → b.buffers c ≡ es → PlainlyLegal b.memory (map (entry c) es) m → IsAhead (record { memory = m; buffers = put b.buffers c [] }) s
+drain_of : (es : List Event) (b : Buffered) (s m : Plain) (c : ℕ) → IsAhead b s → b.buffers c ≡ es → PlainlyLegal b.memory
+    (map (entry c) es) m → IsAhead (record { memory = m; buffers = put b.buffers c [] }) s
 drain_of [] b s m c ahead is legal =
     subst (λ (z : Plain). IsAhead (record { memory = z; buffers = put b.buffers c [] }) s) legal
     (subst (λ (f : ℕ → List Event). IsAhead (record { memory = b.memory; buffers = f }) s) (put_itself b.buffers c [] is) ahead)
@@ -81,7 +85,8 @@ same_read b s c v a n ahead none r clear =
     let to : a + n ≤ (s.value v).span.at + (s.value v).span.size = r.covers.1 in
     let most : (s.value v).span.at + i < a + n = in_it.1 in
     let inside : i < (s.value v).span.size = omega arith in
-    let clean : IsClean b.buffers s c v i = λ d ne held. false_from_ne_true (hits_any (b.buffers d) (address s v i)) (λ hit. clear d (address s v i) ne h hit) in
+    let clean : IsClean b.buffers s c v i = λ d ne held. false_from_ne_true (hits_any (b.buffers d) (address s v i))
+    (λ hit. clear d (address s v i) ne h hit) in
     ahead.seen c v i inside clean r.holds ∙ ap (λ (es : List Event). overlaid es (address s v i) (at b.memory v i)) none)
 
 -- others' buffers are as they were
@@ -89,7 +94,8 @@ pub clear_drained : (buffers : ℕ → List Event) (c : ℕ) (e : Event) → IsC
 clear_drained buffers c e clear d x ne hit too = clear d x ne hit (sym (ap (λ (es : List Event). hits_any es x) (put-other buffers c d [] ne)) ∙ too)
 
 -- ---- a store
-module _ (b : Buffered) (s : Plain) (ahead : IsAhead b s) (c a : ℕ) (size : Size) (x v : ℕ) (r : ReachesAt s c v a (bytes_in size)) (may : Writable s v) (clear : IsClear b.buffers c (Store a size x)) where
+module _ (b : Buffered) (s : Plain) (ahead : IsAhead b s) (c a : ℕ) (size : Size) (x v : ℕ) (r : ReachesAt s c v a (bytes_in size))
+    (may : Writable s v) (clear : IsClear b.buffers c (Store a size x)) where
   abbrev n : ℕ
   n = bytes_in size
 
@@ -123,7 +129,8 @@ module _ (b : Buffered) (s : Plain) (ahead : IsAhead b s) (c a : ℕ) (size : Si
   }
 
   store_unmade : (w : ℕ) → s.made ≤ w → after.value w ≡ b.memory.value w
-  store_unmade w most = put-other s.value v w _ (λ same. let less : v < s.made = ahead.sound_too.live_made v (reached_is_live s c v r.holds) in absurd (omega arith)) ∙ ahead.unmade w most
+  store_unmade w most = put-other s.value v w _
+      (λ same. let less : v < s.made = ahead.sound_too.live_made v (reached_is_live s c v r.holds) in absurd (omega arith)) ∙ ahead.unmade w most
 
   keeps : (d w : ℕ) → reached s d w ≡ true → (reached after d w ≡ true) × ((after.value w).span ≡ (s.value w).span)
   keeps d w h = (h, spans w)
@@ -134,7 +141,8 @@ module _ (b : Buffered) (s : Plain) (ahead : IsAhead b s) (c a : ℕ) (size : Si
   store_waiting : (d : ℕ) → AreWaiting after d (more d)
   store_waiting d = elim (equal_or_not d c) [
     | inl same ↦ subst (λ (k : ℕ). AreWaiting after k (more k)) (sym same)
-        (subst (AreWaiting after c) (sym more_here) (waiting-last after c (b.buffers c) e (still_waiting s after c (b.buffers c) (keeps c) (ahead.waiting c)) waits_new))
+        (subst (AreWaiting after c) (sym more_here) (waiting-last after c (b.buffers c) e
+        (still_waiting s after c (b.buffers c) (keeps c) (ahead.waiting c)) waits_new))
     | inr ne ↦ subst (AreWaiting after d) (sym (more_there d ne)) (still_waiting s after d (b.buffers d) (keeps d) (ahead.waiting d))
   ]
 

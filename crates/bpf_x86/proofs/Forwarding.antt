@@ -60,11 +60,16 @@ module _ (s : Plain) (c a : ℕ) (size : Size) (x : ℕ) (so : IsSoundStore s) w
   found_at : (v w : ℕ) → MayWrite s c v a n → Reaches (after_write s v a n x) c w a n → number_in (after_write s v a n x) w a n ≡ little_endian (low_bytes n x)
   found_at v w r after_r =
       let after = after_write s v a n x in
-      let there : Reaches after c v a n = record { holds = r.reaches.holds; covers = subst (λ (q : Span). Covers q a n) (sym (span-after_write s v a n x v)) r.reaches.covers } in
+      let there : Reaches after c v a n = record {
+        holds = r.reaches.holds;
+        covers = subst (λ (q : Span). Covers q a n)
+            (sym (span-after_write s v a n x v)) r.reaches.covers;
+      } in
       let same : w ≡ v = one_value_is_reached after c c w v a n (after_write_sound s c v a n x so r) (some_bytes size) after_r there in
       ap (λ (k : ℕ). number_in after k a n) same ∙ (writes_touch_named_bytes s c v a n x so r.reaches).2
 
-  found_after : (m t : Plain) (found : ℕ) → PlainlyAllowed s c (Store a size x) m → PlainlyAllowed m c (Load a size found) t → found ≡ little_endian (low_bytes n x)
+  found_after : (m t : Plain) (found : ℕ) → PlainlyAllowed s c (Store a size x) m → PlainlyAllowed m c (Load a size found) t → found ≡
+      little_endian (low_bytes n x)
   found_after m t found stored loaded =
       let v = stored.0.1.0 in
       let is : m ≡ after_write s v a n x = stored.0.1.2 in
@@ -82,7 +87,8 @@ loads_find_own_stores b m t c a size x found so stored loaded =
     let parts : PlainlyLegal b.memory (map (entry c) (b.buffers c) ++ map (entry c) last) loaded.0 =
     subst (λ (es : List Entry). PlainlyLegal b.memory es loaded.0) (map-append (entry c) (b.buffers c) last) in_order in
     let cut = history_cut PlainlyAllowed b.memory loaded.0 (map (entry c) (b.buffers c)) (map (entry c) last) parts in
-    let here : PlainlyAllowed cut.2.0 c (Load a size found) loaded.0 = subst (λ (z : Plain). PlainlyAllowed z c (Load a size found) loaded.0) (sym cut.2.2) loaded.2 in
+    let here : PlainlyAllowed cut.2.0 c (Load a size found) loaded.0 = subst
+    (λ (z : Plain). PlainlyAllowed z c (Load a size found) loaded.0) (sym cut.2.2) loaded.2 in
     found_after cut.0 c a size x (plainly_sound b.memory cut.0 (map (entry c) (b.buffers c)) so cut.1) cut.2.0 loaded.0 found cut.2.1 here
 
 -- ---- calls where memory is the same, and the CPU's buffer
@@ -112,7 +118,8 @@ module _ (b m : Buffered) (d : ℕ) (memory : m.memory ≡ b.memory) (own : m.bu
         u,
         (called.0, called.1, sees_too called.0 called.2, called.3, refl),
         sym (ap (λ (z : Buffered). z.memory) called.4 ∙ memory),
-        put-same b.buffers d d (more (b.buffers d)) refl ∙ ap more (sym own) ∙ sym (ap (λ (z : Buffered). z.buffers d) called.4 ∙ put-same m.buffers d d (more (m.buffers d)) refl),
+        put-same b.buffers d d (more (b.buffers d)) refl ∙ ap more (sym own) ∙ sym
+            (ap (λ (z : Buffered). z.buffers d) called.4 ∙ put-same m.buffers d d (more (m.buffers d)) refl),
       )
   calls_too (Lookup k key found) t called = (
     record b { memory = called.0 },
@@ -135,7 +142,8 @@ module _ (b m : Buffered) (d : ℕ) (memory : m.memory ≡ b.memory) (own : m.bu
         record (empty b.buffers) { memory = next },
         (empty b.buffers, (s, sees_too s called.1.1, refl), (next, allowed, refl)),
         sym (ap (λ (z : Buffered). z.memory) called.2.2),
-        put-same b.buffers d d [] refl ∙ sym (ap (λ (z : Buffered). z.buffers d) called.2.2 ∙ ap (λ (z : Buffered). z.buffers d) is ∙ put-same m.buffers d d [] refl),
+        put-same b.buffers d d [] refl ∙ sym (ap (λ (z : Buffered). z.buffers d) called.2.2 ∙ ap (λ (z : Buffered). z.buffers d) is ∙
+            put-same m.buffers d d [] refl),
       )
 
 pub others_dont_see_stores : OthersDontSeeStores

@@ -33,15 +33,18 @@ abbrev pub over : World → Plain → (ℕ → List Event) → X86
 over w p buffers = record { world = record w { store = p }; buffers = buffers }
 
 -- the CPU's own buffer after its turn, and its job
-pub data OwnTurn (w : World) (program : Loaded) (buffers after : ℕ → List Event) (s : Plain) (c k : ℕ) (t : Task) (old : Cpu) (left : ℕ) (z : World) : Type 0 where
+pub data OwnTurn (w : World) (program : Loaded) (buffers after : ℕ → List Event) (s : Plain) (c k : ℕ) (t : Task) (old : Cpu) (left : ℕ)
+    (z : World) : Type 0 where
   NothingWaits : after c ≡ [] → OwnTurn w program buffers after s c k t old left z
   AsBefore : after c ≡ buffers c → (next : Plain) (new : Cpu) (rest : ℕ) → z ≡ new_world w next k t (InHand new rest) w.lists
       → ((lacking : List Event) (l : Plain) → IsBehind c lacking l s → IsBehind c lacking l next) → OwnTurn w program buffers after s c k t old left z
   SomeMore : (made : List Event) (n : ℕ) (answer : Progress) (later : Cpu) → left ≡ suc n → Step s.shape program old made answer later → AreNot is_call made
-      → after c ≡ buffers c ++ stores_of made → (next : Plain) (new : Cpu) (rest : ℕ) → z ≡ new_world w next k t (InHand new rest) w.lists → PlainlyLegal s (map (entry c) made) next
+      → after c ≡ buffers c ++ stores_of made → (next : Plain) (new : Cpu) (rest : ℕ) → z ≡ new_world w next k t (InHand new rest) w.lists →
+      PlainlyLegal s (map (entry c) made) next
       → OwnTurn w program buffers after s c k t old left z
 
-pub record Gone (lacks : ℕ → List Event) (w : World) (b : Buffered) (s : Plain) (c k : ℕ) (t : Task) (old : Cpu) (left : ℕ) (answer : Turn) (z : X86) : Type 0 where
+pub record Gone (lacks : ℕ → List Event) (w : World) (b : Buffered) (s : Plain) (c k : ℕ) (t : Task) (old : Cpu) (left : ℕ) (answer : Turn)
+    (z : X86) : Type 0 where
   pub next : World
   pub goes : plain.GoesOn (record w { store = s }) c k t old left answer next
   pub misses : (d : ℕ) → d ≢ c → AdvanceMisses (lacks d) goes.0 c s old left goes.1 goes.2 goes.3 goes.4 goes.6
@@ -51,7 +54,8 @@ pub record Gone (lacks : ℕ → List Event) (w : World) (b : Buffered) (s : Pla
   pub own : OwnTurn w goes.0 b.buffers z.buffers s c k t old left next
 
 -- memory of a machine that is known
-in_memory : (z : X86) (v : World) (p : Plain) (f : ℕ → List Event) (s : Plain) → z.world ≡ record v { store = p } → z.buffers ≡ f → IsAhead (record { memory = p; buffers = f }) s → IsAhead (buffered z) s
+in_memory : (z : X86) (v : World) (p : Plain) (f : ℕ → List Event) (s : Plain) → z.world ≡ record v { store = p } → z.buffers ≡ f → IsAhead
+    (record { memory = p; buffers = f }) s → IsAhead (buffered z) s
 in_memory z v p f s world buffers ahead =
     subst (λ (q : Plain). IsAhead (record { memory = q; buffers = z.buffers }) s) (sym (ap (λ (x : World). x.store) world))
     (subst (λ (g : ℕ → List Event). IsAhead (record { memory = p; buffers = g }) s) (sym buffers) ahead)
@@ -59,9 +63,11 @@ in_memory z v p f s world buffers ahead =
 its_world : (z : X86) (v : World) (p : Plain) → z.world ≡ record v { store = p } → z.world ≡ record v { store = z.world.store }
 its_world z v p world = world ∙ ap (λ (q : Plain). record v { store = q }) (sym (ap (λ (x : World). x.store) world))
 
-module _ (lacks : ℕ → List Event) (w : World) (b : Buffered) (s : Plain) (c k : ℕ) (t : Task) (old : Cpu) (left : ℕ) (answer : Turn) (z : X86) (ahead : IsAhead b s) (cover : CoversBuffers lacks b) where
+module _ (lacks : ℕ → List Event) (w : World) (b : Buffered) (s : Plain) (c k : ℕ) (t : Task) (old : Cpu) (left : ℕ) (answer : Turn)
+    (z : X86) (ahead : IsAhead b s) (cover : CoversBuffers lacks b) where
   go : (program : Loaded) → slice_get w.programs t.program ≡ Some program → JudgeStep lacks program c s old left
-      → (end : Option Outcome) (b1 : Buffered) (new : Cpu) (rest : ℕ) → Advances program c b old left end b1 new rest → Settled (over w b1.memory b1.buffers) c k t new rest end answer z
+      → (end : Option Outcome) (b1 : Buffered) (new : Cpu) (rest : ℕ) → Advances program c b old left end b1 new rest → Settled
+      (over w b1.memory b1.buffers) c k t new rest end answer z
       → Gone lacks w b s c k t old left answer z
   go program loaded judge None b1 new rest advances settled =
       let a = advance_ahead lacks program c b s old left None b1 new rest ahead cover judge advances in
@@ -77,7 +83,8 @@ module _ (lacks : ℕ → List Event) (w : World) (b : Buffered) (s : Plain) (c 
         own = own a.next next refl a.own;
       }
     where
-      own : (p : Plain) (next : World) → next ≡ new_world w p k t (InHand new rest) w.lists → OwnStep program b b1 s p c old left → OwnTurn w program b.buffers z.buffers s c k t old left next
+      own : (p : Plain) (next : World) → next ≡ new_world w p k t (InHand new rest) w.lists → OwnStep program b b1 s p c old left → OwnTurn
+          w program b.buffers z.buffers s c k t old left next
       own p next is (Drained none) = NothingWaits (ap (λ (f : ℕ → List Event). f c) settled.1 ∙ none)
       own p next is (Kept same stays) = AsBefore (ap (λ (f : ℕ → List Event). f c) settled.1 ∙ same) p new rest is stays
       own p next is (Stored made n answer later lefts step quiet legal more) =
@@ -89,12 +96,14 @@ module _ (lacks : ℕ → List Event) (w : World) (b : Buffered) (s : Plain) (c 
       let after : Buffered = record { memory = ended.0; buffers = drained.buffers } in
       let call : Calls b1 c End after = (drained, settled.1, (ended.0, ended.1, refl)) in
       let r = call_ahead b1 after a.next c End a.ahead (λ d x ne hit too. cc) call in
-      let none : z.buffers c ≡ [] = ap (λ (f : ℕ → List Event). f c) settled.3 ∙ ap (λ (q : Buffered). q.buffers c) settled.1.2 ∙ put-same b1.buffers c c [] refl in
+      let none : z.buffers c ≡ [] = ap (λ (f : ℕ → List Event). f c) settled.3 ∙ ap (λ (q : Buffered). q.buffers c) settled.1.2 ∙ put-same
+      b1.buffers c c [] refl in
       let keys : keys_by_map ended.0 ≡ keys_by_map r.next = sym (ap keys_by_map r.ahead.like.same) in
       let others : (d : ℕ) → d ≢ c → z.buffers d ≡ b.buffers d = λ d ne. ap (λ (f : ℕ → List Event). f d) settled.3 ∙ r.others d ne ∙ a.others d ne in
       listed a r.next r.allowed ended.0 drained.buffers settled.3 r.ahead none keys others ended.2 ended.3
     where
-      listed : (a : Advanced lacks program c b s old left (Some end) b1 new rest) (p : Plain) → PlainlyAllowed a.next c End p → (q : Plain) (buffers : ℕ → List Event) → z.buffers ≡ buffers → IsAhead (record { memory = q; buffers = buffers }) p
+      listed : (a : Advanced lacks program c b s old left (Some end) b1 new rest) (p : Plain) → PlainlyAllowed a.next c End p → (q : Plain)
+          (buffers : ℕ → List Event) → z.buffers ≡ buffers → IsAhead (record { memory = q; buffers = buffers }) p
           → z.buffers c ≡ [] → keys_by_map q ≡ keys_by_map p → ((d : ℕ) → d ≢ c → z.buffers d ≡ b.buffers d) → answer ≡ turn.Ended k end
           → Lists (new_world w q k t (Ended end) w.lists) c z.world → Gone lacks w b s c k t old left answer z
       listed a p allowed q buffers same ahead_p none keys others said (inl (some, path)) =
@@ -123,5 +132,6 @@ module _ (lacks : ℕ → List Event) (w : World) (b : Buffered) (s : Plain) (c 
             own = NothingWaits none;
           }
 
-  pub goes_on : ((program : Loaded) → slice_get w.programs t.program ≡ Some program → JudgeStep lacks program c s old left) → GoesOn (over w b.memory b.buffers) c k t old left answer z → Gone lacks w b s c k t old left answer z
+  pub goes_on : ((program : Loaded) → slice_get w.programs t.program ≡ Some program → JudgeStep lacks program c s old left) → GoesOn
+      (over w b.memory b.buffers) c k t old left answer z → Gone lacks w b s c k t old left answer z
   goes_on judge g = go g.0 g.5 (judge g.0 g.5) g.1 g.2 g.3 g.4 g.6 g.7

@@ -66,7 +66,8 @@ all_made first d [] w lags = []
 all_made first d (e ∷ es) w lags = lags.0.made ++ all_made first d es w lags.1
 
 -- what waits is among it
-pub waits_made : (first : World) (d : ℕ) (es : List Event) (w : World) (lags : HasLags first d es w) (x : ℕ) → hits_any es x ≡ true → changes_any (all_made first d es w lags) x ≡ true
+pub waits_made : (first : World) (d : ℕ) (es : List Event) (w : World) (lags : HasLags first d es w) (x : ℕ) → hits_any es x ≡ true →
+    changes_any (all_made first d es w lags) x ≡ true
 waits_made first d [] w lags x h = h
 waits_made first d (e ∷ es) w lags x h = elim (or_cases (hits e x) (hits_any es x) h) [
   | inl here ↦ any_left changes lags.0.made (all_made first d es w lags.1) x (lags.0.has x here)
@@ -74,22 +75,33 @@ waits_made first d (e ∷ es) w lags x h = elim (or_cases (hits e x) (hits_any e
 ]
 
 -- events that miss all of it miss what the first of these worlds lacks, and what the others do
-pub made_here : (test : Event → ℕ → Bool) → ((x : ℕ) (fs : List Event) → any_at test fs x ≡ true → hits_any fs x ≡ true) → ((x : ℕ) (fs : List Event) → changes_any fs x ≡ true → any_at test fs x ≡ true)
-    → (first : World) (d : ℕ) (e : Event) (es : List Event) (w : World) (lags : HasLags first d (e ∷ es) w) (x : ℕ) → any_at test (lags.0.made ++ es) x ≡ true → any_at test (all_made first d (e ∷ es) w lags) x ≡ true
+pub made_here : (test : Event → ℕ → Bool) → ((x : ℕ) (fs : List Event) → any_at test fs x ≡ true → hits_any fs x ≡ true) →
+    ((x : ℕ) (fs : List Event) → changes_any fs x ≡ true → any_at test fs x ≡ true)
+    → (first : World) (d : ℕ) (e : Event) (es : List Event) (w : World) (lags : HasLags first d (e ∷ es) w) (x : ℕ) → any_at test
+    (lags.0.made ++ es) x ≡ true → any_at test (all_made first d (e ∷ es) w lags) x ≡ true
 made_here test to from first d e es w lags x h = elim (any_cases test lags.0.made es x h) [
   | inl here ↦ any_left test lags.0.made (all_made first d es w lags.1) x here
-  | inr there ↦ any_right test lags.0.made (all_made first d es w lags.1) x (from x (all_made first d es w lags.1) (waits_made first d es w lags.1 x (to x es there)))
+  | inr there ↦ any_right test lags.0.made (all_made first d es w lags.1) x
+      (from x (all_made first d es w lags.1) (waits_made first d es w lags.1 x (to x es there)))
 ]
 
-pub miss_fewer : (lacking fewer es : List Event) → ((y : ℕ) → changes_any fewer y ≡ true → changes_any lacking y ≡ true) → ((y : ℕ) → hits_any fewer y ≡ true → hits_any lacking y ≡ true) → AllMiss lacking es → AllMiss fewer es
+pub miss_fewer : (lacking fewer es : List Event) → ((y : ℕ) → changes_any fewer y ≡ true → changes_any lacking y ≡ true) →
+    ((y : ℕ) → hits_any fewer y ≡ true → hits_any lacking y ≡ true) → AllMiss lacking es → AllMiss fewer es
 miss_fewer lacking fewer [] less few miss = tt
-miss_fewer lacking fewer (e ∷ es) less few miss = ((λ x h k. miss.0.0 x h (less x k), λ x h k. miss.0.1 x h (few x k)), miss_fewer lacking fewer es less few miss.1)
+miss_fewer lacking fewer (e ∷ es) less few miss = (
+  (λ x h k. miss.0.0 x h (less x k), λ x h k. miss.0.1 x h (few x k)),
+  miss_fewer lacking
+      fewer es less few miss.1,
+)
 
-pub miss_here : (first : World) (d : ℕ) (e : Event) (es : List Event) (w : World) (lags : HasLags first d (e ∷ es) w) (fs : List Event) → AllMiss (all_made first d (e ∷ es) w lags) fs → AllMiss (lags.0.made ++ es) fs
+pub miss_here : (first : World) (d : ℕ) (e : Event) (es : List Event) (w : World) (lags : HasLags first d (e ∷ es) w) (fs : List Event) →
+    AllMiss (all_made first d (e ∷ es) w lags) fs → AllMiss (lags.0.made ++ es) fs
 miss_here first d e es w lags fs miss = miss_fewer (all_made first d (e ∷ es) w lags) (lags.0.made ++ es) fs
-    (made_here changes (λ x gs h. all_changes_hit gs x h) (λ x gs h. h) first d e es w lags) (made_here hits (λ x gs h. h) (λ x gs h. all_changes_hit gs x h) first d e es w lags) miss
+    (made_here changes (λ x gs h. all_changes_hit gs x h) (λ x gs h. h) first d e es w lags)
+    (made_here hits (λ x gs h. h) (λ x gs h. all_changes_hit gs x h) first d e es w lags) miss
 
-pub miss_later : (first : World) (d : ℕ) (e : Event) (es : List Event) (w : World) (lags : HasLags first d (e ∷ es) w) (fs : List Event) → AllMiss (all_made first d (e ∷ es) w lags) fs → AllMiss (all_made first d es w lags.1) fs
+pub miss_later : (first : World) (d : ℕ) (e : Event) (es : List Event) (w : World) (lags : HasLags first d (e ∷ es) w) (fs : List Event) →
+    AllMiss (all_made first d (e ∷ es) w lags) fs → AllMiss (all_made first d es w lags.1) fs
 miss_later first d e es w lags fs miss = miss_fewer (all_made first d (e ∷ es) w lags) (all_made first d es w lags.1) fs
     (λ y h. any_right changes lags.0.made (all_made first d es w lags.1) y h) (λ y h. any_right hits lags.0.made (all_made first d es w lags.1) y h) miss
 
@@ -104,7 +116,8 @@ pub record LagAt (test : Event → ℕ → Bool) (first : World) (d : ℕ) (lack
   pub passes : any_at test made x ≡ true
   pub fewer : (fs : List Event) → AllMiss lacking fs → AllMiss (made ++ later) fs
 
-pub lag_at : (test : Event → ℕ → Bool) (first : World) (d : ℕ) (es : List Event) (w : World) (x : ℕ) (lags : HasLags first d es w) → any_at test (all_made first d es w lags) x ≡ true → LagAt test first d (all_made first d es w lags) w x
+pub lag_at : (test : Event → ℕ → Bool) (first : World) (d : ℕ) (es : List Event) (w : World) (x : ℕ) (lags : HasLags first d es w) → any_at
+    test (all_made first d es w lags) x ≡ true → LagAt test first d (all_made first d es w lags) w x
 lag_at test first d [] w x lags h = absurd (let no : false ≡ true = h in cc)
 lag_at test first d (e ∷ es) w x lags h = elim (any_cases test lags.0.made (all_made first d es w lags.1) x h) [
   | inl here ↦ record {
@@ -139,7 +152,8 @@ set_apart {A} (x ∷ xs) (suc i) (suc j) a b ne = ap (λ (ys : List A). x ∷ ys
 
 -- ---- another CPU's turn
 -- none of a step's events touches these bytes
-abbrev pub AdvanceMisses : (lacking : List Event) (program : Loaded) (c : ℕ) (s : Plain) (old : Cpu) (left : ℕ) (end : Option Outcome) (t : Plain) (new : Cpu) (rest : ℕ) → Advances program c s old left end t new rest → Type 0
+abbrev pub AdvanceMisses : (lacking : List Event) (program : Loaded) (c : ℕ) (s : Plain) (old : Cpu) (left : ℕ) (end : Option Outcome)
+    (t : Plain) (new : Cpu) (rest : ℕ) → Advances program c s old left end t new rest → Type 0
 AdvanceMisses lacking program c s old zero end t new rest a = Unit {0}
 AdvanceMisses lacking program c s old (suc n) end t new rest a = AllMiss lacking a.0
 
@@ -148,10 +162,13 @@ abbrev pub new_world : World → Plain → ℕ → Task → Stage → (ℕ → L
 new_world x s k t stage lists = record { store = s; programs = x.programs; jobs = with_stage x.jobs k t stage; lists = lists }
 
 module _ (d : ℕ) (made later : List Event) (c : ℕ) (ne : c ≢ d) where
-  pub lag_advances : (program : Loaded) (l s : Plain) (old : Cpu) (left : ℕ) (end : Option Outcome) (t : Plain) (new : Cpu) (rest : ℕ) → IsSoundStore l → IsSoundStore s → IsBehind d (made ++ later) l s
+  pub lag_advances : (program : Loaded) (l s : Plain) (old : Cpu) (left : ℕ) (end : Option Outcome) (t : Plain) (new : Cpu) (rest : ℕ) →
+      IsSoundStore l → IsSoundStore s → IsBehind d (made ++ later) l s
       → (a : Advances program c s old left end t new rest) → AdvanceMisses (made ++ later) program c s old left end t new rest a
-      → (next : Plain) × (b : Advances program c l old left end next new rest) × IsBehind d (made ++ later) next t × AdvanceMisses (made ++ later) program c l old left end next new rest b
-  lag_advances program l s old zero end t new rest so_l so_s behind a miss = (l, (a.0, refl, a.2, a.3), subst (IsBehind d (made ++ later) l) (sym a.1) behind, tt)
+      → (next : Plain) × (b : Advances program c l old left end next new rest) × IsBehind d (made ++ later) next t × AdvanceMisses
+      (made ++ later) program c l old left end next new rest b
+  lag_advances program l s old zero end t new rest so_l so_s behind a miss =
+      (l, (a.0, refl, a.2, a.3), subst (IsBehind d (made ++ later) l) (sym a.1) behind, tt)
   lag_advances program l s old (suc n) end t new rest so_l so_s behind a miss =
       let r = behind_events d c ne (made ++ later) a.0 l s t so_l so_s behind miss a.3 in
       let shape : s.shape ≡ l.shape = sym (ap (λ (z : Plain). z.shape) behind.like.same) in
@@ -160,7 +177,8 @@ module _ (d : ℕ) (made later : List Event) (c : ℕ) (ne : c ≢ d) where
   -- the job of the CPU that lags stays as it is, and the other CPU's are the same in both
   module _ (l w : World) (lag : IsLagging d made later l w) where
     same_jobs : SameJobs l.jobs w.jobs c
-    same_jobs = subst (λ (ts : List Task). SameJobs l.jobs ts c) (sym lag.jobs) (set_others l.jobs d lag.job lag.task (InHand lag.now lag.rest) lag.at.listed lag.at.of c ne)
+    same_jobs = subst (λ (ts : List Task). SameJobs l.jobs ts c) (sym lag.jobs)
+        (set_others l.jobs d lag.job lag.task (InHand lag.now lag.rest) lag.at.listed lag.at.of c ne)
 
     pub at_l : (k : ℕ) (t : Task) (stage : Stage) → IsAt w.jobs c k t stage → IsAt l.jobs c k t stage
     at_l k t stage at = (same_jobs k t stage).0 at
@@ -185,13 +203,16 @@ module _ (d : ℕ) (made later : List Event) (c : ℕ) (ne : c ≢ d) where
         let one : lag.task ≡ t = cc in
         ne (sym at.of ∙ ap (λ (x : Task). x.cpu) (sym one) ∙ lag.at.of)
 
-    jobs_set : (k : ℕ) (t : Task) (stage : Stage) → k ≢ lag.job → with_stage w.jobs k t stage ≡ with_stage (with_stage l.jobs k t stage) lag.job lag.task (InHand lag.now lag.rest)
+    jobs_set : (k : ℕ) (t : Task) (stage : Stage) → k ≢ lag.job → with_stage w.jobs k t stage ≡ with_stage (with_stage l.jobs k t stage)
+        lag.job lag.task (InHand lag.now lag.rest)
     jobs_set k t stage far =
         ap (λ (ts : List Task). with_stage ts k t stage) lag.jobs
         ∙ set_apart l.jobs lag.job k (record lag.task { stage = InHand lag.now lag.rest }) (record t { stage = stage }) (λ e. far (sym e))
 
-    pub lags_on : (k : ℕ) (t : Task) (was stage : Stage) (p s : Plain) (lists more : ℕ → Listing) → IsAt l.jobs c k t was → lists ≡ more → IsBehind d (made ++ later) p s
-        → p.shape ≡ l.store.shape → (q : Plain) → PlainlyLegal p (map (entry d) made) q → IsLagging d made later (new_world l p k t stage lists) (new_world w s k t stage more)
+    pub lags_on : (k : ℕ) (t : Task) (was stage : Stage) (p s : Plain) (lists more : ℕ → Listing) → IsAt l.jobs c k t was → lists ≡ more →
+        IsBehind d (made ++ later) p s
+        → p.shape ≡ l.store.shape → (q : Plain) → PlainlyLegal p (map (entry d) made) q → IsLagging d made later
+        (new_world l p k t stage lists) (new_world w s k t stage more)
     lags_on k t was stage p s lists more at same behind shape q legal =
         let far = other_job k t was at in
         record {

@@ -1,5 +1,6 @@
 -- A CPU's call over memory with buffers is a call of the store that is ahead, which stays ahead.
-use Rattle.std.proofs.Common.{◌≡◌, ◌≢◌, ℕ, ◌+◌, ◌<◌, ◌≤◌, Bool, true, false, List, [], ◌∷◌, ◌++◌, Option, Some, None, ◌⊎◌, inl, inr, refl, sym, ap, subst, ◌∙◌, arith}
+use Rattle.std.proofs.Common.{◌≡◌, ◌≢◌, ℕ, ◌+◌, ◌<◌, ◌≤◌, Bool, true, false, List, [], ◌∷◌, ◌++◌, Option, Some, None, ◌⊎◌, inl, inr, refl}
+use Rattle.std.proofs.Common.{sym, ap, subst, ◌∙◌, arith}
 use Rattle.std.specs.Prelude.{slice_get}
 use Rattle.std.specs.FinMap.{get}
 use Rattle.bpf_base.specs.Atomic.{number_after}
@@ -24,7 +25,8 @@ use Rattle.bpf_x86.proofs.Overlay.{hits_any, all_missed}
 use Rattle.bpf_x86.proofs.Written.{at, address}
 use Rattle.bpf_x86.proofs.Alike.{HasValues, Follows, is_access, follow, held_others}
 use Rattle.bpf_x86.proofs.Buffers.{nobody, AreWaiting, IsClean, IsAhead, reach_here, still_waiting, unreached_missed}
-use Rattle.bpf_x86.proofs.Reaching.{is_fixed, reached, reached_is_live, reached_same, reached_more, like_shape, ReachesAt, Writable, at_reaches, at_writes, reaches_at, writable_too}
+use Rattle.bpf_x86.proofs.Reaching.{is_fixed, reached, reached_is_live, reached_same, reached_more, like_shape, ReachesAt, Writable}
+use Rattle.bpf_x86.proofs.Reaching.{at_reaches, at_writes, reaches_at, writable_too}
 use Rattle.bpf_x86.proofs.Calling.{IsClear, flush_of, seen_ahead, drains_ahead, same_read, clear_drained, more_here, more_there, store_ahead}
 
 -- ---- what memory lets the CPU reach and write, it does in the store that is ahead
@@ -38,7 +40,8 @@ writes_too : (b : Buffered) (s : Plain) (c v a n : ℕ) → IsAhead b s → MayW
 writes_too b s c v a n ahead r = at_writes s c v a n (may_too b s c v a n ahead r) (reach_too b s c v a n ahead r.reaches)
 
 -- ---- an atomic operation stores and flushes at once
-pub atomic_ahead : (b : Buffered) (s : Plain) (c a : ℕ) (size : Size) (y v : ℕ) → IsAhead b s → b.buffers c ≡ [] → b.memory.running c ≡ true → MayWrite b.memory c v a (bytes_in size) → IsClear b.buffers c (Store a size y)
+pub atomic_ahead : (b : Buffered) (s : Plain) (c a : ℕ) (size : Size) (y v : ℕ) → IsAhead b s → b.buffers c ≡ [] → b.memory.running c ≡ true
+    → MayWrite b.memory c v a (bytes_in size) → IsClear b.buffers c (Store a size y)
     → IsAhead (record { memory = after_write b.memory v a (bytes_in size) y; buffers = b.buffers }) (after_write s v a (bytes_in size) y)
 atomic_ahead b s c a size y v ahead none runs writes clear =
     let e : Event = Store a size y in
@@ -46,7 +49,8 @@ atomic_ahead b s c a size y v ahead none runs writes clear =
     let may : Writable s v = may_too b s c v a (bytes_in size) ahead writes in
     let stored = store_ahead b s ahead c a size y v r may clear in
     let one : put b.buffers c (b.buffers c ++ e ∷ []) c ≡ e ∷ [] = more_here b s ahead c a size y v r may clear ∙ ap (λ (es : List Event). es ++ e ∷ []) none in
-    flush_of (record { memory = b.memory; buffers = put b.buffers c (b.buffers c ++ e ∷ []) }) (after_write s v a (bytes_in size) y) c e [] (after_write b.memory v a (bytes_in size) y) b.buffers stored one
+    flush_of (record { memory = b.memory; buffers = put b.buffers c (b.buffers c ++ e ∷ []) }) (after_write s v a (bytes_in size) y) c e []
+    (after_write b.memory v a (bytes_in size) y) b.buffers stored one
     ((runs, (v, writes, refl)), tt) none (λ d ne. sym (more_there b s ahead c a size y v r may clear d ne))
 
 -- ---- what isn't an access
@@ -76,7 +80,8 @@ module _ (b : Buffered) (s p : Plain) (c : ℕ) (e : Event) (ahead : IsAhead b s
           elim (equal_or_not w s.made) [
             | inl same ↦ inr (
               same,
-              ap (λ (g : ℕ → Value). g w) q.1 ∙ put-same s.value s.made w q.0 same ∙ sym (ap (λ (g : ℕ → Value). g w) q.2 ∙ put-same b.memory.value b.memory.made w q.0 (same ∙ sym made)),
+              ap (λ (g : ℕ → Value). g w) q.1 ∙ put-same s.value s.made w q.0 same ∙ sym
+                  (ap (λ (g : ℕ → Value). g w) q.2 ∙ put-same b.memory.value b.memory.made w q.0 (same ∙ sym made)),
               q.3,
             )
             | inr ne ↦ inl (
@@ -99,7 +104,8 @@ module _ (b : Buffered) (s p : Plain) (c : ℕ) (e : Event) (ahead : IsAhead b s
   ]
 
   -- what was held and isn't new is where it was
-  quiet_kept : (d : ℕ) → ((w : ℕ) → reached s d w ≡ true → reached f.next d w ≡ true) → (w : ℕ) → reached s d w ≡ true → (reached f.next d w ≡ true) × ((f.next.value w).span ≡ (s.value w).span)
+  quiet_kept : (d : ℕ) → ((w : ℕ) → reached s d w ≡ true → reached f.next d w ≡ true) → (w : ℕ) → reached s d w ≡ true →
+      (reached f.next d w ≡ true) × ((f.next.value w).span ≡ (s.value w).span)
   quiet_kept d grows w h = (
     grows w h,
     elim (stays w) [
@@ -145,7 +151,8 @@ module _ (b : Buffered) (s p : Plain) (c : ℕ) (e : Event) (ahead : IsAhead b s
     byte_there = ap (λ (y : Value). slice_get y.bytes i) (sym there)
 
     -- where its own CPU has nothing that waits, or holds it as before
-    own_seen : i < (f.next.value w).span.size → IsClean b.buffers f.next c w i → reached f.next c w ≡ true → at f.next w i ≡ overlaid (b.buffers c) (address f.next w i) (at p w i)
+    own_seen : i < (f.next.value w).span.size → IsClean b.buffers f.next c w i → reached f.next c w ≡ true → at f.next w i ≡ overlaid
+        (b.buffers c) (address f.next w i) (at p w i)
     own_seen inside clean h = byte_here ∙ before (true_or_false (reached s c w)) ∙ ap (λ (o : Option ℕ). overlaid (b.buffers c) (address s w i) o) byte_there
         ∙ ap (λ (q : ℕ). overlaid (b.buffers c) q (at p w i)) (sym place)
       where
@@ -172,7 +179,8 @@ module _ (b : Buffered) (s p : Plain) (c : ℕ) (e : Event) (ahead : IsAhead b s
           | inr grows ↦ (let no : true ≡ false = sym (grows w was) ∙ h in cc)
         ]
 
-    other_seen : (d : ℕ) → d ≢ c → i < (f.next.value w).span.size → IsClean b.buffers f.next d w i → reached f.next d w ≡ true → at f.next w i ≡ overlaid (b.buffers d) (address f.next w i) (at p w i)
+    other_seen : (d : ℕ) → d ≢ c → i < (f.next.value w).span.size → IsClean b.buffers f.next d w i → reached f.next d w ≡ true → at f.next w
+        i ≡ overlaid (b.buffers d) (address f.next w i) (at p w i)
     other_seen d ne inside clean h =
         byte_here
         ∙ ahead.seen d w i (inside_before inside) (quiet_clean d w i place clean) (sym (reached_else d ne w) ∙ h)
@@ -197,11 +205,13 @@ module _ (b : Buffered) (s p : Plain) (c : ℕ) (e : Event) (ahead : IsAhead b s
             (own_seen w i q.0 q.1 inside (subst (λ (k : ℕ). IsClean b.buffers f.next k w i) same clean) (ap (λ (k : ℕ). reached f.next k w) (sym same) ∙ h))
         | inr ne ↦ other_seen w i q.0 q.1 d ne inside clean h
       ]
-      | inr q ↦ (let less : w < s.made = ahead.sound_too.live_made w (reached_is_live s d w (sym (reached_same f.next s d w next_shape (ap (λ (g : ℕ → ℕ → Bool). g d w) q.2)) ∙ h)) in let same : w ≡ s.made = q.0 in absurd (omega arith))
+      | inr q ↦ (let less : w < s.made = ahead.sound_too.live_made w (reached_is_live s d w (sym (reached_same f.next s d w next_shape (ap (λ (g : ℕ → ℕ → Bool). g d w) q.2)) ∙ h)) in
+          let same : w ≡ s.made = q.0 in absurd (omega arith))
     ];
     unseen = λ d w i inside clean h. elim (stays w) [
       | inl q ↦ elim (equal_or_not d c) [
-        | inl same ↦ own_unseen w i q.0 q.1 inside (subst (λ (k : ℕ). IsClean b.buffers f.next k w i) same clean) (ap (λ (k : ℕ). reached f.next k w) (sym same) ∙ h)
+        | inl same ↦ own_unseen w i q.0 q.1 inside (subst (λ (k : ℕ). IsClean b.buffers f.next k w i) same clean)
+            (ap (λ (k : ℕ). reached f.next k w) (sym same) ∙ h)
         | inr ne ↦ other_unseen w i q.0 q.1 d ne inside clean h
       ]
       | inr q ↦ ap (λ (y : Value). slice_get y.bytes i) q.1
@@ -224,7 +234,8 @@ drained_others b d c drains k ne = ap (λ (z : Buffered). z.buffers k) drains.2 
 drained_own : (b d : Buffered) (c : ℕ) → Drains b c d → d.buffers c ≡ []
 drained_own b d c drains = ap (λ (z : Buffered). z.buffers c) drains.2 ∙ put-same b.buffers c c [] refl
 
-draining : (b t : Buffered) (s : Plain) (c : ℕ) (e : Event) → is_access e ≡ false → IsAhead b s → (d : Buffered) → Drains b c d → AsksMemory d c e t → CallAhead b t s c e
+draining : (b t : Buffered) (s : Plain) (c : ℕ) (e : Event) → is_access e ≡ false → IsAhead b s → (d : Buffered) → Drains b c d → AsksMemory
+    d c e t → CallAhead b t s c e
 draining b t s c e it ahead d drains (p, allowed, is) =
     let ready : IsAhead d s = drains_ahead b d s c ahead drains in
     let none : d.buffers c ≡ [] = drained_own b d c drains in
@@ -241,7 +252,8 @@ draining b t s c e it ahead d drains (p, allowed, is) =
 
 asking : (b t : Buffered) (s : Plain) (c : ℕ) (e : Event) → is_access e ≡ false → IsAhead b s → (a : AsksMemory b c e t)
     → ((next : Plain) → PlainlyAllowed s c e next → (v : ℕ) → reached s c v ≡ true → reached next c v ≡ true)
-    → ((next : Plain) → PlainlyAllowed s c e next → (v i : ℕ) → i < (s.value v).span.size → reached next c v ≡ true → (reached s c v ≡ true) ⊎ (hits_any (b.buffers c) (address s v i) ≡ false))
+    → ((next : Plain) → PlainlyAllowed s c e next → (v i : ℕ) → i < (s.value v).span.size → reached next c v ≡ true → (reached s c v ≡ true)
+    ⊎ (hits_any (b.buffers c) (address s v i) ≡ false))
     → CallAhead b t s c e
 asking b t s c e it ahead (p, allowed, is) grows new =
     let f = follow nobody s b.memory p c e (λ z. z) it ahead.like allowed in
@@ -257,8 +269,10 @@ asking b t s c e it ahead (p, allowed, is) grows new =
 looked_shape : (s next : Plain) (c m : ℕ) (key : List ℕ) (found : Option Span) → PlainlyAllowed s c (Lookup m key found) next → s.shape ≡ next.shape
 looked_shape s next c m key found a = sym (event_shape s next c (Lookup m key found) a.0)
 
-look_grows : (s next : Plain) (c m : ℕ) (key : List ℕ) (found : Option Span) → PlainlyAllowed s c (Lookup m key found) next → (v : ℕ) → reached s c v ≡ true → reached next c v ≡ true
-look_grows s next c m key found a v h = reached_more s next c v (looked_shape s next c m key found a) (λ k. ap (λ (z : Plain). z.held c v) a.0.1.2 ∙ grown (get (s.maps m) key) k) h
+look_grows : (s next : Plain) (c m : ℕ) (key : List ℕ) (found : Option Span) → PlainlyAllowed s c (Lookup m key found) next → (v : ℕ) →
+    reached s c v ≡ true → reached next c v ≡ true
+look_grows s next c m key found a v h = reached_more s next c v (looked_shape s next c m key found a)
+    (λ k. ap (λ (z : Plain). z.held c v) a.0.1.2 ∙ grown (get (s.maps m) key) k) h
   where
     grown : (o : Option ℕ) → s.held c v ≡ true → (after_lookup s c o).held c v ≡ true
     grown None k = k
@@ -268,7 +282,8 @@ look_new : (b : Buffered) (s next : Plain) (c m : ℕ) (key : List ℕ) (found :
     → (v i : ℕ) → i < (s.value v).span.size → reached next c v ≡ true → (reached s c v ≡ true) ⊎ (hits_any (b.buffers c) (address s v i) ≡ false)
 look_new b s next c m key found ahead a v i inside h = elim (true_or_false (reached s c v)) [
   | inl was ↦ inl was
-  | inr not ↦ inr (unreached_missed s c (b.buffers c) ahead.sound_too (ahead.waiting c) v i (live not (or_cases (next.held c v) (is_fixed next.shape v) h)) inside not)
+  | inr not ↦ inr (unreached_missed s c (b.buffers c) ahead.sound_too (ahead.waiting c) v i
+      (live not (or_cases (next.held c v) (is_fixed next.shape v) h)) inside not)
 ]
   where
     found_live : reached s c v ≡ false → (o : Option ℕ) → get (s.maps m) key ≡ o → (after_lookup s c o).held c v ≡ true → IsLive s v
@@ -280,7 +295,8 @@ look_new b s next c m key found ahead a v i inside h = elim (true_or_false (reac
 
     live : reached s c v ≡ false → ((next.held c v ≡ true) ⊎ (is_fixed next.shape v ≡ true)) → IsLive s v
     live not (inl k) = found_live not (get (s.maps m) key) refl (sym (ap (λ (z : Plain). z.held c v) a.0.1.2) ∙ k)
-    live not (inr k) = reached_is_live s c v (or_right (s.held c v) (is_fixed s.shape v) (ap (λ (g : Shape). is_fixed g v) (looked_shape s next c m key found a) ∙ k))
+    live not (inr k) = reached_is_live s c v (or_right (s.held c v) (is_fixed s.shape v)
+        (ap (λ (g : Shape). is_fixed g v) (looked_shape s next c m key found a) ∙ k))
 
 pub call_ahead : (b t : Buffered) (s : Plain) (c : ℕ) (e : Event) → IsAhead b s → IsClear b.buffers c e → Calls b c e t → CallAhead b t s c e
 call_ahead b t s c (Load a size found) ahead clear (m, sees, allowed, is) =

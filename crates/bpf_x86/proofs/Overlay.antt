@@ -1,5 +1,6 @@
 -- What stores that wait make of a byte, the oldest first, and which addresses events touch.
-use Rattle.std.proofs.Common.{◌≡◌, ℕ, ◌+◌, ◌-◌, ◌<◌, ◌≤◌, Bool, true, false, ◌||◌, if◌then◌else◌, List, [], ◌∷◌, ◌++◌, Option, ◌⊎◌, inl, inr, refl, sym, ap, ◌∙◌, arith}
+use Rattle.std.proofs.Common.{◌≡◌, ℕ, ◌+◌, ◌-◌, ◌<◌, ◌≤◌, Bool, true, false, ◌||◌, if◌then◌else◌, List, [], ◌∷◌, ◌++◌, Option, ◌⊎◌, inl}
+use Rattle.std.proofs.Common.{inr, refl, sym, ap, ◌∙◌, arith}
 use Rattle.std.specs.Prelude.{slice_get}
 use Rattle.std.proofs.lemmas.Bool.{or_parts, or_from, or_left, or_right, or_cases}
 use Rattle.std.proofs.lemmas.Bool.Decides.{nat_tests}
@@ -78,7 +79,8 @@ any_right test es fs b h = any_joined test es fs b ∙ or_right (any_at test es 
 pub any_cases : (test : Event → ℕ → Bool) (es fs : List Event) (b : ℕ) → any_at test (es ++ fs) b ≡ true → (any_at test es b ≡ true) ⊎ (any_at test fs b ≡ true)
 any_cases test es fs b h = or_cases (any_at test es b) (any_at test fs b) (sym (any_joined test es fs b) ∙ h)
 
-pub last_missed : (test : Event → ℕ → Bool) (es : List Event) (e : Event) (b : ℕ) → any_at test (es ++ e ∷ []) b ≡ false → (any_at test es b ≡ false) × (test e b ≡ false)
+pub last_missed : (test : Event → ℕ → Bool) (es : List Event) (e : Event) (b : ℕ) → any_at test (es ++ e ∷ []) b ≡ false →
+    (any_at test es b ≡ false) × (test e b ≡ false)
 last_missed test [] e b h = (refl, (or_parts (test e b) false h).0)
 last_missed test (f ∷ fs) e b h =
     let p = or_parts (test f b) (any_at test (fs ++ e ∷ []) b) h in

@@ -86,7 +86,8 @@ among test (e ∷ es) x quiet h = elim (or_cases (test e x) (any_at test es x) h
 
 -- ---- after equal replies the next call is the same
 module _ (replies : CallsHaveOneReply) (c : ℕ) where
-  asked_next : (done : List Event) (e : Event) (rest others : List Event) (s u t : Plain) → IsSoundStore s → AreAskedAlike (done ++ e ∷ rest) others → PlainlyLegal s (map (entry c) done) u → PlainlyLegal s (map (entry c) others) t
+  asked_next : (done : List Event) (e : Event) (rest others : List Event) (s u t : Plain) → IsSoundStore s → AreAskedAlike
+      (done ++ e ∷ rest) others → PlainlyLegal s (map (entry c) done) u → PlainlyLegal s (map (entry c) others) t
       → (f : Event) × (more : List Event) × (others ≡ done ++ f ∷ more) × (asked e ≡ asked f)
   asked_next [] e rest [] s u t so alike a b = absurd (asks-end' e rest alike)
   asked_next [] e rest (f ∷ fs) s u t so alike a b = (f, fs, refl, asks-first e f rest fs alike)
@@ -101,7 +102,8 @@ module _ (replies : CallsHaveOneReply) (c : ℕ) where
       (r.0, r.1, cc, r.3)
 
 -- ---- the CPU that is about to make the step
-lag_next : (d : ℕ) (made later : List Event) (l w : World) → (lag : IsLagging d made later l w) → (f : Event) (place : ℕ) → slice_get made place ≡ Some f → HasNext l (record { cpu = d; program = lag.task.program; pc = lag.state.pc }) f
+lag_next : (d : ℕ) (made later : List Event) (l w : World) → (lag : IsLagging d made later l w) → (f : Event) (place : ℕ) → slice_get made
+    place ≡ Some f → HasNext l (record { cpu = d; program = lag.task.program; pc = lag.state.pc }) f
 lag_next d made later l w lag f place among = record {
   job = lag.job;
   task = lag.task;
@@ -133,8 +135,10 @@ clash_asked e g f x same (inr h) = inr (same_changes e g x same h.0, h.1)
 
 module _ (law : WritesAreDetermined) (begins : OneInstructionBegins) (replies : CallsHaveOneReply) where
   module _ (c d : ℕ) (ne : c ≢ d) (made later : List Event) (l w : World) (lag : IsLagging d made later l w) (world_l : IsWorld l) (world_w : IsWorld w)
-      (k : ℕ) (task : Task) (state : Cpu) (n : ℕ) (at : IsAt w.jobs c k task (InHand state (suc n))) (program : Loaded) (loaded : slice_get w.programs task.program ≡ Some program)
-      (done : List Event) (e : Event) (rest : List Event) (answer : Progress) (new : Cpu) (step : Step w.store.shape program state (done ++ e ∷ rest) answer new)
+      (k : ℕ) (task : Task) (state : Cpu) (n : ℕ) (at : IsAt w.jobs c k task (InHand state (suc n))) (program : Loaded)
+      (loaded : slice_get w.programs task.program ≡ Some program)
+      (done : List Event) (e : Event) (rest : List Event) (answer : Progress) (new : Cpu)
+      (step : Step w.store.shape program state (done ++ e ∷ rest) answer new)
       (u : Plain) (legal : PlainlyLegal w.store (map (entry c) done) u) (miss : AllMiss (made ++ later) done) where
     abbrev here : Stand
     here = record { cpu = c; program = task.program; pc = state.pc }
@@ -153,9 +157,11 @@ module _ (law : WritesAreDetermined) (begins : OneInstructionBegins) (replies : 
         let both : Some a.0 ≡ Some program = sym a.5 ∙ listed in
         let one : a.0 ≡ program = cc in
         let shape : w.store.shape ≡ l.store.shape = sym (ap (λ (z : Plain). z.shape) lag.behind.like.same) in
-        let mine : Step l.store.shape program state (done ++ e ∷ rest) answer new = subst (λ (h : Shape). Step h program state (done ++ e ∷ rest) answer new) shape step in
+        let mine : Step l.store.shape program state (done ++ e ∷ rest) answer new = subst
+        (λ (h : Shape). Step h program state (done ++ e ∷ rest) answer new) shape step in
         let theirs : Step l.store.shape program state a.1 a.2 a.3 = subst (λ (p : Loaded). Step l.store.shape p state a.1 a.2 a.3) one a.6 in
-        let agrees = step_agrees law begins l.store.shape program state new a.3 answer a.2 (done ++ e ∷ rest) a.1 (world_l.memory c k task state (suc n) at_here) mine theirs in
+        let agrees = step_agrees law begins l.store.shape program state new a.3 answer a.2 (done ++ e ∷ rest) a.1
+        (world_l.memory c k task state (suc n) at_here) mine theirs in
         let lagged = behind_events d c ne (made ++ later) done l.store w.store u world_l.store world_w.store lag.behind miss legal in
         let r = asked_next replies c done e rest a.1 l.store lagged.0 a.4 world_l.store agrees.asks lagged.1 a.7 in (
           r.0,

@@ -1,6 +1,7 @@
 -- Where no schedule leads to a race, the plain machine that makes each store at once reaches what the
 -- x86 machine reaches.
-use Rattle.std.proofs.Common.{◌≡◌, ◌≢◌, ℕ, zero, suc, ◌<◌, ◌≤◌, Bool, true, false, List, [], ◌∷◌, ◌++◌, length, Option, Some, None, inl, inr, refl, sym, ap, subst, ◌∙◌, arith, append-nil, append_assoc}
+use Rattle.std.proofs.Common.{◌≡◌, ◌≢◌, ℕ, zero, suc, ◌<◌, ◌≤◌, Bool, true, false, List, [], ◌∷◌, ◌++◌, length, Option, Some, None, inl}
+use Rattle.std.proofs.Common.{inr, refl, sym, ap, subst, ◌∙◌, arith, append-nil, append_assoc}
 use Rattle.std.specs.Prelude.{map, slice_get, slice_set}
 use Rattle.std.proofs.lemmas.Bool.{cases_lt, or_left, or_right, or_cases}
 use Rattle.bpf_base.proofs.Lists.{slice_get-set_known, slice_get-set_other, set_twice}
@@ -66,7 +67,8 @@ runs-last [] c w m z answer runs taken = (answer, z, subst (λ (x : World). plai
 runs-last (d ∷ cs) c w m z answer runs taken = (runs.0, runs.1, runs.2, runs-last cs c runs.1 m z answer runs.3 taken)
 
 -- ---- programs stay
-goes_programs : (w : World) (c k : ℕ) (t : Task) (old : Cpu) (left : ℕ) (answer : Turn) (z : World) → plain.GoesOn w c k t old left answer z → z.programs ≡ w.programs
+goes_programs : (w : World) (c k : ℕ) (t : Task) (old : Cpu) (left : ℕ) (answer : Turn) (z : World) → plain.GoesOn w c k t old left answer z
+    → z.programs ≡ w.programs
 goes_programs w c k t old left answer z g = settle g.1 g.7
   where
     settle : (o : Option Outcome) → plain.Settles (record w { store = g.2 }) c k t g.3 g.4 o answer z → z.programs ≡ w.programs
@@ -83,15 +85,18 @@ runs_programs [] w z runs = ap (λ (x : World). x.programs) runs
 runs_programs (c ∷ cs) w z runs = runs_programs cs runs.1 z runs.3 ∙ turn_programs w c runs.0 runs.1 runs.2
 
 -- ---- turns that miss a list miss fewer
-advance_fewer : (lacking fewer : List Event) (program : Loaded) (c : ℕ) (s : Plain) (old : Cpu) (left : ℕ) (end : Option Outcome) (t : Plain) (new : Cpu) (rest : ℕ) (a : plain.Advances program c s old left end t new rest)
-    → ((fs : List Event) → AllMiss lacking fs → AllMiss fewer fs) → AdvanceMisses lacking program c s old left end t new rest a → AdvanceMisses fewer program c s old left end t new rest a
+advance_fewer : (lacking fewer : List Event) (program : Loaded) (c : ℕ) (s : Plain) (old : Cpu) (left : ℕ) (end : Option Outcome)
+    (t : Plain) (new : Cpu) (rest : ℕ) (a : plain.Advances program c s old left end t new rest)
+    → ((fs : List Event) → AllMiss lacking fs → AllMiss fewer fs) → AdvanceMisses lacking program c s old left end t new rest a →
+    AdvanceMisses fewer program c s old left end t new rest a
 advance_fewer lacking fewer program c s old zero end t new rest a less miss = tt
 advance_fewer lacking fewer program c s old (suc n) end t new rest a less miss = less a.0 miss
 
 turn_fewer : (lacking fewer : List Event) (w : World) (c : ℕ) (answer : Turn) (z : World) (taken : plain.TakesTurn w c answer z)
     → ((fs : List Event) → AllMiss lacking fs → AllMiss fewer fs) → TurnMisses lacking w c answer z taken → TurnMisses fewer w c answer z taken
 turn_fewer lacking fewer w c answer z (inl a) less miss = advance_fewer lacking fewer a.5.0 c w.store a.2 a.3 a.5.1 a.5.2 a.5.3 a.5.4 a.5.6 less miss
-turn_fewer lacking fewer w c answer z (inr (inl a)) less miss = advance_fewer lacking fewer a.1.7.0 c a.1.3 (start c a.1.2) a.1.1.budget a.1.7.1 a.1.7.2 a.1.7.3 a.1.7.4 a.1.7.6 less miss
+turn_fewer lacking fewer w c answer z (inr (inl a)) less miss = advance_fewer lacking fewer a.1.7.0 c a.1.3 (start c a.1.2) a.1.1.budget
+    a.1.7.1 a.1.7.2 a.1.7.3 a.1.7.4 a.1.7.6 less miss
 turn_fewer lacking fewer w c answer z (inr (inr a)) less miss = tt
 
 -- ---- which machines count
@@ -104,10 +109,12 @@ lag_counts true d made later l w lag none = λ j task pc listed ended.
     let one : lag.task ≡ task = cc in
     let stages : InHand lag.state (suc lag.left) ≡ Ended (OutOfBudget pc) = sym lag.at.at ∙ ap (λ (t : Task). t.stage) one ∙ ended in
     cc) in
-    none j task pc (ap (λ (ts : List Task). slice_get ts j) lag.jobs ∙ slice_get-set_other l.jobs lag.job j (record lag.task { stage = InHand lag.now lag.rest }) apart ∙ listed) ended
+    none j task pc (ap (λ (ts : List Task). slice_get ts j) lag.jobs ∙ slice_get-set_other l.jobs lag.job j
+    (record lag.task { stage = InHand lag.now lag.rest }) apart ∙ listed) ended
 
 -- a move leaves the jobs that have ended
-goes_keeps : (x : X86) (c k j : ℕ) (task t : Task) (end : Outcome) (was : Stage) (old : Cpu) (left : ℕ) (answer : Turn) (z : X86) → IsAt x.world.jobs c k t was → (was ≡ Ended end → ⊥) → GoesOn x c k t old left answer z
+goes_keeps : (x : X86) (c k j : ℕ) (task t : Task) (end : Outcome) (was : Stage) (old : Cpu) (left : ℕ) (answer : Turn) (z : X86) → IsAt
+    x.world.jobs c k t was → (was ≡ Ended end → ⊥) → GoesOn x c k t old left answer z
     → slice_get x.world.jobs j ≡ Some task → task.stage ≡ Ended end → slice_get z.world.jobs j ≡ Some task
 goes_keeps x c k j task t end was old left answer z at differs g listed ended = settle g.1 g.7 ∙ listed
   where
@@ -119,10 +126,13 @@ goes_keeps x c k j task t end was old left answer z at differs g listed ended = 
 
     settle : (o : Option Outcome) → Settled (with_buffered x g.2) c k t g.3 g.4 o answer z → slice_get z.world.jobs j ≡ slice_get x.world.jobs j
     settle None s = ap (λ (y : World). slice_get y.jobs j) s.0.1 ∙ slice_get-set_other x.world.jobs k j (record t { stage = InHand g.3 g.4 }) apart
-    settle (Some over) s = ap (λ (ts : List Task). slice_get ts j) (lists_jobs _ c z.world s.2.3) ∙ slice_get-set_other x.world.jobs k j (record t { stage = Ended over }) apart
+    settle (Some over) s = ap (λ (ts : List Task). slice_get ts j) (lists_jobs _ c z.world s.2.3) ∙ slice_get-set_other x.world.jobs k j
+        (record t { stage = Ended over }) apart
 
-keeps_ended : (x : X86) (move : Move) (z : X86) (j : ℕ) (task : Task) (end : Outcome) → Moves x move z → slice_get x.world.jobs j ≡ Some task → task.stage ≡ Ended end → slice_get z.world.jobs j ≡ Some task
-keeps_ended x (TurnOf c) z j task end (answer, inl a) listed ended = goes_keeps x c a.0 j task a.1 end (InHand a.2 a.3) a.2 a.3 answer z a.4 (λ e. cc) a.5 listed ended
+keeps_ended : (x : X86) (move : Move) (z : X86) (j : ℕ) (task : Task) (end : Outcome) → Moves x move z → slice_get x.world.jobs j ≡ Some
+    task → task.stage ≡ Ended end → slice_get z.world.jobs j ≡ Some task
+keeps_ended x (TurnOf c) z j task end (answer, inl a) listed ended = goes_keeps x c a.0 j task a.1 end (InHand a.2 a.3) a.2 a.3 answer z a.4
+    (λ e. cc) a.5 listed ended
 keeps_ended x (TurnOf c) z j task end (answer, inr (inl (free, a))) listed ended =
     goes_keeps (with_buffered x a.3) c a.0 j task a.1 end (Waiting a.2) (start c a.2) a.1.budget answer z a.4 (λ e. cc) a.7 listed ended
 keeps_ended x (TurnOf c) z j task end (answer, inr (inr a)) listed ended = ap (λ (y : X86). slice_get y.world.jobs j) a.3 ∙ listed
@@ -142,14 +152,18 @@ no_middle (f ∷ fs) e rest is = cc
 
 -- ---- a CPU's own loads and stores
 -- the first store lacks its stores too
-own_made_behind : (d : ℕ) (made lacking : List Event) (l s t : Plain) → AreNot is_call made → IsSoundStore s → IsBehind d lacking l s → PlainlyLegal s (map (entry d) made) t → IsBehind d (lacking ++ stores_of made) l t
-own_made_behind d [] lacking l s t none so behind legal = subst (λ (fs : List Event). IsBehind d fs l t) (sym (append-nil lacking)) (subst (IsBehind d lacking l) legal behind)
+own_made_behind : (d : ℕ) (made lacking : List Event) (l s t : Plain) → AreNot is_call made → IsSoundStore s → IsBehind d lacking l s →
+    PlainlyLegal s (map (entry d) made) t → IsBehind d (lacking ++ stores_of made) l t
+own_made_behind d [] lacking l s t none so behind legal = subst (λ (fs : List Event). IsBehind d fs l t) (sym (append-nil lacking))
+    (subst (IsBehind d lacking l) legal behind)
 own_made_behind d (Load a size found ∷ es) lacking l s t none so behind (m, allowed, rest) =
-    own_made_behind d es lacking l m t none.1 (allowed_sound s m d (Load a size found) so allowed.0) (own_load_behind d lacking l s m a size found behind allowed) rest
+    own_made_behind d es lacking l m t none.1 (allowed_sound s m d (Load a size found) so allowed.0)
+    (own_load_behind d lacking l s m a size found behind allowed) rest
 own_made_behind d (Store a size x ∷ es) lacking l s t none so behind (m, allowed, rest) =
     let e : Event = Store a size x in
     subst (λ (fs : List Event). IsBehind d fs l t) (append_assoc lacking (e ∷ []) (stores_of es))
-    (own_made_behind d es (lacking ++ e ∷ []) l m t none.1 (allowed_sound s m d e so allowed.0) (own_store_behind d lacking l s m a size x so behind allowed) rest)
+    (own_made_behind d es (lacking ++ e ∷ []) l m t none.1 (allowed_sound s m d e so allowed.0)
+    (own_store_behind d lacking l s m a size x so behind allowed) rest)
 own_made_behind d (e ∷ es) lacking l s t none so behind legal = let no : true ≡ false = none.0 in cc
 
 -- its stores write no more than all of it
@@ -161,39 +175,55 @@ stores_change (Store a size y ∷ es) x h = elim (or_cases (changes (Store a siz
 ]
 stores_change (e ∷ es) x h = or_right (changes e x) (changes_any es x) (stores_change es x h)
 
-module _ (law : WritesAreDetermined) (begins : OneInstructionBegins) (replies : CallsHaveOneReply) (patient : Bool) (first : World) (fits : FirstsFit first.programs) (fresh : IsFresh first) (there : StepsAreThere patient first) (free : IsRaceFree patient first) where
+module _ (law : WritesAreDetermined) (begins : OneInstructionBegins) (replies : CallsHaveOneReply) (patient : Bool) (first : World)
+    (fits : FirstsFit first.programs) (fresh : IsFresh first) (there : StepsAreThere patient first) (free : IsRaceFree patient first) where
   reached_world : (schedule : List ℕ) (z : World) → RunsSchedule first schedule z → IsWorld z
   reached_world schedule z runs = runs_world law begins replies schedule first z (fresh_world law begins replies first fresh) runs
 
   -- ---- other CPUs' lags
-  lags_follow : (d c : ℕ) → c ≢ d → (es : List Event) (w z : World) (answer : Turn) (taken : plain.TakesTurn w c answer z) → IsWorld w → (lags : HasLags first d es w) → TurnMisses (all_made first d es w lags) w c answer z taken → HasLags first d es z
+  lags_follow : (d c : ℕ) → c ≢ d → (es : List Event) (w z : World) (answer : Turn) (taken : plain.TakesTurn w c answer z) → IsWorld w →
+      (lags : HasLags first d es w) → TurnMisses (all_made first d es w lags) w c answer z taken → HasLags first d es z
   lags_follow d c ne [] w z answer taken world lags miss = tt
   lags_follow d c ne (e ∷ es) w z answer taken world lags miss =
       let lag = lags.0 in
       let here = reached_world lag.schedule lag.world lag.runs in
       let all = all_made first d (e ∷ es) w lags in
-      let r = lag_turn d lag.made es c ne lag.world w lag.lags here.store world.store answer z taken (turn_fewer all (lag.made ++ es) w c answer z taken (miss_here first d e es w lags) miss) in (
-        record { world = r.0; schedule = lag.schedule ++ c ∷ []; runs = runs-last lag.schedule c first lag.world r.0 answer lag.runs r.1; made = lag.made; has = lag.has; lags = r.2 },
-        lags_follow d c ne es w z answer taken world lags.1 (turn_fewer all (all_made first d es w lags.1) w c answer z taken (miss_later first d e es w lags) miss),
+      let r = lag_turn d lag.made es c ne lag.world w lag.lags here.store world.store answer z taken
+      (turn_fewer all (lag.made ++ es) w c answer z taken (miss_here first d e es w lags) miss) in (
+        record {
+          world = r.0;
+          schedule = lag.schedule ++ c ∷ [];
+          runs = runs-last lag.schedule c first lag.world r.0 answer lag.runs r.1;
+          made = lag.made;
+          has = lag.has;
+          lags = r.2;
+        },
+        lags_follow d c ne es w z answer taken world lags.1 (turn_fewer all (all_made first d es w lags.1) w c answer z taken
+            (miss_later first d e es w lags) miss),
       )
 
   -- ---- what judges the calls of a job in hand
-  judged : (w : World) (buffers : ℕ → List Event) (lags : (d : ℕ) → HasLags first d (buffers d) w) (c : ℕ) (k : ℕ) (task : Task) (state : Cpu) (left : ℕ) (at : IsAt w.jobs c k task (InHand state left)) → IsWorld w → Counts patient w.jobs
-      → (program : Loaded) → slice_get w.programs task.program ≡ Some program → JudgeStep (λ d. all_made first d (buffers d) w (lags d)) program c w.store state left
+  judged : (w : World) (buffers : ℕ → List Event) (lags : (d : ℕ) → HasLags first d (buffers d) w) (c : ℕ) (k : ℕ) (task : Task)
+      (state : Cpu) (left : ℕ) (at : IsAt w.jobs c k task (InHand state left)) → IsWorld w → Counts patient w.jobs
+      → (program : Loaded) → slice_get w.programs task.program ≡ Some program → JudgeStep (λ d. all_made first d (buffers d) w (lags d))
+      program c w.store state left
   judged w buffers lags c k task state left at world counts program loaded n lefts events answer new step done e rest u is legal miss d ne =
       let at' : IsAt w.jobs c k task (InHand state (suc n)) = subst (λ (i : ℕ). IsAt w.jobs c k task (InHand state i)) lefts at in
-      let step' : Step w.store.shape program state (done ++ e ∷ rest) answer new = subst (λ (es : List Event). Step w.store.shape program state es answer new) is step in (
+      let step' : Step w.store.shape program state (done ++ e ∷ rest) answer new = subst
+      (λ (es : List Event). Step w.store.shape program state es answer new) is step in (
         λ x hit there_too.
             (let lag = lag_at changes first d (buffers d) w x (lags d) there_too in
             let counted = lag_counts patient d lag.made lag.later lag.world w lag.lags counts in
             free lag.schedule lag.world lag.runs counted _ _ x
-            (race_touched law begins replies c d (λ q. ne (sym q)) lag.made lag.later lag.world w lag.lags (reached_world lag.schedule lag.world lag.runs) world k task state n at' program loaded done e rest answer new step' u legal
+            (race_touched law begins replies c d (λ q. ne (sym q)) lag.made lag.later lag.world w lag.lags
+            (reached_world lag.schedule lag.world lag.runs) world k task state n at' program loaded done e rest answer new step' u legal
             (lag.fewer done (miss d ne)) (there lag.schedule lag.world lag.runs counted) x hit lag.passes)),
         λ x change there_too.
             (let lag = lag_at hits first d (buffers d) w x (lags d) there_too in
             let counted = lag_counts patient d lag.made lag.later lag.world w lag.lags counts in
             free lag.schedule lag.world lag.runs counted _ _ x
-            (race_written law begins replies c d (λ q. ne (sym q)) lag.made lag.later lag.world w lag.lags (reached_world lag.schedule lag.world lag.runs) world k task state n at' program loaded done e rest answer new step' u legal
+            (race_written law begins replies c d (λ q. ne (sym q)) lag.made lag.later lag.world w lag.lags
+            (reached_world lag.schedule lag.world lag.runs) world k task state n at' program loaded done e rest answer new step' u legal
             (lag.fewer done (miss d ne)) (there lag.schedule lag.world lag.runs counted) x change lag.passes)),
       )
 
@@ -201,25 +231,29 @@ module _ (law : WritesAreDetermined) (begins : OneInstructionBegins) (replies : 
   first_fits : (w : World) → w.programs ≡ first.programs → (k : ℕ) (program : Loaded) → slice_get w.programs k ≡ Some program → FirstFits program
   first_fits w same k program loaded = fits k program (ap (λ (ps : List Loaded). slice_get ps k) (sym same) ∙ loaded)
 
-  judged_first : (lacks : ℕ → List Event) (s : Plain) → IsShape s.shape → (c : ℕ) (input : Input) (left : ℕ) (program : Loaded) → FirstFits program → JudgeStep lacks program c s (start c input) left
+  judged_first : (lacks : ℕ → List Event) (s : Plain) → IsShape s.shape → (c : ℕ) (input : Input) (left : ℕ) (program : Loaded) → FirstFits
+      program → JudgeStep lacks program c s (start c input) left
   judged_first lacks s shape c input left program fit n lefts events answer new step done e rest u is legal miss d ne =
       absurd (no_middle done e rest (sym is ∙ first_asks_nothing s.shape shape program fit c input new events answer step))
 
   -- ---- a CPU's own lags
   -- its job in hand is the one that each of them is about
-  module _ (w : World) (world : IsWorld w) (c k : ℕ) (t : Task) (old : Cpu) (left : ℕ) (at : IsAt w.jobs c k t (InHand old left)) (next : Plain) (new : Cpu) (rest : ℕ) where
+  module _ (w : World) (world : IsWorld w) (c k : ℕ) (t : Task) (old : Cpu) (left : ℕ) (at : IsAt w.jobs c k t (InHand old left))
+      (next : Plain) (new : Cpu) (rest : ℕ) where
     abbrev z : World
     z = new_world w next k t (InHand new rest) w.lists
 
     own_lag : (made later more : List Event) (l : World) → IsLagging c made later l w → IsBehind c (made ++ more) l.store next → IsLagging c made more l z
     own_lag made later more l lag behind =
         let now_task : Task = record lag.task { stage = InHand lag.now lag.rest } in
-        let listed : slice_get w.jobs lag.job ≡ Some now_task = ap (λ (ts : List Task). slice_get ts lag.job) lag.jobs ∙ slice_get-set_known l.jobs lag.job now_task lag.task lag.at.listed in
+        let listed : slice_get w.jobs lag.job ≡ Some now_task = ap (λ (ts : List Task). slice_get ts lag.job) lag.jobs ∙ slice_get-set_known
+        l.jobs lag.job now_task lag.task lag.at.listed in
         let there_at : IsAt w.jobs c lag.job now_task (InHand lag.now lag.rest) = record { listed = listed; of = lag.at.of; at = refl } in
         let one : lag.job ≡ k = world.one c lag.job k now_task t lag.now old lag.rest left there_at at in
         let at_k : IsAt w.jobs c k now_task (InHand lag.now lag.rest) = subst (λ (i : ℕ). IsAt w.jobs c i now_task (InHand lag.now lag.rest)) one there_at in
         let same : now_task ≡ t = (same_stage w.jobs c k now_task t (InHand lag.now lag.rest) (InHand old left) at_k at).0 in
-        let stages : record t { stage = InHand new rest } ≡ record lag.task { stage = InHand new rest } = ap (λ (x : Task). record x { stage = InHand new rest }) (sym same) in
+        let stages : record t { stage = InHand new rest } ≡ record lag.task { stage = InHand new rest } = ap
+        (λ (x : Task). record x { stage = InHand new rest }) (sym same) in
         record {
           programs = lag.programs;
           lists = lag.lists;
@@ -246,7 +280,8 @@ module _ (law : WritesAreDetermined) (begins : OneInstructionBegins) (replies : 
           behind = behind;
         }
 
-    own_kept : ((lacking : List Event) (l : Plain) → IsBehind c lacking l w.store → IsBehind c lacking l next) → (es : List Event) → HasLags first c es w → HasLags first c es z
+    own_kept : ((lacking : List Event) (l : Plain) → IsBehind c lacking l w.store → IsBehind c lacking l next) → (es : List Event) → HasLags
+        first c es w → HasLags first c es z
     own_kept stays [] lags = tt
     own_kept stays (e ∷ es) lags =
         let lag = lags.0 in (
@@ -262,7 +297,8 @@ module _ (law : WritesAreDetermined) (begins : OneInstructionBegins) (replies : 
         )
 
     -- some stores more
-    module _ (schedule : List ℕ) (runs : RunsSchedule first schedule w) (program : Loaded) (loaded : slice_get w.programs t.program ≡ Some program) (made : List Event) (n : ℕ) (answer : Progress) (later : Cpu) (lefts : left ≡ suc n)
+    module _ (schedule : List ℕ) (runs : RunsSchedule first schedule w) (program : Loaded)
+        (loaded : slice_get w.programs t.program ≡ Some program) (made : List Event) (n : ℕ) (answer : Progress) (later : Cpu) (lefts : left ≡ suc n)
         (step : Step w.store.shape program old made answer later) (quiet : AreNot is_call made) (legal : PlainlyLegal w.store (map (entry c) made) next) where
       itself : IsBehind c [] w.store w.store
       itself = record { like = record { same = refl; spans = λ v. refl; fewer = λ d v h. h; others = λ d ne. refl }; bytes = λ v i clean. refl }
@@ -299,7 +335,8 @@ module _ (law : WritesAreDetermined) (begins : OneInstructionBegins) (replies : 
             quiet = quiet;
             store = next;
             legal = legal;
-            behind = more_behind c (stores_of made) (made ++ stores_of es) w.store next (λ x h. any_left changes made (stores_of es) x (stores_change made x h)) before;
+            behind = more_behind c (stores_of made) (made ++ stores_of es) w.store next
+                (λ x h. any_left changes made (stores_of es) x (stores_change made x h)) before;
           };
         },
         new_lags es (λ x h. all x (or_right (changes (Store a size y) x) (changes_any es x) h)),
@@ -310,25 +347,29 @@ module _ (law : WritesAreDetermined) (begins : OneInstructionBegins) (replies : 
       own_more [] lags = new_lags made (λ x h. h)
       own_more (e ∷ es) lags =
           let lag = lags.0 in
-          let longer : IsBehind c ((lag.made ++ es) ++ stores_of made) lag.world.store next = own_made_behind c made (lag.made ++ es) lag.world.store w.store next quiet world.store lag.lags.behind legal in (
+          let longer : IsBehind c ((lag.made ++ es) ++ stores_of made) lag.world.store next = own_made_behind c made (lag.made ++ es)
+          lag.world.store w.store next quiet world.store lag.lags.behind legal in (
             record {
               world = lag.world;
               schedule = lag.schedule;
               runs = lag.runs;
               made = lag.made;
               has = lag.has;
-              lags = own_lag lag.made es (es ++ stores_of made) lag.world lag.lags (subst (λ (fs : List Event). IsBehind c fs lag.world.store next) (append_assoc lag.made es (stores_of made)) longer);
+              lags = own_lag lag.made es (es ++ stores_of made) lag.world lag.lags
+                  (subst (λ (fs : List Event). IsBehind c fs lag.world.store next) (append_assoc lag.made es (stores_of made)) longer);
             },
             own_more es lags.1,
           )
 
   -- ---- a turn
-  turned : (w : World) (p : Plain) (buffers : ℕ → List Event) (c : ℕ) (answer : Turn) (z : X86) → Counts patient w.jobs → IsSimulated first (over w p buffers) w → TakesTurn (over w p buffers) c answer z → (next : World) × IsSimulated first z next
+  turned : (w : World) (p : Plain) (buffers : ℕ → List Event) (c : ℕ) (answer : Turn) (z : X86) → Counts patient w.jobs → IsSimulated first
+      (over w p buffers) w → TakesTurn (over w p buffers) c answer z → (next : World) × IsSimulated first z next
   turned w p buffers c answer z counts sim (inl (k, t, old, left, at, goes)) =
       let world = reached_world sim.schedule w sim.runs in
       let b : Buffered = record { memory = p; buffers = buffers } in
       let lacks : ℕ → List Event = λ d. all_made first d (buffers d) w (sim.lags d) in
-      let g = goes_on lacks w b w.store c k t old left answer z sim.ahead (λ d x h. waits_made first d (buffers d) w (sim.lags d) x h) (judged w buffers sim.lags c k t old left at world counts) goes in
+      let g = goes_on lacks w b w.store c k t old left answer z sim.ahead (λ d x h. waits_made first d (buffers d) w (sim.lags d) x h)
+      (judged w buffers sim.lags c k t old left at world counts) goes in
       let taken : plain.TakesTurn w c answer g.next = inl (k, t, old, left, at, g.goes) in (
         g.next,
         record {
@@ -344,18 +385,22 @@ module _ (law : WritesAreDetermined) (begins : OneInstructionBegins) (replies : 
         },
       )
     where
-      own : IsWorld w → (next : World) (program : Loaded) → slice_get w.programs t.program ≡ Some program → OwnTurn w program buffers z.buffers w.store c k t old left next → HasLags first c (z.buffers c) next
+      own : IsWorld w → (next : World) (program : Loaded) → slice_get w.programs t.program ≡ Some program → OwnTurn w program buffers
+          z.buffers w.store c k t old left next → HasLags first c (z.buffers c) next
       own world next program loaded (NothingWaits none) = subst (λ (es : List Event). HasLags first c es next) (sym none) tt
       own world next program loaded (AsBefore same q new rest is stays) =
-          subst (λ (es : List Event). HasLags first c es next) (sym same) (subst (HasLags first c (buffers c)) (sym is) (own_kept w world c k t old left at q new rest stays (buffers c) (sim.lags c)))
+          subst (λ (es : List Event). HasLags first c es next) (sym same)
+          (subst (HasLags first c (buffers c)) (sym is) (own_kept w world c k t old left at q new rest stays (buffers c) (sim.lags c)))
       own world next program loaded (SomeMore made n said later lefts step quiet more q new rest is legal) =
           subst (λ (es : List Event). HasLags first c es next) (sym more) (subst (HasLags first c (buffers c ++ stores_of made)) (sym is)
-          (own_more w world c k t old left at q new rest sim.schedule sim.runs program loaded made n said later lefts step quiet legal (buffers c) (sim.lags c)))
+          (own_more w world c k t old left at q new rest sim.schedule sim.runs program loaded made n said later lefts step quiet legal
+          (buffers c) (sim.lags c)))
   turned w p buffers c answer z counts sim (inr (inl (idle, (k, t, input, b, at, below, begun, goes)))) =
       let world = reached_world sim.schedule w sim.runs in
       let before : Buffered = record { memory = p; buffers = buffers } in
       let r = call_ahead before b w.store c Begin sim.ahead (λ d x ne hit too. cc) begun in
-      let none : b.buffers c ≡ [] = ap (λ (y : Buffered). y.buffers c) begun.2.2 ∙ ap (λ (y : Buffered). y.buffers c) begun.1.2 ∙ put-same buffers c c [] refl in
+      let none : b.buffers c ≡ [] = ap (λ (y : Buffered). y.buffers c) begun.2.2 ∙ ap (λ (y : Buffered). y.buffers c) begun.1.2 ∙ put-same
+      buffers c c [] refl in
       let lacks : ℕ → List Event = λ d. all_made first d (buffers d) w (sim.lags d) in
       let shape : IsShape r.next.shape = r.ahead.sound_too.fixed.shape in
       let same_programs : w.programs ≡ first.programs = runs_programs sim.schedule first w sim.runs in
@@ -364,7 +409,9 @@ module _ (law : WritesAreDetermined) (begins : OneInstructionBegins) (replies : 
         | inl same ↦ absurd (let no : false ≡ true = sym (ap (λ (es : List Event). hits_any es x) (ap b.buffers same ∙ none)) ∙ h in cc)
         | inr ne ↦ sym (ap (λ (es : List Event). hits_any es x) (r.others d ne)) ∙ h
       ]) in
-      let g = goes_on lacks w b r.next c k t (start c input) t.budget answer z r.ahead cover (λ program loaded. judged_first lacks r.next shape c input t.budget program (first_fits w same_programs t.program program loaded)) goes in
+      let g = goes_on lacks w b r.next c k t (start c input) t.budget answer z r.ahead cover
+      (λ program loaded. judged_first lacks r.next shape c input t.budget program
+      (first_fits w same_programs t.program program loaded)) goes in
       let taken : plain.TakesTurn w c answer g.next = inr (inl (idle, (k, t, input, r.next, at, below, r.allowed, g.goes))) in (
         g.next,
         record {
@@ -373,14 +420,17 @@ module _ (law : WritesAreDetermined) (begins : OneInstructionBegins) (replies : 
           world = g.world;
           ahead = g.ahead;
           lags = λ d. elim (equal_or_not d c) [
-            | inl same ↦ subst (λ (i : ℕ). HasLags first i (z.buffers i) g.next) (sym same) (subst (λ (es : List Event). HasLags first c es g.next) (sym (own b r.next shape none g.next g.goes.0 (first_fits w same_programs t.program g.goes.0 g.goes.5) g.own)) tt)
+            | inl same ↦ subst (λ (i : ℕ). HasLags first i (z.buffers i) g.next) (sym same)
+                (subst (λ (es : List Event). HasLags first c es g.next) (sym
+                (own b r.next shape none g.next g.goes.0 (first_fits w same_programs t.program g.goes.0 g.goes.5) g.own)) tt)
             | inr ne ↦ subst (λ (es : List Event). HasLags first d es g.next) (sym (g.others d ne ∙ r.others d ne))
                 (lags_follow d c (λ q. ne (sym q)) (buffers d) w g.next answer taken world (sim.lags d) (g.misses d ne))
           ];
         },
       )
     where
-      own : (b : Buffered) (s : Plain) → IsShape s.shape → b.buffers c ≡ [] → (next : World) (program : Loaded) → FirstFits program → OwnTurn w program b.buffers z.buffers s c k t (start c input) t.budget next → z.buffers c ≡ []
+      own : (b : Buffered) (s : Plain) → IsShape s.shape → b.buffers c ≡ [] → (next : World) (program : Loaded) → FirstFits program →
+          OwnTurn w program b.buffers z.buffers s c k t (start c input) t.budget next → z.buffers c ≡ []
       own b s shape none next program fit (NothingWaits empty) = empty
       own b s shape none next program fit (AsBefore same q new rest is stays) = same ∙ none
       own b s shape none next program fit (SomeMore made n said later lefts step quiet more q new rest is legal) =
@@ -389,7 +439,8 @@ module _ (law : WritesAreDetermined) (begins : OneInstructionBegins) (replies : 
   turned w p buffers c answer z counts sim (inr (inr (idle, none, said, same))) = (w, subst (λ (x : X86). IsSimulated first x w) (sym same) sim)
 
   -- ---- a move
-  flushed : (w : World) (p : Plain) (buffers : ℕ → List Event) (c : ℕ) (b : Buffered) → IsSimulated first (over w p buffers) w → Flushes (record { memory = p; buffers = buffers }) c b → IsSimulated first (over w b.memory b.buffers) w
+  flushed : (w : World) (p : Plain) (buffers : ℕ → List Event) (c : ℕ) (b : Buffered) → IsSimulated first (over w p buffers) w → Flushes
+      (record { memory = p; buffers = buffers }) c b → IsSimulated first (over w b.memory b.buffers) w
   flushed w p buffers c b sim f = record {
     schedule = sim.schedule;
     runs = sim.runs;
@@ -397,22 +448,27 @@ module _ (law : WritesAreDetermined) (begins : OneInstructionBegins) (replies : 
     ahead = flushes_ahead (record { memory = p; buffers = buffers }) b w.store c sim.ahead f;
     lags = λ d. elim (equal_or_not d c) [
       | inl same ↦ subst (λ (i : ℕ). HasLags first i (b.buffers i) w) (sym same)
-          (subst (λ (es : List Event). HasLags first c es w) (sym (ap (λ (y : Buffered). y.buffers c) f.5 ∙ put-same buffers c c f.1 refl)) (subst (λ (es : List Event). HasLags first c es w) f.3 (sim.lags c)).1)
+          (subst (λ (es : List Event). HasLags first c es w) (sym (ap (λ (y : Buffered). y.buffers c) f.5 ∙ put-same buffers c c f.1 refl))
+          (subst (λ (es : List Event). HasLags first c es w) f.3 (sim.lags c)).1)
       | inr ne ↦ subst (λ (es : List Event). HasLags first d es w) (sym (ap (λ (y : Buffered). y.buffers d) f.5 ∙ put-other buffers c d f.1 ne)) (sim.lags d)
     ];
   }
 
-  moved : (x : X86) (w : World) (move : Move) (z : X86) → Counts patient x.world.jobs → IsSimulated first x w → Moves x move z → (next : World) × IsSimulated first z next
-  moved x w move z counts sim moves = at_once move (subst (λ (v : World). IsSimulated first (record { world = v; buffers = x.buffers }) w) sim.world sim) (subst (λ (v : World). Moves (record { world = v; buffers = x.buffers }) move z) sim.world moves)
+  moved : (x : X86) (w : World) (move : Move) (z : X86) → Counts patient x.world.jobs → IsSimulated first x w → Moves x move z →
+      (next : World) × IsSimulated first z next
+  moved x w move z counts sim moves = at_once move (subst (λ (v : World). IsSimulated first (record { world = v; buffers = x.buffers }) w)
+      sim.world sim) (subst (λ (v : World). Moves (record { world = v; buffers = x.buffers }) move z) sim.world moves)
     where
       world : x.world ≡ record w { store = x.world.store }
       world = sim.world
 
-      at_once : (move : Move) → IsSimulated first (over w x.world.store x.buffers) w → Moves (over w x.world.store x.buffers) move z → (next : World) × IsSimulated first z next
+      at_once : (move : Move) → IsSimulated first (over w x.world.store x.buffers) w → Moves (over w x.world.store x.buffers) move z →
+          (next : World) × IsSimulated first z next
       at_once (TurnOf c) sim moves = turned w x.world.store x.buffers c moves.0 z (subst (Counts patient) (ap (λ (v : World). v.jobs) world) counts) sim moves.1
       at_once (FlushOf c) sim moves = (w, subst (λ (y : X86). IsSimulated first y w) (sym moves.2) (flushed w x.world.store x.buffers c moves.0 sim moves.1))
 
-  all_moved : (moves : List Move) (x : X86) (w : World) (z : X86) → Counts patient z.world.jobs → IsSimulated first x w → RunsMoves x moves z → (next : World) × IsSimulated first z next
+  all_moved : (moves : List Move) (x : X86) (w : World) (z : X86) → Counts patient z.world.jobs → IsSimulated first x w → RunsMoves x moves
+      z → (next : World) × IsSimulated first z next
   all_moved [] x w z counts sim runs = (w, subst (λ (y : X86). IsSimulated first y w) (sym runs) sim)
   all_moved (move ∷ moves) x w z counts sim runs =
       let r = moved x w move runs.0 (counted_before patient (move ∷ moves) x z runs counts) sim runs.1 in
@@ -440,7 +496,8 @@ module _ (law : WritesAreDetermined) (begins : OneInstructionBegins) (replies : 
   no_lags d (e ∷ es) w ended lags =
       let lag = lags.0.lags in
       let now_task : Task = record lag.task { stage = InHand lag.now lag.rest } in
-      let listed : slice_get w.jobs lag.job ≡ Some now_task = ap (λ (ts : List Task). slice_get ts lag.job) lag.jobs ∙ slice_get-set_known lags.0.world.jobs lag.job now_task lag.task lag.at.listed in
+      let listed : slice_get w.jobs lag.job ≡ Some now_task = ap (λ (ts : List Task). slice_get ts lag.job) lag.jobs ∙ slice_get-set_known
+      lags.0.world.jobs lag.job now_task lag.task lag.at.listed in
       let end = ended lag.job now_task listed in
       let no : InHand lag.now lag.rest ≡ Ended end.0 = end.1 in
       absurd cc
@@ -480,8 +537,10 @@ nothing_waits b s ahead none =
           let spans : (s.value v).span ≡ (b.memory.value v).span = ahead.like.spans v in
           let size : length (s.value v).bytes ≡ (s.value v).span.size = ahead.sound_too.sizes v less in
           let sized : length (b.memory.value v).bytes ≡ (s.value v).span.size = ahead.sound.sizes v (omega arith) ∙ sym (ap (λ (q : Span). q.size) spans) in
-          let bytes : (s.value v).bytes ≡ (b.memory.value v).bytes = same_sized (s.value v).bytes (b.memory.value v).bytes (s.value v).span.size size sized (byte v) in
-          ap (λ (bs : List ℕ). record { bytes = bs; span = (s.value v).span }) bytes ∙ ap (λ (q : Span). record { bytes = (b.memory.value v).bytes; span = q }) spans
+          let bytes : (s.value v).bytes ≡ (b.memory.value v).bytes = same_sized (s.value v).bytes (b.memory.value v).bytes
+          (s.value v).span.size size sized (byte v) in
+          ap (λ (bs : List ℕ). record { bytes = bs; span = (s.value v).span }) bytes ∙ ap
+          (λ (q : Span). record { bytes = (b.memory.value v).bytes; span = q }) spans
       | inr most ↦ ahead.unmade v most
     ]
 
@@ -490,7 +549,8 @@ nothing_waits b s ahead none =
 
 pub race_free_is_same : WritesAreDetermined → OneInstructionBegins → CallsHaveOneReply → RaceFreeIsSame
 race_free_is_same law begins replies patient w fits fresh there free moves z runs ended counts =
-    let r = all_moved law begins replies patient w fits fresh there free moves (drained w) w z counts (begins_simulated law begins replies patient w fits fresh there free) runs in
+    let r = all_moved law begins replies patient w fits fresh there free moves (drained w) w z counts
+    (begins_simulated law begins replies patient w fits fresh there free) runs in
     let sim = r.1 in
     let jobs : z.world.jobs ≡ r.0.jobs = ap (λ (x : World). x.jobs) sim.world in
     let over_it : HaveEnded r.0.jobs = subst HaveEnded jobs ended in

@@ -47,10 +47,12 @@ module _ (d : ℕ) (e : Event) (es : List Event) (l k : Plain) (so_l : IsSoundSt
   writes_too v a n r = record { reaches = reaches_too v a n r.reaches; writable = writable_too l k v (sym same.shape) r.writable }
 
   -- the first of them touches these bytes
-  reads_same : (v a n : ℕ) → Reaches l d v a n → ((i : ℕ) → within a n (address l v i) ≡ true → hits e (address l v i) ≡ true) → number_in l v a n ≡ number_in k v a n
+  reads_same : (v a n : ℕ) → Reaches l d v a n → ((i : ℕ) → within a n (address l v i) ≡ true → hits e (address l v i) ≡ true) → number_in l
+      v a n ≡ number_in k v a n
   reads_same v a n r hit =
       let h : reached l d v ≡ true = reached_so l d v r.holds in
-      same_number l k v a n (sym (same.spans v h)) r.covers.0 (λ i touched. sym (same.bytes v i h (or_left (hits e (address l v i)) (hits_any es (address l v i)) (hit i touched))))
+      same_number l k v a n (sym (same.spans v h)) r.covers.0 (λ i touched. sym
+      (same.bytes v i h (or_left (hits e (address l v i)) (hits_any es (address l v i)) (hit i touched))))
 
   fewer : IsSameFor d es l k
   fewer = record {
@@ -71,7 +73,8 @@ module _ (d : ℕ) (e : Event) (es : List Event) (l k : Plain) (so_l : IsSoundSt
     bytes = λ w i h hit.
         let hit_before : hits_any es (address l w i) ≡ true = ap (λ (q : Span). hits_any es (q.at + i)) (sym (span-after_write l v a n x w)) ∙ hit in
         elim (equal_or_not w v) [
-          | inl e ↦ subst (λ (u : ℕ). at (after_write k v a n x) u i ≡ at (after_write l v a n x) u i) (sym e) (here i (subst (λ (u : ℕ). hits_any es (address l u i) ≡ true) e hit_before))
+          | inl e ↦ subst (λ (u : ℕ). at (after_write k v a n x) u i ≡ at (after_write l v a n x) u i) (sym e)
+              (here i (subst (λ (u : ℕ). hits_any es (address l u i) ≡ true) e hit_before))
           | inr far ↦ write_there k d v a n so_k (reaches_too v a n r) x w i far ∙ fewer.bytes w i h hit_before ∙ sym (write_there l d v a n so_l r x w i far)
         ];
   }
@@ -84,7 +87,8 @@ module _ (d : ℕ) (e : Event) (es : List Event) (l k : Plain) (so_l : IsSoundSt
           ∙ ap (λ (o : Option ℕ). written a n x (address l v i) o) (fewer.bytes v i h hit)
           ∙ sym (write_here l d v a n so_l r x i)
 
-pub legal_same : (d : ℕ) (made : List Event) (l k t : Plain) → AreNot is_call made → IsSoundStore l → IsSoundStore k → IsSameFor d made l k → PlainlyLegal l (map (entry d) made) t → (u : Plain) × PlainlyLegal k (map (entry d) made) u
+pub legal_same : (d : ℕ) (made : List Event) (l k t : Plain) → AreNot is_call made → IsSoundStore l → IsSoundStore k → IsSameFor d made l k
+    → PlainlyLegal l (map (entry d) made) t → (u : Plain) × PlainlyLegal k (map (entry d) made) u
 legal_same d [] l k t none so_l so_k same legal = (k, refl)
 legal_same d (Load a size found ∷ es) l k t none so_l so_k same (m, allowed, rest) =
     let e : Event = Load a size found in
@@ -99,8 +103,10 @@ legal_same d (Store a size x ∷ es) l k t none so_l so_k same (m, allowed, rest
     let v : ℕ = allowed.0.1.0 in
     let r : MayWrite l d v a (bytes_in size) = allowed.0.1.1 in
     let r_k : MayWrite k d v a (bytes_in size) = writes_too d e es l k so_l so_k same v a (bytes_in size) r in
-    let left : PlainlyLegal (after_write l v a (bytes_in size) x) (map (entry d) es) t = subst (λ (z : Plain). PlainlyLegal z (map (entry d) es) t) allowed.0.1.2 rest in
-    let next = legal_same d es (after_write l v a (bytes_in size) x) (after_write k v a (bytes_in size) x) t none.1 (after_write_sound l d v a (bytes_in size) x so_l r) (after_write_sound k d v a (bytes_in size) x so_k r_k)
+    let left : PlainlyLegal (after_write l v a (bytes_in size) x) (map (entry d) es) t = subst
+    (λ (z : Plain). PlainlyLegal z (map (entry d) es) t) allowed.0.1.2 rest in
+    let next = legal_same d es (after_write l v a (bytes_in size) x) (after_write k v a (bytes_in size) x) t none.1
+    (after_write_sound l d v a (bytes_in size) x so_l r) (after_write_sound k d v a (bytes_in size) x so_k r_k)
     (after_both d e es l k so_l so_k same v a (bytes_in size) x r.reaches) left in
     (next.0, (after_write k v a (bytes_in size) x, ((same.running ∙ allowed.0.0, (v, r_k, refl)), tt), next.1))
 legal_same d (e ∷ es) l k t none so_l so_k same legal = let no : true ≡ false = none.0 in cc
@@ -126,14 +132,16 @@ module _ (c d : ℕ) (ne : c ≢ d) (made : List Event) (l next : Plain) (so : I
   back q = ne (sym q)
 
   -- a write of these bytes leaves those that the events touch
-  write_missed : (w a n x : ℕ) → Reaches l c w a n → ((b : ℕ) → within a n b ≡ true → hits_any made b ≡ true → ⊥) → (v i : ℕ) → hits_any made (address l v i) ≡ true → at (after_write l w a n x) v i ≡ at l v i
+  write_missed : (w a n x : ℕ) → Reaches l c w a n → ((b : ℕ) → within a n b ≡ true → hits_any made b ≡ true → ⊥) → (v i : ℕ) → hits_any
+      made (address l v i) ≡ true → at (after_write l w a n x) v i ≡ at l v i
   write_missed w a n x r clear v i hit = elim (equal_or_not v w) [
     | inl e ↦ subst (λ (u : ℕ). at (after_write l w a n x) u i ≡ at l u i) (sym e) (here (subst (λ (u : ℕ). hits_any made (address l u i) ≡ true) e hit))
     | inr far ↦ write_there l c w a n so r x v i far
   ]
     where
       here : hits_any made (address l w i) ≡ true → at (after_write l w a n x) w i ≡ at l w i
-      here hit = write_here l c w a n so r x i ∙ not_written a n x (address l w i) (at l w i) (false_from_ne_true (within a n (address l w i)) (λ h. clear (address l w i) h hit))
+      here hit = write_here l c w a n so r x i ∙ not_written a n x (address l w i) (at l w i)
+          (false_from_ne_true (within a n (address l w i)) (λ h. clear (address l w i) h hit))
 
   -- what isn't an access leaves them all
   quiet_bytes : (e : Event) → is_access e ≡ false → PlainlyAllowed l c e next → (v i : ℕ) → reached l d v ≡ true → at next v i ≡ at l v i
@@ -149,14 +157,16 @@ module _ (c d : ℕ) (ne : c ≢ d) (made : List Event) (l next : Plain) (so : I
           let same : v ≡ l.made = e in
           absurd (omega arith)))
 
-  bytes_stay : (e : Event) → Misses made e → PlainlyAllowed l c e next → (v i : ℕ) → reached l d v ≡ true → hits_any made (address l v i) ≡ true → at next v i ≡ at l v i
+  bytes_stay : (e : Event) → Misses made e → PlainlyAllowed l c e next → (v i : ℕ) → reached l d v ≡ true → hits_any made (address l v i) ≡
+      true → at next v i ≡ at l v i
   bytes_stay (Load a size found) miss allowed v i h hit = ap (λ (z : Plain). at z v i) allowed.0.1.3
   bytes_stay (Store a size x) miss allowed v i h hit =
       ap (λ (z : Plain). at z v i) allowed.0.1.2
       ∙ write_missed allowed.0.1.0 a (bytes_in size) x allowed.0.1.1.reaches (λ b there too. miss.1 b there too) v i hit
   bytes_stay (Atomic a size op operand expected found) miss allowed v i h hit =
       ap (λ (z : Plain). at z v i) allowed.0.1.3
-      ∙ write_missed allowed.0.1.0 a (bytes_in size) (number_after op (bytes_in size) found operand expected) allowed.0.1.1.reaches (λ b there too. miss.1 b there too) v i hit
+      ∙ write_missed allowed.0.1.0 a (bytes_in size) (number_after op (bytes_in size) found operand expected) allowed.0.1.1.reaches
+      (λ b there too. miss.1 b there too) v i hit
   bytes_stay e miss allowed v i h hit = quiet_bytes e refl allowed v i h
 
   event_same : (e : Event) → Misses made e → PlainlyAllowed l c e next → IsSameFor d made l next
@@ -169,7 +179,8 @@ module _ (c d : ℕ) (ne : c ≢ d) (made : List Event) (l next : Plain) (so : I
   }
 
 -- and after several
-pub legal_along : (c d : ℕ) → c ≢ d → (made : List Event) → AreNot is_call made → (es : List Event) (l next t : Plain) → IsSoundStore l → AllMiss made es → PlainlyLegal l (map (entry c) es) next → PlainlyLegal l (map (entry d) made) t
+pub legal_along : (c d : ℕ) → c ≢ d → (made : List Event) → AreNot is_call made → (es : List Event) (l next t : Plain) → IsSoundStore l →
+    AllMiss made es → PlainlyLegal l (map (entry c) es) next → PlainlyLegal l (map (entry d) made) t
     → (u : Plain) × PlainlyLegal next (map (entry d) made) u
 legal_along c d ne made none [] l next t so miss legal own = (t, subst (λ (z : Plain). PlainlyLegal z (map (entry d) made) t) legal own)
 legal_along c d ne made none (e ∷ es) l next t so miss legal own =

@@ -1,6 +1,7 @@
 -- The events of a step: a step with a store makes loads and stores alone, and a job's first step touches no
 -- value.
-use Rattle.std.proofs.Common.{◌≡◌, ℕ, zero, suc, ℤ, pos, negsuc, ◌+◌, ◌-◌, ◌*◌, ◌/◌, ◌%◌, ◌^◌, ◌<◌, ◌≤◌, Bool, true, false, List, [], ◌∷◌, ◌++◌, length, take, drop, Option, Some, None, Result, ◌⊎◌, inl, inr, refl, sym, ap, subst, ◌∙◌, arith}
+use Rattle.std.proofs.Common.{◌≡◌, ℕ, zero, suc, ℤ, pos, negsuc, ◌+◌, ◌-◌, ◌*◌, ◌/◌, ◌%◌, ◌^◌, ◌<◌, ◌≤◌, Bool, true, false, List, [], ◌∷◌}
+use Rattle.std.proofs.Common.{◌++◌, length, take, drop, Option, Some, None, Result, ◌⊎◌, inl, inr, refl, sym, ap, subst, ◌∙◌, arith}
 use Rattle.std.specs.Prelude.{slice_index}
 use Rattle.bpf_shared.specs.Access.{bytes_in}
 use Rattle.bpf_shared.specs.Shape.{Shape, IsShape, map_area}
@@ -78,13 +79,15 @@ module _ (shape : Shape) (memory : PrivateMemory) (held : List Span) where
       (looks : (m : ℕ) (key : List ℕ) (found : Option Span) → test (Lookup m key found) ≡ false)
       (updates : (m : ℕ) (key bytes : List ℕ) (flags : ℕ) (answer : MapAnswer) → test (Update m key bytes flags answer) ≡ false)
       (deletes : (m : ℕ) (key : List ℕ) (answer : MapAnswer) → test (Delete m key answer) ≡ false) where
-    map_not : (registers : List ℕ) (m : ℕ) (h : MapShape) (n : ℕ) (events : List Event) (result : Result ℕ HelperFault) (after : List Span) → CallsMap shape memory registers held m h n events result after → AreNot test events
+    map_not : (registers : List ℕ) (m : ℕ) (h : MapShape) (n : ℕ) (events : List Event) (result : Result ℕ HelperFault) (after : List Span)
+        → CallsMap shape memory registers held m h n events result after → AreNot test events
     map_not registers m h n events result after (inl (is, inl stops)) = none_of test events stops.1.0
     map_not registers m h n events result after (inl (is, inr r)) =
         subst (AreNot test) (sym r.4) (AreNot-append test r.1 (Lookup m r.0 r.2 ∷ []) (reads _ _ r.0 r.1 r.3) (looks m r.0 r.2, tt))
     map_not registers m h n events result after (inr (inl (is, inl stops))) = none_of test events stops.1.0
     map_not registers m h n events result after (inr (inl (is, inr r))) =
-        subst (AreNot test) (sym r.7) (AreNot-append test (r.2 ++ r.3) (Update m r.0 r.1 _ r.4 ∷ []) (AreNot-append test r.2 r.3 (reads _ _ r.0 r.2 r.5) (reads _ _ r.1 r.3 r.6)) (updates m r.0 r.1 _ r.4, tt))
+        subst (AreNot test) (sym r.7) (AreNot-append test (r.2 ++ r.3) (Update m r.0 r.1 _ r.4 ∷ [])
+        (AreNot-append test r.2 r.3 (reads _ _ r.0 r.2 r.5) (reads _ _ r.1 r.3 r.6)) (updates m r.0 r.1 _ r.4, tt))
     map_not registers m h n events result after (inr (inr (is, inl stops))) = none_of test events stops.1.0
     map_not registers m h n events result after (inr (inr (is, inr r))) =
         subst (AreNot test) (sym r.4) (AreNot-append test r.1 (Delete m r.0 r.2 ∷ []) (reads _ _ r.0 r.1 r.3) (deletes m r.0 r.2, tt))
@@ -99,23 +102,27 @@ module _ (shape : Shape) (memory : PrivateMemory) (held : List Span) where
       → ((m : ℕ) (key : List ℕ) (found : Option Span) → test (Lookup m key found) ≡ false)
       → ((m : ℕ) (key bytes : List ℕ) (flags : ℕ) (answer : MapAnswer) → test (Update m key bytes flags answer) ≡ false)
       → ((m : ℕ) (key : List ℕ) (answer : MapAnswer) → test (Delete m key answer) ≡ false)
-      → (n cpu : ℕ) (registers : List ℕ) (events : List Event) (result : Result ℕ HelperFault) (after : List Span) → CallsHelper shape n cpu registers memory held events result after
+      → (n cpu : ℕ) (registers : List ℕ) (events : List Event) (result : Result ℕ HelperFault) (after : List Span) → CallsHelper shape n cpu
+      registers memory held events result after
       → AreNot test events ⊎ IsArrayCall n cpu registers events result after
   helper_kind test reads looks updates deletes n cpu registers events result after (inl r) = inl (none_of test events r.1)
   helper_kind test reads looks updates deletes n cpu registers events result after (inr (inl r)) = inl (none_of test events r.3.0)
-  helper_kind test reads looks updates deletes n cpu registers events result after (inr (inr (inl r))) = inl (map_not test reads looks updates deletes registers r.0 r.1 n events result after r.3)
+  helper_kind test reads looks updates deletes n cpu registers events result after (inr (inr (inl r))) = inl
+      (map_not test reads looks updates deletes registers r.0 r.1 n events result after r.3)
   helper_kind test reads looks updates deletes n cpu registers events result after (inr (inr (inr r))) = inr (r.0, r.1, r.2, r.4)
 
   reads_no_store : (a n : ℕ) (key : List ℕ) (first : List Event) → Reads shape memory held a n key first → AreNot is_store first
   reads_no_store a n key first (inl r) = none_of is_store first r.1
   reads_no_store a n key first (inr r) = subst (AreNot is_store) (sym r.3) (loads_not a key)
 
-  helper_stores : (n cpu : ℕ) (registers : List ℕ) (events : List Event) (result : Result ℕ HelperFault) (after : List Span) → CallsHelper shape n cpu registers memory held events result after
+  helper_stores : (n cpu : ℕ) (registers : List ℕ) (events : List Event) (result : Result ℕ HelperFault) (after : List Span) → CallsHelper
+      shape n cpu registers memory held events result after
       → AreNot is_store events ⊎ IsArrayCall n cpu registers events result after
   helper_stores = helper_kind is_store reads_no_store (λ m key found. refl) (λ m key bytes flags answer. refl) (λ m key answer. refl)
 
   -- ---- calls on arrays make loads and stores alone
-  stops_no_call : (registers : List ℕ) (events : List Event) (result : Result ℕ HelperFault) (after : List Span) → StopsAtKey shape memory registers held events result after → AreNot is_call events
+  stops_no_call : (registers : List ℕ) (events : List Event) (result : Result ℕ HelperFault) (after : List Span) → StopsAtKey shape memory
+      registers held events result after → AreNot is_call events
   stops_no_call registers events result after (inl r) = none_of is_call events r.1.0
   stops_no_call registers events result after (inr r) = none_of is_call events r.1.0
 
@@ -123,18 +130,22 @@ module _ (shape : Shape) (memory : PrivateMemory) (held : List Span) where
   index_no_call a index events (inl r) = none_of is_call events r.3
   index_no_call a index events (inr r) = subst (AreNot is_call) (sym r.3) (refl, tt)
 
-  copies_no_call : (reading : ℕ → List ℕ → List Event) → ((a : ℕ) (bytes : List ℕ) → AreNot is_call (reading a bytes)) → (sizes : List Size) (from to : ℕ) (bytes : List ℕ) → AreNot is_call (copies reading from to sizes bytes)
+  copies_no_call : (reading : ℕ → List ℕ → List Event) → ((a : ℕ) (bytes : List ℕ) → AreNot is_call (reading a bytes)) → (sizes : List Size)
+      (from to : ℕ) (bytes : List ℕ) → AreNot is_call (copies reading from to sizes bytes)
   copies_no_call reading none [] from to bytes = tt
   copies_no_call reading none (size ∷ sizes) from to bytes =
       AreNot-append is_call (reading from (take (bytes_in size) bytes)) _ (none from (take (bytes_in size) bytes))
       (refl, copies_no_call reading none sizes (from + bytes_in size) (to + bytes_in size) (drop (bytes_in size) bytes))
 
-  answers_no_call : (registers : List ℕ) (to n : ℕ) (refusal : Option ℕ) (events : List Event) (result : Result ℕ HelperFault) → Answers shape memory registers held to n refusal events result → AreNot is_call events
+  answers_no_call : (registers : List ℕ) (to n : ℕ) (refusal : Option ℕ) (events : List Event) (result : Result ℕ HelperFault) → Answers
+      shape memory registers held to n refusal events result → AreNot is_call events
   answers_no_call registers to n (Some refusal) events result r = none_of is_call events r.0
-  answers_no_call registers to n None events result (said, inl r) = subst (AreNot is_call) (sym r.2) (copies_no_call no_loads (λ a bytes. tt) (parts_of n) _ to r.0)
+  answers_no_call registers to n None events result (said, inl r) = subst (AreNot is_call) (sym r.2)
+      (copies_no_call no_loads (λ a bytes. tt) (parts_of n) _ to r.0)
   answers_no_call registers to n None events result (said, inr r) = subst (AreNot is_call) (sym r.3) (copies_no_call loads loads_no_call (parts_of n) _ to r.0)
 
-  array_no_call : (n cpu : ℕ) (registers : List ℕ) (events : List Event) (result : Result ℕ HelperFault) (after : List Span) → IsArrayCall n cpu registers events result after → AreNot is_call events
+  array_no_call : (n cpu : ℕ) (registers : List ℕ) (events : List Event) (result : Result ℕ HelperFault) (after : List Span) → IsArrayCall n
+      cpu registers events result after → AreNot is_call events
   array_no_call n cpu registers events result after (a, g, at, inl (is, inl stops)) = stops_no_call registers events result after stops
   array_no_call n cpu registers events result after (a, g, at, inl (is, inr r)) = index_no_call _ r.0 events r.1
   array_no_call n cpu registers events result after (a, g, at, inr (inl (is, inl stops))) = none_of is_call events stops.1.0
@@ -171,10 +182,12 @@ module _ (shape : Shape) (old new : Cpu) (events : List Event) (progress : Progr
   value_alone i row = absurd row
 
 -- loads and stores alone, or none is a store
-pub stores_apart : (shape : Shape) (program : Loaded) (old new : Cpu) (events : List Event) (progress : Progress) → Step shape program old events progress new → AreNot is_store events ⊎ AreNot is_call events
+pub stores_apart : (shape : Shape) (program : Loaded) (old new : Cpu) (events : List Event) (progress : Progress) → Step shape program old
+    events progress new → AreNot is_store events ⊎ AreNot is_call events
 stores_apart shape program old new events progress step = from step.row
   where
-    of_helper : (n : ℕ) (result : Result ℕ HelperFault) (after : List Span) → AreNot is_store events ⊎ IsArrayCall shape old.memory old.held n old.number old.registers events result after → AreNot is_store events ⊎ AreNot is_call events
+    of_helper : (n : ℕ) (result : Result ℕ HelperFault) (after : List Span) → AreNot is_store events ⊎ IsArrayCall shape old.memory old.held
+        n old.number old.registers events result after → AreNot is_store events ⊎ AreNot is_call events
     of_helper n result after (inl none) = inl none
     of_helper n result after (inr call) = inr (array_no_call shape old.memory old.held n old.number old.registers events result after call)
 
@@ -257,7 +270,8 @@ module _ (shape : Shape) (is : IsShape shape) (number : ℕ) (input : Input) whe
   no_lock = none_there 0x2_0000_0000 op_size.Word (inl (omega arith))
 
   -- no helper of maps asks a store: R1 is no map and no array
-  no_call : (n : ℕ) (events : List Event) (result : Result ℕ HelperFault) (after : List Span) → CallsHelper shape n number first.registers first.memory [] events result after → events ≡ []
+  no_call : (n : ℕ) (events : List Event) (result : Result ℕ HelperFault) (after : List Span) → CallsHelper shape n number first.registers
+      first.memory [] events result after → events ≡ []
   no_call n events result after (inl r) = r.1
   no_call n events result after (inr (inl r)) = r.3.0
   no_call n events result after (inr (inr (inl r))) =
@@ -287,13 +301,15 @@ module _ (shape : Shape) (is : IsShape shape) (number : ℕ) (input : Input) whe
 
     value_refused : (i : Insn) → Fits i → AsksValue shape i first events progress new → events ≡ []
     value_refused (insn.Load z d b o) fits row = load_refused z (λ x. x) d (effective_address first b o) (far b o fits) row
-    value_refused (insn.LoadSigned z d b o) fits row = load_refused (plain_size z) (sign_extended (extension_of z)) d (effective_address first b o) (far b o fits) row
+    value_refused (insn.LoadSigned z d b o) fits row = load_refused (plain_size z) (sign_extended (extension_of z)) d
+        (effective_address first b o) (far b o fits) row
     value_refused (insn.StoreImmediate z b o n) fits row = store_refused z (effective_address first b o) (cast_unsigned w64 n) (far b o fits.0) row
     value_refused (insn.Store z b o s) fits row = store_refused z (effective_address first b o) (value first s) (far b o fits) row
     value_refused (insn.Atomic w op b o s) fits row = change_refused w op s (effective_address first b o) (far b o fits) row
     value_refused i fits row = absurd row
 
-pub first_asks_nothing : (shape : Shape) → IsShape shape → (program : Loaded) → FirstFits program → (number : ℕ) (input : Input) (new : Cpu) (events : List Event) (progress : Progress) → Step shape program (start number input) events progress new → events ≡ []
+pub first_asks_nothing : (shape : Shape) → IsShape shape → (program : Loaded) → FirstFits program → (number : ℕ) (input : Input) (new : Cpu)
+    (events : List Event) (progress : Progress) → Step shape program (start number input) events progress new → events ≡ []
 first_asks_nothing shape is program fits number input new events progress step = from step.row
   where
     from : Executes shape step.instruction (start number input) events progress new → events ≡ []

@@ -24,10 +24,12 @@ use Rattle.bpf_x86.proofs.Simulating.{race_free_is_same}
 
 -- the step of a turn, on a job in hand with steps left
 abbrev IsStep : World → ℕ → Task → Cpu → Type 0
-IsStep w c task state = (program : Loaded) × (events : List Event) × (answer : Progress) × (new : Cpu) × (s : Plain) × (slice_get w.programs task.program ≡ Some program)
+IsStep w c task state = (program : Loaded) × (events : List Event) × (answer : Progress) × (new : Cpu) × (s : Plain) ×
+    (slice_get w.programs task.program ≡ Some program)
     × Step w.store.shape program state events answer new × PlainlyLegal w.store (map (entry c) events) s
 
-taken_step : (w : World) (c j : ℕ) (task : Task) (state : Cpu) (n : ℕ) (answer : Turn) (y : World) → IsWorld w → IsAt w.jobs c j task (InHand state (suc n)) → TakesTurn w c answer y → IsStep w c task state
+taken_step : (w : World) (c j : ℕ) (task : Task) (state : Cpu) (n : ℕ) (answer : Turn) (y : World) → IsWorld w → IsAt w.jobs c j task
+    (InHand state (suc n)) → TakesTurn w c answer y → IsStep w c task state
 taken_step w c j task state n answer y world at (inl a) =
     let one : a.0 ≡ j = world.one c a.0 j a.1 task a.2 state a.3 (suc n) a.4 at in
     let there : IsAt w.jobs c j a.1 (InHand a.2 a.3) = subst (λ (i : ℕ). IsAt w.jobs c i a.1 (InHand a.2 a.3)) one a.4 in
@@ -66,7 +68,8 @@ module _ (law : WritesAreDetermined) (begins : OneInstructionBegins) (replies : 
       let stage : more.0.stage ≡ InHand state (suc (left + hand.0)) = ap (λ (t : Task). t.stage) hand.1 ∙ ap (InHand state) steps in
       let of : more.0.cpu ≡ c = ap (λ (t : Task). t.cpu) hand.1 ∙ at.of in
       let r = there.2 c in
-      let made = taken_step (with_jobs z there.0) c j more.0 state (left + hand.0) r.0 r.1 (rich_world z there.0 rich (world_there z schedule runs)) (record { listed = more.1; of = of; at = stage }) r.2 in
+      let made = taken_step (with_jobs z there.0) c j more.0 state (left + hand.0) r.0 r.1
+      (rich_world z there.0 rich (world_there z schedule runs)) (record { listed = more.1; of = of; at = stage }) r.2 in
       let program : more.0.program ≡ task.program = ap (λ (t : Task). t.program) hand.1 in
       (made.0, made.1, made.2, made.3, made.4, subst (λ (i : ℕ). slice_get z.programs i ≡ Some made.0) program made.5, made.6, made.7)
 

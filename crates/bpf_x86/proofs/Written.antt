@@ -1,5 +1,6 @@
 -- What writes leave of the bytes of values, byte by byte.
-use Rattle.std.proofs.Common.{◌≡◌, ◌≢◌, ℕ, zero, suc, ◌+◌, ◌-◌, ◌<◌, ◌≤◌, Bool, true, false, List, [], ◌∷◌, ◌++◌, length, take, drop, Option, Some, None, inl, inr, refl, sym, ap, subst, ◌∙◌, arith, length-append}
+use Rattle.std.proofs.Common.{◌≡◌, ◌≢◌, ℕ, zero, suc, ◌+◌, ◌-◌, ◌<◌, ◌≤◌, Bool, true, false, List, [], ◌∷◌, ◌++◌, length, take, drop}
+use Rattle.std.proofs.Common.{Option, Some, None, inl, inr, refl, sym, ap, subst, ◌∙◌, arith, length-append}
 use Rattle.std.specs.Prelude.{slice_get}
 use Rattle.std.proofs.lemmas.Bool.{cases_lt, false_from_ne_true}
 use Rattle.std.proofs.lemmas.List.{length-take-le}
@@ -43,12 +44,14 @@ past_take (suc n) (x ∷ xs) (suc j) h = past_take n xs j (omega arith)
 
 pub same_part : (xs ys : List ℕ) (i n : ℕ) → ((j : ℕ) → j < n → slice_get xs (i + j) ≡ slice_get ys (i + j)) → part xs i n ≡ part ys i n
 same_part xs ys i n same = same_list (part xs i n) (part ys i n) (λ j. elim (cases_lt j n) [
-  | inl l ↦ slice_get-take n (drop i xs) j l ∙ slice_get-drop i xs j (i + j) refl ∙ same j l ∙ sym (slice_get-take n (drop i ys) j l ∙ slice_get-drop i ys j (i + j) refl)
+  | inl l ↦ slice_get-take n (drop i xs) j l ∙ slice_get-drop i xs j (i + j) refl ∙ same j l ∙ sym
+      (slice_get-take n (drop i ys) j l ∙ slice_get-drop i ys j (i + j) refl)
   | inr past ↦ past_take n (drop i xs) j past ∙ sym (past_take n (drop i ys) j past)
 ])
 
 -- ---- a part that is replaced
-in_part : (list : List ℕ) (i : ℕ) (others : List ℕ) → i + length others ≤ length list → (k j : ℕ) → k ≡ i + j → j < length others → slice_get (with_part list i others) k ≡ slice_get others j
+in_part : (list : List ℕ) (i : ℕ) (others : List ℕ) → i + length others ≤ length list → (k j : ℕ) → k ≡ i + j → j < length others →
+    slice_get (with_part list i others) k ≡ slice_get others j
 in_part list i others fits k j e below =
     let front : length (take i list) ≡ i = length-take-le i list (omega arith) in
     let both : length (take i list ++ others) ≡ length (take i list) + length others = length-append (take i list) others in
@@ -92,7 +95,8 @@ module _ (s : Plain) (c v a n : ℕ) (so : IsSoundStore s) (r : Reaches s c v a 
 
   -- in another
   pub write_there : (x w i : ℕ) → w ≢ v → at (after_write s v a n x) w i ≡ at s w i
-  write_there x w i ne = ap (λ (y : Value). slice_get y.bytes i) (put-other s.value v w (record (s.value v) { bytes = with_part (s.value v).bytes (a - (s.value v).span.at) (low_bytes n x) }) ne)
+  write_there x w i ne = ap (λ (y : Value). slice_get y.bytes i)
+      (put-other s.value v w (record (s.value v) { bytes = with_part (s.value v).bytes (a - (s.value v).span.at) (low_bytes n x) }) ne)
 
   -- the addresses of another live value aren't touched
   pub apart_missed : (w i : ℕ) → IsLive s w → w ≢ v → i < (s.value w).span.size → within a n (address s w i) ≡ false
@@ -120,7 +124,8 @@ pub same_number : (s t : Plain) (v a n : ℕ) → (s.value v).span ≡ (t.value 
     → ((i : ℕ) → within a n (address s v i) ≡ true → at s v i ≡ at t v i) → number_in s v a n ≡ number_in t v a n
 same_number s t v a n spans least same =
     let off = a - (s.value v).span.at in
-    let parts : part (s.value v).bytes off n ≡ part (t.value v).bytes off n = same_part (s.value v).bytes (t.value v).bytes off n (λ j below. same (off + j) (hit j below)) in
+    let parts : part (s.value v).bytes off n ≡ part (t.value v).bytes off n = same_part (s.value v).bytes (t.value v).bytes off n
+    (λ j below. same (off + j) (hit j below)) in
     ap little_endian parts ∙ ap (λ (p : Span). little_endian (part (t.value v).bytes (a - p.at) n)) spans
   where
     hit : (j : ℕ) → j < n → within a n (address s v (a - (s.value v).span.at + j)) ≡ true

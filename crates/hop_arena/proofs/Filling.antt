@@ -17,7 +17,13 @@ IsFirst fs m e = (f : Fresh) × (fs ≡ f ∷ tail_of fs) × (f.map ≡ m) × (f
 
 still_first : (fs : List Fresh) (m e : ℕ) (ks vs : List ℕ) → IsFirst fs m e → IsFirst (with_words fs ks vs) m e
 still_first [] m e ks vs h = let z = h.1 in cc
-still_first (x ∷ xs) m e ks vs h = (record x { key = x.key ++ ks; value = x.value ++ vs }, refl, ap (λ (fs : List Fresh). (first fs).map) h.1 ∙ h.2, ap (λ (fs : List Fresh). (first fs).element) h.1 ∙ h.3)
+still_first (x ∷ xs) m e ks vs h = (
+  record x { key = x.key ++ ks; value = x.value ++ vs },
+  refl,
+  ap (λ (fs : List Fresh). (first fs).map)
+      h.1 ∙ h.2,
+  ap (λ (fs : List Fresh). (first fs).element) h.1 ∙ h.3,
+)
 
 pub still_in_hand : (l : Known) (m e : ℕ) (ks vs : List ℕ) → IsInHand l m e → IsInHand (record l { fresh = with_words l.fresh ks vs }) m e
 still_in_hand l m e ks vs h = still_first l.fresh m e ks vs h

@@ -16,7 +16,8 @@ from_append f (x ∷ xs) e = from_append (held_since f x) xs e
 same : (s : Span) → same_span s s ≡ true
 same s = ap (λ (b : Bool). b && (s.size == s.size)) (eq-eqb s.at s.at refl) ∙ eq-eqb s.size s.size refl
 
-pub found_held : (a : About) (p q : Port) (m : ℕ) (key : List ℕ) (o : Option Span) (s : Span) → PortDoes a p (Lookup m key o) q → o ≡ Some s → port_holds q s ≡ true
+pub found_held : (a : About) (p q : Port) (m : ℕ) (key : List ℕ) (o : Option Span) (s : Span) → PortDoes a p (Lookup m key o) q → o ≡ Some s
+    → port_holds q s ≡ true
 found_held a p q m key o s d is =
     let e : Event = Lookup m key (Some s) in
     let here : PortDoes a p e q = subst (λ (r : Option Span). PortDoes a p (Lookup m key r) q) is d in

@@ -1,5 +1,6 @@
 -- What a call of a port is to the shared store that has the port.
-use Rattle.std.proofs.Common.{◌≡◌, ℕ, Bool, true, false, List, [], ◌∷◌, ◌++◌, ◌==◌, ◌&&◌, ◌||◌, if◌then◌else◌, refl, ap, sym, ◌∙◌, subst, arith, Option, Some, None, Result, Ok, Err, OnOk, OnErr, inl}
+use Rattle.std.proofs.Common.{◌≡◌, ℕ, Bool, true, false, List, [], ◌∷◌, ◌++◌, ◌==◌, ◌&&◌, ◌||◌, if◌then◌else◌, refl, ap, sym, ◌∙◌, subst}
+use Rattle.std.proofs.Common.{arith, Option, Some, None, Result, Ok, Err, OnOk, OnErr, inl}
 use Rattle.std.proofs.lemmas.Bool.Decides.{nat_tests}
 use Rattle.bpf_shared.specs.declared.sharing.Worn.{Worn}
 use Rattle.bpf_shared.specs.declared.events.Span.{Span}
@@ -37,7 +38,8 @@ module _ (t : Shown) (p q : Port) (c : ℕ) (e : Event) (d : PortDoes t.about p 
   noted_one (sights, is, may) = (sights, is, (sights, [], refl, inl may, refl))
 
   -- a call of the CPU that is served
-  calls_growing : CallsNote t.about (e ∷ []) p.known q.known → serves (with_port t p) c ≡ true → Calls (ExtendsHistory (with_port t p) (with_port t q)) (serves (with_port t p)) c e
+  calls_growing : CallsNote t.about (e ∷ []) p.known q.known → serves (with_port t p) c ≡ true → Calls
+      (ExtendsHistory (with_port t p) (with_port t q)) (serves (with_port t p)) c e
   calls_growing notes served = record {
     others = d.seen.others;
     foreign = λ b is. ap (λ (k : ℕ). events_of k d.seen.others) (sym (own_cpu p b is)) ∙ d.seen.foreign;
@@ -51,7 +53,8 @@ module _ (t : Shown) (p q : Port) (c : ℕ) (e : Event) (d : PortDoes t.about p 
     };
   }
 
-  calls : CallNotes t.about e p.known q.known → serves (with_port t p) c ≡ true → Calls (ExtendsHistory (with_port t p) (with_port t q)) (serves (with_port t p)) c e
+  calls : CallNotes t.about e p.known q.known → serves (with_port t p) c ≡ true → Calls (ExtendsHistory (with_port t p) (with_port t q))
+      (serves (with_port t p)) c e
   calls notes served = calls_growing (noted_one notes) served
 
   serves_same : serves (with_port t q) ≡ serves (with_port t p)
@@ -76,17 +79,21 @@ pub and_false : (b : Bool) → (b && false) ≡ false
 and_false true = refl
 and_false false = refl
 
-holds_none : (t : Shown) (p q : Port) (c : ℕ) → q.known.cpu ≡ p.known.cpu → serves (with_port t p) c ≡ true → port_holds q ≡ no_span → serves_span (with_port t q) ≡ held_without (serves_span (with_port t p)) c
+holds_none : (t : Shown) (p q : Port) (c : ℕ) → q.known.cpu ≡ p.known.cpu → serves (with_port t p) c ≡ true → port_holds q ≡ no_span →
+    serves_span (with_port t q) ≡ held_without (serves_span (with_port t p)) c
 holds_none t p q c cpu served now = λ i b s. go b s (b == c) refl i
   where
     mine : p.known.cpu ≡ c
     mine = own_cpu p c served
 
-    go : (b : ℕ) (s : Span) (same : Bool) → (b == c) ≡ same → ((b == q.known.cpu) && port_holds q s) ≡ (if b == c then false else ((b == p.known.cpu) && port_holds p s))
+    go : (b : ℕ) (s : Span) (same : Bool) → (b == c) ≡ same → ((b == q.known.cpu) && port_holds q s) ≡
+        (if b == c then false else ((b == p.known.cpu) && port_holds p s))
     go b s true here = ap (λ (f : Span → Bool). (b == q.known.cpu) && f s) now ∙ (and_false (b == q.known.cpu) ∙ rw here refl)
-    go b s false here = ap (λ (f : Span → Bool). (b == q.known.cpu) && f s) now ∙ (and_false (b == q.known.cpu) ∙ rw here (sym (ap (λ (x : Bool). x && port_holds p s) (ap (λ (k : ℕ). b == k) mine ∙ here))))
+    go b s false here = ap (λ (f : Span → Bool). (b == q.known.cpu) && f s) now ∙
+        (and_false (b == q.known.cpu) ∙ rw here (sym (ap (λ (x : Bool). x && port_holds p s) (ap (λ (k : ℕ). b == k) mine ∙ here))))
 
-holds_more : (t : Shown) (p q : Port) (c m : ℕ) (key : List ℕ) (r : Option Span) → serves (with_port t p) c ≡ true → PortDoes t.about p (Lookup m key r) q → serves_span (with_port t q) ≡ held_with (serves_span (with_port t p)) c r
+holds_more : (t : Shown) (p q : Port) (c m : ℕ) (key : List ℕ) (r : Option Span) → serves (with_port t p) c ≡ true → PortDoes t.about p
+    (Lookup m key r) q → serves_span (with_port t q) ≡ held_with (serves_span (with_port t p)) c r
 holds_more t p q c m key None served d = holds_on t p q c (Lookup m key None) d refl
 holds_more t p q c m key (Some r) served d = λ i b s. go b s (b == c) refl i
   where
@@ -99,7 +106,8 @@ holds_more t p q c m key (Some r) served d = λ i b s. go b s (b == c) refl i
     now : port_holds q ≡ held_since (port_holds p) e
     now = held_after t p q c e d
 
-    go : (b : ℕ) (s : Span) (same : Bool) → (b == c) ≡ same → ((b == q.known.cpu) && port_holds q s) ≡ (((b == c) && same_span s r) || ((b == p.known.cpu) && port_holds p s))
+    go : (b : ℕ) (s : Span) (same : Bool) → (b == c) ≡ same → ((b == q.known.cpu) && port_holds q s) ≡
+        (((b == c) && same_span s r) || ((b == p.known.cpu) && port_holds p s))
     go b s true here =
         let same : (b == p.known.cpu) ≡ true = ap (λ (k : ℕ). b == k) mine ∙ here in
         ap (λ (k : ℕ). (b == k) && port_holds q s) (d.cpu ∙ mine)
@@ -138,30 +146,37 @@ module _ (x : Serving) (t : Shown) (p : Port) (is : with_port t p ≡ x) (c : �
         (refl, serves_same t p q c e d, runs_on t p q c e d on)
 
     -- an event in a run, which goes on
-    pub same : running x c ≡ true → runs q ≡ true → (t.about.shape ≡ x.table.about.shape) × (serves (with_port t q) ≡ serves x) × (running (with_port t q) ≡ running x)
+    pub same : running x c ≡ true → runs q ≡ true → (t.about.shape ≡ x.table.about.shape) × (serves (with_port t q) ≡ serves x) ×
+        (running (with_port t q) ≡ running x)
     same before after = still (after ∙ sym (is_running true before))
 
     pub same_held : held_since (port_holds p) e ≡ port_holds p → serves_span (with_port t q) ≡ serves_span x
     same_held k = subst (λ (z : Serving). serves_span (with_port t q) ≡ serves_span z) is (holds_on t p q c e d k)
 
-  pub found_held : (q : Port) (m : ℕ) (key : List ℕ) (r : Option Span) → PortDoes t.about p (Lookup m key r) q → serves_span (with_port t q) ≡ held_with (serves_span x) c r
+  pub found_held : (q : Port) (m : ℕ) (key : List ℕ) (r : Option Span) → PortDoes t.about p (Lookup m key r) q → serves_span (with_port t q)
+      ≡ held_with (serves_span x) c r
   found_held q m key r d = subst (λ (z : Serving). serves_span (with_port t q) ≡ held_with (serves_span z) c r) is (holds_more t p q c m key r own d)
 
   pub ended_held : (q : Port) → PortDoes t.about p End q → serves_span (with_port t q) ≡ held_without (serves_span x) c
-  ended_held q d = subst (λ (z : Serving). serves_span (with_port t q) ≡ held_without (serves_span z) c) is (holds_none t p q c d.cpu own (held_after t p q c End d))
+  ended_held q d = subst (λ (z : Serving). serves_span (with_port t q) ≡ held_without (serves_span z) c) is
+      (holds_none t p q c d.cpu own (held_after t p q c End d))
 
   -- ---- a beginning, which may be refused
   abbrev Begun : Result (Unit {0}) Worn → Port → Type 0
   Begun r q = OnOk r (PortDoes t.about p Begin q)
 
-  pub begun : (q : Port) (r : Result (Unit {0}) Worn) → Begun r q → OnOk r (CallNotes t.about Begin p.known q.known) → OnOk r (Calls (ExtendsHistory x (with_port t q)) (serves x) c Begin)
+  pub begun : (q : Port) (r : Result (Unit {0}) Worn) → Begun r q → OnOk r (CallNotes t.about Begin p.known q.known) → OnOk r
+      (Calls (ExtendsHistory x (with_port t q)) (serves x) c Begin)
   begun q (Ok u) d notes = called q Begin d notes
   begun q (Err w) d notes = tt
 
   pub begun_held : (q : Port) (r : Result (Unit {0}) Worn) → Begun r q → OnOk r (serves_span (with_port t q) ≡ held_without (serves_span x) c)
-  begun_held q (Ok u) d = subst (λ (z : Serving). serves_span (with_port t q) ≡ held_without (serves_span z) c) is (holds_none t p q c d.cpu own (held_after t p q c Begin d))
+  begun_held q (Ok u) d = subst (λ (z : Serving). serves_span (with_port t q) ≡ held_without (serves_span z) c) is
+      (holds_none t p q c d.cpu own (held_after t p q c Begin d))
   begun_held q (Err w) d = tt
 
-  pub refused : (q : Port) (r : Result (Unit {0}) Worn) → OnErr r (q ≡ p) → OnErr r (ExtendsHistory x (with_port t q) [] × (running (with_port t q) ≡ running x) × (serves_span (with_port t q) ≡ serves_span x))
+  pub refused : (q : Port) (r : Result (Unit {0}) Worn) → OnErr r (q ≡ p) → OnErr r
+      (ExtendsHistory x (with_port t q) [] × (running (with_port t q) ≡ running x) × (serves_span (with_port t q) ≡ serves_span x))
   refused q (Ok u) w = tt
-  refused q (Err e) w = subst (λ (z : Serving). ExtendsHistory x z [] × (running z ≡ running x) × (serves_span z ≡ serves_span x)) (sym (ap (with_port t) w ∙ is)) (nothing x, refl, refl)
+  refused q (Err e) w = subst (λ (z : Serving). ExtendsHistory x z [] × (running z ≡ running x) × (serves_span z ≡ serves_span x))
+      (sym (ap (with_port t) w ∙ is)) (nothing x, refl, refl)

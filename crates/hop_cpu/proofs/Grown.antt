@@ -1,5 +1,6 @@
 -- An update, and a split after it.
-use Rattle.std.proofs.Common.{◌≡◌, ℕ, Bool, true, false, not, List, [], ◌∷◌, ◌++◌, refl, ap, sym, subst, ◌∙◌, append_assoc, Option, Some, None, IfSome, inl, inr, ⊎_elim}
+use Rattle.std.proofs.Common.{◌≡◌, ℕ, Bool, true, false, not, List, [], ◌∷◌, ◌++◌, refl, ap, sym, subst, ◌∙◌, append_assoc, Option, Some}
+use Rattle.std.proofs.Common.{None, IfSome, inl, inr, ⊎_elim}
 use Rattle.std.proofs.lemmas.List.{append_cancel_right}
 use Rattle.bpf_shared.specs.declared.events.Event.{Event}
 use Rattle.bpf_shared.specs.declared.events.MapAnswer.{MapAnswer}
@@ -29,9 +30,19 @@ none_some is = cc
 
 -- ---- a split that was tried, or none
 pub grows_none : (a : About) (m : ℕ) (p : Port) → ((s : ℕ) → p.spilled ≡ Some s → (shape_at a m).grow ≡ true → ⊥) → GrowsMap a m p p
-grows_none a m p never = record { more = []; notes = inl refl; tally = refl; known = refl; same = refl; untried = λ _. refl; tried = λ s is grow. absurd (never s is grow) }
+grows_none a m p never = record {
+  more = [];
+  notes = inl refl;
+  tally = refl;
+  known = refl;
+  same = refl;
+  untried = λ _. refl;
+  tried = λ s is
+      grow. absurd (never s is grow);
+}
 
-pub grows_split : (a : About) (m home : ℕ) (p q : Port) (g : Growth) → p.spilled ≡ Some home → (shape_at a m).grow ≡ true → q ≡ record p { known = q.known } → SplitEnds a p.known m home g q.known → GrowsMap a m p q
+pub grows_split : (a : About) (m home : ℕ) (p q : Port) (g : Growth) → p.spilled ≡ Some home → (shape_at a m).grow ≡ true → q ≡ record p
+    { known = q.known } → SplitEnds a p.known m home g q.known → GrowsMap a m p q
 grows_split a m home p q Grown spilled grow same (s, n, owns, less, version, is) = record {
   more = split_made m s n ∷ (lock_taken m s n ∷ []);
   notes = inr (grow, (home, spilled, (s, n, owns.here, inr refl)));
@@ -81,7 +92,8 @@ module _ (a : About) (m : ℕ) (p q r : Port) (g : GrowsMap a m q r) where
       (q.known, t.0, t.1)
 
   -- only a new key goes to a list
-  pub shortage_on : (answer : MapAnswer) → IfSome q.spilled (λ s. (answer ≡ Done) × LockedLast m s p.known q.known) → IsShortage a p.known m answer q.known → IsShortage a p.known m answer r.known
+  pub shortage_on : (answer : MapAnswer) → IfSome q.spilled (λ s. (answer ≡ Done) × LockedLast m s p.known q.known) → IsShortage a p.known m
+      answer q.known → IsShortage a p.known m answer r.known
   shortage_on answer spilled short = go q.spilled refl
     where
       go : (o : Option ℕ) → q.spilled ≡ o → IsShortage a p.known m answer r.known
@@ -94,7 +106,8 @@ module _ (a : About) (m : ℕ) (p q r : Port) (g : GrowsMap a m q r) where
   runs_on is = (λ j. in_run (events_of (cpu j) (saw j))) ∙ is
 
   module _ (key bytes : List ℕ) (flags : ℕ) (answer : MapAnswer) where
-    pub notes_on : IfSome q.spilled (λ s. (answer ≡ Done) × LockedLast m s p.known q.known) → CallNotes a (Update m key bytes flags answer) p.known q.known → CallsNote a (Update m key bytes flags answer ∷ []) p.known r.known
+    pub notes_on : IfSome q.spilled (λ s. (answer ≡ Done) × LockedLast m s p.known q.known) → CallNotes a (Update m key bytes flags answer)
+        p.known q.known → CallsNote a (Update m key bytes flags answer ∷ []) p.known r.known
     notes_on spilled (sights, is, may) = (
       g.more ++ sights,
       g.tally ∙ (ap (λ (z : List Sight). g.more ++ z) is ∙ sym (append_assoc g.more sights p.known.tally)),
@@ -103,11 +116,20 @@ module _ (a : About) (m : ℕ) (p q r : Port) (g : GrowsMap a m q r) where
         [],
         refl,
         ⊎_elim
-            (λ (none : g.more ≡ []). inl (subst (λ (z : List Sight). MayNote a (Update m key bytes flags answer) z) (sym (ap (λ (z : List Sight). z ++ sights) none)) may))
+            (λ (none : g.more ≡ []). inl (subst (λ (z : List Sight). MayNote a (Update m key bytes flags answer) z)
+            (sym (ap (λ (z : List Sight). z ++ sights) none)) may))
             (λ grown.
-            let d : (answer ≡ Done) × LockedLast m grown.1.0 p.known q.known = subst (λ (o : Option ℕ). IfSome o (λ s. (answer ≡ Done) × LockedLast m s p.known q.known)) grown.1.1 spilled in
+            let d : (answer ≡ Done) × LockedLast m grown.1.0 p.known q.known = subst
+            (λ (o : Option ℕ). IfSome o (λ s. (answer ≡ Done) × LockedLast m s p.known q.known)) grown.1.1 spilled in
             let same : d.1.0 ≡ sights = append_cancel_right d.1.0 sights p.known.tally (sym d.1.1 ∙ is) in
-            inr (g.more, sights, refl, subst (λ (x : MapAnswer). IsGrowth a (Update m key bytes flags x) sights g.more) (sym d.0) (grown.0, (grown.1.0, subst (LocksLast m grown.1.0) same d.1.2, grown.1.2)), may))
+            inr (
+              g.more,
+              sights,
+              refl,
+              subst (λ (x : MapAnswer). IsGrowth a (Update m key bytes flags x) sights g.more) (sym d.0)
+                  (grown.0, (grown.1.0, subst (LocksLast m grown.1.0) same d.1.2, grown.1.2)),
+              may,
+            ))
             g.notes,
         refl,
       ),

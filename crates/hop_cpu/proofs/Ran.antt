@@ -14,8 +14,10 @@ use Rattle.hop_cpu.specs.Passing.{ExtendsHistory}
 use Rattle.hop_cpu.specs.Running.{RanJob}
 use Rattle.hop_cpu.proofs.Calling.{own_value, and_false}
 
-pub ran : (x y : Serving) (t : Shown) (p : Port) (program : Loaded) (budget : ℕ) (first : Cpu) (end : Outcome) → record { table = t; port = p } ≡ y → IsLegal t.about.shape p.known.seen
-    → ((events : List Event) × Chain ExtendsHistory serves first.number x y events × Explains (IsPortWorn x first.number) x.table.about.shape program budget first events end)
+pub ran : (x y : Serving) (t : Shown) (p : Port) (program : Loaded) (budget : ℕ) (first : Cpu) (end : Outcome) → record
+    { table = t; port = p } ≡ y → IsLegal t.about.shape p.known.seen
+    → ((events : List Event) × Chain ExtendsHistory serves first.number x y events × Explains (IsPortWorn x first.number)
+    x.table.about.shape program budget first events end)
     → RanJob x y program budget first end
 ran x y t p program budget first end is legal (events, chain, explains) =
     let last : IsLegal y.table.about.shape y.port.known.seen = subst (λ (z : Serving). IsLegal z.table.about.shape z.port.known.seen) is legal in record {

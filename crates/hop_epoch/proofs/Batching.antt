@@ -1,5 +1,6 @@
 -- What a step on the batches of a map leaves as it was.
-use Rattle.std.proofs.Common.{◌≡◌, ◌≢◌, inr, ⊎_elim, ℕ, suc, ◌+◌, ◌%◌, ◌<◌, List, [], ◌∷◌, ◌++◌, Option, Some, length, slice_index, set, length-set, get_or-set_same, get_or-set_other, append_assoc, nat_lt, true, refl, ap, sym, subst, ◌∙◌, arith}
+use Rattle.std.proofs.Common.{◌≡◌, ◌≢◌, inr, ⊎_elim, ℕ, suc, ◌+◌, ◌%◌, ◌<◌, List, [], ◌∷◌, ◌++◌, Option, Some, length, slice_index, set}
+use Rattle.std.proofs.Common.{length-set, get_or-set_same, get_or-set_other, append_assoc, nat_lt, true, refl, ap, sym, subst, ◌∙◌, arith}
 use Rattle.std.proofs.lemmas.Bool.Decides.{nat_tests}
 use Rattle.std.proofs.lemmas.Bool.{cases_eq}
 use Rattle.bpf_shared.specs.Shape.{Shape, IsShape, elements}
@@ -41,7 +42,18 @@ keeps_then m l k l' p q = record {
 }
 
 pub keeps_itself : (m : ℕ) (l : Known) → KeepsBatches m l l
-keeps_itself m l = record { cpu = refl; seen = refl; fresh = refl; locks = refl; readings = refl; size = refl; others = λ n ne. refl; used = refl; sights = ([], refl, tt) }
+keeps_itself m l = record {
+  cpu = refl;
+  seen = refl;
+  fresh = refl;
+  locks = refl;
+  readings = refl;
+  size = refl;
+  others = λ n ne. refl;
+  used =
+      refl;
+  sights = ([], refl, tt);
+}
 
 pub keeps_set : (m : ℕ) (l : Known) (x : Limbo) → m < length l.limbo → x.used ≡ (limbo_at l.limbo m).used → KeepsBatches m l (limbo_set l m x)
 keeps_set m l x room same = record {
@@ -57,7 +69,18 @@ keeps_set m l x room same = record {
 }
 
 pub keeps_sighted : (m : ℕ) (l k : Known) (s : Sight) → LeavesLocks s → KeepsBatches m l k → KeepsBatches m l (sighted k s)
-keeps_sighted m l k s leaves p = record { cpu = p.cpu; seen = p.seen; fresh = p.fresh; locks = p.locks; readings = p.readings; size = p.size; others = p.others; used = p.used; sights = (s ∷ p.sights.0, ap (λ (z : List Sight). s ∷ z) p.sights.1, (leaves, p.sights.2)) }
+keeps_sighted m l k s leaves p = record {
+  cpu = p.cpu;
+  seen = p.seen;
+  fresh = p.fresh;
+  locks = p.locks;
+  readings = p.readings;
+  size =
+      p.size;
+  others = p.others;
+  used = p.used;
+  sights = (s ∷ p.sights.0, ap (λ (z : List Sight). s ∷ z) p.sights.1, (leaves, p.sights.2));
+}
 
 -- ---- a look at a counter
 pub looks_same : (m : ℕ) (l k k' : Known) (s : Sight) → IsLook s → LooksAtCounters m l k → k' ≡ sighted k s → LooksAtCounters m l k'
@@ -69,7 +92,8 @@ looks_same m l k k' s is p e = subst (LooksAtCounters m l) (sym e) (record {
   sights = ap (λ (z : List Sight). s ∷ z) p.sights;
 })
 
-pub looks_cleared : (m d : ℕ) (l k k' : Known) (s : Sight) → IsLook s → m < length k.limbo → LooksAtCounters m l k → k' ≡ sighted (cleared k m d) s → LooksAtCounters m l k'
+pub looks_cleared : (m d : ℕ) (l k k' : Known) (s : Sight) → IsLook s → m < length k.limbo → LooksAtCounters m l k → k' ≡ sighted
+    (cleared k m d) s → LooksAtCounters m l k'
 looks_cleared m d l k k' s is room p e =
     let x : Limbo = record (limbo_at k.limbo m) { noted = set (limbo_at k.limbo m).noted d 0 } in
     subst (LooksAtCounters m l) (sym e) (record {
@@ -80,15 +104,18 @@ looks_cleared m d l k k' s is room p e =
       sights = ap (λ (z : List Sight). s ∷ z) p.sights;
     })
 
-pub noted_cleared : (m d : ℕ) (k k' : Known) (s : Sight) → m < length k.limbo → k' ≡ sighted (cleared k m d) s → (limbo_at k'.limbo m).noted ≡ set (limbo_at k.limbo m).noted d 0
-noted_cleared m d k k' s room e = ap (λ (l : Known). (limbo_at l.limbo m).noted) e ∙ ap (λ (y : Limbo). y.noted) (at_set k m (record (limbo_at k.limbo m) { noted = set (limbo_at k.limbo m).noted d 0 }) room)
+pub noted_cleared : (m d : ℕ) (k k' : Known) (s : Sight) → m < length k.limbo → k' ≡ sighted (cleared k m d) s → (limbo_at k'.limbo m).noted
+    ≡ set (limbo_at k.limbo m).noted d 0
+noted_cleared m d k k' s room e = ap (λ (l : Known). (limbo_at l.limbo m).noted) e ∙ ap (λ (y : Limbo). y.noted)
+    (at_set k m (record (limbo_at k.limbo m) { noted = set (limbo_at k.limbo m).noted d 0 }) room)
 
 -- both lists of counters have a 0 there
 pub notes_cleared : (a : About) (ks ns : List ℕ) (d : ℕ) → d < length ns → d < length ks → Notes a ks ns → Notes a (set ks d 0) (set ns d 0)
 notes_cleared a ks ns d few less p = (
   length-set ks d 0 ∙ p.0,
   λ c lt. ⊎_elim
-      (λ (t : c ≡ d). subst (λ (i : ℕ). slice_index (set ks d 0) i ≡ slice_index (set ns d 0) i) (sym t) (get_or-set_same ks d 0 0 less ∙ sym (get_or-set_same ns d 0 0 few)))
+      (λ (t : c ≡ d). subst (λ (i : ℕ). slice_index (set ks d 0) i ≡ slice_index (set ns d 0) i) (sym t)
+      (get_or-set_same ks d 0 0 less ∙ sym (get_or-set_same ns d 0 0 few)))
       (λ (ne : c ≢ d). get_or-set_other ks d c 0 0 ne ∙ (p.1 c lt ∙ sym (get_or-set_other ns d c 0 0 ne)))
       (cases_eq c d),
 )
@@ -125,8 +152,10 @@ pub first_of : (a : About) (m e : ℕ) (es : List ℕ) → es ≡ e ∷ tail_of 
 first_of a m e es is all = let t = subst (Each (HasElement a m)) is all in (t.0, t.1)
 
 -- what is known after the first element of the old batch was given back
-pub gives_on : (a : About) (m e : ℕ) (l k k' : Known) (s : Sight) (young : Option ℕ) (ns : List ℕ) (link : ℕ) → IsShape a.shape → Tracks a k m young (Some e) ns → Notes a (limbo_at k.limbo m).noted ns
-    → k' ≡ sighted (giving_old k m (tail_of (limbo_at k.limbo m).old)) s → link ≡ link_to (tail_of (limbo_at k.limbo m).old) → Tracks a k' m young (item link) ns
+pub gives_on : (a : About) (m e : ℕ) (l k k' : Known) (s : Sight) (young : Option ℕ) (ns : List ℕ) (link : ℕ) → IsShape a.shape → Tracks a k
+    m young (Some e) ns → Notes a (limbo_at k.limbo m).noted ns
+    → k' ≡ sighted (giving_old k m (tail_of (limbo_at k.limbo m).old)) s → link ≡ link_to (tail_of (limbo_at k.limbo m).old) → Tracks a k' m
+    young (item link) ns
 gives_on a m e l k k' s young ns link is p n given linked =
     let x : Limbo = record (limbo_at k.limbo m) { old = tail_of (limbo_at k.limbo m).old } in
     let now = at_set k m x p.room in
@@ -146,6 +175,7 @@ pub running_after : (m : ℕ) (l k l' : Known) (before : List Sight) → k.tally
 running_after m l k l' before e r = (
   r.0,
   r.1 ++ before,
-  r.2 ∙ ap (λ (z : List Sight). look (RunCount r.0) (slice_index (limbo_at l'.limbo m).noted r.0) ∷ z) (ap (λ (z : List Sight). r.1 ++ z) e ∙ sym (append_assoc r.1 before l.tally)),
+  r.2 ∙ ap (λ (z : List Sight). look (RunCount r.0) (slice_index (limbo_at l'.limbo m).noted r.0) ∷ z)
+      (ap (λ (z : List Sight). r.1 ++ z) e ∙ sym (append_assoc r.1 before l.tally)),
   r.3,
 )

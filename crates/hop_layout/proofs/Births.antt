@@ -1,5 +1,6 @@
 -- Which segments are born, and who owns a home.
-use Rattle.std.proofs.Common.{◌≡◌, ◌≢◌, ℕ, zero, suc, ◌+◌, ◌*◌, ◌-◌, ◌%◌, ◌/◌, ◌<◌, ◌≤◌, nat_lt, Bool, true, false, true≢false, ◌&&◌, if◌then◌else◌, refl, ap, sym, subst, ◌∙◌, arith, eq-eqb, ne_eqb, ⊎_elim, inl, inr, ◌⊎◌}
+use Rattle.std.proofs.Common.{◌≡◌, ◌≢◌, ℕ, zero, suc, ◌+◌, ◌*◌, ◌-◌, ◌%◌, ◌/◌, ◌<◌, ◌≤◌, nat_lt, Bool, true, false, true≢false, ◌&&◌}
+use Rattle.std.proofs.Common.{if◌then◌else◌, refl, ap, sym, subst, ◌∙◌, arith, eq-eqb, ne_eqb, ⊎_elim, inl, inr, ◌⊎◌}
 use Rattle.std.proofs.lemmas.Bool.Decides.{nat_tests}
 use Rattle.std.proofs.Math.Nat.{add-mul-mod_self_left, mod-eq_of_lt}
 use Rattle.std.proofs.lemmas.Nat.{mod_below, div-add-mod', mod-mul-add}
@@ -100,12 +101,14 @@ module _ (d : ℕ → ℕ) where
       let same : s + power u ≡ s + power n = ap (λ (k : ℕ). s + power k) e in
       let back : s + power n - power n ≡ s = omega arith in
       ap (is_born d (suc n)) same ∙ (high_is n (s + power n) (omega arith)
-      ∙ and_from _ _ (lt-ltb n (d (s + power n - power n)) (let z = ap d back in let y = e in omega arith)) (ap (is_born d n) back ∙ (sym (low_is n s low) ∙ b))))
+      ∙ and_from _ _ (lt-ltb n (d (s + power n - power n)) (let z = ap d back in let y = e in omega arith))
+      (ap (is_born d n) back ∙ (sym (low_is n s low) ∙ b))))
       (cases_lt u n)
 
   -- the child of its depth isn't
   pub child_unborn : (n s : ℕ) → is_born d n s ≡ true → s < power (d s) → is_born d n (s + power (d s)) ≡ false
-  child_unborn zero s b l = false_from_ne_true _ (λ e. let z : s + power (d s) ≡ 0 = (let y = e in grind (arith, nat_tests)) in let o = some_power (d s) in omega arith)
+  child_unborn zero s b l = false_from_ne_true _
+      (λ e. let z : s + power (d s) ≡ 0 = (let y = e in grind (arith, nat_tests)) in let o = some_power (d s) in omega arith)
   child_unborn (suc n) s b l = ⊎_elim
       (λ (t : d s < n).
       let two = power_less (d s) n t in
@@ -127,7 +130,8 @@ module _ (d : ℕ → ℕ) where
 
   -- no two born segments own one home
   pub one_owner : (n s t home : ℕ) → is_born d n s ≡ true → is_born d n t ≡ true → home % power (d s) ≡ s → home % power (d t) ≡ t → s ≡ t
-  one_owner zero s t home bs bt hs ht = let e : s ≡ 0 = (let z = bs in grind (arith, nat_tests)) in let f : t ≡ 0 = (let z = bt in grind (arith, nat_tests)) in e ∙ sym f
+  one_owner zero s t home bs bt hs ht =
+      let e : s ≡ 0 = (let z = bs in grind (arith, nat_tests)) in let f : t ≡ 0 = (let z = bt in grind (arith, nat_tests)) in e ∙ sym f
   one_owner (suc n) s t home bs bt hs ht = ⊎_elim
       (λ (ls : s < power n). ⊎_elim
       (λ (lt : t < power n). one_owner n s t home (sym (low_is n s ls) ∙ bs) (sym (low_is n t lt) ∙ bt) hs ht)
@@ -147,7 +151,8 @@ module _ (d : ℕ → ℕ) where
       deep : (s : ℕ) → power n ≤ s → home % power (d s) ≡ s → n < d s
       deep s gs hs = ⊎_elim
           (λ (l : n < d s). l)
-          (λ (ge : d s ≤ n). absurd (let m = power_mono (d s) n ge in let o = some_power (d s) in let z : home % power (d s) < power (d s) = omega arith in omega arith))
+          (λ (ge : d s ≤ n). absurd
+          (let m = power_mono (d s) n ge in let o = some_power (d s) in let z : home % power (d s) < power (d s) = omega arith in omega arith))
           (cases_lt n (d s))
 
       -- a segment with bit n: the parent has the home's low bits
@@ -162,7 +167,8 @@ module _ (d : ℕ → ℕ) where
           sym q ∙ k
 
       apart : (s t : ℕ) → s < power n → power n ≤ t → is_born d (suc n) s ≡ true → is_born d (suc n) t ≡ true → home % power (d s) ≡ s → home % power (d t) ≡ t
-          → (is_born d n s ≡ true → is_born d n (t - power n) ≡ true → home % power n % power (d s) ≡ s → home % power n % power (d (t - power n)) ≡ t - power n → s ≡ t - power n) → ⊥
+          → (is_born d n s ≡ true → is_born d n (t - power n) ≡ true → home % power n % power (d s) ≡ s → home % power n % power
+          (d (t - power n)) ≡ t - power n → s ≡ t - power n) → ⊥
       apart s t ls gt bs bt hs ht again = ⊎_elim
           (λ (deep_s : n < d s).
           let m = mod_low home (suc n) (d s) deep_s in
@@ -179,7 +185,8 @@ module _ (d : ℕ → ℕ) where
           let small = born_small n (t - power n) p.1 in
           let hs' : home % power n % power (d s) ≡ s = mod_low home (d s) n ge ∙ hs in
           let ht' : home % power n % power (d (t - power n)) ≡ t - power n =
-          mod_small (home % power n) (power (d (t - power n))) (let m = power_mono n (d (t - power n)) (let z = p.0 in omega arith) in let z = e in omega arith) ∙ sym e in
+          mod_small (home % power n) (power (d (t - power n)))
+          (let m = power_mono n (d (t - power n)) (let z = p.0 in omega arith) in let z = e in omega arith) ∙ sym e in
           let same = again (sym (low_is n s ls) ∙ bs) p.1 hs' ht' in
           let z : d s ≡ d (t - power n) = ap d same in
           let y = p.0 in
@@ -187,7 +194,8 @@ module _ (d : ℕ → ℕ) where
           (cases_lt n (d s))
 
   -- from a born segment that has the low bits of a home on, down to the home's owner
-  find_owner : (limit home : ℕ) → AreDepths d limit → (fuel level s : ℕ) → fuel + level ≡ limit → is_born d limit s ≡ true → level ≤ d s → s ≡ home % power level → (t : ℕ) × Owns d limit t home
+  find_owner : (limit home : ℕ) → AreDepths d limit → (fuel level s : ℕ) → fuel + level ≡ limit → is_born d limit s ≡ true → level ≤ d s → s
+      ≡ home % power level → (t : ℕ) × Owns d limit t home
   find_owner limit home are zero level s full b l low =
       let k = are s b in
       let e : d s ≡ level = (let z = k.1 in omega arith) in
@@ -235,7 +243,8 @@ module _ (d : ℕ → ℕ) (limit s : ℕ) (b : is_born d limit s ≡ true) (roo
   at_child t e = ap (λ (x : Bool). if x then k + 1 else put d s (k + 1) t) (eq-eqb t c e)
 
   at_parent : (t : ℕ) → t ≡ s → d' t ≡ k + 1
-  at_parent t e = ap (λ (x : Bool). if x then k + 1 else put d s (k + 1) t) (ne_eqb t c (λ (q : t ≡ c). apart (sym q ∙ e))) ∙ ap (λ (x : Bool). if x then k + 1 else d t) (eq-eqb t s e)
+  at_parent t e = ap (λ (x : Bool). if x then k + 1 else put d s (k + 1) t) (ne_eqb t c (λ (q : t ≡ c). apart (sym q ∙ e))) ∙ ap
+      (λ (x : Bool). if x then k + 1 else d t) (eq-eqb t s e)
 
   pub elsewhere : (t : ℕ) → t ≢ c → t ≢ s → d' t ≡ d t
   elsewhere t nc ns = ap (λ (x : Bool). if x then k + 1 else put d s (k + 1) t) (ne_eqb t c nc) ∙ ap (λ (x : Bool). if x then k + 1 else d t) (ne_eqb t s ns)
@@ -267,7 +276,8 @@ module _ (d : ℕ → ℕ) (limit s : ℕ) (b : is_born d limit s ≡ true) (roo
       deeper p l bp = ⊎_elim
           (λ (e : p ≡ c). let z = at_child p e in let small = born_small d n p bp in ⊎_elim
           (λ (y : n < k + 1). omega arith)
-          (λ (y : k + 1 ≤ n). absurd (true≢false (sym (ap (is_born d n) (sym e) ∙ bp) ∙ child_unborn d n s (let two = power_less k n (omega arith) in sym (low_is d n s (omega arith)) ∙ bs) room)))
+          (λ (y : k + 1 ≤ n). absurd (true≢false (sym (ap (is_born d n) (sym e) ∙ bp) ∙ child_unborn d n s
+          (let two = power_less k n (omega arith) in sym (low_is d n s (omega arith)) ∙ bs) room)))
           (cases_lt n (k + 1)))
           (λ (nc : p ≢ c). ⊎_elim
           (λ (e : p ≡ s). let z = at_parent p e in let y : d p ≡ k = ap d e in omega arith)
@@ -281,14 +291,16 @@ module _ (d : ℕ → ℕ) (limit s : ℕ) (b : is_born d limit s ≡ true) (roo
           (λ (lt : t < power n). low_is d' n t lt ∙ same_low n t lt (let o = some_power n in omega arith) (sym (low_is d n t lt) ∙ bt))
           (λ (gt : power n ≤ t). let p = parted d n t gt bt in let small = born_small d n (t - power n) p.1 in
           let z = elsewhere (t - power n) (λ (q : t - power n ≡ c). omega arith) (λ (q : t - power n ≡ s). let o = some_power n in omega arith) in
-          high_is d' n t gt ∙ and_from _ _ (lt-ltb n (d' (t - power n)) (let y = p.0 in omega arith)) (same_low n (t - power n) small (let o = some_power n in omega arith) p.1))
+          high_is d' n t gt ∙ and_from _ _ (lt-ltb n (d' (t - power n)) (let y = p.0 in omega arith))
+          (same_low n (t - power n) small (let o = some_power n in omega arith) p.1))
           (cases_lt t (power n))
 
   -- nobody but the child is born
   pub born_before : (n t : ℕ) → is_born d' n t ≡ true → (t ≡ c) ⊎ (is_born d n t ≡ true)
   born_before zero t bt = inr bt
   born_before (suc n) t bt = ⊎_elim
-      (λ (l : t < power n). ⊎_elim (λ (e : t ≡ c). inl e) (λ (r : is_born d n t ≡ true). inr (low_is d n t l ∙ r)) (born_before n t (sym (low_is d' n t l) ∙ bt)))
+      (λ (l : t < power n). ⊎_elim (λ (e : t ≡ c). inl e) (λ (r : is_born d n t ≡ true). inr (low_is d n t l ∙ r))
+      (born_before n t (sym (low_is d' n t l) ∙ bt)))
       (λ (g : power n ≤ t).
       let p = parted d' n t g bt in
       let small = born_small d' n (t - power n) p.1 in
@@ -318,9 +330,11 @@ module _ (d : ℕ → ℕ) (limit s : ℕ) (b : is_born d limit s ≡ true) (roo
   -- the depths are depths still
   pub depths_after : AreDepths d limit → AreDepths d' limit
   depths_after are t bt = ⊎_elim
-      (λ (e : t ≡ c). let z = at_child t e in let p : power (d' t) ≡ power (suc k) = ap power (let y : d' t ≡ suc k = omega arith in y) in (omega arith, omega arith))
+      (λ (e : t ≡ c). let z = at_child t e in let p : power (d' t) ≡ power (suc k) = ap power (let y : d' t ≡ suc k = omega arith in y) in
+      (omega arith, omega arith))
       (λ (nc : t ≢ c). ⊎_elim
-      (λ (e : t ≡ s). let z = at_parent t e in let p : power (d' t) ≡ power (suc k) = ap power (let y : d' t ≡ suc k = omega arith in y) in (omega arith, omega arith))
+      (λ (e : t ≡ s). let z = at_parent t e in let p : power (d' t) ≡ power (suc k) = ap power (let y : d' t ≡ suc k = omega arith in y) in
+      (omega arith, omega arith))
       (λ (ns : t ≢ s). let z = elsewhere t nc ns in ⊎_elim
       (λ (e : t ≡ c). absurd (nc e))
       (λ (r : is_born d limit t ≡ true). let y = are t r in let p : power (d' t) ≡ power (d t) = ap power z in (omega arith, omega arith))

@@ -10,7 +10,8 @@ use Rattle.hop_layout.specs.Private.Index.{bases, bases_from, end_from, AreBases
 use Rattle.bpf_shared.specs.declared.shapes.MapShape.{MapShape}
 use Rattle.bpf_shared.specs.Shape.{Shape, elements}
 use Rattle.hop_layout.specs.declared.place.Place.TheVariants.{RunCount, KeyCount, FreeBits, Stamp, Head, Hop, Slot, Link, KeyWord, ValueWord, FixedWord}
-use Rattle.hop_layout.specs.Layout.{sum_below, layout_size, is_path, layout, at, size, words_for, free_words, segments, first_depth, map_shape, segment_layout, map_layout, map_words, line_rest, array_words}
+use Rattle.hop_layout.specs.Layout.{sum_below, layout_size, is_path, layout, at, size, words_for, free_words, segments, first_depth}
+use Rattle.hop_layout.specs.Layout.{map_shape, segment_layout, map_layout, map_words, line_rest, array_words}
 
 pub sum_same : (n k : ℕ) → sum_below n (λ j. k) ≡ n * k
 sum_same zero k = omega arith
@@ -55,22 +56,26 @@ module _ (h : Shape) (m : ℕ) where
 
   pub at_key : (e k : ℕ) → at h (KeyWord m e k) ≡ at h (KeyWord m 0 0) + e * words_for g.key + k
   at_key e k = let w = ones (words_for g.key) in let n = ones k in
-      let t : sum_below e (λ j. sum_below (words_for g.key) (λ i. 1)) ≡ e * sum_below (words_for g.key) (λ i. 1) = sum_same e (sum_below (words_for g.key) (λ i. 1)) in
+      let t : sum_below e (λ j. sum_below (words_for g.key) (λ i. 1)) ≡ e * sum_below (words_for g.key) (λ i. 1) = sum_same e
+      (sum_below (words_for g.key) (λ i. 1)) in
       let u : e * sum_below (words_for g.key) (λ i. 1) ≡ e * words_for g.key = ap (λ (x : ℕ). e * x) w in omega arith
 
   pub at_first_value : at h (ValueWord m 0 0) ≡ at h (KeyWord m 0 0) + elements g * words_for g.key
   at_first_value = let w = ones (words_for g.key) in
-      let t : sum_below (elements g) (λ j. sum_below (words_for g.key) (λ i. 1)) ≡ elements g * sum_below (words_for g.key) (λ i. 1) = sum_same (elements g) (sum_below (words_for g.key) (λ i. 1)) in
+      let t : sum_below (elements g) (λ j. sum_below (words_for g.key) (λ i. 1)) ≡ elements g * sum_below (words_for g.key) (λ i. 1) =
+      sum_same (elements g) (sum_below (words_for g.key) (λ i. 1)) in
       let u : elements g * sum_below (words_for g.key) (λ i. 1) ≡ elements g * words_for g.key = ap (λ (x : ℕ). elements g * x) w in omega arith
 
   pub at_value : (e k : ℕ) → at h (ValueWord m e k) ≡ at h (ValueWord m 0 0) + e * words_for g.value + k
   at_value e k = let w = ones (words_for g.value) in let n = ones k in
-      let t : sum_below e (λ j. sum_below (words_for g.value) (λ i. 1)) ≡ e * sum_below (words_for g.value) (λ i. 1) = sum_same e (sum_below (words_for g.value) (λ i. 1)) in
+      let t : sum_below e (λ j. sum_below (words_for g.value) (λ i. 1)) ≡ e * sum_below (words_for g.value) (λ i. 1) = sum_same e
+      (sum_below (words_for g.value) (λ i. 1)) in
       let u : e * sum_below (words_for g.value) (λ i. 1) ≡ e * words_for g.value = ap (λ (x : ℕ). e * x) w in omega arith
 
   pub at_next : at h (KeyCount (suc m)) ≡ at h (ValueWord m 0 0) + elements g * words_for g.value + line_rest (map_words g)
   at_next = let w = ones (words_for g.value) in let r = ones (line_rest (map_words g)) in
-      let t : sum_below (elements g) (λ j. sum_below (words_for g.value) (λ i. 1)) ≡ elements g * sum_below (words_for g.value) (λ i. 1) = sum_same (elements g) (sum_below (words_for g.value) (λ i. 1)) in
+      let t : sum_below (elements g) (λ j. sum_below (words_for g.value) (λ i. 1)) ≡ elements g * sum_below (words_for g.value) (λ i. 1) =
+      sum_same (elements g) (sum_below (words_for g.value) (λ i. 1)) in
       let u : elements g * sum_below (words_for g.value) (λ i. 1) ≡ elements g * words_for g.value = ap (λ (x : ℕ). elements g * x) w in omega arith
 
 -- arrays' words follow those of the last map
@@ -139,7 +144,9 @@ one_more h n bs b len is old m less = dite (dec_lt m n)
     (λ nl. let e : m ≡ n = grind arith in slice_get-append bs (b ∷ []) 0 m (omega arith) ∙ (ap Some is ∙ ap (λ (k : ℕ). Some (bases h k)) (sym e)))
 
 -- one array more
-pub one_array_more : (h : Shape) (n : ℕ) (starts : List ℕ) (start : ℕ) → length starts ≡ n → start ≡ at h (FixedWord n 0) → AreArrayBases h n starts → AreArrayBases h (n + 1) (starts ++ start ∷ [])
+pub one_array_more : (h : Shape) (n : ℕ) (starts : List ℕ) (start : ℕ) → length starts ≡ n → start ≡ at h (FixedWord n 0) → AreArrayBases h
+    n starts → AreArrayBases h (n + 1) (starts ++ start ∷ [])
 one_array_more h n starts start len is old a less = dite (dec_lt a n)
     (λ (l : a < n). slice_get-front starts (start ∷ []) a (omega arith) ∙ old a l)
-    (λ nl. let e : a ≡ n = grind arith in slice_get-append starts (start ∷ []) 0 a (omega arith) ∙ (ap Some is ∙ ap (λ (k : ℕ). Some (at h (FixedWord k 0))) (sym e)))
+    (λ nl. let e : a ≡ n = grind arith in slice_get-append starts (start ∷ []) 0 a (omega arith) ∙
+    (ap Some is ∙ ap (λ (k : ℕ). Some (at h (FixedWord k 0))) (sym e)))

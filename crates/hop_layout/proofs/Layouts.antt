@@ -1,5 +1,6 @@
 -- A place of the shape has its word to itself.
-use Rattle.std.proofs.Common.{◌≡◌, ◌≢◌, ℕ, zero, suc, ◌+◌, ◌*◌, ◌<◌, ◌≤◌, nat_lt, Bool, true, false, true≢false, ◌&&◌, List, [], ◌∷◌, ◌==◌, length, set, refl, ap, sym, subst, ◌∙◌, arith, eq-eqb, get_or-set_same, get_or-set_other}
+use Rattle.std.proofs.Common.{◌≡◌, ◌≢◌, ℕ, zero, suc, ◌+◌, ◌*◌, ◌<◌, ◌≤◌, nat_lt, Bool, true, false, true≢false, ◌&&◌, List, [], ◌∷◌, ◌==◌}
+use Rattle.std.proofs.Common.{length, set, refl, ap, sym, subst, ◌∙◌, arith, eq-eqb, get_or-set_same, get_or-set_other}
 use Rattle.std.proofs.lemmas.Bool.Decides.{nat_tests}
 use Rattle.std.proofs.lemmas.Bool.{and_parts}
 use native.Mathlib.Decide.{ℕ_discrete, dec_lt}
@@ -7,7 +8,8 @@ use mathlib.Core.Logic.{dite}
 use Rattle.bpf_shared.specs.Shape.{Shape}
 use Rattle.hop_layout.specs.declared.place.Place.{Place}
 use Rattle.hop_layout.specs.declared.place.Place.TheVariants.{RunCount, KeyCount, FreeBits, Stamp, Head, Hop, Slot, Link, KeyWord, ValueWord, FixedWord}
-use Rattle.hop_layout.specs.Layout.{Layout, Word, Group, sum_below, layout_size, word_at_path, is_path, layout, path, at, is_place, size, mem, same_place, put_at}
+use Rattle.hop_layout.specs.Layout.{Layout, Word, Group, sum_below, layout_size, word_at_path, is_path, layout, path, at, is_place, size}
+use Rattle.hop_layout.specs.Layout.{mem, same_place, put_at}
 
 -- ---- layouts
 sum_step : (f : ℕ → ℕ) (i j : ℕ) → i < j → sum_below i f + f i ≤ sum_below j f
@@ -44,9 +46,12 @@ offset_once (Group n f) (i ∷ p) [] x y e = absurd (true≢false (sym y))
 offset_once (Group n f) (i ∷ p) (j ∷ q) x y e =
     let a = and_parts (nat_lt i n) (is_path (f i) p) x in
     let b = and_parts (nat_lt j n) (is_path (f j) q) y in
-    let s : i ≡ j = one_member (λ k. layout_size (f k)) i j (word_at_path (f i) p) (word_at_path (f j) q) (offset_inside (f i) p a.1) (offset_inside (f j) q b.1) e in
+    let s : i ≡ j = one_member (λ k. layout_size (f k)) i j (word_at_path (f i) p) (word_at_path (f j) q) (offset_inside (f i) p a.1)
+    (offset_inside (f j) q b.1) e in
     let b' : is_path (f i) q ≡ true = subst (λ (k : ℕ). is_path (f k) q ≡ true) (sym s) b.1 in
-    let e' : sum_below i (λ k. layout_size (f k)) + word_at_path (f i) p ≡ sum_below i (λ k. layout_size (f k)) + word_at_path (f i) q = subst (λ (k : ℕ). sum_below i (λ k. layout_size (f k)) + word_at_path (f i) p ≡ sum_below k (λ k. layout_size (f k)) + word_at_path (f k) q) (sym s) e in
+    let e' : sum_below i (λ k. layout_size (f k)) + word_at_path (f i) p ≡ sum_below i (λ k. layout_size (f k)) + word_at_path (f i) q =
+    subst (λ (k : ℕ). sum_below i (λ k. layout_size (f k)) + word_at_path (f i) p ≡ sum_below k (λ k. layout_size (f k)) +
+    word_at_path (f k) q) (sym s) e in
     let r : p ≡ q = offset_once (f i) p q a.1 b' (omega arith) in
     λ t. s t ∷ r t
 
@@ -128,7 +133,8 @@ wrote h ws p n sized here = λ t q. go q (is_place h q) refl (same_place q p) re
     go q true b true c =
         let e : q ≡ p = same_is q p c in
         rw (b, c) (rw e (get_or-set_same ws (at h p) n 0 (subst (λ (k : ℕ). at h p < k) (sym sized) (at_inside h p here))))
-    go q true b false c = rw (b, c) (get_or-set_other ws (at h p) (at h q) n 0 (λ (e : at h q ≡ at h p). true≢false (sym (same_self p) ∙ (ap (λ (x : Place). same_place x p) (sym (at_once h q p b here e)) ∙ c))))
+    go q true b false c = rw (b, c) (get_or-set_other ws (at h p) (at h q) n 0
+        (λ (e : at h q ≡ at h p). true≢false (sym (same_self p) ∙ (ap (λ (x : Place). same_place x p) (sym (at_once h q p b here e)) ∙ c))))
     go q false b true c = absurd (true≢false (sym here ∙ (ap (is_place h) (sym (same_is q p c)) ∙ b)))
     go q false b false c = rw (b, c) refl
 

@@ -1,5 +1,6 @@
 -- The maps and arrays of a store by their numbers, and that no two elements' spans overlap.
-use Rattle.std.proofs.Common.{◌≡◌, ◌≢◌, ℕ, zero, suc, ◌+◌, ◌*◌, ◌/◌, ◌<◌, ◌≤◌, List, [], ◌∷◌, Some, length, slice_get, slice_index_or, refl, sym, subst, arith, ⊎_elim, mul-le-mul}
+use Rattle.std.proofs.Common.{◌≡◌, ◌≢◌, ℕ, zero, suc, ◌+◌, ◌*◌, ◌/◌, ◌<◌, ◌≤◌, List, [], ◌∷◌, Some, length, slice_get, slice_index_or, refl}
+use Rattle.std.proofs.Common.{sym, subst, arith, ⊎_elim, mul-le-mul}
 use mathlib.Core.Logic.{dite}
 use native.Mathlib.Decide.{dec_lt}
 use Rattle.bpf_shared.specs.declared.shapes.ArrayShape.{ArrayShape}
@@ -44,7 +45,8 @@ array_of h a g is = go h.arrays a is
 
 -- the words of an array's values are few, as code counts them
 pub words_few : (cpus n stride : ℕ) (g : ArrayShape) → cpus ≤ 16 → IsArrayShape cpus g → n ≡ copies cpus g → stride ≡ copy_stride g → n * stride / 8 ≤ 33554432
-words_few cpus n stride g few sized e f = most n stride (subst (λ (k : ℕ). k * n ≤ 268435456) (sym f) (subst (λ (k : ℕ). copy_stride g * k ≤ 268435456) (sym e) (whole_fits cpus g few sized)))
+words_few cpus n stride g few sized e f = most n stride (subst (λ (k : ℕ). k * n ≤ 268435456) (sym f)
+    (subst (λ (k : ℕ). copy_stride g * k ≤ 268435456) (sym e) (whole_fits cpus g few sized)))
   where
     most : (x y : ℕ) → y * x ≤ 268435456 → x * y / 8 ≤ 33554432
     most x y l = let e : x * y ≡ y * x = grind arith in omega arith
@@ -55,7 +57,8 @@ next_on e f k l = let t : suc e * k ≤ f * k = mul-le-mul l (omega arith) in om
     suc-mul : (e k : ℕ) → suc e * k ≡ e * k + k
     suc-mul e k = grind arith
 
-pub spans_apart : (h : Shape) (m n e f : ℕ) → IsShape h → m < length h.maps → n < length h.maps → e < elements (map_shape h m) → f < elements (map_shape h n) → (n ≡ m → f ≢ e)
+pub spans_apart : (h : Shape) (m n e f : ℕ) → IsShape h → m < length h.maps → n < length h.maps → e < elements (map_shape h m) → f <
+    elements (map_shape h n) → (n ≡ m → f ≢ e)
     → IsApart (element_span m (map_shape h m) e) (element_span n (map_shape h n) f)
 spans_apart h m n e f is lm ln le lf ne a x y =
     let sm = is.each m (map_shape h m) (map_is h m lm) in

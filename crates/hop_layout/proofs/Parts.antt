@@ -24,8 +24,10 @@ part_none [] (suc i) (suc n) l = refl
 part_none (b ∷ bs) zero n l = absurd (omega arith)
 part_none (b ∷ bs) (suc i) n l = part_none bs i n (omega arith)
 
-pub word_step : (bs : List ℕ) (i j n k : ℕ) → j ≡ suc i → k ≡ suc n → i < length bs → little_endian (part bs i k) ≡ slice_index bs i + 256 * little_endian (part bs j n)
-word_step bs i j n k a b l = (λ t. little_endian (part bs i (b t))) ∙ (ap little_endian (part_step bs i n l) ∙ (λ t. slice_index bs i + 256 * little_endian (part bs (sym a t) n)))
+pub word_step : (bs : List ℕ) (i j n k : ℕ) → j ≡ suc i → k ≡ suc n → i < length bs → little_endian (part bs i k) ≡ slice_index bs i + 256 *
+    little_endian (part bs j n)
+word_step bs i j n k a b l = (λ t. little_endian (part bs i (b t))) ∙
+    (ap little_endian (part_step bs i n l) ∙ (λ t. slice_index bs i + 256 * little_endian (part bs (sym a t) n)))
 
 pub word_none : (bs : List ℕ) (i k : ℕ) → length bs ≤ i → little_endian (part bs i k) ≡ 0
 word_none bs i k l = ap little_endian (part_none bs i k l)

@@ -1,5 +1,6 @@
 -- The keys of a locked segment, one by one.
-use Rattle.std.proofs.Common.{◌≡◌, ◌≢◌, ℕ, ◌+◌, ◌%◌, ◌<◌, ◌≤◌, Bool, true, false, ◌||◌, List, [], ◌∷◌, ◌++◌, Option, Some, None, is_some, length, length-append, refl, ap, sym, subst, ◌∙◌, arith, inl, inr, ◌⊎◌, ⊎_elim, append_assoc, eq-eqb, ne_eqb}
+use Rattle.std.proofs.Common.{◌≡◌, ◌≢◌, ℕ, ◌+◌, ◌%◌, ◌<◌, ◌≤◌, Bool, true, false, ◌||◌, List, [], ◌∷◌, ◌++◌, Option, Some, None, is_some}
+use Rattle.std.proofs.Common.{length, length-append, refl, ap, sym, subst, ◌∙◌, arith, inl, inr, ◌⊎◌, ⊎_elim, append_assoc, eq-eqb, ne_eqb}
 use Rattle.std.proofs.lemmas.List.{append-nil}
 use Rattle.std.specs.List.{AllByRecursion}
 use Rattle.std.specs.Ordering.{nat_cmp, eq_by_cmp}
@@ -46,7 +47,8 @@ module _ (a : About) (l : Known) (m s : ℕ) (c : LockShows a l m s) (last : Has
   -- an element's key leads to it, and is at home here
   module _ (e : ℕ) (r : Reached x m s e) where
     leads : (c.content (key e) ≡ Some e) × (home_by a m (stamp_depth (lock_of l).stamp) (key e) ≡ s)
-    leads = let q = share.each e r in let same : key e ≡ q.0 = spells a m x e q.0 q.1 in (ap c.content same ∙ q.3, ap (home_by a m (stamp_depth (lock_of l).stamp)) same ∙ q.2)
+    leads = let q = share.each e r in let same : key e ≡ q.0 = spells a m x e q.0 q.1 in
+        (ap c.content same ∙ q.3, ap (home_by a m (stamp_depth (lock_of l).stamp)) same ∙ q.2)
 
     -- by what the lock says
     home_here : IsHomeIn a (lock_of l) (key e)
@@ -58,7 +60,8 @@ module _ (a : About) (l : Known) (m s : ℕ) (c : LockShows a l m s) (last : Has
     shows_it : (f : List ℕ → Option ℕ) → IsShare a.seed (shape_at a m) (home_by a m (stamp_depth (lock_of l).stamp)) x m s f → f (key e) ≡ Some e
     shows_it f sh = let q = sh.each e r in let same : key e ≡ q.0 = spells a m x e q.0 q.1 in ap f same ∙ q.3
 
-    shows_at : (n t : ℕ) → n ≡ m → t ≡ s → (f : List ℕ → Option ℕ) → IsShare a.seed (shape_at a n) (home_by a n (stamp_depth (lock_of l).stamp)) (image a k.first) n t f → f (key e) ≡ Some e
+    shows_at : (n t : ℕ) → n ≡ m → t ≡ s → (f : List ℕ → Option ℕ) → IsShare a.seed (shape_at a n)
+        (home_by a n (stamp_depth (lock_of l).stamp)) (image a k.first) n t f → f (key e) ≡ Some e
     shows_at n t is_m is_s f sh = shows_it f
         (subst (λ (ws : List ℕ). IsShare a.seed (shape_at a m) (home_by a m (stamp_depth (lock_of l).stamp)) (image a ws) m s f) (sym c.copied)
         (subst (λ (j : ℕ). IsShare a.seed (shape_at a m) (home_by a m (stamp_depth (lock_of l).stamp)) (image a k.first) m j f) is_s
@@ -82,7 +85,8 @@ module _ (a : About) (l : Known) (m s : ℕ) (c : LockShows a l m s) (last : Has
   one_element : (e d : ℕ) → Reached x m s e → Reached x m s d → key e ≡ key d → e ≡ d
   one_element e d r q same = let z : Some e ≡ Some d = sym (leads e r).0 ∙ (ap c.content same ∙ (leads d q).0) in cc
 
-  module _ (old : List (List ℕ)) (none : (q : List ℕ) → IsHomeIn a (lock_of l) q → is_among q old ≡ false) (before : AllByRecursion (IsShownIn a m l.locks) old) (room : KeysHaveRoom a m l.locks) where
+  module _ (old : List (List ℕ)) (none : (q : List ℕ) → IsHomeIn a (lock_of l) q → is_among q old ≡ false)
+      (before : AllByRecursion (IsShownIn a m l.locks) old) (room : KeysHaveRoom a m l.locks) where
     part_none : AreDistinct old → Part a l m s old old (λ e. ⊥)
     part_none apart = record { more = []; is = sym (append-nil old); from = tt; all = λ e r p. absurd p; distinct = apart }
 
@@ -95,7 +99,8 @@ module _ (a : About) (l : Known) (m s : ℕ) (c : LockShows a l m s) (last : Has
       not_more = false_from_ne_true (is_among (key e) p.more) (λ h. (let d = from_more (key e) h in fresh (subst P (sym (one_element e d.0 r d.1 d.3)) d.2)))
 
       not_now : is_among (key e) now ≡ false
-      not_now = ap (is_among (key e)) p.is ∙ (among-append (key e) old p.more ∙ (ap (λ (b : Bool). b || is_among (key e) p.more) (none (key e) (home_here e r)) ∙ not_more))
+      not_now = ap (is_among (key e)) p.is ∙ (among-append (key e) old p.more ∙
+          (ap (λ (b : Bool). b || is_among (key e) p.more) (none (key e) (home_here e r)) ∙ not_more))
 
       next_distinct : AreDistinct (now ++ key e ∷ [])
       next_distinct = IsDistinct-push (eq_by_cmp_equiv nat_list_cmp_total) now (key e) p.distinct not_now
@@ -121,7 +126,9 @@ module _ (a : About) (l : Known) (m s : ℕ) (c : LockShows a l m s) (last : Has
         from = all_append (λ q. (d : ℕ) × Reached x m s d × Q d × (q ≡ key d)) p.more (key e ∷ []) (weaker p.more p.from) ((e, r, own, refl), tt);
         all = λ d rd q. ⊎_elim
             (λ (h : P d). among-append (key d) p.more (key e ∷ []) ∙ ap (λ (b : Bool). b || is_among (key d) (key e ∷ [])) (p.all d rd h))
-            (λ (h : d ≡ e). among-append (key d) p.more (key e ∷ []) ∙ (ap (λ (b : Bool). is_among (key d) p.more || (b || false)) (ap (λ (i : ℕ). eq_by_cmp (slice_cmp nat_cmp) (key i) (key e)) h ∙ itself (key e)) ∙ or_true (is_among (key d) p.more)))
+            (λ (h : d ≡ e). among-append (key d) p.more (key e ∷ []) ∙
+            (ap (λ (b : Bool). is_among (key d) p.more || (b || false))
+            (ap (λ (i : ℕ). eq_by_cmp (slice_cmp nat_cmp) (key i) (key e)) h ∙ itself (key e)) ∙ or_true (is_among (key d) p.more)))
             (down d q);
         distinct = subst AreDistinct (sym is) next_distinct;
       }
@@ -130,7 +137,8 @@ module _ (a : About) (l : Known) (m s : ℕ) (c : LockShows a l m s) (last : Has
           or_true true = refl
           or_true false = refl
 
-          weaker : (qs : List (List ℕ)) → AllByRecursion (λ q. (d : ℕ) × Reached x m s d × P d × (q ≡ key d)) qs → AllByRecursion (λ q. (d : ℕ) × Reached x m s d × Q d × (q ≡ key d)) qs
+          weaker : (qs : List (List ℕ)) → AllByRecursion (λ q. (d : ℕ) × Reached x m s d × P d × (q ≡ key d)) qs → AllByRecursion
+              (λ q. (d : ℕ) × Reached x m s d × Q d × (q ≡ key d)) qs
           weaker [] h = tt
           weaker (q ∷ qs) h = ((h.0.0, h.0.1, up h.0.0 h.0.2, h.0.3), weaker qs h.1)
 
@@ -139,7 +147,8 @@ module _ (a : About) (l : Known) (m s : ℕ) (c : LockShows a l m s) (last : Has
     adds_all now P p every = record {
       more = p.more;
       is = p.is;
-      here = λ q h. (let d = at_key (λ q. (d : ℕ) × Reached x m s d × P d × (q ≡ key d)) q p.more p.from h in subst (IsHomeIn a (lock_of l)) (sym d.3) (home_here d.0 d.1));
+      here = λ q h. (let d = at_key (λ q. (d : ℕ) × Reached x m s d × P d × (q ≡ key d)) q p.more p.from h in subst (IsHomeIn a (lock_of l))
+          (sym d.3) (home_here d.0 d.1));
       lists = lists_at;
       shown = shown_from p.more p.from;
       distinct = p.distinct;
@@ -149,7 +158,8 @@ module _ (a : About) (l : Known) (m s : ℕ) (c : LockShows a l m s) (last : Has
         shown_from [] h = tt
         shown_from (q ∷ qs) h = (subst (IsShownIn a m l.locks) (sym h.0.3) (shown h.0.0 h.0.1), shown_from qs h.1)
 
-        lists_here : (f : List ℕ → Option ℕ) → IsShare a.seed (shape_at a m) (home_by a m (stamp_depth (lock_of l).stamp)) x m s f → (q : List ℕ) → home_by a m (stamp_depth (lock_of l).stamp) q ≡ s → (o : Option ℕ) → f q ≡ o → is_some o ≡ is_among q p.more
+        lists_here : (f : List ℕ → Option ℕ) → IsShare a.seed (shape_at a m) (home_by a m (stamp_depth (lock_of l).stamp)) x m s f →
+            (q : List ℕ) → home_by a m (stamp_depth (lock_of l).stamp) q ≡ s → (o : Option ℕ) → f q ≡ o → is_some o ≡ is_among q p.more
         lists_here f sh q home (Some e) is =
             let t = sh.all q e is home in
             let same : key e ≡ q = spells a m x e q t.1 in
@@ -197,7 +207,8 @@ module _ (a : About) (l : Known) (m s : ℕ) (old : List (List ℕ)) (o : Opens 
     distinct = p.distinct;
   }
     where
-      weaker : (qs : List (List ℕ)) → AllByRecursion (λ q. (d : ℕ) × Reached (image a (lock_of l).copy) m s d × P d × (q ≡ spelled_key a m (image a (lock_of l).copy) d)) qs
+      weaker : (qs : List (List ℕ)) → AllByRecursion (λ q. (d : ℕ) × Reached (image a (lock_of l).copy) m s d × P d ×
+          (q ≡ spelled_key a m (image a (lock_of l).copy) d)) qs
           → AllByRecursion (λ q. (d : ℕ) × Reached (image a (lock_of l).copy) m s d × Q d × (q ≡ spelled_key a m (image a (lock_of l).copy) d)) qs
       weaker [] h = tt
       weaker (q ∷ qs) h = ((h.0.0, h.0.1, up h.0.0 h.0.2, h.0.3), weaker qs h.1)
@@ -220,17 +231,21 @@ module _ (a : About) (l : Known) (m s : ℕ) (old : List (List ℕ)) (o : Opens 
       place_fresh h = let same = stands_once h.0 n e h.2 lt h.3 is in let z = h.1 in omega arith
 
       pub place_room : length now < (shape_at a m).max
-      place_room = has_room a l m s o.shows o.last old o.none o.shown o.room now (StandsBelow a l m s n) (StandsBelow a l m s (n + 1)) p e place_reached place_fresh
+      place_room = has_room a l m s o.shows o.last old o.none o.shown o.room now (StandsBelow a l m s n) (StandsBelow a l m s (n + 1)) p e
+          place_reached place_fresh
 
-      pub place_more : (new : List (List ℕ)) → new ≡ now ++ spelled_key a m (image a (lock_of l).copy) e ∷ [] → Part a l m s old new (StandsBelow a l m s (n + 1))
-      place_more new more = part_more a l m s o.shows o.last old o.none o.shown o.room now (StandsBelow a l m s n) (StandsBelow a l m s (n + 1)) p e place_reached place_fresh new more
+      pub place_more : (new : List (List ℕ)) → new ≡ now ++ spelled_key a m (image a (lock_of l).copy) e ∷ [] → Part a l m s old new
+          (StandsBelow a l m s (n + 1))
+      place_more new more = part_more a l m s o.shows o.last old o.none o.shown o.room now (StandsBelow a l m s n)
+          (StandsBelow a l m s (n + 1)) p e place_reached place_fresh new more
           up (n, (omega arith), lt, is) (λ d h.
           by_equal h.0 n
           (λ same. inr (let z : Some d ≡ Some e = sym h.3 ∙ (ap (λ (i : ℕ). item (y.slot m s i)) same ∙ is) in cc))
           (λ ne. inl (h.0, (let z = h.1 in grind arith), h.2, h.3)))
 
   pub none_stands : Part a l m s old old (StandsBelow a l m s 0)
-  none_stands = part_same old (λ e. ⊥) (StandsBelow a l m s 0) (part_none a l m s o.shows o.last old o.none o.shown o.room o.distinct) (λ d h. absurd h) (λ d h. (let z = h.1 in omega arith))
+  none_stands = part_same old (λ e. ⊥) (StandsBelow a l m s 0) (part_none a l m s o.shows o.last old o.none o.shown o.room o.distinct)
+      (λ d h. absurd h) (λ d h. (let z = h.1 in omega arith))
 
   -- ---- the overflow list
   abbrev pub all_listed : List ℕ
@@ -274,7 +289,8 @@ module _ (a : About) (l : Known) (m s : ℕ) (old : List (List ℕ)) (o : Opens 
     is_at = refl;
     on = sound.follows;
     split = refl;
-    part = part_same now (StandsBelow a l m s 64) (StandsOr a l m s []) p (λ d h. inl h) (λ d h. ⊎_elim (λ (k : StandsBelow a l m s 64 d). k) (λ (k : 1 ≤ times d []). absurd (omega arith)) h);
+    part = part_same now (StandsBelow a l m s 64) (StandsOr a l m s []) p (λ d h. inl h)
+        (λ d h. ⊎_elim (λ (k : StandsBelow a l m s 64 d). k) (λ (k : 1 ≤ times d []). absurd (omega arith)) h);
     many = omega arith;
   }
 
@@ -305,7 +321,8 @@ module _ (a : About) (l : Known) (m s : ℕ) (old : List (List ℕ)) (o : Opens 
         (λ (h : 1 ≤ times e p.done). let z = sound.one_place e in let w = count in omega arith)
 
     pub passed_room : length now < (shape_at a m).max
-    passed_room = has_room a l m s o.shows o.last old o.none o.shown o.room now (StandsOr a l m s p.done) (StandsOr a l m s (p.done ++ e ∷ [])) p.part e passed_reached passed_fresh
+    passed_room = has_room a l m s o.shows o.last old o.none o.shown o.room now (StandsOr a l m s p.done)
+        (StandsOr a l m s (p.done ++ e ∷ [])) p.part e passed_reached passed_fresh
 
     pub passed_more : (new : List (List ℕ)) → new ≡ now ++ spelled_key a m (image a (lock_of l).copy) e ∷ [] → Passed new (item (y.link m e)) (n + 1)
     passed_more new more = record {
@@ -315,12 +332,16 @@ module _ (a : About) (l : Known) (m s : ℕ) (old : List (List ℕ)) (o : Opens 
       is_at = refl;
       on = next.2;
       split = append_assoc p.done (e ∷ []) next.0 ∙ whole;
-      part = part_more a l m s o.shows o.last old o.none o.shown o.room now (StandsOr a l m s p.done) (StandsOr a l m s (p.done ++ e ∷ [])) p.part e passed_reached passed_fresh new more
+      part = part_more a l m s o.shows o.last old o.none o.shown o.room now (StandsOr a l m s p.done) (StandsOr a l m s (p.done ++ e ∷ []))
+          p.part e passed_reached passed_fresh new more
           (λ d. ⊎_elim (λ (h : StandsBelow a l m s 64 d). inl h) (λ (h : 1 ≤ times d p.done). inr (let z = times-append d p.done (e ∷ []) in omega arith)))
           (inr (let z = times-append e p.done (e ∷ []) in let w = times-self e in omega arith))
           (λ d. ⊎_elim (λ (h : StandsBelow a l m s 64 d). inl (inl h))
-          (λ (h : 1 ≤ times d (p.done ++ e ∷ [])). by_equal d e (λ same. inr same) (λ ne. inl (inr (let z = times-append d p.done (e ∷ []) in let w = times-other d e ne in omega arith)))));
-      many = (let z = p.many in let w : length new ≡ length now + 1 = ap length more ∙ length-append now (spelled_key a m (image a (lock_of l).copy) e ∷ []) in omega arith);
+          (λ (h : 1 ≤ times d (p.done ++ e ∷ [])). by_equal d e (λ same. inr same)
+          (λ ne. inl (inr (let z = times-append d p.done (e ∷ []) in let w = times-other d e ne in omega arith)))));
+      many = (let z = p.many in
+          let w : length new ≡ length now + 1 = ap length more ∙ length-append now (spelled_key a m (image a (lock_of l).copy) e ∷ []) in
+          omega arith);
     }
 
   -- at the end
@@ -337,7 +358,8 @@ module _ (a : About) (l : Known) (m s : ℕ) (old : List (List ℕ)) (o : Opens 
       every : (e : ℕ) → Reached y m s e → StandsOr a l m s p.done e
       every e = ⊎_elim
           (λ (h : (b : ℕ) × (d : ℕ) × HopsTo y m s b d e). inl ((h.0 + h.1) % 64, (omega arith), (omega arith), h.2.3))
-          (λ (h : IsOnList y m s e). inr (subst (λ (xs : List ℕ). 1 ≤ times e xs) (links_once (y.head m s) h.0 all_listed h.1 sound.follows ∙ sym done_all) h.2))
+          (λ (h : IsOnList y m s e). inr (subst (λ (xs : List ℕ). 1 ≤ times e xs)
+          (links_once (y.head m s) h.0 all_listed h.1 sound.follows ∙ sym done_all) h.2))
 
   -- as many as the map may have are all
   pub passed_most : (now : List (List ℕ)) (at : Option ℕ) (n : ℕ) → (shape_at a m).max ≤ n → Passed now at n → Adds a l m old now

@@ -20,7 +20,8 @@ module _ (a : About) (l : Known) (p n : ℕ) (shaped : IsShape a.shape) (some : 
       let c0 = f.covers.0 in
       let c1 = f.covers.1 in
       let inside : IsIn p (fixed_span f.number f.array f.copy f.index) = (c0, omega arith) in
-      let reached = fixed_reached a.shape.cpus f.number f.copy f.index p f.array shaped.cpus.1 (shaped.arrays f.number f.array f.is).0 f.has_copy f.has_index inside in
+      let reached = fixed_reached a.shape.cpus f.number f.copy f.index p f.array shaped.cpus.1 (shaped.arrays f.number f.array f.is).0
+      f.has_copy f.has_index inside in
       let area = reached.area in
       let there = (array_of a.shape f.number f.array f.is).0 in
       let few = shaped.array_count in
@@ -28,7 +29,8 @@ module _ (a : About) (l : Known) (p n : ℕ) (shaped : IsShape a.shape) (some : 
 
   element_low : IsValuePlace a p n → bit p ≡ 0
   element_low v =
-      let there = element_in_range a.shape v.map (element_span v.map (shape_at a v.map) v.element) shaped (shape_at a v.map, v.element, map_is a.shape v.map v.inside.0, v.inside.1, refl) in
+      let there = element_in_range a.shape v.map (element_span v.map (shape_at a v.map) v.element) shaped
+      (shape_at a v.map, v.element, map_is a.shape v.map v.inside.0, v.inside.1, refl) in
       let c0 = v.covers.0 in
       let c1 = v.covers.1 in
       let from = there.from in

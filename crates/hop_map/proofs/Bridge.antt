@@ -1,5 +1,6 @@
 -- A segment's share of the keys, as the rule says it and as the segment's code does.
-use Rattle.std.proofs.Common.{◌≡◌, ◌≢◌, ℕ, zero, suc, ◌+◌, ◌*◌, ◌^◌, ◌%◌, ◌<◌, ◌≤◌, Bool, true, false, ◌==◌, if◌then◌else◌, List, [], ◌∷◌, Option, Some, None, refl, ap, sym, subst, ◌∙◌, arith, eq-eqb, ⊎_elim, inl, inr}
+use Rattle.std.proofs.Common.{◌≡◌, ◌≢◌, ℕ, zero, suc, ◌+◌, ◌*◌, ◌^◌, ◌%◌, ◌<◌, ◌≤◌, Bool, true, false, ◌==◌, if◌then◌else◌, List, [], ◌∷◌}
+use Rattle.std.proofs.Common.{Option, Some, None, refl, ap, sym, subst, ◌∙◌, arith, eq-eqb, ⊎_elim, inl, inr}
 use Rattle.std.proofs.Math.Nat.{pow-succ'}
 use Rattle.std.specs.Int.{bit_at}
 use Rattle.std.proofs.lemmas.Bool.Decides.{nat_tests}
@@ -98,7 +99,8 @@ module _ (a : About) (m s dp : ℕ) (known : ℕ → Bool) (x : MapWords) where
   -- from the rule's share to the code's soundness
   module _ (f : List ℕ → Option ℕ) (p : IsShare a.seed (shape_at a m) (home_by a m dp) x m s f)
       (all_known : (key : List ℕ) (e : ℕ) → f key ≡ Some e → home_by a m dp key ≡ s → (e < elements (shape_at a m)) × (known e ≡ true)) where
-    its_key : (e : ℕ) → Reached x m s e → (key : List ℕ) × HasKey (shape_at a m) x m e key × (home_by a m dp key ≡ s) × (f key ≡ Some e) × (element_key v e ≡ key)
+    its_key : (e : ℕ) → Reached x m s e → (key : List ℕ) × HasKey (shape_at a m) x m e key × (home_by a m dp key ≡ s) × (f key ≡ Some e) ×
+        (element_key v e ≡ key)
     its_key e r = let k = p.each e r in (k.0, k.1, k.2, k.3, spells a m x e k.0 k.1)
 
     leads_to : (e : ℕ) → Reached x m s e → f (element_key v e) ≡ Some e
@@ -110,7 +112,8 @@ module _ (a : About) (m s dp : ℕ) (known : ℕ → Bool) (x : MapWords) where
         let z = all_known k.0 e k.3 k.2 in
         record {
           known = (z.1, z.0);
-          home = ap (λ (q : List ℕ). home a.seed (shape_at a m).mask q % 2 ^ dp) k.4 ∙ (ap (λ (n : ℕ). home a.seed (shape_at a m).mask k.0 % n) (sym (power_is dp)) ∙ k.2);
+          home = ap (λ (q : List ℕ). home a.seed (shape_at a m).mask q % 2 ^ dp) k.4 ∙
+              (ap (λ (n : ℕ). home a.seed (shape_at a m).mask k.0 % n) (sym (power_is dp)) ∙ k.2);
         }
 
     bucket_is : (e b d : ℕ) → HopsTo x m s b d e → home_bucket v e ≡ b
@@ -183,8 +186,18 @@ module _ (a : About) (m s dp : ℕ) (known : ℕ → Bool) (x : MapWords) where
         leads = λ b d bb dd bit. let t = q.leads b d bb dd (bit_low (x.hop m s b) d dd ∙ bit) in (t.0, (bb, dd, bit, t.1));
         hopped = λ r e l is.
             let h = q.hopped r e l is in
-            let b : home_bucket v e < 64 = omega arith in
-            (home_bucket v e, bucket_distance (home_bucket v e) r, (b, h.near, sym (bit_low (x.hop m s (home_bucket v e)) (bucket_distance (home_bucket v e) r) h.near) ∙ h.bit, ap (λ (n : ℕ). v.slot n) (place-distance (home_bucket v e) r b l) ∙ is), place-distance (home_bucket v e) r b l);
+            let b : home_bucket v e < 64 = omega arith in (
+              home_bucket v e,
+              bucket_distance (home_bucket v e) r,
+              (
+                b,
+                h.near,
+                sym (bit_low (x.hop m s (home_bucket v e)) (bucket_distance (home_bucket v e) r) h.near) ∙ h.bit,
+                ap
+                    (λ (n : ℕ). v.slot n) (place-distance (home_bucket v e) r b l) ∙ is,
+              ),
+              place-distance (home_bucket v e) r b l,
+            );
         homes = λ b d e key h k.
             let t = q.leads b d h.0 h.1 (bit_low (x.hop m s b) d h.1 ∙ h.2) in
             let z : t.0 ≡ e = some_once t.0 e (sym t.1 ∙ h.3) in
@@ -202,7 +215,8 @@ module _ (a : About) (m s dp : ℕ) (known : ℕ → Bool) (x : MapWords) where
         apart = λ b d e h. none e (times e q.list) refl (λ l. q.aside (place_at b d) e e (omega arith) h.3 l refl);
       };
       each = λ e r. let l = linked_of e r in let t = leads (element_key v e) e (record { keyed = refl; linked = l }) in (element_key v e, has e l, t.1, t.0);
-      all = λ key e is home. let t = pairs key e is home in (reached_of e t.linked, subst (λ (k : List ℕ). HasKey (shape_at a m) x m e k) t.keyed (has e t.linked));
+      all = λ key e is home.
+          let t = pairs key e is home in (reached_of e t.linked, subst (λ (k : List ℕ). HasKey (shape_at a m) x m e k) t.keyed (has e t.linked));
     }
       where
         none : (e : ℕ) (n : ℕ) → times e q.list ≡ n → (Among e q.list → ⊥) → times e q.list ≡ 0
@@ -223,14 +237,18 @@ module _ (a : About) (m s dp : ℕ) (known : ℕ → Bool) (x y : MapWords) (f :
   pub none_absent : f key ≡ None → IsAbsent (segment_view a m s dp known x) key
   none_absent gone e h = let t = pair_leads a m s dp known x f p all_known key e h in let z : None ≡ Some e = sym gone ∙ t.0 in cc
 
-  pub inserted : (e : ℕ) → f key ≡ None → Gains (segment_view a m s dp known x) (segment_view a m s dp known y) key e → IsShare a.seed (shape_at a m) (home_by a m dp) y m s (put_key f key (Some e))
+  pub inserted : (e : ℕ) → f key ≡ None → Gains (segment_view a m s dp known x) (segment_view a m s dp known y) key e → IsShare a.seed
+      (shape_at a m) (home_by a m dp) y m s (put_key f key (Some e))
   inserted e gone g = share_of a m s dp known y g.sound (put_key f key (Some e)) keyed
       (λ k d h. elim ((g.pairs k d).0 h) [
         | inl was ↦
             let t = pair_leads a m s dp known x f p all_known k d was in
             (other k d t.0, t.1)
-        | inr new ↦
-            ((λ j. put_key f key (Some e) (new.0 j)) ∙ ((λ j. if key_self key j then Some e else f key) ∙ ap (λ (i : ℕ). Some i) (sym new.1)), ap (home_by a m dp) new.0 ∙ home)
+        | inr new ↦ (
+          (λ j. put_key f key (Some e) (new.0 j)) ∙ ((λ j. if key_self key j then Some e else f key) ∙ ap (λ (i : ℕ). Some i)
+              (sym new.1)),
+          ap (home_by a m dp) new.0 ∙ home,
+        )
       ])
       (λ k d is at_home. (g.pairs k d).1 (⊎_elim
       (λ (same : k ≡ key). inr (same, some_once d e (sym is ∙ ((λ j. put_key f key (Some e) (same j)) ∙ (λ j. if key_self key j then Some e else f key)))))
@@ -240,21 +258,26 @@ module _ (a : About) (m s dp : ℕ) (known : ℕ → Bool) (x y : MapWords) (f :
       other : (k : List ℕ) (d : ℕ) → f k ≡ Some d → put_key f key (Some e) k ≡ Some d
       other k d is = (λ j. if key_apart k key (λ (same : k ≡ key). let z : None ≡ Some d = sym gone ∙ (ap f (sym same) ∙ is) in cc) j then Some e else f k) ∙ is
 
-  pub replaced : (o e : ℕ) → Changes (segment_view a m s dp known x) (segment_view a m s dp known y) key o e → IsShare a.seed (shape_at a m) (home_by a m dp) y m s (put_key f key (Some e))
+  pub replaced : (o e : ℕ) → Changes (segment_view a m s dp known x) (segment_view a m s dp known y) key o e → IsShare a.seed (shape_at a m)
+      (home_by a m dp) y m s (put_key f key (Some e))
   replaced o e g = share_of a m s dp known y g.sound (put_key f key (Some e)) keyed
       (λ k d h. elim ((g.pairs k d).0 h) [
         | inl was ↦
             let t = pair_leads a m s dp known x f p all_known k d was.0 in
             ((λ j. if key_apart k key was.1 j then Some e else f k) ∙ t.0, t.1)
-        | inr new ↦
-            ((λ j. put_key f key (Some e) (new.0 j)) ∙ ((λ j. if key_self key j then Some e else f key) ∙ ap (λ (i : ℕ). Some i) (sym new.1)), ap (home_by a m dp) new.0 ∙ home)
+        | inr new ↦ (
+          (λ j. put_key f key (Some e) (new.0 j)) ∙ ((λ j. if key_self key j then Some e else f key) ∙ ap (λ (i : ℕ). Some i)
+              (sym new.1)),
+          ap (home_by a m dp) new.0 ∙ home,
+        )
       ])
       (λ k d is at_home. (g.pairs k d).1 (⊎_elim
       (λ (same : k ≡ key). inr (same, some_once d e (sym is ∙ ((λ j. put_key f key (Some e) (same j)) ∙ (λ j. if key_self key j then Some e else f key)))))
       (λ (ne : k ≢ key). inl (leads_pair a m s dp known x f p all_known k d (sym (λ j. if key_apart k key ne j then Some e else f k) ∙ is) at_home, ne))
       (equal_keys k key)))
 
-  pub removed : (e : ℕ) → Loses (segment_view a m s dp known x) (segment_view a m s dp known y) key e → IsShare a.seed (shape_at a m) (home_by a m dp) y m s (put_key f key None)
+  pub removed : (e : ℕ) → Loses (segment_view a m s dp known x) (segment_view a m s dp known y) key e → IsShare a.seed (shape_at a m)
+      (home_by a m dp) y m s (put_key f key None)
   removed e g = share_of a m s dp known y g.sound (put_key f key None) keyed
       (λ k d h.
       let was = (g.pairs k d).0 h in

@@ -1,5 +1,6 @@
 -- The count goes up, and the words remain to be written.
-use Rattle.std.proofs.Common.{◌≡◌, ℕ, ◌<◌, ◌==◌, ◌||◌, Bool, true, false, if◌then◌else◌, List, [], ◌∷◌, Some, None, slice_index_or, Result, Ok, Err, IsOk, IsErr, refl, ap, sym, subst, ◌∙◌, arith, ⊎_elim, inr}
+use Rattle.std.proofs.Common.{◌≡◌, ℕ, ◌<◌, ◌==◌, ◌||◌, Bool, true, false, if◌then◌else◌, List, [], ◌∷◌, Some, None, slice_index_or, Result}
+use Rattle.std.proofs.Common.{Ok, Err, IsOk, IsErr, refl, ap, sym, subst, ◌∙◌, arith, ⊎_elim, inr}
 use Rattle.std.proofs.lemmas.Bool.{or_left}
 use Rattle.bpf_shared.specs.Shape.{elements}
 use Rattle.bpf_shared.specs.declared.events.Entry.{Entry}
@@ -34,7 +35,8 @@ module _ (a : About) (l : Known) (m s : ℕ) (r : Ready a l m s) where
   at_lock : (P : ℕ → ℕ → Type 0) → P m s → P k.map k.segment
   at_lock P p = subst (P k.map) (sym r.segment) (subst (λ (n : ℕ). P n s) (sym r.map) p)
 
-  module _ (key bytes : List ℕ) (flags element : ℕ) (c : LockShows a l m s) (b : OffersInsertion a l m s key bytes flags element) (absent : IsKeyAbsent a k key) where
+  module _ (key bytes : List ℕ) (flags element : ℕ) (c : LockShows a l m s) (b : OffersInsertion a l m s key bytes flags element)
+      (absent : IsKeyAbsent a k key) where
     b' : OffersInsertion a l k.map k.segment key bytes flags element
     b' = at_lock (λ n t. OffersInsertion a l n t key bytes flags element) b
 
@@ -77,13 +79,22 @@ module _ (a : About) (l : Known) (m s : ℕ) (r : Ready a l m s) where
             may.0,
             inr (λ before share.
                 let t = due before share in
-                let was : before t.0 ≡ Some e = ap (λ (h : Change). changed h before t.0) (sym c.nothing) ∙ t.1 in
-                (t.0, (λ j. if key_apart t.0 key (λ (same : t.0 ≡ key). let z : None ≡ Some e = sym (absent before share) ∙ (ap before (sym same) ∙ was) in cc) j then Some (hand l).element else before t.0) ∙ was, t.2)),
+                let was : before t.0 ≡ Some e = ap (λ (h : Change). changed h before t.0) (sym c.nothing) ∙ t.1 in (
+                  t.0,
+                  (λ j. if key_apart t.0 key (λ (same : t.0 ≡ key).
+                      let z : None ≡ Some e = sym (absent before share) ∙ (ap before (sym same) ∙ was) in cc) j then Some (hand l).element
+                      else before t.0) ∙ was,
+                  t.2,
+                )),
           ))
           may.1
 
       own_key : (e : ℕ) → (hand l).element ≡ e → (q : List ℕ) × HasKey (shape_at a m) (image a k.copy) m e q
-      own_key e is = (key, subst (λ (ws : List ℕ). HasKey (shape_at a m) (image a ws) m e key) (sym c.copied) (subst (λ (i : ℕ). HasKey (shape_at a m) (image a k.first) m i key) (sym b.filled.number ∙ is) b.filled.keyed))
+      own_key e is = (
+        key,
+        subst (λ (ws : List ℕ). HasKey (shape_at a m) (image a ws) m e key) (sym c.copied)
+            (subst (λ (i : ℕ). HasKey (shape_at a m) (image a k.first) m i key) (sym b.filled.number ∙ is) b.filled.keyed),
+      )
 
       counted_known : (e : ℕ) → knows counted m e ≡ true → MayLink a counted (lock_of counted) e × ((q : List ℕ) × HasKey (shape_at a m) (image a k.copy) m e q)
       counted_known e is = go (has e k.known) refl
@@ -91,7 +102,8 @@ module _ (a : About) (l : Known) (m s : ℕ) (r : Ready a l m s) where
           go : (x : Bool) → has e k.known ≡ x → MayLink a counted (lock_of counted) e × ((q : List ℕ) × HasKey (shape_at a m) (image a k.copy) m e q)
           go true h = let t = r.known_is e (or_left (has e k.known) _ h) in (link_on e t.0, t.1)
           go false h =
-              let same : (hand l).element ≡ e = sym (one e (hand l).element (or_false (e == (hand l).element) (subst (λ (x : Bool). (x || ((e == (hand l).element) || false)) ≡ true) h is))) in
+              let same : (hand l).element ≡ e = sym (one e (hand l).element
+              (or_false (e == (hand l).element) (subst (λ (x : Bool). (x || ((e == (hand l).element) || false)) ≡ true) h is))) in
               (own_link e same, own_key e same)
 
       pub counted_is : Ready a counted m s

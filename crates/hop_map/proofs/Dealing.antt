@@ -44,7 +44,8 @@ limbo_size (suc n) = ap suc (limbo_size n)
 last_at : {A : Type 0} (xs : List A) (x d : A) (n : ℕ) → length xs ≡ n → Rattle.std.proofs.Common.get_or (xs ++ x ∷ []) n d ≡ x
 last_at xs x d n e = subst (λ (k : ℕ). Rattle.std.proofs.Common.get_or (xs ++ x ∷ []) k d ≡ x) e (get_or-append_seam xs x [] d)
 
-pub batches_more : (a : About) (l : Known) (n : ℕ) (xs : List Batches) (x : Batches) → AreBatches a l n xs → x.map ≡ n → x.young ≡ None → x.aged ≡ None → n < length l.limbo → limbo_at l.limbo n ≡ no_limbo → AreBatches a l (n + 1) (xs ++ x ∷ [])
+pub batches_more : (a : About) (l : Known) (n : ℕ) (xs : List Batches) (x : Batches) → AreBatches a l n xs → x.map ≡ n → x.young ≡ None →
+    x.aged ≡ None → n < length l.limbo → limbo_at l.limbo n ≡ no_limbo → AreBatches a l (n + 1) (xs ++ x ∷ [])
 batches_more a l n xs x h name young aged room none = record {
   size = length-append xs (x ∷ []) ∙ ap (λ (k : ℕ). k + 1) h.size;
   map = λ m inside. by_equal m n
@@ -88,8 +89,10 @@ starts_idle a l new = record {
   used = λ m. ap (λ (k : Known). (limbo_at k.limbo m).used) new ∙ ap (λ (x : Limbo). x.used) (none_taken (length a.shape.maps) m);
 }
 
-pub starts : (t : Shown) (z : TableId) (l : Known) (xs : List Arena) (bs : List Batches) → z ≡ t.id → l.cpu < t.about.shape.cpus → t.about.count % 2 ≡ 0 → l ≡ new_lane t.about l.cpu
-    → AreArenas t.about (length t.about.shape.maps) xs → AreBatches t.about l (length t.about.shape.maps) bs → IsPortOf t (record { table = z; known = l; arenas = xs; batches = bs; spilled = None })
+pub starts : (t : Shown) (z : TableId) (l : Known) (xs : List Arena) (bs : List Batches) → z ≡ t.id → l.cpu < t.about.shape.cpus →
+    t.about.count % 2 ≡ 0 → l ≡ new_lane t.about l.cpu
+    → AreArenas t.about (length t.about.shape.maps) xs → AreBatches t.about l (length t.about.shape.maps) bs → IsPortOf t
+    (record { table = z; known = l; arenas = xs; batches = bs; spilled = None })
 starts t z l xs bs table cpu even new arenas batches = record {
   table = table;
   cpu = cpu;
@@ -105,9 +108,11 @@ pub lanes_new : (a : About) (c n : ℕ) → c + n ≤ a.shape.cpus → All (IsNe
 lanes_new a c zero few = All-nil (IsNewLane a)
 lanes_new a c (suc n) few = All-cons (IsNewLane a) (new_lane a c) (lanes_from a (c + 1) n) (omega arith, refl) (lanes_new a (c + 1) n (omega arith))
 
-pub moved_over : (ps : List Port) (p : Port) (l : Known) (ls rest all : List Known) → ls ≡ l ∷ rest → p.known ≡ l → map known_of ps ++ ls ≡ all → map known_of (ps ++ p ∷ []) ++ rest ≡ all
+pub moved_over : (ps : List Port) (p : Port) (l : Known) (ls rest all : List Known) → ls ≡ l ∷ rest → p.known ≡ l → map known_of ps ++ ls ≡
+    all → map known_of (ps ++ p ∷ []) ++ rest ≡ all
 moved_over [] p l ls rest all is same whole = ap (λ (k : Known). k ∷ rest) same ∙ (sym is ∙ whole)
-moved_over (q ∷ ps) p l ls rest all is same whole = ap (λ (ks : List Known). q.known ∷ ks) (moved_over ps p l ls rest (map known_of ps ++ ls) is same refl) ∙ whole
+moved_over (q ∷ ps) p l ls rest all is same whole = ap (λ (ks : List Known). q.known ∷ ks)
+    (moved_over ps p l ls rest (map known_of ps ++ ls) is same refl) ∙ whole
 
 -- ---- all ports back
 pub map_snoc : (ps : List Port) (p : Port) → map known_of (ps ++ p ∷ []) ≡ map known_of ps ++ p.known ∷ []
@@ -121,11 +126,13 @@ legal_of a h ws w = (w.ghost.last, subst (λ (log : List Entry). Legal (as_made 
 pub causes_of : (a : About) (h : List Entry) (ws : List ℕ) (w : KeepsWholeHistory a (view [] h) ws) → HaveCauses a.shape a.version h w.ghost.last
 causes_of a h ws w = subst (λ (log : List Entry). HaveCausesBy a.shape a.version (updates_in log) log w.ghost.last) (sym w.whole)
     (causes_made a.shape a.version (begun_in w.ghost.log w.ghost.lanes.fresh) (updates_in w.ghost.log) w.ghost.log w.ghost.last
-    (λ m c inside. let z : taken_at m (updates_in w.ghost.log m c) (w.ghost.lanes.fresh c) ≡ 0 = ap (taken_at m (updates_in w.ghost.log m c)) (w.empty c inside) in omega arith)
+    (λ m c inside. let z : taken_at m (updates_in w.ghost.log m c) (w.ghost.lanes.fresh c) ≡ 0 = ap (taken_at m (updates_in w.ghost.log m c)) (w.empty c inside) in
+    omega arith)
     w.rule.shown.causes)
 
 -- the last store, and the history that leads to it
-pub last_caused : (e : Ending) → KeepsWholeHistory e.about (view [] e.history) e.words → (last : Plain) × IsLast e last × Legal (as_made e.about.shape) e.history last × HaveCauses e.about.shape e.about.version e.history last
+pub last_caused : (e : Ending) → KeepsWholeHistory e.about (view [] e.history) e.words → (last : Plain) × IsLast e last × Legal
+    (as_made e.about.shape) e.history last × HaveCauses e.about.shape e.about.version e.history last
 last_caused e w = (
   w.ghost.last,
   (w, refl),

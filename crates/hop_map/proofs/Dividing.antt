@@ -1,5 +1,6 @@
 -- A split under the lock: what the child's words become, and what publishing asks for.
-use Rattle.std.proofs.Common.{◌≡◌, ℕ, ◌+◌, ◌-◌, ◌*◌, ◌/◌, ◌%◌, ◌^◌, ◌<◌, ◌≤◌, ◌≢◌, Bool, true, false, ◌||◌, ◌==◌, if◌then◌else◌, List, Option, length, refl, ap, sym, subst, ◌∙◌, arith, eq-eqb}
+use Rattle.std.proofs.Common.{◌≡◌, ℕ, ◌+◌, ◌-◌, ◌*◌, ◌/◌, ◌%◌, ◌^◌, ◌<◌, ◌≤◌, ◌≢◌, Bool, true, false, ◌||◌, ◌==◌, if◌then◌else◌, List}
+use Rattle.std.proofs.Common.{Option, length, refl, ap, sym, subst, ◌∙◌, arith, eq-eqb}
 use Rattle.std.specs.Prelude.{IfSome}
 use Rattle.std.proofs.lemmas.Bool.Decides.{nat_tests}
 use Rattle.std.proofs.lemmas.Bool.{lt-ltb}
@@ -55,23 +56,30 @@ module _ (x : Locked) (r : Ready x.about x.known x.map x.segment) where
   choose f true n k = refl
   choose f false n k = refl
 
-  pub hop_beside : (b n : ℕ) (y : Locked) → n < 2 ^ 32 → is_place x.about.shape (Hop x.map c b) ≡ true → y ≡ written x (Hop x.map c b) n → child_front y ≡ front_with_hop (child_front x) b n
+  pub hop_beside : (b n : ℕ) (y : Locked) → n < 2 ^ 32 → is_place x.about.shape (Hop x.map c b) ≡ true → y ≡ written x (Hop x.map c b) n →
+      child_front y ≡ front_with_hop (child_front x) b n
   unfolding front w
   hop_beside b n y small there is = ap child_front is ∙ (now (Hop x.map c b) n there ∙ ap (λ (h : ℕ → ℕ). record (child_front x) { hop = h }) (λ j d. each d j))
     where
       each : (d : ℕ) → put_at w (Hop x.map c b) n (Hop x.map c d) % 2 ^ 32 ≡ replace_at (λ d. w (Hop x.map c d) % 2 ^ 32) b n d
-      each d = rw (eq-eqb x.map x.map refl, eq-eqb c c refl) (choose (λ i. i % 2 ^ 32) (d == b) n (w (Hop x.map c d)) ∙ ap (λ i. if d == b then i else w (Hop x.map c d) % 2 ^ 32) (small_hop n small))
+      each d = rw (eq-eqb x.map x.map refl, eq-eqb c c refl) (choose (λ i. i % 2 ^ 32) (d == b) n (w (Hop x.map c d)) ∙ ap
+          (λ i. if d == b then i else w (Hop x.map c d) % 2 ^ 32) (small_hop n small))
 
-  pub slot_beside : (p : ℕ) (o : Option ℕ) (y : Locked) → IfSome o (λ e. e < 2 ^ 32) → is_place x.about.shape (Slot x.map c p) ≡ true → y ≡ written x (Slot x.map c p) (link_word o) → child_front y ≡ front_with_slot (child_front x) p o
+  pub slot_beside : (p : ℕ) (o : Option ℕ) (y : Locked) → IfSome o (λ e. e < 2 ^ 32) → is_place x.about.shape (Slot x.map c p) ≡ true → y ≡
+      written x (Slot x.map c p) (link_word o) → child_front y ≡ front_with_slot (child_front x) p o
   unfolding front w
-  slot_beside p o y small there is = ap child_front is ∙ (now (Slot x.map c p) (link_word o) there ∙ ap (λ (h : ℕ → Option ℕ). record (child_front x) { slot = h }) (λ j d. each d j))
+  slot_beside p o y small there is = ap child_front is ∙ (now (Slot x.map c p) (link_word o) there ∙ ap
+      (λ (h : ℕ → Option ℕ). record (child_front x) { slot = h }) (λ j d. each d j))
     where
       each : (d : ℕ) → item (put_at w (Slot x.map c p) (link_word o) (Slot x.map c d)) ≡ replace_at (λ d. item (w (Slot x.map c d))) p o d
-      each d = rw (eq-eqb x.map x.map refl, eq-eqb c c refl) (choose item (d == p) (link_word o) (w (Slot x.map c d)) ∙ ap (λ (i : Option ℕ). if d == p then i else item (w (Slot x.map c d))) (item_word o small))
+      each d = rw (eq-eqb x.map x.map refl, eq-eqb c c refl) (choose item (d == p) (link_word o) (w (Slot x.map c d)) ∙ ap
+          (λ (i : Option ℕ). if d == p then i else item (w (Slot x.map c d))) (item_word o small))
 
-  pub head_beside : (o : Option ℕ) (y : Locked) → IfSome o (λ e. e < 2 ^ 32) → is_place x.about.shape (Head x.map c) ≡ true → y ≡ written x (Head x.map c) (link_word o) → child_front y ≡ record (child_front x) { head = o }
+  pub head_beside : (o : Option ℕ) (y : Locked) → IfSome o (λ e. e < 2 ^ 32) → is_place x.about.shape (Head x.map c) ≡ true → y ≡ written x
+      (Head x.map c) (link_word o) → child_front y ≡ record (child_front x) { head = o }
   unfolding front w
-  head_beside o y small there is = ap child_front is ∙ (now (Head x.map c) (link_word o) there ∙ ap (λ (h : Option ℕ). record (child_front x) { head = h }) same)
+  head_beside o y small there is = ap child_front is ∙ (now (Head x.map c) (link_word o) there ∙ ap
+      (λ (h : Option ℕ). record (child_front x) { head = h }) same)
     where
       same : item (put_at w (Head x.map c) (link_word o) (Head x.map c)) ≡ o
       same = rw (eq-eqb x.map x.map refl, eq-eqb c c refl) (item_word o small)
@@ -106,17 +114,20 @@ module _ (x : Locked) (r : Ready x.about x.known x.map x.segment) where
   }))
 
   -- the stamp of the child is no word of a segment's content
-  pub stamp_there : (n : ℕ) → is_place x.about.shape (Stamp x.map c) ≡ true → mem x.about.shape (lock_of (written x (Stamp x.map c) n).known).copy (Stamp x.map c) ≡ n
+  pub stamp_there : (n : ℕ) → is_place x.about.shape (Stamp x.map c) ≡ true → mem x.about.shape
+      (lock_of (written x (Stamp x.map c) n).known).copy (Stamp x.map c) ≡ n
   unfolding w
   stamp_there n there = ap (λ (v : Place → ℕ). v (Stamp x.map c)) (wrote x.about.shape (lock_of x.known).copy (Stamp x.map c) n r.sized there)
       ∙ rw (eq-eqb x.map x.map refl, eq-eqb c c refl) refl
 
-  pub stamp_image : (n : ℕ) → is_place x.about.shape (Stamp x.map c) ≡ true → image x.about (lock_of (written x (Stamp x.map c) n).known).copy ≡ image x.about (lock_of x.known).copy
+  pub stamp_image : (n : ℕ) → is_place x.about.shape (Stamp x.map c) ≡ true → image x.about
+      (lock_of (written x (Stamp x.map c) n).known).copy ≡ image x.about (lock_of x.known).copy
   unfolding w
   stamp_image n there = ap words_by_place (wrote x.about.shape (lock_of x.known).copy (Stamp x.map c) n r.sized there)
 
   -- what publishing asks for
-  pub splits_after : IsParted x.about (lock_of x.known) → (n : ℕ) (z : Locked) → is_place x.about.shape (Stamp x.map c) ≡ true → z ≡ written x (Stamp x.map c) n → n % 2 ≡ 0 → stamp_depth n ≡ stamp_depth (lock_of x.known).stamp + 1 → n / 256 ≤ x.about.version
+  pub splits_after : IsParted x.about (lock_of x.known) → (n : ℕ) (z : Locked) → is_place x.about.shape (Stamp x.map c) ≡ true → z ≡ written
+      x (Stamp x.map c) n → n % 2 ≡ 0 → stamp_depth n ≡ stamp_depth (lock_of x.known).stamp + 1 → n / 256 ≤ x.about.version
       → stamp_depth (lock_of x.known).stamp < depth (shape_at x.about x.map) → Splits z.about z.known (lock_of z.known) n
   splits_after p n z there is even deep version less = subst (λ (z : Locked). Splits z.about z.known (lock_of z.known) n) (sym is) (record {
     lock = refl;
@@ -128,8 +139,12 @@ module _ (x : Locked) (r : Ready x.about x.known x.map x.segment) where
     version = version;
     parted = λ before sh.
         let q = p.1 before sh in (
-          subst (λ (v : MapWords). IsShare x.about.seed (shape_at x.about (lock_of x.known).map) (home_by x.about (lock_of x.known).map (stamp_depth (lock_of x.known).stamp + 1)) v (lock_of x.known).map (lock_of x.known).segment before) (sym (stamp_image n there)) q.0,
-          subst (λ (v : MapWords). IsShare x.about.seed (shape_at x.about (lock_of x.known).map) (home_by x.about (lock_of x.known).map (stamp_depth (lock_of x.known).stamp + 1)) v (lock_of x.known).map c before) (sym (stamp_image n there)) q.1,
+          subst (λ (v : MapWords). IsShare x.about.seed (shape_at x.about (lock_of x.known).map)
+              (home_by x.about (lock_of x.known).map (stamp_depth (lock_of x.known).stamp + 1)) v (lock_of x.known).map
+              (lock_of x.known).segment before) (sym (stamp_image n there)) q.0,
+          subst (λ (v : MapWords). IsShare x.about.seed (shape_at x.about (lock_of x.known).map)
+              (home_by x.about (lock_of x.known).map (stamp_depth (lock_of x.known).stamp + 1)) v (lock_of x.known).map c before)
+              (sym (stamp_image n there)) q.1,
         );
   })
 
@@ -163,7 +178,8 @@ module _ (a : About) (l : Known) (m s : ℕ) (c : LockShows a l m s) (room : s <
     split_is : SegSplits (locked_view a l m s) (segment_view a m s d (knows l m) y) (front_view m (s + 2 ^ d) y)
     split_is = subst (λ (n : ℕ). SegSplits (locked_view a l m s) (segment_view a m s d (knows l m) y) (front_view m n y)) child_is
         (subst (λ (f : ℕ → Bool). SegSplits (locked_view a l m s) (segment_view a m s d f y) (front_view m (child (lock_of l2)) y)) same
-        (subst (λ (n : ℕ). SegSplits (locked_view a l m s) (segment_view a m s n (knows l2 m) y) (front_view m (child (lock_of l2)) y)) (ap (λ (f : Fixed). f.depth) sp.fixed) sp))
+        (subst (λ (n : ℕ). SegSplits (locked_view a l m s) (segment_view a m s n (knows l2 m) y) (front_view m (child (lock_of l2)) y))
+        (ap (λ (f : Fixed). f.depth) sp.fixed) sp))
 
     keyed : (e : ℕ) → knows l m e ≡ true → (key : List ℕ) × HasKey (shape_at a m) y m e key
     keyed e is = (r.known_is e (ap (λ (f : ℕ → Bool). f e) same ∙ is)).1
@@ -186,10 +202,12 @@ module _ (a : About) (l : Known) (m s : ℕ) (c : LockShows a l m s) (room : s <
     pub parts : IsParted a (lock_of l2)
     parts = subst (IsParted a) (sym lock) (c.nothing, both_shares)
 
-pub parts_after : (x : Locked) → LockShows x.about x.known x.map x.segment → x.segment < power (stamp_depth (lock_of x.known).stamp) → (y : Locked) → StaysBeside x y → SegSplits (seen_words x) (seen_words y) (child_front y) → Ready y.about y.known y.map y.segment
+pub parts_after : (x : Locked) → LockShows x.about x.known x.map x.segment → x.segment < power (stamp_depth (lock_of x.known).stamp) →
+    (y : Locked) → StaysBeside x y → SegSplits (seen_words x) (seen_words y) (child_front y) → Ready y.about y.known y.map y.segment
     → IsParted y.about (lock_of y.known)
 parts_after x c room y st sp r =
-    subst (λ (q : Locked). (lock_of q.known ≡ record (lock_of x.known) { copy = (lock_of q.known).copy; dirty = (lock_of q.known).dirty }) → SegSplits (seen_words x) (seen_words q) (child_front q) → Ready q.about q.known q.map q.segment → IsParted q.about (lock_of q.known))
+    subst (λ (q : Locked). (lock_of q.known ≡ record (lock_of x.known) { copy = (lock_of q.known).copy; dirty = (lock_of q.known).dirty }) →
+    SegSplits (seen_words x) (seen_words q) (child_front q) → Ready q.about q.known q.map q.segment → IsParted q.about (lock_of q.known))
     (sym y_is) (λ lock sp r. parts x.about x.known x.map x.segment c room y.known r lock sp) st.lock sp r
   where
     y_is : y ≡ record x { known = y.known }

@@ -1,5 +1,7 @@
 -- The pairs of a map, as the words of a store at rest have them.
-use Rattle.std.proofs.Common.{◌≡◌, ℕ, zero, suc, ◌+◌, ◌-◌, ◌<◌, ◌≤◌, nat_lt, if◌then◌else◌, ◌==◌, Bool, true, false, ◌&&◌, List, [], ◌∷◌, ◌++◌, Option, Some, None, inl, inr, length, get_or, refl, ap, sym, subst, ◌∙◌, arith, ⊎_elim, append_assoc, Vec}
+use Rattle.std.proofs.Common.{◌≡◌, ℕ, zero, suc, ◌+◌, ◌-◌, ◌<◌, ◌≤◌, nat_lt, if◌then◌else◌, ◌==◌, Bool, true, false, ◌&&◌, List, [], ◌∷◌}
+use Rattle.std.proofs.Common.{◌++◌, Option, Some, None, inl, inr, length, get_or, refl, ap, sym, subst, ◌∙◌, arith, ⊎_elim, append_assoc}
+use Rattle.std.proofs.Common.{Vec}
 use Rattle.std.proofs.lemmas.List.{get_or-map, length-map, append-nil}
 use Rattle.std.proofs.lemmas.Map.Keys.{Less-from_sorted}
 use Rattle.std.proofs.lemmas.Map.Lookups.{exact_bytes}
@@ -45,7 +47,8 @@ use Rattle.hop_map.proofs.Bridge.{seg_sound, reached_of, chain_of, among_of}
 spelled_suc : (n : ℕ) (f : ℕ → ℕ) → bytes_of_words (suc n) f ≡ bytes_of_words n f ++ low_bytes 8 (f n)
 spelled_suc zero f = append-nil (low_bytes 8 (f 0))
 spelled_suc (suc n) f =
-    ap (λ (bs : List ℕ). low_bytes 8 (f 0) ++ bs) (spelled_suc n (λ k. f (k + 1)) ∙ ap (λ (k : ℕ). bytes_of_words n (λ i. f (i + 1)) ++ low_bytes 8 (f k)) (let e : n + 1 ≡ suc n = omega arith in e))
+    ap (λ (bs : List ℕ). low_bytes 8 (f 0) ++ bs) (spelled_suc n (λ k. f (k + 1)) ∙ ap
+    (λ (k : ℕ). bytes_of_words n (λ i. f (i + 1)) ++ low_bytes 8 (f k)) (let e : n + 1 ≡ suc n = omega arith in e))
     ∙ sym (append_assoc (low_bytes 8 (f 0)) (bytes_of_words n (λ i. f (i + 1))) (low_bytes 8 (f (suc n))))
 
 pub spelled_more : (n : ℕ) (f : ℕ → ℕ) → bytes_of_words (n + 1) f ≡ bytes_of_words n f ++ low_bytes 8 (f n)
@@ -55,16 +58,19 @@ spelled_more n f = ap (λ (k : ℕ). bytes_of_words k f) (let e : n + 1 ≡ suc 
 abbrev pub by_key : Vec ℕ Global → Vec ℕ Global → Ordering
 by_key x y = slice_cmp nat_cmp x.items y.items
 
-over : (o : Ordering) (xs ys zs : List (Vec ℕ Global × Vec ℕ Global)) → listed (match_ordering o xs ys zs) ≡ match_ordering o (listed xs) (listed ys) (listed zs)
+over : (o : Ordering) (xs ys zs : List (Vec ℕ Global × Vec ℕ Global)) → listed (match_ordering o xs ys zs) ≡ match_ordering o (listed xs)
+    (listed ys) (listed zs)
 over Less xs ys zs = refl
 over Equal xs ys zs = refl
 over Greater xs ys zs = refl
 
-pub listed_insert : (es : List (Vec ℕ Global × Vec ℕ Global)) (k v : Vec ℕ Global) → listed (insert_entry by_key es k v) ≡ insert_entry (slice_cmp nat_cmp) (listed es) k.items v.items
+pub listed_insert : (es : List (Vec ℕ Global × Vec ℕ Global)) (k v : Vec ℕ Global) → listed (insert_entry by_key es k v) ≡ insert_entry
+    (slice_cmp nat_cmp) (listed es) k.items v.items
 listed_insert [] k v = refl
 listed_insert (e ∷ es) k v =
     over (by_key k e.0) ((k, v) ∷ e ∷ es) ((e.0, v) ∷ es) (e ∷ insert_entry by_key es k v)
-    ∙ ap (λ (z : List Pair). match_ordering (by_key k e.0) ((k.items, v.items) ∷ pair_of e ∷ listed es) ((e.0.items, v.items) ∷ listed es) (pair_of e ∷ z)) (listed_insert es k v)
+    ∙ ap (λ (z : List Pair). match_ordering (by_key k e.0) ((k.items, v.items) ∷ pair_of e ∷ listed es) ((e.0.items, v.items) ∷ listed es)
+    (pair_of e ∷ z)) (listed_insert es k v)
 
 each_insert : (P : Pair → Type 0) (k v : List ℕ) → P (k, v) → (ps : List Pair) → Each P ps → Each P (insert_entry (slice_cmp nat_cmp) ps k v)
 each_insert P k v p [] all = (p, tt)
@@ -127,11 +133,13 @@ has_at key [] h = absurd h
 has_at key (p ∷ ps) (inl e) = (0, (omega arith), e)
 has_at key (p ∷ ps) (inr h) = let t = has_at key ps h in (suc t.0, (let l = t.1 in omega arith), t.2)
 
-below : (k : Vec ℕ Global) (es : List (Vec ℕ Global × Vec ℕ Global)) → AllByRecursion (λ y. by_key k y ≡ Less) (keys_of es) → AllByRecursion (λ y. slice_cmp nat_cmp k.items y ≡ Less) (keys_of (listed es))
+below : (k : Vec ℕ Global) (es : List (Vec ℕ Global × Vec ℕ Global)) → AllByRecursion (λ y. by_key k y ≡ Less) (keys_of es) → AllByRecursion
+    (λ y. slice_cmp nat_cmp k.items y ≡ Less) (keys_of (listed es))
 below k [] all = tt
 below k (e ∷ es) all = (all.0, below k es all.1)
 
-pub sorted_keys : (es : List (Vec ℕ Global × Vec ℕ Global)) → IsStrictlySortedBy by_key (keys_of es) → IsStrictlySortedBy (slice_cmp nat_cmp) (keys_of (listed es))
+pub sorted_keys : (es : List (Vec ℕ Global × Vec ℕ Global)) → IsStrictlySortedBy by_key (keys_of es) → IsStrictlySortedBy
+    (slice_cmp nat_cmp) (keys_of (listed es))
 unfolding IsStrictlySortedBy
 sorted_keys [] s = tt
 sorted_keys (e ∷ es) s = (below e.0 es s.0, sorted_keys es s.1)
@@ -140,7 +148,8 @@ key_at : (ps : List Pair) (k : ℕ) → k < length ps → get_or (keys_of ps) k 
 key_at ps k l = get_or-map (λ (p : Pair). p.0) ps k ([], []) [] l
 
 -- ---- a store at rest
-pub last_of : (e : Ending) → KeepsWholeHistory e.about (whole_view [] e.history) e.words → (last : Plain) × IsLast e last × Legal (as_made e.about.shape) e.history last
+pub last_of : (e : Ending) → KeepsWholeHistory e.about (whole_view [] e.history) e.words → (last : Plain) × IsLast e last × Legal
+    (as_made e.about.shape) e.history last
 last_of e w = (w.ghost.last, (w, refl), subst (λ (log : List Entry). Legal (as_made e.about.shape) log w.ghost.last) (sym w.whole) w.rule.logged.legal)
 
 -- depths that agree on what one of them bears bear the same
@@ -148,9 +157,11 @@ none_and : (b : Bool) → (b && false) ≡ false
 none_and true = refl
 none_and false = refl
 
-high_same : (d d' : ℕ → ℕ) (n p : ℕ) (b : Bool) → is_born d n p ≡ b → is_born d' n p ≡ is_born d n p → (is_born d n p ≡ true → d' p ≡ d p) → (nat_lt n (d' p) && is_born d' n p) ≡ (nat_lt n (d p) && is_born d n p)
+high_same : (d d' : ℕ → ℕ) (n p : ℕ) (b : Bool) → is_born d n p ≡ b → is_born d' n p ≡ is_born d n p → (is_born d n p ≡ true → d' p ≡ d p) →
+    (nat_lt n (d' p) && is_born d' n p) ≡ (nat_lt n (d p) && is_born d n p)
 high_same d d' n p true is births depths = (λ j. nat_lt n (depths is j) && births j)
-high_same d d' n p false is births depths = ap (λ (b : Bool). nat_lt n (d' p) && b) (births ∙ is) ∙ (none_and (nat_lt n (d' p)) ∙ sym (ap (λ (b : Bool). nat_lt n (d p) && b) is ∙ none_and (nat_lt n (d p))))
+high_same d d' n p false is births depths = ap (λ (b : Bool). nat_lt n (d' p) && b) (births ∙ is) ∙
+    (none_and (nat_lt n (d' p)) ∙ sym (ap (λ (b : Bool). nat_lt n (d p) && b) is ∙ none_and (nat_lt n (d p))))
 
 births_same : (d d' : ℕ → ℕ) (n s : ℕ) → ((t : ℕ) → is_born d n t ≡ true → d' t ≡ d t) → is_born d' n s ≡ is_born d n s
 births_same d d' zero s agree = refl
@@ -158,7 +169,8 @@ births_same d d' (suc n) s agree =
     let lower : (t : ℕ) → is_born d n t ≡ true → d' t ≡ d t = (λ t b. agree t (low_is d n t (born_small d n t b) ∙ b)) in
     ⊎_elim
     (λ (l : s < power n). low_is d' n s l ∙ (births_same d d' n s lower ∙ sym (low_is d n s l)))
-    (λ (g : power n ≤ s). high_is d' n s g ∙ (high_same d d' n (s - power n) (is_born d n (s - power n)) refl (births_same d d' n (s - power n) lower) (lower (s - power n)) ∙ sym (high_is d n s g)))
+    (λ (g : power n ≤ s). high_is d' n s g ∙ (high_same d d' n (s - power n) (is_born d n (s - power n)) refl
+    (births_same d d' n (s - power n) lower) (lower (s - power n)) ∙ sym (high_is d n s g)))
     (cases_lt s (power n))
 
 -- a segment's birth, a bit at a time
@@ -173,7 +185,8 @@ bit_none d n s g flat = high_is d n s g ∙ ap (λ (b : Bool). b && is_born d n 
 
 module _ (e : Ending) (w : KeepsWholeHistory e.about (whole_view [] e.history) e.words) (m : ℕ) where
   -- the stamps as they are bear the segments that are born
-  births_here : m < length e.about.shape.maps → (s : ℕ) → is_born (rest_depths e m) (depth (shape_at e.about m)) s ≡ is_born (w.ghost.depths m) (depth (shape_at e.about m)) s
+  births_here : m < length e.about.shape.maps → (s : ℕ) → is_born (rest_depths e m) (depth (shape_at e.about m)) s ≡ is_born
+      (w.ghost.depths m) (depth (shape_at e.about m)) s
   births_here there s = births_same (w.ghost.depths m) (rest_depths e m) (depth (shape_at e.about m)) s
       (λ t b. w.rule.deep.stamped m t (there, born_small (w.ghost.depths m) (depth (shape_at e.about m)) t b, b))
 
@@ -181,8 +194,10 @@ module _ (e : Ending) (w : KeepsWholeHistory e.about (whole_view [] e.history) e
   born_there s b = (b.0, b.1, sym (births_here b.0 s) ∙ b.2)
 
   -- the words show a born segment's share
-  shows_here : (s : ℕ) → IsBornHere e m s → IsShare e.about.seed (shape_at e.about m) (home_by e.about m (rest_depths e m s)) (words_in e) m s (w.ghost.linked m)
-  shows_here s b = subst (λ (i : ℕ). IsShare e.about.seed (shape_at e.about m) (home_by e.about m i) (words_in e) m s (w.ghost.linked m)) (sym (w.rule.deep.stamped m s (born_there s b))) (w.shows m s (born_there s b))
+  shows_here : (s : ℕ) → IsBornHere e m s → IsShare e.about.seed (shape_at e.about m) (home_by e.about m (rest_depths e m s)) (words_in e) m
+      s (w.ghost.linked m)
+  shows_here s b = subst (λ (i : ℕ). IsShare e.about.seed (shape_at e.about m) (home_by e.about m i) (words_in e) m s (w.ghost.linked m))
+      (sym (w.rule.deep.stamped m s (born_there s b))) (w.shows m s (born_there s b))
 
   pub reached_inside : (s i : ℕ) → IsBornHere e m s → IsReached e m s i → HasElement e.about m i
   reached_inside s i inside r = let q = (shows_here s inside).each i r in (w.rule.linked.within m q.0 i q.3).0
@@ -196,13 +211,15 @@ module _ (e : Ending) (w : KeepsWholeHistory e.about (whole_view [] e.history) e
         (λ (high : power n ≤ s).
         let up = power_mono n (depth (shape_at e.about m)) (omega arith) in
         let z = w.rule.deep.whole m (s - power n) there (omega arith) fixed in
-        high_is (w.ghost.depths m) n s high ∙ and_from _ _ (lt-ltb n (w.ghost.depths m (s - power n)) (omega arith)) (born_fixed n (s - power n) (omega arith) (omega arith)))
+        high_is (w.ghost.depths m) n s high ∙ and_from _ _ (lt-ltb n (w.ghost.depths m (s - power n)) (omega arith))
+        (born_fixed n (s - power n) (omega arith) (omega arith)))
         (cases_lt s (power n))
 
     born_all : (n : ℕ) → n ≤ segments (shape_at e.about m) → born_below e m n ≡ n
     born_all zero le = refl
     born_all (suc n) le =
-        let born : is_born (rest_depths e m) (depth (shape_at e.about m)) n ≡ true = births_here there n ∙ born_fixed (depth (shape_at e.about m)) n (omega arith) (omega arith) in
+        let born : is_born (rest_depths e m) (depth (shape_at e.about m)) n ≡ true = births_here there n ∙ born_fixed
+        (depth (shape_at e.about m)) n (omega arith) (omega arith) in
         let more = born_all n (omega arith) in
         ap (λ (b : Bool). if b then born_below e m n + 1 else born_below e m n) born ∙ omega arith
 
@@ -212,9 +229,14 @@ module _ (e : Ending) (w : KeepsWholeHistory e.about (whole_view [] e.history) e
   -- the born segment that a key is at home in
   home_inside : m < length e.about.shape.maps → (key : List ℕ) → (s : ℕ) × IsBornHere e m s × (home_by e.about m (rest_depths e m s) key ≡ s)
   home_inside there key =
-      let o = each_has_one_owner (w.ghost.depths m) (depth (shape_at e.about m)) (home_of key e.about.seed (shape_at e.about m).mask) (w.rule.deep.sound m there) in
-      let small = born_small (w.ghost.depths m) (depth (shape_at e.about m)) o.0 o.1.born in
-      (o.0, (there, small, births_here there o.0 ∙ o.1.born), ap (λ (i : ℕ). home_by e.about m i key) (w.rule.deep.stamped m o.0 (there, small, o.1.born)) ∙ o.1.here)
+      let o = each_has_one_owner (w.ghost.depths m) (depth (shape_at e.about m)) (home_of key e.about.seed (shape_at e.about m).mask)
+      (w.rule.deep.sound m there) in
+      let small = born_small (w.ghost.depths m) (depth (shape_at e.about m)) o.0 o.1.born in (
+        o.0,
+        (there, small, births_here there o.0 ∙ o.1.born),
+        ap (λ (i : ℕ). home_by e.about m i key)
+            (w.rule.deep.stamped m o.0 (there, small, o.1.born)) ∙ o.1.here,
+      )
 
   -- the element that a found key leads to
   leads : (key : List ℕ) (v : ℕ) → Finds w.ghost.last m key v → (i : ℕ) × (w.ghost.linked m key ≡ Some i)
@@ -254,7 +276,8 @@ module _ (e : Ending) (w : KeepsWholeHistory e.about (whole_view [] e.history) e
           (let before : j < length ps = omega arith in
           let count : length (keys_of ps) ≡ length ps = length-map ps (λ (p : Pair). p.0) in
           ap (λ (x : List ℕ). slice_cmp nat_cmp x (pair_at ps k).0) (sym (key_at ps j before))
-          ∙ (ap (λ (x : List ℕ). slice_cmp nat_cmp (get_or (keys_of ps) j []) x) (sym (key_at ps k b)) ∙ Less-from_sorted (slice_cmp nat_cmp) (keys_of ps) j k [] sorted l (omega arith)));
+          ∙ (ap (λ (x : List ℕ). slice_cmp nat_cmp (get_or (keys_of ps) j []) x) (sym (key_at ps k b)) ∙ Less-from_sorted
+          (slice_cmp nat_cmp) (keys_of ps) j k [] sorted l (omega arith)));
       each = value_there;
       all = key_there;
     }
@@ -272,7 +295,8 @@ module _ (e : Ending) (w : KeepsWholeHistory e.about (whole_view [] e.history) e
     seen = segment_view e.about m s (rest_depths e m s) (λ i. true) (words_in e)
 
     pub sound : SegSound seen
-    sound = seg_sound e.about m s (rest_depths e m s) (λ i. true) (words_in e) (w.ghost.linked m) (shows_here s inside) (λ key i is home. ((w.rule.linked.within m key i is).0.1, refl))
+    sound = seg_sound e.about m s (rest_depths e m s) (λ i. true) (words_in e) (w.ghost.linked m) (shows_here s inside)
+        (λ key i is home. ((w.rule.linked.within m key i is).0.1, refl))
 
     pub listed_reached : (i : ℕ) → IsInOverflow seen i → IsReached e m s i
     listed_reached i l = reached_of e.about m s (rest_depths e m s) (λ i. true) (words_in e) i (inr l)
@@ -285,7 +309,8 @@ module _ (e : Ending) (w : KeepsWholeHistory e.about (whole_view [] e.history) e
     at_place p i l is = let h = (shows_here s inside).sound.hopped p i l is in inl (h.0, h.1, h.2)
 
 -- ---- a walk whose goal gets weaker
-pub walk_weaker : (w : SegWords) (P Q : ℕ → Type 0) (before at : Option ℕ) (passed : ℕ) → ((i : ℕ) → P i → Q i) → Counted w P before at passed → Counted w Q before at passed
+pub walk_weaker : (w : SegWords) (P Q : ℕ → Type 0) (before at : Option ℕ) (passed : ℕ) → ((i : ℕ) → P i → Q i) → Counted w P before at
+    passed → Counted w Q before at passed
 walk_weaker w P Q before at passed f k = record {
   walk = record {
     rest = k.walk.rest;

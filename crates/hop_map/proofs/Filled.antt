@@ -1,5 +1,6 @@
 -- A new element that is filled, and what becomes of it.
-use Rattle.std.proofs.Common.{◌≡◌, eq-eqb, ◌==◌, ◌++◌, ◌+◌, ◌≢◌, ℕ, zero, suc, ◌<◌, ◌≤◌, true, List, [], ◌∷◌, length, slice_index, length-set, get_or-set_other, ⊎_elim, refl, ap, sym, subst, ◌∙◌, arith}
+use Rattle.std.proofs.Common.{◌≡◌, eq-eqb, ◌==◌, ◌++◌, ◌+◌, ◌≢◌, ℕ, zero, suc, ◌<◌, ◌≤◌, true, List, [], ◌∷◌, length, slice_index}
+use Rattle.std.proofs.Common.{length-set, get_or-set_other, ⊎_elim, refl, ap, sym, subst, ◌∙◌, arith}
 use Rattle.std.proofs.lemmas.List.{get_or_append_left}
 use Rattle.std.proofs.Math.Seq.{get_or-append_seam}
 use Rattle.std.proofs.lemmas.Bool.{cases_eq}
@@ -46,25 +47,38 @@ words_at (suc n) bs i less = ⊎_elim
     (cases_eq i n)
 
 -- an update that took effect is one more of the CPU's
-one_more : {a : About} (m : ℕ) (l : Known) (key bytes : List ℕ) (flags : ℕ) (r : MapAnswer) (seen : List Entry) → TakesEffect a l (Update m key bytes flags r) seen → updates_of m (events_of l.cpu l.seen) < updates_of m (events_of l.cpu seen)
+one_more : {a : About} (m : ℕ) (l : Known) (key bytes : List ℕ) (flags : ℕ) (r : MapAnswer) (seen : List Entry) → TakesEffect a l
+    (Update m key bytes flags r) seen → updates_of m (events_of l.cpu l.seen) < updates_of m (events_of l.cpu seen)
 one_more m l key bytes flags r seen t =
     let ev = Update m key bytes flags r in
     let own : events_of l.cpu seen ≡ events_of l.cpu l.seen ++ ev ∷ [] = ap (events_of l.cpu) t.after
     ∙ (events_of-append l.cpu l.seen (t.others ++ entry l.cpu ev ∷ []) ∙ ap (λ (es : List Event). events_of l.cpu l.seen ++ es)
     (events_of-append l.cpu t.others (entry l.cpu ev ∷ []) ∙ (λ j. t.foreign j ++ events_of-own l.cpu ev j))) in
-    let n : updates_of m (events_of l.cpu seen) ≡ updates_of m (events_of l.cpu l.seen) + updates_of m (ev ∷ []) = ap (updates_of m) own ∙ updates_of-append m (events_of l.cpu l.seen) (ev ∷ []) in
+    let n : updates_of m (events_of l.cpu seen) ≡ updates_of m (events_of l.cpu l.seen) + updates_of m (ev ∷ []) = ap (updates_of m) own ∙
+    updates_of-append m (events_of l.cpu l.seen) (ev ∷ []) in
     let one : one_if (m == m) ≡ 1 = ap one_if (eq-eqb m m refl) in
     omega arith
 
 module _ (a : About) (l : Known) (m e : ℕ) (new : HoldsNew l m e) (key bytes : List ℕ) (l1 : Known)
     (filled : l1 ≡ record l { fresh = with_words l.fresh (word_list (words_for (length key)) key) (word_list (words_for (length bytes)) bytes) }) where
   abbrev whole : Fresh
-  whole = record { map = m; element = e; update = updates_of m (events_of l.cpu l.seen); key = word_list (words_for (length key)) key; value = word_list (words_for (length bytes)) bytes }
+  whole = record {
+    map = m;
+    element = e;
+    update = updates_of m (events_of l.cpu l.seen);
+    key = word_list (words_for (length key)) key;
+    value
+        = word_list (words_for (length bytes)) bytes;
+  }
 
   pub filled_is : l1 ≡ record l { fresh = whole ∷ [] }
-  filled_is = filled ∙ ap (λ (fs : List Fresh). record l { fresh = with_words fs (word_list (words_for (length key)) key) (word_list (words_for (length bytes)) bytes) }) new
+  filled_is = filled ∙ ap (λ (fs : List Fresh). record l {
+    fresh = with_words fs (word_list (words_for (length key)) key)
+        (word_list (words_for (length bytes)) bytes);
+  }) new
 
-  pub filled_readies : (flags : ℕ) → e < elements (shape_at a m) → length key ≡ (shape_at a m).key → length bytes ≡ (shape_at a m).value → AreBytes key → AreBytes bytes → flags ≤ 2
+  pub filled_readies : (flags : ℕ) → e < elements (shape_at a m) → length key ≡ (shape_at a m).key → length bytes ≡ (shape_at a m).value →
+      AreBytes key → AreBytes bytes → flags ≤ 2
       → m < length l.limbo → in_run (events_of l.cpu l.seen) ≡ true → l.locks ≡ [] → Readies a l1 m key bytes flags e
   filled_readies flags inside ks vs kb vb few room runs idle = subst (λ (q : Known). Readies a q m key bytes flags e) (sym filled_is) (record {
     carries = record {
@@ -88,7 +102,8 @@ module _ (a : About) (l : Known) (m e : ℕ) (new : HoldsNew l m e) (key bytes :
   module _ (used : (limbo_at l.limbo m).used ≡ []) (room : m < length l.limbo) (flags : ℕ) (k : Sight) (l2 : Known) where
     pub added_called : IsInsertion a (locked_with l1 k) m key bytes flags l2 → IsOneCall a l m (Update m key bytes flags Done) l2
     added_called p = record {
-      seen = saw_as a l (locked_with l1 k) (Update m key bytes flags Done) l2.seen (ap (λ (q : Known). q.cpu) filled_is) (ap (λ (q : Known). q.seen) filled_is) p.seen;
+      seen = saw_as a l (locked_with l1 k) (Update m key bytes flags Done) l2.seen (ap (λ (q : Known). q.cpu) filled_is)
+          (ap (λ (q : Known). q.seen) filled_is) p.seen;
       rests = record {
         fresh = ap (λ (q : Known). q.fresh) p.after;
         locks = ap (λ (q : Known). q.locks) p.after;
@@ -112,7 +127,8 @@ module _ (a : About) (l : Known) (m e : ℕ) (new : HoldsNew l m e) (key bytes :
       -- the update that took it is answered
       pub refused_answered : IsUpdateAnswered l2 m
       refused_answered =
-          let s = saw_as a l (locked_with l1 k) (Update m key bytes flags r) l2.seen (ap (λ (q : Known). q.cpu) filled_is) (ap (λ (q : Known). q.seen) filled_is) p.seen in
+          let s = saw_as a l (locked_with l1 k) (Update m key bytes flags r) l2.seen (ap (λ (q : Known). q.cpu) filled_is)
+          (ap (λ (q : Known). q.seen) filled_is) p.seen in
           let same : l2.cpu ≡ l.cpu = ap (λ (q : Known). q.cpu) p.after ∙ ap (λ (q : Known). q.cpu) filled_is in
           subst (λ (fs : List Fresh). update_in_hand fs < updates_of m (events_of l2.cpu l2.seen)) (sym refused_fresh)
           (subst (λ (c : ℕ). updates_of m (events_of l.cpu l.seen) < updates_of m (events_of c l2.seen)) (sym same) (one_more m l key bytes flags r l2.seen s))
@@ -122,7 +138,8 @@ module _ (a : About) (l : Known) (m e : ℕ) (new : HoldsNew l m e) (key bytes :
 
       pub refused_called : (l3 : Known) (j : Sight) → l3 ≡ sighted (record l2 { fresh = tail_of l2.fresh }) j → IsOneCall a l m (Update m key bytes flags r) l3
       refused_called l3 j given = subst (IsOneCall a l m (Update m key bytes flags r)) (sym given) (record {
-        seen = saw_as a l (locked_with l1 k) (Update m key bytes flags r) l2.seen (ap (λ (q : Known). q.cpu) filled_is) (ap (λ (q : Known). q.seen) filled_is) p.seen;
+        seen = saw_as a l (locked_with l1 k) (Update m key bytes flags r) l2.seen (ap (λ (q : Known). q.cpu) filled_is)
+            (ap (λ (q : Known). q.seen) filled_is) p.seen;
         rests = record {
           fresh = ap tail_of refused_fresh;
           locks = ap (λ (q : Known). q.locks) p.after;
@@ -139,7 +156,8 @@ module _ (a : About) (l : Known) (m e : ℕ) (new : HoldsNew l m e) (key bytes :
 
       over_used : (limbo_at l2.limbo m).used ≡ old ∷ []
       over_used = ap (λ (ls : List Limbo). (limbo_at ls m).used) over_limbo
-          ∙ (ap (λ (z : Limbo). z.used) (at_set l m (record (limbo_at l.limbo m) { used = old ∷ (limbo_at l.limbo m).used }) room) ∙ ap (λ (us : List ℕ). old ∷ us) used)
+          ∙ (ap (λ (z : Limbo). z.used) (at_set l m (record (limbo_at l.limbo m) { used = old ∷ (limbo_at l.limbo m).used }) room) ∙ ap
+          (λ (us : List ℕ). old ∷ us) used)
 
       pub over_front : (limbo_at l2.limbo m).used ≡ old ∷ tail_of (limbo_at l2.limbo m).used
       over_front = over_used ∙ ap (λ (us : List ℕ). old ∷ us) (sym (ap tail_of over_used))
@@ -152,7 +170,8 @@ module _ (a : About) (l : Known) (m e : ℕ) (new : HoldsNew l m e) (key bytes :
           let x : Limbo = record (limbo_at l2.limbo m) { used = tail_of (limbo_at l2.limbo m).used; young = old ∷ (limbo_at l2.limbo m).young } in
           let room2 : m < length l2.limbo = subst (λ (i : ℕ). m < i) (sym size_is) room in
           subst (IsOneCall a l m (Update m key bytes flags Done)) (sym retired) (record {
-            seen = saw_as a l (locked_with l1 k) (Update m key bytes flags Done) l2.seen (ap (λ (q : Known). q.cpu) filled_is) (ap (λ (q : Known). q.seen) filled_is) p.seen;
+            seen = saw_as a l (locked_with l1 k) (Update m key bytes flags Done) l2.seen (ap (λ (q : Known). q.cpu) filled_is)
+                (ap (λ (q : Known). q.seen) filled_is) p.seen;
             rests = record {
               fresh = ap (λ (q : Known). q.fresh) p.after;
               locks = ap (λ (q : Known). q.locks) p.after;
@@ -161,5 +180,6 @@ module _ (a : About) (l : Known) (m e : ℕ) (new : HoldsNew l m e) (key bytes :
             cpu = ap (λ (q : Known). q.cpu) p.after ∙ ap (λ (q : Known). q.cpu) filled_is;
             size = length-set l2.limbo m x ∙ size_is;
             others = λ n ne. get_or-set_other l2.limbo m n x no_limbo ne
-                ∙ (ap (λ (ls : List Limbo). limbo_at ls n) over_limbo ∙ get_or-set_other l.limbo m n (record (limbo_at l.limbo m) { used = old ∷ (limbo_at l.limbo m).used }) no_limbo ne);
+                ∙ (ap (λ (ls : List Limbo). limbo_at ls n) over_limbo ∙ get_or-set_other l.limbo m n
+                (record (limbo_at l.limbo m) { used = old ∷ (limbo_at l.limbo m).used }) no_limbo ne);
           })

@@ -1,5 +1,6 @@
 -- A listing on its way: one segment more.
-use Rattle.std.proofs.Common.{◌≡◌, ◌≢◌, ℕ, suc, ◌+◌, ◌%◌, ◌<◌, ◌≤◌, Bool, true, false, true≢false, ◌||◌, List, [], ◌∷◌, ◌++◌, length, refl, ap, sym, subst, ◌∙◌, arith, inl, inr, ⊎_elim}
+use Rattle.std.proofs.Common.{◌≡◌, ◌≢◌, ℕ, suc, ◌+◌, ◌%◌, ◌<◌, ◌≤◌, Bool, true, false, true≢false, ◌||◌, List, [], ◌∷◌, ◌++◌, length, refl}
+use Rattle.std.proofs.Common.{ap, sym, subst, ◌∙◌, arith, inl, inr, ⊎_elim}
 use Rattle.std.specs.List.{AllByRecursion, IsDistinct}
 use Rattle.std.specs.Ordering.{nat_cmp, eq_by_cmp, is_eq}
 use Rattle.std.specs.declared.cmp.Ordering.{Ordering}
@@ -27,7 +28,8 @@ use Rattle.hop_words.specs.Listing.{ListsSegment, ListsMap, IsHomeAmong, lock_gi
 use Rattle.hop_words.specs.declared.known.Sight.{Sight}
 use Rattle.hop_words.specs.Sights.{sight, sighted, lock_taken}
 use Rattle.hop_map.specs.Noting.{steps_undone, TakesLocks}
-use Rattle.hop_map.specs.Private.Listing.{Falls, IsOwnedAmong, Covers, Gathers, Opens, Adds, taken_by, given_back, NotesLock, NotesLocks, LocksMore, ReadsMore, Listed}
+use Rattle.hop_map.specs.Private.Listing.{Falls, IsOwnedAmong, Covers, Gathers, Opens, Adds, taken_by, given_back, NotesLock, NotesLocks}
+use Rattle.hop_map.specs.Private.Listing.{LocksMore, ReadsMore, Listed}
 use Rattle.hop_map.specs.Private.Locks.{Sought, IsUnborn}
 use Rattle.hop_map.proofs.Locking.{locked_contents}
 use Rattle.hop_map.proofs.Ports.{by_equal}
@@ -91,7 +93,8 @@ abbrev Own : ℕ → ℕ → ℕ → ℕ → Lock → Type 0
 Own m s home d k = k.map ≡ m → home % power (stamp_depth k.stamp) ≡ k.segment → (k.segment ≡ s) × (stamp_depth k.stamp ≡ d)
 
 -- a number that belongs to a segment below it belongs to that segment's lock
-moves : (m s owner d : ℕ) (ks : List Lock) → s % power d ≡ owner → Each (λ (j : Lock). j.map ≡ m) ks → Each (Own m owner owner d) ks → IsOwnedAmong owner ks → IsOwnedAmong s ks
+moves : (m s owner d : ℕ) (ks : List Lock) → s % power d ≡ owner → Each (λ (j : Lock). j.map ≡ m) ks → Each (Own m owner owner d) ks →
+    IsOwnedAmong owner ks → IsOwnedAmong s ks
 moves m s owner d [] is of owns h = absurd h
 moves m s owner d (k ∷ ks) is of owns h = ⊎_elim
     (λ (own : owner % power (stamp_depth k.stamp) ≡ k.segment). let t = owns.0 of.0 own in inl (ap (λ (i : ℕ). s % power i) t.1 ∙ (is ∙ sym t.0)))
@@ -107,7 +110,8 @@ below m s n d (k ∷ ks) f owns h = ⊎_elim
     h
 
 -- and is the first where none is above
-pub found_first : (m s d : ℕ) (ks : List Lock) → Falls m (s + 1) ks → Each (Own m s s d) ks → IsOwnedAmong s ks → (k : Lock) × (rest : List Lock) × (ks ≡ k ∷ rest) × (k.map ≡ m) × (k.segment ≡ s)
+pub found_first : (m s d : ℕ) (ks : List Lock) → Falls m (s + 1) ks → Each (Own m s s d) ks → IsOwnedAmong s ks → (k : Lock) ×
+    (rest : List Lock) × (ks ≡ k ∷ rest) × (k.map ≡ m) × (k.segment ≡ s)
 found_first m s d [] f owns h = absurd h
 found_first m s d (k ∷ ks) f owns h = ⊎_elim
     (λ (own : s % power (stamp_depth k.stamp) ≡ k.segment). (k, ks, refl, f.0, (owns.0 f.0 own).0))
@@ -115,7 +119,8 @@ found_first m s d (k ∷ ks) f owns h = ⊎_elim
     h
 
 -- ---- the lock
-module _ (a : About) (l : Known) (m s n : ℕ) (at_s : IsSegment a m s) (keys : List (List ℕ)) (g : Gathers a l m s keys) (l2 : Known) (t : LocksSegment a l m s n l2) where
+module _ (a : About) (l : Known) (m s n : ℕ) (at_s : IsSegment a m s) (keys : List (List ℕ)) (g : Gathers a l m s keys) (l2 : Known)
+    (t : LocksSegment a l m s n l2) where
   abbrev mine : Known
   mine = locking l m s n t.words t.known
 
@@ -123,7 +128,8 @@ module _ (a : About) (l : Known) (m s n : ℕ) (at_s : IsSegment a m s) (keys : 
   Apart k = k.map ≡ m → (key : List ℕ) → IsHomeIn a k key → home_by a m (stamp_depth n) key ≢ s
 
   still_shown : AllByRecursion (IsShownIn a m l2.locks) keys
-  still_shown = subst (λ (x : Known). AllByRecursion (IsShownIn a m x.locks) keys) (sym t.after) (all_weaker (IsShownIn a m l.locks) (IsShownIn a m mine.locks) keys (λ q h. inr h) g.shown)
+  still_shown = subst (λ (x : Known). AllByRecursion (IsShownIn a m x.locks) keys) (sym t.after)
+      (all_weaker (IsShownIn a m l.locks) (IsShownIn a m mine.locks) keys (λ q h. inr h) g.shown)
 
   -- a key that the other locks show isn't at home here
   shown_apart : (q : List ℕ) (ks : List Lock) → Each Apart ks → IsShownIn a m ks q → home_by a m (stamp_depth n) q ≢ s
@@ -161,7 +167,8 @@ module _ (a : About) (l : Known) (m s n : ℕ) (at_s : IsSegment a m s) (keys : 
     list_here : ListsSegment a (keys ++ d.more) k
     list_here f share q home = add_lists f share q home ∙ sym (among-append q keys d.more ∙ ap (λ (b : Bool). b || is_among q d.more) (none_home q home))
 
-    list_there : (ks : List Lock) → Each Apart ks → Each (λ (j : Lock). j.map ≡ m) ks → Each (ListsSegment a keys) ks → Each (ListsSegment a (keys ++ d.more)) ks
+    list_there : (ks : List Lock) → Each Apart ks → Each (λ (j : Lock). j.map ≡ m) ks → Each (ListsSegment a keys) ks → Each
+        (ListsSegment a (keys ++ d.more)) ks
     list_there [] apart of p = tt
     list_there (k ∷ ks) apart of p = (
       (λ f share q home.
@@ -187,7 +194,8 @@ module _ (a : About) (l : Known) (m s n : ℕ) (at_s : IsSegment a m s) (keys : 
     gathered_in = record {
       covers = covered;
       lists = (list_here, list_there l.locks t.others (falls_of_map m s l.locks g.covers.falls) g.lists);
-      shown = subst (λ (x : Known). AllByRecursion (IsShownIn a m x.locks) (keys ++ d.more)) t.after (all_append (IsShownIn a m l2.locks) keys d.more still_shown d.shown);
+      shown = subst (λ (x : Known). AllByRecursion (IsShownIn a m x.locks) (keys ++ d.more)) t.after
+          (all_append (IsShownIn a m l2.locks) keys d.more still_shown d.shown);
       distinct = subst AreDistinct d.is d.distinct;
     }
 
@@ -212,7 +220,8 @@ module _ (a : About) (l : Known) (m s : ℕ) (l2 : Known) (u : IsUnborn a l m s 
     where
       go : (b : Bool) → (shape_at a m).grow ≡ b → b ≡ true
       go true is = refl
-      go false is = absurd (u.other (sym u.sought.here ∙ (ap (λ (i : ℕ). s % power i) (u.sought.noted.deep.whole is) ∙ mod_small s (segments (shape_at a m)) inside)))
+      go false is = absurd (u.other (sym u.sought.here ∙ (ap (λ (i : ℕ). s % power i) (u.sought.noted.deep.whole is) ∙ mod_small s
+          (segments (shape_at a m)) inside)))
 
   unborn_owned : Each (λ (j : Lock). j.map ≡ m) l.locks → IsOwnedAmong u.owner l.locks → IsOwnedAmong s l.locks
   unborn_owned of own = moves m s u.owner (stamp_depth u.stamp) l.locks u.sought.here of (u.sought.noted.owns u.owner itself) own
@@ -245,7 +254,8 @@ module _ (a : About) (l : Known) (m s : ℕ) (l2 : Known) (u : IsUnborn a l m s 
     owned = λ i le. c.owned i (omega arith);
   })
     where
-      go : (ks : List Lock) → Falls m (s + 1) ks → Each (λ (k : Lock). SaysDepth a m k.segment k.stamp) ks → Each (Own m u.owner s (stamp_depth u.stamp)) ks → Falls m s ks
+      go : (ks : List Lock) → Falls m (s + 1) ks → Each (λ (k : Lock). SaysDepth a m k.segment k.stamp) ks → Each
+          (Own m u.owner s (stamp_depth u.stamp)) ks → Falls m s ks
       go [] f d o = tt
       go (k ∷ ks) f d o = (
         f.0,
@@ -261,8 +271,12 @@ pub has_last : (a : About) (l : Known) (m s n : ℕ) (y : Known) → Sought a l 
 has_last a l m s n y q c =
     let f = found_first m s (stamp_depth n) l.locks c.falls (q.noted.owns s q.here) (c.owned s (omega arith)) in
     let e : y.locks ≡ f.0 ∷ f.1 = ap (λ (x : Known). x.locks) q.noted.after ∙ f.2 in
-    let head : lock_of y ≡ f.0 = ap (λ (ks : List Lock). slice_index_or ks 0 no_lock) e in
-    (e ∙ ap (λ (ks : List Lock). slice_index_or ks 0 no_lock ∷ tail_of ks) (sym e), ap (λ (k : Lock). k.map) head ∙ f.3, ap (λ (k : Lock). k.segment) head ∙ f.4)
+    let head : lock_of y ≡ f.0 = ap (λ (ks : List Lock). slice_index_or ks 0 no_lock) e in (
+      e ∙ ap (λ (ks : List Lock). slice_index_or ks 0 no_lock ∷ tail_of ks) (sym e),
+      ap (λ (k : Lock). k.map) head ∙ f.3,
+      ap
+          (λ (k : Lock). k.segment) head ∙ f.4,
+    )
 
 -- nothing is locked yet
 empty_distinct : AreDistinct []
@@ -286,11 +300,13 @@ pub takes_one : (a : About) (m s : ℕ) (l x y : Known) → NotesLocks a l m s x
 takes_one a m s l x y h = ⊎_elim
     (λ (more : (n : ℕ) × (y.tally ≡ lock_taken m s n ∷ x.tally) × (taken_by y.locks ≡ lock_taken m s n ∷ taken_by x.locks)). record {
       tally = more.1 ∙ (ap (λ (z : List Sight). lock_taken m s more.0 ∷ z) h.tally ∙ ap (λ (z : List Sight). z ++ l.tally) (sym more.2));
-      takes = subst (TakesLocks a m (s + 1)) (sym more.2) (subst (λ (i : ℕ). TakesLocks a m i (lock_taken m s more.0 ∷ taken_by x.locks)) (sym next) (inl (more.0, taken_by x.locks, refl, h.takes)));
+      takes = subst (TakesLocks a m (s + 1)) (sym more.2) (subst (λ (i : ℕ). TakesLocks a m i (lock_taken m s more.0 ∷ taken_by x.locks))
+          (sym next) (inl (more.0, taken_by x.locks, refl, h.takes)));
     })
     (λ (none : ((shape_at a m).grow ≡ true) × (y.tally ≡ x.tally) × (y.locks ≡ x.locks)). record {
       tally = none.1 ∙ (h.tally ∙ ap (λ (ks : List Lock). taken_by ks ++ l.tally) (sym none.2));
-      takes = subst (λ (i : ℕ). TakesLocks a m i (taken_by y.locks)) (sym next) (inr (none.0, subst (λ (ks : List Lock). TakesLocks a m s (taken_by ks)) (sym none.2) h.takes));
+      takes = subst (λ (i : ℕ). TakesLocks a m i (taken_by y.locks)) (sym next)
+          (inr (none.0, subst (λ (ks : List Lock). TakesLocks a m s (taken_by ks)) (sym none.2) h.takes));
     })
   where
     next : s + 1 ≡ suc s
@@ -317,10 +333,14 @@ given_undone [] sights = refl
 given_undone (k ∷ ks) sights = given_undone ks (lock_given k ∷ sights)
 
 -- from before the first lock to after the last unlock
-pub listed_whole : (a : About) (l l1 l2 l3 : Known) (m : ℕ) (keys : List (List ℕ)) → l.locks ≡ [] → LocksMore l l1 → NotesLocks a l m (segments (shape_at a m)) l1 → l1.locks ≡ lock_of l1 ∷ other_locks l1 → AnswersGiving a l1 (Keys m keys) l2
-    → l3 ≡ record l2 { locks = l3.locks; readings = l3.readings; tally = l3.tally } → given_back l3.locks l3.tally ≡ given_back l2.locks l2.tally → l3.locks ≡ [] → Listed a l m keys l3
+pub listed_whole : (a : About) (l l1 l2 l3 : Known) (m : ℕ) (keys : List (List ℕ)) → l.locks ≡ [] → LocksMore l l1 → NotesLocks a l m
+    (segments (shape_at a m)) l1 → l1.locks ≡ lock_of l1 ∷ other_locks l1 → AnswersGiving a l1 (Keys m keys) l2
+    → l3 ≡ record l2 { locks = l3.locks; readings = l3.readings; tally = l3.tally } → given_back l3.locks l3.tally ≡ given_back l2.locks
+    l2.tally → l3.locks ≡ [] → Listed a l m keys l3
 listed_whole a l l1 l2 l3 m keys idle locked noted last (x, p, is) kept gives none = record {
-  seen = subst (TakesEffect a l (Keys m keys)) (sym (ap (λ (u : Known). u.seen) whole)) (let w = subst (λ (u : Known). TakesEffect a u (Keys m keys) x.seen) locked p.seen in record { others = w.others; foreign = w.foreign; after = w.after; legal = w.legal });
+  seen = subst (TakesEffect a l (Keys m keys)) (sym (ap (λ (u : Known). u.seen) whole))
+      (let w = subst (λ (u : Known). TakesEffect a u (Keys m keys) x.seen) locked p.seen in record
+      { others = w.others; foreign = w.foreign; after = w.after; legal = w.legal });
   noted = (steps_undone ts ts, tally, (ts, noted.takes, refl));
   after = whole ∙ (λ j. record l { seen = sym (ap (λ (u : Known). u.seen) whole) j; locks = (none ∙ sym idle) j; readings = l3.readings; tally = l3.tally });
 }
@@ -350,24 +370,35 @@ pub locked_on : (l l1 l2 : Known) → LocksMore l l1 → LocksMore l1 l2 → Loc
 locked_on l l1 l2 p q = q ∙ ap (λ (x : Known). record x { locks = l2.locks; readings = l2.readings; tally = l2.tally }) p
 
 pub locked_read : (l l1 l2 : Known) → LocksMore l l1 → ReadsMore l1 l2 → LocksMore l l2
-locked_read l l1 l2 p q = q ∙ (ap (λ (x : Known). record x { readings = l2.readings }) p ∙ (λ j. record l { locks = sym (ap (λ (x : Known). x.locks) q) j; readings = l2.readings; tally = sym (ap (λ (x : Known). x.tally) q) j }))
+locked_read l l1 l2 p q = q ∙ (ap (λ (x : Known). record x { readings = l2.readings }) p ∙
+    (λ j. record l { locks = sym (ap (λ (x : Known). x.locks) q) j; readings = l2.readings; tally = sym (ap (λ (x : Known). x.tally) q) j }))
 
 -- one lock of the others is given back, or none
-pub unlocked_on : (l x y z : Known) → x ≡ record l { locks = x.locks; readings = x.readings; tally = x.tally } → ReadsMore x y → z ≡ sighted (unlocking_last y) (lock_given (lock_of y)) → z ≡ record l { locks = z.locks; readings = z.readings; tally = z.tally }
+pub unlocked_on : (l x y z : Known) → x ≡ record l { locks = x.locks; readings = x.readings; tally = x.tally } → ReadsMore x y → z ≡ sighted
+    (unlocking_last y) (lock_given (lock_of y)) → z ≡ record l { locks = z.locks; readings = z.readings; tally = z.tally }
 unlocked_on l x y z p q given =
     given ∙ (ap (λ (u : Known). record u { locks = other_locks y; tally = lock_given (lock_of y) ∷ y.tally }) q
     ∙ (ap (λ (u : Known). record u { locks = other_locks y; readings = y.readings; tally = lock_given (lock_of y) ∷ y.tally }) p
-    ∙ (λ j. record l { locks = sym (ap (λ (u : Known). u.locks) given) j; readings = sym (ap (λ (u : Known). u.readings) given) j; tally = sym (ap (λ (u : Known). u.tally) given) j })))
+    ∙ (λ j. record l {
+      locks = sym (ap (λ (u : Known). u.locks) given) j;
+      readings = sym (ap (λ (u : Known). u.readings) given) j;
+      tally =
+          sym (ap (λ (u : Known). u.tally) given) j;
+    })))
 
-pub passed_on : (l x y : Known) → x ≡ record l { locks = x.locks; readings = x.readings; tally = x.tally } → ReadsMore x y → y ≡ record l { locks = y.locks; readings = y.readings; tally = y.tally }
-passed_on l x y p q = q ∙ (ap (λ (u : Known). record u { readings = y.readings }) p ∙ (λ j. record l { locks = sym (ap (λ (u : Known). u.locks) q) j; readings = y.readings; tally = sym (ap (λ (u : Known). u.tally) q) j }))
+pub passed_on : (l x y : Known) → x ≡ record l { locks = x.locks; readings = x.readings; tally = x.tally } → ReadsMore x y → y ≡ record l
+    { locks = y.locks; readings = y.readings; tally = y.tally }
+passed_on l x y p q = q ∙ (ap (λ (u : Known). record u { readings = y.readings }) p ∙
+    (λ j. record l { locks = sym (ap (λ (u : Known). u.locks) q) j; readings = y.readings; tally = sym (ap (λ (u : Known). u.tally) q) j }))
 
 -- what the tally is once all are given back stays
 pub passed_gives : (x y : Known) → ReadsMore x y → given_back y.locks y.tally ≡ given_back x.locks x.tally
 passed_gives x y q = ap (λ (u : Known). given_back u.locks u.tally) q
 
-pub gives_on : (x y z : Known) → ReadsMore x y → y.locks ≡ lock_of y ∷ other_locks y → z ≡ sighted (unlocking_last y) (lock_given (lock_of y)) → given_back z.locks z.tally ≡ given_back x.locks x.tally
-gives_on x y z q last given = ap (λ (u : Known). given_back u.locks u.tally) given ∙ (ap (λ (ks : List Lock). given_back ks y.tally) (sym last) ∙ passed_gives x y q)
+pub gives_on : (x y z : Known) → ReadsMore x y → y.locks ≡ lock_of y ∷ other_locks y → z ≡ sighted (unlocking_last y)
+    (lock_given (lock_of y)) → given_back z.locks z.tally ≡ given_back x.locks x.tally
+gives_on x y z q last given = ap (λ (u : Known). given_back u.locks u.tally) given ∙
+    (ap (λ (ks : List Lock). given_back ks y.tally) (sym last) ∙ passed_gives x y q)
 
 -- ---- the lock taken last
 module _ (a : About) (l : Known) (m n : ℕ) (last : HasLastLock l m n) (c : Covers a m (n + 1) l.locks) where
@@ -386,7 +417,8 @@ module _ (a : About) (l : Known) (m n : ℕ) (last : HasLastLock l m n) (c : Cov
     falls = subst (λ (i : ℕ). Falls m i (other_locks l)) last.2 parted.falls.3;
     deep = parted.deep.1;
     owned = λ t le. ⊎_elim
-        (λ (own : t % power (stamp_depth (lock_of l).stamp) ≡ (lock_of l).segment). absurd (let z = mod-le t (power (stamp_depth (lock_of l).stamp)) in let y = last.2 in omega arith))
+        (λ (own : t % power (stamp_depth (lock_of l).stamp) ≡ (lock_of l).segment). absurd
+        (let z = mod-le t (power (stamp_depth (lock_of l).stamp)) in let y = last.2 in omega arith))
         (λ (more : IsOwnedAmong t (other_locks l)). more)
         (parted.owned t (omega arith));
   }
@@ -399,20 +431,24 @@ module _ (a : About) (m : ℕ) (key : List ℕ) where
   abbrev g : ℕ
   g = home_of key a.seed (shape_at a m).mask
 
-  home_among : (ks : List Lock) → Each (λ (j : Lock). j.map ≡ m) ks → Each (λ (k : Lock). SaysDepth a m k.segment k.stamp) ks → IsOwnedAmong (g % power all) ks → IsHomeAmong a key ks
+  home_among : (ks : List Lock) → Each (λ (j : Lock). j.map ≡ m) ks → Each (λ (k : Lock). SaysDepth a m k.segment k.stamp) ks → IsOwnedAmong
+      (g % power all) ks → IsHomeAmong a key ks
   home_among [] of deep h = absurd h
   home_among (k ∷ ks) of deep h = ⊎_elim
-      (λ (own : g % power all % power (stamp_depth k.stamp) ≡ k.segment). inl (ap (λ (i : ℕ). home_by a i (stamp_depth k.stamp) key) of.0 ∙ (sym (mod_low g (stamp_depth k.stamp) all deep.0.most) ∙ own)))
+      (λ (own : g % power all % power (stamp_depth k.stamp) ≡ k.segment). inl
+      (ap (λ (i : ℕ). home_by a i (stamp_depth k.stamp) key) of.0 ∙ (sym (mod_low g (stamp_depth k.stamp) all deep.0.most) ∙ own)))
       (λ (more : IsOwnedAmong (g % power all) ks). inr (home_among ks of.1 deep.1 more))
       h
 
-pub lists_map : (a : About) (l : Known) (m n : ℕ) (keys : List (List ℕ)) → m < length a.shape.maps → HasLastLock l m n → Covers a m (n + 1) l.locks → Each (ListsSegment a keys) l.locks → ((t : ℕ) → t < segments (shape_at a m) → IsOwnedAmong t l.locks) → ListsMap a l m keys
+pub lists_map : (a : About) (l : Known) (m n : ℕ) (keys : List (List ℕ)) → m < length a.shape.maps → HasLastLock l m n → Covers a m (n + 1)
+    l.locks → Each (ListsSegment a keys) l.locks → ((t : ℕ) → t < segments (shape_at a m) → IsOwnedAmong t l.locks) → ListsMap a l m keys
 lists_map a l m n keys there last c lists owned = record {
   map = there;
   locks = last.0;
   of_map = falls_of_map m (n + 1) l.locks c.falls;
   clean = falls_clean m (n + 1) l.locks c.falls;
   elsewhere = covers_apart a l m n last c;
-  all = λ key. home_among a m key l.locks (falls_of_map m (n + 1) l.locks c.falls) c.deep (owned _ (mod_below _ (power (depth (shape_at a m))) (some_power (depth (shape_at a m)))));
+  all = λ key. home_among a m key l.locks (falls_of_map m (n + 1) l.locks c.falls) c.deep
+      (owned _ (mod_below _ (power (depth (shape_at a m))) (some_power (depth (shape_at a m)))));
   lists = lists;
 }

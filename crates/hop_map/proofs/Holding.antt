@@ -38,7 +38,8 @@ held_among f ps [] all = all
 held_among f ps (Begin ∷ es) all = held_among no_span [] es (λ p h. absurd (true≢false (sym h)))
 held_among f ps (End ∷ es) all = held_among no_span [] es (λ p h. absurd (true≢false (sym h)))
 held_among f ps (Lookup m key None ∷ es) all = held_among f ps es all
-held_among f ps (Lookup m key (Some q) ∷ es) all = held_among (λ p. same_span p q || f p) (q ∷ ps) es (λ p h. elim (or_cases (same_span p q) (f p) h) [ inl k ↦ inl (same_spans p q k) | inr k ↦ inr (all p k) ])
+held_among f ps (Lookup m key (Some q) ∷ es) all = held_among (λ p. same_span p q || f p) (q ∷ ps) es
+    (λ p h. elim (or_cases (same_span p q) (f p) h) [ inl k ↦ inl (same_spans p q k) | inr k ↦ inr (all p k) ])
 held_among f ps (Update m key b g r ∷ es) all = held_among f ps es all
 held_among f ps (Delete m key r ∷ es) all = held_among f ps es all
 held_among f ps (Keys m ks ∷ es) all = held_among f ps es all
@@ -80,7 +81,8 @@ held_at t p at n fits running h = record {
     is = lies.1.4 ∙ ap (λ (z : MapShape). element_span m z e) shape
 
 -- ---- one event more
-pub told_fits : (t : Shown) (p : Port) (z : TableId) (l : Known) (e : Event) → IsPortOf t p → z ≡ p.table → turns_of (e ∷ []) ≡ 0 → AddsEvent t.about p.known e l
+pub told_fits : (t : Shown) (p : Port) (z : TableId) (l : Known) (e : Event) → IsPortOf t p → z ≡ p.table → turns_of (e ∷ []) ≡ 0 →
+    AddsEvent t.about p.known e l
     → IsPortOf t (record { table = z; known = l; arenas = p.arenas; batches = p.batches; spilled = p.spilled })
 told_fits t p z l e h table quiet c =
     let cpu = ap (λ (k : Known). k.cpu) c.after in

@@ -14,7 +14,8 @@ are_bytes (b ∷ bs) small = (small 0, are_bytes bs (λ i. small (suc i)))
 
 -- words that are a key's spell it
 pub spells : (a : About) (m : ℕ) (x : MapWords) (e : ℕ) (key : List ℕ) → HasKey (shape_at a m) x m e key → spelled_key a m x e ≡ key
-spells a m x e key h = (λ j. take (sym h.0 j) (spelled_same (words_for (shape_at a m).key) (x.key m e) (word_of key) h.2 j)) ∙ spelled_back (words_for (shape_at a m).key) key h.1 (let z = h.0 in omega arith)
+spells a m x e key h = (λ j. take (sym h.0 j) (spelled_same (words_for (shape_at a m).key) (x.key m e) (word_of key) h.2 j)) ∙ spelled_back
+    (words_for (shape_at a m).key) key h.1 (let z = h.0 in omega arith)
 
 pub same_spelling : (a : About) (m : ℕ) (x : MapWords) (e : ℕ) (k key : List ℕ) → HasKey (shape_at a m) x m e k → AreBytes key → length key ≡ (shape_at a m).key
     → ((j : ℕ) → j < words_for (shape_at a m).key → x.key m e j ≡ word_of key j) ↔ (spelled_key a m x e ≡ key)
@@ -23,5 +24,6 @@ same_spelling a m x e k key h bytes size = (
   λ same j l. h.2 j l ∙ ap (λ (q : List ℕ). word_of q j) (sym (spells a m x e k h) ∙ same),
 )
 
-pub other_size : (a : About) (m : ℕ) (x : MapWords) (e : ℕ) (k key : List ℕ) → HasKey (shape_at a m) x m e k → spelled_key a m x e ≡ key → length key ≡ (shape_at a m).key
+pub other_size : (a : About) (m : ℕ) (x : MapWords) (e : ℕ) (k key : List ℕ) → HasKey (shape_at a m) x m e k → spelled_key a m x e ≡ key →
+    length key ≡ (shape_at a m).key
 other_size a m x e k key h same = ap length (sym same ∙ spells a m x e k h) ∙ h.0

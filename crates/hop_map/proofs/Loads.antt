@@ -40,14 +40,16 @@ module _ (a : About) (l : Known) (m home s n : ℕ) (l1 : Known) (w : Walked a l
     few = let z = w.short in omega arith;
   }
 
-  module _ (even : n % 2 ≡ 0) (x y : Peeked) (xa : x.about ≡ a) (xk : x.known ≡ l1) (xm : x.map ≡ m) (r : OnlyReads x y) (reads : looks_noted y ≤ looks_noted x + 2 + (32 + elements_in x) * (1 + key_words_of x)) where
+  module _ (even : n % 2 ≡ 0) (x y : Peeked) (xa : x.about ≡ a) (xk : x.known ≡ l1) (xm : x.map ≡ m) (r : OnlyReads x y)
+      (reads : looks_noted y ≤ looks_noted x + 2 + (32 + elements_in x) * (1 + key_words_of x)) where
     abbrev more : ℕ
     more = (32 + elements (shape_at a m)) * (1 + words_for (shape_at a m).key)
 
     words_few : length (looks_of r.more) ≤ 2 + more
     words_few =
         let total : looks_noted y ≡ length (looks_of r.more) + looks_noted x = ap length r.noted ∙ length-append (looks_of r.more) x.known.tally in
-        let here : looks_noted y ≤ looks_noted x + 2 + more = subst (λ (b : About). looks_noted y ≤ looks_noted x + 2 + (32 + elements (shape_at b m)) * (1 + words_for (shape_at b m).key)) xa
+        let here : looks_noted y ≤ looks_noted x + 2 + more = subst
+        (λ (b : About). looks_noted y ≤ looks_noted x + 2 + (32 + elements (shape_at b m)) * (1 + words_for (shape_at b m).key)) xa
         (subst (λ (i : ℕ). looks_noted y ≤ looks_noted x + 2 + (32 + elements (shape_at x.about i)) * (1 + words_for (shape_at x.about i).key)) xm reads) in
         omega arith
 
@@ -58,7 +60,8 @@ module _ (a : About) (l : Known) (m home s n : ℕ) (l1 : Known) (w : Walked a l
     pub loads_then : (i : ℕ) (l3 : Known) → (q t : ℕ) → l3.tally ≡ look (Stamp q t) i ∷ y.known.tally → LooksAtMost (most_loads a m) l l3
     loads_then i l3 q t last = record {
       sights = look (Stamp q t) i ∷ (looks_of r.more ++ (look (Stamp m s) n ∷ w.way));
-      noted = last ∙ (ap (λ (ss : List Sight). look (Stamp q t) i ∷ ss) noted_then ∙ ap (λ (ss : List Sight). look (Stamp q t) i ∷ ss) (sym (append_assoc (looks_of r.more) (look (Stamp m s) n ∷ w.way) l.tally)));
+      noted = last ∙ (ap (λ (ss : List Sight). look (Stamp q t) i ∷ ss) noted_then ∙ ap (λ (ss : List Sight). look (Stamp q t) i ∷ ss)
+          (sym (append_assoc (looks_of r.more) (look (Stamp m s) n ∷ w.way) l.tally)));
       looks = (refl, each-append IsLook (looks_of r.more) (look (Stamp m s) n ∷ w.way) (all_looks r.more) (refl, looks));
       few =
           let z = w.short in
@@ -67,8 +70,11 @@ module _ (a : About) (l : Known) (m home s n : ℕ) (l1 : Known) (w : Walked a l
           omega arith;
     }
 
-    pub loads_last : (key : List ℕ) (o : Option ℕ) (i : ℕ) (l3 : Known) → StampSeenAgain y.about y.known (latest_reading y.known) key o i l3 → i ≢ (latest_reading y.known).stamp → LooksAtMost (most_loads a m) l l3
+    pub loads_last : (key : List ℕ) (o : Option ℕ) (i : ℕ) (l3 : Known) → StampSeenAgain y.about y.known (latest_reading y.known) key o i l3
+        → i ≢ (latest_reading y.known).stamp → LooksAtMost (most_loads a m) l l3
     loads_last key o i l3 seen ne = loads_then i l3 (latest_reading y.known).map (latest_reading y.known).segment (ap (λ (z : Known). z.tally) (seen.1 ne))
 
-    pub loads_found : (key : List ℕ) (o : Option ℕ) (i : ℕ) (l3 : Known) → StampSeenAgain y.about y.known (latest_reading y.known) key o i l3 → i ≡ (latest_reading y.known).stamp → LooksAtMost (most_loads a m) l l3
-    loads_found key o i l3 seen same = loads_then (latest_reading y.known).stamp l3 (latest_reading y.known).map (latest_reading y.known).segment (ap (λ (z : Known). z.tally) (seen.0 same).after)
+    pub loads_found : (key : List ℕ) (o : Option ℕ) (i : ℕ) (l3 : Known) → StampSeenAgain y.about y.known (latest_reading y.known) key o i
+        l3 → i ≡ (latest_reading y.known).stamp → LooksAtMost (most_loads a m) l l3
+    loads_found key o i l3 seen same = loads_then (latest_reading y.known).stamp l3 (latest_reading y.known).map
+        (latest_reading y.known).segment (ap (λ (z : Known). z.tally) (seen.0 same).after)

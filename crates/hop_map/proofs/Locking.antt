@@ -37,7 +37,8 @@ use Rattle.hop_layout.specs.Home.{home_of}
 use Rattle.hop_map.specs.Private.Removals.{NamesKeyOf}
 
 -- what is so of these parts is so of the words made of them, and the other way round
-module _ (x : Locked) (a : About) (l : Known) (m s : ℕ) (about : x.about ≡ a) (known : x.known ≡ l) (map : x.map ≡ m) (segment : x.segment ≡ s) (P : About → Known → ℕ → ℕ → Type 0) where
+module _ (x : Locked) (a : About) (l : Known) (m s : ℕ) (about : x.about ≡ a) (known : x.known ≡ l) (map : x.map ≡ m)
+    (segment : x.segment ≡ s) (P : About → Known → ℕ → ℕ → Type 0) where
   is : x ≡ record { table = x.table; about = a; known = l; map = m; segment = s }
   is = λ j. record { table = x.table; about = about j; known = known j; map = map j; segment = segment j }
 
@@ -69,7 +70,18 @@ module _ (a : About) (l : Known) (m s n : ℕ) (at_s : IsSegment a m s) (l2 : Kn
       )
 
   contents : LockShows a locked m s
-  contents = record { map = refl; segment = refl; content = t.content; share = t.share; all_known = t.is_known; copied = refl; nothing = refl; clean = refl; sized = t.sized }
+  contents = record {
+    map = refl;
+    segment = refl;
+    content = t.content;
+    share = t.share;
+    all_known = t.is_known;
+    copied = refl;
+    nothing =
+        refl;
+    clean = refl;
+    sized = t.sized;
+  }
 
   pub locked_contents : LockShows a l2 m s
   locked_contents = subst (λ (l : Known). LockShows a l m s) (sym t.after) contents
@@ -84,30 +96,43 @@ module _ (a : About) (l : Known) (m s n : ℕ) (at_s : IsSegment a m s) (l2 : Kn
         go false h = mine e (subst (λ (b : Bool). (b || (false || fills_element l.fresh m e)) ≡ true) h k)
 
     pub ready_with : l.locks ≡ [] → Ready a l2 m s
-    ready_with idle = subst (λ (l : Known). Ready a l m s) (sym t.after) (record { held = ap (λ (ks : List Lock). lock_of locked ∷ ks) idle; map = refl; segment = refl; inside = at_s; sized = t.sized; known_is = locked_known })
+    ready_with idle = subst (λ (l : Known). Ready a l m s) (sym t.after)
+        (record {
+          held = ap (λ (ks : List Lock). lock_of locked ∷ ks) idle;
+          map = refl;
+          segment = refl;
+          inside = at_s;
+          sized = t.sized;
+          known_is = locked_known;
+        })
 
 -- no element is in hand
-pub empty_ready : (a : About) (l : Known) (m s n : ℕ) (at_s : IsSegment a m s) (l2 : Known) (t : LocksSegment a l m s n l2) → l.fresh ≡ [] → l.locks ≡ [] → Ready a l2 m s
+pub empty_ready : (a : About) (l : Known) (m s n : ℕ) (at_s : IsSegment a m s) (l2 : Known) (t : LocksSegment a l m s n l2) → l.fresh ≡ [] →
+    l.locks ≡ [] → Ready a l2 m s
 empty_ready a l m s n at_s l2 t none idle = ready_with a l m s n at_s l2 t (λ e k.
     let z : false ≡ true = subst (λ (fs : List Fresh). fills_element fs m e ≡ true) none k in
     absurd (true≢false (sym z))) idle
 
 -- so with it the words of the segment fit the table
-pub empty_fits : (id standing : TableId) (a : About) (l : Known) (m s n key_size count : ℕ) (at_s : IsSegment a m s) (l2 : Known) (t : LocksSegment a l m s n l2) → l.fresh ≡ [] → l.locks ≡ [] → standing ≡ id
+pub empty_fits : (id standing : TableId) (a : About) (l : Known) (m s n key_size count : ℕ) (at_s : IsSegment a m s) (l2 : Known)
+    (t : LocksSegment a l m s n l2) → l.fresh ≡ [] → l.locks ≡ [] → standing ≡ id
     → key_size ≡ (shape_at a m).key → key_size ≤ 64 → count ≡ elements (shape_at a m) → Fits id a standing l2 m s key_size count
 empty_fits id standing a l m s n key_size count at_s l2 t none idle seated keyed small counted =
     record { seated = seated; keyed = keyed; small = small; counted = counted; ready = empty_ready a l m s n at_s l2 t none idle }
 
-module _ (a : About) (l : Known) (m s n : ℕ) (at_s : IsSegment a m s) (key : List ℕ) (element : ℕ) (c : CarriesKey a l m key element) (l2 : Known) (t : LocksSegment a l m s n l2) where
+module _ (a : About) (l : Known) (m s n : ℕ) (at_s : IsSegment a m s) (key : List ℕ) (element : ℕ) (c : CarriesKey a l m key element)
+    (l2 : Known) (t : LocksSegment a l m s n l2) where
   abbrev y : MapWords
   y = image a t.words
 
   own_key : HasKey (shape_at a m) y m element key
   own_key =
-      let f : StartsWith (hand l).key (y.key (hand l).map (hand l).element) = (subst (Each (λ (f : Fresh). StartsWith f.key (y.key f.map f.element))) c.in_hand t.filled).0 in
+      let f : StartsWith (hand l).key (y.key (hand l).map (hand l).element) =
+      (subst (Each (λ (f : Fresh). StartsWith f.key (y.key f.map f.element))) c.in_hand t.filled).0 in
       (c.size, c.are_bytes, λ j lt. (λ i. y.key (sym c.map i) (sym c.number i) j) ∙ (f j (subst (λ (i : ℕ). j < i) (sym c.filled) lt) ∙ c.spelled j lt))
 
-  mine : (e : ℕ) → fills_element l.fresh m e ≡ true → MayLink a (locked a l m s n at_s l2 t) (lock_of (locked a l m s n at_s l2 t)) e × ((q : List ℕ) × HasKey (shape_at a m) y m e q)
+  mine : (e : ℕ) → fills_element l.fresh m e ≡ true → MayLink a (locked a l m s n at_s l2 t) (lock_of (locked a l m s n at_s l2 t)) e ×
+      ((q : List ℕ) × HasKey (shape_at a m) y m e q)
   mine e k =
       let both_are = and_parts ((hand l).map == m) (e == (hand l).element) (subst (λ (fs : List Fresh). fills_element fs m e ≡ true) c.in_hand k) in
       let same : element ≡ e = sym c.number ∙ sym (one e (hand l).element both_are.1) in (
@@ -121,11 +146,23 @@ module _ (a : About) (l : Known) (m s n : ℕ) (at_s : IsSegment a m s) (key : L
 -- ---- an update
 module _ (a : About) (l : Known) (m s n : ℕ) (key bytes : List ℕ) (flags : ℕ) (l2 : Known) (t : LocksSegment a l m s n l2) where
   pub locked_wants : Brought a l m key bytes flags → home_by a m (stamp_depth n) key ≡ s → Wants a l2 m s key bytes flags
-  locked_wants b home = subst (λ (q : Known). Wants a q m s key bytes flags) (sym t.after) (record { home = home; key_size = b.key_size; size = b.size; are_bytes = b.are_bytes; flags_known = b.flags_known; limbo = b.limbo; runs = b.runs })
+  locked_wants b home = subst (λ (q : Known). Wants a q m s key bytes flags) (sym t.after)
+      (record {
+        home = home;
+        key_size = b.key_size;
+        size = b.size;
+        are_bytes = b.are_bytes;
+        flags_known = b.flags_known;
+        limbo = b.limbo;
+        runs = b.runs;
+      })
 
   module _ (idle : l.locks ≡ []) where
-    saw_before : (r : MapAnswer) (seen : List Entry) → TakesEffect a l2 (Update m key bytes flags r) seen → TakesEffect a (with_lock l m s n) (Update m key bytes flags r) seen
-    saw_before r seen p = let w = subst (λ (q : Known). TakesEffect a q (Update m key bytes flags r) seen) t.after p in record { others = w.others; foreign = w.foreign; after = w.after; legal = w.legal }
+    saw_before : (r : MapAnswer) (seen : List Entry) → TakesEffect a l2 (Update m key bytes flags r) seen → TakesEffect a
+        (with_lock l m s n) (Update m key bytes flags r) seen
+    saw_before r seen p =
+        let w = subst (λ (q : Known). TakesEffect a q (Update m key bytes flags r) seen) t.after p in record
+        { others = w.others; foreign = w.foreign; after = w.after; legal = w.legal }
 
     pub refusal_before : (r : MapAnswer) (l3 : Known) → Refusal a l2 m key bytes flags r l3 → Refusal a (with_lock l m s n) m key bytes flags r l3
     refusal_before r l3 p = record {
@@ -147,10 +184,20 @@ module _ (a : About) (l : Known) (m s n : ℕ) (key bytes : List ℕ) (flags : �
     }
     ends_before (Refused r) l3 p = (refusal_before r l3 p.0, p.1)
 
-module _ (a : About) (l : Known) (m s n : ℕ) (at_s : IsSegment a m s) (key bytes : List ℕ) (flags element : ℕ) (c : Readies a l m key bytes flags element) (l2 : Known) (t : LocksSegment a l m s n l2) (home : home_by a m (stamp_depth n) key ≡ s) where
+module _ (a : About) (l : Known) (m s n : ℕ) (at_s : IsSegment a m s) (key bytes : List ℕ) (flags element : ℕ)
+    (c : Readies a l m key bytes flags element) (l2 : Known) (t : LocksSegment a l m s n l2) (home : home_by a m (stamp_depth n) key ≡ s) where
   pub locked_offers : Offers a l2 m s key bytes flags element
   locked_offers = subst (λ (q : Known). Offers a q m s key bytes flags element) (sym t.after) (record {
-    wants = record { home = home; key_size = c.brought.key_size; size = c.brought.size; are_bytes = c.brought.are_bytes; flags_known = c.brought.flags_known; limbo = c.brought.limbo; runs = c.brought.runs };
+    wants = record {
+      home = home;
+      key_size = c.brought.key_size;
+      size = c.brought.size;
+      are_bytes = c.brought.are_bytes;
+      flags_known =
+          c.brought.flags_known;
+      limbo = c.brought.limbo;
+      runs = c.brought.runs;
+    };
     valued = record { filled = c.valued.filled; value = c.valued.value };
     in_hand = c.carries.in_hand;
     map = c.carries.map;
@@ -167,14 +214,20 @@ module _ (a : About) (l : Known) (m s n : ℕ) (key : List ℕ) (l2 : Known) (t 
 
   module _ (idle : l.locks ≡ []) where
     saw_deleted : (r : MapAnswer) (seen : List Entry) → TakesEffect a l2 (Delete m key r) seen → TakesEffect a (with_lock l m s n) (Delete m key r) seen
-    saw_deleted r seen p = let w = subst (λ (q : Known). TakesEffect a q (Delete m key r) seen) t.after p in record { others = w.others; foreign = w.foreign; after = w.after; legal = w.legal }
+    saw_deleted r seen p =
+        let w = subst (λ (q : Known). TakesEffect a q (Delete m key r) seen) t.after p in record
+        { others = w.others; foreign = w.foreign; after = w.after; legal = w.legal }
 
     kept_before : (r : MapAnswer) (l3 : Known) → Kept a l2 m key r l3 → Kept a (with_lock l m s n) m key r l3
     kept_before r l3 p = record { seen = saw_deleted r l3.seen p.seen; after = p.after ∙ ap (λ (q : Known). record q { seen = l3.seen; locks = [] }) t.after }
 
     pub delete_before : (d : Deletion) (l3 : Known) → DeleteEnds a l2 m key d l3 → DeleteEnds a (with_lock l m s n) m key d l3
     delete_before (Gone e) l3 p = (
-      record { seen = saw_deleted Done l3.seen p.0.seen; after = p.0.after ∙ ap (λ (q : Known). record q { seen = l3.seen; limbo = with_gone q m e; locks = [] }) t.after },
+      record {
+        seen = saw_deleted Done l3.seen p.0.seen;
+        after = p.0.after ∙ ap
+            (λ (q : Known). record q { seen = l3.seen; limbo = with_gone q m e; locks = [] }) t.after;
+      },
       p.1,
     )
     delete_before Missing l3 p = kept_before Absent l3 p
@@ -191,8 +244,10 @@ pub alone_given : (l : Known) → l.locks ≡ lock_of l ∷ [] → unlocking_las
 alone_given l h = ap (λ (ks : List Lock). record l { locks = tail_of ks }) h
 
 -- the key's home by the stamp that was taken
-pub taken_home : (a : About) (l : Known) (m s n h : ℕ) (key : List ℕ) (l2 : Known) → h ≡ home_of key a.seed (shape_at a m).mask → Taken a l m h s n l2 → home_by a m (stamp_depth n) key ≡ s
+pub taken_home : (a : About) (l : Known) (m s n h : ℕ) (key : List ℕ) (l2 : Known) → h ≡ home_of key a.seed (shape_at a m).mask → Taken a l
+    m h s n l2 → home_by a m (stamp_depth n) key ≡ s
 taken_home a l m s n h key l2 is t = ap (λ (i : ℕ). i % power (stamp_depth n)) (sym is) ∙ t.here
 
-pub taken_own : (a : About) (l : Known) (m s n h : ℕ) (key : List ℕ) (l2 : Known) → h ≡ home_of key a.seed (shape_at a m).mask → Taken a l m h s n l2 → OwnsKey a m key s n
+pub taken_own : (a : About) (l : Known) (m s n h : ℕ) (key : List ℕ) (l2 : Known) → h ≡ home_of key a.seed (shape_at a m).mask → Taken a l m
+    h s n l2 → OwnsKey a m key s n
 taken_own a l m s n h key l2 same t = (t.locked.deep, taken_home a l m s n h key l2 same t)

@@ -22,7 +22,8 @@ use Rattle.hop_map.specs.Private.Finding.{AsksHere}
 use Rattle.hop_map.proofs.Puts.{sound_with, absent_with, leads_with}
 use Rattle.hop_words.specs.Depths.{stamp_depth, home_by}
 
-module _ (x : Locked) (key : List ℕ) (c : LockShows x.about x.known x.map x.segment) (b : AsksHere x.about x.known x.map x.segment (stamp_depth (lock_of x.known).stamp) key) where
+module _ (x : Locked) (key : List ℕ) (c : LockShows x.about x.known x.map x.segment)
+    (b : AsksHere x.about x.known x.map x.segment (stamp_depth (lock_of x.known).stamp) key) where
   abbrev k : Lock
   k = lock_of x.known
 
@@ -40,15 +41,19 @@ module _ (x : Locked) (key : List ℕ) (c : LockShows x.about x.known x.map x.se
   look_shows None gone = absent_with x.about x.known x.map x.segment c more key b.home gone
   look_shows (Some e) there = leads_with x.about x.known x.map x.segment c more key b.home e there
 
-  pub looks_up : (o : Option ℕ) → MatchOption o (SegAbsent (seen_words x) key) (λ e. HasPair (seen_words x) key e) → Ready x.about x.known x.map x.segment → LooksUpLocked x.about x.known k key o
+  pub looks_up : (o : Option ℕ) → MatchOption o (SegAbsent (seen_words x) key) (λ e. HasPair (seen_words x) key e) → Ready x.about x.known
+      x.map x.segment → LooksUpLocked x.about x.known k key o
   looks_up o found r =
-      let b' : AsksHere x.about x.known k.map k.segment (stamp_depth k.stamp) key = subst (λ (t : ℕ). AsksHere x.about x.known k.map t (stamp_depth k.stamp) key) (sym c.segment) (subst (λ (n : ℕ). AsksHere x.about x.known n x.segment (stamp_depth k.stamp) key) (sym c.map) b) in
+      let b' : AsksHere x.about x.known k.map k.segment (stamp_depth k.stamp) key = subst
+      (λ (t : ℕ). AsksHere x.about x.known k.map t (stamp_depth k.stamp) key) (sym c.segment)
+      (subst (λ (n : ℕ). AsksHere x.about x.known n x.segment (stamp_depth k.stamp) key) (sym c.map) b) in
       record { lock = r.held; clean = c.clean; home = b'.home; key_size = b'.size; shown = look_shows o found; runs = b.runs }
 
 -- from the lock to the unlock
 module _ (a : About) (l : Known) (m s n : ℕ) (key : List ℕ) (l2 : Known) (t : Lock_taken a l m s n l2) where
   pub asks_here : AsksForKey a l m key → home_by a m (stamp_depth n) key ≡ s → AsksHere a l2 m s (stamp_depth (lock_of l2).stamp) key
-  asks_here q home = subst (λ (z : Known). AsksHere a z m s (stamp_depth (lock_of z).stamp) key) (sym t.after) (record { home = home; size = q.size; runs = q.runs })
+  asks_here q home = subst (λ (z : Known). AsksHere a z m s (stamp_depth (lock_of z).stamp) key) (sym t.after)
+      (record { home = home; size = q.size; runs = q.runs })
 
   -- the lane after the unlock, by the one before the lock
   module _ (q : AsksForKey a l m key) (o : Option ℕ) (l3 : Known) (p : LookedUp a l2 (lock_of l2) key o l3) where
@@ -56,7 +61,8 @@ module _ (a : About) (l : Known) (m s n : ℕ) (key : List ℕ) (l2 : Known) (t 
     lock_map = ap (λ (z : Known). (lock_of z).map) t.after
 
     after : l3 ≡ record (with_lock l m s n) { seen = l3.seen }
-    after = p.after ∙ (ap (λ (z : Known). record z { seen = l3.seen; locks = [] }) t.after ∙ (λ j. record (with_lock l m s n) { seen = l3.seen; locks = sym q.locks j }))
+    after = p.after ∙ (ap (λ (z : Known). record z { seen = l3.seen; locks = [] }) t.after ∙
+        (λ j. record (with_lock l m s n) { seen = l3.seen; locks = sym q.locks j }))
 
     pub looked_readings : l3.readings ≡ []
     looked_readings = ap (λ (z : Known). z.readings) after

@@ -47,11 +47,13 @@ module _ (a : About) (l : Known) (m s : ℕ) (key bytes : List ℕ) (flags eleme
       zero_or_two (suc (suc (suc n))) few other = absurd (omega arith)
 
 -- the count may be seen
-counts : (a : About) (l : Known) (m s : ℕ) (key bytes : List ℕ) (flags : ℕ) → Ready a l m s → LockShows a l m s → Wants a l m s key bytes flags → IsKeyAbsent a (lock_of l) key → flags ≢ 2
+counts : (a : About) (l : Known) (m s : ℕ) (key bytes : List ℕ) (flags : ℕ) → Ready a l m s → LockShows a l m s → Wants a l m s key bytes
+    flags → IsKeyAbsent a (lock_of l) key → flags ≢ 2
     → CountsUnderLock a l (lock_of l) key bytes flags
 counts a l m s key bytes flags r c w absent new =
     let k = lock_of l in
-    let w' : Wants a l k.map k.segment key bytes flags = subst (λ (t : ℕ). Wants a l k.map t key bytes flags) (sym c.segment) (subst (λ (n : ℕ). Wants a l n s key bytes flags) (sym c.map) w) in
+    let w' : Wants a l k.map k.segment key bytes flags = subst (λ (t : ℕ). Wants a l k.map t key bytes flags) (sym c.segment)
+    (subst (λ (n : ℕ). Wants a l n s key bytes flags) (sym c.map) w) in
     record {
       lock = r.held;
       nothing = c.nothing;
@@ -64,7 +66,8 @@ counts a l m s key bytes flags r c w absent new =
     }
 
 -- the same by what is known of the words' view
-pub counts_of : (x z : Locked) → x ≡ z → (key bytes : List ℕ) (flags : ℕ) → Ready x.about x.known x.map x.segment → LockShows z.about z.known z.map z.segment → Wants z.about z.known z.map z.segment key bytes flags → IsKeyAbsent z.about (lock_of z.known) key → flags ≢ 2
+pub counts_of : (x z : Locked) → x ≡ z → (key bytes : List ℕ) (flags : ℕ) → Ready x.about x.known x.map x.segment → LockShows z.about
+    z.known z.map z.segment → Wants z.about z.known z.map z.segment key bytes flags → IsKeyAbsent z.about (lock_of z.known) key → flags ≢ 2
     → CountsUnderLock x.about x.known (lock_of x.known) key bytes flags
 counts_of x z is key bytes flags r c w absent new = counts x.about x.known x.map x.segment key bytes flags r
     (subst (λ (y : Locked). LockShows y.about y.known y.map y.segment) (sym is) c)
@@ -74,7 +77,8 @@ counts_of x z is key bytes flags r c w absent new = counts x.about x.known x.map
 
 -- an event that changes nothing leaves the lock as it was
 told_ready : (a : About) (l : Known) (m s : ℕ) (e : Event) (l2 : Known) → Ready a l m s → AddsEvent a l e l2 → Ready a l2 m s
-told_ready a l m s e l2 r t = subst (λ (q : Known). Ready a q m s) (sym t.after) (record { held = r.held; map = r.map; segment = r.segment; inside = r.inside; sized = r.sized; known_is = r.known_is })
+told_ready a l m s e l2 r t = subst (λ (q : Known). Ready a q m s) (sym t.after)
+    (record { held = r.held; map = r.map; segment = r.segment; inside = r.inside; sized = r.sized; known_is = r.known_is })
 
 module _ (a : About) (l : Known) (m s : ℕ) (r : Ready a l m s) (key bytes : List ℕ) (flags n : ℕ) (l2 : Known) where
   pub room_ready : SeesRoom a l key bytes flags n l2 → Ready a l2 m s

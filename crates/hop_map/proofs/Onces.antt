@@ -25,15 +25,18 @@ all_looks [] = tt
 all_looks (p ∷ ps) = (refl, all_looks ps)
 
 -- the home by which the key was sought
-pub walked_home : (a : About) (m s n h : ℕ) (key : List ℕ) → h ≡ home_of key a.seed (shape_at a m).mask → h % power (stamp_depth n) ≡ s → home_by a m (stamp_depth n) key ≡ s
+pub walked_home : (a : About) (m s n h : ℕ) (key : List ℕ) → h ≡ home_of key a.seed (shape_at a m).mask → h % power (stamp_depth n) ≡ s →
+    home_by a m (stamp_depth n) key ≡ s
 walked_home a m s n h key is here = ap (λ (i : ℕ). i % power (stamp_depth n)) (sym is) ∙ here
 
-pub way_of : (a : About) (m s h : ℕ) (key : List ℕ) (way : List Sight) → h ≡ home_of key a.seed (shape_at a m).mask → IsWay a m h s way → IsWay a m (home_in a m key) s way
+pub way_of : (a : About) (m s h : ℕ) (key : List ℕ) (way : List Sight) → h ≡ home_of key a.seed (shape_at a m).mask → IsWay a m h s way →
+    IsWay a m (home_in a m key) s way
 way_of a m s h key way is w = subst (λ (i : ℕ). IsWay a m i s way) is w
 
 module _ (a : About) (l : Known) (m s n : ℕ) (key : List ℕ) (q : AsksForKey a l m key) (way : List Sight) (is_way : IsWay a m (home_in a m key) s way) where
   -- the first stamp is locked
-  pub disturbed_first : (l1 : Known) → n % 2 ≡ 1 → l1 ≡ record l { readings = l1.readings; tally = look (Stamp m s) n ∷ (way ++ l.tally) } → Disturbs a l m key n n l1
+  pub disturbed_first : (l1 : Known) → n % 2 ≡ 1 → l1 ≡ record l { readings = l1.readings; tally = look (Stamp m s) n ∷ (way ++ l.tally) } →
+      Disturbs a l m key n n l1
   disturbed_first l1 odd is = record {
     segment = s;
     way = way;
@@ -66,7 +69,8 @@ module _ (a : About) (l : Known) (m s n : ℕ) (key : List ℕ) (q : AsksForKey 
       noted_now = r.noted ∙ ap (λ (z : Known). words ++ z.tally) (xk ∙ is)
 
       lane_is : y.known ≡ record l { readings = y.known.readings; tally = by_now }
-      lane_is = r.known ∙ (ap (λ (z : Known). record z { readings = y.known.readings; tally = y.known.tally }) (xk ∙ is) ∙ (λ j. record l { readings = y.known.readings; tally = noted_now j }))
+      lane_is = r.known ∙ (ap (λ (z : Known). record z { readings = y.known.readings; tally = y.known.tally }) (xk ∙ is) ∙
+          (λ j. record l { readings = y.known.readings; tally = noted_now j }))
 
       abbrev there : Peeked
       there = record y { about = a; known = record l { readings = y.known.readings; tally = by_now }; map = m; segment = s }
@@ -88,7 +92,8 @@ module _ (a : About) (l : Known) (m s n : ℕ) (key : List ℕ) (q : AsksForKey 
 
       pub asks_there : AsksHere y.about y.known y.map y.segment (stamp_depth (latest_reading y.known).stamp) key
       asks_there = subst (λ (i : ℕ). AsksHere y.about y.known y.map y.segment (stamp_depth i) key) (sym read_stamp)
-          (subst (λ (z : Peeked). AsksHere z.about z.known z.map z.segment (stamp_depth n) key) (sym y_is) (record { home = home; size = q.size; runs = q.runs }))
+          (subst (λ (z : Peeked). AsksHere z.about z.known z.map z.segment (stamp_depth n) key) (sym y_is)
+          (record { home = home; size = q.size; runs = q.runs }))
 
       pub home_there : (h : ℕ) → h ≡ home_of key a.seed (shape_at a m).mask → h ≡ home_of key y.about.seed (shape_at y.about y.map).mask
       home_there h is = subst (λ (z : Peeked). h ≡ home_of key z.about.seed (shape_at z.about z.map).mask) (sym y_is) is
@@ -111,7 +116,11 @@ module _ (a : About) (l : Known) (m s n : ℕ) (key : List ℕ) (q : AsksForKey 
               sights = look (Stamp m s) last ∷ (words ++ look (Stamp m s) n ∷ []);
               disturbed = inr ((λ e. ne (sym e)), (words, all_looks r.more, refl));
               after = at_end
-                  ∙ (ap (λ (z : Known). record z { readings = []; tally = look (Stamp (latest_reading y.known).map (latest_reading y.known).segment) last ∷ z.tally }) lane_is
+                  ∙ (ap (λ (z : Known). record z {
+                    readings = [];
+                    tally = look
+                        (Stamp (latest_reading y.known).map (latest_reading y.known).segment) last ∷ z.tally;
+                  }) lane_is
                   ∙ ((λ j. record l { readings = sym rd j; tally = look (Stamp (read_map j) (read_segment j)) last ∷ by_now })
                   ∙ (λ j. record l { readings = l3.readings; tally = look (Stamp m s) last ∷ apart j })));
             }
@@ -123,7 +132,12 @@ module _ (a : About) (l : Known) (m s n : ℕ) (key : List ℕ) (q : AsksForKey 
 
           after : l3 ≡ record l { seen = l3.seen; readings = []; tally = look (Stamp m s) n ∷ by_now }
           after = found.after
-              ∙ (ap (λ (z : Known). record z { seen = l3.seen; readings = []; tally = look (Stamp (latest_reading y.known).map (latest_reading y.known).segment) (latest_reading y.known).stamp ∷ z.tally }) lane_is
+              ∙ (ap (λ (z : Known). record z {
+                seen = l3.seen;
+                readings = [];
+                tally = look
+                    (Stamp (latest_reading y.known).map (latest_reading y.known).segment) (latest_reading y.known).stamp ∷ z.tally;
+              }) lane_is
               ∙ (λ j. record l { seen = l3.seen; readings = []; tally = look (Stamp (read_map j) (read_segment j)) (read_stamp j) ∷ by_now }))
 
           found_tally : l3.tally ≡ look (Stamp m s) n ∷ by_now
@@ -157,11 +171,13 @@ module _ (a : About) (l : Known) (m : ℕ) (key : List ℕ) where
 
   module _ (n : ℕ) (x : Known) (t : SeesDisturbances a l m key n x) where
     pub asks_still : AsksForKey a l m key → AsksForKey a x m key
-    asks_still q = subst (λ (z : Known). AsksForKey a z m key) (sym t.after) (record { map = q.map; size = q.size; runs = q.runs; fresh = q.fresh; locks = q.locks })
+    asks_still q = subst (λ (z : Known). AsksForKey a z m key) (sym t.after)
+        (record { map = q.map; size = q.size; runs = q.runs; fresh = q.fresh; locks = q.locks })
 
     pub looked_then : (o : Option Span) (y : Known) → Looked a x m key o y → Looked a l m key o y
     looked_then o y p = record {
-      seen = (let v = subst (λ (z : Known). TakesEffect a z (Lookup m key o) y.seen) t.after p.seen in record { others = v.others; foreign = v.foreign; after = v.after; legal = v.legal });
+      seen = (let v = subst (λ (z : Known). TakesEffect a z (Lookup m key o) y.seen) t.after p.seen in record
+          { others = v.others; foreign = v.foreign; after = v.after; legal = v.legal });
       after = p.after ∙ ap (λ (z : Known). record z { seen = y.seen; readings = y.readings; tally = y.tally }) t.after;
     }
 
@@ -173,7 +189,11 @@ module _ (a : About) (l : Known) (m : ℕ) (key : List ℕ) where
           each = ((p.segment, p.way, p.sights, first, last, p.is_way, p.disturbed, refl), t.each);
           after = p.after
               ∙ (ap (λ (z : Known). record z { readings = y.readings; tally = p.sights ++ (p.way ++ z.tally) }) t.after
-              ∙ (λ j. record l { readings = y.readings; tally = (sym (append_assoc p.sights p.way (all_sights t.more ++ l.tally)) ∙ sym (append_assoc (p.sights ++ p.way) (all_sights t.more) l.tally)) j }));
+              ∙ (λ j. record l {
+                readings = y.readings;
+                tally = (sym (append_assoc p.sights p.way (all_sights t.more ++ l.tally)) ∙ sym
+                    (append_assoc (p.sights ++ p.way) (all_sights t.more) l.tally)) j;
+              }));
         }
 
     module _ (o : Option Span) (y : Known) where
@@ -185,7 +205,14 @@ module _ (a : About) (l : Known) (m : ℕ) (key : List ℕ) where
       reading_spares p = (
         (p.sights ++ p.way) ++ all_sights t.more,
         joined (p.sights ++ p.way) (p.tally ∙ sym (append_assoc p.sights p.way x.tally)),
-        record { tries = t.more; disturbed = t.each; last = p.sights ++ p.way; all = refl; ends = inl (p.segment, p.way, p.sights, p.is_way, p.undisturbed, refl) },
+        record {
+          tries = t.more;
+          disturbed = t.each;
+          last = p.sights ++ p.way;
+          all = refl;
+          ends = inl
+              (p.segment, p.way, p.sights, p.is_way, p.undisturbed, refl);
+        },
       )
 
       -- after eight of them the lock was taken

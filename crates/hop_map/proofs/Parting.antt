@@ -24,7 +24,8 @@ own_home : (v : SegWords) → SegSound v → (e : ℕ) → IsInSegment v e → h
 own_home v q e (inl h) = (q.placed_own (place_at h.0 h.1) e (omega arith) h.5).home
 own_home v q e (inr l) = (q.listed_own e (listed_among v q e l)).home
 
-module _ (a : About) (m s d : ℕ) (known : ℕ → Bool) (x y : MapWords) (room : s < power d) (f : List ℕ → Option ℕ) (p : IsShare a.seed (shape_at a m) (home_by a m d) x m s f)
+module _ (a : About) (m s d : ℕ) (known : ℕ → Bool) (x y : MapWords) (room : s < power d) (f : List ℕ → Option ℕ)
+    (p : IsShare a.seed (shape_at a m) (home_by a m d) x m s f)
     (all_known : (key : List ℕ) (e : ℕ) → f key ≡ Some e → home_by a m d key ≡ s → (e < elements (shape_at a m)) × (known e ≡ true))
     (keyed : (e : ℕ) → known e ≡ true → (key : List ℕ) × HasKey (shape_at a m) y m e key)
     (sp : Splits (segment_view a m s d known x) (segment_view a m s d known y) (front_view m (s + 2 ^ d) y)) where
@@ -35,10 +36,12 @@ module _ (a : About) (m s d : ℕ) (known : ℕ → Bool) (x y : MapWords) (room
   by key t h = ap (λ (n : ℕ). home_of key a.seed (shape_at a m).mask % n) (power_is (d + 1)) ∙ h
 
   parent_home : (key : List ℕ) (e : ℕ) → HasPair (segment_view a m s (d + 1) known y) key e → home_by a m (d + 1) key ≡ s
-  parent_home key e h = by key s (ap (λ (q : List ℕ). home_segment (d + 1) (home_of q a.seed (shape_at a m).mask)) (sym h.keyed) ∙ own_home (segment_view a m s (d + 1) known y) sp.parent e h.linked)
+  parent_home key e h = by key s (ap (λ (q : List ℕ). home_segment (d + 1) (home_of q a.seed (shape_at a m).mask)) (sym h.keyed) ∙ own_home
+      (segment_view a m s (d + 1) known y) sp.parent e h.linked)
 
   child_home : (key : List ℕ) (e : ℕ) → HasPair (segment_view a m c (d + 1) known y) key e → home_by a m (d + 1) key ≡ c
-  child_home key e h = by key c (ap (λ (q : List ℕ). home_segment (d + 1) (home_of q a.seed (shape_at a m).mask)) (sym h.keyed) ∙ own_home (segment_view a m c (d + 1) known y) sp.child e h.linked)
+  child_home key e h = by key c (ap (λ (q : List ℕ). home_segment (d + 1) (home_of q a.seed (shape_at a m).mask)) (sym h.keyed) ∙ own_home
+      (segment_view a m c (d + 1) known y) sp.child e h.linked)
 
   old_of_parent : (key : List ℕ) → home_by a m (d + 1) key ≡ s → home_by a m d key ≡ s
   old_of_parent key e = home_up a m d key ∙ (ap (λ (n : ℕ). n % power d) e ∙ mod_small s (power d) room)

@@ -1,5 +1,6 @@
 -- Words that were read while others may have been writing them.
-use Rattle.std.proofs.Common.{◌≡◌, ℕ, zero, suc, ◌+◌, ◌%◌, ◌<◌, ◌≤◌, ◌↔◌, Bool, true, false, true≢false, IsTrue, ◌||◌, ◌==◌, nat_lt, List, [], ◌∷◌, length, Option, Some, None, MatchOption, refl, ap, sym, subst, ◌∙◌, arith, ⊎_elim, inl, inr, ◌⊎◌}
+use Rattle.std.proofs.Common.{◌≡◌, ℕ, zero, suc, ◌+◌, ◌%◌, ◌<◌, ◌≤◌, ◌↔◌, Bool, true, false, true≢false, IsTrue, ◌||◌, ◌==◌, nat_lt, List}
+use Rattle.std.proofs.Common.{[], ◌∷◌, length, Option, Some, None, MatchOption, refl, ap, sym, subst, ◌∙◌, arith, ⊎_elim, inl, inr, ◌⊎◌}
 use Rattle.std.proofs.lemmas.Bool.Decides.{nat_tests}
 use Rattle.std.proofs.lemmas.Bool.{or_right, or_left, or_cases}
 use Rattle.bpf_shared.specs.Shape.{elements}
@@ -25,7 +26,17 @@ use Rattle.hop_map.proofs.Bridge.{seg_sound, pair_leads, leads_pair}
 use Rattle.hop_words.specs.Depths.{stamp_depth, home_by}
 
 pub rested_by : (x : Peeked) (p : Place) (n : ℕ) → OnlyReads x (peeked x p n)
-rested_by x p n = record { table = refl; about = refl; map = refl; segment = refl; known = refl; more = record { place = p; number = n } ∷ []; reading = refl; noted = refl }
+rested_by x p n = record {
+  table = refl;
+  about = refl;
+  map = refl;
+  segment = refl;
+  known = refl;
+  more = record { place = p; number = n } ∷
+      [];
+  reading = refl;
+  noted = refl;
+}
 
 pub rested_as : (x y : Peeked) (p : Place) (n : ℕ) → y ≡ peeked x p n → OnlyReads x y
 rested_as x y p n is = subst (OnlyReads x) (sym is) (rested_by x p n)
@@ -42,7 +53,8 @@ module _ (x : Peeked) (e : ℕ) (key : List ℕ) (w : SegWords) (g : Agreed x w)
   its_key : (q : List ℕ) × HasKey (shape_at x.about x.map) g.words x.map e q
   its_key = let q = g.share.each e reached in (q.0, q.1)
 
-  pub keyed_value : (b : Bool) → AreBytes key → length key ≡ (shape_at x.about x.map).key → (Reached g.words x.map x.segment e → IsTrue b ↔ Spelled x.about x.map g.words e key) → IsTrue b ↔ (element_key w e ≡ key)
+  pub keyed_value : (b : Bool) → AreBytes key → length key ≡ (shape_at x.about x.map).key →
+      (Reached g.words x.map x.segment e → IsTrue b ↔ Spelled x.about x.map g.words e key) → IsTrue b ↔ (element_key w e ≡ key)
   keyed_value b bytes size spells =
       let t = spells reached in
       let s = same_spelling x.about x.map g.words e its_key.0 key its_key.1 bytes size in
@@ -51,10 +63,12 @@ module _ (x : Peeked) (e : ℕ) (key : List ℕ) (w : SegWords) (g : Agreed x w)
   pub sized_key : element_key w e ≡ key → length key ≡ (shape_at x.about x.map).key
   sized_key h = other_size x.about x.map g.words e its_key.0 key its_key.1 (ap (λ (u : SegWords). element_key u e) (sym g.shown) ∙ h)
 
-pub spelled_on : (x y z : Peeked) (m e k n : ℕ) → OnlyReads x y → z ≡ peeked y (KeyWord m e k) n → m ≡ y.map → (w : MapWords) → HavePeeks w z → Reached w x.map x.segment e → w.key x.map e k ≡ n
+pub spelled_on : (x y z : Peeked) (m e k n : ℕ) → OnlyReads x y → z ≡ peeked y (KeyWord m e k) n → m ≡ y.map → (w : MapWords) → HavePeeks w
+    z → Reached w x.map x.segment e → w.key x.map e k ≡ n
 spelled_on x y z m e k n r is hm w all reached =
     let q : m ≡ y.map → Reached w y.map y.segment e → w.key y.map e k ≡ n = last_peek y z (KeyWord m e k) n is w all in
-    subst (λ (i : ℕ). w.key i e k ≡ n) r.map (q hm (subst (λ (i : ℕ). Reached w i y.segment e) (sym r.map) (subst (λ (t : ℕ). Reached w x.map t e) (sym r.segment) reached)))
+    subst (λ (i : ℕ). w.key i e k ≡ n) r.map (q hm (subst (λ (i : ℕ). Reached w i y.segment e) (sym r.map)
+    (subst (λ (t : ℕ). Reached w x.map t e) (sym r.segment) reached)))
 
 -- ---- the elements that words lead to, as a test
 abbrev is_item : Option ℕ → ℕ → Bool
@@ -104,7 +118,8 @@ module _ (a : About) (m s dp : ℕ) (w : MapWords) (f : List ℕ → Option ℕ)
 
   reached_known : (e : ℕ) → Reached w m s e → leads_to e ≡ true
   reached_known e r = ⊎_elim
-      (λ (h : (b : ℕ) × (d : ℕ) × HopsTo w m s b d e). or_left (at_places (w.slot m s) 64 e) (nat_lt 0 (times e share.sound.list)) (place_at (w.slot m s) 64 ((h.0 + h.1) % 64) e (omega arith) h.2.3))
+      (λ (h : (b : ℕ) × (d : ℕ) × HopsTo w m s b d e). or_left (at_places (w.slot m s) 64 e) (nat_lt 0 (times e share.sound.list))
+      (place_at (w.slot m s) 64 ((h.0 + h.1) % 64) e (omega arith) h.2.3))
       (λ (o : IsOnList w m s e).
       let same : o.0 ≡ share.sound.list = one_list (w.link m) (w.head m s) o.0 share.sound.list o.1 share.sound.follows in
       let few : 1 ≤ times e share.sound.list = subst (λ (es : List ℕ). 1 ≤ times e es) same o.2 in
@@ -118,7 +133,8 @@ module _ (a : About) (m s dp : ℕ) (w : MapWords) (f : List ℕ → Option ℕ)
     shown_sound : SegSound (segment_view a m s dp leads_to w)
     shown_sound = seg_sound a m s dp leads_to w f share all_known
 
-    shown_leads : (key : List ℕ) → home_by a m dp key ≡ s → (o : Option ℕ) → MatchOption o (SegAbsent (segment_view a m s dp leads_to w) key) (λ e. HasPair (segment_view a m s dp leads_to w) key e) → f key ≡ o
+    shown_leads : (key : List ℕ) → home_by a m dp key ≡ s → (o : Option ℕ) → MatchOption o
+        (SegAbsent (segment_view a m s dp leads_to w) key) (λ e. HasPair (segment_view a m s dp leads_to w) key e) → f key ≡ o
     shown_leads key at_home (Some e) there = (pair_leads a m s dp leads_to w f share all_known key e there).0
     shown_leads key at_home None gone = go (f key) refl
       where
@@ -127,14 +143,25 @@ module _ (a : About) (m s dp : ℕ) (w : MapWords) (f : List ℕ → Option ℕ)
         go (Some e) is = absurd (gone e (leads_pair a m s dp leads_to w f share all_known key e is at_home))
 
 -- what a find says of all words that agree is what see stamp again asks for
-module _ (y : Peeked) (key : List ℕ) (o : Option ℕ) (b : AsksHere y.about y.known y.map y.segment (stamp_depth (latest_reading y.known).stamp) key) (h : ℕ) (h_is : h ≡ home_of key y.about.seed (shape_at y.about y.map).mask)
+module _ (y : Peeked) (key : List ℕ) (o : Option ℕ) (b : AsksHere y.about y.known y.map y.segment
+    (stamp_depth (latest_reading y.known).stamp) key) (h : ℕ) (h_is : h ≡ home_of key y.about.seed (shape_at y.about y.map).mask)
     (found : (w : SegWords) → Agreed y w → SegSound w → h ≡ w.fixed.home key → MatchOption o (SegAbsent w key) (λ e. HasPair w key e)) where
-  shown_here : (w : MapWords) (f : List ℕ → Option ℕ) → IsShare y.about.seed (shape_at y.about y.map) (home_by y.about y.map (stamp_depth (latest_reading y.known).stamp)) w y.map y.segment f → AreWithin y.about y.map f → HavePeeks w y → f key ≡ o
+  shown_here : (w : MapWords) (f : List ℕ → Option ℕ) → IsShare y.about.seed (shape_at y.about y.map)
+      (home_by y.about y.map (stamp_depth (latest_reading y.known).stamp)) w y.map y.segment f → AreWithin y.about y.map f → HavePeeks w y → f key ≡ o
   shown_here w f share within all =
       let k = leads_to y.about y.map y.segment (stamp_depth (latest_reading y.known).stamp) w f share in
       shown_leads y.about y.map y.segment (stamp_depth (latest_reading y.known).stamp) w f share within key b.home o
       (found (segment_view y.about y.map y.segment (stamp_depth (latest_reading y.known).stamp) k w)
-      (record { words = w; content = f; share = share; peeks = all; known = k; known_is = known_reached y.about y.map y.segment (stamp_depth (latest_reading y.known).stamp) w f share; shown = refl })
+      (record {
+        words = w;
+        content = f;
+        share = share;
+        peeks = all;
+        known = k;
+        known_is = known_reached y.about y.map y.segment
+            (stamp_depth (latest_reading y.known).stamp) w f share;
+        shown = refl;
+      })
       (shown_sound y.about y.map y.segment (stamp_depth (latest_reading y.known).stamp) w f share within) h_is)
 
   pub finds : HasReading y.known y.map y.segment → FindsByPeeks y.about y.known (latest_reading y.known) key o
@@ -142,7 +169,11 @@ module _ (y : Peeked) (key : List ℕ) (o : Option ℕ) (b : AsksHere y.about y.
     reading = here.0;
     key_size = b.size ∙ ap (λ (m : ℕ). (shape_at y.about m).key) (sym here.1);
     home = ap (λ (m : ℕ). home_by y.about m (stamp_depth (latest_reading y.known).stamp) key) here.1 ∙ (b.home ∙ sym here.2);
-    shown = subst (λ (m : ℕ). (w : MapWords) (f : List ℕ → Option ℕ) → IsShare y.about.seed (shape_at y.about m) (home_by y.about m (stamp_depth (latest_reading y.known).stamp)) w m (latest_reading y.known).segment f → AreWithin y.about m f → AllPeeks w (record (latest_reading y.known) { map = m }) → f key ≡ o) (sym here.1)
-        (subst (λ (t : ℕ). (w : MapWords) (f : List ℕ → Option ℕ) → IsShare y.about.seed (shape_at y.about y.map) (home_by y.about y.map (stamp_depth (latest_reading y.known).stamp)) w y.map t f → AreWithin y.about y.map f → AllPeeks w (record (latest_reading y.known) { map = y.map; segment = t }) → f key ≡ o) (sym here.2) shown_here);
+    shown = subst (λ (m : ℕ). (w : MapWords) (f : List ℕ → Option ℕ) → IsShare y.about.seed (shape_at y.about m)
+        (home_by y.about m (stamp_depth (latest_reading y.known).stamp)) w m (latest_reading y.known).segment f → AreWithin y.about m f →
+        AllPeeks w (record (latest_reading y.known) { map = m }) → f key ≡ o) (sym here.1)
+        (subst (λ (t : ℕ). (w : MapWords) (f : List ℕ → Option ℕ) → IsShare y.about.seed (shape_at y.about y.map)
+        (home_by y.about y.map (stamp_depth (latest_reading y.known).stamp)) w y.map t f → AreWithin y.about y.map f → AllPeeks w
+        (record (latest_reading y.known) { map = y.map; segment = t }) → f key ≡ o) (sym here.2) shown_here);
     runs = b.runs;
   }

@@ -1,5 +1,7 @@
 -- Ports from call to call.
-use Rattle.std.proofs.Common.{◌≡◌, ◌≢◌, ◌⊎◌, ℕ, zero, suc, ◌+◌, ◌%◌, ◌^◌, ◌<◌, Bool, true, false, List, [], ◌∷◌, ◌++◌, append_assoc, ◌==◌, Option, Some, Result, Ok, Err, OnOk, OnErr, length, get_or, slice_get, slice_index, IfSome, set, inl, inr, refl, ap, sym, subst, ◌∙◌, arith, eq-eqb, None}
+use Rattle.std.proofs.Common.{◌≡◌, ◌≢◌, ◌⊎◌, ℕ, zero, suc, ◌+◌, ◌%◌, ◌^◌, ◌<◌, Bool, true, false, List, [], ◌∷◌, ◌++◌, append_assoc, ◌==◌}
+use Rattle.std.proofs.Common.{Option, Some, Result, Ok, Err, OnOk, OnErr, length, get_or, slice_get, slice_index, IfSome, set, inl, inr}
+use Rattle.std.proofs.Common.{refl, ap, sym, subst, ◌∙◌, arith, eq-eqb, None}
 use Rattle.std.proofs.lemmas.List.{get_or_default, get_or-set_same, get_or-set_other, length-set}
 use Rattle.std.proofs.lemmas.Bool.Decides.{nat_tests}
 use Rattle.atomic_table.specs.Seated.{TableId}
@@ -55,7 +57,8 @@ pub port_is : (i : InPort) (o : Option Standing) (s : Standing) → o ≡ i.lane
 port_is i o s from is = ap (λ (x : Option Standing). port_with (standing_in x) i.arenas.items i.batches.items i.spilled) (sym from ∙ is)
 
 -- ---- what a CPU's own events say, after one more
-pub own_after : (a : About) (l l' : Known) (e : Event) → TakesEffect a l e l'.seen → l'.cpu ≡ l.cpu → events_of l'.cpu l'.seen ≡ events_of l.cpu l.seen ++ e ∷ []
+pub own_after : (a : About) (l l' : Known) (e : Event) → TakesEffect a l e l'.seen → l'.cpu ≡ l.cpu → events_of l'.cpu l'.seen ≡ events_of
+    l.cpu l.seen ++ e ∷ []
 own_after a l l' e s same =
     let o = s.others in
     ap (λ (c : ℕ). events_of c l'.seen) same
@@ -64,18 +67,21 @@ own_after a l l' e s same =
     ∙ ap (λ (es : List Event). events_of l.cpu l.seen ++ es)
     (events_of-append l.cpu o (entry l.cpu e ∷ []) ∙ (ap (λ (es : List Event). es ++ events_of l.cpu (entry l.cpu e ∷ [])) s.foreign ∙ events_of-own l.cpu e))))
 
-pub turned : (a : About) (l l' : Known) (e : Event) → TakesEffect a l e l'.seen → l'.cpu ≡ l.cpu → turns_of (events_of l'.cpu l'.seen) ≡ turns_of (events_of l.cpu l.seen) + turns_of (e ∷ [])
+pub turned : (a : About) (l l' : Known) (e : Event) → TakesEffect a l e l'.seen → l'.cpu ≡ l.cpu → turns_of (events_of l'.cpu l'.seen) ≡
+    turns_of (events_of l.cpu l.seen) + turns_of (e ∷ [])
 turned a l l' e s same = ap turns_of (own_after a l l' e s same) ∙ turns_of-append (events_of l.cpu l.seen) (e ∷ [])
 
 -- the counter has room after a quiet event, if it had room before
-pub room_stays : (a : About) (l l' : Known) (e : Event) → TakesEffect a l e l'.seen → l'.cpu ≡ l.cpu → turns_of (e ∷ []) ≡ 0 → (in_run (events_of l.cpu l.seen) ≡ true → run_count a l + 1 < 2 ^ 64)
+pub room_stays : (a : About) (l l' : Known) (e : Event) → TakesEffect a l e l'.seen → l'.cpu ≡ l.cpu → turns_of (e ∷ []) ≡ 0 →
+    (in_run (events_of l.cpu l.seen) ≡ true → run_count a l + 1 < 2 ^ 64)
     → in_run (events_of l'.cpu l'.seen) ≡ true → run_count a l' + 1 < 2 ^ 64
 room_stays a l l' e s same quiet room runs' =
     let turns : turns_of (events_of l'.cpu l'.seen) ≡ turns_of (events_of l.cpu l.seen) = let n = turned a l l' e s same in omega (arith, quiet) in
     let r = room (ap (λ (k : ℕ). k % 2 == 1) (sym turns) ∙ runs') in omega (arith, turns)
 
 -- ---- batches of a map that a step leaves alone
-pub tracks_stay : (a : About) (l l' : Known) (m : ℕ) (young old : Option ℕ) (ns : List ℕ) → length l'.limbo ≡ length l.limbo → limbo_at l'.limbo m ≡ limbo_at l.limbo m → Tracks a l m young old ns → Tracks a l' m young old ns
+pub tracks_stay : (a : About) (l l' : Known) (m : ℕ) (young old : Option ℕ) (ns : List ℕ) → length l'.limbo ≡ length l.limbo → limbo_at
+    l'.limbo m ≡ limbo_at l.limbo m → Tracks a l m young old ns → Tracks a l' m young old ns
 tracks_stay a l l' m young old ns size same t = record {
   room = subst (λ (n : ℕ). m < n) (sym size) t.room;
   young_is = t.young_is ∙ ap (λ (x : Limbo). front x.young) (sym same);
@@ -89,11 +95,13 @@ pub batches_stay : (a : About) (l l' : Known) (n : ℕ) (bs : List Batches) → 
 batches_stay a l l' n bs same h = record {
   size = h.size;
   map = h.map;
-  each = λ m inside. tracks_stay a l l' m (batches_at bs m).young (batches_at bs m).aged (batches_at bs m).noted (ap length same) (ap (λ (x : List Limbo). limbo_at x m) same) (h.each m inside);
+  each = λ m inside. tracks_stay a l l' m (batches_at bs m).young (batches_at bs m).aged (batches_at bs m).noted (ap length same)
+      (ap (λ (x : List Limbo). limbo_at x m) same) (h.each m inside);
 }
 
 -- of one map they changed
-pub batches_change : (a : About) (l l' : Known) (n m : ℕ) (bs : List Batches) (b : Batches) → length l'.limbo ≡ length l.limbo → ((k : ℕ) → k ≢ m → limbo_at l'.limbo k ≡ limbo_at l.limbo k) → m < n → b.map ≡ m
+pub batches_change : (a : About) (l l' : Known) (n m : ℕ) (bs : List Batches) (b : Batches) → length l'.limbo ≡ length l.limbo →
+    ((k : ℕ) → k ≢ m → limbo_at l'.limbo k ≡ limbo_at l.limbo k) → m < n → b.map ≡ m
     → Tracks a l' m b.young b.aged b.noted → AreBatches a l n bs → AreBatches a l' n (set bs m b)
 batches_change a l l' n m bs b size others here name t h = record {
   size = length-set bs m b ∙ h.size;
@@ -102,7 +110,8 @@ batches_change a l l' n m bs b size others here name t h = record {
       (λ ne. ap (λ (x : Batches). x.map) (at_else k ne) ∙ h.map k inside);
   each = λ k inside. by_equal k m
       (λ e. subst (λ (j : ℕ). IsTracked j (batches_at (set bs m b) j)) (sym e) (subst (IsTracked m) (sym at_m) t))
-      (λ ne. subst (IsTracked k) (sym (at_else k ne)) (tracks_stay a l l' k (batches_at bs k).young (batches_at bs k).aged (batches_at bs k).noted size (others k ne) (h.each k inside)));
+      (λ ne. subst (IsTracked k) (sym (at_else k ne)) (tracks_stay a l l' k (batches_at bs k).young (batches_at bs k).aged
+      (batches_at bs k).noted size (others k ne) (h.each k inside)));
 }
   where
     IsTracked : ℕ → Batches → Type 0
@@ -117,7 +126,8 @@ batches_change a l l' n m bs b size others here name t h = record {
 -- ---- ports
 -- a port stays one, where the batches are as they were
 pub moved : (t : Shown) (p : Port) (z : TableId) (l : Known) → IsPortOf t p → z ≡ p.table → l.cpu ≡ p.known.cpu → l.limbo ≡ p.known.limbo
-    → (in_run (events_of l.cpu l.seen) ≡ true → run_count t.about l + 1 < 2 ^ 64) → IsLegal t.about.shape l.seen → IsPortOf t (record { table = z; known = l; arenas = p.arenas; batches = p.batches; spilled = p.spilled })
+    → (in_run (events_of l.cpu l.seen) ≡ true → run_count t.about l + 1 < 2 ^ 64) → IsLegal t.about.shape l.seen → IsPortOf t
+    (record { table = z; known = l; arenas = p.arenas; batches = p.batches; spilled = p.spilled })
 moved t p z l h table cpu limbo room legal = record {
   table = table ∙ h.table;
   cpu = subst (λ (c : ℕ). c < t.about.shape.cpus) (sym cpu) h.cpu;
@@ -129,7 +139,8 @@ moved t p z l h table cpu limbo room legal = record {
   batches = batches_stay t.about p.known l (length t.about.shape.maps) p.batches limbo h.batches;
 }
 
-pub begins : (t : Shown) (p : Port) (z : TableId) (l : Known) (r : Result (Unit {0}) Worn) → IsPortOf t p → z ≡ p.table → OnOk r (AddsEvent t.about p.known Begin l) → OnOk r (run_count t.about p.known + 2 < 2 ^ 64)
+pub begins : (t : Shown) (p : Port) (z : TableId) (l : Known) (r : Result (Unit {0}) Worn) → IsPortOf t p → z ≡ p.table → OnOk r
+    (AddsEvent t.about p.known Begin l) → OnOk r (run_count t.about p.known + 2 < 2 ^ 64)
     → OnErr r (l ≡ p.known) → IsPortOf t (record { table = z; known = l; arenas = p.arenas; batches = p.batches; spilled = p.spilled })
 begins t p z l (Ok u) h table told room same = moved t p z l h table (ap (λ (k : Known). k.cpu) told.after) (ap (λ (k : Known). k.limbo) told.after)
     (λ now. let n = turned t.about p.known l Begin told.seen (ap (λ (k : Known). k.cpu) told.after) in omega (arith, room)) told.seen.legal
@@ -139,7 +150,8 @@ begins t p z l (Err e) h table told room same = moved t p z l h table (ap (λ (k
 
 -- ---- the end of a run
 
-pub reclaims : (t : Shown) (ended l l' : Known) (m : ℕ) (bs : List Batches) (b : Batches) → m < length t.about.shape.maps → b.map ≡ m → KeepsBatches m l l' → Tracks t.about l' m b.young b.aged b.noted → IsEnding t ended l bs → IsEnding t ended l' (set bs m b)
+pub reclaims : (t : Shown) (ended l l' : Known) (m : ℕ) (bs : List Batches) (b : Batches) → m < length t.about.shape.maps → b.map ≡ m →
+    KeepsBatches m l l' → Tracks t.about l' m b.young b.aged b.noted → IsEnding t ended l bs → IsEnding t ended l' (set bs m b)
 reclaims t ended l l' m bs b here name keeps tracks i = record {
   cpu = keeps.cpu ∙ i.cpu;
   seen = keeps.seen ∙ i.seen;
@@ -160,7 +172,9 @@ reclaims t ended l l' m bs b here name keeps tracks i = record {
 }
 
 -- the run has ended
-pub ends_last : (t : Shown) (p : Port) (z : TableId) (ended l : Known) (bs : List Batches) (o : Option ℕ) → IsPortOf t p → runs p ≡ true → z ≡ t.id → AddsEvent t.about p.known End ended → IsEnding t ended l bs → IsPortOf t (record { table = z; known = l; arenas = p.arenas; batches = bs; spilled = o })
+pub ends_last : (t : Shown) (p : Port) (z : TableId) (ended l : Known) (bs : List Batches) (o : Option ℕ) → IsPortOf t p → runs p ≡ true → z
+    ≡ t.id → AddsEvent t.about p.known End ended → IsEnding t ended l bs → IsPortOf t
+    (record { table = z; known = l; arenas = p.arenas; batches = bs; spilled = o })
 ends_last t p z ended l bs o h running table told i =
     let cpu = i.cpu ∙ ap (λ (k : Known). k.cpu) told.after in record {
       table = table;
@@ -207,11 +221,16 @@ arenas_change a n m xs x here s h = record {
 pub follows_at : (a : About) (l : Known) (n m : ℕ) (bs : List Batches) (b : Batches) → m < n → AreBatches a l n bs → b ≡ get_or bs m b → AreBatchesOf a l m b
 follows_at a l n m bs b here h is =
     let old : b ≡ batches_at bs m = is ∙ get_or_default bs m b no_batches (let z = h.size in omega arith) in
-    let name : b.map ≡ m = ap (λ (y : Batches). y.map) old ∙ h.map m here in
-    (name, subst (λ (k : ℕ). Tracks a l k b.young b.aged b.noted) (sym name) (subst (λ (y : Batches). Tracks a l m y.young y.aged y.noted) (sym old) (h.each m here)))
+    let name : b.map ≡ m = ap (λ (y : Batches). y.map) old ∙ h.map m here in (
+      name,
+      subst (λ (k : ℕ). Tracks a l k b.young b.aged b.noted) (sym name)
+          (subst (λ (y : Batches). Tracks a l m y.young y.aged y.noted) (sym old) (h.each m here)),
+    )
 
-pub called_fits : (t : Shown) (p : Port) (z : TableId) (l : Known) (m : ℕ) (e : Event) (xs : List Arena) (b : Batches) (o : Option ℕ) → IsPortOf t p → z ≡ t.id → m < length t.about.shape.maps → turns_of (e ∷ []) ≡ 0
-    → IsOneCall t.about p.known m e l → AreArenas t.about (length t.about.shape.maps) xs → AreBatchesOf t.about l m b → IsPortOf t (record { table = z; known = l; arenas = xs; batches = set p.batches m b; spilled = o })
+pub called_fits : (t : Shown) (p : Port) (z : TableId) (l : Known) (m : ℕ) (e : Event) (xs : List Arena) (b : Batches) (o : Option ℕ) →
+    IsPortOf t p → z ≡ t.id → m < length t.about.shape.maps → turns_of (e ∷ []) ≡ 0
+    → IsOneCall t.about p.known m e l → AreArenas t.about (length t.about.shape.maps) xs → AreBatchesOf t.about l m b → IsPortOf t
+    (record { table = z; known = l; arenas = xs; batches = set p.batches m b; spilled = o })
 called_fits t p z l m e xs b o h table here quiet c arenas f = record {
   table = table;
   cpu = subst (λ (k : ℕ). k < t.about.shape.cpus) (sym c.cpu) h.cpu;
@@ -220,10 +239,12 @@ called_fits t p z l m e xs b o h table here quiet c arenas f = record {
   legal = c.seen.legal;
   limbo = c.size ∙ h.limbo;
   arenas = arenas;
-  batches = batches_change t.about p.known l (length t.about.shape.maps) m p.batches b c.size c.others here f.0 (subst (λ (k : ℕ). Tracks t.about l k b.young b.aged b.noted) f.0 f.1) h.batches;
+  batches = batches_change t.about p.known l (length t.about.shape.maps) m p.batches b c.size c.others here f.0
+      (subst (λ (k : ℕ). Tracks t.about l k b.young b.aged b.noted) f.0 f.1) h.batches;
 }
 
-pub looked_fits : (t : Shown) (p : Port) (z : TableId) (l : Known) (m : ℕ) (key : List ℕ) (o : Option Span) → IsPortOf t p → z ≡ t.id → Looked t.about p.known m key o l
+pub looked_fits : (t : Shown) (p : Port) (z : TableId) (l : Known) (m : ℕ) (key : List ℕ) (o : Option Span) → IsPortOf t p → z ≡ t.id →
+    Looked t.about p.known m key o l
     → IsPortOf t (record { table = z; known = l; arenas = p.arenas; batches = p.batches; spilled = p.spilled })
 looked_fits t p z l m key o h table c = moved t p z l h (table ∙ sym h.table) cpu (ap (λ (k : Known). k.limbo) c.after)
     (room_stays t.about p.known l (Lookup m key o) c.seen cpu refl h.room) c.seen.legal
@@ -236,16 +257,19 @@ pub looked_lies : (a : About) (l l' : Known) (m : ℕ) (key : List ℕ) (o : Opt
 looked_lies a l l' m key o c = last_found_lies a.shape l.seen c.seen.others l.cpu m key o (subst (IsLegal a.shape) c.seen.after c.seen.legal)
 
 -- ---- whether the port's CPU is in a run
-pub still_runs : (a : About) (l l' : Known) (e : Event) → TakesEffect a l e l'.seen → l'.cpu ≡ l.cpu → turns_of (e ∷ []) ≡ 0 → in_run (events_of l.cpu l.seen) ≡ true → in_run (events_of l'.cpu l'.seen) ≡ true
+pub still_runs : (a : About) (l l' : Known) (e : Event) → TakesEffect a l e l'.seen → l'.cpu ≡ l.cpu → turns_of (e ∷ []) ≡ 0 → in_run
+    (events_of l.cpu l.seen) ≡ true → in_run (events_of l'.cpu l'.seen) ≡ true
 still_runs a l l' e s same quiet runs' =
     let turns : turns_of (events_of l'.cpu l'.seen) ≡ turns_of (events_of l.cpu l.seen) = let n = turned a l l' e s same in omega (arith, quiet) in
     ap (λ (k : ℕ). k % 2 == 1) turns ∙ runs'
 
-pub begun_runs : (a : About) (l l' : Known) (r : Result (Unit {0}) Worn) → OnOk r (AddsEvent a l Begin l') → in_run (events_of l.cpu l.seen) ≡ false → OnOk r (in_run (events_of l'.cpu l'.seen) ≡ true)
+pub begun_runs : (a : About) (l l' : Known) (r : Result (Unit {0}) Worn) → OnOk r (AddsEvent a l Begin l') → in_run (events_of l.cpu l.seen)
+    ≡ false → OnOk r (in_run (events_of l'.cpu l'.seen) ≡ true)
 begun_runs a l l' (Ok u) told idle = let n = turned a l l' Begin told.seen (ap (λ (k : Known). k.cpu) told.after) in grind (arith, nat_tests)
 begun_runs a l l' (Err e) told idle = tt
 
-pub ended_idle : (t : Shown) (p : Port) (ended l : Known) (bs : List Batches) → AddsEvent t.about p.known End ended → IsEnding t ended l bs → runs p ≡ true → in_run (events_of l.cpu l.seen) ≡ false
+pub ended_idle : (t : Shown) (p : Port) (ended l : Known) (bs : List Batches) → AddsEvent t.about p.known End ended → IsEnding t ended l bs
+    → runs p ≡ true → in_run (events_of l.cpu l.seen) ≡ false
 ended_idle t p ended l bs told i running =
     let cpu = i.cpu ∙ ap (λ (k : Known). k.cpu) told.after in
     let n = turned t.about p.known l End (subst (TakesEffect t.about p.known End) (sym i.seen) told.seen) cpu in
@@ -256,25 +280,30 @@ pub begun_notes : (a : About) (l l' : Known) (r : Result (Unit {0}) Worn) → On
 begun_notes a l l' (Ok u) told = ([], ap (λ (k : Known). k.tally) told.after, refl)
 begun_notes a l l' (Err e) told = tt
 
-pub ended_notes : (t : Shown) (p : Port) (ended l : Known) (bs : List Batches) → AddsEvent t.about p.known End ended → IsEnding t ended l bs → CallNotes t.about End p.known l
+pub ended_notes : (t : Shown) (p : Port) (ended l : Known) (bs : List Batches) → AddsEvent t.about p.known End ended → IsEnding t ended l bs
+    → CallNotes t.about End p.known l
 ended_notes t p ended l bs told i = (i.sights.0, i.sights.1 ∙ ap (λ (k : Known). i.sights.0 ++ k.tally) told.after, i.sights.2)
 
 -- ---- batches that were looked at
-pub reclaimed_now : (m : ℕ) (before : List Sight) (l l' : Known) → (more : List Sight) × (l.tally ≡ more ++ before) × Each LeavesLocks more → ((limbo_at l'.limbo m).old ≡ [] → (limbo_at l'.limbo m).young ≡ [])
+pub reclaimed_now : (m : ℕ) (before : List Sight) (l l' : Known) → (more : List Sight) × (l.tally ≡ more ++ before) × Each LeavesLocks more
+    → ((limbo_at l'.limbo m).old ≡ [] → (limbo_at l'.limbo m).young ≡ [])
     → ((limbo_at l'.limbo m).old ≡ []) ⊎ SeesRunning m l l' → IsReclaimed m before l'
 reclaimed_now m before l l' sights empty (inl none) = inl (none, empty none)
 reclaimed_now m before l l' (more, is, leave) empty (inr (d, sooner, seen, odd)) = inr (
   d,
   [],
   sooner ++ more,
-  seen ∙ ap (λ (z : List Sight). look (RunCount d) (slice_index (limbo_at l'.limbo m).noted d) ∷ z) (ap (λ (z : List Sight). sooner ++ z) is ∙ sym (append_assoc sooner more before)),
+  seen ∙ ap (λ (z : List Sight). look (RunCount d) (slice_index (limbo_at l'.limbo m).noted d) ∷ z)
+      (ap (λ (z : List Sight). sooner ++ z) is ∙ sym (append_assoc sooner more before)),
   odd,
 )
 
 pub reclaimed_still : (m k : ℕ) (before : List Sight) (l l' : Known) → m ≢ k → KeepsBatches k l l' → IsReclaimed m before l → IsReclaimed m before l'
-reclaimed_still m k before l l' ne keeps (inl (old, young)) = inl (ap (λ (x : Limbo). x.old) (keeps.others m ne) ∙ old, ap (λ (x : Limbo). x.young) (keeps.others m ne) ∙ young)
+reclaimed_still m k before l l' ne keeps (inl (old, young)) = inl
+    (ap (λ (x : Limbo). x.old) (keeps.others m ne) ∙ old, ap (λ (x : Limbo). x.young) (keeps.others m ne) ∙ young)
 reclaimed_still m k before l l' ne keeps (inr (d, later, sooner, is, odd)) =
-    let same : slice_index (limbo_at l'.limbo m).noted d ≡ slice_index (limbo_at l.limbo m).noted d = ap (λ (x : Limbo). slice_index x.noted d) (keeps.others m ne) in
+    let same : slice_index (limbo_at l'.limbo m).noted d ≡ slice_index (limbo_at l.limbo m).noted d = ap
+    (λ (x : Limbo). slice_index x.noted d) (keeps.others m ne) in
     inr (
       d,
       keeps.sights.0 ++ later,
@@ -287,19 +316,24 @@ reclaimed_still m k before l l' ne keeps (inr (d, later, sooner, is, odd)) =
     )
 
 -- of each map so far, and of one more
-pub reclaimed_more : (n : ℕ) (before : List Sight) (l l' : Known) → KeepsBatches n l l' → ((m : ℕ) → m < n → IsReclaimed m before l) → IsReclaimed n before l' → (m : ℕ) → m < n + 1 → IsReclaimed m before l'
+pub reclaimed_more : (n : ℕ) (before : List Sight) (l l' : Known) → KeepsBatches n l l' → ((m : ℕ) → m < n → IsReclaimed m before l) →
+    IsReclaimed n before l' → (m : ℕ) → m < n + 1 → IsReclaimed m before l'
 reclaimed_more n before l l' keeps all here m inside = by_equal m n
     (λ e. subst (λ (k : ℕ). IsReclaimed k before l') (sym e) here)
     (λ ne. reclaimed_still m n before l l' ne keeps (all m (less m n inside ne)))
 
-pub ended_reclaimed : (t : Shown) (p : Port) (ended l : Known) (m : ℕ) → AddsEvent t.about p.known End ended → IsReclaimed m ended.tally l → IsReclaimed m p.known.tally l
+pub ended_reclaimed : (t : Shown) (p : Port) (ended l : Known) (m : ℕ) → AddsEvent t.about p.known End ended → IsReclaimed m ended.tally l →
+    IsReclaimed m p.known.tally l
 ended_reclaimed t p ended l m told is = subst (λ (z : List Sight). IsReclaimed m z l) (ap (λ (k : Known). k.tally) told.after) is
 
 -- a listing turns no run
-pub listed_fits : (t : Shown) (p : Port) (z : TableId) (l : Known) (m : ℕ) (keys : List (List ℕ)) → IsPortOf t p → z ≡ p.table → Listed t.about p.known m keys l → IsPortOf t (record { table = z; known = l; arenas = p.arenas; batches = p.batches; spilled = p.spilled })
-listed_fits t p z l m keys fits table e = moved t p z l fits table (ap (λ (k : Known). k.cpu) e.after) (ap (λ (k : Known). k.limbo) e.after) (room_stays t.about p.known l (Keys m keys) e.seen (ap (λ (k : Known). k.cpu) e.after) refl fits.room) e.seen.legal
+pub listed_fits : (t : Shown) (p : Port) (z : TableId) (l : Known) (m : ℕ) (keys : List (List ℕ)) → IsPortOf t p → z ≡ p.table → Listed
+    t.about p.known m keys l → IsPortOf t (record { table = z; known = l; arenas = p.arenas; batches = p.batches; spilled = p.spilled })
+listed_fits t p z l m keys fits table e = moved t p z l fits table (ap (λ (k : Known). k.cpu) e.after) (ap (λ (k : Known). k.limbo) e.after)
+    (room_stays t.about p.known l (Keys m keys) e.seen (ap (λ (k : Known). k.cpu) e.after) refl fits.room) e.seen.legal
 
-pub listed_runs : (a : About) (l l' : Known) (m : ℕ) (keys : List (List ℕ)) → Listed a l m keys l' → in_run (events_of l'.cpu l'.seen) ≡ in_run (events_of l.cpu l.seen)
+pub listed_runs : (a : About) (l l' : Known) (m : ℕ) (keys : List (List ℕ)) → Listed a l m keys l' → in_run (events_of l'.cpu l'.seen) ≡
+    in_run (events_of l.cpu l.seen)
 listed_runs a l l' m keys e =
     let t = turned a l l' (Keys m keys) e.seen (ap (λ (k : Known). k.cpu) e.after) in
     ap (λ (n : ℕ). n % 2 == 1) (let same : turns_of (events_of l'.cpu l'.seen) ≡ turns_of (events_of l.cpu l.seen) = omega arith in same)

@@ -11,7 +11,8 @@ use Rattle.hop_map.specs.LockedSegment.{Locked, Ready}
 use Rattle.hop_map.specs.Private.LockedSegment.{seen_words}
 use Rattle.hop_map.proofs.Written.{mine}
 
-module _ (x y : Locked) (p : Place) (n : ℕ) (r : Ready x.about x.known x.map x.segment) (same : y ≡ x) (is : IsGuarded x.about x.known p → n ≡ mem x.about.shape (lock_of x.known).copy p) (w : SegWords) (a : w ≡ seen_words y) where
+module _ (x y : Locked) (p : Place) (n : ℕ) (r : Ready x.about x.known x.map x.segment) (same : y ≡ x)
+    (is : IsGuarded x.about x.known p → n ≡ mem x.about.shape (lock_of x.known).copy p) (w : SegWords) (a : w ≡ seen_words y) where
   there : (q : Place) → p ≡ q → IsGuarded x.about x.known q → n ≡ mem x.about.shape (lock_of x.known).copy q
   there q at = subst (λ (q : Place). IsGuarded x.about x.known q → n ≡ mem x.about.shape (lock_of x.known).copy q) at is
 

@@ -1,5 +1,6 @@
 -- Ports whose CPUs have all seen the whole history, and what else a port has.
-use Rattle.std.proofs.Common.{◌≡◌, ℕ, ◌<◌, false, List, [], ◌∷◌, ◌++◌, Option, Some, map, length, get_or, slice_get, drop, All, refl, ap, sym, subst, ◌∙◌, arith}
+use Rattle.std.proofs.Common.{◌≡◌, ℕ, ◌<◌, false, List, [], ◌∷◌, ◌++◌, Option, Some, map, length, get_or, slice_get, drop, All, refl, ap}
+use Rattle.std.proofs.Common.{sym, subst, ◌∙◌, arith}
 use Rattle.std.proofs.lemmas.List.{length-map, length-append, append-nil, nil_from_length, get_or-map, map_push}
 use Rattle.std.proofs.Math.Seq.{get_or-append_seam}
 use Rattle.std.proofs.lemmas.List.Elements.{All-nil, All-head, All-tail, All-map}
@@ -34,21 +35,24 @@ abbrev pub with_history : List Entry → Port → Port
 with_history log p = record p { known = with_seen log p.known }
 
 -- one more of each, whose parts are the same
-pub one_more : {X Y Z : Type 0} (f : X → Z) (g : Y → Z) (xs all : List X) (ys : List Y) (x : X) (y : Y) → all ≡ xs ++ x ∷ [] → f x ≡ g y → map f xs ≡ map g ys → map f all ≡ map g (ys ++ y ∷ [])
+pub one_more : {X Y Z : Type 0} (f : X → Z) (g : Y → Z) (xs all : List X) (ys : List Y) (x : X) (y : Y) → all ≡ xs ++ x ∷ [] → f x ≡ g y →
+    map f xs ≡ map g ys → map f all ≡ map g (ys ++ y ∷ [])
 one_more f g xs all ys x y is same before = ap (map f) is ∙ (map_push f xs x ∙ ((λ i. before i ++ same i ∷ []) ∙ sym (map_push g ys y)))
 
 pub same_length : {X Y Z : Type 0} (f : X → Z) (g : Y → Z) (xs : List X) (ys : List Y) → map f xs ≡ map g ys → length xs ≡ length ys
 same_length f g xs ys is = sym (length-map xs f) ∙ (ap length is ∙ length-map ys g)
 
 pub still_nothing : (log : List Entry) (ls : List Known) → All HasNothing ls → All HasNothing (map (with_seen log) ls)
-still_nothing log ls all = All-map HasNothing (with_seen log) ls (λ k d inside. let h = all k d inside in record { fresh = h.fresh; locks = h.locks; used = h.used })
+still_nothing log ls all = All-map HasNothing (with_seen log) ls
+    (λ k d inside. let h = all k d inside in record { fresh = h.fresh; locks = h.locks; used = h.used })
 
 -- all that an iteration had, at its end
 pub all_of : {X : Type 0} (yielded rest all : List X) → length rest ≡ 0 → yielded ++ rest ≡ all → yielded ≡ all
 all_of yielded rest all none whole = sym (append-nil yielded) ∙ (ap (λ l. yielded ++ l) (sym (nil_from_length rest none)) ∙ whole)
 
 -- while it has more, not all ports are there
-pub few_given : (yielded rest all : List Aside) (a : Aside) (more : List Aside) (done ports : List Port) → yielded ++ rest ≡ all → rest ≡ a ∷ more → map aside_parts all ≡ map port_parts ports → map port_parts done ≡ map aside_parts yielded → length done < length ports
+pub few_given : (yielded rest all : List Aside) (a : Aside) (more : List Aside) (done ports : List Port) → yielded ++ rest ≡ all → rest ≡ a
+    ∷ more → map aside_parts all ≡ map port_parts ports → map port_parts done ≡ map aside_parts yielded → length done < length ports
 few_given yielded rest all a more done ports whole is those these =
     let long = ap length whole in
     let parts = length-append yielded rest in
@@ -66,7 +70,8 @@ module _ (t : Shown) (log : List Entry) where
   Ours p = p.table ≡ t.id
 
   -- ports are the same by their parts
-  same_ports : (xs ys : List Port) → map known_of xs ≡ map (with_seen log) (map known_of ys) → map port_parts xs ≡ map port_parts ys → All Ours xs → All Ours ys → xs ≡ map (with_history log) ys
+  same_ports : (xs ys : List Port) → map known_of xs ≡ map (with_seen log) (map known_of ys) → map port_parts xs ≡ map port_parts ys → All
+      Ours xs → All Ours ys → xs ≡ map (with_history log) ys
   same_ports [] [] k p a b = refl
   same_ports [] (y ∷ ys) k p a b = absurd (let n = ap length p in omega arith)
   same_ports (x ∷ xs) [] k p a b = absurd (let n = ap length p in omega arith)
@@ -78,7 +83,8 @@ module _ (t : Shown) (log : List Entry) where
       let rest = same_ports xs ys (ap (drop 1) k) (ap (drop 1) p) (All-tail Ours x xs a) (All-tail Ours y ys b) in
       λ i. one i ∷ rest i
 
-module _ (t : Shown) (ports : List Port) (are : AreIdlePorts t ports) (before after : List Known) (known : before ≡ map known_of ports) (s : AreSettled t.about before after) where
+module _ (t : Shown) (ports : List Port) (are : AreIdlePorts t ports) (before after : List Known) (known : before ≡ map known_of ports)
+    (s : AreSettled t.about before after) where
   -- what a CPU has done is all that the history has of it
   own : (c : ℕ) (p : Port) → slice_get ports c ≡ Some p → events_of c s.log ≡ own_events p
   own c p is =
@@ -107,7 +113,8 @@ module _ (t : Shown) (ports : List Port) (are : AreIdlePorts t ports) (before af
         let long = length-map ports (with_history s.log) in
         let within = slice_get_within (map (with_history s.log) ports) c q is in
         let inside : c < length ports = omega arith in
-        let same : q ≡ with_history s.log (get_or ports c q) = sym (get_or_from_slice_get (map (with_history s.log) ports) c q q is) ∙ get_or-map (with_history s.log) ports c q q inside in
+        let same : q ≡ with_history s.log (get_or ports c q) = sym (get_or_from_slice_get (map (with_history s.log) ports) c q q is) ∙
+        get_or-map (with_history s.log) ports c q q inside in
         ap (λ (p : Port). p.known.cpu) same ∙ are.numbered c (get_or ports c q) (at c q inside);
     idle = all_idle;
   }
@@ -138,7 +145,8 @@ module _ (t : Shown) (ports : List Port) (are : AreIdlePorts t ports) (before af
       ap (λ (k : Known). k.cpu) same ∙ are.numbered n (get_or ports n d) (at n d inside)
 
   -- the next lane is that of the next CPU
-  pub next_lane : (done : List Port) (rest : List Known) → map known_of done ++ rest ≡ after → length done < length ports → (l : Known) × (more : List Known) × (rest ≡ l ∷ more) × (l.cpu ≡ length done)
+  pub next_lane : (done : List Port) (rest : List Known) → map known_of done ++ rest ≡ after → length done < length ports → (l : Known) ×
+      (more : List Known) × (rest ≡ l ∷ more) × (l.cpu ≡ length done)
   next_lane done [] whole few = absurd (
       let n = ap length whole in
       let long = length-append (map known_of done) [] in
@@ -147,7 +155,8 @@ module _ (t : Shown) (ports : List Port) (are : AreIdlePorts t ports) (before af
       omega arith)
   next_lane done (l ∷ more) whole few =
       let seam : get_or (map known_of done ++ l ∷ more) (length (map known_of done)) l ≡ l = get_or-append_seam (map known_of done) l more l in
-      let here : get_or after (length done) l ≡ l = ap (λ (n : ℕ). get_or after n l) (sym (length-map done known_of)) ∙ (ap (λ (ls : List Known). get_or ls (length (map known_of done)) l) (sym whole) ∙ seam) in
+      let here : get_or after (length done) l ≡ l = ap (λ (n : ℕ). get_or after n l) (sym (length-map done known_of)) ∙
+      (ap (λ (ls : List Known). get_or ls (length (map known_of done)) l) (sym whole) ∙ seam) in
       (l, more, refl, numbered_at (length done) l few here)
 
   all_given : (done : List Port) (rest : List Known) → map known_of done ++ rest ≡ after → length done ≡ length ports → map known_of done ≡ after
@@ -159,7 +168,8 @@ module _ (t : Shown) (ports : List Port) (are : AreIdlePorts t ports) (before af
       let none : rest ≡ [] = nil_from_length rest (omega arith) in
       sym (append-nil (map known_of done)) ∙ (ap (λ (ls : List Known). map known_of done ++ ls) (sym none) ∙ whole)
 
-  module _ (back : List Port) (rest : List Known) (whole_is : map known_of back ++ rest ≡ after) (parts : map port_parts back ≡ map port_parts ports) (table : All (λ p. p.table ≡ t.id) back) where
+  module _ (back : List Port) (rest : List Known) (whole_is : map known_of back ++ rest ≡ after)
+      (parts : map port_parts back ≡ map port_parts ports) (table : All (λ p. p.table ≡ t.id) back) where
     lanes : map known_of back ≡ after
     lanes = all_given back rest whole_is (same_length port_parts port_parts back ports parts)
 

@@ -1,5 +1,6 @@
 -- Each span that a lookup of a legal history found is that of an element of its map.
-use Rattle.std.proofs.Common.{◌≡◌, ℕ, zero, suc, ◌+◌, ◌<◌, Bool, true, false, true≢false, List, [], ◌∷◌, ◌++◌, length, slice_get, Option, Some, None, inl, inr, ◌==◌, if◌then◌else◌, refl, sym, ap, subst, ◌∙◌, arith, IfSome}
+use Rattle.std.proofs.Common.{◌≡◌, ℕ, zero, suc, ◌+◌, ◌<◌, Bool, true, false, true≢false, List, [], ◌∷◌, ◌++◌, length, slice_get, Option}
+use Rattle.std.proofs.Common.{Some, None, inl, inr, ◌==◌, if◌then◌else◌, refl, sym, ap, subst, ◌∙◌, arith, IfSome}
 use Rattle.std.proofs.lemmas.Bool.Decides.{nat_tests}
 use Rattle.std.specs.FinMap.{get, insert, remove, get-empty}
 use Rattle.std.specs.Ordering.{nat_cmp}
@@ -140,13 +141,15 @@ as_made_lies h = record {
 }
 
 -- ---- what a lookup found
-found_lies : (maps : List MapShape) (s : Plain) (m : ℕ) (key : List ℕ) (p : Span) (o : Option ℕ) → Lies maps s → get (s.maps m) key ≡ o → Some p ≡ span_of s o → IsElementSpan maps m p
+found_lies : (maps : List MapShape) (s : Plain) (m : ℕ) (key : List ℕ) (p : Span) (o : Option ℕ) → Lies maps s → get (s.maps m) key ≡ o →
+    Some p ≡ span_of s o → IsElementSpan maps m p
 found_lies maps s m key p None l is e = let no : Some p ≡ None = e in cc
 found_lies maps s m key p (Some v) l is e =
     let same : p ≡ (s.value v).span = (let k : Some p ≡ Some ((s.value v).span) = e in cc) in
     subst (IsElementSpan maps m) (sym same) (l.each m key v is)
 
-lookup_lies : (maps : List MapShape) (s t : Plain) (c m : ℕ) (key : List ℕ) (p : Span) → Lies maps s → Allowed s c (Lookup m key (Some p)) t → IsElementSpan maps m p
+lookup_lies : (maps : List MapShape) (s t : Plain) (c m : ℕ) (key : List ℕ) (p : Span) → Lies maps s → Allowed s c (Lookup m key (Some p)) t
+    → IsElementSpan maps m p
 lookup_lies maps s t c m key p l a = found_lies maps s m key p (get (s.maps m) key) l refl a.1.1
 
 -- the last event of a legal history is a lookup that found a span
@@ -187,18 +190,22 @@ since_lie maps s t c (Load at size found) f l a g = g
 since_lie maps s t c (Store at size x) f l a g = g
 since_lie maps s t c (Atomic at size op operand expected found) f l a g = g
 
-told_lie : (maps : List MapShape) (c : ℕ) (s t : Plain) (log : List Entry) (f : Span → Bool) → Lies maps s → Legal s log t → Lie maps f → Lie maps (held_from f (events_of c log))
+told_lie : (maps : List MapShape) (c : ℕ) (s t : Plain) (log : List Entry) (f : Span → Bool) → Lies maps s → Legal s log t → Lie maps f →
+    Lie maps (held_from f (events_of c log))
 told_lie maps c s t [] f l p g = g
 told_lie maps c s t (x ∷ xs) f l p g =
     let l2 = event_lies maps s p.0 x.cpu x.event l p.1 in
-    go (told_lie maps c p.0 t xs (held_since f x.event) l2 p.2 (since_lie maps s p.0 x.cpu x.event f l p.1 g)) (told_lie maps c p.0 t xs f l2 p.2 g) (x.cpu == c)
+    go (told_lie maps c p.0 t xs (held_since f x.event) l2 p.2 (since_lie maps s p.0 x.cpu x.event f l p.1 g))
+    (told_lie maps c p.0 t xs f l2 p.2 g) (x.cpu == c)
   where
-    go : Lie maps (held_from (held_since f x.event) (events_of c xs)) → Lie maps (held_from f (events_of c xs)) → (b : Bool) → Lie maps (held_from f (if b then x.event ∷ events_of c xs else events_of c xs))
+    go : Lie maps (held_from (held_since f x.event) (events_of c xs)) → Lie maps (held_from f (events_of c xs)) → (b : Bool) → Lie maps
+        (held_from f (if b then x.event ∷ events_of c xs else events_of c xs))
     go own other true = own
     go own other false = other
 
 -- each span that a CPU's own events hold is that of an element
-pub held_spans_lie : (h : Shape) (c : ℕ) (log : List Entry) → IsLegal h log → (q : Span) → held_by (events_of c log) q ≡ true → (m : ℕ) × IsElementSpan h.maps m q
+pub held_spans_lie : (h : Shape) (c : ℕ) (log : List Entry) → IsLegal h log → (q : Span) → held_by (events_of c log) q ≡ true → (m : ℕ) ×
+    IsElementSpan h.maps m q
 held_spans_lie h c log l = told_lie h.maps c (as_made h) l.0 log no_span (as_made_lies h) l.1 (λ q k. absurd (true≢false (sym k)))
 
 -- an element's span lies among the addresses of values

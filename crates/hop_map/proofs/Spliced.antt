@@ -60,6 +60,7 @@ bytes_of n = λ j. n % 256 ∷ n / 256 % 256 ∷ sym two j % 256 ∷ sym three j
     seven = ap (λ (m : ℕ). m / 256) six ∙ div-div-eq-div-mul n 281474976710656 256
 
 -- a word some bytes of which were replaced
-pub spliced : (word i k x n : ℕ) (bs : List ℕ) → length bs ≡ 8 → bs ≡ with_part (low_bytes 8 word) i (low_bytes k x) → n ≡ added_up bs → low_bytes 8 n ≡ with_part (low_bytes 8 word) i (low_bytes k x)
+pub spliced : (word i k x n : ℕ) (bs : List ℕ) → length bs ≡ 8 → bs ≡ with_part (low_bytes 8 word) i (low_bytes k x) → n ≡ added_up bs →
+    low_bytes 8 n ≡ with_part (low_bytes 8 word) i (low_bytes k x)
 spliced word i k x n bs size is sum =
     bytes_back bs n size (subst (All IsByte) (sym is) (bytes_with (low_bytes 8 word) (low_bytes k x) i (All-low_bytes 8 word) (All-low_bytes k x))) sum ∙ is

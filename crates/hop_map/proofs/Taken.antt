@@ -16,7 +16,8 @@ use Rattle.hop_map.specs.Noting.{MayNote, CallNotes}
 use Rattle.hop_map.proofs.Ports.{still_runs, port_with, port_is}
 use Rattle.hop_map.proofs.Holding.{held_at, told_fits}
 
-module _ (i : InPort) (s : Standing) (there : i.lane ≡ Some s) (q : Port) (view : port_of i ≡ q) (t : Shown) (fits : IsPortOf t q) (running : runs q ≡ true) where
+module _ (i : InPort) (s : Standing) (there : i.lane ≡ Some s) (q : Port) (view : port_of i ≡ q) (t : Shown) (fits : IsPortOf t q)
+    (running : runs q ≡ true) where
   abbrev taken : Port
   taken = port_with s i.arenas.items i.batches.items i.spilled
 

@@ -77,9 +77,11 @@ touched a s p z l h = record {
 }
 
 -- what the code computes of the address
-pub touches : (a : About) (s : IsShape a.shape) (p : ℕ) (z : Size) (f : MapShape) (stride : ℕ) → f ≡ shape_at a ((p - 0x10_0000_0000) / 0x1000_0000) → stride ≡ element_stride f
+pub touches : (a : About) (s : IsShape a.shape) (p : ℕ) (z : Size) (f : MapShape) (stride : ℕ) → f ≡ shape_at a
+    ((p - 0x10_0000_0000) / 0x1000_0000) → stride ≡ element_stride f
     → (l : Known) → IsHeldAt a l p (bytes_in z)
-    → TouchesHeldValue a l ((p - 0x10_0000_0000) / 0x1000_0000) ((p - 0x10_0000_0000) % 0x1000_0000 / stride) ((p - 0x10_0000_0000) % 0x1000_0000 % stride / 8) ((p - 0x10_0000_0000) % 0x1000_0000 % stride % 8) (bytes_in z)
+    → TouchesHeldValue a l ((p - 0x10_0000_0000) / 0x1000_0000) ((p - 0x10_0000_0000) % 0x1000_0000 / stride)
+    ((p - 0x10_0000_0000) % 0x1000_0000 % stride / 8) ((p - 0x10_0000_0000) % 0x1000_0000 % stride % 8) (bytes_in z)
 touches a s p z f stride shape is l h =
     let v = h.place in
     let r = reach a s p z v in

@@ -1,5 +1,6 @@
 -- On the way to the segment of a home.
-use Rattle.std.proofs.Common.{◌≡◌, ◌≢◌, ℕ, ◌+◌, ◌-◌, ◌/◌, ◌%◌, ◌≤◌, Bool, true, false, true≢false, if◌then◌else◌, List, [], ◌∷◌, ◌++◌, length, refl, ap, sym, subst, ◌∙◌, arith}
+use Rattle.std.proofs.Common.{◌≡◌, ◌≢◌, ℕ, ◌+◌, ◌-◌, ◌/◌, ◌%◌, ◌≤◌, Bool, true, false, true≢false, if◌then◌else◌, List, [], ◌∷◌, ◌++◌}
+use Rattle.std.proofs.Common.{length, refl, ap, sym, subst, ◌∙◌, arith}
 use Rattle.bpf_shared.specs.declared.shapes.MapShape.{MapShape}
 use Rattle.hop_layout.specs.declared.about.About.{About}
 use Rattle.hop_layout.specs.declared.place.Place.TheVariants.{Stamp}
@@ -20,15 +21,18 @@ use Rattle.hop_map.specs.Private.Locks.{Walking, Sought}
 use Rattle.hop_map.specs.Finding.{LeadsAlong, IsWay}
 use Rattle.hop_map.specs.Private.Finding.{Approaching, Walked}
 
-pub begins : (a : About) (l : Known) (m home : ℕ) (w : Way) → IsSegment a m w.segment → KnowsBorn a l m w.segment → IsOnWay home w → w.level ≤ 10 → Walking a l m home w 0 l
+pub begins : (a : About) (l : Known) (m home : ℕ) (w : Way) → IsSegment a m w.segment → KnowsBorn a l m w.segment → IsOnWay home w → w.level
+    ≤ 10 → Walking a l m home w 0 l
 begins a l m home w inside born way level = record { after = refl; inside = inside; born = born; way = way; level = level; so_far = omega arith }
 
 pub small : (a : About) (m s n : ℕ) → SaysDepth a m s n → n / 2 % 32 ≤ 10
 small a m s n d = let z = d.most in let y = depth_most (shape_at a m) in omega arith
 
 -- the next segment is one of the map's
-pub next_inside : (a : About) (m n : ℕ) (w next : Way) → IsSegment a m w.segment → SaysDepth a m w.segment n → IsNextSegment w (stamp_depth n) next → IsSegment a m next.segment
-next_inside a m n w next inside d e = (inside.0, (let p = power_less e.0 (depth (shape_at a m)) (let z = d.most in let y = e.2 in omega arith) in let s = e.5 in let o = e.4 in omega arith))
+pub next_inside : (a : About) (m n : ℕ) (w next : Way) → IsSegment a m w.segment → SaysDepth a m w.segment n → IsNextSegment w
+    (stamp_depth n) next → IsSegment a m next.segment
+next_inside a m n w next inside d e =
+    (inside.0, (let p = power_less e.0 (depth (shape_at a m)) (let z = d.most in let y = e.2 in omega arith) in let s = e.5 in let o = e.4 in omega arith))
 
 module _ (a : About) (l : Known) (m home n i : ℕ) (w : Way) (x y : Known) (t : Walking a l m home w i x) (noted : StampNoted a x m w.segment n y) where
   abbrev r : Reading
@@ -55,7 +59,8 @@ module _ (a : About) (l : Known) (m home n i : ℕ) (w : Way) (x y : Known) (t :
     inside = t.inside;
     noted = record {
       deep = noted.deep;
-      owns = λ h own. subst (λ (ks : List Lock). Each (λ (k : Lock). k.map ≡ m → h % power (stamp_depth k.stamp) ≡ k.segment → (k.segment ≡ w.segment) × (stamp_depth k.stamp ≡ stamp_depth n)) ks) (ap (λ (z : Known). z.locks) t.after) (noted.owns h own);
+      owns = λ h own. subst (λ (ks : List Lock). Each (λ (k : Lock). k.map ≡ m → h % power (stamp_depth k.stamp) ≡ k.segment →
+          (k.segment ≡ w.segment) × (stamp_depth k.stamp ≡ stamp_depth n)) ks) (ap (λ (z : Known). z.locks) t.after) (noted.owns h own);
       after = whole;
     };
     here = here;
@@ -69,13 +74,30 @@ module _ (a : About) (l : Known) (m home s n : ℕ) (y : Known) (q : Sought a l 
   still = q.noted.after ∙ (λ j. record l { readings = sym (ap (λ (z : Known). z.readings) q.noted.after) j })
 
 -- what a lock says doesn't depend on what was read before
-pub locks_before : (a : About) (l y : Known) (m s n : ℕ) (z : Known) → y ≡ record l { readings = y.readings } → LocksSegment a y m s n z → LocksSegment a l m s n z
+pub locks_before : (a : About) (l y : Known) (m s n : ℕ) (z : Known) → y ≡ record l { readings = y.readings } → LocksSegment a y m s n z →
+    LocksSegment a l m s n z
 locks_before a l y m s n z after k =
     let q = subst (λ (u : Known). LocksSegment a u m s n z) after k in
-    record { deep = q.deep; known = q.known; words = q.words; sized = q.sized; after = q.after; content = q.content; share = q.share; filled = q.filled; known_is = q.known_is; apart = q.apart; is_known = q.is_known; others = q.others; room = q.room }
+    record {
+      deep = q.deep;
+      known = q.known;
+      words = q.words;
+      sized = q.sized;
+      after = q.after;
+      content = q.content;
+      share = q.share;
+      filled
+          = q.filled;
+      known_is = q.known_is;
+      apart = q.apart;
+      is_known = q.is_known;
+      others = q.others;
+      room = q.room;
+    }
 
 -- nor what a stamp does
-pub sought_before : (a : About) (l y : Known) (m home s n : ℕ) (z : Known) → y ≡ record l { readings = y.readings } → Sought a y m home s n z → Sought a l m home s n z
+pub sought_before : (a : About) (l y : Known) (m home s n : ℕ) (z : Known) → y ≡ record l { readings = y.readings } → Sought a y m home s n
+    z → Sought a l m home s n z
 sought_before a l y m home s n z after k =
     let q = subst (λ (u : Known). Sought a u m home s n z) after k in
     record { inside = q.inside; noted = record { deep = q.noted.deep; owns = q.noted.owns; after = q.noted.after }; here = q.here }
@@ -88,10 +110,15 @@ read_on l y z p q = q ∙ ap (λ (u : Known). record u { readings = z.readings }
 pub as_made : (g : MapShape) → g.grow ≡ false → first_depth g ≡ depth g
 as_made g fixed = ap (λ (y : Bool). if y then 0 else depth g) fixed
 
-module _ (a : About) (l : Known) (m home n : ℕ) (w : Way) (y : Known) (at_w : IsSegment a m w.segment) (on_way : IsOnWay home w) (level : w.level ≡ first_depth (shape_at a m)) (few : w.level ≤ 10) (seen : StampSeen a l m w.segment n y) where
+module _ (a : About) (l : Known) (m home n : ℕ) (w : Way) (y : Known) (at_w : IsSegment a m w.segment) (on_way : IsOnWay home w)
+    (level : w.level ≡ first_depth (shape_at a m)) (few : w.level ≤ 10) (seen : StampSeen a l m w.segment n y) where
   -- the first segment is the home's own in a map that doesn't grow
   first_way : IsWay a m home w.segment []
-  first_way = record { leads = ap (λ (i : ℕ). home % power i) (sym level) ∙ on_way.1; at_once = λ fixed. (refl, (let e : depth (shape_at a m) ≡ w.level = sym (level ∙ as_made (shape_at a m) fixed) in ap (λ (i : ℕ). home % power i) e ∙ on_way.1)) }
+  first_way = record {
+    leads = ap (λ (i : ℕ). home % power i) (sym level) ∙ on_way.1;
+    at_once = λ fixed.
+        (refl, (let e : depth (shape_at a m) ≡ w.level = sym (level ∙ as_made (shape_at a m) fixed) in ap (λ (i : ℕ). home % power i) e ∙ on_way.1));
+  }
 
   pub first_stopped : n % 2 ≡ 1 → Walked a l m home w.segment n y
   first_stopped odd = record {
@@ -114,7 +141,18 @@ module _ (a : About) (l : Known) (m home n : ℕ) (w : Way) (y : Known) (at_w : 
   }
 
   pub first_near : n % 2 ≡ 0 → Approaching a l m home w n [] y
-  first_near even = record { after = seen.1 even; leads = first_way.leads; inside = at_w; even = even; deep = seen.0; on_way = on_way; level = few; few = omega arith; short = omega arith }
+  first_near even = record {
+    after = seen.1 even;
+    leads = first_way.leads;
+    inside = at_w;
+    even = even;
+    deep = seen.0;
+    on_way = on_way;
+    level
+        = few;
+    few = omega arith;
+    short = omega arith;
+  }
 
   pub first_grows : stamp_depth n ≢ w.level → (shape_at a m).grow ≡ true
   first_grows ne = go (shape_at a m).grow refl
@@ -137,7 +175,15 @@ module _ (a : About) (l : Known) (m home n : ℕ) (w : Way) (way : List Sight) (
   grown grows s more leads = record { leads = leads; at_once = λ fixed. absurd (true≢false (sym grows ∙ fixed)) }
 
   pub near_there : (shape_at a m).grow ≡ true → home % power (stamp_depth n) ≡ w.segment → Walked a l m home w.segment n x
-  near_there grows here = record { way = way; is_way = grown grows w.segment way t.leads; short = t.short; inside = t.inside; free = λ _. (t.after, here); locked = λ odd. absurd (let z = t.even in omega arith) }
+  near_there grows here = record {
+    way = way;
+    is_way = grown grows w.segment way t.leads;
+    short = t.short;
+    inside = t.inside;
+    free = λ _.
+        (t.after, here);
+    locked = λ odd. absurd (let z = t.even in omega arith);
+  }
 
   module _ (next : Way) (on_way : IsOnWay home next) (e : IsNextSegment w (stamp_depth n) next) where
     pub near_inside : IsSegment a m next.segment
@@ -176,5 +222,9 @@ module _ (a : About) (l : Known) (m home n : ℕ) (w : Way) (way : List Sight) (
         free = λ even. absurd (omega arith);
         locked = λ _.
             let is = seen.2 odd ∙ ap (λ (z : Known). sighted z (look (Stamp m next.segment) i)) t.after in
-            is ∙ (λ j. record l { readings = sym (ap (λ (z : Known). z.readings) is) j; tally = look (Stamp m next.segment) i ∷ (look (Stamp m w.segment) n ∷ (way ++ l.tally)) });
+            is ∙ (λ j. record l {
+              readings = sym (ap (λ (z : Known). z.readings) is) j;
+              tally = look (Stamp m next.segment) i ∷
+                  (look (Stamp m w.segment) n ∷ (way ++ l.tally));
+            });
       }

@@ -1,5 +1,6 @@
 -- A whole call, from its steps.
-use Rattle.std.proofs.Common.{◌≡◌, ℕ, ◌+◌, ◌-◌, ◌%◌, ◌^◌, ◌<◌, ◌≤◌, ◌⊎◌, inl, inr, ⊎_elim, true, List, [], ◌∷◌, ◌++◌, Option, Some, None, MatchOption, length, length-set, get_or-set_other, slice_index, append_assoc, refl, ap, sym, subst, ◌∙◌}
+use Rattle.std.proofs.Common.{◌≡◌, ℕ, ◌+◌, ◌-◌, ◌%◌, ◌^◌, ◌<◌, ◌≤◌, ◌⊎◌, inl, inr, ⊎_elim, true, List, [], ◌∷◌, ◌++◌, Option, Some, None}
+use Rattle.std.proofs.Common.{MatchOption, length, length-set, get_or-set_other, slice_index, append_assoc, refl, ap, sym, subst, ◌∙◌}
 use Rattle.bpf_shared.specs.Shape.{IsPairOf, IsKeyOf}
 use Rattle.bpf_shared.specs.declared.shapes.MapShape.{MapShape}
 use Rattle.bpf_shared.specs.History.{events_of, entry}
@@ -41,21 +42,51 @@ saw_as a l l1 ev s c e w = record {
   legal = w.legal;
 }
 
-pub pair_at : (a : About) (m : ℕ) (key bytes : List ℕ) → IsPairOf a.shape.maps m key bytes → (m < length a.shape.maps) × (length key ≡ (shape_at a m).key) × (length bytes ≡ (shape_at a m).value)
+pub pair_at : (a : About) (m : ℕ) (key bytes : List ℕ) → IsPairOf a.shape.maps m key bytes → (m < length a.shape.maps) ×
+    (length key ≡ (shape_at a m).key) × (length bytes ≡ (shape_at a m).value)
 pair_at a m key bytes p =
     let t = map_of a.shape m p.0 p.1 in
     (t.0, p.2 ∙ ap (λ (g : MapShape). g.key) (sym t.1), p.3 ∙ ap (λ (g : MapShape). g.value) (sym t.1))
 
 -- ---- looking for a free element
 pub keeps_sees : (m : ℕ) (l l1 : Known) (more : List Sight) → Each LeavesLocks more → NotesSights l more l1 → KeepsBatches m l l1
-keeps_sees m l l1 more leave s = subst (KeepsBatches m l) (sym s) (record { cpu = refl; seen = refl; fresh = refl; locks = refl; readings = refl; size = refl; others = λ n ne. refl; used = refl; sights = (more, refl, leave) })
+keeps_sees m l l1 more leave s = subst (KeepsBatches m l) (sym s)
+    (record {
+      cpu = refl;
+      seen = refl;
+      fresh = refl;
+      locks = refl;
+      readings = refl;
+      size = refl;
+      others = λ n ne. refl;
+      used = refl;
+      sights
+          = (more, refl, leave);
+    })
 
 pub keeps_holding : (m e : ℕ) (l l1 : Known) → KeepsBatches m l l1 → KeepsBatches m (holding l m e) (holding l1 m e)
-keeps_holding m e l l1 p = record { cpu = p.cpu; seen = p.seen; fresh = λ j. record { map = m; element = e; update = updates_of m (events_of (p.cpu j) (p.seen j)); key = []; value = [] } ∷ p.fresh j; locks = p.locks; readings = p.readings; size = p.size; others = p.others; used = p.used; sights = p.sights }
+keeps_holding m e l l1 p = record {
+  cpu = p.cpu;
+  seen = p.seen;
+  fresh = λ j. record
+      { map = m; element = e; update = updates_of m (events_of (p.cpu j) (p.seen j)); key = []; value = [] } ∷ p.fresh j;
+  locks = p.locks;
+  readings = p.readings;
+  size = p.size;
+  others = p.others;
+  used = p.used;
+  sights = p.sights;
+}
 
 -- what was claimed with an empty hand is for the next update
 pub holds_new : (l l' : Known) (m e : ℕ) → l.fresh ≡ [] → KeepsBatches m (holding l m e) l' → HoldsNew l' m e
-holds_new l l' m e none p = p.fresh ∙ (λ j. record { map = m; element = e; update = updates_of m (events_of (sym p.cpu j) (sym p.seen j)); key = []; value = [] } ∷ none j)
+holds_new l l' m e none p = p.fresh ∙ (λ j. record {
+  map = m;
+  element = e;
+  update = updates_of m (events_of (sym p.cpu j) (sym p.seen j));
+  key = [];
+  value = [];
+} ∷ none j)
 
 each_still : (m : ℕ) (ss : List Sight) → Each IsLook ss → Each (LeavesElements m) ss
 each_still m [] t = tt
@@ -88,7 +119,8 @@ pub in_vain_after : (a : About) (m : ℕ) (l k l' : Known) → KeepsBatches m l 
 in_vain_after a m l k l' kept p = record {
   sooner = p.sooner ++ kept.sights.0;
   later = p.later;
-  sights = p.sights ∙ ap (λ (z : List Sight). p.later ++ z) (ap (λ (z : List Sight). p.sooner ++ z) kept.sights.1 ∙ sym (append_assoc p.sooner kept.sights.0 l.tally));
+  sights = p.sights ∙ ap (λ (z : List Sight). p.later ++ z) (ap (λ (z : List Sight). p.sooner ++ z) kept.sights.1 ∙ sym
+      (append_assoc p.sooner kept.sights.0 l.tally));
   still = p.still;
   kept = ⊎_elim
       (λ none. inl none)
@@ -98,7 +130,8 @@ in_vain_after a m l k l' kept p = record {
 }
 
 -- and something more was noted, that left the map's elements
-pub searched_on : (a : About) (l : Known) (m : ℕ) (l1 l2 : Known) (k : Sight) → SearchesInVain a l m l1 → LeavesElements m k → l2.tally ≡ k ∷ l1.tally → l2.limbo ≡ l1.limbo → SearchesInVain a l m l2
+pub searched_on : (a : About) (l : Known) (m : ℕ) (l1 l2 : Known) (k : Sight) → SearchesInVain a l m l1 → LeavesElements m k → l2.tally ≡ k
+    ∷ l1.tally → l2.limbo ≡ l1.limbo → SearchesInVain a l m l2
 searched_on a l m l1 l2 k p leaves more same = record {
   sooner = p.sooner;
   later = k ∷ p.later;
@@ -106,7 +139,8 @@ searched_on a l m l1 l2 k p leaves more same = record {
   still = (leaves, p.still);
   kept = subst (λ (ls : List Limbo).
       (((limbo_at ls m).old ≡ []) × ((limbo_at ls m).young ≡ []))
-      ⊎ ((d : ℕ) × (more : List Sight) × (p.sooner ≡ look (RunCount d) (slice_index (limbo_at ls m).noted d) ∷ more) × (slice_index (limbo_at ls m).noted d % 2 ≡ 1))) (sym same) p.kept;
+      ⊎ ((d : ℕ) × (more : List Sight) × (p.sooner ≡ look (RunCount d) (slice_index (limbo_at ls m).noted d) ∷ more) ×
+      (slice_index (limbo_at ls m).noted d % 2 ≡ 1))) (sym same) p.kept;
   taken = λ e few. inr (p.taken e few);
 }
 
@@ -126,7 +160,8 @@ saw_all a l m l1 empty p = record {
 }
 
 pub saw_locked : (a : About) (l : Known) (m s n : ℕ) (l2 : Known) → LocksSegment a l m s n l2 → SawAllTaken a l m → SawAllTaken a l2 m
-saw_locked a l m s n l2 t p = subst (λ (q : Known). SawAllTaken a q m) (sym t.after) (record { hand = p.hand; taken = λ e few. (lock_leaves m m s n, inr (p.taken e few)) })
+saw_locked a l m s n l2 t p = subst (λ (q : Known). SawAllTaken a q m) (sym t.after)
+    (record { hand = p.hand; taken = λ e few. (lock_leaves m m s n, inr (p.taken e few)) })
 
 pub missed_keeps : (a : About) (m : ℕ) (l l1 : Known) → Misses a l m l1 → KeepsBatches m l l1
 missed_keeps a m l l1 p = keeps_sees m l l1 p.0 (looks_leave p.0 p.1.1) p.1.0
@@ -163,7 +198,8 @@ pub kept_runs : (m : ℕ) (l l1 : Known) → KeepsBatches m l l1 → in_run (eve
 kept_runs m l l1 k runs = (λ j. in_run (events_of (k.cpu j) (k.seen j))) ∙ runs
 
 -- ---- the answer
-pub lacks_of : (a : About) (l : Known) (m : ℕ) (r : MapAnswer) (l2 : Known) → (r ≡ Busy → 2 ^ 56 - 1 ≤ a.version + gained (shape_at a m) + done_in m l2.seen) → (r ≡ NoMemory → SearchesInVain a l m l2) → IsShortage a l m r l2
+pub lacks_of : (a : About) (l : Known) (m : ℕ) (r : MapAnswer) (l2 : Known) →
+    (r ≡ Busy → 2 ^ 56 - 1 ≤ a.version + gained (shape_at a m) + done_in m l2.seen) → (r ≡ NoMemory → SearchesInVain a l m l2) → IsShortage a l m r l2
 lacks_of a l m Done l2 worn none = tt
 lacks_of a l m Invalid l2 worn none = tt
 lacks_of a l m Busy l2 worn none = worn refl
@@ -175,7 +211,8 @@ lacks_of a l m NoMemory l2 worn none = none refl
 pub key_at_map : (a : About) (m : ℕ) (key : List ℕ) → IsKeyOf a.shape.maps m key → (m < length a.shape.maps) × (length key ≡ (shape_at a m).key)
 key_at_map a m key p = let t = map_of a.shape m p.0 p.1 in (t.0, p.2 ∙ ap (λ (g : MapShape). g.key) (sym t.1))
 
-pub kept_called : (a : About) (l : Known) (k : Sight) (m : ℕ) (key : List ℕ) (r : MapAnswer) (l2 : Known) → IsBetweenCalls l m → Kept a (locked_with l k) m key r l2 → IsOneCall a l m (Delete m key r) l2
+pub kept_called : (a : About) (l : Known) (k : Sight) (m : ℕ) (key : List ℕ) (r : MapAnswer) (l2 : Known) → IsBetweenCalls l m → Kept a
+    (locked_with l k) m key r l2 → IsOneCall a l m (Delete m key r) l2
 kept_called a l k m key r l2 rests p = record {
   seen = saw_as a l (locked_with l k) (Delete m key r) l2.seen refl refl p.seen;
   rests = record {
@@ -188,19 +225,22 @@ kept_called a l k m key r l2 rests p = record {
   others = λ n ne. ap (λ (q : Known). limbo_at q.limbo n) p.after;
 }
 
-module _ (a : About) (l : Known) (k : Sight) (m : ℕ) (key : List ℕ) (old : ℕ) (l2 : Known) (rests : IsBetweenCalls l m) (room : m < length l.limbo) (p : Dropped a (locked_with l k) m key old l2) where
+module _ (a : About) (l : Known) (k : Sight) (m : ℕ) (key : List ℕ) (old : ℕ) (l2 : Known) (rests : IsBetweenCalls l m)
+    (room : m < length l.limbo) (p : Dropped a (locked_with l k) m key old l2) where
   pub dropped_limbo : l2.limbo ≡ with_gone l m old
   dropped_limbo = ap (λ (q : Known). q.limbo) p.after
 
   dropped_used : (limbo_at l2.limbo m).used ≡ old ∷ []
   dropped_used = ap (λ (ls : List Limbo). (limbo_at ls m).used) dropped_limbo
-      ∙ (ap (λ (z : Limbo). z.used) (at_set l m (record (limbo_at l.limbo m) { used = old ∷ (limbo_at l.limbo m).used }) room) ∙ ap (λ (us : List ℕ). old ∷ us) rests.used)
+      ∙ (ap (λ (z : Limbo). z.used) (at_set l m (record (limbo_at l.limbo m) { used = old ∷ (limbo_at l.limbo m).used }) room) ∙ ap
+      (λ (us : List ℕ). old ∷ us) rests.used)
 
   pub dropped_front : (limbo_at l2.limbo m).used ≡ old ∷ tail_of (limbo_at l2.limbo m).used
   dropped_front = dropped_used ∙ ap (λ (us : List ℕ). old ∷ us) (sym (ap tail_of dropped_used))
 
   dropped_size : length l2.limbo ≡ length l.limbo
-  dropped_size = ap (λ (ls : List Limbo). length ls) dropped_limbo ∙ length-set l.limbo m (record (limbo_at l.limbo m) { used = old ∷ (limbo_at l.limbo m).used })
+  dropped_size = ap (λ (ls : List Limbo). length ls) dropped_limbo ∙ length-set l.limbo m
+      (record (limbo_at l.limbo m) { used = old ∷ (limbo_at l.limbo m).used })
 
   pub dropped_called : (l3 : Known) → l3 ≡ retiring l2 m old (tail_of (limbo_at l2.limbo m).used) → IsOneCall a l m (Delete m key Done) l3
   dropped_called l3 retired =
@@ -216,5 +256,6 @@ module _ (a : About) (l : Known) (k : Sight) (m : ℕ) (key : List ℕ) (old : �
         cpu = ap (λ (q : Known). q.cpu) p.after;
         size = length-set l2.limbo m x ∙ dropped_size;
         others = λ n ne. get_or-set_other l2.limbo m n x no_limbo ne
-            ∙ (ap (λ (ls : List Limbo). limbo_at ls n) dropped_limbo ∙ get_or-set_other l.limbo m n (record (limbo_at l.limbo m) { used = old ∷ (limbo_at l.limbo m).used }) no_limbo ne);
+            ∙ (ap (λ (ls : List Limbo). limbo_at ls n) dropped_limbo ∙ get_or-set_other l.limbo m n
+            (record (limbo_at l.limbo m) { used = old ∷ (limbo_at l.limbo m).used }) no_limbo ne);
       })

@@ -1,5 +1,6 @@
 -- What a write leaves of the segment as it is seen.
-use Rattle.std.proofs.Common.{◌≡◌, ℕ, suc, zero, ◌+◌, ◌<◌, ◌^◌, ◌%◌, nat_lt, Bool, true, false, ◌==◌, if◌then◌else◌, Option, Some, None, refl, ap, ◌∙◌, arith, eq-eqb, ◌≢◌, sym, subst}
+use Rattle.std.proofs.Common.{◌≡◌, ℕ, suc, zero, ◌+◌, ◌<◌, ◌^◌, ◌%◌, nat_lt, Bool, true, false, ◌==◌, if◌then◌else◌, Option, Some, None}
+use Rattle.std.proofs.Common.{refl, ap, ◌∙◌, arith, eq-eqb, ◌≢◌, sym, subst}
 use Rattle.std.specs.Prelude.{IfSome}
 use Rattle.std.proofs.lemmas.Bool.Decides.{nat_tests}
 use Rattle.hop_layout.specs.declared.place.Place.{Place}
@@ -28,7 +29,8 @@ item_word (Some e) small = go (e + 1) refl
     go zero h = absurd (omega arith)
     go (suc n) h =
         let same : n ≡ e = omega arith in
-        (λ j. if nat_lt (same j) (2 ^ 32) then Some (same j) else None) ∙ ap (λ (b : Bool). if b then Some e else None) (let z : nat_lt e (2 ^ 32) ≡ true = (let l : e < 2 ^ 32 = small in grind (arith, nat_tests)) in z)
+        (λ j. if nat_lt (same j) (2 ^ 32) then Some (same j) else None) ∙ ap (λ (b : Bool). if b then Some e else None)
+        (let z : nat_lt e (2 ^ 32) ≡ true = (let l : e < 2 ^ 32 = small in grind (arith, nat_tests)) in z)
 
 low : (n : ℕ) → n < 2 ^ 32 → n % 2 ^ 32 ≡ n
 low n l = omega arith
@@ -48,33 +50,47 @@ module _ (x : Locked) (r : Ready x.about x.known x.map x.segment) where
   choose f true n k = refl
   choose f false n k = refl
 
-  pub hop_set : (b n : ℕ) (y : Locked) → n < 2 ^ 32 → is_place x.about.shape (Hop x.map x.segment b) ≡ true → y ≡ written x (Hop x.map x.segment b) n → seen_words y ≡ with_hop (seen_words x) b n
+  pub hop_set : (b n : ℕ) (y : Locked) → n < 2 ^ 32 → is_place x.about.shape (Hop x.map x.segment b) ≡ true → y ≡ written x
+      (Hop x.map x.segment b) n → seen_words y ≡ with_hop (seen_words x) b n
   unfolding seen w
-  hop_set b n y small there is = ap seen_words is ∙ (after (Hop x.map x.segment b) n there ∙ ap (λ (h : ℕ → ℕ). record (seen_words x) { hop = h }) (λ j d. each d j))
+  hop_set b n y small there is = ap seen_words is ∙ (after (Hop x.map x.segment b) n there ∙ ap
+      (λ (h : ℕ → ℕ). record (seen_words x) { hop = h }) (λ j d. each d j))
     where
       each : (d : ℕ) → put_at w (Hop x.map x.segment b) n (Hop x.map x.segment d) % 2 ^ 32 ≡ replace_at (λ d. w (Hop x.map x.segment d) % 2 ^ 32) b n d
-      each d = rw (eq-eqb x.map x.map refl, eq-eqb x.segment x.segment refl) (choose (λ i. i % 2 ^ 32) (d == b) n (w (Hop x.map x.segment d)) ∙ ap (λ i. if d == b then i else w (Hop x.map x.segment d) % 2 ^ 32) (low n small))
+      each d = rw (eq-eqb x.map x.map refl, eq-eqb x.segment x.segment refl)
+          (choose (λ i. i % 2 ^ 32) (d == b) n (w (Hop x.map x.segment d)) ∙ ap
+          (λ i. if d == b then i else w (Hop x.map x.segment d) % 2 ^ 32) (low n small))
 
-  pub slot_set : (p : ℕ) (o : Option ℕ) (y : Locked) → IfSome o (λ e. e < 2 ^ 32) → is_place x.about.shape (Slot x.map x.segment p) ≡ true → y ≡ written x (Slot x.map x.segment p) (link_word o) → seen_words y ≡ with_slot (seen_words x) p o
+  pub slot_set : (p : ℕ) (o : Option ℕ) (y : Locked) → IfSome o (λ e. e < 2 ^ 32) → is_place x.about.shape (Slot x.map x.segment p) ≡ true →
+      y ≡ written x (Slot x.map x.segment p) (link_word o) → seen_words y ≡ with_slot (seen_words x) p o
   unfolding seen w
-  slot_set p o y small there is = ap seen_words is ∙ (after (Slot x.map x.segment p) (link_word o) there ∙ ap (λ (h : ℕ → Option ℕ). record (seen_words x) { slot = h }) (λ j d. each d j))
+  slot_set p o y small there is = ap seen_words is ∙ (after (Slot x.map x.segment p) (link_word o) there ∙ ap
+      (λ (h : ℕ → Option ℕ). record (seen_words x) { slot = h }) (λ j d. each d j))
     where
-      each : (d : ℕ) → item (put_at w (Slot x.map x.segment p) (link_word o) (Slot x.map x.segment d)) ≡ replace_at (λ d. item (w (Slot x.map x.segment d))) p o d
-      each d = rw (eq-eqb x.map x.map refl, eq-eqb x.segment x.segment refl) (choose item (d == p) (link_word o) (w (Slot x.map x.segment d)) ∙ ap (λ (i : Option ℕ). if d == p then i else item (w (Slot x.map x.segment d))) (item_word o small))
+      each : (d : ℕ) → item (put_at w (Slot x.map x.segment p) (link_word o) (Slot x.map x.segment d)) ≡ replace_at
+          (λ d. item (w (Slot x.map x.segment d))) p o d
+      each d = rw (eq-eqb x.map x.map refl, eq-eqb x.segment x.segment refl)
+          (choose item (d == p) (link_word o) (w (Slot x.map x.segment d)) ∙ ap
+          (λ (i : Option ℕ). if d == p then i else item (w (Slot x.map x.segment d))) (item_word o small))
 
-  pub head_set : (o : Option ℕ) (y : Locked) → IfSome o (λ e. e < 2 ^ 32) → is_place x.about.shape (Head x.map x.segment) ≡ true → y ≡ written x (Head x.map x.segment) (link_word o) → seen_words y ≡ with_head (seen_words x) o
+  pub head_set : (o : Option ℕ) (y : Locked) → IfSome o (λ e. e < 2 ^ 32) → is_place x.about.shape (Head x.map x.segment) ≡ true → y ≡
+      written x (Head x.map x.segment) (link_word o) → seen_words y ≡ with_head (seen_words x) o
   unfolding seen w
-  head_set o y small there is = ap seen_words is ∙ (after (Head x.map x.segment) (link_word o) there ∙ ap (λ (h : Option ℕ). record (seen_words x) { head = h }) here)
+  head_set o y small there is = ap seen_words is ∙ (after (Head x.map x.segment) (link_word o) there ∙ ap
+      (λ (h : Option ℕ). record (seen_words x) { head = h }) here)
     where
       here : item (put_at w (Head x.map x.segment) (link_word o) (Head x.map x.segment)) ≡ o
       here = rw (eq-eqb x.map x.map refl, eq-eqb x.segment x.segment refl) (item_word o small)
 
-  pub next_set : (e : ℕ) (o : Option ℕ) (y : Locked) → IfSome o (λ e. e < 2 ^ 32) → is_place x.about.shape (Link x.map e) ≡ true → y ≡ written x (Link x.map e) (link_word o) → seen_words y ≡ with_next (seen_words x) e o
+  pub next_set : (e : ℕ) (o : Option ℕ) (y : Locked) → IfSome o (λ e. e < 2 ^ 32) → is_place x.about.shape (Link x.map e) ≡ true → y ≡
+      written x (Link x.map e) (link_word o) → seen_words y ≡ with_next (seen_words x) e o
   unfolding seen w
-  next_set e o y small there is = ap seen_words is ∙ (after (Link x.map e) (link_word o) there ∙ ap (λ (h : ℕ → Option ℕ). record (seen_words x) { next = h }) (λ j d. each d j))
+  next_set e o y small there is = ap seen_words is ∙ (after (Link x.map e) (link_word o) there ∙ ap
+      (λ (h : ℕ → Option ℕ). record (seen_words x) { next = h }) (λ j d. each d j))
     where
       each : (d : ℕ) → item (put_at w (Link x.map e) (link_word o) (Link x.map d)) ≡ replace_at (λ d. item (w (Link x.map d))) e o d
-      each d = rw (eq-eqb x.map x.map refl) (choose item (d == e) (link_word o) (w (Link x.map d)) ∙ ap (λ (i : Option ℕ). if d == e then i else item (w (Link x.map d))) (item_word o small))
+      each d = rw (eq-eqb x.map x.map refl) (choose item (d == e) (link_word o) (w (Link x.map d)) ∙ ap
+          (λ (i : Option ℕ). if d == e then i else item (w (Link x.map d))) (item_word o small))
 
 -- ---- the words of the segment that would be born here
 abbrev c_of : Locked → ℕ
@@ -97,7 +113,8 @@ module _ (x : Locked) (r : Ready x.about x.known x.map x.segment) (p : Place) (n
   unfolding front wc
   now = ap front (wrote x.about.shape (lock_of x.known).copy p n r.sized there)
 
-  pub front_kept : ((j : ℕ) → Hop x.map (c_of x) j ≢ p) → ((j : ℕ) → Slot x.map (c_of x) j ≢ p) → Head x.map (c_of x) ≢ p → (y : Locked) → y ≡ written x p n → child_front y ≡ child_front x
+  pub front_kept : ((j : ℕ) → Hop x.map (c_of x) j ≢ p) → ((j : ℕ) → Slot x.map (c_of x) j ≢ p) → Head x.map (c_of x) ≢ p → (y : Locked) → y
+      ≡ written x p n → child_front y ≡ child_front x
   unfolding front wc
   front_kept hop slot head y is = ap child_front is ∙ (now ∙ (λ j. record {
     hop = λ b. put_else wc p (Hop x.map (c_of x) b) n (hop b) j % 2 ^ 32;
@@ -116,7 +133,8 @@ module _ (x : Locked) (r : Ready x.about x.known x.map x.segment) (p : Place) (n
       (λ e. apart (ap segment_at e ∙ (own ∙ sym r.segment)))
 
 pub stays_by : (x : Locked) (p : Place) (n : ℕ) (y : Locked) → child_front y ≡ child_front x → y ≡ written x p n → Stays x y
-stays_by x p n y kept is = subst (λ (z : Locked). child_front z ≡ child_front x → Stays x z) (sym is) (λ k. record { table = refl; about = refl; map = refl; segment = refl; known = refl; lock = refl; child = k }) kept
+stays_by x p n y kept is = subst (λ (z : Locked). child_front z ≡ child_front x → Stays x z) (sym is)
+    (λ k. record { table = refl; about = refl; map = refl; segment = refl; known = refl; lock = refl; child = k }) kept
 
 pub stays_beside_by : (x : Locked) (p : Place) (n : ℕ) (y : Locked) → y ≡ written x p n → StaysBeside x y
 stays_beside_by x p n y is = subst (StaysBeside x) (sym is) (record { table = refl; about = refl; map = refl; segment = refl; known = refl; lock = refl })

@@ -12,7 +12,8 @@ use Rattle.hop_layout.proofs.Layouts.{wrote}
 use Rattle.hop_map.specs.LockedSegment.{knows, Ready}
 use Rattle.hop_map.specs.Private.LockedSegment.{IsNoKey}
 
-pub written_ready : (a : About) (l : Known) (m s : ℕ) (p : Place) (n : ℕ) → Ready a l m s → is_place a.shape p ≡ true → IsNoKey p → Ready a (writing a l (lock_of l) p n) m s
+pub written_ready : (a : About) (l : Known) (m s : ℕ) (p : Place) (n : ℕ) → Ready a l m s → is_place a.shape p ≡ true → IsNoKey p → Ready a
+    (writing a l (lock_of l) p n) m s
 written_ready a l m s p n r there no_key = record {
   held = refl;
   map = r.map;

@@ -47,19 +47,23 @@ pub record Ahead (w : Words) (P : ℕ → Type 0) (before : Option ℕ) (e : ℕ
   pub onward : steps w.fixed.limit w.next (w.next e) ≡ length rest
   pub short : length rest ≤ w.fixed.limit
 
-link_of : (w : Words) (before : Option ℕ) (e : ℕ) (rest : List ℕ) → IsInOverflow w e → MatchOption before (w.head ≡ Some e) (λ p. IsInOverflow w p × (w.next p ≡ Some e) × (Among p rest → ⊥)) → IsLink w before e
+link_of : (w : Words) (before : Option ℕ) (e : ℕ) (rest : List ℕ) → IsInOverflow w e → MatchOption before (w.head ≡ Some e)
+    (λ p. IsInOverflow w p × (w.next p ≡ Some e) × (Among p rest → ⊥)) → IsLink w before e
 link_of w None e rest l h = record { leads = h; listed = l }
 link_of w (Some p) e rest l h = record { leads = (h.0, h.1); listed = l }
 
-ahead : (w : Words) (s : Sound w) (P : ℕ → Type 0) (before : Option ℕ) (e : ℕ) (xs : List ℕ) → Chain w.next (Some e) xs → KeysDiffer w.fixed.key xs → ((x : ℕ) → Among x xs → IsInOverflow w x)
-    → ((x : ℕ) → IsInOverflow w x → Among x xs ⊎ P x) → MatchOption before (w.head ≡ Some e) (λ p. IsInOverflow w p × (w.next p ≡ Some e) × (Among p xs → ⊥)) → Ahead w P before e
+ahead : (w : Words) (s : Sound w) (P : ℕ → Type 0) (before : Option ℕ) (e : ℕ) (xs : List ℕ) → Chain w.next (Some e) xs → KeysDiffer
+    w.fixed.key xs → ((x : ℕ) → Among x xs → IsInOverflow w x)
+    → ((x : ℕ) → IsInOverflow w x → Among x xs ⊎ P x) → MatchOption before (w.head ≡ Some e)
+    (λ p. IsInOverflow w p × (w.next p ≡ Some e) × (Among p xs → ⊥)) → Ahead w P before e
 ahead w s P before e [] c d l p k = let no : ◌≡◌ {A = Option ℕ} (Some e) None = c in cc
 ahead w s P before e (x ∷ xs) c d l p k =
     let both : ◌≡◌ {A = Option ℕ} (Some e) (Some x) = c.0 in
     let same : e ≡ x = cc in
     let list : x ∷ xs ≡ e ∷ xs = ap (λ (z : ℕ). z ∷ xs) (sym same) in
     let onward : Chain w.next (w.next e) xs = subst (λ (z : ℕ). Chain w.next (w.next z) xs) (sym same) c.1 in
-    let fits : length (x ∷ xs) ≤ w.fixed.limit = length-within w.fixed.key (x ∷ xs) w.fixed.limit d (λ y m. (s.listed_own y (listed_among w s y (l y m))).known.1) in
+    let fits : length (x ∷ xs) ≤ w.fixed.limit = length-within w.fixed.key (x ∷ xs) w.fixed.limit d
+    (λ y m. (s.listed_own y (listed_among w s y (l y m))).known.1) in
     record {
       rest = xs;
       chain = onward;
@@ -108,12 +112,14 @@ pub record Counted (w : Words) (P : ℕ → Type 0) (before at : Option ℕ) (pa
 pub counted_begins : (w : Words) (s : Sound w) (P : ℕ → Type 0) → Counted w P None w.head 0
 counted_begins w s P = record { walk = walk_begins w s P; short = omega (arith, steps-within w.fixed.limit w.next w.head) }
 
-pub counted_on : (w : Words) (s : Sound w) (P : ℕ → Type 0) (before : Option ℕ) (e passed : ℕ) → Counted w P before (Some e) passed → P e → Counted w P (Some e) (w.next e) (passed + 1)
+pub counted_on : (w : Words) (s : Sound w) (P : ℕ → Type 0) (before : Option ℕ) (e passed : ℕ) → Counted w P before (Some e) passed → P e →
+    Counted w P (Some e) (w.next e) (passed + 1)
 counted_on w s P before e passed k holds =
     let here = walk_at w s P before e k.walk in
     record { walk = walk_on w P before e here holds; short = omega (arith, here.long, here.onward, k.short) }
 
 -- as many as there are elements are all
-pub counted_ends : (w : Words) (s : Sound w) (P : ℕ → Type 0) (before at : Option ℕ) (passed : ℕ) → w.fixed.limit ≤ passed → Counted w P before at passed → (e : ℕ) → IsInOverflow w e → P e
+pub counted_ends : (w : Words) (s : Sound w) (P : ℕ → Type 0) (before at : Option ℕ) (passed : ℕ) → w.fixed.limit ≤ passed → Counted w P
+    before at passed → (e : ℕ) → IsInOverflow w e → P e
 counted_ends w s P before None passed all k e l = walk_ends w P before k.walk e l
 counted_ends w s P before (Some x) passed all k e l = let here = walk_at w s P before x k.walk in absurd (omega (arith, here.long, k.short))

@@ -20,7 +20,8 @@ pub first_segment : (a : About) → 0 < length a.shape.maps → IsSegment a 0 0
 first_segment a some = (some, some_power (depth (shape_at a 0)))
 
 pub lanes_are_new : (a b : About) (ls : List Known) → b ≡ a → ls ≡ lanes_from a 0 a.shape.cpus → All (IsNewLane b) ls
-lanes_are_new a b ls same is = subst (λ (z : About). All (IsNewLane z) ls) (sym same) (subst (All (IsNewLane a)) (sym is) (lanes_new a 0 a.shape.cpus (omega arith)))
+lanes_are_new a b ls same is = subst (λ (z : About). All (IsNewLane z) ls) (sym same)
+    (subst (All (IsNewLane a)) (sym is) (lanes_new a 0 a.shape.cpus (omega arith)))
 
 pub first_new : (a : About) (l : Known) (old rest : List Known) → old ≡ l ∷ rest → All (IsNewLane a) old → IsNewLane a l
 first_new a l old rest is all = All-head (IsNewLane a) l rest (subst (All (IsNewLane a)) is all)

@@ -1,5 +1,6 @@
 -- The steps on words of values as code makes them.
-use Rattle.std.proofs.Common.{◌≡◌, ℕ, ◌+◌, ◌%◌, ◌<◌, true, false, Bool, ◌==◌, length, refl, ap, sym, subst, ◌∙◌, arith, bit_and, bit_or, bit_xor, if◌then◌else◌, ◌≤◌, ◌*◌}
+use Rattle.std.proofs.Common.{◌≡◌, ℕ, ◌+◌, ◌%◌, ◌<◌, true, false, Bool, ◌==◌, length, refl, ap, sym, subst, ◌∙◌, arith, bit_and, bit_or}
+use Rattle.std.proofs.Common.{bit_xor, if◌then◌else◌, ◌≤◌, ◌*◌}
 use Rattle.std.proofs.lemmas.Bool.{lt-ltb}
 use prog.Atomic.{either}
 use Rattle.bpf_base.specs.Bytes.{low_bytes, with_part}
@@ -27,14 +28,23 @@ use Rattle.hop_words.proofs.FixedPlaces.{inside_words}
 use Rattle.hop_words.proofs.FixedWords.{fixed_store, fixed_fetch}
 
 pub value_there : (a : About) (l : Known) (m e k o n : ℕ) → TouchesHeldValue a l m e k o n → is_place a.shape (ValueWord m e k) ≡ true
-value_there a l m e k o n t = rw (lt-ltb m (length a.shape.maps) t.element.0, lt-ltb e (elements (shape_at a m)) t.element.1, lt-ltb k (words_for (shape_at a m).value) t.word) refl
+value_there a l m e k o n t = rw (
+  lt-ltb m (length a.shape.maps) t.element.0,
+  lt-ltb e (elements (shape_at a m)) t.element.1,
+  lt-ltb k
+      (words_for (shape_at a m).value) t.word,
+) refl
 
 -- a word read whole
 pub found_whole : (n : ℕ) → n < 18446744073709551616 → number_in_word n 0 8 ≡ n
 found_whole n small = little_endian-low_bytes 8 n small
 
 pub fixed_there : (a : About) (l : Known) (b k o n : ℕ) → TouchesFixedValue a l b k o n → 1 ≤ n → is_place a.shape (FixedWord b k) ≡ true
-fixed_there a l b k o n t some = rw (lt-ltb b (length a.shape.arrays) t.array, lt-ltb k (array_words a.shape b) (inside_words a.shape.cpus (array_at a b) (8 * k + o) n k t.within some (let f = t.fits in omega arith))) refl
+fixed_there a l b k o n t some = rw (
+  lt-ltb b (length a.shape.arrays) t.array,
+  lt-ltb k (array_words a.shape b)
+      (inside_words a.shape.cpus (array_at a b) (8 * k + o) n k t.within some (let f = t.fits in omega arith)),
+) refl
 
 -- ---- whole words
 -- fetch operations and swaps on the word at p, whose first byte has this address
@@ -44,7 +54,8 @@ Fetches a l p address = (op : Change) (operand expected : ℕ) (f : ℕ → ℕ)
 
 -- they are those of all bytes from the first on
 fetches : (a : About) (l : Known) (p : Place) (address o : ℕ) → o ≡ 0 → ((op : Change) (operand expected : ℕ) (f : ℕ → ℕ)
-    → ((n : ℕ) → n < 18446744073709551616 → low_bytes 8 (f n) ≡ with_part (low_bytes 8 n) o (low_bytes 8 (number_after op 8 (number_in_word n o 8) operand expected)))
+    → ((n : ℕ) → n < 18446744073709551616 → low_bytes 8 (f n) ≡ with_part (low_bytes 8 n) o
+    (low_bytes 8 (number_after op 8 (number_in_word n o 8) operand expected)))
     → Steps a l p f (λ ws n l'. AddsEvent a l (Atomic address Double op operand expected (number_in_word n o 8)) l')) → Fetches a l p address
 fetches a l p address o first all op operand expected f same ws g sized r is inside fits =
     let n = mem a.shape ws p in
@@ -61,10 +72,12 @@ fetches a l p address o first all op operand expected f same ws g sized r is ins
     found : (i : ℕ) → i < 18446744073709551616 → number_in_word i o 8 ≡ i
     found i small = ap (λ (q : ℕ). number_in_word i q 8) first ∙ found_whole i small
 
-    splices : (i : ℕ) → i < 18446744073709551616 → low_bytes 8 (f i) ≡ with_part (low_bytes 8 i) o (low_bytes 8 (number_after op 8 (number_in_word i o 8) operand expected))
+    splices : (i : ℕ) → i < 18446744073709551616 → low_bytes 8 (f i) ≡ with_part (low_bytes 8 i) o
+        (low_bytes 8 (number_after op 8 (number_in_word i o 8) operand expected))
     splices i small =
         whole_word i (f i)
-        ∙ (ap (λ (z : ℕ). with_part (low_bytes 8 i) 0 (low_bytes 8 z)) (same i small ∙ ap (λ (z : ℕ). number_after op 8 z operand expected) (sym (found i small)))
+        ∙ (ap (λ (z : ℕ). with_part (low_bytes 8 i) 0 (low_bytes 8 z))
+        (same i small ∙ ap (λ (z : ℕ). number_after op 8 z operand expected) (sym (found i small)))
         ∙ ap (λ (q : ℕ). with_part (low_bytes 8 i) q (low_bytes 8 (number_after op 8 (number_in_word i o 8) operand expected))) (sym first))
 
 all_bytes : (o x n : ℕ) → o ≡ 0 → low_bytes 8 x ≡ with_part (low_bytes 8 n) o (low_bytes 8 x)
@@ -78,7 +91,8 @@ module _ (a : About) (l : Known) (p : ValuePart) (t : TouchesWord a l p) where
   stores x = value_store a l p.map p.element p.word p.offset Double t x x (λ n. all_bytes p.offset x n first)
 
   pub value_fetches : Fetches a l (ValueWord p.map p.element p.word) (part_address a p)
-  value_fetches = fetches a l (ValueWord p.map p.element p.word) (part_address a p) p.offset first (λ op operand expected f splices. value_fetch a l p.map p.element p.word p.offset Double t op operand expected f splices)
+  value_fetches = fetches a l (ValueWord p.map p.element p.word) (part_address a p) p.offset first
+      (λ op operand expected f splices. value_fetch a l p.map p.element p.word p.offset Double t op operand expected f splices)
 
 module _ (a : About) (l : Known) (p : FixedPart) (t : ChangesFixedWord a l p) where
   fixed_first : p.offset ≡ 0
@@ -88,9 +102,11 @@ module _ (a : About) (l : Known) (p : FixedPart) (t : ChangesFixedWord a l p) wh
   fixed_stores x = fixed_store a l p.array p.word p.offset Double t x x (λ n. all_bytes p.offset x n fixed_first)
 
   pub fixed_fetches : Fetches a l (FixedWord p.array p.word) (fixed_part_address p)
-  fixed_fetches = fetches a l (FixedWord p.array p.word) (fixed_part_address p) p.offset fixed_first (λ op operand expected f splices. fixed_fetch a l p.array p.word p.offset Double t op operand expected f splices)
+  fixed_fetches = fetches a l (FixedWord p.array p.word) (fixed_part_address p) p.offset fixed_first
+      (λ op operand expected f splices. fixed_fetch a l p.array p.word p.offset Double t op operand expected f splices)
 
-module _ (a : About) (l : Known) (p : Place) (address : ℕ) (all : Fetches a l p address) (operand expected : ℕ) (small : operand < 18446744073709551616) (few : expected < 18446744073709551616) where
+module _ (a : About) (l : Known) (p : Place) (address : ℕ) (all : Fetches a l p address) (operand expected : ℕ)
+    (small : operand < 18446744073709551616) (few : expected < 18446744073709551616) where
   whole : operand % 18446744073709551616 ≡ operand
   whole = omega arith
 

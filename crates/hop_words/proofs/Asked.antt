@@ -16,7 +16,8 @@ use Rattle.hop_words.specs.declared.lane.Lane.TheInside.{Inside as InStepper}
 use Rattle.hop_layout.proofs.Layouts.{at_inside}
 use Rattle.hop_words.proofs.Seating.{allows}
 
-as_asked : (a : About) (slots id : ℕ) (me : Me (Unit {0}) View) (l : Known) (p : Place) (word : ℕ) (f : ℕ → ℕ) (sights : ℕ → List Sight) (told : ℕ → Known → Type 0) (st : Step (Unit {0})) → me ≡ (solo l, []) → is_place a.shape p ≡ true → word ≡ at a.shape p
+as_asked : (a : About) (slots id : ℕ) (me : Me (Unit {0}) View) (l : Known) (p : Place) (word : ℕ) (f : ℕ → ℕ) (sights : ℕ → List Sight)
+    (told : ℕ → Known → Type 0) (st : Step (Unit {0})) → me ≡ (solo l, []) → is_place a.shape p ≡ true → word ≡ at a.shape p
     → Leaves a l p f sights (λ ws n l'. told n l') → Allows (Kept a) slots id me word f (tells told st me)
 as_asked a slots id me l p word f sights told st is there at_word step =
     subst (λ (m : Me (Unit {0}) View). Allows (Kept a) slots id m word f (tells told st m)) (sym is)
@@ -25,9 +26,11 @@ as_asked a slots id me l p word f sights told st is there at_word step =
 
 -- from what a call asks of the table and the lane that it was handed: the seat is the table's, the
 -- word lies in it, and the step is allowed there
-pub at_word : (t : InTable) (s : InStepper) (x : Shown) (q : Standing) (p : Place) (word : ℕ) (f : ℕ → ℕ) (sights : ℕ → List Sight) (told : ℕ → Known → Type 0) (st : Step (Unit {0})) → shown t ≡ x → standing s ≡ q → HasLayout t → IsOne s
+pub at_word : (t : InTable) (s : InStepper) (x : Shown) (q : Standing) (p : Place) (word : ℕ) (f : ℕ → ℕ) (sights : ℕ → List Sight)
+    (told : ℕ → Known → Type 0) (st : Step (Unit {0})) → shown t ≡ x → standing s ≡ q → HasLayout t → IsOne s
     → q.table ≡ x.id → is_place x.about.shape p ≡ true → word ≡ at x.about.shape p → Leaves x.about q.known p f sights (λ ws n l. told n l)
-    → (s.seat.table_id ≡ t.table.shared.table_id) × (word < t.table.shared.table_id.words) × Allows (Kept t.table.shared.key) t.table.shared.table_id.slots s.seat.id s.seat.me word f (tells told st s.seat.me)
+    → (s.seat.table_id ≡ t.table.shared.table_id) × (word < t.table.shared.table_id.words) × Allows (Kept t.table.shared.key)
+    t.table.shared.table_id.slots s.seat.id s.seat.me word f (tells told st s.seat.me)
 at_word t s x q p word f sights told st table lane laid one own there spot step =
     let a = t.table.shared.key in
     let about : a ≡ x.about = ap (λ (y : Shown). y.about) table in

@@ -24,7 +24,8 @@ pub read_at : (h : Shape) (ws : List ℕ) (p : Place) (i n : ℕ) → i ≡ at h
 read_at h ws p i n here there e = got ws i n e ∙ (ap (slice_index ws) here ∙ sym (rw there refl))
 
 -- the end of a store, all of whose CPUs are back in the seat that has learned the history
-pub ends : (a : About) (id : ℕ) (v : View) (lanes : List Known) (ws : List ℕ) (xs : List (Unit {0})) → v.lanes ≡ lanes → Final (Seen (Kept a) id v) ws xs → AreAllBack a lanes
+pub ends : (a : About) (id : ℕ) (v : View) (lanes : List Known) (ws : List ℕ) (xs : List (Unit {0})) → v.lanes ≡ lanes → Final
+    (Seen (Kept a) id v) ws xs → AreAllBack a lanes
     → ((k : ℕ) (l : Known) → get_elem? lanes k ≡ some l → HasSeenBeginning l v.kept) → KeepsWholeHistory a (view [] v.kept) ws
 ends a id v lanes ws xs same final all within =
     let w = closes a id v ws xs final (subst (AreAllBack a) (sym same) all) (λ k l e. within k l (ap (λ (ls : List Known). get_elem? ls k) (sym same) ∙ e)) in

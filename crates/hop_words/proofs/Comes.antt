@@ -1,5 +1,6 @@
 -- An element that a CPU filled becomes the one that a key of its map leads to: what each part is then.
-use Rattle.std.proofs.Common.{◌≡◌, ◌≢◌, ℕ, ◌+◌, ◌<◌, ◌≤◌, Bool, true, false, ◌&&◌, cond, List, ◌∷◌, Option, Some, None, is_some, ◌==◌, length, take, refl, ap, sym, subst, ◌∙◌, arith, eq-eqb, ne_eqb, ⊎_elim, inl, inr, ◌⊎◌}
+use Rattle.std.proofs.Common.{◌≡◌, ◌≢◌, ℕ, ◌+◌, ◌<◌, ◌≤◌, Bool, true, false, ◌&&◌, cond, List, ◌∷◌, Option, Some, None, is_some, ◌==◌}
+use Rattle.std.proofs.Common.{length, take, refl, ap, sym, subst, ◌∙◌, arith, eq-eqb, ne_eqb, ⊎_elim, inl, inr, ◌⊎◌}
 use Rattle.std.proofs.lemmas.Bool.Decides.{nat_tests}
 use Rattle.std.proofs.lemmas.Cmp.{nat_list_cmp_total}
 use Rattle.std.specs.FinMap.{get, insert, len, len-insert, get-insert}
@@ -27,7 +28,8 @@ pub within_once : {p q : List ℕ} → Within p ≡ Within q → p ≡ q
 within_once h = cc
 
 -- what a test says of each holder, where it says the same of the new one as of the old
-pub moved : {A : Type 0} (T : Holder → A) (holder : ℕ → ℕ → Holder) (m e : ℕ) (x y : Holder) → holder m e ≡ x → T y ≡ T x → (n f : ℕ) → T (put holder m (put (holder m) e y) n f) ≡ T (holder n f)
+pub moved : {A : Type 0} (T : Holder → A) (holder : ℕ → ℕ → Holder) (m e : ℕ) (x y : Holder) → holder m e ≡ x → T y ≡ T x → (n f : ℕ) → T
+    (put holder m (put (holder m) e y) n f) ≡ T (holder n f)
 moved T holder m e x y is same n f = ⊎_elim
     (λ (t : (n ≡ m) × (f ≡ e)). ap T (put2-same holder m e n f y t.0 t.1) ∙ (same ∙ ap T (sym is ∙ (λ i. holder (sym t.0 i) (sym t.1 i)))))
     (λ (ne : n ≡ m → f ≢ e). ap T (put2-other holder m e n f y ne))
@@ -52,7 +54,8 @@ leaving_or c (Leaving d) e = let s : d ≡ c = grind (arith, nat_tests) in ap Le
 leaving_or c (Within d) e = absurd (omega arith)
 
 -- an element in hand is one that the CPU fills
-pub in_hand : (a : About) (free : ℕ → ℕ → ℕ) (fresh : ℕ → List Fresh) (limbo : ℕ → List Limbo) (holder : ℕ → ℕ → Holder) (c m : ℕ) (f : Fresh) (rest : List Fresh) → Owned a free fresh limbo holder → c < a.shape.cpus → HasElement a m f.element
+pub in_hand : (a : About) (free : ℕ → ℕ → ℕ) (fresh : ℕ → List Fresh) (limbo : ℕ → List Limbo) (holder : ℕ → ℕ → Holder) (c m : ℕ)
+    (f : Fresh) (rest : List Fresh) → Owned a free fresh limbo holder → c < a.shape.cpus → HasElement a m f.element
     → f.map ≡ m → fresh c ≡ f ∷ rest → holder m f.element ≡ Filling c
 in_hand a free fresh limbo holder c m f rest p inside l map is = filling_or c (holder m f.element) (go (holder m f.element) refl)
   where
@@ -70,7 +73,8 @@ in_hand a free fresh limbo holder c m f rest p inside l map is = filling_or c (h
         at_most false h = absurd (omega arith)
 
 -- an element in limbo has left its map
-pub in_limbo : (a : About) (free : ℕ → ℕ → ℕ) (fresh : ℕ → List Fresh) (limbo : ℕ → List Limbo) (holder : ℕ → ℕ → Holder) (c m e : ℕ) → Owned a free fresh limbo holder → c < a.shape.cpus → HasElement a m e
+pub in_limbo : (a : About) (free : ℕ → ℕ → ℕ) (fresh : ℕ → List Fresh) (limbo : ℕ → List Limbo) (holder : ℕ → ℕ → Holder) (c m e : ℕ) →
+    Owned a free fresh limbo holder → c < a.shape.cpus → HasElement a m e
     → 1 ≤ times_limbo e (limbo_at (limbo c) m) → holder m e ≡ Leaving c
 in_limbo a free fresh limbo holder c m e p inside l has = leaving_or c (holder m e) (let q = p.limbo_is c m e inside l in omega arith)
 
@@ -79,13 +83,16 @@ module _ (a : About) (c m e s : ℕ) (key : List ℕ) (holder : ℕ → ℕ → 
   held' = put holder m (put (holder m) e (Within key))
 
   -- ---- owners
-  pub owned_comes : (free : ℕ → ℕ → ℕ) (fresh : ℕ → List Fresh) (limbo : ℕ → List Limbo) (f : Fresh) (rest : List Fresh) → Owned a free fresh limbo holder → f.map ≡ m → f.element ≡ e → fresh c ≡ f ∷ rest → c < a.shape.cpus → Owned a free (put fresh c rest) limbo held'
+  pub owned_comes : (free : ℕ → ℕ → ℕ) (fresh : ℕ → List Fresh) (limbo : ℕ → List Limbo) (f : Fresh) (rest : List Fresh) → Owned a free
+      fresh limbo holder → f.map ≡ m → f.element ≡ e → fresh c ≡ f ∷ rest → c < a.shape.cpus → Owned a free (put fresh c rest) limbo held'
   owned_comes free fresh limbo f rest p fm fe is inside = record {
     bits = λ n d l. p.bits n d l ∙ sym (moved (λ x. one_if (is_free x)) holder m e (Filling c) (Within key) was refl n d);
     limbo_is = λ b n d inb l. p.limbo_is b n d inb l ∙ sym (moved (λ x. one_if (is_leaving b x)) holder m e (Filling c) (Within key) was refl n d);
     fresh_is = λ b n d inb l. ⊎_elim
-        (λ (t : b ≡ c). subst (λ x. times_fresh n d (put fresh c rest x) ≡ one_if (is_filling x (held' n d))) (sym t) (ap (times_fresh n d) (put-same fresh c c rest refl) ∙ own n d l))
-        (λ (ne : b ≢ c). ap (times_fresh n d) (put-other fresh c b rest ne) ∙ (p.fresh_is b n d inb l ∙ sym (moved (λ x. one_if (is_filling b x)) holder m e (Filling c) (Within key) was
+        (λ (t : b ≡ c). subst (λ x. times_fresh n d (put fresh c rest x) ≡ one_if (is_filling x (held' n d))) (sym t)
+        (ap (times_fresh n d) (put-same fresh c c rest refl) ∙ own n d l))
+        (λ (ne : b ≢ c). ap (times_fresh n d) (put-other fresh c b rest ne) ∙
+        (p.fresh_is b n d inb l ∙ sym (moved (λ x. one_if (is_filling b x)) holder m e (Filling c) (Within key) was
         (sym (ap (one_if) (ne_eqb c b (λ (q : c ≡ b). ne (sym q))))) n d)))
         (cases_eq b c);
   }
@@ -96,14 +103,16 @@ module _ (a : About) (c m e s : ℕ) (key : List ℕ) (holder : ℕ → ℕ → 
           ⊎_elim
           (λ (t : (n ≡ m) × (d ≡ e)).
           let one : (f.map == n) && (f.element == d) ≡ true = rw (fm, fe, t.0, t.1, eq-eqb m m refl, eq-eqb e e refl) refl in
-          let hold : one_if (is_filling c (holder n d)) ≡ 1 = ap (λ x. one_if (is_filling c x)) ((λ i. holder (t.0 i) (t.1 i)) ∙ was) ∙ ap (one_if) (eq-eqb c c refl) in
+          let hold : one_if (is_filling c (holder n d)) ≡ 1 = ap (λ x. one_if (is_filling c x)) ((λ i. holder (t.0 i) (t.1 i)) ∙ was) ∙ ap
+          (one_if) (eq-eqb c c refl) in
           let sum : 1 + times_fresh n d rest ≡ 1 = sym (ap (λ (x : Bool). one_if (x) + times_fresh n d rest) one) ∙ (q ∙ hold) in
           let new : one_if (is_filling c (held' n d)) ≡ 0 = ap (λ x. one_if (is_filling c x)) (put2-same holder m e n d (Within key) t.0 t.1) in
           omega arith)
           (λ (ne : n ≡ m → d ≢ e).
           let one : (f.map == n) && (f.element == d) ≡ false = differ n d ne in
           let sum : 0 + times_fresh n d rest ≡ one_if (is_filling c (holder n d)) = sym (ap (λ (x : Bool). one_if (x) + times_fresh n d rest) one) ∙ q in
-          let new : one_if (is_filling c (held' n d)) ≡ one_if (is_filling c (holder n d)) = ap (λ x. one_if (is_filling c x)) (put2-other holder m e n d (Within key) ne) in
+          let new : one_if (is_filling c (held' n d)) ≡ one_if (is_filling c (holder n d)) = ap (λ x. one_if (is_filling c x))
+          (put2-other holder m e n d (Within key) ne) in
           omega arith)
           (here_or m n e d)
         where
@@ -127,7 +136,8 @@ module _ (a : About) (c m e s : ℕ) (key : List ℕ) (holder : ℕ → ℕ → 
 
     pub now_old : (n : ℕ) (q : List ℕ) → (n ≡ m → q ≢ key) → links' n q ≡ linked n q
     now_old n q ne = ⊎_elim
-        (λ (t : n ≡ m). ap (λ (f : List ℕ → Option ℕ). f q) (put-same linked m n (put_key (linked m) key (Some e)) t) ∙ (put_key-other (linked m) key q (Some e) (ne t) ∙ ap (λ (k : ℕ). linked k q) (sym t)))
+        (λ (t : n ≡ m). ap (λ (f : List ℕ → Option ℕ). f q) (put-same linked m n (put_key (linked m) key (Some e)) t) ∙
+        (put_key-other (linked m) key q (Some e) (ne t) ∙ ap (λ (k : ℕ). linked k q) (sym t)))
         (λ (t : n ≢ m). ap (λ (f : List ℕ → Option ℕ). f q) (put-other linked m n (put_key (linked m) key (Some e)) t))
         (cases_eq n m)
 
@@ -170,12 +180,15 @@ module _ (a : About) (c m e s : ℕ) (key : List ℕ) (holder : ℕ → ℕ → 
         counted = λ n l. ⊎_elim
             (λ (t : n ≡ m). put-same counts m n (counts m + 1) t ∙ (ap (λ (x : ℕ). x + 1) (k.counted m (subst (λ (x : ℕ). x < length a.shape.maps) t l))
             ∙ (sym longer ∙ ap (λ (x : KeyMap). len x) (sym (put-same maps m n (insert (maps m) key v) t)))))
-            (λ (ne : n ≢ m). put-other counts m n (counts m + 1) ne ∙ (k.counted n l ∙ ap (λ (x : KeyMap). len x) (sym (put-other maps m n (insert (maps m) key v) ne))))
+            (λ (ne : n ≢ m). put-other counts m n (counts m + 1) ne ∙
+            (k.counted n l ∙ ap (λ (x : KeyMap). len x) (sym (put-other maps m n (insert (maps m) key v) ne))))
             (cases_eq n m);
         leads = λ n q. ⊎_elim
             (λ (t : (n ≡ m) × (q ≡ key)). ap (λ (x : KeyMap). get x q) (put-same maps m n (insert (maps m) key v) t.0) ∙ (new_at q t.1
             ∙ (ap Some (sym (put2-same number m e n e v t.0 refl)) ∙ ap (numbered (number' n)) (sym (now_new n q t.0 t.1)))))
-            (λ (ne : n ≡ m → q ≢ key). old_at n q ne ∙ (k.leads n q ∙ (sym (numbered_same (number n) (number' n) (linked n q) (λ d is. put2-other number m e n d v (not_new n d q is))) ∙ ap (numbered (number' n)) (sym (now_old n q ne)))))
+            (λ (ne : n ≡ m → q ≢ key). old_at n q ne ∙ (k.leads n q ∙
+            (sym (numbered_same (number n) (number' n) (linked n q) (λ d is. put2-other number m e n d v (not_new n d q is))) ∙ ap
+            (numbered (number' n)) (sym (now_old n q ne)))))
             (here_key n q);
       }
         where
@@ -205,17 +218,21 @@ module _ (a : About) (c m e s : ℕ) (key : List ℕ) (holder : ℕ → ℕ → 
               (cases_eq n m)
 
   -- ---- batches
-  pub batched_comes : (free link : ℕ → ℕ → ℕ) (counts : ℕ → ℕ) (fresh : ℕ → List Fresh) (limbo : ℕ → List Limbo) (held : ℕ → ℕ → Bool) (number : ℕ → ℕ → ℕ) (v : ℕ) → Owned a free fresh limbo holder → Batched a link counts limbo held number
+  pub batched_comes : (free link : ℕ → ℕ → ℕ) (counts : ℕ → ℕ) (fresh : ℕ → List Fresh) (limbo : ℕ → List Limbo) (held : ℕ → ℕ → Bool)
+      (number : ℕ → ℕ → ℕ) (v : ℕ) → Owned a free fresh limbo holder → Batched a link counts limbo held number
       → Batched a link counts limbo held (put number m (put (number m) e v))
   batched_comes free link counts fresh limbo held number v o p = record {
     young = p.young;
     old = p.old;
     noted = λ b n d x inside l has few holds. p.noted b n d x inside l has few (subst (λ (y : ℕ). held x y ≡ true) (put2-other number m e n d v
-        (λ t u. let k : Leaving b ≡ Filling c = sym (in_limbo a free fresh limbo holder b n d o inside l (omega arith)) ∙ ((λ i. holder (t i) (u i)) ∙ was) in cc)) holds);
+        (λ t u. let k : Leaving b ≡ Filling c = sym (in_limbo a free fresh limbo holder b n d o inside l (omega arith)) ∙ ((λ i. holder (t i) (u i)) ∙ was) in
+        cc))
+        holds);
   }
 
   -- ---- filled words
-  pub filled_rest : (kw vw : ℕ → ℕ → ℕ → ℕ) (fresh : ℕ → List Fresh) (f : Fresh) (rest : List Fresh) → Filled a kw vw fresh → fresh c ≡ f ∷ rest → c < a.shape.cpus → Filled a kw vw (put fresh c rest)
+  pub filled_rest : (kw vw : ℕ → ℕ → ℕ → ℕ) (fresh : ℕ → List Fresh) (f : Fresh) (rest : List Fresh) → Filled a kw vw fresh → fresh c ≡ f ∷
+      rest → c < a.shape.cpus → Filled a kw vw (put fresh c rest)
   filled_rest kw vw fresh f rest p is inc b inb = ⊎_elim
       (λ (t : b ≡ c). subst (Each Has) (sym (put-same fresh c b rest t)) (subst (Each Has) is (p c inc)).1)
       (λ (ne : b ≢ c). subst (Each Has) (sym (put-other fresh c b rest ne)) (p b inb))
@@ -225,18 +242,22 @@ module _ (a : About) (c m e s : ℕ) (key : List ℕ) (holder : ℕ → ℕ → 
       Has g = StartsWith g.key (kw g.map g.element) × StartsWith g.value (vw g.map g.element)
 
   -- ---- values
-  pub valued_comes : (words : ℕ → ℕ → ℕ → ℕ) (made : ℕ) (value : ℕ → Value) (held : ℕ → ℕ → Bool) (number : ℕ → ℕ → ℕ) (x : Value) → Valued a words made value held holder number
+  pub valued_comes : (words : ℕ → ℕ → ℕ → ℕ) (made : ℕ) (value : ℕ → Value) (held : ℕ → ℕ → Bool) (number : ℕ → ℕ → ℕ) (x : Value) → Valued
+      a words made value held holder number
       → x ≡ record { bytes = take (shape_at a m).value (bytes_of_words (words_for (shape_at a m).value) (words m e)); span = element_span m (shape_at a m) e }
       → Valued a words (made + 1) (put value made x) held held' (put number m (put (number m) e made))
   valued_comes words made value held number x p is = record {
     lies = λ n d l has. ⊎_elim
-        (λ (t : (n ≡ m) × (d ≡ e)). ap (put value made x) (put2-same number m e n d made t.0 t.1) ∙ (put-same value made made x refl ∙ (is ∙ (λ i. lying (sym t.0 i) (sym t.1 i)))))
+        (λ (t : (n ≡ m) × (d ≡ e)). ap (put value made x) (put2-same number m e n d made t.0 t.1) ∙
+        (put-same value made made x refl ∙ (is ∙ (λ i. lying (sym t.0 i) (sym t.1 i)))))
         (λ (ne : n ≡ m → d ≢ e). let has' = subst Carries (put2-other holder m e n d (Within key) ne) has in
-        ap (put value made x) (put2-other number m e n d made ne) ∙ (put-other value made (number n d) x (λ (q : number n d ≡ made). let o = p.older n d l has' in omega arith) ∙ p.lies n d l has'))
+        ap (put value made x) (put2-other number m e n d made ne) ∙
+        (put-other value made (number n d) x (λ (q : number n d ≡ made). let o = p.older n d l has' in omega arith) ∙ p.lies n d l has'))
         (here_or m n e d);
     older = λ n d l has. ⊎_elim
         (λ (t : (n ≡ m) × (d ≡ e)). let q = put2-same number m e n d made t.0 t.1 in omega arith)
-        (λ (ne : n ≡ m → d ≢ e). let q = put2-other number m e n d made ne in let o = p.older n d l (subst Carries (put2-other holder m e n d (Within key) ne) has) in omega arith)
+        (λ (ne : n ≡ m → d ≢ e).
+        let q = put2-other number m e n d made ne in let o = p.older n d l (subst Carries (put2-other holder m e n d (Within key) ne) has) in omega arith)
         (here_or m n e d);
     held_in = λ b v h.
         let k = p.held_in b v h in
@@ -245,4 +266,8 @@ module _ (a : About) (c m e s : ℕ) (key : List ℕ) (holder : ℕ → ℕ → 
   }
     where
       lying : ℕ → ℕ → Value
-      lying n d = record { bytes = take (shape_at a n).value (bytes_of_words (words_for (shape_at a n).value) (words n d)); span = element_span n (shape_at a n) d }
+      lying n d = record {
+        bytes = take (shape_at a n).value (bytes_of_words (words_for (shape_at a n).value) (words n d));
+        span =
+            element_span n (shape_at a n) d;
+      }

@@ -1,5 +1,6 @@
 -- Count down: the fetch_sub by which a deletion takes effect.
-use Rattle.std.proofs.Common.{◌≡◌, ◌≢◌, ℕ, ◌+◌, ◌-◌, ◌%◌, ◌^◌, ◌<◌, ◌≤◌, true, List, [], ◌∷◌, ◌++◌, Option, Some, None, is_some, length, set, refl, ap, sym, subst, ◌∙◌, arith, eq-eqb, ne_eqb, ⊎_elim, inl, inr}
+use Rattle.std.proofs.Common.{◌≡◌, ◌≢◌, ℕ, ◌+◌, ◌-◌, ◌%◌, ◌^◌, ◌<◌, ◌≤◌, true, List, [], ◌∷◌, ◌++◌, Option, Some, None, is_some, length}
+use Rattle.std.proofs.Common.{set, refl, ap, sym, subst, ◌∙◌, arith, eq-eqb, ne_eqb, ⊎_elim, inl, inr}
 use native.Mathlib.Decide.{ℕ_discrete}
 use mathlib.Core.Logic.{dite}
 use Rattle.std.specs.FinMap.{get, len, empty, empty_of_len, get-empty}
@@ -82,9 +83,11 @@ module _ (a : About) (l : Known) (k : Lock) (key : List ℕ) (e : ℕ) (i : Remo
   effect : Effect a g.depths l.cpu k (Drops key) g.linked linked' g.holder holder'
   effect = record {
     owes = refl;
-    keys = λ n t q b ne home. cut_old a l.cpu m e s key g.holder was g.linked n q (λ u v. ne u (one_home a g.depths m s n t q h.inside b u (ap (home_by a m (g.depths m s)) v ∙ home_is) home));
+    keys = λ n t q b ne home. cut_old a l.cpu m e s key g.holder was g.linked n q
+        (λ u v. ne u (one_home a g.depths m s n t q h.inside b u (ap (home_by a m (g.depths m s)) v ∙ home_is) home));
     theirs = λ n t b d apart at_t ne mind. ⊎_elim
-        (λ (u : (n ≡ m) × (d ≡ e)). absurd (apart (sym (subst (Minded (home_by a n (g.depths n t)) b t) (put2-same g.holder m e n d (Leaving l.cpu) u.0 u.1) mind))))
+        (λ (u : (n ≡ m) × (d ≡ e)). absurd (apart (sym (subst (Minded (home_by a n (g.depths n t)) b t)
+        (put2-same g.holder m e n d (Leaving l.cpu) u.0 u.1) mind))))
         (λ (nu : n ≡ m → d ≢ e). subst (Minded (home_by a n (g.depths n t)) b t) (put2-other g.holder m e n d (Leaving l.cpu) nu) mind)
         (here_or m n e d);
     mine = λ d mind. ⊎_elim
@@ -92,7 +95,8 @@ module _ (a : About) (l : Known) (k : Lock) (key : List ℕ) (e : ℕ) (i : Remo
         (λ (nu : d ≢ e). subst (Minded (lock_home a k) l.cpu s) (put2-other g.holder m e m d (Leaving l.cpu) (λ _. nu)) mind)
         (cases_eq d e);
     due = λ before same q home. ⊎_elim
-        (λ (u : q ≡ key). ap (λ (f : List ℕ → Option ℕ). f q) (put-same g.linked m m (put_key (g.linked m) key None) refl) ∙ (put_key-same (g.linked m) key q None u ∙ sym (put_key-same before key q None u)))
+        (λ (u : q ≡ key). ap (λ (f : List ℕ → Option ℕ). f q) (put-same g.linked m m (put_key (g.linked m) key None) refl) ∙
+        (put_key-same (g.linked m) key q None u ∙ sym (put_key-same before key q None u)))
         (λ (u : q ≢ key). cut_old a l.cpu m e s key g.holder was g.linked m q (λ _. u) ∙ (same q home ∙ sym (put_key-other before key q None u)))
         (equal_keys q key);
   }
@@ -130,7 +134,8 @@ module _ (a : About) (l : Known) (k : Lock) (key : List ℕ) (e : ℕ) (i : Remo
 
   has_some : 1 ≤ w (KeyCount m)
   has_some = dite (ℕ_discrete (len (g.last.maps m)) 0)
-      (λ (z : len (g.last.maps m) ≡ 0). let n : None ≡ Some (g.number m e) = sym (nothing_in key) ∙ (ap (λ (x : KeyMap). get x key) (sym (empty_of_len (g.last.maps m) z)) ∙ get_some) in cc)
+      (λ (z : len (g.last.maps m) ≡ 0).
+      let n : None ≡ Some (g.number m e) = sym (nothing_in key) ∙ (ap (λ (x : KeyMap). get x key) (sym (empty_of_len (g.last.maps m) z)) ∙ get_some) in cc)
       (λ nz. let c = r.keyed.counted m h.inside.0 in grind arith)
 
   down_rule : Rule a (put_at w (KeyCount m) (w (KeyCount m) - 1)) g'
@@ -151,16 +156,20 @@ module _ (a : About) (l : Known) (k : Lock) (key : List ℕ) (e : ℕ) (i : Remo
     reading = effect_reading a l k i.lock w g r is i.nothing (Drops key) linked' holder' effect;
     held = effect_held a l k i.lock w g r is i.nothing (Drops key) linked' holder' effect inside;
     valued = valued_goes a l.cpu m e s key g.holder was _ g.last.made g.last.value g.last.held g.number r.valued;
-    shown = shown_step a g.log log' g.last last' g.lanes.fresh g.lanes.fresh g.lanes.tally g.holder holder' g.taker (begun_event g.log g.lanes.fresh l.cpu event)
-        (causes_on a g.log g.last last' g.lanes.fresh g.lanes.fresh l.cpu event (begun_event g.log g.lanes.fresh l.cpu event) r.logged.legal may r.shown.causes tt)
-        (λ d p. ⊎_elim (λ (none : g.lanes.fresh d ≡ []). inl none) (λ (run : in_run (events_of d g.log) ≡ true). inr (run_quiet l.cpu d event g.log refl run)) p)
+    shown = shown_step a g.log log' g.last last' g.lanes.fresh g.lanes.fresh g.lanes.tally g.holder holder' g.taker
+        (begun_event g.log g.lanes.fresh l.cpu event)
+        (causes_on a g.log g.last last' g.lanes.fresh g.lanes.fresh l.cpu event (begun_event g.log g.lanes.fresh l.cpu event) r.logged.legal
+        may r.shown.causes tt)
+        (λ d p. ⊎_elim (λ (none : g.lanes.fresh d ≡ []). inl none)
+        (λ (run : in_run (events_of d g.log) ≡ true). inr (run_quiet l.cpu d event g.log refl run)) p)
         (λ p h. h)
         (settles_put g.holder m e (Leaving l.cpu) (λ _ free. let z : Within key ≡ Free = sym was ∙ free in cc) (λ c q. cc))
         (λ c n d inb at h. inr h) r.shown;
   }
 
   down_lane : lane g'.lanes l.cpu ≡ record l { seen = log'; limbo = with_gone l m e; locks = lock' ∷ [] }
-  down_lane = rw (eq-eqb l.cpu l.cpu refl) (ap (λ (x : Known). record x { seen = log'; limbo = set x.limbo m (with_used (limbo_at x.limbo m) e); locks = lock' ∷ [] }) is)
+  down_lane = rw (eq-eqb l.cpu l.cpu refl) (ap (λ (x : Known). record x
+      { seen = log'; limbo = set x.limbo m (with_used (limbo_at x.limbo m) e); locks = lock' ∷ [] }) is)
 
   pub down_next : Next a (put_at w (KeyCount m) (w (KeyCount m) - 1)) g l.cpu (Removed a l k key e)
   down_next = record {
@@ -172,7 +181,8 @@ module _ (a : About) (l : Known) (k : Lock) (key : List ℕ) (e : ℕ) (i : Remo
     says = subst (Removed a l k key e) (sym down_lane) (record { seen = saw a w g r l is inside event last' may down_rule.logged; after = refl });
   }
 
-pub count_down : (a : About) (l : Known) (k : Lock) (key : List ℕ) (e : ℕ) → Removes a l k key e → Steps a l (KeyCount k.map) (λ n. (n + (2 ^ 64 - 1)) % 2 ^ 64) (λ ws n l'. Removed a l k key e l')
+pub count_down : (a : About) (l : Known) (k : Lock) (key : List ℕ) (e : ℕ) → Removes a l k key e → Steps a l (KeyCount k.map)
+    (λ n. (n + (2 ^ 64 - 1)) % 2 ^ 64) (λ ws n l'. Removed a l k key e l')
 count_down a l k key e i ws g sized r is inside fits =
     let w = mem a.shape ws in
     let one = has_some a l k key e i w g r is inside in

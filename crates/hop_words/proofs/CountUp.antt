@@ -1,5 +1,6 @@
 -- Count up: the compare-exchange by which the insertion of a new key takes effect.
-use Rattle.std.proofs.Common.{◌≡◌, ◌≢◌, ℕ, ◌+◌, ◌%◌, ◌<◌, ◌≤◌, Bool, true, false, true≢false, not, ◌&&◌, List, [], ◌∷◌, ◌++◌, Option, Some, None, is_some, ◌==◌, take, refl, ap, sym, subst, ◌∙◌, arith, eq-eqb, ne_eqb, ⊎_elim, inl, inr}
+use Rattle.std.proofs.Common.{◌≡◌, ◌≢◌, ℕ, ◌+◌, ◌%◌, ◌<◌, ◌≤◌, Bool, true, false, true≢false, not, ◌&&◌, List, [], ◌∷◌, ◌++◌, Option, Some}
+use Rattle.std.proofs.Common.{None, is_some, ◌==◌, take, refl, ap, sym, subst, ◌∙◌, arith, eq-eqb, ne_eqb, ⊎_elim, inl, inr}
 use Rattle.std.proofs.lemmas.Bool.Decides.{nat_tests}
 use Rattle.std.specs.FinMap.{get, len}
 use Rattle.atomic_table.proofs.Lists.{exchanged}
@@ -40,7 +41,8 @@ use Rattle.hop_words.proofs.Stays.{stay, next_as, saw, running_is, map_there, ru
 use Rattle.hop_words.specs.Depths.{home_by}
 use Rattle.hop_words.proofs.FixedPlaces.{fixed_later, sound}
 
-pub four : (b0 b1 b2 b3 : Bool) → b0 ≡ false → b1 ≡ false → b2 ≡ false → b3 ≡ false → first_of ((Invalid, b0) ∷ (Exists, b1) ∷ (Absent, b2) ∷ (Full, b3) ∷ []) ≡ None
+pub four : (b0 b1 b2 b3 : Bool) → b0 ≡ false → b1 ≡ false → b2 ≡ false → b3 ≡ false → first_of
+    ((Invalid, b0) ∷ (Exists, b1) ∷ (Absent, b2) ∷ (Full, b3) ∷ []) ≡ None
 four b0 b1 b2 b3 e0 e1 e2 e3 = rw (e0, e1, e2, e3) refl
 
 pub and_false : (x : Bool) → x && false ≡ false
@@ -65,7 +67,8 @@ module _ (a : About) (l : Known) (k : Lock) (f : Fresh) (rest : List Fresh) (key
   e = f.element
 
   holds : Holds a g.depths (words_by_place w) (λ n t. w (Stamp n t)) g.eras g.linked g.holder l.cpu k
-  holds = (subst (Each (Holds a g.depths (words_by_place w) (λ n t. w (Stamp n t)) g.eras g.linked g.holder l.cpu)) (ap (λ (x : Known). x.locks) is ∙ i.filled.lock) (r.locking l.cpu)).0
+  holds = (subst (Each (Holds a g.depths (words_by_place w) (λ n t. w (Stamp n t)) g.eras g.linked g.holder l.cpu))
+      (ap (λ (x : Known). x.locks) is ∙ i.filled.lock) (r.locking l.cpu)).0
 
   at_e : HasElement a m e
   at_e = (holds.inside.0, i.filled.element)
@@ -125,7 +128,9 @@ module _ (a : About) (l : Known) (k : Lock) (f : Fresh) (rest : List Fresh) (key
         four _ _ _ _ (let t = i.flags_known in grind (arith, nat_tests))
             (ap (λ (o : Option ℕ). (flags == 1) && is_some o) get_none ∙ and_false (flags == 1))
             (ap (λ (b : Bool). b && not (is_some (get (g.last.maps m) key))) (ne_eqb flags 2 (λ (q : flags ≡ 2). let t = i.flags_known in omega arith)))
-            (ap (λ (b : Bool). not (is_some (get (g.last.maps m) key)) && b) (ne_eqb (len (g.last.maps m)) (shape_at a m).max (λ (q : len (g.last.maps m) ≡ (shape_at a m).max). let t = r.keyed.counted m holds.inside.0 in let u = i.room in omega arith)) ∙ and_false _),
+            (ap (λ (b : Bool). not (is_some (get (g.last.maps m) key)) && b)
+            (ne_eqb (len (g.last.maps m)) (shape_at a m).max (λ (q : len (g.last.maps m) ≡ (shape_at a m).max).
+            let t = r.keyed.counted m holds.inside.0 in let u = i.room in omega arith)) ∙ and_false _),
         (element_span m (shape_at a m) e, place_for a w g r l is inside m e l.cpu at_e was, refl),
       ),
     ),
@@ -154,18 +159,21 @@ module _ (a : About) (l : Known) (k : Lock) (f : Fresh) (rest : List Fresh) (key
   home_is : home_by a m (g.depths m s) key ≡ s
   home_is = ap (λ (i : ℕ). home_by a m i key) (sym holds.deep) ∙ i.filled.home
 
-  elsewhere : Elsewhere a g.depths m s l.cpu (words_by_place w) (words_by_place w) (λ n t. w (Stamp n t)) (λ n t. w (Stamp n t)) g.eras g'.eras g.linked g'.linked g.holder g'.holder
+  elsewhere : Elsewhere a g.depths m s l.cpu (words_by_place w) (words_by_place w) (λ n t. w (Stamp n t)) (λ n t. w (Stamp n t)) g.eras
+      g'.eras g.linked g'.linked g.holder g'.holder
   elsewhere = record {
     stamps = λ n t off. refl;
     same_eras = λ n t ne. put2-other g.eras m s n t era' ne;
-    keys = λ n t q b ne home. now_old a l.cpu m e s key g.holder was g.linked n q (λ h u. ne h (one_home a g.depths m s n t q holds.inside b h (ap (home_by a m (g.depths m s)) u ∙ home_is) home));
+    keys = λ n t q b ne home. now_old a l.cpu m e s key g.holder was g.linked n q
+        (λ h u. ne h (one_home a g.depths m s n t q holds.inside b h (ap (home_by a m (g.depths m s)) u ∙ home_is) home));
     heads = λ n t ne. refl;
     hops = λ n t b ne. refl;
     slots = λ n t b ne. refl;
     within = λ n t d q b ne home h. (refl, λ j. refl);
     minded = λ n t b d apart at_t ne mind. (
       ⊎_elim
-          (λ (h : (n ≡ m) × (d ≡ e)). absurd (ne h.0 (one_home a g.depths m s n t key holds.inside at_t h.0 home_is (subst (Minded (home_by a n (g.depths n t)) b t) (put2-same g.holder m e n d (Within key) h.0 h.1) mind))))
+          (λ (h : (n ≡ m) × (d ≡ e)). absurd (ne h.0 (one_home a g.depths m s n t key holds.inside at_t h.0 home_is
+          (subst (Minded (home_by a n (g.depths n t)) b t) (put2-same g.holder m e n d (Within key) h.0 h.1) mind))))
           (λ (nh : n ≡ m → d ≢ e). subst (Minded (home_by a n (g.depths n t)) b t) (put2-other g.holder m e n d (Within key) nh) mind)
           (here_or m n e d),
       refl,
@@ -174,7 +182,8 @@ module _ (a : About) (l : Known) (k : Lock) (f : Fresh) (rest : List Fresh) (key
   }
 
   -- nobody else has this lock
-  alone : (d : ℕ) (k2 : Lock) → d ≢ l.cpu → Holds a g.depths (words_by_place w) (λ n t. w (Stamp n t)) g.eras g.linked g.holder d k2 → k2.map ≡ m → k2.segment ≢ s
+  alone : (d : ℕ) (k2 : Lock) → d ≢ l.cpu → Holds a g.depths (words_by_place w) (λ n t. w (Stamp n t)) g.eras g.linked g.holder d k2 →
+      k2.map ≡ m → k2.segment ≢ s
   alone d k2 apart p h u = apart (sym p.writer ∙ (ap (λ (y : Era). y.writer) (λ j. g.eras (h j) (u j)) ∙ holds.writer))
 
   now_era : g'.eras m s ≡ era'
@@ -212,8 +221,10 @@ module _ (a : About) (l : Known) (k : Lock) (f : Fresh) (rest : List Fresh) (key
       holds.due.0,
       holds.due.1,
       λ q home. ⊎_elim
-          (λ (u : q ≡ key). ap (λ (h : List ℕ → Option ℕ). h q) (put-same g.linked m m (put_key (g.linked m) key (Some e)) refl) ∙ (put_key-same (g.linked m) key q (Some e) u ∙ sym (put_key-same holds.due.0 key q (Some e) u)))
-          (λ (u : q ≢ key). now_old a l.cpu m e s key g.holder was g.linked m q (λ _. u) ∙ (holds.due.2 q home ∙ (ap (λ y. changed y holds.due.0 q) i.filled.nothing ∙ sym (put_key-other holds.due.0 key q (Some e) u))))
+          (λ (u : q ≡ key). ap (λ (h : List ℕ → Option ℕ). h q) (put-same g.linked m m (put_key (g.linked m) key (Some e)) refl) ∙
+          (put_key-same (g.linked m) key q (Some e) u ∙ sym (put_key-same holds.due.0 key q (Some e) u)))
+          (λ (u : q ≢ key). now_old a l.cpu m e s key g.holder was g.linked m q (λ _. u) ∙
+          (holds.due.2 q home ∙ (ap (λ y. changed y holds.due.0 q) i.filled.nothing ∙ sym (put_key-other holds.due.0 key q (Some e) u))))
           (equal_keys q key),
     );
   }
@@ -228,7 +239,8 @@ module _ (a : About) (l : Known) (k : Lock) (f : Fresh) (rest : List Fresh) (key
   worn n t at_s = ⊎_elim
       (λ (h : (n ≡ m) × (t ≡ s)).
       let z = ap (λ (y : Era). y.credit) (put2-same g.eras m s n t era' h.0 h.1) in
-      let old_credit : (g.eras n t).credit ≡ 0 = ap (λ (y : Era). y.credit) (λ j. g.eras (h.0 j) (h.1 j)) ∙ (holds.credit ∙ ap (λ y. owed y) i.filled.nothing) in
+      let old_credit : (g.eras n t).credit ≡ 0 = ap (λ (y : Era). y.credit) (λ j. g.eras (h.0 j) (h.1 j)) ∙
+      (holds.credit ∙ ap (λ y. owed y) i.filled.nothing) in
       let one : one_if (m == n) + 0 ≡ 1 = is_done_here n (m == n) (eq-eqb m n (sym h.0)) in
       let sum = done_in-append n g.log (entry l.cpu event ∷ []) in
       let b = r.worn n t at_s in
@@ -240,9 +252,13 @@ module _ (a : About) (l : Known) (k : Lock) (f : Fresh) (rest : List Fresh) (key
       omega arith)
       (here_or m n s t)
 
-  spelled_is : x ≡ record { bytes = take (shape_at a m).value (bytes_of_words (words_for (shape_at a m).value) (λ j. w (ValueWord m e j))); span = element_span m (shape_at a m) e }
+  spelled_is : x ≡ record {
+    bytes = take (shape_at a m).value (bytes_of_words (words_for (shape_at a m).value) (λ j. w (ValueWord m e j)));
+    span = element_span m (shape_at a m) e;
+  }
   spelled_is = ap (λ (b : List ℕ). record { bytes = b; span = element_span m (shape_at a m) e })
-      (sym (value_spelled a w f rest m bytes (g.lanes.fresh l.cpu) hand (r.filled l.cpu inside) i.filled.map i.filled.filled i.filled.value i.filled.size i.filled.are_bytes))
+      (sym (value_spelled a w f rest m bytes (g.lanes.fresh l.cpu) hand (r.filled l.cpu inside) i.filled.map i.filled.filled i.filled.value
+      i.filled.size i.filled.are_bytes))
 
   updates : is_update f.map event ≡ true
   updates = eq-eqb m f.map (sym i.filled.map)
@@ -260,20 +276,32 @@ module _ (a : About) (l : Known) (k : Lock) (f : Fresh) (rest : List Fresh) (key
     owned = owned_comes a l.cpu m e s key g.holder was _ g.lanes.fresh g.lanes.limbo f rest r.owned i.filled.map refl hand inside;
     linked = linked_comes a l.cpu m e s key g.holder was g.linked r.linked none at_e;
     filled = filled_rest a l.cpu m e s key g.holder was _ _ g.lanes.fresh f rest r.filled hand inside;
-    segments = segments_step a g.depths m s l.cpu (words_by_place w) (words_by_place w) _ _ g.eras g'.eras g.linked g'.linked g.holder g'.holder elsewhere r.deep.sound holds.inside r.segments r.linked own_segment;
-    locking = locking_step a g.depths m s l.cpu (words_by_place w) (words_by_place w) _ _ g.eras g'.eras g.linked g'.linked g.holder g'.holder elsewhere r.deep.sound holds.inside g.lanes.locks (k' ∷ []) r.locking alone (own_lock, tt);
+    segments = segments_step a g.depths m s l.cpu (words_by_place w) (words_by_place w) _ _ g.eras g'.eras g.linked g'.linked g.holder
+        g'.holder elsewhere r.deep.sound holds.inside r.segments r.linked own_segment;
+    locking = locking_step a g.depths m s l.cpu (words_by_place w) (words_by_place w) _ _ g.eras g'.eras g.linked g'.linked g.holder
+        g'.holder elsewhere r.deep.sound holds.inside g.lanes.locks (k' ∷ []) r.locking alone (own_lock, tt);
     reading = readings_step a g.depths m s g.eras g'.eras g.lanes.readings upward r.reading;
-    held = held_step a g.depths m s l.cpu _ _ g.eras g'.eras g.lanes.locks (k' ∷ []) inside r.held (λ odd. (ap (λ (y : Era). y.writer) now_era, (let z = lock_once k' in omega arith)))
+    held = held_step a g.depths m s l.cpu _ _ g.eras g'.eras g.lanes.locks (k' ∷ []) inside r.held
+        (λ odd. (ap (λ (y : Era). y.writer) now_era, (let z = lock_once k' in omega arith)))
         (λ n t _ ne. (refl, put2-other g.eras m s n t era' ne, ap (times_lock n t) (sym (ap (λ (z : Known). z.locks) is ∙ i.filled.lock))));
-    fixed = fixed_later a r.shaped (λ b k. w (FixedWord b k)) g.last.value g.last.made x (subst (λ h. fixed_count h ≤ g.last.made) (shape_is a w g r l is inside) (sound a w g r).fixed.made) r.fixed;
+    fixed = fixed_later a r.shaped (λ b k. w (FixedWord b k)) g.last.value g.last.made x
+        (subst (λ h. fixed_count h ≤ g.last.made) (shape_is a w g r l is inside) (sound a w g r).fixed.made) r.fixed;
     valued = valued_comes a l.cpu m e s key g.holder was _ g.last.made g.last.value g.last.held g.number x r.valued spelled_is;
-    shown = shown_step a g.log log' g.last last' g.lanes.fresh g'.lanes.fresh g.lanes.tally g.holder g'.holder g.taker (begun_answer g.log g.lanes.fresh l.cpu f rest event hand updates)
-        (causes_on a g.log g.last last' g.lanes.fresh g'.lanes.fresh l.cpu event (begun_answer g.log g.lanes.fresh l.cpu f rest event hand updates) r.logged.legal (may found) r.shown.causes tt)
-        (λ d p. ⊎_elim (λ (none : g.lanes.fresh d ≡ []). inl (empty_still g.lanes.fresh l.cpu f rest rest hand d none)) (λ (run : in_run (events_of d g.log) ≡ true). inr (run_quiet l.cpu d event g.log refl run)) p)
+    shown = shown_step a g.log log' g.last last' g.lanes.fresh g'.lanes.fresh g.lanes.tally g.holder g'.holder g.taker
+        (begun_answer g.log g.lanes.fresh l.cpu f rest event hand updates)
+        (causes_on a g.log g.last last' g.lanes.fresh g'.lanes.fresh l.cpu event
+        (begun_answer g.log g.lanes.fresh l.cpu f rest event hand updates) r.logged.legal (may found) r.shown.causes tt)
+        (λ d p. ⊎_elim (λ (none : g.lanes.fresh d ≡ []). inl (empty_still g.lanes.fresh l.cpu f rest rest hand d none))
+        (λ (run : in_run (events_of d g.log) ≡ true). inr (run_quiet l.cpu d event g.log refl run)) p)
         (had_update g.last m key x)
         (settles_put g.holder m e (Within key) (λ _ free. let z : Filling l.cpu ≡ Free = sym was ∙ free in cc) (λ c q. cc))
         (λ b n d inb at has. ⊎_elim
-        (λ (h : (n ≡ f.map) × (d ≡ f.element)). inl (subst (HasHadValue last') (λ j. element_span ((sym i.filled.map ∙ sym h.0) j) (shape_at a ((sym i.filled.map ∙ sym h.0) j)) (sym h.1 j)) (new_update g.last m key x), hand_held a w g r b n d inb at has))
+        (λ (h : (n ≡ f.map) × (d ≡ f.element)). inl (
+          subst (HasHadValue last')
+              (λ j. element_span ((sym i.filled.map ∙ sym h.0) j) (shape_at a ((sym i.filled.map ∙ sym h.0) j)) (sym h.1 j))
+              (new_update g.last m key x),
+          hand_held a w g r b n d inb at has,
+        ))
         (λ (h : 1 ≤ times_fresh n d (g'.lanes.fresh b)). inr h)
         (hand_rest g.lanes.fresh l.cpu f rest hand b n d has)) r.shown;
   }
@@ -306,10 +334,12 @@ module _ (a : About) (l : Known) (k : Lock) (f : Fresh) (rest : List Fresh) (key
   }
 
 -- the exchange of the count that was expected for one more
-pub count_up : (a : About) (l : Known) (k : Lock) (f : Fresh) (rest : List Fresh) (key bytes : List ℕ) (flags old : ℕ) → Inserts a l k f rest key bytes flags old
+pub count_up : (a : About) (l : Known) (k : Lock) (f : Fresh) (rest : List Fresh) (key bytes : List ℕ) (flags old : ℕ) → Inserts a l k f
+    rest key bytes flags old
     → Steps a l (KeyCount k.map) (λ n. either (n == old) (old + 1) n) (λ ws n l'. (n ≡ old → Inserted a l k f rest key bytes flags l') × (n ≢ old → l' ≡ l))
 count_up a l k f rest key bytes flags old i ws g sized r is inside fits =
     let w = mem a.shape ws in
-    exchanged (w (KeyCount k.map)) old (old + 1) (λ n. Next a (put_at w (KeyCount k.map) n) g l.cpu (λ l'. (w (KeyCount k.map) ≡ old → Inserted a l k f rest key bytes flags l') × (w (KeyCount k.map) ≢ old → l' ≡ l)))
+    exchanged (w (KeyCount k.map)) old (old + 1) (λ n. Next a (put_at w (KeyCount k.map) n) g l.cpu
+    (λ l'. (w (KeyCount k.map) ≡ old → Inserted a l k f rest key bytes flags l') × (w (KeyCount k.map) ≢ old → l' ≡ l)))
     (λ found. next_as _ _ _ _ _ _ (λ q t. ((λ _. t), (λ ne. absurd (ne found)))) (next a l k f rest key bytes flags old i w g r is inside found))
     (λ ne. stay a w g l.cpu (KeyCount k.map) _ r ((λ found. absurd (ne found)), (λ _. is)))

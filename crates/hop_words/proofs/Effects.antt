@@ -21,16 +21,20 @@ use Rattle.hop_words.proofs.Locks.{holds, is_odd, low, alone}
 use Rattle.hop_words.specs.Depths.{IsBorn, home_by}
 
 -- what the event does to keys and holders, as far as others are concerned
-pub record Effect (a : About) (depths : ℕ → ℕ → ℕ) (c : ℕ) (k : Lock) (change : Change) (linked linked' : ℕ → List ℕ → Option ℕ) (holder holder' : ℕ → ℕ → Holder) : Type 0 where
+pub record Effect (a : About) (depths : ℕ → ℕ → ℕ) (c : ℕ) (k : Lock) (change : Change) (linked linked' : ℕ → List ℕ → Option ℕ)
+    (holder holder' : ℕ → ℕ → Holder) : Type 0 where
   pub owes : owed change ≡ 1
   pub keys : (n t : ℕ) (q : List ℕ) → IsBorn a depths n t → (n ≡ k.map → t ≢ k.segment) → home_by a n (depths n t) q ≡ t → linked' n q ≡ linked n q
-  pub theirs : (n t b d : ℕ) → b ≢ c → IsBorn a depths n t → (n ≡ k.map → t ≢ k.segment) → Minded (home_by a n (depths n t)) b t (holder' n d) → Minded (home_by a n (depths n t)) b t (holder n d)
+  pub theirs : (n t b d : ℕ) → b ≢ c → IsBorn a depths n t → (n ≡ k.map → t ≢ k.segment) → Minded (home_by a n (depths n t)) b t
+      (holder' n d) → Minded (home_by a n (depths n t)) b t (holder n d)
   pub mine : (d : ℕ) → Minded (lock_home a k) c k.segment (holder' k.map d) → Minded (lock_home a k) c k.segment (holder k.map d)
   pub due : (before : List ℕ → Option ℕ) → ((q : List ℕ) → IsHomeIn a k q → linked k.map q ≡ before q)
       → (q : List ℕ) → IsHomeIn a k q → linked' k.map q ≡ changed change before q
 
-module _ (a : About) (l : Known) (k : Lock) (held : l.locks ≡ k ∷ []) (w : Place → ℕ) (g : Ghost) (r : Rule a w g) (is : lane g.lanes l.cpu ≡ l) (none : k.change ≡ Nothing)
-    (change : Change) (linked' : ℕ → List ℕ → Option ℕ) (holder' : ℕ → ℕ → Holder) (ef : Effect a g.depths l.cpu k change g.linked linked' g.holder holder') where
+module _ (a : About) (l : Known) (k : Lock) (held : l.locks ≡ k ∷ []) (w : Place → ℕ) (g : Ghost) (r : Rule a w g)
+    (is : lane g.lanes l.cpu ≡ l) (none : k.change ≡ Nothing)
+    (change : Change) (linked' : ℕ → List ℕ → Option ℕ) (holder' : ℕ → ℕ → Holder)
+    (ef : Effect a g.depths l.cpu k change g.linked linked' g.holder holder') where
   abbrev pub owing : Era
   owing = record { era = w (Stamp k.map k.segment); writer = l.cpu; dirty = true; credit = 1; old = (g.eras k.map k.segment).old }
 
@@ -43,7 +47,8 @@ module _ (a : About) (l : Known) (k : Lock) (held : l.locks ≡ k ∷ []) (w : P
   h : Holds a g.depths (words_by_place w) (λ n t. w (Stamp n t)) g.eras g.linked g.holder l.cpu k
   h = holds a l k held w g r is
 
-  elsewhere : Elsewhere a g.depths k.map k.segment l.cpu (words_by_place w) (words_by_place w) (λ n t. w (Stamp n t)) (λ n t. w (Stamp n t)) g.eras eras' g.linked linked' g.holder holder'
+  elsewhere : Elsewhere a g.depths k.map k.segment l.cpu (words_by_place w) (words_by_place w) (λ n t. w (Stamp n t)) (λ n t. w (Stamp n t))
+      g.eras eras' g.linked linked' g.holder holder'
   elsewhere = record {
     stamps = λ n t off. refl;
     same_eras = λ n t ne. put2-other g.eras k.map k.segment n t owing ne;
@@ -82,7 +87,8 @@ module _ (a : About) (l : Known) (k : Lock) (held : l.locks ≡ k ∷ []) (w : P
   }
 
   pub effect_segments : Segments a g.depths (words_by_place w) (λ n t. w (Stamp n t)) eras' linked'
-  effect_segments = segments_step a g.depths k.map k.segment l.cpu (words_by_place w) (words_by_place w) _ _ g.eras eras' g.linked linked' g.holder holder' elsewhere r.deep.sound h.inside r.segments r.linked
+  effect_segments = segments_step a g.depths k.map k.segment l.cpu (words_by_place w) (words_by_place w) _ _ g.eras eras' g.linked linked'
+      g.holder holder' elsewhere r.deep.sound h.inside r.segments r.linked
       (subst (λ (y : Era). Segment a g.depths (words_by_place w) (w (Stamp k.map k.segment)) y k.map k.segment (linked' k.map)) (sym now_era) (record {
         at_rest = λ even. absurd (let o = is_odd a l k held w g r is in omega arith);
         clean = λ d. absurd (true≢false d);
@@ -91,7 +97,8 @@ module _ (a : About) (l : Known) (k : Lock) (held : l.locks ≡ k ∷ []) (w : P
       }))
 
   pub effect_locking : Locking a g.depths (words_by_place w) (λ n t. w (Stamp n t)) eras' linked' holder' (put g.lanes.locks l.cpu (lock' ∷ []))
-  effect_locking = locking_step a g.depths k.map k.segment l.cpu (words_by_place w) (words_by_place w) _ _ g.eras eras' g.linked linked' g.holder holder' elsewhere r.deep.sound h.inside g.lanes.locks (lock' ∷ []) r.locking (alone a l k held w g r is) (own_lock, tt)
+  effect_locking = locking_step a g.depths k.map k.segment l.cpu (words_by_place w) (words_by_place w) _ _ g.eras eras' g.linked linked'
+      g.holder holder' elsewhere r.deep.sound h.inside g.lanes.locks (lock' ∷ []) r.locking (alone a l k held w g r is) (own_lock, tt)
 
   pub effect_reading : Readings a g.depths eras' g.lanes.readings
   effect_reading = readings_step a g.depths k.map k.segment g.eras eras' g.lanes.readings (record {
@@ -101,7 +108,8 @@ module _ (a : About) (l : Known) (k : Lock) (held : l.locks ≡ k ∷ []) (w : P
   }) r.reading
 
   pub effect_held : l.cpu < a.shape.cpus → Held a g.depths (λ n t. w (Stamp n t)) eras' (put g.lanes.locks l.cpu (lock' ∷ []))
-  effect_held inside = held_step a g.depths k.map k.segment l.cpu _ _ g.eras eras' g.lanes.locks (lock' ∷ []) inside r.held (λ odd. (ap (λ (y : Era). y.writer) now_era, (let z = lock_once lock' in omega arith)))
+  effect_held inside = held_step a g.depths k.map k.segment l.cpu _ _ g.eras eras' g.lanes.locks (lock' ∷ []) inside r.held
+      (λ odd. (ap (λ (y : Era). y.writer) now_era, (let z = lock_once lock' in omega arith)))
       (λ n t _ ne. (refl, put2-other g.eras k.map k.segment n t owing ne, ap (times_lock n t) (sym (ap (λ (z : Known). z.locks) is ∙ held))))
 
   pub effect_worn : (e : Event) → is_done k.map e ≡ true → Worn a g.depths (λ n t. w (Stamp n t)) eras' (g.log ++ entry l.cpu e ∷ [])

@@ -1,5 +1,6 @@
 -- Fill word: the next word of the key or of the value of the element in hand. Give bit of that element.
-use Rattle.std.proofs.Common.{◌≡◌, ◌≢◌, ℕ, zero, suc, ◌+◌, ◌/◌, ◌%◌, ◌^◌, ◌<◌, ◌≤◌, Bool, true, false, ◌&&◌, List, [], ◌∷◌, ◌++◌, ◌==◌, length, take, slice_index, bit_or, refl, ap, sym, subst, ◌∙◌, arith, eq-eqb, ne_eqb, ⊎_elim, inl, inr, ◌⊎◌}
+use Rattle.std.proofs.Common.{◌≡◌, ◌≢◌, ℕ, zero, suc, ◌+◌, ◌/◌, ◌%◌, ◌^◌, ◌<◌, ◌≤◌, Bool, true, false, ◌&&◌, List, [], ◌∷◌, ◌++◌, ◌==◌}
+use Rattle.std.proofs.Common.{length, take, slice_index, bit_or, refl, ap, sym, subst, ◌∙◌, arith, eq-eqb, ne_eqb, ⊎_elim, inl, inr, ◌⊎◌}
 use Rattle.std.proofs.lemmas.Nat.Bits.{bit_at_or, bit_at-lt, bit_at-pow_same, bit_at-pow_other}
 use Rattle.std.specs.Int.{bit_at}
 use Rattle.std.proofs.lemmas.Bool.{cases_eq}
@@ -34,14 +35,16 @@ use Rattle.hop_words.proofs.Owners.{bits_step, linked_outside, valued_outside, l
 use Rattle.hop_words.proofs.Gives.{segments_words, locking_words}
 
 -- a list with one more number
-snoc : (ns : List ℕ) (n : ℕ) (w : ℕ → ℕ) → ((k : ℕ) → k < length ns → w k ≡ slice_index ns k) → w (length ns) ≡ n → (k : ℕ) → k < length (ns ++ n ∷ []) → w k ≡ slice_index (ns ++ n ∷ []) k
+snoc : (ns : List ℕ) (n : ℕ) (w : ℕ → ℕ) → ((k : ℕ) → k < length ns → w k ≡ slice_index ns k) → w (length ns) ≡ n → (k : ℕ) → k < length
+    (ns ++ n ∷ []) → w k ≡ slice_index (ns ++ n ∷ []) k
 snoc [] n w old new zero l = new
 snoc [] n w old new (suc k) l = absurd (omega arith)
 snoc (x ∷ ns) n w old new zero l = old 0 (omega arith)
 snoc (x ∷ ns) n w old new (suc k) l = snoc ns n (λ j. w (suc j)) (λ j h. old (suc j) (omega arith)) new k (omega arith)
 
 -- an element in hand is there once, and no other CPU has it
-module _ (a : About) (w : Place → ℕ) (g : Ghost) (r : Rule a w g) (c : ℕ) (inside : c < a.shape.cpus) (f : Fresh) (rest : List Fresh) (hand : g.lanes.fresh c ≡ f ∷ rest) (at_e : HasElement a f.map f.element) where
+module _ (a : About) (w : Place → ℕ) (g : Ghost) (r : Rule a w g) (c : ℕ) (inside : c < a.shape.cpus) (f : Fresh) (rest : List Fresh)
+    (hand : g.lanes.fresh c ≡ f ∷ rest) (at_e : HasElement a f.map f.element) where
   pub was : g.holder f.map f.element ≡ Filling c
   was = in_hand a _ g.lanes.fresh g.lanes.limbo g.holder c f.map f rest r.owned inside at_e refl hand
 
@@ -62,17 +65,22 @@ module _ (a : About) (w : Place → ℕ) (g : Ghost) (r : Rule a w g) (c : ℕ) 
       ne cc
 
   pub rest_apart : (d : Fresh) → 1 ≤ times_fresh d.map d.element rest → d.map ≡ f.map → d.element ≢ f.element
-  rest_apart d has t u = let z : times_fresh d.map d.element rest ≡ times_fresh f.map f.element rest = λ j. times_fresh (t j) (u j) rest in let n = none_behind in omega arith
+  rest_apart d has t u =
+      let z : times_fresh d.map d.element rest ≡ times_fresh f.map f.element rest = λ j. times_fresh (t j) (u j) rest in let n = none_behind in omega arith
 
 -- a fact of each element of a list, by one of those that are counted in it
-each_by : (P Q : Fresh → Type 0) (fs all : List Fresh) → ((d : Fresh) → 1 ≤ times_fresh d.map d.element fs → 1 ≤ times_fresh d.map d.element all) → ((d : Fresh) → 1 ≤ times_fresh d.map d.element all → P d → Q d) → Each P fs → Each Q fs
+each_by : (P Q : Fresh → Type 0) (fs all : List Fresh) → ((d : Fresh) → 1 ≤ times_fresh d.map d.element fs → 1 ≤ times_fresh d.map d.element
+    all) → ((d : Fresh) → 1 ≤ times_fresh d.map d.element all → P d → Q d) → Each P fs → Each Q fs
 each_by P Q [] all more on p = tt
 each_by P Q (f ∷ fs) all more on p = (
-  on f (more f (let z : one_if ((f.map == f.map) && (f.element == f.element)) ≡ 1 = rw (eq-eqb f.map f.map refl, eq-eqb f.element f.element refl) refl in omega arith)) p.0,
+  on f (more f (let z : one_if ((f.map == f.map) && (f.element == f.element)) ≡ 1 = rw (eq-eqb f.map f.map refl, eq-eqb f.element f.element refl) refl in
+      omega arith))
+      p.0,
   each_by P Q fs all (λ d has. more d (omega arith)) on p.1,
 )
 
-module _ (a : About) (l : Known) (f : Fresh) (rest : List Fresh) (hand : l.fresh ≡ f ∷ rest) (at_e : HasElement a f.map f.element) (unlocked : l.locks ≡ []) (n : ℕ)
+module _ (a : About) (l : Known) (f : Fresh) (rest : List Fresh) (hand : l.fresh ≡ f ∷ rest) (at_e : HasElement a f.map f.element)
+    (unlocked : l.locks ≡ []) (n : ℕ)
     (ws : List ℕ) (g : Ghost) (r : Rule a (mem a.shape ws) g) (is : lane g.lanes l.cpu ≡ l) (inside : l.cpu < a.shape.cpus) where
   abbrev w : Place → ℕ
   w = mem a.shape ws
@@ -91,9 +99,11 @@ module _ (a : About) (l : Known) (f : Fresh) (rest : List Fresh) (hand : l.fresh
     abbrev other : Fresh
     other = record f { key = key; value = value }
 
-    fresh_on : (b m e : ℕ) → b < a.shape.cpus → HasElement a m e → times_fresh m e (put g.lanes.fresh l.cpu (other ∷ rest) b) ≡ one_if (is_filling b (g.holder m e))
+    fresh_on : (b m e : ℕ) → b < a.shape.cpus → HasElement a m e → times_fresh m e (put g.lanes.fresh l.cpu (other ∷ rest) b) ≡ one_if
+        (is_filling b (g.holder m e))
     fresh_on b m e inb l2 = ⊎_elim
-        (λ (t : b ≡ l.cpu). ap (times_fresh m e) (put-same g.lanes.fresh l.cpu b (other ∷ rest) t) ∙ (ap (times_fresh m e) (sym (ap g.lanes.fresh t ∙ mine)) ∙ r.owned.fresh_is b m e inb l2))
+        (λ (t : b ≡ l.cpu). ap (times_fresh m e) (put-same g.lanes.fresh l.cpu b (other ∷ rest) t) ∙
+        (ap (times_fresh m e) (sym (ap g.lanes.fresh t ∙ mine)) ∙ r.owned.fresh_is b m e inb l2))
         (λ (ne : b ≢ l.cpu). ap (times_fresh m e) (put-other g.lanes.fresh l.cpu b (other ∷ rest) ne) ∙ r.owned.fresh_is b m e inb l2)
         (cases_eq b l.cpu)
 
@@ -103,7 +113,8 @@ module _ (a : About) (l : Known) (f : Fresh) (rest : List Fresh) (hand : l.fresh
         (λ (t : b ≡ l.cpu). subst (Each (IsFilled w2)) (sym (put-same g.lanes.fresh l.cpu b (other ∷ rest) t))
         (own, each_by (IsFilled w) (IsFilled w2) rest rest (λ d h. h) (λ d h p. keep d (rest_apart a w g r l.cpu inside f rest mine at_e d h) p) own_list.1))
         (λ (ne : b ≢ l.cpu). subst (Each (IsFilled w2)) (sym (put-other g.lanes.fresh l.cpu b (other ∷ rest) ne))
-        (each_by (IsFilled w) (IsFilled w2) (g.lanes.fresh b) (g.lanes.fresh b) (λ d h. h) (λ d h p. keep d (other_apart a w g r l.cpu inside f rest mine at_e b d inb ne h) p) (r.filled b inb)))
+        (each_by (IsFilled w) (IsFilled w2) (g.lanes.fresh b) (g.lanes.fresh b) (λ d h. h)
+        (λ d h p. keep d (other_apart a w g r l.cpu inside f rest mine at_e b d inb ne h) p) (r.filled b inb)))
         (cases_eq b l.cpu)
 
   key_step : Next a (put_at w (KeyWord f.map f.element (length f.key)) n) g l.cpu (λ l'. l' ≡ filling_key l f rest n)
@@ -125,18 +136,32 @@ module _ (a : About) (l : Known) (f : Fresh) (rest : List Fresh) (hand : l.fresh
       };
       linked = r.linked;
       filled = filled_on (f.key ++ n ∷ []) f.value w2 keep (own_new, own_list.0.1);
-      segments = segments_words a g.depths (words_by_place w) (words_by_place w2) (λ m t. w (Stamp m t)) g.eras g.linked g.holder r.linked (λ m t. refl) (λ m t b. refl) (λ m t b. refl)
-          (λ m d q h. (refl, λ k. elsewhere m d k (λ u v. let z : Within q ≡ Filling l.cpu = sym h ∙ ((λ j. g.holder (u j) (v j)) ∙ filling) in cc))) r.segments;
-      locking = locking_words a g.depths (words_by_place w) (words_by_place w2) (λ m t. w (Stamp m t)) g.eras g.linked g.holder g.lanes.locks l.cpu (ap (λ (z : Known). z.locks) is ∙ unlocked) (λ m t. refl) (λ m t b. refl) (λ m t b. refl)
+      segments = segments_words a g.depths (words_by_place w) (words_by_place w2) (λ m t. w (Stamp m t)) g.eras g.linked g.holder r.linked
+          (λ m t. refl) (λ m t b. refl) (λ m t b. refl)
+          (λ m d q h. (
+            refl,
+            λ k. elsewhere m d k
+                (λ u v. let z : Within q ≡ Filling l.cpu = sym h ∙ ((λ j. g.holder (u j) (v j)) ∙ filling) in cc),
+          )) r.segments;
+      locking = locking_words a g.depths (words_by_place w) (words_by_place w2) (λ m t. w (Stamp m t)) g.eras g.linked g.holder
+          g.lanes.locks l.cpu (ap (λ (z : Known). z.locks) is ∙ unlocked) (λ m t. refl) (λ m t b. refl) (λ m t b. refl)
           (λ home m t d b ne on. (refl, λ k. elsewhere m d k (λ u v. ne (sym (subst (Minded home b t) ((λ j. g.holder (u j) (v j)) ∙ filling) on))))) r.locking;
       reading = r.reading;
       held = r.held;
       valued = r.valued;
-      shown = shown_step a g.log g.log g.last g.last g.lanes.fresh (put g.lanes.fresh l.cpu (f2 ∷ rest)) g.lanes.tally g.holder g.holder g.taker (begun_fill g.log g.lanes.fresh l.cpu f f2 rest mine refl refl)
-          (causes_made a.shape a.version (begun_in g.log g.lanes.fresh) (begun_in g.log (put g.lanes.fresh l.cpu (f2 ∷ rest))) g.log g.last (λ m d _. begun_fill g.log g.lanes.fresh l.cpu f f2 rest mine refl refl m d) r.shown.causes)
-          (λ d p. ⊎_elim (λ (none : g.lanes.fresh d ≡ []). inl (empty_still g.lanes.fresh l.cpu f rest (f2 ∷ rest) mine d none)) (λ (run : in_run (events_of d g.log) ≡ true). inr run) p)
+      shown = shown_step a g.log g.log g.last g.last g.lanes.fresh (put g.lanes.fresh l.cpu (f2 ∷ rest)) g.lanes.tally g.holder g.holder
+          g.taker (begun_fill g.log g.lanes.fresh l.cpu f f2 rest mine refl refl)
+          (causes_made a.shape a.version (begun_in g.log g.lanes.fresh) (begun_in g.log (put g.lanes.fresh l.cpu (f2 ∷ rest))) g.log g.last
+          (λ m d _. begun_fill g.log g.lanes.fresh l.cpu f f2 rest mine refl refl m d) r.shown.causes)
+          (λ d p. ⊎_elim (λ (none : g.lanes.fresh d ≡ []). inl (empty_still g.lanes.fresh l.cpu f rest (f2 ∷ rest) mine d none))
+          (λ (run : in_run (events_of d g.log) ≡ true). inr run) p)
           (λ p h. h) (settled g.holder)
-          (λ b m d inb at has. inr (let q = r.owned.fresh_is b m d inb at in let z : times_fresh m d (put g.lanes.fresh l.cpu (f2 ∷ rest) b) ≡ one_if (is_filling b (g.holder m d)) = fresh_on (f.key ++ n ∷ []) f.value b m d inb at in omega arith)) r.shown;
+          (λ b m d inb at has. inr
+          (let q = r.owned.fresh_is b m d inb at in
+          let z : times_fresh m d (put g.lanes.fresh l.cpu (f2 ∷ rest) b) ≡ one_if (is_filling b (g.holder m d)) = fresh_on
+          (f.key ++ n ∷ []) f.value b m d inb at in
+          omega arith))
+          r.shown;
     };
     others = λ d ne. rw (ne_eqb d l.cpu ne) refl;
     longer = prefix_refl g.log;
@@ -175,7 +200,8 @@ module _ (a : About) (l : Known) (f : Fresh) (rest : List Fresh) (hand : l.fresh
       keep d ne p = ((λ j lt. elsewhere d.map d.element j ne ∙ p.0 j lt), p.1)
 
       own_new : StartsWith (f.key ++ n ∷ []) (λ j. w2 (KeyWord f.map f.element j))
-      own_new = snoc f.key n (λ j. w2 (KeyWord f.map f.element j)) (λ j lt. earlier j (λ e. omega arith) ∙ own_list.0.0 j lt) (put_here w (KeyWord f.map f.element (length f.key)) n)
+      own_new = snoc f.key n (λ j. w2 (KeyWord f.map f.element j)) (λ j lt. earlier j (λ e. omega arith) ∙ own_list.0.0 j lt)
+          (put_here w (KeyWord f.map f.element (length f.key)) n)
 
   value_step : Next a (put_at w (ValueWord f.map f.element (length f.value)) n) g l.cpu (λ l'. l' ≡ filling_value l f rest n)
   value_step = record {
@@ -201,16 +227,25 @@ module _ (a : About) (l : Known) (f : Fresh) (rest : List Fresh) (hand : l.fresh
       reading = r.reading;
       held = r.held;
       valued = record {
-        lies = λ m e at has. r.valued.lies m e at has ∙ ap (λ (h : ℕ → ℕ). record { bytes = take (shape_at a m).value (bytes_of_words (words_for (shape_at a m).value) h); span = element_span m (shape_at a m) e })
+        lies = λ m e at has. r.valued.lies m e at has ∙ ap (λ (h : ℕ → ℕ). record
+            { bytes = take (shape_at a m).value (bytes_of_words (words_for (shape_at a m).value) h); span = element_span m (shape_at a m) e })
             (λ t k. sym (elsewhere m e k (λ u v. subst Carries ((λ j. g.holder (u j) (v j)) ∙ filling) has)) t);
         older = r.valued.older;
         held_in = r.valued.held_in;
       };
-      shown = shown_step a g.log g.log g.last g.last g.lanes.fresh (put g.lanes.fresh l.cpu (f2 ∷ rest)) g.lanes.tally g.holder g.holder g.taker (begun_fill g.log g.lanes.fresh l.cpu f f2 rest mine refl refl)
-          (causes_made a.shape a.version (begun_in g.log g.lanes.fresh) (begun_in g.log (put g.lanes.fresh l.cpu (f2 ∷ rest))) g.log g.last (λ m d _. begun_fill g.log g.lanes.fresh l.cpu f f2 rest mine refl refl m d) r.shown.causes)
-          (λ d p. ⊎_elim (λ (none : g.lanes.fresh d ≡ []). inl (empty_still g.lanes.fresh l.cpu f rest (f2 ∷ rest) mine d none)) (λ (run : in_run (events_of d g.log) ≡ true). inr run) p)
+      shown = shown_step a g.log g.log g.last g.last g.lanes.fresh (put g.lanes.fresh l.cpu (f2 ∷ rest)) g.lanes.tally g.holder g.holder
+          g.taker (begun_fill g.log g.lanes.fresh l.cpu f f2 rest mine refl refl)
+          (causes_made a.shape a.version (begun_in g.log g.lanes.fresh) (begun_in g.log (put g.lanes.fresh l.cpu (f2 ∷ rest))) g.log g.last
+          (λ m d _. begun_fill g.log g.lanes.fresh l.cpu f f2 rest mine refl refl m d) r.shown.causes)
+          (λ d p. ⊎_elim (λ (none : g.lanes.fresh d ≡ []). inl (empty_still g.lanes.fresh l.cpu f rest (f2 ∷ rest) mine d none))
+          (λ (run : in_run (events_of d g.log) ≡ true). inr run) p)
           (λ p h. h) (settled g.holder)
-          (λ b m d inb at has. inr (let q = r.owned.fresh_is b m d inb at in let z : times_fresh m d (put g.lanes.fresh l.cpu (f2 ∷ rest) b) ≡ one_if (is_filling b (g.holder m d)) = fresh_on f.key (f.value ++ n ∷ []) b m d inb at in omega arith)) r.shown;
+          (λ b m d inb at has. inr
+          (let q = r.owned.fresh_is b m d inb at in
+          let z : times_fresh m d (put g.lanes.fresh l.cpu (f2 ∷ rest) b) ≡ one_if (is_filling b (g.holder m d)) = fresh_on f.key
+          (f.value ++ n ∷ []) b m d inb at in
+          omega arith))
+          r.shown;
     };
     others = λ d ne. rw (ne_eqb d l.cpu ne) refl;
     longer = prefix_refl g.log;
@@ -249,7 +284,8 @@ module _ (a : About) (l : Known) (f : Fresh) (rest : List Fresh) (hand : l.fresh
       keep d ne p = (p.0, (λ j lt. elsewhere d.map d.element j ne ∙ p.1 j lt))
 
       own_new : StartsWith (f.value ++ n ∷ []) (λ j. w2 (ValueWord f.map f.element j))
-      own_new = snoc f.value n (λ j. w2 (ValueWord f.map f.element j)) (λ j lt. earlier j (λ e. omega arith) ∙ own_list.0.1 j lt) (put_here w (ValueWord f.map f.element (length f.value)) n)
+      own_new = snoc f.value n (λ j. w2 (ValueWord f.map f.element j)) (λ j lt. earlier j (λ e. omega arith) ∙ own_list.0.1 j lt)
+          (put_here w (ValueWord f.map f.element (length f.value)) n)
 
 pub fill_key : (a : About) (l : Known) (f : Fresh) (rest : List Fresh) (n : ℕ) → l.fresh ≡ f ∷ rest → HasElement a f.map f.element → l.locks ≡ []
     → Steps a l (KeyWord f.map f.element (length f.key)) (λ _. n) (λ ws found l'. l' ≡ filling_key l f rest n)
@@ -260,8 +296,10 @@ pub fill_value : (a : About) (l : Known) (f : Fresh) (rest : List Fresh) (n : �
 fill_value a l f rest n hand at_e unlocked ws g sized r is inside fits = value_step a l f rest hand at_e unlocked n ws g r is inside
 
 -- ---- give bit of the element in hand
-pub give_fresh : (a : About) (l : Known) (f : Fresh) (rest : List Fresh) → l.fresh ≡ f ∷ rest → HasElement a f.map f.element → f.update < updates_of f.map (events_of l.cpu l.seen)
-    → Notes a l (FreeBits f.map (f.element / 64)) (λ n. bit_or n (2 ^ (f.element % 64))) (λ ws n l'. l' ≡ sighted (record l { fresh = rest }) (bit_set f.map f.element n))
+pub give_fresh : (a : About) (l : Known) (f : Fresh) (rest : List Fresh) → l.fresh ≡ f ∷ rest → HasElement a f.map f.element → f.update <
+    updates_of f.map (events_of l.cpu l.seen)
+    → Notes a l (FreeBits f.map (f.element / 64)) (λ n. bit_or n (2 ^ (f.element % 64)))
+    (λ ws n l'. l' ≡ sighted (record l { fresh = rest }) (bit_set f.map f.element n))
 unfolding took_more
 give_fresh a l f rest hand at_e answered ws g sized r is inside fits = record {
   ghost = g2;
@@ -276,14 +314,19 @@ give_fresh a l f rest hand at_e answered ws g sized r is inside fits = record {
     batched = r.batched;
     owned = record {
       bits = bits_step a w g.holder f.map f.element _ Free r.owned.bits
-          (λ j lj ne. bit_at_or (w (FreeBits f.map (f.element / 64))) (2 ^ (f.element % 64)) j ∙ (let z = bit_at-pow_other (f.element % 64) j ne in omega arith))
-          (bit_at_or (w (FreeBits f.map (f.element / 64))) (2 ^ (f.element % 64)) (f.element % 64) ∙ (let z = bit_at-pow_same (f.element % 64) in let y = bit_at-lt (w (FreeBits f.map (f.element / 64))) (f.element % 64) in omega arith));
+          (λ j lj ne. bit_at_or (w (FreeBits f.map (f.element / 64))) (2 ^ (f.element % 64)) j ∙
+          (let z = bit_at-pow_other (f.element % 64) j ne in omega arith))
+          (bit_at_or (w (FreeBits f.map (f.element / 64))) (2 ^ (f.element % 64)) (f.element % 64) ∙
+          (let z = bit_at-pow_same (f.element % 64) in let y = bit_at-lt (w (FreeBits f.map (f.element / 64))) (f.element % 64) in omega arith));
       fresh_is = λ b n d inb l2. ⊎_elim
-          (λ (t : b ≡ l.cpu). ap (times_fresh n d) (put-same g.lanes.fresh l.cpu b rest t) ∙ subst (λ z. times_fresh n d rest ≡ one_if (is_filling z (holder2 n d))) (sym t) (own n d l2))
-          (λ (ne : b ≢ l.cpu). ap (times_fresh n d) (put-other g.lanes.fresh l.cpu b rest ne) ∙ (r.owned.fresh_is b n d inb l2 ∙ sym (moved (λ z. one_if (is_filling b z)) g.holder f.map f.element (Filling l.cpu) Free filling
+          (λ (t : b ≡ l.cpu). ap (times_fresh n d) (put-same g.lanes.fresh l.cpu b rest t) ∙ subst
+          (λ z. times_fresh n d rest ≡ one_if (is_filling z (holder2 n d))) (sym t) (own n d l2))
+          (λ (ne : b ≢ l.cpu). ap (times_fresh n d) (put-other g.lanes.fresh l.cpu b rest ne) ∙
+          (r.owned.fresh_is b n d inb l2 ∙ sym (moved (λ z. one_if (is_filling b z)) g.holder f.map f.element (Filling l.cpu) Free filling
           (sym (ap one_if (ne_eqb l.cpu b (λ (q : l.cpu ≡ b). ne (sym q))))) n d)))
           (cases_eq b l.cpu);
-      limbo_is = λ b n d inb l2. r.owned.limbo_is b n d inb l2 ∙ sym (moved (λ z. one_if (is_leaving b z)) g.holder f.map f.element (Filling l.cpu) Free filling refl n d);
+      limbo_is = λ b n d inb l2. r.owned.limbo_is b n d inb l2 ∙ sym
+          (moved (λ z. one_if (is_leaving b z)) g.holder f.map f.element (Filling l.cpu) Free filling refl n d);
     };
     linked = linked_outside a g.holder f.map f.element (Filling l.cpu) Free filling g.linked (λ s z. cc) (λ s z. cc) r.linked;
     filled = λ b inb. ⊎_elim
@@ -291,19 +334,28 @@ give_fresh a l f rest hand at_e answered ws g sized r is inside fits = record {
         (λ (ne : b ≢ l.cpu). subst (Each (IsFilled w)) (sym (put-other g.lanes.fresh l.cpu b rest ne)) (r.filled b inb))
         (cases_eq b l.cpu);
     segments = r.segments;
-    locking = locking_outside a g.holder f.map f.element (Filling l.cpu) Free filling g.depths (words_by_place w) (λ n t. w (Stamp n t)) g.eras g.linked g.lanes.locks (λ b. inr (λ home t z. absurd z)) r.locking;
+    locking = locking_outside a g.holder f.map f.element (Filling l.cpu) Free filling g.depths (words_by_place w) (λ n t. w (Stamp n t))
+        g.eras g.linked g.lanes.locks (λ b. inr (λ home t z. absurd z)) r.locking;
     reading = r.reading;
     held = r.held;
-    valued = valued_outside a g.holder f.map f.element (Filling l.cpu) Free filling _ g.last.made g.last.value g.last.held g.number (λ z. z) (λ c h z. z) r.valued;
+    valued = valued_outside a g.holder f.map f.element (Filling l.cpu) Free filling _ g.last.made g.last.value g.last.held g.number (λ z. z)
+        (λ c h z. z) r.valued;
     shown = record {
-      causes = causes_made a.shape a.version (begun_in g.log g.lanes.fresh) (begun_in g.log (put g.lanes.fresh l.cpu rest)) g.log g.last (λ m d _. gives m d) r.shown.causes;
-      running = λ d. ⊎_elim (λ (none : g.lanes.fresh d ≡ []). inl (empty_still g.lanes.fresh l.cpu f rest rest mine d none)) (λ (run : in_run (events_of d g.log) ≡ true). inr run) (r.shown.running d);
+      causes = causes_made a.shape a.version (begun_in g.log g.lanes.fresh) (begun_in g.log (put g.lanes.fresh l.cpu rest)) g.log g.last
+          (λ m d _. gives m d) r.shown.causes;
+      running = λ d. ⊎_elim (λ (none : g.lanes.fresh d ≡ []). inl (empty_still g.lanes.fresh l.cpu f rest rest mine d none))
+          (λ (run : in_run (events_of d g.log) ≡ true). inr run) (r.shown.running d);
       took = λ n d at_d held.
-          let k = r.shown.took n d at_d ((settles_put g.holder f.map f.element Free (λ ne _. ne refl) (λ c u. cc) n d).0 held) in
-          (took_more a g.log g.log g.lanes.fresh (put g.lanes.fresh l.cpu rest) g.taker n d gives k.0, λ c q. k.1 c ((settles_put g.holder f.map f.element Free (λ ne _. ne refl) (λ c u. cc) n d).1 c q));
+          let k = r.shown.took n d at_d ((settles_put g.holder f.map f.element Free (λ ne _. ne refl) (λ c u. cc) n d).0 held) in (
+            took_more a g.log g.log g.lanes.fresh (put g.lanes.fresh l.cpu rest) g.taker n d gives k.0,
+            λ c q. k.1 c
+                ((settles_put g.holder f.map f.element Free (λ ne _. ne refl) (λ c u. cc) n d).1 c q),
+          );
       taken = λ b n d inb at_d seen. ⊎_elim
-          (λ (t : b ≡ l.cpu). still b n d inb at_d t (subst (λ (z : List Sight). IsTakenSince z n d) (put-same g.lanes.tally l.cpu b (given ∷ g.lanes.tally l.cpu) t) seen))
-          (λ (ne : b ≢ l.cpu). kept b n d (λ q. absurd (ne q)) (r.shown.taken b n d inb at_d (subst (λ (z : List Sight). IsTakenSince z n d) (put-other g.lanes.tally l.cpu b (given ∷ g.lanes.tally l.cpu) ne) seen)))
+          (λ (t : b ≡ l.cpu). still b n d inb at_d t (subst (λ (z : List Sight). IsTakenSince z n d)
+          (put-same g.lanes.tally l.cpu b (given ∷ g.lanes.tally l.cpu) t) seen))
+          (λ (ne : b ≢ l.cpu). kept b n d (λ q. absurd (ne q)) (r.shown.taken b n d inb at_d
+          (subst (λ (z : List Sight). IsTakenSince z n d) (put-other g.lanes.tally l.cpu b (given ∷ g.lanes.tally l.cpu) ne) seen)))
           (cases_eq b l.cpu);
     };
   };
@@ -323,7 +375,14 @@ give_fresh a l f rest hand at_e answered ws g sized r is inside fits = record {
     given = bit_set f.map f.element (w (FreeBits f.map (f.element / 64)))
 
     g2 : Ghost
-    g2 = record g { lanes = record g.lanes { fresh = put g.lanes.fresh l.cpu rest; tally = put g.lanes.tally l.cpu (given ∷ g.lanes.tally l.cpu) }; holder = holder2 }
+    g2 = record g {
+      lanes = record g.lanes {
+        fresh = put g.lanes.fresh l.cpu rest;
+        tally = put g.lanes.tally l.cpu
+            (given ∷ g.lanes.tally l.cpu);
+      };
+      holder = holder2;
+    }
 
     mine : g.lanes.fresh l.cpu ≡ f ∷ rest
     mine = ap (λ (z : Known). z.fresh) is ∙ hand
@@ -333,8 +392,10 @@ give_fresh a l f rest hand at_e answered ws g sized r is inside fits = record {
 
     at_f : (n : ℕ) → n ≡ f.map → (LeavesElements n given → ⊥)
     at_f n t leaves =
-        let look : bit_or (w (FreeBits f.map (f.element / 64))) (2 ^ (f.element % 64)) ≡ w (FreeBits f.map (f.element / 64)) = leaves (f.element / 64) (λ j. FreeBits (sym t j) (f.element / 64)) in
-        let now : bit_at (bit_or (w (FreeBits f.map (f.element / 64))) (2 ^ (f.element % 64))) (f.element % 64) ≡ bit_at (w (FreeBits f.map (f.element / 64))) (f.element % 64) = ap (λ (x : ℕ). bit_at x (f.element % 64)) look in
+        let look : bit_or (w (FreeBits f.map (f.element / 64))) (2 ^ (f.element % 64)) ≡ w (FreeBits f.map (f.element / 64)) = leaves
+        (f.element / 64) (λ j. FreeBits (sym t j) (f.element / 64)) in
+        let now : bit_at (bit_or (w (FreeBits f.map (f.element / 64))) (2 ^ (f.element % 64))) (f.element % 64) ≡ bit_at
+        (w (FreeBits f.map (f.element / 64))) (f.element % 64) = ap (λ (x : ℕ). bit_at x (f.element % 64)) look in
         let both = bit_at_or (w (FreeBits f.map (f.element / 64))) (2 ^ (f.element % 64)) (f.element % 64) in
         let one = bit_at-pow_same (f.element % 64) in
         let was_clear = r.owned.bits f.map f.element at_e in
@@ -346,12 +407,18 @@ give_fresh a l f rest hand at_e answered ws g sized r is inside fits = record {
     map_of p = 0
 
     gives : (m d : ℕ) → begun_in g.log g.lanes.fresh m d ≤ begun_in g.log (put g.lanes.fresh l.cpu rest) m d
-    gives = begun_give g.log g.lanes.fresh l.cpu f rest mine (subst (λ (es : List Event). f.update < updates_of f.map es) (ap (events_of l.cpu) (sym (ap (λ (z : Known). z.seen) is)) ∙ r.logged.own l.cpu inside) answered)
+    gives = begun_give g.log g.lanes.fresh l.cpu f rest mine (subst (λ (es : List Event). f.update < updates_of f.map es)
+        (ap (events_of l.cpu) (sym (ap (λ (z : Known). z.seen) is)) ∙ r.logged.own l.cpu inside) answered)
 
     -- of another map, all is as it was
-    kept : (b n d : ℕ) → (b ≡ l.cpu → n ≢ f.map) → IsAnothers a g g.lanes.fresh b n d ⊎ (1 ≤ times_fresh n d (g.lanes.fresh b)) → IsAnothers a g (put g.lanes.fresh l.cpu rest) b n d ⊎ (1 ≤ times_fresh n d (put g.lanes.fresh l.cpu rest b))
+    kept : (b n d : ℕ) → (b ≡ l.cpu → n ≢ f.map) → IsAnothers a g g.lanes.fresh b n d ⊎ (1 ≤ times_fresh n d (g.lanes.fresh b)) → IsAnothers
+        a g (put g.lanes.fresh l.cpu rest) b n d ⊎ (1 ≤ times_fresh n d (put g.lanes.fresh l.cpu rest b))
     kept b n d apart was_so = ⊎_elim
-        (λ (may : IsAnothers a g g.lanes.fresh b n d). inl (took_more a g.log g.log g.lanes.fresh (put g.lanes.fresh l.cpu rest) g.taker n d gives may.0, may.1))
+        (λ (may : IsAnothers a g g.lanes.fresh b n d). inl (
+          took_more a g.log g.log g.lanes.fresh (put g.lanes.fresh l.cpu rest) g.taker n d
+              gives may.0,
+          may.1,
+        ))
         (λ (has : 1 ≤ times_fresh n d (g.lanes.fresh b)). ⊎_elim
         (λ (t : b ≡ l.cpu). ⊎_elim
         (λ (h : (n ≡ f.map) × (d ≡ f.element)). absurd (apart t h.0))
@@ -361,20 +428,26 @@ give_fresh a l f rest hand at_e answered ws g sized r is inside fits = record {
         (cases_eq b l.cpu))
         was_so
 
-    still : (b n d : ℕ) → b < a.shape.cpus → HasElement a n d → b ≡ l.cpu → LeavesElements n given × (ShowsTaken given n d ⊎ IsTakenSince (g.lanes.tally l.cpu) n d)
+    still : (b n d : ℕ) → b < a.shape.cpus → HasElement a n d → b ≡ l.cpu → LeavesElements n given ×
+        (ShowsTaken given n d ⊎ IsTakenSince (g.lanes.tally l.cpu) n d)
         → IsAnothers a g (put g.lanes.fresh l.cpu rest) b n d ⊎ (1 ≤ times_fresh n d (put g.lanes.fresh l.cpu rest b))
     still b n d inb at_d t seen = ⊎_elim
         (λ (shows : ShowsTaken given n d). absurd (at_f n (sym (ap map_of shows.0)) seen.0))
-        (λ (before : IsTakenSince (g.lanes.tally l.cpu) n d). kept b n d (λ _ q. at_f n q seen.0) (r.shown.taken b n d inb at_d (subst (λ (i : ℕ). IsTakenSince (g.lanes.tally i) n d) (sym t) before)))
+        (λ (before : IsTakenSince (g.lanes.tally l.cpu) n d). kept b n d (λ _ q. at_f n q seen.0)
+        (r.shown.taken b n d inb at_d (subst (λ (i : ℕ). IsTakenSince (g.lanes.tally i) n d) (sym t) before)))
         seen.1
 
     own : (n d : ℕ) → HasElement a n d → times_fresh n d rest ≡ one_if (is_filling l.cpu (holder2 n d))
     own n d l2 = ⊎_elim
-        (λ (t : (n ≡ f.map) × (d ≡ f.element)). (λ j. times_fresh (t.0 j) (t.1 j) rest) ∙ (none_behind a w g r l.cpu inside f rest mine at_e ∙ ap (λ z. one_if (is_filling l.cpu z)) (sym (put2-same g.holder f.map f.element n d Free t.0 t.1))))
+        (λ (t : (n ≡ f.map) × (d ≡ f.element)). (λ j. times_fresh (t.0 j) (t.1 j) rest) ∙
+        (none_behind a w g r l.cpu inside f rest mine at_e ∙ ap (λ z. one_if (is_filling l.cpu z))
+        (sym (put2-same g.holder f.map f.element n d Free t.0 t.1))))
         (λ (ne : n ≡ f.map → d ≢ f.element).
-        let q : times_fresh n d (f ∷ rest) ≡ one_if (is_filling l.cpu (g.holder n d)) = ap (times_fresh n d) (sym mine) ∙ r.owned.fresh_is l.cpu n d inside l2 in
+        let q : times_fresh n d (f ∷ rest) ≡ one_if (is_filling l.cpu (g.holder n d)) = ap (times_fresh n d) (sym mine) ∙ r.owned.fresh_is
+        l.cpu n d inside l2 in
         let none : one_if ((f.map == n) && (f.element == d)) ≡ 0 = differ n d ne in
-        let new : one_if (is_filling l.cpu (holder2 n d)) ≡ one_if (is_filling l.cpu (g.holder n d)) = ap (λ z. one_if (is_filling l.cpu z)) (put2-other g.holder f.map f.element n d Free ne) in
+        let new : one_if (is_filling l.cpu (holder2 n d)) ≡ one_if (is_filling l.cpu (g.holder n d)) = ap (λ z. one_if (is_filling l.cpu z))
+        (put2-other g.holder f.map f.element n d Free ne) in
         omega arith)
         (here_or f.map n f.element d)
       where

@@ -1,5 +1,6 @@
 -- The bytes that an array has at first, as its words spell them.
-use Rattle.std.proofs.Common.{◌≡◌, ℕ, zero, suc, ◌+◌, ◌-◌, ◌*◌, ◌/◌, ◌%◌, ◌<◌, ◌≤◌, List, [], ◌∷◌, ◌++◌, length, take, drop, replicate, slice_index, refl, ap, sym, subst, ◌∙◌, arith, Bool, true, false, if◌then◌else◌}
+use Rattle.std.proofs.Common.{◌≡◌, ℕ, zero, suc, ◌+◌, ◌-◌, ◌*◌, ◌/◌, ◌%◌, ◌<◌, ◌≤◌, List, [], ◌∷◌, ◌++◌, length, take, drop, replicate}
+use Rattle.std.proofs.Common.{slice_index, refl, ap, sym, subst, ◌∙◌, arith, Bool, true, false, if◌then◌else◌}
 use Rattle.std.proofs.lemmas.List.{take-take, take_all, drop-drop}
 use Rattle.std.proofs.lemmas.Nat.{mod-mul-add, mul-add-lt}
 use Rattle.bpf_base.specs.Bytes.{little_endian, part}
@@ -78,7 +79,8 @@ first_spelled n bs q v are few =
     back =
         let len = length-spelled n (word_of row) in
         sym (take_all (8 * n) (bytes_of_words n (word_of row)) (omega arith))
-        ∙ (ap (λ (k : ℕ). take k (bytes_of_words n (word_of row))) (sym long) ∙ spelled_back n row (bytes_padded bs (8 * q + 8 * n) (8 * q) (8 * n) are) (let z = long in omega arith))
+        ∙ (ap (λ (k : ℕ). take k (bytes_of_words n (word_of row))) (sym long) ∙ spelled_back n row
+        (bytes_padded bs (8 * q + 8 * n) (8 * q) (8 * n) are) (let z = long in omega arith))
 
     words : (j : ℕ) → j < n → word_of row j ≡ word_of bs (q + j)
     words j l =
@@ -103,7 +105,8 @@ row_is g k i =
     let z = word_at g k i in
     let e = eighths g in
     let s : array_stride g ≡ words_for g.value * 8 = refl in
-    let p : k * copy_stride g ≡ 8 * (k * copy_words g) = ap (λ (x : ℕ). k * x) (sym e) ∙ (let y : k * (8 * copy_words g) ≡ 8 * (k * copy_words g) = grind arith in y) in
+    let p : k * copy_stride g ≡ 8 * (k * copy_words g) = ap (λ (x : ℕ). k * x) (sym e) ∙
+    (let y : k * (8 * copy_words g) ≡ 8 * (k * copy_words g) = grind arith in y) in
     let q : i * array_stride g ≡ 8 * (i * words_for g.value) = (let y : i * (words_for g.value * 8) ≡ 8 * (i * words_for g.value) = grind arith in y) in
     omega arith
 
@@ -117,7 +120,8 @@ row_inside cpus g i j l few =
 
 module _ (a : About) (shaped : IsShape a.shape) (are : (b : ℕ) → b < length a.shape.arrays → AreBytes (contents_of a.shape b)) (w : Place → ℕ)
     (made : (b k : ℕ) → b < length a.shape.arrays → k < array_words a.shape b → w (FixedWord b k) ≡ first_word a b k) where
-  word_made : (b k i j : ℕ) → HasFixed a b k i → j < words_for (array_at a b).value → w (FixedWord b (fixed_word (array_at a b) k i + j)) ≡ word_of (contents_of a.shape b) (i * words_for (array_at a b).value + j)
+  word_made : (b k i j : ℕ) → HasFixed a b k i → j < words_for (array_at a b).value → w (FixedWord b (fixed_word (array_at a b) k i + j)) ≡
+      word_of (contents_of a.shape b) (i * words_for (array_at a b).value + j)
   word_made b k i j has few =
       let g = array_at a b in
       let at : fixed_word g k i + j ≡ k * copy_words g + (i * words_for g.value + j) = (let z = row_is g k i in omega arith) in
@@ -129,7 +133,9 @@ module _ (a : About) (shaped : IsShape a.shape) (are : (b : ℕ) → b < length 
       last g k r l low =
           let z = mul-add-lt k (copy_words g) r (copies a.shape.cpus g) l low in
           let e = eighths g in
-          let m : copies a.shape.cpus g * copy_stride g ≡ copies a.shape.cpus g * copy_words g * 8 = ap (λ (x : ℕ). copies a.shape.cpus g * x) (sym e) ∙ (let y : copies a.shape.cpus g * (8 * copy_words g) ≡ copies a.shape.cpus g * copy_words g * 8 = grind arith in y) in
+          let m : copies a.shape.cpus g * copy_stride g ≡ copies a.shape.cpus g * copy_words g * 8 = ap
+          (λ (x : ℕ). copies a.shape.cpus g * x) (sym e) ∙
+          (let y : copies a.shape.cpus g * (8 * copy_words g) ≡ copies a.shape.cpus g * copy_words g * 8 = grind arith in y) in
           omega arith
 
   -- the words as made spell the first bytes
@@ -145,23 +151,28 @@ module _ (a : About) (shaped : IsShape a.shape) (are : (b : ℕ) → b < length 
       ∙ ap (λ (bs : List ℕ). record { bytes = bs; span = fixed_span b g k i })
       (ap (λ (x : ℕ). first_bytes (contents_of a.shape b) x g.value) (let y : i * (words_for g.value * 8) ≡ 8 * (i * words_for g.value) = grind arith in y)
       ∙ (first_spelled n (contents_of a.shape b) (i * n) g.value (are b has.array) (omega arith)
-      ∙ ap (take g.value) (sym (spelled_same n (λ j. w (FixedWord b (fixed_word g k i + j))) (λ j. word_of (contents_of a.shape b) (i * n + j)) (λ j l. word_made b k i j has l))))))
+      ∙ ap (take g.value) (sym (spelled_same n (λ j. w (FixedWord b (fixed_word g k i + j)))
+      (λ j. word_of (contents_of a.shape b) (i * n + j)) (λ j l. word_made b k i j has l))))))
 
 -- ---- as the code writes them
 -- the words of a copy, from its first on
-pub copy_word : (a : About) (b n j : ℕ) → IsCopyStart a b n → j < copy_words (array_at a b) → (first_word a b (n + j) ≡ word_of (contents_of a.shape b) j) × (n + j < array_words a.shape b)
+pub copy_word : (a : About) (b n j : ℕ) → IsCopyStart a b n → j < copy_words (array_at a b) →
+    (first_word a b (n + j) ≡ word_of (contents_of a.shape b) j) × (n + j < array_words a.shape b)
 copy_word a b n j start low =
     let g = array_at a b in
     let at : n + j ≡ start.0 * copy_words g + j = ap (λ (x : ℕ). x + j) start.2 in (
       ap (word_of (contents_of a.shape b)) (ap (λ (x : ℕ). x % copy_words g) at ∙ mod-mul-add start.0 (copy_words g) j low),
       subst (λ (x : ℕ). x < array_words a.shape b) (sym at) (let z = mul-add-lt start.0 (copy_words g) j (copies a.shape.cpus g) start.1 low in
           let e = eighths g in
-          let m : copies a.shape.cpus g * copy_stride g ≡ copies a.shape.cpus g * copy_words g * 8 = ap (λ (x : ℕ). copies a.shape.cpus g * x) (sym e) ∙ (let y : copies a.shape.cpus g * (8 * copy_words g) ≡ copies a.shape.cpus g * copy_words g * 8 = grind arith in y) in
+          let m : copies a.shape.cpus g * copy_stride g ≡ copies a.shape.cpus g * copy_words g * 8 = ap
+          (λ (x : ℕ). copies a.shape.cpus g * x) (sym e) ∙
+          (let y : copies a.shape.cpus g * (8 * copy_words g) ≡ copies a.shape.cpus g * copy_words g * 8 = grind arith in y) in
           omega arith),
     )
 
 -- those after the last byte are zeros
-pub copy_zero : (a : About) (b n k d : ℕ) → IsCopyStart a b n → n + d ≤ k → k < n + copy_words (array_at a b) → length (contents_of a.shape b) ≤ 8 * d → first_word a b k ≡ 0
+pub copy_zero : (a : About) (b n k d : ℕ) → IsCopyStart a b n → n + d ≤ k → k < n + copy_words (array_at a b) → length
+    (contents_of a.shape b) ≤ 8 * d → first_word a b k ≡ 0
 copy_zero a b n k d start from low most =
     let at : n + (k - n) ≡ k = omega arith in
     ap (first_word a b) (sym at) ∙ ((copy_word a b n (k - n) start (omega arith)).0 ∙ word_none (contents_of a.shape b) (8 * (k - n)) 8 (omega arith))
@@ -189,8 +200,11 @@ copies_some a shaped b = go (array_at a b).per_cpu
 -- and so few words that code counts them
 pub copy_room : (a : About) (shaped : IsShape a.shape) (b n : ℕ) → b < length a.shape.arrays → IsCopyStart a b n → n + copy_words (array_at a b) ≤ 33554432
 copy_room a shaped b n l start = dite (dec_lt 0 (copy_words g))
-    (λ (some : 0 < copy_words g). let z = (copy_word a b n (copy_words g - 1) start (omega arith)).1 in let m = words_few a.shape.cpus (copies a.shape.cpus g) (copy_stride g) g shaped.cpus.1 (sized_array a shaped b l) refl refl in omega arith)
-    (λ none. let e : copy_words g ≡ 0 = grind arith in let z : start.0 * copy_words g ≡ start.0 * 0 = ap (λ (x : ℕ). start.0 * x) e in let q = start.2 in omega arith)
+    (λ (some : 0 < copy_words g).
+    let z = (copy_word a b n (copy_words g - 1) start (omega arith)).1 in
+    let m = words_few a.shape.cpus (copies a.shape.cpus g) (copy_stride g) g shaped.cpus.1 (sized_array a shaped b l) refl refl in omega arith)
+    (λ none. let e : copy_words g ≡ 0 = grind arith in let z : start.0 * copy_words g ≡ start.0 * 0 = ap (λ (x : ℕ). start.0 * x) e in
+    let q = start.2 in omega arith)
   where
     g : ArrayShape
     g = array_at a b
@@ -199,5 +213,6 @@ pub all_copies : (a : About) (b : ℕ) → copies a.shape.cpus (array_at a b) * 
 all_copies a b =
     let g = array_at a b in
     let e = eighths g in
-    let m : copies a.shape.cpus g * copy_stride g ≡ copies a.shape.cpus g * copy_words g * 8 = ap (λ (x : ℕ). copies a.shape.cpus g * x) (sym e) ∙ (let y : copies a.shape.cpus g * (8 * copy_words g) ≡ copies a.shape.cpus g * copy_words g * 8 = grind arith in y) in
+    let m : copies a.shape.cpus g * copy_stride g ≡ copies a.shape.cpus g * copy_words g * 8 = ap (λ (x : ℕ). copies a.shape.cpus g * x)
+    (sym e) ∙ (let y : copies a.shape.cpus g * (8 * copy_words g) ≡ copies a.shape.cpus g * copy_words g * 8 = grind arith in y) in
     omega arith

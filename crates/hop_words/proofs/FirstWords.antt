@@ -1,5 +1,7 @@
 -- Making the words of a store, a word at a time.
-use Rattle.std.proofs.Common.{replicate, ◌≡◌, ◌≢◌, ⊎_elim, ℕ, zero, suc, ◌+◌, ◌*◌, ◌-◌, ◌/◌, ◌%◌, ◌^◌, ◌<◌, ◌≤◌, Bool, true, false, ◌&&◌, ◌||◌, ◌==◌, if◌then◌else◌, nat_lt, List, length, slice_index, refl, ap, sym, subst, ◌∙◌, arith, eq-eqb, ne_eqb}
+use Rattle.std.proofs.Common.{replicate, ◌≡◌, ◌≢◌, ⊎_elim, ℕ, zero, suc, ◌+◌, ◌*◌, ◌-◌, ◌/◌, ◌%◌, ◌^◌, ◌<◌, ◌≤◌, Bool, true, false, ◌&&◌}
+use Rattle.std.proofs.Common.{◌||◌, ◌==◌, if◌then◌else◌, nat_lt, List, length, slice_index, refl, ap, sym, subst, ◌∙◌, arith, eq-eqb}
+use Rattle.std.proofs.Common.{ne_eqb}
 use Rattle.std.proofs.lemmas.Bool.Decides.{nat_tests}
 use native.Mathlib.Decide.{dec_lt}
 use mathlib.Core.Logic.{dite}
@@ -50,9 +52,14 @@ bits_on a w c m i s p (KeyCount n) there = p (KeyCount n) there
 bits_on a w c m i s p (FreeBits n j) there = ⊎_elim
     (λ (e : n ≡ m). ⊎_elim
     (λ (f : j ≡ i). rw (eq-eqb n m e, eq-eqb j i f, no n m (omega arith), lt_now j i f) refl)
-    (λ (nf : j ≢ i). rw (eq-eqb n m e, ne_eqb j i nf, no n m (omega arith), lt_on j i nf) (let q = p (FreeBits n j) there in let z : (nat_lt n m || ((n == m) && nat_lt j i)) ≡ nat_lt j i = rw (eq-eqb n m e, no n m (omega arith)) refl in subst (λ (b : Bool). w (FreeBits n j) ≡ (if b then 2 ^ 64 - 1 else 0)) z q))
+    (λ (nf : j ≢ i). rw (eq-eqb n m e, ne_eqb j i nf, no n m (omega arith), lt_on j i nf)
+    (let q = p (FreeBits n j) there in
+    let z : (nat_lt n m || ((n == m) && nat_lt j i)) ≡ nat_lt j i = rw (eq-eqb n m e, no n m (omega arith)) refl in subst
+    (λ (b : Bool). w (FreeBits n j) ≡ (if b then 2 ^ 64 - 1 else 0)) z q))
     (cases_eq j i))
-    (λ (ne : n ≢ m). rw (ne_eqb n m ne) (let q = p (FreeBits n j) there in let z : (nat_lt n m || ((n == m) && nat_lt j i)) ≡ (nat_lt n m || false) = rw (ne_eqb n m ne) refl in subst (λ (b : Bool). w (FreeBits n j) ≡ (if b then 2 ^ 64 - 1 else 0)) z q))
+    (λ (ne : n ≢ m). rw (ne_eqb n m ne)
+    (let q = p (FreeBits n j) there in let z : (nat_lt n m || ((n == m) && nat_lt j i)) ≡ (nat_lt n m || false) = rw (ne_eqb n m ne) refl in
+    subst (λ (b : Bool). w (FreeBits n j) ≡ (if b then 2 ^ 64 - 1 else 0)) z q))
     (cases_eq n m)
 bits_on a w c m i s p (Stamp n t) there = p (Stamp n t) there
 bits_on a w c m i s p (Head n t) there = p (Head n t) there
@@ -66,16 +73,22 @@ bits_on a w c m i s p (FixedWord b k) there = p (FixedWord b k) there
 abbrev fresh_stamp : About → ℕ → ℕ
 fresh_stamp a m = a.version * 256 + 2 * first_depth (shape_at a m)
 
-pub stamps_on : (a : About) (w : Place → ℕ) (c m i s : ℕ) → IsPartly a w c m i s → IsPartly a (put_at w (Stamp m s) (a.version * 256 + 2 * first_depth (shape_at a m))) c m i (s + 1)
+pub stamps_on : (a : About) (w : Place → ℕ) (c m i s : ℕ) → IsPartly a w c m i s → IsPartly a
+    (put_at w (Stamp m s) (a.version * 256 + 2 * first_depth (shape_at a m))) c m i (s + 1)
 stamps_on a w c m i s p (RunCount d) there = p (RunCount d) there
 stamps_on a w c m i s p (KeyCount n) there = p (KeyCount n) there
 stamps_on a w c m i s p (FreeBits n j) there = p (FreeBits n j) there
 stamps_on a w c m i s p (Stamp n t) there = ⊎_elim
     (λ (e : n ≡ m). ⊎_elim
     (λ (f : t ≡ s). rw (eq-eqb n m e, eq-eqb t s f, no n m (omega arith), lt_now t s f) (ap (fresh_stamp a) (sym e)))
-    (λ (nf : t ≢ s). rw (eq-eqb n m e, ne_eqb t s nf, no n m (omega arith), lt_on t s nf) (let q = p (Stamp n t) there in let z : (nat_lt n m || ((n == m) && nat_lt t s)) ≡ nat_lt t s = rw (eq-eqb n m e, no n m (omega arith)) refl in subst (λ (b : Bool). w (Stamp n t) ≡ (if b then fresh_stamp a n else 0)) z q))
+    (λ (nf : t ≢ s). rw (eq-eqb n m e, ne_eqb t s nf, no n m (omega arith), lt_on t s nf)
+    (let q = p (Stamp n t) there in
+    let z : (nat_lt n m || ((n == m) && nat_lt t s)) ≡ nat_lt t s = rw (eq-eqb n m e, no n m (omega arith)) refl in subst
+    (λ (b : Bool). w (Stamp n t) ≡ (if b then fresh_stamp a n else 0)) z q))
     (cases_eq t s))
-    (λ (ne : n ≢ m). rw (ne_eqb n m ne) (let q = p (Stamp n t) there in let z : (nat_lt n m || ((n == m) && nat_lt t s)) ≡ (nat_lt n m || false) = rw (ne_eqb n m ne) refl in subst (λ (b : Bool). w (Stamp n t) ≡ (if b then fresh_stamp a n else 0)) z q))
+    (λ (ne : n ≢ m). rw (ne_eqb n m ne)
+    (let q = p (Stamp n t) there in let z : (nat_lt n m || ((n == m) && nat_lt t s)) ≡ (nat_lt n m || false) = rw (ne_eqb n m ne) refl in
+    subst (λ (b : Bool). w (Stamp n t) ≡ (if b then fresh_stamp a n else 0)) z q))
     (cases_eq n m)
 stamps_on a w c m i s p (Head n t) there = p (Head n t) there
 stamps_on a w c m i s p (Hop n t b) there = p (Hop n t b) there
@@ -110,10 +123,12 @@ map_on a w c m p (RunCount d) there = p (RunCount d) there
 map_on a w c m p (KeyCount n) there = p (KeyCount n) there
 map_on a w c m p (FreeBits n j) there =
     let few = less j (free_words (shape_at a n)) (inner (nat_lt n (length a.shape.maps)) (nat_lt j (free_words (shape_at a n))) true there) in
-    subst (λ (b : Bool). w (FreeBits n j) ≡ (if b then 2 ^ 64 - 1 else 0)) (whole_map n m j (free_words (shape_at a m)) (λ e. subst (λ (k : ℕ). j < free_words (shape_at a k)) e few)) (p (FreeBits n j) there)
+    subst (λ (b : Bool). w (FreeBits n j) ≡ (if b then 2 ^ 64 - 1 else 0))
+    (whole_map n m j (free_words (shape_at a m)) (λ e. subst (λ (k : ℕ). j < free_words (shape_at a k)) e few)) (p (FreeBits n j) there)
 map_on a w c m p (Stamp n t) there =
     let few = less t (segments (shape_at a n)) (inner (nat_lt n (length a.shape.maps)) (nat_lt t (segments (shape_at a n))) true there) in
-    subst (λ (b : Bool). w (Stamp n t) ≡ (if b then fresh_stamp a n else 0)) (whole_map n m t (segments (shape_at a m)) (λ e. subst (λ (k : ℕ). t < segments (shape_at a k)) e few)) (p (Stamp n t) there)
+    subst (λ (b : Bool). w (Stamp n t) ≡ (if b then fresh_stamp a n else 0))
+    (whole_map n m t (segments (shape_at a m)) (λ e. subst (λ (k : ℕ). t < segments (shape_at a k)) e few)) (p (Stamp n t) there)
 map_on a w c m p (Head n t) there = p (Head n t) there
 map_on a w c m p (Hop n t b) there = p (Hop n t b) there
 map_on a w c m p (Slot n t b) there = p (Slot n t b) there
@@ -176,9 +191,15 @@ pub fixed_on : (a : About) (w : Place → ℕ) (b n : ℕ) → IsFilled a w b n 
 fixed_on a w b n p (FixedWord c k) there = ⊎_elim
     (λ (e : c ≡ b). ⊎_elim
     (λ (f : k ≡ n). rw (eq-eqb c b e, eq-eqb k n f, no c b (omega arith), lt_now k n f) (λ t. first_word a (sym e t) (sym f t)))
-    (λ (nf : k ≢ n). rw (eq-eqb c b e, ne_eqb k n nf, no c b (omega arith), lt_on k n nf) (let q = p (FixedWord c k) there in let z : (nat_lt c b || ((c == b) && nat_lt k n)) ≡ nat_lt k n = rw (eq-eqb c b e, no c b (omega arith)) refl in subst (λ (x : Bool). w (FixedWord c k) ≡ (if x then first_word a c k else 0)) z q))
+    (λ (nf : k ≢ n). rw (eq-eqb c b e, ne_eqb k n nf, no c b (omega arith), lt_on k n nf)
+    (let q = p (FixedWord c k) there in
+    let z : (nat_lt c b || ((c == b) && nat_lt k n)) ≡ nat_lt k n = rw (eq-eqb c b e, no c b (omega arith)) refl in subst
+    (λ (x : Bool). w (FixedWord c k) ≡ (if x then first_word a c k else 0)) z q))
     (cases_eq k n))
-    (λ (ne : c ≢ b). rw (ne_eqb c b ne) (let q = p (FixedWord c k) there in let z : (nat_lt c b || ((c == b) && nat_lt k n)) ≡ (nat_lt c b || false) = rw (ne_eqb c b ne) refl in subst (λ (x : Bool). w (FixedWord c k) ≡ (if x then first_word a c k else 0)) z q))
+    (λ (ne : c ≢ b). rw (ne_eqb c b ne)
+    (let q = p (FixedWord c k) there in
+    let z : (nat_lt c b || ((c == b) && nat_lt k n)) ≡ (nat_lt c b || false) = rw (ne_eqb c b ne) refl in subst
+    (λ (x : Bool). w (FixedWord c k) ≡ (if x then first_word a c k else 0)) z q))
     (cases_eq c b)
 fixed_on a w b n p (RunCount d) there = p (RunCount d) there
 fixed_on a w b n p (KeyCount m) there = p (KeyCount m) there
@@ -200,7 +221,9 @@ fixed_skip a w b n o up zero_there p (FixedWord c k) there = ⊎_elim
     (λ nl. let ge : n ≤ k = grind arith in q ∙ (rw (no k n ge) (dite (dec_lt k o)
     (λ (l : k < o). sym (ap (λ (x : ℕ). first_word a x k) e ∙ zero_there k ge l) ∙ rw (lt-ltb k o l) refl)
     (λ ng. rw (no k o (grind arith)) refl))))))
-    (λ (ne : c ≢ b). let q = p (FixedWord c k) there in let z : (nat_lt c b || ((c == b) && nat_lt k n)) ≡ (nat_lt c b || ((c == b) && nat_lt k o)) = rw (ne_eqb c b ne) refl in subst (λ (x : Bool). w (FixedWord c k) ≡ (if x then first_word a c k else 0)) z q)
+    (λ (ne : c ≢ b). let q = p (FixedWord c k) there in
+    let z : (nat_lt c b || ((c == b) && nat_lt k n)) ≡ (nat_lt c b || ((c == b) && nat_lt k o)) = rw (ne_eqb c b ne) refl in subst
+    (λ (x : Bool). w (FixedWord c k) ≡ (if x then first_word a c k else 0)) z q)
     (cases_eq c b)
 fixed_skip a w b n o up zero_there p (RunCount d) there = p (RunCount d) there
 fixed_skip a w b n o up zero_there p (KeyCount m) there = p (KeyCount m) there
@@ -217,7 +240,8 @@ fixed_skip a w b n o up zero_there p (ValueWord m e k) there = p (ValueWord m e 
 pub array_on : (a : About) (w : Place → ℕ) (b : ℕ) → IsFilled a w b (array_words a.shape b) → IsFilled a w (b + 1) 0
 array_on a w b p (FixedWord c k) there =
     let few = less k (array_words a.shape c) (inner (nat_lt c (length a.shape.arrays)) (nat_lt k (array_words a.shape c)) true there) in
-    subst (λ (x : Bool). w (FixedWord c k) ≡ (if x then first_word a c k else 0)) (whole_map c b k (array_words a.shape b) (λ e. subst (λ (d : ℕ). k < array_words a.shape d) e few)) (p (FixedWord c k) there)
+    subst (λ (x : Bool). w (FixedWord c k) ≡ (if x then first_word a c k else 0))
+    (whole_map c b k (array_words a.shape b) (λ e. subst (λ (d : ℕ). k < array_words a.shape d) e few)) (p (FixedWord c k) there)
 array_on a w b p (RunCount d) there = p (RunCount d) there
 array_on a w b p (KeyCount m) there = p (KeyCount m) there
 array_on a w b p (FreeBits m j) there = p (FreeBits m j) there
@@ -230,18 +254,23 @@ array_on a w b p (KeyWord m e k) there = p (KeyWord m e k) there
 array_on a w b p (ValueWord m e k) there = p (ValueWord m e k) there
 
 -- when all arrays are filled too, the words are those of a store as made
-pub whole : (a : About) (w : Place → ℕ) → IsShape a.shape → ((b : ℕ) → b < length a.shape.arrays → AreBytes (contents_of a.shape b)) → IsFilled a w (length a.shape.arrays) 0 → AreNewWords a w
+pub whole : (a : About) (w : Place → ℕ) → IsShape a.shape → ((b : ℕ) → b < length a.shape.arrays → AreBytes (contents_of a.shape b)) →
+    IsFilled a w (length a.shape.arrays) 0 → AreNewWords a w
 whole a w shaped bytes p = record {
   shaped = shaped;
   counts = λ c l. p (RunCount c) (rw (lt-ltb c a.shape.cpus l) refl);
   keys = λ m l. p (KeyCount m) (rw (lt-ltb m (length a.shape.maps) l) refl);
-  bits = λ m e at_e. ap (λ (n : ℕ). bit_at n (e % 64)) (p (FreeBits m (e / 64)) (rw (lt-ltb m (length a.shape.maps) at_e.0, lt-ltb (e / 64) (free_words (shape_at a m)) (omega (arith, at_e.1))) refl)) ∙ all_bits (e % 64) (omega arith);
-  stamps = λ m s at_s. let z : w (Stamp m s) ≡ a.version * 256 + 2 * first_depth (shape_at a m) = p (Stamp m s) (rw (lt-ltb m (length a.shape.maps) at_s.0, lt-ltb s (segments (shape_at a m)) at_s.1) refl) in let d = first_most (shape_at a m) in (omega arith, omega arith, omega arith);
+  bits = λ m e at_e. ap (λ (n : ℕ). bit_at n (e % 64)) (p (FreeBits m (e / 64))
+      (rw (lt-ltb m (length a.shape.maps) at_e.0, lt-ltb (e / 64) (free_words (shape_at a m)) (omega (arith, at_e.1))) refl)) ∙ all_bits
+      (e % 64) (omega arith);
+  stamps = λ m s at_s. let z : w (Stamp m s) ≡ a.version * 256 + 2 * first_depth (shape_at a m) = p (Stamp m s) (rw (lt-ltb m (length a.shape.maps) at_s.0, lt-ltb s (segments (shape_at a m)) at_s.1) refl) in
+      let d = first_most (shape_at a m) in (omega arith, omega arith, omega arith);
   heads = λ m s at_s. p (Head m s) (rw (lt-ltb m (length a.shape.maps) at_s.0, lt-ltb s (segments (shape_at a m)) at_s.1) refl);
   slots = λ m s b at_s lb. p (Slot m s b) (rw (lt-ltb m (length a.shape.maps) at_s.0, lt-ltb s (segments (shape_at a m)) at_s.1, lt-ltb b 64 lb) refl);
   hops = λ m s b at_s lb. p (Hop m s b) (rw (lt-ltb m (length a.shape.maps) at_s.0, lt-ltb s (segments (shape_at a m)) at_s.1, lt-ltb b 64 lb) refl);
   bytes = bytes;
-  fixed = λ b k lb lk. p (FixedWord b k) (rw (lt-ltb b (length a.shape.arrays) lb, lt-ltb k (array_words a.shape b) lk) refl) ∙ rw (lt-ltb b (length a.shape.arrays) lb) refl;
+  fixed = λ b k lb lk. p (FixedWord b k) (rw (lt-ltb b (length a.shape.arrays) lb, lt-ltb k (array_words a.shape b) lk) refl) ∙ rw
+      (lt-ltb b (length a.shape.arrays) lb) refl;
 }
 
 -- a row of zeros

@@ -1,12 +1,14 @@
 -- Fixed values: where their words are, and that nothing else lies there.
 use Rattle.std.proofs.Common.{◌≡◌, ◌≢◌, ℕ, ◌+◌, ◌-◌, ◌*◌, ◌/◌, ◌<◌, ◌≤◌, length, refl, ap, sym, subst, ◌∙◌, arith, true}
 use Rattle.bpf_shared.specs.declared.shapes.ArrayShape.{ArrayShape}
-use Rattle.bpf_shared.specs.Shape.{IsShape, IsArray, IsArrayShape, IsIn, IsWithin, copies, copy_size, copy_stride, array_stride, element_span, fixed_span, first_value, map_area}
+use Rattle.bpf_shared.specs.Shape.{IsShape, IsArray, IsArrayShape, IsIn, IsWithin, copies, copy_size, copy_stride, array_stride}
+use Rattle.bpf_shared.specs.Shape.{element_span, fixed_span, first_value, map_area}
 use Rattle.bpf_shared.specs.Store.{Value, as_made, put, array_of, copy_of, index_of, fixed_number, fixed_count, fixed_value, IsFixed, IsFrozen}
 use Rattle.bpf_shared.specs.Sound.{IsSoundStore}
 use Rattle.std.proofs.lemmas.Nat.{mul-add-lt}
 use Rattle.bpf_shared.proofs.Puts.{put-other}
-use Rattle.bpf_shared.proofs.Fixed.{copies_most, value_fits, copy_fits, array_of-number, copy_of-number, index_of-number, fixed_is, fixed_below, fixed_one, element_apart, same_array}
+use Rattle.bpf_shared.proofs.Fixed.{copies_most, value_fits, copy_fits, array_of-number, copy_of-number, index_of-number, fixed_is}
+use Rattle.bpf_shared.proofs.Fixed.{fixed_below, fixed_one, element_apart, same_array}
 use Rattle.bpf_shared.proofs.Soundness.{as_made_sound, legal_sound}
 use Rattle.hop_layout.specs.declared.place.Place.{Place}
 use Rattle.hop_layout.specs.declared.about.About.{About}
@@ -65,31 +67,40 @@ module _ (a : About) (shaped : IsShape a.shape) where
     }
 
     pub span_at : (fixed_value a.shape (fixed_number b k i)).span ≡ fixed_span b (array_at a b) k i
-    span_at = ap (λ (y : Value). y.span) (fixed_is a.shape (fixed_number b k i) as_fixed) ∙ (λ j. fixed_span (array_back j) (array_at a b) (copy_back j) (index_back j))
+    span_at = ap (λ (y : Value). y.span) (fixed_is a.shape (fixed_number b k i) as_fixed) ∙
+        (λ j. fixed_span (array_back j) (array_at a b) (copy_back j) (index_back j))
 
     pub before : fixed_number b k i < fixed_count a.shape
     before = fixed_below a.shape (fixed_number b k i) as_fixed
 
     -- its array's words, from its first on, lie in its span
-    pub word_inside : (j : ℕ) → j < words_for (array_at a b).value → IsIn (first_value + map_area * (16 + b) + 8 * (fixed_word (array_at a b) k i + j)) (fixed_value a.shape (fixed_number b k i)).span
-    word_inside j l = subst (IsIn (first_value + map_area * (16 + b) + 8 * (fixed_word (array_at a b) k i + j))) (sym span_at) (let z = word_at (array_at a b) k i in (omega arith, omega arith))
+    pub word_inside : (j : ℕ) → j < words_for (array_at a b).value → IsIn
+        (first_value + map_area * (16 + b) + 8 * (fixed_word (array_at a b) k i + j)) (fixed_value a.shape (fixed_number b k i)).span
+    word_inside j l = subst (IsIn (first_value + map_area * (16 + b) + 8 * (fixed_word (array_at a b) k i + j))) (sym span_at)
+        (let z = word_at (array_at a b) k i in (omega arith, omega arith))
 
     -- it may only be read where its array is
     pub frozen_back : IsFrozen a.shape (fixed_number b k i) → (array_at a b).frozen ≡ true
     frozen_back f =
-        let same : f.0 ≡ array_at a b = same_array a.shape.arrays b f.0 (array_at a b) (subst (λ (n : ℕ). IsArray a.shape.arrays n f.0) array_back f.1) (array_is a.shape b has.array) in
+        let same : f.0 ≡ array_at a b = same_array a.shape.arrays b f.0 (array_at a b)
+        (subst (λ (n : ℕ). IsArray a.shape.arrays n f.0) array_back f.1) (array_is a.shape b has.array) in
         sym (ap (λ (g : ArrayShape). g.frozen) same) ∙ f.2
 
   -- two fixed values that have a word in common are one
   pub word_once : (b k i c m n j d : ℕ) → HasFixed a b k i → HasFixed a c m n → j < words_for (array_at a b).value → d < words_for (array_at a c).value → b ≡ c
       → fixed_word (array_at a b) k i + j ≡ fixed_word (array_at a c) m n + d → fixed_number b k i ≡ fixed_number c m n
   word_once b k i c m n j d p q l few same_b same_w =
-      fixed_one a.shape shaped (fixed_number b k i) (fixed_number c m n) (first_value + map_area * (16 + b) + 8 * (fixed_word (array_at a b) k i + j)) (as_fixed b k i p) (as_fixed c m n q) (word_inside b k i p j l)
-      (subst (λ (x : ℕ). IsIn x (fixed_value a.shape (fixed_number c m n)).span) (λ t. first_value + map_area * (16 + sym same_b t) + 8 * sym same_w t) (word_inside c m n q d few))
+      fixed_one a.shape shaped (fixed_number b k i) (fixed_number c m n)
+      (first_value + map_area * (16 + b) + 8 * (fixed_word (array_at a b) k i + j)) (as_fixed b k i p) (as_fixed c m n q)
+      (word_inside b k i p j l)
+      (subst (λ (x : ℕ). IsIn x (fixed_value a.shape (fixed_number c m n)).span)
+      (λ t. first_value + map_area * (16 + sym same_b t) + 8 * sym same_w t) (word_inside c m n q d few))
 
   -- a value that is made later, or written
-  pub fixed_later : (words : ℕ → ℕ → ℕ) (value : ℕ → Value) (v : ℕ) (x : Value) → fixed_count a.shape ≤ v → ShowsFixed a words value → ShowsFixed a words (put value v x)
-  fixed_later words value v x l p b k i has = put-other value v (fixed_number b k i) x (λ (q : fixed_number b k i ≡ v). let z = before b k i has in omega arith) ∙ p b k i has
+  pub fixed_later : (words : ℕ → ℕ → ℕ) (value : ℕ → Value) (v : ℕ) (x : Value) → fixed_count a.shape ≤ v → ShowsFixed a words value →
+      ShowsFixed a words (put value v x)
+  fixed_later words value v x l p b k i has = put-other value v (fixed_number b k i) x
+      (λ (q : fixed_number b k i ≡ v). let z = before b k i has in omega arith) ∙ p b k i has
 
 module _ (a : About) (w : Place → ℕ) (g : Ghost) (r : Rule a w g) where
   pub sound : IsSoundStore g.last
@@ -98,8 +109,10 @@ module _ (a : About) (w : Place → ℕ) (g : Ghost) (r : Rule a w g) where
   -- no fixed value lies in an element
   pub element_else : (m e b k i : ℕ) → HasElement a m e → Carries (g.holder m e) → HasFixed a b k i → g.number m e ≢ fixed_number b k i
   element_else m e b k i at_e has f q =
-      let spans : element_span m (shape_at a m) e ≡ fixed_span b (array_at a b) k i = ap (λ (x : Value). x.span) (sym (r.valued.lies m e at_e has) ∙ (ap g.last.value q ∙ r.fixed b k i f)) in
+      let spans : element_span m (shape_at a m) e ≡ fixed_span b (array_at a b) k i = ap (λ (x : Value). x.span)
+      (sym (r.valued.lies m e at_e has) ∙ (ap g.last.value q ∙ r.fixed b k i f)) in
       let sized = r.shaped.each m (shape_at a m) (map_is a.shape m at_e.0) in
       let start : IsIn (element_span m (shape_at a m) e).at (element_span m (shape_at a m) e) = (let z = sized.value.0 in (omega arith, omega arith)) in
-      element_apart a.shape r.shaped m e (fixed_number b k i) (shape_at a m) (let l = at_e.0 in let n = r.shaped.count in omega arith) sized at_e.1 (as_fixed a r.shaped b k i f) (element_span m (shape_at a m) e).at start
+      element_apart a.shape r.shaped m e (fixed_number b k i) (shape_at a m) (let l = at_e.0 in let n = r.shaped.count in omega arith) sized
+      at_e.1 (as_fixed a r.shaped b k i f) (element_span m (shape_at a m) e).at start
       (subst (IsIn (element_span m (shape_at a m) e).at) (spans ∙ sym (span_at a r.shaped b k i f)) start)

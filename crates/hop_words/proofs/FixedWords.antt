@@ -1,5 +1,6 @@
 -- Words of fixed values: what lies in one, and each step that changes some bytes of one.
-use Rattle.std.proofs.Common.{◌≡◌, ◌≢◌, ℕ, ◌+◌, ◌-◌, ◌*◌, ◌<◌, ◌≤◌, true≢false, ◌&&◌, List, [], ◌∷◌, ◌++◌, ◌==◌, if◌then◌else◌, take, refl, ap, sym, subst, ◌∙◌, arith, eq-eqb, ne_eqb, ⊎_elim, inr, false}
+use Rattle.std.proofs.Common.{◌≡◌, ◌≢◌, ℕ, ◌+◌, ◌-◌, ◌*◌, ◌<◌, ◌≤◌, true≢false, ◌&&◌, List, [], ◌∷◌, ◌++◌, ◌==◌, if◌then◌else◌, take, refl}
+use Rattle.std.proofs.Common.{ap, sym, subst, ◌∙◌, arith, eq-eqb, ne_eqb, ⊎_elim, inr, false}
 use prog.Atomic.{either}
 use Rattle.std.proofs.lemmas.Bool.{cases_eq}
 use Rattle.bpf_shared.specs.declared.events.Event.{Event}
@@ -52,7 +53,8 @@ some_bytes Half = omega arith
 some_bytes Word = omega arith
 some_bytes Double = omega arith
 
-module _ (a : About) (l : Known) (b k o n : ℕ) (i : TouchesFixedValue a l b k o n) (some : 1 ≤ n) (w : Place → ℕ) (g : Ghost) (r : Rule a w g) (is : lane g.lanes l.cpu ≡ l) (inside : l.cpu < a.shape.cpus) where
+module _ (a : About) (l : Known) (b k o n : ℕ) (i : TouchesFixedValue a l b k o n) (some : 1 ≤ n) (w : Place → ℕ) (g : Ghost)
+    (r : Rule a w g) (is : lane g.lanes l.cpu ≡ l) (inside : l.cpu < a.shape.cpus) where
   abbrev array : ArrayShape
   array = array_at a b
 
@@ -87,7 +89,10 @@ module _ (a : About) (l : Known) (b k o n : ℕ) (i : TouchesFixedValue a l b k 
   row_low : row < words_for array.value
   row_low = let z = inner in omega arith
 
-  value_is : g.last.value v ≡ record { bytes = take array.value (bytes_of_words (words_for array.value) (λ j. w (FixedWord b (base + j)))); span = fixed_span b array c d }
+  value_is : g.last.value v ≡ record {
+    bytes = take array.value (bytes_of_words (words_for array.value) (λ j. w (FixedWord b (base + j))));
+    span = fixed_span b array c d;
+  }
   value_is = r.fixed b c d has
 
   span_is : (g.last.value v).span ≡ fixed_span b array c d
@@ -133,17 +138,24 @@ module _ (a : About) (l : Known) (b k o n : ℕ) (i : TouchesFixedValue a l b k 
     words_else e m q h ne j low = put_else w (FixedWord b k) (FixedWord e (fixed_word (array_at a e) m q + j)) x
         (λ same. ne (word_once a r.shaped e m q b c d j row h has low row_low (ap array_part same) (ap word_part same ∙ sym row_is)))
 
-    bytes_now : with_part (g.last.value v).bytes (fixed_address b k o - (g.last.value v).span.at) (low_bytes n y) ≡ take array.value (bytes_of_words (words_for array.value) (λ j. w2 (FixedWord b (base + j))))
+    bytes_now : with_part (g.last.value v).bytes (fixed_address b k o - (g.last.value v).span.at) (low_bytes n y) ≡ take array.value
+        (bytes_of_words (words_for array.value) (λ j. w2 (FixedWord b (base + j))))
     bytes_now =
         let len = length-low_bytes n y in
         ap (λ (m : ℕ). with_part (g.last.value v).bytes m (low_bytes n y)) offset_is
         ∙ (ap (λ (z : Value). with_part z.bytes (8 * row + o) (low_bytes n y)) value_is
-        ∙ (sym (value_put array.value (words_for array.value) row o x (λ j. w (FixedWord b (base + j))) (low_bytes n y) row_low (omega arith) (let f = i.fits in omega arith) (let f = inner in omega arith)
+        ∙ (sym (value_put array.value (words_for array.value) row o x (λ j. w (FixedWord b (base + j))) (low_bytes n y) row_low
+        (omega arith) (let f = i.fits in omega arith) (let f = inner in omega arith)
         (splices ∙ ap (λ (m : ℕ). with_part (low_bytes 8 (w (FixedWord b m))) o (low_bytes n y)) (sym row_is)))
         ∙ ap (λ (f : ℕ → ℕ). take array.value (bytes_of_words (words_for array.value) f)) (sym words_here)))
 
     abbrev Lying : ℕ → ℕ → ℕ → Type 0
-    Lying e m q = last2.value (fixed_number e m q) ≡ record { bytes = take (array_at a e).value (bytes_of_words (words_for (array_at a e).value) (λ j. w2 (FixedWord e (fixed_word (array_at a e) m q + j)))); span = fixed_span e (array_at a e) m q }
+    Lying e m q = last2.value (fixed_number e m q) ≡ record {
+      bytes = take (array_at a e).value
+          (bytes_of_words (words_for (array_at a e).value) (λ j. w2 (FixedWord e (fixed_word (array_at a e) m q + j))));
+      span = fixed_span e
+          (array_at a e) m q;
+    }
 
     lies_now : Lying b c d
     lies_now = put-same g.last.value v v _ refl ∙ (λ t. record { bytes = bytes_now t; span = span_is t })
@@ -157,7 +169,8 @@ module _ (a : About) (l : Known) (b k o n : ℕ) (i : TouchesFixedValue a l b k 
         subst (λ (z : ℕ). Lying z m q) (sym in_array) (subst (λ (z : ℕ). Lying b z q) (sym in_copy) (subst (λ (z : ℕ). Lying b c z) (sym in_index) lies_now)))
         (λ (ne : fixed_number e m q ≢ v). put-other g.last.value v (fixed_number e m q) _ ne
         ∙ (r.fixed e m q h ∙ ap (λ (bs : List ℕ). record { bytes = take (array_at a e).value bs; span = fixed_span e (array_at a e) m q })
-        (sym (spelled_same (words_for (array_at a e).value) (λ j. w2 (FixedWord e (fixed_word (array_at a e) m q + j))) (λ j. w (FixedWord e (fixed_word (array_at a e) m q + j))) (words_else e m q h ne)))))
+        (sym (spelled_same (words_for (array_at a e).value) (λ j. w2 (FixedWord e (fixed_word (array_at a e) m q + j)))
+        (λ j. w (FixedWord e (fixed_word (array_at a e) m q + j))) (words_else e m q h ne)))))
         (cases_eq (fixed_number e m q) v)
 
     valued2 : Valued a (λ m e j. w2 (ValueWord m e j)) last2.made last2.value last2.held g.holder g.number
@@ -168,9 +181,15 @@ module _ (a : About) (l : Known) (b k o n : ℕ) (i : TouchesFixedValue a l b k 
     }
 
     abbrev g2 : Event → Ghost
-    g2 ev = record g { log = g.log ++ entry l.cpu ev ∷ []; last = last2; lanes = record g.lanes { seen = put g.lanes.seen l.cpu (g.log ++ entry l.cpu ev ∷ []) } }
+    g2 ev = record g {
+      log = g.log ++ entry l.cpu ev ∷ [];
+      last = last2;
+      lanes = record g.lanes
+          { seen = put g.lanes.seen l.cpu (g.log ++ entry l.cpu ev ∷ []) };
+    }
 
-    write_rule : (ev : Event) → turns_of (ev ∷ []) ≡ 0 → HasCause a.version (begun_in g.log g.lanes.fresh) (record { shape = a.shape; before = g.log; store = g.last; cpu = l.cpu }) ev → Allowed g.last l.cpu ev last2 → Rule a w2 (g2 ev)
+    write_rule : (ev : Event) → turns_of (ev ∷ []) ≡ 0 → HasCause a.version (begun_in g.log g.lanes.fresh)
+        (record { shape = a.shape; before = g.log; store = g.last; cpu = l.cpu }) ev → Allowed g.last l.cpu ev last2 → Rule a w2 (g2 ev)
     write_rule ev quiet cause may = record {
       shaped = r.shaped;
       deep = r.deep;
@@ -188,10 +207,13 @@ module _ (a : About) (l : Known) (b k o n : ℕ) (i : TouchesFixedValue a l b k 
       held = r.held;
       valued = valued2;
       fixed = fixed2;
-      shown = shown_more a g.log l.cpu ev g.last last2 g.lanes.fresh g.lanes.tally g.holder g.taker quiet r.logged.legal may cause (had_write g.last v (fixed_address b k o) n y) r.shown;
+      shown = shown_more a g.log l.cpu ev g.last last2 g.lanes.fresh g.lanes.tally g.holder g.taker quiet r.logged.legal may cause
+          (had_write g.last v (fixed_address b k o) n y) r.shown;
     }
 
-    write_next : (ev : Event) → turns_of (ev ∷ []) ≡ 0 → HasCause a.version (begun_in g.log g.lanes.fresh) (record { shape = a.shape; before = g.log; store = g.last; cpu = l.cpu }) ev → Allowed g.last l.cpu ev last2 → Next a w2 g l.cpu (AddsEvent a l ev)
+    write_next : (ev : Event) → turns_of (ev ∷ []) ≡ 0 → HasCause a.version (begun_in g.log g.lanes.fresh)
+        (record { shape = a.shape; before = g.log; store = g.last; cpu = l.cpu }) ev → Allowed g.last l.cpu ev last2 → Next a w2 g l.cpu
+        (AddsEvent a l ev)
     write_next ev quiet cause may = record {
       ghost = g2 ev;
       rule = write_rule ev quiet cause may;
@@ -212,11 +234,14 @@ module _ (a : About) (l : Known) (b k o n : ℕ) (i : TouchesFixedValue a l b k 
   }
 
 -- ---- the kinds
-pub fixed_load : (a : About) (l : Known) (b k o : ℕ) (sz : Size) → TouchesFixedValue a l b k o (bytes_in sz) → Steps a l (FixedWord b k) (λ n. n) (λ ws n l'. AddsEvent a l (Load (fixed_address b k o) sz (number_in_word n o (bytes_in sz))) l')
-fixed_load a l b k o sz i = word_load a l (FixedWord b k) (fixed_address b k o) o sz (λ w g r is inside. fixed_lies a l b k o (bytes_in sz) i (some_bytes sz) w g r is inside)
+pub fixed_load : (a : About) (l : Known) (b k o : ℕ) (sz : Size) → TouchesFixedValue a l b k o (bytes_in sz) → Steps a l (FixedWord b k)
+    (λ n. n) (λ ws n l'. AddsEvent a l (Load (fixed_address b k o) sz (number_in_word n o (bytes_in sz))) l')
+fixed_load a l b k o sz i = word_load a l (FixedWord b k) (fixed_address b k o) o sz
+    (λ w g r is inside. fixed_lies a l b k o (bytes_in sz) i (some_bytes sz) w g r is inside)
 
 module _ (a : About) (l : Known) (b k o : ℕ) (sz : Size) (i : ChangesFixedValue a l b k o (bytes_in sz)) where
-  all : (w : Place → ℕ) (g : Ghost) → Rule a w g → lane g.lanes l.cpu ≡ l → l.cpu < a.shape.cpus → MayLeave a l (FixedWord b k) (fixed_address b k o) o (bytes_in sz) w g
+  all : (w : Place → ℕ) (g : Ghost) → Rule a w g → lane g.lanes l.cpu ≡ l → l.cpu < a.shape.cpus → MayLeave a l (FixedWord b k)
+      (fixed_address b k o) o (bytes_in sz) w g
   all w g r is inside = fixed_may_leave a l b k o (bytes_in sz) i.touches (some_bytes sz) w g r is inside i.writable
 
   -- a store of a whole word
@@ -231,12 +256,16 @@ module _ (a : About) (l : Known) (b k o : ℕ) (sz : Size) (i : ChangesFixedValu
 
   -- the same for an atomic operation
   pub fixed_atomic_part : (op : Change) (operand expected old x : ℕ)
-      → low_bytes 8 x ≡ with_part (low_bytes 8 old) o (low_bytes (bytes_in sz) (number_after op (bytes_in sz) (number_in_word old o (bytes_in sz)) operand expected))
-      → Steps a l (FixedWord b k) (λ n. either (n == old) x n) (λ ws n l'. (n ≡ old → AddsEvent a l (Atomic (fixed_address b k o) sz op operand expected (number_in_word old o (bytes_in sz))) l') × (n ≢ old → l' ≡ l))
+      → low_bytes 8 x ≡ with_part (low_bytes 8 old) o (low_bytes (bytes_in sz)
+      (number_after op (bytes_in sz) (number_in_word old o (bytes_in sz)) operand expected))
+      → Steps a l (FixedWord b k) (λ n. either (n == old) x n) (λ ws n l'.
+      (n ≡ old → AddsEvent a l (Atomic (fixed_address b k o) sz op operand expected (number_in_word old o (bytes_in sz))) l') ×
+      (n ≢ old → l' ≡ l))
   fixed_atomic_part op operand expected old x splices = word_atomic_part a l (FixedWord b k) (fixed_address b k o) o sz all op operand expected old x splices
 
   -- a fetch operation or a swap on a whole word
   pub fixed_fetch : (op : Change) (operand expected : ℕ) (f : ℕ → ℕ)
-      → ((n : ℕ) → n < 18446744073709551616 → low_bytes 8 (f n) ≡ with_part (low_bytes 8 n) o (low_bytes (bytes_in sz) (number_after op (bytes_in sz) (number_in_word n o (bytes_in sz)) operand expected)))
+      → ((n : ℕ) → n < 18446744073709551616 → low_bytes 8 (f n) ≡ with_part (low_bytes 8 n) o
+      (low_bytes (bytes_in sz) (number_after op (bytes_in sz) (number_in_word n o (bytes_in sz)) operand expected)))
       → Steps a l (FixedWord b k) f (λ ws n l'. AddsEvent a l (Atomic (fixed_address b k o) sz op operand expected (number_in_word n o (bytes_in sz))) l')
   fixed_fetch op operand expected f splices = word_fetch a l (FixedWord b k) (fixed_address b k o) o sz all op operand expected f splices

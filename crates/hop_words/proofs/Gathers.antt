@@ -1,5 +1,6 @@
 -- Split seat, join seats, and the seat that learns the whole history.
-use Rattle.std.proofs.Common.{◌≡◌, ◌≢◌, ℕ, zero, suc, ◌+◌, ◌%◌, ◌<◌, Bool, List, [], ◌∷◌, ◌++◌, ◌==◌, if◌then◌else◌, length, length-set, set, refl, ap, sym, subst, ◌∙◌, arith, ⊎_elim, inl, inr, ◌⊎◌, eq-eqb, ne_eqb}
+use Rattle.std.proofs.Common.{◌≡◌, ◌≢◌, ℕ, zero, suc, ◌+◌, ◌%◌, ◌<◌, Bool, List, [], ◌∷◌, ◌++◌, ◌==◌, if◌then◌else◌, length, length-set}
+use Rattle.std.proofs.Common.{set, refl, ap, sym, subst, ◌∙◌, arith, ⊎_elim, inl, inr, ◌⊎◌, eq-eqb, ne_eqb}
 use Rattle.std.proofs.lemmas.List.{set-get_or, append-nil}
 use mathlib.Core.Option.{some, some-injective, some-ne-none}
 use mathlib.Core.List.{IsPrefix}
@@ -36,7 +37,8 @@ snoc_at (x ∷ xs) a b zero e = inl e
 snoc_at (x ∷ xs) a b (suc j) e = ⊎_elim (λ (t : get_elem? xs j ≡ some b). inl t) (λ (t : (j ≡ length xs) × (a ≡ b)). inr (ap suc t.0, t.1)) (snoc_at xs a b j e)
 
 -- two lists in a row
-append_at : {A : Type 0} (xs ys : List A) (k : ℕ) (a : A) → get_elem? (xs ++ ys) k ≡ some a → ((k < length xs) × (get_elem? xs k ≡ some a)) ⊎ ((j : ℕ) × (length xs + j ≡ k) × (get_elem? ys j ≡ some a))
+append_at : {A : Type 0} (xs ys : List A) (k : ℕ) (a : A) → get_elem? (xs ++ ys) k ≡ some a → ((k < length xs) × (get_elem? xs k ≡ some a))
+    ⊎ ((j : ℕ) × (length xs + j ≡ k) × (get_elem? ys j ≡ some a))
 append_at [] ys k a e = inr (k, omega arith, e)
 append_at (x ∷ xs) ys zero a e = inl (omega arith, e)
 append_at (x ∷ xs) ys (suc k) a e = ⊎_elim
@@ -95,14 +97,19 @@ deals a id l ls old s k at = record { sized = k.sized; ghost = k.ghost; rule = k
     left i j u m is here = ⊎_elim
         (λ (t : (i ≡ id) × (view ls old ≡ u)).
         let there : get_elem? ls j ≡ some m = subst (λ (x : View). get_elem? x.lanes j ≡ some m) (sym t.1) here in
-        let b = k.seats.known id (suc j) v m at there in
-        (seat_else m.cpu (λ (e : m.cpu ≡ l.cpu). absurd (let z = k.seats.distinct id (suc j) 0 v m l at there refl e in omega arith)) ∙ (b.0 ∙ sym t.0), b.1, b.2))
+        let b = k.seats.known id (suc j) v m at there in (
+          seat_else m.cpu (λ (e : m.cpu ≡ l.cpu). absurd (let z = k.seats.distinct id (suc j) 0 v m l at there refl e in omega arith)) ∙
+              (b.0 ∙ sym t.0),
+          b.1,
+          b.2,
+        ))
         (λ (t : (i ≢ id) × (get_elem? s.views i ≡ some u)).
         let b = k.seats.known i j u m t.1 here in
         (seat_else m.cpu (λ (e : m.cpu ≡ l.cpu). t.0 (sym b.0 ∙ (ap k.seats.seat e ∙ own.0))) ∙ b.0, b.1, b.2))
         (at_set s.views id i (view ls old) u is)
 
-    apart_left : (i a b : ℕ) (u : View) (m n : Known) → get_elem? (set s.views id (view ls old)) i ≡ some u → get_elem? u.lanes a ≡ some m → get_elem? u.lanes b ≡ some n → m.cpu ≡ n.cpu → a ≡ b
+    apart_left : (i a b : ℕ) (u : View) (m n : Known) → get_elem? (set s.views id (view ls old)) i ≡ some u → get_elem? u.lanes a ≡ some m →
+        get_elem? u.lanes b ≡ some n → m.cpu ≡ n.cpu → a ≡ b
     apart_left i a b u m n is here there same = ⊎_elim
         (λ (t : (i ≡ id) × (view ls old ≡ u)).
         let x : get_elem? ls a ≡ some m = subst (λ (x : View). get_elem? x.lanes a ≡ some m) (sym t.1) here in
@@ -133,7 +140,8 @@ deals a id l ls old s k at = record { sized = k.sized; ghost = k.ghost; rule = k
       distinct = λ i a b u m n is here there same. ⊎_elim
           (λ (t : get_elem? (set s.views id (view ls old)) i ≡ some u). apart_left i a b u m n t here there same)
           (λ (t : (i ≡ length (set s.views id (view ls old))) × (r ≡ u)).
-          apart_new a b m n (subst (λ (x : View). get_elem? x.lanes a ≡ some m) (sym t.1) here) (subst (λ (x : View). get_elem? x.lanes b ≡ some n) (sym t.1) there))
+          apart_new a b m n (subst (λ (x : View). get_elem? x.lanes a ≡ some m) (sym t.1) here)
+          (subst (λ (x : View). get_elem? x.lanes b ≡ some n) (sym t.1) there))
           (snoc_at (set s.views id (view ls old)) r u i is);
       kept = λ i u is. ⊎_elim
           (λ (t : get_elem? (set s.views id (view ls old)) i ≡ some u). ⊎_elim
@@ -152,7 +160,8 @@ gathers a id other v w s k at apart there = record { sized = k.sized; ghost = k.
     both = gathered v w
 
     second : get_elem? s.views other ≡ some w
-    second = ⊎_elim (λ (t : (other ≡ id) × (both ≡ w)). absurd (apart t.0)) (λ (t : (other ≢ id) × (get_elem? s.views other ≡ some w)). t.1) (at_set s.views id other both w there)
+    second = ⊎_elim (λ (t : (other ≡ id) × (both ≡ w)). absurd (apart t.0)) (λ (t : (other ≢ id) × (get_elem? s.views other ≡ some w)). t.1)
+        (at_set s.views id other both w there)
 
     seat : ℕ → ℕ
     seat = λ c. if k.seats.seat c == other then id else k.seats.seat c
@@ -161,7 +170,8 @@ gathers a id other v w s k at apart there = record { sized = k.sized; ghost = k.
     seat_moved c is = ap (λ (b : Bool). if b then id else k.seats.seat c) (eq-eqb (k.seats.seat c) other is)
 
     seat_stays : (c i : ℕ) → k.seats.seat c ≡ i → i ≢ other → seat c ≡ i
-    seat_stays c i is ne = ap (λ (b : Bool). if b then id else k.seats.seat c) (ne_eqb (k.seats.seat c) other (λ (e : k.seats.seat c ≡ other). ne (sym is ∙ e))) ∙ is
+    seat_stays c i is ne = ap (λ (b : Bool). if b then id else k.seats.seat c)
+        (ne_eqb (k.seats.seat c) other (λ (e : k.seats.seat c ≡ other). ne (sym is ∙ e))) ∙ is
 
     IsKnown : ℕ → Known → Type 0
     IsKnown i m = (seat m.cpu ≡ i) × (m.cpu < a.shape.cpus) × (lane k.ghost.lanes m.cpu ≡ m)
@@ -171,18 +181,23 @@ gathers a id other v w s k at apart there = record { sized = k.sized; ghost = k.
 
     in_both : (j : ℕ) (m : Known) → Split j m → IsKnown id m
     in_both j m = ⊎_elim
-        (λ (t : (j < length v.lanes) × (get_elem? v.lanes j ≡ some m)). let b = k.seats.known id j v m at t.1 in (seat_stays m.cpu id b.0 (λ (e : id ≡ other). apart (sym e)), b.1, b.2))
-        (λ (t : (i : ℕ) × (length v.lanes + i ≡ j) × (get_elem? w.lanes i ≡ some m)). let b = k.seats.known other t.0 w m second t.2 in (seat_moved m.cpu b.0, b.1, b.2))
+        (λ (t : (j < length v.lanes) × (get_elem? v.lanes j ≡ some m)).
+        let b = k.seats.known id j v m at t.1 in (seat_stays m.cpu id b.0 (λ (e : id ≡ other). apart (sym e)), b.1, b.2))
+        (λ (t : (i : ℕ) × (length v.lanes + i ≡ j) × (get_elem? w.lanes i ≡ some m)).
+        let b = k.seats.known other t.0 w m second t.2 in (seat_moved m.cpu b.0, b.1, b.2))
 
     apart_both : (a b : ℕ) (m n : Known) → Split a m → Split b n → m.cpu ≡ n.cpu → a ≡ b
     apart_both a b m n x y same = ⊎_elim
         (λ (t : (a < length v.lanes) × (get_elem? v.lanes a ≡ some m)). ⊎_elim
         (λ (t' : (b < length v.lanes) × (get_elem? v.lanes b ≡ some n)). k.seats.distinct id a b v m n at t.1 t'.1 same)
-        (λ (t' : (i : ℕ) × (length v.lanes + i ≡ b) × (get_elem? w.lanes i ≡ some n)). absurd (apart (sym ((k.seats.known other t'.0 w n second t'.2).0) ∙ (ap k.seats.seat (sym same) ∙ (k.seats.known id a v m at t.1).0))))
+        (λ (t' : (i : ℕ) × (length v.lanes + i ≡ b) × (get_elem? w.lanes i ≡ some n)). absurd
+        (apart (sym ((k.seats.known other t'.0 w n second t'.2).0) ∙ (ap k.seats.seat (sym same) ∙ (k.seats.known id a v m at t.1).0))))
         y)
         (λ (t : (i : ℕ) × (length v.lanes + i ≡ a) × (get_elem? w.lanes i ≡ some m)). ⊎_elim
-        (λ (t' : (b < length v.lanes) × (get_elem? v.lanes b ≡ some n)). absurd (apart (sym ((k.seats.known other t.0 w m second t.2).0) ∙ (ap k.seats.seat same ∙ (k.seats.known id b v n at t'.1).0))))
-        (λ (t' : (i : ℕ) × (length v.lanes + i ≡ b) × (get_elem? w.lanes i ≡ some n)). let z = k.seats.distinct other t.0 t'.0 w m n second t.2 t'.2 same in let p = t.1 in let q = t'.1 in omega arith)
+        (λ (t' : (b < length v.lanes) × (get_elem? v.lanes b ≡ some n)). absurd
+        (apart (sym ((k.seats.known other t.0 w m second t.2).0) ∙ (ap k.seats.seat same ∙ (k.seats.known id b v n at t'.1).0))))
+        (λ (t' : (i : ℕ) × (length v.lanes + i ≡ b) × (get_elem? w.lanes i ≡ some n)).
+        let z = k.seats.distinct other t.0 t'.0 w m n second t.2 t'.2 same in let p = t.1 in let q = t'.1 in omega arith)
         y)
         x
 
@@ -205,7 +220,8 @@ gathers a id other v w s k at apart there = record { sized = k.sized; ghost = k.
       known = λ i j u m is here. ⊎_elim
           (λ (t : (i ≡ other) × (empty_view ≡ u)). absurd (some-ne-none m (sym (subst (λ (x : View). get_elem? x.lanes j ≡ some m) (sym t.1) here))))
           (λ (t : ((i ≡ id) × (both ≡ u)) ⊎ ((i ≢ other) × (i ≢ id) × (get_elem? s.views i ≡ some u))). ⊎_elim
-          (λ (t' : (i ≡ id) × (both ≡ u)). subst (λ (x : ℕ). IsKnown x m) (sym t'.0) (in_both j m (append_at v.lanes w.lanes j m (subst (λ (x : View). get_elem? x.lanes j ≡ some m) (sym t'.1) here))))
+          (λ (t' : (i ≡ id) × (both ≡ u)). subst (λ (x : ℕ). IsKnown x m) (sym t'.0)
+          (in_both j m (append_at v.lanes w.lanes j m (subst (λ (x : View). get_elem? x.lanes j ≡ some m) (sym t'.1) here))))
           (λ (t' : (i ≢ other) × (i ≢ id) × (get_elem? s.views i ≡ some u)). let b = k.seats.known i j u m t'.2 here in (seat_stays m.cpu i b.0 t'.0, b.1, b.2))
           t)
           (after i u is);
@@ -237,8 +253,11 @@ learns a slots id me s k size at fits = (
   rw (set-get_or s.words 0) (record { sized = k.sized; ghost = k.ghost; rule = k.rule; seats = now }),
   record {
     after = refl;
-    within = λ j l here. (let b = k.seats.known id j me.0 l at here in
-        (subst (λ (x : Known). IsPrefix x.seen k.ghost.log) b.2 (k.rule.logged.begins l.cpu b.1), ap (λ (x : Known). events_of l.cpu x.seen) (sym b.2) ∙ k.rule.logged.own l.cpu b.1));
+    within = λ j l here. (let b = k.seats.known id j me.0 l at here in (
+      subst (λ (x : Known). IsPrefix x.seen k.ghost.log) b.2 (k.rule.logged.begins l.cpu b.1),
+      ap (λ (x : Known). events_of l.cpu x.seen)
+          (sym b.2) ∙ k.rule.logged.own l.cpu b.1,
+    ));
   },
 )
   where
@@ -249,11 +268,14 @@ learns a slots id me s k size at fits = (
     now = record {
       seat = k.seats.seat;
       known = λ i j x l is here. ⊎_elim
-          (λ (t : (i ≡ id) × (u ≡ x)). let b = k.seats.known id j me.0 l at (subst (λ (y : View). get_elem? y.lanes j ≡ some l) (sym t.1) here) in (b.0 ∙ sym t.0, b.1, b.2))
+          (λ (t : (i ≡ id) × (u ≡ x)).
+          let b = k.seats.known id j me.0 l at (subst (λ (y : View). get_elem? y.lanes j ≡ some l) (sym t.1) here) in (b.0 ∙ sym t.0, b.1, b.2))
           (λ (t : (i ≢ id) × (get_elem? s.views i ≡ some x)). k.seats.known i j x l t.1 here)
           (at_set s.views id i u x is);
       distinct = λ i a b x l m is here there same. ⊎_elim
-          (λ (t : (i ≡ id) × (u ≡ x)). k.seats.distinct id a b me.0 l m at (subst (λ (y : View). get_elem? y.lanes a ≡ some l) (sym t.1) here) (subst (λ (y : View). get_elem? y.lanes b ≡ some m) (sym t.1) there) same)
+          (λ (t : (i ≡ id) × (u ≡ x)). k.seats.distinct id a b me.0 l m at
+          (subst (λ (y : View). get_elem? y.lanes a ≡ some l) (sym t.1) here)
+          (subst (λ (y : View). get_elem? y.lanes b ≡ some m) (sym t.1) there) same)
           (λ (t : (i ≢ id) × (get_elem? s.views i ≡ some x)). k.seats.distinct i a b x l m t.1 here there same)
           (at_set s.views id i u x is);
       kept = λ i x is. ⊎_elim
@@ -264,7 +286,13 @@ learns a slots id me s k size at fits = (
 
 -- a copy of what a seat keeps of the history
 pub copies : (a : About) (id : ℕ) (v : View) → Splits (Kept a) id v v (onlooker v)
-copies a id v s k at = record { sized = k.sized; ghost = k.ghost; rule = k.rule; seats = subst (λ (l : List View). Seats a.shape.cpus k.ghost.log (lane k.ghost.lanes) (l ++ onlooker v ∷ [])) (sym (set_again s.views id v at)) now }
+copies a id v s k at = record {
+  sized = k.sized;
+  ghost = k.ghost;
+  rule = k.rule;
+  seats = subst
+      (λ (l : List View). Seats a.shape.cpus k.ghost.log (lane k.ghost.lanes) (l ++ onlooker v ∷ [])) (sym (set_again s.views id v at)) now;
+}
   where
     now : Seats a.shape.cpus k.ghost.log (lane k.ghost.lanes) (s.views ++ onlooker v ∷ [])
     now = record {
@@ -286,7 +314,8 @@ copies a id v s k at = record { sized = k.sized; ghost = k.ghost; rule = k.rule;
 -- a list in which no CPU has an event is empty
 no_events : (log : List Entry) → ((c : ℕ) → events_of c log ≡ []) → log ≡ []
 no_events [] h = refl
-no_events (x ∷ xs) h = absurd (full (sym (ap (λ (b : Bool). if b then x.event ∷ events_of x.cpu xs else events_of x.cpu xs) (eq-eqb x.cpu x.cpu refl)) ∙ h x.cpu))
+no_events (x ∷ xs) h = absurd (full (sym (ap (λ (b : Bool). if b then x.event ∷ events_of x.cpu xs else events_of x.cpu xs)
+    (eq-eqb x.cpu x.cpu refl)) ∙ h x.cpu))
   where
     full : x.event ∷ events_of x.cpu xs ≡ [] → ⊥
     full e = cc
@@ -296,12 +325,16 @@ front_nil [] ys e = refl
 front_nil (x ∷ xs) ys e = absurd (cc)
 
 -- where nobody has a lock, each segment shows its share
-at_rest_shows : (a : About) (w : Place → ℕ) (g : Ghost) (r : Rule a w g) → ((c : ℕ) → c < a.shape.cpus → g.lanes.locks c ≡ []) → (m s : ℕ) → IsBorn a g.depths m s → IsShare a.seed (shape_at a m) (home_by a m (g.depths m s)) (words_by_place w) m s (g.linked m)
+at_rest_shows : (a : About) (w : Place → ℕ) (g : Ghost) (r : Rule a w g) → ((c : ℕ) → c < a.shape.cpus → g.lanes.locks c ≡ []) → (m s : ℕ) →
+    IsBorn a g.depths m s → IsShare a.seed (shape_at a m) (home_by a m (g.depths m s)) (words_by_place w) m s (g.linked m)
 at_rest_shows a w g r idle m s at_s =
     let seg : Segment a g.depths (words_by_place w) (w (Stamp m s)) (g.eras m s) m s (g.linked m) = r.segments m s at_s in
     let even : w (Stamp m s) % 2 ≡ 0 = ⊎_elim
     (λ (e : w (Stamp m s) % 2 ≡ 0). e)
-    (λ (o : w (Stamp m s) % 2 ≡ 1). absurd (let h = r.held m s at_s o in let z : times_lock m s (g.lanes.locks (g.eras m s).writer) ≡ 0 = ap (times_lock m s) (idle (g.eras m s).writer h.0) in let y = h.1 in omega arith))
+    (λ (o : w (Stamp m s) % 2 ≡ 1). absurd
+    (let h = r.held m s at_s o in
+    let z : times_lock m s (g.lanes.locks (g.eras m s).writer) ≡ 0 = ap (times_lock m s) (idle (g.eras m s).writer h.0) in
+    let y = h.1 in omega arith))
     (even_or_odd (w (Stamp m s))) in
     let d = seg.at_rest even in
     share_agrees a.seed (shape_at a m) (home_by a m (g.depths m s)) (words_by_place w) (g.eras m s).old m s (g.linked m) (seg.clean d).1 (seg.shows d)
@@ -320,7 +353,8 @@ closes a id v ws xs final all within =
     let m = all c inside in
     let mine = within m.0 m.1 m.3 in
     let b = k.seats.known id m.0 v m.1 at m.3 in
-    let own : events_of c m.1.seen ≡ events_of c k.ghost.log = subst (λ (d : ℕ). events_of d m.1.seen ≡ events_of d k.ghost.log) m.2 (ap (λ (x : Known). events_of m.1.cpu x.seen) (sym b.2) ∙ k.rule.logged.own m.1.cpu b.1) in
+    let own : events_of c m.1.seen ≡ events_of c k.ghost.log = subst (λ (d : ℕ). events_of d m.1.seen ≡ events_of d k.ghost.log) m.2
+    (ap (λ (x : Known). events_of m.1.cpu x.seen) (sym b.2) ∙ k.rule.logged.own m.1.cpu b.1) in
     let seen : events_of c m.1.seen ≡ events_of c v.kept = subst (λ (d : ℕ). events_of d m.1.seen ≡ events_of d v.kept) m.2 mine.1 in
     sym seen ∙ (own ∙ ap (events_of c) (sym begins.1)))
     (λ (past : c < a.shape.cpus → ⊥).
@@ -340,5 +374,6 @@ closes a id v ws xs final all within =
       whole = whole;
       empty = empty;
       rule = subst (λ (w : List ℕ). Rule a (mem a.shape w) k.ghost) final.2 k.rule;
-      shows = λ m s at_s. subst (λ (w : List ℕ). IsShare a.seed (shape_at a m) (home_by a m (k.ghost.depths m s)) (image a w) m s (k.ghost.linked m)) final.2 (at_rest_shows a (mem a.shape s'.words) k.ghost k.rule idle m s at_s);
+      shows = λ m s at_s. subst (λ (w : List ℕ). IsShare a.seed (shape_at a m) (home_by a m (k.ghost.depths m s)) (image a w) m s
+          (k.ghost.linked m)) final.2 (at_rest_shows a (mem a.shape s'.words) k.ghost k.rule idle m s at_s);
     }

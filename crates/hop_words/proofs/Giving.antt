@@ -13,7 +13,8 @@ use Rattle.hop_words.proofs.Locks.{holds}
 use Rattle.hop_words.proofs.Stays.{next_as}
 use Rattle.hop_words.proofs.Tallies.{noted_as}
 
-module _ (a : About) (l : Known) (m s stamp : ℕ) (h : HasLastLock l m s) (e : stamp ≡ (lock_of l).stamp) (told said : Known → Type 0) (less : (x : Known) → told x → said (sighted x (lock_given (lock_of l))))
+module _ (a : About) (l : Known) (m s stamp : ℕ) (h : HasLastLock l m s) (e : stamp ≡ (lock_of l).stamp) (told said : Known → Type 0)
+    (less : (x : Known) → told x → said (sighted x (lock_given (lock_of l))))
     (step : Steps a l (Stamp (lock_of l).map (lock_of l).segment) (λ _. (lock_of l).stamp) (λ ws n x. told x)) where
   abbrev k : Lock
   k = lock_of l

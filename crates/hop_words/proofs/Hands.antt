@@ -20,20 +20,29 @@ module _ (a : About) (l : Known) (m e : ℕ) (at_e : HasElement a m e) (h : IsIn
   at_f : HasElement a f.map f.element
   at_f = subst (λ (n : ℕ). HasElement a n f.element) (sym h.2) (subst (HasElement a m) (sym h.3) at_e)
 
-  pub gives : IsUpdateAnswered l m → Notes a l (FreeBits m (e / 64)) (λ n. bit_or n (2 ^ (e % 64))) (λ ws n l'. l' ≡ sighted (record l { fresh = tail_of l.fresh }) (bit_set m e n))
+  pub gives : IsUpdateAnswered l m → Notes a l (FreeBits m (e / 64)) (λ n. bit_or n (2 ^ (e % 64)))
+      (λ ws n l'. l' ≡ sighted (record l { fresh = tail_of l.fresh }) (bit_set m e n))
   gives answered =
-      subst (λ (n : ℕ). Notes a l (FreeBits n (e / 64)) (λ n. bit_or n (2 ^ (e % 64))) (λ ws i l'. l' ≡ sighted (record l { fresh = tail_of l.fresh }) (bit_set n e i))) h.2
-      (subst (λ (d : ℕ). Notes a l (FreeBits f.map (d / 64)) (λ n. bit_or n (2 ^ (d % 64))) (λ ws i l'. l' ≡ sighted (record l { fresh = tail_of l.fresh }) (bit_set f.map d i))) h.3
-      (give_fresh a l f (tail_of l.fresh) h.1 at_f (subst (λ (n : ℕ). f.update < updates_of n (events_of l.cpu l.seen)) (sym h.2) (subst (λ (fs : List Fresh). update_in_hand fs < updates_of m (events_of l.cpu l.seen)) h.1 answered))))
+      subst (λ (n : ℕ). Notes a l (FreeBits n (e / 64)) (λ n. bit_or n (2 ^ (e % 64)))
+      (λ ws i l'. l' ≡ sighted (record l { fresh = tail_of l.fresh }) (bit_set n e i))) h.2
+      (subst (λ (d : ℕ). Notes a l (FreeBits f.map (d / 64)) (λ n. bit_or n (2 ^ (d % 64)))
+      (λ ws i l'. l' ≡ sighted (record l { fresh = tail_of l.fresh }) (bit_set f.map d i))) h.3
+      (give_fresh a l f (tail_of l.fresh) h.1 at_f (subst (λ (n : ℕ). f.update < updates_of n (events_of l.cpu l.seen)) (sym h.2)
+      (subst (λ (fs : List Fresh). update_in_hand fs < updates_of m (events_of l.cpu l.seen)) h.1 answered))))
 
-  pub fills_key : (k n : ℕ) → l.locks ≡ [] → k ≡ key_filled l.fresh → Steps a l (KeyWord m e k) (λ _. n) (λ ws found l'. l' ≡ record l { fresh = with_key_word l.fresh n })
+  pub fills_key : (k n : ℕ) → l.locks ≡ [] → k ≡ key_filled l.fresh → Steps a l (KeyWord m e k) (λ _. n)
+      (λ ws found l'. l' ≡ record l { fresh = with_key_word l.fresh n })
   fills_key k n unlocked next =
       subst (λ (fs : List Fresh). Steps a l (KeyWord m e k) (λ _. n) (λ ws found l'. l' ≡ record l { fresh = with_key_word fs n })) (sym h.1)
-      (subst (λ (p : Place). Steps a l p (λ _. n) (λ ws found l'. l' ≡ record l { fresh = record f { key = f.key ++ n ∷ [] } ∷ tail_of l.fresh })) (λ i. KeyWord (h.2 i) (h.3 i) ((sym (ap key_filled h.1) ∙ sym next) i))
+      (subst (λ (p : Place). Steps a l p (λ _. n) (λ ws found l'. l' ≡ record l
+      { fresh = record f { key = f.key ++ n ∷ [] } ∷ tail_of l.fresh })) (λ i. KeyWord (h.2 i) (h.3 i) ((sym (ap key_filled h.1) ∙ sym next) i))
       (fill_key a l f (tail_of l.fresh) n h.1 at_f unlocked))
 
-  pub fills_value : (k n : ℕ) → l.locks ≡ [] → k ≡ value_filled l.fresh → Steps a l (ValueWord m e k) (λ _. n) (λ ws found l'. l' ≡ record l { fresh = with_value_word l.fresh n })
+  pub fills_value : (k n : ℕ) → l.locks ≡ [] → k ≡ value_filled l.fresh → Steps a l (ValueWord m e k) (λ _. n)
+      (λ ws found l'. l' ≡ record l { fresh = with_value_word l.fresh n })
   fills_value k n unlocked next =
       subst (λ (fs : List Fresh). Steps a l (ValueWord m e k) (λ _. n) (λ ws found l'. l' ≡ record l { fresh = with_value_word fs n })) (sym h.1)
-      (subst (λ (p : Place). Steps a l p (λ _. n) (λ ws found l'. l' ≡ record l { fresh = record f { value = f.value ++ n ∷ [] } ∷ tail_of l.fresh })) (λ i. ValueWord (h.2 i) (h.3 i) ((sym (ap value_filled h.1) ∙ sym next) i))
+      (subst (λ (p : Place). Steps a l p (λ _. n) (λ ws found l'. l' ≡ record l
+      { fresh = record f { value = f.value ++ n ∷ [] } ∷ tail_of l.fresh }))
+      (λ i. ValueWord (h.2 i) (h.3 i) ((sym (ap value_filled h.1) ∙ sym next) i))
       (fill_value a l f (tail_of l.fresh) n h.1 at_f unlocked))

@@ -21,7 +21,8 @@ use Rattle.hop_words.specs.Rule.{Logged}
 use Rattle.bpf_shared.specs.Own.{turns_of, in_run}
 
 pub log_other : (c d : ℕ) (e : Event) (log : List Entry) → d ≢ c → events_of d (log ++ entry c e ∷ []) ≡ events_of d log
-log_other c d e log ne = events_of-append d log (entry c e ∷ []) ∙ (ap (λ (l : List Event). events_of d log ++ l) (events_of-other d c e (λ (s : c ≡ d). ne (sym s))) ∙ append-nil (events_of d log))
+log_other c d e log ne = events_of-append d log (entry c e ∷ []) ∙
+    (ap (λ (l : List Event). events_of d log ++ l) (events_of-other d c e (λ (s : c ≡ d). ne (sym s))) ∙ append-nil (events_of d log))
 
 pub log_own : (c : ℕ) (e : Event) (log : List Entry) → events_of c (log ++ entry c e ∷ []) ≡ events_of c log ++ e ∷ []
 log_own c e log = events_of-append c log (entry c e ∷ []) ∙ ap (λ (l : List Event). events_of c log ++ l) (events_of-own c e)
@@ -48,14 +49,16 @@ done_in-append m (x ∷ xs) ys = let r = done_in-append m xs ys in omega arith
 
 -- ---- who runs, and the shape
 -- who runs is determined by the CPU's own events
-pub runs_as_known : (a : About) (c : ℕ) (t : Plain) (log seen : List Entry) → IsShape a.shape → Legal (as_made a.shape) log t → events_of c seen ≡ events_of c log → t.running c ≡ in_run (events_of c seen)
+pub runs_as_known : (a : About) (c : ℕ) (t : Plain) (log seen : List Entry) → IsShape a.shape → Legal (as_made a.shape) log t → events_of c
+    seen ≡ events_of c log → t.running c ≡ in_run (events_of c seen)
 runs_as_known a c t log seen shaped legal own = (own_events_tell a.shape c t log shaped legal).0 ∙ ap in_run (sym own)
 
 pub shape_after : (s t : Plain) (log : List Entry) → Legal s log t → t.shape ≡ s.shape
 shape_after = history_shape Allowed (λ s t c e a. a)
 
 -- ---- the history after an event of the CPU c, which has seen all of it
-pub logged_event : (a : About) (seen : ℕ → List Entry) (log : List Entry) (last t : Plain) (c : ℕ) (e : Event) → Logged a seen log last → c < a.shape.cpus → Allowed last c e t
+pub logged_event : (a : About) (seen : ℕ → List Entry) (log : List Entry) (last t : Plain) (c : ℕ) (e : Event) → Logged a seen log last → c
+    < a.shape.cpus → Allowed last c e t
     → Logged a (put seen c (log ++ entry c e ∷ [])) (log ++ entry c e ∷ []) t
 logged_event a seen log last t c e p inside may = record {
   legal = history-append Allowed (as_made a.shape) last t log (entry c e ∷ []) p.legal (t, may, refl);

@@ -1,5 +1,6 @@
 -- An update that lacks an element comes after as many updates as there are elements.
-use Rattle.std.proofs.Common.{◌≡◌, ◌≢◌, ℕ, zero, suc, ◌+◌, ◌<◌, ◌≤◌, Bool, true, false, List, [], ◌∷◌, ◌++◌, ◌==◌, if◌then◌else◌, length, length-append, refl, ap, sym, subst, ◌∙◌, arith, eq-eqb, ne_eqb, true≢false, ⊎_elim}
+use Rattle.std.proofs.Common.{◌≡◌, ◌≢◌, ℕ, zero, suc, ◌+◌, ◌<◌, ◌≤◌, Bool, true, false, List, [], ◌∷◌, ◌++◌, ◌==◌, if◌then◌else◌, length}
+use Rattle.std.proofs.Common.{length-append, refl, ap, sym, subst, ◌∙◌, arith, eq-eqb, ne_eqb, true≢false, ⊎_elim}
 use Rattle.std.proofs.lemmas.Bool.{cases_eq}
 use Rattle.bpf_shared.specs.declared.events.Entry.{Entry}
 use Rattle.bpf_shared.specs.declared.events.Event.{Event}
@@ -102,14 +103,17 @@ all_first takes most (suc c) = first_of (takes c) (most c) ++ all_first takes mo
 all_length : (takes : ℕ → ℕ → ℕ) (most : ℕ → ℕ) (c : ℕ) → length (all_first takes most c) ≡ sum_first most c
 unfolding all_first sum_first
 all_length takes most zero = refl
-all_length takes most (suc c) = let r = all_length takes most c in let f = first_length (takes c) (most c) in let a = length-append (first_of (takes c) (most c)) (all_first takes most c) in omega arith
+all_length takes most (suc c) =
+    let r = all_length takes most c in
+    let f = first_length (takes c) (most c) in let a = length-append (first_of (takes c) (most c)) (all_first takes most c) in omega arith
 
 all_there : (takes : ℕ → ℕ → ℕ) (most : ℕ → ℕ) (n c k e : ℕ) → c < n → k < most c → takes c k ≡ e → 1 ≤ times e (all_first takes most n)
 unfolding all_first
 all_there takes most zero c k e inside less is = absurd (omega arith)
 all_there takes most (suc n) c k e inside less is = ⊎_elim
     (λ (q : c ≡ n).
-    let f : 1 ≤ times e (first_of (takes n) (most n)) = subst (λ (i : ℕ). 1 ≤ times e (first_of (takes i) (most i))) q (first_there (takes c) (most c) k e less is) in
+    let f : 1 ≤ times e (first_of (takes n) (most n)) = subst (λ (i : ℕ). 1 ≤ times e (first_of (takes i) (most i))) q
+    (first_there (takes c) (most c) k e less is) in
     let a = times-append e (first_of (takes n) (most n)) (all_first takes most n) in
     omega arith)
     (λ (ne : c ≢ n).
@@ -127,7 +131,8 @@ mark_adds : (m : ℕ) (x : Entry) (xs : List Entry) (c : ℕ) → updates_in (x 
 unfolding mark
 mark_adds m x xs c = go (x.cpu == c)
   where
-    go : (b : Bool) → updates_of m (if b then x.event ∷ events_of c xs else events_of c xs) ≡ (if b then one_if (is_update m x.event) else 0) + updates_of m (events_of c xs)
+    go : (b : Bool) → updates_of m (if b then x.event ∷ events_of c xs else events_of c xs) ≡
+        (if b then one_if (is_update m x.event) else 0) + updates_of m (events_of c xs)
     go true = refl
     go false = omega arith
 
@@ -148,7 +153,8 @@ mark_most m x n = go (is_update m x.event)
     if_one false = omega arith
 
     go : (u : Bool) → sum_first (λ c. if x.cpu == c then one_if u else 0) n ≤ one_if u
-    go true = let s = sum_most (λ c. if x.cpu == c then 1 else 0) (λ c. one_if (x.cpu == c)) n (λ c. if_one (x.cpu == c)) in let o = sum_once x.cpu n in omega arith
+    go true = let s = sum_most (λ c. if x.cpu == c then 1 else 0) (λ c. one_if (x.cpu == c)) n (λ c. if_one (x.cpu == c)) in
+        let o = sum_once x.cpu n in omega arith
     go false = let z = sum_none (λ c. if x.cpu == c then 0 else 0) n (λ c less. if_zero (x.cpu == c)) in omega arith
 
 updates_sum : (m : ℕ) (history : List Entry) (n : ℕ) → sum_first (λ c. updates_in history m c) n ≤ all_updates m history
@@ -169,23 +175,28 @@ updates_in-append m c xs ys = ap (updates_of m) (events_of-append c xs ys) ∙ u
 
 -- ---- where an element may be lacked
 -- there are as many elements as such updates at most
-few_elements : (x : Moment) (made most : ℕ → ℕ) (m : ℕ) (may : EachMayBeTaken x made m) → ((e : ℕ) (t : IsTakenByUpdate x made may.0 m e) → t.update < most t.cpu) → elements (map_shape x.shape m) ≤ sum_first most x.shape.cpus
+few_elements : (x : Moment) (made most : ℕ → ℕ) (m : ℕ) (may : EachMayBeTaken x made m) →
+    ((e : ℕ) (t : IsTakenByUpdate x made may.0 m e) → t.update < most t.cpu) → elements (map_shape x.shape m) ≤ sum_first most x.shape.cpus
 few_elements x made most m may bound =
     let n = x.shape.cpus in
     let all = all_first may.0 most n in
-    let there = each_there all (elements (map_shape x.shape m)) (λ e few. let t = may.1 e few in all_there may.0 most n t.cpu t.update e t.inside (bound e t) t.this) in
+    let there = each_there all (elements (map_shape x.shape m)) (λ e few.
+    let t = may.1 e few in all_there may.0 most n t.cpu t.update e t.inside (bound e t) t.this) in
     let size = all_length may.0 most n in
     omega arith
 
-lack_of : (version : ℕ) (made : ℕ → ℕ → ℕ) (x : Moment) (m : ℕ) (e : Event) → lacks m e ≡ true → HasCause version made x e → EachMayBeTaken x (made m) m × (is_update m e ≡ true)
+lack_of : (version : ℕ) (made : ℕ → ℕ → ℕ) (x : Moment) (m : ℕ) (e : Event) → lacks m e ≡ true → HasCause version made x e → EachMayBeTaken
+    x (made m) m × (is_update m e ≡ true)
 lack_of version made x m (Update n key bytes flags NoMemory) is cause = (subst (λ (i : ℕ). EachMayBeTaken x (made i) i) (same n m is) cause, is)
   where
     same : (a b : ℕ) → (a == b) ≡ true → a ≡ b
     same a b t = ⊎_elim (λ (q : a ≡ b). q) (λ (ne : a ≢ b). absurd (true≢false (sym t ∙ ne_eqb a b ne))) (cases_eq a b)
 lack_of version made x m e is cause = absurd (true≢false (sym is))
 
-module _ (h : Shape) (version : ℕ) (history : List Entry) (last : Plain) (m : ℕ) (causes : HaveCauses h version history last) (before after : List Entry) (x : Entry) (is : history ≡ before ++ (x ∷ after)) (lack : lacks m x.event ≡ true) where
-  cause_there : (s : Plain) × EachMayBeTaken (record { shape = h; before = before; store = s; cpu = x.cpu }) (updates_in history m) m × (is_update m x.event ≡ true)
+module _ (h : Shape) (version : ℕ) (history : List Entry) (last : Plain) (m : ℕ) (causes : HaveCauses h version history last)
+    (before after : List Entry) (x : Entry) (is : history ≡ before ++ (x ∷ after)) (lack : lacks m x.event ≡ true) where
+  cause_there : (s : Plain) × EachMayBeTaken (record { shape = h; before = before; store = s; cpu = x.cpu }) (updates_in history m) m ×
+      (is_update m x.event ≡ true)
   cause_there =
       let k = causes before after x is in
       let l = lack_of version (updates_in history) (record { shape = h; before = before; store = k.0; cpu = x.cpu }) m x.event lack k.3 in

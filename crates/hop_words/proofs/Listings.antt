@@ -24,7 +24,8 @@ some_if_numbered f (Some e) = refl
 
 -- by the lock of the key's segment, in a list that has it
 module _ (a : About) (linked : ℕ → List ℕ → Option ℕ) (m : ℕ) (keys : List (List ℕ)) (q : List ℕ) where
-  at_home : (ks : List Lock) → IsHomeAmong a q ks → Each (λ (k : Lock). k.map ≡ m) ks → Each (ShowsLinks a linked) ks → Each (ListsSegment a keys) ks → is_some (linked m q) ≡ is_among q keys
+  at_home : (ks : List Lock) → IsHomeAmong a q ks → Each (λ (k : Lock). k.map ≡ m) ks → Each (ShowsLinks a linked) ks → Each
+      (ListsSegment a keys) ks → is_some (linked m q) ≡ is_among q keys
   at_home [] some of shows lists = absurd some
   at_home (k ∷ ks) some of shows lists = ⊎_elim
       (λ (home : IsHomeIn a k q). subst (λ (i : ℕ). is_some (linked i q) ≡ is_among q keys) of.0 (lists.0 (linked k.map) shows.0 q home))

@@ -33,17 +33,20 @@ pub looks : (a : About) (l : Known) (p : Place) → Steps a l p (λ n. n) (λ ws
 looks a l p ws g sized r is inside fits = stay a (mem a.shape ws) g l.cpu p (λ l'. l' ≡ l) r is
 
 -- ---- the key count of the locked map, and the stamp of the locked segment
-pub at_count : (a : About) (l : Known) (m : ℕ) (f : ℕ → ℕ) (told : List ℕ → ℕ → Known → Type 0) → (lock_of l).map ≡ m → Steps a l (KeyCount (lock_of l).map) f told → Steps a l (KeyCount m) f told
+pub at_count : (a : About) (l : Known) (m : ℕ) (f : ℕ → ℕ) (told : List ℕ → ℕ → Known → Type 0) → (lock_of l).map ≡ m → Steps a l
+    (KeyCount (lock_of l).map) f told → Steps a l (KeyCount m) f told
 at_count a l m f told e step = subst (λ (n : ℕ). Steps a l (KeyCount n) f told) e step
 
-pub at_stamp : (a : About) (l : Known) (m s : ℕ) (h : HasLock l m s) (stamp more : ℕ) (told : List ℕ → ℕ → Known → Type 0) → stamp ≡ (lock_of l).stamp → Steps a l (Stamp (lock_of l).map (lock_of l).segment) (λ _. (lock_of l).stamp + more) told
+pub at_stamp : (a : About) (l : Known) (m s : ℕ) (h : HasLock l m s) (stamp more : ℕ) (told : List ℕ → ℕ → Known → Type 0) → stamp ≡
+    (lock_of l).stamp → Steps a l (Stamp (lock_of l).map (lock_of l).segment) (λ _. (lock_of l).stamp + more) told
     → Steps a l (Stamp m s) (λ _. stamp + more) told
 at_stamp a l m s h stamp more told e step =
     subst (λ (n : ℕ). Steps a l (Stamp n s) (λ _. stamp + more) told) h.1
     (subst (λ (t : ℕ). Steps a l (Stamp (lock_of l).map t) (λ _. stamp + more) told) h.2
     (subst (λ (i : ℕ). Steps a l (Stamp (lock_of l).map (lock_of l).segment) (λ _. i + more) told) (sym e) step))
 
-pub at_same_stamp : (a : About) (l : Known) (m s : ℕ) (h : HasLock l m s) (stamp : ℕ) (told : List ℕ → ℕ → Known → Type 0) → stamp ≡ (lock_of l).stamp → Steps a l (Stamp (lock_of l).map (lock_of l).segment) (λ _. (lock_of l).stamp) told
+pub at_same_stamp : (a : About) (l : Known) (m s : ℕ) (h : HasLock l m s) (stamp : ℕ) (told : List ℕ → ℕ → Known → Type 0) → stamp ≡
+    (lock_of l).stamp → Steps a l (Stamp (lock_of l).map (lock_of l).segment) (λ _. (lock_of l).stamp) told
     → Steps a l (Stamp m s) (λ _. stamp) told
 at_same_stamp a l m s h stamp told e step =
     subst (λ (n : ℕ). Steps a l (Stamp n s) (λ _. stamp) told) h.1
@@ -62,5 +65,7 @@ module _ (a : About) (l : Known) (m s : ℕ) (h : HasLastLock l m s) where
   pub reads_stamp : Steps a l (Stamp m s) (λ n. n) (λ ws n l'. (n ≡ (lock_of l).stamp + 1) × (l' ≡ l))
   reads_stamp = last_here (λ n t. Steps a l (Stamp n t) (λ n. n) (λ ws i l'. (i ≡ (lock_of l).stamp + 1) × (l' ≡ l))) (read_stamp a l (lock_of l) h.0)
 
-  pub at_last_stamp : (stamp : ℕ) (told : List ℕ → ℕ → Known → Type 0) → stamp ≡ (lock_of l).stamp → Steps a l (Stamp (lock_of l).map (lock_of l).segment) (λ _. (lock_of l).stamp) told → Steps a l (Stamp m s) (λ _. stamp) told
-  at_last_stamp stamp told e step = last_here (λ n t. Steps a l (Stamp n t) (λ _. stamp) told) (subst (λ (i : ℕ). Steps a l (Stamp (lock_of l).map (lock_of l).segment) (λ _. i) told) (sym e) step)
+  pub at_last_stamp : (stamp : ℕ) (told : List ℕ → ℕ → Known → Type 0) → stamp ≡ (lock_of l).stamp → Steps a l
+      (Stamp (lock_of l).map (lock_of l).segment) (λ _. (lock_of l).stamp) told → Steps a l (Stamp m s) (λ _. stamp) told
+  at_last_stamp stamp told e step = last_here (λ n t. Steps a l (Stamp n t) (λ _. stamp) told)
+      (subst (λ (i : ℕ). Steps a l (Stamp (lock_of l).map (lock_of l).segment) (λ _. i) told) (sym e) step)

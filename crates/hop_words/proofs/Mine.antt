@@ -26,13 +26,17 @@ module _ (a : About) (l : Known) (k : Lock) {rest : List Lock} (held : l.locks �
         (λ (f : (f : Fresh) × (rest : List Fresh) × (l.fresh ≡ f ∷ rest) × (f.map ≡ k.map) × (f.element ≡ e)).
         subst (Minded (lock_home a k) l.cpu k.segment)
         (sym (subst (λ (x : ℕ). g.holder k.map x ≡ Filling l.cpu) f.4
-        (in_hand a _ g.lanes.fresh g.lanes.limbo g.holder l.cpu k.map f.0 f.1 r.owned inside (subst (HasElement a k.map) (sym f.4) (h.inside.0, may.0)) f.3 (ap (λ (x : Known). x.fresh) is ∙ f.2))))
+        (in_hand a _ g.lanes.fresh g.lanes.limbo g.holder l.cpu k.map f.0 f.1 r.owned inside
+        (subst (HasElement a k.map) (sym f.4) (h.inside.0, may.0)) f.3 (ap (λ (x : Known). x.fresh) is ∙ f.2))))
         refl)
-        (λ due. let d = h.due in let t = due d.0 d.1 in subst (Minded (lock_home a k) l.cpu k.segment) (sym (r.linked.within k.map t.0 e (d.2 t.0 t.2 ∙ t.1)).1) t.2)
+        (λ due. let d = h.due in let t = due d.0 d.1 in subst (Minded (lock_home a k) l.cpu k.segment)
+        (sym (r.linked.within k.map t.0 e (d.2 t.0 t.2 ∙ t.1)).1) t.2)
         may.1
 
   pub read_mine : Steps a l (Link k.map e) (λ n. n) (λ ws n l'. (n ≡ (image a k.copy).link k.map e) × (l' ≡ l))
-  read_mine ws g sized r is inside fits = stay a (mem a.shape ws) g l.cpu (Link k.map e) _ r ((h (mem a.shape ws) g r is inside).copied.link e (mine (mem a.shape ws) g r is inside), is)
+  read_mine ws g sized r is inside fits = stay a (mem a.shape ws) g l.cpu (Link k.map e) _ r
+      ((h (mem a.shape ws) g r is inside).copied.link e (mine (mem a.shape ws) g r is inside), is)
 
   pub read_my_key : (j : ℕ) → Steps a l (KeyWord k.map e j) (λ n. n) (λ ws n l'. (n ≡ (image a k.copy).key k.map e j) × (l' ≡ l))
-  read_my_key j ws g sized r is inside fits = stay a (mem a.shape ws) g l.cpu (KeyWord k.map e j) _ r ((h (mem a.shape ws) g r is inside).copied.key e j (mine (mem a.shape ws) g r is inside), is)
+  read_my_key j ws g sized r is inside fits = stay a (mem a.shape ws) g l.cpu (KeyWord k.map e j) _ r
+      ((h (mem a.shape ws) g r is inside).copied.key e j (mine (mem a.shape ws) g r is inside), is)

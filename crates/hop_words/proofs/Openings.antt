@@ -1,5 +1,6 @@
 -- The store as made keeps the rule.
-use Rattle.std.proofs.Common.{◌≡◌, ℕ, zero, suc, ◌+◌, ◌<◌, ◌≤◌, false, true≢false, List, [], ◌∷◌, ◌++◌, Some, None, length, refl, ap, sym, subst, ◌∙◌, arith, inl, inr, ◌-◌, nat_lt, Bool, true, ◌&&◌, if◌then◌else◌, ⊎_elim}
+use Rattle.std.proofs.Common.{◌≡◌, ℕ, zero, suc, ◌+◌, ◌<◌, ◌≤◌, false, true≢false, List, [], ◌∷◌, ◌++◌, Some, None, length, refl, ap, sym}
+use Rattle.std.proofs.Common.{subst, ◌∙◌, arith, inl, inr, ◌-◌, nat_lt, Bool, true, ◌&&◌, if◌then◌else◌, ⊎_elim}
 use mathlib.Core.Option.{some, some-injective, some-ne-none}
 use lib.ListN.{get_elem?}
 use mathlib.Core.List.{IsPrefix}
@@ -43,7 +44,9 @@ no_depth : (limit n s : ℕ) → is_born (λ t. 0) n s ≡ true → s ≡ 0
 no_depth limit zero s b = let z = b in grind (arith, nat_tests)
 no_depth limit (suc n) s b = ⊎_elim
     (λ (l : s < power n). no_depth limit n s (sym (low_is (λ t. 0) n s l) ∙ b))
-    (λ (h : power n ≤ s). let z : nat_lt n 0 && is_born (λ t. 0) n (s - power n) ≡ true = sym (high_is (λ t. 0) n s h) ∙ b in let y : nat_lt n 0 ≡ false = (grind (arith, nat_tests)) in absurd (true≢false (sym z ∙ ap (λ (x : Bool). x && is_born (λ t. 0) n (s - power n)) y)))
+    (λ (h : power n ≤ s).
+    let z : nat_lt n 0 && is_born (λ t. 0) n (s - power n) ≡ true = sym (high_is (λ t. 0) n s h) ∙ b in
+    let y : nat_lt n 0 ≡ false = (grind (arith, nat_tests)) in absurd (true≢false (sym z ∙ ap (λ (x : Bool). x && is_born (λ t. 0) n (s - power n)) y)))
     (cases_lt s (power n))
 
 first_sound : (g : MapShape) → AreDepths (λ s. first_depth g) (depth g)
@@ -105,7 +108,8 @@ module _ (a : About) (w : Place → ℕ) (i : AreNewWords a w) where
   }
 
   none_before : (before after : List Entry) (x : Entry) → [] ≡ before ++ (x ∷ after)
-      → (s : Plain) × Legal (as_made a.shape) before s × Legal s (x ∷ after) (as_made a.shape) × HasCause a.version (begun_in [] (λ c. [])) (record { shape = a.shape; before = before; store = s; cpu = x.cpu }) x.event
+      → (s : Plain) × Legal (as_made a.shape) before s × Legal s (x ∷ after) (as_made a.shape) × HasCause a.version (begun_in [] (λ c. []))
+      (record { shape = a.shape; before = before; store = s; cpu = x.cpu }) x.event
   none_before [] after x e = cc
   none_before (y ∷ ys) after x e = cc
 
@@ -135,7 +139,11 @@ module _ (a : About) (w : Place → ℕ) (i : AreNewWords a w) where
     filled = λ c l. tt;
     segments = λ m s b. let at_s : IsSegment a m s = (b.0, b.1) in record {
       at_rest = λ e. refl;
-      clean = λ d. ((let z = (i.stamps m s at_s).0 in omega arith), record { head = refl; hop = λ b. refl; slot = λ b. refl; link = λ e on. refl; key = λ e k on. refl });
+      clean = λ d. (
+        (let z = (i.stamps m s at_s).0 in omega arith),
+        record
+            { head = refl; hop = λ b. refl; slot = λ b. refl; link = λ e on. refl; key = λ e k on. refl },
+      );
       written = λ d. absurd (true≢false (sym d));
       shows = λ d. empty_share m s at_s;
     };
@@ -144,14 +152,21 @@ module _ (a : About) (w : Place → ℕ) (i : AreNewWords a w) where
     held = λ m s b odd. absurd (let z = (i.stamps m s (b.0, b.1)).0 in omega arith);
     fixed = shows_first a i.shaped i.bytes w i.fixed;
     valued = record { lies = λ m e l has. absurd has; older = λ m e l has. absurd has; held_in = λ c v h. absurd (true≢false (sym h)) };
-    shown = record { causes = λ before after x e. none_before before after x e; running = λ c. inl refl; took = λ m e at_e held. absurd (held refl); taken = λ c m e l at_e seen. absurd seen };
+    shown = record {
+      causes = λ before after x e. none_before before after x e;
+      running = λ c. inl refl;
+      took = λ m e at_e held. absurd
+          (held refl);
+      taken = λ c m e l at_e seen. absurd seen;
+    };
   }
 
 -- each lane of the first seat is that of its CPU
 from_lane : (a : About) (c n k : ℕ) (l : Known) → get_elem? (lanes_from a c n) k ≡ some l → (l ≡ new_lane a (c + k)) × (k < n)
 from_lane a c zero k l e = absurd (some-ne-none l (sym e))
 from_lane a c (suc n) zero l e = (sym (some-injective _ l e) ∙ ap (new_lane a) (let z : c ≡ c + 0 = omega arith in z), omega arith)
-from_lane a c (suc n) (suc k) l e = let r = from_lane a (c + 1) n k l e in (r.0 ∙ ap (new_lane a) (let z : c + 1 + k ≡ c + suc k = omega arith in z), (let z = r.1 in omega arith))
+from_lane a c (suc n) (suc k) l e =
+    let r = from_lane a (c + 1) n k l e in (r.0 ∙ ap (new_lane a) (let z : c + 1 + k ≡ c + suc k = omega arith in z), (let z = r.1 in omega arith))
 
 pub opening_kept : (a : About) (ws : List ℕ) → length ws ≡ size a.shape → AreNewWords a (mem a.shape ws) → Kept a (opening ws [] (opens a))
 opening_kept a ws sized i = record {
@@ -166,14 +181,16 @@ opening_kept a ws sized i = record {
   rule = new_rule a (mem a.shape ws) i;
 }
   where
-    known : (j : ℕ) (v : View) → get_elem? (opens a ∷ []) j ≡ some v → (k : ℕ) (l : Known) → get_elem? v.lanes k ≡ some l → (0 ≡ j) × (l.cpu < a.shape.cpus) × (lane (new_ghost a (mem a.shape ws) i).lanes l.cpu ≡ l)
+    known : (j : ℕ) (v : View) → get_elem? (opens a ∷ []) j ≡ some v → (k : ℕ) (l : Known) → get_elem? v.lanes k ≡ some l → (0 ≡ j) ×
+        (l.cpu < a.shape.cpus) × (lane (new_ghost a (mem a.shape ws) i).lanes l.cpu ≡ l)
     known zero v is k l spot =
         let f = from_lane a 0 a.shape.cpus k l (subst (λ (x : View). get_elem? x.lanes k ≡ some l) (sym (some-injective (opens a) v is)) spot) in
         let c : l.cpu ≡ 0 + k = ap (λ (x : Known). x.cpu) f.0 in
         (refl, (let z = f.1 in omega arith), ap (new_lane a) c ∙ sym f.0)
     known (suc j) v is k l spot = absurd (some-ne-none v (sym is))
 
-    one : (j : ℕ) (v : View) → get_elem? (opens a ∷ []) j ≡ some v → (k m : ℕ) (l n : Known) → get_elem? v.lanes k ≡ some l → get_elem? v.lanes m ≡ some n → l.cpu ≡ n.cpu → k ≡ m
+    one : (j : ℕ) (v : View) → get_elem? (opens a ∷ []) j ≡ some v → (k m : ℕ) (l n : Known) → get_elem? v.lanes k ≡ some l → get_elem?
+        v.lanes m ≡ some n → l.cpu ≡ n.cpu → k ≡ m
     one zero v is k m l n s t e =
         let f = from_lane a 0 a.shape.cpus k l (subst (λ (x : View). get_elem? x.lanes k ≡ some l) (sym (some-injective (opens a) v is)) s) in
         let h = from_lane a 0 a.shape.cpus m n (subst (λ (x : View). get_elem? x.lanes m ≡ some n) (sym (some-injective (opens a) v is)) t) in

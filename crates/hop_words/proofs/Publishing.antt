@@ -1,5 +1,6 @@
 -- Publish split: the parent's unlocking store, by which its child is born.
-use Rattle.std.proofs.Common.{◌≡◌, ◌≢◌, ℕ, suc, ◌+◌, ◌/◌, ◌%◌, ◌<◌, ◌≤◌, Bool, true, false, true≢false, List, [], ◌∷◌, Some, if◌then◌else◌, refl, ap, sym, subst, ◌∙◌, arith, eq-eqb, ne_eqb, ⊎_elim, inl, inr, ◌⊎◌}
+use Rattle.std.proofs.Common.{◌≡◌, ◌≢◌, ℕ, suc, ◌+◌, ◌/◌, ◌%◌, ◌<◌, ◌≤◌, Bool, true, false, true≢false, List, [], ◌∷◌, Some, if◌then◌else◌}
+use Rattle.std.proofs.Common.{refl, ap, sym, subst, ◌∙◌, arith, eq-eqb, ne_eqb, ⊎_elim, inl, inr, ◌⊎◌}
 use Rattle.std.proofs.lemmas.Bool.{cases_eq}
 use Rattle.bpf_shared.specs.Store.{put}
 use Rattle.bpf_shared.proofs.Puts.{put-same, put-other}
@@ -31,12 +32,15 @@ use Rattle.hop_words.proofs.Locks.{put_here, put_else, stamp_apart, holds, low, 
 
 -- the same home, by one bit more
 home_low : (a : About) (m d s : ℕ) (key : List ℕ) → home_by a m d key ≡ s → home_by a m (d + 1) key % power d ≡ s
-home_low a m d s key h = (let e : d + 1 ≡ suc d = omega arith in ap (λ (i : ℕ). home_by a m i key % power d) e) ∙ (mod_low (home_of key a.seed (shape_at a m).mask) d (suc d) (omega arith) ∙ h)
+home_low a m d s key h = (let e : d + 1 ≡ suc d = omega arith in ap (λ (i : ℕ). home_by a m i key % power d) e) ∙
+    (mod_low (home_of key a.seed (shape_at a m).mask) d (suc d) (omega arith) ∙ h)
 
 pub home_up : (a : About) (m d : ℕ) (key : List ℕ) → home_by a m d key ≡ home_by a m (d + 1) key % power d
-home_up a m d key = sym ((let e : d + 1 ≡ suc d = omega arith in ap (λ (i : ℕ). home_by a m i key % power d) e) ∙ mod_low (home_of key a.seed (shape_at a m).mask) d (suc d) (omega arith))
+home_up a m d key = sym ((let e : d + 1 ≡ suc d = omega arith in ap (λ (i : ℕ). home_by a m i key % power d) e) ∙ mod_low
+    (home_of key a.seed (shape_at a m).mask) d (suc d) (omega arith))
 
-module _ (a : About) (l : Known) (k : Lock) (n : ℕ) (i : Splits a l k n) (w : Place → ℕ) (g : Ghost) (r : Rule a w g) (is : lane g.lanes l.cpu ≡ l) (inside : l.cpu < a.shape.cpus) where
+module _ (a : About) (l : Known) (k : Lock) (n : ℕ) (i : Splits a l k n) (w : Place → ℕ) (g : Ghost) (r : Rule a w g)
+    (is : lane g.lanes l.cpu ≡ l) (inside : l.cpu < a.shape.cpus) where
   abbrev m : ℕ
   m = k.map
 
@@ -87,13 +91,16 @@ module _ (a : About) (l : Known) (k : Lock) (n : ℕ) (i : Splits a l k n) (w : 
 
   -- ---- the two segments
   depth_s : depths' m s ≡ d + 1
-  depth_s = ap (λ (f : ℕ → ℕ). f s) (put-same g.depths m m (split_depths (g.depths m) s) refl) ∙ parent_depth (g.depths m) (depth (shape_at a m)) s h.inside.2 room few
+  depth_s = ap (λ (f : ℕ → ℕ). f s) (put-same g.depths m m (split_depths (g.depths m) s) refl) ∙ parent_depth (g.depths m)
+      (depth (shape_at a m)) s h.inside.2 room few
 
   depth_c : depths' m c ≡ d + 1
-  depth_c = ap (λ (f : ℕ → ℕ). f c) (put-same g.depths m m (split_depths (g.depths m) s) refl) ∙ child_depth (g.depths m) (depth (shape_at a m)) s h.inside.2 room few
+  depth_c = ap (λ (f : ℕ → ℕ). f c) (put-same g.depths m m (split_depths (g.depths m) s) refl) ∙ child_depth (g.depths m)
+      (depth (shape_at a m)) s h.inside.2 room few
 
   era_s_is : eras' m s ≡ era_s
-  era_s_is = ap (λ (f : ℕ → Era). f s) (put-same g.eras m m _ refl) ∙ (put-other (put (g.eras m) s era_s) c s era_c (λ e. apart (sym e)) ∙ put-same (g.eras m) s s era_s refl)
+  era_s_is = ap (λ (f : ℕ → Era). f s) (put-same g.eras m m _ refl) ∙
+      (put-other (put (g.eras m) s era_s) c s era_c (λ e. apart (sym e)) ∙ put-same (g.eras m) s s era_s refl)
 
   era_c_is : eras' m c ≡ era_c
   era_c_is = ap (λ (f : ℕ → Era). f c) (put-same g.eras m m _ refl) ∙ put-same (put (g.eras m) s era_s) c c era_c refl
@@ -102,7 +109,8 @@ module _ (a : About) (l : Known) (k : Lock) (n : ℕ) (i : Splits a l k n) (w : 
   stamp_s = put_here w (Stamp m s) v
 
   stamp_c : w' (Stamp m c) ≡ n
-  stamp_c = put_else w (Stamp m s) (Stamp m c) v (stamp_apart m s m c (λ _ e. apart e)) ∙ (ap (λ (j : ℕ). w (Stamp m j)) (sym child_is) ∙ (h.beside_stamp ∙ i.stamp))
+  stamp_c = put_else w (Stamp m s) (Stamp m c) v (stamp_apart m s m c (λ _ e. apart e)) ∙
+      (ap (λ (j : ℕ). w (Stamp m j)) (sym child_is) ∙ (h.beside_stamp ∙ i.stamp))
 
   -- ---- all others
   record Else (x t : ℕ) : Type 0 where
@@ -112,13 +120,16 @@ module _ (a : About) (l : Known) (k : Lock) (n : ℕ) (i : Splits a l k n) (w : 
   module _ (x t : ℕ) (off : x ≡ m → (t ≢ s) × (t ≢ c)) where
     depth_same : depths' x t ≡ g.depths x t
     depth_same = ⊎_elim
-        (λ (e : x ≡ m). ap (λ (f : ℕ → ℕ). f t) (put-same g.depths m x (split_depths (g.depths m) s) e) ∙ (elsewhere (g.depths m) (depth (shape_at a m)) s h.inside.2 room few t (off e).1 (off e).0 ∙ ap (λ (j : ℕ). g.depths j t) (sym e)))
+        (λ (e : x ≡ m). ap (λ (f : ℕ → ℕ). f t) (put-same g.depths m x (split_depths (g.depths m) s) e) ∙
+        (elsewhere (g.depths m) (depth (shape_at a m)) s h.inside.2 room few t (off e).1 (off e).0 ∙ ap (λ (j : ℕ). g.depths j t) (sym e)))
         (λ (ne : x ≢ m). ap (λ (f : ℕ → ℕ). f t) (put-other g.depths m x (split_depths (g.depths m) s) ne))
         (cases_eq x m)
 
     era_same : eras' x t ≡ g.eras x t
     era_same = ⊎_elim
-        (λ (e : x ≡ m). ap (λ (f : ℕ → Era). f t) (put-same g.eras m x _ e) ∙ (put-other (put (g.eras m) s era_s) c t era_c (off e).1 ∙ (put-other (g.eras m) s t era_s (off e).0 ∙ ap (λ (j : ℕ). g.eras j t) (sym e))))
+        (λ (e : x ≡ m). ap (λ (f : ℕ → Era). f t) (put-same g.eras m x _ e) ∙
+        (put-other (put (g.eras m) s era_s) c t era_c (off e).1 ∙ (put-other (g.eras m) s t era_s (off e).0 ∙ ap (λ (j : ℕ). g.eras j t)
+        (sym e))))
         (λ (ne : x ≢ m). ap (λ (f : ℕ → Era). f t) (put-other g.eras m x _ ne))
         (cases_eq x m)
 
@@ -130,7 +141,10 @@ module _ (a : About) (l : Known) (k : Lock) (n : ℕ) (i : Splits a l k n) (w : 
     b.0,
     b.1,
     ⊎_elim
-        (λ (e : x ≡ m). ap (λ (f : ℕ → ℕ). is_born f (depth (shape_at a x)) t) (put-same g.depths m x (split_depths (g.depths m) s) e) ∙ (ap (λ (j : ℕ). is_born (split_depths (g.depths m) s) (depth (shape_at a j)) t) e ∙ still_born (g.depths m) (depth (shape_at a m)) s h.inside.2 room few (depth (shape_at a m)) h.inside.2 t ((λ q. is_born (g.depths (sym e q)) (depth (shape_at a (sym e q))) t) ∙ b.2)))
+        (λ (e : x ≡ m). ap (λ (f : ℕ → ℕ). is_born f (depth (shape_at a x)) t) (put-same g.depths m x (split_depths (g.depths m) s) e) ∙
+        (ap (λ (j : ℕ). is_born (split_depths (g.depths m) s) (depth (shape_at a j)) t) e ∙ still_born (g.depths m)
+        (depth (shape_at a m)) s h.inside.2 room few (depth (shape_at a m)) h.inside.2 t
+        ((λ q. is_born (g.depths (sym e q)) (depth (shape_at a (sym e q))) t) ∙ b.2)))
         (λ (ne : x ≢ m). ap (λ (f : ℕ → ℕ). is_born f (depth (shape_at a x)) t) (put-other g.depths m x (split_depths (g.depths m) s) ne) ∙ b.2)
         (cases_eq x m),
   )
@@ -144,12 +158,22 @@ module _ (a : About) (l : Known) (k : Lock) (n : ℕ) (i : Splits a l k n) (w : 
       (λ (f : t ≡ c). inr (inl (e, f)))
       (λ (nc : t ≢ c). ⊎_elim
       (λ (f : t ≡ c). absurd (nc f))
-      (λ (old : is_born (g.depths m) (depth (shape_at a m)) t ≡ true). inr (inr (record { born = (b.0, b.1, (λ q. is_born (g.depths (e q)) (depth (shape_at a (e q))) t) ∙ old); off = λ _. (ns, nc) })))
+      (λ (old : is_born (g.depths m) (depth (shape_at a m)) t ≡ true). inr
+      (inr (record { born = (b.0, b.1, (λ q. is_born (g.depths (e q)) (depth (shape_at a (e q))) t) ∙ old); off = λ _. (ns, nc) })))
       (born_before (g.depths m) (depth (shape_at a m)) s h.inside.2 room few (depth (shape_at a m)) t
-      (ap (λ (j : ℕ). is_born (split_depths (g.depths m) s) (depth (shape_at a j)) t) (sym e) ∙ (ap (λ (f : ℕ → ℕ). is_born f (depth (shape_at a x)) t) (sym (put-same g.depths m x (split_depths (g.depths m) s) e)) ∙ b.2))))
+      (ap (λ (j : ℕ). is_born (split_depths (g.depths m) s) (depth (shape_at a j)) t) (sym e) ∙
+      (ap (λ (f : ℕ → ℕ). is_born f (depth (shape_at a x)) t) (sym (put-same g.depths m x (split_depths (g.depths m) s) e)) ∙ b.2))))
       (cases_eq t c))
       (cases_eq t s))
-      (λ (ne : x ≢ m). inr (inr (record { born = (b.0, b.1, ap (λ (f : ℕ → ℕ). is_born f (depth (shape_at a x)) t) (sym (put-other g.depths m x (split_depths (g.depths m) s) ne)) ∙ b.2); off = λ e. absurd (ne e) })))
+      (λ (ne : x ≢ m). inr (inr (record {
+        born = (
+          b.0,
+          b.1,
+          ap (λ (f : ℕ → ℕ). is_born f (depth (shape_at a x)) t)
+              (sym (put-other g.depths m x (split_depths (g.depths m) s) ne)) ∙ b.2,
+        );
+        off = λ e. absurd (ne e);
+      })))
       (cases_eq x m)
 
   -- who was born is one of the others, or the parent
@@ -172,7 +196,8 @@ module _ (a : About) (l : Known) (k : Lock) (n : ℕ) (i : Splits a l k n) (w : 
   at_parent q e = ap (λ (j : ℕ). home_by a m j q) h.deep ∙ (home_up a m d q ∙ (ap (λ (j : ℕ). j % power d) e ∙ mod_small s (power d) room))
 
   at_child : (q : List ℕ) → home_by a m (d + 1) q ≡ c → lock_home a k q ≡ s
-  at_child q e = ap (λ (j : ℕ). home_by a m j q) h.deep ∙ (home_up a m d q ∙ (ap (λ (j : ℕ). j % power d) e ∙ (mod_once c (power d) (omega arith) (let z = room in omega arith) ∙ (let o = some_power d in omega arith))))
+  at_child q e = ap (λ (j : ℕ). home_by a m j q) h.deep ∙ (home_up a m d q ∙
+      (ap (λ (j : ℕ). j % power d) e ∙ (mod_once c (power d) (omega arith) (let z = room in omega arith) ∙ (let o = some_power d in omega arith))))
 
   due : (q : List ℕ) → lock_home a k q ≡ s → g.linked m q ≡ h.due.0 q
   due q e = h.due.2 q e ∙ ap (λ x. changed x h.due.0 q) i.nothing
@@ -186,7 +211,9 @@ module _ (a : About) (l : Known) (k : Lock) (n : ℕ) (i : Splits a l k n) (w : 
 
   share_c : IsShare a.seed (shape_at a m) (home_by a m (d + 1)) (image a k.copy) m c (g.linked m)
   share_c = share_same a.seed (shape_at a m) (home_by a m (d + 1)) (image a k.copy) m c h.due.0 (g.linked m) (λ q e. due q (at_child q e))
-      (subst (λ (j : ℕ). IsShare a.seed (shape_at a m) (home_by a m (d + 1)) (image a k.copy) m j h.due.0) child_is (subst (λ (j : ℕ). IsShare a.seed (shape_at a m) (home_by a m j) (image a k.copy) m (child k) h.due.0) depth_up (i.parted h.due.0 h.due.1).1))
+      (subst (λ (j : ℕ). IsShare a.seed (shape_at a m) (home_by a m (d + 1)) (image a k.copy) m j h.due.0) child_is
+      (subst (λ (j : ℕ). IsShare a.seed (shape_at a m) (home_by a m j) (image a k.copy) m (child k) h.due.0) depth_up
+      (i.parted h.due.0 h.due.1).1))
 
   mind : (e : ℕ) (key : List ℕ) → g.linked m key ≡ Some e → lock_home a k key ≡ s → Minded (lock_home a k) l.cpu s (g.holder m e)
   mind e key leads home = subst (Minded (lock_home a k) l.cpu s) (sym (r.linked.within m key e leads).1) home
@@ -228,21 +255,27 @@ module _ (a : About) (l : Known) (k : Lock) (n : ℕ) (i : Splits a l k n) (w : 
 
   segments : Segments a depths' (words_by_place w') (λ x t. w' (Stamp x t)) eras' g.linked
   segments x t b = ⊎_elim
-      (λ (e : (x ≡ m) × (t ≡ s)). at x t m s e.0 e.1 (subst (λ (j : ℕ). Segment a depths' (words_by_place w) j (eras' m s) m s (g.linked m)) (sym stamp_s) (subst (λ (y : Era). Segment a depths' (words_by_place w) v y m s (g.linked m)) (sym era_s_is) own_s)))
+      (λ (e : (x ≡ m) × (t ≡ s)). at x t m s e.0 e.1 (subst (λ (j : ℕ). Segment a depths' (words_by_place w) j (eras' m s) m s (g.linked m))
+      (sym stamp_s) (subst (λ (y : Era). Segment a depths' (words_by_place w) v y m s (g.linked m)) (sym era_s_is) own_s)))
       (λ (f : ((x ≡ m) × (t ≡ c)) ⊎ Else x t). ⊎_elim
-      (λ (e : (x ≡ m) × (t ≡ c)). at x t m c e.0 e.1 (subst (λ (j : ℕ). Segment a depths' (words_by_place w) j (eras' m c) m c (g.linked m)) (sym stamp_c) (subst (λ (y : Era). Segment a depths' (words_by_place w) n y m c (g.linked m)) (sym era_c_is) own_c)))
+      (λ (e : (x ≡ m) × (t ≡ c)). at x t m c e.0 e.1 (subst (λ (j : ℕ). Segment a depths' (words_by_place w) j (eras' m c) m c (g.linked m))
+      (sym stamp_c) (subst (λ (y : Era). Segment a depths' (words_by_place w) n y m c (g.linked m)) (sym era_c_is) own_c)))
       (λ (o : Else x t). let q = r.segments x t o.born in
-      subst (λ (j : ℕ). Segment a depths' (words_by_place w) j (eras' x t) x t (g.linked x)) (sym (stamp_same x t o.off)) (subst (λ (y : Era). Segment a depths' (words_by_place w) (w (Stamp x t)) y x t (g.linked x)) (sym (era_same x t o.off)) (record {
+      subst (λ (j : ℕ). Segment a depths' (words_by_place w) j (eras' x t) x t (g.linked x)) (sym (stamp_same x t o.off))
+      (subst (λ (y : Era). Segment a depths' (words_by_place w) (w (Stamp x t)) y x t (g.linked x)) (sym (era_same x t o.off)) (record {
         at_rest = q.at_rest;
         clean = q.clean;
         written = q.written;
-        shows = λ e. subst (λ (j : ℕ). IsShare a.seed (shape_at a x) (home_by a x j) (g.eras x t).old x t (g.linked x)) (sym (depth_same x t o.off)) (q.shows e);
+        shows = λ e. subst (λ (j : ℕ). IsShare a.seed (shape_at a x) (home_by a x j) (g.eras x t).old x t (g.linked x))
+            (sym (depth_same x t o.off)) (q.shows e);
       })))
       f)
       (sort x t b)
     where
-      at : (x t y u : ℕ) → x ≡ y → t ≡ u → Segment a depths' (words_by_place w) (w' (Stamp y u)) (eras' y u) y u (g.linked y) → Segment a depths' (words_by_place w) (w' (Stamp x t)) (eras' x t) x t (g.linked x)
-      at x t y u e f p = subst (λ (z : ℕ). Segment a depths' (words_by_place w) (w' (Stamp z t)) (eras' z t) z t (g.linked z)) (sym e) (subst (λ (z : ℕ). Segment a depths' (words_by_place w) (w' (Stamp y z)) (eras' y z) y z (g.linked y)) (sym f) p)
+      at : (x t y u : ℕ) → x ≡ y → t ≡ u → Segment a depths' (words_by_place w) (w' (Stamp y u)) (eras' y u) y u (g.linked y) → Segment a
+          depths' (words_by_place w) (w' (Stamp x t)) (eras' x t) x t (g.linked x)
+      at x t y u e f p = subst (λ (z : ℕ). Segment a depths' (words_by_place w) (w' (Stamp z t)) (eras' z t) z t (g.linked z)) (sym e)
+          (subst (λ (z : ℕ). Segment a depths' (words_by_place w) (w' (Stamp y z)) (eras' y z) y z (g.linked y)) (sym f) p)
 
   worn : Worn a depths' (λ x t. w' (Stamp x t)) eras' g.log
   worn x t b = ⊎_elim
@@ -284,11 +317,16 @@ module _ (a : About) (l : Known) (k : Lock) (n : ℕ) (i : Splits a l k n) (w : 
   deep : Deep a (λ x t. w' (Stamp x t)) depths'
   deep = record {
     sound = λ x in_x. ⊎_elim
-        (λ (e : x ≡ m). subst (λ (j : ℕ). AreDepths (depths' j) (depth (shape_at a j))) (sym e) (subst (λ (f : ℕ → ℕ). AreDepths f (depth (shape_at a m))) (sym (put-same g.depths m m (split_depths (g.depths m) s) refl)) (depths_after (g.depths m) (depth (shape_at a m)) s h.inside.2 room few (r.deep.sound m h.inside.0))))
-        (λ (ne : x ≢ m). subst (λ (f : ℕ → ℕ). AreDepths f (depth (shape_at a x))) (sym (put-other g.depths m x (split_depths (g.depths m) s) ne)) (r.deep.sound x in_x))
+        (λ (e : x ≡ m). subst (λ (j : ℕ). AreDepths (depths' j) (depth (shape_at a j))) (sym e)
+        (subst (λ (f : ℕ → ℕ). AreDepths f (depth (shape_at a m))) (sym (put-same g.depths m m (split_depths (g.depths m) s) refl))
+        (depths_after (g.depths m) (depth (shape_at a m)) s h.inside.2 room few (r.deep.sound m h.inside.0))))
+        (λ (ne : x ≢ m). subst (λ (f : ℕ → ℕ). AreDepths f (depth (shape_at a x)))
+        (sym (put-other g.depths m x (split_depths (g.depths m) s) ne)) (r.deep.sound x in_x))
         (cases_eq x m);
     stamped = λ x t b. ⊎_elim
-        (λ (e : (x ≡ m) × (t ≡ s)). at x t m s e.0 e.1 (ap stamp_depth stamp_s ∙ ((let z = h.even in let y = i.room in let ten = depth_most (shape_at a m) in let q : stamp_depth v ≡ stamp_depth k.stamp + 1 = omega arith in q) ∙ (depth_up ∙ sym depth_s))))
+        (λ (e : (x ≡ m) × (t ≡ s)). at x t m s e.0 e.1 (ap stamp_depth stamp_s ∙
+        ((let z = h.even in let y = i.room in let ten = depth_most (shape_at a m) in let q : stamp_depth v ≡ stamp_depth k.stamp + 1 = omega arith in q)
+        ∙ (depth_up ∙ sym depth_s))))
         (λ (f : ((x ≡ m) × (t ≡ c)) ⊎ Else x t). ⊎_elim
         (λ (e : (x ≡ m) × (t ≡ c)). at x t m c e.0 e.1 (ap stamp_depth stamp_c ∙ (i.deep ∙ (depth_up ∙ sym depth_c))))
         (λ (o : Else x t). ap stamp_depth (stamp_same x t o.off) ∙ (r.deep.stamped x t o.born ∙ sym (depth_same x t o.off)))
@@ -304,7 +342,8 @@ module _ (a : About) (l : Known) (k : Lock) (n : ℕ) (i : Splits a l k n) (w : 
       at x t y u e f p = (λ q. stamp_depth (w' (Stamp (e q) (f q)))) ∙ (p ∙ (λ q. depths' (sym e q) (sym f q)))
 
   -- ---- locks of others
-  other_lock : (b : ℕ) (k2 : Lock) → b ≢ l.cpu → Holds a g.depths (words_by_place w) (λ x t. w (Stamp x t)) g.eras g.linked g.holder b k2 → Holds a depths' (words_by_place w') (λ x t. w' (Stamp x t)) eras' g.linked g.holder b k2
+  other_lock : (b : ℕ) (k2 : Lock) → b ≢ l.cpu → Holds a g.depths (words_by_place w) (λ x t. w (Stamp x t)) g.eras g.linked g.holder b k2 →
+      Holds a depths' (words_by_place w') (λ x t. w' (Stamp x t)) eras' g.linked g.holder b k2
   other_lock b k2 ne p = record {
     inside = still k2.map k2.segment p.inside;
     deep = p.deep ∙ sym (depth_same k2.map k2.segment off);
@@ -331,16 +370,20 @@ module _ (a : About) (l : Known) (k : Lock) (n : ℕ) (i : Splits a l k n) (w : 
       same = era_same k2.map k2.segment off
 
       beside_off : k2.map ≡ m → (child k2 ≢ s) × (child k2 ≢ c)
-      beside_off = subst (λ (j : ℕ). k2.map ≡ m → (k2.segment + power j ≢ s) × (k2.segment + power j ≢ c)) (sym p.deep) (off_child a g.depths m s k2.map k2.segment r.deep.sound h.inside p.inside away)
+      beside_off = subst (λ (j : ℕ). k2.map ≡ m → (k2.segment + power j ≢ s) × (k2.segment + power j ≢ c)) (sym p.deep)
+          (off_child a g.depths m s k2.map k2.segment r.deep.sound h.inside p.inside away)
 
-  other_locks : (b : ℕ) → b ≢ l.cpu → (ks : List Lock) → Each (Holds a g.depths (words_by_place w) (λ x t. w (Stamp x t)) g.eras g.linked g.holder b) ks → Each (Holds a depths' (words_by_place w') (λ x t. w' (Stamp x t)) eras' g.linked g.holder b) ks
+  other_locks : (b : ℕ) → b ≢ l.cpu → (ks : List Lock) → Each (Holds a g.depths (words_by_place w) (λ x t. w (Stamp x t)) g.eras g.linked
+      g.holder b) ks → Each (Holds a depths' (words_by_place w') (λ x t. w' (Stamp x t)) eras' g.linked g.holder b) ks
   other_locks b ne [] p = tt
   other_locks b ne (k2 ∷ ks) p = (other_lock b k2 ne p.0, other_locks b ne ks p.1)
 
   locking : Locking a depths' (words_by_place w') (λ x t. w' (Stamp x t)) eras' g.linked g.holder (put g.lanes.locks l.cpu [])
   locking b = ⊎_elim
-      (λ (e : b ≡ l.cpu). subst (λ (ks : List Lock). Each (Holds a depths' (words_by_place w') (λ x t. w' (Stamp x t)) eras' g.linked g.holder b) ks) (sym (put-same g.lanes.locks l.cpu b [] e)) tt)
-      (λ (ne : b ≢ l.cpu). subst (λ (ks : List Lock). Each (Holds a depths' (words_by_place w') (λ x t. w' (Stamp x t)) eras' g.linked g.holder b) ks) (sym (put-other g.lanes.locks l.cpu b [] ne)) (other_locks b ne (g.lanes.locks b) (r.locking b)))
+      (λ (e : b ≡ l.cpu). subst (λ (ks : List Lock). Each (Holds a depths' (words_by_place w') (λ x t. w' (Stamp x t)) eras' g.linked
+      g.holder b) ks) (sym (put-same g.lanes.locks l.cpu b [] e)) tt)
+      (λ (ne : b ≢ l.cpu). subst (λ (ks : List Lock). Each (Holds a depths' (words_by_place w') (λ x t. w' (Stamp x t)) eras' g.linked
+      g.holder b) ks) (sym (put-other g.lanes.locks l.cpu b [] ne)) (other_locks b ne (g.lanes.locks b) (r.locking b)))
       (cases_eq b l.cpu)
 
   held : Held a depths' (λ x t. w' (Stamp x t)) eras' (put g.lanes.locks l.cpu [])
@@ -358,7 +401,8 @@ module _ (a : About) (l : Known) (k : Lock) (n : ℕ) (i : Splits a l k n) (w : 
       let y = q.1 in
       omega arith in (
         subst (λ (j : ℕ). j < a.shape.cpus) (sym who) q.0,
-        subst (λ (j : ℕ). 1 ≤ times_lock x t (put g.lanes.locks l.cpu [] j)) (sym who) (subst (λ (ks : List Lock). 1 ≤ times_lock x t ks) (sym (put-other g.lanes.locks l.cpu (g.eras x t).writer [] ne)) q.1),
+        subst (λ (j : ℕ). 1 ≤ times_lock x t (put g.lanes.locks l.cpu [] j)) (sym who)
+            (subst (λ (ks : List Lock). 1 ≤ times_lock x t ks) (sym (put-other g.lanes.locks l.cpu (g.eras x t).writer [] ne)) q.1),
       ))
       f)
       (sort x t b)
@@ -418,7 +462,8 @@ module _ (a : About) (l : Known) (k : Lock) (n : ℕ) (i : Splits a l k n) (w : 
   }
 
 -- the child is born, with what the copy shows of its share; no event
-pub publish_split : (a : About) (l : Known) (k : Lock) (n : ℕ) → Splits a l k n → Steps a l (Stamp k.map k.segment) (λ _. k.stamp + 258) (λ ws found l'. (found ≡ k.stamp + 1) × (l' ≡ unlocking l))
+pub publish_split : (a : About) (l : Known) (k : Lock) (n : ℕ) → Splits a l k n → Steps a l (Stamp k.map k.segment) (λ _. k.stamp + 258)
+    (λ ws found l'. (found ≡ k.stamp + 1) × (l' ≡ unlocking l))
 publish_split a l k n i ws g sized r is inside fits =
     let w = mem a.shape ws in
     record {

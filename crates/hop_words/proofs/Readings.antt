@@ -1,5 +1,6 @@
 -- Readings without a lock: see stamp, peek, see stamp again.
-use Rattle.std.proofs.Common.{◌≡◌, ◌≢◌, ℕ, ◌%◌, ◌<◌, Bool, true, false, List, [], ◌∷◌, ◌++◌, Option, Some, None, length, refl, ap, sym, subst, ◌∙◌, arith, eq-eqb, ne_eqb, ⊎_elim, inl, inr, ◌⊎◌, ◌-◌, ◌≤◌}
+use Rattle.std.proofs.Common.{◌≡◌, ◌≢◌, ℕ, ◌%◌, ◌<◌, Bool, true, false, List, [], ◌∷◌, ◌++◌, Option, Some, None, length, refl, ap, sym}
+use Rattle.std.proofs.Common.{subst, ◌∙◌, arith, eq-eqb, ne_eqb, ⊎_elim, inl, inr, ◌⊎◌, ◌-◌, ◌≤◌}
 use native.Mathlib.Decide.{ℕ_discrete}
 use mathlib.Core.Logic.{dite}
 use Rattle.std.specs.FinMap.{get}
@@ -65,7 +66,8 @@ module _ (a : About) (w : Place → ℕ) (g : Ghost) (r : Rule a w g) (c : ℕ) 
     shown = r.shown;
   }
 
-  read_next : (p : Place) (told : Known → Type 0) (rs : List Reading) → Each (IsSoundReading a g.depths g.eras) rs → told (record (lane g.lanes c) { readings = rs }) → Next a (put_at w p (w p)) g c told
+  read_next : (p : Place) (told : Known → Type 0) (rs : List Reading) → Each (IsSoundReading a g.depths g.eras) rs → told
+      (record (lane g.lanes c) { readings = rs }) → Next a (put_at w p (w p)) g c told
   read_next p told rs own says = record {
     ghost = with_readings rs;
     rule = subst (λ (v : Place → ℕ). Rule a v (with_readings rs)) (sym (put_again w p)) (read_rule rs own);
@@ -88,7 +90,8 @@ says_depth a w g r m s b =
     let k = r.deep.sound m b.0 s b.2 in
     record { room = subst (λ (i : ℕ). s < power i) (sym says) k.0; most = (let z = k.1 in omega arith); whole = λ no. says ∙ r.deep.whole m s b.0 b.1 no }
 
-pub see_stamp : (a : About) (l : Known) (m s : ℕ) → m < length a.shape.maps → KnowsBorn a l m s → Steps a l (Stamp m s) (λ n. n) (λ ws n l'. SaysDepth a m s n × (n % 2 ≡ 0 → l' ≡ noting l m s n) × (n % 2 ≡ 1 → l' ≡ l))
+pub see_stamp : (a : About) (l : Known) (m s : ℕ) → m < length a.shape.maps → KnowsBorn a l m s → Steps a l (Stamp m s) (λ n. n)
+    (λ ws n l'. SaysDepth a m s n × (n % 2 ≡ 0 → l' ≡ noting l m s n) × (n % 2 ≡ 1 → l' ≡ l))
 see_stamp a l m s in_m knows ws g sized r is inside fits =
     let w = mem a.shape ws in
     let n = w (Stamp m s) in
@@ -96,8 +99,17 @@ see_stamp a l m s in_m knows ws g sized r is inside fits =
     let says = says_depth a w g r m s at_s in
     let seg : Segment a g.depths (words_by_place w) n (g.eras m s) m s (g.linked m) = r.segments m s at_s in
     ⊎_elim
-    (λ (even : n % 2 ≡ 0). read_next a w g r l.cpu (Stamp m s) _ (record { map = m; segment = s; stamp = n; peeks = [] } ∷ [])
-    (record { inside = at_s; deep = (let z = r.deep.stamped m s at_s in omega arith); even = even; behind = (let z = (seg.clean (seg.at_rest even)).0 in omega arith); stays = λ _. tt }, tt)
+    (λ (even : n % 2 ≡ 0). read_next a w g r l.cpu (Stamp m s) _ (record { map = m; segment = s; stamp = n; peeks = [] } ∷ []) (
+      record {
+        inside = at_s;
+        deep = (let z = r.deep.stamped m s at_s in omega arith);
+        even = even;
+        behind =
+            (let z = (seg.clean (seg.at_rest even)).0 in omega arith);
+        stays = λ _. tt;
+      },
+      tt,
+    )
     (says, (λ _. ap (λ (x : Known). record x { readings = record { map = m; segment = s; stamp = n; peeks = [] } ∷ [] }) is), (λ odd. absurd (omega arith))))
     (λ (odd : n % 2 ≡ 1). stay a w g l.cpu (Stamp m s) _ r (says, (λ even. absurd (omega arith)), (λ _. is)))
     (even_or_odd n)
@@ -111,24 +123,36 @@ owned_once a w g r c m s home at_s own (k ∷ ks) p = (
   (λ e here.
       let b : IsBorn a g.depths m k.segment = subst (λ (i : ℕ). IsBorn a g.depths i k.segment) e p.0.inside in
       let d : stamp_depth k.stamp ≡ g.depths m k.segment = p.0.deep ∙ ap (λ (i : ℕ). g.depths i k.segment) e in
-      let same : k.segment ≡ s = one_owner (g.depths m) (depth (shape_at a m)) k.segment s home b.2 at_s.2 (ap (λ (i : ℕ). home % power i) (sym d) ∙ here) own in
+      let same : k.segment ≡ s = one_owner (g.depths m) (depth (shape_at a m)) k.segment s home b.2 at_s.2
+      (ap (λ (i : ℕ). home % power i) (sym d) ∙ here) own in
       (same, d ∙ (ap (g.depths m) same ∙ sym (r.deep.stamped m s at_s)))),
   owned_once a w g r c m s home at_s own ks p.1,
 )
 
 -- a stamp on the way to a key's segment, locked or not: what the lock took is noted of a locked one
-pub note_stamp : (a : About) (l : Known) (m s : ℕ) → m < length a.shape.maps → KnowsBorn a l m s → Steps a l (Stamp m s) (λ n. n) (λ ws n l'. StampNoted a l m s n l')
+pub note_stamp : (a : About) (l : Known) (m s : ℕ) → m < length a.shape.maps → KnowsBorn a l m s → Steps a l (Stamp m s) (λ n. n)
+    (λ ws n l'. StampNoted a l m s n l')
 note_stamp a l m s in_m knows ws g sized r is inside fits =
     let w = mem a.shape ws in
     let n = w (Stamp m s) in
     let at_s = known_born a w g r l is m s in_m knows in
     let seg : Segment a g.depths (words_by_place w) n (g.eras m s) m s (g.linked m) = r.segments m s at_s in
-    read_next a w g r l.cpu (Stamp m s) _ (record { map = m; segment = s; stamp = n - n % 2; peeks = [] } ∷ [])
-    (record { inside = at_s; deep = (let z = r.deep.stamped m s at_s in omega arith); even = (omega arith); behind = behind n (g.eras m s) seg; stays = λ _. tt }, tt)
+    read_next a w g r l.cpu (Stamp m s) _ (record { map = m; segment = s; stamp = n - n % 2; peeks = [] } ∷ []) (
+      record {
+        inside = at_s;
+        deep = (let z = r.deep.stamped m s at_s in omega arith);
+        even = (omega arith);
+        behind = behind n (g.eras m s)
+            seg;
+        stays = λ _. tt;
+      },
+      tt,
+    )
     (record {
       deep = says_depth a w g r m s at_s;
       owns = λ home own. owned_once a w g r l.cpu m s home at_s (ap (λ (i : ℕ). home % power i) (sym (r.deep.stamped m s at_s)) ∙ own) l.locks
-          (subst (Each (Holds a g.depths (words_by_place w) (λ i j. w (Stamp i j)) g.eras g.linked g.holder l.cpu)) (ap (λ (x : Known). x.locks) is) (r.locking l.cpu));
+          (subst (Each (Holds a g.depths (words_by_place w) (λ i j. w (Stamp i j)) g.eras g.linked g.holder l.cpu))
+          (ap (λ (x : Known). x.locks) is) (r.locking l.cpu));
       after = ap (λ (x : Known). record x { readings = record { map = m; segment = s; stamp = n - n % 2; peeks = [] } ∷ [] }) is;
     })
   where
@@ -140,8 +164,10 @@ note_stamp a l m s in_m knows ws g sized r is inside fits =
         go false d = let z = (seg.clean d).0 in omega arith
 
 -- the words at rest are those that are there, while the era is the stamp noted
-pub at_era : (a : About) (w : Place → ℕ) (g : Ghost) (r : Rule a w g) (rd : Reading) → IsSoundReading a g.depths g.eras rd → rd.stamp ≡ (g.eras rd.map rd.segment).era
-    → ((g.eras rd.map rd.segment).dirty ≡ false) × AgreesInSegment rd.map rd.segment (Reached (g.eras rd.map rd.segment).old rd.map rd.segment) (words_by_place w) (g.eras rd.map rd.segment).old
+pub at_era : (a : About) (w : Place → ℕ) (g : Ghost) (r : Rule a w g) (rd : Reading) → IsSoundReading a g.depths g.eras rd → rd.stamp ≡
+    (g.eras rd.map rd.segment).era
+    → ((g.eras rd.map rd.segment).dirty ≡ false) × AgreesInSegment rd.map rd.segment
+    (Reached (g.eras rd.map rd.segment).old rd.map rd.segment) (words_by_place w) (g.eras rd.map rd.segment).old
 at_era a w g r rd q same = (clean, (seg.clean clean).1)
   where
     seg : Segment a g.depths (words_by_place w) (w (Stamp rd.map rd.segment)) (g.eras rd.map rd.segment) rd.map rd.segment (g.linked rd.map)
@@ -174,13 +200,24 @@ read_more l r p n = record l { readings = record r { peeks = record { place = p;
 pub peek : (a : About) (l : Known) (rd : Reading) (p : Place) → l.readings ≡ rd ∷ [] → Steps a l p (λ n. n) (λ ws n l'. l' ≡ read_more l rd p n)
 peek a l rd p reading ws g sized r is inside fits =
     let w = mem a.shape ws in
-    let q : IsSoundReading a g.depths g.eras rd = (subst (Each (IsSoundReading a g.depths g.eras)) (ap (λ (x : Known). x.readings) is ∙ reading) (r.reading l.cpu)).0 in
-    read_next a w g r l.cpu p _ (record rd { peeks = record { place = p; number = w p } ∷ rd.peeks } ∷ [])
-    (record { inside = q.inside; deep = q.deep; even = q.even; behind = q.behind; stays = λ same. (is_peek rd.map rd.segment w (g.eras rd.map rd.segment).old (at_era a w g r rd q same).1 p, q.stays same) }, tt)
+    let q : IsSoundReading a g.depths g.eras rd = (subst (Each (IsSoundReading a g.depths g.eras))
+    (ap (λ (x : Known). x.readings) is ∙ reading) (r.reading l.cpu)).0 in
+    read_next a w g r l.cpu p _ (record rd { peeks = record { place = p; number = w p } ∷ rd.peeks } ∷ []) (
+      record {
+        inside = q.inside;
+        deep = q.deep;
+        even = q.even;
+        behind = q.behind;
+        stays = λ same.
+            (is_peek rd.map rd.segment w (g.eras rd.map rd.segment).old (at_era a w g r rd q same).1 p, q.stays same);
+      },
+      tt,
+    )
     (ap (λ (x : Known). record x { readings = record rd { peeks = record { place = p; number = w p } ∷ rd.peeks } ∷ [] }) is)
 
 -- ---- see stamp again: the lookup takes effect
-some_span : (s : Plain) (n : ℕ → ℕ) (a : About) (m : ℕ) (o : Option ℕ) → ((e : ℕ) → o ≡ Some e → (s.value (n e)).span ≡ element_span m (shape_at a m) e) → found_span a m o ≡ span_of s (numbered n o)
+some_span : (s : Plain) (n : ℕ → ℕ) (a : About) (m : ℕ) (o : Option ℕ) →
+    ((e : ℕ) → o ≡ Some e → (s.value (n e)).span ≡ element_span m (shape_at a m) e) → found_span a m o ≡ span_of s (numbered n o)
 some_span s n a m None same = refl
 some_span s n a m (Some e) same = ap Some (sym (same e refl))
 
@@ -194,7 +231,8 @@ module _ (a : About) (w : Place → ℕ) (g : Ghost) (r : Rule a w g) (c m : ℕ
   looked_is None = refl
   looked_is (Some e) = refl
 
-  pub looked_batched : (o : Option ℕ) (key : List ℕ) → g.linked m key ≡ o → Batched a (λ n d. w (Link n d)) (λ d. w (RunCount d)) g.lanes.limbo (looking o).held g.number
+  pub looked_batched : (o : Option ℕ) (key : List ℕ) → g.linked m key ≡ o → Batched a (λ n d. w (Link n d)) (λ d. w (RunCount d))
+      g.lanes.limbo (looking o).held g.number
   looked_batched None key is = r.batched
   looked_batched (Some e) key is = record {
     young = r.batched.young;
@@ -209,7 +247,8 @@ module _ (a : About) (w : Place → ℕ) (g : Ghost) (r : Rule a w g) (c m : ℕ
         (put_pair g.last.held c (g.number m e) x (g.number n d) holds);
   }
 
-  pub looked_valued : (o : Option ℕ) (key : List ℕ) → g.linked m key ≡ o → Valued a (λ n d k. w (ValueWord n d k)) (looking o).made (looking o).value (looking o).held g.holder g.number
+  pub looked_valued : (o : Option ℕ) (key : List ℕ) → g.linked m key ≡ o → Valued a (λ n d k. w (ValueWord n d k)) (looking o).made
+      (looking o).value (looking o).held g.holder g.number
   looked_valued None key is = r.valued
   looked_valued (Some e) key is = record {
     lies = r.valued.lies;
@@ -233,7 +272,13 @@ module _ (a : About) (w : Place → ℕ) (g : Ghost) (r : Rule a w g) (c m : ℕ
   looked_had (Some e) p h = h
 
   -- the rule after a lookup, whatever else its lane has by then
-  pub looked_rule : (o : Option ℕ) (key : List ℕ) (inside : c < a.shape.cpus) → g.linked m key ≡ o → (sp : Option Span) → Allowed g.last c (Lookup m key sp) (looking o) → Rule a w (record g { log = g.log ++ entry c (Lookup m key sp) ∷ []; last = looking o; lanes = record g.lanes { seen = put g.lanes.seen c (g.log ++ entry c (Lookup m key sp) ∷ []) } })
+  pub looked_rule : (o : Option ℕ) (key : List ℕ) (inside : c < a.shape.cpus) → g.linked m key ≡ o → (sp : Option Span) → Allowed g.last c
+      (Lookup m key sp) (looking o) → Rule a w (record g {
+        log = g.log ++ entry c (Lookup m key sp) ∷ [];
+        last = looking o;
+        lanes = record
+            g.lanes { seen = put g.lanes.seen c (g.log ++ entry c (Lookup m key sp) ∷ []) };
+      })
   looked_rule o key inside is sp may = record {
     shaped = r.shaped;
     deep = r.deep;
@@ -251,19 +296,23 @@ module _ (a : About) (w : Place → ℕ) (g : Ghost) (r : Rule a w g) (c m : ℕ
     held = r.held;
     fixed = subst (ShowsFixed a (λ b k. w (FixedWord b k))) (sym (values_still o)) r.fixed;
     valued = looked_valued o key is;
-    shown = shown_more a g.log c (Lookup m key sp) g.last (looking o) g.lanes.fresh g.lanes.tally g.holder g.taker refl r.logged.legal may tt (looked_had o) r.shown;
+    shown = shown_more a g.log c (Lookup m key sp) g.last (looking o) g.lanes.fresh g.lanes.tally g.holder g.taker refl r.logged.legal may
+        tt (looked_had o) r.shown;
   }
     where
       quiet_runs : Runs a (λ d. w (RunCount d)) (g.log ++ entry c (Lookup m key sp) ∷ [])
       quiet_runs = quiet_after a (λ d. w (RunCount d)) g.log c (Lookup m key sp) r.runs refl
 
-  pub may_look : (o : Option ℕ) (key : List ℕ) → g.linked m key ≡ o → g.last.running c ≡ true → IsMap g.last.shape.maps m (shape_at a m) → length key ≡ (shape_at a m).key → Allowed g.last c (Lookup m key (found_span a m o)) (looking o)
+  pub may_look : (o : Option ℕ) (key : List ℕ) → g.linked m key ≡ o → g.last.running c ≡ true → IsMap g.last.shape.maps m (shape_at a m) →
+      length key ≡ (shape_at a m).key → Allowed g.last c (Lookup m key (found_span a m o)) (looking o)
   may_look o key is runs there size =
       let at_key : get (g.last.maps m) key ≡ numbered (g.number m) o = r.keyed.leads m key ∙ ap (numbered (g.number m)) is in (
         runs,
         (
           (shape_at a m, there, size),
-          some_span g.last (g.number m) a m o (λ e eq. let k = r.linked.within m key e (is ∙ eq) in ap (λ x. x.span) (r.valued.lies m e k.0 (subst Carries (sym k.1) tt))) ∙ ap (span_of g.last) (sym at_key),
+          some_span g.last (g.number m) a m o
+              (λ e eq. let k = r.linked.within m key e (is ∙ eq) in ap (λ x. x.span) (r.valued.lies m e k.0 (subst Carries (sym k.1) tt))) ∙
+              ap (span_of g.last) (sym at_key),
           looked_is o ∙ ap (after_lookup g.last c) (sym at_key),
         ),
       )
@@ -315,13 +364,21 @@ see_again a l rd key o f ws g sized r is inside fits = dite (ℕ_discrete (w (St
         era_is = let z = (seg.clean clean).0 in let e = q.even in omega arith
 
         linked_is : g.linked rd.map key ≡ o
-        linked_is = f.shown (g.eras rd.map rd.segment).old (g.linked rd.map) (subst (λ (i : ℕ). IsShare a.seed (shape_at a rd.map) (home_by a rd.map i) (g.eras rd.map rd.segment).old rd.map rd.segment (g.linked rd.map)) (sym (ap stamp_depth (sym same) ∙ r.deep.stamped rd.map rd.segment q.inside)) (seg.shows clean)) (λ p e leads. (r.linked.within rd.map p e leads).0.1) (q.stays era_is)
+        linked_is = f.shown (g.eras rd.map rd.segment).old (g.linked rd.map)
+            (subst (λ (i : ℕ). IsShare a.seed (shape_at a rd.map) (home_by a rd.map i) (g.eras rd.map rd.segment).old rd.map rd.segment
+            (g.linked rd.map)) (sym (ap stamp_depth (sym same) ∙ r.deep.stamped rd.map rd.segment q.inside)) (seg.shows clean))
+            (λ p e leads. (r.linked.within rd.map p e leads).0.1) (q.stays era_is)
 
         may : Allowed g.last l.cpu event (looking a w g r l.cpu rd.map o)
         may = may_look a w g r l.cpu rd.map o key linked_is (running_is a w g r l is inside f.runs) (map_there a w g r l is inside rd.map q.inside.0) f.key_size
 
         g1 : Ghost
-        g1 = record g { log = g.log ++ entry l.cpu event ∷ []; last = looking a w g r l.cpu rd.map o; lanes = record g.lanes { seen = put g.lanes.seen l.cpu (g.log ++ entry l.cpu event ∷ []) } }
+        g1 = record g {
+          log = g.log ++ entry l.cpu event ∷ [];
+          last = looking a w g r l.cpu rd.map o;
+          lanes = record g.lanes
+              { seen = put g.lanes.seen l.cpu (g.log ++ entry l.cpu event ∷ []) };
+        }
 
         rule1 : Rule a w g1
         rule1 = looked_rule a w g r l.cpu rd.map o key inside linked_is (found_span a rd.map o) may
@@ -330,7 +387,8 @@ see_again a l rd key o f ws g sized r is inside fits = dite (ℕ_discrete (w (St
         g2 = with_readings a w g1 rule1 l.cpu []
 
         found : AgainFound a l rd key o (lane g2.lanes l.cpu)
-        found = subst (AgainFound a l rd key o) (sym after) (record { seen = saw a w g r l is inside event (looking a w g r l.cpu rd.map o) may rule1.logged; after = refl })
+        found = subst (AgainFound a l rd key o) (sym after) (record
+            { seen = saw a w g r l is inside event (looking a w g r l.cpu rd.map o) may rule1.logged; after = refl })
           where
             after : lane g2.lanes l.cpu ≡ record l { seen = g.log ++ entry l.cpu event ∷ []; readings = [] }
             after = rw (eq-eqb l.cpu l.cpu refl) (ap (λ (x : Known). record x { seen = g.log ++ entry l.cpu event ∷ []; readings = [] }) is)

@@ -16,13 +16,15 @@ use Rattle.hop_words.specs.Kinds.{ShowsLinks, ShowsIn, IsShownIn, KeysHaveRoom}
 use Rattle.hop_words.proofs.Segs.{share_same}
 use Rattle.hop_words.proofs.Stays.{map_there}
 
-module _ (a : About) (depths : ℕ → ℕ → ℕ) (c : ℕ) (x : MapWords) (stamp : ℕ → ℕ → ℕ) (eras : ℕ → ℕ → Era) (linked : ℕ → List ℕ → Option ℕ) (holder : ℕ → ℕ → Holder) where
+module _ (a : About) (depths : ℕ → ℕ → ℕ) (c : ℕ) (x : MapWords) (stamp : ℕ → ℕ → ℕ) (eras : ℕ → ℕ → Era) (linked : ℕ → List ℕ → Option ℕ)
+    (holder : ℕ → ℕ → Holder) where
   -- the words at the lock show what is linked
   share_of : (j : Lock) → Holds a depths x stamp eras linked holder c j → j.dirty ≡ false → ShowsLinks a linked j
   share_of j h clean = share_same a.seed (shape_at a j.map) (lock_home a j) (image a j.first) j.map j.segment h.due.0 (linked j.map)
       (λ q home. h.due.2 q home ∙ ap (λ y. changed y h.due.0 q) (h.untouched clean).1) h.due.1
 
-  pub shares_of : (ks : List Lock) → Each (Holds a depths x stamp eras linked holder c) ks → Each (λ (j : Lock). j.dirty ≡ false) ks → Each (ShowsLinks a linked) ks
+  pub shares_of : (ks : List Lock) → Each (Holds a depths x stamp eras linked holder c) ks → Each (λ (j : Lock). j.dirty ≡ false) ks → Each
+      (ShowsLinks a linked) ks
   shares_of [] hs cs = tt
   shares_of (j ∷ ks) hs cs = (share_of j hs.0 cs.0, shares_of ks hs.1 cs.1)
 
@@ -42,7 +44,8 @@ module _ (a : About) (linked : ℕ → List ℕ → Option ℕ) (m : ℕ) where
 module _ (a : About) (w : Place → ℕ) (g : Ghost) (r : Rule a w g) (l : Known) (is : lane g.lanes l.cpu ≡ l) (inside : l.cpu < a.shape.cpus) where
   pub room_for : (m : ℕ) → m < length a.shape.maps → (ks : List Lock) → Each (ShowsLinks a g.linked) ks → KeysHaveRoom a m ks
   room_for m there ks shares keys apart all =
-      let most = (legal_sound (as_made a.shape) g.last g.log (as_made_sound a.shape r.shaped) r.logged.legal).keys m (shape_at a m) (map_there a w g r l is inside m there) in
+      let most = (legal_sound (as_made a.shape) g.last g.log (as_made_sound a.shape r.shaped) r.logged.legal).keys m (shape_at a m)
+      (map_there a w g r l is inside m there) in
       let few = distinct_fits keys (g.last.maps m) apart (each keys all) in
       omega arith
     where

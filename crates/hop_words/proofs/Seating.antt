@@ -1,5 +1,6 @@
 -- Seats, for lanes of any kind: no part of the rule is named here.
-use Rattle.std.proofs.Common.{◌≡◌, ◌≢◌, ℕ, zero, suc, ◌<◌, List, [], ◌∷◌, ◌++◌, set, length-set, slice_index, true, refl, ap, sym, subst, ◌∙◌, ⊎_elim, append_assoc}
+use Rattle.std.proofs.Common.{◌≡◌, ◌≢◌, ℕ, zero, suc, ◌<◌, List, [], ◌∷◌, ◌++◌, set, length-set, slice_index, true, refl, ap, sym, subst}
+use Rattle.std.proofs.Common.{◌∙◌, ⊎_elim, append_assoc}
 use mathlib.Core.Option.{some, some-injective, some-ne-none}
 use mathlib.Core.List.{IsPrefix}
 use lib.ListN.{get_elem?}
@@ -26,7 +27,8 @@ pub prefix_trans : (xs ys zs : List Entry) → IsPrefix xs ys → IsPrefix ys zs
 prefix_trans xs ys zs p q = (p.0 ++ q.0, sym (append_assoc xs p.0 q.0) ∙ (ap (λ (l : List Entry). l ++ q.0) p.1 ∙ q.1))
 
 -- the seat of one lane gets a new lane of the same CPU
-pub seats_step : (cpus : ℕ) (log log' : List Entry) (lanes lanes' : ℕ → Known) (views : List View) (i : ℕ) (l : Known) → Seats cpus log lanes views → get_elem? views i ≡ some (solo l)
+pub seats_step : (cpus : ℕ) (log log' : List Entry) (lanes lanes' : ℕ → Known) (views : List View) (i : ℕ) (l : Known) → Seats cpus log
+    lanes views → get_elem? views i ≡ some (solo l)
     → (lanes' l.cpu).cpu ≡ l.cpu → ((d : ℕ) → d ≢ l.cpu → lanes' d ≡ lanes d) → IsPrefix log log' → Seats cpus log' lanes' (set views i (solo (lanes' l.cpu)))
 seats_step cpus log log' lanes lanes' views i l p here same others longer = record {
   seat = p.seat;
@@ -35,7 +37,8 @@ seats_step cpus log log' lanes lanes' views i l p here same others longer = reco
       (λ (t : (j ≢ i) × (get_elem? views j ≡ some u)). theirs j k u m t.0 t.1 at)
       (at_set views i j (solo w) u is);
   distinct = λ j a b u m n is x y e. ⊎_elim
-      (λ (t : (j ≡ i) × (solo w ≡ u)). single w a b m n (subst (λ (z : View). get_elem? z.lanes a ≡ some m) (sym t.1) x) (subst (λ (z : View). get_elem? z.lanes b ≡ some n) (sym t.1) y))
+      (λ (t : (j ≡ i) × (solo w ≡ u)). single w a b m n (subst (λ (z : View). get_elem? z.lanes a ≡ some m) (sym t.1) x)
+      (subst (λ (z : View). get_elem? z.lanes b ≡ some n) (sym t.1) y))
       (λ (t : (j ≢ i) × (get_elem? views j ≡ some u)). p.distinct j a b u m n t.1 x y e)
       (at_set views i j (solo w) u is);
   kept = λ j u is. ⊎_elim
@@ -63,7 +66,8 @@ seats_step cpus log log' lanes lanes' views i l p here same others longer = reco
         (b.0, b.1, others m.cpu (λ (e : m.cpu ≡ l.cpu). ne (sym b.0 ∙ (ap p.seat e ∙ old.0))) ∙ b.2)
 
 -- a kind of step, as the table asks for it
-pub allows : (a : About) (slots id : ℕ) (l : Known) (p : Place) (f : ℕ → ℕ) (sights : ℕ → List Sight) (told : List ℕ → ℕ → Known → Type 0) (tells : ℕ → Known → Type 0) → is_place a.shape p ≡ true
+pub allows : (a : About) (slots id : ℕ) (l : Known) (p : Place) (f : ℕ → ℕ) (sights : ℕ → List Sight) (told : List ℕ → ℕ → Known → Type 0)
+    (tells : ℕ → Known → Type 0) → is_place a.shape p ≡ true
     → ((ws : List ℕ) (n : ℕ) (x : Known) → told ws n x → tells n x)
     → Leaves a l p f sights told → Allows (Kept a) slots id (solo l, []) (at a.shape p) f (TellsLane l.cpu tells)
 allows a slots id l p f sights told tells here less step s k size_is spot fits =
@@ -82,5 +86,14 @@ allows a slots id l p f sights told tells here less step s k size_is spot fits =
         seats = seats_step h.cpus k.ghost.log n.ghost.log (lane k.ghost.lanes) (lane n.ghost.lanes) s.views id l k.seats spot refl n.others n.longer;
         rule = subst (λ (w : Place → ℕ). Rule a w n.ghost) (sym now) n.rule;
       },
-      (refl, (lane n.ghost.lanes l.cpu, refl, refl, subst (λ (i : ℕ). tells i (lane n.ghost.lanes l.cpu)) same (less s.words (mem h s.words p) (lane n.ghost.lanes l.cpu) n.says))),
+      (
+        refl,
+        (
+          lane n.ghost.lanes l.cpu,
+          refl,
+          refl,
+          subst (λ (i : ℕ). tells i (lane n.ghost.lanes l.cpu)) same
+              (less s.words (mem h s.words p) (lane n.ghost.lanes l.cpu) n.says),
+        ),
+      ),
     )

@@ -1,5 +1,6 @@
 -- A seat whose CPUs learn the whole history.
-use Rattle.std.proofs.Common.{◌≡◌, ◌≢◌, ℕ, zero, suc, ◌<◌, Bool, List, [], ◌∷◌, ◌==◌, if◌then◌else◌, map, refl, ap, sym, subst, set, ◌∙◌, ⊎_elim, inl, inr, ◌⊎◌, eq-eqb, ne_eqb}
+use Rattle.std.proofs.Common.{◌≡◌, ◌≢◌, ℕ, zero, suc, ◌<◌, Bool, List, [], ◌∷◌, ◌==◌, if◌then◌else◌, map, refl, ap, sym, subst, set, ◌∙◌}
+use Rattle.std.proofs.Common.{⊎_elim, inl, inr, ◌⊎◌, eq-eqb, ne_eqb}
 use Rattle.std.proofs.lemmas.List.{set-get_or}
 use mathlib.Core.Option.{some, some-injective, some-ne-none}
 use mathlib.Core.List.{IsPrefix}
@@ -25,7 +26,8 @@ unmapped f (x ∷ xs) zero y e = (x, refl, some-injective (f x) y e)
 unmapped f (x ∷ xs) (suc k) y e = unmapped f xs k y e
 
 -- each CPU of a seat has seen the whole history
-pub settles : (a : About) (slots id : ℕ) (me : Sat) (told : List Known → List Known → Type 0) → ((new : List Known) → AreSettled a me.0.lanes new → told me.0.lanes new)
+pub settles : (a : About) (slots id : ℕ) (me : Sat) (told : List Known → List Known → Type 0) →
+    ((new : List Known) → AreSettled a me.0.lanes new → told me.0.lanes new)
     → Allows (Kept a) slots id me 0 (λ n. n) (λ n m. (m ≡ (view m.0.lanes me.0.kept, me.1)) × told me.0.lanes m.0.lanes)
 settles a slots id me told says s k size at fits = (
   u,
@@ -96,8 +98,11 @@ settles a slots id me told says s k size at fits = (
     settled = record {
       log = k.ghost.log;
       legal = (k.ghost.last, k.rule.logged.legal);
-      begins = λ j l here. (let b = k.seats.known id j me.0 l at here in
-          (subst (λ (x : Known). IsPrefix x.seen k.ghost.log) b.2 (k.rule.logged.begins l.cpu b.1), ap (λ (x : Known). events_of l.cpu x.seen) (sym b.2) ∙ k.rule.logged.own l.cpu b.1));
+      begins = λ j l here. (let b = k.seats.known id j me.0 l at here in (
+        subst (λ (x : Known). IsPrefix x.seen k.ghost.log) b.2 (k.rule.logged.begins l.cpu b.1),
+        ap
+            (λ (x : Known). events_of l.cpu x.seen) (sym b.2) ∙ k.rule.logged.own l.cpu b.1,
+      ));
       others = k.rule.logged.others;
       after = refl;
     }
@@ -122,8 +127,10 @@ settles a slots id me told says s k size at fits = (
     now = record {
       seat = k.seats.seat;
       known = λ i j x l is here. ⊎_elim
-          (λ (t : (i ≡ id) × (u ≡ x)). subst (λ (y : ℕ). IsKnown y l) (sym t.0) (known_here j l (subst (λ (y : View). get_elem? y.lanes j ≡ some l) (sym t.1) here)))
-          (λ (t : (i ≢ id) × (get_elem? s.views i ≡ some x)). let b = k.seats.known i j x l t.1 here in (b.0, b.1, other l (λ (e : k.seats.seat l.cpu ≡ id). t.0 (sym b.0 ∙ e)) b.2))
+          (λ (t : (i ≡ id) × (u ≡ x)). subst (λ (y : ℕ). IsKnown y l) (sym t.0)
+          (known_here j l (subst (λ (y : View). get_elem? y.lanes j ≡ some l) (sym t.1) here)))
+          (λ (t : (i ≢ id) × (get_elem? s.views i ≡ some x)).
+          let b = k.seats.known i j x l t.1 here in (b.0, b.1, other l (λ (e : k.seats.seat l.cpu ≡ id). t.0 (sym b.0 ∙ e)) b.2))
           (at_set s.views id i u x is);
       distinct = λ i p q x l m is here there same. ⊎_elim
           (λ (t : (i ≡ id) × (u ≡ x)).

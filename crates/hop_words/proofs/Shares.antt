@@ -12,7 +12,11 @@ times_tail e f es h = omega arith
 
 follows_same : (link link' : ℕ → ℕ) (n : ℕ) (es : List ℕ) → ((e : ℕ) → 1 ≤ times e es → link' e ≡ link e) → LinksThrough link n es → LinksThrough link' n es
 follows_same link link' n [] same p = p
-follows_same link link' n (e ∷ es) same p = (p.0, subst (λ (k : ℕ). LinksThrough link' k es) (sym (same e (times_head e es))) (follows_same link link' (link e) es (λ f h. same f (times_tail f e es h)) p.1))
+follows_same link link' n (e ∷ es) same p = (
+  p.0,
+  subst (λ (k : ℕ). LinksThrough link' k es) (sym (same e (times_head e es)))
+      (follows_same link link' (link e) es (λ f h. same f (times_tail f e es h)) p.1),
+)
 
 pub some_once : (e f : ℕ) → Some e ≡ Some f → e ≡ f
 some_once e f h = cc
@@ -26,7 +30,8 @@ one_list link n (e ∷ es) (f ∷ fs) p q =
     let t = one_list link (link e) es fs p.1 (subst (λ (k : ℕ). LinksThrough link (link k) fs) (sym h) q.1) in
     λ i. h i ∷ t i
 
-module _ (seed : ℕ) (g : MapShape) (home : List ℕ → ℕ) (x y : MapWords) (m s : ℕ) (f : List ℕ → Option ℕ) (k : AgreesInSegment m s (Reached y m s) x y) (p : IsShare seed g home y m s f) where
+module _ (seed : ℕ) (g : MapShape) (home : List ℕ → ℕ) (x y : MapWords) (m s : ℕ) (f : List ℕ → Option ℕ)
+    (k : AgreesInSegment m s (Reached y m s) x y) (p : IsShare seed g home y m s f) where
   hops_back : (b d e : ℕ) → HopsTo x m s b d e → HopsTo y m s b d e
   hops_back b d e h = (h.0, h.1, sym (ap (λ n. bit_at n d) (k.hop b)) ∙ h.2, ap item (sym (k.slot _)) ∙ h.3)
 
@@ -34,7 +39,8 @@ module _ (seed : ℕ) (g : MapShape) (home : List ℕ → ℕ) (x y : MapWords) 
   hops_on b d e h = (h.0, h.1, ap (λ n. bit_at n d) (k.hop b) ∙ h.2, ap item (k.slot _) ∙ h.3)
 
   list_on : (es : List ℕ) → LinksThrough (y.link m) (y.head m s) es → LinksThrough (x.link m) (x.head m s) es
-  list_on es h = subst (λ (n : ℕ). LinksThrough (x.link m) n es) (sym k.head) (follows_same (y.link m) (x.link m) (y.head m s) es (λ e t. k.link e (inr (es, h, t))) h)
+  list_on es h = subst (λ (n : ℕ). LinksThrough (x.link m) n es) (sym k.head)
+      (follows_same (y.link m) (x.link m) (y.head m s) es (λ e t. k.link e (inr (es, h, t))) h)
 
   reached_on : (e : ℕ) → Reached y m s e → Reached x m s e
   reached_on e (inl h) = inl (h.0, h.1, hops_on h.0 h.1 e h.2)
@@ -42,7 +48,12 @@ module _ (seed : ℕ) (g : MapShape) (home : List ℕ → ℕ) (x y : MapWords) 
 
   reached_back : (e : ℕ) → Reached x m s e → Reached y m s e
   reached_back e (inl h) = inl (h.0, h.1, hops_back h.0 h.1 e h.2)
-  reached_back e (inr h) = inr (p.sound.list, p.sound.follows, subst (λ es. 1 ≤ times e es) (one_list (x.link m) (x.head m s) h.0 p.sound.list h.1 (list_on p.sound.list p.sound.follows)) h.2)
+  reached_back e (inr h) = inr (
+    p.sound.list,
+    p.sound.follows,
+    subst (λ es. 1 ≤ times e es)
+        (one_list (x.link m) (x.head m s) h.0 p.sound.list h.1 (list_on p.sound.list p.sound.follows)) h.2,
+  )
 
   key_back : (e : ℕ) (key : List ℕ) → Reached y m s e → HasKey g x m e key → HasKey g y m e key
   key_back e key r h = (h.0, h.1, λ j l. sym (k.key e j r) ∙ h.2 j l)

@@ -13,12 +13,14 @@ use Rattle.hop_layout.proofs.Spelled.{spelled_same, spelled_back}
 abbrev pub IsFilled : (Place → ℕ) → Fresh → Type 0
 IsFilled w y = StartsWith y.key (λ j. w (KeyWord y.map y.element j)) × StartsWith y.value (λ j. w (ValueWord y.map y.element j))
 
-pub value_spelled : (a : About) (w : Place → ℕ) (f : Fresh) (rest : List Fresh) (m : ℕ) (bytes : List ℕ) (fs : List Fresh) → fs ≡ f ∷ rest → Each (IsFilled w) fs → f.map ≡ m
+pub value_spelled : (a : About) (w : Place → ℕ) (f : Fresh) (rest : List Fresh) (m : ℕ) (bytes : List ℕ) (fs : List Fresh) → fs ≡ f ∷ rest →
+    Each (IsFilled w) fs → f.map ≡ m
     → length f.value ≡ words_for (shape_at a m).value → ((i : ℕ) → i < words_for (shape_at a m).value → slice_index f.value i ≡ word_of bytes i)
     → length bytes ≡ (shape_at a m).value → AreBytes bytes
     → take (shape_at a m).value (bytes_of_words (words_for (shape_at a m).value) (λ j. w (ValueWord m f.element j))) ≡ bytes
 value_spelled a w f rest m bytes fs hand all map filled value size are =
-    ap (take (shape_at a m).value) (spelled_same (words_for (shape_at a m).value) (λ j. w (ValueWord m f.element j)) (word_of bytes) (λ j lt. words j lt ∙ value j lt))
+    ap (take (shape_at a m).value) (spelled_same (words_for (shape_at a m).value) (λ j. w (ValueWord m f.element j)) (word_of bytes)
+    (λ j lt. words j lt ∙ value j lt))
     ∙ (ap (λ (n : ℕ). take n (bytes_of_words (words_for (shape_at a m).value) (word_of bytes))) (sym size)
     ∙ spelled_back (words_for (shape_at a m).value) bytes are (omega arith))
   where

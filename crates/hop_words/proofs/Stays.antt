@@ -1,5 +1,6 @@
 -- What every kind of step uses.
-use Rattle.std.proofs.Common.{◌≡◌, ◌≢◌, ℕ, ◌+◌, ◌<◌, Bool, true, false, List, [], ◌∷◌, ◌++◌, Option, Some, None, ◌⊎◌, length, refl, ap, sym, subst, ◌∙◌, arith, append_assoc, ⊎_elim, inl, inr}
+use Rattle.std.proofs.Common.{◌≡◌, ◌≢◌, ℕ, ◌+◌, ◌<◌, Bool, true, false, List, [], ◌∷◌, ◌++◌, Option, Some, None, ◌⊎◌, length, refl, ap, sym}
+use Rattle.std.proofs.Common.{subst, ◌∙◌, arith, append_assoc, ⊎_elim, inl, inr}
 use Rattle.std.proofs.lemmas.Bool.{cases_eq}
 use mathlib.Core.List.{IsPrefix}
 use Rattle.bpf_shared.specs.declared.events.Entry.{Entry}
@@ -26,9 +27,11 @@ use Rattle.hop_words.proofs.Small.{here_or}
 use Rattle.hop_words.proofs.Histories.{rest_has_none, turns_own, turns_else, runs_as_known, shape_after, prefix_refl, done_in-append}
 
 -- the counters after an event that turns no run
-pub quiet_after : (a : About) (counts : ℕ → ℕ) (log : List Entry) (c : ℕ) (e : Event) → Runs a counts log → turns_of (e ∷ []) ≡ 0 → Runs a counts (log ++ entry c e ∷ [])
+pub quiet_after : (a : About) (counts : ℕ → ℕ) (log : List Entry) (c : ℕ) (e : Event) → Runs a counts log → turns_of (e ∷ []) ≡ 0 → Runs a
+    counts (log ++ entry c e ∷ [])
 quiet_after a counts log c e p quiet d h = p d h ∙ ap (λ (n : ℕ). a.count + n) (sym (⊎_elim
-    (λ (t : d ≡ c). subst (λ (x : ℕ). turns_of (events_of x (log ++ entry c e ∷ [])) ≡ turns_of (events_of x log)) (sym t) (omega (arith, turns_own c e log, quiet)))
+    (λ (t : d ≡ c). subst (λ (x : ℕ). turns_of (events_of x (log ++ entry c e ∷ [])) ≡ turns_of (events_of x log)) (sym t)
+    (omega (arith, turns_own c e log, quiet)))
     (λ (ne : d ≢ c). turns_else c d e log ne)
     (cases_eq d c)))
 
@@ -41,7 +44,8 @@ put_again w p = λ i q. go q (same_place q p) refl i
     go q false e = rw e refl
 
 -- a step that changes nothing
-pub stay : (a : About) (w : Place → ℕ) (g : Ghost) (c : ℕ) (p : Place) (told : Known → Type 0) → Rule a w g → told (lane g.lanes c) → Next a (put_at w p (w p)) g c told
+pub stay : (a : About) (w : Place → ℕ) (g : Ghost) (c : ℕ) (p : Place) (told : Known → Type 0) → Rule a w g → told (lane g.lanes c) → Next a
+    (put_at w p (w p)) g c told
 stay a w g c p told r t = record {
   ghost = g;
   rule = subst (λ (v : Place → ℕ). Rule a v g) (sym (put_again w p)) r;
@@ -52,15 +56,25 @@ stay a w g c p told r t = record {
 }
 
 -- what a step reports may say less
-pub next_as : (a : About) (w : Place → ℕ) (g : Ghost) (c : ℕ) (told said : Known → Type 0) {sights : List Sight} → ((x : Known) → told x → said x) → Noted a w g c sights told → Noted a w g c sights said
-next_as a w g c told said less n = record { ghost = n.ghost; rule = n.rule; others = n.others; longer = n.longer; tally = n.tally; says = less (lane n.ghost.lanes c) n.says }
+pub next_as : (a : About) (w : Place → ℕ) (g : Ghost) (c : ℕ) (told said : Known → Type 0) {sights : List Sight} →
+    ((x : Known) → told x → said x) → Noted a w g c sights told → Noted a w g c sights said
+next_as a w g c told said less n = record {
+  ghost = n.ghost;
+  rule = n.rule;
+  others = n.others;
+  longer = n.longer;
+  tally = n.tally;
+  says =
+      less (lane n.ghost.lanes c) n.says;
+}
 
 module _ (a : About) (w : Place → ℕ) (g : Ghost) (r : Rule a w g) (l : Known) (is : lane g.lanes l.cpu ≡ l) (inside : l.cpu < a.shape.cpus) where
   seen_is : g.lanes.seen l.cpu ≡ l.seen
   seen_is = ap (λ (x : Known). x.seen) is
 
   -- what a lane has not seen is of others
-  pub saw : (e : Event) (t : Plain) → Allowed g.last l.cpu e t → Logged a (put g.lanes.seen l.cpu (g.log ++ entry l.cpu e ∷ [])) (g.log ++ entry l.cpu e ∷ []) t → TakesEffect a l e (g.log ++ entry l.cpu e ∷ [])
+  pub saw : (e : Event) (t : Plain) → Allowed g.last l.cpu e t → Logged a (put g.lanes.seen l.cpu (g.log ++ entry l.cpu e ∷ []))
+      (g.log ++ entry l.cpu e ∷ []) t → TakesEffect a l e (g.log ++ entry l.cpu e ∷ [])
   saw e t may logged =
       let begins : IsPrefix l.seen g.log = subst (λ (x : List Entry). IsPrefix x g.log) seen_is (r.logged.begins l.cpu inside) in
       let own : events_of l.cpu l.seen ≡ events_of l.cpu g.log = ap (events_of l.cpu) (sym seen_is) ∙ r.logged.own l.cpu inside in
@@ -103,7 +117,8 @@ module _ (a : About) (w : Place → ℕ) (g : Ghost) (r : Rule a w g) (l : Known
       | inl p ↦ apart_from v (inl p)
       | inr (inl h) ↦ apart_from v (inr h)
       | inr (inr f) ↦ subst (IsApart (element_span m (shape_at a m) e)) (sym ((sound a w g r).fixed.spans v f ∙ ap (λ h. (fixed_value h v).span) shape_is))
-          (element_apart a.shape r.shaped m e v (shape_at a m) (let n = at_e.0 in let z = r.shaped.count in omega arith) (r.shaped.each m (shape_at a m) (map_is a.shape m at_e.0)) at_e.1 (subst (λ h. IsFixed h v) shape_is f))
+          (element_apart a.shape r.shaped m e v (shape_at a m) (let n = at_e.0 in let z = r.shaped.count in omega arith)
+          (r.shaped.each m (shape_at a m) (map_is a.shape m at_e.0)) at_e.1 (subst (λ h. IsFixed h v) shape_is f))
     ];
   }
     where
@@ -115,19 +130,24 @@ module _ (a : About) (w : Place → ℕ) (g : Ghost) (r : Rule a w g) (l : Known
           (spans_apart a.shape m k.0 e k.1 r.shaped at_e.0 k.2.0 at_e.1 k.2.1 (λ t u. subst Carries ((λ i. g.holder (t i) (u i)) ∙ was) k.3))
 
 -- two elements with one span are one
-pub span_once : (a : About) (w : Place → ℕ) (g : Ghost) → Rule a w g → (m e n d : ℕ) → HasElement a m e → HasElement a n d → element_span n (shape_at a n) d ≡ element_span m (shape_at a m) e → (n ≡ m) × (d ≡ e)
+pub span_once : (a : About) (w : Place → ℕ) (g : Ghost) → Rule a w g → (m e n d : ℕ) → HasElement a m e → HasElement a n d → element_span n
+    (shape_at a n) d ≡ element_span m (shape_at a m) e → (n ≡ m) × (d ≡ e)
 span_once a w g r m e n d at_e at_d spans = ⊎_elim
     (λ (h : (n ≡ m) × (d ≡ e)). h)
-    (λ (ne : n ≡ m → d ≢ e). absurd (spans_apart a.shape m n e d r.shaped at_e.0 at_d.0 at_e.1 at_d.1 ne (element_span m (shape_at a m) e).at start (subst (IsIn (element_span m (shape_at a m) e).at) (sym spans) start)))
+    (λ (ne : n ≡ m → d ≢ e). absurd (spans_apart a.shape m n e d r.shaped at_e.0 at_d.0 at_e.1 at_d.1 ne
+    (element_span m (shape_at a m) e).at start (subst (IsIn (element_span m (shape_at a m) e).at) (sym spans) start)))
     (here_or m n e d)
   where
     start : IsIn (element_span m (shape_at a m) e).at (element_span m (shape_at a m) e)
     start = let z = (r.shaped.each m (shape_at a m) (map_is a.shape m at_e.0)).value.0 in (omega arith, omega arith)
 
 -- two elements that carry one value are one
-pub number_once : (a : About) (w : Place → ℕ) (g : Ghost) → Rule a w g → (m e n d : ℕ) → HasElement a m e → HasElement a n d → Carries (g.holder m e) → Carries (g.holder n d) → g.number n d ≡ g.number m e → (n ≡ m) × (d ≡ e)
-number_once a w g r m e n d at_e at_d ce cd same = span_once a w g r m e n d at_e at_d (ap (λ x. x.span) (sym (r.valued.lies n d at_d cd) ∙ (ap g.last.value same ∙ r.valued.lies m e at_e ce)))
+pub number_once : (a : About) (w : Place → ℕ) (g : Ghost) → Rule a w g → (m e n d : ℕ) → HasElement a m e → HasElement a n d → Carries
+    (g.holder m e) → Carries (g.holder n d) → g.number n d ≡ g.number m e → (n ≡ m) × (d ≡ e)
+number_once a w g r m e n d at_e at_d ce cd same = span_once a w g r m e n d at_e at_d
+    (ap (λ x. x.span) (sym (r.valued.lies n d at_d cd) ∙ (ap g.last.value same ∙ r.valued.lies m e at_e ce)))
 
 -- versions after any event
-pub worn_more : (a : About) (depths stamp : ℕ → ℕ → ℕ) (eras : ℕ → ℕ → Era) (log : List Entry) (x : Entry) → Worn a depths stamp eras log → Worn a depths stamp eras (log ++ x ∷ [])
+pub worn_more : (a : About) (depths stamp : ℕ → ℕ → ℕ) (eras : ℕ → ℕ → Era) (log : List Entry) (x : Entry) → Worn a depths stamp eras log →
+    Worn a depths stamp eras (log ++ x ∷ [])
 worn_more a depths stamp eras log x p m s at_s = let z = done_in-append m log (x ∷ []) in let b = p m s at_s in omega arith

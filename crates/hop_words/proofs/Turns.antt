@@ -1,5 +1,7 @@
 -- Count run: begin and end of a run. See counter.
-use Rattle.std.proofs.Common.{◌≡◌, ◌≢◌, ℕ, zero, suc, ◌+◌, ◌%◌, ◌^◌, ◌<◌, ◌≤◌, Bool, true, false, true≢false, List, [], ◌∷◌, ◌++◌, length, set, slice_index, get_or, get_or-set_other, refl, ap, sym, subst, ◌∙◌, arith, length-set, eq-eqb, ne_eqb, ⊎_elim, inl, inr, ◌⊎◌}
+use Rattle.std.proofs.Common.{◌≡◌, ◌≢◌, ℕ, zero, suc, ◌+◌, ◌%◌, ◌^◌, ◌<◌, ◌≤◌, Bool, true, false, true≢false, List, [], ◌∷◌, ◌++◌, length}
+use Rattle.std.proofs.Common.{set, slice_index, get_or, get_or-set_other, refl, ap, sym, subst, ◌∙◌, arith, length-set, eq-eqb, ne_eqb}
+use Rattle.std.proofs.Common.{⊎_elim, inl, inr, ◌⊎◌}
 use Rattle.std.proofs.lemmas.Bool.{cases_eq}
 use native.Mathlib.Decide.{ℕ_discrete}
 use mathlib.Core.Logic.{dite}
@@ -39,7 +41,9 @@ module _ (a : About) (l : Known) (w : Place → ℕ) (g : Ghost) (r : Rule a w g
   pub runs_now : g.last.running l.cpu ≡ in_run (events_of l.cpu l.seen)
   runs_now = runs_as_known a l.cpu g.last g.log l.seen r.shaped r.logged.legal own
 
-  module _ (e : Event) (once : turns_of (e ∷ []) ≡ 1) (t : Plain) (may : Allowed g.last l.cpu e t) (cause : HasCause a.version (begun_in g.log g.lanes.fresh) (record { shape = a.shape; before = g.log; store = g.last; cpu = l.cpu }) e) (empty : g.lanes.fresh l.cpu ≡ []) (n : ℕ) (up : n ≡ w (RunCount l.cpu) + 1)
+  module _ (e : Event) (once : turns_of (e ∷ []) ≡ 1) (t : Plain) (may : Allowed g.last l.cpu e t)
+      (cause : HasCause a.version (begun_in g.log g.lanes.fresh) (record { shape = a.shape; before = g.log; store = g.last; cpu = l.cpu })
+      e) (empty : g.lanes.fresh l.cpu ≡ []) (n : ℕ) (up : n ≡ w (RunCount l.cpu) + 1)
       (maps : t.maps ≡ g.last.maps) (made : t.made ≡ g.last.made) (value : t.value ≡ g.last.value) (holds : t.held ≡ put g.last.held l.cpu never) where
     abbrev g2 : Ghost
     g2 = record g { log = g.log ++ entry l.cpu e ∷ []; last = t; lanes = record g.lanes { seen = put g.lanes.seen l.cpu (g.log ++ entry l.cpu e ∷ []) } }
@@ -63,7 +67,8 @@ module _ (a : About) (l : Known) (w : Place → ℕ) (g : Ghost) (r : Rule a w g
     -- who holds a value after the turn held it before, and is another CPU
     still : (d v : ℕ) → t.held d v ≡ true → (d ≢ l.cpu) × (g.last.held d v ≡ true)
     still d v h = ⊎_elim
-        (λ (s : d ≡ l.cpu). absurd (true≢false (sym h ∙ (ap (λ (f : ℕ → ℕ → Bool). f d v) holds ∙ ap (λ (f : ℕ → Bool). f v) (put-same g.last.held l.cpu d never s)))))
+        (λ (s : d ≡ l.cpu). absurd (true≢false (sym h ∙ (ap (λ (f : ℕ → ℕ → Bool). f d v) holds ∙ ap (λ (f : ℕ → Bool). f v)
+        (put-same g.last.held l.cpu d never s)))))
         (λ (ne : d ≢ l.cpu). (ne, sym (ap (λ (f : ℕ → ℕ → Bool). f d v) holds ∙ ap (λ (f : ℕ → Bool). f v) (put-other g.last.held l.cpu d never ne)) ∙ h))
         (cases_eq d l.cpu)
 
@@ -93,12 +98,15 @@ module _ (a : About) (l : Known) (w : Place → ℕ) (g : Ghost) (r : Rule a w g
         older = λ m x at_x has. subst (λ (k : ℕ). g.number m x < k) (sym made) (r.valued.older m x at_x has);
         held_in = λ d v h. r.valued.held_in d v (still d v h).1;
       };
-      shown = shown_step a g.log (g.log ++ entry l.cpu e ∷ []) g.last t g.lanes.fresh g.lanes.fresh g.lanes.tally g.holder g.holder g.taker (begun_event g.log g.lanes.fresh l.cpu e)
+      shown = shown_step a g.log (g.log ++ entry l.cpu e ∷ []) g.last t g.lanes.fresh g.lanes.fresh g.lanes.tally g.holder g.holder g.taker
+          (begun_event g.log g.lanes.fresh l.cpu e)
           (causes_on a g.log g.last t g.lanes.fresh g.lanes.fresh l.cpu e (begun_event g.log g.lanes.fresh l.cpu e) r.logged.legal may r.shown.causes cause)
           (λ d p. ⊎_elim (λ (s : d ≡ l.cpu). inl (ap g.lanes.fresh s ∙ empty))
-          (λ (ne : d ≢ l.cpu). ⊎_elim (λ (none : g.lanes.fresh d ≡ []). inl none) (λ (run : in_run (events_of d g.log) ≡ true). inr (run_else l.cpu d e g.log ne run)) p)
+          (λ (ne : d ≢ l.cpu). ⊎_elim (λ (none : g.lanes.fresh d ≡ []). inl none)
+          (λ (run : in_run (events_of d g.log) ≡ true). inr (run_else l.cpu d e g.log ne run)) p)
           (cases_eq d l.cpu))
-          (λ p h. (h.0, subst (λ (k : ℕ). h.0 < k) (sym made) h.1, ap (λ (f : ℕ → Value). (f h.0).span) value ∙ h.2)) (settled g.holder) (λ c m x inb at_x h. inr h) r.shown;
+          (λ p h. (h.0, subst (λ (k : ℕ). h.0 < k) (sym made) h.1, ap (λ (f : ℕ → Value). (f h.0).span) value ∙ h.2)) (settled g.holder)
+          (λ c m x inb at_x h. inr h) r.shown;
     }
 
     pub turn_next : Next a (put_at w (RunCount l.cpu) n) g l.cpu (AddsEvent a l e)
@@ -108,18 +116,24 @@ module _ (a : About) (l : Known) (w : Place → ℕ) (g : Ghost) (r : Rule a w g
       others = λ d ne. rw (ne_eqb d l.cpu ne) refl;
       longer = (entry l.cpu e ∷ [], refl);
       tally = refl;
-      says = subst (AddsEvent a l e) (sym (rw (eq-eqb l.cpu l.cpu refl) (ap (λ (z : Known). record z { seen = g.log ++ entry l.cpu e ∷ [] }) is))) (record { seen = saw a w g r l is inside e t may turn_rule.logged; after = refl });
+      says = subst (AddsEvent a l e) (sym (rw (eq-eqb l.cpu l.cpu refl)
+          (ap (λ (z : Known). record z { seen = g.log ++ entry l.cpu e ∷ [] }) is)))
+          (record { seen = saw a w g r l is inside e t may turn_rule.logged; after = refl });
     }
 
-pub count_begin : (a : About) (l : Known) → in_run (events_of l.cpu l.seen) ≡ false → run_count a l + 1 < 2 ^ 64 → Steps a l (RunCount l.cpu) (λ n. (n + 1) % 2 ^ 64) (λ ws n l'. AddsEvent a l Begin l')
+pub count_begin : (a : About) (l : Known) → in_run (events_of l.cpu l.seen) ≡ false → run_count a l + 1 < 2 ^ 64 → Steps a l
+    (RunCount l.cpu) (λ n. (n + 1) % 2 ^ 64) (λ ws n l'. AddsEvent a l Begin l')
 count_begin a l idle room ws g sized r is inside fits =
     let w = mem a.shape ws in
     let c = own_count a l w g r is inside in
-    turn_next a l w g r is inside Begin refl (after_begin g.last l.cpu) (subst (λ h. l.cpu < h.cpus) (sym (shape_is a w g r l is inside)) inside, runs_now a l w g r is inside ∙ idle, refl) tt
-    (⊎_elim (λ (none : g.lanes.fresh l.cpu ≡ []). none) (λ (run : in_run (events_of l.cpu g.log) ≡ true). absurd (true≢false (sym run ∙ (ap in_run (sym (own a l w g r is inside)) ∙ idle)))) (r.shown.running l.cpu))
+    turn_next a l w g r is inside Begin refl (after_begin g.last l.cpu)
+    (subst (λ h. l.cpu < h.cpus) (sym (shape_is a w g r l is inside)) inside, runs_now a l w g r is inside ∙ idle, refl) tt
+    (⊎_elim (λ (none : g.lanes.fresh l.cpu ≡ []). none) (λ (run : in_run (events_of l.cpu g.log) ≡ true). absurd
+    (true≢false (sym run ∙ (ap in_run (sym (own a l w g r is inside)) ∙ idle)))) (r.shown.running l.cpu))
     ((w (RunCount l.cpu) + 1) % 2 ^ 64) (omega arith) refl refl refl refl
 
-pub count_end : (a : About) (l : Known) → l.fresh ≡ [] → in_run (events_of l.cpu l.seen) ≡ true → run_count a l + 1 < 2 ^ 64 → Steps a l (RunCount l.cpu) (λ n. (n + 1) % 2 ^ 64) (λ ws n l'. AddsEvent a l End l')
+pub count_end : (a : About) (l : Known) → l.fresh ≡ [] → in_run (events_of l.cpu l.seen) ≡ true → run_count a l + 1 < 2 ^ 64 → Steps a l
+    (RunCount l.cpu) (λ n. (n + 1) % 2 ^ 64) (λ ws n l'. AddsEvent a l End l')
 count_end a l empty running room ws g sized r is inside fits =
     let w = mem a.shape ws in
     let c = own_count a l w g r is inside in
@@ -131,7 +145,8 @@ pub see_own_count : (a : About) (l : Known) → Steps a l (RunCount l.cpu) (λ n
 see_own_count a l ws g sized r is inside fits = stay a (mem a.shape ws) g l.cpu (RunCount l.cpu) _ r (own_count a l (mem a.shape ws) g r is inside, is)
 
 -- ---- see counter: only what the lane has of one map changes, and in it only the batches
-module _ (a : About) (l : Known) (m : ℕ) (room : m < length l.limbo) (x : Limbo) (p : Place) (w : Place → ℕ) (g : Ghost) (r : Rule a w g) (is : lane g.lanes l.cpu ≡ l) (inside : l.cpu < a.shape.cpus) where
+module _ (a : About) (l : Known) (m : ℕ) (room : m < length l.limbo) (x : Limbo) (p : Place) (w : Place → ℕ) (g : Ghost) (r : Rule a w g)
+    (is : lane g.lanes l.cpu ≡ l) (inside : l.cpu < a.shape.cpus) where
   abbrev before : Limbo
   before = limbo_at (g.lanes.limbo l.cpu) m
 
@@ -158,15 +173,18 @@ module _ (a : About) (l : Known) (m : ℕ) (room : m < length l.limbo) (x : Limb
       worn = r.worn;
       runs = r.runs;
       batched = record {
-        young = limbo_put (λ b n y. b < a.shape.cpus → Chained (λ e. w (Link n e)) y.young) g.lanes.limbo l.cpu m x room' (λ _. young) (λ b n _. r.batched.young b n);
+        young = limbo_put (λ b n y. b < a.shape.cpus → Chained (λ e. w (Link n e)) y.young) g.lanes.limbo l.cpu m x room' (λ _. young)
+            (λ b n _. r.batched.young b n);
         old = limbo_put (λ b n y. b < a.shape.cpus → Chained (λ e. w (Link n e)) y.old) g.lanes.limbo l.cpu m x room' (λ _. old) (λ b n _. r.batched.old b n);
-        noted = λ b n e d. limbo_put (λ b n y. b < a.shape.cpus → HasElement a n e → 1 ≤ times e y.old → d < length y.noted → g.last.held d (g.number n e) ≡ true → slice_index y.noted d ≡ w (RunCount d)) g.lanes.limbo l.cpu m x room'
+        noted = λ b n e d. limbo_put (λ b n y. b < a.shape.cpus → HasElement a n e → 1 ≤ times e y.old → d < length y.noted → g.last.held d
+            (g.number n e) ≡ true → slice_index y.noted d ≡ w (RunCount d)) g.lanes.limbo l.cpu m x room'
             (λ _. noted e d) (λ b n _. r.batched.noted b n e d) b n;
       };
       owned = record {
         bits = r.owned.bits;
         fresh_is = r.owned.fresh_is;
-        limbo_is = λ b n e inb at_e. limbo_put (λ b n y. b < a.shape.cpus → HasElement a n e → times_limbo e y ≡ one_if (is_leaving b (g.holder n e))) g.lanes.limbo l.cpu m x room'
+        limbo_is = λ b n e inb at_e. limbo_put (λ b n y. b < a.shape.cpus → HasElement a n e → times_limbo e y ≡ one_if
+            (is_leaving b (g.holder n e))) g.lanes.limbo l.cpu m x room'
             (λ inc at_m. same e ∙ r.owned.limbo_is l.cpu m e inc at_m) (λ b n _ inb at_n. r.owned.limbo_is b n e inb at_n) b n inb at_e;
       };
       linked = r.linked;
@@ -187,14 +205,16 @@ module _ (a : About) (l : Known) (m : ℕ) (room : m < length l.limbo) (x : Limb
 limbo_of : (g : Ghost) (l : Known) (m : ℕ) → lane g.lanes l.cpu ≡ l → limbo_at (g.lanes.limbo l.cpu) m ≡ limbo_at l.limbo m
 limbo_of g l m is = ap (λ (z : Known). limbo_at z.limbo m) is
 
-get_end : (xs : List ℕ) (n d : ℕ) → d < length (xs ++ n ∷ []) → ((d < length xs) × (get_or (xs ++ n ∷ []) d 0 ≡ get_or xs d 0)) ⊎ ((d ≡ length xs) × (get_or (xs ++ n ∷ []) d 0 ≡ n))
+get_end : (xs : List ℕ) (n d : ℕ) → d < length (xs ++ n ∷ []) → ((d < length xs) × (get_or (xs ++ n ∷ []) d 0 ≡ get_or xs d 0)) ⊎
+    ((d ≡ length xs) × (get_or (xs ++ n ∷ []) d 0 ≡ n))
 get_end [] n zero h = inr (refl, refl)
 get_end [] n (suc d) h = absurd (omega arith)
 get_end (x ∷ xs) n zero h = inl (omega arith, refl)
 get_end (x ∷ xs) n (suc d) h = ⊎_elim (λ t. inl (let z = t.0 in omega arith, t.1)) (λ t. inr (ap suc t.0, t.1)) (get_end xs n d (omega arith))
 
 -- the next counter is noted with the old batch
-pub see_counter : (a : About) (l : Known) (m : ℕ) → m < length l.limbo → Steps a l (RunCount (length (limbo_at l.limbo m).noted)) (λ n. n) (λ ws n l'. l' ≡ noting_next l m n)
+pub see_counter : (a : About) (l : Known) (m : ℕ) → m < length l.limbo → Steps a l (RunCount (length (limbo_at l.limbo m).noted)) (λ n. n)
+    (λ ws n l'. l' ≡ noting_next l m n)
 see_counter a l m room ws g sized r is inside fits =
     let w = mem a.shape ws in
     let y = limbo_at l.limbo m in
@@ -205,18 +225,21 @@ see_counter a l m room ws g sized r is inside fits =
     (subst (λ z. Chained (λ e. w (Link m e)) z.young) q (r.batched.young l.cpu m inside))
     (subst (λ z. Chained (λ e. w (Link m e)) z.old) q (r.batched.old l.cpu m inside))
     (λ e d at_e has few h. ⊎_elim
-    (λ t. t.1 ∙ subst (λ z. 1 ≤ times e z.old → d < length z.noted → slice_index z.noted d ≡ w (RunCount d)) q (λ i j. r.batched.noted l.cpu m e d inside at_e i j h) has t.0)
+    (λ t. t.1 ∙ subst (λ z. 1 ≤ times e z.old → d < length z.noted → slice_index z.noted d ≡ w (RunCount d)) q
+    (λ i j. r.batched.noted l.cpu m e d inside at_e i j h) has t.0)
     (λ t. t.1 ∙ ap (λ (k : ℕ). w (RunCount k)) (sym t.0))
     (get_end y.noted (w (RunCount c)) d few))
 
 -- the young batch becomes the old one, which was empty
-pub see_first_counter : (a : About) (l : Known) (m : ℕ) → m < length l.limbo → (limbo_at l.limbo m).old ≡ [] → Steps a l (RunCount 0) (λ n. n) (λ ws n l'. l' ≡ ageing l m n)
+pub see_first_counter : (a : About) (l : Known) (m : ℕ) → m < length l.limbo → (limbo_at l.limbo m).old ≡ [] → Steps a l (RunCount 0)
+    (λ n. n) (λ ws n l'. l' ≡ ageing l m n)
 see_first_counter a l m room none ws g sized r is inside fits =
     let w = mem a.shape ws in
     let y = limbo_at l.limbo m in
     let q = limbo_of g l m is in
     batch_next a l m room (record y { young = []; old = y.young; noted = w (RunCount 0) ∷ [] }) (RunCount 0) w g r is inside
-    (λ e. (let z : times e y.old ≡ 0 = ap (times e) none in let s : times_limbo e (limbo_at (g.lanes.limbo l.cpu) m) ≡ times_limbo e y = ap (times_limbo e) q in omega arith))
+    (λ e. (let z : times e y.old ≡ 0 = ap (times e) none in
+    let s : times_limbo e (limbo_at (g.lanes.limbo l.cpu) m) ≡ times_limbo e y = ap (times_limbo e) q in omega arith))
     tt
     (subst (λ z. Chained (λ e. w (Link m e)) z.young) q (r.batched.young l.cpu m inside))
     (λ e d at_e has few h. zero_only d few)
@@ -227,7 +250,8 @@ see_first_counter a l m room none ws g sized r is inside fits =
 
 -- a counter that isn't the one noted: its CPU holds nothing of the old batch
 pub see_counter_again : (a : About) (l : Known) (m d : ℕ) → m < length l.limbo → d < length (limbo_at l.limbo m).noted
-    → Steps a l (RunCount d) (λ n. n) (λ ws n l'. (n ≢ slice_index (limbo_at l.limbo m).noted d → l' ≡ cleared l m d) × (n ≡ slice_index (limbo_at l.limbo m).noted d → l' ≡ l))
+    → Steps a l (RunCount d) (λ n. n) (λ ws n l'. (n ≢ slice_index (limbo_at l.limbo m).noted d → l' ≡ cleared l m d) ×
+    (n ≡ slice_index (limbo_at l.limbo m).noted d → l' ≡ l))
 see_counter_again a l m d room few ws g sized r is inside fits = dite (ℕ_discrete (w (RunCount d)) (slice_index y.noted d)) same other
   where
     w : Place → ℕ
@@ -245,8 +269,10 @@ see_counter_again a l m d room few ws g sized r is inside fits = dite (ℕ_discr
     same : w (RunCount d) ≡ slice_index y.noted d → Next a (put_at w (RunCount d) (w (RunCount d))) g l.cpu told
     same e = stay a w g l.cpu (RunCount d) told r ((λ ne. absurd (ne e)), (λ _. is))
 
-    old_noted : (e c : ℕ) → HasElement a m e → 1 ≤ times e y.old → c < length y.noted → g.last.held c (g.number m e) ≡ true → slice_index y.noted c ≡ w (RunCount c)
-    old_noted e c at_e has lt h = subst (λ z. 1 ≤ times e z.old → c < length z.noted → slice_index z.noted c ≡ w (RunCount c)) q (λ i j. r.batched.noted l.cpu m e c inside at_e i j h) has lt
+    old_noted : (e c : ℕ) → HasElement a m e → 1 ≤ times e y.old → c < length y.noted → g.last.held c (g.number m e) ≡ true → slice_index
+        y.noted c ≡ w (RunCount c)
+    old_noted e c at_e has lt h = subst (λ z. 1 ≤ times e z.old → c < length z.noted → slice_index z.noted c ≡ w (RunCount c)) q
+        (λ i j. r.batched.noted l.cpu m e c inside at_e i j h) has lt
 
     other : (w (RunCount d) ≡ slice_index y.noted d → ⊥) → Next a (put_at w (RunCount d) (w (RunCount d))) g l.cpu told
     other ne =
@@ -255,7 +281,8 @@ see_counter_again a l m d room few ws g sized r is inside fits = dite (ℕ_discr
         (subst (λ z. Chained (λ e. w (Link m e)) z.young) q (r.batched.young l.cpu m inside))
         (subst (λ z. Chained (λ e. w (Link m e)) z.old) q (r.batched.old l.cpu m inside))
         (λ e c at_e has lt h. ⊎_elim
-        (λ (t : c ≡ d). absurd (ne (ap (λ (k : ℕ). w (RunCount k)) (sym t) ∙ (sym (old_noted e c at_e has (subst (λ (k : ℕ). k < length y.noted) (sym t) few) h) ∙ ap (λ (k : ℕ). slice_index y.noted k) t))))
+        (λ (t : c ≡ d). absurd (ne (ap (λ (k : ℕ). w (RunCount k)) (sym t) ∙
+        (sym (old_noted e c at_e has (subst (λ (k : ℕ). k < length y.noted) (sym t) few) h) ∙ ap (λ (k : ℕ). slice_index y.noted k) t))))
         (λ (nd : c ≢ d). get_or-set_other y.noted d c 0 0 nd ∙ old_noted e c at_e has (subst (λ (k : ℕ). c < k) (length-set y.noted d 0) lt) h)
         (cases_eq c d)) in
         record { ghost = n.ghost; rule = n.rule; others = n.others; longer = n.longer; tally = n.tally; says = ((λ _. n.says), (λ e. absurd (ne e))) }

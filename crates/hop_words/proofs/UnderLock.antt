@@ -58,10 +58,18 @@ module _ (a : About) (l : Known) (held : l.locks ≡ lock_of l ∷ []) where
   at_beside P m s b p = subst (P m) b.1 (subst (λ (n : ℕ). P n (child (lock_of l))) b.0 p)
 
   pub read_beside : (p : Place) → IsGuardedBeside l p → Reads a l p
-  read_beside (Stamp m s) b = at_beside (λ n t. Reads a l (Stamp n t)) m s b (λ ws g sized r is inside fits. stay a (mem a.shape ws) g l.cpu (Stamp (lock_of l).map (child (lock_of l))) _ r ((holds a l (lock_of l) held (mem a.shape ws) g r is).beside_stamp, is))
-  read_beside (Head m s) b = at_beside (λ n t. Reads a l (Head n t)) m s b (λ ws g sized r is inside fits. stay a (mem a.shape ws) g l.cpu (Head (lock_of l).map (child (lock_of l))) _ r ((holds a l (lock_of l) held (mem a.shape ws) g r is).beside.head, is))
-  read_beside (Hop m s j) b = at_beside (λ n t. Reads a l (Hop n t j)) m s b (λ ws g sized r is inside fits. stay a (mem a.shape ws) g l.cpu (Hop (lock_of l).map (child (lock_of l)) j) _ r ((holds a l (lock_of l) held (mem a.shape ws) g r is).beside.hop j, is))
-  read_beside (Slot m s j) b = at_beside (λ n t. Reads a l (Slot n t j)) m s b (λ ws g sized r is inside fits. stay a (mem a.shape ws) g l.cpu (Slot (lock_of l).map (child (lock_of l)) j) _ r ((holds a l (lock_of l) held (mem a.shape ws) g r is).beside.slot j, is))
+  read_beside (Stamp m s) b = at_beside (λ n t. Reads a l (Stamp n t)) m s b
+      (λ ws g sized r is inside fits. stay a (mem a.shape ws) g l.cpu (Stamp (lock_of l).map (child (lock_of l))) _ r
+      ((holds a l (lock_of l) held (mem a.shape ws) g r is).beside_stamp, is))
+  read_beside (Head m s) b = at_beside (λ n t. Reads a l (Head n t)) m s b
+      (λ ws g sized r is inside fits. stay a (mem a.shape ws) g l.cpu (Head (lock_of l).map (child (lock_of l))) _ r
+      ((holds a l (lock_of l) held (mem a.shape ws) g r is).beside.head, is))
+  read_beside (Hop m s j) b = at_beside (λ n t. Reads a l (Hop n t j)) m s b
+      (λ ws g sized r is inside fits. stay a (mem a.shape ws) g l.cpu (Hop (lock_of l).map (child (lock_of l)) j) _ r
+      ((holds a l (lock_of l) held (mem a.shape ws) g r is).beside.hop j, is))
+  read_beside (Slot m s j) b = at_beside (λ n t. Reads a l (Slot n t j)) m s b
+      (λ ws g sized r is inside fits. stay a (mem a.shape ws) g l.cpu (Slot (lock_of l).map (child (lock_of l)) j) _ r
+      ((holds a l (lock_of l) held (mem a.shape ws) g r is).beside.slot j, is))
   read_beside (Link m e) b = absurd b
   read_beside (KeyWord m e k) b = absurd b
   read_beside (RunCount c) b = absurd b
@@ -76,7 +84,8 @@ module _ (a : About) (l : Known) (held : l.locks ≡ lock_of l ∷ []) where
   write_beside (Slot m s j) n b = write_own a l (lock_of l) (Slot m s j) n (sym b.0, inr (sym b.1)) held
   write_beside p n b = absurd b
 
-  pub write_stamp_beside : (p : Place) (n : ℕ) → IsStampBeside l p → is_place a.shape p ≡ true → Steps a l p (λ _. n) (λ ws found l'. l' ≡ writing a l (lock_of l) p n)
+  pub write_stamp_beside : (p : Place) (n : ℕ) → IsStampBeside l p → is_place a.shape p ≡ true → Steps a l p (λ _. n)
+      (λ ws found l'. l' ≡ writing a l (lock_of l) p n)
   write_stamp_beside (Stamp m s) n b = write_own a l (lock_of l) (Stamp m s) n (sym b.0, sym b.1) held
   write_stamp_beside p n b = absurd b
 

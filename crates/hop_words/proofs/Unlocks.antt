@@ -1,5 +1,7 @@
 -- Unlock: with what was written, with an answer that changed nothing, and with a replacement.
-use Rattle.std.proofs.Common.{◌≡◌, ◌≢◌, ℕ, ◌+◌, ◌/◌, ◌<◌, ◌≤◌, Bool, true, false, not, ◌&&◌, cond, List, [], ◌∷◌, ◌++◌, Option, Some, None, is_some, ◌==◌, length, set, take, refl, ap, sym, subst, ◌∙◌, arith, eq-eqb, ne_eqb, ⊎_elim, inl, inr, if◌then◌else◌}
+use Rattle.std.proofs.Common.{◌≡◌, ◌≢◌, ℕ, ◌+◌, ◌/◌, ◌<◌, ◌≤◌, Bool, true, false, not, ◌&&◌, cond, List, [], ◌∷◌, ◌++◌, Option, Some, None}
+use Rattle.std.proofs.Common.{is_some, ◌==◌, length, set, take, refl, ap, sym, subst, ◌∙◌, arith, eq-eqb, ne_eqb, ⊎_elim, inl, inr}
+use Rattle.std.proofs.Common.{if◌then◌else◌}
 use Rattle.std.proofs.lemmas.Bool.Decides.{nat_tests}
 use Rattle.std.proofs.lemmas.Cmp.{nat_list_cmp_total}
 use Rattle.std.specs.FinMap.{get, insert, len, len-insert}
@@ -29,11 +31,13 @@ use Rattle.hop_words.specs.Shortage.{done_in, is_update, HasHadValue, HasCause}
 use Rattle.hop_words.specs.Rule.{Rule, times_fresh, begun_in, Minded, put_key, changed, owed, Holds, numbered, Keyed, Owned, Linked}
 use Rattle.bpf_shared.specs.Own.{turns_of, in_run}
 use Rattle.hop_words.specs.Private.Step.{Next, Steps}
-use Rattle.hop_words.specs.Kinds.{AreElsewhere, AnswersAll, AnsweredAll, Replaces, Replaced, AnswersUnderLock, Answered, ShowsShortage, IsWritten, unlocking, with_gone, LooksUpLocked, LookedUp, found_span}
+use Rattle.hop_words.specs.Kinds.{AreElsewhere, AnswersAll, AnsweredAll, Replaces, Replaced, AnswersUnderLock, Answered, ShowsShortage}
+use Rattle.hop_words.specs.Kinds.{IsWritten, unlocking, with_gone, LooksUpLocked, LookedUp, found_span}
 use Rattle.hop_words.proofs.Small.{equal_keys, here_or, put2-same, put2-other, put_key-same, put_key-other}
 use Rattle.hop_words.proofs.Spelling.{value_spelled}
 use Rattle.hop_words.proofs.Histories.{logged_event, prefix_refl, done_in-append}
-use Rattle.hop_words.proofs.Shortages.{begun_answer, causes_on, empty_still, run_quiet, had_update, new_update, settles_put, shown_step, shown_more, hand_held, hand_rest, lack_cause}
+use Rattle.hop_words.proofs.Shortages.{begun_answer, causes_on, empty_still, run_quiet, had_update, new_update, settles_put, shown_step}
+use Rattle.hop_words.proofs.Shortages.{shown_more, hand_held, hand_rest, lack_cause}
 use Rattle.hop_words.proofs.Comes.{leads_new, in_hand, now_old, now_new, linked_comes, owned_comes, batched_comes, filled_rest, valued_comes}
 use Rattle.hop_words.proofs.Goes.{with_used, owned_goes, cut_old, linked_goes, batched_goes, valued_goes}
 use Rattle.hop_words.proofs.Rooms.{shares_of}
@@ -47,15 +51,19 @@ use Rattle.hop_words.proofs.Segs.{one_home}
 use Rattle.hop_words.proofs.FixedPlaces.{fixed_later, sound}
 
 -- ---- how far splits took a segment's version
-gains : (a : About) (w : Place → ℕ) (g : Ghost) (r : Rule a w g) (m s : ℕ) → IsBorn a g.depths m s → g.depths m s ≤ gained (shape_at a m) + first_depth (shape_at a m)
+gains : (a : About) (w : Place → ℕ) (g : Ghost) (r : Rule a w g) (m s : ℕ) → IsBorn a g.depths m s → g.depths m s ≤ gained (shape_at a m) +
+    first_depth (shape_at a m)
 gains a w g r m s b = go ((shape_at a m).grow) refl
   where
     go : (x : Bool) → (shape_at a m).grow ≡ x → g.depths m s ≤ gained (shape_at a m) + first_depth (shape_at a m)
-    go true e = let z : gained (shape_at a m) ≡ depth (shape_at a m) = ap (λ (y : Bool). if y then depth (shape_at a m) else 0) e in let k = (r.deep.sound m b.0 s b.2).1 in omega arith
-    go false e = let z : first_depth (shape_at a m) ≡ depth (shape_at a m) = ap (λ (y : Bool). if y then 0 else depth (shape_at a m)) e in let k = r.deep.whole m s b.0 b.1 e in omega arith
+    go true e = let z : gained (shape_at a m) ≡ depth (shape_at a m) = ap (λ (y : Bool). if y then depth (shape_at a m) else 0) e in
+        let k = (r.deep.sound m b.0 s b.2).1 in omega arith
+    go false e = let z : first_depth (shape_at a m) ≡ depth (shape_at a m) = ap (λ (y : Bool). if y then 0 else depth (shape_at a m)) e in
+        let k = r.deep.whole m s b.0 b.1 e in omega arith
 
 -- ---- what took effect before is written now
-pub unlock_written : (a : About) (l : Known) (k : Lock) → l.locks ≡ k ∷ [] → owed k.change ≡ 1 → IsWritten a k → Steps a l (Stamp k.map k.segment) (λ _. k.stamp + 256) (λ ws n l'. l' ≡ unlocking l)
+pub unlock_written : (a : About) (l : Known) (k : Lock) → l.locks ≡ k ∷ [] → owed k.change ≡ 1 → IsWritten a k → Steps a l
+    (Stamp k.map k.segment) (λ _. k.stamp + 256) (λ ws n l'. l' ≡ unlocking l)
 unlock_written a l k held owes written ws g sized r is inside fits =
     let w = mem a.shape ws in
     let u = unlock_new a l k held w g r is inside owes written in
@@ -69,7 +77,8 @@ unlock_written a l k held owes written ws g sized r is inside fits =
     }
 
 -- ---- nothing was changed, and nothing is answered: after an answer that took effect at the key count
-pub unlock_silent : (a : About) (l : Known) (k : Lock) {rest : List Lock} → l.locks ≡ k ∷ rest → AreElsewhere k rest → k.dirty ≡ false → Steps a l (Stamp k.map k.segment) (λ _. k.stamp) (λ ws n l'. l' ≡ record l { locks = rest })
+pub unlock_silent : (a : About) (l : Known) (k : Lock) {rest : List Lock} → l.locks ≡ k ∷ rest → AreElsewhere k rest → k.dirty ≡ false →
+    Steps a l (Stamp k.map k.segment) (λ _. k.stamp) (λ ws n l'. l' ≡ record l { locks = rest })
 unlock_silent a l k {rest} held elsewhere clean ws g sized r is inside fits =
     let w = mem a.shape ws in
     let u = unlock_same a l k held w g r is inside elsewhere clean in
@@ -86,7 +95,9 @@ unlock_silent a l k {rest} held elsewhere clean ws g sized r is inside fits =
 abbrev pub noted_event : Ghost → ℕ → Event → Ghost
 noted_event g c e = record g { log = g.log ++ entry c e ∷ []; lanes = record g.lanes { seen = put g.lanes.seen c (g.log ++ entry c e ∷ []) } }
 
-pub event_rule : (a : About) (w : Place → ℕ) (g : Ghost) (r : Rule a w g) (l : Known) (inside : l.cpu < a.shape.cpus) (e : Event) → turns_of (e ∷ []) ≡ 0 → HasCause a.version (begun_in g.log g.lanes.fresh) (record { shape = a.shape; before = g.log; store = g.last; cpu = l.cpu }) e → Allowed g.last l.cpu e g.last → Rule a w (noted_event g l.cpu e)
+pub event_rule : (a : About) (w : Place → ℕ) (g : Ghost) (r : Rule a w g) (l : Known) (inside : l.cpu < a.shape.cpus) (e : Event) → turns_of
+    (e ∷ []) ≡ 0 → HasCause a.version (begun_in g.log g.lanes.fresh)
+    (record { shape = a.shape; before = g.log; store = g.last; cpu = l.cpu }) e → Allowed g.last l.cpu e g.last → Rule a w (noted_event g l.cpu e)
 event_rule a w g r l inside e quiet cause may = record {
   shaped = r.shaped;
   fixed = r.fixed;
@@ -108,14 +119,22 @@ event_rule a w g r l inside e quiet cause may = record {
 }
 
 -- a version that is used up at the lock has been paid for, and an element that isn't to be had may be taken
-shortage_cause : (a : About) (w : Place → ℕ) (g : Ghost) → Rule a w g → (l : Known) (k : Lock) → lane g.lanes l.cpu ≡ l → l.cpu < a.shape.cpus → k.map < length a.shape.maps → k.stamp / 256 ≤ a.version + gained (shape_at a k.map) + done_in k.map g.log
-    → (e : Event) → ShowsShortage a l k e → HasCause a.version (begun_in g.log g.lanes.fresh) (record { shape = a.shape; before = g.log; store = g.last; cpu = l.cpu }) e
-shortage_cause a w g r l k is inside in_map paid (Update m key bytes flags Busy) s = let d : gained (shape_at a m) + done_in m g.log ≡ gained (shape_at a k.map) + done_in k.map g.log = ap (λ (j : ℕ). gained (shape_at a j) + done_in j g.log) s.0 in let t = s.1 in omega arith
-shortage_cause a w g r l k is inside in_map paid (Update m key bytes flags NoMemory) s = lack_cause a w g r l m is inside (subst (λ (j : ℕ). j < length a.shape.maps) (sym s.0) in_map) s.1
-shortage_cause a w g r l k is inside in_map paid (Delete m key Busy) s = let d : gained (shape_at a m) + done_in m g.log ≡ gained (shape_at a k.map) + done_in k.map g.log = ap (λ (j : ℕ). gained (shape_at a j) + done_in j g.log) s.0 in let t = s.1 in omega arith
+shortage_cause : (a : About) (w : Place → ℕ) (g : Ghost) → Rule a w g → (l : Known) (k : Lock) → lane g.lanes l.cpu ≡ l → l.cpu <
+    a.shape.cpus → k.map < length a.shape.maps → k.stamp / 256 ≤ a.version + gained (shape_at a k.map) + done_in k.map g.log
+    → (e : Event) → ShowsShortage a l k e → HasCause a.version (begun_in g.log g.lanes.fresh)
+    (record { shape = a.shape; before = g.log; store = g.last; cpu = l.cpu }) e
+shortage_cause a w g r l k is inside in_map paid (Update m key bytes flags Busy) s =
+    let d : gained (shape_at a m) + done_in m g.log ≡ gained (shape_at a k.map) + done_in k.map g.log = ap
+    (λ (j : ℕ). gained (shape_at a j) + done_in j g.log) s.0 in let t = s.1 in omega arith
+shortage_cause a w g r l k is inside in_map paid (Update m key bytes flags NoMemory) s = lack_cause a w g r l m is inside
+    (subst (λ (j : ℕ). j < length a.shape.maps) (sym s.0) in_map) s.1
+shortage_cause a w g r l k is inside in_map paid (Delete m key Busy) s =
+    let d : gained (shape_at a m) + done_in m g.log ≡ gained (shape_at a k.map) + done_in k.map g.log = ap
+    (λ (j : ℕ). gained (shape_at a j) + done_in j g.log) s.0 in let t = s.1 in omega arith
 shortage_cause a w g r l k is inside in_map paid e s = tt
 
-pub unlock_answer : (a : About) (l : Known) (k : Lock) (e : Event) → AnswersUnderLock a l k e → Steps a l (Stamp k.map k.segment) (λ _. k.stamp) (λ ws n l'. Answered a l k e l')
+pub unlock_answer : (a : About) (l : Known) (k : Lock) (e : Event) → AnswersUnderLock a l k e → Steps a l (Stamp k.map k.segment)
+    (λ _. k.stamp) (λ ws n l'. Answered a l k e l')
 unlock_answer a l k e i ws g sized r is inside fits = record {
   ghost = unlocked a l2 k i.lock w g1 r1 is1 inside tt u.0 k.stamp;
   rule = u.1;
@@ -176,7 +195,8 @@ unlock_answer a l k e i ws g sized r is inside fits = record {
     after = rw (eq-eqb l.cpu l.cpu refl) (ap (λ (x : Known). record x { seen = log'; locks = [] }) is)
 
 -- ---- an answer under several locks, at the unlock of the one taken last
-module _ (a : About) (l : Known) (k : Lock) (rest : List Lock) (e : Event) (i : AnswersAll a l k rest e) (ws : List ℕ) (g : Ghost) (r : Rule a (mem a.shape ws) g) (is : lane g.lanes l.cpu ≡ l) (inside : l.cpu < a.shape.cpus) where
+module _ (a : About) (l : Known) (k : Lock) (rest : List Lock) (e : Event) (i : AnswersAll a l k rest e) (ws : List ℕ) (g : Ghost)
+    (r : Rule a (mem a.shape ws) g) (is : lane g.lanes l.cpu ≡ l) (inside : l.cpu < a.shape.cpus) where
   several_words : Place → ℕ
   several_words = mem a.shape ws
 
@@ -185,7 +205,8 @@ module _ (a : About) (l : Known) (k : Lock) (rest : List Lock) (e : Event) (i : 
 
   several_may : Allowed g.last l.cpu e g.last
   several_may = i.allowed g.last g.linked g.number (shape_is a (mem a.shape ws) g r l is inside) inside
-      (shares_of a g.depths l.cpu (words_by_place (mem a.shape ws)) (λ n t. mem a.shape ws (Stamp n t)) g.eras g.linked g.holder (k ∷ rest) (holds a l k i.lock (mem a.shape ws) g r is, rest_holds a l k i.lock (mem a.shape ws) g r is) i.clean) r.keyed.leads
+      (shares_of a g.depths l.cpu (words_by_place (mem a.shape ws)) (λ n t. mem a.shape ws (Stamp n t)) g.eras g.linked g.holder (k ∷ rest)
+      (holds a l k i.lock (mem a.shape ws) g r is, rest_holds a l k i.lock (mem a.shape ws) g r is) i.clean) r.keyed.leads
 
   abbrev several_log : List Entry
   several_log = g.log ++ entry l.cpu e ∷ []
@@ -194,7 +215,8 @@ module _ (a : About) (l : Known) (k : Lock) (rest : List Lock) (e : Event) (i : 
   several_lane = record l { seen = several_log }
 
   several_rule : Rule a (mem a.shape ws) (noted_event g l.cpu e)
-  several_rule = event_rule a (mem a.shape ws) g r l inside e i.quiet (i.uncaused (begun_in g.log g.lanes.fresh) (record { shape = a.shape; before = g.log; store = g.last; cpu = l.cpu })) several_may
+  several_rule = event_rule a (mem a.shape ws) g r l inside e i.quiet
+      (i.uncaused (begun_in g.log g.lanes.fresh) (record { shape = a.shape; before = g.log; store = g.last; cpu = l.cpu })) several_may
 
   several_is : lane (noted_event g l.cpu e).lanes l.cpu ≡ several_lane
   several_is = rw (eq-eqb l.cpu l.cpu refl) (ap (λ (x : Known). record x { seen = several_log }) is)
@@ -208,17 +230,21 @@ module _ (a : About) (l : Known) (k : Lock) (rest : List Lock) (e : Event) (i : 
         others = λ d ne. rw (ne_eqb d l.cpu ne) refl;
         longer = (entry l.cpu e ∷ [], refl);
         tally = refl;
-        says = subst (AnsweredAll a l rest e) (sym (after u.0)) (record { seen = saw a (mem a.shape ws) g r l is inside e g.last several_may several_rule.logged; after = refl });
+        says = subst (AnsweredAll a l rest e) (sym (after u.0)) (record
+            { seen = saw a (mem a.shape ws) g r l is inside e g.last several_may several_rule.logged; after = refl });
       }
     where
-      after : (y : Era) → lane (unlocked a several_lane k i.lock (mem a.shape ws) (noted_event g l.cpu e) several_rule several_is inside i.elsewhere y k.stamp).lanes l.cpu ≡ record l { seen = several_log; locks = rest }
+      after : (y : Era) → lane (unlocked a several_lane k i.lock (mem a.shape ws) (noted_event g l.cpu e) several_rule several_is inside
+          i.elsewhere y k.stamp).lanes l.cpu ≡ record l { seen = several_log; locks = rest }
       after y = rw (eq-eqb l.cpu l.cpu refl) (ap (λ (x : Known). record x { seen = several_log; locks = rest }) is)
 
-pub unlock_several : (a : About) (l : Known) (k : Lock) (rest : List Lock) (e : Event) → AnswersAll a l k rest e → Steps a l (Stamp k.map k.segment) (λ _. k.stamp) (λ ws n l'. AnsweredAll a l rest e l')
+pub unlock_several : (a : About) (l : Known) (k : Lock) (rest : List Lock) (e : Event) → AnswersAll a l k rest e → Steps a l
+    (Stamp k.map k.segment) (λ _. k.stamp) (λ ws n l'. AnsweredAll a l rest e l')
 unlock_several a l k rest e i ws g sized r is inside fits = several_next a l k rest e i ws g r is inside
 
 -- ---- a lookup under the lock
-pub unlock_lookup : (a : About) (l : Known) (k : Lock) (key : List ℕ) (o : Option ℕ) → LooksUpLocked a l k key o → Steps a l (Stamp k.map k.segment) (λ _. k.stamp) (λ ws n l'. LookedUp a l k key o l')
+pub unlock_lookup : (a : About) (l : Known) (k : Lock) (key : List ℕ) (o : Option ℕ) → LooksUpLocked a l k key o → Steps a l
+    (Stamp k.map k.segment) (λ _. k.stamp) (λ ws n l'. LookedUp a l k key o l')
 unlock_lookup a l k key o i ws g sized r is inside fits = record {
   ghost = unlocked a l2 k i.lock w g1 r1 is1 inside tt u.0 k.stamp;
   rule = u.1;
@@ -358,18 +384,22 @@ module _ (a : About) (l : Known) (k : Lock) (f : Fresh) (rest : List Fresh) (key
   keyed2 : Keyed a (λ j. w (KeyCount j)) last'.maps linked2 number2
   keyed2 = record {
     counted = λ n lt. ⊎_elim
-        (λ (t : n ≡ m). r.keyed.counted n lt ∙ (ap (λ j. len (g.last.maps j)) t ∙ (sym as_many ∙ ap (λ (y : KeyMap). len y) (sym (put-same g.last.maps m n (insert (g.last.maps m) key g.last.made) t)))))
+        (λ (t : n ≡ m). r.keyed.counted n lt ∙ (ap (λ j. len (g.last.maps j)) t ∙
+        (sym as_many ∙ ap (λ (y : KeyMap). len y) (sym (put-same g.last.maps m n (insert (g.last.maps m) key g.last.made) t)))))
         (λ (ne : n ≢ m). r.keyed.counted n lt ∙ ap (λ (y : KeyMap). len y) (sym (put-other g.last.maps m n (insert (g.last.maps m) key g.last.made) ne)))
         (cases_eq n m);
     leads = λ n q. ⊎_elim
         (λ (t : n ≡ m). ap (λ (y : KeyMap). get y q) (put-same g.last.maps m n (insert (g.last.maps m) key g.last.made) t) ∙ ⊎_elim
-        (λ (u : q ≡ key). ap (get (insert (g.last.maps m) key g.last.made)) u ∙ (leads_new (g.last.maps m) key g.last.made ∙ (ap Some (sym (put2-same g.number m e n e g.last.made t refl)) ∙ ap (numbered (number2 n)) (sym (linked_new n q t u)))))
+        (λ (u : q ≡ key). ap (get (insert (g.last.maps m) key g.last.made)) u ∙
+        (leads_new (g.last.maps m) key g.last.made ∙ (ap Some (sym (put2-same g.number m e n e g.last.made t refl)) ∙ ap
+        (numbered (number2 n)) (sym (linked_new n q t u)))))
         (λ (u : q ≢ key). ⊎_elim
         (λ (z : (q ≡ key) × (get (insert (g.last.maps m) key g.last.made) q ≡ Some g.last.made)). absurd (u z.0))
         (λ (z : get (insert (g.last.maps m) key g.last.made) q ≡ get (g.last.maps m) q). z)
         (insert_cases (g.last.maps m) key g.last.made q) ∙ (ap (λ j. get (g.last.maps j) q) (sym t) ∙ old_leads n q (λ _. u)))
         (equal_keys q key))
-        (λ (ne : n ≢ m). ap (λ (y : KeyMap). get y q) (put-other g.last.maps m n (insert (g.last.maps m) key g.last.made) ne) ∙ old_leads n q (λ t. absurd (ne t)))
+        (λ (ne : n ≢ m). ap (λ (y : KeyMap). get y q) (put-other g.last.maps m n (insert (g.last.maps m) key g.last.made) ne) ∙ old_leads n
+        q (λ t. absurd (ne t)))
         (cases_eq n m);
   }
     where
@@ -381,7 +411,8 @@ module _ (a : About) (l : Known) (k : Lock) (f : Fresh) (rest : List Fresh) (key
           go (Some v) z = refl
 
       old_leads : (n : ℕ) (q : List ℕ) → (n ≡ m → q ≢ key) → get (g.last.maps n) q ≡ numbered (number2 n) (linked2 n q)
-      old_leads n q ne = r.keyed.leads n q ∙ (sym (number_kept n (g.linked n q) (λ d eq u t. not_e n d q eq t u)) ∙ ap (numbered (number2 n)) (sym (linked_old n q ne)))
+      old_leads n q ne = r.keyed.leads n q ∙ (sym (number_kept n (g.linked n q) (λ d eq u t. not_e n d q eq t u)) ∙ ap
+          (numbered (number2 n)) (sym (linked_old n q ne)))
         where
           not_e : (n d : ℕ) (q : List ℕ) → g.linked n q ≡ Some d → n ≡ m → d ≢ e
           not_e n d q eq t u = let z : Within q ≡ Filling l.cpu = sym (r.linked.within n q d eq).1 ∙ ((λ j. g.holder (t j) (u j)) ∙ was_e) in cc
@@ -395,9 +426,11 @@ module _ (a : About) (l : Known) (k : Lock) (f : Fresh) (rest : List Fresh) (key
     owes = refl;
     keys = λ n t q b ne home. linked_old n q (λ u v. ne u (one_home a g.depths m s n t q h.inside b u (ap (home_by a m (g.depths m s)) v ∙ home_is) home));
     theirs = λ n t b d apart at_t ne mind. ⊎_elim
-        (λ (u : (n ≡ m) × (d ≡ e)). absurd (ne u.0 (one_home a g.depths m s n t key h.inside at_t u.0 home_is (subst (Minded (home_by a n (g.depths n t)) b t) (put2-same holder1 m e n d (Within key) u.0 u.1) mind))))
+        (λ (u : (n ≡ m) × (d ≡ e)). absurd (ne u.0 (one_home a g.depths m s n t key h.inside at_t u.0 home_is
+        (subst (Minded (home_by a n (g.depths n t)) b t) (put2-same holder1 m e n d (Within key) u.0 u.1) mind))))
         (λ (nu : n ≡ m → d ≢ e). let mind1 = subst (Minded (home_by a n (g.depths n t)) b t) (put2-other holder1 m e n d (Within key) nu) mind in ⊎_elim
-        (λ (u : (n ≡ m) × (d ≡ o)). absurd (apart (sym (subst (Minded (home_by a n (g.depths n t)) b t) (put2-same g.holder m o n d (Leaving l.cpu) u.0 u.1) mind1))))
+        (λ (u : (n ≡ m) × (d ≡ o)). absurd (apart (sym (subst (Minded (home_by a n (g.depths n t)) b t)
+        (put2-same g.holder m o n d (Leaving l.cpu) u.0 u.1) mind1))))
         (λ (no : n ≡ m → d ≢ o). subst (Minded (home_by a n (g.depths n t)) b t) (put2-other g.holder m o n d (Leaving l.cpu) no) mind1)
         (here_or m n o d))
         (here_or m n e d);
@@ -405,7 +438,8 @@ module _ (a : About) (l : Known) (k : Lock) (f : Fresh) (rest : List Fresh) (key
         (λ (u : d ≡ e). subst (Minded (lock_home a k) l.cpu s) (sym (ap (g.holder m) u ∙ was_e)) refl)
         (λ (nu : d ≢ e). ⊎_elim
         (λ (u : d ≡ o). subst (Minded (lock_home a k) l.cpu s) (sym (ap (g.holder m) u ∙ was_o)) i.filled.home)
-        (λ (no : d ≢ o). subst (Minded (lock_home a k) l.cpu s) (put2-other g.holder m o m d (Leaving l.cpu) (λ _. no)) (subst (Minded (lock_home a k) l.cpu s) (put2-other holder1 m e m d (Within key) (λ _. nu)) mind))
+        (λ (no : d ≢ o). subst (Minded (lock_home a k) l.cpu s) (put2-other g.holder m o m d (Leaving l.cpu) (λ _. no))
+        (subst (Minded (lock_home a k) l.cpu s) (put2-other holder1 m e m d (Within key) (λ _. nu)) mind))
         (cases_eq d o))
         (cases_eq d e);
     due = λ before same q home. ⊎_elim
@@ -424,7 +458,13 @@ module _ (a : About) (l : Known) (k : Lock) (f : Fresh) (rest : List Fresh) (key
   g' = record {
     log = log';
     last = last';
-    lanes = record g.lanes { seen = put g.lanes.seen l.cpu log'; fresh = put g.lanes.fresh l.cpu rest; limbo = limbo1; locks = put g.lanes.locks l.cpu (lock' ∷ []) };
+    lanes = record g.lanes {
+      seen = put g.lanes.seen l.cpu log';
+      fresh = put g.lanes.fresh l.cpu rest;
+      limbo = limbo1;
+      locks = put
+          g.lanes.locks l.cpu (lock' ∷ []);
+    };
     holder = holder2;
     number = number2;
     taker = g.taker;
@@ -443,7 +483,8 @@ module _ (a : About) (l : Known) (k : Lock) (f : Fresh) (rest : List Fresh) (key
       i.filled.size,
       (
         four _ _ _ _ (⊎_elim (λ (q : flags ≡ 0). grind (arith, nat_tests)) (λ (q : flags ≡ 2). grind (arith, nat_tests)) i.flags_known)
-            (ap (λ (b : Bool). b && is_some (get (g.last.maps m) key)) (ne_eqb flags 1 (λ (q : flags ≡ 1). ⊎_elim (λ (p : flags ≡ 0). omega arith) (λ (p : flags ≡ 2). omega arith) i.flags_known)))
+            (ap (λ (b : Bool). b && is_some (get (g.last.maps m) key))
+            (ne_eqb flags 1 (λ (q : flags ≡ 1). ⊎_elim (λ (p : flags ≡ 0). omega arith) (λ (p : flags ≡ 2). omega arith) i.flags_known)))
             (ap (λ (y : Option ℕ). (flags == 2) && not (is_some y)) get_some ∙ and_false (flags == 2))
             (ap (λ (y : Option ℕ). not (is_some y) && (len (g.last.maps m) == (shape_at a m).max)) get_some),
         (element_span m (shape_at a m) e, place_for a w g r l is inside m e l.cpu at_e was_e, refl),
@@ -451,9 +492,13 @@ module _ (a : About) (l : Known) (k : Lock) (f : Fresh) (rest : List Fresh) (key
     ),
   )
 
-  spelled_is : x ≡ record { bytes = take (shape_at a m).value (bytes_of_words (words_for (shape_at a m).value) (λ j. w (ValueWord m e j))); span = element_span m (shape_at a m) e }
+  spelled_is : x ≡ record {
+    bytes = take (shape_at a m).value (bytes_of_words (words_for (shape_at a m).value) (λ j. w (ValueWord m e j)));
+    span = element_span m (shape_at a m) e;
+  }
   spelled_is = ap (λ (b : List ℕ). record { bytes = b; span = element_span m (shape_at a m) e })
-      (sym (value_spelled a w f rest m bytes (g.lanes.fresh l.cpu) hand (r.filled l.cpu inside) i.filled.map i.filled.filled i.filled.value i.filled.size i.filled.are_bytes))
+      (sym (value_spelled a w f rest m bytes (g.lanes.fresh l.cpu) hand (r.filled l.cpu inside) i.filled.map i.filled.filled i.filled.value
+      i.filled.size i.filled.are_bytes))
 
   updates : is_update f.map event ≡ true
   updates = eq-eqb m f.map (sym i.filled.map)
@@ -476,19 +521,31 @@ module _ (a : About) (l : Known) (k : Lock) (f : Fresh) (rest : List Fresh) (key
     locking = effect_locking a l k i.filled.lock w g r is i.filled.nothing (Puts key e) linked2 holder2 effect;
     reading = effect_reading a l k i.filled.lock w g r is i.filled.nothing (Puts key e) linked2 holder2 effect;
     held = effect_held a l k i.filled.lock w g r is i.filled.nothing (Puts key e) linked2 holder2 effect inside;
-    fixed = fixed_later a r.shaped (λ b k. w (FixedWord b k)) g.last.value g.last.made x (subst (λ h. fixed_count h ≤ g.last.made) (shape_is a w g r l is inside) (sound a w g r).fixed.made) r.fixed;
+    fixed = fixed_later a r.shaped (λ b k. w (FixedWord b k)) g.last.value g.last.made x
+        (subst (λ h. fixed_count h ≤ g.last.made) (shape_is a w g r l is inside) (sound a w g r).fixed.made) r.fixed;
     valued = valued_comes a l.cpu m e s key holder1 was1 _ g.last.made g.last.value g.last.held g.number x
         (valued_goes a l.cpu m o s key g.holder was_o _ g.last.made g.last.value g.last.held g.number r.valued) spelled_is;
-    shown = shown_step a g.log log' g.last last' g.lanes.fresh (put g.lanes.fresh l.cpu rest) g.lanes.tally g.holder holder2 g.taker (begun_answer g.log g.lanes.fresh l.cpu f rest event hand updates)
-        (causes_on a g.log g.last last' g.lanes.fresh (put g.lanes.fresh l.cpu rest) l.cpu event (begun_answer g.log g.lanes.fresh l.cpu f rest event hand updates) r.logged.legal may r.shown.causes tt)
-        (λ d p. ⊎_elim (λ (none : g.lanes.fresh d ≡ []). inl (empty_still g.lanes.fresh l.cpu f rest rest hand d none)) (λ (run : in_run (events_of d g.log) ≡ true). inr (run_quiet l.cpu d event g.log refl run)) p)
+    shown = shown_step a g.log log' g.last last' g.lanes.fresh (put g.lanes.fresh l.cpu rest) g.lanes.tally g.holder holder2 g.taker
+        (begun_answer g.log g.lanes.fresh l.cpu f rest event hand updates)
+        (causes_on a g.log g.last last' g.lanes.fresh (put g.lanes.fresh l.cpu rest) l.cpu event
+        (begun_answer g.log g.lanes.fresh l.cpu f rest event hand updates) r.logged.legal may r.shown.causes tt)
+        (λ d p. ⊎_elim (λ (none : g.lanes.fresh d ≡ []). inl (empty_still g.lanes.fresh l.cpu f rest rest hand d none))
+        (λ (run : in_run (events_of d g.log) ≡ true). inr (run_quiet l.cpu d event g.log refl run)) p)
         (had_update g.last m key x)
         (λ n d. (
-          (λ now. (settles_put g.holder m o (Leaving l.cpu) (λ _ free. let z : Within key ≡ Free = sym was_o ∙ free in cc) (λ c q. cc) n d).0 ((settles_put holder1 m e (Within key) (λ _ free. let z : Filling l.cpu ≡ Free = sym was1 ∙ free in cc) (λ c q. cc) n d).0 now)),
-          (λ c is. (settles_put g.holder m o (Leaving l.cpu) (λ _ free. let z : Within key ≡ Free = sym was_o ∙ free in cc) (λ c q. cc) n d).1 c ((settles_put holder1 m e (Within key) (λ _ free. let z : Filling l.cpu ≡ Free = sym was1 ∙ free in cc) (λ c q. cc) n d).1 c is)),
+          (λ now. (settles_put g.holder m o (Leaving l.cpu) (λ _ free. let z : Within key ≡ Free = sym was_o ∙ free in cc) (λ c q. cc) n
+              d).0 ((settles_put holder1 m e (Within key) (λ _ free. let z : Filling l.cpu ≡ Free = sym was1 ∙ free in cc) (λ c q. cc) n d).0 now)),
+          (λ c is. (settles_put g.holder m o (Leaving l.cpu) (λ _ free. let z : Within key ≡ Free = sym was_o ∙ free in cc) (λ c q. cc) n
+              d).1 c ((settles_put holder1 m e (Within key) (λ _ free. let z : Filling l.cpu ≡ Free = sym was1 ∙ free in cc) (λ c q. cc) n
+              d).1 c is)),
         ))
         (λ b n d inb at has. ⊎_elim
-        (λ (h : (n ≡ f.map) × (d ≡ f.element)). inl (subst (HasHadValue last') (λ j. element_span ((sym i.filled.map ∙ sym h.0) j) (shape_at a ((sym i.filled.map ∙ sym h.0) j)) (sym h.1 j)) (new_update g.last m key x), hand_held a w g r b n d inb at has))
+        (λ (h : (n ≡ f.map) × (d ≡ f.element)). inl (
+          subst (HasHadValue last')
+              (λ j. element_span ((sym i.filled.map ∙ sym h.0) j) (shape_at a ((sym i.filled.map ∙ sym h.0) j)) (sym h.1 j))
+              (new_update g.last m key x),
+          hand_held a w g r b n d inb at has,
+        ))
         (λ (h : 1 ≤ times_fresh n d (put g.lanes.fresh l.cpu rest b)). inr h)
         (hand_rest g.lanes.fresh l.cpu f rest hand b n d has)) r.shown;
   }
@@ -497,7 +554,8 @@ module _ (a : About) (l : Known) (k : Lock) (f : Fresh) (rest : List Fresh) (key
   l2 = record l { seen = log'; fresh = rest; limbo = with_gone l m o; locks = lock' ∷ [] }
 
   is2 : lane g'.lanes l.cpu ≡ l2
-  is2 = rw (eq-eqb l.cpu l.cpu refl) (ap (λ (y : Known). record y { seen = log'; fresh = rest; limbo = set y.limbo m (with_used (limbo_at y.limbo m) o); locks = lock' ∷ [] }) is)
+  is2 = rw (eq-eqb l.cpu l.cpu refl) (ap (λ (y : Known). record y
+      { seen = log'; fresh = rest; limbo = set y.limbo m (with_used (limbo_at y.limbo m) o); locks = lock' ∷ [] }) is)
 
   pub swap_next : Next a (put_at w (Stamp m s) (k.stamp + 256)) g l.cpu (Replaced a l k rest key bytes flags o)
   swap_next =
@@ -508,12 +566,16 @@ module _ (a : About) (l : Known) (k : Lock) (f : Fresh) (rest : List Fresh) (key
         others = λ d ne. rw (ne_eqb d l.cpu ne) refl;
         longer = (entry l.cpu event ∷ [], refl);
         tally = refl;
-        says = subst (Replaced a l k rest key bytes flags o) (sym (after u.0)) (record { seen = saw a w g r l is inside event last' may swap_rule.logged; after = refl });
+        says = subst (Replaced a l k rest key bytes flags o) (sym (after u.0))
+            (record { seen = saw a w g r l is inside event last' may swap_rule.logged; after = refl });
       }
     where
-      after : (y : Era) → lane (unlocked a l2 lock' refl w g' swap_rule is2 inside tt y (k.stamp + 256)).lanes l.cpu ≡ record l { seen = log'; fresh = rest; limbo = with_gone l m o; locks = [] }
-      after y = rw (eq-eqb l.cpu l.cpu refl) (ap (λ (z : Known). record z { seen = log'; fresh = rest; limbo = set z.limbo m (with_used (limbo_at z.limbo m) o); locks = [] }) is)
+      after : (y : Era) → lane (unlocked a l2 lock' refl w g' swap_rule is2 inside tt y (k.stamp + 256)).lanes l.cpu ≡ record l
+          { seen = log'; fresh = rest; limbo = with_gone l m o; locks = [] }
+      after y = rw (eq-eqb l.cpu l.cpu refl) (ap (λ (z : Known). record z
+          { seen = log'; fresh = rest; limbo = set z.limbo m (with_used (limbo_at z.limbo m) o); locks = [] }) is)
 
-pub unlock_replaced : (a : About) (l : Known) (k : Lock) (f : Fresh) (rest : List Fresh) (key bytes : List ℕ) (flags o : ℕ) → Replaces a l k f rest key bytes flags o
+pub unlock_replaced : (a : About) (l : Known) (k : Lock) (f : Fresh) (rest : List Fresh) (key bytes : List ℕ) (flags o : ℕ) → Replaces a l k
+    f rest key bytes flags o
     → Steps a l (Stamp k.map k.segment) (λ _. k.stamp + 256) (λ ws n l'. Replaced a l k rest key bytes flags o l')
 unlock_replaced a l k f rest key bytes flags o i ws g sized r is inside fits = swap_next a l k f rest key bytes flags o i (mem a.shape ws) g r is inside

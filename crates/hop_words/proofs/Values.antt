@@ -1,5 +1,6 @@
 -- Words of held values: what lies in one, and each step that changes some bytes of one.
-use Rattle.std.proofs.Common.{◌≡◌, ◌≢◌, ℕ, zero, suc, ◌+◌, ◌-◌, ◌*◌, ◌/◌, ◌<◌, ◌≤◌, true, ◌&&◌, List, [], ◌∷◌, ◌++◌, ◌==◌, length, take, refl, ap, sym, subst, ◌∙◌, arith, eq-eqb, ne_eqb, ⊎_elim, inl}
+use Rattle.std.proofs.Common.{◌≡◌, ◌≢◌, ℕ, zero, suc, ◌+◌, ◌-◌, ◌*◌, ◌/◌, ◌<◌, ◌≤◌, true, ◌&&◌, List, [], ◌∷◌, ◌++◌, ◌==◌, length, take}
+use Rattle.std.proofs.Common.{refl, ap, sym, subst, ◌∙◌, arith, eq-eqb, ne_eqb, ⊎_elim, inl}
 use prog.Atomic.{either}
 use Rattle.bpf_shared.specs.declared.events.Event.{Event}
 use Rattle.bpf_shared.specs.declared.events.Event.TheVariants.{Load, Store, Atomic}
@@ -51,7 +52,8 @@ length-low : (n x : ℕ) → length (low_bytes n x) ≡ n
 length-low zero x = refl
 length-low (suc n) x = ap suc (length-low n (x / 256))
 
-module _ (a : About) (l : Known) (m e k o b : ℕ) (i : TouchesHeldValue a l m e k o b) (w : Place → ℕ) (g : Ghost) (r : Rule a w g) (is : lane g.lanes l.cpu ≡ l) (inside : l.cpu < a.shape.cpus) where
+module _ (a : About) (l : Known) (m e k o b : ℕ) (i : TouchesHeldValue a l m e k o b) (w : Place → ℕ) (g : Ghost) (r : Rule a w g)
+    (is : lane g.lanes l.cpu ≡ l) (inside : l.cpu < a.shape.cpus) where
   own : events_of l.cpu l.seen ≡ events_of l.cpu g.log
   own = ap (events_of l.cpu) (sym (ap (λ (x : Known). x.seen) is)) ∙ r.logged.own l.cpu inside
 
@@ -64,13 +66,19 @@ module _ (a : About) (l : Known) (m e k o b : ℕ) (i : TouchesHeldValue a l m e
   lies_here =
       let k = r.valued.held_in l.cpu held.0 held.1 in
       let spans = ap (λ (x : Value). x.span) (sym (r.valued.lies k.0 k.1 k.2 k.3)) ∙ (ap (λ (n : ℕ). (g.last.value n).span) k.4 ∙ held.2) in
-      let one = span_once a w g r m e k.0 k.1 i.element k.2 spans in
-      (subst (λ (n : ℕ). Carries (g.holder n e)) one.0 (subst (λ (d : ℕ). Carries (g.holder k.0 d)) one.1 k.3), (λ j. g.number (sym one.0 j) (sym one.1 j)) ∙ k.4)
+      let one = span_once a w g r m e k.0 k.1 i.element k.2 spans in (
+        subst (λ (n : ℕ). Carries (g.holder n e)) one.0 (subst (λ (d : ℕ). Carries (g.holder k.0 d)) one.1 k.3),
+        (λ j. g.number (sym one.0 j) (sym one.1 j)) ∙ k.4,
+      )
 
   abbrev v : ℕ
   v = g.number m e
 
-  value_is : g.last.value v ≡ record { bytes = take (shape_at a m).value (bytes_of_words (words_for (shape_at a m).value) (λ j. w (ValueWord m e j))); span = element_span m (shape_at a m) e }
+  value_is : g.last.value v ≡ record {
+    bytes = take (shape_at a m).value
+        (bytes_of_words (words_for (shape_at a m).value) (λ j. w (ValueWord m e j)));
+    span = element_span m (shape_at a m) e;
+  }
   value_is = r.valued.lies m e i.element lies_here.0
 
   span_is : (g.last.value v).span ≡ element_span m (shape_at a m) e
@@ -104,7 +112,8 @@ module _ (a : About) (l : Known) (m e k o b : ℕ) (i : TouchesHeldValue a l m e
     words_else : (n d : ℕ) → (n ≡ m → d ≢ e) → (let f : ℕ → ℕ = λ j. w2 (ValueWord n d j) in let h : ℕ → ℕ = λ j. w (ValueWord n d j) in f ≡ h)
     words_else n d ne = λ t j. put_else w (ValueWord m e k) (ValueWord n d j) x (λ q. ne (ap map_of q) (ap element_of q)) t
 
-    bytes_now : with_part (g.last.value v).bytes (value_address a m e k o - (g.last.value v).span.at) (low_bytes b y) ≡ take (shape_at a m).value (bytes_of_words (words_for (shape_at a m).value) (λ j. w2 (ValueWord m e j)))
+    bytes_now : with_part (g.last.value v).bytes (value_address a m e k o - (g.last.value v).span.at) (low_bytes b y) ≡ take
+        (shape_at a m).value (bytes_of_words (words_for (shape_at a m).value) (λ j. w2 (ValueWord m e j)))
     bytes_now =
         ap (λ (n : ℕ). with_part (g.last.value v).bytes n (low_bytes b y)) offset_is
         ∙ (ap (λ (z : Value). with_part z.bytes (8 * k + o) (low_bytes b y)) value_is
@@ -116,15 +125,24 @@ module _ (a : About) (l : Known) (m e k o b : ℕ) (i : TouchesHeldValue a l m e
     valued2 = record {
       lies = λ n d at_d has. ⊎_elim
           (λ (h : (n ≡ m) × (d ≡ e)). subst (λ (z : ℕ). lying z d) (sym h.0) (subst (lying m) (sym h.1) lies_now))
-          (λ (ne : n ≡ m → d ≢ e). put-other g.last.value v (g.number n d) _ (λ q. let one = number_once a w g r m e n d i.element at_d lies_here.0 has q in ne one.0 one.1)
-          ∙ (r.valued.lies n d at_d has ∙ ap (λ (f : ℕ → ℕ). record { bytes = take (shape_at a n).value (bytes_of_words (words_for (shape_at a n).value) f); span = element_span n (shape_at a n) d }) (sym (words_else n d ne))))
+          (λ (ne : n ≡ m → d ≢ e). put-other g.last.value v (g.number n d) _
+          (λ q. let one = number_once a w g r m e n d i.element at_d lies_here.0 has q in ne one.0 one.1)
+          ∙ (r.valued.lies n d at_d has ∙ ap (λ (f : ℕ → ℕ). record {
+            bytes = take (shape_at a n).value (bytes_of_words (words_for (shape_at a n).value) f);
+            span = element_span n (shape_at a n)
+                d;
+          }) (sym (words_else n d ne))))
           (here_or m n e d);
       older = r.valued.older;
       held_in = r.valued.held_in;
     }
       where
         lying : ℕ → ℕ → Type 0
-        lying n d = last2.value (g.number n d) ≡ record { bytes = take (shape_at a n).value (bytes_of_words (words_for (shape_at a n).value) (λ j. w2 (ValueWord n d j))); span = element_span n (shape_at a n) d }
+        lying n d = last2.value (g.number n d) ≡ record {
+          bytes = take (shape_at a n).value
+              (bytes_of_words (words_for (shape_at a n).value) (λ j. w2 (ValueWord n d j)));
+          span = element_span n (shape_at a n) d;
+        }
 
         lies_now : lying m e
         lies_now = put-same g.last.value v v _ refl ∙ (λ j. record { bytes = bytes_now j; span = span_is j })
@@ -150,15 +168,24 @@ module _ (a : About) (l : Known) (m e k o b : ℕ) (i : TouchesHeldValue a l m e
         )
           where
             here : 1 ≤ times_fresh f.map f.element (f ∷ fs)
-            here = let z : one_if ((f.map == f.map) && (f.element == f.element)) ≡ 1 = rw (eq-eqb f.map f.map refl, eq-eqb f.element f.element refl) refl in omega arith
+            here = let z : one_if ((f.map == f.map) && (f.element == f.element)) ≡ 1 = rw (eq-eqb f.map f.map refl, eq-eqb f.element f.element refl) refl in
+                omega arith
 
     abbrev g2 : Event → Ghost
-    g2 ev = record g { log = g.log ++ entry l.cpu ev ∷ []; last = last2; lanes = record g.lanes { seen = put g.lanes.seen l.cpu (g.log ++ entry l.cpu ev ∷ []) } }
+    g2 ev = record g {
+      log = g.log ++ entry l.cpu ev ∷ [];
+      last = last2;
+      lanes = record g.lanes
+          { seen = put g.lanes.seen l.cpu (g.log ++ entry l.cpu ev ∷ []) };
+    }
 
-    write_rule : (ev : Event) → turns_of (ev ∷ []) ≡ 0 → HasCause a.version (begun_in g.log g.lanes.fresh) (record { shape = a.shape; before = g.log; store = g.last; cpu = l.cpu }) ev → Allowed g.last l.cpu ev last2 → Rule a w2 (g2 ev)
+    write_rule : (ev : Event) → turns_of (ev ∷ []) ≡ 0 → HasCause a.version (begun_in g.log g.lanes.fresh)
+        (record { shape = a.shape; before = g.log; store = g.last; cpu = l.cpu }) ev → Allowed g.last l.cpu ev last2 → Rule a w2 (g2 ev)
     write_rule ev quiet cause may = record {
       shaped = r.shaped;
-      fixed = fixed_later a r.shaped (λ b k. w (FixedWord b k)) g.last.value v _ (subst (λ h. fixed_count h ≤ v) (shape_is a w g r l is inside) (held_later g.last (sound a w g r) l.cpu v (ap (g.last.held l.cpu) lies_here.1 ∙ held.1))) r.fixed;
+      fixed = fixed_later a r.shaped (λ b k. w (FixedWord b k)) g.last.value v _
+          (subst (λ h. fixed_count h ≤ v) (shape_is a w g r l is inside)
+          (held_later g.last (sound a w g r) l.cpu v (ap (g.last.held l.cpu) lies_here.1 ∙ held.1))) r.fixed;
       deep = r.deep;
       logged = logged_event a g.lanes.seen g.log g.last last2 l.cpu ev r.logged inside may;
       keyed = r.keyed;
@@ -173,10 +200,13 @@ module _ (a : About) (l : Known) (m e k o b : ℕ) (i : TouchesHeldValue a l m e
       reading = r.reading;
       held = r.held;
       valued = valued2;
-      shown = shown_more a g.log l.cpu ev g.last last2 g.lanes.fresh g.lanes.tally g.holder g.taker quiet r.logged.legal may cause (had_write g.last v (value_address a m e k o) b y) r.shown;
+      shown = shown_more a g.log l.cpu ev g.last last2 g.lanes.fresh g.lanes.tally g.holder g.taker quiet r.logged.legal may cause
+          (had_write g.last v (value_address a m e k o) b y) r.shown;
     }
 
-    pub write_next : (ev : Event) → turns_of (ev ∷ []) ≡ 0 → HasCause a.version (begun_in g.log g.lanes.fresh) (record { shape = a.shape; before = g.log; store = g.last; cpu = l.cpu }) ev → Allowed g.last l.cpu ev last2 → Next a w2 g l.cpu (AddsEvent a l ev)
+    pub write_next : (ev : Event) → turns_of (ev ∷ []) ≡ 0 → HasCause a.version (begun_in g.log g.lanes.fresh)
+        (record { shape = a.shape; before = g.log; store = g.last; cpu = l.cpu }) ev → Allowed g.last l.cpu ev last2 → Next a w2 g l.cpu
+        (AddsEvent a l ev)
     write_next ev quiet cause may = record {
       ghost = g2 ev;
       rule = write_rule ev quiet cause may;
@@ -205,7 +235,8 @@ module _ (a : About) (l : Known) (m e k o : ℕ) (sz : Size) (i : TouchesHeldVal
   pub value_load : Steps a l (ValueWord m e k) (λ n. n) (λ ws n l'. AddsEvent a l (Load (value_address a m e k o) sz (number_in_word n o (bytes_in sz))) l')
   value_load = word_load a l (ValueWord m e k) (value_address a m e k o) o sz (λ w g r is inside. lies a l m e k o (bytes_in sz) i w g r is inside)
 
-  all : (w : Place → ℕ) (g : Ghost) → Rule a w g → lane g.lanes l.cpu ≡ l → l.cpu < a.shape.cpus → MayLeave a l (ValueWord m e k) (value_address a m e k o) o (bytes_in sz) w g
+  all : (w : Place → ℕ) (g : Ghost) → Rule a w g → lane g.lanes l.cpu ≡ l → l.cpu < a.shape.cpus → MayLeave a l (ValueWord m e k)
+      (value_address a m e k o) o (bytes_in sz) w g
   all w g r is inside = may_leave a l m e k o (bytes_in sz) i w g r is inside
 
   -- a store of a whole word
@@ -215,17 +246,23 @@ module _ (a : About) (l : Known) (m e k o : ℕ) (sz : Size) (i : TouchesHeldVal
 
   -- a compare-exchange of the whole word, by which some of its bytes are stored
   pub value_store_part : (old x y : ℕ) → low_bytes 8 x ≡ with_part (low_bytes 8 old) o (low_bytes (bytes_in sz) y)
-      → Steps a l (ValueWord m e k) (λ n. either (n == old) x n) (λ ws n l'. (n ≡ old → AddsEvent a l (Store (value_address a m e k o) sz y) l') × (n ≢ old → l' ≡ l))
+      → Steps a l (ValueWord m e k) (λ n. either (n == old) x n)
+      (λ ws n l'. (n ≡ old → AddsEvent a l (Store (value_address a m e k o) sz y) l') × (n ≢ old → l' ≡ l))
   value_store_part old x y splices = word_store_part a l (ValueWord m e k) (value_address a m e k o) o sz all old x y splices
 
   -- the same for an atomic operation
   pub value_atomic_part : (op : Change) (operand expected old x : ℕ)
-      → low_bytes 8 x ≡ with_part (low_bytes 8 old) o (low_bytes (bytes_in sz) (number_after op (bytes_in sz) (number_in_word old o (bytes_in sz)) operand expected))
-      → Steps a l (ValueWord m e k) (λ n. either (n == old) x n) (λ ws n l'. (n ≡ old → AddsEvent a l (Atomic (value_address a m e k o) sz op operand expected (number_in_word old o (bytes_in sz))) l') × (n ≢ old → l' ≡ l))
-  value_atomic_part op operand expected old x splices = word_atomic_part a l (ValueWord m e k) (value_address a m e k o) o sz all op operand expected old x splices
+      → low_bytes 8 x ≡ with_part (low_bytes 8 old) o (low_bytes (bytes_in sz)
+      (number_after op (bytes_in sz) (number_in_word old o (bytes_in sz)) operand expected))
+      → Steps a l (ValueWord m e k) (λ n. either (n == old) x n)
+      (λ ws n l'. (n ≡ old → AddsEvent a l (Atomic (value_address a m e k o) sz op operand expected
+      (number_in_word old o (bytes_in sz))) l') × (n ≢ old → l' ≡ l))
+  value_atomic_part op operand expected old x splices = word_atomic_part a l (ValueWord m e k) (value_address a m e k o) o sz all op operand
+      expected old x splices
 
   -- a fetch operation or a swap on a whole word
   pub value_fetch : (op : Change) (operand expected : ℕ) (f : ℕ → ℕ)
-      → ((n : ℕ) → n < 18446744073709551616 → low_bytes 8 (f n) ≡ with_part (low_bytes 8 n) o (low_bytes (bytes_in sz) (number_after op (bytes_in sz) (number_in_word n o (bytes_in sz)) operand expected)))
+      → ((n : ℕ) → n < 18446744073709551616 → low_bytes 8 (f n) ≡ with_part (low_bytes 8 n) o
+      (low_bytes (bytes_in sz) (number_after op (bytes_in sz) (number_in_word n o (bytes_in sz)) operand expected)))
       → Steps a l (ValueWord m e k) f (λ ws n l'. AddsEvent a l (Atomic (value_address a m e k o) sz op operand expected (number_in_word n o (bytes_in sz))) l')
   value_fetch op operand expected f splices = word_fetch a l (ValueWord m e k) (value_address a m e k o) o sz all op operand expected f splices

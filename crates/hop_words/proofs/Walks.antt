@@ -68,13 +68,15 @@ module _ (home level : ℕ) where
       omega arith
 
 -- a depth that isn't above the next bit: the home is the segment's own
-pub stays_here : (home level depth segment : ℕ) → home % power level ≡ segment → segment < power depth → 0 < home / 2 ^ level → home / 2 ^ level < 2 ^ 32 → depth ≤ level + trailing_zeros w32 (home / 2 ^ level) → home % power depth ≡ segment
+pub stays_here : (home level depth segment : ℕ) → home % power level ≡ segment → segment < power depth → 0 < home / 2 ^ level → home / 2 ^
+    level < 2 ^ 32 → depth ≤ level + trailing_zeros w32 (home / 2 ^ level) → home % power depth ≡ segment
 stays_here home level depth segment low room some fits le =
     let a = same_above home level some fits in
     let p = power_is level in
     let q = power_is (level + trailing_zeros w32 (home / 2 ^ level)) in
     let m = mod_low home depth (level + trailing_zeros w32 (home / 2 ^ level)) le in
-    let h : home % power (level + trailing_zeros w32 (home / 2 ^ level)) ≡ segment = ap (λ (i : ℕ). home % i) q ∙ (a ∙ (ap (λ (i : ℕ). home % i) (sym p) ∙ low)) in
+    let h : home % power (level + trailing_zeros w32 (home / 2 ^ level)) ≡ segment = ap (λ (i : ℕ). home % i) q ∙
+    (a ∙ (ap (λ (i : ℕ). home % i) (sym p) ∙ low)) in
     sym m ∙ (ap (λ (i : ℕ). i % power depth) h ∙ mod_small segment (power depth) room)
 
 -- no bit above the level
@@ -87,9 +89,14 @@ stays_whole home level depth segment low room none =
     let e : home ≡ segment = omega arith in
     ap (λ (i : ℕ). i % power depth) e ∙ mod_small segment (power depth) room
 
-pub goes_on : (home : ℕ) (way next : Way) (depth : ℕ) → IsOnWay home way → 0 < home / 2 ^ way.level → home / 2 ^ way.level < 2 ^ 32 → way.level + trailing_zeros w32 (home / 2 ^ way.level) < depth
-    → next.level ≡ way.level + trailing_zeros w32 (home / 2 ^ way.level) + 1 → next.segment ≡ way.segment + 2 ^ (way.level + trailing_zeros w32 (home / 2 ^ way.level)) → IsOnWay home next × IsNextSegment way depth next
-goes_on home way next depth on some fits less lev seg = ((small, here), (u, lev, less, omega arith, below, seg ∙ ap (λ (i : ℕ). way.segment + i) (sym (power_is u))))
+pub goes_on : (home : ℕ) (way next : Way) (depth : ℕ) → IsOnWay home way → 0 < home / 2 ^ way.level → home / 2 ^ way.level < 2 ^ 32 →
+    way.level + trailing_zeros w32 (home / 2 ^ way.level) < depth
+    → next.level ≡ way.level + trailing_zeros w32 (home / 2 ^ way.level) + 1 → next.segment ≡ way.segment + 2 ^
+    (way.level + trailing_zeros w32 (home / 2 ^ way.level)) → IsOnWay home next × IsNextSegment way depth next
+goes_on home way next depth on some fits less lev seg = (
+  (small, here),
+  (u, lev, less, omega arith, below, seg ∙ ap (λ (i : ℕ). way.segment + i) (sym (power_is u))),
+)
   where
     u : ℕ
     u = way.level + trailing_zeros w32 (home / 2 ^ way.level)
@@ -118,8 +125,11 @@ pub quotient_fits : (home level : ℕ) → home < 2 ^ 32 → home / 2 ^ level < 
 quotient_fits home level fits = let l : home / 2 ^ level ≤ home = div-le_self home (2 ^ level) in omega arith
 
 -- the code's sum is the next segment
-pub bit_fits : (home : ℕ) (way : Way) (depth : ℕ) → IsOnWay home way → 0 < home / 2 ^ way.level → home / 2 ^ way.level < 2 ^ 32 → depth ≤ 10 → way.level + trailing_zeros w32 (home / 2 ^ way.level) < depth
-    → (1 * 2 ^ (way.level + trailing_zeros w32 (home / 2 ^ way.level)) % 4294967296 ≡ 2 ^ (way.level + trailing_zeros w32 (home / 2 ^ way.level))) × (way.segment < 1024) × (2 ^ (way.level + trailing_zeros w32 (home / 2 ^ way.level)) ≤ 1024)
+pub bit_fits : (home : ℕ) (way : Way) (depth : ℕ) → IsOnWay home way → 0 < home / 2 ^ way.level → home / 2 ^ way.level < 2 ^ 32 → depth ≤ 10
+    → way.level + trailing_zeros w32 (home / 2 ^ way.level) < depth
+    → (1 * 2 ^ (way.level + trailing_zeros w32 (home / 2 ^ way.level)) % 4294967296 ≡ 2 ^
+    (way.level + trailing_zeros w32 (home / 2 ^ way.level))) × (way.segment < 1024) ×
+    (2 ^ (way.level + trailing_zeros w32 (home / 2 ^ way.level)) ≤ 1024)
 bit_fits home way depth on some fits few less =
     let u : ℕ = way.level + trailing_zeros w32 (home / 2 ^ way.level) in
     let p = low_power u (omega arith) in
@@ -135,4 +145,5 @@ first_born a m s l small = go (shape_at a m).grow refl
   where
     go : (x : Bool) → (shape_at a m).grow ≡ x → KnowsBorn a l m s
     go true e = First (let z : power (first_depth (shape_at a m)) ≡ 1 = ap (λ (y : Bool). power (if y then 0 else depth (shape_at a m))) e in omega arith)
-    go false e = Whole e (let z : power (first_depth (shape_at a m)) ≡ power (depth (shape_at a m)) = ap (λ (y : Bool). power (if y then 0 else depth (shape_at a m))) e in omega arith)
+    go false e = Whole e (let z : power (first_depth (shape_at a m)) ≡ power (depth (shape_at a m)) = ap (λ (y : Bool). power (if y then 0 else depth (shape_at a m))) e in
+        omega arith)

@@ -62,11 +62,14 @@ module _ (a : About) (l : Known) (p : Place) (address o : ℕ) (sz : Size) where
         others = λ d ne. rw (ne_eqb d l.cpu ne) refl;
         longer = (entry l.cpu ev ∷ [], refl);
         tally = refl;
-        says = subst (AddsEvent a l ev) (sym (rw (eq-eqb l.cpu l.cpu refl) (ap (λ (z : Known). record z { seen = g.log ++ entry l.cpu ev ∷ [] }) is))) (record { seen = saw a w g r l is inside ev g.last may rule.logged; after = refl });
+        says = subst (AddsEvent a l ev) (sym (rw (eq-eqb l.cpu l.cpu refl)
+            (ap (λ (z : Known). record z { seen = g.log ++ entry l.cpu ev ∷ [] }) is)))
+            (record { seen = saw a w g r l is inside ev g.last may rule.logged; after = refl });
       }
 
   module _ (all : Always (MayLeave a l p address o b)) where
-    may_store : (w : Place → ℕ) (g : Ghost) (t : MayLeave a l p address o b w g) (y : ℕ) → Allowed g.last l.cpu (Store address sz y) (after_write g.last t.lies.number address b y)
+    may_store : (w : Place → ℕ) (g : Ghost) (t : MayLeave a l p address o b w g) (y : ℕ) → Allowed g.last l.cpu (Store address sz y)
+        (after_write g.last t.lies.number address b y)
     may_store w g t y = (t.lies.runs, (t.lies.number, record { reaches = t.lies.reaches; writable = t.writable }, refl))
 
     may_atomic : (w : Place → ℕ) (g : Ghost) (t : MayLeave a l p address o b w g) (op : Change) (operand expected : ℕ) → (let f = number_in_word (w p) o b in
@@ -74,7 +77,8 @@ module _ (a : About) (l : Known) (p : Place) (address o : ℕ) (sz : Size) where
     may_atomic w g t op operand expected = (t.lies.runs, (t.lies.number, record { reaches = t.lies.reaches; writable = t.writable }, t.lies.found, refl))
 
     -- a store of a whole word
-    pub word_store : (x y : ℕ) → ((n : ℕ) → low_bytes 8 x ≡ with_part (low_bytes 8 n) o (low_bytes b y)) → Steps a l p (λ _. x) (λ ws n l'. AddsEvent a l (Store address sz y) l')
+    pub word_store : (x y : ℕ) → ((n : ℕ) → low_bytes 8 x ≡ with_part (low_bytes 8 n) o (low_bytes b y)) → Steps a l p (λ _. x)
+        (λ ws n l'. AddsEvent a l (Store address sz y) l')
     word_store x y splices ws g sized r is inside fits =
         let w = mem a.shape ws in
         let t = all w g r is inside in
@@ -87,27 +91,36 @@ module _ (a : About) (l : Known) (p : Place) (address o : ℕ) (sz : Size) where
         let w = mem a.shape ws in
         let t = all w g r is inside in
         exchanged (w p) old x (λ n. Next a (put_at w p n) g l.cpu (λ l'. (w p ≡ old → AddsEvent a l (Store address sz y) l') × (w p ≢ old → l' ≡ l)))
-        (λ found. next_as _ _ _ _ _ _ (λ q u. ((λ _. u), (λ ne. absurd (ne found)))) (t.next x y (splices ∙ ap (λ (z : ℕ). with_part (low_bytes 8 z) o (low_bytes b y)) (sym found)) (Store address sz y) refl tt (may_store w g t y)))
+        (λ found. next_as _ _ _ _ _ _ (λ q u. ((λ _. u), (λ ne. absurd (ne found))))
+        (t.next x y (splices ∙ ap (λ (z : ℕ). with_part (low_bytes 8 z) o (low_bytes b y)) (sym found)) (Store address sz y) refl tt
+        (may_store w g t y)))
         (λ ne. stay a w g l.cpu p _ r ((λ found. absurd (ne found)), (λ _. is)))
 
     -- the same for an atomic operation
     pub word_atomic_part : (op : Change) (operand expected old x : ℕ)
         → low_bytes 8 x ≡ with_part (low_bytes 8 old) o (low_bytes b (number_after op b (number_in_word old o b) operand expected))
-        → Steps a l p (λ n. either (n == old) x n) (λ ws n l'. (n ≡ old → AddsEvent a l (Atomic address sz op operand expected (number_in_word old o b)) l') × (n ≢ old → l' ≡ l))
+        → Steps a l p (λ n. either (n == old) x n) (λ ws n l'. (n ≡ old → AddsEvent a l
+        (Atomic address sz op operand expected (number_in_word old o b)) l') × (n ≢ old → l' ≡ l))
     word_atomic_part op operand expected old x splices ws g sized r is inside fits =
         let w = mem a.shape ws in
         let t = all w g r is inside in
         let ev = Atomic address sz op operand expected in
         exchanged (w p) old x (λ n. Next a (put_at w p n) g l.cpu (λ l'. (w p ≡ old → AddsEvent a l (ev (number_in_word old o b)) l') × (w p ≢ old → l' ≡ l)))
-        (λ found. next_as _ _ _ _ _ _ (λ q u. ((λ _. subst (λ (z : ℕ). AddsEvent a l (ev (number_in_word z o b)) q) found u), (λ ne. absurd (ne found)))) (t.next x (number_after op b (number_in_word (w p) o b) operand expected)
-        (splices ∙ ap (λ (z : ℕ). with_part (low_bytes 8 z) o (low_bytes b (number_after op b (number_in_word z o b) operand expected))) (sym found)) (ev (number_in_word (w p) o b)) refl tt (may_atomic w g t op operand expected)))
+        (λ found. next_as _ _ _ _ _ _ (λ q u. (
+          (λ _. subst (λ (z : ℕ). AddsEvent a l (ev (number_in_word z o b)) q) found u),
+          (λ ne. absurd (ne found)),
+        )) (t.next x (number_after op b (number_in_word (w p) o b) operand expected)
+        (splices ∙ ap (λ (z : ℕ). with_part (low_bytes 8 z) o (low_bytes b (number_after op b (number_in_word z o b) operand expected)))
+        (sym found)) (ev (number_in_word (w p) o b)) refl tt (may_atomic w g t op operand expected)))
         (λ ne. stay a w g l.cpu p _ r ((λ found. absurd (ne found)), (λ _. is)))
 
     -- a fetch operation or a swap on a whole word
     pub word_fetch : (op : Change) (operand expected : ℕ) (f : ℕ → ℕ)
-        → ((n : ℕ) → n < 18446744073709551616 → low_bytes 8 (f n) ≡ with_part (low_bytes 8 n) o (low_bytes b (number_after op b (number_in_word n o b) operand expected)))
+        → ((n : ℕ) → n < 18446744073709551616 → low_bytes 8 (f n) ≡ with_part (low_bytes 8 n) o
+        (low_bytes b (number_after op b (number_in_word n o b) operand expected)))
         → Steps a l p f (λ ws n l'. AddsEvent a l (Atomic address sz op operand expected (number_in_word n o b)) l')
     word_fetch op operand expected f splices ws g sized r is inside fits =
         let w = mem a.shape ws in
         let t = all w g r is inside in
-        t.next (f (w p)) (number_after op b (number_in_word (w p) o b) operand expected) (splices (w p) fits) (Atomic address sz op operand expected (number_in_word (w p) o b)) refl tt (may_atomic w g t op operand expected)
+        t.next (f (w p)) (number_after op b (number_in_word (w p) o b) operand expected) (splices (w p) fits)
+        (Atomic address sz op operand expected (number_in_word (w p) o b)) refl tt (may_atomic w g t op operand expected)

@@ -1,5 +1,6 @@
 -- Write under lock, read under lock.
-use Rattle.std.proofs.Common.{◌≡◌, ◌≢◌, ℕ, ◌<◌, ◌≤◌, true, true≢false, List, [], ◌∷◌, ◌==◌, length-set, slice_set, refl, ap, sym, subst, ◌∙◌, arith, eq-eqb, ne_eqb, ⊎_elim, inl, inr, ◌⊎◌, ◌+◌, ◌/◌}
+use Rattle.std.proofs.Common.{◌≡◌, ◌≢◌, ℕ, ◌<◌, ◌≤◌, true, true≢false, List, [], ◌∷◌, ◌==◌, length-set, slice_set, refl, ap, sym, subst}
+use Rattle.std.proofs.Common.{◌∙◌, arith, eq-eqb, ne_eqb, ⊎_elim, inl, inr, ◌⊎◌, ◌+◌, ◌/◌}
 use Rattle.bpf_shared.specs.Store.{put}
 use Rattle.hop_layout.specs.declared.place.Place.{Place}
 use Rattle.hop_layout.specs.declared.place.Place.TheVariants.{RunCount, KeyCount, FreeBits, Stamp, Head, Hop, Slot, Link, KeyWord, ValueWord, FixedWord}
@@ -54,7 +55,8 @@ pub record Alone (w w' : Place → ℕ) : Type 0 where
   pub values_same : value_words w' ≡ value_words w
   pub fixed_same : fixed_words w' ≡ fixed_words w
 
-module _ (a : About) (l : Known) (k : Lock) (held : l.locks ≡ k ∷ []) (p : Place) (there : is_place a.shape p ≡ true) (n : ℕ) (ws : List ℕ) (g : Ghost) (r : Rule a (mem a.shape ws) g) (is : lane g.lanes l.cpu ≡ l) where
+module _ (a : About) (l : Known) (k : Lock) (held : l.locks ≡ k ∷ []) (p : Place) (there : is_place a.shape p ≡ true) (n : ℕ) (ws : List ℕ)
+    (g : Ghost) (r : Rule a (mem a.shape ws) g) (is : lane g.lanes l.cpu ≡ l) where
   abbrev pub w : Place → ℕ
   w = mem a.shape ws
 
@@ -90,25 +92,29 @@ module _ (a : About) (l : Known) (k : Lock) (held : l.locks ≡ k ∷ []) (p : P
     credit = ap (λ (y : Era). y.credit) now_era ∙ h.credit;
     untouched = λ d. absurd (true≢false d);
     sized = length-set k.copy (at a.shape p) n ∙ h.sized;
-    copied = subst (AgreesInSegment k.map k.segment (λ e. Minded (lock_home a k) l.cpu k.segment (g.holder k.map e)) (words_by_place w')) (sym copy_is) (record {
-      head = put_alike w (mem a.shape k.copy) p (Head k.map k.segment) n h.copied.head;
-      hop = λ b. put_alike w (mem a.shape k.copy) p (Hop k.map k.segment b) n (h.copied.hop b);
-      slot = λ b. put_alike w (mem a.shape k.copy) p (Slot k.map k.segment b) n (h.copied.slot b);
-      link = λ e on. put_alike w (mem a.shape k.copy) p (Link k.map e) n (h.copied.link e on);
-      key = λ e j on. put_alike w (mem a.shape k.copy) p (KeyWord k.map e j) n (h.copied.key e j on);
-    });
+    copied = subst (AgreesInSegment k.map k.segment (λ e. Minded (lock_home a k) l.cpu k.segment (g.holder k.map e)) (words_by_place w'))
+        (sym copy_is) (record {
+          head = put_alike w (mem a.shape k.copy) p (Head k.map k.segment) n h.copied.head;
+          hop = λ b. put_alike w (mem a.shape k.copy) p (Hop k.map k.segment b) n (h.copied.hop b);
+          slot = λ b. put_alike w (mem a.shape k.copy) p (Slot k.map k.segment b) n (h.copied.slot b);
+          link = λ e on. put_alike w (mem a.shape k.copy) p (Link k.map e) n (h.copied.link e on);
+          key = λ e j on. put_alike w (mem a.shape k.copy) p (KeyWord k.map e j) n (h.copied.key e j on);
+        });
     beside = subst (AgreesFront k.map (child k) (words_by_place w')) (sym copy_is) (record {
       head = put_alike w (mem a.shape k.copy) p (Head k.map (child k)) n h.beside.head;
       hop = λ b. put_alike w (mem a.shape k.copy) p (Hop k.map (child k) b) n (h.beside.hop b);
       slot = λ b. put_alike w (mem a.shape k.copy) p (Slot k.map (child k) b) n (h.beside.slot b);
     });
-    beside_stamp = put_alike w (mem a.shape k.copy) p (Stamp k.map (child k)) n h.beside_stamp ∙ ap (λ (f : Place → ℕ). f (Stamp k.map (child k))) (sym (wrote a.shape k.copy p n h.sized there));
+    beside_stamp = put_alike w (mem a.shape k.copy) p (Stamp k.map (child k)) n h.beside_stamp ∙ ap
+        (λ (f : Place → ℕ). f (Stamp k.map (child k))) (sym (wrote a.shape k.copy p n h.sized there));
     due = h.due;
   }
 
   -- after a write of a word that nobody else minds
-  pub write_next : Alone w w' → stamps w' k.map k.segment ≡ stamps w k.map k.segment → Elsewhere a g.depths k.map k.segment l.cpu (words_by_place w) (words_by_place w') (stamps w) (stamps w') g.eras g'.eras g.linked g.linked g.holder g.holder
-      → Batched a (λ m e. w' (Link m e)) (run_counts w) g.lanes.limbo g.last.held g.number → l.cpu < a.shape.cpus → Next a w' g l.cpu (λ l'. l' ≡ writing a l k p n)
+  pub write_next : Alone w w' → stamps w' k.map k.segment ≡ stamps w k.map k.segment → Elsewhere a g.depths k.map k.segment l.cpu
+      (words_by_place w) (words_by_place w') (stamps w) (stamps w') g.eras g'.eras g.linked g.linked g.holder g.holder
+      → Batched a (λ m e. w' (Link m e)) (run_counts w) g.lanes.limbo g.last.held g.number → l.cpu < a.shape.cpus → Next a w' g l.cpu
+      (λ l'. l' ≡ writing a l k p n)
   write_next same own_stamp apart links inside = record {
     ghost = g';
     rule = record {
@@ -117,24 +123,41 @@ module _ (a : About) (l : Known) (k : Lock) (held : l.locks ≡ k ∷ []) (p : P
       logged = r.logged;
       keyed = subst (λ x. Keyed a x g.last.maps g.linked g.number) (sym same.key_counts_same) r.keyed;
       worn = λ m s in_s. ⊎_elim
-          (λ (t : (m ≡ k.map) × (s ≡ k.segment)). let z = ap (λ (y : Era). y.credit) (put2-same g.eras k.map k.segment m s era' t.0 t.1) in let q : (g.eras k.map k.segment).credit ≡ (g.eras m s).credit = ap (λ (y : Era). y.credit) (λ j. g.eras (sym t.0 j) (sym t.1 j)) in let b = r.worn m s in_s in let v : stamps w' m s / 256 ≡ stamps w m s / 256 = ap (λ (i : ℕ). i / 256) (stamp_same m s in_s) in omega arith)
-          (λ (ne : m ≡ k.map → s ≢ k.segment). let z = ap (λ (y : Era). y.credit) (put2-other g.eras k.map k.segment m s era' ne) in let b = r.worn m s in_s in let v : stamps w' m s / 256 ≡ stamps w m s / 256 = ap (λ (i : ℕ). i / 256) (stamp_same m s in_s) in omega arith)
+          (λ (t : (m ≡ k.map) × (s ≡ k.segment)).
+          let z = ap (λ (y : Era). y.credit) (put2-same g.eras k.map k.segment m s era' t.0 t.1) in
+          let q : (g.eras k.map k.segment).credit ≡ (g.eras m s).credit = ap (λ (y : Era). y.credit) (λ j. g.eras (sym t.0 j) (sym t.1 j))
+          in let b = r.worn m s in_s in let v : stamps w' m s / 256 ≡ stamps w m s / 256 = ap (λ (i : ℕ). i / 256) (stamp_same m s in_s) in omega arith)
+          (λ (ne : m ≡ k.map → s ≢ k.segment).
+          let z = ap (λ (y : Era). y.credit) (put2-other g.eras k.map k.segment m s era' ne) in
+          let b = r.worn m s in_s in let v : stamps w' m s / 256 ≡ stamps w m s / 256 = ap (λ (i : ℕ). i / 256) (stamp_same m s in_s) in omega arith)
           (here_or k.map m k.segment s);
       runs = subst (λ x. Runs a x g.log) (sym same.run_counts_same) r.runs;
       batched = subst (λ x. Batched a (λ m e. w' (Link m e)) x g.lanes.limbo g.last.held g.number) (sym same.run_counts_same) links;
       owned = subst (λ x. Owned a x g.lanes.fresh g.lanes.limbo g.holder) (sym same.free_same) r.owned;
       linked = r.linked;
-      filled = subst (λ x. Filled a x (value_words w') g.lanes.fresh) (sym same.keys_same) (subst (λ x. Filled a (key_words w) x g.lanes.fresh) (sym same.values_same) r.filled);
-      segments = segments_step a g.depths k.map k.segment l.cpu (words_by_place w) (words_by_place w') (stamps w) (stamps w') g.eras g'.eras g.linked g.linked g.holder g.holder apart r.deep.sound h.inside r.segments r.linked
-          (subst (λ (i : ℕ). Segment a g.depths (words_by_place w') i (g'.eras k.map k.segment) k.map k.segment (g.linked k.map)) (sym own_stamp) (subst (λ (y : Era). Segment a g.depths (words_by_place w') (w (Stamp k.map k.segment)) y k.map k.segment (g.linked k.map)) (sym now_era) (record {
+      filled = subst (λ x. Filled a x (value_words w') g.lanes.fresh) (sym same.keys_same)
+          (subst (λ x. Filled a (key_words w) x g.lanes.fresh) (sym same.values_same) r.filled);
+      segments = segments_step a g.depths k.map k.segment l.cpu (words_by_place w) (words_by_place w') (stamps w) (stamps w') g.eras g'.eras
+          g.linked g.linked g.holder g.holder apart r.deep.sound h.inside r.segments r.linked
+          (subst (λ (i : ℕ). Segment a g.depths (words_by_place w') i (g'.eras k.map k.segment) k.map k.segment (g.linked k.map))
+          (sym own_stamp) (subst (λ (y : Era). Segment a g.depths (words_by_place w') (w (Stamp k.map k.segment)) y k.map k.segment
+          (g.linked k.map)) (sym now_era) (record {
             at_rest = λ even. absurd (let o = is_odd a l k held w g r is in omega arith);
             clean = λ d. absurd (true≢false d);
             written = λ d. refl;
             shows = λ d. absurd (true≢false d);
           })));
-      locking = locking_step a g.depths k.map k.segment l.cpu (words_by_place w) (words_by_place w') (stamps w) (stamps w') g.eras g'.eras g.linked g.linked g.holder g.holder apart r.deep.sound h.inside g.lanes.locks (k' ∷ []) r.locking (alone a l k held w g r is) (own_lock own_stamp, tt);
-      held = held_step a g.depths k.map k.segment l.cpu (stamps w) (stamps w') g.eras g'.eras g.lanes.locks (k' ∷ []) inside r.held (λ odd. (ap (λ (y : Era). y.writer) now_era, (let z = lock_once k' in omega arith)))
-          (λ n t b ne. (apart.stamps n t (off_born a g.depths k.map k.segment n t r.deep.sound h.inside b ne), put2-other g.eras k.map k.segment n t era' ne, ap (times_lock n t) (sym (ap (λ (z : Known). z.locks) is ∙ held))));
+      locking = locking_step a g.depths k.map k.segment l.cpu (words_by_place w) (words_by_place w') (stamps w) (stamps w') g.eras g'.eras
+          g.linked g.linked g.holder g.holder apart r.deep.sound h.inside g.lanes.locks (k' ∷ []) r.locking (alone a l k held w g r is)
+          (own_lock own_stamp, tt);
+      held = held_step a g.depths k.map k.segment l.cpu (stamps w) (stamps w') g.eras g'.eras g.lanes.locks (k' ∷ []) inside r.held
+          (λ odd. (ap (λ (y : Era). y.writer) now_era, (let z = lock_once k' in omega arith)))
+          (λ n t b ne. (
+            apart.stamps n t (off_born a g.depths k.map k.segment n t r.deep.sound h.inside b ne),
+            put2-other g.eras k.map
+                k.segment n t era' ne,
+            ap (times_lock n t) (sym (ap (λ (z : Known). z.locks) is ∙ held)),
+          ));
       reading = readings_step a g.depths k.map k.segment g.eras g'.eras g.lanes.readings (record {
         same_eras = λ m s ne. put2-other g.eras k.map k.segment m s era' ne;
         up = subst (λ (y : Era). (g.eras k.map k.segment).era ≤ y.era) (sym now_era) (low a l k held w g r is);
@@ -165,7 +188,8 @@ IsOf k (Slot n t b) = (n ≡ k.map) × ((t ≡ k.segment) ⊎ (t ≡ child k))
 IsOf k (Stamp n t) = (n ≡ k.map) × (t ≡ child k)
 IsOf k p = ⊥
 
-pub write_own : (a : About) (l : Known) (k : Lock) (p : Place) (n : ℕ) → IsOf k p → l.locks ≡ k ∷ [] → is_place a.shape p ≡ true → Steps a l p (λ _. n) (λ ws found l'. l' ≡ writing a l k p n)
+pub write_own : (a : About) (l : Known) (k : Lock) (p : Place) (n : ℕ) → IsOf k p → l.locks ≡ k ∷ [] → is_place a.shape p ≡ true → Steps a l
+    p (λ _. n) (λ ws found l'. l' ≡ writing a l k p n)
 write_own a l k p n own held there ws g sized r is inside fits = write_next a l k held p there n ws g r is
     (record {
       key_counts_same = λ j m. same (KeyCount m) (λ o. o) j;
@@ -206,13 +230,16 @@ write_own a l k p n own held there ws g sized r is inside fits = write_next a l 
     keyed : (m e i : ℕ) → put_at (mem a.shape ws) p n (KeyWord m e i) ≡ mem a.shape ws (KeyWord m e i)
     keyed m e i = same (KeyWord m e i) (λ o. o)
 
-pub write_head : (a : About) (l : Known) (k : Lock) (n : ℕ) → l.locks ≡ k ∷ [] → is_place a.shape (Head k.map k.segment) ≡ true → Steps a l (Head k.map k.segment) (λ _. n) (λ ws found l'. l' ≡ writing a l k (Head k.map k.segment) n)
+pub write_head : (a : About) (l : Known) (k : Lock) (n : ℕ) → l.locks ≡ k ∷ [] → is_place a.shape (Head k.map k.segment) ≡ true → Steps a l
+    (Head k.map k.segment) (λ _. n) (λ ws found l'. l' ≡ writing a l k (Head k.map k.segment) n)
 write_head a l k n = write_own a l k (Head k.map k.segment) n (refl, inl refl)
 
-pub write_hop : (a : About) (l : Known) (k : Lock) (b n : ℕ) → l.locks ≡ k ∷ [] → is_place a.shape (Hop k.map k.segment b) ≡ true → Steps a l (Hop k.map k.segment b) (λ _. n) (λ ws found l'. l' ≡ writing a l k (Hop k.map k.segment b) n)
+pub write_hop : (a : About) (l : Known) (k : Lock) (b n : ℕ) → l.locks ≡ k ∷ [] → is_place a.shape (Hop k.map k.segment b) ≡ true → Steps a
+    l (Hop k.map k.segment b) (λ _. n) (λ ws found l'. l' ≡ writing a l k (Hop k.map k.segment b) n)
 write_hop a l k b n = write_own a l k (Hop k.map k.segment b) n (refl, inl refl)
 
-pub write_slot : (a : About) (l : Known) (k : Lock) (b n : ℕ) → l.locks ≡ k ∷ [] → is_place a.shape (Slot k.map k.segment b) ≡ true → Steps a l (Slot k.map k.segment b) (λ _. n) (λ ws found l'. l' ≡ writing a l k (Slot k.map k.segment b) n)
+pub write_slot : (a : About) (l : Known) (k : Lock) (b n : ℕ) → l.locks ≡ k ∷ [] → is_place a.shape (Slot k.map k.segment b) ≡ true → Steps
+    a l (Slot k.map k.segment b) (λ _. n) (λ ws found l'. l' ≡ writing a l k (Slot k.map k.segment b) n)
 write_slot a l k b n = write_own a l k (Slot k.map k.segment b) n (refl, inl refl)
 
 -- ---- links
@@ -223,7 +250,8 @@ pub chained_same : (link link' : ℕ → ℕ) (es : List ℕ) → ((d : ℕ) →
 chained_same link link' [] same p = tt
 chained_same link link' (e ∷ es) same p = (same e (times_one e es) ∙ p.0, chained_same link link' es (λ d i. same d (omega arith)) p.1)
 
-pub write_link : (a : About) (l : Known) (k : Lock) (e n : ℕ) → l.locks ≡ k ∷ [] → is_place a.shape (Link k.map e) ≡ true → MayLink a l k e → Steps a l (Link k.map e) (λ _. n) (λ ws found l'. l' ≡ writing a l k (Link k.map e) n)
+pub write_link : (a : About) (l : Known) (k : Lock) (e n : ℕ) → l.locks ≡ k ∷ [] → is_place a.shape (Link k.map e) ≡ true → MayLink a l k e
+    → Steps a l (Link k.map e) (λ _. n) (λ ws found l'. l' ≡ writing a l k (Link k.map e) n)
 write_link a l k e n held there may ws g sized r is inside fits = write_next a l k held (Link k.map e) there n ws g r is
     (record { key_counts_same = refl; run_counts_same = refl; free_same = refl; keys_same = refl; values_same = refl; fixed_same = refl })
     refl
@@ -235,11 +263,18 @@ write_link a l k e n held there may ws g sized r is inside fits = write_next a l
       hops = λ m s d ne. refl;
       slots = λ m s d ne. refl;
       within = λ m s d p b ne home i. (put_else w (Link k.map e) (Link m d) n (λ q. not_within m s d p b ne home i (ap map_of q) (ap element_of q)), λ j. refl);
-      minded = λ m s b d apart at_s ne mind. (mind, put_else w (Link k.map e) (Link m d) n (λ q. not_minded m s b d apart at_s ne mind (ap map_of q) (ap element_of q)), λ j. refl);
+      minded = λ m s b d apart at_s ne mind. (
+        mind,
+        put_else w (Link k.map e) (Link m d) n
+            (λ q. not_minded m s b d apart at_s ne mind (ap map_of q) (ap element_of q)),
+        λ j. refl,
+      );
     })
     (record {
-      young = λ c m in_c. chained_same (λ d. w (Link m d)) (λ d. put_at w (Link k.map e) n (Link m d)) (limbo_at (g.lanes.limbo c) m).young (λ d i. not_limbo c m d in_c (omega arith)) (r.batched.young c m in_c);
-      old = λ c m in_c. chained_same (λ d. w (Link m d)) (λ d. put_at w (Link k.map e) n (Link m d)) (limbo_at (g.lanes.limbo c) m).old (λ d i. not_limbo c m d in_c (omega arith)) (r.batched.old c m in_c);
+      young = λ c m in_c. chained_same (λ d. w (Link m d)) (λ d. put_at w (Link k.map e) n (Link m d)) (limbo_at (g.lanes.limbo c) m).young
+          (λ d i. not_limbo c m d in_c (omega arith)) (r.batched.young c m in_c);
+      old = λ c m in_c. chained_same (λ d. w (Link m d)) (λ d. put_at w (Link k.map e) n (Link m d)) (limbo_at (g.lanes.limbo c) m).old
+          (λ d i. not_limbo c m d in_c (omega arith)) (r.batched.old c m in_c);
       noted = r.batched.noted;
     })
     inside
@@ -266,21 +301,28 @@ write_link a l k e n held there may ws g sized r is inside fits = write_next a l
 
     holder_is : (g.holder k.map e ≡ Filling l.cpu) ⊎ Mine
     holder_is = ⊎_elim
-        (λ (f : (f : Fresh) × (rest : List Fresh) × (l.fresh ≡ f ∷ rest) × (f.map ≡ k.map) × (f.element ≡ e)). inl (subst (λ (x : ℕ). g.holder k.map x ≡ Filling l.cpu) f.4
-        (in_hand a _ g.lanes.fresh g.lanes.limbo g.holder l.cpu k.map f.0 f.1 r.owned inside (subst (HasElement a k.map) (sym f.4) at_e) f.3 (ap (λ (x : Known). x.fresh) is ∙ f.2))))
-        (λ due. let d = (holds a l k held w g r is).due in let t = due d.0 d.1 in inr (t.0, (r.linked.within k.map t.0 e (d.2 t.0 t.2 ∙ t.1)).1, ap (λ (i : ℕ). home_by a k.map i t.0) (sym h.deep) ∙ t.2))
+        (λ (f : (f : Fresh) × (rest : List Fresh) × (l.fresh ≡ f ∷ rest) × (f.map ≡ k.map) × (f.element ≡ e)). inl
+        (subst (λ (x : ℕ). g.holder k.map x ≡ Filling l.cpu) f.4
+        (in_hand a _ g.lanes.fresh g.lanes.limbo g.holder l.cpu k.map f.0 f.1 r.owned inside (subst (HasElement a k.map) (sym f.4) at_e) f.3
+        (ap (λ (x : Known). x.fresh) is ∙ f.2))))
+        (λ due. let d = (holds a l k held w g r is).due in let t = due d.0 d.1 in inr
+        (t.0, (r.linked.within k.map t.0 e (d.2 t.0 t.2 ∙ t.1)).1, ap (λ (i : ℕ). home_by a k.map i t.0) (sym h.deep) ∙ t.2))
         may.1
 
-    not_within : (m s d : ℕ) (q : List ℕ) → IsBorn a g.depths m s → (m ≡ k.map → s ≢ k.segment) → home_by a m (g.depths m s) q ≡ s → g.holder m d ≡ Within q → m ≡ k.map → d ≡ e → ⊥
+    not_within : (m s d : ℕ) (q : List ℕ) → IsBorn a g.depths m s → (m ≡ k.map → s ≢ k.segment) → home_by a m (g.depths m s) q ≡ s →
+        g.holder m d ≡ Within q → m ≡ k.map → d ≡ e → ⊥
     not_within m s d q b ne home i t u = ⊎_elim
         (λ (f : g.holder k.map e ≡ Filling l.cpu). let z : Filling l.cpu ≡ Within q = sym f ∙ ((λ j. g.holder (sym t j) (sym u j)) ∙ i) in cc)
-        (λ (f : Mine). let same : q ≡ f.0 = within_once (sym i ∙ ((λ j. g.holder (t j) (u j)) ∙ f.1)) in ne t (one_home a g.depths k.map k.segment m s f.0 h.inside b t f.2 (ap (home_by a m (g.depths m s)) (sym same) ∙ home)))
+        (λ (f : Mine). let same : q ≡ f.0 = within_once (sym i ∙ ((λ j. g.holder (t j) (u j)) ∙ f.1)) in ne t
+        (one_home a g.depths k.map k.segment m s f.0 h.inside b t f.2 (ap (home_by a m (g.depths m s)) (sym same) ∙ home)))
         holder_is
 
-    not_minded : (m s b d : ℕ) → b ≢ l.cpu → IsBorn a g.depths m s → (m ≡ k.map → s ≢ k.segment) → Minded (home_by a m (g.depths m s)) b s (g.holder m d) → m ≡ k.map → d ≡ e → ⊥
+    not_minded : (m s b d : ℕ) → b ≢ l.cpu → IsBorn a g.depths m s → (m ≡ k.map → s ≢ k.segment) → Minded (home_by a m (g.depths m s)) b s
+        (g.holder m d) → m ≡ k.map → d ≡ e → ⊥
     not_minded m s b d apart at_s ne mind t u = ⊎_elim
         (λ (f : g.holder k.map e ≡ Filling l.cpu). apart (sym (subst (Minded (home_by a m (g.depths m s)) b s) ((λ j. g.holder (t j) (u j)) ∙ f) mind)))
-        (λ (f : Mine). ne t (one_home a g.depths k.map k.segment m s f.0 h.inside at_s t f.2 (subst (Minded (home_by a m (g.depths m s)) b s) ((λ j. g.holder (t j) (u j)) ∙ f.1) mind)))
+        (λ (f : Mine). ne t (one_home a g.depths k.map k.segment m s f.0 h.inside at_s t f.2
+        (subst (Minded (home_by a m (g.depths m s)) b s) ((λ j. g.holder (t j) (u j)) ∙ f.1) mind)))
         holder_is
 
     not_limbo : (c m d : ℕ) → c < a.shape.cpus → 1 ≤ times_limbo d (limbo_at (g.lanes.limbo c) m) → put_at w (Link k.map e) n (Link m d) ≡ w (Link m d)
@@ -289,7 +331,8 @@ write_link a l k e n held there may ws g sized r is inside fits = write_next a l
         bad : m ≡ k.map → d ≡ e → ⊥
         bad t u =
             let at_d : HasElement a m d = subst (λ (x : ℕ). HasElement a x d) (sym t) (subst (HasElement a k.map) (sym u) at_e) in
-            let left : g.holder k.map e ≡ Leaving c = (λ j. g.holder (sym t j) (sym u j)) ∙ in_limbo a _ g.lanes.fresh g.lanes.limbo g.holder c m d r.owned in_c at_d has in
+            let left : g.holder k.map e ≡ Leaving c = (λ j. g.holder (sym t j) (sym u j)) ∙ in_limbo a _ g.lanes.fresh g.lanes.limbo
+            g.holder c m d r.owned in_c at_d has in
             ⊎_elim
             (λ (f : g.holder k.map e ≡ Filling l.cpu). let z : Filling l.cpu ≡ Leaving c = sym f ∙ left in cc)
             (λ (f : Mine). let z : Within f.0 ≡ Leaving c = sym f.1 ∙ left in cc)

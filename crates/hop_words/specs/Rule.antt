@@ -1,6 +1,7 @@
 -- The rule that holds between any two steps: six parts, each over the words and the fields of
 -- lanes that it names.
-use Rattle.std.specs.Prelude.{◌≡◌, ◌≢◌, ℕ, ◌⊎◌, ◌+◌, ◌/◌, ◌%◌, ◌<◌, ◌≤◌, Bool, true, false, ◌&&◌, List, [], ◌∷◌, Option, Some, None, length, take, ◌==◌, if◌then◌else◌, slice_index}
+use Rattle.std.specs.Prelude.{◌≡◌, ◌≢◌, ℕ, ◌⊎◌, ◌+◌, ◌/◌, ◌%◌, ◌<◌, ◌≤◌, Bool, true, false, ◌&&◌, List, [], ◌∷◌, Option, Some, None, length}
+use Rattle.std.specs.Prelude.{take, ◌==◌, if◌then◌else◌, slice_index}
 use Rattle.std.specs.Int.{bit_at}
 use Rattle.std.specs.FinMap.{get, len}
 use mathlib.Core.Option.{some}
@@ -30,7 +31,8 @@ use Rattle.hop_layout.specs.Words.{bytes_of_words}
 use Rattle.hop_words.specs.Content.{one_if, MapWords, words_by_place, times, Reached, IsShare, AgreesInSegment, AgreesFront}
 use Rattle.hop_words.specs.Shortage.{done_in, updates_in, HasHadValue, HaveCausesBy}
 use Rattle.hop_words.specs.Sights.{IsTakenSince}
-use Rattle.hop_words.specs.Ghost.{Holder, Free, Filling, Leaving, Within, is_free, is_filling, is_leaving, Carries, lane, Era, Ghost, shape_at, HasElement, array_at, HasFixed, fixed_word, limbo_at, lock_home, IsHomeIn, child, Each}
+use Rattle.hop_words.specs.Ghost.{Holder, Free, Filling, Leaving, Within, is_free, is_filling, is_leaving, Carries, lane, Era, Ghost}
+use Rattle.hop_words.specs.Ghost.{shape_at, HasElement, array_at, HasFixed, fixed_word, limbo_at, lock_home, IsHomeIn, child, Each}
 use Rattle.hop_words.specs.Depths.{stamp_depth, IsBorn, home_by, Deep}
 
 -- ======== history

@@ -19,7 +19,8 @@ passes_nothing x = ([], refl, record { cpu = refl; serves = refl }, λ kept. (ke
 pub passes_follow : (x y z : WaitingContents) (xs ys : List Entry) → PassesWaiting x y xs → PassesWaiting y z ys → PassesWaiting x z (xs ++ ys)
 passes_follow x y z xs ys p q = (
   p.0 ++ q.0,
-  ap (λ (log : List Entry). log ++ ys) p.1 ∙ ap (λ (log : List Entry). map (entry x.cpu) p.0 ++ log) (q.1 ∙ ap (λ (c : ℕ). map (entry c) q.0) p.2.cpu) ∙ sym (map-append (entry x.cpu) p.0 q.0),
+  ap (λ (log : List Entry). log ++ ys) p.1 ∙ ap (λ (log : List Entry). map (entry x.cpu) p.0 ++ log)
+      (q.1 ∙ ap (λ (c : ℕ). map (entry c) q.0) p.2.cpu) ∙ sym (map-append (entry x.cpu) p.0 q.0),
   record { cpu = q.2.cpu ∙ p.2.cpu; serves = q.2.serves ∙ p.2.serves },
   λ kept.
       let later = q.3 kept in
@@ -29,7 +30,12 @@ passes_follow x y z xs ys p q = (
             (let m = first.1 s so shows in
             let t = later.1 m.0 m.1 m.2 in
             let there : CallsAll (alone m.0 x.cpu (buffer_of y)) x.cpu q.0 (alone t.0 x.cpu (buffer_of z)) =
-            subst (λ (c : ℕ). CallsAll (alone m.0 c (buffer_of y)) c q.0 (alone t.0 c (buffer_of z))) p.2.cpu t.3 in
-            (t.0, t.1, t.2, calls_joined x.cpu p.0 q.0 (alone s x.cpu (buffer_of x)) (alone m.0 x.cpu (buffer_of y)) (alone t.0 x.cpu (buffer_of z)) m.3 there)),
+            subst (λ (c : ℕ). CallsAll (alone m.0 c (buffer_of y)) c q.0 (alone t.0 c (buffer_of z))) p.2.cpu t.3 in (
+              t.0,
+              t.1,
+              t.2,
+              calls_joined x.cpu p.0 q.0 (alone s x.cpu (buffer_of x)) (alone m.0 x.cpu (buffer_of y))
+                  (alone t.0 x.cpu (buffer_of z)) m.3 there,
+            )),
       ),
 )

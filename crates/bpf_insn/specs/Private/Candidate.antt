@@ -3,8 +3,10 @@
 use Rattle.std.specs.Prelude.{ℕ, ℤ, ◌+◌, ◌*◌, ◌/◌, ◌%◌, ◌^◌, ◌==◌, Option, Some, None, if◌then◌else◌}
 use Rattle.std.specs.Option.{unwrap_or}
 use Rattle.std.specs.Int.{w16, w32, cast_signed}
-use Rattle.bpf_insn.specs.Codes.{ld_class, ldx_class, st_class, stx_class, alu_class, jump_class, negate_code, end_code, always_code, call_code, exit_code, memory_mode}
-use Rattle.bpf_insn.specs.Private.Lookup.{register_at, alu_op_at, extension_at, byte_swap_at, swap_width_at, condition_at, size_at, signed_size_at, atomic_width_at, atomic_op_at}
+use Rattle.bpf_insn.specs.Codes.{ld_class, ldx_class, st_class, stx_class, alu_class, jump_class, negate_code, end_code, always_code}
+use Rattle.bpf_insn.specs.Codes.{call_code, exit_code, memory_mode}
+use Rattle.bpf_insn.specs.Private.Lookup.{register_at, alu_op_at, extension_at, byte_swap_at, swap_width_at, condition_at, size_at}
+use Rattle.bpf_insn.specs.Private.Lookup.{signed_size_at, atomic_width_at, atomic_op_at}
 use Rattle.bpf_insn.specs.declared.register.Reg.{Reg}
 use Rattle.bpf_insn.specs.declared.register.Reg.TheVariants.{R0}
 use Rattle.bpf_insn.specs.declared.operation.widths.Width.{Width}

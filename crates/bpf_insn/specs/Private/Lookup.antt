@@ -1,7 +1,8 @@
 -- The table of codes the other way round: of all operations the one that has a number, if one has
 -- it.
 use Rattle.std.specs.Prelude.{ℕ, Bool, true, ◌==◌, ◌&&◌, List, [], ◌∷◌, find, Option, slice_get}
-use Rattle.bpf_insn.specs.Codes.{alu_code, condition_code, extension_opcode, extension_offset, swap_opcode, swap_bits, size_code, signed_size_code, atomic_size_code}
+use Rattle.bpf_insn.specs.Codes.{alu_code, condition_code, extension_opcode, extension_offset, swap_opcode, swap_bits, size_code}
+use Rattle.bpf_insn.specs.Codes.{signed_size_code, atomic_size_code}
 use Rattle.bpf_insn.specs.Atomic.{atomic_code}
 use Rattle.bpf_insn.specs.Table.{offset_k}
 use Rattle.bpf_insn.specs.declared.row.Field.{Field}

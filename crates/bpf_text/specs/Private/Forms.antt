@@ -23,7 +23,9 @@ use Rattle.bpf_text.specs.declared.forms.Piece.{Piece}
 use Rattle.bpf_text.specs.declared.forms.Piece.TheVariants as piece
 use Rattle.bpf_text.specs.declared.forms.Form.{Form}
 use Rattle.bpf_text.specs.declared.forms.Form.TheVariants as form
-use Rattle.bpf_text.specs.declared.forms.TheConstants.{FORMS, ALU, SIGNED_ALU, NEGATE, SIGN_EXTEND, SWAP_BYTES, LOAD_NUMBER, LOAD_MAP, LOAD, LOAD_SIGNED, STORE, LOCKED, FETCHED, EXCHANGE, COMPARE_EXCHANGE, JUMP, JUMP_LONG, BRANCH, SIGNED_BRANCH, CALL_HELPER, CALL_LOCAL, EXIT}
+use Rattle.bpf_text.specs.declared.forms.TheConstants.{FORMS, ALU, SIGNED_ALU, NEGATE, SIGN_EXTEND, SWAP_BYTES, LOAD_NUMBER, LOAD_MAP, LOAD}
+use Rattle.bpf_text.specs.declared.forms.TheConstants.{LOAD_SIGNED, STORE, LOCKED, FETCHED, EXCHANGE, COMPARE_EXCHANGE, JUMP, JUMP_LONG}
+use Rattle.bpf_text.specs.declared.forms.TheConstants.{BRANCH, SIGNED_BRANCH, CALL_HELPER, CALL_LOCAL, EXIT}
 use Rattle.bpf_text.specs.Line.{name_of}
 use Rattle.bpf_text.specs.Private.Pieces.{same_width, same_register, extension_of}
 

@@ -21,7 +21,8 @@ use Rattle.bpf_spelling.specs.declared.keywords.Keyword.TheVariants as key
 use Rattle.bpf_spelling.specs.declared.signs.Sign.TheVariants as sign
 use Rattle.bpf_spelling.specs.Token.{Tok, Register, Word, Number, Mark}
 use Rattle.bpf_text.specs.Line.{Written}
-use Rattle.bpf_text.specs.Private.Pieces.{◌>>=◌, Target, same_width, same_register, address_at, cell_at, operand_at, target_at, operator_at, extension_of, cell_width}
+use Rattle.bpf_text.specs.Private.Pieces.{◌>>=◌, Target, same_width, same_register, address_at, cell_at, operand_at, target_at, operator_at}
+use Rattle.bpf_text.specs.Private.Pieces.{extension_of, cell_width}
 use Rattle.bpf_spelling.specs.Operators.{operation_named, condition_named, locked_op, fetched_op}
 
 abbrev pub plain : Insn → Option Written

@@ -16,6 +16,7 @@ returns c is programs program right loaded =
     let whole : other ≡ record job { stage = InHand s.2 s.1 } =
     ap (λ (n : ℕ). record { cpu = n; program = other.program; budget = other.budget; stage = other.stage }) same.0
     ∙ (ap (λ (n : ℕ). record { cpu = job.cpu; program = n; budget = other.budget; stage = other.stage }) same.1
-    ∙ (ap (λ (n : ℕ). record { cpu = job.cpu; program = job.program; budget = n; stage = other.stage }) same.2 ∙ ap (λ (t : Stage). record job { stage = t }) there)) in
+    ∙ (ap (λ (n : ℕ). record { cpu = job.cpu; program = job.program; budget = n; stage = other.stage }) same.2 ∙ ap
+    (λ (t : Stage). record job { stage = t }) there)) in
     let alike : AreAlike program (tables job.program) s.0 s.2 = subst (λ (n : ℕ). AreAlike program (tables n) s.0 s.2) c.program.ensures (s.5 program) in
     inr (program, s.0, s.1, s.2, loaded, here, whole, (1, (tables job.program, s.2, right job.program program loaded, alike, refl)))

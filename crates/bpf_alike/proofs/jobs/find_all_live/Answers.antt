@@ -24,7 +24,8 @@ loop-number-preserved c =
     subst (λ (p : Loaded). IsLiveTable p.instructions table) one c.in_ok-table.ensures) in
     record {
       count = ap (length {A = Table}) items ∙ (length-append old (table ∷ []) ∙ ap (λ (n : ℕ). n + 1) c.loop-number.invariant.count);
-      right = subst (λ (ts : List Table). (k : ℕ) → k < number + 1 → P k (table_at ts k)) (sym items) (one_more P [] old table number c.loop-number.invariant.count c.loop-number.invariant.right here);
+      right = subst (λ (ts : List Table). (k : ℕ) → k < number + 1 → P k (table_at ts k)) (sym items)
+          (one_more P [] old table number c.loop-number.invariant.count c.loop-number.invariant.right here);
     }
 
 pub returns : goal.returns

@@ -7,4 +7,5 @@ use Rattle.bpf_alu.proofs.arithmetic.signed_remainder64.Goals as goal
 pub returns : goal.returns
 unfolding arithmetic
 returns c =
-    remainder_value w64 c.args.a c.args.b _ c.cast_signed.result c.cast_signed-2.result (omega arith) (omega arith) (omega arith) c.cast_signed.ensures c.cast_signed-2.ensures (search rules) (search (rules, c.cast_unsigned.ensures))
+    remainder_value w64 c.args.a c.args.b _ c.cast_signed.result c.cast_signed-2.result (omega arith) (omega arith) (omega arith)
+    c.cast_signed.ensures c.cast_signed-2.ensures (search rules) (search (rules, c.cast_unsigned.ensures))

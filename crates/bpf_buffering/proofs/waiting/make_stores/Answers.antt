@@ -26,7 +26,8 @@ value_store-requires-clause-place c =
     let shapes = c.loop-stored.invariant.1 in
     let held = ap (λ (f : ℕ → Span → Bool). f c.args.cpu) c.loop-stored.invariant.2 in
     subst (λ (h : Shape). IsWritable h (held_spans c.loop-stored.store c.args.cpu) e.at (bytes_in e.size)) (sym shapes)
-    (subst (λ (f : Span → Bool). IsWritable (shape_of c.args.store.now) f e.at (bytes_in e.size)) (sym held) (c.requires.places c.loop-stored.stored-index d c.loop-stored-test.true))
+    (subst (λ (f : Span → Bool). IsWritable (shape_of c.args.store.now) f e.at (bytes_in e.size)) (sym held)
+    (c.requires.places c.loop-stored.stored-index d c.loop-stored-test.true))
 
 pub loop-stored-preserved : goal.loop-stored-preserved
 loop-stored-preserved c =
@@ -34,7 +35,8 @@ loop-stored-preserved c =
     let d : Stored = record { at = 0; size = Byte; word = 0 } in
     let call = c.value_store.ensures in
     let served : has_cpu c.loop-stored.store c.args.cpu ≡ true = ap (λ (f : ℕ → Bool). f c.args.cpu) i.4 ∙ c.requires.serves in (
-      one_more c.args.cpu c.args.store.now c.loop-stored.store c.value_store.new.self c.args.waiting.now c.loop-stored.stored-index d c.loop-stored-test.true served call.same.1 i.0 call.stored,
+      one_more c.args.cpu c.args.store.now c.loop-stored.store c.value_store.new.self c.args.waiting.now c.loop-stored.stored-index d
+          c.loop-stored-test.true served call.same.1 i.0 call.stored,
       call.same.0 ∙ i.1,
       call.held ∙ i.2,
       call.same.2 ∙ i.3,
@@ -42,4 +44,5 @@ loop-stored-preserved c =
     )
 
 pub returns-clause-made : goal.returns-clause-made
-returns-clause-made c = subst (λ (es : List Stored). Makes c.args.cpu c.args.store.now es c.loop-stored.store) (take_all c.loop-stored.stored-index c.args.waiting.now c.loop-stored-test.false) c.loop-stored.invariant.0
+returns-clause-made c = subst (λ (es : List Stored). Makes c.args.cpu c.args.store.now es c.loop-stored.store)
+    (take_all c.loop-stored.stored-index c.args.waiting.now c.loop-stored-test.false) c.loop-stored.invariant.0

@@ -10,7 +10,8 @@ returns-in-None b c =
 pub returns-in_ok-push_parts : goal.returns-in_ok-push_parts
 returns-in_ok-push_parts b c =
     one_more (λ (f : Bor (List ℕ)). f.now) c.args.subjects.now c.args.joint.now c.args.words.now c.joint_place-place.result c.joint_place-place.ensures.value
-    c.args.parts.now.items c.in-Some.part _ _ _ c.if-place-words.true (sym c.in-Some.is ∙ c.in_ok-part.ensures) c.in_ok-push-in-Some.ensures.items c.in_ok-push_parts.ensures
+    c.args.parts.now.items c.in-Some.part _ _ _ c.if-place-words.true (sym c.in-Some.is ∙ c.in_ok-part.ensures)
+    c.in_ok-push-in-Some.ensures.items c.in_ok-push_parts.ensures
 
 pub returns-else-place-words : goal.returns-else-place-words
 returns-else-place-words b c =

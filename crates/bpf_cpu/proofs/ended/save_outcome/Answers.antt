@@ -6,4 +6,5 @@ use Rattle.bpf_cpu.proofs.ended.save_outcome.Goals as goal
 
 pub returns-clause-ok : goal.returns-clause-ok
 unfolding outcome_saved
-returns-clause-ok c = on_ok_weaker c.save_words.result (λ e. e ∙ ap (λ (l : List ℕ). c.args.out.now.items ++ words_saved 0 l) c.words_of.ensures) c.save_words.ensures.ok
+returns-clause-ok c = on_ok_weaker c.save_words.result (λ e. e ∙ ap (λ (l : List ℕ). c.args.out.now.items ++ words_saved 0 l)
+    c.words_of.ensures) c.save_words.ensures.ok

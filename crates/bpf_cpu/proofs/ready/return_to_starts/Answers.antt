@@ -15,5 +15,6 @@ loop-caller-preserved c k d l =
       | inr past ↦
           let same : k ≡ here = omega arith in
           subst (λ (n : ℕ). IsStart c.args.program.now.instructions (slice_index_or c.args.callers.now n d).return_pc) (sym same)
-          (subst (λ (caller : Caller). IsStart c.args.program.now.instructions caller.return_pc) (get_or_default c.args.callers.now here (record { return_pc = 0; saved = [] }) d inside) (c.if-not-is_start.ensures.0 refl))
+          (subst (λ (caller : Caller). IsStart c.args.program.now.instructions caller.return_pc)
+          (get_or_default c.args.callers.now here (record { return_pc = 0; saved = [] }) d inside) (c.if-not-is_start.ensures.0 refl))
     ]

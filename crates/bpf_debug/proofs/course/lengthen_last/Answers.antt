@@ -5,7 +5,8 @@ use Rattle.bpf_debug.proofs.course.lengthen_last.Goals as goal
 pub returns-then-last-cpu-clause-no : goal.returns-then-last-cpu-clause-no
 returns-then-last-cpu-clause-no c =
     let at : c.in-Some.place + 1 ≡ length c.args.runs.now.items = omega (arith, c.in-Some.ensures, c.len.ensures) in
-    one_run_more c.args.runs.now.items c.index-last.result.now c.args.cpu c.in-Some.place at c.index-last.ensures (other_cpu c.index-last.result.now c.args.cpu c.if-last-cpu.true)
+    one_run_more c.args.runs.now.items c.index-last.result.now c.args.cpu c.in-Some.place at c.index-last.ensures
+    (other_cpu c.index-last.result.now c.args.cpu c.if-last-cpu.true)
 
 pub returns-then-last-ge-MOST_TURNS-clause-no : goal.returns-then-last-ge-MOST_TURNS-clause-no
 returns-then-last-ge-MOST_TURNS-clause-no c =
@@ -16,4 +17,5 @@ returns-then-last-ge-MOST_TURNS-clause-no c =
 pub returns-clause-yes : goal.returns-clause-yes
 returns-clause-yes c =
     let at : c.in-Some.place + 1 ≡ length c.args.runs.now.items = omega (arith, c.in-Some.ensures, c.len.ensures) in
-    last_longer c.args.runs.now.items c.index-last.result.now c.args.cpu c.in-Some.place at c.index-last.ensures c.if-last-cpu.false c.if-last-ge-MOST_TURNS.false
+    last_longer c.args.runs.now.items c.index-last.result.now c.args.cpu c.in-Some.place at c.index-last.ensures c.if-last-cpu.false
+    c.if-last-ge-MOST_TURNS.false

@@ -8,7 +8,8 @@ use Rattle.bpf_debug.proofs.going.go.Given as goal
 
 abbrev pub invariant-loop-cpu : goal.invariant-loop-cpu
 invariant-loop-cpu l = record {
-  comes : Comes l.breakpoints (option_map watched l.watch) l.low l.high l.fn.course l.fn.machine (string_bytes l.fn.out) l.machine l.from l.gone l.course (string_bytes l.out);
+  comes : Comes l.breakpoints (option_map watched l.watch) l.low l.high l.fn.course l.fn.machine (string_bytes l.fn.out) l.machine l.from
+      l.gone l.course (string_bytes l.out);
   watched : ShowsWatched l.machine.store (option_map watched l.watch) (kept_values l.before);
   same : IsSameHost l.fn.machine l.machine;
   room : string_len l.out + 128 * open_jobs l.machine.jobs + 128 ≤ string_capacity l.out;

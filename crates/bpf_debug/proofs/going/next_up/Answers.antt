@@ -15,7 +15,8 @@ returns-in-None-clause-up c =
     let P : ℕ → Type 0 = λ n. (c.args.low ≤ n) × (n < least) × HasWork jobs n × AreIdle jobs c.args.low n in
     let Q : ℕ → Type 0 = λ n. IsUp jobs c.args.low c.args.high c.args.from n in
     some_weaker P Q c.first_at_work-in-None.result
-    (λ n found. up_again jobs c.args.low c.args.high least c.args.from n (omega (arith, c.min.ensures)) (omega (arith, c.min.ensures)) c.in-None.ensures.none found)
+    (λ n found. up_again jobs c.args.low c.args.high least c.args.from n (omega (arith, c.min.ensures)) (omega (arith, c.min.ensures))
+    c.in-None.ensures.none found)
     c.first_at_work-in-None.ensures.found
 
 pub returns-in-None-clause-idle : goal.returns-in-None-clause-idle

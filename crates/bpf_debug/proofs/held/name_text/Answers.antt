@@ -13,6 +13,8 @@ returns c =
     let last : List ℕ = codes "]" in
     let named : c.name_at-name.result.now ≡ name = c.name_at-name.ensures ∙ ap (λ (k : ℕ). slice_index_or names k []) c.map_at.ensures in
     let P : List ℕ → Type 0 = λ n. IfOk c.bracketed.result (λ text. string_bytes text ≡ n ++ (first ++ (place ++ last))) in
-    let flat : name ++ (first ++ (place ++ last)) ≡ ((name ++ first) ++ place) ++ last = sym (append_assoc (name ++ first) place last ∙ append_assoc name first (place ++ last)) in
-    IfOk-weaker c.bracketed.result (λ (t : String Global). string_bytes t ≡ name ++ (first ++ (place ++ last))) (λ (t : String Global). string_bytes t ≡ value_name names c.args.at place)
+    let flat : name ++ (first ++ (place ++ last)) ≡ ((name ++ first) ++ place) ++ last = sym
+    (append_assoc (name ++ first) place last ∙ append_assoc name first (place ++ last)) in
+    IfOk-weaker c.bracketed.result (λ (t : String Global). string_bytes t ≡ name ++ (first ++ (place ++ last)))
+    (λ (t : String Global). string_bytes t ≡ value_name names c.args.at place)
     (λ text e. e ∙ flat) (subst P named c.bracketed.ensures)

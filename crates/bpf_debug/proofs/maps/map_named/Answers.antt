@@ -17,4 +17,5 @@ loop-number-preserved c =
     (λ same. other_text c.as_bytes.result.now c.args.name.now c.if-eq.ensures (c.as_bytes.ensures.value ∙ same)) c.loop-number.invariant
 
 pub returns-clause-none : goal.returns-clause-none
-returns-clause-none c = no_more_names c.args.names.now c.args.name.now c.loop-number.number c.loop-number.invariant (let past = c.loop-number-test.false in omega arith)
+returns-clause-none c = no_more_names c.args.names.now c.args.name.now c.loop-number.number c.loop-number.invariant
+    (let past = c.loop-number-test.false in omega arith)

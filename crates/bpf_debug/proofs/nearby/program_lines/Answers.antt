@@ -11,4 +11,5 @@ loop-place-preserved c =
     let at = c.loop-place.place in
     let v = c.in_ok-push_pc.ensures in
     let P : ℕ → Type 0 = λ first. IsLineAt program here (first + at) v.0 in
-    line_more program here (first_shown here) at (string_bytes c.loop-place.text) v.0 (string_bytes c.push_pc.new.text) c.loop-place.invariant (subst P c.first_shown-first.ensures v.1) v.2
+    line_more program here (first_shown here) at (string_bytes c.loop-place.text) v.0 (string_bytes c.push_pc.new.text)
+    c.loop-place.invariant (subst P c.first_shown-first.ensures v.1) v.2

@@ -12,7 +12,8 @@ loop-run-preserved c =
     let runs = c.args.runs.now in
     let at = c.loop-run.run-index in
     record {
-      made = one_run_recalled c.args.machine.now c.loop-run.machine c.recall_turns-last.new.machine runs (drop at runs) (drop (at + 1) runs) (get_or runs at (0, 0)) c.args.kind c.args.cpu c.loop-run.last c.recall_turns-last.result
+      made = one_run_recalled c.args.machine.now c.loop-run.machine c.recall_turns-last.new.machine runs (drop at runs) (drop (at + 1) runs)
+          (get_or runs at (0, 0)) c.args.kind c.args.cpu c.loop-run.last c.recall_turns-last.result
           c.loop-run.invariant.made (run_next runs at c.loop-run-test.true) c.recall_turns-last.ensures.made;
       same = same_host_still c.args.machine.now c.loop-run.machine c.recall_turns-last.new.machine c.loop-run.invariant.same c.recall_turns-last.ensures.same;
     }
@@ -21,4 +22,5 @@ pub returns-clause-made : goal.returns-clause-made
 returns-clause-made c =
     let runs = c.args.runs.now in
     let at = c.loop-run.run-index in
-    runs_recalled c.args.machine.now c.loop-run.machine runs (drop at runs) c.args.kind c.args.cpu c.loop-run.last c.loop-run.invariant.made (none_left runs at c.loop-run-test.false)
+    runs_recalled c.args.machine.now c.loop-run.machine runs (drop at runs) c.args.kind c.args.cpu c.loop-run.last c.loop-run.invariant.made
+    (none_left runs at c.loop-run-test.false)

@@ -8,7 +8,8 @@ returns-then-turns_of-cpu-clause-made c =
 
 pub returns-then-is_of-clause-made : goal.returns-then-is_of-clause-made
 returns-then-is_of-clause-made c =
-    kept_turn c.args.machine.now c.turn-turn.new.self c.args.turns_of c.args.kind c.args.cpu c.args.recall (record { stand = c.stand_of-stand.result; turn = c.turn-turn.result }) c.turn-turn.result
+    kept_turn c.args.machine.now c.turn-turn.new.self c.args.turns_of c.args.kind c.args.cpu c.args.recall
+    (record { stand = c.stand_of-stand.result; turn = c.turn-turn.result }) c.turn-turn.result
     c.if-turns_of-cpu.false (sym c.is_of.ensures ∙ c.if-is_of.true) c.stand_of-stand.ensures refl c.turn-turn.ensures.turn
 
 pub returns-else-is_of-clause-made : goal.returns-else-is_of-clause-made

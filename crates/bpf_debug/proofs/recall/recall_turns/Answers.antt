@@ -8,7 +8,8 @@ loop-init c = record { made = none_recalled c.args.machine.now c.args.turns_of c
 
 pub loop-preserved : goal.loop-preserved
 loop-preserved c = record {
-  made = one_recalled c.args.machine.now c.loop.machine c.recall_turn-last.new.machine c.args.turns_of c.args.kind c.args.cpu c.loop.counter c.args.recall c.loop.last c.recall_turn-last.result
+  made = one_recalled c.args.machine.now c.loop.machine c.recall_turn-last.new.machine c.args.turns_of c.args.kind c.args.cpu c.loop.counter
+      c.args.recall c.loop.last c.recall_turn-last.result
       c.loop.invariant.made c.recall_turn-last.ensures.made;
   same = same_host_still c.args.machine.now c.loop.machine c.recall_turn-last.new.machine c.loop.invariant.same c.recall_turn-last.ensures.same;
 }

@@ -23,11 +23,13 @@ returns-then-not-can_be_made-clause-none c =
     let words = map (λ (f : Bor (List ℕ)). f.now) c.args.words.now in
     let failed : c.can_be_made.result ≡ false = search (rules, tests) in
     let T : List (ℕ × ℕ) → Type 0 = λ rs. c.can_be_made.result ≡ (nat_lt 0 (length rs) && list_all is_short rs) in
-    runs_refused words c.in-Some.runs.items (some_by c.in_ok-runs.field-0 c.in-Some.runs (λ v. SpellRuns words v.items) c.in-Some.is c.in_ok-runs.ensures.spelled) (sym failed ∙ subst T c.deref.ensures.value c.can_be_made.ensures)
+    runs_refused words c.in-Some.runs.items (some_by c.in_ok-runs.field-0 c.in-Some.runs (λ v. SpellRuns words v.items) c.in-Some.is
+    c.in_ok-runs.ensures.spelled) (sym failed ∙ subst T c.deref.ensures.value c.can_be_made.ensures)
 
 pub returns-clause-said : goal.returns-clause-said
 returns-clause-said c =
     let words = map (λ (f : Bor (List ℕ)). f.now) c.args.words.now in
     let yes : c.can_be_made.result ≡ true = search (rules, tests) in
     let T : List (ℕ × ℕ) → Type 0 = λ rs. c.can_be_made.result ≡ (nat_lt 0 (length rs) && list_all is_short rs) in
-    runs_said words c.in-Some.runs.items (some_by c.in_ok-runs.field-0 c.in-Some.runs (λ v. SpellRuns words v.items) c.in-Some.is c.in_ok-runs.ensures.spelled) (sym yes ∙ subst T c.deref.ensures.value c.can_be_made.ensures)
+    runs_said words c.in-Some.runs.items (some_by c.in_ok-runs.field-0 c.in-Some.runs (λ v. SpellRuns words v.items) c.in-Some.is
+    c.in_ok-runs.ensures.spelled) (sym yes ∙ subst T c.deref.ensures.value c.can_be_made.ensures)

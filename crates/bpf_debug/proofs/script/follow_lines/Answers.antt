@@ -24,12 +24,14 @@ lines-preserved c =
     let line = c.first_line.result.0.now in
     let rest = lines_behind (option_copied c.first_line.result.1) in
     let before = map answer_of c.lines.answers.items in
-    let cut : lines_behind (option_copied c.lines.rest) ≡ line ∷ rest = ap (λ (r : Option (Bor (List ℕ))). lines_behind (option_copied r)) c.in-Some.is ∙ c.first_line.ensures.lines in
+    let cut : lines_behind (option_copied c.lines.rest) ≡ line ∷ rest = ap (λ (r : Option (Bor (List ℕ))). lines_behind (option_copied r))
+    c.in-Some.is ∙ c.first_line.ensures.lines in
     let here = subst (λ (ls : List (List ℕ)). Far lines old mid before ls) cut c.lines.invariant.far in
     let items : map answer_of c.push.new.self.items ≡ _ = ap (map answer_of) c.in-Ok.ensures.items ∙ more_answers c.lines.answers.items c.answer.result in
     let count = ap (λ (ls : List (List ℕ)). length ls) cut in
     record {
-      far = subst (λ (answers : List Answer). Far lines old new answers rest) (sym items) (far_next lines old mid new before line rest (answer_of c.answer.result) here c.answer.ensures);
+      far = subst (λ (answers : List Answer). Far lines old new answers rest) (sym items)
+          (far_next lines old mid new before line rest (answer_of c.answer.result) here c.answer.ensures);
       room = omega (arith, c.in-Ok.ensures.len, c.in-Ok.ensures.capacity, c.lines.invariant.room, count);
     }
 
@@ -38,4 +40,5 @@ returns-clause-answered c =
     let lines = lines_of c.args.script.now in
     let answers = map answer_of c.lines.answers.items in
     far_end lines c.args.session.now c.lines.session answers
-    (subst (λ (r : Option (Bor (List ℕ))). Far lines c.args.session.now c.lines.session answers (lines_behind (option_copied r))) c.in_default.is c.lines.invariant.far)
+    (subst (λ (r : Option (Bor (List ℕ))). Far lines c.args.session.now c.lines.session answers (lines_behind (option_copied r)))
+    c.in_default.is c.lines.invariant.far)

@@ -20,6 +20,7 @@ returns-in-None c =
     let names = names_of c.args.names.now in
     let number = c.args.number in
     let h = shape_of c.args.store.now in
-    IfOk-weaker c.other_words.result (λ (t : String Global). string_bytes t ≡ other_words names h number) (λ (t : String Global). ShowsMeaning names c.args.store.now c.args.held.now number (string_bytes t))
+    IfOk-weaker c.other_words.result (λ (t : String Global). string_bytes t ≡ other_words names h number)
+    (λ (t : String Global). ShowsMeaning names c.args.store.now c.args.held.now number (string_bytes t))
     (λ text e s so stands. subst (λ (found : Option Span). IsWordsIn names s number found (string_bytes text)) (sym c.in-None.is ∙ c.value_at.ensures)
     (e ∙ ap (λ (k : Shape). other_words names k number) (sym stands.shape))) c.other_words.ensures

@@ -9,4 +9,5 @@ returns-clause-lines c s so stands =
     let ns = c.args.registers.now in
     let k = c.loop-register.register in
     let all : k ≡ length ns = omega (arith, c.loop-register-test.false, c.loop-register.auto.register-end) in
-    all_lines (names_of c.args.names.now) s c.args.held.now k ns (map string_bytes c.loop-register.lines.items) all (c.loop-register.invariant.lines s so stands)
+    all_lines (names_of c.args.names.now) s c.args.held.now k ns (map string_bytes c.loop-register.lines.items) all
+    (c.loop-register.invariant.lines s so stands)

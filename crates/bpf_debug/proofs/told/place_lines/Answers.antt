@@ -15,7 +15,8 @@ loop-variable-preserved c =
     let v = c.variable-item.result in
     let at = c.loop-variable.variable-index in
     let maps = length (shape_of c.args.store.now).maps in
-    let count : length c.maps-maps.result.now ≡ maps = ap (λ (ms : List MapShape). length ms) c.maps-maps.ensures.maps ∙ ap (λ (h : Shape). length h.maps) c.store_shape.ensures in
+    let count : length c.maps-maps.result.now ≡ maps = ap (λ (ms : List MapShape). length ms) c.maps-maps.ensures.maps ∙ ap
+    (λ (h : Shape). length h.maps) c.store_shape.ensures in
     let array = c.name_at-array.result.now in
     let named : array ≡ slice_index_or names.maps (maps + v.array) [] =
     c.name_at-array.ensures
@@ -25,4 +26,5 @@ loop-variable-preserved c =
     in
     let inside : at < length vs = subst (λ (xs : List Variable). at < length xs) c.deref-variable-items.ensures.value c.loop-variable-test.true in
     let is : v ≡ get_or vs at v = subst (λ (xs : List Variable). v ≡ get_or xs at v) c.deref-variable-items.ensures.value c.variable-item.is in
-    one_place_more (string_bytes c.loop-variable.text) (string_bytes c.push_place.new.text) array names.maps maps vs at v inside is named c.loop-variable.invariant c.in_ok-push_place.ensures
+    one_place_more (string_bytes c.loop-variable.text) (string_bytes c.push_place.new.text) array names.maps maps vs at v inside is named
+    c.loop-variable.invariant c.in_ok-push_place.ensures

@@ -10,5 +10,6 @@ loop-map-preserved c =
     let maps = shapes_of c.args.store.now in
     let text = string_bytes c.loop-map.text in
     let at = c.loop-map.map in
-    one_map_more text (string_bytes c.push_map.new.text) c.args.names.now maps at c.index-names-map.result c.loop-map-test.true c.index-names-map.is c.loop-map.invariant
+    one_map_more text (string_bytes c.push_map.new.text) c.args.names.now maps at c.index-names-map.result c.loop-map-test.true
+    c.index-names-map.is c.loop-map.invariant
     (c.in_ok-push_map.ensures ∙ ap (λ (name : List ℕ). text ++ named_line name (slice_get maps at)) c.as_str.ensures.value)

@@ -5,7 +5,11 @@ use Rattle.bpf_debug.proofs.ManyTurns.{Made, none_made, one_made, turn_falls, ro
 use Rattle.bpf_debug.proofs.turns.make_turns.Goals as goal
 
 pub loop-init : goal.loop-init
-loop-init c = record { made = none_made c.args.machine.now c.args.cpu (string_bytes c.args.out.now); same = same_host c.args.machine.now; room = c.requires.room }
+loop-init c = record {
+  made = none_made c.args.machine.now c.args.cpu (string_bytes c.args.out.now);
+  same = same_host c.args.machine.now;
+  room = c.requires.room;
+}
 
 pub loop-preserved : goal.loop-preserved
 loop-preserved c =
@@ -17,11 +21,14 @@ loop-preserved c =
     let before = string_bytes c.args.out.now in
     let after = string_bytes c.loop.out in
     let made = c.loop.invariant.made in
-    let fall = turn_falls c.turns_fall.ensures old new next cpu c.loop.counter before after answer c.requires.shown.0 c.requires.shown.1 made c.turn-turn.ensures.turn in
+    let fall = turn_falls c.turns_fall.ensures old new next cpu c.loop.counter before after answer c.requires.shown.0 c.requires.shown.1
+    made c.turn-turn.ensures.turn in
     record {
-      made = one_made old new next cpu c.loop.counter before after (string_bytes c.put_ended.new.out) answer made c.turn-turn.ensures.turn c.put_ended.ensures.text;
+      made = one_made old new next cpu c.loop.counter before after (string_bytes c.put_ended.new.out) answer made c.turn-turn.ensures.turn
+          c.put_ended.ensures.text;
       same = same_host_still old new next c.loop.invariant.same c.turn-turn.ensures.same;
-      room = room_kept answer new.jobs next.jobs (string_len c.loop.out) (string_len c.put_ended.new.out) (string_capacity c.loop.out) (string_capacity c.put_ended.new.out) fall c.loop.invariant.room c.put_ended.ensures.room c.put_ended.ensures.size c.put_ended.ensures.none;
+      room = room_kept answer new.jobs next.jobs (string_len c.loop.out) (string_len c.put_ended.new.out) (string_capacity c.loop.out)
+          (string_capacity c.put_ended.new.out) fall c.loop.invariant.room c.put_ended.ensures.room c.put_ended.ensures.size c.put_ended.ensures.none;
     }
 
 pub returns-clause-made : goal.returns-clause-made

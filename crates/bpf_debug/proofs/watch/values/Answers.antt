@@ -7,7 +7,8 @@ use Rattle.bpf_debug.proofs.watch.values.Goals as goal
 
 pub loop-cpu-preserved : goal.loop-cpu-preserved
 loop-cpu-preserved c = λ s sound stands.
-    one_kept_more (watched c.args.watch.now) s c.loop-cpu.values.items c.loop-cpu.cpu c.in_ok-value.value (c.loop-cpu.invariant s sound stands) (c.in_ok-value.ensures s sound stands)
+    one_kept_more (watched c.args.watch.now) s c.loop-cpu.values.items c.loop-cpu.cpu c.in_ok-value.value
+    (c.loop-cpu.invariant s sound stands) (c.in_ok-value.ensures s sound stands)
     ∙ ap (λ (vs : List (Option (Vec ℕ Global))). kept_values vs) (sym c.in_ok-push.ensures.items)
 
 pub returns : goal.returns

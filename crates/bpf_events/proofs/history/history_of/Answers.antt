@@ -20,9 +20,12 @@ returns c w shows =
     let mid = c.make_turns.new.machine in
     let new = c.make_rounds.new.machine in
     let report = c.in_ok-report.report in
-    let turns = subst (λ (ns : List (String Global)). AreTold (Turns (unrolled c.args.schedule.now)) (map string_bytes ns) old start mid between) c.deref.ensures.value c.in_ok-make_turns.ensures.told in
-    let rounds = subst (λ (ns : List (String Global)). AreTold SomeRounds (map string_bytes ns) mid between new later) c.deref-2.ensures.value c.in_ok-make_rounds.ensures.told in
+    let turns = subst (λ (ns : List (String Global)). AreTold (Turns (unrolled c.args.schedule.now)) (map string_bytes ns) old start mid
+    between) c.deref.ensures.value c.in_ok-make_turns.ensures.told in
+    let rounds = subst (λ (ns : List (String Global)). AreTold SomeRounds (map string_bytes ns) mid between new later)
+    c.deref-2.ensures.value c.in_ok-make_rounds.ensures.told in
     history_told w old mid new (names_of c.args.names.now)
-    c.args.schedule.now c.args.maps start between later (string_bytes report.text) (string_bytes c.push_str.new.self) report.stopped shows c.new-text.ensures.bytes
+    c.args.schedule.now c.args.maps start between later (string_bytes report.text) (string_bytes c.push_str.new.self) report.stopped shows
+    c.new-text.ensures.bytes
     turns rounds c.in_ok-make_rounds.ensures.ended c.in_ok-report.ensures
     (c.in_ok-push_str.ensures.bytes ∙ ap (λ (x : List ℕ). later ++ x) c.as_str.ensures.value)

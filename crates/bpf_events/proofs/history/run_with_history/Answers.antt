@@ -19,5 +19,6 @@ returns c =
     let runs = c.args.schedule.now in
     let maps = c.args.maps in
     let m = c.in_ok-machine.machine in
-    IfOk-weaker c.history_of.result (λ (r : Report). (v : World) → Shows m v → IsHistory v runs names maps (string_bytes r.text) r.stopped) (λ (r : Report). IsHistory w runs names maps (string_bytes r.text) r.stopped)
+    IfOk-weaker c.history_of.result (λ (r : Report). (v : World) → Shows m v → IsHistory v runs names maps (string_bytes r.text) r.stopped)
+    (λ (r : Report). IsHistory w runs names maps (string_bytes r.text) r.stopped)
     (λ r told. told w c.in_ok-machine.ensures.shows) c.history_of.ensures

@@ -18,10 +18,12 @@ loop-cpu-preserved c =
     let text = string_bytes c.loop-cpu.text in
     let later = string_bytes c.make_turn.new.text in
     record {
-      told = one_cpu_more c.loop-cpu.cpu c.in_ok-answer.answer names c.args.machine.now c.loop-cpu.machine c.make_turn.new.machine (string_bytes c.args.text.now) text later c.loop-cpu.invariant.told
+      told = one_cpu_more c.loop-cpu.cpu c.in_ok-answer.answer names c.args.machine.now c.loop-cpu.machine c.make_turn.new.machine
+          (string_bytes c.args.text.now) text later c.loop-cpu.invariant.told
           c.in_ok-answer.ensures.told;
       shape = c.in_ok-answer.ensures.shape;
-      idle = idle_more c.loop-cpu.cpu c.in_ok-answer.answer c.loop-cpu.worked c.has_worked-worked.result names c.args.machine.now c.loop-cpu.machine c.make_turn.new.machine text later c.loop-cpu.invariant.idle
+      idle = idle_more c.loop-cpu.cpu c.in_ok-answer.answer c.loop-cpu.worked c.has_worked-worked.result names c.args.machine.now
+          c.loop-cpu.machine c.make_turn.new.machine text later c.loop-cpu.invariant.idle
           c.has_worked-worked.ensures c.in_ok-answer.ensures.told c.in_ok-answer.ensures.idle;
     }
 
@@ -29,8 +31,10 @@ pub returns-clause-told : goal.returns-clause-told
 returns-clause-told c =
     let all : c.loop-cpu.cpu ≡ c.cpus-cpu-end.result = omega arith in
     let names = map string_bytes c.args.names.now in
-    let told = subst (λ (n : ℕ). AreTold (Turns (below n)) names c.args.machine.now (string_bytes c.args.text.now) c.loop-cpu.machine (string_bytes c.loop-cpu.text)) all c.loop-cpu.invariant.told in
-    whole_round c.cpus-cpu-end.result names c.args.machine.now c.loop-cpu.machine (string_bytes c.args.text.now) (string_bytes c.loop-cpu.text) c.cpus-cpu-end.ensures told
+    let told = subst (λ (n : ℕ). AreTold (Turns (below n)) names c.args.machine.now (string_bytes c.args.text.now) c.loop-cpu.machine
+    (string_bytes c.loop-cpu.text)) all c.loop-cpu.invariant.told in
+    whole_round c.cpus-cpu-end.result names c.args.machine.now c.loop-cpu.machine (string_bytes c.args.text.now)
+    (string_bytes c.loop-cpu.text) c.cpus-cpu-end.ensures told
 
 pub returns-clause-ended : goal.returns-clause-ended
 returns-clause-ended c =

@@ -11,7 +11,8 @@ returns-clause-told c =
     let names = map string_bytes c.args.names.now in
     let text = string_bytes c.args.text.now in
     let answer = c.turn-answer.result in
-    turn_told c.args.cpu c.in_ok-at.at c.watch.new.recorder.events answer names c.args.machine.now c.turn-answer.new.self text (string_bytes c.push_turn.new.text) c.in_ok-at.ensures.watched c.turn-answer.ensures.turn
+    turn_told c.args.cpu c.in_ok-at.at c.watch.new.recorder.events answer names c.args.machine.now c.turn-answer.new.self text
+    (string_bytes c.push_turn.new.text) c.in_ok-at.ensures.watched c.turn-answer.ensures.turn
     (c.in_ok-push_turn.ensures ∙ ap (λ (es : List Event). text ++ history_lines names (noted c.args.cpu c.in_ok-at.at es answer)) c.notes.ensures)
 
 pub returns-clause-shape : goal.returns-clause-shape

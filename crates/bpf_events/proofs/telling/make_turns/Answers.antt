@@ -8,11 +8,13 @@ loop-cpu-init c = record { told = told_nothing (map string_bytes c.args.names.no
 
 pub loop-cpu-preserved : goal.loop-cpu-preserved
 loop-cpu-preserved c = record {
-  told = next_run c.args.schedule.now c.loop-cpu.cpu-index _ (map string_bytes c.args.names.now) c.args.machine.now c.loop-cpu.machine c.make_run.new.machine (string_bytes c.args.text.now)
+  told = next_run c.args.schedule.now c.loop-cpu.cpu-index _ (map string_bytes c.args.names.now) c.args.machine.now c.loop-cpu.machine
+      c.make_run.new.machine (string_bytes c.args.text.now)
       (string_bytes c.loop-cpu.text) (string_bytes c.make_run.new.text) (omega arith) c.loop-cpu.invariant.told c.in_ok-make_run.ensures.told;
   shape = c.in_ok-make_run.ensures.shape;
 }
 
 pub returns-clause-told : goal.returns-clause-told
 returns-clause-told c =
-    all_runs c.args.schedule.now c.loop-cpu.cpu-index (map string_bytes c.args.names.now) c.args.machine.now c.loop-cpu.machine (string_bytes c.args.text.now) (string_bytes c.loop-cpu.text) (omega arith) c.loop-cpu.invariant.told
+    all_runs c.args.schedule.now c.loop-cpu.cpu-index (map string_bytes c.args.names.now) c.args.machine.now c.loop-cpu.machine
+    (string_bytes c.args.text.now) (string_bytes c.loop-cpu.text) (omega arith) c.loop-cpu.invariant.told

@@ -7,6 +7,7 @@ use Rattle.bpf_events.proofs.telling.make_turns.Given as goal
 
 abbrev pub invariant-loop-cpu : goal.invariant-loop-cpu
 invariant-loop-cpu l = record {
-  told : AreTold (Turns (unrolled (take l.cpu-index l.schedule))) (map string_bytes l.names) l.fn.machine (string_bytes l.fn.text) l.machine (string_bytes l.text);
+  told : AreTold (Turns (unrolled (take l.cpu-index l.schedule))) (map string_bytes l.names) l.fn.machine (string_bytes l.fn.text) l.machine
+      (string_bytes l.text);
   shape : IsSameShape l.machine.store l.recorder.store;
 }

@@ -7,4 +7,5 @@ use Rattle.bpf_events.proofs.telling.push_notes.Given as goal
 
 abbrev pub invariant-loop-note : goal.invariant-loop-note
 invariant-loop-note l =
-    string_bytes l.text ≡ string_bytes l.fn.text ++ history_lines (map string_bytes l.names) (map (happening l.place.cpu l.place.job l.place.pc) (map event_of (take l.note-index l.notes)))
+    string_bytes l.text ≡ string_bytes l.fn.text ++ history_lines (map string_bytes l.names)
+    (map (happening l.place.cpu l.place.job l.place.pc) (map event_of (take l.note-index l.notes)))

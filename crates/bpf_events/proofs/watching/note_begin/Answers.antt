@@ -12,7 +12,8 @@ note_step-requires-clause-in_run c =
 
 pub returns-clause-noted : goal.returns-clause-noted
 returns-clause-noted c =
-    begin_noted c.args.program.now c.args.cpu c.args.input c.args.budget c.new-state.result c.args.recorder.now c.begin.new.self c.note_step.new.recorder c.requires.own c.requires.serves
+    begin_noted c.args.program.now c.args.cpu c.args.input c.args.budget c.new-state.result c.args.recorder.now c.begin.new.self
+    c.note_step.new.recorder c.requires.own c.requires.serves
     c.in-Ok.ensures.begun c.in-Ok.ensures.same.1 c.new-state.ensures c.note_step.ensures.noted
 
 pub returns-clause-shape : goal.returns-clause-shape

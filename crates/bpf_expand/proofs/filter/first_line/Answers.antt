@@ -13,7 +13,9 @@ use Rattle.bpf_expand.specs.Filter.{host_of}
 use Rattle.bpf_expand.specs.Lines.{state_line}
 use Rattle.bpf_expand.proofs.filter.first_line.Goals as goal
 
-told : {E : Type 0} (h : Shape) (pairs : List Pair) (programs : List Loaded) (jobs : List Task) (m : MachineState) (b bytes : List ℕ) (r : Result (String Global) E) → Shows m (first_world h pairs programs jobs) → IsStateOf (host_of false h programs jobs) m b → bytes ≡ b → IfOk r (λ t. string_bytes t ≡ state_line bytes)
+told : {E : Type 0} (h : Shape) (pairs : List Pair) (programs : List Loaded) (jobs : List Task) (m : MachineState) (b bytes : List ℕ)
+    (r : Result (String Global) E) → Shows m (first_world h pairs programs jobs) → IsStateOf (host_of false h programs jobs) m b → bytes ≡ b
+    → IfOk r (λ t. string_bytes t ≡ state_line bytes)
     → IfOk r (λ t. IsFirstLine h pairs programs jobs (string_bytes t))
 told h pairs programs jobs m b bytes (Ok t) shows state same line = (m, b, shows, state, line ∙ ap state_line same)
 told h pairs programs jobs m b bytes (Err e) shows state same line = tt
@@ -22,5 +24,7 @@ pub returns : goal.returns
 returns c =
     let e = c.in_ok-expander.expander in
     let s = c.args.setup in
-    told s.shape (map pair_of s.pairs.items) s.programs.items (map waiting s.jobs.items) e.machine c.in_ok-bytes.bytes.items c.deref.result.now c.state_line.result c.in_ok-expander.ensures.machine
-    (subst (λ (h : Host). IsStateOf h e.machine c.in_ok-bytes.bytes.items) c.in_ok-expander.ensures.host c.in_ok-bytes.ensures) c.deref.ensures.value c.state_line.ensures
+    told s.shape (map pair_of s.pairs.items) s.programs.items (map waiting s.jobs.items) e.machine c.in_ok-bytes.bytes.items
+    c.deref.result.now c.state_line.result c.in_ok-expander.ensures.machine
+    (subst (λ (h : Host). IsStateOf h e.machine c.in_ok-bytes.bytes.items) c.in_ok-expander.ensures.host c.in_ok-bytes.ensures)
+    c.deref.ensures.value c.state_line.ensures

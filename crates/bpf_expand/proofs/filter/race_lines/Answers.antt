@@ -17,5 +17,6 @@ returns c =
     let same : named ≡ named_in (shape_of c.args.machine.now.store) = c.named_of-named.ensures ∙ ap (λ (h : Shape). named_in h) shape in (
       races,
       c.in_ok-races.ensures,
-      c.in_ok-text.ensures ∙ (ap (λ (xs : List RaceFound). here_lines named names (length xs) xs) c.deref.ensures.value ∙ ap (λ (n : Named). here_lines n names (length races) races) same),
+      c.in_ok-text.ensures ∙ (ap (λ (xs : List RaceFound). here_lines named names (length xs) xs) c.deref.ensures.value ∙ ap
+          (λ (n : Named). here_lines n names (length races) races) same),
     )

@@ -11,4 +11,5 @@ loop-job-preserved c =
     let inside : c.loop-job.job < length jobs = omega (arith, c.loop-job.auto.job-end, c.loop-job-test.true) in
     let task : Task = get_or jobs c.loop-job.job no_task in
     let there = slice_get-get_or jobs c.loop-job.job no_task inside in
-    saved_next c.loop-job.out.items c.save_job.new.out.items c.args.out.now.items jobs c.loop-job.job task there c.loop-job.invariant (c.in_ok-save_job.ensures.ok task there)
+    saved_next c.loop-job.out.items c.save_job.new.out.items c.args.out.now.items jobs c.loop-job.job task there c.loop-job.invariant
+    (c.in_ok-save_job.ensures.ok task there)

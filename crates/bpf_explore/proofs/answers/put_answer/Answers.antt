@@ -15,13 +15,17 @@ pub returns-in_err-insert-clause-ends : goal.returns-in_err-insert-clause-ends
 returns-in_err-insert-clause-ends c w names maps one all = subst (AllEnd w names maps) (sym c.in_err-insert.ensures.items) all
 
 pub returns-clause-sorted : goal.returns-clause-sorted
-returns-clause-sorted c = subst AreSorted (sym c.in_ok-insert.ensures.items) (sorted_still c.args.answers.now.items c.args.at c.args.answer c.requires.place.within c.requires.sorted c.requires.place)
+returns-clause-sorted c = subst AreSorted (sym c.in_ok-insert.ensures.items)
+    (sorted_still c.args.answers.now.items c.args.at c.args.answer c.requires.place.within c.requires.sorted c.requires.place)
 
 pub returns-clause-keeps : goal.returns-clause-keeps
-returns-clause-keeps c = subst (KeepsAll c.args.answers.now.items) (sym c.in_ok-insert.ensures.items) (kept_all c.args.answers.now.items c.args.at c.args.answer c.requires.place.within)
+returns-clause-keeps c = subst (KeepsAll c.args.answers.now.items) (sym c.in_ok-insert.ensures.items)
+    (kept_all c.args.answers.now.items c.args.at c.args.answer c.requires.place.within)
 
 pub returns-clause-ends : goal.returns-clause-ends
-returns-clause-ends c w names maps one all = subst (AllEnd w names maps) (sym c.in_ok-insert.ensures.items) (all_end c.args.answers.now.items c.args.at c.args.answer c.requires.place.within w names maps one all)
+returns-clause-ends c w names maps one all = subst (AllEnd w names maps) (sym c.in_ok-insert.ensures.items)
+    (all_end c.args.answers.now.items c.args.at c.args.answer c.requires.place.within w names maps one all)
 
 pub returns-clause-put : goal.returns-clause-put
-returns-clause-put c = ap (λ (xs : List Found). slice_get xs c.args.at) c.in_ok-insert.ensures.items ∙ at_here c.args.answers.now.items c.args.at c.args.answer c.requires.place.within
+returns-clause-put c = ap (λ (xs : List Found). slice_get xs c.args.at) c.in_ok-insert.ensures.items ∙ at_here c.args.answers.now.items
+    c.args.at c.args.answer c.requires.place.within

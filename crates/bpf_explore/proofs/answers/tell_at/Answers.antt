@@ -9,7 +9,8 @@ returns-then-not-has_ended-clause-gathered c =
     let names = names_of c.args.names.now in
     let kept = c.args.explorer.now.kept in
     let answers = c.args.answers.now.items in
-    more_gathered kept names c.args.maps c.args.place answers answers c.requires.gathered c.requires.gathered.sorted (none_lost answers) c.requires.gathered.ends
+    more_gathered kept names c.args.maps c.args.place answers answers c.requires.gathered c.requires.gathered.sorted (none_lost answers)
+    c.requires.gathered.ends
     (has_work kept names c.args.maps answers c.args.place (c.if-not-has_ended.ensures.works refl))
 
 pub tell_ended-requires : goal.tell_ended-requires
@@ -26,4 +27,5 @@ returns-clause-gathered c =
     let names = names_of c.args.names.now in
     let kept = c.args.explorer.now.kept in
     let e = c.in_ok-tell_ended.ensures in
-    more_gathered kept names c.args.maps c.args.place c.args.answers.now.items c.tell_ended.new.answers.items c.requires.gathered e.sorted e.keeps e.ends e.answered
+    more_gathered kept names c.args.maps c.args.place c.args.answers.now.items c.tell_ended.new.answers.items c.requires.gathered e.sorted
+    e.keeps e.ends e.answered

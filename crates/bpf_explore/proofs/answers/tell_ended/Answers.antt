@@ -23,11 +23,14 @@ returns-in-Ok-clause-answered c =
     let stopped = c.in_ok-text.field-0.stopped in
     let at = c.in_ok-restore.ensures.ok in
     let none = c.machine.ensures.lists in
-    let told : (w : World) → Shows m w → TellsWith (lines_of_lists w names.maps) w.store w.jobs names maps text stopped = λ w shows. c.in_ok-text.ensures w (subst (λ (n : MachineState). Shows n w) (sym c.machine.ensures.machine) shows) in
+    let told : (w : World) → Shows m w → TellsWith (lines_of_lists w names.maps) w.store w.jobs names maps text stopped = λ w shows.
+    c.in_ok-text.ensures w (subst (λ (n : MachineState). Shows n w) (sym c.machine.ensures.machine) shows) in
     let found = c.in-Ok.ensures.found in
-    let there : slice_get c.args.answers.now.items c.in-Ok.field-0 ≡ Some found.0 = ap (λ (xs : List Found). slice_get xs c.in-Ok.field-0) (sym c.deref.ensures.value) ∙ found.1 in
+    let there : slice_get c.args.answers.now.items c.in-Ok.field-0 ≡ Some found.0 = ap (λ (xs : List Found). slice_get xs c.in-Ok.field-0)
+    (sym c.deref.ensures.value) ∙ found.1 in
     let same : found.0.text ≡ text = found.2 ∙ c.as_str.ensures.value in
-    let stop = stopped_same kept m names maps c.args.place text stopped at none c.requires.ended told c.args.answers.now.items c.in-Ok.field-0 found.0 c.leads.ensures c.requires.place c.requires.first c.requires.ends there same in
+    let stop = stopped_same kept m names maps c.args.place text stopped at none c.requires.ended told c.args.answers.now.items
+    c.in-Ok.field-0 found.0 c.leads.ensures c.requires.place c.requires.first c.requires.ends there same in
     answered_by kept m names maps c.args.answers.now.items c.args.place c.in-Ok.field-0 found.0 text stopped at none told there same stop
 
 pub way-requires : goal.way-requires
@@ -50,10 +53,12 @@ returns-in_ok-put_answer-in-Err-clause-ends c w first =
     let stopped = c.in_ok-text.field-0.stopped in
     let at = c.in_ok-restore.ensures.ok in
     let none = c.machine.ensures.lists in
-    let told : (w : World) → Shows m w → TellsWith (lines_of_lists w names.maps) w.store w.jobs names maps text stopped = λ w shows. c.in_ok-text.ensures w (subst (λ (n : MachineState). Shows n w) (sym c.machine.ensures.machine) shows) in
+    let told : (w : World) → Shows m w → TellsWith (lines_of_lists w names.maps) w.store w.jobs names maps text stopped = λ w shows.
+    c.in_ok-text.ensures w (subst (λ (n : MachineState). Shows n w) (sym c.machine.ensures.machine) shows) in
     let by = c.in_ok-by-in-Err.by.items in
     let leads = subst (λ (ms : List MachineState). LeadsFrom ms 0 (unrolled by) c.args.place) c.restore.ensures.same c.in_ok-by-in-Err.ensures in
-    c.put_answer.ensures.ends w names maps (ends_by kept m names maps c.args.place text stopped at none c.requires.ended told by leads w first) (c.requires.ends w first)
+    c.put_answer.ensures.ends w names maps (ends_by kept m names maps c.args.place text stopped at none c.requires.ended told by leads w
+    first) (c.requires.ends w first)
 
 pub returns-in_ok-put_answer-in-Err-clause-answered : goal.returns-in_ok-put_answer-in-Err-clause-answered
 returns-in_ok-put_answer-in-Err-clause-answered c =
@@ -65,9 +70,11 @@ returns-in_ok-put_answer-in-Err-clause-answered c =
     let stopped = c.in_ok-text.field-0.stopped in
     let at = c.in_ok-restore.ensures.ok in
     let none = c.machine.ensures.lists in
-    let told : (w : World) → Shows m w → TellsWith (lines_of_lists w names.maps) w.store w.jobs names maps text stopped = λ w shows. c.in_ok-text.ensures w (subst (λ (n : MachineState). Shows n w) (sym c.machine.ensures.machine) shows) in
+    let told : (w : World) → Shows m w → TellsWith (lines_of_lists w names.maps) w.store w.jobs names maps text stopped = λ w shows.
+    c.in_ok-text.ensures w (subst (λ (n : MachineState). Shows n w) (sym c.machine.ensures.machine) shows) in
     let found : Found = record { text = text; stopped = stopped; by = c.in_ok-by-in-Err.by.items } in
-    answered_by kept m names maps c.put_answer.new.answers.items c.args.place c.in-Err.at found text stopped at none told c.in_ok-put_answer-in-Err.ensures.put refl refl
+    answered_by kept m names maps c.put_answer.new.answers.items c.args.place c.in-Err.at found text stopped at none told
+    c.in_ok-put_answer-in-Err.ensures.put refl refl
 
 pub returns-in_err-restore-clause-same : goal.returns-in_err-restore-clause-same
 returns-in_err-restore-clause-same c = c.restore.ensures.same

@@ -13,8 +13,10 @@ loop-job-preserved c =
       count = before.count;
       far = λ programs right loaded. (
           let there = loaded job (chosen_at parts numbers job) (chosen_there parts numbers job (omega arith)) in
-          next_alike programs parts numbers c.args.others.now job (before.far programs right loaded) (c.if-not-is_like_part.ensures refl programs there.0 right there.1));
+          next_alike programs parts numbers c.args.others.now job (before.far programs right loaded)
+          (c.if-not-is_like_part.ensures refl programs there.0 right there.1));
     }
 
 pub returns : goal.returns
-returns c is programs right loaded = all_alike_below programs c.args.parts.now c.args.numbers.now c.args.others.now c.loop-job.invariant.count (λ k less. c.loop-job.invariant.far programs right loaded k (omega arith))
+returns c is programs right loaded = all_alike_below programs c.args.parts.now c.args.numbers.now c.args.others.now
+    c.loop-job.invariant.count (λ k less. c.loop-job.invariant.far programs right loaded k (omega arith))

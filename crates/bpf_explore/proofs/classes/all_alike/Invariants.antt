@@ -9,5 +9,6 @@ use Rattle.bpf_explore.proofs.classes.all_alike.Given as goal
 abbrev pub invariant-loop-job : goal.invariant-loop-job
 invariant-loop-job l = record {
   count : length l.others ≡ length l.numbers;
-  far : (programs : List Loaded) → AreLiveTables programs (table_at l.tables) → AreLoaded programs (chosen l.parts l.numbers) → AlikeBelow programs l.parts l.numbers l.others l.job;
+  far : (programs : List Loaded) → AreLiveTables programs (table_at l.tables) → AreLoaded programs (chosen l.parts l.numbers) → AlikeBelow
+      programs l.parts l.numbers l.others l.job;
 }

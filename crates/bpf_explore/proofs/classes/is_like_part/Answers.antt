@@ -12,7 +12,11 @@ returns-then-number-other c is programs program right loaded = inl (ap (λ (n : 
 pub returns : goal.returns
 returns c is programs program right loaded =
     let parts = c.args.parts.now in
-    let one : c.index-parts-number.result ≡ slice_index_or parts c.args.number no_task = part_read parts c.args.number c.index-parts-number.result c.requires.within c.index-parts-number.is in
-    let two : c.index-parts-other.result ≡ slice_index_or parts c.args.other no_task = part_read parts c.args.other c.index-parts-other.result c.requires.other c.index-parts-other.is in
-    let there : slice_get programs c.index-parts-number.result.program ≡ Some program = subst (λ (t : Task). slice_get programs t.program ≡ Some program) (sym one) loaded in
-    subst (λ (t : Task). IsAlike programs t (slice_index_or parts c.args.other no_task)) one (subst (IsAlike programs c.index-parts-number.result) two (c.are_alike.ensures is programs program right there))
+    let one : c.index-parts-number.result ≡ slice_index_or parts c.args.number no_task = part_read parts c.args.number
+    c.index-parts-number.result c.requires.within c.index-parts-number.is in
+    let two : c.index-parts-other.result ≡ slice_index_or parts c.args.other no_task = part_read parts c.args.other
+    c.index-parts-other.result c.requires.other c.index-parts-other.is in
+    let there : slice_get programs c.index-parts-number.result.program ≡ Some program = subst
+    (λ (t : Task). slice_get programs t.program ≡ Some program) (sym one) loaded in
+    subst (λ (t : Task). IsAlike programs t (slice_index_or parts c.args.other no_task)) one
+    (subst (IsAlike programs c.index-parts-number.result) two (c.are_alike.ensures is programs program right there))

@@ -14,8 +14,10 @@ returns-in_err-add_answer-clause-ends c w first =
     let m = c.dive.new.self.machine in
     let by = c.in_ok-by.by.items in
     let dived = subst (λ (ms : List MachineState). IsReplayed ms (unrolled by) m) c.loop-number.invariant.same c.in_ok-by.ensures.dived in
-    let ends = found_ends kept m c.machine.result.now names c.args.maps c.in_ok-report.field-0 c.in-Some.report by c.machine.ensures.machine c.machine.ensures.lists dived c.in-Some.is c.in_ok-report.ensures.ended c.in_ok-report.ensures.told c.new.result c.new.ensures w first in
-    all_end_still c.loop-number.answers.items c.add_answer.new.answers.items c.new.result w names c.args.maps c.add_answer.ensures.adds ends (c.loop-number.invariant.ends w first)
+    let ends = found_ends kept m c.machine.result.now names c.args.maps c.in_ok-report.field-0 c.in-Some.report by c.machine.ensures.machine
+    c.machine.ensures.lists dived c.in-Some.is c.in_ok-report.ensures.ended c.in_ok-report.ensures.told c.new.result c.new.ensures w first in
+    all_end_still c.loop-number.answers.items c.add_answer.new.answers.items c.new.result w names c.args.maps c.add_answer.ensures.adds ends
+    (c.loop-number.invariant.ends w first)
 
 pub returns-in_err-add_answer-clause-keeps : goal.returns-in_err-add_answer-clause-keeps
 returns-in_err-add_answer-clause-keeps c =
@@ -31,8 +33,12 @@ loop-number-preserved c =
     record {
       same = c.dive.ensures.same ∙ c.loop-number.invariant.same;
       sorted = c.add_answer.ensures.sorted;
-      keeps = more_kept c.args.answers.now.items c.loop-number.answers.items c.add_answer.new.answers.items c.loop-number.invariant.keeps c.add_answer.ensures.keeps;
+      keeps = more_kept c.args.answers.now.items c.loop-number.answers.items c.add_answer.new.answers.items c.loop-number.invariant.keeps
+          c.add_answer.ensures.keeps;
       ends = λ w first. (
-          let ends = found_ends kept m c.machine.result.now names c.args.maps c.in_ok-report.field-0 c.in-Some.report by c.machine.ensures.machine c.machine.ensures.lists dived c.in-Some.is c.in_ok-report.ensures.ended c.in_ok-report.ensures.told c.new.result c.new.ensures w first in
-          all_end_still c.loop-number.answers.items c.add_answer.new.answers.items c.new.result w names c.args.maps c.add_answer.ensures.adds ends (c.loop-number.invariant.ends w first));
+          let ends = found_ends kept m c.machine.result.now names c.args.maps c.in_ok-report.field-0 c.in-Some.report by
+          c.machine.ensures.machine c.machine.ensures.lists dived c.in-Some.is c.in_ok-report.ensures.ended
+          c.in_ok-report.ensures.told c.new.result c.new.ensures w first in
+          all_end_still c.loop-number.answers.items c.add_answer.new.answers.items c.new.result w names c.args.maps
+          c.add_answer.ensures.adds ends (c.loop-number.invariant.ends w first));
     }

@@ -9,7 +9,8 @@ returns-then-leads_to_end-clause-lead c =
     let kept = c.args.explorer.now.kept in
     let place = c.args.place in
     let off = subst (λ (ms : List Bool). slice_get ms place ≡ Some false) c.deref.ensures.value c.if-mark_of.ensures in
-    let leads = subst (λ (ms : List Bool). LeadToEnds kept ms → LeadsToEnd kept place) c.deref-2.ensures.value (c.if-leads_to_end.ensures.leads refl) c.requires.lead in
+    let leads = subst (λ (ms : List Bool). LeadToEnds kept ms → LeadsToEnd kept place) c.deref-2.ensures.value
+    (c.if-leads_to_end.ensures.leads refl) c.requires.lead in
     subst (LeadToEnds kept) (sym c.set_mark.ensures) (one_more_marked kept c.args.marks.now.items place false off c.requires.lead leads)
 
 pub returns-then-leads_to_end-clause-fewer : goal.returns-then-leads_to_end-clause-fewer

@@ -8,5 +8,6 @@ less old new false fewer least = omega arith
 
 pub loop-more-smaller : goal.loop-more-smaller
 loop-more-smaller c =
-    let far = less (unmarked c.loop-more.marks.items) (unmarked c.mark_more-more.new.marks.items) c.mark_more-more.result c.mark_more-more.ensures.fewer c.mark_more-more.ensures.no_more in
+    let far = less (unmarked c.loop-more.marks.items) (unmarked c.mark_more-more.new.marks.items) c.mark_more-more.result
+    c.mark_more-more.ensures.fewer c.mark_more-more.ensures.no_more in
     rw c.loop-more-test.true far

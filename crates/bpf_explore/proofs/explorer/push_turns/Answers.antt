@@ -9,7 +9,10 @@ returns c =
     let rest = c.pop.new.self.items in
     let cpu = c.args.cpu in
     let turns = c.args.turns in
-    let old : c.args.by.now.items ≡ rest ++ (cpu, c.in-Some.more) ∷ [] = c.pop.ensures.items ∙ (ap (λ (o : Option (ℕ × ℕ)). rest ++ option_to_list o) c.in-Some.is ∙ ap (λ (d : ℕ). rest ++ (d, c.in-Some.more) ∷ []) c.if-last-cpu.true) in
+    let old : c.args.by.now.items ≡ rest ++ (cpu, c.in-Some.more) ∷ [] = c.pop.ensures.items ∙
+    (ap (λ (o : Option (ℕ × ℕ)). rest ++ option_to_list o) c.in-Some.is ∙ ap (λ (d : ℕ). rest ++ (d, c.in-Some.more) ∷ [])
+    c.if-last-cpu.true) in
     let sum : c.in-Some-checked_add.sum ≡ c.in-Some.more + turns = omega (arith, c.in-Some-checked_add.ensures) in
     ap (λ (xs : List (ℕ × ℕ)). unrolled (reverse xs)) c.in_ok-push-2.ensures.items
-    ∙ (more_back rest cpu c.in-Some.more turns c.in-Some-checked_add.sum sum ∙ ap (λ (xs : List (ℕ × ℕ)). replicate turns cpu ++ unrolled (reverse xs)) (sym old))
+    ∙ (more_back rest cpu c.in-Some.more turns c.in-Some-checked_add.sum sum ∙ ap
+    (λ (xs : List (ℕ × ℕ)). replicate turns cpu ++ unrolled (reverse xs)) (sym old))

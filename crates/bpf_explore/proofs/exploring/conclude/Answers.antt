@@ -19,4 +19,5 @@ returns c w limit begins came =
     subst (λ (b : Bool). IsExplored w names maps answers b c.is_refused.result limit c.len-states.result) (sym all)
     (subst (λ (b : Bool). IsExplored w names maps answers (is_whole extent) b limit c.len-states.result) (sym refused)
     (subst (IsExplored w names maps answers (is_whole extent) (is_refused extent) limit) (sym count)
-    (explored c.cover_tells_all.ensures kept w names maps answers extent limit begins came c.in_ok-answers.ensures.outcomes (λ whole. c.in_ok-answers.ensures.answered) c.leads.ensures c.apart.ensures)))
+    (explored c.cover_tells_all.ensures kept w names maps answers extent limit begins came c.in_ok-answers.ensures.outcomes
+    (λ whole. c.in_ok-answers.ensures.answered) c.leads.ensures c.apart.ensures)))

@@ -38,10 +38,12 @@ returns c w limit begins came =
     let gathered = c.find_patiently.ensures.same ∙ taken in
     let count : c.len-states.result ≡ length kept = c.len-states.ensures ∙ ap (λ (ms : List MachineState). length ms) (c.judge.ensures.same ∙ gathered) in
     subst (λ (n : ℕ). IsSearchedPatiently w names maps answers c.both-all.result c.is_refused.result limit n hung budgets) (sym count)
-    (explored_patiently c.alike_can_end.ensures c.patient_tell_all.ensures kept w names maps answers c.args.extent c.is_whole-whole.result fit c.both-all.result c.is_refused.result limit hung budgets begins came
+    (explored_patiently c.alike_can_end.ensures c.patient_tell_all.ensures kept w names maps answers c.args.extent c.is_whole-whole.result
+    fit c.both-all.result c.is_refused.result limit hung budgets begins came
     c.is_whole-whole.ensures c.is_refused.ensures
     (subst (λ (ms : List MachineState). (u : World) → IsFirst ms u → ArePatient u names maps answers) taken c.in_ok-answers.ensures.outcomes)
-    (λ whole is. subst (λ (ms : List MachineState). (i : ℕ) → IsAnsweredAt ms names maps answers i) taken (c.in_ok-answers.ensures.answered (c.in_ok-hung.ensures.told is)))
+    (λ whole is. subst (λ (ms : List MachineState). (i : ℕ) → IsAnsweredAt ms names maps answers i) taken
+    (c.in_ok-answers.ensures.answered (c.in_ok-hung.ensures.told is)))
     (subst (λ (ms : List MachineState). AllHang ms hung) gathered c.in_ok-hung.ensures.hung)
     (λ is fits. subst (λ (ms : List MachineState). AllLeadOrBeyond ms hung) gathered (c.in_ok-hung.ensures.ends is fits))
     c.both-all.ensures.both c.both-all.ensures.not c.in_ok-hung.ensures.unfit

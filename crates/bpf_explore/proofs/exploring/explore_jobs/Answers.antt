@@ -24,6 +24,12 @@ returns g c =
     let kept = c.explore-extent.new.frontier.kept in
     let extent = c.explore-extent.result in
     let begins : BeginsAt kept w = still_begins c.in_ok-explorer.explorer.kept kept w c.in_ok-explorer.ensures c.explore-extent.ensures.extends in
-    let came : CameTo false kept extent limit = record { whole = c.explore-extent.ensures.whole; covers = c.explore-extent.ensures.covers; met = c.explore-extent.ensures.met; short = c.explore-extent.ensures.short } in
-    IfOk-weaker c.conclude.result (λ (e : Explored). (v : World) (n : ℕ) → BeginsAt kept v → CameTo false kept extent n → IsExplored v names maps e.answers.items e.all e.refused n e.states) (λ (e : Explored). IsExplored w names maps e.answers.items e.all e.refused limit e.states)
+    let came : CameTo false kept extent limit = record {
+      whole = c.explore-extent.ensures.whole;
+      covers = c.explore-extent.ensures.covers;
+      met = c.explore-extent.ensures.met;
+      short = c.explore-extent.ensures.short;
+    } in
+    IfOk-weaker c.conclude.result (λ (e : Explored). (v : World) (n : ℕ) → BeginsAt kept v → CameTo false kept extent n → IsExplored v names
+    maps e.answers.items e.all e.refused n e.states) (λ (e : Explored). IsExplored w names maps e.answers.items e.all e.refused limit e.states)
     (λ e found. found w limit begins came) c.conclude.ensures

@@ -13,7 +13,8 @@ pub dive_further-requires-clause-sorted : goal.dive_further-requires-clause-sort
 dive_further-requires-clause-sorted c = (c.in_ok-answers.ensures.outcomes c.requires.0 c.requires.1).sorted
 
 pub dive_further-requires-clause-ends : goal.dive_further-requires-clause-ends
-dive_further-requires-clause-ends c w first = (c.in_ok-answers.ensures.outcomes w (subst (λ (ms : List MachineState). IsFirst ms w) c.gather.ensures.same first)).each
+dive_further-requires-clause-ends c w first = (c.in_ok-answers.ensures.outcomes w
+    (subst (λ (ms : List MachineState). IsFirst ms w) c.gather.ensures.same first)).each
 
 pub returns-clause-outcomes : goal.returns-clause-outcomes
 returns-clause-outcomes c w first = record {
@@ -23,4 +24,5 @@ returns-clause-outcomes c w first = record {
 
 pub returns-clause-answered : goal.returns-clause-answered
 returns-clause-answered c i =
-    answered_still c.args.explorer.now.kept (names_of c.args.names.now) c.args.maps c.in_ok-answers.answers.items c.dive_further.new.answers.items i c.dive_further.ensures.keeps (c.in_ok-answers.ensures.answered i)
+    answered_still c.args.explorer.now.kept (names_of c.args.names.now) c.args.maps c.in_ok-answers.answers.items
+    c.dive_further.new.answers.items i c.dive_further.ensures.keeps (c.in_ok-answers.ensures.answered i)

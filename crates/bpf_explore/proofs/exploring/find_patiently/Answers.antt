@@ -7,13 +7,15 @@ use Rattle.bpf_explore.proofs.AnswerLaws.{answered_still}
 use Rattle.bpf_explore.proofs.exploring.find_patiently.Goals as goal
 
 pub dive_patiently-requires-clause-first : goal.dive_patiently-requires-clause-first
-dive_patiently-requires-clause-first c = subst (λ (ms : List MachineState). (w : World) × IsFirst ms w) (sym c.gather_patiently.ensures.same) (c.requires.0, c.requires.2)
+dive_patiently-requires-clause-first c = subst (λ (ms : List MachineState). (w : World) × IsFirst ms w)
+    (sym c.gather_patiently.ensures.same) (c.requires.0, c.requires.2)
 
 pub dive_patiently-requires-clause-sorted : goal.dive_patiently-requires-clause-sorted
 dive_patiently-requires-clause-sorted c = (c.in_ok-answers.ensures.outcomes c.requires.0 c.requires.2).sorted
 
 pub dive_patiently-requires-clause-ends : goal.dive_patiently-requires-clause-ends
-dive_patiently-requires-clause-ends c w first = (c.in_ok-answers.ensures.outcomes w (subst (λ (ms : List MachineState). IsFirst ms w) c.gather_patiently.ensures.same first)).each
+dive_patiently-requires-clause-ends c w first = (c.in_ok-answers.ensures.outcomes w
+    (subst (λ (ms : List MachineState). IsFirst ms w) c.gather_patiently.ensures.same first)).each
 
 pub returns-clause-outcomes : goal.returns-clause-outcomes
 returns-clause-outcomes c w first = record {
@@ -23,4 +25,5 @@ returns-clause-outcomes c w first = record {
 
 pub returns-clause-answered : goal.returns-clause-answered
 returns-clause-answered c told i =
-    answered_still c.args.explorer.now.kept (names_of c.args.names.now) c.args.maps c.in_ok-answers.answers.items c.dive_patiently.new.answers.items i c.dive_patiently.ensures.keeps (c.in_ok-answers.ensures.answered told i)
+    answered_still c.args.explorer.now.kept (names_of c.args.names.now) c.args.maps c.in_ok-answers.answers.items
+    c.dive_patiently.new.answers.items i c.dive_patiently.ensures.keeps (c.in_ok-answers.ensures.answered told i)

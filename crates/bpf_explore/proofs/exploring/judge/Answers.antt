@@ -6,7 +6,8 @@ use Rattle.bpf_explore.proofs.ExploreLaws.{one_there}
 use Rattle.bpf_explore.proofs.exploring.judge.Goals as goal
 
 pub find_budgets-requires-clause-first : goal.find_budgets-requires-clause-first
-find_budgets-requires-clause-first c = subst (λ (ms : List MachineState). 0 < length ms) (sym c.find_hung.ensures.same) (one_there c.args.explorer.now.kept c.requires.fresh)
+find_budgets-requires-clause-first c = subst (λ (ms : List MachineState). 0 < length ms) (sym c.find_hung.ensures.same)
+    (one_there c.args.explorer.now.kept c.requires.fresh)
 
 pub find_budgets-requires-clause-turns : goal.find_budgets-requires-clause-turns
 find_budgets-requires-clause-turns c is = subst (λ (ms : List MachineState). AreTurns ms c.args.turns.now) (sym c.find_hung.ensures.same) (c.requires.turns is)

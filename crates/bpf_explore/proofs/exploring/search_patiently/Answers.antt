@@ -28,8 +28,14 @@ returns g c =
     let kept = c.explore-extent.new.frontier.kept in
     let extent = c.explore-extent.result in
     let begins : BeginsAt kept w = still_begins c.in_ok-explorer.explorer.kept kept w c.in_ok-explorer.ensures.begins c.explore-extent.ensures.extends in
-    let came : CameTo true kept extent limit = record { whole = c.explore-extent.ensures.whole; covers = c.explore-extent.ensures.covers; met = c.explore-extent.ensures.met; short = c.explore-extent.ensures.short } in
+    let came : CameTo true kept extent limit = record {
+      whole = c.explore-extent.ensures.whole;
+      covers = c.explore-extent.ensures.covers;
+      met = c.explore-extent.ensures.met;
+      short = c.explore-extent.ensures.short;
+    } in
     IfOk-weaker c.conclude_patiently.result
-    (λ (e : ExploredPatiently). (v : World) (n : ℕ) → BeginsAt kept v → CameTo true kept extent n → IsSearchedPatiently v names maps e.answers.items e.all e.refused n e.states e.hung.items e.budgets)
+    (λ (e : ExploredPatiently). (v : World) (n : ℕ) → BeginsAt kept v → CameTo true kept extent n → IsSearchedPatiently v names maps
+    e.answers.items e.all e.refused n e.states e.hung.items e.budgets)
     (λ (e : ExploredPatiently). IsSearchedPatiently w names maps e.answers.items e.all e.refused limit e.states e.hung.items e.budgets)
     (λ e found. found w limit begins came) c.conclude_patiently.ensures

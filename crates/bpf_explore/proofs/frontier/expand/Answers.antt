@@ -19,8 +19,11 @@ loop-cpu-preserved g c =
     let inv = c.loop-cpu.invariant in
     let place = c.args.place in
     let cpu = c.loop-cpu.cpu in record {
-      far = next_turned (is_patient c.args.frontier.now) (is_patient c.loop-cpu.frontier) (is_patient c.turn.new.self) (kept c.args.frontier.now) (kept c.loop-cpu.frontier) (kept c.turn.new.self) place cpu c.requires inv.far c.turn.ensures.extends c.turn.ensures.same c.in_ok-turn.ensures.turned;
-      made = λ turns is. subst (g.F.Frontier.has_made c.turn.new.self) (one_more_turn turns place cpu) (c.in_ok-turn.ensures.made (turns ++ row_of place cpu) (inv.made turns is));
+      far = next_turned (is_patient c.args.frontier.now) (is_patient c.loop-cpu.frontier) (is_patient c.turn.new.self)
+          (kept c.args.frontier.now) (kept c.loop-cpu.frontier) (kept c.turn.new.self) place cpu c.requires inv.far c.turn.ensures.extends
+          c.turn.ensures.same c.in_ok-turn.ensures.turned;
+      made = λ turns is. subst (g.F.Frontier.has_made c.turn.new.self) (one_more_turn turns place cpu)
+          (c.in_ok-turn.ensures.made (turns ++ row_of place cpu) (inv.made turns is));
       width = c.turn.ensures.width ∙ inv.width;
     }
 
@@ -28,9 +31,11 @@ pub returns-clause-expanded : goal.returns-clause-expanded
 returns-clause-expanded g c =
     let kept = g.F.Frontier.kept in
     let is_patient = g.F.Frontier.is_patient in
-    all_turned (is_patient c.args.frontier.now) (is_patient c.loop-cpu.frontier) (kept c.args.frontier.now) (kept c.loop-cpu.frontier) c.args.place c.loop-cpu.cpu c.cpus-cpu-end.result c.requires c.cpus-cpu-end.ensures.idle (omega arith) c.loop-cpu.invariant.far
+    all_turned (is_patient c.args.frontier.now) (is_patient c.loop-cpu.frontier) (kept c.args.frontier.now) (kept c.loop-cpu.frontier)
+    c.args.place c.loop-cpu.cpu c.cpus-cpu-end.result c.requires c.cpus-cpu-end.ensures.idle (omega arith) c.loop-cpu.invariant.far
 
 pub returns-clause-made : goal.returns-clause-made
 returns-clause-made g c turns is =
     let last : c.loop-cpu.cpu ≡ c.cpus-cpu-end.result = omega arith in
-    subst (λ (n : ℕ). g.F.Frontier.has_made c.loop-cpu.frontier (turns ++ row_of c.args.place n)) (last ∙ c.cpus-cpu-end.ensures.width) (c.loop-cpu.invariant.made turns is)
+    subst (λ (n : ℕ). g.F.Frontier.has_made c.loop-cpu.frontier (turns ++ row_of c.args.place n)) (last ∙ c.cpus-cpu-end.ensures.width)
+    (c.loop-cpu.invariant.made turns is)

@@ -22,8 +22,11 @@ loop-next-preserved g c =
     let first = c.args.frontier.now in
     let next = c.loop-next.next in
     let new = c.expand.new.frontier in record {
-      far = next_expanded (is_patient first) (is_patient c.loop-next.frontier) (is_patient new) (kept first) (kept c.loop-next.frontier) (kept new) next inv.far (omega arith) c.expand.ensures.extends c.expand.ensures.same c.in-Ok.ensures.expanded;
-      made = λ is. subst (has_made new) (one_more_row (width first) next) (subst (λ (n : ℕ). has_made new (rows_of (width first) next ++ row_of next n)) inv.width (c.in-Ok.ensures.made (rows_of (width first) next) (inv.made is)));
+      far = next_expanded (is_patient first) (is_patient c.loop-next.frontier) (is_patient new) (kept first) (kept c.loop-next.frontier)
+          (kept new) next inv.far (omega arith) c.expand.ensures.extends c.expand.ensures.same c.in-Ok.ensures.expanded;
+      made = λ is. subst (has_made new) (one_more_row (width first) next)
+          (subst (λ (n : ℕ). has_made new (rows_of (width first) next ++ row_of next n)) inv.width
+          (c.in-Ok.ensures.made (rows_of (width first) next) (inv.made is)));
       width = c.expand.ensures.width ∙ inv.width;
     }
 
@@ -31,14 +34,16 @@ pub returns-clause-whole : goal.returns-clause-whole
 returns-clause-whole g c all =
     let kept = g.F.Frontier.kept in
     let is_patient = g.F.Frontier.is_patient in
-    all_expanded (is_patient c.args.frontier.now) (is_patient c.loop-next.frontier) (kept c.args.frontier.now) (kept c.loop-next.frontier) c.loop-next.next (omega arith) c.loop-next.invariant.far
+    all_expanded (is_patient c.args.frontier.now) (is_patient c.loop-next.frontier) (kept c.args.frontier.now) (kept c.loop-next.frontier)
+    c.loop-next.next (omega arith) c.loop-next.invariant.far
 
 pub returns-clause-covers : goal.returns-clause-covers
 returns-clause-covers g c all =
     let kept = g.F.Frontier.kept in
     let is_patient = g.F.Frontier.is_patient in
     covers_all c.alike_sets_cover.ensures c.alike_patient_sets_cover.ensures (is_patient c.loop-next.frontier) (kept c.loop-next.frontier)
-    (all_expanded (is_patient c.args.frontier.now) (is_patient c.loop-next.frontier) (kept c.args.frontier.now) (kept c.loop-next.frontier) c.loop-next.next (omega arith) c.loop-next.invariant.far)
+    (all_expanded (is_patient c.args.frontier.now) (is_patient c.loop-next.frontier) (kept c.args.frontier.now) (kept c.loop-next.frontier)
+    c.loop-next.next (omega arith) c.loop-next.invariant.far)
 
 pub returns-clause-made : goal.returns-clause-made
 returns-clause-made g c all is =
@@ -48,4 +53,5 @@ returns-clause-made g c all is =
     let frontier = c.loop-next.frontier in
     let inside = inv.far.inside in
     let last : c.loop-next.next ≡ length (g.F.Frontier.kept frontier) = omega arith in
-    subst (λ (n : ℕ). has_made frontier (rows_of (width frontier) n)) last (subst (λ (n : ℕ). has_made frontier (rows_of n c.loop-next.next)) (sym inv.width) (inv.made is))
+    subst (λ (n : ℕ). has_made frontier (rows_of (width frontier) n)) last
+    (subst (λ (n : ℕ). has_made frontier (rows_of n c.loop-next.next)) (sym inv.width) (inv.made is))

@@ -11,12 +11,15 @@ hung_at-requires c = record {
 }
 
 pub returns-clause-hung : goal.returns-clause-hung
-returns-clause-hung c all = one_more_hung c.args.explorer.now.kept c.args.hung.now.items c.push.new.self.items c.in-Some.found all (some_hung c.args.explorer.now.kept c.in_ok-found.field-0 c.in-Some.found c.in-Some.is c.in_ok-found.ensures.hung) c.in_ok-push.ensures.items
+returns-clause-hung c all = one_more_hung c.args.explorer.now.kept c.args.hung.now.items c.push.new.self.items c.in-Some.found all
+    (some_hung c.args.explorer.now.kept c.in_ok-found.field-0 c.in-Some.found c.in-Some.is c.in_ok-found.ensures.hung) c.in_ok-push.ensures.items
 
 pub returns-then-not-is_first_hung-clause-listed : goal.returns-then-not-is_first_hung-clause-listed
-returns-then-not-is_first_hung-clause-listed c fits all = none_new c.args.explorer.now.kept c.args.marks.now c.args.hung.now.items c.args.place (c.if-not-is_first_hung.ensures.later refl) all
+returns-then-not-is_first_hung-clause-listed c fits all = none_new c.args.explorer.now.kept c.args.marks.now c.args.hung.now.items
+    c.args.place (c.if-not-is_first_hung.ensures.later refl) all
 
 pub returns-clause-listed : goal.returns-clause-listed
 returns-clause-listed c fits all =
     next_beyond c.args.explorer.now.kept c.args.marks.now c.args.hung.now.items c.push.new.self.items c.in-Some.found c.args.place
-    (some_there c.args.explorer.now.kept c.args.place c.in_ok-found.field-0 c.in-Some.found c.in-Some.is c.in_ok-found.ensures.there) c.in_ok-push.ensures.items all
+    (some_there c.args.explorer.now.kept c.args.place c.in_ok-found.field-0 c.in-Some.found c.in-Some.is c.in_ok-found.ensures.there)
+    c.in_ok-push.ensures.items all

@@ -24,10 +24,12 @@ loop-place-preserved c =
     let place = c.loop-place.place in
     record {
       same = c.add_hung.ensures.same ∙ same;
-      hung = subst (λ (kept : List MachineState). AllHang kept c.loop-place.hung.items → AllHang kept c.add_hung.new.hung.items) same c.in_ok-fits.ensures.hung c.loop-place.invariant.hung;
+      hung = subst (λ (kept : List MachineState). AllHang kept c.loop-place.hung.items → AllHang kept c.add_hung.new.hung.items) same
+          c.in_ok-fits.ensures.hung c.loop-place.invariant.hung;
       listed = λ is. (
           let two = c.both-fit.ensures.both is in
-          subst (λ (kept : List MachineState). AllBeyondBelow kept marks c.loop-place.hung.items place → AllBeyondBelow kept marks c.add_hung.new.hung.items (place + 1)) same (c.in_ok-fits.ensures.listed two.1) (c.loop-place.invariant.listed two.0));
+          subst (λ (kept : List MachineState). AllBeyondBelow kept marks c.loop-place.hung.items place → AllBeyondBelow kept marks
+          c.add_hung.new.hung.items (place + 1)) same (c.in_ok-fits.ensures.listed two.1) (c.loop-place.invariant.listed two.0));
       out = λ is. elim (c.both-fit.ensures.not is) [ inl a ↦ c.loop-place.invariant.out a | inr a ↦ subst CanRunOut same (c.in_ok-fits.ensures.out a) ];
     }
 

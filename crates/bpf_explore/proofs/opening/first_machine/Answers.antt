@@ -10,8 +10,10 @@ pub returns-clause-shape : goal.returns-clause-shape
 returns-clause-shape c =
     let same : c.in_ok-shape.shape ≡ c.args.setup.shape = c.in_ok-shape.ensures in
     let m = c.in_ok-machine.machine in
-    subst (λ (h : Shape). IsOfShape h m.store) (sym same) (first_shape c.args.setup.shape m (map pair_of c.args.setup.pairs.items) c.args.setup.programs.items (map waiting c.args.setup.jobs.items) c.in_ok-machine.ensures)
+    subst (λ (h : Shape). IsOfShape h m.store) (sym same) (first_shape c.args.setup.shape m (map pair_of c.args.setup.pairs.items)
+    c.args.setup.programs.items (map waiting c.args.setup.jobs.items) c.in_ok-machine.ensures)
 
 pub returns-clause-lists : goal.returns-clause-lists
 returns-clause-lists c =
-    first_lists_none c.args.setup.shape c.in_ok-machine.machine (map pair_of c.args.setup.pairs.items) c.args.setup.programs.items (map waiting c.args.setup.jobs.items) c.in_ok-machine.ensures
+    first_lists_none c.args.setup.shape c.in_ok-machine.machine (map pair_of c.args.setup.pairs.items) c.args.setup.programs.items
+    (map waiting c.args.setup.jobs.items) c.in_ok-machine.ensures

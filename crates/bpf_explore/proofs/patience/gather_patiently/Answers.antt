@@ -10,8 +10,11 @@ use Rattle.bpf_explore.proofs.patience.gather_patiently.Goals as goal
 pub loop-place-init : goal.loop-place-init
 loop-place-init c =
     let names = names_of c.args.names.now in
-    let kept = c.args.explorer.now.kept in
-    (refl, subst (λ (answers : List Found). Gathered kept names c.args.maps 0 true answers) (sym c.new-answers.ensures.items) (none_gathered kept names c.args.maps))
+    let kept = c.args.explorer.now.kept in (
+      refl,
+      subst (λ (answers : List Found). Gathered kept names c.args.maps 0 true answers) (sym c.new-answers.ensures.items)
+          (none_gathered kept names c.args.maps),
+    )
 
 pub tell_at-requires-clause-place : goal.tell_at-requires-clause-place
 tell_at-requires-clause-place c = subst (λ (kept : List MachineState). c.loop-place.place < length kept) (sym c.loop-place.invariant.0) (omega arith)
@@ -35,9 +38,11 @@ loop-place-preserved c =
     let same = c.loop-place.invariant.0 in
     let far = c.loop-place.invariant.1 in (
       c.tell_at.ensures.same ∙ same,
-      more_gathered kept names c.args.maps c.loop-place.place c.loop-place.whole c.in_ok-answered.answered c.both-whole.result c.loop-place.answers.items c.tell_at.new.answers.items far c.tell_at.ensures.sorted c.tell_at.ensures.keeps
+      more_gathered kept names c.args.maps c.loop-place.place c.loop-place.whole c.in_ok-answered.answered c.both-whole.result
+          c.loop-place.answers.items c.tell_at.new.answers.items far c.tell_at.ensures.sorted c.tell_at.ensures.keeps
           (λ w first all. c.tell_at.ensures.ends w (subst (λ (ms : List MachineState). IsFirst ms w) (sym same) first))
-          (λ is. subst (λ (ms : List MachineState). IsAnsweredAt ms names c.args.maps c.tell_at.new.answers.items c.loop-place.place) same (c.in_ok-answered.ensures.answered is))
+          (λ is. subst (λ (ms : List MachineState). IsAnsweredAt ms names c.args.maps c.tell_at.new.answers.items c.loop-place.place) same
+          (c.in_ok-answered.ensures.answered is))
           (λ is. subst CanRunOut same (c.in_ok-answered.ensures.out is))
           c.both-whole.ensures.both
           c.both-whole.ensures.not,
@@ -51,7 +56,8 @@ returns-clause-outcomes c w first = record { each = c.loop-place.invariant.1.end
 
 pub returns-clause-answered : goal.returns-clause-answered
 returns-clause-answered c =
-    all_gathered c.args.explorer.now.kept (names_of c.args.names.now) c.args.maps c.loop-place.place c.loop-place.whole c.loop-place.answers.items (omega arith) c.loop-place.invariant.1
+    all_gathered c.args.explorer.now.kept (names_of c.args.names.now) c.args.maps c.loop-place.place c.loop-place.whole
+    c.loop-place.answers.items (omega arith) c.loop-place.invariant.1
 
 pub returns-clause-out : goal.returns-clause-out
 returns-clause-out c is = c.loop-place.invariant.1.out is

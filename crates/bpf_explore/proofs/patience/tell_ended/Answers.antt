@@ -25,12 +25,15 @@ returns-in-Ok-clause-answered c is =
     let stopped = c.in_ok-text.field-0.stopped in
     let at = c.in_ok-restore.ensures.ok in
     let none = c.machine.ensures.lists in
-    let told : (w : World) → Shows m w → TellsWith (lines_of_lists w names.maps) w.store w.jobs names maps text stopped = λ w shows. c.in_ok-text.ensures w (subst (λ (n : MachineState). Shows n w) (sym c.machine.ensures.machine) shows) in
+    let told : (w : World) → Shows m w → TellsWith (lines_of_lists w names.maps) w.store w.jobs names maps text stopped = λ w shows.
+    c.in_ok-text.ensures w (subst (λ (n : MachineState). Shows n w) (sym c.machine.ensures.machine) shows) in
     let found = c.in-Ok.ensures.found in
     let first = c.requires.fresh in
-    let there : slice_get c.args.answers.now.items c.in-Ok.field-0 ≡ Some found.0 = ap (λ (xs : List Found). slice_get xs c.in-Ok.field-0) (sym c.deref.ensures.value) ∙ found.1 in
+    let there : slice_get c.args.answers.now.items c.in-Ok.field-0 ≡ Some found.0 = ap (λ (xs : List Found). slice_get xs c.in-Ok.field-0)
+    (sym c.deref.ensures.value) ∙ found.1 in
     let same : found.0.text ≡ text = found.2 ∙ c.as_str.ensures.value in
-    let stop = stopped_same_in_budget kept m names maps c.args.place text stopped at none c.requires.ended told c.args.answers.now.items c.in-Ok.field-0 found.0 first.0 c.leads.ensures c.requires.place first.2 (c.requires.ends first.0 first.2) there same in
+    let stop = stopped_same_in_budget kept m names maps c.args.place text stopped at none c.requires.ended told c.args.answers.now.items
+    c.in-Ok.field-0 found.0 first.0 c.leads.ensures c.requires.place first.2 (c.requires.ends first.0 first.2) there same in
     answered_by kept m names maps c.args.answers.now.items c.args.place c.in-Ok.field-0 found.0 text stopped at none told there same stop
 
 pub way_in_budget-requires : goal.way_in_budget-requires
@@ -57,10 +60,13 @@ returns-in_ok-put_patiently-in-Err-clause-ends c w first =
     let stopped = c.in_ok-text.field-0.stopped in
     let at = c.in_ok-restore.ensures.ok in
     let none = c.machine.ensures.lists in
-    let told : (w : World) → Shows m w → TellsWith (lines_of_lists w names.maps) w.store w.jobs names maps text stopped = λ w shows. c.in_ok-text.ensures w (subst (λ (n : MachineState). Shows n w) (sym c.machine.ensures.machine) shows) in
+    let told : (w : World) → Shows m w → TellsWith (lines_of_lists w names.maps) w.store w.jobs names maps text stopped = λ w shows.
+    c.in_ok-text.ensures w (subst (λ (n : MachineState). Shows n w) (sym c.machine.ensures.machine) shows) in
     let by = c.in-Some.by.items in
-    let leads = subst (λ (ms : List MachineState). LeadsInBudget ms by c.args.place) c.restore.ensures.same (subst (λ o. IfSome o (λ v. LeadsInBudget c.restore.new.self.kept v.items c.args.place)) c.in-Some.is c.in_ok-by-in-Err.ensures.leads) in
-    c.put_patiently.ensures.ends w names maps (subst (EndsPatiently w names maps) (sym c.new.ensures) (ends_in_budget kept m names maps c.args.place text stopped at none c.requires.ended told by leads w first)) (c.requires.ends w first)
+    let leads = subst (λ (ms : List MachineState). LeadsInBudget ms by c.args.place) c.restore.ensures.same
+    (subst (λ o. IfSome o (λ v. LeadsInBudget c.restore.new.self.kept v.items c.args.place)) c.in-Some.is c.in_ok-by-in-Err.ensures.leads) in
+    c.put_patiently.ensures.ends w names maps (subst (EndsPatiently w names maps) (sym c.new.ensures)
+    (ends_in_budget kept m names maps c.args.place text stopped at none c.requires.ended told by leads w first)) (c.requires.ends w first)
 
 pub returns-in_err-put_patiently-in-Err-clause-ends : goal.returns-in_err-put_patiently-in-Err-clause-ends
 returns-in_err-put_patiently-in-Err-clause-ends c w first =
@@ -72,10 +78,13 @@ returns-in_err-put_patiently-in-Err-clause-ends c w first =
     let stopped = c.in_ok-text.field-0.stopped in
     let at = c.in_ok-restore.ensures.ok in
     let none = c.machine.ensures.lists in
-    let told : (w : World) → Shows m w → TellsWith (lines_of_lists w names.maps) w.store w.jobs names maps text stopped = λ w shows. c.in_ok-text.ensures w (subst (λ (n : MachineState). Shows n w) (sym c.machine.ensures.machine) shows) in
+    let told : (w : World) → Shows m w → TellsWith (lines_of_lists w names.maps) w.store w.jobs names maps text stopped = λ w shows.
+    c.in_ok-text.ensures w (subst (λ (n : MachineState). Shows n w) (sym c.machine.ensures.machine) shows) in
     let by = c.in-Some.by.items in
-    let leads = subst (λ (ms : List MachineState). LeadsInBudget ms by c.args.place) c.restore.ensures.same (subst (λ o. IfSome o (λ v. LeadsInBudget c.restore.new.self.kept v.items c.args.place)) c.in-Some.is c.in_ok-by-in-Err.ensures.leads) in
-    c.put_patiently.ensures.ends w names maps (subst (EndsPatiently w names maps) (sym c.new.ensures) (ends_in_budget kept m names maps c.args.place text stopped at none c.requires.ended told by leads w first)) (c.requires.ends w first)
+    let leads = subst (λ (ms : List MachineState). LeadsInBudget ms by c.args.place) c.restore.ensures.same
+    (subst (λ o. IfSome o (λ v. LeadsInBudget c.restore.new.self.kept v.items c.args.place)) c.in-Some.is c.in_ok-by-in-Err.ensures.leads) in
+    c.put_patiently.ensures.ends w names maps (subst (EndsPatiently w names maps) (sym c.new.ensures)
+    (ends_in_budget kept m names maps c.args.place text stopped at none c.requires.ended told by leads w first)) (c.requires.ends w first)
 
 pub returns-in_ok-put_patiently-in-Err-clause-answered : goal.returns-in_ok-put_patiently-in-Err-clause-answered
 returns-in_ok-put_patiently-in-Err-clause-answered c is =
@@ -87,9 +96,11 @@ returns-in_ok-put_patiently-in-Err-clause-answered c is =
     let stopped = c.in_ok-text.field-0.stopped in
     let at = c.in_ok-restore.ensures.ok in
     let none = c.machine.ensures.lists in
-    let told : (w : World) → Shows m w → TellsWith (lines_of_lists w names.maps) w.store w.jobs names maps text stopped = λ w shows. c.in_ok-text.ensures w (subst (λ (n : MachineState). Shows n w) (sym c.machine.ensures.machine) shows) in
+    let told : (w : World) → Shows m w → TellsWith (lines_of_lists w names.maps) w.store w.jobs names maps text stopped = λ w shows.
+    c.in_ok-text.ensures w (subst (λ (n : MachineState). Shows n w) (sym c.machine.ensures.machine) shows) in
     let answer = c.new.result in
-    answered_by kept m names maps c.put_patiently.new.answers.items c.args.place c.in-Err.at answer text stopped at none told c.in_ok-put_patiently-in-Err.ensures.put (ap (λ (f : Found). f.text) c.new.ensures) (ap (λ (f : Found). f.stopped) c.new.ensures)
+    answered_by kept m names maps c.put_patiently.new.answers.items c.args.place c.in-Err.at answer text stopped at none told
+    c.in_ok-put_patiently-in-Err.ensures.put (ap (λ (f : Found). f.text) c.new.ensures) (ap (λ (f : Found). f.stopped) c.new.ensures)
 
 pub returns-in_err-restore-clause-keeps : goal.returns-in_err-restore-clause-keeps
 returns-in_err-restore-clause-keeps c i found at = (i, at)

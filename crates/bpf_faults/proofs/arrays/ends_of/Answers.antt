@@ -14,5 +14,6 @@ overflow_add-result c =
     let value = c.in_ok-array.ensures.value in
     let many : n ≡ copies h.cpus g = c.copies-copies.ensures ∙ ap (λ (x : ℕ). copies x g) c.cpus.ensures.cpus in
     let some = copies_some n h.cpus g many c.cpus.ensures.in_range.cpus.0 in
-    let low : c.address-last.result < array_start 16 = last_low h.cpus c.args.number (n - 1) (g.max - 1) n c.address-last.result g few.1 c.in_ok-array.ensures.sized few.0 many (omega arith) (omega arith) c.address-last.ensures in
+    let low : c.address-last.result < array_start 16 = last_low h.cpus c.args.number (n - 1) (g.max - 1) n c.address-last.result g few.1
+    c.in_ok-array.ensures.sized few.0 many (omega arith) (omega arith) c.address-last.ensures in
     omega arith

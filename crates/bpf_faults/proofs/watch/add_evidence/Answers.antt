@@ -12,7 +12,8 @@ returns-clause-adds c =
 
 pub returns-clause-has : goal.returns-clause-has
 returns-clause-has c j fault pc of is =
-    let both : answers.Ended c.in-Some.job (outcome.Fault c.in-Some.fault c.in-Some.pc) ≡ answers.Ended j (outcome.Fault fault pc) = sym c.in-Some.ensures.some.1 ∙ is in
+    let both : answers.Ended c.in-Some.job (outcome.Fault c.in-Some.fault c.in-Some.pc) ≡ answers.Ended j (outcome.Fault fault pc) = sym
+    c.in-Some.ensures.some.1 ∙ is in
     let job : c.in-Some.job ≡ j = cc in
     let same : c.in-Some.fault ≡ fault = cc in
     let at : c.in-Some.pc ≡ pc = cc in

@@ -20,7 +20,9 @@ watch-requires-clause-watched c =
     subst R c.in_ok-machine.ensures.jobs (watched_first c.args.setup.jobs.items c.deref-2.result.now (subst Q sizes (subst P jobs c.in_ok-sizes.ensures)))
 
 pub returns-clause-shown : goal.returns-clause-shown
-returns-clause-shown c = c.in_ok-findings.ensures.shown (first_world c.args.setup.shape (map pair_of c.args.setup.pairs.items) c.args.setup.programs.items (map waiting c.args.setup.jobs.items)) c.in_ok-machine.ensures
+returns-clause-shown c = c.in_ok-findings.ensures.shown (first_world c.args.setup.shape (map pair_of c.args.setup.pairs.items)
+    c.args.setup.programs.items (map waiting c.args.setup.jobs.items)) c.in_ok-machine.ensures
 
 pub returns-clause-all : goal.returns-clause-all
-returns-clause-all c = c.in_ok-findings.ensures.all (first_world c.args.setup.shape (map pair_of c.args.setup.pairs.items) c.args.setup.programs.items (map waiting c.args.setup.jobs.items)) c.in_ok-machine.ensures
+returns-clause-all c = c.in_ok-findings.ensures.all (first_world c.args.setup.shape (map pair_of c.args.setup.pairs.items)
+    c.args.setup.programs.items (map waiting c.args.setup.jobs.items)) c.in_ok-machine.ensures

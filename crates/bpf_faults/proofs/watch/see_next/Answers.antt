@@ -9,4 +9,5 @@ returns-in_ok-see_start-in-Waiting c =
 
 pub returns-in_default : goal.returns-in_default
 returns-in_default c =
-    absurd (size_known c.args.machine.now.jobs c.args.sizes.now c.args.cpu c.in-Waiting.job c.standing.result c.requires c.standing.ensures c.in-Waiting.is (sym c.sizes_at.ensures ∙ c.in_default.is))
+    absurd (size_known c.args.machine.now.jobs c.args.sizes.now c.args.cpu c.in-Waiting.job c.standing.result c.requires c.standing.ensures
+    c.in-Waiting.is (sym c.sizes_at.ensures ∙ c.in_default.is))

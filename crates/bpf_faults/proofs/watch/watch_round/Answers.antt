@@ -16,14 +16,17 @@ watch_turn-requires-clause-one c = c.loop-cpu.invariant.watched.one
 
 pub loop-cpu-preserved : goal.loop-cpu-preserved
 loop-cpu-preserved c =
-    next_turn c.args.machine.now c.loop-cpu.machine c.watch_turn.new.machine c.args.sizes.now c.args.findings.now.evidence.items c.loop-cpu.findings.evidence.items c.watch_turn.new.findings.evidence.items c.loop-cpu.cpu
+    next_turn c.args.machine.now c.loop-cpu.machine c.watch_turn.new.machine c.args.sizes.now c.args.findings.now.evidence.items
+    c.loop-cpu.findings.evidence.items c.watch_turn.new.findings.evidence.items c.loop-cpu.cpu
     c.loop-cpu.worked c.in_ok-busy.busy c.requires.shown c.loop-cpu.invariant c.in_ok-busy.ensures
 
 pub returns-clause-round : goal.returns-clause-round
 returns-clause-round c =
     let n : c.loop-cpu.cpu ≡ c.cpus-end.result = omega arith in
-    let P : ℕ → Type 0 = λ n. IsFar c.args.machine.now c.args.sizes.now c.args.findings.now.evidence.items n c.loop-cpu.worked c.loop-cpu.machine c.loop-cpu.findings.evidence.items in
-    whole c.args.machine.now c.loop-cpu.machine c.args.sizes.now c.args.findings.now.evidence.items c.loop-cpu.findings.evidence.items c.cpus-end.result c.loop-cpu.worked c.cpus-end.ensures (subst P n c.loop-cpu.invariant)
+    let P : ℕ → Type 0 = λ n. IsFar c.args.machine.now c.args.sizes.now c.args.findings.now.evidence.items n c.loop-cpu.worked
+    c.loop-cpu.machine c.loop-cpu.findings.evidence.items in
+    whole c.args.machine.now c.loop-cpu.machine c.args.sizes.now c.args.findings.now.evidence.items c.loop-cpu.findings.evidence.items
+    c.cpus-end.result c.loop-cpu.worked c.cpus-end.ensures (subst P n c.loop-cpu.invariant)
 
 pub returns-clause-watched : goal.returns-clause-watched
 returns-clause-watched c = c.loop-cpu.invariant.watched
@@ -34,5 +37,7 @@ returns-clause-falls c = c.loop-cpu.invariant.falls
 pub returns-clause-idle : goal.returns-clause-idle
 returns-clause-idle c =
     let n : c.loop-cpu.cpu ≡ c.cpus-end.result = omega arith in
-    let P : ℕ → Type 0 = λ n. IsFar c.args.machine.now c.args.sizes.now c.args.findings.now.evidence.items n c.loop-cpu.worked c.loop-cpu.machine c.loop-cpu.findings.evidence.items in
-    whole_idle c.args.machine.now c.loop-cpu.machine c.args.sizes.now c.args.findings.now.evidence.items c.loop-cpu.findings.evidence.items c.cpus-end.result c.loop-cpu.worked c.cpus-end.ensures (subst P n c.loop-cpu.invariant)
+    let P : ℕ → Type 0 = λ n. IsFar c.args.machine.now c.args.sizes.now c.args.findings.now.evidence.items n c.loop-cpu.worked
+    c.loop-cpu.machine c.loop-cpu.findings.evidence.items in
+    whole_idle c.args.machine.now c.loop-cpu.machine c.args.sizes.now c.args.findings.now.evidence.items c.loop-cpu.findings.evidence.items
+    c.cpus-end.result c.loop-cpu.worked c.cpus-end.ensures (subst P n c.loop-cpu.invariant)

@@ -25,7 +25,9 @@ returns c =
     record {
       world = record {
         store = subst P (sym c.in_ok-machine.ensures.store)
-            (shows_filled s.shape (map pair_of s.pairs.items) c.in_ok-store.store c.put_pairs.new.shared c.cpus.ensures.in_range c.requires.pairs c.in_ok-store.ensures (subst (chained c.in_ok-store.store c.put_pairs.new.shared) (ap (λ (l : List Given). run_events (map pair_of l)) c.deref.ensures.value) (c.put_pairs.ensures.put c.if-not-put_pairs.false)));
+            (shows_filled s.shape (map pair_of s.pairs.items) c.in_ok-store.store c.put_pairs.new.shared c.cpus.ensures.in_range
+            c.requires.pairs c.in_ok-store.ensures (subst (chained c.in_ok-store.store c.put_pairs.new.shared)
+            (ap (λ (l : List Given). run_events (map pair_of l)) c.deref.ensures.value) (c.put_pairs.ensures.put c.if-not-put_pairs.false)));
         sound = filled_sound s.shape (map pair_of s.pairs.items) c.cpus.ensures.in_range c.requires.pairs;
         programs = sym c.in_ok-machine.ensures.programs;
         jobs = sym c.in_ok-machine.ensures.jobs;

@@ -21,5 +21,6 @@ pub returns-in-Ran : goal.returns-in-Ran
 returns-in-Ran c = record {
   makes = moved c.args.machine.now c.turn.new.self (TurnOf c.args.cpu) c.in_ok-turn.ensures.moves;
   idle = λ no. (let none : true ≡ false = no in cc);
-  falls = λ worked. turns_fall c.args.machine.now c.turn.new.self c.args.cpu c.in_ok-turn.field-0 c.in_ok-turn.ensures.turns (works c.in_ok-turn.field-0 c.in-Ran.is);
+  falls = λ worked. turns_fall c.args.machine.now c.turn.new.self c.args.cpu c.in_ok-turn.field-0 c.in_ok-turn.ensures.turns
+      (works c.in_ok-turn.field-0 c.in-Ran.is);
 }

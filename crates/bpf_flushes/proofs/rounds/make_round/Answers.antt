@@ -10,8 +10,10 @@ loop-cpu-preserved c =
     let old = c.args.machine.now in
     let new = c.flush.new.machine in
     subst (λ (b : Bool). SoFar old (c.loop-cpu.cpu + 1) b new) (sym c.either-worked.ensures)
-    (next_far old c.loop-cpu.machine c.take_turn.new.machine new c.loop-cpu.cpu c.loop-cpu.worked c.in_ok-took.took c.requires.0 c.requires.1 c.loop-cpu.invariant
-    (record { makes = c.in_ok-took.ensures.makes; idle = c.in_ok-took.ensures.idle; falls = c.in_ok-took.ensures.falls }) c.flush.ensures.makes c.flush.ensures.jobs)
+    (next_far old c.loop-cpu.machine c.take_turn.new.machine new c.loop-cpu.cpu c.loop-cpu.worked c.in_ok-took.took c.requires.0
+    c.requires.1 c.loop-cpu.invariant
+    (record { makes = c.in_ok-took.ensures.makes; idle = c.in_ok-took.ensures.idle; falls = c.in_ok-took.ensures.falls })
+    c.flush.ensures.makes c.flush.ensures.jobs)
 
 pub returns : goal.returns
 returns c =

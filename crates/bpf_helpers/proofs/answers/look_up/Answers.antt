@@ -11,7 +11,8 @@ returns-clause-call g c =
     let answer = c.lookup-answer.result in
     let event = Lookup c.args.map c.args.key.now answer in (
       answer,
-      chain_one g.S.Shared.passes g.S.Shared.serves c.args.cpu c.args.shared.now c.lookup-answer.new.self event c.requires.serves c.lookup-answer.ensures.found c.lookup-answer.ensures.same.1,
+      chain_one g.S.Shared.passes g.S.Shared.serves c.args.cpu c.args.shared.now c.lookup-answer.new.self event c.requires.serves
+          c.lookup-answer.ensures.found c.lookup-answer.ensures.same.1,
       c.take_answer.ensures,
     )
 
@@ -19,7 +20,8 @@ pub returns-clause-held : goal.returns-clause-held
 returns-clause-held g c =
     let cpu = c.args.cpu in
     let P : (ℕ → Span → Bool) → Type 0 = λ held. AreHeld (held cpu) c.take_answer.new.held in
-    subst P (sym c.lookup-answer.ensures.held) (held_after (g.S.Shared.held c.args.shared.now) cpu c.lookup-answer.result c.args.held.now c.take_answer.new.held c.take_answer.result c.lookup-answer.ensures.in_range c.requires.held c.take_answer.ensures)
+    subst P (sym c.lookup-answer.ensures.held) (held_after (g.S.Shared.held c.args.shared.now) cpu c.lookup-answer.result c.args.held.now
+    c.take_answer.new.held c.take_answer.result c.lookup-answer.ensures.in_range c.requires.held c.take_answer.ensures)
 
 pub take_answer-requires : goal.take_answer-requires
 take_answer-requires g c =

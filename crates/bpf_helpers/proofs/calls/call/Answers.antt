@@ -26,12 +26,28 @@ returns-in-Some-own_bytes-2-clause-call g c =
     let answer = c.update-answer.result in
     let event = Update c.in-Some.map key value (slice_index c.args.registers.now 4) answer in (
       event ∷ [],
-      chain_one g.S.Shared.passes g.S.Shared.serves c.args.cpu c.args.shared.now c.update-answer.new.self event c.requires.serves c.update-answer.ensures.answered c.update-answer.ensures.same.1,
+      chain_one g.S.Shared.passes g.S.Shared.serves c.args.cpu c.args.shared.now c.update-answer.new.self event c.requires.serves
+          c.update-answer.ensures.answered c.update-answer.ensures.same.1,
       inr (inr (inl (
         c.in-Some.map,
         c.in-Some-shape.shape,
         (at, sym c.in-Some-shape.ensures.shape),
-        inr (inl (c.in-2.is, inr (key, value, [], [], answer, inl (c.in-Some-own_bytes.ensures.own, refl), inl (c.in-Some-own_bytes-2.ensures.own, refl), refl, ap Ok c.number_of_answer.ensures, refl))),
+        inr (inl (
+          c.in-2.is,
+          inr (
+            key,
+            value,
+            [],
+            [],
+            answer,
+            inl (c.in-Some-own_bytes.ensures.own, refl),
+            inl
+                (c.in-Some-own_bytes-2.ensures.own, refl),
+            refl,
+            ap Ok c.number_of_answer.ensures,
+            refl,
+          ),
+        )),
       ))),
     )
 
@@ -48,7 +64,8 @@ returns-in_default-number-clause-call g c =
     let answer = c.delete-answer.result in
     let event = Delete c.in-Some.map key answer in (
       event ∷ [],
-      chain_one g.S.Shared.passes g.S.Shared.serves c.args.cpu c.args.shared.now c.delete-answer.new.self event c.requires.serves c.delete-answer.ensures.answered c.delete-answer.ensures.same.1,
+      chain_one g.S.Shared.passes g.S.Shared.serves c.args.cpu c.args.shared.now c.delete-answer.new.self event c.requires.serves
+          c.delete-answer.ensures.answered c.delete-answer.ensures.same.1,
       inr (inr (inl (
         c.in-Some.map,
         c.in-Some-shape.shape,

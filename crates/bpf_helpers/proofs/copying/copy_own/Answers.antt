@@ -16,7 +16,12 @@ pub loop-done-init : goal.loop-done-init
 loop-done-init g c = record {
   within = omega arith;
   cut = cut_start (length c.args.bytes.now - 0);
-  events = λ from. ([], begins_nothing no_loads from c.args.to (length c.args.bytes.now), chain_nothing g.S.Shared.passes g.S.Shared.serves c.args.cpu g.met.S.Shared.nothing c.args.shared.now);
+  events = λ from. (
+    [],
+    begins_nothing no_loads from c.args.to (length c.args.bytes.now),
+    chain_nothing g.S.Shared.passes g.S.Shared.serves
+        c.args.cpu g.met.S.Shared.nothing c.args.shared.now,
+  );
   held = refl;
   running = refl;
   shapes = refl;
@@ -38,7 +43,8 @@ value_store-requires-clause-place g c =
     let fits = (part_fits size (n - done) c.next_part-size.ensures).0 in
     let old = c.loop-done.invariant in
     let P : Shape → Type 0 = λ h. IsWritable h (g.S.Shared.held c.loop-done.shared c.args.cpu) (c.args.to + done) (bytes_in size) in
-    subst P (sym old.shapes) (target_place (g.S.Shared.shapes c.args.shared.now) (g.S.Shared.held c.loop-done.shared c.args.cpu) c.args.to n done size c.requires.target (omega arith) (cut_even size done (n - done) old.cut c.next_part-size.ensures))
+    subst P (sym old.shapes) (target_place (g.S.Shared.shapes c.args.shared.now) (g.S.Shared.held c.loop-done.shared c.args.cpu) c.args.to n
+    done size c.requires.target (omega arith) (cut_even size done (n - done) old.cut c.next_part-size.ensures))
 
 pub loop-done-preserved : goal.loop-done-preserved
 loop-done-preserved g c =
@@ -54,12 +60,14 @@ loop-done-preserved g c =
     let event = Store (c.args.to + done) size c.load-word.result in
     record {
       within = omega arith;
-      cut = subst (λ (x : ℕ). Rattle.bpf_helpers.proofs.Parted.IsCutAt (done + x) (n - (done + x))) (sym long) (cut_next size done (n - done) (n - (done + bytes_in size)) old.cut is (omega arith));
+      cut = subst (λ (x : ℕ). Rattle.bpf_helpers.proofs.Parted.IsCutAt (done + x) (n - (done + x))) (sym long)
+          (cut_next size done (n - done) (n - (done + bytes_in size)) old.cut is (omega arith));
       events = λ from.
           let e = old.events from in (
             e.0 ++ event ∷ [],
             own_more from c.args.to bytes done k size c.load-word.result e.0 long old.within is c.load-word.ensures.value e.1,
-            chain_call g.S.Shared.passes g.S.Shared.serves c.args.cpu g.met.S.Shared.follows c.args.shared.now c.loop-done.shared c.value_store.new.self e.0 event c.requires.serves e.2 c.value_store.ensures.stored c.value_store.ensures.same.1,
+            chain_call g.S.Shared.passes g.S.Shared.serves c.args.cpu g.met.S.Shared.follows c.args.shared.now c.loop-done.shared
+                c.value_store.new.self e.0 event c.requires.serves e.2 c.value_store.ensures.stored c.value_store.ensures.same.1,
           );
       held = c.value_store.ensures.held ∙ old.held;
       running = c.value_store.ensures.same.2 ∙ old.running;

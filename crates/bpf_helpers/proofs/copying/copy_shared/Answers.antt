@@ -18,7 +18,14 @@ pub loop-done-init : goal.loop-done-init
 loop-done-init g c = record {
   within = omega arith;
   cut = cut_start (c.args.count - 0);
-  copied = ([], [], refl, begins_nothing loads c.args.from c.args.to c.args.count, chain_nothing g.S.Shared.passes g.S.Shared.serves c.args.cpu g.met.S.Shared.nothing c.args.shared.now);
+  copied = (
+    [],
+    [],
+    refl,
+    begins_nothing loads c.args.from c.args.to c.args.count,
+    chain_nothing g.S.Shared.passes g.S.Shared.serves
+        c.args.cpu g.met.S.Shared.nothing c.args.shared.now,
+  );
   held = refl;
   running = refl;
   shapes = refl;
@@ -35,7 +42,8 @@ gather-part-requires-clause-reached g c =
     let done = c.loop-done.done in
     let fits = (part_fits size (c.args.count - done) c.next_part-size.ensures).0 in
     let P : Shape → Type 0 = λ h. AreReached h c.args.held.now (c.args.from + done) c.length_of.result in
-    subst P (sym c.loop-done.invariant.shapes) (reached_part (g.S.Shared.shapes c.args.shared.now) c.args.held.now c.args.from c.args.count done c.length_of.result c.requires.reached (omega arith))
+    subst P (sym c.loop-done.invariant.shapes) (reached_part (g.S.Shared.shapes c.args.shared.now) c.args.held.now c.args.from c.args.count
+    done c.length_of.result c.requires.reached (omega arith))
 
 pub load-word-requires : goal.load-word-requires
 load-word-requires g c = omega (arith, ap length c.as_slice.ensures.value)
@@ -48,7 +56,9 @@ value_store-requires-clause-place g c =
     let fits = (part_fits size (n - done) c.next_part-size.ensures).0 in
     let old = c.loop-done.invariant in
     let P : Shape → Type 0 = λ h. IsWritable h (g.S.Shared.held c.gather-part.new.shared c.args.cpu) (c.args.to + done) (bytes_in size) in
-    subst P (sym (c.gather-part.ensures.shapes ∙ old.shapes)) (target_place (g.S.Shared.shapes c.args.shared.now) (g.S.Shared.held c.gather-part.new.shared c.args.cpu) c.args.to n done size c.requires.target (omega arith) (cut_even size done (n - done) old.cut c.next_part-size.ensures))
+    subst P (sym (c.gather-part.ensures.shapes ∙ old.shapes)) (target_place (g.S.Shared.shapes c.args.shared.now)
+    (g.S.Shared.held c.gather-part.new.shared c.args.cpu) c.args.to n done size c.requires.target (omega arith)
+    (cut_even size done (n - done) old.cut c.next_part-size.ensures))
 
 pub loop-done-preserved : goal.loop-done-preserved
 loop-done-preserved g c =
@@ -69,16 +79,20 @@ loop-done-preserved g c =
     let cpu = c.args.cpu in
     let kept = e.4.serves_same in
     let served = ap (λ (f : ℕ → Bool). f cpu) kept ∙ c.requires.serves in
-    let turn = chain_call passes serves cpu g.met.S.Shared.follows c.loop-done.shared c.gather-part.new.shared c.value_store.new.self (loads (c.args.from + done) items) event served c.gather-part.ensures.chain c.value_store.ensures.stored c.value_store.ensures.same.1 in
+    let turn = chain_call passes serves cpu g.met.S.Shared.follows c.loop-done.shared c.gather-part.new.shared c.value_store.new.self
+    (loads (c.args.from + done) items) event served c.gather-part.ensures.chain c.value_store.ensures.stored c.value_store.ensures.same.1 in
     record {
       within = omega arith;
-      cut = subst (λ (x : ℕ). IsCutAt (done + x) (n - (done + x))) (sym long) (cut_next size done (n - done) (n - (done + bytes_in size)) old.cut is (omega arith));
+      cut = subst (λ (x : ℕ). IsCutAt (done + x) (n - (done + x))) (sym long)
+          (cut_next size done (n - done) (n - (done + bytes_in size)) old.cut is (omega arith));
       copied = (
         e.0 ++ items,
         e.1 ++ (loads (c.args.from + done) items ++ event ∷ []),
         length-append e.0 items ∙ (ap (λ (x : ℕ). x + length items) e.2 ∙ ap (λ (x : ℕ). done + x) (many ∙ sym long)),
-        shared_more c.args.from c.args.to n done size c.load-word.result e.0 items e.1 e.2 is many (c.load-word.ensures.value ∙ ap (λ (l : List ℕ). little_endian (part l 0 (bytes_in size))) c.as_slice.ensures.value) e.3,
-        chain_join passes serves cpu g.met.S.Shared.follows c.args.shared.now c.loop-done.shared c.value_store.new.self e.1 (loads (c.args.from + done) items ++ event ∷ []) e.4 turn,
+        shared_more c.args.from c.args.to n done size c.load-word.result e.0 items e.1 e.2 is many
+            (c.load-word.ensures.value ∙ ap (λ (l : List ℕ). little_endian (part l 0 (bytes_in size))) c.as_slice.ensures.value) e.3,
+        chain_join passes serves cpu g.met.S.Shared.follows c.args.shared.now c.loop-done.shared c.value_store.new.self e.1
+            (loads (c.args.from + done) items ++ event ∷ []) e.4 turn,
       );
       held = c.value_store.ensures.held ∙ (c.gather-part.ensures.held ∙ old.held);
       running = c.value_store.ensures.same.2 ∙ (c.gather-part.ensures.running ∙ old.running);

@@ -38,8 +38,24 @@ returns-then-number-eq-MAP_UPDATE_ELEM-clause-call g c =
     let old = c.args.shared.now in
     let read = chain_join passes serves cpu g.met.S.Shared.follows old c.read-key.new.shared c.read-value.new.shared first.0 second.0 first.2 second.2 in (
       (first.0 ++ second.0) ++ event ∷ [],
-      chain_call passes serves cpu g.met.S.Shared.follows old c.read-value.new.shared c.update-answer.new.self (first.0 ++ second.0) event c.requires.serves read c.update-answer.ensures.answered c.update-answer.ensures.same.1,
-      inr (inl (c.if-number-eq-MAP_UPDATE_ELEM.true, inr (key, value, first.0, second.0, answer, first.1, subst P c.read-key.ensures.shapes second.1, refl, ap Ok c.number_of_answer.ensures, refl))),
+      chain_call passes serves cpu g.met.S.Shared.follows old c.read-value.new.shared c.update-answer.new.self (first.0 ++ second.0) event
+          c.requires.serves read c.update-answer.ensures.answered c.update-answer.ensures.same.1,
+      inr (inl (
+        c.if-number-eq-MAP_UPDATE_ELEM.true,
+        inr (
+          key,
+          value,
+          first.0,
+          second.0,
+          answer,
+          first.1,
+          subst P c.read-key.ensures.shapes
+              second.1,
+          refl,
+          ap Ok c.number_of_answer.ensures,
+          refl,
+        ),
+      )),
     )
 
 pub returns-then-number-eq-MAP_LOOKUP_ELEM-clause-call : goal.returns-then-number-eq-MAP_LOOKUP_ELEM-clause-call
@@ -49,7 +65,8 @@ returns-then-number-eq-MAP_LOOKUP_ELEM-clause-call g c =
     let call = c.look_up.ensures.call in
     let event = Lookup c.args.map key call.0 in (
       read.0 ++ event ∷ [],
-      chain_join g.S.Shared.passes g.S.Shared.serves c.args.cpu g.met.S.Shared.follows c.args.shared.now c.read-key-2.new.shared c.look_up.new.shared read.0 (event ∷ []) read.2 call.1,
+      chain_join g.S.Shared.passes g.S.Shared.serves c.args.cpu g.met.S.Shared.follows c.args.shared.now c.read-key-2.new.shared
+          c.look_up.new.shared read.0 (event ∷ []) read.2 call.1,
       inl (c.if-number-eq-MAP_LOOKUP_ELEM.true, inr (key, read.0, call.0, read.1, refl, call.2)),
     )
 
@@ -65,6 +82,7 @@ returns-clause-call g c =
       | inr (inr is) ↦ is
     ] in (
       read.0 ++ event ∷ [],
-      chain_call g.S.Shared.passes g.S.Shared.serves c.args.cpu g.met.S.Shared.follows c.args.shared.now c.read-key-2.new.shared c.delete-answer.new.self read.0 event c.requires.serves read.2 c.delete-answer.ensures.answered c.delete-answer.ensures.same.1,
+      chain_call g.S.Shared.passes g.S.Shared.serves c.args.cpu g.met.S.Shared.follows c.args.shared.now c.read-key-2.new.shared
+          c.delete-answer.new.self read.0 event c.requires.serves read.2 c.delete-answer.ensures.answered c.delete-answer.ensures.same.1,
       inr (inr (number, inr (key, read.0, answer, read.1, refl, ap Ok c.number_of_answer-2.ensures, refl))),
     )

@@ -25,17 +25,24 @@ pub returns-in-Private-clause-copied : goal.returns-in-Private-clause-copied
 returns-in-Private-clause-copied g c =
     let bytes = c.bytes.result.now in
     let P : Source → Type 0 = λ s. IsSource (g.S.Shared.shapes c.args.shared.now) c.args.memory.now c.args.held.now c.args.from c.args.count s in
-    let source : IsSource (g.S.Shared.shapes c.args.shared.now) c.args.memory.now c.args.held.now c.args.from c.args.count (Private c.in-Private.place) = subst P c.in-Private.is c.requires.source in
+    let source : IsSource (g.S.Shared.shapes c.args.shared.now) c.args.memory.now c.args.held.now c.args.from c.args.count
+    (Private c.in-Private.place) = subst P c.in-Private.is c.requires.source in
     let size = length-bytes_at c.args.memory.now (address_of c.in-Private.place) c.args.count bytes c.bytes.ensures in (
       copies no_loads c.args.from c.args.to (parts_of (length bytes)) bytes,
       c.copy_own.ensures.copied c.args.from,
-      inl (bytes, ap (λ (a : ℕ). bytes_at c.args.memory.now a c.args.count) (sym source.0) ∙ c.bytes.ensures, ap (λ (n : ℕ). copies no_loads c.args.from c.args.to (parts_of n) bytes) size),
+      inl (
+        bytes,
+        ap (λ (a : ℕ). bytes_at c.args.memory.now a c.args.count) (sym source.0) ∙ c.bytes.ensures,
+        ap
+            (λ (n : ℕ). copies no_loads c.args.from c.args.to (parts_of n) bytes) size,
+      ),
     )
 
 pub returns-in-Shared-clause-copied : goal.returns-in-Shared-clause-copied
 returns-in-Shared-clause-copied g c =
     let P : Source → Type 0 = λ s. IsSource (g.S.Shared.shapes c.args.shared.now) c.args.memory.now c.args.held.now c.args.from c.args.count s in
-    let source : IsSource (g.S.Shared.shapes c.args.shared.now) c.args.memory.now c.args.held.now c.args.from c.args.count Shared = subst P c.in-Shared.is c.requires.source in
+    let source : IsSource (g.S.Shared.shapes c.args.shared.now) c.args.memory.now c.args.held.now c.args.from c.args.count Shared = subst P
+    c.in-Shared.is c.requires.source in
     let e = c.copy_shared.ensures.copied in (
       copies loads c.args.from c.args.to (parts_of c.args.count) e.0,
       e.2,

@@ -25,7 +25,8 @@ returns-in_default-find_source-clause-call g c = (
 
 pub returns-then-is_odd-clause-call : goal.returns-then-is_odd-clause-call
 returns-then-is_odd-clause-call g c =
-    let odd = odd_key (g.S.Shared.shapes c.args.shared.now) c.args.memory.now c.args.held.now (slice_index c.args.registers.now 2) c.in-Some-find_source.source c.in-Some-find_source.ensures.found (c.if-is_odd.ensures.0 refl) in (
+    let odd = odd_key (g.S.Shared.shapes c.args.shared.now) c.args.memory.now c.args.held.now (slice_index c.args.registers.now 2)
+    c.in-Some-find_source.source c.in-Some-find_source.ensures.found (c.if-is_odd.ensures.0 refl) in (
       [],
       chain_nothing g.S.Shared.passes g.S.Shared.serves c.args.cpu g.met.S.Shared.nothing c.args.shared.now,
       inl (inr (odd, (refl, refl, refl))),

@@ -13,7 +13,8 @@ returns-then-covers-clause-are g c = (
 
 pub returns-then-covers-clause-low : goal.returns-then-covers-clause-low
 returns-then-covers-clause-low g c = λ t.
-    let first : reaches c.args.held.now (c.args.at + 0) ≡ true = covered_reached c.args.held.now c.args.at c.args.count 0 (sym c.if-covers.ensures) (let some = c.requires.some in omega arith) in
+    let first : reaches c.args.held.now (c.args.at + 0) ≡ true = covered_reached c.args.held.now c.args.at c.args.count 0
+    (sym c.if-covers.ensures) (let some = c.requires.some in omega arith) in
     let low = value_address c.args.held.now (c.args.at + 0) c.requires.values first in
     omega arith
 

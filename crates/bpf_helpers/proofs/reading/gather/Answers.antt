@@ -18,7 +18,8 @@ value_load-byte-requires-clause-place g c =
     let P : (ℕ → Span → Bool) → Type 0 = λ held. IsReadable (g.S.Shared.shapes c.args.shared.now) (held c.args.cpu) at 1 in
     let Q : Shape → Type 0 = λ h. IsReadable h (g.S.Shared.held c.loop-k.shared c.args.cpu) at 1 in
     subst Q (sym c.loop-k.invariant.shapes) (subst P (sym c.loop-k.invariant.held)
-    (readable_byte (g.S.Shared.shapes c.args.shared.now) (g.S.Shared.held c.args.shared.now c.args.cpu) c.args.held.now at c.requires.held (c.requires.reached c.loop-k.k c.loop-k-test.true)))
+    (readable_byte (g.S.Shared.shapes c.args.shared.now) (g.S.Shared.held c.args.shared.now c.args.cpu) c.args.held.now at c.requires.held
+    (c.requires.reached c.loop-k.k c.loop-k-test.true)))
 
 pub loop-k-preserved : goal.loop-k-preserved
 loop-k-preserved g c =
@@ -30,7 +31,9 @@ loop-k-preserved g c =
     ap (loads c.args.at) c.push.ensures.items ∙ loads-append c.args.at at items byte (let n = old.bytes in omega arith) in
     let P : List Event → Type 0 = Chain g.S.Shared.passes g.S.Shared.serves c.args.cpu c.args.shared.now c.value_load-byte.new.self in
     let all : P (loads c.args.at items ++ Load at Byte byte ∷ []) =
-    chain_call g.S.Shared.passes g.S.Shared.serves c.args.cpu g.met.S.Shared.follows c.args.shared.now c.loop-k.shared c.value_load-byte.new.self (loads c.args.at items) (Load at Byte byte) c.requires.serves old.chain c.value_load-byte.ensures.loaded c.value_load-byte.ensures.same.1 in
+    chain_call g.S.Shared.passes g.S.Shared.serves c.args.cpu g.met.S.Shared.follows c.args.shared.now c.loop-k.shared
+    c.value_load-byte.new.self (loads c.args.at items) (Load at Byte byte) c.requires.serves old.chain c.value_load-byte.ensures.loaded
+    c.value_load-byte.ensures.same.1 in
     record {
       bytes = omega (arith, ap length c.push.ensures.items, length-append items (byte ∷ []), old.bytes);
       chain = subst P (sym events) all;

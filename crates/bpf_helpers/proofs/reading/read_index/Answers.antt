@@ -22,14 +22,17 @@ pub value_load-requires-clause-place : goal.value_load-requires-clause-place
 value_load-requires-clause-place g c =
     let P : Source → Type 0 = λ s. IsSource (g.S.Shared.shapes c.args.shared.now) c.args.memory.now c.args.held.now c.args.at 4 s in
     let Q : Source → Type 0 = λ s. IsOdd s c.args.at → ⊥ in
-    let source : IsSource (g.S.Shared.shapes c.args.shared.now) c.args.memory.now c.args.held.now c.args.at 4 Shared = subst P c.in-Shared.is c.requires.source in
+    let source : IsSource (g.S.Shared.shapes c.args.shared.now) c.args.memory.now c.args.held.now c.args.at 4 Shared = subst P
+    c.in-Shared.is c.requires.source in
     let even : IsOdd Shared c.args.at → ⊥ = subst Q c.in-Shared.is c.requires.even in
-    readable_word (g.S.Shared.shapes c.args.shared.now) (g.S.Shared.held c.args.shared.now c.args.cpu) c.args.held.now c.args.at c.requires.held c.are_aligned.ensures source.1 (settled (c.args.at % 4) 0 even)
+    readable_word (g.S.Shared.shapes c.args.shared.now) (g.S.Shared.held c.args.shared.now c.args.cpu) c.args.held.now c.args.at
+    c.requires.held c.are_aligned.ensures source.1 (settled (c.args.at % 4) 0 even)
 
 pub returns-in-Private-clause-read : goal.returns-in-Private-clause-read
 returns-in-Private-clause-read g c =
     let P : Source → Type 0 = λ s. IsSource (g.S.Shared.shapes c.args.shared.now) c.args.memory.now c.args.held.now c.args.at 4 s in
-    let source : IsSource (g.S.Shared.shapes c.args.shared.now) c.args.memory.now c.args.held.now c.args.at 4 (Private c.in-Private.place) = subst P c.in-Private.is c.requires.source in
+    let source : IsSource (g.S.Shared.shapes c.args.shared.now) c.args.memory.now c.args.held.now c.args.at 4 (Private c.in-Private.place) =
+    subst P c.in-Private.is c.requires.source in
     let bytes = c.bytes.result.now in
     let size = length-bytes_at c.args.memory.now (address_of c.in-Private.place) 4 bytes c.bytes.ensures in
     let whole : take 4 bytes ≡ bytes = take_all 4 bytes (omega arith) in
@@ -43,10 +46,12 @@ pub returns-in-Shared-clause-read : goal.returns-in-Shared-clause-read
 returns-in-Shared-clause-read g c =
     let P : Source → Type 0 = λ s. IsSource (g.S.Shared.shapes c.args.shared.now) c.args.memory.now c.args.held.now c.args.at 4 s in
     let Q : Source → Type 0 = λ s. IsOdd s c.args.at → ⊥ in
-    let source : IsSource (g.S.Shared.shapes c.args.shared.now) c.args.memory.now c.args.held.now c.args.at 4 Shared = subst P c.in-Shared.is c.requires.source in
+    let source : IsSource (g.S.Shared.shapes c.args.shared.now) c.args.memory.now c.args.held.now c.args.at 4 Shared = subst P
+    c.in-Shared.is c.requires.source in
     let even : IsOdd Shared c.args.at → ⊥ = subst Q c.in-Shared.is c.requires.even in
     let event = Load c.args.at Word c.value_load.result in (
       event ∷ [],
       inr (source.0, source.1, settled (c.args.at % 4) 0 even, refl),
-      chain_one g.S.Shared.passes g.S.Shared.serves c.args.cpu c.args.shared.now c.value_load.new.self event c.requires.serves c.value_load.ensures.loaded c.value_load.ensures.same.1,
+      chain_one g.S.Shared.passes g.S.Shared.serves c.args.cpu c.args.shared.now c.value_load.new.self event c.requires.serves
+          c.value_load.ensures.loaded c.value_load.ensures.same.1,
     )

@@ -11,4 +11,5 @@ loop-insn-preserved c =
     written_next _ _ _ _ _ c.loop-insn-test.true c.loop-insn.invariant (search rules) c.push.ensures.writable
 
 pub returns-clause-encoded : goal.returns-clause-encoded
-returns-clause-encoded c = written_all c.args.insns.now c.loop-insn.bytes.items c.loop-insn.insn-index (take_all _ _ c.loop-insn-test.false) c.loop-insn.invariant
+returns-clause-encoded c = written_all c.args.insns.now c.loop-insn.bytes.items c.loop-insn.insn-index (take_all _ _ c.loop-insn-test.false)
+    c.loop-insn.invariant

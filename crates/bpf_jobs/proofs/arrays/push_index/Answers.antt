@@ -19,16 +19,20 @@ loop-copy-preserved c = λ s sound shown g there inside.
     let text = string_bytes c.loop-copy.text in
     let same : s.shape ≡ h = shown.shape ∙ sym c.store_shape-shape.ensures in
     let found = found_shape s h c.arrays.result.now a g blank same c.arrays.ensures.arrays there in
-    let count = found_copies s h c.arrays.result.now a g blank same c.arrays.ensures.arrays there c.copies-copy-end.result c.cpus.result c.cpus.ensures.cpus c.copies-copy-end.ensures in
+    let count = found_copies s h c.arrays.result.now a g blank same c.arrays.ensures.arrays there c.copies-copy-end.result c.cpus.result
+    c.cpus.ensures.cpus c.copies-copy-end.ensures in
     let less : k < copies s.shape.cpus g = subst (λ (n : ℕ). k < n) count c.loop-copy-test.true in
-    one_copy_more s array g (string_bytes c.args.text.now) text (string_bytes c.push_place.new.text) c.args.index k (c.loop-copy.invariant s sound shown g there inside)
-    (c.in_ok-push_place.ensures s sound shown g there less inside ∙ ap (λ (x : ArrayShape). text ++ value_line array x.per_cpu c.args.index k (s.value (fixed_number a k c.args.index)).bytes) found)
+    one_copy_more s array g (string_bytes c.args.text.now) text (string_bytes c.push_place.new.text) c.args.index k
+    (c.loop-copy.invariant s sound shown g there inside)
+    (c.in_ok-push_place.ensures s sound shown g there less inside ∙ ap
+    (λ (x : ArrayShape). text ++ value_line array x.per_cpu c.args.index k (s.value (fixed_number a k c.args.index)).bytes) found)
 
 pub returns : goal.returns
 returns c = λ s sound shown g there inside.
     let h = c.store_shape-shape.result.now in
     let same : s.shape ≡ h = shown.shape ∙ sym c.store_shape-shape.ensures in
-    let count = found_copies s h c.arrays.result.now c.args.array.number g blank same c.arrays.ensures.arrays there c.copies-copy-end.result c.cpus.result c.cpus.ensures.cpus c.copies-copy-end.ensures in
+    let count = found_copies s h c.arrays.result.now c.args.array.number g blank same c.arrays.ensures.arrays there c.copies-copy-end.result
+    c.cpus.result c.cpus.ensures.cpus c.copies-copy-end.ensures in
     let all : c.loop-copy.copy ≡ c.copies-copy-end.result = (let most = c.loop-copy.auto.copy-end in omega arith) in
     c.loop-copy.invariant s sound shown g there inside
     ∙ ap (λ (n : ℕ). string_bytes c.args.text.now ++ index_lines s (called_by c.args.array) g c.args.index n) (all ∙ count)

@@ -8,4 +8,5 @@ pub returns : goal.returns
 returns c = λ w shows.
     let m = c.args.machine.now in
     let all : c.loop-cpu.cpu ≡ c.cpus-cpu-end.result = omega arith in
-    c.loop-cpu.invariant ∙ shown_lines m w (map string_bytes c.args.names.now) c.loop-cpu.cpu shows (cpus_shown m w c.cpus-cpu-end.result c.cpus-cpu-end.ensures shows ∙ sym all)
+    c.loop-cpu.invariant ∙ shown_lines m w (map string_bytes c.args.names.now) c.loop-cpu.cpu shows
+    (cpus_shown m w c.cpus-cpu-end.result c.cpus-cpu-end.ensures shows ∙ sym all)

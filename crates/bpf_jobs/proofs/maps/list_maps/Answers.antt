@@ -4,5 +4,6 @@ use Rattle.bpf_jobs.proofs.maps.list_maps.Goals as goal
 
 pub loop-map-preserved : goal.loop-map-preserved
 loop-map-preserved c = λ s sound shown.
-    one_map_more s (map string_bytes c.args.names.now) c.loop-map.map c.in_ok-pairs.pairs.items c.deref.result.now c.name_at.result.now (string_bytes c.loop-map.text) (string_bytes c.push_map.new.text)
+    one_map_more s (map string_bytes c.args.names.now) c.loop-map.map c.in_ok-pairs.pairs.items c.deref.result.now c.name_at.result.now
+    (string_bytes c.loop-map.text) (string_bytes c.push_map.new.text)
     c.deref.ensures.value c.name_at.ensures (c.loop-map.invariant s sound shown) (c.in_ok-pairs.ensures.listed s sound shown) c.in_ok-push_map.ensures

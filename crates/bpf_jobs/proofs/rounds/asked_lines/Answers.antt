@@ -8,6 +8,7 @@ use Rattle.bpf_jobs.proofs.rounds.asked_lines.Goals as goal
 pub returns-in_ok-push_str : goal.returns-in_ok-push_str
 returns-in_ok-push_str c = λ s sound shown.
     let lines = string_bytes c.in_ok-text.text in
-    let are = subst (λ (ns : List (String Global)). AreMapLines s (map string_bytes ns) (length s.shape.maps) lines) c.deref.ensures.value (c.in_ok-text.ensures s sound shown) in
+    let are = subst (λ (ns : List (String Global)). AreMapLines s (map string_bytes ns) (length s.shape.maps) lines) c.deref.ensures.value
+    (c.in_ok-text.ensures s sound shown) in
     maps_told c.args.maps s (names_of c.args.names.now) lines (string_bytes c.push_str.new.self) c.if-maps.true are
     (c.in_ok-push_str.ensures.bytes ∙ ap (λ (t : List ℕ). lines ++ t) (c.as_str.ensures.value ∙ c.in_ok-fixed.ensures s sound shown))

@@ -7,5 +7,7 @@ use Rattle.bpf_jobs.proofs.rounds.fixed_lines.Goals as goal
 pub returns : goal.returns
 returns c = λ s sound shown.
     let text = string_bytes c.in_ok-text.text in
-    fixed_told s (names_of c.args.names.now) c.deref.result.now c.args.names.now.variables.items text (string_bytes c.in_ok-arrays.arrays) (string_bytes c.push_str.new.self) c.deref.ensures.value refl
-    (c.in_ok-text.ensures s sound shown) (c.in_ok-arrays.ensures s sound shown) (c.in_ok-push_str.ensures.bytes ∙ ap (λ (t : List ℕ). text ++ t) c.as_str.ensures.value)
+    fixed_told s (names_of c.args.names.now) c.deref.result.now c.args.names.now.variables.items text (string_bytes c.in_ok-arrays.arrays)
+    (string_bytes c.push_str.new.self) c.deref.ensures.value refl
+    (c.in_ok-text.ensures s sound shown) (c.in_ok-arrays.ensures s sound shown)
+    (c.in_ok-push_str.ensures.bytes ∙ ap (λ (t : List ℕ). text ++ t) c.as_str.ensures.value)

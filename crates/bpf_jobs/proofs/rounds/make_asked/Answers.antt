@@ -21,7 +21,9 @@ returns-in-Ok-with_keys c =
     let asked : true ≡ c.args.keys = cc in
     record {
       store = subst P (sym c.in-Ok-with_keys.ensures.store)
-          (shows_filled s.shape (map pair_of s.pairs.items) c.in-Ok.store c.put_pairs.new.shared c.cpus.ensures.in_range c.requires.pairs c.in-Ok.ensures.made (subst (chained c.in-Ok.store c.put_pairs.new.shared) (ap (λ (l : List Given). run_events (map pair_of l)) c.deref.ensures.value) (c.put_pairs.ensures.put c.if-not-put_pairs.false)));
+          (shows_filled s.shape (map pair_of s.pairs.items) c.in-Ok.store c.put_pairs.new.shared c.cpus.ensures.in_range c.requires.pairs
+          c.in-Ok.ensures.made (subst (chained c.in-Ok.store c.put_pairs.new.shared)
+          (ap (λ (l : List Given). run_events (map pair_of l)) c.deref.ensures.value) (c.put_pairs.ensures.put c.if-not-put_pairs.false)));
       sound = filled_sound s.shape (map pair_of s.pairs.items) c.cpus.ensures.in_range c.requires.pairs;
       programs = sym c.in-Ok-with_keys.ensures.programs;
       jobs = sym c.in-Ok-with_keys.ensures.jobs;
@@ -35,7 +37,9 @@ returns-in-Ok-new c =
     let asked : false ≡ c.args.keys = cc in
     record {
       store = subst P (sym c.in-Ok-new.ensures.store)
-          (shows_filled s.shape (map pair_of s.pairs.items) c.in-Ok.store c.put_pairs.new.shared c.cpus.ensures.in_range c.requires.pairs c.in-Ok.ensures.made (subst (chained c.in-Ok.store c.put_pairs.new.shared) (ap (λ (l : List Given). run_events (map pair_of l)) c.deref.ensures.value) (c.put_pairs.ensures.put c.if-not-put_pairs.false)));
+          (shows_filled s.shape (map pair_of s.pairs.items) c.in-Ok.store c.put_pairs.new.shared c.cpus.ensures.in_range c.requires.pairs
+          c.in-Ok.ensures.made (subst (chained c.in-Ok.store c.put_pairs.new.shared)
+          (ap (λ (l : List Given). run_events (map pair_of l)) c.deref.ensures.value) (c.put_pairs.ensures.put c.if-not-put_pairs.false)));
       sound = filled_sound s.shape (map pair_of s.pairs.items) c.cpus.ensures.in_range c.requires.pairs;
       programs = sym c.in-Ok-new.ensures.programs;
       jobs = sym c.in-Ok-new.ensures.jobs;

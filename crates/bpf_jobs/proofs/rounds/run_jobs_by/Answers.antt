@@ -8,12 +8,14 @@ use Rattle.bpf_jobs.proofs.rounds.run_jobs_by.Goals as goal
 
 pub rounds-requires : goal.rounds-requires
 rounds-requires c =
-    let turned = c.turns_by.ensures.runs (asked_world c.args.keys c.args.setup.shape (map pair_of c.args.setup.pairs.items) c.args.setup.programs.items (map waiting c.args.setup.jobs.items)) c.in_ok-machine.ensures in
+    let turned = c.turns_by.ensures.runs (asked_world c.args.keys c.args.setup.shape (map pair_of c.args.setup.pairs.items)
+    c.args.setup.programs.items (map waiting c.args.setup.jobs.items)) c.in_ok-machine.ensures in
     (turned.0, turned.2)
 
 pub returns : goal.returns
 returns c =
-    let w = asked_world c.args.keys c.args.setup.shape (map pair_of c.args.setup.pairs.items) c.args.setup.programs.items (map waiting c.args.setup.jobs.items) in
+    let w = asked_world c.args.keys c.args.setup.shape (map pair_of c.args.setup.pairs.items) c.args.setup.programs.items
+    (map waiting c.args.setup.jobs.items) in
     let report = c.in_ok-report.report in
     let turned = c.turns_by.ensures.runs w c.in_ok-machine.ensures in
     told w turned.0 c.args.schedule.now turned.1 c.rounds.new.self (names_of c.args.names.now) c.args.maps (string_bytes report.text) report.stopped

@@ -18,7 +18,8 @@ returns c = λ w shows.
     let listed = c.in_ok-lists.ensures w shows ∙ ap (λ (ns : List (String Global)). lines_of_lists w (map string_bytes ns)) c.deref.ensures.value in (
       lines,
       c.in_ok-lines.ensures w.store shows.sound stands,
-      told_lines c.args.machine.now.jobs w.jobs text lists lines both (string_bytes c.push_str-2.new.self) (lines_of_lists w names.maps) shows.jobs c.in_ok-text.ensures listed
+      told_lines c.args.machine.now.jobs w.jobs text lists lines both (string_bytes c.push_str-2.new.self) (lines_of_lists w names.maps)
+          shows.jobs c.in_ok-text.ensures listed
           (c.in_ok-push_str.ensures.bytes ∙ ap (λ (t : List ℕ). text ++ t) c.as_str.ensures.value)
           (c.in_ok-push_str-2.ensures.bytes ∙ ap (λ (t : List ℕ). both ++ t) c.as_str-2.ensures.value),
       c.has_any_stopped-stopped.ensures ∙ ap (λ (js : List Task). any_stopped (length js) js) (sym shows.jobs),

@@ -8,4 +8,5 @@ use Rattle.bpf_jobs.specs.Printed.{variable_lines}
 use Rattle.bpf_jobs.proofs.variables.list_variables.Given as goal
 
 abbrev pub invariant-loop-variable : goal.invariant-loop-variable
-invariant-loop-variable l = (s : Plain) → IsSoundStore s → StandsFor l.store s → string_bytes l.text ≡ variable_lines s (map variable_of l.variables) l.variable-index
+invariant-loop-variable l = (s : Plain) → IsSoundStore s → StandsFor l.store s → string_bytes l.text ≡ variable_lines s
+    (map variable_of l.variables) l.variable-index

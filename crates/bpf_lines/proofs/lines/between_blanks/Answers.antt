@@ -12,5 +12,6 @@ returns c =
     map_from_collect _ c.collect.ensures.ran
     (YieldsList-from_filter {s = c.filter.result} _ is_field
     (YieldsList-from_slice_split {s = c.filter.result.iter} _ is_blank c.args.line.now
-    (ap slice.split_rest same ∙ c.split.ensures.rest) (ap slice.split_done same ∙ c.split.ensures.done) (ap slice.split_callee same ∙ c.split.ensures.closure) (λ x r q k. search (rules, tests)))
+    (ap slice.split_rest same ∙ c.split.ensures.rest) (ap slice.split_done same ∙ c.split.ensures.done)
+    (ap slice.split_callee same ∙ c.split.ensures.closure) (λ x r q k. search (rules, tests)))
     c.filter.ensures.closure (λ x r q k. search (rules, tests)))

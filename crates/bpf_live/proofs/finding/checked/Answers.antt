@@ -10,5 +10,6 @@ returns c =
     let P : Table → Type 0 = IsLiveTable is in
     elim c.if-not-is_right.branch [
       | then-not-is_right w ↦ subst P (sym (c.new.ensures ∙ (ap (λ v. v.items) w.sets-is ∙ w.clear.ensures.items))) (λ pc i begins. all_are_live is pc i)
-      | else-not-is_right w ↦ subst P (sym (c.new.ensures ∙ (ap (λ v. v.items) w.sets-is ∙ sym c.deref.ensures.value))) (c.is_right.ensures w.if-not-is_right.false)
+      | else-not-is_right w ↦ subst P (sym (c.new.ensures ∙ (ap (λ v. v.items) w.sets-is ∙ sym c.deref.ensures.value)))
+          (c.is_right.ensures w.if-not-is_right.false)
     ]

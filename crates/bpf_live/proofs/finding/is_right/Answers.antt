@@ -20,5 +20,6 @@ pub returns : goal.returns
 returns c = λ e pc i begins.
     let there = c.ops-words.ensures pc (i, begins) in
     let low = slice_get_within c.ops-words.result.now pc there.0 there.1 in
-    has_live c.args.program.now.instructions c.args.sets.now c.has_calls-calls.result pc i (c.loop-pc.invariant pc (omega (arith, low, c.loop-pc-test.false)) i begins)
+    has_live c.args.program.now.instructions c.args.sets.now c.has_calls-calls.result pc i
+    (c.loop-pc.invariant pc (omega (arith, low, c.loop-pc-test.false)) i begins)
     (some c.args.program.now.instructions c.has_calls-calls.result c.has_calls-calls.ensures)

@@ -7,7 +7,8 @@ use Rattle.bpf_mem.proofs.frames.same_callers.Goals as goal
 
 caller_Decides : (a b : Caller) → Decides (eqb a.return_pc b.return_pc && pointwise eqb a.saved b.saved) (a ≡ b)
 caller_Decides a b =
-    let fields = Decides-and (eqb a.return_pc b.return_pc) (pointwise eqb a.saved b.saved) (Decides-eqb a.return_pc b.return_pc) (slice_eq-Decides Decides-eqb a.saved b.saved (pointwise eqb a.saved b.saved) refl) in (
+    let fields = Decides-and (eqb a.return_pc b.return_pc) (pointwise eqb a.saved b.saved) (Decides-eqb a.return_pc b.return_pc)
+    (slice_eq-Decides Decides-eqb a.saved b.saved (pointwise eqb a.saved b.saved) refl) in (
       λ e. (let f = fields.0 e in λ j. record { return_pc = f.0 j; saved = f.1 j }),
       λ same. fields.1 (ap (λ (c : Caller). c.return_pc) same, ap (λ (c : Caller). c.saved) same),
     )

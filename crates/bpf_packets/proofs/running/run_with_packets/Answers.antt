@@ -26,6 +26,7 @@ returns c =
     ap bytes_of_all c.deref_mut.ensures.value ∙ (c.in_ok-packets.ensures ∙ ap (λ (jobs : List Job). given_packets (map waiting jobs)) c.deref.ensures.value)
     in
     IfOk-weaker c.report_of.result
-    (λ (r : Report). (v : World) → Shows c.in_ok-machine.machine v → bytes_of_all c.deref_mut.result.now ≡ given_packets v.jobs → IsReportWithPackets v runs names maps (string_bytes r.text) r.stopped)
+    (λ (r : Report). (v : World) → Shows c.in_ok-machine.machine v → bytes_of_all c.deref_mut.result.now ≡ given_packets v.jobs →
+    IsReportWithPackets v runs names maps (string_bytes r.text) r.stopped)
     (λ (r : Report). IsReportWithPackets w runs names maps (string_bytes r.text) r.stopped)
     (λ r told. told w c.in_ok-machine.ensures first) c.report_of.ensures

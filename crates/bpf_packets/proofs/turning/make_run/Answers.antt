@@ -21,4 +21,5 @@ returns-after-loop c =
 pub returns-in-Idle : goal.returns-in-Idle
 returns-in-Idle c =
     rest_idle c.loop.counter c.args.run.1 c.args.run.0 c.in_ok-make_turn.field-0 c.args.machine.now c.loop.machine c.make_turn.new.machine
-    (bytes_of_all c.args.packets.now) (bytes_of_all c.loop.packets) (bytes_of_all c.make_turn.new.packets) (omega arith) c.in-Idle.is c.loop.invariant c.in_ok-make_turn.ensures.kept
+    (bytes_of_all c.args.packets.now) (bytes_of_all c.loop.packets) (bytes_of_all c.make_turn.new.packets) (omega arith) c.in-Idle.is
+    c.loop.invariant c.in_ok-make_turn.ensures.kept

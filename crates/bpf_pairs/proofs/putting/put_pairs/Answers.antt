@@ -24,7 +24,12 @@ returns-clause-put g c done =
     let x = c.args.shared.now in
     let a = c.begin.new.self in
     let b = c.update_all-done.new.shared in
-    let begun : Chain S.passes S.serves c.args.cpu x a (Begin ∷ []) = chain_one S.passes S.serves c.args.cpu x a Begin c.requires.serves (on_ok c.begin.result _ (sym c.if-is_err.false ∙ c.is_err.ensures.value) c.begin.ensures.begun) c.begin.ensures.same.1 in
-    let put : Chain S.passes S.serves c.args.cpu x b ((Begin ∷ []) ++ put_events ps) = chain_join S.passes S.serves c.args.cpu g.met.S.Shared.follows x a b (Begin ∷ []) (put_events ps) begun (c.update_all-done.ensures.put done) in
-    let ended = chain_call S.passes S.serves c.args.cpu g.met.S.Shared.follows x b c.end.new.self ((Begin ∷ []) ++ put_events ps) End c.requires.serves put c.end.ensures.ended c.end.ensures.same.1 in
-    subst (Chain S.passes S.serves c.args.cpu x c.end.new.self) (some ps (λ e. let z = eq-eqb (length c.args.pairs.now) 0 (sym (length-map c.args.pairs.now pair_of) ∙ e) in cc (c.is_empty.ensures, c.if-is_empty.false, z))) ended
+    let begun : Chain S.passes S.serves c.args.cpu x a (Begin ∷ []) = chain_one S.passes S.serves c.args.cpu x a Begin c.requires.serves
+    (on_ok c.begin.result _ (sym c.if-is_err.false ∙ c.is_err.ensures.value) c.begin.ensures.begun) c.begin.ensures.same.1 in
+    let put : Chain S.passes S.serves c.args.cpu x b ((Begin ∷ []) ++ put_events ps) = chain_join S.passes S.serves c.args.cpu
+    g.met.S.Shared.follows x a b (Begin ∷ []) (put_events ps) begun (c.update_all-done.ensures.put done) in
+    let ended = chain_call S.passes S.serves c.args.cpu g.met.S.Shared.follows x b c.end.new.self ((Begin ∷ []) ++ put_events ps) End
+    c.requires.serves put c.end.ensures.ended c.end.ensures.same.1 in
+    subst (Chain S.passes S.serves c.args.cpu x c.end.new.self) (some ps
+    (λ e. let z = eq-eqb (length c.args.pairs.now) 0 (sym (length-map c.args.pairs.now pair_of) ∙ e) in cc (c.is_empty.ensures, c.if-is_empty.false, z)))
+    ended

@@ -35,7 +35,8 @@ update-answer-requires-clause-pair g c =
     (subst (λ (value : List ℕ). IsPairOf (S.shapes c.args.shared.now).maps r.map r.key.items value) (sym c.deref-in-loop-pair.ensures.value) its))
 
 -- one update more
-next_events : (ps : List Given) (k : ℕ) (r : Given) → k < length ps → r ≡ get_or ps k r → put_events (map pair_of (take k ps)) ++ put_event (pair_of r) ∷ [] ≡ put_events (map pair_of (take (k + 1) ps))
+next_events : (ps : List Given) (k : ℕ) (r : Given) → k < length ps → r ≡ get_or ps k r → put_events (map pair_of (take k ps)) ++ put_event
+    (pair_of r) ∷ [] ≡ put_events (map pair_of (take (k + 1) ps))
 next_events ps k r inside is =
     ap (λ (q : Given). put_events (map pair_of (take k ps)) ++ put_event (pair_of q) ∷ []) is
     ∙ sym (ap put_events (more ps k r inside) ∙ map-append put_event (map pair_of (take k ps)) (pair_of (get_or ps k r) ∷ []))
@@ -56,11 +57,15 @@ loop-pair-preserved g c =
             let x = c.args.shared.now in
             let y = c.loop-pair.shared in
             let z = c.update-answer.new.self in
-            let call = subst (λ (v : List ℕ). Calls (S.passes y z) (S.serves y) c.args.cpu (Update r.map r.key.items v 0 Done)) c.deref-in-loop-pair.ensures.value
-            (subst (λ (key : List ℕ). Calls (S.passes y z) (S.serves y) c.args.cpu (Update r.map key c.deref-in-loop-pair.result.now 0 Done)) c.deref.ensures.value
-            (subst (λ (a : MapAnswer). Calls (S.passes y z) (S.serves y) c.args.cpu (Update r.map c.deref.result.now c.deref-in-loop-pair.result.now 0 a)) was c.update-answer.ensures.answered)) in
+            let call = subst (λ (v : List ℕ). Calls (S.passes y z) (S.serves y) c.args.cpu (Update r.map r.key.items v 0 Done))
+            c.deref-in-loop-pair.ensures.value
+            (subst (λ (key : List ℕ). Calls (S.passes y z) (S.serves y) c.args.cpu
+            (Update r.map key c.deref-in-loop-pair.result.now 0 Done)) c.deref.ensures.value
+            (subst (λ (a : MapAnswer). Calls (S.passes y z) (S.serves y) c.args.cpu
+            (Update r.map c.deref.result.now c.deref-in-loop-pair.result.now 0 a)) was c.update-answer.ensures.answered)) in
             subst (Chain S.passes S.serves c.args.cpu x z) (next_events ps k r c.loop-pair-test.true c.pair-item.is)
-            (chain_call S.passes S.serves c.args.cpu g.met.S.Shared.follows x y z (put_events (map pair_of (take k ps))) (put_event (pair_of r)) c.requires.serves
+            (chain_call S.passes S.serves c.args.cpu g.met.S.Shared.follows x y z (put_events (map pair_of (take k ps)))
+            (put_event (pair_of r)) c.requires.serves
             (c.loop-pair.invariant.chain w.if-done.true) call c.update-answer.ensures.same.1)
         | else-done w ↦ cc (w.done-is, w.if-done.false, d)
       ];

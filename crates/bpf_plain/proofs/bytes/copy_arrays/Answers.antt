@@ -18,7 +18,8 @@ loop-number-preserved c =
     let inside : n < length c.loop-number.arrays = (let t = c.loop-number-test.true in omega arith) in
     let among : n < length c.args.others.now = omega arith in
     let same : v.items ≡ get_or (bytes_of_all c.args.others.now) n [] =
-    c.copy_bytes.ensures ∙ (c.deref.ensures.value ∙ (ap (λ (x : Vec ℕ Global). x.items) c.index-others-number.is ∙ sym (bytes_at c.args.others.now n c.index-others-number.result among))) in
+    c.copy_bytes.ensures ∙ (c.deref.ensures.value ∙ (ap (λ (x : Vec ℕ Global). x.items) c.index-others-number.is ∙ sym
+    (bytes_at c.args.others.now n c.index-others-number.result among))) in
     record {
       count = length-set c.loop-number.arrays n v ∙ i.count;
       done = λ a l. elim (equal_or_not a n) [

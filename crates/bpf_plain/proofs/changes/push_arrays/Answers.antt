@@ -15,7 +15,8 @@ abbrev none : ArrayShape
 none = record { value = 0; max = 0; per_cpu = false; frozen = false }
 
 -- the bytes that are saved are those of the array
-module _ (arrays : List (Vec ℕ Global)) (n : ℕ) (v : Vec ℕ Global) (is : v ≡ get_or arrays n v) (l : n < length arrays) (bytes : List ℕ) (value : bytes ≡ v.items) where
+module _ (arrays : List (Vec ℕ Global)) (n : ℕ) (v : Vec ℕ Global) (is : v ≡ get_or arrays n v) (l : n < length arrays) (bytes : List ℕ)
+    (value : bytes ≡ v.items) where
   bytes_are : bytes ≡ get_or (bytes_of_all arrays) n []
   bytes_are = value ∙ (ap (λ (x : Vec ℕ Global). x.items) is ∙ sym (bytes_at arrays n v l))
 
@@ -30,13 +31,15 @@ push_array-requires-clause-few c =
     let sized = array_sized h c.arrays-number-end.ensures.in_range h.arrays refl n h.cpus none refl (omega arith) in
     let size = (c.requires.each n (get_or h.arrays n none) sized.0).size in
     let few = few_bytes h.cpus (get_or h.arrays n none) c.arrays-number-end.ensures.in_range.cpus.1 sized.1 in
-    let long = ap (λ (bs : List ℕ). length bs) (bytes_are c.args.arrays.now n c.index-arrays-number.result c.index-arrays-number.is (omega arith) c.deref.result.now c.deref.ensures.value) in
+    let long = ap (λ (bs : List ℕ). length bs) (bytes_are c.args.arrays.now n c.index-arrays-number.result c.index-arrays-number.is
+    (omega arith) c.deref.result.now c.deref.ensures.value) in
     omega arith
 
 pub returns-in_err-push_array-clause-err : goal.returns-in_err-push_array-clause-err
 returns-in_err-push_array-clause-err c =
     let before = all_below (array_block c.args.shape.now (bytes_of_all c.args.arrays.now)) c.loop-number.number in
-    still_starts c.from_residual.result c.args.out.now.items c.loop-number.out.items c.push_array.new.out.items before c.loop-number.invariant c.in_err-push_array.ensures.err
+    still_starts c.from_residual.result c.args.out.now.items c.loop-number.out.items c.push_array.new.out.items before
+    c.loop-number.invariant c.in_err-push_array.ensures.err
 
 pub loop-number-preserved : goal.loop-number-preserved
 loop-number-preserved c =

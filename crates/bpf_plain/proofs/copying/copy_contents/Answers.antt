@@ -14,7 +14,8 @@ loop-bytes-preserved c =
     let item = c.bytes-item.result in
     let inside : i < length all = c.loop-bytes-test.true in
     let next : suc i ≡ i + 1 = omega arith in
-    let same : one.items ≡ get_or (bytes_of_all all) i [] = c.in_ok-copy_bytes.ensures ∙ (c.deref.ensures.value ∙ (ap (λ (v : Vec ℕ Global). v.items) c.bytes-item.is ∙ sym (bytes_at all i item inside))) in
+    let same : one.items ≡ get_or (bytes_of_all all) i [] = c.in_ok-copy_bytes.ensures ∙
+    (c.deref.ensures.value ∙ (ap (λ (v : Vec ℕ Global). v.items) c.bytes-item.is ∙ sym (bytes_at all i item inside))) in
     ap bytes_of_all c.in_ok-push.ensures.items ∙ (push_bytes c.loop-bytes.copy.items one
     ∙ (ap (λ (xs : List (List ℕ)). xs ++ one.items ∷ []) c.loop-bytes.invariant
     ∙ (ap (λ (x : List ℕ). take i (bytes_of_all all) ++ x ∷ []) same

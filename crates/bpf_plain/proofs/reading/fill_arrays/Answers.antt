@@ -55,7 +55,8 @@ loop-number-preserved c =
       count = length-set arrays n v ∙ inv.count;
       read = λ others more are is.
           (let i = inv.read others more are is in
-          one_read h arrays n v among c.args.saved.now c.past.result.now c.loop-number.at c.read_array-at.result c.past.ensures inside others more (get_or h.arrays n none) there are is
+          one_read h arrays n v among c.args.saved.now c.past.result.now c.loop-number.at c.read_array-at.result c.past.ensures inside
+          others more (get_or h.arrays n none) there are is
           (λ k xs rest at of e. (let got = c.read_array-at.ensures.read k xs rest at of e in (put ∙ got.0, got.1))) i.0 i.1);
       done = one_array h arrays n v among (λ k at. subst (IsArrayOf h n k) (sym put) (c.read_array-at.ensures.array k at)) inv.done;
       rest = λ a l. bytes_kept arrays n a v (λ e. (let z : a ≡ n = e in omega arith)) ∙ inv.rest a (omega arith);

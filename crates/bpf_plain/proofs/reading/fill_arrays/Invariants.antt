@@ -11,7 +11,8 @@ abbrev pub invariant-loop-number : goal.invariant-loop-number
 invariant-loop-number l = record {
   count : length l.arrays ≡ length l.initial.arrays;
   read : (others : List (List ℕ)) (more : List ℕ) → AreArrays l.shape others → l.saved ≡ saved_arrays l.shape others ++ more
-      → ((a : ℕ) → a < l.number → slice_index_or (bytes_of_all l.arrays) a [] ≡ slice_index_or others a []) × (l.saved ≡ all_below (array_block l.shape others) l.number ++ drop l.at l.saved);
+      → ((a : ℕ) → a < l.number → slice_index_or (bytes_of_all l.arrays) a [] ≡ slice_index_or others a []) ×
+      (l.saved ≡ all_below (array_block l.shape others) l.number ++ drop l.at l.saved);
   done : (a : ℕ) (g : ArrayShape) → a < l.number → IsArray l.shape.arrays a g → IsArrayOf l.shape a g (slice_index_or (bytes_of_all l.arrays) a []);
   rest : (a : ℕ) → l.number ≤ a → slice_index_or (bytes_of_all l.arrays) a [] ≡ slice_index_or (bytes_of_all l.initial.arrays) a [];
   inside : l.at ≤ length l.saved;

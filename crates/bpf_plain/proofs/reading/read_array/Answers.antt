@@ -23,7 +23,8 @@ module _ (h : Shape) (is : IsShape h) (gs : List ArrayShape) (same : gs ≡ h.ar
 pub returns-then-array-clause-read : goal.returns-then-array-clause-read
 returns-then-array-clause-read c =
     let at = there c.args.shape.now c.arrays.ensures.in_range c.arrays.result.now c.arrays.ensures.arrays c.args.number c.requires.there in
-    frozen_read c.args.shape.now c.args.number (get_or c.arrays.result.now c.args.number none) at c.args.bytes.now (c.requires.made _ at) c.if-array.true c.args.saved.now
+    frozen_read c.args.shape.now c.args.number (get_or c.arrays.result.now c.args.number none) at c.args.bytes.now (c.requires.made _ at)
+    c.if-array.true c.args.saved.now
 
 pub returns-then-array-clause-array : goal.returns-then-array-clause-array
 returns-then-array-clause-array c g is = array_made c.args.shape.now c.args.number g (c.requires.made g is)
@@ -39,15 +40,18 @@ read_changes-requires-clause-few c =
     let g = get_or c.arrays.result.now c.args.number none in
     let at = there h c.arrays.ensures.in_range c.arrays.result.now c.arrays.ensures.arrays c.args.number c.requires.there in
     let size = (c.requires.made g at).size in
-    let few = few_bytes h.cpus g c.arrays.ensures.in_range.cpus.1 (sized h c.arrays.ensures.in_range c.arrays.result.now c.arrays.ensures.arrays c.args.number c.requires.there) in
+    let few = few_bytes h.cpus g c.arrays.ensures.in_range.cpus.1
+    (sized h c.arrays.ensures.in_range c.arrays.result.now c.arrays.ensures.arrays c.args.number c.requires.there) in
     omega arith
 
 pub returns-clause-read : goal.returns-clause-read
 returns-clause-read c =
     let at = there c.args.shape.now c.arrays.ensures.in_range c.arrays.result.now c.arrays.ensures.arrays c.args.number c.requires.there in
-    thawed_read c.args.shape.now c.args.number (get_or c.arrays.result.now c.args.number none) at c.args.bytes.now (c.requires.made _ at) c.if-array.false c.cpus.result c.cpus.ensures.cpus c.args.saved.now c.read_changes.new.bytes c.read_changes.result c.read_changes.ensures.read
+    thawed_read c.args.shape.now c.args.number (get_or c.arrays.result.now c.args.number none) at c.args.bytes.now (c.requires.made _ at)
+    c.if-array.false c.cpus.result c.cpus.ensures.cpus c.args.saved.now c.read_changes.new.bytes c.read_changes.result c.read_changes.ensures.read
 
 pub returns-clause-array : goal.returns-clause-array
 returns-clause-array c =
     let at = there c.args.shape.now c.arrays.ensures.in_range c.arrays.result.now c.arrays.ensures.arrays c.args.number c.requires.there in
-    thawed_array c.args.shape.now c.args.number (get_or c.arrays.result.now c.args.number none) at c.args.bytes.now (c.requires.made _ at) c.if-array.false c.cpus.result c.cpus.ensures.cpus c.read_changes.new.bytes c.read_changes.auto.bytes c.read_changes.ensures.padded
+    thawed_array c.args.shape.now c.args.number (get_or c.arrays.result.now c.args.number none) at c.args.bytes.now (c.requires.made _ at)
+    c.if-array.false c.cpus.result c.cpus.ensures.cpus c.read_changes.new.bytes c.read_changes.auto.bytes c.read_changes.ensures.padded

@@ -24,13 +24,16 @@ loop-offset-preserved c =
             read = λ xs more size padded is.
                 (let i = inv.read xs more size padded is in
                 let t = taken first c.args.saved.now xs more o at (omega arith) (omega arith) i.1 byte found in
-                let front = front_taken first c.args.saved.now xs more o at (omega arith) (omega arith) i.1 c.args.cpus c.args.array.now c.loop-offset.bytes new byte padded w.put_within.ensures.here w.put_within.ensures.others t i.0 in (
+                let front = front_taken first c.args.saved.now xs more o at (omega arith) (omega arith) i.1 c.args.cpus c.args.array.now
+                c.loop-offset.bytes new byte padded w.put_within.ensures.here w.put_within.ensures.others t i.0 in (
                   λ y l. ap (λ (bs : List ℕ). slice_index bs y) w.bytes-is ∙ front y l,
                   ap (λ (k : ℕ). drop k c.args.saved.now) w.at-is ∙ t.2,
                 ));
-            rest = λ y l. ap (λ (bs : List ℕ). slice_index bs y) w.bytes-is ∙ (w.put_within.ensures.others y (λ e. (let z : y ≡ o = e in omega arith)) ∙ inv.rest y (omega arith));
+            rest = λ y l. ap (λ (bs : List ℕ). slice_index bs y) w.bytes-is ∙
+                (w.put_within.ensures.others y (λ e. (let z : y ≡ o = e in omega arith)) ∙ inv.rest y (omega arith));
             padded = subst (IsPadded c.args.cpus c.args.array.now first) (sym w.bytes-is)
-                (padded_taken c.args.cpus c.args.array.now first c.loop-offset.bytes new o byte w.put_within.auto.bytes w.put_within.ensures.here w.put_within.ensures.others inv.padded);
+                (padded_taken c.args.cpus c.args.array.now first c.loop-offset.bytes new o byte w.put_within.auto.bytes
+                w.put_within.ensures.here w.put_within.ensures.others inv.padded);
             inside =
                 (let room = w.in-Some.ensures.room in
                 let long = ap (λ (bs : List ℕ). length bs) c.past.ensures in
@@ -39,12 +42,14 @@ loop-offset-preserved c =
                 omega arith);
           }
       | in_default w ↦
-          let none : (byte : ℕ) (rest : List ℕ) → drop at c.args.saved.now ≡ change o byte ++ rest → ⊥ = λ byte rest e. w.in_default.ensures.none byte rest (c.past.ensures ∙ e) in
+          let none : (byte : ℕ) (rest : List ℕ) → drop at c.args.saved.now ≡ change o byte ++ rest → ⊥ = λ byte rest e.
+          w.in_default.ensures.none byte rest (c.past.ensures ∙ e) in
           record {
             read = λ xs more size padded is.
                 (let i = inv.read xs more size padded is in
                 let p = passed first c.args.saved.now xs more o at (omega arith) (omega arith) i.1 none in
-                let front = front_passed first c.args.saved.now xs more o at (omega arith) (omega arith) i.1 c.loop-offset.bytes (inv.rest o (omega arith)) p i.0 in (
+                let front = front_passed first c.args.saved.now xs more o at (omega arith) (omega arith) i.1 c.loop-offset.bytes
+                (inv.rest o (omega arith)) p i.0 in (
                   λ y l. ap (λ (bs : List ℕ). slice_index bs y) w.bytes-is ∙ front y l,
                   ap (λ (k : ℕ). drop k c.args.saved.now) w.at-is ∙ p.1,
                 ));
@@ -59,7 +64,8 @@ returns-then-saved-at-lt4-clause-read c xs more size padded is =
     let i = c.loop-offset.invariant.read xs more size padded is in
     let past = c.loop-offset-test.false in
     let same = c.loop-offset.auto.bytes in
-    let all = all_read (slice_index c.args.bytes.now) c.args.saved.now xs more c.loop-offset.bytes c.loop-offset.offset c.loop-offset.at (omega arith) (omega arith) i.0 i.1 in
+    let all = all_read (slice_index c.args.bytes.now) c.args.saved.now xs more c.loop-offset.bytes c.loop-offset.offset c.loop-offset.at
+    (omega arith) (omega arith) i.0 i.1 in
     let few = c.if-saved-at-lt4.true in
     let four = all.1 in
     absurd (omega arith)
@@ -69,5 +75,6 @@ returns-else-saved-at-lt4-clause-read c xs more size padded is =
     let i = c.loop-offset.invariant.read xs more size padded is in
     let past = c.loop-offset-test.false in
     let same = c.loop-offset.auto.bytes in
-    let all = all_read (slice_index c.args.bytes.now) c.args.saved.now xs more c.loop-offset.bytes c.loop-offset.offset c.loop-offset.at (omega arith) (omega arith) i.0 i.1 in
+    let all = all_read (slice_index c.args.bytes.now) c.args.saved.now xs more c.loop-offset.bytes c.loop-offset.offset c.loop-offset.at
+    (omega arith) (omega arith) i.0 i.1 in
     (all.0, all.2)

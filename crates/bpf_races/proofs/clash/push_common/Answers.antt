@@ -9,7 +9,8 @@ loop-byte-init c = (omega arith, range_begins c.args.sync.now c.max-low.result c
 pub loop-byte-preserved : goal.loop-byte-preserved
 loop-byte-preserved c = (
   (let from = c.loop-byte.invariant.0 in omega arith),
-  range_goes_on c.args.sync.now c.max-low.result c.min-high.result c.loop-byte.byte c.args.bytes.now.items c.loop-byte.bytes.items c.push_byte.new.bytes.items c.loop-byte.invariant.0 c.loop-byte-test.true c.loop-byte.invariant.1 c.in_ok-push_byte.ensures,
+  range_goes_on c.args.sync.now c.max-low.result c.min-high.result c.loop-byte.byte c.args.bytes.now.items c.loop-byte.bytes.items
+      c.push_byte.new.bytes.items c.loop-byte.invariant.0 c.loop-byte-test.true c.loop-byte.invariant.1 c.in_ok-push_byte.ensures,
 )
 
 pub returns : goal.returns

@@ -24,8 +24,11 @@ pub loop-k-preserved : goal.loop-k-preserved
 loop-k-preserved g c =
     let kept = g.S.Searched.kept in
     let race = c.index-found-k.result in
-    found_goes_on (g.S.Searched.patient ≡ false) (kept c.args.search.now) (kept c.loop-k.search) (kept c.add_found.new.search) c.args.sync.now c.args.found.now c.args.races.now.items c.loop-k.races.items c.add_found.new.races.items c.loop-k.k race
-    c.loop-k.all c.in_ok-listed.listed c.both-all.result c.loop-k.invariant (race_read c.args.found.now c.loop-k.k race (omega arith) c.index-found-k.is) c.add_found.ensures.same c.in_ok-listed.ensures.gathered c.in_ok-listed.ensures.keeps
+    found_goes_on (g.S.Searched.patient ≡ false) (kept c.args.search.now) (kept c.loop-k.search) (kept c.add_found.new.search)
+    c.args.sync.now c.args.found.now c.args.races.now.items c.loop-k.races.items c.add_found.new.races.items c.loop-k.k race
+    c.loop-k.all c.in_ok-listed.listed c.both-all.result c.loop-k.invariant
+    (race_read c.args.found.now c.loop-k.k race (omega arith) c.index-found-k.is) c.add_found.ensures.same
+    c.in_ok-listed.ensures.gathered c.in_ok-listed.ensures.keeps
     c.in_ok-listed.ensures.listed c.both-all.ensures.both c.in_ok-listed.ensures.exact c.both-all.ensures.not
 
 pub returns-clause-listed : goal.returns-clause-listed

@@ -23,4 +23,5 @@ returns-clause-listed g c is =
     let kept = g.S.Searched.kept in
     let m = c.current.result.now in
     let are = subst (λ (xs : List RaceFound). AreRacesIn m c.args.sync.now xs) (sym c.deref.ensures.value) c.in_ok-found.ensures in
-    found_at (kept c.args.search.now) c.add_all.new.races.items c.deref.result.now c.args.sync.now c.args.place m (g.S.Searched.working c.take.new.self) c.in_ok-take.ensures.ok c.current.ensures are (c.in_ok-listed.ensures.listed is)
+    found_at (kept c.args.search.now) c.add_all.new.races.items c.deref.result.now c.args.sync.now c.args.place m
+    (g.S.Searched.working c.take.new.self) c.in_ok-take.ensures.ok c.current.ensures are (c.in_ok-listed.ensures.listed is)

@@ -7,7 +7,8 @@ use Rattle.bpf_races.proofs.gathering.add_found.Goals as goal
 pub is_there-requires : goal.is_there-requires
 is_there-requires g c = record {
   kept = λ exact.
-      kept_there (g.S.Searched.kept c.args.search.now) c.args.sync.now c.args.place (g.S.Searched.working c.witness.new.self) c.args.found.now c.requires.here (c.in_ok-by.ensures.there exact);
+      kept_there (g.S.Searched.kept c.args.search.now) c.args.sync.now c.args.place (g.S.Searched.working c.witness.new.self)
+      c.args.found.now c.requires.here (c.in_ok-by.ensures.there exact);
 }
 
 pub returns-clause-gathered : goal.returns-clause-gathered
@@ -20,7 +21,8 @@ returns-clause-gathered g c =
     let race = c.in_ok-with_way.field-0 in
     let by = c.in_ok-by.by.items in
     let yes : c.in_ok-is_there.field-0 ≡ true = search rules in
-    gathered_pushed kept sync old c.push.new.self.items found race c.requires.gathered c.in_ok-push.ensures.items (spots_with found race by c.in_ok-with_way.ensures)
+    gathered_pushed kept sync old c.push.new.self.items found race c.requires.gathered c.in_ok-push.ensures.items
+    (spots_with found race by c.in_ok-with_way.ensures)
     (races_led kept m sync by found race c.requires.order c.in_ok-with_way.ensures c.in_ok-by.ensures.leads (c.in_ok-is_there.ensures.there yes))
     (subst (λ (xs : List RaceFound). IsListed xs (spot_of found) → ⊥) c.deref.ensures.value (c.if-is_listed.ensures.not refl))
 
@@ -30,4 +32,5 @@ returns-clause-keeps g c = keeps_pushed c.args.races.now.items c.push.new.self.i
 pub returns-clause-listed : goal.returns-clause-listed
 returns-clause-listed g c is =
     let race = c.in_ok-with_way.field-0 in
-    subst (λ (s : Spot). IsListed c.push.new.self.items s) (spots_with c.args.found.now race c.in_ok-by.by.items c.in_ok-with_way.ensures) (listed_pushed c.args.races.now.items c.push.new.self.items race c.in_ok-push.ensures.items)
+    subst (λ (s : Spot). IsListed c.push.new.self.items s) (spots_with c.args.found.now race c.in_ok-by.by.items c.in_ok-with_way.ensures)
+    (listed_pushed c.args.races.now.items c.push.new.self.items race c.in_ok-push.ensures.items)

@@ -11,4 +11,5 @@ returns-clause-there g c is =
     let sync = c.args.sync.now in
     let races = c.deref.result.now in
     let are = subst (λ (xs : List RaceFound). AreRacesIn m sync xs) (sym c.deref.ensures.value) c.in_ok-races.ensures in
-    subst (λ (x : MachineState). (w : World) → Shows x w → RacesIn w sync c.args.found.now) c.current.ensures (is_there_again m sync races c.args.found.now are (c.is_one_of.ensures is))
+    subst (λ (x : MachineState). (w : World) → Shows x w → RacesIn w sync c.args.found.now) c.current.ensures
+    (is_there_again m sync races c.args.found.now are (c.is_one_of.ensures is))

@@ -18,4 +18,5 @@ returns c =
     let fourth = string_bytes c.push_str-2.new.self in
     two_put old (places ++ codes " by") (runs ++ codes "\n") second fourth
     (two_put old places (codes " by") first second c.in_ok-push_places.ensures c.in_ok-push_str.ensures.bytes)
-    (two_put second runs (codes "\n") third fourth (c.in_ok-push_runs.ensures ∙ ap (λ (runs : List (ℕ × ℕ)). second ++ runs_text (length runs) runs) c.way_of.ensures) c.in_ok-push_str-2.ensures.bytes)
+    (two_put second runs (codes "\n") third fourth (c.in_ok-push_runs.ensures ∙ ap
+    (λ (runs : List (ℕ × ℕ)). second ++ runs_text (length runs) runs) c.way_of.ensures) c.in_ok-push_str-2.ensures.bytes)

@@ -19,13 +19,16 @@ four_low n =
     ∙ ap (λ (x : ℕ). n % 256 ∷ n / 256 % 256 ∷ n / 256 / 256 % 256 ∷ x % 256 ∷ []) three
 
 pub copy_stride-requires-clause-value : goal.copy_stride-requires-clause-value
-copy_stride-requires-clause-value c = (sized (shape_of c.args.store.now) c.store_shape.result.now c.in-Some.array c.args.at c.arrays-arrays.ensures.in_range c.store_shape.ensures c.in-Some.ensures.found).0
+copy_stride-requires-clause-value c = (sized (shape_of c.args.store.now) c.store_shape.result.now c.in-Some.array c.args.at
+    c.arrays-arrays.ensures.in_range c.store_shape.ensures c.in-Some.ensures.found).0
 
 pub copy_stride-requires-clause-max : goal.copy_stride-requires-clause-max
-copy_stride-requires-clause-max c = (sized (shape_of c.args.store.now) c.store_shape.result.now c.in-Some.array c.args.at c.arrays-arrays.ensures.in_range c.store_shape.ensures c.in-Some.ensures.found).1
+copy_stride-requires-clause-max c = (sized (shape_of c.args.store.now) c.store_shape.result.now c.in-Some.array c.args.at
+    c.arrays-arrays.ensures.in_range c.store_shape.ensures c.in-Some.ensures.found).1
 
 pub stride-requires : goal.stride-requires
-stride-requires c = (sized (shape_of c.args.store.now) c.store_shape.result.now c.in-Some.array c.args.at c.arrays-arrays.ensures.in_range c.store_shape.ensures c.in-Some.ensures.found).0
+stride-requires c = (sized (shape_of c.args.store.now) c.store_shape.result.now c.in-Some.array c.args.at c.arrays-arrays.ensures.in_range
+    c.store_shape.ensures c.in-Some.ensures.found).0
 
 pub returns-clause-some : goal.returns-clause-some
 returns-clause-some c =
@@ -36,6 +39,8 @@ returns-clause-some c =
     let o = (at - 0x10_0000_0000 - 0x1_0000_0000) % 0x1000_0000 in
     let one : o % c.copy_stride.result / c.stride.result ≡ index c.in-Some.array =
     ap (λ (n : ℕ). n % c.copy_stride.result / c.stride.result) here
-    ∙ (ap (λ (n : ℕ). offset_of at % n / c.stride.result) c.copy_stride.ensures ∙ ap (λ (n : ℕ). offset_of at % copy_stride c.in-Some.array / n) c.stride.ensures.stride) in
-    let key : c.in_ok-copy_bytes.field-0.items ≡ low_bytes 4 (index c.in-Some.array) = c.in_ok-copy_bytes.ensures ∙ (c.to_le_bytes.ensures ∙ (four_low (o % c.copy_stride.result / c.stride.result) ∙ ap (low_bytes 4) one)) in
+    ∙ (ap (λ (n : ℕ). offset_of at % n / c.stride.result) c.copy_stride.ensures ∙ ap
+    (λ (n : ℕ). offset_of at % copy_stride c.in-Some.array / n) c.stride.ensures.stride) in
+    let key : c.in_ok-copy_bytes.field-0.items ≡ low_bytes 4 (index c.in-Some.array) = c.in_ok-copy_bytes.ensures ∙
+    (c.to_le_bytes.ensures ∙ (four_low (o % c.copy_stride.result / c.stride.result) ∙ ap (low_bytes 4) one)) in
     (found.0, key ∙ ap (λ (g : ArrayShape). low_bytes 4 (index g)) (sym found.1))

@@ -5,5 +5,8 @@ use Rattle.bpf_races.proofs.search.conclude.Goals as goal
 pub returns : goal.returns
 returns c w limit fits begins came =
     let listed = c.in_ok-list.ensures in
-    are_races c.args.explorer.now.kept w c.args.sync.now c.in_ok-list.list.items c.args.extent limit c.is_whole.result c.is_refused.result c.in_ok-list.listed c.both-all.result fits begins
-    listed.gathered listed.listed c.both-all.ensures.both c.is_whole.ensures c.is_refused.ensures c.alike_races_are_kept.ensures c.alike_sets_have_turns.ensures c.turning_race_free_is_same.ensures came c.leads.ensures c.apart.ensures (listed.exact refl) c.both-all.ensures.not
+    are_races c.args.explorer.now.kept w c.args.sync.now c.in_ok-list.list.items c.args.extent limit c.is_whole.result c.is_refused.result
+    c.in_ok-list.listed c.both-all.result fits begins
+    listed.gathered listed.listed c.both-all.ensures.both c.is_whole.ensures c.is_refused.ensures c.alike_races_are_kept.ensures
+    c.alike_sets_have_turns.ensures c.turning_race_free_is_same.ensures came c.leads.ensures c.apart.ensures (listed.exact refl)
+    c.both-all.ensures.not

@@ -4,5 +4,7 @@ use Rattle.bpf_races.proofs.search.conclude_patiently.Goals as goal
 pub returns : goal.returns
 returns c w limit fits begins came =
     let listed = c.in_ok-list.ensures in
-    are_races_patiently c.args.explorer.now.kept w c.args.sync.now c.in_ok-list.list.items c.args.extent limit c.is_whole.result c.is_refused.result c.in_ok-list.listed c.both-all.result fits begins
-    listed.gathered listed.listed c.both-all.ensures.both c.is_whole.ensures c.is_refused.ensures c.alike_patient_races_are_kept.ensures c.alike_patient_sets_have_turns.ensures c.turning_race_free_is_same.ensures came
+    are_races_patiently c.args.explorer.now.kept w c.args.sync.now c.in_ok-list.list.items c.args.extent limit c.is_whole.result
+    c.is_refused.result c.in_ok-list.listed c.both-all.result fits begins
+    listed.gathered listed.listed c.both-all.ensures.both c.is_whole.ensures c.is_refused.ensures c.alike_patient_races_are_kept.ensures
+    c.alike_patient_sets_have_turns.ensures c.turning_race_free_is_same.ensures came

@@ -21,5 +21,6 @@ returns g c =
     let searched = c.explore-extent.ensures in
     let begins : BeginsAt kept w = still_begins c.in_ok-watcher.explorer.kept kept w c.in_ok-watcher.ensures searched.extends in
     let came : CameTo true kept extent limit = record { whole = searched.whole; covers = searched.covers; met = searched.met; short = searched.short } in
-    IfOk-weaker c.conclude_patiently.result (λ (r : Races). (v : World) (n : ℕ) → FirstsFit v.programs → BeginsAt kept v → CameTo true kept extent n → AreRaces true v sync r.list.items r.all r.refused n) (λ (r : Races). AreRaces true w sync r.list.items r.all r.refused limit)
+    IfOk-weaker c.conclude_patiently.result (λ (r : Races). (v : World) (n : ℕ) → FirstsFit v.programs → BeginsAt kept v → CameTo true kept
+    extent n → AreRaces true v sync r.list.items r.all r.refused n) (λ (r : Races). AreRaces true w sync r.list.items r.all r.refused limit)
     (λ r found. found w limit fits begins came) c.conclude_patiently.ensures

@@ -13,4 +13,5 @@ loop-place-preserved c = λ i less. elim (cases_lt i c.loop-place.place) [
 ]
 
 pub returns : goal.returns
-returns c = λ is. ext_get_or none c.args.one.now c.args.two.now c.if-one-two.false (λ i less. c.loop-place.invariant i (let end = c.loop-place-test.false in omega arith))
+returns c = λ is. ext_get_or none c.args.one.now c.args.two.now c.if-one-two.false
+    (λ i less. c.loop-place.invariant i (let end = c.loop-place-test.false in omega arith))

@@ -7,4 +7,5 @@ use Rattle.bpf_races.proofs.sync.map_part.Goals as goal
 pub returns-clause-none : goal.returns-clause-none
 returns-clause-none c =
     let count = length-map c.args.names.now string_bytes in
-    none_at_all (map string_bytes c.args.names.now) c.args.shape.now.maps c.args.text.now c.loop-number.number (let past = c.loop-number-test.false in omega arith) c.loop-number.invariant
+    none_at_all (map string_bytes c.args.names.now) c.args.shape.now.maps c.args.text.now c.loop-number.number
+    (let past = c.loop-number-test.false in omega arith) c.loop-number.invariant

@@ -20,8 +20,10 @@ loop-text-preserved c =
     let n = c.loop-text.text-index in
     let at : slice_get sync n ≡ Some text =
     name_there c.args.sync.now c.text-item.result n c.loop-text-test.true c.text-item.is ∙ ap (λ (x : List ℕ). Some x) (sym c.as_bytes.ensures.value) in
-    one_more names c.args.shape.now.maps sync n c.loop-text.parts.items c.push.new.self.items text c.in-Some.part c.loop-text.invariant at c.in-Some.ensures.said c.in_ok-push.ensures.items
+    one_more names c.args.shape.now.maps sync n c.loop-text.parts.items c.push.new.self.items text c.in-Some.part c.loop-text.invariant at
+    c.in-Some.ensures.said c.in_ok-push.ensures.items
 
 pub returns-clause-parts : goal.returns-clause-parts
 returns-clause-parts c =
-    all_below (names_of c.args.names.now) c.args.shape.now.maps c.args.sync.now c.loop-text.text-index c.loop-text.parts.items (let past = c.loop-text-test.false in omega arith) c.loop-text.invariant
+    all_below (names_of c.args.names.now) c.args.shape.now.maps c.args.sync.now c.loop-text.text-index c.loop-text.parts.items
+    (let past = c.loop-text-test.false in omega arith) c.loop-text.invariant

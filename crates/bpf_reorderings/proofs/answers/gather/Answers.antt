@@ -20,14 +20,18 @@ tell_at-requires c =
     record {
       place = subst (λ (kept : List BufferedState). c.loop-place.place < length kept) (sym same) (omega arith);
       first = subst (λ (kept : List BufferedState). (w : World) × IsFirst kept w) (sym same) c.requires;
-      gathered = subst (λ (kept : List BufferedState). Gathered kept names c.args.maps c.loop-place.place c.loop-place.answers.items) (sym same) c.loop-place.invariant.1;
+      gathered = subst (λ (kept : List BufferedState). Gathered kept names c.args.maps c.loop-place.place c.loop-place.answers.items)
+          (sym same) c.loop-place.invariant.1;
     }
 
 pub loop-place-preserved : goal.loop-place-preserved
 loop-place-preserved c =
     let names = names_of c.args.names.now in
-    let same = c.loop-place.invariant.0 in
-    (c.tell_at.ensures.same ∙ same, subst (λ (kept : List BufferedState). Gathered kept names c.args.maps (c.loop-place.place + 1) c.tell_at.new.answers.items) same c.in_ok-tell_at.ensures.gathered)
+    let same = c.loop-place.invariant.0 in (
+      c.tell_at.ensures.same ∙ same,
+      subst (λ (kept : List BufferedState). Gathered kept names c.args.maps (c.loop-place.place + 1)
+          c.tell_at.new.answers.items) same c.in_ok-tell_at.ensures.gathered,
+    )
 
 pub returns-in_err-tell_at-clause-same : goal.returns-in_err-tell_at-clause-same
 returns-in_err-tell_at-clause-same c = c.tell_at.ensures.same ∙ c.loop-place.invariant.0
@@ -40,4 +44,5 @@ returns-clause-outcomes c w first = record { each = c.loop-place.invariant.1.end
 
 pub returns-clause-answered : goal.returns-clause-answered
 returns-clause-answered c =
-    all_gathered c.args.explorer.now.kept (names_of c.args.names.now) c.args.maps c.loop-place.place c.loop-place.answers.items (omega arith) c.loop-place.invariant.1
+    all_gathered c.args.explorer.now.kept (names_of c.args.names.now) c.args.maps c.loop-place.place c.loop-place.answers.items
+    (omega arith) c.loop-place.invariant.1

@@ -11,12 +11,14 @@ returns-in-Equal-clause-found c =
 
 pub returns-in-Greater-clause-between : goal.returns-in-Greater-clause-between
 returns-in-Greater-clause-between c =
-    place_before c.args.answers.now c.loop-place.place c.index-answers-place.result c.args.text.now c.loop-place-test.true c.index-answers-place.is c.requires c.loop-place.invariant
+    place_before c.args.answers.now c.loop-place.place c.index-answers-place.result c.args.text.now c.loop-place-test.true
+    c.index-answers-place.is c.requires c.loop-place.invariant
     (c.in-Greater.ensures ∙ ap (λ (t : List ℕ). slice_cmp nat_cmp t c.args.text.now) c.text.ensures)
 
 pub loop-place-preserved : goal.loop-place-preserved
 loop-place-preserved c =
-    next_less c.args.answers.now c.loop-place.place c.index-answers-place.result c.args.text.now c.loop-place-test.true c.index-answers-place.is c.loop-place.invariant
+    next_less c.args.answers.now c.loop-place.place c.index-answers-place.result c.args.text.now c.loop-place-test.true
+    c.index-answers-place.is c.loop-place.invariant
     (c.in-Less.ensures ∙ ap (λ (t : List ℕ). slice_cmp nat_cmp t c.args.text.now) c.text.ensures)
 
 pub returns-clause-between : goal.returns-clause-between

@@ -9,5 +9,6 @@ returns-then-not-has_ended-clause-gathered c =
     let names = names_of c.args.names.now in
     let kept = c.args.explorer.now.kept in
     let answers = c.args.answers.now.items in
-    more_gathered kept names c.args.maps c.args.place answers answers c.requires.gathered c.requires.gathered.sorted (none_lost answers) c.requires.gathered.ends
+    more_gathered kept names c.args.maps c.args.place answers answers c.requires.gathered c.requires.gathered.sorted (none_lost answers)
+    c.requires.gathered.ends
     (has_work kept names c.args.maps answers c.args.place (c.if-not-has_ended.ensures.works refl))

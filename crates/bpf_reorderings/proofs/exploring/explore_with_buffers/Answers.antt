@@ -21,6 +21,12 @@ returns g c =
     let kept = c.explore-extent.new.self.kept in
     let extent = c.explore-extent.result in
     let begins : BeginsAt kept w = still_begins c.in_ok-explorer.explorer.kept kept w c.in_ok-explorer.ensures c.explore-extent.ensures.extends in
-    let came : CameTo kept extent c.args.limit = record { whole = c.explore-extent.ensures.whole; met = c.explore-extent.ensures.met; short = c.explore-extent.ensures.short } in
-    IfOk-weaker c.conclude.result (λ (e : Explored). (v : World) (n : ℕ) → BeginsAt kept v → CameTo kept extent n → IsExploredX86 v names c.args.maps n e) (λ (e : Explored). IsExploredX86 w names c.args.maps c.args.limit e)
+    let came : CameTo kept extent c.args.limit = record {
+      whole = c.explore-extent.ensures.whole;
+      met = c.explore-extent.ensures.met;
+      short
+          = c.explore-extent.ensures.short;
+    } in
+    IfOk-weaker c.conclude.result (λ (e : Explored). (v : World) (n : ℕ) → BeginsAt kept v → CameTo kept extent n → IsExploredX86 v names
+    c.args.maps n e) (λ (e : Explored). IsExploredX86 w names c.args.maps c.args.limit e)
     (λ e found. found w c.args.limit begins came) c.conclude.ensures

@@ -13,4 +13,5 @@ answers_alone false text answers all limit states hung budgets is found = cc
 pub returns-clause-found : goal.returns-clause-found
 returns-clause-found g c =
     let found = c.in_ok-answers.field-0 in
-    answers_alone c.args.options.patient c.args.text.now found.answers.items found.all c.args.options.limit found.states found.hung.items found.budgets c.if-not-options.false c.in_ok-answers.ensures.found
+    answers_alone c.args.options.patient c.args.text.now found.answers.items found.all c.args.options.limit found.states found.hung.items
+    found.budgets c.if-not-options.false c.in_ok-answers.ensures.found

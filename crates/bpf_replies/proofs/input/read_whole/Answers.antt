@@ -3,11 +3,13 @@ use Rattle.bpf_replies.proofs.KnownBytes.{consumed_more, longer, taken_more}
 use Rattle.bpf_replies.proofs.input.read_whole.Goals as goal
 
 pub returns-in_err-read_more-clause-taken : goal.returns-in_err-read_more-clause-taken
-returns-in_err-read_more-clause-taken g c = taken_more _ _ _ c.loop.input.items (take c.min-most.result c.loop.chunk) 16777217 c.loop.invariant.3 c.read_more.ensures.taken
+returns-in_err-read_more-clause-taken g c = taken_more _ _ _ c.loop.input.items (take c.min-most.result c.loop.chunk) 16777217
+    c.loop.invariant.3 c.read_more.ensures.taken
     (let known = c.loop.input.ok.0 in omega (arith, length-take c.min-most.result c.loop.chunk))
 
 pub returns-then-branch-eq0-clause-taken : goal.returns-then-branch-eq0-clause-taken
-returns-then-branch-eq0-clause-taken g c = taken_more _ _ _ c.loop.input.items (take c.min-most.result c.loop.chunk) 16777217 c.loop.invariant.3 c.read_more.ensures.taken
+returns-then-branch-eq0-clause-taken g c = taken_more _ _ _ c.loop.input.items (take c.min-most.result c.loop.chunk) 16777217
+    c.loop.invariant.3 c.read_more.ensures.taken
     (let known = c.loop.input.ok.0 in omega (arith, length-take c.min-most.result c.loop.chunk))
 
 pub returns-then-len-gt-MAX_INPUT-clause-too_long :
@@ -16,10 +18,12 @@ returns-then-len-gt-MAX_INPUT-clause-too_long g c =
     let more = c.in_ok-read_more.ensures.more in
     let known = c.read_more.new.input.ok.0 in
     let long : 16777216 < length c.read_more.new.input.items = omega arith in
-    λ _. longer _ _ c.read_more.new.input.items 16777216 (consumed_more _ _ _ c.loop.input.items c.read_more.new.input.items more.0 c.loop.invariant.3 more.1 more.3) long
+    λ _. longer _ _ c.read_more.new.input.items 16777216 (consumed_more _ _ _ c.loop.input.items c.read_more.new.input.items more.0
+    c.loop.invariant.3 more.1 more.3) long
 
 pub returns-then-len-gt-MAX_INPUT-clause-taken : goal.returns-then-len-gt-MAX_INPUT-clause-taken
-returns-then-len-gt-MAX_INPUT-clause-taken g c = taken_more _ _ _ c.loop.input.items (take c.min-most.result c.loop.chunk) 16777217 c.loop.invariant.3 c.read_more.ensures.taken
+returns-then-len-gt-MAX_INPUT-clause-taken g c = taken_more _ _ _ c.loop.input.items (take c.min-most.result c.loop.chunk) 16777217
+    c.loop.invariant.3 c.read_more.ensures.taken
     (let known = c.loop.input.ok.0 in omega (arith, length-take c.min-most.result c.loop.chunk))
 
 pub loop-preserved : goal.loop-preserved

@@ -13,7 +13,8 @@ returns-in_err-write_whole-clause-begun g c =
     let i = c.loop-text.text-index in
     let all = all_of (map (λ t. t.now) texts) in
     for_err c.from_residual.result ((k : ℕ) × Appends old new (take k all))
-    (wrote_some old mid new all (texts_left texts i) _ (texts_left texts (i + 1)) c.loop-text.invariant.wrote (next_text texts i _ c.loop-text-test.true) c.in_err-write_whole.ensures.begun)
+    (wrote_some old mid new all (texts_left texts i) _ (texts_left texts (i + 1)) c.loop-text.invariant.wrote
+    (next_text texts i _ c.loop-text-test.true) c.in_err-write_whole.ensures.begun)
 
 pub loop-text-preserved : goal.loop-text-preserved
 loop-text-preserved g c =

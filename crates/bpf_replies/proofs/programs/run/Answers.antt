@@ -16,5 +16,11 @@ returns c =
     let E : Shape → Named → Cpu → Type 0 = λ shape named cpu.
     Explains ⊥ shape (record { instructions = p.instructions; named = named }) c.args.options.budget cpu explained.0 c.run.result in
     let bare = subst (λ (shape : Shape). E shape p.named cpu) c.in-Ok.ensures.shape explained.2 in
-    let counted = subst (λ (named : Named). E bare_shape named cpu) found.2 bare in
-    (p.instructions, found.0, found.1, explained.0, subst (λ (cpu : Cpu). E bare_shape no_names cpu) (c.new-cpu.ensures ∙ ap (start 0) c.of_bytes.ensures) counted)
+    let counted = subst (λ (named : Named). E bare_shape named cpu) found.2 bare in (
+      p.instructions,
+      found.0,
+      found.1,
+      explained.0,
+      subst (λ (cpu : Cpu). E bare_shape no_names cpu)
+          (c.new-cpu.ensures ∙ ap (start 0) c.of_bytes.ensures) counted,
+    )

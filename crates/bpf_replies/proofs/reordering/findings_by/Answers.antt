@@ -14,5 +14,6 @@ pub returns-clause-found : goal.returns-clause-found
 returns-clause-found g c =
     let o = c.args.sought in
     let made = c.new.ensures in
-    by_flushes o.x86 o.search.now.patient o.search.now.limit c.args.text.now c.new.result c.in_ok-explored.explored c.if-not-sought.false (ap (λ (f : Findings). f.patient) made)
+    by_flushes o.x86 o.search.now.patient o.search.now.limit c.args.text.now c.new.result c.in_ok-explored.explored c.if-not-sought.false
+    (ap (λ (f : Findings). f.patient) made)
     c.in_ok-explored.ensures.found (ap (λ (f : Findings). f.answers) made) (ap (λ (f : Findings). f.all) made) (ap (λ (f : Findings). f.states) made)

@@ -9,6 +9,7 @@ returns c =
     let tests = c.in_ok-text in (
       expected,
       c.in_ok-expected.ensures.found,
-      judged c.args.by.now c.args.keys c.args.text.now (string_bytes report.text) c.as_str.result.now (string_bytes tests.field-0.text) report.stopped tests.field-0.refuted expected c.deref.result.now
+      judged c.args.by.now c.args.keys c.args.text.now (string_bytes report.text) c.as_str.result.now (string_bytes tests.field-0.text)
+          report.stopped tests.field-0.refuted expected c.deref.result.now
           c.in_ok-report.ensures.told c.deref.ensures.value c.as_str.ensures.value tests.ensures.text tests.ensures.refuted,
     )

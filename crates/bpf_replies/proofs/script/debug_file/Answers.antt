@@ -14,12 +14,15 @@ returns-in_err-file c =
     let commands = lines_behind (option_copied parts.commands) in
     let C : List ℕ → Type 0 = λ input. IsCut input parts.file.now commands in
     let e = c.in_err-file.field-0.0 in
-    given _ (λ why. IsScriptOfFile c.args.echo c.args.strict c.args.input.now (reply.Refused why)) c.from_residual-in_err-file.result (file_refusal e) c.from_residual-in_err-file.ensures.1
-    (of_no_file c.args.echo c.args.strict c.args.input.now parts.file.now commands e (subst C c.as_bytes.ensures.value c.in_ok-parts.ensures) c.in_err-file.ensures.refused)
+    given _ (λ why. IsScriptOfFile c.args.echo c.args.strict c.args.input.now (reply.Refused why)) c.from_residual-in_err-file.result
+    (file_refusal e) c.from_residual-in_err-file.ensures.1
+    (of_no_file c.args.echo c.args.strict c.args.input.now parts.file.now commands e
+    (subst C c.as_bytes.ensures.value c.in_ok-parts.ensures) c.in_err-file.ensures.refused)
 
 pub returns : goal.returns
 returns c =
     let parts = c.in_ok-parts.parts in
     let commands = lines_behind (option_copied parts.commands) in
     let C : List ℕ → Type 0 = λ input. IsCut input parts.file.now commands in
-    of_file c.args.echo c.args.strict c.args.input.now parts.file.now commands c.in_ok-file.file c.in_ok-reply.reply (subst C c.as_bytes.ensures.value c.in_ok-parts.ensures) c.in_ok-file.ensures.said c.in_ok-reply.ensures
+    of_file c.args.echo c.args.strict c.args.input.now parts.file.now commands c.in_ok-file.file c.in_ok-reply.reply
+    (subst C c.as_bytes.ensures.value c.in_ok-parts.ensures) c.in_ok-file.ensures.said c.in_ok-reply.ensures

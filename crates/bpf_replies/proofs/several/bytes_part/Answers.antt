@@ -7,4 +7,5 @@ use Rattle.bpf_replies.proofs.several.bytes_part.Goals as goal
 pub returns-in-Err : goal.returns-in-Err
 returns-in-Err g c =
     let refuses : RefusesInput c.args.bytes.now refusal.NotText = search rules in
-    of_no_text g.D.Racer.finds c.args.options.now c.args.name.now c.args.before c.args.bytes.now refusal.NotText c.refused_part.result refuses c.refused_part.ensures
+    of_no_text g.D.Racer.finds c.args.options.now c.args.name.now c.args.before c.args.bytes.now refusal.NotText c.refused_part.result
+    refuses c.refused_part.ensures

@@ -5,4 +5,5 @@ use Rattle.bpf_replies.proofs.several.check_files.Goals as goal
 
 pub returns : goal.returns
 returns g c =
-    replied (AreChecked g.D.Racer.finds c.args.options.now (g.R.Source.file c.args.source.now) (map string_bytes c.args.names.now)) c.checked.result c.of.result c.of.ensures c.checked.ensures
+    replied (AreChecked g.D.Racer.finds c.args.options.now (g.R.Source.file c.args.source.now) (map string_bytes c.args.names.now))
+    c.checked.result c.of.result c.of.ensures c.checked.ensures

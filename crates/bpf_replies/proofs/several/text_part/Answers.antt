@@ -23,7 +23,8 @@ returns g c =
     let made = c.in_ok-text-2.ensures ∙ (ap (λ (t : List ℕ). head_text t c.states_of-states.result threads ++ c.deref-4.result.now) c.deref-3.ensures
     ∙ (ap (λ (t : List ℕ). head_text mark c.states_of-states.result threads ++ t) c.deref-4.ensures ∙ ap (λ (t : List ℕ). t ++ told) heads)) in
     let given = c.deref.result.now in
-    let listed = c.in_ok-text.ensures.text ∙ ap (λ (ls : List ℕ). listed_text (name_text name) ls c.args.before f given (verdicts_of f given)) c.deref-2.ensures.value in
+    let listed = c.in_ok-text.ensures.text ∙ ap (λ (ls : List ℕ). listed_text (name_text name) ls c.args.before f given
+    (verdicts_of f given)) c.deref-2.ensures.value in
     inr (
       expected,
       lines,
@@ -33,6 +34,7 @@ returns g c =
       c.in-Ok.ensures.findings,
       threads,
       c.in-Ok.ensures.threads,
-      part_made o name lines c.args.before f threads expected given (string_bytes c.in_ok-text-2.text) told head tests.tests tests.conclusion c.is_unmet.result c.is_told.result
+      part_made o name lines c.args.before f threads expected given (string_bytes c.in_ok-text-2.text) told head tests.tests
+          tests.conclusion c.is_unmet.result c.is_told.result
           c.deref.ensures.value listed c.in_ok-text.ensures.tests c.in_ok-text.ensures.conclusion refl made c.is_unmet.ensures c.is_told.ensures,
     )

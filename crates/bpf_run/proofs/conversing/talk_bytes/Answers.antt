@@ -10,7 +10,8 @@ returns-in-Ok g c =
     let heard = c.talk_text.new.terminal in
     let T : List ℕ → Type 0 = λ bytes. Holds c.args.partner (Some bytes) (heard ≡ hears)
     (Converses (g.D.Terminal.passes hears heard) (g.D.Terminal.is_unread heard) (g.D.Terminal.has_failed heard) c.args.partner) false
-    (g.W.Sink.contents c.args.sink.now) (g.W.Sink.contents c.talk_text.new.sink) (g.W.Sink.has_failed c.talk_text.new.sink) c.talk_text.result.0 (stats_of c.talk_text.result.1) in
+    (g.W.Sink.contents c.args.sink.now) (g.W.Sink.contents c.talk_text.new.sink) (g.W.Sink.has_failed c.talk_text.new.sink)
+    c.talk_text.result.0 (stats_of c.talk_text.result.1) in
     subst T c.in-Ok.ensures.cases.0 c.talk_text.ensures
 
 pub returns-in-Err : goal.returns-in-Err

@@ -11,7 +11,8 @@ returns-in-Ok g c =
     let hears = c.args.terminal.now in
     let heard = c.answer_states.new.terminal in
     let said = c.in-Ok.ensures.opened in
-    let talks = subst (λ (x : FilterState). StatesFrom (g.D.Terminal.passes hears heard) (g.D.Terminal.is_unread heard) (g.D.Terminal.has_failed heard) x c.answer_states.result.0) said.2 c.answer_states.ensures.talks in
+    let talks = subst (λ (x : FilterState). StatesFrom (g.D.Terminal.passes hears heard) (g.D.Terminal.is_unread heard)
+    (g.D.Terminal.has_failed heard) x c.answer_states.result.0) said.2 c.answer_states.ensures.talks in
     states_talked c.args.patient c.args.races c.args.text.now said.0 (heard ≡ hears)
     (Converses (g.D.Terminal.passes hears heard) (g.D.Terminal.is_unread heard) (g.D.Terminal.has_failed heard) (partner.States c.args.patient c.args.races))
     (g.W.Sink.contents c.args.sink.now) (g.W.Sink.has_failed c.args.sink.now) c.answer_states.result.0 (stats_of c.answer_states.result.1)

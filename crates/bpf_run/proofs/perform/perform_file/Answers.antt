@@ -4,8 +4,10 @@ use Rattle.bpf_run.proofs.perform.perform_file.Goals as goal
 
 pub returns-in-Ok-clause-replies : goal.returns-in-Ok-clause-replies
 returns-in-Ok-clause-replies g c =
-    opened (g.R.Source.file c.args.source.now c.args.name.now) (g.R.Source.remaining c.open.new.self) c.args.command (g.R.Source.has_failed c.perform_threads.new.source)
-    (g.W.Sink.contents c.args.sink.now) (g.W.Sink.contents c.perform_threads.new.sink) (g.W.Sink.has_failed c.perform_threads.new.sink) c.perform_threads.result.status
+    opened (g.R.Source.file c.args.source.now c.args.name.now) (g.R.Source.remaining c.open.new.self) c.args.command
+    (g.R.Source.has_failed c.perform_threads.new.source)
+    (g.W.Sink.contents c.args.sink.now) (g.W.Sink.contents c.perform_threads.new.sink) (g.W.Sink.has_failed c.perform_threads.new.sink)
+    c.perform_threads.result.status
     (stats_of c.perform_threads.result.reply) c.in-Ok.ensures.opened c.perform_threads.ensures.replies
 
 pub returns-in-Err-clause-replies : goal.returns-in-Err-clause-replies

@@ -10,9 +10,11 @@ returns-in-Some-clause-performed g c =
     let heard = c.perform_command-done.new.terminal in
     let name : option_map (λ s. s.now) c.map.result ≡ option_map string_bytes c.args.wish.file = search rules in
     renamed c.args.wish.command c.args.wish.json (option_map (λ s. s.now) c.map.result) (option_map string_bytes c.args.wish.file) (heard ≡ hears)
-    (Converses (g.D.Terminal.passes hears heard) (g.D.Terminal.is_unread heard) (g.D.Terminal.has_failed heard)) (g.R.Source.remaining c.args.source.now) (g.R.Source.file c.args.source.now)
+    (Converses (g.D.Terminal.passes hears heard) (g.D.Terminal.is_unread heard) (g.D.Terminal.has_failed heard))
+    (g.R.Source.remaining c.args.source.now) (g.R.Source.file c.args.source.now)
     (g.R.Source.has_failed c.perform_command-done.new.source) (g.W.Sink.contents c.args.sink.now) (g.W.Sink.contents c.perform_command-done.new.sink)
-    (g.W.Sink.has_failed c.perform_command-done.new.sink) c.perform_command-done.result.status (stats_of c.perform_command-done.result.reply) name c.perform_command-done.ensures
+    (g.W.Sink.has_failed c.perform_command-done.new.sink) c.perform_command-done.result.status
+    (stats_of c.perform_command-done.result.reply) name c.perform_command-done.ensures
 
 pub returns-in-None-clause-performed : goal.returns-in-None-clause-performed
 returns-in-None-clause-performed g c =
@@ -20,6 +22,8 @@ returns-in-None-clause-performed g c =
     let heard = c.perform_command-done.new.terminal in
     let name : option_map (λ s. s.now) c.map.result ≡ option_map string_bytes c.args.wish.file = search rules in
     renamed c.args.wish.command c.args.wish.json (option_map (λ s. s.now) c.map.result) (option_map string_bytes c.args.wish.file) (heard ≡ hears)
-    (Converses (g.D.Terminal.passes hears heard) (g.D.Terminal.is_unread heard) (g.D.Terminal.has_failed heard)) (g.R.Source.remaining c.args.source.now) (g.R.Source.file c.args.source.now)
+    (Converses (g.D.Terminal.passes hears heard) (g.D.Terminal.is_unread heard) (g.D.Terminal.has_failed heard))
+    (g.R.Source.remaining c.args.source.now) (g.R.Source.file c.args.source.now)
     (g.R.Source.has_failed c.perform_command-done.new.source) (g.W.Sink.contents c.args.sink.now) (g.W.Sink.contents c.perform_command-done.new.sink)
-    (g.W.Sink.has_failed c.perform_command-done.new.sink) c.perform_command-done.result.status (stats_of c.perform_command-done.result.reply) name c.perform_command-done.ensures
+    (g.W.Sink.has_failed c.perform_command-done.new.sink) c.perform_command-done.result.status
+    (stats_of c.perform_command-done.result.reply) name c.perform_command-done.ensures

@@ -6,7 +6,8 @@ use Rattle.bpf_pairs.specs.Pairs.{pair_of}
 use Rattle.bpf_pairs.specs.Putting.{first_history}
 use Rattle.hop_map.specs.Port.{Port}
 use Rattle.hop_map.specs.Stores.{HaveSeen, IsWhole, seen_by}
-use Rattle.bpf_sched.proofs.FirstRun.{IsFilled, fits_at, idle_at, is_first, idle_ports, new_at, new_ports, next_of, none_filled, nothing_done, nothing_seen, many_new, one_more}
+use Rattle.bpf_sched.proofs.FirstRun.{IsFilled, fits_at, idle_at, is_first, idle_ports, new_at, new_ports, next_of, none_filled}
+use Rattle.bpf_sched.proofs.FirstRun.{nothing_done, nothing_seen, many_new, one_more}
 use Rattle.bpf_sched.proofs.filling.fill.Goals as goal
 
 pub returns-then-is_empty : goal.returns-then-is_empty
@@ -28,17 +29,20 @@ ports-init g c =
 
 pub put_by-requires-clause-fits : goal.put_by-requires-clause-fits
 put_by-requires-clause-fits g c =
-    let is = next_of c.args.ports.items c.ports.yielded c.ports.port-iterator.rest.items c.next.new.self.rest.items c.in-Some.port c.ports.invariant.2 c.in-Some.ensures.steps.0 in
+    let is = next_of c.args.ports.items c.ports.yielded c.ports.port-iterator.rest.items c.next.new.self.rest.items c.in-Some.port
+    c.ports.invariant.2 c.in-Some.ensures.steps.0 in
     fits_at c.args.table.now c.args.ports.items c.requires.ports (length c.ports.yielded) c.in-Some.port is
 
 pub put_by-requires-clause-idle : goal.put_by-requires-clause-idle
 put_by-requires-clause-idle g c =
-    let is = next_of c.args.ports.items c.ports.yielded c.ports.port-iterator.rest.items c.next.new.self.rest.items c.in-Some.port c.ports.invariant.2 c.in-Some.ensures.steps.0 in
+    let is = next_of c.args.ports.items c.ports.yielded c.ports.port-iterator.rest.items c.next.new.self.rest.items c.in-Some.port
+    c.ports.invariant.2 c.in-Some.ensures.steps.0 in
     idle_at c.args.table.now c.args.ports.items c.requires.ports (length c.ports.yielded) c.in-Some.port is
 
 pub put_by-requires-clause-new : goal.put_by-requires-clause-new
 put_by-requires-clause-new g c =
-    let is = next_of c.args.ports.items c.ports.yielded c.ports.port-iterator.rest.items c.next.new.self.rest.items c.in-Some.port c.ports.invariant.2 c.in-Some.ensures.steps.0 in
+    let is = next_of c.args.ports.items c.ports.yielded c.ports.port-iterator.rest.items c.next.new.self.rest.items c.in-Some.port
+    c.ports.invariant.2 c.in-Some.ensures.steps.0 in
     nothing_done c.args.table.now c.args.ports.items c.requires.ports (length c.ports.yielded) c.in-Some.port is
 
 pub ports-preserved : goal.ports-preserved

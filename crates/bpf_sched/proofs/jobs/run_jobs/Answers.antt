@@ -16,12 +16,14 @@ returns-in-Err-clause-refused g c =
     subst (λ (n : ℕ). IsFirstSchedError n c.args.workers c.args.jobs.now c.in-Err.error) has c.in-Err.ensures.refused
 
 pub run_ports-requires-clause-ports : goal.run_ports-requires-clause-ports
-run_ports-requires-clause-ports g c κs within = new_ports c.ports-table.result.0 c.ports-table.result.1.items (subst (λ (t : Shown). ArePorts t c.ports-table.result.1.items) (sym c.ports-table.ensures.table) c.ports-table.ensures.ports)
+run_ports-requires-clause-ports g c κs within = new_ports c.ports-table.result.0 c.ports-table.result.1.items
+    (subst (λ (t : Shown). ArePorts t c.ports-table.result.1.items) (sym c.ports-table.ensures.table) c.ports-table.ensures.ports)
 
 pub returns-clause-explained : goal.returns-clause-explained
 returns-clause-explained g c =
     let r = c.run_ports.result in
-    let Explained : Shown → List Entry → Bool → Type 0 = λ t first keys. IsExplained t.about.shape t.about.count first c.args.programs.now (map waiting c.args.jobs.now) keys r.outcomes.items (listed_by r.lists.items) r.closed.history in
+    let Explained : Shown → List Entry → Bool → Type 0 = λ t first keys. IsExplained t.about.shape t.about.count first c.args.programs.now
+    (map waiting c.args.jobs.now) keys r.outcomes.items (listed_by r.lists.items) r.closed.history in
     let ports = c.ports-table.result.1.items in
     subst (λ (t : Shown). Explained t [] c.args.keys) c.ports-table.ensures.table
     (subst (λ (keys : Bool). Explained c.ports-table.result.0 [] keys) c.in-Ok.ensures.keys

@@ -11,7 +11,8 @@ returns g c =
     let same : Some c.requires.port ≡ Some p = sym c.requires.has ∙ was in
     let mine : p ≡ c.requires.port = cc in
     let y = c.run.new.shared in
-    worked c.new-store.result y (λ x. x.store) c.args.table.now c.args.programs.now c.args.worker.now (record { port = Some c.into_port.result; workload = c.run.new.self }) p c.into_port.result c.run.ensures.runs.0
+    worked c.new-store.result y (λ x. x.store) c.args.table.now c.args.programs.now c.args.worker.now
+    (record { port = Some c.into_port.result; workload = c.run.new.self }) p c.into_port.result c.run.ensures.runs.0
     was refl (ap (λ (s : Serving). s.table) c.new-store.ensures ∙ c.new.ensures.table) (ap (λ (s : Serving). s.port) c.new-store.ensures ∙ c.new.ensures.port)
     (ap (λ (r : Port). r.known.cpu) mine ∙ c.requires.cpu) (c.into_port.ensures.port ∙ ap (λ (s : Serving). s.port) c.into_store.ensures)
     (subst (λ (s : Serving). IsPortOf s.table c.into_port.result) c.into_store.ensures c.into_port.ensures.fits) c.run.ensures.runs.1 c.run.ensures.lists

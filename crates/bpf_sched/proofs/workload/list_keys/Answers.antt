@@ -24,5 +24,6 @@ loop-map-preserved g c =
       fit = still_for (S.shapes x).maps lists m new c.index-lists-map.result inside c.keys.ensures.list here.fit;
       same = map-set_same (λ (list : Listed). list.shape) lists m new c.index-lists-map.result c.keys.ensures.list ∙ here.same;
       chain = subst (λ (es : List Event). Chain S.passes S.serves c.args.cpu x c.keys.new.self es) (sym (next_keys lists m new inside))
-          (chain_call S.passes S.serves c.args.cpu g.met.S.Shared.follows x c.loop-map.shared c.keys.new.self _ (Keys m new.keys) c.requires.serves here.chain c.keys.ensures.listed c.keys.ensures.same.1);
+          (chain_call S.passes S.serves c.args.cpu g.met.S.Shared.follows x c.loop-map.shared c.keys.new.self _ (Keys m new.keys)
+          c.requires.serves here.chain c.keys.ensures.listed c.keys.ensures.same.1);
     }

@@ -1,5 +1,6 @@
 use Rattle.std.proofs.Common.{sym, ◌∙◌}
-use Rattle.bpf_spelling.proofs.Letters.{no_keyword_short, first_s, first_i, first_g, first_c, first_e, first_l, first_m, first_u, first_b, first_a, first_x, no_keyword_first}
+use Rattle.bpf_spelling.proofs.Letters.{no_keyword_short, first_s, first_i, first_g, first_c, first_e, first_l, first_m, first_u, first_b}
+use Rattle.bpf_spelling.proofs.Letters.{first_a, first_x, no_keyword_first}
 use Rattle.bpf_spelling.proofs.keywords.keyword_named.Goals as goal
 
 pub returns-in_default : goal.returns-in_default

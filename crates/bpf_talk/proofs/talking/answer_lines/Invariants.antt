@@ -7,8 +7,10 @@ use Rattle.bpf_talk.proofs.talking.answer_lines.Given as goal
 
 abbrev pub invariant-lines : goal.invariant-lines
 invariant-lines g l = record {
-  at : (start : _) (first : _) (size : ℕ) (ended refused : Bool) → IsAt g.S.Respond.answers (g.D.Terminal.passes start l.initial.terminal) l.echo first l.initial.session (lines_of l.text) size ended refused
-      → IsAt g.S.Respond.answers (g.D.Terminal.passes start l.terminal) l.echo first l.session (l.line ∷ lines_behind (option_copied l.behind)) size ended (refused || l.refused);
+  at : (start : _) (first : _) (size : ℕ) (ended refused : Bool) → IsAt g.S.Respond.answers (g.D.Terminal.passes start l.initial.terminal)
+      l.echo first l.initial.session (lines_of l.text) size ended refused
+      → IsAt g.S.Respond.answers (g.D.Terminal.passes start l.terminal) l.echo first l.session
+      (l.line ∷ lines_behind (option_copied l.behind)) size ended (refused || l.refused);
   works : g.D.Terminal.has_failed l.terminal ≡ false;
   quiet : g.D.Terminal.is_unread l.terminal ≡ g.D.Terminal.is_unread l.initial.terminal;
 }

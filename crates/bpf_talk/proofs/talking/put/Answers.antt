@@ -35,4 +35,10 @@ returns-clause-put g c =
 pub returns-in_err-count-clause-begun : goal.returns-in_err-count-clause-begun
 returns-in_err-count-clause-begun g c =
     let before = c.loop-count.invariant.put in
-    for_err c.from_residual.result _ (c.loop-count.count, before.0, g.met.D.Terminal.follows c.args.terminal.now c.loop-count.terminal c.write.new.self before.0 [] before.1 c.in_err-count.ensures.lost, before.2)
+    for_err c.from_residual.result _ (
+      c.loop-count.count,
+      before.0,
+      g.met.D.Terminal.follows c.args.terminal.now c.loop-count.terminal
+          c.write.new.self before.0 [] before.1 c.in_err-count.ensures.lost,
+      before.2,
+    )

@@ -41,5 +41,6 @@ returns-in_err-put-clause-begun g c =
     let texts = c.args.texts.now in
     let i = c.loop-text.text-index in
     let put = c.in_err-put.ensures.begun in
-    for_err c.from_residual.result _ (far_cut (passes start mid) (passes start new) (concat (map (λ t. t.now) texts)) (texts_left texts i) _ (texts_left texts (i + 1)) put.0 put.1
+    for_err c.from_residual.result _ (far_cut (passes start mid) (passes start new) (concat (map (λ t. t.now) texts)) (texts_left texts i) _
+    (texts_left texts (i + 1)) put.0 put.1
     (λ calls p. g.met.D.Terminal.follows start mid new calls put.1 p put.2) (next_text texts i _ c.loop-text-test.true) put.3 c.loop-text.invariant.far)

@@ -11,7 +11,8 @@ loop-kept-init c =
 
 pub loop-kept-preserved : goal.loop-kept-preserved
 loop-kept-preserved c = record {
-  meant = meant_next (found c.args.labels.now) c.args.lines.now c.loop-kept.kept-index c.loop-kept.pc _ c.loop-kept.insns.items _ c.in_ok-meant.meant c.words_of-pc.result _ c.loop-kept-test.true c.loop-kept.invariant.meant
+  meant = meant_next (found c.args.labels.now) c.args.lines.now c.loop-kept.kept-index c.loop-kept.pc _ c.loop-kept.insns.items _
+      c.in_ok-meant.meant c.words_of-pc.result _ c.loop-kept-test.true c.loop-kept.invariant.meant
       (sym c.in_ok-meant.was ∙ c.meaning.ensures) c.in_ok-push_meant.ensures.ok c.words_of-pc.ensures.value;
   small = omega (arith, c.words_of-pc.ensures.small, c.loop-kept.invariant.small);
 }

@@ -14,5 +14,6 @@ returns-clause-read c =
     let line = c.args.line.now in
     let P : List Token → Type 0 = λ ts. BeginTokens line (map look ts) in
     let Q : List Tok → Type 0 = λ us. IsBodyWith (names_in c.args.symbols) (body_of c.behind_label-body.result) us in
-    line_of_tokens (names_in c.args.symbols) line (map look c.deref.result.now) _ (subst P (sym c.deref.ensures.value) c.in_ok-tokens.ensures.found) c.labelled.ensures.label
+    line_of_tokens (names_in c.args.symbols) line (map look c.deref.result.now) _
+    (subst P (sym c.deref.ensures.value) c.in_ok-tokens.ensures.found) c.labelled.ensures.label
     (subst Q c.labelled.ensures.rest c.behind_label-body.ensures)

@@ -15,7 +15,8 @@ pub line-preserved : goal.line-preserved
 line-preserved c =
     let line = c.args.line.now in
     let more = λ (e : IsEnd (drop c.line.at line)). not_true c.ends_at.result c.line-test.true (c.ends_at.ensures.1 e) in (
-      cut_next line c.line.tokens.items c.keep.new.tokens.items c.front_at-len.result.0 c.line.at c.front_at-len.result.1 _ c.line.invariant.0 more c.front_at-len.ensures.token c.front_at-len.ensures.len c.skip_blanks-at.ensures.value c.in_ok-keep.ensures.kept,
+      cut_next line c.line.tokens.items c.keep.new.tokens.items c.front_at-len.result.0 c.line.at c.front_at-len.result.1 _
+          c.line.invariant.0 more c.front_at-len.ensures.token c.front_at-len.ensures.len c.skip_blanks-at.ensures.value c.in_ok-keep.ensures.kept,
       c.skip_blanks-at.ensures.bound,
     )
 

@@ -5,7 +5,8 @@ use Rattle.bpf_threads.proofs.bounding.all_fall.Goals as goal
 
 pub loop-place-preserved : goal.loop-place-preserved
 loop-place-preserved c =
-    below_more (λ (i : ℕ). FallsAlong c.args.counted c.args.program.now c.args.spots.now c.args.most.now i) c.loop-place.place c.loop-place.invariant (c.if-not-falls.ensures refl)
+    below_more (λ (i : ℕ). FallsAlong c.args.counted c.args.program.now c.args.spots.now c.args.most.now i) c.loop-place.place
+    c.loop-place.invariant (c.if-not-falls.ensures refl)
 
 pub returns : goal.returns
 returns c t i p n at =

@@ -7,4 +7,5 @@ pub returns : goal.returns
 returns c t p n at has =
     let spot = c.spot_at.ensures in
     let same : c.spot_at.result.now ≡ p = cc in
-    subst (λ (q : Spot). FallsFrom c.args.counted c.args.program.now q c.args.most.now n) same (c.may_fall.ensures t n (c.number_at-number.ensures ∙ ap known_in has))
+    subst (λ (q : Spot). FallsFrom c.args.counted c.args.program.now q c.args.most.now n) same
+    (c.may_fall.ensures t n (c.number_at-number.ensures ∙ ap known_in has))

@@ -9,7 +9,8 @@ returns-else-len-ge-MAX_FRAMES c t =
     let spot = c.args.spot.now in
     let by = c.in-CallLocal.offset in
     let e : to_z w32 (of_z w32 by) ≡ by = search rules in
-    let there = subst (λ (z : ℤ). IsSpotThere c.args.spots.now spot.jump (target spot.pc z) (spot.callers.items ++ (spot.pc + 1) ∷ []) spot.known) e (c.enters.ensures t) in
+    let there = subst (λ (z : ℤ). IsSpotThere c.args.spots.now spot.jump (target spot.pc z) (spot.callers.items ++ (spot.pc + 1) ∷ [])
+    spot.known) e (c.enters.ensures t) in
     subst (FollowsSpots c.args.spots.now spot) (sym c.in-CallLocal.is) (inr there)
 
 pub returns-in-Jump : goal.returns-in-Jump
@@ -35,9 +36,12 @@ returns-in-JumpIf c t =
     let e : to_z w32 (of_z w32 c.from-in-JumpIf.result) ≡ i.offset = search rules in
     let Is : Bool → Type 0 = MayBe spot i.width i.condition i.dst i.src in
     let P : Option Bool → Type 0 = λ o. IfSome o (λ (b : Bool). (taken : Bool) → Is taken → b ≡ taken) in
-    let taken : Is true → c.decision-decided.result ≡ Some false → ⊥ = λ may is. (let wrong : false ≡ true = subst P is c.decision-decided.ensures true may in cc) in
-    let passed : Is false → c.decision-decided.result ≡ Some true → ⊥ = λ may is. (let wrong : true ≡ false = subst P is c.decision-decided.ensures false may in cc) in
+    let taken : Is true → c.decision-decided.result ≡ Some false → ⊥ = λ may is.
+    (let wrong : false ≡ true = subst P is c.decision-decided.ensures true may in cc) in
+    let passed : Is false → c.decision-decided.result ≡ Some true → ⊥ = λ may is.
+    (let wrong : true ≡ false = subst P is c.decision-decided.ensures false may in cc) in
     subst (FollowsSpots c.args.spots.now spot) (sym i.is) (
-      (λ may. subst (λ (z : ℤ). IsSpotThere c.args.spots.now spot.jump (target spot.pc z) spot.callers.items spot.known) e (c.branches.ensures.jump t (taken may))),
+      (λ may. subst (λ (z : ℤ). IsSpotThere c.args.spots.now spot.jump (target spot.pc z) spot.callers.items spot.known) e
+          (c.branches.ensures.jump t (taken may))),
       (λ may. c.branches.ensures.next t (passed may)),
     )

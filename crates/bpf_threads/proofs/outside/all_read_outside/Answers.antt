@@ -7,7 +7,8 @@ use Rattle.bpf_threads.proofs.outside.all_read_outside.Goals as goal
 
 pub loop-place-preserved : goal.loop-place-preserved
 loop-place-preserved c =
-    below_more (PlaceReadsOutside c.arrays-arrays.result.now c.args.program.now c.args.spots.now) c.loop-place.place c.loop-place.invariant (c.if-not-place_reads_outside.ensures refl)
+    below_more (PlaceReadsOutside c.arrays-arrays.result.now c.args.program.now c.args.spots.now) c.loop-place.place c.loop-place.invariant
+    (c.if-not-place_reads_outside.ensures refl)
 
 pub returns : goal.returns
 returns c t =

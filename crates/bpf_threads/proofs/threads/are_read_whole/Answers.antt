@@ -14,7 +14,8 @@ loop-behind-preserved c =
     let up : length jobs - behind ≡ suc i = omega arith in
     let down : i ≡ length jobs - (behind + 1) = omega arith in
     let rest = subst (λ (k : ℕ). All P (map waiting (drop k jobs))) up c.loop-behind.invariant in
-    subst (λ (k : ℕ). All P (map waiting (drop k jobs))) down (all_more P jobs i c.job_at-job.result.now c.job_at-job.ensures (c.if-not-program_reads_whole.ensures refl) rest)
+    subst (λ (k : ℕ). All P (map waiting (drop k jobs))) down (all_more P jobs i c.job_at-job.result.now c.job_at-job.ensures
+    (c.if-not-program_reads_whole.ensures refl) rest)
 
 pub returns : goal.returns
 returns c t =

@@ -20,7 +20,9 @@ loop-place-preserved c m h less is =
       | inl here ↦
           let there : slice_get maps place ≡ Some h = subst (λ (k : ℕ). slice_get maps k ≡ Some h) here is in
           let same : c.map_at.result ≡ h = (let both : Some c.map_at.result ≡ Some h = sym c.map_at.ensures ∙ there in cc) in
-          subst (λ (k : ℕ). P k h) (sym here) (subst (P place) same (subst (IsRoomy c.args.programs.now (map waiting c.args.jobs.now) c.cpus-cpus.result place c.map_at.result) counted (c.in_ok-is_roomy.ensures c.if-not-branch.false)))
+          subst (λ (k : ℕ). P k h) (sym here) (subst (P place) same
+          (subst (IsRoomy c.args.programs.now (map waiting c.args.jobs.now) c.cpus-cpus.result place c.map_at.result) counted
+          (c.in_ok-is_roomy.ensures c.if-not-branch.false)))
       | inr other ↦ c.loop-place.invariant m h (omega (arith, less, other)) is
     ]
 
@@ -29,4 +31,5 @@ returns c t m h is =
     let maps = c.maps-maps.result.now in
     let there : IsMap maps m h = subst (λ (ms : List MapShape). IsMap ms m h) (sym c.maps-maps.ensures.maps) is in
     let less : m < c.loop-place.place = omega (arith, slice_get_within maps m h there, c.loop-place-test.false) in
-    subst (λ (cpus : ℕ). IsRoomy c.args.programs.now (map waiting c.args.jobs.now) cpus m h (pairs_in m (map pair_of c.args.pairs.now))) c.cpus-cpus.ensures.cpus (c.loop-place.invariant m h less there)
+    subst (λ (cpus : ℕ). IsRoomy c.args.programs.now (map waiting c.args.jobs.now) cpus m h (pairs_in m (map pair_of c.args.pairs.now)))
+    c.cpus-cpus.ensures.cpus (c.loop-place.invariant m h less there)

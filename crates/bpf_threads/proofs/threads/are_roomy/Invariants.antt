@@ -7,4 +7,5 @@ use Rattle.bpf_threads.specs.Threads.{IsRoomy}
 use Rattle.bpf_threads.proofs.threads.are_roomy.Given as goal
 
 abbrev pub invariant-loop-place : goal.invariant-loop-place
-invariant-loop-place l = (m : ℕ) (h : MapShape) → m < l.place → IsMap l.maps m h → IsRoomy l.programs (map waiting l.jobs) l.cpus m h (pairs_in m (map pair_of l.pairs))
+invariant-loop-place l = (m : ℕ) (h : MapShape) → m < l.place → IsMap l.maps m h → IsRoomy l.programs (map waiting l.jobs) l.cpus m h
+    (pairs_in m (map pair_of l.pairs))

@@ -8,5 +8,9 @@ loop-place-preserved c =
     let old = c.loop-place.bounds.items in
     let new = c.in_ok-most.most in
     let made = c.in_ok-push.ensures.items in
-    let more = bounds_more c.args.counted c.args.programs.now old c.loop-place.place new c.loop-place.invariant.0 c.in_ok-most.ensures c.loop-place.invariant.1 in
-    (ap length made ∙ omega (arith, length-append old (new ∷ []), c.loop-place.invariant.0), subst (AreBounds c.args.counted c.args.programs.now) (sym made) more)
+    let more = bounds_more c.args.counted c.args.programs.now old c.loop-place.place new c.loop-place.invariant.0 c.in_ok-most.ensures
+    c.loop-place.invariant.1 in (
+      ap length made ∙ omega (arith, length-append old (new ∷ []), c.loop-place.invariant.0),
+      subst
+          (AreBounds c.args.counted c.args.programs.now) (sym made) more,
+    )

@@ -7,4 +7,5 @@ use Rattle.hop_map.specs.Dumping.{IsLast}
 use Rattle.bpf_workers.proofs.arrays.list_arrays.Given as goal
 
 abbrev pub invariant-loop-number : goal.invariant-loop-number
-invariant-loop-number l = (last : Plain) → IsLast l.left.closed.now last → last.shape ≡ l.left.shape.now → string_bytes l.text ≡ array_lines last (names_of l.names) l.number
+invariant-loop-number l = (last : Plain) → IsLast l.left.closed.now last → last.shape ≡ l.left.shape.now → string_bytes l.text ≡ array_lines
+    last (names_of l.names) l.number

@@ -17,7 +17,8 @@ loop-index-preserved c = λ last known same g there.
     let i = c.loop-index.index in
     let found = found_shape last h c.arrays.result.now a g blank same c.arrays.ensures.arrays there in
     let less : i < g.max = subst (λ (x : ArrayShape). i < x.max) found c.loop-index-test.true in
-    one_index_more last array g (string_bytes c.args.text.now) (string_bytes c.loop-index.text) (string_bytes c.push_index.new.text) i (c.loop-index.invariant last known same g there)
+    one_index_more last array g (string_bytes c.args.text.now) (string_bytes c.loop-index.text) (string_bytes c.push_index.new.text) i
+    (c.loop-index.invariant last known same g there)
     (c.in_ok-push_index.ensures last known same g there less)
 
 pub returns : goal.returns

@@ -8,5 +8,6 @@ use Rattle.hop_map.specs.Dumping.{IsLast}
 use Rattle.bpf_workers.proofs.arrays.push_array.Given as goal
 
 abbrev pub invariant-loop-index : goal.invariant-loop-index
-invariant-loop-index l = (last : Plain) → IsLast l.left.closed.now last → last.shape ≡ l.left.shape.now → (g : ArrayShape) → IsArray last.shape.arrays l.array.number g
+invariant-loop-index l = (last : Plain) → IsLast l.left.closed.now last → last.shape ≡ l.left.shape.now → (g : ArrayShape) → IsArray
+    last.shape.arrays l.array.number g
     → string_bytes l.text ≡ string_bytes l.fn.text ++ value_lines last (called_by l.array) g l.index

@@ -16,7 +16,8 @@ returns c last known same =
     told c.args.jobs.now c.args.ends.now last names c.args.maps text (list_lines lists names.maps cpus)
     (string_bytes c.in_ok-keys.keys) (string_bytes c.in_ok-lines.lines) both (string_bytes c.push_str-2.new.self) c.has_stopped-stopped.result
     c.requires (c.in_ok-lines.ensures last known same) c.in_ok-text.ensures
-    (c.in_ok-keys.ensures ∙ (ap (λ (ns : List (String Global)). list_lines lists (map string_bytes ns) c.cpus.result) c.deref.ensures.value ∙ ap (λ (n : ℕ). list_lines lists names.maps n) c.cpus.ensures.cpus))
+    (c.in_ok-keys.ensures ∙ (ap (λ (ns : List (String Global)). list_lines lists (map string_bytes ns) c.cpus.result) c.deref.ensures.value
+    ∙ ap (λ (n : ℕ). list_lines lists names.maps n) c.cpus.ensures.cpus))
     (c.in_ok-push_str.ensures.bytes ∙ ap (λ (more : List ℕ). text ++ more) c.as_str.ensures.value)
     (c.in_ok-push_str-2.ensures.bytes ∙ ap (λ (more : List ℕ). both ++ more) c.as_str-2.ensures.value)
     c.has_stopped-stopped.ensures

@@ -7,4 +7,5 @@ use Rattle.hop_map.specs.Dumping.{IsLast}
 use Rattle.bpf_workers.proofs.variables.list_variables.Given as goal
 
 abbrev pub invariant-loop-variable : goal.invariant-loop-variable
-invariant-loop-variable l = (last : Plain) → IsLast l.left.closed.now last → last.shape ≡ l.left.shape.now → string_bytes l.text ≡ variable_lines last (map variable_of l.variables) l.variable-index
+invariant-loop-variable l = (last : Plain) → IsLast l.left.closed.now last → last.shape ≡ l.left.shape.now → string_bytes l.text ≡
+    variable_lines last (map variable_of l.variables) l.variable-index

@@ -18,11 +18,14 @@ ports-preserved c =
     let port = c.in-Some.port in
     let rest = c.next.new.self.rest.items in
     let known : lane.known ≡ port.known = ap known_of (sym (port_is c.port.inside c.port.inside.lane lane refl c.in-Some-lane.is) ∙ c.port.view_is) in
-    let free : IsFree lane.known = subst (λ (o : Option Standing). IsFree (standing_in o).known) c.in-Some-lane.is (c.port.invariant.1.locks, c.port.invariant.1.fresh) in (
+    let free : IsFree lane.known = subst (λ (o : Option Standing). IsFree (standing_in o).known) c.in-Some-lane.is
+    (c.port.invariant.1.locks, c.port.invariant.1.fresh) in (
       c.take.ensures.table ∙ i.0,
       append_assoc c.ports.yielded (port ∷ []) rest ∙ (ap (λ (l : List Port). c.ports.yielded ++ l) (sym c.in-Some.ensures.steps.0) ∙ i.1),
-      c.take.ensures.taken ∙ (ap (λ (ls : List Known). ls ++ lane.known ∷ []) i.2 ∙ (ap (λ (k : Known). map known_of c.ports.yielded ++ k ∷ []) known ∙ sym (map_snoc c.ports.yielded port))),
-      subst (All IsFree) (sym c.take.ensures.taken) (All-append IsFree c.ports.back.lanes (lane.known ∷ []) i.3 (All-cons IsFree lane.known [] free (All-nil IsFree))),
+      c.take.ensures.taken ∙ (ap (λ (ls : List Known). ls ++ lane.known ∷ []) i.2 ∙
+          (ap (λ (k : Known). map known_of c.ports.yielded ++ k ∷ []) known ∙ sym (map_snoc c.ports.yielded port))),
+      subst (All IsFree) (sym c.take.ensures.taken) (All-append IsFree c.ports.back.lanes (lane.known ∷ []) i.3
+          (All-cons IsFree lane.known [] free (All-nil IsFree))),
     )
 
 pub close-rest-requires-clause-all : goal.close-rest-requires-clause-all
@@ -49,4 +52,5 @@ returns-clause-parts c = λ k d inside.
     let ports = c.args.ports.items in
     let all : c.ports.yielded ≡ ports = sym (append-nil c.ports.yielded) ∙ (ap (λ (l : List Port). c.ports.yielded ++ l) (sym empty) ∙ i.1) in
     let p = get_or ports k d in
-    c.close-rest.ensures.within k p.known (known_at ports c.ports.back.lanes k p (i.2 ∙ ap (map known_of) all) (at_index ports k p inside (get_or_default ports k d p inside)))
+    c.close-rest.ensures.within k p.known (known_at ports c.ports.back.lanes k p (i.2 ∙ ap (map known_of) all)
+    (at_index ports k p inside (get_or_default ports k d p inside)))

@@ -13,15 +13,18 @@ pub unlock_delete-requires-in-None-clause-answers : goal.unlock_delete-requires-
 unlock_delete-requires-in-None-clause-answers c =
     let x = c.args.words in
     let key = c.args.key.now in
-    subst (λ (z : Locked). Ready z.about z.known z.map z.segment → AnswersUnderLock z.about z.known (lock_of z.known) (Delete z.map key Absent)) (sym c.locate.ensures.rests)
-    (drop_answers x key c.requires.contents c.requires.names (c.in-None.ensures.found (seen_words x) (ap seen_words (sym c.locate.ensures.rests)) (drop_sound x key c.requires.contents c.requires.names) c.requires.home))
+    subst (λ (z : Locked). Ready z.about z.known z.map z.segment → AnswersUnderLock z.about z.known (lock_of z.known)
+    (Delete z.map key Absent)) (sym c.locate.ensures.rests)
+    (drop_answers x key c.requires.contents c.requires.names (c.in-None.ensures.found (seen_words x)
+    (ap seen_words (sym c.locate.ensures.rests)) (drop_sound x key c.requires.contents c.requires.names) c.requires.home))
 
 pub drop_key-lane-requires-clause-there : goal.drop_key-lane-requires-clause-there
 drop_key-lane-requires-clause-there c =
     let x = c.args.words in
     let key = c.args.key.now in
     subst (λ (z : Locked). IsSpot (seen_words z) key c.in-Some.found) (sym c.locate.ensures.rests)
-    (c.in-Some.ensures.found (seen_words x) (ap seen_words (sym c.locate.ensures.rests)) (drop_sound x key c.requires.contents c.requires.names) c.requires.home)
+    (c.in-Some.ensures.found (seen_words x) (ap seen_words (sym c.locate.ensures.rests))
+    (drop_sound x key c.requires.contents c.requires.names) c.requires.home)
 
 pub unlock_delete-requires-clause-answers : goal.unlock_delete-requires-clause-answers
 unlock_delete-requires-clause-answers c =

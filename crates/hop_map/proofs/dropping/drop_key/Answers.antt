@@ -5,13 +5,17 @@ pub remove_at-element-requires-clause-sound : goal.remove_at-element-requires-cl
 remove_at-element-requires-clause-sound c = drop_sound c.args.words c.args.key.now c.requires.contents c.requires.names
 
 pub unlock_removed-requires-clause-removes : goal.unlock_removed-requires-clause-removes
-unlock_removed-requires-clause-removes c = drop_removes c.args.words c.args.key.now c.requires.contents c.requires.names c.remove_at-element.new.words c.remove_at-element.ensures.stays c.remove_at-element.result c.remove_at-element.ensures.loses
+unlock_removed-requires-clause-removes c = drop_removes c.args.words c.args.key.now c.requires.contents c.requires.names
+    c.remove_at-element.new.words c.remove_at-element.ensures.stays c.remove_at-element.result c.remove_at-element.ensures.loses
 
 pub unlock_removed-requires-clause-written : goal.unlock_removed-requires-clause-written
-unlock_removed-requires-clause-written c = drop_written c.args.words c.args.key.now c.requires.contents c.requires.names c.remove_at-element.new.words c.remove_at-element.ensures.stays c.remove_at-element.result c.remove_at-element.ensures.loses
+unlock_removed-requires-clause-written c = drop_written c.args.words c.args.key.now c.requires.contents c.requires.names
+    c.remove_at-element.new.words c.remove_at-element.ensures.stays c.remove_at-element.result c.remove_at-element.ensures.loses
 
 pub returns-clause-dropped : goal.returns-clause-dropped
-returns-clause-dropped c = drop_ends c.args.words c.args.key.now c.requires.contents c.requires.names c.remove_at-element.new.words c.remove_at-element.ensures.stays c.remove_at-element.result c.unlock_removed.result.known c.unlock_removed.ensures.dropped
+returns-clause-dropped c = drop_ends c.args.words c.args.key.now c.requires.contents c.requires.names c.remove_at-element.new.words
+    c.remove_at-element.ensures.stays c.remove_at-element.result c.unlock_removed.result.known c.unlock_removed.ensures.dropped
 
 pub returns-clause-inside : goal.returns-clause-inside
-returns-clause-inside c = drop_inside c.args.words c.args.key.now c.requires.contents c.requires.names c.remove_at-element.result c.remove_at-element.ensures.loses.was
+returns-clause-inside c = drop_inside c.args.words c.args.key.now c.requires.contents c.requires.names c.remove_at-element.result
+    c.remove_at-element.ensures.loses.was

@@ -18,7 +18,8 @@ list-init c =
     record {
       adds = adds_none e c.args.map (listed c.args.pairs.now.entries);
       before = None;
-      walk = subst (λ (o : Option ℕ). Counted v P None o 0) (sym (c.item-at.ensures ∙ ap item c.word.ensures.word)) (counted_begins v (sound e w c.args.map c.args.segment c.requires.inside) P);
+      walk = subst (λ (o : Option ℕ). Counted v P None o 0) (sym (c.item-at.ensures ∙ ap item c.word.ensures.word))
+          (counted_begins v (sound e w c.args.map c.args.segment c.requires.inside) P);
     }
 
 reached_now : goal.add-requires-clause-reached
@@ -92,5 +93,8 @@ returns-clause-keys c = λ i on.
     let w = c.about-about.ensures.whole in
     let v : SegWords = seen e w c.args.map c.args.segment c.requires.inside in
     let P : ℕ → Type 0 = λ i. IsKeyAmong (key_in e c.args.map i) (listed c.list.pairs.entries) in
-    let all : v.fixed.limit ≤ c.list._passed = (let t = c.list-test.false in let n = c.elements-count.ensures.elements in let g = c.shape_of.ensures.shape in omega (arith, n ∙ ap elements g)) in
-    counted_ends v (sound e w c.args.map c.args.segment c.requires.inside) P c.list.invariant.before c.list.at c.list._passed all c.list.invariant.walk i (on_list e w c.args.map c.args.segment c.requires.inside i on)
+    let all : v.fixed.limit ≤ c.list._passed =
+    (let t = c.list-test.false in let n = c.elements-count.ensures.elements in let g = c.shape_of.ensures.shape in omega (arith, n ∙ ap elements g))
+    in
+    counted_ends v (sound e w c.args.map c.args.segment c.requires.inside) P c.list.invariant.before c.list.at c.list._passed all
+    c.list.invariant.walk i (on_list e w c.args.map c.args.segment c.requires.inside i on)

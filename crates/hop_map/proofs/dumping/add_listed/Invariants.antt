@@ -10,5 +10,6 @@ abbrev pub invariant-list : goal.invariant-list
 invariant-list l = record {
   adds : AddsPairs l.rest l.map (listed l.fn.pairs.entries) (listed l.pairs.entries);
   before : Option ℕ;
-  walk : Counted (segment_view l.rest.about l.map l.segment (rest_depths l.rest l.map l.segment) (λ i. true) (words_in l.rest)) (λ i. IsKeyAmong (key_in l.rest l.map i) (listed l.pairs.entries)) before l.at l._passed;
+  walk : Counted (segment_view l.rest.about l.map l.segment (rest_depths l.rest l.map l.segment) (λ i. true) (words_in l.rest))
+      (λ i. IsKeyAmong (key_in l.rest l.map i) (listed l.pairs.entries)) before l.at l._passed;
 }

@@ -16,6 +16,7 @@ returns-clause-keys c = λ i r.
     let m = c.args.map in
     let s = c.args.segment in
     ⊎_elim
-    (λ (h : (b : ℕ) × (d : ℕ) × HopsTo (words_in e) m s b d i). c.in_ok-add_listed.ensures.adds.kept (key_in e m i) (c.in_ok-add_placed.ensures.keys ((h.0 + h.1) % 64) i (omega arith) h.2.3))
+    (λ (h : (b : ℕ) × (d : ℕ) × HopsTo (words_in e) m s b d i). c.in_ok-add_listed.ensures.adds.kept (key_in e m i)
+    (c.in_ok-add_placed.ensures.keys ((h.0 + h.1) % 64) i (omega arith) h.2.3))
     (λ (l : IsOnList (words_in e) m s i). c.in_ok-add_listed.ensures.keys i l)
     r

@@ -34,7 +34,8 @@ returns-then-stamp-bit c =
     let down : n ≡ deepest - (c.bits.passed + 1) = omega arith in
     let now : is_born d (suc n) c.bits.at ≡ o = subst (λ (i : ℕ). is_born d i c.bits.at ≡ o) up c.bits.invariant.born in
     let g : power n ≤ c.bits.at = (let z = c.if-at-bit.false in omega arith) in
-    let e : d (c.bits.at - power n) ≡ stamp_depth c.word-stamp.result = ap (λ (i : ℕ). d (c.bits.at - i)) (sym p) ∙ ap stamp_depth (sym c.word-stamp.ensures.word) in
+    let e : d (c.bits.at - power n) ≡ stamp_depth c.word-stamp.result = ap (λ (i : ℕ). d (c.bits.at - i)) (sym p) ∙ ap stamp_depth
+    (sym c.word-stamp.ensures.word) in
     record { born = sym (bit_none d n c.bits.at g (let z = c.if-stamp-bit.true in omega arith)) ∙ now }
 
 pub bits-preserved : goal.bits-preserved
@@ -49,9 +50,11 @@ bits-preserved c =
     let down : n ≡ deepest - (c.bits.passed + 1) = omega arith in
     let now : is_born d (suc n) c.bits.at ≡ o = subst (λ (i : ℕ). is_born d i c.bits.at ≡ o) up c.bits.invariant.born in
     let g : power n ≤ c.bits.at = (let z = c.if-at-bit.false in omega arith) in
-    let e : d (c.bits.at - power n) ≡ stamp_depth c.word-stamp.result = ap (λ (i : ℕ). d (c.bits.at - i)) (sym p) ∙ ap stamp_depth (sym c.word-stamp.ensures.word) in
+    let e : d (c.bits.at - power n) ≡ stamp_depth c.word-stamp.result = ap (λ (i : ℕ). d (c.bits.at - i)) (sym p) ∙ ap stamp_depth
+    (sym c.word-stamp.ensures.word) in
     let deep : n < d (c.bits.at - power n) = (let z = c.if-stamp-bit.false in omega arith) in
     record {
       inside = (let z = c.bits.invariant.inside in omega arith);
-      born = subst (λ (i : ℕ). is_born d (deepest - (c.bits.passed + 1)) (c.bits.at - i) ≡ o) (sym p) (subst (λ (i : ℕ). is_born d i (c.bits.at - power n) ≡ o) down (bit_high d n c.bits.at o now g deep));
+      born = subst (λ (i : ℕ). is_born d (deepest - (c.bits.passed + 1)) (c.bits.at - i) ≡ o) (sym p)
+          (subst (λ (i : ℕ). is_born d i (c.bits.at - power n) ≡ o) down (bit_high d n c.bits.at o now g deep));
     }

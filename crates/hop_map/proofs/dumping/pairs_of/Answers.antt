@@ -26,10 +26,13 @@ segments-preserved-then-not-is_born c =
     record {
       found = c.segments.invariant.found;
       keys = λ s i l inside r. ⊎_elim
-          (λ (at : s ≡ c.segments.segment). absurd (true≢false (sym inside.2 ∙ (ap (is_born (rest_depths e m) (depth (shape_at e.about m))) at ∙ sym c.if-not-is_born.ensures.born))))
+          (λ (at : s ≡ c.segments.segment). absurd (true≢false (sym inside.2 ∙
+          (ap (is_born (rest_depths e m) (depth (shape_at e.about m))) at ∙ sym c.if-not-is_born.ensures.born))))
           (λ ne. c.segments.invariant.keys s i (omega arith) inside r)
           (cases_eq s c.segments.segment);
     }
 
 pub returns-clause-keys : goal.returns-clause-keys
-returns-clause-keys c = λ s i inside r. c.segments.invariant.keys s i (let t = c.segments-test.false in let n = c.segments-count.ensures in let l = inside.1 in omega (arith, n ∙ ap segments c.shape_of.ensures.shape)) inside r
+returns-clause-keys c = λ s i inside r. c.segments.invariant.keys s i
+    (let t = c.segments-test.false in let n = c.segments-count.ensures in let l = inside.1 in omega (arith, n ∙ ap segments c.shape_of.ensures.shape))
+    inside r

@@ -60,4 +60,8 @@ returns-clause-found g c = λ k asks sees.
     let o = found_span a m r.result.1 in
     let eight : c.tries._tried ≡ 8 = omega arith in
     let is : item c.link_word-2.result ≡ r.result.1 = ap item c.link_word-2.ensures.word ∙ item_word r.result.1 c.link_word-2.ensures.small in
-    subst (λ (f : Option ℕ). LooksUp a k m key f y) (sym is) (looked_then a k m key n x tried o y r.ensures.found, lock_spares a k m key n x tried o y eight r.ensures.locked)
+    subst (λ (f : Option ℕ). LooksUp a k m key f y) (sym is) (
+      looked_then a k m key n x tried o y r.ensures.found,
+      lock_spares a k m key n x
+          tried o y eight r.ensures.locked,
+    )

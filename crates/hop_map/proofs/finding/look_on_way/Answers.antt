@@ -23,8 +23,12 @@ look_again-requires-clause-begins g c =
     let a = c.args.table.now.about in
     let m = c.args.map in
     let key = c.args.key.now in
-    let y = c.try_on_way-lane.result.0.known in
-    (k, asks, tries_more a k m key 0 k (tries_none a k m key) c.in-Disturbed.field-0 c.in-Disturbed.field-1 y (subst (λ (t : Tried). TryEnds a k m key t y) c.in-Disturbed.is (c.try_on_way-lane.ensures.ends k asks near)))
+    let y = c.try_on_way-lane.result.0.known in (
+      k,
+      asks,
+      tries_more a k m key 0 k (tries_none a k m key) c.in-Disturbed.field-0 c.in-Disturbed.field-1 y
+          (subst (λ (t : Tried). TryEnds a k m key t y) c.in-Disturbed.is (c.try_on_way-lane.ensures.ends k asks near)),
+    )
 
 pub returns-in-Disturbed-clause-found : goal.returns-in-Disturbed-clause-found
 returns-in-Disturbed-clause-found g c = λ k asks near.
@@ -32,4 +36,5 @@ returns-in-Disturbed-clause-found g c = λ k asks near.
     let m = c.args.map in
     let key = c.args.key.now in
     let y = c.try_on_way-lane.result.0.known in
-    c.look_again.ensures.found k asks (tries_more a k m key 0 k (tries_none a k m key) c.in-Disturbed.field-0 c.in-Disturbed.field-1 y (subst (λ (t : Tried). TryEnds a k m key t y) c.in-Disturbed.is (c.try_on_way-lane.ensures.ends k asks near)))
+    c.look_again.ensures.found k asks (tries_more a k m key 0 k (tries_none a k m key) c.in-Disturbed.field-0 c.in-Disturbed.field-1 y
+    (subst (λ (t : Tried). TryEnds a k m key t y) c.in-Disturbed.is (c.try_on_way-lane.ensures.ends k asks near)))

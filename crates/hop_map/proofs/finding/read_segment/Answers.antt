@@ -43,8 +43,10 @@ see_again-lane-requires c =
     let home = walked_home a m s n h key is free.1 in
     let x = c.new-words in
     let y = c.find-found.new.words in
-    let b = asks_there a l m s n key asks walked.way way home c.args.lane.known free.0 x.result y x.ensures.about x.ensures.known x.ensures.map x.ensures.segment c.find-found.ensures.rests in
-    let i = home_there a l m s n key asks walked.way way home c.args.lane.known free.0 x.result y x.ensures.about x.ensures.known x.ensures.map x.ensures.segment c.find-found.ensures.rests h is in
+    let b = asks_there a l m s n key asks walked.way way home c.args.lane.known free.0 x.result y x.ensures.about x.ensures.known
+    x.ensures.map x.ensures.segment c.find-found.ensures.rests in
+    let i = home_there a l m s n key asks walked.way way home c.args.lane.known free.0 x.result y x.ensures.about x.ensures.known
+    x.ensures.map x.ensures.segment c.find-found.ensures.rests h is in
     record { finds = finds y key c.find-found.result b h i c.find-found.ensures.found }
 
 pub returns-clause-same : goal.returns-clause-same
@@ -62,8 +64,11 @@ returns-clause-same c = λ l asks walked same.
     let x = c.new-words in
     let y = c.find-found.new.words in
     let l3 = c.see_again-lane.result.0.known in (
-      found_once a l m s n key asks walked.way way home c.args.lane.known free.0 x.result y x.ensures.about x.ensures.known x.ensures.map x.ensures.segment c.find-found.ensures.rests c.find-found.result c.see_again-lane.result.1 l3 c.see_again-lane.ensures.seen same,
-      reads_once a l m s n key asks walked.way way home c.args.lane.known free.0 x.result y x.ensures.about x.ensures.known x.ensures.map x.ensures.segment c.find-found.ensures.rests c.find-found.result c.see_again-lane.result.1 l3 c.see_again-lane.ensures.seen same c.requires.even,
+      found_once a l m s n key asks walked.way way home c.args.lane.known free.0 x.result y x.ensures.about x.ensures.known x.ensures.map
+          x.ensures.segment c.find-found.ensures.rests c.find-found.result c.see_again-lane.result.1 l3 c.see_again-lane.ensures.seen same,
+      reads_once a l m s n key asks walked.way way home c.args.lane.known free.0 x.result y x.ensures.about x.ensures.known x.ensures.map
+          x.ensures.segment c.find-found.ensures.rests c.find-found.result c.see_again-lane.result.1 l3 c.see_again-lane.ensures.seen same
+          c.requires.even,
     )
 
 pub returns-clause-other : goal.returns-clause-other
@@ -81,7 +86,8 @@ returns-clause-other c = λ l asks walked ne.
     let x = c.new-words in
     let y = c.find-found.new.words in
     let l3 = c.see_again-lane.result.0.known in
-    disturbed_last a l m s n key asks walked.way way home c.args.lane.known free.0 x.result y x.ensures.about x.ensures.known x.ensures.map x.ensures.segment c.find-found.ensures.rests c.find-found.result c.see_again-lane.result.1 l3 c.see_again-lane.ensures.seen ne
+    disturbed_last a l m s n key asks walked.way way home c.args.lane.known free.0 x.result y x.ensures.about x.ensures.known x.ensures.map
+    x.ensures.segment c.find-found.ensures.rests c.find-found.result c.see_again-lane.result.1 l3 c.see_again-lane.ensures.seen ne
 
 pub returns-clause-loads : goal.returns-clause-loads
 returns-clause-loads c = λ l asks walked.
@@ -98,8 +104,13 @@ returns-clause-loads c = λ l asks walked.
     let x = c.new-words in
     let y = c.find-found.new.words in
     let l3 = c.see_again-lane.result.0.known in
-    let stamp = read_stamp a l m s n key asks walked.way way home c.args.lane.known free.0 x.result y x.ensures.about x.ensures.known x.ensures.map x.ensures.segment c.find-found.ensures.rests in
+    let stamp = read_stamp a l m s n key asks walked.way way home c.args.lane.known free.0 x.result y x.ensures.about x.ensures.known
+    x.ensures.map x.ensures.segment c.find-found.ensures.rests in
     ⊎_elim
-    (λ (same : c.see_again-lane.result.1 ≡ n). loads_found a l m h s n c.args.lane.known walked c.requires.even x.result y x.ensures.about x.ensures.known x.ensures.map c.find-found.ensures.rests c.find-found.ensures.reads key c.find-found.result c.see_again-lane.result.1 l3 c.see_again-lane.ensures.seen (same ∙ sym stamp))
-    (λ ne. loads_last a l m h s n c.args.lane.known walked c.requires.even x.result y x.ensures.about x.ensures.known x.ensures.map c.find-found.ensures.rests c.find-found.ensures.reads key c.find-found.result c.see_again-lane.result.1 l3 c.see_again-lane.ensures.seen (λ e. ne (e ∙ stamp)))
+    (λ (same : c.see_again-lane.result.1 ≡ n). loads_found a l m h s n c.args.lane.known walked c.requires.even x.result y x.ensures.about
+    x.ensures.known x.ensures.map c.find-found.ensures.rests c.find-found.ensures.reads key c.find-found.result
+    c.see_again-lane.result.1 l3 c.see_again-lane.ensures.seen (same ∙ sym stamp))
+    (λ ne. loads_last a l m h s n c.args.lane.known walked c.requires.even x.result y x.ensures.about x.ensures.known x.ensures.map
+    c.find-found.ensures.rests c.find-found.ensures.reads key c.find-found.result c.see_again-lane.result.1 l3
+    c.see_again-lane.ensures.seen (λ e. ne (e ∙ stamp)))
     (cases_eq c.see_again-lane.result.1 n)

@@ -42,25 +42,33 @@ read_segment-lane-requires-clause-even c = let z = c.if-stamp-eq1.false in omega
 pub read_segment-lane-requires-clause-begins : goal.read_segment-lane-requires-clause-begins
 read_segment-lane-requires-clause-begins c =
     let (l, asks, near) = c.requires.begins in
-    let w = c.walk-lane in
-    (l, asks, subst (λ (h : ℕ). Walked c.args.table.now.about l c.args.map h w.result.1 w.result.2 w.result.0.known) (sym c.homed-at.ensures.home) (w.ensures.walked l near))
+    let w = c.walk-lane in (
+      l,
+      asks,
+      subst (λ (h : ℕ). Walked c.args.table.now.about l c.args.map h w.result.1 w.result.2 w.result.0.known)
+          (sym c.homed-at.ensures.home) (w.ensures.walked l near),
+    )
 
 pub returns-then-read-stamp-clause-ends : goal.returns-then-read-stamp-clause-ends
 returns-then-read-stamp-clause-ends c = λ l asks near.
     let w = c.walk-lane in
-    c.read_segment-lane.ensures.other l asks (subst (λ (h : ℕ). Walked c.args.table.now.about l c.args.map h w.result.1 w.result.2 w.result.0.known) (sym c.homed-at.ensures.home) (w.ensures.walked l near)) c.if-read-stamp.true
+    c.read_segment-lane.ensures.other l asks (subst (λ (h : ℕ). Walked c.args.table.now.about l c.args.map h w.result.1 w.result.2
+    w.result.0.known) (sym c.homed-at.ensures.home) (w.ensures.walked l near)) c.if-read-stamp.true
 
 pub returns-then-read-stamp-clause-loads : goal.returns-then-read-stamp-clause-loads
 returns-then-read-stamp-clause-loads c = λ l asks near.
     let w = c.walk-lane in
-    c.read_segment-lane.ensures.loads l asks (subst (λ (h : ℕ). Walked c.args.table.now.about l c.args.map h w.result.1 w.result.2 w.result.0.known) (sym c.homed-at.ensures.home) (w.ensures.walked l near))
+    c.read_segment-lane.ensures.loads l asks (subst (λ (h : ℕ). Walked c.args.table.now.about l c.args.map h w.result.1 w.result.2
+    w.result.0.known) (sym c.homed-at.ensures.home) (w.ensures.walked l near))
 
 pub returns-clause-ends : goal.returns-clause-ends
 returns-clause-ends c = λ l asks near.
     let w = c.walk-lane in
-    c.read_segment-lane.ensures.same l asks (subst (λ (h : ℕ). Walked c.args.table.now.about l c.args.map h w.result.1 w.result.2 w.result.0.known) (sym c.homed-at.ensures.home) (w.ensures.walked l near)) c.if-read-stamp.false
+    c.read_segment-lane.ensures.same l asks (subst (λ (h : ℕ). Walked c.args.table.now.about l c.args.map h w.result.1 w.result.2
+    w.result.0.known) (sym c.homed-at.ensures.home) (w.ensures.walked l near)) c.if-read-stamp.false
 
 pub returns-clause-loads : goal.returns-clause-loads
 returns-clause-loads c = λ l asks near.
     let w = c.walk-lane in
-    c.read_segment-lane.ensures.loads l asks (subst (λ (h : ℕ). Walked c.args.table.now.about l c.args.map h w.result.1 w.result.2 w.result.0.known) (sym c.homed-at.ensures.home) (w.ensures.walked l near))
+    c.read_segment-lane.ensures.loads l asks (subst (λ (h : ℕ). Walked c.args.table.now.about l c.args.map h w.result.1 w.result.2
+    w.result.0.known) (sym c.homed-at.ensures.home) (w.ensures.walked l near))

@@ -78,7 +78,8 @@ returns-then-stamp-eq1-clause-walked c = λ k begins.
     let u = i.near k begins in
     let e = c.in-Some.ensures.way in
     let on : IsNextSegment c.way.way (stamp_depth c.way.stamp) c.in-Some.next = subst (λ (i : ℕ). IsNextSegment c.way.way i c.in-Some.next) d e.1 in
-    near_stopped a k m home c.way.stamp c.way.way u.0 c.way.lane.known u.1 c.in-Some.next e.0 on c.see_stamp-stamp.result c.see_stamp-stamp.new.self.known c.see_stamp-stamp.ensures.seen c.requires.grows c.if-stamp-eq1.true
+    near_stopped a k m home c.way.stamp c.way.way u.0 c.way.lane.known u.1 c.in-Some.next e.0 on c.see_stamp-stamp.result
+    c.see_stamp-stamp.new.self.known c.see_stamp-stamp.ensures.seen c.requires.grows c.if-stamp-eq1.true
 
 pub way-preserved : goal.way-preserved
 way-preserved c =
@@ -94,7 +95,12 @@ way-preserved c =
     let even : c.see_stamp-stamp.result % 2 ≡ 0 = (let z = c.if-stamp-eq1.false in omega arith) in
     record {
       table = c.see_stamp-stamp.ensures.table ∙ i.table;
-      near = λ k begins. (let u = i.near k begins in (look (Stamp m c.way.way.segment) c.way.stamp ∷ u.0, nearer a k m home c.way.stamp c.way.way u.0 c.way.lane.known u.1 c.in-Some.next e.0 on c.see_stamp-stamp.result c.see_stamp-stamp.new.self.known c.see_stamp-stamp.ensures.seen even));
+      near = λ k begins. (let u = i.near k begins in (
+        look (Stamp m c.way.way.segment) c.way.stamp ∷ u.0,
+        nearer a k m home c.way.stamp
+            c.way.way u.0 c.way.lane.known u.1 c.in-Some.next e.0 on c.see_stamp-stamp.result c.see_stamp-stamp.new.self.known
+            c.see_stamp-stamp.ensures.seen even,
+      ));
       idle = ap (λ (x : Known). x.locks) (c.see_stamp-stamp.ensures.seen.1 even) ∙ i.idle;
       so_far = (let z = on.1 in let y = on.3 in let x = i.so_far in omega arith);
     }

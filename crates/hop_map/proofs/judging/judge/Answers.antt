@@ -8,7 +8,8 @@ pub returns-in-Some-clause-judges : goal.returns-in-Some-clause-judges
 returns-in-Some-clause-judges c =
     let x = c.args.words.now in
     let key = c.args.key.now in
-    let pair = c.in-Some.ensures.found (seen_words x) (ap seen_words (sym c.locate.ensures.rests)) (judge_sound x key c.args.value.now c.args.flags c.requires.contents c.requires.wants) c.requires.home in
+    let pair = c.in-Some.ensures.found (seen_words x) (ap seen_words (sym c.locate.ensures.rests))
+    (judge_sound x key c.args.value.now c.args.flags c.requires.contents c.requires.wants) c.requires.home in
     let there = pair_there (seen_words x) key c.in-Some.field-0 pair in
     let less = c.if-stamp-ge-WORN.false in
     let is = c.requires.stamp in
@@ -18,7 +19,8 @@ pub returns-in-Some-2-clause-judges : goal.returns-in-Some-2-clause-judges
 returns-in-Some-2-clause-judges c =
     let x = c.args.words.now in
     let key = c.args.key.now in
-    let pair = c.in-Some.ensures.found (seen_words x) (ap seen_words (sym c.locate.ensures.rests)) (judge_sound x key c.args.value.now c.args.flags c.requires.contents c.requires.wants) c.requires.home in
+    let pair = c.in-Some.ensures.found (seen_words x) (ap seen_words (sym c.locate.ensures.rests))
+    (judge_sound x key c.args.value.now c.args.flags c.requires.contents c.requires.wants) c.requires.home in
     let less = c.if-stamp-ge-WORN.false in
     let is = c.requires.stamp in
     (omega arith, c.if-flags-eq1.false, pair)
@@ -27,7 +29,8 @@ pub returns-in-None-clause-judges : goal.returns-in-None-clause-judges
 returns-in-None-clause-judges c =
     let x = c.args.words.now in
     let key = c.args.key.now in
-    let gone = c.in-None.ensures.found (seen_words x) (ap seen_words (sym c.locate.ensures.rests)) (judge_sound x key c.args.value.now c.args.flags c.requires.contents c.requires.wants) c.requires.home in
+    let gone = c.in-None.ensures.found (seen_words x) (ap seen_words (sym c.locate.ensures.rests))
+    (judge_sound x key c.args.value.now c.args.flags c.requires.contents c.requires.wants) c.requires.home in
     let less = c.if-stamp-ge-WORN.false in
     let is = c.requires.stamp in
     (λ z. cc, λ z. cc, omega arith, absent_answers x key c.args.value.now c.args.flags c.requires.contents c.requires.wants c.if-flags-eq2.true gone)
@@ -36,7 +39,8 @@ pub returns-in-None-2-clause-judges : goal.returns-in-None-2-clause-judges
 returns-in-None-2-clause-judges c =
     let x = c.args.words.now in
     let key = c.args.key.now in
-    let gone = c.in-None.ensures.found (seen_words x) (ap seen_words (sym c.locate.ensures.rests)) (judge_sound x key c.args.value.now c.args.flags c.requires.contents c.requires.wants) c.requires.home in
+    let gone = c.in-None.ensures.found (seen_words x) (ap seen_words (sym c.locate.ensures.rests))
+    (judge_sound x key c.args.value.now c.args.flags c.requires.contents c.requires.wants) c.requires.home in
     let less = c.if-stamp-ge-WORN.false in
     let is = c.requires.stamp in
     (omega arith, c.if-flags-eq2.false, gone)
@@ -44,5 +48,10 @@ returns-in-None-2-clause-judges c =
 pub returns-then-stamp-ge-WORN-clause-judges : goal.returns-then-stamp-ge-WORN-clause-judges
 returns-then-stamp-ge-WORN-clause-judges c =
     let last = c.if-stamp-ge-WORN.true in
-    let is = c.requires.stamp in
-    (λ z. cc, λ z. cc, omega arith, busy_answers c.args.words.now c.args.key.now c.args.value.now c.args.flags c.requires.contents c.requires.wants (omega arith))
+    let is = c.requires.stamp in (
+      λ z. cc,
+      λ z. cc,
+      omega arith,
+      busy_answers c.args.words.now c.args.key.now c.args.value.now c.args.flags c.requires.contents
+          c.requires.wants (omega arith),
+    )

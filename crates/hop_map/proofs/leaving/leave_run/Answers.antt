@@ -16,7 +16,8 @@ maps-preserved c =
     let l2 = c.reclaim.new.lane.known in
     let e = c.reclaim.ensures in
     let b = c.reclaim.new.self in
-    let old : c.index_mut.result.now ≡ batches_at bs c.maps.map = c.index_mut.ensures.value ∙ get_or_default bs c.maps.map c.index_mut.result.now no_batches (let n = i.1.batches.size in omega arith) in
+    let old : c.index_mut.result.now ≡ batches_at bs c.maps.map = c.index_mut.ensures.value ∙ get_or_default bs c.maps.map
+    c.index_mut.result.now no_batches (let n = i.1.batches.size in omega arith) in
     let name : c.index_mut.result.now.map ≡ c.maps.map = ap (λ (x : Batches). x.map) old ∙ i.1.batches.map c.maps.map here in
     let keeps : KeepsBatches c.maps.map l l2 = subst (λ (k : ℕ). KeepsBatches k l l2) name e.keeps in (
       e.table ∙ i.0,

@@ -23,5 +23,6 @@ words-preserved c =
       table = c.read_guarded.ensures.table ∙ i.table;
       known = c.read_guarded.ensures.same ∙ i.known;
       size = c.put_word.ensures.size ∙ i.size;
-      words = ap (λ (n : ℕ). take n c.put_word.new.bytes) more ∙ (c.put_word.ensures.put ∙ ((λ j. i.words j ++ low_bytes 8 (found j)) ∙ sym (spelled_more w f)));
+      words = ap (λ (n : ℕ). take n c.put_word.new.bytes) more ∙
+          (c.put_word.ensures.put ∙ ((λ j. i.words j ++ low_bytes 8 (found j)) ∙ sym (spelled_more w f)));
     }

@@ -26,9 +26,12 @@ add_key-requires-clause-element c =
     let i = c.places.invariant in
     let n = c.places.place in
     let k = c.places.lane.known in
-    let guard : IsGuarded a k c.slot_place.result = subst (λ (x : Known). IsGuarded a x c.slot_place.result) (sym i.known) (subst (IsGuarded a l) (sym c.slot_place.ensures) (o.last.1, o.last.2)) in
-    let word = c.read_guarded.ensures.word guard ∙ (ap (λ (x : Known). mem a.shape (lock_of x).copy c.slot_place.result) i.known ∙ ap (mem a.shape (lock_of l).copy) c.slot_place.ensures) in
-    let is : item ((image a (lock_of l).copy).slot c.args.map c.args.segment n) ≡ Some c.in-Some.element = ap item (sym word) ∙ (sym c.item.ensures ∙ c.in-Some.is) in
+    let guard : IsGuarded a k c.slot_place.result = subst (λ (x : Known). IsGuarded a x c.slot_place.result) (sym i.known)
+    (subst (IsGuarded a l) (sym c.slot_place.ensures) (o.last.1, o.last.2)) in
+    let word = c.read_guarded.ensures.word guard ∙ (ap (λ (x : Known). mem a.shape (lock_of x).copy c.slot_place.result) i.known ∙ ap
+    (mem a.shape (lock_of l).copy) c.slot_place.ensures) in
+    let is : item ((image a (lock_of l).copy).slot c.args.map c.args.segment n) ≡ Some c.in-Some.element = ap item (sym word) ∙
+    (sym c.item.ensures ∙ c.in-Some.is) in
     let r = place_reached a l c.args.map c.args.segment c.args.list.now.keys o c.places.list.keys n c.places-test.true i.part c.in-Some.element is in
     (c.requires.inside.0, inside a l c.args.map c.args.segment o.shows o.last c.in-Some.element r)
 
@@ -50,9 +53,12 @@ add_key-requires-clause-linked c =
     let i = c.places.invariant in
     let n = c.places.place in
     let k = c.places.lane.known in
-    let guard : IsGuarded a k c.slot_place.result = subst (λ (x : Known). IsGuarded a x c.slot_place.result) (sym i.known) (subst (IsGuarded a l) (sym c.slot_place.ensures) (o.last.1, o.last.2)) in
-    let word = c.read_guarded.ensures.word guard ∙ (ap (λ (x : Known). mem a.shape (lock_of x).copy c.slot_place.result) i.known ∙ ap (mem a.shape (lock_of l).copy) c.slot_place.ensures) in
-    let is : item ((image a (lock_of l).copy).slot c.args.map c.args.segment n) ≡ Some c.in-Some.element = ap item (sym word) ∙ (sym c.item.ensures ∙ c.in-Some.is) in
+    let guard : IsGuarded a k c.slot_place.result = subst (λ (x : Known). IsGuarded a x c.slot_place.result) (sym i.known)
+    (subst (IsGuarded a l) (sym c.slot_place.ensures) (o.last.1, o.last.2)) in
+    let word = c.read_guarded.ensures.word guard ∙ (ap (λ (x : Known). mem a.shape (lock_of x).copy c.slot_place.result) i.known ∙ ap
+    (mem a.shape (lock_of l).copy) c.slot_place.ensures) in
+    let is : item ((image a (lock_of l).copy).slot c.args.map c.args.segment n) ≡ Some c.in-Some.element = ap item (sym word) ∙
+    (sym c.item.ensures ∙ c.in-Some.is) in
     let r = place_reached a l c.args.map c.args.segment c.args.list.now.keys o c.places.list.keys n c.places-test.true i.part c.in-Some.element is in
     let same : c.read_guarded.new.self.known ≡ l = c.read_guarded.ensures.same ∙ i.known in
     subst (λ (x : Known). MayLink a x (lock_of x) c.in-Some.element) (sym same) (may a l c.args.map c.args.segment o.shows o.last c.in-Some.element r)
@@ -65,9 +71,12 @@ add_key-requires-clause-room c =
     let i = c.places.invariant in
     let n = c.places.place in
     let k = c.places.lane.known in
-    let guard : IsGuarded a k c.slot_place.result = subst (λ (x : Known). IsGuarded a x c.slot_place.result) (sym i.known) (subst (IsGuarded a l) (sym c.slot_place.ensures) (o.last.1, o.last.2)) in
-    let word = c.read_guarded.ensures.word guard ∙ (ap (λ (x : Known). mem a.shape (lock_of x).copy c.slot_place.result) i.known ∙ ap (mem a.shape (lock_of l).copy) c.slot_place.ensures) in
-    let is : item ((image a (lock_of l).copy).slot c.args.map c.args.segment n) ≡ Some c.in-Some.element = ap item (sym word) ∙ (sym c.item.ensures ∙ c.in-Some.is) in
+    let guard : IsGuarded a k c.slot_place.result = subst (λ (x : Known). IsGuarded a x c.slot_place.result) (sym i.known)
+    (subst (IsGuarded a l) (sym c.slot_place.ensures) (o.last.1, o.last.2)) in
+    let word = c.read_guarded.ensures.word guard ∙ (ap (λ (x : Known). mem a.shape (lock_of x).copy c.slot_place.result) i.known ∙ ap
+    (mem a.shape (lock_of l).copy) c.slot_place.ensures) in
+    let is : item ((image a (lock_of l).copy).slot c.args.map c.args.segment n) ≡ Some c.in-Some.element = ap item (sym word) ∙
+    (sym c.item.ensures ∙ c.in-Some.is) in
     place_room a l c.args.map c.args.segment c.args.list.now.keys o c.places.list.keys n c.places-test.true i.part c.in-Some.element is
 
 pub places-preserved : goal.places-preserved
@@ -78,16 +87,21 @@ places-preserved c =
     let i = c.places.invariant in
     let n = c.places.place in
     let k = c.places.lane.known in
-    let guard : IsGuarded a k c.slot_place.result = subst (λ (x : Known). IsGuarded a x c.slot_place.result) (sym i.known) (subst (IsGuarded a l) (sym c.slot_place.ensures) (o.last.1, o.last.2)) in
-    let word = c.read_guarded.ensures.word guard ∙ (ap (λ (x : Known). mem a.shape (lock_of x).copy c.slot_place.result) i.known ∙ ap (mem a.shape (lock_of l).copy) c.slot_place.ensures) in
-    let is : item ((image a (lock_of l).copy).slot c.args.map c.args.segment n) ≡ Some c.in-Some.element = ap item (sym word) ∙ (sym c.item.ensures ∙ c.in-Some.is) in
+    let guard : IsGuarded a k c.slot_place.result = subst (λ (x : Known). IsGuarded a x c.slot_place.result) (sym i.known)
+    (subst (IsGuarded a l) (sym c.slot_place.ensures) (o.last.1, o.last.2)) in
+    let word = c.read_guarded.ensures.word guard ∙ (ap (λ (x : Known). mem a.shape (lock_of x).copy c.slot_place.result) i.known ∙ ap
+    (mem a.shape (lock_of l).copy) c.slot_place.ensures) in
+    let is : item ((image a (lock_of l).copy).slot c.args.map c.args.segment n) ≡ Some c.in-Some.element = ap item (sym word) ∙
+    (sym c.item.ensures ∙ c.in-Some.is) in
     let same : c.read_guarded.new.self.known ≡ l = c.read_guarded.ensures.same ∙ i.known in
-    let more = c.add_key.ensures.key ∙ ap (λ (x : Known). c.places.list.keys ++ spelled_key a c.args.map (image a (lock_of x).copy) c.in-Some.element ∷ []) same in
+    let more = c.add_key.ensures.key ∙ ap (λ (x : Known). c.places.list.keys ++ spelled_key a c.args.map (image a (lock_of x).copy)
+    c.in-Some.element ∷ []) same in
     record {
       table = c.add_key.ensures.table ∙ (c.read_guarded.ensures.table ∙ i.table);
       known = c.add_key.ensures.known ∙ same;
       list = c.add_key.ensures.list ∙ i.list;
-      part = place_more a l c.args.map c.args.segment c.args.list.now.keys o c.places.list.keys n c.places-test.true i.part c.in-Some.element is c.add_key.new.list.keys more;
+      part = place_more a l c.args.map c.args.segment c.args.list.now.keys o c.places.list.keys n c.places-test.true i.part
+          c.in-Some.element is c.add_key.new.list.keys more;
     }
 
 pub places-preserved-in_default : goal.places-preserved-in_default
@@ -98,8 +112,10 @@ places-preserved-in_default c =
     let i = c.places.invariant in
     let n = c.places.place in
     let k = c.places.lane.known in
-    let guard : IsGuarded a k c.slot_place.result = subst (λ (x : Known). IsGuarded a x c.slot_place.result) (sym i.known) (subst (IsGuarded a l) (sym c.slot_place.ensures) (o.last.1, o.last.2)) in
-    let word = c.read_guarded.ensures.word guard ∙ (ap (λ (x : Known). mem a.shape (lock_of x).copy c.slot_place.result) i.known ∙ ap (mem a.shape (lock_of l).copy) c.slot_place.ensures) in
+    let guard : IsGuarded a k c.slot_place.result = subst (λ (x : Known). IsGuarded a x c.slot_place.result) (sym i.known)
+    (subst (IsGuarded a l) (sym c.slot_place.ensures) (o.last.1, o.last.2)) in
+    let word = c.read_guarded.ensures.word guard ∙ (ap (λ (x : Known). mem a.shape (lock_of x).copy c.slot_place.result) i.known ∙ ap
+    (mem a.shape (lock_of l).copy) c.slot_place.ensures) in
     let is : item ((image a (lock_of l).copy).slot c.args.map c.args.segment n) ≡ None = ap item (sym word) ∙ (sym c.item.ensures ∙ c.in_default.is) in
     let same : c.read_guarded.new.self.known ≡ l = c.read_guarded.ensures.same ∙ i.known in
     record {

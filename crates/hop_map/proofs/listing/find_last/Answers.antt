@@ -10,7 +10,8 @@ pub down-init : goal.down-init
 down-init g c = record {
   table = refl;
   kept = refl;
-  covers = (let e : c.args.count ≡ c.args.count - 0 = omega arith in subst (λ (i : ℕ). Covers c.args.table.now.about c.args.map i c.args.lane.now.known.locks) e c.requires.covers);
+  covers = (let e : c.args.count ≡ c.args.count - 0 = omega arith in subst
+      (λ (i : ℕ). Covers c.args.table.now.about c.args.map i c.args.lane.now.known.locks) e c.requires.covers);
 }
 
 pub has_lock-requires-clause-table : goal.has_lock-requires-clause-table
@@ -48,12 +49,15 @@ returns-then-has_lock-clause-last g c = c.if-has_lock.ensures.last refl
 pub returns-then-has_lock-clause-covers : goal.returns-then-has_lock-clause-covers
 returns-then-has_lock-clause-covers g c =
     let e : c.args.count - c.down.passed ≡ c.args.count - 1 - c.down.passed + 1 = omega arith in
-    subst (λ (ks : List Lock). Covers c.args.table.now.about c.args.map (c.args.count - 1 - c.down.passed + 1) ks) (sym (ap (λ (x : Known). x.locks) c.has_lock.ensures.kept))
+    subst (λ (ks : List Lock). Covers c.args.table.now.about c.args.map (c.args.count - 1 - c.down.passed + 1) ks)
+    (sym (ap (λ (x : Known). x.locks) c.has_lock.ensures.kept))
     (subst (λ (i : ℕ). Covers c.args.table.now.about c.args.map i c.down.lane.known.locks) e c.down.invariant.covers)
 
 pub unreachable-requires : goal.unreachable-requires
 unreachable-requires g c =
     let e : c.args.count - c.down.passed ≡ 0 = (let t = c.down-test.false in omega arith) in
-    let none = covers_none c.args.table.now.about c.args.map c.down.lane.known.locks (subst (λ (i : ℕ). Covers c.args.table.now.about c.args.map i c.down.lane.known.locks) e c.down.invariant.covers) in
-    let here : IsOwnedAmong 0 c.down.lane.known.locks = subst (IsOwnedAmong 0) (sym (ap (λ (x : Known). x.locks) c.down.invariant.kept)) (c.requires.covers.owned 0 c.requires.some) in
+    let none = covers_none c.args.table.now.about c.args.map c.down.lane.known.locks
+    (subst (λ (i : ℕ). Covers c.args.table.now.about c.args.map i c.down.lane.known.locks) e c.down.invariant.covers) in
+    let here : IsOwnedAmong 0 c.down.lane.known.locks = subst (IsOwnedAmong 0) (sym (ap (λ (x : Known). x.locks) c.down.invariant.kept))
+    (c.requires.covers.owned 0 c.requires.some) in
     subst (IsOwnedAmong 0) none here

@@ -8,7 +8,8 @@ use Rattle.hop_words.specs.Locking.{lock_of, other_locks, HasLastLock}
 use Rattle.hop_words.specs.Listing.{ListsSegment, ListsMap}
 use Rattle.hop_map.specs.Private.Listing.{Gathers, Covers, IsOwnedAmong, NotesLocks, LocksMore, Listed}
 use Rattle.hop_map.proofs.Homes.{some_power}
-use Rattle.hop_map.proofs.Gathering.{takes_one, notes_none, notes_read, locked_on, locked_read, gathers_none, covers_others, covers_none, lists_map, listed_whole, unlocked_on, passed_on, passed_gives, gives_on}
+use Rattle.hop_map.proofs.Gathering.{takes_one, notes_none, notes_read, locked_on, locked_read, gathers_none, covers_others, covers_none}
+use Rattle.hop_map.proofs.Gathering.{lists_map, listed_whole, unlocked_on, passed_on, passed_gives, gives_on}
 use Rattle.hop_map.proofs.listing.list_keys.Goals as goal
 
 pub segments-init : goal.segments-init
@@ -17,7 +18,8 @@ segments-init g c = record {
   list = c.clear.ensures.shape;
   locks = refl;
   noted = notes_none c.args.table.now.about c.args.lane.now.known c.args.map c.requires.idle;
-  gathers = subst (Gathers c.args.table.now.about c.args.lane.now.known c.args.map 0) (sym c.clear.ensures.keys) (gathers_none c.args.table.now.about c.args.lane.now.known c.args.map c.requires.idle);
+  gathers = subst (Gathers c.args.table.now.about c.args.lane.now.known c.args.map 0) (sym c.clear.ensures.keys)
+      (gathers_none c.args.table.now.about c.args.lane.now.known c.args.map c.requires.idle);
 }
 
 pub segments-preserved : goal.segments-preserved
@@ -66,7 +68,8 @@ find_last-last-requires-clause-covers g c =
     g0.covers
 
 pub unlock_keys-requires-clause-lock : goal.unlock_keys-requires-clause-lock
-unlock_keys-requires-clause-lock g c = subst (λ (l : Known). HasLastLock l c.args.map c.find_last-last.result) (sym c.read_locked_stamp-stamp.ensures.same) c.find_last-last.ensures.last
+unlock_keys-requires-clause-lock g c = subst (λ (l : Known). HasLastLock l c.args.map c.find_last-last.result)
+    (sym c.read_locked_stamp-stamp.ensures.same) c.find_last-last.ensures.last
 
 pub unlock_keys-requires-clause-lists : goal.unlock_keys-requires-clause-lists
 unlock_keys-requires-clause-lists g c =
@@ -95,11 +98,13 @@ others-init g c =
     let q = c.find_last-last in
     let l1 = q.new.lane.known in
     let given = c.unlock_keys.ensures.listed in
-    let locks : c.unlock_keys.new.self.known.locks ≡ other_locks l1 = ap (λ (x : Known). x.locks) given.2 ∙ (ap (λ (x : Known). x.locks) given.1.after ∙ ap (λ (x : Known). other_locks x) c.read_locked_stamp-stamp.ensures.same) in
+    let locks : c.unlock_keys.new.self.known.locks ≡ other_locks l1 = ap (λ (x : Known). x.locks) given.2 ∙
+    (ap (λ (x : Known). x.locks) given.1.after ∙ ap (λ (x : Known). other_locks x) c.read_locked_stamp-stamp.ensures.same) in
     let none : q.result - 0 ≡ q.result = omega arith in
     record {
       table = refl;
-      covers = subst (λ (i : ℕ). Covers a m i c.unlock_keys.new.self.known.locks) (sym none) (subst (Covers a m q.result) (sym locks) (covers_others a l1 m q.result q.ensures.last q.ensures.covers));
+      covers = subst (λ (i : ℕ). Covers a m i c.unlock_keys.new.self.known.locks) (sym none)
+          (subst (Covers a m q.result) (sym locks) (covers_others a l1 m q.result q.ensures.last q.ensures.covers));
       kept = refl;
       gives = refl;
     }
@@ -142,8 +147,10 @@ others-preserved g c =
     record {
       table = c.unlock_last.ensures.table ∙ (c.has_lock.ensures.table ∙ i.table);
       covers = subst (λ (j : ℕ). Covers a m j c.unlock_last.new.lane.known.locks) e c.unlock_last.ensures.covers;
-      kept = unlocked_on c.unlock_keys.new.self.known c.others.lane.known c.has_lock.new.lane.known c.unlock_last.new.lane.known i.kept c.has_lock.ensures.kept c.unlock_last.ensures.given;
-      gives = gives_on c.others.lane.known c.has_lock.new.lane.known c.unlock_last.new.lane.known c.has_lock.ensures.kept (c.if-not-has_lock.ensures.last refl).0 c.unlock_last.ensures.given ∙ i.gives;
+      kept = unlocked_on c.unlock_keys.new.self.known c.others.lane.known c.has_lock.new.lane.known c.unlock_last.new.lane.known i.kept
+          c.has_lock.ensures.kept c.unlock_last.ensures.given;
+      gives = gives_on c.others.lane.known c.has_lock.new.lane.known c.unlock_last.new.lane.known c.has_lock.ensures.kept
+          (c.if-not-has_lock.ensures.last refl).0 c.unlock_last.ensures.given ∙ i.gives;
     }
 
 pub others-preserved-then-not-has_lock : goal.others-preserved-then-not-has_lock
@@ -183,7 +190,10 @@ returns-clause-listed g c =
     let locked : LocksMore l l2 = subst (LocksMore l) (sym same) (locked_read l l0 l1 c.segments.invariant.locks q.ensures.kept) in
     let none : q.result - c.others.left ≡ 0 = omega arith in
     let empty = covers_none a m l3.locks (subst (λ (i : ℕ). Covers a m i l3.locks) none c.others.invariant.covers) in
-    let noted = subst (λ (x : Known). NotesLocks a l m (segments (shape_at a m)) x) (sym same) (notes_read a l m (segments (shape_at a m)) l0 l1 (subst (λ (i : ℕ). NotesLocks a l m i l0) (all ∙ is) c.segments.invariant.noted) q.ensures.kept) in
+    let noted = subst (λ (x : Known). NotesLocks a l m (segments (shape_at a m)) x) (sym same)
+    (notes_read a l m (segments (shape_at a m)) l0 l1 (subst (λ (i : ℕ). NotesLocks a l m i l0) (all ∙ is)
+    c.segments.invariant.noted) q.ensures.kept) in
     let last = subst (λ (x : Known). x.locks ≡ lock_of x ∷ other_locks x) (sym same) q.ensures.last.0 in
     subst (λ (keys : List (List ℕ)). Listed a l m keys l3) (sym c.sort.ensures.keys)
-    (listed_whole a l l2 c.unlock_keys.new.self.known l3 m (in_order c.segments.list.keys) c.requires.idle locked noted last c.unlock_keys.ensures.listed c.others.invariant.kept c.others.invariant.gives empty)
+    (listed_whole a l l2 c.unlock_keys.new.self.known l3 m (in_order c.segments.list.keys) c.requires.idle locked noted last
+    c.unlock_keys.ensures.listed c.others.invariant.kept c.others.invariant.gives empty)

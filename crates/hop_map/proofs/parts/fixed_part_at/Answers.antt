@@ -31,7 +31,8 @@ returns-clause-changes c = λ l h.
     let at = c.args.at.at in
     let n : ℕ = (at - 0x10_0000_0000) % 0x1000_0000 in
     let is : (at - 0x10_0000_0000) / 0x1000_0000 - 16 ≡ h.fixed.place.number = (let area = part_area a s c.args.size at h.fixed.place in omega arith) in
-    subst (λ (b : ℕ). ChangesFixedValue a l b (n / 8) (n % 8) (bytes_in c.args.size)) (sym is) (part_changes a s c.args.size at h.fixed.place l h.fixed.runs h.writable)
+    subst (λ (b : ℕ). ChangesFixedValue a l b (n / 8) (n % 8) (bytes_in c.args.size)) (sym is)
+    (part_changes a s c.args.size at h.fixed.place l h.fixed.runs h.writable)
 
 pub returns-clause-at : goal.returns-clause-at
 returns-clause-at c =

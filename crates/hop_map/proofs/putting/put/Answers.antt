@@ -10,7 +10,8 @@ use Rattle.hop_map.proofs.putting.put.Goals as goal
 
 pub unlock_update-requires-clause-answers : goal.unlock_update-requires-clause-answers
 unlock_update-requires-clause-answers g c =
-    subst (λ (z : Locked). Ready z.about z.known z.map z.segment → AnswersUnderLock z.about z.known (lock_of z.known) (Update z.map c.args.key.now c.args.value.now c.args.flags c.in-Refuses.answer)) (sym c.judge.ensures.same)
+    subst (λ (z : Locked). Ready z.about z.known z.map z.segment → AnswersUnderLock z.about z.known (lock_of z.known)
+    (Update z.map c.args.key.now c.args.value.now c.args.flags c.in-Refuses.answer)) (sym c.judge.ensures.same)
     c.in-Refuses.ensures.judges.3
 
 pub put_over-lane-requires-clause-there : goal.put_over-lane-requires-clause-there

@@ -16,14 +16,16 @@ see_lack-answer-requires-clause-absent c =
 
 pub unlock_update-requires-clause-answers : goal.unlock_update-requires-clause-answers
 unlock_update-requires-clause-answers c =
-    subst (λ (z : Locked). Ready z.about z.known z.map z.segment → AnswersUnderLock z.about z.known (lock_of z.known) (Update z.map c.args.key.now c.args.value.now c.args.flags c.in-Refuses.answer)) (sym c.judge.ensures.same)
+    subst (λ (z : Locked). Ready z.about z.known z.map z.segment → AnswersUnderLock z.about z.known (lock_of z.known)
+    (Update z.map c.args.key.now c.args.value.now c.args.flags c.in-Refuses.answer)) (sym c.judge.ensures.same)
     c.in-Refuses.ensures.judges.3
 
 pub unlock_update-requires-in-There-clause-answers : goal.unlock_update-requires-in-There-clause-answers
 unlock_update-requires-in-There-clause-answers c =
     let j = c.in-There.ensures.judges in
     let there = pair_there (seen_words c.args.words) c.args.key.now c.in-There.field-0 j.2 in
-    subst (λ (z : Locked). Ready z.about z.known z.map z.segment → AnswersUnderLock z.about z.known (lock_of z.known) (Update z.map c.args.key.now c.args.value.now c.args.flags NoMemory)) (sym c.judge.ensures.same)
+    subst (λ (z : Locked). Ready z.about z.known z.map z.segment → AnswersUnderLock z.about z.known (lock_of z.known)
+    (Update z.map c.args.key.now c.args.value.now c.args.flags NoMemory)) (sym c.judge.ensures.same)
     (lacking_answers c.args.words c.args.key.now c.args.value.now c.args.flags c.requires.contents c.requires.wants c.requires.lacks j.1 there.0 there.1)
 
 pub see_lack-answer-requires-clause-lacks : goal.see_lack-answer-requires-clause-lacks

@@ -9,9 +9,11 @@ use Rattle.hop_map.proofs.reaching.store_part.Goals as goal
 pub store_part_at-requires-clause-held : goal.store_part_at-requires-clause-held
 store_part_at-requires-clause-held g c =
     let shaped = subst (λ (x : About). IsShape x.shape) c.about.ensures c.cpus-cpus.ensures.in_range in
-    changes_held c.args.table.now.about c.args.lane.now.known c.args.at.at (bytes_in c.args.size) shaped (some_bytes c.args.size) c.if-at-eq0.true c.requires.place
+    changes_held c.args.table.now.about c.args.lane.now.known c.args.at.at (bytes_in c.args.size) shaped (some_bytes c.args.size)
+    c.if-at-eq0.true c.requires.place
 
 pub store_fixed_part-requires-clause-free : goal.store_fixed_part-requires-clause-free
 store_fixed_part-requires-clause-free g c =
     let shaped = subst (λ (x : About). IsShape x.shape) c.about.ensures c.cpus-cpus.ensures.in_range in
-    changes_fixed c.args.table.now.about c.args.lane.now.known c.args.at.at (bytes_in c.args.size) shaped (some_bytes c.args.size) c.if-at-eq0.false c.requires.place
+    changes_fixed c.args.table.now.about c.args.lane.now.known c.args.at.at (bytes_in c.args.size) shaped (some_bytes c.args.size)
+    c.if-at-eq0.false c.requires.place

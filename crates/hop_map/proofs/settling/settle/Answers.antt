@@ -31,9 +31,12 @@ taken-preserved c =
     let nothing : HasNothing lane.known = subst (λ (o : Option Standing). HasNothing (standing_in o).known) c.in-Some-lane.is c.port.invariant.1 in (
       c.take.ensures.table ∙ i.0,
       append_assoc c.taken.yielded (port ∷ []) rest ∙ (ap (λ (l : List Port). c.taken.yielded ++ l) (sym c.in-Some.ensures.steps.0) ∙ i.1),
-      c.take.ensures.taken ∙ (ap (λ (ls : List Known). ls ++ lane.known ∷ []) i.2 ∙ (ap (λ (k : Known). map known_of c.taken.yielded ++ k ∷ []) known ∙ sym (map_snoc c.taken.yielded port))),
-      subst (All HasNothing) (sym c.take.ensures.taken) (All-append HasNothing c.taken.back.lanes (lane.known ∷ []) i.3 (All-cons HasNothing lane.known [] nothing (All-nil HasNothing))),
-      one_more aside_parts port_parts c.taken.asides.items c.push.new.self.items c.taken.yielded _ port c.in_ok-push.ensures.items (ap port_parts c.port.view_is) i.4,
+      c.take.ensures.taken ∙ (ap (λ (ls : List Known). ls ++ lane.known ∷ []) i.2 ∙
+          (ap (λ (k : Known). map known_of c.taken.yielded ++ k ∷ []) known ∙ sym (map_snoc c.taken.yielded port))),
+      subst (All HasNothing) (sym c.take.ensures.taken) (All-append HasNothing c.taken.back.lanes (lane.known ∷ []) i.3
+          (All-cons HasNothing lane.known [] nothing (All-nil HasNothing))),
+      one_more aside_parts port_parts c.taken.asides.items c.push.new.self.items c.taken.yielded _ port c.in_ok-push.ensures.items
+          (ap port_parts c.port.view_is) i.4,
     )
 
 pub given-init : goal.given-init
@@ -59,13 +62,19 @@ give-lane-requires-clause-first c =
     let none_left = c.in-None.ensures.steps.0 in
     let all : c.taken.yielded ≡ ports = all_of c.taken.yielded rest.items ports (omega (arith, rest.ok.0, none_left)) i.1 in
     let asides : map aside_parts c.taken.asides.items ≡ map port_parts ports = i.4 ∙ ap (map port_parts) all in
-    let few : length c.given.settled.items < length ports = few_given c.given.yielded c.given.aside-iterator.rest.items c.taken.asides.items c.in-Some-aside.aside c.next-in-given.new.self.rest.items c.given.settled.items ports
+    let few : length c.given.settled.items < length ports = few_given c.given.yielded c.given.aside-iterator.rest.items c.taken.asides.items
+    c.in-Some-aside.aside c.next-in-given.new.self.rest.items c.given.settled.items ports
     (g.1 ∙ c.into_iter-aside-iterator.ensures.into_iter_gives.0) c.in-Some-aside.ensures.steps.0 asides g.4 in
-    let n = next_lane c.args.table.now ports c.requires c.taken.back.lanes c.settle.new.self.lanes (i.2 ∙ ap (map known_of) all) c.settle.ensures.settled c.given.settled.items c.given.back.lanes g.2 few in
+    let n = next_lane c.args.table.now ports c.requires c.taken.back.lanes c.settle.new.self.lanes (i.2 ∙ ap (map known_of) all)
+    c.settle.ensures.settled c.given.settled.items c.given.back.lanes g.2 few in
     (n.0, n.1, n.2, n.3 ∙ sym g.5)
 
 pub invariant_of-push : goal.invariant_of-push
-invariant_of-push c = (refl, All-head HasNothing c.give-lane.result.known c.give-lane.new.self.lanes (subst (All HasNothing) c.give-lane.ensures.given.0 c.given.invariant.3))
+invariant_of-push c = (
+  refl,
+  All-head HasNothing c.give-lane.result.known c.give-lane.new.self.lanes
+      (subst (All HasNothing) c.give-lane.ensures.given.0 c.given.invariant.3),
+)
 
 pub overflow_add-cpu : goal.overflow_add-cpu
 overflow_add-cpu c =
@@ -76,7 +85,8 @@ overflow_add-cpu c =
     let none_left = c.in-None.ensures.steps.0 in
     let all : c.taken.yielded ≡ ports = all_of c.taken.yielded rest.items ports (omega (arith, rest.ok.0, none_left)) i.1 in
     let asides : map aside_parts c.taken.asides.items ≡ map port_parts ports = i.4 ∙ ap (map port_parts) all in
-    let few : length c.given.settled.items < length ports = few_given c.given.yielded c.given.aside-iterator.rest.items c.taken.asides.items c.in-Some-aside.aside c.next-in-given.new.self.rest.items c.given.settled.items ports
+    let few : length c.given.settled.items < length ports = few_given c.given.yielded c.given.aside-iterator.rest.items c.taken.asides.items
+    c.in-Some-aside.aside c.next-in-given.new.self.rest.items c.given.settled.items ports
     (g.1 ∙ c.into_iter-aside-iterator.ensures.into_iter_gives.0) c.in-Some-aside.ensures.steps.0 asides g.4 in
     let cpus : c.cpus-few.result ≡ c.args.table.now.about.shape.cpus = c.cpus-few.ensures.cpus ∙ ap (λ a. a.shape.cpus) c.about.ensures in
     let most = c.cpus-few.ensures.in_range in
@@ -95,8 +105,10 @@ given-preserved c =
     let given = c.give-lane.ensures.given in
     let IsOurs : Port → Type 0 = λ p. p.table ≡ c.args.table.now.id in (
       c.give-lane.ensures.table ∙ g.0,
-      append_assoc c.given.yielded (aside ∷ []) c.next-in-given.new.self.rest.items ∙ (ap (λ (l : List Aside). c.given.yielded ++ l) (sym c.in-Some-aside.ensures.steps.0) ∙ g.1),
-      ap (λ (ps : List Port). map known_of ps ++ left) items ∙ moved_over c.given.settled.items port lane.known c.given.back.lanes left c.settle.new.self.lanes given.0 refl g.2,
+      append_assoc c.given.yielded (aside ∷ []) c.next-in-given.new.self.rest.items ∙
+          (ap (λ (l : List Aside). c.given.yielded ++ l) (sym c.in-Some-aside.ensures.steps.0) ∙ g.1),
+      ap (λ (ps : List Port). map known_of ps ++ left) items ∙ moved_over c.given.settled.items port lane.known c.given.back.lanes left
+          c.settle.new.self.lanes given.0 refl g.2,
       All-tail HasNothing lane.known left (subst (All HasNothing) given.0 g.3),
       one_more port_parts aside_parts c.given.settled.items c.push-in-given.new.self.items c.given.yielded port aside items refl g.4,
       ap (λ (n : ℕ). n + 1) g.5 ∙ sym (ap length items ∙ length-append c.given.settled.items (port ∷ [])),
@@ -114,8 +126,10 @@ returns-clause-ports c =
     let asides : map aside_parts c.taken.asides.items ≡ map port_parts ports = i.4 ∙ ap (map port_parts) all in
     let given = c.given.aside-iterator.rest in
     let none_given = c.in-None-aside.ensures.steps.0 in
-    let back : c.given.yielded ≡ c.taken.asides.items = all_of c.given.yielded given.items c.taken.asides.items (omega (arith, given.ok.0, none_given)) (g.1 ∙ c.into_iter-aside-iterator.ensures.into_iter_gives.0) in
-    have_seen c.args.table.now ports c.requires c.taken.back.lanes c.settle.new.self.lanes (i.2 ∙ ap (map known_of) all) c.settle.ensures.settled c.given.settled.items c.given.back.lanes g.2
+    let back : c.given.yielded ≡ c.taken.asides.items = all_of c.given.yielded given.items c.taken.asides.items
+    (omega (arith, given.ok.0, none_given)) (g.1 ∙ c.into_iter-aside-iterator.ensures.into_iter_gives.0) in
+    have_seen c.args.table.now ports c.requires c.taken.back.lanes c.settle.new.self.lanes (i.2 ∙ ap (map known_of) all)
+    c.settle.ensures.settled c.given.settled.items c.given.back.lanes g.2
     (g.4 ∙ (ap (map aside_parts) back ∙ asides)) g.6
 
 pub returns-clause-history : goal.returns-clause-history
@@ -129,6 +143,8 @@ returns-clause-history c =
     let asides : map aside_parts c.taken.asides.items ≡ map port_parts ports = i.4 ∙ ap (map port_parts) all in
     let given = c.given.aside-iterator.rest in
     let none_given = c.in-None-aside.ensures.steps.0 in
-    let back : c.given.yielded ≡ c.taken.asides.items = all_of c.given.yielded given.items c.taken.asides.items (omega (arith, given.ok.0, none_given)) (g.1 ∙ c.into_iter-aside-iterator.ensures.into_iter_gives.0) in
-    whole c.args.table.now ports c.requires c.taken.back.lanes c.settle.new.self.lanes (i.2 ∙ ap (map known_of) all) c.settle.ensures.settled c.given.settled.items c.given.back.lanes g.2
+    let back : c.given.yielded ≡ c.taken.asides.items = all_of c.given.yielded given.items c.taken.asides.items
+    (omega (arith, given.ok.0, none_given)) (g.1 ∙ c.into_iter-aside-iterator.ensures.into_iter_gives.0) in
+    whole c.args.table.now ports c.requires c.taken.back.lanes c.settle.new.self.lanes (i.2 ∙ ap (map known_of) all)
+    c.settle.ensures.settled c.given.settled.items c.given.back.lanes g.2
     (g.4 ∙ (ap (map aside_parts) back ∙ asides)) g.6

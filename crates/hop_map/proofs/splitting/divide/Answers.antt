@@ -48,6 +48,8 @@ publish-requires-clause-parted c = λ r.
     let x = c.args.words in
     let y = c.split.new.words in
     let d : c.args.depth ≡ stamp_depth (lock_of x.known).stamp = c.requires.depth ∙ ap stamp_depth c.requires.stamp in
-    let stays = stays_beside_on x c.clear.new.self y (subst (λ (z : Locked). StaysBeside z c.clear.new.self) c.new-pair.ensures.same c.clear.ensures.stays) c.split.ensures.stays in
-    let sp = subst (λ (w : Words). Splits w (seen_words y) (child_front y)) (c.clear.ensures.words ∙ ap seen_words c.new-pair.ensures.same) c.split.ensures.splits in
+    let stays = stays_beside_on x c.clear.new.self y (subst (λ (z : Locked). StaysBeside z c.clear.new.self) c.new-pair.ensures.same
+    c.clear.ensures.stays) c.split.ensures.stays in
+    let sp = subst (λ (w : Words). Splits w (seen_words y) (child_front y)) (c.clear.ensures.words ∙ ap seen_words c.new-pair.ensures.same)
+    c.split.ensures.splits in
     parts_after x c.requires.contents (subst (λ (n : ℕ). x.segment < power n) d c.requires.room) y stays sp r

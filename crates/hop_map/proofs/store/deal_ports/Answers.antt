@@ -32,5 +32,6 @@ all-preserved c =
       ap (λ (ps : List Port). map known_of ps ++ rest) items
           ∙ moved_over ports port lane.known c.all.lanes.lanes rest (lanes_from a 0 a.shape.cpus) dealt.0 c.in_ok-new_port.ensures.known i.1,
       All-tail (IsNewLane a) lane.known rest (subst (All (IsNewLane a)) dealt.0 i.2),
-      subst (All (IsPortOf t)) (sym items) (All-append (IsPortOf t) ports (port ∷ []) i.3 (All-cons (IsPortOf t) port [] c.in_ok-new_port.ensures.port (All-nil (IsPortOf t)))),
+      subst (All (IsPortOf t)) (sym items) (All-append (IsPortOf t) ports (port ∷ []) i.3
+          (All-cons (IsPortOf t) port [] c.in_ok-new_port.ensures.port (All-nil (IsPortOf t)))),
     )

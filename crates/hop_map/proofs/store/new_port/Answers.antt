@@ -8,4 +8,5 @@ invariant_of-result c = (refl, starts_idle c.args.table.now.about c.args.lane.kn
 pub returns-clause-port : goal.returns-clause-port
 returns-clause-port c =
     let l = c.args.lane in
-    starts c.args.table.now l.table l.known c.in_ok-arenas.arenas.items c.in_ok-batches.batches.items c.requires.table c.requires.cpu c.requires.even c.requires.new c.in_ok-arenas.ensures c.in_ok-batches.ensures
+    starts c.args.table.now l.table l.known c.in_ok-arenas.arenas.items c.in_ok-batches.batches.items c.requires.table c.requires.cpu
+    c.requires.even c.requires.new c.in_ok-arenas.ensures c.in_ok-batches.ensures

@@ -26,7 +26,8 @@ returns-then-not-waits_for_others-clause-claimed c =
     let i = c.patience.invariant in
     let k = c.patience.lane.known in
     let l' = c.reclaim_and_claim.new.lane.known in
-    let found : ClaimsOrLacks a k c.patience.arena.map None l' = subst (λ (o : Option Element). ClaimsOrLacks a k c.patience.arena.map o l') c.in_default.is c.reclaim_and_claim.ensures.claimed in
+    let found : ClaimsOrLacks a k c.patience.arena.map None l' = subst (λ (o : Option Element). ClaimsOrLacks a k c.patience.arena.map o l')
+    c.in_default.is c.reclaim_and_claim.ensures.claimed in
     subst (λ (z : Known). ClaimsOrLacks a l m None z) (sym c.waits_for_others.ensures.same)
     (found_later a m l k l' i.keeps None (subst (λ (n : ℕ). ClaimsOrLacks a k n None l') i.arena.0 found))
 
@@ -40,12 +41,14 @@ patience-preserved c =
     let l' = c.reclaim_and_claim.new.lane.known in
     let e = c.reclaim_and_claim.ensures in
     let same = sym c.waits_for_others.ensures.same in
-    let found : ClaimsOrLacks a k c.patience.arena.map None l' = subst (λ (o : Option Element). ClaimsOrLacks a k c.patience.arena.map o l') c.in_default.is e.claimed in
+    let found : ClaimsOrLacks a k c.patience.arena.map None l' = subst (λ (o : Option Element). ClaimsOrLacks a k c.patience.arena.map o l')
+    c.in_default.is e.claimed in
     record {
       table = c.waits_for_others.ensures.table ∙ (e.table ∙ i.table);
       keeps = subst (KeepsBatches m l) same (keeps_then m l k l' i.keeps (subst (λ (n : ℕ). KeepsBatches n k l') i.arena.0 found.0));
       arena = subst (λ (n : ℕ). Searches a n c.reclaim_and_claim.new.arena) i.arena.0 e.arena;
-      batches = subst (λ (z : Known). AreBatchesOf a z m c.reclaim_and_claim.new.batches) same (subst (λ (n : ℕ). AreBatchesOf a l' n c.reclaim_and_claim.new.batches) i.arena.0 e.batches);
+      batches = subst (λ (z : Known). AreBatchesOf a z m c.reclaim_and_claim.new.batches) same
+          (subst (λ (n : ℕ). AreBatchesOf a l' n c.reclaim_and_claim.new.batches) i.arena.0 e.batches);
     }
 
 pub returns-clause-claimed : goal.returns-clause-claimed

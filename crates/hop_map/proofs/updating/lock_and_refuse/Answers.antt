@@ -7,27 +7,43 @@ use Rattle.hop_map.proofs.Wholes.{saw_locked}
 use Rattle.hop_map.proofs.updating.lock_and_refuse.Goals as goal
 
 pub new-words-requires : goal.new-words-requires
-new-words-requires g c = record { fits = empty_fits _ _ c.args.table.now.about c.args.lane.known c.args.map c.lock_home-taken.result.segment c.lock_home-taken.result.stamp _ _ c.lock_home-taken.ensures.taken.inside c.lock_home-taken.new.lane.known c.lock_home-taken.ensures.taken.locked c.requires.empty c.requires.idle (c.lock_home-taken.ensures.table ∙ c.requires.table) c.homing-at.ensures.key c.homing-at.ensures.small c.homing-at.ensures.elements }
+new-words-requires g c = record {
+  fits = empty_fits _ _ c.args.table.now.about c.args.lane.known c.args.map c.lock_home-taken.result.segment
+      c.lock_home-taken.result.stamp _ _ c.lock_home-taken.ensures.taken.inside c.lock_home-taken.new.lane.known
+      c.lock_home-taken.ensures.taken.locked c.requires.empty c.requires.idle (c.lock_home-taken.ensures.table ∙ c.requires.table)
+      c.homing-at.ensures.key c.homing-at.ensures.small c.homing-at.ensures.elements;
+}
 
 pub refuse-requires-clause-contents : goal.refuse-requires-clause-contents
 refuse-requires-clause-contents g c =
     let made = c.new-words.ensures in
-    of_words c.new-words.result _ _ _ _ made.about made.known made.map made.segment LockShows (locked_contents c.args.table.now.about c.args.lane.known c.args.map c.lock_home-taken.result.segment c.lock_home-taken.result.stamp c.lock_home-taken.ensures.taken.inside c.lock_home-taken.new.lane.known c.lock_home-taken.ensures.taken.locked)
+    of_words c.new-words.result _ _ _ _ made.about made.known made.map made.segment LockShows
+    (locked_contents c.args.table.now.about c.args.lane.known c.args.map c.lock_home-taken.result.segment c.lock_home-taken.result.stamp
+    c.lock_home-taken.ensures.taken.inside c.lock_home-taken.new.lane.known c.lock_home-taken.ensures.taken.locked)
 
 pub refuse-requires-clause-wants : goal.refuse-requires-clause-wants
 refuse-requires-clause-wants g c =
     let made = c.new-words.ensures in
     of_words c.new-words.result _ _ _ _ made.about made.known made.map made.segment (λ a l m s. Wants a l m s c.args.key.now c.args.value.now c.args.flags)
-    (locked_wants c.args.table.now.about c.args.lane.known c.args.map c.lock_home-taken.result.segment c.lock_home-taken.result.stamp c.args.key.now c.args.value.now c.args.flags c.lock_home-taken.new.lane.known c.lock_home-taken.ensures.taken.locked c.requires.brought (taken_home c.args.table.now.about c.args.lane.known c.args.map c.lock_home-taken.result.segment c.lock_home-taken.result.stamp c.homing-at.result.home c.args.key.now c.lock_home-taken.new.lane.known c.homing-at.ensures.home c.lock_home-taken.ensures.taken))
+    (locked_wants c.args.table.now.about c.args.lane.known c.args.map c.lock_home-taken.result.segment c.lock_home-taken.result.stamp
+    c.args.key.now c.args.value.now c.args.flags c.lock_home-taken.new.lane.known c.lock_home-taken.ensures.taken.locked
+    c.requires.brought (taken_home c.args.table.now.about c.args.lane.known c.args.map c.lock_home-taken.result.segment
+    c.lock_home-taken.result.stamp c.homing-at.result.home c.args.key.now c.lock_home-taken.new.lane.known c.homing-at.ensures.home
+    c.lock_home-taken.ensures.taken))
 
 pub returns-clause-refused : goal.returns-clause-refused
 returns-clause-refused g c =
     let made = c.new-words.ensures in (
       c.lock_home-taken.result.segment,
       c.lock_home-taken.result.stamp,
-      taken_own c.args.table.now.about c.args.lane.known c.args.map c.lock_home-taken.result.segment c.lock_home-taken.result.stamp c.homing-at.result.home c.args.key.now c.lock_home-taken.new.lane.known c.homing-at.ensures.home c.lock_home-taken.ensures.taken,
-      refusal_before c.args.table.now.about c.args.lane.known c.args.map c.lock_home-taken.result.segment c.lock_home-taken.result.stamp c.args.key.now c.args.value.now c.args.flags c.lock_home-taken.new.lane.known c.lock_home-taken.ensures.taken.locked c.requires.idle c.refuse.result.1 c.refuse.result.0.known
-          (of_parts c.new-words.result _ _ _ _ made.about made.known made.map made.segment (λ a l m s. Refusal a l m c.args.key.now c.args.value.now c.args.flags c.refuse.result.1 c.refuse.result.0.known) c.refuse.ensures.refused),
+      taken_own c.args.table.now.about c.args.lane.known c.args.map c.lock_home-taken.result.segment c.lock_home-taken.result.stamp
+          c.homing-at.result.home c.args.key.now c.lock_home-taken.new.lane.known c.homing-at.ensures.home c.lock_home-taken.ensures.taken,
+      refusal_before c.args.table.now.about c.args.lane.known c.args.map c.lock_home-taken.result.segment c.lock_home-taken.result.stamp
+          c.args.key.now c.args.value.now c.args.flags c.lock_home-taken.new.lane.known c.lock_home-taken.ensures.taken.locked
+          c.requires.idle c.refuse.result.1 c.refuse.result.0.known
+          (of_parts c.new-words.result _ _ _ _ made.about made.known made.map made.segment
+          (λ a l m s. Refusal a l m c.args.key.now c.args.value.now c.args.flags c.refuse.result.1 c.refuse.result.0.known)
+          c.refuse.ensures.refused),
       c.refuse.ensures.order,
     )
 
@@ -35,4 +51,5 @@ pub refuse-requires-clause-lacks : goal.refuse-requires-clause-lacks
 refuse-requires-clause-lacks g c =
     let made = c.new-words.ensures in
     of_words c.new-words.result _ _ _ _ made.about made.known made.map made.segment (λ a l m s. SawAllTaken a l m)
-    (saw_locked c.args.table.now.about c.args.lane.known c.args.map c.lock_home-taken.result.segment c.lock_home-taken.result.stamp c.lock_home-taken.new.lane.known c.lock_home-taken.ensures.taken.locked c.requires.lacks)
+    (saw_locked c.args.table.now.about c.args.lane.known c.args.map c.lock_home-taken.result.segment c.lock_home-taken.result.stamp
+    c.lock_home-taken.new.lane.known c.lock_home-taken.ensures.taken.locked c.requires.lacks)

@@ -51,7 +51,9 @@ returns-then-flags-gt2-clause-noted g c =
 pub returns-in-Some-clause-noted : goal.returns-in-Some-clause-noted
 returns-in-Some-clause-noted g c =
     let kept = c.in-Some.ensures.claimed.0 in
-    notes_after c.args.table.now.about c.args.lane.known c.claim_free.new.lane.known c.args.map c.args.key.now c.args.value.now c.args.flags c.fill_and_put.result.1 c.fill_and_put.result.0.known kept.sights.0 c.if-flags-gt2.false kept.sights.1 kept.sights.2 c.fill_and_put.ensures.noted
+    notes_after c.args.table.now.about c.args.lane.known c.claim_free.new.lane.known c.args.map c.args.key.now c.args.value.now c.args.flags
+    c.fill_and_put.result.1 c.fill_and_put.result.0.known kept.sights.0 c.if-flags-gt2.false kept.sights.1 kept.sights.2
+    c.fill_and_put.ensures.noted
 
 pub returns-in-None-clause-noted : goal.returns-in-None-clause-noted
 returns-in-None-clause-noted g c =
@@ -64,7 +66,8 @@ returns-in-None-clause-noted g c =
     let refused = c.lock_and_refuse-lane.ensures.refused in
     let kept = c.in-None.ensures.claimed.0 in
     notes_after a c.args.lane.known l1 m key c.args.value.now c.args.flags answer l2 kept.sights.0 c.if-flags-gt2.false kept.sights.1 kept.sights.2
-    (update_notes a l1 m key answer l2 refused.0 refused.1 refused.2 [] (ap (λ (q : Known). q.tally) refused.3.after) tt refused.4 c.args.value.now c.args.flags c.if-flags-gt2.false)
+    (update_notes a l1 m key answer l2 refused.0 refused.1 refused.2 [] (ap (λ (q : Known). q.tally) refused.3.after) tt refused.4
+    c.args.value.now c.args.flags c.if-flags-gt2.false)
 
 pub lock_and_refuse-lane-requires-clause-lacks : goal.lock_and_refuse-lane-requires-clause-lacks
 lock_and_refuse-lane-requires-clause-lacks g c =
@@ -74,7 +77,8 @@ lock_and_refuse-lane-requires-clause-lacks g c =
 pub returns-in-Some-clause-spilled : goal.returns-in-Some-clause-spilled
 returns-in-Some-clause-spilled g c =
     let kept = c.in-Some.ensures.claimed.0 in
-    spilled_after c.args.map c.args.lane.known c.claim_free.new.lane.known c.fill_and_put.result.0.known c.fill_and_put.result.1 kept.sights.0 c.fill_and_put.result.2 kept.sights.1 c.fill_and_put.ensures.spilled
+    spilled_after c.args.map c.args.lane.known c.claim_free.new.lane.known c.fill_and_put.result.0.known c.fill_and_put.result.1
+    kept.sights.0 c.fill_and_put.result.2 kept.sights.1 c.fill_and_put.ensures.spilled
 
 pub fill_and_put-requires-clause-new : goal.fill_and_put-requires-clause-new
 fill_and_put-requires-clause-new g c = subst (λ (i : ℕ). HoldsNew c.claim_free.new.lane.known i c.in-Some.element.number) c.requires.arena.0

@@ -22,7 +22,8 @@ returns-in_default-clause-found g c = λ w a s.
 pub returns-then-has_key-clause-found : goal.returns-then-has_key-clause-found
 returns-then-has_key-clause-found g c = λ w a s.
     let P : ℕ → Type 0 = λ e. element_key w e ≢ c.args.key.now in
-    let k = subst (λ (o : Option ℕ). Counted w P c.loop-passed.before o c.loop-passed._passed) c.in-Some.is (c.loop-passed.invariant.walk w (g.met.S.SegReads.agreed_before _ _ w c.has_key.ensures.rests a) s) in
+    let k = subst (λ (o : Option ℕ). Counted w P c.loop-passed.before o c.loop-passed._passed) c.in-Some.is
+    (c.loop-passed.invariant.walk w (g.met.S.SegReads.agreed_before _ _ w c.has_key.ensures.rests a) s) in
     let here = walk_at w s P c.loop-passed.before c.in-Some.element k.walk in
     (here.link, (c.if-has_key.ensures.value w a (listed_known w s c.in-Some.element here.link.listed)).0 refl)
 
@@ -33,10 +34,12 @@ loop-passed-preserved g c = record {
       let P : ℕ → Type 0 = λ e. element_key w e ≢ c.args.key.now in
       let e = c.in-Some.element in
       let keyed = g.met.S.SegReads.agreed_before _ _ w c.next-at.ensures.rests a in
-      let k = subst (λ (o : Option ℕ). Counted w P c.loop-passed.before o c.loop-passed._passed) c.in-Some.is (c.loop-passed.invariant.walk w (g.met.S.SegReads.agreed_before _ _ w c.has_key.ensures.rests keyed) s) in
+      let k = subst (λ (o : Option ℕ). Counted w P c.loop-passed.before o c.loop-passed._passed) c.in-Some.is
+      (c.loop-passed.invariant.walk w (g.met.S.SegReads.agreed_before _ _ w c.has_key.ensures.rests keyed) s) in
       let known = listed_known w s e (walk_at w s P c.loop-passed.before e k.walk).link.listed in
       let other : element_key w e ≢ c.args.key.now = λ same. no_true ((c.if-has_key.ensures.value w keyed known).1 same) in
-      subst (λ (o : Option ℕ). Counted w P (Some e) o (c.loop-passed._passed + 1)) (sym (c.next-at.ensures.value w a known)) (counted_on w s P c.loop-passed.before e c.loop-passed._passed k other);
+      subst (λ (o : Option ℕ). Counted w P (Some e) o (c.loop-passed._passed + 1)) (sym (c.next-at.ensures.value w a known))
+      (counted_on w s P c.loop-passed.before e c.loop-passed._passed k other);
   reads =
       let b = 1 + g.S.SegReads.key_words c.args.words.now in
       let same = g.met.S.SegReads.rests_alike _ _ c.loop-passed.invariant.rests in
@@ -51,19 +54,22 @@ pub returns-clause-found : goal.returns-clause-found
 returns-clause-found g c = λ w a s.
     let P : ℕ → Type 0 = λ e. element_key w e ≢ c.args.key.now in
     let few = c.elements-elements.ensures.limit w (g.met.S.SegReads.agreed_before _ _ w c.loop-passed.invariant.rests a) in
-    counted_ends w s P c.loop-passed.before c.loop-passed.at c.loop-passed._passed (omega (arith, few, c.loop-passed-test.false)) (c.loop-passed.invariant.walk w a s)
+    counted_ends w s P c.loop-passed.before c.loop-passed.at c.loop-passed._passed (omega (arith, few, c.loop-passed-test.false))
+    (c.loop-passed.invariant.walk w a s)
 
 pub returns-in_default-clause-reads : goal.returns-in_default-clause-reads
 returns-in_default-clause-reads g c =
     let b = 1 + g.S.SegReads.key_words c.args.words.now in
-    let few = no_more c.loop-passed._passed (g.S.SegReads.count c.args.words.now) b (let n = c.elements-elements.ensures.count in let t = c.loop-passed-test.true in omega arith) in
+    let few = no_more c.loop-passed._passed (g.S.SegReads.count c.args.words.now) b
+    (let n = c.elements-elements.ensures.count in let t = c.loop-passed-test.true in omega arith) in
     let r = c.loop-passed.invariant.reads in
     omega arith
 
 pub returns-then-has_key-clause-reads : goal.returns-then-has_key-clause-reads
 returns-then-has_key-clause-reads g c =
     let b = 1 + g.S.SegReads.key_words c.args.words.now in
-    let few = no_more (c.loop-passed._passed + 1) (g.S.SegReads.count c.args.words.now) b (let n = c.elements-elements.ensures.count in let t = c.loop-passed-test.true in omega arith) in
+    let few = no_more (c.loop-passed._passed + 1) (g.S.SegReads.count c.args.words.now) b
+    (let n = c.elements-elements.ensures.count in let t = c.loop-passed-test.true in omega arith) in
     let more = one_more c.loop-passed._passed b in
     let r = c.loop-passed.invariant.reads in
     let h = c.has_key.ensures.reads in
@@ -73,6 +79,7 @@ returns-then-has_key-clause-reads g c =
 pub returns-clause-reads : goal.returns-clause-reads
 returns-clause-reads g c =
     let b = 1 + g.S.SegReads.key_words c.args.words.now in
-    let few = no_more c.loop-passed._passed (g.S.SegReads.count c.args.words.now) b (let n = c.elements-elements.ensures.count in let t = c.loop-passed-test.false in omega arith) in
+    let few = no_more c.loop-passed._passed (g.S.SegReads.count c.args.words.now) b
+    (let n = c.elements-elements.ensures.count in let t = c.loop-passed-test.false in omega arith) in
     let r = c.loop-passed.invariant.reads in
     omega arith

@@ -20,12 +20,15 @@ bits-preserved g c =
       rests = g.met.S.SegReads.rests_on _ _ _ c.bits.invariant.rests c.keyed_item.ensures.rests;
       left = λ w a j small set.
           elim (cases_eq j d) [
-            | inl e ↦ absurd (let q : bit_at (without_bit c.bits.left d) d ≡ 1 = subst (λ (x : ℕ). bit_at (without_bit c.bits.left d) x ≡ 1) e (subst (λ (x : ℕ). bit_at x j ≡ 1) cut set) in omega (arith, gone.1, q))
-            | inr ne ↦ c.bits.invariant.left w (before w c.keyed_item.ensures.rests a) j small (sym (gone.2 j small ne) ∙ subst (λ (x : ℕ). bit_at x j ≡ 1) cut set)
+            | inl e ↦ absurd (let q : bit_at (without_bit c.bits.left d) d ≡ 1 = subst (λ (x : ℕ). bit_at (without_bit c.bits.left d) x ≡ 1) e (subst (λ (x : ℕ). bit_at x j ≡ 1) cut set) in
+                omega (arith, gone.1, q))
+            | inr ne ↦ c.bits.invariant.left w (before w c.keyed_item.ensures.rests a) j small
+                (sym (gone.2 j small ne) ∙ subst (λ (x : ℕ). bit_at x j ≡ 1) cut set)
           ];
       passed = λ w a s b j e near.
           let old = before w c.keyed_item.ensures.rests a in
-          let none : NoneAt w c.args.bucket c.args.key.now d = c.in_default.ensures.found w a s (c.bits.invariant.left w old d c.nearest-distance.ensures.in_range c.nearest-distance.ensures.set) in
+          let none : NoneAt w c.args.bucket c.args.key.now d = c.in_default.ensures.found w a s
+          (c.bits.invariant.left w old d c.nearest-distance.ensures.in_range c.nearest-distance.ensures.set) in
           elim (cases_eq j d) [
             | inl q ↦ inr (subst (λ (x : ℕ). NoneAt w c.args.bucket c.args.key.now x) (sym q) none e near)
             | inr ne ↦ elim (c.bits.invariant.passed w old s b j e near) [
@@ -48,7 +51,8 @@ bits-preserved g c =
             (let z = c.nearest-distance.ensures.in_range in omega arith),
             (λ j low. elim (cases_eq j d) [
               | inl e ↦ subst (λ (x : ℕ). bit_at x j ≡ 0) (sym cut) (subst (λ (x : ℕ). bit_at (without_bit c.bits.left d) x ≡ 0) (sym e) gone.1)
-              | inr ne ↦ subst (λ (x : ℕ). bit_at x j ≡ 0) (sym cut) (gone.2 j (let z = c.nearest-distance.ensures.in_range in omega arith) ne ∙ c.nearest-distance.ensures.first j (omega arith))
+              | inr ne ↦ subst (λ (x : ℕ). bit_at x j ≡ 0) (sym cut)
+                  (gone.2 j (let z = c.nearest-distance.ensures.in_range in omega arith) ne ∙ c.nearest-distance.ensures.first j (omega arith))
             ]),
             omega (arith, r.3, same.1),
           );

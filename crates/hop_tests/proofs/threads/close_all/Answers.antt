@@ -17,5 +17,6 @@ backs-preserved c =
     let whole : c.backs.yielded ++ back ∷ rest ≡ c.args.backs.items = ap (λ (l : List Back). c.backs.yielded ++ l) (sym c.in-Some.ensures.steps.0) ∙ i.0 in
     let this = here (λ (b : Back). fits b.port) c.backs.yielded back rest (subst (All (λ (b : Back). fits b.port)) (sym whole) c.requires.fit) in (
       append_assoc c.backs.yielded (back ∷ []) rest ∙ whole,
-      subst (All fits) (sym c.in_ok-push.ensures.items) (All-append fits c.backs.ports.items (back.port ∷ []) i.1 (All-cons fits back.port [] this (All-nil fits))),
+      subst (All fits) (sym c.in_ok-push.ensures.items) (All-append fits c.backs.ports.items (back.port ∷ []) i.1
+          (All-cons fits back.port [] this (All-nil fits))),
     )

@@ -22,7 +22,8 @@ runs-preserved c =
     let w : Place → ℕ = mem a.shape c.runs.words.items in
     let count = ap (λ (x : About). x.count) c.about-in-runs.ensures in (
       c.put.ensures.sized,
-      subst (λ (v : Place → ℕ). IsPartly a v (c.runs.cpu + 1) 0 0 0) (sym (c.put.ensures.put ∙ ap (λ (n : ℕ). put_at w (RunCount c.runs.cpu) n) count)) (runs_on a w c.runs.cpu 0 0 0 c.runs.invariant.1),
+      subst (λ (v : Place → ℕ). IsPartly a v (c.runs.cpu + 1) 0 0 0)
+          (sym (c.put.ensures.put ∙ ap (λ (n : ℕ). put_at w (RunCount c.runs.cpu) n) count)) (runs_on a w c.runs.cpu 0 0 0 c.runs.invariant.1),
     )
 
 pub put_map-requires-clause-sizes : goal.put_map-requires-clause-sizes
@@ -35,5 +36,8 @@ put_map-requires-clause-sizes c =
 pub put_arrays-requires-clause-partly : goal.put_arrays-requires-clause-partly
 put_arrays-requires-clause-partly c =
     let a = c.args.index.now in
-    let n : c.maps.map ≡ length a.shape.maps = (let f = c.maps-test.false in let g = c.maps.auto.map-end in let z = ap length c.maps-shape-items.ensures.maps in let v = ap (λ (x : About). length x.shape.maps) c.about-2.ensures in omega arith) in
+    let n : c.maps.map ≡ length a.shape.maps =
+    (let f = c.maps-test.false in let g = c.maps.auto.map-end in let z = ap length c.maps-shape-items.ensures.maps in
+    let v = ap (λ (x : About). length x.shape.maps) c.about-2.ensures in omega arith)
+    in
     subst (λ (m : ℕ). IsPartly a (mem a.shape c.maps.words.items) a.shape.cpus m 0 0) n c.maps.invariant.1

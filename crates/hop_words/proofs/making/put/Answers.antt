@@ -4,7 +4,8 @@ use Rattle.hop_layout.proofs.Layouts.{at_inside, wrote}
 use Rattle.hop_words.proofs.making.put.Goals as goal
 
 pub index_mut-requires : goal.index_mut-requires
-index_mut-requires c = let i = at_inside c.args.index.now.shape c.args.place c.requires.there in let s = c.requires.sized in let w = c.word_of-word.ensures.word in omega arith
+index_mut-requires c =
+    let i = at_inside c.args.index.now.shape c.args.place c.requires.there in let s = c.requires.sized in let w = c.word_of-word.ensures.word in omega arith
 
 pub returns-clause-put : goal.returns-clause-put
 returns-clause-put c =

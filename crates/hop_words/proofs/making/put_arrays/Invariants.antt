@@ -6,4 +6,5 @@ use Rattle.hop_words.specs.Private.Made.{IsFilled}
 use Rattle.hop_words.proofs.making.put_arrays.Given as goal
 
 abbrev pub invariant-arrays : goal.invariant-arrays
-invariant-arrays l = (length l.words.items ≡ size l.fn.index.shape) × IsFilled l.fn.index (mem l.fn.index.shape l.words.items) l.array 0 × ((b : ℕ) → b < l.array → AreBytes (contents_of l.fn.index.shape b))
+invariant-arrays l = (length l.words.items ≡ size l.fn.index.shape) × IsFilled l.fn.index (mem l.fn.index.shape l.words.items) l.array 0 ×
+    ((b : ℕ) → b < l.array → AreBytes (contents_of l.fn.index.shape b))

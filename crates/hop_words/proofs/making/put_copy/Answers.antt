@@ -48,10 +48,12 @@ words-preserved c =
     let b = ap length c.requires.bytes in
     let d = c.div_ceil-word-end.ensures in
     let t = c.words-test.true in
-    let number : c.word_of.result ≡ first_word a n (c.args.first + k) = c.word_of.ensures ∙ (ap (λ (bs : List ℕ). word_of bs k) c.requires.bytes ∙ sym (copy_word a n c.args.first k c.requires.first (omega arith)).0) in (
+    let number : c.word_of.result ≡ first_word a n (c.args.first + k) = c.word_of.ensures ∙
+    (ap (λ (bs : List ℕ). word_of bs k) c.requires.bytes ∙ sym (copy_word a n c.args.first k c.requires.first (omega arith)).0) in (
       c.put.ensures.sized,
       subst (λ (v : Place → ℕ). IsFilled a v n (c.args.first + (k + 1))) (sym (c.put.ensures.put ∙ ap (put_at w (FixedWord n (c.args.first + k))) number))
-          (subst (λ (m : ℕ). IsFilled a (put_at w (FixedWord n (c.args.first + k)) (first_word a n (c.args.first + k))) n m) (let z : c.args.first + k + 1 ≡ c.args.first + (k + 1) = omega arith in z) (fixed_on a w n (c.args.first + k) c.words.invariant.1)),
+          (subst (λ (m : ℕ). IsFilled a (put_at w (FixedWord n (c.args.first + k)) (first_word a n (c.args.first + k))) n m)
+          (let z : c.args.first + k + 1 ≡ c.args.first + (k + 1) = omega arith in z) (fixed_on a w n (c.args.first + k) c.words.invariant.1)),
     )
 
 pub returns-clause-filled : goal.returns-clause-filled
@@ -65,7 +67,8 @@ returns-clause-filled c =
     let t = c.words-test.false in
     let e = c.words.auto.word-end in
     let most : length (contents_of a.shape n) ≤ 8 * k = omega arith in
-    fixed_skip a (mem a.shape c.words.words.items) n (c.args.first + k) (c.args.first + copy_stride (array_at a n) / 8) (omega arith) (λ j from low. copy_zero a n c.args.first j k c.requires.first from low most) c.words.invariant.1
+    fixed_skip a (mem a.shape c.words.words.items) n (c.args.first + k) (c.args.first + copy_stride (array_at a n) / 8) (omega arith)
+    (λ j from low. copy_zero a n c.args.first j k c.requires.first from low most) c.words.invariant.1
 
 pub returns-clause-bytes : goal.returns-clause-bytes
 returns-clause-bytes c = subst AreBytes c.requires.bytes (are_bytes c.args.bytes.now (λ i. let f = c.type_inv.bytes i in omega arith))

@@ -9,5 +9,6 @@ use Rattle.bpf_buffering.proofs.album.Album.cpus.Goals as goal
 pub returns-clause-beyond : goal.returns-clause-beyond
 returns-clause-beyond c =
     let m = c.self.inside in
-    subst (λ (a : AlbumState). (i d : ℕ) (s : BufferedState) → slice_get a.kept i ≡ Some s → c.cpus.result ≤ d → MovesTo s (TurnOf d) s × CannotMove s (FlushOf d)) c.self.view_is
+    subst (λ (a : AlbumState). (i d : ℕ) (s : BufferedState) → slice_get a.kept i ≡ Some s → c.cpus.result ≤ d → MovesTo s (TurnOf d) s ×
+    CannotMove s (FlushOf d)) c.self.view_is
     (beyond_at m.machine m.kept.items c.cpus.result c.cpus.ensures.cpus c.self.invariant)

@@ -22,4 +22,5 @@ pub returns-clause-unchanged : goal.returns-clause-unchanged
 returns-clause-unchanged c is = c.flush.ensures.unchanged is ∙ ap (λ (a : AlbumState). a.machine) c.self.view_is
 
 pub returns-clause-same : goal.returns-clause-same
-returns-clause-same c = states_after c.self.inside.machine c.flush.new.self c.self.inside.kept.items c.flush.ensures.host ∙ ap (λ (a : AlbumState). a.kept) c.self.view_is
+returns-clause-same c = states_after c.self.inside.machine c.flush.new.self c.self.inside.kept.items c.flush.ensures.host ∙ ap
+    (λ (a : AlbumState). a.kept) c.self.view_is

@@ -27,4 +27,5 @@ returns-clause-idle c =
     subst (λ (old : BufferedState). IfOk c.turn.result (λ turn. turn ≡ Idle → c.turn.new.self ≡ old)) machine c.turn.ensures.idle
 
 pub returns-clause-same : goal.returns-clause-same
-returns-clause-same c = states_after c.self.inside.machine c.turn.new.self c.self.inside.kept.items c.turn.ensures.host ∙ ap (λ (a : AlbumState). a.kept) c.self.view_is
+returns-clause-same c = states_after c.self.inside.machine c.turn.new.self c.self.inside.kept.items c.turn.ensures.host ∙ ap
+    (λ (a : AlbumState). a.kept) c.self.view_is

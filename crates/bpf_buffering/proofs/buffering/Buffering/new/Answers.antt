@@ -16,9 +16,13 @@ invariant_of-result c =
     let jobs = c.args.jobs.items in
     let is = c.new-here.ensures in
     let store : w.store ≡ c.args.store = ap (λ (x : WaitingContents). x.store) is in
-    let served : All (λ (job : Job). has_cpu w.store job.cpu ≡ true) jobs = subst (λ (s : Contents). All (λ (job : Job). has_cpu s job.cpu ≡ true) jobs) (sym store) c.requires.cpus in
-    let loaded : All (λ (job : Job). job.program < length programs.items) jobs = All-weaker (λ job. job.program < vec_len programs) (λ job. job.program < length programs.items) (λ job fits. subst (λ (n : ℕ). job.program < n) programs.ok.0 fits) jobs c.requires.programs in
-    first_board jobs w programs.items c.in_ok-listed.listed.items c.in_ok-buffers.buffers.items c.cpus.result (ap (λ (x : WaitingContents). x.waiting) is) (λ k. ap (λ (s : Contents). is_running s k) store ∙ c.requires.idle k) served loaded
+    let served : All (λ (job : Job). has_cpu w.store job.cpu ≡ true) jobs = subst
+    (λ (s : Contents). All (λ (job : Job). has_cpu s job.cpu ≡ true) jobs) (sym store) c.requires.cpus in
+    let loaded : All (λ (job : Job). job.program < length programs.items) jobs = All-weaker (λ job. job.program < vec_len programs)
+    (λ job. job.program < length programs.items) (λ job fits. subst (λ (n : ℕ). job.program < n) programs.ok.0 fits) jobs
+    c.requires.programs in
+    first_board jobs w programs.items c.in_ok-listed.listed.items c.in_ok-buffers.buffers.items c.cpus.result
+    (ap (λ (x : WaitingContents). x.waiting) is) (λ k. ap (λ (s : Contents). is_running s k) store ∙ c.requires.idle k) served loaded
     c.in_ok-listed.ensures (λ k. ap (λ (s : Contents). has_cpu s k) store ∙ c.cpus.ensures k) c.in_ok-buffers.ensures.count c.in_ok-buffers.ensures.empty
 
 pub returns-clause-store : goal.returns-clause-store

@@ -14,4 +14,5 @@ returns-clause-ok c =
     let store = ap (λ (a : WaitingContents). a.store) c.restore.ensures in
     let jobs = c.in_ok-jobs.ensures ∙ ap tasks_of c.deref.ensures.value in
     let items = c.in_ok-buffers.ensures ∙ ap (map items_of) c.deref-2.ensures.value in
-    same_state (quiet k.store) c.restore.new.self m.programs.items k.jobs.items c.in_ok-jobs.jobs.items k.buffers.items c.in_ok-buffers.buffers.items store jobs items ∙ ap (λ (s : BufferedState). kept_state s.machine.programs k) c.self.view_is
+    same_state (quiet k.store) c.restore.new.self m.programs.items k.jobs.items c.in_ok-jobs.jobs.items k.buffers.items
+    c.in_ok-buffers.buffers.items store jobs items ∙ ap (λ (s : BufferedState). kept_state s.machine.programs k) c.self.view_is

@@ -10,7 +10,8 @@ pub invariant_of-self : goal.invariant_of-self
 invariant_of-self c =
     let s = c.self.inside.store in
     let items : c.swap.new.x.items ≡ c.args.waiting.now.items = ap (λ (v : Vec Stored Global). v.items) c.swap.ensures.x_after in
-    let can : CanWait s c.args.cpu c.args.waiting.now.items = subst (λ (w : WaitingContents). CanWait w.store c.args.cpu c.args.waiting.now.items) (sym c.self.view_is) c.requires in (
+    let can : CanWait s c.args.cpu c.args.waiting.now.items = subst
+    (λ (w : WaitingContents). CanWait w.store c.args.cpu c.args.waiting.now.items) (sym c.self.view_is) c.requires in (
       c.self.invariant.0,
       subst (λ (es : List Stored). AreWritable (shape_of s) (held_spans s c.args.cpu) es) (sym items) can.writable,
       λ off. items ∙ can.idle off,
@@ -20,7 +21,8 @@ pub returns-clause-serves : goal.returns-clause-serves
 returns-clause-serves c =
     let i = c.self.inside in
     let items : c.swap.new.x.items ≡ c.args.waiting.now.items = ap (λ (v : Vec Stored Global). v.items) c.swap.ensures.x_after in
-    ap (λ (es : List Stored). record { store = i.store; waiting = es; cpu = c.args.cpu; lost = i.lost }) items ∙ ap (λ (w : WaitingContents). record w { waiting = c.args.waiting.now.items; cpu = c.args.cpu }) c.self.view_is
+    ap (λ (es : List Stored). record { store = i.store; waiting = es; cpu = c.args.cpu; lost = i.lost }) items ∙ ap
+    (λ (w : WaitingContents). record w { waiting = c.args.waiting.now.items; cpu = c.args.cpu }) c.self.view_is
 
 pub returns-clause-before : goal.returns-clause-before
 returns-clause-before c = ap (λ (v : Vec Stored Global). v.items) c.swap.ensures.y_after ∙ ap (λ (w : WaitingContents). w.waiting) c.self.view_is

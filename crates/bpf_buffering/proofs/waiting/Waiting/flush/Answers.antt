@@ -36,7 +36,8 @@ invariant_of-self c =
     let later = later_writable (shape_of i.store) (held_spans i.store i.cpu) i.waiting.items c.self.invariant.1 in
     let runs : is_running i.store i.cpu ≡ true = in_a_run (is_running i.store i.cpu) i.waiting.items some c.self.invariant.2 in (
       (λ k. c.self.invariant.0.0 k ∙ sym (ap (λ (f : ℕ → Bool). f k) same.1), c.self.invariant.0.1 ∙ sym same.0),
-      subst (λ (es : List Stored). AreWritable (shape_of c.value_store.new.self) (held_spans c.value_store.new.self i.cpu) es) (sym c.remove-stored.ensures.items)
+      subst (λ (es : List Stored). AreWritable (shape_of c.value_store.new.self) (held_spans c.value_store.new.self i.cpu) es)
+          (sym c.remove-stored.ensures.items)
           (subst (λ (h : Shape). AreWritable h (held_spans c.value_store.new.self i.cpu) (remove i.waiting.items 0)) (sym same.0)
           (subst (λ (f : Span → Bool). AreWritable (shape_of i.store) f (remove i.waiting.items 0)) (sym held) later)),
       λ off. (let no : true ≡ false = sym (ap (λ (f : ℕ → Bool). f i.cpu) same.2 ∙ runs) ∙ off in cc),

@@ -21,33 +21,48 @@ begin-requires-clause-idle c = ap (λ (w : WaitingContents). is_running w.store 
 pub invariant_of-self : goal.invariant_of-self
 invariant_of-self c =
     let same = c.begin.ensures.same in
-    let cpu : c.args.cpu ≡ c.self.inside.cpu = its_cpu c.args.self.now c.args.cpu c.requires.serves ∙ ap (λ (v : WaitingContents). v.cpu) (sym c.self.view_is) in
-    let idle : is_running c.self.inside.store c.self.inside.cpu ≡ false = ap (is_running c.self.inside.store) (sym cpu) ∙ ap (λ (w : WaitingContents). is_running w.store c.args.cpu) c.self.view_is ∙ c.requires.idle in
+    let cpu : c.args.cpu ≡ c.self.inside.cpu = its_cpu c.args.self.now c.args.cpu c.requires.serves ∙ ap (λ (v : WaitingContents). v.cpu)
+    (sym c.self.view_is) in
+    let idle : is_running c.self.inside.store c.self.inside.cpu ≡ false = ap (is_running c.self.inside.store) (sym cpu) ∙ ap
+    (λ (w : WaitingContents). is_running w.store c.args.cpu) c.self.view_is ∙ c.requires.idle in
     let none : c.self.inside.waiting.items ≡ [] = c.self.invariant.2 idle in (
       (λ k. c.self.invariant.0.0 k ∙ sym (ap (λ (f : ℕ → Bool). f k) same.1), c.self.invariant.0.1 ∙ sym same.0),
-      subst (λ (es : List Stored). AreWritable (shape_of c.begin.new.self) (held_spans c.begin.new.self c.self.inside.cpu) es) (sym none) (λ k d less. absurd (omega arith)),
+      subst (λ (es : List Stored). AreWritable (shape_of c.begin.new.self) (held_spans c.begin.new.self c.self.inside.cpu) es) (sym none)
+          (λ k d less. absurd (omega arith)),
       λ off. none,
     )
 
 pub returns-clause-begun : goal.returns-clause-begun
 returns-clause-begun c =
-    let w : WaitingContents = record { store = c.self.inside.store; waiting = c.self.inside.waiting.items; cpu = c.self.inside.cpu; lost = c.self.inside.lost } in
+    let w : WaitingContents = record {
+      store = c.self.inside.store;
+      waiting = c.self.inside.waiting.items;
+      cpu = c.self.inside.cpu;
+      lost =
+          c.self.inside.lost;
+    } in
     let y : WaitingContents = record { store = c.begin.new.self; waiting = c.self.inside.waiting.items; cpu = c.self.inside.cpu; lost = c.self.inside.lost } in
     let view : w ≡ c.args.self.now = c.self.view_is in
     let cpu : c.args.cpu ≡ w.cpu = its_cpu c.args.self.now c.args.cpu c.requires.serves ∙ ap (λ (v : WaitingContents). v.cpu) (sym view) in
-    let served : has_cpu w.store c.args.cpu ≡ true = ap (λ (v : WaitingContents). has_cpu v.store c.args.cpu) view ∙ has_its c.args.self.now c.args.cpu c.requires.serves in
-    let idle : is_running w.store w.cpu ≡ false = ap (is_running w.store) (sym cpu) ∙ ap (λ (v : WaitingContents). is_running v.store c.args.cpu) view ∙ c.requires.idle in
+    let served : has_cpu w.store c.args.cpu ≡ true = ap (λ (v : WaitingContents). has_cpu v.store c.args.cpu) view ∙ has_its c.args.self.now
+    c.args.cpu c.requires.serves in
+    let idle : is_running w.store w.cpu ≡ false = ap (is_running w.store) (sym cpu) ∙ ap
+    (λ (v : WaitingContents). is_running v.store c.args.cpu) view ∙ c.requires.idle in
     let none : w.waiting ≡ [] = c.self.invariant.2 idle in
     on_ok_weaker c.begin.result (λ call.
     (let made = made_of w.store y.store c.args.cpu Begin served call c.begin.ensures.same.1 in
-    let own = called w y (serves_one w) Begin (record { cpu = refl; serves = c.begin.ensures.same.1 }) (λ kept. (kept, begin_leads w y none none (subst (λ (k : ℕ). Made w.store k Begin y.store) cpu made))) in
-    subst (λ (v : WaitingContents). Calls (PassesWaiting v y) (serves_one v) c.args.cpu Begin) view (subst (λ (k : ℕ). Calls (PassesWaiting w y) (serves_one w) k Begin) (sym cpu) own))) c.begin.ensures.begun
+    let own = called w y (serves_one w) Begin (record { cpu = refl; serves = c.begin.ensures.same.1 })
+    (λ kept. (kept, begin_leads w y none none (subst (λ (k : ℕ). Made w.store k Begin y.store) cpu made))) in
+    subst (λ (v : WaitingContents). Calls (PassesWaiting v y) (serves_one v) c.args.cpu Begin) view
+    (subst (λ (k : ℕ). Calls (PassesWaiting w y) (serves_one w) k Begin) (sym cpu) own))) c.begin.ensures.begun
 
 pub returns-clause-running : goal.returns-clause-running
-returns-clause-running c = on_ok_weaker c.begin.result (λ e. e ∙ ap (λ (v : WaitingContents). put (is_running v.store) c.args.cpu true) c.self.view_is) c.begin.ensures.running
+returns-clause-running c = on_ok_weaker c.begin.result (λ e. e ∙ ap (λ (v : WaitingContents). put (is_running v.store) c.args.cpu true)
+    c.self.view_is) c.begin.ensures.running
 
 pub returns-clause-held : goal.returns-clause-held
-returns-clause-held c = on_ok_weaker c.begin.result (λ e. e ∙ ap (λ (v : WaitingContents). held_without (held_spans v.store) c.args.cpu) c.self.view_is) c.begin.ensures.held
+returns-clause-held c = on_ok_weaker c.begin.result (λ e. e ∙ ap (λ (v : WaitingContents). held_without (held_spans v.store) c.args.cpu)
+    c.self.view_is) c.begin.ensures.held
 
 pub returns-clause-worn : goal.returns-clause-worn
 returns-clause-worn c = c.begin.ensures.worn

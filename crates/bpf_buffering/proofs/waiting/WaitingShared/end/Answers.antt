@@ -12,24 +12,33 @@ use Rattle.bpf_buffering.proofs.waiting.WaitingShared.end.Goals as goal
 
 pub end-requires-clause-serves : goal.end-requires-clause-serves
 end-requires-clause-serves c =
-    ap (λ (f : ℕ → Bool). f c.args.cpu) c.make_stores.ensures.serves ∙ ap (λ (w : WaitingContents). has_cpu w.store c.args.cpu) c.self.view_is ∙ has_its c.args.self.now c.args.cpu c.requires.serves
+    ap (λ (f : ℕ → Bool). f c.args.cpu) c.make_stores.ensures.serves ∙ ap (λ (w : WaitingContents). has_cpu w.store c.args.cpu)
+    c.self.view_is ∙ has_its c.args.self.now c.args.cpu c.requires.serves
 
 pub end-requires-clause-in_run : goal.end-requires-clause-in_run
 end-requires-clause-in_run c =
-    ap (λ (f : ℕ → Bool). f c.args.cpu) c.make_stores.ensures.running ∙ ap (λ (w : WaitingContents). is_running w.store c.args.cpu) c.self.view_is ∙ c.requires.in_run
+    ap (λ (f : ℕ → Bool). f c.args.cpu) c.make_stores.ensures.running ∙ ap (λ (w : WaitingContents). is_running w.store c.args.cpu)
+    c.self.view_is ∙ c.requires.in_run
 
 pub invariant_of-self : goal.invariant_of-self
 invariant_of-self c =
     let m = c.make_stores.ensures in
     let same = c.end.ensures.same in (
       (λ k. c.self.invariant.0.0 k ∙ sym (ap (λ (f : ℕ → Bool). f k) (same.1 ∙ m.serves)), c.self.invariant.0.1 ∙ sym (same.0 ∙ m.shape)),
-      subst (λ (es : List Stored). AreWritable (shape_of c.end.new.self) (held_spans c.end.new.self c.self.inside.cpu) es) (sym c.clear.ensures.items) (λ k d less. absurd (omega arith)),
+      subst (λ (es : List Stored). AreWritable (shape_of c.end.new.self) (held_spans c.end.new.self c.self.inside.cpu) es)
+          (sym c.clear.ensures.items) (λ k d less. absurd (omega arith)),
       λ off. c.clear.ensures.items,
     )
 
 pub returns-clause-ended : goal.returns-clause-ended
 returns-clause-ended c =
-    let w : WaitingContents = record { store = c.self.inside.store; waiting = c.self.inside.waiting.items; cpu = c.self.inside.cpu; lost = c.self.inside.lost } in
+    let w : WaitingContents = record {
+      store = c.self.inside.store;
+      waiting = c.self.inside.waiting.items;
+      cpu = c.self.inside.cpu;
+      lost =
+          c.self.inside.lost;
+    } in
     let y : WaitingContents = record { store = c.end.new.self; waiting = c.clear.new.self.items; cpu = c.self.inside.cpu; lost = c.self.inside.lost } in
     let mid : Contents = c.make_stores.new.store in
     let e : Event = End in
@@ -37,10 +46,13 @@ returns-clause-ended c =
     let cpu : c.args.cpu ≡ w.cpu = its_cpu c.args.self.now c.args.cpu c.requires.serves ∙ ap (λ (v : WaitingContents). v.cpu) (sym view) in
     let makes : Makes w.cpu w.store w.waiting mid = subst (λ (es : List Stored). Makes w.cpu w.store es mid) c.deref.ensures.value c.make_stores.ensures.made in
     let served : has_cpu mid c.args.cpu ≡ true =
-    ap (λ (f : ℕ → Bool). f c.args.cpu) c.make_stores.ensures.serves ∙ ap (λ (v : WaitingContents). has_cpu v.store c.args.cpu) view ∙ has_its c.args.self.now c.args.cpu c.requires.serves in
+    ap (λ (f : ℕ → Bool). f c.args.cpu) c.make_stores.ensures.serves ∙ ap (λ (v : WaitingContents). has_cpu v.store c.args.cpu) view ∙
+    has_its c.args.self.now c.args.cpu c.requires.serves in
     let made = made_of mid y.store c.args.cpu e served c.end.ensures.ended c.end.ensures.same.1 in
-    let own = called w y (serves_one w) e (record { cpu = refl; serves = c.end.ensures.same.1 ∙ c.make_stores.ensures.serves }) (λ kept. (kept, drains_alone w y mid e c.clear.ensures.items makes (subst (λ (k : ℕ). Made mid k e y.store) cpu made))) in
-    subst (λ (v : WaitingContents). Calls (PassesWaiting v y) (serves_one v) c.args.cpu e) view (subst (λ (k : ℕ). Calls (PassesWaiting w y) (serves_one w) k e) (sym cpu) own)
+    let own = called w y (serves_one w) e (record { cpu = refl; serves = c.end.ensures.same.1 ∙ c.make_stores.ensures.serves })
+    (λ kept. (kept, drains_alone w y mid e c.clear.ensures.items makes (subst (λ (k : ℕ). Made mid k e y.store) cpu made))) in
+    subst (λ (v : WaitingContents). Calls (PassesWaiting v y) (serves_one v) c.args.cpu e) view
+    (subst (λ (k : ℕ). Calls (PassesWaiting w y) (serves_one w) k e) (sym cpu) own)
 
 pub returns-clause-same : goal.returns-clause-same
 returns-clause-same c =

@@ -15,16 +15,19 @@ use Rattle.bpf_buffering.proofs.waiting.WaitingShared.value_atomic.Goals as goal
 
 pub value_atomic-requires-clause-serves : goal.value_atomic-requires-clause-serves
 value_atomic-requires-clause-serves c =
-    ap (λ (f : ℕ → Bool). f c.args.cpu) c.make_stores.ensures.serves ∙ ap (λ (w : WaitingContents). has_cpu w.store c.args.cpu) c.self.view_is ∙ has_its c.args.self.now c.args.cpu c.requires.serves
+    ap (λ (f : ℕ → Bool). f c.args.cpu) c.make_stores.ensures.serves ∙ ap (λ (w : WaitingContents). has_cpu w.store c.args.cpu)
+    c.self.view_is ∙ has_its c.args.self.now c.args.cpu c.requires.serves
 
 pub value_atomic-requires-clause-in_run : goal.value_atomic-requires-clause-in_run
 value_atomic-requires-clause-in_run c =
-    ap (λ (f : ℕ → Bool). f c.args.cpu) c.make_stores.ensures.running ∙ ap (λ (w : WaitingContents). is_running w.store c.args.cpu) c.self.view_is ∙ c.requires.in_run
+    ap (λ (f : ℕ → Bool). f c.args.cpu) c.make_stores.ensures.running ∙ ap (λ (w : WaitingContents). is_running w.store c.args.cpu)
+    c.self.view_is ∙ c.requires.in_run
 
 pub value_atomic-requires-clause-place : goal.value_atomic-requires-clause-place
 value_atomic-requires-clause-place c =
     let m = c.make_stores.ensures in
-    let here = subst (λ (w : WaitingContents). IsWritable (shape_of w.store) (held_spans w.store c.args.cpu) c.args.at.at (bytes_in c.args.size)) (sym c.self.view_is) c.requires.place in
+    let here = subst (λ (w : WaitingContents). IsWritable (shape_of w.store) (held_spans w.store c.args.cpu) c.args.at.at
+    (bytes_in c.args.size)) (sym c.self.view_is) c.requires.place in
     subst (λ (h : Shape). IsWritable h (held_spans c.make_stores.new.store c.args.cpu) c.args.at.at (bytes_in c.args.size)) (sym m.shape)
     (subst (λ (f : ℕ → Span → Bool). IsWritable (shape_of c.self.inside.store) (f c.args.cpu) c.args.at.at (bytes_in c.args.size)) (sym m.held) here)
 
@@ -33,24 +36,40 @@ invariant_of-self c =
     let m = c.make_stores.ensures in
     let same = c.value_atomic.ensures.same in (
       (λ k. c.self.invariant.0.0 k ∙ sym (ap (λ (f : ℕ → Bool). f k) (same.1 ∙ m.serves)), c.self.invariant.0.1 ∙ sym (same.0 ∙ m.shape)),
-      subst (λ (es : List Stored). AreWritable (shape_of c.value_atomic.new.self) (held_spans c.value_atomic.new.self c.self.inside.cpu) es) (sym c.clear.ensures.items) (λ k d less. absurd (omega arith)),
+      subst (λ (es : List Stored). AreWritable (shape_of c.value_atomic.new.self) (held_spans c.value_atomic.new.self c.self.inside.cpu) es)
+          (sym c.clear.ensures.items) (λ k d less. absurd (omega arith)),
       λ off. c.clear.ensures.items,
     )
 
 pub returns-clause-changed : goal.returns-clause-changed
 returns-clause-changed c =
-    let w : WaitingContents = record { store = c.self.inside.store; waiting = c.self.inside.waiting.items; cpu = c.self.inside.cpu; lost = c.self.inside.lost } in
-    let y : WaitingContents = record { store = c.value_atomic.new.self; waiting = c.clear.new.self.items; cpu = c.self.inside.cpu; lost = c.self.inside.lost } in
+    let w : WaitingContents = record {
+      store = c.self.inside.store;
+      waiting = c.self.inside.waiting.items;
+      cpu = c.self.inside.cpu;
+      lost =
+          c.self.inside.lost;
+    } in
+    let y : WaitingContents = record {
+      store = c.value_atomic.new.self;
+      waiting = c.clear.new.self.items;
+      cpu = c.self.inside.cpu;
+      lost =
+          c.self.inside.lost;
+    } in
     let mid : Contents = c.make_stores.new.store in
     let e : Event = Atomic c.args.at.at c.args.size c.args.op c.args.operand c.args.expected c.value_atomic.result in
     let view : w ≡ c.args.self.now = c.self.view_is in
     let cpu : c.args.cpu ≡ w.cpu = its_cpu c.args.self.now c.args.cpu c.requires.serves ∙ ap (λ (v : WaitingContents). v.cpu) (sym view) in
     let makes : Makes w.cpu w.store w.waiting mid = subst (λ (es : List Stored). Makes w.cpu w.store es mid) c.deref.ensures.value c.make_stores.ensures.made in
     let served : has_cpu mid c.args.cpu ≡ true =
-    ap (λ (f : ℕ → Bool). f c.args.cpu) c.make_stores.ensures.serves ∙ ap (λ (v : WaitingContents). has_cpu v.store c.args.cpu) view ∙ has_its c.args.self.now c.args.cpu c.requires.serves in
+    ap (λ (f : ℕ → Bool). f c.args.cpu) c.make_stores.ensures.serves ∙ ap (λ (v : WaitingContents). has_cpu v.store c.args.cpu) view ∙
+    has_its c.args.self.now c.args.cpu c.requires.serves in
     let made = made_of mid y.store c.args.cpu e served c.value_atomic.ensures.changed c.value_atomic.ensures.same.1 in
-    let own = called w y (serves_one w) e (record { cpu = refl; serves = c.value_atomic.ensures.same.1 ∙ c.make_stores.ensures.serves }) (λ kept. (kept, drains_alone w y mid e c.clear.ensures.items makes (subst (λ (k : ℕ). Made mid k e y.store) cpu made))) in
-    subst (λ (v : WaitingContents). Calls (PassesWaiting v y) (serves_one v) c.args.cpu e) view (subst (λ (k : ℕ). Calls (PassesWaiting w y) (serves_one w) k e) (sym cpu) own)
+    let own = called w y (serves_one w) e (record { cpu = refl; serves = c.value_atomic.ensures.same.1 ∙ c.make_stores.ensures.serves })
+    (λ kept. (kept, drains_alone w y mid e c.clear.ensures.items makes (subst (λ (k : ℕ). Made mid k e y.store) cpu made))) in
+    subst (λ (v : WaitingContents). Calls (PassesWaiting v y) (serves_one v) c.args.cpu e) view
+    (subst (λ (k : ℕ). Calls (PassesWaiting w y) (serves_one w) k e) (sym cpu) own)
 
 pub returns-clause-same : goal.returns-clause-same
 returns-clause-same c =

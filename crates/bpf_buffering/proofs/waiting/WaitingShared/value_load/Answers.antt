@@ -16,7 +16,8 @@ use Rattle.bpf_buffering.proofs.waiting.WaitingShared.value_load.Goals as goal
 pub make_stores-requires-clause-places : goal.make_stores-requires-clause-places
 make_stores-requires-clause-places c =
     subst (λ (p : Contents). AreWritable (shape_of p) (held_spans p c.self.inside.cpu) c.deref.result.now) (sym c.copy_from.ensures)
-    (subst (λ (es : List Stored). AreWritable (shape_of c.self.inside.store) (held_spans c.self.inside.store c.self.inside.cpu) es) (sym c.deref.ensures.value) c.self.invariant.1)
+    (subst (λ (es : List Stored). AreWritable (shape_of c.self.inside.store) (held_spans c.self.inside.store c.self.inside.cpu) es)
+    (sym c.deref.ensures.value) c.self.invariant.1)
 
 pub value_load-requires-clause-serves : goal.value_load-requires-clause-serves
 value_load-requires-clause-serves c =
@@ -32,8 +33,10 @@ value_load-requires-clause-in_run c =
 pub value_load-requires-clause-place : goal.value_load-requires-clause-place
 value_load-requires-clause-place c =
     let m = c.make_stores.ensures in
-    let here = subst (λ (w : WaitingContents). IsReadable (shape_of w.store) (held_spans w.store c.args.cpu) c.args.at.at (bytes_in c.args.size)) (sym c.self.view_is) c.requires.place in
-    let copied = subst (λ (p : Contents). IsReadable (shape_of p) (held_spans p c.args.cpu) c.args.at.at (bytes_in c.args.size)) (sym c.copy_from.ensures) here in
+    let here = subst (λ (w : WaitingContents). IsReadable (shape_of w.store) (held_spans w.store c.args.cpu) c.args.at.at
+    (bytes_in c.args.size)) (sym c.self.view_is) c.requires.place in
+    let copied = subst (λ (p : Contents). IsReadable (shape_of p) (held_spans p c.args.cpu) c.args.at.at (bytes_in c.args.size))
+    (sym c.copy_from.ensures) here in
     subst (λ (h : Shape). IsReadable h (held_spans c.make_stores.new.store c.args.cpu) c.args.at.at (bytes_in c.args.size)) (sym m.shape)
     (subst (λ (f : ℕ → Span → Bool). IsReadable (shape_of c.copy_from.new.self) (f c.args.cpu) c.args.at.at (bytes_in c.args.size)) (sym m.held) copied)
 
@@ -51,16 +54,30 @@ invariant_of-self c =
 
 pub returns-clause-loaded : goal.returns-clause-loaded
 returns-clause-loaded c =
-    let w : WaitingContents = record { store = c.self.inside.store; waiting = c.self.inside.waiting.items; cpu = c.self.inside.cpu; lost = c.self.inside.lost } in
+    let w : WaitingContents = record {
+      store = c.self.inside.store;
+      waiting = c.self.inside.waiting.items;
+      cpu = c.self.inside.cpu;
+      lost =
+          c.self.inside.lost;
+    } in
     let mid : Contents = c.make_stores.new.store in
     let after : Contents = c.value_load.new.self in
     let e : Event = Load c.args.at.at c.args.size c.value_load.result in
     let view : w ≡ c.args.self.now = c.self.view_is in
     let cpu : c.args.cpu ≡ w.cpu = its_cpu c.args.self.now c.args.cpu c.requires.serves ∙ ap (λ (v : WaitingContents). v.cpu) (sym view) in
     let makes : Makes w.cpu w.store w.waiting mid =
-    subst (λ (es : List Stored). Makes w.cpu w.store es mid) c.deref.ensures.value (subst (λ (p : Contents). Makes w.cpu p c.deref.result.now mid) c.copy_from.ensures c.make_stores.ensures.made) in
+    subst (λ (es : List Stored). Makes w.cpu w.store es mid) c.deref.ensures.value
+    (subst (λ (p : Contents). Makes w.cpu p c.deref.result.now mid) c.copy_from.ensures c.make_stores.ensures.made) in
     let served : has_cpu mid c.args.cpu ≡ true =
-    ap (λ (f : ℕ → Bool). f c.args.cpu) c.make_stores.ensures.serves ∙ ap (λ (p : Contents). has_cpu p c.args.cpu) c.copy_from.ensures ∙ ap (λ (v : WaitingContents). has_cpu v.store c.args.cpu) view ∙ has_its c.args.self.now c.args.cpu c.requires.serves in
+    ap (λ (f : ℕ → Bool). f c.args.cpu) c.make_stores.ensures.serves ∙ ap (λ (p : Contents). has_cpu p c.args.cpu) c.copy_from.ensures ∙ ap
+    (λ (v : WaitingContents). has_cpu v.store c.args.cpu) view ∙ has_its c.args.self.now c.args.cpu c.requires.serves in
     let made = made_of mid after c.args.cpu e served c.value_load.ensures.loaded c.value_load.ensures.same.1 in
-    let own = called w w (serves_one w) e (record { cpu = refl; serves = refl }) (λ kept. (kept, load_leads w w mid after c.args.at.at c.args.size c.value_load.result refl refl makes (subst (λ (k : ℕ). Made mid k e after) cpu made))) in
-    subst (λ (v : WaitingContents). Calls (PassesWaiting v w) (serves_one v) c.args.cpu e) view (subst (λ (k : ℕ). Calls (PassesWaiting w w) (serves_one w) k e) (sym cpu) own)
+    let own = called w w (serves_one w) e (record { cpu = refl; serves = refl })
+    (λ kept. (
+      kept,
+      load_leads w w mid after c.args.at.at c.args.size c.value_load.result refl refl makes
+          (subst (λ (k : ℕ). Made mid k e after) cpu made),
+    )) in
+    subst (λ (v : WaitingContents). Calls (PassesWaiting v w) (serves_one v) c.args.cpu e) view
+    (subst (λ (k : ℕ). Calls (PassesWaiting w w) (serves_one w) k e) (sym cpu) own)

@@ -31,11 +31,13 @@ returns-in-StoreImmediate-clause-access g c =
     let number : c.widened.result ≡ x = search rules in
     let at : c.address-in-StoreImmediate.result ≡ a = search rules in
     let here : P a x = subst (λ (y : ℕ). P a y) number (subst (λ (b : ℕ). P b c.widened.result) at made.2) in
-    let missed : Quiet i cpu (progress_of next.BadAddress cpu) cpu = subst (λ (j : Insn). Quiet j cpu (progress_of next.BadAddress cpu) cpu) w.is c.requires.missed in (
+    let missed : Quiet i cpu (progress_of next.BadAddress cpu) cpu = subst (λ (j : Insn). Quiet j cpu (progress_of next.BadAddress cpu) cpu)
+    w.is c.requires.missed in (
       made.0,
       made.1,
       subst (λ (j : Insn). Executes h j cpu made.0 progress new) (sym w.is)
-          (accessed h i cpu new made.0 progress a w.size refl (missed_store w.size a x cpu missed) missed here (λ out below. store_missed h cpu new made.0 progress w.size a out below x here)),
+          (accessed h i cpu new made.0 progress a w.size refl (missed_store w.size a x cpu missed) missed here
+          (λ out below. store_missed h cpu new made.0 progress w.size a out below x here)),
     )
 
 pub returns-in-Atomic-clause-access : goal.returns-in-Atomic-clause-access
@@ -52,11 +54,13 @@ returns-in-Atomic-clause-access g c =
     let P : ℕ → Type 0 = λ b. ChangesValue h w.width w.op w.src b cpu made.0 progress new in
     let at : c.address-in-Atomic.result ≡ a = search rules in
     let here : P a = subst P at made.2 in
-    let missed : Quiet i cpu (progress_of next.BadAddress cpu) cpu = subst (λ (j : Insn). Quiet j cpu (progress_of next.BadAddress cpu) cpu) w.is c.requires.missed in (
+    let missed : Quiet i cpu (progress_of next.BadAddress cpu) cpu = subst (λ (j : Insn). Quiet j cpu (progress_of next.BadAddress cpu) cpu)
+    w.is c.requires.missed in (
       made.0,
       made.1,
       subst (λ (j : Insn). Executes h j cpu made.0 progress new) (sym w.is)
-          (accessed h i cpu new made.0 progress a z refl (missed_atomic w.width w.op w.src a cpu missed) missed here (λ out below. change_missed h cpu new made.0 progress w.width w.op w.src a out below here)),
+          (accessed h i cpu new made.0 progress a z refl (missed_atomic w.width w.op w.src a cpu missed) missed here
+          (λ out below. change_missed h cpu new made.0 progress w.width w.op w.src a out below here)),
     )
 
 pub returns-in-Load-clause-access : goal.returns-in-Load-clause-access
@@ -73,11 +77,13 @@ returns-in-Load-clause-access g c =
     let reading : ℕ → ℕ = λ x. x in
     let at : c.address.result ≡ a = search rules in
     let here : LoadsValue h z reading w.dst a cpu made.0 progress new = subst (λ (b : ℕ). LoadsValue h z reading w.dst b cpu made.0 progress new) at made.2 in
-    let missed : Quiet i cpu (progress_of next.BadAddress cpu) cpu = subst (λ (j : Insn). Quiet j cpu (progress_of next.BadAddress cpu) cpu) w.is c.requires.missed in (
+    let missed : Quiet i cpu (progress_of next.BadAddress cpu) cpu = subst (λ (j : Insn). Quiet j cpu (progress_of next.BadAddress cpu) cpu)
+    w.is c.requires.missed in (
       made.0,
       made.1,
       subst (λ (j : Insn). Executes h j cpu made.0 progress new) (sym w.is)
-          (accessed h i cpu new made.0 progress a z refl (missed_load z reading w.dst a cpu missed) missed here (λ out below. load_missed h cpu new made.0 progress z a out below reading w.dst here)),
+          (accessed h i cpu new made.0 progress a z refl (missed_load z reading w.dst a cpu missed) missed here
+          (λ out below. load_missed h cpu new made.0 progress z a out below reading w.dst here)),
     )
 
 pub returns-in-LoadSigned-clause-access : goal.returns-in-LoadSigned-clause-access
@@ -96,12 +102,16 @@ returns-in-LoadSigned-clause-access g c =
     let size : c.plain_size-size.result ≡ z = search rules in
     let bits : c.extension_of.result ≡ extension_of w.size = search rules in
     let P : Size → SignExtension → ℕ → Type 0 = λ y e b. LoadsValue h y (sign_extended e) w.dst b cpu made.0 progress new in
-    let here : P z (extension_of w.size) a = subst (λ (y : Size). P y (extension_of w.size) a) size (subst (λ (e : SignExtension). P c.plain_size-size.result e a) bits (subst (λ (b : ℕ). P c.plain_size-size.result c.extension_of.result b) at made.2)) in
-    let missed : Quiet i cpu (progress_of next.BadAddress cpu) cpu = subst (λ (j : Insn). Quiet j cpu (progress_of next.BadAddress cpu) cpu) w.is c.requires.missed in (
+    let here : P z (extension_of w.size) a = subst (λ (y : Size). P y (extension_of w.size) a) size
+    (subst (λ (e : SignExtension). P c.plain_size-size.result e a) bits
+    (subst (λ (b : ℕ). P c.plain_size-size.result c.extension_of.result b) at made.2)) in
+    let missed : Quiet i cpu (progress_of next.BadAddress cpu) cpu = subst (λ (j : Insn). Quiet j cpu (progress_of next.BadAddress cpu) cpu)
+    w.is c.requires.missed in (
       made.0,
       made.1,
       subst (λ (j : Insn). Executes h j cpu made.0 progress new) (sym w.is)
-          (accessed h i cpu new made.0 progress a z refl (missed_load z reading w.dst a cpu missed) missed here (λ out below. load_missed h cpu new made.0 progress z a out below reading w.dst here)),
+          (accessed h i cpu new made.0 progress a z refl (missed_load z reading w.dst a cpu missed) missed here
+          (λ out below. load_missed h cpu new made.0 progress z a out below reading w.dst here)),
     )
 
 pub returns-in-Store-clause-access : goal.returns-in-Store-clause-access
@@ -119,9 +129,11 @@ returns-in-Store-clause-access g c =
     let number : c.value.result ≡ x = search rules in
     let at : c.address-in-Store.result ≡ a = search rules in
     let here : P a x = subst (λ (y : ℕ). P a y) number (subst (λ (b : ℕ). P b c.value.result) at made.2) in
-    let missed : Quiet i cpu (progress_of next.BadAddress cpu) cpu = subst (λ (j : Insn). Quiet j cpu (progress_of next.BadAddress cpu) cpu) w.is c.requires.missed in (
+    let missed : Quiet i cpu (progress_of next.BadAddress cpu) cpu = subst (λ (j : Insn). Quiet j cpu (progress_of next.BadAddress cpu) cpu)
+    w.is c.requires.missed in (
       made.0,
       made.1,
       subst (λ (j : Insn). Executes h j cpu made.0 progress new) (sym w.is)
-          (accessed h i cpu new made.0 progress a w.size refl (missed_store w.size a x cpu missed) missed here (λ out below. store_missed h cpu new made.0 progress w.size a out below x here)),
+          (accessed h i cpu new made.0 progress a w.size refl (missed_store w.size a x cpu missed) missed here
+          (λ out below. store_missed h cpu new made.0 progress w.size a out below x here)),
     )

@@ -11,5 +11,6 @@ returns-in-Some-clause-found g c =
     let out : is_covered c.args.self.now.held c.args.address c.length-count.result ≡ false =
     c.are_low.ensures c.args.address c.length-count.result there.0.after c.length-count.ensures.some in (
       subst (λ (n : ℕ). is_covered c.args.self.now.held c.args.address n ≡ false) size out,
-      subst (λ (n : ℕ). (p : IsInArray (g.S.Shared.shapes c.args.shared.now) c.args.address n) × (p.array.frozen ≡ c.in-Some.array.frozen)) size (there.0, ap (λ (x : ArrayShape). x.frozen) there.1),
+      subst (λ (n : ℕ). (p : IsInArray (g.S.Shared.shapes c.args.shared.now) c.args.address n) × (p.array.frozen ≡ c.in-Some.array.frozen))
+          size (there.0, ap (λ (x : ArrayShape). x.frozen) there.1),
     )

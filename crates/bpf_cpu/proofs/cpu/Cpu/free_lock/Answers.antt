@@ -13,7 +13,8 @@ use Rattle.bpf_cpu.proofs.cpu.Cpu.free_lock.Goals as goal
 pub value_atomic-requires-clause-place : goal.value_atomic-requires-clause-place
 value_atomic-requires-clause-place g c =
     let cpu = c.args.self.now in
-    writable (g.S.Shared.shapes c.args.shared.now) (g.S.Shared.held c.args.shared.now cpu.number) cpu (slice_index cpu.registers 1) Word c.in-Ok.place event_size.Word
+    writable (g.S.Shared.shapes c.args.shared.now) (g.S.Shared.held c.args.shared.now cpu.number) cpu (slice_index cpu.registers 1) Word
+    c.in-Ok.place event_size.Word
     c.requires.held c.in-Ok.ensures.at refl c.in-Ok.ensures.place
 
 pub returns-in-Ok-clause-free : goal.returns-in-Ok-clause-free
@@ -24,7 +25,8 @@ returns-in-Ok-clause-free g c =
     let found = c.value_atomic.result in
     let asked : event.Atomic c.in-Ok.place.at event_size.Word Exchange 0 0 found ∷ [] ≡ event.Atomic lock event_size.Word Exchange 0 0 found ∷ [] = cc in (
       event.Atomic c.in-Ok.place.at event_size.Word Exchange 0 0 found ∷ [],
-      chain_one g.S.Shared.passes g.S.Shared.serves cpu.number c.args.shared.now c.value_atomic.new.self _ c.requires.serves c.value_atomic.ensures.changed c.value_atomic.ensures.same.1,
+      chain_one g.S.Shared.passes g.S.Shared.serves cpu.number c.args.shared.now c.value_atomic.new.self _ c.requires.serves
+          c.value_atomic.ensures.changed c.value_atomic.ensures.same.1,
       inr (c.in-Ok.ensures.place, (found, asked, refl, c.return_from_helper.ensures)),
     )
 

@@ -9,7 +9,8 @@ returns-then-return_to_starts c = elim c.if-is_start.branch [
   | then-is_start w ↦ (
     λ top. record {
       here = c.is_start.ensures.0 w.if-is_start.true;
-      callers = subst (λ (cs : List Caller). All (λ caller. IsStart c.args.program.now.instructions caller.return_pc) cs) w.callers.ensures (w.return_to_starts.ensures.0 (sym w.value-is ∙ c.if-return_to_starts.true));
+      callers = subst (λ (cs : List Caller). All (λ caller. IsStart c.args.program.now.instructions caller.return_pc) cs) w.callers.ensures
+          (w.return_to_starts.ensures.0 (sym w.value-is ∙ c.if-return_to_starts.true));
       paired = c.depth.ensures.stack.paired;
       top = c.has_top.ensures.0 top;
     },
@@ -22,7 +23,9 @@ pub returns-else-return_to_starts : goal.returns-else-return_to_starts
 returns-else-return_to_starts c = (
   λ is. absurd (true≢false (sym is ∙ c.if-return_to_starts.false)),
   λ ready. elim c.if-is_start.branch [
-    | then-is_start w ↦ w.value-is ∙ w.return_to_starts.ensures.1 (subst (λ (cs : List Caller). All (λ caller. IsStart c.args.program.now.instructions caller.return_pc) cs) (sym w.callers.ensures) ready.callers)
+    | then-is_start w ↦ w.value-is ∙ w.return_to_starts.ensures.1
+        (subst (λ (cs : List Caller). All (λ caller. IsStart c.args.program.now.instructions caller.return_pc) cs) (sym w.callers.ensures)
+        ready.callers)
     | else-is_start w ↦ absurd (true≢false (sym (c.is_start.ensures.1 ready.here) ∙ w.if-is_start.false))
   ],
 )

@@ -11,7 +11,8 @@ use Rattle.bpf_cpu.proofs.cpu.Cpu.load_value.Goals as goal
 pub value_load-found-requires-clause-place : goal.value_load-found-requires-clause-place
 value_load-found-requires-clause-place g c =
     let cpu = c.args.self.now in
-    readable (g.S.Shared.shapes c.args.shared.now) (g.S.Shared.held c.args.shared.now cpu.number) cpu c.args.address c.args.size c.in-Ok.place c.event_size_of.result
+    readable (g.S.Shared.shapes c.args.shared.now) (g.S.Shared.held c.args.shared.now cpu.number) cpu c.args.address c.args.size
+    c.in-Ok.place c.event_size_of.result
     c.requires.held c.in-Ok.ensures.at c.event_size_of.ensures c.in-Ok.ensures.place
 
 pub returns-in-Ok-clause-load : goal.returns-in-Ok-clause-load
@@ -24,7 +25,8 @@ returns-in-Ok-clause-load g c =
     let put : c.put_found.new.self ≡ with_register cpu c.args.dst (reading_of c.args.extension found) (cpu.pc + 1) =
     c.put_found.ensures ∙ ap (λ (n : ℕ). with_register cpu c.args.dst n (cpu.pc + 1)) c.read_as.ensures in (
       event.Load c.in-Ok.place.at c.event_size_of.result found ∷ [],
-      chain_one g.S.Shared.passes g.S.Shared.serves cpu.number c.args.shared.now c.value_load-found.new.self _ c.requires.serves c.value_load-found.ensures.loaded c.value_load-found.ensures.same.1,
+      chain_one g.S.Shared.passes g.S.Shared.serves cpu.number c.args.shared.now c.value_load-found.new.self _ c.requires.serves
+          c.value_load-found.ensures.loaded c.value_load-found.ensures.same.1,
       inr (c.in-Ok.ensures.place, (found, asked, refl, put)),
     )
 

@@ -13,5 +13,12 @@ returns-then-not-is_multiple-clause-refused g c =
     (Misaligned, (there, λ e. false≢true (c.if-not-is_multiple.ensures.1 e)), λ cpu. refl)
 
 pub returns-then-is_read_only-clause-refused : goal.returns-then-is_read_only-clause-refused
-returns-then-is_read_only-clause-refused g c =
-    (ReadOnly, (holder_closed (g.S.Shared.shapes c.args.shared.now) c.args.self.now c.args.address c.args.size c.in-Some.holder c.in-Some.ensures.found (sym c.is_read_only.ensures ∙ c.if-is_read_only.true), c.if-not-is_multiple.ensures.0 refl), λ cpu. refl)
+returns-then-is_read_only-clause-refused g c = (
+  ReadOnly,
+  (
+    holder_closed (g.S.Shared.shapes c.args.shared.now) c.args.self.now c.args.address c.args.size c.in-Some.holder
+        c.in-Some.ensures.found (sym c.is_read_only.ensures ∙ c.if-is_read_only.true),
+    c.if-not-is_multiple.ensures.0 refl,
+  ),
+  λ cpu. refl,
+)

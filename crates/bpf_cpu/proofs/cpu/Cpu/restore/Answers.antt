@@ -1,11 +1,13 @@
 use Rattle.std.proofs.Common.{◌≡◌, ◌∙◌, sym, length, arith, rules}
 use Rattle.bpf_mem.proofs.Fronts.{if_none}
 use Rattle.bpf_helpers.specs.Saved.{MayBeHeld}
-use Rattle.bpf_cpu.proofs.SavedStates.{none_then, some_then, none_short, none_registers, none_drawn, none_frames, none_held, none_context, none_packet, all_read}
+use Rattle.bpf_cpu.proofs.SavedStates.{none_then, some_then, none_short, none_registers, none_drawn, none_frames, none_held, none_context}
+use Rattle.bpf_cpu.proofs.SavedStates.{none_packet, all_read}
 use Rattle.bpf_cpu.proofs.cpu.Cpu.restore.Goals as goal
 
 pub returns-in_err-pc-clause-none : goal.returns-in_err-pc-clause-none
-returns-in_err-pc-clause-none c = if_none c.from_residual.result (λ other more is may job e. none_short c.args.bytes.now other more is e c.in_err-pc.ensures.none)
+returns-in_err-pc-clause-none c = if_none c.from_residual.result
+    (λ other more is may job e. none_short c.args.bytes.now other more is e c.in_err-pc.ensures.none)
 
 pub returns-in_err-rest-clause-none : goal.returns-in_err-rest-clause-none
 returns-in_err-rest-clause-none c =
@@ -63,5 +65,7 @@ returns-clause-none c =
 pub returns-clause-some : goal.returns-clause-some
 returns-clause-some c =
     some_then _ _ c.restore-4.result c.restore-4.ensures.some (λ rest read.
-    all_read _ c.args.bytes.now c.in_ok-pc.rest.now c.in_ok-rest.rest.now c.in_ok-drawn.rest.now c.in_ok-rest-2.rest.now c.in_ok-rest-3.rest.now c.in_ok-rest-4.rest.now rest.now
-    c.in_ok-pc.ensures.some c.in_ok-rest.ensures.some c.in_ok-drawn.ensures.some c.in_ok-rest-2.ensures.some c.in_ok-rest-3.ensures.some c.in_ok-rest-4.ensures.some read)
+    all_read _ c.args.bytes.now c.in_ok-pc.rest.now c.in_ok-rest.rest.now c.in_ok-drawn.rest.now c.in_ok-rest-2.rest.now
+    c.in_ok-rest-3.rest.now c.in_ok-rest-4.rest.now rest.now
+    c.in_ok-pc.ensures.some c.in_ok-rest.ensures.some c.in_ok-drawn.ensures.some c.in_ok-rest-2.ensures.some c.in_ok-rest-3.ensures.some
+    c.in_ok-rest-4.ensures.some read)

@@ -23,19 +23,23 @@ returns-in-Ok-clause-explained g c =
     let x3 = c.end.new.self in
     let begun = c.in-Ok.ensures in
     let made = c.make_steps-outcome.ensures.steps in
-    let first : Chain g.S.Shared.passes g.S.Shared.serves cpu x0 x1 (Begin ∷ []) = chain_one g.S.Shared.passes g.S.Shared.serves cpu x0 x1 Begin c.requires.serves begun.begun begun.same.1 in
-    let both : Chain g.S.Shared.passes g.S.Shared.serves cpu x0 x2 (Begin ∷ made.0) = chain_join g.S.Shared.passes g.S.Shared.serves cpu g.met.S.Shared.follows x0 x1 x2 (Begin ∷ []) made.0 first made.1 in
+    let first : Chain g.S.Shared.passes g.S.Shared.serves cpu x0 x1 (Begin ∷ []) = chain_one g.S.Shared.passes g.S.Shared.serves cpu x0 x1
+    Begin c.requires.serves begun.begun begun.same.1 in
+    let both : Chain g.S.Shared.passes g.S.Shared.serves cpu x0 x2 (Begin ∷ made.0) = chain_join g.S.Shared.passes g.S.Shared.serves cpu
+    g.met.S.Shared.follows x0 x1 x2 (Begin ∷ []) made.0 first made.1 in
     let ended = c.end.ensures in
     let P : ℕ → Type 0 = λ k. Calls (g.S.Shared.passes x2 x3) (g.S.Shared.serves x2) k End in
     let last : Calls (g.S.Shared.passes x2 x3) (g.S.Shared.serves x2) cpu End = subst P c.make_steps-outcome.ensures.number ended.ended in
-    let Q : Shape → Type 0 = λ h. MakesSteps h c.args.program.now c.args.budget c.args.self.now made.0 c.make_steps-outcome.result c.make_steps-outcome.new.self in (
+    let Q : Shape → Type 0 = λ h. MakesSteps h c.args.program.now c.args.budget c.args.self.now made.0 c.make_steps-outcome.result
+    c.make_steps-outcome.new.self in (
       Begin ∷ (made.0 ++ End ∷ []),
       chain_call g.S.Shared.passes g.S.Shared.serves cpu g.met.S.Shared.follows x0 x2 x3 (Begin ∷ made.0) End c.requires.serves both last ended.same.1,
       inl (made.0, c.make_steps-outcome.new.self, refl, subst Q begun.same.0 made.2),
     )
 
 pub make_steps-outcome-requires-clause-held : goal.make_steps-outcome-requires-clause-held
-make_steps-outcome-requires-clause-held g c = nothing_held (g.S.Shared.held c.begin.new.self c.args.self.now.number) c.args.self.now c.requires.fresh.0 c.requires.fresh.1
+make_steps-outcome-requires-clause-held g c = nothing_held (g.S.Shared.held c.begin.new.self c.args.self.now.number) c.args.self.now
+    c.requires.fresh.0 c.requires.fresh.1
 
 -- the CPU is out of its run again, and the others are as before
 pub returns-in-Ok-clause-keeps : goal.returns-in-Ok-clause-keeps

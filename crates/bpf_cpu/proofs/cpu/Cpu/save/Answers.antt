@@ -92,7 +92,9 @@ returns-clause-ok c =
     let near = c.save-2.new.out.items in
     let last = c.save_bytes.new.out.items in
     on_ok_weaker c.save_bytes-2.result (λ e.
-    joined c.args.out.now.items (low_bytes 4 cpu.pc) (words_saved 0 cpu.registers) (words_saved 0 (cpu.drawn ∷ [])) (frames_saved cpu.memory.frames) (spans_saved cpu.held) cpu.memory.context cpu.memory.packet
+    joined c.args.out.now.items (low_bytes 4 cpu.pc) (words_saved 0 cpu.registers) (words_saved 0 (cpu.drawn ∷ []))
+    (frames_saved cpu.memory.frames) (spans_saved cpu.held) cpu.memory.context cpu.memory.packet
     c.save_pc.new.out.items c.save_words.new.out.items c.save_count.new.out.items c.save.new.out.items near last c.save_bytes-2.new.out.items
     c.in_ok-save_pc.ensures.ok c.in_ok-save_words.ensures.ok c.in_ok-save_count.ensures.ok c.in_ok-save.ensures.ok c.in_ok-save-2.ensures.ok
-    (c.in_ok-save_bytes.ensures.ok ∙ ap (λ (l : List ℕ). near ++ l) c.bytes.ensures.value) (e ∙ ap (λ (l : List ℕ). last ++ l) c.bytes-2.ensures.value)) c.save_bytes-2.ensures.ok
+    (c.in_ok-save_bytes.ensures.ok ∙ ap (λ (l : List ℕ). near ++ l) c.bytes.ensures.value)
+    (e ∙ ap (λ (l : List ℕ). last ++ l) c.bytes-2.ensures.value)) c.save_bytes-2.ensures.ok

@@ -37,9 +37,26 @@ returns-clause-answered c =
     let C : SessionState → Type 0 = λ s. s.course ≡ Some runs in
     let is : m.course ≡ Some runs = subst C (sym c.self.view_is) c.requires.1 in
     let taken = c.take_back-cpu.ensures runs is in
-    let after : Option (List (ℕ × ℕ)) → SessionState = λ h. record { machine = n; first = first_of m.origin n.programs; names = names; breaks = m.breakpoints.items; watch = option_map watched m.watch; course = h } in
-    let H : Option (List (ℕ × ℕ)) → Type 0 = λ h. Leaves (record { machine = m.machine; first = first_of m.origin m.machine.programs; names = names; breaks = m.breakpoints.items; watch = option_map watched m.watch; course = m.course }) (Back c.args.count) last (after h) in
+    let after : Option (List (ℕ × ℕ)) → SessionState = λ h. record {
+      machine = n;
+      first = first_of m.origin n.programs;
+      names = names;
+      breaks = m.breakpoints.items;
+      watch = option_map watched
+          m.watch;
+      course = h;
+    } in
+    let H : Option (List (ℕ × ℕ)) → Type 0 = λ h. Leaves (record {
+      machine = m.machine;
+      first = first_of m.origin m.machine.programs;
+      names = names;
+      breaks = m.breakpoints.items;
+      watch =
+          option_map watched m.watch;
+      course = m.course;
+    }) (Back c.args.count) last (after h) in
     let P : SessionState → Type 0 = λ s. Leaves s (Back c.args.count) last (after c.take_back-cpu.new.self) in
     subst P c.self.view_is (subst H (sym taken.1)
-    (went_back m.machine m.origin names m.breakpoints.items (option_map watched m.watch) m.course rewound n runs taken.0 c.args.count c.take_back-cpu.result (string_bytes c.in_ok-out.out) last is c.requires.2 c.in_ok-rewind.ensures.ok taken.2
+    (went_back m.machine m.origin names m.breakpoints.items (option_map watched m.watch) m.course rewound n runs taken.0 c.args.count
+    c.take_back-cpu.result (string_bytes c.in_ok-out.out) last is c.requires.2 c.in_ok-rewind.ensures.ok taken.2
     (c.repeat.ensures.turns taken.0 taken.1) c.repeat.ensures.same c.in_ok-out.ensures.empty c.put_where.ensures.text))

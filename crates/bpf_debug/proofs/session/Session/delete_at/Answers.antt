@@ -6,5 +6,6 @@ use Rattle.bpf_debug.proofs.session.Session.delete_at.Goals as goal
 
 pub returns-clause-answered : goal.returns-clause-answered
 returns-clause-answered c =
-    let P : Option ℕ → Type 0 = λ o. IfOk c.delete_break.result (λ text. Leaves c.args.self.now (Delete (Some c.args.cpu) o) (string_bytes text) c.delete_break.new.self) in
+    let P : Option ℕ → Type 0 = λ o. IfOk c.delete_break.result (λ text. Leaves c.args.self.now (Delete (Some c.args.cpu) o)
+    (string_bytes text) c.delete_break.new.self) in
     subst P (sym c.in-Some.is) c.delete_break.ensures.answered

@@ -16,7 +16,18 @@ returns-clause-answered c =
     let breaks = m.breakpoints.items in
     let fewer = c.remove_break.new.breakpoints.items in
     let last = string_bytes c.put_deleted.new.out in
-    let P : SessionState → Type 0 = λ s. Leaves s (Delete (Some c.args.cpu) (Some c.args.pc)) last (record { machine = m.machine; first = first_of m.origin m.machine.programs; names = names; breaks = fewer; watch = option_map watched m.watch; course = m.course }) in
+    let P : SessionState → Type 0 = λ s. Leaves s (Delete (Some c.args.cpu) (Some c.args.pc)) last
+    (record {
+      machine = m.machine;
+      first = first_of m.origin m.machine.programs;
+      names = names;
+      breaks = fewer;
+      watch = option_map
+          watched m.watch;
+      course = m.course;
+    }) in
     let H : SessionState → Type 0 = λ s. has_cpu s.machine.store c.args.cpu ≡ true in
     let I : SessionState → Type 0 = λ s. IsPc s.machine.programs c.args.pc in
-    subst P c.self.view_is (unbroken m.machine m.origin names breaks (option_map watched m.watch) m.course c.args.cpu c.args.pc fewer (string_bytes c.in_ok-out.out) last (subst H (sym c.self.view_is) c.requires.served) (subst I (sym c.self.view_is) c.requires.begins) c.remove_break.ensures c.in_ok-out.ensures.empty c.put_deleted.ensures)
+    subst P c.self.view_is (unbroken m.machine m.origin names breaks (option_map watched m.watch) m.course c.args.cpu c.args.pc fewer
+    (string_bytes c.in_ok-out.out) last (subst H (sym c.self.view_is) c.requires.served)
+    (subst I (sym c.self.view_is) c.requires.begins) c.remove_break.ensures c.in_ok-out.ensures.empty c.put_deleted.ensures)

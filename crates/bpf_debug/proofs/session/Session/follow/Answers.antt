@@ -127,7 +127,8 @@ returns-in-Watch-clause-answered c =
 
 pub returns-in-WatchVariable-clause-answered : goal.returns-in-WatchVariable-clause-answered
 returns-in-WatchVariable-clause-answered c =
-    let P : Command → Type 0 = λ o. IfOk c.watch_variable.result (λ text. Leaves c.args.self.now (command_order o) (string_bytes text) c.watch_variable.new.self) in
+    let P : Command → Type 0 = λ o. IfOk c.watch_variable.result
+    (λ text. Leaves c.args.self.now (command_order o) (string_bytes text) c.watch_variable.new.self) in
     subst P (sym c.in-WatchVariable.is) c.watch_variable.ensures.answered
 
 pub returns-in-Unwatch-clause-answered : goal.returns-in-Unwatch-clause-answered

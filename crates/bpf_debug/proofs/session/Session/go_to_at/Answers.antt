@@ -6,5 +6,6 @@ use Rattle.bpf_debug.proofs.session.Session.go_to_at.Goals as goal
 
 pub returns-clause-answered : goal.returns-clause-answered
 returns-clause-answered c =
-    let P : Option ℕ → Type 0 = λ o. IfOk c.go_to_pc.result (λ text. Leaves c.args.self.now (GoTo (Some c.args.cpu) o) (string_bytes text) c.go_to_pc.new.self) in
+    let P : Option ℕ → Type 0 = λ o. IfOk c.go_to_pc.result (λ text. Leaves c.args.self.now (GoTo (Some c.args.cpu) o) (string_bytes text)
+    c.go_to_pc.new.self) in
     subst P (sym c.in-Some.is) c.go_to_pc.ensures.answered

@@ -14,11 +14,20 @@ pub returns-clause-answered : goal.returns-clause-answered
 returns-clause-answered c =
     let m = c.self.inside in
     let names : Names = names_of m.names in
-    let s : SessionState = record { machine = m.machine; first = first_of m.origin m.machine.programs; names = names; breaks = m.breakpoints.items; watch = option_map watched m.watch; course = m.course } in
+    let s : SessionState = record {
+      machine = m.machine;
+      first = first_of m.origin m.machine.programs;
+      names = names;
+      breaks =
+          m.breakpoints.items;
+      watch = option_map watched m.watch;
+      course = m.course;
+    } in
     let last = string_bytes c.in_ok-text.text in
     let state = c.in-Some.state.now in
     let P : SessionState → Type 0 = λ t. Leaves t (Held (Some c.args.cpu)) last t in
     let N : List (String Global) → Type 0 = λ ns. ShowsHeld (map (λ n. string_bytes n) ns) c.store.result.now state (length state.held) last in
     let T : Contents → Type 0 = λ p. ShowsHeld names.maps p state (length state.held) last in
     let H : SessionState → Type 0 = λ t. has_cpu t.machine.store c.args.cpu ≡ true in
-    subst P c.self.view_is (told_held s c.args.cpu last state (subst H (sym c.self.view_is) c.requires) c.in-Some.ensures.state (subst T c.store.ensures (subst N c.deref.ensures.value c.in_ok-text.ensures)))
+    subst P c.self.view_is (told_held s c.args.cpu last state (subst H (sym c.self.view_is) c.requires) c.in-Some.ensures.state
+    (subst T c.store.ensures (subst N c.deref.ensures.value c.in_ok-text.ensures)))

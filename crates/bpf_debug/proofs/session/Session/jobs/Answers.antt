@@ -12,7 +12,15 @@ pub returns-clause-answered : goal.returns-clause-answered
 returns-clause-answered c =
     let m = c.self.inside in
     let names : Names = names_of m.names in
-    let s : SessionState = record { machine = m.machine; first = first_of m.origin m.machine.programs; names = names; breaks = m.breakpoints.items; watch = option_map watched m.watch; course = m.course } in
+    let s : SessionState = record {
+      machine = m.machine;
+      first = first_of m.origin m.machine.programs;
+      names = names;
+      breaks =
+          m.breakpoints.items;
+      watch = option_map watched m.watch;
+      course = m.course;
+    } in
     let last = string_bytes c.put_jobs.new.out in
     let P : SessionState → Type 0 = λ t. Leaves t Jobs last t in
     subst P c.self.view_is (told_of_jobs s (string_bytes c.in_ok-out.out) last c.in_ok-out.ensures.empty c.put_jobs.ensures)

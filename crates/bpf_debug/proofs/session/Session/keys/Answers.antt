@@ -14,8 +14,17 @@ pub returns-clause-answered : goal.returns-clause-answered
 returns-clause-answered c =
     let m = c.self.inside in
     let names : Names = names_of m.names in
-    let s : SessionState = record { machine = m.machine; first = first_of m.origin m.machine.programs; names = names; breaks = m.breakpoints.items; watch = option_map watched m.watch; course = m.course } in
+    let s : SessionState = record {
+      machine = m.machine;
+      first = first_of m.origin m.machine.programs;
+      names = names;
+      breaks =
+          m.breakpoints.items;
+      watch = option_map watched m.watch;
+      course = m.course;
+    } in
     let N : List (String Global) → Type 0 = λ ns. IsNamed (map (λ n. string_bytes n) ns) c.args.name.now c.in-Some.map in
     let T : Contents → Type 0 = λ p. TellsTableKeys p c.in-Some.map (string_bytes c.in_ok-text.text) in
     let P : SessionState → Type 0 = λ t. Leaves t (Keys c.args.name.now) (string_bytes c.in_ok-text.text) t in
-    subst P c.self.view_is (told_keys s c.args.name.now c.in-Some.map (string_bytes c.in_ok-text.text) (subst N c.deref.ensures.value c.in-Some.ensures.named) (subst T c.store.ensures c.in_ok-text.ensures))
+    subst P c.self.view_is (told_keys s c.args.name.now c.in-Some.map (string_bytes c.in_ok-text.text)
+    (subst N c.deref.ensures.value c.in-Some.ensures.named) (subst T c.store.ensures c.in_ok-text.ensures))

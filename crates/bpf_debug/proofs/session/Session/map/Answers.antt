@@ -14,9 +14,18 @@ pub returns-clause-answered : goal.returns-clause-answered
 returns-clause-answered c =
     let m = c.self.inside in
     let names : Names = names_of m.names in
-    let s : SessionState = record { machine = m.machine; first = first_of m.origin m.machine.programs; names = names; breaks = m.breakpoints.items; watch = option_map watched m.watch; course = m.course } in
+    let s : SessionState = record {
+      machine = m.machine;
+      first = first_of m.origin m.machine.programs;
+      names = names;
+      breaks =
+          m.breakpoints.items;
+      watch = option_map watched m.watch;
+      course = m.course;
+    } in
     let N : List (String Global) → Type 0 = λ ns. IsNamed (map (λ n. string_bytes n) ns) c.args.name.now c.in-Some.map in
     let T : Contents → Type 0 = λ p. TellsTable p (map (λ n. string_bytes n) c.deref-2.result.now) c.in-Some.map (string_bytes c.in_ok-text.text) in
     let D : List (String Global) → Type 0 = λ ns. TellsTable m.machine.store (map (λ n. string_bytes n) ns) c.in-Some.map (string_bytes c.in_ok-text.text) in
     let P : SessionState → Type 0 = λ t. Leaves t (Map c.args.name.now) (string_bytes c.in_ok-text.text) t in
-    subst P c.self.view_is (told_map s c.args.name.now c.in-Some.map (string_bytes c.in_ok-text.text) (subst N c.deref.ensures.value c.in-Some.ensures.named) (subst D c.deref-2.ensures.value (subst T c.store.ensures c.in_ok-text.ensures)))
+    subst P c.self.view_is (told_map s c.args.name.now c.in-Some.map (string_bytes c.in_ok-text.text)
+    (subst N c.deref.ensures.value c.in-Some.ensures.named) (subst D c.deref-2.ensures.value (subst T c.store.ensures c.in_ok-text.ensures)))

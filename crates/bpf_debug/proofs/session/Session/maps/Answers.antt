@@ -14,7 +14,15 @@ pub returns-clause-answered : goal.returns-clause-answered
 returns-clause-answered c =
     let m = c.self.inside in
     let names : Names = names_of m.names in
-    let s : SessionState = record { machine = m.machine; first = first_of m.origin m.machine.programs; names = names; breaks = m.breakpoints.items; watch = option_map watched m.watch; course = m.course } in
+    let s : SessionState = record {
+      machine = m.machine;
+      first = first_of m.origin m.machine.programs;
+      names = names;
+      breaks =
+          m.breakpoints.items;
+      watch = option_map watched m.watch;
+      course = m.course;
+    } in
     let last = string_bytes c.in_ok-text.text in
     let T : Contents → Type 0 = λ p. last ≡ store_lines names (shape_of p) in
     let put = subst T c.store.ensures c.in_ok-text.ensures in

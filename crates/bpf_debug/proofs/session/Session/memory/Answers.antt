@@ -6,5 +6,6 @@ use Rattle.bpf_debug.proofs.session.Session.memory.Goals as goal
 
 pub returns-clause-answered : goal.returns-clause-answered
 returns-clause-answered c =
-    let P : Option ℕ → Type 0 = λ o. IfOk c.memory_at.result (λ text. Leaves c.args.self.now (Memory o c.args.address c.args.count) (string_bytes text) c.args.self.now) in
+    let P : Option ℕ → Type 0 = λ o. IfOk c.memory_at.result (λ text. Leaves c.args.self.now (Memory o c.args.address c.args.count)
+    (string_bytes text) c.args.self.now) in
     subst P (sym c.in-Some.ensures.some.0) c.memory_at.ensures.answered

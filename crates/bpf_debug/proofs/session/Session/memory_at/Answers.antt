@@ -14,9 +14,18 @@ pub returns-clause-answered : goal.returns-clause-answered
 returns-clause-answered c =
     let m = c.self.inside in
     let names : Names = names_of m.names in
-    let s : SessionState = record { machine = m.machine; first = first_of m.origin m.machine.programs; names = names; breaks = m.breakpoints.items; watch = option_map watched m.watch; course = m.course } in
+    let s : SessionState = record {
+      machine = m.machine;
+      first = first_of m.origin m.machine.programs;
+      names = names;
+      breaks =
+          m.breakpoints.items;
+      watch = option_map watched m.watch;
+      course = m.course;
+    } in
     let last = string_bytes c.in_ok-text.text in
     let P : SessionState → Type 0 = λ t. Leaves t (Memory (Some c.args.cpu) c.args.address c.args.count) last t in
     let T : Contents → Type 0 = λ p. TellsBytes p c.in-Some.state.now c.args.address c.args.count last in
     let H : SessionState → Type 0 = λ t. has_cpu t.machine.store c.args.cpu ≡ true in
-    subst P c.self.view_is (told_bytes s c.args.cpu c.args.address c.args.count last c.in-Some.state.now (subst H (sym c.self.view_is) c.requires) c.in-Some.ensures.state (subst T c.store.ensures c.in_ok-text.ensures))
+    subst P c.self.view_is (told_bytes s c.args.cpu c.args.address c.args.count last c.in-Some.state.now
+    (subst H (sym c.self.view_is) c.requires) c.in-Some.ensures.state (subst T c.store.ensures c.in_ok-text.ensures))

@@ -8,4 +8,5 @@ use Rattle.bpf_debug.proofs.session.Session.obey.Goals as goal
 pub returns-in-empty-clause-answered : goal.returns-in-empty-clause-answered
 returns-in-empty-clause-answered c =
     let none : length c.args.fields.now ≡ 0 = omega arith in
-    no_line c.args.self.now (map (λ (f : Bor (List ℕ)). f.now) c.args.fields.now) (string_bytes c.new.result) (ap (map (λ (f : Bor (List ℕ)). f.now)) (nil_from_length c.args.fields.now none)) c.new.ensures.bytes
+    no_line c.args.self.now (map (λ (f : Bor (List ℕ)). f.now) c.args.fields.now) (string_bytes c.new.result)
+    (ap (map (λ (f : Bor (List ℕ)). f.now)) (nil_from_length c.args.fields.now none)) c.new.ensures.bytes

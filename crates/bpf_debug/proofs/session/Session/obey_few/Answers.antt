@@ -14,7 +14,8 @@ returns-in-Some-clause-answered c =
     let order = command_order c.in-Some.command in
     let P : String Global → Type 0 = λ text. Leaves c.args.self.now order (string_bytes text) c.follow.new.self in
     let Q : String Global → Type 0 = λ text. LeavesLine c.args.self.now fields (string_bytes text) c.follow.new.self in
-    ok_weaker P Q c.follow.result (λ text leaves. line_done c.args.self.now c.follow.new.self fields order (string_bytes text) (c.in-Some.ensures ∙ sym c.requires.few) leaves) c.follow.ensures.answered
+    ok_weaker P Q c.follow.result (λ text leaves. line_done c.args.self.now c.follow.new.self fields order (string_bytes text)
+    (c.in-Some.ensures ∙ sym c.requires.few) leaves) c.follow.ensures.answered
 
 pub returns-in-Some-clause-refused : goal.returns-in-Some-clause-refused
 returns-in-Some-clause-refused c =
@@ -22,4 +23,5 @@ returns-in-Some-clause-refused c =
     let order = command_order c.in-Some.command in
     let P : DebugError → Type 0 = λ e. RefusesHere c.args.self.now order e in
     let Q : DebugError → Type 0 = λ e. RefusesLine c.args.self.now fields e in
-    err_weaker P Q c.follow.result (λ e refuses. line_refused c.args.self.now fields order e (c.in-Some.ensures ∙ sym c.requires.few) refuses) c.follow.ensures.refused
+    err_weaker P Q c.follow.result (λ e refuses. line_refused c.args.self.now fields order e (c.in-Some.ensures ∙ sym c.requires.few)
+    refuses) c.follow.ensures.refused

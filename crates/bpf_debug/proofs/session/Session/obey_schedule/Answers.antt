@@ -17,7 +17,8 @@ returns-clause-answered c =
     let R : List (ℕ × ℕ) → Type 0 = λ runs. IfOk c.steps.result (λ text. Leaves c.args.self.now (Steps runs) (string_bytes text) c.steps.new.self) in
     let P : String Global → Type 0 = λ text. Leaves c.args.self.now order (string_bytes text) c.steps.new.self in
     let Q : String Global → Type 0 = λ text. LeavesLine c.args.self.now fields (string_bytes text) c.steps.new.self in
-    ok_weaker P Q c.steps.result (λ text leaves. line_done c.args.self.now c.steps.new.self fields order (string_bytes text) (sym (c.requires.said ∙ said)) leaves) (subst R c.deref.ensures.value c.steps.ensures.answered)
+    ok_weaker P Q c.steps.result (λ text leaves. line_done c.args.self.now c.steps.new.self fields order (string_bytes text)
+    (sym (c.requires.said ∙ said)) leaves) (subst R c.deref.ensures.value c.steps.ensures.answered)
 
 pub returns-clause-refused : goal.returns-clause-refused
 returns-clause-refused c =
@@ -28,4 +29,5 @@ returns-clause-refused c =
     let R : List (ℕ × ℕ) → Type 0 = λ runs. IfErr c.steps.result (λ e. RefusesHere c.args.self.now (Steps runs) e) in
     let P : DebugError → Type 0 = λ e. RefusesHere c.args.self.now order e in
     let Q : DebugError → Type 0 = λ e. RefusesLine c.args.self.now fields e in
-    err_weaker P Q c.steps.result (λ e refuses. line_refused c.args.self.now fields order e (sym (c.requires.said ∙ said)) refuses) (subst R c.deref.ensures.value c.steps.ensures.refused)
+    err_weaker P Q c.steps.result (λ e refuses. line_refused c.args.self.now fields order e (sym (c.requires.said ∙ said)) refuses)
+    (subst R c.deref.ensures.value c.steps.ensures.refused)

@@ -23,7 +23,9 @@ returns-then-has_break-clause-answered c =
     let P : SessionState → Type 0 = λ s. Leaves s order last s in
     let H : SessionState → Type 0 = λ s. has_cpu s.machine.store c.args.cpu ≡ true in
     let I : SessionState → Type 0 = λ s. IsPc s.machine.programs c.args.pc in
-    subst P c.self.view_is (broken m.machine m.origin names breaks (option_map watched m.watch) m.course c.args.cpu c.args.pc breaks (string_bytes c.in_ok-out.out) last (subst H (sym c.self.view_is) c.requires.served) (subst I (sym c.self.view_is) c.requires.begins) (is_kept breaks c.args.cpu c.args.pc there) c.in_ok-out.ensures.empty c.put_break.ensures)
+    subst P c.self.view_is (broken m.machine m.origin names breaks (option_map watched m.watch) m.course c.args.cpu c.args.pc breaks
+    (string_bytes c.in_ok-out.out) last (subst H (sym c.self.view_is) c.requires.served)
+    (subst I (sym c.self.view_is) c.requires.begins) (is_kept breaks c.args.cpu c.args.pc there) c.in_ok-out.ensures.empty c.put_break.ensures)
 
 pub returns-clause-answered : goal.returns-clause-answered
 returns-clause-answered c =
@@ -35,7 +37,18 @@ returns-clause-answered c =
     let B : List Breakpoint → Type 0 = λ bs. false ≡ has_break bs c.args.cpu c.args.pc in
     let absent = subst B c.deref.ensures.value (sym c.if-has_break.false ∙ c.has_break.ensures) in
     let more = c.push.new.self.items in
-    let P : SessionState → Type 0 = λ s. Leaves s order last (record { machine = m.machine; first = first_of m.origin m.machine.programs; names = names; breaks = more; watch = option_map watched m.watch; course = m.course }) in
+    let P : SessionState → Type 0 = λ s. Leaves s order last (record {
+      machine = m.machine;
+      first = first_of m.origin m.machine.programs;
+      names = names;
+      breaks = more;
+      watch = option_map watched
+          m.watch;
+      course = m.course;
+    }) in
     let H : SessionState → Type 0 = λ s. has_cpu s.machine.store c.args.cpu ≡ true in
     let I : SessionState → Type 0 = λ s. IsPc s.machine.programs c.args.pc in
-    subst P c.self.view_is (broken m.machine m.origin names breaks (option_map watched m.watch) m.course c.args.cpu c.args.pc more (string_bytes c.in_ok-out.out) last (subst H (sym c.self.view_is) c.requires.served) (subst I (sym c.self.view_is) c.requires.begins) (c.in_ok-push.ensures.items ∙ is_added breaks c.args.cpu c.args.pc absent) c.in_ok-out.ensures.empty c.put_break.ensures)
+    subst P c.self.view_is (broken m.machine m.origin names breaks (option_map watched m.watch) m.course c.args.cpu c.args.pc more
+    (string_bytes c.in_ok-out.out) last (subst H (sym c.self.view_is) c.requires.served)
+    (subst I (sym c.self.view_is) c.requires.begins) (c.in_ok-push.ensures.items ∙ is_added breaks c.args.cpu c.args.pc absent)
+    c.in_ok-out.ensures.empty c.put_break.ensures)

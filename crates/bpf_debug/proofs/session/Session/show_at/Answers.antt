@@ -26,8 +26,12 @@ invariant_of-self-2 c =
     let rewound = c.rewind.new.machine in
     let C : SessionState → Type 0 = λ s. s.course ≡ Some c.requires.told.0 in
     let shows : Shows rewound can.shown.0 = subst (λ (n : MachineState). Shows n can.shown.0) (sym c.in_ok-rewind.ensures.ok) can.shown.1 in
-    let t = c.recall-recall.ensures.turns c.requires.told.0 (subst C (sym c.self.view_is) c.requires.told.1) can.shown.0 shows in
-    (t.0, t.3, can_still m.origin rewound c.recall-recall.new.machine c.recall-recall.ensures.same (can_rewound m.origin m.machine rewound c.in_ok-rewind.ensures.ok can))
+    let t = c.recall-recall.ensures.turns c.requires.told.0 (subst C (sym c.self.view_is) c.requires.told.1) can.shown.0 shows in (
+      t.0,
+      t.3,
+      can_still m.origin rewound c.recall-recall.new.machine c.recall-recall.ensures.same
+          (can_rewound m.origin m.machine rewound c.in_ok-rewind.ensures.ok can),
+    )
 
 pub returns-clause-answered : goal.returns-clause-answered
 returns-clause-answered c =
@@ -41,7 +45,14 @@ returns-clause-answered c =
     let C : SessionState → Type 0 = λ s. s.course ≡ Some runs in
     let H : SessionState → Type 0 = λ t. has_cpu t.machine.store c.args.cpu ≡ true in
     let is : m.course ≡ Some runs = subst C (sym c.self.view_is) c.requires.told.1 in
-    let after : SessionState = record { machine = n; first = first_of m.origin n.programs; names = names; breaks = m.breakpoints.items; watch = option_map watched m.watch; course = m.course } in
+    let after : SessionState = record {
+      machine = n;
+      first = first_of m.origin n.programs;
+      names = names;
+      breaks = m.breakpoints.items;
+      watch = option_map watched m.watch;
+      course = m.course;
+    } in
     let P : SessionState → Type 0 = λ s. Leaves s (Show (Some c.args.cpu)) last after in
     let shown = c.in_ok-shown.shown in
     let sure = c.in_ok-shown.ensures in
@@ -57,5 +68,6 @@ returns-clause-answered c =
           ∙ ap (λ (rs : List ℕ). changed_text p.0 0 rs lines) sure.registers,
     ) in
     subst P c.self.view_is
-    (told_shown m.machine m.origin names m.breakpoints.items (option_map watched m.watch) m.course rewound n runs c.args.cpu c.recall-recall.result state lines last (subst H (sym c.self.view_is) c.requires.served) is c.in_ok-rewind.ensures.ok
+    (told_shown m.machine m.origin names m.breakpoints.items (option_map watched m.watch) m.course rewound n runs c.args.cpu
+    c.recall-recall.result state lines last (subst H (sym c.self.view_is) c.requires.served) is c.in_ok-rewind.ensures.ok
     (c.recall-recall.ensures.turns runs is) c.recall-recall.ensures.same c.in-Some.ensures.state shows put)

@@ -16,7 +16,9 @@ take_turns-requires-clause-room c =
     omega (arith, few, c.in_ok-out.ensures.size)
 
 pub invariant_of-self-2 : goal.invariant_of-self-2
-invariant_of-self-2 c = let t = c.take_turns.ensures.made.2 c.self.invariant.0 c.self.invariant.1 in (t.0, t.3, can_still c.self.inside.origin c.self.inside.machine c.take_turns.new.machine c.take_turns.ensures.same c.self.invariant.2)
+invariant_of-self-2 c =
+    let t = c.take_turns.ensures.made.2 c.self.invariant.0 c.self.invariant.1 in
+    (t.0, t.3, can_still c.self.inside.origin c.self.inside.machine c.take_turns.new.machine c.take_turns.ensures.same c.self.invariant.2)
 
 pub returns-clause-answered : goal.returns-clause-answered
 returns-clause-answered c =
@@ -27,6 +29,17 @@ returns-clause-answered c =
     let k = c.add_times.new.self in
     let N : Option (List (ℕ × ℕ)) → Type 0 = λ h. KeepsOn h (replicate c.args.count c.args.cpu) k in
     let last = string_bytes c.take_turns.new.out in
-    let P : SessionState → Type 0 = λ s. Leaves s (StepTimes (Some c.args.cpu) c.args.count) last (record { machine = n; first = first_of m.origin n.programs; names = names; breaks = m.breakpoints.items; watch = option_map watched m.watch; course = k }) in
+    let P : SessionState → Type 0 = λ s. Leaves s (StepTimes (Some c.args.cpu) c.args.count) last
+    (record {
+      machine = n;
+      first = first_of m.origin n.programs;
+      names = names;
+      breaks = m.breakpoints.items;
+      watch = option_map
+          watched m.watch;
+      course = k;
+    }) in
     let H : SessionState → Type 0 = λ s. has_cpu s.machine.store c.args.cpu ≡ true in
-    subst P c.self.view_is (stepped_times m.machine m.origin names m.breakpoints.items (option_map watched m.watch) m.course n k c.args.cpu c.args.count (string_bytes c.in_ok-out.out) t.0 last (subst H (sym c.self.view_is) c.requires) c.in_ok-out.ensures.empty t.1 t.2 (subst N c.reserve.ensures c.add_times.ensures) c.take_turns.ensures.same)
+    subst P c.self.view_is (stepped_times m.machine m.origin names m.breakpoints.items (option_map watched m.watch) m.course n k c.args.cpu
+    c.args.count (string_bytes c.in_ok-out.out) t.0 last (subst H (sym c.self.view_is) c.requires) c.in_ok-out.ensures.empty t.1 t.2
+    (subst N c.reserve.ensures c.add_times.ensures) c.take_turns.ensures.same)

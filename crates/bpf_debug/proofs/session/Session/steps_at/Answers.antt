@@ -16,7 +16,9 @@ take_runs-requires-clause-room c =
     omega (arith, few, c.in_ok-out.ensures.size)
 
 pub invariant_of-self-2 : goal.invariant_of-self-2
-invariant_of-self-2 c = let t = c.take_runs.ensures.made.2 c.self.invariant.0 c.self.invariant.1 in (t.0, t.3, can_still c.self.inside.origin c.self.inside.machine c.take_runs.new.machine c.take_runs.ensures.same c.self.invariant.2)
+invariant_of-self-2 c =
+    let t = c.take_runs.ensures.made.2 c.self.invariant.0 c.self.invariant.1 in
+    (t.0, t.3, can_still c.self.inside.origin c.self.inside.machine c.take_runs.new.machine c.take_runs.ensures.same c.self.invariant.2)
 
 pub returns-clause-answered : goal.returns-clause-answered
 returns-clause-answered c =
@@ -27,6 +29,17 @@ returns-clause-answered c =
     let k = c.add_runs.new.self in
     let N : Option (List (ℕ × ℕ)) → Type 0 = λ h. KeepsOn h (unrolled c.args.runs.now) k in
     let last = string_bytes c.take_runs.new.out in
-    let P : SessionState → Type 0 = λ s. Leaves s (Steps c.args.runs.now) last (record { machine = n; first = first_of m.origin n.programs; names = names; breaks = m.breakpoints.items; watch = option_map watched m.watch; course = k }) in
+    let P : SessionState → Type 0 = λ s. Leaves s (Steps c.args.runs.now) last
+    (record {
+      machine = n;
+      first = first_of m.origin n.programs;
+      names = names;
+      breaks = m.breakpoints.items;
+      watch = option_map
+          watched m.watch;
+      course = k;
+    }) in
     let H : SessionState → Type 0 = λ s. are_cpus (length s.machine.store.maps.runs) c.args.runs.now ≡ true in
-    subst P c.self.view_is (stepped_runs m.machine m.origin names m.breakpoints.items (option_map watched m.watch) m.course n k c.args.runs.now (string_bytes c.in_ok-out.out) t.0 last (subst H (sym c.self.view_is) c.requires.served) c.in_ok-out.ensures.empty t.1 t.2 (subst N c.reserve.ensures c.add_runs.ensures) c.take_runs.ensures.same)
+    subst P c.self.view_is (stepped_runs m.machine m.origin names m.breakpoints.items (option_map watched m.watch) m.course n k
+    c.args.runs.now (string_bytes c.in_ok-out.out) t.0 last (subst H (sym c.self.view_is) c.requires.served) c.in_ok-out.ensures.empty
+    t.1 t.2 (subst N c.reserve.ensures c.add_runs.ensures) c.take_runs.ensures.same)

@@ -13,5 +13,12 @@ returns-clause-answered c =
     let m = c.self.inside in
     let names : Names = names_of m.names in
     let last = string_bytes c.in_ok-text.text in
-    let P : SessionState → Type 0 = λ s. Leaves s Unwatch last (record { machine = m.machine; first = first_of m.origin m.machine.programs; names = names; breaks = m.breakpoints.items; watch = None; course = m.course }) in
+    let P : SessionState → Type 0 = λ s. Leaves s Unwatch last (record {
+      machine = m.machine;
+      first = first_of m.origin m.machine.programs;
+      names = names;
+      breaks = m.breakpoints.items;
+      watch = None;
+      course = m.course;
+    }) in
     subst P c.self.view_is (no_watch m.machine m.origin names m.breakpoints.items (option_map watched m.watch) m.course last c.in_ok-text.ensures.ok)

@@ -18,10 +18,20 @@ pub returns-clause-answered : goal.returns-clause-answered
 returns-clause-answered c =
     let m = c.self.inside in
     let names : Names = names_of m.names in
-    let s : SessionState = record { machine = m.machine; first = first_of m.origin m.machine.programs; names = names; breaks = m.breakpoints.items; watch = option_map watched m.watch; course = m.course } in
+    let s : SessionState = record {
+      machine = m.machine;
+      first = first_of m.origin m.machine.programs;
+      names = names;
+      breaks =
+          m.breakpoints.items;
+      watch = option_map watched m.watch;
+      course = m.course;
+    } in
     let last = string_bytes c.in_ok-text.text in
-    let T : Contents → Type 0 = λ p. (q : Plain) → IsSoundStore q → StandsFor p q → last ≡ variable_lines q (map variable_of c.deref.result.now) (length c.deref.result.now) in
-    let D : List Variable → Type 0 = λ vs. (q : Plain) → IsSoundStore q → StandsFor m.machine.store q → last ≡ variable_lines q (map variable_of vs) (length vs) in
+    let T : Contents → Type 0 = λ p. (q : Plain) → IsSoundStore q → StandsFor p q → last ≡ variable_lines q
+    (map variable_of c.deref.result.now) (length c.deref.result.now) in
+    let D : List Variable → Type 0 = λ vs. (q : Plain) → IsSoundStore q → StandsFor m.machine.store q → last ≡ variable_lines q
+    (map variable_of vs) (length vs) in
     let told = subst D c.deref.ensures.value (subst T c.store.ensures c.in_ok-text.ensures) in
     let count : length m.names.variables.items ≡ length names.variables = sym (length-map m.names.variables.items variable_of) in
     let P : SessionState → Type 0 = λ t. Leaves t Variables last t in

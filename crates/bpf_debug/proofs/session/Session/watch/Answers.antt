@@ -23,12 +23,25 @@ returns-clause-answered c =
     let choice = c.in-Some-2.choice in
     let key = string_bytes choice.key in
     let last = string_bytes c.in_ok-text.text in
-    let P : SessionState → Type 0 = λ s. Leaves s (Watch name word) last (record { machine = m.machine; first = first_of m.origin m.machine.programs; names = names; breaks = m.breakpoints.items; watch = Some (watched choice.watch); course = m.course }) in
+    let P : SessionState → Type 0 = λ s. Leaves s (Watch name word) last
+    (record {
+      machine = m.machine;
+      first = first_of m.origin m.machine.programs;
+      names = names;
+      breaks = m.breakpoints.items;
+      watch
+          = Some (watched choice.watch);
+      course = m.course;
+    }) in
     let N : List (String Global) → Type 0 = λ ns. IsNamed (map (λ n. string_bytes n) ns) name number in
     let named : IsNamed names.maps name number = subst N c.deref.ensures.value c.in-Some.ensures.named in
-    let called : c.name_at.result.now ≡ name = c.name_at.ensures ∙ ap (λ (ns : List (String Global)). slice_index_or (map (λ n. string_bytes n) ns) number []) c.deref-2.ensures.value ∙ get_or_from_slice_get names.maps number name [] named.0 in
-    let put : last ≡ watch_line name key = c.in_ok-text.ensures ∙ ap (λ (n : List ℕ). watch_line n c.as_str.result.now) called ∙ ap (λ (k : List ℕ). watch_line name k) c.as_str.ensures.value in
+    let called : c.name_at.result.now ≡ name = c.name_at.ensures ∙ ap
+    (λ (ns : List (String Global)). slice_index_or (map (λ n. string_bytes n) ns) number []) c.deref-2.ensures.value ∙
+    get_or_from_slice_get names.maps number name [] named.0 in
+    let put : last ≡ watch_line name key = c.in_ok-text.ensures ∙ ap (λ (n : List ℕ). watch_line n c.as_str.result.now) called ∙ ap
+    (λ (k : List ℕ). watch_line name k) c.as_str.ensures.value in
     let C : Contents → Type 0 = λ p. option_map chosen c.in_ok-choice.field-0 ≡ chosen_in (shape_of p) number word in
     let said : option_map chosen c.in_ok-choice.field-0 ≡ chosen_in (shape_of m.machine.store) number word = subst C c.store.ensures c.in_ok-choice.ensures in
     let chose : chosen_in (shape_of m.machine.store) number word ≡ Some (watched choice.watch, key) = sym said ∙ ap (option_map chosen) c.in-Some-2.is in
-    subst P c.self.view_is (set_watch m.machine m.origin names m.breakpoints.items (option_map watched m.watch) m.course name word key number (watched choice.watch) (Some (watched choice.watch)) last named chose refl put)
+    subst P c.self.view_is (set_watch m.machine m.origin names m.breakpoints.items (option_map watched m.watch) m.course name word key
+    number (watched choice.watch) (Some (watched choice.watch)) last named chose refl put)

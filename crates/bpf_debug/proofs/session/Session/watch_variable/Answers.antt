@@ -19,5 +19,15 @@ returns-clause-answered c =
     let more : Option Watched = Some (watched c.variable_watch.result) in
     let named : variable_named name names.variables ≡ Some v = sym c.in-Some.ensures in
     let same : more ≡ Some (variable_watched v) = ap (λ (w : Watched). Some w) c.variable_watch.ensures in
-    let P : SessionState → Type 0 = λ s. Leaves s (WatchVariable name) last (record { machine = m.machine; first = first_of m.origin m.machine.programs; names = names; breaks = m.breakpoints.items; watch = more; course = m.course }) in
-    subst P c.self.view_is (set_variable m.machine m.origin names m.breakpoints.items (option_map watched m.watch) m.course name v more last named same (c.in_ok-text.ensures ∙ ap variable_watch_line c.as_str.ensures.value))
+    let P : SessionState → Type 0 = λ s. Leaves s (WatchVariable name) last
+    (record {
+      machine = m.machine;
+      first = first_of m.origin m.machine.programs;
+      names = names;
+      breaks = m.breakpoints.items;
+      watch
+          = more;
+      course = m.course;
+    }) in
+    subst P c.self.view_is (set_variable m.machine m.origin names m.breakpoints.items (option_map watched m.watch) m.course name v more last
+    named same (c.in_ok-text.ensures ∙ ap variable_watch_line c.as_str.ensures.value))

@@ -6,4 +6,5 @@ use Rattle.bpf_events.specs.Private.Recording.{Recording}
 use Rattle.bpf_events.proofs.recorder.RecorderShared.value_store.Goals as goal
 
 pub value_store-requires-clause-place : goal.value_store-requires-clause-place
-value_store-requires-clause-place c = subst (λ (r : Recording). IsWritable (shape_of r.store) (held_spans r.store c.args.cpu) c.args.at.at (bytes_in c.args.size)) (sym c.self.view_is) c.requires.place
+value_store-requires-clause-place c = subst (λ (r : Recording). IsWritable (shape_of r.store) (held_spans r.store c.args.cpu) c.args.at.at
+    (bytes_in c.args.size)) (sym c.self.view_is) c.requires.place

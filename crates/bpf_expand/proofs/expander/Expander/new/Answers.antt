@@ -13,7 +13,8 @@ invariant_of-result c = record {
   lists = c.requires.lists;
   short = subst (λ (l : List Task). AreShort l) (sym c.in_ok-first.ensures) (are_short c.args.machine c.stands.ensures);
   come = subst (λ (l : List Task). ComeFrom l c.args.machine.jobs) (sym c.in_ok-first.ensures) (waiting_come c.args.machine.jobs c.requires.waits);
-  numbered = subst (λ (n : ℕ). CountUp c.in_ok-numbers.numbers.items n) (c.jobs.ensures ∙ ap (length {A = Task}) (sym c.in_ok-first.ensures)) c.in_ok-numbers.ensures;
+  numbered = subst (λ (n : ℕ). CountUp c.in_ok-numbers.numbers.items n)
+      (c.jobs.ensures ∙ ap (length {A = Task}) (sym c.in_ok-first.ensures)) c.in_ok-numbers.ensures;
   count = ap (length {A = Task}) (c.in_ok-jobs.ensures ∙ sym c.in_ok-first.ensures);
   read = tt;
   placed = λ is. cc;

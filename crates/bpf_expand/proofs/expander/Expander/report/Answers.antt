@@ -6,4 +6,5 @@ use Rattle.bpf_expand.proofs.expander.Expander.report.Goals as goal
 
 pub returns : goal.returns
 returns c =
-    subst (λ (x : ExpanderState). IfOk c.report.result (λ text. IsTold x.machine (names_of c.args.names.now) (string_bytes text))) c.self.view_is c.report.ensures
+    subst (λ (x : ExpanderState). IfOk c.report.result (λ text. IsTold x.machine (names_of c.args.names.now) (string_bytes text)))
+    c.self.view_is c.report.ensures

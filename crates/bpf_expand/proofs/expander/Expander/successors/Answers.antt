@@ -14,7 +14,8 @@ pub loop-cpu-init : goal.loop-cpu-init
 loop-cpu-init c =
     let e = c.take.new.self in
     let machine = ap (λ (x : ExpanderState). x.machine) c.self-2.view_is in
-    let serves : (k : ℕ) → has_cpu e.machine.store k ≡ nat_lt k c.cpus-cpus.result = subst (λ (m : MachineState). (k : ℕ) → has_cpu m.store k ≡ nat_lt k c.cpus-cpus.result) machine c.cpus-cpus.ensures in
+    let serves : (k : ℕ) → has_cpu e.machine.store k ≡ nat_lt k c.cpus-cpus.result = subst
+    (λ (m : MachineState). (k : ℕ) → has_cpu m.store k ≡ nat_lt k c.cpus-cpus.result) machine c.cpus-cpus.ensures in
     record {
       host = c.take.ensures.same;
       below = subst (λ (l : List Successor). AreBelow e.host c.args.bytes.now l 0) (sym c.new-found.ensures.items) (none_below e.host c.args.bytes.now);
@@ -34,7 +35,8 @@ loop-cpu-preserved c =
       below = elim c.match-branch-3.branch [
         | in-Idle w ↦
             let found : c.match-branch-3.found.items ≡ was = cc (w.found-is) in
-            subst (λ (l : List Successor). AreBelow h bytes l (cpu + 1)) (sym found) (idle_below h bytes was cpu before (subst (λ (n : Next). IsNext h bytes cpu n) w.in-Idle.is c.in_ok-next.ensures.next))
+            subst (λ (l : List Successor). AreBelow h bytes l (cpu + 1)) (sym found)
+            (idle_below h bytes was cpu before (subst (λ (n : Next). IsNext h bytes cpu n) w.in-Idle.is c.in_ok-next.ensures.next))
         | in-State+in_ok-push-in-State w ↦
             let s : Successor = w.in-State.successor in
             let is = subst (λ (n : Next). IsNext h bytes cpu n) w.in-State.is c.in_ok-next.ensures.next in
@@ -48,4 +50,5 @@ loop-cpu-preserved c =
 pub returns-clause-some : goal.returns-clause-some
 returns-clause-some c =
     let past : c.cpus-cpus.result ≤ c.loop-cpu.cpu = omega arith in
-    all_below c.loop-cpu.self.host c.args.bytes.now c.loop-cpu.found.items c.loop-cpu.cpu c.cpus-cpus.result c.loop-cpu.invariant.below past c.loop-cpu.invariant.beyond
+    all_below c.loop-cpu.self.host c.args.bytes.now c.loop-cpu.found.items c.loop-cpu.cpu c.cpus-cpus.result c.loop-cpu.invariant.below past
+    c.loop-cpu.invariant.beyond

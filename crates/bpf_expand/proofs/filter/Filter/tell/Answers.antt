@@ -12,7 +12,8 @@ returns-clause-some c =
     let before = string_bytes c.in-Some.before in (
       before,
       string_bytes c.in-Some-2.rest,
-      told_too mid.races new.races mid.host new.host mid.names new.names bytes before (sym same.2) (sym same.0) (sym same.1) (at_some _ _ _ c.in-Some.is c.in_ok-before.ensures.some),
+      told_too mid.races new.races mid.host new.host mid.names new.names bytes before (sym same.2) (sym same.0) (sym same.1)
+          (at_some _ _ _ c.in-Some.is c.in_ok-before.ensures.some),
       at_some _ _ _ c.in-Some-2.is c.in_ok-rest.ensures.some,
       c.in_ok-text.ensures,
     )

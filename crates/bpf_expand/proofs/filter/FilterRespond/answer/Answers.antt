@@ -16,12 +16,14 @@ returns c =
     let host = before.0 ∙ ap (λ (x : FilterState). x.host) view in
     let names = before.1 ∙ ap (λ (x : FilterState). x.names) view in
     let races = before.2 ∙ ap (λ (x : FilterState). x.races) view in
-    let told = kept_told asked.races asked.host asked.names asked.lines line c.answer_line-answer.result kept.told c.keep.result c.answer_line-answer.ensures.told c.keep.ensures.ok c.keep.ensures.err in
+    let told = kept_told asked.races asked.host asked.names asked.lines line c.answer_line-answer.result kept.told c.keep.result
+    c.answer_line-answer.ensures.told c.keep.ensures.ok c.keep.ensures.err in
     let lines = subst (λ (n : ℕ). IsLineTold asked.races asked.host asked.names n line kept.told c.keep.result) (sym same.3) told in (
       same.0 ∙ host,
       same.1 ∙ names,
       same.2 ∙ races,
       same.3 ∙ (before.3 ∙ (c.saturating_add-self-inside.ensures ∙ ap (λ (x : FilterState). min (x.lines + 1) 18446744073709551615) view)),
       subst (λ (rs : Bool). IsLineTold rs c.args.self.now.host c.args.self.now.names kept.lines line kept.told c.keep.result) races
-          (subst (λ (h : Host). IsLineTold asked.races h c.args.self.now.names kept.lines line kept.told c.keep.result) host (subst (λ (ns : Names). IsLineTold asked.races asked.host ns kept.lines line kept.told c.keep.result) names lines)),
+          (subst (λ (h : Host). IsLineTold asked.races h c.args.self.now.names kept.lines line kept.told c.keep.result) host
+          (subst (λ (ns : Names). IsLineTold asked.races asked.host ns kept.lines line kept.told c.keep.result) names lines)),
     )

@@ -14,7 +14,8 @@ pub invariant_of-self : goal.invariant_of-self
 invariant_of-self c =
     let m = c.self.inside in
     let shelf = shelf_of m.machine.programs m.stores m.parts m.states in
-    let r = same_invariant m.shape shelf m.machine c.keep_machine.new.stores c.keep_machine.new.parts c.self.invariant.0 c.self.invariant.1 c.keep_machine.ensures.adds c.keep_machine.ensures.grows in
+    let r = same_invariant m.shape shelf m.machine c.keep_machine.new.stores c.keep_machine.new.parts c.self.invariant.0 c.self.invariant.1
+    c.keep_machine.ensures.adds c.keep_machine.ensures.grows in
     (r.0, r.1, c.self.invariant.2)
 
 pub returns-in_err-keep_machine-clause-adds : goal.returns-in_err-keep_machine-clause-adds
@@ -22,14 +23,18 @@ returns-in_err-keep_machine-clause-adds c =
     let m = c.self.inside in
     let shelf = shelf_of m.machine.programs m.stores m.parts m.states in
     let kept = machines (shelf_of m.machine.programs c.keep_machine.new.stores c.keep_machine.new.parts m.states) m.states.count in
-    subst (λ (a : AlbumState). AddsOne a.kept a.machine kept) c.self.view_is (same_adds m.shape shelf m.machine c.keep_machine.new.stores c.keep_machine.new.parts c.self.invariant.0 c.self.invariant.1 c.keep_machine.ensures.adds c.keep_machine.ensures.grows)
+    subst (λ (a : AlbumState). AddsOne a.kept a.machine kept) c.self.view_is
+    (same_adds m.shape shelf m.machine c.keep_machine.new.stores c.keep_machine.new.parts c.self.invariant.0 c.self.invariant.1
+    c.keep_machine.ensures.adds c.keep_machine.ensures.grows)
 
 pub keep-requires : goal.keep-requires
 keep-requires c =
     let m = c.self.inside in
     let shelf = shelf_of m.machine.programs m.stores m.parts m.states in
-    let under = subst (AreKeptUnder c.keep_machine.new.stores c.keep_machine.new.parts m.machine) (sym c.deref.ensures.value) c.in_ok-keep_machine.ensures.numbers in
-    let fit = numbers_fit m.shape shelf m.machine c.keep_machine.new.stores c.keep_machine.new.parts c.self.invariant.0 c.self.invariant.1 c.keep_machine.ensures.adds c.keep_machine.ensures.grows c.deref.result.now under c.stands.ensures in
+    let under = subst (AreKeptUnder c.keep_machine.new.stores c.keep_machine.new.parts m.machine) (sym c.deref.ensures.value)
+    c.in_ok-keep_machine.ensures.numbers in
+    let fit = numbers_fit m.shape shelf m.machine c.keep_machine.new.stores c.keep_machine.new.parts c.self.invariant.0 c.self.invariant.1
+    c.keep_machine.ensures.adds c.keep_machine.ensures.grows c.deref.result.now under c.stands.ensures in
     record {
       width = fit.0;
       some = fit.1;
@@ -41,51 +46,68 @@ pub invariant_of-self-in_err-number : goal.invariant_of-self-in_err-number
 invariant_of-self-in_err-number c =
     let m = c.self.inside in
     let shelf = shelf_of m.machine.programs m.stores m.parts m.states in
-    let under = subst (AreKeptUnder c.keep_machine.new.stores c.keep_machine.new.parts m.machine) (sym c.deref.ensures.value) c.in_ok-keep_machine.ensures.numbers in
+    let under = subst (AreKeptUnder c.keep_machine.new.stores c.keep_machine.new.parts m.machine) (sym c.deref.ensures.value)
+    c.in_ok-keep_machine.ensures.numbers in
     let size = under.size ∙ sym c.self.invariant.1.width in
-    let r = invariant_after m.shape shelf m.machine c.keep_machine.new.stores c.keep_machine.new.parts c.self.invariant.0 c.self.invariant.1 c.keep_machine.ensures.adds c.keep_machine.ensures.grows c.deref.result.now under c.stands.ensures c.keep.new.states size c.keep.ensures.adds in
+    let r = invariant_after m.shape shelf m.machine c.keep_machine.new.stores c.keep_machine.new.parts c.self.invariant.0 c.self.invariant.1
+    c.keep_machine.ensures.adds c.keep_machine.ensures.grows c.deref.result.now under c.stands.ensures c.keep.new.states size
+    c.keep.ensures.adds in
     (r.0, r.1, subst (λ (ts : List Table). AreLiveTables m.machine.programs (table_at ts)) (sym c.keep.ensures.same) c.self.invariant.2)
 
 pub invariant_of-self-2 : goal.invariant_of-self-2
 invariant_of-self-2 c =
     let m = c.self.inside in
     let shelf = shelf_of m.machine.programs m.stores m.parts m.states in
-    let under = subst (AreKeptUnder c.keep_machine.new.stores c.keep_machine.new.parts m.machine) (sym c.deref.ensures.value) c.in_ok-keep_machine.ensures.numbers in
+    let under = subst (AreKeptUnder c.keep_machine.new.stores c.keep_machine.new.parts m.machine) (sym c.deref.ensures.value)
+    c.in_ok-keep_machine.ensures.numbers in
     let size = under.size ∙ sym c.self.invariant.1.width in
-    let r = invariant_after m.shape shelf m.machine c.keep_machine.new.stores c.keep_machine.new.parts c.self.invariant.0 c.self.invariant.1 c.keep_machine.ensures.adds c.keep_machine.ensures.grows c.deref.result.now under c.stands.ensures c.keep.new.states size c.keep.ensures.adds in
+    let r = invariant_after m.shape shelf m.machine c.keep_machine.new.stores c.keep_machine.new.parts c.self.invariant.0 c.self.invariant.1
+    c.keep_machine.ensures.adds c.keep_machine.ensures.grows c.deref.result.now under c.stands.ensures c.keep.new.states size
+    c.keep.ensures.adds in
     (r.0, r.1, subst (λ (ts : List Table). AreLiveTables m.machine.programs (table_at ts)) (sym c.keep.ensures.same) c.self.invariant.2)
 
 pub returns-in_err-number-clause-adds : goal.returns-in_err-number-clause-adds
 returns-in_err-number-clause-adds c =
     let m = c.self.inside in
     let shelf = shelf_of m.machine.programs m.stores m.parts m.states in
-    let under = subst (AreKeptUnder c.keep_machine.new.stores c.keep_machine.new.parts m.machine) (sym c.deref.ensures.value) c.in_ok-keep_machine.ensures.numbers in
+    let under = subst (AreKeptUnder c.keep_machine.new.stores c.keep_machine.new.parts m.machine) (sym c.deref.ensures.value)
+    c.in_ok-keep_machine.ensures.numbers in
     let size = under.size ∙ sym c.self.invariant.1.width in
     let kept = machines (shelf_of m.machine.programs c.keep_machine.new.stores c.keep_machine.new.parts c.keep.new.states) c.keep.new.states.count in
-    subst (λ (a : AlbumState). AddsOne a.kept a.machine kept) c.self.view_is (adds_after m.shape shelf m.machine c.keep_machine.new.stores c.keep_machine.new.parts c.self.invariant.0 c.self.invariant.1 c.keep_machine.ensures.adds c.keep_machine.ensures.grows c.deref.result.now under c.stands.ensures c.keep.new.states size c.keep.ensures.adds)
+    subst (λ (a : AlbumState). AddsOne a.kept a.machine kept) c.self.view_is
+    (adds_after m.shape shelf m.machine c.keep_machine.new.stores c.keep_machine.new.parts c.self.invariant.0 c.self.invariant.1
+    c.keep_machine.ensures.adds c.keep_machine.ensures.grows c.deref.result.now under c.stands.ensures c.keep.new.states size c.keep.ensures.adds)
 
 pub returns-clause-adds : goal.returns-clause-adds
 returns-clause-adds c =
     let m = c.self.inside in
     let shelf = shelf_of m.machine.programs m.stores m.parts m.states in
-    let under = subst (AreKeptUnder c.keep_machine.new.stores c.keep_machine.new.parts m.machine) (sym c.deref.ensures.value) c.in_ok-keep_machine.ensures.numbers in
+    let under = subst (AreKeptUnder c.keep_machine.new.stores c.keep_machine.new.parts m.machine) (sym c.deref.ensures.value)
+    c.in_ok-keep_machine.ensures.numbers in
     let size = under.size ∙ sym c.self.invariant.1.width in
     let kept = machines (shelf_of m.machine.programs c.keep_machine.new.stores c.keep_machine.new.parts c.keep.new.states) c.keep.new.states.count in
-    subst (λ (a : AlbumState). AddsOne a.kept a.machine kept) c.self.view_is (adds_after m.shape shelf m.machine c.keep_machine.new.stores c.keep_machine.new.parts c.self.invariant.0 c.self.invariant.1 c.keep_machine.ensures.adds c.keep_machine.ensures.grows c.deref.result.now under c.stands.ensures c.keep.new.states size c.keep.ensures.adds)
+    subst (λ (a : AlbumState). AddsOne a.kept a.machine kept) c.self.view_is
+    (adds_after m.shape shelf m.machine c.keep_machine.new.stores c.keep_machine.new.parts c.self.invariant.0 c.self.invariant.1
+    c.keep_machine.ensures.adds c.keep_machine.ensures.grows c.deref.result.now under c.stands.ensures c.keep.new.states size c.keep.ensures.adds)
 
 pub returns-clause-within : goal.returns-clause-within
 returns-clause-within c =
     let m = c.self.inside in
     let states = c.keep.new.states in
-    subst (λ (n : ℕ). c.in_ok-number.number < n) (sym (machines_length (shelf_of m.machine.programs c.keep_machine.new.stores c.keep_machine.new.parts states) states.count)) c.in_ok-number.ensures.within
+    subst (λ (n : ℕ). c.in_ok-number.number < n) (sym (machines_length
+    (shelf_of m.machine.programs c.keep_machine.new.stores c.keep_machine.new.parts states) states.count)) c.in_ok-number.ensures.within
 
 pub returns-clause-kept : goal.returns-clause-kept
 returns-clause-kept c =
     let m = c.self.inside in
     let shelf = shelf_of m.machine.programs m.stores m.parts m.states in
-    let under = subst (AreKeptUnder c.keep_machine.new.stores c.keep_machine.new.parts m.machine) (sym c.deref.ensures.value) c.in_ok-keep_machine.ensures.numbers in
-    let alike = subst (λ (ts : List Task). IsAlikeTuple m.classes ts c.deref.result.now (tuple_at c.keep.new.states c.in_ok-number.number)) c.jobs.ensures c.in_ok-number.ensures.alike in
-    kept_after m.shape shelf m.machine c.keep_machine.new.stores c.keep_machine.new.parts c.self.invariant.0 c.self.invariant.1 c.keep_machine.ensures.adds c.keep_machine.ensures.grows c.deref.result.now under c.stands.ensures m.classes c.keep.new.states c.in_ok-number.number c.self.invariant.2 c.keep.ensures.adds c.in_ok-number.ensures.within alike
+    let under = subst (AreKeptUnder c.keep_machine.new.stores c.keep_machine.new.parts m.machine) (sym c.deref.ensures.value)
+    c.in_ok-keep_machine.ensures.numbers in
+    let alike = subst (λ (ts : List Task). IsAlikeTuple m.classes ts c.deref.result.now (tuple_at c.keep.new.states c.in_ok-number.number))
+    c.jobs.ensures c.in_ok-number.ensures.alike in
+    kept_after m.shape shelf m.machine c.keep_machine.new.stores c.keep_machine.new.parts c.self.invariant.0 c.self.invariant.1
+    c.keep_machine.ensures.adds c.keep_machine.ensures.grows c.deref.result.now under c.stands.ensures m.classes c.keep.new.states
+    c.in_ok-number.number c.self.invariant.2 c.keep.ensures.adds c.in_ok-number.ensures.within alike
 
 pub returns-clause-cpus : goal.returns-clause-cpus
 returns-clause-cpus c = ap (λ (a : AlbumState). a.cpus) c.self.view_is

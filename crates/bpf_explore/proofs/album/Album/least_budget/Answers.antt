@@ -10,5 +10,6 @@ pub returns : goal.returns
 returns c =
     let m = c.self.inside in
     let shelf = shelf_of m.machine.programs m.stores m.parts m.states in
-    let all = subst (λ (ts : List Task). (n : ℕ) (task : Task) → slice_get ts n ≡ Some task → c.least_budget.result ≤ task.budget) c.jobs.ensures c.least_budget.ensures in
+    let all = subst (λ (ts : List Task). (n : ℕ) (task : Task) → slice_get ts n ≡ Some task → c.least_budget.result ≤ task.budget)
+    c.jobs.ensures c.least_budget.ensures in
     subst (λ (a : AlbumState). HaveBudgets a.kept c.least_budget.result) c.self.view_is (have_budgets shelf c.least_budget.result c.self.invariant.0.states all)

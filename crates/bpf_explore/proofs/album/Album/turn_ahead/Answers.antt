@@ -18,7 +18,8 @@ returns-clause-turns c =
 pub returns-clause-same : goal.returns-clause-same
 returns-clause-same c =
     let m = c.self.inside in
-    kept_with m.shape m.stores m.parts m.states m.machine c.turn_ahead.new.self c.turn_ahead.ensures.same.programs ∙ ap (λ (a : AlbumState). a.kept) c.self.view_is
+    kept_with m.shape m.stores m.parts m.states m.machine c.turn_ahead.new.self c.turn_ahead.ensures.same.programs ∙ ap
+    (λ (a : AlbumState). a.kept) c.self.view_is
 
 pub returns-clause-runs : goal.returns-clause-runs
 returns-clause-runs c w shows =

@@ -15,20 +15,26 @@ invariant_of-self-in_err-kept c =
     let m = c.self.inside in
     let kept = c.turn_ahead-made.ensures.same ∙ c.restore.ensures.same in
     let o : Origin = record { from = c.in_ok-from.from; ahead = c.in_ok-ahead.ahead; cpu = c.args.cpu } in
-    let led = led_there RunsSchedule schedules_join m.album.kept c.restore.new.self.machine c.turn_ahead-made.new.self.machine c.args.place o c.turn_ahead-made.result c.in_ok-restore.ensures.ok c.in_ok-from.ensures c.in_ok-ahead.ensures c.turn_ahead-made.ensures.runs in
+    let led = led_there RunsSchedule schedules_join m.album.kept c.restore.new.self.machine c.turn_ahead-made.new.self.machine c.args.place
+    o c.turn_ahead-made.result c.in_ok-restore.ensures.ok c.in_ok-from.ensures c.in_ok-ahead.ensures c.turn_ahead-made.ensures.runs in
     let adds = subst (λ (ms : List MachineState). AddsOne ms c.turn_ahead-made.new.self.machine c.keep-kept.new.self.kept) kept c.keep-kept.ensures.adds in
     let there = subst (λ (a : AlbumState). c.args.place < length a.kept) (sym c.self.view_is) c.requires in
-    cut_origins RunsSchedule schedules_join m.album.kept c.keep-kept.new.self.kept c.turn_ahead-made.new.self.machine m.origins.items c.push.new.self.items c.truncate.new.self.items o c.len.result c.self.invariant (omega (arith, c.in_ok-from.ensures, there)) led adds c.in_ok-push.ensures.items c.len.ensures c.truncate.ensures.items
+    cut_origins RunsSchedule schedules_join m.album.kept c.keep-kept.new.self.kept c.turn_ahead-made.new.self.machine m.origins.items
+    c.push.new.self.items c.truncate.new.self.items o c.len.result c.self.invariant (omega (arith, c.in_ok-from.ensures, there)) led
+    adds c.in_ok-push.ensures.items c.len.ensures c.truncate.ensures.items
 
 pub invariant_of-self-2 : goal.invariant_of-self-2
 invariant_of-self-2 c =
     let m = c.self.inside in
     let kept = c.turn_ahead-made.ensures.same ∙ c.restore.ensures.same in
     let o : Origin = record { from = c.in_ok-from.from; ahead = c.in_ok-ahead.ahead; cpu = c.args.cpu } in
-    let led = led_there RunsSchedule schedules_join m.album.kept c.restore.new.self.machine c.turn_ahead-made.new.self.machine c.args.place o c.turn_ahead-made.result c.in_ok-restore.ensures.ok c.in_ok-from.ensures c.in_ok-ahead.ensures c.turn_ahead-made.ensures.runs in
+    let led = led_there RunsSchedule schedules_join m.album.kept c.restore.new.self.machine c.turn_ahead-made.new.self.machine c.args.place
+    o c.turn_ahead-made.result c.in_ok-restore.ensures.ok c.in_ok-from.ensures c.in_ok-ahead.ensures c.turn_ahead-made.ensures.runs in
     let adds = subst (λ (ms : List MachineState). AddsOne ms c.turn_ahead-made.new.self.machine c.keep-kept.new.self.kept) kept c.keep-kept.ensures.adds in
     let there = subst (λ (a : AlbumState). c.args.place < length a.kept) (sym c.self.view_is) c.requires in
-    cut_origins RunsSchedule schedules_join m.album.kept c.keep-kept.new.self.kept c.turn_ahead-made.new.self.machine m.origins.items c.push.new.self.items c.truncate.new.self.items o c.len.result c.self.invariant (omega (arith, c.in_ok-from.ensures, there)) led adds c.in_ok-push.ensures.items c.len.ensures c.truncate.ensures.items
+    cut_origins RunsSchedule schedules_join m.album.kept c.keep-kept.new.self.kept c.turn_ahead-made.new.self.machine m.origins.items
+    c.push.new.self.items c.truncate.new.self.items o c.len.result c.self.invariant (omega (arith, c.in_ok-from.ensures, there)) led
+    adds c.in_ok-push.ensures.items c.len.ensures c.truncate.ensures.items
 
 pub returns-clause-turned : goal.returns-clause-turned
 returns-clause-turned c =
@@ -37,7 +43,9 @@ returns-clause-turned c =
     let after = c.turn_ahead-made.new.self.machine in
     let kept = c.turn_ahead-made.ensures.same ∙ c.restore.ensures.same in
     let more = subst (λ (ms : List MachineState). Extends ms all) kept (adds_extends c.turn_ahead-made.new.self.kept all after c.keep-kept.ensures.adds) in
-    turned m.album.kept all c.args.place c.args.cpu c.restore.new.self.machine after c.in_ok-restore.ensures.ok more c.turn_ahead-made.ensures.turns (subst (IsKeptAlike all) c.keep-kept.ensures.same (kept_somewhere all c.in_ok-kept.field-0 c.keep-kept.new.self.machine c.in_ok-kept.ensures.kept))
+    turned m.album.kept all c.args.place c.args.cpu c.restore.new.self.machine after c.in_ok-restore.ensures.ok more
+    c.turn_ahead-made.ensures.turns (subst (IsKeptAlike all) c.keep-kept.ensures.same
+    (kept_somewhere all c.in_ok-kept.field-0 c.keep-kept.new.self.machine c.in_ok-kept.ensures.kept))
 
 pub returns-clause-width : goal.returns-clause-width
 returns-clause-width c = c.keep-kept.ensures.cpus ∙ (c.turn_ahead-made.ensures.cpus ∙ (c.restore.ensures.cpus ∙ ap (λ (a : AlbumState). a.cpus) c.self.view_is))

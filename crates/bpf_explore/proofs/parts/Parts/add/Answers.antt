@@ -21,7 +21,8 @@ invariant_of-self-2 c =
     let m = c.self.inside in
     let fresh = subst (λ (ts : List Task). (n : ℕ) → n < length ts → part_at ts n ≡ c.args.job → ⊥) (sym c.self.view_is) c.requires.new in
     let count : c.len-number.result ≡ length m.kept.items = omega (arith, c.len-number.ensures, m.kept.ok.0) in
-    let put = subst (λ (h : ℕ). IsPut c.note.new.slots.items h (length m.kept.items)) c.requires.hash (subst (IsPut c.note.new.slots.items c.args.hash) count c.in_ok-note.ensures.put) in
+    let put = subst (λ (h : ℕ). IsPut c.note.new.slots.items h (length m.kept.items)) c.requires.hash
+    (subst (IsPut c.note.new.slots.items c.args.hash) count c.in_ok-note.ensures.put) in
     subst (λ (ts : List Task). HoldsParts ts c.note.new.slots.items) (sym c.in_ok-push.ensures.items)
     (one_more_part m.kept.items c.args.job m.slots.items c.note.new.slots.items c.note.ensures.keeps c.self.invariant fresh put)
 
@@ -29,7 +30,8 @@ pub returns-clause-is : goal.returns-clause-is
 returns-clause-is c =
     let m = c.self.inside in
     let count : c.len-number.result ≡ length m.kept.items = omega (arith, c.len-number.ensures, m.kept.ok.0) in
-    ap (λ (ts : List Task). part_at ts c.len-number.result) c.in_ok-push.ensures.items ∙ (ap (part_at (m.kept.items ++ c.args.job ∷ [])) count ∙ part_new m.kept.items c.args.job)
+    ap (λ (ts : List Task). part_at ts c.len-number.result) c.in_ok-push.ensures.items ∙
+    (ap (part_at (m.kept.items ++ c.args.job ∷ [])) count ∙ part_new m.kept.items c.args.job)
 
 pub returns-clause-within : goal.returns-clause-within
 returns-clause-within c =

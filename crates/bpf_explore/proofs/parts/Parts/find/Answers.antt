@@ -12,7 +12,8 @@ returns-then-slot-eq0-clause-none c n less is =
     let m = c.self.inside in
     let job = slice_get c.args.machine.now.jobs c.args.job in
     let there : IsPartOf m.kept.items job n = subst (λ (ts : List Task). (n < length ts) × (job ≡ Some (part_at ts n))) (sym c.self.view_is) (less, is) in
-    let slot : slot_at m.slots.items c.args.hash c.loop-step.step ≡ 0 = ap (λ (s : List ℕ). slot_at s c.args.hash c.loop-step.step) (sym c.deref.ensures.value) ∙ (sym c.slot_of-slot.ensures ∙ c.if-slot-eq0.true) in
+    let slot : slot_at m.slots.items c.args.hash c.loop-step.step ≡ 0 = ap (λ (s : List ℕ). slot_at s c.args.hash c.loop-step.step)
+    (sym c.deref.ensures.value) ∙ (sym c.slot_of-slot.ensures ∙ c.if-slot-eq0.true) in
     none_at m.slots.items c.args.hash c.loop-step.step (IsPartOf m.kept.items job) c.loop-step.invariant slot n
     (part_put m.kept.items m.slots.items job n c.args.hash c.self.invariant c.requires.hash there) there
 
@@ -28,6 +29,8 @@ pub loop-step-preserved : goal.loop-step-preserved
 loop-step-preserved c =
     let m = c.self.inside in
     let job = slice_get c.args.machine.now.jobs c.args.job in
-    let read : slot_at m.slots.items c.args.hash c.loop-step.step ≡ c.slot_of-slot.result = ap (λ (s : List ℕ). slot_at s c.args.hash c.loop-step.step) (sym c.deref.ensures.value) ∙ sym c.slot_of-slot.ensures in
+    let read : slot_at m.slots.items c.args.hash c.loop-step.step ≡ c.slot_of-slot.result = ap
+    (λ (s : List ℕ). slot_at s c.args.hash c.loop-step.step) (sym c.deref.ensures.value) ∙ sym c.slot_of-slot.ensures in
     next_passed m.slots.items c.args.hash c.loop-step.step (c.slot_of-slot.result - 1) (IsPartOf m.kept.items job) c.loop-step.invariant (omega arith)
-    (λ is. c.is_at.ensures.differs c.if-is_at.false (subst (λ (ts : List Task). c.slot_of-slot.result - 1 < length ts) c.self.view_is is.0) (is.1 ∙ ap (λ (ts : List Task). Some (part_at ts (c.slot_of-slot.result - 1))) c.self.view_is))
+    (λ is. c.is_at.ensures.differs c.if-is_at.false (subst (λ (ts : List Task). c.slot_of-slot.result - 1 < length ts) c.self.view_is is.0)
+    (is.1 ∙ ap (λ (ts : List Task). Some (part_at ts (c.slot_of-slot.result - 1))) c.self.view_is))

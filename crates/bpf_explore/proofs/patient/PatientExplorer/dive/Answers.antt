@@ -9,12 +9,14 @@ use Rattle.bpf_explore.proofs.patient.PatientExplorer.dive.Goals as goal
 pub invariant_of-self : goal.invariant_of-self
 invariant_of-self c =
     let m = c.self.inside in
-    tracked_still m.album.kept c.restore.new.self.kept m.album.cpus c.restore.new.self.cpus m.origins.items m.arrivals.items c.restore.ensures.same c.restore.ensures.cpus c.self.invariant
+    tracked_still m.album.kept c.restore.new.self.kept m.album.cpus c.restore.new.self.cpus m.origins.items m.arrivals.items
+    c.restore.ensures.same c.restore.ensures.cpus c.self.invariant
 
 pub invariant_of-self-2 : goal.invariant_of-self-2
 invariant_of-self-2 c =
     let m = c.self.inside in
-    tracked_still m.album.kept c.dive.new.album.kept m.album.cpus c.dive.new.album.cpus m.origins.items m.arrivals.items (c.dive.ensures.same ∙ c.restore.ensures.same) (c.dive.ensures.cpus ∙ c.restore.ensures.cpus) c.self.invariant
+    tracked_still m.album.kept c.dive.new.album.kept m.album.cpus c.dive.new.album.cpus m.origins.items m.arrivals.items
+    (c.dive.ensures.same ∙ c.restore.ensures.same) (c.dive.ensures.cpus ∙ c.restore.ensures.cpus) c.self.invariant
 
 pub returns-clause-dived : goal.returns-clause-dived
 returns-clause-dived c =
@@ -25,4 +27,5 @@ returns-clause-dived c =
 pub invariant_of-self-in_err-by : goal.invariant_of-self-in_err-by
 invariant_of-self-in_err-by c =
     let m = c.self.inside in
-    tracked_still m.album.kept c.dive.new.album.kept m.album.cpus c.dive.new.album.cpus m.origins.items m.arrivals.items (c.dive.ensures.same ∙ c.restore.ensures.same) (c.dive.ensures.cpus ∙ c.restore.ensures.cpus) c.self.invariant
+    tracked_still m.album.kept c.dive.new.album.kept m.album.cpus c.dive.new.album.cpus m.origins.items m.arrivals.items
+    (c.dive.ensures.same ∙ c.restore.ensures.same) (c.dive.ensures.cpus ∙ c.restore.ensures.cpus) c.self.invariant

@@ -11,7 +11,8 @@ pub invariant_of-result : goal.invariant_of-result
 invariant_of-result c =
     let album = c.in_ok-album.album in
     let one : length album.kept ≡ 1 = c.in_ok-album.ensures.one in
-    let origins : c.push.new.self.items ≡ no_origin ∷ [] = c.in_ok-push.ensures.items ∙ ap (λ (os : List Origin). os ++ no_origin ∷ []) c.new-origins.ensures.items in (
+    let origins : c.push.new.self.items ≡ no_origin ∷ [] = c.in_ok-push.ensures.items ∙ ap (λ (os : List Origin). os ++ no_origin ∷ [])
+    c.new-origins.ensures.items in (
       record {
         count = ap (λ (os : List Origin). length os) origins ∙ sym one;
         each = λ i some inside. absurd (omega arith);

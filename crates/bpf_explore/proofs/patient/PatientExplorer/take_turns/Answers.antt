@@ -10,8 +10,12 @@ use Rattle.bpf_explore.proofs.patient.PatientExplorer.take_turns.Goals as goal
 
 pub invariant_of-self : goal.invariant_of-self
 invariant_of-self c =
-    let album = c.self.inside.album in
-    (c.self.invariant.0, subst (λ (xs : List Arrival). AreEdges album.kept (edges_of album.cpus xs)) (sym (ap (λ (v : Vec Arrival Global). v.items) c.replace-arrivals.ensures.after ∙ c.new.ensures.items)) (no_edges album.kept), c.self.invariant.2)
+    let album = c.self.inside.album in (
+      c.self.invariant.0,
+      subst (λ (xs : List Arrival). AreEdges album.kept (edges_of album.cpus xs))
+          (sym (ap (λ (v : Vec Arrival Global). v.items) c.replace-arrivals.ensures.after ∙ c.new.ensures.items)) (no_edges album.kept),
+      c.self.invariant.2,
+    )
 
 pub returns-clause-turns : goal.returns-clause-turns
 returns-clause-turns c made =
@@ -20,8 +24,10 @@ returns-clause-turns c made =
     let turns : Turns = record { cpus = c.cpus-cpus.result; arrivals = c.replace-arrivals.result } in
     let width : turns.cpus ≡ m.album.cpus = c.cpus-cpus.ensures.cpus in
     let items : turns.arrivals.items ≡ m.arrivals.items = ap (λ (v : Vec Arrival Global). v.items) c.replace-arrivals.ensures.value in
-    let edges : edges_of turns.cpus turns.arrivals.items ≡ edges_of m.album.cpus m.arrivals.items = ap (λ (n : ℕ). edges_of n turns.arrivals.items) width ∙ ap (edges_of m.album.cpus) items in
+    let edges : edges_of turns.cpus turns.arrivals.items ≡ edges_of m.album.cpus m.arrivals.items = ap
+    (λ (n : ℕ). edges_of n turns.arrivals.items) width ∙ ap (edges_of m.album.cpus) items in
     let here = subst (λ (a : PatientState). a.made ≡ rows_of a.cpus (length a.kept)) (sym c.self.view_is) made in
-    let there : map turn_of (edges_of turns.cpus turns.arrivals.items) ≡ rows_of turns.cpus (length kept) = ap (map turn_of) edges ∙ (here ∙ ap (λ (n : ℕ). rows_of n (length kept)) (sym width)) in
+    let there : map turn_of (edges_of turns.cpus turns.arrivals.items) ≡ rows_of turns.cpus (length kept) = ap (map turn_of) edges ∙
+    (here ∙ ap (λ (n : ℕ). rows_of n (length kept)) (sym width)) in
     subst (λ (a : PatientState). AreTurns a.kept turns) c.self.view_is
     (are_turns kept turns (subst (AreEdges kept) (sym edges) c.self.invariant.1) there c.cpus-cpus.ensures.idle)

@@ -10,4 +10,5 @@ returns-clause-runs c w shows = c.turns_by.ensures.runs w (subst (λ (a : Patien
 pub invariant_of-self : goal.invariant_of-self
 invariant_of-self c =
     let m = c.self.inside in
-    tracked_still m.album.kept c.turns_by.new.self.kept m.album.cpus c.turns_by.new.self.cpus m.origins.items m.arrivals.items c.turns_by.ensures.same c.turns_by.ensures.cpus c.self.invariant
+    tracked_still m.album.kept c.turns_by.new.self.kept m.album.cpus c.turns_by.new.self.cpus m.origins.items m.arrivals.items
+    c.turns_by.ensures.same c.turns_by.ensures.cpus c.self.invariant

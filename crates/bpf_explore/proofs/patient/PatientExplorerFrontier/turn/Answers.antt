@@ -19,13 +19,15 @@ use Rattle.bpf_explore.proofs.patient.PatientExplorerFrontier.turn.Goals as goal
 pub invariant_of-self : goal.invariant_of-self
 invariant_of-self c =
     let m = c.self.inside in
-    tracked_still m.album.kept c.restore.new.self.kept m.album.cpus c.restore.new.self.cpus m.origins.items m.arrivals.items c.restore.ensures.same c.restore.ensures.cpus c.self.invariant
+    tracked_still m.album.kept c.restore.new.self.kept m.album.cpus c.restore.new.self.cpus m.origins.items m.arrivals.items
+    c.restore.ensures.same c.restore.ensures.cpus c.self.invariant
 
 pub invariant_of-self-in_err-ahead : goal.invariant_of-self-in_err-ahead
 invariant_of-self-in_err-ahead c =
     let m = c.self.inside in
     let ahead = c.turn_ahead-made.new.self in
-    tracked_still m.album.kept ahead.kept m.album.cpus ahead.cpus m.origins.items m.arrivals.items (c.turn_ahead-made.ensures.same ∙ c.restore.ensures.same) (c.turn_ahead-made.ensures.cpus ∙ c.restore.ensures.cpus) c.self.invariant
+    tracked_still m.album.kept ahead.kept m.album.cpus ahead.cpus m.origins.items m.arrivals.items
+    (c.turn_ahead-made.ensures.same ∙ c.restore.ensures.same) (c.turn_ahead-made.ensures.cpus ∙ c.restore.ensures.cpus) c.self.invariant
 
 pub invariant_of-self-in_err-push : goal.invariant_of-self-in_err-push
 invariant_of-self-in_err-push c =
@@ -40,29 +42,45 @@ invariant_of-self-in_err-push c =
 pub invariant_of-self-in_err-number : goal.invariant_of-self-in_err-number
 invariant_of-self-in_err-number c =
     let m = c.self.inside in
-    turn_kept m.album.kept c.keep-kept.new.self.kept c.restore.new.self.machine c.turn_ahead-made.new.self.machine c.refill.new.self.machine m.origins.items c.push.new.self.items c.truncate.new.self.items m.arrivals.items m.album.cpus c.keep-kept.new.self.cpus c.in_ok-from.from c.args.place c.in_ok-ahead.ahead c.turn_ahead-made.result c.args.cpu c.len.result c.in_ok-restore.ensures.ok c.in_ok-from.ensures c.in_ok-ahead.ensures
+    turn_kept m.album.kept c.keep-kept.new.self.kept c.restore.new.self.machine c.turn_ahead-made.new.self.machine c.refill.new.self.machine
+    m.origins.items c.push.new.self.items c.truncate.new.self.items m.arrivals.items m.album.cpus c.keep-kept.new.self.cpus
+    c.in_ok-from.from c.args.place c.in_ok-ahead.ahead c.turn_ahead-made.result c.args.cpu c.len.result c.in_ok-restore.ensures.ok
+    c.in_ok-from.ensures c.in_ok-ahead.ensures
     (subst (λ (a : PatientState). c.args.place < length a.kept) (sym c.self.view_is) c.requires)
-    (c.keep-kept.ensures.cpus ∙ (c.refill.ensures.cpus ∙ (c.turn_ahead-made.ensures.cpus ∙ c.restore.ensures.cpus))) c.turn_ahead-made.ensures.runs c.turn_ahead-made.ensures.ahead c.refill.ensures.refills
-    (subst (λ (ms : List MachineState). AddsOne ms c.refill.new.self.machine c.keep-kept.new.self.kept) (c.refill.ensures.same ∙ (c.turn_ahead-made.ensures.same ∙ c.restore.ensures.same)) c.keep-kept.ensures.adds)
+    (c.keep-kept.ensures.cpus ∙ (c.refill.ensures.cpus ∙ (c.turn_ahead-made.ensures.cpus ∙ c.restore.ensures.cpus)))
+    c.turn_ahead-made.ensures.runs c.turn_ahead-made.ensures.ahead c.refill.ensures.refills
+    (subst (λ (ms : List MachineState). AddsOne ms c.refill.new.self.machine c.keep-kept.new.self.kept)
+    (c.refill.ensures.same ∙ (c.turn_ahead-made.ensures.same ∙ c.restore.ensures.same)) c.keep-kept.ensures.adds)
     c.in_ok-push.ensures.items c.len.ensures c.truncate.ensures.items c.self.invariant
 
 pub invariant_of-self-in_err-to : goal.invariant_of-self-in_err-to
 invariant_of-self-in_err-to c =
     let m = c.self.inside in
-    turn_kept m.album.kept c.keep-kept.new.self.kept c.restore.new.self.machine c.turn_ahead-made.new.self.machine c.refill.new.self.machine m.origins.items c.push.new.self.items c.truncate.new.self.items m.arrivals.items m.album.cpus c.keep-kept.new.self.cpus c.in_ok-from.from c.args.place c.in_ok-ahead.ahead c.turn_ahead-made.result c.args.cpu c.len.result c.in_ok-restore.ensures.ok c.in_ok-from.ensures c.in_ok-ahead.ensures
+    turn_kept m.album.kept c.keep-kept.new.self.kept c.restore.new.self.machine c.turn_ahead-made.new.self.machine c.refill.new.self.machine
+    m.origins.items c.push.new.self.items c.truncate.new.self.items m.arrivals.items m.album.cpus c.keep-kept.new.self.cpus
+    c.in_ok-from.from c.args.place c.in_ok-ahead.ahead c.turn_ahead-made.result c.args.cpu c.len.result c.in_ok-restore.ensures.ok
+    c.in_ok-from.ensures c.in_ok-ahead.ensures
     (subst (λ (a : PatientState). c.args.place < length a.kept) (sym c.self.view_is) c.requires)
-    (c.keep-kept.ensures.cpus ∙ (c.refill.ensures.cpus ∙ (c.turn_ahead-made.ensures.cpus ∙ c.restore.ensures.cpus))) c.turn_ahead-made.ensures.runs c.turn_ahead-made.ensures.ahead c.refill.ensures.refills
-    (subst (λ (ms : List MachineState). AddsOne ms c.refill.new.self.machine c.keep-kept.new.self.kept) (c.refill.ensures.same ∙ (c.turn_ahead-made.ensures.same ∙ c.restore.ensures.same)) c.keep-kept.ensures.adds)
+    (c.keep-kept.ensures.cpus ∙ (c.refill.ensures.cpus ∙ (c.turn_ahead-made.ensures.cpus ∙ c.restore.ensures.cpus)))
+    c.turn_ahead-made.ensures.runs c.turn_ahead-made.ensures.ahead c.refill.ensures.refills
+    (subst (λ (ms : List MachineState). AddsOne ms c.refill.new.self.machine c.keep-kept.new.self.kept)
+    (c.refill.ensures.same ∙ (c.turn_ahead-made.ensures.same ∙ c.restore.ensures.same)) c.keep-kept.ensures.adds)
     c.in_ok-push.ensures.items c.len.ensures c.truncate.ensures.items c.self.invariant
 
 pub invariant_of-self-in_err-push-2 : goal.invariant_of-self-in_err-push-2
 invariant_of-self-in_err-push-2 c =
     let m = c.self.inside in
-    subst (λ (arrivals : List Arrival). IsTracked c.keep-kept.new.self.kept c.keep-kept.new.self.cpus c.truncate.new.self.items arrivals) (sym c.in_err-push-2.ensures.items)
-    (turn_kept m.album.kept c.keep-kept.new.self.kept c.restore.new.self.machine c.turn_ahead-made.new.self.machine c.refill.new.self.machine m.origins.items c.push.new.self.items c.truncate.new.self.items m.arrivals.items m.album.cpus c.keep-kept.new.self.cpus c.in_ok-from.from c.args.place c.in_ok-ahead.ahead c.turn_ahead-made.result c.args.cpu c.len.result c.in_ok-restore.ensures.ok c.in_ok-from.ensures c.in_ok-ahead.ensures
+    subst (λ (arrivals : List Arrival). IsTracked c.keep-kept.new.self.kept c.keep-kept.new.self.cpus c.truncate.new.self.items arrivals)
+    (sym c.in_err-push-2.ensures.items)
+    (turn_kept m.album.kept c.keep-kept.new.self.kept c.restore.new.self.machine c.turn_ahead-made.new.self.machine
+    c.refill.new.self.machine m.origins.items c.push.new.self.items c.truncate.new.self.items m.arrivals.items m.album.cpus
+    c.keep-kept.new.self.cpus c.in_ok-from.from c.args.place c.in_ok-ahead.ahead c.turn_ahead-made.result c.args.cpu c.len.result
+    c.in_ok-restore.ensures.ok c.in_ok-from.ensures c.in_ok-ahead.ensures
     (subst (λ (a : PatientState). c.args.place < length a.kept) (sym c.self.view_is) c.requires)
-    (c.keep-kept.ensures.cpus ∙ (c.refill.ensures.cpus ∙ (c.turn_ahead-made.ensures.cpus ∙ c.restore.ensures.cpus))) c.turn_ahead-made.ensures.runs c.turn_ahead-made.ensures.ahead c.refill.ensures.refills
-    (subst (λ (ms : List MachineState). AddsOne ms c.refill.new.self.machine c.keep-kept.new.self.kept) (c.refill.ensures.same ∙ (c.turn_ahead-made.ensures.same ∙ c.restore.ensures.same)) c.keep-kept.ensures.adds)
+    (c.keep-kept.ensures.cpus ∙ (c.refill.ensures.cpus ∙ (c.turn_ahead-made.ensures.cpus ∙ c.restore.ensures.cpus)))
+    c.turn_ahead-made.ensures.runs c.turn_ahead-made.ensures.ahead c.refill.ensures.refills
+    (subst (λ (ms : List MachineState). AddsOne ms c.refill.new.self.machine c.keep-kept.new.self.kept)
+    (c.refill.ensures.same ∙ (c.turn_ahead-made.ensures.same ∙ c.restore.ensures.same)) c.keep-kept.ensures.adds)
     c.in_ok-push.ensures.items c.len.ensures c.truncate.ensures.items c.self.invariant)
 
 pub invariant_of-self-2 : goal.invariant_of-self-2
@@ -71,19 +89,35 @@ invariant_of-self-2 c =
     let new = c.keep-kept.new.self.kept in
     let same = c.refill.ensures.same ∙ (c.turn_ahead-made.ensures.same ∙ c.restore.ensures.same) in
     let refilled = c.refill.new.self.machine in
-    let tracked = turn_kept m.album.kept c.keep-kept.new.self.kept c.restore.new.self.machine c.turn_ahead-made.new.self.machine c.refill.new.self.machine m.origins.items c.push.new.self.items c.truncate.new.self.items m.arrivals.items m.album.cpus c.keep-kept.new.self.cpus c.in_ok-from.from c.args.place c.in_ok-ahead.ahead c.turn_ahead-made.result c.args.cpu c.len.result c.in_ok-restore.ensures.ok c.in_ok-from.ensures c.in_ok-ahead.ensures
+    let tracked = turn_kept m.album.kept c.keep-kept.new.self.kept c.restore.new.self.machine c.turn_ahead-made.new.self.machine
+    c.refill.new.self.machine m.origins.items c.push.new.self.items c.truncate.new.self.items m.arrivals.items m.album.cpus
+    c.keep-kept.new.self.cpus c.in_ok-from.from c.args.place c.in_ok-ahead.ahead c.turn_ahead-made.result c.args.cpu c.len.result
+    c.in_ok-restore.ensures.ok c.in_ok-from.ensures c.in_ok-ahead.ensures
     (subst (λ (a : PatientState). c.args.place < length a.kept) (sym c.self.view_is) c.requires)
-    (c.keep-kept.ensures.cpus ∙ (c.refill.ensures.cpus ∙ (c.turn_ahead-made.ensures.cpus ∙ c.restore.ensures.cpus))) c.turn_ahead-made.ensures.runs c.turn_ahead-made.ensures.ahead c.refill.ensures.refills
-    (subst (λ (ms : List MachineState). AddsOne ms c.refill.new.self.machine c.keep-kept.new.self.kept) (c.refill.ensures.same ∙ (c.turn_ahead-made.ensures.same ∙ c.restore.ensures.same)) c.keep-kept.ensures.adds)
+    (c.keep-kept.ensures.cpus ∙ (c.refill.ensures.cpus ∙ (c.turn_ahead-made.ensures.cpus ∙ c.restore.ensures.cpus)))
+    c.turn_ahead-made.ensures.runs c.turn_ahead-made.ensures.ahead c.refill.ensures.refills
+    (subst (λ (ms : List MachineState). AddsOne ms c.refill.new.self.machine c.keep-kept.new.self.kept)
+    (c.refill.ensures.same ∙ (c.turn_ahead-made.ensures.same ∙ c.restore.ensures.same)) c.keep-kept.ensures.adds)
     c.in_ok-push.ensures.items c.len.ensures c.truncate.ensures.items c.self.invariant in
     let more = subst (λ (ms : List MachineState). Extends ms new) same (adds_extends c.refill.new.self.kept new refilled c.keep-kept.ensures.adds) in
     let there = subst (λ (x : MachineState). IsKeptAlikeAt new c.in_ok-number.number x) c.keep-kept.ensures.same c.in_ok-number.ensures.kept in
     let e : Edge = record { from = c.args.place; to = c.in_ok-to.to; ahead = c.in_ok-ahead.ahead; cpu = c.args.cpu } in
-    let edge = edge_made m.album.kept new c.restore.new.self.machine c.turn_ahead-made.new.self.machine refilled c.args.place c.args.cpu c.turn_ahead-made.result c.in_ok-number.number e c.in_ok-restore.ensures.ok more c.turn_ahead-made.ensures.ahead c.refill.ensures.refills c.in_ok-number.ensures.within there refl c.in_ok-to.ensures c.in_ok-ahead.ensures refl in
+    let edge = edge_made m.album.kept new c.restore.new.self.machine c.turn_ahead-made.new.self.machine refilled c.args.place c.args.cpu
+    c.turn_ahead-made.result c.in_ok-number.number e c.in_ok-restore.ensures.ok more c.turn_ahead-made.ensures.ahead
+    c.refill.ensures.refills c.in_ok-number.ensures.within there refl c.in_ok-to.ensures c.in_ok-ahead.ensures refl in
     let size : vec_len m.arrivals ≡ length m.arrivals.items = omega (arith, m.arrivals.ok.0) in
-    let here : length m.arrivals.items / m.album.cpus ≡ c.args.place = subst (λ (n : ℕ). n / m.album.cpus ≡ c.args.place) (c.len-number.ensures ∙ size) (subst (λ (n : ℕ). c.len-number.result / n ≡ c.args.place) c.cpus-cpus.ensures.cpus (c.if-not-is_next.ensures.place refl)) in
-    let own : length m.arrivals.items % m.album.cpus ≡ c.args.cpu = subst (λ (n : ℕ). n % m.album.cpus ≡ c.args.cpu) (c.len-number.ensures ∙ size) (subst (λ (n : ℕ). c.len-number.result % n ≡ c.args.cpu) c.cpus-cpus.ensures.cpus (c.if-not-is_next.ensures.cpu refl)) in
-    (tracked.0, one_more_placed new m.album.cpus c.keep-kept.new.self.cpus m.arrivals.items c.push-2.new.self.items c.args.place c.args.cpu c.in_ok-to.to c.in_ok-ahead.ahead here own (c.keep-kept.ensures.cpus ∙ (c.refill.ensures.cpus ∙ (c.turn_ahead-made.ensures.cpus ∙ c.restore.ensures.cpus))) tracked.1 edge c.in_ok-push-2.ensures.items, tracked.2)
+    let here : length m.arrivals.items / m.album.cpus ≡ c.args.place = subst (λ (n : ℕ). n / m.album.cpus ≡ c.args.place)
+    (c.len-number.ensures ∙ size) (subst (λ (n : ℕ). c.len-number.result / n ≡ c.args.place) c.cpus-cpus.ensures.cpus
+    (c.if-not-is_next.ensures.place refl)) in
+    let own : length m.arrivals.items % m.album.cpus ≡ c.args.cpu = subst (λ (n : ℕ). n % m.album.cpus ≡ c.args.cpu)
+    (c.len-number.ensures ∙ size) (subst (λ (n : ℕ). c.len-number.result % n ≡ c.args.cpu) c.cpus-cpus.ensures.cpus
+    (c.if-not-is_next.ensures.cpu refl)) in (
+      tracked.0,
+      one_more_placed new m.album.cpus c.keep-kept.new.self.cpus m.arrivals.items c.push-2.new.self.items c.args.place c.args.cpu
+          c.in_ok-to.to c.in_ok-ahead.ahead here own (c.keep-kept.ensures.cpus ∙
+          (c.refill.ensures.cpus ∙ (c.turn_ahead-made.ensures.cpus ∙ c.restore.ensures.cpus))) tracked.1 edge c.in_ok-push-2.ensures.items,
+      tracked.2,
+    )
 
 pub returns-clause-turned : goal.returns-clause-turned
 returns-clause-turned c =
@@ -93,7 +127,8 @@ returns-clause-turned c =
     let refilled = c.refill.new.self.machine in
     let more = subst (λ (ms : List MachineState). Extends ms new) same (adds_extends c.refill.new.self.kept new refilled c.keep-kept.ensures.adds) in
     let there = subst (λ (x : MachineState). IsKeptAlikeAt new c.in_ok-number.number x) c.keep-kept.ensures.same c.in_ok-number.ensures.kept in
-    turned_richly m.album.kept new c.args.place c.args.cpu c.in_ok-number.number c.restore.new.self.machine c.turn_ahead-made.new.self.machine refilled c.in_ok-restore.ensures.ok more c.turn_ahead-made.ensures.turns c.refill.ensures.refills there
+    turned_richly m.album.kept new c.args.place c.args.cpu c.in_ok-number.number c.restore.new.self.machine
+    c.turn_ahead-made.new.self.machine refilled c.in_ok-restore.ensures.ok more c.turn_ahead-made.ensures.turns c.refill.ensures.refills there
 
 pub returns-clause-made : goal.returns-clause-made
 returns-clause-made c turns is =
@@ -103,10 +138,14 @@ returns-clause-made c turns is =
     let pushed = c.push-2.new.self.items in
     let width : now ≡ m.album.cpus = c.keep-kept.ensures.cpus ∙ (c.refill.ensures.cpus ∙ (c.turn_ahead-made.ensures.cpus ∙ c.restore.ensures.cpus)) in
     let size : vec_len m.arrivals ≡ length xs = omega (arith, m.arrivals.ok.0) in
-    let here : length xs / m.album.cpus ≡ c.args.place = subst (λ (n : ℕ). n / m.album.cpus ≡ c.args.place) (c.len-number.ensures ∙ size) (subst (λ (n : ℕ). c.len-number.result / n ≡ c.args.place) c.cpus-cpus.ensures.cpus (c.if-not-is_next.ensures.place refl)) in
-    let own : length xs % m.album.cpus ≡ c.args.cpu = subst (λ (n : ℕ). n % m.album.cpus ≡ c.args.cpu) (c.len-number.ensures ∙ size) (subst (λ (n : ℕ). c.len-number.result % n ≡ c.args.cpu) c.cpus-cpus.ensures.cpus (c.if-not-is_next.ensures.cpu refl)) in
+    let here : length xs / m.album.cpus ≡ c.args.place = subst (λ (n : ℕ). n / m.album.cpus ≡ c.args.place) (c.len-number.ensures ∙ size)
+    (subst (λ (n : ℕ). c.len-number.result / n ≡ c.args.place) c.cpus-cpus.ensures.cpus (c.if-not-is_next.ensures.place refl)) in
+    let own : length xs % m.album.cpus ≡ c.args.cpu = subst (λ (n : ℕ). n % m.album.cpus ≡ c.args.cpu) (c.len-number.ensures ∙ size)
+    (subst (λ (n : ℕ). c.len-number.result % n ≡ c.args.cpu) c.cpus-cpus.ensures.cpus (c.if-not-is_next.ensures.cpu refl)) in
     let was : map turn_of (edges_of m.album.cpus xs) ≡ turns = ap (λ (a : PatientState). a.made) c.self.view_is ∙ is in
-    one_more_made_next m.album.cpus now xs pushed c.args.place c.args.cpu c.in_ok-to.to c.in_ok-ahead.ahead turns here own width was c.in_ok-push-2.ensures.items
+    one_more_made_next m.album.cpus now xs pushed c.args.place c.args.cpu c.in_ok-to.to c.in_ok-ahead.ahead turns here own width was
+    c.in_ok-push-2.ensures.items
 
 pub returns-clause-width : goal.returns-clause-width
-returns-clause-width c = c.keep-kept.ensures.cpus ∙ (c.refill.ensures.cpus ∙ (c.turn_ahead-made.ensures.cpus ∙ (c.restore.ensures.cpus ∙ ap (λ (a : PatientState). a.cpus) c.self.view_is)))
+returns-clause-width c = c.keep-kept.ensures.cpus ∙ (c.refill.ensures.cpus ∙
+    (c.turn_ahead-made.ensures.cpus ∙ (c.restore.ensures.cpus ∙ ap (λ (a : PatientState). a.cpus) c.self.view_is)))

@@ -21,15 +21,18 @@ invariant_of-self-2 c =
     let m = c.self.inside in
     let fresh = subst (λ (ps : List Contents). (n : ℕ) → n < length ps → IsSavedAs (store_at ps n) c.args.bytes.now → ⊥) (sym c.self.view_is) c.requires.new in
     let count : c.len-number.result ≡ length m.kept.items = omega (arith, c.len-number.ensures, m.kept.ok.0) in
-    let put = subst (λ (h : ℕ). IsPut c.note.new.slots.items h (length m.kept.items)) c.requires.hash (subst (IsPut c.note.new.slots.items c.args.hash) count c.in_ok-note.ensures.put) in
+    let put = subst (λ (h : ℕ). IsPut c.note.new.slots.items h (length m.kept.items)) c.requires.hash
+    (subst (IsPut c.note.new.slots.items c.args.hash) count c.in_ok-note.ensures.put) in
     subst (λ (ps : List Contents). HoldsStores ps c.note.new.slots.items) (sym c.in_ok-push.ensures.items)
-    (one_more_store m.kept.items c.args.saved c.args.bytes.now m.slots.items c.note.new.slots.items c.note.ensures.keeps c.self.invariant c.requires.saved fresh put)
+    (one_more_store m.kept.items c.args.saved c.args.bytes.now m.slots.items c.note.new.slots.items c.note.ensures.keeps c.self.invariant
+    c.requires.saved fresh put)
 
 pub returns-clause-is : goal.returns-clause-is
 returns-clause-is c =
     let m = c.self.inside in
     let count : c.len-number.result ≡ length m.kept.items = omega (arith, c.len-number.ensures, m.kept.ok.0) in
-    ap (λ (ps : List Contents). store_at ps c.len-number.result) c.in_ok-push.ensures.items ∙ (ap (store_at (m.kept.items ++ c.args.saved ∷ [])) count ∙ store_new m.kept.items c.args.saved)
+    ap (λ (ps : List Contents). store_at ps c.len-number.result) c.in_ok-push.ensures.items ∙
+    (ap (store_at (m.kept.items ++ c.args.saved ∷ [])) count ∙ store_new m.kept.items c.args.saved)
 
 pub returns-clause-within : goal.returns-clause-within
 returns-clause-within c =

@@ -17,4 +17,5 @@ pub invariant_of-self : goal.invariant_of-self
 invariant_of-self c =
     let m = c.self.inside in
     let all = subst (λ (t : TupleList). AreTuplesPut t c.loop-number.slots.items c.loop-number.number) (sym c.self.view_is) c.loop-number.invariant in
-    widened_tuples (record { width = m.width; count = m.count; numbers = m.numbers.items }) m.slots.items c.loop-number.slots.items c.loop-number.number c.self.invariant (omega arith) all
+    widened_tuples (record { width = m.width; count = m.count; numbers = m.numbers.items }) m.slots.items c.loop-number.slots.items
+    c.loop-number.number c.self.invariant (omega arith) all

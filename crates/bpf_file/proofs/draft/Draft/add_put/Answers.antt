@@ -8,13 +8,17 @@ use Rattle.bpf_file.proofs.draft.Draft.add_put.Goals as goal
 pub returns-then-place-maps : goal.returns-then-place-maps
 returns-then-place-maps c =
     is_answered c.args.line (part_of c.add_pair.new.self) _ _ c.add_pair.result
-    (put_of_map c.args.line (part_of c.args.self.now) _ c.in-Some.place c.len-maps.result (c.in-Some.ensures.value ∙ ap (λ (ns : List (String Global)). place_of c.args.said.name.now (map string_bytes ns)) c.deref.ensures.value) (c.len-maps.ensures ∙ c.args.self.now.maps.ok.0)
+    (put_of_map c.args.line (part_of c.args.self.now) _ c.in-Some.place c.len-maps.result
+    (c.in-Some.ensures.value ∙ ap (λ (ns : List (String Global)). place_of c.args.said.name.now (map string_bytes ns))
+    c.deref.ensures.value) (c.len-maps.ensures ∙ c.args.self.now.maps.ok.0)
     c.args.said.key.now c.args.said.value.now c.if-place-maps.true)
     c.add_pair.ensures
 
 pub returns-else-place-maps : goal.returns-else-place-maps
 returns-else-place-maps c =
     is_answered c.args.line (part_of c.add_element.new.self) _ _ c.add_element.result
-    (put_of_array c.args.line (part_of c.args.self.now) _ c.in-Some.place c.len-maps.result (c.in-Some.ensures.value ∙ ap (λ (ns : List (String Global)). place_of c.args.said.name.now (map string_bytes ns)) c.deref.ensures.value) (c.len-maps.ensures ∙ c.args.self.now.maps.ok.0)
+    (put_of_array c.args.line (part_of c.args.self.now) _ c.in-Some.place c.len-maps.result
+    (c.in-Some.ensures.value ∙ ap (λ (ns : List (String Global)). place_of c.args.said.name.now (map string_bytes ns))
+    c.deref.ensures.value) (c.len-maps.ensures ∙ c.args.self.now.maps.ok.0)
     c.args.said.key.now c.args.said.value.now c.if-place-maps.false)
     c.add_element.ensures

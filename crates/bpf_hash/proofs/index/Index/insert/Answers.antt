@@ -11,7 +11,9 @@ invariant_of-self c =
     let at = subst (λ (y : Links). c.args.home < length y.heads) (sym same) c.requires.home in
     let read : c.index.result.now ≡ slice_index x.heads c.args.home = get_or_read x.heads c.args.home c.index.result.now at c.index.ensures 0 in
     subst (λ (n : ℕ). IsLinks (record { heads = set x.heads c.args.home (c.args.element + 1); nexts = set x.nexts c.args.element n })) (sym read)
-    (comes_links x c.self.invariant c.args.home c.args.element at (subst (λ (y : Links). c.args.element < length y.nexts) (sym same) c.requires.element) (subst (λ (y : Links). (b : ℕ) → IsChainedAt y b c.args.element → ⊥) (sym same) c.requires.new))
+    (comes_links x c.self.invariant c.args.home c.args.element at
+    (subst (λ (y : Links). c.args.element < length y.nexts) (sym same) c.requires.element)
+    (subst (λ (y : Links). (b : ℕ) → IsChainedAt y b c.args.element → ⊥) (sym same) c.requires.new))
 
 pub returns : goal.returns
 returns c =

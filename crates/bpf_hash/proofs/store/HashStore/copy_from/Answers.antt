@@ -20,4 +20,5 @@ copy_tables-requires-clause-shapes c m l =
     ap (λ (ts : List Rows). (slice_index_or ts m no_rows).shape) c.deref-2.ensures.value
     ∙ (ap (λ (p : Contents). (rows p m).shape) c.other.view_is
     ∙ (sym (shapes_alike c.args.other.now c.args.self.now c.requires.1 m)
-    ∙ (ap (λ (p : Contents). (rows p m).shape) (sym c.self.view_is) ∙ ap (λ (ts : List Rows). (slice_index_or ts m no_rows).shape) (sym c.deref_mut.ensures.value))))
+    ∙ (ap (λ (p : Contents). (rows p m).shape) (sym c.self.view_is) ∙ ap (λ (ts : List Rows). (slice_index_or ts m no_rows).shape)
+    (sym c.deref_mut.ensures.value))))

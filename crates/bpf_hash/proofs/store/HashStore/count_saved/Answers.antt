@@ -9,5 +9,6 @@ pub returns-clause-none : goal.returns-clause-none
 returns-clause-none c =
     let saved = c.in_ok-save.ensures.ok in
     let all : c.deref.result.now ≡ saved.0 = c.deref.ensures.value ∙ (saved.1 ∙ ap (λ (bs : List ℕ). bs ++ saved.0) c.new-saved.ensures.items) in
-    starts_otherwise c.args.self.now c.args.bytes.now c.deref.result.now c.starts_with.result c.if-starts_with.false (starts_is Decides-eqb c.args.bytes.now c.deref.result.now c.starts_with.result c.starts_with.ensures.value).1
+    starts_otherwise c.args.self.now c.args.bytes.now c.deref.result.now c.starts_with.result c.if-starts_with.false
+    (starts_is Decides-eqb c.args.bytes.now c.deref.result.now c.starts_with.result c.starts_with.ensures.value).1
     (subst (IsSavedAs c.args.self.now) (sym all) saved.2)

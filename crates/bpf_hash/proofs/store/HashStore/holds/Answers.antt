@@ -10,7 +10,8 @@ returns-then-holds_element-clause-holds c =
     let is : IsStore p = subst IsStore c.self.view_is c.self.invariant in
     let r = c.in-Some.reach in
     let held : holds p c.args.cpu r.map r.element ≡ true = sym c.holds_element.ensures ∙ c.if-holds_element.true in
-    c.is_span.ensures ∙ (ap (λ (b : Bool). b && same_span c.args.span (span_at p r.map r.element)) (sym held) ∙ holds_there p is c.args.cpu c.args.span r c.in-Some.ensures.found)
+    c.is_span.ensures ∙ (ap (λ (b : Bool). b && same_span c.args.span (span_at p r.map r.element)) (sym held) ∙ holds_there p is c.args.cpu
+    c.args.span r c.in-Some.ensures.found)
 
 pub returns-then-holds_element-clause-value : goal.returns-then-holds_element-clause-value
 returns-then-holds_element-clause-value c is_held =
@@ -18,7 +19,8 @@ returns-then-holds_element-clause-value c is_held =
     let is : IsStore p = subst IsStore c.self.view_is c.self.invariant in
     let r = c.in-Some.reach in
     let held : holds p c.args.cpu r.map r.element ≡ true = sym c.holds_element.ensures ∙ c.if-holds_element.true in
-    let same = c.is_span.ensures ∙ (ap (λ (b : Bool). b && same_span c.args.span (span_at p r.map r.element)) (sym held) ∙ holds_there p is c.args.cpu c.args.span r c.in-Some.ensures.found) in
+    let same = c.is_span.ensures ∙ (ap (λ (b : Bool). b && same_span c.args.span (span_at p r.map r.element)) (sym held) ∙ holds_there p is
+    c.args.cpu c.args.span r c.in-Some.ensures.found) in
     value_span p is c.args.cpu c.args.span (sym same ∙ is_held)
 
 pub returns-else-holds_element-clause-holds : goal.returns-else-holds_element-clause-holds
@@ -27,7 +29,8 @@ returns-else-holds_element-clause-holds c =
     let is : IsStore p = subst IsStore c.self.view_is c.self.invariant in
     let r = c.in-Some.reach in
     let idle : holds p c.args.cpu r.map r.element ≡ false = sym c.holds_element.ensures ∙ c.if-holds_element.false in
-    c.if-holds_element.false ∙ (ap (λ (b : Bool). b && same_span c.args.span (span_at p r.map r.element)) (sym idle) ∙ holds_there p is c.args.cpu c.args.span r c.in-Some.ensures.found)
+    c.if-holds_element.false ∙ (ap (λ (b : Bool). b && same_span c.args.span (span_at p r.map r.element)) (sym idle) ∙ holds_there p is
+    c.args.cpu c.args.span r c.in-Some.ensures.found)
 
 pub returns-in-None-clause-holds : goal.returns-in-None-clause-holds
 returns-in-None-clause-holds c =

@@ -10,7 +10,8 @@ use Rattle.bpf_hash.proofs.Listing.{no_key_anywhere, no_key_there, key_there, if
 use Rattle.bpf_hash.proofs.store.HashStore.key_at.Goals as goal
 
 -- of the store whose parts are these, the value at an address lies in the element of a table
-module _ (parts p : Contents) (view : ◌≡◌ {A = Contents} parts p) (ok : IsStore parts) (a : ℕ) (r : Reach) (at : IsReach p a r) (tables : List Rows) (all : tables ≡ parts.tables) (t other : Rows) (t_is : t ≡ get_or tables r.map other) where
+module _ (parts p : Contents) (view : ◌≡◌ {A = Contents} parts p) (ok : IsStore parts) (a : ℕ) (r : Reach) (at : IsReach p a r)
+    (tables : List Rows) (all : tables ≡ parts.tables) (t other : Rows) (t_is : t ≡ get_or tables r.map other) where
   is : IsStore p
   is = subst IsStore view ok
 
@@ -34,8 +35,14 @@ returns-in_err-reach-clause-none c =
 
 pub returns-clause-found : goal.returns-clause-found
 returns-clause-found c =
-    IfSome_then c.linked_key.result c.linked_key.ensures.linked (λ key. shown (record { runs = c.self.inside.runs.items; tables = c.self.inside.tables.items }) c.args.self.now c.self.view_is c.self.invariant c.args.address c.in_ok-reach.reach c.in_ok-reach.ensures.found c.as_slice-tables.result.now c.as_slice-tables.ensures.value c.index-tables-reach.result _ c.index-tables-reach.is key.now)
+    IfSome_then c.linked_key.result c.linked_key.ensures.linked (λ key. shown
+    (record { runs = c.self.inside.runs.items; tables = c.self.inside.tables.items }) c.args.self.now c.self.view_is c.self.invariant
+    c.args.address c.in_ok-reach.reach c.in_ok-reach.ensures.found c.as_slice-tables.result.now c.as_slice-tables.ensures.value
+    c.index-tables-reach.result _ c.index-tables-reach.is key.now)
 
 pub returns-clause-none : goal.returns-clause-none
 returns-clause-none c =
-    if_none c.linked_key.result c.linked_key.ensures.free (not_shown (record { runs = c.self.inside.runs.items; tables = c.self.inside.tables.items }) c.args.self.now c.self.view_is c.self.invariant c.args.address c.in_ok-reach.reach c.in_ok-reach.ensures.found c.as_slice-tables.result.now c.as_slice-tables.ensures.value c.index-tables-reach.result _ c.index-tables-reach.is)
+    if_none c.linked_key.result c.linked_key.ensures.free (not_shown
+    (record { runs = c.self.inside.runs.items; tables = c.self.inside.tables.items }) c.args.self.now c.self.view_is c.self.invariant
+    c.args.address c.in_ok-reach.reach c.in_ok-reach.ensures.found c.as_slice-tables.result.now c.as_slice-tables.ensures.value
+    c.index-tables-reach.result _ c.index-tables-reach.is)

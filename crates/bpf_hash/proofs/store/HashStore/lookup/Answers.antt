@@ -14,7 +14,8 @@ returns-in_err-element-clause-found c =
     let p = c.args.self.now in
     let m = c.args.map in
     let mi = map_there p m c.requires.key.0 c.requires.key.1 in
-    let row : c.index-table.result.now ≡ rows p m = read_row p m c.self.inside.runs.items c.self.inside.tables.items c.index-table.result.now c.self.view_is mi c.index-table.ensures in
+    let row : c.index-table.result.now ≡ rows p m = read_row p m c.self.inside.runs.items c.self.inside.tables.items
+    c.index-table.result.now c.self.view_is mi c.index-table.ensures in
     let absent = subst (λ (t : Rows). (i : ℕ) → IsLinked t i → key_of t i ≢ c.args.key.now) row c.in_err-element.ensures.absent in
     rw c.from_residual.ensures (unlooked_calls p c.args.cpu m c.args.key.now c.requires.in_run c.requires.key absent)
 
@@ -29,25 +30,47 @@ index_mut-requires c =
     omega (arith, mi, ap (λ (q : Contents). length q.tables) c.self.view_is, c.self.inside.tables.ok.0)
 
 pub look_up-requires-clause-element : goal.look_up-requires-clause-element
-look_up-requires-clause-element c = element_there (record { runs = c.self.inside.runs.items; tables = c.self.inside.tables.items }) c.args.self.now c.self.view_is c.self.invariant c.args.cpu c.args.map c.requires.serves c.requires.key.0 c.requires.key.1 c.index-table.result.now c.index-table.ensures c.index_mut.result.now c.index_mut.ensures.value c.in_ok-element.element c.in_ok-element.ensures.inside
+look_up-requires-clause-element c = element_there (record { runs = c.self.inside.runs.items; tables = c.self.inside.tables.items })
+    c.args.self.now c.self.view_is c.self.invariant c.args.cpu c.args.map c.requires.serves c.requires.key.0 c.requires.key.1
+    c.index-table.result.now c.index-table.ensures c.index_mut.result.now c.index_mut.ensures.value c.in_ok-element.element
+    c.in_ok-element.ensures.inside
 
 pub look_up-requires-clause-cpu : goal.look_up-requires-clause-cpu
-look_up-requires-clause-cpu c = cpu_there (record { runs = c.self.inside.runs.items; tables = c.self.inside.tables.items }) c.args.self.now c.self.view_is c.self.invariant c.args.cpu c.args.map c.requires.serves c.requires.key.0 c.requires.key.1 c.index-table.result.now c.index-table.ensures c.index_mut.result.now c.index_mut.ensures.value c.in_ok-element.element c.in_ok-element.ensures.inside
+look_up-requires-clause-cpu c = cpu_there (record { runs = c.self.inside.runs.items; tables = c.self.inside.tables.items }) c.args.self.now
+    c.self.view_is c.self.invariant c.args.cpu c.args.map c.requires.serves c.requires.key.0 c.requires.key.1 c.index-table.result.now
+    c.index-table.ensures c.index_mut.result.now c.index_mut.ensures.value c.in_ok-element.element c.in_ok-element.ensures.inside
 
 pub invariant_of-self : goal.invariant_of-self
-invariant_of-self c = lookup_store (record { runs = c.self.inside.runs.items; tables = c.self.inside.tables.items }) c.args.self.now c.self.view_is c.self.invariant c.args.cpu c.args.map c.requires.serves c.requires.key.0 c.requires.key.1 c.index-table.result.now c.index-table.ensures c.index_mut.result.now c.index_mut.ensures.value c.in_ok-element.element c.in_ok-element.ensures.inside c.index.result.now c.index.ensures c.look_up.new.self c.look_up.ensures.noted c.look_up.ensures.table.1
+invariant_of-self c = lookup_store (record { runs = c.self.inside.runs.items; tables = c.self.inside.tables.items }) c.args.self.now
+    c.self.view_is c.self.invariant c.args.cpu c.args.map c.requires.serves c.requires.key.0 c.requires.key.1 c.index-table.result.now
+    c.index-table.ensures c.index_mut.result.now c.index_mut.ensures.value c.in_ok-element.element c.in_ok-element.ensures.inside
+    c.index.result.now c.index.ensures c.look_up.new.self c.look_up.ensures.noted c.look_up.ensures.table.1
 
 pub returns-clause-found : goal.returns-clause-found
-returns-clause-found c = lookup_calls (record { runs = c.self.inside.runs.items; tables = c.self.inside.tables.items }) c.args.self.now c.self.view_is c.self.invariant c.args.cpu c.args.map c.requires.serves c.requires.key.0 c.requires.key.1 c.index-table.result.now c.index-table.ensures c.index_mut.result.now c.index_mut.ensures.value c.in_ok-element.element c.in_ok-element.ensures.inside c.index.result.now c.index.ensures c.look_up.new.self c.look_up.ensures.noted c.requires.in_run c.args.key.now c.requires.key.2 c.in_ok-element.ensures.found.0 c.in_ok-element.ensures.found.1 c.span-span.result c.span-span.ensures.span
+returns-clause-found c = lookup_calls (record { runs = c.self.inside.runs.items; tables = c.self.inside.tables.items }) c.args.self.now
+    c.self.view_is c.self.invariant c.args.cpu c.args.map c.requires.serves c.requires.key.0 c.requires.key.1 c.index-table.result.now
+    c.index-table.ensures c.index_mut.result.now c.index_mut.ensures.value c.in_ok-element.element c.in_ok-element.ensures.inside
+    c.index.result.now c.index.ensures c.look_up.new.self c.look_up.ensures.noted c.requires.in_run c.args.key.now c.requires.key.2
+    c.in_ok-element.ensures.found.0 c.in_ok-element.ensures.found.1 c.span-span.result c.span-span.ensures.span
 
 pub returns-clause-held : goal.returns-clause-held
-returns-clause-held c = lookup_held (record { runs = c.self.inside.runs.items; tables = c.self.inside.tables.items }) c.args.self.now c.self.view_is c.self.invariant c.args.cpu c.args.map c.requires.serves c.requires.key.0 c.requires.key.1 c.index-table.result.now c.index-table.ensures c.index_mut.result.now c.index_mut.ensures.value c.in_ok-element.element c.in_ok-element.ensures.inside c.index.result.now c.index.ensures c.look_up.new.self c.look_up.ensures.noted c.requires.in_run c.args.key.now c.requires.key.2 c.in_ok-element.ensures.found.0 c.in_ok-element.ensures.found.1 c.span-span.result c.span-span.ensures.span
+returns-clause-held c = lookup_held (record { runs = c.self.inside.runs.items; tables = c.self.inside.tables.items }) c.args.self.now
+    c.self.view_is c.self.invariant c.args.cpu c.args.map c.requires.serves c.requires.key.0 c.requires.key.1 c.index-table.result.now
+    c.index-table.ensures c.index_mut.result.now c.index_mut.ensures.value c.in_ok-element.element c.in_ok-element.ensures.inside
+    c.index.result.now c.index.ensures c.look_up.new.self c.look_up.ensures.noted c.requires.in_run c.args.key.now c.requires.key.2
+    c.in_ok-element.ensures.found.0 c.in_ok-element.ensures.found.1 c.span-span.result c.span-span.ensures.span
 
 pub returns-clause-element : goal.returns-clause-element
-returns-clause-element c = is_element (record { runs = c.self.inside.runs.items; tables = c.self.inside.tables.items }) c.args.self.now c.self.view_is c.self.invariant c.args.cpu c.args.map c.requires.serves c.requires.key.0 c.requires.key.1 c.index-table.result.now c.index-table.ensures c.index_mut.result.now c.index_mut.ensures.value c.in_ok-element.element c.in_ok-element.ensures.inside c.span-span.result c.span-span.ensures.span
+returns-clause-element c = is_element (record { runs = c.self.inside.runs.items; tables = c.self.inside.tables.items }) c.args.self.now
+    c.self.view_is c.self.invariant c.args.cpu c.args.map c.requires.serves c.requires.key.0 c.requires.key.1 c.index-table.result.now
+    c.index-table.ensures c.index_mut.result.now c.index_mut.ensures.value c.in_ok-element.element c.in_ok-element.ensures.inside
+    c.span-span.result c.span-span.ensures.span
 
 pub returns-clause-same : goal.returns-clause-same
-returns-clause-same c = lookup_same (record { runs = c.self.inside.runs.items; tables = c.self.inside.tables.items }) c.args.self.now c.self.view_is c.self.invariant c.args.cpu c.args.map c.requires.serves c.requires.key.0 c.requires.key.1 c.index-table.result.now c.index-table.ensures c.index_mut.result.now c.index_mut.ensures.value c.in_ok-element.element c.in_ok-element.ensures.inside c.index.result.now c.index.ensures c.look_up.new.self c.look_up.ensures.noted
+returns-clause-same c = lookup_same (record { runs = c.self.inside.runs.items; tables = c.self.inside.tables.items }) c.args.self.now
+    c.self.view_is c.self.invariant c.args.cpu c.args.map c.requires.serves c.requires.key.0 c.requires.key.1 c.index-table.result.now
+    c.index-table.ensures c.index_mut.result.now c.index_mut.ensures.value c.in_ok-element.element c.in_ok-element.ensures.inside
+    c.index.result.now c.index.ensures c.look_up.new.self c.look_up.ensures.noted
 
 pub returns-in_err-element-clause-maps : goal.returns-in_err-element-clause-maps
 returns-in_err-element-clause-maps c = are_maps c.args.self.now (subst IsStore c.self.view_is c.self.invariant)

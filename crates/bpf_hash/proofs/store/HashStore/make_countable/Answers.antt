@@ -17,14 +17,17 @@ loop-table-preserved c =
     let items = c.loop-table.table-items in
     let n = c.forget.new.self in
     let within : k < length items = omega (arith, i.count, c.loop-table-test.true) in
-    let here : get_or items k c.table-item.result ≡ get_or c.deref_mut-table-items.result.now k no_rows = get_or_read items k (get_or items k c.table-item.result) within (sym (ap (get_or items k) (sym c.table-item.is))) no_rows ∙ i.rest k (omega arith) in
+    let here : get_or items k c.table-item.result ≡ get_or c.deref_mut-table-items.result.now k no_rows = get_or_read items k
+    (get_or items k c.table-item.result) within (sym (ap (get_or items k) (sym c.table-item.is))) no_rows ∙ i.rest k (omega arith) in
     record {
       count = length-set items k n ∙ i.count;
       done = λ m l. elim (equal_or_not m k) [
         | inl e ↦
             let at : get_or (set items k n) m no_rows ≡ n = ap (λ (x : ℕ). get_or (set items k n) x no_rows) e ∙ get_or-set_same items k n no_rows within in
-            let was : get_or c.deref_mut-table-items.result.now k no_rows ≡ get_or c.deref_mut-table-items.result.now m no_rows = ap (λ (x : ℕ). get_or c.deref_mut-table-items.result.now x no_rows) (sym e) in (
-              subst (Forgets c.args.cpu (get_or c.deref_mut-table-items.result.now m no_rows)) (sym at) (subst (λ (t : Rows). Forgets c.args.cpu t n) (here ∙ was) c.forget.ensures.forgets),
+            let was : get_or c.deref_mut-table-items.result.now k no_rows ≡ get_or c.deref_mut-table-items.result.now m no_rows = ap
+            (λ (x : ℕ). get_or c.deref_mut-table-items.result.now x no_rows) (sym e) in (
+              subst (Forgets c.args.cpu (get_or c.deref_mut-table-items.result.now m no_rows)) (sym at)
+                  (subst (λ (t : Rows). Forgets c.args.cpu t n) (here ∙ was) c.forget.ensures.forgets),
               subst IsTable (sym at) c.forget.ensures.table,
             )
         | inr ne ↦
@@ -38,7 +41,8 @@ loop-table-preserved c =
     }
 
 -- the CPU's runs are counted anew in the store whose parts are these, and it is forgotten in each table; the tables are those that the loop left
-module _ (parts p : Contents) (view : ◌≡◌ {A = Contents} parts p) (ok : IsStore parts) (cpu : ℕ) (serves : has_cpu p cpu ≡ true) (idle : is_running p cpu ≡ false) (run : Runs) (run_is : run ≡ get_or parts.runs cpu run)
+module _ (parts p : Contents) (view : ◌≡◌ {A = Contents} parts p) (ok : IsStore parts) (cpu : ℕ) (serves : has_cpu p cpu ≡ true)
+    (idle : is_running p cpu ≡ false) (run : Runs) (run_is : run ≡ get_or parts.runs cpu run)
     (start items : List Rows) (start_is : start ≡ parts.tables) (count : length items ≡ length start)
     (each : (m : ℕ) → m < length items → Forgets cpu (get_or start m no_rows) (get_or items m no_rows) × IsTable (get_or items m no_rows)) where
   abbrev anew : Contents
@@ -55,24 +59,50 @@ module _ (parts p : Contents) (view : ◌≡◌ {A = Contents} parts p) (ok : Is
 
   recounts : Recounts parts cpu anew
   recounts = record {
-    runs = ap (λ (y : Runs). set parts.runs cpu (record { count = 0; running = y.running })) (get_or_read parts.runs cpu run (served parts cpu served_here) run_is no_runs);
+    runs = ap (λ (y : Runs). set parts.runs cpu (record { count = 0; running = y.running }))
+        (get_or_read parts.runs cpu run (served parts cpu served_here) run_is no_runs);
     count = as_many;
-    tables = λ m l. subst (λ (ts : List Rows). Forgets cpu (get_or ts m no_rows) (get_or items m no_rows) × IsTable (get_or items m no_rows)) start_is (each m (let z : m < length parts.tables = l in omega (arith, z, as_many)));
+    tables = λ m l. subst (λ (ts : List Rows). Forgets cpu (get_or ts m no_rows) (get_or items m no_rows) × IsTable
+        (get_or items m no_rows)) start_is (each m (let z : m < length parts.tables = l in omega (arith, z, as_many)));
   }
 
   recounted : IsStore anew × IsAlike p anew
-  recounted = (anew_store parts anew cpu ok served_here idle_here recounts, subst (λ (x : Contents). IsAlike x anew) view (anew_alike parts anew cpu ok served_here idle_here recounts))
+  recounted = (
+    anew_store parts anew cpu ok served_here idle_here recounts,
+    subst (λ (x : Contents). IsAlike x anew) view
+        (anew_alike parts anew cpu ok served_here idle_here recounts),
+  )
 
 pub invariant_of-self : goal.invariant_of-self
 invariant_of-self c =
-    let many = as_many (record { runs = c.self.inside.runs.items; tables = c.self.inside.tables.items }) c.args.self.now c.self.view_is c.self.invariant c.args.cpu c.requires.serves c.requires.idle c.index_mut.result.now c.index_mut.ensures.value c.deref_mut-table-items.result.now c.loop-table.table-items c.deref_mut-table-items.ensures.value c.loop-table.invariant.count (λ m l. c.loop-table.invariant.done m (let z : m < length c.loop-table.table-items = l in omega arith)) in
+    let many = as_many (record { runs = c.self.inside.runs.items; tables = c.self.inside.tables.items }) c.args.self.now c.self.view_is
+    c.self.invariant c.args.cpu c.requires.serves c.requires.idle c.index_mut.result.now c.index_mut.ensures.value
+    c.deref_mut-table-items.result.now c.loop-table.table-items c.deref_mut-table-items.ensures.value c.loop-table.invariant.count
+    (λ m l. c.loop-table.invariant.done m (let z : m < length c.loop-table.table-items = l in omega arith)) in
     let written = with_items_is c.self.inside.tables c.loop-table.table-items (omega (arith, c.self.inside.tables.ok.0, many)) in
-    let both = recounted (record { runs = c.self.inside.runs.items; tables = c.self.inside.tables.items }) c.args.self.now c.self.view_is c.self.invariant c.args.cpu c.requires.serves c.requires.idle c.index_mut.result.now c.index_mut.ensures.value c.deref_mut-table-items.result.now c.loop-table.table-items c.deref_mut-table-items.ensures.value c.loop-table.invariant.count (λ m l. c.loop-table.invariant.done m (let z : m < length c.loop-table.table-items = l in omega arith)) in
-    subst (λ (ts : List Rows). IsStore (record { runs = set c.self.inside.runs.items c.args.cpu (record { count = 0; running = c.index_mut.result.now.running }); tables = ts })) (sym written) both.0
+    let both = recounted (record { runs = c.self.inside.runs.items; tables = c.self.inside.tables.items }) c.args.self.now c.self.view_is
+    c.self.invariant c.args.cpu c.requires.serves c.requires.idle c.index_mut.result.now c.index_mut.ensures.value
+    c.deref_mut-table-items.result.now c.loop-table.table-items c.deref_mut-table-items.ensures.value c.loop-table.invariant.count
+    (λ m l. c.loop-table.invariant.done m (let z : m < length c.loop-table.table-items = l in omega arith)) in
+    subst (λ (ts : List Rows). IsStore (record {
+      runs = set c.self.inside.runs.items c.args.cpu
+          (record { count = 0; running = c.index_mut.result.now.running });
+      tables = ts;
+    })) (sym written) both.0
 
 pub returns-clause-alike : goal.returns-clause-alike
 returns-clause-alike c =
-    let many = as_many (record { runs = c.self.inside.runs.items; tables = c.self.inside.tables.items }) c.args.self.now c.self.view_is c.self.invariant c.args.cpu c.requires.serves c.requires.idle c.index_mut.result.now c.index_mut.ensures.value c.deref_mut-table-items.result.now c.loop-table.table-items c.deref_mut-table-items.ensures.value c.loop-table.invariant.count (λ m l. c.loop-table.invariant.done m (let z : m < length c.loop-table.table-items = l in omega arith)) in
+    let many = as_many (record { runs = c.self.inside.runs.items; tables = c.self.inside.tables.items }) c.args.self.now c.self.view_is
+    c.self.invariant c.args.cpu c.requires.serves c.requires.idle c.index_mut.result.now c.index_mut.ensures.value
+    c.deref_mut-table-items.result.now c.loop-table.table-items c.deref_mut-table-items.ensures.value c.loop-table.invariant.count
+    (λ m l. c.loop-table.invariant.done m (let z : m < length c.loop-table.table-items = l in omega arith)) in
     let written = with_items_is c.self.inside.tables c.loop-table.table-items (omega (arith, c.self.inside.tables.ok.0, many)) in
-    let both = recounted (record { runs = c.self.inside.runs.items; tables = c.self.inside.tables.items }) c.args.self.now c.self.view_is c.self.invariant c.args.cpu c.requires.serves c.requires.idle c.index_mut.result.now c.index_mut.ensures.value c.deref_mut-table-items.result.now c.loop-table.table-items c.deref_mut-table-items.ensures.value c.loop-table.invariant.count (λ m l. c.loop-table.invariant.done m (let z : m < length c.loop-table.table-items = l in omega arith)) in
-    subst (λ (ts : List Rows). IsAlike c.args.self.now (record { runs = set c.self.inside.runs.items c.args.cpu (record { count = 0; running = c.index_mut.result.now.running }); tables = ts })) (sym written) both.1
+    let both = recounted (record { runs = c.self.inside.runs.items; tables = c.self.inside.tables.items }) c.args.self.now c.self.view_is
+    c.self.invariant c.args.cpu c.requires.serves c.requires.idle c.index_mut.result.now c.index_mut.ensures.value
+    c.deref_mut-table-items.result.now c.loop-table.table-items c.deref_mut-table-items.ensures.value c.loop-table.invariant.count
+    (λ m l. c.loop-table.invariant.done m (let z : m < length c.loop-table.table-items = l in omega arith)) in
+    subst (λ (ts : List Rows). IsAlike c.args.self.now (record {
+      runs = set c.self.inside.runs.items c.args.cpu
+          (record { count = 0; running = c.index_mut.result.now.running });
+      tables = ts;
+    })) (sym written) both.1

@@ -5,6 +5,7 @@ use Rattle.bpf_hash.proofs.store.HashStore.make_countable.Given as goal
 abbrev pub invariant-loop-table : goal.invariant-loop-table
 invariant-loop-table l = record {
   count : length l.table-items ≡ length l.initial.table-items;
-  done : (m : ℕ) → m < l.table-index → Forgets l.cpu (slice_index_or l.initial.table-items m no_rows) (slice_index_or l.table-items m no_rows) × IsTable (slice_index_or l.table-items m no_rows);
+  done : (m : ℕ) → m < l.table-index → Forgets l.cpu (slice_index_or l.initial.table-items m no_rows)
+      (slice_index_or l.table-items m no_rows) × IsTable (slice_index_or l.table-items m no_rows);
   rest : (m : ℕ) → l.table-index ≤ m → slice_index_or l.table-items m no_rows ≡ slice_index_or l.initial.table-items m no_rows;
 }

@@ -4,7 +4,8 @@ use Rattle.bpf_hash.specs.Private.Rows.{Rows, no_rows}
 use Rattle.bpf_hash.specs.Private.Contents.{Contents, rows, IsStore}
 use Rattle.bpf_hash.proofs.Listing.{found_place, found_map}
 use Rattle.bpf_hash.proofs.store.HashStore.place.Goals as goal
-use Rattle.bpf_hash.proofs.store.HashStore.place.Goals.{else-element-elements-via-then-element-elements+else-offset-shape, else-element-elements-via-else-element-elements}
+use Rattle.bpf_hash.proofs.store.HashStore.place.Goals.{else-element-elements-via-then-element-elements+else-offset-shape}
+use Rattle.bpf_hash.proofs.store.HashStore.place.Goals.{else-element-elements-via-else-element-elements}
 
 pub returns-in_err-table-clause-none : goal.returns-in_err-table-clause-none
 returns-in_err-table-clause-none c =
@@ -13,7 +14,8 @@ returns-in_err-table-clause-none c =
     let is : IsStore p = subst IsStore c.self.view_is c.self.invariant in
     let tables : c.deref.result.now ≡ p.tables = c.deref.ensures.value ∙ ap (λ (q : Contents). q.tables) c.self.view_is in
     let above : c.in_ok-above.above ≡ a - 0x10_0000_0000 = c.in_ok-above.ensures.1 in
-    let past : length p.tables ≤ c.in_ok-above.above / 0x1000_0000 = subst (λ (ts : List Rows). length ts ≤ c.in_ok-above.above / 0x1000_0000) tables c.in_err-table.ensures.lookup.3 in
+    let past : length p.tables ≤ c.in_ok-above.above / 0x1000_0000 = subst
+    (λ (ts : List Rows). length ts ≤ c.in_ok-above.above / 0x1000_0000) tables c.in_err-table.ensures.lookup.3 in
     let map = ap (λ (n : ℕ). n / 0x1000_0000) above in
     rw c.from_residual-in_err-table.ensures (λ v. (let inside = found_map p is a v in omega (arith, past, map, inside)))
 
@@ -25,7 +27,9 @@ returns-else-element-elements-clause-none c v =
     let is : IsStore p = subst IsStore c.self.view_is c.self.invariant in
     let tables : c.deref.result.now ≡ p.tables = c.deref.ensures.value ∙ ap (λ (q : Contents). q.tables) c.self.view_is in
     let above : c.in_ok-above.above ≡ a - 0x10_0000_0000 = c.in_ok-above.ensures.1 in
-    let row : t ≡ rows p ((a - 0x10_0000_0000) / 0x1000_0000) = c.in_ok-table.ensures.lookup.3.1 no_rows ∙ (ap (λ (ts : List Rows). get_or ts (c.in_ok-above.above / 0x1000_0000) no_rows) tables ∙ ap (λ (x : ℕ). rows p (x / 0x1000_0000)) above) in
+    let row : t ≡ rows p ((a - 0x10_0000_0000) / 0x1000_0000) = c.in_ok-table.ensures.lookup.3.1 no_rows ∙
+    (ap (λ (ts : List Rows). get_or ts (c.in_ok-above.above / 0x1000_0000) no_rows) tables ∙ ap
+    (λ (x : ℕ). rows p (x / 0x1000_0000)) above) in
     let f = found_place p is a v t row in
     let element = ap (λ (x : ℕ). x % 0x1000_0000 / element_stride t.shape) above in
     let offset = ap (λ (x : ℕ). x % 0x1000_0000 % element_stride t.shape) above in

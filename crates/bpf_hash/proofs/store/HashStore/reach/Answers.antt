@@ -8,7 +8,8 @@ use Rattle.bpf_hash.proofs.Accessing.{reach_facts}
 use Rattle.bpf_hash.proofs.store.HashStore.reach.Goals as goal
 
 -- of the store whose parts are these, the table that the code reads for an address
-module _ (parts p : Contents) (view : ◌≡◌ {A = Contents} parts p) (ok : IsStore parts) (a : ℕ) (v : IsAtValue p a) (t : Rows) (t_is : t ≡ get_or parts.tables ((a - 0x10_0000_0000) / 0x1000_0000) t) where
+module _ (parts p : Contents) (view : ◌≡◌ {A = Contents} parts p) (ok : IsStore parts) (a : ℕ) (v : IsAtValue p a) (t : Rows)
+    (t_is : t ≡ get_or parts.tables ((a - 0x10_0000_0000) / 0x1000_0000) t) where
   is : IsStore p
   is = subst IsStore view ok
 
@@ -19,10 +20,16 @@ module _ (parts p : Contents) (view : ◌≡◌ {A = Contents} parts p) (ok : Is
   row = read_row p _ parts.runs parts.tables t view there t_is
 
 pub returns-clause-element : goal.returns-clause-element
-returns-clause-element c = (reach_facts c.args.self.now (subst IsStore c.self.view_is c.self.invariant) c.args.at c.requires c.index.result.now c.stride-stride.result (row (record { runs = c.self.inside.runs.items; tables = c.self.inside.tables.items }) c.args.self.now c.self.view_is c.self.invariant c.args.at c.requires c.index.result.now c.index.ensures) c.stride-stride.ensures.stride).0
+returns-clause-element c = (reach_facts c.args.self.now (subst IsStore c.self.view_is c.self.invariant) c.args.at c.requires
+    c.index.result.now c.stride-stride.result (row (record { runs = c.self.inside.runs.items; tables = c.self.inside.tables.items })
+    c.args.self.now c.self.view_is c.self.invariant c.args.at c.requires c.index.result.now c.index.ensures) c.stride-stride.ensures.stride).0
 
 pub returns-clause-at : goal.returns-clause-at
-returns-clause-at c = (reach_facts c.args.self.now (subst IsStore c.self.view_is c.self.invariant) c.args.at c.requires c.index.result.now c.stride-stride.result (row (record { runs = c.self.inside.runs.items; tables = c.self.inside.tables.items }) c.args.self.now c.self.view_is c.self.invariant c.args.at c.requires c.index.result.now c.index.ensures) c.stride-stride.ensures.stride).1
+returns-clause-at c = (reach_facts c.args.self.now (subst IsStore c.self.view_is c.self.invariant) c.args.at c.requires c.index.result.now
+    c.stride-stride.result (row (record { runs = c.self.inside.runs.items; tables = c.self.inside.tables.items }) c.args.self.now
+    c.self.view_is c.self.invariant c.args.at c.requires c.index.result.now c.index.ensures) c.stride-stride.ensures.stride).1
 
 pub returns-clause-inside : goal.returns-clause-inside
-returns-clause-inside c = (reach_facts c.args.self.now (subst IsStore c.self.view_is c.self.invariant) c.args.at c.requires c.index.result.now c.stride-stride.result (row (record { runs = c.self.inside.runs.items; tables = c.self.inside.tables.items }) c.args.self.now c.self.view_is c.self.invariant c.args.at c.requires c.index.result.now c.index.ensures) c.stride-stride.ensures.stride).2
+returns-clause-inside c = (reach_facts c.args.self.now (subst IsStore c.self.view_is c.self.invariant) c.args.at c.requires
+    c.index.result.now c.stride-stride.result (row (record { runs = c.self.inside.runs.items; tables = c.self.inside.tables.items })
+    c.args.self.now c.self.view_is c.self.invariant c.args.at c.requires c.index.result.now c.index.ensures) c.stride-stride.ensures.stride).2

@@ -6,19 +6,45 @@ pub reach-reach-requires : goal.reach-reach-requires
 reach-reach-requires c = is_at_value c.args.self.now c.args._cpu c.args.at.at c.args.size c.requires.place
 
 pub store-requires-clause-inside : goal.store-requires-clause-inside
-store-requires-clause-inside c = fits_there (record { runs = c.self.inside.runs.items; tables = c.self.inside.tables.items }) c.args.self.now c.self.view_is c.self.invariant c.args._cpu c.args.at.at c.args.size c.requires.place c.reach-reach.result.map c.reach-reach.result.element c.reach-reach.result.offset c.reach-reach.ensures.element c.reach-reach.ensures.at c.reach-reach.ensures.inside c.index_mut-table.result.now c.index_mut-table.ensures.value
+store-requires-clause-inside c = fits_there (record { runs = c.self.inside.runs.items; tables = c.self.inside.tables.items })
+    c.args.self.now c.self.view_is c.self.invariant c.args._cpu c.args.at.at c.args.size c.requires.place c.reach-reach.result.map
+    c.reach-reach.result.element c.reach-reach.result.offset c.reach-reach.ensures.element c.reach-reach.ensures.at
+    c.reach-reach.ensures.inside c.index_mut-table.result.now c.index_mut-table.ensures.value
 
 pub load-found-requires-clause-inside : goal.load-found-requires-clause-inside
-load-found-requires-clause-inside c = fits_there (record { runs = c.self.inside.runs.items; tables = c.self.inside.tables.items }) c.args.self.now c.self.view_is c.self.invariant c.args._cpu c.args.at.at c.args.size c.requires.place c.reach-reach.result.map c.reach-reach.result.element c.reach-reach.result.offset c.reach-reach.ensures.element c.reach-reach.ensures.at c.reach-reach.ensures.inside c.index_mut-table.result.now c.index_mut-table.ensures.value
+load-found-requires-clause-inside c = fits_there (record { runs = c.self.inside.runs.items; tables = c.self.inside.tables.items })
+    c.args.self.now c.self.view_is c.self.invariant c.args._cpu c.args.at.at c.args.size c.requires.place c.reach-reach.result.map
+    c.reach-reach.result.element c.reach-reach.result.offset c.reach-reach.ensures.element c.reach-reach.ensures.at
+    c.reach-reach.ensures.inside c.index_mut-table.result.now c.index_mut-table.ensures.value
 
 pub invariant_of-self : goal.invariant_of-self
-invariant_of-self c = let left = write_leaves (record { runs = c.self.inside.runs.items; tables = c.self.inside.tables.items }) c.args.self.now c.self.view_is c.self.invariant c.args._cpu c.args.at.at c.args.size c.requires.place c.reach-reach.result.map c.reach-reach.result.element c.reach-reach.result.offset c.reach-reach.ensures.element c.reach-reach.ensures.at c.reach-reach.ensures.inside c.index_mut-table.result.now c.index_mut-table.ensures.value c.change-word.result c.store.new.self c.store.ensures.table.1 c.store.ensures.stored in left.store
+invariant_of-self c =
+    let left = write_leaves (record { runs = c.self.inside.runs.items; tables = c.self.inside.tables.items }) c.args.self.now c.self.view_is
+    c.self.invariant c.args._cpu c.args.at.at c.args.size c.requires.place c.reach-reach.result.map c.reach-reach.result.element
+    c.reach-reach.result.offset c.reach-reach.ensures.element c.reach-reach.ensures.at c.reach-reach.ensures.inside
+    c.index_mut-table.result.now c.index_mut-table.ensures.value c.change-word.result c.store.new.self c.store.ensures.table.1
+    c.store.ensures.stored in left.store
 
 pub returns-clause-changed : goal.returns-clause-changed
-returns-clause-changed c = changed_calls (record { runs = c.self.inside.runs.items; tables = c.self.inside.tables.items }) c.args.self.now c.self.view_is c.self.invariant c.args._cpu c.args.at.at c.args.size c.requires.place c.reach-reach.result.map c.reach-reach.result.element c.reach-reach.result.offset c.reach-reach.ensures.element c.reach-reach.ensures.at c.reach-reach.ensures.inside c.index_mut-table.result.now c.index_mut-table.ensures.value c.change-word.result c.store.new.self c.store.ensures.table.1 c.store.ensures.stored c.args.op c.args.operand c.args.expected c.load-found.result c.load-found.ensures.value c.change-word.ensures c.requires.in_run
+returns-clause-changed c = changed_calls (record { runs = c.self.inside.runs.items; tables = c.self.inside.tables.items }) c.args.self.now
+    c.self.view_is c.self.invariant c.args._cpu c.args.at.at c.args.size c.requires.place c.reach-reach.result.map
+    c.reach-reach.result.element c.reach-reach.result.offset c.reach-reach.ensures.element c.reach-reach.ensures.at
+    c.reach-reach.ensures.inside c.index_mut-table.result.now c.index_mut-table.ensures.value c.change-word.result c.store.new.self
+    c.store.ensures.table.1 c.store.ensures.stored c.args.op c.args.operand c.args.expected c.load-found.result c.load-found.ensures.value
+    c.change-word.ensures c.requires.in_run
 
 pub returns-clause-held : goal.returns-clause-held
-returns-clause-held c = let left = write_leaves (record { runs = c.self.inside.runs.items; tables = c.self.inside.tables.items }) c.args.self.now c.self.view_is c.self.invariant c.args._cpu c.args.at.at c.args.size c.requires.place c.reach-reach.result.map c.reach-reach.result.element c.reach-reach.result.offset c.reach-reach.ensures.element c.reach-reach.ensures.at c.reach-reach.ensures.inside c.index_mut-table.result.now c.index_mut-table.ensures.value c.change-word.result c.store.new.self c.store.ensures.table.1 c.store.ensures.stored in left.held
+returns-clause-held c =
+    let left = write_leaves (record { runs = c.self.inside.runs.items; tables = c.self.inside.tables.items }) c.args.self.now c.self.view_is
+    c.self.invariant c.args._cpu c.args.at.at c.args.size c.requires.place c.reach-reach.result.map c.reach-reach.result.element
+    c.reach-reach.result.offset c.reach-reach.ensures.element c.reach-reach.ensures.at c.reach-reach.ensures.inside
+    c.index_mut-table.result.now c.index_mut-table.ensures.value c.change-word.result c.store.new.self c.store.ensures.table.1
+    c.store.ensures.stored in left.held
 
 pub returns-clause-same : goal.returns-clause-same
-returns-clause-same c = let left = write_leaves (record { runs = c.self.inside.runs.items; tables = c.self.inside.tables.items }) c.args.self.now c.self.view_is c.self.invariant c.args._cpu c.args.at.at c.args.size c.requires.place c.reach-reach.result.map c.reach-reach.result.element c.reach-reach.result.offset c.reach-reach.ensures.element c.reach-reach.ensures.at c.reach-reach.ensures.inside c.index_mut-table.result.now c.index_mut-table.ensures.value c.change-word.result c.store.new.self c.store.ensures.table.1 c.store.ensures.stored in (left.shapes, left.serves, left.running)
+returns-clause-same c =
+    let left = write_leaves (record { runs = c.self.inside.runs.items; tables = c.self.inside.tables.items }) c.args.self.now c.self.view_is
+    c.self.invariant c.args._cpu c.args.at.at c.args.size c.requires.place c.reach-reach.result.map c.reach-reach.result.element
+    c.reach-reach.result.offset c.reach-reach.ensures.element c.reach-reach.ensures.at c.reach-reach.ensures.inside
+    c.index_mut-table.result.now c.index_mut-table.ensures.value c.change-word.result c.store.new.self c.store.ensures.table.1
+    c.store.ensures.stored in (left.shapes, left.serves, left.running)

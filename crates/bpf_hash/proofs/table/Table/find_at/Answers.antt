@@ -17,7 +17,8 @@ find-requires c =
     let indexed : IsIndexed t c.self.inside.index = subst (λ (r : Rows). IsIndexed r c.self.inside.index) c.self.view_is c.self.invariant.1.0 in
     record {
       home = subst (λ (n : ℕ). c.args.home < n) (sym indexed.homes) (home_inside t is c.args.key.now c.args.home c.requires);
-      keys = ap (length {A = ℕ}) c.deref.ensures.value ∙ (c.self.invariant.0.keys ∙ ap (λ (n : ℕ). n * c.self.inside.shape.key) (sym c.self.invariant.1.0.elements));
+      keys = ap (length {A = ℕ}) c.deref.ensures.value ∙ (c.self.invariant.0.keys ∙ ap (λ (n : ℕ). n * c.self.inside.shape.key)
+          (sym c.self.invariant.1.0.elements));
     }
 
 pub returns-clause-inside : goal.returns-clause-inside
@@ -45,4 +46,5 @@ returns-clause-absent c =
     if_none c.find.result c.find.ensures.absent (λ none i linked e.
     let home = c.requires ∙ ap (home_of t.shape.max) (sym e) in
     let bytes = subst (λ (r : Rows). key_of r i ≡ c.args.key.now) (sym c.self.view_is) e in
-    none i (subst (λ (n : ℕ). IsChainedAt c.self.inside.index n i) (sym home) (indexed.found i linked)) (ap (λ (ks : List ℕ). part ks (i * w) w) c.deref.ensures.value ∙ bytes))
+    none i (subst (λ (n : ℕ). IsChainedAt c.self.inside.index n i) (sym home) (indexed.found i linked))
+    (ap (λ (ks : List ℕ). part ks (i * w) w) c.deref.ensures.value ∙ bytes))

@@ -19,7 +19,8 @@ returns-then-go_on c i l =
       | inl below ↦ marked_passed runs t c.self.inside.filled (subst (λ (m : List Bool). AreMarked m c.self.inside.filled) marks c.self.invariant.2) i below
       | inr from ↦
           let more : i < c.self.inside.passed = omega (arith, l, from, c.max.ensures) in
-          passed_on seen runs t c.self.inside.passed same on (subst (λ (r : Rows). ArePassed seen r c.self.inside.passed) c.self.view_is c.self.invariant.4) i more
+          passed_on seen runs t c.self.inside.passed same on (subst (λ (r : Rows). ArePassed seen r c.self.inside.passed) c.self.view_is
+          c.self.invariant.4) i more
     ]
 
 pub returns-else-go_on : goal.returns-else-go_on

@@ -50,12 +50,17 @@ invariant_of-self c =
     let count : c.self.inside.count + 1 ≡ linked_count (linked_row e key value t) = omega arith in (
       subst IsTable (sym made) (linked_table t is e key value r.missing r.element r.free r.key r.value r.room),
       (
-        subst (λ (r : Rows). IsIndexed r c.insert.new.self) (sym made) (linked_indexed t is e key value r.missing r.element r.free r.key r.value c.self.inside.index c.insert.new.self c.args.home r.home indexed c.insert.ensures),
+        subst (λ (r : Rows). IsIndexed r c.insert.new.self) (sym made)
+            (linked_indexed t is e key value r.missing r.element r.free r.key r.value c.self.inside.index c.insert.new.self c.args.home
+            r.home indexed c.insert.ensures),
         subst (λ (r : Rows). c.self.inside.count + 1 ≡ linked_count r) (sym made) count,
       ),
       λ i l. subst (λ (ms : List Bool). get_or ms i false ≡ true) c.deref.ensures.value (c.first_unmarked-self-inside.ensures i l),
       c.self.invariant.3,
-      subst (λ (r : Rows). ArePassed c.self.inside.seen.items r c.passed_with-self-inside.result) (sym made) (linked_more_passed c.self.inside.seen.items t is e key value r.missing r.element r.free r.key r.value c.self.inside.passed c.passed_with-self-inside.result (subst (λ (r : Rows). ArePassed c.self.inside.seen.items r c.self.inside.passed) c.self.view_is c.self.invariant.4) c.passed_with-self-inside.ensures),
+      subst (λ (r : Rows). ArePassed c.self.inside.seen.items r c.passed_with-self-inside.result) (sym made)
+          (linked_more_passed c.self.inside.seen.items t is e key value r.missing r.element r.free r.key r.value c.self.inside.passed
+          c.passed_with-self-inside.result (subst (λ (r : Rows). ArePassed c.self.inside.seen.items r c.self.inside.passed) c.self.view_is
+          c.self.invariant.4) c.passed_with-self-inside.ensures),
     )
 
 pub returns-clause-table : goal.returns-clause-table

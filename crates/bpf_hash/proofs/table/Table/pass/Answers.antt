@@ -29,7 +29,11 @@ invariant_of-self c =
     let cpus : inside.cpus ≡ c.args.self.now.cpus = ap (λ (r : Rows). r.cpus) c.self.view_is in
     let Passed : List Runs → Type 0 = λ s. (length s ≡ inside.cpus) × ArePassed s (rows_of inside) n in
     let now : Passed c.see.new.seen = elim c.see.ensures [
-      | inl these ↦ subst Passed (sym these) (c.requires.runs ∙ sym cpus, λ i l. subst (λ (r : Rows). IsTakenRow runs r i) (sym c.self.view_is) (c.requires.taken i l))
+      | inl these ↦ subst Passed (sym these) (
+        c.requires.runs ∙ sym cpus,
+        λ i l. subst (λ (r : Rows). IsTakenRow runs r i)
+            (sym c.self.view_is) (c.requires.taken i l),
+      )
       | inr still ↦ subst Passed (sym (still.0 ∙ c.deref_mut.ensures.value)) (
         old.3,
         λ i l. elim (cases_lt i inside.filled) [

@@ -15,4 +15,5 @@ loop-element-preserved c =
 pub returns-in_err-push_block-clause-err : goal.returns-in_err-push_block-clause-err
 returns-in_err-push_block-clause-err c =
     let before = all_below (block_of c.args.runs.now c.args.self.now) c.loop-element.element in
-    still_starts c.from_residual.result c.args.out.now.items c.loop-element.out.items c.push_block.new.out.items before c.loop-element.invariant c.in_err-push_block.ensures.err
+    still_starts c.from_residual.result c.args.out.now.items c.loop-element.out.items c.push_block.new.out.items before
+    c.loop-element.invariant c.in_err-push_block.ensures.err

@@ -29,7 +29,8 @@ note_runs_at-requires c =
     let e = c.args.element in
     let is : IsTable t = subst IsTable c.self.view_is c.self.invariant.0 in
     let fits : e * t.cpus + t.cpus ≤ elements t.shape * t.cpus = block_fits e (elements t.shape) t.cpus (linked_inside t is e c.requires.linked) in
-    let left : length c.deref_mut.result.now ≡ length t.left = ap (length {A = ℕ}) c.deref_mut.ensures.value ∙ ap (λ (r : Rows). length r.left) c.self.view_is in
+    let left : length c.deref_mut.result.now ≡ length t.left = ap (length {A = ℕ}) c.deref_mut.ensures.value ∙ ap
+    (λ (r : Rows). length r.left) c.self.view_is in
     subst (λ (n : ℕ). e * n + n ≤ length c.deref_mut.result.now) (sym c.requires.runs) (omega (arith, is.left))
 
 pub invariant_of-self : goal.invariant_of-self
@@ -45,7 +46,8 @@ invariant_of-self c =
     let count : c.self.inside.count - 1 ≡ linked_count (unlinked_row runs e t) = omega arith in (
       subst IsTable (sym made) (unlinked_table runs t is e c.requires.linked c.requires.runs),
       (
-        subst (λ (r : Rows). IsIndexed r c.remove.new.self) (sym made) (unlinked_indexed runs t is e c.requires.linked c.requires.runs c.self.inside.index c.remove.new.self indexed c.remove.ensures),
+        subst (λ (r : Rows). IsIndexed r c.remove.new.self) (sym made)
+            (unlinked_indexed runs t is e c.requires.linked c.requires.runs c.self.inside.index c.remove.new.self indexed c.remove.ensures),
         subst (λ (r : Rows). c.self.inside.count - 1 ≡ linked_count r) (sym made) count,
       ),
       λ i l.
@@ -59,9 +61,12 @@ invariant_of-self c =
           let left : c.deref.result.now ≡ (unlinked_row runs e t).left = c.deref.ensures.value ∙ ap (λ (r : Rows). r.left) made in
           let first : e * length runs ≡ e * t.cpus = ap (λ (n : ℕ). e * n) c.requires.runs in
           let passed : ArePassed seen t c.self.inside.passed = subst (λ (r : Rows). ArePassed seen r c.self.inside.passed) c.self.view_is c.self.invariant.4 in
-          subst (λ (r : Rows). ArePassed seen r m) (sym made) (unlinked_passed seen runs t is e c.requires.linked c.requires.runs same c.self.inside.passed m passed c.passed_without-self-inside.ensures.below (λ l.
+          subst (λ (r : Rows). ArePassed seen r m) (sym made) (unlinked_passed seen runs t is e c.requires.linked c.requires.runs same
+          c.self.inside.passed m passed c.passed_without-self-inside.ensures.below (λ l.
           let h : HasCurrentAt c.deref.result.now (e * length runs) c.deref-2.result.now = c.passed_without-self-inside.ensures.kept l in
-          subst (λ (n : ℕ). HasCurrentAt (unlinked_row runs e t).left n seen) first (subst (λ (ns : List ℕ). HasCurrentAt ns (e * length runs) seen) left (subst (λ (s : List Runs). HasCurrentAt c.deref.result.now (e * length runs) s) c.deref-2.ensures.value h))))),
+          subst (λ (n : ℕ). HasCurrentAt (unlinked_row runs e t).left n seen) first
+          (subst (λ (ns : List ℕ). HasCurrentAt ns (e * length runs) seen) left
+          (subst (λ (s : List Runs). HasCurrentAt c.deref.result.now (e * length runs) s) c.deref-2.ensures.value h))))),
     )
 
 pub returns-clause-table : goal.returns-clause-table

@@ -17,7 +17,8 @@ loop-element-preserved c =
     let old = c.loop-element.pairs.items in
     let marks : c.self.inside.linked.items ≡ t.linked = ap (λ (r : Rows). r.linked) c.self.view_is in
     let inside : i < length c.self.inside.linked.items = omega (arith, c.loop-element-test.true, c.len-element-end.ensures, c.self.inside.linked.ok.0) in
-    let read : c.index.result.now ≡ slice_index_or t.linked i false = get_or_read c.self.inside.linked.items i c.index.result.now inside c.index.ensures false ∙ ap (λ (l : List Bool). slice_index_or l i false) marks in
+    let read : c.index.result.now ≡ slice_index_or t.linked i false = get_or_read c.self.inside.linked.items i c.index.result.now inside
+    c.index.ensures false ∙ ap (λ (l : List Bool). slice_index_or l i false) marks in
     elim c.if-index.branch [
       | then-index+in_ok-key+in_ok-value+in_ok-push w ↦
           let x : Vec ℕ Global × Vec ℕ Global = (w.in_ok-key.key, w.in_ok-value.value) in
@@ -36,4 +37,5 @@ pub returns : goal.returns
 returns c =
     let t = c.args.self.now in
     let marks : length c.self.inside.linked.items ≡ length t.linked = ap (λ (r : Rows). length r.linked) c.self.view_is in
-    pairs_all t c.loop-element.element (map pair_of c.loop-element.pairs.items) (omega (arith, c.loop-element-test.false, c.len-element-end.ensures, c.self.inside.linked.ok.0, marks)) c.loop-element.invariant
+    pairs_all t c.loop-element.element (map pair_of c.loop-element.pairs.items)
+    (omega (arith, c.loop-element-test.false, c.len-element-end.ensures, c.self.inside.linked.ok.0, marks)) c.loop-element.invariant

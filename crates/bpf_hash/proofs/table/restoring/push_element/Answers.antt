@@ -1,4 +1,5 @@
-use Rattle.std.proofs.Common.{◌≡◌, ◌∙◌, ℕ, ◌+◌, ◌≤◌, ◌==◌, ◌||◌, Bool, if◌then◌else◌, List, [], ◌∷◌, ◌++◌, length, length-drop, take, drop, map, replicate, slice_index, ap, arith}
+use Rattle.std.proofs.Common.{◌≡◌, ◌∙◌, ℕ, ◌+◌, ◌≤◌, ◌==◌, ◌||◌, Bool, if◌then◌else◌, List, [], ◌∷◌, ◌++◌, length, length-drop, take, drop}
+use Rattle.std.proofs.Common.{map, replicate, slice_index, ap, arith}
 use Rattle.std.proofs.lemmas.List.{length-take-le}
 use Rattle.bpf_shared.specs.declared.shapes.MapShape.{MapShape}
 use Rattle.bpf_hash.specs.declared.runs.Runs.{Runs}
@@ -52,7 +53,8 @@ module _ (shape : MapShape) (cpus : ℕ) (rest : List ℕ) (runs : List Runs) (t
       omega (arith, whole, inside, size)
 
   key_read : (if (slice_index marks 0 == 1) then take shape.key content else replicate shape.key 0) ≡ normal_key t i
-  key_read = part_same (slice_index marks 0 == 1) (is_linked t i) shape.key content (drop (1 + cpus) rest) linked content_is ∙ key_at shape cpus rest runs t i more b
+  key_read = part_same (slice_index marks 0 == 1) (is_linked t i) shape.key content (drop (1 + cpus) rest) linked content_is ∙ key_at shape
+      cpus rest runs t i more b
 
   value_read : (last : List ℕ) → last ≡ drop key content → (if used then take shape.value last else replicate shape.value 0) ≡ normal_value runs t i
   value_read last e =
@@ -82,12 +84,32 @@ returns-clause-read c runs t i more b =
     let rest = c.args.rest.now in
     let shape = c.args.shape in
     let cpus = c.args.cpus in (
-      count shape cpus rest runs t i more b c.front-marks.result.now c.past-content.result.now c.past.result.now c.in_ok-noted.noted c.either-used.result c.size_where-key.result c.size_where-value.result c.front-marks.ensures c.past-content.ensures c.past.ensures c.in_ok-noted.ensures.noted c.size_where-key.ensures c.either-used.ensures c.size_where-value.ensures,
-      c.in_ok-push.ensures.items ∙ ap (λ (x : Bool). c.args.parts.now.linked.items ++ x ∷ []) (linked shape cpus rest runs t i more b c.front-marks.result.now c.past-content.result.now c.past.result.now c.in_ok-noted.noted c.either-used.result c.size_where-key.result c.size_where-value.result c.front-marks.ensures c.past-content.ensures c.past.ensures c.in_ok-noted.ensures.noted c.size_where-key.ensures c.either-used.ensures c.size_where-value.ensures),
-      c.in_ok-push_part.ensures ∙ ap (λ (bs : List ℕ). c.args.parts.now.keys.items ++ bs) (key_read shape cpus rest runs t i more b c.front-marks.result.now c.past-content.result.now c.past.result.now c.in_ok-noted.noted c.either-used.result c.size_where-key.result c.size_where-value.result c.front-marks.ensures c.past-content.ensures c.past.ensures c.in_ok-noted.ensures.noted c.size_where-key.ensures c.either-used.ensures c.size_where-value.ensures),
-      c.in_ok-push_part-2.ensures ∙ ap (λ (bs : List ℕ). c.args.parts.now.values.items ++ bs) (value_read shape cpus rest runs t i more b c.front-marks.result.now c.past-content.result.now c.past.result.now c.in_ok-noted.noted c.either-used.result c.size_where-key.result c.size_where-value.result c.front-marks.ensures c.past-content.ensures c.past.ensures c.in_ok-noted.ensures.noted c.size_where-key.ensures c.either-used.ensures c.size_where-value.ensures c.past-last.result.now c.past-last.ensures),
-      c.in_ok-noted.ensures.held ∙ ap (λ (bs : List ℕ). c.args.parts.now.looked_up.items ++ bs) (held_read shape cpus rest runs t i more b c.front-marks.result.now c.past-content.result.now c.past.result.now c.in_ok-noted.noted c.either-used.result c.size_where-key.result c.size_where-value.result c.front-marks.ensures c.past-content.ensures c.past.ensures c.in_ok-noted.ensures.noted c.size_where-key.ensures c.either-used.ensures c.size_where-value.ensures),
-      c.in_ok-noted.ensures.left ∙ ap (λ (bs : List ℕ). c.args.parts.now.left.items ++ bs) (left_read shape cpus rest runs t i more b c.front-marks.result.now c.past-content.result.now c.past.result.now c.in_ok-noted.noted c.either-used.result c.size_where-key.result c.size_where-value.result c.front-marks.ensures c.past-content.ensures c.past.ensures c.in_ok-noted.ensures.noted c.size_where-key.ensures c.either-used.ensures c.size_where-value.ensures),
+      count shape cpus rest runs t i more b c.front-marks.result.now c.past-content.result.now c.past.result.now c.in_ok-noted.noted
+          c.either-used.result c.size_where-key.result c.size_where-value.result c.front-marks.ensures c.past-content.ensures c.past.ensures
+          c.in_ok-noted.ensures.noted c.size_where-key.ensures c.either-used.ensures c.size_where-value.ensures,
+      c.in_ok-push.ensures.items ∙ ap (λ (x : Bool). c.args.parts.now.linked.items ++ x ∷ [])
+          (linked shape cpus rest runs t i more b c.front-marks.result.now c.past-content.result.now c.past.result.now c.in_ok-noted.noted
+          c.either-used.result c.size_where-key.result c.size_where-value.result c.front-marks.ensures c.past-content.ensures c.past.ensures
+          c.in_ok-noted.ensures.noted c.size_where-key.ensures c.either-used.ensures c.size_where-value.ensures),
+      c.in_ok-push_part.ensures ∙ ap (λ (bs : List ℕ). c.args.parts.now.keys.items ++ bs)
+          (key_read shape cpus rest runs t i more b c.front-marks.result.now c.past-content.result.now c.past.result.now c.in_ok-noted.noted
+          c.either-used.result c.size_where-key.result c.size_where-value.result c.front-marks.ensures c.past-content.ensures c.past.ensures
+          c.in_ok-noted.ensures.noted c.size_where-key.ensures c.either-used.ensures c.size_where-value.ensures),
+      c.in_ok-push_part-2.ensures ∙ ap (λ (bs : List ℕ). c.args.parts.now.values.items ++ bs)
+          (value_read shape cpus rest runs t i more b c.front-marks.result.now c.past-content.result.now c.past.result.now
+          c.in_ok-noted.noted c.either-used.result c.size_where-key.result c.size_where-value.result c.front-marks.ensures
+          c.past-content.ensures c.past.ensures c.in_ok-noted.ensures.noted c.size_where-key.ensures c.either-used.ensures
+          c.size_where-value.ensures c.past-last.result.now c.past-last.ensures),
+      c.in_ok-noted.ensures.held ∙ ap (λ (bs : List ℕ). c.args.parts.now.looked_up.items ++ bs)
+          (held_read shape cpus rest runs t i more b c.front-marks.result.now c.past-content.result.now c.past.result.now
+          c.in_ok-noted.noted c.either-used.result c.size_where-key.result c.size_where-value.result c.front-marks.ensures
+          c.past-content.ensures c.past.ensures c.in_ok-noted.ensures.noted c.size_where-key.ensures c.either-used.ensures
+          c.size_where-value.ensures),
+      c.in_ok-noted.ensures.left ∙ ap (λ (bs : List ℕ). c.args.parts.now.left.items ++ bs)
+          (left_read shape cpus rest runs t i more b c.front-marks.result.now c.past-content.result.now c.past.result.now
+          c.in_ok-noted.noted c.either-used.result c.size_where-key.result c.size_where-value.result c.front-marks.ensures
+          c.past-content.ensures c.past.ensures c.in_ok-noted.ensures.noted c.size_where-key.ensures c.either-used.ensures
+          c.size_where-value.ensures),
     )
 
 pub returns-clause-sized : goal.returns-clause-sized
@@ -95,10 +117,13 @@ returns-clause-sized c n is =
     let rest = c.args.rest.now in
     let shape = c.args.shape in
     let cpus = c.args.cpus in
-    let front : length c.front-marks.result.now ≡ 1 + cpus = ap (λ (bs : List ℕ). length bs) c.front-marks.ensures ∙ length-take-le (1 + cpus) rest (omega arith) in
-    let many : length c.past.result.now ≡ cpus = (let e = ap (λ (bs : List ℕ). length bs) c.past.ensures ∙ length-drop 1 c.front-marks.result.now in omega (arith, e, front)) in
+    let front : length c.front-marks.result.now ≡ 1 + cpus = ap (λ (bs : List ℕ). length bs) c.front-marks.ensures ∙ length-take-le
+    (1 + cpus) rest (omega arith) in
+    let many : length c.past.result.now ≡ cpus =
+    (let e = ap (λ (bs : List ℕ). length bs) c.past.ensures ∙ length-drop 1 c.front-marks.result.now in omega (arith, e, front)) in
     sized_more shape cpus n _ _ _ _ _ _ _ _ _ _ _ _ c.past.result.now _ is c.in_ok-push.ensures.items
-    c.in_ok-push_part.ensures (part_sized (slice_index c.front-marks.result.now 0 == 1) shape.key c.past-content.result.now (λ h. let key : c.size_where-key.result ≡ shape.key = c.size_where-key.ensures ∙ ap (λ (b : Bool). if b then shape.key else 0) h in omega (arith, key)))
+    c.in_ok-push_part.ensures (part_sized (slice_index c.front-marks.result.now 0 == 1) shape.key c.past-content.result.now
+    (λ h. let key : c.size_where-key.result ≡ shape.key = c.size_where-key.ensures ∙ ap (λ (b : Bool). if b then shape.key else 0) h in omega (arith, key)))
     c.in_ok-push_part-2.ensures (part_sized c.either-used.result shape.value c.past-last.result.now (λ h.
     let value : c.size_where-value.result ≡ shape.value = c.size_where-value.ensures ∙ ap (λ (b : Bool). if b then shape.value else 0) h in
     let size = ap (λ (bs : List ℕ). length bs) c.past-last.ensures ∙ length-drop c.size_where-key.result c.past-content.result.now in
@@ -106,10 +131,14 @@ returns-clause-sized c n is =
     many c.in_ok-noted.ensures.held c.in_ok-noted.ensures.left
 
 pub returns-then-rest-cpus-clause-none : goal.returns-then-rest-cpus-clause-none
-returns-then-rest-cpus-clause-none c runs t i more b = let enough = long c.args.shape c.args.cpus c.args.rest.now runs t i more b in let few = c.if-rest-cpus.true in absurd (omega arith)
+returns-then-rest-cpus-clause-none c runs t i more b =
+    let enough = long c.args.shape c.args.cpus c.args.rest.now runs t i more b in let few = c.if-rest-cpus.true in absurd (omega arith)
 
 pub returns-then-content-key-clause-none : goal.returns-then-content-key-clause-none
 returns-then-content-key-clause-none c runs t i more b =
-    let enough = fits c.args.shape c.args.cpus c.args.rest.now runs t i more b c.front-marks.result.now c.past-content.result.now c.past.result.now c.in_ok-noted.noted c.either-used.result c.size_where-key.result c.size_where-value.result c.front-marks.ensures c.past-content.ensures c.past.ensures c.in_ok-noted.ensures.noted c.size_where-key.ensures c.either-used.ensures c.size_where-value.ensures in
+    let enough = fits c.args.shape c.args.cpus c.args.rest.now runs t i more b c.front-marks.result.now c.past-content.result.now
+    c.past.result.now c.in_ok-noted.noted c.either-used.result c.size_where-key.result c.size_where-value.result
+    c.front-marks.ensures c.past-content.ensures c.past.ensures c.in_ok-noted.ensures.noted c.size_where-key.ensures
+    c.either-used.ensures c.size_where-value.ensures in
     let few = c.if-content-key.true in
     absurd (omega arith)

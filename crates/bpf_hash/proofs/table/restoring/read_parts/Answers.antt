@@ -12,7 +12,8 @@ loop-element-preserved c =
           (let far = c.loop-element.invariant.read runs t more saved in
           let b = block_here c.args.shape c.args.cpus c.args.bytes.now runs t more saved i c.loop-element.at below far.at_is c.past.result.now c.past.ensures in
           let inside = within c.args.shape c.args.cpus c.args.bytes.now runs t more saved i c.loop-element.at below far.at_is in
-          more_read runs t i c.loop-element.at c.in-Some.count _ _ _ _ _ _ _ _ _ _ saved.table inside far (at_some _ _ _ c.in-Some.is c.in_ok-count.ensures.read runs t i _ b));
+          more_read runs t i c.loop-element.at c.in-Some.count _ _ _ _ _ _ _ _ _ _ saved.table inside far
+          (at_some _ _ _ c.in-Some.is c.in_ok-count.ensures.read runs t i _ b));
       inside =
           (let most : c.in-Some.count ≤ length c.past.result.now = at_some _ _ _ c.in-Some.is c.in_ok-count.ensures.inside in
           let rest = ap (λ (bs : List ℕ). length bs) c.past.ensures in

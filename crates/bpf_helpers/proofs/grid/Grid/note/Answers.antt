@@ -12,7 +12,8 @@ returns-then-self-map-eq0-clause-elements c = λ maps m are sized e.
     let narrow = (start_of maps m c.args.span e are).narrow in
     let low = c.in-Some.ensures.some.map in
     let size : c.unwrap_or.result ≡ c.args.span.size = grind (arith, common_steps) in
-    on_noted maps c.args.self.now.sizes m c.in-Some.map c.in-Some.field-0-1 c.unwrap_or.result c.args.span are sized e c.in-Some.ensures.some (search rules) size
+    on_noted maps c.args.self.now.sizes m c.in-Some.map c.in-Some.field-0-1 c.unwrap_or.result c.args.span are sized e
+    c.in-Some.ensures.some (search rules) size
 
 pub returns-else-self-map-eq0-clause-elements : goal.returns-else-self-map-eq0-clause-elements
 returns-else-self-map-eq0-clause-elements c = λ maps m are sized e.

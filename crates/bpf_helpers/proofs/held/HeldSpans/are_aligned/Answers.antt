@@ -15,5 +15,6 @@ even at m e s is =
 
 pub returns : goal.returns
 returns c =
-    let on : All (IsOnGrid c.self.inside.grid.sizes) c.args.self.now = subst (λ (spans : List Span). All (IsOnGrid c.self.inside.grid.sizes) spans) c.self.view_is c.self.invariant.on_grid in
+    let on : All (IsOnGrid c.self.inside.grid.sizes) c.args.self.now = subst
+    (λ (spans : List Span). All (IsOnGrid c.self.inside.grid.sizes) spans) c.self.view_is c.self.invariant.on_grid in
     All-weaker (IsOnGrid c.self.inside.grid.sizes) IsAligned (λ p h. even p.at h.map h.element p.size h.start.at) c.args.self.now on

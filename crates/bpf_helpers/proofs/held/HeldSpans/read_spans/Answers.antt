@@ -29,5 +29,6 @@ loop-number-preserved c =
       count = omega (arith, ap length is, length-append c.loop-number.self (span ∷ []), at.count);
       once = subst AreOnce (sym is) (once_more c.loop-number.self span at.once (c.take_in.ensures.fresh c.if-not-take_in.false));
       wide = subst (λ (l : List Span). All IsWide l) (sym is) (All-push IsWide c.loop-number.self span at.wide c.in_ok-span.ensures.wide);
-      read = one_read c.args.bytes.now c.loop-number.self c.take_in.new.self span c.loop-number.rest.now c.in_ok-span.behind.now at.read c.in_ok-span.ensures.some is;
+      read = one_read c.args.bytes.now c.loop-number.self c.take_in.new.self span c.loop-number.rest.now c.in_ok-span.behind.now at.read
+          c.in_ok-span.ensures.some is;
     }

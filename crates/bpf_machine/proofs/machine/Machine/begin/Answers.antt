@@ -33,7 +33,12 @@ pub index-requires : goal.index-requires
 index-requires c =
     let m = c.self.inside in
     let next = next_job _ _ c.args.cpu c.args.job c.self.view_is c.requires in
-    omega (arith, program_within m.store m.programs.items m.jobs.items m.lanes.items c.self.invariant.0 c.args.cpu c.args.job next _ c.index_mut-listed.ensures.value, m.programs.ok.0)
+    omega (
+      arith,
+      program_within m.store m.programs.items m.jobs.items m.lanes.items c.self.invariant.0 c.args.cpu c.args.job next _
+          c.index_mut-listed.ensures.value,
+      m.programs.ok.0,
+    )
 
 pub unreachable-requires : goal.unreachable-requires
 unreachable-requires c =
@@ -74,10 +79,13 @@ invariant_of-self c =
     let e = c.index_mut-listed.result.now in
     let e' : Listed = record { cpu = e.cpu; program = e.program; budget = e.budget; phase = c.replace.new.dest } in
     let entry = listed m.store m.programs.items m.jobs.items m.lanes.items c.self.invariant.0 c.args.cpu c.args.job next _ c.index_mut-listed.ensures.value in (
-      begun_board m.store m.programs.items m.jobs.items m.lanes.items c.self.invariant.0 c.args.cpu c.args.job next _ c.index_mut-listed.ensures.value _ c.index_mut-lane.ensures.value c.replace.new.dest c.replace.ensures.after
-          c.in-Waiting.input (sym c.replace.ensures.value ∙ c.in-Waiting.is) c.new-start.result c.new-start.ensures _ c.deref.ensures.value c.first_job-lane.result c.first_job-lane.ensures
+      begun_board m.store m.programs.items m.jobs.items m.lanes.items c.self.invariant.0 c.args.cpu c.args.job next _
+          c.index_mut-listed.ensures.value _ c.index_mut-lane.ensures.value c.replace.new.dest c.replace.ensures.after
+          c.in-Waiting.input (sym c.replace.ensures.value ∙ c.in-Waiting.is) c.new-start.result c.new-start.ensures _ c.deref.ensures.value
+          c.first_job-lane.result c.first_job-lane.ensures
           c.begin.new.self c.in-Ok.ensures.same.1 c.in-Ok.ensures.running c.in-Ok.ensures.held _ c.index.ensures c.starts.ensures,
-      still_fit (shapes_of m.store) (shapes_of c.begin.new.self) m.jobs.items c.args.job e e' m.keys m.lists.items (ap (λ (h : Shape). h.maps) c.in-Ok.ensures.same.0) entry refl c.self.invariant.1,
+      still_fit (shapes_of m.store) (shapes_of c.begin.new.self) m.jobs.items c.args.job e e' m.keys m.lists.items
+          (ap (λ (h : Shape). h.maps) c.in-Ok.ensures.same.0) entry refl c.self.invariant.1,
     )
 
 pub returns-clause-begins : goal.returns-clause-begins
@@ -88,16 +96,25 @@ returns-clause-begins c =
     let hand : Hand = record { job = c.args.job; cpu = c.new-start.result; left = e.budget } in
     let lanes = slice_set m.lanes.items c.args.cpu (record { hand = Some hand; next = c.first_job-lane.result }) in
     let jobs = slice_set m.jobs.items c.args.job (record { cpu = e.cpu; program = e.program; budget = e.budget; phase = c.replace.new.dest }) in
-    let new : MachineState = record { store = c.begin.new.self; programs = m.programs.items; jobs = tasks_of lanes jobs; lists = listings m.keys m.lists.items } in
+    let new : MachineState = record {
+      store = c.begin.new.self;
+      programs = m.programs.items;
+      jobs = tasks_of lanes jobs;
+      lists = listings
+          m.keys m.lists.items;
+    } in
     let B : MachineState → Type 0 = λ s. BeginsJob s c.args.cpu c.args.job new in
     subst B c.self.view_is (
       next.1.0,
       next.1.1,
       next.1.2,
       refl,
-      begun_tasks m.store m.programs.items m.jobs.items m.lanes.items c.self.invariant.0 c.args.cpu c.args.job next _ c.index_mut-listed.ensures.value _ c.index_mut-lane.ensures.value c.replace.new.dest c.replace.ensures.after
-          c.in-Waiting.input (sym c.replace.ensures.value ∙ c.in-Waiting.is) c.new-start.result c.new-start.ensures _ c.deref.ensures.value c.first_job-lane.result c.first_job-lane.ensures,
-      call_leads m.store c.begin.new.self c.args.cpu Begin (serves m.store m.programs.items m.jobs.items m.lanes.items c.self.invariant.0 c.args.cpu c.args.job next) c.in-Ok.ensures.begun c.in-Ok.ensures.same.1,
+      begun_tasks m.store m.programs.items m.jobs.items m.lanes.items c.self.invariant.0 c.args.cpu c.args.job next _
+          c.index_mut-listed.ensures.value _ c.index_mut-lane.ensures.value c.replace.new.dest c.replace.ensures.after
+          c.in-Waiting.input (sym c.replace.ensures.value ∙ c.in-Waiting.is) c.new-start.result c.new-start.ensures _ c.deref.ensures.value
+          c.first_job-lane.result c.first_job-lane.ensures,
+      call_leads m.store c.begin.new.self c.args.cpu Begin (serves m.store m.programs.items m.jobs.items m.lanes.items c.self.invariant.0
+          c.args.cpu c.args.job next) c.in-Ok.ensures.begun c.in-Ok.ensures.same.1,
       refl,
     )
 
@@ -108,11 +125,18 @@ returns-clause-same c =
     let hand : Hand = record { job = c.args.job; cpu = c.new-start.result; left = e.budget } in
     let lanes = slice_set m.lanes.items c.args.cpu (record { hand = Some hand; next = c.first_job-lane.result }) in
     let jobs = slice_set m.jobs.items c.args.job (record { cpu = e.cpu; program = e.program; budget = e.budget; phase = c.replace.new.dest }) in
-    let new : MachineState = record { store = c.begin.new.self; programs = m.programs.items; jobs = tasks_of lanes jobs; lists = listings m.keys m.lists.items } in
+    let new : MachineState = record {
+      store = c.begin.new.self;
+      programs = m.programs.items;
+      jobs = tasks_of lanes jobs;
+      lists = listings
+          m.keys m.lists.items;
+    } in
     let H : MachineState → Type 0 = λ s. IsSameHost s new in
     subst H c.self.view_is (record {
       programs = refl;
-      jobs = same_count m.lanes.items lanes m.jobs.items c.args.job (record { cpu = e.cpu; program = e.program; budget = e.budget; phase = c.replace.new.dest });
+      jobs = same_count m.lanes.items lanes m.jobs.items c.args.job
+          (record { cpu = e.cpu; program = e.program; budget = e.budget; phase = c.replace.new.dest });
       shape = (λ n. ap (λ (f : ℕ → Bool). f n) c.in-Ok.ensures.same.1, c.in-Ok.ensures.same.0);
       lists = λ none. none;
     })

@@ -11,4 +11,5 @@ pub returns-clause-jobs : goal.returns-clause-jobs
 returns-clause-jobs c =
     let m = c.self.inside in
     let P : MachineState → Type 0 = λ s. (j : ℕ) (task : Task) → slice_get s.jobs j ≡ Some task → task.cpu < c.cpus.result in
-    subst P c.self.view_is (λ j task listed. ltb-true _ _ (sym (c.cpus.ensures task.cpu) ∙ served (has_cpu m.store) (is_running m.store) (held_spans m.store) m.programs.items m.jobs.items m.lanes.items c.self.invariant.0 j task listed))
+    subst P c.self.view_is (λ j task listed. ltb-true _ _ (sym (c.cpus.ensures task.cpu) ∙ served (has_cpu m.store) (is_running m.store)
+    (held_spans m.store) m.programs.items m.jobs.items m.lanes.items c.self.invariant.0 j task listed))

@@ -25,14 +25,19 @@ invariant_of-result c =
     let first = subst P c.deref-in-Ok-Ok.ensures.value c.make_lanes-lanes.ensures.first in
     let Q : List Job → Type 0 = λ xs. All (λ job. job.cpu < cpus) xs in
     let below : All (λ job. job.cpu < cpus) jobs = subst Q c.deref.ensures.value c.count_cpus-cpus.ensures.above in
-    let loaded : All (λ job. job.program < length programs.items) jobs = All-weaker (λ job. job.program < vec_len programs) (λ job. job.program < length programs.items) (λ job fits. subst (λ (n : ℕ). job.program < n) programs.ok.0 fits) jobs c.requires.programs in
-    let have = subst (λ (r : Result (Vec KeyLists Global) AllocError). IfOk r (λ v. AreAsked (shapes_of store) c.deref-2.result.now c.args.keys v.items)) c.in-Ok-Ok.is-1 c.make_asked-asked.ensures.have in
+    let loaded : All (λ job. job.program < length programs.items) jobs = All-weaker (λ job. job.program < vec_len programs)
+    (λ job. job.program < length programs.items) (λ job fits. subst (λ (n : ℕ). job.program < n) programs.ok.0 fits) jobs
+    c.requires.programs in
+    let have = subst (λ (r : Result (Vec KeyLists Global) AllocError). IfOk r
+    (λ v. AreAsked (shapes_of store) c.deref-2.result.now c.args.keys v.items)) c.in-Ok-Ok.is-1 c.make_asked-asked.ensures.have in
     let asked = subst (λ (js : List Job). AreAsked (shapes_of store) js c.args.keys c.in-Ok-Ok.lists.items) c.deref-2.ensures.value have in (
-      made_board (has_cpu store) (is_running store) (held_spans store) programs.items jobs list lanes c.list_jobs-listed.ensures cpus c.make_lanes-lanes.ensures.count c.make_lanes-lanes.ensures.idle first c.requires.idle below c.requires.cpus loaded c.requires.inputs,
+      made_board (has_cpu store) (is_running store) (held_spans store) programs.items jobs list lanes c.list_jobs-listed.ensures cpus
+          c.make_lanes-lanes.ensures.count c.make_lanes-lanes.ensures.idle first c.requires.idle below c.requires.cpus loaded c.requires.inputs,
       first_fit (shapes_of store) jobs list c.args.keys c.in-Ok-Ok.lists.items c.list_jobs-listed.ensures asked,
     )
 
 pub returns-in-Ok-Ok-clause-jobs : goal.returns-in-Ok-Ok-clause-jobs
 returns-in-Ok-Ok-clause-jobs c =
     let store = c.args.store in
-    made_tasks (has_cpu store) (is_running store) (held_spans store) c.args.programs.items c.args.jobs.items c.list_jobs-listed.result.items c.make_lanes-lanes.result.items c.list_jobs-listed.ensures
+    made_tasks (has_cpu store) (is_running store) (held_spans store) c.args.programs.items c.args.jobs.items c.list_jobs-listed.result.items
+    c.make_lanes-lanes.result.items c.list_jobs-listed.ensures

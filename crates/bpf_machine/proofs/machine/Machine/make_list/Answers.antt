@@ -21,7 +21,12 @@ index_mut-lists-requires c =
     let m = c.self.inside in
     let has = has_job _ _ c.args.cpu c.self.view_is c.requires in
     let asked : m.keys ≡ true = search rules in
-    omega (arith, lists_within m.store m.programs.items m.jobs.items m.lanes.items c.self.invariant.0 c.args.cpu has m.keys m.lists.items asked c.self.invariant.1, m.lists.ok.0)
+    omega (
+      arith,
+      lists_within m.store m.programs.items m.jobs.items m.lanes.items c.self.invariant.0 c.args.cpu has m.keys m.lists.items
+          asked c.self.invariant.1,
+      m.lists.ok.0,
+    )
 
 pub list_all-requires-clause-serves : goal.list_all-requires-clause-serves
 list_all-requires-clause-serves c =
@@ -35,7 +40,8 @@ list_all-requires-clause-lists c =
     let asked : m.keys ≡ true = search rules in
     let l = c.index_mut-lists.result.now in
     subst (AreListsOf (shapes_of m.store)) (sym c.deref_mut.ensures.value)
-    (are_lists m.store m.programs.items m.jobs.items m.lanes.items c.self.invariant.0 c.args.cpu has m.keys m.lists.items asked c.self.invariant.1 l c.index_mut-lists.ensures.value)
+    (are_lists m.store m.programs.items m.jobs.items m.lanes.items c.self.invariant.0 c.args.cpu has m.keys m.lists.items asked
+    c.self.invariant.1 l c.index_mut-lists.ensures.value)
 
 pub invariant_of-self : goal.invariant_of-self
 invariant_of-self c =
@@ -45,11 +51,23 @@ invariant_of-self c =
     let l = c.index_mut-lists.result.now in
     let new = c.list_all.new.lists in
     let l' : KeyLists = record { maps = with_items l.maps new; made = true } in
-    let are = are_lists m.store m.programs.items m.jobs.items m.lanes.items c.self.invariant.0 c.args.cpu has m.keys m.lists.items asked c.self.invariant.1 l c.index_mut-lists.ensures.value in
-    let long : length new ≡ vec_len l.maps = omega (arith, l.maps.ok.0, length-map new (λ (x : Listed). x.shape), length-map l.maps.items (λ (x : Listed). x.shape), ap (length {A = MapShape}) c.list_all.ensures.lists.shapes_are, ap (length {A = MapShape}) are.shapes_are) in
+    let are = are_lists m.store m.programs.items m.jobs.items m.lanes.items c.self.invariant.0 c.args.cpu has m.keys m.lists.items asked
+    c.self.invariant.1 l c.index_mut-lists.ensures.value in
+    let long : length new ≡ vec_len l.maps = omega (
+      arith,
+      l.maps.ok.0,
+      length-map new (λ (x : Listed). x.shape),
+      length-map l.maps.items
+          (λ (x : Listed). x.shape),
+      ap (length {A = MapShape}) c.list_all.ensures.lists.shapes_are,
+      ap (length {A = MapShape}) are.shapes_are,
+    ) in
     let items : l'.maps.items ≡ new = filled (vec_len l.maps) new l.maps.items long in (
-      same_board m.store c.list_all.new.store m.programs.items m.jobs.items m.lanes.items c.list_all.ensures.same.0 c.list_all.ensures.same.1 c.list_all.ensures.same.2 c.self.invariant.0,
-      still_fit m.store m.programs.items m.jobs.items m.lanes.items c.self.invariant.0 c.args.cpu has m.keys m.lists.items asked c.self.invariant.1 l c.index_mut-lists.ensures.value l' refl c.list_all.new.store (ap (λ (h : Shape). h.maps) c.list_all.ensures.shape) (subst (AreListsOf (shapes_of m.store)) (sym items) c.list_all.ensures.lists),
+      same_board m.store c.list_all.new.store m.programs.items m.jobs.items m.lanes.items c.list_all.ensures.same.0
+          c.list_all.ensures.same.1 c.list_all.ensures.same.2 c.self.invariant.0,
+      still_fit m.store m.programs.items m.jobs.items m.lanes.items c.self.invariant.0 c.args.cpu has m.keys m.lists.items asked
+          c.self.invariant.1 l c.index_mut-lists.ensures.value l' refl c.list_all.new.store
+          (ap (λ (h : Shape). h.maps) c.list_all.ensures.shape) (subst (AreListsOf (shapes_of m.store)) (sym items) c.list_all.ensures.lists),
     )
 
 pub returns-clause-lists : goal.returns-clause-lists
@@ -60,11 +78,23 @@ returns-clause-lists c =
     let l = c.index_mut-lists.result.now in
     let new = c.list_all.new.lists in
     let l' : KeyLists = record { maps = with_items l.maps new; made = true } in
-    let are = are_lists m.store m.programs.items m.jobs.items m.lanes.items c.self.invariant.0 c.args.cpu has m.keys m.lists.items asked c.self.invariant.1 l c.index_mut-lists.ensures.value in
-    let long : length new ≡ vec_len l.maps = omega (arith, l.maps.ok.0, length-map new (λ (x : Listed). x.shape), length-map l.maps.items (λ (x : Listed). x.shape), ap (length {A = MapShape}) c.list_all.ensures.lists.shapes_are, ap (length {A = MapShape}) are.shapes_are) in
+    let are = are_lists m.store m.programs.items m.jobs.items m.lanes.items c.self.invariant.0 c.args.cpu has m.keys m.lists.items asked
+    c.self.invariant.1 l c.index_mut-lists.ensures.value in
+    let long : length new ≡ vec_len l.maps = omega (
+      arith,
+      l.maps.ok.0,
+      length-map new (λ (x : Listed). x.shape),
+      length-map l.maps.items
+          (λ (x : Listed). x.shape),
+      ap (length {A = MapShape}) c.list_all.ensures.lists.shapes_are,
+      ap (length {A = MapShape}) are.shapes_are,
+    ) in
     let items : l'.maps.items ≡ new = filled (vec_len l.maps) new l.maps.items long in
-    shows_listed m.store m.programs.items m.jobs.items m.lanes.items c.self.invariant.0 c.args.cpu has m.keys m.lists.items asked c.self.invariant.1 l c.index_mut-lists.ensures.value l' refl c.list_all.new.store (ap (λ (h : Shape). h.maps) c.list_all.ensures.shape) (subst (AreListsOf (shapes_of m.store)) (sym items) c.list_all.ensures.lists)
-    (λ s sound stands. (let told = c.list_all.ensures.keys s sound stands in (told.0, ap (map (λ (x : Listed). x.keys)) items ∙ told.1))) c.args.self.now c.self.view_is
+    shows_listed m.store m.programs.items m.jobs.items m.lanes.items c.self.invariant.0 c.args.cpu has m.keys m.lists.items asked
+    c.self.invariant.1 l c.index_mut-lists.ensures.value l' refl c.list_all.new.store
+    (ap (λ (h : Shape). h.maps) c.list_all.ensures.shape) (subst (AreListsOf (shapes_of m.store)) (sym items) c.list_all.ensures.lists)
+    (λ s sound stands. (let told = c.list_all.ensures.keys s sound stands in (told.0, ap (map (λ (x : Listed). x.keys)) items ∙ told.1)))
+    c.args.self.now c.self.view_is
 
 pub returns-clause-same : goal.returns-clause-same
 returns-clause-same c =
@@ -72,7 +102,12 @@ returns-clause-same c =
     let asked : m.keys ≡ true = search rules in
     let l = c.index_mut-lists.result.now in
     let l' : KeyLists = record { maps = with_items l.maps c.list_all.new.lists; made = true } in
-    let new : MachineState = record { store = c.list_all.new.store; programs = m.programs.items; jobs = tasks_of m.lanes.items m.jobs.items; lists = listings m.keys (slice_set m.lists.items c.args.cpu l') } in
+    let new : MachineState = record {
+      store = c.list_all.new.store;
+      programs = m.programs.items;
+      jobs = tasks_of m.lanes.items m.jobs.items;
+      lists = listings m.keys (slice_set m.lists.items c.args.cpu l');
+    } in
     let H : MachineState → Type 0 = λ s. IsSameHost s new in
     subst H c.self.view_is (record {
       programs = refl;

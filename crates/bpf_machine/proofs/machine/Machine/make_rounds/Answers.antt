@@ -10,7 +10,8 @@ finish-requires-clause-alone c = c.make_round.ensures.alone c.in-One.cpu c.in-On
 
 pub returns-in-InHand-clause-runs : goal.returns-in-InHand-clause-runs
 returns-in-InHand-clause-runs c =
-    next_rounds c.args.self.now c.make_round.new.self c.finish.new.self (one_round c.args.self.now c.make_round.new.self c.make_round.ensures.runs) c.finish.ensures.finishes
+    next_rounds c.args.self.now c.make_round.new.self c.finish.new.self
+    (one_round c.args.self.now c.make_round.new.self c.make_round.ensures.runs) c.finish.ensures.finishes
 
 pub returns-in-InHand-clause-falls : goal.returns-in-InHand-clause-falls
 returns-in-InHand-clause-falls c = λ e.
@@ -31,7 +32,8 @@ make_rounds_ahead-requires c = let r = c.make_round.ensures.runs c.requires.0 c.
 
 pub returns-in-More-clause-runs : goal.returns-in-More-clause-runs
 returns-in-More-clause-runs c =
-    next_rounds c.args.self.now c.make_round.new.self c.make_rounds_ahead.new.self (one_round c.args.self.now c.make_round.new.self c.make_round.ensures.runs) c.make_rounds_ahead.ensures.runs
+    next_rounds c.args.self.now c.make_round.new.self c.make_rounds_ahead.new.self
+    (one_round c.args.self.now c.make_round.new.self c.make_round.ensures.runs) c.make_rounds_ahead.ensures.runs
 
 pub returns-in-More-clause-falls : goal.returns-in-More-clause-falls
 returns-in-More-clause-falls c = λ e.

@@ -16,4 +16,5 @@ returns-after-loop-clause-runs c =
 
 pub returns-in-Idle-clause-runs : goal.returns-in-Idle-clause-runs
 returns-in-Idle-clause-runs c =
-    rest_idle c.args.self.now c.loop.self c.turn.new.self c.args.cpu c.loop.counter c.args.turns c.turn.result (omega arith) c.loop.invariant.runs c.turn.ensures.turn c.in-Idle.is (c.turn.ensures.idle c.in-Idle.is)
+    rest_idle c.args.self.now c.loop.self c.turn.new.self c.args.cpu c.loop.counter c.args.turns c.turn.result (omega arith)
+    c.loop.invariant.runs c.turn.ensures.turn c.in-Idle.is (c.turn.ensures.idle c.in-Idle.is)

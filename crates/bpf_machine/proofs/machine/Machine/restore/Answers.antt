@@ -15,8 +15,11 @@ use Rattle.bpf_machine.proofs.machine.Machine.restore.Goals as goal
 
 pub invariant_of-self : goal.invariant_of-self
 invariant_of-self c =
-    let m = c.self.inside in
-    (subst (λ (ls : List Lane). IsBoard (has_cpu m.store) (is_running m.store) (held_spans m.store) m.programs.items m.jobs.items ls) (sym c.in_err-renew_lanes.ensures.err) c.self.invariant.0, c.self.invariant.1)
+    let m = c.self.inside in (
+      subst (λ (ls : List Lane). IsBoard (has_cpu m.store) (is_running m.store) (held_spans m.store) m.programs.items m.jobs.items ls)
+          (sym c.in_err-renew_lanes.ensures.err) c.self.invariant.0,
+      c.self.invariant.1,
+    )
 
 pub invariant_of-self-2 : goal.invariant_of-self-2
 invariant_of-self-2 c =
@@ -24,9 +27,14 @@ invariant_of-self-2 c =
     let store = c.args.store.now in
     let parts = c.args.parts.now in
     let numbers = c.args.numbers.now in
-    let stands : CanStand (made_of store m.programs.items parts numbers) = subst (λ (ps : List Loaded). CanStand (made_of store ps parts numbers)) (sym (ap (λ (s : MachineState). s.programs) c.self.view_is)) c.requires.stands in
-    let serves : (n : ℕ) → has_cpu store n ≡ nat_lt n c.cpus-cpus.result = λ n. sym (c.requires.shape.0 n) ∙ (ap (λ (s : MachineState). has_cpu s.store n) (sym c.self.view_is) ∙ c.cpus-cpus.ensures n) in
-    let board = board_made store m.programs.items parts numbers stands c.in_ok-jobs.jobs.items c.in_ok-jobs.ensures.count c.in_ok-jobs.ensures.each c.renew_lanes.new.lanes.items c.cpus-cpus.result c.in_ok-renew_lanes.ensures.count serves c.in_ok-renew_lanes.ensures.each in
+    let stands : CanStand (made_of store m.programs.items parts numbers) = subst
+    (λ (ps : List Loaded). CanStand (made_of store ps parts numbers)) (sym (ap (λ (s : MachineState). s.programs) c.self.view_is))
+    c.requires.stands in
+    let serves : (n : ℕ) → has_cpu store n ≡ nat_lt n c.cpus-cpus.result = λ n. sym (c.requires.shape.0 n) ∙
+    (ap (λ (s : MachineState). has_cpu s.store n) (sym c.self.view_is) ∙ c.cpus-cpus.ensures n) in
+    let board = board_made store m.programs.items parts numbers stands c.in_ok-jobs.jobs.items c.in_ok-jobs.ensures.count
+    c.in_ok-jobs.ensures.each c.renew_lanes.new.lanes.items c.cpus-cpus.result c.in_ok-renew_lanes.ensures.count serves
+    c.in_ok-renew_lanes.ensures.each in
     let B : Contents → Type 0 = λ p. IsBoard (has_cpu p) (is_running p) (held_spans p) m.programs.items c.in_ok-jobs.jobs.items c.renew_lanes.new.lanes.items in
     let none : listings m.keys m.lists.items ≡ None = ap (λ (s : MachineState). s.lists) c.self.view_is ∙ c.requires.lists in
     (subst B (sym c.copy_from.ensures) board, fit_none (shapes_of c.copy_from.new.self) c.in_ok-jobs.jobs.items m.keys m.lists.items none)
@@ -38,9 +46,13 @@ returns-clause-ok c =
     let parts = c.args.parts.now in
     let numbers = c.args.numbers.now in
     let programs = ap (λ (s : MachineState). s.programs) c.self.view_is in
-    let stands : CanStand (made_of store m.programs.items parts numbers) = subst (λ (ps : List Loaded). CanStand (made_of store ps parts numbers)) (sym programs) c.requires.stands in
-    let serves : (n : ℕ) → has_cpu store n ≡ nat_lt n c.cpus-cpus.result = λ n. sym (c.requires.shape.0 n) ∙ (ap (λ (s : MachineState). has_cpu s.store n) (sym c.self.view_is) ∙ c.cpus-cpus.ensures n) in
-    let tasks = tasks_made store m.programs.items parts numbers stands c.in_ok-jobs.jobs.items c.in_ok-jobs.ensures.count c.in_ok-jobs.ensures.each c.renew_lanes.new.lanes.items c.cpus-cpus.result c.in_ok-renew_lanes.ensures.count serves c.in_ok-renew_lanes.ensures.each in
+    let stands : CanStand (made_of store m.programs.items parts numbers) = subst
+    (λ (ps : List Loaded). CanStand (made_of store ps parts numbers)) (sym programs) c.requires.stands in
+    let serves : (n : ℕ) → has_cpu store n ≡ nat_lt n c.cpus-cpus.result = λ n. sym (c.requires.shape.0 n) ∙
+    (ap (λ (s : MachineState). has_cpu s.store n) (sym c.self.view_is) ∙ c.cpus-cpus.ensures n) in
+    let tasks = tasks_made store m.programs.items parts numbers stands c.in_ok-jobs.jobs.items c.in_ok-jobs.ensures.count
+    c.in_ok-jobs.ensures.each c.renew_lanes.new.lanes.items c.cpus-cpus.result c.in_ok-renew_lanes.ensures.count serves
+    c.in_ok-renew_lanes.ensures.each in
     let jobs = tasks_of c.renew_lanes.new.lanes.items c.in_ok-jobs.jobs.items in
     let lists = listings m.keys m.lists.items in
     let none : lists ≡ None = ap (λ (s : MachineState). s.lists) c.self.view_is ∙ c.requires.lists in

@@ -13,4 +13,5 @@ loop-preserved c = next_rounds c.args.self.now c.loop.self c.make_rounds.new.sel
 
 pub returns-clause-runs : goal.returns-clause-runs
 returns-clause-runs c =
-    to_end c.args.self.now c.make_rounds.new.self (next_rounds c.args.self.now c.loop.self c.make_rounds.new.self c.loop.invariant c.loop-test.ensures.runs) (c.loop-test.ensures.ended refl)
+    to_end c.args.self.now c.make_rounds.new.self (next_rounds c.args.self.now c.loop.self c.make_rounds.new.self c.loop.invariant
+    c.loop-test.ensures.runs) (c.loop-test.ensures.ended refl)

@@ -12,16 +12,19 @@ pub loop-cpu-preserved : goal.loop-cpu-preserved
 loop-cpu-preserved c =
     let at = c.loop-cpu in
     let set = slice_set at.headways at.cpu c.run_ahead.result in
-    let here : headway_at set at.cpu ≡ c.run_ahead.result = get_or-set_same at.headways at.cpu c.run_ahead.result Idle (omega (arith, at.invariant.long, c.cpus_of_jobs-cpu-end.type_inv)) in
+    let here : headway_at set at.cpu ≡ c.run_ahead.result = get_or-set_same at.headways at.cpu c.run_ahead.result Idle
+    (omega (arith, at.invariant.long, c.cpus_of_jobs-cpu-end.type_inv)) in
     record {
-      far = one_more_ahead c.args.self.now at.self c.run_ahead.new.self at.cpu at.headways set c.run_ahead.result at.invariant.far here (λ d ne. sym (get_or-set_other at.headways at.cpu d c.run_ahead.result Idle ne)) c.run_ahead.ensures;
+      far = one_more_ahead c.args.self.now at.self c.run_ahead.new.self at.cpu at.headways set c.run_ahead.result at.invariant.far here
+          (λ d ne. sym (get_or-set_other at.headways at.cpu d c.run_ahead.result Idle ne)) c.run_ahead.ensures;
       long = length-set at.headways at.cpu c.run_ahead.result ∙ at.invariant.long;
     }
 
 pub returns-clause-ahead : goal.returns-clause-ahead
 returns-clause-ahead c =
     let n : c.loop-cpu.cpu ≡ c.cpus_of_jobs-cpu-end.result = omega arith in
-    all_ahead c.args.self.now c.loop-cpu.self c.cpus_of_jobs-cpu-end.result c.loop-cpu.headways c.cpus_of_jobs-cpu-end.ensures.jobs (subst (λ (k : ℕ). AllSoFar c.args.self.now k c.loop-cpu.headways c.loop-cpu.self) n c.loop-cpu.invariant.far)
+    all_ahead c.args.self.now c.loop-cpu.self c.cpus_of_jobs-cpu-end.result c.loop-cpu.headways c.cpus_of_jobs-cpu-end.ensures.jobs
+    (subst (λ (k : ℕ). AllSoFar c.args.self.now k c.loop-cpu.headways c.loop-cpu.self) n c.loop-cpu.invariant.far)
 
 pub returns-clause-falls : goal.returns-clause-falls
 returns-clause-falls c = λ shown. all_less c.args.self.now c.loop-cpu.self c.loop-cpu.cpu c.loop-cpu.headways c.loop-cpu.invariant.far shown.0 shown.1

@@ -16,7 +16,8 @@ returns-in_default c =
     let same : length c.deref.result.now ≡ length lanes = ap (length {A = Lane}) c.deref.ensures.value in
     let past : length lanes ≤ c.args.cpu = omega (arith, ltb-false c.args.cpu (length c.deref.result.now) (sym c.in_default.ensures.lookup.0)) in
     let P : MachineState → Type 0 = λ s. IsFree s.jobs c.args.cpu × NoneWaits s.jobs c.args.cpu in
-    subst P c.self.view_is (nothing_beyond (has_cpu m.store) (is_running m.store) (held_spans m.store) m.programs.items m.jobs.items lanes c.self.invariant.0 c.args.cpu past)
+    subst P c.self.view_is (nothing_beyond (has_cpu m.store) (is_running m.store) (held_spans m.store) m.programs.items m.jobs.items lanes
+    c.self.invariant.0 c.args.cpu past)
 
 pub returns-in-Some-hand : goal.returns-in-Some-hand
 returns-in-Some-hand c =
@@ -26,7 +27,8 @@ returns-in-Some-hand c =
     let there = lane_there lanes c.deref.result.now c.args.cpu l c.deref.ensures.value c.in-Some.ensures.lookup.0 c.in-Some.ensures.lookup.1 in
     let h = c.in-Some-hand.hand in
     let P : MachineState → Type 0 = λ s. (task : Task) × (left : ℕ) × IsAt s.jobs c.args.cpu h.job task (InHand h.cpu left) in
-    let has = has_hand (has_cpu m.store) (is_running m.store) (held_spans m.store) m.programs.items m.jobs.items lanes c.self.invariant.0 c.args.cpu h there.0 (ap (λ (x : Lane). x.hand) there.1 ∙ c.in-Some-hand.is) in
+    let has = has_hand (has_cpu m.store) (is_running m.store) (held_spans m.store) m.programs.items m.jobs.items lanes c.self.invariant.0
+    c.args.cpu h there.0 (ap (λ (x : Lane). x.hand) there.1 ∙ c.in-Some-hand.is) in
     subst P c.self.view_is (has.0, h.left, has.1)
 
 pub returns-in-None : goal.returns-in-None
@@ -36,7 +38,8 @@ returns-in-None c =
     let l = c.in-Some.lane.now in
     let there = lane_there lanes c.deref.result.now c.args.cpu l c.deref.ensures.value c.in-Some.ensures.lookup.0 c.in-Some.ensures.lookup.1 in
     let P : MachineState → Type 0 = λ s. IsNext s.jobs c.args.cpu l.next in
-    subst P c.self.view_is (work_waiting (has_cpu m.store) (is_running m.store) (held_spans m.store) m.programs.items m.jobs.items lanes c.self.invariant.0 c.args.cpu l there.0 there.1 c.in-None.is (omega (arith, m.jobs.ok.0)))
+    subst P c.self.view_is (work_waiting (has_cpu m.store) (is_running m.store) (held_spans m.store) m.programs.items m.jobs.items lanes
+    c.self.invariant.0 c.args.cpu l there.0 there.1 c.in-None.is (omega (arith, m.jobs.ok.0)))
 
 pub returns-in-None-2 : goal.returns-in-None-2
 returns-in-None-2 c =
@@ -45,4 +48,5 @@ returns-in-None-2 c =
     let l = c.in-Some.lane.now in
     let there = lane_there lanes c.deref.result.now c.args.cpu l c.deref.ensures.value c.in-Some.ensures.lookup.0 c.in-Some.ensures.lookup.1 in
     let P : MachineState → Type 0 = λ s. IsFree s.jobs c.args.cpu × NoneWaits s.jobs c.args.cpu in
-    subst P c.self.view_is (work_nothing (has_cpu m.store) (is_running m.store) (held_spans m.store) m.programs.items m.jobs.items lanes c.self.invariant.0 c.args.cpu l there.0 there.1 c.in-None-2.is (omega (arith, m.jobs.ok.0)))
+    subst P c.self.view_is (work_nothing (has_cpu m.store) (is_running m.store) (held_spans m.store) m.programs.items m.jobs.items lanes
+    c.self.invariant.0 c.args.cpu l there.0 there.1 c.in-None-2.is (omega (arith, m.jobs.ok.0)))

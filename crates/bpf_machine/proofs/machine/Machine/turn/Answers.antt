@@ -6,11 +6,13 @@ pub proceed-requires-in-Waiting : goal.proceed-requires-in-Waiting
 proceed-requires-in-Waiting c = begun_in_hand c.args.self.now c.begin.new.self c.args.cpu c.in-Waiting.job c.begin.ensures.begins
 
 pub returns-in-InHand-clause-turn : goal.returns-in-InHand-clause-turn
-returns-in-InHand-clause-turn c = turn_in_hand c.args.self.now c.proceed.new.self c.args.cpu c.in-InHand.job c.proceed.result c.in-InHand.ensures c.proceed.ensures.proceeds
+returns-in-InHand-clause-turn c = turn_in_hand c.args.self.now c.proceed.new.self c.args.cpu c.in-InHand.job c.proceed.result
+    c.in-InHand.ensures c.proceed.ensures.proceeds
 
 pub returns-in-Waiting-clause-turn : goal.returns-in-Waiting-clause-turn
 returns-in-Waiting-clause-turn c =
-    turn_begins c.args.self.now c.begin.new.self c.proceed-in-Waiting.new.self c.args.cpu c.in-Waiting.job c.proceed-in-Waiting.result c.in-Waiting.ensures c.begin.ensures.begins c.proceed-in-Waiting.ensures.proceeds
+    turn_begins c.args.self.now c.begin.new.self c.proceed-in-Waiting.new.self c.args.cpu c.in-Waiting.job c.proceed-in-Waiting.result
+    c.in-Waiting.ensures c.begin.ensures.begins c.proceed-in-Waiting.ensures.proceeds
 
 pub returns-in-Nothing-clause-turn : goal.returns-in-Nothing-clause-turn
 returns-in-Nothing-clause-turn c = turn_idle c.args.self.now c.args.cpu c.in-Nothing.ensures.0 c.in-Nothing.ensures.1

@@ -19,7 +19,9 @@ pub returns-in-Idle-clause-ahead : goal.returns-in-Idle-clause-ahead
 returns-in-Idle-clause-ahead c = (c.turn.result, c.turn.new.self, Idle, c.turn.ensures.turn, c.in-Idle.ensures, refl)
 
 pub returns-in-Turns-clause-jobs : goal.returns-in-Turns-clause-jobs
-returns-in-Turns-clause-jobs c = λ first come. ahead_same c.turn.new.self c.run_ahead.new.self c.args.cpu (Turns c.in-Turns.turns) c.in-Turns.ensures first (c.turn.ensures.jobs first come)
+returns-in-Turns-clause-jobs c = λ first come. ahead_same c.turn.new.self c.run_ahead.new.self c.args.cpu (Turns c.in-Turns.turns)
+    c.in-Turns.ensures first (c.turn.ensures.jobs first come)
 
 pub returns-in-Idle-clause-jobs : goal.returns-in-Idle-clause-jobs
-returns-in-Idle-clause-jobs c = λ first come. ahead_same c.turn.new.self c.run_ahead.new.self c.args.cpu Idle c.in-Idle.ensures first (c.turn.ensures.jobs first come)
+returns-in-Idle-clause-jobs c = λ first come. ahead_same c.turn.new.self c.run_ahead.new.self c.args.cpu Idle c.in-Idle.ensures first
+    (c.turn.ensures.jobs first come)

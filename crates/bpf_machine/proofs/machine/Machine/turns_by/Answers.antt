@@ -5,7 +5,8 @@ use Rattle.bpf_machine.proofs.machine.Machine.turns_by.Goals as goal
 
 pub loop-cpu-preserved : goal.loop-cpu-preserved
 loop-cpu-preserved c = record {
-  runs = next_run c.args.self.now c.loop-cpu.self c.repeat.new.self c.args.runs.now c.loop-cpu.cpu-index _ (omega arith) c.loop-cpu.invariant.runs c.repeat.ensures.runs;
+  runs = next_run c.args.self.now c.loop-cpu.self c.repeat.new.self c.args.runs.now c.loop-cpu.cpu-index _ (omega arith)
+      c.loop-cpu.invariant.runs c.repeat.ensures.runs;
   same = same_host_still _ _ _ c.loop-cpu.invariant.same c.repeat.ensures.same;
 }
 

@@ -4,7 +4,8 @@ use Rattle.bpf_machine.specs.declared.machine.ahead.Headway.TheVariants.{Idle, T
 use Rattle.bpf_machine.specs.Private.Headways.{AreCounted, HasSoMany, headway_at}
 use Rattle.bpf_machine.proofs.machine.ahead.pass_rounds.Goals as goal
 
-so_many : (headways : List Headway) (n working least d : ℕ) → AreCounted headways n working least → d < n → (h : Headway) → headway_at headways d ≡ h → HasSoMany least h
+so_many : (headways : List Headway) (n working least d : ℕ) → AreCounted headways n working least → d < n → (h : Headway) → headway_at
+    headways d ≡ h → HasSoMany least h
 so_many headways n working least d counted below Idle e = tt
 so_many headways n working least d counted below (Turns k) e = (counted.most d k below e).0
 

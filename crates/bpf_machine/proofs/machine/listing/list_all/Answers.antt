@@ -27,7 +27,8 @@ loop-map-preserved c =
     record {
       listed = λ s sound stands.
           let far = before.listed s sound stands in
-          let one = call_leads c.loop-map.store c.keys.new.self c.args.cpu (Keys m new.keys) served c.keys.ensures.listed c.keys.ensures.same.1 s sound far.0 in (
+          let one = call_leads c.loop-map.store c.keys.new.self c.args.cpu (Keys m new.keys) served c.keys.ensures.listed
+          c.keys.ensures.same.1 s sound far.0 in (
             subst (λ (p : Plain). StandsFor c.keys.new.self p) one.1.0.3 one.3,
             one_more_keys lists m new (λ k. keys (s.maps k)) (omega arith) far.1 one.1.0.2,
           );
@@ -40,5 +41,8 @@ loop-map-preserved c =
 
 pub returns-clause-keys : goal.returns-clause-keys
 returns-clause-keys c = λ s sound stands.
-    let far = c.loop-map.invariant.listed s sound stands in
-    (far.0, all_keys (shapes_of c.args.store.now) c.loop-map.lists s c.loop-map.map c.loop-map.invariant.lists.shapes_are (ap (λ (h : Shape). h.maps) stands.shape) (omega arith) far.1)
+    let far = c.loop-map.invariant.listed s sound stands in (
+      far.0,
+      all_keys (shapes_of c.args.store.now) c.loop-map.lists s c.loop-map.map c.loop-map.invariant.lists.shapes_are
+          (ap (λ (h : Shape). h.maps) stands.shape) (omega arith) far.1,
+    )

@@ -17,7 +17,9 @@ loop-cpu-preserved c =
       count = omega (arith, ap (length {A = KeyLists}) is, length-append all (one ∷ []), here.count);
       first = one_more_first all c.push.new.self.items one is here.first refl;
       have = λ j x at below.
-          one_more_cpu all c.push.new.self.items one is (shapes_of c.args.store.now) c.args.jobs.now (λ k y there less. here.have k y there (omega (arith, here.count))) (λ k y there same. c.in_ok-maps.ensures k y there (same ∙ here.count)) j x at (omega (arith, here.count));
+          one_more_cpu all c.push.new.self.items one is (shapes_of c.args.store.now) c.args.jobs.now
+          (λ k y there less. here.have k y there (omega (arith, here.count)))
+          (λ k y there same. c.in_ok-maps.ensures k y there (same ∙ here.count)) j x at (omega (arith, here.count));
     }
 
 pub returns-clause-have : goal.returns-clause-have

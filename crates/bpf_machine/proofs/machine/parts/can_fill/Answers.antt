@@ -11,6 +11,8 @@ pub returns-in-Some : goal.returns-in-Some
 returns-in-Some c is =
     let parts = c.args.parts.now in
     let numbers = c.args.numbers.now in
-    let first : IsFirstHand parts numbers c.args.cpu c.in-Some.job = record { within = c.in-Some.ensures.within; of = c.in-Some.ensures.of; found = c.in-Some.ensures.found; first = c.in-Some.ensures.first } in
+    let first : IsFirstHand parts numbers c.args.cpu c.in-Some.job = record
+    { within = c.in-Some.ensures.within; of = c.in-Some.ensures.of; found = c.in-Some.ensures.found; first = c.in-Some.ensures.first } in
     let here = read_chosen parts numbers c.in-Some.job c.index-parts-numbers.result c.in-Some.ensures.within c.requires c.index-parts-numbers.is in
-    fits_first parts numbers c.args.cpu c.in-Some.job c.args.lane.now first (subst (λ (t : Task). FitsIn t.stage c.args.lane.now.hand) (sym here) (c.fits_hand.ensures is))
+    fits_first parts numbers c.args.cpu c.in-Some.job c.args.lane.now first
+    (subst (λ (t : Task). FitsIn t.stage c.args.lane.now.hand) (sym here) (c.fits_hand.ensures is))

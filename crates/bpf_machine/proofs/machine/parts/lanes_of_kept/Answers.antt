@@ -13,5 +13,6 @@ loop-cpu-preserved c =
     let P : ℕ → Lane → Type 0 = IsLaneOf c.args.parts.now c.args.numbers.now in
     record {
       count = ap (length {A = Lane}) items ∙ (length-append old (c.in_ok-lane.lane ∷ []) ∙ ap (λ (n : ℕ). n + 1) c.loop-cpu.invariant.count);
-      each = subst (λ (ls : List Lane). (k : ℕ) → k < c.loop-cpu.cpu + 1 → P k (lane_of ls k)) (sym items) (lane_more P old c.in_ok-lane.lane c.loop-cpu.cpu c.loop-cpu.invariant.count c.loop-cpu.invariant.each c.in_ok-lane.ensures);
+      each = subst (λ (ls : List Lane). (k : ℕ) → k < c.loop-cpu.cpu + 1 → P k (lane_of ls k)) (sym items)
+          (lane_more P old c.in_ok-lane.lane c.loop-cpu.cpu c.loop-cpu.invariant.count c.loop-cpu.invariant.each c.in_ok-lane.ensures);
     }

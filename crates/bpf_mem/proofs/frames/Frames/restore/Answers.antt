@@ -13,5 +13,7 @@ returns-in_err-rest-2-clause-none c =
     let some : 0 < length bytes = grind (arith, nat_tests) in
     let begins : bytes ≡ live ∷ rest = first_and_rest bytes some ∙ ap (λ (n : ℕ). n ∷ rest) (sym c.from-live.ensures) in
     let known = c.self.invariant.frames in
-    let size : length (take live c.read_frames.new.frames) ≡ live = length-take-le live c.read_frames.new.frames (omega (arith, c.read_frames.auto.frames, known)) in
-    if_none c.from_residual-in_err-rest-2.result (no_callers bytes rest live begins (take live c.read_frames.new.frames) c.in_ok-rest.rest.now size c.in_ok-rest.ensures.are_frames c.in_ok-rest.ensures.some c.in_err-rest-2.ensures.none)
+    let size : length (take live c.read_frames.new.frames) ≡ live = length-take-le live c.read_frames.new.frames
+    (omega (arith, c.read_frames.auto.frames, known)) in
+    if_none c.from_residual-in_err-rest-2.result (no_callers bytes rest live begins (take live c.read_frames.new.frames)
+    c.in_ok-rest.rest.now size c.in_ok-rest.ensures.are_frames c.in_ok-rest.ensures.some c.in_err-rest-2.ensures.none)

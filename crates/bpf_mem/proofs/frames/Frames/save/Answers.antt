@@ -7,4 +7,6 @@ returns-clause-err c =
     let old = c.args.out.now.items in
     let pushed = c.push.new.self.items in
     let mid = c.save_frames.new.out.items in
-    starts_on c.save_callers.result c.save_callers.new.out.items mid old (starts_more mid pushed old _ c.in_ok-save_frames.ensures.ok (starts_with_of_append pushed old _ c.in_ok-push.ensures.items)) c.save_callers.ensures.err
+    starts_on c.save_callers.result c.save_callers.new.out.items mid old
+    (starts_more mid pushed old _ c.in_ok-save_frames.ensures.ok (starts_with_of_append pushed old _ c.in_ok-push.ensures.items))
+    c.save_callers.ensures.err

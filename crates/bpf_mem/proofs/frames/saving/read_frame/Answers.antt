@@ -9,7 +9,8 @@ returns-in_err-rest-clause-none c = if_none c.from_residual.result (frame_none c
 pub returns-clause-some : goal.returns-clause-some
 returns-clause-some c =
     let size : length c.read_words.new.words ≡ 64 = omega (arith, c.read_words.auto.words) in
-    frame_read c.args.bytes.now c.read_words.new.words c.set_words.new.frame c.in_ok-rest.rest.now size c.in_ok-rest.ensures.fit c.set_words.ensures c.in_ok-rest.ensures.some
+    frame_read c.args.bytes.now c.read_words.new.words c.set_words.new.frame c.in_ok-rest.rest.now size c.in_ok-rest.ensures.fit
+    c.set_words.ensures c.in_ok-rest.ensures.some
 
 pub returns-clause-is_frame : goal.returns-clause-is_frame
 returns-clause-is_frame c =

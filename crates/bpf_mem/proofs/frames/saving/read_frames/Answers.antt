@@ -10,7 +10,8 @@ use Rattle.bpf_mem.proofs.frames.saving.read_frames.Goals as goal
 pub returns-in_err-rest-clause-none : goal.returns-in_err-rest-clause-none
 returns-in_err-rest-clause-none c =
     let room : c.args.live ≤ length c.loop-depth.frames = omega (arith, c.loop-depth.auto.frames) in
-    if_none c.from_residual.result (reads_stop IsFrame frame_saved [] frame_told c.args.bytes.now c.loop-depth.frames c.loop-depth.depth c.args.live c.loop-depth.rest.now (omega arith) room c.loop-depth.invariant.each c.loop-depth.invariant.read c.in_err-rest.ensures.none)
+    if_none c.from_residual.result (reads_stop IsFrame frame_saved [] frame_told c.args.bytes.now c.loop-depth.frames c.loop-depth.depth
+    c.args.live c.loop-depth.rest.now (omega arith) room c.loop-depth.invariant.each c.loop-depth.invariant.read c.in_err-rest.ensures.none)
 
 pub loop-depth-preserved : goal.loop-depth-preserved
 loop-depth-preserved c =
@@ -21,7 +22,8 @@ loop-depth-preserved c =
     record {
       sized = All-set (λ frame. length frame ≡ frame_bytes) frames c.loop-depth.depth frame is.size c.loop-depth.invariant.sized;
       each = one_more IsFrame frame_saved [] frame_told frames c.loop-depth.depth frame inside c.loop-depth.invariant.each is;
-      read = reads_more IsFrame frame_saved [] frame_told c.args.bytes.now frames c.loop-depth.depth frame c.loop-depth.rest.now c.in_ok-rest.rest.now inside c.loop-depth.invariant.read c.in_ok-rest.ensures.some;
+      read = reads_more IsFrame frame_saved [] frame_told c.args.bytes.now frames c.loop-depth.depth frame c.loop-depth.rest.now
+          c.in_ok-rest.rest.now inside c.loop-depth.invariant.read c.in_ok-rest.ensures.some;
     }
 
 pub returns-in_err-rest-clause-sized : goal.returns-in_err-rest-clause-sized

@@ -5,4 +5,5 @@ use Rattle.bpf_mem.proofs.frames.saving.save_frame.Goals as goal
 
 pub returns-clause-ok : goal.returns-clause-ok
 unfolding frame_saved
-returns-clause-ok c = on_ok_weaker c.save_words.result (λ e. e ∙ ap (λ (l : List ℕ). c.args.out.now.items ++ words_saved 0 l) c.words_of.ensures) c.save_words.ensures.ok
+returns-clause-ok c = on_ok_weaker c.save_words.result (λ e. e ∙ ap (λ (l : List ℕ). c.args.out.now.items ++ words_saved 0 l)
+    c.words_of.ensures) c.save_words.ensures.ok

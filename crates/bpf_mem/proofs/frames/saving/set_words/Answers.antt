@@ -6,5 +6,8 @@ pub loop-i-preserved : goal.loop-i-preserved
 loop-i-preserved c =
     let size = c.loop-i.invariant.0 in
     let inside : c.loop-i.i < length c.args.words.now = omega (arith, c.told-words) in
-    let fits : 8 * c.loop-i.i + 8 ≤ length c.loop-i.frame = omega (arith, size) in
-    (omega (arith, c.store_double.auto.bytes, size), ap (take (8 * (c.loop-i.i + 1))) c.store_double.ensures ∙ word_set c.loop-i.frame c.args.words.now c.loop-i.i (get_or c.args.words.now c.loop-i.i 0) inside fits refl c.loop-i.invariant.1)
+    let fits : 8 * c.loop-i.i + 8 ≤ length c.loop-i.frame = omega (arith, size) in (
+      omega (arith, c.store_double.auto.bytes, size),
+      ap (take (8 * (c.loop-i.i + 1))) c.store_double.ensures ∙ word_set c.loop-i.frame
+          c.args.words.now c.loop-i.i (get_or c.args.words.now c.loop-i.i 0) inside fits refl c.loop-i.invariant.1,
+    )

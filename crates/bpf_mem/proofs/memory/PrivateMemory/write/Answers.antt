@@ -12,7 +12,8 @@ returns-in-Context c =
     let bytes = low_bytes (length_of c.args.size) c.args.value in
     let count = length-low_bytes (length_of c.args.size) c.args.value in
     let within = rw c.in-Context.is at c.requires in
-    rw c.in-Context.is (Writes-context m _ c.in-Context.offset bytes c.store.ensures.bounded (omega (arith, count, within)) c.store.ensures.value refl refl refl)
+    rw c.in-Context.is (Writes-context m _ c.in-Context.offset bytes c.store.ensures.bounded (omega (arith, count, within))
+    c.store.ensures.value refl refl refl)
 
 pub returns-in-Packet : goal.returns-in-Packet
 returns-in-Packet c =
@@ -20,7 +21,8 @@ returns-in-Packet c =
     let bytes = low_bytes (length_of c.args.size) c.args.value in
     let count = length-low_bytes (length_of c.args.size) c.args.value in
     let within = rw c.in-Packet.is at c.requires in
-    rw c.in-Packet.is (Writes-packet m _ c.in-Packet.offset bytes c.store-in-Packet.ensures.bounded (omega (arith, count, within)) c.store-in-Packet.ensures.value refl refl refl)
+    rw c.in-Packet.is (Writes-packet m _ c.in-Packet.offset bytes c.store-in-Packet.ensures.bounded (omega (arith, count, within))
+    c.store-in-Packet.ensures.value refl refl refl)
 
 pub returns-in-Frame : goal.returns-in-Frame
 returns-in-Frame c =
@@ -29,4 +31,5 @@ returns-in-Frame c =
     let count = length-low_bytes (length_of c.args.size) c.args.value in
     let within = rw c.in-Frame.is at c.requires in
     let done = c.store-in-Frame.ensures in
-    rw c.in-Frame.is (Writes-frame m _ c.in-Frame.depth c.in-Frame.offset bytes done.stack.sized within.0 (omega (arith, count, within)) refl refl done.live done.callers)
+    rw c.in-Frame.is (Writes-frame m _ c.in-Frame.depth c.in-Frame.offset bytes done.stack.sized within.0 (omega (arith, count, within))
+    refl refl done.live done.callers)

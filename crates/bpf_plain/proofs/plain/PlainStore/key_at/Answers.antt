@@ -5,4 +5,6 @@ use Rattle.bpf_plain.proofs.plain.PlainStore.key_at.Goals as goal
 
 pub returns-clause-none : goal.returns-clause-none
 returns-clause-none c =
-    if_none c.key_at.result c.key_at.ensures.none (no_key (record { shape = c.self.inside.shape; maps = c.self.inside.maps; arrays = bytes_of_all c.self.inside.arrays.items }) c.args.self.now c.self.view_is c.args.address)
+    if_none c.key_at.result c.key_at.ensures.none (no_key (record
+    { shape = c.self.inside.shape; maps = c.self.inside.maps; arrays = bytes_of_all c.self.inside.arrays.items }) c.args.self.now
+    c.self.view_is c.args.address)

@@ -15,7 +15,8 @@ returns-in_default-clause-none c =
     let none = at_none _ _ c.in_default.is c.in_ok-count.ensures.none in
     subst (λ (q : Contents). SavesNone q c.args.bytes.now) c.self.view_is
     (no_arrays p c.self.invariant (bytes_of_all c.in_ok-arrays.arrays.items) c.args.bytes.now c.in_ok-arrays.ensures.arrays c.in_ok-arrays.ensures.read
-    (λ more e. none more (subst (λ (vs : List (Vec ℕ Global)). c.args.bytes.now ≡ saved_arrays c.self.inside.shape (bytes_of_all vs) ++ more) (sym c.deref.ensures.value) e)))
+    (λ more e. none more (subst (λ (vs : List (Vec ℕ Global)). c.args.bytes.now ≡ saved_arrays c.self.inside.shape (bytes_of_all vs) ++
+    more) (sym c.deref.ensures.value) e)))
 
 pub returns-in_default-2-clause-none : goal.returns-in_default-2-clause-none
 returns-in_default-2-clause-none c =
@@ -23,14 +24,17 @@ returns-in_default-2-clause-none c =
     let some = at_some _ _ _ c.in-Some.is c.in_ok-count.ensures.some in
     subst (λ (q : Contents). SavesNone q c.args.bytes.now) c.self.view_is
     (no_maps p c.self.invariant (bytes_of_all c.in_ok-arrays.arrays.items) c.args.bytes.now c.in_ok-arrays.ensures.arrays c.in_ok-arrays.ensures.read
-    c.in-Some.count some.0 (some.1 ∙ ap (λ (vs : List (Vec ℕ Global)). saved_arrays c.self.inside.shape (bytes_of_all vs)) c.deref.ensures.value) c.past.result.now c.past.ensures
+    c.in-Some.count some.0 (some.1 ∙ ap (λ (vs : List (Vec ℕ Global)). saved_arrays c.self.inside.shape (bytes_of_all vs))
+    c.deref.ensures.value) c.past.result.now c.past.ensures
     (at_none _ _ c.in_default-2.is c.in_ok-more.ensures.none))
 
 pub returns-clause-read : goal.returns-clause-read
 returns-clause-read c =
     let p : Contents = record { shape = c.self.inside.shape; maps = c.self.inside.maps; arrays = bytes_of_all c.self.inside.arrays.items } in
     let some = at_some _ _ _ c.in-Some.is c.in_ok-count.ensures.some in
-    subst (λ (q : Contents). IsRead q c.args.bytes.now (c.in-Some.count + c.in-Some-2.more) (record { shape = c.self.inside.shape; maps = c.read.new.self; arrays = bytes_of_all c.in_ok-arrays.arrays.items })) c.self.view_is
+    subst (λ (q : Contents). IsRead q c.args.bytes.now (c.in-Some.count + c.in-Some-2.more)
+    (record { shape = c.self.inside.shape; maps = c.read.new.self; arrays = bytes_of_all c.in_ok-arrays.arrays.items })) c.self.view_is
     (both_read p c.self.invariant (bytes_of_all c.in_ok-arrays.arrays.items) c.args.bytes.now c.in_ok-arrays.ensures.arrays c.in_ok-arrays.ensures.read
-    c.in-Some.count some.0 (some.1 ∙ ap (λ (vs : List (Vec ℕ Global)). saved_arrays c.self.inside.shape (bytes_of_all vs)) c.deref.ensures.value) c.past.result.now c.past.ensures
+    c.in-Some.count some.0 (some.1 ∙ ap (λ (vs : List (Vec ℕ Global)). saved_arrays c.self.inside.shape (bytes_of_all vs))
+    c.deref.ensures.value) c.past.result.now c.past.ensures
     c.read.new.self c.in-Some-2.more (at_some _ _ _ c.in-Some-2.is c.in_ok-more.ensures.read))

@@ -25,10 +25,13 @@ invariant_of-self c =
     let same = ap (λ (bs : List ℕ). length bs) c.deref_mut.ensures.value in
     omega (arith, c.index_mut.result.now.ok.0)
     ) in
-    let e = stored_is c.self.inside.shape c.self.inside.maps c.self.inside.arrays.items c.args.self.now c.self.view_is c.args.at c.place-place.result.array c.place-place.result.offset c.place-place.ensures.array c.place-place.ensures.offset l c.index_mut.result.now
-    (with_items c.index_mut.result.now c.store.new.bytes) c.index_mut.ensures.value c.deref_mut.result.now c.deref_mut.ensures.value low (with_items_is c.index_mut.result.now c.store.new.bytes many ∙ c.store.ensures) in
+    let e = stored_is c.self.inside.shape c.self.inside.maps c.self.inside.arrays.items c.args.self.now c.self.view_is c.args.at
+    c.place-place.result.array c.place-place.result.offset c.place-place.ensures.array c.place-place.ensures.offset l c.index_mut.result.now
+    (with_items c.index_mut.result.now c.store.new.bytes) c.index_mut.ensures.value c.deref_mut.result.now c.deref_mut.ensures.value low
+    (with_items_is c.index_mut.result.now c.store.new.bytes many ∙ c.store.ensures) in
     subst IsStore (sym e)
-    (is_store c.args.self.now is 0 c.args.at (bytes_in c.args.size) (some_bytes c.args.size) c.requires.0 low (length-low_bytes (bytes_in c.args.size) c.args.word) c.requires.1)
+    (is_store c.args.self.now is 0 c.args.at (bytes_in c.args.size) (some_bytes c.args.size) c.requires.0 low
+    (length-low_bytes (bytes_in c.args.size) c.args.word) c.requires.1)
 
 pub returns : goal.returns
 returns c =
@@ -44,6 +47,8 @@ returns c =
     let same = ap (λ (bs : List ℕ). length bs) c.deref_mut.ensures.value in
     omega (arith, c.index_mut.result.now.ok.0)
     ) in
-    let e = stored_is c.self.inside.shape c.self.inside.maps c.self.inside.arrays.items c.args.self.now c.self.view_is c.args.at c.place-place.result.array c.place-place.result.offset c.place-place.ensures.array c.place-place.ensures.offset l c.index_mut.result.now
-    (with_items c.index_mut.result.now c.store.new.bytes) c.index_mut.ensures.value c.deref_mut.result.now c.deref_mut.ensures.value low (with_items_is c.index_mut.result.now c.store.new.bytes many ∙ c.store.ensures) in
+    let e = stored_is c.self.inside.shape c.self.inside.maps c.self.inside.arrays.items c.args.self.now c.self.view_is c.args.at
+    c.place-place.result.array c.place-place.result.offset c.place-place.ensures.array c.place-place.ensures.offset l c.index_mut.result.now
+    (with_items c.index_mut.result.now c.store.new.bytes) c.index_mut.ensures.value c.deref_mut.result.now c.deref_mut.ensures.value low
+    (with_items_is c.index_mut.result.now c.store.new.bytes many ∙ c.store.ensures) in
     e

@@ -10,4 +10,5 @@ returns-clause-leads c =
     let last = c.turns_by.new.self.machine in
     let by = c.in_ok-by.by.items in
     led_again c.args.self.now.kept (unrolled by) first last c.in_ok-restore.ensures.ok
-    (subst (λ (runs : List (ℕ × ℕ)). (w : World) → Shows first w → (z : World) × RunsSchedule w (unrolled runs) z × Shows last z) c.deref.ensures.value c.turns_by.ensures.runs)
+    (subst (λ (runs : List (ℕ × ℕ)). (w : World) → Shows first w → (z : World) × RunsSchedule w (unrolled runs) z × Shows last z)
+    c.deref.ensures.value c.turns_by.ensures.runs)

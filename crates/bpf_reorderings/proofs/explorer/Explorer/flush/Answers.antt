@@ -9,16 +9,20 @@ pub keep-requires-clause-led : goal.keep-requires-clause-led
 keep-requires-clause-led c =
     let m = c.self.inside in
     let same = c.flush.ensures.same ∙ c.restore.ensures.same in
-    led_from m.album.kept c.flush.new.self.kept c.args.place (FlushOf c.args.cpu) c.restore.new.self.machine c.flush.new.self.machine same c.in_ok-restore.ensures.ok (move_of (128 + c.args.cpu)) (flush_number c.args.cpu) (c.if-flush.ensures.flushed refl)
+    led_from m.album.kept c.flush.new.self.kept c.args.place (FlushOf c.args.cpu) c.restore.new.self.machine c.flush.new.self.machine same
+    c.in_ok-restore.ensures.ok (move_of (128 + c.args.cpu)) (flush_number c.args.cpu) (c.if-flush.ensures.flushed refl)
 
 pub returns-then-flush-clause-moved : goal.returns-then-flush-clause-moved
 returns-then-flush-clause-moved c =
     let m = c.self.inside in
     let same = c.flush.ensures.same ∙ c.restore.ensures.same in
-    on_ok_weaker c.keep.result (λ is. kept_moved m.album.kept c.flush.new.self.kept c.args.place (FlushOf c.args.cpu) c.restore.new.self.machine c.flush.new.self.machine same c.in_ok-restore.ensures.ok c.keep.new.self.kept c.keep.ensures.extends (c.if-flush.ensures.flushed refl) is) c.keep.ensures.kept
+    on_ok_weaker c.keep.result (λ is. kept_moved m.album.kept c.flush.new.self.kept c.args.place (FlushOf c.args.cpu)
+    c.restore.new.self.machine c.flush.new.self.machine same c.in_ok-restore.ensures.ok c.keep.new.self.kept c.keep.ensures.extends
+    (c.if-flush.ensures.flushed refl) is) c.keep.ensures.kept
 
 pub returns-else-flush-clause-moved : goal.returns-else-flush-clause-moved
 returns-else-flush-clause-moved c =
     let m = c.self.inside in
     let same = c.flush.ensures.same ∙ c.restore.ensures.same in
-    cannot_moved m.album.kept c.flush.new.self.kept c.args.place (FlushOf c.args.cpu) c.restore.new.self.machine c.flush.new.self.machine same c.in_ok-restore.ensures.ok (c.if-flush.ensures.none refl)
+    cannot_moved m.album.kept c.flush.new.self.kept c.args.place (FlushOf c.args.cpu) c.restore.new.self.machine c.flush.new.self.machine
+    same c.in_ok-restore.ensures.ok (c.if-flush.ensures.none refl)

@@ -14,8 +14,11 @@ invariant_of-self-in_err-kept c =
     let led = subst (λ (a : AlbumState). IsLedFrom a.kept c.args.place (move_of c.args.made) a.machine) (sym c.self.view_is) c.requires.led in
     let here = subst (λ (k : ℕ). IsLedFrom m.album.kept k (move_of c.args.made) m.album.machine) (sym c.in_ok-from.ensures) led in
     let there = subst (λ (a : AlbumState). c.args.place < length a.kept) (sym c.self.view_is) c.requires.inside in
-    let adds = adds_one m.album.kept c.keep-kept.new.self.kept m.album.machine c.keep-kept.result c.keep-kept.ensures.adds c.keep-kept.ensures.known c.keep-kept.ensures.err in
-    cut_origins m.album.kept c.keep-kept.new.self.kept m.album.machine m.origins.items c.push.new.self.items c.truncate.new.self.items o c.len.result c.self.invariant (omega (arith, c.in_ok-from.ensures, there)) here adds c.in_ok-push.ensures.items c.len.ensures c.truncate.ensures.items
+    let adds = adds_one m.album.kept c.keep-kept.new.self.kept m.album.machine c.keep-kept.result c.keep-kept.ensures.adds
+    c.keep-kept.ensures.known c.keep-kept.ensures.err in
+    cut_origins m.album.kept c.keep-kept.new.self.kept m.album.machine m.origins.items c.push.new.self.items c.truncate.new.self.items o
+    c.len.result c.self.invariant (omega (arith, c.in_ok-from.ensures, there)) here adds c.in_ok-push.ensures.items c.len.ensures
+    c.truncate.ensures.items
 
 pub invariant_of-self-2 : goal.invariant_of-self-2
 invariant_of-self-2 c =
@@ -24,5 +27,8 @@ invariant_of-self-2 c =
     let led = subst (λ (a : AlbumState). IsLedFrom a.kept c.args.place (move_of c.args.made) a.machine) (sym c.self.view_is) c.requires.led in
     let here = subst (λ (k : ℕ). IsLedFrom m.album.kept k (move_of c.args.made) m.album.machine) (sym c.in_ok-from.ensures) led in
     let there = subst (λ (a : AlbumState). c.args.place < length a.kept) (sym c.self.view_is) c.requires.inside in
-    let adds = adds_one m.album.kept c.keep-kept.new.self.kept m.album.machine c.keep-kept.result c.keep-kept.ensures.adds c.keep-kept.ensures.known c.keep-kept.ensures.err in
-    cut_origins m.album.kept c.keep-kept.new.self.kept m.album.machine m.origins.items c.push.new.self.items c.truncate.new.self.items o c.len.result c.self.invariant (omega (arith, c.in_ok-from.ensures, there)) here adds c.in_ok-push.ensures.items c.len.ensures c.truncate.ensures.items
+    let adds = adds_one m.album.kept c.keep-kept.new.self.kept m.album.machine c.keep-kept.result c.keep-kept.ensures.adds
+    c.keep-kept.ensures.known c.keep-kept.ensures.err in
+    cut_origins m.album.kept c.keep-kept.new.self.kept m.album.machine m.origins.items c.push.new.self.items c.truncate.new.self.items o
+    c.len.result c.self.invariant (omega (arith, c.in_ok-from.ensures, there)) here adds c.in_ok-push.ensures.items c.len.ensures
+    c.truncate.ensures.items

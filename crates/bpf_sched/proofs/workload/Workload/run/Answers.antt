@@ -16,11 +16,16 @@ returns-clause-runs g c =
     let cpu = c.args.self.now.cpu in
     let new = c.list_keys.new.lists in
     let v = c.run_jobs.new.self.lists in
-    let long : length new ≡ vec_len v = sym (length-map new (λ (list : Listed). list.shape)) ∙ (ap (length {A = MapShape}) c.list_keys.ensures.lists ∙ (length-map c.deref_mut.result.now (λ (list : Listed). list.shape) ∙ c.deref_mut.ensures.len)) in
+    let long : length new ≡ vec_len v = sym (length-map new (λ (list : Listed). list.shape)) ∙
+    (ap (length {A = MapShape}) c.list_keys.ensures.lists ∙ (length-map c.deref_mut.result.now (λ (list : Listed). list.shape) ∙
+    c.deref_mut.ensures.len)) in
     let items = filled (vec_len v) new v.items long in
     let found = map (λ (list : Listed). list.keys) new in
     let ran = c.run_jobs.ensures.runs in
     let chain : Chain S.passes S.serves cpu c.run_jobs.new.shared c.list_keys.new.shared (keys_events 0 found) =
-    subst (λ (k : ℕ). Chain S.passes S.serves k c.run_jobs.new.shared c.list_keys.new.shared (keys_events 0 found)) c.run_jobs.ensures.same.0 c.list_keys.ensures.chain in
-    let P : List Listed → Type 0 = λ ls. (events : List Event) × RunsAndLists (Chain S.passes S.serves cpu) (λ x. S.may_wear x cpu) (S.shapes c.args.shared.now) c.args.programs.now c.args.shared.now c.args.self.now.jobs.items c.run_jobs.new.self.jobs.items (map (λ list. list.keys) ls) events c.list_keys.new.shared in
+    subst (λ (k : ℕ). Chain S.passes S.serves k c.run_jobs.new.shared c.list_keys.new.shared (keys_events 0 found))
+    c.run_jobs.ensures.same.0 c.list_keys.ensures.chain in
+    let P : List Listed → Type 0 = λ ls. (events : List Event) × RunsAndLists (Chain S.passes S.serves cpu) (λ x. S.may_wear x cpu)
+    (S.shapes c.args.shared.now) c.args.programs.now c.args.shared.now c.args.self.now.jobs.items c.run_jobs.new.self.jobs.items
+    (map (λ list. list.keys) ls) events c.list_keys.new.shared in
     subst P (sym items) (ran.0 ++ keys_events 0 found, record { ran = ran.0; cut = refl; last = c.run_jobs.new.shared; runs = ran.1; way = chain })

@@ -14,16 +14,19 @@ fill_key_word-requires-clause-hand c =
 pub fill_key_word-requires-clause-next : goal.fill_key_word-requires-clause-next
 fill_key_word-requires-clause-next c =
     sym (ap (λ (l : Known). key_filled l.fresh) c.key.invariant.1
-    ∙ (keys_filled c.args.lane.now.known.fresh c.args.self.now.map c.args.self.now.number (word_list c.key.word c.args.key.now) [] c.requires.hand c.requires.empty.0
+    ∙ (keys_filled c.args.lane.now.known.fresh c.args.self.now.map c.args.self.now.number (word_list c.key.word c.args.key.now) []
+    c.requires.hand c.requires.empty.0
     ∙ word_count c.key.word c.args.key.now))
 
 pub fill_value_word-requires-clause-hand : goal.fill_value_word-requires-clause-hand
 fill_value_word-requires-clause-hand c =
     subst (λ (l : Known). IsInHand l c.args.self.now.map c.args.self.now.number) (sym c.value.invariant.1)
-    (still_in_hand c.args.lane.now.known c.args.self.now.map c.args.self.now.number (word_list (words_for (length c.args.key.now)) c.args.key.now) (word_list c.value.word c.args.value.now) c.requires.hand)
+    (still_in_hand c.args.lane.now.known c.args.self.now.map c.args.self.now.number
+    (word_list (words_for (length c.args.key.now)) c.args.key.now) (word_list c.value.word c.args.value.now) c.requires.hand)
 
 pub fill_value_word-requires-clause-next : goal.fill_value_word-requires-clause-next
 fill_value_word-requires-clause-next c =
     sym (ap (λ (l : Known). value_filled l.fresh) c.value.invariant.1
-    ∙ (values_filled c.args.lane.now.known.fresh c.args.self.now.map c.args.self.now.number (word_list (words_for (length c.args.key.now)) c.args.key.now) (word_list c.value.word c.args.value.now) c.requires.hand c.requires.empty.1
+    ∙ (values_filled c.args.lane.now.known.fresh c.args.self.now.map c.args.self.now.number
+    (word_list (words_for (length c.args.key.now)) c.args.key.now) (word_list c.value.word c.args.value.now) c.requires.hand c.requires.empty.1
     ∙ word_count c.value.word c.args.value.now))

@@ -10,4 +10,7 @@ invariant-key l =
 abbrev pub invariant-value : goal.invariant-value
 invariant-value l =
     (l.lane.table ≡ l.fn.table.id)
-    × (l.lane.known ≡ record l.fn.lane.known { fresh = with_words l.fn.lane.known.fresh (word_list (words_for (length l.fn.key)) l.fn.key) (word_list l.word l.fn.value) })
+    × (l.lane.known ≡ record l.fn.lane.known {
+      fresh = with_words l.fn.lane.known.fresh (word_list (words_for (length l.fn.key)) l.fn.key)
+          (word_list l.word l.fn.value);
+    })

@@ -21,7 +21,8 @@ pub overflow_shl-result : goal.overflow_shl-result
 overflow_shl-result c = let n = few c.args.self.now.shape c.args.map c.bases.result c.bases.ensures.bases in omega arith
 
 pub nonzero_rem-result : goal.nonzero_rem-result
-nonzero_rem-result c = subst (λ (n : ℕ). 0 < n) (sym (counts c.args.self.now.shape c.args.map c.bases.result c.bases.ensures.bases)) (some_power (first_depth (map_shape c.args.self.now.shape c.args.map)))
+nonzero_rem-result c = subst (λ (n : ℕ). 0 < n) (sym (counts c.args.self.now.shape c.args.map c.bases.result c.bases.ensures.bases))
+    (some_power (first_depth (map_shape c.args.self.now.shape c.args.map)))
 
 pub returns-clause-segment : goal.returns-clause-segment
 returns-clause-segment c = ap (λ (n : ℕ). c.args.home % n) (counts c.args.self.now.shape c.args.map c.bases.result c.bases.ensures.bases)

@@ -4,4 +4,5 @@ use Rattle.hop_layout.proofs.Indexes.{at_stamp}
 use Rattle.hop_layout.proofs.index.Index.segment.Goals as goal
 
 pub returns-clause-word : goal.returns-clause-word
-returns-clause-word c = ap (λ (b : Bases). b.segments + 130 * c.args.segment) c.bases.ensures.bases ∙ sym (at_stamp c.args.self.now.shape c.args.map c.args.segment)
+returns-clause-word c = ap (λ (b : Bases). b.segments + 130 * c.args.segment) c.bases.ensures.bases ∙ sym
+    (at_stamp c.args.self.now.shape c.args.map c.args.segment)

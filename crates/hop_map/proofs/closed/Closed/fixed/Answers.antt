@@ -18,9 +18,11 @@ returns-in_default c = record {
       let b = c.args.array in
       let k = c.args.copy in
       let i = c.args.index in
-      let none : array_with e.about.shape b k i ≡ None = ap (λ (z : Ending). array_with z.about.shape b k i) (sym c.self.view_is) ∙ (sym c.array_with.ensures ∙ c.in_default.is) in
+      let none : array_with e.about.shape b k i ≡ None = ap (λ (z : Ending). array_with z.about.shape b k i) (sym c.self.view_is) ∙
+      (sym c.array_with.ensures ∙ c.in_default.is) in
       ap (λ (s : Plain). fixed_of s b k i) is.1
-      ∙ (fixed_by is.0.ghost.last e.about.shape b k i (last_shape e is.0) ∙ ap (option_map (λ (g : ArrayShape). (is.0.ghost.last.value (fixed_number b k i)).bytes)) none);
+      ∙ (fixed_by is.0.ghost.last e.about.shape b k i (last_shape e is.0) ∙ ap
+      (option_map (λ (g : ArrayShape). (is.0.ghost.last.value (fixed_number b k i)).bytes)) none);
 }
 
 pub first_word-first-requires-clause-shape : goal.first_word-first-requires-clause-shape
@@ -46,8 +48,10 @@ read_words-requires c =
     let there = found_there h c.args.array c.args.copy c.args.index g (sym c.array_with.ensures ∙ c.in-Some.is) in
     let first = c.first_word-first.ensures.first in
     record {
-      there = λ word l. subst (λ (n : ℕ). is_place h (FixedWord c.args.array (n + word)) ≡ true) (sym first) (word_there h shaped c.args.array c.args.copy c.args.index g there.0 there.1 there.2 word l);
-      room = subst (λ (n : ℕ). n + words_for g.value ≤ 0x200_0000) (sym first) (words_room h shaped c.args.array c.args.copy c.args.index g there.0 there.1 there.2);
+      there = λ word l. subst (λ (n : ℕ). is_place h (FixedWord c.args.array (n + word)) ≡ true) (sym first)
+          (word_there h shaped c.args.array c.args.copy c.args.index g there.0 there.1 there.2 word l);
+      room = subst (λ (n : ℕ). n + words_for g.value ≤ 0x200_0000) (sym first)
+          (words_room h shaped c.args.array c.args.copy c.args.index g there.0 there.1 there.2);
     }
 
 pub returns : goal.returns
@@ -58,10 +62,12 @@ returns c = record {
       let k = c.args.copy in
       let i = c.args.index in
       let g = c.in-Some.shape in
-      let some : array_with e.about.shape b k i ≡ Some g = ap (λ (z : Ending). array_with z.about.shape b k i) (sym c.self.view_is) ∙ (sym c.array_with.ensures ∙ c.in-Some.is) in
+      let some : array_with e.about.shape b k i ≡ Some g = ap (λ (z : Ending). array_with z.about.shape b k i) (sym c.self.view_is) ∙
+      (sym c.array_with.ensures ∙ c.in-Some.is) in
       let there = found_there e.about.shape b k i g some in
       let read : c.in_ok-bytes.bytes.items ≡ fixed_in e b (fixed_word g k i) g.value =
-      c.in_ok-bytes.ensures ∙ (ap (λ (n : ℕ). fixed_in c.self.inside.rest b n g.value) c.first_word-first.ensures.first ∙ ap (λ (z : Ending). fixed_in z b (fixed_word g k i) g.value) c.self.view_is) in
+      c.in_ok-bytes.ensures ∙ (ap (λ (n : ℕ). fixed_in c.self.inside.rest b n g.value) c.first_word-first.ensures.first ∙ ap
+      (λ (z : Ending). fixed_in z b (fixed_word g k i) g.value) c.self.view_is) in
       ap (λ (s : Plain). fixed_of s b k i) is.1
       ∙ (fixed_by is.0.ghost.last e.about.shape b k i (last_shape e is.0)
       ∙ (ap (option_map (λ (x : ArrayShape). (is.0.ghost.last.value (fixed_number b k i)).bytes)) some

@@ -12,8 +12,10 @@ see_room-requires-clause-absent g c = subst (λ (x : Locked). IsKeyAbsent x.abou
 pub count_up-requires-clause-brings : goal.count_up-requires-clause-brings
 count_up-requires-clause-brings g c =
     let x = c.args.self.now in
-    subst (λ (x : Locked). OffersInsertion x.about x.known x.map x.segment c.args.key.now c.args.value.now c.args.flags c.args.element) (sym (c.in-Some-see_room.ensures.room.0 ∙ c.loop.invariant))
+    subst (λ (x : Locked). OffersInsertion x.about x.known x.map x.segment c.args.key.now c.args.value.now c.args.flags c.args.element)
+    (sym (c.in-Some-see_room.ensures.room.0 ∙ c.loop.invariant))
     (brings x.about x.known x.map x.segment c.args.key.now c.args.value.now c.args.flags c.args.element c.requires.offers c.requires.new)
 
 pub count_up-requires-clause-absent : goal.count_up-requires-clause-absent
-count_up-requires-clause-absent g c = subst (λ (x : Locked). IsKeyAbsent x.about (lock_of x.known) c.args.key.now) (sym (c.in-Some-see_room.ensures.room.0 ∙ c.loop.invariant)) c.requires.absent
+count_up-requires-clause-absent g c = subst (λ (x : Locked). IsKeyAbsent x.about (lock_of x.known) c.args.key.now)
+    (sym (c.in-Some-see_room.ensures.room.0 ∙ c.loop.invariant)) c.requires.absent

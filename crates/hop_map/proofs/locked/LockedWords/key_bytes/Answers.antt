@@ -20,7 +20,8 @@ words-preserved c =
     let p : Place = KeyWord i.map c.args.element w in
     let f : ℕ → ℕ = (image x.about (lock_of x.known).copy).key x.map c.args.element in
     let kn = subst (λ (x : Locked). knows x.known x.map c.args.element ≡ true) (sym (c.self.view_is ∙ v.same)) c.requires.known in
-    let guarded = subst (λ (x : Locked). IsGuarded x.about x.known p) c.self.view_is (mine i.table.now.about i.lane.known i.map i.segment c.args.element c.self.invariant.ready kn) in
+    let guarded = subst (λ (x : Locked). IsGuarded x.about x.known p) c.self.view_is
+    (mine i.table.now.about i.lane.known i.map i.segment c.args.element c.self.invariant.ready kn) in
     let found : c.read.result ≡ f w =
     c.read.ensures.value guarded
     ∙ (ap (λ (m : ℕ). mem c.words.self.about.shape (lock_of c.words.self.known).copy (KeyWord m c.args.element w)) (ap (λ (x : Locked). x.map) c.self.view_is)
@@ -29,5 +30,6 @@ words-preserved c =
     record {
       same = c.read.ensures.same ∙ v.same;
       size = c.put_word.ensures.size ∙ v.size;
-      words = ap (λ (n : ℕ). take n c.put_word.new.bytes) more ∙ (c.put_word.ensures.put ∙ ((λ j. v.words j ++ low_bytes 8 (found j)) ∙ sym (spelled_more w f)));
+      words = ap (λ (n : ℕ). take n c.put_word.new.bytes) more ∙
+          (c.put_word.ensures.put ∙ ((λ j. v.words j ++ low_bytes 8 (found j)) ∙ sym (spelled_more w f)));
     }

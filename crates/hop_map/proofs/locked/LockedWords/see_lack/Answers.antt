@@ -4,7 +4,8 @@ use Rattle.hop_map.proofs.locked.LockedWords.see_lack.Goals as goal
 
 pub see_count_lacking-count-requires-clause-counts : goal.see_count_lacking-count-requires-clause-counts
 see_count_lacking-count-requires-clause-counts c =
-    counts_of _ _ c.self.view_is c.args.key.now c.args.value.now c.args.flags c.self.invariant.ready c.requires.contents c.requires.wants c.requires.absent c.requires.new
+    counts_of _ _ c.self.view_is c.args.key.now c.args.value.now c.args.flags c.self.invariant.ready c.requires.contents c.requires.wants
+    c.requires.absent c.requires.new
 
 pub invariant_of-self : goal.invariant_of-self
 invariant_of-self c =

@@ -6,4 +6,5 @@ use Rattle.hop_map.proofs.locked.LockedWords.unlock_lookup.Goals as goal
 
 pub unlock_lookup-requires-clause-looks : goal.unlock_lookup-requires-clause-looks
 unlock_lookup-requires-clause-looks c =
-    subst (λ (x : Locked). Ready x.about x.known x.map x.segment → LooksUpLocked x.about x.known (lock_of x.known) c.args.key.now c.args.found) (sym c.self.view_is) c.requires.looks c.self.invariant.ready
+    subst (λ (x : Locked). Ready x.about x.known x.map x.segment → LooksUpLocked x.about x.known (lock_of x.known) c.args.key.now
+    c.args.found) (sym c.self.view_is) c.requires.looks c.self.invariant.ready

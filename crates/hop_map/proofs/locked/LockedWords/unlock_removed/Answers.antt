@@ -9,4 +9,5 @@ use Rattle.hop_map.proofs.locked.LockedWords.unlock_removed.Goals as goal
 pub unlock_written-requires-clause-written : goal.unlock_written-requires-clause-written
 unlock_written-requires-clause-written c =
     subst (λ (q : Known). IsWritten c.self.inside.table.now.about (lock_of q)) (sym c.count_down.ensures.done.after)
-    (subst (λ (x : Locked). Ready x.about x.known x.map x.segment → IsWritten x.about (dropping x.known c.args.key.now)) (sym c.self.view_is) c.requires.written c.self.invariant.ready)
+    (subst (λ (x : Locked). Ready x.about x.known x.map x.segment → IsWritten x.about (dropping x.known c.args.key.now))
+    (sym c.self.view_is) c.requires.written c.self.invariant.ready)

@@ -11,4 +11,5 @@ pub unlock_silent-requires-clause-elsewhere : goal.unlock_silent-requires-clause
 unlock_silent-requires-clause-elsewhere c = alone_else c.self.inside.lane.known c.self.invariant.ready.held
 
 pub returns-clause-known : goal.returns-clause-known
-returns-clause-known c = c.unlock_silent.ensures.unlocked ∙ (alone_given c.self.inside.lane.known c.self.invariant.ready.held ∙ ap (λ (x : Locked). unlocking x.known) c.self.view_is)
+returns-clause-known c = c.unlock_silent.ensures.unlocked ∙ (alone_given c.self.inside.lane.known c.self.invariant.ready.held ∙ ap
+    (λ (x : Locked). unlocking x.known) c.self.view_is)

@@ -6,4 +6,5 @@ use Rattle.hop_map.proofs.locked.LockedWords.unlock_written.Goals as goal
 
 pub unlock_written-requires-clause-written : goal.unlock_written-requires-clause-written
 unlock_written-requires-clause-written c =
-    subst (λ (x : Locked). Ready x.about x.known x.map x.segment → IsWritten x.about (lock_of x.known)) (sym c.self.view_is) c.requires.written c.self.invariant.ready
+    subst (λ (x : Locked). Ready x.about x.known x.map x.segment → IsWritten x.about (lock_of x.known)) (sym c.self.view_is)
+    c.requires.written c.self.invariant.ready

@@ -19,6 +19,12 @@ invariant_of-self c = let i = c.self.inside in record {
 
 pub returns : goal.returns
 returns c = let i = c.self.inside in record {
-  written = (λ j. record { table = i.table.now.id; about = i.table.now.about; known = c.write_stamp_beside.ensures.written j; map = i.map; segment = i.segment })
+  written = (λ j. record {
+    table = i.table.now.id;
+    about = i.table.now.about;
+    known = c.write_stamp_beside.ensures.written j;
+    map = i.map;
+    segment = i.segment;
+  })
       ∙ ap (λ (x : Locked). written x c.args.place c.args.stamp) c.self.view_is;
 }

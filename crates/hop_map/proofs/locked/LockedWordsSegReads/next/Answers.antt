@@ -8,4 +8,5 @@ pub returns-clause-value : goal.returns-clause-value
 returns-clause-value c = λ w a k.
     let ready = subst (λ (x : Locked). Ready x.about x.known x.map x.segment) c.read.view_is c.read.invariant.ready in
     let at = c.link_place.ensures ∙ ap (λ (x : Locked). Link x.map c.args.element) c.read.view_is in
-    c.item.ensures ∙ next_read c.args.self.now c.read-2.new.self c.link_place.result c.read-2.result ready c.read-2.ensures.same c.read-2.ensures.value w a c.args.element at k
+    c.item.ensures ∙ next_read c.args.self.now c.read-2.new.self c.link_place.result c.read-2.result ready c.read-2.ensures.same
+    c.read-2.ensures.value w a c.args.element at k

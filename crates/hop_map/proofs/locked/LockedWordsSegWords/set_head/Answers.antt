@@ -13,7 +13,8 @@ returns-clause-words c =
     let x = c.args.self.now in
     let ready = subst (λ (x : Locked). Ready x.about x.known x.map x.segment) c.write.view_is c.write.invariant.ready in
     let at = c.head_place.ensures ∙ ap (λ (x : Locked). Head x.map x.segment) c.write.view_is in
-    let is = c.write-2.ensures.written ∙ (ap (λ (p : Place). written x p c.link_word.result) at ∙ ap (written x (Head x.map x.segment)) c.link_word.ensures.word) in
+    let is = c.write-2.ensures.written ∙ (ap (λ (p : Place). written x p c.link_word.result) at ∙ ap (written x (Head x.map x.segment))
+    c.link_word.ensures.word) in
     head_set x ready c.args.element c.write-2.new.self c.link_word.ensures.small (head_there x.about x.map x.segment ready.inside) is
 
 pub returns-clause-stays : goal.returns-clause-stays
@@ -21,5 +22,8 @@ returns-clause-stays c =
     let x = c.args.self.now in
     let ready = subst (λ (x : Locked). Ready x.about x.known x.map x.segment) c.write.view_is c.write.invariant.ready in
     let at = c.head_place.ensures ∙ ap (λ (x : Locked). Head x.map x.segment) c.write.view_is in
-    let is = c.write-2.ensures.written ∙ (ap (λ (p : Place). written x p c.link_word.result) at ∙ ap (written x (Head x.map x.segment)) c.link_word.ensures.word) in
-    stays_by x (Head x.map x.segment) (link_word c.args.element) c.write-2.new.self (own_kept x ready (Head x.map x.segment) (link_word c.args.element) (head_there x.about x.map x.segment ready.inside) refl c.write-2.new.self is) is
+    let is = c.write-2.ensures.written ∙ (ap (λ (p : Place). written x p c.link_word.result) at ∙ ap (written x (Head x.map x.segment))
+    c.link_word.ensures.word) in
+    stays_by x (Head x.map x.segment) (link_word c.args.element) c.write-2.new.self
+    (own_kept x ready (Head x.map x.segment) (link_word c.args.element) (head_there x.about x.map x.segment ready.inside) refl
+    c.write-2.new.self is) is

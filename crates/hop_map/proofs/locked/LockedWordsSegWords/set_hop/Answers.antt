@@ -12,7 +12,8 @@ returns-clause-words c =
     let x = c.args.self.now in
     let ready = subst (λ (x : Locked). Ready x.about x.known x.map x.segment) c.write.view_is c.write.invariant.ready in
     let at = c.hop_place.ensures ∙ ap (λ (x : Locked). Hop x.map x.segment c.args.bucket) c.write.view_is in
-    let is = c.write-2.ensures.written ∙ (ap (λ (p : Place). written x p c.from.result) at ∙ ap (written x (Hop x.map x.segment c.args.bucket)) c.from.ensures) in
+    let is = c.write-2.ensures.written ∙ (ap (λ (p : Place). written x p c.from.result) at ∙ ap
+    (written x (Hop x.map x.segment c.args.bucket)) c.from.ensures) in
     hop_set x ready c.args.bucket c.args.bits c.write-2.new.self c.ranges.bits.fits (hop_there x.about x.map x.segment c.args.bucket ready.inside c.requires) is
 
 pub returns-clause-stays : goal.returns-clause-stays
@@ -20,5 +21,8 @@ returns-clause-stays c =
     let x = c.args.self.now in
     let ready = subst (λ (x : Locked). Ready x.about x.known x.map x.segment) c.write.view_is c.write.invariant.ready in
     let at = c.hop_place.ensures ∙ ap (λ (x : Locked). Hop x.map x.segment c.args.bucket) c.write.view_is in
-    let is = c.write-2.ensures.written ∙ (ap (λ (p : Place). written x p c.from.result) at ∙ ap (written x (Hop x.map x.segment c.args.bucket)) c.from.ensures) in
-    stays_by x (Hop x.map x.segment c.args.bucket) c.args.bits c.write-2.new.self (own_kept x ready (Hop x.map x.segment c.args.bucket) c.args.bits (hop_there x.about x.map x.segment c.args.bucket ready.inside c.requires) refl c.write-2.new.self is) is
+    let is = c.write-2.ensures.written ∙ (ap (λ (p : Place). written x p c.from.result) at ∙ ap
+    (written x (Hop x.map x.segment c.args.bucket)) c.from.ensures) in
+    stays_by x (Hop x.map x.segment c.args.bucket) c.args.bits c.write-2.new.self
+    (own_kept x ready (Hop x.map x.segment c.args.bucket) c.args.bits
+    (hop_there x.about x.map x.segment c.args.bucket ready.inside c.requires) refl c.write-2.new.self is) is

@@ -13,13 +13,18 @@ returns-clause-words c =
     let x = c.args.self.now in
     let ready = subst (λ (x : Locked). Ready x.about x.known x.map x.segment) c.write.view_is c.write.invariant.ready in
     let at = c.slot_place.ensures ∙ ap (λ (x : Locked). Slot x.map x.segment c.args.place) c.write.view_is in
-    let is = c.write-2.ensures.written ∙ (ap (λ (p : Place). written x p c.link_word.result) at ∙ ap (written x (Slot x.map x.segment c.args.place)) c.link_word.ensures.word) in
-    slot_set x ready c.args.place c.args.item c.write-2.new.self c.link_word.ensures.small (slot_there x.about x.map x.segment c.args.place ready.inside c.requires) is
+    let is = c.write-2.ensures.written ∙ (ap (λ (p : Place). written x p c.link_word.result) at ∙ ap
+    (written x (Slot x.map x.segment c.args.place)) c.link_word.ensures.word) in
+    slot_set x ready c.args.place c.args.item c.write-2.new.self c.link_word.ensures.small
+    (slot_there x.about x.map x.segment c.args.place ready.inside c.requires) is
 
 pub returns-clause-stays : goal.returns-clause-stays
 returns-clause-stays c =
     let x = c.args.self.now in
     let ready = subst (λ (x : Locked). Ready x.about x.known x.map x.segment) c.write.view_is c.write.invariant.ready in
     let at = c.slot_place.ensures ∙ ap (λ (x : Locked). Slot x.map x.segment c.args.place) c.write.view_is in
-    let is = c.write-2.ensures.written ∙ (ap (λ (p : Place). written x p c.link_word.result) at ∙ ap (written x (Slot x.map x.segment c.args.place)) c.link_word.ensures.word) in
-    stays_by x (Slot x.map x.segment c.args.place) (link_word c.args.item) c.write-2.new.self (own_kept x ready (Slot x.map x.segment c.args.place) (link_word c.args.item) (slot_there x.about x.map x.segment c.args.place ready.inside c.requires) refl c.write-2.new.self is) is
+    let is = c.write-2.ensures.written ∙ (ap (λ (p : Place). written x p c.link_word.result) at ∙ ap
+    (written x (Slot x.map x.segment c.args.place)) c.link_word.ensures.word) in
+    stays_by x (Slot x.map x.segment c.args.place) (link_word c.args.item) c.write-2.new.self
+    (own_kept x ready (Slot x.map x.segment c.args.place) (link_word c.args.item)
+    (slot_there x.about x.map x.segment c.args.place ready.inside c.requires) refl c.write-2.new.self is) is

@@ -23,7 +23,8 @@ returns-clause-words c =
     let cx = child (lock_of x.known) in
     let at = c.head_place-place.ensures ∙ (λ j. Head (c.map.ensures.map j) (c.self.invariant.0 j)) in
     let seg = subst (IsSegment x.about x.map) c.self.invariant.0 c.self.invariant.1 in
-    let is = c.write_beside.ensures.written ∙ (ap (λ (p : Place). written x p c.link_word.result) at ∙ ap (written x (Head x.map cx)) c.link_word.ensures.word) in
+    let is = c.write_beside.ensures.written ∙ (ap (λ (p : Place). written x p c.link_word.result) at ∙ ap (written x (Head x.map cx))
+    c.link_word.ensures.word) in
     head_else x c.map.ensures.ready (link_word c.args.element) c.write_beside.new.self (head_there x.about x.map cx seg) is ∙ ap seen_words c.self.view_is
 
 pub returns-clause-child : goal.returns-clause-child
@@ -32,6 +33,7 @@ returns-clause-child c =
     let cx = child (lock_of x.known) in
     let at = c.head_place-place.ensures ∙ (λ j. Head (c.map.ensures.map j) (c.self.invariant.0 j)) in
     let seg = subst (IsSegment x.about x.map) c.self.invariant.0 c.self.invariant.1 in
-    let is = c.write_beside.ensures.written ∙ (ap (λ (p : Place). written x p c.link_word.result) at ∙ ap (written x (Head x.map cx)) c.link_word.ensures.word) in
+    let is = c.write_beside.ensures.written ∙ (ap (λ (p : Place). written x p c.link_word.result) at ∙ ap (written x (Head x.map cx))
+    c.link_word.ensures.word) in
     head_beside x c.map.ensures.ready c.args.element c.write_beside.new.self c.link_word.ensures.small (head_there x.about x.map cx seg) is
     ∙ ap (λ (x : Locked). record (child_front x) { head = c.args.element }) c.self.view_is

@@ -24,7 +24,8 @@ returns-clause-words c =
     let at = c.hop_place-place.ensures ∙ (λ j. Hop (c.map.ensures.map j) (c.self.invariant.0 j) c.args.bucket) in
     let seg = subst (IsSegment x.about x.map) c.self.invariant.0 c.self.invariant.1 in
     let is = c.write_beside.ensures.written ∙ (ap (λ (p : Place). written x p c.from.result) at ∙ ap (written x (Hop x.map cx c.args.bucket)) c.from.ensures) in
-    hop_else x c.map.ensures.ready c.args.bucket c.args.bits c.write_beside.new.self (hop_there x.about x.map cx c.args.bucket seg c.requires) is ∙ ap seen_words c.self.view_is
+    hop_else x c.map.ensures.ready c.args.bucket c.args.bits c.write_beside.new.self
+    (hop_there x.about x.map cx c.args.bucket seg c.requires) is ∙ ap seen_words c.self.view_is
 
 pub returns-clause-child : goal.returns-clause-child
 returns-clause-child c =
@@ -33,5 +34,6 @@ returns-clause-child c =
     let at = c.hop_place-place.ensures ∙ (λ j. Hop (c.map.ensures.map j) (c.self.invariant.0 j) c.args.bucket) in
     let seg = subst (IsSegment x.about x.map) c.self.invariant.0 c.self.invariant.1 in
     let is = c.write_beside.ensures.written ∙ (ap (λ (p : Place). written x p c.from.result) at ∙ ap (written x (Hop x.map cx c.args.bucket)) c.from.ensures) in
-    hop_beside x c.map.ensures.ready c.args.bucket c.args.bits c.write_beside.new.self c.ranges.bits.fits (hop_there x.about x.map cx c.args.bucket seg c.requires) is
+    hop_beside x c.map.ensures.ready c.args.bucket c.args.bits c.write_beside.new.self c.ranges.bits.fits
+    (hop_there x.about x.map cx c.args.bucket seg c.requires) is
     ∙ ap (λ (x : Locked). front_with_hop (child_front x) c.args.bucket c.args.bits) c.self.view_is

@@ -24,8 +24,10 @@ returns-clause-words c =
     let cx = child (lock_of x.known) in
     let at = c.slot_place-slot.ensures ∙ (λ j. Slot (c.map.ensures.map j) (c.self.invariant.0 j) c.args.place) in
     let seg = subst (IsSegment x.about x.map) c.self.invariant.0 c.self.invariant.1 in
-    let is = c.write_beside.ensures.written ∙ (ap (λ (p : Place). written x p c.link_word.result) at ∙ ap (written x (Slot x.map cx c.args.place)) c.link_word.ensures.word) in
-    slot_else x c.map.ensures.ready c.args.place (link_word c.args.item) c.write_beside.new.self (slot_there x.about x.map cx c.args.place seg c.requires) is ∙ ap seen_words c.self.view_is
+    let is = c.write_beside.ensures.written ∙ (ap (λ (p : Place). written x p c.link_word.result) at ∙ ap
+    (written x (Slot x.map cx c.args.place)) c.link_word.ensures.word) in
+    slot_else x c.map.ensures.ready c.args.place (link_word c.args.item) c.write_beside.new.self
+    (slot_there x.about x.map cx c.args.place seg c.requires) is ∙ ap seen_words c.self.view_is
 
 pub returns-clause-child : goal.returns-clause-child
 returns-clause-child c =
@@ -33,6 +35,8 @@ returns-clause-child c =
     let cx = child (lock_of x.known) in
     let at = c.slot_place-slot.ensures ∙ (λ j. Slot (c.map.ensures.map j) (c.self.invariant.0 j) c.args.place) in
     let seg = subst (IsSegment x.about x.map) c.self.invariant.0 c.self.invariant.1 in
-    let is = c.write_beside.ensures.written ∙ (ap (λ (p : Place). written x p c.link_word.result) at ∙ ap (written x (Slot x.map cx c.args.place)) c.link_word.ensures.word) in
-    slot_beside x c.map.ensures.ready c.args.place c.args.item c.write_beside.new.self c.link_word.ensures.small (slot_there x.about x.map cx c.args.place seg c.requires) is
+    let is = c.write_beside.ensures.written ∙ (ap (λ (p : Place). written x p c.link_word.result) at ∙ ap
+    (written x (Slot x.map cx c.args.place)) c.link_word.ensures.word) in
+    slot_beside x c.map.ensures.ready c.args.place c.args.item c.write_beside.new.self c.link_word.ensures.small
+    (slot_there x.about x.map cx c.args.place seg c.requires) is
     ∙ ap (λ (x : Locked). front_with_slot (child_front x) c.args.place c.args.item) c.self.view_is

@@ -8,5 +8,6 @@ abbrev pub invariant-words : goal.invariant-words
 invariant-words l = record {
   rests : OnlyReads l.fn.self l.self;
   looks : looks_noted l.self ≤ looks_noted l.fn.self + l.word;
-  spelled : (w : MapWords) → HavePeeks w l.self → Reached w l.fn.self.map l.fn.self.segment l.element → (j : ℕ) → j < l.word → w.key l.fn.self.map l.element j ≡ word_of l.key j;
+  spelled : (w : MapWords) → HavePeeks w l.self → Reached w l.fn.self.map l.fn.self.segment l.element → (j : ℕ) → j < l.word → w.key
+      l.fn.self.map l.element j ≡ word_of l.key j;
 }

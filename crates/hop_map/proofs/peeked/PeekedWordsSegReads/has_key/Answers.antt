@@ -10,8 +10,10 @@ pub returns-then-key-self-clause-value : goal.returns-then-key-self-clause-value
 unfolding agreed_before
 returns-then-key-self-clause-value c = λ w g k.
     let x = c.args.self.now in
-    let size : length c.args.key.now ≡ (shape_at x.about x.map).key = c.if-key-self.true ∙ (c.self.invariant.keyed ∙ ap (λ (x : Peeked). (shape_at x.about x.map).key) c.self.view_is) in
-    keyed_value x c.args.element c.args.key.now w (agreed_before x c.spells.new.self c.spells.ensures.rests w g) k c.spells.result (are_bytes c.args.key.now (λ i. let f = c.type_inv.key i in omega arith)) size (λ at_e. c.spells.ensures.value g.words g.peeks at_e)
+    let size : length c.args.key.now ≡ (shape_at x.about x.map).key = c.if-key-self.true ∙
+    (c.self.invariant.keyed ∙ ap (λ (x : Peeked). (shape_at x.about x.map).key) c.self.view_is) in
+    keyed_value x c.args.element c.args.key.now w (agreed_before x c.spells.new.self c.spells.ensures.rests w g) k c.spells.result
+    (are_bytes c.args.key.now (λ i. let f = c.type_inv.key i in omega arith)) size (λ at_e. c.spells.ensures.value g.words g.peeks at_e)
 
 pub returns-else-key-self-clause-value : goal.returns-else-key-self-clause-value
 returns-else-key-self-clause-value c = λ w g k.

@@ -12,7 +12,8 @@ returns-clause-fits c =
     let l = c.begin_run.new.lane in
     let e = c.begin_run.ensures in
     let is : port_with s i.arenas.items i.batches.items i.spilled ≡ c.args.self.now = sym (port_is i i.lane s refl c.in-Some.is) ∙ c.self.view_is in
-    begins c.args.table.now (port_with s i.arenas.items i.batches.items i.spilled) l.table l.known c.begin_run.result (subst (IsPortOf c.args.table.now) (sym is) c.requires.fits) e.table e.begun e.room e.unchanged
+    begins c.args.table.now (port_with s i.arenas.items i.batches.items i.spilled) l.table l.known c.begin_run.result
+    (subst (IsPortOf c.args.table.now) (sym is) c.requires.fits) e.table e.begun e.room e.unchanged
 
 pub returns-clause-in_run : goal.returns-clause-in_run
 returns-clause-in_run c =
@@ -20,7 +21,8 @@ returns-clause-in_run c =
     let s = c.in-Some.lane in
     let p = port_with s i.arenas.items i.batches.items i.spilled in
     let is : p ≡ c.args.self.now = sym (port_is i i.lane s refl c.in-Some.is) ∙ c.self.view_is in
-    begun_runs c.args.table.now.about p.known c.begin_run.new.lane.known c.begin_run.result c.begin_run.ensures.begun (subst (λ (q : Port). runs q ≡ false) (sym is) c.requires.idle)
+    begun_runs c.args.table.now.about p.known c.begin_run.new.lane.known c.begin_run.result c.begin_run.ensures.begun
+    (subst (λ (q : Port). runs q ≡ false) (sym is) c.requires.idle)
 
 pub returns-clause-noted : goal.returns-clause-noted
 returns-clause-noted c =

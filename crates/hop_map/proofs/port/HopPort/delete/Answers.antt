@@ -10,7 +10,8 @@ delete-lane-requires-clause-batches g c =
     let s = c.in-Some.lane in
     let t = c.args.table.now in
     let maps = t.about.shape.maps in
-    let is : port_with s i.arenas.items i.batches.items i.spilled ≡ c.args.self.now = sym (port_is i c.take.result s c.take.ensures.value c.in-Some.is) ∙ c.self.view_is in
+    let is : port_with s i.arenas.items i.batches.items i.spilled ≡ c.args.self.now = sym
+    (port_is i c.take.result s c.take.ensures.value c.in-Some.is) ∙ c.self.view_is in
     let h = subst (IsPortOf t) (sym is) c.requires.fits in
     let b = c.index_mut-batches.result.now in
     let here = map_inside maps c.args.map c.requires.key.0 c.requires.key.1 in
@@ -30,8 +31,15 @@ returns-clause-fits g c =
     let l = c.delete-lane.result.0 in
     let e = c.delete-lane.ensures in
     let b = c.delete-lane.new.batches in
-    subst (λ (n : ℕ). IsPortOf t (record { table = l.table; known = l.known; arenas = i.arenas.items; batches = set i.batches.items n b; spilled = i.spilled })) (sym c.from.ensures)
-    (called_fits t p l.table l.known c.args.map (Delete c.args.map c.args.key.now c.delete-lane.result.1) i.arenas.items b i.spilled h e.table here refl e.called h.arenas e.batches)
+    subst (λ (n : ℕ). IsPortOf t (record {
+      table = l.table;
+      known = l.known;
+      arenas = i.arenas.items;
+      batches = set i.batches.items n b;
+      spilled = i.spilled;
+    })) (sym c.from.ensures)
+    (called_fits t p l.table l.known c.args.map (Delete c.args.map c.args.key.now c.delete-lane.result.1) i.arenas.items b i.spilled h
+    e.table here refl e.called h.arenas e.batches)
 
 pub returns-clause-in_run : goal.returns-clause-in_run
 returns-clause-in_run g c =
@@ -41,4 +49,5 @@ returns-clause-in_run g c =
     let is : p ≡ c.args.self.now = sym (port_is i c.take.result s c.take.ensures.value c.in-Some.is) ∙ c.self.view_is in
     let l = c.delete-lane.result.0 in
     let e = c.delete-lane.ensures in
-    still_runs c.args.table.now.about p.known l.known (Delete c.args.map c.args.key.now c.delete-lane.result.1) e.called.seen (e.called.cpu) refl (subst (λ (q : Port). runs q ≡ true) (sym is) c.requires.in_run)
+    still_runs c.args.table.now.about p.known l.known (Delete c.args.map c.args.key.now c.delete-lane.result.1) e.called.seen (e.called.cpu)
+    refl (subst (λ (q : Port). runs q ≡ true) (sym is) c.requires.in_run)

@@ -14,7 +14,9 @@ returns-clause-fits c =
     let t = c.args.table.now in
     let is : p ≡ c.args.self.now = sym (port_is i i.lane s refl c.in-Some.is) ∙ c.self.view_is in
     let e = c.leave_run.ensures.ended in
-    ends_last t p c.leave_run.new.lane.table e.0 c.leave_run.new.lane.known c.leave_run.new.batches.items i.spilled (subst (IsPortOf t) (sym is) c.requires.fits) (subst (λ (q : Port). runs q ≡ true) (sym is) c.requires.in_run) (c.leave_run.ensures.table ∙ (subst (IsPortOf t) (sym is) c.requires.fits).table) e.1 e.2
+    ends_last t p c.leave_run.new.lane.table e.0 c.leave_run.new.lane.known c.leave_run.new.batches.items i.spilled
+    (subst (IsPortOf t) (sym is) c.requires.fits) (subst (λ (q : Port). runs q ≡ true) (sym is) c.requires.in_run)
+    (c.leave_run.ensures.table ∙ (subst (IsPortOf t) (sym is) c.requires.fits).table) e.1 e.2
 
 pub returns-clause-idle : goal.returns-clause-idle
 returns-clause-idle c =
@@ -23,7 +25,8 @@ returns-clause-idle c =
     let p = port_with s i.arenas.items i.batches.items i.spilled in
     let is : p ≡ c.args.self.now = sym (port_is i i.lane s refl c.in-Some.is) ∙ c.self.view_is in
     let e = c.leave_run.ensures.ended in
-    ended_idle c.args.table.now p e.0 c.leave_run.new.lane.known c.leave_run.new.batches.items e.1 e.2 (subst (λ (q : Port). runs q ≡ true) (sym is) c.requires.in_run)
+    ended_idle c.args.table.now p e.0 c.leave_run.new.lane.known c.leave_run.new.batches.items e.1 e.2
+    (subst (λ (q : Port). runs q ≡ true) (sym is) c.requires.in_run)
 
 pub returns-clause-noted : goal.returns-clause-noted
 returns-clause-noted c =

@@ -27,7 +27,8 @@ returns-clause-in_run g c =
     let is : p ≡ c.args.self.now = sym (port_is i c.take.result s c.take.ensures.value c.in-Some.is) ∙ c.self.view_is in
     let l = c.find_locked-lane.result.0 in
     let e = c.find_locked-lane.ensures in
-    still_runs c.args.table.now.about p.known l.known (Lookup c.args.map c.args.key.now c.find_locked-lane.result.1) e.found.seen (ap (λ (k : Known). k.cpu) e.found.after) refl (subst (λ (q : Port). runs q ≡ true) (sym is) c.requires.in_run)
+    still_runs c.args.table.now.about p.known l.known (Lookup c.args.map c.args.key.now c.find_locked-lane.result.1) e.found.seen
+    (ap (λ (k : Known). k.cpu) e.found.after) refl (subst (λ (q : Port). runs q ≡ true) (sym is) c.requires.in_run)
 
 pub returns-clause-element : goal.returns-clause-element
 returns-clause-element g c =

@@ -27,4 +27,5 @@ returns-clause-in_run g c =
     let s = c.in-Some.lane in
     let p = port_with s i.arenas.items i.batches.items i.spilled in
     let is : p ≡ c.args.self.now = sym (port_is i c.take.result s c.take.ensures.value c.in-Some.is) ∙ c.self.view_is in
-    listed_runs c.args.table.now.about s.known c.list_keys.new.lane.known c.args.map c.list_keys.new.list.keys c.list_keys.ensures.listed ∙ ap (λ (q : Port). runs q) is
+    listed_runs c.args.table.now.about s.known c.list_keys.new.lane.known c.args.map c.list_keys.new.list.keys c.list_keys.ensures.listed ∙
+    ap (λ (q : Port). runs q) is

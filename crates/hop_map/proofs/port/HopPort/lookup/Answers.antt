@@ -19,7 +19,8 @@ returns-clause-fits g c =
     let t = c.args.table.now in
     let is : p ≡ c.args.self.now = sym (port_is i c.take.result s c.take.ensures.value c.in-Some.is) ∙ c.self.view_is in
     let r = c.locate-lane in
-    looked_fits t p r.result.0.table r.result.0.known c.args.map c.args.key.now (found_span t.about c.args.map r.result.1) (subst (IsPortOf t) (sym is) c.requires.fits) r.ensures.table r.ensures.found.0
+    looked_fits t p r.result.0.table r.result.0.known c.args.map c.args.key.now (found_span t.about c.args.map r.result.1)
+    (subst (IsPortOf t) (sym is) c.requires.fits) r.ensures.table r.ensures.found.0
 
 pub returns-clause-in_run : goal.returns-clause-in_run
 returns-clause-in_run g c =
@@ -30,7 +31,8 @@ returns-clause-in_run g c =
     let a = c.args.table.now.about in
     let r = c.locate-lane in
     let looked = r.ensures.found.0 in
-    still_runs a p.known r.result.0.known (Lookup c.args.map c.args.key.now (found_span a c.args.map r.result.1)) looked.seen (ap (λ (k : Known). k.cpu) looked.after) refl (subst (λ (q : Port). runs q ≡ true) (sym is) c.requires.in_run)
+    still_runs a p.known r.result.0.known (Lookup c.args.map c.args.key.now (found_span a c.args.map r.result.1)) looked.seen
+    (ap (λ (k : Known). k.cpu) looked.after) refl (subst (λ (q : Port). runs q ≡ true) (sym is) c.requires.in_run)
 
 pub returns-clause-found : goal.returns-clause-found
 returns-clause-found g c =

@@ -21,4 +21,5 @@ returns-clause-in_run g c =
     let s = c.in-Some.lane in
     let p = port_with s i.arenas.items i.batches.items i.spilled in
     let is : p ≡ c.args.self.now = sym (port_is i c.take.result s c.take.ensures.value c.in-Some.is) ∙ c.self.view_is in
-    split_runs c.args.table.now.about s.known c.args.map c.args.home c.split_segment-lane.result.1 c.split_segment-lane.result.0.known c.split_segment-lane.ensures.ends ∙ ap (λ (q : Port). runs q) is
+    split_runs c.args.table.now.about s.known c.args.map c.args.home c.split_segment-lane.result.1 c.split_segment-lane.result.0.known
+    c.split_segment-lane.ensures.ends ∙ ap (λ (q : Port). runs q) is

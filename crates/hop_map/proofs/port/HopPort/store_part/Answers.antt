@@ -5,12 +5,14 @@ use Rattle.hop_map.proofs.Taken.{writes_there, fits_after, quiet_after, runs_aft
 use Rattle.hop_map.proofs.port.HopPort.store_part.Goals as goal
 
 pub store_part-requires-clause-place : goal.store_part-requires-clause-place
-store_part-requires-clause-place g c = writes_there c.self.inside c.in-Some.lane c.in-Some.is c.args.self.now c.self.view_is c.args.table.now c.requires.fits c.requires.in_run c.args.at.at (bytes_in c.args.size) c.requires.place
+store_part-requires-clause-place g c = writes_there c.self.inside c.in-Some.lane c.in-Some.is c.args.self.now c.self.view_is
+    c.args.table.now c.requires.fits c.requires.in_run c.args.at.at (bytes_in c.args.size) c.requires.place
 
 pub returns-clause-fits : goal.returns-clause-fits
 returns-clause-fits g c =
     fits_after c.self.inside c.in-Some.lane c.in-Some.is c.args.self.now c.self.view_is c.args.table.now c.requires.fits c.requires.in_run
-    c.store_part.new.lane.known (Store c.args.at.at c.args.size c.args.word) refl c.store_part.ensures.stored c.store_part.new.lane.table c.store_part.ensures.table
+    c.store_part.new.lane.known (Store c.args.at.at c.args.size c.args.word) refl c.store_part.ensures.stored c.store_part.new.lane.table
+    c.store_part.ensures.table
 
 pub returns-clause-in_run : goal.returns-clause-in_run
 returns-clause-in_run g c =

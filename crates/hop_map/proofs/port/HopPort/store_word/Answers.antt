@@ -5,7 +5,8 @@ use Rattle.hop_map.proofs.Taken.{writes_there, fits_after, quiet_after, runs_aft
 use Rattle.hop_map.proofs.port.HopPort.store_word.Goals as goal
 
 pub store_word-requires-clause-place : goal.store_word-requires-clause-place
-store_word-requires-clause-place c = writes_there c.self.inside c.in-Some.lane c.in-Some.is c.args.self.now c.self.view_is c.args.table.now c.requires.fits c.requires.in_run c.args.at.at 8 c.requires.place
+store_word-requires-clause-place c = writes_there c.self.inside c.in-Some.lane c.in-Some.is c.args.self.now c.self.view_is c.args.table.now
+    c.requires.fits c.requires.in_run c.args.at.at 8 c.requires.place
 
 pub returns-clause-fits : goal.returns-clause-fits
 returns-clause-fits c =

@@ -13,7 +13,8 @@ update-lane-requires-clause-batches g c =
     let s = c.in-Some.lane in
     let t = c.args.table.now in
     let maps = t.about.shape.maps in
-    let is : port_with s i.arenas.items i.batches.items i.spilled ≡ c.args.self.now = sym (port_is i c.take.result s c.take.ensures.value c.in-Some.is) ∙ c.self.view_is in
+    let is : port_with s i.arenas.items i.batches.items i.spilled ≡ c.args.self.now = sym
+    (port_is i c.take.result s c.take.ensures.value c.in-Some.is) ∙ c.self.view_is in
     let h = subst (IsPortOf t) (sym is) c.requires.fits in
     let b = c.index_mut-batches.result.now in
     let here = map_inside maps c.args.map c.requires.pair.0 c.requires.pair.1 in
@@ -36,8 +37,16 @@ returns-clause-fits g c =
     let x = c.update-lane.new.arena in
     let b = c.update-lane.new.batches in
     let xs = set i.arenas.items m x in
-    subst (λ (n : ℕ). IsPortOf t (record { table = l.table; known = l.known; arenas = set i.arenas.items n x; batches = set i.batches.items n b; spilled = c.update-lane.result.2 })) (sym c.from-place.ensures)
-    (called_fits t p l.table l.known m (Update m c.args.key.now c.args.value.now c.args.flags c.update-lane.result.1) xs b c.update-lane.result.2 h e.table here refl e.called
+    subst (λ (n : ℕ). IsPortOf t (record {
+      table = l.table;
+      known = l.known;
+      arenas = set i.arenas.items n x;
+      batches = set i.batches.items
+          n b;
+      spilled = c.update-lane.result.2;
+    })) (sym c.from-place.ensures)
+    (called_fits t p l.table l.known m (Update m c.args.key.now c.args.value.now c.args.flags c.update-lane.result.1) xs b
+    c.update-lane.result.2 h e.table here refl e.called
     (arenas_change t.about (length maps) m i.arenas.items x here e.arena h.arenas) e.batches)
 
 pub returns-clause-in_run : goal.returns-clause-in_run
@@ -48,14 +57,16 @@ returns-clause-in_run g c =
     let is : p ≡ c.args.self.now = sym (port_is i c.take.result s c.take.ensures.value c.in-Some.is) ∙ c.self.view_is in
     let l = c.update-lane.result.0 in
     let e = c.update-lane.ensures in
-    still_runs c.args.table.now.about p.known l.known (Update c.args.map c.args.key.now c.args.value.now c.args.flags c.update-lane.result.1) e.called.seen (e.called.cpu) refl (subst (λ (q : Port). runs q ≡ true) (sym is) c.requires.in_run)
+    still_runs c.args.table.now.about p.known l.known (Update c.args.map c.args.key.now c.args.value.now c.args.flags
+    c.update-lane.result.1) e.called.seen (e.called.cpu) refl (subst (λ (q : Port). runs q ≡ true) (sym is) c.requires.in_run)
 
 pub update-lane-requires-clause-inside : goal.update-lane-requires-clause-inside
 update-lane-requires-clause-inside g c =
     let i = c.self.inside in
     let s = c.in-Some.lane in
     let t = c.args.table.now in
-    let is : port_with s i.arenas.items i.batches.items i.spilled ≡ c.args.self.now = sym (port_is i c.take.result s c.take.ensures.value c.in-Some.is) ∙ c.self.view_is in
+    let is : port_with s i.arenas.items i.batches.items i.spilled ≡ c.args.self.now = sym
+    (port_is i c.take.result s c.take.ensures.value c.in-Some.is) ∙ c.self.view_is in
     let h = subst (IsPortOf t) (sym is) c.requires.fits in
     h.cpu
 
@@ -63,5 +74,7 @@ pub returns-clause-spilled : goal.returns-clause-spilled
 returns-clause-spilled g c =
     let i = c.self.inside in
     let s = c.in-Some.lane in
-    let is : port_with s i.arenas.items i.batches.items i.spilled ≡ c.args.self.now = sym (port_is i c.take.result s c.take.ensures.value c.in-Some.is) ∙ c.self.view_is in
-    subst (λ (k : Known). IfSome c.update-lane.result.2 (λ n. (c.update-lane.result.1 ≡ Done) × LockedLast c.args.map n k c.update-lane.result.0.known)) (ap (λ (q : Port). q.known) is) c.update-lane.ensures.spilled
+    let is : port_with s i.arenas.items i.batches.items i.spilled ≡ c.args.self.now = sym
+    (port_is i c.take.result s c.take.ensures.value c.in-Some.is) ∙ c.self.view_is in
+    subst (λ (k : Known). IfSome c.update-lane.result.2 (λ n. (c.update-lane.result.1 ≡ Done) × LockedLast c.args.map n k
+    c.update-lane.result.0.known)) (ap (λ (q : Port). q.known) is) c.update-lane.ensures.spilled

@@ -5,7 +5,8 @@ use Rattle.hop_map.proofs.Taken.{reads_there, fits_after, quiet_after, runs_afte
 use Rattle.hop_map.proofs.port.HopPort.value_load.Goals as goal
 
 pub load-requires-clause-place : goal.load-requires-clause-place
-load-requires-clause-place c = reads_there c.self.inside c.in-Some.lane c.in-Some.is c.args.self.now c.self.view_is c.args.table.now c.requires.fits c.requires.in_run c.args.at.at (bytes_in c.args.size) c.requires.place
+load-requires-clause-place c = reads_there c.self.inside c.in-Some.lane c.in-Some.is c.args.self.now c.self.view_is c.args.table.now
+    c.requires.fits c.requires.in_run c.args.at.at (bytes_in c.args.size) c.requires.place
 
 pub returns-clause-fits : goal.returns-clause-fits
 returns-clause-fits c =

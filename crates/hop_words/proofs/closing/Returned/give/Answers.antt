@@ -19,6 +19,8 @@ split_seat-seat-requires c =
     let lanes : s.seat.me.0.lanes ≡ c.requires.first.0 ∷ c.requires.first.1 = ap (λ (d : Dealing). d.lanes) c.self.view_is ∙ c.requires.first.2 in
     let some : length s.seat.me.0.lanes ≢ 0 = (λ z. let n = ap length lanes in absurd (omega arith)) in (
       ap (λ (q : Dealing). q.table) c.self.view_is ∙ (c.requires.table ∙ sym (ap (λ (x : Shown). x.id) c.table.view_is)),
-      subst (λ (n : ℕ). 0 < n) (sym c.table.invariant.0) (some_words t.key.shape (subst (λ (x : About). IsShape x.shape) (c.about.ensures ∙ sym (ap (λ (x : Shown). x.about) c.table.view_is)) c.cpus-cpus.ensures.in_range)),
+      subst (λ (n : ℕ). 0 < n) (sym c.table.invariant.0) (some_words t.key.shape
+          (subst (λ (x : About). IsShape x.shape) (c.about.ensures ∙ sym (ap (λ (x : Shown). x.about) c.table.view_is))
+          c.cpus-cpus.ensures.in_range)),
       subst (λ (v : View). Splits (Kept t.key) s.seat.id v (dealer v) (dealt v)) (sym me) (deals_first t.key s.seat.id s.seat.me.0.lanes some),
     )

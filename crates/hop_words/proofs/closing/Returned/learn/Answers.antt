@@ -13,7 +13,9 @@ load-requires c =
     let t = c.table.inside.table.shared in
     let s = c.self.inside.seat in (
       ap (λ (q : Dealing). q.table) c.self.view_is ∙ (c.requires.table ∙ sym (ap (λ (x : Shown). x.id) c.table.view_is)),
-      subst (λ (n : ℕ). 0 < n) (sym c.table.invariant.0) (some_words t.key.shape (subst (λ (x : About). IsShape x.shape) (c.about.ensures ∙ sym (ap (λ (x : Shown). x.about) c.table.view_is)) c.cpus-cpus.ensures.in_range)),
+      subst (λ (n : ℕ). 0 < n) (sym c.table.invariant.0) (some_words t.key.shape
+          (subst (λ (x : About). IsShape x.shape) (c.about.ensures ∙ sym (ap (λ (x : Shown). x.about) c.table.view_is))
+          c.cpus-cpus.ensures.in_range)),
       learns t.key t.table_id.slots s.id s.me,
     )
 

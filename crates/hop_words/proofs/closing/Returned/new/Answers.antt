@@ -10,6 +10,8 @@ use Rattle.hop_words.proofs.closing.Returned.new.Goals as goal
 pub load_new_seat-seat-requires : goal.load_new_seat-seat-requires
 load_new_seat-seat-requires c =
     let t = c.table.inside.table.shared in (
-      subst (λ (n : ℕ). 0 < n) (sym c.table.invariant.0) (some_words t.key.shape (subst (λ (x : About). IsShape x.shape) (c.about.ensures ∙ sym (ap (λ (x : Shown). x.about) c.table.view_is)) c.cpus-cpus.ensures.in_range)),
+      subst (λ (n : ℕ). 0 < n) (sym c.table.invariant.0) (some_words t.key.shape
+          (subst (λ (x : About). IsShape x.shape) (c.about.ensures ∙ sym (ap (λ (x : Shown). x.about) c.table.view_is))
+          c.cpus-cpus.ensures.in_range)),
       comes t.key t.table_id.slots (opens t.key, []),
     )

@@ -17,6 +17,8 @@ join_seat-requires c =
       ap (λ (q : Dealing). q.table) c.self.view_is ∙ (c.requires.table ∙ id),
       c.into_seat-seat.ensures.table ∙ (c.requires.lane ∙ id),
       ap (λ (m : Sat). m.1) c.into_seat-seat.ensures.known,
-      subst (λ (n : ℕ). 0 < n) (sym c.table.invariant.0) (some_words t.key.shape (subst (λ (x : About). IsShape x.shape) (c.about.ensures ∙ sym (ap (λ (x : Shown). x.about) c.table.view_is)) c.cpus-cpus.ensures.in_range)),
+      subst (λ (n : ℕ). 0 < n) (sym c.table.invariant.0) (some_words t.key.shape
+          (subst (λ (x : About). IsShape x.shape) (c.about.ensures ∙ sym (ap (λ (x : Shown). x.about) c.table.view_is))
+          c.cpus-cpus.ensures.in_range)),
       gathers t.key s.id l.id s.me.0 l.me.0,
     )

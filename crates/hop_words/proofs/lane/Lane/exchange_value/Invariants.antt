@@ -5,4 +5,7 @@ use Rattle.hop_words.specs.Touching.{part_address}
 use Rattle.hop_words.proofs.lane.Lane.exchange_value.Given as goal
 
 abbrev pub ghosts-exchange_by : goal.ghosts-exchange_by
-ghosts-exchange_by a = record { told = λ n l. (n ≡ a.old → AddsEvent a.table.now.about a.self.now.known (Store (part_address a.table.now.about a._said.0) a._said.0.size a._said.1) l) × (n ≢ a.old → l ≡ a.self.now.known) }
+ghosts-exchange_by a = record {
+  told = λ n l. (n ≡ a.old → AddsEvent a.table.now.about a.self.now.known
+      (Store (part_address a.table.now.about a._said.0) a._said.0.size a._said.1) l) × (n ≢ a.old → l ≡ a.self.now.known);
+}

@@ -6,4 +6,7 @@ use Rattle.hop_words.proofs.Tallies.{gives_fresh}
 use Rattle.hop_words.proofs.lane.Lane.give_bit.Goals as goal
 
 pub or_noted-requires-clause-step : goal.or_noted-requires-clause-step
-or_noted-requires-clause-step c = subst (λ (k : ℕ). Notes c.args.table.now.about c.args.self.now.known (FreeBits c.args.map (c.args.element / 64)) (λ n. bit_or n k) (λ ws n l. GivesFresh c.args.self.now.known c.args.map c.args.element n l)) (sym c.bit_of-bit.ensures) (gives_fresh c.args.table.now.about c.args.self.now.known c.args.map c.args.element c.requires.element c.requires.hand c.requires.answered)
+or_noted-requires-clause-step c = subst (λ (k : ℕ). Notes c.args.table.now.about c.args.self.now.known
+    (FreeBits c.args.map (c.args.element / 64)) (λ n. bit_or n k) (λ ws n l. GivesFresh c.args.self.now.known c.args.map c.args.element n
+    l)) (sym c.bit_of-bit.ensures) (gives_fresh c.args.table.now.about c.args.self.now.known c.args.map c.args.element c.requires.element
+    c.requires.hand c.requires.answered)

@@ -4,4 +4,7 @@ use Rattle.hop_words.specs.Locking.{lock_of}
 use Rattle.hop_words.proofs.lane.Lane.unlock_delete.Given as goal
 
 abbrev pub ghosts-unlock_by : goal.ghosts-unlock_by
-ghosts-unlock_by a = record { told = λ n l. Answered a.table.now.about a.self.now.known (lock_of a.self.now.known) (Delete a._said.0 a._said.1.now a._said.2) l }
+ghosts-unlock_by a = record {
+  told = λ n l. Answered a.table.now.about a.self.now.known (lock_of a.self.now.known)
+      (Delete a._said.0 a._said.1.now a._said.2) l;
+}

@@ -8,5 +8,7 @@ use Rattle.hop_words.proofs.lane.Lane.unlock_noted.Goals as goal
 pub store-requires : goal.store-requires
 store-requires g c =
     let t = c.table.inside in
-    at_word t c.self.inside c.args.table.now c.args.self.now c.args.place c.word_of-word.result (λ _. c.args.new) (λ n. sight c.args.place n c.args.new ∷ []) (λ n l. g.E.Tell.told c.args.new l) (step t.table.shared.table_id.slots c.word_of-word.result c.args.new 0 none)
+    at_word t c.self.inside c.args.table.now c.args.self.now c.args.place c.word_of-word.result (λ _. c.args.new)
+    (λ n. sight c.args.place n c.args.new ∷ []) (λ n l. g.E.Tell.told c.args.new l)
+    (step t.table.shared.table_id.slots c.word_of-word.result c.args.new 0 none)
     c.table.view_is c.self.view_is c.table.invariant c.self.invariant c.requires.table c.requires.place c.word_of-word.ensures.word c.requires.step

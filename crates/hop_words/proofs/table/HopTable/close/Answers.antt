@@ -21,7 +21,8 @@ split_seat-keeper-requires c =
     let t = c.self.inside.table.shared in
     let s = c.learn-seat.result in (
       c.learn-seat.ensures.table ∙ sym (ap (λ (x : Shown). x.id) c.self.view_is),
-      subst (λ (n : ℕ). 0 < n) (sym c.self.invariant.0) (some_words t.key.shape (subst (λ (x : About). IsShape x.shape) (c.about.ensures ∙ sym (ap (λ (x : Shown). x.about) c.self.view_is)) c.cpus-cpus.ensures.in_range)),
+      subst (λ (n : ℕ). 0 < n) (sym c.self.invariant.0) (some_words t.key.shape
+          (subst (λ (x : About). IsShape x.shape) (c.about.ensures ∙ sym (ap (λ (x : Shown). x.about) c.self.view_is)) c.cpus-cpus.ensures.in_range)),
       copies t.key s.id s.me.0,
     )
 
@@ -37,7 +38,8 @@ returns-clause-whole c =
     let kept : c.split_seat-keeper.result.me.0.kept ≡ s.me.0.kept = ap (λ (m : Sat). m.0.kept) c.split_seat-keeper.ensures.4 in
     let about = ap (λ (x : Shown). x.about) c.self.view_is in
     let final = subst (λ (x : View). Final (Seen (Kept t.key) k.id x) ws xs) same c.close_with-words.ensures.values.2 in
-    let whole = ends t.key k.id s.me.0 c.args.returned.lanes ws xs c.learn-seat.ensures.lanes final (subst (λ (x : About). AreAllBack x c.args.returned.lanes) (sym about) c.requires.all) c.learn-seat.ensures.within in
+    let whole = ends t.key k.id s.me.0 c.args.returned.lanes ws xs c.learn-seat.ensures.lanes final
+    (subst (λ (x : About). AreAllBack x c.args.returned.lanes) (sym about) c.requires.all) c.learn-seat.ensures.within in
     subst (λ (x : About). KeepsWholeHistory x (view [] c.split_seat-keeper.result.me.0.kept) ws) (sym c.self.invariant.2)
     (subst (λ (l : List Entry). KeepsWholeHistory t.key (view [] l) ws) (sym kept) whole)
 

@@ -18,7 +18,8 @@ of_words-requires c =
     let v = sym c.about.ensures in
     let ws = c.in_ok-words.words.items in
     subst (λ (ws : List ℕ). Kept a (opening ws [] (opens a))) (sym c.deref.ensures.value)
-    (opening_kept a ws (subst (λ (x : About). length ws ≡ size x.shape) v c.in_ok-words.ensures.sized) (subst (λ (x : About). AreNewWords x (mem x.shape ws)) v c.in_ok-words.ensures.made))
+    (opening_kept a ws (subst (λ (x : About). length ws ≡ size x.shape) v c.in_ok-words.ensures.sized)
+    (subst (λ (x : About). AreNewWords x (mem x.shape ws)) v c.in_ok-words.ensures.made))
 
 pub invariant_of-lanes : goal.invariant_of-lanes
 invariant_of-lanes c =
@@ -34,7 +35,8 @@ invariant_of-lanes c =
 pub invariant_of-result : goal.invariant_of-result
 invariant_of-result c =
     let key = c.in_ok-table.ensures.5 in (
-      c.in_ok-table.ensures.0 ∙ (ap length c.deref.ensures.value ∙ (c.in_ok-words.ensures.sized ∙ ap (λ (x : About). size x.shape) (sym c.about.ensures ∙ sym key))),
+      c.in_ok-table.ensures.0 ∙ (ap length c.deref.ensures.value ∙
+          (c.in_ok-words.ensures.sized ∙ ap (λ (x : About). size x.shape) (sym c.about.ensures ∙ sym key))),
       c.in_ok-table.ensures.1,
       sym c.about.ensures ∙ sym key,
     )

@@ -12,5 +12,6 @@ loop-first-preserved c j k l less inside =
       | inr past ↦
           let same : j ≡ first = omega arith in
           let behind : first < k = omega arith in
-          subst (λ (n : ℕ). Follows (chosen_at c.args.parts.now c.args.numbers.now n) (chosen_at c.args.parts.now c.args.numbers.now k)) (sym same) (c.if-not-all_follow.ensures.0 refl k behind inside)
+          subst (λ (n : ℕ). Follows (chosen_at c.args.parts.now c.args.numbers.now n) (chosen_at c.args.parts.now c.args.numbers.now k))
+          (sym same) (c.if-not-all_follow.ensures.0 refl k behind inside)
     ]

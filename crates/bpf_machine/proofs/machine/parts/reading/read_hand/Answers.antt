@@ -12,6 +12,9 @@ returns-in_default-clause-none c = λ state left more is may e.
 pub returns-in-None-clause-none : goal.returns-in-None-clause-none
 returns-in-None-clause-none c = λ state left more is may e.
     let size : length c.read_words.new.words ≡ 1 = omega (arith, c.read_words.auto.words) in
-    let own : (length c.in-InHand.state.memory.context ≡ length c.args.input.now.context) × (length c.in-InHand.state.memory.packet ≡ length c.args.input.now.packet) = subst (λ (s : KeptStage). HasRoom c.args.input.now (kept_stage s)) c.in-InHand.is c.in_ok-make_room.ensures in
-    hand_no_state c.args.cpu c.args.input.now c.args.bytes.now state left more is may e c.read_words.new.words c.in-Some.rest.now size c.in-Some.ensures.fit c.in-Some.ensures.some
+    let own : (length c.in-InHand.state.memory.context ≡ length c.args.input.now.context) ×
+    (length c.in-InHand.state.memory.packet ≡ length c.args.input.now.packet) = subst
+    (λ (s : KeptStage). HasRoom c.args.input.now (kept_stage s)) c.in-InHand.is c.in_ok-make_room.ensures in
+    hand_no_state c.args.cpu c.args.input.now c.args.bytes.now state left more is may e c.read_words.new.words c.in-Some.rest.now size
+    c.in-Some.ensures.fit c.in-Some.ensures.some
     (λ other later good held job f. c.in-None.ensures.none other later good held (job.0, job.1 ∙ sym own.0, job.2, job.3 ∙ sym own.1) f)

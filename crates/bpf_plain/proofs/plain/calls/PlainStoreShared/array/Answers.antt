@@ -19,5 +19,6 @@ returns-clause-in_range c =
     let same = ap (λ (xs : List ArrayShape). length xs) c.arrays.ensures.arrays in
     let few = c.self.invariant.shape.array_count in (
       omega arith,
-      subst (λ (p : Contents). IsArrayShape (shape_of p).cpus c.in_ok-shape.shape.now) c.self.view_is (subst (IsArrayShape c.self.inside.shape.cpus) (sym item) sized.1),
+      subst (λ (p : Contents). IsArrayShape (shape_of p).cpus c.in_ok-shape.shape.now) c.self.view_is
+          (subst (IsArrayShape c.self.inside.shape.cpus) (sym item) sized.1),
     )
