@@ -51,7 +51,8 @@ test: ## The whole gate: the layout of the sources, every proof, every must-fail
 manual: ## Look for mistakes in the manual page with mandoc, where that is installed
 	@if command -v mandoc >/dev/null; then mandoc -T lint ebpf.1; else echo "mandoc isn't installed: ebpf.1 isn't looked at"; fi
 
-format: ## Lay out the sources of all crates as rt fmt does, which the gate asks for
+format: ## Break long lines of proofs, and lay out the sources of all crates as rt fmt does, which the gate asks for
+	tools/wrap
 	for crate in crates/*/; do (cd "$$crate" && rt fmt) || exit 1; done
 
 check: ## The quick check while one writes: what changed is proved again
