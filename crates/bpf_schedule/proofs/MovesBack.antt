@@ -1,5 +1,5 @@
 -- What is printed of a schedule of moves is read back.
-use Rattle.std.proofs.Common.{◌≡◌, ℕ, zero, suc, ◌+◌, ◌-◌, ◌^◌, ◌<◌, ◌≤◌, Bool, true, false, ◌==◌, not, List, [], ◌∷◌, ◌++◌, length, map}
+use Rattle.std.proofs.Common.{◌≡◌, ℕ, zero, suc, ◌+◌, ◌-◌, ◌^◌, ◌<◌, ◌≤◌, Bool, true, false, not, List, [], ◌∷◌, ◌++◌, length, map}
 use Rattle.std.proofs.Common.{Option, Some, refl, sym, ap, subst, ◌∙◌, arith, rules, tests}
 use Rattle.std.specs.Prelude.{All, codes, filter, nat_lt, slice_index_or, option_map, option_and_then, if◌then◌else◌}
 use Rattle.std.specs.Fmt.{decimal}
@@ -8,10 +8,10 @@ use Rattle.std.proofs.lemmas.Bool.{ltb-true, ltb-false}
 use Rattle.std.proofs.lemmas.List.{append_assoc, append-nil, length-append}
 use Rattle.std.proofs.lemmas.List.Splits.{slice_split_at, slice_split_none, slice_split-cons_yes}
 use Rattle.bpf_lines.specs.Lines.{fields_of, is_blank, is_field}
-use Rattle.bpf_schedule.specs.Spelling.{is_star, number_below}
+use Rattle.bpf_schedule.specs.Spelling.{is_star, number_below, count_in}
 use Rattle.bpf_schedule.specs.Moves.{IsMoves, MovesAreReadBack, SpellMoves, is_mark, marked, mover_in, mover_text, moves_in, moves_text, all_moves_text}
-use Rattle.bpf_schedule.proofs.ReadBack.{IsDigit, AreDigits, decimal_digits, not_nat, below, IsWordByte, AreWordBytes, digits_in_word}
-use Rattle.bpf_schedule.proofs.ReadBack.{not_blank, HasNoMark, unmarked, uncut}
+use Rattle.bpf_schedule.proofs.ReadBack.{AreDigits, decimal_digits, not_nat, below, AreWordBytes, digits_in_word}
+use Rattle.bpf_schedule.proofs.ReadBack.{not_blank, HasNoMark, unmarked, uncut, counted}
 
 -- ---- bytes of which a test finds none
 abbrev HasNone : (ℕ → Bool) → List ℕ → Type 0
@@ -110,11 +110,10 @@ word run = mover_text run.0 ++ 42 ∷ decimal run.1
 
 word_read : (text : List ℕ) (m n : ℕ) → HasNone is_star text → mover_in text ≡ Some m → n < 2 ^ 64 → moves_in (text ++ 42 ∷ decimal n) ≡ Some (m, n)
 word_read text m n none is small =
-    let behind = after_first is_star (text ++ 42 ∷ decimal n) in
-    ap (λ (xs : List ℕ). option_and_then (λ i. option_map (λ j. (i, j)) (number_below (2 ^ 64) behind)) (mover_in xs)) (cut_before text (decimal n) none)
-    ∙ ap (λ (o : Option ℕ). option_and_then (λ i. option_map (λ j. (i, j)) (number_below (2 ^ 64) behind)) o) is
-    ∙ ap (λ (xs : List ℕ). option_map (λ j. (m, j)) (number_below (2 ^ 64) xs)) (cut_behind text (decimal n) none)
-    ∙ ap (λ (o : Option ℕ). option_map (λ j. (m, j)) o) (below (2 ^ 64) n (omega arith) small)
+    let count = count_in (text ++ 42 ∷ decimal n) in
+    ap (λ (xs : List ℕ). option_and_then (λ i. option_map (λ j. (i, j)) count) (mover_in xs)) (cut_before text (decimal n) none)
+    ∙ ap (λ (o : Option ℕ). option_and_then (λ i. option_map (λ j. (i, j)) count) o) is
+    ∙ ap (λ (o : Option ℕ). option_map (λ j. (m, j)) o) (counted text n (cut_before text (decimal n) none) (cut_behind text (decimal n) none) small)
 
 run_read : (run : ℕ × ℕ) → IsMoves run → moves_in (word run) ≡ Some run
 run_read run is = word_read (mover_text run.0) run.0 run.1 (mover_stars run.0 is.0) (mover_read run.0 is.0) is.1

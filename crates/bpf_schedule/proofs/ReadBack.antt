@@ -6,12 +6,13 @@ use Rattle.std.specs.Fmt.{decimal}
 use Rattle.std.specs.List.{before_first, after_first, list_all, prefix_len, slice_split, starts_with}
 use Rattle.std.specs.Str.Parse.{AllDigits}
 use Rattle.std.proofs.lemmas.Fmt.{decimal_by_steps, decimal_is_IsNumeral}
+use Rattle.std.proofs.lemmas.Bool.{lt-ltb}
 use Rattle.std.proofs.lemmas.List.{append_assoc, append-nil, length-append}
 use Rattle.std.proofs.lemmas.List.Sums.{take_while-cons}
 use Rattle.std.proofs.lemmas.List.Splits.{slice_split_at, slice_split_none, slice_split-cons_yes}
 use Rattle.bpf_lines.specs.Lines.{fields_of, is_blank, is_field, uncommented}
 use Rattle.bpf_lines.specs.Words.{is_digit_of, written_number}
-use Rattle.bpf_schedule.specs.Spelling.{IsRun, PrintedIsReadBack, SpellRuns, is_star, number_below, run_in, run_text, runs_text}
+use Rattle.bpf_schedule.specs.Spelling.{IsRun, PrintedIsReadBack, SpellRuns, count_in, is_star, number_below, run_in, run_text, runs_text}
 
 -- ---- digits
 abbrev pub IsDigit : ℕ → Type 0
@@ -82,15 +83,20 @@ below limit n few small =
     let is : nat_lt n limit ≡ true = search (rules, tests) in
     rw (written_decimal n (omega arith), is) refl
 
+-- what follows a star is how often
+pub counted : (ds : List ℕ) (n : ℕ) → before_first is_star (ds ++ 42 ∷ decimal n) ≡ ds → after_first is_star (ds ++ 42 ∷ decimal n) ≡ decimal n →
+    n < 2 ^ 64 → count_in (ds ++ 42 ∷ decimal n) ≡ Some n
+counted ds n before after small =
+    let size = length-append ds (42 ∷ decimal n) in
+    let less : nat_lt (length ds) (length (ds ++ 42 ∷ decimal n)) ≡ true = lt-ltb (length ds) (length (ds ++ 42 ∷ decimal n)) (omega (arith, size)) in
+    rw (before, less, after) (below (2 ^ 64) n (omega arith) small)
+
 run_read : (run : ℕ × ℕ) → IsRun run → run_in (word run) ≡ Some run
 run_read run is =
     let digits = decimal_digits run.0 (omega (arith, is.0)) in
-    rw (
-      cut_before (decimal run.0) (decimal run.1) digits,
-      cut_behind (decimal run.0) (decimal run.1) digits,
-      below (2 ^ 8) run.0 (omega arith) is.0,
-      below (2 ^ 64) run.1 (omega arith) is.1,
-    ) refl
+    let before = cut_before (decimal run.0) (decimal run.1) digits in
+    let often = counted (decimal run.0) run.1 before (cut_behind (decimal run.0) (decimal run.1) digits) is.1 in
+    rw (often, before, below (2 ^ 8) run.0 (omega arith) is.0) refl
 
 -- ---- the text, from its front
 abbrev spelled : List (ℕ × ℕ) → List ℕ

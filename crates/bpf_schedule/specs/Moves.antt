@@ -3,9 +3,9 @@
 use Rattle.std.specs.Prelude.{◌≡◌, ℕ, zero, suc, ◌+◌, ◌-◌, ◌^◌, ◌<◌, ◌==◌, ◌++◌, Bool, nat_lt, if◌then◌else◌, List, [], All, Any, Option}
 use Rattle.std.specs.Prelude.{Some, None, option_map, option_and_then, codes, length, map, slice_index_or}
 use Rattle.std.specs.Fmt.{decimal}
-use Rattle.std.specs.List.{before_first, after_first}
+use Rattle.std.specs.List.{before_first}
 use Rattle.bpf_lines.specs.Lines.{fields_of}
-use Rattle.bpf_schedule.specs.Spelling.{is_star, number_below}
+use Rattle.bpf_schedule.specs.Spelling.{is_star, number_below, count_in}
 
 -- a CPU's turn, or the flush of its buffer
 abbrev pub mover_text : ℕ → List ℕ
@@ -35,11 +35,10 @@ mover_in word =
     option_and_then (λ c. marked c (length word - length (before_first is_mark word)))
     (number_below 128 (before_first is_mark word))
 
--- THE MOVES THAT A WORD SPELLS, if it does: which, the first `*`, and how often
+-- THE MOVES THAT A WORD SPELLS, if it does: which, and how often
 abbrev pub moves_in : List ℕ → Option (ℕ × ℕ)
 moves_in word =
-    option_and_then (λ m. option_map (λ n. (m, n)) (number_below (2 ^ 64) (after_first is_star word)))
-    (mover_in (before_first is_star word))
+    option_and_then (λ m. option_map (λ n. (m, n)) (count_in word)) (mover_in (before_first is_star word))
 
 -- each word spells the moves of its place
 abbrev pub SpellMoves : List (List ℕ) → List (ℕ × ℕ) → Type 0

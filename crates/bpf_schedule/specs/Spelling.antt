@@ -26,10 +26,16 @@ number_below limit word =
 abbrev pub is_star : ℕ → Bool
 is_star b = b == 42
 
--- THE RUN THAT A WORD SPELLS, if it does: a CPU's number, the first `*`, and how many turns
+-- how often: what follows the first `*`, or once where there is none
+abbrev pub count_in : List ℕ → Option ℕ
+count_in word =
+    if nat_lt (length (before_first is_star word)) (length word)
+    then number_below (2 ^ 64) (after_first is_star word)
+    else Some 1
+
+-- THE RUN THAT A WORD SPELLS, if it does: a CPU's number, and how many turns
 abbrev pub run_in : List ℕ → Option (ℕ × ℕ)
-run_in word =
-    option_and_then (λ c. option_map (λ n. (c, n)) (number_below (2 ^ 64) (after_first is_star word)))
+run_in word = option_and_then (λ c. option_map (λ n. (c, n)) (count_in word))
     (number_below (2 ^ 8) (before_first is_star word))
 
 -- each word spells the run of its place

@@ -7,7 +7,7 @@ ghost use Rattle.bpf_lines.specs.Lines.{fields_of};
 ghost use Rattle.bpf_schedule.specs.Spelling.{number_below};
 ghost use Rattle.bpf_schedule.specs.Moves.{moves_text, all_moves_text, is_mark, mover_in, moves_in, MovesAreReadBack, SpellMoves, SpellNoMoves};
 
-use crate::reading::{before_star, behind_star, turns_in};
+use crate::reading::{before_star, count_in};
 use bpf_lines::{lines, words};
 use std::alloc::{AllocError, Global};
 
@@ -77,13 +77,13 @@ fn mover_in(word: &[u8]) -> Option<u8>
     }
 }
 
-/// The moves that a word spells, as `0*9` or `0!*2`: a turn or a flush, and how many; `None` where it
-/// spells none.
+/// The moves that a word spells, as `0*9` or `0!*2`, or `0!` for one flush: a turn or a flush, and how
+/// many; `None` where it spells none.
 pub fn moves_in_word(word: &[u8]) -> Option<(u8, u64)>
     ensures { result ≡ moves_in word.now }
 {
     let made = mover_in(before_star(word))?;
-    let count = turns_in(behind_star(word))?;
+    let count = count_in(word)?;
     Some((made, count))
 }
 
@@ -104,7 +104,7 @@ pub fn moves_of(alloc: Global, words: &[&[u8]]) -> Result<Option<Vec<(u8, u64)>>
     Ok(Some(moves))
 }
 
-/// The schedule that a text spells, as `0*9 0!*1 1*10`; `None` where it spells none.
+/// The schedule that a text spells, as `0*9 0! 1*10`; `None` where it spells none.
 pub fn moves_in(alloc: Global, text: &[u8]) -> Result<Option<Vec<(u8, u64)>>, AllocError>
     ensures spelled { IfOk result (λ found. IfSome found
         (λ moves. SpellMoves (fields_of text.now) moves.items)) }

@@ -3,7 +3,7 @@
 ghost use Rattle.std.specs.Prelude.{◌≡◌, ◌^◌, ◌≤◌, IfOk, IfSome, IfNone, length, map};
 ghost use Rattle.std.specs.List.{before_first, after_first};
 ghost use Rattle.bpf_lines.specs.Lines.{fields_of};
-ghost use Rattle.bpf_schedule.specs.Spelling.{is_star, number_below, run_in, PrintedIsReadBack, SpellRuns, SpellNone};
+ghost use Rattle.bpf_schedule.specs.Spelling.{count_in, is_star, number_below, run_in, PrintedIsReadBack, SpellRuns, SpellNone};
 
 use bpf_lines::{lines, words};
 use std::alloc::{AllocError, Global};
@@ -19,7 +19,7 @@ fn cpu_in(word: &[u8]) -> Option<u8>
 }
 
 /// The number of turns that a word is.
-pub(crate) fn turns_in(word: &[u8]) -> Option<u64>
+fn turns_in(word: &[u8]) -> Option<u64>
     ensures { result ≡ number_below (2 ^ 64) word.now }
 {
     words::number(word).ok()
@@ -41,7 +41,7 @@ pub(crate) fn before_star<'a>(word: &'a [u8]) -> &'a [u8]
 }
 
 /// What follows a word's first star.
-pub(crate) fn behind_star<'a>(word: &'a [u8]) -> &'a [u8]
+fn after_star<'a>(word: &'a [u8]) -> &'a [u8]
     ensures { result.now ≡ after_first is_star word.now }
 {
     let star = star_in(word);
@@ -52,13 +52,24 @@ pub(crate) fn behind_star<'a>(word: &'a [u8]) -> &'a [u8]
     }
 }
 
-/// The run that a word spells, as `0*9`: a CPU and how many turns it makes; `None` where it spells
-/// none.
+/// How often a word says: after its first star, or once where it has none.
+pub(crate) fn count_in(word: &[u8]) -> Option<u64>
+    ensures { result ≡ count_in word.now }
+{
+    if star_in(word) < word.len() {
+        turns_in(after_star(word))
+    } else {
+        Some(1)
+    }
+}
+
+/// The run that a word spells, as `0*9`, or `0` for one turn: a CPU and how many turns it makes;
+/// `None` where it spells none.
 pub fn run_in(word: &[u8]) -> Option<(u8, u64)>
     ensures { result ≡ run_in word.now }
 {
     let cpu = cpu_in(before_star(word))?;
-    let turns = turns_in(behind_star(word))?;
+    let turns = count_in(word)?;
     Some((cpu, turns))
 }
 
@@ -78,7 +89,7 @@ pub fn runs_of(alloc: Global, words: &[&[u8]]) -> Result<Option<Vec<(u8, u64)>>,
     Ok(Some(runs))
 }
 
-/// The schedule that a text spells, as `0*9 1*10 0*2`: its runs in their order, none of an empty
+/// The schedule that a text spells, as `0*9 1 0*2`: its runs in their order, none of an empty
 /// text; `None` where it spells none.
 pub fn runs_in(alloc: Global, text: &[u8]) -> Result<Option<Vec<(u8, u64)>>, AllocError>
     ensures spelled { IfOk result (λ found. IfSome found
