@@ -99,8 +99,8 @@ or a word of run files (spare, packet, xdp, tc)
 For more information, try 'ebpf explain --help'.";
 
 const NO_SCHEDULE: &str = "\
-no schedule: it has words C*N, a CPU and how many turns it makes, as in '0*9 1*10 0*2',
-and beside '--x86' also words C!*N, flushes of its store buffer
+no schedule: its words are C, one turn of CPU C, and C*N, N turns of it, as in '0*9 1 0*2',
+and beside '--x86' also C! and C!*N, flushes of its store buffer
 
 For more information, try 'ebpf run --help'.";
 
