@@ -18,5 +18,6 @@ pub mod Oldest
 pub mod First
 pub mod Copying
 pub mod Keeping
+pub mod Pooling
 pub mod Ends
 pub mod AlbumLaws

@@ -13,7 +13,6 @@ use bpf_loader::Program;
 use bpf_machine::{KeptStage, Turn};
 use bpf_plain::PlainStore;
 use bpf_shared::Shared;
-pub(crate) use keeping::Kept;
 use std::alloc::{AllocError, Global};
 use std::marker::Model;
 

@@ -3,8 +3,11 @@
 
 mod album;
 mod buffering;
+mod index;
 mod jobs;
 pub mod laws;
+mod pools;
+mod states;
 mod waiting;
 
 pub use album::Album;
