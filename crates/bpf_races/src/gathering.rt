@@ -59,27 +59,36 @@ fn with_way(alloc: Global, race: &Race, by: Vec<(u8, u64)>) -> Result<Race, Allo
     })
 }
 
+/// A kept machine by its number, one of its races, and the bytes that are left out.
+#[derive(Clone, Copy)]
+struct Sighting<'a> {
+    place: usize,
+    found: &'a Race,
+    sync: &'a [Part],
+}
+
 /// Lists a race of a kept machine, unless such a one is listed. Whether one is then.
 fn add_found<S: Searched>(
     alloc: Global,
     search: &mut S,
     watcher: &mut Watcher,
-    sync: &[Part],
-    place: usize,
-    found: &Race,
+    seen: Sighting,
     races: &mut Vec<Race>,
 ) -> Result<bool, AllocError>
-    requires place { place < length (S.kept search.old) }
-    requires order { found.now.pair.one.cpu < found.now.pair.other.cpu }
-    requires here { IsRaceAt (S.kept search.old) sync.now place found.now }
-    requires gathered { Gathered (S.kept search.old) sync.now races.old.items }
+    requires place { seen.entry.place < length (S.kept search.old) }
+    requires order { seen.entry.found.now.pair.one.cpu < seen.entry.found.now.pair.other.cpu }
+    requires here { IsRaceAt (S.kept search.old) seen.entry.sync.now seen.entry.place
+        seen.entry.found.now }
+    requires gathered { Gathered (S.kept search.old) seen.entry.sync.now races.old.items }
     ensures same { S.kept search.new ≡ S.kept search.old }
-    ensures gathered { OnOk result (Gathered (S.kept search.old) sync.now races.new.items) }
+    ensures gathered { OnOk result
+        (Gathered (S.kept search.old) seen.entry.sync.now races.new.items) }
     ensures keeps { OnOk result (Keeps races.old.items races.new.items) }
     ensures listed { IfOk result (λ listed. listed ≡ true
-        → IsListed races.new.items (spot_of found.now)) }
+        → IsListed races.new.items (spot_of seen.entry.found.now)) }
     ensures exact { S.patient ≡ false → IfOk result (λ listed. listed ≡ true) }
 {
+    let Sighting { place, found, sync } = seen;
     if is_listed(races, found) {
         return Ok(true);
     }
@@ -99,30 +108,44 @@ pub(crate) fn both(first: bool, second: bool) -> bool
     first && second
 }
 
+/// A kept machine by its number, its races, and the bytes that are left out.
+#[derive(Clone, Copy)]
+struct Sightings<'a> {
+    place: usize,
+    found: &'a [Race],
+    sync: &'a [Part],
+}
+
 /// Lists races of a kept machine. Whether all are listed then.
 fn add_all<S: Searched>(
     alloc: Global,
     search: &mut S,
     watcher: &mut Watcher,
-    sync: &[Part],
-    place: usize,
-    found: &[Race],
+    seen: Sightings,
     races: &mut Vec<Race>,
 ) -> Result<bool, AllocError>
-    requires place { place < length (S.kept search.old) }
-    requires order { AreOrdered found.now }
-    requires here { AreRacesAt (S.kept search.old) sync.now place found.now }
-    requires gathered { Gathered (S.kept search.old) sync.now races.old.items }
+    requires place { seen.entry.place < length (S.kept search.old) }
+    requires order { AreOrdered seen.entry.found.now }
+    requires here { AreRacesAt (S.kept search.old) seen.entry.sync.now seen.entry.place
+        seen.entry.found.now }
+    requires gathered { Gathered (S.kept search.old) seen.entry.sync.now races.old.items }
     ensures same { S.kept search.new ≡ S.kept search.old }
-    ensures gathered { OnOk result (Gathered (S.kept search.old) sync.now races.new.items) }
+    ensures gathered { OnOk result
+        (Gathered (S.kept search.old) seen.entry.sync.now races.new.items) }
     ensures keeps { OnOk result (Keeps races.old.items races.new.items) }
     ensures listed { IfOk result (λ listed. listed ≡ true
-        → AreAllListed races.new.items found.now) }
+        → AreAllListed races.new.items seen.entry.found.now) }
     ensures exact { S.patient ≡ false → IfOk result (λ listed. listed ≡ true) }
 {
+    let Sightings { place, found, sync } = seen;
     let mut all = true;
     for k in 0..found.len() {
-        let listed = add_found(alloc, search, watcher, sync, place, &found[k], races)?;
+        let one = Sighting {
+            place,
+            found: &found[k],
+            sync,
+        };
+        let listed = add_found(alloc, search, watcher, one, races)?;
         all = both(all, listed);
     }
     Ok(all)
@@ -148,7 +171,12 @@ fn add_at<S: Searched>(
 {
     search.take(place)?;
     let found = races_in(alloc, watcher, search.current(), sync)?;
-    let listed = add_all(alloc, search, watcher, sync, place, &found, races)?;
+    let seen = Sightings {
+        place,
+        found: &found,
+        sync,
+    };
+    let listed = add_all(alloc, search, watcher, seen, races)?;
     Ok(listed)
 }
 

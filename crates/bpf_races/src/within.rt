@@ -44,32 +44,39 @@ fn race_for(
     Ok(Race { pair, at, key, by })
 }
 
+/// A machine, what its CPUs' next steps touch, and the bytes that are left out.
+#[derive(Clone, Copy)]
+struct Scene<'a> {
+    watcher: &'a Watcher,
+    machine: &'a Machine,
+    sync: &'a [Part],
+    /// By CPU.
+    nexts: &'a [Next],
+}
+
 /// Appends the races of these two for some bytes to the others, each once.
 fn add_bytes(
     alloc: Global,
-    watcher: &Watcher,
-    machine: &Machine,
-    sync: &[Part],
-    nexts: &[Next],
+    scene: Scene,
     first: &Next,
     second: &Next,
     races: &mut Vec<Race>,
 ) -> Result<(), AllocError>
     requires order { first.now.here.cpu < second.now.here.cpu }
-    requires next { IsNextOf machine.now first.now.here.cpu first.now }
-    requires next_too { IsNextOf machine.now second.now.here.cpu second.now }
-    requires before { UpTo machine.now sync.now nexts.now first.now.here.cpu second.now.here.cpu
-        races.old.items }
-    ensures { OnOk result (UpTo machine.now sync.now nexts.now first.now.here.cpu
-        (second.now.here.cpu + 1) races.new.items) }
+    requires next { IsNextOf scene.entry.machine.now first.now.here.cpu first.now }
+    requires next_too { IsNextOf scene.entry.machine.now second.now.here.cpu second.now }
+    requires before { UpTo scene.entry.machine.now scene.entry.sync.now scene.entry.nexts.now
+        first.now.here.cpu second.now.here.cpu races.old.items }
+    ensures { OnOk result (UpTo scene.entry.machine.now scene.entry.sync.now
+        scene.entry.nexts.now first.now.here.cpu (second.now.here.cpu + 1) races.new.items) }
 {
     let pair = Pair {
         one: first.here(),
         other: second.here(),
     };
-    let bytes = bytes_between(alloc, first, second, sync)?;
+    let bytes = bytes_between(alloc, first, second, scene.sync)?;
     for at in &bytes {
-        let race = race_for(alloc, watcher, machine, pair, *at)?;
+        let race = race_for(alloc, scene.watcher, scene.machine, pair, *at)?;
         add_race(races, race)?;
     }
     Ok(())
@@ -78,39 +85,34 @@ fn add_bytes(
 /// Appends the races of a CPU with those of greater numbers to the others.
 fn add_races_of(
     alloc: Global,
-    watcher: &Watcher,
-    machine: &Machine,
-    sync: &[Part],
-    nexts: &[Next],
+    scene: Scene,
     cpu: usize,
     races: &mut Vec<Race>,
 ) -> Result<(), AllocError>
-    requires within { cpu < length nexts.now }
-    requires nexts { AreNexts machine.now nexts.now }
-    requires before { UpTo machine.now sync.now nexts.now cpu 0 races.old.items }
-    ensures { OnOk result (UpTo machine.now sync.now nexts.now (cpu + 1) 0 races.new.items) }
+    requires within { cpu < length scene.entry.nexts.now }
+    requires nexts { AreNexts scene.entry.machine.now scene.entry.nexts.now }
+    requires before { UpTo scene.entry.machine.now scene.entry.sync.now scene.entry.nexts.now
+        cpu 0 races.old.items }
+    ensures { OnOk result (UpTo scene.entry.machine.now scene.entry.sync.now
+        scene.entry.nexts.now (cpu + 1) 0 races.new.items) }
 {
+    let nexts = scene.nexts;
     for other in cpu + 1..nexts.len() {
         let (first, second) = (&nexts[cpu], &nexts[other]);
-        add_bytes(alloc, watcher, machine, sync, nexts, first, second, races)?;
+        add_bytes(alloc, scene, first, second, races)?;
     }
     Ok(())
 }
 
-/// The races of a machine, whose CPUs' next steps are these.
-fn races_of(
-    alloc: Global,
-    watcher: &Watcher,
-    machine: &Machine,
-    sync: &[Part],
-    nexts: &[Next],
-) -> Result<Vec<Race>, AllocError>
-    requires { AreNexts machine.now nexts.now }
-    ensures { IfOk result (λ races. AreRacesIn machine.now sync.now races.items) }
+/// The races of a machine.
+fn races_of(alloc: Global, scene: Scene) -> Result<Vec<Race>, AllocError>
+    requires { AreNexts scene.entry.machine.now scene.entry.nexts.now }
+    ensures { IfOk result
+        (λ races. AreRacesIn scene.entry.machine.now scene.entry.sync.now races.items) }
 {
     let mut races = Vec::new(alloc);
-    for cpu in 0..nexts.len() {
-        add_races_of(alloc, watcher, machine, sync, nexts, cpu, &mut races)?;
+    for cpu in 0..scene.nexts.len() {
+        add_races_of(alloc, scene, cpu, &mut races)?;
     }
     Ok(races)
 }
@@ -126,5 +128,11 @@ pub fn races_in(
     ensures { IfOk result (λ races. AreRacesIn machine.now sync.now races.items) }
 {
     let nexts = watcher.nexts(machine)?;
-    races_of(alloc, watcher, machine, sync, &nexts)
+    let scene = Scene {
+        watcher,
+        machine,
+        sync,
+        nexts: &nexts,
+    };
+    races_of(alloc, scene)
 }

@@ -232,13 +232,54 @@ fn has_explain(words: &[String]) -> bool {
     options.any(|word| word.as_str() == "--explain")
 }
 
-/// Does what is asked, or prints why nothing can be done. A refused context is to be explained
-/// where that is asked for, too.
+/// Prints why nothing can be done, unless that is shown or explained elsewhere. A refused context is to
+/// be explained where that is asked for, too.
+fn refuse<W: Sink>(alloc: Global, error: CommandError, explain: bool, sink: &mut W) -> Ending
+    requires writable { W.has_failed sink.old ≡ false }
+    ensures refused { IfExit result (λ status stats. (stats ≡ [])
+        × ((r : Refusal) × IsPrintedAs error r
+        × Prints (Reply.Refused r) (W.contents sink.old) (W.contents sink.new)
+        (W.has_failed sink.new) status)) }
+    ensures shown { IfShown result
+        (λ e. (error ≡ CommandError.Shown e) × (sink.new ≡ sink.old)) }
+    ensures text { IfNotText result ⊥ }
+    ensures misused { IfMisused result
+        (λ misuse. (error ≡ error_of misuse) × (sink.new ≡ sink.old)) }
+{
+    let refusal = match error {
+        CommandError::Shown(error) => return Ending::Shown(error),
+        CommandError::NoCode => return Ending::Misused(Misuse::Code),
+        CommandError::NoSchedule => return Ending::Misused(Misuse::Schedule),
+        CommandError::TwoWays => return Ending::Misused(Misuse::TwoWays),
+        CommandError::NoWorkers => return Ending::Misused(Misuse::Workers),
+        CommandError::OneFile => return Ending::Misused(Misuse::OneFile),
+        CommandError::NoRun => return Ending::Misused(Misuse::Run),
+        CommandError::NoRaces => return Ending::Misused(Misuse::Races),
+        CommandError::TurnsAlone => return Ending::Misused(Misuse::TurnsAlone),
+        CommandError::NotHex => Refusal::Hex(HexError::NotHex),
+        CommandError::OutOfMemory => Refusal::OutOfMemory,
+    };
+    let no_context = explain && matches!(refusal, Refusal::Hex(_));
+    let status = answer(alloc, &Reply::Refused(refusal), sink);
+    if no_context {
+        Ending::NoContext(status)
+    } else {
+        Ending::Exit(status)
+    }
+}
+
+/// What words ask for, or why nothing can be done, and whether `--explain` is among them.
+#[derive(Drop)]
+struct Heard {
+    asked: Result<Request, CommandError>,
+    explain: bool,
+}
+
+/// Does what is asked, or prints why nothing can be done.
 fn follow<T: Threads + Wait + Sync + Aside, R: Source, W: Sink, D: Terminal>(
     rt: &T,
     alloc: Global,
-    asked: Result<Request, CommandError>,
-    explain: bool,
+    heard: Heard,
     source: &mut R,
     sink: &mut W,
     terminal: &mut D,
@@ -247,24 +288,24 @@ fn follow<T: Threads + Wait + Sync + Aside, R: Source, W: Sink, D: Terminal>(
     requires writable { W.has_failed sink.old ≡ false }
     requires hears { D.is_unread terminal.old ≡ false }
     requires tells { D.has_failed terminal.old ≡ false }
-    ensures performed { IfExit result (λ status stats. IfOk asked (λ request.
+    ensures performed { IfExit result (λ status stats. IfOk heard.asked (λ request.
         Follows request (source.new ≡ source.old) (terminal.new ≡ terminal.old)
         (Converses (D.passes terminal.old terminal.new) (D.is_unread terminal.new)
         (D.has_failed terminal.new))
         (R.remaining source.old) (R.file source.old)
         (R.has_failed source.new) (W.contents sink.old) (W.contents sink.new)
         (W.has_failed sink.new) status stats)) }
-    ensures refused { IfExit result (λ status stats. IfErr asked (λ e. ((source.new ≡ source.old)
+    ensures refused { IfExit result (λ status stats. IfErr heard.asked (λ e. ((source.new ≡ source.old)
         × (terminal.new ≡ terminal.old)) × (stats ≡ []) × ((r : Refusal) × IsPrintedAs e r
         × Prints (Reply.Refused r) (W.contents sink.old) (W.contents sink.new)
         (W.has_failed sink.new) status))) }
-    ensures shown { IfShown result (λ e. (asked ≡ Err (CommandError.Shown e))
+    ensures shown { IfShown result (λ e. (heard.asked ≡ Err (CommandError.Shown e))
         × (source.new ≡ source.old) × (sink.new ≡ sink.old) × (terminal.new ≡ terminal.old)) }
     ensures text { IfNotText result ⊥ }
-    ensures misused { IfMisused result (λ misuse. (asked ≡ Err (error_of misuse))
+    ensures misused { IfMisused result (λ misuse. (heard.asked ≡ Err (error_of misuse))
         × (source.new ≡ source.old) × (sink.new ≡ sink.old) × (terminal.new ≡ terminal.old)) }
 {
-    let refusal = match asked {
+    match heard.asked {
         Ok(
             Request::Perform {
                 command,
@@ -279,32 +320,15 @@ fn follow<T: Threads + Wait + Sync + Aside, R: Source, W: Sink, D: Terminal>(
                 explain,
                 json,
             };
-            return perform_for(rt, alloc, wish, source, sink, terminal);
+            perform_for(rt, alloc, wish, source, sink, terminal)
         }
         Ok(Request::CheckAll { check, files, json }) => {
             let mut teller = Teller::new(rt, check.search.progress);
             let reply = check_files::<AllRaces, _, _>(alloc, &check, &files, source, &mut teller);
-            return Ending::Exit(answer_as(json, alloc, &reply, sink));
+            Ending::Exit(answer_as(json, alloc, &reply, sink))
         }
-        Ok(Request::Page(topic)) => return Ending::Exit(print_page(alloc, topic, sink)),
-        Err(CommandError::Shown(error)) => return Ending::Shown(error),
-        Err(CommandError::NoCode) => return Ending::Misused(Misuse::Code),
-        Err(CommandError::NoSchedule) => return Ending::Misused(Misuse::Schedule),
-        Err(CommandError::TwoWays) => return Ending::Misused(Misuse::TwoWays),
-        Err(CommandError::NoWorkers) => return Ending::Misused(Misuse::Workers),
-        Err(CommandError::OneFile) => return Ending::Misused(Misuse::OneFile),
-        Err(CommandError::NoRun) => return Ending::Misused(Misuse::Run),
-        Err(CommandError::NoRaces) => return Ending::Misused(Misuse::Races),
-        Err(CommandError::TurnsAlone) => return Ending::Misused(Misuse::TurnsAlone),
-        Err(CommandError::NotHex) => Refusal::Hex(HexError::NotHex),
-        Err(CommandError::OutOfMemory) => Refusal::OutOfMemory,
-    };
-    let no_context = explain && matches!(refusal, Refusal::Hex(_));
-    let status = answer(alloc, &Reply::Refused(refusal), sink);
-    if no_context {
-        Ending::NoContext(status)
-    } else {
-        Ending::Exit(status)
+        Ok(Request::Page(topic)) => Ending::Exit(print_page(alloc, topic, sink)),
+        Err(error) => refuse(alloc, error, heard.explain, sink),
     }
 }
 
@@ -352,7 +376,7 @@ pub fn program<T: Threads + Wait + Sync + Aside, R: Source, W: Sink, D: Terminal
         Ok(words) => {
             let asked = request_of(alloc, &words);
             let explain = has_explain(&words);
-            follow(rt, alloc, asked, explain, source, sink, terminal)
+            follow(rt, alloc, Heard { asked, explain }, source, sink, terminal)
         }
         Err(error) if error.kind() == ErrorKind::OutOfMemory => {
             Ending::Exit(answer(alloc, &Reply::Refused(Refusal::OutOfMemory), sink))

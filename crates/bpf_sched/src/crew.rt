@@ -95,36 +95,60 @@ pub struct Report {
     pub closed: Closed,
 }
 
+/// What is to be run.
+#[derive(Clone, Copy)]
+pub struct Plan<'a> {
+    pub programs: &'a [Program],
+    /// Each by the number of its program.
+    pub jobs: &'a [Job],
+    /// How many run CPUs' jobs side by side, at most.
+    pub workers: usize,
+    /// Whether each CPU with jobs lists all maps' keys after them.
+    pub keys: bool,
+}
+
+/// A store's words, and the ports of its CPUs.
+#[derive(Drop)]
+pub struct Opened {
+    pub table: HopTable,
+    pub ports: Vec<HopPort>,
+}
+
 /// Runs all jobs over the ports of a store, whose CPUs have all seen its history so far, each CPU's in
-/// their order, by n workers at most; and where lists are asked for, each CPU with jobs lists all maps'
-/// keys after them. It takes no memory.
+/// their order; and where lists are asked for, each CPU with jobs lists all maps' keys after them. It
+/// takes no memory.
 pub fn run_ports<R: Threads + Wait + Sync, G: Gate + Sync>(
     rt: &R,
-    table: HopTable,
-    ports: Vec<HopPort>,
+    opened: Opened,
     room: Room,
-    programs: &[Program],
-    jobs: &[Job],
-    workers: usize,
+    plan: Plan,
     gate: &G,
 ) -> Report
-    requires ports { HaveSeen table (seen_by ports.items) ports.items }
-    requires workers { 0 < workers }
-    requires programs { All (λ job. job.program < length programs.now) jobs.now }
-    requires cpus { All (λ job. job.cpu < table.about.shape.cpus) jobs.now }
-    requires assigned { AreFor room.keys table.about.shape.maps (map waiting jobs.now)
-        table.about.shape.cpus room.workers.items }
+    requires ports { HaveSeen opened.table (seen_by opened.ports.items) opened.ports.items }
+    requires workers { 0 < plan.entry.workers }
+    requires programs { All (λ job. job.program < length plan.entry.programs.now)
+        plan.entry.jobs.now }
+    requires cpus { All (λ job. job.cpu < opened.table.about.shape.cpus) plan.entry.jobs.now }
+    requires assigned { AreFor room.keys opened.table.about.shape.maps
+        (map waiting plan.entry.jobs.now) opened.table.about.shape.cpus room.workers.items }
     requires empty { (room.ports.items ≡ []) × (room.lists.items ≡ []) }
-    requires room { (table.about.shape.cpus ≤ vec_capacity room.ports)
-        × (table.about.shape.cpus ≤ vec_capacity room.lists) }
-    requires ends { vec_len room.ends ≡ length jobs.now }
-    ensures about { result.closed.about ≡ table.about }
-    ensures explained { IsExplained table.about.shape table.about.count (seen_by ports.items)
-        programs.now (map waiting jobs.now) room.keys result.outcomes.items
-        (listed_by result.lists.items) result.closed.history }
+    requires room { (opened.table.about.shape.cpus ≤ vec_capacity room.ports)
+        × (opened.table.about.shape.cpus ≤ vec_capacity room.lists) }
+    requires ends { vec_len room.ends ≡ length plan.entry.jobs.now }
+    ensures about { result.closed.about ≡ opened.table.about }
+    ensures explained { IsExplained opened.table.about.shape opened.table.about.count
+        (seen_by opened.ports.items) plan.entry.programs.now (map waiting plan.entry.jobs.now)
+        room.keys result.outcomes.items (listed_by result.lists.items) result.closed.history }
     ensures last { (last : Plain) × IsLast result.closed last
         × LeadsTo result.closed.about.shape result.closed.about.version result.closed.history last }
 {
+    let Opened { table, ports } = opened;
+    let Plan {
+        programs,
+        jobs,
+        workers,
+        keys: _,
+    } = plan;
     let _few = table.about().shape.cpus();
     let _maps = table.about().shape.maps();
     let Room {

@@ -15,13 +15,11 @@ ghost use Rattle.bpf_sched.specs.Explained.{IsExplained, LeadsTo};
 ghost use Rattle.bpf_sched.specs.Refusing.{AreHere, AreWorkers, IsFirstSchedError};
 ghost use Rattle.bpf_sched.specs.Worked.{listed_by};
 
-use crate::crew::{Report, run_ports};
+use crate::crew::{Opened, Plan, Report, run_ports};
 use crate::gate::Gate;
 use crate::jobs::check;
 use crate::refusal::SchedError;
 use crate::room::Room;
-use bpf_cpu::Job;
-use bpf_loader::Program;
 use bpf_pairs::{Pair, put_pairs};
 use hop_cpu::HopCpu;
 use hop_map::{HopPort, HopStore, settle};
@@ -84,43 +82,51 @@ pub(crate) fn fill<R: Wait>(
     settle(alloc, table, filled)
 }
 
+/// A store that no CPU has called yet, and the pairs that its maps are to have before any job.
+#[derive(Drop)]
+pub struct Stock<'a> {
+    pub store: HopStore,
+    pub pairs: &'a [Pair],
+}
+
 /// Runs jobs as `run_jobs` does, over a store whose maps have pairs before any job: CPU 0 puts them in,
 /// and no CPU calls the store before that. Where it is refused no job is begun, and the store is gone.
 pub fn run_filled<R: Threads + Wait + Sync, G: Gate + Sync>(
     rt: &R,
     alloc: Global,
-    store: HopStore,
-    pairs: &[Pair],
-    programs: &[Program],
-    jobs: &[Job],
-    workers: usize,
-    keys: bool,
+    stock: Stock,
+    plan: Plan,
     gate: &G,
 ) -> Result<Report, SchedError>
-    requires pairs { ArePairs store.table.about.shape.maps (map pair_of pairs.now) }
-    requires programs { All (λ job. job.program < length programs.now) jobs.now }
-    requires inputs { All (λ job. IsShort job.input) jobs.now }
-    ensures workers { OnOk result (AreWorkers workers) }
-    ensures cpus { OnOk result (AreHere store.table.about.shape.cpus jobs.now) }
-    ensures about { IfOk result (λ r. r.closed.about ≡ store.table.about) }
-    ensures explained { IfOk result
-        (λ r. IsExplained store.table.about.shape store.table.about.count
-        (first_history (map pair_of pairs.now)) programs.now (map waiting jobs.now) keys
+    requires pairs { ArePairs stock.entry.store.table.about.shape.maps
+        (map pair_of stock.entry.pairs.now) }
+    requires programs { All (λ job. job.program < length plan.entry.programs.now)
+        plan.entry.jobs.now }
+    requires inputs { All (λ job. IsShort job.input) plan.entry.jobs.now }
+    ensures workers { OnOk result (AreWorkers plan.entry.workers) }
+    ensures cpus { OnOk result
+        (AreHere stock.entry.store.table.about.shape.cpus plan.entry.jobs.now) }
+    ensures about { IfOk result (λ r. r.closed.about ≡ stock.entry.store.table.about) }
+    ensures explained { IfOk result (λ r. IsExplained stock.entry.store.table.about.shape
+        stock.entry.store.table.about.count (first_history (map pair_of stock.entry.pairs.now))
+        plan.entry.programs.now (map waiting plan.entry.jobs.now) plan.entry.keys
         r.outcomes.items (listed_by r.lists.items) r.closed.history) }
     ensures last { IfOk result (λ r. (last : Plain) × IsLast r.closed last
         × LeadsTo r.closed.about.shape r.closed.about.version r.closed.history last) }
-    ensures refused { IfErr result
-        (IsFirstSchedError store.table.about.shape.cpus workers jobs.now) }
+    ensures refused { IfErr result (IsFirstSchedError stock.entry.store.table.about.shape.cpus
+        plan.entry.workers plan.entry.jobs.now) }
 {
+    let Stock { store, pairs } = stock;
     let shape = &store.about().shape;
     let cpus = shape.cpus();
-    check(cpus, workers, jobs)?;
-    let Ok(room) = Room::new(alloc, cpus, shape.maps(), jobs, keys) else {
+    check(cpus, plan.workers, plan.jobs)?;
+    let Ok(room) = Room::new(alloc, cpus, shape.maps(), plan.jobs, plan.keys) else {
         return Err(SchedError::OutOfMemory);
     };
     let (table, ports) = store.ports();
     let Ok(ports) = fill(rt, alloc, &table, ports, pairs) else {
         return Err(SchedError::OutOfMemory);
     };
-    Ok(run_ports(rt, table, ports, room, programs, jobs, workers, gate))
+    let opened = Opened { table, ports };
+    Ok(run_ports(rt, opened, room, plan, gate))
 }

@@ -14,8 +14,8 @@ pub mod worker;
 pub mod workload;
 
 pub use assignment::Assignment;
-pub use crew::{Report, run_ports};
-pub use filling::run_filled;
+pub use crew::{Opened, Plan, Report, run_ports};
+pub use filling::{Stock, run_filled};
 pub use gate::{Gate, Gated, NoGate};
 pub use jobs::run_jobs;
 pub use refusal::{Refused, SchedError};

@@ -8,7 +8,7 @@ mod texts;
 
 use bpf_cpu::{Fault, Input, Job, Outcome};
 use bpf_loader::{Named, Program, load};
-use bpf_sched::{Gate, NoGate, Refused, Report, SchedError, run_jobs};
+use bpf_sched::{Gate, NoGate, Plan, Refused, Report, SchedError, run_jobs};
 use bpf_shared::{MapShape, StoreShape};
 use bpf_text::assemble;
 use hop_map::{Closed, HopStore};
@@ -79,7 +79,13 @@ fn run<R: Threads + Wait + Sync, G: Gate + Sync>(
     gate: &G,
 ) -> Result<Result<Report, Refused>, Fail> {
     let jobs = jobs(alloc, list, programs.len())?;
-    Ok(run_jobs(rt, alloc, store, programs, &jobs, workers, false, gate))
+    let plan = Plan {
+        programs,
+        jobs: &jobs,
+        workers,
+        keys: false,
+    };
+    Ok(run_jobs(rt, alloc, store, plan, gate))
 }
 
 // The report, where there is one.

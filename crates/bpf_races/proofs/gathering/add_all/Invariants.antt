@@ -5,4 +5,4 @@ use Rattle.bpf_races.proofs.gathering.add_all.Given as goal
 abbrev pub invariant-loop-k : goal.invariant-loop-k
 invariant-loop-k g l =
     let kept = g.S.Searched.kept in
-    FoundSoFar (g.S.Searched.patient ≡ false) (kept l.fn.search) l.sync l.found l.fn.races.items l.k (kept l.search) l.races.items l.all
+    FoundSoFar (g.S.Searched.patient ≡ false) (kept l.fn.search) l.seen.sync.now l.seen.found.now l.fn.races.items l.k (kept l.search) l.races.items l.all

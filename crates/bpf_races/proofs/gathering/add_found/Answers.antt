@@ -7,17 +7,17 @@ use Rattle.bpf_races.proofs.gathering.add_found.Goals as goal
 pub is_there-requires : goal.is_there-requires
 is_there-requires g c = record {
   kept = λ exact.
-      kept_there (g.S.Searched.kept c.args.search.now) c.args.sync.now c.args.place (g.S.Searched.working c.witness.new.self)
-      c.args.found.now c.requires.here (c.in_ok-by.ensures.there exact);
+      kept_there (g.S.Searched.kept c.args.search.now) c.args.seen.sync.now c.args.seen.place (g.S.Searched.working c.witness.new.self)
+      c.args.seen.found.now c.requires.here (c.in_ok-by.ensures.there exact);
 }
 
 pub returns-clause-gathered : goal.returns-clause-gathered
 returns-clause-gathered g c =
     let kept = g.S.Searched.kept c.args.search.now in
     let m = g.S.Searched.working c.witness.new.self in
-    let sync = c.args.sync.now in
+    let sync = c.args.seen.sync.now in
     let old = c.args.races.now.items in
-    let found = c.args.found.now in
+    let found = c.args.seen.found.now in
     let race = c.in_ok-with_way.field-0 in
     let by = c.in_ok-by.by.items in
     let yes : c.in_ok-is_there.field-0 ≡ true = search rules in
@@ -32,5 +32,5 @@ returns-clause-keeps g c = keeps_pushed c.args.races.now.items c.push.new.self.i
 pub returns-clause-listed : goal.returns-clause-listed
 returns-clause-listed g c is =
     let race = c.in_ok-with_way.field-0 in
-    subst (λ (s : Spot). IsListed c.push.new.self.items s) (spots_with c.args.found.now race c.in_ok-by.by.items c.in_ok-with_way.ensures)
+    subst (λ (s : Spot). IsListed c.push.new.self.items s) (spots_with c.args.seen.found.now race c.in_ok-by.by.items c.in_ok-with_way.ensures)
     (listed_pushed c.args.races.now.items c.push.new.self.items race c.in_ok-push.ensures.items)
