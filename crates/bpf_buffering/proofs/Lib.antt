@@ -10,6 +10,7 @@ pub mod Advancing
 pub mod Moving
 pub mod Standing
 pub mod Waits
+pub mod Seeing
 pub mod Placing
 pub mod Proceeding
 pub mod Flushing

@@ -19,7 +19,7 @@ use std::mem;
 
 /// A plain store that waits.
 #[derive(Clone, Copy, PartialEq, Eq, Debug)]
-pub(crate) struct Stored {
+pub struct Stored {
     pub at: u64,
     pub size: Size,
     pub word: u64,

@@ -10,38 +10,12 @@ ghost use Rattle.bpf_buffering.specs.Jobs.{task_of, tasks_of};
 ghost use Rattle.bpf_buffering.specs.Private.Kept.{kept_state, FitsHost};
 
 use super::Buffering;
-use crate::jobs::Listed;
+use crate::jobs::{Listed, copy_job};
 use crate::waiting::Stored;
 use bpf_base::spread;
-use bpf_cpu::{Cpu, Input};
 use bpf_machine::KeptStage;
 use bpf_plain::{PlainStore, copy_shape};
 use std::alloc::{AllocError, Global};
-
-/// A copy of a CPU's state.
-fn copy_cpu(alloc: Global, cpu: &Cpu) -> Result<Cpu, AllocError>
-    ensures { IfOk result (λ copy. copy ≡ cpu.now) }
-{
-    let input = Input {
-        context: cpu.memory.context.copy(alloc)?,
-        packet: cpu.memory.packet.copy(alloc)?,
-        given: cpu.given,
-    };
-    let mut copy = Cpu::new(cpu.number, input);
-    copy.copy_from(cpu);
-    Ok(copy)
-}
-
-/// A copy of how far a job is.
-fn copy_stage(alloc: Global, stage: &KeptStage) -> Result<KeptStage, AllocError>
-    ensures { IfOk result (λ copy. kept_stage copy ≡ kept_stage stage.now) }
-{
-    match stage {
-        KeptStage::Waiting(input) => Ok(KeptStage::Waiting(input.copy(alloc)?)),
-        KeptStage::InHand(cpu, left) => Ok(KeptStage::InHand(copy_cpu(alloc, cpu)?, *left)),
-        KeptStage::Ended(outcome) => Ok(KeptStage::Ended(*outcome)),
-    }
-}
 
 /// Whether two jobs are equally far.
 fn is_same_stage(one: &KeptStage, other: &KeptStage) -> bool
@@ -61,19 +35,6 @@ fn is_same_stage(one: &KeptStage, other: &KeptStage) -> bool
             _ => false,
         },
     }
-}
-
-/// A copy of a job.
-fn copy_job(alloc: Global, job: &Listed) -> Result<Listed, AllocError>
-    ensures { IfOk result (λ copy. task_of copy ≡ task_of job.now) }
-{
-    let stage = copy_stage(alloc, &job.stage)?;
-    Ok(Listed {
-        cpu: job.cpu,
-        program: job.program,
-        budget: job.budget,
-        stage,
-    })
 }
 
 /// Whether two jobs are the same.
