@@ -75,6 +75,7 @@ bench: build ## Time fixed programs beside other interpreters, map calls beside 
 	bench/maps ./ebpf
 	bench/threads crates/hop_bench/out/hop_bench
 	bench/workers ./ebpf
+	bench/processor
 	bench/explore ./ebpf
 	bench/campaign ./ebpf
 	bench/explore-far ./ebpf

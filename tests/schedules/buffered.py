@@ -151,13 +151,6 @@ def litmus_outcomes(cpus):
     return ended
 
 
-def litmus_reports(name):
-    """What may be printed of the run file of this name with `--x86`."""
-    test = name.removesuffix("-of-globals")
-    names = litmus.variables_of(litmus.TESTS[test][1]) if test != name else None
-    return {litmus.report(*outcome, names) for outcome in litmus_outcomes(litmus.TESTS[test][1])}
-
-
 def draw_file(seed):
     """Two CPUs, each of which stores mostly to one of two values that the map has at first, and loads from the other."""
     draw = random.Random(seed)

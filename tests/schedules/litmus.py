@@ -113,6 +113,31 @@ TESTS = {
         "Store buffering whose writes are exchanges: not both read 0.",
         [[(EXCHANGE, "x", 1, "b"), (READ, "y", "a")], [(EXCHANGE, "y", 1, "b"), (READ, "x", "a")]],
     ),
+    "store-buffering-with-own-reads": (
+        "SB+rfis: each CPU also reads what it wrote itself: not both then read 0 of the other's.",
+        [
+            [(WRITE, "x", 1), (READ, "x", "a"), (READ, "y", "b")],
+            [(WRITE, "y", 1), (READ, "y", "a"), (READ, "x", "b")],
+        ],
+    ),
+    "own-read-before-the-other-s-write": (
+        "n6: who reads its own x, and then y 0, wrote x before the other did.",
+        [[(WRITE, "x", 1), (READ, "x", "a"), (READ, "y", "b")], [(WRITE, "y", 2), (WRITE, "x", 2)]],
+    ),
+    "turns-of-two": (
+        "Peterson's entry: not both read that the other doesn't want to, or that it is their turn.",
+        [
+            [(WRITE, "x", 1), (WRITE, "z", 1), (READ, "y", "a"), (READ, "z", "b")],
+            [(WRITE, "y", 1), (WRITE, "z", 2), (READ, "x", "a"), (READ, "z", "b")],
+        ],
+    ),
+    "flags-of-two": (
+        "Dekker's entry: who wants to, and reads that the other doesn't, adds to z: no addition is lost.",
+        [
+            [(WRITE, "x", 1), (READ, "y", "a"), (UNLESS, "a", 0, 2), (READ, "z", "b"), (SUM, "z", "b", 1)],
+            [(WRITE, "y", 1), (READ, "x", "a"), (UNLESS, "a", 0, 2), (READ, "z", "b"), (SUM, "z", "b", 1)],
+        ],
+    ),
     "lock": (
         "Who takes the lock x adds to y by a read and a write: no addition is lost of two that both took it.",
         2 * [[(COMPARE, "x", 0, 1, "a"), (UNLESS, "a", 0, 3), (READ, "y", "b"), (SUM, "y", "b", 1), (WRITE, "x", 0)]],
@@ -298,10 +323,14 @@ def program_over_globals(cpu, names):
 def run_file_over_globals(name):
     """The run file of a test over globals."""
     shown, cpus = TESTS[name]
+    return file_over_globals(cpus, [f"; {shown}", "; Made by tests/schedules/litmus.py."])
+
+
+def file_over_globals(cpus, comments=()):
+    """The run file of CPUs with these operations on globals."""
     names = variables_of(cpus)
     lines = [
-        f"; {shown}",
-        "; Made by tests/schedules/litmus.py.",
+        *comments,
         "ebpf-run 3",
         f"cpus {len(cpus)}",
         f"array globals value {8 * len(names)} max 1",
