@@ -5,7 +5,6 @@
 // meanwhile, and is made with greater and greater limits, so that what is found is seen before its end.
 
 const LIMITS = [1000, 10000, 100000, 1000000]; // of states
-const BUFFERED_LIMITS = [1000, 10000, 30000]; // with store buffers, since such a state takes some 10 KB a CPU
 const MOST_FOUND = 200; // that are listed
 
 const DEADLOCK = 'a deadlock: no order of turns leads from here to an end';
@@ -69,8 +68,6 @@ const search = {
     engine: null, number: 0, is_on: false, is_patient: false, is_of_races: false, is_x86: false, stage: 0, came: null,
 };
 
-const limits_of = ({ is_x86 }) => (is_x86 ? BUFFERED_LIMITS : LIMITS);
-
 // Searches a file's schedules for outcomes, or for races but for those at values of the maps that are left out, and
 // shows what is found so far. Another search, or `stop_search`, ends this one.
 async function search_all(text, { is_patient, is_of_races, is_x86, locks }, show) {
@@ -81,7 +78,7 @@ async function search_all(text, { is_patient, is_of_races, is_x86, locks }, show
     const asked = is_of_races ? ['--races', ...locks.flatMap((name) => ['--sync', name])] : [];
     if (is_patient) asked.push('--patient');
     if (is_x86) asked.push('--x86');
-    for (const limit of limits_of(search)) {
+    for (const limit of LIMITS) {
         show(search);
         const words = ['explore', '--limit', String(limit), ...asked];
         const { stdout } = await search.engine.call(words, text);
@@ -131,7 +128,7 @@ function threads_text({ threads }) {
 
 function every_text(asked) {
     const { came, is_on, is_of_races, stage } = asked;
-    const goes_on = is_on ? `Searching up to ${in_thousands(limits_of(asked)[stage])} states…` : '';
+    const goes_on = is_on ? `Searching up to ${in_thousands(LIMITS[stage])} states…` : '';
     if (!came) return goes_on;
     const what = counts_text(came, is_of_races);
     if (!came.is_all) return is_on ? `So far: ${what}. ${goes_on}` : `Not all: ${what}, and there may be more.`;
@@ -162,7 +159,7 @@ function draw_every(state) {
     const { came, is_on } = state;
     write(at('every-said'), every_text(state));
     at('every-stop').hidden = at('every-bar').hidden = !is_on;
-    Object.assign(at('every-bar'), { max: limits_of(state).length, value: state.stage });
+    Object.assign(at('every-bar'), { max: LIMITS.length, value: state.stage });
     at('explore').disabled = at('find-races').disabled = is_on;
     if (at('found').drawn === came) return;
     at('found').drawn = came;
