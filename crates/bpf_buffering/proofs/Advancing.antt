@@ -1,12 +1,11 @@
 -- A job goes on over a store of which its CPU's stores wait: so it does on the x86 machine, where that CPU is
 -- alone.
-use Rattle.std.proofs.Common.{◌≡◌, ℕ, suc, Bool, true, false, List, [], ◌∷◌, Option, Some, None, inl, inr, ◌==◌, if◌then◌else◌, refl, sym}
+use Rattle.std.proofs.Common.{◌≡◌, ℕ, Bool, true, false, List, [], ◌∷◌, Option, Some, None, inl, inr, if◌then◌else◌, refl, sym}
 use Rattle.std.proofs.Common.{ap, subst, ◌∙◌, eq-eqb}
 use Rattle.std.specs.Prelude.{map}
 use Rattle.bpf_shared.specs.Shape.{Shape}
 use Rattle.bpf_shared.specs.declared.events.Event.{Event}
-use Rattle.bpf_shared.specs.declared.events.Event.TheVariants.{Begin, End}
-use Rattle.bpf_shared.specs.declared.events.Entry.{Entry}
+use Rattle.bpf_shared.specs.declared.events.Event.TheVariants.{End}
 use Rattle.bpf_shared.specs.Store.{Plain}
 use Rattle.bpf_shared.specs.Sound.{IsSoundStore}
 use Rattle.bpf_shared.specs.History.{events_of, entry}
@@ -23,19 +22,13 @@ use Rattle.bpf_x86.specs.Buffers.{Buffered, Calls, CallsAll}
 use Rattle.bpf_x86.specs.Machine.{Advances}
 use Rattle.bpf_buffering.specs.Search.{alone}
 use Rattle.bpf_buffering.specs.Waiting.{WaitingContents, IsSameCpu, PassesWaiting, serves_one, buffer_of}
-use Rattle.bpf_buffering.specs.Going.{AdvancesOver, GoesAlone, GoesOver}
+use Rattle.bpf_buffering.specs.Going.{LeadAlone, AdvancesOver, GoesAlone, GoesOver}
 
 own_entries : (c : ℕ) (es : List Event) → events_of c (map (entry c) es) ≡ es
 own_entries c [] = refl
 own_entries c (e ∷ es) =
     ap (λ (b : Bool). if b then e ∷ events_of c (map (entry c) es) else events_of c (map (entry c) es)) (eq-eqb c c refl) ∙ ap
     (λ (l : List Event). e ∷ l) (own_entries c es)
-
--- what its calls lead to
-abbrev pub LeadAlone : WaitingContents → List Event → WaitingContents → Type 0
-LeadAlone x events y =
-    y.lost ≡ false → (x.lost ≡ false) × ((s : Plain) → IsSoundStore s → StandsFor x.store s → (t : Plain) × IsSoundStore t × StandsFor
-    y.store t × CallsAll (alone s x.cpu (buffer_of x)) x.cpu events (alone t x.cpu (buffer_of y)))
 
 pub chain_alone : (x y : WaitingContents) (c : ℕ) (events : List Event) → c ≡ x.cpu → Chain PassesWaiting serves_one c x y events → LeadAlone x events y
 chain_alone x y c events is chain kept =

@@ -1,92 +1,187 @@
 -- Kept states and the machine to work with.
-use Rattle.std.proofs.Common.{◌≡◌, ℕ, ◌<◌, ◌≤◌, List, [], ◌∷◌, ◌++◌, length, get_or, Option, Some, None, refl, sym, ap, subst, ◌∙◌, arith}
-use Rattle.std.specs.Prelude.{All, map, nat_lt, option_map, slice_get}
+use Rattle.std.proofs.Common.{◌≡◌, ℕ, ◌<◌, ◌≤◌, ◌⊎◌, List, [], ◌∷◌, ◌++◌, length, Option, Some, None, inl, inr, refl, sym, ap, subst, ◌∙◌}
+use Rattle.std.specs.Prelude.{All, IfSome, OnErr, Result, Ok, Err, map, nat_lt, option_map, slice_get}
 use Rattle.std.proofs.lemmas.List.{map_push, length-map}
-use Rattle.std.proofs.lemmas.List.Elements.{All-get_or, All-push, All-weaker}
-use Rattle.std.proofs.lemmas.Option.{slice_get-map, slice_get_read, slice_get_within, get_or_from_slice_get}
-use Rattle.bpf_plain.specs.PlainStore.{has_cpu}
+use Rattle.std.proofs.lemmas.List.Elements.{All-push, All-weaker, All-tail, All-head}
+use Rattle.std.proofs.lemmas.Option.{slice_get-map, slice_get_within, get_or_from_slice_get}
+use Rattle.bpf_plain.specs.PlainStore.{Contents, has_cpu}
+use Rattle.bpf_plain.specs.Alike.{IsSameShape}
 use Rattle.bpf_loader.specs.Loaded.{Loaded}
 use Rattle.bpf_machine.specs.Parts.{IsSameHost}
 use Rattle.bpf_machine.specs.Rounds.{HaveEnded}
-use Rattle.bpf_x86.specs.Machine.{X86, TurnOf, FlushOf}
-use Rattle.bpf_buffering.specs.Search.{BufferedState, ShowsX86, MovesTo, CannotMove, IsShownX86, IsKeptAsX86}
-use Rattle.bpf_buffering.specs.declared.buffering.keeping.Kept.{Kept}
-use Rattle.bpf_buffering.specs.Jobs.{tasks_of}
+use Rattle.bpf_x86.specs.Machine.{TurnOf, FlushOf, Move}
+use Rattle.bpf_machine.specs.declared.machine.Turn.{Turn}
+use Rattle.bpf_buffering.specs.declared.pools.Pools.{Pools}
+use Rattle.bpf_buffering.specs.Search.{BufferedState, MovesTo, CannotMove, IsKeptAsX86}
+use Rattle.bpf_buffering.specs.Buffering.{TurnsTo}
 use Rattle.bpf_buffering.specs.Album.{HaveEndedAt}
-use Rattle.bpf_buffering.specs.Private.Kept.{quiet, kept_state, FitsHost}
-use Rattle.bpf_buffering.proofs.Keeping.{fits_after, rests, none_flushes}
+use Rattle.bpf_buffering.specs.Private.Kept.{Numbers, kept_state, store_of, jobs_of, buffers_of, AddsTo, FitsHost, IsAlbum, IsBoard, IsPooled, ShowsAsMuch}
+use Rattle.bpf_buffering.proofs.Keeping.{same_shape, rests, none_flushes}
+use Rattle.bpf_buffering.proofs.Pooling.{adds_store, fits_still, newest, state_stays, store_known}
 
-abbrev pub states : BufferedState → List Kept → List BufferedState
-states m kept = map (kept_state m.machine.programs) kept
+-- where memory is refused
+pub for_err : {E U : Type 0} (r : Result U E) (P : Type 0) → P → OnErr r P
+for_err (Ok u) P h = tt
+for_err (Err e) P h = h
+
+abbrev pub states : BufferedState → Pools → List Numbers → List BufferedState
+states m p kept = map (kept_state p m.machine.programs) kept
 
 -- ---- the machine has gone on
-pub all_fit_after : (old new : BufferedState) (kept : List Kept) → IsSameHost old.machine new.machine → All (FitsHost old) kept → All (FitsHost new) kept
-all_fit_after old new kept went all = All-weaker (FitsHost old) (FitsHost new) (λ k fits. fits_after old new k went fits) kept all
+pub fits_after : (old new : BufferedState) (p : Pools) (k : Numbers) → IsSameHost old.machine new.machine → FitsHost old p k → FitsHost new p k
+fits_after old new p k went fits = record {
+  within = fits.within;
+  host = record {
+    programs = refl;
+    jobs = fits.host.jobs ∙ sym went.jobs;
+    shape = (λ c. fits.host.shape.0 c ∙ sym (went.shape.0 c), fits.host.shape.1 ∙ sym went.shape.1);
+    lists = λ none. refl;
+  };
+  board = subst (λ (ps : List Loaded). IsBoard (store_of p k) ps (jobs_of p k) (buffers_of p k)) (sym went.programs) fits.board;
+}
 
-pub states_after : (old new : BufferedState) (kept : List Kept) → IsSameHost old.machine new.machine → states new kept ≡ states old kept
-states_after old new kept went = ap (λ (ps : List Loaded). map (kept_state ps) kept) went.programs
+shapes_after : (old new : BufferedState) (ss : List Contents) → IsSameHost old.machine new.machine → All (IsSameShape old.machine.store) ss →
+    All (IsSameShape new.machine.store) ss
+shapes_after old new ss went all =
+    All-weaker (IsSameShape old.machine.store) (IsSameShape new.machine.store)
+    (λ s is. (λ c. is.0 c ∙ sym (went.shape.0 c), is.1 ∙ sym went.shape.1)) ss all
+
+-- the number of its store isn't known any more
+pub album_after : (old new : BufferedState) (p : Pools) (kept : List Numbers) (number : Option ℕ) → IsSameHost old.machine new.machine →
+    IsAlbum old p kept number → IsAlbum new p kept None
+album_after old new p kept number went is = record {
+  fits = All-weaker (FitsHost old p) (FitsHost new p) (λ k fits. fits_after old new p k went fits) kept is.fits;
+  shapes = shapes_after old new p.stores went is.shapes;
+  known = tt;
+}
+
+pub states_after : (old new : BufferedState) (p : Pools) (kept : List Numbers) → IsSameHost old.machine new.machine → states new p kept ≡
+    states old p kept
+states_after old new p kept went = ap (λ (ps : List Loaded). map (kept_state p ps) kept) went.programs
+
+-- ---- the pools have grown
+pub states_still : (m : BufferedState) (store : Contents) (p q : Pools) (kept : List Numbers) → AddsTo store p q → All (FitsHost m p) kept →
+    states m q kept ≡ states m p kept
+states_still m store p q [] adds all = refl
+states_still m store p q (k ∷ kept) adds all =
+    let fits : FitsHost m p k = All-head (FitsHost m p) k kept all in
+    ap (λ (s : BufferedState). s ∷ states m q kept) (state_stays store p q adds k fits.within m.machine.programs) ∙ ap
+    (λ (l : List BufferedState). kept_state p m.machine.programs k ∷ l)
+    (states_still m store p q kept adds (All-tail (FitsHost m p) k kept all))
+
+shapes_still : (store : Contents) (p q : Pools) → AddsTo store p q → All (IsSameShape store) p.stores → All (IsSameShape store) q.stores
+shapes_still store p q adds all = elim adds.stores [
+  | inl same ↦ subst (All (IsSameShape store)) (sym same) all
+  | inr more ↦ subst (All (IsSameShape store)) (sym more) (All-push (IsSameShape store) p.stores store all (same_shape store))
+]
+
+known_still : (m : BufferedState) (store : Contents) (p q : Pools) (number : Option ℕ) → AddsTo store p q → IfSome number
+    (λ n. slice_get p.stores n ≡ Some m.machine.store) → IfSome number (λ n. slice_get q.stores n ≡ Some m.machine.store)
+known_still m store p q None adds known = tt
+known_still m store p q (Some n) adds known = store_known store p q adds n m.machine.store known
+
+pub album_still : (m : BufferedState) (p q : Pools) (kept : List Numbers) (number : Option ℕ) → AddsTo m.machine.store p q → IsAlbum m p kept
+    number → IsAlbum m q kept number
+album_still m p q kept number adds is = record {
+  fits = All-weaker (FitsHost m p) (FitsHost m q) (λ k fits. fits_still m.machine.store p q adds m k fits) kept is.fits;
+  shapes = shapes_still m.machine.store p q adds is.shapes;
+  known = known_still m m.machine.store p q number adds is.known;
+}
+
+-- the machine has another store, of which the number is known
+module _ (old new : BufferedState) (p : Pools) (stores : List Contents) (kept : List Numbers) (number : Option ℕ)
+    (went : IsSameHost old.machine new.machine) (adds : (stores ≡ p.stores) ⊎ (stores ≡ p.stores ++ old.machine.store ∷ []))
+    (is : IsAlbum old p kept number) where
+  abbrev more : Pools
+  more = record { stores = stores; jobs = p.jobs; buffers = p.buffers }
+
+  pub album_settled : (now : Option ℕ) → IfSome now (λ n. slice_get stores n ≡ Some new.machine.store) → IsAlbum new more kept now
+  album_settled now known =
+      let still = album_still old p more kept number (adds_store old.machine.store p stores adds) is in
+      let after = album_after old new more kept number went still in
+      record { fits = after.fits; shapes = after.shapes; known = known }
+
+  pub states_settled : states new more kept ≡ states old p kept
+  states_settled =
+      states_after old new more kept went
+      ∙ states_still old old.machine.store p more kept (adds_store old.machine.store p stores adds) is.fits
 
 -- ---- one of them
-pub state_inside : (m : BufferedState) (kept : List Kept) (i : ℕ) → i < length (states m kept) → i < length kept
-state_inside m kept i less = subst (λ (n : ℕ). i < n) (length-map kept (kept_state m.machine.programs)) less
+pub state_inside : (m : BufferedState) (p : Pools) (kept : List Numbers) (i : ℕ) → i < length (states m p kept) → i < length kept
+state_inside m p kept i less = subst (λ (n : ℕ). i < n) (length-map kept (kept_state p m.machine.programs)) less
 
-pub state_at : (m : BufferedState) (kept : List Kept) (i : ℕ) (k : Kept) → slice_get kept i ≡ Some k → slice_get (states m kept) i ≡ Some
-    (kept_state m.machine.programs k)
-state_at m kept i k at = slice_get-map (kept_state m.machine.programs) kept i ∙ ap (option_map (kept_state m.machine.programs)) at
+pub state_at : (m : BufferedState) (p : Pools) (kept : List Numbers) (i : ℕ) (k : Numbers) → slice_get kept i ≡ Some k → slice_get
+    (states m p kept) i ≡ Some (kept_state p m.machine.programs k)
+state_at m p kept i k at = slice_get-map (kept_state p m.machine.programs) kept i ∙ ap (option_map (kept_state p m.machine.programs)) at
 
-pub fits_at : (m : BufferedState) (kept : List Kept) (i : ℕ) (k : Kept) → All (FitsHost m) kept → slice_get kept i ≡ Some k → FitsHost m k
-fits_at m kept i k all at = subst (FitsHost m) (get_or_from_slice_get kept i k k at) (All-get_or (FitsHost m) kept i k (slice_get_within kept i k at) all)
+pub fits_at : (m : BufferedState) (p : Pools) (kept : List Numbers) (i : ℕ) (k : Numbers) → All (FitsHost m p) kept → slice_get kept i ≡ Some
+    k → FitsHost m p k
+fits_at m p kept i k all at = subst (FitsHost m p) (get_or_from_slice_get kept i k k at) (all i k (slice_get_within kept i k at))
 
-pub kept_at : (m : BufferedState) (kept : List Kept) (i : ℕ) (s : BufferedState) → slice_get (states m kept) i ≡ Some s → (k : Kept) ×
-    (slice_get kept i ≡ Some k) × (kept_state m.machine.programs k ≡ s)
-kept_at m kept i s is = from (slice_get kept i) refl (sym (slice_get-map (kept_state m.machine.programs) kept i) ∙ is)
+pub kept_at : (m : BufferedState) (p : Pools) (kept : List Numbers) (i : ℕ) (s : BufferedState) → slice_get (states m p kept) i ≡ Some s →
+    (k : Numbers) × (slice_get kept i ≡ Some k) × (kept_state p m.machine.programs k ≡ s)
+kept_at m p kept i s is = from (slice_get kept i) refl (sym (slice_get-map (kept_state p m.machine.programs) kept i) ∙ is)
   where
-    from : (o : Option Kept) → slice_get kept i ≡ o → option_map (kept_state m.machine.programs) o ≡ Some s → (k : Kept) ×
-        (slice_get kept i ≡ Some k) × (kept_state m.machine.programs k ≡ s)
-    from (Some k) at shown = (k, at, (let two : Some (kept_state m.machine.programs k) ≡ Some s = shown in cc))
+    from : (o : Option Numbers) → slice_get kept i ≡ o → option_map (kept_state p m.machine.programs) o ≡ Some s → (k : Numbers) ×
+        (slice_get kept i ≡ Some k) × (kept_state p m.machine.programs k ≡ s)
+    from (Some k) at shown = (k, at, (let two : Some (kept_state p m.machine.programs k) ≡ Some s = shown in cc))
     from None at shown = let no : None ≡ Some s = shown in cc
 
--- it shows all that the machine shows
-pub kept_as : (m : BufferedState) (kept : List Kept) (i : ℕ) (k : Kept) → slice_get kept i ≡ Some k →
-    ((x : X86) → ShowsX86 m x → ShowsX86 (kept_state m.machine.programs k) x) → IsKeptAsX86 (states m kept) m
-kept_as m kept i k at shows x there = (i, kept_state m.machine.programs k, state_at m kept i k at, shows x there)
-
 -- its jobs have ended, or not
-pub ended_at : (m : BufferedState) (kept : List Kept) (i : ℕ) (k : Kept) → slice_get kept i ≡ Some k → HaveEnded (tasks_of k.jobs.items) →
-    HaveEndedAt (states m kept) i
-ended_at m kept i k at ended s is =
-    let two : Some (kept_state m.machine.programs k) ≡ Some s = sym (state_at m kept i k at) ∙ is in
-    let same : kept_state m.machine.programs k ≡ s = cc in
+pub ended_at : (m : BufferedState) (p : Pools) (kept : List Numbers) (i : ℕ) (k : Numbers) → slice_get kept i ≡ Some k → HaveEnded
+    (jobs_of p k) → HaveEndedAt (states m p kept) i
+ended_at m p kept i k at ended s is =
+    let two : Some (kept_state p m.machine.programs k) ≡ Some s = sym (state_at m p kept i k at) ∙ is in
+    let same : kept_state p m.machine.programs k ≡ s = cc in
     subst (λ (z : BufferedState). HaveEnded z.machine.jobs) same ended
 
-pub open_at : (m : BufferedState) (kept : List Kept) (i : ℕ) (k : Kept) → slice_get kept i ≡ Some k → HaveEndedAt (states m kept) i →
-    HaveEnded (tasks_of k.jobs.items)
-open_at m kept i k at all = all (kept_state m.machine.programs k) (state_at m kept i k at)
+pub open_at : (m : BufferedState) (p : Pools) (kept : List Numbers) (i : ℕ) (k : Numbers) → slice_get kept i ≡ Some k → HaveEndedAt
+    (states m p kept) i → HaveEnded (jobs_of p k)
+open_at m p kept i k at all = all (kept_state p m.machine.programs k) (state_at m p kept i k at)
 
 -- a CPU beyond the machine's has no move that changes anything
-pub beyond_at : (m : BufferedState) (kept : List Kept) (n : ℕ) → ((c : ℕ) → has_cpu m.machine.store c ≡ nat_lt c n) → All (FitsHost m) kept
-    → (i c : ℕ) (s : BufferedState) → slice_get (states m kept) i ≡ Some s → n ≤ c → MovesTo s (TurnOf c) s × CannotMove s (FlushOf c)
-beyond_at m kept n has all i c s is above =
-    let k = kept_at m kept i s is in
-    let fits = fits_at m kept i k.0 all k.1 in
-    let own : (d : ℕ) → has_cpu k.0.store d ≡ nat_lt d n = λ d. fits.host.shape.0 d ∙ has d in
+pub beyond_at : (m : BufferedState) (p : Pools) (kept : List Numbers) (n : ℕ) → ((c : ℕ) → has_cpu m.machine.store c ≡ nat_lt c n) → All
+    (FitsHost m p) kept → (i c : ℕ) (s : BufferedState) → slice_get (states m p kept) i ≡ Some s → n ≤ c → MovesTo s (TurnOf c) s ×
+    CannotMove s (FlushOf c)
+beyond_at m p kept n has all i c s is above =
+    let k = kept_at m p kept i s is in
+    let fits = fits_at m p kept i k.0 all k.1 in
+    let own : (d : ℕ) → has_cpu (store_of p k.0) d ≡ nat_lt d n = λ d. fits.host.shape.0 d ∙ has d in
     subst (λ (z : BufferedState). MovesTo z (TurnOf c) z × CannotMove z (FlushOf c)) k.2 (
-      rests (quiet k.0.store) m.machine.programs k.0.jobs.items k.0.buffers.items fits.board n own c above,
-      none_flushes (quiet k.0.store) m.machine.programs k.0.jobs.items k.0.buffers.items fits.board n own c above,
+      rests (store_of p k.0) m.machine.programs (jobs_of p k.0) (buffers_of p k.0) fits.board n own c above,
+      none_flushes (store_of p k.0) m.machine.programs (jobs_of p k.0) (buffers_of p k.0) fits.board n own c above,
     )
 
--- ---- one more
-pub one_more : (m : BufferedState) (old new : List Kept) (k : Kept) → new ≡ old ++ k ∷ [] → kept_state m.machine.programs k ≡ m → states m
-    new ≡ states m old ++ m ∷ []
-one_more m old new k items is =
-    ap (states m) items ∙ map_push (kept_state m.machine.programs) old k ∙ ap (λ (s : BufferedState). states m old ++ s ∷ []) is
+-- ---- one more, which is the machine as it is
+module _ (m : BufferedState) (p q : Pools) (kept : List Numbers) (number : Option ℕ) (k : Numbers) (adds : AddsTo m.machine.store p q)
+    (is : IsAlbum m p kept number) (pooled : IsPooled q m k) where
+  pub one_more : states m q (kept ++ k ∷ []) ≡ states m p kept ++ m ∷ []
+  one_more =
+      map_push (kept_state q m.machine.programs) kept k
+      ∙ ap (λ (l : List BufferedState). l ++ kept_state q m.machine.programs k ∷ []) (states_still m m.machine.store p q kept adds is.fits)
+      ∙ ap (λ (s : BufferedState). states m p kept ++ s ∷ []) pooled.is
+
+  pub album_more : IsAlbum m q (kept ++ k ∷ []) number
+  album_more =
+      let still = album_still m p q kept number adds is in
+      record {
+        fits = All-push (FitsHost m q) kept k still.fits pooled.fits;
+        shapes = still.shapes;
+        known = still.known;
+      }
+
+-- it is kept already
+pub kept_already : (m : BufferedState) (p : Pools) (kept : List Numbers) (k : Numbers) → IsPooled p m k → (n : ℕ) → slice_get kept n ≡ Some k
+    → IsKeptAsX86 (states m p kept) m
+kept_already m p kept k pooled n at x shows =
+    (n, m, state_at m p kept n k at ∙ ap (λ (s : BufferedState). Some s) pooled.is, shows)
 
 pub last_is_kept : (kept : List BufferedState) (m : BufferedState) → IsKeptAsX86 (kept ++ m ∷ []) m
-last_is_kept kept m x shows = (length kept, m, last kept, shows)
-  where
-    last : (ms : List BufferedState) → slice_get (ms ++ m ∷ []) (length ms) ≡ Some m
-    last [] = refl
-    last (s ∷ ms) = last ms
+last_is_kept kept m x shows = (length kept, m, newest kept m, shows)
 
-pub all_fit_more : (m : BufferedState) (old new : List Kept) (k : Kept) → new ≡ old ++ k ∷ [] → FitsHost m k → All (FitsHost m) old → All (FitsHost m) new
-all_fit_more m old new k items fits all = subst (All (FitsHost m)) (sym items) (All-push (FitsHost m) old k all fits)
+-- ---- the machine has a store that looks like its own
+pub moves_too : (old mid new : BufferedState) (move : Move) → MovesTo old move mid → ShowsAsMuch mid new → MovesTo old move new
+moves_too old mid new move moves shows x there = let r = moves x there in (r.0, r.1, shows r.0 r.2)
+
+pub turns_too : (old mid new : BufferedState) (c : ℕ) (turn : Turn) → TurnsTo old c turn mid → ShowsAsMuch mid new → TurnsTo old c turn new
+turns_too old mid new c turn turns shows x there = let r = turns x there in (r.0, r.1, shows r.0 r.2)

@@ -1,5 +1,4 @@
--- A move of the x86 machine has one course, and so has a schedule of moves; where no job is left, nothing
--- waits; and a closed list covers what schedules of moves lead to.
+-- A move of the x86 machine has one course, and so has a schedule of moves.
 use Rattle.std.proofs.Common.{◌≡◌, ◌≢◌, ℕ, zero, suc, ◌≤◌, Bool, true, false, List, [], ◌∷◌, ◌++◌, length, Option, Some, None, inl, inr}
 use Rattle.std.proofs.Common.{refl, sym, ap, subst, ◌∙◌}
 use Rattle.std.specs.Prelude.{map, nat_lt, not, ◌&&◌, ◌==◌, if◌then◌else◌}
@@ -37,7 +36,7 @@ use Rattle.bpf_machine.proofs.ListLaws.{lists_jobs, lists_store, one_list}
 use Rattle.bpf_machine.proofs.DeterminedTurns.{IsWorld, Changed, Same, Other, changed, same_stage, same_lowest, fresh_world}
 use Rattle.bpf_x86.specs.Buffers.{Buffered, Sees, Flushes, Drains, AsksMemory, Calls, CallsAll}
 use Rattle.bpf_x86.specs.Machine.{X86, buffered, with_buffered, Advances, Settled, GoesOn, TakesTurn, Move, TurnOf, FlushOf, Moves, RunsMoves, drained}
-use Rattle.bpf_buffering.specs.Search.{BufferedState, IsShownX86, IsClosedX86, MovesAreDetermined, ClosedSetsCoverX86}
+use Rattle.bpf_buffering.specs.Search.{MovesAreDetermined}
 
 -- flags decide whether an update is refused for its flags
 first_flag : (a b c d : Bool) → first_of ((Invalid, a) ∷ (Exists, b) ∷ (Absent, c) ∷ (Full, d) ∷ []) ≡ Some Invalid → a ≡ true
@@ -112,7 +111,7 @@ module _ (law : WritesAreDetermined) (begins : OneInstructionBegins) (replies : 
       let one : flags ≡ flags' = cc in
       refused_alike d.memory q.0 c n other more flags' answer (ap (nat_lt 2) (sym one) ∙ too_many b.memory p.0 c m key bytes flags p.1) q.1
 
-  one_call : (b t u : Buffered) (c : ℕ) (e f : Event) → IsSoundStore b.memory → asked e ≡ asked f → Calls b c e t → Calls b c f u → (e ≡ f) × (t ≡ u)
+  pub one_call : (b t u : Buffered) (c : ℕ) (e f : Event) → IsSoundStore b.memory → asked e ≡ asked f → Calls b c e t → Calls b c f u → (e ≡ f) × (t ≡ u)
   one_call b t u c (Load a size x) (Load a' size' y) so same p q = load_once b t u c (Load a size x) (Load a' size' y) so same p q
   one_call b t u c (Store a size x) (Store a' size' y) so same p q =
       (same, p.4 ∙ ap (λ (e : Event). record b { buffers = put b.buffers c (b.buffers c ++ e ∷ []) }) same ∙ sym q.4)
@@ -140,14 +139,14 @@ module _ (law : WritesAreDetermined) (begins : OneInstructionBegins) (replies : 
   asked_sound : (b t : Buffered) (c : ℕ) (e : Event) → IsSoundStore b.memory → AsksMemory b c e t → IsSoundStore t.memory
   asked_sound b t c e so p = subst (λ (z : Buffered). IsSoundStore z.memory) (sym p.2) (allowed_sound b.memory p.0 c e so p.1.0)
 
-  call_sound : (b t : Buffered) (c : ℕ) (e : Event) → IsSoundStore b.memory → Calls b c e t → IsSoundStore t.memory
+  pub call_sound : (b t : Buffered) (c : ℕ) (e : Event) → IsSoundStore b.memory → Calls b c e t → IsSoundStore t.memory
   call_sound b t c (Load a size x) so p = subst (λ (z : Buffered). IsSoundStore z.memory) (sym p.3) so
   call_sound b t c (Store a size x) so p = subst (λ (z : Buffered). IsSoundStore z.memory) (sym p.4) so
   call_sound b t c (Lookup m key x) so p = asked_sound b t c (Lookup m key x) so p
   call_sound b t c (Update m key bytes flags Invalid) so p = asked_sound b t c (Update m key bytes flags Invalid) so p
   call_sound b t c e so p = drained_sound b t c e so p
 
-  one_calls : (c : ℕ) (es fs : List Event) (b t u : Buffered) → IsSoundStore b.memory → AreAskedAlike es fs → CallsAll b c es t → CallsAll b
+  pub one_calls : (c : ℕ) (es fs : List Event) (b t u : Buffered) → IsSoundStore b.memory → AreAskedAlike es fs → CallsAll b c es t → CallsAll b
       c fs u → (es ≡ fs) × (t ≡ u)
   one_calls c [] [] b t u so alike p q = (refl, p ∙ sym q)
   one_calls c [] (f ∷ fs) b t u so alike p q = absurd (asks-end f fs alike)
@@ -198,7 +197,8 @@ module _ (law : WritesAreDetermined) (begins : OneInstructionBegins) (replies : 
       }
 
   -- ---- it stays in hand, or ends
-  record OneSettled (w : World) (c j : ℕ) (task : Task) (y z : X86) : Type 0 where
+  record OneSettled (w : World) (c j : ℕ) (task : Task) (answer other : Turn) (y z : X86) : Type 0 where
+    pub answers : answer ≡ other
     pub machines : y ≡ z
     pub sound : IsSoundStore y.world.store
     pub stage : Stage
@@ -212,8 +212,9 @@ module _ (law : WritesAreDetermined) (begins : OneInstructionBegins) (replies : 
 
   one_settled : (x : X86) (c j : ℕ) (task : Task) (new : Cpu) (left : ℕ) (end : Option Outcome) (answer other : Turn) (y z : X86) →
       IsSoundStore x.world.store → IsMemory new.memory
-      → Settled x c j task new left end answer y → Settled x c j task new left end other z → OneSettled x.world c j task y z
+      → Settled x c j task new left end answer y → Settled x c j task new left end other z → OneSettled x.world c j task answer other y z
   one_settled x c j task new left None answer other y z so memory p q = record {
+    answers = p.0.0 ∙ sym q.0.0;
     machines = same_machine y z (p.0.1 ∙ sym q.0.1) (p.1 ∙ sym q.1);
     sound = subst (λ (w : World). IsSoundStore w.store) (sym p.0.1) so;
     stage = InHand new left;
@@ -231,6 +232,7 @@ module _ (law : WritesAreDetermined) (begins : OneInstructionBegins) (replies : 
       let m : World = ended p.2.0 in
       let lists : Lists m c z.world = subst (λ (s : Plain). Lists (ended s) c z.world) (sym one.1) there.3 in
       record {
+        answers = p.2.2 ∙ sym q.2.2;
         machines = same_machine y z (one_list m c y.world z.world p.2.3 lists) (p.3 ∙ ap (λ (k : Buffered). k.buffers) (sym drains) ∙ sym q.3);
         sound = subst IsSoundStore (sym (lists_store m c y.world p.2.3)) (allowed_sound d.memory p.2.0 c End so_d p.2.1.0);
         stage = Ended end;
@@ -243,7 +245,7 @@ module _ (law : WritesAreDetermined) (begins : OneInstructionBegins) (replies : 
       ended s = record x.world { store = s; jobs = with_stage x.world.jobs j task (Ended end) }
 
   one_going : (x : X86) (c j : ℕ) (task : Task) (old : Cpu) (left : ℕ) (answer other : Turn) (y z : X86) → IsSoundStore x.world.store → IsMemory old.memory
-      → GoesOn x c j task old left answer y → GoesOn x c j task old left other z → OneSettled x.world c j task y z
+      → GoesOn x c j task old left answer y → GoesOn x c j task old left other z → OneSettled x.world c j task answer other y z
   one_going x c j task old left answer other y z so memory a b =
       let listed : Some a.0 ≡ Some b.0 = sym a.5 ∙ b.5 in
       let program : b.0 ≡ a.0 = cc in
@@ -256,6 +258,7 @@ module _ (law : WritesAreDetermined) (begins : OneInstructionBegins) (replies : 
       (subst (λ (end : Option Outcome). Settled (with_buffered x b.2) c j task b.3 b.4 end other z) (sym one.ends) b.7))) in
       let settled = one_settled (with_buffered x a.2) c j task a.3 a.4 a.1 answer other y z one.sound one.memory a.7 settles in
       record {
+        answers = settled.answers;
         machines = settled.machines;
         sound = settled.sound;
         stage = settled.stage;
@@ -266,8 +269,9 @@ module _ (law : WritesAreDetermined) (begins : OneInstructionBegins) (replies : 
       }
 
   -- ---- a machine after a turn of a CPU on its job: it has no other in hand
-  going_world : (w : World) (c j : ℕ) (task : Task) (before : Stage) (y z : X86) → IsWorld w → IsAt w.jobs c j task before
-      → ((k : ℕ) (t : Task) (state : Cpu) (left : ℕ) → k ≢ j → IsAt w.jobs c k t (InHand state left) → ⊥) → OneSettled w c j task y z → IsWorld y.world
+  going_world : {answer other : Turn} (w : World) (c j : ℕ) (task : Task) (before : Stage) (y z : X86) → IsWorld w → IsAt w.jobs c j task before
+      → ((k : ℕ) (t : Task) (state : Cpu) (left : ℕ) → k ≢ j → IsAt w.jobs c k t (InHand state left) → ⊥) → OneSettled w c j task answer other y z
+      → IsWorld y.world
   going_world w c j task before y z world at alone settled = record {
     store = settled.sound;
     memory = λ d k t state left h. memory d k t state left (seen d k t (InHand state left) h);
@@ -297,10 +301,11 @@ module _ (law : WritesAreDetermined) (begins : OneInstructionBegins) (replies : 
       one d k l t u state now left rest (Other ne h) (Other apart i) = world.one d k l t u state now left rest h i
 
   -- ---- a turn
-  abbrev OneMove : X86 → X86 → Type 0
+  abbrev pub OneMove : X86 → X86 → Type 0
   OneMove y z = (y ≡ z) × IsWorld y.world
 
-  one_turn : (x : X86) (c : ℕ) (answer other : Turn) (y z : X86) → IsWorld x.world → TakesTurn x c answer y → TakesTurn x c other z → OneMove y z
+  pub one_turn : (x : X86) (c : ℕ) (answer other : Turn) (y z : X86) → IsWorld x.world → TakesTurn x c answer y → TakesTurn x c other z
+      → (answer ≡ other) × OneMove y z
   one_turn x c answer other y z world (inl (j, task, state, left, at, goes)) (inl (k, t, now, rest, at', goes')) =
       let jobs : k ≡ j = world.one c k j t task now state rest left at' at in
       let there : IsAt x.world.jobs c j t (InHand now rest) = subst (λ (n : ℕ). IsAt x.world.jobs c n t (InHand now rest)) jobs at' in
@@ -314,9 +319,12 @@ module _ (law : WritesAreDetermined) (begins : OneInstructionBegins) (replies : 
       (subst (λ (u : Task). GoesOn x c j u now rest other z) same.0
       (subst (λ (n : ℕ). GoesOn x c n t now rest other z) jobs goes'))) in
       let settled = one_going x c j task state left answer other y z world.store (world.memory c j task state left at) goes going in (
-        settled.machines,
-        going_world x.world c j task (InHand state left) y z world at
-            (λ n u s l ne h. ne (world.one c n j u task s state l left h at)) settled,
+        settled.answers,
+        (
+          settled.machines,
+          going_world x.world c j task (InHand state left) y z world at
+              (λ n u s l ne h. ne (world.one c n j u task s state l left h at)) settled,
+        ),
       )
   one_turn x c answer other y z world (inl a) (inr (inl b)) = absurd (b.0 a.0 a.1 a.2 a.3 a.4)
   one_turn x c answer other y z world (inl a) (inr (inr b)) = absurd (b.0 a.0 a.1 a.2 a.3 a.4)
@@ -338,11 +346,11 @@ module _ (law : WritesAreDetermined) (begins : OneInstructionBegins) (replies : 
       let here : IsWorld (with_buffered x b).world = record { store = sound; memory = world.memory; one = world.one; short = world.short } in
       let settled = one_going (with_buffered x b) c j task (start c input) task.budget answer other y z sound
       (start_memory c input (world.short c j task input at)) goes going in
-      (settled.machines, going_world (with_buffered x b).world c j task (Waiting input) y z here at (λ n u s l ne h. free n u s l h) settled)
+      (settled.answers, (settled.machines, going_world (with_buffered x b).world c j task (Waiting input) y z here at (λ n u s l ne h. free n u s l h) settled))
   one_turn x c answer other y z world (inr (inl (free, a))) (inr (inr b)) = absurd (b.1 a.0 a.1 a.2 a.4)
   one_turn x c answer other y z world (inr (inr a)) (inl b) = absurd (a.0 b.0 b.1 b.2 b.3 b.4)
   one_turn x c answer other y z world (inr (inr a)) (inr (inl (free, b))) = absurd (a.1 b.0 b.1 b.2 b.4)
-  one_turn x c answer other y z world (inr (inr a)) (inr (inr b)) = (a.3 ∙ sym b.3, subst (λ (v : X86). IsWorld v.world) (sym a.3) world)
+  one_turn x c answer other y z world (inr (inr a)) (inr (inr b)) = (a.2 ∙ sym b.2, (a.3 ∙ sym b.3, subst (λ (v : X86). IsWorld v.world) (sym a.3) world))
 
   -- ---- a flush
   one_flush : (b t u : Buffered) (c : ℕ) → IsSoundStore b.memory → Flushes b c t → Flushes b c u → (t ≡ u) × IsSoundStore t.memory
@@ -357,7 +365,7 @@ module _ (law : WritesAreDetermined) (begins : OneInstructionBegins) (replies : 
       )
 
   pub one_move : (x : X86) (move : Move) (y z : X86) → IsWorld x.world → Moves x move y → Moves x move z → OneMove y z
-  one_move x (TurnOf c) y z world p q = one_turn x c p.0 q.0 y z world p.1 q.1
+  one_move x (TurnOf c) y z world p q = (one_turn x c p.0 q.0 y z world p.1 q.1).1
   one_move x (FlushOf c) y z world p q =
       let one = one_flush (buffered x) p.0 q.0 c world.store p.1 q.1 in
       let flushed : IsWorld (with_buffered x p.0).world = record { store = one.1; memory = world.memory; one = world.one; short = world.short } in
@@ -372,18 +380,3 @@ module _ (law : WritesAreDetermined) (begins : OneInstructionBegins) (replies : 
 
   pub moves_are_determined : MovesAreDetermined
   moves_are_determined w moves y z fresh p q = one_run moves (drained w) y z (fresh_world law begins replies w fresh) p q
-
-  -- ---- closed lists
-  covered : (kept : List BufferedState) → IsClosedX86 kept → (moves : List Move) (x z : X86) → IsWorld x.world → IsShownX86 kept x →
-      RunsMoves x moves z → IsShownX86 kept z
-  covered kept closed [] x z world shown runs = subst (IsShownX86 kept) (sym runs) shown
-  covered kept closed (move ∷ moves) x z world shown runs = elim (closed shown.0 shown.1 shown.2 move) [
-    | inl made ↦
-        (let there = made.1 x shown.3 in
-        let one = one_move x move runs.0 there.0 world runs.1 there.1 in
-        covered kept closed moves runs.0 z one.1 (subst (IsShownX86 kept) (sym one.0) (made.2 there.0 there.2)) runs.2)
-    | inr none ↦ absurd (none x runs.0 shown.3 runs.1)
-  ]
-
-  pub closed_sets_cover : ClosedSetsCoverX86
-  closed_sets_cover kept w moves z closed fresh shown runs = covered kept closed moves (drained w) z (fresh_world law begins replies w fresh) shown runs

@@ -5,20 +5,16 @@ use Rattle.std.proofs.lemmas.Bool.{cases_lt}
 use Rattle.std.proofs.lemmas.Option.{slice_get_within}
 use Rattle.bpf_cpu.specs.declared.outcome.Outcome.{Outcome}
 use Rattle.bpf_cpu.specs.Task.{Task, Ended}
-use Rattle.bpf_machine.specs.Kept.{kept_stage}
 use Rattle.bpf_machine.specs.Rounds.{HaveEnded}
-use Rattle.bpf_buffering.specs.declared.jobs.Listed.{Listed}
-use Rattle.bpf_buffering.specs.Jobs.{task_of, tasks_of}
-use Rattle.bpf_buffering.proofs.Finding.{task_at, entry_at}
 
-abbrev pub HasEnded : Listed → Type 0
-HasEnded x = (outcome : Outcome) × (kept_stage x.stage ≡ Ended outcome)
+abbrev pub HasEnded : Task → Type 0
+HasEnded x = (outcome : Outcome) × (x.stage ≡ Ended outcome)
 
 -- the first n have
-abbrev pub EndedBelow : List Listed → ℕ → Type 0
-EndedBelow jobs n = (k : ℕ) (x : Listed) → k < n → slice_get jobs k ≡ Some x → HasEnded x
+abbrev pub EndedBelow : List Task → ℕ → Type 0
+EndedBelow jobs n = (k : ℕ) (x : Task) → k < n → slice_get jobs k ≡ Some x → HasEnded x
 
-pub more_ended : (jobs : List Listed) (j : ℕ) (x : Listed) → slice_get jobs j ≡ Some x → HasEnded x → EndedBelow jobs j → EndedBelow jobs (j + 1)
+pub more_ended : (jobs : List Task) (j : ℕ) (x : Task) → slice_get jobs j ≡ Some x → HasEnded x → EndedBelow jobs j → EndedBelow jobs (j + 1)
 more_ended jobs j x here ended before k y less at = elim (cases_lt k j) [
   | inl under ↦ before k y under at
   | inr past ↦
@@ -28,13 +24,11 @@ more_ended jobs j x here ended before k y less at = elim (cases_lt k j) [
       subst HasEnded same ended
 ]
 
-pub all_ended : (jobs : List Listed) (n : ℕ) → length jobs ≤ n → EndedBelow jobs n → HaveEnded (tasks_of jobs)
+pub all_ended : (jobs : List Task) (n : ℕ) → length jobs ≤ n → EndedBelow jobs n → HaveEnded jobs
 all_ended jobs n past ended j task at =
-    let x = task_at jobs j task at in
-    let inside : j < length jobs = slice_get_within jobs j x.0 x.1 in
-    let end = ended j x.0 (omega arith) x.1 in
-    (end.0, ap (λ (t : Task). t.stage) (sym x.2) ∙ end.1)
+    let inside : j < length jobs = slice_get_within jobs j task at in
+    ended j task (omega arith) at
 
-pub one_open : (jobs : List Listed) (j : ℕ) (x : Listed) → slice_get jobs j ≡ Some x →
-    ((outcome : Outcome) → kept_stage x.stage ≡ Ended outcome → ⊥) → HaveEnded (tasks_of jobs) → ⊥
-one_open jobs j x at goes all = let end = all j (task_of x) (entry_at jobs j x at) in goes end.0 end.1
+pub one_open : (jobs : List Task) (j : ℕ) (x : Task) → slice_get jobs j ≡ Some x →
+    ((outcome : Outcome) → x.stage ≡ Ended outcome → ⊥) → HaveEnded jobs → ⊥
+one_open jobs j x at goes all = let end = all j x at in goes end.0 end.1

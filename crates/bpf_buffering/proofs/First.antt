@@ -1,20 +1,19 @@
 -- A machine before its first move.
-use Rattle.std.proofs.Common.{◌≡◌, ℕ, zero, suc, ◌<◌, Bool, true, false, List, [], ◌∷◌, ◌++◌, length, Option, Some, None, refl, sym, ap, subst, ◌∙◌, arith}
-use Rattle.std.specs.Prelude.{All, Vec, map, nat_lt, slice_get, slice_index_or, option_map}
+use Rattle.std.proofs.Common.{◌≡◌, ℕ, zero, suc, ◌<◌, true, false, List, [], ◌∷◌, ◌++◌, length, Option, Some, None, refl, sym, ap, subst, ◌∙◌}
+use Rattle.std.specs.Prelude.{All, Vec, map, nat_lt, slice_get, option_map}
 use Rattle.std.specs.declared.alloc.Global.{Global}
 use Rattle.std.proofs.lemmas.Option.{slice_get-map, slice_get_within, get_or_from_slice_get}
-use Rattle.bpf_shared.specs.declared.events.Event.{Event}
-use Rattle.bpf_plain.specs.PlainStore.{Contents, has_cpu, is_running}
+use Rattle.bpf_plain.specs.PlainStore.{has_cpu, is_running}
 use Rattle.bpf_loader.specs.Loaded.{Loaded}
 use Rattle.bpf_cpu.specs.declared.job.Job.{Job}
 use Rattle.bpf_cpu.specs.declared.cpu.Cpu.{Cpu}
-use Rattle.bpf_cpu.specs.Task.{Stage, Task, Waiting, InHand, waiting}
+use Rattle.bpf_cpu.specs.Task.{Task, Waiting, InHand, waiting}
 use Rattle.bpf_machine.specs.Hands.{IsAt}
 use Rattle.bpf_buffering.specs.declared.waiting.Stored.{Stored}
 use Rattle.bpf_buffering.specs.declared.jobs.Listed.{Listed}
 use Rattle.bpf_buffering.specs.Search.{buffer_at}
 use Rattle.bpf_buffering.specs.Waiting.{WaitingContents, event_of}
-use Rattle.bpf_buffering.specs.Jobs.{first_entry, task_of, tasks_of}
+use Rattle.bpf_buffering.specs.Jobs.{first_entry, tasks_of}
 use Rattle.bpf_buffering.specs.Buffering.{stored_at, events_of_all, state_of, Stands, IsBuffering}
 use Rattle.bpf_buffering.proofs.Waits.{events_at, nothing_waits}
 

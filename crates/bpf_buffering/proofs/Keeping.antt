@@ -1,32 +1,34 @@
 -- States of a machine that are kept.
-use Rattle.std.proofs.Common.{◌≡◌, ℕ, ◌<◌, ◌≤◌, Bool, true, false, List, [], ◌∷◌, length, Option, Some, None, inl, inr, refl, sym, ap, subst, ◌∙◌, arith}
+use Rattle.std.proofs.Common.{◌≡◌, ℕ, zero, suc, ◌<◌, ◌≤◌, Bool, List, [], ◌∷◌, length, Option, Some, None, inr, refl, sym, ap, subst, ◌∙◌, arith}
 use Rattle.std.specs.Prelude.{Vec, map, nat_lt, slice_get, slice_index_or}
 use Rattle.std.specs.declared.alloc.Global.{Global}
 use Rattle.std.proofs.lemmas.Bool.{ltb-true, ltb-false, le-ltb}
 use Rattle.std.proofs.lemmas.List.{length-map}
 use Rattle.bpf_shared.specs.declared.events.Event.{Event}
-use Rattle.bpf_plain.specs.PlainStore.{Contents, IsSavedAs, has_cpu, shape_of}
-use Rattle.bpf_plain.specs.Alike.{IsSameShape}
+use Rattle.bpf_shared.specs.declared.events.Span.{Span}
+use Rattle.bpf_shared.specs.Shape.{Shape}
+use Rattle.bpf_hash.proofs.HeldAlike.{held_alike}
+use Rattle.bpf_plain.specs.PlainStore.{Contents, IsMade, IsSavedAs, has_cpu, held_spans, shape_of}
+use Rattle.bpf_plain.specs.Alike.{IsSameShape, LookAlike}
 use Rattle.bpf_plain.proofs.Alike.{alike_stand_alike}
 use Rattle.bpf_plain.proofs.SavedAlike.{saved_alike_look_alike}
 use Rattle.bpf_loader.specs.Loaded.{Loaded}
+use Rattle.bpf_helpers.specs.Held.{AreHeld}
 use Rattle.bpf_cpu.specs.declared.outcome.Outcome.{Outcome}
 use Rattle.bpf_cpu.specs.Task.{Task}
 use Rattle.bpf_machine.specs.declared.machine.Turn.TheVariants.{Idle}
 use Rattle.bpf_machine.specs.Hands.{IsFree, NoneWaits}
-use Rattle.bpf_machine.specs.Listings.{listing_at}
 use Rattle.bpf_machine.specs.Machine.{MachineState}
 use Rattle.bpf_machine.specs.Parts.{IsSameHost}
-use Rattle.bpf_x86.specs.Machine.{X86, TurnOf, FlushOf}
-use Rattle.bpf_buffering.specs.Search.{BufferedState, ShowsX86, MovesTo, CannotMove, buffer_at}
+use Rattle.bpf_x86.specs.Machine.{TurnOf, FlushOf}
+use Rattle.bpf_buffering.specs.Search.{BufferedState, MovesTo, CannotMove, buffer_at}
 use Rattle.bpf_buffering.specs.declared.waiting.Stored.{Stored}
 use Rattle.bpf_buffering.specs.declared.jobs.Listed.{Listed}
-use Rattle.bpf_buffering.specs.declared.buffering.keeping.Kept.{Kept}
-use Rattle.bpf_buffering.specs.Waiting.{WaitingContents, CanWait, event_of}
+use Rattle.bpf_buffering.specs.Waiting.{WaitingContents, AreWritable, CanWait, event_of}
 use Rattle.bpf_buffering.specs.Jobs.{task_of, tasks_of}
-use Rattle.bpf_buffering.specs.Buffering.{stored_at, events_of_all, state_of, Stands, IsBuffering, answer_of}
-use Rattle.bpf_buffering.specs.Private.Kept.{quiet, kept_state, FitsHost}
-use Rattle.bpf_buffering.proofs.Flushing.{cannot_flush, none_beyond}
+use Rattle.bpf_buffering.specs.Buffering.{events_of_all, state_of, Stands, IsBuffering, answer_of}
+use Rattle.bpf_buffering.specs.Private.Kept.{state_with, with_store, IsBoard, ShowsAsMuch}
+use Rattle.bpf_buffering.proofs.Flushing.{cannot_flush}
 use Rattle.bpf_buffering.proofs.Waits.{items_of}
 
 -- ---- hosts
@@ -44,80 +46,110 @@ host_then a b c p q = record {
   lists = λ none. q.lists (p.lists none);
 }
 
--- ---- a machine of the same parts
+-- a store that is made with the shape of one that is saved
+pub made_same : (h : Shape) (p q : Contents) (bytes : List ℕ) → IsSavedAs p bytes → h ≡ shape_of p → IsMade h q → IsSameShape p q
+made_same h p q bytes saved shape made = (
+  λ c. made.serves c ∙ ap (λ (g : Shape). nat_lt c g.cpus) shape ∙ sym (saved.0.cpus c),
+  made.shape ∙ shape,
+)
+
+-- ---- what a machine is made of
 events_of_items : (bs : List (Vec Stored Global)) → events_of_all bs ≡ map (map event_of) (map items_of bs)
 events_of_items [] = refl
 events_of_items (b ∷ bs) = ap (λ (es : List (List Event)). map event_of b.items ∷ es) (events_of_items bs)
 
-pub events_same : (bs cs : List (Vec Stored Global)) → map items_of bs ≡ map items_of cs → events_of_all bs ≡ events_of_all cs
-events_same bs cs items = events_of_items bs ∙ ap (map (map event_of)) items ∙ sym (events_of_items cs)
+module _ (w : WaitingContents) (programs : List Loaded) (jobs : List Listed) (buffers : List (Vec Stored Global)) where
+  pub state_is : state_of w programs jobs buffers ≡ state_with w.store programs (tasks_of jobs) (map items_of buffers)
+  state_is = ap (λ (es : List (List Event)). record {
+    machine = record { store = w.store; programs = programs; jobs = tasks_of jobs; lists = None };
+    buffers = es;
+  }) (events_of_items buffers)
 
-module _ (w z : WaitingContents) (programs : List Loaded) (jobs jobs' : List Listed) (buffers buffers' : List (Vec Stored Global))
-    (store : z.store ≡ w.store) (tasks : tasks_of jobs' ≡ tasks_of jobs) (items : map items_of buffers' ≡ map items_of buffers) where
-  abbrev machine_of : Contents → List Task → MachineState
-  machine_of s ts = record { store = s; programs = programs; jobs = ts; lists = None }
-
-  count_same : length buffers' ≡ length buffers
-  count_same = sym (length-map buffers' items_of) ∙ ap (λ (l : List (List Stored)). length l) items ∙ length-map buffers items_of
-
-  pub same_state : state_of z programs jobs' buffers' ≡ state_of w programs jobs buffers
-  same_state =
-      ap (λ (s : Contents). record { machine = machine_of s (tasks_of jobs'); buffers = events_of_all buffers' }) store
-      ∙ ap (λ (ts : List Task). record { machine = machine_of w.store ts; buffers = events_of_all buffers' }) tasks
-      ∙ ap (λ (es : List (List Event)). record { machine = machine_of w.store (tasks_of jobs); buffers = es }) (events_same buffers' buffers items)
-
-  pub same_board : z.waiting ≡ [] → IsBuffering w programs jobs buffers → IsBuffering z programs jobs' buffers'
-  same_board none board = record {
-    stands = subst (λ (s : Contents). Stands (machine_of s (tasks_of jobs'))) (sym store)
-        (subst (λ (ts : List Task). Stands (machine_of w.store ts)) (sym tasks) board.stands);
-    put_back = none;
-    cpus = λ c. ap (λ (s : Contents). has_cpu s c) store ∙ board.cpus c ∙ ap (nat_lt c) (sym count_same);
-    each = λ c.
-        subst (λ (s : Contents). CanWait s c (stored_at buffers' c)) (sym store)
-        (subst (λ (es : List Stored). CanWait w.store c es) (sym (ap (λ (l : List (List Stored)). slice_index_or l c []) items)) (board.each c));
+  pub board_of : IsBuffering w programs jobs buffers → IsBoard w.store programs (tasks_of jobs) (map items_of buffers)
+  board_of is = record {
+    stands = is.stands;
+    cpus = λ c. is.cpus c ∙ ap (nat_lt c) (sym (length-map buffers items_of));
+    each = is.each;
   }
 
--- ---- a kept state
--- it is the machine's
-pub fits_itself : (m : BufferedState) (k : Kept) (programs : List Loaded) → kept_state programs k ≡ m → IsBuffering (quiet k.store) programs
-    k.jobs.items k.buffers.items → IsSavedAs k.store k.bytes.items → FitsHost m k
-fits_itself m k programs is board saved =
-    subst (λ (s : BufferedState). FitsHost s k) is (record { host = same_host (kept_state programs k).machine; board = board; saved = saved })
+  pub buffering_of : w.waiting ≡ [] → IsBoard w.store programs (tasks_of jobs) (map items_of buffers) → IsBuffering w programs jobs buffers
+  buffering_of none is = record {
+    stands = is.stands;
+    put_back = none;
+    cpus = λ c. is.cpus c ∙ ap (nat_lt c) (length-map buffers items_of);
+    each = is.each;
+  }
 
--- the machine has gone on
-pub fits_after : (old new : BufferedState) (k : Kept) → IsSameHost old.machine new.machine → FitsHost old k → FitsHost new k
-fits_after old new k went fits = record {
-  host = record {
-    programs = refl;
-    jobs = fits.host.jobs ∙ sym went.jobs;
-    shape = (λ c. fits.host.shape.0 c ∙ sym (went.shape.0 c), fits.host.shape.1 ∙ sym went.shape.1);
-    lists = λ none. refl;
-  };
-  board = subst (λ (ps : List Loaded). IsBuffering (quiet k.store) ps k.jobs.items k.buffers.items) (sym went.programs) fits.board;
-  saved = fits.saved;
-}
+-- ---- a store that looks like the machine's
+module _ (p q : Contents) (alike : LookAlike p q) where
+  held_same : (c : ℕ) → held_spans q c ≡ held_spans p c
+  held_same c = λ k x. held_alike p.maps q.maps alike.maps c x k
 
--- it shows what the machine shows, whose store is saved as the same bytes
-pub shown_alike : (m : BufferedState) (k : Kept) → FitsHost m k → IsSavedAs m.machine.store k.bytes.items → tasks_of k.jobs.items ≡
-    m.machine.jobs → m.machine.lists ≡ None → events_of_all k.buffers.items ≡ m.buffers
-    → (x : X86) → ShowsX86 m x → ShowsX86 (kept_state m.machine.programs k) x
-shown_alike m k fits saved jobs lists buffers x shows = record {
+  serves : (c : ℕ) → has_cpu q c ≡ has_cpu p c
+  serves c = ap (λ (n : ℕ). nat_lt c n) alike.maps.cpus
+
+  stands_too : (programs : List Loaded) (jobs : List Task) (buffers : List (List Stored)) → Stands
+      (state_with p programs jobs buffers).machine → Stands (state_with q programs jobs buffers).machine
+  stands_too programs jobs buffers is = record {
+    served = λ j task at. serves task.cpu ∙ is.served j task at;
+    loaded = is.loaded;
+    hand = λ c j task state left at. (let f = is.hand c j task state left at in record {
+      number = f.number;
+      program = f.program;
+      loaded = f.loaded;
+      ready = f.ready;
+      held = subst (λ (h : Span → Bool). AreHeld h state.held) (sym (held_same c)) f.held;
+      runs = alike.maps.running c ∙ f.runs;
+    });
+    one = is.one;
+    idle = λ c free. alike.maps.running c ∙ is.idle c free;
+  }
+
+  waits_too : (c : ℕ) (es : List Stored) → CanWait p c es → CanWait q c es
+  waits_too c es is = record {
+    writable = subst (λ (h : Shape). AreWritable h (held_spans q c) es) (sym alike.shape)
+        (subst (λ (f : Span → Bool). AreWritable (shape_of p) f es) (sym (held_same c)) is.writable);
+    idle = λ rests. is.idle (sym (alike.maps.running c) ∙ rests);
+  }
+
+  pub board_too : (programs : List Loaded) (jobs : List Task) (buffers : List (List Stored)) → IsBoard p programs jobs buffers → IsBoard q
+      programs jobs buffers
+  board_too programs jobs buffers is = record {
+    stands = stands_too programs jobs buffers is.stands;
+    cpus = λ c. serves c ∙ is.cpus c;
+    each = λ c. waits_too c (slice_index_or buffers c []) (is.each c);
+  }
+
+-- it shows all that the machine shows
+pub shows_with : (m : BufferedState) (q : Contents) → LookAlike m.machine.store q → ShowsAsMuch m (with_store m q)
+shows_with m q alike x shows = record {
   world = record {
-    store = alike_stand_alike m.machine.store k.store x.world.store
-        (saved_alike_look_alike m.machine.store k.store k.bytes.items fits.host.shape saved fits.saved) shows.world.store;
+    store = alike_stand_alike m.machine.store q x.world.store alike shows.world.store;
     sound = shows.world.sound;
     programs = shows.world.programs;
-    jobs = shows.world.jobs ∙ sym jobs;
-    lists = shows.world.lists ∙ ap listing_at lists;
+    jobs = shows.world.jobs;
+    lists = shows.world.lists;
   };
-  buffers = shows.buffers ∙ ap buffer_at (sym buffers);
+  buffers = shows.buffers;
 }
 
+pub shows_saved : (m : BufferedState) (q : Contents) (bytes : List ℕ) → IsSameShape m.machine.store q → IsSavedAs m.machine.store bytes →
+    IsSavedAs q bytes → ShowsAsMuch m (with_store m q)
+shows_saved m q bytes shape saved too = shows_with m q (saved_alike_look_alike m.machine.store q bytes shape saved too)
+
+pub host_with : (m : BufferedState) (q : Contents) → IsSameShape m.machine.store q → IsSameHost m.machine (with_store m q).machine
+host_with m q shape = record { programs = refl; jobs = refl; shape = shape; lists = λ none. none }
+
 -- ---- a CPU that the machine doesn't have
-module _ (w : WaitingContents) (programs : List Loaded) (jobs : List Listed) (buffers : List (Vec Stored Global))
-    (board : IsBuffering w programs jobs buffers) (n : ℕ) (has : (c : ℕ) → has_cpu w.store c ≡ nat_lt c n) (c : ℕ) (above : n ≤ c) where
+none_there : (buffers : List (List Stored)) (c : ℕ) → length buffers ≤ c → buffer_at (map (map event_of) buffers) c ≡ []
+none_there [] c past = refl
+none_there (b ∷ bs) zero past = absurd (omega arith)
+none_there (b ∷ bs) (suc c) past = none_there bs c (omega arith)
+
+module _ (store : Contents) (programs : List Loaded) (jobs : List Task) (buffers : List (List Stored))
+    (board : IsBoard store programs jobs buffers) (n : ℕ) (has : (c : ℕ) → has_cpu store c ≡ nat_lt c n) (c : ℕ) (above : n ≤ c) where
   abbrev m : BufferedState
-  m = state_of w programs jobs buffers
+  m = state_with store programs jobs buffers
 
   beyond : length buffers ≤ c
   beyond = ltb-false c (length buffers) (sym (board.cpus c) ∙ has c ∙ le-ltb c n above)
@@ -136,7 +168,7 @@ module _ (w : WaitingContents) (programs : List Loaded) (jobs : List Listed) (bu
       (x, (Idle, inr (inr (free, none, refl, refl))), shows)
 
   pub none_flushes : CannotMove m (FlushOf c)
-  none_flushes = cannot_flush m c (none_beyond w programs jobs buffers board c beyond)
+  none_flushes = cannot_flush m c (none_there buffers c beyond)
 
 -- ---- what goes on stays of its host
 pub host_through : (w h k z : WaitingContents) (programs : List Loaded) (jobs jobs' : List Listed)

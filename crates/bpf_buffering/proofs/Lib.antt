@@ -2,6 +2,10 @@ pub mod Determined
 pub mod AtLast
 pub mod Beside
 pub mod Local
+pub mod Fronting
+pub mod Covering
+pub mod Unseen
+pub mod Running
 pub mod Making
 pub mod Adapting
 pub mod Serving
@@ -18,5 +22,6 @@ pub mod Oldest
 pub mod First
 pub mod Copying
 pub mod Keeping
+pub mod Pooling
 pub mod Ends
 pub mod AlbumLaws

@@ -10,7 +10,7 @@ use Rattle.bpf_x86.proofs.Alike.{same_functions}
 use Rattle.bpf_buffering.proofs.Beside.{calls_too}
 use Rattle.bpf_buffering.proofs.AtLast.{calls_others}
 
-all_too : (c : ℕ) (es : List Event) (b m t : Buffered) → m.memory ≡ b.memory → m.buffers c ≡ b.buffers c → CallsAll m c es t →
+pub all_too : (c : ℕ) (es : List Event) (b m t : Buffered) → m.memory ≡ b.memory → m.buffers c ≡ b.buffers c → CallsAll m c es t →
     (u : Buffered) × CallsAll b c es u × (u.memory ≡ t.memory) × (u.buffers c ≡ t.buffers c)
 all_too c [] b m t memory own calls = (b, refl, sym (ap (λ (z : Buffered). z.memory) calls ∙ memory), sym (ap (λ (z : Buffered). z.buffers c) calls ∙ own))
 all_too c (e ∷ es) b m t memory own calls =

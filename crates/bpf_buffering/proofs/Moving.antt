@@ -19,9 +19,9 @@ use Rattle.bpf_machine.specs.Hands.{IsAt, IsFree, NoneWaitsBelow, NoneWaits, Som
 use Rattle.bpf_machine.specs.Listings.{Listing, Never, listed_now, listing_at}
 use Rattle.bpf_machine.specs.Schedule.{World, Lists}
 use Rattle.bpf_machine.specs.Work.{HasInHand}
-use Rattle.bpf_x86.specs.Buffers.{Buffered, Calls, CallsAll}
-use Rattle.bpf_x86.specs.Machine.{X86, TurnOf, buffered, with_buffered, none_waits, Advances, GoesOn, TakesTurn}
-use Rattle.bpf_buffering.specs.Search.{BufferedState, ShowsX86, MovesTo, buffer_at, alone}
+use Rattle.bpf_x86.specs.Buffers.{Buffered, Calls}
+use Rattle.bpf_x86.specs.Machine.{X86, TurnOf, buffered, with_buffered, none_waits, Advances, GoesOn}
+use Rattle.bpf_buffering.specs.Search.{BufferedState, MovesTo, buffer_at, alone}
 use Rattle.bpf_x86.proofs.Calling.{put_twice, put_itself}
 use Rattle.bpf_buffering.proofs.Local.{calls_are_local}
 use Rattle.bpf_buffering.specs.Jobs.{IsLowest}

@@ -6,18 +6,13 @@ use Rattle.std.proofs.lemmas.Bool.{ltb-true}
 use Rattle.std.proofs.lemmas.List.{map-set, get_or-map, length-set}
 use Rattle.std.proofs.lemmas.Option.{slice_get_within}
 use Rattle.bpf_base.proofs.Lists.{slice_get-set_known, set_twice}
-use Rattle.bpf_shared.specs.declared.events.Event.{Event}
-use Rattle.bpf_shared.specs.declared.events.Event.TheVariants.{Begin}
-use Rattle.bpf_shared.specs.Store.{Plain, put}
-use Rattle.bpf_shared.specs.Sound.{IsSoundStore}
+use Rattle.bpf_shared.specs.Store.{put}
 use Rattle.bpf_shared.proofs.Puts.{equal_or_not}
-use Rattle.bpf_plain.specs.PlainStore.{Contents, StandsFor, has_cpu, is_running, held_spans}
+use Rattle.bpf_plain.specs.PlainStore.{Contents, has_cpu, is_running, held_spans}
 use Rattle.bpf_loader.specs.Loaded.{Loaded}
 use Rattle.bpf_helpers.specs.Held.{AreHeld}
 use Rattle.bpf_cpu.specs.declared.cpu.Cpu.{Cpu}
-use Rattle.bpf_cpu.specs.declared.input.Input.{Input}
 use Rattle.bpf_cpu.specs.declared.outcome.Outcome.{Outcome}
-use Rattle.bpf_cpu.specs.State.{start}
 use Rattle.bpf_cpu.specs.Step.{IsReady}
 use Rattle.bpf_cpu.specs.Task.{Stage, Task, Waiting, InHand, Ended}
 use Rattle.bpf_machine.specs.Kept.{kept_stage}
@@ -25,14 +20,13 @@ use Rattle.bpf_machine.specs.Hands.{IsAt, IsFree, with_stage}
 use Rattle.bpf_machine.specs.Machine.{MachineState}
 use Rattle.bpf_machine.specs.Parts.{FitsHand}
 use Rattle.bpf_machine.specs.Work.{HasInHand}
-use Rattle.bpf_x86.specs.Buffers.{Calls}
-use Rattle.bpf_buffering.specs.Search.{buffer_at, alone}
+use Rattle.bpf_buffering.specs.Search.{buffer_at}
 use Rattle.bpf_buffering.specs.declared.waiting.Stored.{Stored}
 use Rattle.bpf_buffering.specs.declared.jobs.Listed.{Listed}
 use Rattle.bpf_buffering.specs.Waiting.{WaitingContents, CanWait, buffer_of, event_of}
 use Rattle.bpf_buffering.specs.Jobs.{task_of, tasks_of, in_hand}
-use Rattle.bpf_buffering.specs.Going.{CanGoOn, GoesAlone, GoesOver, LeavesOthers, StaysFit}
-use Rattle.bpf_buffering.specs.Buffering.{stored_at, events_of_all, state_of, Stands, IsBuffering, Proceeds, Begins}
+use Rattle.bpf_buffering.specs.Going.{CanGoOn, LeavesOthers, StaysFit}
+use Rattle.bpf_buffering.specs.Buffering.{stored_at, events_of_all, state_of, IsBuffering}
 use Rattle.bpf_buffering.proofs.Finding.{task_at, entry_at}
 use Rattle.bpf_buffering.proofs.Standing.{stands_changed}
 use Rattle.bpf_buffering.proofs.Waits.{items_of, stored_same, stored_other, events_set, events_at, waits_still, nothing_waits}

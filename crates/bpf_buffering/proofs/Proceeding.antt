@@ -1,13 +1,11 @@
 -- What a turn's parts come to.
 use Rattle.std.proofs.Common.{◌≡◌, ℕ, Bool, true, false, List, Option, Some, refl, sym, ap, subst, ◌∙◌}
-use Rattle.std.specs.Prelude.{Vec, map, slice_get, slice_set, slice_index_or}
+use Rattle.std.specs.Prelude.{Vec, slice_get, slice_set, slice_index_or}
 use Rattle.std.specs.declared.alloc.Global.{Global}
 use Rattle.bpf_shared.specs.declared.events.Event.{Event}
 use Rattle.bpf_shared.specs.declared.events.Event.TheVariants.{Begin}
 use Rattle.bpf_shared.specs.declared.events.Span.{Span}
-use Rattle.bpf_shared.specs.Shape.{Shape}
 use Rattle.bpf_shared.specs.Store.{Plain, put}
-use Rattle.bpf_shared.specs.Sound.{IsSoundStore}
 use Rattle.bpf_shared.specs.Passage.{Calls as Called, held_without}
 use Rattle.bpf_shared.proofs.Puts.{put-same, put-other}
 use Rattle.bpf_plain.specs.PlainStore.{Contents, StandsFor, shape_of, is_running, held_spans}
@@ -22,20 +20,19 @@ use Rattle.bpf_cpu.specs.Step.{IsReady}
 use Rattle.bpf_cpu.specs.Task.{Stage, Task, Waiting, InHand}
 use Rattle.bpf_cpu.proofs.HeldLaws.{nothing_held, others_without}
 use Rattle.bpf_machine.specs.Kept.{kept_stage}
-use Rattle.bpf_machine.specs.Hands.{IsAt, IsFree}
+use Rattle.bpf_machine.specs.Hands.{IsAt}
 use Rattle.bpf_machine.specs.Parts.{FitsHand}
-use Rattle.bpf_machine.specs.Work.{HasInHand}
 use Rattle.bpf_machine.proofs.BeginLaws.{ready_to_start}
 use Rattle.bpf_x86.specs.Buffers.{Calls}
 use Rattle.bpf_buffering.specs.Search.{buffer_at, alone}
 use Rattle.bpf_buffering.specs.declared.waiting.Stored.{Stored}
 use Rattle.bpf_buffering.specs.declared.jobs.Listed.{Listed}
 use Rattle.bpf_buffering.specs.Waiting.{WaitingContents, PassesWaiting, serves_one, buffer_of}
-use Rattle.bpf_buffering.specs.Jobs.{task_of, in_hand}
+use Rattle.bpf_buffering.specs.Jobs.{in_hand}
 use Rattle.bpf_buffering.specs.Going.{GoesAlone, GoesOver, LeavesOthers}
 use Rattle.bpf_buffering.specs.Buffering.{events_of_all, state_of, IsBuffering, Proceeds, Begins}
 use Rattle.bpf_buffering.proofs.Advancing.{call_alone}
-use Rattle.bpf_buffering.proofs.Placing.{shown, stage_was, cpu_is, store_is, buffer_is, tasks_now, events_now}
+use Rattle.bpf_buffering.proofs.Placing.{shown, stage_was, cpu_is, buffer_is, tasks_now, events_now}
 
 module _ (w : WaitingContents) (programs : List Loaded) (jobs : List Listed) (buffers : List (Vec Stored Global))
     (board : IsBuffering w programs jobs buffers) (c j : ℕ) (e : Listed) (listed : slice_get jobs j ≡ Some e) (program : Loaded)

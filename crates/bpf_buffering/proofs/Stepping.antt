@@ -1,12 +1,11 @@
 -- A job in hand makes a step, and stays in hand or ends.
-use Rattle.std.proofs.Common.{◌≡◌, ◌≢◌, ℕ, suc, Bool, true, false, ◌==◌, ◌&&◌, List, Option, Some, None, refl, sym, ap, subst, ◌∙◌, eq-eqb}
-use Rattle.bpf_shared.specs.Shape.{Shape}
+use Rattle.std.proofs.Common.{◌≡◌, ◌≢◌, ℕ, Bool, true, false, ◌==◌, ◌&&◌, Option, sym, ap, subst, ◌∙◌, eq-eqb}
 use Rattle.bpf_shared.specs.declared.events.Span.{Span}
 use Rattle.bpf_shared.specs.declared.events.Event.TheVariants.{End}
 use Rattle.bpf_shared.specs.Store.{put}
 use Rattle.bpf_shared.specs.Passage.{Calls as Called, held_without}
 use Rattle.bpf_shared.proofs.Puts.{put-same, put-other}
-use Rattle.bpf_plain.specs.PlainStore.{Contents, shape_of, has_cpu, is_running, held_spans}
+use Rattle.bpf_plain.specs.PlainStore.{shape_of, has_cpu, is_running, held_spans}
 use Rattle.bpf_loader.specs.Loaded.{Loaded}
 use Rattle.bpf_helpers.specs.Held.{AreHeld, KeepsRun}
 use Rattle.bpf_cpu.specs.declared.cpu.Cpu.{Cpu}
@@ -18,7 +17,7 @@ use Rattle.bpf_machine.specs.declared.machine.parts.KeptStage.{KeptStage}
 use Rattle.bpf_machine.specs.declared.machine.parts.KeptStage.TheVariants as kept
 use Rattle.bpf_machine.specs.Kept.{kept_stage}
 use Rattle.bpf_buffering.specs.Waiting.{WaitingContents, PassesWaiting, serves_one}
-use Rattle.bpf_buffering.specs.Going.{AdvancesOver, CanGoOn, LeavesOthers, StaysFit}
+use Rattle.bpf_buffering.specs.Going.{AdvancesOver, CanGoOn, LeavesOthers}
 use Rattle.bpf_buffering.proofs.Advancing.{over_cpu}
 
 pub kept_in_hand : (s : KeptStage) (state : Cpu) (left : ℕ) → kept_stage s ≡ InHand state left → s ≡ kept.InHand state left

@@ -1,7 +1,10 @@
 -- A job goes on over a store of which its CPU's stores wait.
-use Rattle.std.specs.Prelude.{◌≡◌, ◌≢◌, ℕ, zero, suc, Bool, true, false, List, ◌⊎◌, Option, Some, None}
+use Rattle.std.specs.Prelude.{◌≡◌, ◌≢◌, ℕ, zero, suc, Bool, true, false, List, [], ◌++◌, ◌⊎◌, Option, Some, None}
+use Rattle.bpf_insn.specs.declared.instruction.Insn.{Insn}
+use Rattle.bpf_insn.specs.declared.instruction.Insn.TheVariants as insn
 use Rattle.bpf_shared.specs.declared.events.Event.{Event}
 use Rattle.bpf_shared.specs.declared.events.Event.TheVariants.{End}
+use Rattle.bpf_shared.specs.Shape.{Shape}
 use Rattle.bpf_shared.specs.Store.{Plain}
 use Rattle.bpf_shared.specs.Sound.{IsSoundStore}
 use Rattle.bpf_shared.specs.Chain.{Chain}
@@ -10,15 +13,23 @@ use Rattle.bpf_loader.specs.Loaded.{Loaded}
 use Rattle.bpf_helpers.specs.Held.{AreHeld}
 use Rattle.bpf_cpu.specs.declared.cpu.Cpu.{Cpu}
 use Rattle.bpf_cpu.specs.declared.outcome.Progress.{Progress}
+use Rattle.bpf_cpu.specs.declared.outcome.Progress.TheVariants.{On}
 use Rattle.bpf_cpu.specs.declared.outcome.Outcome.{Outcome}
 use Rattle.bpf_cpu.specs.declared.outcome.Outcome.TheVariants.{OutOfBudget}
 use Rattle.bpf_cpu.specs.Step.{Step, IsReady}
-use Rattle.bpf_cpu.specs.Task.{Stage, Task, InHand, Ended}
+use Rattle.bpf_cpu.specs.Task.{Stage, InHand, Ended}
 use Rattle.bpf_machine.specs.Schedule.{outcome_after}
-use Rattle.bpf_x86.specs.Buffers.{Buffered, Calls}
+use Rattle.bpf_x86.specs.Buffers.{Buffered, Calls, CallsAll}
+use Rattle.bpf_x86.specs.Forwarding.{AreStores}
 use Rattle.bpf_x86.specs.Machine.{Advances}
 use Rattle.bpf_buffering.specs.Search.{alone}
-use Rattle.bpf_buffering.specs.Waiting.{WaitingContents, PassesWaiting, serves_one, buffer_of}
+use Rattle.bpf_buffering.specs.Waiting.{WaitingContents, IsSameCpu, PassesWaiting, serves_one, buffer_of}
+
+-- what calls lead to, where the CPU is alone
+abbrev pub LeadAlone : WaitingContents → List Event → WaitingContents → Type 0
+LeadAlone x events y = y.lost ≡ false → (x.lost ≡ false) × ((s : Plain) → IsSoundStore s
+    → StandsFor x.store s → (t : Plain) × IsSoundStore t × StandsFor y.store t
+    × CallsAll (alone s x.cpu (buffer_of x)) x.cpu events (alone t x.cpu (buffer_of y)))
 
 -- one step of a job in hand over the store, if its budget has one left
 abbrev pub AdvancesOver : Loaded → WaitingContents → Cpu → ℕ → Option Outcome → WaitingContents → Cpu → ℕ → Type 0
@@ -72,3 +83,38 @@ abbrev pub StaysFit : Loaded → WaitingContents → Stage → Option Outcome �
 StaysFit program w stage None = CanGoOn program w stage
 StaysFit program w stage (Some end) =
     (stage ≡ Ended end) × (is_running w.store w.cpu ≡ false)
+
+-- ---- steps that no other CPU sees
+-- this many steps of a job that stays in hand, whose calls are stores alone
+abbrev pub StepsAhead : Shape → Loaded → ℕ → Cpu → ℕ → List Event → Cpu → ℕ → Type 0
+StepsAhead shape program zero old left events new rest =
+    (events ≡ []) × (new ≡ old) × (rest ≡ left)
+StepsAhead shape program (suc n) old left events new rest =
+    (more : ℕ) × (first : List Event) × (others : List Event) × (mid : Cpu)
+    × (left ≡ suc (suc more)) × (events ≡ first ++ others)
+    × Step shape program old first On mid × AreStores first
+    × StepsAhead shape program n mid (suc more) others new rest
+
+-- some of them over the store
+abbrev pub GoesAhead : Loaded → WaitingContents → Cpu → ℕ → WaitingContents → Cpu → ℕ → Type 0
+GoesAhead program x old left y new rest =
+    (n : ℕ) × (events : List Event) × IsSameCpu x y
+    × StepsAhead (shape_of x.store) program n old left events new rest × LeadAlone x events y
+
+-- this many, of the job in this stage
+abbrev pub GoesAheadOver : Loaded → WaitingContents → Stage → ℕ → WaitingContents → Stage → Type 0
+GoesAheadOver program x was n y stage =
+    (old : Cpu) × (left : ℕ) × (events : List Event) × (new : Cpu) × (rest : ℕ)
+    × (was ≡ InHand old left) × (stage ≡ InHand new rest)
+    × StepsAhead (shape_of x.store) program n old left events new rest × LeadAlone x events y
+
+abbrev pub IsPlainStore : Insn → Type 0
+IsPlainStore (insn.Store z b o s) = Unit {0}
+IsPlainStore (insn.StoreImmediate z b o n) = Unit {0}
+IsPlainStore _ = ⊥
+
+-- a step that calls stores alone is made; or the state stays, and nothing is called
+abbrev pub TriesStore : Loaded → WaitingContents → Cpu → Bool → WaitingContents → Cpu → Type 0
+TriesStore program x old made y new = (events : List Event) × IsSameCpu x y × LeadAlone x events y
+    × (made ≡ true → Step (shape_of x.store) program old events On new × AreStores events)
+    × (made ≡ false → (events ≡ []) × (new ≡ old))

@@ -1,4 +1,5 @@
 pub mod Search
+pub mod Ahead
 pub mod Waiting
 pub mod Jobs
 pub mod Going

@@ -1,5 +1,4 @@
--- The search through the moves of the x86 machine: a list of its machines that moves don't lead out of has
--- all that schedules of moves lead to.
+-- What a search through the moves of the x86 machine keeps, and what follows for its moves.
 use Rattle.std.specs.Prelude.{◌≡◌, ℕ, ◌<◌, ◌≤◌, ◌-◌, nat_lt, List, [], length, ◌⊎◌, Some, slice_get, slice_index_or, map, if◌then◌else◌}
 use Rattle.bpf_shared.specs.declared.events.Event.{Event}
 use Rattle.bpf_machine.specs.Laws.{IsFresh}
@@ -34,6 +33,11 @@ abbrev pub MovesTo : BufferedState → Move → BufferedState → Type 0
 MovesTo old move new =
     (x : X86) → ShowsX86 old x → (z : X86) × Moves x move z × ShowsX86 new z
 
+-- so do several, in order
+abbrev pub RunsTo : BufferedState → List Move → BufferedState → Type 0
+RunsTo old moves new =
+    (x : X86) → ShowsX86 old x → (z : X86) × RunsMoves x moves z × ShowsX86 new z
+
 -- no machine that it shows makes this move: a flush where nothing waits
 abbrev pub CannotMove : BufferedState → Move → Type 0
 CannotMove m move = (x z : X86) → ShowsX86 m x → Moves x move z → ⊥
@@ -42,22 +46,11 @@ CannotMove m move = (x z : X86) → ShowsX86 m x → Moves x move z → ⊥
 abbrev pub IsKeptAsX86 : List BufferedState → BufferedState → Type 0
 IsKeptAsX86 kept m = (x : X86) → ShowsX86 m x → IsShownX86 kept x
 
--- each move from each kept machine leads to one that is kept so
-abbrev pub IsClosedX86 : List BufferedState → Type 0
-IsClosedX86 kept = (i : ℕ) (m : BufferedState) → slice_get kept i ≡ Some m → (move : Move)
-    → ((new : BufferedState) × MovesTo m move new × IsKeptAsX86 kept new) ⊎ CannotMove m move
-
 -- ---- the laws
 -- a move has one course
 abbrev pub MovesAreDetermined : Type 0
 MovesAreDetermined = (w : World) (moves : List Move) (y z : X86) → IsFresh w
     → RunsMoves (drained w) moves y → RunsMoves (drained w) moves z → y ≡ z
-
--- a closed list that shows a machine before its first turn shows all that schedules of moves lead to
-abbrev pub ClosedSetsCoverX86 : Type 0
-ClosedSetsCoverX86 = (kept : List BufferedState) (w : World) (moves : List Move) (z : X86)
-    → IsClosedX86 kept → IsFresh w → IsShownX86 kept (drained w) → RunsMoves (drained w) moves z
-    → IsShownX86 kept z
 
 -- where all jobs have ended, nothing waits
 abbrev pub NothingWaitsAtLast : Type 0

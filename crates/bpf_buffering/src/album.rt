@@ -1,56 +1,19 @@
 //! A machine to work with, and states of it that are kept as they were.
 
-ghost use Rattle.std.specs.Prelude.{◌≡◌, ◌++◌, ◌∷◌, [], true, false, All, OnOk, OnErr, map};
+ghost use Rattle.std.specs.Prelude.{◌≡◌, ◌⊎◌, ◌++◌, ◌∷◌, [], All, IfSome, OnOk, Some, slice_get};
 ghost use Rattle.bpf_plain.specs.PlainStore.{IsSavedAs};
-ghost use Rattle.bpf_buffering.specs.Search.{IsKeptAsX86};
-ghost use Rattle.bpf_buffering.specs.Private.Kept.{kept_state, FitsHost};
+ghost use Rattle.bpf_plain.specs.Alike.{IsSameShape};
+ghost use Rattle.bpf_machine.specs.Parts.{IsSameHost};
+ghost use Rattle.bpf_buffering.specs.Private.Kept.{ShowsAsMuch};
 
-use crate::buffering::{Buffering, Kept};
+use crate::buffering::Buffering;
+use crate::pools::Pools;
+use crate::pools::stores::Stores;
+use crate::states::States;
 use bpf_machine::Turn;
 use bpf_plain::PlainStore;
 use std::alloc::{AllocError, Global};
 use std::marker::Model;
-
-/// The place of a hash among n, or one n steps after it.
-fn place_of(hash: u64, step: usize, places: usize) -> usize {
-    ((hash >> 32) as usize).wrapping_add(step) & places.wrapping_sub(1)
-}
-
-/// What is there; 0 where nothing is.
-fn slot_of(slots: &[u32], hash: u64, step: usize) -> u32 {
-    match slots.get(place_of(hash, step, slots.len())) {
-        Some(slot) => *slot,
-        None => 0,
-    }
-}
-
-/// Puts a number at the first place from that of a hash on where nothing is: one more than it.
-fn note(slots: &mut Vec<u32>, hash: u64, number: usize) -> Result<(), AllocError> {
-    let mark = number.checked_add(1).ok_or(AllocError)?;
-    let mark = u32::try_from(mark).map_err(|_| AllocError)?;
-    for step in 0..slots.len() {
-        let place = place_of(hash, step, slots.len());
-        if place < slots.len() && slots[place] == 0 {
-            slots[place] = mark;
-            return Ok(());
-        }
-    }
-    Err(AllocError)
-}
-
-/// Makes more places where half of them are taken.
-fn widen(alloc: Global, kept: &[Kept], slots: &mut Vec<u32>) -> Result<(), AllocError> {
-    if kept.len() < slots.len() / 2 {
-        return Ok(());
-    }
-    let places = slots.len().saturating_mul(2).max(16);
-    let mut wider = vec![in alloc; 0; places]?;
-    for number in 0..kept.len() {
-        note(&mut wider, kept[number].hash(), number)?;
-    }
-    *slots = wider;
-    Ok(())
-}
 
 /// The bytes become those that a store is saved as.
 fn save_store(store: &PlainStore, bytes: &mut Vec<u8>) -> Result<(), AllocError>
@@ -60,57 +23,27 @@ fn save_store(store: &PlainStore, bytes: &mut Vec<u8>) -> Result<(), AllocError>
     store.save(bytes)
 }
 
-/// Whether the kept state of a number is there, and is as the machine is.
-fn is_at(machine: &Buffering, kept: &[Kept], number: usize, bytes: &[u8]) -> bool
-    requires saved { IsSavedAs machine.now.machine.store bytes.now }
-    requires fits { All (FitsHost machine.now) kept.now }
-    ensures { result ≡ true
-        → IsKeptAsX86 (map (kept_state machine.now.machine.programs) kept.now) machine.now }
-{
-    match kept.get(number) {
-        Some(one) => machine.is_as(one, bytes),
-        None => false,
-    }
-}
-
-/// Whether some kept state, found by its place, is as the machine is.
-fn is_kept(machine: &Buffering, kept: &[Kept], slots: &[u32], bytes: &[u8]) -> bool
-    requires saved { IsSavedAs machine.now.machine.store bytes.now }
-    requires fits { All (FitsHost machine.now) kept.now }
-    ensures { result ≡ true
-        → IsKeptAsX86 (map (kept_state machine.now.machine.programs) kept.now) machine.now }
-{
-    let hash = machine.hash(bytes);
-    for step in 0..slots.len() {
-        let slot = slot_of(slots, hash, step);
-        if slot == 0 {
-            return false;
-        }
-        if is_at(machine, kept, slot as usize - 1, bytes) {
-            return true;
-        }
-    }
-    false
-}
-
-/// Keeps the machine as it is.
-fn add(
+/// The machine takes a kept store that is saved as its own, if one is found; else its own is kept. The
+/// number of the store that it has then; none where memory is refused.
+fn settle(
     alloc: Global,
-    machine: &Buffering,
-    kept: &mut Vec<Kept>,
-    slots: &mut Vec<u32>,
-    bytes: &[u8],
-) -> Result<(), AllocError>
-    requires { IsSavedAs machine.now.machine.store bytes.now }
-    ensures adds { OnOk result ((k : Kept) × (kept.new.items ≡ kept.old.items ++ k ∷ [])
-        × (kept_state machine.now.machine.programs k ≡ machine.now) × FitsHost machine.now k) }
-    ensures err { OnErr result (kept.new.items ≡ kept.old.items) }
+    machine: &mut Buffering,
+    stores: &mut Stores,
+    bytes: &mut Vec<u8>,
+) -> Option<u32>
+    requires { All (IsSameShape machine.old.machine.store) stores.old }
+    ensures shows { ShowsAsMuch machine.old machine.new }
+    ensures host { IsSameHost machine.old.machine machine.new.machine }
+    ensures at { IfSome result (λ n. slice_get stores.new n ≡ Some machine.new.machine.store) }
+    ensures adds { (stores.new ≡ stores.old)
+        ⊎ (stores.new ≡ stores.old ++ machine.old.machine.store ∷ []) }
 {
-    widen(alloc, kept, slots)?;
-    let one = machine.keep(alloc, bytes)?;
-    note(slots, one.hash(), kept.len())?;
-    kept.push(one)?;
-    Ok(())
+    save_store(machine.store(), bytes).ok()?;
+    if let Some(number) = stores.find(bytes) {
+        machine.take_store(stores.store(number));
+        return Some(number);
+    }
+    stores.keep_anew(alloc, machine.store()).ok()
 }
 
 /// A machine to work with, and kept states of it, each under its number, in the order in which they
@@ -119,33 +52,34 @@ fn add(
 pub struct Album {
     alloc: Global,
     machine: Buffering,
-    kept: Vec<Kept>,
-    /// By place, one more than the number of a state, from the place of its hash on; 0 where none is.
-    slots: Vec<u32>,
+    pools: Pools,
+    states: States,
+    /// The number of the machine's store, where it is known.
+    store: Option<u32>,
     /// Room to save a store.
     bytes: Vec<u8>,
 }
 
 impl Model for Album {
-    ghost use Rattle.std.specs.Prelude.{All, map};
+    ghost use Rattle.std.specs.Prelude.{map};
     ghost use Rattle.bpf_buffering.specs.Album.{AlbumState};
-    ghost use Rattle.bpf_buffering.specs.Private.Kept.{kept_state, FitsHost};
+    ghost use Rattle.bpf_buffering.specs.Private.Kept.{kept_state, IsAlbum};
 
     ghost Value = { AlbumState };
 
     ghost view = { λ a. record {
       machine = a.machine;
-      kept = map (kept_state a.machine.machine.programs) a.kept.items;
+      kept = map (kept_state a.pools a.machine.machine.programs) a.states;
     } };
 
-    ghost invariant = { λ a. All (FitsHost a.machine) a.kept.items };
+    ghost invariant = { λ a. IsAlbum a.machine a.pools a.states a.store };
 }
 
 impl Album {
-    ghost use Rattle.std.specs.Prelude.{◌≡◌, ◌<◌, ◌≤◌, ◌++◌, ◌∷◌, ℕ, [], true, false, Some, IfOk, OnOk, OnErr, length, slice_get};
+    ghost use Rattle.std.specs.Prelude.{◌≡◌, ◌<◌, ◌≤◌, ◌+◌, ◌++◌, ◌∷◌, ℕ, [], true, false, Some, None, IfOk, IfSome, OnOk, OnErr, length, replicate, slice_get};
     ghost use Rattle.bpf_x86.specs.Machine.{TurnOf, FlushOf};
-    ghost use Rattle.bpf_buffering.specs.Search.{BufferedState, MovesTo, CannotMove, IsKeptAsX86};
-    ghost use Rattle.bpf_buffering.specs.Buffering.{TurnsTo};
+    ghost use Rattle.bpf_buffering.specs.Search.{BufferedState, MovesTo, RunsTo, CannotMove, IsKeptAsX86};
+    ghost use Rattle.bpf_buffering.specs.Ahead.{MovesAhead};
     ghost use Rattle.bpf_buffering.specs.Album.{HaveEndedAt};
 
     /// Nothing is kept yet.
@@ -155,8 +89,9 @@ impl Album {
         Album {
             alloc,
             machine,
-            kept: Vec::new(alloc),
-            slots: Vec::new(alloc),
+            pools: Pools::new(alloc),
+            states: States::new(alloc),
+            store: None,
             bytes: Vec::new(alloc),
         }
     }
@@ -182,7 +117,7 @@ impl Album {
     pub fn len(&self) -> usize
         ensures { result ≡ length self.now.kept }
     {
-        self.kept.len()
+        self.states.len()
     }
 
     /// How many CPUs there are. Those of the numbers from it on have no move that changes anything.
@@ -200,7 +135,7 @@ impl Album {
         ensures ended { result ≡ true → HaveEndedAt self.now.kept place }
         ensures works { result ≡ false → HaveEndedAt self.now.kept place → ⊥ }
     {
-        self.kept[place].has_ended()
+        self.pools.jobs.have_ended(&self.states.at(place).jobs)
     }
 
     /// Takes a kept state to work with. Where memory is refused the machine stays as it is.
@@ -210,19 +145,49 @@ impl Album {
         ensures err { OnErr result (self.new.machine ≡ self.old.machine) }
         ensures same { self.new.kept ≡ self.old.kept }
     {
-        self.machine.restore(self.alloc, &self.kept[place])
+        let kept = self.states.at(place);
+        let jobs = self.pools.jobs.copy(self.alloc, &kept.jobs)?;
+        let buffers = self.pools.buffers.copy(self.alloc, kept.buffers)?;
+        let store = self.pools.stores.store(kept.store);
+        self.machine.take(store, jobs, buffers);
+        self.store = Some(kept.store);
+        Ok(())
     }
 
-    /// One turn of a CPU.
-    pub fn turn(&mut self, cpu: u8) -> Result<Turn, AllocError>
-        ensures turns { IfOk result
-            (λ turn. TurnsTo self.old.machine cpu turn self.new.machine) }
-        ensures moves { OnOk result (MovesTo self.old.machine (TurnOf cpu) self.new.machine) }
-        ensures idle { IfOk result
-            (λ turn. turn ≡ Turn.Idle → self.new.machine ≡ self.old.machine) }
+    /// After a move: the machine takes a kept store that is saved as its own, if one is found.
+    fn settle(&mut self)
+        ensures shows { ShowsAsMuch self.old.machine self.new.machine }
         ensures same { self.new.kept ≡ self.old.kept }
     {
-        self.machine.turn(cpu)
+        let store = settle(
+            self.alloc,
+            &mut self.machine,
+            &mut self.pools.stores,
+            &mut self.bytes,
+        );
+        self.store = store;
+    }
+
+    /// One turn of a CPU, and then those of its turns that no other CPU sees. How many of these; `None`
+    /// of a CPU without work.
+    pub fn turn_ahead(&mut self, cpu: u8) -> Result<Option<u64>, AllocError>
+        ensures moves { OnOk result
+            (MovesAhead self.old.machine (TurnOf cpu) self.new.machine) }
+        ensures turns { IfOk result (λ more. IfSome more (λ n. RunsTo self.old.machine
+            (replicate (n + 1) (TurnOf cpu)) self.new.machine)) }
+        ensures idle { IfOk result (λ more. more ≡ None
+            → self.new.machine ≡ self.old.machine) }
+        ensures same { self.new.kept ≡ self.old.kept }
+    {
+        let known = self.store;
+        self.store = None;
+        if self.machine.turn(cpu)? == Turn::Idle {
+            self.store = known;
+            return Ok(None);
+        }
+        let more = self.machine.run_ahead(cpu)?;
+        self.settle();
+        Ok(Some(more))
     }
 
     /// The CPU's oldest waiting store reaches memory. Whether one waits.
@@ -233,7 +198,12 @@ impl Album {
         ensures unchanged { result ≡ false → self.new.machine ≡ self.old.machine }
         ensures same { self.new.kept ≡ self.old.kept }
     {
-        self.machine.flush(cpu)
+        if !self.machine.flush(cpu) {
+            return false;
+        }
+        self.store = None;
+        self.settle();
+        true
     }
 
     /// Keeps the machine as it is.
@@ -242,25 +212,9 @@ impl Album {
         ensures err { OnErr result (self.new.kept ≡ self.old.kept) }
         ensures machine { self.new.machine ≡ self.old.machine }
     {
-        save_store(self.machine.store(), &mut self.bytes)?;
-        add(
-            self.alloc,
-            &self.machine,
-            &mut self.kept,
-            &mut self.slots,
-            &self.bytes,
-        )?;
+        let one = self.pools.number(self.alloc, &self.machine, self.store)?;
+        self.states.add(self.alloc, one)?;
         Ok(())
-    }
-
-    /// Whether the machine is found among the kept ones.
-    fn finds(&mut self) -> Result<bool, AllocError>
-        ensures found { IfOk result
-            (λ found. found ≡ true → IsKeptAsX86 self.old.kept self.old.machine) }
-        ensures same { self.new ≡ self.old }
-    {
-        save_store(self.machine.store(), &mut self.bytes)?;
-        Ok(is_kept(&self.machine, &self.kept, &self.slots, &self.bytes))
     }
 
     /// Keeps the machine as it is, unless one is found that shows all that it shows. Whether it was
@@ -273,18 +227,17 @@ impl Album {
         ensures err { OnErr result (self.new.kept ≡ self.old.kept) }
         ensures machine { self.new.machine ≡ self.old.machine }
     {
-        if self.finds()? {
+        let one = self.pools.number(self.alloc, &self.machine, self.store)?;
+        if self.states.finds(&one) {
             return Ok(false);
         }
-        self.keep_new()?;
+        self.states.add(self.alloc, one)?;
         Ok(true)
     }
 
-    /// About how many bytes of memory the kept states take: each some times what the store was saved
-    /// as last, and its jobs.
+    /// About how many bytes of memory the kept states take.
     pub fn bytes(&self) -> usize {
-        let jobs = self.machine.jobs().saturating_mul(6_144);
-        let one = self.bytes.len().saturating_mul(4).saturating_add(jobs);
-        self.kept.len().saturating_mul(one)
+        let states = self.states.bytes(self.machine.jobs());
+        self.pools.bytes().saturating_add(states)
     }
 }

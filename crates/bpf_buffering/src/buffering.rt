@@ -13,7 +13,6 @@ use bpf_loader::Program;
 use bpf_machine::{KeptStage, Turn};
 use bpf_plain::PlainStore;
 use bpf_shared::Shared;
-pub(crate) use keeping::Kept;
 use std::alloc::{AllocError, Global};
 use std::marker::Model;
 
@@ -62,6 +61,7 @@ impl Buffering {
     ghost use Rattle.bpf_machine.specs.Parts.{IsSameHost};
     ghost use Rattle.bpf_x86.specs.Machine.{TurnOf, FlushOf};
     ghost use Rattle.bpf_buffering.specs.Search.{MovesTo, CannotMove, buffer_at};
+    ghost use Rattle.bpf_buffering.specs.Ahead.{RunsUnseen};
     ghost use Rattle.bpf_buffering.specs.Jobs.{IsLowest};
     ghost use Rattle.bpf_buffering.specs.Buffering.{answer_of, Proceeds, Begins, TurnsTo};
 
@@ -112,6 +112,18 @@ impl Buffering {
                 self.proceed(cpu, job)
             }
             None => Ok(Turn::Idle),
+        }
+    }
+
+    /// Makes the turns of a CPU that no other CPU sees, as long as its job stays in hand. How many.
+    /// Where there is no memory for a store that is to wait, the machine is of no more use.
+    pub fn run_ahead(&mut self, cpu: u8) -> Result<u64, AllocError>
+        ensures unseen { IfOk result (λ n. RunsUnseen self.old cpu n self.new) }
+        ensures host { IsSameHost self.old.machine self.new.machine }
+    {
+        match find_hand(&self.jobs, cpu) {
+            Some(job) => self.go_ahead(cpu, job),
+            None => Ok(0),
         }
     }
 
@@ -230,5 +242,21 @@ impl Buffering {
             return Err(AllocError);
         }
         Ok(answer(job, end))
+    }
+
+    /// Goes ahead with the job that a CPU has in hand, by steps that no other CPU sees. How many.
+    fn go_ahead(&mut self, cpu: u8, job: usize) -> Result<u64, AllocError>
+        requires { HasInHand self.old.machine.jobs cpu job }
+        ensures unseen { IfOk result (λ n. RunsUnseen self.old cpu n self.new) }
+        ensures host { IsSameHost self.old.machine self.new.machine }
+    {
+        self.here.exchange(cpu, &mut self.buffers[cpu as usize]);
+        let listed = &mut self.jobs[job];
+        let made = listed.go_ahead(&self.programs[listed.program], &mut self.here);
+        self.here.exchange(cpu, &mut self.buffers[cpu as usize]);
+        if self.here.is_lost() {
+            return Err(AllocError);
+        }
+        Ok(made)
     }
 }

@@ -9,12 +9,12 @@ ghost use Rattle.bpf_machine.specs.Kept.{kept_stage};
 ghost use Rattle.bpf_machine.specs.Hands.{IsFree, NoneWaits};
 ghost use Rattle.bpf_machine.specs.Work.{HasInHand};
 ghost use Rattle.bpf_buffering.specs.Waiting.{serves_one};
-ghost use Rattle.bpf_buffering.specs.Jobs.{first_entry, in_hand, waits, held_by, waits_for, tasks_of, IsTakenUp, IsLowest};
+ghost use Rattle.bpf_buffering.specs.Jobs.{first_entry, in_hand, waits, held_by, waits_for, task_of, tasks_of, IsTakenUp, IsLowest};
 ghost use Rattle.bpf_buffering.specs.Buffering.{answer_of};
 ghost use Rattle.bpf_buffering.specs.Going.{AdvancesOver, CanGoOn, GoesOver, LeavesOthers, StaysFit};
 
 use crate::waiting::Waiting;
-use bpf_cpu::{Cpu, Job, Outcome, Progress};
+use bpf_cpu::{Cpu, Input, Job, Outcome, Progress};
 use bpf_loader::Program;
 use bpf_machine::{KeptStage, Turn};
 use bpf_shared::Shared;
@@ -159,6 +159,44 @@ impl Listed {
             }
         }
     }
+}
+
+/// A copy of a CPU's state.
+fn copy_cpu(alloc: Global, cpu: &Cpu) -> Result<Cpu, AllocError>
+    ensures { IfOk result (λ copy. copy ≡ cpu.now) }
+{
+    let input = Input {
+        context: cpu.memory.context.copy(alloc)?,
+        packet: cpu.memory.packet.copy(alloc)?,
+        given: cpu.given,
+    };
+    let mut copy = Cpu::new(cpu.number, input);
+    copy.copy_from(cpu);
+    Ok(copy)
+}
+
+/// A copy of how far a job is.
+fn copy_stage(alloc: Global, stage: &KeptStage) -> Result<KeptStage, AllocError>
+    ensures { IfOk result (λ copy. kept_stage copy ≡ kept_stage stage.now) }
+{
+    match stage {
+        KeptStage::Waiting(input) => Ok(KeptStage::Waiting(input.copy(alloc)?)),
+        KeptStage::InHand(cpu, left) => Ok(KeptStage::InHand(copy_cpu(alloc, cpu)?, *left)),
+        KeptStage::Ended(outcome) => Ok(KeptStage::Ended(*outcome)),
+    }
+}
+
+/// A copy of a job.
+pub(crate) fn copy_job(alloc: Global, job: &Listed) -> Result<Listed, AllocError>
+    ensures { IfOk result (λ copy. task_of copy ≡ task_of job.now) }
+{
+    let stage = copy_stage(alloc, &job.stage)?;
+    Ok(Listed {
+        cpu: job.cpu,
+        program: job.program,
+        budget: job.budget,
+        stage,
+    })
 }
 
 /// The jobs, all waiting.

@@ -1,7 +1,8 @@
 //! What follows from the definition of the x86 machine for a search through its moves.
 //!
 //! The functions do nothing: their contracts are the laws.
-ghost use Rattle.bpf_buffering.specs.Search.{CallsAreLocal, ClosedSetsCoverX86, MovesAreDetermined, NothingWaitsAtLast};
+ghost use Rattle.bpf_buffering.specs.Ahead.{AheadSetsCoverX86};
+ghost use Rattle.bpf_buffering.specs.Search.{CallsAreLocal, MovesAreDetermined, NothingWaitsAtLast};
 
 /// A schedule of moves has one course.
 pub fn moves_are_determined()
@@ -22,9 +23,10 @@ pub fn calls_are_local()
     ensures { CallsAreLocal }
 {}
 
-/// A closed list covers what schedules of moves lead to.
-pub fn closed_sets_cover_x86()
-    ensures { ClosedSetsCoverX86 }
+/// A list that moves, each with unseen turns after it, don't lead out of shows each machine without work
+/// that schedules of moves lead to.
+pub fn ahead_sets_cover_x86()
+    ensures { AheadSetsCoverX86 }
 {
     bpf_mem::laws::writes_are_determined();
     bpf_loader::laws::one_instruction_begins();

@@ -1,10 +1,14 @@
 //! The x86 machine: jobs on CPUs whose plain stores wait in store buffers.
 #![tactic(auto)]
 
+mod ahead;
 mod album;
 mod buffering;
+mod index;
 mod jobs;
 pub mod laws;
+mod pools;
+mod states;
 mod waiting;
 
 pub use album::Album;

@@ -17,6 +17,9 @@ use std::alloc::Global;
 use std::marker::Model;
 use std::mem;
 
+/// How many stores of a CPU may wait for one more to be made ahead of what other CPUs do.
+const ROOM: usize = 64;
+
 /// A plain store that waits.
 #[derive(Clone, Copy, PartialEq, Eq, Debug)]
 pub(crate) struct Stored {
@@ -74,7 +77,7 @@ impl Model for Waiting {
 }
 
 impl Waiting {
-    ghost use Rattle.std.specs.Prelude.{◌≡◌, true, false, []};
+    ghost use Rattle.std.specs.Prelude.{◌≡◌, ◌<◌, true, false, [], length};
     ghost use Rattle.bpf_plain.specs.PlainStore.{has_cpu, is_running, shape_of, held_spans};
     ghost use Rattle.bpf_plain.specs.Alike.{IsSameShape};
     ghost use Rattle.bpf_buffering.specs.Waiting.{CanWait, FlushesAlone};
@@ -115,6 +118,13 @@ impl Waiting {
         ensures { result ≡ self.now.lost }
     {
         self.lost
+    }
+
+    /// Whether a store may be made ahead of what other CPUs do.
+    pub(crate) fn has_room(&self) -> bool
+        ensures { result ≡ true → length self.now.waiting < 64 }
+    {
+        self.waiting.len() < ROOM
     }
 
     /// Serves a CPU, of which these stores wait. They are exchanged for those of the CPU that was

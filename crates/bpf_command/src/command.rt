@@ -15,9 +15,9 @@ pub const MAX_WORKERS: u8 = 16;
 /// The greatest limit that may be asked for.
 pub const MAX_LIMIT: u64 = 1_000_000_000;
 
-/// The states that a search with store buffers keeps where no limit is given. Each has what its CPUs have in
-/// hand, some 10 KB a CPU.
-pub const X86_LIMIT: u64 = 30_000;
+/// The states that a search with store buffers keeps where no limit is given: as many as without. Each takes
+/// some 100 bytes.
+pub const X86_LIMIT: u64 = 1_000_000;
 
 /// The options of a run of one program, in their ranges.
 #[derive(PartialEq, Eq, Debug, Drop)]

@@ -127,8 +127,7 @@ All orders are those of sequential consistency: a load sees the newest store. Pr
 With --x86 CPUs have store buffers, as those of x86 have: a plain store to a value waits there, and its
 own CPU's loads alone find it. Then every order of turns and of flushes is made, each flush of a CPU's
 oldest store, and schedules have words C!*N too, N flushes of CPU C, as 'run --x86 --by' takes them.
-Where no --limit is given 30000 states are kept. --x86 goes beside none of --patient, --races, --sync
-and --show.
+--x86 goes beside none of --patient, --races, --sync and --show.
 
 Each time that 131072 more states are done a line on standard error shows how far the search is, where
 that is a terminal or with --progress: 'N states, N to go, N MB', how many are kept, from how many of

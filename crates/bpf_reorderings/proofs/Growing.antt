@@ -1,5 +1,6 @@
 -- Moves that were made from kept machines, while more are kept.
-use Rattle.std.proofs.Common.{◌≡◌, ◌∙◌, ◌+◌, ◌-◌, ◌<◌, ◌≤◌, ℕ, Bool, true, false, List, [], ◌∷◌, ◌++◌, Some, length, refl, inl, inr, sym}
+use Rattle.std.proofs.Common.{◌≡◌, ◌∙◌, ◌+◌, ◌-◌, ◌<◌, ◌≤◌, ℕ, zero, suc, Bool, true, false, List, [], ◌∷◌, ◌++◌, Some, length, map}
+use Rattle.std.proofs.Common.{replicate, refl, inl, inr, sym}
 use Rattle.std.proofs.Common.{ap, subst, append-nil, append_assoc, length-append, arith}
 use Rattle.std.specs.Prelude.{Result, Ok, Err, IfOk, OnErr, slice_get}
 use Rattle.std.specs.declared.alloc.AllocError.{AllocError}
@@ -7,8 +8,9 @@ use Rattle.std.proofs.lemmas.Bool.{cases_lt}
 use Rattle.std.proofs.lemmas.Option.{slice_get_within}
 use Rattle.bpf_base.proofs.Lists.{slice_get-front}
 use Rattle.bpf_x86.specs.Machine.{Move, TurnOf, FlushOf}
-use Rattle.bpf_buffering.specs.Search.{BufferedState, MovesTo, CannotMove, IsKeptAsX86, IsClosedX86, move_of}
-use Rattle.bpf_flushes.proofs.Turning.{flush_numbered}
+use Rattle.bpf_buffering.specs.Search.{BufferedState, MovesTo, RunsTo, CannotMove, IsKeptAsX86, move_of}
+use Rattle.bpf_buffering.specs.Ahead.{MovesAhead, IsClosedX86}
+use Rattle.bpf_flushes.proofs.Turning.{turn_numbered, flush_numbered}
 use Rattle.bpf_reorderings.specs.Private.Searching.{Extends, IsMoved, IsExpanded}
 use Rattle.bpf_reorderings.specs.Private.Trail.{IsLedFrom}
 use Rattle.bpf_reorderings.proofs.Trails.{AddsOne}
@@ -51,27 +53,32 @@ module _ (old new : List BufferedState) (more : Extends old new) where
   inside_still place inside = subst (λ (ms : List BufferedState). place < length ms) (sym more.1) (let both = length-append old more.0 in omega arith)
 
 -- ---- one move
+-- no turns after it
+pub just_moved : (old new : BufferedState) (move : Move) → MovesTo old move new → MovesAhead old move new
+just_moved old new move moves x shows = let r = moves x shows in (r.0, r.0, 0, 0, r.1, refl, r.2)
+
 -- the machine where it leads is kept
 pub moved_to : (old new : List BufferedState) (place : ℕ) (move : Move) (m after : BufferedState) → Extends old new → slice_get old place ≡
-    Some m → MovesTo m move after → IsKeptAsX86 new after → IsMoved new place move
+    Some m → MovesAhead m move after → IsKeptAsX86 new after → IsMoved new place move
 moved_to old new place move m after more at moves is other there =
     let two : Some m ≡ Some other = sym at ∙ (sym (same_at old new more place (slice_get_within old place m at)) ∙ there) in
     let one : m ≡ other = cc in
-    inl (after, subst (λ (n : BufferedState). MovesTo n move after) one moves, is)
+    inl (after, subst (λ (n : BufferedState). MovesAhead n move after) one moves, is)
 
 -- it leads to the same machine
 pub stays : (kept : List BufferedState) (place : ℕ) (move : Move) (m : BufferedState) → slice_get kept place ≡ Some m → MovesTo m move m →
     IsMoved kept place move
-stays kept place move m at moves = moved_to kept kept place move m m (none_more kept) at moves (λ x shows. (place, m, at, shows))
+stays kept place move m at moves = moved_to kept kept place move m m (none_more kept) at (just_moved m m move moves) (λ x shows. (place, m, at, shows))
 
 -- ---- the album where a move was made, or none
 module _ (old new : List BufferedState) (place : ℕ) (move : Move) (m after : BufferedState) (same : new ≡ old) (at : slice_get old place ≡ Some m) where
-  pub led_from : (named : Move) → named ≡ move → MovesTo m move after → IsLedFrom new place named after
-  led_from named e moves = (m, ap (λ (ms : List BufferedState). slice_get ms place) same ∙ at, subst (λ (v : Move). MovesTo m v after) (sym e) moves)
+  pub led_from : (named : List Move) (moves : List Move) → named ≡ moves → RunsTo m moves after → IsLedFrom new place named after
+  led_from named moves e runs = (m, ap (λ (ms : List BufferedState). slice_get ms place) same ∙ at, subst (λ (v : List Move). RunsTo m v after) (sym e) runs)
 
   -- it changed nothing
-  pub idle_moved : MovesTo m move after → after ≡ m → IsMoved new place move
-  idle_moved moves idle = subst (λ (ms : List BufferedState). IsMoved ms place move) (sym same) (stays old place move m at (subst (MovesTo m move) idle moves))
+  pub idle_moved : MovesAhead m move after → after ≡ m → IsMoved new place move
+  idle_moved moves idle = subst (λ (ms : List BufferedState). IsMoved ms place move) (sym same)
+      (moved_to old old place move m m (none_more old) at (subst (MovesAhead m move) idle moves) (λ x shows. (place, m, at, shows)))
 
   -- it can't be made
   pub cannot_moved : CannotMove m move → IsMoved new place move
@@ -81,12 +88,23 @@ module _ (old new : List BufferedState) (place : ℕ) (move : Move) (m after : B
       inr (subst (λ (n : BufferedState). CannotMove n move) one never)))
 
   -- it led to what is kept now
-  pub kept_moved : (last : List BufferedState) → Extends new last → MovesTo m move after → IsKeptAsX86 last after → IsMoved last place move
+  pub kept_moved : (last : List BufferedState) → Extends new last → MovesAhead m move after → IsKeptAsX86 last after → IsMoved last place move
   kept_moved last more moves is = moved_to old last place move m after (subst (λ (ms : List BufferedState). Extends ms last) same more) at moves is
 
--- the number of a flush
-pub flush_number : (c : ℕ) → move_of (128 + c) ≡ FlushOf c
+-- the numbers of moves
+flush_number : (c : ℕ) → move_of (128 + c) ≡ FlushOf c
 flush_number c = let back : (128 + c) - 128 ≡ c = omega arith in flush_numbered (128 + c) (omega arith) ∙ ap FlushOf back
+
+pub flush_numbers : (c : ℕ) → map move_of (replicate (0 + 1) (128 + c)) ≡ FlushOf c ∷ []
+flush_numbers c = ap (λ (m : Move). m ∷ []) (flush_number c)
+
+pub one_moved : (old new : BufferedState) (move : Move) → MovesTo old move new → RunsTo old (move ∷ []) new
+one_moved old new move moves x shows = let r = moves x shows in (r.0, (r.0, r.1, refl), r.2)
+
+pub turn_numbers : (n c : ℕ) → c < 128 → map move_of (replicate n c) ≡ replicate n (TurnOf c)
+turn_numbers zero c less = refl
+turn_numbers (suc n) c less =
+    ap (λ (m : Move). m ∷ map move_of (replicate n c)) (turn_numbered c less) ∙ ap (λ (ms : List Move). TurnOf c ∷ ms) (turn_numbers n c less)
 
 -- ---- the moves of the CPUs below a number
 pub record MovedSoFar (old : List BufferedState) (place cpu : ℕ) (kept : List BufferedState) : Type 0 where

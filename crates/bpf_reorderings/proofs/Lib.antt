@@ -2,3 +2,4 @@ pub mod Trails
 pub mod Growing
 pub mod Printing
 pub mod Reaching
+mod Sequential

@@ -15,7 +15,8 @@ use Rattle.bpf_machine.specs.Rounds.{HaveEnded}
 use Rattle.bpf_machine.specs.Schedule.{World, unrolled}
 use Rattle.bpf_machine.proofs.ListLaws.{lists_jobs}
 use Rattle.bpf_x86.specs.Machine.{X86, Move, TurnOf, FlushOf, Moves, RunsMoves, GoesOn, Settled, with_buffered, drained}
-use Rattle.bpf_buffering.specs.Search.{BufferedState, ShowsX86, IsShownX86, IsClosedX86, ClosedSetsCoverX86, NothingWaitsAtLast, move_of}
+use Rattle.bpf_buffering.specs.Search.{BufferedState, ShowsX86, IsShownX86, NothingWaitsAtLast, move_of}
+use Rattle.bpf_buffering.specs.Ahead.{IsClosedX86, AheadSetsCoverX86}
 use Rattle.bpf_buffering.specs.Album.{IsShownAt, HaveEndedAt}
 use Rattle.bpf_jobs.specs.Printed.{Tells, job_lines}
 use Rattle.bpf_jobs.proofs.OneListing.{one_asked}
@@ -149,11 +150,11 @@ one_told s jobs names maps text other stopped halted a b =
     let lines = one_asked maps s names a.0 b.0 a.1 b.1 in
     (a.2 ∙ ap (λ (x : List ℕ). job_lines (length jobs) jobs ++ ([] ++ x)) lines ∙ sym b.2, a.3 ∙ sym b.3)
 
-pub have_all : ClosedSetsCoverX86 → (kept : List BufferedState) (w : World) (names : Names) (maps : Bool) (answers : List Found) →
+pub have_all : AheadSetsCoverX86 → (kept : List BufferedState) (w : World) (names : Names) (maps : Bool) (answers : List Found) →
     IsClosedX86 kept → BeginsAt kept w → ((i : ℕ) → IsAnsweredAt kept names maps answers i) → HaveAllX86 w names maps answers
 have_all law kept w names maps answers closed (fresh, (m, at, shows)) answered text stopped (moves, (z, runs, ended, tells)) =
     let first : IsShownX86 kept (drained w) = (0, m, at, shows) in
-    let r = law kept w moves z closed fresh first runs in
+    let r = law kept w moves z closed fresh first runs ended in
     let a = answered r.0 r.1 r.2 (subst HaveEnded r.3.world.jobs ended) in
     let one = one_told z.world.store z.world.jobs names maps a.1.text text a.1.stopped stopped (a.3 z r.3) tells in
     (a.0, a.1, a.2, one.0, one.1)

@@ -7,7 +7,8 @@ use Rattle.bpf_base.proofs.Lists.{slice_get-front}
 use Rattle.bpf_names.specs.Names.{Names}
 use Rattle.bpf_machine.specs.Schedule.{World}
 use Rattle.bpf_x86.specs.Machine.{X86, drained}
-use Rattle.bpf_buffering.specs.Search.{BufferedState, ClosedSetsCoverX86, RunsScheduleX86, ShowsX86}
+use Rattle.bpf_buffering.specs.Search.{BufferedState, RunsScheduleX86, ShowsX86}
+use Rattle.bpf_buffering.specs.Ahead.{AheadSetsCoverX86}
 use Rattle.bpf_buffering.specs.Album.{IsShownAt}
 use Rattle.bpf_explore.specs.declared.exploring.Explored.{Explored}
 use Rattle.bpf_explore.specs.declared.frontier.Extent.{Extent}
@@ -69,7 +70,7 @@ pub first_shown : (kept : List BufferedState) (m : BufferedState) (x : X86) → 
 first_shown kept m x e shows = (m, ap (λ (ms : List BufferedState). slice_get ms 0) e, shows)
 
 -- ---- what a search found
-pub explored : ClosedSetsCoverX86 → (kept : List BufferedState) (w : World) (names : Names) (maps : Bool) (limit : ℕ) (e : Explored)
+pub explored : AheadSetsCoverX86 → (kept : List BufferedState) (w : World) (names : Names) (maps : Bool) (limit : ℕ) (e : Explored)
     (extent : Extent) → BeginsAt kept w → CameTo kept extent limit → e.all ≡ is_whole extent → e.refused ≡ is_refused extent → e.states ≡ length kept
     → AreOutcomesX86 w names maps e.answers.items → ((i : ℕ) → IsAnsweredAt kept names maps e.answers.items i) → AreLed kept → IsExploredX86
     w names maps limit e

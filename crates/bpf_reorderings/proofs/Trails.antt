@@ -1,5 +1,5 @@
 -- Moves that lead to kept machines, one after the other and backwards.
-use Rattle.std.proofs.Common.{◌≡◌, ◌∙◌, ℕ, zero, suc, ◌<◌, List, [], ◌∷◌, ◌++◌, Some, inl, inr, ◌⊎◌, length, map, take, reverse, refl, sym}
+use Rattle.std.proofs.Common.{◌≡◌, ◌∙◌, ℕ, zero, suc, ◌+◌, ◌<◌, List, [], ◌∷◌, ◌++◌, Some, inl, inr, ◌⊎◌, length, map, take, replicate, reverse, refl, sym}
 use Rattle.std.proofs.Common.{ap, subst, length-append, arith}
 use Rattle.std.specs.Prelude.{slice_get, slice_index_or}
 use Rattle.std.proofs.Math.ListN.{get_or-append}
@@ -14,7 +14,7 @@ use Rattle.bpf_buffering.specs.Search.{BufferedState, ShowsX86, move_of}
 use Rattle.bpf_buffering.specs.Album.{IsShownAt}
 use Rattle.bpf_flushes.proofs.Joining.{runs_both}
 use Rattle.bpf_reorderings.specs.declared.explorer.Origin.{Origin}
-use Rattle.bpf_reorderings.specs.Private.Trail.{no_origin, origin_at, LeadsBy, IsOrigin, AreOrigins, IsLedFrom}
+use Rattle.bpf_reorderings.specs.Private.Trail.{no_origin, origin_at, moves_of, LeadsBy, IsOrigin, AreOrigins, IsLedFrom}
 use Rattle.bpf_reorderings.specs.Private.Searching.{AreLed}
 
 -- ---- one after the other
@@ -33,7 +33,8 @@ read_origin origins i o inside read = get_or_from_slice_get origins i o no_origi
 
 pub one_back : (kept : List BufferedState) (origins : List Origin) (state place : ℕ) (o : Origin) (by new : List (ℕ × ℕ)) → AreOrigins kept
     origins → 0 < state → state < length kept → origin_at origins state ≡ o
-    → LeadsBy kept state (map move_of (unrolled (reverse by))) place → unrolled (reverse new) ≡ o.made ∷ unrolled (reverse by)
+    → LeadsBy kept state (map move_of (unrolled (reverse by))) place
+    → unrolled (reverse new) ≡ replicate (o.more + 1) o.made ++ unrolled (reverse by)
     → (o.«from» < length kept) × (o.«from» < state) × LeadsBy kept o.«from» (map move_of (unrolled (reverse new))) place
 one_back kept origins state place o by new are some inside at leads e =
     let is = subst (IsOrigin kept state) at (are.each state some inside) in
@@ -41,7 +42,9 @@ one_back kept origins state place o by new are some inside at leads e =
       omega arith,
       before,
       subst (λ (cs : List ℕ). LeadsBy kept o.«from» (map move_of cs) place) (sym e)
-          (leads_both kept o.«from» state place (move_of o.made ∷ []) (map move_of (unrolled (reverse by))) is.leads leads),
+          (subst (λ (ms : List Move). LeadsBy kept o.«from» ms place)
+          (sym (map-append move_of (replicate (o.more + 1) o.made) (unrolled (reverse by))))
+          (leads_both kept o.«from» state place (moves_of o) (map move_of (unrolled (reverse by))) is.leads leads)),
     )
 
 -- ---- while more are kept
@@ -56,28 +59,28 @@ module _ (old more : List BufferedState) where
   leads_still i j ms inside leads x shown = let r = leads x (shown_before i x inside shown) in (r.0, r.1, shown_still j r.0 r.2)
 
   origin_still : (i : ℕ) (o : Origin) → i < length old → IsOrigin old i o → IsOrigin (old ++ more) i o
-  origin_still i o inside is = record { before = is.before; leads = leads_still o.«from» i (move_of o.made ∷ []) (let b = is.before in omega arith) is.leads }
+  origin_still i o inside is = record { before = is.before; leads = leads_still o.«from» i (moves_of o) (let b = is.before in omega arith) is.leads }
 
 at_last : (old : List BufferedState) (one : BufferedState) → slice_get (old ++ one ∷ []) (length old) ≡ Some one
 at_last [] one = refl
 at_last (x ∷ xs) one = at_last xs one
 
--- the move of an origin leads to the machine that is kept after the others
-led_last : (old : List BufferedState) (m : BufferedState) (o : Origin) → o.«from» < length old → IsLedFrom old o.«from» (move_of o.made) m →
-    LeadsBy (old ++ m ∷ []) o.«from» (move_of o.made ∷ []) (length old)
+-- the moves of an origin lead to the machine that is kept after the others
+led_last : (old : List BufferedState) (m : BufferedState) (o : Origin) → o.«from» < length old → IsLedFrom old o.«from» (moves_of o) m →
+    LeadsBy (old ++ m ∷ []) o.«from» (moves_of o) (length old)
 led_last old m o inside (before, at, moves) x shown =
     let (other, there, shows) = shown_before old (m ∷ []) o.«from» x inside shown in
     let two : Some other ≡ Some before = sym there ∙ at in
     let one : other ≡ before = cc in
     let r = moves x (subst (λ (n : BufferedState). ShowsX86 n x) one shows) in
-    (r.0, (r.0, r.1, refl), (m, at_last old m, r.2))
+    (r.0, r.1, (m, at_last old m, r.2))
 
 -- at most this one more is kept
 abbrev pub AddsOne : List BufferedState → BufferedState → List BufferedState → Type 0
 AddsOne old m new = (new ≡ old) ⊎ (new ≡ old ++ m ∷ [])
 
 kept_origins : (old new : List BufferedState) (m : BufferedState) (origins : List Origin) (o : Origin) → AreOrigins old origins → o.«from» <
-    length old → IsLedFrom old o.«from» (move_of o.made) m → AddsOne old m new → AreOrigins new (take (length new) (origins ++ o ∷ []))
+    length old → IsLedFrom old o.«from» (moves_of o) m → AddsOne old m new → AreOrigins new (take (length new) (origins ++ o ∷ []))
 kept_origins old new m origins o are inside led (inl e) =
     let count = are.count in
     let size : length new ≡ length origins = ap (λ (ms : List BufferedState). length ms) e ∙ sym count in
@@ -108,7 +111,7 @@ kept_origins old new m origins o are inside led (inr e) =
 
 -- as many of the origins as machines are kept
 pub cut_origins : (old new : List BufferedState) (m : BufferedState) (origins pushed cut : List Origin) (o : Origin) (n : ℕ) → AreOrigins
-    old origins → o.«from» < length old → IsLedFrom old o.«from» (move_of o.made) m → AddsOne old m new
+    old origins → o.«from» < length old → IsLedFrom old o.«from» (moves_of o) m → AddsOne old m new
     → pushed ≡ origins ++ o ∷ [] → n ≡ length new → cut ≡ take n pushed → AreOrigins new cut
 cut_origins old new m origins pushed cut o n are inside led adds push count is =
     subst (AreOrigins new) (sym (is ∙ (ap (λ (k : ℕ). take k pushed) count ∙ ap (take (length new)) push)))
@@ -124,9 +127,9 @@ led_below kept origins are (suc n) (suc i) less inside =
     let is = are.each (suc i) (omega arith) inside in
     let before = is.before in
     let far = led_below kept origins are n o.«from» (omega arith) (omega arith) in (
-      far.0 ++ o.made ∷ [],
-      subst (λ (ms : List Move). LeadsBy kept 0 ms (suc i)) (sym (map-append move_of far.0 (o.made ∷ [])))
-          (leads_both kept 0 o.«from» (suc i) (map move_of far.0) (move_of o.made ∷ []) far.1 is.leads),
+      far.0 ++ replicate (o.more + 1) o.made,
+      subst (λ (ms : List Move). LeadsBy kept 0 ms (suc i)) (sym (map-append move_of far.0 (replicate (o.more + 1) o.made)))
+          (leads_both kept 0 o.«from» (suc i) (map move_of far.0) (moves_of o) far.1 is.leads),
     )
 
 pub are_led : (kept : List BufferedState) (origins : List Origin) → AreOrigins kept origins → AreLed kept

@@ -1,21 +1,22 @@
-//! The search: from each kept machine each CPU's turn and the flush of each buffer is made, and what is
-//! new is kept.
+//! The search: from each kept machine each CPU's turn and the flush of each buffer is made, after a turn
+//! the CPU's turns that no other CPU sees, and what is new is kept.
 
-ghost use Rattle.std.specs.Prelude.{◌≡◌, ◌<◌, ◌≤◌, ◌∷◌, IfOk, OnOk, reverse};
+ghost use Rattle.std.specs.Prelude.{◌≡◌, ◌<◌, ◌≤◌, ◌++◌, IfOk, OnOk, replicate, reverse};
 ghost use Rattle.bpf_machine.specs.Schedule.{unrolled};
 
 use bpf_buffering::{Album, Buffering};
 use bpf_explore::{Extent, Observer, Progress, TOLD_EVERY};
-use bpf_machine::Turn;
 use bpf_schedule::FLUSH;
 use std::alloc::{AllocError, Global};
 use std::marker::Model;
 
-/// How a kept machine came about: by a move from an earlier one. A move is a number: below `FLUSH` a
-/// CPU's turn, and from there on the flush of its buffer.
+/// How a kept machine came about: by a move from an earlier one, and n like it after it, which are the
+/// CPU's turns that no other CPU sees. A move is a number: below `FLUSH` a CPU's turn, and from there on
+/// the flush of its buffer.
 #[derive(Clone, Copy)]
 struct Origin {
     from: u32,
+    more: u32,
     made: u8,
 }
 
@@ -26,22 +27,30 @@ fn number_of(count: usize) -> Result<u32, AllocError>
     u32::try_from(count).map_err(|_| AllocError)
 }
 
-/// Puts a move after a schedule that is printed backwards.
-fn push_move(by: &mut Vec<(u8, u64)>, made: u8) -> Result<(), AllocError>
-    ensures { OnOk result (unrolled (reverse by.new.items) ≡ made ∷ unrolled (reverse by.old.items)) }
+/// The number of turns in 32 bits. One that is greater counts as out of memory.
+fn turns_of(count: u64) -> Result<u32, AllocError>
+    ensures { IfOk result (λ n. n ≡ count) }
+{
+    u32::try_from(count).map_err(|_| AllocError)
+}
+
+/// Puts this many moves of one kind after a schedule that is printed backwards.
+fn push_moves(by: &mut Vec<(u8, u64)>, made: u8, count: u64) -> Result<(), AllocError>
+    ensures { OnOk result (unrolled (reverse by.new.items)
+        ≡ replicate count made ++ unrolled (reverse by.old.items)) }
 {
     let Some((last, more)) = by.pop() else {
-        by.push((made, 1))?;
+        by.push((made, count))?;
         return Ok(());
     };
     if last == made
-        && let Some(sum) = more.checked_add(1)
+        && let Some(sum) = more.checked_add(count)
     {
         by.push((made, sum))?;
         return Ok(());
     }
     by.push((last, more))?;
-    by.push((made, 1))?;
+    by.push((made, count))?;
     Ok(())
 }
 
@@ -79,10 +88,11 @@ impl Model for Explorer {
 }
 
 impl Explorer {
-    ghost use Rattle.std.specs.Prelude.{◌≡◌, ◌<◌, ◌≤◌, [], ◌∷◌, true, false, IfOk, OnOk, Some, length, map, slice_get};
+    ghost use Rattle.std.specs.Prelude.{◌≡◌, ◌<◌, ◌≤◌, ◌+◌, [], ◌∷◌, true, false, IfOk, OnOk, Some, length, map, replicate, slice_get};
     ghost use Rattle.bpf_machine.specs.Schedule.{unrolled};
     ghost use Rattle.bpf_x86.specs.Machine.{TurnOf, FlushOf};
-    ghost use Rattle.bpf_buffering.specs.Search.{IsClosedX86, IsKeptAsX86, move_of};
+    ghost use Rattle.bpf_buffering.specs.Search.{IsKeptAsX86, move_of};
+    ghost use Rattle.bpf_buffering.specs.Ahead.{IsClosedX86};
     ghost use Rattle.bpf_buffering.specs.Album.{HaveEndedAt};
     ghost use Rattle.bpf_reorderings.specs.Private.Trail.{IsLedFrom, LeadsBy};
     ghost use Rattle.bpf_reorderings.specs.Private.Searching.{AreLed, Extends, IsExpanded, IsMoved};
@@ -93,7 +103,11 @@ impl Explorer {
     {
         let album = Album::new(alloc, machine)?;
         let mut origins = Vec::new(alloc);
-        origins.push(Origin { from: 0, made: 0 })?;
+        origins.push(Origin {
+            from: 0,
+            more: 0,
+            made: 0,
+        })?;
         Ok(Explorer {
             alloc,
             album,
@@ -138,23 +152,26 @@ impl Explorer {
         self.album.restore(place)
     }
 
-    /// Keeps the machine, to which a move led from a kept one, unless one is kept that shows all that
-    /// it shows.
-    fn keep(&mut self, place: usize, made: u8) -> Result<(), AllocError>
+    /// Keeps the machine, to which a move and n more like it led from a kept one, unless one is kept that
+    /// shows all that it shows.
+    fn keep(&mut self, place: usize, made: u8, more: u64) -> Result<(), AllocError>
         requires inside { place < length self.old.kept }
-        requires led { IsLedFrom self.old.kept place (move_of made) self.old.machine }
+        requires led { IsLedFrom self.old.kept place (map move_of (replicate (more + 1) made))
+            self.old.machine }
         ensures kept { OnOk result (IsKeptAsX86 self.new.kept self.old.machine) }
         ensures extends { Extends self.old.kept self.new.kept }
     {
         let from = number_of(place)?;
-        self.origins.push(Origin { from, made })?;
+        let more = turns_of(more)?;
+        self.origins.push(Origin { from, more, made })?;
         let kept = self.album.keep();
         self.origins.truncate(self.album.len());
         kept?;
         Ok(())
     }
 
-    /// Makes a CPU's turn from a kept machine, and keeps where it led.
+    /// Makes a CPU's turn from a kept machine, and then its turns that no other CPU sees, and keeps
+    /// where they led.
     fn turn(&mut self, place: usize, cpu: u8) -> Result<(), AllocError>
         requires place { place < length self.old.kept }
         requires cpu { cpu < 128 }
@@ -162,9 +179,9 @@ impl Explorer {
         ensures extends { Extends self.old.kept self.new.kept }
     {
         self.album.restore(place)?;
-        match self.album.turn(cpu)? {
-            Turn::Idle => Ok(()),
-            Turn::Ran | Turn::Ended(_, _) => self.keep(place, cpu),
+        match self.album.turn_ahead(cpu)? {
+            Some(more) => self.keep(place, cpu, more),
+            None => Ok(()),
         }
     }
 
@@ -177,7 +194,7 @@ impl Explorer {
     {
         self.album.restore(place)?;
         if self.album.flush(cpu) {
-            self.keep(place, FLUSH + cpu)
+            self.keep(place, FLUSH + cpu, 0)
         } else {
             Ok(())
         }
@@ -196,7 +213,7 @@ impl Explorer {
         Ok(())
     }
 
-    /// Reports how far a search is, each time that so many more states are done.
+    /// Reports how far a search is, each time that `TOLD_EVERY` more states are done.
     fn tell<O: Observer>(&self, done: usize, observer: &mut O) {
         if done % TOLD_EVERY == 0 {
             let kept = self.len();
@@ -241,7 +258,7 @@ impl Explorer {
         let mut state = place;
         while state > 0 {
             let origin = self.origins[state];
-            push_move(&mut by, origin.made)?;
+            push_moves(&mut by, origin.made, origin.more as u64 + 1)?;
             state = origin.from as usize;
         }
         by.reverse();

@@ -37,7 +37,7 @@ fn conclude(
         → CameTo explorer.old.kept extent limit
         → IsExploredX86 w (names_of names.now) maps limit e) }
 {
-    bpf_buffering::laws::closed_sets_cover_x86();
+    bpf_buffering::laws::ahead_sets_cover_x86();
     explorer.leads();
     let answers = gather(explorer, names, maps)?;
     let states = explorer.len();

@@ -4,5 +4,6 @@
 mod answers;
 mod explorer;
 mod exploring;
+pub mod laws;
 
 pub use exploring::explore_with_buffers;

@@ -9,7 +9,7 @@ use Rattle.bpf_x86.specs.Buffers.{Buffered, CallsAll}
 use Rattle.bpf_buffering.specs.Search.{alone}
 use Rattle.bpf_buffering.specs.Waiting.{WaitingContents, PassesWaiting, buffer_of}
 
-calls_joined : (c : ℕ) (es fs : List Event) (b m t : Buffered) → CallsAll b c es m → CallsAll m c fs t → CallsAll b c (es ++ fs) t
+pub calls_joined : (c : ℕ) (es fs : List Event) (b m t : Buffered) → CallsAll b c es m → CallsAll m c fs t → CallsAll b c (es ++ fs) t
 calls_joined c [] fs b m t p q = subst (λ (z : Buffered). CallsAll z c fs t) p q
 calls_joined c (e ∷ es) fs b m t p q = (p.0, p.1, calls_joined c es fs p.0 m t p.2 q)
 

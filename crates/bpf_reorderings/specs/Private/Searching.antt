@@ -3,7 +3,8 @@ use Rattle.std.specs.Prelude.{◌≡◌, ℕ, ◌<◌, ◌≤◌, ◌++◌, ◌�
 use Rattle.bpf_machine.specs.Laws.{IsFresh}
 use Rattle.bpf_machine.specs.Schedule.{World}
 use Rattle.bpf_x86.specs.Machine.{Move, drained}
-use Rattle.bpf_buffering.specs.Search.{BufferedState, MovesTo, CannotMove, IsKeptAsX86, IsClosedX86, move_of}
+use Rattle.bpf_buffering.specs.Search.{BufferedState, CannotMove, IsKeptAsX86, move_of}
+use Rattle.bpf_buffering.specs.Ahead.{MovesAhead, IsClosedX86}
 use Rattle.bpf_buffering.specs.Album.{IsShownAt}
 use Rattle.bpf_explore.specs.declared.frontier.Extent.{Extent}
 use Rattle.bpf_explore.specs.declared.frontier.Extent.TheVariants.{Whole, Limited, Refused}
@@ -13,10 +14,11 @@ use Rattle.bpf_reorderings.specs.Private.Trail.{LeadsBy}
 abbrev pub Extends : List BufferedState → List BufferedState → Type 0
 Extends old new = (more : List BufferedState) × (new ≡ old ++ more)
 
--- the move from the i-th kept machine leads to one that is kept, or can't be made
+-- the move from the i-th kept machine, and turns that are unseen after it, lead to one that is kept; or
+-- it can't be made
 abbrev pub IsMoved : List BufferedState → ℕ → Move → Type 0
 IsMoved kept i move = (m : BufferedState) → slice_get kept i ≡ Some m
-    → ((new : BufferedState) × MovesTo m move new × IsKeptAsX86 kept new) ⊎ CannotMove m move
+    → ((new : BufferedState) × MovesAhead m move new × IsKeptAsX86 kept new) ⊎ CannotMove m move
 
 -- so does each move
 abbrev pub IsExpanded : List BufferedState → ℕ → Type 0

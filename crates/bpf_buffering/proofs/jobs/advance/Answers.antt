@@ -1,4 +1,4 @@
-use Rattle.std.proofs.Common.{◌≡◌, suc, ◌-◌, Some, inl, inr, refl, arith}
+use Rattle.std.proofs.Common.{◌-◌, inl, inr, refl, arith}
 use Rattle.bpf_cpu.specs.declared.outcome.Progress.TheVariants.{Done, On}
 use Rattle.bpf_machine.proofs.AdvanceLaws.{last_step, not_last_step}
 use Rattle.bpf_buffering.proofs.jobs.advance.Goals as goal

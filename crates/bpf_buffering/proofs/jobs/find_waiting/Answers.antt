@@ -1,4 +1,4 @@
-use Rattle.std.proofs.Common.{◌≡◌, length, refl, sym, ◌∙◌, arith}
+use Rattle.std.proofs.Common.{length, refl, sym, ◌∙◌, arith}
 use Rattle.std.proofs.lemmas.Option.{slice_get_read}
 use Rattle.bpf_buffering.specs.Jobs.{waits_for}
 use Rattle.bpf_buffering.proofs.Finding.{more_none, found_waiting, none_waiting}

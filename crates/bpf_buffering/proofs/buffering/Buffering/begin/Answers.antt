@@ -1,21 +1,18 @@
-use Rattle.std.proofs.Common.{◌≡◌, ℕ, Bool, true, false, List, length, Some, None, refl, sym, ap, subst, ◌∙◌, arith}
-use Rattle.std.specs.Prelude.{slice_get, slice_set}
+use Rattle.std.proofs.Common.{length, refl, sym, ap, subst, ◌∙◌, arith}
+use Rattle.std.specs.Prelude.{slice_set}
 use Rattle.std.proofs.lemmas.List.{length-set}
 use Rattle.std.proofs.lemmas.Option.{slice_get_read}
-use Rattle.bpf_cpu.specs.Task.{Stage, InHand, Waiting}
+use Rattle.bpf_cpu.specs.Task.{Waiting}
 use Rattle.bpf_machine.specs.Hands.{IsFree}
-use Rattle.bpf_machine.specs.Kept.{kept_stage}
 use Rattle.bpf_machine.specs.Parts.{IsSameHost}
-use Rattle.bpf_machine.specs.Work.{HasInHand}
 use Rattle.bpf_buffering.specs.Search.{BufferedState}
-use Rattle.bpf_buffering.specs.declared.jobs.Listed.{Listed}
 use Rattle.bpf_plain.specs.PlainStore.{has_cpu, is_running}
 use Rattle.bpf_buffering.specs.Waiting.{WaitingContents}
 use Rattle.bpf_buffering.specs.Jobs.{IsLowest, waits}
-use Rattle.bpf_buffering.specs.Buffering.{state_of, answer_of, Proceeds, Begins}
+use Rattle.bpf_buffering.specs.Buffering.{state_of, Begins}
 use Rattle.bpf_buffering.proofs.Keeping.{host_through}
-use Rattle.bpf_buffering.proofs.Placing.{cpu_within, served, job_within, program_within, shown, stage_was, can_take, cpu_is, store_is}
-use Rattle.bpf_buffering.proofs.Placing.{count_stays, can_put_back, board_now}
+use Rattle.bpf_buffering.proofs.Placing.{cpu_within, served, job_within, program_within, stage_was, can_take, cpu_is}
+use Rattle.bpf_buffering.proofs.Placing.{can_put_back, board_now}
 use Rattle.bpf_buffering.proofs.Proceeding.{begin_leaves, begins_now, begun_fits, begun_not_idle}
 use Rattle.bpf_buffering.proofs.Stepping.{serves_its}
 use Rattle.bpf_buffering.proofs.buffering.Buffering.begin.Goals as goal

@@ -1,4 +1,4 @@
-use Rattle.std.proofs.Common.{◌≡◌, ◌<◌, ◌≤◌, ℕ, Bool, true, false, List, [], length, refl, sym, ap, subst, ◌∙◌, arith}
+use Rattle.std.proofs.Common.{◌≡◌, ◌<◌, [], length, refl, ap, subst, ◌∙◌, arith}
 use Rattle.std.specs.Prelude.{slice_set}
 use Rattle.bpf_machine.specs.Parts.{IsSameHost}
 use Rattle.bpf_x86.specs.Machine.{FlushOf}

@@ -1,9 +1,8 @@
-use Rattle.std.proofs.Common.{◌≡◌, ℕ, ◌<◌, true, List, length, vec_len, refl, sym, ap, subst, ◌∙◌}
+use Rattle.std.proofs.Common.{◌≡◌, ℕ, ◌<◌, true, length, vec_len, sym, ap, subst, ◌∙◌}
 use Rattle.std.specs.Prelude.{All}
 use Rattle.std.proofs.lemmas.List.Elements.{All-weaker}
 use Rattle.bpf_plain.specs.PlainStore.{Contents, has_cpu, is_running}
 use Rattle.bpf_cpu.specs.declared.job.Job.{Job}
-use Rattle.bpf_buffering.specs.declared.jobs.Listed.{Listed}
 use Rattle.bpf_buffering.specs.Waiting.{WaitingContents}
 use Rattle.bpf_buffering.specs.Jobs.{tasks_of}
 use Rattle.bpf_buffering.proofs.First.{all_wait, nothing_at, first_board}

@@ -1,19 +1,15 @@
-use Rattle.std.proofs.Common.{◌≡◌, ℕ, Bool, true, false, List, length, Some, None, refl, sym, ap, subst, ◌∙◌, arith}
-use Rattle.std.specs.Prelude.{slice_get, slice_set}
+use Rattle.std.proofs.Common.{length, refl, sym, ap, subst, ◌∙◌, arith}
+use Rattle.std.specs.Prelude.{slice_set}
 use Rattle.std.proofs.lemmas.List.{length-set}
 use Rattle.std.proofs.lemmas.Option.{slice_get_read}
-use Rattle.bpf_cpu.specs.Task.{Stage, InHand, Waiting}
-use Rattle.bpf_machine.specs.Hands.{IsFree}
-use Rattle.bpf_machine.specs.Kept.{kept_stage}
+use Rattle.bpf_cpu.specs.Task.{InHand}
 use Rattle.bpf_machine.specs.Parts.{IsSameHost}
 use Rattle.bpf_machine.specs.Work.{HasInHand}
 use Rattle.bpf_buffering.specs.Search.{BufferedState}
-use Rattle.bpf_buffering.specs.declared.jobs.Listed.{Listed}
 use Rattle.bpf_buffering.specs.Waiting.{WaitingContents}
-use Rattle.bpf_buffering.specs.Jobs.{IsLowest}
-use Rattle.bpf_buffering.specs.Buffering.{state_of, answer_of, Proceeds, Begins}
+use Rattle.bpf_buffering.specs.Buffering.{state_of, Proceeds}
 use Rattle.bpf_buffering.proofs.Keeping.{host_through}
-use Rattle.bpf_buffering.proofs.Placing.{cpu_within, job_within, program_within, can_take, cpu_is, count_stays, can_put_back, board_now}
+use Rattle.bpf_buffering.proofs.Placing.{cpu_within, job_within, program_within, can_take, cpu_is, can_put_back, board_now}
 use Rattle.bpf_buffering.proofs.Placing.{only_one, can_go_on, still_fits, still_idle}
 use Rattle.bpf_buffering.proofs.Proceeding.{proceeds_now}
 use Rattle.bpf_buffering.proofs.buffering.Buffering.proceed.Goals as goal

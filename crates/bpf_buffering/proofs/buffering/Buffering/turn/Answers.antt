@@ -8,7 +8,6 @@ use Rattle.bpf_machine.specs.declared.machine.Turn.TheVariants.{Idle}
 use Rattle.bpf_machine.specs.Hands.{IsFree, NoneWaits}
 use Rattle.bpf_machine.specs.Work.{HasInHand}
 use Rattle.bpf_x86.specs.Machine.{TurnOf}
-use Rattle.bpf_buffering.specs.declared.jobs.Listed.{Listed}
 use Rattle.bpf_buffering.specs.Search.{BufferedState, MovesTo}
 use Rattle.bpf_buffering.specs.Jobs.{tasks_of, IsLowest}
 use Rattle.bpf_buffering.specs.Buffering.{answer_of, Proceeds, TurnsTo}

@@ -1,5 +1,5 @@
-use Rattle.std.proofs.Common.{◌≡◌, Some, None, refl, sym, ap, ◌∙◌}
-use Rattle.bpf_cpu.specs.Task.{InHand, Ended}
+use Rattle.std.proofs.Common.{Some, None, refl, ap}
+use Rattle.bpf_cpu.specs.Task.{Ended}
 use Rattle.bpf_machine.specs.Kept.{kept_stage}
 use Rattle.bpf_buffering.proofs.Advancing.{goes_kept, goes_ended}
 use Rattle.bpf_buffering.proofs.Stepping.{kept_in_hand, hand_fits, cpu_stays, number_now, serves_now, runs_now, step_leaves, stays_fit}

@@ -1,8 +1,8 @@
-use Rattle.std.proofs.Common.{◌∙◌, ◌+◌, refl}
+use Rattle.std.proofs.Common.{◌∙◌, ◌+◌, [], ◌∷◌, map, replicate, refl}
 use Rattle.std.proofs.lemmas.Result.{on_ok_weaker}
 use Rattle.bpf_x86.specs.Machine.{FlushOf}
 use Rattle.bpf_buffering.specs.Search.{move_of}
-use Rattle.bpf_reorderings.proofs.Growing.{flush_number, led_from, cannot_moved, kept_moved}
+use Rattle.bpf_reorderings.proofs.Growing.{flush_numbers, just_moved, one_moved, led_from, cannot_moved, kept_moved}
 use Rattle.bpf_reorderings.proofs.explorer.Explorer.flush.Goals as goal
 
 pub keep-requires-clause-led : goal.keep-requires-clause-led
@@ -10,7 +10,8 @@ keep-requires-clause-led c =
     let m = c.self.inside in
     let same = c.flush.ensures.same ∙ c.restore.ensures.same in
     led_from m.album.kept c.flush.new.self.kept c.args.place (FlushOf c.args.cpu) c.restore.new.self.machine c.flush.new.self.machine same
-    c.in_ok-restore.ensures.ok (move_of (128 + c.args.cpu)) (flush_number c.args.cpu) (c.if-flush.ensures.flushed refl)
+    c.in_ok-restore.ensures.ok (map move_of (replicate (0 + 1) (128 + c.args.cpu))) (FlushOf c.args.cpu ∷ []) (flush_numbers c.args.cpu)
+    (one_moved c.restore.new.self.machine c.flush.new.self.machine (FlushOf c.args.cpu) (c.if-flush.ensures.flushed refl))
 
 pub returns-then-flush-clause-moved : goal.returns-then-flush-clause-moved
 returns-then-flush-clause-moved c =
@@ -18,7 +19,7 @@ returns-then-flush-clause-moved c =
     let same = c.flush.ensures.same ∙ c.restore.ensures.same in
     on_ok_weaker c.keep.result (λ is. kept_moved m.album.kept c.flush.new.self.kept c.args.place (FlushOf c.args.cpu)
     c.restore.new.self.machine c.flush.new.self.machine same c.in_ok-restore.ensures.ok c.keep.new.self.kept c.keep.ensures.extends
-    (c.if-flush.ensures.flushed refl) is) c.keep.ensures.kept
+    (just_moved c.restore.new.self.machine c.flush.new.self.machine (FlushOf c.args.cpu) (c.if-flush.ensures.flushed refl)) is) c.keep.ensures.kept
 
 pub returns-else-flush-clause-moved : goal.returns-else-flush-clause-moved
 returns-else-flush-clause-moved c =

@@ -1,8 +1,8 @@
-use Rattle.std.proofs.Common.{◌<◌, ℕ, length, sym, subst, arith}
+use Rattle.std.proofs.Common.{◌<◌, ◌+◌, ℕ, length, map, replicate, sym, subst, arith}
 use Rattle.bpf_buffering.specs.Search.{move_of}
 use Rattle.bpf_buffering.specs.Album.{AlbumState}
 use Rattle.bpf_reorderings.specs.declared.explorer.Origin.{Origin}
-use Rattle.bpf_reorderings.specs.Private.Trail.{IsLedFrom}
+use Rattle.bpf_reorderings.specs.Private.Trail.{IsLedFrom, moves_of}
 use Rattle.bpf_reorderings.proofs.Trails.{cut_origins}
 use Rattle.bpf_reorderings.proofs.Growing.{adds_one}
 use Rattle.bpf_reorderings.proofs.explorer.Explorer.keep.Goals as goal
@@ -10,9 +10,12 @@ use Rattle.bpf_reorderings.proofs.explorer.Explorer.keep.Goals as goal
 pub invariant_of-self-in_err-kept : goal.invariant_of-self-in_err-kept
 invariant_of-self-in_err-kept c =
     let m = c.self.inside in
-    let o : Origin = record { from = c.in_ok-from.from; made = c.args.made } in
-    let led = subst (λ (a : AlbumState). IsLedFrom a.kept c.args.place (move_of c.args.made) a.machine) (sym c.self.view_is) c.requires.led in
-    let here = subst (λ (k : ℕ). IsLedFrom m.album.kept k (move_of c.args.made) m.album.machine) (sym c.in_ok-from.ensures) led in
+    let o : Origin = record { from = c.in_ok-from.from; more = c.in_ok-more.more; made = c.args.made } in
+    let led = subst (λ (a : AlbumState). IsLedFrom a.kept c.args.place (map move_of (replicate (c.args.more + 1) c.args.made)) a.machine)
+    (sym c.self.view_is) c.requires.led in
+    let so = subst (λ (k : ℕ). IsLedFrom m.album.kept c.args.place (map move_of (replicate (k + 1) c.args.made)) m.album.machine)
+    (sym c.in_ok-more.ensures) led in
+    let here = subst (λ (k : ℕ). IsLedFrom m.album.kept k (moves_of o) m.album.machine) (sym c.in_ok-from.ensures) so in
     let there = subst (λ (a : AlbumState). c.args.place < length a.kept) (sym c.self.view_is) c.requires.inside in
     let adds = adds_one m.album.kept c.keep-kept.new.self.kept m.album.machine c.keep-kept.result c.keep-kept.ensures.adds
     c.keep-kept.ensures.known c.keep-kept.ensures.err in
@@ -23,9 +26,12 @@ invariant_of-self-in_err-kept c =
 pub invariant_of-self-2 : goal.invariant_of-self-2
 invariant_of-self-2 c =
     let m = c.self.inside in
-    let o : Origin = record { from = c.in_ok-from.from; made = c.args.made } in
-    let led = subst (λ (a : AlbumState). IsLedFrom a.kept c.args.place (move_of c.args.made) a.machine) (sym c.self.view_is) c.requires.led in
-    let here = subst (λ (k : ℕ). IsLedFrom m.album.kept k (move_of c.args.made) m.album.machine) (sym c.in_ok-from.ensures) led in
+    let o : Origin = record { from = c.in_ok-from.from; more = c.in_ok-more.more; made = c.args.made } in
+    let led = subst (λ (a : AlbumState). IsLedFrom a.kept c.args.place (map move_of (replicate (c.args.more + 1) c.args.made)) a.machine)
+    (sym c.self.view_is) c.requires.led in
+    let so = subst (λ (k : ℕ). IsLedFrom m.album.kept c.args.place (map move_of (replicate (k + 1) c.args.made)) m.album.machine)
+    (sym c.in_ok-more.ensures) led in
+    let here = subst (λ (k : ℕ). IsLedFrom m.album.kept k (moves_of o) m.album.machine) (sym c.in_ok-from.ensures) so in
     let there = subst (λ (a : AlbumState). c.args.place < length a.kept) (sym c.self.view_is) c.requires.inside in
     let adds = adds_one m.album.kept c.keep-kept.new.self.kept m.album.machine c.keep-kept.result c.keep-kept.ensures.adds
     c.keep-kept.ensures.known c.keep-kept.ensures.err in

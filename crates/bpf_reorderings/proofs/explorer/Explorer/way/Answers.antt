@@ -22,7 +22,7 @@ loop-state-preserved c =
     let count = c.self.invariant.count in
     let at = read_origin m.origins.items c.loop-state.state c.index-origin.result.now (omega arith) c.index-origin.ensures in
     let r = one_back m.album.kept m.origins.items c.loop-state.state c.args.place c.index-origin.result.now c.loop-state.by.items
-    c.push_move.new.by.items c.self.invariant (omega arith) i at c.loop-state.invariant.leads c.in_ok-push_move.ensures in
+    c.push_moves.new.by.items c.self.invariant (omega arith) i at c.loop-state.invariant.leads c.in_ok-push_moves.ensures in
     record { inside = r.0; leads = r.2 }
 
 pub returns : goal.returns

@@ -1,0 +1,73 @@
+use Rattle.std.proofs.Common.{◌≡◌, List, [], ◌∷◌, ◌++◌, ap, refl, subst, sym, ◌∙◌}
+use Rattle.bpf_buffering.specs.Search.{BufferedState, IsKeptAsX86}
+use Rattle.bpf_buffering.specs.Album.{AlbumState}
+use Rattle.bpf_buffering.specs.Private.Kept.{Numbers, IsAlbum}
+use Rattle.bpf_buffering.proofs.AlbumLaws.{for_err, states, states_still, album_still, one_more, album_more, kept_already, last_is_kept}
+use Rattle.bpf_buffering.proofs.album.Album.keep.Goals as goal
+
+pub invariant_of-self : goal.invariant_of-self
+invariant_of-self c =
+    let m = c.self.inside in
+    album_still m.machine m.pools c.number.new.self m.states m.store c.number.ensures.adds c.self.invariant
+
+pub returns-in_err-one-clause-err : goal.returns-in_err-one-clause-err
+returns-in_err-one-clause-err c =
+    let m = c.self.inside in
+    for_err c.from_residual.result (states m.machine c.number.new.self m.states ≡ c.args.self.now.kept)
+    (states_still m.machine m.machine.machine.store m.pools c.number.new.self m.states c.number.ensures.adds c.self.invariant.fits
+    ∙ ap (λ (a : AlbumState). a.kept) c.self.view_is)
+
+pub invariant_of-self-in_err-add : goal.invariant_of-self-in_err-add
+invariant_of-self-in_err-add c =
+    let m = c.self.inside in
+    subst (λ (ks : List Numbers). IsAlbum m.machine c.number.new.self ks m.store) (sym c.in_err-add.ensures.err)
+    (album_still m.machine m.pools c.number.new.self m.states m.store c.number.ensures.adds c.self.invariant)
+
+pub returns-in_err-add-clause-err : goal.returns-in_err-add-clause-err
+returns-in_err-add-clause-err c =
+    let m = c.self.inside in
+    for_err c.from_residual-in_err-add.result (states m.machine c.number.new.self c.add.new.self ≡ c.args.self.now.kept)
+    (ap (states m.machine c.number.new.self) c.in_err-add.ensures.err
+    ∙ states_still m.machine m.machine.machine.store m.pools c.number.new.self m.states c.number.ensures.adds c.self.invariant.fits
+    ∙ ap (λ (a : AlbumState). a.kept) c.self.view_is)
+
+pub invariant_of-self-2 : goal.invariant_of-self-2
+invariant_of-self-2 c =
+    let m = c.self.inside in
+    subst (λ (ks : List Numbers). IsAlbum m.machine c.number.new.self ks m.store) (sym c.in_ok-add.ensures.adds)
+    (album_more m.machine m.pools c.number.new.self m.states m.store c.in_ok-one.one c.number.ensures.adds c.self.invariant c.in_ok-one.ensures.pooled)
+
+pub returns-clause-adds : goal.returns-clause-adds
+returns-clause-adds c is =
+    let m = c.self.inside in
+    ap (states m.machine c.number.new.self) c.in_ok-add.ensures.adds
+    ∙ one_more m.machine m.pools c.number.new.self m.states m.store c.in_ok-one.one c.number.ensures.adds c.self.invariant c.in_ok-one.ensures.pooled
+    ∙ ap (λ (a : AlbumState). a.kept ++ a.machine ∷ []) c.self.view_is
+
+pub invariant_of-self-then-finds : goal.invariant_of-self-then-finds
+invariant_of-self-then-finds c =
+    let m = c.self.inside in
+    album_still m.machine m.pools c.number.new.self m.states m.store c.number.ensures.adds c.self.invariant
+
+pub returns-then-finds-clause-known : goal.returns-then-finds-clause-known
+returns-then-finds-clause-known c is =
+    let m = c.self.inside in
+    states_still m.machine m.machine.machine.store m.pools c.number.new.self m.states c.number.ensures.adds c.self.invariant.fits
+    ∙ ap (λ (a : AlbumState). a.kept) c.self.view_is
+
+pub returns-then-finds-clause-kept : goal.returns-then-finds-clause-kept
+returns-then-finds-clause-kept c =
+    let m = c.self.inside in
+    let found = c.if-finds.ensures refl in
+    subst (λ (a : AlbumState). IsKeptAsX86 (states m.machine c.number.new.self m.states) a.machine) c.self.view_is
+    (kept_already m.machine c.number.new.self m.states c.in_ok-one.one c.in_ok-one.ensures.pooled found.0 found.1)
+
+pub returns-clause-kept : goal.returns-clause-kept
+returns-clause-kept c =
+    let m = c.self.inside in
+    let more =
+    ap (states m.machine c.number.new.self) c.in_ok-add.ensures.adds
+    ∙ one_more m.machine m.pools c.number.new.self m.states m.store c.in_ok-one.one c.number.ensures.adds c.self.invariant c.in_ok-one.ensures.pooled in
+    let now = states m.machine c.number.new.self c.add.new.self in
+    subst (λ (a : AlbumState). IsKeptAsX86 now a.machine) c.self.view_is
+    (subst (λ (l : List BufferedState). IsKeptAsX86 l m.machine) (sym more) (last_is_kept (states m.machine m.pools m.states) m.machine))

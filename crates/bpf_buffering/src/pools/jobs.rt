@@ -1,0 +1,197 @@
+//! Jobs under numbers: one that is as a kept one is found again.
+
+ghost use Rattle.std.specs.Prelude.{◌≡◌, ◌<◌, ◌++◌, ◌∷◌, [], List, true, false, All, IfOk, IfSome, OnOk, OnErr, Some, length, slice_get};
+ghost use Rattle.bpf_cpu.specs.Task.{Task};
+ghost use Rattle.bpf_machine.specs.Kept.{kept_stage};
+ghost use Rattle.bpf_machine.specs.Parts.{chosen};
+ghost use Rattle.bpf_machine.specs.Rounds.{HaveEnded};
+ghost use Rattle.bpf_buffering.specs.Jobs.{task_of, tasks_of};
+ghost use Rattle.bpf_buffering.specs.Private.Kept.{AreNumbersOf};
+
+use super::number_of;
+use crate::index::{Index, Look};
+use crate::jobs::{Listed, copy_job};
+use bpf_base::spread;
+use bpf_cpu::{Cpu, Outcome};
+use bpf_machine::KeptStage;
+use std::alloc::{AllocError, Global};
+use std::marker::Model;
+
+/// Whether two jobs are equally far.
+fn is_same_stage(one: &KeptStage, other: &KeptStage) -> bool
+    ensures { result ≡ true → kept_stage one.now ≡ kept_stage other.now }
+{
+    match one {
+        KeptStage::Waiting(input) => match other {
+            KeptStage::Waiting(given) => input.is_same(given),
+            _ => false,
+        },
+        KeptStage::InHand(cpu, left) => match other {
+            KeptStage::InHand(state, rest) => *left == *rest && cpu.is_same(state),
+            _ => false,
+        },
+        KeptStage::Ended(outcome) => match other {
+            KeptStage::Ended(end) => *outcome == *end,
+            _ => false,
+        },
+    }
+}
+
+/// Whether two jobs are the same.
+fn is_same_job(one: &Listed, other: &Listed) -> bool
+    ensures { result ≡ true → task_of one.now ≡ task_of other.now }
+{
+    one.cpu == other.cpu
+        && one.program == other.program
+        && one.budget == other.budget
+        && is_same_stage(&one.stage, &other.stage)
+}
+
+/// A number by which a job in hand is found, after one of its own.
+fn hash_of_hand(first: u64, cpu: &Cpu, left: u64) -> u64 {
+    let hash = spread(spread(first ^ cpu.pc as u64) ^ left);
+    cpu.registers
+        .iter()
+        .fold(hash, |hash: u64, word| spread(hash ^ *word))
+}
+
+/// A number by which a job is found.
+fn hash_of_job(job: &Listed) -> u64 {
+    let first = spread(spread(u64::from(job.cpu)) ^ job.program as u64);
+    match &job.stage {
+        KeptStage::Waiting(_) => spread(first ^ 1),
+        KeptStage::InHand(cpu, left) => hash_of_hand(first, cpu, *left),
+        KeptStage::Ended(Outcome::Exit(word)) => spread(spread(first ^ 2) ^ *word),
+        KeptStage::Ended(Outcome::Fault(_, _) | Outcome::OutOfBudget(_)) => spread(first ^ 3),
+    }
+}
+
+/// Kept jobs, each under its number, in the order in which they came.
+#[derive(Drop)]
+pub(crate) struct Jobs {
+    kept: Vec<Listed>,
+    index: Index,
+}
+
+impl Model for Jobs {
+    ghost use Rattle.std.specs.Prelude.{List};
+    ghost use Rattle.bpf_cpu.specs.Task.{Task};
+    ghost use Rattle.bpf_buffering.specs.Jobs.{tasks_of};
+
+    ghost Value = { List Task };
+
+    ghost view = { λ p. tasks_of p.kept.items };
+}
+
+impl Jobs {
+    /// Nothing is kept.
+    pub(crate) fn new(alloc: Global) -> Jobs
+        ensures { result ≡ [] }
+    {
+        Jobs {
+            kept: Vec::new(alloc),
+            index: Index::new(alloc),
+        }
+    }
+
+    /// Whether the job of a number is this one.
+    fn is_at(&self, number: usize, job: &Listed) -> bool
+        ensures { result ≡ true → slice_get self.now number ≡ Some (task_of job.now) }
+    {
+        match self.kept.get(number) {
+            Some(one) => is_same_job(one, job),
+            None => false,
+        }
+    }
+
+    /// The number of a job that has this hash, if it is found.
+    fn find(&self, hash: u64, job: &Listed) -> Option<usize>
+        ensures { IfSome result (λ n. slice_get self.now n ≡ Some (task_of job.now)) }
+    {
+        for step in 0..self.index.places() {
+            match self.index.look(hash, step) {
+                Look::Number(number) if self.is_at(number, job) => return Some(number),
+                Look::Number(_) | Look::Other => {}
+                Look::Nothing => return None,
+            }
+        }
+        None
+    }
+
+    /// Puts a copy of a job after those that are kept. Its number.
+    fn add(&mut self, alloc: Global, hash: u64, job: &Listed) -> Result<usize, AllocError>
+        ensures at { IfOk result (λ n. slice_get self.new n ≡ Some (task_of job.now)) }
+        ensures adds { OnOk result (self.new ≡ self.old ++ task_of job.now ∷ []) }
+        ensures err { OnErr result (self.new ≡ self.old) }
+    {
+        let copy = copy_job(alloc, job)?;
+        let number = self.kept.len();
+        self.index.note(alloc, hash, number)?;
+        self.kept.push(copy)?;
+        Ok(number)
+    }
+
+    /// The number of a job, which is kept if it isn't yet.
+    fn keep(&mut self, alloc: Global, job: &Listed) -> Result<u32, AllocError>
+        ensures at { IfOk result (λ n. slice_get self.new n ≡ Some (task_of job.now)) }
+        ensures grows { (more : List Task) × (self.new ≡ self.old ++ more) }
+    {
+        let hash = hash_of_job(job);
+        if let Some(number) = self.find(hash, job) {
+            return number_of(number);
+        }
+        let number = self.add(alloc, hash, job)?;
+        number_of(number)
+    }
+
+    /// The numbers of jobs, of which each is kept that isn't yet.
+    pub(crate) fn keep_all(
+        &mut self,
+        alloc: Global,
+        jobs: &[Listed],
+    ) -> Result<Vec<u32>, AllocError>
+        ensures numbers { IfOk result
+            (λ numbers. AreNumbersOf self.new numbers.items (tasks_of jobs.now)) }
+        ensures grows { (more : List Task) × (self.new ≡ self.old ++ more) }
+    {
+        let mut numbers = Vec::with_capacity(alloc, jobs.len())?;
+        for job in jobs {
+            let number = self.keep(alloc, job)?;
+            numbers.push(number)?;
+        }
+        Ok(numbers)
+    }
+
+    /// Copies of the jobs of these numbers.
+    pub(crate) fn copy(&self, alloc: Global, numbers: &[u32]) -> Result<Vec<Listed>, AllocError>
+        requires { All (λ n. n < length self.now) numbers.now }
+        ensures { IfOk result (λ copies. tasks_of copies.items ≡ chosen self.now numbers.now) }
+    {
+        let mut copies = Vec::with_capacity(alloc, numbers.len())?;
+        for job in 0..numbers.len() {
+            let copy = copy_job(alloc, &self.kept[numbers[job] as usize])?;
+            copies.push(copy)?;
+        }
+        Ok(copies)
+    }
+
+    /// Whether each of the jobs of these numbers has ended.
+    pub(crate) fn have_ended(&self, numbers: &[u32]) -> bool
+        requires { All (λ n. n < length self.now) numbers.now }
+        ensures ended { result ≡ true → HaveEnded (chosen self.now numbers.now) }
+        ensures works { result ≡ false → HaveEnded (chosen self.now numbers.now) → ⊥ }
+    {
+        for job in 0..numbers.len() {
+            if !self.kept[numbers[job] as usize].has_ended() {
+                return false;
+            }
+        }
+        true
+    }
+
+    /// About how many bytes of memory they take.
+    pub(crate) fn bytes(&self) -> usize {
+        let kept = self.kept.capacity().saturating_mul(size_of::<Listed>());
+        self.index.bytes().saturating_add(kept)
+    }
+}
