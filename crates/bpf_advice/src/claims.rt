@@ -254,6 +254,18 @@ fn hint_of_map(alloc: Global, file: &str, claim: &[&str]) -> Result<Option<Strin
     }
 }
 
+/// What is said of a claim of one word that is expected of CPUs with store buffers alone.
+fn hint_of_x86_word(word: &str) -> Option<&'static str> {
+    let asks = is_nearly(word, "race") || is_nearly(word, "ends") || is_nearly(word, "hung");
+    if asks || word == "hangs" {
+        Some(
+            "`race`, `ends` and `hung` ask of orders of turns, and have no form for `--x86` alone: `never race`",
+        )
+    } else {
+        hint_of_word(word)
+    }
+}
+
 /// What is said of a claim of one word.
 fn hint_of_word(word: &str) -> Option<&'static str> {
     if is_nearly(word, "race") {
@@ -269,13 +281,22 @@ fn hint_of_word(word: &str) -> Option<&'static str> {
     }
 }
 
+/// Whether a word says how often, of CPUs with store buffers alone.
+fn is_of_x86(word: &str) -> bool {
+    matches!(word, "always-x86" | "sometimes-x86" | "never-x86")
+}
+
 /// What is said of a comment's first word.
 fn hint_of_first(word: &str) -> Option<&'static str> {
     match word {
         "always" | "sometimes" | "never" => None,
+        _ if is_of_x86(word) => None,
         _ if is_nearly(word, "check") => {
             Some("`check patient`, `check limit N`, or both: `check patient limit N`")
         }
+        _ if word.contains("-") => Some(
+            "what only `check --x86` tests begins with `always-x86`, `sometimes-x86` or `never-x86`",
+        ),
         _ => Some(
             "an expectation begins with `always`, `sometimes` or `never`, and prose with none that looks like them",
         ),
@@ -311,12 +332,22 @@ fn hint_of_parts(alloc: Global, file: &str, claim: &[&str]) -> Result<Option<Str
     Ok(None)
 }
 
-/// The same of all of it.
-fn hint_of_whole(alloc: Global, file: &str, claim: &[&str]) -> Result<String, AllocError> {
-    if let [word] = claim
-        && let Some(hint) = hint_of_word(word)
-    {
-        return hint.to_string(alloc);
+/// The same of all of it, after the word that says how often.
+fn hint_of_whole(
+    alloc: Global,
+    file: &str,
+    first: &str,
+    claim: &[&str],
+) -> Result<String, AllocError> {
+    if let [word] = claim {
+        let hint = if is_of_x86(first) {
+            hint_of_x86_word(word)
+        } else {
+            hint_of_word(word)
+        };
+        if let Some(hint) = hint {
+            return hint.to_string(alloc);
+        }
     }
     if let Some(hint) = hint_of_joints(claim) {
         return hint.to_string(alloc);
@@ -338,6 +369,6 @@ pub fn hint_of_comment(alloc: Global, file: &str, line: &str) -> Result<String, 
     };
     match hint_of_first(first) {
         Some(hint) => hint.to_string(alloc),
-        None => hint_of_whole(alloc, file, claim),
+        None => hint_of_whole(alloc, file, first, claim),
     }
 }

@@ -40,7 +40,7 @@ not_open true left refuted e f = let no : true ≡ false = e in absurd cc
 not_open false left refuted e f = (e, f)
 
 pub judged : RunsAreJudged
-judged w names text e is =
+judged w names text e plain is =
     let asks = asks_of_search e.often e.line in
     let so = agrees e text in (
       (λ refuted. refutes (IsOutcomeText w names) (agrees e) text e.often is (by_line asks (is_refuted_by e.often so) refuted)),

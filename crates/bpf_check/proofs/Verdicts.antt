@@ -84,7 +84,7 @@ module _ (IsText : List ℕ → Type 0) (IsAnswer : Found → Type 0) (f : Findi
   told o found = decides_by o (agrees e found.text)
 
   abbrev expects : Often → Expected
-  expects o = record { often = o; line = e.line; join = e.join; parts = e.parts }
+  expects o = record { often = o; x86 = e.x86; line = e.line; join = e.join; parts = e.parts }
 
   is_text : (i : ℕ) (found : Found) → slice_get f.answers i ≡ Some found → IsText found.text
   is_text i found at = tells found (each i found at)
@@ -164,7 +164,7 @@ exact w names f e are have =
     (finds (λ found. decides e found.text) f.answers)
 
 pub verdicts_true : VerdictsAreTrue
-verdicts_true w names f e exactly are have raced =
+verdicts_true w names f e plain exactly are have raced =
     let Other : Verdict → Type 0 = IsTrueOf (IsOutcomeText w names) (EndsBy w names true) f e in
     let rest : Bool → Verdict = λ patient. cond (patient && asks_ends e.often e.line) (ends_verdict f)
     (cond (patient && asks_hung e.often e.line) (hung_verdict f) (outcome_verdict f e)) in
@@ -221,7 +221,8 @@ patient_one w names f are e raced =
     (chosen w names f e are (asks_ends e.often e.line) (asks_hung e.often e.line)))
 
 pub patient_verdicts_true : PatientVerdictsAreTrue
-patient_verdicts_true w names f are = (true_ends w names f are f.all (is_empty f.hung) refl refl, patient_one w names f are)
+patient_verdicts_true w names f are =
+    (true_ends w names f are f.all (is_empty f.hung) refl refl, (λ e plain. patient_one w names f are e))
 
 -- ---- a fault that isn't expected
 module _ (IsText : List ℕ → Type 0) (IsAnswer : Found → Type 0) (f : Findings) (expected : List Expected)

@@ -1,6 +1,6 @@
 -- What a run file expects of its outcomes, in its comments. Our own choice.
-use Rattle.std.specs.Prelude.{ℕ, ◌+◌, Bool, false, ◌==◌, ◌&&◌, ◌||◌, List, [], ◌∷◌, Option, Some, None, if◌then◌else◌, is_none, is_some}
-use Rattle.std.specs.Prelude.{option_and_then, option_map, codes, length}
+use Rattle.std.specs.Prelude.{ℕ, ◌+◌, Bool, true, false, not, ◌==◌, ◌&&◌, ◌||◌, List, [], ◌∷◌, Option, Some, None, if◌then◌else◌}
+use Rattle.std.specs.Prelude.{is_none, is_some, option_and_then, option_map, codes, length}
 use Rattle.std.specs.List.{filter_map, list_any, position}
 use Rattle.std.specs.Str.{bytes_eq}
 use Rattle.bpf_lines.specs.Lines.{lines_of}
@@ -14,11 +14,12 @@ use Rattle.bpf_check.specs.Subjects.{Subjects, can_print_all}
 use Rattle.bpf_check.specs.declared.claim.Join.{Join}
 use Rattle.bpf_check.specs.declared.claim.Join.TheVariants as join
 
--- how often outcomes are to be as a line of words claims, and what that is: its parts, and how they are
--- joined. Or, where the line is `ends` or `hung`, that each schedule can end, or that some can't; or, where
--- it is `race`, that there is a data race, or none
+-- how often outcomes are to be as a line of words claims, whether those of CPUs with store buffers alone,
+-- and what that is: its parts, and how they are joined. Or, where the line is `ends` or `hung`, that each
+-- schedule can end, or that some can't; or, where it is `race`, that there is a data race, or none
 pub record Expected : Type 0 where
   pub often : Often
+  pub x86 : Bool
   pub line : List ℕ
   pub join : Join
   pub parts : List Part
@@ -27,19 +28,27 @@ pub record Expected : Type 0 where
 abbrev pub agrees : Expected → List ℕ → Bool
 agrees e text = joined e.join (λ p. has_part p text) e.parts
 
-abbrev pub often_text : Often → List ℕ
-often_text often.Always = codes "always"
-often_text often.Sometimes = codes "sometimes"
-often_text often.Never = codes "never"
+-- how often, of all CPUs, or of those with store buffers alone
+abbrev pub often_text : (x86 : Bool) → Often → List ℕ
+often_text false often.Always = codes "always"
+often_text false often.Sometimes = codes "sometimes"
+often_text false often.Never = codes "never"
+often_text true often.Always = codes "always-x86"
+often_text true often.Sometimes = codes "sometimes-x86"
+often_text true often.Never = codes "never-x86"
 
-abbrev pub is_often : Often → List ℕ → Bool
-is_often o word = bytes_eq (often_text o) word
+abbrev pub is_often : (x86 : Bool) → Often → List ℕ → Bool
+is_often x86 o word = bytes_eq (often_text x86 o) word
 
-abbrev pub often_in : List ℕ → Option Often
-often_in word =
-    if is_often often.Always word then Some often.Always
-    else (if is_often often.Sometimes word then Some often.Sometimes
-    else (if is_often often.Never word then Some often.Never else None))
+abbrev pub often_in : (x86 : Bool) → List ℕ → Option Often
+often_in x86 word =
+    if is_often x86 often.Always word then Some often.Always
+    else (if is_often x86 often.Sometimes word then Some often.Sometimes
+    else (if is_often x86 often.Never word then Some often.Never else None))
+
+-- a word that says it of CPUs with store buffers alone
+abbrev pub is_of_x86 : List ℕ → Bool
+is_of_x86 word = is_some (often_in true word)
 
 -- ---- what asks of a search, and not of outcomes
 
@@ -83,33 +92,40 @@ abbrev pub can_ask : Subjects → Often → List (List ℕ) → Bool
 can_ask s o words = length words == 1
     && (asks_of_races o (line_of words) || (s.ends && asks_of_ends o (line_of words)))
 
--- the words are one line, or ask that; so a map may have the name `and` or `or`
-abbrev pub is_whole : Subjects → Often → List (List ℕ) → Bool
-is_whole s o words = can_print_all s words || can_ask s o words
+-- the words are one line, or ask that, which is asked of no CPUs with store buffers alone; so a map may have
+-- the name `and` or `or`
+abbrev pub is_whole : Subjects → (x86 : Bool) → Often → List (List ℕ) → Bool
+is_whole s x86 o words = can_print_all s words || (not x86 && can_ask s o words)
 
-abbrev pub whole : Often → (line : List ℕ) → Expected
-whole o line = record { often = o; line = line; join = join.All; parts = line_part line ∷ [] }
+abbrev pub whole : (x86 : Bool) → Often → (line : List ℕ) → Expected
+whole x86 o line =
+    record { often = o; x86 = x86; line = line; join = join.All; parts = line_part line ∷ [] }
 
-abbrev pub claimed : Often → (line : List ℕ) → Join → List Part → Expected
-claimed o line j parts = record { often = o; line = line; join = j; parts = parts }
+abbrev pub claimed : (x86 : Bool) → Often → (line : List ℕ) → Join → List Part → Expected
+claimed x86 o line j parts = record { often = o; x86 = x86; line = line; join = j; parts = parts }
 
-abbrev pub claim_of : Subjects → Often → List (List ℕ) → Option Expected
-claim_of s o words = option_map (claimed o (line_of words) (join_in words))
+abbrev pub claim_of : Subjects → (x86 : Bool) → Often → List (List ℕ) → Option Expected
+claim_of s x86 o words = option_map (claimed x86 o (line_of words) (join_in words))
     (parts_in s (joint_of (join_in words)) words)
 
 -- what the words of a comment expect: how often, and then a line, or parts
-unfoldable pub expected_by : Subjects → (word : List ℕ) → List (List ℕ) → Option Expected
-expected_by s word words = option_and_then (λ o. if is_whole s o words
-    then Some (whole o (line_of words)) else claim_of s o words) (often_in word)
+unfoldable pub expected_by : Subjects → (x86 : Bool) → (word : List ℕ) → List (List ℕ)
+    → Option Expected
+expected_by s x86 word words = option_and_then (λ o. if is_whole s x86 o words
+    then Some (whole x86 o (line_of words)) else claim_of s x86 o words) (often_in x86 word)
 
 abbrev pub expected_in : Subjects → List (List ℕ) → Option Expected
 expected_in s [] = None
 expected_in s (word ∷ []) = None
-expected_in s (word ∷ first ∷ more) = expected_by s word (first ∷ more)
+expected_in s (word ∷ first ∷ more) = expected_by s (is_of_x86 word) word (first ∷ more)
+
+-- a word that is nearly one of both kinds
+abbrev pub is_near_often : (x86 : Bool) → List ℕ → Bool
+is_near_often x86 word = is_near word (often_text x86 often.Always)
+    || (is_near word (often_text x86 often.Sometimes) || is_near word (often_text x86 often.Never))
 
 abbrev pub seems_often : List ℕ → Bool
-seems_often word =
-    is_near word (codes "always") || (is_near word (codes "sometimes") || is_near word (codes "never"))
+seems_often word = is_near_often false word || is_near_often true word
 
 -- the words are meant to expect something: such a word, and one more or several
 abbrev pub is_claim : List (List ℕ) → Bool
@@ -123,17 +139,47 @@ is_amiss s words = is_misset words || (is_claim words && is_none (expected_in s 
 
 -- ---- a file
 
--- WHAT A RUN FILE EXPECTS, in the order of its lines
-abbrev pub expectations_of : Subjects → List ℕ → List Expected
-expectations_of s text = filter_map (λ line. expected_in s (words_of line)) (lines_of text)
+-- IT IS A TEST of these CPUs: of those with store buffers each is, and of others what isn't expected of
+-- CPUs with store buffers alone
+abbrev pub is_test : Subjects → Expected → Bool
+is_test s e = s.x86 || not e.x86
 
--- the numbers of the lines that expect something, where the first of them has this number
+abbrev pub only_test : Subjects → Expected → Option Expected
+only_test s e = if is_test s e then Some e else None
+
+-- what the words of a comment expect, if it is one
+abbrev pub test_in : Subjects → List (List ℕ) → Option Expected
+test_in s words = option_and_then (only_test s) (expected_in s words)
+
+-- WHAT IS TESTED OF A RUN FILE, in the order of its lines
+abbrev pub expectations_of : Subjects → List ℕ → List Expected
+expectations_of s text = filter_map (λ line. test_in s (words_of line)) (lines_of text)
+
+-- the words expect something that is no test
+abbrev pub is_no_test : Subjects → Option Expected → Bool
+is_no_test s None = false
+is_no_test s (Some e) = not (is_test s e)
+
+abbrev pub is_left : Subjects → List (List ℕ) → Bool
+is_left s words = is_no_test s (expected_in s words)
+
+-- how many of these lines do
+abbrev pub count_left : Subjects → List (List ℕ) → ℕ
+count_left s [] = 0
+count_left s (line ∷ more) =
+    if is_left s (words_of line) then count_left s more + 1 else count_left s more
+
+-- HOW MANY EXPECTATIONS of a run file are no tests
+abbrev pub left_of : Subjects → List ℕ → ℕ
+left_of s text = count_left s (lines_of text)
+
+-- the numbers of the lines that expect something that is tested, where the first of them has this number
 abbrev pub lines_from : Subjects → ℕ → List (List ℕ) → List ℕ
 lines_from s n [] = []
-lines_from s n (line ∷ more) = if is_some (expected_in s (words_of line)) then n ∷ lines_from s (n + 1) more
+lines_from s n (line ∷ more) = if is_some (test_in s (words_of line)) then n ∷ lines_from s (n + 1) more
     else lines_from s (n + 1) more
 
--- AT WHICH LINES IT DOES, counted from 1: a number for each expectation
+-- AT WHICH LINES IT DOES, counted from 1: a number for each expectation that is tested
 abbrev pub expectation_lines : Subjects → List ℕ → List ℕ
 expectation_lines s text = lines_from s 1 (lines_of text)
 

@@ -30,7 +30,7 @@ abbrev pub shown_byte : ℕ → ℕ
 shown_byte b = if is_line_byte b then b else 63
 
 abbrev pub expected_text : Expected → List ℕ
-expected_text e = often_text e.often ++ codes " " ++ map shown_byte e.line
+expected_text e = often_text e.x86 e.often ++ codes " " ++ map shown_byte e.line
 
 -- ---- a verdict
 
@@ -90,7 +90,7 @@ test_text name f n what v =
     ok_text v ++ number_text n ++ name ++ what ++ codes "\n" ++ reason_text f v
 
 abbrev pub no_expectation : Expected
-no_expectation = record { often = often.Always; line = []; join = join.All; parts = [] }
+no_expectation = record { often = often.Always; x86 = false; line = []; join = join.All; parts = [] }
 
 -- the number of the line that expects it, before a test where it is known
 abbrev pub mark_text : Option ℕ → List ℕ
@@ -150,6 +150,12 @@ abbrev pub listed_text : (name : List ℕ) → (lines : List ℕ) → (before : 
     → List Verdict → List ℕ
 listed_text name lines before f expected verdicts = asked_text name lines before f expected verdicts
     ++ last_text name (before + (asked_count f expected + 1)) f (unexpected_fault f expected)
+
+-- how many expectations are no tests, since they are of CPUs with store buffers alone, as a comment after a
+-- mark; nothing where there is none
+abbrev pub left_text : (mark : List ℕ) → ℕ → List ℕ
+left_text mark count = if count == 0 then []
+    else codes "# " ++ (mark ++ (codes "only --x86 tests " ++ (decimal count ++ codes " more\n")))
 
 -- how many tests there are; where there are none, that they are skipped, in TAP's form
 abbrev pub plan_text : ℕ → List ℕ

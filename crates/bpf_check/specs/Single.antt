@@ -37,7 +37,7 @@ is_open text e = asks_of_search e.often e.line || is_open_by e.often (agrees e t
 -- SO WHAT ONE RUN REFUTES DOESN'T HOLD of the outcomes of all schedules, of which its own is one;
 -- what it neither refutes nor leaves open would hold if there were no other
 abbrev pub RunsAreJudged : Type 0
-RunsAreJudged = (w : World) (names : Names) (text : List ℕ) (e : Expected)
+RunsAreJudged = (w : World) (names : Names) (text : List ℕ) (e : Expected) → e.x86 ≡ false
     → IsOutcomeText w names text → (is_refuted text e ≡ true → IsMet w names e → ⊥)
     × (is_refuted text e ≡ false → is_open text e ≡ false → Meet (λ t. t ≡ text) e)
 

@@ -13,8 +13,8 @@ use Rattle.bpf_shared.specs.declared.shapes.MapShape.{MapShape}
 use Rattle.bpf_names.specs.Names.{Names, Variable, variable_named}
 
 -- what lines speak of: the CPU of each job, how many CPUs there are, the names of maps, arrays and
--- variables, the sizes of maps and arrays, whether lists of keys are among the lines, and whether it
--- may be asked if schedules can end
+-- variables, the sizes of maps and arrays, whether lists of keys are among the lines, whether it may be
+-- asked if schedules can end, and whether the CPUs have store buffers
 pub record Subjects : Type 0 where
   pub jobs : List ℕ
   pub cpus : ℕ
@@ -23,6 +23,7 @@ pub record Subjects : Type 0 where
   pub arrays : List ArrayShape
   pub lists : Bool
   pub ends : Bool
+  pub x86 : Bool
 
 -- ---- words
 

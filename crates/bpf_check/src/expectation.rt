@@ -2,7 +2,7 @@
 
 ghost use Rattle.std.specs.Prelude.{◌≡◌, ◌≤◌, ◌++◌, false, is_some, IfErr, IfOk, IfSome, None, OnOk, length, map};
 ghost use Rattle.bpf_check.specs.Comments.{words_of};
-ghost use Rattle.bpf_check.specs.Expectation.{agrees, are_races_asked, asks_ends, asks_hung, asks_of_ends, asks_of_races, asks_of_search, can_ask, claim_of, expectation_lines, expectations_of, expected_by, expected_in, first_amiss, is_amiss, is_claim, is_often, often_in, often_text, seems_often, whole};
+ghost use Rattle.bpf_check.specs.Expectation.{agrees, are_races_asked, asks_ends, asks_hung, asks_of_ends, asks_of_races, asks_of_search, can_ask, claim_of, expectation_lines, expectations_of, expected_by, expected_in, first_amiss, is_amiss, is_claim, is_left, is_near_often, is_of_x86, is_often, is_test, is_whole, left_of, often_in, often_text, seems_often, test_in, whole};
 ghost use Rattle.bpf_check.specs.Faults.{speaks_of_faults};
 ghost use Rattle.bpf_check.specs.Parts.{line_of};
 ghost use Rattle.bpf_check.specs.Unexpected.{IsUnexpected};
@@ -28,33 +28,36 @@ pub enum Often {
 }
 
 impl Often {
-    /// How it is spelled.
-    pub fn text(self) -> &'static str
-        ensures { result.now ≡ often_text self }
+    /// How it is spelled of all CPUs, or of those with store buffers alone.
+    pub fn text(self, x86: bool) -> &'static str
+        ensures { result.now ≡ often_text x86 self }
     {
-        match self {
-            Often::Always => "always",
-            Often::Sometimes => "sometimes",
-            Often::Never => "never",
+        match (x86, self) {
+            (false, Often::Always) => "always",
+            (false, Often::Sometimes) => "sometimes",
+            (false, Often::Never) => "never",
+            (true, Often::Always) => "always-x86",
+            (true, Often::Sometimes) => "sometimes-x86",
+            (true, Often::Never) => "never-x86",
         }
     }
 
     /// Whether a word spells it.
-    fn is(self, word: &[u8]) -> bool
-        ensures { result ≡ is_often self word.now }
+    fn is(self, x86: bool, word: &[u8]) -> bool
+        ensures { result ≡ is_often x86 self word.now }
     {
-        self.text().as_bytes() == word
+        self.text(x86).as_bytes() == word
     }
 
     /// How often a word says, if it says so.
-    fn spelled(word: &[u8]) -> Option<Often>
-        ensures { result ≡ often_in word.now }
+    fn spelled(x86: bool, word: &[u8]) -> Option<Often>
+        ensures { result ≡ often_in x86 word.now }
     {
-        if Often::Always.is(word) {
+        if Often::Always.is(x86, word) {
             Some(Often::Always)
-        } else if Often::Sometimes.is(word) {
+        } else if Often::Sometimes.is(x86, word) {
             Some(Often::Sometimes)
-        } else if Often::Never.is(word) {
+        } else if Often::Never.is(x86, word) {
             Some(Often::Never)
         } else {
             None
@@ -62,10 +65,19 @@ impl Often {
     }
 }
 
+/// Whether a word says how often, of CPUs with store buffers alone.
+fn is_of_x86(word: &[u8]) -> bool
+    ensures { result ≡ is_of_x86 word.now }
+{
+    Often::spelled(true, word).is_some()
+}
+
 /// What is claimed of outcomes, and how often they are to be so.
 #[derive(Drop)]
 pub struct Expectation {
     often: Often,
+    /// Whether it is expected of CPUs with store buffers alone.
+    x86: bool,
     /// The claim as it is written.
     line: Vec<u8>,
     join: Join,
@@ -79,6 +91,7 @@ impl Model for Expectation {
 
     ghost view = { λ e. record {
       often = e.often;
+      x86 = e.x86;
       line = e.line.items;
       join = e.join;
       parts = e.parts.items;
@@ -91,6 +104,13 @@ impl Expectation {
         ensures { result ≡ self.now.often }
     {
         self.often
+    }
+
+    /// Whether it is expected of CPUs with store buffers alone.
+    pub fn x86(&self) -> bool
+        ensures { result ≡ self.now.x86 }
+    {
+        self.x86
     }
 
     /// The claim, with one blank between words.
@@ -167,15 +187,24 @@ fn can_ask(subjects: &Subjects, often: Often, words: &[&[u8]]) -> bool
     words.len() == 1 && (asks_of_races(often, word) || subjects.ends() && asks_of_ends(often, word))
 }
 
+/// Whether words are one line, or ask of a search what may be asked.
+fn is_whole(subjects: &Subjects, x86: bool, often: Often, words: &[&[u8]]) -> bool
+    ensures { result ≡ is_whole subjects.now x86 often (map (λ f. f.now) words.now) }
+{
+    subjects.can_print_all(words) || !x86 && can_ask(subjects, often, words)
+}
+
 /// The expectation of these words, which are one line.
-fn whole(alloc: Global, often: Often, words: &[&[u8]]) -> Result<Expectation, AllocError>
-    ensures { IfOk result (λ found. found ≡ whole often (line_of (map (λ f. f.now) words.now))) }
+fn whole(alloc: Global, x86: bool, often: Often, words: &[&[u8]]) -> Result<Expectation, AllocError>
+    ensures { IfOk result (λ found.
+        found ≡ whole x86 often (line_of (map (λ f. f.now) words.now))) }
 {
     let line = line_of(alloc, words)?;
     let mut parts = Vec::new(alloc);
     parts.push(line_part(line.clone()?))?;
     Ok(Expectation {
         often,
+        x86,
         line,
         join: Join::All,
         parts,
@@ -186,11 +215,12 @@ fn whole(alloc: Global, often: Often, words: &[&[u8]]) -> Result<Expectation, Al
 fn claim_of(
     alloc: Global,
     subjects: &Subjects,
+    x86: bool,
     often: Often,
     words: &[&[u8]],
 ) -> Result<Option<Expectation>, AllocError>
     ensures { IfOk result (λ found. found
-        ≡ claim_of subjects.now often (map (λ f. f.now) words.now)) }
+        ≡ claim_of subjects.now x86 often (map (λ f. f.now) words.now)) }
 {
     let join = Join::of(words);
     let Some(parts) = parts_in(alloc, subjects, join.joint(), words)? else {
@@ -199,30 +229,33 @@ fn claim_of(
     let line = line_of(alloc, words)?;
     Ok(Some(Expectation {
         often,
+        x86,
         line,
         join,
         parts,
     }))
 }
 
-/// What a word that may say how often and the words of a claim expect, if they say so.
+/// What a word that may say how often and the words of a claim expect, if they say so: of all CPUs, or of
+/// those with store buffers alone.
 #[tactic(auto, unfolding(crate::specs::Expectation::expected_by))]
 fn expected_by(
     alloc: Global,
     subjects: &Subjects,
+    x86: bool,
     word: &[u8],
     words: &[&[u8]],
 ) -> Result<Option<Expectation>, AllocError>
     ensures { IfOk result (λ found. found
-        ≡ expected_by subjects.now word.now (map (λ f. f.now) words.now)) }
+        ≡ expected_by subjects.now x86 word.now (map (λ f. f.now) words.now)) }
 {
-    let Some(often) = Often::spelled(word) else {
+    let Some(often) = Often::spelled(x86, word) else {
         return Ok(None);
     };
-    if subjects.can_print_all(words) || can_ask(subjects, often, words) {
-        Ok(Some(whole(alloc, often, words)?))
+    if is_whole(subjects, x86, often, words) {
+        Ok(Some(whole(alloc, x86, often, words)?))
     } else {
-        claim_of(alloc, subjects, often, words)
+        claim_of(alloc, subjects, x86, often, words)
     }
 }
 
@@ -237,15 +270,24 @@ fn expected_in(
 {
     match words {
         [] | [_] => Ok(None),
-        [word, claim @ ..] => expected_by(alloc, subjects, word, claim),
+        [word, claim @ ..] => expected_by(alloc, subjects, is_of_x86(word), word, claim),
     }
+}
+
+/// Whether a word is nearly one that says how often, of all CPUs, or of those with store buffers alone.
+fn is_near_often(x86: bool, word: &[u8]) -> bool
+    ensures { result ≡ is_near_often x86 word.now }
+{
+    is_near(word, Often::Always.text(x86).as_bytes())
+        || is_near(word, Often::Sometimes.text(x86).as_bytes())
+        || is_near(word, Often::Never.text(x86).as_bytes())
 }
 
 /// Whether a word seems to say how often.
 fn seems_often(word: &[u8]) -> bool
     ensures { result ≡ seems_often word.now }
 {
-    is_near(word, b"always") || is_near(word, b"sometimes") || is_near(word, b"never")
+    is_near_often(false, word) || is_near_often(true, word)
 }
 
 /// Whether the words of a comment are meant to expect something.
@@ -258,16 +300,41 @@ fn is_claim(words: &[&[u8]]) -> bool
     }
 }
 
-/// What the comment of a line expects, if it says so.
-fn expectation_in(
+/// Whether it is a test of a file's CPUs.
+fn is_test(subjects: &Subjects, expectation: &Expectation) -> bool
+    ensures { result ≡ is_test subjects.now expectation.now }
+{
+    subjects.x86() || !expectation.x86
+}
+
+/// What the comment of a line expects, if it is a test.
+fn test_in(
     alloc: Global,
     subjects: &Subjects,
     line: &[u8],
 ) -> Result<Option<Expectation>, AllocError>
-    ensures { IfOk result (λ found. found ≡ expected_in subjects.now (words_of line.now)) }
+    ensures { IfOk result (λ found. found ≡ test_in subjects.now (words_of line.now)) }
 {
     let words = fields(alloc, comment_of(line))?;
-    expected_in(alloc, subjects, &words)
+    let Some(expectation) = expected_in(alloc, subjects, &words)? else {
+        return Ok(None);
+    };
+    if is_test(subjects, &expectation) {
+        Ok(Some(expectation))
+    } else {
+        Ok(None)
+    }
+}
+
+/// Whether the comment of a line expects something that is no test.
+fn is_left(alloc: Global, subjects: &Subjects, line: &[u8]) -> Result<bool, AllocError>
+    ensures { IfOk result (λ left. left ≡ is_left subjects.now (words_of line.now)) }
+{
+    let words = fields(alloc, comment_of(line))?;
+    let Some(expectation) = expected_in(alloc, subjects, &words)? else {
+        return Ok(false);
+    };
+    Ok(!is_test(subjects, &expectation))
 }
 
 /// Whether the comment of a line is meant to expect something, or to say how the file is checked, and can't.
@@ -303,7 +370,7 @@ fn first_amiss(alloc: Global, subjects: &Subjects, text: &[u8]) -> Result<Option
     Ok(None)
 }
 
-/// What the comments of a run file expect that outcomes can have, in the order of its lines.
+/// What is tested of what the comments of a run file expect, in the order of its lines.
 fn expected_of(
     alloc: Global,
     subjects: &Subjects,
@@ -315,7 +382,7 @@ fn expected_of(
     let mut rest = Some(text);
     'lines: while let Some(left) = rest {
         let (line, behind) = first_line(left);
-        if let Some(expectation) = expectation_in(alloc, subjects, line)? {
+        if let Some(expectation) = test_in(alloc, subjects, line)? {
             found.push(expectation)?;
         }
         rest = behind;
@@ -323,15 +390,36 @@ fn expected_of(
     Ok(found)
 }
 
-/// Whether the comment of a line expects something that outcomes can have.
-fn does_expect(alloc: Global, subjects: &Subjects, line: &[u8]) -> Result<bool, AllocError>
-    ensures { IfOk result (λ does. does ≡ is_some (expected_in subjects.now (words_of line.now))) }
+/// Whether the comment of a line expects something that is a test.
+fn does_test(alloc: Global, subjects: &Subjects, line: &[u8]) -> Result<bool, AllocError>
+    ensures { IfOk result (λ does. does ≡ is_some (test_in subjects.now (words_of line.now))) }
 {
-    let expected = expectation_in(alloc, subjects, line)?;
-    Ok(expected.is_some())
+    let tested = test_in(alloc, subjects, line)?;
+    Ok(tested.is_some())
 }
 
-/// The numbers of the lines of a run file whose comments expect what outcomes can have, counted from 1.
+/// How many comments of a run file expect something that is no test: something of CPUs with store buffers
+/// alone, where the file's have none.
+pub fn expectations_left(
+    alloc: Global,
+    subjects: &Subjects,
+    text: &[u8],
+) -> Result<usize, AllocError>
+    ensures { IfOk result (λ count. count ≡ left_of subjects.now text.now) }
+{
+    let mut count = 0;
+    let mut rest = Some(text);
+    'lines: while let Some(left) = rest {
+        let (line, behind) = first_line(left);
+        if is_left(alloc, subjects, line)? {
+            count += 1;
+        }
+        rest = behind;
+    }
+    Ok(count)
+}
+
+/// The numbers of the lines of a run file whose comments expect something that is tested, counted from 1.
 pub fn expectation_lines(
     alloc: Global,
     subjects: &Subjects,
@@ -344,7 +432,7 @@ pub fn expectation_lines(
     let mut rest = Some(text);
     'lines: while let Some(left) = rest {
         let (line, behind) = first_line(left);
-        if does_expect(alloc, subjects, line)? {
+        if does_test(alloc, subjects, line)? {
             found.push(number)?;
         }
         number += 1;
@@ -368,8 +456,8 @@ pub enum Unexpected {
     OutOfMemory,
 }
 
-/// What the comments of a run file expect, in the order of its lines: a comment that is meant to expect
-/// something and can't is refused, or passed over where that is asked for.
+/// What is tested of what the comments of a run file expect, in the order of its lines: a comment that is
+/// meant to expect something and can't is refused, or passed over where that is asked for.
 pub fn expectations(
     alloc: Global,
     subjects: &Subjects,

@@ -1,7 +1,7 @@
 //! What follows from the definitions.
 //!
 //! The functions do nothing: their contracts are the laws.
-ghost use Rattle.bpf_check.specs.Laws.{FaultsAreTrue, PatientFaultsAreTrue, PatientVerdictsAreTrue, VerdictsAreTrue};
+ghost use Rattle.bpf_check.specs.Laws.{FaultsAreTrue, PatientFaultsAreTrue, PatientVerdictsAreTrue, PlainTestsArePlain, VerdictsAreTrue};
 ghost use Rattle.bpf_check.specs.Single.{RunsAreJudged};
 
 /// Each verdict by answers that are outcomes is true.
@@ -12,6 +12,11 @@ pub fn verdicts_are_true()
 /// So is each by answers of a patient search.
 pub fn patient_verdicts_are_true()
     ensures { PatientVerdictsAreTrue }
+{}
+
+/// Where CPUs have no store buffers, nothing is tested that is expected of CPUs with such alone.
+pub fn plain_tests_are_plain()
+    ensures { PlainTestsArePlain }
 {}
 
 /// A fault that isn't expected is one of an outcome; where there is none, though something is expected and

@@ -1,7 +1,7 @@
 //! Verdicts as they are printed, in the form of TAP.
 
 ghost use Rattle.std.specs.Prelude.{◌≡◌, ◌<◌, ◌≤◌, ◌+◌, ◌^◌, ◌++◌, IfOk, OnOk, Some, codes, length, map, slice_get, string_bytes};
-ghost use Rattle.bpf_check.specs.Listing.{asked_text, expected_text, first_count, first_text, hung_lines, hung_text, is_claim_mark, is_line_byte, last_count, last_text, mark_text, number_text, ok_text, plan_text, reason_text, schedule_text, shown_byte, test_text, tests_text, untold_text};
+ghost use Rattle.bpf_check.specs.Listing.{asked_text, expected_text, first_count, first_text, hung_lines, hung_text, is_claim_mark, is_line_byte, last_count, last_text, left_text, mark_text, number_text, ok_text, plan_text, reason_text, schedule_text, shown_byte, test_text, tests_text, untold_text};
 ghost use Rattle.bpf_check.specs.Verdict.{ends_verdict};
 
 use crate::expectation::Expectation;
@@ -59,7 +59,8 @@ pub(crate) fn push_expected(text: &mut String, expectation: &Expectation) -> Res
     ensures { OnOk result (string_bytes text.new
         ≡ string_bytes text.old ++ expected_text expectation.now) }
 {
-    text.push_str(expectation.often().text())?;
+    let often = expectation.often();
+    text.push_str(often.text(expectation.x86()))?;
     text.push_str(" ")?;
     push_line(text, expectation.line())
 }
@@ -247,6 +248,18 @@ fn first_text(alloc: Global, file: Tested<'_>, before: usize) -> Result<String, 
         push_first(alloc, &mut text, file, before + 1)?;
     }
     Ok(text)
+}
+
+/// The comment that counts expectations that are no tests, since they are of CPUs with store buffers alone,
+/// after a mark; empty where there is none.
+pub fn left_text(alloc: Global, mark: &str, count: usize) -> Result<String, AllocError>
+    ensures { IfOk result (λ text. string_bytes text ≡ left_text mark.now count) }
+{
+    if count == 0 {
+        Ok(String::new(alloc))
+    } else {
+        format!(in alloc; "# {mark}only --x86 tests {count} more\n")
+    }
 }
 
 /// The line that says how many tests there are, and where there are none that they are skipped.

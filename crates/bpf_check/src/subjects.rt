@@ -25,6 +25,19 @@ pub struct Subjects {
     lists: bool,
     /// Whether it may be asked if each schedule can end.
     ends: bool,
+    /// Whether the CPUs have store buffers.
+    x86: bool,
+}
+
+/// What may be asked of outcomes.
+#[derive(Clone, Copy)]
+pub struct Questions {
+    /// Whether lists of keys are among their lines.
+    pub lists: bool,
+    /// Whether it may be asked if each schedule can end.
+    pub ends: bool,
+    /// Whether they are those of CPUs with store buffers.
+    pub x86: bool,
 }
 
 impl Model for Subjects {
@@ -41,6 +54,7 @@ impl Model for Subjects {
       arrays = s.shape.arrays;
       lists = s.lists;
       ends = s.ends;
+      x86 = s.x86;
     } };
 }
 
@@ -343,23 +357,25 @@ fn place_of(name: &[u8], names: &[String]) -> Option<usize>
 impl Subjects {
     /// What lines of a file's outcomes speak of: jobs on these CPUs, maps and arrays of these sizes,
     /// and the names of these and of variables.
-    pub fn new(jobs: Vec<u8>, names: Names, shape: StoreShape, lists: bool, ends: bool) -> Subjects
+    pub fn new(jobs: Vec<u8>, names: Names, shape: StoreShape, questions: Questions) -> Subjects
         ensures { result ≡ record {
           jobs = jobs.items;
           cpus = shape.cpus;
           names = names_of names;
           maps = shape.maps;
           arrays = shape.arrays;
-          lists = lists;
-          ends = ends;
+          lists = questions.lists;
+          ends = questions.ends;
+          x86 = questions.x86;
         } }
     {
         Subjects {
             jobs,
             names,
             shape,
-            lists,
-            ends,
+            lists: questions.lists,
+            ends: questions.ends,
+            x86: questions.x86,
         }
     }
 
@@ -468,6 +484,13 @@ impl Subjects {
         ensures { result ≡ self.now.ends }
     {
         self.ends
+    }
+
+    /// Whether the CPUs have store buffers.
+    pub(crate) fn x86(&self) -> bool
+        ensures { result ≡ self.now.x86 }
+    {
+        self.x86
     }
 
     /// Whether an outcome can have the line of these words.

@@ -176,7 +176,10 @@ can end': 'not ok' with a line '# hung by' for each state from which no turns le
 '; never race' expects that there is no data race, and '; sometimes race' that there is one, by the
 search of 'explore --races': 'not ok' with a line '# race' for each, or '# there is no race'.
 
-With --x86 outcomes are those that 'ebpf explore --x86' finds, and comments ask for no patience.
+With --x86 outcomes are those that 'ebpf explore --x86' finds, and comments ask for no patience. What
+begins with 'always-x86', 'sometimes-x86' or 'never-x86' is a test with --x86 alone: without it a
+comment '# only --x86 tests N more' counts such expectations. 'race', 'ends' and 'hung' have no such
+form.
 
 A comment '; check patient', '; check limit N' or '; check patient limit N' asks for --patient or the
 limit where the command line doesn't; a limit that it gives goes before that of the file.

@@ -1,6 +1,7 @@
 -- What a run is judged by is what is printed of it.
-use Rattle.std.proofs.Common.{◌≡◌, ◌∙◌, ℕ, Bool, true, List, Ok, ap}
+use Rattle.std.proofs.Common.{◌≡◌, ◌++◌, ◌∙◌, ℕ, Bool, true, List, [], Ok, ap}
 use Rattle.bpf_check.specs.Expectation.{Expected}
+use Rattle.bpf_check.specs.Listing.{left_text}
 use Rattle.bpf_check.specs.Single.{is_any_refuted, judged_text}
 use Rattle.bpf_file.specs.File.{File}
 use Rattle.bpf_file.specs.Reading.{IsRunFile}
@@ -22,3 +23,8 @@ judged by keys text lines shown printed stopped refuted expected given (f, said,
     one ∙ (ap (λ (t : List ℕ). is_any_refuted t given) alike ∙ ap (λ (es : List Expected). is_any_refuted lines es) same),
   ),
 )
+
+-- after the comment that counts what is no test
+pub after_left : (left : ℕ) (printed tests whole : List ℕ) → whole ≡ left_text [] left ++ tests → tests ≡ printed
+    → whole ≡ left_text [] left ++ printed
+after_left left printed tests whole is same = is ∙ ap (λ (t : List ℕ). left_text [] left ++ t) same

@@ -1,7 +1,8 @@
 -- The replies of `run --check` to one input print one text.
-use Rattle.std.proofs.Common.{◌≡◌, ◌∙◌, ◌+◌, ℕ, Bool, true, List, Global, String, Some, None, Ok, Err, refl, sym, ap, subst}
+use Rattle.std.proofs.Common.{◌≡◌, ◌∙◌, ◌++◌, ◌+◌, [], ℕ, Bool, true, List, Global, String, Some, None, Ok, Err, refl, sym, ap, subst}
 use Rattle.bpf_jobs.specs.Laws.{ReportsByAreDetermined}
-use Rattle.bpf_check.specs.Expectation.{Expected, expectations_of, first_amiss}
+use Rattle.bpf_check.specs.Expectation.{Expected, expectations_of, first_amiss, left_of}
+use Rattle.bpf_check.specs.Listing.{left_text}
 use Rattle.bpf_check.specs.Single.{is_any_refuted, judged_text}
 use Rattle.bpf_file.specs.declared.error.FileError.TheVariants as FileError
 use Rattle.bpf_file.specs.declared.error.Reason.{Reason}
@@ -76,24 +77,30 @@ module _ (files : FilesAreDetermined) (runs : FilesCanRun) (reports : ReportsByA
 
   both_judged : (by : List (ℕ × ℕ)) (keys : Bool) (text : List ℕ) (p q : String Global) (x y : Bool) → IsJudgedOfFile by keys text (reply.Jobs p x)
       → IsJudgedOfFile by keys text (reply.Jobs q y) → PrintsAs (reply.Jobs p x) (reply.Jobs q y)
-  both_judged by keys text p q x y (expected, (f, said, is, none), (g, read, (lines, stopped, told, shows, refutes)))
-      (wanted, (h, known, are, clean), (k, seen, (others, halted, heard, shown, denied))) =
+  both_judged by keys text p q x y
+      (expected, (f, said, is, none), left, (d, heads, counts), tests, begins, (g, read, (lines, stopped, told, shows, refutes)))
+      (wanted, (h, known, are, clean), more, (e, starts, counted), checks, opens, (k, seen, (others, halted, heard, shown, denied))) =
       let same = one_file text f h said known in
       let want : expected ≡ wanted = is ∙ (ap (λ (m : File). expectations_of (subjects_of (for_run keys) m) text) same ∙ sym are) in
       let file = one_file text k g seen read in
       let there = subst (λ (m : File). IsToldBy by keys true m others halted) file heard in
       let w = asked_world_of keys g in
+      let one : left ≡ more = counts ∙ (ap (λ (m : File). left_of (subjects_of (for_run keys) m) text) (one_file text d e heads starts) ∙ sym counted) in
       let line : lines ≡ others = (reports w by g.names true lines others stopped halted
-      (fresh_asked keys g (shaped text g read) (runs text g read)) told there).0 in (
-        shows ∙ (ap (λ (t : List ℕ). judged_text t expected) line ∙ (ap (λ (es : List Expected). judged_text others es) want ∙ sym shown)),
+      (fresh_asked keys g (shaped text g read) (runs text g read)) told there).0 in
+      let same_tests : tests ≡ checks =
+      shows ∙ (ap (λ (t : List ℕ). judged_text t expected) line ∙ (ap (λ (es : List Expected). judged_text others es) want ∙ sym shown)) in (
+        begins ∙ (ap (λ (n : ℕ). left_text [] n ++ tests) one ∙ (ap (λ (t : List ℕ). left_text [] more ++ t) same_tests ∙ sym opens)),
         ap jobs_status (refutes ∙ (ap (λ (t : List ℕ). is_any_refuted t expected) line ∙
             (ap (λ (es : List Expected). is_any_refuted others es) want ∙ sym denied))),
       )
 
   one_reply : (by : List (ℕ × ℕ)) (keys : Bool) (text : List ℕ) (r s : Reply) → OfJudged by keys text r → OfJudged by keys text s → PrintsAs r s
   one_reply by keys text r s (Judged_of p x a) (Judged_of q y b) = both_judged by keys text p q x y a b
-  one_reply by keys text r s (Judged_of p x a) (NoFile line why b) = let (expected, known, (g, read, judged)) = a in absurd (no_file text g line why read b)
-  one_reply by keys text r s (NoFile line why a) (Judged_of q y b) = let (expected, known, (g, read, judged)) = b in absurd (no_file text g line why read a)
+  one_reply by keys text r s (Judged_of p x a) (NoFile line why b) =
+      let (expected, (f, said, rest), more) = a in absurd (no_file text f line why said b)
+  one_reply by keys text r s (NoFile line why a) (Judged_of q y b) =
+      let (expected, (f, said, rest), more) = b in absurd (no_file text f line why said a)
   one_reply by keys text r s (Judged_of p x a) (Amiss line b) =
       let (expected, (f, said, is, none), rest) = a in
       let (strict, (g, read, (n, at, amiss))) = b in

@@ -4,15 +4,15 @@ use Rattle.std.specs.Fmt.{decimal}
 use Rattle.bpf_command.specs.declared.command.CheckOptions.{CheckOptions}
 use Rattle.bpf_check.specs.Expectation.{Expected, are_races_asked}
 use Rattle.bpf_check.specs.Findings.{Findings, Raced}
-use Rattle.bpf_check.specs.Listing.{checked_text}
+use Rattle.bpf_check.specs.Listing.{checked_text, left_text}
 use Rattle.bpf_check.specs.Settings.{settings_of}
 use Rattle.bpf_check.specs.Verdict.{conclusion_of, verdicts_of}
 use Rattle.bpf_check.specs.declared.judging.Conclusion.{Conclusion}
 use Rattle.bpf_check.specs.declared.judging.Conclusion.TheVariants as conclusion
 use Rattle.bpf_check.specs.declared.settings.Settings.{Settings}
 use Rattle.bpf_threads.specs.Lines.{notes_text}
-use Rattle.bpf_threads.specs.declared.threads.Threads.{Threads}
-use Rattle.bpf_replies.specs.Comments.{AreLinesIn, IsExpectedIn, RefusesComments, for_check}
+use Rattle.bpf_replies.specs.Comments.{AreLeftIn, AreLinesIn, IsExpectedIn, RefusesComments, for_check}
+use Rattle.bpf_replies.specs.declared.checking.Notes.{Notes}
 use Rattle.bpf_replies.specs.declared.comments.Reading.{Reading}
 use Rattle.bpf_replies.specs.Reordering.{AreFindingsIn}
 use Rattle.bpf_replies.specs.Threading.{AreThreadsOf}
@@ -46,7 +46,7 @@ limit_of o text = limit_by o (settings_of text)
 
 -- how comments are read then
 abbrev pub reading_by : CheckOptions → (text : List ℕ) → Reading
-reading_by o text = for_check (is_patient o text) o.lenient
+reading_by o text = for_check (is_patient o text) o.x86 o.lenient
 
 -- ---- what is printed before tests
 
@@ -58,9 +58,12 @@ states_text mark (Some n) = codes "# " ++ (mark ++ (decimal n ++ codes " states\
 abbrev pub states_of : CheckOptions → Findings → Option ℕ
 states_of o f = if o.states then Some f.states else None
 
--- and in which ways threads may reach more
-abbrev pub head_text : (mark : List ℕ) → Option ℕ → Threads → List ℕ
-head_text mark states threads = states_text mark states ++ notes_text mark threads
+-- how many expectations are no tests, and in which ways threads may reach more
+abbrev pub AreNotesOf : Reading → List ℕ → Notes → Type 0
+AreNotesOf r text n = AreLeftIn r text n.left × AreThreadsOf text n.threads
+
+abbrev pub head_text : (mark : List ℕ) → Option ℕ → Notes → List ℕ
+head_text mark states n = states_text mark states ++ (left_text mark n.left ++ notes_text mark n.threads)
 
 -- ---- what tests rest on
 
@@ -71,9 +74,9 @@ abbrev pub AreGroundsBy : (Finds : Bool → ℕ → List ℕ → Raced → Type 
 AreGroundsBy Finds o text expected f = AreFindingsIn o.x86 (is_patient o text) (limit_of o text) text f
     × (are_races_asked expected ≡ true → Finds (is_patient o text) (limit_of o text) text f.raced)
 
--- `check`: comments that count states and say in which ways threads may have more outcomes; a test an expectation, each
--- with its verdict by the findings of a search through all schedules, and of a patient one first if each
--- can end; or the first refusal of the file or its comments
+-- `check`: comments that count states and expectations that are no tests, and say in which ways threads may
+-- have more outcomes; a test an expectation, each with its verdict by the findings of a search through all
+-- schedules, and of a patient one first if each can end; or the first refusal of the file or its comments
 abbrev pub IsCheckedFile : (Finds : Bool → ℕ → List ℕ → Raced → Type 0)
     → CheckOptions → List ℕ → Reply → Type 0
 IsCheckedFile Finds o text (reply.Outcomes printed unmet told) =
@@ -81,8 +84,8 @@ IsCheckedFile Finds o text (reply.Outcomes printed unmet told) =
     × IsExpectedIn (reading_by o text) text expected
     × AreLinesIn (reading_by o text) o.lines text lines
     × AreGroundsBy Finds o text expected f
-    × (threads : Threads) × AreThreadsOf text threads
-    × (string_bytes printed ≡ head_text [] (states_of o f) threads
+    × (notes : Notes) × AreNotesOf (reading_by o text) text notes
+    × (string_bytes printed ≡ head_text [] (states_of o f) notes
     ++ checked_text lines f expected (verdicts_of f expected))
     × (unmet ≡ is_unmet (conclusion_of f expected))
     × (told ≡ is_told (conclusion_of f expected))

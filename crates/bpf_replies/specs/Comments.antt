@@ -1,7 +1,7 @@
 -- What a run file's comments expect of its outcomes, or which of them can't.
 use Rattle.std.specs.Prelude.{◌≡◌, ◌+◌, ℕ, Bool, true, false, List, [], None, Ok, Some, map}
 use Rattle.bpf_cpu.specs.Task.{Task}
-use Rattle.bpf_check.specs.Expectation.{Expected, expectation_lines, expectations_of, first_amiss}
+use Rattle.bpf_check.specs.Expectation.{Expected, expectation_lines, expectations_of, first_amiss, left_of}
 use Rattle.bpf_check.specs.Subjects.{Subjects}
 use Rattle.bpf_file.specs.File.{File}
 use Rattle.bpf_file.specs.Reading.{IsRunFile}
@@ -23,15 +23,21 @@ subjects_of r f = record {
   arrays = f.arrays;
   lists = r.lists;
   ends = r.ends;
+  x86 = r.x86;
 }
 
--- the text expects this: none of its comments is amiss, where such aren't passed over
+-- this is tested of what the text expects: none of its comments is amiss, where such aren't passed over
 abbrev pub IsExpectedIn : Reading → List ℕ → List Expected → Type 0
 IsExpectedIn r text expected = (f : File) × IsRunFile text (Ok f)
     × (expected ≡ expectations_of (subjects_of r f) text)
     × (r.lenient ≡ false → first_amiss (subjects_of r f) text ≡ None)
 
--- the lines of the text that expect something have these numbers, where they are wanted
+-- this many of its expectations are no tests
+abbrev pub AreLeftIn : Reading → List ℕ → ℕ → Type 0
+AreLeftIn r text count = (f : File) × IsRunFile text (Ok f)
+    × (count ≡ left_of (subjects_of r f) text)
+
+-- the lines of the text whose expectations are tested have these numbers, where they are wanted
 abbrev pub AreLinesIn : Reading → (wanted : Bool) → List ℕ → List ℕ → Type 0
 AreLinesIn r false text lines = lines ≡ []
 AreLinesIn r true text lines = (f : File) × IsRunFile text (Ok f)
@@ -46,9 +52,10 @@ RefusesComments r text why = RefusesFile text why
 
 -- how `check` reads them: lists of keys aren't among the lines, and if schedules can end is a question
 -- for a patient search
-abbrev pub for_check : (patient lenient : Bool) → Reading
-for_check patient lenient = record { lists = false; ends = patient; lenient = lenient }
+abbrev pub for_check : (patient x86 lenient : Bool) → Reading
+for_check patient x86 lenient =
+    record { lists = false; ends = patient; x86 = x86; lenient = lenient }
 
 -- and `run --check`, which leaves that question open
 abbrev pub for_run : (keys : Bool) → Reading
-for_run keys = record { lists = keys; ends = true; lenient = false }
+for_run keys = record { lists = keys; ends = true; x86 = false; lenient = false }

@@ -92,7 +92,7 @@ abbrev pub IsOutcomeTextX86 : World → Names → List ℕ → Type 0
 IsOutcomeTextX86 w names text = (stopped : Bool) × IsOutcomeX86 w names true text stopped
 
 -- where answers are outcomes, and no outcome is left out if they are said to be all, each verdict but one
--- on races is true of the outcomes
+-- on races is true of the outcomes, whether it is on what is expected of all CPUs, or of such alone
 abbrev pub VerdictsOnX86AreTrue : Type 0
 VerdictsOnX86AreTrue =
     (w : World) (names : Names) (f : Findings) (e : Expected) → f.patient ≡ false

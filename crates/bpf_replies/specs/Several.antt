@@ -5,12 +5,11 @@ use Rattle.bpf_check.specs.Expectation.{Expected}
 use Rattle.bpf_check.specs.Findings.{Findings, Raced}
 use Rattle.bpf_check.specs.Listing.{count_of, listed_text, name_text, plan_text}
 use Rattle.bpf_check.specs.Verdict.{conclusion_of, verdicts_of}
-use Rattle.bpf_replies.specs.Checking.{AreGroundsBy, head_text, is_patient, is_told, is_unmet, limit_of, reading_by, states_of}
+use Rattle.bpf_replies.specs.Checking.{AreGroundsBy, AreNotesOf, head_text, is_patient, is_told, is_unmet, limit_of, reading_by, states_of}
 use Rattle.bpf_replies.specs.Input.{RefusesInput}
 use Rattle.bpf_replies.specs.Diagnostic.{refusal_text}
 use Rattle.bpf_replies.specs.Comments.{AreLinesIn, IsExpectedIn, RefusesComments}
-use Rattle.bpf_replies.specs.Threading.{AreThreadsOf}
-use Rattle.bpf_threads.specs.declared.threads.Threads.{Threads}
+use Rattle.bpf_replies.specs.declared.checking.Notes.{Notes}
 use Rattle.bpf_replies.specs.declared.input.TheConstants.{MAX_INPUT}
 use Rattle.bpf_replies.specs.declared.refusal.Refusal.{Refusal}
 use Rattle.bpf_replies.specs.declared.refusal.Refusal.TheVariants as refusal
@@ -38,12 +37,12 @@ refused_part name r = record {
   told = true;
 }
 
--- of one whose outcomes a search found: comments that count states and say of threads, and its tests,
--- after this many of the files before it
-abbrev pub checked_part : CheckOptions → (name : List ℕ) → (lines : List ℕ) → (before : ℕ) → Findings → Threads
+-- of one whose outcomes a search found: comments that count states and expectations that are no tests, and
+-- say of threads, and its tests, after this many of the files before it
+abbrev pub checked_part : CheckOptions → (name : List ℕ) → (lines : List ℕ) → (before : ℕ) → Findings → Notes
     → List Expected → Part
-checked_part o name lines before f threads expected = record {
-  text = head_text (name ++ codes ": ") (states_of o f) threads
+checked_part o name lines before f notes expected = record {
+  text = head_text (name ++ codes ": ") (states_of o f) notes
       ++ listed_text (name_text name) lines before f expected (verdicts_of f expected);
   tests = count_of f expected;
   refused = false;
@@ -61,8 +60,8 @@ IsTextPart Finds o name before text part =
     × IsExpectedIn (reading_by o text) text expected
     × AreLinesIn (reading_by o text) o.lines text lines
     × AreGroundsBy Finds o text expected f
-    × (threads : Threads) × AreThreadsOf text threads
-    × (part ≡ checked_part o name lines before f threads expected))
+    × (notes : Notes) × AreNotesOf (reading_by o text) text notes
+    × (part ≡ checked_part o name lines before f notes expected))
 
 -- the part of a file of these bytes
 abbrev pub IsPart : (Finds : Bool → ℕ → List ℕ → Raced → Type 0)

@@ -6,13 +6,12 @@ ghost use Rattle.bpf_check.specs.declared.settings.TheConstants.{MOST_STATES};
 ghost use Rattle.bpf_command.specs.declared.command.TheConstants.{MAX_LIMIT};
 ghost use Rattle.bpf_replies.specs.Answer.{Replies};
 ghost use Rattle.bpf_replies.specs.Comments.{AreLinesIn, IsExpectedIn, RefusesComments, for_check};
-ghost use Rattle.bpf_replies.specs.Checking.{AreGroundsBy, IsCheckedFile, head_text, is_patient, is_told, is_unmet, limit_by, limit_of, reading_by, states_of, states_text};
+ghost use Rattle.bpf_replies.specs.Checking.{AreGroundsBy, AreNotesOf, IsCheckedFile, head_text, is_patient, is_told, is_unmet, limit_by, limit_of, reading_by, states_of, states_text};
 ghost use Rattle.bpf_check.specs.Expectation.{are_races_asked};
 ghost use Rattle.bpf_replies.specs.Reordering.{AreFindingsIn};
 ghost use Rattle.bpf_replies.specs.Running.{RefusesFile};
-ghost use Rattle.bpf_replies.specs.Threading.{AreThreadsOf};
 
-use crate::comments::{Reading, expected_in, lines_in};
+use crate::comments::{Reading, expected_in, left_in, lines_in};
 use crate::racer::Racer;
 use crate::refusal::Refusal;
 use crate::reordering::{Sought, findings_by};
@@ -20,7 +19,7 @@ use crate::reply::Reply;
 use crate::threading::threads_in;
 use bpf_check::{
     Asked, Conclusion, Expectation, Findings, Raced, Settings, are_races_asked, check_explored,
-    settings_of,
+    left_text, settings_of,
 };
 use bpf_command::{CheckOptions, SearchOptions};
 use bpf_explore::Observer;
@@ -40,12 +39,13 @@ pub(crate) fn is_told(conclusion: Conclusion) -> bool
 }
 
 /// How `ebpf check` reads comments.
-pub(crate) fn reading_of(patient: bool, lenient: bool) -> Reading
-    ensures { result ≡ for_check patient lenient }
+pub(crate) fn reading_of(patient: bool, x86: bool, lenient: bool) -> Reading
+    ensures { result ≡ for_check patient x86 lenient }
 {
     Reading {
         lists: false,
         ends: patient,
+        x86,
         lenient,
     }
 }
@@ -79,6 +79,25 @@ fn search_for(
     })
 }
 
+/// What is said before the tests of a text.
+#[derive(Clone, Copy)]
+pub(crate) struct Notes {
+    /// How many of its expectations are no tests.
+    pub left: usize,
+    /// In which ways threads may reach more outcomes.
+    pub threads: Threads,
+}
+
+/// What is said before the tests of a text, or why there are none.
+fn notes_in(alloc: Global, reading: Reading, text: &str) -> Result<Notes, Refusal>
+    ensures found { IfOk result (AreNotesOf reading text.now) }
+    ensures refused { IfErr result (RefusesComments reading text.now) }
+{
+    let left = left_in(alloc, reading, text)?;
+    let threads = threads_in(alloc, text)?;
+    Ok(Notes { left, threads })
+}
+
 /// What the tests of a text rest on.
 #[derive(Drop)]
 pub(crate) struct Grounds {
@@ -86,8 +105,7 @@ pub(crate) struct Grounds {
     pub expected: Vec<Expectation>,
     /// The numbers of the lines that expect it, where they are wanted.
     pub lines: Vec<usize>,
-    /// In which ways threads may reach more outcomes.
-    pub threads: Threads,
+    pub notes: Notes,
     /// What a search through all schedules found.
     pub findings: Findings,
 }
@@ -122,16 +140,17 @@ pub(crate) fn grounds_in<D: Racer, O: Observer>(
         IsExpectedIn (reading_by options.now text.now) text.now grounds.expected.items) }
     ensures lines { IfOk result (λ grounds.
         AreLinesIn (reading_by options.now text.now) options.now.lines text.now grounds.lines.items) }
-    ensures threads { IfOk result (λ grounds. AreThreadsOf text.now grounds.threads) }
+    ensures notes { IfOk result (λ grounds.
+        AreNotesOf (reading_by options.now text.now) text.now grounds.notes) }
     ensures findings { IfOk result (λ grounds. AreGroundsBy D.finds options.now text.now
         grounds.expected.items grounds.findings) }
     ensures refused { IfErr result (RefusesComments (reading_by options.now text.now) text.now) }
 {
     let search = search_for(alloc, options, text)?;
-    let reading = reading_of(search.patient, options.lenient);
+    let reading = reading_of(search.patient, options.x86, options.lenient);
     let expected = expected_in(alloc, reading, text)?;
     let lines = lines_in(alloc, reading, options.lines, text)?;
-    let threads = threads_in(alloc, text)?;
+    let notes = notes_in(alloc, reading, text)?;
     let raced = races_for::<D, O>(alloc, &expected, &search, text, observer)?;
     let sought = Sought {
         search: &search,
@@ -141,7 +160,7 @@ pub(crate) fn grounds_in<D: Racer, O: Observer>(
     Ok(Grounds {
         expected,
         lines,
-        threads,
+        notes,
         findings,
     })
 }
@@ -167,20 +186,22 @@ fn states_text(alloc: Global, mark: &str, states: Option<usize>) -> Result<Strin
     }
 }
 
-/// What is printed of tests, after comments that count states and say in which ways threads may reach
-/// more, each after a mark.
+/// What is printed of tests, after comments that count states and expectations that are no tests, and say in
+/// which ways threads may reach more, each after a mark.
 pub(crate) fn with_head(
     alloc: Global,
     mark: &str,
     states: Option<usize>,
-    threads: Threads,
+    notes: Notes,
     tests: &str,
 ) -> Result<String, AllocError>
     ensures { IfOk result (λ text. string_bytes text
-        ≡ head_text mark.now states threads ++ tests.now) }
+        ≡ head_text mark.now states notes ++ tests.now) }
 {
     let mut text = states_text(alloc, mark, states)?;
-    push_notes(&mut text, mark, threads)?;
+    let left = left_text(alloc, mark, notes.left)?;
+    text.push_str(left.as_str())?;
+    push_notes(&mut text, mark, notes.threads)?;
     text.push_str(tests)?;
     Ok(text)
 }
@@ -201,7 +222,7 @@ pub fn check_file<D: Racer, O: Observer>(
     };
     let checked = check_explored(alloc, asked, &grounds.findings)?;
     let states = states_of(options, &grounds.findings);
-    let text = with_head(alloc, "", states, grounds.threads, &checked.text)?;
+    let text = with_head(alloc, "", states, grounds.notes, &checked.text)?;
     Ok(Reply::Outcomes {
         text,
         stopped: is_unmet(checked.conclusion),

@@ -3,11 +3,14 @@
 ghost use Rattle.std.specs.Prelude.{◌≡◌, IfErr, IfOk, map};
 ghost use Rattle.bpf_cpu.specs.Task.{waiting};
 ghost use Rattle.bpf_file.specs.File.{file_of};
-ghost use Rattle.bpf_replies.specs.Comments.{AreLinesIn, IsExpectedIn, RefusesComments, cpus_of, subjects_of};
+ghost use Rattle.bpf_replies.specs.Comments.{AreLeftIn, AreLinesIn, IsExpectedIn, RefusesComments, cpus_of, subjects_of};
 
 use crate::refusal::Refusal;
 use crate::running::file_in;
-use bpf_check::{Expectation, Subjects, Unexpected, expectation_lines, expectations};
+use bpf_check::{
+    Expectation, Questions, Subjects, Unexpected, expectation_lines, expectations,
+    expectations_left,
+};
 use bpf_cpu::{Job, Setup};
 use bpf_file::RunFile;
 use std::alloc::{AllocError, Global};
@@ -19,6 +22,8 @@ pub struct Reading {
     pub lists: bool,
     /// Whether it may be asked if schedules can end.
     pub ends: bool,
+    /// Whether they are read for CPUs with store buffers.
+    pub x86: bool,
     /// Whether comments that are meant to expect something and can't are passed over.
     pub lenient: bool,
 }
@@ -38,11 +43,17 @@ fn subjects_of(alloc: Global, reading: Reading, file: RunFile) -> Result<Subject
     let jobs = cpus_of(alloc, &file.setup.jobs)?;
     let RunFile { setup, names, .. } = file;
     let Setup { shape, .. } = setup;
-    let Reading { lists, ends, .. } = reading;
-    Ok(Subjects::new(jobs, names, shape, lists, ends))
+    let Reading {
+        lists,
+        ends,
+        x86,
+        ..
+    } = reading;
+    let questions = Questions { lists, ends, x86 };
+    Ok(Subjects::new(jobs, names, shape, questions))
 }
 
-/// What the comments of a run file expect, or why they don't.
+/// What is tested of what the comments of a run file expect, or why nothing is.
 pub(crate) fn expected_in(
     alloc: Global,
     reading: Reading,
@@ -60,7 +71,20 @@ pub(crate) fn expected_in(
     }
 }
 
-/// The numbers of the lines of a run file that expect something, where these are wanted; else none.
+/// How many expectations of a run file are no tests.
+pub(crate) fn left_in(alloc: Global, reading: Reading, text: &str) -> Result<usize, Refusal>
+    ensures found { IfOk result (λ count. AreLeftIn reading text.now count) }
+    ensures refused { IfErr result (RefusesComments reading text.now) }
+{
+    let file = file_in(alloc, text)?;
+    let subjects = subjects_of(alloc, reading, file)?;
+    match expectations_left(alloc, &subjects, text.as_bytes()) {
+        Ok(count) => Ok(count),
+        Err(_) => Err(Refusal::OutOfMemory),
+    }
+}
+
+/// The numbers of the lines of a run file whose expectations are tested, where these are wanted; else none.
 pub(crate) fn lines_in(
     alloc: Global,
     reading: Reading,

@@ -1,6 +1,7 @@
 //! `ebpf run`: the jobs of a run file, in rounds on one thread or on worker threads.
 
-ghost use Rattle.std.specs.Prelude.{IfErr, IfOk, Ok, string_bytes};
+ghost use Rattle.std.specs.Prelude.{◌≡◌, ◌++◌, [], IfErr, IfOk, Ok, string_bytes};
+ghost use Rattle.bpf_check.specs.Listing.{left_text};
 ghost use Rattle.bpf_file.specs.File.{File, file_of};
 ghost use Rattle.bpf_file.specs.Reading.{IsRunFile};
 ghost use Rattle.bpf_cpu.specs.Setup.{IsRunnable};
@@ -9,17 +10,17 @@ ghost use Rattle.bpf_replies.specs.Answer.{Replies};
 ghost use Rattle.bpf_replies.specs.Judging.{IsJudgedOfFile};
 ghost use Rattle.bpf_replies.specs.Running.{IsHistoryBy, IsHistoryOfFile, IsRunByWorkers, IsRunWithBuffers, IsRunWithBuffersOfFile, IsRunWithPackets, IsRunWithPacketsOfFile, IsRunOfFile, IsToldBy, RefusesFile};
 
-use crate::comments::{Reading, expected_in};
+use crate::comments::{Reading, expected_in, left_in};
 use crate::refusal::Refusal;
 use crate::reply::Reply;
-use bpf_check::{Judged, check_printed};
+use bpf_check::{check_printed, left_text};
 use bpf_events::run_with_history;
 use bpf_file::{RunFile, read_file};
 use bpf_flushes::run_with_buffers;
 use bpf_jobs::{Report, run_jobs_by};
 use bpf_packets::run_with_packets;
 use bpf_workers::{Counted, run_counted};
-use std::alloc::Global;
+use std::alloc::{AllocError, Global};
 use std::sync::Wait;
 use std::thread::Threads;
 
@@ -66,6 +67,15 @@ pub fn run_file(
     Ok(Reply::Jobs(text, stopped))
 }
 
+/// Tests of a run, after a comment that counts the expectations that are no tests of it.
+fn with_left(alloc: Global, left: usize, tests: &str) -> Result<String, AllocError>
+    ensures { IfOk result (λ text. string_bytes text ≡ left_text [] left ++ tests.now) }
+{
+    let mut text = left_text(alloc, "", left)?;
+    text.push_str(tests)?;
+    Ok(text)
+}
+
 /// `ebpf run --check`: whether these turns and rounds give what the file's comments expect.
 pub fn judge_file(alloc: Global, by: &[(u8, u64)], keys: bool, text: &str) -> Result<Reply, Refusal>
     ensures { Replies (IsJudgedOfFile by.now keys text.now) result }
@@ -73,12 +83,15 @@ pub fn judge_file(alloc: Global, by: &[(u8, u64)], keys: bool, text: &str) -> Re
     let reading = Reading {
         lists: keys,
         ends: true,
+        x86: false,
         lenient: false,
     };
     let expected = expected_in(alloc, reading, text)?;
+    let left = left_in(alloc, reading, text)?;
     let report = report_by(alloc, by, keys, true, text)?;
-    let Judged { text, refuted } = check_printed(alloc, &expected, report.text.as_str())?;
-    Ok(Reply::Jobs(text, refuted))
+    let judged = check_printed(alloc, &expected, report.text.as_str())?;
+    let text = with_left(alloc, left, judged.text.as_str())?;
+    Ok(Reply::Jobs(text, judged.refuted))
 }
 
 /// All that happens in the turns of jobs that a text says, by these turns and then in rounds.

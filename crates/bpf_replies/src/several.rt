@@ -70,7 +70,7 @@ fn text_part<D: Racer, O: Observer>(
     } = check_named(alloc, name, before, asked, &grounds.findings)?;
     let mark = format!(in alloc; "{name}: ")?;
     let states = states_of(options, &grounds.findings);
-    let text = with_head(alloc, &mark, states, grounds.threads, &text)?;
+    let text = with_head(alloc, &mark, states, grounds.notes, &text)?;
     Ok(FilePart {
         text,
         tests,

@@ -15,7 +15,7 @@ syntax match ebpfAtomic '\<\(lock\|atomic_fetch_\(add\|or\|and\|xor\)\|\(cmp\)\?
 syntax match ebpfType '\<[us]\(8\|16\|32\|64\)\>'
 syntax match ebpfNumber '\<\(0x\x\+\|\d\+\)\>'
 syntax match ebpfComment ';.*$' contains=ebpfExpectation
-syntax match ebpfExpectation '\(;\s*\)\@<=\(always\|sometimes\|never\)\>' contained
+syntax match ebpfExpectation '\(;\s*\)\@<=\(always\|sometimes\|never\)\(-x86\)\?\>' contained
 highlight default link ebpfLine Keyword
 highlight default link ebpfSplit Title
 highlight default link ebpfLabel Label
