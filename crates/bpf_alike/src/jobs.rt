@@ -1,6 +1,7 @@
 //! Kept jobs that are alike, and tables of the registers that their programs may read.
 
-ghost use Rattle.std.specs.Prelude.{◌≡◌, ℕ, List, Some, true, IfOk, length, slice_get};
+ghost use Rattle.std.specs.Prelude.{◌≡◌, ◌<◌, ℕ, List, Some, true, IfOk, length, slice_get};
+ghost use Rattle.bpf_live.specs.Live.{IsLive, IsLiveTable};
 ghost use Rattle.bpf_loader.specs.Loaded.{Loaded};
 ghost use Rattle.bpf_live.specs.Alike.{AreAlike};
 ghost use Rattle.bpf_cpu.specs.declared.cpu.Cpu.{Cpu};
@@ -10,18 +11,45 @@ ghost use Rattle.bpf_alike.specs.Worlds.{AreLiveTables, IsAlike, table_at};
 
 use bpf_base::spread;
 use bpf_cpu::Cpu;
-use bpf_live::{Live, find_live};
+use bpf_live::{Live, all_live, find_live};
 use bpf_loader::Program;
 use bpf_machine::{KeptJob, KeptStage};
 use std::alloc::{AllocError, Global};
 
-/// By program, the registers that it may read before it writes them.
-pub fn find_all_live(alloc: Global, programs: &[Program]) -> Result<Vec<Live>, AllocError>
-    ensures { IfOk result (λ tables. AreLiveTables programs.now (table_at tables.items)) }
+/// Which states count as one.
+#[derive(Clone, Copy, PartialEq, Eq, Debug)]
+pub enum Merged {
+    /// Those that differ only in registers that are written before they are read.
+    Alike,
+    /// Those that don't differ.
+    Same,
+}
+
+/// The registers in which states of a program have to agree to count as one: those that it may read
+/// before it writes them, or all.
+fn live_of(alloc: Global, program: &Program, merged: Merged) -> Result<Live, AllocError>
+    ensures right { IfOk result (λ table. IsLiveTable program.now.instructions table) }
+    ensures all { IfOk result (λ table. merged ≡ Merged.Same → (pc r : ℕ) → IsLive table pc r) }
+{
+    match merged {
+        Merged::Alike => find_live(alloc, program),
+        Merged::Same => Ok(all_live(alloc)),
+    }
+}
+
+/// By program, the registers in which its states have to agree to count as one.
+pub fn live_tables(
+    alloc: Global,
+    programs: &[Program],
+    merged: Merged,
+) -> Result<Vec<Live>, AllocError>
+    ensures right { IfOk result (λ tables. AreLiveTables programs.now (table_at tables.items)) }
+    ensures all { IfOk result (λ tables. merged ≡ Merged.Same → (n pc r : ℕ)
+        → n < length programs.now → IsLive (table_at tables.items n) pc r) }
 {
     let mut tables = Vec::new(alloc);
     for number in 0..programs.len() {
-        let table = find_live(alloc, &programs[number])?;
+        let table = live_of(alloc, &programs[number], merged)?;
         tables.push(table)?;
     }
     Ok(tables)

@@ -4,4 +4,4 @@
 mod jobs;
 pub mod laws;
 
-pub use jobs::{are_alike, find_all_live, live_hash};
+pub use jobs::{Merged, are_alike, live_hash, live_tables};

@@ -7,7 +7,7 @@ use Rattle.clap.specs.Faults.{level_fault}
 use Rattle.clap.specs.Walk.{with_default, values_or_missing, Held, Row, Rule, Text, answers_to, finished, has_row, nothing_held, rows_after, settled, walk}
 use Rattle.clap.specs.Words.{fault_of, subcommand_of}
 use Rattle.bpf_command.specs.declared.command.TheConstants.{MAX_LIMIT}
-use Rattle.bpf_command.specs.CommandLine.{HasLimit, IsSearchName, check, ebpf, explained, explore, file, files, json, lenient, limit}
+use Rattle.bpf_command.specs.CommandLine.{HasLimit, IsSearchName, all_states, check, ebpf, explained, explore, file, files, json, lenient, limit}
 use Rattle.bpf_command.specs.CommandLine.{patient, progress, races, show, states, sync, x86}
 use Rattle.bpf_command.proofs.Limited.{limited_keeps, with_limited}
 use Rattle.bpf_command.proofs.Ranges as range
@@ -58,6 +58,10 @@ x86_keeps : Keeps AreFine false (filled x86)
 x86_keeps values rows e fine =
     range.other_used_fine (codes "limit") 0 MAX_LIMIT (codes "x86") (values_or_missing (filled x86) values) rows refl fine
 
+all_states_keep : Keeps AreFine false (filled all_states)
+all_states_keep values rows e fine =
+    range.other_used_fine (codes "limit") 0 MAX_LIMIT (codes "all-states") (values_or_missing (filled all_states) values) rows refl fine
+
 file_keeps : Keeps AreFine false (filled file)
 file_keeps values rows e fine =
     range.other_used_fine (codes "limit") 0 MAX_LIMIT (codes "file") (values_or_missing (filled file) values) rows refl fine
@@ -95,7 +99,7 @@ explore_keeps = (
       json_keeps,
       (
         progress_keeps,
-        (x86_keeps, (races_keep, (sync_keeps, (limit_keeps, (show_keeps, (file_keeps, ((λ values rows e fine. fine), tt))))))),
+        (x86_keeps, (all_states_keep, (races_keep, (sync_keeps, (limit_keeps, (show_keeps, (file_keeps, ((λ values rows e fine. fine), tt)))))))),
       ),
     ),
   ),
@@ -110,7 +114,7 @@ check_keeps = (
       json_keeps,
       (
         progress_keeps,
-        (x86_keeps, (lenient_keeps, (states_keep, (limit_keeps, (files_keep, ((λ values rows e fine. fine), tt)))))),
+        (x86_keeps, (all_states_keep, (lenient_keeps, (states_keep, (limit_keeps, (files_keep, ((λ values rows e fine. fine), tt))))))),
       ),
     ),
   ),
@@ -121,8 +125,8 @@ check_keeps = (
 -- the flags have defaults, and the limit
 abbrev waiting : List Row → List Row
 waiting rows =
-    with_default (with_default (with_default (with_default (with_default rows (filled explained)) (filled patient)) (filled json))
-    (filled progress)) (filled x86)
+    with_default (with_default (with_default (with_default (with_default (with_default rows (filled explained)) (filled patient)) (filled json))
+    (filled progress)) (filled x86)) (filled all_states)
 
 waiting_fine : (rows : List Row) → AreFine rows → AreFine (waiting rows)
 waiting_fine rows fine =
@@ -134,7 +138,9 @@ waiting_fine rows fine =
     let shaped = range.default_fine (codes "limit") 0 MAX_LIMIT (codes "json") (codes "false" ∷ []) waits refl waited in
     let watched = with_default written (filled progress) in
     let watches = range.default_fine (codes "limit") 0 MAX_LIMIT (codes "progress") (codes "false" ∷ []) written refl shaped in
-    range.default_fine (codes "limit") 0 MAX_LIMIT (codes "x86") (codes "false" ∷ []) watched refl watches
+    let buffered = with_default watched (filled x86) in
+    let flushed = range.default_fine (codes "limit") 0 MAX_LIMIT (codes "x86") (codes "false" ∷ []) watched refl watches in
+    range.default_fine (codes "limit") 0 MAX_LIMIT (codes "all-states") (codes "false" ∷ []) buffered refl flushed
 
 -- and `--races`, but not `--sync`
 abbrev asking : List Row → List Row

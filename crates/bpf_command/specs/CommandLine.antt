@@ -153,11 +153,18 @@ progress = record (new_rule (codes "progress")) {
   action = Some SetTrue;
 }
 
+-- `--all-states`
+abbrev pub all_states : Rule
+all_states = record (new_rule (codes "all-states")) {
+  long = Some (codes "all-states");
+  action = Some SetTrue;
+}
+
 -- a command that searches through all schedules
 abbrev pub searching : Text → App
 searching name =
-    with_rule (with_rule (with_rule (with_rule (with_rule (new_app name) explained) patient) json)
-    progress) x86
+    with_rule (with_rule (with_rule (with_rule (with_rule (with_rule (new_app name) explained)
+    patient) json) progress) x86) all_states
 
 -- `--show K`
 abbrev pub show : Rule

@@ -74,6 +74,7 @@ abbrev pub NamesSearch : List Row → SearchOptions → Type 0
 NamesSearch rows options = NamesLimitBy (uses_x86_limit rows) rows options.limit
     × (options.patient ≡ is_given (codes "patient") rows)
     × (options.progress ≡ is_given (codes "progress") rows)
+    × (options.all_states ≡ is_given (codes "all-states") rows)
 
 -- the options of a search whose outcomes are compared with what comments expect
 abbrev pub NamesCheck : List Row → CheckOptions → Type 0

@@ -87,6 +87,9 @@ pub struct SearchOptions {
     pub patient: bool,
     /// To report on standard error how far the search is. What is found doesn't depend on it.
     pub progress: bool,
+    /// To keep states too that differ only in registers that are written before they are read. What
+    /// is found doesn't depend on it.
+    pub all_states: bool,
     ghost limited: { limit ≤ MAX_LIMIT },
 }
 

@@ -362,6 +362,7 @@ fn search_of(options: &ArgMatches) -> SearchOptions
         limit: states_of(options),
         patient: is_given(options, "patient"),
         progress: is_given(options, "progress"),
+        all_states: is_given(options, "all-states"),
     }
 }
 

@@ -3,7 +3,7 @@
 ghost use Rattle.std.specs.Prelude.{◌≡◌, false, IfOk};
 ghost use Rattle.clap.specs.Words.{app_of, rule_of, shape_of};
 ghost use Rattle.clap.specs.declared.builder.command.Command.TheViews.{out-Command as fields_of};
-ghost use Rattle.bpf_command.specs.CommandLine.{asm, asm_shows, bare, budget, check, code_rule, context, debug, debug_options, disasm, ebpf, echo, events, expand, expand_options, explain, explained, explore, explore_options, file, files, first, for_files, hex, hex_options, judged, json, keys, lenient, limit, listing, maps, one_program, packets, patient, pc, progress, races, run, run_lists, run_options, run_shows, runs, schedule, searching, show, states, stats, strict, sync, workers, working, x86};
+ghost use Rattle.bpf_command.specs.CommandLine.{all_states, asm, asm_shows, bare, budget, check, code_rule, context, debug, debug_options, disasm, ebpf, echo, events, expand, expand_options, explain, explained, explore, explore_options, file, files, first, for_files, hex, hex_options, judged, json, keys, lenient, limit, listing, maps, one_program, packets, patient, pc, progress, races, run, run_lists, run_options, run_shows, runs, schedule, searching, show, states, stats, strict, sync, workers, working, x86};
 
 use crate::command::{MAX_LIMIT, MAX_WORKERS};
 use bpf_base::MAX_BUDGET;
@@ -129,6 +129,9 @@ own CPU's loads alone find it. Then every order of turns and of flushes is made,
 oldest store, and schedules have words C!*N too, N flushes of CPU C, as 'run --x86 --by' takes them.
 --x86 goes beside none of --patient, --races, --sync and --show.
 
+A state isn't kept that differs from a kept one only in registers which are written before they are
+read. With --all-states it is: what is found is the same, of more states. With --x86 it always is.
+
 Each time that 131072 more states are done a line on standard error shows how far the search is, where
 that is a terminal or with --progress: 'N states, N to go, N MB', how many are kept, from how many of
 them turns are still to be made, and about how much memory they take. Standard output stays the same.
@@ -194,7 +197,7 @@ With --states a comment '# N states' comes before a file's tests, the count that
 The tests of several files are one list: their numbers go on, and each names its file. A file that is
 refused has a line 'refused CODE - FILE' and no test. The exit status is that of the worst file, where
 1 is worse than 4, 4 than 3, and 3 than 0. '-' and --explain go with one FILE alone. How far a search
-is, is printed as by 'ebpf explore'.
+is, is printed as by 'ebpf explore', and --all-states is as there.
 
 For example
   $ printf '; never job 0 cpu 0 r0=1\\nebpf-run 1\\nprog a\\nr0 = 5\\nexit\\nend\\njob 0 a\\n' | ebpf check
@@ -646,6 +649,18 @@ fn buffers_option<'a>(alloc: Global) -> Arg<'a>
         .help("Gives CPUs store buffers, as on x86: schedules have flushes of them too")
 }
 
+fn all_states_option<'a>(alloc: Global) -> Arg<'a>
+    ensures rule { rule_of result ≡ all_states }
+    ensures own { result.global ≡ false }
+{
+    Arg::new(alloc, "all-states")
+        .long("all-states")
+        .action(ArgAction::SetTrue)
+        .help(
+            "Keeps states too that differ only in registers which are written before they are read",
+        )
+}
+
 /// A command that searches, with the options of a search.
 fn searching<'a>(alloc: Global, name: &'static str) -> Result<Command<'a>, AllocError>
     ensures shape { IfOk result (λ c. shape_of c ≡ (searching name.now).top) }
@@ -656,7 +671,8 @@ fn searching<'a>(alloc: Global, name: &'static str) -> Result<Command<'a>, Alloc
         .arg(patient_option(alloc))?
         .arg(json_option(alloc))?
         .arg(progress_option(alloc))?
-        .arg(buffers_option(alloc))
+        .arg(buffers_option(alloc))?
+        .arg(all_states_option(alloc))
 }
 
 fn races_option<'a>(alloc: Global) -> Arg<'a>

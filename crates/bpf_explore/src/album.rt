@@ -14,7 +14,7 @@ use crate::classes::Classes;
 use crate::parts::Parts;
 use crate::stores::Stores;
 use crate::tuples::Tuples;
-use bpf_alike::find_all_live;
+use bpf_alike::{Merged, live_tables};
 use bpf_machine::{KeptJob, Machine};
 use bpf_shared::StoreShape;
 use std::alloc::{AllocError, Global};
@@ -248,13 +248,18 @@ impl Album {
     ghost use Rattle.bpf_explore.specs.Private.Album.{AddsOne};
 
     /// Nothing is kept yet.
-    fn empty(alloc: Global, shape: StoreShape, machine: Machine) -> Result<Album, AllocError>
+    fn empty(
+        alloc: Global,
+        shape: StoreShape,
+        machine: Machine,
+        merged: Merged,
+    ) -> Result<Album, AllocError>
         requires shape { IsOfShape shape machine.store }
         requires lists { machine.lists ≡ None }
         ensures machine { IfOk result (λ a. a.machine ≡ machine) }
         ensures empty { IfOk result (λ a. a.kept ≡ []) }
     {
-        let tables = find_all_live(alloc, machine.programs())?;
+        let tables = live_tables(alloc, machine.programs(), merged)?;
         let width = machine.jobs().checked_add(1).ok_or(AllocError)?;
         Ok(Album {
             alloc,
@@ -338,8 +343,8 @@ impl Album {
         self.machine.turns_by(runs)
     }
 
-    /// Keeps the machine, unless one is found that shows all that it shows, but for registers that are
-    /// written before they are read. Under which number.
+    /// Keeps the machine, unless one is found that shows all that it shows, perhaps but for registers
+    /// that are written before they are read. Under which number.
     pub(crate) fn keep(&mut self) -> Result<usize, AllocError>
         ensures within { IfOk result (λ n. n < length self.new.kept) }
         ensures kept { IfOk result (λ n. IsKeptAlikeAt self.new.kept n self.new.machine) }
@@ -420,14 +425,19 @@ impl Album {
         self.states.apart();
     }
 
-    /// Machines of which the first is kept.
-    pub fn new(alloc: Global, shape: StoreShape, machine: Machine) -> Result<Album, AllocError>
+    /// Machines of which the first is kept, and then one of those that count as one.
+    pub fn new(
+        alloc: Global,
+        shape: StoreShape,
+        machine: Machine,
+        merged: Merged,
+    ) -> Result<Album, AllocError>
         requires shape { IsOfShape shape machine.store }
         requires lists { machine.lists ≡ None }
         ensures one { IfOk result (λ a. length a.kept ≡ 1) }
         ensures first { IfOk result (λ a. ShowsFirst a.kept machine) }
     {
-        let mut album = Album::empty(alloc, shape, machine)?;
+        let mut album = Album::empty(alloc, shape, machine, merged)?;
         album.keep()?;
         Ok(album)
     }

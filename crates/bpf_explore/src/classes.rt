@@ -1,4 +1,4 @@
-//! Kept machines that others are alike but for dead registers, found by hashes.
+//! Kept machines that count as one with others, by the registers that are compared, found by hashes.
 
 ghost use Rattle.std.specs.Prelude.{◌≡◌, ◌<◌, ◌≤◌, List, true, All, drop, length};
 ghost use Rattle.bpf_live.specs.Live.{Table};
@@ -62,7 +62,7 @@ fn is_like(tables: &[Live], parts: &[KeptJob], numbers: &[u32], tuple: &[u32]) -
 /// is compared, so nothing that is promised rests on hashes.
 #[derive(Drop)]
 pub(crate) struct Classes {
-    /// By program, the registers that it may read before it writes them.
+    /// By program, the registers in which its states have to agree to count as one.
     tables: Vec<Live>,
     /// Of each kept job.
     hashes: Vec<u64>,

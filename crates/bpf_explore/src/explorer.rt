@@ -7,6 +7,7 @@ use crate::album::{Album, number_of};
 use crate::diving::{Course, dive};
 use crate::frontier::Frontier;
 use crate::room::bytes_of;
+use bpf_alike::Merged;
 use bpf_machine::Machine;
 use bpf_shared::StoreShape;
 use std::alloc::{AllocError, Global};
@@ -77,12 +78,17 @@ impl Explorer {
     ghost use Rattle.bpf_explore.specs.Private.Replays.{IsReplayed};
 
     /// A search of which the first machine is kept.
-    pub fn new(alloc: Global, shape: StoreShape, machine: Machine) -> Result<Explorer, AllocError>
+    pub fn new(
+        alloc: Global,
+        shape: StoreShape,
+        machine: Machine,
+        merged: Merged,
+    ) -> Result<Explorer, AllocError>
         requires shape { IsOfShape shape machine.store }
         requires lists { machine.lists ≡ None }
         ensures { IfOk result (λ e. ShowsFirst e.kept machine) }
     {
-        let album = Album::new(alloc, shape, machine)?;
+        let album = Album::new(alloc, shape, machine, merged)?;
         let mut origins = Vec::new(alloc);
         origins.push(Origin {
             from: 0,

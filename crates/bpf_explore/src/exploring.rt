@@ -21,7 +21,7 @@ use crate::explorer::Explorer;
 use crate::frontier::{Extent, explore};
 use crate::hung::{Hung, gather_hung};
 use crate::observer::Observer;
-use crate::opening::{patient_search_of, search_of};
+use crate::opening::{Scope, patient_search_of, search_of};
 use crate::patience::{both, gather_patiently};
 use crate::patient::PatientExplorer;
 use crate::turns::Turns;
@@ -94,22 +94,22 @@ fn conclude(
 }
 
 /// Searches through all schedules of jobs over a new store whose maps, and then arrays, have these
-/// names, until no state is new, more than `limit` are kept, or memory is refused to the search. Out
+/// names, until no state is new, more are kept than the limit, or memory is refused to the search. Out
 /// of memory before or after it is the only refusal. The observer learns meanwhile how far it is.
 pub fn explore_jobs<O: Observer>(
     alloc: Global,
     setup: Setup,
     names: &Names,
     maps: bool,
-    limit: usize,
+    scope: Scope,
     observer: &mut O,
 ) -> Result<Explored, AllocError>
     requires { IsRunnable setup }
     ensures { IfOk result (λ e. IsExplored (first_of setup)
-        (names_of names.now) maps e.answers.items e.all e.refused limit e.states) }
+        (names_of names.now) maps e.answers.items e.all e.refused scope.limit e.states) }
 {
-    let mut explorer = search_of(alloc, setup)?;
-    let extent = explore(&mut explorer, limit, observer);
+    let mut explorer = search_of(alloc, setup, scope.merged)?;
+    let extent = explore(&mut explorer, scope.limit, observer);
     conclude(alloc, &mut explorer, names, maps, extent)
 }
 
@@ -271,8 +271,8 @@ fn conclude_patiently(
 }
 
 /// Searches for outcomes in which no job is out of budget: machines that differ only in how many
-/// steps are left of budgets count as one. The outcomes aren't all where more than `limit` are
-/// kept, where memory is refused to the search, or where a schedule that was found uses a budget up,
+/// steps are left of budgets count as one. The outcomes aren't all where more are kept than the
+/// limit, where memory is refused to the search, or where a schedule that was found uses a budget up,
 /// which is reported then. Besides, states from which no end can be reached, however many steps jobs
 /// are given, and whether some schedule uses a budget up. Out of memory before or after the search is
 /// the only refusal.
@@ -281,15 +281,15 @@ pub fn search_patiently<O: Observer>(
     setup: Setup,
     names: &Names,
     maps: bool,
-    limit: usize,
+    scope: Scope,
     observer: &mut O,
 ) -> Result<ExploredPatiently, AllocError>
     requires { IsRunnable setup }
     ensures { IfOk result (λ e. IsSearchedPatiently (first_of setup)
-        (names_of names.now) maps e.answers.items e.all e.refused limit e.states
+        (names_of names.now) maps e.answers.items e.all e.refused scope.limit e.states
         e.hung.items e.budgets) }
 {
-    let mut explorer = patient_search_of(alloc, setup)?;
-    let extent = explore(&mut explorer, limit, observer);
+    let mut explorer = patient_search_of(alloc, setup, scope.merged)?;
+    let extent = explore(&mut explorer, scope.limit, observer);
     conclude_patiently(alloc, &mut explorer, names, maps, extent)
 }

@@ -37,7 +37,7 @@ pub use frontier::{Extent, Frontier, explore};
 pub use hung::Hung;
 pub use listing::{list_explored, list_patient, push_last, whether_all};
 pub use observer::{Observer, Progress, Silent, TOLD_EVERY};
-pub use opening::{first_machine, patient_search_of, search_of};
+pub use opening::{Scope, first_machine, patient_search_of, search_of};
 pub use parts::Parts;
 pub use patient::PatientExplorer;
 pub use stores::Stores;

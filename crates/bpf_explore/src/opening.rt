@@ -9,6 +9,7 @@ ghost use Rattle.bpf_explore.specs.Stores.{IsOfShape};
 
 use crate::explorer::Explorer;
 use crate::patient::PatientExplorer;
+use bpf_alike::Merged;
 use bpf_cpu::Setup;
 use bpf_jobs::make_machine;
 use bpf_machine::Machine;
@@ -30,22 +31,34 @@ pub fn first_machine(alloc: Global, setup: Setup) -> Result<(StoreShape, Machine
     Ok((shape, machine))
 }
 
+/// How far a search goes, and which states it takes for one.
+#[derive(Clone, Copy, PartialEq, Eq, Debug)]
+pub struct Scope {
+    /// The search ends once more states than this are kept.
+    pub limit: usize,
+    pub merged: Merged,
+}
+
 /// A search that begins with the machine of jobs. Out of memory is the only refusal.
-pub fn search_of(alloc: Global, setup: Setup) -> Result<Explorer, AllocError>
+pub fn search_of(alloc: Global, setup: Setup, merged: Merged) -> Result<Explorer, AllocError>
     requires { IsRunnable setup }
     ensures { IfOk result (λ e. BeginsAt e.kept (first_of setup)) }
 {
     let (shape, machine) = first_machine(alloc, setup)?;
-    Explorer::new(alloc, shape, machine)
+    Explorer::new(alloc, shape, machine, merged)
 }
 
 /// A patient search that begins with the machine of jobs, and has made no turn. Out of memory is the
 /// only refusal.
-pub fn patient_search_of(alloc: Global, setup: Setup) -> Result<PatientExplorer, AllocError>
+pub fn patient_search_of(
+    alloc: Global,
+    setup: Setup,
+    merged: Merged,
+) -> Result<PatientExplorer, AllocError>
     requires { IsRunnable setup }
     ensures begins { IfOk result (λ e. BeginsAt e.kept (first_of setup)) }
     ensures none { IfOk result (λ e. e.made ≡ []) }
 {
     let (shape, machine) = first_machine(alloc, setup)?;
-    PatientExplorer::new(alloc, shape, machine)
+    PatientExplorer::new(alloc, shape, machine, merged)
 }

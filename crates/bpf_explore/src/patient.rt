@@ -7,6 +7,7 @@ use crate::explorer::{Origin, push_turns, turns_of};
 use crate::frontier::Frontier;
 use crate::room::bytes_of;
 use crate::turns::{Arrival, Turns, is_next};
+use bpf_alike::Merged;
 use bpf_machine::Machine;
 use bpf_shared::StoreShape;
 use std::alloc::{AllocError, Global};
@@ -63,13 +64,14 @@ impl PatientExplorer {
         alloc: Global,
         shape: StoreShape,
         machine: Machine,
+        merged: Merged,
     ) -> Result<PatientExplorer, AllocError>
         requires shape { IsOfShape shape machine.store }
         requires lists { machine.lists ≡ None }
         ensures first { IfOk result (λ e. ShowsFirst e.kept machine) }
         ensures none { IfOk result (λ e. e.made ≡ []) }
     {
-        let album = Album::new(alloc, shape, machine)?;
+        let album = Album::new(alloc, shape, machine, merged)?;
         let mut origins = Vec::new(alloc);
         origins.push(Origin {
             from: 0,

@@ -163,7 +163,7 @@ module _ (is : List Insn) (table : Table) (calls : Bool) (pc : ℕ) (i : Insn) (
   }
 
 -- ---- with no sets all are live
-no_set : (pc r : ℕ) → IsLive [] pc r
+pub no_set : (pc r : ℕ) → IsLive [] pc r
 no_set pc r = or_true (nat_le 10 r)
 
 each_of : (P : ℕ → Type 0) → ((r : ℕ) → P r) → (numbers : List ℕ) → Each P numbers

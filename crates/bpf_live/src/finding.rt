@@ -1,11 +1,11 @@
 //! A pass over a program from its end, again and again, until no set grows; and a test of what it
 //! found.
 
-ghost use Rattle.std.specs.Prelude.{◌≡◌, true, false, ℤ, IfOk};
+ghost use Rattle.std.specs.Prelude.{◌≡◌, true, false, ℕ, ℤ, List, IfOk};
 ghost use Rattle.bpf_insn.specs.declared.instruction.Insn.TheVariants.{CallLocal};
 ghost use Rattle.bpf_insn.specs.declared.instruction.Insn.{Insn};
 ghost use Rattle.bpf_loader.specs.Places.{Begins};
-ghost use Rattle.bpf_live.specs.Live.{HasCalls, IsLiveTable};
+ghost use Rattle.bpf_live.specs.Live.{HasCalls, IsLive, IsLiveTable};
 ghost use Rattle.bpf_live.specs.Private.Needs.{HasNeeded};
 
 use crate::live::Live;
@@ -136,6 +136,14 @@ fn checked(program: &Program, sets: Vec<Set>) -> Live
         sets.clear();
     }
     Live::new(sets)
+}
+
+/// The table by which all registers are live, which is right for each program.
+pub fn all_live(alloc: Global) -> Live
+    ensures all { (pc r : ℕ) → IsLive result pc r }
+    ensures right { (program : List Insn) → IsLiveTable program result }
+{
+    Live::new(Vec::new(alloc))
 }
 
 /// The registers that a program may read before it writes them.

@@ -7,5 +7,5 @@ pub mod laws;
 mod live;
 mod needs;
 
-pub use finding::find_live;
+pub use finding::{all_live, find_live};
 pub use live::Live;

@@ -13,9 +13,10 @@ use crate::found::Race;
 use crate::gathering::{both, gather_races};
 use crate::next::Watcher;
 use crate::sync::Part;
+use bpf_alike::Merged;
 use bpf_cpu::Setup;
 use bpf_explore::{
-    Explorer, Extent, Observer, PatientExplorer, explore, patient_search_of, search_of,
+    Explorer, Extent, Observer, PatientExplorer, Scope, explore, patient_search_of, search_of,
 };
 use bpf_plain::copy_shape;
 use bpf_shared::StoreShape;
@@ -39,22 +40,26 @@ fn make_watcher(alloc: Global, shape: &StoreShape) -> Result<Watcher, AllocError
 }
 
 /// A search that begins with the machine of jobs, and one for its machines.
-fn begin(alloc: Global, setup: Setup) -> Result<(Watcher, Explorer), AllocError>
+fn begin(alloc: Global, setup: Setup, merged: Merged) -> Result<(Watcher, Explorer), AllocError>
     requires { IsRunnable setup }
     ensures { IfOk result (λ r. BeginsAt r.1.kept (first_of setup)) }
 {
     let watcher = make_watcher(alloc, &setup.shape)?;
-    let explorer = search_of(alloc, setup)?;
+    let explorer = search_of(alloc, setup, merged)?;
     Ok((watcher, explorer))
 }
 
 /// A patient search that begins with the machine of jobs, and what watches its machines.
-fn begin_patiently(alloc: Global, setup: Setup) -> Result<(Watcher, PatientExplorer), AllocError>
+fn begin_patiently(
+    alloc: Global,
+    setup: Setup,
+    merged: Merged,
+) -> Result<(Watcher, PatientExplorer), AllocError>
     requires { IsRunnable setup }
     ensures { IfOk result (λ r. BeginsAt r.1.kept (first_of setup)) }
 {
     let watcher = make_watcher(alloc, &setup.shape)?;
-    let explorer = patient_search_of(alloc, setup)?;
+    let explorer = patient_search_of(alloc, setup, merged)?;
     Ok((watcher, explorer))
 }
 
@@ -110,24 +115,24 @@ fn conclude_patiently(
     })
 }
 
-/// Searches through all schedules of jobs over a new store, until no state is new, more than `limit`
-/// are kept or memory is refused to the search, for races at bytes that aren't left out.
+/// Searches through all schedules of jobs over a new store, until no state is new, more are kept than
+/// the limit or memory is refused to the search, for races at bytes that aren't left out.
 /// Refused means out of memory before or after it; cases that never come count as such, but no
 /// contract rules them out. The observer learns meanwhile how far the search is.
 pub fn find_races<O: Observer>(
     alloc: Global,
     setup: Setup,
     sync: &[Part],
-    limit: usize,
+    scope: Scope,
     observer: &mut O,
 ) -> Result<Races, AllocError>
     requires { IsRunnable setup }
     ensures { IfOk result (λ r. AreRaces false (first_of setup) sync.now r.list.items r.all
-        r.refused limit) }
+        r.refused scope.limit) }
 {
     bpf_x86::firsts_fit(&setup.programs);
-    let (mut watcher, mut explorer) = begin(alloc, setup)?;
-    let extent = explore(&mut explorer, limit, observer);
+    let (mut watcher, mut explorer) = begin(alloc, setup, scope.merged)?;
+    let extent = explore(&mut explorer, scope.limit, observer);
     conclude(alloc, &mut explorer, &mut watcher, sync, extent)
 }
 
@@ -137,15 +142,15 @@ pub fn find_races_patiently<O: Observer>(
     alloc: Global,
     setup: Setup,
     sync: &[Part],
-    limit: usize,
+    scope: Scope,
     observer: &mut O,
 ) -> Result<Races, AllocError>
     requires { IsRunnable setup }
     ensures { IfOk result (λ r. AreRaces true (first_of setup) sync.now r.list.items r.all
-        r.refused limit) }
+        r.refused scope.limit) }
 {
     bpf_x86::firsts_fit(&setup.programs);
-    let (mut watcher, mut explorer) = begin_patiently(alloc, setup)?;
-    let extent = explore(&mut explorer, limit, observer);
+    let (mut watcher, mut explorer) = begin_patiently(alloc, setup, scope.merged)?;
+    let extent = explore(&mut explorer, scope.limit, observer);
     conclude_patiently(alloc, &mut explorer, &mut watcher, sync, extent)
 }

@@ -70,12 +70,14 @@ fn search_for(
 ) -> Result<SearchOptions, AllocError>
     ensures patient { IfOk result (λ s. s.patient ≡ is_patient options.now text.now) }
     ensures limit { IfOk result (λ s. s.limit ≡ limit_of options.now text.now) }
+    ensures all { IfOk result (λ s. s.all_states ≡ options.now.search.all_states) }
 {
     let asked = settings_of(alloc, text.as_bytes())?;
     Ok(SearchOptions {
         limit: limit_by(options, asked),
         patient: !options.x86 && (options.search.patient || asked.patient),
         progress: options.search.progress,
+        all_states: options.search.all_states,
     })
 }
 

@@ -1,6 +1,6 @@
 //! `ebpf explore`: every outcome of a run file's jobs, whatever the order of the CPUs' turns.
 
-ghost use Rattle.std.specs.Prelude.{◌≡◌, ◌<◌, ◌++◌, ◌||◌, false, true, Bool, IfErr, IfOk, length, string_bytes, ℕ};
+ghost use Rattle.std.specs.Prelude.{◌≡◌, ◌<◌, ◌++◌, ◌||◌, if◌then◌else◌, false, true, Bool, IfErr, IfOk, length, string_bytes, ℕ};
 ghost use Rattle.bpf_explore.specs.Listing.{last_line};
 ghost use Rattle.bpf_explore.specs.Outcomes.{IsExplored};
 ghost use Rattle.bpf_explore.specs.Patient.{IsSearchedPatiently};
@@ -15,75 +15,101 @@ use crate::refusal::Refusal;
 use crate::reply::Reply;
 use crate::running::{file_in, history_by};
 use crate::threading::threads_in;
+use bpf_alike::Merged;
 use bpf_check::{Findings, Raced};
 use bpf_command::SearchOptions;
 use bpf_explore::{
-    Explored, ExploredPatiently, Hung, Observer, explore_jobs, is_any_stopped, list_explored,
-    list_patient, push_last, search_patiently,
+    Explored, ExploredPatiently, Hung, Observer, Scope, explore_jobs, is_any_stopped,
+    list_explored, list_patient, push_last, search_patiently,
 };
 use bpf_file::RunFile;
 use bpf_jobs::Report;
 use std::alloc::{AllocError, Global};
 
+/// Which states a search takes for one: where all are to be kept, those that are the same, else those
+/// that differ only in registers that are written before they are read.
+fn merged_by(all_states: bool) -> Merged
+    ensures { result ≡ (if all_states then Merged.Same else Merged.Alike) }
+{
+    if all_states {
+        Merged::Same
+    } else {
+        Merged::Alike
+    }
+}
+
+/// How far a search goes by its options, and which states it takes for one.
+pub fn scope_of(options: &SearchOptions) -> Scope
+    ensures limit { result.limit ≡ options.now.limit }
+    ensures merged { result.merged
+        ≡ (if options.now.all_states then Merged.Same else Merged.Alike) }
+{
+    Scope {
+        limit: options.limit as usize,
+        merged: merged_by(options.all_states),
+    }
+}
+
 /// Searches through all schedules of a file's jobs, and prints the maps too.
 fn explore<O: Observer>(
     alloc: Global,
     file: RunFile,
-    limit: usize,
+    scope: Scope,
     observer: &mut O,
 ) -> Result<Explored, AllocError>
     requires { IsRunnable file.setup }
     ensures { IfOk result (λ e. IsExplored (first_world_of (file_of file)) (file_of file).names true
-        e.answers.items e.all e.refused limit e.states) }
+        e.answers.items e.all e.refused scope.limit e.states) }
 {
     let RunFile { setup, names, .. } = file;
-    explore_jobs(alloc, setup, &names, true, limit, observer)
+    explore_jobs(alloc, setup, &names, true, scope, observer)
 }
 
 /// Searches through all schedules of a file's jobs, but for how many steps are left of budgets.
 fn explore_patient<O: Observer>(
     alloc: Global,
     file: RunFile,
-    limit: usize,
+    scope: Scope,
     observer: &mut O,
 ) -> Result<ExploredPatiently, AllocError>
     requires { IsRunnable file.setup }
     ensures { IfOk result (λ e. IsSearchedPatiently (first_world_of (file_of file))
-        (file_of file).names true e.answers.items e.all e.refused limit e.states e.hung.items
-        e.budgets) }
+        (file_of file).names true e.answers.items e.all e.refused scope.limit e.states
+        e.hung.items e.budgets) }
 {
     let RunFile { setup, names, .. } = file;
-    search_patiently(alloc, setup, &names, true, limit, observer)
+    search_patiently(alloc, setup, &names, true, scope, observer)
 }
 
 /// What a search through all schedules of the jobs that a text says finds.
 fn explored_in<O: Observer>(
     alloc: Global,
-    limit: u64,
+    scope: Scope,
     text: &str,
     observer: &mut O,
 ) -> Result<Explored, Refusal>
-    ensures found { IfOk result (λ e. AreAnswersTo text.now e.answers.items e.all limit e.states) }
+    ensures found { IfOk result (λ e. AreAnswersTo text.now e.answers.items e.all scope.limit
+        e.states) }
     ensures refused { IfErr result (RefusesFile text.now) }
 {
     let file = file_in(alloc, text)?;
-    let explored = explore(alloc, file, limit as usize, observer)?;
+    let explored = explore(alloc, file, scope, observer)?;
     Ok(explored)
 }
 
 /// What a patient search finds.
 fn patient_in<O: Observer>(
     alloc: Global,
-    limit: u64,
+    scope: Scope,
     text: &str,
     observer: &mut O,
 ) -> Result<ExploredPatiently, Refusal>
-    ensures found { IfOk result (λ e. ArePatientAnswersTo text.now e.answers.items e.all limit
-        e.states e.hung.items e.budgets) }
+    ensures found { IfOk result (λ e. ArePatientAnswersTo text.now e.answers.items e.all
+        scope.limit e.states e.hung.items e.budgets) }
     ensures refused { IfErr result (RefusesFile text.now) }
 {
     let file = file_in(alloc, text)?;
-    let explored = explore_patient(alloc, file, limit as usize, observer)?;
+    let explored = explore_patient(alloc, file, scope, observer)?;
     Ok(explored)
 }
 
@@ -98,8 +124,9 @@ fn found_in<O: Observer>(
         options.limit e.states) }
     ensures refused { IfErr result (RefusesFile text.now) }
 {
+    let scope = scope_of(&options);
     if !options.patient {
-        return explored_in(alloc, options.limit, text, observer);
+        return explored_in(alloc, scope, text, observer);
     }
     let ExploredPatiently {
         answers,
@@ -107,7 +134,7 @@ fn found_in<O: Observer>(
         refused,
         states,
         ..
-    } = patient_in(alloc, options.limit, text, observer)?;
+    } = patient_in(alloc, scope, text, observer)?;
     Ok(Explored {
         answers,
         all,
@@ -129,25 +156,26 @@ pub(crate) fn findings_in<O: Observer>(
     ensures raced { IfOk result (λ f. f.raced ≡ raced) }
     ensures refused { IfErr result (RefusesFile text.now) }
 {
+    let scope = scope_of(options);
     if !options.patient {
-        let explored = explored_in(alloc, options.limit, text, observer)?;
+        let explored = explored_in(alloc, scope, text, observer)?;
         return Ok(Findings::new(alloc, explored, raced));
     }
-    let explored = patient_in(alloc, options.limit, text, observer)?;
+    let explored = patient_in(alloc, scope, text, observer)?;
     Ok(Findings::patient(explored, raced))
 }
 
 /// `ebpf explore` of all outcomes.
 fn explore_all<O: Observer>(
     alloc: Global,
-    limit: u64,
+    scope: Scope,
     text: &str,
     observer: &mut O,
 ) -> Result<Reply, Refusal>
-    ensures { Replies (IsExploredFile false limit text.now) result }
+    ensures { Replies (IsExploredFile false scope.limit text.now) result }
 {
     let threads = threads_in(alloc, text)?;
-    let explored = explored_in(alloc, limit, text, observer)?;
+    let explored = explored_in(alloc, scope, text, observer)?;
     let text = list_explored(alloc, &explored, threads)?;
     Ok(Reply::Outcomes {
         text,
@@ -174,14 +202,14 @@ fn is_stopped(explored: &ExploredPatiently) -> bool
 /// `ebpf explore --patient`.
 fn explore_patiently<O: Observer>(
     alloc: Global,
-    limit: u64,
+    scope: Scope,
     text: &str,
     observer: &mut O,
 ) -> Result<Reply, Refusal>
-    ensures { Replies (IsExploredFile true limit text.now) result }
+    ensures { Replies (IsExploredFile true scope.limit text.now) result }
 {
     let threads = threads_in(alloc, text)?;
-    let explored = patient_in(alloc, limit, text, observer)?;
+    let explored = patient_in(alloc, scope, text, observer)?;
     let text = list_patient(alloc, &explored, threads)?;
     Ok(Reply::Outcomes {
         text,
@@ -199,10 +227,11 @@ pub fn explore_file<O: Observer>(
 ) -> Result<Reply, Refusal>
     ensures { Replies (IsExploredFile options.patient options.limit text.now) result }
 {
+    let scope = scope_of(&options);
     if options.patient {
-        explore_patiently(alloc, options.limit, text, observer)
+        explore_patiently(alloc, scope, text, observer)
     } else {
-        explore_all(alloc, options.limit, text, observer)
+        explore_all(alloc, scope, text, observer)
     }
 }
 

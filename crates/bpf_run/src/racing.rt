@@ -17,6 +17,7 @@ use bpf_loader::Named;
 use bpf_races::{
     Part, Races, comment_races, find_races, find_races_patiently, list_races, synced_parts,
 };
+use bpf_replies::exploring::scope_of;
 use bpf_replies::racer::Racer;
 use bpf_replies::refusal::Refusal;
 use bpf_replies::reply::Reply;
@@ -62,11 +63,11 @@ fn races_of<O: Observer>(
     ensures { IfOk result (λ r. AreRaces options.now.patient (first_of setup) sync.now
         r.list.items r.all r.refused options.now.limit) }
 {
-    let limit = options.limit as usize;
+    let scope = scope_of(options);
     if options.patient {
-        find_races_patiently(alloc, setup, sync, limit, observer)
+        find_races_patiently(alloc, setup, sync, scope, observer)
     } else {
-        find_races(alloc, setup, sync, limit, observer)
+        find_races(alloc, setup, sync, scope, observer)
     }
 }
 

@@ -2,7 +2,7 @@
 use Rattle.std.proofs.Common.{ap}
 use Rattle.clap.specs.Words.{App}
 use Rattle.clap.specs.Simple.{Shape, new_shape}
-use Rattle.bpf_command.specs.CommandLine.{explained, json, patient, progress, x86}
+use Rattle.bpf_command.specs.CommandLine.{all_states, explained, json, patient, progress, x86}
 use Rattle.bpf_command.proofs.Adding.{Made, added, last, owns, shapes, with_one}
 use Rattle.bpf_command.proofs.options.searching.Goals as goal
 
@@ -22,6 +22,9 @@ returns c =
     let shape4 : Shape = with_one shape3 progress in
     let four : Made c.in_ok-arg-4.field-0 shape4 =
     added _ _ c.in_ok-arg-4.field-0 shape3 progress three c.progress_option.ensures.rule c.progress_option.ensures.own c.in_ok-arg-4.ensures in
-    let all : Shape = with_one shape4 x86 in
-    let made = last _ _ c.arg-5.result shape4 x86 four c.buffers_option.ensures.rule c.buffers_option.ensures.own c.arg-5.ensures in
-    record { shape = shapes c.arg-5.result all made; own = owns c.arg-5.result all made }
+    let shape5 : Shape = with_one shape4 x86 in
+    let five : Made c.in_ok-arg-5.field-0 shape5 =
+    added _ _ c.in_ok-arg-5.field-0 shape4 x86 four c.buffers_option.ensures.rule c.buffers_option.ensures.own c.in_ok-arg-5.ensures in
+    let all : Shape = with_one shape5 all_states in
+    let made = last _ _ c.arg-6.result shape5 all_states five c.all_states_option.ensures.rule c.all_states_option.ensures.own c.arg-6.ensures in
+    record { shape = shapes c.arg-6.result all made; own = owns c.arg-6.result all made }

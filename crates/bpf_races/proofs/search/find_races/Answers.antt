@@ -14,7 +14,7 @@ pub returns : goal.returns
 returns g c =
     let w = first_of c.args.setup in
     let sync = c.args.sync.now in
-    let limit = c.args.limit in
+    let limit = c.args.scope.limit in
     let fits : FirstsFit w.programs = subst FirstsFit c.deref.ensures.value c.firsts_fit.ensures in
     let kept = c.explore-extent.new.frontier.kept in
     let extent = c.explore-extent.result in

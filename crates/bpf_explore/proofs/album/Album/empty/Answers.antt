@@ -9,5 +9,5 @@ invariant_of-result c = (
   search rules,
   search rules,
   subst (λ (ps : List Loaded). AreLiveTables ps (table_at c.new-4.result)) c.programs.ensures
-      (subst (λ (ts : List Table). AreLiveTables c.programs.result.now (table_at ts)) (sym c.new-4.ensures) c.in_ok-tables.ensures),
+      (subst (λ (ts : List Table). AreLiveTables c.programs.result.now (table_at ts)) (sym c.new-4.ensures) c.in_ok-tables.ensures.right),
 )
