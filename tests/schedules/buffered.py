@@ -93,6 +93,38 @@ class File(model.File):
         buffers = tuple(tuple(rest) if n == cpu else other for n, other in enumerate(buffers))
         return self.made(store, [first]), hands, ends, buffers
 
+    @staticmethod
+    def flushed(cpu, stores):
+        return [f"cpu {cpu} flush store 8 at 0x{0x1000000000 + 8 * place:x} {number}\n" for place, number in stores]
+
+    def events(self, state, cpu):
+        """What the CPU does at the map in its next turn, a line each, and before what drains the stores that it drains."""
+        store, hands, ends, buffers = state
+        waiting, told = list(buffers[cpu]), []
+        for line in self.plain().events((self.made(store, waiting), hands, ends), cpu).splitlines(keepends=True):
+            what = line.split()[6:]
+            if what[0] == "store":
+                place = (int(what[3], 16) - 0x1000000000) // 8
+                waiting.append((place, int(what[4])))
+            elif what[0] not in ("load", "lookup") and not (what[0] == "update" and int(what[5]) > 2):
+                told += self.flushed(cpu, waiting)
+                waiting = []
+            told.append(line)
+        return "".join(told)
+
+    def by(self, schedule):
+        """What happens by a list of moves, each a CPU and whether it flushes, and then in rounds, and their report."""
+        state, told, moves = self.first(), "", schedule
+        while True:
+            for cpu, flushes in moves:
+                after = (self.flush if flushes else self.turn)(state, cpu)
+                if after is not None:
+                    told += "".join(self.flushed(cpu, state[3][cpu][:1])) if flushes else self.events(state, cpu)
+                    state = after
+            if None not in state[2]:
+                return told, self.report(state)
+            moves = [(cpu, flushes) for cpu in range(self.cpus) for flushes in (False, True)]
+
     def outcomes(self, most):
         """All reports, or none where there are more states than `most`."""
         seen, waiting, reports = set(), [self.first()], set()

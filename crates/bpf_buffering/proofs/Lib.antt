@@ -14,6 +14,7 @@ pub mod Advancing
 pub mod Moving
 pub mod Standing
 pub mod Waits
+pub mod Seeing
 pub mod Placing
 pub mod Proceeding
 pub mod Flushing

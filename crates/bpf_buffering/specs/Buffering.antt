@@ -5,7 +5,7 @@ use Rattle.bpf_shared.specs.declared.events.Event.{Event}
 use Rattle.bpf_shared.specs.declared.events.Event.TheVariants.{Begin}
 use Rattle.bpf_shared.specs.Store.{Plain, put}
 use Rattle.bpf_shared.specs.Sound.{IsSoundStore}
-use Rattle.bpf_plain.specs.PlainStore.{StandsFor, has_cpu, is_running}
+use Rattle.bpf_plain.specs.PlainStore.{Contents, StandsFor, has_cpu, is_running}
 use Rattle.bpf_loader.specs.Loaded.{Loaded}
 use Rattle.bpf_cpu.specs.declared.cpu.Cpu.{Cpu}
 use Rattle.bpf_cpu.specs.declared.input.Input.{Input}
@@ -18,8 +18,8 @@ use Rattle.bpf_machine.specs.Hands.{IsAt, IsFree, with_stage}
 use Rattle.bpf_machine.specs.Work.{HasInHand}
 use Rattle.bpf_machine.specs.Parts.{FitsHand}
 use Rattle.bpf_machine.specs.Machine.{MachineState}
-use Rattle.bpf_x86.specs.Buffers.{Calls}
-use Rattle.bpf_x86.specs.Machine.{X86, TakesTurn}
+use Rattle.bpf_x86.specs.Buffers.{Calls, Sees}
+use Rattle.bpf_x86.specs.Machine.{X86, buffered, TakesTurn}
 use Rattle.bpf_buffering.specs.Search.{BufferedState, ShowsX86, buffer_at, alone}
 use Rattle.bpf_buffering.specs.declared.waiting.Stored.{Stored}
 use Rattle.bpf_buffering.specs.declared.jobs.Listed.{Listed}
@@ -60,6 +60,11 @@ pub record IsBuffering (w : WaitingContents) (programs : List Loaded) (jobs : Li
   pub put_back : w.waiting ≡ []
   pub cpus : (c : ℕ) → has_cpu w.store c ≡ nat_lt c (length buffers)
   pub each : (c : ℕ) → CanWait w.store c (stored_at buffers c)
+
+-- these contents are what the CPU sees: memory after its own waiting stores
+abbrev pub IsSeenBy : BufferedState → ℕ → Contents → Type 0
+IsSeenBy m c seen = (x : X86) → ShowsX86 m x
+    → (s : Plain) × Sees (buffered x) c s × IsSoundStore s × StandsFor seen s
 
 -- ---- what a turn does
 abbrev pub answer_of : ℕ → Option Outcome → Turn

@@ -23,7 +23,7 @@ use std::mem;
 
 /// A job in the machine's list.
 #[derive(Drop)]
-pub(crate) struct Listed {
+pub struct Listed {
     pub cpu: u8,
     pub program: usize,
     pub budget: u64,

@@ -13,3 +13,5 @@ mod waiting;
 
 pub use album::Album;
 pub use buffering::Buffering;
+pub use jobs::Listed;
+pub use waiting::Stored;

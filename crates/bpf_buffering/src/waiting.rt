@@ -22,7 +22,7 @@ const ROOM: usize = 64;
 
 /// A plain store that waits.
 #[derive(Clone, Copy, PartialEq, Eq, Debug)]
-pub(crate) struct Stored {
+pub struct Stored {
     pub at: u64,
     pub size: Size,
     pub word: u64,

@@ -354,12 +354,11 @@ wants_two rows = (is_given (codes "events") rows && is_given (codes "check") row
 -- what CPUs with store buffers don't do is asked for beside them
 abbrev pub wants_no_buffers : List Row → Bool
 wants_no_buffers rows = is_given (codes "x86") rows
-    && (is_given (codes "workers") rows || (is_given (codes "events") rows
-    || (is_given (codes "check") rows || (is_given (codes "packets") rows
-    || is_given (codes "keys") rows))))
+    && (is_given (codes "workers") rows || (is_given (codes "check") rows
+    || (is_given (codes "packets") rows || is_given (codes "keys") rows)))
 
 -- options are given of which one rules out the other: what needs turns beside workers, two of what
--- happens, packets and a verdict, or any of these or lists of keys beside store buffers
+-- happens, packets and a verdict, or packets, a verdict or lists of keys beside store buffers
 abbrev pub do_clash : List Row → Bool
 do_clash rows = (is_given (codes "workers") rows && wants_turns rows)
     || (wants_two rows || wants_no_buffers rows)

@@ -115,7 +115,7 @@ Names (Some found) (command.History options) = (found.0 ≡ codes "run")
     × (options.maps ≡ is_given (codes "maps") found.1)
     × IsSchedule (first_of (codes "by") found.1) options.by.items
     × (do_clash found.1 ≡ false) × (counts_alone found.1 ≡ false)
-    × (is_given (codes "events") found.1 ≡ true)
+    × (is_given (codes "events") found.1 ≡ true) × (is_given (codes "x86") found.1 ≡ false)
 Names (Some found) (command.Packets options) = (found.0 ≡ codes "run")
     × (options.keys ≡ is_given (codes "keys") found.1)
     × (options.maps ≡ is_given (codes "maps") found.1)
@@ -126,7 +126,12 @@ Names (Some found) (command.X86 options) = (found.0 ≡ codes "run")
     × (options.maps ≡ is_given (codes "maps") found.1)
     × AreMoves (first_of (codes "by") found.1) options.by.items
     × (do_clash found.1 ≡ false) × (counts_alone found.1 ≡ false)
-    × (is_given (codes "x86") found.1 ≡ true)
+    × (is_given (codes "x86") found.1 ≡ true) × (is_given (codes "events") found.1 ≡ false)
+Names (Some found) (command.X86History options) = (found.0 ≡ codes "run")
+    × (options.maps ≡ is_given (codes "maps") found.1)
+    × AreMoves (first_of (codes "by") found.1) options.by.items
+    × (do_clash found.1 ≡ false) × (counts_alone found.1 ≡ false)
+    × (is_given (codes "x86") found.1 ≡ true) × (is_given (codes "events") found.1 ≡ true)
 Names (Some found) (command.Judge options) = (found.0 ≡ codes "run")
     × (options.keys ≡ is_given (codes "keys") found.1)
     × IsSchedule (first_of (codes "by") found.1) options.by.items

@@ -150,6 +150,8 @@ pub enum Command {
     Packets(HistoryOptions),
     /// Run them on CPUs with store buffers.
     X86(X86Options),
+    /// Run them so, and print all that happens.
+    X86History(X86Options),
     /// Run them in turns, and print whether the outcome is as the comments of the file expect.
     Judge(JudgeOptions),
     /// Find what the jobs of a run file can reach, by every schedule.

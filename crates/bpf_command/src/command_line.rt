@@ -278,7 +278,6 @@ fn wants_no_buffers(options: &ArgMatches) -> bool
 {
     is_given(options, "x86")
         && (is_given(options, "workers")
-            || is_given(options, "events")
             || is_given(options, "check")
             || is_given(options, "packets")
             || is_given(options, "keys"))
@@ -314,7 +313,10 @@ fn x86_run_of(alloc: Global, options: &ArgMatches) -> Result<Command, CommandErr
 {
     let by = moves_of(alloc, options)?;
     let maps = is_given(options, "maps");
-    Ok(Command::X86(X86Options { maps, by }))
+    if !is_given(options, "events") {
+        return Ok(Command::X86(X86Options { maps, by }));
+    }
+    Ok(Command::X86History(X86Options { maps, by }))
 }
 
 #[tactic(auto, using(crate::proofs::OptionRows::schedule_in_rows, crate::proofs::OptionRows::no_turns_in_rows))]

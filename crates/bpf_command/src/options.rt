@@ -76,8 +76,9 @@ exits, packet J DIGITS: the bytes that it leaves there, in hex. With --check the
 
 With --x86 a CPU's plain stores to values of maps wait in its store buffer, and its own loads alone find
 them. A schedule has words C!*N too: N flushes of CPU C, each of its oldest store. In a round each CPU
-makes its turn and then a flush. A flush where nothing waits changes nothing. --x86 goes beside none of
---workers, --events, --packets, --check and --keys.
+makes its turn and then a flush. A flush where nothing waits changes nothing. With --events a store's
+line is where the CPU makes it, and begins to wait; a line cpu C flush store .. is where it reaches
+memory. --x86 goes beside none of --workers, --packets, --check and --keys.
 
 With --workers and --stats a line a map is printed on standard error: its segments, its keys, those on
 overflow lists and its free elements, as it is left; and how many segments were split, readings were

@@ -130,11 +130,8 @@ stage_fits m c j task program x stands work listed loaded store = elim work [
       let both : Some t ≡ Some task = sym at.listed ∙ listed in
       let same : t ≡ task = cc in
       let stage : task.stage ≡ Waiting input = ap (λ (u : Task). u.stage) (sym same) ∙ at.at in
-      let fit : FitsStage program c (Waiting input) x = (
-        stands.short c j t input at,
-        subst (λ (s : Contents). is_running s c ≡ false)
-            (sym store) (stands.idle c free),
-      ) in
+      let fit : FitsStage program c (Waiting input) x =
+      subst (λ (s : Contents). is_running s c ≡ false) (sym store) (stands.idle c free) in
       subst (λ (s : Stage). FitsStage program c s x) (sym stage) fit
 ]
 

@@ -6,3 +6,5 @@ pub use Rattle.bpf_events.specs.Private.Recording.{Recording, IsRecorderOf, even
 -- what happens in a turn with this result, where these events were noted; whatever the CPU's next
 -- turn leads to, this happens in it
 pub use Rattle.bpf_events.specs.Private.Watching.{noted, IsWatched}
+-- a job in this stage fits the recorder's store; and its next step there, or its beginning, is noted
+pub use Rattle.bpf_events.specs.Private.Watching.{FitsStage, NotesStage, NotesStep, NotesBegin}

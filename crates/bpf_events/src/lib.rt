@@ -10,6 +10,7 @@ mod telling;
 mod watching;
 
 pub use history::run_with_history;
-pub use note::Note;
+pub use lines::{note_text, push_note};
+pub use note::{Note, Place};
 pub use recorder::Recorder;
-pub use watching::watch;
+pub use watching::{note_stage, watch};

@@ -220,7 +220,7 @@ fn atomic_text(
 }
 
 /// A call with its reply.
-fn note_text(alloc: Global, names: &[String], note: &Note) -> Result<String, AllocError>
+pub fn note_text(alloc: Global, names: &[String], note: &Note) -> Result<String, AllocError>
     ensures { IfOk result (λ text. string_bytes text
         ≡ event_text (map string_bytes names.now) (event_of note.now)) }
 {
@@ -261,7 +261,7 @@ fn note_text(alloc: Global, names: &[String], note: &Note) -> Result<String, All
 }
 
 /// Appends the line of an event to the text: a call of a CPU, of the job that it runs, at a pc.
-pub(crate) fn push_note(
+pub fn push_note(
     alloc: Global,
     text: &mut String,
     names: &[String],

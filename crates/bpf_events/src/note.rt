@@ -9,7 +9,7 @@ use std::alloc::{AllocError, Global};
 
 /// Where a CPU is: in which job, and at which pc of its program.
 #[derive(Clone, Copy)]
-pub(crate) struct Place {
+pub struct Place {
     pub cpu: u8,
     pub job: usize,
     pub pc: u32,

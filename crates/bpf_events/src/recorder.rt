@@ -52,7 +52,7 @@ impl Recorder {
     }
 
     /// Forgets its notes.
-    pub(crate) fn forget(&mut self)
+    pub fn forget(&mut self)
         ensures { self.new ≡ record self.old { events = []; lost = false } }
     {
         self.notes.clear();
@@ -60,7 +60,7 @@ impl Recorder {
     }
 
     /// Forgets its notes, and notes the calls of this CPU over a store with these contents.
-    pub(crate) fn restart(&mut self, store: &PlainStore, cpu: u8)
+    pub fn restart(&mut self, store: &PlainStore, cpu: u8)
         requires { IsSameShape store.now self.old.store }
         ensures { self.new ≡ record { store = store.now; cpu = cpu; events = []; lost = false } }
     {
@@ -78,7 +78,7 @@ impl Recorder {
     }
 
     /// Whether some note is missing.
-    pub(crate) fn is_lost(&self) -> bool
+    pub fn is_lost(&self) -> bool
         ensures { result ≡ self.now.lost }
     {
         self.lost

@@ -49,7 +49,7 @@ fn note_begin(recorder: &mut Recorder, program: &Program, cpu: u8, input: Input,
 }
 
 /// Goes on with a CPU's job from this stage, as its next turn will. The pc at which the CPU is.
-fn note_stage(
+pub fn note_stage(
     recorder: &mut Recorder,
     program: &Program,
     cpu: u8,

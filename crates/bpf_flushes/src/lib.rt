@@ -12,4 +12,4 @@ mod rounds;
 pub use making::make_buffering;
 pub use moves::moves_by;
 pub use report::{run_with_buffers, tell};
-pub use rounds::run_rounds;
+pub use rounds::{have_ended, run_rounds};

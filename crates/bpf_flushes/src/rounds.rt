@@ -12,7 +12,7 @@ use bpf_buffering::Buffering;
 use std::alloc::AllocError;
 
 /// Whether each job has an outcome.
-fn have_ended(machine: &Buffering) -> bool
+pub fn have_ended(machine: &Buffering) -> bool
     ensures ended { result ≡ true → HaveEnded machine.now.machine.jobs }
     ensures open { result ≡ false → HaveEnded machine.now.machine.jobs → ⊥ }
 {

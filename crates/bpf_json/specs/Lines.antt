@@ -159,6 +159,17 @@ event_object k e = codes "{\"cpu\":" ++ (decimal e.cpu ++ (codes ",\"job\":" ++ 
     ++ (codes ",\"pc\":" ++ (decimal e.pc ++ (line_member (line_of_job k e.job e.pc) ++ (codes ","
     ++ (call_members e.call ++ codes "}"))))))))
 
+-- a waiting store of this many bytes that reaches memory
+abbrev pub flush_text : ℕ → ℕ → (at : List ℕ) → ℕ → List ℕ
+flush_text cpu size at n = codes "cpu " ++ (decimal cpu ++ (codes " flush store " ++ (decimal size
+    ++ (codes " at " ++ (at ++ (codes " " ++ decimal n))))))
+
+abbrev pub flush_object : ℕ → ℕ → (at : List ℕ) → ℕ → List ℕ
+flush_object cpu size at n = codes "{\"cpu\":" ++ (decimal cpu
+    ++ (codes ",\"event\":\"flush\",\"size\":" ++ (decimal size ++ (codes ","
+    ++ (text_member (codes "at") at ++ (codes "," ++ (exact_members (codes "value") n
+    ++ codes "}")))))))
+
 -- ---- values
 
 -- the CPU whose value it is, where each has one
@@ -325,6 +336,7 @@ packet_object job bytes = codes "{\"job\":" ++ (decimal job ++ (codes ","
 abbrev pub plain : Line → List ℕ
 plain (line.Job job) = job_text job
 plain (line.Event event) = event_text event
+plain (line.Flush cpu size at n) = flush_text cpu size (string_bytes at) n
 plain (line.Packet job bytes) = packet_text job bytes
 plain (line.Value value) = value_text value
 plain (line.By schedule) = by_text (string_bytes schedule)
@@ -346,6 +358,7 @@ plain (line.Other text) = string_bytes text
 abbrev pub object : Known → Line → List ℕ
 object k (line.Job job) = job_object k job
 object k (line.Event event) = event_object k event
+object k (line.Flush cpu size at n) = flush_object cpu size (string_bytes at) n
 object k (line.Packet job bytes) = packet_object job bytes
 object k (line.Value value) = value_object value
 object k (line.By schedule) = member (codes "by") (string_bytes schedule)

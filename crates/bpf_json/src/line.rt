@@ -1,14 +1,14 @@
 //! What a printed line says.
 
 ghost use Rattle.std.specs.Prelude.{◌≡◌, IfOk, string_bytes};
-ghost use Rattle.bpf_json.specs.Lines.{object, plain, plan_text, states_object, states_text};
+ghost use Rattle.bpf_json.specs.Lines.{flush_object, object, plain, plan_text, states_object, states_text};
 
 use crate::event::Event;
 use crate::job::Job;
 use crate::known::Known;
 use crate::race::Race;
 use crate::test::{Test, file_member, file_text};
-use crate::texts::{all_text, by_text, member, text_member, truth};
+use crate::texts::{all_text, by_text, exact_members, member, text_member, truth};
 use crate::value::Value;
 use std::alloc::{AllocError, Global};
 
@@ -21,6 +21,13 @@ pub enum Line {
     Job(Job),
     /// What a CPU does.
     Event(Event),
+    /// A waiting store of this many bytes at an address reaches memory.
+    Flush {
+        cpu: u64,
+        size: u64,
+        at: String,
+        word: u64,
+    },
     /// What a job leaves in its packet, in hex digits.
     Packet {
         job: u64,
@@ -92,6 +99,21 @@ fn states_object(
     format!(in alloc; "{{\"states\":{states}{file}}}")
 }
 
+/// The object for a waiting store that reaches memory.
+fn flush_object(
+    alloc: Global,
+    cpu: u64,
+    size: u64,
+    at: &str,
+    word: u64,
+) -> Result<String, AllocError>
+    ensures { IfOk result (λ s. string_bytes s ≡ flush_object cpu size at.now word) }
+{
+    let at = text_member(alloc, "at", at)?;
+    let word = exact_members(alloc, "value", word)?;
+    format!(in alloc; "{{\"cpu\":{cpu},\"event\":\"flush\",\"size\":{size},{at},{word}}}")
+}
+
 impl Line {
     /// The line as it is printed, without its end.
     pub(crate) fn plain(&self, alloc: Global) -> Result<String, AllocError>
@@ -100,6 +122,12 @@ impl Line {
         match self {
             Line::Job(job) => job.plain(alloc),
             Line::Event(event) => event.plain(alloc),
+            Line::Flush {
+                cpu,
+                size,
+                at,
+                word,
+            } => format!(in alloc; "cpu {cpu} flush store {size} at {at} {word}"),
             Line::Packet { job, bytes } => format!(in alloc; "packet {job} {bytes}"),
             Line::Value(value) => value.plain(alloc),
             Line::By(schedule) => by_text(alloc, schedule.as_str()),
@@ -136,6 +164,12 @@ impl Line {
         match self {
             Line::Job(job) => job.object(alloc, known),
             Line::Event(event) => event.object(alloc, known),
+            Line::Flush {
+                cpu,
+                size,
+                at,
+                word,
+            } => flush_object(alloc, *cpu, *size, at.as_str(), *word),
             Line::Packet { job, bytes } => {
                 let bytes = text_member(alloc, "packet", bytes.as_str())?;
                 format!(in alloc; "{{\"job\":{job},{bytes}}}")

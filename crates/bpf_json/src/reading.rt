@@ -224,6 +224,29 @@ fn event_in(alloc: Global, text: &str) -> Option<Result<Line, AllocError>>
     Some(event(alloc, cpu, job, pc, rest.strip_prefix(" ")?))
 }
 
+fn flush(alloc: Global, cpu: u64, size: u64, at: &str, word: u64) -> Result<Line, AllocError>
+    ensures { IfOk result IsRight }
+{
+    let at = at.to_string(alloc)?;
+    Ok(Line::Flush {
+        cpu,
+        size,
+        at,
+        word,
+    })
+}
+
+/// A waiting store that reaches memory.
+fn flush_in(alloc: Global, text: &str) -> Option<Result<Line, AllocError>>
+    ensures { IfSome result (λ made. IfOk made IsRight) }
+{
+    let (cpu, rest) = number_in(text.strip_prefix("cpu ")?)?;
+    let (size, rest) = number_in(rest.strip_prefix(" flush store ")?)?;
+    let (at, word) = word_in(rest.strip_prefix(" at ")?)?;
+    let (word, _) = number_in(word)?;
+    Some(flush(alloc, cpu, size, at, word))
+}
+
 fn packet(alloc: Global, job: u64, bytes: &str) -> Result<Line, AllocError>
     ensures { IfOk result IsRight }
 {
@@ -542,6 +565,7 @@ fn guess(alloc: Global, text: &str) -> Result<Line, AllocError>
 {
     let made = job_in(alloc, text)
         .or_else(|| event_in(alloc, text))
+        .or_else(|| flush_in(alloc, text))
         .or_else(|| packet_in(alloc, text))
         .or_else(|| pair_in(alloc, text))
         .or_else(|| variable_in(alloc, text))

@@ -12,6 +12,7 @@ use Rattle.bpf_machine.specs.Laws.{IsFresh}
 use Rattle.bpf_jobs.specs.declared.rounds.Report.{Report}
 use Rattle.bpf_jobs.specs.Printed.{asked_world, first_world, IsReportBy}
 use Rattle.bpf_events.specs.Reports.{IsHistory}
+use Rattle.bpf_buffer_events.specs.Printed.{IsHistoryWithBuffers}
 use Rattle.bpf_flushes.specs.Printed.{IsReportWithBuffers}
 use Rattle.bpf_packets.specs.Reports.{IsReportWithPackets}
 use Rattle.bpf_debug.specs.Laws.{IsNew}
@@ -25,7 +26,7 @@ use Rattle.bpf_file.specs.declared.file.RunFile.{RunFile}
 use Rattle.bpf_file.specs.File.{File, file_of, shape_of}
 use Rattle.bpf_file.specs.Reading.{IsRunFile}
 use Rattle.bpf_file.specs.Runnable.{WaitsShort, IsJobFor, CanRun}
-use Rattle.bpf_replies.specs.Running.{IsHistoryOfFile, IsRunWithBuffers, IsRunWithPacketsOfFile, IsToldBy}
+use Rattle.bpf_replies.specs.Running.{IsBufferHistory, IsHistoryOfFile, IsRunWithBuffers, IsRunWithPacketsOfFile, IsToldBy}
 use Rattle.bpf_replies.specs.Script.{asked_world_of, first_world_of}
 use Rattle.bpf_replies.specs.declared.reply.Reply.TheVariants as reply
 
@@ -94,3 +95,10 @@ pub with_buffers : (by : List (ℕ × ℕ)) (maps : Bool) (text : List ℕ) (fil
     by (names_of file.names) maps (string_bytes r.text) r.stopped
     → (f : File) × IsRunFile text (Ok f) × IsRunWithBuffers by maps f (string_bytes r.text) r.stopped
 with_buffers by maps text file r said report = (file_of file, said, report)
+
+pub buffer_history : (by : List (ℕ × ℕ)) (maps : Bool) (text : List ℕ) (file : RunFile) (r : Report)
+    → IsRunFile text (Ok (file_of file))
+    → IsHistoryWithBuffers (first_world file.setup.shape (map pair_of file.setup.pairs.items) file.setup.programs.items (map waiting file.setup.jobs.items))
+    by (names_of file.names) maps (string_bytes r.text) r.stopped
+    → (f : File) × IsRunFile text (Ok f) × IsBufferHistory by maps f (string_bytes r.text) r.stopped
+buffer_history by maps text file r said report = (file_of file, said, report)

@@ -2,6 +2,7 @@
 use Rattle.std.specs.Prelude.{ℕ, Bool, List, Option, Some, None, Err, Ok, string_bytes}
 use Rattle.bpf_jobs.specs.Printed.{IsReportBy}
 use Rattle.bpf_events.specs.Reports.{IsHistory}
+use Rattle.bpf_buffer_events.specs.Printed.{IsHistoryWithBuffers}
 use Rattle.bpf_flushes.specs.Printed.{IsReportWithBuffers}
 use Rattle.bpf_packets.specs.Reports.{IsReportWithPackets}
 use Rattle.bpf_workers.specs.Printed.{IsWorkersReport}
@@ -64,6 +65,14 @@ IsRunWithBuffers by maps f printed stopped =
 
 abbrev pub IsRunWithBuffersOfFile : (by : List (ℕ × ℕ)) → (maps : Bool) → List ℕ → Reply → Type 0
 IsRunWithBuffersOfFile by maps = IsOfFile (IsRunWithBuffers by maps)
+
+-- `run --x86 --events`: these after the lines of all that happens in these moves and rounds
+abbrev pub IsBufferHistory : (by : List (ℕ × ℕ)) → (maps : Bool) → File → List ℕ → Bool → Type 0
+IsBufferHistory by maps f printed stopped =
+    IsHistoryWithBuffers (first_world_of f) by f.names maps printed stopped
+
+abbrev pub IsBufferHistoryOfFile : (by : List (ℕ × ℕ)) → (maps : Bool) → List ℕ → Reply → Type 0
+IsBufferHistoryOfFile by maps = IsOfFile (IsBufferHistory by maps)
 
 -- `run --workers`: the lines of the jobs that the file says, ended as one history of a new store of
 -- its maps and arrays explains; then, where they are asked for, those of the keys that each CPU lists

@@ -8,11 +8,12 @@ ghost use Rattle.bpf_cpu.specs.Setup.{IsRunnable};
 ghost use Rattle.bpf_sched.specs.Refusing.{AreWorkers};
 ghost use Rattle.bpf_replies.specs.Answer.{Replies};
 ghost use Rattle.bpf_replies.specs.Judging.{IsJudgedOfFile};
-ghost use Rattle.bpf_replies.specs.Running.{IsHistoryBy, IsHistoryOfFile, IsRunByWorkers, IsRunWithBuffers, IsRunWithBuffersOfFile, IsRunWithPackets, IsRunWithPacketsOfFile, IsRunOfFile, IsToldBy, RefusesFile};
+ghost use Rattle.bpf_replies.specs.Running.{IsBufferHistory, IsBufferHistoryOfFile, IsHistoryBy, IsHistoryOfFile, IsRunByWorkers, IsRunWithBuffers, IsRunWithBuffersOfFile, IsRunWithPackets, IsRunWithPacketsOfFile, IsRunOfFile, IsToldBy, RefusesFile};
 
 use crate::comments::{Reading, expected_in, left_in};
 use crate::refusal::Refusal;
 use crate::reply::Reply;
+use bpf_buffer_events::run_with_buffer_events;
 use bpf_check::{check_printed, left_text};
 use bpf_events::run_with_history;
 use bpf_file::{RunFile, read_file};
@@ -185,6 +186,39 @@ pub fn run_file_with_buffers(
     ensures { Replies (IsRunWithBuffersOfFile by.now maps text.now) result }
 {
     let Report { text, stopped } = buffered_by(alloc, by, maps, text)?;
+    Ok(Reply::Jobs(text, stopped))
+}
+
+/// All that happens in the moves of jobs that a text says, on CPUs with store buffers by these moves and
+/// then in rounds.
+#[tactic(auto, using(crate::proofs::FreshFiles::buffer_history))]
+fn buffer_history_by(
+    alloc: Global,
+    by: &[(u8, u64)],
+    maps: bool,
+    text: &str,
+) -> Result<Report, Refusal>
+    ensures told { IfOk result (λ report. (f : File) × IsRunFile text.now (Ok f)
+        × IsBufferHistory by.now maps f (string_bytes report.text) report.stopped) }
+    ensures refused { IfErr result (RefusesFile text.now) }
+{
+    let file = file_in(alloc, text)?;
+    let RunFile { setup, names, .. } = file;
+    let report = run_with_buffer_events(alloc, setup, &names, by, maps)?;
+    Ok(report)
+}
+
+/// `ebpf run --x86 --events`: these moves and then rounds, on CPUs with store buffers, with all that
+/// happens in them.
+pub fn run_file_with_buffer_events(
+    alloc: Global,
+    by: &[(u8, u64)],
+    maps: bool,
+    text: &str,
+) -> Result<Reply, Refusal>
+    ensures { Replies (IsBufferHistoryOfFile by.now maps text.now) result }
+{
+    let Report { text, stopped } = buffer_history_by(alloc, by, maps, text)?;
     Ok(Reply::Jobs(text, stopped))
 }
 

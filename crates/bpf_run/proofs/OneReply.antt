@@ -8,6 +8,7 @@ use Rattle.bpf_text.specs.Laws.{TextsAreDetermined}
 use Rattle.bpf_file.specs.Laws.{FilesAreDetermined, FilesCanRun}
 use Rattle.bpf_jobs.specs.Laws.{ReportsByAreDetermined}
 use Rattle.bpf_events.specs.Reports.{HistoriesAreDetermined}
+use Rattle.bpf_buffer_events.specs.Printed.{HistoriesWithBuffersAreDetermined}
 use Rattle.bpf_flushes.specs.Printed.{ReportsWithBuffersAreDetermined}
 use Rattle.bpf_packets.specs.Reports.{ReportsWithPacketsAreDetermined}
 use Rattle.bpf_debug.specs.Laws.{ScriptsAreDetermined}
@@ -18,7 +19,7 @@ use Rattle.bpf_replies.proofs.OneText.{prints, of_run, of_assembly, of_listing, 
 use Rattle.bpf_replies.proofs.OneText.{one_told, one_history, one_of_file}
 use Rattle.bpf_run.specs.Commands.{IsAnswer, IsForOneSchedule, IsForOneThread, IsReply}
 use Rattle.bpf_replies.specs.Input.{RefusesInput}
-use Rattle.bpf_replies.specs.Running.{IsHistoryBy, IsRunBy, IsRunWithBuffers, IsRunWithPackets, IsToldBy}
+use Rattle.bpf_replies.specs.Running.{IsBufferHistory, IsHistoryBy, IsRunBy, IsRunWithBuffers, IsRunWithPackets, IsToldBy}
 use Rattle.bpf_replies.specs.Script.{asked_world_of, first_world_of}
 use Rattle.bpf_replies.specs.declared.input.TheConstants.{MAX_INPUT}
 use Rattle.bpf_replies.specs.Laws.{IsOfInput, IsForAnyInput}
@@ -52,7 +53,8 @@ of_input c input r (inr answered) n = Answered r answered.0 answered.1 answered.
 module _ (words : WordsAreDetermined) (encodings : EncodingsAreDetermined) (refusals : RefusalsAreDetermined) (firsts : FirstIsDetermined)
     (texts : TextsAreDetermined) (outcomes : OutcomesAreDetermined) (events : NoMapsNoEvents) (files : FilesAreDetermined)
     (runs : FilesCanRun) (reports : ReportsByAreDetermined) (histories : HistoriesAreDetermined) (scripts : ScriptsAreDetermined)
-    (carried : ReportsWithPacketsAreDetermined) (buffered : ReportsWithBuffersAreDetermined) where
+    (carried : ReportsWithPacketsAreDetermined) (buffered : ReportsWithBuffersAreDetermined)
+    (noted : HistoriesWithBuffersAreDetermined) where
   one_answer : (c : Command) (text : List ℕ) (r s : Reply) → HasShortContext c → IsForOneThread c → IsForOneSchedule c → IsAnswer c text r →
       IsAnswer c text s → IsOfInput r → IsOfInput s → PrintsAs r s
   one_answer (command.Hex options) text r s h t o a b n m =
@@ -89,6 +91,11 @@ module _ (words : WordsAreDetermined) (encodings : EncodingsAreDetermined) (refu
       let maps = options.maps in
       one_of_file words encodings refusals firsts texts outcomes events files runs reports histories scripts (IsRunWithBuffers by maps)
       (λ f shape can p q x y one other. buffered (first_world_of f) by f.names maps p q x y (fresh f shape can) one other) text r s a b n m
+  one_answer (command.X86History options) text r s h t o a b n m =
+      let by = options.by.items in
+      let maps = options.maps in
+      one_of_file words encodings refusals firsts texts outcomes events files runs reports histories scripts (IsBufferHistory by maps)
+      (λ f shape can p q x y one other. noted (first_world_of f) by f.names maps p q x y (fresh f shape can) one other) text r s a b n m
   one_answer (command.Judge options) text r s h t o a b n m = one_judged files runs reports options.by.items options.keys text r s a b n m
   one_answer (command.Debug echo strict) text r s h t o a b n m = one_debug files runs scripts echo strict text r s a b n m
   one_answer (command.Explore options) text r s h t o a b n m = absurd o

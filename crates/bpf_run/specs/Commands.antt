@@ -8,7 +8,7 @@ use Rattle.bpf_replies.specs.Input.{RefusesInput}
 use Rattle.bpf_replies.specs.Programs.{IsAssembled, IsAssembledRun, IsDisassembled, IsRun}
 use Rattle.bpf_replies.specs.Reordering.{IsExploredFileOnX86}
 use Rattle.bpf_run.specs.Racing.{AreRacesOf, IsRacesFile}
-use Rattle.bpf_replies.specs.Running.{IsHistoryOfFile, IsRunBy, IsRunWithBuffersOfFile, IsRunWithPacketsOfFile}
+use Rattle.bpf_replies.specs.Running.{IsBufferHistoryOfFile, IsHistoryOfFile, IsRunBy, IsRunWithBuffersOfFile, IsRunWithPacketsOfFile}
 use Rattle.bpf_replies.specs.Script.{IsScriptOfFile}
 use Rattle.bpf_command.specs.declared.command.Command.{Command}
 use Rattle.bpf_command.specs.declared.command.Command.TheVariants as command
@@ -33,6 +33,8 @@ IsAnswer (command.Packets options) text r =
     IsRunWithPacketsOfFile options.by.items options.keys options.maps text r
 IsAnswer (command.X86 options) text r =
     IsRunWithBuffersOfFile options.by.items options.maps text r
+IsAnswer (command.X86History options) text r =
+    IsBufferHistoryOfFile options.by.items options.maps text r
 IsAnswer (command.Judge options) text r = IsJudgedOfFile options.by.items options.keys text r
 IsAnswer (command.Explore options) text r = IsExploredFile options.patient options.limit text r
 IsAnswer (command.ExploreX86 options) text r = IsExploredFileOnX86 options.limit text r

@@ -100,7 +100,7 @@ impl Subject {
             Command::Run(FileOptions { by, .. })
             | Command::History(HistoryOptions { by, .. })
             | Command::Packets(HistoryOptions { by, .. }) => Subject::turns(by),
-            Command::X86(_) => Subject::Buffers,
+            Command::X86(_) | Command::X86History(_) => Subject::Buffers,
             Command::Show(_) => Subject::Shown,
             Command::Judge(_) => Subject::Tests,
             Command::Debug { .. } => Subject::Script,

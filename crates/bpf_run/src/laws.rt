@@ -22,6 +22,7 @@ pub fn replies_are_determined()
     bpf_debug::laws::scripts_are_determined();
     bpf_packets::laws::reports_with_packets_are_determined();
     bpf_flushes::laws::reports_with_buffers_are_determined();
+    bpf_buffer_events::laws::histories_with_buffers_are_determined();
 }
 
 /// What `check` finds of data races is so.

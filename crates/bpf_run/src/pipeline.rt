@@ -14,8 +14,8 @@ use bpf_replies::refusal::Refusal;
 use bpf_replies::reordering::explore_file_with_buffers;
 use bpf_replies::reply::Reply;
 use bpf_replies::running::{
-    Extras, judge_file, run_file, run_file_by_workers, run_file_with_buffers,
-    run_file_with_history, run_file_with_packets,
+    Extras, judge_file, run_file, run_file_by_workers, run_file_with_buffer_events,
+    run_file_with_buffers, run_file_with_history, run_file_with_packets,
 };
 use bpf_replies::script::debug_file;
 use std::alloc::Global;
@@ -61,6 +61,9 @@ fn answer_to<O: Observer>(
             run_file_with_packets(alloc, &by, keys, maps, text)
         }
         Command::X86(X86Options { by, maps }) => run_file_with_buffers(alloc, &by, maps, text),
+        Command::X86History(X86Options { by, maps }) => {
+            run_file_with_buffer_events(alloc, &by, maps, text)
+        }
         Command::Judge(JudgeOptions { by, keys }) => judge_file(alloc, &by, keys, text),
         Command::Explore(search) => explore_file(alloc, search, text, observer),
         Command::ExploreX86(search) => {

@@ -106,7 +106,7 @@ For more information, try 'ebpf run --help'.";
 
 const TWO_WAYS: &str = "\
 '--workers' goes with none of '--by', '--events', '--packets' and '--check', nor any of the last three with another,
-and '--x86' goes with none of '--workers', '--events', '--packets', '--check' and '--keys'
+and '--x86' goes with none of '--workers', '--packets', '--check' and '--keys'
 
 For more information, try 'ebpf run --help'.";
 

@@ -1,7 +1,6 @@
 -- What a recorder notes of a turn before it is made.
 use Rattle.std.specs.Prelude.{◌≡◌, ℕ, ◌<◌, ◌≤◌, true, false, List, [], ◌∷◌, ◌++◌, Option, Some, None, length, map}
 use Rattle.bpf_shared.specs.Shape.{Shape}
-use Rattle.bpf_mem.specs.Limits.{max_context}
 use Rattle.bpf_shared.specs.declared.events.Event.{Event}
 use Rattle.bpf_shared.specs.declared.events.Event.TheVariants.{Begin}
 use Rattle.bpf_shared.specs.Store.{Plain}
@@ -10,7 +9,6 @@ use Rattle.bpf_shared.specs.Choice.{PlainlyAllowed}
 use Rattle.bpf_plain.specs.PlainStore.{StandsFor, held_spans, is_running}
 use Rattle.bpf_helpers.specs.Held.{AreHeld}
 use Rattle.bpf_loader.specs.Loaded.{Loaded}
-use Rattle.bpf_cpu.specs.Input.{IsShort}
 use Rattle.bpf_cpu.specs.declared.input.Input.{Input}
 use Rattle.bpf_cpu.specs.declared.cpu.Cpu.{Cpu}
 use Rattle.bpf_cpu.specs.State.{start}
@@ -46,8 +44,7 @@ NotesStage program c (Ended outcome) budget x y pc = ⊥
 
 -- a CPU's job in this stage fits the store that the recorder has
 abbrev pub FitsStage : Loaded → ℕ → Stage → Recording → Type 0
-FitsStage program c (Waiting input) x =
-    (IsShort input) × (is_running x.store c ≡ false)
+FitsStage program c (Waiting input) x = is_running x.store c ≡ false
 FitsStage program c (InHand state left) x = (state.number ≡ c) × IsReady program state
     × AreHeld (held_spans x.store c) state.held × (is_running x.store c ≡ true)
 FitsStage program c (Ended outcome) x = ⊥

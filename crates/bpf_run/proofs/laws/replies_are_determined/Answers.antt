@@ -7,3 +7,4 @@ returns c = law c.words_are_determined.ensures c.encodings_are_determined.ensure
     c.files_are_determined.ensures c.files_can_run.ensures c.reports_by_are_determined.ensures c.histories_are_determined.ensures
     c.scripts_are_determined.ensures
     c.reports_with_packets_are_determined.ensures c.reports_with_buffers_are_determined.ensures
+    c.histories_with_buffers_are_determined.ensures

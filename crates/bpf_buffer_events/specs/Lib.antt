@@ -1,0 +1,3 @@
+pub mod Happenings
+pub mod Printed
+pub mod Private
