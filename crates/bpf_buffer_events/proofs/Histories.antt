@@ -1,5 +1,5 @@
 -- The history of a run with store buffers, and what follows from its definition.
-use Rattle.std.proofs.Common.{◌≡◌, ◌∙◌, ℕ, zero, suc, Bool, List, [], ◌∷◌, ◌++◌, inl, inr, refl, sym, ap, subst}
+use Rattle.std.proofs.Common.{◌≡◌, ◌∙◌, ℕ, zero, suc, Bool, List, [], ◌∷◌, ◌++◌, inl, refl, sym, ap}
 use Rattle.std.specs.Prelude.{map, nat_lt, string_bytes}
 use Rattle.bpf_shared.specs.Shape.{Shape}
 use Rattle.bpf_names.specs.Names.{Names}
@@ -10,7 +10,6 @@ use Rattle.bpf_machine.specs.Schedule.{World, unrolled}
 use Rattle.bpf_x86.specs.Machine.{X86, Move, TurnOf, FlushOf, drained}
 use Rattle.bpf_buffering.specs.Search.{ShowsX86, move_of}
 use Rattle.bpf_flushes.specs.Moves.{Makes, MakesAll, MakesRounds, round_below}
-use Rattle.bpf_flushes.specs.Printed.{IsReportWithBuffers}
 use Rattle.bpf_jobs.specs.Printed.{Tells}
 use Rattle.bpf_buffer_events.specs.Happenings.{Item, MakesWith, MakesAllWith, MakesRoundsWith}
 use Rattle.bpf_buffer_events.specs.Printed.{item_lines, IsHistoryWithBuffers, HistoriesAreOfReportsWithBuffers}

@@ -54,6 +54,17 @@ flush_more names c start text later stores i d inside before after =
     (lines_both names (flushed (take i stores)) (flushed (last ∷ [])) start text later before
     (one_line names (Flushed c (buffers.event_of last)) text later after))
 
+-- of what a call drains, if it drains
+pub drained_lines : (names : List (List ℕ)) (c : ℕ) (w : List Event) (b : Bool) (start later : List ℕ) → b ≡ true
+    → later ≡ start ++ item_lines names (map (Flushed c) w) → later ≡ start ++ item_lines names (map (Flushed c) (if b then w else []))
+drained_lines names c w true start later drains lines = lines
+drained_lines names c w false start later drains lines = let no : false ≡ true = drains in cc
+
+pub undrained_lines : (names : List (List ℕ)) (c : ℕ) (w : List Event) (b : Bool) (text : List ℕ) → b ≡ false
+    → text ≡ text ++ item_lines names (map (Flushed c) (if b then w else []))
+undrained_lines names c w true text stays = let no : true ≡ false = stays in cc
+undrained_lines names c w false text stays = no_lines names text
+
 -- ---- calls
 pub all-append : (w : List Event) (es fs : List Event) → all_after w (es ++ fs) ≡ all_after (all_after w es) fs
 all-append w [] fs = refl
@@ -70,12 +81,11 @@ module _ (c : ℕ) (there : Event → Happening) where
       ∙ sym (append_assoc first (Called (there e) ∷ rest) last)
 
   -- a call's lines, after those of what it drains
-  pub call_lines : (names : List (List ℕ)) (w : List Event) (e : Event) (b : Bool) (start mid later : List ℕ) → drains e ≡ b
-      → mid ≡ start ++ item_lines names (map (Flushed c) (if b then w else [])) → later ≡ mid ++ happening_line names (there e)
+  pub call_lines : (names : List (List ℕ)) (w : List Event) (e : Event) (start mid later : List ℕ)
+      → mid ≡ start ++ item_lines names (map (Flushed c) (if drains e then w else [])) → later ≡ mid ++ happening_line names (there e)
       → later ≡ start ++ item_lines names (items c there w (e ∷ []))
-  call_lines names w e b start mid later drained before after =
-      lines_both names (map (Flushed c) (if drains e then w else [])) (Called (there e) ∷ []) start mid later
-      (subst (λ (x : Bool). mid ≡ start ++ item_lines names (map (Flushed c) (if x then w else []))) (sym drained) before)
+  call_lines names w e start mid later before after =
+      lines_both names (map (Flushed c) (if drains e then w else [])) (Called (there e) ∷ []) start mid later before
       (one_line names (Called (there e)) mid later after)
 
   pub calls_both : (names : List (List ℕ)) (w v : List Event) (es fs : List Event) (start mid later : List ℕ) → v ≡ all_after w es

@@ -1,9 +1,10 @@
 -- Moves that follow each other, as they are printed.
-use Rattle.std.proofs.Common.{◌≡◌, ◌∙◌, Bool, true, false, Option, Some, None, ℕ, zero, suc, ◌+◌, ◌-◌, ◌<◌, ◌≤◌, List, [], ◌∷◌, ◌++◌, append_assoc}
-use Rattle.std.proofs.Common.{append-nil, length, take, replicate, get_or, map, ◌⊎◌, inl, inr, refl, sym, ap, subst, arith}
+use Rattle.std.proofs.Common.{◌≡◌, ◌∙◌, Bool, true, false, Option, ℕ, zero, suc, ◌+◌, ◌-◌, ◌<◌, ◌≤◌, List, [], ◌∷◌, ◌++◌, append_assoc}
+use Rattle.std.proofs.Common.{append-nil, length, take, drop, replicate, get_or, map, inl, inr, refl, sym, ap, subst, arith}
 use Rattle.std.proofs.lemmas.List.{map-append, replicate-append-replicate, take_more, take_all}
+use Rattle.std.proofs.lemmas.Bool.{eqb-true}
 use Rattle.std.proofs.lemmas.Grind.{replicate_next}
-use Rattle.std.specs.Prelude.{nat_lt, string_bytes}
+use Rattle.std.specs.Prelude.{◌==◌, nat_lt, string_bytes}
 use Rattle.bpf_shared.specs.declared.events.Event.{Event}
 use Rattle.bpf_plain.specs.PlainStore.{has_cpu}
 use Rattle.bpf_machine.specs.declared.machine.Turn.{Turn}
@@ -12,18 +13,22 @@ use Rattle.bpf_cpu.specs.Task.{Task}
 use Rattle.bpf_machine.specs.Hands.{IsFree, NoneWaits}
 use Rattle.bpf_machine.specs.Rounds.{HaveEnded}
 use Rattle.bpf_machine.specs.Schedule.{unrolled}
+use Rattle.bpf_machine.specs.Parts.{IsSameHost}
 use Rattle.bpf_machine.proofs.RoundLaws.{cpus_shown}
-use Rattle.bpf_x86.specs.Machine.{X86, Move, TurnOf, FlushOf, Moves}
+use Rattle.bpf_x86.specs.Machine.{X86, Move, TurnOf, FlushOf}
+use Rattle.bpf_buffering.specs.declared.waiting.Stored.{Stored}
 use Rattle.bpf_buffering.specs.Buffering.{TurnsTo}
 use Rattle.bpf_buffering.specs.Search.{BufferedState, ShowsX86, MovesTo, buffer_at, move_of}
-use Rattle.bpf_flushes.specs.Moves.{Makes, IdlesAt, round_below}
+use Rattle.bpf_buffering.specs.Waiting as buffers
+use Rattle.bpf_flushes.specs.Moves.{round_below}
 use Rattle.bpf_flushes.proofs.Turning.{idles}
-use Rattle.bpf_buffer_events.specs.Happenings.{Item, Flushed, Happens, oldest, MakesWith, MakesAllWith, MakesRoundsWith}
-use Rattle.bpf_buffer_events.specs.Printed.{item_lines}
+use Rattle.bpf_buffer_events.specs.Happenings.{Item, Flushed, Happens, oldest, MakesWith, MakesAllWith}
+use Rattle.bpf_buffer_events.specs.Printed.{item_line, item_lines}
 use Rattle.bpf_buffer_events.specs.Private.Told.{AreTold, By, SomeRounds, TellsRound}
-use Rattle.bpf_buffer_events.specs.Private.Watched.{IsWatched, noted}
+use Rattle.bpf_buffer_events.specs.Private.Watched.{AreWatched, IsWatched, noted}
 use Rattle.bpf_buffer_events.specs.declared.telling.Scene.{Scene}
-use Rattle.bpf_buffer_events.proofs.Items.{lines_both, no_lines}
+use Rattle.bpf_buffer_events.specs.declared.watching.Watcher.{Watcher}
+use Rattle.bpf_buffer_events.proofs.Items.{lines_both, no_lines, one_line}
 
 pub told_join : (p q r : X86 → List Item → X86 → Type 0) (names : List (List ℕ)) (old mid new : Scene)
     → ((x y z : X86) (xs ys : List Item) → p x xs y → q y ys z → r x (xs ++ ys) z) → AreTold p names old mid → AreTold q names mid new
@@ -57,6 +62,14 @@ moves_both ms ns names old mid new before after =
 
 pub nothing_told : (names : List (List ℕ)) (old : Scene) → AreTold (By []) names old old
 nothing_told names old x shows = (x, [], (refl, refl), shows, no_lines names (string_bytes old.text))
+
+-- the stores of what notes a machine's turns have the shape of the machine's after a move too
+pub still_watched : (old new : BufferedState) (w : Watcher) → IsSameHost old.machine new.machine → AreWatched old w → AreWatched new w
+still_watched old new w host watched =
+    let kept = host.shape in (
+      (λ c. watched.0.0 c ∙ sym (kept.0 c), watched.0.1 ∙ sym kept.1),
+      (λ c. watched.1.0 c ∙ sym (kept.0 c), watched.1.1 ∙ sym kept.1),
+    )
 
 -- one move
 one_with : (x z : X86) (move : Move) (log : List Item) → MakesWith x move log z → MakesAllWith x (move ∷ []) log z
@@ -116,7 +129,23 @@ idle_told c at events waiting answer names old new watched waits turn is idle n 
     )
 
 -- ---- a flush
-pub flush_told : (c : ℕ) (e : Event) (rest : List Event) (flushed : Bool) (names : List (List ℕ)) (old new : Scene)
+pub none_here : (xs : List Stored) (es : List Event) (b : Bool) → b ≡ (length xs == 0) → b ≡ true → map buffers.event_of xs ≡ es → es ≡ []
+none_here [] es b is none all = sym all
+none_here (x ∷ xs) es b is none all =
+    let zero : length (x ∷ xs) ≡ 0 = eqb-true (length (x ∷ xs)) 0 (sym is ∙ none) in
+    absurd (omega (arith, zero))
+
+pub some_here : (xs : List Stored) (b : Bool) → b ≡ (length xs == 0) → b ≡ false → 0 < length xs
+some_here [] b is some = let no : false ≡ true = sym some ∙ is in cc
+some_here (x ∷ xs) b is some = omega arith
+
+-- the oldest of what waits
+oldest_waits : (xs : List Stored) (d : Stored) (es : List Event) → 0 < length xs → map buffers.event_of xs ≡ es
+    → es ≡ buffers.event_of (get_or xs 0 d) ∷ map buffers.event_of (drop 1 xs)
+oldest_waits [] d es some is = absurd (omega arith)
+oldest_waits (x ∷ xs) d es some is = sym is
+
+flush_told : (c : ℕ) (e : Event) (rest : List Event) (flushed : Bool) (names : List (List ℕ)) (old new : Scene)
     → buffer_at old.machine.buffers c ≡ e ∷ rest → (flushed ≡ true → MovesTo old.machine (FlushOf c) new.machine)
     → (flushed ≡ false → buffer_at old.machine.buffers c ≡ [])
     → string_bytes new.text ≡ string_bytes old.text ++ item_lines names (Flushed c e ∷ []) → AreTold (By (FlushOf c ∷ [])) names old new
@@ -126,6 +155,16 @@ flush_told c e rest true names old new waits moves none is x shows =
     let log : map (Flushed c) (oldest (x.buffers c)) ≡ Flushed c e ∷ [] = ap (λ (es : List Event). map (Flushed c) (oldest es)) first in
     (r.0, Flushed c e ∷ [], one_with x r.0 (FlushOf c) (Flushed c e ∷ []) (inl r.1, sym log), r.2, is)
 flush_told c e rest false names old new waits moves none is x shows = let no : [] ≡ e ∷ rest = sym (none refl) ∙ waits in cc
+
+pub oldest_told : (c : ℕ) (xs : List Stored) (d : Stored) (flushed : Bool) (names : List (List ℕ)) (old new : Scene) → 0 < length xs
+    → map buffers.event_of xs ≡ buffer_at old.machine.buffers c → (flushed ≡ true → MovesTo old.machine (FlushOf c) new.machine)
+    → (flushed ≡ false → buffer_at old.machine.buffers c ≡ [])
+    → string_bytes new.text ≡ string_bytes old.text ++ item_line names (Flushed c (buffers.event_of (get_or xs 0 d)))
+    → AreTold (By (FlushOf c ∷ [])) names old new
+oldest_told c xs d flushed names old new some is moves none line =
+    let e = buffers.event_of (get_or xs 0 d) in
+    flush_told c e (map buffers.event_of (drop 1 xs)) flushed names old new (oldest_waits xs d (buffer_at old.machine.buffers c) some is) moves none
+    (one_line names (Flushed c e) (string_bytes old.text) (string_bytes new.text) line)
 
 pub nothing_flushed : (c : ℕ) (names : List (List ℕ)) (old : Scene) → buffer_at old.machine.buffers c ≡ [] → (n : ℕ)
     → AreTold (By (replicate n (FlushOf c))) names old old

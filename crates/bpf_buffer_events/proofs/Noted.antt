@@ -1,5 +1,5 @@
 -- What is noted of a turn of the x86 machine before it is made happens in it.
-use Rattle.std.proofs.Common.{◌≡◌, ◌<◌, ◌∙◌, ℕ, zero, suc, Bool, true, false, List, [], ◌∷◌, ◌++◌, Option, Some, None, ◌⊎◌, inl, inr, refl}
+use Rattle.std.proofs.Common.{◌≡◌, ◌<◌, ◌∙◌, ℕ, zero, suc, Bool, true, false, List, [], ◌∷◌, ◌++◌, Some, None, ◌⊎◌, inl, inr, refl}
 use Rattle.std.proofs.Common.{sym, ap, subst, length, get_or}
 use Rattle.std.specs.Prelude.{slice_get}
 use Rattle.std.proofs.lemmas.Option.{slice_get_within, slice_get_read}
@@ -20,12 +20,13 @@ use Rattle.bpf_machine.specs.Hands.{IsAt, IsFree, NoneWaits, NoneWaitsBelow}
 use Rattle.bpf_machine.specs.Happenings.{happening, end_events, HasEvents}
 use Rattle.bpf_machine.specs.Machine.{MachineState}
 use Rattle.bpf_machine.specs.Work.{HasInHand, IsNext}
-use Rattle.bpf_x86.specs.Buffers.{Sees, Calls}
+use Rattle.bpf_x86.specs.Buffers.{Sees}
 use Rattle.bpf_x86.specs.Machine.{X86, buffered, with_buffered}
-use Rattle.bpf_buffering.specs.Buffering.{AreStores, IsSeenBy, Stands}
-use Rattle.bpf_buffering.specs.Search.{BufferedState, ShowsX86, buffer_at}
+use Rattle.bpf_x86.specs.Forwarding.{AreStores}
+use Rattle.bpf_buffering.specs.Buffering.{IsSeenBy, Stands}
+use Rattle.bpf_buffering.specs.Search.{BufferedState, buffer_at}
 use Rattle.bpf_events.specs.Watched.{Recording, FitsStage, NotesStage, NotesStep, NotesBegin}
-use Rattle.bpf_buffer_events.specs.Happenings.{Item, HasCalls, items}
+use Rattle.bpf_buffer_events.specs.Happenings.{HasCalls, items}
 use Rattle.bpf_buffer_events.specs.Private.Watched.{IsWatched, noted}
 use Rattle.bpf_buffer_events.proofs.Seen.{call_seen, calls_seen, stores_change_bytes}
 

@@ -17,19 +17,17 @@ use Rattle.bpf_cpu.proofs.DeterminedRuns.{start_memory, step_agrees}
 use Rattle.bpf_machine.specs.declared.machine.Turn.{Turn}
 use Rattle.bpf_machine.specs.Hands.{IsAt}
 use Rattle.bpf_machine.specs.Happenings.{happening, end_events}
-use Rattle.bpf_machine.specs.Laws.{IsFresh}
-use Rattle.bpf_machine.specs.Rounds.{HaveEnded}
-use Rattle.bpf_machine.specs.Schedule.{World, unrolled}
+use Rattle.bpf_machine.specs.Schedule.{unrolled}
 use Rattle.bpf_machine.proofs.DeterminedTurns.{IsWorld, same_stage, same_lowest, fresh_world}
-use Rattle.bpf_x86.specs.Buffers.{Buffered, CallsAll}
-use Rattle.bpf_x86.specs.Machine.{X86, Move, TurnOf, FlushOf, Moves, TakesTurn, buffered, with_buffered, drained}
+use Rattle.bpf_x86.specs.Buffers.{Buffered}
+use Rattle.bpf_x86.specs.Machine.{X86, Move, TurnOf, FlushOf, buffered, with_buffered, drained}
 use Rattle.bpf_jobs.specs.Printed.{Tells, job_lines}
 use Rattle.bpf_jobs.proofs.OneListing.{one_asked}
 use Rattle.bpf_buffering.specs.Search.{move_of}
-use Rattle.bpf_buffering.proofs.Determined.{OneMove, one_call, one_calls, call_sound, one_turn, one_move}
+use Rattle.bpf_buffering.proofs.Determined.{one_call, one_calls, call_sound, one_turn, one_move}
 use Rattle.bpf_flushes.specs.Moves.{Makes, round_below}
 use Rattle.bpf_buffer_events.specs.Happenings.{Item, Happens, HasCalls, items, MakesWith, MakesAllWith, MakesRoundsWith}
-use Rattle.bpf_buffer_events.specs.Printed.{item_lines, IsHistoryWithBuffers, HistoriesWithBuffersAreDetermined}
+use Rattle.bpf_buffer_events.specs.Printed.{item_lines, HistoriesWithBuffersAreDetermined}
 
 module _ (law : WritesAreDetermined) (begins : OneInstructionBegins) (replies : CallsHaveOneReply) where
   one_step : (x : X86) (c number : ℕ) (old : Cpu) (left : ℕ) (es fs : List Event) → IsSoundStore x.world.store → IsMemory old.memory

@@ -5,8 +5,8 @@ use Rattle.std.specs.FinMap.{get}
 use Rattle.std.proofs.lemmas.List.{map-append}
 use Rattle.bpf_shared.specs.declared.events.Entry.{Entry}
 use Rattle.bpf_shared.specs.declared.events.Event.{Event}
-use Rattle.bpf_shared.specs.declared.events.Event.TheVariants.{Begin, End, Lookup, Update, Delete, Keys, Load, Store, Atomic}
-use Rattle.bpf_shared.specs.declared.events.MapAnswer.TheVariants.{Done, Invalid, Busy, Exists, Absent, Full, NoMemory}
+use Rattle.bpf_shared.specs.declared.events.Event.TheVariants.{Lookup, Update, Load, Store}
+use Rattle.bpf_shared.specs.declared.events.MapAnswer.TheVariants.{Invalid}
 use Rattle.bpf_shared.specs.declared.events.Size.{Size}
 use Rattle.bpf_shared.specs.declared.events.Span.{Span}
 use Rattle.bpf_shared.specs.Access.{bytes_in}
@@ -125,7 +125,7 @@ module _ (b : Buffered) (c : ℕ) (stores : AreStores (b.buffers c)) where
       → (t : Buffered) × ((d : Buffered) × Drains b c d × AsksMemory d c e t) × Sees t c u × AreStores (t.buffers c)
   drained e s u sees a =
       let none : put b.buffers c [] c ≡ [] = put-same b.buffers c c [] refl in
-      let d = record { memory = s; buffers = put b.buffers c [] } in (
+      let d : Buffered = record { memory = s; buffers = put b.buffers c [] } in (
         record d { memory = u },
         (d, (s, sees, refl), (u, a, refl)),
         subst (λ (es : List Event). PlainlyLegal u (map (entry c) es) u) (sym none) refl,

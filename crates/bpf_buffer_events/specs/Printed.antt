@@ -1,5 +1,5 @@
 -- What is printed of jobs on CPUs with store buffers together with all that happens. Our own choice.
-use Rattle.std.specs.Prelude.{◌≡◌, ℕ, Bool, List, [], ◌∷◌, ◌++◌}
+use Rattle.std.specs.Prelude.{◌≡◌, ℕ, Bool, List, [], ◌∷◌, ◌++◌, codes}
 use Rattle.std.specs.Fmt.{decimal}
 use Rattle.bpf_names.specs.Names.{Names}
 use Rattle.bpf_machine.specs.Laws.{IsFresh}

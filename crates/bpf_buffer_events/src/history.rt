@@ -3,6 +3,7 @@
 ghost use Rattle.std.specs.Prelude.{◌≡◌, [], IfOk, string_bytes};
 ghost use Rattle.bpf_names.specs.Names.{names_of};
 ghost use Rattle.bpf_cpu.specs.Setup.{IsRunnable};
+ghost use Rattle.bpf_machine.specs.Schedule.{World};
 ghost use Rattle.bpf_x86.specs.Machine.{drained};
 ghost use Rattle.bpf_buffering.specs.Search.{ShowsX86};
 ghost use Rattle.bpf_jobs.specs.Printed.{first_of};
@@ -46,6 +47,27 @@ fn begin(alloc: Global, setup: Setup) -> Result<Scene, AllocError>
     })
 }
 
+/// Makes the moves of a schedule and rounds after them, and appends their lines to the text, and after
+/// these what is printed of the machine then. Whether some job ended in a fault or out of budget.
+fn push_history(
+    alloc: Global,
+    scene: &mut Scene,
+    names: &Names,
+    moves: &[(u8, u64)],
+    maps: bool,
+) -> Result<bool, AllocError>
+    requires { AreWatched scene.old.machine scene.old.watcher }
+    ensures { IfOk result (λ stopped. (w : World) → ShowsX86 scene.old.machine (drained w)
+        → string_bytes scene.old.text ≡ [] → IsHistoryWithBuffers w moves.now
+        (names_of names.now) maps (string_bytes scene.new.text) stopped) }
+{
+    make_moves(alloc, scene, &names.maps, moves)?;
+    make_rounds(alloc, scene, &names.maps)?;
+    let report = tell(alloc, &scene.machine, names, maps)?;
+    scene.text.push_str(report.text.as_str())?;
+    Ok(report.stopped)
+}
+
 /// Runs jobs on CPUs with store buffers, over a new store whose maps, arrays and variables have these
 /// names: first the moves of a schedule, each with how often it is made, then rounds until each job
 /// has ended. The text has a line for each call of the store and for each waiting store that reaches
@@ -63,10 +85,7 @@ pub fn run_with_buffer_events(
         (names_of names.now) maps (string_bytes r.text) r.stopped) }
 {
     let mut scene = begin(alloc, setup)?;
-    make_moves(alloc, &mut scene, &names.maps, moves)?;
-    make_rounds(alloc, &mut scene, &names.maps)?;
-    let Report { text, stopped } = tell(alloc, &scene.machine, names, maps)?;
-    scene.text.push_str(text.as_str())?;
+    let stopped = push_history(alloc, &mut scene, names, moves, maps)?;
     Ok(Report {
         text: scene.text,
         stopped,

@@ -1,7 +1,6 @@
 //! What a turn does at the store, noted before the turn is made.
 
 ghost use Rattle.std.specs.Prelude.{IfOk};
-ghost use Rattle.bpf_plain.specs.Alike.{IsSameShape};
 ghost use Rattle.bpf_buffer_events.specs.Private.Watched.{AreWatched, IsWatched};
 
 use bpf_buffering::Buffering;

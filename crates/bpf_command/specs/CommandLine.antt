@@ -10,7 +10,7 @@ use Rattle.clap.specs.Values.{IsUnsignedIn}
 use Rattle.clap.specs.Words.{App, Row, Rule, Text, all_of, new_app, new_rule, one_of, with_rule, with_subcommand}
 use Rattle.clap.specs.declared.builder.action.ArgAction.TheVariants.{Append, SetTrue}
 use Rattle.clap.specs.declared.builder.value_parser.ValueParser.TheVariants.{Unsigned}
-use Rattle.bpf_command.specs.declared.command.TheConstants.{MAX_LIMIT, MAX_WORKERS, X86_LIMIT}
+use Rattle.bpf_command.specs.declared.command.TheConstants.{MAX_LIMIT, MAX_WORKERS}
 use Rattle.bpf_base.specs.declared.budget.TheConstants.{MAX_BUDGET}
 
 -- an option `--ID N`: 0 to `most`, and 1,000,000 where it is left out
@@ -383,19 +383,11 @@ wants_one rows = names_several rows && (names_input rows || is_given (codes "exp
 abbrev pub counts_alone : List Row → Bool
 counts_alone rows = is_given (codes "stats") rows && not (is_given (codes "workers") rows)
 
--- how many states a search may keep: where none is given, one with store buffers fewer than another
-abbrev pub uses_x86_limit : List Row → Bool
-uses_x86_limit rows = is_given (codes "x86") rows && not (is_given (codes "limit") rows)
-
-abbrev pub NamesLimitBy : Bool → List Row → ℕ → Type 0
-NamesLimitBy true rows n = n ≡ X86_LIMIT
-NamesLimitBy false rows n = NamesLimit rows n
-
 -- what a search through flushes of store buffers doesn't do is asked for beside it
 abbrev pub wants_no_flushes : List Row → Bool
 wants_no_flushes rows = is_given (codes "x86") rows
     && (is_given (codes "patient") rows || (is_given (codes "races") rows
-    || (is_given (codes "sync") rows || is_given (codes "show") rows)))
+    || is_given (codes "sync") rows))
 
 -- maps of locks are named without `--races`, or an outcome is asked for beside it
 abbrev pub do_part_races : List Row → Bool

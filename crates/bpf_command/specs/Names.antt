@@ -11,8 +11,8 @@ use Rattle.hex.specs.Hex.{decode_of}
 use Rattle.clap.specs.Kinds.{IsAmong}
 use Rattle.clap.specs.Takes.{is_given}
 use Rattle.clap.specs.Words.{Row, Text, fault_of, first_of, kind_of, subcommand_of}
-use Rattle.bpf_command.specs.CommandLine.{NamesBudget, NamesLimitBy, NamesShown, NamesWorkers, IsRunnerName, counts_alone, do_clash}
-use Rattle.bpf_command.specs.CommandLine.{do_part, do_part_races, ebpf, given_texts, names_several, uses_x86_limit, wants_no_flushes}
+use Rattle.bpf_command.specs.CommandLine.{NamesBudget, NamesLimit, NamesShown, NamesWorkers, IsRunnerName, counts_alone, do_clash}
+use Rattle.bpf_command.specs.CommandLine.{do_part, do_part_races, ebpf, given_texts, names_several, wants_no_flushes}
 use Rattle.bpf_command.specs.CommandLine.{wants_one}
 use Rattle.bpf_command.specs.declared.command.RunOptions.{RunOptions}
 use Rattle.bpf_command.specs.declared.command.CheckOptions.{CheckOptions}
@@ -71,7 +71,7 @@ NamesRun rows options = NamesBudget rows options.budget
 
 -- the options of a search
 abbrev pub NamesSearch : List Row → SearchOptions → Type 0
-NamesSearch rows options = NamesLimitBy (uses_x86_limit rows) rows options.limit
+NamesSearch rows options = NamesLimit rows options.limit
     × (options.patient ≡ is_given (codes "patient") rows)
     × (options.progress ≡ is_given (codes "progress") rows)
     × (options.all_states ≡ is_given (codes "all-states") rows)
@@ -142,13 +142,17 @@ Names (Some found) (command.Explore options) = (found.0 ≡ codes "explore")
     × (do_part_races found.1 ≡ false) × (is_given (codes "races") found.1 ≡ false)
     × (is_given (codes "x86") found.1 ≡ false)
 Names (Some found) (command.ExploreX86 options) = (found.0 ≡ codes "explore")
-    × NamesSearch found.1 options
-    × (do_part_races found.1 ≡ false) × (wants_no_flushes found.1 ≡ false)
-    × (is_given (codes "x86") found.1 ≡ true)
+    × NamesSearch found.1 options × NamesShown found.1 None
+    × (do_part_races found.1 ≡ false) × (is_given (codes "races") found.1 ≡ false)
+    × (wants_no_flushes found.1 ≡ false) × (is_given (codes "x86") found.1 ≡ true)
 Names (Some found) (command.Show options) = (found.0 ≡ codes "explore")
     × NamesSearch found.1 options.search × NamesShown found.1 (Some options.outcome)
     × (do_part_races found.1 ≡ false) × (is_given (codes "races") found.1 ≡ false)
-    × (wants_no_flushes found.1 ≡ false)
+    × (is_given (codes "x86") found.1 ≡ false)
+Names (Some found) (command.ShowX86 options) = (found.0 ≡ codes "explore")
+    × NamesSearch found.1 options.search × NamesShown found.1 (Some options.outcome)
+    × (do_part_races found.1 ≡ false) × (is_given (codes "races") found.1 ≡ false)
+    × (wants_no_flushes found.1 ≡ false) × (is_given (codes "x86") found.1 ≡ true)
 Names (Some found) (command.Races options) = (found.0 ≡ codes "explore")
     × NamesRaces found.1 options
     × (do_part_races found.1 ≡ false) × (is_given (codes "races") found.1 ≡ true)

@@ -15,10 +15,6 @@ pub const MAX_WORKERS: u8 = 16;
 /// The greatest limit that may be asked for.
 pub const MAX_LIMIT: u64 = 1_000_000_000;
 
-/// The states that a search with store buffers keeps where no limit is given: as many as without. Each takes
-/// some 100 bytes.
-pub const X86_LIMIT: u64 = 1_000_000;
-
 /// The options of a run of one program, in their ranges.
 #[derive(PartialEq, Eq, Debug, Drop)]
 pub struct RunOptions {
@@ -158,8 +154,10 @@ pub enum Command {
     Explore(SearchOptions),
     /// Find what they can reach on CPUs with store buffers.
     ExploreX86(SearchOptions),
-    /// Tell all that happens on the way to one of these outcomes.
+    /// Print all that happens on the way to one of the outcomes of every schedule.
     Show(ShowOptions),
+    /// Print all that happens on the way to one of the outcomes on CPUs with store buffers.
+    ShowX86(ShowOptions),
     /// Find the data races of all schedules.
     Races(RaceOptions),
     /// Tell by every schedule whether a run file's outcomes are as its comments expect.

@@ -5,12 +5,12 @@ ghost use Rattle.bpf_explain.specs.Term.{topic_of};
 ghost use Rattle.clap.specs.Kinds.{FailsBy};
 ghost use Rattle.clap.specs.Takes.{is_given};
 ghost use Rattle.clap.specs.Words.{fault_of, first_of, first_value, found_of, rows_of, subcommand_name_of, subcommand_of, subcommand_rows_of};
-ghost use Rattle.bpf_command.specs.CommandLine.{ebpf, counts_alone, do_clash, do_part, do_part_races, HasBudget, HasLimit, HasShown, HasWorkers, IsCommandName, IsRunnerName, IsSearchName, IsWorkName, names_several, NamesBudget, NamesLimit, NamesLimitBy, NamesShown, NamesWorkers, uses_x86_limit, wants_no_buffers, wants_no_flushes, wants_one};
+ghost use Rattle.bpf_command.specs.CommandLine.{ebpf, counts_alone, do_clash, do_part, do_part_races, HasBudget, HasLimit, HasShown, HasWorkers, IsCommandName, IsRunnerName, IsSearchName, IsWorkName, names_several, NamesBudget, NamesLimit, NamesShown, NamesWorkers, wants_no_buffers, wants_no_flushes, wants_one};
 ghost use Rattle.bpf_command.specs.Names.{AreMoves, Asks, AsksBy, file_in, IsContext, IsSchedule, Names, NamesCheck, NamesRaces, NamesRun, NamesSearch, Refuses, RefusesContext, RefusesFlags, RefusesFound, RefusesMoves, RefusesSchedule, as_flags, flag_of};
 
 use crate::command::{
     CheckOptions, Command, FileOptions, HistoryOptions, JudgeOptions, MAX_LIMIT, MAX_WORKERS,
-    RaceOptions, Request, RunOptions, SearchOptions, ShowOptions, X86_LIMIT, X86Options,
+    RaceOptions, Request, RunOptions, SearchOptions, ShowOptions, X86Options,
 };
 use crate::given::{given_texts, names_input, names_several};
 use crate::options::ebpf_command;
@@ -45,7 +45,7 @@ pub enum CommandError {
     NoRun,
     /// Maps of locks are named without `--races`, or an outcome is asked for beside it.
     NoRaces,
-    /// What is of turns alone is asked of a search beside store buffers: patience, races, or one outcome.
+    /// What is of turns alone is asked of a search beside store buffers: patience, or races.
     TurnsAlone,
     /// The page is asked for of what is no code that the program prints, nor another name with one.
     NoCode,
@@ -169,27 +169,6 @@ fn limit_of(options: &ArgMatches) -> u64
         unreachable!();
     };
     limit
-}
-
-/// Whether a search with store buffers is asked for, and no limit.
-fn uses_x86_limit(options: &ArgMatches) -> bool
-    ensures { result ≡ uses_x86_limit (rows_of (found_of options.now)) }
-{
-    is_given(options, "x86") && !is_given(options, "limit")
-}
-
-/// How many states a search may keep.
-fn states_of(options: &ArgMatches) -> u64
-    requires limited { HasLimit (rows_of (found_of options.now)) }
-    ensures named { NamesLimitBy (uses_x86_limit (rows_of (found_of options.now)))
-        (rows_of (found_of options.now)) result }
-    ensures limited { result ≤ MAX_LIMIT }
-{
-    if uses_x86_limit(options) {
-        X86_LIMIT
-    } else {
-        limit_of(options)
-    }
 }
 
 /// What `clap` reads of `--show`, if it is given.
@@ -361,7 +340,7 @@ fn search_of(options: &ArgMatches) -> SearchOptions
     ensures { NamesSearch (rows_of (found_of options.now)) result }
 {
     SearchOptions {
-        limit: states_of(options),
+        limit: limit_of(options),
         patient: is_given(options, "patient"),
         progress: is_given(options, "progress"),
         all_states: is_given(options, "all-states"),
@@ -388,10 +367,7 @@ fn wants_no_flushes(options: &ArgMatches) -> bool
     ensures { result ≡ wants_no_flushes (rows_of (found_of options.now)) }
 {
     is_given(options, "x86")
-        && (is_given(options, "patient")
-            || is_given(options, "races")
-            || is_given(options, "sync")
-            || is_given(options, "show"))
+        && (is_given(options, "patient") || is_given(options, "races") || is_given(options, "sync"))
 }
 
 /// The check of one file.
@@ -448,11 +424,11 @@ fn explore_of(alloc: Global, options: &ArgMatches) -> Result<Command, CommandErr
         return Ok(Command::Races(races));
     }
     let search = search_of(options);
-    if is_given(options, "x86") {
-        return Ok(Command::ExploreX86(search));
-    }
+    let x86 = is_given(options, "x86");
     match shown_of(options) {
+        Some(outcome) if x86 => Ok(Command::ShowX86(ShowOptions { outcome, search })),
         Some(outcome) => Ok(Command::Show(ShowOptions { outcome, search })),
+        None if x86 => Ok(Command::ExploreX86(search)),
         None => Ok(Command::Explore(search)),
     }
 }

@@ -8,6 +8,6 @@ mod options;
 
 pub use command::{
     CheckOptions, Command, FileOptions, HistoryOptions, JudgeOptions, MAX_LIMIT, MAX_WORKERS,
-    RaceOptions, Request, RunOptions, SearchOptions, ShowOptions, X86_LIMIT, X86Options,
+    RaceOptions, Request, RunOptions, SearchOptions, ShowOptions, X86Options,
 };
 pub use command_line::{CommandError, request_of};

@@ -160,15 +160,24 @@ event_object k e = codes "{\"cpu\":" ++ (decimal e.cpu ++ (codes ",\"job\":" ++ 
     ++ (call_members e.call ++ codes "}"))))))))
 
 -- a waiting store of this many bytes that reaches memory
-abbrev pub flush_text : ℕ → ℕ → (at : List ℕ) → ℕ → List ℕ
-flush_text cpu size at n = codes "cpu " ++ (decimal cpu ++ (codes " flush store " ++ (decimal size
-    ++ (codes " at " ++ (at ++ (codes " " ++ decimal n))))))
+unfoldable pub store_text : ℕ → (at : List ℕ) → ℕ → List ℕ
+store_text size at n =
+    codes "store " ++ (decimal size ++ (codes " at " ++ (at ++ (codes " " ++ decimal n))))
 
-abbrev pub flush_object : ℕ → ℕ → (at : List ℕ) → ℕ → List ℕ
-flush_object cpu size at n = codes "{\"cpu\":" ++ (decimal cpu
-    ++ (codes ",\"event\":\"flush\",\"size\":" ++ (decimal size ++ (codes ","
-    ++ (text_member (codes "at") at ++ (codes "," ++ (exact_members (codes "value") n
-    ++ codes "}")))))))
+unfoldable pub flush_text : (cpu size : ℕ) → (at : List ℕ) → ℕ → List ℕ
+flush_text cpu size at n =
+    codes "cpu " ++ (decimal cpu ++ (codes " flush " ++ store_text size at n))
+
+unfoldable pub word_members : (at : List ℕ) → ℕ → List ℕ
+word_members at n = joined (text_member (codes "at") at) (exact_members (codes "value") n)
+
+unfoldable pub flush_members : (size : ℕ) → (at : List ℕ) → ℕ → List ℕ
+flush_members size at n = codes "\"event\":\"flush\"," ++ (codes "\"size\":" ++ (decimal size
+    ++ (codes "," ++ word_members at n)))
+
+unfoldable pub flush_object : (cpu size : ℕ) → (at : List ℕ) → ℕ → List ℕ
+flush_object cpu size at n = codes "{\"cpu\":" ++ (decimal cpu ++ (codes ","
+    ++ (flush_members size at n ++ codes "}")))
 
 -- ---- values
 

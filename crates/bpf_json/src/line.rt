@@ -1,14 +1,14 @@
 //! What a printed line says.
 
 ghost use Rattle.std.specs.Prelude.{◌≡◌, IfOk, string_bytes};
-ghost use Rattle.bpf_json.specs.Lines.{flush_object, object, plain, plan_text, states_object, states_text};
+ghost use Rattle.bpf_json.specs.Lines.{flush_members, flush_object, flush_text, object, plain, plan_text, states_object, states_text, store_text, word_members};
 
 use crate::event::Event;
 use crate::job::Job;
 use crate::known::Known;
 use crate::race::Race;
 use crate::test::{Test, file_member, file_text};
-use crate::texts::{all_text, by_text, exact_members, member, text_member, truth};
+use crate::texts::{all_text, by_text, exact_members, joined, member, text_member, truth};
 use crate::value::Value;
 use std::alloc::{AllocError, Global};
 
@@ -99,7 +99,45 @@ fn states_object(
     format!(in alloc; "{{\"states\":{states}{file}}}")
 }
 
-/// The object for a waiting store that reaches memory.
+/// A store of a word of this many bytes.
+#[tactic(auto, unfolding(crate::specs::Lines::store_text))]
+fn store_text(alloc: Global, size: u64, at: &str, word: u64) -> Result<String, AllocError>
+    ensures { IfOk result (λ s. string_bytes s ≡ store_text size at.now word) }
+{
+    format!(in alloc; "store {size} at {at} {word}")
+}
+
+/// The line of a waiting store that reaches memory.
+#[tactic(auto, unfolding(crate::specs::Lines::flush_text))]
+fn flush_text(alloc: Global, cpu: u64, size: u64, at: &str, word: u64) -> Result<String, AllocError>
+    ensures { IfOk result (λ s. string_bytes s ≡ flush_text cpu size at.now word) }
+{
+    let store = store_text(alloc, size, at, word)?;
+    format!(in alloc; "cpu {cpu} flush {store}")
+}
+
+/// The members for an address and the word that is stored there.
+#[tactic(auto, unfolding(crate::specs::Lines::word_members))]
+fn word_members(alloc: Global, at: &str, word: u64) -> Result<String, AllocError>
+    ensures { IfOk result (λ s. string_bytes s ≡ word_members at.now word) }
+{
+    let at = text_member(alloc, "at", at)?;
+    let word = exact_members(alloc, "value", word)?;
+    joined(alloc, at.as_str(), word.as_str())
+}
+
+/// The members for a waiting store that reaches memory.
+#[tactic(auto, unfolding(crate::specs::Lines::flush_members))]
+fn flush_members(alloc: Global, size: u64, at: &str, word: u64) -> Result<String, AllocError>
+    ensures { IfOk result (λ s. string_bytes s ≡ flush_members size at.now word) }
+{
+    let event = "\"event\":\"flush\",";
+    let word = word_members(alloc, at, word)?;
+    format!(in alloc; "{event}\"size\":{size},{word}")
+}
+
+/// The object for it.
+#[tactic(auto, unfolding(crate::specs::Lines::flush_object))]
 fn flush_object(
     alloc: Global,
     cpu: u64,
@@ -109,9 +147,8 @@ fn flush_object(
 ) -> Result<String, AllocError>
     ensures { IfOk result (λ s. string_bytes s ≡ flush_object cpu size at.now word) }
 {
-    let at = text_member(alloc, "at", at)?;
-    let word = exact_members(alloc, "value", word)?;
-    format!(in alloc; "{{\"cpu\":{cpu},\"event\":\"flush\",\"size\":{size},{at},{word}}}")
+    let members = flush_members(alloc, size, at, word)?;
+    format!(in alloc; "{{\"cpu\":{cpu},{members}}}")
 }
 
 impl Line {
@@ -127,7 +164,7 @@ impl Line {
                 size,
                 at,
                 word,
-            } => format!(in alloc; "cpu {cpu} flush store {size} at {at} {word}"),
+            } => flush_text(alloc, *cpu, *size, at.as_str(), *word),
             Line::Packet { job, bytes } => format!(in alloc; "packet {job} {bytes}"),
             Line::Value(value) => value.plain(alloc),
             Line::By(schedule) => by_text(alloc, schedule.as_str()),

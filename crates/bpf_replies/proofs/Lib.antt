@@ -5,6 +5,7 @@ pub mod KnownBytes
 pub mod OneJudged
 pub mod OneExplored
 pub mod SeenAgain
+pub mod SeenOnX86
 pub mod OneDebug
 pub mod Shaped
 pub mod FreshFiles

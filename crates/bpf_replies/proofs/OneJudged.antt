@@ -98,15 +98,15 @@ module _ (files : FilesAreDetermined) (runs : FilesCanRun) (reports : ReportsByA
   one_reply : (by : List (ℕ × ℕ)) (keys : Bool) (text : List ℕ) (r s : Reply) → OfJudged by keys text r → OfJudged by keys text s → PrintsAs r s
   one_reply by keys text r s (Judged_of p x a) (Judged_of q y b) = both_judged by keys text p q x y a b
   one_reply by keys text r s (Judged_of p x a) (NoFile line why b) =
-      let (expected, (f, said, rest), more) = a in absurd (no_file text f line why said b)
+      let (expected, (f, said, is, none), left, counts, tests, begins, rest) = a in absurd (no_file text f line why said b)
   one_reply by keys text r s (NoFile line why a) (Judged_of q y b) =
-      let (expected, (f, said, rest), more) = b in absurd (no_file text f line why said a)
+      let (expected, (f, said, is, none), left, counts, tests, begins, rest) = b in absurd (no_file text f line why said a)
   one_reply by keys text r s (Judged_of p x a) (Amiss line b) =
-      let (expected, (f, said, is, none), rest) = a in
+      let (expected, (f, said, is, none), left, counts, tests, begins, rest) = a in
       let (strict, (g, read, (n, at, amiss))) = b in
       absurd (not_amiss text keys f g n said read (none refl) amiss)
   one_reply by keys text r s (Amiss line a) (Judged_of q y b) =
-      let (expected, (f, said, is, none), rest) = b in
+      let (expected, (f, said, is, none), left, counts, tests, begins, rest) = b in
       let (strict, (g, read, (n, at, amiss))) = a in
       absurd (not_amiss text keys f g n said read (none refl) amiss)
   one_reply by keys text r s (NoFile line why a) (NoFile place reason b) =

@@ -1,12 +1,13 @@
 -- Files one after the other.
-use Rattle.std.proofs.Common.{◌≡◌, ℕ, Bool, ◌+◌, ◌<◌, List, ◌∷◌, Option, Some, None, Result, Ok, Err, String, Global, inl, length, get_or}
+use Rattle.std.proofs.Common.{◌≡◌, ℕ, Bool, ◌+◌, ◌<◌, ◌≤◌, List, ◌∷◌, Option, Some, None, Result, Ok, Err, String, Global, inl, inr, length, get_or}
 use Rattle.std.proofs.Common.{drop, map, string_bytes, sym, ap, subst, ◌∙◌}
-use Rattle.std.specs.Prelude.{IfOk, IfSome}
+use Rattle.std.specs.Prelude.{IfOk, IfSome, IsUtf8}
 use Rattle.std.proofs.lemmas.List.{drop_more}
 use Rattle.bpf_check.specs.Findings.{Raced}
 use Rattle.bpf_command.specs.declared.command.CheckOptions.{CheckOptions}
 use Rattle.bpf_replies.specs.Input.{RefusesInput}
-use Rattle.bpf_replies.specs.Several.{AreTold, IsPart, Part, refused_part, seen, with_part}
+use Rattle.bpf_replies.specs.Several.{AreTold, IsPart, IsTextPart, Part, refused_part, seen, with_part}
+use Rattle.bpf_replies.specs.declared.input.TheConstants.{MAX_INPUT}
 use Rattle.bpf_replies.specs.declared.refusal.Refusal.{Refusal}
 use Rattle.bpf_replies.specs.declared.several.FilePart.{FilePart}
 
@@ -32,6 +33,15 @@ pub of_no_text : {E : Type 0} (Finds : Bool → ℕ → List ℕ → Raced → T
     → RefusesInput bytes why → IfOk r (λ p. seen p ≡ refused_part name why) → IfOk r (λ p. IsPart Finds o name before bytes (seen p))
 of_no_text Finds o name before bytes why (Ok p) refuses is = inl (why, refuses, is)
 of_no_text Finds o name before bytes why (Err e) refuses is = tt
+
+-- the part of a text is that of its bytes
+pub of_text : {E : Type 0} (Finds : Bool → ℕ → List ℕ → Raced → Type 0) (o : CheckOptions) (name : List ℕ) (before : ℕ) (bytes text : List ℕ)
+    (r : Result FilePart E)
+    → length bytes ≤ MAX_INPUT → IsUtf8 bytes → text ≡ bytes → IfOk r (λ p. IsTextPart Finds o name before text (seen p))
+    → IfOk r (λ p. IsPart Finds o name before bytes (seen p))
+of_text Finds o name before bytes text (Ok p) short valid same is =
+    inr (short, valid, subst (λ (t : List ℕ). IsTextPart Finds o name before t (seen p)) same is)
+of_text Finds o name before bytes text (Err e) short valid same is = tt
 
 -- what is printed of the files from this one on is printed after what is printed of those before it
 abbrev pub Follows : (Finds : Bool → ℕ → List ℕ → Raced → Type 0) → CheckOptions → (List ℕ → Option (List ℕ)) → List (String Global) → ℕ →

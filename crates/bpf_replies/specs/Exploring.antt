@@ -96,36 +96,41 @@ IsMissing number count all (reply.NoOutcome printed whole) =
 IsMissing number count all (reply.Refused refusal.OutOfMemory) = Unit {0}
 IsMissing number count all _ = ⊥
 
--- all that happens by a schedule, and what it amounts to; and where a search didn't find all, after it how
--- many outcomes it found after how many states, and that they aren't all
-abbrev pub IsShownBy : (by : List (ℕ × ℕ)) → (all : Bool) → (outcomes states : ℕ) → List ℕ → Reply
-    → Type 0
-IsShownBy by all outcomes states text (reply.Jobs printed stopped) =
-    (all ≡ true) × ((f : File) × IsRunFile text (Ok f)
-    × IsHistoryBy by false true f (string_bytes printed) stopped)
-IsShownBy by all outcomes states text (reply.Outcomes printed stopped whole) =
+-- all that happens, and what it amounts to; and where a search didn't find all, after it how many
+-- outcomes it found after how many states, and that they aren't all
+abbrev pub IsShownBy : (History : File → List ℕ → Bool → Type 0) → (all : Bool)
+    → (outcomes states : ℕ) → List ℕ → Reply → Type 0
+IsShownBy History all outcomes states text (reply.Jobs printed stopped) =
+    (all ≡ true) × ((f : File) × IsRunFile text (Ok f) × History f (string_bytes printed) stopped)
+IsShownBy History all outcomes states text (reply.Outcomes printed stopped whole) =
     (all ≡ false) × (whole ≡ false) × ((shown : List ℕ) × ((f : File) × IsRunFile text (Ok f)
-    × IsHistoryBy by false true f shown stopped)
+    × History f shown stopped)
     × (string_bytes printed ≡ shown ++ last_line false outcomes states))
-IsShownBy by all outcomes states text (reply.Refused r) = RefusesFile text r
-IsShownBy by all outcomes states text _ = ⊥
+IsShownBy History all outcomes states text (reply.Refused r) = RefusesFile text r
+IsShownBy History all outcomes states text _ = ⊥
 
--- `explore --show`: that of the answer of this number, which counts from 1; or that there are fewer; or
--- the file's first refusal
-abbrev pub IsShownFile : (patient : Bool) → (limit number : ℕ) → List ℕ → Reply → Type 0
-IsShownFile patient limit number text (reply.Jobs printed stopped) =
+-- that of the answer of this number, which counts from 1, among those of a search, by the answer's own
+-- schedule; or that there are fewer; or the file's first refusal
+abbrev pub IsShownOf : (Finds : List Found → (all : Bool) → (states : ℕ) → Type 0)
+    → (History : List (ℕ × ℕ) → File → List ℕ → Bool → Type 0) → (number : ℕ) → List ℕ → Reply
+    → Type 0
+IsShownOf Finds History number text (reply.Jobs printed stopped) =
     (answers : List Found) × (all : Bool) × (states : ℕ) × (found : Found)
-    × AreFoundBy patient text answers all limit states
-    × (slice_get answers (number - 1) ≡ Some found)
-    × IsShownBy found.by all (length answers) states text (reply.Jobs printed stopped)
-IsShownFile patient limit number text (reply.Outcomes printed stopped whole) =
+    × Finds answers all states × (slice_get answers (number - 1) ≡ Some found)
+    × IsShownBy (History found.by) all (length answers) states text (reply.Jobs printed stopped)
+IsShownOf Finds History number text (reply.Outcomes printed stopped whole) =
     (answers : List Found) × (all : Bool) × (states : ℕ) × (found : Found)
-    × AreFoundBy patient text answers all limit states
-    × (slice_get answers (number - 1) ≡ Some found)
-    × IsShownBy found.by all (length answers) states text (reply.Outcomes printed stopped whole)
-IsShownFile patient limit number text (reply.NoOutcome printed all) =
-    (answers : List Found) × (states : ℕ) × AreFoundBy patient text answers all limit states
-    × (length answers < number)
+    × Finds answers all states × (slice_get answers (number - 1) ≡ Some found)
+    × IsShownBy (History found.by) all (length answers) states text
+    (reply.Outcomes printed stopped whole)
+IsShownOf Finds History number text (reply.NoOutcome printed all) =
+    (answers : List Found) × (states : ℕ) × Finds answers all states × (length answers < number)
     × (string_bytes printed ≡ missing_text number (length answers))
-IsShownFile patient limit number text (reply.Refused r) = RefusesFile text r
-IsShownFile patient limit number text _ = ⊥
+IsShownOf Finds History number text (reply.Refused r) = RefusesFile text r
+IsShownOf Finds History number text _ = ⊥
+
+-- `explore --show`: of a search through turns, and what happens by them
+abbrev pub IsShownFile : (patient : Bool) → (limit number : ℕ) → List ℕ → Reply → Type 0
+IsShownFile patient limit number text =
+    IsShownOf (λ answers all states. AreFoundBy patient text answers all limit states)
+    (λ by. IsHistoryBy by false true) number text

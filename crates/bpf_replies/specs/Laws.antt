@@ -21,7 +21,8 @@ use Rattle.bpf_replies.specs.Answer.{reply_text}
 use Rattle.bpf_replies.specs.Programs.{IsAssembled, IsDisassembled}
 use Rattle.bpf_replies.specs.Exploring.{AreAnswersTo, AreFoundBy, any_stopped_of, told_of}
 use Rattle.bpf_replies.specs.Listing.{word_lines}
-use Rattle.bpf_replies.specs.Running.{IsHistoryOfFile, IsRunOfFile}
+use Rattle.bpf_replies.specs.Reordering.{AreFoundOnX86}
+use Rattle.bpf_replies.specs.Running.{IsBufferHistoryOfFile, IsHistoryOfFile, IsRunOfFile, IsRunWithBuffersOfFile}
 use Rattle.bpf_replies.specs.declared.input.InputError.TheVariants as input_error
 use Rattle.bpf_replies.specs.declared.refusal.Refusal.{Refusal}
 use Rattle.bpf_replies.specs.declared.refusal.Refusal.TheVariants as refusal
@@ -82,6 +83,26 @@ ShownAreFound =
     (found : Found) (printed : String Global) (stopped : Bool)
     → AreFoundBy patient text answers all limit states → slice_get answers i ≡ Some found
     → IsHistoryOfFile found.by false true text (reply.Jobs printed stopped)
+    → (lines : List ℕ) × (string_bytes printed ≡ lines ++ found.text)
+    × (stopped ≡ found.stopped)
+
+-- ---- with store buffers, too
+-- what a search shows of an outcome, `run --x86 --by` with its schedule prints
+abbrev pub WitnessesOnX86AreSeenAgain : Type 0
+WitnessesOnX86AreSeenAgain =
+    (text : List ℕ) (answers : List Found) (all : Bool) (limit states i : ℕ) (found : Found)
+    (printed : String Global) (stopped : Bool) → AreFoundOnX86 text limit answers all states
+    → slice_get answers i ≡ Some found
+    → IsRunWithBuffersOfFile found.by true text (reply.Jobs printed stopped)
+    → (string_bytes printed ≡ found.text) × (stopped ≡ found.stopped)
+
+-- and `explore --x86 --show` after all that happens on the way there
+abbrev pub ShownOnX86AreFound : Type 0
+ShownOnX86AreFound =
+    (text : List ℕ) (answers : List Found) (all : Bool) (limit states i : ℕ) (found : Found)
+    (printed : String Global) (stopped : Bool) → AreFoundOnX86 text limit answers all states
+    → slice_get answers i ≡ Some found
+    → IsBufferHistoryOfFile found.by true text (reply.Jobs printed stopped)
     → (lines : List ℕ) × (string_bytes printed ≡ lines ++ found.text)
     × (stopped ≡ found.stopped)
 

@@ -2,13 +2,14 @@
 use Rattle.std.specs.Prelude.{◌≡◌, ℕ, Bool, true, false, List, Ok, string_bytes}
 use Rattle.bpf_check.specs.Findings.{Findings}
 use Rattle.bpf_explore.specs.Listing.{explored_text}
+use Rattle.bpf_explore.specs.Outcomes.{Found}
 use Rattle.bpf_explore.specs.declared.exploring.Explored.{Explored}
 use Rattle.bpf_file.specs.File.{File}
 use Rattle.bpf_file.specs.Reading.{IsRunFile}
 use Rattle.bpf_reorderings.specs.Outcomes.{IsExploredX86}
 use Rattle.bpf_threads.specs.declared.threads.Threads.{Threads}
-use Rattle.bpf_replies.specs.Exploring.{AreFindingsBy, any_stopped_of}
-use Rattle.bpf_replies.specs.Running.{RefusesFile}
+use Rattle.bpf_replies.specs.Exploring.{AreFindingsBy, IsShownOf, any_stopped_of}
+use Rattle.bpf_replies.specs.Running.{IsBufferHistory, RefusesFile}
 use Rattle.bpf_replies.specs.Script.{first_world_of}
 use Rattle.bpf_replies.specs.Threading.{AreThreadsOf}
 use Rattle.bpf_replies.specs.declared.reply.Reply.{Reply}
@@ -20,12 +21,16 @@ abbrev pub AreAnswersOnX86 : List ℕ → (limit : ℕ) → Explored → Type 0
 AreAnswersOnX86 text limit e = (f : File) × IsRunFile text (Ok f)
     × IsExploredX86 (first_world_of f) f.names true limit e
 
+-- its answers, whether they are all, and how many states were kept
+abbrev pub AreFoundOnX86 : List ℕ → (limit : ℕ) → List Found → (all : Bool) → (states : ℕ) → Type 0
+AreFoundOnX86 text limit answers all states = (e : Explored) × AreAnswersOnX86 text limit e
+    × (answers ≡ e.answers.items) × (all ≡ e.all) × (states ≡ e.states)
+
 -- what tests rest on: of a search through flushes too where CPUs have store buffers, or of one through
 -- turns alone
 abbrev pub AreFindingsIn : (x86 patient : Bool) → (limit : ℕ) → List ℕ → Findings → Type 0
 AreFindingsIn true patient limit text f = (f.patient ≡ false)
-    × ((e : Explored) × AreAnswersOnX86 text limit e
-    × (f.answers ≡ e.answers.items) × (f.all ≡ e.all) × (f.states ≡ e.states))
+    × AreFoundOnX86 text limit f.answers f.all f.states
 AreFindingsIn false patient limit text f = AreFindingsBy patient limit text f
 
 -- `explore --x86`: the answers, a schedule of turns and flushes before each, in which ways threads may
@@ -38,3 +43,8 @@ IsExploredFileOnX86 limit text (reply.Outcomes printed stopped all) =
     × (stopped ≡ any_stopped_of e.answers.items) × (all ≡ e.all)
 IsExploredFileOnX86 limit text (reply.Refused r) = RefusesFile text r
 IsExploredFileOnX86 limit text _ = ⊥
+
+-- `explore --x86 --show`: one of these answers, by its own schedule of turns and flushes
+abbrev pub IsShownFileOnX86 : (limit number : ℕ) → List ℕ → Reply → Type 0
+IsShownFileOnX86 limit number text =
+    IsShownOf (AreFoundOnX86 text limit) (λ by. IsBufferHistory by true) number text

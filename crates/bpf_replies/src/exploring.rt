@@ -8,7 +8,7 @@ ghost use Rattle.bpf_file.specs.File.{file_of};
 ghost use Rattle.bpf_cpu.specs.Setup.{IsRunnable};
 ghost use Rattle.bpf_replies.specs.Answer.{Replies};
 ghost use Rattle.bpf_replies.specs.Exploring.{AreAnswersTo, AreFindingsBy, AreFoundBy, ArePatientAnswersTo, IsExploredFile, IsMissing, IsShownBy, IsShownFile, any_stopped_of, is_any_hung};
-ghost use Rattle.bpf_replies.specs.Running.{RefusesFile};
+ghost use Rattle.bpf_replies.specs.Running.{IsHistoryBy, RefusesFile};
 ghost use Rattle.bpf_replies.specs.Script.{first_world_of};
 
 use crate::refusal::Refusal;
@@ -236,7 +236,7 @@ pub fn explore_file<O: Observer>(
 }
 
 /// That there is no outcome of this number, counted from 1.
-fn missing(alloc: Global, outcome: u64, explored: &Explored) -> Result<Reply, AllocError>
+pub(crate) fn missing(alloc: Global, outcome: u64, explored: &Explored) -> Result<Reply, AllocError>
     ensures { IfOk result
         (IsMissing outcome (length explored.now.answers.items) explored.now.all) }
 {
@@ -249,7 +249,11 @@ fn missing(alloc: Global, outcome: u64, explored: &Explored) -> Result<Reply, Al
 }
 
 /// A text, and after it how many outcomes a search found, which aren't all.
-fn with_last(alloc: Global, text: String, explored: &Explored) -> Result<String, AllocError>
+pub(crate) fn with_last(
+    alloc: Global,
+    text: String,
+    explored: &Explored,
+) -> Result<String, AllocError>
     ensures { IfOk result (λ new. string_bytes new ≡ string_bytes text
         ++ last_line false (length explored.now.answers.items) explored.now.states) }
 {
@@ -272,8 +276,8 @@ fn show_by(
     explored: &Explored,
     text: &str,
 ) -> Result<Reply, Refusal>
-    ensures { Replies (IsShownBy by.now explored.now.all (length explored.now.answers.items)
-        explored.now.states text.now) result }
+    ensures { Replies (IsShownBy (IsHistoryBy by.now false true) explored.now.all
+        (length explored.now.answers.items) explored.now.states text.now) result }
 {
     let Report { text, stopped } = history_by(alloc, by, false, true, text)?;
     if explored.all {

@@ -1,7 +1,7 @@
 //! What follows from the definitions of replies.
 //!
 //! These functions do nothing: their contracts are the laws.
-ghost use Rattle.bpf_replies.specs.Laws.{FaultsOnX86AreTrue, ListedWordsAreAnswered, ListingsAreAnsweredAlike, OutcomesAreDetermined, ShownAreFound, VerdictsOnX86AreTrue, WitnessesAreSeenAgain};
+ghost use Rattle.bpf_replies.specs.Laws.{FaultsOnX86AreTrue, ListedWordsAreAnswered, ListingsAreAnsweredAlike, OutcomesAreDetermined, ShownAreFound, ShownOnX86AreFound, VerdictsOnX86AreTrue, WitnessesAreSeenAgain, WitnessesOnX86AreSeenAgain};
 
 /// Searches of one input that both found all outcomes print the same of them, in the same order.
 pub fn outcomes_are_determined()
@@ -27,6 +27,25 @@ pub fn shown_are_found()
     bpf_file::laws::files_can_run();
     bpf_jobs::laws::reports_by_are_determined();
     bpf_events::laws::histories_are_of_reports();
+}
+
+/// What a search with store buffers shows of an outcome, `run --x86 --by` with its schedule prints.
+pub fn witnesses_on_x86_are_seen_again()
+    ensures { WitnessesOnX86AreSeenAgain }
+{
+    bpf_file::laws::files_are_determined();
+    bpf_file::laws::files_can_run();
+    bpf_flushes::laws::reports_with_buffers_are_determined();
+}
+
+/// What `explore --x86 --show` prints ends with the outcome that it shows.
+pub fn shown_on_x86_are_found()
+    ensures { ShownOnX86AreFound }
+{
+    bpf_file::laws::files_are_determined();
+    bpf_file::laws::files_can_run();
+    bpf_flushes::laws::reports_with_buffers_are_determined();
+    bpf_buffer_events::laws::histories_are_of_reports_with_buffers();
 }
 
 /// What `asm --listing` prints is assembled as the text that is listed: `asm` has the same replies

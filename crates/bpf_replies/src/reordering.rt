@@ -1,24 +1,26 @@
 //! `ebpf explore --x86`: every outcome of a run file's jobs on CPUs with store buffers, whatever the order
 //! of turns and flushes.
 
-ghost use Rattle.std.specs.Prelude.{◌≡◌, true, IfErr, IfOk};
+ghost use Rattle.std.specs.Prelude.{◌≡◌, ◌<◌, true, IfErr, IfOk, length};
 ghost use Rattle.bpf_cpu.specs.Setup.{IsRunnable};
 ghost use Rattle.bpf_file.specs.File.{file_of};
 ghost use Rattle.bpf_reorderings.specs.Outcomes.{IsExploredX86};
 ghost use Rattle.bpf_replies.specs.Answer.{Replies};
-ghost use Rattle.bpf_replies.specs.Reordering.{AreAnswersOnX86, AreFindingsIn, IsExploredFileOnX86};
-ghost use Rattle.bpf_replies.specs.Running.{RefusesFile};
+ghost use Rattle.bpf_replies.specs.Exploring.{IsShownBy};
+ghost use Rattle.bpf_replies.specs.Reordering.{AreAnswersOnX86, AreFindingsIn, IsExploredFileOnX86, IsShownFileOnX86};
+ghost use Rattle.bpf_replies.specs.Running.{IsBufferHistory, RefusesFile};
 ghost use Rattle.bpf_replies.specs.Script.{first_world_of};
 
-use crate::exploring::findings_in;
+use crate::exploring::{findings_in, missing, with_last};
 use crate::refusal::Refusal;
 use crate::reply::Reply;
-use crate::running::file_in;
+use crate::running::{buffer_history_by, file_in};
 use crate::threading::threads_in;
 use bpf_check::{Findings, Raced};
 use bpf_command::SearchOptions;
 use bpf_explore::{Explored, Observer, is_any_stopped, list_explored};
 use bpf_file::RunFile;
+use bpf_jobs::Report;
 use bpf_reorderings::explore_with_buffers;
 use std::alloc::{AllocError, Global};
 
@@ -98,4 +100,50 @@ pub fn explore_file_with_buffers<O: Observer>(
         stopped: is_any_stopped(&explored.answers),
         all: explored.all,
     })
+}
+
+/// What happens by a schedule of turns and flushes, and after it that there are more outcomes than a
+/// search found, if that may be.
+fn show_by(
+    alloc: Global,
+    by: &[(u8, u64)],
+    explored: &Explored,
+    text: &str,
+) -> Result<Reply, Refusal>
+    ensures { Replies (IsShownBy (IsBufferHistory by.now true) explored.now.all
+        (length explored.now.answers.items) explored.now.states text.now) result }
+{
+    let Report { text, stopped } = buffer_history_by(alloc, by, true, text)?;
+    if explored.all {
+        return Ok(Reply::Jobs(text, stopped));
+    }
+    let text = with_last(alloc, text, explored)?;
+    Ok(Reply::Outcomes {
+        text,
+        stopped,
+        all: false,
+    })
+}
+
+/// `ebpf explore --x86 --show`: all that happens on the way to the outcome of this number, counted
+/// from 1. Where memory was refused to the search the number may be another outcome's, so that is a
+/// refusal.
+pub fn show_file_with_buffers<O: Observer>(
+    alloc: Global,
+    limit: u64,
+    outcome: u64,
+    text: &str,
+    observer: &mut O,
+) -> Result<Reply, Refusal>
+    requires { 0 < outcome }
+    ensures { Replies (IsShownFileOnX86 limit outcome text.now) result }
+{
+    let explored = explored_in(alloc, limit, text, observer)?;
+    if explored.refused {
+        return Err(Refusal::OutOfMemory);
+    }
+    let Some(answer) = explored.answers.get(outcome as usize - 1) else {
+        return Ok(missing(alloc, outcome, &explored)?);
+    };
+    show_by(alloc, answer.by(), &explored, text)
 }

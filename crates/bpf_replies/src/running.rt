@@ -192,7 +192,7 @@ pub fn run_file_with_buffers(
 /// All that happens in the moves of jobs that a text says, on CPUs with store buffers by these moves and
 /// then in rounds.
 #[tactic(auto, using(crate::proofs::FreshFiles::buffer_history))]
-fn buffer_history_by(
+pub(crate) fn buffer_history_by(
     alloc: Global,
     by: &[(u8, u64)],
     maps: bool,

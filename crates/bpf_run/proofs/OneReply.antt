@@ -101,6 +101,7 @@ module _ (words : WordsAreDetermined) (encodings : EncodingsAreDetermined) (refu
   one_answer (command.Explore options) text r s h t o a b n m = absurd o
   one_answer (command.ExploreX86 options) text r s h t o a b n m = absurd o
   one_answer (command.Show options) text r s h t o a b n m = absurd o
+  one_answer (command.ShowX86 options) text r s h t o a b n m = absurd o
   one_answer (command.Races options) text r s h t o a b n m = absurd o
   one_answer (command.Check options) text r s h t o a b n m = absurd o
   one_answer (command.Expand first patient races) text r s h t o a b n m = absurd o

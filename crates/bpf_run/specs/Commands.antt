@@ -6,7 +6,7 @@ use Rattle.bpf_replies.specs.Exploring.{IsExploredFile, IsShownFile}
 use Rattle.bpf_replies.specs.Judging.{IsJudgedOfFile}
 use Rattle.bpf_replies.specs.Input.{RefusesInput}
 use Rattle.bpf_replies.specs.Programs.{IsAssembled, IsAssembledRun, IsDisassembled, IsRun}
-use Rattle.bpf_replies.specs.Reordering.{IsExploredFileOnX86}
+use Rattle.bpf_replies.specs.Reordering.{IsExploredFileOnX86, IsShownFileOnX86}
 use Rattle.bpf_run.specs.Racing.{AreRacesOf, IsRacesFile}
 use Rattle.bpf_replies.specs.Running.{IsBufferHistoryOfFile, IsHistoryOfFile, IsRunBy, IsRunWithBuffersOfFile, IsRunWithPacketsOfFile}
 use Rattle.bpf_replies.specs.Script.{IsScriptOfFile}
@@ -40,6 +40,8 @@ IsAnswer (command.Explore options) text r = IsExploredFile options.patient optio
 IsAnswer (command.ExploreX86 options) text r = IsExploredFileOnX86 options.limit text r
 IsAnswer (command.Show options) text r =
     IsShownFile options.search.patient options.search.limit options.outcome text r
+IsAnswer (command.ShowX86 options) text r =
+    IsShownFileOnX86 options.search.limit options.outcome text r
 IsAnswer (command.Races options) text r =
     IsRacesFile options.search.patient options.search.limit (map string_bytes options.sync.items) text r
 IsAnswer (command.Check options) text r = IsCheckedFile AreRacesOf options text r
@@ -55,6 +57,7 @@ abbrev pub IsForOneSchedule : Command → Type 0
 IsForOneSchedule (command.Explore options) = ⊥
 IsForOneSchedule (command.ExploreX86 options) = ⊥
 IsForOneSchedule (command.Show options) = ⊥
+IsForOneSchedule (command.ShowX86 options) = ⊥
 IsForOneSchedule (command.Races options) = ⊥
 IsForOneSchedule (command.Check options) = ⊥
 IsForOneSchedule (command.Expand first patient races) = ⊥

@@ -101,7 +101,7 @@ impl Subject {
             | Command::History(HistoryOptions { by, .. })
             | Command::Packets(HistoryOptions { by, .. }) => Subject::turns(by),
             Command::X86(_) | Command::X86History(_) => Subject::Buffers,
-            Command::Show(_) => Subject::Shown,
+            Command::Show(_) | Command::ShowX86(_) => Subject::Shown,
             Command::Judge(_) => Subject::Tests,
             Command::Debug { .. } => Subject::Script,
             Command::Explore(_) | Command::ExploreX86(_) => Subject::Schedules,

@@ -11,7 +11,7 @@ use bpf_replies::checking::check_file;
 use bpf_replies::exploring::{explore_file, show_file};
 use bpf_replies::programs::{assembled, assembled_run, disassembled, run};
 use bpf_replies::refusal::Refusal;
-use bpf_replies::reordering::explore_file_with_buffers;
+use bpf_replies::reordering::{explore_file_with_buffers, show_file_with_buffers};
 use bpf_replies::reply::Reply;
 use bpf_replies::running::{
     Extras, judge_file, run_file, run_file_by_workers, run_file_with_buffer_events,
@@ -71,6 +71,9 @@ fn answer_to<O: Observer>(
         }
         Command::Show(ShowOptions { outcome, search }) => {
             show_file(alloc, search, outcome, text, observer)
+        }
+        Command::ShowX86(ShowOptions { outcome, search }) => {
+            show_file_with_buffers(alloc, search.limit, outcome, text, observer)
         }
         Command::Races(options) => race_file(alloc, options, text, observer),
         Command::Check(options) => check_file::<AllRaces, O>(alloc, &options, text, observer),

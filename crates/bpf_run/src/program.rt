@@ -131,7 +131,7 @@ const NO_RACES: &str = "\
 For more information, try 'ebpf explore --help'.";
 
 const TURNS_ALONE: &str = "\
-'--x86' of 'explore' and 'check' goes with none of '--patient', '--races', '--sync' and '--show'
+'--x86' of 'explore' and 'check' goes with none of '--patient', '--races' and '--sync'
 
 For more information, try 'ebpf explore --help'.";
 

@@ -52,7 +52,7 @@ pub(crate) fn asks_progress(command: &Command) -> bool {
     match command {
         Command::Explore(search) | Command::ExploreX86(search) => search.progress,
         Command::Check(options) => options.search.progress,
-        Command::Show(options) => options.search.progress,
+        Command::Show(options) | Command::ShowX86(options) => options.search.progress,
         Command::Races(options) => options.search.progress,
         _ => false,
     }

@@ -1,7 +1,7 @@
 -- Moves that are made and printed.
 use Rattle.std.specs.Prelude.{◌≡◌, ℕ, List, ◌++◌, string_bytes}
 use Rattle.bpf_x86.specs.Machine.{X86, Move}
-use Rattle.bpf_buffering.specs.Search.{BufferedState, ShowsX86}
+use Rattle.bpf_buffering.specs.Search.{ShowsX86}
 use Rattle.bpf_flushes.specs.Moves.{round_below}
 use Rattle.bpf_buffer_events.specs.Happenings.{Item, MakesAllWith, MakesRoundsWith}
 use Rattle.bpf_buffer_events.specs.Printed.{item_lines}

@@ -12,3 +12,8 @@ loop-preserved c = record {
       c.loop.invariant.going c.in_ok-make_round.ensures.told;
   shape = c.in_ok-make_round.ensures.shape;
 }
+
+pub returns-then-have_ended : goal.returns-then-have_ended
+returns-then-have_ended c = record {
+  told = last_round (map string_bytes c.args.names.now) c.args.scene.now c.loop.scene (c.if-have_ended.ensures.ended refl) c.loop.invariant.going;
+}
