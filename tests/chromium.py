@@ -196,8 +196,8 @@ class Page:
     def key(self, name):
         """Presses a key, as a user does."""
         said = {"key": name, "windowsVirtualKeyCode": CODES.get(name) or ord(name.upper())}
-        if len(name) == 1:
-            said["text"] = name
+        if len(name) == 1 or name == "Enter":
+            said["text"] = "\r" if name == "Enter" else name
         self.send("Input.dispatchKeyEvent", type="keyDown", **said)
         self.send("Input.dispatchKeyEvent", type="keyUp", **said)
 

@@ -1,13 +1,16 @@
 'use strict';
 
 // Every schedule: the outcomes, deadlocks and races that `ebpf explore` finds of a run file, each with a schedule that
-// leads there and that the timeline can show, unless CPUs have store buffers, whose flushes are no turns. The search has an engine of its own, so that CPUs can be stepped
-// meanwhile, and is made with greater and greater limits, so that what is found is seen before its end.
+// leads there and that the timeline can show; where CPUs have store buffers, whose flushes are no turns, buffers.js shows it.
+// The search has an engine of its own, so that CPUs can be stepped meanwhile, and is made with greater and greater limits,
+// so that what is found is seen before its end.
 
 const LIMITS = [1000, 10000, 100000, 1000000]; // of states
 const MOST_FOUND = 200; // that are listed
 
 const DEADLOCK = 'a deadlock: no order of turns leads from here to an end';
+const BY_TURNS = 'A schedule that leads there: N turns of CPU C are C*N';
+const BY_FLUSHES = '`ebpf run --x86 --by` leads there: N turns of CPU C are C*N, and N flushes of its buffer C!*N';
 
 // What `explore` prints: a line `by` before the lines of each outcome; behind them, of a patient search, a line a
 // state from which no order of turns leads to an end, and whether budgets can be used up; or, with `--races`, a line a
@@ -141,16 +144,12 @@ function found_row({ kind, schedule, lines }, number, is_shared, is_x86) {
     const said = make('pre');
     for (const line of lines) said.append(make('span', is_shared(line) ? 'shared' : '', line), '\n');
     const by = make('code', 'by', schedule ? `by ${schedule}` : 'by no turn');
-    if (is_x86) {
-        by.title = '`ebpf run --x86 --by` leads there: N turns of CPU C are C*N, and N flushes of its buffer C!*N';
-        row.append(said, by);
-        return row;
-    }
-    by.title = 'A schedule that leads there: N turns of CPU C are C*N';
+    by.title = is_x86 ? BY_FLUSHES : BY_TURNS;
     const button = make('button', '', 'Show me');
     button.type = 'button';
     button.dataset.found = number;
     button.setAttribute('aria-label', `Show me number ${number + 1}: ${kind === 'outcome' ? 'an' : 'a'} ${kind}`);
+    if (is_x86) button.setAttribute('aria-controls', 'way');
     row.append(button, said, by);
     return row;
 }
@@ -177,9 +176,14 @@ function draw_every(state) {
 function mark_found({ turns }) {
     if (!search.came || search.is_x86) return;
     const by = schedule_of(turns);
-    search.came.found.slice(0, MOST_FOUND).forEach(({ schedule }, number) => {
+    mark_rows(({ schedule }) => schedule === by && turns.length > 0);
+}
+
+// Marks, of what was found, what is shown.
+function mark_rows(shows) {
+    search.came.found.slice(0, MOST_FOUND).forEach((one, number) => {
         const row = at('found').children[number];
-        const is_shown = schedule === by && turns.length > 0;
+        const is_shown = shows(one);
         row.classList.toggle('shown', is_shown);
         if (is_shown) row.setAttribute('aria-current', 'true');
         else row.removeAttribute('aria-current');

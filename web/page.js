@@ -243,6 +243,7 @@ function toggle_breakpoint(cpu, pc) {
 async function explore(is_of_races) {
     const text = state.file?.text;
     if (text === undefined) return;
+    close_way();
     const locks = at('locks').value.split(/[\s,]+/).filter((name) => name);
     try {
         const is_x86 = at('x86').checked && !is_of_races;
@@ -260,6 +261,7 @@ async function explore(is_of_races) {
 function draw_search(search) {
     draw_every(search);
     mark_races(state);
+    mark_way();
 }
 
 function end_search() {
@@ -269,21 +271,46 @@ function end_search() {
 
 // What was found is of a text that stands no more.
 function forget_search() {
+    close_way();
     stop_search();
     search.came = null;
     draw_search(search);
 }
 
-// Sets the turns to a schedule that leads to what was found.
+// Shows a schedule that leads to what was found: sets the turns to it, or where it has flushes too, opens its table.
 function show_found(number) {
     const { file } = state;
-    const turns = turns_of_schedule(search.came.found[number].schedule, MOST_TURNS);
+    const { schedule } = search.came.found[number];
     if (!file) return;
+    if (search.is_x86) {
+        show_way(file, schedule);
+        return;
+    }
+    const turns = turns_of_schedule(schedule, MOST_TURNS);
     if (turns === null) {
         tell(`${MOST_TURNS} turns are the most that this page makes.`, true);
         return;
     }
     show_order(file, turns);
+}
+
+async function show_way(file, schedule) {
+    try {
+        await open_way(file, schedule);
+    } catch (error) {
+        if (error.name !== 'Stopped') {
+            close_way();
+            tell(`The program gave no answer: ${error.message}`, true);
+        }
+    }
+    mark_way();
+}
+
+// Closes the table, and goes back to the button that opened it.
+function leave_way() {
+    close_way();
+    at('found').querySelector('.shown button')?.focus();
+    mark_way();
 }
 
 // ---- Links and copies
@@ -483,6 +510,7 @@ function listen_to_every() {
         const number = target.closest('button')?.dataset.found;
         if (number !== undefined) show_found(Number(number));
     });
+    at('way-close').addEventListener('click', leave_way);
 }
 
 function listen() {
