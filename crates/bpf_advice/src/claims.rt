@@ -62,7 +62,7 @@ fn is_nearly(word: &str, other: &str) -> bool {
     difference(word.as_bytes(), other.as_bytes()) <= 1
 }
 
-/// The number behind a sign, or after `=` and a sign.
+/// The number after a sign, or after `=` and a sign.
 fn signed_in(word: &str) -> Option<u64> {
     let number = match word.rsplit_once('=') {
         Some((_, number)) => number,
@@ -332,7 +332,7 @@ fn hint_of_parts(alloc: Global, file: &str, claim: &[&str]) -> Result<Option<Str
     Ok(None)
 }
 
-/// The same of all of it, after the word that says how often.
+/// The hint of a whole expectation, after the word that says how often.
 fn hint_of_whole(
     alloc: Global,
     file: &str,

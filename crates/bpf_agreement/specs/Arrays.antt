@@ -14,7 +14,7 @@ pub record HasArraysAlone (h : Shape) (programs : List Loaded) (tasks : List Tas
   -- each job waits
   pub waits : (j : ℕ) (task : Task) → slice_get tasks j ≡ Some task
       → (input : Input) × (task.stage ≡ Waiting input) × (IsShort input)
-  -- they are so few that no CPU's run counter comes to its end
+  -- they are so few that no CPU's run counter reaches its end
   pub few : length tasks < 2 ^ 62
   -- one CPU has all; or no call of theirs has a key or a value among those of arrays, nor copies a
   -- value in parts. So it is where `explore` leaves out its line on keys and values that threads see in

@@ -13,20 +13,20 @@ use Rattle.bpf_flushes.specs.Moves.{Makes, MakesAll, MakesRounds, round_below}
 use Rattle.bpf_jobs.specs.Printed.{Tells}
 use Rattle.bpf_buffer_events.specs.Happenings.{Item, MakesWith, MakesAllWith, MakesRoundsWith}
 use Rattle.bpf_buffer_events.specs.Printed.{item_lines, IsHistoryWithBuffers, HistoriesAreOfReportsWithBuffers}
-use Rattle.bpf_buffer_events.specs.Private.Told.{AreTold, By, SomeRounds}
-use Rattle.bpf_buffer_events.specs.Private.Watched.{IsOfShape}
+use Rattle.bpf_buffer_events.specs.Private.Told.{ArePrinted, By, LastRounds}
+use Rattle.bpf_buffer_events.specs.Private.Watched.{HasShape}
 use Rattle.bpf_buffer_events.specs.declared.telling.Scene.{Scene}
 use Rattle.bpf_buffer_events.proofs.Items.{lines_both}
 
 -- a store of the machine's shape
-pub same_shape : (h : Shape) (m : MachineState) (w : World) (p : Contents) → Shows m w → w.store.shape ≡ h → IsOfShape h p → IsSameShape m.store p
+pub same_shape : (h : Shape) (m : MachineState) (w : World) (p : Contents) → Shows m w → w.store.shape ≡ h → HasShape h p → IsSameShape m.store p
 same_shape h m w p shows shape made =
     let cpus : (c : ℕ) → has_cpu m.store c ≡ nat_lt c h.cpus = λ c. ap (λ (n : ℕ). nat_lt c n) (sym shows.store.maps.cpus ∙ ap (λ (s : Shape). s.cpus) shape) in
     (λ c. made.0 c ∙ sym (cpus c), made.1 ∙ (sym shape ∙ shows.store.shape))
 
 pub history_told : (w : World) (old mid new : Scene) (names : Names) (runs : List (ℕ × ℕ)) (maps : Bool) (told text : List ℕ) (stopped : Bool)
-    → ShowsX86 old.machine (drained w) → string_bytes old.text ≡ [] → AreTold (By (map move_of (unrolled runs))) names.maps old mid
-    → AreTold SomeRounds names.maps mid new
+    → ShowsX86 old.machine (drained w) → string_bytes old.text ≡ [] → ArePrinted (By (map move_of (unrolled runs))) names.maps old mid
+    → ArePrinted LastRounds names.maps mid new
     → ((z : X86) → ShowsX86 new.machine z → Tells z.world.store z.world.jobs names maps told stopped)
     → text ≡ string_bytes new.text ++ told → IsHistoryWithBuffers w runs names maps text stopped
 history_told w old mid new names runs maps told text stopped shows fresh before after tells is =

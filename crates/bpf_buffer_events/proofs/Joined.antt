@@ -24,15 +24,15 @@ use Rattle.bpf_flushes.specs.Moves.{round_below}
 use Rattle.bpf_flushes.proofs.Turning.{idles}
 use Rattle.bpf_buffer_events.specs.Happenings.{Item, Flushed, Happens, oldest, MakesWith, MakesAllWith}
 use Rattle.bpf_buffer_events.specs.Printed.{item_line, item_lines}
-use Rattle.bpf_buffer_events.specs.Private.Told.{AreTold, By, SomeRounds, TellsRound}
+use Rattle.bpf_buffer_events.specs.Private.Told.{ArePrinted, By, LastRounds, OneRound}
 use Rattle.bpf_buffer_events.specs.Private.Watched.{AreWatched, IsWatched, noted}
 use Rattle.bpf_buffer_events.specs.declared.telling.Scene.{Scene}
 use Rattle.bpf_buffer_events.specs.declared.watching.Watcher.{Watcher}
 use Rattle.bpf_buffer_events.proofs.Items.{lines_both, no_lines, one_line}
 
 pub told_join : (p q r : X86 → List Item → X86 → Type 0) (names : List (List ℕ)) (old mid new : Scene)
-    → ((x y z : X86) (xs ys : List Item) → p x xs y → q y ys z → r x (xs ++ ys) z) → AreTold p names old mid → AreTold q names mid new
-    → AreTold r names old new
+    → ((x y z : X86) (xs ys : List Item) → p x xs y → q y ys z → r x (xs ++ ys) z) → ArePrinted p names old mid → ArePrinted q names mid new
+    → ArePrinted r names old new
 told_join p q r names old mid new join before after x shows =
     let a = before x shows in
     let b = after a.0 a.3 in (
@@ -55,12 +55,12 @@ all_both (m ∷ ms) ns x y z xs ys p q = (
   ap (λ (l : List Item). l ++ ys) p.5 ∙ append_assoc p.1 p.2 ys,
 )
 
-pub moves_both : (ms ns : List Move) (names : List (List ℕ)) (old mid new : Scene) → AreTold (By ms) names old mid → AreTold (By ns) names mid new
-    → AreTold (By (ms ++ ns)) names old new
+pub moves_both : (ms ns : List Move) (names : List (List ℕ)) (old mid new : Scene) → ArePrinted (By ms) names old mid → ArePrinted (By ns) names mid new
+    → ArePrinted (By (ms ++ ns)) names old new
 moves_both ms ns names old mid new before after =
     told_join (By ms) (By ns) (By (ms ++ ns)) names old mid new (λ x y z xs ys p q. all_both ms ns x y z xs ys p q) before after
 
-pub nothing_told : (names : List (List ℕ)) (old : Scene) → AreTold (By []) names old old
+pub nothing_told : (names : List (List ℕ)) (old : Scene) → ArePrinted (By []) names old old
 nothing_told names old x shows = (x, [], (refl, refl), shows, no_lines names (string_bytes old.text))
 
 -- the stores of what notes a machine's turns have the shape of the machine's after a move too
@@ -79,7 +79,7 @@ one_with x z move log made = (z, log, [], made, (refl, refl), sym (append-nil lo
 pub turn_told : (c : ℕ) (at : Option (ℕ × ℕ)) (events waiting : List Event) (answer : Turn) (names : List (List ℕ)) (old new : Scene)
     → IsWatched old.machine c at events → waiting ≡ buffer_at old.machine.buffers c → TurnsTo old.machine c answer new.machine
     → string_bytes new.text ≡ string_bytes old.text ++ item_lines names (noted c at waiting events answer)
-    → AreTold (By (TurnOf c ∷ [])) names old new
+    → ArePrinted (By (TurnOf c ∷ [])) names old new
 turn_told c at events waiting answer names old new watched waits turn is x shows =
     let r = turn x shows in
     let here : waiting ≡ x.buffers c = waits ∙ ap (λ (f : ℕ → List Event). f c) (sym shows.buffers) in
@@ -112,7 +112,7 @@ no_job m c at events x watched shows free none = silent (watched x shows Idle)
 pub idle_told : (c : ℕ) (at : Option (ℕ × ℕ)) (events waiting : List Event) (answer : Turn) (names : List (List ℕ)) (old new : Scene)
     → IsWatched old.machine c at events → waiting ≡ buffer_at old.machine.buffers c → TurnsTo old.machine c answer new.machine
     → string_bytes new.text ≡ string_bytes old.text ++ item_lines names (noted c at waiting events answer) → answer ≡ Idle → (n : ℕ)
-    → AreTold (By (replicate n (TurnOf c))) names old new
+    → ArePrinted (By (replicate n (TurnOf c))) names old new
 idle_told c at events waiting answer names old new watched waits turn is idle n x shows =
     let none = idles old.machine new.machine c answer turn idle x shows in
     let P : List Task → Type 0 = λ jobs. IsFree jobs c × NoneWaits jobs c in
@@ -148,7 +148,7 @@ oldest_waits (x ∷ xs) d es some is = sym is
 flush_told : (c : ℕ) (e : Event) (rest : List Event) (flushed : Bool) (names : List (List ℕ)) (old new : Scene)
     → buffer_at old.machine.buffers c ≡ e ∷ rest → (flushed ≡ true → MovesTo old.machine (FlushOf c) new.machine)
     → (flushed ≡ false → buffer_at old.machine.buffers c ≡ [])
-    → string_bytes new.text ≡ string_bytes old.text ++ item_lines names (Flushed c e ∷ []) → AreTold (By (FlushOf c ∷ [])) names old new
+    → string_bytes new.text ≡ string_bytes old.text ++ item_lines names (Flushed c e ∷ []) → ArePrinted (By (FlushOf c ∷ [])) names old new
 flush_told c e rest true names old new waits moves none is x shows =
     let r = moves refl x shows in
     let first : x.buffers c ≡ e ∷ rest = ap (λ (f : ℕ → List Event). f c) shows.buffers ∙ waits in
@@ -160,14 +160,14 @@ pub oldest_told : (c : ℕ) (xs : List Stored) (d : Stored) (flushed : Bool) (na
     → map buffers.event_of xs ≡ buffer_at old.machine.buffers c → (flushed ≡ true → MovesTo old.machine (FlushOf c) new.machine)
     → (flushed ≡ false → buffer_at old.machine.buffers c ≡ [])
     → string_bytes new.text ≡ string_bytes old.text ++ item_line names (Flushed c (buffers.event_of (get_or xs 0 d)))
-    → AreTold (By (FlushOf c ∷ [])) names old new
+    → ArePrinted (By (FlushOf c ∷ [])) names old new
 oldest_told c xs d flushed names old new some is moves none line =
     let e = buffers.event_of (get_or xs 0 d) in
     flush_told c e (map buffers.event_of (drop 1 xs)) flushed names old new (oldest_waits xs d (buffer_at old.machine.buffers c) some is) moves none
     (one_line names (Flushed c e) (string_bytes old.text) (string_bytes new.text) line)
 
 pub nothing_flushed : (c : ℕ) (names : List (List ℕ)) (old : Scene) → buffer_at old.machine.buffers c ≡ [] → (n : ℕ)
-    → AreTold (By (replicate n (FlushOf c))) names old old
+    → ArePrinted (By (replicate n (FlushOf c))) names old old
 nothing_flushed c names old none n x shows =
     let here : x.buffers c ≡ [] = ap (λ (f : ℕ → List Event). f c) shows.buffers ∙ none in
     (x, [], over n here, shows, no_lines names (string_bytes old.text))
@@ -178,19 +178,19 @@ nothing_flushed c names old none n x shows =
         (x, [], [], (inr (here, refl), sym (ap (λ (es : List Event). map (Flushed c) (oldest es)) here)), over n here, refl)
 
 -- ---- moves of one kind
-pub one_more : (names : List (List ℕ)) (old mid new : Scene) (move : Move) (n : ℕ) → AreTold (By (replicate n move)) names old mid
-    → AreTold (By (move ∷ [])) names mid new → AreTold (By (replicate (n + 1) move)) names old new
+pub one_more : (names : List (List ℕ)) (old mid new : Scene) (move : Move) (n : ℕ) → ArePrinted (By (replicate n move)) names old mid
+    → ArePrinted (By (move ∷ [])) names mid new → ArePrinted (By (replicate (n + 1) move)) names old new
 one_more names old mid new move n before here =
-    subst (λ (ms : List Move). AreTold (By ms) names old new) (sym (replicate_next n move))
+    subst (λ (ms : List Move). ArePrinted (By ms) names old new) (sym (replicate_next n move))
     (moves_both (replicate n move) (move ∷ []) names old mid new before here)
 
 -- those after one that changes nothing
-pub rest_told : (names : List (List ℕ)) (old mid new : Scene) (move : Move) (k n : ℕ) → k ≤ n → AreTold (By (replicate k move)) names old mid
-    → ((i : ℕ) → AreTold (By (replicate i move)) names mid new) → AreTold (By (replicate n move)) names old new
+pub rest_told : (names : List (List ℕ)) (old mid new : Scene) (move : Move) (k n : ℕ) → k ≤ n → ArePrinted (By (replicate k move)) names old mid
+    → ((i : ℕ) → ArePrinted (By (replicate i move)) names mid new) → ArePrinted (By (replicate n move)) names old new
 rest_told names old mid new move k n within before rest =
     let all : replicate n move ≡ replicate k move ++ replicate (n - k) move =
     ap (λ (i : ℕ). replicate i move) (omega arith) ∙ sym (replicate-append-replicate k (n - k) move) in
-    subst (λ (ms : List Move). AreTold (By ms) names old new) (sym all)
+    subst (λ (ms : List Move). ArePrinted (By ms) names old new) (sym all)
     (moves_both (replicate k move) (replicate (n - k) move) names old mid new before (rest (n - k)))
 
 -- ---- schedules in which each move has how often it is made
@@ -204,9 +204,9 @@ moves_alike zero c = refl
 moves_alike (suc n) c = ap (λ (ms : List Move). move_of c ∷ ms) (moves_alike n c)
 
 pub next_run : (names : List (List ℕ)) (old mid new : Scene) (runs : List (ℕ × ℕ)) (i : ℕ) (d : ℕ × ℕ) → i < length runs
-    → AreTold (By (map move_of (unrolled (take i runs)))) names old mid
-    → AreTold (By (replicate (get_or runs i d).1 (move_of (get_or runs i d).0))) names mid new
-    → AreTold (By (map move_of (unrolled (take (i + 1) runs)))) names old new
+    → ArePrinted (By (map move_of (unrolled (take i runs)))) names old mid
+    → ArePrinted (By (replicate (get_or runs i d).1 (move_of (get_or runs i d).0))) names mid new
+    → ArePrinted (By (map move_of (unrolled (take (i + 1) runs)))) names old new
 next_run names old mid new runs i d inside before here =
     let run = get_or runs i d in
     let last : unrolled (run ∷ []) ≡ replicate run.1 run.0 = append-nil (replicate run.1 run.0) in
@@ -217,26 +217,26 @@ next_run names old mid new runs i d inside before here =
     ap (map move_of) all ∙ (map-append move_of (unrolled (take i runs)) (replicate run.1 run.0) ∙ ap
     (λ (ms : List Move). map move_of (unrolled (take i runs)) ++ ms) (moves_alike run.1 run.0))
     in
-    subst (λ (ms : List Move). AreTold (By ms) names old new) (sym moves) (moves_both (map move_of (unrolled (take i runs)))
+    subst (λ (ms : List Move). ArePrinted (By ms) names old new) (sym moves) (moves_both (map move_of (unrolled (take i runs)))
     (replicate run.1 (move_of run.0)) names old mid new before here)
 
 pub all_runs : (names : List (List ℕ)) (old new : Scene) (runs : List (ℕ × ℕ)) (i : ℕ) → length runs ≤ i
-    → AreTold (By (map move_of (unrolled (take i runs)))) names old new → AreTold (By (map move_of (unrolled runs))) names old new
+    → ArePrinted (By (map move_of (unrolled (take i runs)))) names old new → ArePrinted (By (map move_of (unrolled runs))) names old new
 all_runs names old new runs i past made =
-    subst (λ (rs : List (ℕ × ℕ)). AreTold (By (map move_of (unrolled rs))) names old new) (take_all i runs past) made
+    subst (λ (rs : List (ℕ × ℕ)). ArePrinted (By (map move_of (unrolled rs))) names old new) (take_all i runs past) made
 
 -- ---- rounds
-pub one_cpu_more : (c : ℕ) (names : List (List ℕ)) (old mid turned new : Scene) → AreTold (By (round_below c)) names old mid
-    → AreTold (By (TurnOf c ∷ [])) names mid turned → AreTold (By (FlushOf c ∷ [])) names turned new
-    → AreTold (By (round_below (c + 1))) names old new
+pub one_cpu_more : (c : ℕ) (names : List (List ℕ)) (old mid turned new : Scene) → ArePrinted (By (round_below c)) names old mid
+    → ArePrinted (By (TurnOf c ∷ [])) names mid turned → ArePrinted (By (FlushOf c ∷ [])) names turned new
+    → ArePrinted (By (round_below (c + 1))) names old new
 one_cpu_more c names old mid turned new before turn flush =
     let more : suc c ≡ c + 1 = omega arith in
-    subst (λ (n : ℕ). AreTold (By (round_below n)) names old new) more
+    subst (λ (n : ℕ). ArePrinted (By (round_below n)) names old new) more
     (moves_both (round_below c) (TurnOf c ∷ FlushOf c ∷ []) names old mid new before
     (moves_both (TurnOf c ∷ []) (FlushOf c ∷ []) names mid turned new turn flush))
 
 pub whole_round : (n k : ℕ) (names : List (List ℕ)) (old new : Scene) → k ≡ n → ((c : ℕ) → has_cpu old.machine.machine.store c ≡ nat_lt c n)
-    → AreTold (By (round_below k)) names old new → AreTold TellsRound names old new
+    → ArePrinted (By (round_below k)) names old new → ArePrinted OneRound names old new
 whole_round n k names old new all same told x shows =
     let r = told x shows in
     let cpus : n ≡ x.world.store.shape.cpus = sym (cpus_shown old.machine.machine x.world n same shows.world) in
@@ -245,14 +245,14 @@ whole_round n k names old new all same told x shows =
 -- rounds so far: with those to come they are rounds
 abbrev pub Going : List (List ℕ) → Scene → Scene → Type 0
 Going names old mid = (x : X86) → ShowsX86 old.machine x → (y : X86) × (log : List Item)
-    × ((z : X86) (rest : List Item) → SomeRounds y rest z → SomeRounds x (log ++ rest) z) × ShowsX86 mid.machine y
+    × ((z : X86) (rest : List Item) → LastRounds y rest z → LastRounds x (log ++ rest) z) × ShowsX86 mid.machine y
     × (string_bytes mid.text ≡ string_bytes old.text ++ item_lines names log)
 
 pub not_begun : (names : List (List ℕ)) (old : Scene) → Going names old old
 not_begun names old x shows = (x, [], (λ z rest rounds. rounds), shows, no_lines names (string_bytes old.text))
 
 pub round_more : (names : List (List ℕ)) (old mid new : Scene) → (HaveEnded mid.machine.machine.jobs → ⊥) → Going names old mid
-    → AreTold TellsRound names mid new → Going names old new
+    → ArePrinted OneRound names mid new → Going names old new
 round_more names old mid new unended going round x shows =
     let a = going x shows in
     let b = round a.0 a.3 in
@@ -260,19 +260,19 @@ round_more names old mid new unended going round x shows =
       b.0,
       a.1 ++ b.1,
       λ z rest rounds.
-          subst (λ (log : List Item). SomeRounds x log z) (sym (append_assoc a.1 b.1 rest))
+          subst (λ (log : List Item). LastRounds x log z) (sym (append_assoc a.1 b.1 rest))
           (a.2 z (b.1 ++ rest) (suc rounds.0, (works, (b.0, b.1, rest, b.2, rounds.1, refl)))),
       b.3,
       lines_both names a.1 b.1 (string_bytes old.text) (string_bytes mid.text) (string_bytes new.text) a.4 b.4,
     )
 
-pub last_round : (names : List (List ℕ)) (old mid : Scene) → HaveEnded mid.machine.machine.jobs → Going names old mid → AreTold SomeRounds names old mid
+pub last_round : (names : List (List ℕ)) (old mid : Scene) → HaveEnded mid.machine.machine.jobs → Going names old mid → ArePrinted LastRounds names old mid
 last_round names old mid ended going x shows =
     let a = going x shows in
     let there : HaveEnded a.0.world.jobs = subst HaveEnded (sym a.3.world.jobs) ended in (
       a.0,
       a.1,
-      subst (λ (log : List Item). SomeRounds x log a.0) (append-nil a.1) (a.2 a.0 [] (0, (there, refl, refl))),
+      subst (λ (log : List Item). LastRounds x log a.0) (append-nil a.1) (a.2 a.0 [] (0, (there, refl, refl))),
       a.3,
       a.4,
     )

@@ -92,7 +92,7 @@ MakesAllWith x (move ∷ moves) log z =
     (y : X86) × (first : List Item) × (rest : List Item) × MakesWith x move first y
     × MakesAllWith y moves rest z × (log ≡ first ++ rest)
 
--- so many rounds, until each job has an outcome
+-- n rounds, until each job has an outcome
 abbrev pub MakesRoundsWith : ℕ → X86 → List Item → X86 → Type 0
 MakesRoundsWith zero x log z = HaveEnded x.world.jobs × (z ≡ x) × (log ≡ [])
 MakesRoundsWith (suc n) x log z =

@@ -7,7 +7,7 @@ ghost use Rattle.bpf_machine.specs.Schedule.{World};
 ghost use Rattle.bpf_x86.specs.Machine.{drained};
 ghost use Rattle.bpf_buffering.specs.Search.{ShowsX86};
 ghost use Rattle.bpf_jobs.specs.Printed.{first_of};
-ghost use Rattle.bpf_buffer_events.specs.Private.Watched.{AreWatched, IsOfShape};
+ghost use Rattle.bpf_buffer_events.specs.Private.Watched.{AreWatched, HasShape};
 ghost use Rattle.bpf_buffer_events.specs.Printed.{IsHistoryWithBuffers};
 
 use crate::telling::{Scene, make_moves, make_rounds};
@@ -23,7 +23,7 @@ use std::alloc::{AllocError, Global};
 
 /// A new store of this shape.
 fn new_store(alloc: Global, shape: &StoreShape) -> Result<PlainStore, AllocError>
-    ensures { IfOk result (IsOfShape shape.now) }
+    ensures { IfOk result (HasShape shape.now) }
 {
     let copy = copy_shape(alloc, shape)?;
     PlainStore::new(alloc, copy).map_err(|_| AllocError)

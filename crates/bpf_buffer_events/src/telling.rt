@@ -10,7 +10,7 @@ ghost use Rattle.bpf_flushes.specs.Moves.{round_below};
 ghost use Rattle.bpf_events.specs.Watched.{event_of};
 ghost use Rattle.bpf_buffer_events.specs.Happenings.{items};
 ghost use Rattle.bpf_buffer_events.specs.Printed.{item_lines};
-ghost use Rattle.bpf_buffer_events.specs.Private.Told.{AreTold, By, SomeRounds, TellsRound};
+ghost use Rattle.bpf_buffer_events.specs.Private.Told.{ArePrinted, By, LastRounds, OneRound};
 ghost use Rattle.bpf_buffer_events.specs.Private.Watched.{AreWatched, noted};
 
 use crate::lines::{push_call, push_calls, push_flush};
@@ -112,10 +112,10 @@ fn take_turn(
     cpu: u8,
 ) -> Result<bool, AllocError>
     requires { AreWatched scene.old.machine scene.old.watcher }
-    ensures told { OnOk result (AreTold (By (TurnOf cpu ∷ [])) (map string_bytes names.now)
+    ensures told { OnOk result (ArePrinted (By (TurnOf cpu ∷ [])) (map string_bytes names.now)
         scene.old scene.new) }
     ensures idle { IfOk result (λ worked. worked ≡ false → (n : ℕ)
-        → AreTold (By (replicate n (TurnOf cpu))) (map string_bytes names.now)
+        → ArePrinted (By (replicate n (TurnOf cpu))) (map string_bytes names.now)
         scene.old scene.new) }
     ensures shape { OnOk result (AreWatched scene.new.machine scene.new.watcher) }
 {
@@ -146,10 +146,10 @@ fn is_work(answer: Turn) -> bool
 /// something waited.
 fn flush(alloc: Global, scene: &mut Scene, names: &[String], cpu: u8) -> Result<bool, AllocError>
     requires { AreWatched scene.old.machine scene.old.watcher }
-    ensures told { OnOk result (AreTold (By (FlushOf cpu ∷ [])) (map string_bytes names.now)
+    ensures told { OnOk result (ArePrinted (By (FlushOf cpu ∷ [])) (map string_bytes names.now)
         scene.old scene.new) }
     ensures idle { IfOk result (λ flushed. flushed ≡ false → (n : ℕ)
-        → AreTold (By (replicate n (FlushOf cpu))) (map string_bytes names.now)
+        → ArePrinted (By (replicate n (FlushOf cpu))) (map string_bytes names.now)
         scene.old scene.new) }
     ensures shape { OnOk result (AreWatched scene.new.machine scene.new.watcher) }
 {
@@ -171,10 +171,10 @@ fn make_move(
     made: u8,
 ) -> Result<bool, AllocError>
     requires { AreWatched scene.old.machine scene.old.watcher }
-    ensures told { OnOk result (AreTold (By (move_of made ∷ [])) (map string_bytes names.now)
+    ensures told { OnOk result (ArePrinted (By (move_of made ∷ [])) (map string_bytes names.now)
         scene.old scene.new) }
     ensures idle { IfOk result (λ changes. changes ≡ false → (n : ℕ)
-        → AreTold (By (replicate n (move_of made))) (map string_bytes names.now)
+        → ArePrinted (By (replicate n (move_of made))) (map string_bytes names.now)
         scene.old scene.new) }
     ensures shape { OnOk result (AreWatched scene.new.machine scene.new.watcher) }
 {
@@ -194,7 +194,7 @@ fn repeat(
     count: u64,
 ) -> Result<(), AllocError>
     requires { AreWatched scene.old.machine scene.old.watcher }
-    ensures told { OnOk result (AreTold (By (replicate count (move_of made)))
+    ensures told { OnOk result (ArePrinted (By (replicate count (move_of made)))
         (map string_bytes names.now) scene.old scene.new) }
     ensures shape { OnOk result (AreWatched scene.new.machine scene.new.watcher) }
 {
@@ -214,7 +214,7 @@ pub(crate) fn make_moves(
     runs: &[(u8, u64)],
 ) -> Result<(), AllocError>
     requires { AreWatched scene.old.machine scene.old.watcher }
-    ensures told { OnOk result (AreTold (By (map move_of (unrolled runs.now)))
+    ensures told { OnOk result (ArePrinted (By (map move_of (unrolled runs.now)))
         (map string_bytes names.now) scene.old scene.new) }
     ensures shape { OnOk result (AreWatched scene.new.machine scene.new.watcher) }
 {
@@ -227,7 +227,7 @@ pub(crate) fn make_moves(
 /// One round: each CPU in rising order takes a turn and flushes its oldest waiting store.
 fn make_round(alloc: Global, scene: &mut Scene, names: &[String]) -> Result<(), AllocError>
     requires { AreWatched scene.old.machine scene.old.watcher }
-    ensures told { OnOk result (AreTold TellsRound (map string_bytes names.now)
+    ensures told { OnOk result (ArePrinted OneRound (map string_bytes names.now)
         scene.old scene.new) }
     ensures shape { OnOk result (AreWatched scene.new.machine scene.new.watcher) }
 {
@@ -245,7 +245,7 @@ pub(crate) fn make_rounds(
     names: &[String],
 ) -> Result<(), AllocError>
     requires { AreWatched scene.old.machine scene.old.watcher }
-    ensures told { OnOk result (AreTold SomeRounds (map string_bytes names.now)
+    ensures told { OnOk result (ArePrinted LastRounds (map string_bytes names.now)
         scene.old scene.new) }
 {
     for _ in 0..u64::MAX {

@@ -1,4 +1,4 @@
--- Calls where memory is the same, and the CPU's buffer, come to the same.
+-- Calls where memory and the CPU's buffer are the same have the same results.
 use Rattle.std.proofs.Common.{◌≡◌, ℕ, List, [], ◌∷◌, ◌++◌, refl, sym, ap, subst, ◌∙◌}
 use Rattle.std.specs.Prelude.{map}
 use Rattle.bpf_shared.specs.declared.events.Event.{Event}

@@ -1,4 +1,4 @@
--- A CPU whose stores wait longer: what others do, and its flushes, come to the same.
+-- A CPU whose stores wait longer: what others do, and its flushes, have the same results.
 use Rattle.std.proofs.Common.{◌≡◌, ◌≢◌, ℕ, zero, suc, List, [], ◌∷◌, ◌++◌, Option, Some, None, inl, inr, refl, sym, ap, subst, ◌∙◌}
 use Rattle.std.proofs.Common.{append-nil, append_assoc}
 use Rattle.std.specs.Prelude.{map, slice_get, slice_set}

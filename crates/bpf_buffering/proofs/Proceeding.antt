@@ -1,4 +1,4 @@
--- What a turn's parts come to.
+-- What a turn's parts do.
 use Rattle.std.proofs.Common.{◌≡◌, ℕ, Bool, true, false, List, Option, Some, refl, sym, ap, subst, ◌∙◌}
 use Rattle.std.specs.Prelude.{Vec, slice_get, slice_set, slice_index_or}
 use Rattle.std.specs.declared.alloc.Global.{Global}

@@ -61,7 +61,7 @@ fn advance(
     }
 }
 
-/// What a turn in which a job made a step comes to.
+/// The result of a turn in which a job made a step.
 pub(crate) fn answer(job: usize, end: Option<Outcome>) -> Turn
     ensures { result ≡ answer_of job end }
 {

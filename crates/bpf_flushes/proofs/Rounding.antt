@@ -32,7 +32,7 @@ none_yet old = record {
   idle = λ e. (refl, λ d less. absurd (omega arith));
 }
 
--- what a CPU's turn comes to
+-- what a CPU's turn did
 pub record Took (mid : BufferedState) (c : ℕ) (took : Bool) (new : BufferedState) : Type 0 where
   pub makes : MakesTo mid (TurnOf c ∷ []) new
   pub idle : took ≡ false → IdlesAt mid c new

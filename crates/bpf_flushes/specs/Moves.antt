@@ -30,7 +30,7 @@ round_below (suc n) = round_below n ++ TurnOf n ∷ FlushOf n ∷ []
 abbrev pub MakesRound : X86 → X86 → Type 0
 MakesRound x z = MakesAll x (round_below x.world.store.shape.cpus) z
 
--- so many rounds, until each job has an outcome
+-- n rounds, until each job has an outcome
 abbrev pub MakesRounds : ℕ → X86 → X86 → Type 0
 MakesRounds zero x z = HaveEnded x.world.jobs × (z ≡ x)
 MakesRounds (suc n) x z =

@@ -12,8 +12,8 @@ use Rattle.bpf_buffer_events.specs.declared.watching.Watcher.{Watcher}
 use Rattle.bpf_buffer_events.specs.Happenings.{Item, Happens, items}
 
 -- a store of this shape
-abbrev pub IsOfShape : Shape → Contents → Type 0
-IsOfShape h p = ((c : ℕ) → has_cpu p c ≡ nat_lt c h.cpus) × (shape_of p ≡ h)
+abbrev pub HasShape : Shape → Contents → Type 0
+HasShape h p = ((c : ℕ) → has_cpu p c ≡ nat_lt c h.cpus) × (shape_of p ≡ h)
 
 -- its stores have the shape of the machine's
 abbrev pub AreWatched : BufferedState → Watcher → Type 0

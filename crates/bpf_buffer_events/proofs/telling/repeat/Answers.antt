@@ -1,7 +1,7 @@
 use Rattle.std.proofs.Common.{◌≡◌, ℕ, map, replicate, subst, arith}
 use Rattle.std.specs.Prelude.{string_bytes}
 use Rattle.bpf_buffering.specs.Search.{move_of}
-use Rattle.bpf_buffer_events.specs.Private.Told.{AreTold, By}
+use Rattle.bpf_buffer_events.specs.Private.Told.{ArePrinted, By}
 use Rattle.bpf_buffer_events.proofs.Joined.{nothing_told, one_more, rest_told}
 use Rattle.bpf_buffer_events.proofs.telling.repeat.Goals as goal
 
@@ -18,7 +18,7 @@ loop-preserved c = record {
 pub returns-after-loop-clause-told : goal.returns-after-loop-clause-told
 returns-after-loop-clause-told c =
     let all : c.loop.counter ≡ c.args.count = omega arith in
-    subst (λ (n : ℕ). AreTold (By (replicate n (move_of c.args.made))) (map string_bytes c.args.names.now) c.args.scene.now c.loop.scene) all
+    subst (λ (n : ℕ). ArePrinted (By (replicate n (move_of c.args.made))) (map string_bytes c.args.names.now) c.args.scene.now c.loop.scene) all
     c.loop.invariant.told
 
 pub returns-then-not-branch-clause-told : goal.returns-then-not-branch-clause-told
