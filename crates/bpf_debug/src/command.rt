@@ -71,7 +71,7 @@ pub fn is(word: &[u8], text: &str) -> bool
 }
 
 /// A CPU's number: a number of any size, which names none where it is too large.
-fn cpu_in(word: &[u8]) -> Option<Option<u8>>
+pub fn cpu_in(word: &[u8]) -> Option<Option<u8>>
     ensures { result ≡ cpu_in word.now }
 {
     match words::number(word) {

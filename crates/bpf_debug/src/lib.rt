@@ -3,25 +3,25 @@
 
 pub mod breakpoint;
 pub mod command;
-mod course;
+pub mod course;
 pub mod error;
 mod going;
-mod held;
+pub mod held;
 mod help;
 pub mod laws;
-mod lines;
-mod maps;
-mod nearby;
+pub mod lines;
+pub mod maps;
+pub mod nearby;
 mod origin;
 mod places;
-mod reading;
+pub mod reading;
 mod recall;
 mod schedule;
 pub mod script;
 pub mod session;
 mod show;
-mod text;
-mod told;
+pub mod text;
+pub mod told;
 mod turns;
 mod watch;
 

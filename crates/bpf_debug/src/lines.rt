@@ -40,7 +40,8 @@ pub fn put_place(out: &mut String, cpu: u8, job: usize, pc: u32, depth: usize)
     put(out, "\n");
 }
 
-fn put_in_hand(out: &mut String, cpu: u8, job: usize, state: &Cpu)
+/// Puts the line of a CPU that has a job in hand, in this state.
+pub fn put_in_hand(out: &mut String, cpu: u8, job: usize, state: &Cpu)
     requires { string_len out.old + 128 ≤ string_capacity out.old }
     ensures text { string_bytes out.new ≡ string_bytes out.old ++ in_hand_line cpu job state.now }
     ensures size { string_len out.new ≤ string_len out.old + 128 }
@@ -178,7 +179,8 @@ fn put_outcome(out: &mut String, outcome: Outcome)
     }
 }
 
-fn put_job(out: &mut String, cpu: u8, job: usize, outcome: Outcome)
+/// Puts the line of a job that has ended.
+pub fn put_job(out: &mut String, cpu: u8, job: usize, outcome: Outcome)
     requires { string_len out.old + 128 ≤ string_capacity out.old }
     ensures text { string_bytes out.new ≡ string_bytes out.old ++ job_line job cpu outcome }
     ensures size { string_len out.new ≤ string_len out.old + 128 }
@@ -255,7 +257,8 @@ pub fn put_stop(out: &mut String, cpu: u8, pc: u32)
     put(out, "\n");
 }
 
-fn put_open(out: &mut String, cpu: u8, job: usize)
+/// Puts the line of a job that hasn't ended.
+pub fn put_open(out: &mut String, cpu: u8, job: usize)
     requires { string_len out.old + 128 ≤ string_capacity out.old }
     ensures text { string_bytes out.new ≡ string_bytes out.old ++ open_line job cpu }
     ensures size { string_len out.new ≤ string_len out.old + 128 }

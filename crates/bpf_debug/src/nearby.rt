@@ -71,7 +71,7 @@ fn first_shown(here: u32) -> u32
 }
 
 /// The lines of the instructions near a pc.
-fn program_lines(alloc: Global, program: &Program, here: u32) -> Result<String, AllocError>
+pub fn program_lines(alloc: Global, program: &Program, here: u32) -> Result<String, AllocError>
     requires { IsStart program.now.instructions here }
     ensures { IfOk result (λ text. TellsLines program.now here (first_shown here)
         (count_shown here) (string_bytes text)) }

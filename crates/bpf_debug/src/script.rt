@@ -15,7 +15,7 @@ use std::alloc::{AllocError, Global};
 pub type Answer = Result<String, DebugError>;
 
 /// The text, in no more memory than it needs.
-fn fitted(text: String) -> String
+pub fn fitted(text: String) -> String
     ensures { string_bytes result ≡ string_bytes text }
 {
     let mut text = text;
@@ -35,7 +35,7 @@ pub fn answer(alloc: Global, session: &mut Session, line: &[u8]) -> Answer
 }
 
 /// How many lines a text has.
-fn count_lines(text: &[u8]) -> usize
+pub fn count_lines(text: &[u8]) -> usize
     ensures { result ≡ length (lines_of text.now) }
 {
     let mut count: usize = 0;

@@ -73,7 +73,7 @@ impl Model for Session {
 }
 
 /// Whether some program has an instruction that begins at a pc.
-fn is_pc(programs: &[Program], pc: u32) -> bool
+pub fn is_pc(programs: &[Program], pc: u32) -> bool
     ensures { IsTrue result ↔ IsPc programs.now pc }
 {
     for program in programs {
@@ -92,7 +92,7 @@ fn are_cpus(runs: &[(u8, u64)], cpus: u8) -> bool
 }
 
 /// Room for this many lines and some more.
-fn make_room(alloc: Global, lines: usize) -> Result<String, AllocError>
+pub fn make_room(alloc: Global, lines: usize) -> Result<String, AllocError>
     ensures empty { IfOk result (λ s. string_bytes s ≡ []) }
     ensures size { IfOk result (λ s. string_len s ≡ 0) }
     ensures room { IfOk result (λ s. 128 * lines + 1024 ≤ string_capacity s) }
