@@ -3,10 +3,10 @@ use Rattle.std.proofs.Common.{◌≡◌, ◌∙◌, ℕ, zero, suc, ◌+◌, ◌
 use Rattle.std.proofs.Common.{replicate, get_or, inl, inr, refl, sym, ap, subst, arith}
 use Rattle.std.proofs.lemmas.List.{map-append, replicate-append-replicate, take_more, take_all}
 use Rattle.std.proofs.lemmas.Grind.{replicate_next}
-use Rattle.bpf_machine.specs.Schedule.{World, unrolled}
-use Rattle.bpf_x86.specs.Machine.{X86, Move, Moves, RunsMoves}
-use Rattle.bpf_buffering.specs.Search.{BufferedState, ShowsX86, MovesTo, move_of}
-use Rattle.bpf_flushes.specs.Moves.{Makes, MakesAll, MakesTo}
+use Rattle.bpf_machine.specs.Schedule.{unrolled}
+use Rattle.bpf_x86.specs.Machine.{X86, Move, RunsMoves}
+use Rattle.bpf_buffering.specs.Search.{BufferedState, MovesTo, move_of}
+use Rattle.bpf_flushes.specs.Moves.{MakesAll, MakesTo}
 
 pub runs_both : (ms ns : List Move) (x y z : X86) → RunsMoves x ms y → RunsMoves y ns z → RunsMoves x (ms ++ ns) z
 runs_both [] ns x y z p q = subst (λ (s : X86). RunsMoves s ns z) p q

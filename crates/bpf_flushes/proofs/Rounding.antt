@@ -1,5 +1,5 @@
 -- Rounds of machines whose CPUs have store buffers.
-use Rattle.std.proofs.Common.{◌≡◌, ◌∙◌, ℕ, zero, suc, ◌+◌, ◌<◌, ◌≤◌, Bool, true, false, ◌||◌, List, [], ◌∷◌, ◌++◌, length, Option, Some}
+use Rattle.std.proofs.Common.{◌≡◌, ◌∙◌, ℕ, zero, suc, ◌+◌, ◌<◌, ◌≤◌, Bool, true, false, ◌||◌, List, [], ◌∷◌, length, Option, Some}
 use Rattle.std.proofs.Common.{None, inl, inr, refl, sym, ap, subst, arith}
 use Rattle.std.specs.Prelude.{is_some, nat_lt, option_and_then, slice_get}
 use Rattle.std.proofs.lemmas.Bool.{cases_lt}
@@ -11,7 +11,7 @@ use Rattle.bpf_machine.specs.Hands.{IsFree, NoneWaits}
 use Rattle.bpf_machine.specs.Questions.{turns_left}
 use Rattle.bpf_machine.specs.Rounds.{HaveEnded}
 use Rattle.bpf_machine.proofs.RoundLaws.{all_ended, cpus_shown}
-use Rattle.bpf_x86.specs.Machine.{X86, Move, TurnOf, FlushOf}
+use Rattle.bpf_x86.specs.Machine.{X86, TurnOf, FlushOf}
 use Rattle.bpf_buffering.specs.Search.{BufferedState, ShowsX86}
 use Rattle.bpf_flushes.specs.Moves.{IdlesAt, MakesAll, MakesTo, MakesRounds, RoundTo, RoundsTo, round_below}
 use Rattle.bpf_flushes.proofs.Joining.{nothing_made, makes_both}

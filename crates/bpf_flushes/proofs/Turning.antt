@@ -1,8 +1,8 @@
 -- Turns and flushes of machines whose CPUs have store buffers: which change nothing, and how far turns
 -- lead.
-use Rattle.std.proofs.Common.{◌≡◌, ◌∙◌, ℕ, zero, suc, ◌+◌, ◌-◌, ◌<◌, ◌≤◌, Bool, true, false, List, [], ◌∷◌, Option, Some, None, replicate}
+use Rattle.std.proofs.Common.{◌≡◌, ◌∙◌, ℕ, zero, suc, ◌-◌, ◌<◌, ◌≤◌, Bool, true, false, List, [], ◌∷◌, Option, Some, None, replicate}
 use Rattle.std.proofs.Common.{inl, inr, refl, sym, ap, subst, arith}
-use Rattle.std.specs.Prelude.{nat_lt, slice_get, if◌then◌else◌}
+use Rattle.std.specs.Prelude.{slice_get, if◌then◌else◌}
 use Rattle.std.proofs.lemmas.Bool.{lt-ltb, le-ltb}
 use Rattle.bpf_shared.specs.declared.events.Event.{Event}
 use Rattle.bpf_loader.specs.Loaded.{Loaded}
@@ -18,7 +18,7 @@ use Rattle.bpf_machine.specs.Questions.{turns_before_end, turns_left}
 use Rattle.bpf_machine.proofs.FallLaws.{summed}
 use Rattle.bpf_machine.proofs.ListLaws.{lists_jobs}
 use Rattle.bpf_x86.specs.Buffers.{Buffered}
-use Rattle.bpf_x86.specs.Machine.{X86, Move, TurnOf, FlushOf, with_buffered, Advances, Settled, GoesOn, TakesTurn}
+use Rattle.bpf_x86.specs.Machine.{X86, TurnOf, FlushOf, with_buffered, Advances, Settled, GoesOn, TakesTurn}
 use Rattle.bpf_buffering.specs.Search.{BufferedState, ShowsX86, MovesTo, buffer_at, move_of}
 use Rattle.bpf_buffering.specs.Buffering.{TurnsTo}
 use Rattle.bpf_flushes.specs.Moves.{IdlesAt, MakesAll, MakesTo}

@@ -1,5 +1,5 @@
 -- Verdicts by the outcomes of CPUs with store buffers are true.
-use Rattle.std.proofs.Common.{◌≡◌, Bool, true, false, cond, sym, subst, refl, map}
+use Rattle.std.proofs.Common.{◌≡◌, Bool, true, cond, sym, subst, refl, map}
 use Rattle.std.specs.Prelude.{◌&&◌}
 use Rattle.bpf_names.specs.Names.{Names}
 use Rattle.bpf_machine.specs.Schedule.{World, unrolled}
@@ -7,7 +7,7 @@ use Rattle.bpf_x86.specs.Machine.{drained}
 use Rattle.bpf_buffering.specs.Search.{move_of}
 use Rattle.bpf_explore.specs.Outcomes.{Found}
 use Rattle.bpf_check.specs.declared.judging.Verdict.{Verdict}
-use Rattle.bpf_check.specs.Expectation.{Expected, asks_ends, asks_hung, asks_of_races}
+use Rattle.bpf_check.specs.Expectation.{Expected, asks_ends, asks_hung}
 use Rattle.bpf_check.specs.Faults.{are_faults_unexpected}
 use Rattle.bpf_check.specs.Findings.{Findings}
 use Rattle.bpf_check.specs.Verdict.{IsTrueOf, decides, ends_verdict, hung_verdict, is_empty, outcome_verdict, races_verdict}

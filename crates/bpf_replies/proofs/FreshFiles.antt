@@ -1,7 +1,6 @@
 -- The machine of a run file is one before its first turn.
-use Rattle.std.proofs.Common.{Bool, Ok, string_bytes, ◌≡◌, ◌≤◌, ℕ, zero, suc, List, [], ◌∷◌, Some, map, length, refl, subst, arith}
+use Rattle.std.proofs.Common.{Bool, Ok, string_bytes, ◌≡◌, ℕ, zero, suc, List, [], ◌∷◌, Some, map, length, refl, subst, arith}
 use Rattle.std.specs.Prelude.{All, slice_get}
-use Rattle.bpf_mem.specs.Limits.{max_context}
 use Rattle.bpf_shared.proofs.Soundness.{as_made_sound}
 use Rattle.bpf_shared.specs.Shape.{IsShape}
 use Rattle.bpf_names.specs.Names.{names_of}

@@ -1,5 +1,5 @@
 -- What a search with store buffers shows of an outcome, its schedule and rounds after it show again.
-use Rattle.std.proofs.Common.{◌≡◌, ◌∙◌, ℕ, zero, Bool, true, List, [], ◌∷◌, ◌++◌, Some, Ok, inl, refl, sym, ap, subst, map, string_bytes}
+use Rattle.std.proofs.Common.{◌≡◌, ◌∙◌, ℕ, zero, Bool, true, List, [], ◌∷◌, ◌++◌, Some, Ok, inl, refl, ap, subst, map, string_bytes}
 use Rattle.std.specs.Prelude.{slice_get}
 use Rattle.bpf_names.specs.Names.{Names}
 use Rattle.bpf_machine.specs.Schedule.{World, unrolled}

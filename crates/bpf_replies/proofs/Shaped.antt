@@ -29,7 +29,7 @@ use Rattle.bpf_file.specs.Programs.{text_of_lines}
 use Rattle.bpf_file.specs.Rows.{unless, cpus_refusal, map_refusal, array_refusal, data_refusal, data_laid, or_refused, data_added}
 use Rattle.bpf_file.specs.Rows.{name_refusal, place_refusal, variable_added, is_sized, is_numbered, pair_refusal, pair_put, value_put}
 use Rattle.bpf_file.specs.Rows.{key_put, pair_added, value_place, element_put, element_added, numbered_bytes, pair_numbered}
-use Rattle.bpf_file.specs.Rows.{element_numbered, put_added, numbers_added, program_added, WordsAdd, served, context_of, job_added, placed}
+use Rattle.bpf_file.specs.Rows.{element_numbered, put_added, numbers_added, program_added, WordsAdd, served, job_added, placed}
 use Rattle.bpf_file.specs.Rows.{AddsLine, input_said, job_put}
 use Rattle.bpf_file.specs.Reading.{AddsOrRefuses, FieldsSay, is_end, Belongs, ReadsLine, finished, AreRead, IsRunFile}
 use Rattle.bpf_file.specs.Private.Fits.{IsFit, IsFitState, IsFitResult}

@@ -5,7 +5,7 @@ use Rattle.bpf_check.specs.Expectation.{Expected}
 use Rattle.bpf_check.specs.Findings.{Findings, Raced}
 use Rattle.bpf_check.specs.Listing.{count_of, listed_text, name_text, plan_text}
 use Rattle.bpf_check.specs.Verdict.{conclusion_of, verdicts_of}
-use Rattle.bpf_replies.specs.Checking.{AreGroundsBy, AreNotesOf, head_text, is_patient, is_told, is_unmet, limit_of, reading_by, states_of}
+use Rattle.bpf_replies.specs.Checking.{AreGroundsBy, AreNotesOf, head_text, is_told, is_unmet, reading_by, states_of}
 use Rattle.bpf_replies.specs.Input.{RefusesInput}
 use Rattle.bpf_replies.specs.Diagnostic.{refusal_text}
 use Rattle.bpf_replies.specs.Comments.{AreLinesIn, IsExpectedIn, RefusesComments}

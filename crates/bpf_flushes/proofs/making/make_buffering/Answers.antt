@@ -1,4 +1,4 @@
-use Rattle.std.proofs.Common.{◌≡◌, ℕ, List, map, refl, sym, ap, subst, ◌∙◌}
+use Rattle.std.proofs.Common.{ℕ, List, map, sym, ap, subst}
 use Rattle.bpf_shared.specs.declared.events.Event.{Event}
 use Rattle.bpf_shared.specs.Chain.{Chain}
 use Rattle.bpf_plain.specs.PlainStore.{Contents, Passes, StandsFor, has_cpu}
@@ -7,7 +7,7 @@ use Rattle.bpf_pairs.specs.Pairs.{pair_of}
 use Rattle.bpf_pairs.specs.Putting.{run_events}
 use Rattle.bpf_pairs.specs.Filled.{filled}
 use Rattle.bpf_pairs.proofs.Filling.{filled_sound}
-use Rattle.bpf_machine.specs.Listings.{Listing, listing_at}
+use Rattle.bpf_machine.specs.Listings.{listing_at}
 use Rattle.bpf_x86.specs.Machine.{none_waits}
 use Rattle.bpf_x86.proofs.Alike.{same_functions}
 use Rattle.bpf_buffering.specs.Search.{buffer_at}
