@@ -78,7 +78,8 @@ impl Model for Album {
 impl Album {
     ghost use Rattle.std.specs.Prelude.{◌≡◌, ◌<◌, ◌≤◌, ◌+◌, ◌++◌, ◌∷◌, ℕ, [], true, false, Some, None, IfOk, IfSome, OnOk, OnErr, length, replicate, slice_get};
     ghost use Rattle.bpf_x86.specs.Machine.{TurnOf, FlushOf};
-    ghost use Rattle.bpf_buffering.specs.Search.{BufferedState, MovesTo, RunsTo, CannotMove, IsKeptAsX86};
+    ghost use Rattle.bpf_buffering.specs.Search.{BufferedState, MovesTo, RunsTo, CannotMove, IsKeptAsX86, buffer_at};
+    ghost use Rattle.bpf_buffering.specs.Buffering.{TurnsTo};
     ghost use Rattle.bpf_buffering.specs.Ahead.{MovesAhead};
     ghost use Rattle.bpf_buffering.specs.Album.{HaveEndedAt};
 
@@ -166,6 +167,31 @@ impl Album {
             &mut self.bytes,
         );
         self.store = store;
+    }
+
+    /// One turn of a CPU, after which no kept store is looked for.
+    pub fn turn(&mut self, cpu: u8) -> Result<Turn, AllocError>
+        ensures turns { IfOk result
+            (λ turn. TurnsTo self.old.machine cpu turn self.new.machine) }
+        ensures host { IsSameHost self.old.machine.machine self.new.machine.machine }
+        ensures same { self.new.kept ≡ self.old.kept }
+    {
+        self.store = None;
+        self.machine.turn(cpu)
+    }
+
+    /// The CPU's oldest waiting store reaches memory, after which no kept store is looked for. Whether
+    /// one waits.
+    pub fn flush_alone(&mut self, cpu: u8) -> bool
+        ensures flushed { result ≡ true
+            → MovesTo self.old.machine (FlushOf cpu) self.new.machine }
+        ensures empty { result ≡ false → buffer_at self.old.machine.buffers cpu ≡ [] }
+        ensures unchanged { result ≡ false → self.new.machine ≡ self.old.machine }
+        ensures host { IsSameHost self.old.machine.machine self.new.machine.machine }
+        ensures same { self.new.kept ≡ self.old.kept }
+    {
+        self.store = None;
+        self.machine.flush(cpu)
     }
 
     /// One turn of a CPU, and then those of its turns that no other CPU sees. How many of these; `None`

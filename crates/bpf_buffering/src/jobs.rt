@@ -1,13 +1,14 @@
 //! The jobs of a machine, and how one goes on.
 
-ghost use Rattle.std.specs.Prelude.{◌≡◌, true, false, IfOk, IfSome, IfNone, map};
+ghost use Rattle.std.specs.Prelude.{◌≡◌, ℕ, true, false, IfOk, IfSome, IfNone, map};
 ghost use Rattle.bpf_plain.specs.PlainStore.{is_running, held_spans, shape_of};
 ghost use Rattle.bpf_helpers.specs.Held.{AreHeld, KeepsRun};
 ghost use Rattle.bpf_cpu.specs.Step.{IsReady};
-ghost use Rattle.bpf_cpu.specs.Task.{Ended};
+ghost use Rattle.bpf_cpu.specs.Task.{Ended, InHand};
 ghost use Rattle.bpf_machine.specs.Kept.{kept_stage};
 ghost use Rattle.bpf_machine.specs.Hands.{IsFree, NoneWaits};
 ghost use Rattle.bpf_machine.specs.Work.{HasInHand};
+ghost use Rattle.bpf_machine.specs.Questions.{IsStanding};
 ghost use Rattle.bpf_buffering.specs.Waiting.{serves_one};
 ghost use Rattle.bpf_buffering.specs.Jobs.{first_entry, in_hand, waits, held_by, waits_for, task_of, tasks_of, IsTakenUp, IsLowest};
 ghost use Rattle.bpf_buffering.specs.Buffering.{answer_of};
@@ -16,7 +17,7 @@ ghost use Rattle.bpf_buffering.specs.Going.{AdvancesOver, CanGoOn, GoesOver, Lea
 use crate::waiting::Waiting;
 use bpf_cpu::{Cpu, Input, Job, Outcome, Progress};
 use bpf_loader::Program;
-use bpf_machine::{KeptStage, Turn};
+use bpf_machine::{KeptStage, Standing, Turn};
 use bpf_shared::Shared;
 use std::alloc::{AllocError, Global};
 use std::mem;
@@ -119,6 +120,28 @@ impl Listed {
         ensures { result ≡ waits_for cpu self.now }
     {
         self.cpu == cpu && self.waits()
+    }
+
+    /// The state of its CPU, if it is in hand.
+    fn state(&self) -> Option<&Cpu>
+        ensures some { IfSome result
+            (λ state. (left : ℕ) × (kept_stage self.now.stage ≡ InHand state.now left)) }
+        ensures none { IfNone result (in_hand (kept_stage self.now.stage) ≡ false) }
+    {
+        match &self.stage {
+            KeptStage::Waiting(_) => None,
+            KeptStage::InHand(state, _) => Some(state),
+            KeptStage::Ended(_) => None,
+        }
+    }
+
+    /// The state of this CPU, if the job is in its hand.
+    fn state_of(&self, cpu: u8) -> Option<&Cpu>
+        ensures some { IfSome result (λ state. (self.now.cpu ≡ cpu)
+            × ((left : ℕ) × (kept_stage self.now.stage ≡ InHand state.now left))) }
+        ensures none { IfNone result (held_by cpu self.now ≡ false) }
+    {
+        if self.cpu == cpu { self.state() } else { None }
     }
 
     /// Is taken in hand.
@@ -246,4 +269,27 @@ pub(crate) fn find_waiting(jobs: &[Listed], cpu: u8) -> Option<usize>
         }
     }
     None
+}
+
+/// Where a CPU is that has no job in hand.
+fn stands_off<'a>(jobs: &'a [Listed], cpu: u8) -> Standing<'a>
+    requires { IsFree (tasks_of jobs.now) cpu }
+    ensures { IsStanding (tasks_of jobs.now) cpu result }
+{
+    match find_waiting(jobs, cpu) {
+        Some(job) => Standing::Waiting(job),
+        None => Standing::Idle,
+    }
+}
+
+/// Where a CPU is.
+pub(crate) fn standing_in<'a>(jobs: &'a [Listed], cpu: u8) -> Standing<'a>
+    ensures { IsStanding (tasks_of jobs.now) cpu result }
+{
+    for job in 0..jobs.len() {
+        if let Some(state) = jobs[job].state_of(cpu) {
+            return Standing::InHand(job, state);
+        }
+    }
+    stands_off(jobs, cpu)
 }

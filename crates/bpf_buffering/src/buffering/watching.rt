@@ -5,6 +5,7 @@ ghost use Rattle.bpf_plain.specs.Alike.{IsSameShape};
 ghost use Rattle.bpf_plain.specs.PlainStore.{held_spans, is_running};
 ghost use Rattle.bpf_machine.specs.Hands.{IsFree, NoneWaits};
 ghost use Rattle.bpf_machine.specs.Work.{HasInHand, IsNext};
+ghost use Rattle.bpf_machine.specs.Questions.{IsStanding};
 ghost use Rattle.bpf_x86.specs.Forwarding.{AreStores};
 ghost use Rattle.bpf_buffering.specs.Buffering.{IsSeenBy, Stands};
 ghost use Rattle.bpf_buffering.specs.Jobs.{task_of};
@@ -12,8 +13,9 @@ ghost use Rattle.bpf_buffering.specs.Search.{buffer_at};
 ghost use Rattle.bpf_buffering.specs.Waiting.{event_of};
 
 use super::Buffering;
-use crate::jobs::{Listed, copy_job, find_hand, find_waiting};
+use crate::jobs::{Listed, copy_job, find_hand, find_waiting, standing_in};
 use crate::waiting::{Stored, make_stores};
+use bpf_machine::Standing;
 use bpf_plain::PlainStore;
 use std::alloc::{AllocError, Global};
 
@@ -47,6 +49,13 @@ impl Buffering {
             Some(job) => Some(job),
             None => find_waiting(&self.jobs, cpu),
         }
+    }
+
+    /// Where a CPU is.
+    pub fn standing(&self, cpu: u8) -> Standing<'_>
+        ensures { IsStanding self.now.machine.jobs cpu result }
+    {
+        standing_in(&self.jobs, cpu)
     }
 
     /// A copy of a job.
