@@ -7,7 +7,9 @@ use Rattle.std.proofs.lemmas.Option.{slice_get-map, slice_get_within, get_or_fro
 use Rattle.bpf_plain.specs.PlainStore.{Contents, has_cpu}
 use Rattle.bpf_plain.specs.Alike.{IsSameShape}
 use Rattle.bpf_loader.specs.Loaded.{Loaded}
+use Rattle.bpf_machine.specs.Machine.{MachineState}
 use Rattle.bpf_machine.specs.Parts.{IsSameHost}
+use Rattle.bpf_machine.specs.Patient.{IsRefilled}
 use Rattle.bpf_machine.specs.Rounds.{HaveEnded}
 use Rattle.bpf_x86.specs.Machine.{TurnOf, FlushOf, Move}
 use Rattle.bpf_machine.specs.declared.machine.Turn.{Turn}
@@ -58,6 +60,22 @@ album_after old new p kept number went is = record {
 pub states_after : (old new : BufferedState) (p : Pools) (kept : List Numbers) → IsSameHost old.machine new.machine → states new p kept ≡
     states old p kept
 states_after old new p kept went = ap (λ (ps : List Loaded). map (kept_state p ps) kept) went.programs
+
+-- the number of its store is known still, where it has the same
+pub album_same : (old new : BufferedState) (p : Pools) (kept : List Numbers) (number : Option ℕ) → IsSameHost old.machine new.machine →
+    new.machine.store ≡ old.machine.store → IsAlbum old p kept number → IsAlbum new p kept number
+album_same old new p kept number went same is =
+    let after = album_after old new p kept number went is in
+    record { fits = after.fits; shapes = after.shapes; known = known number is.known }
+  where
+    known : (o : Option ℕ) → IfSome o (λ n. slice_get p.stores n ≡ Some old.machine.store) → IfSome o
+        (λ n. slice_get p.stores n ≡ Some new.machine.store)
+    known None is_known = tt
+    known (Some n) is_known = is_known ∙ ap Some (sym same)
+
+pub filled_store : (old new : MachineState) (c : ℕ) → IsRefilled old c new → new.store ≡ old.store
+filled_store old new c (inl (free, same)) = ap (λ (m : MachineState). m.store) same
+filled_store old new c (inr (j, (task, state, left, more, at, sum, is))) = ap (λ (m : MachineState). m.store) is
 
 -- ---- the pools have grown
 pub states_still : (m : BufferedState) (store : Contents) (p q : Pools) (kept : List Numbers) → AddsTo store p q → All (FitsHost m p) kept →

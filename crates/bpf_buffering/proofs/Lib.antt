@@ -16,6 +16,7 @@ pub mod Standing
 pub mod Waits
 pub mod Seeing
 pub mod Placing
+pub mod Filling
 pub mod Proceeding
 pub mod Flushing
 pub mod Stepping

@@ -1,5 +1,5 @@
 -- A machine's jobs, as they are listed.
-use Rattle.std.specs.Prelude.{◌≡◌, ℕ, Bool, true, false, List, map, ◌==◌, ◌&&◌}
+use Rattle.std.specs.Prelude.{◌≡◌, ℕ, Bool, true, false, List, map, max, ◌==◌, ◌&&◌}
 use Rattle.bpf_cpu.specs.declared.input.Input.{Input}
 use Rattle.bpf_cpu.specs.declared.job.Job.{Job}
 use Rattle.bpf_cpu.specs.State.{start}
@@ -45,6 +45,12 @@ waits_for cpu x = (x.cpu == cpu) && waits (kept_stage x.stage)
 abbrev pub IsTakenUp : Listed → Stage → Type 0
 IsTakenUp x stage = (input : Input) → kept_stage x.stage ≡ Waiting input
     → stage ≡ InHand (start x.cpu input) x.budget
+
+-- the stage with the whole budget left, or with what was left where that is more
+abbrev pub filled_up : ℕ → Stage → Stage
+filled_up budget (Waiting input) = Waiting input
+filled_up budget (InHand state left) = InHand state (max left budget)
+filled_up budget (Ended outcome) = Ended outcome
 
 -- the CPU's lowest job that waits
 abbrev pub IsLowest : List Task → ℕ → ℕ → Type 0

@@ -77,6 +77,7 @@ impl Model for Album {
 
 impl Album {
     ghost use Rattle.std.specs.Prelude.{◌≡◌, ◌<◌, ◌≤◌, ◌+◌, ◌++◌, ◌∷◌, ℕ, [], true, false, Some, None, IfOk, IfSome, OnOk, OnErr, length, replicate, slice_get};
+    ghost use Rattle.bpf_machine.specs.Patient.{IsRefilled};
     ghost use Rattle.bpf_x86.specs.Machine.{TurnOf, FlushOf};
     ghost use Rattle.bpf_buffering.specs.Search.{BufferedState, MovesTo, RunsTo, CannotMove, IsKeptAsX86, buffer_at};
     ghost use Rattle.bpf_buffering.specs.Buffering.{TurnsTo};
@@ -214,6 +215,15 @@ impl Album {
         let more = self.machine.run_ahead(cpu)?;
         self.settle();
         Ok(Some(more))
+    }
+
+    /// Gives the job that a CPU has in hand, if it has one, its whole budget back.
+    pub fn refill(&mut self, cpu: u8)
+        ensures refills { IsRefilled self.old.machine.machine cpu self.new.machine.machine }
+        ensures buffers { self.new.machine.buffers ≡ self.old.machine.buffers }
+        ensures same { self.new.kept ≡ self.old.kept }
+    {
+        self.machine.refill(cpu);
     }
 
     /// The CPU's oldest waiting store reaches memory. Whether one waits.

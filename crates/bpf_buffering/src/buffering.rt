@@ -5,6 +5,7 @@ ghost use Rattle.std.specs.Prelude.{◌≡◌, ℕ, [], IfOk, length};
 ghost use Rattle.bpf_buffering.specs.Buffering.{stored_at};
 
 mod keeping;
+mod refilling;
 mod watching;
 
 use crate::jobs::{Listed, answer, find_hand, find_waiting, list_jobs};

@@ -10,7 +10,7 @@ ghost use Rattle.bpf_machine.specs.Hands.{IsFree, NoneWaits};
 ghost use Rattle.bpf_machine.specs.Work.{HasInHand};
 ghost use Rattle.bpf_machine.specs.Questions.{IsStanding};
 ghost use Rattle.bpf_buffering.specs.Waiting.{serves_one};
-ghost use Rattle.bpf_buffering.specs.Jobs.{first_entry, in_hand, waits, held_by, waits_for, task_of, tasks_of, IsTakenUp, IsLowest};
+ghost use Rattle.bpf_buffering.specs.Jobs.{first_entry, in_hand, waits, held_by, waits_for, task_of, tasks_of, filled_up, IsTakenUp, IsLowest};
 ghost use Rattle.bpf_buffering.specs.Buffering.{answer_of};
 ghost use Rattle.bpf_buffering.specs.Going.{AdvancesOver, CanGoOn, GoesOver, LeavesOthers, StaysFit};
 
@@ -157,6 +157,20 @@ impl Listed {
                 self.stage = KeptStage::InHand(state, self.budget);
             }
             _ => unreachable!(),
+        }
+    }
+
+    /// Has its whole budget left where it is in hand, or what it had where that is more.
+    pub(crate) fn refill(&mut self)
+        ensures stage { kept_stage self.new.stage
+            ≡ filled_up self.old.budget (kept_stage self.old.stage) }
+        ensures same { self.new ≡ record self.old { stage = self.new.stage } }
+    {
+        let budget = self.budget;
+        match &mut self.stage {
+            KeptStage::Waiting(_) => {}
+            KeptStage::InHand(_, left) => *left = (*left).max(budget),
+            KeptStage::Ended(_) => {}
         }
     }
 
