@@ -177,21 +177,21 @@ fn listing(alloc: Global, pieces: &[&'static str]) -> Result<String, AllocError>
 /// Why a line that has a form is refused where it is.
 fn order_of_lines(first: &str) -> &'static str {
     match first {
-        "cpus" => "`cpus` stands once, right behind the first line",
-        "seed" => "`seed` stands once, before the maps, the programs and the jobs",
-        "map" => "the maps stand before the programs and the jobs",
+        "cpus" => "`cpus` comes once, right after the first line",
+        "seed" => "`seed` comes once, before the maps, the programs and the jobs",
+        "map" => "the maps come before the programs and the jobs",
         "array" => "arrays come after the maps, and before lines `data` and `var` and the programs",
         "data" | "var" => {
             "lines `data` and `var` come after the arrays and before the programs; variables are 256 at most"
         }
-        "prog" => "the programs stand before the jobs, and are 256 at most",
+        "prog" => "the programs come before the jobs, and are 256 at most",
         "job" => "there are 4,096 jobs at most",
         _ => "a line here begins with a word of its own",
     }
 }
 
 /// The line after which a file of the debugger has commands.
-const COMMANDS: &str = "behind `---` stand commands, which `ebpf debug` alone takes";
+const COMMANDS: &str = "after `---` come commands, which `ebpf debug` alone takes";
 
 /// What is said of a line that has no form there (L2).
 fn of_form(

@@ -68,10 +68,7 @@ const FIRST_WORDS: [(&str, &str); 17] = [
         "print printf printk puts",
         "nothing is printed by a program: its answer is r0, and `run --maps` prints what maps hold",
     ),
-    (
-        "exit",
-        "`exit` stands alone on its line, and its answer is r0",
-    ),
+    ("exit", "`exit` is alone on its line, and its answer is r0"),
     (
         "lock",
         "`lock` takes 4 or 8 bytes of memory and a register: `lock *(u64 *)(r1 + 0) += r2`",
@@ -80,7 +77,7 @@ const FIRST_WORDS: [(&str, &str); 17] = [
     ("cpus seed map prog job", RUN_FILE),
     (
         "end",
-        "`end` closes a program of a run file, and stands alone",
+        "`end` closes a program of a run file, and is alone on its line",
     ),
 ];
 
@@ -99,7 +96,7 @@ const FRONTS: [(&str, &str); 30] = [
     ),
     ("{", NO_BLOCKS),
     ("}", NO_BLOCKS),
-    ("!=", "`!=` compares, behind `if`"),
+    ("!=", "`!=` compares, after `if`"),
     ("!", "there is no `!`: `if r1 == 0 goto NAME` tests for 0"),
     ("~", "`r1 ^= -1` turns all bits of a register round"),
     (
@@ -126,14 +123,8 @@ const FRONTS: [(&str, &str); 30] = [
 
 /// What a line has, and what may be meant.
 const PIECES: [(&str, &str); 8] = [
-    (
-        "pc+",
-        "a jump's distance stands alone: `goto +3`, `goto -3`",
-    ),
-    (
-        "pc-",
-        "a jump's distance stands alone: `goto +3`, `goto -3`",
-    ),
+    ("pc+", "a jump's distance is one word: `goto +3`, `goto -3`"),
+    ("pc-", "a jump's distance is one word: `goto +3`, `goto -3`"),
     (
         "&&",
         "a line has one condition: a second one jumps from the next line",
@@ -313,9 +304,9 @@ fn memory_hint(line: &Line<'_>) -> Option<&'static str> {
 fn number_hint(line: &Line<'_>) -> Option<&'static str> {
     let word = front_word(line.left);
     if begins_with_digit(word) && word.ends_with("ll") {
-        Some("`ll` stands behind a blank: `r0 = 5 ll`")
+        Some("`ll` comes after a blank: `r0 = 5 ll`")
     } else if line.left.starts_with("ll") {
-        Some("`ll` stands behind a number: `r0 = 5 ll`")
+        Some("`ll` comes after a number: `r0 = 5 ll`")
     } else if begins_with_digit(word) && line.before.ends_with("goto") {
         Some("a distance has its sign: `goto +5`, `goto -5`")
     } else if begins_with_digit(word) && !word.starts_with("0x") && word.parse::<u64>().is_err() {
@@ -331,7 +322,7 @@ fn number_hint(line: &Line<'_>) -> Option<&'static str> {
 fn condition_hint(line: &Line<'_>) -> Option<&'static str> {
     if !line.is_condition() {
         return if line.left.starts_with("==") {
-            Some("`=` assigns, and `==` compares, behind `if`")
+            Some("`=` assigns, and `==` compares, after `if`")
         } else {
             None
         };
@@ -416,7 +407,7 @@ fn spelling_hint(line: &Line<'_>) -> Option<&'static str> {
         .or_else(|| operand_hint(line))
         .or_else(|| {
             if lacks_colon(line) {
-                Some("a label has a colon behind it: `loop:`")
+                Some("a label has a colon after it: `loop:`")
             } else {
                 None
             }
@@ -442,9 +433,9 @@ fn range_hint(line: &Line<'_>) -> &'static str {
     } else if line.is_call() {
         "the number of a helper has 32 bits"
     } else if line.code.contains(" ll") || line.code.contains("map") {
-        "such a number has no sign: 64 bits before `ll`, and 32 behind `map`"
+        "such a number has no sign: 64 bits before `ll`, and 32 after `map`"
     } else {
-        "a number of more than 31 bits and a sign has `ll` behind it: `r1 = 0xffffffff ll`, then `r0 += r1`"
+        "a number of more than 31 bits and a sign has `ll` after it: `r1 = 0xffffffff ll`, then `r0 += r1`"
     }
 }
 
@@ -459,7 +450,7 @@ pub fn hint_of(code: Code, line: &str, place: Option<usize>) -> Option<&'static 
             ))
         }
         Code::A3 if line.contains("pc") => {
-            Some("a jump's distance stands alone: `goto +3`, `goto -3`")
+            Some("a jump's distance is one word: `goto +3`, `goto -3`")
         }
         _ => None,
     }

@@ -28,7 +28,7 @@ pub fn hint_of_file(code: Code, input: &str, line: &str) -> Option<&'static str>
         .any(|line| line.trim_start().starts_with("ebpf-run "));
     match code {
         Code::L1 if input.trim().is_empty() => Some("the input is empty"),
-        Code::L1 if begins => Some("`ebpf-run 1` stands before all other lines"),
+        Code::L1 if begins => Some("`ebpf-run 1` comes before all other lines"),
         Code::L1 => Some(
             "a run file begins with a line `ebpf-run 1`; a program alone is run by `ebpf asm --run FILE`",
         ),

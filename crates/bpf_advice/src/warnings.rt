@@ -58,7 +58,7 @@ fn push_commented(
             let insn = insn.trim();
             write!(
                 text,
-                "warning: line {number}: `{insn}` stands in a comment, which `;` begins: an instruction has a line of its own\n"
+                "warning: line {number}: `{insn}` is in a comment, which `;` begins: an instruction has a line of its own\n"
             )
         }
         None => Ok(()),

@@ -24,15 +24,17 @@ fn value_before(seen: &Seen, address: u64) -> Option<Span> {
 }
 
 /// How far past the end of a held value the bytes end, where that is what is wrong with them.
-fn push_behind(text: &mut String, span: Span, map: &str, end: u64) -> Result<(), AllocError> {
-    let behind = end.saturating_sub(span.at.saturating_add(span.size));
+fn push_past(text: &mut String, span: Span, map: &str, end: u64) -> Result<(), AllocError> {
+    let past = end.saturating_sub(span.at.saturating_add(span.size));
     text.push_str("  hint: the access ends ")?;
-    push_count(text, behind)?;
+    push_count(text, past)?;
     write!(
         text,
-        " behind the value of {map} at 0x{:x}, which has {}\n",
-        span.at, span.size
-    )
+        " past the end of the value of {map} at 0x{:x}, which has ",
+        span.at
+    )?;
+    push_count(text, span.size)?;
+    text.push_str("\n")
 }
 
 /// What may be meant by a register that is 0 where an address has to be.
@@ -111,7 +113,7 @@ fn push_hint(
     if let Region::Values(map) = region_of(address)
         && let Some(span) = value_before(seen, address)
     {
-        return push_behind(text, span, maps.name(map), address.saturating_add(length));
+        return push_past(text, span, maps.name(map), address.saturating_add(length));
     }
     match region_of(address) {
         Region::Values(map) if map < maps.map_count() => write!(
