@@ -125,8 +125,10 @@ class File(model.File):
                 return told, self.report(state)
             moves = [(cpu, flushes) for cpu in range(self.cpus) for flushes in (False, True)]
 
-    def outcomes(self, most):
-        """All reports, or none where there are more states than `most`."""
+    def outcomes(self, most, turn=None):
+        """All reports, or none where there are more states than `most`; where no budget is ever used up, if the turn is
+        `after`."""
+        turn = turn or self.turn
         seen, waiting, reports = set(), [self.first()], set()
         while waiting:
             state = waiting.pop()
@@ -135,7 +137,7 @@ class File(model.File):
             seen.add(state)
             if len(seen) > most:
                 return None
-            moves = [made for cpu in range(self.cpus) for move in (self.turn, self.flush) if (made := move(state, cpu)) is not None]
+            moves = [made for cpu in range(self.cpus) for move in (turn, self.flush) if (made := move(state, cpu)) is not None]
             waiting += moves
             if not moves:
                 reports.add(self.report(state))

@@ -280,8 +280,8 @@ class File:
     def after(self, state, cpu):
         """The state after the CPU's turn, where no budget is ever used up, or none where it has no work."""
         hands = tuple(hand and (*hand[:4], ENOUGH, hand[5]) for hand in state[1])
-        new = self.turn((state[0], hands, state[2]), cpu)
-        return new and (new[0], tuple(hand and (*hand[:4], ENOUGH, hand[5]) for hand in new[1]), new[2])
+        new = self.turn((state[0], hands, *state[2:]), cpu)
+        return new and (new[0], tuple(hand and (*hand[:4], ENOUGH, hand[5]) for hand in new[1]), *new[2:])
 
     def endings(self, most):
         """All reports where no budget is ever used up, and of each state whether an end can be reached from it; or

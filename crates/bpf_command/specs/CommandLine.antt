@@ -385,9 +385,13 @@ counts_alone rows = is_given (codes "stats") rows && not (is_given (codes "worke
 
 -- what a search through flushes of store buffers doesn't do is asked for beside it
 abbrev pub wants_no_flushes : List Row → Bool
-wants_no_flushes rows = is_given (codes "x86") rows
-    && (is_given (codes "patient") rows || (is_given (codes "races") rows
-    || is_given (codes "sync") rows))
+wants_no_flushes rows =
+    is_given (codes "x86") rows && (is_given (codes "races") rows || is_given (codes "sync") rows)
+
+-- or what its tests don't rest on: a patient search looks for no hung states then
+abbrev pub tests_no_flushes : List Row → Bool
+tests_no_flushes rows = wants_no_flushes rows
+    || (is_given (codes "x86") rows && is_given (codes "patient") rows)
 
 -- maps of locks are named without `--races`, or an outcome is asked for beside it
 abbrev pub do_part_races : List Row → Bool

@@ -5,7 +5,7 @@ ghost use Rattle.bpf_explain.specs.Term.{topic_of};
 ghost use Rattle.clap.specs.Kinds.{FailsBy};
 ghost use Rattle.clap.specs.Takes.{is_given};
 ghost use Rattle.clap.specs.Words.{fault_of, first_of, first_value, found_of, rows_of, subcommand_name_of, subcommand_of, subcommand_rows_of};
-ghost use Rattle.bpf_command.specs.CommandLine.{ebpf, counts_alone, do_clash, do_part, do_part_races, HasBudget, HasLimit, HasShown, HasWorkers, IsCommandName, IsRunnerName, IsSearchName, IsWorkName, names_several, NamesBudget, NamesLimit, NamesShown, NamesWorkers, wants_no_buffers, wants_no_flushes, wants_one};
+ghost use Rattle.bpf_command.specs.CommandLine.{ebpf, counts_alone, do_clash, do_part, do_part_races, HasBudget, HasLimit, HasShown, HasWorkers, IsCommandName, IsRunnerName, IsSearchName, IsWorkName, names_several, NamesBudget, NamesLimit, NamesShown, NamesWorkers, tests_no_flushes, wants_no_buffers, wants_no_flushes, wants_one};
 ghost use Rattle.bpf_command.specs.Names.{AreMoves, Asks, AsksBy, file_in, IsContext, IsSchedule, Names, NamesCheck, NamesRaces, NamesRun, NamesSearch, Refuses, RefusesContext, RefusesFlags, RefusesFound, RefusesMoves, RefusesSchedule, as_flags, flag_of};
 
 use crate::command::{
@@ -366,8 +366,14 @@ fn check_of(options: &ArgMatches) -> CheckOptions
 fn wants_no_flushes(options: &ArgMatches) -> bool
     ensures { result ≡ wants_no_flushes (rows_of (found_of options.now)) }
 {
-    is_given(options, "x86")
-        && (is_given(options, "patient") || is_given(options, "races") || is_given(options, "sync"))
+    is_given(options, "x86") && (is_given(options, "races") || is_given(options, "sync"))
+}
+
+/// Whether that, or what its tests don't rest on, is asked for beside a check.
+fn tests_no_flushes(options: &ArgMatches) -> bool
+    ensures { result ≡ tests_no_flushes (rows_of (found_of options.now)) }
+{
+    wants_no_flushes(options) || (is_given(options, "x86") && is_given(options, "patient"))
 }
 
 /// The check of one file.
@@ -376,7 +382,7 @@ fn check_one_of(options: &ArgMatches) -> Result<Command, CommandError>
     ensures named { IfOk result (Names (Some (codes "check", rows_of (found_of options.now)))) }
     ensures refused { IfErr result (RefusesFound (codes "check", rows_of (found_of options.now))) }
 {
-    if wants_no_flushes(options) {
+    if tests_no_flushes(options) {
         return Err(CommandError::TurnsAlone);
     }
     Ok(Command::Check(check_of(options)))
@@ -520,7 +526,7 @@ fn check_all_of(alloc: Global, options: &ArgMatches) -> Result<Request, CommandE
     if wants_one(options) {
         return Err(CommandError::OneFile);
     }
-    if wants_no_flushes(options) {
+    if tests_no_flushes(options) {
         return Err(CommandError::TurnsAlone);
     }
     let files = given_texts(alloc, options, "file")?;

@@ -1,18 +1,24 @@
 -- Moves that were made from kept machines, while more are kept.
 use Rattle.std.proofs.Common.{◌≡◌, ◌∙◌, ◌+◌, ◌-◌, ◌<◌, ◌≤◌, ℕ, zero, suc, Bool, true, false, List, [], ◌∷◌, ◌++◌, Some, length, map}
-use Rattle.std.proofs.Common.{replicate, refl, inl, inr, sym}
+use Rattle.std.proofs.Common.{replicate, refl, inl, inr, ◌⊎◌, sym}
 use Rattle.std.proofs.Common.{ap, subst, append-nil, append_assoc, length-append, arith}
 use Rattle.std.specs.Prelude.{Result, Ok, Err, IfOk, OnErr, slice_get}
 use Rattle.std.specs.declared.alloc.AllocError.{AllocError}
 use Rattle.std.proofs.lemmas.Bool.{cases_lt}
 use Rattle.std.proofs.lemmas.Option.{slice_get_within}
 use Rattle.bpf_base.proofs.Lists.{slice_get-front}
-use Rattle.bpf_x86.specs.Machine.{Move, TurnOf, FlushOf}
-use Rattle.bpf_buffering.specs.Search.{BufferedState, MovesTo, RunsTo, CannotMove, IsKeptAsX86, move_of}
-use Rattle.bpf_buffering.specs.Ahead.{MovesAhead, IsClosedX86}
+use Rattle.bpf_cpu.specs.Task.{Task}
+use Rattle.bpf_machine.specs.Patient.{AsRich}
+use Rattle.bpf_machine.proofs.PatientLaws.{all_same}
+use Rattle.bpf_x86.specs.Machine.{X86, Move, TurnOf, FlushOf}
+use Rattle.bpf_buffering.specs.Search.{BufferedState, ShowsX86, MovesTo, RunsTo, CannotMove, IsKeptAsX86, IsShownX86, buffer_at, move_of}
+use Rattle.bpf_buffering.specs.Ahead.{MovesAhead}
+use Rattle.bpf_patience.specs.Patience.{with_x86_jobs}
+use Rattle.bpf_patience.proofs.Joining.{gift_last}
+use Rattle.bpf_explore.proofs.RichLaws.{refilled_shows}
 use Rattle.bpf_flushes.proofs.Turning.{turn_numbered, flush_numbered}
-use Rattle.bpf_reorderings.specs.Private.Searching.{Extends, IsMoved, IsExpanded}
-use Rattle.bpf_reorderings.specs.Private.Trail.{IsLedFrom}
+use Rattle.bpf_reorderings.specs.Private.Searching.{Extends, IsClosed, IsExpanded, IsFilled, IsKept, IsMoved}
+use Rattle.bpf_reorderings.specs.Private.Trail.{IsLedFrom, LeadsTo}
 use Rattle.bpf_reorderings.proofs.Trails.{AddsOne}
 
 -- ---- more are kept
@@ -33,63 +39,9 @@ adds_one old new m (Ok true) adds known err = inr (adds refl)
 adds_one old new m (Ok false) adds known err = inl (known refl)
 adds_one old new m (Err e) adds known err = inl err
 
-module _ (old new : List BufferedState) (more : Extends old new) where
-  same_at : (i : ℕ) → i < length old → slice_get new i ≡ slice_get old i
-  same_at i inside = ap (λ (ms : List BufferedState). slice_get ms i) more.1 ∙ slice_get-front old more.0 i inside
-
-  kept_still : (m : BufferedState) → IsKeptAsX86 old m → IsKeptAsX86 new m
-  kept_still m is x shows = let r = is x shows in (r.0, r.1, same_at r.0 (slice_get_within old r.0 r.1 r.2) ∙ r.2, r.3)
-
-  pub moved_still : (i : ℕ) (move : Move) → i < length old → IsMoved old i move → IsMoved new i move
-  moved_still i move inside moved m there = elim (moved m (sym (same_at i inside) ∙ there)) [
-    | inl r ↦ inl (r.0, r.1, kept_still r.0 r.2)
-    | inr never ↦ inr never
-  ]
-
-  pub expanded_still : (i : ℕ) → i < length old → IsExpanded old i → IsExpanded new i
-  expanded_still i inside expanded move = moved_still i move inside (expanded move)
-
-  pub inside_still : (place : ℕ) → place < length old → place < length new
-  inside_still place inside = subst (λ (ms : List BufferedState). place < length ms) (sym more.1) (let both = length-append old more.0 in omega arith)
-
--- ---- one move
--- no turns after it
+-- ---- one move, and no turns after it
 pub just_moved : (old new : BufferedState) (move : Move) → MovesTo old move new → MovesAhead old move new
 just_moved old new move moves x shows = let r = moves x shows in (r.0, r.0, 0, 0, r.1, refl, r.2)
-
--- the machine where it leads is kept
-pub moved_to : (old new : List BufferedState) (place : ℕ) (move : Move) (m after : BufferedState) → Extends old new → slice_get old place ≡
-    Some m → MovesAhead m move after → IsKeptAsX86 new after → IsMoved new place move
-moved_to old new place move m after more at moves is other there =
-    let two : Some m ≡ Some other = sym at ∙ (sym (same_at old new more place (slice_get_within old place m at)) ∙ there) in
-    let one : m ≡ other = cc in
-    inl (after, subst (λ (n : BufferedState). MovesAhead n move after) one moves, is)
-
--- it leads to the same machine
-pub stays : (kept : List BufferedState) (place : ℕ) (move : Move) (m : BufferedState) → slice_get kept place ≡ Some m → MovesTo m move m →
-    IsMoved kept place move
-stays kept place move m at moves = moved_to kept kept place move m m (none_more kept) at (just_moved m m move moves) (λ x shows. (place, m, at, shows))
-
--- ---- the album where a move was made, or none
-module _ (old new : List BufferedState) (place : ℕ) (move : Move) (m after : BufferedState) (same : new ≡ old) (at : slice_get old place ≡ Some m) where
-  pub led_from : (named : List Move) (moves : List Move) → named ≡ moves → RunsTo m moves after → IsLedFrom new place named after
-  led_from named moves e runs = (m, ap (λ (ms : List BufferedState). slice_get ms place) same ∙ at, subst (λ (v : List Move). RunsTo m v after) (sym e) runs)
-
-  -- it changed nothing
-  pub idle_moved : MovesAhead m move after → after ≡ m → IsMoved new place move
-  idle_moved moves idle = subst (λ (ms : List BufferedState). IsMoved ms place move) (sym same)
-      (moved_to old old place move m m (none_more old) at (subst (MovesAhead m move) idle moves) (λ x shows. (place, m, at, shows)))
-
-  -- it can't be made
-  pub cannot_moved : CannotMove m move → IsMoved new place move
-  cannot_moved never = subst (λ (ms : List BufferedState). IsMoved ms place move) (sym same) (λ other there. (
-      let two : Some m ≡ Some other = sym at ∙ there in
-      let one : m ≡ other = cc in
-      inr (subst (λ (n : BufferedState). CannotMove n move) one never)))
-
-  -- it led to what is kept now
-  pub kept_moved : (last : List BufferedState) → Extends new last → MovesAhead m move after → IsKeptAsX86 last after → IsMoved last place move
-  kept_moved last more moves is = moved_to old last place move m after (subst (λ (ms : List BufferedState). Extends ms last) same more) at moves is
 
 -- the numbers of moves
 flush_number : (c : ℕ) → move_of (128 + c) ≡ FlushOf c
@@ -106,67 +58,174 @@ turn_numbers zero c less = refl
 turn_numbers (suc n) c less =
     ap (λ (m : Move). m ∷ map move_of (replicate n c)) (turn_numbered c less) ∙ ap (λ (ms : List Move). TurnOf c ∷ ms) (turn_numbers n c less)
 
--- ---- the moves of the CPUs below a number
-pub record MovedSoFar (old : List BufferedState) (place cpu : ℕ) (kept : List BufferedState) : Type 0 where
-  pub extends : Extends old kept
-  pub turned : (c : ℕ) → c < cpu → IsMoved kept place (TurnOf c)
-  pub flushed : (c : ℕ) → c < cpu → IsMoved kept place (FlushOf c)
-
-pub none_moved : (kept : List BufferedState) (place : ℕ) → MovedSoFar kept place 0 kept
-none_moved kept place = record { extends = none_more kept; turned = λ c less. absurd (omega arith); flushed = λ c less. absurd (omega arith) }
-
-pub next_moved : (old kept mid new : List BufferedState) (place cpu : ℕ) → place < length old → MovedSoFar old place cpu kept → Extends kept
-    mid → IsMoved mid place (TurnOf cpu) → Extends mid new → IsMoved new place (FlushOf cpu) → MovedSoFar old place (cpu + 1) new
-next_moved old kept mid new place cpu inside far more turned again flushed =
-    let there : place < length kept = inside_still old kept far.extends place inside in
-    let all : Extends kept new = more_again kept mid new more again in
-    record {
-      extends = more_again old kept new far.extends all;
-      turned = λ c less. elim (cases_lt c cpu) [
-        | inl below ↦ moved_still kept new all place (TurnOf c) there (far.turned c below)
-        | inr past ↦ let e : cpu ≡ c = omega arith in subst (λ (k : ℕ). IsMoved new place (TurnOf k)) e
-            (moved_still mid new again place (TurnOf cpu) (inside_still kept mid more place there) turned)
-      ];
-      flushed = λ c less. elim (cases_lt c cpu) [
-        | inl below ↦ moved_still kept new all place (FlushOf c) there (far.flushed c below)
-        | inr past ↦ let e : cpu ≡ c = omega arith in subst (λ (k : ℕ). IsMoved new place (FlushOf k)) e flushed
-      ];
-    }
-
 -- others have no move that changes anything
 abbrev pub Beyond : List BufferedState → ℕ → Type 0
 Beyond kept n = (i c : ℕ) (m : BufferedState) → slice_get kept i ≡ Some m → n ≤ c → MovesTo m (TurnOf c) m × CannotMove m (FlushOf c)
 
-pub all_moved : (old kept : List BufferedState) (place cpu n : ℕ) → place < length old → Beyond old n → n ≤ cpu → MovedSoFar old place cpu
-    kept → IsExpanded kept place
-all_moved old kept place cpu n inside beyond past far (TurnOf c) = elim (cases_lt c cpu) [
-  | inl below ↦ far.turned c below
-  | inr above ↦ moved_still old kept far.extends place (TurnOf c) inside (λ m at. stays old place (TurnOf c) m at (beyond place c m at (omega arith)).0 m at)
-]
-all_moved old kept place cpu n inside beyond past far (FlushOf c) = elim (cases_lt c cpu) [
-  | inl below ↦ far.flushed c below
-  | inr above ↦ moved_still old kept far.extends place (FlushOf c) inside (λ m at. inr (beyond place c m at (omega arith)).1)
-]
-
--- ---- the machines below a number
-pub record ExpandedSoFar (old : List BufferedState) (next : ℕ) (kept : List BufferedState) : Type 0 where
+pub record MovedSoFar (patient : Bool) (old : List BufferedState) (place cpu : ℕ) (kept : List BufferedState) : Type 0 where
   pub extends : Extends old kept
-  pub expanded : (i : ℕ) → i < next → IsExpanded kept i
+  pub turned : (c : ℕ) → c < cpu → IsMoved patient kept place (TurnOf c)
+  pub flushed : (c : ℕ) → c < cpu → IsMoved patient kept place (FlushOf c)
+
+pub record ExpandedSoFar (patient : Bool) (old : List BufferedState) (next : ℕ) (kept : List BufferedState) : Type 0 where
+  pub extends : Extends old kept
+  pub expanded : (i : ℕ) → i < next → IsExpanded patient kept i
   pub inside : next ≤ length kept
 
-pub none_expanded : (kept : List BufferedState) → ExpandedSoFar kept 0 kept
-none_expanded kept = record { extends = none_more kept; expanded = λ i less. absurd (omega arith); inside = omega arith }
+-- ---- what is kept
+-- a search keeps as much where it isn't patient
+pub as_kept : (patient : Bool) (kept : List BufferedState) (m : BufferedState) → IsKeptAsX86 kept m → IsKept patient kept m
+as_kept false kept m is = is
+as_kept true kept m is = λ x shows. (x.world.jobs, all_same x.world.jobs, is x shows)
 
-pub next_expanded : (old kept new : List BufferedState) (next : ℕ) → ExpandedSoFar old next kept → next < length kept → Extends kept new →
-    IsExpanded new next → ExpandedSoFar old (next + 1) new
-next_expanded old kept new next far less more expanded = record {
-  extends = more_again old kept new far.extends more;
-  expanded = λ i below. elim (cases_lt i next) [
-    | inl before ↦ expanded_still kept new more i (omega arith) (far.expanded i before)
-    | inr past ↦ let e : next ≡ i = omega arith in subst (IsExpanded new) e expanded
-  ];
-  inside = let there = inside_still kept new more next less in omega arith;
-}
+pub leads_plainly : (patient : Bool) (old : BufferedState) (moves : List Move) (new : BufferedState) → RunsTo old moves new → LeadsTo patient old moves new
+leads_plainly false old moves new runs = runs
+leads_plainly true old moves new runs = λ x shows. (
+    let r = runs x shows in
+    (r.0, gift_last moves x r.0 r.0.world.jobs r.1 (all_same r.0.world.jobs), r.2))
 
-pub closed : (old kept : List BufferedState) (next : ℕ) → length kept ≤ next → ExpandedSoFar old next kept → IsClosedX86 kept
-closed old kept next past far i m at move = let inside = slice_get_within kept i m at in far.expanded i (omega arith) move m at
+-- a job that has its whole budget back
+filled_shows : (m new : BufferedState) (c : ℕ) → IsFilled true m c new → (x : X86) → ShowsX86 m x → (jobs : List Task) × AsRich x.world.jobs jobs
+    × ShowsX86 new (with_x86_jobs x jobs)
+filled_shows m new c (refills, buffers) x shows =
+    let r = refilled_shows m.machine new.machine c refills x.world shows.world in
+    (r.0, r.1, record { world = r.2; buffers = shows.buffers ∙ ap buffer_at (sym buffers) })
+
+pub filled_kept : (patient : Bool) (kept : List BufferedState) (m new : BufferedState) (c : ℕ) → IsFilled patient m c new → IsKeptAsX86 kept new →
+    IsKept patient kept m
+filled_kept false kept m new c same is = subst (IsKeptAsX86 kept) same is
+filled_kept true kept m new c filled is = λ x shows. (
+    let r = filled_shows m new c filled x shows in
+    (r.0, r.1, is (with_x86_jobs x r.0) r.2))
+
+pub filled_leads : (patient : Bool) (old : BufferedState) (moves : List Move) (m new : BufferedState) (c : ℕ) → RunsTo old moves m → IsFilled
+    patient m c new → LeadsTo patient old moves new
+filled_leads false old moves m new c runs same = subst (RunsTo old moves) (sym same) runs
+filled_leads true old moves m new c runs filled = λ x shows. (
+    let r = runs x shows in
+    let s = filled_shows m new c filled r.0 r.2 in
+    (with_x86_jobs r.0 s.0, gift_last moves x r.0 s.0 r.1 s.1, s.2))
+
+module _ (patient : Bool) where
+  module _ (old new : List BufferedState) (more : Extends old new) where
+    same_at : (i : ℕ) → i < length old → slice_get new i ≡ slice_get old i
+    same_at i inside = ap (λ (ms : List BufferedState). slice_get ms i) more.1 ∙ slice_get-front old more.0 i inside
+
+    shown_still : (x : X86) → IsShownX86 old x → IsShownX86 new x
+    shown_still x (i, m, at, shows) = (i, m, same_at i (slice_get_within old i m at) ∙ at, shows)
+
+    kept_still : (m : BufferedState) → IsKept patient old m → IsKept patient new m
+    kept_still m is = go patient is
+      where
+        go : (b : Bool) → IsKept b old m → IsKept b new m
+        go false kept = λ x shows. shown_still x (kept x shows)
+        go true kept = λ x shows. (let r = kept x shows in (r.0, r.1, shown_still (with_x86_jobs x r.0) r.2))
+
+    pub moved_still : (i : ℕ) (move : Move) → i < length old → IsMoved patient old i move → IsMoved patient new i move
+    moved_still i move inside moved m there = elim (moved m (sym (same_at i inside) ∙ there)) [
+      | inl r ↦ inl (r.0, r.1, kept_still r.0 r.2)
+      | inr never ↦ inr never
+    ]
+
+    pub expanded_still : (i : ℕ) → i < length old → IsExpanded patient old i → IsExpanded patient new i
+    expanded_still i inside expanded move = moved_still i move inside (expanded move)
+
+    pub inside_still : (place : ℕ) → place < length old → place < length new
+    inside_still place inside = subst (λ (ms : List BufferedState). place < length ms) (sym more.1) (let both = length-append old more.0 in omega arith)
+
+  -- the machine where it leads is kept
+  pub moved_to : (old new : List BufferedState) (place : ℕ) (move : Move) (m after : BufferedState) → Extends old new → slice_get old place ≡
+      Some m → MovesAhead m move after → IsKept patient new after → IsMoved patient new place move
+  moved_to old new place move m after more at moves is other there =
+      let two : Some m ≡ Some other = sym at ∙ (sym (same_at old new more place (slice_get_within old place m at)) ∙ there) in
+      let one : m ≡ other = cc in
+      inl (after, subst (λ (n : BufferedState). MovesAhead n move after) one moves, is)
+
+  -- it leads to the same machine
+  pub stays : (kept : List BufferedState) (place : ℕ) (move : Move) (m : BufferedState) → slice_get kept place ≡ Some m → MovesTo m move m →
+      IsMoved patient kept place move
+  stays kept place move m at moves = moved_to kept kept place move m m (none_more kept) at (just_moved m m move moves)
+      (as_kept patient kept m (λ x shows. (place, m, at, shows)))
+
+  -- ---- the album where a move was made, or none
+  module _ (old new : List BufferedState) (place : ℕ) (move : Move) (m after : BufferedState) (same : new ≡ old) (at : slice_get old place ≡ Some m) where
+    pub led_from : (named : List Move) (moves : List Move) → named ≡ moves → LeadsTo patient m moves after → IsLedFrom patient new place named after
+    led_from named moves e runs = (
+      m,
+      ap (λ (ms : List BufferedState). slice_get ms place) same ∙ at,
+      subst
+          (λ (v : List Move). LeadsTo patient m v after) (sym e) runs,
+    )
+
+    -- it changed nothing
+    pub idle_moved : MovesAhead m move after → after ≡ m → IsMoved patient new place move
+    idle_moved moves idle = subst (λ (ms : List BufferedState). IsMoved patient ms place move) (sym same)
+        (moved_to old old place move m m (none_more old) at (subst (MovesAhead m move) idle moves) (as_kept patient old m (λ x shows. (place, m, at, shows))))
+
+    -- it can't be made
+    pub cannot_moved : CannotMove m move → IsMoved patient new place move
+    cannot_moved never = subst (λ (ms : List BufferedState). IsMoved patient ms place move) (sym same) (λ other there. (
+        let two : Some m ≡ Some other = sym at ∙ there in
+        let one : m ≡ other = cc in
+        inr (subst (λ (n : BufferedState). CannotMove n move) one never)))
+
+    -- it led to what is kept now
+    pub kept_moved : (last : List BufferedState) → Extends new last → MovesAhead m move after → IsKept patient last after → IsMoved patient last place move
+    kept_moved last more moves is = moved_to old last place move m after (subst (λ (ms : List BufferedState). Extends ms last) same more) at moves is
+
+  -- ---- the moves of the CPUs below a number
+  pub none_moved : (kept : List BufferedState) (place : ℕ) → MovedSoFar patient kept place 0 kept
+  none_moved kept place = record { extends = none_more kept; turned = λ c less. absurd (omega arith); flushed = λ c less. absurd (omega arith) }
+
+  pub next_moved : (old kept mid new : List BufferedState) (place cpu : ℕ) → place < length old → MovedSoFar patient old place cpu kept → Extends kept
+      mid → IsMoved patient mid place (TurnOf cpu) → Extends mid new → IsMoved patient new place (FlushOf cpu) → MovedSoFar patient old place (cpu + 1) new
+  next_moved old kept mid new place cpu inside far more turned again flushed =
+      let there : place < length kept = inside_still old kept far.extends place inside in
+      let all : Extends kept new = more_again kept mid new more again in
+      record {
+        extends = more_again old kept new far.extends all;
+        turned = λ c less. elim (cases_lt c cpu) [
+          | inl below ↦ moved_still kept new all place (TurnOf c) there (far.turned c below)
+          | inr past ↦ let e : cpu ≡ c = omega arith in subst (λ (k : ℕ). IsMoved patient new place (TurnOf k)) e
+              (moved_still mid new again place (TurnOf cpu) (inside_still kept mid more place there) turned)
+        ];
+        flushed = λ c less. elim (cases_lt c cpu) [
+          | inl below ↦ moved_still kept new all place (FlushOf c) there (far.flushed c below)
+          | inr past ↦ let e : cpu ≡ c = omega arith in subst (λ (k : ℕ). IsMoved patient new place (FlushOf k)) e flushed
+        ];
+      }
+
+  pub all_moved : (old kept : List BufferedState) (place cpu n : ℕ) → place < length old → Beyond old n → n ≤ cpu → MovedSoFar patient old place cpu
+      kept → IsExpanded patient kept place
+  all_moved old kept place cpu n inside beyond past far (TurnOf c) = elim (cases_lt c cpu) [
+    | inl below ↦ far.turned c below
+    | inr above ↦ moved_still old kept far.extends place (TurnOf c) inside (λ m at. stays old place (TurnOf c) m at (beyond place c m at (omega arith)).0 m at)
+  ]
+  all_moved old kept place cpu n inside beyond past far (FlushOf c) = elim (cases_lt c cpu) [
+    | inl below ↦ far.flushed c below
+    | inr above ↦ moved_still old kept far.extends place (FlushOf c) inside (λ m at. inr (beyond place c m at (omega arith)).1)
+  ]
+
+  -- ---- the machines below a number
+  pub none_expanded : (kept : List BufferedState) → ExpandedSoFar patient kept 0 kept
+  none_expanded kept = record { extends = none_more kept; expanded = λ i less. absurd (omega arith); inside = omega arith }
+
+  pub next_expanded : (old kept new : List BufferedState) (next : ℕ) → ExpandedSoFar patient old next kept → next < length kept → Extends kept new →
+      IsExpanded patient new next → ExpandedSoFar patient old (next + 1) new
+  next_expanded old kept new next far less more expanded = record {
+    extends = more_again old kept new far.extends more;
+    expanded = λ i below. elim (cases_lt i next) [
+      | inl before ↦ expanded_still kept new more i (omega arith) (far.expanded i before)
+      | inr past ↦ let e : next ≡ i = omega arith in subst (IsExpanded patient new) e expanded
+    ];
+    inside = let there = inside_still kept new more next less in omega arith;
+  }
+
+  pub closed : (old kept : List BufferedState) (next : ℕ) → length kept ≤ next → ExpandedSoFar patient old next kept → IsClosed patient kept
+  closed old kept next past far = go patient
+      (λ i m at move. (let inside = slice_get_within kept i m at in far.expanded i (omega arith) move m at))
+    where
+      go : (b : Bool) → ((i : ℕ) (m : BufferedState) → slice_get kept i ≡ Some m → (move : Move)
+          → ((new : BufferedState) × MovesAhead m move new × IsKept b kept new) ⊎ CannotMove m move) → IsClosed b kept
+      go false all = all
+      go true all = all

@@ -3,3 +3,4 @@ pub mod Growing
 pub mod Printing
 pub mod Reaching
 mod Sequential
+pub mod Replays

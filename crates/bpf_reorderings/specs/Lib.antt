@@ -1,3 +1,4 @@
 pub mod Laws
 pub mod Outcomes
+pub mod Patient
 pub mod Private

@@ -1,21 +1,30 @@
 //! Answers: what is printed of kept machines without work, each with a schedule that leads there.
 
-ghost use Rattle.std.specs.Prelude.{◌≡◌, ◌<◌, ◌+◌, ℕ, Bool, Some, IfOk, IfErr, OnOk, length, slice_get, string_bytes};
+ghost use Rattle.std.specs.Prelude.{◌≡◌, ◌<◌, ◌+◌, Bool, Some, IfOk, IfErr, OnOk, length, slice_get};
 ghost use Rattle.bpf_names.specs.Names.{Names as FileNames, names_of};
 ghost use Rattle.bpf_machine.specs.Schedule.{World};
 ghost use Rattle.bpf_buffering.specs.Album.{HaveEndedAt};
 ghost use Rattle.bpf_explore.specs.Outcomes.{Found};
 ghost use Rattle.bpf_explore.specs.Private.Answers.{AreSorted, KeepsAll, IsPlaceOf};
-ghost use Rattle.bpf_reorderings.specs.Outcomes.{AreOutcomesX86, EndsByX86};
-ghost use Rattle.bpf_reorderings.specs.Private.Answers.{AllEnd, Gathered, IsAnsweredAt, IsFirst};
+ghost use Rattle.bpf_reorderings.specs.Private.Answers.{AllEnd, Ends, Gathered};
+ghost use Rattle.bpf_reorderings.specs.Private.Searching.{BeginsAt};
 
 use crate::explorer::Explorer;
+use crate::trying::way_in_budget;
 use bpf_explore::Answer;
 use bpf_flushes::tell;
 use bpf_jobs::Report;
 use bpf_names::Names;
 use std::alloc::{AllocError, Global};
 use std::cmp::Ordering;
+
+/// Answers so far, and whether what was printed of each kept machine without work is one of them: not
+/// where its schedule uses a budget up.
+#[derive(Drop)]
+pub(crate) struct Told {
+    pub answers: Vec<Answer>,
+    pub whole: bool,
+}
 
 /// The place of a text among sorted answers: of the one that has it, or where it is to be.
 fn place_of(answers: &[Answer], text: &str) -> Result<usize, usize>
@@ -40,9 +49,9 @@ fn put_answer(answers: &mut Vec<Answer>, at: usize, answer: Answer) -> Result<()
     requires place { IsPlaceOf answers.old.items answer.text at }
     ensures sorted { OnOk result (AreSorted answers.new.items) }
     ensures keeps { OnOk result (KeepsAll answers.old.items answers.new.items) }
-    ensures ends { OnOk result ((w : World) (names : FileNames) (maps : Bool)
-        → EndsByX86 w names maps answer → AllEnd w names maps answers.old.items
-        → AllEnd w names maps answers.new.items) }
+    ensures ends { OnOk result ((patient : Bool) (w : World) (names : FileNames) (maps : Bool)
+        → Ends patient w names maps answer → AllEnd patient w names maps answers.old.items
+        → AllEnd patient w names maps answers.new.items) }
     ensures put { OnOk result (slice_get answers.new.items at ≡ Some answer) }
 {
     answers.insert(at, answer)?;
@@ -55,27 +64,31 @@ fn tell_ended(
     explorer: &mut Explorer,
     names: &Names,
     maps: bool,
-    answers: &mut Vec<Answer>,
+    told: &mut Told,
     place: usize,
 ) -> Result<(), AllocError>
     requires ended { HaveEndedAt explorer.old.kept place }
     requires place { place < length explorer.old.kept }
-    requires first { (w : World) × IsFirst explorer.old.kept w }
-    requires gathered { Gathered explorer.old.kept (names_of names.now) maps place
-        answers.old.items }
+    requires begins { (w : World) × BeginsAt explorer.old.kept w }
+    requires gathered { Gathered explorer.old.patient explorer.old.kept (names_of names.now) maps
+        place told.old }
     ensures same { explorer.new.kept ≡ explorer.old.kept }
-    ensures gathered { OnOk result (Gathered explorer.old.kept (names_of names.now) maps
-        (place + 1) answers.new.items) }
+    ensures patient { explorer.new.patient ≡ explorer.old.patient }
+    ensures gathered { OnOk result (Gathered explorer.old.patient explorer.old.kept
+        (names_of names.now) maps (place + 1) told.new) }
 {
     bpf_buffering::laws::nothing_waits_at_last();
     explorer.leads();
     explorer.restore(place)?;
     let Report { text, stopped } = tell(explorer.alloc(), explorer.machine(), names, maps)?;
-    match place_of(answers, text.as_str()) {
+    match place_of(&told.answers, text.as_str()) {
         Ok(_) => Ok(()),
         Err(at) => {
-            let by = explorer.way(place)?;
-            put_answer(answers, at, Answer::new(text, stopped, by))?;
+            let Some(by) = way_in_budget(explorer, place)? else {
+                told.whole = false;
+                return Ok(());
+            };
+            put_answer(&mut told.answers, at, Answer::new(text, stopped, by))?;
             Ok(())
         }
     }
@@ -86,39 +99,37 @@ fn tell_at(
     explorer: &mut Explorer,
     names: &Names,
     maps: bool,
-    answers: &mut Vec<Answer>,
+    told: &mut Told,
     place: usize,
 ) -> Result<(), AllocError>
     requires place { place < length explorer.old.kept }
-    requires first { (w : World) × IsFirst explorer.old.kept w }
-    requires gathered { Gathered explorer.old.kept (names_of names.now) maps place
-        answers.old.items }
+    requires begins { (w : World) × BeginsAt explorer.old.kept w }
+    requires gathered { Gathered explorer.old.patient explorer.old.kept (names_of names.now) maps
+        place told.old }
     ensures same { explorer.new.kept ≡ explorer.old.kept }
-    ensures gathered { OnOk result (Gathered explorer.old.kept (names_of names.now) maps
-        (place + 1) answers.new.items) }
+    ensures patient { explorer.new.patient ≡ explorer.old.patient }
+    ensures gathered { OnOk result (Gathered explorer.old.patient explorer.old.kept
+        (names_of names.now) maps (place + 1) told.new) }
 {
     if !explorer.has_ended(place) {
         return Ok(());
     }
-    tell_ended(explorer, names, maps, answers, place)
+    tell_ended(explorer, names, maps, told, place)
 }
 
 /// The answers: what is printed of each kept machine without work.
-pub(crate) fn gather(
-    explorer: &mut Explorer,
-    names: &Names,
-    maps: bool,
-) -> Result<Vec<Answer>, AllocError>
-    requires { (w : World) × IsFirst explorer.old.kept w }
+pub(crate) fn gather(explorer: &mut Explorer, names: &Names, maps: bool) -> Result<Told, AllocError>
+    requires { (w : World) × BeginsAt explorer.old.kept w }
     ensures same { explorer.new.kept ≡ explorer.old.kept }
-    ensures outcomes { IfOk result (λ answers. (w : World) → IsFirst explorer.old.kept w
-        → AreOutcomesX86 w (names_of names.now) maps answers.items) }
-    ensures answered { IfOk result (λ answers. (i : ℕ) → IsAnsweredAt explorer.old.kept
-        (names_of names.now) maps answers.items i) }
+    ensures gathered { IfOk result (Gathered explorer.old.patient explorer.old.kept
+        (names_of names.now) maps (length explorer.old.kept)) }
 {
-    let mut answers = Vec::new(explorer.alloc());
+    let mut told = Told {
+        answers: Vec::new(explorer.alloc()),
+        whole: true,
+    };
     for place in 0..explorer.len() {
-        tell_at(explorer, names, maps, &mut answers, place)?;
+        tell_at(explorer, names, maps, &mut told, place)?;
     }
-    Ok(answers)
+    Ok(told)
 }

@@ -67,39 +67,50 @@ fn cut_short(count: usize, limit: usize) -> Extent
     }
 }
 
-/// An album, and how each of its machines came about.
+/// An album, and how each of its machines came about. In a patient search jobs in hand have their whole
+/// budgets left, so machines that differ only in how many steps are left count as one.
 #[derive(Drop)]
 pub(crate) struct Explorer {
     alloc: Global,
+    patient: bool,
     album: Album,
     /// Of each machine; that of the first isn't read.
     origins: Vec<Origin>,
 }
 
 impl Model for Explorer {
-    ghost use Rattle.bpf_buffering.specs.Album.{AlbumState};
+    ghost use Rattle.bpf_reorderings.specs.Private.Searching.{Searched};
     ghost use Rattle.bpf_reorderings.specs.Private.Trail.{AreOrigins};
 
-    ghost Value = { AlbumState };
+    ghost Value = { Searched };
 
-    ghost view = { λ e. e.album };
+    ghost view = { λ e. record {
+      patient = e.patient;
+      machine = e.album.machine;
+      kept = e.album.kept;
+    } };
 
-    ghost invariant = { λ e. AreOrigins e.album.kept e.origins.items };
+    ghost invariant = { λ e. AreOrigins e.patient e.album.kept e.origins.items };
 }
 
 impl Explorer {
     ghost use Rattle.std.specs.Prelude.{◌≡◌, ◌<◌, ◌≤◌, ◌+◌, [], ◌∷◌, true, false, IfOk, OnOk, Some, length, map, replicate, slice_get};
     ghost use Rattle.bpf_machine.specs.Schedule.{unrolled};
     ghost use Rattle.bpf_x86.specs.Machine.{TurnOf, FlushOf};
-    ghost use Rattle.bpf_buffering.specs.Search.{IsKeptAsX86, move_of};
-    ghost use Rattle.bpf_buffering.specs.Ahead.{IsClosedX86};
+    ghost use Rattle.bpf_buffering.specs.Search.{IsKeptAsX86, MovesTo, move_of};
     ghost use Rattle.bpf_buffering.specs.Album.{HaveEndedAt};
+    ghost use Rattle.bpf_flushes.specs.Moves.{MakesTo};
     ghost use Rattle.bpf_reorderings.specs.Private.Trail.{IsLedFrom, LeadsBy};
-    ghost use Rattle.bpf_reorderings.specs.Private.Searching.{AreLed, Extends, IsExpanded, IsMoved};
+    ghost use Rattle.bpf_reorderings.specs.Private.Searching.{AreLed, Extends, IsClosed, IsExpanded, IsFilled, IsMoved};
 
     /// A search of which this machine is kept.
-    pub(crate) fn new(alloc: Global, machine: Buffering) -> Result<Explorer, AllocError>
-        ensures { IfOk result (λ e. e.kept ≡ machine ∷ []) }
+    pub(crate) fn new(
+        alloc: Global,
+        machine: Buffering,
+        patient: bool,
+    ) -> Result<Explorer, AllocError>
+        ensures kept { IfOk result (λ e. e.kept ≡ machine ∷ []) }
+        ensures patient { IfOk result (λ e. e.patient ≡ patient) }
     {
         let album = Album::new(alloc, machine)?;
         let mut origins = Vec::new(alloc);
@@ -110,6 +121,7 @@ impl Explorer {
         })?;
         Ok(Explorer {
             alloc,
+            patient,
             album,
             origins,
         })
@@ -118,6 +130,13 @@ impl Explorer {
     /// The allocator of all that is kept.
     pub(crate) fn alloc(&self) -> Global {
         self.alloc
+    }
+
+    /// Whether the search is patient.
+    pub(crate) fn is_patient(&self) -> bool
+        ensures { result ≡ self.now.patient }
+    {
+        self.patient
     }
 
     /// The machine to work with.
@@ -148,18 +167,50 @@ impl Explorer {
         requires { place < length self.old.kept }
         ensures ok { OnOk result (slice_get self.old.kept place ≡ Some self.new.machine) }
         ensures same { self.new.kept ≡ self.old.kept }
+        ensures patient { self.new.patient ≡ self.old.patient }
     {
         self.album.restore(place)
+    }
+
+    /// One turn of a CPU.
+    pub(crate) fn take_turn(&mut self, cpu: u8) -> Result<(), AllocError>
+        ensures moves { OnOk result (MovesTo self.old.machine (TurnOf cpu) self.new.machine) }
+        ensures same { self.new.kept ≡ self.old.kept }
+        ensures patient { self.new.patient ≡ self.old.patient }
+    {
+        self.album.turn(cpu)?;
+        Ok(())
+    }
+
+    /// The CPU's oldest waiting store reaches memory, if one waits.
+    pub(crate) fn pass_flush(&mut self, cpu: u8)
+        ensures makes { MakesTo self.old.machine (FlushOf cpu ∷ []) self.new.machine }
+        ensures same { self.new.kept ≡ self.old.kept }
+        ensures patient { self.new.patient ≡ self.old.patient }
+    {
+        self.album.flush_alone(cpu);
+    }
+
+    /// In a patient search a CPU's job in hand has its whole budget back.
+    fn fill(&mut self, cpu: u8)
+        ensures filled { IsFilled self.old.patient self.old.machine cpu self.new.machine }
+        ensures same { self.new.kept ≡ self.old.kept }
+        ensures patient { self.new.patient ≡ self.old.patient }
+    {
+        if self.patient {
+            self.album.refill(cpu);
+        }
     }
 
     /// Keeps the machine, to which a move and n more like it led from a kept one, unless one is kept that
     /// shows all that it shows.
     fn keep(&mut self, place: usize, made: u8, more: u64) -> Result<(), AllocError>
         requires inside { place < length self.old.kept }
-        requires led { IsLedFrom self.old.kept place (map move_of (replicate (more + 1) made))
-            self.old.machine }
+        requires led { IsLedFrom self.old.patient self.old.kept place
+            (map move_of (replicate (more + 1) made)) self.old.machine }
         ensures kept { OnOk result (IsKeptAsX86 self.new.kept self.old.machine) }
         ensures extends { Extends self.old.kept self.new.kept }
+        ensures patient { self.new.patient ≡ self.old.patient }
     {
         let from = number_of(place)?;
         let more = turns_of(more)?;
@@ -171,16 +222,21 @@ impl Explorer {
     }
 
     /// Makes a CPU's turn from a kept machine, and then its turns that no other CPU sees, and keeps
-    /// where they led.
+    /// where they led, in a patient search with the whole budget of the CPU's job in hand.
     fn turn(&mut self, place: usize, cpu: u8) -> Result<(), AllocError>
         requires place { place < length self.old.kept }
         requires cpu { cpu < 128 }
-        ensures moved { OnOk result (IsMoved self.new.kept place (TurnOf cpu)) }
+        ensures moved { OnOk result
+            (IsMoved self.old.patient self.new.kept place (TurnOf cpu)) }
         ensures extends { Extends self.old.kept self.new.kept }
+        ensures patient { self.new.patient ≡ self.old.patient }
     {
         self.album.restore(place)?;
         match self.album.turn_ahead(cpu)? {
-            Some(more) => self.keep(place, cpu, more),
+            Some(more) => {
+                self.fill(cpu);
+                self.keep(place, cpu, more)
+            }
             None => Ok(()),
         }
     }
@@ -189,8 +245,10 @@ impl Explorer {
     fn flush(&mut self, place: usize, cpu: u8) -> Result<(), AllocError>
         requires place { place < length self.old.kept }
         requires cpu { cpu < 128 }
-        ensures moved { OnOk result (IsMoved self.new.kept place (FlushOf cpu)) }
+        ensures moved { OnOk result
+            (IsMoved self.old.patient self.new.kept place (FlushOf cpu)) }
         ensures extends { Extends self.old.kept self.new.kept }
+        ensures patient { self.new.patient ≡ self.old.patient }
     {
         self.album.restore(place)?;
         if self.album.flush(cpu) {
@@ -203,8 +261,9 @@ impl Explorer {
     /// Makes each move from a kept machine.
     fn expand(&mut self, place: usize) -> Result<(), AllocError>
         requires { place < length self.old.kept }
-        ensures expanded { OnOk result (IsExpanded self.new.kept place) }
+        ensures expanded { OnOk result (IsExpanded self.old.patient self.new.kept place) }
         ensures extends { Extends self.old.kept self.new.kept }
+        ensures patient { self.new.patient ≡ self.old.patient }
     {
         for cpu in 0..self.album.cpus() {
             self.turn(place, cpu)?;
@@ -229,10 +288,11 @@ impl Explorer {
     /// memory is refused. How far it came: what is kept so far stays. The observer learns of it
     /// meanwhile.
     pub(crate) fn explore<O: Observer>(&mut self, limit: usize, observer: &mut O) -> Extent
-        ensures whole { result ≡ Extent.Whole → IsClosedX86 self.new.kept }
+        ensures whole { result ≡ Extent.Whole → IsClosed self.old.patient self.new.kept }
         ensures met { result ≡ Extent.Limited → limit < length self.new.kept }
         ensures short { result ≡ Extent.Refused → length self.new.kept ≤ limit }
         ensures extends { Extends self.old.kept self.new.kept }
+        ensures patient { self.new.patient ≡ self.old.patient }
     {
         let mut next = 0;
         while next < self.len() {
@@ -252,7 +312,8 @@ impl Explorer {
     /// before the next.
     pub(crate) fn way(&self, place: usize) -> Result<Vec<(u8, u64)>, AllocError>
         requires { place < length self.now.kept }
-        ensures { IfOk result (λ by. LeadsBy self.now.kept 0 (map move_of (unrolled by.items)) place) }
+        ensures { IfOk result (λ by. LeadsBy self.now.patient self.now.kept 0
+            (map move_of (unrolled by.items)) place) }
     {
         let mut by = Vec::new(self.alloc);
         let mut state = place;
@@ -267,7 +328,7 @@ impl Explorer {
 
     /// A schedule leads to each of them.
     pub(crate) fn leads(&self)
-        ensures { AreLed self.now.kept }
+        ensures { AreLed self.now.patient self.now.kept }
     {
         let _ = &self.origins;
     }

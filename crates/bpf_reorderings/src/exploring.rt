@@ -1,28 +1,31 @@
 //! Every outcome of jobs on CPUs with store buffers.
 
-ghost use Rattle.std.specs.Prelude.{◌≡◌, ℕ, IfOk};
+ghost use Rattle.std.specs.Prelude.{◌≡◌, ◌&&◌, ℕ, true, false, IfOk};
 ghost use Rattle.bpf_names.specs.Names.{names_of};
 ghost use Rattle.bpf_cpu.specs.Setup.{IsRunnable};
 ghost use Rattle.bpf_machine.specs.Schedule.{World};
 ghost use Rattle.bpf_jobs.specs.Printed.{first_of};
 ghost use Rattle.bpf_reorderings.specs.Outcomes.{IsExploredX86};
+ghost use Rattle.bpf_reorderings.specs.Patient.{IsExploredPatientlyX86};
+ghost use Rattle.bpf_reorderings.specs.Private.Answers.{budgets_found};
 ghost use Rattle.bpf_reorderings.specs.Private.Searching.{BeginsAt, CameTo};
 
-use crate::answers::gather;
+use crate::answers::{Told, gather};
 use crate::explorer::Explorer;
 use bpf_cpu::Setup;
-use bpf_explore::{Explored, Extent, Observer};
+use bpf_explore::{Budgets, Explored, ExploredPatiently, Extent, Observer};
 use bpf_flushes::make_buffering;
 use bpf_names::Names;
 use std::alloc::{AllocError, Global};
 
 /// A search that begins with the machine of jobs. Out of memory is the only refusal.
-fn search_of(alloc: Global, setup: Setup) -> Result<Explorer, AllocError>
+fn search_of(alloc: Global, setup: Setup, patient: bool) -> Result<Explorer, AllocError>
     requires { IsRunnable setup }
-    ensures { IfOk result (λ e. BeginsAt e.kept (first_of setup)) }
+    ensures begins { IfOk result (λ e. BeginsAt e.kept (first_of setup)) }
+    ensures patient { IfOk result (λ e. e.patient ≡ patient) }
 {
     let machine = make_buffering(alloc, setup)?;
-    Explorer::new(alloc, machine)
+    Explorer::new(alloc, machine, patient)
 }
 
 /// What a search found that came this far.
@@ -32,20 +35,67 @@ fn conclude(
     maps: bool,
     extent: Extent,
 ) -> Result<Explored, AllocError>
-    requires { (w : World) × BeginsAt explorer.old.kept w }
+    requires begins { (w : World) × BeginsAt explorer.old.kept w }
+    requires patient { explorer.old.patient ≡ false }
     ensures { IfOk result (λ e. (w : World) (limit : ℕ) → BeginsAt explorer.old.kept w
-        → CameTo explorer.old.kept extent limit
+        → CameTo false explorer.old.kept extent limit
         → IsExploredX86 w (names_of names.now) maps limit e) }
 {
     bpf_buffering::laws::ahead_sets_cover_x86();
     explorer.leads();
-    let answers = gather(explorer, names, maps)?;
+    let Told { answers, .. } = gather(explorer, names, maps)?;
     let states = explorer.len();
     Ok(Explored {
         answers,
         all: extent.is_whole(),
         refused: extent.is_refused(),
         states,
+    })
+}
+
+/// Whether some schedule uses a budget up, where that is known: one does where what is printed of a kept
+/// machine isn't an answer.
+fn budgets_by(whole: bool) -> Budgets
+    ensures { result ≡ budgets_found whole }
+{
+    if whole {
+        Budgets::Unknown
+    } else {
+        Budgets::RunOut
+    }
+}
+
+/// Whether both hold.
+fn both(first: bool, second: bool) -> bool
+    ensures { result ≡ (first && second) }
+{
+    first && second
+}
+
+/// What a patient search found that came this far.
+fn conclude_patiently(
+    explorer: &mut Explorer,
+    names: &Names,
+    maps: bool,
+    extent: Extent,
+) -> Result<ExploredPatiently, AllocError>
+    requires begins { (w : World) × BeginsAt explorer.old.kept w }
+    requires patient { explorer.old.patient ≡ true }
+    ensures { IfOk result (λ e. (w : World) (limit : ℕ) → BeginsAt explorer.old.kept w
+        → CameTo true explorer.old.kept extent limit
+        → IsExploredPatientlyX86 w (names_of names.now) maps limit e) }
+{
+    bpf_patience::laws::patient_sets_cover_x86();
+    explorer.leads();
+    let Told { answers, whole } = gather(explorer, names, maps)?;
+    let states = explorer.len();
+    Ok(ExploredPatiently {
+        answers,
+        all: both(extent.is_whole(), whole),
+        refused: extent.is_refused(),
+        states,
+        hung: Vec::new(explorer.alloc()),
+        budgets: budgets_by(whole),
     })
 }
 
@@ -64,7 +114,27 @@ pub fn explore_with_buffers<O: Observer>(
     requires { IsRunnable setup }
     ensures { IfOk result (IsExploredX86 (first_of setup) (names_of names.now) maps limit) }
 {
-    let mut explorer = search_of(alloc, setup)?;
+    let mut explorer = search_of(alloc, setup, false)?;
     let extent = explorer.explore(limit, observer);
     conclude(&mut explorer, names, maps, extent)
+}
+
+/// The same for outcomes in which no job is out of budget: machines that differ only in how many steps are
+/// left of budgets count as one. The outcomes aren't all either where a schedule that was found uses a
+/// budget up, which is reported then. Hung states aren't looked for.
+pub fn explore_patiently_with_buffers<O: Observer>(
+    alloc: Global,
+    setup: Setup,
+    names: &Names,
+    maps: bool,
+    limit: usize,
+    observer: &mut O,
+) -> Result<ExploredPatiently, AllocError>
+    requires { IsRunnable setup }
+    ensures { IfOk result
+        (IsExploredPatientlyX86 (first_of setup) (names_of names.now) maps limit) }
+{
+    let mut explorer = search_of(alloc, setup, true)?;
+    let extent = explorer.explore(limit, observer);
+    conclude_patiently(&mut explorer, names, maps, extent)
 }

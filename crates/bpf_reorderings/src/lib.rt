@@ -5,5 +5,6 @@ mod answers;
 mod explorer;
 mod exploring;
 pub mod laws;
+mod trying;
 
-pub use exploring::explore_with_buffers;
+pub use exploring::{explore_patiently_with_buffers, explore_with_buffers};

@@ -1,5 +1,5 @@
 -- What a search with store buffers shows of an outcome, its schedule and rounds after it show again.
-use Rattle.std.proofs.Common.{◌≡◌, ◌∙◌, ℕ, zero, Bool, true, List, [], ◌∷◌, ◌++◌, Some, Ok, inl, refl, ap, subst, map, string_bytes}
+use Rattle.std.proofs.Common.{◌≡◌, ◌∙◌, ℕ, zero, Bool, true, false, List, [], ◌∷◌, ◌++◌, Some, Ok, inl, refl, ap, subst, map, string_bytes}
 use Rattle.std.specs.Prelude.{slice_get}
 use Rattle.bpf_names.specs.Names.{Names}
 use Rattle.bpf_machine.specs.Schedule.{World, unrolled}
@@ -34,10 +34,13 @@ reported w names maps found (z, runs, ended, tells) =
 abbrev IsFoundIn : List ℕ → Found → Type 0
 IsFoundIn text found = (f : File) × IsRunFile text (Ok f) × EndsByX86 (first_world_of f) f.names true found
 
-is_found : (text : List ℕ) (answers : List Found) (all : Bool) (limit states i : ℕ) (found : Found)
-    → AreFoundOnX86 text limit answers all states → slice_get answers i ≡ Some found → IsFoundIn text found
-is_found text answers all limit states i found (e, (f, said, explored), same, whole, many) at =
+is_found : (patient : Bool) (text : List ℕ) (answers : List Found) (all : Bool) (limit states i : ℕ) (found : Found)
+    → AreFoundOnX86 patient text limit answers all states → slice_get answers i ≡ Some found → IsFoundIn text found
+is_found false text answers all limit states i found (e, (f, said, explored), same, whole, many) at =
     (f, said, explored.outcomes.each i found (subst (λ (xs : List Found). slice_get xs i ≡ Some found) same at))
+is_found true text answers all limit states i found (e, (f, said, explored), same, whole, many) at =
+    let ends = explored.outcomes.each i found (subst (λ (xs : List Found). slice_get xs i ≡ Some found) same at) in
+    (f, said, (ends.0, ends.1, ends.2, ends.4))
 
 -- and the report of that schedule
 one_report : FilesAreDetermined → FilesCanRun → ReportsWithBuffersAreDetermined → (text : List ℕ) (found : Found) (g : File)
@@ -52,12 +55,12 @@ one_report files runs reports text found g printed stopped (f, said, ends) read 
     known (reported (first_world_of f) f.names true found ends)
 
 pub witnesses_on_x86_are_seen_again : FilesAreDetermined → FilesCanRun → ReportsWithBuffersAreDetermined → WitnessesOnX86AreSeenAgain
-witnesses_on_x86_are_seen_again files runs reports text answers all limit states i found printed stopped explored at (g, read, report) =
-    one_report files runs reports text found g (string_bytes printed) stopped (is_found text answers all limit states i found explored at) read report
+witnesses_on_x86_are_seen_again files runs reports patient text answers all limit states i found printed stopped explored at (g, read, report) =
+    one_report files runs reports text found g (string_bytes printed) stopped (is_found patient text answers all limit states i found explored at) read report
 
 pub shown_on_x86_are_found : FilesAreDetermined → FilesCanRun → ReportsWithBuffersAreDetermined → HistoriesAreOfReportsWithBuffers
     → ShownOnX86AreFound
-shown_on_x86_are_found files runs reports histories text answers all limit states i found printed stopped explored at (g, read, history) =
+shown_on_x86_are_found files runs reports histories patient text answers all limit states i found printed stopped explored at (g, read, history) =
     let (lines, told, report, both) = histories (first_world_of g) found.by g.names true (string_bytes printed) stopped history in
-    let one = one_report files runs reports text found g told stopped (is_found text answers all limit states i found explored at) read report in
+    let one = one_report files runs reports text found g told stopped (is_found patient text answers all limit states i found explored at) read report in
     (lines, both ∙ ap (λ (t : List ℕ). lines ++ t) one.0, one.1)

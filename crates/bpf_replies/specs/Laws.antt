@@ -90,8 +90,9 @@ ShownAreFound =
 -- what a search shows of an outcome, `run --x86 --by` with its schedule prints
 abbrev pub WitnessesOnX86AreSeenAgain : Type 0
 WitnessesOnX86AreSeenAgain =
-    (text : List ℕ) (answers : List Found) (all : Bool) (limit states i : ℕ) (found : Found)
-    (printed : String Global) (stopped : Bool) → AreFoundOnX86 text limit answers all states
+    (patient : Bool) (text : List ℕ) (answers : List Found) (all : Bool) (limit states i : ℕ)
+    (found : Found) (printed : String Global) (stopped : Bool)
+    → AreFoundOnX86 patient text limit answers all states
     → slice_get answers i ≡ Some found
     → IsRunWithBuffersOfFile found.by true text (reply.Jobs printed stopped)
     → (string_bytes printed ≡ found.text) × (stopped ≡ found.stopped)
@@ -99,8 +100,9 @@ WitnessesOnX86AreSeenAgain =
 -- and `explore --x86 --show` after all that happens on the way there
 abbrev pub ShownOnX86AreFound : Type 0
 ShownOnX86AreFound =
-    (text : List ℕ) (answers : List Found) (all : Bool) (limit states i : ℕ) (found : Found)
-    (printed : String Global) (stopped : Bool) → AreFoundOnX86 text limit answers all states
+    (patient : Bool) (text : List ℕ) (answers : List Found) (all : Bool) (limit states i : ℕ)
+    (found : Found) (printed : String Global) (stopped : Bool)
+    → AreFoundOnX86 patient text limit answers all states
     → slice_get answers i ≡ Some found
     → IsBufferHistoryOfFile found.by true text (reply.Jobs printed stopped)
     → (lines : List ℕ) × (string_bytes printed ≡ lines ++ found.text)

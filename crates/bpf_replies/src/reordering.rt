@@ -1,13 +1,15 @@
 //! `ebpf explore --x86`: every outcome of a run file's jobs on CPUs with store buffers, whatever the order
 //! of turns and flushes.
 
-ghost use Rattle.std.specs.Prelude.{◌≡◌, ◌<◌, true, IfErr, IfOk, length};
+ghost use Rattle.std.specs.Prelude.{◌≡◌, ◌<◌, ◌++◌, true, false, IfErr, IfOk, length, string_bytes};
+ghost use Rattle.bpf_explore.specs.Listing.{patient_text};
 ghost use Rattle.bpf_cpu.specs.Setup.{IsRunnable};
 ghost use Rattle.bpf_file.specs.File.{file_of};
 ghost use Rattle.bpf_reorderings.specs.Outcomes.{IsExploredX86};
+ghost use Rattle.bpf_reorderings.specs.Patient.{IsExploredPatientlyX86};
 ghost use Rattle.bpf_replies.specs.Answer.{Replies};
 ghost use Rattle.bpf_replies.specs.Exploring.{IsShownBy};
-ghost use Rattle.bpf_replies.specs.Reordering.{AreAnswersOnX86, AreFindingsIn, IsExploredFileOnX86, IsShownFileOnX86};
+ghost use Rattle.bpf_replies.specs.Reordering.{AreAnswersOnX86, AreFindingsIn, AreFoundOnX86, ArePatientAnswersOnX86, IsExploredFileOnX86, IsShownFileOnX86, no_hung_text};
 ghost use Rattle.bpf_replies.specs.Running.{IsBufferHistory, RefusesFile};
 ghost use Rattle.bpf_replies.specs.Script.{first_world_of};
 
@@ -18,10 +20,13 @@ use crate::running::{buffer_history_by, file_in};
 use crate::threading::threads_in;
 use bpf_check::{Findings, Raced};
 use bpf_command::SearchOptions;
-use bpf_explore::{Explored, Observer, is_any_stopped, list_explored};
+use bpf_explore::{
+    Explored, ExploredPatiently, Observer, is_any_stopped, list_explored, list_patient,
+};
 use bpf_file::RunFile;
 use bpf_jobs::Report;
-use bpf_reorderings::explore_with_buffers;
+use bpf_reorderings::{explore_patiently_with_buffers, explore_with_buffers};
+use bpf_threads::Threads;
 use std::alloc::{AllocError, Global};
 
 /// Searches through all schedules of turns and flushes of a file's jobs, and prints the maps too.
@@ -54,6 +59,66 @@ fn explored_in<O: Observer>(
     Ok(explored)
 }
 
+/// Searches through all schedules of turns and flushes of a file's jobs, but for how many steps are left
+/// of budgets.
+fn explore_patient<O: Observer>(
+    alloc: Global,
+    file: RunFile,
+    limit: usize,
+    observer: &mut O,
+) -> Result<ExploredPatiently, AllocError>
+    requires { IsRunnable file.setup }
+    ensures { IfOk result (IsExploredPatientlyX86 (first_world_of (file_of file))
+        (file_of file).names true limit) }
+{
+    let RunFile { setup, names, .. } = file;
+    explore_patiently_with_buffers(alloc, setup, &names, true, limit, observer)
+}
+
+/// What a patient search finds.
+fn patient_in<O: Observer>(
+    alloc: Global,
+    limit: u64,
+    text: &str,
+    observer: &mut O,
+) -> Result<ExploredPatiently, Refusal>
+    ensures found { IfOk result (ArePatientAnswersOnX86 text.now limit) }
+    ensures refused { IfErr result (RefusesFile text.now) }
+{
+    let file = file_in(alloc, text)?;
+    let explored = explore_patient(alloc, file, limit as usize, observer)?;
+    Ok(explored)
+}
+
+/// The outcomes of either search.
+fn found_in<O: Observer>(
+    alloc: Global,
+    options: &SearchOptions,
+    text: &str,
+    observer: &mut O,
+) -> Result<Explored, Refusal>
+    ensures found { IfOk result (λ e. AreFoundOnX86 options.now.patient text.now options.now.limit
+        e.answers.items e.all e.states) }
+    ensures refused { IfErr result (RefusesFile text.now) }
+{
+    if !options.patient {
+        return explored_in(alloc, options.limit, text, observer);
+    }
+    let ExploredPatiently {
+        answers,
+        all,
+        refused,
+        states,
+        ..
+    } = patient_in(alloc, options.limit, text, observer)?;
+    Ok(Explored {
+        answers,
+        all,
+        refused,
+        states,
+    })
+}
+
 /// A search, and whether CPUs have store buffers.
 #[derive(Clone, Copy)]
 pub(crate) struct Sought<'a> {
@@ -83,14 +148,14 @@ pub(crate) fn findings_by<O: Observer>(
     Ok(Findings::new(alloc, explored, raced))
 }
 
-/// `ebpf explore --x86`.
-pub fn explore_file_with_buffers<O: Observer>(
+/// `ebpf explore --x86` of all outcomes.
+fn explore_all<O: Observer>(
     alloc: Global,
     limit: u64,
     text: &str,
     observer: &mut O,
 ) -> Result<Reply, Refusal>
-    ensures { Replies (IsExploredFileOnX86 limit text.now) result }
+    ensures { Replies (IsExploredFileOnX86 false limit text.now) result }
 {
     let threads = threads_in(alloc, text)?;
     let explored = explored_in(alloc, limit, text, observer)?;
@@ -100,6 +165,58 @@ pub fn explore_file_with_buffers<O: Observer>(
         stopped: is_any_stopped(&explored.answers),
         all: explored.all,
     })
+}
+
+/// What a patient search found, after a line that says what it doesn't look for.
+fn list_unhung(
+    alloc: Global,
+    explored: &ExploredPatiently,
+    threads: Threads,
+) -> Result<String, AllocError>
+    ensures { IfOk result (λ text. string_bytes text ≡ no_hung_text
+        ++ patient_text explored.now.answers.items explored.now.hung.items explored.now.budgets
+        threads explored.now.all explored.now.states) }
+{
+    let listed = list_patient(alloc, explored, threads)?;
+    let mut text = String::new(alloc);
+    text.push_str("hung states aren't looked for with --x86\n")?;
+    text.push_str(listed.as_str())?;
+    Ok(text)
+}
+
+/// `ebpf explore --x86 --patient`.
+fn explore_patiently<O: Observer>(
+    alloc: Global,
+    limit: u64,
+    text: &str,
+    observer: &mut O,
+) -> Result<Reply, Refusal>
+    ensures { Replies (IsExploredFileOnX86 true limit text.now) result }
+{
+    let threads = threads_in(alloc, text)?;
+    let explored = patient_in(alloc, limit, text, observer)?;
+    let text = list_unhung(alloc, &explored, threads)?;
+    Ok(Reply::Outcomes {
+        text,
+        stopped: is_any_stopped(&explored.answers),
+        all: explored.all,
+    })
+}
+
+/// `ebpf explore --x86`.
+pub fn explore_file_with_buffers<O: Observer>(
+    alloc: Global,
+    options: &SearchOptions,
+    text: &str,
+    observer: &mut O,
+) -> Result<Reply, Refusal>
+    ensures { Replies (IsExploredFileOnX86 options.now.patient options.now.limit text.now) result }
+{
+    if options.patient {
+        explore_patiently(alloc, options.limit, text, observer)
+    } else {
+        explore_all(alloc, options.limit, text, observer)
+    }
 }
 
 /// What happens by a schedule of turns and flushes, and after it that there are more outcomes than a
@@ -130,15 +247,16 @@ fn show_by(
 /// refusal.
 pub fn show_file_with_buffers<O: Observer>(
     alloc: Global,
-    limit: u64,
+    options: &SearchOptions,
     outcome: u64,
     text: &str,
     observer: &mut O,
 ) -> Result<Reply, Refusal>
     requires { 0 < outcome }
-    ensures { Replies (IsShownFileOnX86 limit outcome text.now) result }
+    ensures { Replies (IsShownFileOnX86 options.now.patient options.now.limit outcome text.now)
+        result }
 {
-    let explored = explored_in(alloc, limit, text, observer)?;
+    let explored = found_in(alloc, options, text, observer)?;
     if explored.refused {
         return Err(Refusal::OutOfMemory);
     }

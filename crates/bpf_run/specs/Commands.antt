@@ -37,11 +37,12 @@ IsAnswer (command.X86History options) text r =
     IsBufferHistoryOfFile options.by.items options.maps text r
 IsAnswer (command.Judge options) text r = IsJudgedOfFile options.by.items options.keys text r
 IsAnswer (command.Explore options) text r = IsExploredFile options.patient options.limit text r
-IsAnswer (command.ExploreX86 options) text r = IsExploredFileOnX86 options.limit text r
+IsAnswer (command.ExploreX86 options) text r =
+    IsExploredFileOnX86 options.patient options.limit text r
 IsAnswer (command.Show options) text r =
     IsShownFile options.search.patient options.search.limit options.outcome text r
 IsAnswer (command.ShowX86 options) text r =
-    IsShownFileOnX86 options.search.limit options.outcome text r
+    IsShownFileOnX86 options.search.patient options.search.limit options.outcome text r
 IsAnswer (command.Races options) text r =
     IsRacesFile options.search.patient options.search.limit (map string_bytes options.sync.items) text r
 IsAnswer (command.Check options) text r = IsCheckedFile AreRacesOf options text r

@@ -66,14 +66,12 @@ fn answer_to<O: Observer>(
         }
         Command::Judge(JudgeOptions { by, keys }) => judge_file(alloc, &by, keys, text),
         Command::Explore(search) => explore_file(alloc, search, text, observer),
-        Command::ExploreX86(search) => {
-            explore_file_with_buffers(alloc, search.limit, text, observer)
-        }
+        Command::ExploreX86(search) => explore_file_with_buffers(alloc, &search, text, observer),
         Command::Show(ShowOptions { outcome, search }) => {
             show_file(alloc, search, outcome, text, observer)
         }
         Command::ShowX86(ShowOptions { outcome, search }) => {
-            show_file_with_buffers(alloc, search.limit, outcome, text, observer)
+            show_file_with_buffers(alloc, &search, outcome, text, observer)
         }
         Command::Races(options) => race_file(alloc, options, text, observer),
         Command::Check(options) => check_file::<AllRaces, O>(alloc, &options, text, observer),

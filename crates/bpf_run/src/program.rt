@@ -131,7 +131,7 @@ const NO_RACES: &str = "\
 For more information, try 'ebpf explore --help'.";
 
 const TURNS_ALONE: &str = "\
-'--x86' of 'explore' and 'check' goes with none of '--patient', '--races' and '--sync'
+'--x86' goes with neither '--races' nor '--sync', and that of 'check' not with '--patient'
 
 For more information, try 'ebpf explore --help'.";
 

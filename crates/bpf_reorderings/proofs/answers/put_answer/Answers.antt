@@ -16,8 +16,8 @@ returns-clause-keeps c = subst (KeepsAll c.args.answers.now.items) (sym c.in_ok-
     (kept_all c.args.answers.now.items c.args.at c.args.answer c.requires.place.within)
 
 pub returns-clause-ends : goal.returns-clause-ends
-returns-clause-ends c w names maps one all = subst (AllEnd w names maps) (sym c.in_ok-insert.ensures.items)
-    (all_end_still c.args.answers.now.items c.args.at c.args.answer c.requires.place.within w names maps one all)
+returns-clause-ends c patient w names maps one all = subst (AllEnd patient w names maps) (sym c.in_ok-insert.ensures.items)
+    (all_end_still c.args.answers.now.items c.args.at c.args.answer c.requires.place.within patient w names maps one all)
 
 pub returns-clause-put : goal.returns-clause-put
 returns-clause-put c = ap (λ (xs : List Found). slice_get xs c.args.at) c.in_ok-insert.ensures.items ∙ at_here c.args.answers.now.items

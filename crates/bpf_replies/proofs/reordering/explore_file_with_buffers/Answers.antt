@@ -1,10 +1,14 @@
-use Rattle.std.proofs.Common.{◌≡◌, List, refl, subst}
-use Rattle.bpf_explore.specs.Outcomes.{Found}
-use Rattle.bpf_replies.specs.Exploring.{any_stopped_of}
+use Rattle.std.proofs.Common.{Bool, sym, subst}
+use Rattle.bpf_replies.specs.Answer.{Replies}
+use Rattle.bpf_replies.specs.Reordering.{IsExploredFileOnX86}
 use Rattle.bpf_replies.proofs.reordering.explore_file_with_buffers.Goals as goal
 
-pub returns : goal.returns
-returns g c =
-    let e = c.in_ok-explored.explored in
-    let stopped = subst (λ (answers : List Found). c.is_any_stopped.result ≡ any_stopped_of answers) c.deref.ensures.value c.is_any_stopped.ensures in
-    (e, c.in_ok-explored.ensures.found, c.in_ok-threads.threads, c.in_ok-threads.ensures.found, c.in_ok-text.ensures, stopped, refl)
+pub returns-then-options : goal.returns-then-options
+returns-then-options g c =
+    subst (λ (b : Bool). Replies (IsExploredFileOnX86 b c.args.options.now.limit c.args.text.now) c.explore_patiently.result)
+    (sym c.if-options.true) c.explore_patiently.ensures
+
+pub returns-else-options : goal.returns-else-options
+returns-else-options g c =
+    subst (λ (b : Bool). Replies (IsExploredFileOnX86 b c.args.options.now.limit c.args.text.now) c.explore_all.result)
+    (sym c.if-options.false) c.explore_all.ensures

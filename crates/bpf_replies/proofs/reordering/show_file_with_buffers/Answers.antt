@@ -19,12 +19,13 @@ returns g c =
     let items = c.deref.result.now in
     let history = subst (λ (runs : List (ℕ × ℕ)). Replies (IsShownBy (IsBufferHistory runs true) explored.all
     (length explored.answers.items) explored.states text) c.show_by.result) c.by.ensures c.show_by.ensures in
-    let are : AreFoundOnX86 text c.args.limit explored.answers.items explored.all explored.states =
-    (explored, c.in_ok-explored.ensures.found, refl, refl, refl) in
+    let are : AreFoundOnX86 c.args.options.now.patient text c.args.options.now.limit explored.answers.items explored.all explored.states =
+    c.in_ok-explored.ensures.found in
     let inside : place < length items = ltb-true place (length items) (sym c.in-Some.ensures.lookup.0) in
     let read : slice_get items place ≡ Some found = slice_get_read items (length items) place found refl inside c.in-Some.ensures.lookup.1 in
     let at = subst (λ (xs : List Found). slice_get xs place ≡ Some found) c.deref.ensures.value read in
-    all_shown (AreFoundOnX86 text c.args.limit) (λ (by : List (ℕ × ℕ)). IsBufferHistory by true) c.args.outcome text explored.answers.items
+    all_shown (AreFoundOnX86 c.args.options.now.patient text c.args.options.now.limit) (λ (by : List (ℕ × ℕ)). IsBufferHistory by true)
+    c.args.outcome text explored.answers.items
     explored.all explored.states found are at c.show_by.result history
 
 pub returns-in_default : goal.returns-in_default
@@ -32,7 +33,8 @@ returns-in_default g c =
     let explored = c.in_ok-explored.explored in
     let text = c.args.text.now in
     let items = explored.answers.items in
-    let are : AreFoundOnX86 text c.args.limit items explored.all explored.states = (explored, c.in_ok-explored.ensures.found, refl, refl, refl) in
+    let are : AreFoundOnX86 c.args.options.now.patient text c.args.options.now.limit items explored.all explored.states = c.in_ok-explored.ensures.found in
     let few : length items < c.args.outcome = search rules in
-    none_shown (AreFoundOnX86 text c.args.limit) (λ (by : List (ℕ × ℕ)). IsBufferHistory by true) c.args.outcome text items explored.all
+    none_shown (AreFoundOnX86 c.args.options.now.patient text c.args.options.now.limit) (λ (by : List (ℕ × ℕ)). IsBufferHistory by true)
+    c.args.outcome text items explored.all
     explored.states are few c.in_ok-missing.field-0 c.in_ok-missing.ensures

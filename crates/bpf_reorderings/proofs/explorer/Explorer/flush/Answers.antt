@@ -1,29 +1,35 @@
-use Rattle.std.proofs.Common.{◌∙◌, ◌+◌, [], ◌∷◌, map, replicate, refl}
+use Rattle.std.proofs.Common.{◌∙◌, ◌+◌, [], ◌∷◌, map, replicate, refl, subst}
 use Rattle.std.proofs.lemmas.Result.{on_ok_weaker}
 use Rattle.bpf_x86.specs.Machine.{FlushOf}
+use Rattle.std.specs.Prelude.{OnOk}
 use Rattle.bpf_buffering.specs.Search.{move_of}
-use Rattle.bpf_reorderings.proofs.Growing.{flush_numbers, just_moved, one_moved, led_from, cannot_moved, kept_moved}
+use Rattle.bpf_reorderings.specs.Private.Searching.{Searched, IsMoved}
+use Rattle.bpf_reorderings.proofs.Growing.{as_kept, flush_numbers, just_moved, leads_plainly, one_moved, led_from, cannot_moved, kept_moved}
 use Rattle.bpf_reorderings.proofs.explorer.Explorer.flush.Goals as goal
 
 pub keep-requires-clause-led : goal.keep-requires-clause-led
 keep-requires-clause-led c =
     let m = c.self.inside in
     let same = c.flush.ensures.same ∙ c.restore.ensures.same in
-    led_from m.album.kept c.flush.new.self.kept c.args.place (FlushOf c.args.cpu) c.restore.new.self.machine c.flush.new.self.machine same
+    led_from m.patient m.album.kept c.flush.new.self.kept c.args.place (FlushOf c.args.cpu) c.restore.new.self.machine c.flush.new.self.machine same
     c.in_ok-restore.ensures.ok (map move_of (replicate (0 + 1) (128 + c.args.cpu))) (FlushOf c.args.cpu ∷ []) (flush_numbers c.args.cpu)
-    (one_moved c.restore.new.self.machine c.flush.new.self.machine (FlushOf c.args.cpu) (c.if-flush.ensures.flushed refl))
+    (leads_plainly m.patient c.restore.new.self.machine (FlushOf c.args.cpu ∷ []) c.flush.new.self.machine
+    (one_moved c.restore.new.self.machine c.flush.new.self.machine (FlushOf c.args.cpu) (c.if-flush.ensures.flushed refl)))
 
 pub returns-then-flush-clause-moved : goal.returns-then-flush-clause-moved
 returns-then-flush-clause-moved c =
     let m = c.self.inside in
     let same = c.flush.ensures.same ∙ c.restore.ensures.same in
-    on_ok_weaker c.keep.result (λ is. kept_moved m.album.kept c.flush.new.self.kept c.args.place (FlushOf c.args.cpu)
+    subst (λ (a : Searched). OnOk c.keep.result (IsMoved a.patient c.keep.new.self.kept c.args.place (FlushOf c.args.cpu))) c.self.view_is
+    (on_ok_weaker c.keep.result (λ is. kept_moved m.patient m.album.kept c.flush.new.self.kept c.args.place (FlushOf c.args.cpu)
     c.restore.new.self.machine c.flush.new.self.machine same c.in_ok-restore.ensures.ok c.keep.new.self.kept c.keep.ensures.extends
-    (just_moved c.restore.new.self.machine c.flush.new.self.machine (FlushOf c.args.cpu) (c.if-flush.ensures.flushed refl)) is) c.keep.ensures.kept
+    (just_moved c.restore.new.self.machine c.flush.new.self.machine (FlushOf c.args.cpu) (c.if-flush.ensures.flushed refl))
+    (as_kept m.patient c.keep.new.self.kept c.flush.new.self.machine is)) c.keep.ensures.kept)
 
 pub returns-else-flush-clause-moved : goal.returns-else-flush-clause-moved
 returns-else-flush-clause-moved c =
     let m = c.self.inside in
     let same = c.flush.ensures.same ∙ c.restore.ensures.same in
-    cannot_moved m.album.kept c.flush.new.self.kept c.args.place (FlushOf c.args.cpu) c.restore.new.self.machine c.flush.new.self.machine
-    same c.in_ok-restore.ensures.ok (c.if-flush.ensures.none refl)
+    subst (λ (a : Searched). IsMoved a.patient c.flush.new.self.kept c.args.place (FlushOf c.args.cpu)) c.self.view_is
+    (cannot_moved m.patient m.album.kept c.flush.new.self.kept c.args.place (FlushOf c.args.cpu) c.restore.new.self.machine c.flush.new.self.machine
+    same c.in_ok-restore.ensures.ok (c.if-flush.ensures.none refl))

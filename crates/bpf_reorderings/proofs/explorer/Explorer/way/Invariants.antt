@@ -7,7 +7,7 @@ use Rattle.bpf_reorderings.proofs.explorer.Explorer.way.Given as goal
 abbrev pub invariant-loop-state : goal.invariant-loop-state
 invariant-loop-state l = record {
   inside : l.state < length l.self-inside.album.kept;
-  leads : LeadsBy l.self-inside.album.kept l.state (map move_of (unrolled (reverse l.by.items))) l.place;
+  leads : LeadsBy l.self-inside.patient l.self-inside.album.kept l.state (map move_of (unrolled (reverse l.by.items))) l.place;
 }
 
 abbrev pub decreases-loop-state : goal.decreases-loop-state

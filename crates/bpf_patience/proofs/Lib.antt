@@ -1,0 +1,4 @@
+pub mod Richer
+pub mod Covering
+pub mod Agreeing
+pub mod Joining

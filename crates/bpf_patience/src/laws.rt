@@ -1,0 +1,25 @@
+//! What follows from the definition of the x86 machine for a search that passes over how many steps are
+//! left of budgets.
+//!
+//! The functions do nothing: their contracts are the laws.
+ghost use Rattle.bpf_patience.specs.Patience.{FreeMovesAgree, PatientSetsCoverX86};
+
+/// A list that moves, each with unseen turns after it, don't lead out of but for budgets shows each machine
+/// without work that schedules of moves lead to while no job runs out of budget.
+pub fn patient_sets_cover_x86()
+    ensures { PatientSetsCoverX86 }
+{
+    bpf_mem::laws::writes_are_determined();
+    bpf_loader::laws::one_instruction_begins();
+    bpf_shared::laws::calls_have_one_reply();
+}
+
+/// Where jobs are given steps on the way, moves lead to the same, but for richer jobs, as with the budgets
+/// that jobs have, as long as no job runs out of budget.
+pub fn free_moves_agree()
+    ensures { FreeMovesAgree }
+{
+    bpf_mem::laws::writes_are_determined();
+    bpf_loader::laws::one_instruction_begins();
+    bpf_shared::laws::calls_have_one_reply();
+}

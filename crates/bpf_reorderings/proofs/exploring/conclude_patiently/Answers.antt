@@ -1,0 +1,30 @@
+use Rattle.std.proofs.Common.{◌≡◌, ◌∙◌, ◌&&◌, Bool, List, length, ap, refl, subst}
+use Rattle.bpf_names.specs.Names.{names_of}
+use Rattle.bpf_buffering.specs.Search.{BufferedState}
+use Rattle.bpf_reorderings.specs.declared.answers.Told.{Told}
+use Rattle.bpf_reorderings.specs.Private.Answers.{Gathered}
+use Rattle.bpf_reorderings.specs.Private.Searching.{AreLed}
+use Rattle.bpf_reorderings.proofs.Reaching.{explored_patiently}
+use Rattle.bpf_reorderings.proofs.exploring.conclude_patiently.Goals as goal
+
+pub returns : goal.returns
+returns c w limit begins came =
+    let names = names_of c.args.names.now in
+    let kept = c.args.explorer.now.kept in
+    let told : Told = c.in_ok-answers.field-0 in
+    let count : c.len-states.result ≡ length kept = c.len-states.ensures ∙ ap (λ (ms : List BufferedState). length ms) c.gather.ensures.same in
+    let is_patient = c.requires.patient in
+    let all : c.both.result ≡ (c.is_whole.result && told.whole) = c.both.ensures in
+    explored_patiently c.patient_sets_cover_x86.ensures kept w names c.args.maps limit
+    (record {
+      answers = told.answers;
+      all = c.both.result;
+      refused = c.is_refused.result;
+      states = c.len-states.result;
+      hung = c.new.result;
+      budgets = c.budgets_by.result;
+    })
+    c.args.extent told begins came (all ∙ ap (λ (b : Bool). b && told.whole) c.is_whole.ensures) c.is_refused.ensures count refl
+    c.new.ensures.items c.budgets_by.ensures
+    (subst (λ (b : Bool). Gathered b kept names c.args.maps (length kept) told) is_patient c.in_ok-answers.ensures.gathered)
+    (subst (λ (b : Bool). AreLed b kept) is_patient c.leads.ensures)
