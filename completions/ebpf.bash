@@ -17,7 +17,7 @@ _ebpf() {
         explore) words='--explain --patient --json --progress --x86 --all-states --races --sync --limit --show -h --help' files=1 ;;
         check) words='--explain --patient --json --progress --x86 --all-states --lenient --states --limit -h --help' files=1 ;;
         expand) words='--explain --first --patient --races -h --help' files=1 ;;
-        debug) words='--explain --echo --strict -h --help' files=1 ;;
+        debug) words='--explain --echo --strict --x86 -h --help' files=1 ;;
         explain) words='-h --help' ;;
     esac
     COMPREPLY=($(compgen -W "$words" -- "$word"))

@@ -72,6 +72,7 @@ complete -c ebpf -n '__fish_seen_subcommand_from expand' -F
 complete -c ebpf -n '__fish_seen_subcommand_from debug' -l explain -f -d 'Explains a refusal of the file on standard error, and answers to commands that are in it'
 complete -c ebpf -n '__fish_seen_subcommand_from debug' -l echo -f -d 'Prints each line of commands before its answer, after '\''> '\'''
 complete -c ebpf -n '__fish_seen_subcommand_from debug' -l strict -f -d 'Exits with status 1 where a command is refused'
+complete -c ebpf -n '__fish_seen_subcommand_from debug' -l x86 -f -d 'Gives CPUs store buffers, as on x86: schedules have flushes of them too'
 complete -c ebpf -n '__fish_seen_subcommand_from debug' -s h -l help -f -d 'Print help'
 complete -c ebpf -n '__fish_seen_subcommand_from debug' -F
 complete -c ebpf -n '__fish_seen_subcommand_from explain' -s h -l help -f -d 'Print help'

@@ -229,7 +229,8 @@ abbrev pub strict : Rule
 strict = record (new_rule (codes "strict")) { long = Some (codes "strict"); action = Some SetTrue }
 
 abbrev pub debug_options : App
-debug_options = with_rule (with_rule (with_rule (new_app (codes "debug")) explained) echo) strict
+debug_options =
+    with_rule (with_rule (with_rule (with_rule (new_app (codes "debug")) explained) echo) strict) x86
 
 abbrev pub debug : App
 debug = with_rule debug_options file

@@ -164,6 +164,10 @@ Names (Some found) (command.Expand first patient races) = (found.0 ≡ codes "ex
     × (races ≡ is_given (codes "races") found.1)
 Names (Some found) (command.Debug echo strict) = (found.0 ≡ codes "debug")
     × (echo ≡ is_given (codes "echo") found.1) × (strict ≡ is_given (codes "strict") found.1)
+    × (is_given (codes "x86") found.1 ≡ false)
+Names (Some found) (command.DebugX86 echo strict) = (found.0 ≡ codes "debug")
+    × (echo ≡ is_given (codes "echo") found.1) × (strict ≡ is_given (codes "strict") found.1)
+    × (is_given (codes "x86") found.1 ≡ true)
 
 -- the file that is read in place of standard input, which `-` names too
 abbrev pub file_named : Text → Option Text

@@ -178,6 +178,13 @@ pub enum Command {
         /// To take a command that is refused for a refusal of all.
         strict: bool,
     },
+    /// The same on CPUs with store buffers.
+    DebugX86 {
+        /// To print each line before its answer.
+        echo: bool,
+        /// To take a command that is refused for a refusal of all.
+        strict: bool,
+    },
 }
 
 /// What a command line asks for.

@@ -453,6 +453,19 @@ fn expand_of(options: &ArgMatches) -> Command
     }
 }
 
+/// The command `debug`, with store buffers or without.
+fn debug_of(options: &ArgMatches) -> Command
+    ensures { Names (Some (codes "debug", rows_of (found_of options.now))) result }
+{
+    let echo = is_given(options, "echo");
+    let strict = is_given(options, "strict");
+    if is_given(options, "x86") {
+        Command::DebugX86 { echo, strict }
+    } else {
+        Command::Debug { echo, strict }
+    }
+}
+
 fn named(alloc: Global, name: &str, options: &ArgMatches) -> Result<Command, CommandError>
     requires known { IsWorkName name.now }
     requires checked { IsRunnerName name.now → HasBudget (rows_of (found_of options.now)) }
@@ -472,10 +485,7 @@ fn named(alloc: Global, name: &str, options: &ArgMatches) -> Result<Command, Com
         "explore" => explore_of(alloc, options),
         "check" => check_one_of(options),
         "expand" => Ok(expand_of(options)),
-        _ => Ok(Command::Debug {
-            echo: is_given(options, "echo"),
-            strict: is_given(options, "strict"),
-        }),
+        _ => Ok(debug_of(options)),
     }
 }
 

@@ -288,6 +288,10 @@ The commands, one a line, with a CPU C, a pc P, an address A and a number N of b
   back N      undoes the last N turns, 1 to 1000000; breakpoints stay
   help        the commands, a line each
 
+With --x86 CPUs have store buffers, as those of x86 have: 'steps' has words C!*N too, N flushes of CPU C,
+'flush C' lets the oldest store that waits reach memory, 'buffer C' prints what waits, 'go' flushes after
+each turn, and 'mem' and 'held' show what the CPU sees. There are no 'watch', 'show' and 'last' then.
+
 A job that ends prints its line. A command that is refused prints 'refused' and a code, changes
 nothing, and the next one is read. The input is a run file, a line '---' and the commands, as in
   $ printf 'ebpf-run 1\\nprog a\\nr0 = 5\\nexit\\nend\\njob 0 a\\n---\\nstep 0\\ngo\\n' | ebpf debug
@@ -854,7 +858,8 @@ fn debug_options<'a>(alloc: Global) -> Result<Command<'a>, AllocError>
         .after_help(DEBUG_NOTES)
         .arg(explain_file_option(alloc))?
         .arg(echo_option(alloc))?
-        .arg(strict_option(alloc))
+        .arg(strict_option(alloc))?
+        .arg(buffers_option(alloc))
 }
 
 fn debug_command<'a>(alloc: Global) -> Result<Command<'a>, AllocError>

@@ -11,6 +11,7 @@ pub mod Shaped
 pub mod FreshFiles
 pub mod Cutting
 pub mod ScriptReplies
+pub mod BufferReplies
 pub mod WrittenAnswers
 pub mod ListedAgain
 mod Judged

@@ -9,6 +9,7 @@ pub mod Judging
 pub mod Checking
 pub mod Several
 pub mod Script
+pub mod BufferScript
 pub mod Listing
 pub mod Input
 pub mod Diagnostic

@@ -1,6 +1,7 @@
 //! What commands reply to a text, but for those of data races and of states, and how it is printed.
 #![tactic(auto)]
 
+pub mod buffer_script;
 pub mod checking;
 pub mod comments;
 pub mod exploring;

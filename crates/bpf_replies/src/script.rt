@@ -27,10 +27,10 @@ use std::alloc::{AllocError, Global};
 
 /// An input that is cut in two.
 #[derive(Clone, Copy)]
-struct Parts<'a> {
-    file: &'a [u8],
+pub(crate) struct Parts<'a> {
+    pub file: &'a [u8],
     /// What is after the line that ends the file, if it has one and more lines follow.
-    commands: Option<&'a [u8]>,
+    pub commands: Option<&'a [u8]>,
 }
 
 /// Whether a line ends the run file: its only word is `---`.
@@ -46,7 +46,7 @@ pub fn ends_file(alloc: Global, line: &[u8]) -> Result<bool, AllocError>
 
 /// The run file and the commands of an input. Out of memory is the only refusal.
 #[tactic(auto, using(crate::proofs::Cutting::seen_start, crate::proofs::Cutting::seen_cut, crate::proofs::Cutting::seen_none))]
-fn cut<'a>(alloc: Global, input: &'a [u8]) -> Result<Parts<'a>, AllocError>
+pub(crate) fn cut<'a>(alloc: Global, input: &'a [u8]) -> Result<Parts<'a>, AllocError>
     ensures { IfOk result
         (λ p. IsCut input.now p.file.now (lines_behind (option_copied p.commands))) }
 {
@@ -114,14 +114,14 @@ fn is_any_refused(answers: &[Answer]) -> bool
 
 /// Whether a command is refused, where that is asked for.
 #[tactic(auto, using(crate::proofs::ScriptReplies::refused_alike))]
-fn is_refused(strict: bool, answers: &[Answer]) -> bool
+pub(crate) fn is_refused(strict: bool, answers: &[Answer]) -> bool
     ensures { result ≡ (strict && any_refused (map answer_of answers.now)) }
 {
     strict && is_any_refused(answers)
 }
 
 /// The lines of commands, where they are to be printed.
-fn shown_lines(
+pub(crate) fn shown_lines(
     alloc: Global,
     echo: bool,
     commands: Option<&[u8]>,

@@ -3,6 +3,8 @@ pub mod OneReply
 pub mod Raced
 pub mod Followed
 mod Opened
+mod BufferOpened
 mod Talked
+mod BufferTalked
 mod FoundRaces
 mod AsObjects

@@ -98,6 +98,7 @@ module _ (words : WordsAreDetermined) (encodings : EncodingsAreDetermined) (refu
       (λ f shape can p q x y one other. noted (first_world_of f) by f.names maps p q x y (fresh f shape can) one other) text r s a b n m
   one_answer (command.Judge options) text r s h t o a b n m = one_judged files runs reports options.by.items options.keys text r s a b n m
   one_answer (command.Debug echo strict) text r s h t o a b n m = one_debug files runs scripts echo strict text r s a b n m
+  one_answer (command.DebugX86 echo strict) text r s h t o a b n m = absurd o
   one_answer (command.Explore options) text r s h t o a b n m = absurd o
   one_answer (command.ExploreX86 options) text r s h t o a b n m = absurd o
   one_answer (command.Show options) text r s h t o a b n m = absurd o

@@ -1,5 +1,6 @@
 -- What each command replies to the text that it read.
 use Rattle.std.specs.Prelude.{◌≡◌, ◌≤◌, ◌⊎◌, ℕ, List, None, IsUtf8, length, map, string_bytes}
+use Rattle.bpf_replies.specs.BufferScript.{IsBufferScriptOfFile}
 use Rattle.bpf_replies.specs.Checking.{IsCheckedFile}
 use Rattle.bpf_run.specs.Expanding.{IsExpandedFile}
 use Rattle.bpf_replies.specs.Exploring.{IsExploredFile, IsShownFile}
@@ -27,6 +28,7 @@ IsAnswer (command.Disasm pc) text r = IsDisassembled pc text r
 IsAnswer (command.Run options) text r =
     IsRunBy options.workers options.stats options.by.items options.keys options.maps text r
 IsAnswer (command.Debug echo strict) text r = IsScriptOfFile echo strict text r
+IsAnswer (command.DebugX86 echo strict) text r = IsBufferScriptOfFile echo strict text r
 IsAnswer (command.History options) text r =
     IsHistoryOfFile options.by.items options.keys options.maps text r
 IsAnswer (command.Packets options) text r =
@@ -53,8 +55,9 @@ abbrev pub IsForOneThread : Command → Type 0
 IsForOneThread (command.Run options) = options.workers ≡ None
 IsForOneThread _ = Unit {0}
 
--- it doesn't choose among schedules, nor print states
+-- it doesn't choose among schedules, nor print states, nor debug CPUs with store buffers
 abbrev pub IsForOneSchedule : Command → Type 0
+IsForOneSchedule (command.DebugX86 echo strict) = ⊥
 IsForOneSchedule (command.Explore options) = ⊥
 IsForOneSchedule (command.ExploreX86 options) = ⊥
 IsForOneSchedule (command.Show options) = ⊥

@@ -13,11 +13,13 @@ use Rattle.bpf_talk.specs.declared.talking.Talked.{Talked}
 use Rattle.bpf_talk.specs.declared.talking.Talked.TheVariants as talked
 use Rattle.bpf_jobs.specs.Printed.{any_stopped}
 use Rattle.bpf_expand.specs.Filter.{FilterState, AnswersState}
-use Rattle.bpf_run.specs.Answering.{AnswersText}
+use Rattle.bpf_buffer_debug.specs.Session as buffers
+use Rattle.bpf_run.specs.Answering.{AnswersBufferText, AnswersText}
 use Rattle.bpf_replies.specs.Answer.{Prints, script_status, stats_of}
 use Rattle.bpf_run.specs.Commands.{IsReply}
 use Rattle.bpf_replies.specs.Input.{is_unread}
 use Rattle.bpf_run.specs.Expanding.{filter_of}
+use Rattle.bpf_replies.specs.BufferScript.{HasStopped, buffer_scene_of}
 use Rattle.bpf_replies.specs.Script.{NoneEnds, scene_of}
 use Rattle.bpf_run.specs.declared.conversing.Partner.{Partner}
 use Rattle.bpf_run.specs.declared.conversing.Partner.TheVariants as partner
@@ -32,6 +34,8 @@ use Rattle.bpf_replies.specs.declared.reply.Status.TheVariants as status
 abbrev pub asked_talk : Command → Option Text → (json : Bool) → Option (Partner × Text)
 asked_talk (command.Debug echo strict) (Some name) false =
     Some (partner.Debugger echo strict, name)
+asked_talk (command.DebugX86 echo strict) (Some name) false =
+    Some (partner.BufferDebugger echo strict, name)
 asked_talk (command.Expand false patient races) (Some name) false =
     Some (partner.States patient races, name)
 asked_talk _ _ _ = None
@@ -39,11 +43,13 @@ asked_talk _ _ _ = None
 -- the command
 abbrev pub command_of : Partner → Command
 command_of (partner.Debugger echo strict) = command.Debug echo strict
+command_of (partner.BufferDebugger echo strict) = command.DebugX86 echo strict
 command_of (partner.States patient races) = command.Expand false patient races
 
 -- a file of this text leaves lines to be read: those of the debugger unless it has its own
 abbrev pub LeavesLines : Partner → List ℕ → Type 0
 LeavesLines (partner.Debugger echo strict) bytes = NoneEnds (lines_of bytes)
+LeavesLines (partner.BufferDebugger echo strict) bytes = NoneEnds (lines_of bytes)
 LeavesLines (partner.States patient races) bytes = Unit {0}
 
 abbrev pub IsRefusal : Reply → Type 0
@@ -63,6 +69,15 @@ DebugsFrom passes unread unwritten echo strict x answered = (calls : List Call) 
     × (y : Scene) × passes calls × Talks AnswersText echo x y calls unread unwritten told
     × (answered ≡ talk_status strict (any_stopped (length y.world.jobs) y.world.jobs) told)
 
+-- the same of CPUs with store buffers; where memory ran out in the middle of a move there is no scene in
+-- the end
+abbrev pub BufferDebugsFrom : (passes : List Call → Type 0) → (unread unwritten : Bool)
+    → (echo strict : Bool) → buffers.Scene → Status → Type 0
+BufferDebugsFrom passes unread unwritten echo strict x answered = (calls : List Call)
+    × (told : Talked) × (y : Option buffers.Scene) × (stopped : Bool) × passes calls
+    × Talks AnswersBufferText echo (Some x) y calls unread unwritten told × HasStopped y stopped
+    × (answered ≡ talk_status strict stopped told)
+
 -- that are one with this filter of states; a line that is refused refuses all
 abbrev pub StatesFrom : (passes : List Call → Type 0) → (unread unwritten : Bool)
     → FilterState → Status → Type 0
@@ -75,6 +90,8 @@ abbrev pub Converses : (passes : List Call → Type 0) → (unread unwritten : B
     → File → Status → Type 0
 Converses passes unread unwritten (partner.Debugger echo strict) f answered =
     DebugsFrom passes unread unwritten echo strict (scene_of f) answered
+Converses passes unread unwritten (partner.BufferDebugger echo strict) f answered =
+    BufferDebugsFrom passes unread unwritten echo strict (buffer_scene_of f) answered
 Converses passes unread unwritten (partner.States patient races) f answered =
     StatesFrom passes unread unwritten (filter_of patient races f) answered
 

@@ -6,4 +6,5 @@ pub mod Program
 pub mod Answering
 pub mod Conversing
 pub mod Debugging
+pub mod BufferDebugging
 pub mod Expanding

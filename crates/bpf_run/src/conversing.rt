@@ -5,6 +5,7 @@ ghost use Rattle.bpf_replies.specs.Answer.{Prints, stats_of};
 ghost use Rattle.bpf_run.specs.Conversing.{Converses, Holds, asked_talk, talk_status};
 ghost use Rattle.bpf_replies.specs.Input.{is_failed_read};
 
+use crate::buffer_debugging::debug_text_with_buffers;
 use crate::debugging::debug_text;
 use crate::expanding::expand_text;
 use crate::perform::Performed;
@@ -22,6 +23,13 @@ use std::alloc::Global;
 pub enum Partner {
     /// The debugger.
     Debugger {
+        /// Each line is shown before its answer.
+        echo: bool,
+        /// A line that is refused refuses all.
+        strict: bool,
+    },
+    /// The debugger of CPUs with store buffers.
+    BufferDebugger {
         /// Each line is shown before its answer.
         echo: bool,
         /// A line that is refused refuses all.
@@ -57,6 +65,10 @@ pub fn asked_talk<'a>(command: &Command, file: Option<&'a str>, json: bool) -> O
     }
     let partner = match command {
         Command::Debug { echo, strict } => Partner::Debugger {
+            echo: *echo,
+            strict: *strict,
+        },
+        Command::DebugX86 { echo, strict } => Partner::BufferDebugger {
             echo: *echo,
             strict: *strict,
         },
@@ -153,6 +165,9 @@ fn talk_text<W: Sink, D: Terminal>(
 {
     match partner {
         Partner::Debugger { echo, strict } => debug_text(alloc, echo, strict, text, sink, terminal),
+        Partner::BufferDebugger { echo, strict } => {
+            debug_text_with_buffers(alloc, echo, strict, text, sink, terminal)
+        }
         Partner::States { patient, races } => expand_text(
             alloc, patient, races, text, sink, terminal,
         ),

@@ -29,7 +29,7 @@ use bpf_talk::{Terminal, talk};
 use std::alloc::{AllocError, Global};
 
 /// Whether some line of an input ends the run file.
-fn is_ended(alloc: Global, input: &[u8]) -> Result<bool, AllocError>
+pub(crate) fn is_ended(alloc: Global, input: &[u8]) -> Result<bool, AllocError>
     ensures { IfOk result (λ b. b ≡ list_any ends_file (lines_of input.now)) }
 {
     let mut rest = Some(input);

@@ -103,7 +103,7 @@ impl Subject {
             Command::X86(_) | Command::X86History(_) => Subject::Buffers,
             Command::Show(_) | Command::ShowX86(_) => Subject::Shown,
             Command::Judge(_) => Subject::Tests,
-            Command::Debug { .. } => Subject::Script,
+            Command::Debug { .. } | Command::DebugX86 { .. } => Subject::Script,
             Command::Explore(_) | Command::ExploreX86(_) => Subject::Schedules,
             Command::Races(_) => Subject::Races,
             Command::Check(_) => Subject::Tests,

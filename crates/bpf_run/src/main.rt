@@ -2,6 +2,8 @@
 #![tactic(auto)]
 
 pub mod answering;
+pub mod buffer_answering;
+pub mod buffer_debugging;
 pub mod conversing;
 pub mod debugging;
 pub mod engine;

@@ -7,6 +7,7 @@ use crate::expanding::expand_file;
 use crate::racing::{AllRaces, race_file};
 use bpf_command::{Command, FileOptions, HistoryOptions, JudgeOptions, ShowOptions, X86Options};
 use bpf_explore::Observer;
+use bpf_replies::buffer_script::debug_file_with_buffers;
 use bpf_replies::checking::check_file;
 use bpf_replies::exploring::{explore_file, show_file};
 use bpf_replies::programs::{assembled, assembled_run, disassembled, run};
@@ -54,6 +55,7 @@ fn answer_to<O: Observer>(
             },
         ) => unreachable!(),
         Command::Debug { echo, strict } => debug_file(alloc, echo, strict, text),
+        Command::DebugX86 { echo, strict } => debug_file_with_buffers(alloc, echo, strict, text),
         Command::History(HistoryOptions { by, keys, maps }) => {
             run_file_with_history(alloc, &by, keys, maps, text)
         }

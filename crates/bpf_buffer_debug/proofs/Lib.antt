@@ -1,0 +1,10 @@
+pub mod Weaker
+pub mod CommandLaws
+pub mod ScheduleLaws
+pub mod MoveLaws
+pub mod GoLaws
+pub mod SeeLaws
+pub mod WaitLaws
+pub mod SessionLaws
+pub mod LineLaws
+pub mod ScriptLaws

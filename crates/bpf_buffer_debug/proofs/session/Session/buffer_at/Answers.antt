@@ -1,0 +1,32 @@
+use Rattle.std.proofs.Common.{◌≡◌, ◌∙◌, true, List, Some, sym, ap, subst, map, String, Global}
+use Rattle.std.specs.Prelude.{string_bytes}
+use Rattle.bpf_names.specs.Names.{names_of}
+use Rattle.bpf_buffer_debug.specs.Private.Kept.{first_of}
+use Rattle.bpf_plain.specs.PlainStore.{has_cpu}
+use Rattle.bpf_buffering.specs.Search.{BufferedState, buffer_at}
+use Rattle.bpf_buffer_debug.specs.Command.{Buffer}
+use Rattle.bpf_buffer_debug.specs.Session.{SessionState, Leaves}
+use Rattle.bpf_buffer_debug.specs.Waiting.{buffer_text}
+use Rattle.bpf_buffer_debug.proofs.SessionLaws.{told_buffer}
+use Rattle.bpf_buffer_debug.proofs.session.Session.buffer_at.Goals as goal
+
+pub returns-clause-answered : goal.returns-clause-answered
+returns-clause-answered c =
+    let m = c.self.inside in
+    let cpu = c.args.cpu in
+    let last = string_bytes c.in_ok-text.text in
+    let s : SessionState = record {
+      machine = m.album.machine;
+      first = first_of m.album;
+      names = names_of m.names;
+      breaks = m.breakpoints.items;
+      course = m.course;
+      lost = m.lost;
+    } in
+    let H : SessionState → Type 0 = λ r. has_cpu r.machine.machine.store cpu ≡ true in
+    let there : c.machine.result.now ≡ m.album.machine = c.machine.ensures ∙ sym (ap (λ (r : SessionState). r.machine) c.self.view_is) in
+    let M : BufferedState → Type 0 = λ b. last ≡ buffer_text (map string_bytes c.deref.result.now) cpu (buffer_at b.buffers cpu) in
+    let D : List (String Global) → Type 0 = λ ns. last ≡ buffer_text (map string_bytes ns) cpu (buffer_at m.album.machine.buffers cpu) in
+    subst (λ (r : SessionState). Leaves r (Buffer (Some cpu)) last r) c.self.view_is
+    (told_buffer s cpu (subst H (sym c.self.view_is) c.requires) last
+    (subst D c.deref.ensures.value (subst M there c.in_ok-text.ensures)))

@@ -1,0 +1,12 @@
+use Rattle.std.proofs.Common.{ℕ, Option, sym, subst}
+use Rattle.std.specs.Prelude.{IfOk, string_bytes}
+use Rattle.bpf_debug.specs.Command.{Delete}
+use Rattle.bpf_buffer_debug.specs.Command.{Plain}
+use Rattle.bpf_buffer_debug.specs.Session.{Leaves}
+use Rattle.bpf_buffer_debug.proofs.session.Session.delete.Goals as goal
+
+pub returns-clause-answered : goal.returns-clause-answered
+returns-clause-answered c =
+    let P : Option ℕ → Type 0 = λ o. IfOk c.delete_at.result (λ text. Leaves c.args.self.now (Plain (Delete o c.args.pc))
+    (string_bytes text) c.delete_at.new.self) in
+    subst P (sym c.in-Some.ensures.some.0) c.delete_at.ensures.answered

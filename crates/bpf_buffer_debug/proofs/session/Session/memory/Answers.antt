@@ -1,0 +1,12 @@
+use Rattle.std.proofs.Common.{ℕ, Option, sym, subst}
+use Rattle.std.specs.Prelude.{IfOk, string_bytes}
+use Rattle.bpf_debug.specs.Command.{Memory}
+use Rattle.bpf_buffer_debug.specs.Command.{Plain}
+use Rattle.bpf_buffer_debug.specs.Session.{Leaves}
+use Rattle.bpf_buffer_debug.proofs.session.Session.memory.Goals as goal
+
+pub returns-clause-answered : goal.returns-clause-answered
+returns-clause-answered c =
+    let P : Option ℕ → Type 0 = λ o. IfOk c.memory_at.result (λ text. Leaves c.args.self.now (Plain (Memory o c.args.address c.args.count))
+    (string_bytes text) c.memory_at.new.self) in
+    subst P (sym c.in-Some.ensures.some.0) c.memory_at.ensures.answered

@@ -1,0 +1,9 @@
+pub mod Command
+pub mod Help
+pub mod Moves
+pub mod Go
+pub mod Seeing
+pub mod Waiting
+pub mod Session
+pub mod Script
+pub mod Private
