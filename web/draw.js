@@ -149,6 +149,7 @@ function make_card(cpu) {
     const stack = make('table', 'stack');
     stack.setAttribute('aria-label', `Stack of CPU ${cpu}`);
     card.append(title, alone, step, make('ul', 'outcomes'), make('p', 'meaning'), listing, registers, stack, make('p', 'none'));
+    card.append(make_buffer(cpu));
     return card;
 }
 
@@ -164,6 +165,14 @@ function draw_frame({ file }) {
     at('track').style.height = `${file.cpus * lane_height(file)}px`;
 }
 
+// Says whether CPUs have store buffers, wherever the page is another then.
+function draw_kind(is_x86) {
+    at('x86').checked = is_x86;
+    document.body.classList.toggle('x86', is_x86);
+    write(at('moves'), is_x86 ? 'Turns and flushes' : 'Turns');
+    write(at('asked-of'), `ebpf ${words_of_debug({ is_x86 }).join(' ')}`);
+}
+
 function draw_bar({ file, views, shown, turns }) {
     const has_work = Boolean(file && views?.after.places.some((place) => !place.is_idle));
     at('start').disabled = at('back').disabled = !file || shown === 0;
@@ -171,6 +180,9 @@ function draw_bar({ file, views, shown, turns }) {
     at('round').disabled = at('end').disabled = !has_work;
     for (const button of document.querySelectorAll('.step, .alone')) {
         button.disabled = !file || Boolean(views?.after.places[button.dataset.cpu]?.is_idle);
+    }
+    for (const button of document.querySelectorAll('.flush')) {
+        button.disabled = !file || !views?.after.buffers[button.dataset.cpu]?.length;
     }
 }
 
@@ -185,12 +197,13 @@ function draw_cards(state) {
     const ends = Array.from({ length: file.cpus }, () => []);
     const lasts = []; // of each CPU, its last turn that was one
     for (let turn = 0; turn < shown; turn++) {
+        if (is_flush(turns[turn])) continue;
         if (known[turn].ended) ends[turns[turn]].push(known[turn].ended);
         if (!known[turn].is_none) lasts[turns[turn]] = known[turn];
     }
     for (const [cpu, card] of [...at('cards').children].entries()) {
         const place = views.after.places[cpu];
-        card.classList.toggle('turned', shown > 0 && turns[shown - 1] === cpu);
+        card.classList.toggle('turned', shown > 0 && cpu_of(turns[shown - 1]) === cpu);
         write(card.querySelector('.place'), place_text(file, place));
         draw_ends(card.querySelector('.outcomes'), ends[cpu]);
         write(card.querySelector('.meaning'), state.meanings.get(ends[cpu].at(-1)?.code) ?? '');
@@ -336,10 +349,15 @@ function event_text({ text }, file) {
     return text.replace(/\b0x[0-9a-f]+/, (number) => address_text(number, file) ?? number);
 }
 
+// What the last turn did to the store.
+function seen_text({ file, base }, { event, flushed } = {}) {
+    if (flushed) return `Memory got: ${store_text(flushed, { file, base })}`;
+    return event ? `The store saw: ${event_text(event, file)}` : '';
+}
+
 function draw_timeline(state, { width, scrolled }) {
     const { file, turns, shown, known } = state;
-    const event = known[shown - 1]?.event;
-    write(at('event'), event ? `The store saw: ${event_text(event, file)}` : '');
+    write(at('event'), seen_text(state, known[shown - 1]));
     write(at('count'), turns.length ? `${shown} of ${turns.length}` : '');
     Object.assign(at('at'), { max: turns.length, value: shown, disabled: !turns.length });
     at('track').style.minWidth = `${Math.max(turns.length * CELL + CELL, 100)}px`;
@@ -353,8 +371,8 @@ function draw_timeline(state, { width, scrolled }) {
         return lane;
     });
     for (let turn = first; turn < last; turn++) {
-        const cell = make_turn(turns[turn], turn, shown, known[turn] ?? {}, file);
-        cell.style.top = `${turns[turn] * height}px`;
+        const cell = make_turn(turn, state);
+        cell.style.top = `${cpu_of(turns[turn]) * height}px`;
         cells.push(cell);
     }
     at('track').replaceChildren(...cells);
@@ -382,8 +400,19 @@ function scrolled_to({ width, scrolled }, shown) {
     return { width, scrolled: is_seen ? scrolled : Math.max(0, left - width * 0.7) };
 }
 
-function make_turn(cpu, turn, shown, { pc, is_none, ended, event }, file) {
-    const cell = make('div', `turn ${colour_of(cpu)}`, is_none ? '–' : (pc ?? ''));
+// What a turn did, in few words.
+function turn_words(turn, { pc, is_none, ended, event, flushed }, { file, base }) {
+    if (is_flush(turn)) return [flushed ? `a flush of ${store_text(flushed, { file, base })}` : 'a flush of nothing'];
+    return [is_none ? 'no work' : `pc ${pc}`, event && event_text(event, file), ended?.line];
+}
+
+function make_turn(turn, state) {
+    const { turns, shown } = state;
+    const known = state.known[turn] ?? {};
+    const { pc, is_none, ended, event } = known;
+    const [cpu, is_of_buffer] = [cpu_of(turns[turn]), is_flush(turns[turn])];
+    const cell = make('div', `turn ${colour_of(cpu)}`, is_none ? '–' : is_of_buffer ? '!' : (pc ?? ''));
+    if (is_of_buffer) cell.classList.add('flushed');
     if (event) {
         cell.classList.add('seen');
         cell.append(make('span', 'kind', kind_of(event).mark));
@@ -392,8 +421,7 @@ function make_turn(cpu, turn, shown, { pc, is_none, ended, event }, file) {
     if (ended) cell.classList.add(ended.is_good ? 'ended' : 'failed');
     if (turn >= shown) cell.classList.add('ahead');
     if (turn === shown - 1) cell.classList.add('last');
-    const what = [is_none ? 'no work' : `pc ${pc}`, event && event_text(event, file), ended?.line];
-    cell.title = `Turn ${turn + 1}: CPU ${cpu}, ${what.filter((it) => it).join('; ')}`;
+    cell.title = `Turn ${turn + 1}: CPU ${cpu}, ${turn_words(turns[turn], known, state).filter((it) => it).join('; ')}`;
     cell.dataset.turn = turn + 1;
     cell.style.left = `${turn * CELL}px`;
     return cell;
@@ -562,12 +590,17 @@ function draw_raw({ made }) {
     at('answered').textContent = last(made.answers);
 }
 
-function turn_text({ file, turns, shown, known, views }) {
+function turn_text(state) {
+    const { file, turns, shown, known, views } = state;
     if (!shown) return `No turn is made yet. ${counted(file.cpus, 'CPU')}, ${counted(file.jobs.length, 'job')}.`;
-    const { pc, is_none, ended } = known[shown - 1];
+    const { pc, is_none, ended, flushed } = known[shown - 1];
+    const [turn, cpu] = [turns[shown - 1], cpu_of(turns[shown - 1])];
+    if (flushed) return `Turn ${shown}: a flush of CPU ${cpu}, and ${store_text(flushed, state)} reached memory.`;
+    if (is_flush(turn)) return `Turn ${shown}: a flush of CPU ${cpu}, where nothing waited.`;
     const what = is_none ? 'had no work' : `executed pc ${pc}`;
     const done = views.after.places.every((place) => place.is_idle) ? ' No CPU has work.' : '';
-    return `Turn ${shown}: CPU ${turns[shown - 1]} ${what}${ended ? `, and a job ended: ${ended.line}` : ''}.${done}`;
+    const end = ended ? `, and a job ended: ${ended.line}` : '';
+    return `Turn ${shown}: CPU ${cpu} ${what}${end}.${waiting_text(state, cpu)}${done}`;
 }
 
 // What is measured is measured before anything is written, and what is scrolled is scrolled at the end, so that
@@ -578,6 +611,7 @@ function draw(state) {
     const wanted = scrolled_to(seen, state.shown);
     draw_bar(state);
     draw_cards(state);
+    draw_buffers(state);
     draw_stands(state, height);
     draw_maps(state);
     draw_raw(state);

@@ -3,7 +3,8 @@
 // What the store saw of the turns, as `ebpf run --events` tells it: an event a line, each with CPU, job and pc. The
 // program makes the turns and then rounds, and doesn't say which event is which turn's; so the jobs are given no more
 // steps than the turns made, and each event is laid beside the turn of its CPU, job and pc. It is asked for once a
-// state is drawn, in an engine of its own, and where it lasts, nothing is marked.
+// state is drawn, in an engine of its own, and where it lasts, nothing is marked. What a flush brought to memory, the
+// debugger has answered already.
 
 const MOST_TOLD = 5000; // turns whose events are asked for
 const PATIENCE = 2000; // milliseconds
@@ -40,7 +41,7 @@ const place_name = (cpu, job, pc) => `${cpu} ${job} ${pc}`;
 // an event too, and may free elements, so it isn't to come before the turns are made.
 function with_budgets({ text, jobs }, known) {
     const steps = jobs.map(() => 0);
-    for (const turn of known) if (!turn.is_none) steps[turn.job]++;
+    for (const turn of known) if (turn.job !== undefined && !turn.is_none) steps[turn.job]++;
     const lines = text.split('\n');
     jobs.forEach(({ row }, job) => {
         const words = words_of(lines[row]);
@@ -73,7 +74,7 @@ function lay_events(events, turns, known) {
     const counts = new Map();
     let next = 0;
     known.forEach(({ job, pc, is_none }, turn) => {
-        if (is_none) return;
+        if (is_none || is_flush(turns[turn])) return;
         const name = place_name(turns[turn], job, pc);
         const count = counts.get(name) ?? { turns: 0, seen: 0 };
         counts.set(name, count);
@@ -96,7 +97,7 @@ const telling = { engine: null, number: 0, call: 0, is_on: false, timer: null };
 // The events beside the shown turns of a state, a list with holes.
 async function tell_events({ file, turns, shown, known, views }) {
     const own = known.slice(0, shown);
-    const words = ['run', '--events', '--by', schedule_of(turns.slice(0, shown))];
+    const words = ['run', ...(file.is_x86 ? ['--x86'] : []), '--events', '--by', schedule_of(turns.slice(0, shown))];
     const { stdout } = await telling.engine.call(words, with_budgets(file, own));
     const events = text_of(stdout).split('\n').map(read_event).filter((it) => it);
     const those = events_of_turns(events, views.after.places).filter((it) => !is_edge(it));

@@ -1,7 +1,7 @@
 'use strict';
 
 // Every schedule: the outcomes, deadlocks and races that `ebpf explore` finds of a run file, each with a schedule that
-// leads there and that the timeline can show; where CPUs have store buffers, whose flushes are no turns, buffers.js shows it.
+// leads there and that the timeline can show; where CPUs have store buffers, of turns and flushes.
 // The search has an engine of its own, so that CPUs can be stepped meanwhile, and is made with greater and greater limits,
 // so that what is found is seen before its end.
 
@@ -149,7 +149,6 @@ function found_row({ kind, schedule, lines }, number, is_shared, is_x86) {
     button.type = 'button';
     button.dataset.found = number;
     button.setAttribute('aria-label', `Show me number ${number + 1}: ${kind === 'outcome' ? 'an' : 'a'} ${kind}`);
-    if (is_x86) button.setAttribute('aria-controls', 'way');
     row.append(button, said, by);
     return row;
 }
@@ -173,17 +172,12 @@ function draw_every(state) {
 }
 
 // Marks what was found by the schedule that the turns are.
-function mark_found({ turns }) {
-    if (!search.came || search.is_x86) return;
-    const by = schedule_of(turns);
-    mark_rows(({ schedule }) => schedule === by && turns.length > 0);
-}
-
-// Marks, of what was found, what is shown.
-function mark_rows(shows) {
-    search.came.found.slice(0, MOST_FOUND).forEach((one, number) => {
+function mark_found({ turns, is_x86 }) {
+    if (!search.came) return;
+    const by = search.is_x86 === is_x86 && turns.length ? schedule_of(turns) : null;
+    search.came.found.slice(0, MOST_FOUND).forEach(({ schedule }, number) => {
         const row = at('found').children[number];
-        const is_shown = shows(one);
+        const is_shown = schedule === by;
         row.classList.toggle('shown', is_shown);
         if (is_shown) row.setAttribute('aria-current', 'true');
         else row.removeAttribute('aria-current');

@@ -1,7 +1,7 @@
 'use strict';
 
-// Fifteen lessons. Each sets a run file and turns, asks for something, and says by what the program answers
-// whether it is met. In texts, what is between ` is code.
+// Sixteen lessons. Each sets a run file and turns, on CPUs with store buffers where it has `is_x86`, asks for something, and
+// says by what the program answers whether it is met. In texts, what is between ` is code.
 
 const FIRST = `ebpf-run 1
 
@@ -430,11 +430,18 @@ async function no_order_races({ file }, machine) {
     return is_kept ? met('No order of turns has a race.') : not_yet('One CPU has to set the flag, and the other to look at it.');
 }
 
+function both_read_nothing(state) {
+    const ends = [0, 1].map((job) => end_of(state, job));
+    if (ends.some((end) => !end)) return not_yet('Both jobs have to end.');
+    const said = `Job 0 ended with ${ends[0].how}, and job 1 with ${ends[1].how}.`;
+    return ends.every(({ how }) => how === 'r0=0') ? met(said) : not_yet(`${said} Go back, and try another order.`);
+}
+
 async function no_buffer_hides({ file }, machine) {
     const { stdout } = await machine.engine.call(['explore', '--x86', '--limit', String(MOST_STATES)], file.text);
     const { found, is_all } = read_explored(text_of(stdout));
     const hidden = found.find(({ lines }) => ['job 0 cpu 0 r0=0', 'job 1 cpu 1 r0=0'].every((line) => lines.includes(line)));
-    if (hidden) return not_yet(`On x86 both read 0, by ${hidden.schedule}.`);
+    if (hidden) return { ...not_yet('In some order of turns and flushes both read 0.'), turns: turns_of_schedule(hidden.schedule, MOST_TURNS) };
     if (!is_all) return not_yet(`There are more than ${MOST_STATES} states: it can be said shorter.`);
     const is_kept = found.every(({ lines }) => lines.filter((line) => /^job \d cpu \d r0=[01]$/.test(line)).length === 2
         && ['var x=1', 'var y=1'].every((line) => lines.includes(line)));
@@ -587,11 +594,25 @@ const LESSONS = [
         title: 'Store buffers',
         text:
             'Each CPU writes one variable and reads the other: in no order of turns do both read 0. On x86 ' +
-            'they may, since a plain store waits in its CPU\'s store buffer while later loads go ahead. ' +
-            '`store buffers`, above, has the program make every order of turns and of flushes of these.',
-        task: 'Let one of both read 1 on x86, too: an atomic operation, as `r1 = xchg_64(r7 + 0, r1)`, waits for the buffer.',
+            'they may, since a plain store waits in its CPU\'s store buffer, below the registers, while later ' +
+            'loads go ahead. `Flush`, or the key f and then the CPU\'s, brings the oldest store to memory; ' +
+            'until then no other CPU sees it.',
+        task: 'Find an order of turns and flushes in which both jobs end with r0=0.',
         file: BUFFERS,
         turns: [0, 1],
+        is_x86: true,
+        check: both_read_nothing,
+    },
+    {
+        title: 'An atomic operation waits',
+        text:
+            'An atomic operation waits until its CPU\'s buffer is empty, and is in memory at once. Here the ' +
+            'page has the program make every order of turns and flushes, and shows you one in which both ' +
+            'CPUs read 0.',
+        task: 'Let one of both read 1 in any order: write by an atomic operation, `r1 = xchg_64(r7 + 0, r1)`, in both programs.',
+        file: BUFFERS,
+        turns: [0, 1],
+        is_x86: true,
         check: no_buffer_hides,
     },
     {
@@ -677,8 +698,8 @@ function open_lesson(number, load) {
     draw_lesson();
     show_lesson(true);
     name_example('');
-    const { file, example, turns } = LESSONS[number];
-    return load(file ?? examples[example].text, turns);
+    const { file, example, turns, is_x86 = false } = LESSONS[number];
+    return load(file ?? examples[example].text, turns, turns.length, is_x86);
 }
 
 // Tells whether what the lesson asks for is met. Of a check that asks the program, the last one counts.
@@ -699,7 +720,7 @@ async function check_lesson(state) {
         if (!turns) return;
         const show = make('button', '', 'Show me');
         show.type = 'button';
-        show.addEventListener('click', () => show_order(state.file, turns));
+        show.addEventListener('click', () => show_order(turns, Boolean(LESSONS[lesson].is_x86)));
         said.append(' ', show);
     } catch (error) {
         if (mine === checked) said.textContent = `The program gave no answer: ${error.message}`;

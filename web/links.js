@@ -1,12 +1,13 @@
 'use strict';
 
 // A link is a state: `#1.` and the run file, the turns (a hex digit each) and how many of them are shown,
-// as JSON, deflated, in base64 of the kind for addresses. A link is somebody else's text: how much comes
-// out of it is bounded while it is inflated, its form is checked, and nothing of it is anything but text.
+// as JSON, deflated, in base64 of the kind for addresses. Where CPUs have store buffers, `by` is in the place of the
+// turns: a schedule, as the program writes it. A link is somebody else's text: how much comes out of it is bounded while
+// it is inflated, its form is checked, and nothing of it is anything but text.
 
 const MOST_TURNS = 50000;
 const MOST_FILE = 1 << 20;
-const MOST_JSON = 2 * MOST_FILE + 2 * MOST_TURNS; // a letter may be written by two
+const MOST_JSON = 2 * MOST_FILE + 8 * MOST_TURNS; // a letter may be written by two, and a turn by seven
 const MOST_LINK = 1 << 21;
 
 async function through(stream, bytes, most) {
@@ -20,8 +21,23 @@ async function through(stream, bytes, most) {
     return new Uint8Array(await new Blob(parts).arrayBuffer());
 }
 
-async function write_link(file, turns, shown) {
-    const said = JSON.stringify({ file, turns: turns.map((cpu) => cpu.toString(16)).join(''), shown });
+const SCHEDULE = /^(?:\d{1,2}!?\*\d{1,5}(?: |$))*$/;
+
+// The turns that a link has; null where they are more than this page makes.
+function turns_of_link({ turns, by }) {
+    if (by !== undefined) return turns_of_schedule(by, MOST_TURNS);
+    return turns.length > MOST_TURNS ? null : Array.from(turns, (digit) => parseInt(digit, 16));
+}
+
+// Whether a link has a file, and turns in the right form.
+function is_link({ file, turns, by }) {
+    const is_made_by = (text, form) => typeof text === 'string' && form.test(text);
+    return typeof file === 'string' && (by === undefined ? is_made_by(turns, /^[0-9a-f]*$/) : is_made_by(by, SCHEDULE));
+}
+
+async function write_link({ text, turns, shown, is_x86 }) {
+    const made = is_x86 ? { by: schedule_of(turns) } : { turns: turns.map((cpu) => cpu.toString(16)).join('') };
+    const said = JSON.stringify({ file: text, ...made, shown });
     const bytes = await through(new CompressionStream('deflate-raw'), new TextEncoder().encode(said), Infinity);
     let binary = '';
     for (const byte of bytes) binary += String.fromCharCode(byte);
@@ -43,10 +59,10 @@ async function read_link(hash) {
     } catch (error) {
         throw error.message === 'it is too long' ? error : new Error('it is damaged');
     }
-    const { file, turns, shown } = said ?? {};
-    const is_right = typeof file === 'string' && typeof turns === 'string' && /^[0-9a-f]*$/.test(turns);
-    if (!is_right) throw new Error('it is damaged');
-    if (file.length > MOST_FILE || turns.length > MOST_TURNS) throw new Error('it is too long');
+    if (!is_link(said ?? {})) throw new Error('it is damaged');
+    const { file, shown, by } = said;
+    const turns = turns_of_link(said);
+    if (file.length > MOST_FILE || !turns) throw new Error('it is too long');
     const is_number = Number.isInteger(shown) && shown >= 0;
-    return { file, turns: Array.from(turns, (digit) => parseInt(digit, 16)), shown: is_number ? shown : turns.length };
+    return { file, turns, shown: is_number ? shown : turns.length, is_x86: by !== undefined };
 }

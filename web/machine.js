@@ -4,17 +4,26 @@
 // what `ebpf debug` answers when it makes the turns from the beginning, and nothing else in the page
 // asks for one. What is asked and how the answers are read stands here alone, so a command that tells
 // more at once changes this file.
+//
+// Where CPUs have store buffers (`file.is_x86`, and then `ebpf debug --x86`), a turn in the list may be a flush, too: of
+// CPU C it is the number C + FLUSH.
 
 const MOST_CPUS = 16;
 const MARK = 'mark 0'; // is answered by itself, and so ends an answer of any number of lines
 const NO_CPU = 'refused G1';
 const HALF_FRAME = 256; // bytes: the most that `mem` tells at once
+const FLUSH = 128; // a flush of CPU C is the number C + FLUSH
 
 const text_of = (bytes) => new TextDecoder().decode(bytes);
 const with_end = (text) => (text.endsWith('\n') || !text ? text : `${text}\n`);
 const script_of = (text, commands) => `${with_end(text)}---\n${commands.map((line) => `${line}\n`).join('')}`;
 
 const list_of = (count, make) => Array.from({ length: count }, (_, number) => make(number));
+
+const cpu_of = (turn) => turn % FLUSH;
+const is_flush = (turn) => turn >= FLUSH;
+const flush_of = (cpu) => cpu + FLUSH;
+const words_of_debug = ({ is_x86 }) => (is_x86 ? ['debug', '--x86'] : ['debug']);
 
 // `cpu C idle`, `cpu C job J waiting` or `cpu C job J pc P depth D`.
 function read_place(line) {
@@ -41,28 +50,53 @@ function read_held(line) {
     return key.startsWith('at ') ? { map, address, bytes } : { map, key, address, bytes };
 }
 
-// Turns in run lengths, as the program writes and takes them: `0*2 1*1` is two turns of CPU 0 and one of CPU 1.
+// `store N at A V`: N bytes from the address A on, and their number.
+function read_store(text) {
+    const [, size, address, number] = /^store (\d+) at (0x[0-9a-f]+) (\d+)$/.exec(text) ?? [];
+    if (!size) throw new Error(`the debugger answered ${text}`);
+    return { text, size: Number(size), address: BigInt(address), number: BigInt(number) };
+}
+
+// `cpu C flush` and the store that reached memory; null of `cpu C nothing waits`.
+function read_flush(line) {
+    const [, store, nothing] = /^cpu \d+ (?:flush (store .+)|(nothing waits))$/.exec(line) ?? [];
+    if (!store && !nothing) throw new Error(`the debugger answered ${line || 'less than it was asked'}`);
+    return store ? read_store(store) : null;
+}
+
+// `cpu C waits` and a store, a line each, the oldest first; none of `cpu C nothing waits`.
+function read_buffer(lines) {
+    const stores = lines.filter((line) => !line.endsWith(' nothing waits'));
+    return stores.map((line) => read_store(line.replace(/^cpu \d+ waits /, '')));
+}
+
+// Turns in run lengths, as the program writes and takes them: `0*2 1*1` is two turns of CPU 0 and one of CPU 1, and `0!*2`
+// two flushes of CPU 0.
 function schedule_of(turns) {
     const runs = [];
-    for (const cpu of turns) {
+    for (const turn of turns) {
         const last = runs.at(-1);
-        if (last?.cpu === cpu) last.turns++;
-        else runs.push({ cpu, turns: 1 });
+        if (last?.turn === turn) last.count++;
+        else runs.push({ turn, count: 1 });
     }
-    return runs.map((run) => `${run.cpu}*${run.turns}`).join(' ');
+    return runs.map(({ turn, count }) => `${cpu_of(turn)}${is_flush(turn) ? '!' : ''}*${count}`).join(' ');
 }
 
 // The turns of a schedule, or null where they are more than these.
 function turns_of_schedule(schedule, most) {
-    const runs = schedule.split(' ').filter((word) => word).map((word) => word.split('*').map(Number));
-    if (runs.reduce((sum, [, turns]) => sum + turns, 0) > most) return null;
-    return runs.flatMap(([cpu, turns]) => Array(turns).fill(cpu));
+    const runs = schedule.split(' ').filter((word) => word).map((word) => {
+        const [who, count] = word.split('*');
+        return { turn: who.endsWith('!') ? flush_of(parseInt(who, 10)) : Number(who), count: Number(count) };
+    });
+    if (runs.reduce((sum, { count }) => sum + count, 0) > most) return null;
+    return runs.flatMap(({ turn, count }) => Array(count).fill(turn));
 }
 
 // The commands that make turns: those that were told before at once, each of the others by itself.
 function commands_of(turns, known) {
     const told = turns.slice(0, known);
-    return [...(told.length ? [`steps ${schedule_of(told)}`] : []), ...turns.slice(known).map((cpu) => `step ${cpu}`)];
+    const command = (turn) => `${is_flush(turn) ? 'flush' : 'step'} ${cpu_of(turn)}`;
+    return [...(told.length ? [`steps ${schedule_of(told)}`] : []), ...turns.slice(known).map(command)];
 }
 
 class Answers {
@@ -75,17 +109,19 @@ class Answers {
         return this.lines[this.next++] ?? '';
     }
 
-    // What a turn came to: how the job ended, where one did, and where its CPU stands.
-    turn() {
+    // What a turn came to: how the job ended, where one did, and where its CPU stands; of a flush, which store reached
+    // memory.
+    turn(turn) {
         const line = this.line();
+        if (is_flush(turn)) return { ended: null, flushed: read_flush(line) };
         if (!line.startsWith('job ')) return { ended: null, place: read_place(line) };
         return { ended: read_end(line), place: read_place(this.line()) };
     }
 
     // What turns came to: of those that were told before, which were made at once, nothing is read again.
-    turns(count, known) {
+    turns(turns, known) {
         if (known.length) this.next += known.filter((turn) => turn.ended).length + 1;
-        return [...known, ...Array.from({ length: count - known.length }, () => this.turn())];
+        return [...known, ...turns.slice(known.length).map((turn) => this.turn(turn))];
     }
 
     registers() {
@@ -136,6 +172,7 @@ class Answers {
             arrays: new Map(file.arrays.map(({ name }) => [name, this.array()])),
             variables: file.variables.length ? this.variables() : new Map(),
             held: list_of(file.cpus, () => this.until_mark().map(read_held).filter((it) => it)),
+            buffers: list_of(file.is_x86 ? file.cpus : 0, () => read_buffer(this.until_mark())),
         };
     }
 }
@@ -152,6 +189,7 @@ function questions(file) {
         ...[...file.maps, ...file.arrays].flatMap(({ name }) => [`map ${name}`, MARK]),
         ...(file.variables.length ? ['vars', MARK] : []),
         ...list_of(file.cpus, (cpu) => [`held ${cpu}`, MARK]).flat(),
+        ...list_of(file.is_x86 ? file.cpus : 0, (cpu) => [`buffer ${cpu}`, MARK]).flat(),
     ];
 }
 
@@ -185,8 +223,8 @@ class Machine {
         this.engine = engine;
     }
 
-    // Makes turns (CPU numbers) of a run file that the program takes. Gives the machine before and after
-    // turn `shown`, and what each turn came to: those of `known` were told before and aren't read again.
+    // Makes turns of a run file that the program takes. Gives the machine before and after turn `shown`, and what each turn
+    // came to: those of `known` were told before and aren't read again.
     async make(file, turns, shown, known = []) {
         const asked_of = { ...file }; // more frames may be asked for meanwhile
         const asks = questions(asked_of);
@@ -198,9 +236,9 @@ class Machine {
         }));
         const commands = parts.map((part) => commands_of(part.turns, part.known.length));
         const asked = [...commands[0], ...asks, ...commands[1], ...(shown ? asks : []), ...commands[2]];
-        const { stdout, time } = await this.engine.call(['debug'], script_of(file.text, asked));
+        const { stdout, time } = await this.engine.call(words_of_debug(file), script_of(file.text, asked));
         const answers = new Answers(text_of(stdout));
-        const read = (part) => answers.turns(part.turns.length, part.known);
+        const read = (part) => answers.turns(part.turns, part.known);
         const made = { turns: read(parts[0]), views: {}, asked, answers: answers.lines, time };
         made.views.before = answers.view(asked_of);
         made.turns.push(...read(parts[1]));
@@ -215,12 +253,12 @@ class Machine {
     }
 
     async answers(file, asked) {
-        const { stdout } = await this.engine.call(['debug'], script_of(file.text, asked));
+        const { stdout } = await this.engine.call(words_of_debug(file), script_of(file.text, asked));
         return new Answers(text_of(stdout));
     }
 
     // Learns what the program tells of a file that it takes: how many CPUs there are, the maps, the arrays, the variables,
-    // whose jobs are, and the machine before any turn.
+    // whose jobs are, and the machine before any turn. With store buffers all of it is the same.
     async learn(file) {
         const told = await this.answers(file, [...list_of(MOST_CPUS, (cpu) => `where ${cpu}`), 'maps', MARK, 'jobs', MARK]);
         file.cpus = list_of(MOST_CPUS, () => told.line()).filter((line) => line !== NO_CPU).length;
@@ -243,12 +281,18 @@ class Machine {
 }
 
 // Adds to each turn which pc of which job it executed, and whether its CPU had work: from where the CPU
-// stood before. A job that is about to begin stands at pc 0.
+// stood before. A job that is about to begin stands at pc 0. A flush leaves the CPU where it is, and is none where
+// nothing waited.
 function add_starts(file, turns, made) {
     const places = [...file.first.places];
     made.forEach((turn, at) => {
-        const stood = places[turns[at]];
-        places[turns[at]] = turn.place;
+        const cpu = cpu_of(turns[at]);
+        const stood = places[cpu];
+        if (is_flush(turns[at])) {
+            Object.assign(turn, { is_none: !turn.flushed, place: stood });
+            return;
+        }
+        places[cpu] = turn.place;
         turn.is_none = stood.is_idle;
         turn.job = stood.job;
         turn.pc = stood.is_waiting ? 0 : stood.pc;

@@ -1,7 +1,7 @@
 'use strict';
 
-// What the user does. The page's state is the run file, the turns (CPU numbers, in order) and how many of
-// them are shown; all else is what the program answers for these.
+// What the user does. The page's state is the run file, whether CPUs have store buffers, the turns (CPU numbers, in order;
+// with store buffers flushes, too) and how many of them are shown; all else is what the program answers for these.
 
 const MORE_TURNS = 10000; // by one press of 'Run to end'
 
@@ -10,6 +10,7 @@ const machine = new Machine(engine);
 
 const state = {
     text: '', // as it stands in the editor
+    is_x86: false, // whether CPUs have store buffers: a file that is taken says it of itself, too
     file: null, // of a text that the program takes
     refusal: null, // of one that it refuses
     turns: [],
@@ -94,12 +95,14 @@ async function learn_codes({ turns }) {
 // ---- The run file
 
 // Takes a text with turns: they are made where the program takes the text, else its refusal is shown.
-async function take(text, turns = [], shown = turns.length) {
+async function take(text, turns = [], shown = turns.length, is_x86 = state.is_x86) {
     const mine = ++reading;
     const { file, refusal } = await take_file(engine, machine, text);
     if (mine !== reading) return;
     if (state.text !== text) forget_search();
     state.text = text;
+    state.is_x86 = is_x86;
+    draw_kind(is_x86);
     state.refusal = refusal ?? null;
     draw_refusal(refusal);
     document.body.classList.toggle('refused', Boolean(refusal));
@@ -112,36 +115,67 @@ async function take(text, turns = [], shown = turns.length) {
         return;
     }
     at('file-said').textContent = before_commands(text) === text ? '' : 'What stands behind --- is left out.';
-    const there = turns.filter((cpu) => cpu < file.cpus);
-    Object.assign(state, { file, turns: there, shown: Math.min(shown, there.length), known: [], views: null });
-    state.drawn = { turns: [], shown: 0, known: [] };
+    set_file({ ...file, is_x86 }, turns, shown);
     if (state.breakpoints.length !== file.cpus) state.breakpoints = Array.from({ length: file.cpus }, () => new Set());
     draw_frame(state);
     await refresh();
 }
 
+// Those of some turns that there are, and how many of them are shown.
+function turns_there(turns, shown, is_there) {
+    const made = turns.slice(0, shown).filter(is_there);
+    return { turns: [...made, ...turns.slice(shown).filter(is_there)], shown: made.length };
+}
+
+// Sets a file that the program takes, and turns of the CPUs that it has.
+function set_file(file, turns, shown) {
+    const there = turns_there(turns, shown, (turn) => cpu_of(turn) < file.cpus);
+    Object.assign(state, { file, ...there, known: [], views: null, drawn: { turns: [], shown: 0, known: [] } });
+}
+
 // Puts another text into the editor.
-function load(text, turns, shown) {
+function load(text, turns, shown, is_x86) {
     state.breakpoints = [];
     at('text').value = text;
     at('text').scrollTop = at('text').scrollLeft = 0;
     draw_numbers();
-    return act(() => take(text, turns, shown));
+    return act(() => take(text, turns, shown, is_x86));
+}
+
+// Gives CPUs store buffers, or takes them away: turns stay, and flushes go with them.
+function set_x86(is_x86) {
+    const { file, turns, shown } = state;
+    draw_kind(is_x86);
+    Object.assign(state, { is_x86, ...turns_there(turns, shown, (turn) => is_x86 || !is_flush(turn)) });
+    if (!file || file.is_x86 === is_x86) return;
+    set_file({ ...file, is_x86 }, state.turns, state.shown);
+    refresh();
 }
 
 // ---- Turns
 
-function step(cpu) {
-    if (!state.file || !(cpu < state.file.cpus)) return;
+// Why a turn would change nothing, where that is known.
+function idle_text(turn) {
+    const { views } = state;
+    const cpu = cpu_of(turn);
+    if (asking || !views) return null;
+    if (is_flush(turn)) return views.after.buffers[cpu].length ? null : `Nothing waits in the store buffer of CPU ${cpu}.`;
+    return views.after.places[cpu].is_idle ? `CPU ${cpu} is idle: it has no further job.` : null;
+}
+
+// Makes a turn of a CPU, or a flush of its buffer.
+function step(turn) {
+    if (!state.file || !(cpu_of(turn) < state.file.cpus)) return;
     if (state.shown >= MOST_TURNS) {
         tell(`${MOST_TURNS} turns are the most that this page makes.`, true);
         return;
     }
-    if (!asking && state.views?.after.places[cpu].is_idle) {
-        tell(`CPU ${cpu} is idle: it has no further job.`);
+    const why = idle_text(turn);
+    if (why) {
+        tell(why);
         return;
     }
-    state.turns = [...state.turns.slice(0, state.shown), cpu];
+    state.turns = [...state.turns.slice(0, state.shown), turn];
     state.known.length = Math.min(state.known.length, state.shown);
     state.shown++;
     refresh();
@@ -169,35 +203,45 @@ function act(what) {
 
 const stops_at = (cpu, place) => !place.is_idle && !place.is_waiting && state.breakpoints[cpu]?.has(place.pc);
 
+const with_work = (cpus, { places }) => cpus.filter((cpu) => !places[cpu].is_idle);
+
+// A round of these CPUs, as the program makes it: a turn of each, and with store buffers a flush after it.
+const round_of = (cpus, { is_x86 }) => (is_x86 ? cpus.flatMap((cpu) => [cpu, flush_of(cpu)]) : cpus);
+
 // Makes a round: a turn for each CPU with work.
 async function make_round() {
     await asking;
-    const { file, views, shown } = state;
+    const { file, views } = state;
     if (!file || !views) return;
-    const busy = views.after.places.filter((place) => !place.is_idle).map((place) => place.cpu);
-    await go_on(file, state.turns.slice(0, shown), busy);
+    const own = state.turns.slice(0, state.shown);
+    const round = round_of(with_work([...views.after.places.keys()], views.after), file);
+    if (!file.is_x86) return go_on(file, own, round);
+    const made = await machine.make(file, [...own, ...round], own.length, state.known.slice(0, own.length));
+    return go_on(file, own, those_made(round, made.turns.slice(own.length)));
 }
 
-// Makes turns of these CPUs by rounds until `is_last` says so of one, none of them has work, or as many are
+// Those of some turns that changed something: a turn of a CPU without work is none, nor is a flush of nothing.
+const those_made = (turns, came) => turns.filter((_, nth) => !came[nth].is_none);
+
+// Makes turns by rounds, each of which is this one, until `is_last` says so of one, no CPU of them has work, or as many are
 // made as one press makes. Longer and longer lists are tried, as most runs are short.
-async function make_turns(cpus, is_last, otherwise) {
+async function make_turns(find_round, is_last, otherwise) {
     await asking;
     const { file, views } = state;
     if (!file || !views) return;
-    const busy = cpus.filter((cpu) => !views.after.places[cpu].is_idle);
-    if (!busy.length) return;
+    const round = find_round(file, views.after);
+    if (!round.length) return;
     const own = state.turns.slice(0, state.shown);
     const told = state.known.slice(0, own.length);
     const most = Math.min(MORE_TURNS, MOST_TURNS - own.length);
     for (let room = 500; ; room *= 5) {
-        const more = Array.from({ length: Math.min(room, most) }, (_, turn) => busy[turn % busy.length]);
+        const more = Array.from({ length: Math.min(room, most) }, (_, turn) => round[turn % round.length]);
         const made = await machine.make(file, [...own, ...more], own.length, told);
         const came = made.turns.slice(own.length);
-        const last = came.findIndex((turn, nth) => !turn.is_none && is_last(more[nth], turn));
-        const is_over = last >= 0 || came.slice(-busy.length).every((turn) => turn.place.is_idle);
+        const last = came.findIndex((turn, nth) => !turn.is_none && !is_flush(more[nth]) && is_last(more[nth], turn));
+        const is_over = last >= 0 || came.slice(-round.length).every((turn) => turn.place.is_idle);
         if (!is_over && room < most) continue;
-        // A turn of a CPU without work is none.
-        const kept = more.slice(0, last < 0 ? more.length : last + 1).filter((_, nth) => !came[nth].is_none);
+        const kept = those_made(more.slice(0, last < 0 ? more.length : last + 1), came);
         await go_on(file, own, kept);
         if (!is_over) tell(otherwise(kept.length), true);
         return;
@@ -207,13 +251,14 @@ async function make_turns(cpus, is_last, otherwise) {
 const press_again = (count) => `${counted(count, 'turn')} more, and some CPU has work: press again to go on.`;
 
 function run_to_end() {
-    const cpus = [...Array(state.file?.cpus ?? 0).keys()];
-    return make_turns(cpus, (cpu, { place }) => stops_at(cpu, place), press_again);
+    const round = (file, now) => round_of(with_work([...now.places.keys()], now), file);
+    return make_turns(round, (cpu, { place }) => stops_at(cpu, place), press_again);
 }
 
-// This CPU alone, up to a breakpoint of it or to the end of its job.
+// Turns of this CPU alone, up to a breakpoint of it or to the end of its job.
 function run_alone(cpu) {
-    return make_turns([cpu], (_, { ended, place }) => ended || stops_at(cpu, place), press_again);
+    const round = (_, now) => with_work([cpu], now);
+    return make_turns(round, (_, { ended, place }) => ended || stops_at(cpu, place), press_again);
 }
 
 // This CPU alone, up to this pc, or until it has no work left.
@@ -243,10 +288,9 @@ function toggle_breakpoint(cpu, pc) {
 async function explore(is_of_races) {
     const text = state.file?.text;
     if (text === undefined) return;
-    close_way();
     const locks = at('locks').value.split(/[\s,]+/).filter((name) => name);
     try {
-        const is_x86 = at('x86').checked && !is_of_races;
+        const is_x86 = state.is_x86 && !is_of_races;
         await search_all(text, { is_patient: at('patient').checked && !is_x86, is_of_races, is_x86, locks }, draw_search);
     } catch (error) {
         if (error.name !== 'Stopped') {
@@ -260,8 +304,8 @@ async function explore(is_of_races) {
 // What is found, and at which lines CPUs race.
 function draw_search(search) {
     draw_every(search);
+    mark_found(state);
     mark_races(state);
-    mark_way();
 }
 
 function end_search() {
@@ -271,46 +315,20 @@ function end_search() {
 
 // What was found is of a text that stands no more.
 function forget_search() {
-    close_way();
     stop_search();
     search.came = null;
     draw_search(search);
 }
 
-// Shows a schedule that leads to what was found: sets the turns to it, or where it has flushes too, opens its table.
+// Shows a schedule that leads to what was found: sets the turns to it, on CPUs as those that were searched.
 function show_found(number) {
-    const { file } = state;
     const { schedule } = search.came.found[number];
-    if (!file) return;
-    if (search.is_x86) {
-        show_way(file, schedule);
-        return;
-    }
     const turns = turns_of_schedule(schedule, MOST_TURNS);
     if (turns === null) {
         tell(`${MOST_TURNS} turns are the most that this page makes.`, true);
         return;
     }
-    show_order(file, turns);
-}
-
-async function show_way(file, schedule) {
-    try {
-        await open_way(file, schedule);
-    } catch (error) {
-        if (error.name !== 'Stopped') {
-            close_way();
-            tell(`The program gave no answer: ${error.message}`, true);
-        }
-    }
-    mark_way();
-}
-
-// Closes the table, and goes back to the button that opened it.
-function leave_way() {
-    close_way();
-    at('found').querySelector('.shown button')?.focus();
-    mark_way();
+    show_order(turns, search.is_x86);
 }
 
 // ---- Links and copies
@@ -322,7 +340,7 @@ function keep_link() {
     clearTimeout(keeping);
     keeping = setTimeout(async () => {
         if (state.text.length > MOST_FILE) return;
-        kept = await write_link(state.text, state.turns, state.shown);
+        kept = await write_link(state);
         history.replaceState(null, '', kept);
     }, 300);
 }
@@ -332,7 +350,7 @@ async function copy_link() {
         tell('The run file is too long for a link.', true);
         return;
     }
-    kept = await write_link(state.text, state.turns, state.shown);
+    kept = await write_link(state);
     history.replaceState(null, '', kept);
     copy(location.href, 'The link');
 }
@@ -352,7 +370,7 @@ async function open_link() {
     }
     close_lesson();
     name_example(Object.keys(examples).find((it) => examples[it].text === said.file) ?? '');
-    await load(said.file, said.turns, said.shown);
+    await load(said.file, said.turns, said.shown, said.is_x86);
 }
 
 async function copy(text, what) {
@@ -375,16 +393,23 @@ function script_of_state() {
 // A command for the native program, which makes the turns and then rounds.
 function command_of_state() {
     const by = state.shown ? ` --by '${schedule_of(state.turns.slice(0, state.shown))}'` : '';
-    return `ebpf run --maps${by}`;
+    return `ebpf run ${state.is_x86 ? '--x86 ' : ''}--maps${by}`;
+}
+
+function copy_script() {
+    copy(script_of_state(), state.is_x86 ? 'The script, for ebpf debug --x86,' : 'The script');
 }
 
 // ---- Examples and lessons
 
-// Sets turns of the file that stands there.
-function show_order(file, turns) {
-    if (state.file !== file) return;
-    Object.assign(state, { turns: [], shown: 0, known: [] });
-    act(() => go_on(file, [], turns));
+// Sets turns of the file that stands there, on CPUs with store buffers or without.
+function show_order(turns, is_x86) {
+    act(async () => {
+        if (!state.file) return;
+        Object.assign(state, { turns: [], shown: 0, known: [] });
+        set_x86(is_x86);
+        await go_on(state.file, [], turns);
+    });
 }
 
 function name_example(name) {
@@ -409,15 +434,21 @@ const ACTS = {
 };
 const KEYS = { Home: 'start', Backspace: 'back', ArrowLeft: 'back', ArrowRight: 'forward', r: 'round', e: 'end' };
 
+const FLUSH_KEY = 'f';
+let is_to_flush = false; // that key came last, and the next one says which CPU
+
 function listen_to_keys(event) {
     if (!at('keys').checked || event.ctrlKey || event.metaKey || event.altKey) return;
-    if (event.target.closest('textarea, select, input:not([type=checkbox])')) return;
+    if (event.target.closest('textarea, select, input:not([type=checkbox])') || event.key === 'Shift') return;
+    const is_flushing = is_to_flush;
+    is_to_flush = event.key === FLUSH_KEY && state.is_x86;
     const name = KEYS[event.key];
     const cpu = CPU_KEYS.indexOf(event.key);
-    if (!name && cpu < 0) return;
+    if (!name && cpu < 0 && !is_to_flush) return;
     event.preventDefault();
     if (event.repeat && asking) return; // a key that is held steps as fast as it is answered
-    if (!name) step(cpu);
+    if (is_to_flush) tell('A flush: of which CPU?');
+    else if (!name) step(is_flushing ? flush_of(cpu) : cpu);
     else if (!at(name).disabled) ACTS[name]();
 }
 
@@ -457,6 +488,7 @@ function listen_to_cards() {
         const button = target.closest('button');
         const pc = target.closest('.pc')?.parentElement.dataset.pc;
         if (button?.classList.contains('step')) step(Number(button.dataset.cpu));
+        else if (button?.classList.contains('flush')) step(flush_of(Number(button.dataset.cpu)));
         else if (button) act(() => run_alone(Number(button.dataset.cpu)));
         else if (pc !== undefined) toggle_breakpoint(Number(target.closest('.listing').dataset.cpu), Number(pc));
     });
@@ -488,7 +520,7 @@ function listen_to_header() {
     for (const [name, { title }] of Object.entries(examples)) chooser.append(new Option(`${name}: ${title}`, name));
     chooser.addEventListener('change', () => chooser.value && load_example(chooser.value));
     at('copy-link').addEventListener('click', copy_link);
-    at('copy-script').addEventListener('click', () => copy(script_of_state(), 'The script'));
+    at('copy-script').addEventListener('click', copy_script);
     at('copy-by').addEventListener('click', () => copy(command_of_state(), 'The command'));
     at('to-copy').addEventListener('blur', ({ target }) => (target.hidden = true));
 }
@@ -510,12 +542,12 @@ function listen_to_every() {
         const number = target.closest('button')?.dataset.found;
         if (number !== undefined) show_found(Number(number));
     });
-    at('way-close').addEventListener('click', leave_way);
 }
 
 function listen() {
     for (const [name, what] of Object.entries(ACTS)) at(name).addEventListener('click', what);
     at('stop').addEventListener('click', () => engine.stop());
+    at('x86').addEventListener('change', ({ target: { checked } }) => act(() => set_x86(checked)));
     at('raw').addEventListener('toggle', () => draw_raw(state));
     at('base').addEventListener('change', ({ target }) => {
         state.base = target.value;
