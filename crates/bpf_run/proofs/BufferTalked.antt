@@ -26,7 +26,7 @@ follows : (s t : BufferAnswering) (line text : List ℕ) (refused : Bool) (x : O
 follows s t line text refused x answers shown = answers x shown
 
 -- what is said of the machine in the end, where anything is
-stopped_of : Option Scene → Bool
+abbrev stopped_of : Option Scene → Bool
 stopped_of None = false
 stopped_of (Some y) = any_stopped (length y.here.world.jobs) y.here.world.jobs
 
