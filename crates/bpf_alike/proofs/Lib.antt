@@ -9,4 +9,3 @@ pub mod AlikeRaces
 pub mod AlikeEnds
 pub mod SpareLaws
 pub mod AlikeBudgets
-pub mod Tables

@@ -27,6 +27,7 @@ pub mod EndLaws
 pub mod RefillLaws
 pub mod HostLaws
 pub mod StandLaws
+pub mod OneMore
 mod FillLaws
 pub mod PartLaws
 pub mod FitLaws

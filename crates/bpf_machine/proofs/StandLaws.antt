@@ -123,18 +123,6 @@ job_inside lanes jobs m store programs lists j same less =
     let there : j < length (tasks_of lanes jobs) = subst (λ (x : MachineState). j < length x.jobs) (sym same) less in
     subst (λ (n : ℕ). j < n) (tasks_count lanes jobs) there
 
--- one lane more
-pub lane_more : (P : ℕ → Lane → Type 0) (lanes : List Lane) (l : Lane) (n : ℕ) → length lanes ≡ n →
-    ((c : ℕ) → c < n → P c (lane_of lanes c)) → P n l → (c : ℕ) → c < n + 1 → P c (lane_of (lanes ++ l ∷ []) c)
-lane_more P lanes l n count before last c less = elim (cases_lt c n) [
-  | inl below ↦ subst (P c) (sym (get_or-append lanes (l ∷ []) no_lane c (omega (arith, below, count)))) (before c below)
-  | inr past ↦
-      let here : c ≡ n = omega (arith, past, less) in
-      let at : lane_of (lanes ++ l ∷ []) c ≡ l = get_or-append_right lanes (l ∷ []) n c no_lane count (omega arith) ∙ ap
-      (λ (k : ℕ). slice_index_or (l ∷ []) k no_lane) (let z : c - n ≡ 0 = omega (arith, here) in z) in
-      subst (P c) (sym at) (subst (λ (k : ℕ). P k l) (sym here) last)
-]
-
 pub read_as : (jobs : List Listed) (lanes : List Lane) (j : ℕ) (e : Listed) (l : Lane) (task : Task) → j < length jobs → e ≡ slice_index_or
     jobs j e → e.cpu < length lanes → l ≡ slice_index_or lanes e.cpu l
     → IsReadAs l e task → slice_get (tasks_of lanes jobs) j ≡ Some task

@@ -4,4 +4,6 @@
 pub mod laws;
 pub mod machine;
 
-pub use machine::{Headway, KeptJob, KeptStage, Machine, Stand, Standing, Turn, read_jobs};
+pub use machine::{
+    Headway, KeptJob, KeptStage, Machine, Stand, Standing, Turn, can_stand, read_jobs,
+};

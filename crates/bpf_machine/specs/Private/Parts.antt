@@ -1,5 +1,6 @@
 -- A machine's lists, as they are made again of kept jobs.
-use Rattle.std.specs.Prelude.{◌≡◌, ℕ, ◌<◌, ◌≤◌, Bool, true, false, List, Option, Some, None, length, slice_index_or}
+use Rattle.std.specs.Prelude.{◌≡◌, ℕ, ◌<◌, ◌≤◌, Bool, true, false, Box, List, Option, Some, None, length, slice_index_or}
+use Rattle.std.specs.declared.alloc.Global.{Global}
 use Rattle.bpf_machine.specs.declared.machine.lane.Listed.{Listed}
 use Rattle.bpf_machine.specs.declared.machine.lane.Phase.{Phase}
 use Rattle.bpf_machine.specs.declared.machine.lane.Phase.TheVariants as phase
@@ -102,3 +103,12 @@ FitsIn _ _ = ⊥
 abbrev pub CanFill : List Task → List ℕ → ℕ → Lane → Type 0
 CanFill parts numbers c l = (j : ℕ) → IsFirstHand parts numbers c j
     → FitsIn (chosen_at parts numbers j).stage l.hand
+
+-- ---- lanes beside those that can be filled
+-- the spare one is the CPU's; where there is none, that which is there can be filled
+abbrev pub IsSpareFor : List Task → List ℕ → ℕ → Lane → Option (Box Lane Global) → Type 0
+IsSpareFor parts numbers c l (Some spare) = IsLaneOf parts numbers c spare.value
+IsSpareFor parts numbers c l None = CanFill parts numbers c l
+
+abbrev pub spare_of : List (Option (Box Lane Global)) → ℕ → Option (Box Lane Global)
+spare_of spares c = slice_index_or spares c None

@@ -7,17 +7,17 @@ ghost use Rattle.bpf_machine.specs.Hashes.{mix, stage_hash, task_hash};
 ghost use Rattle.bpf_machine.specs.Parts.{chosen_at};
 ghost use Rattle.bpf_machine.specs.Private.Lanes.{lane_of, stage_of};
 ghost use Rattle.bpf_machine.specs.Kept.{kept_stage};
-ghost use Rattle.bpf_machine.specs.Private.Parts.{IsReadAs, in_hand, waits, entry_at, IsEntryOf, IsHandOf, IsFirstWaiting, IsLaneOf, AreAsLarge, FitsIn, CanFill};
+ghost use Rattle.bpf_machine.specs.Private.Parts.{IsReadAs, in_hand, waits, entry_at, IsEntryOf, IsHandOf, IsFirstWaiting, IsLaneOf, AreAsLarge, FitsIn, CanFill, IsSpareFor, spare_of};
 
 mod fitting;
 mod reading;
 
 use super::Machine;
 use crate::machine::lane::{Hand, Lane, Listed, Phase, put_down};
-use crate::machine::parts::fitting::can_stand;
 use bpf_base::spread;
 use bpf_cpu::{Cpu, Input, Outcome};
 use bpf_plain::PlainStore;
+pub use fitting::can_stand;
 pub use reading::read_jobs;
 use std::alloc::{AllocError, Global};
 use std::marker::Model;
@@ -123,6 +123,24 @@ fn is_stage(lane: &Lane, phase: &Phase, stage: &KeptStage) -> bool
 }
 
 impl KeptJob {
+    /// A job of this CPU and of the program of this number, which may make this many steps in all and
+    /// is in this stage.
+    pub fn new(cpu: u8, program: usize, budget: u64, stage: KeptStage) -> KeptJob
+        ensures { result ≡ record {
+          cpu = cpu;
+          program = program;
+          budget = budget;
+          stage = kept_stage stage;
+        } }
+    {
+        KeptJob {
+            cpu,
+            program,
+            budget,
+            stage,
+        }
+    }
+
     /// The number of its program.
     pub fn program(&self) -> usize
         ensures { result ≡ self.now.program }
@@ -463,8 +481,89 @@ fn fill_all(lanes: &mut Vec<Lane>, parts: &[KeptJob], numbers: &[u32], cpus: u8)
     }
 }
 
+/// The lane of a CPU that has these jobs, where the one that is there can't become it without memory.
+fn spare_lane(
+    alloc: Global,
+    lane: &Lane,
+    parts: &[KeptJob],
+    numbers: &[u32],
+    cpu: u8,
+) -> Result<Option<Box<Lane>>, AllocError>
+    requires { All (λ n. n < length parts.now) numbers.now }
+    ensures { IfOk result (IsSpareFor parts.now numbers.now cpu lane.now) }
+{
+    if can_fill(lane, parts, numbers, cpu) {
+        return Ok(None);
+    }
+    let made = make_lane(alloc, parts, numbers, cpu)?;
+    let spare = Box::new(alloc, made)?;
+    Ok(Some(spare))
+}
+
+/// Those of all CPUs.
+fn spare_lanes(
+    alloc: Global,
+    lanes: &[Lane],
+    parts: &[KeptJob],
+    numbers: &[u32],
+    cpus: u8,
+) -> Result<Vec<Option<Box<Lane>>>, AllocError>
+    requires within { All (λ n. n < length parts.now) numbers.now }
+    requires count { length lanes.now ≡ cpus }
+    ensures count { IfOk result (λ v. length v.items ≡ cpus) }
+    ensures each { IfOk result (λ v. (c : ℕ) → c < cpus
+        → IsSpareFor parts.now numbers.now c (lane_of lanes.now c) (spare_of v.items c)) }
+{
+    let mut spares = Vec::with_capacity(alloc, cpus as usize)?;
+    for cpu in 0..cpus {
+        let spare = spare_lane(alloc, &lanes[cpu as usize], parts, numbers, cpu)?;
+        spares.push(spare)?;
+    }
+    Ok(spares)
+}
+
+/// A CPU's lane becomes that of these jobs: the spare one, if there is one.
+fn renew_lane(
+    lane: &mut Lane,
+    spare: &mut Option<Box<Lane>>,
+    parts: &[KeptJob],
+    numbers: &[u32],
+    cpu: u8,
+)
+    requires within { All (λ n. n < length parts.now) numbers.now }
+    requires spare { IsSpareFor parts.now numbers.now cpu lane.old spare.old }
+    ensures { IsLaneOf parts.now numbers.now cpu lane.new }
+{
+    match spare.take() {
+        Some(made) => *lane = Box::into_inner(made),
+        None => fill_lane(lane, parts, numbers, cpu),
+    }
+}
+
+/// Each CPU's lane becomes that of these jobs.
+fn renew_all(
+    lanes: &mut Vec<Lane>,
+    mut spares: Vec<Option<Box<Lane>>>,
+    parts: &[KeptJob],
+    numbers: &[u32],
+    cpus: u8,
+)
+    requires within { All (λ n. n < length parts.now) numbers.now }
+    requires count { (length lanes.old.items ≡ cpus) × (length spares.items ≡ cpus) }
+    requires each { (c : ℕ) → c < cpus → IsSpareFor parts.now numbers.now c
+        (lane_of lanes.old.items c) (spare_of spares.items c) }
+    ensures count { length lanes.new.items ≡ cpus }
+    ensures each { (c : ℕ) → c < cpus
+        → IsLaneOf parts.now numbers.now c (lane_of lanes.new.items c) }
+{
+    for cpu in 0..cpus {
+        let spare = &mut spares[cpu as usize];
+        renew_lane(&mut lanes[cpu as usize], spare, parts, numbers, cpu);
+    }
+}
+
 /// Lanes become those of these jobs. Unchanged where there is no memory; none is taken where what
-/// is in hand can be written over.
+/// is in hand can be written over, and else only the lanes are made that lack room.
 fn renew_lanes(
     alloc: Global,
     lanes: &mut Vec<Lane>,
@@ -480,6 +579,11 @@ fn renew_lanes(
 {
     if can_fill_all(lanes, parts, numbers, cpus) {
         fill_all(lanes, parts, numbers, cpus);
+        return Ok(());
+    }
+    if lanes.len() == cpus as usize {
+        let spares = spare_lanes(alloc, lanes, parts, numbers, cpus)?;
+        renew_all(lanes, spares, parts, numbers, cpus);
         return Ok(());
     }
     let made = lanes_of_kept(alloc, parts, numbers, cpus)?;

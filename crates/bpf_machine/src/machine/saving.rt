@@ -8,9 +8,9 @@ ghost use Rattle.bpf_cpu.specs.Task.{Waiting, InHand, Ended};
 ghost use Rattle.bpf_machine.specs.Private.Lanes.{stage_of};
 ghost use Rattle.bpf_machine.specs.Saved.{stage_saved, FitsBytes};
 
-use super::Machine;
-use crate::machine::lane::{Hand, Lane, Phase};
-use bpf_cpu::{Outcome, is_savable_outcome, save_outcome};
+use super::{KeptStage, Machine};
+use crate::machine::lane::{Lane, Phase};
+use bpf_cpu::{Cpu, Outcome, is_savable_outcome, save_outcome};
 use bpf_mem::save_words;
 use std::alloc::AllocError;
 
@@ -23,15 +23,15 @@ fn save_waiting(out: &mut Vec<u8>) -> Result<(), AllocError>
     Ok(())
 }
 
-/// Appends to the bytes what a job in hand is saved as.
-fn save_hand(hand: &Hand, out: &mut Vec<u8>) -> Result<(), AllocError>
+/// Appends to the bytes what a job in hand is saved as, with this many steps left.
+fn save_hand(cpu: &Cpu, left: u64, out: &mut Vec<u8>) -> Result<(), AllocError>
     ensures ok { OnOk result
-        (out.new.items ≡ out.old.items ++ stage_saved (InHand hand.now.cpu hand.now.left)) }
+        (out.new.items ≡ out.old.items ++ stage_saved (InHand cpu.now left)) }
     ensures err { OnErr result (StartsWith out.new.items out.old.items) }
 {
     out.push(1)?;
-    save_words(&[hand.left], out)?;
-    hand.cpu.save(out)
+    save_words(&[left], out)?;
+    cpu.save(out)
 }
 
 /// Appends to the bytes what a job that has ended is saved as.
@@ -54,18 +54,18 @@ fn save_stage(lane: &Lane, phase: &Phase, out: &mut Vec<u8>) -> Result<(), Alloc
         Phase::Waiting(_) => save_waiting(out),
         Phase::Ended(outcome) => save_ended(*outcome, out),
         Phase::InHand => match &lane.hand {
-            Some(hand) => save_hand(hand, out),
+            Some(hand) => save_hand(&hand.cpu, hand.left, out),
             None => save_waiting(out),
         },
     }
 }
 
-/// A job in hand fits into bytes: says so, and does nothing.
-fn hand_fits_bytes(hand: &Hand)
-    ensures { FitsBytes (InHand hand.now.cpu hand.now.left) }
+/// A job in hand fits into bytes, with this many steps left: says so, and does nothing.
+fn hand_fits_bytes(cpu: &Cpu, left: u64)
+    ensures { FitsBytes (InHand cpu.now left) }
 {
-    let _left = hand.left;
-    hand.cpu.is_savable();
+    let _ = left;
+    cpu.is_savable();
 }
 
 /// So does a job in this phase on the CPU of this lane: says so.
@@ -76,9 +76,40 @@ fn stage_fits_bytes(lane: &Lane, phase: &Phase)
         Phase::Waiting(_) => {}
         Phase::Ended(outcome) => is_savable_outcome(*outcome),
         Phase::InHand => match &lane.hand {
-            Some(hand) => hand_fits_bytes(hand),
+            Some(hand) => hand_fits_bytes(&hand.cpu, hand.left),
             None => {}
         },
+    }
+}
+
+impl KeptStage {
+    ghost use Rattle.std.specs.Prelude.{◌≡◌, ◌++◌, OnOk, OnErr};
+    ghost use Rattle.std.specs.Io.{StartsWith};
+    ghost use Rattle.bpf_machine.specs.Kept.{kept_stage};
+    ghost use Rattle.bpf_machine.specs.Saved.{stage_saved, FitsBytes};
+
+    /// It fits into bytes: says so, and does nothing.
+    pub fn fits_bytes(&self)
+        ensures { FitsBytes (kept_stage self.now) }
+    {
+        match self {
+            KeptStage::Waiting(_) => {}
+            KeptStage::InHand(cpu, left) => hand_fits_bytes(cpu, *left),
+            KeptStage::Ended(outcome) => is_savable_outcome(*outcome),
+        }
+    }
+
+    /// Appends to the bytes what it is saved as.
+    pub fn save(&self, out: &mut Vec<u8>) -> Result<(), AllocError>
+        ensures ok { OnOk result
+            (out.new.items ≡ out.old.items ++ stage_saved (kept_stage self.now)) }
+        ensures err { OnErr result (StartsWith out.new.items out.old.items) }
+    {
+        match self {
+            KeptStage::Waiting(_) => save_waiting(out),
+            KeptStage::InHand(cpu, left) => save_hand(cpu, *left, out),
+            KeptStage::Ended(outcome) => save_ended(*outcome, out),
+        }
     }
 }
 

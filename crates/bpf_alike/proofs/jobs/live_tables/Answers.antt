@@ -4,7 +4,7 @@ use Rattle.std.proofs.lemmas.Option.{slice_get_read, slice_get_within}
 use Rattle.bpf_loader.specs.Loaded.{Loaded}
 use Rattle.bpf_live.specs.Live.{IsLive, IsLiveTable, Table}
 use Rattle.bpf_alike.specs.Worlds.{table_at}
-use Rattle.bpf_alike.proofs.Tables.{one_more}
+use Rattle.bpf_machine.proofs.OneMore.{one_more}
 use Rattle.bpf_alike.proofs.jobs.live_tables.Goals as goal
 
 pub loop-number-preserved : goal.loop-number-preserved

@@ -139,7 +139,7 @@ fn none_runs_idly(store: &PlainStore, parts: &[KeptJob], numbers: &[u32]) -> boo
 }
 
 /// A machine can be made of a store, programs and the jobs with these numbers: they fit each other.
-pub(crate) fn can_stand(
+pub fn can_stand(
     store: &PlainStore,
     programs: &[Program],
     parts: &[KeptJob],

@@ -1,8 +1,8 @@
 use Rattle.std.proofs.Common.{◌≡◌, ◌++◌, ◌+◌, ◌∷◌, [], length, ap, ◌∙◌, length-append, ℕ, ◌<◌, subst, sym, List}
 use Rattle.bpf_machine.specs.declared.machine.lane.Lane.{Lane}
-use Rattle.bpf_machine.specs.Private.Lanes.{lane_of}
+use Rattle.bpf_machine.specs.Private.Lanes.{lane_of, no_lane}
 use Rattle.bpf_machine.specs.Private.Parts.{IsLaneOf}
-use Rattle.bpf_machine.proofs.StandLaws.{lane_more}
+use Rattle.bpf_machine.proofs.OneMore.{one_more}
 use Rattle.bpf_machine.proofs.machine.parts.lanes_of_kept.Goals as goal
 
 pub loop-cpu-preserved : goal.loop-cpu-preserved
@@ -14,5 +14,5 @@ loop-cpu-preserved c =
     record {
       count = ap (length {A = Lane}) items ∙ (length-append old (c.in_ok-lane.lane ∷ []) ∙ ap (λ (n : ℕ). n + 1) c.loop-cpu.invariant.count);
       each = subst (λ (ls : List Lane). (k : ℕ) → k < c.loop-cpu.cpu + 1 → P k (lane_of ls k)) (sym items)
-          (lane_more P old c.in_ok-lane.lane c.loop-cpu.cpu c.loop-cpu.invariant.count c.loop-cpu.invariant.each c.in_ok-lane.ensures);
+          (one_more P no_lane old c.in_ok-lane.lane c.loop-cpu.cpu c.loop-cpu.invariant.count c.loop-cpu.invariant.each c.in_ok-lane.ensures);
     }
