@@ -16,7 +16,6 @@ use std::alloc::{AllocError, Global};
 /// Whether a race of a kept machine is one of the machine to work with, to which the way to the kept
 /// one leads. Of a search that isn't patient that is the kept one.
 fn is_there<S: Searched>(
-    alloc: Global,
     search: &S,
     watcher: &mut Watcher,
     sync: &[Part],
@@ -31,6 +30,7 @@ fn is_there<S: Searched>(
     if !search.is_patient() {
         return Ok(true);
     }
+    let alloc = watcher.alloc();
     let races = races_in(alloc, watcher, search.current(), sync)?;
     Ok(is_one_of(&races, found))
 }
@@ -61,7 +61,6 @@ fn with_way(alloc: Global, race: &Race, by: Vec<(u8, u64)>) -> Result<Race, Allo
 
 /// Lists a race of a kept machine, unless such a one is listed. Whether one is then.
 fn add_found<S: Searched>(
-    alloc: Global,
     search: &mut S,
     watcher: &mut Watcher,
     sync: &[Part],
@@ -84,10 +83,10 @@ fn add_found<S: Searched>(
         return Ok(true);
     }
     let by = search.witness(place)?;
-    if !is_there(alloc, search, watcher, sync, found)? {
+    if !is_there(search, watcher, sync, found)? {
         return Ok(false);
     }
-    races.push(with_way(alloc, found, by)?)?;
+    races.push(with_way(watcher.alloc(), found, by)?)?;
     Ok(true)
 }
 
@@ -101,7 +100,6 @@ pub(crate) fn both(first: bool, second: bool) -> bool
 
 /// Lists races of a kept machine. Whether all are listed then.
 fn add_all<S: Searched>(
-    alloc: Global,
     search: &mut S,
     watcher: &mut Watcher,
     sync: &[Part],
@@ -122,7 +120,7 @@ fn add_all<S: Searched>(
 {
     let mut all = true;
     for k in 0..found.len() {
-        let listed = add_found(alloc, search, watcher, sync, place, &found[k], races)?;
+        let listed = add_found(search, watcher, sync, place, &found[k], races)?;
         all = both(all, listed);
     }
     Ok(all)
@@ -130,7 +128,6 @@ fn add_all<S: Searched>(
 
 /// Lists the races of a kept machine. Whether all are listed then.
 fn add_at<S: Searched>(
-    alloc: Global,
     search: &mut S,
     watcher: &mut Watcher,
     sync: &[Part],
@@ -147,8 +144,9 @@ fn add_at<S: Searched>(
     ensures exact { S.patient ≡ false → IfOk result (λ listed. listed ≡ true) }
 {
     search.take(place)?;
+    let alloc = watcher.alloc();
     let found = races_in(alloc, watcher, search.current(), sync)?;
-    let listed = add_all(alloc, search, watcher, sync, place, &found, races)?;
+    let listed = add_all(search, watcher, sync, place, &found, races)?;
     Ok(listed)
 }
 
@@ -169,7 +167,7 @@ pub fn gather_races<S: Searched>(
     let mut races = Vec::new(alloc);
     let mut all = true;
     for place in 0..search.count() {
-        let listed = add_at(alloc, search, watcher, sync, place, &mut races)?;
+        let listed = add_at(search, watcher, sync, place, &mut races)?;
         all = both(all, listed);
     }
     Ok((races, all))

@@ -197,6 +197,11 @@ impl Watcher {
         })
     }
 
+    /// By what it takes memory.
+    pub(crate) fn alloc(&self) -> Global {
+        self.alloc
+    }
+
     /// What a CPU's next step touches. A machine over a store of another shape counts as out of
     /// memory.
     pub fn next(&mut self, machine: &Machine, cpu: u8) -> Result<Next, AllocError>

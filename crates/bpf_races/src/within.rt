@@ -44,32 +44,40 @@ fn race_for(
     Ok(Race { pair, at, key, by })
 }
 
+/// A machine, its CPUs' next steps, and the parts of values that are left out.
+#[derive(Clone, Copy)]
+struct Situation<'a> {
+    machine: &'a Machine,
+    sync: &'a [Part],
+    nexts: &'a [Next],
+}
+
 /// Appends the races of these two for some bytes to the others, each once.
 fn add_bytes(
     alloc: Global,
     watcher: &Watcher,
-    machine: &Machine,
-    sync: &[Part],
-    nexts: &[Next],
+    situation: &Situation<'_>,
     first: &Next,
     second: &Next,
     races: &mut Vec<Race>,
 ) -> Result<(), AllocError>
     requires order { first.now.here.cpu < second.now.here.cpu }
-    requires next { IsNextOf machine.now first.now.here.cpu first.now }
-    requires next_too { IsNextOf machine.now second.now.here.cpu second.now }
-    requires before { UpTo machine.now sync.now nexts.now first.now.here.cpu second.now.here.cpu
+    requires next { IsNextOf situation.now.machine.now first.now.here.cpu first.now }
+    requires next_too { IsNextOf situation.now.machine.now second.now.here.cpu second.now }
+    requires before { UpTo situation.now.machine.now situation.now.sync.now
+        situation.now.nexts.now first.now.here.cpu second.now.here.cpu
         races.old.items }
-    ensures { OnOk result (UpTo machine.now sync.now nexts.now first.now.here.cpu
+    ensures { OnOk result (UpTo situation.now.machine.now situation.now.sync.now
+        situation.now.nexts.now first.now.here.cpu
         (second.now.here.cpu + 1) races.new.items) }
 {
     let pair = Pair {
         one: first.here(),
         other: second.here(),
     };
-    let bytes = bytes_between(alloc, first, second, sync)?;
+    let bytes = bytes_between(alloc, first, second, situation.sync)?;
     for at in &bytes {
-        let race = race_for(alloc, watcher, machine, pair, *at)?;
+        let race = race_for(alloc, watcher, situation.machine, pair, *at)?;
         add_race(races, race)?;
     }
     Ok(())
@@ -79,20 +87,21 @@ fn add_bytes(
 fn add_races_of(
     alloc: Global,
     watcher: &Watcher,
-    machine: &Machine,
-    sync: &[Part],
-    nexts: &[Next],
+    situation: &Situation<'_>,
     cpu: usize,
     races: &mut Vec<Race>,
 ) -> Result<(), AllocError>
-    requires within { cpu < length nexts.now }
-    requires nexts { AreNexts machine.now nexts.now }
-    requires before { UpTo machine.now sync.now nexts.now cpu 0 races.old.items }
-    ensures { OnOk result (UpTo machine.now sync.now nexts.now (cpu + 1) 0 races.new.items) }
+    requires within { cpu < length situation.now.nexts.now }
+    requires nexts { AreNexts situation.now.machine.now situation.now.nexts.now }
+    requires before { UpTo situation.now.machine.now situation.now.sync.now
+        situation.now.nexts.now cpu 0 races.old.items }
+    ensures { OnOk result (UpTo situation.now.machine.now situation.now.sync.now
+        situation.now.nexts.now (cpu + 1) 0 races.new.items) }
 {
+    let nexts = situation.nexts;
     for other in cpu + 1..nexts.len() {
         let (first, second) = (&nexts[cpu], &nexts[other]);
-        add_bytes(alloc, watcher, machine, sync, nexts, first, second, races)?;
+        add_bytes(alloc, watcher, situation, first, second, races)?;
     }
     Ok(())
 }
@@ -101,16 +110,16 @@ fn add_races_of(
 fn races_of(
     alloc: Global,
     watcher: &Watcher,
-    machine: &Machine,
-    sync: &[Part],
-    nexts: &[Next],
+    situation: &Situation<'_>,
 ) -> Result<Vec<Race>, AllocError>
-    requires { AreNexts machine.now nexts.now }
-    ensures { IfOk result (λ races. AreRacesIn machine.now sync.now races.items) }
+    requires { AreNexts situation.now.machine.now situation.now.nexts.now }
+    ensures { IfOk result (λ races. AreRacesIn situation.now.machine.now situation.now.sync.now
+        races.items) }
 {
     let mut races = Vec::new(alloc);
+    let nexts = situation.nexts;
     for cpu in 0..nexts.len() {
-        add_races_of(alloc, watcher, machine, sync, nexts, cpu, &mut races)?;
+        add_races_of(alloc, watcher, situation, cpu, &mut races)?;
     }
     Ok(races)
 }
@@ -126,5 +135,10 @@ pub fn races_in(
     ensures { IfOk result (λ races. AreRacesIn machine.now sync.now races.items) }
 {
     let nexts = watcher.nexts(machine)?;
-    races_of(alloc, watcher, machine, sync, &nexts)
+    let situation = Situation {
+        machine,
+        sync,
+        nexts: &nexts,
+    };
+    races_of(alloc, watcher, &situation)
 }

@@ -95,6 +95,17 @@ pub struct Report {
     pub closed: Closed,
 }
 
+/// What is to be run: these jobs of these programs, by n workers; and whether each CPU with jobs lists
+/// all maps' keys after them.
+#[derive(Drop)]
+pub struct Asked<'a, G: Gate> {
+    pub programs: &'a [Program],
+    pub jobs: &'a [Job],
+    pub workers: usize,
+    pub keys: bool,
+    pub gate: &'a G,
+}
+
 /// Runs all jobs over the ports of a store, whose CPUs have all seen its history so far, each CPU's in
 /// their order, by n workers at most; and where lists are asked for, each CPU with jobs lists all maps'
 /// keys after them. It takes no memory.
@@ -103,24 +114,22 @@ pub fn run_ports<R: Threads + Wait + Sync, G: Gate + Sync>(
     table: HopTable,
     ports: Vec<HopPort>,
     room: Room,
-    programs: &[Program],
-    jobs: &[Job],
-    workers: usize,
-    gate: &G,
+    asked: &Asked<'_, G>,
 ) -> Report
     requires ports { HaveSeen table (seen_by ports.items) ports.items }
-    requires workers { 0 < workers }
-    requires programs { All (λ job. job.program < length programs.now) jobs.now }
-    requires cpus { All (λ job. job.cpu < table.about.shape.cpus) jobs.now }
-    requires assigned { AreFor room.keys table.about.shape.maps (map waiting jobs.now)
+    requires workers { 0 < asked.now.workers }
+    requires programs { All (λ job. job.program < length asked.now.programs.now)
+        asked.now.jobs.now }
+    requires cpus { All (λ job. job.cpu < table.about.shape.cpus) asked.now.jobs.now }
+    requires assigned { AreFor room.keys table.about.shape.maps (map waiting asked.now.jobs.now)
         table.about.shape.cpus room.workers.items }
     requires empty { (room.ports.items ≡ []) × (room.lists.items ≡ []) }
     requires room { (table.about.shape.cpus ≤ vec_capacity room.ports)
         × (table.about.shape.cpus ≤ vec_capacity room.lists) }
-    requires ends { vec_len room.ends ≡ length jobs.now }
+    requires ends { vec_len room.ends ≡ length asked.now.jobs.now }
     ensures about { result.closed.about ≡ table.about }
     ensures explained { IsExplained table.about.shape table.about.count (seen_by ports.items)
-        programs.now (map waiting jobs.now) room.keys result.outcomes.items
+        asked.now.programs.now (map waiting asked.now.jobs.now) room.keys result.outcomes.items
         (listed_by result.lists.items) result.closed.history }
     ensures last { (last : Plain) × IsLast result.closed last
         × LeadsTo result.closed.about.shape result.closed.about.version result.closed.history last }
@@ -135,8 +144,15 @@ pub fn run_ports<R: Threads + Wait + Sync, G: Gate + Sync>(
         mut ends,
     } = room;
     equip(&mut crew, ports);
-    work_all(rt, &table, programs, gate, workers, &mut crew);
-    note_all(jobs, &crew, &mut ends);
+    work_all(
+        rt,
+        &table,
+        asked.programs,
+        asked.gate,
+        asked.workers,
+        &mut crew,
+    );
+    note_all(asked.jobs, &crew, &mut ends);
     let (ports, lists) = dismiss(crew, back, listed);
     let closed = gather(table, ports);
     Report {

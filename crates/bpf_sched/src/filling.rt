@@ -15,13 +15,11 @@ ghost use Rattle.bpf_sched.specs.Explained.{IsExplained, LeadsTo};
 ghost use Rattle.bpf_sched.specs.Refusing.{AreHere, AreWorkers, IsFirstSchedError};
 ghost use Rattle.bpf_sched.specs.Worked.{listed_by};
 
-use crate::crew::{Report, run_ports};
+use crate::crew::{Asked, Report, run_ports};
 use crate::gate::Gate;
 use crate::jobs::check;
 use crate::refusal::SchedError;
 use crate::room::Room;
-use bpf_cpu::Job;
-use bpf_loader::Program;
 use bpf_pairs::{Pair, put_pairs};
 use hop_cpu::HopCpu;
 use hop_map::{HopPort, HopStore, settle};
@@ -91,36 +89,34 @@ pub fn run_filled<R: Threads + Wait + Sync, G: Gate + Sync>(
     alloc: Global,
     store: HopStore,
     pairs: &[Pair],
-    programs: &[Program],
-    jobs: &[Job],
-    workers: usize,
-    keys: bool,
-    gate: &G,
+    asked: &Asked<'_, G>,
 ) -> Result<Report, SchedError>
     requires pairs { ArePairs store.table.about.shape.maps (map pair_of pairs.now) }
-    requires programs { All (λ job. job.program < length programs.now) jobs.now }
-    requires inputs { All (λ job. IsShort job.input) jobs.now }
-    ensures workers { OnOk result (AreWorkers workers) }
-    ensures cpus { OnOk result (AreHere store.table.about.shape.cpus jobs.now) }
+    requires programs { All (λ job. job.program < length asked.now.programs.now)
+        asked.now.jobs.now }
+    requires inputs { All (λ job. IsShort job.input) asked.now.jobs.now }
+    ensures workers { OnOk result (AreWorkers asked.now.workers) }
+    ensures cpus { OnOk result (AreHere store.table.about.shape.cpus asked.now.jobs.now) }
     ensures about { IfOk result (λ r. r.closed.about ≡ store.table.about) }
     ensures explained { IfOk result
         (λ r. IsExplained store.table.about.shape store.table.about.count
-        (first_history (map pair_of pairs.now)) programs.now (map waiting jobs.now) keys
+        (first_history (map pair_of pairs.now)) asked.now.programs.now
+        (map waiting asked.now.jobs.now) asked.now.keys
         r.outcomes.items (listed_by r.lists.items) r.closed.history) }
     ensures last { IfOk result (λ r. (last : Plain) × IsLast r.closed last
         × LeadsTo r.closed.about.shape r.closed.about.version r.closed.history last) }
     ensures refused { IfErr result
-        (IsFirstSchedError store.table.about.shape.cpus workers jobs.now) }
+        (IsFirstSchedError store.table.about.shape.cpus asked.now.workers asked.now.jobs.now) }
 {
     let shape = &store.about().shape;
     let cpus = shape.cpus();
-    check(cpus, workers, jobs)?;
-    let Ok(room) = Room::new(alloc, cpus, shape.maps(), jobs, keys) else {
+    check(cpus, asked.workers, asked.jobs)?;
+    let Ok(room) = Room::new(alloc, cpus, shape.maps(), asked.jobs, asked.keys) else {
         return Err(SchedError::OutOfMemory);
     };
     let (table, ports) = store.ports();
     let Ok(ports) = fill(rt, alloc, &table, ports, pairs) else {
         return Err(SchedError::OutOfMemory);
     };
-    Ok(run_ports(rt, table, ports, room, programs, jobs, workers, gate))
+    Ok(run_ports(rt, table, ports, room, asked))
 }

@@ -10,12 +10,11 @@ ghost use Rattle.bpf_sched.specs.Explained.{IsExplained, LeadsTo};
 ghost use Rattle.bpf_sched.specs.Refusing.{AreHere, AreWorkers, HasOutside, IsFirstSchedError};
 ghost use Rattle.bpf_sched.specs.Worked.{listed_by};
 
-use crate::crew::{Report, run_ports};
+use crate::crew::{Asked, Report, run_ports};
 use crate::gate::Gate;
 use crate::refusal::{Refused, SchedError};
 use crate::room::Room;
 use bpf_cpu::Job;
-use bpf_loader::Program;
 use hop_map::HopStore;
 use std::alloc::Global;
 use std::sync::Wait;
@@ -63,36 +62,34 @@ pub fn run_jobs<R: Threads + Wait + Sync, G: Gate + Sync>(
     rt: &R,
     alloc: Global,
     store: HopStore,
-    programs: &[Program],
-    jobs: &[Job],
-    workers: usize,
-    keys: bool,
-    gate: &G,
+    asked: &Asked<'_, G>,
 ) -> Result<Report, Refused>
-    requires programs { All (λ job. job.program < length programs.now) jobs.now }
-    requires inputs { All (λ job. IsShort job.input) jobs.now }
-    ensures workers { OnOk result (AreWorkers workers) }
-    ensures cpus { OnOk result (AreHere store.table.about.shape.cpus jobs.now) }
+    requires programs { All (λ job. job.program < length asked.now.programs.now)
+        asked.now.jobs.now }
+    requires inputs { All (λ job. IsShort job.input) asked.now.jobs.now }
+    ensures workers { OnOk result (AreWorkers asked.now.workers) }
+    ensures cpus { OnOk result (AreHere store.table.about.shape.cpus asked.now.jobs.now) }
     ensures about { IfOk result (λ r. r.closed.about ≡ store.table.about) }
     ensures explained { IfOk result
-        (λ r. IsExplained store.table.about.shape store.table.about.count [] programs.now
-        (map waiting jobs.now) keys r.outcomes.items (listed_by r.lists.items)
+        (λ r. IsExplained store.table.about.shape store.table.about.count [] asked.now.programs.now
+        (map waiting asked.now.jobs.now) asked.now.keys r.outcomes.items (listed_by r.lists.items)
         r.closed.history) }
     ensures last { IfOk result (λ r. (last : Plain) × IsLast r.closed last
         × LeadsTo r.closed.about.shape r.closed.about.version r.closed.history last) }
     ensures refused { IfErr result (λ r.
-        IsFirstSchedError store.table.about.shape.cpus workers jobs.now r.error) }
+        IsFirstSchedError store.table.about.shape.cpus asked.now.workers asked.now.jobs.now
+        r.error) }
     ensures store { IfErr result (λ r. r.store ≡ store) }
 {
     let shape = &store.about().shape;
     let cpus = shape.cpus();
-    if let Err(error) = check(cpus, workers, jobs) {
+    if let Err(error) = check(cpus, asked.workers, asked.jobs) {
         return Err(Refused { error, store });
     }
-    let Ok(room) = Room::new(alloc, cpus, shape.maps(), jobs, keys) else {
+    let Ok(room) = Room::new(alloc, cpus, shape.maps(), asked.jobs, asked.keys) else {
         let error = SchedError::OutOfMemory;
         return Err(Refused { error, store });
     };
     let (table, ports) = store.ports();
-    Ok(run_ports(rt, table, ports, room, programs, jobs, workers, gate))
+    Ok(run_ports(rt, table, ports, room, asked))
 }

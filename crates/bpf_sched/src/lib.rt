@@ -14,7 +14,7 @@ pub mod worker;
 pub mod workload;
 
 pub use assignment::Assignment;
-pub use crew::{Report, run_ports};
+pub use crew::{Asked, Report, run_ports};
 pub use filling::run_filled;
 pub use gate::{Gate, Gated, NoGate};
 pub use jobs::run_jobs;

@@ -11,5 +11,5 @@ mod telling;
 mod variables;
 mod workers;
 
-pub use telling::Counted;
+pub use telling::{Counted, Extras};
 pub use workers::{WorkError, run_counted};

@@ -25,6 +25,25 @@ pub struct Counted {
     pub stats: String,
 }
 
+/// What is printed of a run beside the lines of its jobs.
+#[derive(Clone, Copy)]
+pub struct Extras {
+    /// The keys that each CPU lists.
+    pub keys: bool,
+    /// The maps.
+    pub maps: bool,
+    /// What workers came to at the maps.
+    pub stats: bool,
+}
+
+/// Jobs that have ended, how each of them did, and what CPUs have listed.
+#[derive(Clone, Copy)]
+pub(crate) struct Ended<'a> {
+    pub(crate) jobs: &'a [Job],
+    pub(crate) ends: &'a [Outcome],
+    pub(crate) lists: &'a [Vec<KeyList>],
+}
+
 /// A line a job, in the order of their list, of jobs that have ended so.
 fn list_jobs(alloc: Global, jobs: &[Job], ends: &[Outcome]) -> Result<String, AllocError>
     requires { length ends.now ≡ length jobs.now }
@@ -89,20 +108,20 @@ fn list_keys(
 /// their store.
 fn tell(
     alloc: Global,
-    jobs: &[Job],
-    ends: &[Outcome],
-    lists: &[Vec<KeyList>],
+    ended: &Ended<'_>,
     left: Left,
     names: &Names,
     maps: bool,
 ) -> Result<Report, AllocError>
-    requires { length ends.now ≡ length jobs.now }
+    requires { length ended.now.ends.now ≡ length ended.now.jobs.now }
     ensures { IfOk result (λ r. (last : Plain) → IsLast left.entry.closed.now last
         → last.shape ≡ left.entry.shape.now
-        → TellsWith (list_lines (listed_by lists.now) (names_of names.now).maps
-        left.entry.shape.now.cpus) last (as_ended (map waiting jobs.now) ends.now)
+        → TellsWith (list_lines (listed_by ended.now.lists.now) (names_of names.now).maps
+        left.entry.shape.now.cpus) last (as_ended (map waiting ended.now.jobs.now)
+        ended.now.ends.now)
         (names_of names.now) maps (string_bytes r.text) r.stopped) }
 {
+    let Ended { jobs, ends, lists } = *ended;
     let mut text = list_jobs(alloc, jobs, ends)?;
     let keys = list_keys(alloc, lists, left.shape.cpus(), &names.maps)?;
     text.push_str(keys.as_str())?;
@@ -115,24 +134,22 @@ fn tell(
 /// What is printed of such jobs, and beside it the lines of the maps' numbers, where they are asked for.
 pub(crate) fn tell_counted(
     alloc: Global,
-    jobs: &[Job],
-    ends: &[Outcome],
-    lists: &[Vec<KeyList>],
+    ended: &Ended<'_>,
     left: Left,
     names: &Names,
-    maps: bool,
-    stats: bool,
+    extras: Extras,
 ) -> Result<Counted, AllocError>
-    requires { length ends.now ≡ length jobs.now }
+    requires { length ended.now.ends.now ≡ length ended.now.jobs.now }
     ensures told { IfOk result (λ r. (last : Plain) → IsLast left.entry.closed.now last
         → last.shape ≡ left.entry.shape.now
-        → TellsWith (list_lines (listed_by lists.now) (names_of names.now).maps
-        left.entry.shape.now.cpus) last (as_ended (map waiting jobs.now) ends.now)
-        (names_of names.now) maps (string_bytes r.report.text) r.report.stopped) }
-    ensures stats { IfOk result (λ r. AreStatsAsked stats left.entry.closed.now
+        → TellsWith (list_lines (listed_by ended.now.lists.now) (names_of names.now).maps
+        left.entry.shape.now.cpus) last (as_ended (map waiting ended.now.jobs.now)
+        ended.now.ends.now)
+        (names_of names.now) extras.maps (string_bytes r.report.text) r.report.stopped) }
+    ensures stats { IfOk result (λ r. AreStatsAsked extras.stats left.entry.closed.now
         (names_of names.now).maps (string_bytes r.stats)) }
 {
-    let report = tell(alloc, jobs, ends, lists, left, names, maps)?;
-    let stats = asked_stats(alloc, left.closed, &names.maps, stats)?;
+    let report = tell(alloc, ended, left, names, extras.maps)?;
+    let stats = asked_stats(alloc, left.closed, &names.maps, extras.stats)?;
     Ok(Counted { report, stats })
 }

@@ -7,11 +7,11 @@ ghost use Rattle.bpf_sched.specs.Refusing.{AreWorkers};
 ghost use Rattle.bpf_workers.specs.Printed.{IsWorkersReport};
 
 use crate::left::Left;
-use crate::telling::{Counted, tell_counted};
+use crate::telling::{Counted, Ended, Extras, tell_counted};
 use bpf_cpu::Setup;
 use bpf_file::RunFile;
 use bpf_plain::copy_shape;
-use bpf_sched::{NoGate, SchedError, run_filled};
+use bpf_sched::{Asked, NoGate, SchedError, run_filled};
 use hop_map::HopStore;
 use std::alloc::Global;
 use std::sync::Wait;
@@ -42,14 +42,12 @@ pub fn run_counted<R: Threads + Wait + Sync>(
     alloc: Global,
     file: RunFile,
     workers: u8,
-    keys: bool,
-    maps: bool,
-    stats: bool,
+    extras: Extras,
 ) -> Result<Counted, WorkError>
     requires file { IsRunnable file.setup }
     requires workers { AreWorkers workers }
     ensures { IfOk result (λ r. IsWorkersReport (file_of file)
-        (record { keys = keys; maps = maps; stats = stats })
+        (record { keys = extras.keys; maps = extras.maps; stats = extras.stats })
         (record {
           text = string_bytes r.report.text;
           stopped = r.report.stopped;
@@ -70,17 +68,14 @@ pub fn run_counted<R: Threads + Wait + Sync>(
     let Ok(store) = HopStore::new(alloc, shape, seed) else {
         return Err(WorkError::OutOfMemory);
     };
-    let done = match run_filled(
-        rt,
-        alloc,
-        store,
-        &pairs,
-        &programs,
-        &jobs,
-        usize::from(workers),
-        keys,
-        &NoGate,
-    ) {
+    let asked = Asked {
+        programs: &programs,
+        jobs: &jobs,
+        workers: usize::from(workers),
+        keys: extras.keys,
+        gate: &NoGate,
+    };
+    let done = match run_filled(rt, alloc, store, &pairs, &asked) {
         Ok(done) => done,
         Err(SchedError::OutOfMemory) => return Err(WorkError::Jobs),
         // There are workers, not too many, and a file's jobs are on its CPUs.
@@ -90,16 +85,12 @@ pub fn run_counted<R: Threads + Wait + Sync>(
         shape: &copy,
         closed: &done.closed,
     };
-    match tell_counted(
-        alloc,
-        &jobs,
-        &done.outcomes,
-        &done.lists,
-        left,
-        &names,
-        maps,
-        stats,
-    ) {
+    let ended = Ended {
+        jobs: &jobs,
+        ends: &done.outcomes,
+        lists: &done.lists,
+    };
+    match tell_counted(alloc, &ended, left, &names, extras) {
         Ok(counted) => Ok(counted),
         Err(_) => Err(WorkError::OutOfMemory),
     }

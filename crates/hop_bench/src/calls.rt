@@ -6,7 +6,7 @@ ghost use Rattle.hop_map.specs.Port.{IsPortOf, runs};
 use crate::plan::{Keys, Mix, key_of};
 use bpf_shared::{AtomicOp, MapAnswer, Size, Span, ValuePlace};
 use hop_map::HopPort;
-use hop_words::HopTable;
+use hop_words::{HopTable, Request};
 use std::sync::Wait;
 
 // Where the value's first word lies, if it is a whole one.
@@ -50,7 +50,12 @@ pub fn put<R: Wait>(rt: &R, table: &HopTable, port: &mut HopPort, key: &[u8; 8])
     ensures fits { IsPortOf table.now port.new }
     ensures in_run { runs port.new ≡ true }
 {
-    matches!(port.update(rt, table, 0, key, key, 0), MapAnswer::NoMemory)
+    let request = Request {
+        key,
+        value: key,
+        flags: 0,
+    };
+    matches!(port.update(rt, table, 0, &request), MapAnswer::NoMemory)
 }
 
 /// Adds or replaces a key, of a map that may grow: after an insertion that went to an overflow list
@@ -95,15 +100,21 @@ pub struct Tally {
     pub found: u64,
 }
 
-/// Makes the call that these bits draw.
+/// The keys of which calls draw, and the bits that were drawn last.
+#[derive(Clone, Copy)]
+pub struct Draw {
+    pub keys: Keys,
+    pub bits: u64,
+}
+
+/// Makes the call that the bits draw.
 #[inline(always)]
 pub fn call<R: Wait>(
     rt: &R,
     table: &HopTable,
     port: &mut HopPort,
     mix: Mix,
-    keys: Keys,
-    bits: u64,
+    draw: Draw,
     tally: &mut Tally,
 )
     requires fits { IsPortOf table.now port.old }
@@ -112,6 +123,7 @@ pub fn call<R: Wait>(
     ensures fits { IsPortOf table.now port.new }
     ensures in_run { runs port.new ≡ true }
 {
+    let Draw { keys, bits } = draw;
     let key = &key_of(keys.number(bits));
     let kind = match mix {
         Mix::Hits | Mix::Misses | Mix::Fill | Mix::Grow | Mix::Growth => 0,

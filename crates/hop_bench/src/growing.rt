@@ -5,7 +5,7 @@ ghost use Rattle.hop_words.specs.Trial.{IsTrial};
 ghost use Rattle.hop_map.specs.Port.{IsPortOf, runs};
 ghost use Rattle.hop_bench.specs.Trial.{IsNewPort};
 
-use crate::calls::{Tally, put_growing};
+use crate::calls::{Draw, Tally, put_growing};
 use crate::plan::{Keys, Plan, key_of};
 use crate::working::{Timing, make_run};
 use hop_map::HopPort;
@@ -101,14 +101,13 @@ fn look_up<R: Wait>(
     table: &HopTable,
     port: &mut HopPort,
     plan: Plan,
-    keys: Keys,
-    bits: u64,
+    draw: Draw,
     tally: &mut Tally,
 ) -> u64
     requires new { IsNewPort table.now port.old }
     ensures new { IsNewPort table.now port.new }
 {
-    make_run(rt, table, port, plan, keys, bits, tally)
+    make_run(rt, table, port, plan, draw, tally)
 }
 
 // Whether the key of this number is there, by the first word of its value, which isn't 0.
@@ -126,7 +125,7 @@ fn is_there<R: Wait>(rt: &R, table: &HopTable, port: &mut HopPort, plan: Plan, n
         refused: 0,
         found: 0,
     };
-    look_up(rt, table, port, one, keys, 0, &mut tally);
+    look_up(rt, table, port, one, Draw { keys, bits: 0 }, &mut tally);
     tally.found != 0
 }
 
@@ -155,7 +154,7 @@ fn look_until<R: Wait + Clock>(
     let mut passed = 0;
     'looks: for _look in 0..u64::MAX {
         'all: for _run in 0..runs {
-            bits = look_up(rt, table, port, plan, keys, bits, &mut tally);
+            bits = look_up(rt, table, port, plan, Draw { keys, bits }, &mut tally);
         }
         calls = calls.wrapping_add(runs.wrapping_mul(plan.run));
         passed = nanoseconds(rt, &start)?;

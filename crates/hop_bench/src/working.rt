@@ -4,8 +4,8 @@ ghost use Rattle.hop_words.specs.Trial.{IsTrial};
 ghost use Rattle.hop_map.specs.Port.{IsPortOf, runs};
 ghost use Rattle.hop_bench.specs.Trial.{IsNewPort};
 
-use crate::calls::{Tally, call, put_growing};
-use crate::plan::{Keys, Plan, key_of};
+use crate::calls::{Draw, Tally, call, put_growing};
+use crate::plan::{Plan, key_of};
 use hop_map::HopPort;
 use hop_words::HopTable;
 use std::io;
@@ -65,20 +65,19 @@ pub(crate) fn make_run<R: Wait>(
     table: &HopTable,
     port: &mut HopPort,
     plan: Plan,
-    keys: Keys,
-    bits: u64,
+    draw: Draw,
     tally: &mut Tally,
 ) -> u64
     requires new { IsNewPort table.now port.old }
     ensures new { IsNewPort table.now port.new }
 {
-    let mut bits = bits;
+    let Draw { keys, mut bits } = draw;
     if port.begin(table).is_err() {
         return bits;
     }
     'calls: for _call in 0..plan.run {
         bits = next(bits);
-        call(rt, table, port, plan.mix, keys, bits, tally);
+        call(rt, table, port, plan.mix, Draw { keys, bits }, tally);
     }
     port.end(table);
     bits
@@ -107,7 +106,7 @@ pub fn work<R: Wait + Clock>(
     let mut nanoseconds = 0;
     'looks: for _look in 0..u64::MAX {
         'all: for _run in 0..runs_a_look {
-            bits = make_run(rt, table, &mut port, plan, keys, bits, &mut tally);
+            bits = make_run(rt, table, &mut port, plan, Draw { keys, bits }, &mut tally);
         }
         calls = calls.wrapping_add(runs_a_look.wrapping_mul(plan.run));
         nanoseconds = u64::try_from(start.elapsed(rt)?.as_nanos()).unwrap_or(u64::MAX);

@@ -7,7 +7,7 @@ use bpf_shared::{
     ArrayShape, AtomicOp, KeyList, MapAnswer, MapShape, Shared, Size, Span, ValuePlace, Worn,
 };
 use hop_map::HopPort;
-use hop_words::HopTable;
+use hop_words::{HopTable, Operation, Request};
 use std::marker::Model;
 use std::sync::Wait;
 
@@ -96,7 +96,8 @@ impl<R: Wait> Shared for HopCpu<'_, R> {
     }
 
     fn update(&mut self, _cpu: u8, map: u8, key: &[u8], value: &[u8], flags: u64) -> MapAnswer {
-        update_growing(self.rt, self.table, &mut self.port, map, key, value, flags)
+        let request = Request { key, value, flags };
+        update_growing(self.rt, self.table, &mut self.port, map, &request)
     }
 
     fn delete(&mut self, _cpu: u8, map: u8, key: &[u8]) -> MapAnswer {
@@ -129,9 +130,15 @@ impl<R: Wait> Shared for HopCpu<'_, R> {
     ) -> u64 {
         match size {
             Size::Double => self.port.atomic_word(self.table, at, op, operand, expected),
-            _ => self
-                .port
-                .atomic_part(self.rt, self.table, at, size, op, operand, expected),
+            _ => {
+                let operation = Operation {
+                    op,
+                    operand,
+                    expected,
+                };
+                self.port
+                    .atomic_part(self.rt, self.table, at, size, operation)
+            }
         }
     }
 

@@ -9,7 +9,7 @@ ghost use Rattle.hop_cpu.specs.Growing.{GrowsMap, HasTriedSplit};
 
 use bpf_shared::MapAnswer;
 use hop_map::HopPort;
-use hop_words::HopTable;
+use hop_words::{HopTable, Request};
 use std::sync::Wait;
 
 // Tries to split the segment to whose overflow list the last update's new key went, of a map that
@@ -39,23 +39,23 @@ pub(crate) fn update_growing<R: Wait>(
     table: &HopTable,
     port: &mut HopPort,
     map: u8,
-    key: &[u8],
-    value: &[u8],
-    flags: u64,
+    request: &Request<'_>,
 ) -> MapAnswer
     requires fits { IsPortOf table.now port.old }
     requires in_run { runs port.old ≡ true }
-    requires pair { IsPairOf table.now.about.shape.maps map key.now value.now }
+    requires pair { IsPairOf table.now.about.shape.maps map request.now.key.now
+        request.now.value.now }
     ensures in_run { runs port.new ≡ true }
     ensures answered { PortDoes table.now.about port.old
-        (Update map key.now value.now flags result) port.new }
+        (Update map request.now.key.now request.now.value.now request.now.flags result) port.new }
     ensures shortage { IsShortage table.now.about port.old.known map result port.new.known }
-    ensures noted { CallsNote table.now.about (Update map key.now value.now flags result ∷ [])
+    ensures noted { CallsNote table.now.about (Update map request.now.key.now
+        request.now.value.now request.now.flags result ∷ [])
         port.old.known port.new.known }
     ensures tried { HasTriedSplit table.now.about map port.new }
     ensures fits { IsPortOf table.now port.new }
 {
-    let answer = port.update(rt, table, map, key, value, flags);
+    let answer = port.update(rt, table, map, request);
     grow(rt, table, port, map);
     answer
 }

@@ -13,65 +13,84 @@ ghost use Rattle.hop_map.specs.Call.{IsBetweenCalls, IsOneCall, IsShortage, AreB
 
 use crate::dropping::{Deletion, delete_key};
 use crate::homing::homing;
-use crate::locked::LockedWords;
+use crate::locked::{KeyLock, LockedWords};
 use crate::waiting::lock_home;
 use bpf_shared::MapAnswer;
 use hop_epoch::{Batches, Used};
 use hop_words::{HopTable, Lane};
 use std::sync::Wait;
 
+/// A deletion, as a CPU calls it: by what it waits, the store's table, the map's number, and the key.
+#[derive(Drop)]
+pub struct DeleteCall<'a, R: Wait> {
+    pub rt: &'a R,
+    pub table: &'a HopTable,
+    pub map: u8,
+    pub key: &'a [u8],
+}
+
 // Locks the key's segment, and takes out the key, if the segment has it.
 fn lock_and_delete<R: Wait>(
-    rt: &R,
-    table: &HopTable,
+    call: &DeleteCall<'_, R>,
     lane: Lane,
     expected: &mut u64,
-    map: u8,
-    key: &[u8],
 ) -> (Lane, Deletion)
-    requires table { lane.table ≡ table.now.id }
-    requires map { map < length table.now.about.shape.maps }
-    requires names { NamesKeyOf table.now.about lane.known map key.now }
+    requires table { lane.table ≡ call.now.table.now.id }
+    requires map { call.now.map < length call.now.table.now.about.shape.maps }
+    requires names { NamesKeyOf call.now.table.now.about lane.known call.now.map call.now.key.now }
     requires empty { lane.known.fresh ≡ [] }
     requires idle { lane.known.locks ≡ [] }
-    ensures table { result.0.table ≡ table.now.id }
-    ensures ends { (s : ℕ) × (n : ℕ) × OwnsKey table.now.about map key.now s n
-        × DeleteEnds table.now.about (with_lock lane.known map s n) map key.now result.1
+    ensures table { result.0.table ≡ call.now.table.now.id }
+    ensures ends { (s : ℕ) × (n : ℕ) × OwnsKey call.now.table.now.about call.now.map
+        call.now.key.now s n
+        × DeleteEnds call.now.table.now.about (with_lock lane.known call.now.map s n) call.now.map
+        call.now.key.now result.1
         result.0.known × BusyFirst n (answer_to result.1) }
 {
+    let DeleteCall {
+        rt,
+        table,
+        map,
+        key,
+    } = *call;
     let mut lane = lane;
     let at = homing(table, map, key);
     let taken = lock_home(rt, table, &mut lane, map, at.home);
     let words = LockedWords::new(table, lane, map, taken.segment, at.key_size, at.elements);
-    delete_key(words, expected, taken.stamp, at.home, key)
+    let lock = KeyLock {
+        home: at.home,
+        stamp: taken.stamp,
+    };
+    delete_key(words, expected, lock, key)
 }
 
 /// The key is to leave the map (bpf-helpers(7)). Its element goes to the CPU's young batch, since a
 /// CPU in a run may still hold its value. The key count that is left is what this CPU's next
 /// insertion expects.
 pub fn delete<R: Wait>(
-    rt: &R,
-    table: &HopTable,
+    call: &DeleteCall<'_, R>,
     lane: Lane,
     expected: &mut u64,
     batches: &mut Batches,
-    map: u8,
-    key: &[u8],
 ) -> (Lane, MapAnswer)
-    requires table { lane.table ≡ table.now.id }
-    requires batches { AreBatchesOf table.now.about lane.known map batches.old }
-    requires rests { IsBetweenCalls lane.known map }
+    requires table { lane.table ≡ call.now.table.now.id }
+    requires batches { AreBatchesOf call.now.table.now.about lane.known call.now.map batches.old }
+    requires rests { IsBetweenCalls lane.known call.now.map }
     requires runs { in_run (events_of lane.known.cpu lane.known.seen) ≡ true }
-    requires key { IsKeyOf table.now.about.shape.maps map key.now }
-    ensures table { result.0.table ≡ table.now.id }
-    ensures called { IsOneCall table.now.about lane.known map
-        (Delete map key.now result.1) result.0.known }
-    ensures lacks { IsShortage table.now.about lane.known map result.1 result.0.known }
-    ensures noted { CallNotes table.now.about (Delete map key.now result.1)
+    requires key { IsKeyOf call.now.table.now.about.shape.maps call.now.map call.now.key.now }
+    ensures table { result.0.table ≡ call.now.table.now.id }
+    ensures called { IsOneCall call.now.table.now.about lane.known call.now.map
+        (Delete call.now.map call.now.key.now result.1) result.0.known }
+    ensures lacks { IsShortage call.now.table.now.about lane.known call.now.map result.1
+        result.0.known }
+    ensures noted { CallNotes call.now.table.now.about (Delete call.now.map call.now.key.now
+        result.1)
         lane.known result.0.known }
-    ensures batches { AreBatchesOf table.now.about result.0.known map batches.new }
+    ensures batches { AreBatchesOf call.now.table.now.about result.0.known call.now.map
+        batches.new }
 {
-    let (mut lane, deletion) = lock_and_delete(rt, table, lane, expected, map, key);
+    let DeleteCall { table, map, .. } = *call;
+    let (mut lane, deletion) = lock_and_delete(call, lane, expected);
     match deletion {
         Deletion::Gone(old) => {
             let used = Used::new(&lane, map, old);

@@ -11,7 +11,7 @@ ghost use Rattle.hop_map.specs.Noting.{BusyFirst};
 ghost use Rattle.hop_map.specs.Private.Removals.{NamesKey, Dropped, DeleteEnds, answer_to};
 
 use crate::judging::WORN;
-use crate::locked::LockedWords;
+use crate::locked::{KeyLock, LockedWords};
 use bpf_shared::MapAnswer;
 use hop_seg::{Spot, locate, remove_at};
 use hop_words::Lane;
@@ -31,16 +31,16 @@ pub(crate) enum Deletion {
 pub(crate) fn drop_key<'a>(
     words: LockedWords<'a>,
     expected: &mut u64,
-    stamp: u64,
+    lock: KeyLock,
     found: Spot,
-    home: u32,
     key: &[u8],
 ) -> (Lane, u32)
     requires contents { LockShows words.about words.known words.map words.segment }
     requires names { NamesKey words.about words.known words.map words.segment key.now }
-    requires home { home ≡ home_of key.now words.about.seed (shape_at words.about words.map).mask }
-    requires stamp { stamp ≡ (lock_of words.known).stamp }
-    requires fits { stamp + 256 < 2 ^ 64 }
+    requires home { lock.home ≡ home_of key.now words.about.seed
+        (shape_at words.about words.map).mask }
+    requires stamp { lock.stamp ≡ (lock_of words.known).stamp }
+    requires fits { lock.stamp + 256 < 2 ^ 64 }
     requires there { IsSpot (seen words) key.now found }
     ensures table { result.0.table ≡ words.entry.table }
     ensures inside { result.1 < elements_of (shape_at words.entry.about words.entry.map) }
@@ -48,41 +48,44 @@ pub(crate) fn drop_key<'a>(
         key.now result.1 result.0.known }
 {
     let mut words = words;
-    let element = remove_at(&mut words, found, key, home);
-    (words.unlock_removed(expected, stamp, key, element), element)
+    let element = remove_at(&mut words, found, key, lock.home);
+    (
+        words.unlock_removed(expected, lock.stamp, key, element),
+        element,
+    )
 }
 
 /// Takes out a key, if the segment has it, and gives the lock back.
 pub(crate) fn delete_key<'a>(
     words: LockedWords<'a>,
     expected: &mut u64,
-    stamp: u64,
-    home: u32,
+    lock: KeyLock,
     key: &[u8],
 ) -> (Lane, Deletion)
     requires contents { LockShows words.about words.known words.map words.segment }
     requires names { NamesKey words.about words.known words.map words.segment key.now }
-    requires home { home ≡ home_of key.now words.about.seed (shape_at words.about words.map).mask }
-    requires stamp { stamp ≡ (lock_of words.known).stamp }
+    requires home { lock.home ≡ home_of key.now words.about.seed
+        (shape_at words.about words.map).mask }
+    requires stamp { lock.stamp ≡ (lock_of words.known).stamp }
     ensures table { result.0.table ≡ words.entry.table }
     ensures ends { DeleteEnds words.entry.about words.entry.known words.entry.map
         key.now result.1 result.0.known }
-    ensures order { BusyFirst stamp (answer_to result.1) }
+    ensures order { BusyFirst lock.stamp (answer_to result.1) }
 {
     let mut words = words;
-    if stamp >= WORN {
+    if lock.stamp >= WORN {
         return (
-            words.unlock_delete(stamp, key, MapAnswer::Busy),
+            words.unlock_delete(lock.stamp, key, MapAnswer::Busy),
             Deletion::Worn,
         );
     }
-    match locate(&mut words, key, home) {
+    match locate(&mut words, key, lock.home) {
         None => (
-            words.unlock_delete(stamp, key, MapAnswer::Absent),
+            words.unlock_delete(lock.stamp, key, MapAnswer::Absent),
             Deletion::Missing,
         ),
         Some(found) => {
-            let (lane, element) = drop_key(words, expected, stamp, found, home, key);
+            let (lane, element) = drop_key(words, expected, lock, found, key);
             (lane, Deletion::Gone(element))
         }
     }

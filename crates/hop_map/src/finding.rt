@@ -13,14 +13,14 @@ ghost use Rattle.hop_words.specs.Depths.{stamp_depth};
 
 use crate::counts::MapCounts;
 use crate::homing::{KeyHome, homed, homing, shape_of};
-use crate::locked::LockedWords;
+use crate::locked::{KeyLock, LockedWords};
 use crate::numbers::{item, link_word};
 use crate::once::Once;
 use crate::peeked::PeekedWords;
 use crate::waiting::lock_home;
 use bpf_shared::{FIRST_VALUE, MAP_AREA, Span};
 use hop_seg::find;
-use hop_words::{HopTable, Lane, Way, towards};
+use hop_words::{HopTable, Lane, Stamped, Way, towards};
 use std::sync::Wait;
 
 /// Where the value of an element lies, if there is one.
@@ -41,22 +41,22 @@ pub(crate) fn span_of(table: &HopTable, map: u8, found: Option<u32>) -> Option<S
 /// Finds a key, and gives the lock back: with that the lookup is answered.
 pub(crate) fn find_here<'a>(
     words: LockedWords<'a>,
-    stamp: u64,
-    home: u32,
+    lock: KeyLock,
     key: &[u8],
 ) -> (Lane, Option<u32>)
     requires contents { LockShows words.about words.known words.map words.segment }
     requires asks { AsksHere words.about words.known words.map words.segment
         (stamp_depth (lock_of words.known).stamp) key.now }
-    requires home { home ≡ home_of key.now words.about.seed (shape_at words.about words.map).mask }
-    requires stamp { stamp ≡ (lock_of words.known).stamp }
+    requires home { lock.home ≡ home_of key.now words.about.seed
+        (shape_at words.about words.map).mask }
+    requires stamp { lock.stamp ≡ (lock_of words.known).stamp }
     ensures table { result.0.table ≡ words.entry.table }
     ensures found { let l = words.entry.known in
         LookedUp words.entry.about l (lock_of l) key.now result.1 result.0.known }
 {
     let mut words = words;
-    let found = find(&mut words, key, home);
-    (words.unlock_lookup(stamp, key, found), found)
+    let found = find(&mut words, key, lock.home);
+    (words.unlock_lookup(lock.stamp, key, found), found)
 }
 
 // The key's element, found under the lock of the key's segment. The CPU waits for it.
@@ -79,7 +79,11 @@ fn locate_locked<R: Wait>(
     let mut lane = lane;
     let taken = lock_home(rt, table, &mut lane, map, at.home);
     let words = LockedWords::new(table, lane, map, taken.segment, at.key_size, at.elements);
-    find_here(words, taken.stamp, at.home, key)
+    let lock = KeyLock {
+        home: at.home,
+        stamp: taken.stamp,
+    };
+    find_here(words, lock, key)
 }
 
 /// Where the key's value lies, found under the lock of the key's segment. The CPU waits for it.
@@ -109,22 +113,34 @@ fn depth_of(stamp: u64) -> u32
     (stamp / 2 % 32) as u32
 }
 
+/// The way of a home in a map, as far as the segment that is being read, and that one's stamp.
+#[derive(Clone, Copy)]
+pub(crate) struct Approach {
+    pub(crate) map: u8,
+    pub(crate) home: u32,
+    pub(crate) way: Way,
+    pub(crate) stamp: u64,
+}
+
 // From a segment on the way of a home that is being read to the one that the home belongs to, which
 // is read then. Answers it and its stamp, or the first on the way whose stamp is locked.
 #[inline(never)]
-fn walk(table: &HopTable, lane: Lane, map: u8, home: u32, way: Way, stamp: u64) -> (Lane, u32, u64)
+fn walk(table: &HopTable, lane: Lane, from: Approach) -> (Lane, u32, u64)
     requires table { lane.table ≡ table.now.id }
-    requires map { map < length table.now.about.shape.maps }
+    requires map { from.map < length table.now.about.shape.maps }
     requires idle { lane.known.locks ≡ [] }
-    requires grows { (shape_at table.now.about map).grow ≡ true }
-    requires begins { (l : Known) × Approaching table.now.about l map home way stamp [] lane.known }
+    requires grows { (shape_at table.now.about from.map).grow ≡ true }
+    requires begins { (l : Known) × Approaching table.now.about l from.map from.home from.way
+        from.stamp [] lane.known }
     ensures table { result.0.table ≡ table.now.id }
-    ensures walked { (l : Known) → Approaching table.now.about l map home way stamp [] lane.known
-        → Walked table.now.about l map home result.1 result.2 result.0.known }
+    ensures walked { (l : Known) → Approaching table.now.about l from.map from.home from.way
+        from.stamp [] lane.known
+        → Walked table.now.about l from.map from.home result.1 result.2 result.0.known }
 {
     let mut lane = lane;
-    let mut way = way;
-    let mut stamp = stamp;
+    let Approach { map, home, .. } = from;
+    let mut way = from.way;
+    let mut stamp = from.stamp;
     'way: for _level in 0..11u32 {
         let Some(next) = towards(home, way, depth_of(stamp)) else {
             return (lane, way.segment, stamp);
@@ -152,31 +168,29 @@ pub(crate) struct SegmentRead {
 fn read_segment(
     table: &HopTable,
     lane: Lane,
-    map: u8,
-    segment: u32,
-    first: u64,
+    from: Stamped,
     at: KeyHome,
     key: &[u8],
 ) -> (Lane, SegmentRead)
     requires table { lane.table ≡ table.now.id }
-    requires homed { IsHomed table.now.about map key.now at }
-    requires even { first % 2 ≡ 0 }
-    requires begins { (l : Known) × AsksForKey table.now.about l map key.now
-        × Walked table.now.about l map at.home segment first lane.known }
+    requires homed { IsHomed table.now.about from.map key.now at }
+    requires even { from.stamp % 2 ≡ 0 }
+    requires begins { (l : Known) × AsksForKey table.now.about l from.map key.now
+        × Walked table.now.about l from.map at.home from.segment from.stamp lane.known }
     ensures table { result.0.table ≡ table.now.id }
-    ensures same { (l : Known) → AsksForKey table.now.about l map key.now
-        → Walked table.now.about l map at.home segment first lane.known
-        → result.1.last ≡ first
-        → ReadsFound table.now.about l map key.now result.1.found result.0.known }
-    ensures other { (l : Known) → AsksForKey table.now.about l map key.now
-        → Walked table.now.about l map at.home segment first lane.known
-        → result.1.last ≢ first
-        → Disturbs table.now.about l map key.now first result.1.last result.0.known }
-    ensures loads { (l : Known) → AsksForKey table.now.about l map key.now
-        → Walked table.now.about l map at.home segment first lane.known
-        → LooksAtMost (most_loads table.now.about map) l result.0.known }
+    ensures same { (l : Known) → AsksForKey table.now.about l from.map key.now
+        → Walked table.now.about l from.map at.home from.segment from.stamp lane.known
+        → result.1.last ≡ from.stamp
+        → ReadsFound table.now.about l from.map key.now result.1.found result.0.known }
+    ensures other { (l : Known) → AsksForKey table.now.about l from.map key.now
+        → Walked table.now.about l from.map at.home from.segment from.stamp lane.known
+        → result.1.last ≢ from.stamp
+        → Disturbs table.now.about l from.map key.now from.stamp result.1.last result.0.known }
+    ensures loads { (l : Known) → AsksForKey table.now.about l from.map key.now
+        → Walked table.now.about l from.map at.home from.segment from.stamp lane.known
+        → LooksAtMost (most_loads table.now.about from.map) l result.0.known }
 {
-    let _first = first;
+    let Stamped { map, segment, .. } = from;
     let mut words = PeekedWords::new(table, lane, map, segment, at.key_size, at.elements);
     let found = find(&mut words, key, at.home);
     let (lane, last) = words.see_again(key, found);
@@ -194,35 +208,32 @@ pub(crate) enum Tried {
 // A reading from the first segment on, which isn't the key's: only in a map that grows are there
 // others on the way. It is out of line, so that a map that doesn't grow doesn't pay.
 #[inline(never)]
-fn try_on_way(
-    table: &HopTable,
-    lane: Lane,
-    map: u8,
-    way: Way,
-    first: u64,
-    home: u32,
-    key: &[u8],
-) -> (Lane, Tried)
+fn try_on_way(table: &HopTable, lane: Lane, from: Approach, key: &[u8]) -> (Lane, Tried)
     requires table { lane.table ≡ table.now.id }
-    requires map { map < length table.now.about.shape.maps }
-    requires home { home ≡ home_in table.now.about map key.now }
-    requires grows { (shape_at table.now.about map).grow ≡ true }
-    requires begins { (l : Known) × AsksForKey table.now.about l map key.now
-        × Approaching table.now.about l map home way first [] lane.known }
+    requires map { from.map < length table.now.about.shape.maps }
+    requires home { from.home ≡ home_in table.now.about from.map key.now }
+    requires grows { (shape_at table.now.about from.map).grow ≡ true }
+    requires begins { (l : Known) × AsksForKey table.now.about l from.map key.now
+        × Approaching table.now.about l from.map from.home from.way from.stamp [] lane.known }
     ensures table { result.0.table ≡ table.now.id }
-    ensures ends { (l : Known) → AsksForKey table.now.about l map key.now
-        → Approaching table.now.about l map home way first [] lane.known
-        → TryEnds table.now.about l map key.now result.1 result.0.known }
-    ensures loads { (l : Known) → AsksForKey table.now.about l map key.now
-        → Approaching table.now.about l map home way first [] lane.known
-        → LooksAtMost (most_loads table.now.about map) l result.0.known }
+    ensures ends { (l : Known) → AsksForKey table.now.about l from.map key.now
+        → Approaching table.now.about l from.map from.home from.way from.stamp [] lane.known
+        → TryEnds table.now.about l from.map key.now result.1 result.0.known }
+    ensures loads { (l : Known) → AsksForKey table.now.about l from.map key.now
+        → Approaching table.now.about l from.map from.home from.way from.stamp [] lane.known
+        → LooksAtMost (most_loads table.now.about from.map) l result.0.known }
 {
-    let at = homed(table, map, home);
-    let (lane, segment, stamp) = walk(table, lane, map, home, way, first);
+    let at = homed(table, from.map, from.home);
+    let (lane, segment, stamp) = walk(table, lane, from);
     if stamp % 2 == 1 {
         return (lane, Tried::Disturbed(stamp, stamp));
     }
-    let (lane, read) = read_segment(table, lane, map, segment, stamp, at, key);
+    let reached = Stamped {
+        map: from.map,
+        segment,
+        stamp,
+    };
+    let (lane, read) = read_segment(table, lane, reached, at, key);
     if read.last != stamp {
         return (lane, Tried::Disturbed(stamp, read.last));
     }
@@ -243,7 +254,12 @@ fn try_once(table: &HopTable, lane: Lane, map: u8, key: &[u8]) -> (Lane, Tried)
     let first = lane.see_stamp(table, map, way.segment);
     // Unlocked, and of this depth: the segment is the key's.
     if first % 64 == 2 * u64::from(way.level) {
-        let (lane, read) = read_segment(table, lane, map, way.segment, first, at, key);
+        let from = Stamped {
+            map,
+            segment: way.segment,
+            stamp: first,
+        };
+        let (lane, read) = read_segment(table, lane, from, at, key);
         if read.last != first {
             return (lane, Tried::Disturbed(first, read.last));
         }
@@ -252,7 +268,13 @@ fn try_once(table: &HopTable, lane: Lane, map: u8, key: &[u8]) -> (Lane, Tried)
     if first % 2 == 1 {
         return (lane, Tried::Disturbed(first, first));
     }
-    try_on_way(table, lane, map, way, first, at.home, key)
+    let from = Approach {
+        map,
+        home: at.home,
+        way,
+        stamp: first,
+    };
+    try_on_way(table, lane, from, key)
 }
 
 /// Where the key's value lies, by one reading of the key's segment, which takes no lock and writes
@@ -317,27 +339,24 @@ fn look_on_way<R: Wait>(
     table: &HopTable,
     lane: Lane,
     counts: &mut MapCounts,
-    map: u8,
-    way: Way,
-    first: u64,
-    home: u32,
+    from: Approach,
     key: &[u8],
 ) -> (Lane, u64)
     requires table { lane.table ≡ table.now.id }
-    requires map { map < length table.now.about.shape.maps }
-    requires home { home ≡ home_in table.now.about map key.now }
-    requires grows { (shape_at table.now.about map).grow ≡ true }
-    requires begins { (l : Known) × AsksForKey table.now.about l map key.now
-        × Approaching table.now.about l map home way first [] lane.known }
+    requires map { from.map < length table.now.about.shape.maps }
+    requires home { from.home ≡ home_in table.now.about from.map key.now }
+    requires grows { (shape_at table.now.about from.map).grow ≡ true }
+    requires begins { (l : Known) × AsksForKey table.now.about l from.map key.now
+        × Approaching table.now.about l from.map from.home from.way from.stamp [] lane.known }
     ensures table { result.0.table ≡ table.now.id }
-    ensures found { (l : Known) → AsksForKey table.now.about l map key.now
-        → Approaching table.now.about l map home way first [] lane.known
-        → LooksUp table.now.about l map key.now (item result.1) result.0.known }
+    ensures found { (l : Known) → AsksForKey table.now.about l from.map key.now
+        → Approaching table.now.about l from.map from.home from.way from.stamp [] lane.known
+        → LooksUp table.now.about l from.map key.now (item result.1) result.0.known }
 {
-    let (lane, tried) = try_on_way(table, lane, map, way, first, home, key);
+    let (lane, tried) = try_on_way(table, lane, from, key);
     match tried {
         Tried::Read(found) => (lane, link_word(found)),
-        Tried::Disturbed(_, _) => look_again(rt, table, lane, counts, map, key),
+        Tried::Disturbed(_, _) => look_again(rt, table, lane, counts, from.map, key),
     }
 }
 
@@ -363,7 +382,12 @@ pub(crate) fn locate<R: Wait>(
     let first = lane.see_stamp(table, map, way.segment);
     // As in `try_once`; what is rare is called.
     if first % 64 == 2 * u64::from(way.level) {
-        let (lane, read) = read_segment(table, lane, map, way.segment, first, at, key);
+        let from = Stamped {
+            map,
+            segment: way.segment,
+            stamp: first,
+        };
+        let (lane, read) = read_segment(table, lane, from, at, key);
         if read.last == first {
             return (lane, read.found);
         }
@@ -374,6 +398,12 @@ pub(crate) fn locate<R: Wait>(
         let (lane, word) = look_again(rt, table, lane, counts, map, key);
         return (lane, item(word));
     }
-    let (lane, word) = look_on_way(rt, table, lane, counts, map, way, first, at.home, key);
+    let from = Approach {
+        map,
+        home: at.home,
+        way,
+        stamp: first,
+    };
+    let (lane, word) = look_on_way(rt, table, lane, counts, from, key);
     (lane, item(word))
 }

@@ -11,7 +11,7 @@ ghost use Rattle.hop_map.specs.Private.Accesses.{IsFixedAt, IsFreeAt};
 use crate::parts::{fixed_part_at, number_in, with_number};
 use bpf_shared::bytes::change;
 use bpf_shared::{AtomicOp, Size, ValuePlace};
-use hop_words::{HopTable, Lane};
+use hop_words::{HopTable, Lane, Operation};
 use std::sync::Wait;
 
 /// The number that the bytes read as.
@@ -19,7 +19,8 @@ pub(crate) fn load_fixed(table: &HopTable, lane: &mut Lane, at: ValuePlace, size
     requires table { lane.old.table ≡ table.now.id }
     requires fixed { IsFixedAt table.now.about lane.old.known at.at (bytes_in size) }
     ensures table { lane.new.table ≡ lane.old.table }
-    ensures loaded { AddsEvent table.now.about lane.old.known (Load at.at size result) lane.new.known }
+    ensures loaded { AddsEvent table.now.about lane.old.known (Load at.at size result)
+        lane.new.known }
     ensures small { result < modulus (bytes_in size) }
 {
     let part = fixed_part_at(table, at, size);
@@ -31,7 +32,8 @@ pub(crate) fn store_fixed_word(table: &HopTable, lane: &mut Lane, at: ValuePlace
     requires table { lane.old.table ≡ table.now.id }
     requires free { IsFreeAt table.now.about lane.old.known at.at 8 }
     ensures table { lane.new.table ≡ lane.old.table }
-    ensures stored { AddsEvent table.now.about lane.old.known (Store at.at Double word) lane.new.known }
+    ensures stored { AddsEvent table.now.about lane.old.known (Store at.at Double word)
+        lane.new.known }
 {
     let part = fixed_part_at(table, at, Size::Double);
     lane.store_fixed(table, part, word);
@@ -50,7 +52,8 @@ pub(crate) fn store_fixed_part<R: Wait>(
     requires table { lane.old.table ≡ table.now.id }
     requires free { IsFreeAt table.now.about lane.old.known at.at (bytes_in size) }
     ensures table { lane.new.table ≡ lane.old.table }
-    ensures stored { AddsEvent table.now.about lane.old.known (Store at.at size word) lane.new.known }
+    ensures stored { AddsEvent table.now.about lane.old.known (Store at.at size word)
+        lane.new.known }
 {
     let part = fixed_part_at(table, at, size);
     let mut old = lane.look_at_fixed(rt, table, part);
@@ -91,25 +94,30 @@ pub(crate) fn change_fixed_part<R: Wait>(
     lane: &mut Lane,
     at: ValuePlace,
     size: Size,
-    op: AtomicOp,
-    operand: u64,
-    expected: u64,
+    operation: Operation,
 ) -> u64
     requires table { lane.old.table ≡ table.now.id }
     requires free { IsFreeAt table.now.about lane.old.known at.at (bytes_in size) }
     requires wide { 4 ≤ bytes_in size }
     ensures table { lane.new.table ≡ lane.old.table }
     ensures changed { AddsEvent table.now.about lane.old.known
-        (Atomic at.at size op operand expected result) lane.new.known }
+        (Atomic at.at size operation.op operation.operand operation.expected result)
+        lane.new.known }
     ensures small { result < modulus (bytes_in size) }
 {
     let part = fixed_part_at(table, at, size);
     let mut old = lane.look_at_fixed(rt, table, part);
     'tries: for _ in rt.forever() {
         let number = number_in(old, part.offset, size);
-        let left = change(op, size, number, operand, expected);
+        let left = change(
+            operation.op,
+            size,
+            number,
+            operation.operand,
+            operation.expected,
+        );
         let new = with_number(old, part.offset, size, left);
-        let found = lane.exchange_fixed_by(table, part, op, operand, expected, old, new);
+        let found = lane.exchange_fixed_by(table, part, operation, old, new);
         if found == old {
             return number;
         }

@@ -6,9 +6,10 @@ ghost use Rattle.hop_words.specs.Locking.{lock_of};
 ghost use Rattle.hop_map.specs.Private.UnderLock.{LockShows};
 ghost use Rattle.hop_map.specs.Private.Updates.{Wants, DecidesUpdate};
 
-use crate::locked::LockedWords;
+use crate::locked::{KeyLock, LockedWords};
 use bpf_shared::MapAnswer;
 use hop_seg::{Spot, locate};
+use hop_words::Request;
 
 /// The least stamp of the last version. A segment with this version can't change any more.
 pub(crate) const WORN: u64 = u64::MAX - 255;
@@ -27,26 +28,25 @@ pub(crate) enum Finding {
 #[inline(always)]
 pub(crate) fn judge<'a>(
     words: &mut LockedWords<'a>,
-    stamp: u64,
-    home: u32,
-    key: &[u8],
-    value: &[u8],
-    flags: u64,
+    lock: KeyLock,
+    request: &Request<'_>,
 ) -> Finding
     requires contents { LockShows words.old.about words.old.known words.old.map words.old.segment }
     requires wants { Wants words.old.about words.old.known words.old.map words.old.segment
-        key.now value.now flags }
-    requires home { home ≡ home_of key.now words.old.about.seed
+        request.now.key.now request.now.value.now request.now.flags }
+    requires home { lock.home ≡ home_of request.now.key.now words.old.about.seed
         (shape_at words.old.about words.old.map).mask }
-    requires stamp { stamp ≡ (lock_of words.old.known).stamp }
-    ensures judges { DecidesUpdate words.old key.now value.now flags result }
+    requires stamp { lock.stamp ≡ (lock_of words.old.known).stamp }
+    ensures judges { DecidesUpdate words.old request.now.key.now request.now.value.now
+        request.now.flags result }
     ensures same { words.new ≡ words.old }
 {
+    let Request { key, value, flags } = *request;
     let _size = value.len();
-    if stamp >= WORN {
+    if lock.stamp >= WORN {
         return Finding::Refuses(MapAnswer::Busy);
     }
-    match locate(words, key, home) {
+    match locate(words, key, lock.home) {
         Some(_) if flags == 1 => Finding::Refuses(MapAnswer::Exists),
         Some(found) => Finding::There(found),
         None if flags == 2 => Finding::Refuses(MapAnswer::Absent),

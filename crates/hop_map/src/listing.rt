@@ -18,7 +18,7 @@ use crate::waiting::{lock_number, seek};
 use crate::words::{head_place, link_place, slot_place};
 use bpf_shared::KeyList;
 use hop_layout::{Place, segments as segment_count};
-use hop_words::{HopTable, Lane};
+use hop_words::{HopTable, Lane, Stamped};
 use std::sync::Wait;
 
 // The bytes of a word, the lowest first.
@@ -180,7 +180,12 @@ fn unlock_last(table: &HopTable, lane: &mut Lane, map: u8, segment: u32)
     ensures covers { Covers table.now.about map segment lane.new.known.locks }
 {
     let stamp = lane.read_locked_stamp(table, map, segment) - 1;
-    lane.unlock_listed(table, map, segment, stamp);
+    let at = Stamped {
+        map,
+        segment,
+        stamp,
+    };
+    lane.unlock_listed(table, at);
 }
 
 /// Lists the keys of a map in the order of their bytes. The CPU waits for the locks of the map's
@@ -207,7 +212,12 @@ pub(crate) fn list_keys<R: Wait>(
     }
     let last = find_last(rt, table, lane, map, count);
     let stamp = lane.read_locked_stamp(table, map, last) - 1;
-    lane.unlock_keys(table, map, last, stamp, list);
+    let at = Stamped {
+        map,
+        segment: last,
+        stamp,
+    };
+    lane.unlock_keys(table, at, list);
     'others: for left in 0..last {
         let segment = last - 1 - left;
         if !has_lock(rt, table, lane, map, segment) {

@@ -25,9 +25,16 @@ use crate::words::{head_place, hop_place, link_place, slot_place};
 use bpf_shared::{MapAnswer, MapShape};
 use hop_layout::{Place, home, word_at};
 use hop_seg::{SegReads, SegWords};
-use hop_words::{HopTable, Lane};
+use hop_words::{HopTable, Lane, Request, Stamped};
 use std::marker::Model;
 use std::sync::Wait;
+
+/// The lock of a key's segment: the segment's stamp before, and the key's home.
+#[derive(Clone, Copy)]
+pub(crate) struct KeyLock {
+    pub(crate) home: u32,
+    pub(crate) stamp: u64,
+}
 
 /// The words of a segment whose lock this CPU has.
 #[derive(Drop)]
@@ -92,20 +99,20 @@ impl<'a> LockedWords<'a> {
     pub(crate) fn count_up(
         &mut self,
         element: u32,
-        key: &[u8],
-        value: &[u8],
-        flags: u64,
+        request: &Request<'_>,
         count: u64,
     ) -> Result<(), u64>
         requires contents { LockShows self.old.about self.old.known self.old.map self.old.segment }
-        requires brings { OffersInsertion self.old.about self.old.known self.old.map self.old.segment
-            key.now value.now flags element }
-        requires absent { IsKeyAbsent self.old.about (lock_of self.old.known) key.now }
+        requires brings { OffersInsertion self.old.about self.old.known self.old.map
+            self.old.segment
+            request.now.key.now request.now.value.now request.now.flags element }
+        requires absent { IsKeyAbsent self.old.about (lock_of self.old.known) request.now.key.now }
         requires room { count < (shape_at self.old.about self.old.map).max }
         requires fits { count + 1 < 2 ^ 64 }
         ensures done { let l = self.old.known in
             IsOk result →
-            Inserted self.old.about l (lock_of l) (hand l) [] key.now value.now flags self.new.known }
+            Inserted self.old.about l (lock_of l) (hand l) [] request.now.key.now
+            request.now.value.now request.now.flags self.new.known }
         ensures missed { IsErr result → self.new ≡ self.old }
         ensures table { self.new.table ≡ self.old.table }
         ensures about { self.new.about ≡ self.old.about }
@@ -113,21 +120,21 @@ impl<'a> LockedWords<'a> {
         ensures segment { self.new.segment ≡ self.old.segment }
     {
         let _element = element;
-        self.lane
-            .count_up(self.table, self.map, count, key, value, flags)
+        self.lane.count_up(self.table, self.map, count, request)
     }
 
     /// The key count to try: the one that is expected, if the map would have room for one key more
     /// by it, or else the one that is there. If that leaves no room, the update is answered with
     /// `Full`.
-    fn see_room(&mut self, expected: u64, key: &[u8], value: &[u8], flags: u64) -> Option<u64>
+    fn see_room(&mut self, expected: u64, request: &Request<'_>) -> Option<u64>
         requires contents { LockShows self.old.about self.old.known self.old.map self.old.segment }
         requires wants { Wants self.old.about self.old.known self.old.map self.old.segment
-            key.now value.now flags }
-        requires absent { IsKeyAbsent self.old.about (lock_of self.old.known) key.now }
-        requires new { flags ≢ 2 }
+            request.now.key.now request.now.value.now request.now.flags }
+        requires absent { IsKeyAbsent self.old.about (lock_of self.old.known) request.now.key.now }
+        requires new { request.now.flags ≢ 2 }
         ensures full { result ≡ None →
-            AddsEvent self.old.about self.old.known (Update self.old.map key.now value.now flags Full)
+            AddsEvent self.old.about self.old.known (Update self.old.map request.now.key.now
+            request.now.value.now request.now.flags Full)
             self.new.known }
         ensures room { IfSome result (λ n. (self.new ≡ self.old)
             × (n < (shape_at self.old.about self.old.map).max)) }
@@ -141,7 +148,7 @@ impl<'a> LockedWords<'a> {
         if expected < max {
             return Some(expected);
         }
-        let count = self.lane.see_count(self.table, self.map, key, value, flags);
+        let count = self.lane.see_count(self.table, self.map, request);
         if count == max { None } else { Some(count) }
     }
 
@@ -154,20 +161,20 @@ impl<'a> LockedWords<'a> {
         rt: &R,
         expected: &mut u64,
         element: u32,
-        key: &[u8],
-        value: &[u8],
-        flags: u64,
+        request: &Request<'_>,
     ) -> bool
         requires contents { LockShows self.old.about self.old.known self.old.map self.old.segment }
         requires offers { Offers self.old.about self.old.known self.old.map self.old.segment
-            key.now value.now flags element }
-        requires absent { IsKeyAbsent self.old.about (lock_of self.old.known) key.now }
-        requires new { flags ≢ 2 }
+            request.now.key.now request.now.value.now request.now.flags element }
+        requires absent { IsKeyAbsent self.old.about (lock_of self.old.known) request.now.key.now }
+        requires new { request.now.flags ≢ 2 }
         ensures counted { let l = self.old.known in
             IsTrue result →
-            Inserted self.old.about l (lock_of l) (hand l) [] key.now value.now flags self.new.known }
+            Inserted self.old.about l (lock_of l) (hand l) [] request.now.key.now
+            request.now.value.now request.now.flags self.new.known }
         ensures full { IsFalse result →
-            AddsEvent self.old.about self.old.known (Update self.old.map key.now value.now flags Full)
+            AddsEvent self.old.about self.old.known (Update self.old.map request.now.key.now
+            request.now.value.now request.now.flags Full)
             self.new.known }
         ensures table { self.new.table ≡ self.old.table }
         ensures about { self.new.about ≡ self.old.about }
@@ -175,10 +182,10 @@ impl<'a> LockedWords<'a> {
         ensures segment { self.new.segment ≡ self.old.segment }
     {
         for _ in rt.forever() {
-            let Some(count) = self.see_room(*expected, key, value, flags) else {
+            let Some(count) = self.see_room(*expected, request) else {
                 return false;
             };
-            match self.count_up(element, key, value, flags, count) {
+            match self.count_up(element, request, count) {
                 Ok(()) => {
                     *expected = count + 1;
                     return true;
@@ -191,15 +198,16 @@ impl<'a> LockedWords<'a> {
 
     /// Whether the map is full, and so the update's answer: `Full`, or `NoMemory` where no element
     /// is to be had.
-    pub(crate) fn see_lack(&mut self, key: &[u8], value: &[u8], flags: u64) -> MapAnswer
+    pub(crate) fn see_lack(&mut self, request: &Request<'_>) -> MapAnswer
         requires contents { LockShows self.old.about self.old.known self.old.map self.old.segment }
         requires wants { Wants self.old.about self.old.known self.old.map self.old.segment
-            key.now value.now flags }
-        requires absent { IsKeyAbsent self.old.about (lock_of self.old.known) key.now }
-        requires new { flags ≢ 2 }
+            request.now.key.now request.now.value.now request.now.flags }
+        requires absent { IsKeyAbsent self.old.about (lock_of self.old.known) request.now.key.now }
+        requires new { request.now.flags ≢ 2 }
         requires lacks { SawAllTaken self.old.about self.old.known self.old.map }
         ensures told { AddsEvent self.old.about self.old.known
-            (Update self.old.map key.now value.now flags result) self.new.known }
+            (Update self.old.map request.now.key.now request.now.value.now request.now.flags
+            result) self.new.known }
         ensures answer { (result ≡ Full) ⊎ (result ≡ NoMemory) }
         ensures table { self.new.table ≡ self.old.table }
         ensures about { self.new.about ≡ self.old.about }
@@ -207,9 +215,7 @@ impl<'a> LockedWords<'a> {
         ensures segment { self.new.segment ≡ self.old.segment }
     {
         let max = shape_of(self.table, self.map).max;
-        let count = self
-            .lane
-            .see_count_lacking(self.table, self.map, key, value, flags);
+        let count = self.lane.see_count_lacking(self.table, self.map, request);
         if count == max {
             MapAnswer::Full
         } else {
@@ -227,33 +233,38 @@ impl<'a> LockedWords<'a> {
         ensures table { result.table ≡ self.entry.table }
         ensures known { result.known ≡ unlocking self.entry.known }
     {
-        let (table, map, segment) = (self.table, self.map, self.segment);
+        let table = self.table;
+        let at = Stamped {
+            map: self.map,
+            segment: self.segment,
+            stamp,
+        };
         let mut lane = self.lane;
-        lane.unlock_written(table, map, segment, stamp);
+        lane.unlock_written(table, at);
         lane
     }
 
     /// Gives the lock back, and with it a replacement takes effect that has been written.
-    pub(crate) fn unlock_replaced(
-        self,
-        stamp: u64,
-        key: &[u8],
-        value: &[u8],
-        flags: u64,
-        old: u32,
-    ) -> Lane
+    pub(crate) fn unlock_replaced(self, stamp: u64, request: &Request<'_>, old: u32) -> Lane
         requires stamp { stamp ≡ (lock_of self.known).stamp }
         requires fits { stamp + 256 < 2 ^ 64 }
         requires replaces { let l = self.known in
             Ready self.about l self.map self.segment →
-            Replaces self.about l (lock_of l) (hand l) [] key.now value.now flags old }
+            Replaces self.about l (lock_of l) (hand l) [] request.now.key.now
+            request.now.value.now request.now.flags old }
         ensures table { result.table ≡ self.entry.table }
         ensures replaced { let l = self.entry.known in
-            Replaced self.entry.about l (lock_of l) [] key.now value.now flags old result.known }
+            Replaced self.entry.about l (lock_of l) [] request.now.key.now request.now.value.now
+            request.now.flags old result.known }
     {
-        let (table, map, segment) = (self.table, self.map, self.segment);
+        let table = self.table;
+        let at = Stamped {
+            map: self.map,
+            segment: self.segment,
+            stamp,
+        };
         let mut lane = self.lane;
-        lane.unlock_replaced(table, map, segment, stamp, key, value, flags, old);
+        lane.unlock_replaced(table, at, request, old);
         lane
     }
 
@@ -272,10 +283,15 @@ impl<'a> LockedWords<'a> {
         ensures dropped { let l = self.entry.known in
             Dropped self.entry.about l (lock_of l).map key.now old result.known }
     {
-        let (table, map, segment) = (self.table, self.map, self.segment);
+        let table = self.table;
+        let at = Stamped {
+            map: self.map,
+            segment: self.segment,
+            stamp,
+        };
         let mut holder = self.lane;
-        *expected = holder.count_down(table, map, key, old);
-        holder.unlock_written(table, map, segment, stamp);
+        *expected = holder.count_down(table, at.map, key, old);
+        holder.unlock_written(table, at);
         holder
     }
 
@@ -290,33 +306,38 @@ impl<'a> LockedWords<'a> {
             Answered self.entry.about l (lock_of l) (Delete self.entry.map key.now answer)
             result.known }
     {
-        let (table, map, segment) = (self.table, self.map, self.segment);
+        let table = self.table;
+        let at = Stamped {
+            map: self.map,
+            segment: self.segment,
+            stamp,
+        };
         let mut lane = self.lane;
-        lane.unlock_delete(table, map, segment, stamp, key, answer);
+        lane.unlock_delete(table, at, key, answer);
         lane
     }
 
     /// Gives the lock back, where nothing has changed, and with it an update is answered.
-    pub(crate) fn unlock_update(
-        self,
-        stamp: u64,
-        key: &[u8],
-        value: &[u8],
-        flags: u64,
-        answer: MapAnswer,
-    ) -> Lane
+    pub(crate) fn unlock_update(self, stamp: u64, request: &Request<'_>, answer: MapAnswer) -> Lane
         requires stamp { stamp ≡ (lock_of self.known).stamp }
         requires answers { let l = self.known in
             Ready self.about l self.map self.segment →
-            AnswersUnderLock self.about l (lock_of l) (Update self.map key.now value.now flags answer) }
+            AnswersUnderLock self.about l (lock_of l) (Update self.map request.now.key.now
+            request.now.value.now request.now.flags answer) }
         ensures table { result.table ≡ self.entry.table }
         ensures answered { let l = self.entry.known in
             Answered self.entry.about l (lock_of l)
-            (Update self.entry.map key.now value.now flags answer) result.known }
+            (Update self.entry.map request.now.key.now request.now.value.now request.now.flags
+            answer) result.known }
     {
-        let (table, map, segment) = (self.table, self.map, self.segment);
+        let table = self.table;
+        let at = Stamped {
+            map: self.map,
+            segment: self.segment,
+            stamp,
+        };
         let mut lane = self.lane;
-        lane.unlock_update(table, map, segment, stamp, key, value, flags, answer);
+        lane.unlock_update(table, at, request, answer);
         lane
     }
 
@@ -330,9 +351,14 @@ impl<'a> LockedWords<'a> {
         ensures answered { let l = self.entry.known in
             LookedUp self.entry.about l (lock_of l) key.now found result.known }
     {
-        let (table, map, segment) = (self.table, self.map, self.segment);
+        let table = self.table;
+        let at = Stamped {
+            map: self.map,
+            segment: self.segment,
+            stamp,
+        };
         let mut lane = self.lane;
-        lane.unlock_lookup(table, map, segment, stamp, key, found);
+        lane.unlock_lookup(table, at, key, found);
         lane
     }
 
@@ -343,9 +369,14 @@ impl<'a> LockedWords<'a> {
         ensures table { result.table ≡ self.entry.table }
         ensures known { result.known ≡ unlocking self.entry.known }
     {
-        let (table, map, segment) = (self.table, self.map, self.segment);
+        let table = self.table;
+        let at = Stamped {
+            map: self.map,
+            segment: self.segment,
+            stamp,
+        };
         let mut lane = self.lane;
-        lane.unlock_silent(table, map, segment, stamp);
+        lane.unlock_silent(table, at);
         lane
     }
 
@@ -429,9 +460,14 @@ impl<'a> LockedWords<'a> {
         ensures known { result.known ≡ sighted (unlocking self.entry.known)
             (split_made self.entry.map self.entry.segment stamp) }
     {
-        let (table, map, segment) = (self.table, self.map, self.segment);
+        let table = self.table;
+        let at = Stamped {
+            map: self.map,
+            segment: self.segment,
+            stamp,
+        };
         let mut lane = self.lane;
-        lane.publish_split(table, map, segment, stamp, child_stamp);
+        lane.publish_split(table, at, child_stamp);
         lane
     }
 

@@ -11,18 +11,18 @@ ghost use Rattle.hop_map.specs.Port.{IsPortOf, PortDoes, runs};
 ghost use Rattle.hop_map.specs.Splitting.{SplitEnds};
 
 use crate::counts::MapCounts;
-use crate::deleting::delete;
+use crate::deleting::{DeleteCall, delete};
 use crate::finding::{find_locked, find_once, locate, span_of};
 use crate::growth::Growth;
 use crate::leaving::leave_run;
 use crate::listing::list_keys;
 use crate::once::Once;
 use crate::splitting::split_segment;
-use crate::updating::update;
+use crate::updating::{UpdateCall, update};
 use bpf_shared::{ArrayShape, KeyList, MapAnswer, MapShape, Span, Worn};
 use hop_arena::Arena;
 use hop_epoch::{Batches, begin_run};
-use hop_words::{HopTable, Lane};
+use hop_words::{HopTable, Lane, Request};
 use std::marker::Model;
 use std::sync::Wait;
 
@@ -225,18 +225,19 @@ impl HopPort {
         rt: &R,
         table: &HopTable,
         map: u8,
-        key: &[u8],
-        value: &[u8],
-        flags: u64,
+        request: &Request<'_>,
     ) -> MapAnswer
         requires fits { IsPortOf table.now self.old }
         requires in_run { runs self.old ≡ true }
-        requires pair { IsPairOf table.now.about.shape.maps map key.now value.now }
+        requires pair { IsPairOf table.now.about.shape.maps map request.now.key.now
+            request.now.value.now }
         ensures in_run { runs self.new ≡ true }
         ensures answered { PortDoes table.now.about self.old
-            (Update map key.now value.now flags result) self.new }
+            (Update map request.now.key.now request.now.value.now request.now.flags result)
+            self.new }
         ensures shortage { IsShortage table.now.about self.old.known map result self.new.known }
-        ensures noted { CallNotes table.now.about (Update map key.now value.now flags result)
+        ensures noted { CallNotes table.now.about (Update map request.now.key.now
+            request.now.value.now request.now.flags result)
             self.old.known self.new.known }
         ensures spilled { IfSome self.new.spilled (λ s. (result ≡ Done)
             × LockedLast map s self.old.known self.new.known) }
@@ -249,9 +250,13 @@ impl HopPort {
         let mut keys = self.counts.at(map).keys;
         let arena = &mut self.arenas[place];
         let batches = &mut self.batches[place];
-        let (lane, answer, spilled) = update(
-            rt, table, lane, &mut keys, arena, batches, map, key, value, flags,
-        );
+        let call = UpdateCall {
+            rt,
+            table,
+            map,
+            request: *request,
+        };
+        let (lane, answer, spilled) = update(&call, lane, &mut keys, arena, batches);
         self.lane = Some(lane);
         self.spilled = spilled;
         self.counts.keys_left(map, keys);
@@ -275,7 +280,13 @@ impl HopPort {
         };
         let mut keys = self.counts.at(map).keys;
         let batches = &mut self.batches[usize::from(map)];
-        let (lane, answer) = delete(rt, table, lane, &mut keys, batches, map, key);
+        let call = DeleteCall {
+            rt,
+            table,
+            map,
+            key,
+        };
+        let (lane, answer) = delete(&call, lane, &mut keys, batches);
         self.lane = Some(lane);
         self.counts.keys_left(map, keys);
         answer

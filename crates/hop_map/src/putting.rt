@@ -15,10 +15,10 @@ ghost use Rattle.hop_map.specs.Private.Updates.{Wants, Offers, Refusal, UpdateEn
 
 use crate::ending::Ending;
 use crate::judging::{Finding, judge};
-use crate::locked::LockedWords;
+use crate::locked::{KeyLock, LockedWords};
 use bpf_shared::MapAnswer;
 use hop_seg::{Landing, Spot, insert, replace_at};
-use hop_words::Lane;
+use hop_words::{Lane, Request};
 use std::sync::Wait;
 
 // The segment, if the element went to its overflow list.
@@ -39,35 +39,36 @@ pub(crate) fn put_new<'a, R: Wait>(
     rt: &R,
     words: LockedWords<'a>,
     expected: &mut u64,
-    stamp: u64,
+    lock: KeyLock,
     element: u32,
-    home: u32,
-    key: &[u8],
-    value: &[u8],
-    flags: u64,
+    request: &Request<'_>,
 ) -> (Lane, Ending)
     requires contents { LockShows words.about words.known words.map words.segment }
     requires offers { Offers words.about words.known words.map words.segment
-        key.now value.now flags element }
-    requires home { home ≡ home_of key.now words.about.seed (shape_at words.about words.map).mask }
-    requires stamp { stamp ≡ (lock_of words.known).stamp }
-    requires fits { stamp + 256 < 2 ^ 64 }
-    requires new { flags ≢ 2 }
-    requires absent { IsAbsent (seen words) key.now }
+        request.now.key.now request.now.value.now request.now.flags element }
+    requires home { lock.home ≡ home_of request.now.key.now words.about.seed
+        (shape_at words.about words.map).mask }
+    requires stamp { lock.stamp ≡ (lock_of words.known).stamp }
+    requires fits { lock.stamp + 256 < 2 ^ 64 }
+    requires new { request.now.flags ≢ 2 }
+    requires absent { IsAbsent (seen words) request.now.key.now }
     ensures table { result.0.table ≡ words.entry.table }
     ensures ends { UpdateEnds words.entry.about words.entry.known words.entry.map
-        key.now value.now flags result.1 result.0.known }
-    ensures order { BusyFirst stamp (answer_of result.1) }
+        request.now.key.now request.now.value.now request.now.flags result.1 result.0.known }
+    ensures order { BusyFirst lock.stamp (answer_of result.1) }
     ensures spilled { SpillsTo words.entry.segment result.1 }
 {
     let mut words = words;
-    if !words.count_in(rt, expected, element, key, value, flags) {
-        return (words.unlock_silent(stamp), Ending::Refused(MapAnswer::Full));
+    if !words.count_in(rt, expected, element, request) {
+        return (
+            words.unlock_silent(lock.stamp),
+            Ending::Refused(MapAnswer::Full),
+        );
     }
     let segment = words.segment();
-    let landing = insert(&mut words, element, home);
+    let landing = insert(&mut words, element, lock.home);
     let spilled = spilled_to(landing, segment);
-    (words.unlock_written(stamp), Ending::Added(spilled))
+    (words.unlock_written(lock.stamp), Ending::Added(spilled))
 }
 
 /// Puts the element in hand in the place of the one that the key has, where it was found, and gives
@@ -75,29 +76,27 @@ pub(crate) fn put_new<'a, R: Wait>(
 /// Answers the old element, which is in hand from now on.
 pub(crate) fn put_over<'a>(
     words: LockedWords<'a>,
-    stamp: u64,
+    lock: KeyLock,
     found: Spot,
     element: u32,
-    home: u32,
-    key: &[u8],
-    value: &[u8],
-    flags: u64,
+    request: &Request<'_>,
 ) -> (Lane, u32)
     requires contents { LockShows words.about words.known words.map words.segment }
     requires offers { Offers words.about words.known words.map words.segment
-        key.now value.now flags element }
-    requires over { flags ≢ 1 }
-    requires home { home ≡ home_of key.now words.about.seed (shape_at words.about words.map).mask }
-    requires stamp { stamp ≡ (lock_of words.known).stamp }
-    requires fits { stamp + 256 < 2 ^ 64 }
-    requires there { IsSpot (seen words) key.now found }
+        request.now.key.now request.now.value.now request.now.flags element }
+    requires over { request.now.flags ≢ 1 }
+    requires home { lock.home ≡ home_of request.now.key.now words.about.seed
+        (shape_at words.about words.map).mask }
+    requires stamp { lock.stamp ≡ (lock_of words.known).stamp }
+    requires fits { lock.stamp + 256 < 2 ^ 64 }
+    requires there { IsSpot (seen words) request.now.key.now found }
     ensures table { result.0.table ≡ words.entry.table }
     ensures over { IsReplacement words.entry.about words.entry.known words.entry.map
-        key.now value.now flags result.1 result.0.known }
+        request.now.key.now request.now.value.now request.now.flags result.1 result.0.known }
 {
     let mut words = words;
-    let old = replace_at(&mut words, found, key, home, element);
-    (words.unlock_replaced(stamp, key, value, flags, old), old)
+    let old = replace_at(&mut words, found, request.key, lock.home, element);
+    (words.unlock_replaced(lock.stamp, request, old), old)
 }
 
 /// Puts the element in hand, as the flags say, and gives the lock back. Where the update is refused
@@ -106,71 +105,64 @@ pub(crate) fn put<'a, R: Wait>(
     rt: &R,
     words: LockedWords<'a>,
     expected: &mut u64,
-    stamp: u64,
+    lock: KeyLock,
     element: u32,
-    home: u32,
-    key: &[u8],
-    value: &[u8],
-    flags: u64,
+    request: &Request<'_>,
 ) -> (Lane, Ending)
     requires contents { LockShows words.about words.known words.map words.segment }
     requires offers { Offers words.about words.known words.map words.segment
-        key.now value.now flags element }
-    requires home { home ≡ home_of key.now words.about.seed (shape_at words.about words.map).mask }
-    requires stamp { stamp ≡ (lock_of words.known).stamp }
+        request.now.key.now request.now.value.now request.now.flags element }
+    requires home { lock.home ≡ home_of request.now.key.now words.about.seed
+        (shape_at words.about words.map).mask }
+    requires stamp { lock.stamp ≡ (lock_of words.known).stamp }
     ensures table { result.0.table ≡ words.entry.table }
     ensures ends { UpdateEnds words.entry.about words.entry.known words.entry.map
-        key.now value.now flags result.1 result.0.known }
-    ensures order { BusyFirst stamp (answer_of result.1) }
+        request.now.key.now request.now.value.now request.now.flags result.1 result.0.known }
+    ensures order { BusyFirst lock.stamp (answer_of result.1) }
     ensures spilled { SpillsTo words.entry.segment result.1 }
 {
     let mut words = words;
-    match judge(&mut words, stamp, home, key, value, flags) {
+    match judge(&mut words, lock, request) {
         Finding::Refuses(answer) => (
-            words.unlock_update(stamp, key, value, flags, answer),
+            words.unlock_update(lock.stamp, request, answer),
             Ending::Refused(answer),
         ),
         Finding::There(found) => {
-            let (lane, old) = put_over(words, stamp, found, element, home, key, value, flags);
+            let (lane, old) = put_over(words, lock, found, element, request);
             (lane, Ending::Replaced(old))
         }
-        Finding::Missing => put_new(rt, words, expected, stamp, element, home, key, value, flags),
+        Finding::Missing => put_new(rt, words, expected, lock, element, request),
     }
 }
 
 /// Refuses an update for which no element is to be had, and gives the lock back.
 pub(crate) fn refuse<'a>(
     words: LockedWords<'a>,
-    stamp: u64,
-    home: u32,
-    key: &[u8],
-    value: &[u8],
-    flags: u64,
+    lock: KeyLock,
+    request: &Request<'_>,
 ) -> (Lane, MapAnswer)
     requires contents { LockShows words.about words.known words.map words.segment }
     requires wants { Wants words.about words.known words.map words.segment
-        key.now value.now flags }
-    requires home { home ≡ home_of key.now words.about.seed (shape_at words.about words.map).mask }
-    requires stamp { stamp ≡ (lock_of words.known).stamp }
+        request.now.key.now request.now.value.now request.now.flags }
+    requires home { lock.home ≡ home_of request.now.key.now words.about.seed
+        (shape_at words.about words.map).mask }
+    requires stamp { lock.stamp ≡ (lock_of words.known).stamp }
     requires lacks { SawAllTaken words.about words.known words.map }
     ensures table { result.0.table ≡ words.entry.table }
     ensures refused { Refusal words.entry.about words.entry.known words.entry.map
-        key.now value.now flags result.1 result.0.known }
-    ensures order { BusyFirst stamp result.1 }
+        request.now.key.now request.now.value.now request.now.flags result.1 result.0.known }
+    ensures order { BusyFirst lock.stamp result.1 }
 {
     let mut words = words;
-    match judge(&mut words, stamp, home, key, value, flags) {
-        Finding::Refuses(answer) => (
-            words.unlock_update(stamp, key, value, flags, answer),
-            answer,
-        ),
+    match judge(&mut words, lock, request) {
+        Finding::Refuses(answer) => (words.unlock_update(lock.stamp, request, answer), answer),
         Finding::There(_) => (
-            words.unlock_update(stamp, key, value, flags, MapAnswer::NoMemory),
+            words.unlock_update(lock.stamp, request, MapAnswer::NoMemory),
             MapAnswer::NoMemory,
         ),
         Finding::Missing => {
-            let answer = words.see_lack(key, value, flags);
-            (words.unlock_silent(stamp), answer)
+            let answer = words.see_lack(request);
+            (words.unlock_silent(lock.stamp), answer)
         }
     }
 }

@@ -12,7 +12,7 @@ use crate::fixed::{
     change_fixed_part, change_fixed_word, load_fixed, store_fixed_part, store_fixed_word,
 };
 use bpf_shared::{AtomicOp, FIRST_ARRAY, MAP_AREA, Size, ValuePlace};
-use hop_words::{HopTable, Lane};
+use hop_words::{HopTable, Lane, Operation};
 use std::sync::Wait;
 
 /// How many bytes the areas of all maps have together. Those of all arrays, which follow them, have
@@ -26,7 +26,8 @@ pub(crate) fn load(table: &HopTable, lane: &mut Lane, at: ValuePlace, size: Size
     requires table { lane.old.table ≡ table.now.id }
     requires place { MayLoadAt table.now.about lane.old.known at.at (bytes_in size) }
     ensures table { lane.new.table ≡ lane.old.table }
-    ensures loaded { AddsEvent table.now.about lane.old.known (Load at.at size result) lane.new.known }
+    ensures loaded { AddsEvent table.now.about lane.old.known (Load at.at size result)
+        lane.new.known }
     ensures small { result < modulus (bytes_in size) }
 {
     let _cpus = table.about().shape.cpus();
@@ -43,7 +44,8 @@ pub(crate) fn store_word(table: &HopTable, lane: &mut Lane, at: ValuePlace, word
     requires table { lane.old.table ≡ table.now.id }
     requires place { MayChangeAt table.now.about lane.old.known at.at 8 }
     ensures table { lane.new.table ≡ lane.old.table }
-    ensures stored { AddsEvent table.now.about lane.old.known (Store at.at Double word) lane.new.known }
+    ensures stored { AddsEvent table.now.about lane.old.known (Store at.at Double word)
+        lane.new.known }
 {
     let _cpus = table.about().shape.cpus();
     if at.at / HALF % 2 == 0 {
@@ -66,7 +68,8 @@ pub(crate) fn store_part<R: Wait>(
     requires table { lane.old.table ≡ table.now.id }
     requires place { MayChangeAt table.now.about lane.old.known at.at (bytes_in size) }
     ensures table { lane.new.table ≡ lane.old.table }
-    ensures stored { AddsEvent table.now.about lane.old.known (Store at.at size word) lane.new.known }
+    ensures stored { AddsEvent table.now.about lane.old.known (Store at.at size word)
+        lane.new.known }
 {
     let _cpus = table.about().shape.cpus();
     if at.at / HALF % 2 == 0 {
@@ -108,22 +111,21 @@ pub(crate) fn change_part<R: Wait>(
     lane: &mut Lane,
     at: ValuePlace,
     size: Size,
-    op: AtomicOp,
-    operand: u64,
-    expected: u64,
+    operation: Operation,
 ) -> u64
     requires table { lane.old.table ≡ table.now.id }
     requires place { MayChangeAt table.now.about lane.old.known at.at (bytes_in size) }
     requires wide { 4 ≤ bytes_in size }
     ensures table { lane.new.table ≡ lane.old.table }
     ensures changed { AddsEvent table.now.about lane.old.known
-        (Atomic at.at size op operand expected result) lane.new.known }
+        (Atomic at.at size operation.op operation.operand operation.expected result)
+        lane.new.known }
     ensures small { result < modulus (bytes_in size) }
 {
     let _cpus = table.about().shape.cpus();
     if at.at / HALF % 2 == 0 {
-        change_part_at(rt, table, lane, at, size, op, operand, expected)
+        change_part_at(rt, table, lane, at, size, operation)
     } else {
-        change_fixed_part(rt, table, lane, at, size, op, operand, expected)
+        change_fixed_part(rt, table, lane, at, size, operation)
     }
 }

@@ -17,84 +17,104 @@ ghost use Rattle.hop_map.specs.Private.Updates.{Brought, Refusal, UpdateEnds, Sp
 ghost use Rattle.hop_map.specs.Call.{IsBetweenCalls, IsOneCall, IsShortage, SearchesInVain, Searches, AreBatchesOf};
 ghost use Rattle.hop_map.specs.Private.Call.{HoldsNew};
 ghost use Rattle.hop_layout.specs.Layout.{gained};
+ghost use Rattle.hop_layout.specs.Words.{AreBytes};
 
 use crate::ending::Ending;
 use crate::homing::{homing, shape_of};
-use crate::locked::LockedWords;
+use crate::locked::{KeyLock, LockedWords};
 use crate::putting::{put, refuse};
 use crate::waiting::lock_home;
 use bpf_shared::MapAnswer;
 use crossbeam_utils::Backoff;
 use hop_arena::{Arena, Element};
 use hop_epoch::{Batches, Used};
-use hop_words::{HopTable, Lane};
+use hop_words::{HopTable, Lane, Request};
 use std::sync::Wait;
+
+/// An update, as a CPU calls it: by what it waits, the store's table, the map's number, and what is
+/// asked for.
+#[derive(Drop)]
+pub struct UpdateCall<'a, R: Wait> {
+    pub rt: &'a R,
+    pub table: &'a HopTable,
+    pub map: u8,
+    pub request: Request<'a>,
+}
+
+// Bytes of a key or a value are bytes.
+#[inline(always)]
+fn remember(bytes: &[u8])
+    ensures { AreBytes bytes.now }
+{}
 
 // Locks the key's segment, and puts the element in hand, as the flags say.
 fn lock_and_put<R: Wait>(
-    rt: &R,
-    table: &HopTable,
+    call: &UpdateCall<'_, R>,
     lane: Lane,
     expected: &mut u64,
-    map: u8,
     element: u32,
-    key: &[u8],
-    value: &[u8],
-    flags: u64,
 ) -> (Lane, Ending)
-    requires table { lane.table ≡ table.now.id }
-    requires map { map < length table.now.about.shape.maps }
-    requires readies { Readies table.now.about lane.known map key.now value.now flags element }
-    ensures table { result.0.table ≡ table.now.id }
-    ensures ends { (s : ℕ) × (n : ℕ) × OwnsKey table.now.about map key.now s n
-        × UpdateEnds table.now.about (with_lock lane.known map s n) map
-        key.now value.now flags result.1 result.0.known
+    requires table { lane.table ≡ call.now.table.now.id }
+    requires map { call.now.map < length call.now.table.now.about.shape.maps }
+    requires readies { Readies call.now.table.now.about lane.known call.now.map
+        call.now.request.key.now call.now.request.value.now call.now.request.flags element }
+    ensures table { result.0.table ≡ call.now.table.now.id }
+    ensures ends { (s : ℕ) × (n : ℕ) × OwnsKey call.now.table.now.about call.now.map
+        call.now.request.key.now s n
+        × UpdateEnds call.now.table.now.about (with_lock lane.known call.now.map s n) call.now.map
+        call.now.request.key.now call.now.request.value.now call.now.request.flags result.1
+        result.0.known
         × BusyFirst n (answer_of result.1) × SpillsTo s result.1 }
 {
+    let UpdateCall {
+        rt,
+        table,
+        map,
+        request,
+    } = *call;
     let mut lane = lane;
-    let at = homing(table, map, key);
+    let at = homing(table, map, request.key);
     let taken = lock_home(rt, table, &mut lane, map, at.home);
     let words = LockedWords::new(table, lane, map, taken.segment, at.key_size, at.elements);
-    put(
-        rt,
-        words,
-        expected,
-        taken.stamp,
-        element,
-        at.home,
-        key,
-        value,
-        flags,
-    )
+    let lock = KeyLock {
+        home: at.home,
+        stamp: taken.stamp,
+    };
+    put(rt, words, expected, lock, element, &request)
 }
 
 // Locks the key's segment, and refuses an update for which no element is to be had.
-fn lock_and_refuse<R: Wait>(
-    rt: &R,
-    table: &HopTable,
-    lane: Lane,
-    map: u8,
-    key: &[u8],
-    value: &[u8],
-    flags: u64,
-) -> (Lane, MapAnswer)
-    requires table { lane.table ≡ table.now.id }
-    requires map { map < length table.now.about.shape.maps }
+fn lock_and_refuse<R: Wait>(call: &UpdateCall<'_, R>, lane: Lane) -> (Lane, MapAnswer)
+    requires table { lane.table ≡ call.now.table.now.id }
+    requires map { call.now.map < length call.now.table.now.about.shape.maps }
     requires empty { lane.known.fresh ≡ [] }
     requires idle { lane.known.locks ≡ [] }
-    requires brought { Brought table.now.about lane.known map key.now value.now flags }
-    requires lacks { SawAllTaken table.now.about lane.known map }
-    ensures table { result.0.table ≡ table.now.id }
-    ensures refused { (s : ℕ) × (n : ℕ) × OwnsKey table.now.about map key.now s n
-        × Refusal table.now.about (with_lock lane.known map s n) map
-        key.now value.now flags result.1 result.0.known
+    requires brought { Brought call.now.table.now.about lane.known call.now.map
+        call.now.request.key.now call.now.request.value.now call.now.request.flags }
+    requires lacks { SawAllTaken call.now.table.now.about lane.known call.now.map }
+    ensures table { result.0.table ≡ call.now.table.now.id }
+    ensures refused { (s : ℕ) × (n : ℕ) × OwnsKey call.now.table.now.about call.now.map
+        call.now.request.key.now s n
+        × Refusal call.now.table.now.about (with_lock lane.known call.now.map s n) call.now.map
+        call.now.request.key.now call.now.request.value.now call.now.request.flags result.1
+        result.0.known
         × BusyFirst n result.1 }
 {
+    let UpdateCall {
+        rt,
+        table,
+        map,
+        request,
+    } = *call;
     let mut lane = lane;
-    let at = homing(table, map, key);
+    let at = homing(table, map, request.key);
     let taken = lock_home(rt, table, &mut lane, map, at.home);
     let words = LockedWords::new(table, lane, map, taken.segment, at.key_size, at.elements);
-    refuse(words, taken.stamp, at.home, key, value, flags)
+    let lock = KeyLock {
+        home: at.home,
+        stamp: taken.stamp,
+    };
+    refuse(words, lock, &request)
 }
 
 // One pass over the free bits, from the element on that the CPU gave back last.
@@ -224,49 +244,58 @@ fn claim_free(
 // given back, and where it took the place of another, that one is retired. Answers too which
 // segment's overflow list a new key went to.
 fn fill_and_put<R: Wait>(
-    rt: &R,
-    table: &HopTable,
+    call: &UpdateCall<'_, R>,
     lane: Lane,
     expected: &mut u64,
     arena: &mut Arena,
     batches: &mut Batches,
     element: Element,
-    map: u8,
-    key: &[u8],
-    value: &[u8],
-    flags: u64,
 ) -> (Lane, MapAnswer, Option<u32>)
-    requires table { lane.table ≡ table.now.id }
-    requires arena { Searches table.now.about map arena.old }
-    requires batches { AreBatchesOf table.now.about lane.known map batches.old }
-    requires map { element.map ≡ map }
-    requires inside { element.number < elements_of (shape_at table.now.about map) }
-    requires new { HoldsNew lane.known map element.number }
+    requires table { lane.table ≡ call.now.table.now.id }
+    requires arena { Searches call.now.table.now.about call.now.map arena.old }
+    requires batches { AreBatchesOf call.now.table.now.about lane.known call.now.map batches.old }
+    requires map { element.map ≡ call.now.map }
+    requires inside { element.number < elements_of (shape_at call.now.table.now.about
+        call.now.map) }
+    requires new { HoldsNew lane.known call.now.map element.number }
     requires idle { lane.known.locks ≡ [] }
-    requires used { (limbo_at lane.known.limbo map).used ≡ [] }
+    requires used { (limbo_at lane.known.limbo call.now.map).used ≡ [] }
     requires runs { in_run (events_of lane.known.cpu lane.known.seen) ≡ true }
-    requires pair { IsPairOf table.now.about.shape.maps map key.now value.now }
-    requires flags { flags ≤ 2 }
-    ensures table { result.0.table ≡ table.now.id }
-    ensures called { IsOneCall table.now.about lane.known map
-        (Update map key.now value.now flags result.1) result.0.known }
+    requires pair { IsPairOf call.now.table.now.about.shape.maps call.now.map
+        call.now.request.key.now call.now.request.value.now }
+    requires flags { call.now.request.flags ≤ 2 }
+    ensures table { result.0.table ≡ call.now.table.now.id }
+    ensures called { IsOneCall call.now.table.now.about lane.known call.now.map
+        (Update call.now.map call.now.request.key.now call.now.request.value.now
+        call.now.request.flags result.1) result.0.known }
     ensures worn { result.1 ≡ Busy →
-        2 ^ 56 - 1 ≤ table.now.about.version + gained (shape_at table.now.about map)
-        + done_in map result.0.known.seen }
+        2 ^ 56 - 1 ≤ call.now.table.now.about.version + gained
+        (shape_at call.now.table.now.about call.now.map)
+        + done_in call.now.map result.0.known.seen }
     ensures served { result.1 ≢ NoMemory }
-    ensures noted { CallNotes table.now.about (Update map key.now value.now flags result.1)
+    ensures noted { CallNotes call.now.table.now.about (Update call.now.map
+        call.now.request.key.now call.now.request.value.now call.now.request.flags result.1)
         lane.known result.0.known }
-    ensures spilled { IfSome result.2 (λ s. (result.1 ≡ Done) × LockedLast map s lane.known result.0.known) }
-    ensures arena { Searches table.now.about map arena.new }
-    ensures batches { AreBatchesOf table.now.about result.0.known map batches.new }
+    ensures spilled { IfSome result.2 (λ s. (result.1 ≡ Done) × LockedLast call.now.map s
+        lane.known result.0.known) }
+    ensures arena { Searches call.now.table.now.about call.now.map arena.new }
+    ensures batches { AreBatchesOf call.now.table.now.about result.0.known call.now.map
+        batches.new }
 {
+    let UpdateCall {
+        table,
+        map,
+        request,
+        ..
+    } = *call;
+    let Request { key, value, .. } = request;
     let mut lane = lane;
     let _sizes = shape_of(table, map);
+    remember(key);
+    remember(value);
     element.fill(&mut lane, table, key, value);
     let number = element.number();
-    let (mut lane, ending) = lock_and_put(
-        rt, table, lane, expected, map, number, key, value, flags,
-    );
+    let (mut lane, ending) = lock_and_put(call, lane, expected, number);
     match ending {
         Ending::Added(spilled) => {
             let _linked = element.into_number();
@@ -291,47 +320,49 @@ fn fill_and_put<R: Wait>(
 /// is refused. Answers too which segment's overflow list a new key went to. A new key is first
 /// counted by the key count that this CPU left; any number does, and the one left then is there.
 pub fn update<R: Wait>(
-    rt: &R,
-    table: &HopTable,
+    call: &UpdateCall<'_, R>,
     lane: Lane,
     expected: &mut u64,
     arena: &mut Arena,
     batches: &mut Batches,
-    map: u8,
-    key: &[u8],
-    value: &[u8],
-    flags: u64,
 ) -> (Lane, MapAnswer, Option<u32>)
-    requires table { lane.table ≡ table.now.id }
-    requires inside { lane.known.cpu < table.now.about.shape.cpus }
-    requires even { table.now.about.count % 2 ≡ 0 }
-    requires arena { Searches table.now.about map arena.old }
-    requires batches { AreBatchesOf table.now.about lane.known map batches.old }
-    requires rests { IsBetweenCalls lane.known map }
+    requires table { lane.table ≡ call.now.table.now.id }
+    requires inside { lane.known.cpu < call.now.table.now.about.shape.cpus }
+    requires even { call.now.table.now.about.count % 2 ≡ 0 }
+    requires arena { Searches call.now.table.now.about call.now.map arena.old }
+    requires batches { AreBatchesOf call.now.table.now.about lane.known call.now.map batches.old }
+    requires rests { IsBetweenCalls lane.known call.now.map }
     requires runs { in_run (events_of lane.known.cpu lane.known.seen) ≡ true }
-    requires pair { IsPairOf table.now.about.shape.maps map key.now value.now }
-    ensures table { result.0.table ≡ table.now.id }
-    ensures called { IsOneCall table.now.about lane.known map
-        (Update map key.now value.now flags result.1) result.0.known }
-    ensures lacks { IsShortage table.now.about lane.known map result.1 result.0.known }
-    ensures noted { CallNotes table.now.about (Update map key.now value.now flags result.1)
+    requires pair { IsPairOf call.now.table.now.about.shape.maps call.now.map
+        call.now.request.key.now call.now.request.value.now }
+    ensures table { result.0.table ≡ call.now.table.now.id }
+    ensures called { IsOneCall call.now.table.now.about lane.known call.now.map
+        (Update call.now.map call.now.request.key.now call.now.request.value.now
+        call.now.request.flags result.1) result.0.known }
+    ensures lacks { IsShortage call.now.table.now.about lane.known call.now.map result.1
+        result.0.known }
+    ensures noted { CallNotes call.now.table.now.about (Update call.now.map
+        call.now.request.key.now call.now.request.value.now call.now.request.flags result.1)
         lane.known result.0.known }
-    ensures spilled { IfSome result.2 (λ s. (result.1 ≡ Done) × LockedLast map s lane.known result.0.known) }
-    ensures arena { Searches table.now.about map arena.new }
-    ensures batches { AreBatchesOf table.now.about result.0.known map batches.new }
+    ensures spilled { IfSome result.2 (λ s. (result.1 ≡ Done) × LockedLast call.now.map s
+        lane.known result.0.known) }
+    ensures arena { Searches call.now.table.now.about call.now.map arena.new }
+    ensures batches { AreBatchesOf call.now.table.now.about result.0.known call.now.map
+        batches.new }
 {
+    let UpdateCall { table, map, .. } = *call;
+    let flags = call.request.flags;
+    remember(call.request.value);
     let mut lane = lane;
     if flags > 2 {
-        lane.see_count_misflagged(table, map, key, value, flags);
+        lane.see_count_misflagged(table, map, &call.request);
         return (lane, MapAnswer::Invalid, None);
     }
     match claim_free(table, &mut lane, arena, batches) {
         None => {
-            let (lane, answer) = lock_and_refuse(rt, table, lane, map, key, value, flags);
+            let (lane, answer) = lock_and_refuse(call, lane);
             (lane, answer, None)
         }
-        Some(element) => fill_and_put(
-            rt, table, lane, expected, arena, batches, element, map, key, value, flags,
-        ),
+        Some(element) => fill_and_put(call, lane, expected, arena, batches, element),
     }
 }

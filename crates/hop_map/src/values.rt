@@ -12,7 +12,7 @@ ghost use Rattle.hop_map.specs.Noting.{CallNotes};
 use crate::port::HopPort;
 use crate::reaching::{change_part, change_word, load, store_part, store_word};
 use bpf_shared::{AtomicOp, Size, ValuePlace};
-use hop_words::HopTable;
+use hop_words::{HopTable, Operation};
 use std::sync::Wait;
 
 impl HopPort {
@@ -113,9 +113,7 @@ impl HopPort {
         table: &HopTable,
         at: ValuePlace,
         size: Size,
-        op: AtomicOp,
-        operand: u64,
-        expected: u64,
+        operation: Operation,
     ) -> u64
         requires fits { IsPortOf table.now self.old }
         requires in_run { runs self.old ≡ true }
@@ -124,15 +122,16 @@ impl HopPort {
         requires wide { 4 ≤ bytes_in size }
         ensures in_run { runs self.new ≡ true }
         ensures changed { PortDoes table.now.about self.old
-            (Atomic at.at size op operand expected result) self.new }
+            (Atomic at.at size operation.op operation.operand operation.expected result) self.new }
         ensures noted { CallNotes table.now.about
-            (Atomic at.at size op operand expected result) self.old.known self.new.known }
+            (Atomic at.at size operation.op operation.operand operation.expected result)
+            self.old.known self.new.known }
         ensures small { result < modulus (bytes_in size) }
         ensures fits { IsPortOf table.now self.new }
     {
         let Some(lane) = &mut self.lane else {
             unreachable!()
         };
-        change_part(rt, table, lane, at, size, op, operand, expected)
+        change_part(rt, table, lane, at, size, operation)
     }
 }

@@ -8,7 +8,7 @@ mod texts;
 
 use bpf_cpu::{Fault, Input, Job, Outcome};
 use bpf_loader::{Named, Program, load};
-use bpf_sched::{Gate, NoGate, Refused, Report, SchedError, run_jobs};
+use bpf_sched::{Asked, Gate, NoGate, Refused, Report, SchedError, run_jobs};
 use bpf_shared::{MapShape, StoreShape};
 use bpf_text::assemble;
 use hop_map::{Closed, HopStore};
@@ -48,6 +48,13 @@ fn store(alloc: Global, cpus: u64, spares: &[u64]) -> Result<HopStore, Fail> {
     Ok(HopStore::new(alloc, StoreShape::new(cpus, maps)?, 0)?)
 }
 
+// Programs, and jobs by their CPUs and the numbers of their programs.
+#[derive(Clone, Copy)]
+struct Given<'a> {
+    programs: &'a [Program],
+    list: &'a [(u8, usize)],
+}
+
 // Jobs by their CPUs and programs, of which there are n.
 fn jobs(alloc: Global, list: &[(u8, usize)], programs: usize) -> Result<Vec<Job>, Fail>
     ensures programs { IfOk result (λ v. All (λ job. job.program < programs) v.items) }
@@ -73,13 +80,20 @@ fn run<R: Threads + Wait + Sync, G: Gate + Sync>(
     rt: &R,
     alloc: Global,
     store: HopStore,
-    programs: &[Program],
-    list: &[(u8, usize)],
+    given: Given<'_>,
     workers: usize,
     gate: &G,
 ) -> Result<Result<Report, Refused>, Fail> {
+    let Given { programs, list } = given;
     let jobs = jobs(alloc, list, programs.len())?;
-    Ok(run_jobs(rt, alloc, store, programs, &jobs, workers, false, gate))
+    let asked = Asked {
+        programs,
+        jobs: &jobs,
+        workers,
+        keys: false,
+        gate,
+    };
+    Ok(run_jobs(rt, alloc, store, &asked))
 }
 
 // The report, where there is one.
@@ -114,7 +128,11 @@ fn a_kept_address_is_of_no_use_in_a_later_run(rt: HostRuntime) -> Result<(), Fai
     for workers in [1, 2, 16] {
         let store = store(rt.alloc(), 1, &[0, 0])?;
         let list = [(0, 0), (0, 1)];
-        let report = reported(run(&rt, rt.alloc(), store, &programs, &list, workers, &NoGate)?)?;
+        let given = Given {
+            programs: &programs,
+            list: &list,
+        };
+        let report = reported(run(&rt, rt.alloc(), store, given, workers, &NoGate)?)?;
         let ends = [Outcome::Exit(0), Outcome::Fault(Fault::BadAddress, 7)];
         assert!(rt;
             report.outcomes.as_slice() == ends.as_slice(),
@@ -130,7 +148,11 @@ fn no_run_begins_on_a_worn_counter(rt: HostRuntime) -> Result<(), Fail> {
     let shape = StoreShape::new(2, vec![in rt.alloc(); shape(1)]?)?;
     let store = HopStore::aged(rt.alloc(), shape, 0, 0, u64::MAX - 1)?;
     let list = [(0, 0), (1, 0), (0, 0)];
-    let report = reported(run(&rt, rt.alloc(), store, &programs, &list, 2, &NoGate)?)?;
+    let given = Given {
+        programs: &programs,
+        list: &list,
+    };
+    let report = reported(run(&rt, rt.alloc(), store, given, 2, &NoGate)?)?;
     let ends = [Outcome::Fault(Fault::Worn, 0); 3];
     assert!(rt; report.outcomes.as_slice() == ends.as_slice());
     Ok(())
@@ -143,7 +165,11 @@ fn the_last_run_of_a_counter_is_made(rt: HostRuntime) -> Result<(), Fail> {
     let shape = StoreShape::new(1, vec![in rt.alloc(); shape(1)]?)?;
     let store = HopStore::aged(rt.alloc(), shape, 0, 0, u64::MAX - 3)?;
     let list = [(0, 0), (0, 0)];
-    let report = reported(run(&rt, rt.alloc(), store, &programs, &list, 1, &NoGate)?)?;
+    let given = Given {
+        programs: &programs,
+        list: &list,
+    };
+    let report = reported(run(&rt, rt.alloc(), store, given, 1, &NoGate)?)?;
     let ends = [Outcome::Exit(0), Outcome::Fault(Fault::Worn, 0)];
     assert!(rt; report.outcomes.as_slice() == ends.as_slice());
     assert!(rt; has_only(rt.alloc(), &report.closed, 1_000)?);
@@ -156,7 +182,11 @@ fn two_cpus_add_to_one_value(rt: HostRuntime) -> Result<(), Fail> {
     for workers in [1, 2, 16] {
         let store = store(rt.alloc(), 2, &[1])?;
         let list = [(0, 0), (1, 0)];
-        let report = reported(run(&rt, rt.alloc(), store, &programs, &list, workers, &NoGate)?)?;
+        let given = Given {
+            programs: &programs,
+            list: &list,
+        };
+        let report = reported(run(&rt, rt.alloc(), store, given, workers, &NoGate)?)?;
         let ends = [Outcome::Exit(0); 2];
         assert!(rt;
             report.outcomes.as_slice() == ends.as_slice(),
@@ -180,15 +210,11 @@ fn given_up<R: Threads + Wait + Sync>(
     let programs = programs(alloc, &[ADD])?;
     let store = store(alloc, 2, &[1])?;
     let gate = Meeting::new(turns);
-    let report = reported(run(
-        rt,
-        alloc,
-        store,
-        &programs,
-        &[(0, 0), (1, 0)],
-        workers,
-        &gate,
-    )?)?;
+    let given = Given {
+        programs: &programs,
+        list: &[(0, 0), (1, 0)],
+    };
+    let report = reported(run(rt, alloc, store, given, workers, &gate)?)?;
     if has_only(alloc, &report.closed, 2_000)? {
         Ok(gate.given_up())
     } else {
@@ -220,12 +246,20 @@ fn a_refused_store_still_answers(rt: HostRuntime) -> Result<(), Fail> {
     ];
     for (workers, error) in refusals {
         let list = [(0, 0), (3, 0)];
-        let answer = refused(run(&rt, rt.alloc(), store, &programs, &list, workers, &NoGate)?)?;
+        let given = Given {
+            programs: &programs,
+            list: &list,
+        };
+        let answer = refused(run(&rt, rt.alloc(), store, given, workers, &NoGate)?)?;
         assert!(rt; answer.0 == error, "with {workers} workers");
         store = answer.1;
     }
     let list = [(1, 0)];
-    let report = reported(run(&rt, rt.alloc(), store, &programs, &list, 2, &NoGate)?)?;
+    let given = Given {
+        programs: &programs,
+        list: &list,
+    };
+    let report = reported(run(&rt, rt.alloc(), store, given, 2, &NoGate)?)?;
     assert!(rt; report.outcomes.as_slice() == [Outcome::Exit(0)].as_slice());
     assert!(rt; has_only(rt.alloc(), &report.closed, 1_000)?);
     Ok(())

@@ -9,7 +9,7 @@ use crate::stores::{a_map, new_ports, pop_port};
 use crate::threads::{meet, put_zeros};
 use bpf_shared::{KeyList, MapAnswer, MapShape};
 use hop_map::HopPort;
-use hop_words::HopTable;
+use hop_words::{HopTable, Request};
 use std::alloc::{AllocError, Global};
 use std::sync::Wait;
 use std::sync::atomic::AtomicU64;
@@ -109,7 +109,12 @@ fn put_wide<R: Wait>(rt: &R, table: &HopTable, port: &mut HopPort, keys: u32) ->
     port.begin(table)?;
     'keys: for place in 0..keys {
         let key = wide_key(keys - 1 - place);
-        if port.update(rt, table, 0, &key, &[0; 8], 1) != MapAnswer::Done {
+        let request = Request {
+            key: &key,
+            value: &[0; 8],
+            flags: 1,
+        };
+        if port.update(rt, table, 0, &request) != MapAnswer::Done {
             return Err(Fail::new("no place for a key"));
         }
     }

@@ -7,8 +7,8 @@ use bpf_shared::MapAnswer;
 use hop_arena::Arena;
 use hop_epoch::{Batches, begin_run};
 use hop_layout::{About, home};
-use hop_map::update;
-use hop_words::{HopTable, Lane, Lanes};
+use hop_map::{UpdateCall, update};
+use hop_words::{HopTable, Lane, Lanes, Request};
 use std::alloc::Global;
 use std::sync::Wait;
 use std::sync::atomic::{AtomicU64, Ordering};
@@ -76,18 +76,17 @@ fn first_update<R: Wait>(rt: &R, table: &HopTable, lane: Lane, key: u32) -> Opti
     }
     let mut expected = 0;
     let key = key.to_le_bytes();
-    let (_lane, answer, _spilled) = update(
+    let call = UpdateCall {
         rt,
         table,
-        lane,
-        &mut expected,
-        &mut arena,
-        &mut batches,
-        0,
-        &key,
-        &[7; 8],
-        1,
-    );
+        map: 0,
+        request: Request {
+            key: &key,
+            value: &[7; 8],
+            flags: 1,
+        },
+    };
+    let (_lane, answer, _spilled) = update(&call, lane, &mut expected, &mut arena, &mut batches);
     Some(answer)
 }
 

@@ -12,7 +12,7 @@ use crate::threads::meet;
 use bpf_shared::{MapAnswer, Shared, Size, ValuePlace};
 use hop_cpu::HopCpu;
 use hop_map::{Growth, HopPort};
-use hop_words::HopTable;
+use hop_words::{HopTable, Request};
 use std::alloc::{AllocError, Global};
 use std::sync::Wait;
 use std::sync::atomic::{AtomicU64, Ordering};
@@ -162,7 +162,12 @@ fn put_unsplit<R: Wait>(
     }
     port.begin(table)?;
     'keys: for key in 0..keys {
-        if port.update(rt, table, 0, &key.to_le_bytes(), &[0; 8], 1) != MapAnswer::Done {
+        let request = Request {
+            key: &key.to_le_bytes(),
+            value: &[0; 8],
+            flags: 1,
+        };
+        if port.update(rt, table, 0, &request) != MapAnswer::Done {
             return Err(Fail::new("no place for a key"));
         }
     }

@@ -11,6 +11,7 @@ ghost use Rattle.hop_words.specs.Touching.{TouchesFixed, ChangesFixed, ChangesFi
 
 use crate::lane::Lane;
 use crate::table::HopTable;
+use crate::touching::Operation;
 use bpf_shared::{AtomicOp, Size};
 use hop_layout::Place;
 use std::marker::Brand;
@@ -105,9 +106,7 @@ impl Lane {
         &mut self,
         table: &HopTable,
         part: FixedPart,
-        op: AtomicOp,
-        operand: u64,
-        expected: u64,
+        operation: Operation,
         old: u64,
         new: u64,
     ) -> u64
@@ -115,12 +114,13 @@ impl Lane {
         requires changes { ChangesFixed table.now.about self.old.known part }
         requires splices { low_bytes 8 new
             ≡ with_part (low_bytes 8 old) part.offset
-            (low_bytes (bytes_in part.size) (number_after op (bytes_in part.size)
-            (found_fixed part old) operand expected)) }
+            (low_bytes (bytes_in part.size) (number_after operation.op (bytes_in part.size)
+            (found_fixed part old) operation.operand operation.expected)) }
         ensures table { self.new.table ≡ self.old.table }
         ensures made { result ≡ old
             → AddsEvent table.now.about self.old.known
-            (Atomic (fixed_part_address part) part.size op operand expected
+            (Atomic (fixed_part_address part) part.size operation.op operation.operand
+            operation.expected
             (found_fixed part old)) self.new.known }
         ensures missed { result ≢ old → self.new.known ≡ self.old.known }
     {
@@ -128,8 +128,7 @@ impl Lane {
             array: part.array,
             word: part.word,
         };
-        let said = (part, op, operand, expected);
-        self.exchange_by::<Brand, _>(table, place, old, new, said)
+        self.exchange_by::<Brand, _>(table, place, old, new, (part, operation))
     }
 
     /// Makes an atomic operation on a whole word, by one step, and answers the word found.

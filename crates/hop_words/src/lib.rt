@@ -19,11 +19,13 @@ mod table;
 mod touching;
 mod walking;
 
+pub use answering::Request;
 pub use closing::{Rest, Returned};
 pub use dealing::Lanes;
 pub use fixed::FixedPart;
 pub use known::{Change, Fresh, Known, Limbo, Lock, Peek, Reading, Sight, View};
 pub use lane::Lane;
+pub use locking::Stamped;
 pub use table::{HopTable, OneRule};
-pub use touching::ValuePart;
+pub use touching::{Operation, ValuePart};
 pub use walking::{Way, towards};

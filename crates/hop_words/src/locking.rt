@@ -12,6 +12,14 @@ use crate::table::HopTable;
 use hop_layout::Place;
 use std::marker::Brand;
 
+/// A segment of a map, and its stamp.
+#[derive(Clone, Copy)]
+pub struct Stamped {
+    pub map: u8,
+    pub segment: u32,
+    pub stamp: u64,
+}
+
 impl Lane {
     /// A segment's stamp, of which nothing is known later but that it was looked at.
     pub fn look_at_stamp(&mut self, table: &HopTable, map: u8, segment: u32) -> u64

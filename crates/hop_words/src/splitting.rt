@@ -9,6 +9,7 @@ ghost use Rattle.hop_words.specs.Guarded.{IsGuardedBeside, IsWordBeside, IsStamp
 ghost use Rattle.hop_words.specs.Sights.{sighted, split_made};
 
 use crate::lane::Lane;
+use crate::locking::Stamped;
 use crate::table::HopTable;
 use hop_layout::Place;
 use std::marker::Brand;
@@ -56,27 +57,24 @@ impl Lane {
 
     /// Unlocks a segment with one depth more, and with it the child is born that was written beside
     /// it.
-    pub fn publish_split(
-        &mut self,
-        table: &HopTable,
-        map: u8,
-        segment: u32,
-        stamp: u64,
-        child_stamp: u64,
-    )
+    pub fn publish_split(&mut self, table: &HopTable, at: Stamped, child_stamp: u64)
         requires table { self.old.table ≡ table.now.id }
-        requires inside { IsSegment table.now.about map segment }
-        requires lock { HasLock self.old.known map segment }
-        requires stamp { stamp ≡ (lock_of self.old.known).stamp }
-        requires fits { stamp + 258 < 2 ^ 64 }
+        requires inside { IsSegment table.now.about at.map at.segment }
+        requires lock { HasLock self.old.known at.map at.segment }
+        requires stamp { at.stamp ≡ (lock_of self.old.known).stamp }
+        requires fits { at.stamp + 258 < 2 ^ 64 }
         requires splits { Splits table.now.about self.old.known (lock_of self.old.known)
             child_stamp }
         ensures table { self.new.table ≡ self.old.table }
         ensures unlocked { self.new.known
-            ≡ sighted (unlocking self.old.known) (split_made map segment stamp) }
+            ≡ sighted (unlocking self.old.known) (split_made at.map at.segment at.stamp) }
     {
         let _child = child_stamp;
-        let place = Place::Stamp { map, segment };
-        self.split_noted::<Brand, _>(table, place, stamp + 258, (map, segment, stamp));
+        let place = Place::Stamp {
+            map: at.map,
+            segment: at.segment,
+        };
+        let said = (at.map, at.segment, at.stamp);
+        self.split_noted::<Brand, _>(table, place, at.stamp + 258, said);
     }
 }

@@ -26,6 +26,14 @@ pub struct ValuePart {
     pub size: Size,
 }
 
+/// An atomic operation, with the number that a compare-exchange expects.
+#[derive(Clone, Copy, Drop)]
+pub struct Operation {
+    pub op: AtomicOp,
+    pub operand: u64,
+    pub expected: u64,
+}
+
 impl Lane {
     /// The word that the bytes lie in, of which nothing is known later. It is no event, and isn't
     /// noted: so only a caller that may wait can make it.
@@ -110,9 +118,7 @@ impl Lane {
         &mut self,
         table: &HopTable,
         part: ValuePart,
-        op: AtomicOp,
-        operand: u64,
-        expected: u64,
+        operation: Operation,
         old: u64,
         new: u64,
     ) -> u64
@@ -120,12 +126,13 @@ impl Lane {
         requires touches { TouchesPart table.now.about self.old.known part }
         requires splices { low_bytes 8 new
             ≡ with_part (low_bytes 8 old) part.offset
-            (low_bytes (bytes_in part.size) (number_after op (bytes_in part.size)
-            (found_part part old) operand expected)) }
+            (low_bytes (bytes_in part.size) (number_after operation.op (bytes_in part.size)
+            (found_part part old) operation.operand operation.expected)) }
         ensures table { self.new.table ≡ self.old.table }
         ensures made { result ≡ old
             → AddsEvent table.now.about self.old.known
-            (Atomic (part_address table.now.about part) part.size op operand expected
+            (Atomic (part_address table.now.about part) part.size operation.op operation.operand
+            operation.expected
             (found_part part old)) self.new.known }
         ensures missed { result ≢ old → self.new.known ≡ self.old.known }
     {
@@ -134,8 +141,7 @@ impl Lane {
             element: part.element,
             word: part.word,
         };
-        let said = (part, op, operand, expected);
-        self.exchange_by::<Brand, _>(table, place, old, new, said)
+        self.exchange_by::<Brand, _>(table, place, old, new, (part, operation))
     }
 
     /// Makes an atomic operation on a whole word, by one step, and answers the word found.

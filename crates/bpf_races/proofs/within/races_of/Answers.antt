@@ -6,9 +6,10 @@ use Rattle.bpf_races.proofs.within.races_of.Goals as goal
 
 pub loop-cpu-init : goal.loop-cpu-init
 loop-cpu-init c =
-    let m = c.args.machine.now in
-    subst (λ (xs : List RaceFound). UpTo m c.args.sync.now c.args.nexts.now 0 0 xs) (sym c.new-races.ensures.items)
-    (none_yet m c.args.sync.now c.args.nexts.now)
+    let m = c.args.situation.now.machine.now in
+    subst (λ (xs : List RaceFound). UpTo m c.args.situation.now.sync.now c.args.situation.now.nexts.now 0 0 xs) (sym c.new-races.ensures.items)
+    (none_yet m c.args.situation.now.sync.now c.args.situation.now.nexts.now)
 
 pub returns : goal.returns
-returns c = all_passed c.args.machine.now c.args.sync.now c.args.nexts.now c.loop-cpu.cpu c.loop-cpu.races.items (omega arith) c.requires c.loop-cpu.invariant
+returns c = all_passed c.args.situation.now.machine.now c.args.situation.now.sync.now c.args.situation.now.nexts.now c.loop-cpu.cpu
+    c.loop-cpu.races.items (omega arith) c.requires c.loop-cpu.invariant

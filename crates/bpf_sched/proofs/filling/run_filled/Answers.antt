@@ -11,6 +11,7 @@ err_of (Err f) e P h same = subst P (sym same) h
 pub returns-in_err-check-clause-refused : goal.returns-in_err-check-clause-refused
 returns-in_err-check-clause-refused g c =
     let has : c.cpus-cpus.result ≡ c.args.store.table.about.shape.cpus = c.cpus-cpus.ensures.cpus ∙ ap (λ (a : About). a.shape.cpus) c.about.ensures in
-    err_of c.from_residual.result c.in_err-check.field-0.0 (IsFirstSchedError c.args.store.table.about.shape.cpus c.args.workers c.args.jobs.now)
-    (subst (λ (n : ℕ). IsFirstSchedError n c.args.workers c.args.jobs.now c.in_err-check.field-0.0) has c.in_err-check.ensures.refused)
+    err_of c.from_residual.result c.in_err-check.field-0.0 (IsFirstSchedError c.args.store.table.about.shape.cpus c.args.asked.now.workers
+    c.args.asked.now.jobs.now)
+    (subst (λ (n : ℕ). IsFirstSchedError n c.args.asked.now.workers c.args.asked.now.jobs.now c.in_err-check.field-0.0) has c.in_err-check.ensures.refused)
     c.from_residual.ensures.1

@@ -11,9 +11,9 @@ returns c last known same =
     let text = string_bytes c.in_ok-text.text in
     let both = string_bytes c.push_str.new.self in
     let names = names_of c.args.names.now in
-    let lists = listed_by c.args.lists.now in
+    let lists = listed_by c.args.ended.now.lists.now in
     let cpus = c.args.left.shape.now.cpus in
-    told c.args.jobs.now c.args.ends.now last names c.args.maps text (list_lines lists names.maps cpus)
+    told c.args.ended.now.jobs.now c.args.ended.now.ends.now last names c.args.maps text (list_lines lists names.maps cpus)
     (string_bytes c.in_ok-keys.keys) (string_bytes c.in_ok-lines.lines) both (string_bytes c.push_str-2.new.self) c.has_stopped-stopped.result
     c.requires (c.in_ok-lines.ensures last known same) c.in_ok-text.ensures
     (c.in_ok-keys.ensures ∙ (ap (λ (ns : List (String Global)). list_lines lists (map string_bytes ns) c.cpus.result) c.deref.ensures.value

@@ -4,7 +4,8 @@ use Rattle.hop_cpu.proofs.growing.update_growing.Goals as goal
 
 pub returns-clause-answered : goal.returns-clause-answered
 returns-clause-answered g c = does_on c.args.table.now.about c.args.map c.args.port.now c.update-answer.new.self c.grow.new.port
-    c.grow.ensures.grows (Update c.args.map c.args.key.now c.args.value.now c.args.flags c.update-answer.result) c.update-answer.ensures.answered
+    c.grow.ensures.grows (Update c.args.map c.args.request.now.key.now c.args.request.now.value.now c.args.request.now.flags
+    c.update-answer.result) c.update-answer.ensures.answered
 
 pub returns-clause-in_run : goal.returns-clause-in_run
 returns-clause-in_run g c = runs_on c.args.table.now.about c.args.map c.args.port.now c.update-answer.new.self c.grow.new.port
@@ -12,7 +13,7 @@ returns-clause-in_run g c = runs_on c.args.table.now.about c.args.map c.args.por
 
 pub returns-clause-noted : goal.returns-clause-noted
 returns-clause-noted g c = notes_on c.args.table.now.about c.args.map c.args.port.now c.update-answer.new.self c.grow.new.port
-    c.grow.ensures.grows c.args.key.now c.args.value.now c.args.flags c.update-answer.result c.update-answer.ensures.spilled
+    c.grow.ensures.grows c.args.request.now.key.now c.args.request.now.value.now c.args.request.now.flags c.update-answer.result c.update-answer.ensures.spilled
     c.update-answer.ensures.noted
 
 pub returns-clause-tried : goal.returns-clause-tried

@@ -20,17 +20,17 @@ pub lock_and_delete-lane-requires-clause-names : goal.lock_and_delete-lane-requi
 lock_and_delete-lane-requires-clause-names g c =
     let l = c.args.lane.known in
     record {
-      size = (key_at_map c.args.table.now.about c.args.map c.args.key.now c.requires.key).1;
+      size = (key_at_map c.args.call.now.table.now.about c.args.call.now.map c.args.call.now.key.now c.requires.key).1;
       limbo = subst (λ (i : ℕ). i < length l.limbo) c.requires.batches.0 c.requires.batches.1.room;
       runs = c.requires.runs;
     }
 
 pub returns-in-Gone-clause-called : goal.returns-in-Gone-clause-called
 returns-in-Gone-clause-called g c =
-    let a = c.args.table.now.about in
+    let a = c.args.call.now.table.now.about in
     let l = c.args.lane.known in
-    let m = c.args.map in
-    let key = c.args.key.now in
+    let m = c.args.call.now.map in
+    let key = c.args.call.now.key.now in
     let l2 = c.lock_and_delete-lane.result.0.known in
     let room : m < length l.limbo = subst (λ (i : ℕ). i < length l.limbo) c.requires.batches.0 c.requires.batches.1.room in
     let k = lock_taken m c.lock_and_delete-lane.ensures.ends.0 c.lock_and_delete-lane.ensures.ends.1 in
@@ -42,10 +42,10 @@ returns-in-Gone-clause-called g c =
 
 pub returns-in-Missing-clause-called : goal.returns-in-Missing-clause-called
 returns-in-Missing-clause-called g c =
-    let a = c.args.table.now.about in
+    let a = c.args.call.now.table.now.about in
     let l = c.args.lane.known in
-    let m = c.args.map in
-    let key = c.args.key.now in
+    let m = c.args.call.now.map in
+    let key = c.args.call.now.key.now in
     let l2 = c.lock_and_delete-lane.result.0.known in
     let k = lock_taken m c.lock_and_delete-lane.ensures.ends.0 c.lock_and_delete-lane.ensures.ends.1 in
     let p : Kept a (locked_with l k) m key Absent l2 = subst (λ (d : Deletion). DeleteEnds a (locked_with l k) m key d l2) c.in-Missing.is
@@ -54,10 +54,10 @@ returns-in-Missing-clause-called g c =
 
 pub returns-in-Worn-clause-called : goal.returns-in-Worn-clause-called
 returns-in-Worn-clause-called g c =
-    let a = c.args.table.now.about in
+    let a = c.args.call.now.table.now.about in
     let l = c.args.lane.known in
-    let m = c.args.map in
-    let key = c.args.key.now in
+    let m = c.args.call.now.map in
+    let key = c.args.call.now.key.now in
     let l2 = c.lock_and_delete-lane.result.0.known in
     let k = lock_taken m c.lock_and_delete-lane.ensures.ends.0 c.lock_and_delete-lane.ensures.ends.1 in
     let p : Kept a (locked_with l k) m key Busy l2 × (2 ^ 56 - 1 ≤ a.version + gained (shape_at a m) + done_in m l2.seen) = subst
@@ -66,10 +66,10 @@ returns-in-Worn-clause-called g c =
 
 pub returns-in-Gone-clause-noted : goal.returns-in-Gone-clause-noted
 returns-in-Gone-clause-noted g c =
-    let a = c.args.table.now.about in
+    let a = c.args.call.now.table.now.about in
     let l = c.args.lane.known in
-    let m = c.args.map in
-    let key = c.args.key.now in
+    let m = c.args.call.now.map in
+    let key = c.args.call.now.key.now in
     let ends = c.lock_and_delete-lane.ensures.ends in
     let l2 = c.lock_and_delete-lane.result.0.known in
     let k = lock_taken m ends.0 ends.1 in
@@ -81,10 +81,10 @@ returns-in-Gone-clause-noted g c =
 
 pub returns-in-Missing-clause-noted : goal.returns-in-Missing-clause-noted
 returns-in-Missing-clause-noted g c =
-    let a = c.args.table.now.about in
+    let a = c.args.call.now.table.now.about in
     let l = c.args.lane.known in
-    let m = c.args.map in
-    let key = c.args.key.now in
+    let m = c.args.call.now.map in
+    let key = c.args.call.now.key.now in
     let ends = c.lock_and_delete-lane.ensures.ends in
     let l2 = c.lock_and_delete-lane.result.0.known in
     let k = lock_taken m ends.0 ends.1 in
@@ -94,10 +94,10 @@ returns-in-Missing-clause-noted g c =
 
 pub returns-in-Worn-clause-noted : goal.returns-in-Worn-clause-noted
 returns-in-Worn-clause-noted g c =
-    let a = c.args.table.now.about in
+    let a = c.args.call.now.table.now.about in
     let l = c.args.lane.known in
-    let m = c.args.map in
-    let key = c.args.key.now in
+    let m = c.args.call.now.map in
+    let key = c.args.call.now.key.now in
     let ends = c.lock_and_delete-lane.ensures.ends in
     let l2 = c.lock_and_delete-lane.result.0.known in
     let k = lock_taken m ends.0 ends.1 in

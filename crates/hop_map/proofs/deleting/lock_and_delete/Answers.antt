@@ -6,7 +6,7 @@ use Rattle.hop_map.proofs.deleting.lock_and_delete.Goals as goal
 
 pub new-words-requires : goal.new-words-requires
 new-words-requires g c = record {
-  fits = empty_fits _ _ c.args.table.now.about c.args.lane.known c.args.map c.lock_home-taken.result.segment
+  fits = empty_fits _ _ c.args.call.now.table.now.about c.args.lane.known c.args.call.now.map c.lock_home-taken.result.segment
       c.lock_home-taken.result.stamp _ _ c.lock_home-taken.ensures.taken.inside c.lock_home-taken.new.lane.known
       c.lock_home-taken.ensures.taken.locked c.requires.empty c.requires.idle (c.lock_home-taken.ensures.table ∙ c.requires.table)
       c.homing-at.ensures.key c.homing-at.ensures.small c.homing-at.ensures.elements;
@@ -16,29 +16,29 @@ pub delete_key-requires-clause-contents : goal.delete_key-requires-clause-conten
 delete_key-requires-clause-contents g c =
     let made = c.new-words.ensures in
     of_words c.new-words.result _ _ _ _ made.about made.known made.map made.segment LockShows
-    (locked_contents c.args.table.now.about c.args.lane.known c.args.map c.lock_home-taken.result.segment c.lock_home-taken.result.stamp
+    (locked_contents c.args.call.now.table.now.about c.args.lane.known c.args.call.now.map c.lock_home-taken.result.segment c.lock_home-taken.result.stamp
     c.lock_home-taken.ensures.taken.inside c.lock_home-taken.new.lane.known c.lock_home-taken.ensures.taken.locked)
 
 pub delete_key-requires-clause-names : goal.delete_key-requires-clause-names
 delete_key-requires-clause-names g c =
     let made = c.new-words.ensures in
-    of_words c.new-words.result _ _ _ _ made.about made.known made.map made.segment (λ a l m s. NamesKey a l m s c.args.key.now)
-    (locked_names c.args.table.now.about c.args.lane.known c.args.map c.lock_home-taken.result.segment c.lock_home-taken.result.stamp
-    c.args.key.now c.lock_home-taken.new.lane.known c.lock_home-taken.ensures.taken.locked c.requires.names
-    (taken_home c.args.table.now.about c.args.lane.known c.args.map c.lock_home-taken.result.segment c.lock_home-taken.result.stamp
-    c.homing-at.result.home c.args.key.now c.lock_home-taken.new.lane.known c.homing-at.ensures.home c.lock_home-taken.ensures.taken))
+    of_words c.new-words.result _ _ _ _ made.about made.known made.map made.segment (λ a l m s. NamesKey a l m s c.args.call.now.key.now)
+    (locked_names c.args.call.now.table.now.about c.args.lane.known c.args.call.now.map c.lock_home-taken.result.segment c.lock_home-taken.result.stamp
+    c.args.call.now.key.now c.lock_home-taken.new.lane.known c.lock_home-taken.ensures.taken.locked c.requires.names
+    (taken_home c.args.call.now.table.now.about c.args.lane.known c.args.call.now.map c.lock_home-taken.result.segment c.lock_home-taken.result.stamp
+    c.homing-at.result.home c.args.call.now.key.now c.lock_home-taken.new.lane.known c.homing-at.ensures.home c.lock_home-taken.ensures.taken))
 
 pub returns-clause-ends : goal.returns-clause-ends
 returns-clause-ends g c =
     let made = c.new-words.ensures in (
       c.lock_home-taken.result.segment,
       c.lock_home-taken.result.stamp,
-      taken_own c.args.table.now.about c.args.lane.known c.args.map c.lock_home-taken.result.segment c.lock_home-taken.result.stamp
-          c.homing-at.result.home c.args.key.now c.lock_home-taken.new.lane.known c.homing-at.ensures.home c.lock_home-taken.ensures.taken,
-      delete_before c.args.table.now.about c.args.lane.known c.args.map c.lock_home-taken.result.segment c.lock_home-taken.result.stamp
-          c.args.key.now c.lock_home-taken.new.lane.known c.lock_home-taken.ensures.taken.locked c.requires.idle c.delete_key.result.1
+      taken_own c.args.call.now.table.now.about c.args.lane.known c.args.call.now.map c.lock_home-taken.result.segment c.lock_home-taken.result.stamp
+          c.homing-at.result.home c.args.call.now.key.now c.lock_home-taken.new.lane.known c.homing-at.ensures.home c.lock_home-taken.ensures.taken,
+      delete_before c.args.call.now.table.now.about c.args.lane.known c.args.call.now.map c.lock_home-taken.result.segment c.lock_home-taken.result.stamp
+          c.args.call.now.key.now c.lock_home-taken.new.lane.known c.lock_home-taken.ensures.taken.locked c.requires.idle c.delete_key.result.1
           c.delete_key.result.0.known
           (of_parts c.new-words.result _ _ _ _ made.about made.known made.map made.segment
-          (λ a l m s. DeleteEnds a l m c.args.key.now c.delete_key.result.1 c.delete_key.result.0.known) c.delete_key.ensures.ends),
+          (λ a l m s. DeleteEnds a l m c.args.call.now.key.now c.delete_key.result.1 c.delete_key.result.0.known) c.delete_key.ensures.ends),
       c.delete_key.ensures.order,
     )

@@ -28,6 +28,6 @@ drop_key-lane-requires-clause-there c =
 
 pub unlock_delete-requires-clause-answers : goal.unlock_delete-requires-clause-answers
 unlock_delete-requires-clause-answers c =
-    let last = c.if-stamp-ge-WORN.true in
+    let last = c.if-lock-ge-WORN.true in
     let is = c.requires.stamp in
     worn_answers c.args.words c.args.key.now c.requires.contents c.requires.names (omega arith)

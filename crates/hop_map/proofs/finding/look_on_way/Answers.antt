@@ -10,7 +10,7 @@ use Rattle.hop_map.proofs.finding.look_on_way.Goals as goal
 pub returns-in-Read-clause-found : goal.returns-in-Read-clause-found
 returns-in-Read-clause-found g c = λ k asks near.
     let a = c.args.table.now.about in
-    let m = c.args.map in
+    let m = c.args.from.map in
     let key = c.args.key.now in
     let y = c.try_on_way-lane.result.0.known in
     let e = subst (λ (t : Tried). TryEnds a k m key t y) c.in-Read.is (c.try_on_way-lane.ensures.ends k asks near) in
@@ -21,7 +21,7 @@ pub look_again-requires-clause-begins : goal.look_again-requires-clause-begins
 look_again-requires-clause-begins g c =
     let (k, asks, near) = c.requires.begins in
     let a = c.args.table.now.about in
-    let m = c.args.map in
+    let m = c.args.from.map in
     let key = c.args.key.now in
     let y = c.try_on_way-lane.result.0.known in (
       k,
@@ -33,7 +33,7 @@ look_again-requires-clause-begins g c =
 pub returns-in-Disturbed-clause-found : goal.returns-in-Disturbed-clause-found
 returns-in-Disturbed-clause-found g c = λ k asks near.
     let a = c.args.table.now.about in
-    let m = c.args.map in
+    let m = c.args.from.map in
     let key = c.args.key.now in
     let y = c.try_on_way-lane.result.0.known in
     c.look_again.ensures.found k asks (tries_more a k m key 0 k (tries_none a k m key) c.in-Disturbed.field-0 c.in-Disturbed.field-1 y

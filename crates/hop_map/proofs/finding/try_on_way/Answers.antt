@@ -16,17 +16,18 @@ walk-lane-requires-clause-idle c =
 pub returns-then-stamp-eq1-clause-ends : goal.returns-then-stamp-eq1-clause-ends
 returns-then-stamp-eq1-clause-ends c = λ l asks near.
     let a = c.args.table.now.about in
-    let m = c.args.map in
+    let m = c.args.from.map in
     let key = c.args.key.now in
     let w = c.walk-lane in
     let walked = w.ensures.walked l near in
-    let way = way_of a m w.result.1 c.args.home key walked.way c.requires.home walked.is_way in
+    let way = way_of a m w.result.1 c.args.from.home key walked.way c.requires.home walked.is_way in
     disturbed_first a l m w.result.1 w.result.2 key asks walked.way way w.result.0.known c.if-stamp-eq1.true (walked.locked c.if-stamp-eq1.true)
 
 pub returns-then-stamp-eq1-clause-loads : goal.returns-then-stamp-eq1-clause-loads
 returns-then-stamp-eq1-clause-loads c = λ l asks near.
     let w = c.walk-lane in
-    loads_stopped c.args.table.now.about l c.args.map c.args.home w.result.1 w.result.2 w.result.0.known (w.ensures.walked l near) c.if-stamp-eq1.true
+    loads_stopped c.args.table.now.about l c.args.from.map c.args.from.home w.result.1 w.result.2 w.result.0.known
+    (w.ensures.walked l near) c.if-stamp-eq1.true
 
 pub read_segment-lane-requires-clause-homed : goal.read_segment-lane-requires-clause-homed
 read_segment-lane-requires-clause-homed c = record {
@@ -45,30 +46,30 @@ read_segment-lane-requires-clause-begins c =
     let w = c.walk-lane in (
       l,
       asks,
-      subst (λ (h : ℕ). Walked c.args.table.now.about l c.args.map h w.result.1 w.result.2 w.result.0.known)
+      subst (λ (h : ℕ). Walked c.args.table.now.about l c.args.from.map h w.result.1 w.result.2 w.result.0.known)
           (sym c.homed-at.ensures.home) (w.ensures.walked l near),
     )
 
 pub returns-then-read-stamp-clause-ends : goal.returns-then-read-stamp-clause-ends
 returns-then-read-stamp-clause-ends c = λ l asks near.
     let w = c.walk-lane in
-    c.read_segment-lane.ensures.other l asks (subst (λ (h : ℕ). Walked c.args.table.now.about l c.args.map h w.result.1 w.result.2
+    c.read_segment-lane.ensures.other l asks (subst (λ (h : ℕ). Walked c.args.table.now.about l c.args.from.map h w.result.1 w.result.2
     w.result.0.known) (sym c.homed-at.ensures.home) (w.ensures.walked l near)) c.if-read-stamp.true
 
 pub returns-then-read-stamp-clause-loads : goal.returns-then-read-stamp-clause-loads
 returns-then-read-stamp-clause-loads c = λ l asks near.
     let w = c.walk-lane in
-    c.read_segment-lane.ensures.loads l asks (subst (λ (h : ℕ). Walked c.args.table.now.about l c.args.map h w.result.1 w.result.2
+    c.read_segment-lane.ensures.loads l asks (subst (λ (h : ℕ). Walked c.args.table.now.about l c.args.from.map h w.result.1 w.result.2
     w.result.0.known) (sym c.homed-at.ensures.home) (w.ensures.walked l near))
 
 pub returns-clause-ends : goal.returns-clause-ends
 returns-clause-ends c = λ l asks near.
     let w = c.walk-lane in
-    c.read_segment-lane.ensures.same l asks (subst (λ (h : ℕ). Walked c.args.table.now.about l c.args.map h w.result.1 w.result.2
+    c.read_segment-lane.ensures.same l asks (subst (λ (h : ℕ). Walked c.args.table.now.about l c.args.from.map h w.result.1 w.result.2
     w.result.0.known) (sym c.homed-at.ensures.home) (w.ensures.walked l near)) c.if-read-stamp.false
 
 pub returns-clause-loads : goal.returns-clause-loads
 returns-clause-loads c = λ l asks near.
     let w = c.walk-lane in
-    c.read_segment-lane.ensures.loads l asks (subst (λ (h : ℕ). Walked c.args.table.now.about l c.args.map h w.result.1 w.result.2
+    c.read_segment-lane.ensures.loads l asks (subst (λ (h : ℕ). Walked c.args.table.now.about l c.args.from.map h w.result.1 w.result.2
     w.result.0.known) (sym c.homed-at.ensures.home) (w.ensures.walked l near))

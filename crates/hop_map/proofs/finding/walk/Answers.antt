@@ -14,8 +14,8 @@ way-init c = record { table = refl; near = λ k t. ([], t); idle = c.requires.id
 pub towards-requires : goal.towards-requires
 towards-requires c =
     let a = c.args.table.now.about in
-    let m = c.args.map in
-    let home = c.args.home in
+    let m = c.args.from.map in
+    let home = c.args.from.home in
     let i = c.way.invariant in
     let b = c.requires.begins in
     let t = i.near b.0 b.1 in
@@ -31,8 +31,8 @@ towards-requires c =
 pub returns-in_default-clause-walked : goal.returns-in_default-clause-walked
 returns-in_default-clause-walked c = λ k begins.
     let a = c.args.table.now.about in
-    let m = c.args.map in
-    let home = c.args.home in
+    let m = c.args.from.map in
+    let home = c.args.from.home in
     let i = c.way.invariant in
     let b = c.requires.begins in
     let t = i.near b.0 b.1 in
@@ -43,8 +43,8 @@ returns-in_default-clause-walked c = λ k begins.
 pub see_stamp-stamp-requires-clause-inside : goal.see_stamp-stamp-requires-clause-inside
 see_stamp-stamp-requires-clause-inside c =
     let a = c.args.table.now.about in
-    let m = c.args.map in
-    let home = c.args.home in
+    let m = c.args.from.map in
+    let home = c.args.from.home in
     let i = c.way.invariant in
     let b = c.requires.begins in
     let t = i.near b.0 b.1 in
@@ -56,8 +56,8 @@ see_stamp-stamp-requires-clause-inside c =
 pub see_stamp-stamp-requires-clause-born : goal.see_stamp-stamp-requires-clause-born
 see_stamp-stamp-requires-clause-born c =
     let a = c.args.table.now.about in
-    let m = c.args.map in
-    let home = c.args.home in
+    let m = c.args.from.map in
+    let home = c.args.from.home in
     let i = c.way.invariant in
     let b = c.requires.begins in
     let t = i.near b.0 b.1 in
@@ -69,8 +69,8 @@ see_stamp-stamp-requires-clause-born c =
 pub returns-then-stamp-eq1-clause-walked : goal.returns-then-stamp-eq1-clause-walked
 returns-then-stamp-eq1-clause-walked c = λ k begins.
     let a = c.args.table.now.about in
-    let m = c.args.map in
-    let home = c.args.home in
+    let m = c.args.from.map in
+    let home = c.args.from.home in
     let i = c.way.invariant in
     let b = c.requires.begins in
     let t = i.near b.0 b.1 in
@@ -84,8 +84,8 @@ returns-then-stamp-eq1-clause-walked c = λ k begins.
 pub way-preserved : goal.way-preserved
 way-preserved c =
     let a = c.args.table.now.about in
-    let m = c.args.map in
-    let home = c.args.home in
+    let m = c.args.from.map in
+    let home = c.args.from.home in
     let i = c.way.invariant in
     let b = c.requires.begins in
     let t = i.near b.0 b.1 in

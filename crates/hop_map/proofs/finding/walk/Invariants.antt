@@ -7,8 +7,9 @@ use Rattle.hop_map.proofs.finding.walk.Given as goal
 abbrev pub invariant-way : goal.invariant-way
 invariant-way l = record {
   table : l.lane.table ≡ l.fn.lane.table;
-  near : (k : Known) → Approaching l.table.about k l.map l.home l.fn.way l.fn.stamp [] l.fn.lane.known → (sights : List Sight) × Approaching
-      l.table.about k l.map l.home l.way l.stamp sights l.lane.known;
+  near : (k : Known) → Approaching l.table.about k l.fn.from.map l.fn.from.home l.fn.from.way l.fn.from.stamp [] l.fn.lane.known →
+      (sights : List Sight) × Approaching
+      l.table.about k l.fn.from.map l.fn.from.home l.way l.stamp sights l.lane.known;
   idle : l.lane.known.locks ≡ [];
   so_far : l._level ≤ l.way.level;
 }

@@ -3,21 +3,20 @@ use Rattle.hop_words.specs.declared.known.Known.{Known}
 use Rattle.hop_words.specs.Sights.{lock_taken}
 use Rattle.hop_map.specs.Call.{SearchesInVain}
 use Rattle.hop_map.specs.Private.Call.{HoldsNew}
-use Rattle.hop_map.proofs.Keys.{are_bytes}
 use Rattle.hop_map.proofs.Wholes.{holds_new, pair_at, kept_runs, lacks_of, searched_on, lock_leaves, saw_all}
 use Rattle.hop_map.proofs.Noted.{update_notes, notes_after, spilled_after}
 use Rattle.hop_map.proofs.updating.update.Goals as goal
 
 pub lock_and_refuse-lane-requires-clause-brought : goal.lock_and_refuse-lane-requires-clause-brought
 lock_and_refuse-lane-requires-clause-brought g c =
-    let a = c.args.table.now.about in
+    let a = c.args.call.now.table.now.about in
     let l1 = c.claim_free.new.lane.known in
-    let pair = pair_at a c.args.map c.args.key.now c.args.value.now c.requires.pair in
+    let pair = pair_at a c.args.call.now.map c.args.call.now.request.key.now c.args.call.now.request.value.now c.requires.pair in
     let batches = c.claim_free.ensures.batches in
     record {
       key_size = pair.1;
       size = pair.2;
-      are_bytes = are_bytes c.args.value.now (λ i. let f = c.type_inv.value i in omega arith);
+      are_bytes = c.remember.ensures;
       flags_known = c.if-flags-gt2.false;
       limbo = subst (λ (i : ℕ). i < length l1.limbo) (batches.0 ∙ c.requires.arena.0) batches.1.room;
       runs = kept_runs c.args.arena.now.map c.args.lane.known l1 c.in-None.ensures.claimed.0 c.requires.runs;
@@ -25,14 +24,15 @@ lock_and_refuse-lane-requires-clause-brought g c =
 
 pub returns-in-Some-clause-lacks : goal.returns-in-Some-clause-lacks
 returns-in-Some-clause-lacks g c =
-    lacks_of c.args.table.now.about c.args.lane.known c.args.map c.fill_and_put.result.1 c.fill_and_put.result.0.known c.fill_and_put.ensures.worn
+    lacks_of c.args.call.now.table.now.about c.args.lane.known c.args.call.now.map c.fill_and_put.result.1 c.fill_and_put.result.0.known
+    c.fill_and_put.ensures.worn
     (λ is. absurd (c.fill_and_put.ensures.served is))
 
 pub returns-in-None-clause-lacks : goal.returns-in-None-clause-lacks
 returns-in-None-clause-lacks g c =
-    let a = c.args.table.now.about in
+    let a = c.args.call.now.table.now.about in
     let l = c.args.lane.known in
-    let m = c.args.map in
+    let m = c.args.call.now.map in
     let l1 = c.claim_free.new.lane.known in
     let l2 = c.lock_and_refuse-lane.result.0.known in
     let s = c.lock_and_refuse-lane.ensures.refused.0 in
@@ -51,33 +51,37 @@ returns-then-flags-gt2-clause-noted g c =
 pub returns-in-Some-clause-noted : goal.returns-in-Some-clause-noted
 returns-in-Some-clause-noted g c =
     let kept = c.in-Some.ensures.claimed.0 in
-    notes_after c.args.table.now.about c.args.lane.known c.claim_free.new.lane.known c.args.map c.args.key.now c.args.value.now c.args.flags
+    notes_after c.args.call.now.table.now.about c.args.lane.known c.claim_free.new.lane.known c.args.call.now.map
+    c.args.call.now.request.key.now c.args.call.now.request.value.now c.args.call.now.request.flags
     c.fill_and_put.result.1 c.fill_and_put.result.0.known kept.sights.0 c.if-flags-gt2.false kept.sights.1 kept.sights.2
     c.fill_and_put.ensures.noted
 
 pub returns-in-None-clause-noted : goal.returns-in-None-clause-noted
 returns-in-None-clause-noted g c =
-    let a = c.args.table.now.about in
-    let m = c.args.map in
-    let key = c.args.key.now in
+    let a = c.args.call.now.table.now.about in
+    let m = c.args.call.now.map in
+    let key = c.args.call.now.request.key.now in
     let l1 = c.claim_free.new.lane.known in
     let l2 = c.lock_and_refuse-lane.result.0.known in
     let answer = c.lock_and_refuse-lane.result.1 in
     let refused = c.lock_and_refuse-lane.ensures.refused in
     let kept = c.in-None.ensures.claimed.0 in
-    notes_after a c.args.lane.known l1 m key c.args.value.now c.args.flags answer l2 kept.sights.0 c.if-flags-gt2.false kept.sights.1 kept.sights.2
+    notes_after a c.args.lane.known l1 m key c.args.call.now.request.value.now c.args.call.now.request.flags answer l2 kept.sights.0
+    c.if-flags-gt2.false kept.sights.1 kept.sights.2
     (update_notes a l1 m key answer l2 refused.0 refused.1 refused.2 [] (ap (λ (q : Known). q.tally) refused.3.after) tt refused.4
-    c.args.value.now c.args.flags c.if-flags-gt2.false)
+    c.args.call.now.request.value.now c.args.call.now.request.flags c.if-flags-gt2.false)
 
 pub lock_and_refuse-lane-requires-clause-lacks : goal.lock_and_refuse-lane-requires-clause-lacks
 lock_and_refuse-lane-requires-clause-lacks g c =
-    saw_all c.args.table.now.about c.args.lane.known c.args.map c.claim_free.new.lane.known (c.in-None.ensures.claimed.0.fresh ∙ c.requires.rests.fresh)
-    (subst (λ (i : ℕ). SearchesInVain c.args.table.now.about c.args.lane.known i c.claim_free.new.lane.known) c.requires.arena.0 c.in-None.ensures.claimed.1)
+    saw_all c.args.call.now.table.now.about c.args.lane.known c.args.call.now.map c.claim_free.new.lane.known
+    (c.in-None.ensures.claimed.0.fresh ∙ c.requires.rests.fresh)
+    (subst (λ (i : ℕ). SearchesInVain c.args.call.now.table.now.about c.args.lane.known i c.claim_free.new.lane.known) c.requires.arena.0
+    c.in-None.ensures.claimed.1)
 
 pub returns-in-Some-clause-spilled : goal.returns-in-Some-clause-spilled
 returns-in-Some-clause-spilled g c =
     let kept = c.in-Some.ensures.claimed.0 in
-    spilled_after c.args.map c.args.lane.known c.claim_free.new.lane.known c.fill_and_put.result.0.known c.fill_and_put.result.1
+    spilled_after c.args.call.now.map c.args.lane.known c.claim_free.new.lane.known c.fill_and_put.result.0.known c.fill_and_put.result.1
     kept.sights.0 c.fill_and_put.result.2 kept.sights.1 c.fill_and_put.ensures.spilled
 
 pub fill_and_put-requires-clause-new : goal.fill_and_put-requires-clause-new

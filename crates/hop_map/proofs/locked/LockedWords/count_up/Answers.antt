@@ -15,14 +15,17 @@ count_up-requires-clause-inserts c =
     let i = c.self.inside in
     let v = sym c.self.view_is in
     let l : Known = i.lane.known in
-    let brings = subst (λ (x : Locked). OffersInsertion x.about x.known x.map x.segment c.args.key.now c.args.value.now c.args.flags
+    let brings = subst (λ (x : Locked). OffersInsertion x.about x.known x.map x.segment c.args.request.now.key.now
+    c.args.request.now.value.now c.args.request.now.flags
     c.args.element) v c.requires.brings in
-    subst (λ (rest : List Fresh). Inserts i.table.now.about l (lock_of l) (hand l) rest c.args.key.now c.args.value.now c.args.flags
+    subst (λ (rest : List Fresh). Inserts i.table.now.about l (lock_of l) (hand l) rest c.args.request.now.key.now
+    c.args.request.now.value.now c.args.request.now.flags
     c.args.count) (sym (ap tail_of brings.filled.in_hand))
-    (inserts i.table.now.about l i.map i.segment c.self.invariant.ready c.args.key.now c.args.value.now c.args.flags c.args.element
+    (inserts i.table.now.about l i.map i.segment c.self.invariant.ready c.args.request.now.key.now c.args.request.now.value.now
+    c.args.request.now.flags c.args.element
     (subst (λ (x : Locked). LockShows x.about x.known x.map x.segment) v c.requires.contents)
     brings
-    (subst (λ (x : Locked). IsKeyAbsent x.about (lock_of x.known) c.args.key.now) v c.requires.absent)
+    (subst (λ (x : Locked). IsKeyAbsent x.about (lock_of x.known) c.args.request.now.key.now) v c.requires.absent)
     c.args.count
     (subst (λ (x : Locked). c.args.count < (shape_at x.about x.map).max) v c.requires.room))
 
@@ -31,7 +34,8 @@ invariant_of-self c =
     let i = c.self.inside in
     let v = sym c.self.view_is in
     let l : Known = i.lane.known in
-    let brings = subst (λ (x : Locked). OffersInsertion x.about x.known x.map x.segment c.args.key.now c.args.value.now c.args.flags
+    let brings = subst (λ (x : Locked). OffersInsertion x.about x.known x.map x.segment c.args.request.now.key.now
+    c.args.request.now.value.now c.args.request.now.flags
     c.args.element) v c.requires.brings in
     record {
       seated = c.count_up.ensures.table ∙ c.self.invariant.seated;
@@ -39,12 +43,14 @@ invariant_of-self c =
       small = c.self.invariant.small;
       counted = c.self.invariant.counted;
       ready = by_answer c.count_up.result (Ready i.table.now.about c.count_up.new.self.known i.map i.segment)
-          (λ said. counted_ready i.table.now.about l i.map i.segment c.self.invariant.ready c.args.key.now c.args.value.now c.args.flags c.args.element
+          (λ said. counted_ready i.table.now.about l i.map i.segment c.self.invariant.ready c.args.request.now.key.now
+          c.args.request.now.value.now c.args.request.now.flags c.args.element
           (subst (λ (x : Locked). LockShows x.about x.known x.map x.segment) v c.requires.contents)
           brings
-          (subst (λ (x : Locked). IsKeyAbsent x.about (lock_of x.known) c.args.key.now) v c.requires.absent)
+          (subst (λ (x : Locked). IsKeyAbsent x.about (lock_of x.known) c.args.request.now.key.now) v c.requires.absent)
           c.count_up.new.self.known
-          (subst (λ (rest : List Fresh). Inserted i.table.now.about l (lock_of l) (hand l) rest c.args.key.now c.args.value.now c.args.flags
+          (subst (λ (rest : List Fresh). Inserted i.table.now.about l (lock_of l) (hand l) rest c.args.request.now.key.now
+          c.args.request.now.value.now c.args.request.now.flags
           c.count_up.new.self.known) (ap tail_of brings.filled.in_hand) (c.count_up.ensures.done said)))
           (λ unsaid. subst (λ (l : Known). Ready i.table.now.about l i.map i.segment) (sym (c.count_up.ensures.missed unsaid)) c.self.invariant.ready);
     }

@@ -11,8 +11,10 @@ unlock_replaced-requires-clause-replaces c =
     let i = c.self.inside in
     let l = i.lane.known in
     let r = subst (λ (x : Locked). Ready x.about x.known x.map x.segment → Replaces x.about x.known (lock_of x.known) (hand x.known) []
-    c.args.key.now c.args.value.now c.args.flags c.args.old) (sym c.self.view_is) c.requires.replaces c.self.invariant.ready in
-    subst (λ (rest : List Fresh). Replaces i.table.now.about l (lock_of l) (hand l) rest c.args.key.now c.args.value.now c.args.flags
+    c.args.request.now.key.now c.args.request.now.value.now c.args.request.now.flags c.args.old) (sym c.self.view_is) c.requires.replaces
+    c.self.invariant.ready in
+    subst (λ (rest : List Fresh). Replaces i.table.now.about l (lock_of l) (hand l) rest c.args.request.now.key.now
+    c.args.request.now.value.now c.args.request.now.flags
     c.args.old) (sym (ap tail_of r.filled.hand)) r
 
 pub returns-clause-replaced : goal.returns-clause-replaced
@@ -20,8 +22,11 @@ returns-clause-replaced c =
     let i = c.self.inside in
     let l = i.lane.known in
     let r = subst (λ (x : Locked). Ready x.about x.known x.map x.segment → Replaces x.about x.known (lock_of x.known) (hand x.known) []
-    c.args.key.now c.args.value.now c.args.flags c.args.old) (sym c.self.view_is) c.requires.replaces c.self.invariant.ready in
-    subst (λ (x : Locked). Replaced x.about x.known (lock_of x.known) [] c.args.key.now c.args.value.now c.args.flags c.args.old
+    c.args.request.now.key.now c.args.request.now.value.now c.args.request.now.flags c.args.old) (sym c.self.view_is) c.requires.replaces
+    c.self.invariant.ready in
+    subst (λ (x : Locked). Replaced x.about x.known (lock_of x.known) [] c.args.request.now.key.now c.args.request.now.value.now
+    c.args.request.now.flags c.args.old
     c.unlock_replaced.new.self.known) c.self.view_is
-    (subst (λ (rest : List Fresh). Replaced i.table.now.about l (lock_of l) rest c.args.key.now c.args.value.now c.args.flags c.args.old
+    (subst (λ (rest : List Fresh). Replaced i.table.now.about l (lock_of l) rest c.args.request.now.key.now c.args.request.now.value.now
+    c.args.request.now.flags c.args.old
     c.unlock_replaced.new.self.known) (ap tail_of r.filled.hand) c.unlock_replaced.ensures.replaced)

@@ -45,7 +45,7 @@ returns-clause-fits g c =
           n b;
       spilled = c.update-lane.result.2;
     })) (sym c.from-place.ensures)
-    (called_fits t p l.table l.known m (Update m c.args.key.now c.args.value.now c.args.flags c.update-lane.result.1) xs b
+    (called_fits t p l.table l.known m (Update m c.args.request.now.key.now c.args.request.now.value.now c.args.request.now.flags c.update-lane.result.1) xs b
     c.update-lane.result.2 h e.table here refl e.called
     (arenas_change t.about (length maps) m i.arenas.items x here e.arena h.arenas) e.batches)
 
@@ -57,7 +57,7 @@ returns-clause-in_run g c =
     let is : p ≡ c.args.self.now = sym (port_is i c.take.result s c.take.ensures.value c.in-Some.is) ∙ c.self.view_is in
     let l = c.update-lane.result.0 in
     let e = c.update-lane.ensures in
-    still_runs c.args.table.now.about p.known l.known (Update c.args.map c.args.key.now c.args.value.now c.args.flags
+    still_runs c.args.table.now.about p.known l.known (Update c.args.map c.args.request.now.key.now c.args.request.now.value.now c.args.request.now.flags
     c.update-lane.result.1) e.called.seen (e.called.cpu) refl (subst (λ (q : Port). runs q ≡ true) (sym is) c.requires.in_run)
 
 pub update-lane-requires-clause-inside : goal.update-lane-requires-clause-inside

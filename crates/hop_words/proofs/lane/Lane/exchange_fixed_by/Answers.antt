@@ -10,4 +10,4 @@ exchange_by-requires-clause-place c =
 pub exchange_by-requires-clause-step : goal.exchange_by-requires-clause-step
 exchange_by-requires-clause-step c =
     let p = c.args.part in fixed_atomic_part c.args.table.now.about c.args.self.now.known p.array p.word p.offset p.size c.requires.changes
-    c.args.op c.args.operand c.args.expected c.args.old c.args.new c.requires.splices
+    c.args.operation.op c.args.operation.operand c.args.operation.expected c.args.old c.args.new c.requires.splices

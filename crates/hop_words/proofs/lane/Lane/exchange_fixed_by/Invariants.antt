@@ -7,6 +7,6 @@ use Rattle.hop_words.proofs.lane.Lane.exchange_fixed_by.Given as goal
 abbrev pub ghosts-exchange_by : goal.ghosts-exchange_by
 ghosts-exchange_by a = record {
   told = λ n l. (n ≡ a.old → AddsEvent a.table.now.about a.self.now.known
-      (Atomic (fixed_part_address a._said.0) a._said.0.size a._said.1 a._said.2 a._said.3 (found_fixed a._said.0 a.old)) l) ×
+      (Atomic (fixed_part_address a._said.0) a._said.0.size a._said.1.op a._said.1.operand a._said.1.expected (found_fixed a._said.0 a.old)) l) ×
       (n ≢ a.old → l ≡ a.self.now.known);
 }

@@ -9,4 +9,4 @@ exchange_by-requires-clause-place c =
 pub exchange_by-requires-clause-step : goal.exchange_by-requires-clause-step
 exchange_by-requires-clause-step c =
     let p = c.args.part in value_atomic_part c.args.table.now.about c.args.self.now.known p.map p.element p.word p.offset p.size
-    c.requires.touches c.args.op c.args.operand c.args.expected c.args.old c.args.new c.requires.splices
+    c.requires.touches c.args.operation.op c.args.operation.operand c.args.operation.expected c.args.old c.args.new c.requires.splices

@@ -2,4 +2,4 @@ use Rattle.hop_words.specs.Locking.{SeesRoom}
 use Rattle.hop_words.proofs.lane.Lane.see_count.Given as goal
 
 abbrev pub ghosts-load_by : goal.ghosts-load_by
-ghosts-load_by a = record { told = λ n l. SeesRoom a.table.now.about a.self.now.known a._said.0.now a._said.1.now a._said.2 n l }
+ghosts-load_by a = record { told = λ n l. SeesRoom a.table.now.about a.self.now.known a._said.now.key.now a._said.now.value.now a._said.now.flags n l }

@@ -8,6 +8,7 @@ use Rattle.hop_words.proofs.lane.Lane.see_count_lacking.Goals as goal
 
 pub load_by-requires-clause-step : goal.load_by-requires-clause-step
 load_by-requires-clause-step c = at_count c.args.table.now.about c.args.self.now.known c.args.map (λ n. n)
-    (λ ws n l. SeesLack c.args.table.now.about c.args.self.now.known c.args.key.now c.args.value.now c.args.flags n l) c.requires.map
-    (see_count_lacking c.args.table.now.about c.args.self.now.known (lock_of c.args.self.now.known) c.args.key.now c.args.value.now
-    c.args.flags c.requires.counts (subst (SawAllTaken c.args.table.now.about c.args.self.now.known) (sym c.requires.map) c.requires.lacks))
+    (λ ws n l. SeesLack c.args.table.now.about c.args.self.now.known c.args.request.now.key.now c.args.request.now.value.now
+    c.args.request.now.flags n l) c.requires.map
+    (see_count_lacking c.args.table.now.about c.args.self.now.known (lock_of c.args.self.now.known) c.args.request.now.key.now c.args.request.now.value.now
+    c.args.request.now.flags c.requires.counts (subst (SawAllTaken c.args.table.now.about c.args.self.now.known) (sym c.requires.map) c.requires.lacks))

@@ -13,9 +13,10 @@ pub unlock_noted-requires-clause-step : goal.unlock_noted-requires-clause-step
 unlock_noted-requires-clause-step c =
     let a = c.args.table.now.about in
     let l = c.args.self.now.known in
-    let event : Event = Keys c.args.map (in_order c.args.list.now.keys) in
-    gives_lock a l c.args.map c.args.segment c.args.stamp c.requires.lock c.requires.stamp (AnsweredAll a l (other_locks l) event) (AnswersGiving a l event)
-    (λ x t. (x, t, refl)) (unlock_keys a l c.args.map c.args.list.now.keys c.requires.lists)
+    let event : Event = Keys c.args.at.map (in_order c.args.list.now.keys) in
+    gives_lock a l c.args.at.map c.args.at.segment c.args.at.stamp c.requires.lock c.requires.stamp (AnsweredAll a l (other_locks l) event)
+    (AnswersGiving a l event)
+    (λ x t. (x, t, refl)) (unlock_keys a l c.args.at.map c.args.list.now.keys c.requires.lists)
 
 pub unlock_noted-requires-clause-unlocks : goal.unlock_noted-requires-clause-unlocks
 unlock_noted-requires-clause-unlocks c = (c.requires.lock, inl c.requires.stamp)

@@ -12,7 +12,7 @@ unlock_noted-requires-clause-step c =
     let a = c.args.table.now.about in
     let l = c.args.self.now.known in
     let q = c.requires in
-    gives_lock a l c.args.map c.args.segment c.args.stamp q.lock q.stamp (λ x. x ≡ unlocking_last l)
+    gives_lock a l c.args.at.map c.args.at.segment c.args.at.stamp q.lock q.stamp (λ x. x ≡ unlocking_last l)
     (λ x. x ≡ sighted (unlocking_last l) (lock_given (lock_of l)))
     (λ x t. ap (λ (y : Known). sighted y (lock_given (lock_of l))) t) (unlock_silent a l (lock_of l) q.lock.0 q.elsewhere q.clean)
 

@@ -6,10 +6,10 @@ use Rattle.hop_words.proofs.Locked.{only_last, at_same_stamp}
 use Rattle.hop_words.proofs.lane.Lane.unlock_lookup.Goals as goal
 
 pub unlock_by-requires-clause-step : goal.unlock_by-requires-clause-step
-unlock_by-requires-clause-step c = at_same_stamp c.args.table.now.about c.args.self.now.known c.args.map c.args.segment c.requires.lock
-    c.args.stamp (λ ws n l. LookedUp c.args.table.now.about c.args.self.now.known (lock_of c.args.self.now.known) c.args.key.now
+unlock_by-requires-clause-step c = at_same_stamp c.args.table.now.about c.args.self.now.known c.args.at.map c.args.at.segment c.requires.lock
+    c.args.at.stamp (λ ws n l. LookedUp c.args.table.now.about c.args.self.now.known (lock_of c.args.self.now.known) c.args.key.now
     c.args.found l) c.requires.stamp (unlock_lookup c.args.table.now.about c.args.self.now.known (lock_of c.args.self.now.known)
     c.args.key.now c.args.found c.requires.looks)
 
 pub unlock_by-requires-clause-unlocks : goal.unlock_by-requires-clause-unlocks
-unlock_by-requires-clause-unlocks c = (only_last c.args.self.now.known c.args.map c.args.segment c.requires.lock, inl c.requires.stamp)
+unlock_by-requires-clause-unlocks c = (only_last c.args.self.now.known c.args.at.map c.args.at.segment c.requires.lock, inl c.requires.stamp)

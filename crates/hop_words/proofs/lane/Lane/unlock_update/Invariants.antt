@@ -6,5 +6,5 @@ use Rattle.hop_words.proofs.lane.Lane.unlock_update.Given as goal
 abbrev pub ghosts-unlock_by : goal.ghosts-unlock_by
 ghosts-unlock_by a = record {
   told = λ n l. Answered a.table.now.about a.self.now.known (lock_of a.self.now.known)
-      (Update a._said.0 a._said.1.now a._said.2.now a._said.3 a._said.4) l;
+      (Update a._said.0 a._said.1.now.key.now a._said.1.now.value.now a._said.1.now.flags a._said.2) l;
 }
