@@ -14,12 +14,12 @@ use Rattle.bpf_machine.specs.Rounds.{HaveEnded}
 use Rattle.bpf_x86.specs.Machine.{TurnOf, FlushOf, Move}
 use Rattle.bpf_machine.specs.declared.machine.Turn.{Turn}
 use Rattle.bpf_buffering.specs.declared.pools.Pools.{Pools}
-use Rattle.bpf_buffering.specs.Search.{BufferedState, MovesTo, CannotMove, IsKeptAsX86}
+use Rattle.bpf_buffering.specs.Search.{BufferedState, MovesTo, CannotMove}
 use Rattle.bpf_buffering.specs.Buffering.{TurnsTo}
 use Rattle.bpf_buffering.specs.Album.{HaveEndedAt}
 use Rattle.bpf_buffering.specs.Private.Kept.{Numbers, kept_state, store_of, jobs_of, buffers_of, AddsTo, FitsHost, IsAlbum, IsBoard, IsPooled, ShowsAsMuch}
 use Rattle.bpf_buffering.proofs.Keeping.{same_shape, rests, none_flushes}
-use Rattle.bpf_buffering.proofs.Pooling.{adds_store, fits_still, newest, state_stays, store_known}
+use Rattle.bpf_buffering.proofs.Pooling.{adds_store, fits_still, state_stays, store_known}
 
 -- where memory is refused
 pub for_err : {E U : Type 0} (r : Result U E) (P : Type 0) → P → OnErr r P
@@ -187,15 +187,6 @@ module _ (m : BufferedState) (p q : Pools) (kept : List Numbers) (number : Optio
         shapes = still.shapes;
         known = still.known;
       }
-
--- it is kept already
-pub kept_already : (m : BufferedState) (p : Pools) (kept : List Numbers) (k : Numbers) → IsPooled p m k → (n : ℕ) → slice_get kept n ≡ Some k
-    → IsKeptAsX86 (states m p kept) m
-kept_already m p kept k pooled n at x shows =
-    (n, m, state_at m p kept n k at ∙ ap (λ (s : BufferedState). Some s) pooled.is, shows)
-
-pub last_is_kept : (kept : List BufferedState) (m : BufferedState) → IsKeptAsX86 (kept ++ m ∷ []) m
-last_is_kept kept m x shows = (length kept, m, newest kept m, shows)
 
 -- ---- the machine has a store that looks like its own
 pub moves_too : (old mid new : BufferedState) (move : Move) → MovesTo old move mid → ShowsAsMuch mid new → MovesTo old move new

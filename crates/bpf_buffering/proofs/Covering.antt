@@ -138,7 +138,7 @@ same_stores (e ∷ es) (f ∷ fs) so alike = absurd so
 
 -- ---- the job of a CPU is ahead
 module _ (c j : ℕ) (task : Task) (was now : Stage) (ws : List Event) where
-  abbrev ahead : X86 → X86
+  abbrev pub ahead : X86 → X86
   ahead x = record {
     world = record x.world { jobs = with_stage x.world.jobs j task now };
     buffers = put x.buffers c (x.buffers c ++ ws);
@@ -251,7 +251,7 @@ module _ (c j : ℕ) (task : Task) (was now : Stage) (ws : List Event) where
           ap ahead is,
         ))
 
-  moves_along : (x z : X86) (move : Move) → move ≢ TurnOf c → IsAt x.world.jobs c j task was → Moves x move z → Moves (ahead x) move (ahead z)
+  pub moves_along : (x z : X86) (move : Move) → move ≢ TurnOf c → IsAt x.world.jobs c j task was → Moves x move z → Moves (ahead x) move (ahead z)
   moves_along x z (TurnOf d) ne at (answer, turn) = (answer, turn_along d (λ e. ne (ap TurnOf e)) x z answer at turn)
   moves_along x z (FlushOf d) ne at (b, flushes, is) = (
     longer c ws b,
@@ -272,7 +272,7 @@ move_leaves x z c (FlushOf d) ne m = record {
   shape = ap (λ (y : X86). y.world.store.shape) m.2 ∙ flush_shape (buffered x) m.0 d m.1;
 }
 
-is_turn : (move : Move) (c : ℕ) → (move ≡ TurnOf c) ⊎ (move ≢ TurnOf c)
+pub is_turn : (move : Move) (c : ℕ) → (move ≡ TurnOf c) ⊎ (move ≢ TurnOf c)
 is_turn (TurnOf d) c = elim (equal_or_not d c) [
   | inl e ↦ inl (ap TurnOf e)
   | inr ne ↦ inr (λ q. let same : TurnOf d ≡ TurnOf c = q in ne cc)
@@ -293,19 +293,19 @@ unseen_turn x z c u = subst (λ (y : X86). TakesTurn x c Ran y) (sym u.is) (inl 
 module _ (law : WritesAreDetermined) (begins : OneInstructionBegins) (replies : CallsHaveOneReply) where
   module _ (c j : ℕ) (task : Task) (old : Cpu) (left : ℕ) (program : Loaded) (shape : Shape) (ws : List Event) (new : Cpu)
       (step : Step shape program old ws On new) (stores : AreStores ws) where
-    abbrev was : Stage
+    abbrev pub was : Stage
     was = InHand old (suc (suc left))
 
-    abbrev now : Stage
+    abbrev pub now : Stage
     now = InHand new (suc left)
 
-    record CanGo (x : X86) : Type 0 where
-      at : IsAt x.world.jobs c j task was
-      loaded : slice_get x.world.programs task.program ≡ Some program
-      shape_is : x.world.store.shape ≡ shape
-      world : IsWorld x.world
+    pub record CanGo (x : X86) : Type 0 where
+      pub at : IsAt x.world.jobs c j task was
+      pub loaded : slice_get x.world.programs task.program ≡ Some program
+      pub shape_is : x.world.store.shape ≡ shape
+      pub world : IsWorld x.world
 
-    still_goes : (x z : X86) (move : Move) → move ≢ TurnOf c → CanGo x → Moves x move z → CanGo z
+    pub still_goes : (x z : X86) (move : Move) → move ≢ TurnOf c → CanGo x → Moves x move z → CanGo z
     still_goes x z move ne can m =
         let l = move_leaves x z c move ne m in
         record {
@@ -361,7 +361,7 @@ module _ (law : WritesAreDetermined) (begins : OneInstructionBegins) (replies : 
     turn_is x z answer can (inr (inl a)) = absurd (a.0 j task old (suc (suc left)) can.at)
     turn_is x z answer can (inr (inr a)) = absurd (a.0 j task old (suc (suc left)) can.at)
 
-    move_is : (x z : X86) (move : Move) → move ≡ TurnOf c → CanGo x → Moves x move z → z ≡ ahead c j task was now ws x
+    pub move_is : (x z : X86) (move : Move) → move ≡ TurnOf c → CanGo x → Moves x move z → z ≡ ahead c j task was now ws x
     move_is x z move e can m =
         let turn = subst (λ (n : Move). Moves x n z) e m in
         turn_is x z turn.0 can turn.1

@@ -42,6 +42,13 @@ state_of w programs jobs buffers = record {
   buffers = events_of_all buffers;
 }
 
+-- the state of a machine of these parts, which lists no keys
+abbrev pub state_with : Contents → List Loaded → List Task → List (List Stored) → BufferedState
+state_with store programs jobs buffers = record {
+  machine = record { store = store; programs = programs; jobs = jobs; lists = None };
+  buffers = map (map event_of) buffers;
+}
+
 -- a store, programs and jobs that fit each other
 pub record Stands (m : MachineState) : Type 0 where
   pub served : (j : ℕ) (task : Task) → slice_get m.jobs j ≡ Some task
@@ -52,6 +59,13 @@ pub record Stands (m : MachineState) : Type 0 where
       → IsAt m.jobs c j task (InHand state left) → FitsHand m c task state
   pub one : (c j k : ℕ) → HasInHand m.jobs c j → HasInHand m.jobs c k → j ≡ k
   pub idle : (c : ℕ) → IsFree m.jobs c → is_running m.store c ≡ false
+
+-- these and what waits by CPU fit each other, as those of each machine do
+pub record IsBoard (store : Contents) (programs : List Loaded) (jobs : List Task)
+    (buffers : List (List Stored)) : Type 0 where
+  pub stands : Stands (state_with store programs jobs buffers).machine
+  pub cpus : (c : ℕ) → has_cpu store c ≡ nat_lt c (length buffers)
+  pub each : (c : ℕ) → CanWait store c (slice_index_or buffers c [])
 
 pub record IsBuffering (w : WaitingContents) (programs : List Loaded) (jobs : List Listed)
     (buffers : List (Vec Stored Global)) : Type 0 where

@@ -76,10 +76,10 @@ impl Model for Album {
 }
 
 impl Album {
-    ghost use Rattle.std.specs.Prelude.{◌≡◌, ◌<◌, ◌≤◌, ◌+◌, ◌++◌, ◌∷◌, ℕ, [], true, false, Some, None, IfOk, IfSome, OnOk, OnErr, length, replicate, slice_get};
+    ghost use Rattle.std.specs.Prelude.{◌≡◌, ◌⊎◌, ◌<◌, ◌≤◌, ◌+◌, ◌++◌, ◌∷◌, ℕ, [], true, false, Some, None, IfOk, IfSome, OnOk, OnErr, length, replicate, slice_get};
     ghost use Rattle.bpf_machine.specs.Patient.{IsRefilled};
     ghost use Rattle.bpf_x86.specs.Machine.{TurnOf, FlushOf};
-    ghost use Rattle.bpf_buffering.specs.Search.{BufferedState, MovesTo, RunsTo, CannotMove, IsKeptAsX86, buffer_at};
+    ghost use Rattle.bpf_buffering.specs.Search.{BufferedState, MovesTo, RunsTo, CannotMove, buffer_at};
     ghost use Rattle.bpf_buffering.specs.Buffering.{TurnsTo};
     ghost use Rattle.bpf_buffering.specs.Ahead.{MovesAhead};
     ghost use Rattle.bpf_buffering.specs.Album.{HaveEndedAt};
@@ -253,22 +253,21 @@ impl Album {
         Ok(())
     }
 
-    /// Keeps the machine as it is, unless one is found that shows all that it shows. Whether it was
-    /// new.
-    pub fn keep(&mut self) -> Result<bool, AllocError>
-        ensures adds { IfOk result (λ new. new ≡ true
-            → self.new.kept ≡ self.old.kept ++ self.old.machine ∷ []) }
-        ensures known { IfOk result (λ new. new ≡ false → self.new.kept ≡ self.old.kept) }
-        ensures kept { OnOk result (IsKeptAsX86 self.new.kept self.old.machine) }
+    /// Keeps the machine as it is, unless one is found that shows all that it shows. Under which number.
+    pub fn keep(&mut self) -> Result<usize, AllocError>
+        ensures adds { OnOk result ((self.new.kept ≡ self.old.kept)
+            ⊎ (self.new.kept ≡ self.old.kept ++ self.old.machine ∷ [])) }
+        ensures kept { IfOk result (λ n. slice_get self.new.kept n ≡ Some self.old.machine) }
         ensures err { OnErr result (self.new.kept ≡ self.old.kept) }
         ensures machine { self.new.machine ≡ self.old.machine }
     {
         let one = self.pools.number(self.alloc, &self.machine, self.store)?;
-        if self.states.finds(&one) {
-            return Ok(false);
+        if let Some(place) = self.states.find(&one) {
+            return Ok(place);
         }
+        let place = self.states.len();
         self.states.add(self.alloc, one)?;
-        Ok(true)
+        Ok(place)
     }
 
     /// About how many bytes of memory the kept states take.

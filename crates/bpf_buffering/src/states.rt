@@ -1,6 +1,6 @@
 //! Kept states: each the numbers of what it is made of.
 
-ghost use Rattle.std.specs.Prelude.{◌≡◌, ◌<◌, ◌++◌, ◌∷◌, [], ℕ, true, OnOk, OnErr, Some, length, slice_get};
+ghost use Rattle.std.specs.Prelude.{◌≡◌, ◌<◌, ◌++◌, ◌∷◌, [], true, IfSome, OnOk, OnErr, Some, length, slice_get};
 
 use crate::index::{Index, Look};
 use bpf_base::spread;
@@ -94,19 +94,19 @@ impl States {
         }
     }
 
-    /// Whether a state is found.
-    pub(crate) fn finds(&self, one: &Kept) -> bool
-        ensures { result ≡ true → (n : ℕ) × (slice_get self.now n ≡ Some one.now) }
+    /// The place of a state, where it is found.
+    pub(crate) fn find(&self, one: &Kept) -> Option<usize>
+        ensures { IfSome result (λ n. slice_get self.now n ≡ Some one.now) }
     {
         let hash = one.hash();
         for step in 0..self.index.places() {
             match self.index.look(hash, step) {
-                Look::Number(place) if self.is_at(place, one) => return true,
+                Look::Number(place) if self.is_at(place, one) => return Some(place),
                 Look::Number(_) | Look::Other => {}
-                Look::Nothing => return false,
+                Look::Nothing => return None,
             }
         }
-        false
+        None
     }
 
     /// Puts a state after those that are kept.

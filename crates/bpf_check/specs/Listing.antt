@@ -4,7 +4,6 @@ use Rattle.std.specs.Prelude.{codes, length, map, nat_le, slice_get, slice_index
 use Rattle.std.specs.Fmt.{decimal}
 use Rattle.bpf_lines.specs.Words.{is_word_byte}
 use Rattle.bpf_schedule.specs.Moves.{all_moves_text}
-use Rattle.bpf_schedule.specs.Spelling.{runs_text}
 use Rattle.bpf_explore.specs.Outcomes.{Found}
 use Rattle.bpf_check.specs.declared.claim.Join.TheVariants as join
 use Rattle.bpf_check.specs.declared.expectation.Often.TheVariants as often
@@ -54,7 +53,7 @@ schedule_text (Some found) =
 
 -- a schedule to a state from which no end can be reached, on a line
 abbrev pub hung_text : List (ℕ × ℕ) → List ℕ
-hung_text by = codes "# hung by" ++ runs_text (length by) by ++ codes "\n"
+hung_text by = codes "# hung by" ++ all_moves_text (length by) by ++ codes "\n"
 
 -- the first n of them
 abbrev pub hung_lines : ℕ → List (List (ℕ × ℕ)) → List ℕ

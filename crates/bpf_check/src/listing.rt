@@ -9,7 +9,7 @@ use crate::findings::Findings;
 use crate::judging::{Verdict, ends_verdict};
 use bpf_explore::{Answer, Hung};
 use bpf_lines::words::is_word_byte;
-use bpf_schedule::{push_moves, push_runs};
+use bpf_schedule::push_moves;
 use std::alloc::{AllocError, Global};
 
 /// A file whose tests are listed: what is before the claims of its tests, the numbers of the lines that
@@ -106,7 +106,7 @@ fn push_hung(alloc: Global, text: &mut String, hung: &Hung) -> Result<(), AllocE
     ensures { OnOk result (string_bytes text.new ≡ string_bytes text.old ++ hung_text hung.now) }
 {
     text.push_str("# hung by")?;
-    push_runs(alloc, text, hung.by())?;
+    push_moves(alloc, text, hung.by())?;
     text.push_str("\n")
 }
 

@@ -178,7 +178,7 @@ pub enum Command {
         /// To take a command that is refused for a refusal of all.
         strict: bool,
     },
-    /// The same on CPUs with store buffers.
+    /// Run the jobs of a run file by commands, on CPUs with store buffers.
     DebugX86 {
         /// To print each line before its answer.
         echo: bool,

@@ -128,8 +128,8 @@ All orders are those of sequential consistency: a load sees the newest store. Pr
 With --x86 CPUs have store buffers, as those of x86 have: a plain store to a value waits there, and its
 own CPU's loads alone find it. Then every order of turns and of flushes is made, each flush of a CPU's
 oldest store, and schedules have words C!*N too, N flushes of CPU C, as 'run --x86 --by' takes them.
-With --show K all that happens is printed as by 'run --x86 --events'. With --patient no hung states are
-looked for, and a line says so. --x86 goes beside neither --races nor --sync.
+With --show K all that happens is printed as by 'run --x86 --events'. --x86 goes beside neither --races
+nor --sync.
 
 A state isn't kept that differs from a kept one only in registers which are written before they are
 read. With --all-states it is: what is found is the same, of more states. With --x86 it always is.

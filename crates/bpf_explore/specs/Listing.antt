@@ -2,7 +2,6 @@
 use Rattle.std.specs.Prelude.{ℕ, zero, suc, ◌++◌, Bool, List, [], codes, length, slice_index_or, if◌then◌else◌, false}
 use Rattle.std.specs.Fmt.{decimal}
 use Rattle.bpf_schedule.specs.Moves.{all_moves_text}
-use Rattle.bpf_schedule.specs.Spelling.{runs_text}
 use Rattle.bpf_threads.specs.declared.threads.Threads.{Threads}
 use Rattle.bpf_threads.specs.Lines.{threads_text}
 use Rattle.bpf_explore.specs.declared.budgets.Budgets.{Budgets}
@@ -44,7 +43,7 @@ explored_text answers threads all states =
 
 -- ---- after a patient search
 abbrev pub hung_text : List (ℕ × ℕ) → List ℕ
-hung_text by = codes "hung by" ++ runs_text (length by) by ++ codes "\n"
+hung_text by = codes "hung by" ++ all_moves_text (length by) by ++ codes "\n"
 
 -- the first n of them
 abbrev pub hung_lines : ℕ → List (List (ℕ × ℕ)) → List ℕ

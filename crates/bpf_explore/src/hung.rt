@@ -32,7 +32,14 @@ impl Model for Hung {
 }
 
 impl Hung {
-    /// The schedule: CPUs, each with how many turns it makes before the next.
+    /// A state to which this schedule leads.
+    pub fn new(by: Vec<(u8, u64)>) -> Hung
+        ensures { result ≡ by.items }
+    {
+        Hung { by }
+    }
+
+    /// The schedule: moves, each with how often it is made before the next.
     pub fn by(&self) -> &[(u8, u64)]
         ensures { result.now ≡ self.now }
     {

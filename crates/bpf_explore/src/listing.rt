@@ -7,7 +7,7 @@ use crate::answers::Answer;
 use crate::budgets::Budgets;
 use crate::exploring::{Explored, ExploredPatiently};
 use crate::hung::Hung;
-use bpf_schedule::{push_moves, push_runs};
+use bpf_schedule::push_moves;
 use bpf_threads::{Threads, push_threads};
 use std::alloc::{AllocError, Global};
 
@@ -94,7 +94,7 @@ fn push_hung(alloc: Global, text: &mut String, hung: &Hung) -> Result<(), AllocE
     ensures { OnOk result (string_bytes text.new ≡ string_bytes text.old ++ hung_text hung.now) }
 {
     text.push_str("hung by")?;
-    push_runs(alloc, text, hung.by())?;
+    push_moves(alloc, text, hung.by())?;
     text.push_str("\n")
 }
 

@@ -2,7 +2,7 @@
 use Rattle.std.proofs.Common.{◌≡◌, ◌∙◌, ◌+◌, ◌-◌, ◌<◌, ◌≤◌, ℕ, zero, suc, Bool, true, false, List, [], ◌∷◌, ◌++◌, Some, length, map}
 use Rattle.std.proofs.Common.{replicate, refl, inl, inr, ◌⊎◌, sym}
 use Rattle.std.proofs.Common.{ap, subst, append-nil, append_assoc, length-append, arith}
-use Rattle.std.specs.Prelude.{Result, Ok, Err, IfOk, OnErr, slice_get}
+use Rattle.std.specs.Prelude.{Result, Ok, Err, OnOk, OnErr, slice_get}
 use Rattle.std.specs.declared.alloc.AllocError.{AllocError}
 use Rattle.std.proofs.lemmas.Bool.{cases_lt}
 use Rattle.std.proofs.lemmas.Option.{slice_get_within}
@@ -32,12 +32,11 @@ pub adds_extends : (old new : List BufferedState) (m : BufferedState) → AddsOn
 adds_extends old new m (inl e) = ([], e ∙ sym (append-nil old))
 adds_extends old new m (inr e) = (m ∷ [], e)
 
--- what is answered says whether one more is kept
-pub adds_one : (old new : List BufferedState) (m : BufferedState) (r : Result Bool AllocError) → IfOk r
-    (λ fresh. fresh ≡ true → new ≡ old ++ m ∷ []) → IfOk r (λ fresh. fresh ≡ false → new ≡ old) → OnErr r (new ≡ old) → AddsOne old m new
-adds_one old new m (Ok true) adds known err = inr (adds refl)
-adds_one old new m (Ok false) adds known err = inl (known refl)
-adds_one old new m (Err e) adds known err = inl err
+-- at most one more is kept, also where memory is refused
+pub adds_one : (old new : List BufferedState) (m : BufferedState) (r : Result ℕ AllocError) → OnOk r (AddsOne old m new) → OnErr r (new ≡ old) →
+    AddsOne old m new
+adds_one old new m (Ok n) adds err = adds
+adds_one old new m (Err e) adds err = inl err
 
 -- ---- one move, and no turns after it
 pub just_moved : (old new : BufferedState) (move : Move) → MovesTo old move new → MovesAhead old move new

@@ -20,7 +20,7 @@ use bpf_file::{RunFile, read_file};
 use bpf_flushes::run_with_buffers;
 use bpf_jobs::{Report, run_jobs_by};
 use bpf_packets::run_with_packets;
-use bpf_workers::{Counted, run_counted};
+use bpf_workers::{Counted, Extras, run_counted};
 use std::alloc::{AllocError, Global};
 use std::sync::Wait;
 use std::thread::Threads;
@@ -222,17 +222,6 @@ pub fn run_file_with_buffer_events(
     Ok(Reply::Jobs(text, stopped))
 }
 
-/// What is printed of a run beside the lines of its jobs.
-#[derive(Clone, Copy)]
-pub struct Extras {
-    /// The keys that each CPU lists.
-    pub keys: bool,
-    /// The maps.
-    pub maps: bool,
-    /// What workers came to at the maps.
-    pub stats: bool,
-}
-
 /// `ebpf run --workers`, and what workers came to at the maps, where that is asked for.
 pub fn run_file_by_workers<T: Threads + Wait + Sync>(
     rt: &T,
@@ -244,9 +233,8 @@ pub fn run_file_by_workers<T: Threads + Wait + Sync>(
     requires { AreWorkers workers }
     ensures { Replies (IsRunByWorkers extras.stats extras.keys extras.maps text.now) result }
 {
-    let Extras { keys, maps, stats } = extras;
-    let file = file_in(alloc, text)?;
-    let Counted { report, stats } = run_counted(rt, alloc, file, workers, keys, maps, stats)?;
+    let read = file_in(alloc, text)?;
+    let Counted { report, stats } = run_counted(rt, alloc, read, workers, extras)?;
     let Report { text, stopped } = report;
     Ok(Reply::Counted {
         text,

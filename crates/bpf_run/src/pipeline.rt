@@ -15,10 +15,11 @@ use bpf_replies::refusal::Refusal;
 use bpf_replies::reordering::{explore_file_with_buffers, show_file_with_buffers};
 use bpf_replies::reply::Reply;
 use bpf_replies::running::{
-    Extras, judge_file, run_file, run_file_by_workers, run_file_with_buffer_events,
-    run_file_with_buffers, run_file_with_history, run_file_with_packets,
+    judge_file, run_file, run_file_by_workers, run_file_with_buffer_events, run_file_with_buffers,
+    run_file_with_history, run_file_with_packets,
 };
 use bpf_replies::script::debug_file;
+use bpf_workers::Extras;
 use std::alloc::Global;
 use std::sync::Wait;
 use std::thread::Threads;

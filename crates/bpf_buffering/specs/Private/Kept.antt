@@ -1,8 +1,8 @@
 -- States of a machine as they are kept: each store, each job and each list of buffers once, and of
 -- each state their numbers.
-use Rattle.std.specs.Prelude.{◌≡◌, ℕ, ◌<◌, ◌⊎◌, nat_lt, All, List, [], ◌∷◌, ◌++◌, Option, Some, None, IfSome, length, map, slice_get, slice_index_or}
+use Rattle.std.specs.Prelude.{◌≡◌, ℕ, ◌<◌, ◌⊎◌, All, List, [], ◌∷◌, ◌++◌, Option, Some, None, IfSome, length, slice_get, slice_index_or}
 use Rattle.bpf_shared.specs.Shape.{without_arrays}
-use Rattle.bpf_plain.specs.PlainStore.{Contents, has_cpu}
+use Rattle.bpf_plain.specs.PlainStore.{Contents}
 use Rattle.bpf_plain.specs.Alike.{IsSameShape}
 use Rattle.bpf_loader.specs.Loaded.{Loaded}
 use Rattle.bpf_cpu.specs.Task.{Task}
@@ -11,8 +11,7 @@ use Rattle.bpf_x86.specs.Machine.{X86}
 use Rattle.bpf_buffering.specs.declared.waiting.Stored.{Stored}
 use Rattle.bpf_buffering.specs.declared.pools.Pools.{Pools}
 use Rattle.bpf_buffering.specs.Search.{BufferedState, ShowsX86}
-use Rattle.bpf_buffering.specs.Waiting.{CanWait, event_of}
-use Rattle.bpf_buffering.specs.Buffering.{Stands}
+pub use Rattle.bpf_buffering.specs.Buffering.{IsBoard, state_with}
 
 -- ---- states of parts
 -- a store that no number has
@@ -21,13 +20,6 @@ no_store = record {
   shape = without_arrays 0 [];
   maps = record { runs = []; tables = [] };
   arrays = [];
-}
-
--- the state of a machine that lists no keys
-abbrev pub state_with : Contents → List Loaded → List Task → List (List Stored) → BufferedState
-state_with store programs jobs buffers = record {
-  machine = record { store = store; programs = programs; jobs = jobs; lists = None };
-  buffers = map (map event_of) buffers;
 }
 
 -- the state, with another store
@@ -41,13 +33,6 @@ with_store m store = record {
   };
   buffers = m.buffers;
 }
-
--- these fit each other, as those of each machine do
-pub record IsBoard (store : Contents) (programs : List Loaded) (jobs : List Task)
-    (buffers : List (List Stored)) : Type 0 where
-  pub stands : Stands (state_with store programs jobs buffers).machine
-  pub cpus : (c : ℕ) → has_cpu store c ≡ nat_lt c (length buffers)
-  pub each : (c : ℕ) → CanWait store c (slice_index_or buffers c [])
 
 -- the second shows all that the first shows
 abbrev pub ShowsAsMuch : BufferedState → BufferedState → Type 0

@@ -4,7 +4,8 @@ ghost use Rattle.std.specs.Prelude.{◌≡◌, ℕ, List, map};
 ghost use Rattle.bpf_plain.specs.PlainStore.{IsSavedAs};
 ghost use Rattle.bpf_plain.specs.Alike.{IsSameShape};
 ghost use Rattle.bpf_buffering.specs.Jobs.{tasks_of};
-ghost use Rattle.bpf_buffering.specs.Private.Kept.{IsBoard, ShowsAsMuch, state_with, with_store};
+ghost use Rattle.bpf_buffering.specs.Buffering.{IsBoard, state_with};
+ghost use Rattle.bpf_buffering.specs.Private.Kept.{ShowsAsMuch, with_store};
 
 use super::Buffering;
 use crate::jobs::Listed;
@@ -13,14 +14,14 @@ use bpf_plain::PlainStore;
 
 impl Buffering {
     /// Its jobs.
-    pub(crate) fn listed(&self) -> &[Listed]
+    pub fn listed(&self) -> &[Listed]
         ensures { tasks_of result.now ≡ self.now.machine.jobs }
     {
         &self.jobs
     }
 
     /// By CPU, what waits.
-    pub(crate) fn waiting(&self) -> &[Vec<Stored>]
+    pub fn waiting(&self) -> &[Vec<Stored>]
         ensures state { self.now ≡ state_with self.now.machine.store self.now.machine.programs
             self.now.machine.jobs (map (λ b. b.items) result.now) }
         ensures board { IsBoard self.now.machine.store self.now.machine.programs
@@ -41,7 +42,7 @@ impl Buffering {
     }
 
     /// Takes a store, jobs and what waits, which fit each other.
-    pub(crate) fn take(&mut self, store: &PlainStore, jobs: Vec<Listed>, buffers: Vec<Vec<Stored>>)
+    pub fn take(&mut self, store: &PlainStore, jobs: Vec<Listed>, buffers: Vec<Vec<Stored>>)
         requires shape { IsSameShape self.old.machine.store store.now }
         requires board { IsBoard store.now self.old.machine.programs (tasks_of jobs.items)
             (map (λ b. b.items) buffers.items) }

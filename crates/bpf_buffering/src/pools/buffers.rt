@@ -11,7 +11,7 @@ use std::alloc::{AllocError, Global};
 use std::marker::Model;
 
 /// A copy of what waits.
-fn copy_buffers(alloc: Global, buffers: &[Vec<Stored>]) -> Result<Vec<Vec<Stored>>, AllocError>
+pub fn copy_buffers(alloc: Global, buffers: &[Vec<Stored>]) -> Result<Vec<Vec<Stored>>, AllocError>
     ensures { IfOk result (λ copies. map (λ b. b.items) copies.items
         ≡ map (λ b. b.items) buffers.now) }
 {

@@ -1,8 +1,11 @@
-use Rattle.std.proofs.Common.{◌≡◌, List, [], ◌∷◌, ◌++◌, ap, refl, subst, sym, ◌∙◌}
-use Rattle.bpf_buffering.specs.Search.{BufferedState, IsKeptAsX86}
+use Rattle.std.proofs.Common.{◌≡◌, ℕ, List, [], ◌∷◌, ◌++◌, Some, inl, inr, length, ap, subst, sym, ◌∙◌}
+use Rattle.std.specs.Prelude.{slice_get}
+use Rattle.std.proofs.lemmas.List.{length-map}
+use Rattle.bpf_buffering.specs.Search.{BufferedState}
 use Rattle.bpf_buffering.specs.Album.{AlbumState}
-use Rattle.bpf_buffering.specs.Private.Kept.{Numbers, IsAlbum}
-use Rattle.bpf_buffering.proofs.AlbumLaws.{for_err, states, states_still, album_still, one_more, album_more, kept_already, last_is_kept}
+use Rattle.bpf_buffering.specs.Private.Kept.{Numbers, IsAlbum, kept_state}
+use Rattle.bpf_buffering.proofs.AlbumLaws.{for_err, states, states_still, album_still, state_at, one_more, album_more}
+use Rattle.bpf_buffering.proofs.Pooling.{newest}
 use Rattle.bpf_buffering.proofs.album.Album.keep.Goals as goal
 
 pub invariant_of-self : goal.invariant_of-self
@@ -38,36 +41,40 @@ invariant_of-self-2 c =
     (album_more m.machine m.pools c.number.new.self m.states m.store c.in_ok-one.one c.number.ensures.adds c.self.invariant c.in_ok-one.ensures.pooled)
 
 pub returns-clause-adds : goal.returns-clause-adds
-returns-clause-adds c is =
+returns-clause-adds c =
     let m = c.self.inside in
-    ap (states m.machine c.number.new.self) c.in_ok-add.ensures.adds
+    inr (ap (states m.machine c.number.new.self) c.in_ok-add.ensures.adds
     ∙ one_more m.machine m.pools c.number.new.self m.states m.store c.in_ok-one.one c.number.ensures.adds c.self.invariant c.in_ok-one.ensures.pooled
-    ∙ ap (λ (a : AlbumState). a.kept ++ a.machine ∷ []) c.self.view_is
+    ∙ ap (λ (a : AlbumState). a.kept ++ a.machine ∷ []) c.self.view_is)
 
-pub invariant_of-self-then-finds : goal.invariant_of-self-then-finds
-invariant_of-self-then-finds c =
+pub invariant_of-self-in-Some : goal.invariant_of-self-in-Some
+invariant_of-self-in-Some c =
     let m = c.self.inside in
     album_still m.machine m.pools c.number.new.self m.states m.store c.number.ensures.adds c.self.invariant
 
-pub returns-then-finds-clause-known : goal.returns-then-finds-clause-known
-returns-then-finds-clause-known c is =
+pub returns-in-Some-clause-adds : goal.returns-in-Some-clause-adds
+returns-in-Some-clause-adds c =
     let m = c.self.inside in
-    states_still m.machine m.machine.machine.store m.pools c.number.new.self m.states c.number.ensures.adds c.self.invariant.fits
-    ∙ ap (λ (a : AlbumState). a.kept) c.self.view_is
+    inl (states_still m.machine m.machine.machine.store m.pools c.number.new.self m.states c.number.ensures.adds c.self.invariant.fits
+    ∙ ap (λ (a : AlbumState). a.kept) c.self.view_is)
 
-pub returns-then-finds-clause-kept : goal.returns-then-finds-clause-kept
-returns-then-finds-clause-kept c =
+pub returns-in-Some-clause-kept : goal.returns-in-Some-clause-kept
+returns-in-Some-clause-kept c =
     let m = c.self.inside in
-    let found = c.if-finds.ensures refl in
-    subst (λ (a : AlbumState). IsKeptAsX86 (states m.machine c.number.new.self m.states) a.machine) c.self.view_is
-    (kept_already m.machine c.number.new.self m.states c.in_ok-one.one c.in_ok-one.ensures.pooled found.0 found.1)
+    let place = c.in-Some.place in
+    subst (λ (a : AlbumState). slice_get (states m.machine c.number.new.self m.states) place ≡ Some a.machine) c.self.view_is
+    (state_at m.machine c.number.new.self m.states place c.in_ok-one.one c.in-Some.ensures
+    ∙ ap (λ (s : BufferedState). Some s) c.in_ok-one.ensures.pooled.is)
 
 pub returns-clause-kept : goal.returns-clause-kept
 returns-clause-kept c =
     let m = c.self.inside in
-    let more =
+    let place = c.len-place.result in
+    let old = states m.machine m.pools m.states in
+    let now = states m.machine c.number.new.self c.add.new.self in
+    let more : now ≡ old ++ m.machine ∷ [] =
     ap (states m.machine c.number.new.self) c.in_ok-add.ensures.adds
     ∙ one_more m.machine m.pools c.number.new.self m.states m.store c.in_ok-one.one c.number.ensures.adds c.self.invariant c.in_ok-one.ensures.pooled in
-    let now = states m.machine c.number.new.self c.add.new.self in
-    subst (λ (a : AlbumState). IsKeptAsX86 now a.machine) c.self.view_is
-    (subst (λ (l : List BufferedState). IsKeptAsX86 l m.machine) (sym more) (last_is_kept (states m.machine m.pools m.states) m.machine))
+    let count : length old ≡ place = length-map m.states (kept_state m.pools m.machine.machine.programs) ∙ sym c.len-place.ensures in
+    subst (λ (a : AlbumState). slice_get now place ≡ Some a.machine) c.self.view_is
+    (ap (λ (l : List BufferedState). slice_get l place) more ∙ (ap (slice_get (old ++ m.machine ∷ [])) (sym count) ∙ newest old m.machine))

@@ -1,5 +1,5 @@
 use Rattle.std.proofs.Common.{◌<◌, ◌+◌, ℕ, length, map, replicate, sym, subst, arith}
-use Rattle.bpf_buffering.specs.Search.{move_of}
+use Rattle.bpf_buffering.specs.Search.{IsKeptAsX86, move_of}
 use Rattle.bpf_reorderings.specs.declared.explorer.Origin.{Origin}
 use Rattle.bpf_reorderings.specs.Private.Searching.{Searched}
 use Rattle.bpf_reorderings.specs.Private.Trail.{IsLedFrom, moves_of}
@@ -18,7 +18,7 @@ invariant_of-self-in_err-kept c =
     let here = subst (λ (k : ℕ). IsLedFrom m.patient m.album.kept k (moves_of o) m.album.machine) (sym c.in_ok-from.ensures) so in
     let there = subst (λ (a : Searched). c.args.place < length a.kept) (sym c.self.view_is) c.requires.inside in
     let adds = adds_one m.album.kept c.keep-kept.new.self.kept m.album.machine c.keep-kept.result c.keep-kept.ensures.adds
-    c.keep-kept.ensures.known c.keep-kept.ensures.err in
+    c.keep-kept.ensures.err in
     cut_origins m.patient m.album.kept c.keep-kept.new.self.kept m.album.machine m.origins.items c.push.new.self.items c.truncate.new.self.items o
     c.len.result c.self.invariant (omega (arith, c.in_ok-from.ensures, there)) here adds c.in_ok-push.ensures.items c.len.ensures
     c.truncate.ensures.items
@@ -34,7 +34,13 @@ invariant_of-self-2 c =
     let here = subst (λ (k : ℕ). IsLedFrom m.patient m.album.kept k (moves_of o) m.album.machine) (sym c.in_ok-from.ensures) so in
     let there = subst (λ (a : Searched). c.args.place < length a.kept) (sym c.self.view_is) c.requires.inside in
     let adds = adds_one m.album.kept c.keep-kept.new.self.kept m.album.machine c.keep-kept.result c.keep-kept.ensures.adds
-    c.keep-kept.ensures.known c.keep-kept.ensures.err in
+    c.keep-kept.ensures.err in
     cut_origins m.patient m.album.kept c.keep-kept.new.self.kept m.album.machine m.origins.items c.push.new.self.items c.truncate.new.self.items o
     c.len.result c.self.invariant (omega (arith, c.in_ok-from.ensures, there)) here adds c.in_ok-push.ensures.items c.len.ensures
     c.truncate.ensures.items
+
+pub returns-clause-kept : goal.returns-clause-kept
+returns-clause-kept c =
+    let m = c.self.inside in
+    subst (λ (a : Searched). IsKeptAsX86 c.keep-kept.new.self.kept a.machine) c.self.view_is
+    (λ x shows. (c.in_ok-kept.field-0, m.album.machine, c.in_ok-kept.ensures.kept, shows))
