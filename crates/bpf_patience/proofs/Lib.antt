@@ -2,3 +2,5 @@ pub mod Richer
 pub mod Covering
 pub mod Agreeing
 pub mod Joining
+pub mod Freeing
+pub mod Hanging

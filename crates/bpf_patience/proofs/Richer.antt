@@ -23,7 +23,7 @@ use Rattle.bpf_x86.specs.Machine.{X86, Move, TurnOf, FlushOf, Moves, RunsMoves, 
 use Rattle.bpf_patience.specs.Patience.{with_x86_jobs}
 
 -- ---- more steps left
-suc_more : (n k : ℕ) → suc (n + k) ≡ suc n + k
+pub suc_more : (n k : ℕ) → suc (n + k) ≡ suc n + k
 suc_more n k = omega arith
 
 module _ (program : Loaded) (c : ℕ) (k : ℕ) where
@@ -60,7 +60,7 @@ module _ (program : Loaded) (c : ℕ) (k : ℕ) where
       (a.0, a.1, a.2, a.3, end_more a.1 n new end not_out a.4, ap (λ (i : ℕ). i + k) a.5)
 
 -- ---- richer jobs
-rich_set : (xs ys : List Task) (j : ℕ) (x y : Task) → AsRich xs ys → IsRicher x y → AsRich (slice_set xs j x) (slice_set ys j y)
+pub rich_set : (xs ys : List Task) (j : ℕ) (x y : Task) → AsRich xs ys → IsRicher x y → AsRich (slice_set xs j x) (slice_set ys j y)
 rich_set [] [] j x y rich more = tt
 rich_set [] (b ∷ ys) j x y rich more = absurd rich
 rich_set (a ∷ xs) [] j x y rich more = absurd rich

@@ -3,6 +3,7 @@
 //!
 //! The functions do nothing: their contracts are the laws.
 ghost use Rattle.bpf_patience.specs.Patience.{FreeMovesAgree, PatientSetsCoverX86};
+ghost use Rattle.bpf_patience.specs.Ends.{StuckX86sAreHung, X86sCanEnd};
 
 /// A list that moves, each with unseen turns after it, don't lead out of but for budgets shows each machine
 /// without work that schedules of moves lead to while no job runs out of budget.
@@ -23,3 +24,18 @@ pub fn free_moves_agree()
     bpf_loader::laws::one_instruction_begins();
     bpf_shared::laws::calls_have_one_reply();
 }
+
+/// What moves lead to, and a kept machine shows, but for richer jobs, from which all moves lead to others
+/// like it, never ends.
+pub fn stuck_x86s_are_hung()
+    ensures { StuckX86sAreHung }
+{
+    bpf_mem::laws::writes_are_determined();
+    bpf_loader::laws::one_instruction_begins();
+    bpf_shared::laws::calls_have_one_reply();
+}
+
+/// Where moves lead from a kept machine to an end, what it shows can reach one.
+pub fn x86s_can_end()
+    ensures { X86sCanEnd }
+{}

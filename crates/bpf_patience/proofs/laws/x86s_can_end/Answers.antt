@@ -1,0 +1,5 @@
+use Rattle.bpf_patience.proofs.Hanging.{x86s_can_end as law}
+use Rattle.bpf_patience.proofs.laws.x86s_can_end.Goals as goal
+
+pub returns : goal.returns
+returns c = law
