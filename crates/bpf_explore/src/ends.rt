@@ -1,22 +1,15 @@
 //! From which kept machines of a patient search an end can be reached.
 
-ghost use Rattle.std.specs.Prelude.{◌≡◌, ◌<◌, ◌≤◌, ◌⊎◌, true, false, Some, IfOk, length, slice_get, slice_set};
+ghost use Rattle.std.specs.Prelude.{◌≡◌, ◌<◌, ◌≤◌, true, false, Some, IfOk, length, slice_get};
 ghost use Rattle.bpf_alike.specs.Ends.{IsStuckAlike, AreStuckAlike};
 ghost use Rattle.bpf_explore.specs.Album.{NoneRanOutAt};
 ghost use Rattle.bpf_explore.specs.Private.Edges.{AreTurns};
 ghost use Rattle.bpf_explore.specs.Private.Ends.{AllGoOn, LeadToEnds, LeadsToEnd, AreMarked, unmarked};
 
+use crate::marks::{either, mark_of, set_mark};
 use crate::patient::PatientExplorer;
 use crate::turns::Turns;
 use std::alloc::{AllocError, Global};
-
-/// Whether a kept machine is marked.
-pub(crate) fn mark_of(marks: &[bool], place: usize) -> bool
-    requires { place < length marks.now }
-    ensures { slice_get marks.now place ≡ Some result }
-{
-    marks[place]
-}
 
 /// Whether a kept machine has ended, or some CPU's turn leads from it to one that is marked.
 fn leads_to_end(explorer: &PatientExplorer, turns: &Turns, marks: &[bool], place: usize) -> bool
@@ -41,14 +34,6 @@ fn leads_to_end(explorer: &PatientExplorer, turns: &Turns, marks: &[bool], place
     false
 }
 
-/// Marks a kept machine.
-fn set_mark(marks: &mut Vec<bool>, place: usize)
-    requires { place < length marks.old.items }
-    ensures { marks.new.items ≡ slice_set marks.old.items place true }
-{
-    marks[place] = true;
-}
-
 /// Marks a kept machine if an end is seen to be reached from it now. Whether it is, and wasn't.
 fn mark_at(explorer: &PatientExplorer, turns: &Turns, marks: &mut Vec<bool>, place: usize) -> bool
     requires place { place < length explorer.now.kept }
@@ -71,14 +56,6 @@ fn mark_at(explorer: &PatientExplorer, turns: &Turns, marks: &mut Vec<bool>, pla
         return true;
     }
     false
-}
-
-/// Whether one of both holds.
-fn either(first: bool, second: bool) -> bool
-    ensures some { result ≡ true → (first ≡ true) ⊎ (second ≡ true) }
-    ensures none { result ≡ false → (first ≡ false) × (second ≡ false) }
-{
-    first || second
 }
 
 /// Marks kept machines, from the last to the first, from which an end is seen to be reached now.

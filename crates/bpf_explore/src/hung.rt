@@ -9,7 +9,8 @@ ghost use Rattle.bpf_explore.specs.Private.Ends.{AllGoOn, AreMarked};
 ghost use Rattle.bpf_explore.specs.Private.Hung.{Hangs, AllHang, ComesTo, LeadsOn, AllBeyondBelow, AllLeadOrBeyond};
 ghost use Rattle.bpf_explore.specs.Private.Replays.{CanRunOut};
 
-use crate::ends::{mark_ends, mark_of};
+use crate::ends::mark_ends;
+use crate::marks::mark_of;
 use crate::patience::both;
 use crate::patient::PatientExplorer;
 use crate::replays::replay;

@@ -15,6 +15,7 @@ mod frontier;
 mod hung;
 pub mod laws;
 mod listing;
+pub mod marks;
 mod observer;
 mod opening;
 mod parts;
