@@ -290,7 +290,7 @@ The commands, one a line, with a CPU C, a pc P, an address A and a number N of b
 
 With --x86 CPUs have store buffers, as those of x86 have: 'steps' has words C!*N too, N flushes of CPU C,
 'flush C' lets the oldest store that waits reach memory, 'buffer C' prints what waits, 'go' flushes after
-each turn, and 'mem' and 'held' show what the CPU sees. There are no 'watch', 'show' and 'last' then.
+each turn, and 'mem' and 'held' show what the CPU sees. The command 'help' lists which there are then.
 
 A job that ends prints its line. A command that is refused prints 'refused' and a code, changes
 nothing, and the next one is read. The input is a run file, a line '---' and the commands, as in
