@@ -15,15 +15,15 @@ pub mod nearby;
 mod origin;
 mod places;
 pub mod reading;
-mod recall;
+pub mod recall;
 mod schedule;
 pub mod script;
 pub mod session;
-mod show;
+pub mod show;
 pub mod text;
 pub mod told;
 mod turns;
-mod watch;
+pub mod watch;
 
 pub use command::Command;
 pub use error::DebugError;

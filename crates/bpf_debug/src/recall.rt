@@ -45,7 +45,7 @@ pub struct Recall {
 }
 
 /// Whether a turn is of a kind.
-fn is_of(kind: Kind, turn: Turn) -> bool
+pub fn is_of(kind: Kind, turn: Turn) -> bool
     ensures { result ≡ is_of kind turn }
 {
     match (kind, turn) {
@@ -57,7 +57,7 @@ fn is_of(kind: Kind, turn: Turn) -> bool
 }
 
 /// What is kept of a state.
-fn hand_of(job: usize, state: &Cpu) -> Hand
+pub fn hand_of(job: usize, state: &Cpu) -> Hand
     ensures job { result.job ≡ job }
     ensures pc { result.pc ≡ state.now.pc }
     ensures depth { result.depth ≡ length state.now.memory.frames.live }
@@ -146,7 +146,7 @@ pub fn recall_runs(machine: &mut Machine, runs: &[(u8, u64)], cpu: u8, kind: Kin
 }
 
 /// Puts where a CPU stood, and its registers, if it had a job in hand.
-fn put_stand(out: &mut String, cpu: u8, stand: Stand)
+pub fn put_stand(out: &mut String, cpu: u8, stand: Stand)
     requires { string_len out.old + 832 ≤ string_capacity out.old }
     ensures { (jobs : List Task) → IsStand jobs cpu stand → (text : List ℕ)
         × IsStandText jobs cpu text × (string_bytes out.new ≡ string_bytes out.old ++ text) }

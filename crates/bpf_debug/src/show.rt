@@ -206,9 +206,9 @@ fn put_changed(out: &mut String, before: &[u64], now: &[u64], lines: &[String])
 /// A CPU's registers with their lines, and room for these.
 #[derive(Drop)]
 pub struct Shown {
-    registers: [u64; 11],
-    lines: Vec<String>,
-    room: String,
+    pub registers: [u64; 11],
+    pub lines: Vec<String>,
+    pub room: String,
 }
 
 /// What there is to be shown of a CPU.
