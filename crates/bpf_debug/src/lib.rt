@@ -5,7 +5,7 @@ pub mod breakpoint;
 pub mod command;
 pub mod course;
 pub mod error;
-mod going;
+pub mod going;
 pub mod held;
 mod help;
 pub mod laws;
