@@ -1,7 +1,6 @@
 -- The same moves, with the budgets that jobs have and where jobs are given steps, lead to the same but
 -- for richer jobs.
-use Rattle.std.proofs.Common.{◌≡◌, ◌∙◌, ℕ, List, [], ◌∷◌, inl, inr, sym, ap, subst}
-use Rattle.std.specs.Prelude.{slice_get}
+use Rattle.std.proofs.Common.{◌≡◌, ◌∙◌, List, [], ◌∷◌, inl, inr, sym, ap, subst}
 use Rattle.bpf_shared.specs.declared.events.Event.{Event}
 use Rattle.bpf_shared.specs.Laws.{CallsHaveOneReply}
 use Rattle.bpf_loader.specs.Laws.{OneInstructionBegins}
@@ -13,7 +12,7 @@ use Rattle.bpf_machine.proofs.DeterminedTurns.{IsWorld, fresh_world}
 use Rattle.bpf_machine.proofs.PatientLaws.{all_same, rich_again, rich_world}
 use Rattle.bpf_x86.specs.Machine.{X86, Move, TurnOf, FlushOf, Moves, RunsMoves, drained}
 use Rattle.bpf_buffering.proofs.Determined.{one_move}
-use Rattle.bpf_flushes.specs.Moves.{IsForNothing, Makes, MakesAll}
+use Rattle.bpf_flushes.specs.Moves.{IsForNothing, MakesAll}
 use Rattle.bpf_patience.specs.Patience.{with_x86_jobs, RunsFreelyX86, FreeMovesAgree}
 use Rattle.bpf_patience.proofs.Richer.{rich_move, stays_ended}
 

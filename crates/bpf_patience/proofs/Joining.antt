@@ -1,5 +1,5 @@
 -- Moves where jobs are given steps on the way, one after the other.
-use Rattle.std.proofs.Common.{◌≡◌, ℕ, List, [], ◌∷◌, ◌++◌, refl, ap, subst}
+use Rattle.std.proofs.Common.{List, [], ◌∷◌, ◌++◌, refl, ap, subst}
 use Rattle.bpf_cpu.specs.Task.{Task}
 use Rattle.bpf_machine.specs.Patient.{AsRich}
 use Rattle.bpf_machine.proofs.PatientLaws.{all_same, rich_again}

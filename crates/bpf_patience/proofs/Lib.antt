@@ -4,3 +4,5 @@ pub mod Agreeing
 pub mod Joining
 pub mod Freeing
 pub mod Hanging
+pub mod Leaving
+pub mod Leading

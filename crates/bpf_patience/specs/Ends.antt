@@ -7,10 +7,10 @@ use Rattle.bpf_machine.specs.Patient.{AsRich, NoneRanOut}
 use Rattle.bpf_machine.specs.Rounds.{HaveEnded}
 use Rattle.bpf_machine.specs.Schedule.{World}
 use Rattle.bpf_x86.specs.Machine.{X86, Move, TurnOf, FlushOf, RunsMoves, drained}
-use Rattle.bpf_buffering.specs.Search.{BufferedState, ShowsX86, CannotMove}
+use Rattle.bpf_buffering.specs.Search.{BufferedState, ShowsX86, IsShownX86, CannotMove}
 use Rattle.bpf_buffering.specs.Ahead.{MovesAhead}
 use Rattle.bpf_buffering.specs.Album.{IsShownAt}
-use Rattle.bpf_patience.specs.Patience.{with_x86_jobs, RunsFreelyX86}
+use Rattle.bpf_patience.specs.Patience.{with_x86_jobs, RunsFreelyX86, IsClosedRichlyX86}
 
 -- some run of moves leads to a machine without work in which no job is out of budget
 abbrev pub CanEndX86 : X86 → Type 0
@@ -57,6 +57,11 @@ pub record IsStuckX86 (kept : List BufferedState) (ends : List Bool) (i : ℕ) :
 abbrev pub AreStuckX86 : List BufferedState → List Bool → Type 0
 AreStuckX86 kept ends = (i : ℕ) → slice_get ends i ≡ Some false → IsStuckX86 kept ends i
 
+-- moves lead from the machine to what a kept one shows, where jobs are given steps on the way
+abbrev pub LeadsOnX86 : List BufferedState → X86 → Type 0
+LeadsOnX86 kept x =
+    (moves : List Move) × (y : X86) × RunsFreelyX86 x moves y × IsShownX86 kept y
+
 -- ---- the laws
 -- what moves lead to, and what such a machine shows but for richer jobs, never ends
 abbrev pub StuckX86sAreHung : Type 0
@@ -68,3 +73,10 @@ StuckX86sAreHung = (kept : List BufferedState) (ends : List Bool) (w : World) (m
 abbrev pub X86sCanEnd : Type 0
 X86sCanEnd = (kept : List BufferedState) (n i : ℕ) (x : X86) → EndsInX86 kept n i → IsShownAt kept i x
     → CanEndX86 x
+
+-- where a list is closed but for budgets, and shows a machine before its first turn, all that schedules of
+-- moves lead to while no job runs out of budget leads on to what it shows
+abbrev pub PatientSetsLeadOn : Type 0
+PatientSetsLeadOn = (kept : List BufferedState) (w : World) (moves : List Move) (z : X86)
+    → IsClosedRichlyX86 kept → IsFresh w → IsShownX86 kept (drained w)
+    → RunsMoves (drained w) moves z → NoneRanOut z.world.jobs → LeadsOnX86 kept z

@@ -3,7 +3,7 @@
 //!
 //! The functions do nothing: their contracts are the laws.
 ghost use Rattle.bpf_patience.specs.Patience.{FreeMovesAgree, PatientSetsCoverX86};
-ghost use Rattle.bpf_patience.specs.Ends.{StuckX86sAreHung, X86sCanEnd};
+ghost use Rattle.bpf_patience.specs.Ends.{PatientSetsLeadOn, StuckX86sAreHung, X86sCanEnd};
 
 /// A list that moves, each with unseen turns after it, don't lead out of but for budgets shows each machine
 /// without work that schedules of moves lead to while no job runs out of budget.
@@ -39,3 +39,13 @@ pub fn stuck_x86s_are_hung()
 pub fn x86s_can_end()
     ensures { X86sCanEnd }
 {}
+
+/// All that schedules of moves lead to while no job runs out of budget leads on to what a list shows that
+/// moves don't lead out of but for budgets.
+pub fn patient_sets_lead_on()
+    ensures { PatientSetsLeadOn }
+{
+    bpf_mem::laws::writes_are_determined();
+    bpf_loader::laws::one_instruction_begins();
+    bpf_shared::laws::calls_have_one_reply();
+}
