@@ -58,7 +58,12 @@ fn lock_first(table: &HopTable, lane: &mut Lane) -> bool
 
 // The answer to a CPU's first call, an update of this key.
 #[tactic(auto, using(crate::proofs::Fresh::running))]
-fn first_update<R: Wait>(rt: &R, table: &HopTable, lane: Lane, key: u32) -> Option<MapAnswer>
+fn first_update<'x, R: Wait>(
+    rt: &'x R,
+    table: &'x HopTable,
+    lane: Lane,
+    key: u32,
+) -> Option<MapAnswer>
     requires table { lane.table ≡ table.now.id }
     requires new { IsNewLane table.now.about lane.known }
 {
