@@ -1,10 +1,12 @@
 -- The bytes of a list that aren't as at first, one after the other.
-use Rattle.std.proofs.Common.{◌≡◌, ◌≢◌, ◌⊎◌, ℕ, ◌+◌, ◌==◌, ◌^◌, ◌<◌, ◌≤◌, Bool, true, false, if◌then◌else◌, List, [], ◌∷◌, ◌++◌, length}
-use Rattle.std.proofs.Common.{take, append_assoc, append-nil, get_or, Result, Ok, Err, OnErr, inl, inr, refl, sym, ap, ◌∙◌, arith, lit<}
+use Rattle.std.proofs.Common.{◌≡◌, ◌≢◌, ◌⊎◌, ℕ, zero, suc, ◌+◌, ◌*◌, ◌/◌, ◌%◌, ◌==◌, ◌^◌, ◌<◌, ◌≤◌, Bool, true, false, if◌then◌else◌, List}
+use Rattle.std.proofs.Common.{[], ◌∷◌, ◌++◌, length}
+use Rattle.std.proofs.Common.{replicate, take, append_assoc, append-nil, get_or, Result, Ok, Err, OnErr, OnOk, inl, inr, refl, sym, ap, ◌∙◌, arith, lit<}
 use Rattle.std.specs.Io.{StartsWith}
 use Rattle.std.proofs.Transfers.{starts_with_of_append, starts_with_trans}
 use Rattle.std.proofs.lemmas.Bool.Decides.{nat_tests}
-use Rattle.std.proofs.lemmas.List.{length-take-le, take_all, take_more}
+use Rattle.std.proofs.lemmas.Nat.{mod-mul-add}
+use Rattle.std.proofs.lemmas.List.{length-take-le, take_more}
 use Rattle.bpf_base.specs.Bytes.{little_endian, low_bytes}
 use Rattle.bpf_base.proofs.Lists.{same_fronts}
 use Rattle.bpf_base.proofs.Numbers.{length-low_bytes, little_endian-low_bytes}
@@ -147,24 +149,58 @@ changes_told first o (x ∷ xs) (y ∷ ys) rest more n few e = elim (test x (fir
     both p q = cc
 
 -- ---- the changes of the first bytes, and of one more
-pub one_more : (first : ℕ → ℕ) (bytes old out new : List ℕ) (o : ℕ) → o < length bytes → out ≡ old ++ changes_from first 0 (take o bytes) →
-    new ≡ out ++ here first o (get_or bytes o 0)
-    → new ≡ old ++ changes_from first 0 (take (o + 1) bytes)
-one_more first bytes old out new o l before e =
+pub one_more : (first : ℕ → ℕ) (start : ℕ) (bytes old out new : List ℕ) (o : ℕ) → o < length bytes → out ≡ old ++ changes_from first start (take o bytes) →
+    new ≡ out ++ here first (start + o) (get_or bytes o 0)
+    → new ≡ old ++ changes_from first start (take (o + 1) bytes)
+one_more first start bytes old out new o l before e =
     let x = get_or bytes o 0 in
-    let these = changes_from first 0 (take o bytes) in
-    let all : changes_from first 0 (take (o + 1) bytes) ≡ these ++ here first o x =
-    ap (changes_from first 0) (take_more bytes o 0 l)
-    ∙ (changes-append first 0 o (take o bytes) (x ∷ []) (let s = length-take-le o bytes (omega arith) in omega arith) ∙ ap
-    (λ (bs : List ℕ). these ++ bs) (one_change first o x)) in
-    e ∙ (ap (λ (bs : List ℕ). bs ++ here first o x) before ∙ (append_assoc old these (here first o x) ∙ ap (λ (bs : List ℕ). old ++ bs) (sym all)))
+    let these = changes_from first start (take o bytes) in
+    let all : changes_from first start (take (o + 1) bytes) ≡ these ++ here first (start + o) x =
+    ap (changes_from first start) (take_more bytes o 0 l)
+    ∙ (changes-append first start (start + o) (take o bytes) (x ∷ []) (let s = length-take-le o bytes (omega arith) in omega arith) ∙ ap
+    (λ (bs : List ℕ). these ++ bs) (one_change first (start + o) x)) in
+    e ∙ (ap (λ (bs : List ℕ). bs ++ here first (start + o) x) before ∙
+    (append_assoc old these (here first (start + o) x) ∙ ap (λ (bs : List ℕ). old ++ bs) (sym all)))
 
-pub all_changes : (first : ℕ → ℕ) (bytes old out new : List ℕ) (n : ℕ) → n ≡ length bytes → out ≡ old ++ changes_from first 0 (take n bytes)
-    → new ≡ out ++ low_bytes 4 0 → new ≡ old ++ changes first bytes
-all_changes first bytes old out new n long before e =
-    let whole : take n bytes ≡ bytes = take_all n bytes (omega arith) in
-    e ∙ (ap (λ (bs : List ℕ). bs ++ low_bytes 4 0) (before ∙ ap (λ (bs : List ℕ). old ++ changes_from first 0 bs) whole) ∙ append_assoc old
-    (changes_from first 0 bytes) (low_bytes 4 0))
+-- bytes as at first leave nothing
+pub none_changed : (first : ℕ → ℕ) (o : ℕ) (xs : List ℕ) → ((k : ℕ) → k < length xs → get_or xs k 0 ≡ first (o + k)) → changes_from first o xs ≡ []
+none_changed first o [] same = refl
+none_changed first o (x ∷ xs) same =
+    ap (λ (bs : List ℕ). bs ++ changes_from first (o + 1) xs) (here_same first o x (same 0 (omega arith) ∙ ap first (let z : o + 0 ≡ o = omega arith in z)))
+    ∙ none_changed first (o + 1) xs (λ k l. same (suc k) (omega arith) ∙ ap first (let z : o + suc k ≡ o + 1 + k = omega arith in z))
+
+-- the first of zeros are zeros
+pub take_zeros : (n m k : ℕ) → get_or {A = ℕ} (take n (replicate {A = ℕ} m 0)) k 0 ≡ 0
+take_zeros zero m k = refl
+take_zeros (suc n) zero k = refl
+take_zeros (suc n) (suc m) zero = refl
+take_zeros (suc n) (suc m) (suc k) = take_zeros n m k
+
+-- a place of a copy, and some places more of it
+pub place_more : (o k stride : ℕ) → 0 < stride → o % stride + k < stride → (o + k) % stride ≡ o % stride + k
+place_more o k stride some inside =
+    let whole : o / stride * stride + o % stride ≡ o = omega arith in
+    ap (λ (n : ℕ). n % stride) (let z : o + k ≡ o / stride * stride + (o % stride + k) = omega arith in z)
+    ∙ mod-mul-add (o / stride) stride (o % stride + k) inside
+
+-- where the first bytes are none, copies are as one
+pub as_one_copy : {A : Type 0} {E : Type 0} (r : Result A E) (first bytes old new : List ℕ) (stride other : ℕ) → length first ≡ 0
+    → OnOk r (new ≡ old ++ changes (λ x. get_or first (x % other) 0) bytes)
+    → OnOk r (new ≡ old ++ changes (λ x. get_or first (x % stride) 0) bytes)
+as_one_copy (Err e) first bytes old new stride other none is = tt
+as_one_copy (Ok a) (x ∷ first) bytes old new stride other none is = absurd (omega arith)
+as_one_copy (Ok a) [] bytes old new stride other none is =
+    is ∙ ap (λ (bs : List ℕ). old ++ (bs ++ low_bytes 4 0))
+    (changes-first (λ x. get_or [] (x % other) 0) (λ x. get_or [] (x % stride) 0) 0 bytes (λ x l m. refl))
+
+-- what is left after a part, of which this is appended
+pub part_more : (first : ℕ → ℕ) (o n : ℕ) (rest part more out new old whole : List ℕ) → rest ≡ part ++ more → n ≡ o + length part
+    → new ≡ out ++ changes_from first o part → out ++ changes_from first o rest ≡ old ++ whole
+    → new ++ changes_from first n more ≡ old ++ whole
+part_more first o n rest part more out new old whole cut e made before =
+    ap (λ (bs : List ℕ). bs ++ changes_from first n more) made
+    ∙ (append_assoc out (changes_from first o part) (changes_from first n more)
+    ∙ (ap (λ (bs : List ℕ). out ++ bs) (sym (ap (changes_from first o) cut ∙ changes-append first o n part more e)) ∙ before))
 
 -- ---- bytes that begin with what was there, where memory was refused
 pub on_err_starts : {A : Type 0} {E : Type 0} (r : Result A E) (old mid new more : List ℕ) → mid ≡ old ++ more → OnErr r

@@ -21,8 +21,8 @@ copy_stride-requires-clause-max c =
     (array_sized c.args.shape.now c.arrays.ensures.in_range c.arrays.result.now c.arrays.ensures.arrays c.args.number c.args.shape.now.cpus
     none refl (omega arith)).1.max.1
 
-pub push_changes-requires-clause-stride : goal.push_changes-requires-clause-stride
-push_changes-requires-clause-stride c =
+pub push_copies-requires-clause-stride : goal.push_copies-requires-clause-stride
+push_copies-requires-clause-stride c =
     let l = c.requires.there in
     let same = ap (λ (gs : List ArrayShape). length gs) c.arrays.ensures.arrays in
     let some = stride_some c.args.shape.now.cpus _ (array_sized c.args.shape.now c.arrays.ensures.in_range c.arrays.result.now
@@ -39,4 +39,4 @@ returns-clause-ok c =
     c.args.shape.now.cpus none refl (omega arith)).0 in
     let first = c.first_bytes-first.ensures ∙ ap (λ (bs : List (List ℕ)). get_or bs c.args.number []) c.contents.ensures in
     thawed_saved c.args.shape.now c.args.number g there c.if-array.false c.first_bytes-first.result.now first c.copy_stride.result
-    c.copy_stride.ensures c.args.bytes.now c.args.out.now.items c.push_changes.new.out.items c.push_changes.result c.push_changes.ensures.ok
+    c.copy_stride.ensures c.args.bytes.now c.args.out.now.items c.push_copies.new.out.items c.push_copies.result c.push_copies.ensures.ok
