@@ -125,23 +125,17 @@ class File(model.File):
                 return told, self.report(state)
             moves = [(cpu, flushes) for cpu in range(self.cpus) for flushes in (False, True)]
 
-    def outcomes(self, most, turn=None):
-        """All reports, or none where there are more states than `most`; where no budget is ever used up, if the turn is
-        `after`."""
-        turn = turn or self.turn
-        seen, waiting, reports = set(), [self.first()], set()
-        while waiting:
-            state = waiting.pop()
-            if state in seen:
-                continue
-            seen.add(state)
-            if len(seen) > most:
-                return None
-            moves = [made for cpu in range(self.cpus) for move in (turn, self.flush) if (made := move(state, cpu)) is not None]
-            waiting += moves
-            if not moves:
-                reports.add(self.report(state))
-        return reports
+    def moves(self, state, turn):
+        """The states that such turns and flushes lead to from this one."""
+        flushed = [after for cpu in range(self.cpus) if (after := self.flush(state, cpu)) is not None]
+        return super().moves(state, turn) + flushed
+
+    def state_by(self, schedule):
+        """The state after a list of moves, each a CPU and whether it flushes, where no budget is ever used up."""
+        state = self.first()
+        for cpu, flushes in schedule:
+            state = (self.flush if flushes else self.after)(state, cpu) or state
+        return state
 
 
 def litmus_outcomes(cpus):

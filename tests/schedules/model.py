@@ -259,6 +259,10 @@ class File:
         )
         return "".join(line + "\n" for line in lines)
 
+    def moves(self, state, turn):
+        """The states that such turns lead to from this one."""
+        return [after for cpu in range(self.cpus) if (after := turn(state, cpu)) is not None]
+
     def reached(self, turn, most):
         """Each state that such turns lead to, with those that its own turns lead to; or none where there are more than so many."""
         seen, waiting = {}, [self.first()]
@@ -266,15 +270,16 @@ class File:
             state = waiting.pop()
             if state in seen:
                 continue
-            seen[state] = [after for cpu in range(self.cpus) if (after := turn(state, cpu)) is not None]
+            seen[state] = self.moves(state, turn)
             if len(seen) > most:
                 return None
             waiting += seen[state]
         return seen
 
-    def outcomes(self, most):
-        """All reports, or none where there are more states than so many."""
-        seen = self.reached(self.turn, most)
+    def outcomes(self, most, turn=None):
+        """All reports, or none where there are more states than so many; where no budget is ever used up, if the turn is
+        `after`."""
+        seen = self.reached(turn or self.turn, most)
         return None if seen is None else {self.report(state) for state, new in seen.items() if not new}
 
     def after(self, state, cpu):

@@ -389,7 +389,7 @@ abbrev pub wants_no_flushes : List Row → Bool
 wants_no_flushes rows =
     is_given (codes "x86") rows && (is_given (codes "races") rows || is_given (codes "sync") rows)
 
--- or what its tests don't rest on: a patient search looks for no hung states then
+-- or what its tests don't rest on: a patient search through flushes
 abbrev pub tests_no_flushes : List Row → Bool
 tests_no_flushes rows = wants_no_flushes rows
     || (is_given (codes "x86") rows && is_given (codes "patient") rows)

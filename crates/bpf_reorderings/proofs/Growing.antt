@@ -1,6 +1,6 @@
 -- Moves that were made from kept machines, while more are kept.
 use Rattle.std.proofs.Common.{◌≡◌, ◌∙◌, ◌+◌, ◌-◌, ◌<◌, ◌≤◌, ℕ, zero, suc, Bool, true, false, List, [], ◌∷◌, ◌++◌, Some, length, map}
-use Rattle.std.proofs.Common.{replicate, refl, inl, inr, ◌⊎◌, sym}
+use Rattle.std.proofs.Common.{replicate, refl, inl, inr, ◌⊎◌, sym, Option, None}
 use Rattle.std.proofs.Common.{ap, subst, append-nil, append_assoc, length-append, arith}
 use Rattle.std.specs.Prelude.{Result, Ok, Err, OnOk, OnErr, slice_get}
 use Rattle.std.specs.declared.alloc.AllocError.{AllocError}
@@ -11,13 +11,14 @@ use Rattle.bpf_cpu.specs.Task.{Task}
 use Rattle.bpf_machine.specs.Patient.{AsRich}
 use Rattle.bpf_machine.proofs.PatientLaws.{all_same}
 use Rattle.bpf_x86.specs.Machine.{X86, Move, TurnOf, FlushOf}
-use Rattle.bpf_buffering.specs.Search.{BufferedState, ShowsX86, MovesTo, RunsTo, CannotMove, IsKeptAsX86, IsShownX86, buffer_at, move_of}
+use Rattle.bpf_buffering.specs.Search.{BufferedState, ShowsX86, MovesTo, RunsTo, CannotMove, IsShownX86, buffer_at, move_of}
 use Rattle.bpf_buffering.specs.Ahead.{MovesAhead}
 use Rattle.bpf_patience.specs.Patience.{with_x86_jobs}
 use Rattle.bpf_patience.proofs.Joining.{gift_last}
 use Rattle.bpf_explore.proofs.RichLaws.{refilled_shows}
 use Rattle.bpf_flushes.proofs.Turning.{turn_numbered, flush_numbered}
-use Rattle.bpf_reorderings.specs.Private.Searching.{Extends, IsClosed, IsExpanded, IsFilled, IsKept, IsMoved}
+use Rattle.bpf_reorderings.specs.Private.Searching.{CannotMoveAt, Extends, IsClosed, IsExpanded, IsFilled, IsFlushedTo, IsKept, IsKeptAt}
+use Rattle.bpf_reorderings.specs.Private.Searching.{IsMoved, IsMovedTo}
 use Rattle.bpf_reorderings.specs.Private.Trail.{IsLedFrom, LeadsTo}
 use Rattle.bpf_reorderings.proofs.Trails.{AddsOne}
 
@@ -72,10 +73,23 @@ pub record ExpandedSoFar (patient : Bool) (old : List BufferedState) (next : ℕ
   pub inside : next ≤ length kept
 
 -- ---- what is kept
--- a search keeps as much where it isn't patient
-pub as_kept : (patient : Bool) (kept : List BufferedState) (m : BufferedState) → IsKeptAsX86 kept m → IsKept patient kept m
-as_kept false kept m is = is
-as_kept true kept m is = λ x shows. (x.world.jobs, all_same x.world.jobs, is x shows)
+-- a kept one is kept there
+pub as_kept : (patient : Bool) (kept : List BufferedState) (k : ℕ) (m : BufferedState) → slice_get kept k ≡ Some m → IsKeptAt patient kept k m
+as_kept false kept k m at = λ x shows. (m, at, shows)
+as_kept true kept k m at = λ x shows. (x.world.jobs, all_same x.world.jobs, (m, at, shows))
+
+kept_there : (patient : Bool) (kept : List BufferedState) (k : ℕ) (m : BufferedState) → IsKeptAt patient kept k m → IsKept patient kept m
+kept_there false kept k m is = λ x shows. (let r = is x shows in (k, r.0, r.1, r.2))
+kept_there true kept k m is = λ x shows. (let r = is x shows in (r.0, r.1, (k, r.2.0, r.2.1, r.2.2)))
+
+-- where it leads to the k-th, it was made
+pub was_moved : (patient : Bool) (kept : List BufferedState) (i : ℕ) (move : Move) (k : ℕ) → IsMovedTo patient kept i move k → IsMoved patient kept i move
+was_moved patient kept i move k is m at = let r = is.1 m at in inl (r.0, r.1, kept_there patient kept k r.0 r.2)
+
+pub was_flushed : (patient : Bool) (kept : List BufferedState) (i c : ℕ) (to : Option ℕ) → IsFlushedTo patient kept i c to → IsMoved patient kept
+    i (FlushOf c)
+was_flushed patient kept i c None never = λ m at. inr (never m at)
+was_flushed patient kept i c (Some k) is = was_moved patient kept i (FlushOf c) k is
 
 pub leads_plainly : (patient : Bool) (old : BufferedState) (moves : List Move) (new : BufferedState) → RunsTo old moves new → LeadsTo patient old moves new
 leads_plainly false old moves new runs = runs
@@ -90,12 +104,12 @@ filled_shows m new c (refills, buffers) x shows =
     let r = refilled_shows m.machine new.machine c refills x.world shows.world in
     (r.0, r.1, record { world = r.2; buffers = shows.buffers ∙ ap buffer_at (sym buffers) })
 
-pub filled_kept : (patient : Bool) (kept : List BufferedState) (m new : BufferedState) (c : ℕ) → IsFilled patient m c new → IsKeptAsX86 kept new →
-    IsKept patient kept m
-filled_kept false kept m new c same is = subst (IsKeptAsX86 kept) same is
-filled_kept true kept m new c filled is = λ x shows. (
+pub filled_kept : (patient : Bool) (kept : List BufferedState) (k : ℕ) (m new : BufferedState) (c : ℕ) → IsFilled patient m c new → slice_get kept k
+    ≡ Some new → IsKeptAt patient kept k m
+filled_kept false kept k m new c same at = as_kept false kept k m (subst (λ (n : BufferedState). slice_get kept k ≡ Some n) same at)
+filled_kept true kept k m new c filled at = λ x shows. (
     let r = filled_shows m new c filled x shows in
-    (r.0, r.1, is (with_x86_jobs x r.0) r.2))
+    (r.0, r.1, (new, at, r.2)))
 
 pub filled_leads : (patient : Bool) (old : BufferedState) (moves : List Move) (m new : BufferedState) (c : ℕ) → RunsTo old moves m → IsFilled
     patient m c new → LeadsTo patient old moves new
@@ -133,18 +147,26 @@ module _ (patient : Bool) where
     inside_still place inside = subst (λ (ms : List BufferedState). place < length ms) (sym more.1) (let both = length-append old more.0 in omega arith)
 
   -- the machine where it leads is kept
-  pub moved_to : (old new : List BufferedState) (place : ℕ) (move : Move) (m after : BufferedState) → Extends old new → slice_get old place ≡
-      Some m → MovesAhead m move after → IsKept patient new after → IsMoved patient new place move
-  moved_to old new place move m after more at moves is other there =
-      let two : Some m ≡ Some other = sym at ∙ (sym (same_at old new more place (slice_get_within old place m at)) ∙ there) in
-      let one : m ≡ other = cc in
-      inl (after, subst (λ (n : BufferedState). MovesAhead n move after) one moves, is)
+  pub moved_to : (old new : List BufferedState) (place : ℕ) (move : Move) (m after : BufferedState) (k : ℕ) → Extends old new → slice_get old place ≡
+      Some m → MovesAhead m move after → k < length new → IsKeptAt patient new k after → IsMovedTo patient new place move k
+  moved_to old new place move m after k more at moves inside is = (
+    inside,
+    λ other there. (
+        let two : Some m ≡ Some other = sym at ∙ (sym (same_at old new more place (slice_get_within old place m at)) ∙ there) in
+        let one : m ≡ other = cc in
+        (after, subst (λ (n : BufferedState). MovesAhead n move after) one moves, is)),
+  )
 
   -- it leads to the same machine
+  pub stays_there : (kept : List BufferedState) (place : ℕ) (move : Move) (m : BufferedState) → slice_get kept place ≡ Some m → MovesAhead m move m →
+      IsMovedTo patient kept place move place
+  stays_there kept place move m at moves = moved_to kept kept place move m m place (none_more kept) at moves (slice_get_within kept place m at)
+      (as_kept patient kept place m at)
+
   pub stays : (kept : List BufferedState) (place : ℕ) (move : Move) (m : BufferedState) → slice_get kept place ≡ Some m → MovesTo m move m →
       IsMoved patient kept place move
-  stays kept place move m at moves = moved_to kept kept place move m m (none_more kept) at (just_moved m m move moves)
-      (as_kept patient kept m (λ x shows. (place, m, at, shows)))
+  stays kept place move m at moves =
+      was_moved patient kept place move place (stays_there kept place move m at (just_moved m m move moves))
 
   -- ---- the album where a move was made, or none
   module _ (old new : List BufferedState) (place : ℕ) (move : Move) (m after : BufferedState) (same : new ≡ old) (at : slice_get old place ≡ Some m) where
@@ -157,20 +179,22 @@ module _ (patient : Bool) where
     )
 
     -- it changed nothing
-    pub idle_moved : MovesAhead m move after → after ≡ m → IsMoved patient new place move
-    idle_moved moves idle = subst (λ (ms : List BufferedState). IsMoved patient ms place move) (sym same)
-        (moved_to old old place move m m (none_more old) at (subst (MovesAhead m move) idle moves) (as_kept patient old m (λ x shows. (place, m, at, shows))))
+    pub idle_moved : MovesAhead m move after → after ≡ m → IsMovedTo patient new place move place
+    idle_moved moves idle = subst (λ (ms : List BufferedState). IsMovedTo patient ms place move place) (sym same)
+        (stays_there old place move m at (subst (MovesAhead m move) idle moves))
 
     -- it can't be made
-    pub cannot_moved : CannotMove m move → IsMoved patient new place move
-    cannot_moved never = subst (λ (ms : List BufferedState). IsMoved patient ms place move) (sym same) (λ other there. (
+    pub cannot_moved : CannotMove m move → CannotMoveAt new place move
+    cannot_moved never = subst (λ (ms : List BufferedState). CannotMoveAt ms place move) (sym same) (λ other there. (
         let two : Some m ≡ Some other = sym at ∙ there in
         let one : m ≡ other = cc in
-        inr (subst (λ (n : BufferedState). CannotMove n move) one never)))
+        subst (λ (n : BufferedState). CannotMove n move) one never))
 
     -- it led to what is kept now
-    pub kept_moved : (last : List BufferedState) → Extends new last → MovesAhead m move after → IsKept patient last after → IsMoved patient last place move
-    kept_moved last more moves is = moved_to old last place move m after (subst (λ (ms : List BufferedState). Extends ms last) same more) at moves is
+    pub kept_moved : (last : List BufferedState) (k : ℕ) → Extends new last → MovesAhead m move after → k < length last → IsKeptAt patient last k after →
+        IsMovedTo patient last place move k
+    kept_moved last k more moves inside is =
+        moved_to old last place move m after k (subst (λ (ms : List BufferedState). Extends ms last) same more) at moves inside is
 
   -- ---- the moves of the CPUs below a number
   pub none_moved : (kept : List BufferedState) (place : ℕ) → MovedSoFar patient kept place 0 kept

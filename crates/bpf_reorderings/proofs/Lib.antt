@@ -4,3 +4,5 @@ pub mod Printing
 pub mod Reaching
 mod Sequential
 pub mod Replays
+pub mod Marking
+pub mod Hanging

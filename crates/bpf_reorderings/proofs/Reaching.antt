@@ -1,8 +1,8 @@
 -- How many machines are reached, and what a search found.
-use Rattle.std.proofs.Common.{◌≡◌, ◌∙◌, ℕ, zero, suc, ◌<◌, ◌≤◌, ◌⊎◌, ◌&&◌, Bool, true, false, map, List, [], ◌∷◌, ◌++◌, Some, inl, inr}
+use Rattle.std.proofs.Common.{◌≡◌, ◌∙◌, ℕ, zero, suc, ◌<◌, ◌≤◌, ◌⊎◌, Bool, true, false, map, List, [], ◌∷◌, ◌++◌, Some, None, inl, inr}
 use Rattle.std.proofs.Common.{length, refl, sym, ap, subst, length-append, arith}
 use Rattle.std.specs.Prelude.{slice_get}
-use Rattle.std.proofs.lemmas.Bool.{and_parts, cases_lt}
+use Rattle.std.proofs.lemmas.Bool.{cases_lt}
 use Rattle.std.proofs.lemmas.Option.{slice_get_within}
 use Rattle.bpf_base.proofs.Lists.{slice_get-front}
 use Rattle.bpf_names.specs.Names.{Names}
@@ -12,6 +12,7 @@ use Rattle.bpf_buffering.specs.Search.{BufferedState, ShowsX86, move_of}
 use Rattle.bpf_buffering.specs.Ahead.{AheadSetsCoverX86}
 use Rattle.bpf_buffering.specs.Album.{IsShownAt}
 use Rattle.bpf_patience.specs.Patience.{PatientSetsCoverX86}
+use Rattle.bpf_patience.specs.Ends.{CanEndX86, PatientSetsLeadOn, X86sCanEnd}
 use Rattle.bpf_explore.specs.declared.budgets.Budgets.TheVariants.{Suffice, RunOut, Unknown}
 use Rattle.bpf_explore.specs.declared.exploring.Explored.{Explored}
 use Rattle.bpf_explore.specs.declared.exploring.ExploredPatiently.{ExploredPatiently}
@@ -20,10 +21,13 @@ use Rattle.bpf_explore.specs.Search.{is_whole, is_refused}
 use Rattle.bpf_explore.proofs.ExploreLaws.{whole_of, limited_of, refused_of, not_whole}
 use Rattle.bpf_reorderings.specs.Outcomes.{AreOutcomesX86, AreReachedX86, HaveAllX86, IsExploredX86}
 use Rattle.bpf_reorderings.specs.Patient.{ArePatientX86, AreReachedFreelyX86, HaveAllPatientX86, IsExploredPatientlyX86}
+use Rattle.bpf_reorderings.specs.Patient.{LiesBeyondOneX86, NoOtherHangsX86}
 use Rattle.bpf_reorderings.specs.Private.Trail.{Runs}
 use Rattle.bpf_reorderings.specs.Private.Searching.{AreLed, BeginsAt, CameTo, Extends}
-use Rattle.bpf_reorderings.specs.Private.Answers.{Gathered, budgets_found}
+use Rattle.bpf_reorderings.specs.Private.Answers.{CanRunOut, Gathered, budgets_found}
+use Rattle.bpf_reorderings.specs.Private.Hung.{AllHang, AllLeadOrBeyond}
 use Rattle.bpf_reorderings.specs.declared.answers.Told.{Told}
+use Rattle.bpf_reorderings.proofs.Hanging.{ends_or_lies}
 use Rattle.bpf_reorderings.proofs.Printing.{all_answered, have_all, have_all_patient}
 
 -- ---- n machines are reached
@@ -110,39 +114,77 @@ explored law kept w names maps limit e extent told begins came all refused count
 }
 
 -- ---- what a patient search found
-either_not : (a b : Bool) → (a && b) ≡ false → (a ≡ false) ⊎ (b ≡ false)
-either_not true b is = inr is
-either_not false b is = inl refl
-
-budget_out : (whole : Bool) → budgets_found whole ≡ RunOut → whole ≡ false
+budget_out : (fit : Bool) → budgets_found fit ≡ RunOut → fit ≡ false
 budget_out true is = let no : Unknown ≡ RunOut = is in cc
 budget_out false is = refl
 
-budget_never : (whole : Bool) → budgets_found whole ≡ Suffice → ⊥
+budget_never : (fit : Bool) → budgets_found fit ≡ Suffice → ⊥
 budget_never true is = let no : Unknown ≡ Suffice = is in cc
 budget_never false is = let no : RunOut ≡ Suffice = is in cc
 
-pub explored_patiently : PatientSetsCoverX86 → (kept : List BufferedState) (w : World) (names : Names) (maps : Bool) (limit : ℕ)
-    (e : ExploredPatiently) (extent : Extent) (told : Told) → BeginsAt kept w → CameTo true kept extent limit
-    → e.all ≡ (is_whole extent && told.whole) → e.refused ≡ is_refused extent → e.states ≡ length kept → e.answers ≡ told.answers
-    → e.hung.items ≡ [] → e.budgets ≡ budgets_found told.whole → Gathered true kept names maps (length kept) told → AreLed true kept
-    → IsExploredPatientlyX86 w names maps limit e
-explored_patiently law kept w names maps limit e extent told begins came all refused count same none budgets far led = record {
-  outcomes = subst (λ (v : _). ArePatientX86 w names maps v.items) (sym same) (record { each = far.ends w begins; sorted = far.sorted });
-  complete = λ is. subst (λ (v : _). HaveAllPatientX86 w names maps v.items) (sym same)
-      (let both = and_parts (is_whole extent) told.whole (sym all ∙ is) in
-      have_all_patient law kept w names maps told.answers.items (came.whole (whole_of extent both.0)) begins
-      (all_answered true kept names maps told far both.1));
-  counted = subst (AreReachedFreelyX86 w) (sym count) (are_reached_freely kept w begins.1 led);
-  met = λ is uncut. elim (either_not (is_whole extent) told.whole (sym all ∙ is)) [
-    | inl part ↦ inl (subst (λ (n : ℕ). limit < n) (sym count) (came.met (limited_of extent part (sym refused ∙ uncut))))
-    | inr out ↦ inr (budgets ∙ ap budgets_found out)
-  ];
-  short = λ is. (
-    all ∙ ap (λ (b : Bool). b && told.whole) (not_whole extent (sym refused ∙ is)),
-    subst (λ (n : ℕ). n ≤ limit) (sym count) (came.short (refused_of extent (sym refused ∙ is))),
-  );
-  none_hung = none;
-  suffice = λ is. budget_never told.whole (sym budgets ∙ is);
-  run_out = λ is. (far.out (budget_out told.whole (sym budgets ∙ is))).1 w begins;
-}
+none_of_all : (all : Bool) → (all ≡ true → ⊥) → all ≡ false
+none_of_all true never = absurd (never refl)
+none_of_all false never = refl
+
+none_of_none : (w : World) (hung : List (List (ℕ × ℕ))) (z : X86) → hung ≡ [] → (CanEndX86 z ⊎ LiesBeyondOneX86 w hung z) → CanEndX86 z
+none_of_none w hung z none (inl ends) = ends
+none_of_none w hung z none (inr (i, by, at, lies)) =
+    let no : None ≡ Some by = ap (λ (hs : List (List (ℕ × ℕ))). slice_get hs i) (sym none) ∙ at in cc
+
+-- what the answers and the hung states are, and how far the search came
+pub record FoundPatiently (kept : List BufferedState) (names : Names) (maps : Bool) (extent : Extent) (told : Told) (whole fit all_fit : Bool)
+    (e : ExploredPatiently) : Type 0 where
+  pub is_whole : whole ≡ is_whole extent
+  pub refused : e.refused ≡ is_refused extent
+  pub count : e.states ≡ length kept
+  pub answers : e.answers ≡ told.answers
+  pub budgets : e.budgets ≡ budgets_found all_fit
+  pub fits : all_fit ≡ true → (told.whole ≡ true) × (fit ≡ true)
+  pub unfit : all_fit ≡ false → (told.whole ≡ false) ⊎ (fit ≡ false)
+  pub every : e.all ≡ true → (whole ≡ true) × (all_fit ≡ true)
+  pub part : e.all ≡ false → (whole ≡ false) ⊎ (all_fit ≡ false)
+  pub gathered : Gathered true kept names maps (length kept) told
+  pub hung : AllHang kept e.hung.items
+  pub ends : whole ≡ true → fit ≡ true → AllLeadOrBeyond kept e.hung.items
+  pub out : fit ≡ false → CanRunOut kept
+  pub led : AreLed true kept
+
+pub explored_patiently : PatientSetsCoverX86 → PatientSetsLeadOn → X86sCanEnd → (kept : List BufferedState) (w : World) (names : Names) (maps : Bool)
+    (limit : ℕ) (e : ExploredPatiently) (extent : Extent) (told : Told) (whole fit all_fit : Bool) → BeginsAt kept w → CameTo true kept extent limit
+    → FoundPatiently kept names maps extent told whole fit all_fit e → IsExploredPatientlyX86 w names maps limit e
+explored_patiently law leading ending kept w names maps limit e extent told whole fit all_fit begins came found =
+    let far = found.gathered in
+    let first = begins.1 in
+    let no_other : e.all ≡ true → NoOtherHangsX86 w e.hung.items = λ is moves z runs none. (
+    let a = found.every is in
+    let closed = came.whole (whole_of extent (sym found.is_whole ∙ a.0)) in
+    ends_or_lies ending kept w z e.hung.items (found.ends a.0 (found.fits a.1).1) begins
+    (leading kept w moves z closed begins.0 (0, first.0, first.1, first.2) runs none)) in
+    record {
+      outcomes = subst (λ (v : _). ArePatientX86 w names maps v.items) (sym found.answers) (record { each = far.ends w begins; sorted = far.sorted });
+      complete = λ is. subst (λ (v : _). HaveAllPatientX86 w names maps v.items) (sym found.answers)
+          (let a = found.every is in
+          have_all_patient law kept w names maps told.answers.items (came.whole (whole_of extent (sym found.is_whole ∙ a.0))) begins
+          (all_answered true kept names maps told far (found.fits a.1).0));
+      counted = subst (AreReachedFreelyX86 w) (sym found.count) (are_reached_freely kept w begins.1 found.led);
+      met = λ is uncut. elim (found.part is) [
+        | inl part ↦ inl (subst (λ (n : ℕ). limit < n) (sym found.count)
+            (came.met (limited_of extent (sym found.is_whole ∙ part) (sym found.refused ∙ uncut))))
+        | inr out ↦ inr (found.budgets ∙ ap budgets_found out)
+      ];
+      short = λ is. (
+        none_of_all e.all (λ every. (
+            let a : whole ≡ true = (found.every every).0 in
+            let b : whole ≡ false = found.is_whole ∙ not_whole extent (sym found.refused ∙ is) in
+            cc)),
+        subst (λ (n : ℕ). n ≤ limit) (sym found.count) (came.short (refused_of extent (sym found.refused ∙ is))),
+      );
+      are_hung = λ i by at. found.hung i by at w begins;
+      no_other = no_other;
+      none_hangs = λ is none moves z runs on. none_of_none w e.hung.items z none (no_other is moves z runs on);
+      suffice = λ is. budget_never all_fit (sym found.budgets ∙ is);
+      run_out = λ is. elim (found.unfit (budget_out all_fit (sym found.budgets ∙ is))) [
+        | inl untold ↦ (far.out untold).1 w begins
+        | inr out ↦ found.out out w begins
+      ];
+    }

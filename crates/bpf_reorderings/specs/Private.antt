@@ -2,3 +2,5 @@
 pub mod Trail
 pub mod Searching
 pub mod Answers
+pub mod Edges
+pub mod Hung

@@ -121,6 +121,7 @@ fn tell_at(
 pub(crate) fn gather(explorer: &mut Explorer, names: &Names, maps: bool) -> Result<Told, AllocError>
     requires { (w : World) × BeginsAt explorer.old.kept w }
     ensures same { explorer.new.kept ≡ explorer.old.kept }
+    ensures patient { explorer.new.patient ≡ explorer.old.patient }
     ensures gathered { IfOk result (Gathered explorer.old.patient explorer.old.kept
         (names_of names.now) maps (length explorer.old.kept)) }
 {

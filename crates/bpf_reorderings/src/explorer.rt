@@ -21,7 +21,7 @@ struct Origin {
 }
 
 /// The number in 32 bits. One that is greater counts as out of memory.
-fn number_of(count: usize) -> Result<u32, AllocError>
+pub(crate) fn number_of(count: usize) -> Result<u32, AllocError>
     ensures { IfOk result (λ n. n ≡ count) }
 {
     u32::try_from(count).map_err(|_| AllocError)
@@ -94,14 +94,15 @@ impl Model for Explorer {
 }
 
 impl Explorer {
-    ghost use Rattle.std.specs.Prelude.{◌≡◌, ◌<◌, ◌≤◌, ◌+◌, [], ◌∷◌, true, false, IfOk, OnOk, Some, length, map, replicate, slice_get};
+    ghost use Rattle.std.specs.Prelude.{◌≡◌, ◌<◌, ◌≤◌, ◌+◌, ℕ, [], ◌∷◌, true, false, IfOk, OnOk, Some, length, map, replicate, slice_get};
     ghost use Rattle.bpf_machine.specs.Schedule.{unrolled};
     ghost use Rattle.bpf_x86.specs.Machine.{TurnOf, FlushOf};
-    ghost use Rattle.bpf_buffering.specs.Search.{IsKeptAsX86, MovesTo, move_of};
+    ghost use Rattle.bpf_buffering.specs.Search.{MovesTo, move_of};
     ghost use Rattle.bpf_buffering.specs.Album.{HaveEndedAt};
     ghost use Rattle.bpf_flushes.specs.Moves.{MakesTo};
-    ghost use Rattle.bpf_reorderings.specs.Private.Trail.{IsLedFrom, LeadsBy};
-    ghost use Rattle.bpf_reorderings.specs.Private.Searching.{AreLed, Extends, IsClosed, IsExpanded, IsFilled, IsMoved};
+    ghost use Rattle.bpf_reorderings.specs.Private.Edges.{IsIdleAt};
+    ghost use Rattle.bpf_reorderings.specs.Private.Trail.{IsLedFrom, LeadsBy, LeadsOn};
+    ghost use Rattle.bpf_reorderings.specs.Private.Searching.{AreLed, Extends, IsClosed, IsExpanded, IsFilled, IsFlushedTo, IsMovedTo};
 
     /// A search of which this machine is kept.
     pub(crate) fn new(
@@ -203,12 +204,12 @@ impl Explorer {
     }
 
     /// Keeps the machine, to which a move and n more like it led from a kept one, unless one is kept that
-    /// shows all that it shows.
-    fn keep(&mut self, place: usize, made: u8, more: u64) -> Result<(), AllocError>
+    /// shows all that it shows. Under which number.
+    fn keep(&mut self, place: usize, made: u8, more: u64) -> Result<usize, AllocError>
         requires inside { place < length self.old.kept }
         requires led { IsLedFrom self.old.patient self.old.kept place
             (map move_of (replicate (more + 1) made)) self.old.machine }
-        ensures kept { OnOk result (IsKeptAsX86 self.new.kept self.old.machine) }
+        ensures kept { IfOk result (λ n. slice_get self.new.kept n ≡ Some self.old.machine) }
         ensures extends { Extends self.old.kept self.new.kept }
         ensures patient { self.new.patient ≡ self.old.patient }
     {
@@ -217,17 +218,18 @@ impl Explorer {
         self.origins.push(Origin { from, more, made })?;
         let kept = self.album.keep();
         self.origins.truncate(self.album.len());
-        kept?;
-        Ok(())
+        let number = kept?;
+        Ok(number)
     }
 
     /// Makes a CPU's turn from a kept machine, and then its turns that no other CPU sees, and keeps
-    /// where they led, in a patient search with the whole budget of the CPU's job in hand.
-    fn turn(&mut self, place: usize, cpu: u8) -> Result<(), AllocError>
+    /// where they led, in a patient search with the whole budget of the CPU's job in hand. The number of
+    /// the kept machine that they led to.
+    pub(crate) fn turn(&mut self, place: usize, cpu: u8) -> Result<usize, AllocError>
         requires place { place < length self.old.kept }
         requires cpu { cpu < 128 }
-        ensures moved { OnOk result
-            (IsMoved self.old.patient self.new.kept place (TurnOf cpu)) }
+        ensures moved { IfOk result
+            (IsMovedTo self.old.patient self.new.kept place (TurnOf cpu)) }
         ensures extends { Extends self.old.kept self.new.kept }
         ensures patient { self.new.patient ≡ self.old.patient }
     {
@@ -237,24 +239,26 @@ impl Explorer {
                 self.fill(cpu);
                 self.keep(place, cpu, more)
             }
-            None => Ok(()),
+            None => Ok(place),
         }
     }
 
-    /// Flushes a CPU's buffer in a kept machine, and keeps where that led.
-    fn flush(&mut self, place: usize, cpu: u8) -> Result<(), AllocError>
+    /// Flushes a CPU's buffer in a kept machine, and keeps where that led. The number of that; `None` where
+    /// nothing waits.
+    pub(crate) fn flush(&mut self, place: usize, cpu: u8) -> Result<Option<usize>, AllocError>
         requires place { place < length self.old.kept }
         requires cpu { cpu < 128 }
-        ensures moved { OnOk result
-            (IsMoved self.old.patient self.new.kept place (FlushOf cpu)) }
+        ensures moved { IfOk result
+            (IsFlushedTo self.old.patient self.new.kept place cpu) }
         ensures extends { Extends self.old.kept self.new.kept }
         ensures patient { self.new.patient ≡ self.old.patient }
     {
         self.album.restore(place)?;
         if self.album.flush(cpu) {
-            self.keep(place, FLUSH + cpu, 0)
+            let number = self.keep(place, FLUSH + cpu, 0)?;
+            Ok(Some(number))
         } else {
-            Ok(())
+            Ok(None)
         }
     }
 
@@ -324,6 +328,23 @@ impl Explorer {
         }
         by.reverse();
         Ok(by)
+    }
+
+    /// The kept machine from which the search came to this one.
+    pub(crate) fn came_from(&self, place: usize) -> usize
+        requires { (0 < place) × (place < length self.now.kept) }
+        ensures before { result < place }
+        ensures leads { LeadsOn self.now.patient self.now.kept result place }
+    {
+        self.origins[place].from as usize
+    }
+
+    /// How many CPUs there are. Those of the numbers from it on have no move that changes anything.
+    pub(crate) fn cpus(&self) -> u8
+        ensures beyond { (i c : ℕ) → result ≤ c → IsIdleAt self.now.kept i c }
+        ensures few { result ≤ 16 }
+    {
+        self.album.cpus()
     }
 
     /// A schedule leads to each of them.

@@ -1,19 +1,21 @@
 //! Every outcome of jobs on CPUs with store buffers.
 
-ghost use Rattle.std.specs.Prelude.{◌≡◌, ◌&&◌, ℕ, true, false, IfOk};
+ghost use Rattle.std.specs.Prelude.{◌≡◌, ℕ, true, false, IfOk, OnOk};
 ghost use Rattle.bpf_names.specs.Names.{names_of};
 ghost use Rattle.bpf_cpu.specs.Setup.{IsRunnable};
 ghost use Rattle.bpf_machine.specs.Schedule.{World};
 ghost use Rattle.bpf_jobs.specs.Printed.{first_of};
 ghost use Rattle.bpf_reorderings.specs.Outcomes.{IsExploredX86};
 ghost use Rattle.bpf_reorderings.specs.Patient.{IsExploredPatientlyX86};
-ghost use Rattle.bpf_reorderings.specs.Private.Answers.{budgets_found};
+ghost use Rattle.bpf_reorderings.specs.Private.Answers.{CanRunOut, budgets_found};
+ghost use Rattle.bpf_reorderings.specs.Private.Hung.{AllHang, AllLeadOrBeyond};
 ghost use Rattle.bpf_reorderings.specs.Private.Searching.{BeginsAt, CameTo};
 
 use crate::answers::{Told, gather};
 use crate::explorer::Explorer;
+use crate::hung::{both, gather_hung};
 use bpf_cpu::Setup;
-use bpf_explore::{Budgets, Explored, ExploredPatiently, Extent, Observer};
+use bpf_explore::{Budgets, Explored, ExploredPatiently, Extent, Hung, Observer};
 use bpf_flushes::make_buffering;
 use bpf_names::Names;
 use std::alloc::{AllocError, Global};
@@ -53,8 +55,8 @@ fn conclude(
     })
 }
 
-/// Whether some schedule uses a budget up, where that is known: one does where what is printed of a kept
-/// machine isn't an answer.
+/// Whether some schedule uses a budget up, where that is known: one does where a schedule to a kept machine
+/// doesn't fit.
 fn budgets_by(whole: bool) -> Budgets
     ensures { result ≡ budgets_found whole }
 {
@@ -65,11 +67,22 @@ fn budgets_by(whole: bool) -> Budgets
     }
 }
 
-/// Whether both hold.
-fn both(first: bool, second: bool) -> bool
-    ensures { result ≡ (first && second) }
+/// What is hung, and whether a schedule to it uses a budget up: nothing is printed where states are
+/// left out.
+fn find_hung(explorer: &mut Explorer, whole: bool) -> Result<(Vec<Hung>, bool), AllocError>
+    requires patient { explorer.old.patient ≡ true }
+    requires begins { (w : World) × BeginsAt explorer.old.kept w }
+    ensures same { OnOk result (explorer.new.kept ≡ explorer.old.kept) }
+    ensures hung { IfOk result (λ r. AllHang explorer.old.kept r.0.items) }
+    ensures ends { IfOk result (λ r. whole ≡ true → r.1 ≡ true
+        → AllLeadOrBeyond explorer.old.kept r.0.items) }
+    ensures out { IfOk result (λ r. r.1 ≡ false → CanRunOut explorer.old.kept) }
 {
-    first && second
+    if whole {
+        gather_hung(explorer)
+    } else {
+        Ok((Vec::new(explorer.alloc()), true))
+    }
 }
 
 /// What a patient search found that came this far.
@@ -86,16 +99,24 @@ fn conclude_patiently(
         → IsExploredPatientlyX86 w (names_of names.now) maps limit e) }
 {
     bpf_patience::laws::patient_sets_cover_x86();
+    bpf_patience::laws::patient_sets_lead_on();
+    bpf_patience::laws::x86s_can_end();
     explorer.leads();
-    let Told { answers, whole } = gather(explorer, names, maps)?;
+    let whole = extent.is_whole();
+    let Told {
+        answers,
+        whole: told,
+    } = gather(explorer, names, maps)?;
+    let (hung, fit) = find_hung(explorer, whole)?;
+    let all_fit = both(told, fit);
     let states = explorer.len();
     Ok(ExploredPatiently {
         answers,
-        all: both(extent.is_whole(), whole),
+        all: both(whole, all_fit),
         refused: extent.is_refused(),
         states,
-        hung: Vec::new(explorer.alloc()),
-        budgets: budgets_by(whole),
+        hung,
+        budgets: budgets_by(all_fit),
     })
 }
 
@@ -121,7 +142,8 @@ pub fn explore_with_buffers<O: Observer>(
 
 /// The same for outcomes in which no job is out of budget: machines that differ only in how many steps are
 /// left of budgets count as one. The outcomes aren't all either where a schedule that was found uses a
-/// budget up, which is reported then. Hung states aren't looked for.
+/// budget up, which is reported then. Besides, states from which no end can be reached, however many steps
+/// jobs are given.
 pub fn explore_patiently_with_buffers<O: Observer>(
     alloc: Global,
     setup: Setup,

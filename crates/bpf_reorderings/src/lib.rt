@@ -2,8 +2,11 @@
 #![tactic(auto)]
 
 mod answers;
+mod edges;
+mod ends;
 mod explorer;
 mod exploring;
+mod hung;
 pub mod laws;
 mod trying;
 

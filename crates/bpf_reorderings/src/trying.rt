@@ -57,7 +57,7 @@ fn make_moves(explorer: &mut Explorer, runs: &[(u8, u64)]) -> Result<(), AllocEr
 }
 
 /// Whether some job has ended out of budget.
-fn some_ran_out(machine: &Buffering) -> bool
+pub(crate) fn some_ran_out(machine: &Buffering) -> bool
     ensures out { result ≡ true → SomeRanOut machine.now.machine.jobs }
     ensures none { result ≡ false → NoneRanOut machine.now.machine.jobs }
 {
@@ -70,7 +70,7 @@ fn some_ran_out(machine: &Buffering) -> bool
 }
 
 /// Makes the moves of a schedule from the first machine. Whether some job is out of budget then.
-fn uses_up(explorer: &mut Explorer, by: &[(u8, u64)]) -> Result<bool, AllocError>
+pub(crate) fn uses_up(explorer: &mut Explorer, by: &[(u8, u64)]) -> Result<bool, AllocError>
     requires { 0 < length explorer.old.kept }
     ensures same { explorer.new.kept ≡ explorer.old.kept }
     ensures patient { explorer.new.patient ≡ explorer.old.patient }

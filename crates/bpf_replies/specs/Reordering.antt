@@ -1,5 +1,5 @@
 -- What `explore --x86` replies: every outcome of a run file's jobs on CPUs with store buffers.
-use Rattle.std.specs.Prelude.{◌≡◌, ◌++◌, ℕ, Bool, true, false, List, Ok, codes, string_bytes}
+use Rattle.std.specs.Prelude.{◌≡◌, ◌||◌, ℕ, Bool, true, false, List, Ok, string_bytes}
 use Rattle.bpf_check.specs.Findings.{Findings}
 use Rattle.bpf_explore.specs.Listing.{explored_text, patient_text}
 use Rattle.bpf_explore.specs.Outcomes.{Found}
@@ -10,7 +10,7 @@ use Rattle.bpf_file.specs.Reading.{IsRunFile}
 use Rattle.bpf_reorderings.specs.Outcomes.{IsExploredX86}
 use Rattle.bpf_reorderings.specs.Patient.{IsExploredPatientlyX86}
 use Rattle.bpf_threads.specs.declared.threads.Threads.{Threads}
-use Rattle.bpf_replies.specs.Exploring.{AreFindingsBy, IsShownOf, any_stopped_of}
+use Rattle.bpf_replies.specs.Exploring.{AreFindingsBy, IsShownOf, any_stopped_of, is_any_hung}
 use Rattle.bpf_replies.specs.Running.{IsBufferHistory, RefusesFile}
 use Rattle.bpf_replies.specs.Script.{first_world_of}
 use Rattle.bpf_replies.specs.Threading.{AreThreadsOf}
@@ -44,10 +44,6 @@ AreFindingsIn true patient limit text f = (f.patient ≡ false)
     × AreFoundOnX86 false text limit f.answers f.all f.states
 AreFindingsIn false patient limit text f = AreFindingsBy patient limit text f
 
--- a patient search through flushes is for outcomes alone, and says so first
-abbrev pub no_hung_text : List ℕ
-no_hung_text = codes "hung states aren't looked for with --x86\n"
-
 -- what is printed of either search
 abbrev pub IsFoundTextOnX86 : (patient : Bool) → (limit : ℕ) → (text printed : List ℕ)
     → (stopped all : Bool) → Type 0
@@ -59,13 +55,12 @@ IsFoundTextOnX86 false limit text printed stopped all =
 IsFoundTextOnX86 true limit text printed stopped all =
     (e : ExploredPatiently) × ArePatientAnswersOnX86 text limit e
     × (threads : Threads) × AreThreadsOf text threads
-    × (printed ≡ no_hung_text
-    ++ patient_text e.answers.items e.hung.items e.budgets threads e.all e.states)
-    × (stopped ≡ any_stopped_of e.answers.items) × (all ≡ e.all)
+    × (printed ≡ patient_text e.answers.items e.hung.items e.budgets threads e.all e.states)
+    × (stopped ≡ (any_stopped_of e.answers.items || is_any_hung e.hung.items)) × (all ≡ e.all)
 
--- `explore --x86`: the answers, a schedule of turns and flushes before each, of a patient search whether
--- budgets can run out, in which ways threads may reach more, whether the answers are all, and after how
--- many states; or the file's first refusal
+-- `explore --x86`: the answers, a schedule of turns and flushes before each, of a patient search what is
+-- hung and whether budgets can run out, in which ways threads may reach more, whether the answers are all,
+-- and after how many states; or the file's first refusal
 abbrev pub IsExploredFileOnX86 : (patient : Bool) → (limit : ℕ) → List ℕ → Reply → Type 0
 IsExploredFileOnX86 patient limit text (reply.Outcomes printed stopped all) =
     IsFoundTextOnX86 patient limit text (string_bytes printed) stopped all

@@ -192,7 +192,7 @@ fn is_any_hung(hung: &[Hung]) -> bool
 }
 
 /// Whether some outcome has a job that ended in a fault, or some state is hung.
-fn is_stopped(explored: &ExploredPatiently) -> bool
+pub(crate) fn is_stopped(explored: &ExploredPatiently) -> bool
     ensures { result ≡ (any_stopped_of explored.now.answers.items
         || is_any_hung explored.now.hung.items) }
 {

@@ -1,19 +1,18 @@
 //! `ebpf explore --x86`: every outcome of a run file's jobs on CPUs with store buffers, whatever the order
 //! of turns and flushes.
 
-ghost use Rattle.std.specs.Prelude.{◌≡◌, ◌<◌, ◌++◌, true, false, IfErr, IfOk, length, string_bytes};
-ghost use Rattle.bpf_explore.specs.Listing.{patient_text};
+ghost use Rattle.std.specs.Prelude.{◌≡◌, ◌<◌, true, false, IfErr, IfOk, length};
 ghost use Rattle.bpf_cpu.specs.Setup.{IsRunnable};
 ghost use Rattle.bpf_file.specs.File.{file_of};
 ghost use Rattle.bpf_reorderings.specs.Outcomes.{IsExploredX86};
 ghost use Rattle.bpf_reorderings.specs.Patient.{IsExploredPatientlyX86};
 ghost use Rattle.bpf_replies.specs.Answer.{Replies};
 ghost use Rattle.bpf_replies.specs.Exploring.{IsShownBy};
-ghost use Rattle.bpf_replies.specs.Reordering.{AreAnswersOnX86, AreFindingsIn, AreFoundOnX86, ArePatientAnswersOnX86, IsExploredFileOnX86, IsShownFileOnX86, no_hung_text};
+ghost use Rattle.bpf_replies.specs.Reordering.{AreAnswersOnX86, AreFindingsIn, AreFoundOnX86, ArePatientAnswersOnX86, IsExploredFileOnX86, IsShownFileOnX86};
 ghost use Rattle.bpf_replies.specs.Running.{IsBufferHistory, RefusesFile};
 ghost use Rattle.bpf_replies.specs.Script.{first_world_of};
 
-use crate::exploring::{findings_in, missing, with_last};
+use crate::exploring::{findings_in, is_stopped, missing, with_last};
 use crate::refusal::Refusal;
 use crate::reply::Reply;
 use crate::running::{buffer_history_by, file_in};
@@ -26,7 +25,6 @@ use bpf_explore::{
 use bpf_file::RunFile;
 use bpf_jobs::Report;
 use bpf_reorderings::{explore_patiently_with_buffers, explore_with_buffers};
-use bpf_threads::Threads;
 use std::alloc::{AllocError, Global};
 
 /// Searches through all schedules of turns and flushes of a file's jobs, and prints the maps too.
@@ -167,23 +165,6 @@ fn explore_all<O: Observer>(
     })
 }
 
-/// What a patient search found, after a line that says what it doesn't look for.
-fn list_unhung(
-    alloc: Global,
-    explored: &ExploredPatiently,
-    threads: Threads,
-) -> Result<String, AllocError>
-    ensures { IfOk result (λ text. string_bytes text ≡ no_hung_text
-        ++ patient_text explored.now.answers.items explored.now.hung.items explored.now.budgets
-        threads explored.now.all explored.now.states) }
-{
-    let listed = list_patient(alloc, explored, threads)?;
-    let mut text = String::new(alloc);
-    text.push_str("hung states aren't looked for with --x86\n")?;
-    text.push_str(listed.as_str())?;
-    Ok(text)
-}
-
 /// `ebpf explore --x86 --patient`.
 fn explore_patiently<O: Observer>(
     alloc: Global,
@@ -195,10 +176,10 @@ fn explore_patiently<O: Observer>(
 {
     let threads = threads_in(alloc, text)?;
     let explored = patient_in(alloc, limit, text, observer)?;
-    let text = list_unhung(alloc, &explored, threads)?;
+    let text = list_patient(alloc, &explored, threads)?;
     Ok(Reply::Outcomes {
         text,
-        stopped: is_any_stopped(&explored.answers),
+        stopped: is_stopped(&explored),
         all: explored.all,
     })
 }

@@ -1,14 +1,15 @@
 -- Moves that were made from kept machines, and how far a search came.
-use Rattle.std.specs.Prelude.{◌≡◌, ℕ, ◌<◌, ◌≤◌, ◌++◌, ◌⊎◌, Bool, true, false, List, Some, length, map, slice_get}
+use Rattle.std.specs.Prelude.{◌≡◌, ℕ, ◌<◌, ◌≤◌, ◌++◌, ◌⊎◌, Bool, true, false, List, Option, Some, None, length, map, slice_get}
 use Rattle.bpf_machine.specs.Laws.{IsFresh}
 use Rattle.bpf_machine.specs.Patient.{IsRefilled}
 use Rattle.bpf_machine.specs.Schedule.{World}
-use Rattle.bpf_x86.specs.Machine.{X86, Move, drained}
+use Rattle.bpf_x86.specs.Machine.{X86, Move, FlushOf, drained}
 use Rattle.bpf_buffering.specs.Search.{BufferedState, ShowsX86, CannotMove, IsKeptAsX86, move_of}
 use Rattle.bpf_buffering.specs.Ahead.{MovesAhead, IsClosedX86}
 use Rattle.bpf_buffering.specs.Album.{IsShownAt}
 use Rattle.bpf_flushes.specs.Moves.{MakesAll}
 use Rattle.bpf_patience.specs.Patience.{IsClosedRichlyX86, IsKeptRichlyX86}
+use Rattle.bpf_patience.specs.Ends.{IsKeptRichlyAtX86}
 use Rattle.bpf_explore.specs.declared.frontier.Extent.{Extent}
 use Rattle.bpf_explore.specs.declared.frontier.Extent.TheVariants.{Whole, Limited, Refused}
 use Rattle.bpf_reorderings.specs.Private.Trail.{LeadsBy}
@@ -32,6 +33,25 @@ IsFilled true old cpu new = IsRefilled old.machine cpu new.machine × (new.buffe
 abbrev pub IsKept : Bool → List BufferedState → BufferedState → Type 0
 IsKept false kept m = IsKeptAsX86 kept m
 IsKept true kept m = IsKeptRichlyX86 kept m
+
+-- the k-th shows all that; in a patient search but for richer jobs
+abbrev pub IsKeptAt : Bool → List BufferedState → ℕ → BufferedState → Type 0
+IsKeptAt false kept k m = (x : X86) → ShowsX86 m x → IsShownAt kept k x
+IsKeptAt true kept k m = IsKeptRichlyAtX86 kept k m
+
+-- the move from the i-th kept machine, and turns that are unseen after it, lead to the k-th
+abbrev pub IsMovedTo : Bool → List BufferedState → ℕ → Move → ℕ → Type 0
+IsMovedTo patient kept i move k = (k < length kept) × ((m : BufferedState) → slice_get kept i ≡ Some m
+    → (new : BufferedState) × MovesAhead m move new × IsKeptAt patient kept k new)
+
+-- it can't be made from the i-th
+abbrev pub CannotMoveAt : List BufferedState → ℕ → Move → Type 0
+CannotMoveAt kept i move = (m : BufferedState) → slice_get kept i ≡ Some m → CannotMove m move
+
+-- so it is with the flush of a CPU's buffer, or it can't be made
+abbrev pub IsFlushedTo : Bool → List BufferedState → ℕ → ℕ → Option ℕ → Type 0
+IsFlushedTo patient kept i c None = CannotMoveAt kept i (FlushOf c)
+IsFlushedTo patient kept i c (Some k) = IsMovedTo patient kept i (FlushOf c) k
 
 -- the move from the i-th kept machine, and turns that are unseen after it, lead to one that is kept; or
 -- it can't be made

@@ -22,6 +22,10 @@ abbrev pub LeadsBy : Bool → List BufferedState → ℕ → List Move → ℕ �
 LeadsBy patient kept i moves j = (x : X86) → IsShownAt kept i x
     → (z : X86) × Runs patient x moves z × IsShownAt kept j z
 
+-- some moves do
+abbrev pub LeadsOn : Bool → List BufferedState → ℕ → ℕ → Type 0
+LeadsOn patient kept i j = (moves : List Move) × LeadsBy patient kept i moves j
+
 -- from what the first shows to what the second shows
 abbrev pub LeadsTo : Bool → BufferedState → List Move → BufferedState → Type 0
 LeadsTo patient old moves new =

@@ -49,3 +49,9 @@ returns-clause-gathered c =
     let e = c.args.explorer.now in
     all_gathered e.patient e.kept (names_of c.args.names.now) c.args.maps c.loop-place.place c.loop-place.told (omega arith)
     c.loop-place.invariant.2
+
+pub returns-in_err-tell_at-clause-patient : goal.returns-in_err-tell_at-clause-patient
+returns-in_err-tell_at-clause-patient c = c.tell_at.ensures.patient ∙ c.loop-place.invariant.1
+
+pub returns-clause-patient : goal.returns-clause-patient
+returns-clause-patient c = c.loop-place.invariant.1

@@ -1,4 +1,4 @@
-use Rattle.std.proofs.Common.{◌≡◌, ◌∙◌, Bool, false, List, length, ap, refl, subst}
+use Rattle.std.proofs.Common.{◌≡◌, ◌∙◌, Bool, List, length, ap, refl, subst}
 use Rattle.bpf_names.specs.Names.{names_of}
 use Rattle.bpf_buffering.specs.Search.{BufferedState}
 use Rattle.bpf_reorderings.specs.declared.answers.Told.{Told}

@@ -1,9 +1,8 @@
 use Rattle.std.proofs.Common.{◌∙◌, ◌+◌, [], ◌∷◌, map, replicate, refl, subst}
-use Rattle.std.proofs.lemmas.Result.{on_ok_weaker}
+use Rattle.std.proofs.lemmas.Option.{slice_get_within}
 use Rattle.bpf_x86.specs.Machine.{FlushOf}
-use Rattle.std.specs.Prelude.{OnOk}
 use Rattle.bpf_buffering.specs.Search.{move_of}
-use Rattle.bpf_reorderings.specs.Private.Searching.{Searched, IsMoved}
+use Rattle.bpf_reorderings.specs.Private.Searching.{Searched, IsMovedTo}
 use Rattle.bpf_reorderings.proofs.Growing.{as_kept, flush_numbers, just_moved, leads_plainly, one_moved, led_from, cannot_moved, kept_moved}
 use Rattle.bpf_reorderings.proofs.explorer.Explorer.flush.Goals as goal
 
@@ -16,20 +15,22 @@ keep-requires-clause-led c =
     (leads_plainly m.patient c.restore.new.self.machine (FlushOf c.args.cpu ∷ []) c.flush.new.self.machine
     (one_moved c.restore.new.self.machine c.flush.new.self.machine (FlushOf c.args.cpu) (c.if-flush.ensures.flushed refl)))
 
-pub returns-then-flush-clause-moved : goal.returns-then-flush-clause-moved
-returns-then-flush-clause-moved c =
+pub returns-in_ok-number-clause-moved : goal.returns-in_ok-number-clause-moved
+returns-in_ok-number-clause-moved c =
     let m = c.self.inside in
     let same = c.flush.ensures.same ∙ c.restore.ensures.same in
-    subst (λ (a : Searched). OnOk c.keep.result (IsMoved a.patient c.keep.new.self.kept c.args.place (FlushOf c.args.cpu))) c.self.view_is
-    (on_ok_weaker c.keep.result (λ is. kept_moved m.patient m.album.kept c.flush.new.self.kept c.args.place (FlushOf c.args.cpu)
-    c.restore.new.self.machine c.flush.new.self.machine same c.in_ok-restore.ensures.ok c.keep.new.self.kept c.keep.ensures.extends
+    let kept = c.keep.new.self.kept in
+    let n = c.in_ok-number.number in
+    let at = c.in_ok-number.ensures.kept in
+    subst (λ (a : Searched). IsMovedTo a.patient kept c.args.place (FlushOf c.args.cpu) n) c.self.view_is
+    (kept_moved m.patient m.album.kept c.flush.new.self.kept c.args.place (FlushOf c.args.cpu)
+    c.restore.new.self.machine c.flush.new.self.machine same c.in_ok-restore.ensures.ok kept n c.keep.ensures.extends
     (just_moved c.restore.new.self.machine c.flush.new.self.machine (FlushOf c.args.cpu) (c.if-flush.ensures.flushed refl))
-    (as_kept m.patient c.keep.new.self.kept c.flush.new.self.machine is)) c.keep.ensures.kept)
+    (slice_get_within kept n c.flush.new.self.machine at) (as_kept m.patient kept n c.flush.new.self.machine at))
 
 pub returns-else-flush-clause-moved : goal.returns-else-flush-clause-moved
 returns-else-flush-clause-moved c =
     let m = c.self.inside in
     let same = c.flush.ensures.same ∙ c.restore.ensures.same in
-    subst (λ (a : Searched). IsMoved a.patient c.flush.new.self.kept c.args.place (FlushOf c.args.cpu)) c.self.view_is
-    (cannot_moved m.patient m.album.kept c.flush.new.self.kept c.args.place (FlushOf c.args.cpu) c.restore.new.self.machine c.flush.new.self.machine
-    same c.in_ok-restore.ensures.ok (c.if-flush.ensures.none refl))
+    cannot_moved m.patient m.album.kept c.flush.new.self.kept c.args.place (FlushOf c.args.cpu) c.restore.new.self.machine c.flush.new.self.machine
+    same c.in_ok-restore.ensures.ok (c.if-flush.ensures.none refl)

@@ -1,5 +1,6 @@
-use Rattle.std.proofs.Common.{◌<◌, ◌+◌, ℕ, length, map, replicate, sym, subst, arith}
-use Rattle.bpf_buffering.specs.Search.{IsKeptAsX86, move_of}
+use Rattle.std.proofs.Common.{◌≡◌, ◌<◌, ◌+◌, ℕ, Some, length, map, replicate, sym, subst, arith}
+use Rattle.std.specs.Prelude.{slice_get}
+use Rattle.bpf_buffering.specs.Search.{move_of}
 use Rattle.bpf_reorderings.specs.declared.explorer.Origin.{Origin}
 use Rattle.bpf_reorderings.specs.Private.Searching.{Searched}
 use Rattle.bpf_reorderings.specs.Private.Trail.{IsLedFrom, moves_of}
@@ -7,8 +8,8 @@ use Rattle.bpf_reorderings.proofs.Trails.{cut_origins}
 use Rattle.bpf_reorderings.proofs.Growing.{adds_one}
 use Rattle.bpf_reorderings.proofs.explorer.Explorer.keep.Goals as goal
 
-pub invariant_of-self-in_err-kept : goal.invariant_of-self-in_err-kept
-invariant_of-self-in_err-kept c =
+pub invariant_of-self-in_err-number : goal.invariant_of-self-in_err-number
+invariant_of-self-in_err-number c =
     let m = c.self.inside in
     let o : Origin = record { from = c.in_ok-from.from; more = c.in_ok-more.more; made = c.args.made } in
     let led = subst (λ (a : Searched). IsLedFrom a.patient a.kept c.args.place (map move_of (replicate (c.args.more + 1) c.args.made)) a.machine)
@@ -41,6 +42,4 @@ invariant_of-self-2 c =
 
 pub returns-clause-kept : goal.returns-clause-kept
 returns-clause-kept c =
-    let m = c.self.inside in
-    subst (λ (a : Searched). IsKeptAsX86 c.keep-kept.new.self.kept a.machine) c.self.view_is
-    (λ x shows. (c.in_ok-kept.field-0, m.album.machine, c.in_ok-kept.ensures.kept, shows))
+    subst (λ (a : Searched). slice_get c.keep-kept.new.self.kept c.in_ok-number.number ≡ Some a.machine) c.self.view_is c.in_ok-number.ensures.kept

@@ -1,9 +1,10 @@
-use Rattle.std.proofs.Common.{◌∙◌, ◌+◌, ◌<◌, Bool, ℕ, List, Option, length, map, replicate, sym, ap, subst}
-use Rattle.std.specs.Prelude.{IfSome, OnOk}
-use Rattle.std.proofs.lemmas.Result.{on_ok_weaker}
+use Rattle.std.proofs.Common.{◌≡◌, ◌∙◌, ◌+◌, ◌<◌, Bool, ℕ, List, Option, Some, length, map, replicate, sym, ap, subst}
+use Rattle.std.specs.Prelude.{IfOk, IfSome, slice_get}
+use Rattle.std.proofs.lemmas.Option.{slice_get_within}
+use Rattle.std.proofs.lemmas.Result.{IfOk-weaker}
 use Rattle.bpf_x86.specs.Machine.{TurnOf}
 use Rattle.bpf_buffering.specs.Search.{BufferedState, RunsTo, move_of}
-use Rattle.bpf_reorderings.specs.Private.Searching.{Searched, Extends, IsMoved}
+use Rattle.bpf_reorderings.specs.Private.Searching.{Searched, Extends, IsMovedTo}
 use Rattle.bpf_reorderings.specs.Private.Trail.{IsLedFrom}
 use Rattle.bpf_reorderings.proofs.Growing.{turn_numbers, filled_kept, filled_leads, led_from, idle_moved, kept_moved}
 use Rattle.bpf_reorderings.proofs.explorer.Explorer.turn.Goals as goal
@@ -33,7 +34,7 @@ pub returns-in-None-clause-moved : goal.returns-in-None-clause-moved
 returns-in-None-clause-moved c =
     let m = c.self.inside in
     let same = c.turn_ahead.ensures.same ∙ c.restore.ensures.same in
-    subst (λ (a : Searched). IsMoved a.patient c.turn_ahead.new.self.kept c.args.place (TurnOf c.args.cpu)) c.self.view_is
+    subst (λ (a : Searched). IsMovedTo a.patient c.turn_ahead.new.self.kept c.args.place (TurnOf c.args.cpu) c.args.place) c.self.view_is
     (idle_moved m.patient m.album.kept c.turn_ahead.new.self.kept c.args.place (TurnOf c.args.cpu) c.restore.new.self.machine
     c.turn_ahead.new.self.machine same c.in_ok-restore.ensures.ok c.in_ok-more.ensures.moves (c.in_ok-more.ensures.idle c.in-None.is))
 
@@ -42,11 +43,13 @@ returns-in-Some-clause-moved c =
     let m = c.self.inside in
     let same = c.turn_ahead.ensures.same ∙ c.restore.ensures.same in
     let extends = subst (λ (ms : List BufferedState). Extends ms c.keep.new.self.kept) c.fill.ensures.same c.keep.ensures.extends in
-    subst (λ (a : Searched). OnOk c.keep.result (IsMoved a.patient c.keep.new.self.kept c.args.place (TurnOf c.args.cpu))) c.self.view_is
-    (on_ok_weaker c.keep.result (λ is. kept_moved m.patient m.album.kept c.turn_ahead.new.self.kept c.args.place (TurnOf c.args.cpu)
-    c.restore.new.self.machine c.turn_ahead.new.self.machine same c.in_ok-restore.ensures.ok c.keep.new.self.kept
-    extends c.in_ok-more.ensures.moves
-    (filled_kept m.patient c.keep.new.self.kept c.turn_ahead.new.self.machine c.fill.new.self.machine c.args.cpu c.fill.ensures.filled is))
+    subst (λ (a : Searched). IfOk c.keep.result (IsMovedTo a.patient c.keep.new.self.kept c.args.place (TurnOf c.args.cpu))) c.self.view_is
+    (IfOk-weaker c.keep.result (λ (n : ℕ). slice_get c.keep.new.self.kept n ≡ Some c.fill.new.self.machine)
+    (λ (n : ℕ). IsMovedTo m.patient c.keep.new.self.kept c.args.place (TurnOf c.args.cpu) n) (λ n at.
+    kept_moved m.patient m.album.kept c.turn_ahead.new.self.kept c.args.place (TurnOf c.args.cpu)
+    c.restore.new.self.machine c.turn_ahead.new.self.machine same c.in_ok-restore.ensures.ok c.keep.new.self.kept n
+    extends c.in_ok-more.ensures.moves (slice_get_within c.keep.new.self.kept n c.fill.new.self.machine at)
+    (filled_kept m.patient c.keep.new.self.kept n c.turn_ahead.new.self.machine c.fill.new.self.machine c.args.cpu c.fill.ensures.filled at))
     c.keep.ensures.kept)
 
 pub returns-in-Some-clause-extends : goal.returns-in-Some-clause-extends
