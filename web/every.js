@@ -9,6 +9,7 @@ const LIMITS = [1000, 10000, 100000, 1000000]; // of states
 const MOST_FOUND = 200; // that are listed
 
 const DEADLOCK = 'a deadlock: no order of turns leads from here to an end';
+const DEADLOCK_X86 = 'a deadlock: no order of turns and flushes leads from here to an end';
 const BY_TURNS = 'A schedule that leads there: N turns of CPU C are C*N';
 const BY_FLUSHES = '`ebpf run --x86 --by` leads there: N turns of CPU C are C*N, and N flushes of its buffer C!*N';
 
@@ -24,7 +25,7 @@ const LAST = /^(?<all>all|not all): (?:\d+ outcomes, (?<states>\d+) states|\d+ r
 
 const SAID_OF = {
     outcome: () => [],
-    deadlock: () => [DEADLOCK],
+    deadlock: ({ is_x86 }) => [is_x86 ? DEADLOCK_X86 : DEADLOCK],
     race: ({ what, ...parts }) => [`${stands_in(parts).map(stand_text).join(', ')}: ${what}`],
 };
 
@@ -37,17 +38,17 @@ const stands_in = ({ cpu, prog, pc, other, other_prog, other_pc }) =>
 
 const stand_text = ({ cpu, program, pc }) => `CPU ${cpu} at prog ${program} pc ${pc}`;
 
-function found_in(line) {
+function found_in(line, is_x86) {
     for (const [kind, form] of FOUND) {
         const parts = form.exec(line)?.groups;
         if (!parts) continue;
         const places = kind === 'race' ? stands_in(parts) : [];
-        return { kind, schedule: parts.by ?? '', lines: SAID_OF[kind](parts), places };
+        return { kind, schedule: parts.by ?? '', lines: SAID_OF[kind]({ ...parts, is_x86 }), places };
     }
     return null;
 }
 
-function read_explored(printed) {
+function read_explored(printed, is_x86) {
     const lines = printed.trimEnd().split('\n');
     const last = LAST.exec(lines.pop())?.groups;
     if (!last) throw new Error(printed.trim());
@@ -56,7 +57,7 @@ function read_explored(printed) {
     let same = '';
     const threads = [];
     for (const line of lines) {
-        const one = found_in(line);
+        const one = found_in(line, is_x86);
         if (one) found.push(one);
         else if (line.startsWith('budgets ')) budgets = line;
         else if (line.startsWith('threads ')) threads.push(line);
@@ -86,7 +87,7 @@ async function search_all(text, { is_patient, is_of_races, is_x86, locks }, show
         const words = ['explore', '--limit', String(limit), ...asked];
         const { stdout } = await search.engine.call(words, text);
         if (mine !== search.number) return;
-        search.came = read_explored(text_of(stdout));
+        search.came = read_explored(text_of(stdout), is_x86);
         search.stage++;
         if (search.came.is_all) break;
     }
@@ -115,13 +116,13 @@ function counts_text({ found, states }, is_of_races) {
 
 // What a whole search says of the orders of turns that aren't listed.
 function no_other_text({ is_patient, is_of_races, is_x86 }, { budgets, same }) {
-    if (is_x86) return 'No order of turns and flushes has another.';
+    const order = is_x86 ? 'order of turns and flushes' : 'order of turns';
     if (same) return 'No order of turns has another, and on x86 the outcomes are the same.';
-    if (!is_patient) return 'No order of turns has another.';
+    if (!is_patient) return `No ${order} has another.`;
     if (is_of_races) return 'No order of turns that uses no budget up has another.';
-    if (!budgets) return 'No order of turns has another, and none uses a budget up.';
+    if (!budgets) return `No ${order} has another, and none uses a budget up.`;
     const some = budgets === 'budgets can run out' ? 'Some order uses' : 'Some order may use';
-    return `No order of turns that uses no budget up has another. ${some} one up.`;
+    return `No ${order} that uses no budget up has another. ${some} one up.`;
 }
 
 // In which ways worker threads may reach more.

@@ -291,7 +291,7 @@ async function explore(is_of_races) {
     const locks = at('locks').value.split(/[\s,]+/).filter((name) => name);
     try {
         const is_x86 = state.is_x86 && !is_of_races;
-        await search_all(text, { is_patient: at('patient').checked && !is_x86, is_of_races, is_x86, locks }, draw_search);
+        await search_all(text, { is_patient: at('patient').checked, is_of_races, is_x86, locks }, draw_search);
     } catch (error) {
         if (error.name !== 'Stopped') {
             search.is_on = false;
