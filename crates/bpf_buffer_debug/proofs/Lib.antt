@@ -3,8 +3,10 @@ pub mod CommandLaws
 pub mod ScheduleLaws
 pub mod MoveLaws
 pub mod GoLaws
+pub mod RecallLaws
 pub mod SeeLaws
 pub mod WaitLaws
 pub mod SessionLaws
+pub mod CourseLaws
 pub mod LineLaws
 pub mod ScriptLaws

@@ -1,5 +1,5 @@
 -- Lines that are followed or refused.
-use Rattle.std.proofs.Common.{◌≡◌, ◌∙◌, ℕ, ◌<◌, List, [], ◌∷◌, length, inl, inr, refl, sym, ap, subst, arith, Option, Some, None}
+use Rattle.std.proofs.Common.{◌≡◌, ◌∙◌, ℕ, ◌<◌, List, [], ◌∷◌, length, refl, sym, ap, subst, arith, Option, Some, None}
 use Rattle.bpf_names.specs.Names.{Names}
 use Rattle.bpf_loader.specs.Loaded.{Loaded}
 use Rattle.bpf_shared.specs.Shape.{Shape}
@@ -13,16 +13,20 @@ use Rattle.bpf_debug.specs.Command.{Maps, Variables, Number, Jobs, Mark, Nearby,
 use Rattle.bpf_debug.specs.Course.{AreFewer, IsKept, count_of}
 use Rattle.bpf_debug.specs.Session.{HasBadOperand, RefusesOrder}
 use Rattle.bpf_debug.proofs.CourseLaws.{runs_tell_turns}
-use Rattle.bpf_buffer_debug.specs.Command.{Order, Plain, Flush, Buffer, order_of}
+use Rattle.bpf_buffer_debug.specs.Command.{Order, order_of}
+use Rattle.bpf_buffer_debug.proofs.CourseLaws.{follows_on}
 use Rattle.bpf_buffer_debug.specs.Session.{SessionState, Scene, IsShown, Obeys, Leaves, LeavesLine, RefusesHere, RefusesLine, IsRefused, refusable}
 
 pub no_line : (s : SessionState) (fields : List (List ℕ)) (text : List ℕ) → fields ≡ [] → text ≡ [] → LeavesLine s fields text s
-no_line s fields text e none x shown = (x, subst (λ (fs : List (List ℕ)). Obeys x fs text x) (sym e) (none, refl), shown)
+no_line s fields text e none x shown = (x, subst (λ (fs : List (List ℕ)). Obeys x fs text x) (sym e) (none, refl), λ course. course, shown)
 
 pub line_done : (s t : SessionState) (fields : List (List ℕ)) (order : Order) (text : List ℕ) → Some order ≡ order_of fields → Leaves s
     order text t → LeavesLine s fields text t
 line_done s t [] order text e leaves x shown = let no : Some order ≡ None = e in cc
-line_done s t (f ∷ fs) order text e leaves x shown = let l = leaves x shown in (l.0, (order, sym e, l.1), l.2)
+line_done s t (f ∷ fs) order text e leaves x shown =
+    let l = leaves x shown in
+    let few = shown.here.world.sound.fixed.shape.cpus.1 in
+    (l.0, (order, sym e, l.1), λ course. follows_on x order text l.0 few l.1 course, l.2)
 
 -- ---- refusals
 -- the moves that are kept are as many as were made
@@ -91,14 +95,7 @@ module _ (s : SessionState) (x : Scene) (shown : IsShown s x) where
       (counted cpus s.machine.machine.programs h s.names s.course x.moves order e shown.moves here))))
 
   order_refused : (order : Order) (e : DebugError) → RefusesHere s order e → IsRefused x order e
-  order_refused (Plain order) error.BadCommand here = here
-  order_refused (Plain order) error.NoCpu here = moved (refusable (Plain order)) error.NoCpu here
-  order_refused (Plain order) error.NoPc here = moved (refusable (Plain order)) error.NoPc here
-  order_refused (Plain order) error.NoMap here = moved (refusable (Plain order)) error.NoMap here
-  order_refused (Plain order) error.OutOfMemory here = moved (refusable (Plain order)) error.OutOfMemory here
-  order_refused (Plain order) error.BadOperand here = moved (refusable (Plain order)) error.BadOperand here
-  order_refused (Flush c) e here = moved (refusable (Flush c)) e here
-  order_refused (Buffer c) e here = moved (refusable (Buffer c)) e here
+  order_refused order e here = moved (refusable order) e here
 
 pub line_refused : (s : SessionState) (fields : List (List ℕ)) (order : Order) (e : DebugError) → Some order ≡ order_of fields → RefusesHere
     s order e → RefusesLine s fields e
@@ -106,8 +103,8 @@ line_refused s fields order error.NoCpu is here x shown = (order, sym is, order_
 line_refused s fields order error.NoPc is here x shown = (order, sym is, order_refused s x shown order error.NoPc here)
 line_refused s fields order error.NoMap is here x shown = (order, sym is, order_refused s x shown order error.NoMap here)
 line_refused s fields order error.BadOperand is here x shown = (order, sym is, order_refused s x shown order error.BadOperand here)
-line_refused s fields order error.BadCommand is here x shown = inr (order, sym is, order_refused s x shown order error.BadCommand here)
+line_refused s fields order error.BadCommand is here x shown = absurd here
 line_refused s fields order error.OutOfMemory is here x shown = tt
 
 pub not_said : (s : SessionState) (fields : List (List ℕ)) → (fields ≡ [] → ⊥) → order_of fields ≡ None → RefusesLine s fields error.BadCommand
-not_said s fields some none x shown = inl (some, none)
+not_said s fields some none x shown = (some, none)

@@ -81,21 +81,24 @@ moves_alike : (n c : ℕ) → map move_of (replicate n c) ≡ replicate n (move_
 moves_alike zero c = refl
 moves_alike (suc n) c = ap (λ (ms : List Move). move_of c ∷ ms) (moves_alike n c)
 
+pub one_run_more : (runs : List (ℕ × ℕ)) (i : ℕ) (d : ℕ × ℕ) → i < length runs → all_moves (take (i + 1) runs)
+    ≡ all_moves (take i runs) ++ replicate (get_or runs i d).1 (move_of (get_or runs i d).0)
+one_run_more runs i d inside =
+    let run = get_or runs i d in
+    let last : unrolled (run ∷ []) ≡ replicate run.1 run.0 = append-nil (replicate run.1 run.0) in
+    let all : unrolled (take (i + 1) runs) ≡ unrolled (take i runs) ++ replicate run.1 run.0 =
+    ap unrolled (take_more runs i d inside) ∙ (unrolled-append (take i runs) (run ∷ []) ∙ ap (λ (cs : List ℕ). unrolled (take i runs) ++ cs) last)
+    in
+    ap (map move_of) all ∙ (map-append move_of (unrolled (take i runs)) (replicate run.1 run.0) ∙ ap
+    (λ (ms : List Move). all_moves (take i runs) ++ ms) (moves_alike run.1 run.0))
+
 pub next_run : (old mid new : BufferedState) (runs : List (ℕ × ℕ)) (i : ℕ) (d : ℕ × ℕ) (before between after : List ℕ) → i < length runs →
     TellsTo old (all_moves (take i runs)) before mid between
     → TellsTo mid (replicate (get_or runs i d).1 (move_of (get_or runs i d).0)) between new after
     → TellsTo old (all_moves (take (i + 1) runs)) before new after
 next_run old mid new runs i d before between after inside made here =
     let run = get_or runs i d in
-    let last : unrolled (run ∷ []) ≡ replicate run.1 run.0 = append-nil (replicate run.1 run.0) in
-    let all : unrolled (take (i + 1) runs) ≡ unrolled (take i runs) ++ replicate run.1 run.0 =
-    ap unrolled (take_more runs i d inside) ∙ (unrolled-append (take i runs) (run ∷ []) ∙ ap (λ (cs : List ℕ). unrolled (take i runs) ++ cs) last)
-    in
-    let moves : all_moves (take (i + 1) runs) ≡ all_moves (take i runs) ++ replicate run.1 (move_of run.0) =
-    ap (map move_of) all ∙ (map-append move_of (unrolled (take i runs)) (replicate run.1 run.0) ∙ ap
-    (λ (ms : List Move). all_moves (take i runs) ++ ms) (moves_alike run.1 run.0))
-    in
-    subst (λ (ms : List Move). TellsTo old ms before new after) (sym moves) (told_both (all_moves (take i runs))
+    subst (λ (ms : List Move). TellsTo old ms before new after) (sym (one_run_more runs i d inside)) (told_both (all_moves (take i runs))
     (replicate run.1 (move_of run.0)) old mid new before between after made here)
 
 pub all_runs : (old new : BufferedState) (runs : List (ℕ × ℕ)) (i : ℕ) (before after : List ℕ) → length runs ≤ i → TellsTo old

@@ -11,10 +11,13 @@ use Rattle.bpf_buffer_debug.specs.Session.{SessionState, Scene, IsShown, LeavesL
 use Rattle.bpf_buffer_debug.specs.Script.{AnswersLine, RunsScript, ShowsScene}
 
 -- a line that is followed
-pub line_followed : (s t : SessionState) (line text : List ℕ) → (s.lost ≡ true → ⊥) → LeavesLine s (fields_of line) text t → (x : Option Scene)
+pub line_followed : (s t : SessionState) (line text : List ℕ) → (s.lost ≡ true → (fields_of line ≡ []) × (text ≡ []) × (t ≡ s))
+    → LeavesLine s (fields_of line) text t → (x : Option Scene)
     → ShowsScene s x → (y : Option Scene) × AnswersLine x line (Ok text) y × ShowsScene t y
-line_followed s t line text kept leaves None shown = absurd (kept shown)
-line_followed s t line text kept leaves (Some x) shown = let l = leaves x shown in (Some l.0, (l.0, l.1, refl), l.2)
+line_followed s t line text lost leaves None shown =
+    let l = lost shown in
+    (None, (l.0, l.1, refl), ap (λ (r : SessionState). r.lost) l.2 ∙ shown)
+line_followed s t line text lost leaves (Some x) shown = let l = leaves x shown in (Some l.0, (l.0, l.1, refl), l.3)
 
 -- one that is refused
 refused_from : (s t : SessionState) (line : List ℕ) (e : DebugError) (x : Scene) → IsShown s x → RefusesLine s (fields_of line) e
@@ -25,12 +28,12 @@ refused_from s t line e x shown refuses (inl same) =
 refused_from s t line e x shown refuses (inr lost) = (None, (refuses x shown, inr (lost.0, refl)), lost.1)
 
 pub line_refused : (s t : SessionState) (line : List ℕ) (e : DebugError) → RefusesLine s (fields_of line) e → Stays s e t
-    → (s.lost ≡ true → (e ≡ error.OutOfMemory) × (t ≡ s)) → (x : Option Scene)
+    → (s.lost ≡ true → (line ≡ [] → ⊥) × (e ≡ error.OutOfMemory) × (t ≡ s)) → (x : Option Scene)
     → ShowsScene s x → (y : Option Scene) × AnswersLine x line (Err e) y × ShowsScene t y
 line_refused s t line e refuses stays lost (Some x) shown = refused_from s t line e x shown refuses stays
 line_refused s t line e refuses stays lost None shown =
     let l = lost shown in
-    (None, (ap (λ (d : DebugError). Err d) l.0, refl), ap (λ (r : SessionState). r.lost) l.1 ∙ shown)
+    (None, (l.0, l.1, refl), ap (λ (r : SessionState). r.lost) l.2 ∙ shown)
 
 -- ---- some lines
 pub record Far (lines : List (List ℕ)) (old new : SessionState) (answers : List Answer) (rest : List (List ℕ)) : Type 0 where

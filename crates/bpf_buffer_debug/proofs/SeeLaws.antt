@@ -1,6 +1,7 @@
 -- What is printed of a CPU that has a job in hand, or none.
 use Rattle.std.proofs.Common.{◌≡◌, ◌∙◌, ℕ, List, length, Option, Some, inl, inr, refl, sym, ap, subst}
-use Rattle.std.specs.Prelude.{slice_get, slice_index_or}
+use Rattle.std.specs.Prelude.{map, slice_get, slice_index_or, string_bytes}
+use Rattle.bpf_names.specs.Names.{Names}
 use Rattle.std.proofs.lemmas.Option.{slice_get_read}
 use Rattle.bpf_plain.specs.PlainStore.{Contents}
 use Rattle.bpf_loader.specs.Loaded.{Loaded}
@@ -14,7 +15,9 @@ use Rattle.bpf_buffering.specs.Search.{BufferedState}
 use Rattle.bpf_debug.specs.Answer.{IsOff, IsWhere}
 use Rattle.bpf_debug.specs.Held.{IsHeldText, ShowsHeld}
 use Rattle.bpf_debug.specs.Read.{IsMemoryText, TellsBytes}
-use Rattle.bpf_buffer_debug.specs.Seeing.{TellsSeenHeld, TellsSeenMemory}
+use Rattle.bpf_debug.specs.declared.show.Shown.{Shown}
+use Rattle.bpf_debug.specs.Private.Naming.{ShowsLines}
+use Rattle.bpf_buffer_debug.specs.Seeing.{TellsSeenHeld, TellsSeenLines, TellsSeenMemory}
 
 pub off : (jobs : List Task) (c : ℕ) (text : List ℕ) → IsFree jobs c → IsWhere jobs c text → IsOff jobs c text
 off jobs c text free is = elim is [
@@ -52,6 +55,14 @@ no_held names m c seen last sees is x shows =
     let s = sees x shows in
     let J : List Task → Type 0 = λ jobs. IsHeldText names s.0 jobs c last in
     (s.0, s.1, subst J (sym shows.world.jobs) (inr is))
+
+pub seen_lines : (names : Names) (m : BufferedState) (c j : ℕ) (state : Cpu) (seen : Contents) (shown : Shown) → IsSeenBy m c seen
+    → ((task : Task) × (left : ℕ) × IsAt m.machine.jobs c j task (InHand state left)) → shown.registers ≡ state.registers
+    → ShowsLines names seen state.held 0 state.registers (map string_bytes shown.lines.items) → TellsSeenLines names m c shown
+seen_lines names m c j state seen shown sees hand same tells x shows =
+    let s = sees x shows in
+    let J : List Task → Type 0 = λ jobs. IsAt jobs c j hand.0 (InHand state hand.1) in
+    (s.0, j, hand.0, state, hand.1, s.1, subst J (sym shows.world.jobs) hand.2, same, tells s.0 s.2 s.3)
 
 -- ---- the program of the job
 pub program_here : (m : MachineState) (c j : ℕ) (task other : Task) (state : Cpu) (left : ℕ) (programs : List Loaded) (program : Loaded) → Stands m

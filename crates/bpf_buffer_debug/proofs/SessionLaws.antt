@@ -1,14 +1,15 @@
 -- What a session's commands do, from what its functions ensure.
-use Rattle.std.proofs.Common.{◌≡◌, ◌∙◌, ℕ, ◌+◌, ◌-◌, ◌≤◌, drop, get_or, Bool, true, false, List, [], ◌∷◌, ◌++◌, length, map, refl}
+use Rattle.std.proofs.Common.{◌≡◌, ◌∙◌, ℕ, ◌+◌, ◌-◌, ◌≤◌, drop, get_or, Bool, true, false, List, [], ◌∷◌, ◌++◌, length, map, inl, inr, refl}
 use Rattle.std.proofs.Common.{sym, ap, subst, arith, Option, Some, None}
-use Rattle.std.specs.Prelude.{codes, slice_get}
+use Rattle.std.specs.Prelude.{codes, slice_get, string_bytes}
 use Rattle.std.proofs.lemmas.List.{get_or-drop, length-drop, take-append-drop}
 use Rattle.std.proofs.lemmas.Option.{get_or_from_slice_get}
 use Rattle.bpf_schedule.specs.Moves.{all_moves_text}
 use Rattle.bpf_loader.specs.Loaded.{Loaded}
 use Rattle.bpf_shared.specs.declared.events.Event.{Event}
-use Rattle.bpf_names.specs.Names.{Names}
-use Rattle.bpf_plain.specs.PlainStore.{Contents, has_cpu}
+use Rattle.bpf_names.specs.Names.{Names, Variable, variable_named}
+use Rattle.bpf_plain.specs.PlainStore.{Contents, has_cpu, shape_of}
+use Rattle.bpf_shared.specs.Shape.{Shape}
 use Rattle.bpf_plain.specs.Alike.{IsSameShape}
 use Rattle.bpf_cpu.specs.Task.{Task}
 use Rattle.bpf_machine.specs.Parts.{IsSameHost}
@@ -19,7 +20,10 @@ use Rattle.bpf_buffering.specs.Search.{BufferedState, ShowsX86, MovesTo, buffer_
 use Rattle.bpf_flushes.specs.Moves.{Makes, MakesAll, MakesTo}
 use Rattle.bpf_flushes.proofs.Turning.{flush_made}
 use Rattle.bpf_debug.specs.declared.breakpoint.Breakpoint.{Breakpoint}
-use Rattle.bpf_debug.specs.Answer.{IsWhere, break_line, deleted_line}
+use Rattle.bpf_debug.specs.declared.recall.Kind.TheVariants as kind
+use Rattle.bpf_debug.specs.declared.recall.Recall.{Recall}
+use Rattle.bpf_debug.specs.declared.show.Shown.{Shown}
+use Rattle.bpf_debug.specs.Answer.{IsOff, IsWhere, break_line, deleted_line, unwatched_line, variable_watch_line, watch_line}
 use Rattle.bpf_debug.specs.Command as plain
 use Rattle.bpf_debug.specs.Command.{Break, Delete, Step, StepTimes, Steps, Go, GoTo, Back, Memory, Held, Schedule, Help, Registers, Where, Map, Keys}
 use Rattle.bpf_debug.specs.Command.{Maps, Variables, Number, Jobs, Mark, Nearby, Last, Show, Watch, WatchVariable, Unwatch}
@@ -27,6 +31,10 @@ use Rattle.bpf_debug.specs.Course.{IsKept, KeepsOn, TakesBack, cpu_before, runs_
 use Rattle.bpf_debug.specs.Go.{without_break}
 use Rattle.bpf_debug.specs.Session as plain_session
 use Rattle.bpf_debug.specs.Session.{IsPc, with_break}
+use Rattle.bpf_debug.specs.Read.{IsNamed}
+use Rattle.bpf_debug.specs.Recall.{IsLastText, IsRecall, Past}
+use Rattle.bpf_debug.specs.Show.{AreShownLines, IsBefore, IsShownText, changed_text}
+use Rattle.bpf_debug.specs.Watch.{Watched, chosen_in, variable_watched}
 use Rattle.bpf_debug.proofs.CourseLaws.{runs_tell_turns}
 use Rattle.bpf_debug.proofs.SessionLaws.{alone, is_cpu}
 use Rattle.bpf_buffer_debug.specs.Command.{Plain, Flush, Buffer}
@@ -34,7 +42,8 @@ use Rattle.bpf_buffer_debug.specs.Go.{Goes}
 use Rattle.bpf_buffer_debug.specs.Help.{help_text}
 use Rattle.bpf_buffer_debug.specs.Moves.{TellsMoves, all_moves, cpu_of, last_cpu}
 use Rattle.bpf_buffer_debug.specs.Private.Kept.{CanRewind, first_of}
-use Rattle.bpf_buffer_debug.specs.Seeing.{TellsSeenHeld, TellsSeenMemory, IsSeenHeld}
+use Rattle.bpf_buffer_debug.specs.Recall.{Recalls, RecallsTo}
+use Rattle.bpf_buffer_debug.specs.Seeing.{TellsSeenHeld, TellsSeenLines, TellsSeenMemory, IsSeenHeld}
 use Rattle.bpf_buffer_debug.specs.Session.{SessionState, Scene, IsShown, IsCpu, Leaves, are_cpus, behind, unbuffered, undone}
 use Rattle.bpf_buffer_debug.specs.Waiting.{buffer_text, flush_text}
 
@@ -84,7 +93,7 @@ plain_state s = record {
   first = s.first.machine;
   names = s.names;
   breaks = s.breaks;
-  watch = None;
+  watch = s.watch;
   course = s.course;
 }
 
@@ -94,7 +103,7 @@ shown_plain s x shown = record {
   first = shown.first.world;
   names = shown.names;
   breaks = shown.breaks;
-  watch = refl;
+  watch = shown.watch;
   turns = shown.moves;
 }
 
@@ -170,11 +179,13 @@ pub told_help : (s : SessionState) (last : List ℕ) → last ≡ help_text → 
 told_help s last put x shown = (x, (put, refl), shown)
 
 -- ---- what leaves another session
--- the names, the breakpoints and the first machine are the same, and it is lost only if that was
+-- the names, the breakpoints, what is watched and the first machine are the same, and it is lost only if
+-- that was
 pub record GoesOn (s t : SessionState) : Type 0 where
   pub first : t.first ≡ s.first
   pub names : t.names ≡ s.names
   pub breaks : t.breaks ≡ s.breaks
+  pub watch : t.watch ≡ s.watch
   pub kept : s.lost ≡ false → t.lost ≡ false
 
 module _ (s t : SessionState) (on : GoesOn s t) where
@@ -185,6 +196,7 @@ module _ (s t : SessionState) (on : GoesOn s t) where
     first = subst (λ (m : BufferedState). ShowsX86 m x.first) (sym on.first) shown.first;
     names = shown.names ∙ sym on.names;
     breaks = shown.breaks ∙ sym on.breaks;
+    watch = shown.watch ∙ sym on.watch;
     moves = keeps x.moves shown.moves;
   }
 
@@ -203,29 +215,33 @@ module _ (s t : SessionState) (on : GoesOn s t) where
       )
 
   pub went : (cpus : ℕ) (last : List ℕ) → cpus ≡ length s.machine.machine.store.maps.runs
-      → ((x : X86) → ShowsX86 s.machine x → (z : X86) × (moves : List ℕ) × Goes s.breaks true 0 cpus x 0 [] moves last z × ShowsX86 t.machine z
+      → ((x : X86) → ShowsX86 s.machine x → (z : X86) × (moves : List ℕ) × Goes s.breaks s.watch true 0 cpus x 0 [] moves last z × ShowsX86 t.machine z
       × KeepsOn s.course moves t.course)
       → Leaves s (Plain Go) last t
   went cpus last count goes x shown =
       let g = goes x.here shown.here in
-      let B : List Breakpoint → Type 0 = λ bs. Goes bs true 0 x.here.world.store.shape.cpus x.here 0 [] g.1 last g.0 in
-      let C : ℕ → Type 0 = λ n. Goes s.breaks true 0 n x.here 0 [] g.1 last g.0 in (
+      let B : List Breakpoint → Type 0 = λ bs. Goes bs x.watch true 0 x.here.world.store.shape.cpus x.here 0 [] g.1 last g.0 in
+      let W : Option Watched → Type 0 = λ w. Goes s.breaks w true 0 x.here.world.store.shape.cpus x.here 0 [] g.1 last g.0 in
+      let C : ℕ → Type 0 = λ n. Goes s.breaks s.watch true 0 n x.here 0 [] g.1 last g.0 in
+      let all = subst C (count ∙ sym shown.here.world.store.maps.cpus) g.2 in (
         behind x g.1 g.0,
-        (g.0, g.1, subst B (sym shown.breaks) (subst C (count ∙ sym shown.here.world.store.maps.cpus) g.2), refl),
+        (g.0, g.1, subst B (sym shown.breaks) (subst W (sym shown.watch) all), refl),
         shown_on x g.1 g.0 shown g.3 g.4,
       )
 
   pub went_to : (c p : ℕ) (last : List ℕ) → has_cpu s.machine.machine.store c ≡ true → IsPc s.machine.machine.programs p
-      → ((x : X86) → ShowsX86 s.machine x → (z : X86) × (moves : List ℕ) × Goes (record { cpu = c; pc = p } ∷ []) false c (c + 1) x c [] moves last z
+      → ((x : X86) → ShowsX86 s.machine x → (z : X86) × (moves : List ℕ)
+      × Goes (record { cpu = c; pc = p } ∷ []) s.watch false c (c + 1) x c [] moves last z
       × ShowsX86 t.machine z × KeepsOn s.course moves t.course)
       → Leaves s (Plain (GoTo (Some c) (Some p))) last t
   went_to c p last has begins goes x shown =
       let g = goes x.here shown.here in
-      let P : List Loaded → Type 0 = λ ps. IsPc ps p in (
+      let P : List Loaded → Type 0 = λ ps. IsPc ps p in
+      let W : Option Watched → Type 0 = λ w. Goes (record { cpu = c; pc = p } ∷ []) w false c (c + 1) x.here c [] g.1 last g.0 in (
         behind x g.1 g.0,
         (
           is_cpu s.machine.machine x.here.world c has shown.here.world,
-          (subst P (sym shown.here.world.programs) begins, (g.0, g.1, g.2, refl)),
+          (subst P (sym shown.here.world.programs) begins, (g.0, g.1, subst W (sym shown.watch) g.2, refl)),
         ),
         shown_on x g.1 g.0 shown g.3 g.4,
       )
@@ -277,9 +293,72 @@ module _ (s t : SessionState) (on : GoesOn s t) where
           first = subst (λ (m : BufferedState). ShowsX86 m x.first) (sym on.first) shown.first;
           names = shown.names ∙ sym on.names;
           breaks = shown.breaks ∙ sym on.breaks;
+          watch = shown.watch ∙ sym on.watch;
           moves = subst (λ (h : Option (List (ℕ × ℕ))). IsKept h before) (sym left) k.0;
         },
       )
+
+  -- all moves are made again
+  led_again : (runs : List (ℕ × ℕ)) → s.course ≡ Some runs → (x : Scene) → IsShown s x → unrolled runs ≡ x.moves
+  led_again runs is x shown =
+      let told : runs ≡ runs_of x.moves = subst (λ (h : Option (List (ℕ × ℕ))). IsKept h x.moves) is shown.moves in
+      ap (λ (rs : List (ℕ × ℕ)). unrolled rs) told ∙ (runs_tell_turns x.moves).0
+
+  shown_again : (x : Scene) (z : X86) → IsShown s x → ShowsX86 t.machine z → t.course ≡ s.course → IsShown t (record x { here = z })
+  shown_again x z shown here same = record {
+    kept = on.kept shown.kept;
+    here = here;
+    first = subst (λ (m : BufferedState). ShowsX86 m x.first) (sym on.first) shown.first;
+    names = shown.names ∙ sym on.names;
+    breaks = shown.breaks ∙ sym on.breaks;
+    watch = shown.watch ∙ sym on.watch;
+    moves = subst (λ (h : Option (List (ℕ × ℕ))). IsKept h x.moves) (sym same) shown.moves;
+  }
+
+  pub told_last : (runs : List (ℕ × ℕ)) (c : ℕ) (recall : Option Recall) (last : List ℕ) → has_cpu s.machine.machine.store c ≡ true → s.course ≡ Some runs
+      → t.course ≡ s.course → RecallsTo kind.Ends c s.first None (all_moves runs) t.machine recall
+      → ((past : Option Past) → IsRecall c recall past → IsLastText c past t.machine.machine.jobs last) → Leaves s (Plain (Last (Some c))) last t
+  told_last runs c recall last has is same recalls put x shown =
+      let r = recalls x.first shown.first None tt in
+      let J : List Task → Type 0 = λ jobs. IsLastText c r.1 jobs last in
+      let R : List ℕ → Type 0 = λ cs. Recalls kind.Ends c x.first None (map move_of cs) r.1 r.0 in (
+        record x { here = r.0 },
+        (
+          is_cpu s.machine.machine x.here.world c has shown.here.world,
+          (r.1, r.0, subst R (led_again runs is x shown) r.2, subst J (sym r.3.world.jobs) (put r.1 r.4), refl),
+        ),
+        shown_again x r.0 shown r.3 same,
+      )
+
+  pub told_shown : (runs : List (ℕ × ℕ)) (c : ℕ) (recall : Option Recall) (lines : Shown) (last : List ℕ) → has_cpu s.machine.machine.store c ≡ true
+      → s.course ≡ Some runs → t.course ≡ s.course → RecallsTo kind.Works c s.first None (all_moves runs) t.machine recall
+      → TellsSeenLines s.names s.machine c lines
+      → ((past : Option Past) → IsRecall c recall past → (before : List ℕ) × IsBefore c past before
+      × (last ≡ changed_text before 0 lines.registers (map string_bytes lines.lines.items))) → Leaves s (Plain (Show (Some c))) last t
+  told_shown runs c recall lines last has is same recalls tells put x shown =
+      let r = recalls x.first shown.first None tt in
+      let l = tells x.here shown.here in
+      let p = put r.1 r.4 in
+      let texts : List (List ℕ) = map string_bytes lines.lines.items in
+      let N : Names → Type 0 = λ names. AreShownLines names l.0 l.3.held 0 l.3.registers texts in
+      let R : List ℕ → Type 0 = λ cs. Recalls kind.Works c x.first None (map move_of cs) r.1 r.0 in
+      let said : last ≡ changed_text p.0 0 l.3.registers texts = p.2 ∙ ap (λ (rs : List ℕ). changed_text p.0 0 rs texts) l.7 in
+      let text : IsShownText c x.names r.1 (record x.here.world { store = l.0 }) last =
+      (l.1, l.2, l.3, l.4, p.0, texts, l.6, p.1, subst N (sym shown.names) l.8, said) in (
+        record x { here = r.0 },
+        (
+          is_cpu s.machine.machine x.here.world c has shown.here.world,
+          inr (r.1, r.0, subst R (led_again runs is x shown) r.2, (l.0, l.5, text), refl),
+        ),
+        shown_again x r.0 shown r.3 same,
+      )
+
+-- a CPU without a job in hand has no registers
+pub told_off : (s : SessionState) (c : ℕ) (last : List ℕ) → has_cpu s.machine.machine.store c ≡ true → IsOff s.machine.machine.jobs c last
+    → Leaves s (Plain (Show (Some c))) last s
+told_off s c last has off x shown =
+    let J : List Task → Type 0 = λ jobs. IsOff jobs c last in
+    (x, (is_cpu s.machine.machine x.here.world c has shown.here.world, inl (subst J (sym shown.here.world.jobs) off, refl)), shown)
 
 -- the turns of one CPU are a schedule
 pub one_cpu : (s t : SessionState) (c n : ℕ) (last : List ℕ) → has_cpu s.machine.machine.store c ≡ true → Leaves s (Plain (Steps ((c, n) ∷ []))) last t
@@ -295,8 +374,8 @@ one_turn s t c last has leaves x shown =
     (l.0, (is_cpu s.machine.machine x.here.world c has shown.here.world, l.1.1), l.2)
 
 -- ---- breakpoints
-module _ (s t : SessionState) (machine : t.machine ≡ s.machine) (first : t.first ≡ s.first) (names : t.names ≡ s.names) (course : t.course ≡ s.course)
-    (lost : t.lost ≡ s.lost) where
+module _ (s t : SessionState) (machine : t.machine ≡ s.machine) (first : t.first ≡ s.first) (names : t.names ≡ s.names) (watch : t.watch ≡ s.watch)
+    (course : t.course ≡ s.course) (lost : t.lost ≡ s.lost) where
   shown_breaks : (x : Scene) (breaks : List Breakpoint) → IsShown s x → t.breaks ≡ breaks → IsShown t (record x { breaks = breaks })
   shown_breaks x breaks shown is = record {
     kept = lost ∙ shown.kept;
@@ -304,6 +383,7 @@ module _ (s t : SessionState) (machine : t.machine ≡ s.machine) (first : t.fir
     first = subst (λ (m : BufferedState). ShowsX86 m x.first) (sym first) shown.first;
     names = shown.names ∙ sym names;
     breaks = sym is;
+    watch = shown.watch ∙ sym watch;
     moves = subst (λ (kept : Option (List (ℕ × ℕ))). IsKept kept x.moves) (sym course) shown.moves;
   }
 
@@ -330,3 +410,40 @@ module _ (s t : SessionState) (machine : t.machine ≡ s.machine) (first : t.fir
         ),
         shown_breaks x (without_break x.breaks c p) shown (same ∙ ap (λ (bs : List Breakpoint). without_break bs c p) (sym shown.breaks)),
       )
+
+-- ---- what is watched
+module _ (s t : SessionState) (machine : t.machine ≡ s.machine) (first : t.first ≡ s.first) (names : t.names ≡ s.names) (breaks : t.breaks ≡ s.breaks)
+    (course : t.course ≡ s.course) (lost : t.lost ≡ s.lost) where
+  shown_watch : (x : Scene) (watch : Option Watched) → IsShown s x → t.watch ≡ watch → IsShown t (record x { watch = watch })
+  shown_watch x watch shown is = record {
+    kept = lost ∙ shown.kept;
+    here = subst (λ (m : BufferedState). ShowsX86 m x.here) (sym machine) shown.here;
+    first = subst (λ (m : BufferedState). ShowsX86 m x.first) (sym first) shown.first;
+    names = shown.names ∙ sym names;
+    breaks = shown.breaks ∙ sym breaks;
+    watch = sym is;
+    moves = subst (λ (kept : Option (List (ℕ × ℕ))). IsKept kept x.moves) (sym course) shown.moves;
+  }
+
+  pub watched_key : (name word key : List ℕ) (n : ℕ) (w : Watched) (last : List ℕ) → IsNamed s.names.maps name n
+      → chosen_in (shape_of s.machine.machine.store) n word ≡ Some (w, key) → t.watch ≡ Some w → last ≡ watch_line name key
+      → Leaves s (Plain (Watch name word)) last t
+  watched_key name word key n w last named chosen same put x shown =
+      let N : Names → Type 0 = λ ns. IsNamed ns.maps name n in
+      let H : Shape → Type 0 = λ h. chosen_in h n word ≡ Some (w, key) in (
+        record x { watch = Some w },
+        (Some w, refl, (n, w, key, subst N (sym shown.names) named, subst H (sym shown.here.world.store.shape) chosen, put, refl)),
+        shown_watch x (Some w) shown same,
+      )
+
+  pub watched_variable : (name : List ℕ) (v : Variable) (last : List ℕ) → variable_named name s.names.variables ≡ Some v
+      → t.watch ≡ Some (variable_watched v) → last ≡ variable_watch_line v.name → Leaves s (Plain (WatchVariable name)) last t
+  watched_variable name v last named same put x shown =
+      let N : Names → Type 0 = λ ns. variable_named name ns.variables ≡ Some v in (
+        record x { watch = Some (variable_watched v) },
+        (Some (variable_watched v), refl, (v, subst N (sym shown.names) named, put, refl)),
+        shown_watch x (Some (variable_watched v)) shown same,
+      )
+
+  pub watched_none : (last : List ℕ) → t.watch ≡ None → last ≡ unwatched_line → Leaves s (Plain Unwatch) last t
+  watched_none last same put x shown = (record x { watch = None }, (None, refl, (put, refl)), shown_watch x None shown same)

@@ -2,6 +2,7 @@ pub mod Command
 pub mod Help
 pub mod Moves
 pub mod Go
+pub mod Recall
 pub mod Seeing
 pub mod Waiting
 pub mod Session

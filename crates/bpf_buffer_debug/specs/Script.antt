@@ -7,9 +7,10 @@ use Rattle.bpf_buffer_debug.specs.Session.{Scene, SessionState, IsShown, Obeys, 
 
 -- what a line is answered, and what is there after it: what it says is done; or it is refused, and
 -- changes nothing, unless memory ran out in the middle of a move: then there is no scene any more, and
--- each line is refused
+-- each line that says something is refused
 abbrev pub AnswersLine : Option Scene → List ℕ → Answer → Option Scene → Type 0
-AnswersLine None line answer y = (answer ≡ Err error.OutOfMemory) × (y ≡ None)
+AnswersLine None line (Ok text) y = (fields_of line ≡ []) × (text ≡ []) × (y ≡ None)
+AnswersLine None line (Err e) y = (line ≡ [] → ⊥) × (e ≡ error.OutOfMemory) × (y ≡ None)
 AnswersLine (Some x) line (Ok text) y =
     (z : Scene) × Obeys x (fields_of line) text z × (y ≡ Some z)
 AnswersLine (Some x) line (Err e) y =

@@ -1,23 +1,26 @@
-//! What `go` does: rounds of turns, each with a flush after it, up to a breakpoint or until no work is
-//! left.
+//! What `go` does: rounds of turns, each with a flush after it, up to a breakpoint, to a turn or a flush
+//! that changes a watched value, or until no work is left.
 
-ghost use Rattle.std.specs.Prelude.{◌≡◌, ◌+◌, ◌≤◌, ◌<◌, ◌++◌, ◌∷◌, ◌⊎◌, IfSome, IfNone, IfOk, OnOk, List, ℕ, [], true, false, slice_index_or, string_bytes};
+ghost use Rattle.std.specs.Prelude.{◌≡◌, ◌+◌, ◌≤◌, ◌<◌, ◌++◌, ◌∷◌, ◌⊎◌, IfSome, IfNone, IfOk, OnOk, List, ℕ, [], true, false, option_map, slice_index_or, string_bytes};
 ghost use Rattle.bpf_machine.specs.declared.machine.Turn.{Turn};
 ghost use Rattle.bpf_machine.specs.Parts.{IsSameHost};
 ghost use Rattle.bpf_x86.specs.Machine.{X86, FlushOf};
 ghost use Rattle.bpf_buffering.specs.Buffering.{TurnsTo};
 ghost use Rattle.bpf_buffering.specs.Search.{MovesTo, ShowsX86, buffer_at};
-ghost use Rattle.bpf_debug.specs.Answer.{ended_text, stop_line};
+ghost use Rattle.bpf_debug.specs.Answer.{changed_line, ended_text, stop_line};
 ghost use Rattle.bpf_debug.specs.Course.{KeepsOn};
 ghost use Rattle.bpf_debug.specs.Go.{AreIdle, HasWork, IsUp, StandsAt, has_break};
-ghost use Rattle.bpf_buffer_debug.specs.Go.{Flushes, Goes};
+ghost use Rattle.bpf_debug.specs.Watch.{ShowsOther, ShowsWatched, kept_values, watched};
+ghost use Rattle.bpf_buffer_debug.specs.Go.{Flushes, Goes, flush_changed_line};
 
 use crate::lines::push_ended;
 use bpf_buffering::{Album, Buffering};
 use bpf_debug::breakpoint::{Breakpoint, has_break};
 use bpf_debug::course::Course;
-use bpf_debug::lines::put_stop;
+use bpf_debug::going::Watching;
+use bpf_debug::lines::{put_changed, put_stop};
 use bpf_debug::session::make_room;
+use bpf_debug::watch::has_changed;
 use bpf_machine::Standing;
 use bpf_schedule::FLUSH;
 use std::alloc::{AllocError, Global};
@@ -148,18 +151,51 @@ fn push_stop(alloc: Global, out: &mut String, cpu: u8, pc: u32) -> Result<(), Al
     out.push_str(line.as_str())
 }
 
+/// Whether what is watched in memory is anything else than before.
+fn differs(machine: &Buffering, watching: Watching) -> bool
+    ensures changed { result ≡ true → ShowsOther machine.now.machine.store
+        (option_map watched watching.entry.watch.now) (kept_values watching.entry.before.now) }
+    ensures same { result ≡ false → ShowsWatched machine.now.machine.store
+        (option_map watched watching.entry.watch.now) (kept_values watching.entry.before.now) }
+{
+    has_changed(machine.store(), watching.watch, watching.before)
+}
+
+/// Appends that a turn of a CPU changed the watched value.
+fn push_changed(alloc: Global, out: &mut String, cpu: u8) -> Result<(), AllocError>
+    ensures { OnOk result (string_bytes out.new ≡ string_bytes out.old ++ changed_line cpu) }
+{
+    let mut line = make_room(alloc, 0)?;
+    put_changed(&mut line, cpu);
+    out.push_str(line.as_str())
+}
+
+/// Appends that a flush of a CPU's buffer did.
+fn push_flush_changed(alloc: Global, out: &mut String, cpu: u8) -> Result<(), AllocError>
+    ensures { OnOk result (string_bytes out.new ≡ string_bytes out.old ++ flush_changed_line cpu) }
+{
+    let line = format!(in alloc; "changed by a flush of {cpu}\n")?;
+    out.push_str(line.as_str())
+}
+
 /// All moves of a `go` of some CPUs, with the lines of the jobs that end and the last line.
 pub(crate) fn go(
     alloc: Global,
     album: &mut Album,
     breakpoints: &[Breakpoint],
+    watching: Watching,
     cpus: Cpus,
     course: &mut Course,
 ) -> Result<String, AllocError>
-    requires { cpus.high ≤ 128 }
+    requires few { cpus.high ≤ 128 }
+    requires watched { ShowsWatched album.old.machine.machine.store
+        (option_map watched watching.watch.now)
+        (kept_values watching.before.now) }
     ensures goes { IfOk result (λ text. (x : X86) → ShowsX86 album.old.machine x
-        → (z : X86) × (moves : List ℕ) × Goes breakpoints.now cpus.flushes cpus.low cpus.high x
-        cpus.low [] moves (string_bytes text) z × ShowsX86 album.new.machine z
+        → (z : X86) × (moves : List ℕ)
+        × Goes breakpoints.now (option_map watched watching.entry.watch.now) cpus.flushes
+        cpus.low cpus.high x cpus.low [] moves (string_bytes text) z
+        × ShowsX86 album.new.machine z
         × KeepsOn course.old moves course.new) }
     ensures host { IsSameHost album.old.machine.machine album.new.machine.machine }
     ensures kept { album.new.kept ≡ album.old.kept }
@@ -178,7 +214,15 @@ pub(crate) fn go(
             return Ok(out);
         }
         take_turn(alloc, album, cpu, course, &mut out)?;
+        if differs(album.machine(), watching) {
+            push_changed(alloc, &mut out, cpu)?;
+            return Ok(out);
+        }
         flush(album, cpu, flushes, course);
+        if differs(album.machine(), watching) {
+            push_flush_changed(alloc, &mut out, cpu)?;
+            return Ok(out);
+        }
         gone[cpu as usize] = true;
         from = cpu + 1;
     }

@@ -17,9 +17,15 @@ go C until P   turns of CPU C, up to pc P
 back N         undoes the last N turns and flushes
 break C P      go stops CPU C before pc P
 delete C P     no more
+watch NAME KEY go stops after a turn or a flush that changed the value of a map's key in memory
+watch NAME I   the same of an array's index
+watch NAME     the same of a variable
+watch          no more
 where C        where CPU C stands
 regs C         its registers
+show C         those that its last turn changed, and what each is as an address
 list C         the instructions near its pc
+last C         the last job that ended on it, and its registers before its last step
 held C         the values that its run holds: key, address and bytes, as it sees them
 mem C A N      N bytes from address A on, as its program sees them
 map NAME       the keys of a map with their values in memory; the values of an array

@@ -8,6 +8,7 @@ mod help;
 mod lines;
 mod moves;
 mod nearby;
+mod recall;
 mod schedule;
 mod script;
 mod seeing;

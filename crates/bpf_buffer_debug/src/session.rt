@@ -16,8 +16,10 @@ ghost use Rattle.bpf_buffer_debug.specs.Command.{Flush, Plain, few_words, order_
 ghost use Rattle.bpf_buffer_debug.specs.Moves.{all_moves};
 ghost use Rattle.bpf_buffer_debug.specs.Session.{are_cpus};
 
+mod again;
 mod breaks;
 mod questions;
+mod watching;
 
 use crate::command::{Asked, asked_in};
 use crate::going::{self, Cpus};
@@ -29,7 +31,9 @@ use bpf_buffering::{Album, Buffering};
 use bpf_debug::breakpoint::Breakpoint;
 use bpf_debug::command::is;
 use bpf_debug::course::{Course, has_turns};
+use bpf_debug::going::Watching;
 use bpf_debug::session::is_pc;
+use bpf_debug::watch::{Watch, watched_values};
 use bpf_debug::{Command, DebugError};
 use bpf_jobs::is_stop;
 use bpf_lines::lines;
@@ -49,6 +53,8 @@ pub struct Session {
     /// The names of maps, arrays and variables.
     names: Names,
     breakpoints: Vec<Breakpoint>,
+    /// What is watched.
+    watch: Option<Watch>,
     /// The moves made so far.
     course: Course,
     /// Whether memory ran out in the middle of a move: the machine is of no more use then.
@@ -56,7 +62,9 @@ pub struct Session {
 }
 
 impl Model for Session {
+    ghost use Rattle.std.specs.Prelude.{option_map};
     ghost use Rattle.bpf_names.specs.Names.{names_of};
+    ghost use Rattle.bpf_debug.specs.Watch.{watched};
     ghost use Rattle.bpf_buffer_debug.specs.Session.{SessionState};
     ghost use Rattle.bpf_buffer_debug.specs.Private.Kept.{CanRewind, first_of};
 
@@ -67,6 +75,7 @@ impl Model for Session {
       first = first_of s.album;
       names = names_of s.names;
       breaks = s.breakpoints.items;
+      watch = option_map watched s.watch;
       course = s.course;
       lost = s.lost;
     } };
@@ -103,6 +112,24 @@ fn are_cpus(runs: &[(u8, u64)], cpus: u8) -> bool
     runs.iter().all(|run| cpu_of(run.0) < cpus)
 }
 
+/// What a line is answered once memory ran out in the middle of a move.
+fn lost_answer(alloc: Global, line: &[u8]) -> Result<String, DebugError>
+    ensures nothing { IfOk result
+        (λ text. (fields_of line.now ≡ []) × (string_bytes text ≡ [])) }
+    ensures refused { IfErr result
+        (λ e. (line.now ≡ [] → ⊥) × (e ≡ DebugError.OutOfMemory)) }
+{
+    if line.is_empty() {
+        return Ok(String::new(alloc));
+    }
+    let fields = lines::fields(alloc, line)?;
+    if fields.is_empty() {
+        Ok(String::new(alloc))
+    } else {
+        Err(DebugError::OutOfMemory)
+    }
+}
+
 /// Makes the moves that are kept, and says where a CPU is then.
 fn repeat(alloc: Global, album: &mut Album, course: &Course, cpu: u8) -> Result<String, AllocError>
     ensures made { IfOk result (λ text. (runs : List (ℕ × ℕ)) × (course.now ≡ Some runs)
@@ -120,7 +147,7 @@ fn repeat(alloc: Global, album: &mut Album, course: &Course, cpu: u8) -> Result<
 }
 
 impl Session {
-    ghost use Rattle.std.specs.Prelude.{◌≡◌, ◌<◌, ◌≤◌, ◌∷◌, [], ℕ, Err, List, IfErr, IfNone, IfOk, IfSome, OnErr, Some, false, length, map, string_bytes, true};
+    ghost use Rattle.std.specs.Prelude.{◌≡◌, ◌<◌, ◌≤◌, ◌∷◌, [], ℕ, Err, List, IfErr, IfNone, IfOk, IfSome, None, OnErr, Some, false, length, map, string_bytes, true};
     ghost use Rattle.bpf_machine.specs.Schedule.{unrolled};
     ghost use Rattle.bpf_debug.specs.Session.{IsNoCpu, IsPc};
     ghost use Rattle.bpf_buffer_debug.specs.Session.{Leaves, LeavesLine, RefusesHere, RefusesLine, Stays};
@@ -139,6 +166,7 @@ impl Session {
         ensures first { IfOk result (λ s. s.first ≡ machine) }
         ensures names { IfOk result (λ s. s.names ≡ names_of names) }
         ensures breaks { IfOk result (λ s. s.breaks ≡ []) }
+        ensures watch { IfOk result (λ s. s.watch ≡ None) }
         ensures course { IfOk result (λ s. s.course ≡ Some []) }
         ensures kept { IfOk result (λ s. s.lost ≡ false) }
     {
@@ -148,6 +176,7 @@ impl Session {
             seen,
             names,
             breakpoints: Vec::new(alloc),
+            watch: None,
             course: Course::new(alloc),
             lost: false,
         })
@@ -296,11 +325,16 @@ impl Session {
             flushes: true,
         };
         self.course.reserve(usize::MAX)?;
+        let before = watched_values(alloc, self.album.machine().store(), &self.watch)?;
         self.lost = true;
         let text = going::go(
             alloc,
             &mut self.album,
             &self.breakpoints,
+            Watching {
+                watch: &self.watch,
+                before: &before,
+            },
             cpus,
             &mut self.course,
         )?;
@@ -325,8 +359,19 @@ impl Session {
             flushes: false,
         };
         self.course.reserve(usize::MAX)?;
+        let before = watched_values(alloc, self.album.machine().store(), &self.watch)?;
         self.lost = true;
-        let text = going::go(alloc, &mut self.album, &place, cpus, &mut self.course)?;
+        let text = going::go(
+            alloc,
+            &mut self.album,
+            &place,
+            Watching {
+                watch: &self.watch,
+                before: &before,
+            },
+            cpus,
+            &mut self.course,
+        )?;
         self.lost = false;
         Ok(text)
     }
@@ -428,11 +473,11 @@ impl Session {
             Command::Help => self.help(alloc),
             Command::Held(cpu) => self.held(alloc, cpu),
             Command::Nearby(cpu) => self.nearby(alloc, cpu),
-            Command::Last(_) => Err(DebugError::BadCommand),
-            Command::Show(_) => Err(DebugError::BadCommand),
-            Command::Watch(_, _) => Err(DebugError::BadCommand),
-            Command::WatchVariable(_) => Err(DebugError::BadCommand),
-            Command::Unwatch => Err(DebugError::BadCommand),
+            Command::Last(cpu) => self.last(alloc, cpu),
+            Command::Show(cpu) => self.show(alloc, cpu),
+            Command::Watch(name, word) => self.watch(alloc, name, word),
+            Command::WatchVariable(name) => self.watch_variable(alloc, name),
+            Command::Unwatch => self.unwatch(alloc),
         }
     }
 
@@ -494,17 +539,21 @@ impl Session {
     }
 
     /// Does what a line of these bytes says, and answers its lines. After a refusal the session is as
-    /// it was, unless memory ran out in the middle of a move: each line is refused then.
+    /// it was, unless memory ran out in the middle of a move: each line that says something is refused
+    /// then.
     pub fn command_bytes(&mut self, alloc: Global, line: &[u8]) -> Result<String, DebugError>
         ensures answered { IfOk result (λ text.
             LeavesLine self.old (fields_of line.now) (string_bytes text) self.new) }
         ensures refused { IfErr result (λ e. RefusesLine self.old (fields_of line.now) e) }
         ensures stays { IfErr result (λ e. Stays self.old e self.new) }
-        ensures lost { self.old.lost ≡ true → (result ≡ Err DebugError.OutOfMemory)
-            × (self.new ≡ self.old) }
+        ensures lost { self.old.lost ≡ true → self.new ≡ self.old }
+        ensures nothing { self.old.lost ≡ true
+            → IfOk result (λ text. (fields_of line.now ≡ []) × (string_bytes text ≡ [])) }
+        ensures useless { self.old.lost ≡ true
+            → IfErr result (λ e. (line.now ≡ [] → ⊥) × (e ≡ DebugError.OutOfMemory)) }
     {
         if self.lost {
-            return Err(DebugError::OutOfMemory);
+            return lost_answer(alloc, line);
         }
         let fields = lines::fields(alloc, line)?;
         self.obey(alloc, &fields)

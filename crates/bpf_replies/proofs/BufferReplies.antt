@@ -35,13 +35,14 @@ same_shape h m w p shows shape made =
 
 -- a session at its beginning
 pub opened : (s : SessionState) (f : RunFile) → ShowsX86 s.machine (drained (first_world_of (file_of f))) → s.first ≡ s.machine
-    → s.names ≡ (file_of f).names → s.breaks ≡ [] → s.course ≡ Some [] → s.lost ≡ false → IsShown s (buffer_scene_of (file_of f))
-opened s f shows first names breaks course kept = record {
+    → s.names ≡ (file_of f).names → s.breaks ≡ [] → s.watch ≡ None → s.course ≡ Some [] → s.lost ≡ false → IsShown s (buffer_scene_of (file_of f))
+opened s f shows first names breaks watch course kept = record {
   kept = kept;
   here = shows;
   first = subst (λ m. ShowsX86 m (drained (first_world_of (file_of f)))) (sym first) shows;
   names = sym names;
   breaks = sym breaks;
+  watch = sym watch;
   moves = subst (λ (o : Option (List (ℕ × ℕ))). IsKept o []) (sym course) refl;
 }
 

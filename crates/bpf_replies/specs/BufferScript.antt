@@ -14,12 +14,13 @@ use Rattle.bpf_replies.specs.declared.refusal.Refusal.TheVariants as refusal
 use Rattle.bpf_replies.specs.declared.reply.Reply.{Reply}
 use Rattle.bpf_replies.specs.declared.reply.Reply.TheVariants as reply
 
--- the machine of a run file before its first move, without breakpoints
+-- the machine of a run file before its first move, without breakpoints, and nothing is watched
 abbrev pub buffer_scene_of : File → Scene
 buffer_scene_of f = record {
   here = drained (first_world_of f);
   names = f.names;
   breaks = [];
+  watch = None;
   first = drained (first_world_of f);
   moves = [];
 }

@@ -1,6 +1,6 @@
 //! `ebpf debug --x86`: a run file, and commands after it, on CPUs with store buffers.
 
-ghost use Rattle.std.specs.Prelude.{◌≡◌, IfOk, Some, [], false};
+ghost use Rattle.std.specs.Prelude.{◌≡◌, IfOk, None, Some, [], false};
 ghost use Rattle.std.specs.Option.{option_copied};
 ghost use Rattle.bpf_lines.specs.Lines.{lines_behind};
 ghost use Rattle.bpf_names.specs.Names.{names_of};
@@ -42,6 +42,7 @@ fn make_session(alloc: Global, setup: Setup, names: Names) -> Result<Session, Al
     ensures first { IfOk result (λ s. s.first ≡ s.machine) }
     ensures names { IfOk result (λ s. s.names ≡ names_of names) }
     ensures breaks { IfOk result (λ s. s.breaks ≡ []) }
+    ensures watch { IfOk result (λ s. s.watch ≡ None) }
     ensures course { IfOk result (λ s. s.course ≡ Some []) }
     ensures kept { IfOk result (λ s. s.lost ≡ false) }
 {

@@ -1,5 +1,5 @@
 use Rattle.std.proofs.Common.{◌≡◌, ◌∙◌, ℕ, false, List, Some, refl, sym, subst}
-use Rattle.std.specs.Prelude.{string_bytes}
+use Rattle.std.specs.Prelude.{string_bytes, option_map}
 use Rattle.bpf_names.specs.Names.{names_of}
 use Rattle.bpf_buffer_debug.specs.Private.Kept.{first_of}
 use Rattle.bpf_buffering.specs.Search.{BufferedState}
@@ -11,6 +11,7 @@ use Rattle.bpf_buffer_debug.specs.Command.{Plain}
 use Rattle.bpf_buffer_debug.specs.Moves.{all_moves}
 use Rattle.bpf_buffer_debug.specs.Session.{SessionState, Leaves}
 use Rattle.bpf_buffer_debug.proofs.SessionLaws.{GoesOn, first_still, went_back}
+use Rattle.bpf_debug.specs.Watch.{watched}
 use Rattle.bpf_buffer_debug.proofs.session.Session.back_by.Goals as goal
 
 pub returns-clause-answered : goal.returns-clause-answered
@@ -25,6 +26,7 @@ returns-clause-answered c =
       first = first_of m.album;
       names = names_of m.names;
       breaks = m.breakpoints.items;
+      watch = option_map watched m.watch;
       course = m.course;
       lost = m.lost;
     } in
@@ -33,6 +35,7 @@ returns-clause-answered c =
       first = first_of album;
       names = names_of m.names;
       breaks = m.breakpoints.items;
+      watch = option_map watched m.watch;
       course = c.take_back-made.new.self;
       lost = false;
     } in
@@ -40,6 +43,7 @@ returns-clause-answered c =
       first = first_still m.album album c.self.invariant.kept (c.repeat.ensures.kept ∙ c.restore.ensures.same);
       names = refl;
       breaks = refl;
+      watch = refl;
       kept = λ lost. refl;
     } in
     let C : SessionState → Type 0 = λ r. r.course ≡ Some runs in

@@ -1,5 +1,5 @@
 use Rattle.std.proofs.Common.{◌≡◌, ◌∙◌, true, List, Some, sym, ap, subst, map, String, Global}
-use Rattle.std.specs.Prelude.{string_bytes}
+use Rattle.std.specs.Prelude.{string_bytes, option_map}
 use Rattle.bpf_names.specs.Names.{names_of}
 use Rattle.bpf_buffer_debug.specs.Private.Kept.{first_of}
 use Rattle.bpf_plain.specs.PlainStore.{has_cpu}
@@ -8,6 +8,7 @@ use Rattle.bpf_buffer_debug.specs.Command.{Buffer}
 use Rattle.bpf_buffer_debug.specs.Session.{SessionState, Leaves}
 use Rattle.bpf_buffer_debug.specs.Waiting.{buffer_text}
 use Rattle.bpf_buffer_debug.proofs.SessionLaws.{told_buffer}
+use Rattle.bpf_debug.specs.Watch.{watched}
 use Rattle.bpf_buffer_debug.proofs.session.Session.buffer_at.Goals as goal
 
 pub returns-clause-answered : goal.returns-clause-answered
@@ -20,6 +21,7 @@ returns-clause-answered c =
       first = first_of m.album;
       names = names_of m.names;
       breaks = m.breakpoints.items;
+      watch = option_map watched m.watch;
       course = m.course;
       lost = m.lost;
     } in

@@ -1,5 +1,5 @@
 use Rattle.std.proofs.Common.{◌≡◌, ℕ, ◌+◌, [], ◌∷◌, true, List, Option, Some, refl, sym, subst, map, String, Global}
-use Rattle.std.specs.Prelude.{string_bytes}
+use Rattle.std.specs.Prelude.{string_bytes, option_map}
 use Rattle.bpf_names.specs.Names.{names_of}
 use Rattle.bpf_buffer_debug.specs.Private.Kept.{first_of}
 use Rattle.bpf_plain.specs.PlainStore.{has_cpu}
@@ -9,6 +9,7 @@ use Rattle.bpf_buffer_debug.specs.Command.{Flush}
 use Rattle.bpf_buffer_debug.specs.Session.{SessionState, Leaves}
 use Rattle.bpf_buffer_debug.specs.Waiting.{flush_text}
 use Rattle.bpf_buffer_debug.proofs.SessionLaws.{GoesOn, first_still, flushed}
+use Rattle.bpf_debug.specs.Watch.{watched}
 use Rattle.bpf_buffer_debug.proofs.session.Session.flush_at.Goals as goal
 
 pub returns-clause-answered : goal.returns-clause-answered
@@ -21,6 +22,7 @@ returns-clause-answered c =
       first = first_of m.album;
       names = names_of m.names;
       breaks = m.breakpoints.items;
+      watch = option_map watched m.watch;
       course = m.course;
       lost = m.lost;
     } in
@@ -29,6 +31,7 @@ returns-clause-answered c =
       first = first_of c.flush_alone.new.self;
       names = names_of m.names;
       breaks = m.breakpoints.items;
+      watch = option_map watched m.watch;
       course = c.add.new.self;
       lost = m.lost;
     } in
@@ -36,6 +39,7 @@ returns-clause-answered c =
       first = first_still m.album c.flush_alone.new.self c.self.invariant.kept c.flush_alone.ensures.same;
       names = refl;
       breaks = refl;
+      watch = refl;
       kept = λ lost. lost;
     } in
     let H : SessionState → Type 0 = λ r. has_cpu r.machine.machine.store cpu ≡ true in

@@ -112,3 +112,33 @@ pub returns-in-Nearby-clause-answered : goal.returns-in-Nearby-clause-answered
 returns-in-Nearby-clause-answered c =
     let P : Command → Type 0 = λ o. IfOk c.nearby.result (λ text. Leaves c.args.self.now (Plain (command_order o)) (string_bytes text) c.args.self.now) in
     subst P (sym c.in-Nearby.is) c.nearby.ensures.answered
+
+pub returns-in-Last-clause-answered : goal.returns-in-Last-clause-answered
+returns-in-Last-clause-answered c =
+    let P : Command → Type 0 = λ o. IfOk c.last.result (λ text. Leaves c.args.self.now (Plain (command_order o)) (string_bytes text)
+    c.last.new.self) in
+    subst P (sym c.in-Last.is) c.last.ensures.answered
+
+pub returns-in-Show-clause-answered : goal.returns-in-Show-clause-answered
+returns-in-Show-clause-answered c =
+    let P : Command → Type 0 = λ o. IfOk c.show.result (λ text. Leaves c.args.self.now (Plain (command_order o)) (string_bytes text)
+    c.show.new.self) in
+    subst P (sym c.in-Show.is) c.show.ensures.answered
+
+pub returns-in-Watch-clause-answered : goal.returns-in-Watch-clause-answered
+returns-in-Watch-clause-answered c =
+    let P : Command → Type 0 = λ o. IfOk c.watch.result (λ text. Leaves c.args.self.now (Plain (command_order o)) (string_bytes text)
+    c.watch.new.self) in
+    subst P (sym c.in-Watch.is) c.watch.ensures.answered
+
+pub returns-in-WatchVariable-clause-answered : goal.returns-in-WatchVariable-clause-answered
+returns-in-WatchVariable-clause-answered c =
+    let P : Command → Type 0 = λ o. IfOk c.watch_variable.result (λ text. Leaves c.args.self.now (Plain (command_order o)) (string_bytes text)
+    c.watch_variable.new.self) in
+    subst P (sym c.in-WatchVariable.is) c.watch_variable.ensures.answered
+
+pub returns-in-Unwatch-clause-answered : goal.returns-in-Unwatch-clause-answered
+returns-in-Unwatch-clause-answered c =
+    let P : Command → Type 0 = λ o. IfOk c.unwatch.result (λ text. Leaves c.args.self.now (Plain (command_order o)) (string_bytes text)
+    c.unwatch.new.self) in
+    subst P (sym c.in-Unwatch.is) c.unwatch.ensures.answered

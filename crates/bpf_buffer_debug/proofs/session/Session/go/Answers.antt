@@ -1,5 +1,5 @@
 use Rattle.std.proofs.Common.{◌≡◌, ℕ, [], false, true, List, length, Option, refl, sym, subst}
-use Rattle.std.specs.Prelude.{string_bytes}
+use Rattle.std.specs.Prelude.{string_bytes, option_map}
 use Rattle.bpf_names.specs.Names.{names_of}
 use Rattle.bpf_buffer_debug.specs.Private.Kept.{first_of}
 use Rattle.bpf_x86.specs.Machine.{X86}
@@ -12,6 +12,7 @@ use Rattle.bpf_buffer_debug.specs.Command.{Plain}
 use Rattle.bpf_buffer_debug.specs.Go.{Goes}
 use Rattle.bpf_buffer_debug.specs.Session.{SessionState, Leaves}
 use Rattle.bpf_buffer_debug.proofs.SessionLaws.{GoesOn, first_still, went}
+use Rattle.bpf_debug.specs.Watch.{watched}
 use Rattle.bpf_buffer_debug.proofs.session.Session.go.Goals as goal
 
 pub returns-clause-answered : goal.returns-clause-answered
@@ -24,6 +25,7 @@ returns-clause-answered c =
       first = first_of m.album;
       names = names_of m.names;
       breaks = m.breakpoints.items;
+      watch = option_map watched m.watch;
       course = m.course;
       lost = m.lost;
     } in
@@ -32,6 +34,7 @@ returns-clause-answered c =
       first = first_of c.go.new.album;
       names = names_of m.names;
       breaks = m.breakpoints.items;
+      watch = option_map watched m.watch;
       course = c.go.new.course;
       lost = false;
     } in
@@ -39,10 +42,11 @@ returns-clause-answered c =
       first = first_still m.album c.go.new.album c.self.invariant.kept c.go.ensures.kept;
       names = refl;
       breaks = refl;
+      watch = refl;
       kept = λ lost. refl;
     } in
     let G : List Breakpoint → Option (List (ℕ × ℕ)) → Type 0 = λ bs h. (x : X86) → ShowsX86 m.album.machine x → (z : X86) × (moves : List ℕ)
-    × Goes bs true 0 cpus x 0 [] moves last z × ShowsX86 t.machine z × KeepsOn h moves t.course in
+    × Goes bs (option_map watched m.watch) true 0 cpus x 0 [] moves last z × ShowsX86 t.machine z × KeepsOn h moves t.course in
     let goes = subst (λ (bs : List Breakpoint). G bs m.course) c.deref.ensures.value
     (subst (G c.deref.result.now) c.reserve.ensures c.in_ok-text.ensures.goes) in
     let C : BufferedState → Type 0 = λ b. cpus ≡ length b.machine.store.maps.runs in

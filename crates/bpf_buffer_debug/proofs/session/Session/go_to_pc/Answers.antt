@@ -1,5 +1,5 @@
 use Rattle.std.proofs.Common.{◌≡◌, ℕ, ◌+◌, [], ◌∷◌, false, true, List, Option, Some, refl, sym, subst}
-use Rattle.std.specs.Prelude.{string_bytes}
+use Rattle.std.specs.Prelude.{string_bytes, option_map}
 use Rattle.bpf_names.specs.Names.{names_of}
 use Rattle.bpf_buffer_debug.specs.Private.Kept.{first_of}
 use Rattle.bpf_plain.specs.PlainStore.{has_cpu}
@@ -12,6 +12,7 @@ use Rattle.bpf_buffer_debug.specs.Command.{Plain}
 use Rattle.bpf_buffer_debug.specs.Go.{Goes}
 use Rattle.bpf_buffer_debug.specs.Session.{SessionState, Leaves}
 use Rattle.bpf_buffer_debug.proofs.SessionLaws.{GoesOn, first_still, went_to}
+use Rattle.bpf_debug.specs.Watch.{watched}
 use Rattle.bpf_buffer_debug.proofs.session.Session.go_to_pc.Goals as goal
 
 pub returns-clause-answered : goal.returns-clause-answered
@@ -25,6 +26,7 @@ returns-clause-answered c =
       first = first_of m.album;
       names = names_of m.names;
       breaks = m.breakpoints.items;
+      watch = option_map watched m.watch;
       course = m.course;
       lost = m.lost;
     } in
@@ -33,6 +35,7 @@ returns-clause-answered c =
       first = first_of c.go.new.album;
       names = names_of m.names;
       breaks = m.breakpoints.items;
+      watch = option_map watched m.watch;
       course = c.go.new.course;
       lost = false;
     } in
@@ -40,10 +43,12 @@ returns-clause-answered c =
       first = first_still m.album c.go.new.album c.self.invariant.kept c.go.ensures.kept;
       names = refl;
       breaks = refl;
+      watch = refl;
       kept = λ lost. refl;
     } in
     let G : Option (List (ℕ × ℕ)) → Type 0 = λ h. (x : X86) → ShowsX86 m.album.machine x → (z : X86) × (moves : List ℕ)
-    × Goes (record { cpu = cpu; pc = pc } ∷ []) false cpu (cpu + 1) x cpu [] moves last z × ShowsX86 t.machine z × KeepsOn h moves t.course in
+    × Goes (record { cpu = cpu; pc = pc } ∷ []) (option_map watched m.watch) false cpu (cpu + 1) x cpu [] moves last z × ShowsX86 t.machine
+    z × KeepsOn h moves t.course in
     let H : SessionState → Type 0 = λ r. has_cpu r.machine.machine.store cpu ≡ true in
     let I : SessionState → Type 0 = λ r. IsPc r.machine.machine.programs pc in
     subst (λ (r : SessionState). Leaves r (Plain (GoTo (Some cpu) (Some pc))) last t) c.self.view_is

@@ -1,5 +1,5 @@
 use Rattle.std.proofs.Common.{◌≡◌, true, List, Some, sym, subst, map, String, Global}
-use Rattle.std.specs.Prelude.{string_bytes}
+use Rattle.std.specs.Prelude.{string_bytes, option_map}
 use Rattle.bpf_names.specs.Names.{names_of}
 use Rattle.bpf_buffer_debug.specs.Private.Kept.{first_of}
 use Rattle.bpf_plain.specs.PlainStore.{has_cpu}
@@ -9,6 +9,7 @@ use Rattle.bpf_buffer_debug.specs.Command.{Plain}
 use Rattle.bpf_buffer_debug.specs.Session.{SessionState, Leaves}
 use Rattle.bpf_buffer_debug.specs.Seeing.{TellsSeenHeld}
 use Rattle.bpf_buffer_debug.proofs.SessionLaws.{told_held}
+use Rattle.bpf_debug.specs.Watch.{watched}
 use Rattle.bpf_buffer_debug.proofs.session.Session.held_at.Goals as goal
 
 pub returns-clause-answered : goal.returns-clause-answered
@@ -21,6 +22,7 @@ returns-clause-answered c =
       first = first_of m.album;
       names = names_of m.names;
       breaks = m.breakpoints.items;
+      watch = option_map watched m.watch;
       course = m.course;
       lost = m.lost;
     } in

@@ -1,5 +1,5 @@
 use Rattle.std.proofs.Common.{◌≡◌, ◌∙◌, List, sym, ap, subst, map, String, Global}
-use Rattle.std.specs.Prelude.{string_bytes}
+use Rattle.std.specs.Prelude.{string_bytes, option_map}
 use Rattle.bpf_names.specs.Names.{names_of}
 use Rattle.bpf_buffer_debug.specs.Private.Kept.{first_of}
 use Rattle.bpf_plain.specs.PlainStore.{Contents}
@@ -10,6 +10,7 @@ use Rattle.bpf_debug.specs.Command.{Map}
 use Rattle.bpf_debug.specs.Read.{IsNamed, TellsTable}
 use Rattle.bpf_debug.proofs.SessionLaws.{told_map}
 use Rattle.bpf_buffer_debug.proofs.SessionLaws.{alike, plain_state}
+use Rattle.bpf_debug.specs.Watch.{watched}
 use Rattle.bpf_buffer_debug.proofs.session.Session.map.Goals as goal
 
 pub returns-clause-answered : goal.returns-clause-answered
@@ -23,6 +24,7 @@ returns-clause-answered c =
       first = first_of m.album;
       names = names_of m.names;
       breaks = m.breakpoints.items;
+      watch = option_map watched m.watch;
       course = m.course;
       lost = m.lost;
     } in

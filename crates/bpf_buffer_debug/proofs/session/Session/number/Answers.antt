@@ -1,5 +1,5 @@
 use Rattle.std.proofs.Common.{◌≡◌, ◌∙◌, sym, ap, subst}
-use Rattle.std.specs.Prelude.{string_bytes}
+use Rattle.std.specs.Prelude.{string_bytes, option_map}
 use Rattle.bpf_names.specs.Names.{names_of}
 use Rattle.bpf_buffer_debug.specs.Private.Kept.{first_of}
 use Rattle.bpf_plain.specs.PlainStore.{Contents}
@@ -12,6 +12,7 @@ use Rattle.bpf_debug.specs.Command.{Number}
 use Rattle.bpf_debug.specs.Read.{TellsNumber}
 use Rattle.bpf_debug.proofs.SessionLaws.{told_number}
 use Rattle.bpf_buffer_debug.proofs.SessionLaws.{alike, plain_state}
+use Rattle.bpf_debug.specs.Watch.{watched}
 use Rattle.bpf_buffer_debug.proofs.session.Session.number.Goals as goal
 
 pub returns-clause-answered : goal.returns-clause-answered
@@ -25,6 +26,7 @@ returns-clause-answered c =
       first = first_of m.album;
       names = names_of m.names;
       breaks = m.breakpoints.items;
+      watch = option_map watched m.watch;
       course = m.course;
       lost = m.lost;
     } in

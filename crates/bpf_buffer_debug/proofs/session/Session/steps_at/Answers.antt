@@ -1,5 +1,5 @@
 use Rattle.std.proofs.Common.{◌≡◌, ℕ, false, true, List, length, Option, refl, sym, subst}
-use Rattle.std.specs.Prelude.{string_bytes}
+use Rattle.std.specs.Prelude.{string_bytes, option_map}
 use Rattle.bpf_machine.specs.Schedule.{unrolled}
 use Rattle.bpf_names.specs.Names.{names_of}
 use Rattle.bpf_buffer_debug.specs.Private.Kept.{first_of}
@@ -8,6 +8,7 @@ use Rattle.bpf_debug.specs.Course.{KeepsOn}
 use Rattle.bpf_buffer_debug.specs.Command.{Plain}
 use Rattle.bpf_buffer_debug.specs.Session.{SessionState, Leaves, are_cpus}
 use Rattle.bpf_buffer_debug.proofs.SessionLaws.{GoesOn, first_still, stepped}
+use Rattle.bpf_debug.specs.Watch.{watched}
 use Rattle.bpf_buffer_debug.proofs.session.Session.steps_at.Goals as goal
 
 pub returns-clause-answered : goal.returns-clause-answered
@@ -21,6 +22,7 @@ returns-clause-answered c =
       first = first_of m.album;
       names = names_of m.names;
       breaks = m.breakpoints.items;
+      watch = option_map watched m.watch;
       course = m.course;
       lost = m.lost;
     } in
@@ -29,6 +31,7 @@ returns-clause-answered c =
       first = first_of c.take_runs.new.album;
       names = names_of m.names;
       breaks = m.breakpoints.items;
+      watch = option_map watched m.watch;
       course = c.add_runs.new.self;
       lost = false;
     } in
@@ -36,6 +39,7 @@ returns-clause-answered c =
       first = first_still m.album c.take_runs.new.album c.self.invariant.kept c.take_runs.ensures.kept;
       names = refl;
       breaks = refl;
+      watch = refl;
       kept = λ lost. refl;
     } in
     let H : SessionState → Type 0 = λ r. are_cpus (length r.machine.machine.store.maps.runs) runs ≡ true in
