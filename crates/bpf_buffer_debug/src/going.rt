@@ -4,9 +4,9 @@
 ghost use Rattle.std.specs.Prelude.{◌≡◌, ◌+◌, ◌≤◌, ◌<◌, ◌++◌, ◌∷◌, ◌⊎◌, IfSome, IfNone, IfOk, OnOk, List, ℕ, [], true, false, option_map, slice_index_or, string_bytes};
 ghost use Rattle.bpf_machine.specs.declared.machine.Turn.{Turn};
 ghost use Rattle.bpf_machine.specs.Parts.{IsSameHost};
-ghost use Rattle.bpf_x86.specs.Machine.{X86, FlushOf};
+ghost use Rattle.bpf_x86.specs.Machine.{X86};
 ghost use Rattle.bpf_buffering.specs.Buffering.{TurnsTo};
-ghost use Rattle.bpf_buffering.specs.Search.{MovesTo, ShowsX86, buffer_at};
+ghost use Rattle.bpf_buffering.specs.Search.{ShowsX86};
 ghost use Rattle.bpf_debug.specs.Answer.{changed_line, ended_text, stop_line};
 ghost use Rattle.bpf_debug.specs.Course.{KeepsOn};
 ghost use Rattle.bpf_debug.specs.Go.{AreIdle, HasWork, IsUp, StandsAt, has_break};

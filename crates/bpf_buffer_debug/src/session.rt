@@ -549,7 +549,7 @@ impl Session {
         ensures lost { self.old.lost ≡ true → self.new ≡ self.old }
         ensures nothing { self.old.lost ≡ true
             → IfOk result (λ text. (fields_of line.now ≡ []) × (string_bytes text ≡ [])) }
-        ensures useless { self.old.lost ≡ true
+        ensures words { self.old.lost ≡ true
             → IfErr result (λ e. (line.now ≡ [] → ⊥) × (e ≡ DebugError.OutOfMemory)) }
     {
         if self.lost {

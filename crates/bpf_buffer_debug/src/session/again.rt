@@ -1,6 +1,6 @@
 //! What a session says of turns that it made, by making its moves again from the first machine on.
 
-ghost use Rattle.std.specs.Prelude.{◌≡◌, [], IfErr, IfOk, List, Some, string_bytes, true, ℕ};
+ghost use Rattle.std.specs.Prelude.{◌≡◌, [], IfErr, IfOk, Some, string_bytes, true};
 ghost use Rattle.bpf_plain.specs.PlainStore.{has_cpu};
 ghost use Rattle.bpf_machine.specs.Hands.{IsFree};
 ghost use Rattle.bpf_debug.specs.Command.{Last, Show};

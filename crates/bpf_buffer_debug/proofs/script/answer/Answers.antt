@@ -17,4 +17,4 @@ pub returns-in-Err : goal.returns-in-Err
 returns-in-Err c =
     let told = c.in-Err.ensures in
     line_refused c.args.session.now c.command_bytes.new.self c.args.line.now c.in-Err.error told.refused told.stays
-    (λ lost. (let refused = told.useless lost in (refused.0, refused.1, told.lost lost)))
+    (λ lost. (let refused = told.words lost in (refused.0, refused.1, told.lost lost)))
