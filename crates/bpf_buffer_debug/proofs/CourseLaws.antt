@@ -66,18 +66,19 @@ recalls_made k c x old (TurnOf d ∷ moves) new z r = (r.0, inl (r.2.0, r.2.1), 
 recalls_made k c x old (FlushOf d ∷ moves) new z r = (r.0, r.2.0, recalls_made k c r.0 r.1 moves new z r.3)
 
 -- ---- those of each command
-led_on : (x y : Scene) (moves : List ℕ) (m : X86) → MakesAll x.here (map move_of moves) m → y ≡ behind x moves m → IsCourse x → IsCourse y
+led_on : (x y : Scene) (moves : List ℕ) (m : X86) → MakesAll x.here (map move_of moves) m → y ≡ behind x moves m → IsCourse x
+    → IsCourse y × (y.first ≡ x.first)
 led_on x y moves m made is course =
     let both = all_both (map move_of x.moves) (map move_of moves) x.first x.here m course made in
-    subst IsCourse (sym is) (subst (λ (ms : List Move). MakesAll x.first ms m) (sym (map-append move_of x.moves moves)) both)
+    (subst IsCourse (sym is) (subst (λ (ms : List Move). MakesAll x.first ms m) (sym (map-append move_of x.moves moves)) both), ap (λ (z : Scene). z.first) is)
 
-stays : (x y : Scene) → y ≡ x → IsCourse x → IsCourse y
-stays x y is course = subst IsCourse (sym is) course
+stays : (x y : Scene) → y ≡ x → IsCourse x → IsCourse y × (y.first ≡ x.first)
+stays x y is course = (subst IsCourse (sym is) course, ap (λ (z : Scene). z.first) is)
 
 pub follows_on : (x : Scene) (order : Order) (text : List ℕ) (y : Scene) → x.here.world.store.shape.cpus ≤ 16 → CarriesOut x order text y
-    → IsCourse x → IsCourse y
-follows_on x (Plain (Break (Some c) (Some p))) text y few f course = subst IsCourse (sym f.1.2) course
-follows_on x (Plain (Delete (Some c) (Some p))) text y few f course = subst IsCourse (sym f.1.2) course
+    → IsCourse x → IsCourse y × (y.first ≡ x.first)
+follows_on x (Plain (Break (Some c) (Some p))) text y few f course = (subst IsCourse (sym f.1.2) course, ap (λ (z : Scene). z.first) f.1.2)
+follows_on x (Plain (Delete (Some c) (Some p))) text y few f course = (subst IsCourse (sym f.1.2) course, ap (λ (z : Scene). z.first) f.1.2)
 follows_on x (Plain (Step (Some c))) text y few f course =
     led_on x y (unrolled ((c, 1) ∷ [])) f.1.0 (made_all x.here (all_moves ((c, 1) ∷ [])) f.1.1 f.1.0 f.1.3) f.1.6 course
 follows_on x (Plain (StepTimes (Some c) n)) text y few f course =
@@ -92,15 +93,15 @@ follows_on x (Plain (GoTo (Some c) (Some p))) text y few f course =
     let one : List Breakpoint = record { cpu = c; pc = p } ∷ [] in
     let within = f.0 in
     led_on x y went.1 went.0 (goes_made one x.watch false c (c + 1) (omega (arith, few, within)) x.here c [] went.1 text went.0 went.2) went.3 course
-follows_on x (Plain (Back n)) text y few f course = subst IsCourse (sym f.1.3) f.1.1
+follows_on x (Plain (Back n)) text y few f course = (subst IsCourse (sym f.1.3) f.1.1, ap (λ (z : Scene). z.first) f.1.3)
 follows_on x (Plain (Last (Some c))) text y few f course =
-    subst IsCourse (sym f.1.4) (recalls_made kind.Ends c x.first None (map move_of x.moves) f.1.0 f.1.1 f.1.2)
+    (subst IsCourse (sym f.1.4) (recalls_made kind.Ends c x.first None (map move_of x.moves) f.1.0 f.1.1 f.1.2), ap (λ (z : Scene). z.first) f.1.4)
 follows_on x (Plain (Show (Some c))) text y few (has, inl f) course = stays x y f.1 course
 follows_on x (Plain (Show (Some c))) text y few (has, inr f) course =
-    subst IsCourse (sym f.4) (recalls_made kind.Works c x.first None (map move_of x.moves) f.0 f.1 f.2)
-follows_on x (Plain (Watch name word)) text y few f course = subst IsCourse (sym f.1) course
-follows_on x (Plain (WatchVariable name)) text y few f course = subst IsCourse (sym f.1) course
-follows_on x (Plain Unwatch) text y few f course = subst IsCourse (sym f.1) course
+    (subst IsCourse (sym f.4) (recalls_made kind.Works c x.first None (map move_of x.moves) f.0 f.1 f.2), ap (λ (z : Scene). z.first) f.4)
+follows_on x (Plain (Watch name word)) text y few f course = (subst IsCourse (sym f.1) course, ap (λ (z : Scene). z.first) f.1)
+follows_on x (Plain (WatchVariable name)) text y few f course = (subst IsCourse (sym f.1) course, ap (λ (z : Scene). z.first) f.1)
+follows_on x (Plain Unwatch) text y few f course = (subst IsCourse (sym f.1) course, ap (λ (z : Scene). z.first) f.1)
 follows_on x (Plain (Break None p)) text y few f course = stays x y f.1 course
 follows_on x (Plain (Break (Some c) None)) text y few f course = stays x y f.1 course
 follows_on x (Plain (Delete None p)) text y few f course = stays x y f.1 course

@@ -10,3 +10,4 @@ pub mod SessionLaws
 pub mod CourseLaws
 pub mod LineLaws
 pub mod ScriptLaws
+pub mod ScriptCourse

@@ -26,7 +26,7 @@ line_done s t [] order text e leaves x shown = let no : Some order ≡ None = e 
 line_done s t (f ∷ fs) order text e leaves x shown =
     let l = leaves x shown in
     let few = shown.here.world.sound.fixed.shape.cpus.1 in
-    (l.0, (order, sym e, l.1), λ course. follows_on x order text l.0 few l.1 course, l.2)
+    (l.0, (order, sym e, l.1), λ course. (follows_on x order text l.0 few l.1 course).0, l.2)
 
 -- ---- refusals
 -- the moves that are kept are as many as were made

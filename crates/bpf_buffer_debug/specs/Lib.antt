@@ -7,4 +7,5 @@ pub mod Seeing
 pub mod Waiting
 pub mod Session
 pub mod Script
+pub mod Laws
 pub mod Private

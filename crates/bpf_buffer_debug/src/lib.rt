@@ -5,6 +5,7 @@
 pub mod command;
 mod going;
 mod help;
+pub mod laws;
 mod lines;
 mod moves;
 mod nearby;
