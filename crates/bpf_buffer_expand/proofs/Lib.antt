@@ -1,0 +1,10 @@
+pub mod Each
+pub mod Telling
+pub mod Looking
+pub mod Boarding
+pub mod Alike
+pub mod Turning
+pub mod Covering
+pub mod Stating
+pub mod Ending
+pub mod Answered

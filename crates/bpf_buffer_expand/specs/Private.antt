@@ -1,0 +1,4 @@
+pub mod Fits
+pub mod Home
+pub mod Next
+pub mod Room
