@@ -66,6 +66,7 @@ complete -c ebpf -n '__fish_seen_subcommand_from check' -F
 complete -c ebpf -n '__fish_seen_subcommand_from expand' -l explain -f -d 'Explains a refusal or a fault on standard error'
 complete -c ebpf -n '__fish_seen_subcommand_from expand' -l first -f -d 'Prints the first state, and reads none'
 complete -c ebpf -n '__fish_seen_subcommand_from expand' -l patient -f -d 'Takes states for one that differ only in the steps that are left of budgets'
+complete -c ebpf -n '__fish_seen_subcommand_from expand' -l x86 -f -d 'Takes states of CPUs with store buffers, as on x86: flushes of them lead on too'
 complete -c ebpf -n '__fish_seen_subcommand_from expand' -l races -f -d 'Prints the data races of each state before what it leads to'
 complete -c ebpf -n '__fish_seen_subcommand_from expand' -s h -l help -f -d 'Print help'
 complete -c ebpf -n '__fish_seen_subcommand_from expand' -F

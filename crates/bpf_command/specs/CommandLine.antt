@@ -208,7 +208,8 @@ abbrev pub first : Rule
 first = record (new_rule (codes "first")) { long = Some (codes "first"); action = Some SetTrue }
 
 abbrev pub expand_options : App
-expand_options = with_rule (with_rule (with_rule (new_app (codes "expand")) explained) first) patient
+expand_options =
+    with_rule (with_rule (with_rule (with_rule (new_app (codes "expand")) explained) first) patient) x86
 
 abbrev pub expand : App
 expand = with_rule (with_rule expand_options races) file

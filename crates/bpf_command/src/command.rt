@@ -171,6 +171,13 @@ pub enum Command {
         /// To print the data races of each state before what it leads to.
         races: bool,
     },
+    /// Tell what each move leads to from states, of CPUs with store buffers, that are read.
+    ExpandX86 {
+        /// To print the first state in place of those that others lead to.
+        first: bool,
+        /// To pass over how many steps are left of budgets.
+        patient: bool,
+    },
     /// Run the jobs of a run file by commands, and show what they ask for.
     Debug {
         /// To print each line before its answer.

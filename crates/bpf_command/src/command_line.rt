@@ -439,17 +439,25 @@ fn explore_of(alloc: Global, options: &ArgMatches) -> Result<Command, CommandErr
     }
 }
 
-/// The command `expand` with what it is to print.
-fn expand_of(options: &ArgMatches) -> Command
-    ensures { Names (Some (codes "expand", rows_of (found_of options.now))) result }
+/// The command `expand` with what it is to print, with store buffers or without.
+fn expand_of(options: &ArgMatches) -> Result<Command, CommandError>
+    ensures named { IfOk result (Names (Some (codes "expand", rows_of (found_of options.now)))) }
+    ensures refused { IfErr result (RefusesFound (codes "expand", rows_of (found_of options.now))) }
 {
+    if wants_no_flushes(options) {
+        return Err(CommandError::TurnsAlone);
+    }
     let first = is_given(options, "first");
     let patient = is_given(options, "patient");
     let races = is_given(options, "races");
-    Command::Expand {
-        first,
-        patient,
-        races,
+    if is_given(options, "x86") {
+        Ok(Command::ExpandX86 { first, patient })
+    } else {
+        Ok(Command::Expand {
+            first,
+            patient,
+            races,
+        })
     }
 }
 
@@ -484,7 +492,7 @@ fn named(alloc: Global, name: &str, options: &ArgMatches) -> Result<Command, Com
         "run" => run_of(alloc, options),
         "explore" => explore_of(alloc, options),
         "check" => check_one_of(options),
-        "expand" => Ok(expand_of(options)),
+        "expand" => expand_of(options),
         _ => Ok(debug_of(options)),
     }
 }

@@ -227,6 +227,10 @@ by rising pair of CPUs: the next steps of the two, at these pcs of the programs 
 one byte of that value, one of them writes it, and not both are atomic. KEY is 'deleted' where the
 value has left its map.
 
+With --x86 CPUs have store buffers, and a state is one of --first --x86 or of what is printed with --x86.
+The flush of a CPU's oldest store that waits comes after its turn: 'state HEX by C!*1'. Where no CPU has
+work nothing waits. There is no --races with it.
+
 For example
   $ ebpf expand --first examples/first-insert.run > first
   $ ebpf expand examples/first-insert.run < first | cut -d ' ' -f 1
@@ -800,6 +804,17 @@ fn alike_option<'a>(alloc: Global) -> Arg<'a>
         .help("Takes states for one that differ only in the steps that are left of budgets")
 }
 
+/// The option `--x86` of a command that makes no search of its own.
+fn state_buffers_option<'a>(alloc: Global) -> Arg<'a>
+    ensures rule { rule_of result ≡ x86 }
+    ensures own { result.global ≡ false }
+{
+    Arg::new(alloc, "x86")
+        .long("x86")
+        .action(ArgAction::SetTrue)
+        .help("Takes states of CPUs with store buffers, as on x86: flushes of them lead on too")
+}
+
 /// The option `--races` of a command that makes no search of its own.
 fn state_races_option<'a>(alloc: Global) -> Arg<'a>
     ensures rule { rule_of result ≡ races }
@@ -823,7 +838,8 @@ fn expand_options<'a>(alloc: Global) -> Result<Command<'a>, AllocError>
         .after_help(EXPAND_NOTES)
         .arg(explain_option(alloc))?
         .arg(first_option(alloc))?
-        .arg(alike_option(alloc))
+        .arg(alike_option(alloc))?
+        .arg(state_buffers_option(alloc))
 }
 
 fn expand_command<'a>(alloc: Global) -> Result<Command<'a>, AllocError>

@@ -106,6 +106,7 @@ module _ (words : WordsAreDetermined) (encodings : EncodingsAreDetermined) (refu
   one_answer (command.Races options) text r s h t o a b n m = absurd o
   one_answer (command.Check options) text r s h t o a b n m = absurd o
   one_answer (command.Expand first patient races) text r s h t o a b n m = absurd o
+  one_answer (command.ExpandX86 first patient) text r s h t o a b n m = absurd o
 
   one_input : (c : Command) (input : List ℕ) (r s : Reply) → HasShortContext c → IsForOneThread c → IsForOneSchedule c → OfInput c input r →
       OfInput c input s → IsOfInput r → IsOfInput s → PrintsAs r s

@@ -101,6 +101,21 @@ pub states_refused : (patient races : Bool) (text : List ℕ) (r : Refusal) (sil
 states_refused patient races text r silent talks old new lost s short utf8 quiet refused printed =
     inl (quiet, (reply.Refused r, sym (file_read text r refused), (inr (short, utf8, refused), λ some. tt), printed, refl))
 
+-- states of a file on CPUs with store buffers
+pub buffer_states_talked : (patient : Bool) (text : List ℕ) (f : File) (silent : Type 0) (talks : File → Status → Type 0)
+    (kept : Option (List ℕ)) (lost : Bool) (s : Status) (stats : List ℕ)
+    → length text ≤ MAX_INPUT → IsUtf8 text → lost ≡ false → stats ≡ [] → IsRunFile text (Ok f) → talks f s
+    → Holds (partner.BufferStates patient) (Some text) silent talks false kept kept lost s stats
+buffer_states_talked patient text f silent talks kept lost s stats short utf8 works counts said held =
+    inr (refl, refl, works, counts, (f, (short, utf8, tt, said), held))
+
+pub buffer_states_refused : (patient : Bool) (text : List ℕ) (r : Refusal) (silent : Type 0) (talks : File → Status → Type 0)
+    (old new : Option (List ℕ)) (lost : Bool) (s : Status)
+    → length text ≤ MAX_INPUT → IsUtf8 text → silent → RefusesFile text r → Prints (reply.Refused r) old new lost s
+    → Holds (partner.BufferStates patient) (Some text) silent talks false old new lost s (stats_of (reply.Refused r))
+buffer_states_refused patient text r silent talks old new lost s short utf8 quiet refused printed =
+    inl (quiet, (reply.Refused r, sym (file_read text r refused), (inr (short, utf8, refused), λ some. tt), printed, refl))
+
 -- bytes that are no text
 pub not_text : (p : Partner) (bytes : List ℕ) (silent : Type 0) (talks : File → Status → Type 0) (old new : Option (List ℕ)) (lost : Bool) (s : Status)
     → length bytes ≤ MAX_INPUT → (IsUtf8 bytes → ⊥) → silent → Prints (reply.Refused refusal.NotText) old new lost s

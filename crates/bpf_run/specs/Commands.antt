@@ -2,6 +2,7 @@
 use Rattle.std.specs.Prelude.{◌≡◌, ◌≤◌, ◌⊎◌, ℕ, List, None, IsUtf8, length, map, string_bytes}
 use Rattle.bpf_replies.specs.BufferScript.{IsBufferScriptOfFile}
 use Rattle.bpf_replies.specs.Checking.{IsCheckedFile}
+use Rattle.bpf_run.specs.BufferExpanding.{IsExpandedFileOnX86}
 use Rattle.bpf_run.specs.Expanding.{IsExpandedFile}
 use Rattle.bpf_replies.specs.Exploring.{IsExploredFile, IsShownFile}
 use Rattle.bpf_replies.specs.Judging.{IsJudgedOfFile}
@@ -49,6 +50,7 @@ IsAnswer (command.Races options) text r =
     IsRacesFile options.search.patient options.search.limit (map string_bytes options.sync.items) text r
 IsAnswer (command.Check options) text r = IsCheckedFile AreRacesOf options text r
 IsAnswer (command.Expand first patient races) text r = IsExpandedFile first text r
+IsAnswer (command.ExpandX86 first patient) text r = IsExpandedFileOnX86 first text r
 
 -- it asks for no workers
 abbrev pub IsForOneThread : Command → Type 0
@@ -65,6 +67,7 @@ IsForOneSchedule (command.ShowX86 options) = ⊥
 IsForOneSchedule (command.Races options) = ⊥
 IsForOneSchedule (command.Check options) = ⊥
 IsForOneSchedule (command.Expand first patient races) = ⊥
+IsForOneSchedule (command.ExpandX86 first patient) = ⊥
 IsForOneSchedule _ = Unit {0}
 
 -- what a command replies to the bytes that its source has left

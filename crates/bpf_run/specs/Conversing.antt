@@ -13,11 +13,13 @@ use Rattle.bpf_talk.specs.declared.talking.Talked.{Talked}
 use Rattle.bpf_talk.specs.declared.talking.Talked.TheVariants as talked
 use Rattle.bpf_jobs.specs.Printed.{any_stopped}
 use Rattle.bpf_expand.specs.Filter.{FilterState, AnswersState}
+use Rattle.bpf_buffer_expand.specs.Filter as buffer_states
 use Rattle.bpf_buffer_debug.specs.Session as buffers
 use Rattle.bpf_run.specs.Answering.{AnswersBufferText, AnswersText}
 use Rattle.bpf_replies.specs.Answer.{Prints, script_status, stats_of}
 use Rattle.bpf_run.specs.Commands.{IsReply}
 use Rattle.bpf_replies.specs.Input.{is_unread}
+use Rattle.bpf_run.specs.BufferExpanding.{buffer_filter_of}
 use Rattle.bpf_run.specs.Expanding.{filter_of}
 use Rattle.bpf_replies.specs.BufferScript.{HasStopped, buffer_scene_of}
 use Rattle.bpf_replies.specs.Script.{NoneEnds, scene_of}
@@ -38,6 +40,8 @@ asked_talk (command.DebugX86 echo strict) (Some name) false =
     Some (partner.BufferDebugger echo strict, name)
 asked_talk (command.Expand false patient races) (Some name) false =
     Some (partner.States patient races, name)
+asked_talk (command.ExpandX86 false patient) (Some name) false =
+    Some (partner.BufferStates patient, name)
 asked_talk _ _ _ = None
 
 -- the command
@@ -45,12 +49,14 @@ abbrev pub command_of : Partner → Command
 command_of (partner.Debugger echo strict) = command.Debug echo strict
 command_of (partner.BufferDebugger echo strict) = command.DebugX86 echo strict
 command_of (partner.States patient races) = command.Expand false patient races
+command_of (partner.BufferStates patient) = command.ExpandX86 false patient
 
 -- a file of this text leaves lines to be read: those of the debugger unless it has its own
 abbrev pub LeavesLines : Partner → List ℕ → Type 0
 LeavesLines (partner.Debugger echo strict) bytes = NoneEnds (lines_of bytes)
 LeavesLines (partner.BufferDebugger echo strict) bytes = NoneEnds (lines_of bytes)
 LeavesLines (partner.States patient races) bytes = Unit {0}
+LeavesLines (partner.BufferStates patient) bytes = Unit {0}
 
 abbrev pub IsRefusal : Reply → Type 0
 IsRefusal (reply.Refused refusal) = Unit {0}
@@ -85,6 +91,14 @@ StatesFrom passes unread unwritten x answered = (calls : List Call) × (told : T
     × (y : FilterState) × passes calls × Talks AnswersState false x y calls unread unwritten told
     × (answered ≡ talk_status true false told)
 
+-- the same of states of CPUs with store buffers
+abbrev pub BufferStatesFrom : (passes : List Call → Type 0) → (unread unwritten : Bool)
+    → buffer_states.FilterState → Status → Type 0
+BufferStatesFrom passes unread unwritten x answered = (calls : List Call) × (told : Talked)
+    × (y : buffer_states.FilterState) × passes calls
+    × Talks buffer_states.AnswersState false x y calls unread unwritten told
+    × (answered ≡ talk_status true false told)
+
 -- that are one over the jobs of a file
 abbrev pub Converses : (passes : List Call → Type 0) → (unread unwritten : Bool) → Partner
     → File → Status → Type 0
@@ -94,6 +108,8 @@ Converses passes unread unwritten (partner.BufferDebugger echo strict) f answere
     BufferDebugsFrom passes unread unwritten echo strict (buffer_scene_of f) answered
 Converses passes unread unwritten (partner.States patient races) f answered =
     StatesFrom passes unread unwritten (filter_of patient races f) answered
+Converses passes unread unwritten (partner.BufferStates patient) f answered =
+    BufferStatesFrom passes unread unwritten (buffer_filter_of patient f) answered
 
 -- what the file alone amounts to is printed, and the terminal is left alone; or it is a run file that
 -- leaves lines, and a conversation over its jobs is held, and nothing else written

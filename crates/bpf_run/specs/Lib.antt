@@ -8,3 +8,4 @@ pub mod Conversing
 pub mod Debugging
 pub mod BufferDebugging
 pub mod Expanding
+pub mod BufferExpanding

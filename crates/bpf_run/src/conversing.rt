@@ -6,6 +6,7 @@ ghost use Rattle.bpf_run.specs.Conversing.{Converses, Holds, asked_talk, talk_st
 ghost use Rattle.bpf_replies.specs.Input.{is_failed_read};
 
 use crate::buffer_debugging::debug_text_with_buffers;
+use crate::buffer_expanding::expand_text_with_buffers;
 use crate::debugging::debug_text;
 use crate::expanding::expand_text;
 use crate::perform::Performed;
@@ -41,6 +42,11 @@ pub enum Partner {
         patient: bool,
         /// The data races of each are printed.
         races: bool,
+    },
+    /// The states of a run file's jobs on CPUs with store buffers.
+    BufferStates {
+        /// How many steps are left of budgets is passed over.
+        patient: bool,
     },
 }
 
@@ -80,6 +86,10 @@ pub fn asked_talk<'a>(command: &Command, file: Option<&'a str>, json: bool) -> O
             patient: *patient,
             races: *races,
         },
+        Command::ExpandX86 {
+            first: false,
+            patient,
+        } => Partner::BufferStates { patient: *patient },
         _ => return None,
     };
     Some(Asked { partner, name })
@@ -171,6 +181,9 @@ fn talk_text<W: Sink, D: Terminal>(
         Partner::States { patient, races } => expand_text(
             alloc, patient, races, text, sink, terminal,
         ),
+        Partner::BufferStates { patient } => {
+            expand_text_with_buffers(alloc, patient, text, sink, terminal)
+        }
     }
 }
 

@@ -107,7 +107,7 @@ impl Subject {
             Command::Explore(_) | Command::ExploreX86(_) => Subject::Schedules,
             Command::Races(_) => Subject::Races,
             Command::Check(_) => Subject::Tests,
-            Command::Expand { .. } => Subject::Schedules,
+            Command::Expand { .. } | Command::ExpandX86 { .. } => Subject::Schedules,
         }
     }
 

@@ -4,6 +4,7 @@
 pub mod answering;
 pub mod buffer_answering;
 pub mod buffer_debugging;
+pub mod buffer_expanding;
 pub mod conversing;
 pub mod debugging;
 pub mod engine;

@@ -3,6 +3,7 @@
 ghost use Rattle.bpf_replies.specs.Answer.{Replies};
 ghost use Rattle.bpf_run.specs.Commands.{IsAnswer, IsForOneThread};
 
+use crate::buffer_expanding::expand_file_with_buffers;
 use crate::expanding::expand_file;
 use crate::racing::{AllRaces, race_file};
 use bpf_command::{Command, FileOptions, HistoryOptions, JudgeOptions, ShowOptions, X86Options};
@@ -79,6 +80,7 @@ fn answer_to<O: Observer>(
         Command::Races(options) => race_file(alloc, options, text, observer),
         Command::Check(options) => check_file::<AllRaces, O>(alloc, &options, text, observer),
         Command::Expand { first, .. } => expand_file(alloc, first, text),
+        Command::ExpandX86 { first, .. } => expand_file_with_buffers(alloc, first, text),
     }
 }
 

@@ -2,7 +2,7 @@
 use Rattle.std.proofs.Common.{◌∙◌, ap, codes}
 use Rattle.clap.specs.Words.{App}
 use Rattle.clap.specs.Simple.{Shape, new_shape, shape_of_fields}
-use Rattle.bpf_command.specs.CommandLine.{explained, first, patient}
+use Rattle.bpf_command.specs.CommandLine.{explained, first, patient, x86}
 use Rattle.bpf_command.proofs.Adding.{Made, added, last, owns, shapes, with_one}
 use Rattle.bpf_command.proofs.options.expand_options.Goals as goal
 
@@ -19,6 +19,9 @@ returns c =
     let shape2 : Shape = with_one shape1 first in
     let two : Made c.in_ok-arg-2.field-0 shape2 =
     added _ _ c.in_ok-arg-2.field-0 shape1 first one c.first_option.ensures.rule c.first_option.ensures.own c.in_ok-arg-2.ensures in
-    let all : Shape = with_one shape2 patient in
-    let made = last _ _ c.arg-3.result shape2 patient two c.alike_option.ensures.rule c.alike_option.ensures.own c.arg-3.ensures in
-    record { shape = shapes c.arg-3.result all made; own = owns c.arg-3.result all made }
+    let shape3 : Shape = with_one shape2 patient in
+    let three : Made c.in_ok-arg-3.field-0 shape3 =
+    added _ _ c.in_ok-arg-3.field-0 shape2 patient two c.alike_option.ensures.rule c.alike_option.ensures.own c.in_ok-arg-3.ensures in
+    let all : Shape = with_one shape3 x86 in
+    let made = last _ _ c.arg-4.result shape3 x86 three c.state_buffers_option.ensures.rule c.state_buffers_option.ensures.own c.arg-4.ensures in
+    record { shape = shapes c.arg-4.result all made; own = owns c.arg-4.result all made }
