@@ -56,6 +56,8 @@ pub enum Subject {
     Script,
     /// The jobs of a run file, by all schedules.
     Schedules,
+    /// The same on CPUs with store buffers.
+    BufferSchedules,
     /// One outcome of these.
     Shown,
     /// The data races of them.
@@ -104,7 +106,8 @@ impl Subject {
             Command::Show(_) | Command::ShowX86(_) => Subject::Shown,
             Command::Judge(_) => Subject::Tests,
             Command::Debug { .. } | Command::DebugX86 { .. } => Subject::Script,
-            Command::Explore(_) | Command::ExploreX86(_) => Subject::Schedules,
+            Command::Explore(_) => Subject::Schedules,
+            Command::ExploreX86(_) => Subject::BufferSchedules,
             Command::Races(_) => Subject::Races,
             Command::Check(_) => Subject::Tests,
             Command::Expand { .. } | Command::ExpandX86 { .. } => Subject::Schedules,
@@ -132,6 +135,7 @@ impl Subject {
             | Subject::Workers
             | Subject::Script
             | Subject::Schedules
+            | Subject::BufferSchedules
             | Subject::Shown
             | Subject::Races
             | Subject::Tests => Language::RunFile,
@@ -144,7 +148,7 @@ impl Subject {
             Subject::Turns { .. } => BY_TURNS,
             Subject::Workers => BY_WORKERS,
             Subject::Script => BY_COMMANDS,
-            Subject::Schedules => BY_SCHEDULES,
+            Subject::Schedules | Subject::BufferSchedules => BY_SCHEDULES,
             Subject::Shown => BY_ONE_SCHEDULE,
             _ => "",
         }
