@@ -64,8 +64,14 @@ fn are_states_alike(tables: &[Live], program: usize, cpu: &Cpu, other: &Cpu) -> 
     program < tables.len() && tables[program].is_alike(cpu, other)
 }
 
-/// Whether both stages are in hand, with as many steps left, in states that are alike.
-fn are_stages_alike(tables: &[Live], program: usize, stage: &KeptStage, other: &KeptStage) -> bool
+/// Whether both stages of jobs of a program of this number are in hand, with as many steps left, in states
+/// that are alike.
+pub fn are_stages_alike(
+    tables: &[Live],
+    program: usize,
+    stage: &KeptStage,
+    other: &KeptStage,
+) -> bool
     ensures { result ≡ true → (state : Cpu) × (left : ℕ) × (later : Cpu)
         × (kept_stage stage.now ≡ InHand state left) × (kept_stage other.now ≡ InHand later left)
         × ((loaded : Loaded) → AreAlike loaded (table_at tables.now program) state later) }
@@ -107,8 +113,9 @@ fn mix(hash: u64, number: u64) -> u64 {
     spread(hash ^ number)
 }
 
-/// The registers that are live of a state in a program of this number.
-fn hash_of_live(first: u64, tables: &[Live], program: usize, cpu: &Cpu) -> u64 {
+/// A number by which a state in a program of this number is found that is alike, after one of its own.
+/// Nothing that is promised rests on it.
+pub fn live_state_hash(first: u64, tables: &[Live], program: usize, cpu: &Cpu) -> u64 {
     let mut hash = mix(first, u64::from(cpu.pc));
     for register in 0u8..11 {
         let number = cpu.registers[register as usize];
@@ -125,7 +132,7 @@ pub fn live_hash(tables: &[Live], job: &KeptJob) -> u64 {
     match job.stage() {
         KeptStage::Waiting(_) => mix(first, 1),
         KeptStage::InHand(cpu, left) => {
-            hash_of_live(mix(first, *left), tables, job.program(), cpu)
+            live_state_hash(mix(first, *left), tables, job.program(), cpu)
         }
         KeptStage::Ended(_) => mix(first, 2),
     }

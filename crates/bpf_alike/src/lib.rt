@@ -4,4 +4,4 @@
 mod jobs;
 pub mod laws;
 
-pub use jobs::{Merged, are_alike, live_hash, live_tables};
+pub use jobs::{Merged, are_alike, are_stages_alike, live_hash, live_state_hash, live_tables};

@@ -71,7 +71,7 @@ fn grow_at(sets: &mut [Set], calls: bool, pc: u32, insn: &Insn) -> bool {
     has_grown
 }
 
-/// The same at each instruction, from the last to the first.
+/// Adds what each instruction needs, from the last to the first. Whether that is more than was there.
 fn grow(program: &Program, sets: &mut [Set], calls: bool) -> bool {
     let mut has_grown = false;
     for pc in (0..program.ops().len()).rev() {

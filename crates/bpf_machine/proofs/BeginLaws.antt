@@ -101,7 +101,7 @@ module _ (store : Contents) (programs : List Loaded) (jobs : List Listed) (lanes
       h' = record { job = j; cpu = state; left = e.budget }
 
       abbrev l' : Lane
-      l' = record { hand = Some h'; next = n }
+      l' = record { hand = Some h'; rest = l.rest; next = n }
 
       first : IsFirstJob (slice_set jobs j e') c (j + 1) n
       first = subst (λ (xs : List Listed). IsFirstJob xs c (j + 1) n) listed_now first_after

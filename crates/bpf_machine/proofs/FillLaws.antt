@@ -7,7 +7,7 @@ use Rattle.std.proofs.lemmas.List.{length-set, get_or-set_same, get_or-set_other
 use Rattle.bpf_cpu.specs.Task.{Task}
 use Rattle.bpf_machine.specs.declared.machine.lane.Lane.{Lane}
 use Rattle.bpf_machine.specs.Parts.{chosen_at, no_task}
-use Rattle.bpf_machine.specs.Private.Lanes.{lane_of, no_lane}
+use Rattle.bpf_machine.specs.Private.Lanes.{lane_of, no_lane, room_of}
 use Rattle.bpf_machine.specs.Private.Parts.{in_hand, IsLaneOf, IsFirstHand, FitsIn, CanFill, IsSpareFor, spare_of}
 
 -- the job of a number that was read
@@ -27,8 +27,8 @@ one_first parts numbers c j k a b = elim (cases_lt j k) [
 ]
 
 pub fits_first : (parts : List Task) (numbers : List ℕ) (c j : ℕ) (l : Lane) → IsFirstHand parts numbers c j → FitsIn
-    (chosen_at parts numbers j).stage l.hand → CanFill parts numbers c l
-fits_first parts numbers c j l first fits k is = subst (λ (i : ℕ). FitsIn (chosen_at parts numbers i).stage l.hand)
+    (chosen_at parts numbers j).stage (room_of l) → CanFill parts numbers c l
+fits_first parts numbers c j l first fits k is = subst (λ (i : ℕ). FitsIn (chosen_at parts numbers i).stage (room_of l))
     (one_first parts numbers c j k first is) fits
 
 pub none_first : (parts : List Task) (numbers : List ℕ) (c : ℕ) (l : Lane) →

@@ -11,6 +11,7 @@ pub mod TurnLaws
 mod LengthLaws
 pub mod RoundLaws
 pub mod MadeLaws
+mod AnotherLaws
 pub mod KeyListLaws
 pub mod ListingLaws
 pub mod DeterminedTurns
@@ -25,6 +26,7 @@ pub mod PatientLaws
 pub mod PatientRaceLaws
 pub mod EndLaws
 pub mod RefillLaws
+pub mod OthersLaws
 pub mod HostLaws
 pub mod StandLaws
 pub mod OneMore

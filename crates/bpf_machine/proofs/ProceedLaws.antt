@@ -185,7 +185,7 @@ module _ (store : Contents) (programs : List Loaded) (jobs : List Listed) (lanes
           -- it stays in hand
           module _ (h' : Hand) (job : h'.job ≡ h.job) (number_same : h'.cpu.number ≡ h.cpu.number) (still : IsReady program h'.cpu) where
             abbrev l' : Lane
-            l' = record { hand = Some h'; next = l.next }
+            l' = record { hand = Some h'; rest = l.rest; next = l.next }
 
             pub kept_tasks : tasks_of (slice_set lanes c l') (slice_set jobs j e) ≡ with_stage (tasks_of lanes jobs) j task (InHand h'.cpu h'.left)
             kept_tasks =
@@ -352,12 +352,12 @@ module _ (store : Contents) (programs : List Loaded) (jobs : List Listed) (lanes
                 }) c j n (new js)) unchanged (kept_goes lists n made))
 
           -- it ends, and the lane is empty
-          module _ (outcome : Outcome) (k : Lane) (down : k ≡ record { hand = None; next = l.next }) where
+          module _ (outcome : Outcome) (k : Lane) (down : k ≡ record { hand = None; rest = k.rest; next = l.next }) where
             abbrev e'' : Listed
             e'' = record { cpu = e.cpu; program = e.program; budget = e.budget; phase = phase.Ended outcome }
 
             abbrev l'' : Lane
-            l'' = record { hand = None; next = l.next }
+            l'' = record { hand = None; rest = k.rest; next = l.next }
 
             pub ended_tasks : tasks_of (slice_set lanes c k) (slice_set jobs j e'') ≡ with_stage (tasks_of lanes jobs) j task (Ended outcome)
             ended_tasks =

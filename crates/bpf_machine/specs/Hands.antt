@@ -1,5 +1,5 @@
 -- Which of the jobs a CPU has in hand, and which wait for it.
-use Rattle.std.specs.Prelude.{◌≡◌, ℕ, ◌<◌, List, Some, slice_get, slice_set}
+use Rattle.std.specs.Prelude.{◌≡◌, ◌≢◌, ℕ, ◌<◌, List, Some, slice_get, slice_set}
 use Rattle.bpf_cpu.specs.declared.cpu.Cpu.{Cpu}
 use Rattle.bpf_cpu.specs.declared.input.Input.{Input}
 use Rattle.bpf_cpu.specs.Task.{Stage, Task, Waiting, InHand}
@@ -33,3 +33,8 @@ SomeWaits jobs cpu =
 -- the jobs with the j-th in another stage
 abbrev pub with_stage : List Task → ℕ → Task → Stage → List Task
 with_stage jobs j task stage = slice_set jobs j (record task { stage = stage })
+
+-- each job of another CPU is as it was
+abbrev pub OthersStay : List Task → ℕ → List Task → Type 0
+OthersStay old cpu new = (j : ℕ) (task : Task) → slice_get old j ≡ Some task → task.cpu ≢ cpu
+    → slice_get new j ≡ Some task

@@ -3,6 +3,7 @@
 ghost use Rattle.bpf_cpu.specs.Input.{IsShort};
 
 mod ahead;
+mod another;
 mod budgets;
 mod lane;
 mod lengths;
@@ -109,7 +110,7 @@ impl Machine {
     ghost use Rattle.std.specs.Prelude.{◌≡◌, ◌≢◌, ◌≤◌, ◌<◌, ◌⊎◌, ℕ, true, false, All, IfOk, IfErr, IfSome, IfNone, length, map, nat_lt, vec_len, option_map, slice_get};
     ghost use Rattle.bpf_plain.specs.PlainStore.{has_cpu, is_running};
     ghost use Rattle.bpf_cpu.specs.Task.{outcome_at, waiting};
-    ghost use Rattle.bpf_machine.specs.Hands.{IsFree, NoneWaits};
+    ghost use Rattle.bpf_machine.specs.Hands.{IsFree, NoneWaits, OthersStay};
     ghost use Rattle.bpf_machine.specs.Schedule.{World, TakesTurn, RunsSchedule};
     ghost use Rattle.bpf_machine.specs.Listings.{first_lists, listing_at};
     ghost use Rattle.bpf_machine.specs.Machine.{Shows};
@@ -215,6 +216,7 @@ impl Machine {
         ensures idle { result ≡ Turn.Idle → self.new ≡ self.old }
         ensures same { IsSameHost self.old self.new }
         ensures jobs { ComeFromSame self.old.jobs self.new.jobs }
+        ensures others { OthersStay self.old.jobs cpu self.new.jobs }
     {
         match self.work(cpu) {
             Work::InHand(job) => self.proceed(cpu, job),

@@ -145,8 +145,8 @@ fn push_changes(
     push_bytes(&[0, 0, 0, 0], out)
 }
 
-/// The same. Where the first bytes are none, all copies are compared as one, in parts that needn't end
-/// with a copy.
+/// Appends the changes of all copies. Where the first bytes are none, the copies are compared as one, in
+/// parts that needn't end with a copy.
 fn push_copies(
     bytes: &[u8],
     first: &[u8],

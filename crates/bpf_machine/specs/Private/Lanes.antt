@@ -1,5 +1,6 @@
 -- What a machine keeps of each job, and of each CPU.
 use Rattle.std.specs.Prelude.{◌≡◌, ℕ, ◌<◌, ◌≤◌, Bool, true, false, List, Option, Some, None, is_some, length, map, slice_get, slice_index_or}
+use Rattle.std.specs.Option.{option_or}
 use Rattle.bpf_shared.specs.declared.events.Span.{Span}
 use Rattle.bpf_loader.specs.Loaded.{Loaded}
 use Rattle.bpf_cpu.specs.declared.input.Input.{Input}
@@ -30,9 +31,17 @@ first_entry job = record {
   phase = phase.Waiting job.input;
 }
 
+-- a job of the same CPU and program, with nothing given
+abbrev pub empty_job : Listed → Job
+empty_job x = record { cpu = x.cpu; program = x.program; budget = x.budget; input = no_input }
+
 -- a CPU without work
 abbrev pub no_lane : Lane
-no_lane = record { hand = None; next = 0 }
+no_lane = record { hand = None; rest = None; next = 0 }
+
+-- the room that it has for a job: what is in hand, or else what was there before
+abbrev pub room_of : Lane → Option Hand
+room_of l = option_or l.hand l.rest
 
 abbrev pub lane_of : List Lane → ℕ → Lane
 lane_of lanes cpu = slice_index_or lanes cpu no_lane

@@ -10,7 +10,7 @@ use Rattle.bpf_cpu.specs.declared.input.Input.{Input}
 use Rattle.bpf_cpu.specs.declared.cpu.Cpu.{Cpu}
 use Rattle.bpf_cpu.specs.Task.{Stage, Task, Waiting, InHand, Ended}
 use Rattle.bpf_machine.specs.Parts.{chosen_at}
-use Rattle.bpf_machine.specs.Private.Lanes.{stage_of}
+use Rattle.bpf_machine.specs.Private.Lanes.{room_of, stage_of}
 
 abbrev pub in_hand : Stage → Bool
 in_hand (Waiting input) = false
@@ -102,7 +102,7 @@ FitsIn _ _ = ⊥
 
 abbrev pub CanFill : List Task → List ℕ → ℕ → Lane → Type 0
 CanFill parts numbers c l = (j : ℕ) → IsFirstHand parts numbers c j
-    → FitsIn (chosen_at parts numbers j).stage l.hand
+    → FitsIn (chosen_at parts numbers j).stage (room_of l)
 
 -- ---- lanes beside those that can be filled
 -- the spare one is the CPU's; where there is none, that which is there can be filled

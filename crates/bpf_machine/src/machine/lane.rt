@@ -9,7 +9,7 @@ ghost use Rattle.bpf_helpers.specs.Held.{AreHeld, KeepsRun};
 ghost use Rattle.bpf_cpu.specs.Saved.{IsOfOneJob};
 ghost use Rattle.bpf_cpu.specs.Step.{IsReady};
 ghost use Rattle.bpf_machine.specs.Schedule.{Advances};
-ghost use Rattle.bpf_machine.specs.Private.Lanes.{IsFirstJob, lane_of, first_entry};
+ghost use Rattle.bpf_machine.specs.Private.Lanes.{IsFirstJob, lane_of, first_entry, room_of};
 ghost use Rattle.bpf_machine.specs.Private.Turns.{Lasts};
 
 use bpf_cpu::{Cpu, Input, Job, Outcome, Progress};
@@ -49,6 +49,8 @@ pub(crate) struct Hand {
 #[derive(Drop)]
 pub(crate) struct Lane {
     pub hand: Option<Hand>,
+    /// What was in hand before, whose room is taken again.
+    pub rest: Option<Hand>,
     /// The CPU's lowest waiting job, or the number of all jobs where none waits.
     pub next: usize,
 }
@@ -82,9 +84,39 @@ pub(crate) fn count_cpus(jobs: &[Job]) -> usize
 #[cold]
 #[inline(never)]
 pub(crate) fn put_down(lane: &mut Lane)
-    ensures { lane.new ≡ record lane.old { hand = None } }
+    ensures { lane.new ≡ record lane.old { hand = None; rest = lane.new.rest } }
 {
-    lane.hand = None;
+    lane.rest = lane.hand.take();
+}
+
+/// Has nothing in hand.
+pub(crate) fn empty_hand(lane: &mut Lane)
+    ensures hand { lane.new.hand ≡ None }
+    ensures next { lane.new.next ≡ lane.old.next }
+{
+    if lane.hand.is_some() {
+        put_down(lane);
+    }
+}
+
+/// Has in hand what was there before, where nothing is.
+#[cold]
+#[inline(never)]
+fn take_again(lane: &mut Lane)
+    requires { lane.old.hand ≡ None }
+    ensures { lane.new ≡ record lane.old { hand = lane.old.rest; rest = None } }
+{
+    lane.hand = lane.rest.take();
+}
+
+/// Has the room in hand that there is for a job.
+pub(crate) fn take_room(lane: &mut Lane)
+    ensures hand { lane.new.hand ≡ room_of lane.old }
+    ensures next { lane.new.next ≡ lane.old.next }
+{
+    if lane.hand.is_none() {
+        take_again(lane);
+    }
 }
 
 /// Room for this many jobs and CPUs.
@@ -142,7 +174,11 @@ pub(crate) fn make_lanes(jobs: &[Listed], cpus: usize, room: Vec<Lane>) -> Vec<L
     let mut lanes = room;
     for cpu in 0..cpus {
         let next = first_job(jobs, cpu as u8, 0);
-        match lanes.push(Lane { hand: None, next }) {
+        match lanes.push(Lane {
+            hand: None,
+            rest: None,
+            next,
+        }) {
             Ok(()) => {}
             Err(_) => unreachable!(),
         }

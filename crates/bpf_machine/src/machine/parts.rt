@@ -1,11 +1,11 @@
 //! Jobs of a machine that are kept as they are, and a machine that is made again of such jobs and
 //! a store.
 
-ghost use Rattle.std.specs.Prelude.{◌≡◌, ◌<◌, ◌≤◌, ℕ, true, false, All, IfOk, IfSome, IfNone, OnOk, OnErr, Some, None, length};
+ghost use Rattle.std.specs.Prelude.{◌≡◌, ◌≢◌, ◌<◌, ◌≤◌, ℕ, true, false, All, IfOk, IfSome, IfNone, OnOk, OnErr, Some, None, length};
 ghost use Rattle.bpf_cpu.specs.Task.{InHand, Ended};
 ghost use Rattle.bpf_machine.specs.Hashes.{mix, stage_hash, task_hash};
 ghost use Rattle.bpf_machine.specs.Parts.{chosen_at};
-ghost use Rattle.bpf_machine.specs.Private.Lanes.{lane_of, stage_of};
+ghost use Rattle.bpf_machine.specs.Private.Lanes.{lane_of, room_of, stage_of};
 ghost use Rattle.bpf_machine.specs.Kept.{kept_stage};
 ghost use Rattle.bpf_machine.specs.Private.Parts.{IsReadAs, in_hand, waits, entry_at, IsEntryOf, IsHandOf, IsFirstWaiting, IsLaneOf, AreAsLarge, FitsIn, CanFill, IsSpareFor, spare_of};
 
@@ -13,7 +13,7 @@ mod fitting;
 mod reading;
 
 use super::Machine;
-use crate::machine::lane::{Hand, Lane, Listed, Phase, put_down};
+use crate::machine::lane::{Hand, Lane, Listed, Phase, empty_hand, take_room};
 use bpf_base::spread;
 use bpf_cpu::{Cpu, Input, Outcome};
 use bpf_plain::PlainStore;
@@ -347,7 +347,11 @@ fn make_lane(alloc: Global, parts: &[KeptJob], numbers: &[u32], cpu: u8) -> Resu
         None => None,
     };
     let next = find_waiting(parts, numbers, cpu);
-    Ok(Lane { hand, next })
+    Ok(Lane {
+        hand,
+        rest: None,
+        next,
+    })
 }
 
 /// What a machine keeps of each of its CPUs, which have these jobs.
@@ -370,12 +374,22 @@ fn lanes_of_kept(
     Ok(lanes)
 }
 
-/// Whether a job's state can be copied into what a lane has in hand: their memories are as large.
-fn fits_hand(lane: &Lane, part: &KeptJob) -> bool
-    ensures { result ≡ true → FitsIn part.now.stage lane.now.hand }
+/// The room that a lane has for a job: what is in hand, or else what was there before.
+fn room_in(lane: &Lane) -> Option<&Hand>
+    ensures some { IfSome result (λ h. room_of lane.now ≡ Some h.now) }
+{
+    match &lane.hand {
+        Some(hand) => Some(hand),
+        None => lane.rest.as_ref(),
+    }
+}
+
+/// Whether a job's state can be copied into a lane's room: their memories are as large.
+fn fits_room(lane: &Lane, part: &KeptJob) -> bool
+    ensures { result ≡ true → FitsIn part.now.stage (room_of lane.now) }
 {
     match &part.stage {
-        KeptStage::InHand(cpu, _) => match &lane.hand {
+        KeptStage::InHand(cpu, _) => match room_in(lane) {
             Some(hand) => has_memory_of(cpu, &hand.cpu),
             None => false,
         },
@@ -397,7 +411,7 @@ fn can_fill(lane: &Lane, parts: &[KeptJob], numbers: &[u32], cpu: u8) -> bool
     ensures { result ≡ true → CanFill parts.now numbers.now cpu lane.now }
 {
     match find_hand(parts, numbers, cpu) {
-        Some(job) => fits_hand(lane, &parts[numbers[job] as usize]),
+        Some(job) => fits_room(lane, &parts[numbers[job] as usize]),
         None => true,
     }
 }
@@ -436,6 +450,20 @@ fn fill_hand(hand: &mut Hand, part: &KeptJob, job: usize)
     }
 }
 
+/// A lane has a job in hand, which has this number.
+fn take_hand(lane: &mut Lane, part: &KeptJob, job: usize)
+    requires { FitsIn part.now.stage (room_of lane.old) }
+    ensures hand { IfSome lane.new.hand
+        (λ h. (h.job ≡ job) × (part.now.stage ≡ InHand h.cpu h.left)) }
+    ensures some { lane.new.hand ≢ None }
+{
+    take_room(lane);
+    match &mut lane.hand {
+        Some(hand) => fill_hand(hand, part, job),
+        None => unreachable!(),
+    }
+}
+
 /// A CPU's lane has in hand what these jobs have.
 fn take_up(lane: &mut Lane, parts: &[KeptJob], numbers: &[u32], cpu: u8)
     requires within { All (λ n. n < length parts.now) numbers.now }
@@ -448,11 +476,8 @@ fn take_up(lane: &mut Lane, parts: &[KeptJob], numbers: &[u32], cpu: u8)
         → in_hand (chosen_at parts.now numbers.now k).stage ≡ false }
 {
     match find_hand(parts, numbers, cpu) {
-        Some(job) => match &mut lane.hand {
-            Some(hand) => fill_hand(hand, &parts[numbers[job] as usize], job),
-            None => unreachable!(),
-        },
-        None => put_down(lane),
+        Some(job) => take_hand(lane, &parts[numbers[job] as usize], job),
+        None => empty_hand(lane),
     }
 }
 

@@ -94,7 +94,7 @@ returns-clause-begins c =
     let next = next_job _ _ c.args.cpu c.args.job c.self.view_is c.requires in
     let e = c.index_mut-listed.result.now in
     let hand : Hand = record { job = c.args.job; cpu = c.new-start.result; left = e.budget } in
-    let lanes = slice_set m.lanes.items c.args.cpu (record { hand = Some hand; next = c.first_job-lane.result }) in
+    let lanes = slice_set m.lanes.items c.args.cpu (record { hand = Some hand; rest = c.index_mut-lane.result.now.rest; next = c.first_job-lane.result }) in
     let jobs = slice_set m.jobs.items c.args.job (record { cpu = e.cpu; program = e.program; budget = e.budget; phase = c.replace.new.dest }) in
     let new : MachineState = record {
       store = c.begin.new.self;
@@ -123,7 +123,7 @@ returns-clause-same c =
     let m = c.self.inside in
     let e = c.index_mut-listed.result.now in
     let hand : Hand = record { job = c.args.job; cpu = c.new-start.result; left = e.budget } in
-    let lanes = slice_set m.lanes.items c.args.cpu (record { hand = Some hand; next = c.first_job-lane.result }) in
+    let lanes = slice_set m.lanes.items c.args.cpu (record { hand = Some hand; rest = c.index_mut-lane.result.now.rest; next = c.first_job-lane.result }) in
     let jobs = slice_set m.jobs.items c.args.job (record { cpu = e.cpu; program = e.program; budget = e.budget; phase = c.replace.new.dest }) in
     let new : MachineState = record {
       store = c.begin.new.self;

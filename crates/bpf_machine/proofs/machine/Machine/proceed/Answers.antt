@@ -152,7 +152,7 @@ returns-in-None-clause-proceeds c =
       store = c.advance.new.store;
       programs = m.programs.items;
       jobs = tasks_of
-          (slice_set m.lanes.items c.args.cpu (record { hand = Some c.advance.new.self; next = l.next }))
+          (slice_set m.lanes.items c.args.cpu (record { hand = Some c.advance.new.self; rest = l.rest; next = l.next }))
           (slice_set m.jobs.items c.args.job e);
       lists = lists;
     } in
@@ -199,7 +199,7 @@ returns-in-None-clause-same c =
     let m = c.self.inside in
     let l = c.index_mut-lane.result.now in
     let e = c.index_mut-listed.result.now in
-    let lanes = slice_set m.lanes.items c.args.cpu (record { hand = Some c.advance.new.self; next = l.next }) in
+    let lanes = slice_set m.lanes.items c.args.cpu (record { hand = Some c.advance.new.self; rest = l.rest; next = l.next }) in
     let new : MachineState = record {
       store = c.advance.new.store;
       programs = m.programs.items;
@@ -244,7 +244,7 @@ returns-in-None-clause-stays c =
     let has = job_in_hand _ _ c.args.cpu c.args.job c.self.view_is c.requires in
     let l = c.index_mut-lane.result.now in
     let e = c.index_mut-listed.result.now in
-    let new : List Task = tasks_of (slice_set m.lanes.items c.args.cpu (record { hand = Some c.advance.new.self; next = l.next }))
+    let new : List Task = tasks_of (slice_set m.lanes.items c.args.cpu (record { hand = Some c.advance.new.self; rest = l.rest; next = l.next }))
     (slice_set m.jobs.items c.args.job e) in
     let S : MachineState → Type 0 = λ s. StaysOrEnds s.jobs c.args.cpu c.args.job new in
     subst S c.self.view_is

@@ -2,6 +2,7 @@ use Rattle.std.proofs.Common.{refl}
 use Rattle.bpf_machine.specs.declared.machine.ahead.Headway.TheVariants.{Idle, Turns}
 use Rattle.bpf_machine.proofs.QuietLaws.{ran_runs}
 use Rattle.bpf_machine.proofs.ComingFrom.{ahead_same}
+use Rattle.bpf_machine.proofs.OthersLaws.{ahead_others, others_twice}
 use Rattle.bpf_machine.proofs.machine.Machine.turn_ahead.Goals as goal
 
 pub returns-in-Turns-clause-runs : goal.returns-in-Turns-clause-runs
@@ -25,3 +26,11 @@ returns-in-Turns-clause-jobs c = λ first come. ahead_same c.turn.new.self c.run
 pub returns-in-Idle-clause-jobs : goal.returns-in-Idle-clause-jobs
 returns-in-Idle-clause-jobs c = λ first come. ahead_same c.turn.new.self c.run_ahead.new.self c.args.cpu Idle c.in-Idle.ensures first
     (c.turn.ensures.jobs first come)
+
+pub returns-in-Turns-clause-others : goal.returns-in-Turns-clause-others
+returns-in-Turns-clause-others c = others_twice c.args.self.now.jobs c.turn.new.self.jobs c.run_ahead.new.self.jobs c.args.cpu
+    c.turn.ensures.others (ahead_others c.turn.new.self c.run_ahead.new.self c.args.cpu (Turns c.in-Turns.turns) c.in-Turns.ensures)
+
+pub returns-in-Idle-clause-others : goal.returns-in-Idle-clause-others
+returns-in-Idle-clause-others c = others_twice c.args.self.now.jobs c.turn.new.self.jobs c.run_ahead.new.self.jobs c.args.cpu
+    c.turn.ensures.others (ahead_others c.turn.new.self c.run_ahead.new.self c.args.cpu Idle c.in-Idle.ensures)
