@@ -27,6 +27,7 @@ use crate::lines::where_line;
 use crate::moves::{cpu_of, make_runs, take_runs};
 use crate::schedule::schedule_in;
 use crate::waiting::flush_line;
+use bpf_alike::Merged;
 use bpf_buffering::{Album, Buffering};
 use bpf_debug::breakpoint::Breakpoint;
 use bpf_debug::command::is;
@@ -170,7 +171,7 @@ impl Session {
         ensures course { IfOk result (λ s. s.course ≡ Some []) }
         ensures kept { IfOk result (λ s. s.lost ≡ false) }
     {
-        let album = Album::new(alloc, machine)?;
+        let album = Album::new(alloc, machine, Merged::Same)?;
         Ok(Session {
             album,
             seen,

@@ -4,16 +4,18 @@ use Rattle.std.specs.Prelude.{slice_get}
 use Rattle.bpf_shared.specs.declared.events.Event.{Event}
 use Rattle.bpf_plain.specs.Alike.{AlikeStandAlike, SavedAlikeLookAlike}
 use Rattle.bpf_cpu.specs.Task.{Task}
+use Rattle.bpf_alike.proofs.Like.{all_like}
 use Rattle.bpf_machine.specs.Machine.{MachineState, Shows}
 use Rattle.bpf_machine.specs.Hands.{IsFree, NoneWaits}
 use Rattle.bpf_machine.specs.Patient.{AsRich}
 use Rattle.bpf_machine.specs.declared.machine.Turn.TheVariants as turn
 use Rattle.bpf_x86.specs.Machine.{X86, Move, TurnOf, FlushOf, drained}
-use Rattle.bpf_buffering.specs.Search.{BufferedState, ShowsX86, IsKeptAsX86, CannotMove, MovesTo, buffer_at}
+use Rattle.bpf_buffering.specs.Search.{BufferedState, ShowsX86, IsShownX86, IsKeptAsX86, CannotMove, MovesTo, buffer_at}
 use Rattle.bpf_buffering.specs.Ahead.{MovesAhead, IsClosedX86, AheadSetsCoverX86}
 use Rattle.bpf_buffering.proofs.Flushing.{cannot_flush}
 use Rattle.bpf_buffering.proofs.Running.{turn_alone}
-use Rattle.bpf_patience.specs.Patience.{with_x86_jobs, IsKeptRichlyX86, IsClosedRichlyX86, PatientSetsCoverX86}
+use Rattle.bpf_buffering.specs.Alike.{with_x86_jobs, IsKeptAlikeX86, IsShownAlikeX86}
+use Rattle.bpf_patience.specs.Patience.{IsKeptRichlyX86, IsClosedRichlyX86, PatientSetsCoverX86}
 use Rattle.bpf_machine.proofs.PatientLaws.{all_same}
 use Rattle.bpf_explore.proofs.RichLaws.{refilled_shows}
 use Rattle.bpf_expand.specs.State.{Host}
@@ -106,6 +108,9 @@ module _ (look : SavedAlikeLookAlike) (stand : AlikeStandAlike) (h : Host) (stat
       let s = state_at h states each j next at in
       (j, s.0, s.1, shows_too h new s.0 next is s.2 look stand x shown)
 
+  as_it_is : (x : X86) → IsShownX86 kept x → IsShownAlikeX86 kept x
+  as_it_is x shown = (x.world.jobs, all_like x.world.programs x.world.jobs, shown)
+
   -- the move leads from the machine to what is kept, but for its budget where that is passed over; or it can't be made
   abbrev MovesKept : Bool → BufferedState → Move → Type 0
   MovesKept patient m move = ((c : ℕ) × (mid new : BufferedState) × MovesAhead m move mid × FillsX86 patient mid c new × IsKeptAsX86 kept new)
@@ -142,9 +147,9 @@ module _ (look : SavedAlikeLookAlike) (stand : AlikeStandAlike) (h : Host) (stat
   all_moved i m move at = let b = machine_of h states each i m at in moved i m at b.0 b.2 move (closed b.0 move (i, b.1))
 
   exactly : (m : BufferedState) (move : Move) → MovesKept false m move →
-      ((new : BufferedState) × MovesAhead m move new × IsKeptAsX86 kept new) ⊎ CannotMove m move
-  exactly m move (inl (c, mid, new, moves, fills, is)) = inl (mid, moves, λ x shown. is x (fills_exactly mid new c fills x shown))
-  exactly m move (inr (inl (moves, is))) = inl (m, moves, is)
+      ((new : BufferedState) × MovesAhead m move new × IsKeptAlikeX86 kept new) ⊎ CannotMove m move
+  exactly m move (inl (c, mid, new, moves, fills, is)) = inl (mid, moves, λ x shown. as_it_is x (is x (fills_exactly mid new c fills x shown)))
+  exactly m move (inr (inl (moves, is))) = inl (m, moves, λ x shown. as_it_is x (is x shown))
   exactly m move (inr (inr cannot)) = inr cannot
 
   are_closed : h.patient ≡ false → IsClosedX86 kept
@@ -153,8 +158,13 @@ module _ (look : SavedAlikeLookAlike) (stand : AlikeStandAlike) (h : Host) (stat
   but_for_budgets : (m : BufferedState) (move : Move) → MovesKept true m move → ((new : BufferedState) × MovesAhead m move new × IsKeptRichlyX86 kept new)
       ⊎ CannotMove m move
   but_for_budgets m move (inl (c, mid, new, moves, fills, is)) =
-      inl (mid, moves, λ x shown. (let r = richly_shown mid new c fills x shown in (r.0, r.1, is (with_x86_jobs x r.0) r.2)))
-  but_for_budgets m move (inr (inl (moves, is))) = inl (m, moves, λ x shown. (x.world.jobs, all_same x.world.jobs, is x shown))
+      inl (
+        mid,
+        moves,
+        λ x shown. (let r = richly_shown mid new c fills x shown in
+            (r.0, r.1, as_it_is (with_x86_jobs x r.0) (is (with_x86_jobs x r.0) r.2))),
+      )
+  but_for_budgets m move (inr (inl (moves, is))) = inl (m, moves, λ x shown. (x.world.jobs, all_same x.world.jobs, as_it_is x (is x shown)))
   but_for_budgets m move (inr (inr cannot)) = inr cannot
 
   are_closed_richly : h.patient ≡ true → IsClosedRichlyX86 kept

@@ -176,8 +176,7 @@ fn read_buffer(alloc: Global, bytes: &[u8]) -> Result<Option<(Vec<Stored>, &[u8]
     read_all(alloc, count, rest)
 }
 
-/// By CPU, of so many, the stores that wait whose saved form the bytes begin with; what comes after
-/// it.
+/// By CPU, the stores that wait whose saved form the bytes begin with, and the bytes after that form.
 pub(crate) fn read_buffers(
     alloc: Global,
     cpus: u8,

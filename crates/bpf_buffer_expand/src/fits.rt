@@ -12,8 +12,8 @@ use bpf_helpers::HeldSpans;
 use bpf_machine::KeptStage;
 use bpf_shared::{ArrayShape, FIRST_ARRAY, FIRST_VALUE, MAP_AREA, StoreShape};
 
-/// Whether so many bytes from an address on are in a value of an array that begins at another, which
-/// a CPU may write.
+/// Whether `count` bytes from `at` on are in a value of an array that begins at `start`, which a CPU
+/// may write.
 fn is_in_array(array: &ArrayShape, cpus: u8, start: u64, at: u64, count: u64) -> bool
     requires shape { IsArrayShape cpus array.now }
     requires some { 1 ≤ count }

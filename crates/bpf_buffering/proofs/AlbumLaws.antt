@@ -1,12 +1,14 @@
 -- Kept states and the machine to work with.
-use Rattle.std.proofs.Common.{◌≡◌, ℕ, ◌<◌, ◌≤◌, ◌⊎◌, List, [], ◌∷◌, ◌++◌, length, Option, Some, None, inl, inr, refl, sym, ap, subst, ◌∙◌}
-use Rattle.std.specs.Prelude.{All, IfSome, OnErr, Result, Ok, Err, map, nat_lt, option_map, slice_get}
+use Rattle.std.proofs.Common.{◌≡◌, ℕ, zero, suc, ◌<◌, ◌≤◌, ◌⊎◌, List, [], ◌∷◌, ◌++◌, length, Option, Some, None, inl, inr, refl, sym, ap, arith, subst, ◌∙◌}
+use Rattle.std.specs.Prelude.{All, IfSome, OnErr, Result, Ok, Err, map, nat_lt, option_map, slice_get, slice_index_or}
 use Rattle.std.proofs.lemmas.List.{map_push, length-map}
 use Rattle.std.proofs.lemmas.List.Elements.{All-push, All-weaker, All-tail, All-head}
 use Rattle.std.proofs.lemmas.Option.{slice_get-map, slice_get_within, get_or_from_slice_get}
 use Rattle.bpf_plain.specs.PlainStore.{Contents, has_cpu}
 use Rattle.bpf_plain.specs.Alike.{IsSameShape}
 use Rattle.bpf_loader.specs.Loaded.{Loaded}
+use Rattle.bpf_live.specs.Live.{Table}
+use Rattle.bpf_alike.specs.Worlds.{AreLiveTables, table_at}
 use Rattle.bpf_machine.specs.Machine.{MachineState}
 use Rattle.bpf_machine.specs.Parts.{IsSameHost}
 use Rattle.bpf_machine.specs.Patient.{IsRefilled}
@@ -17,7 +19,7 @@ use Rattle.bpf_buffering.specs.declared.pools.Pools.{Pools}
 use Rattle.bpf_buffering.specs.Search.{BufferedState, MovesTo, CannotMove}
 use Rattle.bpf_buffering.specs.Buffering.{TurnsTo}
 use Rattle.bpf_buffering.specs.Album.{HaveEndedAt}
-use Rattle.bpf_buffering.specs.Private.Kept.{Numbers, kept_state, store_of, jobs_of, buffers_of, AddsTo, FitsHost, IsAlbum, IsBoard, IsPooled, ShowsAsMuch}
+use Rattle.bpf_buffering.specs.Private.Kept.{Numbers, kept_state, no_store, store_of, jobs_of, buffers_of, AddsTo, FitsHost, IsAlbum, IsBoard, IsPooled, ShowsAsMuch}
 use Rattle.bpf_buffering.proofs.Keeping.{same_shape, rests, none_flushes}
 use Rattle.bpf_buffering.proofs.Pooling.{adds_store, fits_still, state_stays, store_known}
 
@@ -61,6 +63,11 @@ pub states_after : (old new : BufferedState) (p : Pools) (kept : List Numbers) �
     states old p kept
 states_after old new p kept went = ap (λ (ps : List Loaded). map (kept_state p ps) kept) went.programs
 
+-- tables that are right for its programs stay so
+pub right_after : (old new : BufferedState) (tables : List Table) → IsSameHost old.machine new.machine → AreLiveTables old.machine.programs
+    (table_at tables) → AreLiveTables new.machine.programs (table_at tables)
+right_after old new tables went right = subst (λ (ps : List Loaded). AreLiveTables ps (table_at tables)) (sym went.programs) right
+
 -- the number of its store is known still, where it has the same
 pub album_same : (old new : BufferedState) (p : Pools) (kept : List Numbers) (number : Option ℕ) → IsSameHost old.machine new.machine →
     new.machine.store ≡ old.machine.store → IsAlbum old p kept number → IsAlbum new p kept number
@@ -76,6 +83,27 @@ album_same old new p kept number went same is =
 pub filled_store : (old new : MachineState) (c : ℕ) → IsRefilled old c new → new.store ≡ old.store
 filled_store old new c (inl (free, same)) = ap (λ (m : MachineState). m.store) same
 filled_store old new c (inr (j, (task, state, left, more, at, sum, is))) = ap (λ (m : MachineState). m.store) is
+
+pub stored_there : (ss : List Contents) (n : ℕ) → n < length ss → slice_get ss n ≡ Some (slice_index_or ss n no_store)
+stored_there [] n less = absurd (omega arith)
+stored_there (s ∷ ss) zero less = refl
+stored_there (s ∷ ss) (suc n) less = stored_there ss n (omega arith)
+
+-- the machine has been made as a kept state
+pub album_taken : (old new : BufferedState) (p : Pools) (kept : List Numbers) (number : Option ℕ) (tables : List Table) (k : Numbers)
+    → IsAlbum old p kept number × AreLiveTables old.machine.programs (table_at tables) → FitsHost old p k
+    → new ≡ kept_state p old.machine.programs k → slice_get p.stores k.store ≡ Some (store_of p k)
+    → IsAlbum new p kept (Some k.store) × AreLiveTables new.machine.programs (table_at tables)
+album_taken old new p kept number tables k (is, right) fits made stored =
+    let went : IsSameHost old.machine new.machine = subst (λ (s : BufferedState). IsSameHost old.machine s.machine) (sym made) fits.host in
+    let after = album_after old new p kept number went is in (
+      record {
+        fits = after.fits;
+        shapes = after.shapes;
+        known = stored ∙ ap (λ (s : BufferedState). Some s.machine.store) (sym made);
+      },
+      right_after old new tables went right,
+    )
 
 -- ---- the pools have grown
 pub states_still : (m : BufferedState) (store : Contents) (p q : Pools) (kept : List Numbers) → AddsTo store p q → All (FitsHost m p) kept →

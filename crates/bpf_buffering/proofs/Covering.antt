@@ -1,5 +1,5 @@
 -- A turn that is unseen comes before all moves up to it, so a list that moves and such turns after them
--- don't lead out of covers what schedules of moves leave without work.
+-- don't lead out of but for dead registers covers what schedules of moves leave without work.
 use Rattle.std.proofs.Common.{◌≡◌, ◌≢◌, ℕ, zero, suc, ◌<◌, ◌≤◌, List, [], ◌∷◌, ◌++◌, length, Option, Some, None, ◌⊎◌, inl, inr, refl, sym}
 use Rattle.std.proofs.Common.{ap, subst, ◌∙◌, arith}
 use Rattle.std.specs.Prelude.{slice_get}
@@ -16,7 +16,6 @@ use Rattle.bpf_loader.specs.Laws.{OneInstructionBegins}
 use Rattle.bpf_mem.specs.Laws.{WritesAreDetermined}
 use Rattle.bpf_helpers.specs.Laws.{AreAskedAlike}
 use Rattle.bpf_cpu.specs.declared.cpu.Cpu.{Cpu}
-use Rattle.bpf_cpu.specs.declared.input.Input.{Input}
 use Rattle.bpf_cpu.specs.declared.outcome.Outcome.{Outcome}
 use Rattle.bpf_cpu.specs.declared.outcome.Progress.{Progress}
 use Rattle.bpf_cpu.specs.declared.outcome.Progress.TheVariants.{On}
@@ -25,11 +24,11 @@ use Rattle.bpf_cpu.specs.Step.{Step}
 use Rattle.bpf_cpu.specs.Task.{Stage, Task, Waiting, InHand, Ended}
 use Rattle.bpf_cpu.proofs.Asking.{asks-first, asks-behind, asks-end, asks-end'}
 use Rattle.bpf_cpu.proofs.DeterminedRuns.{step_agrees}
+use Rattle.bpf_live.specs.Laws.{AlikeIsAnEquivalence, StepsAreAlike}
 use Rattle.bpf_machine.specs.declared.machine.Turn.{Turn}
 use Rattle.bpf_machine.specs.declared.machine.Turn.TheVariants.{Ran}
 use Rattle.bpf_machine.specs.Hands.{IsAt, IsFree, NoneWaits, SomeWaits, with_stage}
 use Rattle.bpf_machine.specs.Headways.{with_jobs}
-use Rattle.bpf_machine.specs.Laws.{IsFresh}
 use Rattle.bpf_machine.specs.Rounds.{HaveEnded}
 use Rattle.bpf_machine.specs.Schedule.{World, outcome_after, Lists, Settles}
 use Rattle.bpf_machine.proofs.DeterminedTurns.{IsWorld, same_stage, fresh_world}
@@ -41,6 +40,8 @@ use Rattle.bpf_x86.specs.Machine.{X86, Move, TurnOf, FlushOf, Moves, RunsMoves, 
 use Rattle.bpf_x86.proofs.Lagging.{set_apart}
 use Rattle.bpf_buffering.specs.Search.{BufferedState, IsShownX86}
 use Rattle.bpf_buffering.specs.Ahead.{gone_on, IsUnseen, TakesUnseen, IsClosedX86, AheadSetsCoverX86}
+use Rattle.bpf_buffering.specs.Alike.{with_x86_jobs}
+use Rattle.bpf_buffering.proofs.AlikeMoves.{alike_world, end_alike}
 use Rattle.bpf_buffering.proofs.Determined.{one_move}
 use Rattle.bpf_buffering.proofs.Fronting.{longer, stores_wait, calls_along, call_along, drains_along, flush_along, flush_own}
 use Rattle.bpf_buffering.proofs.Fronting.{drain_shape, flush_shape, call_shape, calls_shape}
@@ -410,7 +411,9 @@ module _ (law : WritesAreDetermined) (begins : OneInstructionBegins) (replies : 
       let few = r.2 in
       (r.0, r.1, omega arith, r.3)
 
-  -- ---- a closed list
+-- ---- a closed list
+module _ (equal : AlikeIsAnEquivalence) (steps : StepsAreAlike) (law : WritesAreDetermined) (begins : OneInstructionBegins)
+    (replies : CallsHaveOneReply) where
   covered : (kept : List BufferedState) → IsClosedX86 kept → (n : ℕ) (moves : List Move) (x z : X86) → length moves ≤ n → IsWorld x.world →
       IsShownX86 kept x → RunsMoves x moves z → HaveEnded z.world.jobs → IsShownX86 kept z
   covered kept closed n [] x z few world shown runs ended = subst (IsShownX86 kept) (sym runs) shown
@@ -419,10 +422,12 @@ module _ (law : WritesAreDetermined) (begins : OneInstructionBegins) (replies : 
     | inl made ↦
         (let there = made.1 x shown.3 in
         let one = one_move law begins replies x move m there.0 world first there.4 in
-        let r = all_first there.3 moves there.0 there.1 z there.2 (subst (λ (v : X86). IsWorld v.world) one.0 one.1) ended
+        let r = all_first law begins replies there.3 moves there.0 there.1 z there.2 (subst (λ (v : X86). IsWorld v.world) one.0 one.1) ended
         (subst (λ (v : X86). RunsMoves v moves z) one.0 runs) there.5 in
         let less = r.2 in
-        covered kept closed n r.0 there.1 z (omega arith) r.3 (made.2 there.1 there.6) r.1 ended)
+        let dead = made.2 there.1 there.6 in
+        covered kept closed n r.0 (with_x86_jobs there.1 dead.0) z (omega arith) (alike_world equal there.1.world dead.0 dead.1 r.3) dead.2
+        (end_alike equal steps r.0 there.1 z dead.0 dead.1 r.1 ended) ended)
     | inr none ↦ absurd (none x m shown.3 first)
   ]
 

@@ -3,6 +3,7 @@ pub mod AtLast
 pub mod Beside
 pub mod Local
 pub mod Fronting
+pub mod AlikeMoves
 pub mod Covering
 pub mod Unseen
 pub mod Running
@@ -27,3 +28,4 @@ pub mod Keeping
 pub mod Pooling
 pub mod Ends
 pub mod AlbumLaws
+pub mod ClassLaws

@@ -14,7 +14,8 @@ use Rattle.bpf_machine.specs.Schedule.{World}
 use Rattle.bpf_x86.specs.Buffers.{Buffered, CallsAll}
 use Rattle.bpf_x86.specs.Forwarding.{AreStores}
 use Rattle.bpf_x86.specs.Machine.{X86, Move, Moves, RunsMoves, buffered, drained}
-use Rattle.bpf_buffering.specs.Search.{BufferedState, ShowsX86, IsShownX86, IsKeptAsX86, CannotMove}
+use Rattle.bpf_buffering.specs.Search.{BufferedState, ShowsX86, IsShownX86, CannotMove}
+use Rattle.bpf_buffering.specs.Alike.{IsKeptAlikeX86}
 
 -- the machine with these stores, and the job in hand in this state with this many steps left
 abbrev pub gone_on : X86 → Buffered → ℕ → Task → Cpu → ℕ → X86
@@ -60,10 +61,10 @@ abbrev pub MovesAhead : BufferedState → Move → BufferedState → Type 0
 MovesAhead old move new = (x : X86) → ShowsX86 old x
     → (y : X86) × (z : X86) × (c : ℕ) × (n : ℕ) × Moves x move y × TakesUnseen n y c z × ShowsX86 new z
 
--- so each move from each kept machine leads to one that is kept
+-- so each move from each kept machine leads to one that is kept, but for dead registers
 abbrev pub IsClosedX86 : List BufferedState → Type 0
 IsClosedX86 kept = (i : ℕ) (m : BufferedState) → slice_get kept i ≡ Some m → (move : Move)
-    → ((new : BufferedState) × MovesAhead m move new × IsKeptAsX86 kept new) ⊎ CannotMove m move
+    → ((new : BufferedState) × MovesAhead m move new × IsKeptAlikeX86 kept new) ⊎ CannotMove m move
 
 -- THE LAW: a closed list that shows a machine before its first turn, when no job is in hand, shows each
 -- machine without work that schedules of moves lead to

@@ -1,5 +1,6 @@
 pub mod Search
 pub mod Ahead
+pub mod Alike
 pub mod Waiting
 pub mod Jobs
 pub mod Going

@@ -1,4 +1,4 @@
-//! A machine to work with, and states of it that are kept as they were.
+//! A machine to work with, and states of it that are kept as they were: one of those that count as one.
 
 ghost use Rattle.std.specs.Prelude.{◌≡◌, ◌⊎◌, ◌++◌, ◌∷◌, [], All, IfSome, OnOk, Some, slice_get};
 ghost use Rattle.bpf_plain.specs.PlainStore.{IsSavedAs};
@@ -7,9 +7,12 @@ ghost use Rattle.bpf_machine.specs.Parts.{IsSameHost};
 ghost use Rattle.bpf_buffering.specs.Private.Kept.{ShowsAsMuch};
 
 use crate::buffering::Buffering;
+use crate::classes::Classes;
 use crate::pools::Pools;
 use crate::pools::stores::Stores;
 use crate::states::States;
+use bpf_alike::{Merged, live_tables};
+use bpf_live::Live;
 use bpf_machine::Turn;
 use bpf_plain::PlainStore;
 use std::alloc::{AllocError, Global};
@@ -54,6 +57,8 @@ pub struct Album {
     machine: Buffering,
     pools: Pools,
     states: States,
+    /// By which states are found that count as one.
+    classes: Classes,
     /// The number of the machine's store, where it is known.
     store: Option<u32>,
     /// Room to save a store.
@@ -62,6 +67,7 @@ pub struct Album {
 
 impl Model for Album {
     ghost use Rattle.std.specs.Prelude.{map};
+    ghost use Rattle.bpf_alike.specs.Worlds.{AreLiveTables, table_at};
     ghost use Rattle.bpf_buffering.specs.Album.{AlbumState};
     ghost use Rattle.bpf_buffering.specs.Private.Kept.{kept_state, IsAlbum};
 
@@ -72,7 +78,8 @@ impl Model for Album {
       kept = map (kept_state a.pools a.machine.machine.programs) a.states;
     } };
 
-    ghost invariant = { λ a. IsAlbum a.machine a.pools a.states a.store };
+    ghost invariant = { λ a. IsAlbum a.machine a.pools a.states a.store
+        × AreLiveTables a.machine.machine.programs (table_at a.classes) };
 }
 
 impl Album {
@@ -81,11 +88,14 @@ impl Album {
     ghost use Rattle.bpf_x86.specs.Machine.{TurnOf, FlushOf};
     ghost use Rattle.bpf_buffering.specs.Search.{BufferedState, MovesTo, RunsTo, CannotMove, buffer_at};
     ghost use Rattle.bpf_buffering.specs.Buffering.{TurnsTo};
+    ghost use Rattle.bpf_alike.specs.Worlds.{AreLiveTables, table_at};
     ghost use Rattle.bpf_buffering.specs.Ahead.{MovesAhead};
     ghost use Rattle.bpf_buffering.specs.Album.{HaveEndedAt};
+    ghost use Rattle.bpf_buffering.specs.Alike.{IsKeptAlikeAtX86};
 
-    /// Nothing is kept yet.
-    fn empty(alloc: Global, machine: Buffering) -> Album
+    /// Nothing is kept yet. States count as one by these tables.
+    fn empty(alloc: Global, machine: Buffering, tables: Vec<Live>) -> Album
+        requires { AreLiveTables machine.machine.programs (table_at tables.items) }
         ensures { result ≡ record { machine = machine; kept = [] } }
     {
         Album {
@@ -93,17 +103,19 @@ impl Album {
             machine,
             pools: Pools::new(alloc),
             states: States::new(alloc),
+            classes: Classes::new(alloc, tables),
             store: None,
             bytes: Vec::new(alloc),
         }
     }
 
     /// The machine as it is now is kept.
-    pub fn new(alloc: Global, machine: Buffering) -> Result<Album, AllocError>
+    pub fn new(alloc: Global, machine: Buffering, merged: Merged) -> Result<Album, AllocError>
         ensures machine { IfOk result (λ a. a.machine ≡ machine) }
         ensures kept { IfOk result (λ a. a.kept ≡ machine ∷ []) }
     {
-        let mut album = Album::empty(alloc, machine);
+        let tables = live_tables(alloc, machine.programs(), merged)?;
+        let mut album = Album::empty(alloc, machine, tables);
         album.keep_new()?;
         Ok(album)
     }
@@ -249,30 +261,39 @@ impl Album {
         ensures machine { self.new.machine ≡ self.old.machine }
     {
         let one = self.pools.number(self.alloc, &self.machine, self.store)?;
-        self.states.add(self.alloc, one)?;
+        self.classes
+            .add(self.alloc, &self.pools.jobs, &mut self.states, one)?;
         Ok(())
     }
 
-    /// Keeps the machine as it is, unless one is found that shows all that it shows. Under which number.
+    /// Keeps the machine as it is, unless one is found that shows all that it shows, but for dead registers.
+    /// Under which number.
     pub fn keep(&mut self) -> Result<usize, AllocError>
         ensures adds { OnOk result ((self.new.kept ≡ self.old.kept)
             ⊎ (self.new.kept ≡ self.old.kept ++ self.old.machine ∷ [])) }
-        ensures kept { IfOk result (λ n. slice_get self.new.kept n ≡ Some self.old.machine) }
+        ensures inside { IfOk result (λ n. n < length self.new.kept) }
+        ensures alike { IfOk result (λ n. IsKeptAlikeAtX86 self.new.kept n self.old.machine) }
         ensures err { OnErr result (self.new.kept ≡ self.old.kept) }
         ensures machine { self.new.machine ≡ self.old.machine }
     {
         let one = self.pools.number(self.alloc, &self.machine, self.store)?;
-        if let Some(place) = self.states.find(&one) {
+        let found = self.classes.find(&self.pools.jobs, &self.states, &one)?;
+        if let Some(place) = found {
             return Ok(place);
         }
         let place = self.states.len();
-        self.states.add(self.alloc, one)?;
+        self.classes
+            .add(self.alloc, &self.pools.jobs, &mut self.states, one)?;
         Ok(place)
     }
 
     /// About how many bytes of memory the kept states take.
     pub fn bytes(&self) -> usize {
         let states = self.states.bytes(self.machine.jobs());
-        self.pools.bytes().saturating_add(states)
+        let classes = self.classes.bytes();
+        self.pools
+            .bytes()
+            .saturating_add(states)
+            .saturating_add(classes)
     }
 }

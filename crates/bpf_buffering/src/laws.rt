@@ -23,11 +23,13 @@ pub fn calls_are_local()
     ensures { CallsAreLocal }
 {}
 
-/// A list that moves, each with unseen turns after it, don't lead out of shows each machine without work
-/// that schedules of moves lead to.
+/// A list that moves, each with unseen turns after it, don't lead out of but for dead registers shows each
+/// machine without work that schedules of moves lead to.
 pub fn ahead_sets_cover_x86()
     ensures { AheadSetsCoverX86 }
 {
+    bpf_live::laws::alike_is_an_equivalence();
+    bpf_live::laws::steps_are_alike();
     bpf_mem::laws::writes_are_determined();
     bpf_loader::laws::one_instruction_begins();
     bpf_shared::laws::calls_have_one_reply();

@@ -4,6 +4,7 @@
 mod ahead;
 mod album;
 mod buffering;
+mod classes;
 mod index;
 mod jobs;
 pub mod laws;

@@ -1,9 +1,7 @@
 //! Kept states: each the numbers of what it is made of.
 
-ghost use Rattle.std.specs.Prelude.{◌≡◌, ◌<◌, ◌++◌, ◌∷◌, [], true, IfSome, OnOk, OnErr, Some, length, slice_get};
+ghost use Rattle.std.specs.Prelude.{◌≡◌, ◌<◌, ◌++◌, ◌∷◌, [], IfSome, IfNone, OnOk, OnErr, Some, length, slice_get};
 
-use crate::index::{Index, Look};
-use bpf_base::spread;
 use std::alloc::{AllocError, Global};
 use std::marker::Model;
 
@@ -23,30 +21,10 @@ impl Model for Kept {
     ghost view = { λ k. record { store = k.store; buffers = k.buffers; jobs = k.jobs.items } };
 }
 
-impl Kept {
-    /// Whether the numbers are the same.
-    fn is_same(&self, other: &Kept) -> bool
-        ensures { result ≡ true → self.now ≡ other.now }
-    {
-        self.store == other.store
-            && self.buffers == other.buffers
-            && self.jobs.as_slice() == other.jobs.as_slice()
-    }
-
-    /// A number by which it is found.
-    fn hash(&self) -> u64 {
-        let first = spread(spread(u64::from(self.store)) ^ u64::from(self.buffers));
-        self.jobs
-            .iter()
-            .fold(first, |hash: u64, job| spread(hash ^ u64::from(*job)))
-    }
-}
-
 /// Kept states, in the order in which they came.
 #[derive(Drop)]
 pub(crate) struct States {
     kept: Vec<Kept>,
-    index: Index,
 }
 
 impl Model for States {
@@ -65,7 +43,6 @@ impl States {
     {
         States {
             kept: Vec::new(alloc),
-            index: Index::new(alloc),
         }
     }
 
@@ -84,37 +61,11 @@ impl States {
         &self.kept[place]
     }
 
-    /// Whether the state of a place is this one.
-    fn is_at(&self, place: usize, one: &Kept) -> bool
-        ensures { result ≡ true → slice_get self.now place ≡ Some one.now }
-    {
-        match self.kept.get(place) {
-            Some(kept) => kept.is_same(one),
-            None => false,
-        }
-    }
-
-    /// The place of a state, where it is found.
-    pub(crate) fn find(&self, one: &Kept) -> Option<usize>
-        ensures { IfSome result (λ n. slice_get self.now n ≡ Some one.now) }
-    {
-        let hash = one.hash();
-        for step in 0..self.index.places() {
-            match self.index.look(hash, step) {
-                Look::Number(place) if self.is_at(place, one) => return Some(place),
-                Look::Number(_) | Look::Other => {}
-                Look::Nothing => return None,
-            }
-        }
-        None
-    }
-
     /// Puts a state after those that are kept.
-    pub(crate) fn add(&mut self, alloc: Global, one: Kept) -> Result<(), AllocError>
+    pub(crate) fn add(&mut self, one: Kept) -> Result<(), AllocError>
         ensures adds { OnOk result (self.new ≡ self.old ++ one ∷ []) }
         ensures err { OnErr result (self.new ≡ self.old) }
     {
-        self.index.note(alloc, one.hash(), self.kept.len())?;
         self.kept.push(one)?;
         Ok(())
     }
@@ -124,9 +75,6 @@ impl States {
         let each = jobs.saturating_mul(4).saturating_add(16);
         let kept = self.kept.capacity().saturating_mul(size_of::<Kept>());
         let numbers = self.kept.len().saturating_mul(each);
-        self.index
-            .bytes()
-            .saturating_add(kept)
-            .saturating_add(numbers)
+        kept.saturating_add(numbers)
     }
 }

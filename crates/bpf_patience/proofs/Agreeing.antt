@@ -13,7 +13,8 @@ use Rattle.bpf_machine.proofs.PatientLaws.{all_same, rich_again, rich_world}
 use Rattle.bpf_x86.specs.Machine.{X86, Move, TurnOf, FlushOf, Moves, RunsMoves, drained}
 use Rattle.bpf_buffering.proofs.Determined.{one_move}
 use Rattle.bpf_flushes.specs.Moves.{IsForNothing, MakesAll}
-use Rattle.bpf_patience.specs.Patience.{with_x86_jobs, RunsFreelyX86, FreeMovesAgree}
+use Rattle.bpf_buffering.specs.Alike.{with_x86_jobs}
+use Rattle.bpf_patience.specs.Patience.{RunsFreelyX86, FreeMovesAgree}
 use Rattle.bpf_patience.proofs.Richer.{rich_move, stays_ended}
 
 -- what has ended stays so, where flushes are passed over too

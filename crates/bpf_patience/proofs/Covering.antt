@@ -1,22 +1,26 @@
--- A list of machines that is closed but for budgets shows each machine without work that moves lead to
--- while no job runs out of budget.
+-- A list of machines that is closed but for dead registers and budgets shows each machine without work
+-- that moves lead to while no job runs out of budget.
 use Rattle.std.proofs.Common.{◌≡◌, ℕ, zero, suc, ◌≤◌, List, [], ◌∷◌, length, inl, inr, sym, subst, arith}
 use Rattle.bpf_shared.specs.Laws.{CallsHaveOneReply}
 use Rattle.bpf_loader.specs.Laws.{OneInstructionBegins}
 use Rattle.bpf_mem.specs.Laws.{WritesAreDetermined}
 use Rattle.bpf_cpu.specs.Task.{Task}
+use Rattle.bpf_live.specs.Laws.{AlikeIsAnEquivalence, StepsAreAlike}
 use Rattle.bpf_machine.specs.Patient.{NoneRanOut}
 use Rattle.bpf_machine.specs.Rounds.{HaveEnded}
 use Rattle.bpf_machine.proofs.DeterminedTurns.{IsWorld, fresh_world}
 use Rattle.bpf_machine.proofs.PatientLaws.{rich_ended, rich_world}
 use Rattle.bpf_x86.specs.Machine.{X86, Move, RunsMoves, drained}
 use Rattle.bpf_buffering.specs.Search.{BufferedState, IsShownX86}
+use Rattle.bpf_buffering.proofs.AlikeMoves.{alike_world, end_alike}
 use Rattle.bpf_buffering.proofs.Covering.{all_first}
 use Rattle.bpf_buffering.proofs.Determined.{one_move}
-use Rattle.bpf_patience.specs.Patience.{with_x86_jobs, IsClosedRichlyX86, PatientSetsCoverX86}
+use Rattle.bpf_buffering.specs.Alike.{with_x86_jobs}
+use Rattle.bpf_patience.specs.Patience.{IsClosedRichlyX86, PatientSetsCoverX86}
 use Rattle.bpf_patience.proofs.Richer.{rich_moves}
 
-module _ (law : WritesAreDetermined) (begins : OneInstructionBegins) (replies : CallsHaveOneReply) where
+module _ (equal : AlikeIsAnEquivalence) (steps : StepsAreAlike) (law : WritesAreDetermined) (begins : OneInstructionBegins)
+    (replies : CallsHaveOneReply) where
   covered : (kept : List BufferedState) → IsClosedRichlyX86 kept → (n : ℕ) (moves : List Move) (x z : X86) → length moves ≤ n → IsWorld x.world →
       IsShownX86 kept x → RunsMoves x moves z → HaveEnded z.world.jobs → NoneRanOut z.world.jobs → IsShownX86 kept z
   covered kept closed n [] x z few world shown runs ended none = subst (IsShownX86 kept) (sym runs) shown
@@ -33,8 +37,11 @@ module _ (law : WritesAreDetermined) (begins : OneInstructionBegins) (replies : 
         let same : on.0 ≡ z.world.jobs = rich_ended z.world.jobs on.0 on.2 ended in
         let runs_on : RunsMoves (with_x86_jobs there.1 rich.0) r.0 z = subst
         (λ (ts : List Task). RunsMoves (with_x86_jobs there.1 rich.0) r.0 (with_x86_jobs z ts)) same on.1 in
-        covered kept closed n r.0 (with_x86_jobs there.1 rich.0) z (omega arith) (rich_world there.1.world rich.0 rich.1 r.3) rich.2 runs_on
-        ended none)
+        let mid : X86 = with_x86_jobs there.1 rich.0 in
+        let dead = rich.2 in
+        covered kept closed n r.0 (with_x86_jobs mid dead.0) z (omega arith)
+        (alike_world equal mid.world dead.0 dead.1 (rich_world there.1.world rich.0 rich.1 r.3)) dead.2
+        (end_alike equal steps r.0 mid z dead.0 dead.1 runs_on ended) ended none)
     | inr never ↦ absurd (never x m shown.3 first)
   ]
 

@@ -25,7 +25,8 @@ use Rattle.bpf_buffering.specs.Ahead.{gone_on, IsUnseen, TakesUnseen}
 use Rattle.bpf_buffering.proofs.Covering.{ahead, is_turn, unseen_turn, CanGo, still_goes, move_is, moves_along}
 use Rattle.bpf_buffering.proofs.Determined.{one_move}
 use Rattle.bpf_buffering.proofs.Fronting.{stores_wait}
-use Rattle.bpf_patience.specs.Patience.{with_x86_jobs, RunsFreelyX86}
+use Rattle.bpf_buffering.specs.Alike.{with_x86_jobs}
+use Rattle.bpf_patience.specs.Patience.{RunsFreelyX86}
 use Rattle.bpf_patience.proofs.Joining.{gift_first}
 use Rattle.bpf_patience.proofs.Richer.{rich_move, rich_set, stays_ended, suc_more}
 

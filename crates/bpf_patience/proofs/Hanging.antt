@@ -6,6 +6,9 @@ use Rattle.bpf_shared.specs.Laws.{CallsHaveOneReply}
 use Rattle.bpf_loader.specs.Laws.{OneInstructionBegins}
 use Rattle.bpf_mem.specs.Laws.{WritesAreDetermined}
 use Rattle.bpf_cpu.specs.Task.{Task}
+use Rattle.bpf_live.specs.Laws.{AlikeIsAnEquivalence, StepsAreAlike}
+use Rattle.bpf_alike.proofs.AlikeJobs.{all_back}
+use Rattle.bpf_alike.proofs.AlikeRicher.{rich_under}
 use Rattle.bpf_machine.specs.Patient.{AsRich, NoneRanOut}
 use Rattle.bpf_machine.specs.Rounds.{HaveEnded}
 use Rattle.bpf_machine.proofs.DeterminedTurns.{IsWorld, fresh_world}
@@ -15,9 +18,12 @@ use Rattle.bpf_x86.specs.Machine.{X86, Move, TurnOf, FlushOf, Moves, RunsMoves, 
 use Rattle.bpf_buffering.specs.Search.{BufferedState, ShowsX86}
 use Rattle.bpf_buffering.specs.Ahead.{TakesUnseen}
 use Rattle.bpf_buffering.specs.Album.{IsShownAt}
+use Rattle.bpf_buffering.proofs.AlikeMoves.{alike_world, none_alike}
 use Rattle.bpf_buffering.proofs.Determined.{one_move}
-use Rattle.bpf_patience.specs.Patience.{with_x86_jobs, RunsFreelyX86}
+use Rattle.bpf_buffering.specs.Alike.{with_x86_jobs}
+use Rattle.bpf_patience.specs.Patience.{RunsFreelyX86}
 use Rattle.bpf_patience.specs.Ends.{AreStuckX86, CanEndX86, EndsInX86, IsShownRichlyAtX86, LeadsToX86, StuckX86sAreHung, X86sCanEnd}
+use Rattle.bpf_patience.proofs.AlikeRuns.{end_back, freely_to_end}
 use Rattle.bpf_patience.proofs.Freeing.{all_first_freely, freely_none, freely_richer, none_poor, poor_ended, rich_join, rich_unseens, unseen_moves}
 use Rattle.bpf_patience.proofs.Joining.{free_both, free_nowhere, gift_first, gift_last}
 use Rattle.bpf_patience.proofs.Richer.{none_ran_before, rich_move}
@@ -42,15 +48,18 @@ led_from kept u i move k (n, there, shows) (m, new, at, moves, keeps) =
     record { mid = r.0; last = r.1; cpu = r.2; count = r.3; moved = r.4; unseen = r.5; shown = keeps r.1 r.6 }
 
 -- ---- an end can be reached
-can_end : (kept : List BufferedState) (n i : ℕ) (x : X86) → EndsInX86 kept n i → IsShownAt kept i x → CanEndX86 x
-can_end kept zero i x (m, at, ended, none) (n, there, shows) =
+can_end : AlikeIsAnEquivalence → StepsAreAlike → (kept : List BufferedState) (n i : ℕ) (x : X86) → EndsInX86 kept n i → IsShownAt kept i x
+    → CanEndX86 x
+can_end equal steps kept zero i x (m, at, ended, none) (n, there, shows) =
     let same : m ≡ n = one_kept kept i m n at there in
     let are : m.machine.jobs ≡ x.world.jobs = ap (λ (s : BufferedState). s.machine.jobs) same ∙ sym shows.world.jobs in
     ([], x, free_nowhere x, subst HaveEnded are ended, subst NoneRanOut are none)
-can_end kept (suc n) i x (move, k, leads, rest) shown =
+can_end equal steps kept (suc n) i x (move, k, leads, rest) shown =
     let l = led_from kept x i move k shown leads in
     let rich = l.shown in
-    let r = can_end kept n k (with_x86_jobs l.last rich.0) rest rich.2 in
+    let dead = rich.2 in
+    let mid : X86 = with_x86_jobs l.last rich.0 in
+    let r = end_back equal steps mid dead.0 dead.1 (can_end equal steps kept n k (with_x86_jobs mid dead.0) rest dead.2) in
     let turns : List Move = replicate l.count (TurnOf l.cpu) in
     let through : RunsFreelyX86 l.mid turns l.last =
     gift_last turns l.mid l.last l.last.world.jobs (unseen_moves l.count l.mid l.last l.cpu l.unseen) (all_same l.last.world.jobs) in
@@ -58,8 +67,9 @@ can_end kept (suc n) i x (move, k, leads, rest) shown =
     free_both turns r.0 l.mid l.last r.1 through (gift_first r.0 l.last r.1 rich.0 rich.1 r.2) in
     (move ∷ (turns ++ r.0), r.1, (x.world.jobs, l.mid, all_same x.world.jobs, l.moved, on), r.3, r.4)
 
-pub x86s_can_end : X86sCanEnd
-x86s_can_end kept n i x ends shown = can_end kept n i x ends shown
+pub x86s_can_end : AlikeIsAnEquivalence → StepsAreAlike → X86sCanEnd
+x86s_can_end equal steps kept n i x ends (jobs, all, shown) =
+    end_back equal steps x jobs all (can_end equal steps kept n i (with_x86_jobs x jobs) ends shown)
 
 -- ---- none can
 -- stores that wait don't depend on jobs
@@ -104,7 +114,8 @@ module _ (kept : List BufferedState) (ends : List Bool) (stuck : AreStuckX86 kep
     | inr never ↦ inr (c, refl, λ v moved. never shown.0 shown.1 u v shown.2 moved)
   ]
 
-  module _ (law : WritesAreDetermined) (begins : OneInstructionBegins) (replies : CallsHaveOneReply) where
+  module _ (equal : AlikeIsAnEquivalence) (steps : StepsAreAlike) (law : WritesAreDetermined) (begins : OneInstructionBegins)
+      (replies : CallsHaveOneReply) where
     -- the run goes on from such a machine
     record Next (moves : List Move) (z : X86) : Type 0 where
       from_here : X86
@@ -121,9 +132,12 @@ module _ (kept : List BufferedState) (ends : List Bool) (stuck : AreStuckX86 kep
       led_on k l off =
           let top = rich_join x.world.jobs like.jobs given like.up rich in
           let seen = l.shown in
-          let stuck_now : IsStuckAt k (with_x86_jobs l.last seen.0) = (off, seen.2) in
+          let dead = seen.2 in
+          let programs = l.last.world.programs in
+          let stuck_now : IsStuckAt k (with_x86_jobs l.last dead.0) = (off, dead.2) in
+          let none_dead : NoneRanOut dead.0 = none_stuck k (with_x86_jobs l.last dead.0) stuck_now in
           let none_last : NoneRanOut l.last.world.jobs = none_poor l.last.world.jobs seen.0 seen.1
-          (none_stuck k (with_x86_jobs l.last seen.0) stuck_now) in
+          (none_alike equal programs dead.0 seen.0 (all_back equal programs seen.0 dead.0 dead.1) none_dead) in
           let none_mid : NoneRanOut l.mid.world.jobs = none_ran_before (replicate l.count (TurnOf l.cpu)) l.mid l.last
           (unseen_moves l.count l.mid l.last l.cpu l.unseen) none_last in
           let a = rich_move (with_x86_jobs x given) top.0 move y top.2 first (freely_none moves y z runs none) in
@@ -138,19 +152,24 @@ module _ (kept : List BufferedState) (ends : List Bool) (stuck : AreStuckX86 kep
           (freely_richer moves y z a.0 a.2 runs ended none)
           (subst (λ (v : X86). TakesUnseen l.count v l.cpu later) (sym one.0) u.1) in
           let up = rich_join l.last.world.jobs seen.0 u.0 seen.1 u.2 in
+          let high : X86 = with_x86_jobs l.last up.0 in
+          let over : RunsFreelyX86 high r.0 z = freely_richer r.0 later z up.0 up.2 r.1 ended none in
+          -- dead registers, and then richer jobs
+          let under = rich_under programs dead.0 seen.0 up.0 (all_back equal programs seen.0 dead.0 dead.1) up.1 in
+          let back = all_back equal programs under.0 up.0 under.2 in
           record {
-            from_here = later;
+            from_here = with_x86_jobs l.last under.0;
             rest = r.0;
-            runs = r.1;
+            runs = freely_to_end equal steps r.0 high z under.0 back over ended;
             less = r.2;
-            world = r.3;
+            world = alike_world equal high.world under.0 back (rich_world later.world up.0 up.2 r.3);
             like = record {
               place = k;
-              like = with_x86_jobs l.last seen.0;
-              jobs = up.0;
+              like = with_x86_jobs l.last dead.0;
+              jobs = under.0;
               stuck_there = stuck_now;
-              below = up.1;
-              up = up.2;
+              below = under.1;
+              up = all_same under.0;
               same = refl;
             };
           }
@@ -181,9 +200,14 @@ moved_world law begins replies [] x z world runs = subst (λ (v : X86). IsWorld 
 moved_world law begins replies (move ∷ moves) x z world (y, first, runs) =
     moved_world law begins replies moves y z (one_move law begins replies x move y y world first first).1 runs
 
-pub stuck_x86s_are_hung : WritesAreDetermined → OneInstructionBegins → CallsHaveOneReply → StuckX86sAreHung
-stuck_x86s_are_hung law begins replies kept ends w moves z i stuck fresh runs off (jobs, rich, shown) (others, y, freely, ended, none) =
+pub stuck_x86s_are_hung : AlikeIsAnEquivalence → StepsAreAlike → WritesAreDetermined → OneInstructionBegins → CallsHaveOneReply → StuckX86sAreHung
+stuck_x86s_are_hung equal steps law begins replies kept ends w moves z i stuck fresh runs off (jobs, rich, (dead, all, shown))
+    (others, y, freely, ended, none) =
     let world = moved_world law begins replies moves (drained w) z (fresh_world law begins replies w fresh) runs in
-    never kept ends stuck law begins replies (length others) others z y (omega arith) world
-    (record { place = i; like = with_x86_jobs z jobs; jobs = jobs; stuck_there = (off, shown); below = all_same jobs; up = rich; same = refl })
-    freely ended none
+    let high : X86 = with_x86_jobs z jobs in
+    let low : X86 = with_x86_jobs z dead in
+    let over : RunsFreelyX86 high others y = freely_richer others z y jobs rich freely ended none in
+    never kept ends stuck equal steps law begins replies (length others) others low y (omega arith)
+    (alike_world equal high.world dead all (rich_world z.world jobs rich world))
+    (record { place = i; like = low; jobs = dead; stuck_there = (off, shown); below = all_same dead; up = all_same dead; same = refl })
+    (freely_to_end equal steps others high y dead all over ended) ended none

@@ -4,7 +4,8 @@ use Rattle.bpf_cpu.specs.Task.{Task}
 use Rattle.bpf_machine.specs.Patient.{AsRich}
 use Rattle.bpf_machine.proofs.PatientLaws.{all_same, rich_again}
 use Rattle.bpf_x86.specs.Machine.{X86, Move, RunsMoves}
-use Rattle.bpf_patience.specs.Patience.{with_x86_jobs, RunsFreelyX86}
+use Rattle.bpf_buffering.specs.Alike.{with_x86_jobs}
+use Rattle.bpf_patience.specs.Patience.{RunsFreelyX86}
 
 pub free_nowhere : (x : X86) → RunsFreelyX86 x [] x
 free_nowhere x = (x.world.jobs, all_same x.world.jobs, refl)

@@ -15,6 +15,8 @@ use Rattle.bpf_cpu.specs.declared.outcome.Outcome.TheVariants.{OutOfBudget}
 use Rattle.bpf_cpu.specs.declared.outcome.Progress.TheVariants.{On}
 use Rattle.bpf_cpu.specs.Step.{Step}
 use Rattle.bpf_cpu.specs.Task.{Stage, Task, InHand, Ended}
+use Rattle.bpf_alike.specs.Worlds.{AllAlike}
+use Rattle.bpf_live.specs.Laws.{AlikeIsAnEquivalence, StepsAreAlike}
 use Rattle.bpf_machine.specs.declared.machine.Turn.TheVariants.{Ran}
 use Rattle.bpf_machine.specs.Hands.{with_stage}
 use Rattle.bpf_machine.specs.Patient.{NoneRanOut}
@@ -25,11 +27,14 @@ use Rattle.bpf_x86.specs.Forwarding.{AreStores}
 use Rattle.bpf_x86.specs.Machine.{X86, Move, TurnOf, Moves, RunsMoves, buffered, drained}
 use Rattle.bpf_buffering.specs.Ahead.{gone_on, IsUnseen, TakesUnseen}
 use Rattle.bpf_buffering.specs.Search.{BufferedState, IsShownX86}
+use Rattle.bpf_buffering.proofs.AlikeMoves.{alike_world, dead_none, moves_alike, none_alike}
 use Rattle.bpf_buffering.proofs.Covering.{ahead, is_turn, unseen_turn, CanGo, still_goes, move_is, moves_along}
 use Rattle.bpf_buffering.proofs.Determined.{one_move}
 use Rattle.bpf_buffering.proofs.Fronting.{stores_wait}
-use Rattle.bpf_patience.specs.Patience.{with_x86_jobs, IsClosedRichlyX86, RunsFreelyX86}
+use Rattle.bpf_buffering.specs.Alike.{with_x86_jobs}
+use Rattle.bpf_patience.specs.Patience.{IsClosedRichlyX86, RunsFreelyX86}
 use Rattle.bpf_patience.specs.Ends.{LeadsOnX86, PatientSetsLeadOn}
+use Rattle.bpf_patience.proofs.AlikeRuns.{freely_back}
 use Rattle.bpf_patience.proofs.Freeing.{rich_none}
 use Rattle.bpf_patience.proofs.Joining.{free_both, free_nowhere, gift_first}
 use Rattle.bpf_patience.proofs.Leaving.{AllStores, stores_after, stores_still}
@@ -194,24 +199,34 @@ module _ (law : WritesAreDetermined) (begins : OneInstructionBegins) (replies : 
         stores = r.stores;
       }
 
-  -- ---- a closed list
+-- ---- a closed list
+module _ (equal : AlikeIsAnEquivalence) (steps : StepsAreAlike) (law : WritesAreDetermined) (begins : OneInstructionBegins)
+    (replies : CallsHaveOneReply) where
   leads_on : (kept : List BufferedState) → IsClosedRichlyX86 kept → (n : ℕ) (moves : List Move) (x z : X86) → length moves ≤ n → IsWorld x.world →
       AllStores x → IsShownX86 kept x → RunsMoves x moves z → NoneRanOut z.world.jobs → LeadsOnX86 kept z
-  leads_on kept closed n [] x z few world stores shown runs none = ([], z, free_nowhere z, subst (IsShownX86 kept) (sym runs) shown)
+  leads_on kept closed n [] x z few world stores shown runs none =
+      ([], z, free_nowhere z, dead_none equal (IsShownX86 kept) z (subst (IsShownX86 kept) (sym runs) shown))
   leads_on kept closed zero (move ∷ moves) x z few world stores shown runs none = absurd (omega arith)
   leads_on kept closed (suc n) (move ∷ moves) x z few world stores shown (m, first, runs) none = elim (closed shown.0 shown.1 shown.2 move) [
     | inl made ↦
         (let there = made.1 x shown.3 in
         let one = one_move law begins replies x move m there.0 world first there.4 in
-        let r = all_sooner there.3 moves there.0 there.1 z there.2 (subst (λ (v : X86). IsWorld v.world) one.0 one.1)
+        let r = all_sooner law begins replies there.3 moves there.0 there.1 z there.2 (subst (λ (v : X86). IsWorld v.world) one.0 one.1)
         (stores_after x there.0 move world.store there.4 stores) (subst (λ (v : X86). RunsMoves v moves z) one.0 runs) there.5 in
         let less = r.few in
         let rich = made.2 there.1 there.6 in
         let none_last = r.goes_on none in
         let on = rich_moves r.rest there.1 r.last rich.0 rich.1 r.runs none_last in
-        let far = leads_on kept closed n r.rest (with_x86_jobs there.1 rich.0) (with_x86_jobs r.last on.0) (omega arith)
-        (rich_world there.1.world rich.0 rich.1 r.world) r.stores rich.2 on.1 (rich_none r.last.world.jobs on.0 on.2 none_last) in
-        (r.turns ++ far.0, far.1, free_both r.turns far.0 z r.last far.1 r.later (gift_first far.0 r.last far.1 on.0 on.2 far.2), far.3))
+        let mid : X86 = with_x86_jobs there.1 rich.0 in
+        let end : X86 = with_x86_jobs r.last on.0 in
+        let dead = rich.2 in
+        let off = moves_alike equal steps mid.world.programs r.rest mid end dead.0 refl dead.1 on.1 in
+        let fit : NoneRanOut off.0 = none_alike equal mid.world.programs on.0 off.0 off.2 (rich_none r.last.world.jobs on.0 on.2 none_last) in
+        let far = leads_on kept closed n r.rest (with_x86_jobs mid dead.0) (with_x86_jobs end off.0) (omega arith)
+        (alike_world equal mid.world dead.0 dead.1 (rich_world there.1.world rich.0 rich.1 r.world)) r.stores dead.2 off.1 fit in
+        let like : AllAlike end.world.programs on.0 off.0 = subst (λ (ps : List Loaded). AllAlike ps on.0 off.0) (sym off.3) off.2 in
+        let back = freely_back equal steps (IsShownX86 kept) far.0 end far.1 off.0 like far.2 far.3 in
+        (r.turns ++ far.0, back.0, free_both r.turns far.0 z r.last back.0 r.later (gift_first far.0 r.last back.0 on.0 on.2 back.1), back.2))
     | inr never ↦ absurd (never x m shown.3 first)
   ]
 

@@ -1,4 +1,5 @@
 pub mod Richer
+pub mod AlikeRuns
 pub mod Covering
 pub mod Agreeing
 pub mod Joining

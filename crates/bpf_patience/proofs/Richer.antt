@@ -20,7 +20,7 @@ use Rattle.bpf_machine.proofs.ListLaws.{with_end, lists_jobs, lists_along}
 use Rattle.bpf_machine.proofs.PatientLaws.{hand_back, rich_at, rich_back, richer_hand, wait_now}
 use Rattle.bpf_x86.specs.Buffers.{Buffered}
 use Rattle.bpf_x86.specs.Machine.{X86, Move, TurnOf, FlushOf, Moves, RunsMoves, with_buffered, buffered, Advances, Settled, GoesOn, TakesTurn}
-use Rattle.bpf_patience.specs.Patience.{with_x86_jobs}
+use Rattle.bpf_buffering.specs.Alike.{with_x86_jobs}
 
 -- ---- more steps left
 pub suc_more : (n k : ℕ) → suc (n + k) ≡ suc n + k

@@ -9,8 +9,8 @@ use Rattle.bpf_machine.specs.Schedule.{World}
 use Rattle.bpf_x86.specs.Machine.{X86, Move, TurnOf, FlushOf, RunsMoves, drained}
 use Rattle.bpf_buffering.specs.Search.{BufferedState, ShowsX86, IsShownX86, CannotMove}
 use Rattle.bpf_buffering.specs.Ahead.{MovesAhead}
-use Rattle.bpf_buffering.specs.Album.{IsShownAt}
-use Rattle.bpf_patience.specs.Patience.{with_x86_jobs, RunsFreelyX86, IsClosedRichlyX86}
+use Rattle.bpf_buffering.specs.Alike.{with_x86_jobs, IsShownAlikeX86, IsShownAlikeAtX86}
+use Rattle.bpf_patience.specs.Patience.{RunsFreelyX86, IsClosedRichlyX86}
 
 -- some run of moves leads to a machine without work in which no job is out of budget
 abbrev pub CanEndX86 : X86 → Type 0
@@ -22,10 +22,10 @@ abbrev pub IsHungX86 : X86 → Type 0
 IsHungX86 x = CanEndX86 x → ⊥
 
 -- ---- kept machines
--- the i-th shows this machine, but for richer jobs
+-- with richer jobs, the i-th shows this machine, but for dead registers
 abbrev pub IsShownRichlyAtX86 : List BufferedState → ℕ → X86 → Type 0
 IsShownRichlyAtX86 kept i x =
-    (jobs : List Task) × AsRich x.world.jobs jobs × IsShownAt kept i (with_x86_jobs x jobs)
+    (jobs : List Task) × AsRich x.world.jobs jobs × IsShownAlikeAtX86 kept i (with_x86_jobs x jobs)
 
 -- all that the machine shows, it shows so
 abbrev pub IsKeptRichlyAtX86 : List BufferedState → ℕ → BufferedState → Type 0
@@ -57,24 +57,25 @@ pub record IsStuckX86 (kept : List BufferedState) (ends : List Bool) (i : ℕ) :
 abbrev pub AreStuckX86 : List BufferedState → List Bool → Type 0
 AreStuckX86 kept ends = (i : ℕ) → slice_get ends i ≡ Some false → IsStuckX86 kept ends i
 
--- moves lead from the machine to what a kept one shows, where jobs are given steps on the way
+-- moves lead from the machine to what a kept one shows but for dead registers, where jobs are given steps on
+-- the way
 abbrev pub LeadsOnX86 : List BufferedState → X86 → Type 0
 LeadsOnX86 kept x =
-    (moves : List Move) × (y : X86) × RunsFreelyX86 x moves y × IsShownX86 kept y
+    (moves : List Move) × (y : X86) × RunsFreelyX86 x moves y × IsShownAlikeX86 kept y
 
 -- ---- the laws
--- what moves lead to, and what such a machine shows but for richer jobs, never ends
+-- what moves lead to, and what such a machine shows but for richer jobs and dead registers, never ends
 abbrev pub StuckX86sAreHung : Type 0
 StuckX86sAreHung = (kept : List BufferedState) (ends : List Bool) (w : World) (moves : List Move)
     (z : X86) (i : ℕ) → AreStuckX86 kept ends → IsFresh w → RunsMoves (drained w) moves z
     → slice_get ends i ≡ Some false → IsShownRichlyAtX86 kept i z → IsHungX86 z
 
--- where this many moves lead from the i-th to an end, what it shows can reach one
+-- where this many moves lead from the i-th to an end, what it shows but for dead registers can reach one
 abbrev pub X86sCanEnd : Type 0
-X86sCanEnd = (kept : List BufferedState) (n i : ℕ) (x : X86) → EndsInX86 kept n i → IsShownAt kept i x
-    → CanEndX86 x
+X86sCanEnd = (kept : List BufferedState) (n i : ℕ) (x : X86) → EndsInX86 kept n i
+    → IsShownAlikeAtX86 kept i x → CanEndX86 x
 
--- where a list is closed but for budgets, and shows a machine before its first turn, all that schedules of
+-- where a list is closed so, and shows a machine before its first turn, all that schedules of
 -- moves lead to while no job runs out of budget leads on to what it shows
 abbrev pub PatientSetsLeadOn : Type 0
 PatientSetsLeadOn = (kept : List BufferedState) (w : World) (moves : List Move) (z : X86)

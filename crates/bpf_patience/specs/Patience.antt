@@ -1,8 +1,8 @@
--- Lists of machines with store buffers that cover moves but for how many steps are left of budgets.
+-- Lists of machines with store buffers that cover moves but for dead registers and for how many steps are
+-- left of budgets.
 use Rattle.std.specs.Prelude.{◌≡◌, ℕ, List, [], ◌∷◌, ◌⊎◌, Some, slice_get}
 use Rattle.bpf_cpu.specs.declared.outcome.Outcome.TheVariants.{OutOfBudget}
 use Rattle.bpf_cpu.specs.Task.{Task, Ended}
-use Rattle.bpf_machine.specs.Headways.{with_jobs}
 use Rattle.bpf_machine.specs.Laws.{IsFresh}
 use Rattle.bpf_machine.specs.Patient.{AsRich, NoneRanOut}
 use Rattle.bpf_machine.specs.Rounds.{HaveEnded}
@@ -10,19 +10,16 @@ use Rattle.bpf_machine.specs.Schedule.{World}
 use Rattle.bpf_x86.specs.Machine.{X86, Move, Moves, RunsMoves, drained}
 use Rattle.bpf_buffering.specs.Search.{BufferedState, ShowsX86, IsShownX86, CannotMove}
 use Rattle.bpf_buffering.specs.Ahead.{MovesAhead}
+use Rattle.bpf_buffering.specs.Alike.{with_x86_jobs, IsShownAlikeX86}
 use Rattle.bpf_flushes.specs.Moves.{MakesAll}
 
--- the machine with these jobs
-abbrev pub with_x86_jobs : X86 → List Task → X86
-with_x86_jobs x jobs = record { world = with_jobs x.world jobs; buffers = x.buffers }
-
 -- ---- what a search keeps
--- a kept machine shows this one, but for richer jobs
+-- with richer jobs, a kept machine shows this one, but for dead registers
 abbrev pub IsShownRichlyX86 : List BufferedState → X86 → Type 0
 IsShownRichlyX86 kept x =
-    (jobs : List Task) × AsRich x.world.jobs jobs × IsShownX86 kept (with_x86_jobs x jobs)
+    (jobs : List Task) × AsRich x.world.jobs jobs × IsShownAlikeX86 kept (with_x86_jobs x jobs)
 
--- all that the machine shows, a kept one shows, but for richer jobs
+-- all that the machine shows, a kept one shows so
 abbrev pub IsKeptRichlyX86 : List BufferedState → BufferedState → Type 0
 IsKeptRichlyX86 kept m = (x : X86) → ShowsX86 m x → IsShownRichlyX86 kept x
 
@@ -32,7 +29,7 @@ IsClosedRichlyX86 kept = (i : ℕ) (m : BufferedState) → slice_get kept i ≡ 
     → ((new : BufferedState) × MovesAhead m move new × IsKeptRichlyX86 kept new)
     ⊎ CannotMove m move
 
--- THE LAW: a list that is closed but for budgets, and shows a machine before its first turn, shows each
+-- THE LAW: a list that is closed so, and shows a machine before its first turn, shows each
 -- machine without work that schedules of moves lead to while no job runs out of budget
 abbrev pub PatientSetsCoverX86 : Type 0
 PatientSetsCoverX86 = (kept : List BufferedState) (w : World) (moves : List Move) (z : X86)

@@ -13,7 +13,8 @@ use Rattle.bpf_machine.proofs.PatientLaws.{all_same}
 use Rattle.bpf_x86.specs.Machine.{X86, Move, TurnOf, FlushOf}
 use Rattle.bpf_buffering.specs.Search.{BufferedState, ShowsX86, MovesTo, RunsTo, CannotMove, IsShownX86, buffer_at, move_of}
 use Rattle.bpf_buffering.specs.Ahead.{MovesAhead}
-use Rattle.bpf_patience.specs.Patience.{with_x86_jobs}
+use Rattle.bpf_buffering.specs.Alike.{with_x86_jobs, IsKeptAlikeAtX86}
+use Rattle.bpf_buffering.proofs.ClassLaws.{kept_itself}
 use Rattle.bpf_patience.proofs.Joining.{gift_last}
 use Rattle.bpf_explore.proofs.RichLaws.{refilled_shows}
 use Rattle.bpf_flushes.proofs.Turning.{turn_numbered, flush_numbered}
@@ -73,14 +74,25 @@ pub record ExpandedSoFar (patient : Bool) (old : List BufferedState) (next : ℕ
   pub inside : next ≤ length kept
 
 -- ---- what is kept
--- a kept one is kept there
+-- what is kept but for dead registers, is kept there
+pub alike_kept : (patient : Bool) (kept : List BufferedState) (k : ℕ) (m : BufferedState) → IsKeptAlikeAtX86 kept k m → IsKeptAt patient kept k m
+alike_kept false kept k m is = is
+alike_kept true kept k m is = λ x shows. (x.world.jobs, all_same x.world.jobs, is x shows)
+
+-- so is a kept one
 pub as_kept : (patient : Bool) (kept : List BufferedState) (k : ℕ) (m : BufferedState) → slice_get kept k ≡ Some m → IsKeptAt patient kept k m
-as_kept false kept k m at = λ x shows. (m, at, shows)
-as_kept true kept k m at = λ x shows. (x.world.jobs, all_same x.world.jobs, (m, at, shows))
+as_kept patient kept k m at = alike_kept patient kept k m (kept_itself m kept k at)
 
 kept_there : (patient : Bool) (kept : List BufferedState) (k : ℕ) (m : BufferedState) → IsKeptAt patient kept k m → IsKept patient kept m
-kept_there false kept k m is = λ x shows. (let r = is x shows in (k, r.0, r.1, r.2))
-kept_there true kept k m is = λ x shows. (let r = is x shows in (r.0, r.1, (k, r.2.0, r.2.1, r.2.2)))
+kept_there false kept k m is = λ x shows. (
+    let r = is x shows in
+    let s = r.2 in
+    (r.0, r.1, (k, s.0, s.1, s.2)))
+kept_there true kept k m is = λ x shows. (
+    let r = is x shows in
+    let dead = r.2 in
+    let s = dead.2 in
+    (r.0, r.1, (dead.0, dead.1, (k, s.0, s.1, s.2))))
 
 -- where it leads to the k-th, it was made
 pub was_moved : (patient : Bool) (kept : List BufferedState) (i : ℕ) (move : Move) (k : ℕ) → IsMovedTo patient kept i move k → IsMoved patient kept i move
@@ -104,12 +116,12 @@ filled_shows m new c (refills, buffers) x shows =
     let r = refilled_shows m.machine new.machine c refills x.world shows.world in
     (r.0, r.1, record { world = r.2; buffers = shows.buffers ∙ ap buffer_at (sym buffers) })
 
-pub filled_kept : (patient : Bool) (kept : List BufferedState) (k : ℕ) (m new : BufferedState) (c : ℕ) → IsFilled patient m c new → slice_get kept k
-    ≡ Some new → IsKeptAt patient kept k m
-filled_kept false kept k m new c same at = as_kept false kept k m (subst (λ (n : BufferedState). slice_get kept k ≡ Some n) same at)
-filled_kept true kept k m new c filled at = λ x shows. (
+pub filled_kept : (patient : Bool) (kept : List BufferedState) (k : ℕ) (m new : BufferedState) (c : ℕ) → IsFilled patient m c new
+    → IsKeptAlikeAtX86 kept k new → IsKeptAt patient kept k m
+filled_kept false kept k m new c same is = subst (IsKeptAlikeAtX86 kept k) same is
+filled_kept true kept k m new c filled is = λ x shows. (
     let r = filled_shows m new c filled x shows in
-    (r.0, r.1, (new, at, r.2)))
+    (r.0, r.1, is (with_x86_jobs x r.0) r.2))
 
 pub filled_leads : (patient : Bool) (old : BufferedState) (moves : List Move) (m new : BufferedState) (c : ℕ) → RunsTo old moves m → IsFilled
     patient m c new → LeadsTo patient old moves new
@@ -131,8 +143,11 @@ module _ (patient : Bool) where
     kept_still m is = go patient is
       where
         go : (b : Bool) → IsKept b old m → IsKept b new m
-        go false kept = λ x shows. shown_still x (kept x shows)
-        go true kept = λ x shows. (let r = kept x shows in (r.0, r.1, shown_still (with_x86_jobs x r.0) r.2))
+        go false kept = λ x shows. (let r = kept x shows in (r.0, r.1, shown_still (with_x86_jobs x r.0) r.2))
+        go true kept = λ x shows. (
+            let r = kept x shows in
+            let dead = r.2 in
+            (r.0, r.1, (dead.0, dead.1, shown_still (with_x86_jobs x dead.0) dead.2)))
 
     pub moved_still : (i : ℕ) (move : Move) → i < length old → IsMoved patient old i move → IsMoved patient new i move
     moved_still i move inside moved m there = elim (moved m (sym (same_at i inside) ∙ there)) [

@@ -6,12 +6,14 @@ use Rattle.std.proofs.lemmas.Bool.{cases_lt}
 use Rattle.std.proofs.lemmas.Option.{slice_get_within}
 use Rattle.bpf_base.proofs.Lists.{slice_get-front}
 use Rattle.bpf_cpu.specs.Task.{Task}
+use Rattle.bpf_alike.proofs.Like.{all_like}
 use Rattle.bpf_machine.specs.Patient.{AsRich, NoneRanOut}
 use Rattle.bpf_machine.specs.Schedule.{World, unrolled}
 use Rattle.bpf_x86.specs.Machine.{X86, Move, RunsMoves, drained}
 use Rattle.bpf_buffering.specs.Album.{IsShownAt}
 use Rattle.bpf_buffering.specs.Search.{BufferedState, ShowsX86, move_of}
-use Rattle.bpf_patience.specs.Patience.{with_x86_jobs, FreeMovesAgree}
+use Rattle.bpf_buffering.specs.Alike.{with_x86_jobs}
+use Rattle.bpf_patience.specs.Patience.{FreeMovesAgree}
 use Rattle.bpf_patience.specs.Ends.{AreStuckX86, CanEndX86, LeadsOnX86, StuckX86sAreHung, X86sCanEnd}
 use Rattle.bpf_patience.proofs.Freeing.{rich_none}
 use Rattle.bpf_patience.proofs.Joining.{free_both, gift_first}
@@ -56,14 +58,19 @@ module _ (law : FreeMovesAgree) (kept : List BufferedState) (by : List (ℕ × �
 
   pub hangs : StuckX86sAreHung → (marks : List Bool) → AreStuckX86 kept marks → slice_get marks place ≡ Some false → Hangs kept by
   hangs hung marks stuck off w begins =
-      let a = agreed w begins in
-      (a.end, a.runs, a.none, hung kept marks w (moves_by by) a.end place stuck begins.0 a.runs off (a.jobs, a.rich, a.shown))
+      let a = agreed w begins in (
+        a.end,
+        a.runs,
+        a.none,
+        hung kept marks w (moves_by by) a.end place stuck begins.0 a.runs off
+            (a.jobs, a.rich, (a.jobs, all_like a.end.world.programs a.jobs, a.shown)),
+      )
 
   -- the schedule leads to the kept machine, but for steps that are left
   pub comes_to : ComesTo kept by place
   comes_to w begins =
       let a = agreed w begins in
-      (a.end, a.runs, (a.jobs, a.rich, a.shown))
+      (a.end, a.jobs, a.runs, a.rich, a.shown)
 
   -- no job of it is out of budget
   pub none_out_there : (w : World) → BeginsAt kept w → NoneRanOutAt kept place
@@ -167,16 +174,15 @@ all_lead_or_beyond kept marks hung marked all i inside = go r.0 r.1
 -- so does what leads to what one shows
 pub ends_or_lies : X86sCanEnd → (kept : List BufferedState) (w : World) (z : X86) (hung : List (List (ℕ × ℕ))) → AllLeadOrBeyond kept hung → BeginsAt
     kept w → LeadsOnX86 kept z → CanEndX86 z ⊎ LiesBeyondOneX86 w hung z
-ends_or_lies law kept w z hung all begins (moves, y, free, (i, m, at, shows)) = go (all i (slice_get_within kept i m at))
+ends_or_lies law kept w z hung all begins (moves, y, free, (dead, alike, (i, m, at, shows))) = go (all i (slice_get_within kept i m at))
   where
     go : LeadsToEnd kept i ⊎ IsBeyondOne kept hung i → CanEndX86 z ⊎ LiesBeyondOneX86 w hung z
     go (inl (n, ends)) =
-        let r = law kept n i y ends (m, at, shows) in
+        let r = law kept n i y ends (dead, alike, (m, at, shows)) in
         inl (moves ++ r.0, r.1, free_both moves r.0 z y r.1 free r.2, r.3, r.4)
     go (inr (k, by, j, listed, comes, (ms, leads))) =
         let c = comes w begins in
-        let given = c.2 in
-        let l = leads (with_x86_jobs c.0 given.0) given.2 in
+        let l = leads (with_x86_jobs c.0 c.1) c.4 in
         let one : l.2.0 ≡ m = one_kept kept i l.2.0 m l.2.1 at in
         inr (
           k,
@@ -185,8 +191,13 @@ ends_or_lies law kept w z hung all begins (moves, y, free, (i, m, at, shows)) = 
           (
             m,
             c.0,
-            c.1,
-            (ms, l.0, gift_first ms c.0 l.0 given.0 given.1 l.1, subst (λ (s : BufferedState). ShowsX86 s l.0) one l.2.2),
-            (moves, y, free, shows),
+            c.2,
+            (
+              ms,
+              l.0,
+              gift_first ms c.0 l.0 c.1 c.3 l.1,
+              (l.0.world.jobs, all_like l.0.world.programs l.0.world.jobs, subst (λ (s : BufferedState). ShowsX86 s l.0) one l.2.2),
+            ),
+            (moves, y, free, (dead, alike, shows)),
           ),
         )

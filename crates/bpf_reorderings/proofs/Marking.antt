@@ -8,7 +8,6 @@ use Rattle.std.proofs.lemmas.List.{nil_from_length}
 use Rattle.bpf_base.proofs.Lists.{slice_get-set_other}
 use Rattle.bpf_shared.proofs.Puts.{equal_or_not}
 use Rattle.bpf_machine.specs.Rounds.{HaveEnded}
-use Rattle.bpf_machine.proofs.PatientLaws.{all_same}
 use Rattle.bpf_x86.specs.Machine.{Move, TurnOf, FlushOf}
 use Rattle.bpf_buffering.specs.Album.{HaveEndedAt}
 use Rattle.bpf_buffering.specs.Search.{BufferedState}
@@ -17,7 +16,7 @@ use Rattle.bpf_reorderings.specs.declared.edges.Edge.{Edge}
 use Rattle.bpf_reorderings.specs.Private.Edges.{AreEdgesFrom, FlushLeads, IsEdge, IsIdleAt}
 use Rattle.bpf_reorderings.specs.Private.Hung.{GoesTo, LeadsToEnd, LeadToEnds, NoneRanOutAt}
 use Rattle.bpf_reorderings.specs.Private.Searching.{CannotMoveAt, Extends, IsFlushedTo, IsMovedTo}
-use Rattle.bpf_reorderings.proofs.Growing.{just_moved}
+use Rattle.bpf_reorderings.proofs.Growing.{as_kept, just_moved}
 
 -- ---- lists
 pub there : (kept : List BufferedState) (i : ℕ) → i < length kept → (m : BufferedState) × (slice_get kept i ≡ Some m)
@@ -124,7 +123,7 @@ idle_off : (kept : List BufferedState) (marks : List Bool) (i c : ℕ) → i < l
 idle_off kept marks i c inside idle off =
     let h = there kept i inside in
     let moves = (idle h.0 h.1).0 in (
-      (i, (h.0, h.0, h.1, just_moved h.0 h.0 (TurnOf c) moves, λ x shows. (x.world.jobs, all_same x.world.jobs, (h.0, h.1, shows))), off),
+      (i, (h.0, h.0, h.1, just_moved h.0 h.0 (TurnOf c) moves, as_kept true kept i h.0 h.1), off),
       inr (λ m at. (idle m at).1),
     )
 

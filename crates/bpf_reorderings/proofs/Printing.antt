@@ -21,7 +21,8 @@ use Rattle.bpf_x86.specs.Machine.{X86, Move, TurnOf, FlushOf, Moves, RunsMoves, 
 use Rattle.bpf_buffering.specs.Search.{BufferedState, ShowsX86, IsShownX86, NothingWaitsAtLast, move_of}
 use Rattle.bpf_buffering.specs.Ahead.{IsClosedX86, AheadSetsCoverX86}
 use Rattle.bpf_buffering.specs.Album.{IsShownAt, HaveEndedAt}
-use Rattle.bpf_patience.specs.Patience.{with_x86_jobs, IsClosedRichlyX86, PatientSetsCoverX86, RunsFreelyX86}
+use Rattle.bpf_buffering.specs.Alike.{with_x86_jobs}
+use Rattle.bpf_patience.specs.Patience.{IsClosedRichlyX86, PatientSetsCoverX86, RunsFreelyX86}
 use Rattle.bpf_jobs.specs.Printed.{Tells, job_lines}
 use Rattle.bpf_jobs.proofs.OneListing.{one_asked}
 use Rattle.bpf_explore.specs.Outcomes.{Found}

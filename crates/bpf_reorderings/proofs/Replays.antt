@@ -14,7 +14,8 @@ use Rattle.bpf_buffering.specs.Buffering.{TurnsTo}
 use Rattle.bpf_buffering.specs.Album.{IsShownAt, HaveEndedAt}
 use Rattle.bpf_flushes.specs.Moves.{MakesTo}
 use Rattle.bpf_flushes.proofs.Joining.{all_run}
-use Rattle.bpf_patience.specs.Patience.{with_x86_jobs, FreeMovesAgree}
+use Rattle.bpf_buffering.specs.Alike.{with_x86_jobs}
+use Rattle.bpf_patience.specs.Patience.{FreeMovesAgree}
 use Rattle.bpf_explore.specs.Private.Replays.{SomeRanOut}
 use Rattle.bpf_reorderings.specs.Private.Trail.{LeadsBy}
 use Rattle.bpf_reorderings.specs.Private.Searching.{BeginsAt, IsTried}

@@ -9,6 +9,7 @@ use Rattle.bpf_machine.specs.Patient.{NoneRanOut}
 use Rattle.bpf_machine.specs.Rounds.{HaveEnded}
 use Rattle.bpf_machine.specs.Schedule.{World, unrolled}
 use Rattle.bpf_x86.specs.Machine.{X86, Move, RunsMoves, drained}
+use Rattle.bpf_buffering.specs.Alike.{ButForDeadX86}
 use Rattle.bpf_buffering.specs.Search.{BufferedState, RunsScheduleX86, ShowsX86, move_of}
 use Rattle.bpf_patience.specs.Patience.{MayRunOutX86, RunsFreelyX86}
 use Rattle.bpf_patience.specs.Ends.{CanEndX86, IsHungX86}
@@ -59,11 +60,13 @@ HangsByX86 w by = (z : X86) × RunsScheduleX86 w (unrolled by) z × NoneRanOut z
 abbrev pub AreHungX86 : World → List (List (ℕ × ℕ)) → Type 0
 AreHungX86 w hung = (i : ℕ) (by : List (ℕ × ℕ)) → slice_get hung i ≡ Some by → HangsByX86 w by
 
--- moves lead to what this machine shows, where jobs are given steps on the way
+-- moves lead to what this machine shows but for dead registers, where jobs are given steps on the way
 abbrev pub LeadsOnTo : X86 → BufferedState → Type 0
-LeadsOnTo x m = (moves : List Move) × (y : X86) × RunsFreelyX86 x moves y × ShowsX86 m y
+LeadsOnTo x m =
+    (moves : List Move) × (y : X86) × RunsFreelyX86 x moves y × ButForDeadX86 (ShowsX86 m) y
 
--- a machine lies beyond: from where the schedule leads, and from it, moves lead to what one shows
+-- a machine lies beyond: from where the schedule leads, and from it, moves lead to what one shows but for
+-- dead registers
 abbrev pub LiesBeyondX86 : World → List (ℕ × ℕ) → X86 → Type 0
 LiesBeyondX86 w by z = (m : BufferedState) × (y : X86) × RunsScheduleX86 w (unrolled by) y
     × LeadsOnTo y m × LeadsOnTo z m

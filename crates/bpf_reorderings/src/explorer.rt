@@ -4,6 +4,7 @@
 ghost use Rattle.std.specs.Prelude.{◌≡◌, ◌<◌, ◌≤◌, ◌++◌, IfOk, OnOk, replicate, reverse};
 ghost use Rattle.bpf_machine.specs.Schedule.{unrolled};
 
+use bpf_alike::Merged;
 use bpf_buffering::{Album, Buffering};
 use bpf_explore::{Extent, Observer, Progress, TOLD_EVERY};
 use bpf_schedule::FLUSH;
@@ -67,8 +68,9 @@ fn cut_short(count: usize, limit: usize) -> Extent
     }
 }
 
-/// An album, and how each of its machines came about. In a patient search jobs in hand have their whole
-/// budgets left, so machines that differ only in how many steps are left count as one.
+/// An album, and how each of its machines came about. Machines count as one that differ only in registers
+/// that are written before they are read, where states are merged. In a patient search jobs in hand have
+/// their whole budgets left, so those do that differ only in how many steps are left.
 #[derive(Drop)]
 pub(crate) struct Explorer {
     alloc: Global,
@@ -102,18 +104,19 @@ impl Explorer {
     ghost use Rattle.bpf_flushes.specs.Moves.{MakesTo};
     ghost use Rattle.bpf_reorderings.specs.Private.Edges.{IsIdleAt};
     ghost use Rattle.bpf_reorderings.specs.Private.Trail.{IsLedFrom, LeadsBy, LeadsOn};
-    ghost use Rattle.bpf_reorderings.specs.Private.Searching.{AreLed, Extends, IsClosed, IsExpanded, IsFilled, IsFlushedTo, IsMovedTo};
+    ghost use Rattle.bpf_reorderings.specs.Private.Searching.{AreLed, Extends, IsClosed, IsExpanded, IsFilled, IsFlushedTo, IsFoundAt, IsMovedTo};
 
     /// A search of which this machine is kept.
     pub(crate) fn new(
         alloc: Global,
         machine: Buffering,
         patient: bool,
+        merged: Merged,
     ) -> Result<Explorer, AllocError>
         ensures kept { IfOk result (λ e. e.kept ≡ machine ∷ []) }
         ensures patient { IfOk result (λ e. e.patient ≡ patient) }
     {
-        let album = Album::new(alloc, machine)?;
+        let album = Album::new(alloc, machine, merged)?;
         let mut origins = Vec::new(alloc);
         origins.push(Origin {
             from: 0,
@@ -204,12 +207,12 @@ impl Explorer {
     }
 
     /// Keeps the machine, to which a move and n more like it led from a kept one, unless one is kept that
-    /// shows all that it shows. Under which number.
+    /// shows all that it shows, but for dead registers. Under which number.
     fn keep(&mut self, place: usize, made: u8, more: u64) -> Result<usize, AllocError>
         requires inside { place < length self.old.kept }
         requires led { IsLedFrom self.old.patient self.old.kept place
             (map move_of (replicate (more + 1) made)) self.old.machine }
-        ensures kept { IfOk result (λ n. slice_get self.new.kept n ≡ Some self.old.machine) }
+        ensures kept { IfOk result (λ n. IsFoundAt self.new.kept n self.old.machine) }
         ensures extends { Extends self.old.kept self.new.kept }
         ensures patient { self.new.patient ≡ self.old.patient }
     {

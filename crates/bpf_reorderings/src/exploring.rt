@@ -14,20 +14,34 @@ ghost use Rattle.bpf_reorderings.specs.Private.Searching.{BeginsAt, CameTo};
 use crate::answers::{Told, gather};
 use crate::explorer::Explorer;
 use crate::hung::{both, gather_hung};
+use bpf_alike::Merged;
 use bpf_cpu::Setup;
 use bpf_explore::{Budgets, Explored, ExploredPatiently, Extent, Hung, Observer};
 use bpf_flushes::make_buffering;
 use bpf_names::Names;
 use std::alloc::{AllocError, Global};
 
+/// How far a search goes, and which states it takes for one.
+#[derive(Clone, Copy, PartialEq, Eq, Debug)]
+pub struct Bounds {
+    /// The search ends once more states than this are kept.
+    pub limit: usize,
+    pub merged: Merged,
+}
+
 /// A search that begins with the machine of jobs. Out of memory is the only refusal.
-fn search_of(alloc: Global, setup: Setup, patient: bool) -> Result<Explorer, AllocError>
+fn search_of(
+    alloc: Global,
+    setup: Setup,
+    patient: bool,
+    merged: Merged,
+) -> Result<Explorer, AllocError>
     requires { IsRunnable setup }
     ensures begins { IfOk result (λ e. BeginsAt e.kept (first_of setup)) }
     ensures patient { IfOk result (λ e. e.patient ≡ patient) }
 {
     let machine = make_buffering(alloc, setup)?;
-    Explorer::new(alloc, machine, patient)
+    Explorer::new(alloc, machine, patient, merged)
 }
 
 /// What a search found that came this far.
@@ -121,22 +135,22 @@ fn conclude_patiently(
 }
 
 /// Searches through all schedules of turns and flushes of jobs over a new store whose maps, and then
-/// arrays, have these names, until no state is new, more than `limit` are kept, or memory is refused
-/// to the search. Out of memory before or after it is the only refusal. The observer learns meanwhile
-/// how far it is.
+/// arrays, have these names, until no state is new, more than its limit are kept, or memory is
+/// refused to the search. Out of memory before or after it is the only refusal.
+/// The observer learns meanwhile how far it is.
 pub fn explore_with_buffers<O: Observer>(
     alloc: Global,
     setup: Setup,
     names: &Names,
     maps: bool,
-    limit: usize,
+    bounds: Bounds,
     observer: &mut O,
 ) -> Result<Explored, AllocError>
     requires { IsRunnable setup }
-    ensures { IfOk result (IsExploredX86 (first_of setup) (names_of names.now) maps limit) }
+    ensures { IfOk result (IsExploredX86 (first_of setup) (names_of names.now) maps bounds.limit) }
 {
-    let mut explorer = search_of(alloc, setup, false)?;
-    let extent = explorer.explore(limit, observer);
+    let mut explorer = search_of(alloc, setup, false, bounds.merged)?;
+    let extent = explorer.explore(bounds.limit, observer);
     conclude(&mut explorer, names, maps, extent)
 }
 
@@ -149,14 +163,14 @@ pub fn explore_patiently_with_buffers<O: Observer>(
     setup: Setup,
     names: &Names,
     maps: bool,
-    limit: usize,
+    bounds: Bounds,
     observer: &mut O,
 ) -> Result<ExploredPatiently, AllocError>
     requires { IsRunnable setup }
     ensures { IfOk result
-        (IsExploredPatientlyX86 (first_of setup) (names_of names.now) maps limit) }
+        (IsExploredPatientlyX86 (first_of setup) (names_of names.now) maps bounds.limit) }
 {
-    let mut explorer = search_of(alloc, setup, true)?;
-    let extent = explorer.explore(limit, observer);
+    let mut explorer = search_of(alloc, setup, true, bounds.merged)?;
+    let extent = explorer.explore(bounds.limit, observer);
     conclude_patiently(&mut explorer, names, maps, extent)
 }

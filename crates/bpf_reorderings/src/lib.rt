@@ -10,4 +10,4 @@ mod hung;
 pub mod laws;
 mod trying;
 
-pub use exploring::{explore_patiently_with_buffers, explore_with_buffers};
+pub use exploring::{Bounds, explore_patiently_with_buffers, explore_with_buffers};

@@ -6,13 +6,16 @@ ghost use Rattle.bpf_machine.specs.Kept.{kept_stage};
 ghost use Rattle.bpf_machine.specs.Parts.{chosen};
 ghost use Rattle.bpf_machine.specs.Rounds.{HaveEnded};
 ghost use Rattle.bpf_buffering.specs.Jobs.{task_of, tasks_of};
+ghost use Rattle.bpf_buffering.specs.Private.Classes.{AreLikeJobs, IsLikeJob, job_at};
 ghost use Rattle.bpf_buffering.specs.Private.Kept.{AreNumbersOf};
 
 use super::number_of;
 use crate::index::{Index, Look};
 use crate::jobs::{Listed, copy_job};
+use bpf_alike::{are_stages_alike, live_state_hash};
 use bpf_base::spread;
 use bpf_cpu::{Cpu, Outcome};
+use bpf_live::Live;
 use bpf_machine::KeptStage;
 use std::alloc::{AllocError, Global};
 use std::marker::Model;
@@ -66,6 +69,35 @@ fn hash_of_job(job: &Listed) -> u64 {
     }
 }
 
+/// A number by which a job is found that differs only in registers that aren't live.
+fn live_hash_of_job(tables: &[Live], job: &Listed) -> u64 {
+    match &job.stage {
+        KeptStage::InHand(cpu, left) => {
+            let first = spread(spread(u64::from(job.cpu)) ^ job.program as u64);
+            live_state_hash(spread(first ^ *left), tables, job.program, cpu)
+        }
+        KeptStage::Waiting(_) | KeptStage::Ended(_) => hash_of_job(job),
+    }
+}
+
+/// Whether a job is another one, but for the stage.
+fn is_same_beside(one: &Listed, other: &Listed) -> bool
+    ensures { result ≡ true → (other.now.cpu ≡ one.now.cpu)
+        × (other.now.program ≡ one.now.program) × (other.now.budget ≡ one.now.budget) }
+{
+    one.cpu == other.cpu && one.program == other.program && one.budget == other.budget
+}
+
+/// Whether the other job is the same one, in hand, in a state that is alike.
+fn is_alike_job(tables: &[Live], one: &Listed, other: &Listed) -> bool
+    ensures { result ≡ true → IsLikeJob tables.now (task_of one.now) (task_of other.now) }
+{
+    if !is_same_beside(one, other) {
+        return false;
+    }
+    are_stages_alike(tables, one.program, &one.stage, &other.stage)
+}
+
 /// Kept jobs, each under its number, in the order in which they came.
 #[derive(Drop)]
 pub(crate) struct Jobs {
@@ -92,6 +124,51 @@ impl Jobs {
             kept: Vec::new(alloc),
             index: Index::new(alloc),
         }
+    }
+
+    /// How many are kept.
+    pub(crate) fn len(&self) -> usize {
+        self.kept.len()
+    }
+
+    /// A number by which a job is found that is alike the one of this number.
+    pub(crate) fn live_hash(&self, tables: &[Live], number: usize) -> u64 {
+        match self.kept.get(number) {
+            Some(job) => live_hash_of_job(tables, job),
+            None => 0,
+        }
+    }
+
+    /// Whether the job of the one number is alike that of the other.
+    fn is_alike(&self, tables: &[Live], number: usize, other: usize) -> bool
+        ensures { result ≡ true
+            → IsLikeJob tables.now (job_at self.now number) (job_at self.now other) }
+    {
+        if number == other {
+            return true;
+        }
+        match self.kept.get(number) {
+            Some(one) => match self.kept.get(other) {
+                Some(job) => is_alike_job(tables, one, job),
+                None => false,
+            },
+            None => false,
+        }
+    }
+
+    /// Whether the jobs of the ones of these numbers are alike those of the others, each in its place.
+    pub(crate) fn are_alike(&self, tables: &[Live], numbers: &[u32], others: &[u32]) -> bool
+        ensures { result ≡ true → AreLikeJobs tables.now self.now numbers.now others.now }
+    {
+        if numbers.len() != others.len() {
+            return false;
+        }
+        for job in 0..numbers.len() {
+            if !self.is_alike(tables, numbers[job] as usize, others[job] as usize) {
+                return false;
+            }
+        }
+        true
     }
 
     /// Whether the job of a number is this one.

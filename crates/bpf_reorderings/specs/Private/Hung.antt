@@ -1,10 +1,13 @@
 -- From which kept machines an end can be reached, and those from which none can, while it is found.
 use Rattle.std.specs.Prelude.{◌≡◌, ℕ, ◌<◌, ◌⊎◌, Bool, true, false, List, Some, length, slice_get}
-use Rattle.bpf_machine.specs.Patient.{NoneRanOut}
+use Rattle.bpf_cpu.specs.Task.{Task}
+use Rattle.bpf_machine.specs.Patient.{AsRich, NoneRanOut}
 use Rattle.bpf_machine.specs.Schedule.{World, unrolled}
 use Rattle.bpf_x86.specs.Machine.{X86}
+use Rattle.bpf_buffering.specs.Album.{IsShownAt}
+use Rattle.bpf_buffering.specs.Alike.{with_x86_jobs}
 use Rattle.bpf_buffering.specs.Search.{BufferedState, RunsScheduleX86}
-use Rattle.bpf_patience.specs.Ends.{AreStuckX86, EndsInX86, IsShownRichlyAtX86}
+use Rattle.bpf_patience.specs.Ends.{AreStuckX86, EndsInX86}
 use Rattle.bpf_reorderings.specs.declared.edges.Edge.{Edge}
 use Rattle.bpf_reorderings.specs.Patient.{HangsByX86}
 use Rattle.bpf_reorderings.specs.Private.Searching.{BeginsAt}
@@ -46,7 +49,8 @@ AllHang kept hung = (i : ℕ) (by : List (ℕ × ℕ)) → slice_get hung i ≡ 
 -- it leads to what the i-th shows, but for steps that are left
 abbrev pub ComesTo : List BufferedState → List (ℕ × ℕ) → ℕ → Type 0
 ComesTo kept by i = (w : World) → BeginsAt kept w
-    → (y : X86) × RunsScheduleX86 w (unrolled by) y × IsShownRichlyAtX86 kept i y
+    → (y : X86) × (jobs : List Task) × RunsScheduleX86 w (unrolled by) y × AsRich y.world.jobs jobs
+    × IsShownAt kept i (with_x86_jobs y jobs)
 
 -- one of these schedules leads to a machine from which moves lead to the i-th
 abbrev pub IsBeyondOne : List BufferedState → List (List (ℕ × ℕ)) → ℕ → Type 0

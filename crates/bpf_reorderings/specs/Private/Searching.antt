@@ -4,7 +4,8 @@ use Rattle.bpf_machine.specs.Laws.{IsFresh}
 use Rattle.bpf_machine.specs.Patient.{IsRefilled}
 use Rattle.bpf_machine.specs.Schedule.{World}
 use Rattle.bpf_x86.specs.Machine.{X86, Move, FlushOf, drained}
-use Rattle.bpf_buffering.specs.Search.{BufferedState, ShowsX86, CannotMove, IsKeptAsX86, move_of}
+use Rattle.bpf_buffering.specs.Alike.{IsKeptAlikeX86, IsKeptAlikeAtX86}
+use Rattle.bpf_buffering.specs.Search.{BufferedState, ShowsX86, CannotMove, move_of}
 use Rattle.bpf_buffering.specs.Ahead.{MovesAhead, IsClosedX86}
 use Rattle.bpf_buffering.specs.Album.{IsShownAt}
 use Rattle.bpf_flushes.specs.Moves.{MakesAll}
@@ -29,15 +30,20 @@ abbrev pub IsFilled : Bool → BufferedState → ℕ → BufferedState → Type 
 IsFilled false old cpu new = new ≡ old
 IsFilled true old cpu new = IsRefilled old.machine cpu new.machine × (new.buffers ≡ old.buffers)
 
--- all that the machine shows, a kept one shows; in a patient search but for richer jobs
+-- all that the machine shows, a kept one shows but for dead registers; in a patient search but for richer
+-- jobs, too
 abbrev pub IsKept : Bool → List BufferedState → BufferedState → Type 0
-IsKept false kept m = IsKeptAsX86 kept m
+IsKept false kept m = IsKeptAlikeX86 kept m
 IsKept true kept m = IsKeptRichlyX86 kept m
 
--- the k-th shows all that; in a patient search but for richer jobs
+-- the k-th shows all that so
 abbrev pub IsKeptAt : Bool → List BufferedState → ℕ → BufferedState → Type 0
-IsKeptAt false kept k m = (x : X86) → ShowsX86 m x → IsShownAt kept k x
+IsKeptAt false kept k m = IsKeptAlikeAtX86 kept k m
 IsKeptAt true kept k m = IsKeptRichlyAtX86 kept k m
+
+-- there is a k-th, which shows all that the machine shows but for dead registers
+abbrev pub IsFoundAt : List BufferedState → ℕ → BufferedState → Type 0
+IsFoundAt kept k m = (k < length kept) × IsKeptAlikeAtX86 kept k m
 
 -- the move from the i-th kept machine, and turns that are unseen after it, lead to the k-th
 abbrev pub IsMovedTo : Bool → List BufferedState → ℕ → Move → ℕ → Type 0

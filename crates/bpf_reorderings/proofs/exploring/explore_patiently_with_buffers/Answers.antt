@@ -28,7 +28,7 @@ returns g c =
     let kept = c.explore-extent.new.self.kept in
     let extent = c.explore-extent.result in
     let begins : BeginsAt kept w = still_begins c.in_ok-explorer.explorer.kept kept w c.in_ok-explorer.ensures.begins c.explore-extent.ensures.extends in
-    let came : CameTo true kept extent c.args.limit = record {
+    let came : CameTo true kept extent c.args.bounds.limit = record {
       whole = λ is. subst (λ (b : Bool). IsClosed b kept) c.in_ok-explorer.ensures.patient (c.explore-extent.ensures.whole is);
       met = c.explore-extent.ensures.met;
       short
@@ -36,5 +36,5 @@ returns g c =
     } in
     IfOk-weaker c.conclude_patiently.result (λ (e : ExploredPatiently). (v : World) (n : ℕ) → BeginsAt kept v → CameTo true kept extent n →
     IsExploredPatientlyX86 v names
-    c.args.maps n e) (λ (e : ExploredPatiently). IsExploredPatientlyX86 w names c.args.maps c.args.limit e)
-    (λ e found. found w c.args.limit begins came) c.conclude_patiently.ensures
+    c.args.maps n e) (λ (e : ExploredPatiently). IsExploredPatientlyX86 w names c.args.maps c.args.bounds.limit e)
+    (λ e found. found w c.args.bounds.limit begins came) c.conclude_patiently.ensures

@@ -11,4 +11,4 @@ returns-clause-beyond c =
     let m = c.self.inside in
     subst (λ (a : AlbumState). (i d : ℕ) (s : BufferedState) → slice_get a.kept i ≡ Some s → c.cpus.result ≤ d → MovesTo s (TurnOf d) s ×
     CannotMove s (FlushOf d)) c.self.view_is
-    (beyond_at m.machine m.pools m.states c.cpus.result c.cpus.ensures.cpus c.self.invariant.fits)
+    (beyond_at m.machine m.pools m.states c.cpus.result c.cpus.ensures.cpus c.self.invariant.0.fits)

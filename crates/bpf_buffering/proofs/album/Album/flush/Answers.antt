@@ -3,18 +3,22 @@ use Rattle.bpf_x86.specs.Machine.{FlushOf}
 use Rattle.bpf_buffering.specs.Search.{BufferedState, MovesTo, CannotMove}
 use Rattle.bpf_buffering.specs.Album.{AlbumState}
 use Rattle.bpf_buffering.specs.Private.Kept.{IsAlbum}
-use Rattle.bpf_buffering.proofs.AlbumLaws.{album_after, states_after, moves_too}
+use Rattle.bpf_buffering.proofs.AlbumLaws.{album_after, right_after, states_after, moves_too}
 use Rattle.bpf_buffering.proofs.album.Album.flush.Goals as goal
 
 pub invariant_of-self : goal.invariant_of-self
 invariant_of-self c =
-    let m = c.self.inside in
-    subst (λ (b : BufferedState). IsAlbum b m.pools m.states m.store) (sym (c.flush.ensures.unchanged c.if-not-flush.true)) c.self.invariant
+    let m = c.self.inside in (
+      subst (λ (b : BufferedState). IsAlbum b m.pools m.states m.store) (sym (c.flush.ensures.unchanged c.if-not-flush.true)) c.self.invariant.0,
+      right_after m.machine c.flush.new.self m.classes c.flush.ensures.host c.self.invariant.1,
+    )
 
 pub invariant_of-self-2 : goal.invariant_of-self-2
 invariant_of-self-2 c =
-    let m = c.self.inside in
-    album_after m.machine c.flush.new.self m.pools m.states m.store c.flush.ensures.host c.self.invariant
+    let m = c.self.inside in (
+      album_after m.machine c.flush.new.self m.pools m.states m.store c.flush.ensures.host c.self.invariant.0,
+      right_after m.machine c.flush.new.self m.classes c.flush.ensures.host c.self.invariant.1,
+    )
 
 pub returns-then-not-flush-clause-none : goal.returns-then-not-flush-clause-none
 returns-then-not-flush-clause-none c is =

@@ -3,13 +3,15 @@ use Rattle.bpf_machine.specs.Parts.{IsSameHost}
 use Rattle.bpf_x86.specs.Machine.{FlushOf}
 use Rattle.bpf_buffering.specs.Search.{MovesTo, buffer_at}
 use Rattle.bpf_buffering.specs.Album.{AlbumState}
-use Rattle.bpf_buffering.proofs.AlbumLaws.{album_after, states_after}
+use Rattle.bpf_buffering.proofs.AlbumLaws.{album_after, right_after, states_after}
 use Rattle.bpf_buffering.proofs.album.Album.flush_alone.Goals as goal
 
 pub invariant_of-self : goal.invariant_of-self
 invariant_of-self c =
-    let m = c.self.inside in
-    album_after m.machine c.flush.new.self m.pools m.states m.store c.flush.ensures.host c.self.invariant
+    let m = c.self.inside in (
+      album_after m.machine c.flush.new.self m.pools m.states m.store c.flush.ensures.host c.self.invariant.0,
+      right_after m.machine c.flush.new.self m.classes c.flush.ensures.host c.self.invariant.1,
+    )
 
 pub returns-clause-flushed : goal.returns-clause-flushed
 returns-clause-flushed c is =

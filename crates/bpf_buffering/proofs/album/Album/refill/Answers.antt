@@ -1,14 +1,16 @@
 use Rattle.std.proofs.Common.{ap, subst, ◌∙◌}
 use Rattle.bpf_machine.specs.Patient.{IsRefilled}
 use Rattle.bpf_buffering.specs.Album.{AlbumState}
-use Rattle.bpf_buffering.proofs.AlbumLaws.{album_same, filled_store, states_after}
+use Rattle.bpf_buffering.proofs.AlbumLaws.{album_same, filled_store, right_after, states_after}
 use Rattle.bpf_buffering.proofs.album.Album.refill.Goals as goal
 
 pub invariant_of-self : goal.invariant_of-self
 invariant_of-self c =
-    let m = c.self.inside in
-    album_same m.machine c.refill.new.self m.pools m.states m.store c.refill.ensures.host
-    (filled_store m.machine.machine c.refill.new.self.machine c.args.cpu c.refill.ensures.refills) c.self.invariant
+    let m = c.self.inside in (
+      album_same m.machine c.refill.new.self m.pools m.states m.store c.refill.ensures.host
+          (filled_store m.machine.machine c.refill.new.self.machine c.args.cpu c.refill.ensures.refills) c.self.invariant.0,
+      right_after m.machine c.refill.new.self m.classes c.refill.ensures.host c.self.invariant.1,
+    )
 
 pub returns-clause-refills : goal.returns-clause-refills
 returns-clause-refills c =

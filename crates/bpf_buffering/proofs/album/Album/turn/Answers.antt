@@ -3,13 +3,15 @@ use Rattle.std.specs.Prelude.{IfOk}
 use Rattle.bpf_machine.specs.Parts.{IsSameHost}
 use Rattle.bpf_buffering.specs.Buffering.{TurnsTo}
 use Rattle.bpf_buffering.specs.Album.{AlbumState}
-use Rattle.bpf_buffering.proofs.AlbumLaws.{album_after, states_after}
+use Rattle.bpf_buffering.proofs.AlbumLaws.{album_after, right_after, states_after}
 use Rattle.bpf_buffering.proofs.album.Album.turn.Goals as goal
 
 pub invariant_of-self : goal.invariant_of-self
 invariant_of-self c =
-    let m = c.self.inside in
-    album_after m.machine c.turn.new.self m.pools m.states m.store c.turn.ensures.host c.self.invariant
+    let m = c.self.inside in (
+      album_after m.machine c.turn.new.self m.pools m.states m.store c.turn.ensures.host c.self.invariant.0,
+      right_after m.machine c.turn.new.self m.classes c.turn.ensures.host c.self.invariant.1,
+    )
 
 pub returns-clause-turns : goal.returns-clause-turns
 returns-clause-turns c =

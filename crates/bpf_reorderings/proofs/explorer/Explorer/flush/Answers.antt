@@ -1,9 +1,8 @@
 use Rattle.std.proofs.Common.{◌∙◌, ◌+◌, [], ◌∷◌, map, replicate, refl, subst}
-use Rattle.std.proofs.lemmas.Option.{slice_get_within}
 use Rattle.bpf_x86.specs.Machine.{FlushOf}
 use Rattle.bpf_buffering.specs.Search.{move_of}
 use Rattle.bpf_reorderings.specs.Private.Searching.{Searched, IsMovedTo}
-use Rattle.bpf_reorderings.proofs.Growing.{as_kept, flush_numbers, just_moved, leads_plainly, one_moved, led_from, cannot_moved, kept_moved}
+use Rattle.bpf_reorderings.proofs.Growing.{alike_kept, flush_numbers, just_moved, leads_plainly, one_moved, led_from, cannot_moved, kept_moved}
 use Rattle.bpf_reorderings.proofs.explorer.Explorer.flush.Goals as goal
 
 pub keep-requires-clause-led : goal.keep-requires-clause-led
@@ -26,7 +25,7 @@ returns-in_ok-number-clause-moved c =
     (kept_moved m.patient m.album.kept c.flush.new.self.kept c.args.place (FlushOf c.args.cpu)
     c.restore.new.self.machine c.flush.new.self.machine same c.in_ok-restore.ensures.ok kept n c.keep.ensures.extends
     (just_moved c.restore.new.self.machine c.flush.new.self.machine (FlushOf c.args.cpu) (c.if-flush.ensures.flushed refl))
-    (slice_get_within kept n c.flush.new.self.machine at) (as_kept m.patient kept n c.flush.new.self.machine at))
+    at.0 (alike_kept m.patient kept n c.flush.new.self.machine at.1))
 
 pub returns-else-flush-clause-moved : goal.returns-else-flush-clause-moved
 returns-else-flush-clause-moved c =

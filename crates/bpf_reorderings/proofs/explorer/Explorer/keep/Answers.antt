@@ -1,5 +1,5 @@
-use Rattle.std.proofs.Common.{◌≡◌, ◌<◌, ◌+◌, ℕ, Some, length, map, replicate, sym, subst, arith}
-use Rattle.std.specs.Prelude.{slice_get}
+use Rattle.std.proofs.Common.{◌<◌, ◌+◌, ℕ, length, map, replicate, sym, subst, arith}
+use Rattle.bpf_buffering.specs.Alike.{IsKeptAlikeAtX86}
 use Rattle.bpf_buffering.specs.Search.{move_of}
 use Rattle.bpf_reorderings.specs.declared.explorer.Origin.{Origin}
 use Rattle.bpf_reorderings.specs.Private.Searching.{Searched}
@@ -41,5 +41,7 @@ invariant_of-self-2 c =
     c.truncate.ensures.items
 
 pub returns-clause-kept : goal.returns-clause-kept
-returns-clause-kept c =
-    subst (λ (a : Searched). slice_get c.keep-kept.new.self.kept c.in_ok-number.number ≡ Some a.machine) c.self.view_is c.in_ok-number.ensures.kept
+returns-clause-kept c = (
+  c.in_ok-number.ensures.inside,
+  subst (λ (a : Searched). IsKeptAlikeAtX86 c.keep-kept.new.self.kept c.in_ok-number.number a.machine) c.self.view_is c.in_ok-number.ensures.alike,
+)

@@ -1,10 +1,9 @@
-use Rattle.std.proofs.Common.{◌≡◌, ◌∙◌, ◌+◌, ◌<◌, Bool, ℕ, List, Option, Some, length, map, replicate, sym, ap, subst}
-use Rattle.std.specs.Prelude.{IfOk, IfSome, slice_get}
-use Rattle.std.proofs.lemmas.Option.{slice_get_within}
+use Rattle.std.proofs.Common.{◌∙◌, ◌+◌, ◌<◌, Bool, ℕ, List, Option, length, map, replicate, sym, ap, subst}
+use Rattle.std.specs.Prelude.{IfOk, IfSome}
 use Rattle.std.proofs.lemmas.Result.{IfOk-weaker}
 use Rattle.bpf_x86.specs.Machine.{TurnOf}
 use Rattle.bpf_buffering.specs.Search.{BufferedState, RunsTo, move_of}
-use Rattle.bpf_reorderings.specs.Private.Searching.{Searched, Extends, IsMovedTo}
+use Rattle.bpf_reorderings.specs.Private.Searching.{Searched, Extends, IsFoundAt, IsMovedTo}
 use Rattle.bpf_reorderings.specs.Private.Trail.{IsLedFrom}
 use Rattle.bpf_reorderings.proofs.Growing.{turn_numbers, filled_kept, filled_leads, led_from, idle_moved, kept_moved}
 use Rattle.bpf_reorderings.proofs.explorer.Explorer.turn.Goals as goal
@@ -44,12 +43,12 @@ returns-in-Some-clause-moved c =
     let same = c.turn_ahead.ensures.same ∙ c.restore.ensures.same in
     let extends = subst (λ (ms : List BufferedState). Extends ms c.keep.new.self.kept) c.fill.ensures.same c.keep.ensures.extends in
     subst (λ (a : Searched). IfOk c.keep.result (IsMovedTo a.patient c.keep.new.self.kept c.args.place (TurnOf c.args.cpu))) c.self.view_is
-    (IfOk-weaker c.keep.result (λ (n : ℕ). slice_get c.keep.new.self.kept n ≡ Some c.fill.new.self.machine)
+    (IfOk-weaker c.keep.result (λ (n : ℕ). IsFoundAt c.keep.new.self.kept n c.fill.new.self.machine)
     (λ (n : ℕ). IsMovedTo m.patient c.keep.new.self.kept c.args.place (TurnOf c.args.cpu) n) (λ n at.
     kept_moved m.patient m.album.kept c.turn_ahead.new.self.kept c.args.place (TurnOf c.args.cpu)
     c.restore.new.self.machine c.turn_ahead.new.self.machine same c.in_ok-restore.ensures.ok c.keep.new.self.kept n
-    extends c.in_ok-more.ensures.moves (slice_get_within c.keep.new.self.kept n c.fill.new.self.machine at)
-    (filled_kept m.patient c.keep.new.self.kept n c.turn_ahead.new.self.machine c.fill.new.self.machine c.args.cpu c.fill.ensures.filled at))
+    extends c.in_ok-more.ensures.moves at.0
+    (filled_kept m.patient c.keep.new.self.kept n c.turn_ahead.new.self.machine c.fill.new.self.machine c.args.cpu c.fill.ensures.filled at.1))
     c.keep.ensures.kept)
 
 pub returns-in-Some-clause-extends : goal.returns-in-Some-clause-extends
