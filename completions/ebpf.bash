@@ -14,8 +14,8 @@ _ebpf() {
         asm) words='--explain --listing --run --budget --ctx -h --help' files=1 ;;
         disasm) words='--explain --pc -h --help' files=1 ;;
         run) words='--explain --keys --maps --events --packets --check --by --workers --stats --x86 --json -h --help' files=1 ;;
-        explore) words='--explain --patient --json --progress --x86 --all-states --races --sync --limit --show -h --help' files=1 ;;
-        check) words='--explain --patient --json --progress --x86 --all-states --lenient --states --limit -h --help' files=1 ;;
+        explore) words='--explain --patient --json --progress --x86 --all-states --workers --races --sync --limit --show -h --help' files=1 ;;
+        check) words='--explain --patient --json --progress --x86 --all-states --workers --lenient --states --limit -h --help' files=1 ;;
         expand) words='--explain --first --patient --x86 --races -h --help' files=1 ;;
         debug) words='--explain --echo --strict --x86 -h --help' files=1 ;;
         explain) words='-h --help' ;;

@@ -252,6 +252,10 @@ int pthread_detach(long thread) { page_stop(JOINED); }
 int pthread_join(long thread, void *result) { page_stop(JOINED); }
 int sched_yield(void) { return 0; }
 
+/* How many processors there are, and which of them the program may use. */
+long sysconf(int name) { return 1; }
+int sched_getaffinity(int process, size bytes, void *mask) { return -1; }
+
 /* The program's one system call is futex: operation 0 waits, and waking wakes nobody. It is variadic in
    the C library, and must be here: calls of another signature trap. */
 long syscall(long number, void *word, long operation, long value, void *time, ...) {

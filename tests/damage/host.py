@@ -136,6 +136,17 @@ def few_threads(tally, program, library):
             tally.see(f"threads {first} to {last} can't be started", got == (wanted, b"", 0), got)
 
 
+def few_scouts(tally, program, library):
+    """A worker of a search that can't be started, each in turn and all behind it: the same is found."""
+    text = (EXAMPLES / "lost-additions.run").read_bytes()
+    wanted = program(["explore", "--workers", "1"], text)
+    for first in range(1, 9):
+        for last in (first, 9999):
+            environment = {"LD_PRELOAD": library, "FAIL_THREAD_FROM": str(first), "FAIL_THREAD_TO": str(last)}
+            got = program(["explore", "--workers", "4"], text, environment)
+            tally.see(f"threads {first} to {last} of a search can't be started", got == wanted and got.status == 0, got)
+
+
 def other_memory(tally, program, library):
     """Memory that is handed out full of 0xAA, wherever its addresses are: the same answers."""
     most = [(["run", "--workers", "16", "--maps"], counting_file())]
@@ -156,5 +167,6 @@ def hosts(program):
         few_addresses(tally, program)
         few_addresses_for_states(tally, program)
         few_threads(tally, program, preloaded(folder, "fail_thread"))
+        few_scouts(tally, program, preloaded(folder, "fail_thread"))
         other_memory(tally, program, preloaded(folder, "fill_alloc"))
     return tally

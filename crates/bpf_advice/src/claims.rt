@@ -256,10 +256,11 @@ fn hint_of_map(alloc: Global, file: &str, claim: &[&str]) -> Result<Option<Strin
 
 /// What is said of a claim of one word that is expected of CPUs with store buffers alone.
 fn hint_of_x86_word(word: &str) -> Option<&'static str> {
-    let asks = is_nearly(word, "race") || is_nearly(word, "ends") || is_nearly(word, "hung");
-    if asks || word == "hangs" {
+    if is_nearly(word, "race") {
+        Some("`race` asks of orders of turns, and has no form for `--x86` alone: `never race`")
+    } else if is_nearly(word, "ends") || is_nearly(word, "hung") || word == "hangs" {
         Some(
-            "`race`, `ends` and `hung` ask of orders of turns, and have no form for `--x86` alone: `never race`",
+            "`always-x86 ends` and `sometimes-x86 hung` ask if schedules can end, beside `--patient` or a comment `; check patient`",
         )
     } else {
         hint_of_word(word)
@@ -272,7 +273,7 @@ fn hint_of_word(word: &str) -> Option<&'static str> {
         Some("`never race` and `sometimes race` ask for data races")
     } else if is_nearly(word, "ends") || is_nearly(word, "hung") || word == "hangs" {
         Some(
-            "`always ends` and `sometimes hung` ask if schedules can end, beside `--patient` or a comment `; check patient`, and not beside `--x86`",
+            "`always ends` and `sometimes hung` ask if schedules can end, beside `--patient` or a comment `; check patient`",
         )
     } else if is_nearly(word, "fault") {
         Some("`fault` is that some job ended in one: `never fault`")

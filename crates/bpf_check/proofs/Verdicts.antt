@@ -15,7 +15,7 @@ use Rattle.bpf_check.specs.Expectation.{Expected, agrees, asks_ends, asks_hung, 
 use Rattle.bpf_check.specs.Faults.{IsTrueFault, are_faults_unexpected, has_fault}
 use Rattle.bpf_check.specs.Findings.{Findings}
 use Rattle.bpf_check.specs.Laws.{ArePatientFindings, FaultsAreTrue, PatientFaultsAreTrue, PatientVerdictsAreTrue, VerdictsAreTrue}
-use Rattle.bpf_check.specs.Verdict.{AreTrueEnds, AreTrueRaces, Choose, IsOutcomeText, IsPatientText, IsTrueHang, IsTrueOf, IsTruePatiently}
+use Rattle.bpf_check.specs.Verdict.{AreTrueEndsOf, AreTrueRaces, Choose, IsOutcomeText, IsPatientText, IsTrueAsked, IsTrueHangOf, IsTrueOf}
 use Rattle.bpf_check.specs.Verdict.{IsTrueRace, decides, decides_by, ends_verdict, hung_verdict, is_empty, outcome_verdict, races_verdict}
 use Rattle.bpf_check.specs.Verdict.{verdict_at, verdict_of, verdict_of_ends, verdict_of_hung, verdict_of_none, verdict_of_races}
 
@@ -183,46 +183,52 @@ patiently w names f e are =
 hangs : (w : World) (by : List (ℕ × ℕ)) → HangsBy w by → NoneHangs w → ⊥
 hangs w by (z, runs, none, hung) ends = hung (ends (unrolled by) z runs none)
 
-true_ends : (w : World) (names : Names) (f : Findings) → ArePatientFindings w names f → (all none : Bool) → f.all ≡ all → is_empty f.hung ≡ none
-    → AreTrueEnds w f (verdict_of_ends all none)
-true_ends w names f are all false found is =
-    let first = first_of f.hung is in ((λ ends. hangs w first.0 (are.are_hung 0 first.0 first.1) ends), are.are_hung)
-true_ends w names f are true true found is = are.none_hangs found (nothing f.hung is)
-true_ends w names f are false true found is = found
+-- whatever hangs, by what is shown of it
+module _ (Each : Type 0) (Hangs : List (ℕ × ℕ) → Type 0) (f : Findings)
+    (are_hung : (i : ℕ) (by : List (ℕ × ℕ)) → slice_get f.hung i ≡ Some by → Hangs by)
+    (none_hangs : f.all ≡ true → f.hung ≡ [] → Each) (hinders : (by : List (ℕ × ℕ)) → Hangs by → Each → ⊥) where
+  true_ends_by : (all none : Bool) → f.all ≡ all → is_empty f.hung ≡ none → AreTrueEndsOf Each Hangs f (verdict_of_ends all none)
+  true_ends_by all false found is =
+      let first = first_of f.hung is in ((λ ends. hinders first.0 (are_hung 0 first.0 first.1) ends), are_hung)
+  true_ends_by true true found is = none_hangs found (nothing f.hung is)
+  true_ends_by false true found is = found
 
-true_hang : (w : World) (names : Names) (f : Findings) → ArePatientFindings w names f → (all none : Bool) → f.all ≡ all → is_empty f.hung ≡ none
-    → IsTrueHang w f (verdict_of_hung all none)
-true_hang w names f are all false found is = let first = first_of f.hung is in (first.0, are.are_hung 0 first.0 first.1)
-true_hang w names f are true true found is = are.none_hangs found (nothing f.hung is)
-true_hang w names f are false true found is = found
+  true_hang_by : (all none : Bool) → f.all ≡ all → is_empty f.hung ≡ none → IsTrueHangOf Each Hangs f (verdict_of_hung all none)
+  true_hang_by all false found is = let first = first_of f.hung is in (first.0, are_hung 0 first.0 first.1)
+  true_hang_by true true found is = none_hangs found (nothing f.hung is)
+  true_hang_by false true found is = found
 
--- whichever is asked
-chosen : (w : World) (names : Names) (f : Findings) (e : Expected) → ArePatientFindings w names f → (ends hung : Bool)
-    → Choose ends (AreTrueEnds w f (cond ends (ends_verdict f) (cond hung (hung_verdict f) (outcome_verdict f e))))
-    (Choose hung (IsTrueHang w f (cond ends (ends_verdict f) (cond hung (hung_verdict f) (outcome_verdict f e))))
-    (IsTrueOf (IsPatientText w names) (EndsPatiently w names true) f e (cond ends (ends_verdict f) (cond hung (hung_verdict f) (outcome_verdict f e)))))
-chosen w names f e are true hung = true_ends w names f are f.all (is_empty f.hung) refl refl
-chosen w names f e are false true = true_hang w names f are f.all (is_empty f.hung) refl refl
-chosen w names f e are false false = patiently w names f e are
+  pub true_ends : AreTrueEndsOf Each Hangs f (ends_verdict f)
+  true_ends = true_ends_by f.all (is_empty f.hung) refl refl
 
--- whatever but races is asked
-abbrev IsTrueElse : World → Names → Findings → Expected → Verdict → Type 0
-IsTrueElse w names f e v = Choose (asks_ends e.often e.line) (AreTrueEnds w f v)
-    (Choose (asks_hung e.often e.line) (IsTrueHang w f v) (IsTrueOf (IsPatientText w names) (EndsPatiently w names true) f e v))
+  module _ (IsText : List ℕ → Type 0) (IsAnswer : Found → Type 0) (e : Expected) (told : IsTrueOf IsText IsAnswer f e (outcome_verdict f e)) where
+    -- whichever is asked, but of races
+    chosen : (ends hung : Bool)
+        → Choose ends (AreTrueEndsOf Each Hangs f (cond ends (ends_verdict f) (cond hung (hung_verdict f) (outcome_verdict f e))))
+        (Choose hung (IsTrueHangOf Each Hangs f (cond ends (ends_verdict f) (cond hung (hung_verdict f) (outcome_verdict f e))))
+        (IsTrueOf IsText IsAnswer f e (cond ends (ends_verdict f) (cond hung (hung_verdict f) (outcome_verdict f e)))))
+    chosen true hung = true_ends_by f.all (is_empty f.hung) refl refl
+    chosen false true = true_hang_by f.all (is_empty f.hung) refl refl
+    chosen false false = told
 
-patient_one : (w : World) (names : Names) (f : Findings) → ArePatientFindings w names f → (e : Expected) →
-    (asks_of_races e.often e.line ≡ true → AreTrueRaces w f)
-    → IsTruePatiently w names f e (verdict_of f e)
-patient_one w names f are e raced =
-    let rest : Bool → Verdict = λ patient. cond (patient && asks_ends e.often e.line) (ends_verdict f)
-    (cond (patient && asks_hung e.often e.line) (hung_verdict f) (outcome_verdict f e)) in
-    by_races w f e.often e.line (IsTrueElse w names f e) (rest f.patient) (asks_of_races e.often e.line) refl raced
-    (subst (λ (patient : Bool). IsTrueElse w names f e (rest patient)) (sym are.patient)
-    (chosen w names f e are (asks_ends e.often e.line) (asks_hung e.often e.line)))
+    abbrev IsTrueElse : Verdict → Type 0
+    IsTrueElse v = Choose (asks_ends e.often e.line) (AreTrueEndsOf Each Hangs f v)
+        (Choose (asks_hung e.often e.line) (IsTrueHangOf Each Hangs f v) (IsTrueOf IsText IsAnswer f e v))
+
+    pub asked : (w : World) → f.patient ≡ true → (asks_of_races e.often e.line ≡ true → AreTrueRaces w f)
+        → IsTrueAsked w Each Hangs IsText IsAnswer f e (verdict_of f e)
+    asked w patient raced =
+        let rest : Bool → Verdict = λ so. cond (so && asks_ends e.often e.line) (ends_verdict f)
+        (cond (so && asks_hung e.often e.line) (hung_verdict f) (outcome_verdict f e)) in
+        by_races w f e.often e.line IsTrueElse (rest f.patient) (asks_of_races e.often e.line) refl raced
+        (subst (λ (so : Bool). IsTrueElse (rest so)) (sym patient) (chosen (asks_ends e.often e.line) (asks_hung e.often e.line)))
 
 pub patient_verdicts_true : PatientVerdictsAreTrue
-patient_verdicts_true w names f are =
-    (true_ends w names f are f.all (is_empty f.hung) refl refl, (λ e plain. patient_one w names f are e))
+patient_verdicts_true w names f are = (
+  true_ends (NoneHangs w) (HangsBy w) f are.are_hung are.none_hangs (hangs w),
+  (λ e plain raced. asked (NoneHangs w) (HangsBy w) f are.are_hung are.none_hangs (hangs w) (IsPatientText w names) (EndsPatiently w names true) e
+      (patiently w names f e are) w are.patient raced),
+)
 
 -- ---- a fault that isn't expected
 module _ (IsText : List ℕ → Type 0) (IsAnswer : Found → Type 0) (f : Findings) (expected : List Expected)

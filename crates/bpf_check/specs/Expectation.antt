@@ -87,15 +87,14 @@ are_races_asked expected = list_any (λ e. asks_of_races e.often e.line) expecte
 
 -- ---- a comment
 
--- of races, or where that may be asked if schedules can end
-abbrev pub can_ask : Subjects → Often → List (List ℕ) → Bool
-can_ask s o words = length words == 1
-    && (asks_of_races o (line_of words) || (s.ends && asks_of_ends o (line_of words)))
+-- of races, but not of CPUs with store buffers alone, or where that may be asked if schedules can end
+abbrev pub can_ask : Subjects → (x86 : Bool) → Often → List (List ℕ) → Bool
+can_ask s x86 o words = length words == 1
+    && ((not x86 && asks_of_races o (line_of words)) || (s.ends && asks_of_ends o (line_of words)))
 
--- the words are one line, or ask that, which is asked of no CPUs with store buffers alone; so a map may have
--- the name `and` or `or`
+-- the words are one line, or ask that; so a map may have the name `and` or `or`
 abbrev pub is_whole : Subjects → (x86 : Bool) → Often → List (List ℕ) → Bool
-is_whole s x86 o words = can_print_all s words || (not x86 && can_ask s o words)
+is_whole s x86 o words = can_print_all s words || can_ask s x86 o words
 
 abbrev pub whole : (x86 : Bool) → Often → (line : List ℕ) → Expected
 whole x86 o line =

@@ -7,7 +7,7 @@ use Rattle.bpf_machine.specs.Race.{IsRace}
 use Rattle.bpf_machine.specs.Schedule.{World, RunsSchedule}
 use Rattle.bpf_machine.specs.declared.machine.Stand.{Stand}
 use Rattle.bpf_explore.specs.Outcomes.{Found, EndsBy, IsOutcome}
-use Rattle.bpf_explore.specs.Patient.{AreHung, EndsPatiently, HangsBy, IsPatientOutcome, NoneHangs}
+use Rattle.bpf_explore.specs.Patient.{EndsPatiently, HangsBy, IsPatientOutcome, NoneHangs}
 use Rattle.bpf_check.specs.declared.expectation.Often.{Often}
 use Rattle.bpf_check.specs.declared.expectation.Often.TheVariants as often
 use Rattle.bpf_check.specs.declared.judging.Verdict.{Verdict}
@@ -223,24 +223,35 @@ IsTrueVerdict w names f e v = Choose (asks_of_races e.often e.line) (IsTrueRace 
 abbrev pub IsPatientText : World → Names → List ℕ → Type 0
 IsPatientText w names text = (stopped : Bool) × IsPatientOutcome w names true text stopped
 
--- of whether each of them can end: none hangs; some does, and each schedule that is shown leads to a
--- state from which no end can be reached
-abbrev pub AreTrueEnds : World → Findings → Verdict → Type 0
-AreTrueEnds w f verdict.Holds = NoneHangs w
-AreTrueEnds w f verdict.Hangs = (NoneHangs w → ⊥) × AreHung w f.hung
-AreTrueEnds w f verdict.Untold = f.all ≡ false
-AreTrueEnds w f _ = ⊥
+-- of whether each of them can end, as the first claim says, where a schedule may lead to what can't, as the
+-- second says of it: each can; or not each can, and the schedules that are shown lead to what can't
+abbrev pub AreTrueEndsOf : (Each : Type 0) → (Hangs : List (ℕ × ℕ) → Type 0) → Findings → Verdict → Type 0
+AreTrueEndsOf Each Hangs f verdict.Holds = Each
+AreTrueEndsOf Each Hangs f verdict.Hangs = (Each → ⊥)
+    × ((i : ℕ) (by : List (ℕ × ℕ)) → slice_get f.hung i ≡ Some by → Hangs by)
+AreTrueEndsOf Each Hangs f verdict.Untold = f.all ≡ false
+AreTrueEndsOf Each Hangs f _ = ⊥
 
 -- of whether some can't
-abbrev pub IsTrueHang : World → Findings → Verdict → Type 0
-IsTrueHang w f verdict.Holds = (by : List (ℕ × ℕ)) × HangsBy w by
-IsTrueHang w f verdict.NoneHangs = NoneHangs w
-IsTrueHang w f verdict.Untold = f.all ≡ false
-IsTrueHang w f _ = ⊥
+abbrev pub IsTrueHangOf : (Each : Type 0) → (Hangs : List (ℕ × ℕ) → Type 0) → Findings → Verdict → Type 0
+IsTrueHangOf Each Hangs f verdict.Holds = (by : List (ℕ × ℕ)) × Hangs by
+IsTrueHangOf Each Hangs f verdict.NoneHangs = Each
+IsTrueHangOf Each Hangs f verdict.Untold = f.all ≡ false
+IsTrueHangOf Each Hangs f _ = ⊥
 
--- whichever an expectation asks
+-- whichever an expectation asks: of races, of ends, or of outcomes
+abbrev pub IsTrueAsked : World → (Each : Type 0) → (Hangs : List (ℕ × ℕ) → Type 0)
+    → (IsText : List ℕ → Type 0) → (IsAnswer : Found → Type 0) → Findings → Expected → Verdict → Type 0
+IsTrueAsked w Each Hangs IsText IsAnswer f e v =
+    Choose (asks_of_races e.often e.line) (IsTrueRace w f e.often v)
+    (Choose (asks_ends e.often e.line) (AreTrueEndsOf Each Hangs f v)
+    (Choose (asks_hung e.often e.line) (IsTrueHangOf Each Hangs f v) (IsTrueOf IsText IsAnswer f e v)))
+
+-- none hangs, or some does by these schedules
+abbrev pub AreTrueEnds : World → Findings → Verdict → Type 0
+AreTrueEnds w f v = AreTrueEndsOf (NoneHangs w) (HangsBy w) f v
+
+-- what an expectation asks of those schedules
 abbrev pub IsTruePatiently : World → Names → Findings → Expected → Verdict → Type 0
-IsTruePatiently w names f e v = Choose (asks_of_races e.often e.line) (IsTrueRace w f e.often v)
-    (Choose (asks_ends e.often e.line) (AreTrueEnds w f v)
-    (Choose (asks_hung e.often e.line) (IsTrueHang w f v)
-    (IsTrueOf (IsPatientText w names) (EndsPatiently w names true) f e v)))
+IsTruePatiently w names f e v = IsTrueAsked w (NoneHangs w) (HangsBy w) (IsPatientText w names)
+    (EndsPatiently w names true) f e v

@@ -179,19 +179,20 @@ pub(crate) fn asks_of_search(often: Often, line: &[u8]) -> bool
     asks_of_ends(often, line) || asks_of_races(often, line)
 }
 
-/// Whether words ask of a search what may be asked.
-fn can_ask(subjects: &Subjects, often: Often, words: &[&[u8]]) -> bool
-    ensures { result ≡ can_ask subjects.now often (map (λ f. f.now) words.now) }
+/// Whether words ask of a search what may be asked: of races that of all CPUs alone.
+fn can_ask(subjects: &Subjects, x86: bool, often: Often, words: &[&[u8]]) -> bool
+    ensures { result ≡ can_ask subjects.now x86 often (map (λ f. f.now) words.now) }
 {
     let word = word_at(words, 0);
-    words.len() == 1 && (asks_of_races(often, word) || subjects.ends() && asks_of_ends(often, word))
+    words.len() == 1
+        && (!x86 && asks_of_races(often, word) || subjects.ends() && asks_of_ends(often, word))
 }
 
 /// Whether words are one line, or ask of a search what may be asked.
 fn is_whole(subjects: &Subjects, x86: bool, often: Often, words: &[&[u8]]) -> bool
     ensures { result ≡ is_whole subjects.now x86 often (map (λ f. f.now) words.now) }
 {
-    subjects.can_print_all(words) || !x86 && can_ask(subjects, often, words)
+    subjects.can_print_all(words) || can_ask(subjects, x86, often, words)
 }
 
 /// The expectation of these words, which are one line.

@@ -7,6 +7,7 @@ pub mod Limited
 pub mod Budget
 pub mod Limit
 pub mod Counted
+mod SearchWorkers
 pub mod Workers
 pub mod Shown
 pub mod Flags

@@ -8,7 +8,7 @@ use Rattle.clap.specs.Walk.{with_default, values_or_missing, Held, Row, Rule, Te
 use Rattle.clap.specs.Words.{fault_of, subcommand_of}
 use Rattle.bpf_command.specs.declared.command.TheConstants.{MAX_LIMIT}
 use Rattle.bpf_command.specs.CommandLine.{HasLimit, IsSearchName, all_states, check, ebpf, explained, explore, file, files, json, lenient, limit}
-use Rattle.bpf_command.specs.CommandLine.{patient, progress, races, show, states, sync, x86}
+use Rattle.bpf_command.specs.CommandLine.{patient, progress, races, show, states, sync, workers, x86}
 use Rattle.bpf_command.proofs.Limited.{limited_keeps, with_limited}
 use Rattle.bpf_command.proofs.Ranges as range
 use Rattle.bpf_command.proofs.Ranges.{no_default}
@@ -62,6 +62,10 @@ all_states_keep : Keeps AreFine false (filled all_states)
 all_states_keep values rows e fine =
     range.other_used_fine (codes "limit") 0 MAX_LIMIT (codes "all-states") (values_or_missing (filled all_states) values) rows refl fine
 
+workers_keep : Keeps AreFine false (filled workers)
+workers_keep values rows e fine =
+    range.other_used_fine (codes "limit") 0 MAX_LIMIT (codes "workers") (values_or_missing (filled workers) values) rows refl fine
+
 file_keeps : Keeps AreFine false (filled file)
 file_keeps values rows e fine =
     range.other_used_fine (codes "limit") 0 MAX_LIMIT (codes "file") (values_or_missing (filled file) values) rows refl fine
@@ -99,7 +103,7 @@ explore_keeps = (
       json_keeps,
       (
         progress_keeps,
-        (x86_keeps, (all_states_keep, (races_keep, (sync_keeps, (limit_keeps, (show_keeps, (file_keeps, ((λ values rows e fine. fine), tt)))))))),
+        (x86_keeps, (all_states_keep, (workers_keep, (races_keep, (sync_keeps, (limit_keeps, (show_keeps, (file_keeps, ((λ values rows e fine. fine), tt))))))))),
       ),
     ),
   ),
@@ -114,7 +118,7 @@ check_keeps = (
       json_keeps,
       (
         progress_keeps,
-        (x86_keeps, (all_states_keep, (lenient_keeps, (states_keep, (limit_keeps, (files_keep, ((λ values rows e fine. fine), tt))))))),
+        (x86_keeps, (all_states_keep, (workers_keep, (lenient_keeps, (states_keep, (limit_keeps, (files_keep, ((λ values rows e fine. fine), tt)))))))),
       ),
     ),
   ),
@@ -122,11 +126,11 @@ check_keeps = (
 
 -- ---- the rows
 
--- the flags have defaults, and the limit
+-- the flags have defaults, and the limit, but not `--workers`
 abbrev waiting : List Row → List Row
 waiting rows =
-    with_default (with_default (with_default (with_default (with_default (with_default rows (filled explained)) (filled patient)) (filled json))
-    (filled progress)) (filled x86)) (filled all_states)
+    with_default (with_default (with_default (with_default (with_default (with_default (with_default rows (filled explained)) (filled patient)) (filled json))
+    (filled progress)) (filled x86)) (filled all_states)) (filled workers)
 
 waiting_fine : (rows : List Row) → AreFine rows → AreFine (waiting rows)
 waiting_fine rows fine =
@@ -140,7 +144,9 @@ waiting_fine rows fine =
     let watches = range.default_fine (codes "limit") 0 MAX_LIMIT (codes "progress") (codes "false" ∷ []) written refl shaped in
     let buffered = with_default watched (filled x86) in
     let flushed = range.default_fine (codes "limit") 0 MAX_LIMIT (codes "x86") (codes "false" ∷ []) watched refl watches in
-    range.default_fine (codes "limit") 0 MAX_LIMIT (codes "all-states") (codes "false" ∷ []) buffered refl flushed
+    let kept = with_default buffered (filled all_states) in
+    let stated = range.default_fine (codes "limit") 0 MAX_LIMIT (codes "all-states") (codes "false" ∷ []) buffered refl flushed in
+    subst AreFine (sym (no_default (has_row (codes "workers") kept) kept)) stated
 
 -- and `--races`, but not `--sync`
 abbrev asking : List Row → List Row

@@ -6,7 +6,7 @@ use Rattle.clap.specs.Faults.{level_fault}
 use Rattle.clap.specs.Walk.{with_default, values_or_missing, Held, Row, Rule, Text, answers_to, finished, has_row, nothing_held, rows_after, settled, walk}
 use Rattle.clap.specs.Words.{fault_of, subcommand_of}
 use Rattle.bpf_command.specs.declared.command.TheConstants.{MAX_LIMIT}
-use Rattle.bpf_command.specs.CommandLine.{HasShown, all_states, ebpf, explained, explore, file, json, limit, patient, progress, races, show, sync, x86}
+use Rattle.bpf_command.specs.CommandLine.{HasShown, all_states, ebpf, explained, explore, file, json, limit, patient, progress, races, show, sync, workers, x86}
 use Rattle.bpf_command.proofs.Counted.{counted_keeps, has_count}
 use Rattle.bpf_command.proofs.Ranges as range
 use Rattle.bpf_command.proofs.Ranges.{no_default}
@@ -53,6 +53,10 @@ all_states_keep : Keeps AreFine false (filled all_states)
 all_states_keep values rows e fine =
     range.other_used_fine (codes "show") 1 MAX_LIMIT (codes "all-states") (values_or_missing (filled all_states) values) rows refl fine
 
+workers_keep : Keeps AreFine false (filled workers)
+workers_keep values rows e fine =
+    range.other_used_fine (codes "show") 1 MAX_LIMIT (codes "workers") (values_or_missing (filled workers) values) rows refl fine
+
 file_keeps : Keeps AreFine false (filled file)
 file_keeps values rows e fine =
     range.other_used_fine (codes "show") 1 MAX_LIMIT (codes "file") (values_or_missing (filled file) values) rows refl fine
@@ -78,7 +82,7 @@ rules_keep = (
       json_keeps,
       (
         progress_keeps,
-        (x86_keeps, (all_states_keep, (races_keep, (sync_keeps, (limit_keeps, (show_keeps, (file_keeps, ((λ values rows e fine. fine), tt)))))))),
+        (x86_keeps, (all_states_keep, (workers_keep, (races_keep, (sync_keeps, (limit_keeps, (show_keeps, (file_keeps, ((λ values rows e fine. fine), tt))))))))),
       ),
     ),
   ),
@@ -95,7 +99,8 @@ finished_shown h fine =
     let watched = with_default written (filled progress) in
     let buffered = with_default watched (filled x86) in
     let stated = with_default buffered (filled all_states) in
-    let asked = with_default stated (filled races) in
+    let crewed = with_default stated (filled workers) in
+    let asked = with_default crewed (filled races) in
     let named = with_default asked (filled sync) in
     let bounded = with_default named (filled limit) in
     let first = with_default bounded (filled show) in
@@ -106,7 +111,8 @@ finished_shown h fine =
     let watches = range.default_fine (codes "show") 1 MAX_LIMIT (codes "progress") (codes "false" ∷ []) written refl told in
     let flushed = range.default_fine (codes "show") 1 MAX_LIMIT (codes "x86") (codes "false" ∷ []) watched refl watches in
     let states = range.default_fine (codes "show") 1 MAX_LIMIT (codes "all-states") (codes "false" ∷ []) buffered refl flushed in
-    let asks = range.default_fine (codes "show") 1 MAX_LIMIT (codes "races") (codes "false" ∷ []) stated refl states in
+    let crews = subst AreFine (sym (no_default (has_row (codes "workers") stated) stated)) states in
+    let asks = range.default_fine (codes "show") 1 MAX_LIMIT (codes "races") (codes "false" ∷ []) crewed refl crews in
     let names = subst AreFine (sym (no_default (has_row (codes "sync") asked) asked)) asks in
     let all = range.default_fine (codes "show") 1 MAX_LIMIT (codes "limit") (codes "1000000" ∷ []) named refl names in
     let same =

@@ -1,15 +1,17 @@
--- Where `clap` finds no fault, a number of workers that `run` is given is in its range.
-use Rattle.std.proofs.Common.{unwrap_or, ◌∙◌, sym, subst, ◌≡◌, List, [], ◌∷◌, false, codes, refl}
+-- Where `clap` finds no fault, a number of workers that `run`, `explore` or `check` is given is in its range.
+use Rattle.std.proofs.Common.{unwrap_or, ◌∙◌, sym, subst, ◌≡◌, List, [], ◌∷◌, false, codes, inl, inr, refl}
 use Rattle.std.specs.Prelude.{IfSome, find}
+use Rattle.std.specs.Str.{bytes_eq}
 use Rattle.clap.specs.Simple.{filled, Shape, built, label_of}
 use Rattle.clap.specs.Faults.{level_fault}
 use Rattle.clap.specs.Walk.{with_default, values_or_missing, Held, Row, Rule, Text, answers_to, finished, has_row, nothing_held, rows_after, settled, walk}
 use Rattle.clap.specs.Words.{fault_of, subcommand_of}
 use Rattle.bpf_command.specs.declared.command.TheConstants.{MAX_WORKERS}
-use Rattle.bpf_command.specs.CommandLine.{HasWorkers, ebpf, events, explained, file, judged, json, keys, maps, packets, run, schedule, stats, workers, x86}
+use Rattle.bpf_command.specs.CommandLine.{HasWorkers, MayHaveWorkers, ebpf, events, explained, file, judged, json, keys, maps, packets, run, schedule, stats, workers, x86}
 use Rattle.bpf_command.proofs.Counted.{counted_keeps, has_count}
 use Rattle.bpf_command.proofs.Ranges as range
 use Rattle.bpf_command.proofs.Ranges.{no_default}
+use Rattle.bpf_command.proofs.SearchWorkers.{explore_workers, check_workers}
 use Rattle.bpf_command.proofs.Subcommands.{AllHave, found_known, other_name}
 use Rattle.bpf_command.proofs.Walks.{Keeps}
 
@@ -140,30 +142,36 @@ run_workers : (words : List Text) → level_fault run_built [] nothing_held word
 run_workers words e =
     finished_workers (walk rules [] nothing_held words).held (range.settled_fine (codes "workers") 1 MAX_WORKERS run_built refl rules_keep words e)
 
+no_workers : (name : Text) → bytes_eq name (codes "run") ≡ false → bytes_eq name (codes "explore") ≡ false → bytes_eq name (codes "check") ≡ false
+    → MayHaveWorkers name → ⊥
+no_workers name first second third (inl is) = other_name (codes "run") name first is
+no_workers name first second third (inr (inl is)) = other_name (codes "explore") name second is
+no_workers name first second third (inr (inr is)) = other_name (codes "check") name third is
+
 -- ---- the subcommands
 
--- for `run`, a number of workers that is given is in its range
+-- for one that may have workers, a number of them that is given is in its range
 abbrev pub WorkersKnown : Text × List Row → Type 0
-WorkersKnown found = found.0 ≡ codes "run" → HasWorkers found.1
+WorkersKnown found = MayHaveWorkers found.0 → HasWorkers found.1
 
 all_known : AllHave WorkersKnown (built ebpf).subs
 all_known = (
-  (λ words e is. absurd (other_name (codes "run") (codes "hex") refl is)),
+  (λ words e is. absurd (no_workers (codes "hex") refl refl refl is)),
   (
-    (λ words e is. absurd (other_name (codes "run") (codes "asm") refl is)),
+    (λ words e is. absurd (no_workers (codes "asm") refl refl refl is)),
     (
-      (λ words e is. absurd (other_name (codes "run") (codes "disasm") refl is)),
+      (λ words e is. absurd (no_workers (codes "disasm") refl refl refl is)),
       (
         (λ words e is. run_workers words e),
         (
-          (λ words e is. absurd (other_name (codes "run") (codes "explore") refl is)),
+          (λ words e is. explore_workers words e),
           (
-            (λ words e is. absurd (other_name (codes "run") (codes "check") refl is)),
+            (λ words e is. check_workers words e),
             (
-              (λ words e is. absurd (other_name (codes "run") (codes "expand") refl is)),
+              (λ words e is. absurd (no_workers (codes "expand") refl refl refl is)),
               (
-                (λ words e is. absurd (other_name (codes "run") (codes "debug") refl is)),
-                ((λ words e is. absurd (other_name (codes "run") (codes "explain") refl is)), tt),
+                (λ words e is. absurd (no_workers (codes "debug") refl refl refl is)),
+                ((λ words e is. absurd (no_workers (codes "explain") refl refl refl is)), tt),
               ),
             ),
           ),

@@ -163,8 +163,8 @@ all_states = record (new_rule (codes "all-states")) {
 -- a command that searches through all schedules
 abbrev pub searching : Text → App
 searching name =
-    with_rule (with_rule (with_rule (with_rule (with_rule (with_rule (new_app name) explained)
-    patient) json) progress) x86) all_states
+    with_rule (with_rule (with_rule (with_rule (with_rule (with_rule (with_rule (new_app name)
+    explained) patient) json) progress) x86) all_states) workers
 
 -- `--show K`
 abbrev pub show : Rule
@@ -278,6 +278,10 @@ IsRunnerName name = (name ≡ codes "hex") ⊎ (name ≡ codes "asm")
 abbrev pub IsSearchName : Text → Type 0
 IsSearchName name = (name ≡ codes "explore") ⊎ (name ≡ codes "check")
 
+-- the name of one of those that may have workers
+abbrev pub MayHaveWorkers : Text → Type 0
+MayHaveWorkers name = (name ≡ codes "run") ⊎ IsSearchName name
+
 -- the name of one of the nine
 abbrev pub IsCommandName : Text → Type 0
 IsCommandName name = (name ≡ codes "explain") ⊎ IsWorkName name
@@ -388,12 +392,8 @@ counts_alone rows = is_given (codes "stats") rows && not (is_given (codes "worke
 -- what a search through flushes of store buffers doesn't do is asked for beside it
 abbrev pub wants_no_flushes : List Row → Bool
 wants_no_flushes rows =
-    is_given (codes "x86") rows && (is_given (codes "races") rows || is_given (codes "sync") rows)
-
--- or what its tests don't rest on: a patient search through flushes
-abbrev pub tests_no_flushes : List Row → Bool
-tests_no_flushes rows = wants_no_flushes rows
-    || (is_given (codes "x86") rows && is_given (codes "patient") rows)
+    is_given (codes "x86") rows && (is_given (codes "races") rows
+    || (is_given (codes "sync") rows || is_given (codes "workers") rows))
 
 -- maps of locks are named without `--races`, or an outcome is asked for beside it
 abbrev pub do_part_races : List Row → Bool

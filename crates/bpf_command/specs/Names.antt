@@ -12,7 +12,7 @@ use Rattle.clap.specs.Kinds.{IsAmong}
 use Rattle.clap.specs.Takes.{is_given}
 use Rattle.clap.specs.Words.{Row, Text, fault_of, first_of, kind_of, subcommand_of}
 use Rattle.bpf_command.specs.CommandLine.{NamesBudget, NamesLimit, NamesShown, NamesWorkers, IsRunnerName, counts_alone, do_clash}
-use Rattle.bpf_command.specs.CommandLine.{do_part, do_part_races, ebpf, given_texts, names_several, tests_no_flushes, wants_no_flushes}
+use Rattle.bpf_command.specs.CommandLine.{do_part, do_part_races, ebpf, given_texts, names_several, wants_no_flushes}
 use Rattle.bpf_command.specs.CommandLine.{wants_one}
 use Rattle.bpf_command.specs.declared.command.RunOptions.{RunOptions}
 use Rattle.bpf_command.specs.declared.command.CheckOptions.{CheckOptions}
@@ -75,6 +75,7 @@ NamesSearch rows options = NamesLimit rows options.limit
     × (options.patient ≡ is_given (codes "patient") rows)
     × (options.progress ≡ is_given (codes "progress") rows)
     × (options.all_states ≡ is_given (codes "all-states") rows)
+    × NamesWorkers rows options.workers
 
 -- the options of a search whose outcomes are compared with what comments expect
 abbrev pub NamesCheck : List Row → CheckOptions → Type 0
@@ -158,7 +159,7 @@ Names (Some found) (command.Races options) = (found.0 ≡ codes "explore")
     × (do_part_races found.1 ≡ false) × (is_given (codes "races") found.1 ≡ true)
     × (wants_no_flushes found.1 ≡ false)
 Names (Some found) (command.Check options) = (found.0 ≡ codes "check")
-    × NamesCheck found.1 options × (tests_no_flushes found.1 ≡ false)
+    × NamesCheck found.1 options × (wants_no_flushes found.1 ≡ false)
 Names (Some found) (command.Expand first patient races) = (found.0 ≡ codes "expand")
     × (first ≡ is_given (codes "first") found.1) × (patient ≡ is_given (codes "patient") found.1)
     × (races ≡ is_given (codes "races") found.1) × (is_given (codes "x86") found.1 ≡ false)
@@ -192,7 +193,7 @@ Asks (Some found) (request.CheckAll check files json) = (found.0 ≡ codes "chec
     × NamesCheck found.1 check
     × (map string_bytes files.items ≡ given_texts (codes "file") found.1)
     × (names_several found.1 ≡ true) × (wants_one found.1 ≡ false)
-    × (tests_no_flushes found.1 ≡ false)
+    × (wants_no_flushes found.1 ≡ false)
     × (json ≡ is_given (codes "json") found.1)
 Asks (Some found) (request.Page topic) = (found.0 ≡ codes "explain")
     × (option_and_then topic_of (first_of (codes "code") found.1) ≡ Some topic)
@@ -213,7 +214,7 @@ RefusesFound found error.NoRun = (found.0 ≡ codes "asm") × (do_part found.1 �
 RefusesFound found error.NoRaces = (found.0 ≡ codes "explore") × (do_part_races found.1 ≡ true)
 RefusesFound found error.TurnsAlone =
     ((found.0 ≡ codes "explore") × (wants_no_flushes found.1 ≡ true))
-    ⊎ ((found.0 ≡ codes "check") × (tests_no_flushes found.1 ≡ true))
+    ⊎ ((found.0 ≡ codes "check") × (wants_no_flushes found.1 ≡ true))
     ⊎ ((found.0 ≡ codes "expand") × (wants_no_flushes found.1 ≡ true))
 RefusesFound found error.NoCode = (found.0 ≡ codes "explain")
     × (option_and_then topic_of (first_of (codes "code") found.1) ≡ None)

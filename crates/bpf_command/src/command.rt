@@ -86,7 +86,12 @@ pub struct SearchOptions {
     /// To keep states too that differ only in registers that are written before they are read. What
     /// is found doesn't depend on it.
     pub all_states: bool,
+    /// The number of worker threads that make turns ahead; without one, as many as the machine has
+    /// processors. What is found doesn't depend on it.
+    pub workers: Option<u8>,
     ghost limited: { limit ≤ MAX_LIMIT },
+    ghost some: { IfSome workers (λ n. 0 < n) } by { some-prop workers },
+    ghost few: { IfSome workers (λ n. n ≤ MAX_WORKERS) } by { few-prop workers MAX_WORKERS },
 }
 
 /// The options of a search whose outcomes are compared with what comments of the file expect.

@@ -5,7 +5,7 @@ ghost use Rattle.bpf_explain.specs.Term.{topic_of};
 ghost use Rattle.clap.specs.Kinds.{FailsBy};
 ghost use Rattle.clap.specs.Takes.{is_given};
 ghost use Rattle.clap.specs.Words.{fault_of, first_of, first_value, found_of, rows_of, subcommand_name_of, subcommand_of, subcommand_rows_of};
-ghost use Rattle.bpf_command.specs.CommandLine.{ebpf, counts_alone, do_clash, do_part, do_part_races, HasBudget, HasLimit, HasShown, HasWorkers, IsCommandName, IsRunnerName, IsSearchName, IsWorkName, names_several, NamesBudget, NamesLimit, NamesShown, NamesWorkers, tests_no_flushes, wants_no_buffers, wants_no_flushes, wants_one};
+ghost use Rattle.bpf_command.specs.CommandLine.{ebpf, counts_alone, do_clash, do_part, do_part_races, HasBudget, HasLimit, HasShown, HasWorkers, IsCommandName, IsRunnerName, IsSearchName, IsWorkName, MayHaveWorkers, names_several, NamesBudget, NamesLimit, NamesShown, NamesWorkers, wants_no_buffers, wants_no_flushes, wants_one};
 ghost use Rattle.bpf_command.specs.Names.{AreMoves, Asks, AsksBy, file_in, IsContext, IsSchedule, Names, NamesCheck, NamesRaces, NamesRun, NamesSearch, Refuses, RefusesContext, RefusesFlags, RefusesFound, RefusesMoves, RefusesSchedule, as_flags, flag_of};
 
 use crate::command::{
@@ -45,7 +45,7 @@ pub enum CommandError {
     NoRun,
     /// Maps of locks are named without `--races`, or an outcome is asked for beside it.
     NoRaces,
-    /// What is of turns alone is asked of a search beside store buffers: patience, or races.
+    /// What is of turns alone is asked of a search beside store buffers: races, or workers.
     TurnsAlone,
     /// The page is asked for of what is no code that the program prints, nor another name with one.
     NoCode,
@@ -60,7 +60,7 @@ fn matches_of<'a, S: AsStr>(alloc: Global, words: &'a [S]) -> Result<ArgMatches<
     ensures checked { IfOk result (λ m. IfSome (subcommand_rows_of m)
         (λ found. IsRunnerName found.0 → HasBudget found.1)) }
     ensures counted { IfOk result (λ m. IfSome (subcommand_rows_of m)
-        (λ found. found.0 ≡ codes "run" → HasWorkers found.1)) }
+        (λ found. MayHaveWorkers found.0 → HasWorkers found.1)) }
     ensures limited { IfOk result (λ m. IfSome (subcommand_rows_of m)
         (λ found. IsSearchName found.0 → HasLimit found.1)) }
     ensures shown { IfOk result (λ m. IfSome (subcommand_rows_of m)
@@ -337,19 +337,23 @@ fn run_of(alloc: Global, options: &ArgMatches) -> Result<Command, CommandError>
 /// The options of a command that searches.
 fn search_of(options: &ArgMatches) -> SearchOptions
     requires limited { HasLimit (rows_of (found_of options.now)) }
+    requires counted { HasWorkers (rows_of (found_of options.now)) }
     ensures { NamesSearch (rows_of (found_of options.now)) result }
 {
+    let workers = workers_of(options);
     SearchOptions {
         limit: limit_of(options),
         patient: is_given(options, "patient"),
         progress: is_given(options, "progress"),
         all_states: is_given(options, "all-states"),
+        workers,
     }
 }
 
 /// The options of `check`.
 fn check_of(options: &ArgMatches) -> CheckOptions
     requires limited { HasLimit (rows_of (found_of options.now)) }
+    requires counted { HasWorkers (rows_of (found_of options.now)) }
     ensures { NamesCheck (rows_of (found_of options.now)) result }
 {
     CheckOptions {
@@ -366,23 +370,18 @@ fn check_of(options: &ArgMatches) -> CheckOptions
 fn wants_no_flushes(options: &ArgMatches) -> bool
     ensures { result ≡ wants_no_flushes (rows_of (found_of options.now)) }
 {
-    is_given(options, "x86") && (is_given(options, "races") || is_given(options, "sync"))
-}
-
-/// Whether that, or what its tests don't rest on, is asked for beside a check.
-fn tests_no_flushes(options: &ArgMatches) -> bool
-    ensures { result ≡ tests_no_flushes (rows_of (found_of options.now)) }
-{
-    wants_no_flushes(options) || (is_given(options, "x86") && is_given(options, "patient"))
+    is_given(options, "x86")
+        && (is_given(options, "races") || is_given(options, "sync") || is_given(options, "workers"))
 }
 
 /// The check of one file.
 fn check_one_of(options: &ArgMatches) -> Result<Command, CommandError>
     requires limited { HasLimit (rows_of (found_of options.now)) }
+    requires counted { HasWorkers (rows_of (found_of options.now)) }
     ensures named { IfOk result (Names (Some (codes "check", rows_of (found_of options.now)))) }
     ensures refused { IfErr result (RefusesFound (codes "check", rows_of (found_of options.now))) }
 {
-    if tests_no_flushes(options) {
+    if wants_no_flushes(options) {
         return Err(CommandError::TurnsAlone);
     }
     Ok(Command::Check(check_of(options)))
@@ -391,6 +390,7 @@ fn check_one_of(options: &ArgMatches) -> Result<Command, CommandError>
 /// The options of a search for races.
 fn races_of(alloc: Global, options: &ArgMatches) -> Result<RaceOptions, CommandError>
     requires limited { HasLimit (rows_of (found_of options.now)) }
+    requires counted { HasWorkers (rows_of (found_of options.now)) }
     ensures named { IfOk result (NamesRaces (rows_of (found_of options.now))) }
     ensures memory { IsOkUnless result CommandError.OutOfMemory }
 {
@@ -414,6 +414,7 @@ fn do_part_races(options: &ArgMatches) -> bool
 
 fn explore_of(alloc: Global, options: &ArgMatches) -> Result<Command, CommandError>
     requires limited { HasLimit (rows_of (found_of options.now)) }
+    requires counted { HasWorkers (rows_of (found_of options.now)) }
     requires shown { HasShown (rows_of (found_of options.now)) }
     ensures named { IfOk result (Names (Some (codes "explore", rows_of (found_of options.now)))) }
     ensures refused { IfErr result
@@ -477,7 +478,7 @@ fn debug_of(options: &ArgMatches) -> Command
 fn named(alloc: Global, name: &str, options: &ArgMatches) -> Result<Command, CommandError>
     requires known { IsWorkName name.now }
     requires checked { IsRunnerName name.now → HasBudget (rows_of (found_of options.now)) }
-    requires counted { name.now ≡ codes "run" → HasWorkers (rows_of (found_of options.now)) }
+    requires counted { MayHaveWorkers name.now → HasWorkers (rows_of (found_of options.now)) }
     requires limited { IsSearchName name.now → HasLimit (rows_of (found_of options.now)) }
     requires shown { name.now ≡ codes "explore" → HasShown (rows_of (found_of options.now)) }
     ensures named { IfOk result (Names (Some (name.now, rows_of (found_of options.now)))) }
@@ -537,6 +538,7 @@ fn wants_one(options: &ArgMatches) -> bool
 /// The check of several files.
 fn check_all_of(alloc: Global, options: &ArgMatches) -> Result<Request, CommandError>
     requires limited { HasLimit (rows_of (found_of options.now)) }
+    requires counted { HasWorkers (rows_of (found_of options.now)) }
     requires several { names_several (rows_of (found_of options.now)) ≡ true }
     ensures asked { IfOk result (Asks (Some (codes "check", rows_of (found_of options.now)))) }
     ensures refused { IfErr result (RefusesFound (codes "check", rows_of (found_of options.now))) }
@@ -544,7 +546,7 @@ fn check_all_of(alloc: Global, options: &ArgMatches) -> Result<Request, CommandE
     if wants_one(options) {
         return Err(CommandError::OneFile);
     }
-    if tests_no_flushes(options) {
+    if wants_no_flushes(options) {
         return Err(CommandError::TurnsAlone);
     }
     let files = given_texts(alloc, options, "file")?;
@@ -558,7 +560,7 @@ fn check_all_of(alloc: Global, options: &ArgMatches) -> Result<Request, CommandE
 fn requested(alloc: Global, name: &str, options: &ArgMatches) -> Result<Request, CommandError>
     requires known { IsCommandName name.now }
     requires checked { IsRunnerName name.now → HasBudget (rows_of (found_of options.now)) }
-    requires counted { name.now ≡ codes "run" → HasWorkers (rows_of (found_of options.now)) }
+    requires counted { MayHaveWorkers name.now → HasWorkers (rows_of (found_of options.now)) }
     requires limited { IsSearchName name.now → HasLimit (rows_of (found_of options.now)) }
     requires shown { name.now ≡ codes "explore" → HasShown (rows_of (found_of options.now)) }
     ensures asked { IfOk result (Asks (Some (name.now, rows_of (found_of options.now)))) }

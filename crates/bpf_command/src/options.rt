@@ -128,11 +128,14 @@ All orders are those of sequential consistency: a load sees the newest store. Pr
 With --x86 CPUs have store buffers, as those of x86 have: a plain store to a value waits there, and its
 own CPU's loads alone find it. Then every order of turns and of flushes is made, each flush of a CPU's
 oldest store, and schedules have words C!*N too, N flushes of CPU C, as 'run --x86 --by' takes them.
-With --show K all that happens is printed as by 'run --x86 --events'. --x86 goes beside neither --races
-nor --sync.
+With --show K all that happens is printed as by 'run --x86 --events'. --x86 goes beside none of --races,
+--sync and --workers.
 
 A state isn't kept that differs from a kept one only in registers which are written before they are
-read. With --all-states it is: what is found is the same, of more states. With --x86 it always is.
+read. With --all-states it is: what is found is the same, of more states.
+
+Where many states are left, their turns are made on as many threads as there are processors, 16 at most,
+or on those of --workers. What is printed is the same, byte for byte, for any number of them.
 
 Each time that 131072 more states are done a line on standard error shows how far the search is, where
 that is a terminal or with --progress: 'N states, N to go, N MB', how many are kept, from how many of
@@ -181,10 +184,10 @@ can end': 'not ok' with a line '# hung by' for each state from which no turns le
 '; never race' expects that there is no data race, and '; sometimes race' that there is one, by the
 search of 'explore --races': 'not ok' with a line '# race' for each, or '# there is no race'.
 
-With --x86 outcomes are those that 'ebpf explore --x86' finds, and comments ask for no patience. What
-begins with 'always-x86', 'sometimes-x86' or 'never-x86' is a test with --x86 alone: without it a
-comment '# only --x86 tests N more' counts such expectations. 'race', 'ends' and 'hung' have no such
-form.
+With --x86 outcomes are those that 'ebpf explore --x86' finds, and with --patient beside it those of
+'ebpf explore --x86 --patient'. What begins with 'always-x86', 'sometimes-x86' or 'never-x86' is a test
+with --x86 alone: without it a comment '# only --x86 tests N more' counts such expectations. 'race' has
+no such form.
 
 A comment '; check patient', '; check limit N' or '; check patient limit N' asks for --patient or the
 limit where the command line doesn't; a limit that it gives goes before that of the file.
@@ -199,7 +202,7 @@ With --states a comment '# N states' comes before a file's tests, the count that
 The tests of several files are one list: their numbers go on, and each names its file. A file that is
 refused has a line 'refused CODE - FILE' and no test. The exit status is that of the worst file, where
 1 is worse than 4, 4 than 3, and 3 than 0. '-' and --explain go with one FILE alone. How far a search
-is, is printed as by 'ebpf explore', and --all-states is as there.
+is, is printed as by 'ebpf explore', and --all-states and --workers are as there.
 
 For example
   $ printf '; never job 0 cpu 0 r0=1\\nebpf-run 1\\nprog a\\nr0 = 5\\nexit\\nend\\njob 0 a\\n' | ebpf check
@@ -489,7 +492,8 @@ fn schedule_option<'a>(alloc: Global) -> Arg<'a>
     )
 }
 
-fn workers_option<'a>(alloc: Global) -> Arg<'a>
+/// The option `--workers`, with what it is for.
+fn threads_option<'a>(alloc: Global, help: &'static str) -> Arg<'a>
     ensures rule { rule_of result ≡ workers }
     ensures own { result.global ≡ false }
 {
@@ -497,7 +501,18 @@ fn workers_option<'a>(alloc: Global) -> Arg<'a>
         .long("workers")
         .value_name("N")
         .value_parser(value_parser!(u64).range(1..=MAX_WORKERS as i64))
-        .help("Runs the CPUs at once, by 1 to 16 threads, over a store that they share")
+        .help(help)
+}
+
+/// The option `--workers` of `run`.
+fn workers_option<'a>(alloc: Global) -> Arg<'a>
+    ensures rule { rule_of result ≡ workers }
+    ensures own { result.global ≡ false }
+{
+    threads_option(
+        alloc,
+        "Runs the CPUs at once, by 1 to 16 threads, over a store that they share",
+    )
 }
 
 fn stats_option<'a>(alloc: Global) -> Arg<'a>
@@ -671,6 +686,17 @@ fn all_states_option<'a>(alloc: Global) -> Arg<'a>
         )
 }
 
+/// The option `--workers` of a command that searches.
+fn search_workers_option<'a>(alloc: Global) -> Arg<'a>
+    ensures rule { rule_of result ≡ workers }
+    ensures own { result.global ≡ false }
+{
+    threads_option(
+        alloc,
+        "Makes turns on N threads, 1 to 16; without it on as many as there are processors",
+    )
+}
+
 /// A command that searches, with the options of a search.
 fn searching<'a>(alloc: Global, name: &'static str) -> Result<Command<'a>, AllocError>
     ensures shape { IfOk result (λ c. shape_of c ≡ (searching name.now).top) }
@@ -682,7 +708,8 @@ fn searching<'a>(alloc: Global, name: &'static str) -> Result<Command<'a>, Alloc
         .arg(json_option(alloc))?
         .arg(progress_option(alloc))?
         .arg(buffers_option(alloc))?
-        .arg(all_states_option(alloc))
+        .arg(all_states_option(alloc))?
+        .arg(search_workers_option(alloc))
 }
 
 fn races_option<'a>(alloc: Global) -> Arg<'a>

@@ -7,7 +7,7 @@ use Rattle.std.proofs.lemmas.List.{length-drop, length-map}
 use Rattle.std.proofs.lemmas.Option.{slice_get_within}
 use Rattle.bpf_base.proofs.Lists.{slice_get-front}
 use Rattle.bpf_shared.specs.Shape.{Shape}
-use Rattle.bpf_plain.specs.PlainStore.{Contents, StandsFor, has_cpu, IsSavedAs}
+use Rattle.bpf_plain.specs.PlainStore.{Contents, IsMade, StandsFor, has_cpu, IsSavedAs}
 use Rattle.bpf_plain.specs.Alike.{IsSameShape, LookAlike}
 use Rattle.bpf_plain.proofs.Alike.{alike_stand_alike}
 use Rattle.bpf_plain.proofs.SavedAlike.{saved_alike_look_alike}
@@ -22,13 +22,13 @@ use Rattle.bpf_machine.specs.Cover.{TurnsTo}
 use Rattle.bpf_live.specs.Live.{Table}
 use Rattle.bpf_alike.specs.Covers.{IsKeptAlike}
 use Rattle.bpf_alike.specs.Worlds.{AllAlike, AreLiveTables, table_at}
-use Rattle.bpf_explore.specs.Album.{IsKeptAlikeAt}
+use Rattle.bpf_explore.specs.Album.{FitsStock, HasMore, IsKeptAlikeAt, IsNumbered, Stock}
 use Rattle.bpf_explore.specs.Search.{IsTurned, IsIdleAt, Extends}
 use Rattle.bpf_explore.specs.Stores.{IsOfShape, no_store}
 use Rattle.bpf_explore.specs.Tuples.{TupleList, tuple_at, with_tuple}
 use Rattle.bpf_explore.specs.Private.Classes.{AreLoaded, AreOfParts, IsAlikeTuple}
 use Rattle.bpf_explore.proofs.ClassLaws.{are_loaded}
-use Rattle.bpf_explore.specs.Private.Album.{Shelf, machine_of, machine_at, machines, IsState, IsShelf, Grows, FitsShelf, AddsOne}
+use Rattle.bpf_explore.specs.Private.Album.{Shelf, machine_of, machine_at, machines, IsState, IsShelf, Grows, FitsShelf, AddsOne, stocked}
 use Rattle.bpf_explore.specs.Private.Album.{ShowsFirst, AreNumbersOf, AreKeptUnder}
 use Rattle.bpf_explore.proofs.KeptLaws.{tuple_new}
 use Rattle.bpf_explore.proofs.StandAlike.{can_stand}
@@ -40,6 +40,13 @@ one_shape h p q a b = (λ c. b.1 c ∙ sym (a.1 c), b.0 ∙ sym a.0)
 -- turns keep the host
 pub shape_still : (h : Shape) (old new : MachineState) → IsSameHost old new → IsOfShape h old.store → IsOfShape h new.store
 shape_still h old new same shape = (same.shape.1 ∙ shape.0, λ c. same.shape.0 c ∙ shape.1 c)
+
+-- what fits the shelf, said of what is kept but for the states
+pub fits_shelf : (h : Shape) (s : Shelf) (m : MachineState) → FitsStock (stocked h s) m → FitsShelf h s m
+fits_shelf h s m is = record { shape = is.shape; programs = is.programs; width = is.jobs; lists = is.lists }
+
+pub fits_stock : (h : Shape) (s : Shelf) (m : MachineState) → FitsShelf h s m → FitsStock (stocked h s) m
+fits_stock h s m is = record { shape = is.shape; programs = is.programs; jobs = is.width; lists = is.lists }
 
 -- what is saved as the machine's store is, with jobs that are as its jobs do
 module _ (h : Shape) (s : Shelf) (m : MachineState) (tuple bytes : List ℕ) (fits : FitsShelf h s m)
@@ -85,6 +92,9 @@ module _ (h : Shape) (stores : List Contents) (parts : List Task) (states : Tupl
 
   pub kept_with : machines (shelf_of new.programs stores parts states) states.count ≡ machines (shelf_of m.programs stores parts states) states.count
   kept_with = ap (λ (s : Shelf). machines s states.count) same_shelf_as
+
+  pub stock_with : stocked h (shelf_of new.programs stores parts states) ≡ stocked h (shelf_of m.programs stores parts states)
+  stock_with = ap (stocked h) same_shelf_as
 
   pub fits_with : IsShelf h (shelf_of m.programs stores parts states) → IsOfShape h new.store → states.width ≡ length new.jobs + 1 → new.lists ≡ None
       → IsShelf h (shelf_of new.programs stores parts states) × FitsShelf h (shelf_of new.programs stores parts states) new
@@ -146,6 +156,33 @@ restored_fits h stores parts states m new place there read jobs is ready e =
     fits_with h stores parts states m new (ap (λ (n : MachineState). n.programs) e) is (subst (λ (n : MachineState). IsOfShape h n.store) (sym e) ready.shaped)
     (ready.width ∙ ap (λ (n : MachineState). length n.jobs + 1) (sym e)) (ap (λ (n : MachineState). n.lists) e)
 
+-- into another machine
+pub restored_stock : (h : Shape) (s : Shelf) (m new : MachineState) (place : ℕ) (store : Contents) (read : List Task) (jobs : List ℕ) → FitsShelf h s m
+    → IsReadable h s m place store read jobs → new ≡ made_of store m.programs read jobs → FitsStock (stocked h s) new
+restored_stock h s m new place store read jobs fits ready e =
+    let there : FitsStock (stocked h s) (made_of store m.programs read jobs) = record
+    { shape = ready.shaped; programs = fits.programs; jobs = ready.width; lists = refl } in
+    subst (FitsStock (stocked h s)) (sym e) there
+
+-- another machine, on a new store
+pub another_fits : (h : Shape) (s : Shelf) (m new : MachineState) (store : Contents) → FitsShelf h s m → IsMade h store → new.store ≡ store
+    → new.programs ≡ m.programs → length new.jobs ≡ length m.jobs → new.lists ≡ None → FitsStock (stocked h s) new
+another_fits h s m new place fits made same programs jobs lists = record {
+  shape = subst (IsOfShape h) (sym same) (made.shape, made.serves);
+  programs = fits.programs ∙ sym programs;
+  jobs = fits.width ∙ ap (λ (n : ℕ). n + 1) (sym jobs);
+  lists = lists;
+}
+
+-- turns keep the kind
+pub fits_after : (s : Stock) (old new : MachineState) → IsSameHost old new → FitsStock s old → FitsStock s new
+fits_after s old new same fits = record {
+  shape = shape_still s.shape old new same fits.shape;
+  programs = fits.programs ∙ sym same.programs;
+  jobs = fits.jobs ∙ ap (λ (n : ℕ). n + 1) (sym same.jobs);
+  lists = same.lists fits.lists;
+}
+
 -- the numbers of a store and of jobs, one after the other
 pub numbered_under : (stores : List Contents) (parts : List Task) (m : MachineState) (before new : List ℕ) (store : ℕ) → before ≡ store ∷ []
     → store < length stores
@@ -181,6 +218,14 @@ module _ (h : Shape) (s : Shelf) (m : MachineState) (stores : List Contents) (pa
 
   pub same_adds : AddsOne (machines s s.states.count) m (machines (with_states s.states) s.states.count)
   same_adds = inl (same_kept s (with_states s.states) m.store (grown s.states) h fits.shape is refl)
+
+  one_more : (stores ≡ s.stores) ⊎ (stores ≡ s.stores ++ m.store ∷ []) → (more : List Contents) × (stores ≡ s.stores ++ more)
+  one_more (inl e) = ([], e ∙ sym (append-nil s.stores))
+  one_more (inr e) = (m.store ∷ [], e)
+
+  -- what there is of stores and jobs stays
+  pub more_stock : (states : TupleList) → states.width ≡ s.states.width → HasMore (stocked h s) (stocked h (with_states states))
+  more_stock states width = record { shape = refl; programs = refl; width = width; stores = one_more adds; parts = grows }
 
   module _ (tuple : List ℕ) (under : AreKeptUnder stores parts m tuple) (stands : CanStand m) where
     shapes_there : (states : TupleList) → (n : ℕ) → n < length stores → IsOfShape h (slice_index_or stores n no_store)
@@ -253,6 +298,54 @@ module _ (h : Shape) (s : Shelf) (m : MachineState) (stores : List Contents) (pa
           more_kept s (with_states states) m.store (grown states) h fits.shape is tuple size (state_there states width) e,
           λ w here. subst (λ (t : List ℕ). Shows (machine_of (with_states states) t) w) (sym last) (shows w here),
         )
+
+-- ---- a machine is kept by its numbers
+pub width_of : (states new : TupleList) (tuple : List ℕ) → (new ≡ states) ⊎ (new ≡ with_tuple states tuple) → new.width ≡ states.width
+width_of states new tuple (inl e) = ap (λ (t : TupleList). t.width) e
+width_of states new tuple (inr e) = ap (λ (t : TupleList). t.width) e
+
+pub stock_as : (h : Shape) (programs : List Loaded) (stores : List Contents) (parts : List Task) (states new : TupleList) → new.width ≡ states.width
+    → stocked h (shelf_of programs stores parts new) ≡ stocked h (shelf_of programs stores parts states)
+stock_as h programs stores parts states new width =
+    let S : ℕ → Stock = λ n. record { shape = h; programs = programs; width = n; stores = stores; parts = parts } in
+    ap S width
+
+module _ (h : Shape) (s : Shelf) (m : MachineState) (numbers : List ℕ) (is : IsShelf h s) (numbered : IsNumbered (stocked h s) m numbers) where
+  fits_here : FitsShelf h s m
+  fits_here = fits_shelf h s m numbered.fits
+
+  none_new : (more : List Task) × (s.parts ≡ s.parts ++ more)
+  none_new = ([], sym (append-nil s.parts))
+
+  pub numbers_are : (length numbers ≡ s.states.width) × (1 ≤ length numbers) × All (λ n. n < length s.parts) (drop 1 numbers) × AreOfParts s.parts s.states
+  numbers_are = numbers_fit h s m s.stores s.parts is fits_here (inl refl) none_new numbers numbered.under numbered.stands
+
+  size_is : length numbers ≡ s.states.width
+  size_is = numbered.under.size ∙ sym numbered.fits.jobs
+
+  module _ (states : TupleList) (adds : (states ≡ s.states) ⊎ (states ≡ with_tuple s.states numbers)) where
+    -- the machine to work with is another
+    pub still_shelf : (own : MachineState) → FitsShelf h s own
+        → IsShelf h (shelf_of s.programs s.stores s.parts states) × FitsShelf h (shelf_of s.programs s.stores s.parts states) own
+    still_shelf own fits = (
+      (invariant_after h s m s.stores s.parts is fits_here (inl refl) none_new numbers numbered.under numbered.stands states size_is adds).0,
+      record {
+        shape = fits.shape;
+        programs = fits.programs;
+        width = width_of s.states states numbers adds ∙ fits.width;
+        lists = fits.lists;
+      },
+    )
+
+    pub adds_numbered : AddsOne (machines s s.states.count) m (machines (shelf_of s.programs s.stores s.parts states) states.count)
+    adds_numbered = adds_after h s m s.stores s.parts is fits_here (inl refl) none_new numbers numbered.under numbered.stands states size_is adds
+
+    pub kept_numbered : (tables : List Table) → AreLiveTables s.programs (table_at tables) → (n : ℕ) → n < states.count
+        → IsAlikeTuple tables s.parts numbers (tuple_at states n)
+        → IsKeptAlikeAt (machines (shelf_of s.programs s.stores s.parts states) states.count) n m
+    kept_numbered tables right n less alike =
+        kept_after h s m s.stores s.parts is fits_here (inl refl) none_new numbers numbered.under numbered.stands tables states n
+        (subst (λ (ps : List Loaded). AreLiveTables ps (table_at tables)) numbered.fits.programs right) adds less alike
 
 pub adds_extends : (old new : List MachineState) (m : MachineState) → AddsOne old m new → Extends old new
 adds_extends old new m (inl e) = ([], e ∙ sym (append-nil old))

@@ -1,18 +1,22 @@
 -- Turns from kept machines, while more are kept.
 use Rattle.std.proofs.Common.{◌≡◌, ◌∙◌, ℕ, zero, suc, ◌+◌, ◌/◌, ◌%◌, ◌<◌, List, [], ◌∷◌, ◌++◌, Some, inl, inr, length, refl, sym, ap, subst}
-use Rattle.std.proofs.Common.{length-append, arith}
+use Rattle.std.proofs.Common.{append-nil, length-append, arith}
 use Rattle.std.specs.Prelude.{slice_get}
 use Rattle.std.proofs.lemmas.Bool.{cases_lt}
-use Rattle.std.proofs.lemmas.Option.{slice_get_within}
+use Rattle.std.proofs.lemmas.Option.{slice_get_cases, slice_get_within}
 use Rattle.bpf_base.proofs.Lists.{slice_get-front}
 use Rattle.bpf_machine.specs.Machine.{MachineState}
+use Rattle.bpf_machine.specs.declared.machine.Turn.TheVariants as turn
+use Rattle.bpf_machine.specs.declared.machine.ahead.Headway.TheVariants.{Idle}
+use Rattle.bpf_machine.proofs.TurnLaws.{turn_idle}
+use Rattle.bpf_alike.proofs.Like.{all_like}
 use Rattle.bpf_machine.specs.Cover.{TurnsAhead}
 use Rattle.bpf_alike.specs.Ends.{IsKeptAlikeRichlyAt}
 use Rattle.bpf_machine.specs.Patient.{IsRefilled}
 use Rattle.bpf_explore.specs.declared.turns.Arrival.{Arrival}
 use Rattle.bpf_explore.specs.declared.turns.Edge.{Edge}
 use Rattle.bpf_explore.specs.Album.{IsKeptAlikeAt}
-use Rattle.bpf_explore.specs.Search.{Extends}
+use Rattle.bpf_explore.specs.Search.{Extends, IsIdleAt}
 use Rattle.bpf_explore.specs.Private.Edges.{IsEdge, AreEdges, IsEdgeOf, edge_of, edges_from}
 use Rattle.bpf_explore.proofs.AlbumLaws.{still_at}
 use Rattle.bpf_explore.proofs.RichLaws.{richly_kept}
@@ -126,6 +130,23 @@ edge_made old new restored after refilled place cpu made n e at more turns refil
       turns = subst (λ (k : ℕ). TurnsAhead restored e.cpu k after) (sym ahead) (subst (λ (k : ℕ). TurnsAhead restored k made after) (sym own) turns);
       is_kept = subst (λ (k : ℕ). IsKeptAlikeRichlyAt new k after) (sym to) (richly_kept new after refilled cpu n refills is);
     }
+
+some_at : (kept : List MachineState) (i : ℕ) → i < length kept → (m : MachineState) × (slice_get kept i ≡ Some m)
+some_at kept i inside = elim ((slice_get_cases kept i).1) [
+  | inl r ↦ (r.0, r.2)
+  | inr past ↦ let end = past.0 in absurd (omega arith)
+]
+
+-- the turn of a CPU without work
+pub idle_edge : (kept : List MachineState) (place cpu : ℕ) (e : Edge) → place < length kept → IsIdleAt kept place cpu → e.«from» ≡ place → e.to ≡ place
+    → e.ahead ≡ 0 → e.cpu ≡ cpu → IsEdge kept e
+idle_edge kept place cpu e inside idle from to ahead own =
+    let there = some_at kept place inside in
+    let m = there.0 in
+    let none = idle m there.1 in
+    let turns : TurnsAhead m cpu 0 m = (turn.Idle, m, Idle, turn_idle m cpu none.0 none.1, (refl, none.0, none.1), refl) in
+    edge_made kept kept m m m place cpu 0 place e there.1 ([], sym (append-nil kept)) turns (inl (none.0, refl)) inside
+    (λ w shows. (w.jobs, all_like w.programs w.jobs, (m, there.1, shows))) from to ahead own
 
 -- one more where it is the next in the order
 pub one_more_placed : (kept : List MachineState) (cpus now : ℕ) (xs pushed : List Arrival) (place cpu to ahead : ℕ) → length xs / cpus ≡

@@ -8,6 +8,7 @@ pub mod ShelfLaws
 pub mod KeepLaws
 pub mod ClassLaws
 pub mod AlbumLaws
+pub mod ScoutLaws
 pub mod ApartLaws
 pub mod StopLaws
 pub mod WayLaws

@@ -46,7 +46,7 @@ kept_there : (patient : Bool) (kept : List MachineState) (i : ℕ) (m : MachineS
 kept_there false kept i m there = λ w shows. (w.jobs, all_like w.programs w.jobs, (i, m, there, shows))
 kept_there true kept i m there = λ w shows. (w.jobs, all_same w.jobs, (w.jobs, all_like w.programs w.jobs, (i, m, there, shows)))
 
-idle_turned : (patient : Bool) (kept : List MachineState) (i c : ℕ) → IsIdleAt kept i c → IsTurned patient kept i c
+pub idle_turned : (patient : Bool) (kept : List MachineState) (i c : ℕ) → IsIdleAt kept i c → IsTurned patient kept i c
 idle_turned patient kept i c idle m there =
     let none = idle m there in
     (m, idle_turns_to m c none.0 none.1, kept_there patient kept i m there)

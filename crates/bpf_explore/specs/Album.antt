@@ -1,19 +1,70 @@
 -- Machines that a search keeps.
-use Rattle.std.specs.Prelude.{◌≡◌, ℕ, ◌<◌, ◌≤◌, List, Some, length, slice_get}
+use Rattle.std.specs.Prelude.{◌≡◌, ℕ, ◌+◌, ◌<◌, ◌≤◌, All, List, ◌++◌, Some, None, drop, length, slice_get, slice_index_or}
+use Rattle.bpf_shared.specs.Shape.{Shape}
+use Rattle.bpf_plain.specs.PlainStore.{Contents, IsSavedAs}
+use Rattle.bpf_loader.specs.Loaded.{Loaded}
 use Rattle.bpf_cpu.specs.Task.{Task}
 use Rattle.bpf_machine.specs.Laws.{IsFresh}
 use Rattle.bpf_machine.specs.Schedule.{World, RunsSchedule}
 use Rattle.bpf_machine.specs.Rounds.{HaveEnded}
 use Rattle.bpf_machine.specs.Machine.{MachineState, Shows}
+use Rattle.bpf_machine.specs.Parts.{CanStand, chosen}
 use Rattle.bpf_machine.specs.Patient.{NoneRanOut, AreRefilled}
 use Rattle.bpf_machine.specs.Ends.{RunsFreely}
 use Rattle.bpf_alike.specs.Ends.{IsShownAlikeAt}
+use Rattle.bpf_explore.specs.Stores.{IsOfShape, no_store}
 
--- a machine to work with, the kept ones, and how many CPUs their host has
+-- stores of one shape and jobs of these programs, each under its number. A machine is kept as this many
+-- numbers: its store's, and then each job's
+pub record Stock : Type 0 where
+  pub shape : Shape
+  pub programs : List Loaded
+  pub width : ℕ
+  pub stores : List Contents
+  pub parts : List Task
+
+-- the machine is of this kind
+pub record FitsStock (s : Stock) (m : MachineState) : Type 0 where
+  pub shape : IsOfShape s.shape m.store
+  pub programs : s.programs ≡ m.programs
+  pub jobs : s.width ≡ length m.jobs + 1
+  pub lists : m.lists ≡ None
+
+-- more stores and jobs are after those that were there
+pub record HasMore (old new : Stock) : Type 0 where
+  pub shape : new.shape ≡ old.shape
+  pub programs : new.programs ≡ old.programs
+  pub width : new.width ≡ old.width
+  pub stores : (more : List Contents) × (new.stores ≡ old.stores ++ more)
+  pub parts : (more : List Task) × (new.parts ≡ old.parts ++ more)
+
+-- the jobs have these numbers
+abbrev pub AreNumbersOf : List Task → List ℕ → List Task → Type 0
+AreNumbersOf parts numbers jobs =
+    All (λ n. n < length parts) numbers × (chosen parts numbers ≡ jobs)
+
+-- a store that is saved as the machine's is has the first of these numbers, and its jobs the others
+pub record AreKeptUnder (stores : List Contents) (parts : List Task) (m : MachineState)
+    (tuple : List ℕ) : Type 0 where
+  pub stored : slice_index_or tuple 0 0 < length stores
+  pub bytes : List ℕ
+  pub saved : IsSavedAs m.store bytes
+  pub alike : IsSavedAs (slice_index_or stores (slice_index_or tuple 0 0) no_store) bytes
+  pub jobs : AreNumbersOf parts (drop 1 tuple) m.jobs
+  pub size : length tuple ≡ length m.jobs + 1
+
+-- the machine's store and jobs are there, under these numbers
+pub record IsNumbered (s : Stock) (m : MachineState) (numbers : List ℕ) : Type 0 where
+  pub fits : FitsStock s m
+  pub stands : CanStand m
+  pub under : AreKeptUnder s.stores s.parts m numbers
+
+-- a machine to work with, the kept ones, how many CPUs their host has, and what they are kept as
 pub record AlbumState : Type 0 where
   pub machine : MachineState
   pub kept : List MachineState
   pub cpus : ℕ
+  pub stock : Stock
 
 -- the same of a patient search, and the turns that were made, in their order: from which kept machine,
 -- and by which CPU

@@ -5,5 +5,6 @@ pub mod Patient
 pub mod Tuples
 pub mod Stores
 pub mod Album
+pub mod Scouts
 pub mod Listing
 pub mod Private

@@ -2,6 +2,7 @@
 pub mod Slots
 pub mod Kept
 pub mod Album
+pub mod Scouts
 pub mod Classes
 pub mod Trail
 pub mod Answers

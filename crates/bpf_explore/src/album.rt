@@ -1,6 +1,6 @@
 //! Machines that a search keeps: each store and each job once, and of each machine their numbers.
 
-ghost use Rattle.std.specs.Prelude.{◌≡◌, ◌<◌, ◌≤◌, ◌++◌, ◌∷◌, ◌⊎◌, List, [], ℕ, true, false, Some, All, IfOk, OnOk, drop, length, slice_get, slice_index_or};
+ghost use Rattle.std.specs.Prelude.{◌≡◌, ◌<◌, ◌≤◌, ◌++◌, ◌∷◌, ◌⊎◌, List, [], ℕ, true, false, Some, All, IfOk, IfSome, OnOk, OnSome, drop, length, slice_get, slice_index_or};
 ghost use Rattle.bpf_cpu.specs.Task.{Task};
 ghost use Rattle.bpf_plain.specs.PlainStore.{IsSavedAs};
 ghost use Rattle.bpf_machine.specs.Parts.{chosen};
@@ -12,7 +12,7 @@ ghost use Rattle.bpf_explore.specs.Private.Album.{AreKeptUnder, AreNumbersOf, Ha
 
 use crate::classes::Classes;
 use crate::parts::Parts;
-use crate::stores::Stores;
+use crate::stores::{Stores, new_store};
 use crate::tuples::Tuples;
 use bpf_alike::{Merged, live_tables};
 use bpf_machine::{KeptJob, Machine};
@@ -124,6 +124,62 @@ fn keep_machine(
     Ok(())
 }
 
+/// The number under which a machine's store is kept, if it is. What it is saved as is written over
+/// the bytes.
+fn find_store(stores: &Stores, machine: &Machine, bytes: &mut Vec<u8>) -> Option<u32>
+    ensures within { IfSome result (λ n. n < length stores.now) }
+    ensures alike { IfSome result (λ n. (saved : List ℕ) × IsSavedAs machine.now.store saved
+        × IsSavedAs (slice_index_or stores.now n no_store) saved) }
+{
+    clear_bytes(bytes);
+    machine.store().save(bytes).ok()?;
+    let number = stores.number(bytes)?;
+    number_of(number).ok()
+}
+
+/// The number under which a machine's job is kept, if it is.
+fn find_job(parts: &Parts, machine: &Machine, job: usize) -> Option<u32>
+    requires { job < length machine.now.jobs }
+    ensures { IfSome result (λ n. IsNumberOf parts.now n machine.now.jobs job) }
+{
+    let number = parts.number(machine, job)?;
+    number_of(number).ok()
+}
+
+/// Puts the numbers under which a machine's jobs are kept after what is there, if they all are.
+fn find_jobs(parts: &Parts, machine: &Machine, numbers: &mut Vec<u32>) -> Option<()>
+    ensures { OnSome result ((more : List ℕ) × (numbers.new.items ≡ numbers.old.items ++ more)
+        × AreNumbersOf parts.now more machine.now.jobs) }
+{
+    for job in 0..machine.jobs() {
+        let number = find_job(parts, machine, job)?;
+        let Ok(()) = numbers.push(number) else {
+            return None;
+        };
+    }
+    Some(())
+}
+
+/// The numbers under which a machine's store and jobs are kept are written over the numbers, if they
+/// all are.
+fn find_machine(
+    machine: &Machine,
+    stores: &Stores,
+    parts: &Parts,
+    bytes: &mut Vec<u8>,
+    numbers: &mut Vec<u32>,
+) -> Option<()>
+    ensures { OnSome result (AreKeptUnder stores.now parts.now machine.now numbers.new.items) }
+{
+    clear_numbers(numbers);
+    let store = find_store(stores, machine, bytes)?;
+    let Ok(()) = numbers.push(store) else {
+        return None;
+    };
+    find_jobs(parts, machine, numbers)?;
+    Some(())
+}
+
 /// The numbers after the first.
 pub(crate) fn behind_first(numbers: &[u32]) -> &[u32]
     requires { 1 ≤ length numbers.now }
@@ -214,7 +270,7 @@ impl Model for Album {
     ghost use Rattle.std.specs.Prelude.{◌≡◌, ◌+◌, length};
     ghost use Rattle.bpf_explore.specs.Album.{AlbumState};
     ghost use Rattle.bpf_alike.specs.Worlds.{AreLiveTables, table_at};
-    ghost use Rattle.bpf_explore.specs.Private.Album.{Shelf, machines, IsShelf, FitsShelf};
+    ghost use Rattle.bpf_explore.specs.Private.Album.{Shelf, machines, stocked, IsShelf, FitsShelf};
 
     ghost Value = { AlbumState };
 
@@ -224,7 +280,12 @@ impl Model for Album {
       parts = a.parts;
       states = a.states;
     } in
-        record { machine = a.machine; kept = machines shelf a.states.count; cpus = a.shape.cpus } };
+        record {
+          machine = a.machine;
+          kept = machines shelf a.states.count;
+          cpus = a.shape.cpus;
+          stock = stocked a.shape shelf;
+        } };
 
     ghost invariant = { λ a. let shelf : Shelf = record {
       programs = a.machine.programs;
@@ -238,13 +299,13 @@ impl Model for Album {
 
 impl Album {
     ghost use Rattle.std.specs.Prelude.{◌≡◌, ◌<◌, ◌≤◌, ◌∷◌, ℕ, [], true, false, IfOk, OnOk, Some, None, length, replicate, slice_get};
-    ghost use Rattle.bpf_machine.specs.Machine.{Shows};
+    ghost use Rattle.bpf_machine.specs.Machine.{MachineState, Shows};
     ghost use Rattle.bpf_machine.specs.Schedule.{World, RunsSchedule, unrolled};
     ghost use Rattle.bpf_machine.specs.Cover.{TurnsTo, TurnsAhead};
     ghost use Rattle.bpf_machine.specs.Patient.{IsRefilled};
     ghost use Rattle.bpf_explore.specs.Search.{IsIdleAt};
     ghost use Rattle.bpf_explore.specs.Stores.{IsOfShape};
-    ghost use Rattle.bpf_explore.specs.Album.{ShowsFirst, IsKeptAlikeAt, AreApart, HaveEndedAt, NoneRanOutAt, HaveBudgets};
+    ghost use Rattle.bpf_explore.specs.Album.{ShowsFirst, IsKeptAlikeAt, AreApart, HaveEndedAt, NoneRanOutAt, HaveBudgets, AreKeptUnder, FitsStock, HasMore, IsNumbered};
     ghost use Rattle.bpf_explore.specs.Private.Album.{AddsOne};
 
     /// Nothing is kept yet.
@@ -302,6 +363,7 @@ impl Album {
         ensures ok { OnOk result (slice_get self.old.kept place ≡ Some self.new.machine) }
         ensures same { self.new.kept ≡ self.old.kept }
         ensures cpus { self.new.cpus ≡ self.old.cpus }
+        ensures stock { self.new.stock ≡ self.old.stock }
     {
         let tuple = self.states.tuple(place);
         let store = self.stores.store(tuple[0] as usize);
@@ -319,6 +381,7 @@ impl Album {
             × RunsSchedule w (cpu ∷ replicate result cpu) z × Shows self.new.machine z }
         ensures same { self.new.kept ≡ self.old.kept }
         ensures cpus { self.new.cpus ≡ self.old.cpus }
+        ensures stock { self.new.stock ≡ self.old.stock }
     {
         self.machine.turn_ahead(cpu)
     }
@@ -328,6 +391,7 @@ impl Album {
         ensures refills { IsRefilled self.old.machine cpu self.new.machine }
         ensures same { self.new.kept ≡ self.old.kept }
         ensures cpus { self.new.cpus ≡ self.old.cpus }
+        ensures stock { self.new.stock ≡ self.old.stock }
     {
         self.machine.refill(cpu);
     }
@@ -339,6 +403,7 @@ impl Album {
             × RunsSchedule w (unrolled runs.now) z × Shows self.new.machine z }
         ensures same { self.new.kept ≡ self.old.kept }
         ensures cpus { self.new.cpus ≡ self.old.cpus }
+        ensures stock { self.new.stock ≡ self.old.stock }
     {
         self.machine.turns_by(runs)
     }
@@ -351,6 +416,7 @@ impl Album {
         ensures adds { AddsOne self.old.kept self.old.machine self.new.kept }
         ensures same { self.new.machine ≡ self.old.machine }
         ensures cpus { self.new.cpus ≡ self.old.cpus }
+        ensures more { HasMore self.old.stock self.new.stock }
     {
         self.machine.stands();
         keep_machine(
@@ -369,6 +435,63 @@ impl Album {
             &self.numbers,
         )?;
         Ok(number)
+    }
+
+    /// Keeps the machine whose store and jobs are there under these numbers, as `keep` does. Under
+    /// which number.
+    pub(crate) fn keep_numbered(&mut self, numbers: &[u32]) -> Result<usize, AllocError>
+        requires { (m : MachineState) × IsNumbered self.old.stock m numbers.now }
+        ensures within { IfOk result (λ n. n < length self.new.kept) }
+        ensures kept { IfOk result (λ n. (m : MachineState) → IsNumbered self.old.stock m numbers.now
+            → IsKeptAlikeAt self.new.kept n m) }
+        ensures adds { (m : MachineState) → IsNumbered self.old.stock m numbers.now
+            → AddsOne self.old.kept m self.new.kept }
+        ensures same { self.new.machine ≡ self.old.machine }
+        ensures cpus { self.new.cpus ≡ self.old.cpus }
+        ensures stock { self.new.stock ≡ self.old.stock }
+    {
+        let number = self
+            .classes
+            .keep(self.alloc, &mut self.states, self.parts.jobs(), numbers)?;
+        Ok(number)
+    }
+
+    /// Has another machine of the same kind be a kept one.
+    pub(crate) fn look(&self, machine: &mut Machine, place: usize) -> Result<(), AllocError>
+        requires fits { FitsStock self.now.stock machine.old }
+        requires there { place < length self.now.kept }
+        ensures ok { OnOk result (slice_get self.now.kept place ≡ Some machine.new) }
+        ensures fits { FitsStock self.now.stock machine.new }
+    {
+        let tuple = self.states.tuple(place);
+        let store = self.stores.store(tuple[0] as usize);
+        let numbers = behind_first(tuple);
+        machine.restore(self.alloc, store, self.parts.jobs(), numbers)?;
+        Ok(())
+    }
+
+    /// The numbers under which the store and the jobs of another machine are there are written over
+    /// the numbers, if they all are. What the store is saved as is written over the bytes.
+    pub(crate) fn number(
+        &self,
+        machine: &Machine,
+        bytes: &mut Vec<u8>,
+        numbers: &mut Vec<u32>,
+    ) -> bool
+        requires { FitsStock self.now.stock machine.now }
+        ensures { result ≡ true
+            → AreKeptUnder self.now.stock.stores self.now.stock.parts machine.now numbers.new.items }
+    {
+        find_machine(machine, &self.stores, &self.parts, bytes, numbers).is_some()
+    }
+
+    /// Another machine of the same kind.
+    pub(crate) fn another(&self) -> Result<Machine, AllocError>
+        ensures { IfOk result (FitsStock self.now.stock) }
+    {
+        let store = new_store(self.alloc, &self.shape)?;
+        let machine = self.machine.another(self.alloc, store)?;
+        Ok(machine)
     }
 
     /// How many CPUs there are: those of the numbers below it.

@@ -148,9 +148,9 @@ impl Classes {
         is_like(&self.tables, parts, numbers, tuple)
     }
 
-    /// The number of a kept machine that has the same store, and jobs that are alike, if one is
-    /// found.
-    fn find(&self, parts: &[KeptJob], states: &Tuples, numbers: &[u32]) -> Option<usize>
+    /// The number of a kept machine of this hash that has the same store, and jobs that are alike, if
+    /// one is found.
+    fn find(&self, hash: u64, parts: &[KeptJob], states: &Tuples, numbers: &[u32]) -> Option<usize>
         requires some { 1 ≤ length numbers.now }
         requires within { All (λ n. n < length parts.now) (drop 1 numbers.now) }
         requires states { AreOfParts parts.now states.now }
@@ -158,7 +158,6 @@ impl Classes {
         ensures alike { IfSome result
             (λ n. IsAlikeTuple self.now parts.now numbers.now (tuple_at states.now n)) }
     {
-        let hash = self.hash_of(numbers);
         for step in 0..self.slots.len() {
             let slot = slot_of(&self.slots, hash, step);
             if slot == 0 {
@@ -172,13 +171,12 @@ impl Classes {
         None
     }
 
-    /// Has the last kept machine be found, whose store and jobs have these numbers.
-    fn add(&mut self, alloc: Global, states: &Tuples, numbers: &[u32]) -> Result<(), AllocError>
+    /// Has the last kept machine be found, which has this hash.
+    fn add(&mut self, alloc: Global, hash: u64, states: &Tuples) -> Result<(), AllocError>
         ensures { self.new ≡ self.old }
     {
         let count = states.count();
         if count < self.slots.len() / 2 {
-            let hash = self.hash_of(numbers);
             return note(&mut self.slots, hash, count.saturating_sub(1));
         }
         let mut slots = room_for(alloc, self.slots.len())?;
@@ -210,11 +208,12 @@ impl Classes {
             (λ n. IsAlikeTuple self.old parts.now numbers.now (tuple_at states.new n)) }
     {
         self.learn(parts)?;
-        if let Some(number) = self.find(parts, states, numbers) {
+        let hash = self.hash_of(numbers);
+        if let Some(number) = self.find(hash, parts, states, numbers) {
             return Ok(number);
         }
         let number = states.keep(alloc, numbers)?;
-        self.add(alloc, states, numbers)?;
+        self.add(alloc, hash, states)?;
         Ok(number)
     }
 }

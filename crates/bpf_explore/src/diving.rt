@@ -115,6 +115,7 @@ pub(crate) fn dive(
         → (z : World) × RunsSchedule w (unrolled by.items) z × Shows album.new.machine z) }
     ensures same { album.new.kept ≡ album.old.kept }
     ensures cpus { album.new.cpus ≡ album.old.cpus }
+    ensures stock { album.new.stock ≡ album.old.stock }
 {
     let mut by = Vec::new(alloc);
     for _ in 0..MOST_TURNS {

@@ -4,9 +4,11 @@ ghost use Rattle.std.specs.Prelude.{◌≡◌, ◌++◌, IfOk, OnOk, replicate, 
 ghost use Rattle.bpf_machine.specs.Schedule.{unrolled};
 
 use crate::album::{Album, number_of};
+use crate::crew::Crew;
 use crate::diving::{Course, dive};
 use crate::frontier::Frontier;
 use crate::room::bytes_of;
+use crate::scouts::Scouts;
 use bpf_alike::Merged;
 use bpf_machine::Machine;
 use bpf_shared::StoreShape;
@@ -56,18 +58,22 @@ pub struct Explorer {
     album: Album,
     /// Of each machine; that of the first isn't read.
     origins: Vec<Origin>,
+    scouts: Scouts,
 }
 
 impl Model for Explorer {
     ghost use Rattle.bpf_machine.specs.Schedule.{RunsSchedule};
+    ghost use Rattle.std.specs.Prelude.{false};
     ghost use Rattle.bpf_explore.specs.Album.{AlbumState};
+    ghost use Rattle.bpf_explore.specs.Scouts.{AreScouts};
     ghost use Rattle.bpf_explore.specs.Private.Trail.{AreOrigins};
 
     ghost Value = { AlbumState };
 
     ghost view = { λ e. e.album };
 
-    ghost invariant = { λ e. AreOrigins RunsSchedule e.album.kept e.origins.items };
+    ghost invariant = { λ e. AreOrigins RunsSchedule e.album.kept e.origins.items
+        × AreScouts false e.album.kept e.album.stock e.scouts.scouts.items };
 }
 
 impl Explorer {
@@ -75,6 +81,7 @@ impl Explorer {
     ghost use Rattle.bpf_machine.specs.Schedule.{unrolled};
     ghost use Rattle.bpf_explore.specs.Stores.{IsOfShape};
     ghost use Rattle.bpf_explore.specs.Album.{ShowsFirst, AreApart, AreLed, LeadsFrom, HaveEndedAt};
+    ghost use Rattle.bpf_explore.specs.Search.{Extends, IsTurned};
     ghost use Rattle.bpf_explore.specs.Private.Replays.{IsReplayed};
 
     /// A search of which the first machine is kept.
@@ -99,6 +106,7 @@ impl Explorer {
             alloc,
             album,
             origins,
+            scouts: Scouts::new(alloc),
         })
     }
 
@@ -165,6 +173,25 @@ impl Explorer {
         Ok(by)
     }
 
+    /// Makes a CPU's turn from a kept machine, and then the turns of it that no store sees. Keeps
+    /// where they led.
+    fn make(&mut self, place: usize, cpu: u8) -> Result<(), AllocError>
+        requires { place < length self.old.kept }
+        ensures turned { OnOk result (IsTurned false self.new.kept place cpu) }
+        ensures extends { Extends self.old.kept self.new.kept }
+        ensures width { self.new.cpus ≡ self.old.cpus }
+    {
+        let from = number_of(place)?;
+        self.album.restore(place)?;
+        let made = self.album.turn_ahead(cpu);
+        let ahead = turns_of(made)?;
+        self.origins.push(Origin { from, ahead, cpu })?;
+        let kept = self.album.keep();
+        self.origins.truncate(self.album.len());
+        kept?;
+        Ok(())
+    }
+
     /// A schedule leads to each of them.
     pub fn leads(&self)
         ensures { AreLed self.now.kept }
@@ -207,14 +234,22 @@ impl Frontier for Explorer {
     }
 
     fn turn(&mut self, place: usize, cpu: u8) -> Result<(), AllocError> {
+        if !self.album.has_work(place, cpu) {
+            return Ok(());
+        }
+        let Some(found) = self.scouts.find(place, cpu) else {
+            return self.make(place, cpu);
+        };
         let from = number_of(place)?;
-        self.album.restore(place)?;
-        let made = self.album.turn_ahead(cpu);
-        let ahead = turns_of(made)?;
+        let ahead = found.note.ahead;
         self.origins.push(Origin { from, ahead, cpu })?;
-        let kept = self.album.keep();
+        let kept = self.album.keep_numbered(self.scouts.numbers(&found));
         self.origins.truncate(self.album.len());
         kept?;
         Ok(())
+    }
+
+    fn prepare<C: Crew>(&mut self, crew: &C, place: usize) {
+        self.scouts.send(crew, &self.album, false, place);
     }
 }

@@ -16,6 +16,7 @@ ghost use Rattle.bpf_explore.specs.Private.Replays.{CanRunOut, NoneRunsOut};
 
 use crate::answers::{Answer, gather};
 use crate::budgets::{Budgets, judge_budgets};
+use crate::crew::Crew;
 use crate::dives::{dive_further, dive_patiently};
 use crate::explorer::Explorer;
 use crate::frontier::{Extent, explore};
@@ -96,20 +97,21 @@ fn conclude(
 /// Searches through all schedules of jobs over a new store whose maps, and then arrays, have these
 /// names, until no state is new, more are kept than the limit, or memory is refused to the search. Out
 /// of memory before or after it is the only refusal. The observer learns meanwhile how far it is.
-pub fn explore_jobs<O: Observer>(
+pub fn explore_jobs<C: Crew, O: Observer>(
     alloc: Global,
     setup: Setup,
     names: &Names,
     maps: bool,
-    scope: Scope,
+    scope: Scope<'_, C>,
     observer: &mut O,
 ) -> Result<Explored, AllocError>
-    requires { IsRunnable setup }
+    requires can { C.can }
+    requires setup { IsRunnable setup }
     ensures { IfOk result (λ e. IsExplored (first_of setup)
-        (names_of names.now) maps e.answers.items e.all e.refused scope.limit e.states) }
+        (names_of names.now) maps e.answers.items e.all e.refused scope.entry.limit e.states) }
 {
     let mut explorer = search_of(alloc, setup, scope.merged)?;
-    let extent = explore(&mut explorer, scope.limit, observer);
+    let extent = explore(&mut explorer, scope.crew, scope.limit, observer);
     conclude(alloc, &mut explorer, names, maps, extent)
 }
 
@@ -276,20 +278,21 @@ fn conclude_patiently(
 /// which is reported then. Besides, states from which no end can be reached, however many steps jobs
 /// are given, and whether some schedule uses a budget up. Out of memory before or after the search is
 /// the only refusal.
-pub fn search_patiently<O: Observer>(
+pub fn search_patiently<C: Crew, O: Observer>(
     alloc: Global,
     setup: Setup,
     names: &Names,
     maps: bool,
-    scope: Scope,
+    scope: Scope<'_, C>,
     observer: &mut O,
 ) -> Result<ExploredPatiently, AllocError>
-    requires { IsRunnable setup }
+    requires can { C.can }
+    requires setup { IsRunnable setup }
     ensures { IfOk result (λ e. IsSearchedPatiently (first_of setup)
-        (names_of names.now) maps e.answers.items e.all e.refused scope.limit e.states
+        (names_of names.now) maps e.answers.items e.all e.refused scope.entry.limit e.states
         e.hung.items e.budgets) }
 {
     let mut explorer = patient_search_of(alloc, setup, scope.merged)?;
-    let extent = explore(&mut explorer, scope.limit, observer);
+    let extent = explore(&mut explorer, scope.crew, scope.limit, observer);
     conclude_patiently(alloc, &mut explorer, names, maps, extent)
 }

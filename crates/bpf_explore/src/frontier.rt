@@ -4,6 +4,7 @@ ghost use Rattle.std.specs.Prelude.{◌≡◌, ◌<◌, ◌≤◌, ◌++◌, ◌
 ghost use Rattle.bpf_machine.specs.Machine.{MachineState};
 ghost use Rattle.bpf_explore.specs.Search.{IsTurned, IsExpanded, IsIdleAt, Extends, IsWhole, CoversAll, row_of, rows_of};
 
+use crate::crew::Crew;
 use crate::observer::{Observer, tell};
 use std::alloc::AllocError;
 
@@ -86,6 +87,15 @@ pub trait Frontier {
         ensures extends { Extends (kept self.old) (kept self.new) }
         ensures width { width self.new ≡ width self.old }
         ensures same { is_patient self.new ≡ is_patient self.old };
+
+    /// Has a crew make turns ahead, from this kept machine on, where that is worth it. It keeps
+    /// nothing: only `turn` does.
+    fn prepare<C: Crew>(&mut self, crew: &C, place: usize)
+        requires { C.can }
+        ensures kept { kept self.new ≡ kept self.old }
+        ensures made { (turns : List (ℕ × ℕ)) → has_made self.old turns → has_made self.new turns }
+        ensures width { width self.new ≡ width self.old }
+        ensures same { is_patient self.new ≡ is_patient self.old };
 }
 
 /// Makes the turn of each CPU from a kept machine.
@@ -106,6 +116,24 @@ fn expand<F: Frontier>(frontier: &mut F, place: usize) -> Result<(), AllocError>
     Ok(())
 }
 
+/// Makes the turn of each CPU from a kept machine, and has a crew make turns ahead before.
+fn advance<F: Frontier, C: Crew>(frontier: &mut F, crew: &C, place: usize) -> Result<(), AllocError>
+    requires can { C.can }
+    requires place { place < length (F.kept frontier.old) }
+    ensures expanded { OnOk result
+        (IsExpanded (F.is_patient frontier.new) (F.kept frontier.new) place) }
+    ensures made { OnOk result ((turns : List (ℕ × ℕ)) → F.has_made frontier.old turns
+        → F.has_made frontier.new (turns ++ row_of place (F.width frontier.old))) }
+    ensures refused { OnErr result (F.was_refused frontier.new) }
+    ensures extends { Extends (F.kept frontier.old) (F.kept frontier.new) }
+    ensures width { F.width frontier.new ≡ F.width frontier.old }
+    ensures same { F.is_patient frontier.new ≡ F.is_patient frontier.old }
+{
+    frontier.prepare(crew, place);
+    expand(frontier, place)?;
+    Ok(())
+}
+
 /// How far a search came that was refused memory, where n are kept.
 fn cut_short(count: usize, limit: usize) -> Extent
     ensures part { result ≡ Extent.Whole → ⊥ }
@@ -120,9 +148,15 @@ fn cut_short(count: usize, limit: usize) -> Extent
 }
 
 /// Makes the turn of each CPU from each kept machine, until nothing is new, more than `limit` are
-/// kept, or memory is refused. How far it came: what is kept so far stays. The observer learns of it
-/// meanwhile.
-pub fn explore<F: Frontier, O: Observer>(frontier: &mut F, limit: usize, observer: &mut O) -> Extent
+/// kept, or memory is refused. How far it came: what is kept so far stays. A crew may make turns ahead,
+/// and the observer learns of it meanwhile.
+pub fn explore<F: Frontier, C: Crew, O: Observer>(
+    frontier: &mut F,
+    crew: &C,
+    limit: usize,
+    observer: &mut O,
+) -> Extent
+    requires { C.can }
     ensures whole { result ≡ Extent.Whole
         → IsWhole (F.is_patient frontier.new) (F.kept frontier.new) }
     ensures covers { result ≡ Extent.Whole
@@ -142,7 +176,7 @@ pub fn explore<F: Frontier, O: Observer>(frontier: &mut F, limit: usize, observe
         if frontier.count() > limit {
             return Extent::Limited;
         }
-        let Ok(()) = expand(frontier, next) else {
+        let Ok(()) = advance(frontier, crew, next) else {
             return cut_short(frontier.count(), limit);
         };
         next += 1;

@@ -7,6 +7,7 @@ ghost use Rattle.bpf_jobs.specs.Printed.{first_of};
 ghost use Rattle.bpf_explore.specs.Album.{BeginsAt};
 ghost use Rattle.bpf_explore.specs.Stores.{IsOfShape};
 
+use crate::crew::Crew;
 use crate::explorer::Explorer;
 use crate::patient::PatientExplorer;
 use bpf_alike::Merged;
@@ -31,12 +32,13 @@ pub fn first_machine(alloc: Global, setup: Setup) -> Result<(StoreShape, Machine
     Ok((shape, machine))
 }
 
-/// How far a search goes, and which states it takes for one.
-#[derive(Clone, Copy, PartialEq, Eq, Debug)]
-pub struct Scope {
+/// How far a search goes, which states it takes for one, and who makes turns ahead of it.
+#[derive(Drop)]
+pub struct Scope<'a, C: Crew> {
     /// The search ends once more states than this are kept.
     pub limit: usize,
     pub merged: Merged,
+    pub crew: &'a C,
 }
 
 /// A search that begins with the machine of jobs. Out of memory is the only refusal.

@@ -103,6 +103,16 @@ impl Parts {
         None
     }
 
+    /// The number under which a machine's job is kept as it is, if it is.
+    pub fn number(&self, machine: &Machine, job: usize) -> Option<usize>
+        requires { job < length machine.now.jobs }
+        ensures within { IfSome result (λ n. n < length self.now) }
+        ensures same { IfSome result (λ n. slice_get machine.now.jobs job
+            ≡ Some (slice_index_or self.now n no_task)) }
+    {
+        self.find(machine.hash_of_job(job), machine, job)
+    }
+
     /// Makes more places where half of them are taken.
     fn widen(&mut self, alloc: Global) -> Result<(), AllocError>
         ensures { self.new ≡ self.old }

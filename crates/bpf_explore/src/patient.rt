@@ -2,10 +2,12 @@
 //! one, which has them all.
 
 use crate::album::{Album, number_of};
+use crate::crew::Crew;
 use crate::diving::{Course, dive};
 use crate::explorer::{Origin, push_turns, turns_of};
 use crate::frontier::Frontier;
 use crate::room::bytes_of;
+use crate::scouts::Scouts;
 use crate::turns::{Arrival, Turns, is_next};
 use bpf_alike::Merged;
 use bpf_machine::Machine;
@@ -25,12 +27,14 @@ pub struct PatientExplorer {
     origins: Vec<Origin>,
     /// In the order of their turns.
     arrivals: Vec<Arrival>,
+    scouts: Scouts,
 }
 
 impl Model for PatientExplorer {
-    ghost use Rattle.std.specs.Prelude.{map};
+    ghost use Rattle.std.specs.Prelude.{map, true};
     ghost use Rattle.bpf_machine.specs.Ends.{RunsFreely};
     ghost use Rattle.bpf_explore.specs.Album.{PatientState, HaveWholeBudgets};
+    ghost use Rattle.bpf_explore.specs.Scouts.{AreScouts};
     ghost use Rattle.bpf_explore.specs.Private.Trail.{AreOrigins};
     ghost use Rattle.bpf_explore.specs.Private.Edges.{AreEdges, edges_of, turn_of};
 
@@ -43,16 +47,17 @@ impl Model for PatientExplorer {
       made = map turn_of (edges_of e.album.cpus e.arrivals.items);
     } };
 
-    ghost invariant = { λ e. AreOrigins RunsFreely e.album.kept e.origins.items
+    ghost invariant = { λ e. (AreOrigins RunsFreely e.album.kept e.origins.items
         × AreEdges e.album.kept (edges_of e.album.cpus e.arrivals.items)
-        × HaveWholeBudgets e.album.kept };
+        × HaveWholeBudgets e.album.kept)
+        × AreScouts true e.album.kept e.album.stock e.scouts.scouts.items };
 }
 
 impl PatientExplorer {
-    ghost use Rattle.std.specs.Prelude.{◌≡◌, ◌<◌, ◌≤◌, ℕ, true, false, [], IfOk, OnOk, Some, None, length, slice_get};
+    ghost use Rattle.std.specs.Prelude.{◌≡◌, ◌<◌, ◌≤◌, ◌++◌, ◌∷◌, List, ℕ, true, false, [], IfOk, OnOk, Some, None, length, slice_get};
     ghost use Rattle.bpf_machine.specs.Machine.{Shows};
     ghost use Rattle.bpf_machine.specs.Schedule.{World, RunsSchedule, unrolled};
-    ghost use Rattle.bpf_explore.specs.Search.{IsIdleAt, rows_of};
+    ghost use Rattle.bpf_explore.specs.Search.{Extends, IsIdleAt, IsTurned, rows_of};
     ghost use Rattle.bpf_explore.specs.Stores.{IsOfShape};
     ghost use Rattle.bpf_explore.specs.Album.{ShowsFirst, AreApart, AreLedFreely, LeadsFreely, HaveEndedAt, NoneRanOutAt, HaveBudgets, HaveWholeBudgets};
     ghost use Rattle.bpf_explore.specs.Private.Edges.{AreTurns};
@@ -83,6 +88,7 @@ impl PatientExplorer {
             album,
             origins,
             arrivals: Vec::new(alloc),
+            scouts: Scouts::new(alloc),
         })
     }
 
@@ -204,6 +210,55 @@ impl PatientExplorer {
         Ok(by)
     }
 
+    /// Makes a CPU's turn from a kept machine, and then the turns of it that no store sees. Keeps
+    /// where they led.
+    fn make(&mut self, place: usize, cpu: u8) -> Result<(), AllocError>
+        requires { place < length self.old.kept }
+        ensures turned { OnOk result (IsTurned true self.new.kept place cpu) }
+        ensures made { OnOk result ((turns : List (ℕ × ℕ)) → self.old.made ≡ turns
+            → self.new.made ≡ turns ++ (place, cpu) ∷ []) }
+        ensures extends { Extends self.old.kept self.new.kept }
+        ensures width { self.new.cpus ≡ self.old.cpus }
+    {
+        let number = self.arrivals.len();
+        let cpus = self.album.cpus();
+        if !is_next(number, cpus, place, cpu) {
+            return Err(AllocError);
+        }
+        let from = number_of(place)?;
+        self.album.restore(place)?;
+        let made = self.album.turn_ahead(cpu);
+        let ahead = turns_of(made)?;
+        self.album.refill(cpu);
+        self.origins.push(Origin { from, ahead, cpu })?;
+        let kept = self.album.keep();
+        self.origins.truncate(self.album.len());
+        let number = kept?;
+        let to = number_of(number)?;
+        self.arrivals.push(Arrival { to, ahead })?;
+        Ok(())
+    }
+
+    /// Makes the turn of a CPU without work, which leads to the machine that it is made from.
+    fn stay(&mut self, place: usize, cpu: u8) -> Result<(), AllocError>
+        requires there { place < length self.old.kept }
+        requires idle { IsIdleAt self.old.kept place cpu }
+        ensures turned { OnOk result (IsTurned true self.new.kept place cpu) }
+        ensures made { OnOk result ((turns : List (ℕ × ℕ)) → self.old.made ≡ turns
+            → self.new.made ≡ turns ++ (place, cpu) ∷ []) }
+        ensures extends { Extends self.old.kept self.new.kept }
+        ensures width { self.new.cpus ≡ self.old.cpus }
+    {
+        let number = self.arrivals.len();
+        let cpus = self.album.cpus();
+        if !is_next(number, cpus, place, cpu) {
+            return Err(AllocError);
+        }
+        let to = number_of(place)?;
+        self.arrivals.push(Arrival { to, ahead: 0 })?;
+        Ok(())
+    }
+
     /// A schedule leads to each of them, where jobs are given steps on the way.
     pub fn leads(&self)
         ensures { AreLedFreely self.now.kept }
@@ -258,22 +313,29 @@ impl Frontier for PatientExplorer {
     }
 
     fn turn(&mut self, place: usize, cpu: u8) -> Result<(), AllocError> {
+        if !self.album.has_work(place, cpu) {
+            return self.stay(place, cpu);
+        }
+        let Some(found) = self.scouts.find(place, cpu) else {
+            return self.make(place, cpu);
+        };
         let number = self.arrivals.len();
         let cpus = self.album.cpus();
         if !is_next(number, cpus, place, cpu) {
             return Err(AllocError);
         }
         let from = number_of(place)?;
-        self.album.restore(place)?;
-        let made = self.album.turn_ahead(cpu);
-        let ahead = turns_of(made)?;
-        self.album.refill(cpu);
+        let ahead = found.note.ahead;
         self.origins.push(Origin { from, ahead, cpu })?;
-        let kept = self.album.keep();
+        let kept = self.album.keep_numbered(self.scouts.numbers(&found));
         self.origins.truncate(self.album.len());
         let number = kept?;
         let to = number_of(number)?;
         self.arrivals.push(Arrival { to, ahead })?;
         Ok(())
+    }
+
+    fn prepare<C: Crew>(&mut self, crew: &C, place: usize) {
+        self.scouts.send(crew, &self.album, true, place);
     }
 }

@@ -1,7 +1,7 @@
 //! Stores under numbers: one that looks like a kept one is found again.
 
 ghost use Rattle.std.specs.Prelude.{◌≡◌, ◌<◌, ◌++◌, ◌∷◌, ◌⊎◌, ℕ, List, [], true, false, IfOk, IfSome, IfNone, OnOk, OnErr, length, slice_index_or};
-ghost use Rattle.bpf_plain.specs.PlainStore.{IsSavedAs};
+ghost use Rattle.bpf_plain.specs.PlainStore.{IsMade, IsSavedAs};
 ghost use Rattle.bpf_explore.specs.Stores.{IsOfShape, no_store};
 ghost use Rattle.bpf_explore.specs.Private.Slots.{hash_of};
 ghost use Rattle.bpf_explore.specs.Private.Kept.{store_at, AreStoresApart, HoldsStores};
@@ -60,6 +60,14 @@ fn hash_of(bytes: &[u8]) -> u64
     bytes
         .iter()
         .fold(0, |hash: u64, byte| spread(hash ^ u64::from(*byte)))
+}
+
+/// A new store of this shape.
+pub(crate) fn new_store(alloc: Global, shape: &StoreShape) -> Result<PlainStore, AllocError>
+    ensures { IfOk result (IsMade shape.now) }
+{
+    let shape = copy_shape(alloc, shape)?;
+    PlainStore::new(alloc, shape).map_err(|_| AllocError)
 }
 
 /// A copy of a store of this shape.
@@ -186,6 +194,15 @@ impl Stores {
             }
         }
         None
+    }
+
+    /// The number of a store that is saved as these bytes, if it is kept.
+    pub fn number(&self, bytes: &[u8]) -> Option<usize>
+        ensures within { IfSome result (λ n. n < length self.now) }
+        ensures saved { IfSome result
+            (λ n. IsSavedAs (slice_index_or self.now n no_store) bytes.now) }
+    {
+        self.find(hash_of(bytes), bytes)
     }
 
     /// Makes more places where half of them are taken.

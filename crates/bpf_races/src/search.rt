@@ -16,7 +16,7 @@ use crate::sync::Part;
 use bpf_alike::Merged;
 use bpf_cpu::Setup;
 use bpf_explore::{
-    Explorer, Extent, Observer, PatientExplorer, Scope, explore, patient_search_of, search_of,
+    Crew, Explorer, Extent, Observer, PatientExplorer, Scope, explore, patient_search_of, search_of,
 };
 use bpf_plain::copy_shape;
 use bpf_shared::StoreShape;
@@ -119,38 +119,40 @@ fn conclude_patiently(
 /// the limit or memory is refused to the search, for races at bytes that aren't left out.
 /// Refused means out of memory before or after it; cases that never come count as such, but no
 /// contract rules them out. The observer learns meanwhile how far the search is.
-pub fn find_races<O: Observer>(
+pub fn find_races<C: Crew, O: Observer>(
     alloc: Global,
     setup: Setup,
     sync: &[Part],
-    scope: Scope,
+    scope: Scope<'_, C>,
     observer: &mut O,
 ) -> Result<Races, AllocError>
-    requires { IsRunnable setup }
+    requires crew { C.can }
+    requires runs { IsRunnable setup }
     ensures { IfOk result (λ r. AreRaces false (first_of setup) sync.now r.list.items r.all
-        r.refused scope.limit) }
+        r.refused scope.entry.limit) }
 {
     bpf_x86::firsts_fit(&setup.programs);
     let (mut watcher, mut explorer) = begin(alloc, setup, scope.merged)?;
-    let extent = explore(&mut explorer, scope.limit, observer);
+    let extent = explore(&mut explorer, scope.crew, scope.limit, observer);
     conclude(alloc, &mut explorer, &mut watcher, sync, extent)
 }
 
 /// Searches likewise through what schedules lead to while no job runs out of budget: machines that
 /// differ only in how many steps are left of budgets count as one.
-pub fn find_races_patiently<O: Observer>(
+pub fn find_races_patiently<C: Crew, O: Observer>(
     alloc: Global,
     setup: Setup,
     sync: &[Part],
-    scope: Scope,
+    scope: Scope<'_, C>,
     observer: &mut O,
 ) -> Result<Races, AllocError>
-    requires { IsRunnable setup }
+    requires crew { C.can }
+    requires runs { IsRunnable setup }
     ensures { IfOk result (λ r. AreRaces true (first_of setup) sync.now r.list.items r.all
-        r.refused scope.limit) }
+        r.refused scope.entry.limit) }
 {
     bpf_x86::firsts_fit(&setup.programs);
     let (mut watcher, mut explorer) = begin_patiently(alloc, setup, scope.merged)?;
-    let extent = explore(&mut explorer, scope.limit, observer);
+    let extent = explore(&mut explorer, scope.crew, scope.limit, observer);
     conclude_patiently(alloc, &mut explorer, &mut watcher, sync, extent)
 }

@@ -19,3 +19,4 @@ mod CheckedParts
 pub mod Replied
 pub mod OneText
 pub mod CheckedOnX86
+pub mod CheckedPatientlyOnX86

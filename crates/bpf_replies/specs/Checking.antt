@@ -1,5 +1,5 @@
 -- What `check` replies: whether a run file's outcomes are as its comments expect.
-use Rattle.std.specs.Prelude.{◌≡◌, ◌++◌, ◌||◌, ◌&&◌, not, ℕ, Bool, true, false, List, [], Option, None, Some, codes, if◌then◌else◌, string_bytes, unwrap_or}
+use Rattle.std.specs.Prelude.{◌≡◌, ◌++◌, ◌||◌, ℕ, Bool, true, false, List, [], Option, None, Some, codes, if◌then◌else◌, string_bytes, unwrap_or}
 use Rattle.std.specs.Fmt.{decimal}
 use Rattle.bpf_command.specs.declared.command.CheckOptions.{CheckOptions}
 use Rattle.bpf_check.specs.Expectation.{Expected, are_races_asked}
@@ -32,14 +32,13 @@ is_told conclusion.Untold = false
 
 -- ---- what is searched for: options go before what the comments of a file ask for
 
--- outcomes in which no budget is used up, where either asks for them; but not of CPUs with store buffers
+-- outcomes in which no budget is used up, where either asks for them
 abbrev pub is_patient : CheckOptions → (text : List ℕ) → Bool
-is_patient o text = not o.x86 && (o.search.patient || (settings_of text).patient)
+is_patient o text = o.search.patient || (settings_of text).patient
 
--- a limit that is given, else one that comments ask for, else the default; but that of CPUs with store
--- buffers none of theirs
+-- a limit that is given, else one that comments ask for, else the default
 abbrev pub limit_by : CheckOptions → Settings → ℕ
-limit_by o s = if o.limited || o.x86 then o.search.limit else unwrap_or s.limit o.search.limit
+limit_by o s = if o.limited then o.search.limit else unwrap_or s.limit o.search.limit
 
 abbrev pub limit_of : CheckOptions → (text : List ℕ) → ℕ
 limit_of o text = limit_by o (settings_of text)

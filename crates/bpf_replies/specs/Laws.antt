@@ -1,6 +1,6 @@
 -- What follows from the definitions: outcomes are determined, what is shown of them is seen again, and
 -- listings are assembled again.
-use Rattle.std.specs.Prelude.{◌≡◌, ◌↔◌, ℕ, ◌/◌, ◌++◌, false, true, Bool, List, Some, String, length, map, slice_get, string_bytes}
+use Rattle.std.specs.Prelude.{◌≡◌, ◌↔◌, ℕ, ◌/◌, ◌++◌, false, true, Bool, List, [], Ok, Some, String, length, map, slice_get, string_bytes}
 use Rattle.std.specs.declared.alloc.Global.{Global}
 use Rattle.bpf_insn.specs.declared.error.InsnError.TheVariants as insn_error
 use Rattle.bpf_loader.specs.declared.refusal.LoadError.TheVariants as load_error
@@ -11,17 +11,21 @@ use Rattle.bpf_names.specs.Names.{Names}
 use Rattle.bpf_machine.specs.Schedule.{World}
 use Rattle.bpf_explore.specs.Outcomes.{Found}
 use Rattle.bpf_reorderings.specs.Outcomes.{AreOutcomesX86, EndsByX86, HaveAllX86, IsOutcomeX86}
+use Rattle.bpf_reorderings.specs.Patient.{AreHungX86, ArePatientX86, EndsPatientlyX86, HangsByX86, HaveAllPatientX86, IsPatientOutcomeX86, NoneHangsX86}
 use Rattle.bpf_check.specs.Expectation.{Expected, asks_of_races}
 use Rattle.bpf_check.specs.Faults.{IsTrueFault, unexpected_fault}
 use Rattle.bpf_check.specs.Findings.{Findings}
-use Rattle.bpf_check.specs.Verdict.{IsTrueOf, verdict_of}
+use Rattle.bpf_check.specs.Verdict.{AreTrueEndsOf, AreTrueRaces, IsTrueAsked, IsTrueOf, ends_verdict, verdict_of}
 use Rattle.bpf_debug.specs.Laws.{HadMemory}
 use Rattle.bpf_debug.specs.Script.{answer_of}
+use Rattle.bpf_file.specs.File.{File}
+use Rattle.bpf_file.specs.Reading.{IsRunFile}
 use Rattle.bpf_replies.specs.Answer.{reply_text}
 use Rattle.bpf_replies.specs.Programs.{IsAssembled, IsDisassembled}
 use Rattle.bpf_replies.specs.Exploring.{AreAnswersTo, AreFoundBy, any_stopped_of, told_of}
 use Rattle.bpf_replies.specs.Listing.{word_lines}
-use Rattle.bpf_replies.specs.Reordering.{AreFoundOnX86}
+use Rattle.bpf_replies.specs.Reordering.{AreFindingsIn, AreFoundOnX86}
+use Rattle.bpf_replies.specs.Script.{first_world_of}
 use Rattle.bpf_replies.specs.Running.{IsBufferHistoryOfFile, IsHistoryOfFile, IsRunOfFile, IsRunWithBuffersOfFile}
 use Rattle.bpf_replies.specs.declared.input.InputError.TheVariants as input_error
 use Rattle.bpf_replies.specs.declared.refusal.Refusal.{Refusal}
@@ -132,4 +136,45 @@ FaultsOnX86AreTrue =
     → AreOutcomesX86 w names true f.answers
     → (f.all ≡ true → HaveAllX86 w names true f.answers)
     → IsTrueFault (IsOutcomeTextX86 w names) (EndsByX86 w names true) f expected
+    (unexpected_fault f expected)
+
+-- ---- of outcomes of CPUs with store buffers in which no job is out of budget
+
+-- this is printed of some
+abbrev pub IsPatientTextX86 : World → Names → List ℕ → Type 0
+IsPatientTextX86 w names text =
+    (stopped : Bool) × IsPatientOutcomeX86 w names true text stopped
+
+-- what a patient search through flushes promises of its findings
+pub record ArePatientFindingsX86 (w : World) (names : Names) (f : Findings) : Type 0 where
+  pub patient : f.patient ≡ true
+  pub outcomes : ArePatientX86 w names true f.answers
+  pub complete : f.all ≡ true → HaveAllPatientX86 w names true f.answers
+  pub are_hung : AreHungX86 w f.hung
+  pub none_hangs : f.all ≡ true → f.hung ≡ [] → NoneHangsX86 w
+
+-- what `check --x86 --patient` rests on is such, of the jobs that the text says
+abbrev pub TestsOnX86RestOnSearches : Type 0
+TestsOnX86RestOnSearches = (limit : ℕ) (text : List ℕ) (f : Findings)
+    → AreFindingsIn true true limit text f
+    → (file : File) × IsRunFile text (Ok file)
+    × ArePatientFindingsX86 (first_world_of file) file.names f
+
+-- THE LAW: whether each schedule of turns and flushes can end is so as the first test says. So is each other
+-- verdict, of outcomes, of ends and of what hangs, whether it is on what is expected of all CPUs, or of such
+-- alone, and of races by turns alone, where what was found of those is so
+abbrev pub PatientVerdictsOnX86AreTrue : Type 0
+PatientVerdictsOnX86AreTrue =
+    (w : World) (names : Names) (f : Findings) → ArePatientFindingsX86 w names f
+    → AreTrueEndsOf (NoneHangsX86 w) (HangsByX86 w) f (ends_verdict f)
+    × ((e : Expected) → (asks_of_races e.often e.line ≡ true → AreTrueRaces w f)
+    → IsTrueAsked w (NoneHangsX86 w) (HangsByX86 w) (IsPatientTextX86 w names)
+    (EndsPatientlyX86 w names true) f e (verdict_of f e))
+
+-- and what is said of a fault that isn't expected
+abbrev pub PatientFaultsOnX86AreTrue : Type 0
+PatientFaultsOnX86AreTrue =
+    (w : World) (names : Names) (f : Findings) (expected : List Expected)
+    → ArePatientFindingsX86 w names f
+    → IsTrueFault (IsPatientTextX86 w names) (EndsPatientlyX86 w names true) f expected
     (unexpected_fault f expected)

@@ -37,11 +37,17 @@ AreFoundOnX86 true text limit answers all states = (e : ExploredPatiently)
     × ArePatientAnswersOnX86 text limit e
     × (answers ≡ e.answers.items) × (all ≡ e.all) × (states ≡ e.states)
 
--- what tests rest on: of a search through flushes too where CPUs have store buffers, or of one through
--- turns alone
-abbrev pub AreFindingsIn : (x86 patient : Bool) → (limit : ℕ) → List ℕ → Findings → Type 0
-AreFindingsIn true patient limit text f = (f.patient ≡ false)
+-- what tests rest on, of either search through flushes
+abbrev pub AreFindingsOnX86 : (patient : Bool) → (limit : ℕ) → List ℕ → Findings → Type 0
+AreFindingsOnX86 false limit text f = (f.patient ≡ false)
     × AreFoundOnX86 false text limit f.answers f.all f.states
+AreFindingsOnX86 true limit text f = (f.patient ≡ true)
+    × ((e : ExploredPatiently) × ArePatientAnswersOnX86 text limit e
+    × (f.answers ≡ e.answers.items) × (f.all ≡ e.all) × (f.states ≡ e.states) × (f.hung ≡ e.hung.items))
+
+-- of a search through flushes too where CPUs have store buffers, or of one through turns alone
+abbrev pub AreFindingsIn : (x86 patient : Bool) → (limit : ℕ) → List ℕ → Findings → Type 0
+AreFindingsIn true patient limit text f = AreFindingsOnX86 patient limit text f
 AreFindingsIn false patient limit text f = AreFindingsBy patient limit text f
 
 -- what is printed of either search

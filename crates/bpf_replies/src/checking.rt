@@ -22,7 +22,7 @@ use bpf_check::{
     left_text, settings_of,
 };
 use bpf_command::{CheckOptions, SearchOptions};
-use bpf_explore::Observer;
+use bpf_explore::{Crew, Observer};
 use bpf_threads::{Threads, push_notes};
 use std::alloc::{AllocError, Global};
 
@@ -50,12 +50,12 @@ pub(crate) fn reading_of(patient: bool, x86: bool, lenient: bool) -> Reading
     }
 }
 
-/// The limit of options, or else that which a file's comments ask for; these speak of no store buffers.
+/// The limit of options, or else that which a file's comments ask for.
 fn limit_by(options: &CheckOptions, asked: Settings) -> u64
     ensures value { result ≡ limit_by options.now asked }
     ensures bound { IfSome asked.limit (λ n. n ≤ MOST_STATES) → result ≤ MAX_LIMIT }
 {
-    if options.limited || options.x86 {
+    if options.limited {
         options.search.limit
     } else {
         asked.limit.unwrap_or(options.search.limit)
@@ -75,9 +75,10 @@ fn search_for(
     let asked = settings_of(alloc, text.as_bytes())?;
     Ok(SearchOptions {
         limit: limit_by(options, asked),
-        patient: !options.x86 && (options.search.patient || asked.patient),
+        patient: options.search.patient || asked.patient,
         progress: options.search.progress,
         all_states: options.search.all_states,
+        workers: options.search.workers,
     })
 }
 
@@ -113,31 +114,35 @@ pub(crate) struct Grounds {
 }
 
 /// What is found of data races, where some expectation asks of them.
-fn races_for<D: Racer, O: Observer>(
+fn races_for<D: Racer, C: Crew, O: Observer>(
     alloc: Global,
     expected: &[Expectation],
     options: &SearchOptions,
     text: &str,
+    crew: &C,
     observer: &mut O,
 ) -> Result<Raced, Refusal>
+    requires crew { C.can }
     ensures found { IfOk result (λ raced. are_races_asked expected.now ≡ true
         → D.finds options.now.patient options.now.limit text.now raced) }
     ensures refused { IfErr result (RefusesFile text.now) }
 {
     if are_races_asked(expected) {
-        D::races(alloc, options, text, observer)
+        D::races(alloc, options, text, crew, observer)
     } else {
         Ok(Raced::none(alloc))
     }
 }
 
 /// What the tests of a text rest on, or why there are none.
-pub(crate) fn grounds_in<D: Racer, O: Observer>(
+pub(crate) fn grounds_in<D: Racer, C: Crew, O: Observer>(
     alloc: Global,
     options: &CheckOptions,
     text: &str,
+    crew: &C,
     observer: &mut O,
 ) -> Result<Grounds, Refusal>
+    requires crew { C.can }
     ensures expected { IfOk result (λ grounds.
         IsExpectedIn (reading_by options.now text.now) text.now grounds.expected.items) }
     ensures lines { IfOk result (λ grounds.
@@ -153,12 +158,12 @@ pub(crate) fn grounds_in<D: Racer, O: Observer>(
     let expected = expected_in(alloc, reading, text)?;
     let lines = lines_in(alloc, reading, options.lines, text)?;
     let notes = notes_in(alloc, reading, text)?;
-    let raced = races_for::<D, O>(alloc, &expected, &search, text, observer)?;
+    let raced = races_for::<D, C, O>(alloc, &expected, &search, text, crew, observer)?;
     let sought = Sought {
         search: &search,
         x86: options.x86,
     };
-    let findings = findings_by(alloc, sought, raced, text, observer)?;
+    let findings = findings_by(alloc, sought, raced, text, crew, observer)?;
     Ok(Grounds {
         expected,
         lines,
@@ -209,15 +214,17 @@ pub(crate) fn with_head(
 }
 
 /// `ebpf check`.
-pub fn check_file<D: Racer, O: Observer>(
+pub fn check_file<D: Racer, C: Crew, O: Observer>(
     alloc: Global,
     options: &CheckOptions,
     text: &str,
+    crew: &C,
     observer: &mut O,
 ) -> Result<Reply, Refusal>
+    requires crew { C.can }
     ensures { Replies (IsCheckedFile D.finds options.now text.now) result }
 {
-    let grounds = grounds_in::<D, O>(alloc, options, text, observer)?;
+    let grounds = grounds_in::<D, C, O>(alloc, options, text, crew, observer)?;
     let asked = Asked {
         expected: &grounds.expected,
         lines: &grounds.lines,

@@ -19,7 +19,7 @@ use bpf_alike::Merged;
 use bpf_check::{Findings, Raced};
 use bpf_command::SearchOptions;
 use bpf_explore::{
-    Explored, ExploredPatiently, Hung, Observer, Scope, explore_jobs, is_any_stopped,
+    Crew, Explored, ExploredPatiently, Hung, Observer, Scope, explore_jobs, is_any_stopped,
     list_explored, list_patient, push_last, search_patiently,
 };
 use bpf_file::RunFile;
@@ -28,7 +28,7 @@ use std::alloc::{AllocError, Global};
 
 /// Which states a search takes for one: where all are to be kept, those that are the same, else those
 /// that differ only in registers that are written before they are read.
-fn merged_by(all_states: bool) -> Merged
+pub(crate) fn merged_by(all_states: bool) -> Merged
     ensures { result ≡ (if all_states then Merged.Same else Merged.Alike) }
 {
     if all_states {
@@ -38,8 +38,8 @@ fn merged_by(all_states: bool) -> Merged
     }
 }
 
-/// How far a search goes by its options, and which states it takes for one.
-pub fn scope_of(options: &SearchOptions) -> Scope
+/// How far a search goes by its options, and which states it takes for one, with this crew.
+pub fn scope_of<'a, C: Crew>(options: &SearchOptions, crew: &'a C) -> Scope<'a, C>
     ensures limit { result.limit ≡ options.now.limit }
     ensures merged { result.merged
         ≡ (if options.now.all_states then Merged.Same else Merged.Alike) }
@@ -47,34 +47,37 @@ pub fn scope_of(options: &SearchOptions) -> Scope
     Scope {
         limit: options.limit as usize,
         merged: merged_by(options.all_states),
+        crew,
     }
 }
 
 /// Searches through all schedules of a file's jobs, and prints the maps too.
-fn explore<O: Observer>(
+fn explore<C: Crew, O: Observer>(
     alloc: Global,
     file: RunFile,
-    scope: Scope,
+    scope: Scope<'_, C>,
     observer: &mut O,
 ) -> Result<Explored, AllocError>
-    requires { IsRunnable file.setup }
+    requires crew { C.can }
+    requires runs { IsRunnable file.setup }
     ensures { IfOk result (λ e. IsExplored (first_world_of (file_of file)) (file_of file).names true
-        e.answers.items e.all e.refused scope.limit e.states) }
+        e.answers.items e.all e.refused scope.entry.limit e.states) }
 {
     let RunFile { setup, names, .. } = file;
     explore_jobs(alloc, setup, &names, true, scope, observer)
 }
 
 /// Searches through all schedules of a file's jobs, but for how many steps are left of budgets.
-fn explore_patient<O: Observer>(
+fn explore_patient<C: Crew, O: Observer>(
     alloc: Global,
     file: RunFile,
-    scope: Scope,
+    scope: Scope<'_, C>,
     observer: &mut O,
 ) -> Result<ExploredPatiently, AllocError>
-    requires { IsRunnable file.setup }
+    requires crew { C.can }
+    requires runs { IsRunnable file.setup }
     ensures { IfOk result (λ e. IsSearchedPatiently (first_world_of (file_of file))
-        (file_of file).names true e.answers.items e.all e.refused scope.limit e.states
+        (file_of file).names true e.answers.items e.all e.refused scope.entry.limit e.states
         e.hung.items e.budgets) }
 {
     let RunFile { setup, names, .. } = file;
@@ -82,13 +85,14 @@ fn explore_patient<O: Observer>(
 }
 
 /// What a search through all schedules of the jobs that a text says finds.
-fn explored_in<O: Observer>(
+fn explored_in<C: Crew, O: Observer>(
     alloc: Global,
-    scope: Scope,
+    scope: Scope<'_, C>,
     text: &str,
     observer: &mut O,
 ) -> Result<Explored, Refusal>
-    ensures found { IfOk result (λ e. AreAnswersTo text.now e.answers.items e.all scope.limit
+    requires crew { C.can }
+    ensures found { IfOk result (λ e. AreAnswersTo text.now e.answers.items e.all scope.entry.limit
         e.states) }
     ensures refused { IfErr result (RefusesFile text.now) }
 {
@@ -98,14 +102,15 @@ fn explored_in<O: Observer>(
 }
 
 /// What a patient search finds.
-fn patient_in<O: Observer>(
+fn patient_in<C: Crew, O: Observer>(
     alloc: Global,
-    scope: Scope,
+    scope: Scope<'_, C>,
     text: &str,
     observer: &mut O,
 ) -> Result<ExploredPatiently, Refusal>
+    requires crew { C.can }
     ensures found { IfOk result (λ e. ArePatientAnswersTo text.now e.answers.items e.all
-        scope.limit e.states e.hung.items e.budgets) }
+        scope.entry.limit e.states e.hung.items e.budgets) }
     ensures refused { IfErr result (RefusesFile text.now) }
 {
     let file = file_in(alloc, text)?;
@@ -114,17 +119,19 @@ fn patient_in<O: Observer>(
 }
 
 /// The outcomes of either search.
-fn found_in<O: Observer>(
+fn found_in<C: Crew, O: Observer>(
     alloc: Global,
     options: SearchOptions,
     text: &str,
+    crew: &C,
     observer: &mut O,
 ) -> Result<Explored, Refusal>
+    requires crew { C.can }
     ensures found { IfOk result (λ e. AreFoundBy options.patient text.now e.answers.items e.all
         options.limit e.states) }
     ensures refused { IfErr result (RefusesFile text.now) }
 {
-    let scope = scope_of(&options);
+    let scope = scope_of(&options, crew);
     if !options.patient {
         return explored_in(alloc, scope, text, observer);
     }
@@ -144,19 +151,21 @@ fn found_in<O: Observer>(
 }
 
 /// What either search found, as far as tests rest on it, beside what was found of races.
-pub(crate) fn findings_in<O: Observer>(
+pub(crate) fn findings_in<C: Crew, O: Observer>(
     alloc: Global,
     options: &SearchOptions,
     raced: Raced,
     text: &str,
+    crew: &C,
     observer: &mut O,
 ) -> Result<Findings, Refusal>
+    requires crew { C.can }
     ensures found { IfOk result
         (AreFindingsBy options.now.patient options.now.limit text.now) }
     ensures raced { IfOk result (λ f. f.raced ≡ raced) }
     ensures refused { IfErr result (RefusesFile text.now) }
 {
-    let scope = scope_of(options);
+    let scope = scope_of(options, crew);
     if !options.patient {
         let explored = explored_in(alloc, scope, text, observer)?;
         return Ok(Findings::new(alloc, explored, raced));
@@ -166,13 +175,14 @@ pub(crate) fn findings_in<O: Observer>(
 }
 
 /// `ebpf explore` of all outcomes.
-fn explore_all<O: Observer>(
+fn explore_all<C: Crew, O: Observer>(
     alloc: Global,
-    scope: Scope,
+    scope: Scope<'_, C>,
     text: &str,
     observer: &mut O,
 ) -> Result<Reply, Refusal>
-    ensures { Replies (IsExploredFile false scope.limit text.now) result }
+    requires crew { C.can }
+    ensures { Replies (IsExploredFile false scope.entry.limit text.now) result }
 {
     let threads = threads_in(alloc, text)?;
     let explored = explored_in(alloc, scope, text, observer)?;
@@ -200,13 +210,14 @@ pub(crate) fn is_stopped(explored: &ExploredPatiently) -> bool
 }
 
 /// `ebpf explore --patient`.
-fn explore_patiently<O: Observer>(
+fn explore_patiently<C: Crew, O: Observer>(
     alloc: Global,
-    scope: Scope,
+    scope: Scope<'_, C>,
     text: &str,
     observer: &mut O,
 ) -> Result<Reply, Refusal>
-    ensures { Replies (IsExploredFile true scope.limit text.now) result }
+    requires crew { C.can }
+    ensures { Replies (IsExploredFile true scope.entry.limit text.now) result }
 {
     let threads = threads_in(alloc, text)?;
     let explored = patient_in(alloc, scope, text, observer)?;
@@ -219,15 +230,17 @@ fn explore_patiently<O: Observer>(
 }
 
 /// `ebpf explore`.
-pub fn explore_file<O: Observer>(
+pub fn explore_file<C: Crew, O: Observer>(
     alloc: Global,
     options: SearchOptions,
     text: &str,
+    crew: &C,
     observer: &mut O,
 ) -> Result<Reply, Refusal>
+    requires crew { C.can }
     ensures { Replies (IsExploredFile options.patient options.limit text.now) result }
 {
-    let scope = scope_of(&options);
+    let scope = scope_of(&options, crew);
     if options.patient {
         explore_patiently(alloc, scope, text, observer)
     } else {
@@ -293,17 +306,19 @@ fn show_by(
 
 /// `ebpf explore --show`: all that happens on the way to the outcome of this number, counted from 1.
 /// Where memory was refused to the search the number may be another outcome's, so that is a refusal.
-pub fn show_file<O: Observer>(
+pub fn show_file<C: Crew, O: Observer>(
     alloc: Global,
     options: SearchOptions,
     outcome: u64,
     text: &str,
+    crew: &C,
     observer: &mut O,
 ) -> Result<Reply, Refusal>
-    requires { 0 < outcome }
+    requires crew { C.can }
+    requires counted { 0 < outcome }
     ensures { Replies (IsShownFile options.patient options.limit outcome text.now) result }
 {
-    let explored = found_in(alloc, options, text, observer)?;
+    let explored = found_in(alloc, options, text, crew, observer)?;
     if explored.refused {
         return Err(Refusal::OutOfMemory);
     }

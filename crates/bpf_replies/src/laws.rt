@@ -1,7 +1,7 @@
 //! What follows from the definitions of replies.
 //!
 //! These functions do nothing: their contracts are the laws.
-ghost use Rattle.bpf_replies.specs.Laws.{FaultsOnX86AreTrue, ListedWordsAreAnswered, ListingsAreAnsweredAlike, OutcomesAreDetermined, ShownAreFound, ShownOnX86AreFound, VerdictsOnX86AreTrue, WitnessesAreSeenAgain, WitnessesOnX86AreSeenAgain};
+ghost use Rattle.bpf_replies.specs.Laws.{FaultsOnX86AreTrue, ListedWordsAreAnswered, ListingsAreAnsweredAlike, OutcomesAreDetermined, PatientFaultsOnX86AreTrue, PatientVerdictsOnX86AreTrue, ShownAreFound, ShownOnX86AreFound, TestsOnX86RestOnSearches, VerdictsOnX86AreTrue, WitnessesAreSeenAgain, WitnessesOnX86AreSeenAgain};
 
 /// Searches of one input that both found all outcomes print the same of them, in the same order.
 pub fn outcomes_are_determined()
@@ -74,4 +74,20 @@ pub fn verdicts_on_x86_are_true()
 /// So is what is said of a fault that isn't expected.
 pub fn faults_on_x86_are_true()
     ensures { FaultsOnX86AreTrue }
+{}
+
+/// What tests of a patient search with store buffers rest on is what such a search promises.
+pub fn tests_on_x86_rest_on_searches()
+    ensures { TestsOnX86RestOnSearches }
+{}
+
+/// Whether each schedule of turns and flushes can end is so as the first test says, and each other verdict by
+/// answers of a patient search with store buffers is true.
+pub fn patient_verdicts_on_x86_are_true()
+    ensures { PatientVerdictsOnX86AreTrue }
+{}
+
+/// So is what is said of a fault that isn't expected.
+pub fn patient_faults_on_x86_are_true()
+    ensures { PatientFaultsOnX86AreTrue }
 {}

@@ -7,7 +7,7 @@ ghost use Rattle.bpf_replies.specs.Running.{RefusesFile};
 use crate::refusal::Refusal;
 use bpf_check::Raced;
 use bpf_command::SearchOptions;
-use bpf_explore::Observer;
+use bpf_explore::{Crew, Observer};
 use std::alloc::Global;
 
 /// Finds the data races of run files.
@@ -16,12 +16,14 @@ pub trait Racer {
     ghost finds: { (patient : Bool) → (limit : ℕ) → (text : List ℕ) → Raced → Type 0 };
 
     /// The races of the jobs that a text says.
-    fn races<O: Observer>(
+    fn races<C: Crew, O: Observer>(
         alloc: Global,
         options: &SearchOptions,
         text: &str,
+        crew: &C,
         observer: &mut O,
     ) -> Result<Raced, Refusal>
+        requires crew { C.can }
         ensures found { IfOk result (finds options.now.patient options.now.limit text.now) }
         ensures refused { IfErr result (RefusesFile text.now) };
 }

@@ -8,11 +8,11 @@ ghost use Rattle.bpf_reorderings.specs.Outcomes.{IsExploredX86};
 ghost use Rattle.bpf_reorderings.specs.Patient.{IsExploredPatientlyX86};
 ghost use Rattle.bpf_replies.specs.Answer.{Replies};
 ghost use Rattle.bpf_replies.specs.Exploring.{IsShownBy};
-ghost use Rattle.bpf_replies.specs.Reordering.{AreAnswersOnX86, AreFindingsIn, AreFoundOnX86, ArePatientAnswersOnX86, IsExploredFileOnX86, IsShownFileOnX86};
+ghost use Rattle.bpf_replies.specs.Reordering.{AreAnswersOnX86, AreFindingsIn, AreFindingsOnX86, AreFoundOnX86, ArePatientAnswersOnX86, IsExploredFileOnX86, IsShownFileOnX86};
 ghost use Rattle.bpf_replies.specs.Running.{IsBufferHistory, RefusesFile};
 ghost use Rattle.bpf_replies.specs.Script.{first_world_of};
 
-use crate::exploring::{findings_in, is_stopped, missing, with_last};
+use crate::exploring::{findings_in, is_stopped, merged_by, missing, with_last};
 use crate::refusal::Refusal;
 use crate::reply::Reply;
 use crate::running::{buffer_history_by, file_in};
@@ -20,40 +20,50 @@ use crate::threading::threads_in;
 use bpf_check::{Findings, Raced};
 use bpf_command::SearchOptions;
 use bpf_explore::{
-    Explored, ExploredPatiently, Observer, is_any_stopped, list_explored, list_patient,
+    Crew, Explored, ExploredPatiently, Observer, is_any_stopped, list_explored, list_patient,
 };
 use bpf_file::RunFile;
 use bpf_jobs::Report;
-use bpf_reorderings::{explore_patiently_with_buffers, explore_with_buffers};
+use bpf_reorderings::{Bounds, explore_patiently_with_buffers, explore_with_buffers};
 use std::alloc::{AllocError, Global};
+
+/// How far a search goes by its options, and which states it takes for one.
+fn bounds_of(options: &SearchOptions) -> Bounds
+    ensures { result.limit ≡ options.now.limit }
+{
+    Bounds {
+        limit: options.limit as usize,
+        merged: merged_by(options.all_states),
+    }
+}
 
 /// Searches through all schedules of turns and flushes of a file's jobs, and prints the maps too.
 fn explore<O: Observer>(
     alloc: Global,
     file: RunFile,
-    limit: usize,
+    bounds: Bounds,
     observer: &mut O,
 ) -> Result<Explored, AllocError>
     requires { IsRunnable file.setup }
     ensures { IfOk result
-        (IsExploredX86 (first_world_of (file_of file)) (file_of file).names true limit) }
+        (IsExploredX86 (first_world_of (file_of file)) (file_of file).names true bounds.limit) }
 {
     let RunFile { setup, names, .. } = file;
-    explore_with_buffers(alloc, setup, &names, true, limit, observer)
+    explore_with_buffers(alloc, setup, &names, true, bounds, observer)
 }
 
 /// What a search through all schedules of turns and flushes of the jobs that a text says finds.
 fn explored_in<O: Observer>(
     alloc: Global,
-    limit: u64,
+    options: &SearchOptions,
     text: &str,
     observer: &mut O,
 ) -> Result<Explored, Refusal>
-    ensures found { IfOk result (AreAnswersOnX86 text.now limit) }
+    ensures found { IfOk result (AreAnswersOnX86 text.now options.now.limit) }
     ensures refused { IfErr result (RefusesFile text.now) }
 {
     let file = file_in(alloc, text)?;
-    let explored = explore(alloc, file, limit as usize, observer)?;
+    let explored = explore(alloc, file, bounds_of(options), observer)?;
     Ok(explored)
 }
 
@@ -62,29 +72,29 @@ fn explored_in<O: Observer>(
 fn explore_patient<O: Observer>(
     alloc: Global,
     file: RunFile,
-    limit: usize,
+    bounds: Bounds,
     observer: &mut O,
 ) -> Result<ExploredPatiently, AllocError>
     requires { IsRunnable file.setup }
     ensures { IfOk result (IsExploredPatientlyX86 (first_world_of (file_of file))
-        (file_of file).names true limit) }
+        (file_of file).names true bounds.limit) }
 {
     let RunFile { setup, names, .. } = file;
-    explore_patiently_with_buffers(alloc, setup, &names, true, limit, observer)
+    explore_patiently_with_buffers(alloc, setup, &names, true, bounds, observer)
 }
 
 /// What a patient search finds.
 fn patient_in<O: Observer>(
     alloc: Global,
-    limit: u64,
+    options: &SearchOptions,
     text: &str,
     observer: &mut O,
 ) -> Result<ExploredPatiently, Refusal>
-    ensures found { IfOk result (ArePatientAnswersOnX86 text.now limit) }
+    ensures found { IfOk result (ArePatientAnswersOnX86 text.now options.now.limit) }
     ensures refused { IfErr result (RefusesFile text.now) }
 {
     let file = file_in(alloc, text)?;
-    let explored = explore_patient(alloc, file, limit as usize, observer)?;
+    let explored = explore_patient(alloc, file, bounds_of(options), observer)?;
     Ok(explored)
 }
 
@@ -100,7 +110,7 @@ fn found_in<O: Observer>(
     ensures refused { IfErr result (RefusesFile text.now) }
 {
     if !options.patient {
-        return explored_in(alloc, options.limit, text, observer);
+        return explored_in(alloc, options, text, observer);
     }
     let ExploredPatiently {
         answers,
@@ -108,7 +118,7 @@ fn found_in<O: Observer>(
         refused,
         states,
         ..
-    } = patient_in(alloc, options.limit, text, observer)?;
+    } = patient_in(alloc, options, text, observer)?;
     Ok(Explored {
         answers,
         all,
@@ -124,39 +134,62 @@ pub(crate) struct Sought<'a> {
     pub x86: bool,
 }
 
-/// What a search found, as far as tests rest on it, beside what was found of races: one through flushes
-/// too, where CPUs have store buffers.
-pub(crate) fn findings_by<O: Observer>(
+/// What either search found, as far as tests rest on it, beside what was found of races.
+fn findings_with_buffers<O: Observer>(
     alloc: Global,
-    sought: Sought<'_>,
+    options: &SearchOptions,
     raced: Raced,
     text: &str,
     observer: &mut O,
 ) -> Result<Findings, Refusal>
+    ensures found { IfOk result
+        (AreFindingsOnX86 options.now.patient options.now.limit text.now) }
+    ensures raced { IfOk result (λ f. f.raced ≡ raced) }
+    ensures refused { IfErr result (RefusesFile text.now) }
+{
+    if !options.patient {
+        let explored = explored_in(alloc, options, text, observer)?;
+        return Ok(Findings::new(alloc, explored, raced));
+    }
+    let explored = patient_in(alloc, options, text, observer)?;
+    Ok(Findings::patient(explored, raced))
+}
+
+/// What a search found, as far as tests rest on it, beside what was found of races: one through flushes
+/// too, where CPUs have store buffers.
+pub(crate) fn findings_by<C: Crew, O: Observer>(
+    alloc: Global,
+    sought: Sought<'_>,
+    raced: Raced,
+    text: &str,
+    crew: &C,
+    observer: &mut O,
+) -> Result<Findings, Refusal>
+    requires crew { C.can }
     ensures found { IfOk result
         (AreFindingsIn sought.entry.x86 sought.entry.search.now.patient
         sought.entry.search.now.limit text.now) }
     ensures raced { IfOk result (λ f. f.raced ≡ raced) }
     ensures refused { IfErr result (RefusesFile text.now) }
 {
-    if !sought.x86 {
-        return findings_in(alloc, sought.search, raced, text, observer);
+    if sought.x86 {
+        findings_with_buffers(alloc, sought.search, raced, text, observer)
+    } else {
+        findings_in(alloc, sought.search, raced, text, crew, observer)
     }
-    let explored = explored_in(alloc, sought.search.limit, text, observer)?;
-    Ok(Findings::new(alloc, explored, raced))
 }
 
 /// `ebpf explore --x86` of all outcomes.
 fn explore_all<O: Observer>(
     alloc: Global,
-    limit: u64,
+    options: &SearchOptions,
     text: &str,
     observer: &mut O,
 ) -> Result<Reply, Refusal>
-    ensures { Replies (IsExploredFileOnX86 false limit text.now) result }
+    ensures { Replies (IsExploredFileOnX86 false options.now.limit text.now) result }
 {
     let threads = threads_in(alloc, text)?;
-    let explored = explored_in(alloc, limit, text, observer)?;
+    let explored = explored_in(alloc, options, text, observer)?;
     let text = list_explored(alloc, &explored, threads)?;
     Ok(Reply::Outcomes {
         text,
@@ -168,14 +201,14 @@ fn explore_all<O: Observer>(
 /// `ebpf explore --x86 --patient`.
 fn explore_patiently<O: Observer>(
     alloc: Global,
-    limit: u64,
+    options: &SearchOptions,
     text: &str,
     observer: &mut O,
 ) -> Result<Reply, Refusal>
-    ensures { Replies (IsExploredFileOnX86 true limit text.now) result }
+    ensures { Replies (IsExploredFileOnX86 true options.now.limit text.now) result }
 {
     let threads = threads_in(alloc, text)?;
-    let explored = patient_in(alloc, limit, text, observer)?;
+    let explored = patient_in(alloc, options, text, observer)?;
     let text = list_patient(alloc, &explored, threads)?;
     Ok(Reply::Outcomes {
         text,
@@ -194,9 +227,9 @@ pub fn explore_file_with_buffers<O: Observer>(
     ensures { Replies (IsExploredFileOnX86 options.now.patient options.now.limit text.now) result }
 {
     if options.patient {
-        explore_patiently(alloc, options.limit, text, observer)
+        explore_patiently(alloc, options, text, observer)
     } else {
-        explore_all(alloc, options.limit, text, observer)
+        explore_all(alloc, options, text, observer)
     }
 }
 

@@ -14,7 +14,7 @@ use crate::reply::Reply;
 use crate::stream::Source;
 use bpf_check::{Asked, CheckedPart, check_named, plan};
 use bpf_command::CheckOptions;
-use bpf_explore::Observer;
+use bpf_explore::{Crew, Observer};
 use std::alloc::{AllocError, Global};
 
 /// What is printed of a file among several.
@@ -44,18 +44,20 @@ fn refused_part(alloc: Global, name: &str, refusal: Refusal) -> Result<FilePart,
 }
 
 /// The tests of a text, after the n tests of the files before it, or its first refusal.
-fn text_part<D: Racer, O: Observer>(
+fn text_part<D: Racer, C: Crew, O: Observer>(
     alloc: Global,
     options: &CheckOptions,
     name: &str,
     before: usize,
     text: &str,
+    crew: &C,
     observer: &mut O,
 ) -> Result<FilePart, AllocError>
+    requires crew { C.can }
     ensures { IfOk result (λ p.
         IsTextPart D.finds options.now name.now before text.now (seen p)) }
 {
-    let grounds = match grounds_in::<D, O>(alloc, options, text, observer) {
+    let grounds = match grounds_in::<D, C, O>(alloc, options, text, crew, observer) {
         Ok(grounds) => grounds,
         Err(refusal) => return refused_part(alloc, name, refusal),
     };
@@ -81,20 +83,22 @@ fn text_part<D: Racer, O: Observer>(
 }
 
 /// What is printed of a file of these bytes.
-fn bytes_part<D: Racer, O: Observer>(
+fn bytes_part<D: Racer, C: Crew, O: Observer>(
     alloc: Global,
     options: &CheckOptions,
     name: &str,
     before: usize,
     bytes: &[u8],
+    crew: &C,
     observer: &mut O,
 ) -> Result<FilePart, AllocError>
-    requires { length bytes.now ≤ MAX_INPUT }
+    requires crew { C.can }
+    requires short { length bytes.now ≤ MAX_INPUT }
     ensures { IfOk result (λ p.
         IsPart D.finds options.now name.now before bytes.now (seen p)) }
 {
     match str::from_utf8(bytes) {
-        Ok(text) => text_part::<D, O>(alloc, options, name, before, text, observer),
+        Ok(text) => text_part::<D, C, O>(alloc, options, name, before, text, crew, observer),
         Err(_) => refused_part(alloc, name, Refusal::NotText),
     }
 }
@@ -113,20 +117,22 @@ fn bytes_of<R: Source>(alloc: Global, name: &str, source: &mut R) -> Result<Vec<
 }
 
 /// What is printed of a file, after the n tests of the files before it.
-fn part_of<D: Racer, R: Source, O: Observer>(
+fn part_of<D: Racer, R: Source, C: Crew, O: Observer>(
     alloc: Global,
     options: &CheckOptions,
     name: &str,
     before: usize,
     source: &mut R,
+    crew: &C,
     observer: &mut O,
 ) -> Result<FilePart, AllocError>
+    requires crew { C.can }
     ensures part { IfOk result (λ p. IfSome (R.file source.old name.now)
         (λ bytes. IsPart D.finds options.now name.now before bytes (seen p))) }
     ensures files { R.file source.new ≡ R.file source.old }
 {
     match bytes_of(alloc, name, source) {
-        Ok(bytes) => bytes_part::<D, O>(alloc, options, name, before, &bytes, observer),
+        Ok(bytes) => bytes_part::<D, C, O>(alloc, options, name, before, &bytes, crew, observer),
         Err(error) => refused_part(alloc, name, Refusal::Input(error)),
     }
 }
@@ -157,13 +163,15 @@ impl Tally {
 }
 
 /// What is printed of all files.
-fn tell_all<D: Racer, R: Source, O: Observer>(
+fn tell_all<D: Racer, R: Source, C: Crew, O: Observer>(
     alloc: Global,
     options: &CheckOptions,
     names: &[String],
     source: &mut R,
+    crew: &C,
     observer: &mut O,
 ) -> Result<Tally, AllocError>
+    requires crew { C.can }
     ensures { IfOk result (λ t. AreTold D.finds options.now (R.file source.old)
         (map string_bytes names.now) no_part (counted t)) }
 {
@@ -175,12 +183,13 @@ fn tell_all<D: Racer, R: Source, O: Observer>(
         told: true,
     };
     for name in names {
-        let part = part_of::<D, R, O>(
+        let part = part_of::<D, R, C, O>(
             alloc,
             options,
             name.as_str(),
             tally.tests,
             source,
+            crew,
             observer,
         )?;
         tally.add(&part)?;
@@ -199,17 +208,19 @@ fn planned(alloc: Global, tally: &Tally) -> Result<String, AllocError>
 }
 
 /// The tests of several files, and their plan.
-fn checked<D: Racer, R: Source, O: Observer>(
+fn checked<D: Racer, R: Source, C: Crew, O: Observer>(
     alloc: Global,
     options: &CheckOptions,
     names: &[String],
     source: &mut R,
+    crew: &C,
     observer: &mut O,
 ) -> Result<Reply, Refusal>
+    requires crew { C.can }
     ensures { Replies (AreChecked D.finds options.now (R.file source.old)
         (map string_bytes names.now)) result }
 {
-    let tally = tell_all::<D, R, O>(alloc, options, names, source, observer)?;
+    let tally = tell_all::<D, R, C, O>(alloc, options, names, source, crew, observer)?;
     let text = planned(alloc, &tally)?;
     Ok(Reply::Several {
         text,
@@ -220,15 +231,17 @@ fn checked<D: Racer, R: Source, O: Observer>(
 }
 
 /// `ebpf check` of several files.
-pub fn check_files<D: Racer, R: Source, O: Observer>(
+pub fn check_files<D: Racer, R: Source, C: Crew, O: Observer>(
     alloc: Global,
     options: &CheckOptions,
     names: &[String],
     source: &mut R,
+    crew: &C,
     observer: &mut O,
 ) -> Reply
+    requires crew { C.can }
     ensures { AreChecked D.finds options.now (R.file source.old)
         (map string_bytes names.now) result }
 {
-    Reply::of(checked::<D, R, O>(alloc, options, names, source, observer))
+    Reply::of(checked::<D, R, C, O>(alloc, options, names, source, crew, observer))
 }

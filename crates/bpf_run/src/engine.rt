@@ -6,7 +6,7 @@ ghost use Rattle.bpf_run.specs.Commands.{IsAnswer, IsForOneThread};
 use crate::pipeline::{reply, reply_by_workers};
 use crate::progress::{Aside, Teller, asks_progress};
 use bpf_command::Command;
-use bpf_explore::Silent;
+use bpf_explore::{Alone, Silent};
 use bpf_replies::reply::Reply;
 use std::alloc::Global;
 use std::sync::Wait;
@@ -31,7 +31,7 @@ impl Engine for OneThread {
     ghost does = { IsForOneThread };
 
     fn reply(&self, alloc: Global, command: Command, text: &str) -> Reply {
-        reply(alloc, command, text, &mut Silent)
+        reply(alloc, command, text, &Alone, &mut Silent)
     }
 }
 

@@ -56,7 +56,7 @@ pub enum Subject {
     Script,
     /// The jobs of a run file, by all schedules.
     Schedules,
-    /// The same on CPUs with store buffers.
+    /// The jobs of a run file, by all schedules, on CPUs with store buffers.
     BufferSchedules,
     /// One outcome of these.
     Shown,
@@ -64,6 +64,8 @@ pub enum Subject {
     Races,
     /// What a run file expects of them.
     Tests,
+    /// What it expects of them on CPUs with store buffers.
+    BufferTests,
 }
 
 /// What is asked: to explain the answer of a command to a file, or to standard input.
@@ -109,6 +111,7 @@ impl Subject {
             Command::Explore(_) => Subject::Schedules,
             Command::ExploreX86(_) => Subject::BufferSchedules,
             Command::Races(_) => Subject::Races,
+            Command::Check(options) if options.x86 => Subject::BufferTests,
             Command::Check(_) => Subject::Tests,
             Command::Expand { .. } | Command::ExpandX86 { .. } => Subject::Schedules,
         }
@@ -138,7 +141,8 @@ impl Subject {
             | Subject::BufferSchedules
             | Subject::Shown
             | Subject::Races
-            | Subject::Tests => Language::RunFile,
+            | Subject::Tests
+            | Subject::BufferTests => Language::RunFile,
         }
     }
 

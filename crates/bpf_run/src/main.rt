@@ -21,6 +21,7 @@ pub mod progress;
 pub mod racing;
 pub mod reader;
 pub mod recorder;
+mod scouting;
 mod tracing;
 
 use bpf_talk::Console;

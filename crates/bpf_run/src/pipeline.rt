@@ -6,8 +6,9 @@ ghost use Rattle.bpf_run.specs.Commands.{IsAnswer, IsForOneThread};
 use crate::buffer_expanding::expand_file_with_buffers;
 use crate::expanding::expand_file;
 use crate::racing::{AllRaces, race_file};
+use crate::scouting::{asked_workers, crew_of};
 use bpf_command::{Command, FileOptions, HistoryOptions, JudgeOptions, ShowOptions, X86Options};
-use bpf_explore::Observer;
+use bpf_explore::{Crew, Observer};
 use bpf_replies::buffer_script::debug_file_with_buffers;
 use bpf_replies::checking::check_file;
 use bpf_replies::exploring::{explore_file, show_file};
@@ -26,14 +27,16 @@ use std::sync::Wait;
 use std::thread::Threads;
 
 /// What a command replies to the text that it read, or why it has no answer, on the thread that
-/// calls. The observer hears how far a search is.
-fn answer_to<O: Observer>(
+/// calls. The crew goes ahead of a search, and the observer hears how far it is.
+fn answer_to<C: Crew, O: Observer>(
     alloc: Global,
     command: Command,
     text: &str,
+    crew: &C,
     observer: &mut O,
 ) -> Result<Reply, Refusal>
-    requires { IsForOneThread command }
+    requires crew { C.can }
+    requires one_thread { IsForOneThread command }
     ensures { Replies (IsAnswer command text.now) result }
 {
     match command {
@@ -69,27 +72,36 @@ fn answer_to<O: Observer>(
             run_file_with_buffer_events(alloc, &by, maps, text)
         }
         Command::Judge(JudgeOptions { by, keys }) => judge_file(alloc, &by, keys, text),
-        Command::Explore(search) => explore_file(alloc, search, text, observer),
+        Command::Explore(search) => explore_file(alloc, search, text, crew, observer),
         Command::ExploreX86(search) => explore_file_with_buffers(alloc, &search, text, observer),
         Command::Show(ShowOptions { outcome, search }) => {
-            show_file(alloc, search, outcome, text, observer)
+            show_file(alloc, search, outcome, text, crew, observer)
         }
         Command::ShowX86(ShowOptions { outcome, search }) => {
             show_file_with_buffers(alloc, &search, outcome, text, observer)
         }
-        Command::Races(options) => race_file(alloc, options, text, observer),
-        Command::Check(options) => check_file::<AllRaces, O>(alloc, &options, text, observer),
+        Command::Races(options) => race_file(alloc, options, text, crew, observer),
+        Command::Check(options) => check_file::<AllRaces, C, O>(
+            alloc, &options, text, crew, observer,
+        ),
         Command::Expand { first, .. } => expand_file(alloc, first, text),
         Command::ExpandX86 { first, .. } => expand_file_with_buffers(alloc, first, text),
     }
 }
 
-/// What a command replies to the text that it read, on the thread that calls.
-pub fn reply<O: Observer>(alloc: Global, command: Command, text: &str, observer: &mut O) -> Reply
-    requires { IsForOneThread command }
+/// What a command replies to the text that it read, on the thread that calls and the crew's.
+pub fn reply<C: Crew, O: Observer>(
+    alloc: Global,
+    command: Command,
+    text: &str,
+    crew: &C,
+    observer: &mut O,
+) -> Reply
+    requires crew { C.can }
+    requires one_thread { IsForOneThread command }
     ensures { IsAnswer command text.now result }
 {
-    Reply::of(answer_to(alloc, command, text, observer))
+    Reply::of(answer_to(alloc, command, text, crew, observer))
 }
 
 /// What a command replies to the text that it read, or why it has no answer, on worker threads
@@ -113,7 +125,10 @@ fn answer_by_workers<T: Threads + Wait + Sync, O: Observer>(
                 ..
             },
         ) => run_file_by_workers(rt, alloc, workers, Extras { keys, maps, stats }, text),
-        command => answer_to(alloc, command, text, observer),
+        command => {
+            let crew = crew_of(rt, asked_workers(&command));
+            answer_to(alloc, command, text, &crew, observer)
+        }
     }
 }
 

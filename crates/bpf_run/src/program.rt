@@ -19,6 +19,7 @@ use crate::objects::{Errand, answer_as, perform_as};
 use crate::perform::Performed;
 use crate::progress::{Aside, Teller};
 use crate::racing::AllRaces;
+use crate::scouting::crew_of;
 use bpf_command::{Command, CommandError, Request, request_of};
 use bpf_lines::HexError;
 use bpf_replies::printing::{answer, print_page};
@@ -131,7 +132,7 @@ const NO_RACES: &str = "\
 For more information, try 'ebpf explore --help'.";
 
 const TURNS_ALONE: &str = "\
-'--x86' goes with neither '--races' nor '--sync', and that of 'check' not with '--patient'
+'--x86' goes with none of '--races', '--sync' and '--workers'
 
 For more information, try 'ebpf explore --help'.";
 
@@ -283,7 +284,15 @@ fn follow<T: Threads + Wait + Sync + Aside, R: Source, W: Sink, D: Terminal>(
         }
         Ok(Request::CheckAll { check, files, json }) => {
             let mut teller = Teller::new(rt, check.search.progress);
-            let reply = check_files::<AllRaces, _, _>(alloc, &check, &files, source, &mut teller);
+            let crew = crew_of(rt, check.search.workers);
+            let reply = check_files::<AllRaces, _, _, _>(
+                alloc,
+                &check,
+                &files,
+                source,
+                &crew,
+                &mut teller,
+            );
             return Ending::Exit(answer_as(json, alloc, &reply, sink));
         }
         Ok(Request::Page(topic)) => return Ending::Exit(print_page(alloc, topic, sink)),

@@ -11,7 +11,7 @@ ghost use Rattle.bpf_run.specs.Racing.{FindsRaces, IsRacesFile, TellsRaces, is_a
 use bpf_check::Raced;
 use bpf_command::{RaceOptions, SearchOptions};
 use bpf_cpu::Setup;
-use bpf_explore::Observer;
+use bpf_explore::{Crew, Observer};
 use bpf_file::RunFile;
 use bpf_loader::Named;
 use bpf_races::{
@@ -52,18 +52,20 @@ fn named_of(shape: &StoreShape) -> Named
 }
 
 /// The races of jobs, by either search.
-fn races_of<O: Observer>(
+fn races_of<C: Crew, O: Observer>(
     alloc: Global,
     options: &SearchOptions,
     setup: Setup,
     sync: &[Part],
+    crew: &C,
     observer: &mut O,
 ) -> Result<Races, AllocError>
-    requires { IsRunnable setup }
+    requires crew { C.can }
+    requires runs { IsRunnable setup }
     ensures { IfOk result (λ r. AreRaces options.now.patient (first_of setup) sync.now
         r.list.items r.all r.refused options.now.limit) }
 {
-    let scope = scope_of(options);
+    let scope = scope_of(options, crew);
     if options.patient {
         find_races_patiently(alloc, setup, sync, scope, observer)
     } else {
@@ -72,20 +74,22 @@ fn races_of<O: Observer>(
 }
 
 /// What is printed of the races of a file's jobs, but for those at bytes that are left out.
-fn tell_races<O: Observer>(
+fn tell_races<C: Crew, O: Observer>(
     alloc: Global,
     options: SearchOptions,
     sync: &[Part],
     file: RunFile,
+    crew: &C,
     observer: &mut O,
 ) -> Result<Told, AllocError>
-    requires { IsRunnable file.setup }
+    requires crew { C.can }
+    requires runs { IsRunnable file.setup }
     ensures { IfOk result (λ told. TellsRaces options.patient options.limit (file_of file)
         sync.now (string_bytes told.text) told.raced told.all) }
 {
     let RunFile { setup, names, .. } = file;
     let named = named_of(&setup.shape);
-    let races = races_of(alloc, &options, setup, sync, observer)?;
+    let races = races_of(alloc, &options, setup, sync, crew, observer)?;
     let text = list_races(alloc, named, &names, sync, &races)?;
     let raced = is_any_race(&races);
     let all = races.all;
@@ -93,18 +97,20 @@ fn tell_races<O: Observer>(
 }
 
 /// What is found of the races of a file's jobs, as tests rest on it.
-fn found_races<O: Observer>(
+fn found_races<C: Crew, O: Observer>(
     alloc: Global,
     options: &SearchOptions,
     file: RunFile,
+    crew: &C,
     observer: &mut O,
 ) -> Result<Raced, AllocError>
-    requires { IsRunnable file.setup }
+    requires crew { C.can }
+    requires runs { IsRunnable file.setup }
     ensures { IfOk result (FindsRaces options.now.patient options.now.limit (file_of file)) }
 {
     let RunFile { setup, names, .. } = file;
     let named = named_of(&setup.shape);
-    let races = races_of(alloc, options, setup, &[], observer)?;
+    let races = races_of(alloc, options, setup, &[], crew, observer)?;
     let lines = comment_races(alloc, named, &names, &races.list)?;
     Ok(Raced {
         lines,
@@ -122,26 +128,29 @@ impl Racer for AllRaces {
 
     ghost finds = { AreRacesOf };
 
-    fn races<O: Observer>(
+    fn races<C: Crew, O: Observer>(
         alloc: Global,
         options: &SearchOptions,
         text: &str,
+        crew: &C,
         observer: &mut O,
     ) -> Result<Raced, Refusal> {
         let file = file_in(alloc, text)?;
-        let raced = found_races(alloc, options, file, observer)?;
+        let raced = found_races(alloc, options, file, crew, observer)?;
         Ok(raced)
     }
 }
 
 /// `ebpf explore --races`.
 #[tactic(auto, using(crate::proofs::Raced::raced))]
-pub fn race_file<O: Observer>(
+pub fn race_file<C: Crew, O: Observer>(
     alloc: Global,
     options: RaceOptions,
     text: &str,
+    crew: &C,
     observer: &mut O,
 ) -> Result<Reply, Refusal>
+    requires crew { C.can }
     ensures { Replies (IsRacesFile options.search.patient options.search.limit
         (map string_bytes options.sync.items) text.now) result }
 {
@@ -149,7 +158,14 @@ pub fn race_file<O: Observer>(
     let Some(parts) = synced_parts(alloc, &file.names, &file.setup.shape, &options.sync)? else {
         return Err(Refusal::NoMap);
     };
-    let Told { text, raced, all } = tell_races(alloc, options.search, &parts, file, observer)?;
+    let Told { text, raced, all } = tell_races(
+        alloc,
+        options.search,
+        &parts,
+        file,
+        crew,
+        observer,
+    )?;
     Ok(Reply::Outcomes {
         text,
         stopped: raced,

@@ -139,8 +139,8 @@ one edit away; but after that comes no line that `run --maps` prints of this fil
 job with its CPU, or a map with a key and a value of its sizes in lower case hex, and
 numbers without a 0 before them; nor `fault`, `r0 of job J < N`, `var NAME = N`,
 `map NAME[K]+AT of u64 = N`, or several of these joined by `and`, or by `or`; nor `race`
-after `never` or `sometimes`. `always ends` and `sometimes hung` take `--patient`, and
-lines `keys` take `run --check --keys`.
+after `never` or `sometimes`. `always ends` and `sometimes hung` take `--patient`, as
+`always-x86 ends` and `sometimes-x86 hung` do, and lines `keys` take `run --check --keys`.
 Or it begins with `check patient` or `check limit`, or words one edit away, and isn't
 `check patient`, `check limit N` or both, with N from 0 to 1,000,000,000.
 `check --lenient` passes such comments over.",

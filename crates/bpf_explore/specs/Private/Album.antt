@@ -1,14 +1,14 @@
 -- What a search keeps of machines: stores and jobs once, and of each machine their numbers.
-pub use Rattle.bpf_explore.specs.Album.{AlbumState, ShowsFirst}
+pub use Rattle.bpf_explore.specs.Album.{AlbumState, AreKeptUnder, AreNumbersOf, ShowsFirst, Stock}
 use Rattle.std.specs.Prelude.{◌≡◌, ℕ, zero, suc, ◌+◌, ◌<◌, ◌⊎◌, All, List, [], ◌∷◌, ◌++◌, Some, None, length, drop, slice_get, slice_index_or}
 use Rattle.bpf_shared.specs.Shape.{Shape}
-use Rattle.bpf_plain.specs.PlainStore.{Contents, IsSavedAs}
+use Rattle.bpf_plain.specs.PlainStore.{Contents}
 use Rattle.bpf_loader.specs.Loaded.{Loaded}
 use Rattle.bpf_cpu.specs.declared.outcome.Outcome.{Outcome}
 use Rattle.bpf_cpu.specs.Task.{Task, Ended}
 use Rattle.bpf_machine.specs.Schedule.{World}
 use Rattle.bpf_machine.specs.Machine.{MachineState, Shows}
-use Rattle.bpf_machine.specs.Parts.{CanStand, chosen, made_of, no_task}
+use Rattle.bpf_machine.specs.Parts.{CanStand, made_of, no_task}
 use Rattle.bpf_explore.specs.Stores.{IsOfShape, no_store}
 use Rattle.bpf_explore.specs.Tuples.{TupleList, tuple_at, AreWhole}
 
@@ -18,6 +18,16 @@ pub record Shelf : Type 0 where
   pub stores : List Contents
   pub parts : List Task
   pub states : TupleList
+
+-- what is kept but for the states, of this shape
+abbrev pub stocked : Shape → Shelf → Stock
+stocked h s = record {
+  shape = h;
+  programs = s.programs;
+  width = s.states.width;
+  stores = s.stores;
+  parts = s.parts;
+}
 
 -- the machine of these numbers
 abbrev pub machine_of : Shelf → List ℕ → MachineState
@@ -55,21 +65,6 @@ pub record Grows (old new : Shelf) (store : Contents) : Type 0 where
 abbrev pub IsNumberOf : List Task → ℕ → List Task → ℕ → Type 0
 IsNumberOf parts n jobs j =
     (n < length parts) × (slice_get jobs j ≡ Some (slice_index_or parts n no_task))
-
--- the jobs have these
-abbrev pub AreNumbersOf : List Task → List ℕ → List Task → Type 0
-AreNumbersOf parts numbers jobs =
-    All (λ n. n < length parts) numbers × (chosen parts numbers ≡ jobs)
-
--- a store that is saved as the machine's is has the first of these numbers, and its jobs the others
-pub record AreKeptUnder (stores : List Contents) (parts : List Task) (m : MachineState)
-    (tuple : List ℕ) : Type 0 where
-  pub stored : slice_index_or tuple 0 0 < length stores
-  pub bytes : List ℕ
-  pub saved : IsSavedAs m.store bytes
-  pub alike : IsSavedAs (slice_index_or stores (slice_index_or tuple 0 0) no_store) bytes
-  pub jobs : AreNumbersOf parts (drop 1 tuple) m.jobs
-  pub size : length tuple ≡ length m.jobs + 1
 
 -- at most one more is kept, which shows all that the machine shows
 abbrev pub AddsOne : List MachineState → MachineState → List MachineState → Type 0

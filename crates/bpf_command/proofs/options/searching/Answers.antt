@@ -2,7 +2,7 @@
 use Rattle.std.proofs.Common.{ap}
 use Rattle.clap.specs.Words.{App}
 use Rattle.clap.specs.Simple.{Shape, new_shape}
-use Rattle.bpf_command.specs.CommandLine.{all_states, explained, json, patient, progress, x86}
+use Rattle.bpf_command.specs.CommandLine.{all_states, explained, json, patient, progress, workers, x86}
 use Rattle.bpf_command.proofs.Adding.{Made, added, last, owns, shapes, with_one}
 use Rattle.bpf_command.proofs.options.searching.Goals as goal
 
@@ -25,6 +25,9 @@ returns c =
     let shape5 : Shape = with_one shape4 x86 in
     let five : Made c.in_ok-arg-5.field-0 shape5 =
     added _ _ c.in_ok-arg-5.field-0 shape4 x86 four c.buffers_option.ensures.rule c.buffers_option.ensures.own c.in_ok-arg-5.ensures in
-    let all : Shape = with_one shape5 all_states in
-    let made = last _ _ c.arg-6.result shape5 all_states five c.all_states_option.ensures.rule c.all_states_option.ensures.own c.arg-6.ensures in
-    record { shape = shapes c.arg-6.result all made; own = owns c.arg-6.result all made }
+    let shape6 : Shape = with_one shape5 all_states in
+    let six : Made c.in_ok-arg-6.field-0 shape6 =
+    added _ _ c.in_ok-arg-6.field-0 shape5 all_states five c.all_states_option.ensures.rule c.all_states_option.ensures.own c.in_ok-arg-6.ensures in
+    let all : Shape = with_one shape6 workers in
+    let made = last _ _ c.arg-7.result shape6 workers six c.search_workers_option.ensures.rule c.search_workers_option.ensures.own c.arg-7.ensures in
+    record { shape = shapes c.arg-7.result all made; own = owns c.arg-7.result all made }

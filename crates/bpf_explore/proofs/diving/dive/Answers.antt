@@ -9,6 +9,7 @@ loop-init c = record {
       (no_turns c.args.album.now.machine);
   same = refl;
   cpus = refl;
+  stock = refl;
 }
 
 pub loop-preserved : goal.loop-preserved
@@ -18,6 +19,7 @@ loop-preserved c = record {
       (c.in-Some.cpu ∷ replicate c.turn_ahead-ahead.result c.in-Some.cpu) c.loop.invariant.runs c.turn_ahead-ahead.ensures.runs);
   same = c.turn_ahead-ahead.ensures.same ∙ c.loop.invariant.same;
   cpus = c.turn_ahead-ahead.ensures.cpus ∙ c.loop.invariant.cpus;
+  stock = c.turn_ahead-ahead.ensures.stock ∙ c.loop.invariant.stock;
 }
 
 pub returns-in_err-add_turns-clause-same : goal.returns-in_err-add_turns-clause-same
@@ -25,3 +27,6 @@ returns-in_err-add_turns-clause-same c = c.turn_ahead-ahead.ensures.same ∙ c.l
 
 pub returns-in_err-add_turns-clause-cpus : goal.returns-in_err-add_turns-clause-cpus
 returns-in_err-add_turns-clause-cpus c = c.turn_ahead-ahead.ensures.cpus ∙ c.loop.invariant.cpus
+
+pub returns-in_err-add_turns-clause-stock : goal.returns-in_err-add_turns-clause-stock
+returns-in_err-add_turns-clause-stock c = c.turn_ahead-ahead.ensures.stock ∙ c.loop.invariant.stock

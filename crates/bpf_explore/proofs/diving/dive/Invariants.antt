@@ -8,4 +8,5 @@ invariant-loop l = record {
   runs : RunsTo l.fn.album.machine (unrolled l.by.items) l.album.machine;
   same : l.album.kept ≡ l.fn.album.kept;
   cpus : l.album.cpus ≡ l.fn.album.cpus;
+  stock : l.album.stock ≡ l.fn.album.stock;
 }

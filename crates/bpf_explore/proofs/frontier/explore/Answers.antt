@@ -21,13 +21,13 @@ loop-next-preserved g c =
     let inv = c.loop-next.invariant in
     let first = c.args.frontier.now in
     let next = c.loop-next.next in
-    let new = c.expand.new.frontier in record {
+    let new = c.advance.new.frontier in record {
       far = next_expanded (is_patient first) (is_patient c.loop-next.frontier) (is_patient new) (kept first) (kept c.loop-next.frontier)
-          (kept new) next inv.far (omega arith) c.expand.ensures.extends c.expand.ensures.same c.in-Ok.ensures.expanded;
+          (kept new) next inv.far (omega arith) c.advance.ensures.extends c.advance.ensures.same c.in-Ok.ensures.expanded;
       made = λ is. subst (has_made new) (one_more_row (width first) next)
           (subst (λ (n : ℕ). has_made new (rows_of (width first) next ++ row_of next n)) inv.width
           (c.in-Ok.ensures.made (rows_of (width first) next) (inv.made is)));
-      width = c.expand.ensures.width ∙ inv.width;
+      width = c.advance.ensures.width ∙ inv.width;
     }
 
 pub returns-clause-whole : goal.returns-clause-whole

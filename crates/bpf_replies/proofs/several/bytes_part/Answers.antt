@@ -17,4 +17,4 @@ returns-in-Ok g c =
     let text = c.in-Ok.text.now in
     let valid : IsUtf8 bytes = search rules in
     let same : text ≡ bytes = search rules in
-    of_text g.D.Racer.finds c.args.options.now c.args.name.now c.args.before bytes text c.text_part.result c.requires valid same c.text_part.ensures
+    of_text g.D.Racer.finds c.args.options.now c.args.name.now c.args.before bytes text c.text_part.result c.requires.short valid same c.text_part.ensures

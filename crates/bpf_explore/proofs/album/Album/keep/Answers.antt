@@ -1,13 +1,14 @@
-use Rattle.std.proofs.Common.{◌∙◌, ◌<◌, ℕ, List, length, ap, sym, subst}
+use Rattle.std.proofs.Common.{◌∙◌, ◌<◌, ℕ, List, length, ap, refl, sym, subst}
 use Rattle.std.specs.Prelude.{All, drop}
 use Rattle.bpf_cpu.specs.Task.{Task}
 use Rattle.bpf_live.specs.Live.{Table}
 use Rattle.bpf_alike.specs.Worlds.{AreLiveTables, table_at}
 use Rattle.bpf_explore.specs.Tuples.{tuple_at}
-use Rattle.bpf_explore.specs.Private.Album.{AddsOne, AlbumState, AreKeptUnder, machines}
+use Rattle.bpf_explore.specs.Album.{HasMore}
+use Rattle.bpf_explore.specs.Private.Album.{AddsOne, AlbumState, AreKeptUnder, machines, stocked}
 use Rattle.bpf_explore.specs.Private.Classes.{AreOfParts, IsAlikeTuple}
 use Rattle.bpf_explore.proofs.ShelfLaws.{machines_length}
-use Rattle.bpf_explore.proofs.AlbumLaws.{shelf_of, same_invariant, same_adds, invariant_after, adds_after, kept_after, numbers_fit}
+use Rattle.bpf_explore.proofs.AlbumLaws.{shelf_of, more_stock, width_of, same_invariant, same_adds, invariant_after, adds_after, kept_after, numbers_fit}
 use Rattle.bpf_explore.proofs.album.Album.keep.Goals as goal
 
 pub invariant_of-self : goal.invariant_of-self
@@ -111,3 +112,30 @@ returns-clause-kept c =
 
 pub returns-clause-cpus : goal.returns-clause-cpus
 returns-clause-cpus c = ap (λ (a : AlbumState). a.cpus) c.self.view_is
+
+pub returns-in_err-keep_machine-clause-more : goal.returns-in_err-keep_machine-clause-more
+returns-in_err-keep_machine-clause-more c =
+    let m = c.self.inside in
+    let shelf = shelf_of m.machine.programs m.stores m.parts m.states in
+    let now = shelf_of m.machine.programs c.keep_machine.new.stores c.keep_machine.new.parts m.states in
+    subst (λ (a : AlbumState). HasMore a.stock (stocked m.shape now)) c.self.view_is
+    (more_stock m.shape shelf m.machine c.keep_machine.new.stores c.keep_machine.new.parts c.self.invariant.0 c.self.invariant.1
+    c.keep_machine.ensures.adds c.keep_machine.ensures.grows m.states refl)
+
+pub returns-in_err-number-clause-more : goal.returns-in_err-number-clause-more
+returns-in_err-number-clause-more c =
+    let m = c.self.inside in
+    let shelf = shelf_of m.machine.programs m.stores m.parts m.states in
+    let now = shelf_of m.machine.programs c.keep_machine.new.stores c.keep_machine.new.parts c.keep.new.states in
+    subst (λ (a : AlbumState). HasMore a.stock (stocked m.shape now)) c.self.view_is
+    (more_stock m.shape shelf m.machine c.keep_machine.new.stores c.keep_machine.new.parts c.self.invariant.0 c.self.invariant.1
+    c.keep_machine.ensures.adds c.keep_machine.ensures.grows c.keep.new.states (width_of m.states c.keep.new.states c.deref.result.now c.keep.ensures.adds))
+
+pub returns-clause-more : goal.returns-clause-more
+returns-clause-more c =
+    let m = c.self.inside in
+    let shelf = shelf_of m.machine.programs m.stores m.parts m.states in
+    let now = shelf_of m.machine.programs c.keep_machine.new.stores c.keep_machine.new.parts c.keep.new.states in
+    subst (λ (a : AlbumState). HasMore a.stock (stocked m.shape now)) c.self.view_is
+    (more_stock m.shape shelf m.machine c.keep_machine.new.stores c.keep_machine.new.parts c.self.invariant.0 c.self.invariant.1
+    c.keep_machine.ensures.adds c.keep_machine.ensures.grows c.keep.new.states (width_of m.states c.keep.new.states c.deref.result.now c.keep.ensures.adds))

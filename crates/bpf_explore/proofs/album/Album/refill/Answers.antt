@@ -2,7 +2,7 @@ use Rattle.std.proofs.Common.{◌∙◌, ap, subst}
 use Rattle.bpf_machine.specs.Machine.{MachineState}
 use Rattle.bpf_machine.specs.Patient.{IsRefilled}
 use Rattle.bpf_explore.specs.Private.Album.{AlbumState}
-use Rattle.bpf_explore.proofs.AlbumLaws.{all_after, kept_with}
+use Rattle.bpf_explore.proofs.AlbumLaws.{all_after, kept_with, stock_with}
 use Rattle.bpf_explore.proofs.album.Album.refill.Goals as goal
 
 pub invariant_of-self : goal.invariant_of-self
@@ -22,3 +22,8 @@ returns-clause-same c =
 
 pub returns-clause-cpus : goal.returns-clause-cpus
 returns-clause-cpus c = ap (λ (a : AlbumState). a.cpus) c.self.view_is
+
+pub returns-clause-stock : goal.returns-clause-stock
+returns-clause-stock c =
+    let m = c.self.inside in
+    stock_with m.shape m.stores m.parts m.states m.machine c.refill.new.self c.refill.ensures.same.programs ∙ ap (λ (a : AlbumState). a.stock) c.self.view_is

@@ -1,7 +1,7 @@
 use Rattle.std.proofs.Common.{◌∙◌, ap, subst, sym}
 use Rattle.bpf_machine.specs.Machine.{MachineState, Shows}
 use Rattle.bpf_explore.specs.Private.Album.{AlbumState}
-use Rattle.bpf_explore.proofs.AlbumLaws.{all_after, kept_with}
+use Rattle.bpf_explore.proofs.AlbumLaws.{all_after, kept_with, stock_with}
 use Rattle.bpf_explore.proofs.album.Album.turns_by.Goals as goal
 
 pub invariant_of-self : goal.invariant_of-self
@@ -18,3 +18,9 @@ pub returns-clause-same : goal.returns-clause-same
 returns-clause-same c =
     let m = c.self.inside in
     kept_with m.shape m.stores m.parts m.states m.machine c.turns_by.new.self c.turns_by.ensures.same.programs ∙ ap (λ (a : AlbumState). a.kept) c.self.view_is
+
+pub returns-clause-stock : goal.returns-clause-stock
+returns-clause-stock c =
+    let m = c.self.inside in
+    stock_with m.shape m.stores m.parts m.states m.machine c.turns_by.new.self c.turns_by.ensures.same.programs ∙ ap
+    (λ (a : AlbumState). a.stock) c.self.view_is

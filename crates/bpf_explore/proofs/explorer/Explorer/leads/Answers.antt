@@ -7,4 +7,4 @@ use Rattle.bpf_explore.proofs.explorer.Explorer.leads.Goals as goal
 pub returns : goal.returns
 returns c =
     let m = c.self.inside in
-    subst (λ (a : AlbumState). AreLed a.kept) c.self.view_is (are_led RunsSchedule schedules_join m.album.kept m.origins.items c.self.invariant)
+    subst (λ (a : AlbumState). AreLed a.kept) c.self.view_is (are_led RunsSchedule schedules_join m.album.kept m.origins.items c.self.invariant.0)

@@ -17,10 +17,10 @@ pub loop-state-preserved : goal.loop-state-preserved
 loop-state-preserved c =
     let m = c.self.inside in
     let i = c.loop-state.invariant.inside in
-    let count = c.self.invariant.count in
+    let count = c.self.invariant.0.count in
     let at = read_origin RunsSchedule schedules_join m.origins.items c.loop-state.state c.index-origin.result.now (omega arith) c.index-origin.ensures in
     let r = one_back_more RunsSchedule schedules_join m.album.kept m.origins.items c.loop-state.state c.args.place c.index-origin.result.now
-    c.loop-state.by.items c.push_turns.new.by.items c.self.invariant (omega arith) i at c.loop-state.invariant.leads
+    c.loop-state.by.items c.push_turns.new.by.items c.self.invariant.0 (omega arith) i at c.loop-state.invariant.leads
     c.in_ok-push_turns.ensures in
     record { inside = r.0; leads = r.1 }
 

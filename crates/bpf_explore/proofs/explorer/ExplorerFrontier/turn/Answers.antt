@@ -1,51 +1,111 @@
-use Rattle.std.proofs.Common.{◌∙◌, ◌<◌, List, length, sym, ap, subst, arith}
-use Rattle.bpf_machine.specs.Machine.{MachineState}
-use Rattle.bpf_alike.specs.Covers.{IsKeptAlike}
+use Rattle.std.proofs.Common.{◌∙◌, ◌<◌, false, length, refl, sym, ap, subst, arith}
 use Rattle.bpf_machine.specs.Schedule.{RunsSchedule}
 use Rattle.bpf_explore.specs.declared.explorer.Origin.{Origin}
 use Rattle.bpf_explore.specs.Album.{AlbumState}
-use Rattle.bpf_explore.specs.Search.{Extends}
-use Rattle.bpf_explore.specs.Private.Album.{AddsOne}
+use Rattle.bpf_explore.specs.Search.{Extends, IsTurned}
 use Rattle.bpf_explore.proofs.AlbumLaws.{turned, adds_extends, kept_somewhere}
+use Rattle.bpf_explore.proofs.ScoutLaws.{found_turn, taken_turn, leads_exactly, same_has_more, scouts_more}
 use Rattle.bpf_explore.proofs.TrailLaws.{schedules_join, led_there, cut_origins}
+use Rattle.bpf_explore.proofs.SearchLaws.{idle_turned}
 use Rattle.bpf_explore.proofs.explorer.ExplorerFrontier.turn.Goals as goal
+
+pub returns-then-not-has_work-clause-turned : goal.returns-then-not-has_work-clause-turned
+returns-then-not-has_work-clause-turned c =
+    let m = c.self.inside in
+    subst (λ (a : AlbumState). IsTurned false a.kept c.args.place c.args.cpu) c.self.view_is
+    (idle_turned false m.album.kept c.args.place c.args.cpu (c.if-not-has_work.ensures refl))
+
+pub numbers-requires : goal.numbers-requires
+numbers-requires c =
+    let m = c.self.inside in
+    let r = found_turn false m.album.kept m.album.stock m.scouts.scouts.items c.args.place c.args.cpu c.in-Some.found c.self.invariant.1 c.in-Some.ensures in
+    (r.0, r.1)
+
+pub keep_numbered-kept-requires : goal.keep_numbered-kept-requires
+keep_numbered-kept-requires c =
+    let m = c.self.inside in
+    let found = c.in-Some.found in
+    let numbers = c.numbers.result.now in
+    let is = taken_turn false m.album.kept m.album.stock m.scouts.scouts.items c.args.place c.args.cpu found numbers c.self.invariant.1
+    c.in-Some.ensures c.numbers.ensures in
+    (is.0, is.2)
 
 pub invariant_of-self-in_err-kept : goal.invariant_of-self-in_err-kept
 invariant_of-self-in_err-kept c =
     let m = c.self.inside in
-    let kept = c.turn_ahead-made.ensures.same ∙ c.restore.ensures.same in
-    let o : Origin = record { from = c.in_ok-from.from; ahead = c.in_ok-ahead.ahead; cpu = c.args.cpu } in
-    let led = led_there RunsSchedule schedules_join m.album.kept c.restore.new.self.machine c.turn_ahead-made.new.self.machine c.args.place
-    o c.turn_ahead-made.result c.in_ok-restore.ensures.ok c.in_ok-from.ensures c.in_ok-ahead.ensures c.turn_ahead-made.ensures.runs in
-    let adds = subst (λ (ms : List MachineState). AddsOne ms c.turn_ahead-made.new.self.machine c.keep-kept.new.self.kept) kept c.keep-kept.ensures.adds in
-    let there = subst (λ (a : AlbumState). c.args.place < length a.kept) (sym c.self.view_is) c.requires in
-    cut_origins RunsSchedule schedules_join m.album.kept c.keep-kept.new.self.kept c.turn_ahead-made.new.self.machine m.origins.items
-    c.push.new.self.items c.truncate.new.self.items o c.len.result c.self.invariant (omega (arith, c.in_ok-from.ensures, there)) led
-    adds c.in_ok-push.ensures.items c.len.ensures c.truncate.ensures.items
+    let found = c.in-Some.found in
+    let numbers = c.numbers.result.now in
+    let is = taken_turn false m.album.kept m.album.stock m.scouts.scouts.items c.args.place c.args.cpu found numbers c.self.invariant.1
+    c.in-Some.ensures c.numbers.ensures in
+    let all = c.keep_numbered-kept.new.self.kept in
+    let o : Origin = record { from = c.in_ok-from.from; ahead = found.note.ahead; cpu = c.args.cpu } in
+    let leads = leads_exactly m.album.kept c.args.place c.args.cpu found.note.ahead is.0 is.1 in
+    let led = led_there RunsSchedule schedules_join m.album.kept is.1.old is.0 c.args.place o found.note.ahead is.1.at c.in_ok-from.ensures refl leads.runs in
+    let adds = c.keep_numbered-kept.ensures.adds is.0 is.2 in
+    let there = subst (λ (a : AlbumState). c.args.place < length a.kept) (sym c.self.view_is) c.requires in (
+      cut_origins RunsSchedule schedules_join m.album.kept all is.0 m.origins.items c.push.new.self.items c.truncate.new.self.items o
+          c.len.result c.self.invariant.0 (omega (arith, c.in_ok-from.ensures, there)) led adds c.in_ok-push.ensures.items c.len.ensures
+          c.truncate.ensures.items,
+      scouts_more m.album.stock c.keep_numbered-kept.new.self.stock
+          (same_has_more m.album.stock c.keep_numbered-kept.new.self.stock c.keep_numbered-kept.ensures.stock) m.album.kept all
+          (adds_extends m.album.kept all is.0 adds) false m.scouts.scouts.items c.self.invariant.1,
+    )
 
 pub invariant_of-self-2 : goal.invariant_of-self-2
 invariant_of-self-2 c =
     let m = c.self.inside in
-    let kept = c.turn_ahead-made.ensures.same ∙ c.restore.ensures.same in
-    let o : Origin = record { from = c.in_ok-from.from; ahead = c.in_ok-ahead.ahead; cpu = c.args.cpu } in
-    let led = led_there RunsSchedule schedules_join m.album.kept c.restore.new.self.machine c.turn_ahead-made.new.self.machine c.args.place
-    o c.turn_ahead-made.result c.in_ok-restore.ensures.ok c.in_ok-from.ensures c.in_ok-ahead.ensures c.turn_ahead-made.ensures.runs in
-    let adds = subst (λ (ms : List MachineState). AddsOne ms c.turn_ahead-made.new.self.machine c.keep-kept.new.self.kept) kept c.keep-kept.ensures.adds in
-    let there = subst (λ (a : AlbumState). c.args.place < length a.kept) (sym c.self.view_is) c.requires in
-    cut_origins RunsSchedule schedules_join m.album.kept c.keep-kept.new.self.kept c.turn_ahead-made.new.self.machine m.origins.items
-    c.push.new.self.items c.truncate.new.self.items o c.len.result c.self.invariant (omega (arith, c.in_ok-from.ensures, there)) led
-    adds c.in_ok-push.ensures.items c.len.ensures c.truncate.ensures.items
+    let found = c.in-Some.found in
+    let numbers = c.numbers.result.now in
+    let is = taken_turn false m.album.kept m.album.stock m.scouts.scouts.items c.args.place c.args.cpu found numbers c.self.invariant.1
+    c.in-Some.ensures c.numbers.ensures in
+    let all = c.keep_numbered-kept.new.self.kept in
+    let o : Origin = record { from = c.in_ok-from.from; ahead = found.note.ahead; cpu = c.args.cpu } in
+    let leads = leads_exactly m.album.kept c.args.place c.args.cpu found.note.ahead is.0 is.1 in
+    let led = led_there RunsSchedule schedules_join m.album.kept is.1.old is.0 c.args.place o found.note.ahead is.1.at c.in_ok-from.ensures refl leads.runs in
+    let adds = c.keep_numbered-kept.ensures.adds is.0 is.2 in
+    let there = subst (λ (a : AlbumState). c.args.place < length a.kept) (sym c.self.view_is) c.requires in (
+      cut_origins RunsSchedule schedules_join m.album.kept all is.0 m.origins.items c.push.new.self.items c.truncate.new.self.items o
+          c.len.result c.self.invariant.0 (omega (arith, c.in_ok-from.ensures, there)) led adds c.in_ok-push.ensures.items c.len.ensures
+          c.truncate.ensures.items,
+      scouts_more m.album.stock c.keep_numbered-kept.new.self.stock
+          (same_has_more m.album.stock c.keep_numbered-kept.new.self.stock c.keep_numbered-kept.ensures.stock) m.album.kept all
+          (adds_extends m.album.kept all is.0 adds) false m.scouts.scouts.items c.self.invariant.1,
+    )
+
+pub returns-in_err-kept-clause-extends : goal.returns-in_err-kept-clause-extends
+returns-in_err-kept-clause-extends c =
+    let m = c.self.inside in
+    let found = c.in-Some.found in
+    let numbers = c.numbers.result.now in
+    let is = taken_turn false m.album.kept m.album.stock m.scouts.scouts.items c.args.place c.args.cpu found numbers c.self.invariant.1
+    c.in-Some.ensures c.numbers.ensures in
+    let all = c.keep_numbered-kept.new.self.kept in
+    subst (λ (a : AlbumState). Extends a.kept all) c.self.view_is
+    (adds_extends m.album.kept all is.0 (c.keep_numbered-kept.ensures.adds is.0 is.2))
+
+pub returns-clause-extends : goal.returns-clause-extends
+returns-clause-extends c =
+    let m = c.self.inside in
+    let found = c.in-Some.found in
+    let numbers = c.numbers.result.now in
+    let is = taken_turn false m.album.kept m.album.stock m.scouts.scouts.items c.args.place c.args.cpu found numbers c.self.invariant.1
+    c.in-Some.ensures c.numbers.ensures in
+    let all = c.keep_numbered-kept.new.self.kept in
+    subst (λ (a : AlbumState). Extends a.kept all) c.self.view_is
+    (adds_extends m.album.kept all is.0 (c.keep_numbered-kept.ensures.adds is.0 is.2))
 
 pub returns-clause-turned : goal.returns-clause-turned
 returns-clause-turned c =
     let m = c.self.inside in
-    let all = c.keep-kept.new.self.kept in
-    let after = c.turn_ahead-made.new.self.machine in
-    let kept = c.turn_ahead-made.ensures.same ∙ c.restore.ensures.same in
-    let more = subst (λ (ms : List MachineState). Extends ms all) kept (adds_extends c.turn_ahead-made.new.self.kept all after c.keep-kept.ensures.adds) in
-    turned m.album.kept all c.args.place c.args.cpu c.restore.new.self.machine after c.in_ok-restore.ensures.ok more
-    c.turn_ahead-made.ensures.turns (subst (IsKeptAlike all) c.keep-kept.ensures.same
-    (kept_somewhere all c.in_ok-kept.field-0 c.keep-kept.new.self.machine c.in_ok-kept.ensures.kept))
+    let found = c.in-Some.found in
+    let numbers = c.numbers.result.now in
+    let is = taken_turn false m.album.kept m.album.stock m.scouts.scouts.items c.args.place c.args.cpu found numbers c.self.invariant.1
+    c.in-Some.ensures c.numbers.ensures in
+    let all = c.keep_numbered-kept.new.self.kept in
+    let more = adds_extends m.album.kept all is.0 (c.keep_numbered-kept.ensures.adds is.0 is.2) in
+    let leads = leads_exactly m.album.kept c.args.place c.args.cpu found.note.ahead is.0 is.1 in
+    turned m.album.kept all c.args.place c.args.cpu is.1.old is.0 is.1.at more leads.turns
+    (kept_somewhere all c.in_ok-kept.field-0 is.0 (c.in_ok-kept.ensures.kept is.0 is.2))
 
 pub returns-clause-width : goal.returns-clause-width
-returns-clause-width c = c.keep-kept.ensures.cpus ∙ (c.turn_ahead-made.ensures.cpus ∙ (c.restore.ensures.cpus ∙ ap (λ (a : AlbumState). a.cpus) c.self.view_is))
+returns-clause-width c = c.keep_numbered-kept.ensures.cpus ∙ ap (λ (a : AlbumState). a.cpus) c.self.view_is

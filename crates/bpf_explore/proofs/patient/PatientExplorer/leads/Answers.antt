@@ -7,4 +7,4 @@ use Rattle.bpf_explore.proofs.patient.PatientExplorer.leads.Goals as goal
 pub returns : goal.returns
 returns c =
     let m = c.self.inside in
-    subst (λ (a : PatientState). AreLedFreely a.kept) c.self.view_is (are_led RunsFreely free_runs_join m.album.kept m.origins.items c.self.invariant.0)
+    subst (λ (a : PatientState). AreLedFreely a.kept) c.self.view_is (are_led RunsFreely free_runs_join m.album.kept m.origins.items c.self.invariant.0.0)

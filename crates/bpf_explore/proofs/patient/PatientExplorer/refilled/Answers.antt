@@ -3,4 +3,4 @@ use Rattle.bpf_explore.specs.Album.{PatientState, HaveWholeBudgets}
 use Rattle.bpf_explore.proofs.patient.PatientExplorer.refilled.Goals as goal
 
 pub returns : goal.returns
-returns c = subst (λ (a : PatientState). HaveWholeBudgets a.kept) c.self.view_is c.self.invariant.2
+returns c = subst (λ (a : PatientState). HaveWholeBudgets a.kept) c.self.view_is c.self.invariant.0.2

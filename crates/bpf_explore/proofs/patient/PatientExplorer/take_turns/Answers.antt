@@ -11,10 +11,13 @@ use Rattle.bpf_explore.proofs.patient.PatientExplorer.take_turns.Goals as goal
 pub invariant_of-self : goal.invariant_of-self
 invariant_of-self c =
     let album = c.self.inside.album in (
-      c.self.invariant.0,
-      subst (λ (xs : List Arrival). AreEdges album.kept (edges_of album.cpus xs))
-          (sym (ap (λ (v : Vec Arrival Global). v.items) c.replace-arrivals.ensures.after ∙ c.new.ensures.items)) (no_edges album.kept),
-      c.self.invariant.2,
+      (
+        c.self.invariant.0.0,
+        subst (λ (xs : List Arrival). AreEdges album.kept (edges_of album.cpus xs))
+            (sym (ap (λ (v : Vec Arrival Global). v.items) c.replace-arrivals.ensures.after ∙ c.new.ensures.items)) (no_edges album.kept),
+        c.self.invariant.0.2,
+      ),
+      c.self.invariant.1,
     )
 
 pub returns-clause-turns : goal.returns-clause-turns
@@ -30,4 +33,4 @@ returns-clause-turns c made =
     let there : map turn_of (edges_of turns.cpus turns.arrivals.items) ≡ rows_of turns.cpus (length kept) = ap (map turn_of) edges ∙
     (here ∙ ap (λ (n : ℕ). rows_of n (length kept)) (sym width)) in
     subst (λ (a : PatientState). AreTurns a.kept turns) c.self.view_is
-    (are_turns kept turns (subst (AreEdges kept) (sym edges) c.self.invariant.1) there c.cpus-cpus.ensures.idle)
+    (are_turns kept turns (subst (AreEdges kept) (sym edges) c.self.invariant.0.1) there c.cpus-cpus.ensures.idle)
