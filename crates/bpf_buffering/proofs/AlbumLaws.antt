@@ -19,7 +19,8 @@ use Rattle.bpf_buffering.specs.declared.pools.Pools.{Pools}
 use Rattle.bpf_buffering.specs.Search.{BufferedState, MovesTo, CannotMove}
 use Rattle.bpf_buffering.specs.Buffering.{TurnsTo}
 use Rattle.bpf_buffering.specs.Album.{HaveEndedAt}
-use Rattle.bpf_buffering.specs.Private.Kept.{Numbers, kept_state, no_store, store_of, jobs_of, buffers_of, AddsTo, FitsHost, IsAlbum, IsBoard, IsPooled, ShowsAsMuch}
+use Rattle.bpf_buffering.specs.Private.Kept.{Numbers, kept_state, no_store, store_of, jobs_of, buffers_of, AddsTo, FitsHost, IsAlbum}
+use Rattle.bpf_buffering.specs.Private.Kept.{IsBoard, IsPooled, ShowsAsMuch}
 use Rattle.bpf_buffering.proofs.Keeping.{same_shape, rests, none_flushes}
 use Rattle.bpf_buffering.proofs.Pooling.{adds_store, fits_still, state_stays, store_known}
 

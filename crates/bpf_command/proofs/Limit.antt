@@ -103,7 +103,19 @@ explore_keeps = (
       json_keeps,
       (
         progress_keeps,
-        (x86_keeps, (all_states_keep, (workers_keep, (races_keep, (sync_keeps, (limit_keeps, (show_keeps, (file_keeps, ((λ values rows e fine. fine), tt))))))))),
+        (
+          x86_keeps,
+          (
+            all_states_keep,
+            (
+              workers_keep,
+              (
+                races_keep,
+                (sync_keeps, (limit_keeps, (show_keeps, (file_keeps, ((λ values rows e fine. fine), tt))))),
+              ),
+            ),
+          ),
+        ),
       ),
     ),
   ),

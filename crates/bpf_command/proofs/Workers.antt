@@ -7,7 +7,8 @@ use Rattle.clap.specs.Faults.{level_fault}
 use Rattle.clap.specs.Walk.{with_default, values_or_missing, Held, Row, Rule, Text, answers_to, finished, has_row, nothing_held, rows_after, settled, walk}
 use Rattle.clap.specs.Words.{fault_of, subcommand_of}
 use Rattle.bpf_command.specs.declared.command.TheConstants.{MAX_WORKERS}
-use Rattle.bpf_command.specs.CommandLine.{HasWorkers, MayHaveWorkers, ebpf, events, explained, file, judged, json, keys, maps, packets, run, schedule, stats, workers, x86}
+use Rattle.bpf_command.specs.CommandLine.{HasWorkers, MayHaveWorkers, ebpf, events, explained, file, judged, json, keys, maps, packets, run}
+use Rattle.bpf_command.specs.CommandLine.{schedule, stats, workers, x86}
 use Rattle.bpf_command.proofs.Counted.{counted_keeps, has_count}
 use Rattle.bpf_command.proofs.Ranges as range
 use Rattle.bpf_command.proofs.Ranges.{no_default}
