@@ -106,7 +106,7 @@ impl Classes {
         None
     }
 
-    /// The same, if one is found.
+    /// Learns of new jobs, and then the place of such a state, if it is found.
     pub(crate) fn find(
         &mut self,
         jobs: &Jobs,

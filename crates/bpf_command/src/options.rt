@@ -135,7 +135,8 @@ A state isn't kept that differs from a kept one only in registers which are writ
 read. With --all-states it is: what is found is the same, of more states.
 
 Where many states are left, their turns are made on as many threads as there are processors, 16 at most,
-or on those of --workers. What is printed is the same, byte for byte, for any number of them.
+or on those of --workers. What is printed is the same, byte for byte, for any number of them, unless
+memory is refused.
 
 Each time that 131072 more states are done a line on standard error shows how far the search is, where
 that is a terminal or with --progress: 'N states, N to go, N MB', how many are kept, from how many of

@@ -11,7 +11,7 @@ use std::thread::Threads;
 
 /// Who sends scouts ahead of a search. What is kept doesn't depend on it.
 pub trait Crew {
-    /// It can.
+    /// The crew can be sent: what a scout works on may be shared between its threads.
     ghost can: { Type 0 };
 
     /// How many scouts it sends; where it sends fewer than two, the search goes alone.

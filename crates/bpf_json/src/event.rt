@@ -18,7 +18,7 @@ pub enum Change {
         operand: u64,
         found: u64,
     },
-    /// The same, where the number before was to be this one.
+    /// An operation with a number, where the number before was to be this one.
     Compared {
         operand: u64,
         expected: u64,

@@ -46,7 +46,7 @@ impl Known {
         some_line(*lines.get(pc as usize)?)
     }
 
-    /// The same by its job.
+    /// The line of a pc in the program of a job.
     pub(crate) fn line_of_job(&self, job: u64, pc: u64) -> Option<u64>
         ensures { result ≡ line_of_job self.now job pc }
     {

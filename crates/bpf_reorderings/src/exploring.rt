@@ -154,8 +154,8 @@ pub fn explore_with_buffers<O: Observer>(
     conclude(&mut explorer, names, maps, extent)
 }
 
-/// The same for outcomes in which no job is out of budget: machines that differ only in how many steps are
-/// left of budgets count as one. The outcomes aren't all either where a schedule that was found uses a
+/// What jobs may reach with store buffers while none is out of budget: machines that differ only in how
+/// many steps are left of budgets count as one. The outcomes aren't all either where a schedule that was found uses a
 /// budget up, which is reported then. Besides, states from which no end can be reached, however many steps
 /// jobs are given.
 pub fn explore_patiently_with_buffers<O: Observer>(
