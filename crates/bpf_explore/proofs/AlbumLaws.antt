@@ -26,8 +26,8 @@ use Rattle.bpf_explore.specs.Album.{FitsStock, HasMore, IsKeptAlikeAt, IsNumbere
 use Rattle.bpf_explore.specs.Search.{IsTurned, IsIdleAt, Extends}
 use Rattle.bpf_explore.specs.Stores.{IsOfShape, no_store}
 use Rattle.bpf_explore.specs.Tuples.{TupleList, tuple_at, with_tuple}
-use Rattle.bpf_explore.specs.Private.Classes.{AreLoaded, AreOfParts, IsAlikeTuple}
-use Rattle.bpf_explore.proofs.ClassLaws.{are_loaded}
+use Rattle.bpf_explore.specs.Private.States.{AreLoaded, AreOfParts, IsAlikeTuple}
+use Rattle.bpf_explore.proofs.StateLaws.{are_loaded}
 use Rattle.bpf_explore.specs.Private.Album.{Shelf, machine_of, machine_at, machines, IsState, IsShelf, Grows, FitsShelf, AddsOne, stocked}
 use Rattle.bpf_explore.specs.Private.Album.{ShowsFirst, AreNumbersOf, AreKeptUnder}
 use Rattle.bpf_explore.proofs.KeptLaws.{tuple_new}

@@ -15,7 +15,7 @@ use Rattle.bpf_machine.specs.Parts.{no_task}
 use Rattle.bpf_explore.specs.Stores.{no_store}
 use Rattle.bpf_explore.specs.Tuples.{TupleList, tuple_at, IsTuple, AreWhole, with_tuple}
 use Rattle.bpf_explore.specs.Private.Slots.{hash_of, IsPut}
-use Rattle.bpf_explore.specs.Private.Kept.{AreTuplesPut, HoldsTuples, part_at, ArePartsPut, HoldsParts, store_at, AreStoresPut, HoldsStores}
+use Rattle.bpf_explore.specs.Private.Kept.{part_at, ArePartsPut, HoldsParts, store_at, AreStoresPut, HoldsStores}
 
 -- no place is lost
 abbrev pub StillPut : List ℕ → List ℕ → Type 0
@@ -39,51 +39,6 @@ tuple_new t tuple whole size =
 
 pub whole_new : (t : TupleList) (tuple : List ℕ) → AreWhole t → length tuple ≡ t.width → AreWhole (with_tuple t tuple)
 whole_new t tuple whole size = (whole.0, length-append t.numbers tuple ∙ (let next = suc-mul t.count t.width in let old = whole.1 in omega arith))
-
-pub more_tuples_put : (t : TupleList) (slots new : List ℕ) (n : ℕ) → StillPut slots new → AreTuplesPut t slots n → IsPut new
-    (hash_of (tuple_at t n)) n → AreTuplesPut t new (n + 1)
-more_tuples_put t slots new n still far here i less = elim (cases_lt i n) [
-  | inl below ↦ still (hash_of (tuple_at t i)) i (far i below)
-  | inr past ↦ let e : n ≡ i = omega arith in subst (λ (k : ℕ). IsPut new (hash_of (tuple_at t k)) k) e here
-]
-
-pub still_holds_tuples : (t : TupleList) (slots new : List ℕ) → StillPut slots new → HoldsTuples t slots → HoldsTuples t new
-still_holds_tuples t slots new still is = record { whole = is.whole; put = λ i less. still (hash_of (tuple_at t i)) i (is.put i less); apart = is.apart }
-
-pub one_more_tuple : (t : TupleList) (tuple slots new : List ℕ) → StillPut slots new → HoldsTuples t slots → length tuple ≡ t.width →
-    ((n : ℕ) → IsTuple t n tuple → ⊥) → IsPut new (hash_of tuple) t.count → HoldsTuples (with_tuple t tuple) new
-one_more_tuple t tuple slots new still is size fresh here =
-    let whole = is.whole in
-    let last : tuple_at (with_tuple t tuple) t.count ≡ tuple = tuple_new t tuple whole size in
-    record {
-      whole = whole_new t tuple whole size;
-      put = λ i less. elim (cases_lt i t.count) [
-        | inl below ↦ subst (λ (x : List ℕ). IsPut new (hash_of x) i) (sym (tuple_still t tuple i whole below))
-            (still (hash_of (tuple_at t i)) i (is.put i below))
-        | inr past ↦
-            let e : t.count ≡ i = omega arith in
-            subst (λ (k : ℕ). IsPut new (hash_of (tuple_at (with_tuple t tuple) k)) k) e (subst (λ (x : List ℕ). IsPut new (hash_of x) t.count) (sym last) here)
-      ];
-      apart = λ i j less inside same. elim (cases_lt j t.count) [
-        | inl below ↦
-            let lower : i < t.count = omega arith in
-            is.apart i j less below (sym (tuple_still t tuple i whole lower) ∙ (same ∙ tuple_still t tuple j whole below))
-        | inr past ↦
-            let e : j ≡ t.count = omega arith in
-            let lower : i < t.count = omega arith in
-            fresh i (lower, sym (tuple_still t tuple i whole lower) ∙ (same ∙ (ap (tuple_at (with_tuple t tuple)) e ∙ last)))
-      ];
-    }
-
-pub widened_tuples : (t : TupleList) (slots new : List ℕ) (n : ℕ) → HoldsTuples t slots → t.count ≤ n → AreTuplesPut t new n → HoldsTuples t new
-widened_tuples t slots new n is past all = record { whole = is.whole; put = λ i less. all i (omega arith); apart = is.apart }
-
--- a tuple that is kept is put where its hash leads
-pub tuple_put : (t view : TupleList) (slots tuple : List ℕ) (n hash : ℕ) → t ≡ view → HoldsTuples t slots → hash ≡ hash_of tuple → IsTuple
-    view n tuple → IsPut slots hash n
-tuple_put t view slots tuple n hash same is hashed there =
-    let here : IsTuple t n tuple = subst (λ (u : TupleList). IsTuple u n tuple) (sym same) there in
-    subst (λ (h : ℕ). IsPut slots h n) (sym hashed) (subst (λ (x : List ℕ). IsPut slots (hash_of x) n) here.1 (is.put n here.0))
 
 -- the tuple that was added is there
 pub added_tuple : (old : TupleList) (tuple : List ℕ) → AreWhole old → length tuple ≡ old.width → IsTuple (with_tuple old tuple) old.count tuple

@@ -6,7 +6,7 @@ pub mod OutcomeLaws
 pub mod StandAlike
 pub mod ShelfLaws
 pub mod KeepLaws
-pub mod ClassLaws
+pub mod StateLaws
 pub mod AlbumLaws
 pub mod ScoutLaws
 pub mod ApartLaws

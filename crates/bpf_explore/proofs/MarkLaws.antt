@@ -17,7 +17,7 @@ use Rattle.bpf_explore.specs.Album.{HaveEndedAt, NoneRanOutAt}
 use Rattle.bpf_explore.specs.Search.{IsIdleAt}
 use Rattle.bpf_explore.specs.Private.Edges.{IsEdgeOf}
 use Rattle.bpf_explore.specs.Private.Ends.{LeadsToEnd, LeadToEnds, unmarked}
-use Rattle.bpf_explore.proofs.ClassLaws.{there}
+use Rattle.bpf_explore.proofs.StateLaws.{there}
 
 -- ---- turns
 turns_to : (old : MachineState) (c n : ℕ) (new : MachineState) → TurnsAhead old c n new → TurnsTo old c new

@@ -3,7 +3,7 @@ pub mod Slots
 pub mod Kept
 pub mod Album
 pub mod Scouts
-pub mod Classes
+pub mod States
 pub mod Trail
 pub mod Answers
 pub mod Patience

@@ -10,10 +10,9 @@ ghost use Rattle.bpf_machine.specs.Patient.{NoneRanOut};
 ghost use Rattle.bpf_explore.specs.Stores.{IsOfShape, no_store};
 ghost use Rattle.bpf_explore.specs.Private.Album.{AreKeptUnder, AreNumbersOf, HasEndedOn, IsNumberOf};
 
-use crate::classes::Classes;
 use crate::parts::Parts;
+use crate::states::States;
 use crate::stores::{Stores, new_store};
-use crate::tuples::Tuples;
 use bpf_alike::{Merged, live_tables};
 use bpf_machine::{KeptJob, Machine};
 use bpf_shared::StoreShape;
@@ -257,9 +256,7 @@ pub struct Album {
     machine: Machine,
     stores: Stores,
     parts: Parts,
-    states: Tuples,
-    /// By which machines are found that are alike.
-    classes: Classes,
+    states: States,
     /// Room to save a store.
     bytes: Vec<u8>,
     /// Room for the numbers of a state.
@@ -278,11 +275,11 @@ impl Model for Album {
       programs = a.machine.programs;
       stores = a.stores;
       parts = a.parts;
-      states = a.states;
+      states = a.states.tuples;
     } in
         record {
           machine = a.machine;
-          kept = machines shelf a.states.count;
+          kept = machines shelf a.states.tuples.count;
           cpus = a.shape.cpus;
           stock = stocked a.shape shelf;
         } };
@@ -291,10 +288,10 @@ impl Model for Album {
       programs = a.machine.programs;
       stores = a.stores;
       parts = a.parts;
-      states = a.states;
+      states = a.states.tuples;
     } in
         IsShelf a.shape shelf × FitsShelf a.shape shelf a.machine
-        × AreLiveTables a.machine.programs (table_at a.classes) };
+        × AreLiveTables a.machine.programs (table_at a.states.tables) };
 }
 
 impl Album {
@@ -328,8 +325,7 @@ impl Album {
             machine,
             stores: Stores::new(alloc),
             parts: Parts::new(alloc),
-            states: Tuples::new(alloc, width),
-            classes: Classes::new(alloc, tables),
+            states: States::new(alloc, width, tables),
             bytes: Vec::new(alloc),
             numbers: Vec::new(alloc),
         })
@@ -353,8 +349,7 @@ impl Album {
     /// About how many bytes of memory they take.
     pub fn bytes(&self) -> usize {
         let parts = self.parts.bytes().saturating_add(self.states.bytes());
-        let found = self.classes.bytes().saturating_add(parts);
-        self.stores.bytes(&self.shape).saturating_add(found)
+        self.stores.bytes(&self.shape).saturating_add(parts)
     }
 
     /// Takes a kept machine to work with.
@@ -428,12 +423,9 @@ impl Album {
             &mut self.bytes,
             &mut self.numbers,
         )?;
-        let number = self.classes.keep(
-            self.alloc,
-            &mut self.states,
-            self.parts.jobs(),
-            &self.numbers,
-        )?;
+        let number = self
+            .states
+            .keep(self.alloc, self.parts.jobs(), &self.numbers)?;
         Ok(number)
     }
 
@@ -450,9 +442,7 @@ impl Album {
         ensures cpus { self.new.cpus ≡ self.old.cpus }
         ensures stock { self.new.stock ≡ self.old.stock }
     {
-        let number = self
-            .classes
-            .keep(self.alloc, &mut self.states, self.parts.jobs(), numbers)?;
+        let number = self.states.keep(self.alloc, self.parts.jobs(), numbers)?;
         Ok(number)
     }
 

@@ -5,22 +5,13 @@ use Rattle.bpf_cpu.specs.Task.{Task}
 use Rattle.bpf_machine.specs.Hashes.{task_hash}
 use Rattle.bpf_machine.specs.Parts.{no_task}
 use Rattle.bpf_explore.specs.Stores.{no_store}
-use Rattle.bpf_explore.specs.Tuples.{TupleList, tuple_at, AreWhole}
+use Rattle.bpf_explore.specs.Tuples.{TupleList, tuple_at}
 use Rattle.bpf_explore.specs.Private.Slots.{hash_of, IsPut}
 
 -- ---- tuples
 -- no tuple is kept twice
 abbrev pub AreTuplesApart : TupleList → Type 0
 AreTuplesApart t = (i j : ℕ) → i < j → j < t.count → tuple_at t i ≢ tuple_at t j
-
--- the first n of them are found
-abbrev pub AreTuplesPut : TupleList → List ℕ → ℕ → Type 0
-AreTuplesPut t slots n = (i : ℕ) → i < n → IsPut slots (hash_of (tuple_at t i)) i
-
-pub record HoldsTuples (t : TupleList) (slots : List ℕ) : Type 0 where
-  pub whole : AreWhole t
-  pub put : AreTuplesPut t slots t.count
-  pub apart : AreTuplesApart t
 
 -- ---- jobs
 abbrev pub part_at : List Task → ℕ → Task

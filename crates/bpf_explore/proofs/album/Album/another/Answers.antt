@@ -13,7 +13,7 @@ another-requires c = record {
 pub returns : goal.returns
 returns c =
     let m = c.self.inside in
-    let shelf = shelf_of m.machine.programs m.stores m.parts m.states in
+    let shelf = shelf_of m.machine.programs m.stores m.parts m.states.tuples in
     let is = c.in_ok-machine.ensures in
     subst (λ (a : AlbumState). FitsStock a.stock c.in_ok-machine.machine) c.self.view_is
     (another_fits m.shape shelf m.machine c.in_ok-machine.machine c.in_ok-store.store c.self.invariant.1 c.in_ok-store.ensures

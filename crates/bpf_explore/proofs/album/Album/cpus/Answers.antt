@@ -10,7 +10,7 @@ returns-clause-cpus c = c.cpus.ensures.cpus ∙ ap (λ (a : AlbumState). a.cpus)
 pub returns-clause-idle : goal.returns-clause-idle
 returns-clause-idle c i k above =
     let m = c.self.inside in
-    let shelf = shelf_of m.machine.programs m.stores m.parts m.states in
+    let shelf = shelf_of m.machine.programs m.stores m.parts m.states.tuples in
     let count = c.cpus.ensures.cpus in
     let beyond : m.shape.cpus ≤ k = omega arith in
     subst (λ (a : AlbumState). IsIdleAt a.kept i k) c.self.view_is (idle_beyond m.shape shelf c.self.invariant.0 i k beyond)

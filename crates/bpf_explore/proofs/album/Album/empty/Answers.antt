@@ -8,6 +8,6 @@ pub invariant_of-result : goal.invariant_of-result
 invariant_of-result c = (
   search rules,
   search rules,
-  subst (λ (ps : List Loaded). AreLiveTables ps (table_at c.new-4.result)) c.programs.ensures
-      (subst (λ (ts : List Table). AreLiveTables c.programs.result.now (table_at ts)) (sym c.new-4.ensures) c.in_ok-tables.ensures.right),
+  subst (λ (ps : List Loaded). AreLiveTables ps (table_at c.new-3.result.tables)) c.programs.ensures
+      (subst (λ (ts : List Table). AreLiveTables c.programs.result.now (table_at ts)) (sym c.new-3.ensures.tables) c.in_ok-tables.ensures.right),
 )

@@ -11,16 +11,16 @@ use Rattle.bpf_explore.proofs.album.Album.has_work.Goals as goal
 pub tuple-requires : goal.tuple-requires
 tuple-requires c =
     let m = c.self.inside in
-    let shelf = shelf_of m.machine.programs m.stores m.parts m.states in
+    let shelf = shelf_of m.machine.programs m.stores m.parts m.states.tuples in
     kept_inside shelf c.args.place (subst (λ (a : AlbumState). c.args.place < length a.kept) (sym c.self.view_is) c.requires)
 
 pub returns : goal.returns
 returns c is =
     let m = c.self.inside in
     let cpu = c.args.cpu in
-    let shelf = shelf_of m.machine.programs m.stores m.parts m.states in
-    let numbers : c.behind_first.result.now ≡ drop 1 (tuple_at m.states c.args.place) = c.behind_first.ensures ∙ ap (drop 1) (sym c.tuple.ensures.tuple.1) in
-    let jobs : chosen c.jobs.result.now c.behind_first.result.now ≡ chosen m.parts (drop 1 (tuple_at m.states c.args.place)) = ap
+    let shelf = shelf_of m.machine.programs m.stores m.parts m.states.tuples in
+    let numbers : c.behind_first.result.now ≡ drop 1 (tuple_at m.states.tuples c.args.place) = c.behind_first.ensures ∙ ap (drop 1) (sym c.tuple.ensures.tuple.1) in
+    let jobs : chosen c.jobs.result.now c.behind_first.result.now ≡ chosen m.parts (drop 1 (tuple_at m.states.tuples c.args.place)) = ap
     (λ (ts : List Task). chosen ts c.behind_first.result.now) c.jobs.ensures ∙ ap (chosen m.parts) numbers in
     subst (λ (a : AlbumState). IsIdleAt a.kept c.args.place cpu) c.self.view_is
     (λ one at. subst (λ (ts : List Task). IsFree ts cpu × NoneWaits ts cpu) (jobs ∙ sym (kept_jobs shelf c.args.place one at))

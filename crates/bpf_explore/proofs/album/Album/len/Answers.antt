@@ -7,5 +7,5 @@ use Rattle.bpf_explore.proofs.album.Album.len.Goals as goal
 pub returns : goal.returns
 returns c =
     let m = c.self.inside in
-    c.count.ensures.count ∙ (sym (machines_length (shelf_of m.machine.programs m.stores m.parts m.states) m.states.count) ∙ ap
+    c.count.ensures.count ∙ (sym (machines_length (shelf_of m.machine.programs m.stores m.parts m.states.tuples) m.states.tuples.count) ∙ ap
     (λ (a : AlbumState). length a.kept) c.self.view_is)

@@ -8,7 +8,7 @@ use Rattle.bpf_explore.proofs.album.Album.refill.Goals as goal
 pub invariant_of-self : goal.invariant_of-self
 invariant_of-self c =
     let m = c.self.inside in
-    all_after m.shape m.stores m.parts m.states m.classes m.machine c.refill.new.self c.refill.ensures.same c.self.invariant
+    all_after m.shape m.stores m.parts m.states.tuples m.states.tables m.machine c.refill.new.self c.refill.ensures.same c.self.invariant
 
 pub returns-clause-refills : goal.returns-clause-refills
 returns-clause-refills c =
@@ -18,7 +18,7 @@ returns-clause-refills c =
 pub returns-clause-same : goal.returns-clause-same
 returns-clause-same c =
     let m = c.self.inside in
-    kept_with m.shape m.stores m.parts m.states m.machine c.refill.new.self c.refill.ensures.same.programs ∙ ap (λ (a : AlbumState). a.kept) c.self.view_is
+    kept_with m.shape m.stores m.parts m.states.tuples m.machine c.refill.new.self c.refill.ensures.same.programs ∙ ap (λ (a : AlbumState). a.kept) c.self.view_is
 
 pub returns-clause-cpus : goal.returns-clause-cpus
 returns-clause-cpus c = ap (λ (a : AlbumState). a.cpus) c.self.view_is
@@ -26,4 +26,4 @@ returns-clause-cpus c = ap (λ (a : AlbumState). a.cpus) c.self.view_is
 pub returns-clause-stock : goal.returns-clause-stock
 returns-clause-stock c =
     let m = c.self.inside in
-    stock_with m.shape m.stores m.parts m.states m.machine c.refill.new.self c.refill.ensures.same.programs ∙ ap (λ (a : AlbumState). a.stock) c.self.view_is
+    stock_with m.shape m.stores m.parts m.states.tuples m.machine c.refill.new.self c.refill.ensures.same.programs ∙ ap (λ (a : AlbumState). a.stock) c.self.view_is

@@ -8,7 +8,7 @@ use Rattle.bpf_explore.proofs.album.Album.turn_ahead.Goals as goal
 pub invariant_of-self : goal.invariant_of-self
 invariant_of-self c =
     let m = c.self.inside in
-    all_after m.shape m.stores m.parts m.states m.classes m.machine c.turn_ahead.new.self c.turn_ahead.ensures.same c.self.invariant
+    all_after m.shape m.stores m.parts m.states.tuples m.states.tables m.machine c.turn_ahead.new.self c.turn_ahead.ensures.same c.self.invariant
 
 pub returns-clause-turns : goal.returns-clause-turns
 returns-clause-turns c =
@@ -18,7 +18,7 @@ returns-clause-turns c =
 pub returns-clause-same : goal.returns-clause-same
 returns-clause-same c =
     let m = c.self.inside in
-    kept_with m.shape m.stores m.parts m.states m.machine c.turn_ahead.new.self c.turn_ahead.ensures.same.programs ∙ ap
+    kept_with m.shape m.stores m.parts m.states.tuples m.machine c.turn_ahead.new.self c.turn_ahead.ensures.same.programs ∙ ap
     (λ (a : AlbumState). a.kept) c.self.view_is
 
 pub returns-clause-runs : goal.returns-clause-runs
@@ -37,5 +37,5 @@ returns-clause-cpus c = ap (λ (a : AlbumState). a.cpus) c.self.view_is
 pub returns-clause-stock : goal.returns-clause-stock
 returns-clause-stock c =
     let m = c.self.inside in
-    stock_with m.shape m.stores m.parts m.states m.machine c.turn_ahead.new.self c.turn_ahead.ensures.same.programs ∙ ap
+    stock_with m.shape m.stores m.parts m.states.tuples m.machine c.turn_ahead.new.self c.turn_ahead.ensures.same.programs ∙ ap
     (λ (a : AlbumState). a.stock) c.self.view_is

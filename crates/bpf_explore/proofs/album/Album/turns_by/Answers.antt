@@ -7,7 +7,7 @@ use Rattle.bpf_explore.proofs.album.Album.turns_by.Goals as goal
 pub invariant_of-self : goal.invariant_of-self
 invariant_of-self c =
     let m = c.self.inside in
-    all_after m.shape m.stores m.parts m.states m.classes m.machine c.turns_by.new.self c.turns_by.ensures.same c.self.invariant
+    all_after m.shape m.stores m.parts m.states.tuples m.states.tables m.machine c.turns_by.new.self c.turns_by.ensures.same c.self.invariant
 
 pub returns-clause-runs : goal.returns-clause-runs
 returns-clause-runs c w shows =
@@ -17,10 +17,10 @@ returns-clause-runs c w shows =
 pub returns-clause-same : goal.returns-clause-same
 returns-clause-same c =
     let m = c.self.inside in
-    kept_with m.shape m.stores m.parts m.states m.machine c.turns_by.new.self c.turns_by.ensures.same.programs ∙ ap (λ (a : AlbumState). a.kept) c.self.view_is
+    kept_with m.shape m.stores m.parts m.states.tuples m.machine c.turns_by.new.self c.turns_by.ensures.same.programs ∙ ap (λ (a : AlbumState). a.kept) c.self.view_is
 
 pub returns-clause-stock : goal.returns-clause-stock
 returns-clause-stock c =
     let m = c.self.inside in
-    stock_with m.shape m.stores m.parts m.states m.machine c.turns_by.new.self c.turns_by.ensures.same.programs ∙ ap
+    stock_with m.shape m.stores m.parts m.states.tuples m.machine c.turns_by.new.self c.turns_by.ensures.same.programs ∙ ap
     (λ (a : AlbumState). a.stock) c.self.view_is

@@ -1,11 +1,14 @@
 -- Machines that are kept as others which are alike.
-use Rattle.std.specs.Prelude.{◌≡◌, ◌<◌, ℕ, All, List, Some, drop, length, slice_get, slice_index_or}
+use Rattle.std.specs.Prelude.{◌≡◌, ◌<◌, ℕ, All, List, Some, drop, fold, length, slice_get, slice_index_or}
 use Rattle.bpf_loader.specs.Loaded.{Loaded}
 use Rattle.bpf_cpu.specs.Task.{Task}
 use Rattle.bpf_live.specs.Live.{Table}
 use Rattle.bpf_alike.specs.Worlds.{AllAlike, AreLiveTables, IsAlike, table_at}
+use Rattle.bpf_machine.specs.Hashes.{mix}
 use Rattle.bpf_machine.specs.Parts.{chosen, no_task}
 use Rattle.bpf_explore.specs.Tuples.{TupleList, tuple_at}
+use Rattle.bpf_explore.specs.Private.Kept.{AreTuplesApart}
+use Rattle.bpf_explore.specs.Private.Slots.{IsPut}
 
 -- the program of each of the jobs is there
 abbrev pub AreLoaded : List Loaded → List Task → Type 0
@@ -38,3 +41,25 @@ abbrev pub IsAlikeTuple : List Table → List Task → List ℕ → List ℕ →
 IsAlikeTuple tables parts numbers tuple =
     (slice_index_or tuple 0 0 ≡ slice_index_or numbers 0 0)
     × AreAlikeBy tables parts (drop 1 numbers) (drop 1 tuple)
+
+-- ---- states that are kept
+-- each state as numbers, the registers that are compared, by program, and a hash of each kept job
+pub record StateList : Type 0 where
+  pub tuples : TupleList
+  pub tables : List Table
+  pub hashes : List ℕ
+
+-- where a state is looked for: its store counts by its number, and a job by its hash
+abbrev pub state_hash : List ℕ → List ℕ → ℕ
+state_hash hashes numbers = fold (λ hash n. mix hash (slice_index_or hashes n 0))
+    (mix 0 (slice_index_or numbers 0 0)) (drop 1 numbers)
+
+-- the first n of them are found
+abbrev pub AreStatesPut : TupleList → List ℕ → List ℕ → ℕ → Type 0
+AreStatesPut t hashes slots n = (i : ℕ) → i < n → IsPut slots (state_hash hashes (tuple_at t i)) i
+
+-- each is found, by the hashes of jobs that are known, and none is kept twice
+pub record HoldsStates (t : TupleList) (hashes slots : List ℕ) : Type 0 where
+  pub learned : (i : ℕ) → i < t.count → All (λ n. n < length hashes) (drop 1 (tuple_at t i))
+  pub put : AreStatesPut t hashes slots t.count
+  pub apart : AreTuplesApart t
