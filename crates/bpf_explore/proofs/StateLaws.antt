@@ -1,5 +1,5 @@
 -- Jobs that are alike, by their numbers, and states that are found by hashes.
-use Rattle.std.proofs.Common.{◌≡◌, ◌≢◌, ◌∙◌, ℕ, zero, suc, ◌+◌, ◌<◌, ◌≤◌, List, [], ◌∷◌, ◌++◌, Some, inl, inr, length, drop, refl, sym, ap, subst}
+use Rattle.std.proofs.Common.{◌≡◌, ◌∙◌, ℕ, zero, suc, ◌+◌, ◌<◌, ◌≤◌, List, [], ◌∷◌, ◌++◌, Some, inl, inr, length, drop, refl, sym, ap, subst}
 use Rattle.std.proofs.Common.{length-append, arith}
 use Rattle.std.specs.Prelude.{All, fold, slice_get, slice_index_or}
 use Rattle.std.proofs.Math.ListN.{get_or-append}
@@ -64,7 +64,8 @@ fold_still hashes more (n ∷ ns) first all =
     fold_still hashes more ns (mix first (slice_index_or (hashes ++ more) n 0)) (λ k d less. all (suc k) d (omega arith))
     ∙ ap (λ (h : ℕ). fold (λ hash k. mix hash (slice_index_or hashes k 0)) (mix first h) ns) here
 
-pub hash_still : (hashes more numbers : List ℕ) → All (λ n. n < length hashes) (drop 1 numbers) → state_hash (hashes ++ more) numbers ≡ state_hash hashes numbers
+pub hash_still : (hashes more numbers : List ℕ) → All (λ n. n < length hashes) (drop 1 numbers) → state_hash (hashes ++ more) numbers ≡
+    state_hash hashes numbers
 hash_still hashes more numbers all = fold_still hashes more (drop 1 numbers) (mix 0 (slice_index_or numbers 0 0)) all
 
 pub learned_still : (hashes more numbers : List ℕ) → All (λ n. n < length hashes) numbers → All (λ n. n < length (hashes ++ more)) numbers

@@ -192,6 +192,20 @@ impl Explorer {
         Ok(())
     }
 
+    /// Makes a turn that no scout has noted. That of a CPU without work leads to the machine that it is
+    /// made from.
+    fn make_unnoted(&mut self, place: usize, cpu: u8) -> Result<(), AllocError>
+        requires { place < length self.old.kept }
+        ensures turned { OnOk result (IsTurned false self.new.kept place cpu) }
+        ensures extends { Extends self.old.kept self.new.kept }
+        ensures width { self.new.cpus ≡ self.old.cpus }
+    {
+        if !self.album.has_work(place, cpu) {
+            return Ok(());
+        }
+        self.make(place, cpu)
+    }
+
     /// A schedule leads to each of them.
     pub fn leads(&self)
         ensures { AreLed self.now.kept }
@@ -234,11 +248,8 @@ impl Frontier for Explorer {
     }
 
     fn turn(&mut self, place: usize, cpu: u8) -> Result<(), AllocError> {
-        if !self.album.has_work(place, cpu) {
-            return Ok(());
-        }
         let Some(found) = self.scouts.find(place, cpu) else {
-            return self.make(place, cpu);
+            return self.make_unnoted(place, cpu);
         };
         let from = number_of(place)?;
         let ahead = found.note.ahead;

@@ -259,6 +259,22 @@ impl PatientExplorer {
         Ok(())
     }
 
+    /// Makes a turn that no scout has noted.
+    fn make_unnoted(&mut self, place: usize, cpu: u8) -> Result<(), AllocError>
+        requires { place < length self.old.kept }
+        ensures turned { OnOk result (IsTurned true self.new.kept place cpu) }
+        ensures made { OnOk result ((turns : List (ℕ × ℕ)) → self.old.made ≡ turns
+            → self.new.made ≡ turns ++ (place, cpu) ∷ []) }
+        ensures extends { Extends self.old.kept self.new.kept }
+        ensures width { self.new.cpus ≡ self.old.cpus }
+    {
+        if self.album.has_work(place, cpu) {
+            self.make(place, cpu)
+        } else {
+            self.stay(place, cpu)
+        }
+    }
+
     /// A schedule leads to each of them, where jobs are given steps on the way.
     pub fn leads(&self)
         ensures { AreLedFreely self.now.kept }
@@ -313,11 +329,8 @@ impl Frontier for PatientExplorer {
     }
 
     fn turn(&mut self, place: usize, cpu: u8) -> Result<(), AllocError> {
-        if !self.album.has_work(place, cpu) {
-            return self.stay(place, cpu);
-        }
         let Some(found) = self.scouts.find(place, cpu) else {
-            return self.make(place, cpu);
+            return self.make_unnoted(place, cpu);
         };
         let number = self.arrivals.len();
         let cpus = self.album.cpus();

@@ -7,7 +7,8 @@ use Rattle.bpf_explore.proofs.StateLaws.{part_read}
 use Rattle.bpf_explore.proofs.states.is_like_part.Goals as goal
 
 pub returns-then-number-other-clause-like : goal.returns-then-number-other-clause-like
-returns-then-number-other-clause-like c is programs program right loaded = inl (ap (λ (n : ℕ). slice_index_or c.args.parts.now n no_task) (sym c.if-number-other.true))
+returns-then-number-other-clause-like c is programs program right loaded = inl
+    (ap (λ (n : ℕ). slice_index_or c.args.parts.now n no_task) (sym c.if-number-other.true))
 
 pub returns-clause-like : goal.returns-clause-like
 returns-clause-like c is programs program right loaded =

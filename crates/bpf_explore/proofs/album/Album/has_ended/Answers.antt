@@ -19,7 +19,8 @@ pub returns-clause-ended : goal.returns-clause-ended
 returns-clause-ended c is =
     let m = c.self.inside in
     let shelf = shelf_of m.machine.programs m.stores m.parts m.states.tuples in
-    let numbers : c.behind_first.result.now ≡ drop 1 (tuple_at m.states.tuples c.args.place) = c.behind_first.ensures ∙ ap (drop 1) (sym c.tuple.ensures.tuple.1) in
+    let numbers : c.behind_first.result.now ≡ drop 1 (tuple_at m.states.tuples c.args.place) = c.behind_first.ensures ∙ ap (drop 1)
+    (sym c.tuple.ensures.tuple.1) in
     let jobs : chosen c.jobs.result.now c.behind_first.result.now ≡ chosen m.parts (drop 1 (tuple_at m.states.tuples c.args.place)) = ap
     (λ (ts : List Task). chosen ts c.behind_first.result.now) c.jobs.ensures ∙ ap (chosen m.parts) numbers in
     subst (λ (a : AlbumState). HaveEndedAt a.kept c.args.place) c.self.view_is
@@ -29,7 +30,8 @@ pub returns-clause-works : goal.returns-clause-works
 returns-clause-works c is all =
     let m = c.self.inside in
     let shelf = shelf_of m.machine.programs m.stores m.parts m.states.tuples in
-    let numbers : c.behind_first.result.now ≡ drop 1 (tuple_at m.states.tuples c.args.place) = c.behind_first.ensures ∙ ap (drop 1) (sym c.tuple.ensures.tuple.1) in
+    let numbers : c.behind_first.result.now ≡ drop 1 (tuple_at m.states.tuples c.args.place) = c.behind_first.ensures ∙ ap (drop 1)
+    (sym c.tuple.ensures.tuple.1) in
     let jobs : chosen c.jobs.result.now c.behind_first.result.now ≡ chosen m.parts (drop 1 (tuple_at m.states.tuples c.args.place)) = ap
     (λ (ts : List Task). chosen ts c.behind_first.result.now) c.jobs.ensures ∙ ap (chosen m.parts) numbers in
     let less = kept_inside shelf c.args.place (subst (λ (a : AlbumState). c.args.place < length a.kept) (sym c.self.view_is) c.requires) in

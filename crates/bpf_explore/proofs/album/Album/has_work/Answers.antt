@@ -19,7 +19,8 @@ returns c is =
     let m = c.self.inside in
     let cpu = c.args.cpu in
     let shelf = shelf_of m.machine.programs m.stores m.parts m.states.tuples in
-    let numbers : c.behind_first.result.now ≡ drop 1 (tuple_at m.states.tuples c.args.place) = c.behind_first.ensures ∙ ap (drop 1) (sym c.tuple.ensures.tuple.1) in
+    let numbers : c.behind_first.result.now ≡ drop 1 (tuple_at m.states.tuples c.args.place) = c.behind_first.ensures ∙ ap (drop 1)
+    (sym c.tuple.ensures.tuple.1) in
     let jobs : chosen c.jobs.result.now c.behind_first.result.now ≡ chosen m.parts (drop 1 (tuple_at m.states.tuples c.args.place)) = ap
     (λ (ts : List Task). chosen ts c.behind_first.result.now) c.jobs.ensures ∙ ap (chosen m.parts) numbers in
     subst (λ (a : AlbumState). IsIdleAt a.kept c.args.place cpu) c.self.view_is

@@ -129,7 +129,8 @@ returns-in_err-number-clause-more c =
     let now = shelf_of m.machine.programs c.keep_machine.new.stores c.keep_machine.new.parts c.keep.new.self.tuples in
     subst (λ (a : AlbumState). HasMore a.stock (stocked m.shape now)) c.self.view_is
     (more_stock m.shape shelf m.machine c.keep_machine.new.stores c.keep_machine.new.parts c.self.invariant.0 c.self.invariant.1
-    c.keep_machine.ensures.adds c.keep_machine.ensures.grows c.keep.new.self.tuples (width_of m.states.tuples c.keep.new.self.tuples c.deref.result.now c.keep.ensures.adds))
+    c.keep_machine.ensures.adds c.keep_machine.ensures.grows c.keep.new.self.tuples
+    (width_of m.states.tuples c.keep.new.self.tuples c.deref.result.now c.keep.ensures.adds))
 
 pub returns-clause-more : goal.returns-clause-more
 returns-clause-more c =
@@ -138,4 +139,5 @@ returns-clause-more c =
     let now = shelf_of m.machine.programs c.keep_machine.new.stores c.keep_machine.new.parts c.keep.new.self.tuples in
     subst (λ (a : AlbumState). HasMore a.stock (stocked m.shape now)) c.self.view_is
     (more_stock m.shape shelf m.machine c.keep_machine.new.stores c.keep_machine.new.parts c.self.invariant.0 c.self.invariant.1
-    c.keep_machine.ensures.adds c.keep_machine.ensures.grows c.keep.new.self.tuples (width_of m.states.tuples c.keep.new.self.tuples c.deref.result.now c.keep.ensures.adds))
+    c.keep_machine.ensures.adds c.keep_machine.ensures.grows c.keep.new.self.tuples
+    (width_of m.states.tuples c.keep.new.self.tuples c.deref.result.now c.keep.ensures.adds))

@@ -18,7 +18,8 @@ returns-clause-refills c =
 pub returns-clause-same : goal.returns-clause-same
 returns-clause-same c =
     let m = c.self.inside in
-    kept_with m.shape m.stores m.parts m.states.tuples m.machine c.refill.new.self c.refill.ensures.same.programs ∙ ap (λ (a : AlbumState). a.kept) c.self.view_is
+    kept_with m.shape m.stores m.parts m.states.tuples m.machine c.refill.new.self c.refill.ensures.same.programs ∙ ap
+    (λ (a : AlbumState). a.kept) c.self.view_is
 
 pub returns-clause-cpus : goal.returns-clause-cpus
 returns-clause-cpus c = ap (λ (a : AlbumState). a.cpus) c.self.view_is
@@ -26,4 +27,5 @@ returns-clause-cpus c = ap (λ (a : AlbumState). a.cpus) c.self.view_is
 pub returns-clause-stock : goal.returns-clause-stock
 returns-clause-stock c =
     let m = c.self.inside in
-    stock_with m.shape m.stores m.parts m.states.tuples m.machine c.refill.new.self c.refill.ensures.same.programs ∙ ap (λ (a : AlbumState). a.stock) c.self.view_is
+    stock_with m.shape m.stores m.parts m.states.tuples m.machine c.refill.new.self c.refill.ensures.same.programs ∙ ap
+    (λ (a : AlbumState). a.stock) c.self.view_is

@@ -17,7 +17,8 @@ returns-clause-runs c w shows =
 pub returns-clause-same : goal.returns-clause-same
 returns-clause-same c =
     let m = c.self.inside in
-    kept_with m.shape m.stores m.parts m.states.tuples m.machine c.turns_by.new.self c.turns_by.ensures.same.programs ∙ ap (λ (a : AlbumState). a.kept) c.self.view_is
+    kept_with m.shape m.stores m.parts m.states.tuples m.machine c.turns_by.new.self c.turns_by.ensures.same.programs ∙ ap
+    (λ (a : AlbumState). a.kept) c.self.view_is
 
 pub returns-clause-stock : goal.returns-clause-stock
 returns-clause-stock c =

@@ -2,18 +2,11 @@ use Rattle.std.proofs.Common.{◌∙◌, ◌<◌, false, length, refl, sym, ap, 
 use Rattle.bpf_machine.specs.Schedule.{RunsSchedule}
 use Rattle.bpf_explore.specs.declared.explorer.Origin.{Origin}
 use Rattle.bpf_explore.specs.Album.{AlbumState}
-use Rattle.bpf_explore.specs.Search.{Extends, IsTurned}
+use Rattle.bpf_explore.specs.Search.{Extends}
 use Rattle.bpf_explore.proofs.AlbumLaws.{turned, adds_extends, kept_somewhere}
 use Rattle.bpf_explore.proofs.ScoutLaws.{found_turn, taken_turn, leads_exactly, same_has_more, scouts_more}
 use Rattle.bpf_explore.proofs.TrailLaws.{schedules_join, led_there, cut_origins}
-use Rattle.bpf_explore.proofs.SearchLaws.{idle_turned}
 use Rattle.bpf_explore.proofs.explorer.ExplorerFrontier.turn.Goals as goal
-
-pub returns-then-not-has_work-clause-turned : goal.returns-then-not-has_work-clause-turned
-returns-then-not-has_work-clause-turned c =
-    let m = c.self.inside in
-    subst (λ (a : AlbumState). IsTurned false a.kept c.args.place c.args.cpu) c.self.view_is
-    (idle_turned false m.album.kept c.args.place c.args.cpu (c.if-not-has_work.ensures refl))
 
 pub numbers-requires : goal.numbers-requires
 numbers-requires c =

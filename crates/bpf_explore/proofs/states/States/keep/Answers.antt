@@ -11,7 +11,8 @@ pub returns-in-Some-clause-alike : goal.returns-in-Some-clause-alike
 returns-in-Some-clause-alike c =
     let parts = c.args.parts.now in
     let numbers = c.args.numbers.now in
-    subst (λ (ts : List Table). IsAlikeTuple ts parts numbers (tuple_at c.learn.new.self.tuples c.in-Some.number)) c.learn.ensures.tables c.in-Some.ensures.alike
+    subst (λ (ts : List Table). IsAlikeTuple ts parts numbers (tuple_at c.learn.new.self.tuples c.in-Some.number)) c.learn.ensures.tables
+    c.in-Some.ensures.alike
 
 -- the machine itself
 pub returns-clause-alike : goal.returns-clause-alike

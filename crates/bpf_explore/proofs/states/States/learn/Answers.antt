@@ -1,4 +1,4 @@
-use Rattle.std.proofs.Common.{◌≡◌, ◌∙◌, ◌+◌, ◌≤◌, ℕ, List, [], ◌∷◌, ◌++◌, length, length-append, sym, ap, subst, arith}
+use Rattle.std.proofs.Common.{◌∙◌, ℕ, List, [], ◌∷◌, length, length-append, sym, ap, subst, arith}
 use Rattle.bpf_explore.specs.Private.States.{HoldsStates}
 use Rattle.bpf_explore.proofs.StateLaws.{more_learned}
 use Rattle.bpf_explore.proofs.states.States.learn.Goals as goal
