@@ -1,7 +1,7 @@
 -- A machine and what it is kept as.
 use Rattle.std.proofs.Common.{◌≡◌, ◌∙◌, ℕ, ◌+◌, ◌<◌, ◌≤◌, ◌⊎◌, true, false, inl, inr, List, [], ◌∷◌, ◌++◌, Option, Some, None, length, drop}
 use Rattle.std.proofs.Common.{refl, sym, ap, subst, append-nil, arith}
-use Rattle.std.specs.Prelude.{All, nat_lt, slice_get, slice_index_or}
+use Rattle.std.specs.Prelude.{All, IfSome, nat_lt, slice_get, slice_index_or}
 use Rattle.std.proofs.lemmas.Bool.{ltb-true}
 use Rattle.std.proofs.lemmas.List.{length-drop, length-map}
 use Rattle.std.proofs.lemmas.Option.{slice_get_within}
@@ -13,7 +13,7 @@ use Rattle.bpf_plain.proofs.Alike.{alike_stand_alike}
 use Rattle.bpf_plain.proofs.SavedAlike.{saved_alike_look_alike}
 use Rattle.bpf_loader.specs.Loaded.{Loaded}
 use Rattle.bpf_cpu.specs.Task.{Stage, Task, Waiting, InHand}
-use Rattle.bpf_machine.specs.Hands.{IsAt}
+use Rattle.bpf_machine.specs.Hands.{IsAt, OthersStay}
 use Rattle.bpf_machine.specs.Listings.{Listing, listing_at}
 use Rattle.bpf_machine.specs.Machine.{MachineState, Shows}
 use Rattle.bpf_machine.specs.Parts.{CanStand, IsSameHost, chosen, made_of, no_task}
@@ -29,7 +29,9 @@ use Rattle.bpf_explore.specs.Tuples.{TupleList, tuple_at, with_tuple}
 use Rattle.bpf_explore.specs.Private.States.{AreLoaded, AreOfParts, IsAlikeTuple}
 use Rattle.bpf_explore.proofs.StateLaws.{are_loaded}
 use Rattle.bpf_explore.specs.Private.Album.{Shelf, machine_of, machine_at, machines, IsState, IsShelf, Grows, FitsShelf, AddsOne, stocked}
-use Rattle.bpf_explore.specs.Private.Album.{ShowsFirst, AreNumbersOf, AreKeptUnder}
+use Rattle.bpf_explore.specs.Private.Album.{ShowsFirst, AreNumbersOf, AreKeptUnder, AreOthers, CameBy, IsRecalled}
+use Rattle.bpf_explore.specs.declared.album.Turned.{Turned}
+use Rattle.bpf_explore.proofs.KeepLaws.{others_of}
 use Rattle.bpf_explore.proofs.KeptLaws.{tuple_new}
 use Rattle.bpf_explore.proofs.StandAlike.{can_stand}
 use Rattle.bpf_explore.proofs.ShelfLaws.{machines_length, machines_at, shapes_still, same_shelf, same_kept, more_shelf, more_kept}
@@ -401,3 +403,21 @@ turned old new place cpu m after at more turns kept other there =
     let two : Some m ≡ Some other = sym (still_at old new place m at more) ∙ there in
     let same : m ≡ other = cc in
     (after, subst (λ (n : MachineState). TurnsTo n cpu after) same turns, kept)
+
+-- ---- the jobs that a CPU's turn left have the numbers that they had
+pub recalled_others : (h : Shape) (s : Shelf) → IsShelf h s → (turned : Option Turned) (before : List ℕ) (c : ℕ) (jobs : List Task)
+    → IsRecalled s.states turned before c → CameBy (machines s s.states.count) turned jobs → AreOthers s.parts before c jobs
+recalled_others h s is None before c jobs recalled came j n at =
+    let no : slice_get [] j ≡ Some n = subst (λ (ns : List ℕ). slice_get ns j ≡ Some n) recalled at in cc
+recalled_others h s is (Some t) before c jobs recalled (m, at, stays) j n found =
+    let here = kept_is s t.place m at in
+    let tuple = drop 1 (tuple_at s.states t.place) in
+    let P : List ℕ → Type 0 = λ ns. AreOthers s.parts ns c jobs in
+    subst P (sym recalled.0) (others_of s.parts tuple c jobs m.jobs (sym (kept_jobs s t.place m at)) (is.states t.place here.0).within
+    (subst (λ (k : ℕ). OthersStay m.jobs k jobs) (sym recalled.1) stays)) j n found
+
+-- the kept machine that a turn was made from is there
+pub came_within : (s : Shelf) (turned : Option Turned) (jobs : List Task) → CameBy (machines s s.states.count) turned jobs
+    → IfSome turned (λ t. t.place < s.states.count)
+came_within s None jobs came = tt
+came_within s (Some t) jobs (m, at, stays) = (kept_is s t.place m at).0

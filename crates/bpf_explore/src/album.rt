@@ -1,14 +1,14 @@
 //! Machines that a search keeps: each store and each job once, and of each machine their numbers.
 
-ghost use Rattle.std.specs.Prelude.{◌≡◌, ◌<◌, ◌≤◌, ◌++◌, ◌∷◌, ◌⊎◌, List, [], ℕ, true, false, Some, All, IfOk, IfSome, OnOk, OnSome, drop, length, slice_get, slice_index_or};
+ghost use Rattle.std.specs.Prelude.{◌≡◌, ◌≢◌, ◌<◌, ◌≤◌, ◌++◌, ◌∷◌, ◌⊎◌, List, [], ℕ, true, false, Some, All, IfOk, IfSome, OnOk, OnSome, drop, length, slice_get, slice_index_or};
 ghost use Rattle.bpf_cpu.specs.Task.{Task};
 ghost use Rattle.bpf_plain.specs.PlainStore.{IsSavedAs};
-ghost use Rattle.bpf_machine.specs.Parts.{chosen};
 ghost use Rattle.bpf_machine.specs.Rounds.{HaveEnded};
 ghost use Rattle.bpf_machine.specs.Hands.{IsFree, NoneWaits};
 ghost use Rattle.bpf_machine.specs.Patient.{NoneRanOut};
 ghost use Rattle.bpf_explore.specs.Stores.{IsOfShape, no_store};
-ghost use Rattle.bpf_explore.specs.Private.Album.{AreKeptUnder, AreNumbersOf, HasEndedOn, IsNumberOf};
+ghost use Rattle.bpf_machine.specs.Parts.{chosen, no_task};
+ghost use Rattle.bpf_explore.specs.Private.Album.{AreKeptUnder, AreNumbersOf, AreOthers, HasEndedOn, IsNumberOf, IsRecalled};
 
 use crate::parts::Parts;
 use crate::states::States;
@@ -26,17 +26,83 @@ pub(crate) fn number_of(count: usize) -> Result<u32, AllocError>
     u32::try_from(count).map_err(|_| AllocError)
 }
 
+/// A CPU's turn from a kept machine.
+#[derive(Clone, Copy)]
+pub(crate) struct Turned {
+    pub place: usize,
+    pub cpu: u8,
+}
+
+/// Room in which a machine gets its numbers.
+#[derive(Drop)]
+pub(crate) struct Room {
+    /// For what its store is saved as.
+    pub bytes: Vec<u8>,
+    pub numbers: Vec<u32>,
+    /// Those that its jobs had before a CPU's turn, which leaves the jobs of other CPUs; none where it is
+    /// not known what it came from.
+    pub before: Vec<u32>,
+    /// The CPU.
+    pub cpu: u8,
+}
+
+impl Room {
+    /// Nothing is known.
+    pub(crate) fn new(alloc: Global) -> Room
+        ensures { result.before.items ≡ [] }
+    {
+        Room {
+            bytes: Vec::new(alloc),
+            numbers: Vec::new(alloc),
+            before: Vec::new(alloc),
+            cpu: 0,
+        }
+    }
+}
+
+/// Has the numbers be known of the jobs that a machine had before a CPU's turn, if it came by one.
+fn recall(room: &mut Room, states: &States, turned: Option<Turned>) -> Result<(), AllocError>
+    requires { IfSome turned (λ t. t.place < states.now.tuples.count) }
+    ensures { OnOk result (IsRecalled states.now.tuples turned room.new.before.items room.new.cpu) }
+{
+    room.before.clear();
+    if let Some(turned) = turned {
+        let tuple = states.tuple(turned.place);
+        room.before.extend_from_slice(behind_first(tuple))?;
+        room.cpu = turned.cpu;
+    }
+    Ok(())
+}
+
+/// The number of a job that a CPU's turn left as it was.
+fn other_number(parts: &[KeptJob], room: &Room, job: usize) -> Option<u32>
+    requires { All (λ n. n < length parts.now) room.now.before.items }
+    ensures { IfSome result (λ n. (slice_get room.now.before.items job ≡ Some n)
+        × ((slice_index_or parts.now n no_task).cpu ≢ room.now.cpu)) }
+{
+    let number = *room.before.get(job)?;
+    if parts[number as usize].cpu() == room.cpu {
+        return None;
+    }
+    Some(number)
+}
+
 /// The number under which a machine's job is kept.
 fn keep_job(
     alloc: Global,
     parts: &mut Parts,
     machine: &Machine,
+    room: &Room,
     job: usize,
 ) -> Result<u32, AllocError>
-    requires { job < length machine.now.jobs }
+    requires job { job < length machine.now.jobs }
+    requires others { AreOthers parts.old room.now.before.items room.now.cpu machine.now.jobs }
     ensures grows { (more : List Task) × (parts.new ≡ parts.old ++ more) }
     ensures number { IfOk result (λ n. IsNumberOf parts.new n machine.now.jobs job) }
 {
+    if let Some(number) = other_number(parts.jobs(), room, job) {
+        return Ok(number);
+    }
     let number = parts.keep(alloc, machine, job)?;
     number_of(number)
 }
@@ -46,16 +112,17 @@ fn keep_jobs(
     alloc: Global,
     parts: &mut Parts,
     machine: &Machine,
-    numbers: &mut Vec<u32>,
+    room: &mut Room,
 ) -> Result<(), AllocError>
+    requires { AreOthers parts.old room.old.before.items room.old.cpu machine.now.jobs }
     ensures grows { (more : List Task) × (parts.new ≡ parts.old ++ more) }
     ensures numbers { OnOk result ((more : List ℕ)
-        × (numbers.new.items ≡ numbers.old.items ++ more)
+        × (room.new.numbers.items ≡ room.old.numbers.items ++ more)
         × AreNumbersOf parts.new more machine.now.jobs) }
 {
     for job in 0..machine.jobs() {
-        let number = keep_job(alloc, parts, machine, job)?;
-        numbers.push(number)?;
+        let number = keep_job(alloc, parts, machine, room, job)?;
+        room.numbers.push(number)?;
     }
     Ok(())
 }
@@ -99,27 +166,27 @@ fn keep_store(
     number_of(number)
 }
 
-/// The numbers under which a machine's store and jobs are kept are written over the numbers.
+/// The numbers under which a machine's store and jobs are kept are written over those of the room.
 fn keep_machine(
     alloc: Global,
     shape: &StoreShape,
     machine: &Machine,
     stores: &mut Stores,
     parts: &mut Parts,
-    bytes: &mut Vec<u8>,
-    numbers: &mut Vec<u32>,
+    room: &mut Room,
 ) -> Result<(), AllocError>
-    requires { IsOfShape shape.now machine.now.store }
+    requires shape { IsOfShape shape.now machine.now.store }
+    requires others { AreOthers parts.old room.old.before.items room.old.cpu machine.now.jobs }
     ensures adds { (stores.new ≡ stores.old)
         ⊎ (stores.new ≡ stores.old ++ machine.now.store ∷ []) }
     ensures grows { (more : List Task) × (parts.new ≡ parts.old ++ more) }
     ensures numbers { OnOk result
-        (AreKeptUnder stores.new parts.new machine.now numbers.new.items) }
+        (AreKeptUnder stores.new parts.new machine.now room.new.numbers.items) }
 {
-    clear_numbers(numbers);
-    let store = keep_store(alloc, stores, shape, machine, bytes)?;
-    numbers.push(store)?;
-    keep_jobs(alloc, parts, machine, numbers)?;
+    clear_numbers(&mut room.numbers);
+    let store = keep_store(alloc, stores, shape, machine, &mut room.bytes)?;
+    room.numbers.push(store)?;
+    keep_jobs(alloc, parts, machine, room)?;
     Ok(())
 }
 
@@ -137,45 +204,47 @@ fn find_store(stores: &Stores, machine: &Machine, bytes: &mut Vec<u8>) -> Option
 }
 
 /// The number under which a machine's job is kept, if it is.
-fn find_job(parts: &Parts, machine: &Machine, job: usize) -> Option<u32>
-    requires { job < length machine.now.jobs }
+fn find_job(parts: &Parts, machine: &Machine, room: &Room, job: usize) -> Option<u32>
+    requires job { job < length machine.now.jobs }
+    requires others { AreOthers parts.now room.now.before.items room.now.cpu machine.now.jobs }
     ensures { IfSome result (λ n. IsNumberOf parts.now n machine.now.jobs job) }
 {
+    if let Some(number) = other_number(parts.jobs(), room, job) {
+        return Some(number);
+    }
     let number = parts.number(machine, job)?;
     number_of(number).ok()
 }
 
 /// Puts the numbers under which a machine's jobs are kept after what is there, if they all are.
-fn find_jobs(parts: &Parts, machine: &Machine, numbers: &mut Vec<u32>) -> Option<()>
-    ensures { OnSome result ((more : List ℕ) × (numbers.new.items ≡ numbers.old.items ++ more)
+fn find_jobs(parts: &Parts, machine: &Machine, room: &mut Room) -> Option<()>
+    requires { AreOthers parts.now room.old.before.items room.old.cpu machine.now.jobs }
+    ensures { OnSome result ((more : List ℕ)
+        × (room.new.numbers.items ≡ room.old.numbers.items ++ more)
         × AreNumbersOf parts.now more machine.now.jobs) }
 {
     for job in 0..machine.jobs() {
-        let number = find_job(parts, machine, job)?;
-        let Ok(()) = numbers.push(number) else {
+        let number = find_job(parts, machine, room, job)?;
+        let Ok(()) = room.numbers.push(number) else {
             return None;
         };
     }
     Some(())
 }
 
-/// The numbers under which a machine's store and jobs are kept are written over the numbers, if they
-/// all are.
-fn find_machine(
-    machine: &Machine,
-    stores: &Stores,
-    parts: &Parts,
-    bytes: &mut Vec<u8>,
-    numbers: &mut Vec<u32>,
-) -> Option<()>
-    ensures { OnSome result (AreKeptUnder stores.now parts.now machine.now numbers.new.items) }
+/// The numbers under which a machine's store and jobs are kept are written over those of the room, if
+/// they all are.
+fn find_machine(machine: &Machine, stores: &Stores, parts: &Parts, room: &mut Room) -> Option<()>
+    requires { AreOthers parts.now room.old.before.items room.old.cpu machine.now.jobs }
+    ensures { OnSome result
+        (AreKeptUnder stores.now parts.now machine.now room.new.numbers.items) }
 {
-    clear_numbers(numbers);
-    let store = find_store(stores, machine, bytes)?;
-    let Ok(()) = numbers.push(store) else {
+    clear_numbers(&mut room.numbers);
+    let store = find_store(stores, machine, &mut room.bytes)?;
+    let Ok(()) = room.numbers.push(store) else {
         return None;
     };
-    find_jobs(parts, machine, numbers)?;
+    find_jobs(parts, machine, room)?;
     Some(())
 }
 
@@ -257,10 +326,7 @@ pub struct Album {
     stores: Stores,
     parts: Parts,
     states: States,
-    /// Room to save a store.
-    bytes: Vec<u8>,
-    /// Room for the numbers of a state.
-    numbers: Vec<u32>,
+    room: Room,
 }
 
 impl Model for Album {
@@ -303,7 +369,8 @@ impl Album {
     ghost use Rattle.bpf_explore.specs.Search.{IsIdleAt};
     ghost use Rattle.bpf_explore.specs.Stores.{IsOfShape};
     ghost use Rattle.bpf_explore.specs.Album.{ShowsFirst, IsKeptAlikeAt, AreApart, HaveEndedAt, NoneRanOutAt, HaveBudgets, AreKeptUnder, FitsStock, HasMore, IsNumbered};
-    ghost use Rattle.bpf_explore.specs.Private.Album.{AddsOne};
+    ghost use Rattle.bpf_machine.specs.Hands.{OthersStay};
+    ghost use Rattle.bpf_explore.specs.Private.Album.{AddsOne, CameBy};
 
     /// Nothing is kept yet.
     fn empty(
@@ -326,8 +393,7 @@ impl Album {
             stores: Stores::new(alloc),
             parts: Parts::new(alloc),
             states: States::new(alloc, width, tables),
-            bytes: Vec::new(alloc),
-            numbers: Vec::new(alloc),
+            room: Room::new(alloc),
         })
     }
 
@@ -374,6 +440,7 @@ impl Album {
         ensures ahead { TurnsAhead self.old.machine cpu result self.new.machine }
         ensures runs { (w : World) → Shows self.old.machine w → (z : World)
             × RunsSchedule w (cpu ∷ replicate result cpu) z × Shows self.new.machine z }
+        ensures others { OthersStay self.old.machine.jobs cpu self.new.machine.jobs }
         ensures same { self.new.kept ≡ self.old.kept }
         ensures cpus { self.new.cpus ≡ self.old.cpus }
         ensures stock { self.new.stock ≡ self.old.stock }
@@ -404,8 +471,9 @@ impl Album {
     }
 
     /// Keeps the machine, unless one is found that shows all that it shows, perhaps but for registers
-    /// that are written before they are read. Under which number.
-    pub(crate) fn keep(&mut self) -> Result<usize, AllocError>
+    /// that are written before they are read. Under which number. It may have come by a CPU's turn.
+    pub(crate) fn keep(&mut self, turned: Option<Turned>) -> Result<usize, AllocError>
+        requires { CameBy self.old.kept turned self.old.machine.jobs }
         ensures within { IfOk result (λ n. n < length self.new.kept) }
         ensures kept { IfOk result (λ n. IsKeptAlikeAt self.new.kept n self.new.machine) }
         ensures adds { AddsOne self.old.kept self.old.machine self.new.kept }
@@ -414,18 +482,18 @@ impl Album {
         ensures more { HasMore self.old.stock self.new.stock }
     {
         self.machine.stands();
+        recall(&mut self.room, &self.states, turned)?;
         keep_machine(
             self.alloc,
             &self.shape,
             &self.machine,
             &mut self.stores,
             &mut self.parts,
-            &mut self.bytes,
-            &mut self.numbers,
+            &mut self.room,
         )?;
         let number = self
             .states
-            .keep(self.alloc, self.parts.jobs(), &self.numbers)?;
+            .keep(self.alloc, self.parts.jobs(), &self.room.numbers)?;
         Ok(number)
     }
 
@@ -460,19 +528,17 @@ impl Album {
         Ok(())
     }
 
-    /// The numbers under which the store and the jobs of another machine are there are written over
-    /// the numbers, if they all are. What the store is saved as is written over the bytes.
-    pub(crate) fn number(
-        &self,
-        machine: &Machine,
-        bytes: &mut Vec<u8>,
-        numbers: &mut Vec<u32>,
-    ) -> bool
-        requires { FitsStock self.now.stock machine.now }
-        ensures { result ≡ true
-            → AreKeptUnder self.now.stock.stores self.now.stock.parts machine.now numbers.new.items }
+    /// The numbers under which the store and the jobs of another machine are there, which came by a
+    /// CPU's turn, are written over those of the room, if they all are.
+    pub(crate) fn number(&self, machine: &Machine, room: &mut Room, turned: Turned) -> bool
+        requires { CameBy self.now.kept (Some turned) machine.now.jobs }
+        ensures { result ≡ true → AreKeptUnder self.now.stock.stores self.now.stock.parts
+            machine.now room.new.numbers.items }
     {
-        find_machine(machine, &self.stores, &self.parts, bytes, numbers).is_some()
+        let Ok(()) = recall(room, &self.states, Some(turned)) else {
+            return false;
+        };
+        find_machine(machine, &self.stores, &self.parts, room).is_some()
     }
 
     /// Another machine of the same kind.
@@ -551,7 +617,7 @@ impl Album {
         ensures first { IfOk result (λ a. ShowsFirst a.kept machine) }
     {
         let mut album = Album::empty(alloc, shape, machine, merged)?;
-        album.keep()?;
+        album.keep(None)?;
         Ok(album)
     }
 }

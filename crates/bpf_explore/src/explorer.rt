@@ -3,7 +3,7 @@
 ghost use Rattle.std.specs.Prelude.{◌≡◌, ◌++◌, IfOk, OnOk, replicate, reverse};
 ghost use Rattle.bpf_machine.specs.Schedule.{unrolled};
 
-use crate::album::{Album, number_of};
+use crate::album::{Album, Turned, number_of};
 use crate::crew::Crew;
 use crate::diving::{Course, dive};
 use crate::frontier::Frontier;
@@ -186,7 +186,7 @@ impl Explorer {
         let made = self.album.turn_ahead(cpu);
         let ahead = turns_of(made)?;
         self.origins.push(Origin { from, ahead, cpu })?;
-        let kept = self.album.keep();
+        let kept = self.album.keep(Some(Turned { place, cpu }));
         self.origins.truncate(self.album.len());
         kept?;
         Ok(())

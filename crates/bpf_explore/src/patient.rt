@@ -1,7 +1,7 @@
 //! The patient search: machines that differ only in how many steps are left of budgets count as
 //! one, which has them all.
 
-use crate::album::{Album, number_of};
+use crate::album::{Album, Turned, number_of};
 use crate::crew::Crew;
 use crate::diving::{Course, dive};
 use crate::explorer::{Origin, push_turns, turns_of};
@@ -231,7 +231,7 @@ impl PatientExplorer {
         let ahead = turns_of(made)?;
         self.album.refill(cpu);
         self.origins.push(Origin { from, ahead, cpu })?;
-        let kept = self.album.keep();
+        let kept = self.album.keep(Some(Turned { place, cpu }));
         self.origins.truncate(self.album.len());
         let number = kept?;
         let to = number_of(number)?;

@@ -2,12 +2,13 @@
 
 ghost use Rattle.std.specs.Prelude.{◌≡◌, ◌+◌, ◌<◌, ◌≤◌, Bool, List, ℕ, [], All, IfOk, IfSome, Some, length, slice_get};
 ghost use Rattle.bpf_base.specs.Bytes.{part};
+ghost use Rattle.bpf_machine.specs.Hands.{OthersStay};
 ghost use Rattle.bpf_machine.specs.Machine.{MachineState};
 ghost use Rattle.bpf_explore.specs.Album.{FitsStock, Stock};
 ghost use Rattle.bpf_explore.specs.Scouts.{AreNotes, AreScouts, HasTurned, IsRefilledIn, IsScout, IsTurnAhead, StaysScout};
 ghost use Rattle.bpf_explore.specs.Private.Scouts.{HasTuple, IsFound};
 
-use crate::album::{Album, number_of};
+use crate::album::{Album, Room, Turned, number_of};
 use crate::crew::Crew;
 use crate::explorer::turns_of;
 use bpf_machine::Machine;
@@ -41,10 +42,7 @@ pub struct Scout {
     /// The first state that it goes on from.
     start: usize,
     cpus: u8,
-    /// Room to save a store.
-    bytes: Vec<u8>,
-    /// Room for the numbers of a state.
-    numbers: Vec<u32>,
+    room: Room,
     /// Of the turns of each CPU from each of its states, in their order.
     notes: Vec<Option<Note>>,
     /// The numbers of what they lead to.
@@ -73,6 +71,8 @@ fn make_turn(
     requires fits { FitsStock album.now.stock machine.old }
     requires there { place < length album.now.kept }
     ensures turned { IfOk result (λ n. HasTurned patient album.now.kept place cpu n machine.new) }
+    ensures others { IfOk result (λ n. (old : MachineState)
+        × (slice_get album.now.kept place ≡ Some old) × OthersStay old.jobs cpu machine.new.jobs) }
     ensures fits { FitsStock album.now.stock machine.new }
 {
     album.look(machine, place)?;
@@ -133,8 +133,7 @@ impl Scout {
             patient,
             start: 0,
             cpus,
-            bytes: Vec::new(alloc),
-            numbers: Vec::new(alloc),
+            room: Room::new(alloc),
             notes: Vec::new(alloc),
             tuples: Vec::new(alloc),
         })
@@ -152,11 +151,11 @@ impl Scout {
         let from = number_of(place)?;
         let ahead = make_turn(album, &mut self.machine, self.patient, place, cpu)?;
         self.machine.stands();
-        if album.number(&self.machine, &mut self.bytes, &mut self.numbers) {
+        if album.number(&self.machine, &mut self.room, Turned { place, cpu }) {
             note_turn(
                 &mut self.notes,
                 &mut self.tuples,
-                &self.numbers,
+                &self.room.numbers,
                 from,
                 cpu,
                 ahead,

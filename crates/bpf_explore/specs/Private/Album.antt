@@ -1,14 +1,16 @@
 -- What a search keeps of machines: stores and jobs once, and of each machine their numbers.
 pub use Rattle.bpf_explore.specs.Album.{AlbumState, AreKeptUnder, AreNumbersOf, ShowsFirst, Stock}
-use Rattle.std.specs.Prelude.{◌≡◌, ℕ, zero, suc, ◌+◌, ◌<◌, ◌⊎◌, All, List, [], ◌∷◌, ◌++◌, Some, None, length, drop, slice_get, slice_index_or}
+use Rattle.std.specs.Prelude.{◌≡◌, ◌≢◌, ℕ, zero, suc, ◌+◌, ◌<◌, ◌⊎◌, All, List, [], ◌∷◌, ◌++◌, Option, Some, None, length, drop, slice_get, slice_index_or}
 use Rattle.bpf_shared.specs.Shape.{Shape}
 use Rattle.bpf_plain.specs.PlainStore.{Contents}
 use Rattle.bpf_loader.specs.Loaded.{Loaded}
 use Rattle.bpf_cpu.specs.declared.outcome.Outcome.{Outcome}
 use Rattle.bpf_cpu.specs.Task.{Task, Ended}
 use Rattle.bpf_machine.specs.Schedule.{World}
+use Rattle.bpf_machine.specs.Hands.{OthersStay}
 use Rattle.bpf_machine.specs.Machine.{MachineState, Shows}
 use Rattle.bpf_machine.specs.Parts.{CanStand, made_of, no_task}
+use Rattle.bpf_explore.specs.declared.album.Turned.{Turned}
 use Rattle.bpf_explore.specs.Stores.{IsOfShape, no_store}
 use Rattle.bpf_explore.specs.Tuples.{TupleList, tuple_at, AreWhole}
 
@@ -65,6 +67,22 @@ pub record Grows (old new : Shelf) (store : Contents) : Type 0 where
 abbrev pub IsNumberOf : List Task → ℕ → List Task → ℕ → Type 0
 IsNumberOf parts n jobs j =
     (n < length parts) × (slice_get jobs j ≡ Some (slice_index_or parts n no_task))
+
+-- the job of each of these numbers is the machine's in its place, if it isn't the CPU's
+abbrev pub AreOthers : List Task → List ℕ → ℕ → List Task → Type 0
+AreOthers parts numbers c jobs = (j n : ℕ) → slice_get numbers j ≡ Some n → (n < length parts)
+    × ((slice_index_or parts n no_task).cpu ≢ c → slice_get jobs j ≡ Some (slice_index_or parts n no_task))
+
+-- the jobs come by the turn of a CPU from a kept machine, if it is known from which
+abbrev pub CameBy : List MachineState → Option Turned → List Task → Type 0
+CameBy kept None jobs = Unit {0}
+CameBy kept (Some t) jobs =
+    (m : MachineState) × (slice_get kept t.place ≡ Some m) × OthersStay m.jobs t.cpu jobs
+
+-- these are the CPU and the numbers of the jobs from which it made its turn; none where that isn't known
+abbrev pub IsRecalled : TupleList → Option Turned → List ℕ → ℕ → Type 0
+IsRecalled states None numbers c = numbers ≡ []
+IsRecalled states (Some t) numbers c = (numbers ≡ drop 1 (tuple_at states t.place)) × (c ≡ t.cpu)
 
 -- at most one more is kept, which shows all that the machine shows
 abbrev pub AddsOne : List MachineState → MachineState → List MachineState → Type 0

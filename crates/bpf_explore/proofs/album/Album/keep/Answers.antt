@@ -5,14 +5,32 @@ use Rattle.bpf_live.specs.Live.{Table}
 use Rattle.bpf_alike.specs.Worlds.{AreLiveTables, table_at}
 use Rattle.bpf_explore.specs.Tuples.{tuple_at}
 use Rattle.bpf_explore.specs.Album.{HasMore}
-use Rattle.bpf_explore.specs.Private.Album.{AddsOne, AlbumState, AreKeptUnder, machines, stocked}
+use Rattle.bpf_explore.specs.Private.Album.{AddsOne, AlbumState, AreKeptUnder, CameBy, machines, stocked}
 use Rattle.bpf_explore.specs.Private.States.{AreOfParts, IsAlikeTuple}
 use Rattle.bpf_explore.proofs.ShelfLaws.{machines_length}
-use Rattle.bpf_explore.proofs.AlbumLaws.{shelf_of, more_stock, width_of, same_invariant, same_adds, invariant_after, adds_after, kept_after, numbers_fit}
+use Rattle.bpf_explore.proofs.AlbumLaws.{shelf_of, more_stock, width_of, same_invariant, same_adds, invariant_after, adds_after, kept_after}
+use Rattle.bpf_explore.proofs.AlbumLaws.{numbers_fit, came_within, recalled_others}
 use Rattle.bpf_explore.proofs.album.Album.keep.Goals as goal
 
-pub invariant_of-self : goal.invariant_of-self
-invariant_of-self c =
+pub recall-requires : goal.recall-requires
+recall-requires c =
+    let m = c.self.inside in
+    let shelf = shelf_of m.machine.programs m.stores m.parts m.states.tuples in
+    came_within shelf c.args.turned m.machine.jobs
+    (subst (λ (a : AlbumState). CameBy a.kept c.args.turned a.machine.jobs) (sym c.self.view_is) c.requires)
+
+pub keep_machine-requires : goal.keep_machine-requires
+keep_machine-requires c =
+    let m = c.self.inside in
+    let shelf = shelf_of m.machine.programs m.stores m.parts m.states.tuples in
+    record {
+      shape = c.self.invariant.1.shape;
+      others = recalled_others m.shape shelf c.self.invariant.0 c.args.turned c.recall.new.room.before.items c.recall.new.room.cpu m.machine.jobs
+          c.in_ok-recall.ensures (subst (λ (a : AlbumState). CameBy a.kept c.args.turned a.machine.jobs) (sym c.self.view_is) c.requires);
+    }
+
+pub invariant_of-self-in_err-keep_machine : goal.invariant_of-self-in_err-keep_machine
+invariant_of-self-in_err-keep_machine c =
     let m = c.self.inside in
     let shelf = shelf_of m.machine.programs m.stores m.parts m.states.tuples in
     let r = same_invariant m.shape shelf m.machine c.keep_machine.new.stores c.keep_machine.new.parts c.self.invariant.0 c.self.invariant.1
