@@ -1,0 +1,13 @@
+pub mod Marking
+pub mod Events
+pub mod Partners
+pub mod Turns
+pub mod Back
+pub mod Exchanging
+pub mod QuietTurns
+pub mod Beside
+pub mod Carrying
+pub mod Richer
+pub mod Chains
+pub mod Ending
+pub mod Covering

@@ -1,0 +1,5 @@
+use Rattle.bpf_equal.proofs.Turns.{schedules_are_permuted as law}
+use Rattle.bpf_equal.proofs.laws.schedules_are_permuted.Goals as goal
+
+pub returns : goal.returns
+returns c = law
