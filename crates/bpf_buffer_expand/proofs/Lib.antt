@@ -8,3 +8,4 @@ pub mod Covering
 pub mod Stating
 pub mod Ending
 pub mod Answered
+pub mod Reporting

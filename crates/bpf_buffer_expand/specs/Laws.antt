@@ -1,14 +1,19 @@
 -- Sets of states that cover all that schedules of moves lead to.
-use Rattle.std.specs.Prelude.{◌≡◌, ℕ, ◌⊎◌, false, true, List, Some, slice_get}
+use Rattle.std.specs.Prelude.{◌≡◌, ◌≢◌, ℕ, ◌⊎◌, All, Bool, false, true, List, [], Ok, Some, slice_get}
+use Rattle.hex.specs.Hex.{decode_of}
+use Rattle.bpf_names.specs.Names.{Names}
 use Rattle.bpf_machine.specs.Schedule.{World}
 use Rattle.bpf_machine.specs.Rounds.{HaveEnded}
 use Rattle.bpf_machine.specs.Laws.{IsFresh}
 use Rattle.bpf_machine.specs.Patient.{NoneRanOut}
 use Rattle.bpf_x86.specs.Machine.{X86, Move, RunsMoves, drained}
 use Rattle.bpf_buffering.specs.Search.{BufferedState, ShowsX86, IsShownX86}
+use Rattle.bpf_jobs.specs.Printed.{Tells}
 use Rattle.bpf_expand.specs.State.{Host}
-use Rattle.bpf_expand.specs.Laws.{IsAmong}
-use Rattle.bpf_buffer_expand.specs.State.{HasNoneIn, IsStateOf, IsSuccessor}
+use Rattle.bpf_expand.specs.Laws.{FitBudgets, HasLine, IsAmong}
+use Rattle.bpf_buffer_expand.specs.declared.successor.Successor.{Successor}
+use Rattle.bpf_buffer_expand.specs.Filter.{IsReportIn}
+use Rattle.bpf_buffer_expand.specs.State.{AreSuccessors, HasNoneIn, IsStateOf, IsSuccessor}
 
 -- of each of them, what each move leads to is among them
 abbrev pub AreClosed : Host → List (List ℕ) → Type 0
@@ -40,3 +45,32 @@ PatientStatesCoverX86 =
     → IsFresh w → ShowsX86 first (drained w) → RunsMoves (drained w) moves z → HaveEnded z.world.jobs
     → NoneRanOut z.world.jobs
     → (machines : List BufferedState) × AreOf h states machines × IsShownX86 machines z
+
+-- ---- lines
+-- the line is printed, and each state that its moves lead to has a line
+abbrev pub IsAnswered : Host → Names → List (List ℕ) → List ℕ → Type 0
+IsAnswered h names lines line = (bytes : List ℕ) × (decode_of line ≡ Ok bytes)
+    × (((found : List Successor) × AreSuccessors h bytes found × (found ≢ [])
+    × All (λ s. HasLine lines s.bytes.items) found)
+    ⊎ ((report : List ℕ) × IsReportIn h names bytes report))
+
+-- so is each of them
+abbrev pub AreAnswered : Host → Names → List (List ℕ) → Type 0
+AreAnswered h names lines = (line : List ℕ) → IsAmong lines line → IsAnswered h names lines line
+
+-- what is printed of a machine is the report of one of the lines
+abbrev pub IsReported : Host → Names → List (List ℕ) → X86 → Type 0
+IsReported h names lines z = (bytes report : List ℕ) × (stopped : Bool) × HasLine lines bytes
+    × IsReportIn h names bytes report
+    × Tells z.world.store z.world.jobs names true report stopped
+
+-- lines that are closed so, the first state's among them, have all outcomes: whatever turns and flushes
+-- lead to an end from what a machine shows before its first turn, a line's report is printed of it; of a
+-- patient host, whatever moves in which no job runs out of budget
+abbrev pub LinesCoverX86 : Type 0
+LinesCoverX86 =
+    (h : Host) (names : Names) (lines : List (List ℕ)) (first : BufferedState) (bytes : List ℕ)
+    (w : World) (moves : List Move) (z : X86)
+    → AreAnswered h names lines → IsStateOf h first bytes → HasLine lines bytes
+    → IsFresh w → ShowsX86 first (drained w) → RunsMoves (drained w) moves z
+    → FitBudgets h.patient z.world.jobs → HaveEnded z.world.jobs → IsReported h names lines z

@@ -1,7 +1,7 @@
 //! What follows from the definition of a state, as promises to the crates above.
 //!
 //! These functions do nothing: their contracts are the laws, which a proof cites.
-ghost use Rattle.bpf_buffer_expand.specs.Laws.{PatientStatesCoverX86, StatesCoverX86};
+ghost use Rattle.bpf_buffer_expand.specs.Laws.{LinesCoverX86, PatientStatesCoverX86, StatesCoverX86};
 
 /// States of which each move leads to one of them show every end.
 pub fn states_cover_x86()
@@ -20,4 +20,16 @@ pub fn patient_states_cover_x86()
     bpf_plain::laws::saved_alike_look_alike();
     bpf_plain::laws::alike_stand_alike();
     bpf_patience::laws::patient_sets_cover_x86();
+}
+
+/// Lines of states that are closed under what they are answered have the report of each end; where how
+/// many steps are left of budgets is passed over, of each that is reached while no job runs out of
+/// budget.
+pub fn lines_cover_x86()
+    ensures { LinesCoverX86 }
+{
+    states_cover_x86();
+    patient_states_cover_x86();
+    bpf_plain::laws::saved_alike_look_alike();
+    bpf_plain::laws::alike_stand_alike();
 }
