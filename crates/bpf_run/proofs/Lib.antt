@@ -8,3 +8,6 @@ mod Talked
 mod BufferTalked
 mod FoundRaces
 mod AsObjects
+mod HungPlaces
+mod PrintedPlaces
+mod Asked

@@ -7,5 +7,7 @@ pub mod Answering
 pub mod Conversing
 pub mod Debugging
 pub mod BufferDebugging
+pub mod Hung
 pub mod Expanding
 pub mod BufferExpanding
+pub mod Private

@@ -34,7 +34,7 @@ enum Opening {
 }
 
 /// The session over the jobs that a text says.
-fn open_file(alloc: Global, text: &str) -> Result<Session, Refusal>
+pub(crate) fn open_file(alloc: Global, text: &str) -> Result<Session, Refusal>
     ensures opened { IfOk result (λ session. (f : File) × IsRunFile text.now (Ok f)
         × IsShown session (buffer_scene_of f)) }
     ensures refused { IfErr result (RefusesFile text.now) }

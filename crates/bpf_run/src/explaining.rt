@@ -232,8 +232,9 @@ fn prints(alloc: Global, subject: &Subject, reply: &Reply, input: &str) -> Strin
 fn explanation(alloc: Global, subject: &Subject, done: &Performed) -> Result<String, AllocError> {
     let text = str::from_utf8(&done.input).unwrap_or("");
     let mut printed = printed(alloc, &done.reply, text)?;
-    if matches!(subject, Subject::Schedules | Subject::Tests) {
-        printed = with_places(alloc, text, printed.as_str())?;
+    let x86 = matches!(subject, Subject::BufferSchedules | Subject::BufferTests);
+    if x86 || matches!(subject, Subject::Schedules | Subject::Tests) {
+        printed = with_places(alloc, text, printed.as_str(), x86)?;
     }
     let known = details(alloc, subject, &done.reply, text);
     let input = Input {

@@ -1,0 +1,2 @@
+-- What private functions promise each other: no public clause speaks of it.
+pub mod Asking
