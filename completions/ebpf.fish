@@ -70,6 +70,8 @@ complete -c ebpf -n '__fish_seen_subcommand_from expand' -l first -f -d 'Prints 
 complete -c ebpf -n '__fish_seen_subcommand_from expand' -l patient -f -d 'Takes states for one that differ only in the steps that are left of budgets'
 complete -c ebpf -n '__fish_seen_subcommand_from expand' -l x86 -f -d 'Takes states of CPUs with store buffers, as on x86: flushes of them lead on too'
 complete -c ebpf -n '__fish_seen_subcommand_from expand' -l races -f -d 'Prints the data races of each state before what it leads to'
+complete -c ebpf -n '__fish_seen_subcommand_from expand' -l into -x -d 'Writes new states into files of this folder, and reads those of STATES'
+complete -c ebpf -n '__fish_seen_subcommand_from expand' -l parts -x -d 'With --into: writes N files, 1 to 1024, by a hash of each state'
 complete -c ebpf -n '__fish_seen_subcommand_from expand' -s h -l help -f -d 'Print help'
 complete -c ebpf -n '__fish_seen_subcommand_from expand' -F
 complete -c ebpf -n '__fish_seen_subcommand_from debug' -l explain -f -d 'Explains a refusal of the file on standard error, and answers to commands that are in it'

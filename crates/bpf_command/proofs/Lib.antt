@@ -9,6 +9,7 @@ pub mod Limit
 pub mod Counted
 mod SearchWorkers
 pub mod Workers
+pub mod PartCounts
 pub mod Shown
 pub mod Flags
 pub mod Adding

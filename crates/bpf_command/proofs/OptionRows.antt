@@ -1,7 +1,7 @@
 -- An option's values among the rows that a parse found are those that the matches' getters give.
 use Rattle.std.proofs.Common.{Bool, cond, true, false, ◌≡◌, ◌<◌, ◌≤◌, ◌^◌, ◌∙◌, List, ℕ, Option, Some, None, Result, Ok, Err, codes, inr}
 use Rattle.std.proofs.Common.{refl, arith, subst, ap, sym}
-use Rattle.std.specs.Prelude.{IfSome, IsSomeAnd, option_and_then}
+use Rattle.std.specs.Prelude.{◌&&◌, IfSome, IsSomeAnd, is_some, option_and_then}
 use Rattle.bpf_explain.specs.Term.{topic_of}
 use Rattle.bpf_explain.specs.declared.topic.Topic.{Topic}
 use Rattle.std.specs.Str.{bytes_eq}
@@ -14,7 +14,8 @@ use Rattle.clap.specs.Facts.{is_present}
 use Rattle.clap.specs.Takes.{is_given}
 use Rattle.clap.proofs.TakesLemmas.{present_row}
 use Rattle.clap.proofs.WalkLemmas.{first_value-rows, one_text-rows}
-use Rattle.bpf_command.specs.CommandLine.{HasCount, HasLimited, IsCount, IsLimited, NamesCount, NamesLimited, counts_alone, do_clash}
+use Rattle.bpf_command.specs.CommandLine.{HasCount, HasLimited, IsCount, IsLimited, NamesCount, NamesLimited, NamesParts, counts_alone, do_clash, names_parts}
+use Rattle.bpf_command.specs.declared.command.TheConstants.{MAX_PARTS}
 use Rattle.bpf_command.specs.Names.{AreMoves, IsContext, IsSchedule, RefusesBy, RefusesContext, RefusesFound, RefusesMoves, RefusesSchedule}
 use Rattle.bpf_command.specs.Names.{file_in, file_named}
 use Rattle.bpf_command.specs.declared.command_line.CommandError.{CommandError}
@@ -157,3 +158,21 @@ topic_in_rows f t given found is = is ∙ ap (λ (o : Option Text). option_and_t
 
 pub given_in_rows : (f : Found) (id : Text) → is_present f id ≡ is_given id (rows_of f)
 given_in_rows = present_row
+
+-- ---- files of states
+-- without a folder they can't be written
+pub no_folder : (rows : List Row) → None ≡ first_of (codes "into") rows → names_parts rows ≡ false
+no_folder rows none = ap (λ (o : Option Text). is_some o && is_some (one_of (codes "parts") rows)) (sym none)
+
+never_both : (b : Bool) → (b && false) ≡ false
+never_both true = refl
+never_both false = refl
+
+-- nor without a number of them
+pub no_count : (rows : List Row) → NamesParts rows None → names_parts rows ≡ false
+no_count rows named = by (one_of (codes "parts") rows) refl named
+  where
+    by : (o : Option Text) → one_of (codes "parts") rows ≡ o → IsCount MAX_PARTS o None → names_parts rows ≡ false
+    by None same h =
+        ap (λ (o : Option Text). is_some (first_of (codes "into") rows) && is_some o) same ∙ never_both (is_some (first_of (codes "into") rows))
+    by (Some t) same h = absurd h

@@ -1,16 +1,16 @@
 -- The command line of `ebpf`, in clap's terms, and the numbers that its words name. Our own choice.
 use Rattle.std.specs.Prelude.{◌≡◌, ◌⊎◌, ℕ, List, Option, Some, None, IfSome, IsSomeAnd, codes, [], ◌∷◌, Bool, ◌&&◌, ◌||◌, if◌then◌else◌}
-use Rattle.std.specs.Prelude.{length, nat_lt, not, true, false, unwrap_or}
+use Rattle.std.specs.Prelude.{is_some, length, nat_lt, not, true, false, unwrap_or}
 use Rattle.std.specs.List.{list_any}
 use Rattle.std.specs.Str.{bytes_eq}
 use Rattle.std.specs.Str.Parse.{digits_value, without_leading_plus}
 use Rattle.clap.specs.Simple.{new_shape}
 use Rattle.clap.specs.Takes.{is_given}
 use Rattle.clap.specs.Values.{IsUnsignedIn}
-use Rattle.clap.specs.Words.{App, Row, Rule, Text, all_of, new_app, new_rule, one_of, with_rule, with_subcommand}
+use Rattle.clap.specs.Words.{App, Row, Rule, Text, all_of, first_of, new_app, new_rule, one_of, with_rule, with_subcommand}
 use Rattle.clap.specs.declared.builder.action.ArgAction.TheVariants.{Append, SetTrue}
 use Rattle.clap.specs.declared.builder.value_parser.ValueParser.TheVariants.{Unsigned}
-use Rattle.bpf_command.specs.declared.command.TheConstants.{MAX_LIMIT, MAX_WORKERS}
+use Rattle.bpf_command.specs.declared.command.TheConstants.{MAX_LIMIT, MAX_PARTS, MAX_WORKERS}
 use Rattle.bpf_base.specs.declared.budget.TheConstants.{MAX_BUDGET}
 
 -- an option `--ID N`: 0 to `most`, and 1,000,000 where it is left out
@@ -211,8 +211,23 @@ abbrev pub expand_options : App
 expand_options =
     with_rule (with_rule (with_rule (with_rule (new_app (codes "expand")) explained) first) patient) x86
 
+-- `--into FOLDER`
+abbrev pub into : Rule
+into = record (new_rule (codes "into")) { long = Some (codes "into"); value_names = 1 }
+
+-- `--parts N`
+abbrev pub parts : Rule
+parts = counted (codes "parts") MAX_PARTS
+
+-- `STATES..`
+abbrev pub state_files : Rule
+state_files = record (new_rule (codes "states")) { value_names = 1; action = Some Append }
+
+abbrev pub expand_files : App
+expand_files = with_rule (with_rule (with_rule expand_options races) into) parts
+
 abbrev pub expand : App
-expand = with_rule (with_rule expand_options races) file
+expand = with_rule (with_rule expand_files file) state_files
 
 -- the code that `explain` is asked for
 abbrev pub code_rule : Rule
@@ -338,6 +353,13 @@ HasWorkers = HasCount (codes "workers") MAX_WORKERS
 abbrev pub NamesWorkers : List Row → Option ℕ → Type 0
 NamesWorkers = NamesCount (codes "workers") MAX_WORKERS
 
+abbrev pub HasParts : List Row → Type 0
+HasParts = HasCount (codes "parts") MAX_PARTS
+
+-- the number of parts that they name
+abbrev pub NamesParts : List Row → Option ℕ → Type 0
+NamesParts = NamesCount (codes "parts") MAX_PARTS
+
 abbrev pub HasShown : List Row → Type 0
 HasShown = HasCount (codes "show") MAX_LIMIT
 
@@ -394,6 +416,21 @@ abbrev pub wants_no_flushes : List Row → Bool
 wants_no_flushes rows =
     is_given (codes "x86") rows && (is_given (codes "races") rows
     || (is_given (codes "sync") rows || is_given (codes "workers") rows))
+
+-- files of states are asked for
+abbrev pub wants_files : List Row → Bool
+wants_files rows = is_given (codes "into") rows
+    || (is_given (codes "parts") rows || is_given (codes "states") rows)
+
+-- what isn't done of files of states is asked for
+abbrev pub wants_lines : List Row → Bool
+wants_lines rows = (is_given (codes "first") rows || is_given (codes "x86") rows)
+    || (is_given (codes "races") rows || is_given (codes "explain") rows)
+
+-- a folder and a number of parts are named
+abbrev pub names_parts : List Row → Bool
+names_parts rows =
+    is_some (first_of (codes "into") rows) && is_some (one_of (codes "parts") rows)
 
 -- maps of locks are named without `--races`, or an outcome is asked for beside it
 abbrev pub do_part_races : List Row → Bool

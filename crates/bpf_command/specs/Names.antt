@@ -11,13 +11,14 @@ use Rattle.hex.specs.Hex.{decode_of}
 use Rattle.clap.specs.Kinds.{IsAmong}
 use Rattle.clap.specs.Takes.{is_given}
 use Rattle.clap.specs.Words.{Row, Text, fault_of, first_of, kind_of, subcommand_of}
-use Rattle.bpf_command.specs.CommandLine.{NamesBudget, NamesLimit, NamesShown, NamesWorkers, IsRunnerName, counts_alone, do_clash}
+use Rattle.bpf_command.specs.CommandLine.{NamesBudget, NamesLimit, NamesParts, NamesShown, NamesWorkers, IsRunnerName, counts_alone, do_clash}
 use Rattle.bpf_command.specs.CommandLine.{do_part, do_part_races, ebpf, given_texts, names_several, wants_no_flushes}
-use Rattle.bpf_command.specs.CommandLine.{wants_one}
+use Rattle.bpf_command.specs.CommandLine.{names_parts, wants_files, wants_lines, wants_one}
 use Rattle.bpf_command.specs.declared.command.RunOptions.{RunOptions}
 use Rattle.bpf_command.specs.declared.command.CheckOptions.{CheckOptions}
 use Rattle.bpf_command.specs.declared.command.SearchOptions.{SearchOptions}
 use Rattle.bpf_command.specs.declared.command.RaceOptions.{RaceOptions}
+use Rattle.bpf_command.specs.declared.command.SpreadOptions.{SpreadOptions}
 use Rattle.bpf_command.specs.declared.command.Command.{Command}
 use Rattle.bpf_command.specs.declared.command.Command.TheVariants as command
 use Rattle.bpf_command.specs.declared.command.Request.{Request}
@@ -90,6 +91,13 @@ NamesCheck rows options = NamesSearch rows options.search
 abbrev pub NamesRaces : List Row → RaceOptions → Type 0
 NamesRaces rows options = NamesSearch rows options.search
     × (map string_bytes options.sync.items ≡ given_texts (codes "sync") rows)
+
+-- the options of a call that reads and writes files of states
+abbrev pub NamesSpread : List Row → SpreadOptions → Type 0
+NamesSpread rows options = (options.patient ≡ is_given (codes "patient") rows)
+    × (first_of (codes "into") rows ≡ Some (string_bytes options.folder))
+    × NamesParts rows (Some options.parts)
+    × (map string_bytes options.states.items ≡ given_texts (codes "states") rows)
 
 -- the command that `clap` finds in the words: a subcommand's name, and what is found of its options
 abbrev pub Names : Option (Text × List Row) → Command → Type 0
@@ -187,6 +195,7 @@ Asks None _ = ⊥
 Asks (Some found) (request.Perform command file explain json) = Names (Some found) command
     × (option_map string_bytes file ≡ file_in found.1)
     × (found.0 ≡ codes "check" → names_several found.1 ≡ false)
+    × (found.0 ≡ codes "expand" → wants_files found.1 ≡ false)
     × (explain ≡ is_given (codes "explain") found.1)
     × (json ≡ is_given (codes "json") found.1)
 Asks (Some found) (request.CheckAll check files json) = (found.0 ≡ codes "check")
@@ -195,6 +204,9 @@ Asks (Some found) (request.CheckAll check files json) = (found.0 ≡ codes "chec
     × (names_several found.1 ≡ true) × (wants_one found.1 ≡ false)
     × (wants_no_flushes found.1 ≡ false)
     × (json ≡ is_given (codes "json") found.1)
+Asks (Some found) (request.Spread spread file) = (found.0 ≡ codes "expand")
+    × NamesSpread found.1 spread × (option_map string_bytes file ≡ file_in found.1)
+    × (wants_files found.1 ≡ true) × (wants_lines found.1 ≡ false)
 Asks (Some found) (request.Page topic) = (found.0 ≡ codes "explain")
     × (option_and_then topic_of (first_of (codes "code") found.1) ≡ Some topic)
 
@@ -216,6 +228,8 @@ RefusesFound found error.TurnsAlone =
     ((found.0 ≡ codes "explore") × (wants_no_flushes found.1 ≡ true))
     ⊎ ((found.0 ≡ codes "check") × (wants_no_flushes found.1 ≡ true))
     ⊎ ((found.0 ≡ codes "expand") × (wants_no_flushes found.1 ≡ true))
+RefusesFound found error.NoFiles = (found.0 ≡ codes "expand") × (wants_files found.1 ≡ true)
+    × ((names_parts found.1 ≡ false) ⊎ (wants_lines found.1 ≡ true))
 RefusesFound found error.NoCode = (found.0 ≡ codes "explain")
     × (option_and_then topic_of (first_of (codes "code") found.1) ≡ None)
 RefusesFound found error.OutOfMemory = Unit {0}

@@ -12,6 +12,9 @@ use bpf_explain::Topic;
 /// The greatest number of worker threads that may be asked for.
 pub const MAX_WORKERS: u8 = 16;
 
+/// The greatest number of parts that states may be put into.
+pub const MAX_PARTS: u16 = 1_024;
+
 /// The greatest limit that may be asked for.
 pub const MAX_LIMIT: u64 = 1_000_000_000;
 
@@ -127,6 +130,20 @@ pub struct RaceOptions {
     pub sync: Vec<String>,
 }
 
+/// The options of a call that reads and writes files of states.
+#[derive(PartialEq, Eq, Debug, Drop)]
+pub struct SpreadOptions {
+    /// To pass over how many steps are left of budgets.
+    pub patient: bool,
+    /// The folder of the files that are written.
+    pub folder: String,
+    /// How many files are written.
+    pub parts: u16,
+    /// The files that are read; where none is named, the first state is.
+    pub states: Vec<String>,
+    ghost some: { 0 < parts },
+}
+
 /// A command with its options.
 #[derive(PartialEq, Eq, Debug, Drop)]
 pub enum Command {
@@ -218,6 +235,12 @@ pub enum Request {
         files: Vec<String>,
         /// To write JSON objects in place of lines.
         json: bool,
+    },
+    /// To write what the states of files lead to into other files, by a hash.
+    Spread {
+        spread: SpreadOptions,
+        /// The run file, where it isn't read from standard input.
+        file: Option<String>,
     },
     /// To print the page of a code, or of an error, a flag, a helper or a word of run files.
     Page(Topic),

@@ -5,12 +5,12 @@ ghost use Rattle.bpf_explain.specs.Term.{topic_of};
 ghost use Rattle.clap.specs.Kinds.{FailsBy};
 ghost use Rattle.clap.specs.Takes.{is_given};
 ghost use Rattle.clap.specs.Words.{fault_of, first_of, first_value, found_of, rows_of, subcommand_name_of, subcommand_of, subcommand_rows_of};
-ghost use Rattle.bpf_command.specs.CommandLine.{ebpf, counts_alone, do_clash, do_part, do_part_races, HasBudget, HasLimit, HasShown, HasWorkers, IsCommandName, IsRunnerName, IsSearchName, IsWorkName, MayHaveWorkers, names_several, NamesBudget, NamesLimit, NamesShown, NamesWorkers, wants_no_buffers, wants_no_flushes, wants_one};
+ghost use Rattle.bpf_command.specs.CommandLine.{ebpf, counts_alone, do_clash, do_part, do_part_races, HasBudget, HasLimit, HasParts, HasShown, HasWorkers, IsCommandName, IsRunnerName, IsSearchName, IsWorkName, MayHaveWorkers, names_several, NamesBudget, NamesLimit, NamesParts, NamesShown, NamesWorkers, wants_files, wants_lines, wants_no_buffers, wants_no_flushes, wants_one};
 ghost use Rattle.bpf_command.specs.Names.{AreMoves, Asks, AsksBy, file_in, IsContext, IsSchedule, Names, NamesCheck, NamesRaces, NamesRun, NamesSearch, Refuses, RefusesContext, RefusesFlags, RefusesFound, RefusesMoves, RefusesSchedule, as_flags, flag_of};
 
 use crate::command::{
     CheckOptions, Command, FileOptions, HistoryOptions, JudgeOptions, MAX_LIMIT, MAX_WORKERS,
-    RaceOptions, Request, RunOptions, SearchOptions, ShowOptions, X86Options,
+    RaceOptions, Request, RunOptions, SearchOptions, ShowOptions, SpreadOptions, X86Options,
 };
 use crate::given::{given_texts, names_input, names_several};
 use crate::options::ebpf_command;
@@ -45,6 +45,9 @@ pub enum CommandError {
     NoRun,
     /// Maps of locks are named without `--races`, or an outcome is asked for beside it.
     NoRaces,
+    /// Files of states are asked for without a folder and a number of parts, or beside what is done of
+    /// lines alone.
+    NoFiles,
     /// What is of turns alone is asked of a search beside store buffers: races, or workers.
     TurnsAlone,
     /// The page is asked for of what is no code that the program prints, nor another name with one.
@@ -65,6 +68,8 @@ fn matches_of<'a, S: AsStr>(alloc: Global, words: &'a [S]) -> Result<ArgMatches<
         (λ found. IsSearchName found.0 → HasLimit found.1)) }
     ensures shown { IfOk result (λ m. IfSome (subcommand_rows_of m)
         (λ found. found.0 ≡ codes "explore" → HasShown found.1)) }
+    ensures parted { IfOk result (λ m. IfSome (subcommand_rows_of m)
+        (λ found. found.0 ≡ codes "expand" → HasParts found.1)) }
     ensures faults { FailsBy (fault_of ebpf (map S.text words.entry.now)) result }
 {
     let matches = ebpf_command(alloc)?.try_get_matches_from(words)?;
@@ -440,6 +445,76 @@ fn explore_of(alloc: Global, options: &ArgMatches) -> Result<Command, CommandErr
     }
 }
 
+/// What `clap` reads of `--parts`, if it is given.
+fn parts_of(options: &ArgMatches) -> Option<u16>
+    requires parted { HasParts (rows_of (found_of options.now)) }
+    ensures named { NamesParts (rows_of (found_of options.now)) result }
+    ensures some { IfSome result (λ n. 0 < n) }
+{
+    options.get_one::<u16>("parts")
+}
+
+/// Whether files of states are asked for.
+fn wants_files(options: &ArgMatches) -> bool
+    ensures { result ≡ wants_files (rows_of (found_of options.now)) }
+{
+    is_given(options, "into") || is_given(options, "parts") || is_given(options, "states")
+}
+
+/// Whether what isn't done of files of states is asked for.
+fn wants_lines(options: &ArgMatches) -> bool
+    ensures { result ≡ wants_lines (rows_of (found_of options.now)) }
+{
+    let printed = is_given(options, "first") || is_given(options, "x86");
+    printed || is_given(options, "races") || is_given(options, "explain")
+}
+
+/// The folder that files of states are to be written into.
+fn folder_of(alloc: Global, options: &ArgMatches) -> Result<Option<String>, CommandError>
+    ensures named { IfOk result (λ folder. option_map string_bytes folder
+        ≡ first_of (codes "into") (rows_of (found_of options.now))) }
+    ensures memory { IsOkUnless result CommandError.OutOfMemory }
+{
+    let Some(name) = options.get_str("into") else {
+        return Ok(None);
+    };
+    match name.to_string(alloc) {
+        Ok(folder) => Ok(Some(folder)),
+        Err(_) => Err(CommandError::OutOfMemory),
+    }
+}
+
+/// The command `expand` of files of states.
+#[tactic(auto, using(crate::proofs::OptionRows::no_folder, crate::proofs::OptionRows::no_count))]
+fn spread_of(alloc: Global, options: &ArgMatches) -> Result<Request, CommandError>
+    requires parted { HasParts (rows_of (found_of options.now)) }
+    requires wanted { wants_files (rows_of (found_of options.now)) ≡ true }
+    ensures asked { IfOk result (Asks (Some (codes "expand", rows_of (found_of options.now)))) }
+    ensures refused { IfErr result (RefusesFound (codes "expand", rows_of (found_of options.now))) }
+{
+    if wants_lines(options) {
+        return Err(CommandError::NoFiles);
+    }
+    let Some(folder) = folder_of(alloc, options)? else {
+        return Err(CommandError::NoFiles);
+    };
+    let Some(parts) = parts_of(options) else {
+        return Err(CommandError::NoFiles);
+    };
+    let states = given_texts(alloc, options, "states")?;
+    let is_patient = is_given(options, "patient");
+    let spread = SpreadOptions {
+        patient: is_patient,
+        folder,
+        parts,
+        states,
+    };
+    Ok(Request::Spread {
+        spread,
+        file: asked_file(alloc, options)?,
+    })
+}
+
 /// The command `expand` with what it is to print, with store buffers or without.
 fn expand_of(options: &ArgMatches) -> Result<Command, CommandError>
     ensures named { IfOk result (Names (Some (codes "expand", rows_of (found_of options.now)))) }
@@ -563,6 +638,7 @@ fn requested(alloc: Global, name: &str, options: &ArgMatches) -> Result<Request,
     requires counted { MayHaveWorkers name.now → HasWorkers (rows_of (found_of options.now)) }
     requires limited { IsSearchName name.now → HasLimit (rows_of (found_of options.now)) }
     requires shown { name.now ≡ codes "explore" → HasShown (rows_of (found_of options.now)) }
+    requires parted { name.now ≡ codes "expand" → HasParts (rows_of (found_of options.now)) }
     ensures asked { IfOk result (Asks (Some (name.now, rows_of (found_of options.now)))) }
     ensures refused { IfErr result (RefusesFound (name.now, rows_of (found_of options.now))) }
 {
@@ -574,6 +650,9 @@ fn requested(alloc: Global, name: &str, options: &ArgMatches) -> Result<Request,
     }
     if name == "check" && names_several(options) {
         return check_all_of(alloc, options);
+    }
+    if name == "expand" && wants_files(options) {
+        return spread_of(alloc, options);
     }
     let command = named(alloc, name, options)?;
     let file = asked_file(alloc, options)?;

@@ -7,7 +7,8 @@ mod given;
 mod options;
 
 pub use command::{
-    CheckOptions, Command, FileOptions, HistoryOptions, JudgeOptions, MAX_LIMIT, MAX_WORKERS,
-    RaceOptions, Request, RunOptions, SearchOptions, ShowOptions, X86Options,
+    CheckOptions, Command, FileOptions, HistoryOptions, JudgeOptions, MAX_LIMIT, MAX_PARTS,
+    MAX_WORKERS, RaceOptions, Request, RunOptions, SearchOptions, ShowOptions, SpreadOptions,
+    X86Options,
 };
 pub use command_line::{CommandError, request_of};

@@ -3,9 +3,9 @@
 ghost use Rattle.std.specs.Prelude.{◌≡◌, false, IfOk};
 ghost use Rattle.clap.specs.Words.{app_of, rule_of, shape_of};
 ghost use Rattle.clap.specs.declared.builder.command.Command.TheViews.{out-Command as fields_of};
-ghost use Rattle.bpf_command.specs.CommandLine.{all_states, asm, asm_shows, bare, budget, check, code_rule, context, debug, debug_options, disasm, ebpf, echo, events, expand, expand_options, explain, explained, explore, explore_options, file, files, first, for_files, hex, hex_options, judged, json, keys, lenient, limit, listing, maps, one_program, packets, patient, pc, progress, races, run, run_lists, run_options, run_shows, runs, schedule, searching, show, states, stats, strict, sync, workers, working, x86};
+ghost use Rattle.bpf_command.specs.CommandLine.{all_states, asm, asm_shows, bare, budget, check, code_rule, context, debug, debug_options, disasm, ebpf, echo, events, expand, expand_files, expand_options, explain, explained, explore, explore_options, file, files, first, for_files, hex, hex_options, into, judged, json, keys, lenient, limit, listing, maps, one_program, packets, parts, patient, pc, progress, races, run, run_lists, run_options, run_shows, runs, schedule, searching, show, state_files, states, stats, strict, sync, workers, working, x86};
 
-use crate::command::{MAX_LIMIT, MAX_WORKERS};
+use crate::command::{MAX_LIMIT, MAX_PARTS, MAX_WORKERS};
 use bpf_base::MAX_BUDGET;
 use clap::{Arg, ArgAction, Command, value_parser};
 use std::alloc::{AllocError, Global};
@@ -234,6 +234,15 @@ value has left its map.
 With --x86 CPUs have store buffers, and a state is one of --first --x86 or of what is printed with --x86.
 The flush of a CPU's oldest store that waits comes after its turn: 'state HEX by C!*1'. Where no CPU has
 work nothing waits. There is no --races with it.
+
+With --into states are in files: of each, four bytes, the lowest first, say how many bytes it has, and
+these follow. What the CPUs' turns lead to from the states of STATES, or from the first state where no
+file is named, is written to files 0 to N-1 of FOLDER, but for states that were read: each state once,
+by a hash of its bytes, so that it has the same number in each call of the same N. FOLDER has to be
+there, and no file is written over. Then the reports are printed, each once, and 'N states, M new'. A
+file that can't be read or made is refused by 'refused L7 - NAME', one that has more than 16,777,216
+bytes by L10, one whose end is cut off by 'refused X1 - NAME', and what is no state by
+'refused X1 NUMBER - NAME', NUMBER counted from 1. What was written before a refusal stays.
 
 For example
   $ ebpf expand --first examples/first-insert.run > first
@@ -854,7 +863,7 @@ fn state_races_option<'a>(alloc: Global) -> Arg<'a>
         .help("Prints the data races of each state before what it leads to")
 }
 
-/// The command `expand` before its last option and its file.
+/// The command `expand` before its last options and its files.
 fn expand_options<'a>(alloc: Global) -> Result<Command<'a>, AllocError>
     ensures shape { IfOk result (λ c. shape_of c ≡ expand_options.top) }
     ensures own { IfOk result (λ c. (fields_of c).has_globals ≡ false) }
@@ -870,13 +879,58 @@ fn expand_options<'a>(alloc: Global) -> Result<Command<'a>, AllocError>
         .arg(state_buffers_option(alloc))
 }
 
-fn expand_command<'a>(alloc: Global) -> Result<Command<'a>, AllocError>
-    ensures shape { IfOk result (λ c. shape_of c ≡ expand.top) }
+/// The option `--into`.
+fn into_option<'a>(alloc: Global) -> Arg<'a>
+    ensures rule { rule_of result ≡ into }
+    ensures own { result.global ≡ false }
+{
+    Arg::new(alloc, "into")
+        .long("into")
+        .value_name("FOLDER")
+        .help("Writes new states into files of this folder, and reads those of STATES")
+}
+
+/// The option `--parts`.
+fn parts_option<'a>(alloc: Global) -> Arg<'a>
+    ensures rule { rule_of result ≡ parts }
+    ensures own { result.global ≡ false }
+{
+    Arg::new(alloc, "parts")
+        .long("parts")
+        .value_name("N")
+        .value_parser(value_parser!(u64).range(1..=MAX_PARTS as i64))
+        .help("With --into: writes N files, 1 to 1024, by a hash of each state")
+}
+
+/// The files of states that `expand` reads.
+fn states_argument<'a>(alloc: Global) -> Arg<'a>
+    ensures rule { rule_of result ≡ state_files }
+    ensures own { result.global ≡ false }
+{
+    Arg::new(alloc, "states")
+        .value_name("STATES")
+        .action(ArgAction::Append)
+        .help("With --into: files of states to read; without one the first state is read")
+}
+
+/// The command `expand` before its file and those of states.
+fn expand_files<'a>(alloc: Global) -> Result<Command<'a>, AllocError>
+    ensures shape { IfOk result (λ c. shape_of c ≡ expand_files.top) }
     ensures own { IfOk result (λ c. (fields_of c).has_globals ≡ false) }
 {
     expand_options(alloc)?
         .arg(state_races_option(alloc))?
-        .arg(file_argument(alloc))
+        .arg(into_option(alloc))?
+        .arg(parts_option(alloc))
+}
+
+fn expand_command<'a>(alloc: Global) -> Result<Command<'a>, AllocError>
+    ensures shape { IfOk result (λ c. shape_of c ≡ expand.top) }
+    ensures own { IfOk result (λ c. (fields_of c).has_globals ≡ false) }
+{
+    expand_files(alloc)?
+        .arg(file_argument(alloc))?
+        .arg(states_argument(alloc))
 }
 
 /// The option `--explain` of a command that may be given its input line by line.

@@ -8,3 +8,5 @@ pub mod Racing
 pub mod Answered
 pub mod Fitting
 pub mod DigitLemmas
+pub mod PartLemmas
+pub mod Calling

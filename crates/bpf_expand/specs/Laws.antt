@@ -16,6 +16,7 @@ use Rattle.bpf_shared.specs.Store.{Plain}
 use Rattle.bpf_races.specs.declared.found.Pair.{Pair}
 use Rattle.bpf_races.specs.Races.{RaceFound, IsTold}
 use Rattle.bpf_expand.specs.Filter.{AreRacesOf, IsReportIn}
+use Rattle.bpf_expand.specs.Parts.{IsCall}
 use Rattle.bpf_expand.specs.State.{Host, AreSuccessors, IsStateOf, IsIdleIn, IsSuccessor}
 
 -- the bytes are among these
@@ -53,6 +54,18 @@ PatientStatesCover =
     → IsFresh w → Shows first w → RunsSchedule w schedule z → NoneRanOut z.jobs
     → (machines : List MachineState) × AreOf h states machines × IsCoveredRichly machines z
     × (HaveEnded z.jobs → IsShown machines z)
+
+-- each of some states was read by a call of which all are among them, those that it read and the new ones
+abbrev pub AreCalled : Host → Names → List (List ℕ) → Type 0
+AreCalled h names states = (bytes : List ℕ) → IsAmong states bytes
+    → (read new ends : List (List ℕ)) × IsCall h names read new ends × IsAmong read bytes
+    × ((b : List ℕ) → IsAmong read b → IsAmong states b)
+    × ((b : List ℕ) → IsAmong new b → IsAmong states b)
+
+-- then what each CPU's turn leads to from each of them is among them
+abbrev pub CallsClose : Type 0
+CallsClose =
+    (h : Host) (names : Names) (states : List (List ℕ)) → AreCalled h names states → AreClosed h states
 
 -- ---- lines
 -- the bytes are those of one of the lines

@@ -70,7 +70,7 @@ fn shown(alloc: Global, told: Option<String>, line: u64) -> Result<(String, bool
 }
 
 /// The machine of jobs over a new store, to work with.
-fn open(alloc: Global, patient: bool, setup: Setup) -> Result<Expander, AllocError>
+pub fn open(alloc: Global, patient: bool, setup: Setup) -> Result<Expander, AllocError>
     requires { IsRunnable setup }
     ensures host { IfOk result (λ e. e.host ≡ host_of patient setup.shape setup.programs.items
         (map waiting setup.jobs.items)) }

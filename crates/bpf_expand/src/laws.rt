@@ -1,7 +1,7 @@
 //! What follows from the definition of a state, as promises to the crates above.
 //!
 //! These functions do nothing: their contracts are the laws, which a proof cites.
-ghost use Rattle.bpf_expand.specs.Laws.{LinesCover, LinesHaveRaces, PatientStatesCover, StatesCover};
+ghost use Rattle.bpf_expand.specs.Laws.{CallsClose, LinesCover, LinesHaveRaces, PatientStatesCover, StatesCover};
 
 /// States of which each CPU's turn leads to one of them cover all that schedules lead to.
 pub fn states_cover()
@@ -22,6 +22,11 @@ pub fn patient_states_cover()
     bpf_plain::laws::alike_stand_alike();
     bpf_machine::laws::patient_sets_cover();
 }
+
+/// States that calls read and find, until all that is new was read, are so.
+pub fn calls_close()
+    ensures { CallsClose }
+{}
 
 /// Lines of states that are closed under what they are answered have the report of each end; where how
 /// many steps are left of budgets is passed over, of each to which no job runs out of budget.

@@ -68,8 +68,15 @@ pub(crate) fn state_line(alloc: Global, bytes: &[u8]) -> Result<String, AllocErr
 pub(crate) fn report_line(alloc: Global, report: &str) -> Result<String, AllocError>
     ensures { IfOk result (λ text. string_bytes text ≡ report_line report.now) }
 {
+    end_line(alloc, report.as_bytes())
+}
+
+/// The line of the bytes of what is printed of an end.
+pub(crate) fn end_line(alloc: Global, report: &[u8]) -> Result<String, AllocError>
+    ensures { IfOk result (λ text. string_bytes text ≡ report_line report.now) }
+{
     let mut text = "report ".to_string(alloc)?;
-    let digits = to_hex(alloc, report.as_bytes())?;
+    let digits = to_hex(alloc, report)?;
     text.push_str(digits.as_str())?;
     text.push_str("\n")?;
     Ok(text)

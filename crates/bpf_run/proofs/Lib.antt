@@ -11,3 +11,4 @@ mod AsObjects
 mod HungPlaces
 mod PrintedPlaces
 mod Asked
+mod FilesRead

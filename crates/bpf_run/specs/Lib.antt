@@ -2,6 +2,7 @@ pub mod Commands
 pub mod Racing
 pub mod Laws
 pub mod Objects
+pub mod Spreading
 pub mod Program
 pub mod Answering
 pub mod Conversing

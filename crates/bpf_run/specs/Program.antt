@@ -20,6 +20,7 @@ use Rattle.bpf_run.specs.declared.conversing.Partner.{Partner}
 use Rattle.bpf_run.specs.Objects.{IsShown}
 use Rattle.bpf_replies.specs.Several.{AreChecked}
 use Rattle.bpf_run.specs.Racing.{AreRacesOf}
+use Rattle.bpf_run.specs.Spreading.{IsSpread}
 use Rattle.bpf_run.specs.declared.program.Ending.{Ending}
 use Rattle.bpf_run.specs.declared.program.Ending.TheVariants as ending
 use Rattle.bpf_run.specs.declared.program.Misuse.{Misuse}
@@ -58,23 +59,28 @@ Does command json file None silent talks standard files read_failed old new writ
     old new write_failed status
 
 -- a command that is asked for is done, with `--explain` as without it; several files are checked,
--- and with `--json` the objects of what is printed are written; of a page that is asked for nothing
--- is read
-abbrev pub Follows : Request → (unread silent : Type 0)
+-- and with `--json` the objects of what is printed are written; what states of files lead to is written
+-- into others; of a page that is asked for nothing is read
+abbrev pub Follows : Request → (has_made : Text → List ℕ → Type 0) → (unread silent : Type 0)
     → (talks : Partner → File → Status → Type 0) → (standard : Option (List ℕ))
     → (files : Text → Option (List ℕ)) → (read_failed : Bool)
     → (old new : Option (List ℕ)) → (write_failed : Bool) → Status → (stats : List ℕ) → Type 0
-Follows (request.Perform command file explain json) unread silent talks standard files read_failed
+Follows (request.Perform command file explain json) has_made unread silent talks standard files read_failed
     old new write_failed status stats =
     Does command json (option_map string_bytes file)
     (asked_talk command (option_map string_bytes file) json) silent talks standard files read_failed
     old new write_failed status stats
-Follows (request.CheckAll check names json) unread silent talks standard files read_failed old new
+Follows (request.CheckAll check names json) has_made unread silent talks standard files read_failed old new
     write_failed status stats =
     silent × ((r : Reply)
     × AreChecked AreRacesOf check files (map string_bytes names.items) r
     × IsShown json (Prints r) old new write_failed status × (stats ≡ []))
-Follows (request.Page topic) unread silent talks standard files read_failed old new write_failed
+Follows (request.Spread spread file) has_made unread silent talks standard files read_failed old
+    new write_failed status stats =
+    silent × (stats ≡ []) × ((r : Reply) × IsSpread has_made files spread
+    (input_of standard files (option_map string_bytes file)) r
+    × Prints r old new write_failed status)
+Follows (request.Page topic) has_made unread silent talks standard files read_failed old new write_failed
     status stats =
     silent × unread × PrintsPage topic old new write_failed status × (stats ≡ [])
 
@@ -95,6 +101,7 @@ IsPrintedAs command_error.NoWorkers r = ⊥
 IsPrintedAs command_error.OneFile r = ⊥
 IsPrintedAs command_error.NoRun r = ⊥
 IsPrintedAs command_error.NoRaces r = ⊥
+IsPrintedAs command_error.NoFiles r = ⊥
 IsPrintedAs command_error.TurnsAlone r = ⊥
 
 -- what is wrong with words in which `clap` finds no fault
@@ -106,6 +113,7 @@ error_of misuse.Workers = command_error.NoWorkers
 error_of misuse.OneFile = command_error.OneFile
 error_of misuse.Run = command_error.NoRun
 error_of misuse.Races = command_error.NoRaces
+error_of misuse.Files = command_error.NoFiles
 error_of misuse.TurnsAlone = command_error.TurnsAlone
 
 -- ---- what is left to do

@@ -22,6 +22,7 @@ pub mod racing;
 pub mod reader;
 pub mod recorder;
 mod scouting;
+pub mod spreading;
 mod tracing;
 
 use bpf_talk::Console;

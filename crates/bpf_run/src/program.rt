@@ -20,6 +20,7 @@ use crate::perform::Performed;
 use crate::progress::{Aside, Teller};
 use crate::racing::AllRaces;
 use crate::scouting::crew_of;
+use crate::spreading::{Shelf, Spreading, perform_spread};
 use bpf_command::{Command, CommandError, Request, request_of};
 use bpf_lines::HexError;
 use bpf_replies::printing::{answer, print_page};
@@ -52,6 +53,9 @@ pub enum Misuse {
     Run,
     /// Maps of locks are named without `--races`, or an outcome is asked for beside it.
     Races,
+    /// Files of states are asked for without a folder and a number of parts, or beside what is done of
+    /// lines alone.
+    Files,
     /// What is of turns alone is asked of a search beside store buffers.
     TurnsAlone,
 }
@@ -67,6 +71,7 @@ impl Misuse {
             Misuse::OneFile => ONE_FILE,
             Misuse::Run => NO_RUN,
             Misuse::Races => NO_RACES,
+            Misuse::Files => NO_FILES,
             Misuse::TurnsAlone => TURNS_ALONE,
         }
     }
@@ -130,6 +135,12 @@ const NO_RACES: &str = "\
 '--sync' goes beside '--races' alone, and '--show' doesn't
 
 For more information, try 'ebpf explore --help'.";
+
+const NO_FILES: &str = "\
+'--into', '--parts' and STATES go together, STATES may be left out,
+and they go with none of '--first', '--x86', '--races' and '--explain'
+
+For more information, try 'ebpf expand --help'.";
 
 const TURNS_ALONE: &str = "\
 '--x86' goes with none of '--races', '--sync' and '--workers'
@@ -235,7 +246,7 @@ fn has_explain(words: &[String]) -> bool {
 
 /// Does what is asked, or prints why nothing can be done. A refused context is to be explained
 /// where that is asked for, too.
-fn follow<T: Threads + Wait + Sync + Aside, R: Source, W: Sink, D: Terminal>(
+fn follow<T: Threads + Wait + Sync + Aside + Shelf, R: Source, W: Sink, D: Terminal>(
     rt: &T,
     alloc: Global,
     asked: Result<Request, CommandError>,
@@ -249,8 +260,8 @@ fn follow<T: Threads + Wait + Sync + Aside, R: Source, W: Sink, D: Terminal>(
     requires hears { D.is_unread terminal.old ≡ false }
     requires tells { D.has_failed terminal.old ≡ false }
     ensures performed { IfExit result (λ status stats. IfOk asked (λ request.
-        Follows request (source.new ≡ source.old) (terminal.new ≡ terminal.old)
-        (Converses (D.passes terminal.old terminal.new) (D.is_unread terminal.new)
+        Follows request (T.has_made rt.now) (source.new ≡ source.old)
+        (terminal.new ≡ terminal.old) (Converses (D.passes terminal.old terminal.new) (D.is_unread terminal.new)
         (D.has_failed terminal.new))
         (R.remaining source.old) (R.file source.old)
         (R.has_failed source.new) (W.contents sink.old) (W.contents sink.new)
@@ -295,6 +306,10 @@ fn follow<T: Threads + Wait + Sync + Aside, R: Source, W: Sink, D: Terminal>(
             );
             return Ending::Exit(answer_as(json, alloc, &reply, sink));
         }
+        Ok(Request::Spread { spread, file }) => {
+            let errand = Spreading { spread, file };
+            return Ending::Exit(perform_spread(rt, alloc, &errand, source, sink));
+        }
         Ok(Request::Page(topic)) => return Ending::Exit(print_page(alloc, topic, sink)),
         Err(CommandError::Shown(error)) => return Ending::Shown(error),
         Err(CommandError::NoCode) => return Ending::Misused(Misuse::Code),
@@ -304,6 +319,7 @@ fn follow<T: Threads + Wait + Sync + Aside, R: Source, W: Sink, D: Terminal>(
         Err(CommandError::OneFile) => return Ending::Misused(Misuse::OneFile),
         Err(CommandError::NoRun) => return Ending::Misused(Misuse::Run),
         Err(CommandError::NoRaces) => return Ending::Misused(Misuse::Races),
+        Err(CommandError::NoFiles) => return Ending::Misused(Misuse::Files),
         Err(CommandError::TurnsAlone) => return Ending::Misused(Misuse::TurnsAlone),
         Err(CommandError::NotHex) => Refusal::Hex(HexError::NotHex),
         Err(CommandError::OutOfMemory) => Refusal::OutOfMemory,
@@ -319,7 +335,7 @@ fn follow<T: Threads + Wait + Sync + Aside, R: Source, W: Sink, D: Terminal>(
 
 /// Does what the words ask for, of which the first is the program's name. What is wrong with them
 /// is said before anything is read.
-pub fn program<T: Threads + Wait + Sync + Aside, R: Source, W: Sink, D: Terminal>(
+pub fn program<T: Threads + Wait + Sync + Aside + Shelf, R: Source, W: Sink, D: Terminal>(
     rt: &T,
     alloc: Global,
     words: io::Result<Vec<String>>,
@@ -333,8 +349,8 @@ pub fn program<T: Threads + Wait + Sync + Aside, R: Source, W: Sink, D: Terminal
     requires tells { D.has_failed terminal.old ≡ false }
     ensures followed { IfExit result (λ status stats. IfOk words (λ words.
         ((request : Request) × IsAsked (map string_bytes words.items) request
-        × Follows request (source.new ≡ source.old) (terminal.new ≡ terminal.old)
-        (Converses (D.passes terminal.old terminal.new) (D.is_unread terminal.new)
+        × Follows request (T.has_made rt.now) (source.new ≡ source.old)
+        (terminal.new ≡ terminal.old) (Converses (D.passes terminal.old terminal.new) (D.is_unread terminal.new)
         (D.has_failed terminal.new))
         (R.remaining source.old) (R.file source.old)
         (R.has_failed source.new) (W.contents sink.old) (W.contents sink.new)

@@ -7,6 +7,7 @@ use Rattle.clap.specs.Words.{App, HasMatchesOf, Text, app_of, fault_of, subcomma
 use Rattle.bpf_command.specs.CommandLine.{ebpf}
 use Rattle.bpf_command.proofs.Budget.{BudgetKnown, budget_known}
 use Rattle.bpf_command.proofs.Limit.{LimitKnown, limit_known}
+use Rattle.bpf_command.proofs.PartCounts.{PartsKnown, parts_known}
 use Rattle.bpf_command.proofs.Shown.{ShownKnown, shown_known}
 use Rattle.bpf_command.proofs.Subcommands.{is_matched, is_told, name_known}
 use Rattle.bpf_command.proofs.Workers.{WorkersKnown, workers_known}
@@ -68,3 +69,9 @@ returns-clause-shown g c =
     let words : List Text = map g.S.AsStr.text c.args.words.now in
     let found : subcommand_rows_of c.in_ok-matches.matches ≡ subcommand_of ebpf words = returns-clause-found g c in
     subst (λ o. IfSome o ShownKnown) (sym found) (shown_known words (returns-clause-faults g c))
+
+pub returns-clause-parted : goal.returns-clause-parted
+returns-clause-parted g c =
+    let words : List Text = map g.S.AsStr.text c.args.words.now in
+    let found : subcommand_rows_of c.in_ok-matches.matches ≡ subcommand_of ebpf words = returns-clause-found g c in
+    subst (λ o. IfSome o PartsKnown) (sym found) (parts_known words (returns-clause-faults g c))

@@ -19,7 +19,7 @@ returns-in-Ok-clause-followed g c =
     let lost = g.W.Sink.has_failed c.follow.new.sink in
     let hears = c.args.terminal.now in
     let heard = c.follow.new.terminal in
-    let P : Request → Status → List ℕ → Type 0 = λ request status stats. Follows request (new ≡ old) (heard ≡ hears)
+    let P : Request → Status → List ℕ → Type 0 = λ request status stats. Follows request (g.T.Shelf.has_made c.args.rt.now) (new ≡ old) (heard ≡ hears)
     (Converses (g.D.Terminal.passes hears heard) (g.D.Terminal.is_unread heard) (g.D.Terminal.has_failed heard)) (g.R.Source.remaining old)
     (g.R.Source.file old) (g.R.Source.has_failed new) before after lost status stats in
     let R : CommandError → Status → Type 0 = λ e status. (r : Refusal) × IsPrintedAs e r × Prints (reply.Refused r) before after lost status in
