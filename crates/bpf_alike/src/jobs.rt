@@ -6,14 +6,13 @@ ghost use Rattle.bpf_loader.specs.Loaded.{Loaded};
 ghost use Rattle.bpf_live.specs.Alike.{AreAlike};
 ghost use Rattle.bpf_cpu.specs.declared.cpu.Cpu.{Cpu};
 ghost use Rattle.bpf_cpu.specs.Task.{InHand};
-ghost use Rattle.bpf_machine.specs.Kept.{kept_stage};
 ghost use Rattle.bpf_alike.specs.Worlds.{AreLiveTables, IsAlike, table_at};
 
 use bpf_base::spread;
-use bpf_cpu::Cpu;
+use bpf_cpu::KeptCpu;
 use bpf_live::{Live, all_live, find_live};
 use bpf_loader::Program;
-use bpf_machine::{KeptJob, KeptStage};
+use bpf_machine::KeptJob;
 use std::alloc::{AllocError, Global};
 
 /// Which states count as one.
@@ -57,33 +56,26 @@ pub fn live_tables(
 
 /// Whether two states in a program of this number are alike. Where there is no table for it, none
 /// is said to be.
-fn are_states_alike(tables: &[Live], program: usize, cpu: &Cpu, other: &Cpu) -> bool
+fn are_states_alike(tables: &[Live], program: usize, cpu: &KeptCpu, other: &KeptCpu) -> bool
     ensures { result ≡ true → (loaded : Loaded)
         → AreAlike loaded (table_at tables.now program) cpu.now other.now }
 {
     program < tables.len() && tables[program].is_alike(cpu, other)
 }
 
-/// Whether both stages of jobs of a program of this number are in hand, with as many steps left, in states
-/// that are alike.
-pub fn are_stages_alike(
-    tables: &[Live],
-    program: usize,
-    stage: &KeptStage,
-    other: &KeptStage,
-) -> bool
+/// Whether both jobs of a program of this number are in hand, with as many steps left, in states that
+/// are alike.
+pub fn are_stages_alike(tables: &[Live], program: usize, job: &KeptJob, other: &KeptJob) -> bool
     ensures { result ≡ true → (state : Cpu) × (left : ℕ) × (later : Cpu)
-        × (kept_stage stage.now ≡ InHand state left) × (kept_stage other.now ≡ InHand later left)
+        × (job.now.stage ≡ InHand state left) × (other.now.stage ≡ InHand later left)
         × ((loaded : Loaded) → AreAlike loaded (table_at tables.now program) state later) }
 {
-    match stage {
-        KeptStage::InHand(state, left) => match other {
-            KeptStage::InHand(later, rest) => {
-                *left == *rest && are_states_alike(tables, program, state, later)
-            }
-            KeptStage::Waiting(_) | KeptStage::Ended(_) => false,
+    match job.state() {
+        Some((state, left)) => match other.state() {
+            Some((later, rest)) => left == rest && are_states_alike(tables, program, state, later),
+            None => false,
         },
-        KeptStage::Waiting(_) | KeptStage::Ended(_) => false,
+        None => false,
     }
 }
 
@@ -105,7 +97,7 @@ pub fn are_alike(tables: &[Live], job: &KeptJob, other: &KeptJob) -> bool
     if !is_same_job(job, other) {
         return false;
     }
-    are_stages_alike(tables, job.program(), job.stage(), other.stage())
+    are_stages_alike(tables, job.program(), job, other)
 }
 
 /// One more number of what is hashed.
@@ -115,11 +107,11 @@ fn mix(hash: u64, number: u64) -> u64 {
 
 /// A number by which a state in a program of this number is found that is alike, after one of its own.
 /// Nothing that is promised rests on it.
-pub fn live_state_hash(first: u64, tables: &[Live], program: usize, cpu: &Cpu) -> u64 {
-    let mut hash = mix(first, u64::from(cpu.pc));
+pub fn live_state_hash(first: u64, tables: &[Live], program: usize, cpu: &KeptCpu) -> u64 {
+    let mut hash = mix(first, u64::from(cpu.pc()));
     for register in 0u8..11 {
-        let number = cpu.registers[register as usize];
-        if program >= tables.len() || tables[program].is_live(cpu.pc, register) {
+        let number = cpu.registers()[register as usize];
+        if program >= tables.len() || tables[program].is_live(cpu.pc(), register) {
             hash = mix(hash, number);
         }
     }
@@ -129,11 +121,9 @@ pub fn live_state_hash(first: u64, tables: &[Live], program: usize, cpu: &Cpu) -
 /// A number by which a job is found that is alike. Nothing that is promised rests on it.
 pub fn live_hash(tables: &[Live], job: &KeptJob) -> u64 {
     let first = mix(u64::from(job.cpu()), job.program() as u64);
-    match job.stage() {
-        KeptStage::Waiting(_) => mix(first, 1),
-        KeptStage::InHand(cpu, left) => {
-            live_state_hash(mix(first, *left), tables, job.program(), cpu)
-        }
-        KeptStage::Ended(_) => mix(first, 2),
+    match job.state() {
+        Some((cpu, left)) => live_state_hash(mix(first, left), tables, job.program(), cpu),
+        None if job.has_ended() => mix(first, 2),
+        None => mix(first, 1),
     }
 }

@@ -8,7 +8,8 @@ ghost use Rattle.bpf_buffering.specs.Jobs.{task_of, tasks_of};
 ghost use Rattle.bpf_expand.specs.Private.Home.{CountUp};
 ghost use Rattle.bpf_buffer_expand.specs.Private.Room.{AreFrom};
 
-use bpf_buffering::{Listed, copy_stage};
+use bpf_buffering::Listed;
+use bpf_cpu::Input;
 use bpf_machine::{KeptJob, KeptStage};
 use std::alloc::{AllocError, Global};
 
@@ -28,8 +29,7 @@ pub(crate) fn count_up(alloc: Global, count: usize) -> Result<Vec<u32>, AllocErr
 fn keep_job(alloc: Global, job: &Listed) -> Result<KeptJob, AllocError>
     ensures { IfOk result (λ kept. kept ≡ task_of job.now) }
 {
-    let stage = copy_stage(alloc, &job.stage)?;
-    Ok(KeptJob::new(job.cpu, job.program, job.budget, stage))
+    KeptJob::new(alloc, job.cpu, job.program, job.budget, &job.stage)
 }
 
 /// Jobs as they are, as kept ones.
@@ -60,7 +60,7 @@ fn list_job(alloc: Global, cpu: u8, kept: &KeptJob) -> Result<Listed, AllocError
     requires { kept.now.cpu ≡ cpu }
     ensures { IfOk result (λ job. task_of job ≡ kept.now) }
 {
-    let stage = copy_stage(alloc, kept.stage())?;
+    let stage = kept.stage(alloc)?;
     Ok(Listed {
         cpu,
         program: kept.program(),
@@ -106,22 +106,29 @@ pub(crate) fn jobs_fit_bytes(jobs: &[Listed])
     }
 }
 
-/// Whether the stage is one of a job of this CPU that was in the first one.
-fn is_stage_from(cpu: u8, first: &KeptStage, stage: &KeptStage) -> bool
-    ensures { result ≡ true → IsStageOf cpu (input_of (kept_stage first.now)) (kept_stage stage.now) }
+/// Whether the stage is one of a job of this CPU that waited with this.
+fn is_stage_of(cpu: u8, input: &Input, stage: &KeptStage) -> bool
+    ensures { result ≡ true → IsStageOf cpu input.now (kept_stage stage.now) }
 {
-    match first {
-        KeptStage::Waiting(input) => match stage {
-            KeptStage::Waiting(own) => own.is_same(input),
-            KeptStage::InHand(state, _) => {
-                state.number == cpu
-                    && state.given == input.given
-                    && state.memory.context.bytes().len() == input.context.bytes().len()
-                    && state.memory.packet.bytes().len() == input.packet.bytes().len()
-            }
-            KeptStage::Ended(_) => true,
-        },
-        KeptStage::InHand(_, _) | KeptStage::Ended(_) => false,
+    match stage {
+        KeptStage::Waiting(own) => own.is_same(input),
+        KeptStage::InHand(state, _) => {
+            state.number == cpu
+                && state.given == input.given
+                && state.memory.context.bytes().len() == input.context.bytes().len()
+                && state.memory.packet.bytes().len() == input.packet.bytes().len()
+        }
+        KeptStage::Ended(_) => true,
+    }
+}
+
+/// Whether the stage is one of a job of this CPU that was this kept one, which waited.
+fn is_stage_from(cpu: u8, first: &KeptJob, stage: &KeptStage) -> bool
+    ensures { result ≡ true → IsStageOf cpu (input_of first.now.stage) (kept_stage stage.now) }
+{
+    match first.input() {
+        Some(input) => is_stage_of(cpu, input, stage),
+        None => false,
     }
 }
 
@@ -133,7 +140,7 @@ fn is_from(cpu: u8, first: &KeptJob, job: &Listed) -> bool
     job.cpu == cpu
         && job.program == first.program()
         && job.budget == first.budget()
-        && is_stage_from(cpu, first.stage(), &job.stage)
+        && is_stage_from(cpu, first, &job.stage)
 }
 
 /// Whether the jobs are those that were these kept ones, of these CPUs.

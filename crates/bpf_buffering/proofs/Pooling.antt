@@ -2,7 +2,7 @@
 use Rattle.std.proofs.Common.{◌≡◌, ℕ, zero, suc, ◌+◌, ◌<◌, ◌≤◌, ◌⊎◌, List, [], ◌∷◌, ◌++◌, inl, inr, length, take, get_or, Some, refl, sym}
 use Rattle.std.proofs.Common.{ap, subst, ◌∙◌, append-nil, append_assoc, arith}
 use Rattle.std.specs.Prelude.{All, map, option_map, slice_get, slice_index_or}
-use Rattle.std.proofs.lemmas.List.{get_or-map, length-map, map_push, map_more, take_all}
+use Rattle.std.proofs.lemmas.List.{get_or_default, map_push, map_more, take_all}
 use Rattle.std.proofs.lemmas.List.Elements.{All-push, All-nil}
 use Rattle.std.proofs.lemmas.Option.{slice_get_within, slice_get-map, get_or_from_slice_get}
 use Rattle.bpf_base.proofs.Lists.{slice_get-front}
@@ -73,15 +73,14 @@ next_number ts more ns jobs n t are at = record {
 }
 
 -- the job of a number, read where it is kept
-pub read_job : (kept : List Listed) (n : ℕ) (x : Listed) → n < length kept → x ≡ get_or kept n x → slice_index_or (tasks_of kept) n no_task ≡ task_of x
-read_job kept n x less at = get_or-map task_of kept n x no_task less ∙ ap task_of (sym at)
+pub read_job : (kept : List Task) (n : ℕ) (x : Task) → n < length kept → x ≡ get_or kept n x → slice_index_or kept n no_task ≡ x
+read_job kept n x less at = get_or_default kept n no_task x less ∙ sym at
 
-pub read_chosen : (kept : List Listed) (numbers : List ℕ) (k : ℕ) (x : Listed) → k < length numbers → All (λ n. n < length (tasks_of kept))
-    numbers → x ≡ get_or kept (get_or numbers k 0) x → slice_get (chosen (tasks_of kept) numbers) k ≡ Some (task_of x)
+pub read_chosen : (kept : List Task) (numbers : List ℕ) (k : ℕ) (x : Task) → k < length numbers → All (λ n. n < length kept) numbers
+    → x ≡ get_or kept (get_or numbers k 0) x → slice_get (chosen kept numbers) k ≡ Some x
 read_chosen kept numbers k x inside all at =
     let n = get_or numbers k 0 in
-    let less : n < length kept = subst (λ (l : ℕ). n < l) (length-map kept task_of) (all k 0 inside) in
-    chosen_is (tasks_of kept) numbers k inside ∙ ap (λ (t : Task). Some t) (read_job kept n x less at)
+    chosen_is kept numbers k inside ∙ ap (λ (t : Task). Some t) (read_job kept n x (all k 0 inside) at)
 
 -- ---- states
 module _ (store : Contents) (p q : Pools) (adds : AddsTo store p q) where
@@ -178,13 +177,13 @@ pub all_kept : (first : List Task) (jobs : List Listed) (i : ℕ) (tasks : List 
 all_kept first jobs i tasks numbers past (are, grown) = subst (λ (js : List Listed). AreNumbersOf tasks numbers (tasks_of js)) (take_all i jobs past) are
 
 -- ---- copies of the jobs of numbers, of which the first i are made
-pub next_copied : (kept copies longer : List Listed) (numbers : List ℕ) (i n : ℕ) (part copy : Listed) → i < length numbers → n ≡ get_or numbers i n →
-    n < length kept → part ≡ get_or kept n part → task_of copy ≡ task_of part → longer ≡ copies ++ copy ∷ []
-    → tasks_of copies ≡ chosen (tasks_of kept) (take i numbers) → tasks_of longer ≡ chosen (tasks_of kept) (take (i + 1) numbers)
+pub next_copied : (kept : List Task) (copies longer : List Listed) (numbers : List ℕ) (i n : ℕ) (part : Task) (copy : Listed) → i < length numbers
+    → n ≡ get_or numbers i n → n < length kept → part ≡ get_or kept n part → task_of copy ≡ part → longer ≡ copies ++ copy ∷ []
+    → tasks_of copies ≡ chosen kept (take i numbers) → tasks_of longer ≡ chosen kept (take (i + 1) numbers)
 next_copied kept copies longer numbers i n part copy inside number less at same items before =
-    let of : ℕ → Task = λ k. slice_index_or (tasks_of kept) k no_task in
+    let of : ℕ → Task = λ k. slice_index_or kept k no_task in
     ap tasks_of items ∙ map_push task_of copies copy ∙ ap (λ (l : List Task). l ++ task_of copy ∷ []) before ∙ ap
-    (λ (t : Task). chosen (tasks_of kept) (take i numbers) ++ t ∷ []) (same ∙ sym (read_job kept n part less at) ∙ ap of number) ∙ sym
+    (λ (t : Task). chosen kept (take i numbers) ++ t ∷ []) (same ∙ sym (read_job kept n part less at) ∙ ap of number) ∙ sym
     (map_more of numbers i n inside)
 
 -- ---- what is added

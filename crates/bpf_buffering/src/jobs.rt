@@ -213,7 +213,7 @@ fn copy_cpu(alloc: Global, cpu: &Cpu) -> Result<Cpu, AllocError>
 }
 
 /// A copy of how far a job is.
-pub fn copy_stage(alloc: Global, stage: &KeptStage) -> Result<KeptStage, AllocError>
+fn copy_stage(alloc: Global, stage: &KeptStage) -> Result<KeptStage, AllocError>
     ensures { IfOk result (λ copy. kept_stage copy ≡ kept_stage stage.now) }
 {
     match stage {

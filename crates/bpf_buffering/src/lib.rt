@@ -14,6 +14,6 @@ mod waiting;
 
 pub use album::Album;
 pub use buffering::Buffering;
-pub use jobs::{Listed, copy_stage};
+pub use jobs::Listed;
 pub use pools::buffers::copy_buffers;
 pub use waiting::Stored;

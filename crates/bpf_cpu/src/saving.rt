@@ -9,9 +9,10 @@ ghost use Rattle.bpf_cpu.specs.declared.cpu.Cpu.{Cpu};
 ghost use Rattle.bpf_cpu.specs.Saved.{cpu_saved, IsOfOneJob, IsSavableState};
 
 use crate::cpu::Cpu;
+use crate::kept::KeptCpu;
 use bpf_base::bytes::load_word;
 use bpf_mem::{are_words, read_words, save_words};
-use std::alloc::AllocError;
+use std::alloc::{AllocError, Global};
 
 /// Appends bytes to others.
 fn save_bytes(bytes: &[u8], out: &mut Vec<u8>) -> Result<(), AllocError>
@@ -110,5 +111,35 @@ impl Cpu {
         let rest = self.held.restore(rest)?;
         let rest = self.memory.context.restore(rest)?;
         self.memory.packet.restore(rest)
+    }
+}
+
+impl KeptCpu {
+    ghost use Rattle.std.specs.Prelude.{◌≡◌, ◌++◌, ℕ, List, IfOk, IfSome, IfNone};
+    ghost use Rattle.bpf_helpers.specs.Saved.{MayBeHeld};
+    ghost use Rattle.bpf_cpu.specs.declared.cpu.Cpu.{Cpu};
+    ghost use Rattle.bpf_cpu.specs.Saved.{cpu_saved, IsOfOneJob, IsSavableState};
+
+    /// Becomes the state whose saved form the bytes begin with, of those of one job; what comes
+    /// after it. `None` where no state has such a form.
+    pub fn restore<'a>(
+        &mut self,
+        alloc: Global,
+        bytes: &'a [u8],
+    ) -> Result<Option<&'a [u8]>, AllocError>
+        ensures some { IfOk result (λ o. IfSome o
+            (λ rest. bytes.now ≡ cpu_saved self.new ++ rest.now)) }
+        ensures savable { IfOk result (λ o. IfSome o (λ _. IsSavableState self.new)) }
+        ensures job { IsOfOneJob self.old self.new }
+        ensures none { IfOk result (λ o. IfNone o ((other : Cpu) (more : List ℕ)
+            → IsSavableState other → MayBeHeld other.held → IsOfOneJob self.old other
+            → bytes.now ≡ cpu_saved other ++ more → ⊥)) }
+    {
+        let mut state = self.to_cpu(alloc)?;
+        let Some(rest) = state.restore(bytes) else {
+            return Ok(None);
+        };
+        *self = KeptCpu::of(alloc, &state)?;
+        Ok(Some(rest))
     }
 }

@@ -117,7 +117,7 @@ pub fn watch(
     let kept = machine.kept_job(alloc, job)?;
     let program = &machine.programs()[kept.program()];
     let budget = kept.budget();
-    let mut stage = kept.into_stage();
+    let mut stage = kept.stage(alloc)?;
     if let Some(pc) = make_quiet_step(program, &mut stage) {
         return Ok(Some((job, pc)));
     }

@@ -1,9 +1,9 @@
 //! The numbers of spans by where they start.
 
-ghost use Rattle.std.specs.Prelude.{◌≡◌, ◌<◌, List, length, ◌∷◌, [], ◌++◌};
+ghost use Rattle.std.specs.Prelude.{◌≡◌, ◌<◌, ◌≤◌, List, length, ◌∷◌, [], ◌++◌};
 ghost use Rattle.bpf_shared.specs.declared.events.Span.{Span};
 ghost use Rattle.bpf_shared.specs.Passage.{same_span};
-ghost use Rattle.bpf_helpers.specs.Held.{has_span};
+ghost use Rattle.bpf_helpers.specs.Held.{has_span, max_held};
 ghost use Rattle.bpf_helpers.specs.Private.Bins.{AreBinned, bin_of};
 
 use bpf_base::spread;
@@ -85,5 +85,16 @@ impl Bins {
         let bin = bin_of(span.at);
         self.earlier[number as usize] = self.latest[bin];
         self.latest[bin] = number;
+    }
+
+    /// Have the numbers of these spans, and no others.
+    pub(crate) fn refill(&mut self, spans: &[Span])
+        requires { length spans.now ≤ max_held }
+        ensures { AreBinned self.new.latest self.new.earlier spans.now }
+    {
+        *self = Bins::new();
+        for number in 0..spans.len() {
+            self.put(spans[number], number as u8);
+        }
     }
 }

@@ -63,6 +63,13 @@ impl Grid {
         })
     }
 
+    /// A copy of it.
+    pub(crate) fn copy(&self) -> Grid
+        ensures { result ≡ self.now }
+    {
+        Grid { sizes: self.sizes }
+    }
+
     /// Becomes what another one is.
     pub(crate) fn copy_from(&mut self, other: &Grid)
         ensures { self.new ≡ other.now }

@@ -5,12 +5,14 @@ ghost use Rattle.bpf_helpers.specs.Arrays.{array_start};
 ghost use Rattle.bpf_helpers.specs.Private.Grid.{IsAligned};
 ghost use Rattle.bpf_helpers.specs.Held.{AreElements, covers, has_span, is_covered, max_held, reaches, with_span};
 
+mod kept;
 mod saving;
 
 use crate::bins::Bins;
 use crate::grid::Grid;
 use arrayvec::ArrayVec;
 use bpf_shared::Span;
+pub use kept::KeptSpans;
 use std::marker::Model;
 
 /// How many values a run holds at most (our own choice).

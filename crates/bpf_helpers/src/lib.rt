@@ -20,4 +20,4 @@ pub use arrays::array_with;
 pub use calls::call;
 pub use fault::HelperFault;
 pub use given::{Given, answer_job, asks_once, is_of_job};
-pub use held::HeldSpans;
+pub use held::{HeldSpans, KeptSpans};

@@ -8,6 +8,13 @@ use Rattle.bpf_live.specs.Live.{HasCalls, IsLive, Table}
 abbrev pub with_registers : Cpu → List ℕ → Cpu
 with_registers cpu registers = record cpu { registers = registers }
 
+-- the CPU with the marks of another: its number, the job's, and the seed of its random numbers
+abbrev pub marked_as : Cpu → Cpu → Cpu
+marked_as other cpu = record cpu {
+  number = other.number;
+  given = record cpu.given { job = other.given.job; seed = other.given.seed };
+}
+
 -- no function of the program has been called, or the program calls some
 abbrev pub IsEntered : Loaded → Cpu → Type 0
 IsEntered program cpu = (cpu.memory.frames.callers ≡ []) ⊎ HasCalls program.instructions

@@ -1,11 +1,8 @@
 //! The registers that a program may read before it writes them, and states that differ only in the
 //! others.
 
-ghost use Rattle.std.specs.Prelude.{◌≡◌, true};
-ghost use Rattle.bpf_live.specs.Alike.{with_registers};
-
 use crate::needs::{Set, is_live};
-use bpf_cpu::Cpu;
+use bpf_cpu::KeptCpu;
 use std::marker::Model;
 
 /// Which registers are live, by pc. With no set all are.
@@ -22,22 +19,10 @@ impl Model for Live {
     ghost view = { λ l. l.sets.items };
 }
 
-/// Whether all of a state but its registers is that of another.
-fn is_same_beside(cpu: &Cpu, other: &Cpu) -> bool
-    ensures { result ≡ true → other.now ≡ with_registers cpu.now other.now.registers }
-{
-    cpu.number == other.number
-        && cpu.pc == other.pc
-        && cpu.given == other.given
-        && cpu.drawn == other.drawn
-        && cpu.held.is_same(&other.held)
-        && cpu.memory.is_same(&other.memory)
-}
-
 impl Live {
     ghost use Rattle.std.specs.Prelude.{◌≡◌, ◌⊎◌, ℕ, [], true, length, slice_index};
     ghost use Rattle.bpf_live.specs.Live.{is_live, IsLive, Table};
-    ghost use Rattle.bpf_live.specs.Alike.{AreAlike};
+    ghost use Rattle.bpf_live.specs.Alike.{AreAlike, marked_as};
     ghost use Rattle.bpf_loader.specs.Loaded.{Loaded};
 
     /// These sets.
@@ -56,20 +41,20 @@ impl Live {
 
     /// The registers of a state, with those of another in place of the ones that aren't live at its
     /// pc: inside of a function that was called, of none.
-    fn mixed(&self, cpu: &Cpu, other: &Cpu) -> [u64; 11]
+    fn mixed(&self, cpu: &KeptCpu, other: &KeptCpu) -> [u64; 11]
         ensures many { length result ≡ length cpu.now.registers }
         ensures live { (r : ℕ) → IsLive self.now cpu.now.pc r
             → slice_index result r ≡ slice_index cpu.now.registers r }
         ensures entered { (result ≡ cpu.now.registers)
             ⊎ (cpu.now.memory.frames.callers ≡ []) }
     {
-        if !cpu.memory.frames.callers().is_empty() {
-            return cpu.registers;
+        if !cpu.frames().callers().is_empty() {
+            return *cpu.registers();
         }
-        let mut registers = cpu.registers;
+        let mut registers = *cpu.registers();
         for register in 0u8..10 {
-            if !self.is_live(cpu.pc, register) {
-                registers[register as usize] = other.registers[register as usize];
+            if !self.is_live(cpu.pc(), register) {
+                registers[register as usize] = other.registers()[register as usize];
             }
         }
         registers
@@ -77,10 +62,19 @@ impl Live {
 
     /// Whether two states are the same but for registers that aren't live at their pc. Inside of a
     /// function that was called all count.
-    pub fn is_alike(&self, cpu: &Cpu, other: &Cpu) -> bool
+    pub fn is_alike(&self, cpu: &KeptCpu, other: &KeptCpu) -> bool
         ensures { result ≡ true
             → (program : Loaded) → AreAlike program self.now cpu.now other.now }
     {
-        self.mixed(cpu, other) == other.registers && is_same_beside(cpu, other)
+        self.mixed(cpu, other) == *other.registers() && cpu.is_same_beside(other)
+    }
+
+    /// Whether a state with the marks of another is alike it: with its CPU's number, its job's, and the
+    /// seed of its random numbers.
+    pub fn is_alike_but_for_marks(&self, cpu: &KeptCpu, other: &KeptCpu) -> bool
+        ensures { result ≡ true → (program : Loaded)
+            → AreAlike program self.now (marked_as other.now cpu.now) other.now }
+    {
+        self.mixed(cpu, other) == *other.registers() && cpu.is_same_beside_marks(other)
     }
 }

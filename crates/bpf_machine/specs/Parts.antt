@@ -1,5 +1,5 @@
 -- Machines that are made again of parts: a store, programs, and each job as it is.
-use Rattle.std.specs.Prelude.{◌≡◌, ℕ, ◌<◌, ◌≤◌, true, false, List, Some, None, length, map, slice_get, slice_index_or}
+use Rattle.std.specs.Prelude.{◌≡◌, ℕ, ◌<◌, ◌≤◌, Bool, true, false, List, Some, None, length, map, slice_get, slice_index_or}
 use Rattle.bpf_plain.specs.PlainStore.{Contents, has_cpu, is_running, held_spans}
 use Rattle.bpf_plain.specs.Alike.{IsSameShape}
 use Rattle.bpf_loader.specs.Loaded.{Loaded}
@@ -8,7 +8,7 @@ use Rattle.bpf_cpu.specs.declared.cpu.Cpu.{Cpu}
 use Rattle.bpf_cpu.specs.declared.input.Input.{Input}
 use Rattle.bpf_cpu.specs.Input.{IsShort, no_input}
 use Rattle.bpf_cpu.specs.Step.{IsReady}
-use Rattle.bpf_cpu.specs.Task.{Task, Waiting, InHand}
+use Rattle.bpf_cpu.specs.Task.{Stage, Task, Waiting, InHand, Ended}
 use Rattle.bpf_machine.specs.Hands.{IsAt, IsFree}
 use Rattle.bpf_machine.specs.Machine.{MachineState}
 use Rattle.bpf_machine.specs.Work.{HasInHand}
@@ -39,6 +39,12 @@ pub record CanStand (m : MachineState) : Type 0 where
   pub order : (c j k : ℕ) (task later : Task) (input : Input)
       → IsAt m.jobs c j task (Waiting input) → j < k → slice_get m.jobs k ≡ Some later
       → later.cpu ≡ c → (more : Input) × (later.stage ≡ Waiting more)
+
+-- a job in this stage is in its CPU's hand
+abbrev pub in_hand : Stage → Bool
+in_hand (Waiting input) = false
+in_hand (InHand state left) = true
+in_hand (Ended outcome) = false
 
 -- ---- jobs by numbers
 abbrev pub no_task : Task

@@ -5,5 +5,6 @@ pub mod laws;
 pub mod machine;
 
 pub use machine::{
-    Headway, KeptJob, KeptStage, Machine, Stand, Standing, Turn, can_stand, read_jobs,
+    Headway, KeptJob, KeptStage, Machine, Stand, Standing, Turn, bytes_of_jobs, can_stand,
+    read_jobs,
 };

@@ -21,7 +21,7 @@ use lane::{
     Hand, Lane, Listed, Phase, count_cpus, first_job, list_jobs, make_lanes, make_room, put_down,
 };
 use listing::{KeyLists, make_asked};
-pub use parts::{KeptJob, KeptStage, can_stand, read_jobs};
+pub use parts::{KeptJob, KeptStage, bytes_of_jobs, can_stand, read_jobs};
 use std::alloc::Global;
 use std::marker::Model;
 use std::mem;

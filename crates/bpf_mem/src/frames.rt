@@ -7,11 +7,13 @@ ghost use Rattle.bpf_mem.specs.Bytes.{length_of};
 ghost use Rattle.bpf_mem.specs.Limits.{max_frames, frame_bytes};
 ghost use Rattle.bpf_mem.specs.Stack.{IsStack, zeroed};
 
+mod kept;
 mod saving;
 
 use crate::addresses::{FRAME_STRIDE, STACK_BASE};
 use crate::bytes;
 use bpf_insn::operation::Size;
+pub use kept::KeptFrames;
 use std::marker::Model;
 
 /// How many frames can be live at once: `max_frames` (our own choice).

@@ -15,7 +15,7 @@ pub mod words;
 pub use addresses::is_aligned;
 pub use bytes::{length, size_of_width};
 pub use context::Context;
-pub use frames::{Caller, Frames};
+pub use frames::{Caller, Frames, KeptFrames};
 pub use memory::PrivateMemory;
 pub use packet::Packet;
 pub use place::Place;

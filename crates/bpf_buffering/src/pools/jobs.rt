@@ -2,7 +2,6 @@
 
 ghost use Rattle.std.specs.Prelude.{◌≡◌, ◌<◌, ◌++◌, ◌∷◌, [], List, true, false, All, IfOk, IfSome, OnOk, OnErr, Some, length, slice_get};
 ghost use Rattle.bpf_cpu.specs.Task.{Task};
-ghost use Rattle.bpf_machine.specs.Kept.{kept_stage};
 ghost use Rattle.bpf_machine.specs.Parts.{chosen};
 ghost use Rattle.bpf_machine.specs.Rounds.{HaveEnded};
 ghost use Rattle.bpf_buffering.specs.Jobs.{task_of, tasks_of};
@@ -11,43 +10,43 @@ ghost use Rattle.bpf_buffering.specs.Private.Kept.{AreNumbersOf};
 
 use super::number_of;
 use crate::index::{Index, Look};
-use crate::jobs::{Listed, copy_job};
-use bpf_alike::{are_stages_alike, live_state_hash};
+use crate::jobs::Listed;
+use bpf_alike::{are_alike, live_state_hash};
 use bpf_base::spread;
 use bpf_cpu::{Cpu, Outcome};
 use bpf_live::Live;
-use bpf_machine::KeptStage;
+use bpf_machine::{KeptJob, KeptStage, bytes_of_jobs};
 use std::alloc::{AllocError, Global};
 use std::marker::Model;
 
-/// Whether two jobs are equally far.
-fn is_same_stage(one: &KeptStage, other: &KeptStage) -> bool
-    ensures { result ≡ true → kept_stage one.now ≡ kept_stage other.now }
+/// A job as it is, as one that is kept.
+fn keep_job(alloc: Global, job: &Listed) -> Result<KeptJob, AllocError>
+    ensures { IfOk result (λ kept. kept ≡ task_of job.now) }
 {
-    match one {
-        KeptStage::Waiting(input) => match other {
-            KeptStage::Waiting(given) => input.is_same(given),
-            _ => false,
-        },
-        KeptStage::InHand(cpu, left) => match other {
-            KeptStage::InHand(state, rest) => *left == *rest && cpu.is_same(state),
-            _ => false,
-        },
-        KeptStage::Ended(outcome) => match other {
-            KeptStage::Ended(end) => *outcome == *end,
-            _ => false,
-        },
-    }
+    KeptJob::new(alloc, job.cpu, job.program, job.budget, &job.stage)
 }
 
-/// Whether two jobs are the same.
-fn is_same_job(one: &Listed, other: &Listed) -> bool
-    ensures { result ≡ true → task_of one.now ≡ task_of other.now }
+/// A kept job, in a machine's list.
+fn list_job(alloc: Global, kept: &KeptJob) -> Result<Listed, AllocError>
+    ensures { IfOk result (λ job. task_of job ≡ kept.now) }
 {
-    one.cpu == other.cpu
-        && one.program == other.program
-        && one.budget == other.budget
-        && is_same_stage(&one.stage, &other.stage)
+    let stage = kept.stage(alloc)?;
+    Ok(Listed {
+        cpu: kept.cpu(),
+        program: kept.program(),
+        budget: kept.budget(),
+        stage,
+    })
+}
+
+/// Whether a kept job is this one.
+fn is_same_job(kept: &KeptJob, job: &Listed) -> bool
+    ensures { result ≡ true → kept.now ≡ task_of job.now }
+{
+    kept.cpu() == job.cpu
+        && kept.program() == job.program
+        && kept.budget() == job.budget
+        && kept.is_in_stage(&job.stage)
 }
 
 /// A number by which a job in hand is found, after one of its own.
@@ -58,61 +57,48 @@ fn hash_of_hand(first: u64, cpu: &Cpu, left: u64) -> u64 {
         .fold(hash, |hash: u64, word| spread(hash ^ *word))
 }
 
+/// A number by which a job that has this outcome is found, or one that waits, after one of its own.
+fn hash_of_end(first: u64, outcome: Option<Outcome>) -> u64 {
+    match outcome {
+        None => spread(first ^ 1),
+        Some(Outcome::Exit(word)) => spread(spread(first ^ 2) ^ word),
+        Some(Outcome::Fault(_, _) | Outcome::OutOfBudget(_)) => spread(first ^ 3),
+    }
+}
+
 /// A number by which a job is found.
 fn hash_of_job(job: &Listed) -> u64 {
     let first = spread(spread(u64::from(job.cpu)) ^ job.program as u64);
     match &job.stage {
-        KeptStage::Waiting(_) => spread(first ^ 1),
+        KeptStage::Waiting(_) => hash_of_end(first, None),
         KeptStage::InHand(cpu, left) => hash_of_hand(first, cpu, *left),
-        KeptStage::Ended(Outcome::Exit(word)) => spread(spread(first ^ 2) ^ *word),
-        KeptStage::Ended(Outcome::Fault(_, _) | Outcome::OutOfBudget(_)) => spread(first ^ 3),
+        KeptStage::Ended(outcome) => hash_of_end(first, Some(*outcome)),
     }
 }
 
 /// A number by which a job is found that differs only in registers that aren't live.
-fn live_hash_of_job(tables: &[Live], job: &Listed) -> u64 {
-    match &job.stage {
-        KeptStage::InHand(cpu, left) => {
-            let first = spread(spread(u64::from(job.cpu)) ^ job.program as u64);
-            live_state_hash(spread(first ^ *left), tables, job.program, cpu)
-        }
-        KeptStage::Waiting(_) | KeptStage::Ended(_) => hash_of_job(job),
+fn live_hash_of_job(tables: &[Live], job: &KeptJob) -> u64 {
+    let first = spread(spread(u64::from(job.cpu())) ^ job.program() as u64);
+    match job.state() {
+        Some((cpu, left)) => live_state_hash(spread(first ^ left), tables, job.program(), cpu),
+        None => hash_of_end(first, job.outcome()),
     }
-}
-
-/// Whether a job is another one, but for the stage.
-fn is_same_beside(one: &Listed, other: &Listed) -> bool
-    ensures { result ≡ true → (other.now.cpu ≡ one.now.cpu)
-        × (other.now.program ≡ one.now.program) × (other.now.budget ≡ one.now.budget) }
-{
-    one.cpu == other.cpu && one.program == other.program && one.budget == other.budget
-}
-
-/// Whether the other job is the same one, in hand, in a state that is alike.
-fn is_alike_job(tables: &[Live], one: &Listed, other: &Listed) -> bool
-    ensures { result ≡ true → IsLikeJob tables.now (task_of one.now) (task_of other.now) }
-{
-    if !is_same_beside(one, other) {
-        return false;
-    }
-    are_stages_alike(tables, one.program, &one.stage, &other.stage)
 }
 
 /// Kept jobs, each under its number, in the order in which they came.
 #[derive(Drop)]
 pub(crate) struct Jobs {
-    kept: Vec<Listed>,
+    kept: Vec<KeptJob>,
     index: Index,
 }
 
 impl Model for Jobs {
     ghost use Rattle.std.specs.Prelude.{List};
     ghost use Rattle.bpf_cpu.specs.Task.{Task};
-    ghost use Rattle.bpf_buffering.specs.Jobs.{tasks_of};
 
     ghost Value = { List Task };
 
-    ghost view = { λ p. tasks_of p.kept.items };
+    ghost view = { λ p. p.kept.items };
 }
 
 impl Jobs {
@@ -149,7 +135,7 @@ impl Jobs {
         }
         match self.kept.get(number) {
             Some(one) => match self.kept.get(other) {
-                Some(job) => is_alike_job(tables, one, job),
+                Some(job) => are_alike(tables, one, job),
                 None => false,
             },
             None => false,
@@ -201,10 +187,10 @@ impl Jobs {
         ensures adds { OnOk result (self.new ≡ self.old ++ task_of job.now ∷ []) }
         ensures err { OnErr result (self.new ≡ self.old) }
     {
-        let copy = copy_job(alloc, job)?;
+        let kept = keep_job(alloc, job)?;
         let number = self.kept.len();
         self.index.note(alloc, hash, number)?;
-        self.kept.push(copy)?;
+        self.kept.push(kept)?;
         Ok(number)
     }
 
@@ -246,7 +232,7 @@ impl Jobs {
     {
         let mut copies = Vec::with_capacity(alloc, numbers.len())?;
         for job in 0..numbers.len() {
-            let copy = copy_job(alloc, &self.kept[numbers[job] as usize])?;
+            let copy = list_job(alloc, &self.kept[numbers[job] as usize])?;
             copies.push(copy)?;
         }
         Ok(copies)
@@ -266,9 +252,12 @@ impl Jobs {
         true
     }
 
-    /// About how many bytes of memory they take.
+    /// About how many bytes of memory they take, but for contexts and packets.
     pub(crate) fn bytes(&self) -> usize {
-        let kept = self.kept.capacity().saturating_mul(size_of::<Listed>());
-        self.index.bytes().saturating_add(kept)
+        let kept = self.kept.capacity().saturating_mul(size_of::<KeptJob>());
+        self.index
+            .bytes()
+            .saturating_add(kept)
+            .saturating_add(bytes_of_jobs(&self.kept))
     }
 }

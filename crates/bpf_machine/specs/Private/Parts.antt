@@ -9,13 +9,9 @@ use Rattle.bpf_machine.specs.declared.machine.lane.Lane.{Lane}
 use Rattle.bpf_cpu.specs.declared.input.Input.{Input}
 use Rattle.bpf_cpu.specs.declared.cpu.Cpu.{Cpu}
 use Rattle.bpf_cpu.specs.Task.{Stage, Task, Waiting, InHand, Ended}
+pub use Rattle.bpf_machine.specs.Parts.{in_hand}
 use Rattle.bpf_machine.specs.Parts.{chosen_at}
 use Rattle.bpf_machine.specs.Private.Lanes.{room_of, stage_of}
-
-abbrev pub in_hand : Stage → Bool
-in_hand (Waiting input) = false
-in_hand (InHand state left) = true
-in_hand (Ended outcome) = false
 
 abbrev pub waits : Stage → Bool
 waits (Waiting input) = true

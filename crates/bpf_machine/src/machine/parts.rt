@@ -1,28 +1,30 @@
 //! Jobs of a machine that are kept as they are, and a machine that is made again of such jobs and
 //! a store.
 
-ghost use Rattle.std.specs.Prelude.{◌≡◌, ◌≢◌, ◌<◌, ◌≤◌, ℕ, true, false, All, IfOk, IfSome, IfNone, OnOk, OnErr, Some, None, length};
-ghost use Rattle.bpf_cpu.specs.Task.{InHand, Ended};
+ghost use Rattle.std.specs.Prelude.{◌≡◌, ◌≢◌, ◌<◌, ◌≤◌, ℕ, true, false, All, IfOk, IfSome, IfNone, OnOk, OnErr, Some, None, length, fold};
+ghost use Rattle.bpf_cpu.specs.Task.{Waiting, InHand, Ended};
 ghost use Rattle.bpf_machine.specs.Hashes.{mix, stage_hash, task_hash};
 ghost use Rattle.bpf_machine.specs.Parts.{chosen_at};
 ghost use Rattle.bpf_machine.specs.Private.Lanes.{lane_of, room_of, stage_of};
-ghost use Rattle.bpf_machine.specs.Kept.{kept_stage};
+ghost use Rattle.bpf_machine.specs.Kept.{compact_stage, kept_stage};
 ghost use Rattle.bpf_machine.specs.Private.Parts.{IsReadAs, in_hand, waits, entry_at, IsEntryOf, IsHandOf, IsFirstWaiting, IsLaneOf, AreAsLarge, FitsIn, CanFill, IsSpareFor, spare_of};
 
+mod compact;
 mod fitting;
 mod reading;
 
 use super::Machine;
 use crate::machine::lane::{Hand, Lane, Listed, Phase, empty_hand, take_room};
 use bpf_base::spread;
-use bpf_cpu::{Cpu, Input, Outcome};
+use bpf_cpu::{Cpu, Input, KeptCpu, Outcome};
 use bpf_plain::PlainStore;
+use compact::{CompactStage, make_compact};
 pub use fitting::can_stand;
 pub use reading::read_jobs;
 use std::alloc::{AllocError, Global};
 use std::marker::Model;
 
-/// How far a kept job is.
+/// How far a job is, with all that its CPU goes on from.
 #[derive(Drop)]
 pub enum KeptStage {
     /// It waits, with what it is given.
@@ -38,12 +40,12 @@ pub struct KeptJob {
     cpu: u8,
     program: usize,
     budget: u64,
-    stage: KeptStage,
+    stage: CompactStage,
 }
 
 impl Model for KeptJob {
     ghost use Rattle.bpf_cpu.specs.Task.{Task};
-    ghost use Rattle.bpf_machine.specs.Kept.{kept_stage};
+    ghost use Rattle.bpf_machine.specs.Kept.{compact_stage};
 
     ghost Value = { Task };
 
@@ -51,59 +53,45 @@ impl Model for KeptJob {
       cpu = k.cpu;
       program = k.program;
       budget = k.budget;
-      stage = kept_stage k.stage;
+      stage = compact_stage k.stage;
     } };
 }
 
-/// A copy of a CPU's state.
-fn copy_cpu(alloc: Global, cpu: &Cpu) -> Result<Cpu, AllocError>
-    ensures { IfOk result (λ copy. copy ≡ cpu.now) }
-{
-    let input = Input {
-        context: cpu.memory.context.copy(alloc)?,
-        packet: cpu.memory.packet.copy(alloc)?,
-        given: cpu.given,
-    };
-    let mut copy = Cpu::new(cpu.number, input);
-    copy.copy_from(cpu);
-    Ok(copy)
-}
-
 /// The stage of a job, which is in this phase on the CPU of this lane.
-fn keep_stage(alloc: Global, lane: &Lane, phase: &Phase) -> Result<KeptStage, AllocError>
-    ensures { IfOk result (λ s. kept_stage s ≡ stage_of lane.now.hand phase.now) }
+fn keep_stage(alloc: Global, lane: &Lane, phase: &Phase) -> Result<CompactStage, AllocError>
+    ensures { IfOk result (λ s. compact_stage s ≡ stage_of lane.now.hand phase.now) }
 {
     match phase {
-        Phase::Waiting(input) => Ok(KeptStage::Waiting(input.copy(alloc)?)),
-        Phase::Ended(outcome) => Ok(KeptStage::Ended(*outcome)),
+        Phase::Waiting(input) => Ok(CompactStage::Waiting(input.copy(alloc)?)),
+        Phase::Ended(outcome) => Ok(CompactStage::Ended(*outcome)),
         Phase::InHand => match &lane.hand {
-            Some(hand) => Ok(KeptStage::InHand(copy_cpu(alloc, &hand.cpu)?, hand.left)),
-            None => Ok(KeptStage::Waiting(Input::nothing(alloc))),
+            Some(hand) => Ok(CompactStage::InHand(KeptCpu::of(alloc, &hand.cpu)?, hand.left)),
+            None => Ok(CompactStage::Waiting(Input::nothing(alloc))),
         },
     }
 }
 
 /// Whether the job in a CPU's hand is in this state, with this many steps left.
-fn is_in_hand(lane: &Lane, cpu: &Cpu, left: u64) -> bool
-    ensures same { result ≡ true → kept_stage (KeptStage.InHand cpu.now left)
+fn is_in_hand(lane: &Lane, cpu: &KeptCpu, left: u64) -> bool
+    ensures same { result ≡ true → compact_stage (CompactStage.InHand cpu.now left)
         ≡ stage_of lane.now.hand Phase.InHand }
-    ensures differs { result ≡ false → kept_stage (KeptStage.InHand cpu.now left)
+    ensures differs { result ≡ false → compact_stage (CompactStage.InHand cpu.now left)
         ≡ stage_of lane.now.hand Phase.InHand → ⊥ }
 {
     match &lane.hand {
-        Some(hand) => hand.left == left && hand.cpu.is_same(cpu),
+        Some(hand) => hand.left == left && cpu.is_state_of(&hand.cpu),
         None => false,
     }
 }
 
 /// Whether a job in this phase on the CPU of this lane is in this stage.
-fn is_stage(lane: &Lane, phase: &Phase, stage: &KeptStage) -> bool
-    ensures same { result ≡ true → kept_stage stage.now ≡ stage_of lane.now.hand phase.now }
-    ensures differs { result ≡ false → kept_stage stage.now ≡ stage_of lane.now.hand phase.now
+fn is_stage(lane: &Lane, phase: &Phase, stage: &CompactStage) -> bool
+    ensures same { result ≡ true → compact_stage stage.now ≡ stage_of lane.now.hand phase.now }
+    ensures differs { result ≡ false → compact_stage stage.now ≡ stage_of lane.now.hand phase.now
         → ⊥ }
 {
     match stage {
-        KeptStage::Waiting(input) => match phase {
+        CompactStage::Waiting(input) => match phase {
             Phase::Waiting(other) => input.is_same(other),
             Phase::InHand => match &lane.hand {
                 Some(_) => false,
@@ -111,11 +99,11 @@ fn is_stage(lane: &Lane, phase: &Phase, stage: &KeptStage) -> bool
             },
             Phase::Ended(_) => false,
         },
-        KeptStage::InHand(cpu, left) => match phase {
+        CompactStage::InHand(cpu, left) => match phase {
             Phase::InHand => is_in_hand(lane, cpu, *left),
             _ => false,
         },
-        KeptStage::Ended(outcome) => match phase {
+        CompactStage::Ended(outcome) => match phase {
             Phase::Ended(other) => *outcome == *other,
             _ => false,
         },
@@ -125,20 +113,27 @@ fn is_stage(lane: &Lane, phase: &Phase, stage: &KeptStage) -> bool
 impl KeptJob {
     /// A job of this CPU and of the program of this number, which may make this many steps in all and
     /// is in this stage.
-    pub fn new(cpu: u8, program: usize, budget: u64, stage: KeptStage) -> KeptJob
-        ensures { result ≡ record {
+    pub fn new(
+        alloc: Global,
+        cpu: u8,
+        program: usize,
+        budget: u64,
+        stage: &KeptStage,
+    ) -> Result<KeptJob, AllocError>
+        ensures { IfOk result (λ kept. kept ≡ record {
           cpu = cpu;
           program = program;
           budget = budget;
-          stage = kept_stage stage;
-        } }
+          stage = kept_stage stage.now;
+        }) }
     {
-        KeptJob {
+        let stage = make_compact(alloc, stage)?;
+        Ok(KeptJob {
             cpu,
             program,
             budget,
             stage,
-        }
+        })
     }
 
     /// The number of its program.
@@ -155,26 +150,62 @@ impl KeptJob {
         self.budget
     }
 
-    /// How far it is.
-    pub fn stage(&self) -> &KeptStage
-        ensures { kept_stage result.now ≡ self.now.stage }
+    /// How far it is, with all that its CPU goes on from.
+    pub fn stage(&self, alloc: Global) -> Result<KeptStage, AllocError>
+        ensures { IfOk result (λ stage. kept_stage stage ≡ self.now.stage) }
     {
-        &self.stage
+        self.stage.widen(alloc)
     }
 
-    /// How far it is, with what it goes on from.
-    pub fn into_stage(self) -> KeptStage
-        ensures { kept_stage result ≡ self.stage }
+    /// Whether it is this far.
+    pub fn is_in_stage(&self, stage: &KeptStage) -> bool
+        ensures { result ≡ true → kept_stage stage.now ≡ self.now.stage }
     {
-        self.stage
+        self.stage.is(stage)
     }
 
-    fn is_in_hand(&self) -> bool
+    /// What it is given, if it waits.
+    pub fn input(&self) -> Option<&Input>
+        ensures { IfSome result (λ input. self.now.stage ≡ Waiting input.now) }
+    {
+        match &self.stage {
+            CompactStage::Waiting(input) => Some(input),
+            CompactStage::InHand(_, _) | CompactStage::Ended(_) => None,
+        }
+    }
+
+    /// The state of its CPU and how many steps are left, if it is in hand.
+    pub fn state(&self) -> Option<(&KeptCpu, u64)>
+        ensures { IfSome result (λ r. self.now.stage ≡ InHand r.0.now r.1) }
+    {
+        match &self.stage {
+            CompactStage::InHand(cpu, left) => Some((cpu, *left)),
+            CompactStage::Waiting(_) | CompactStage::Ended(_) => None,
+        }
+    }
+
+    /// Its outcome, if it has one.
+    pub fn outcome(&self) -> Option<Outcome>
+        ensures { IfSome result (λ outcome. self.now.stage ≡ Ended outcome) }
+    {
+        match &self.stage {
+            CompactStage::Ended(outcome) => Some(*outcome),
+            CompactStage::Waiting(_) | CompactStage::InHand(_, _) => None,
+        }
+    }
+
+    /// About how many bytes of memory it takes beside itself, contexts and packets.
+    fn bytes(&self) -> usize {
+        self.stage.bytes()
+    }
+
+    /// Whether it is in its CPU's hand.
+    pub fn is_in_hand(&self) -> bool
         ensures { result ≡ in_hand self.now.stage }
     {
         match &self.stage {
-            KeptStage::InHand(_, _) => true,
-            KeptStage::Waiting(_) | KeptStage::Ended(_) => false,
+            CompactStage::InHand(_, _) => true,
+            CompactStage::Waiting(_) | CompactStage::Ended(_) => false,
         }
     }
 
@@ -182,8 +213,8 @@ impl KeptJob {
         ensures { result ≡ waits self.now.stage }
     {
         match &self.stage {
-            KeptStage::Waiting(_) => true,
-            KeptStage::InHand(_, _) | KeptStage::Ended(_) => false,
+            CompactStage::Waiting(_) => true,
+            CompactStage::InHand(_, _) | CompactStage::Ended(_) => false,
         }
     }
 
@@ -194,8 +225,8 @@ impl KeptJob {
         ensures going { result ≡ false → (outcome : Outcome) → self.now.stage ≡ Ended outcome → ⊥ }
     {
         match &self.stage {
-            KeptStage::Ended(_) => true,
-            KeptStage::Waiting(_) | KeptStage::InHand(_, _) => false,
+            CompactStage::Ended(_) => true,
+            CompactStage::Waiting(_) | CompactStage::InHand(_, _) => false,
         }
     }
 
@@ -207,9 +238,9 @@ impl KeptJob {
             → self.now.stage ≡ Ended (Outcome.OutOfBudget pc) → ⊥ }
     {
         match &self.stage {
-            KeptStage::Ended(Outcome::OutOfBudget(_)) => true,
-            KeptStage::Ended(Outcome::Exit(_) | Outcome::Fault(_, _)) => false,
-            KeptStage::Waiting(_) | KeptStage::InHand(_, _) => false,
+            CompactStage::Ended(Outcome::OutOfBudget(_)) => true,
+            CompactStage::Ended(Outcome::Exit(_) | Outcome::Fault(_, _)) => false,
+            CompactStage::Waiting(_) | CompactStage::InHand(_, _) => false,
         }
     }
 
@@ -219,9 +250,11 @@ impl KeptJob {
     {
         let first = mix(self.cpu as u64, self.program as u64);
         match &self.stage {
-            KeptStage::Waiting(_) => mix(first, 1),
-            KeptStage::InHand(cpu, left) => hash_of_hand(first, cpu, *left),
-            KeptStage::Ended(_) => mix(first, 2),
+            CompactStage::Waiting(_) => mix(first, 1),
+            CompactStage::InHand(cpu, left) => {
+                hash_of_hand(first, cpu.pc(), *left, cpu.registers())
+            }
+            CompactStage::Ended(_) => mix(first, 2),
         }
     }
 
@@ -258,9 +291,9 @@ impl KeptJob {
         ensures { IfOk result (IsEntryOf self.now) }
     {
         let phase = match &self.stage {
-            KeptStage::Waiting(input) => Phase::Waiting(input.copy(alloc)?),
-            KeptStage::InHand(_, _) => Phase::InHand,
-            KeptStage::Ended(outcome) => Phase::Ended(*outcome),
+            CompactStage::Waiting(input) => Phase::Waiting(input.copy(alloc)?),
+            CompactStage::InHand(_, _) => Phase::InHand,
+            CompactStage::Ended(outcome) => Phase::Ended(*outcome),
         };
         Ok(Listed {
             cpu: self.cpu,
@@ -275,14 +308,23 @@ impl KeptJob {
         ensures { IfOk result (IsHandOf self.now.stage job) }
     {
         match &self.stage {
-            KeptStage::InHand(cpu, left) => {
-                let cpu = copy_cpu(alloc, cpu)?;
+            CompactStage::InHand(cpu, left) => {
+                let cpu = cpu.to_cpu(alloc)?;
                 let left = *left;
                 Ok(Some(Hand { job, cpu, left }))
             }
-            KeptStage::Waiting(_) | KeptStage::Ended(_) => Ok(None),
+            CompactStage::Waiting(_) | CompactStage::Ended(_) => Ok(None),
         }
     }
+}
+
+/// About how many bytes of memory jobs take beside themselves, contexts and packets.
+pub fn bytes_of_jobs(jobs: &[KeptJob]) -> usize {
+    let mut bytes = 0usize;
+    for job in jobs {
+        bytes = bytes.saturating_add(job.bytes());
+    }
+    bytes
 }
 
 /// The entries of the jobs that have these numbers.
@@ -389,20 +431,20 @@ fn fits_room(lane: &Lane, part: &KeptJob) -> bool
     ensures { result ≡ true → FitsIn part.now.stage (room_of lane.now) }
 {
     match &part.stage {
-        KeptStage::InHand(cpu, _) => match room_in(lane) {
+        CompactStage::InHand(cpu, _) => match room_in(lane) {
             Some(hand) => has_memory_of(cpu, &hand.cpu),
             None => false,
         },
-        KeptStage::Waiting(_) | KeptStage::Ended(_) => false,
+        CompactStage::Waiting(_) | CompactStage::Ended(_) => false,
     }
 }
 
 /// Whether two states have contexts of one length, and packets of one length.
-fn has_memory_of(cpu: &Cpu, other: &Cpu) -> bool
+fn has_memory_of(cpu: &KeptCpu, other: &Cpu) -> bool
     ensures { result ≡ true → AreAsLarge cpu.now other.now }
 {
-    cpu.memory.context.bytes().len() == other.memory.context.bytes().len()
-        && cpu.memory.packet.bytes().len() == other.memory.packet.bytes().len()
+    cpu.context().bytes().len() == other.memory.context.bytes().len()
+        && cpu.packet().bytes().len() == other.memory.packet.bytes().len()
 }
 
 /// Whether a CPU's lane can become that of these jobs without memory.
@@ -441,12 +483,12 @@ fn fill_hand(hand: &mut Hand, part: &KeptJob, job: usize)
     ensures job { hand.new.job ≡ job }
 {
     match &part.stage {
-        KeptStage::InHand(cpu, left) => {
+        CompactStage::InHand(cpu, left) => {
             hand.job = job;
-            hand.cpu.copy_from(cpu);
+            hand.cpu.copy_from_kept(cpu);
             hand.left = *left;
         }
-        KeptStage::Waiting(_) | KeptStage::Ended(_) => unreachable!(),
+        CompactStage::Waiting(_) | CompactStage::Ended(_) => unreachable!(),
     }
 }
 
@@ -624,11 +666,11 @@ fn mix(hash: u64, number: u64) -> u64
 }
 
 /// A number by which a job in hand is found, after one of its own.
-fn hash_of_hand(first: u64, cpu: &Cpu, left: u64) -> u64
-    ensures { result ≡ stage_hash first (InHand cpu.now left) }
+fn hash_of_hand(first: u64, pc: u32, left: u64, registers: &[u64; 11]) -> u64
+    ensures { result ≡ fold mix (mix (mix first pc) left) registers.now }
 {
-    let hash = mix(mix(first, cpu.pc as u64), left);
-    cpu.registers
+    let hash = mix(mix(first, pc as u64), left);
+    registers
         .iter()
         .fold(hash, |hash: u64, word| spread(hash ^ *word))
 }
@@ -641,7 +683,7 @@ fn hash_of_stage(first: u64, lane: &Lane, phase: &Phase) -> u64
         Phase::Waiting(_) => mix(first, 1),
         Phase::Ended(_) => mix(first, 2),
         Phase::InHand => match &lane.hand {
-            Some(hand) => hash_of_hand(first, &hand.cpu, hand.left),
+            Some(hand) => hash_of_hand(first, hand.cpu.pc, hand.left, &hand.cpu.registers),
             None => mix(first, 1),
         },
     }

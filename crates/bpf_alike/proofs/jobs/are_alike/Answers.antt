@@ -1,4 +1,4 @@
-use Rattle.std.proofs.Common.{◌≡◌, ◌∙◌, ℕ, inr, refl, sym, ap, subst}
+use Rattle.std.proofs.Common.{◌≡◌, ◌∙◌, ℕ, inr, refl, ap, subst}
 use Rattle.bpf_cpu.specs.Task.{Stage, InHand}
 use Rattle.bpf_live.specs.Alike.{AreAlike}
 use Rattle.bpf_alike.specs.Worlds.{table_at}
@@ -11,8 +11,8 @@ returns c is programs program right loaded =
     let tables = table_at c.args.tables.now in
     let same = c.if-not-is_same_job.ensures refl in
     let s = c.are_stages_alike.ensures is in
-    let here : job.stage ≡ InHand s.0 s.1 = sym c.stage.ensures ∙ s.3 in
-    let there : other.stage ≡ InHand s.2 s.1 = sym c.stage-2.ensures ∙ s.4 in
+    let here : job.stage ≡ InHand s.0 s.1 = s.3 in
+    let there : other.stage ≡ InHand s.2 s.1 = s.4 in
     let whole : other ≡ record job { stage = InHand s.2 s.1 } =
     ap (λ (n : ℕ). record { cpu = n; program = other.program; budget = other.budget; stage = other.stage }) same.0
     ∙ (ap (λ (n : ℕ). record { cpu = job.cpu; program = n; budget = other.budget; stage = other.stage }) same.1

@@ -9,8 +9,9 @@ ghost use Rattle.bpf_machine.specs.Parts.{CanStand, chosen_at, made_of};
 ghost use Rattle.bpf_machine.specs.Private.Parts.{in_hand};
 ghost use Rattle.bpf_machine.specs.Private.Standing.{FitsState, FitsAlone, Follows};
 
-use super::{KeptJob, KeptStage, find_hand};
-use bpf_cpu::Cpu;
+use super::compact::CompactStage;
+use super::{KeptJob, find_hand};
+use bpf_cpu::KeptCpu;
 use bpf_loader::Program;
 use bpf_mem::context::MAX_CONTEXT;
 use bpf_mem::packet::MAX_PACKET;
@@ -30,7 +31,7 @@ fn are_held(store: &PlainStore, cpu: u8, spans: &[Span]) -> bool
 }
 
 /// The program of this number, if there is one, may be stepped from a state.
-fn is_ready(programs: &[Program], number: usize, state: &Cpu) -> bool
+fn is_ready(programs: &[Program], number: usize, state: &KeptCpu) -> bool
     ensures { IsTrue result ↔ ((program : Loaded) → slice_get programs.now number ≡ Some program
         → IsReady program state.now) }
 {
@@ -41,13 +42,13 @@ fn is_ready(programs: &[Program], number: usize, state: &Cpu) -> bool
 }
 
 /// A job's CPU goes on with it from this state.
-fn fits_state(store: &PlainStore, programs: &[Program], part: &KeptJob, state: &Cpu) -> bool
+fn fits_state(store: &PlainStore, programs: &[Program], part: &KeptJob, state: &KeptCpu) -> bool
     ensures { IsTrue result ↔ FitsState store.now programs.now part.now state.now }
 {
-    state.number == part.cpu
+    state.number() == part.cpu
         && is_ready(programs, part.program, state)
         && store.is_running(part.cpu)
-        && are_held(store, part.cpu, state.held.spans())
+        && are_held(store, part.cpu, state.held().spans())
 }
 
 /// A store and programs have what a job wants.
@@ -58,11 +59,11 @@ fn fits_alone(store: &PlainStore, programs: &[Program], part: &KeptJob) -> bool
         return false;
     }
     match &part.stage {
-        KeptStage::Waiting(input) => {
+        CompactStage::Waiting(input) => {
             input.context.bytes().len() <= MAX_CONTEXT && input.packet.bytes().len() <= MAX_PACKET
         }
-        KeptStage::InHand(state, _) => fits_state(store, programs, part, state),
-        KeptStage::Ended(_) => true,
+        CompactStage::InHand(state, _) => fits_state(store, programs, part, state),
+        CompactStage::Ended(_) => true,
     }
 }
 

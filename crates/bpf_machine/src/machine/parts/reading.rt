@@ -4,25 +4,26 @@
 ghost use Rattle.std.specs.Prelude.{◌≡◌, ◌≤◌, true, List, ◌∷◌, ◌++◌, ℕ, All, OnOk, IfOk, IfSome, IfNone, length};
 ghost use Rattle.bpf_cpu.specs.declared.cpu.Cpu.{Cpu};
 ghost use Rattle.bpf_cpu.specs.Task.{Stage, Task, Waiting, InHand};
-ghost use Rattle.bpf_machine.specs.Kept.{kept_stage};
+ghost use Rattle.bpf_machine.specs.Kept.{compact_stage};
 ghost use Rattle.bpf_machine.specs.Private.Parts.{HasRoom};
 ghost use Rattle.bpf_machine.specs.Saved.{jobs_saved, stage_saved, AreLater, HoldWhatMayBe, HoldsWhatMayBe, IsLater, IsSavableStage};
 
-use super::{KeptJob, KeptStage};
-use bpf_cpu::{Cpu, Input, read_outcome};
+use super::KeptJob;
+use super::compact::CompactStage;
+use bpf_cpu::{Cpu, Input, KeptCpu, read_outcome};
 use bpf_mem::read_words;
 use std::alloc::{AllocError, Global};
 
 /// Whether a job is in hand, with memory as large as it is given.
-fn has_room(stage: &KeptStage, input: &Input) -> bool
-    ensures { result ≡ true → HasRoom input.now (kept_stage stage.now) }
+fn has_room(stage: &CompactStage, input: &Input) -> bool
+    ensures { result ≡ true → HasRoom input.now (compact_stage stage.now) }
 {
     match stage {
-        KeptStage::InHand(state, _) => {
-            state.memory.context.bytes().len() == input.context.bytes().len()
-                && state.memory.packet.bytes().len() == input.packet.bytes().len()
+        CompactStage::InHand(state, _) => {
+            state.context().bytes().len() == input.context.bytes().len()
+                && state.packet().bytes().len() == input.packet.bytes().len()
         }
-        KeptStage::Waiting(_) | KeptStage::Ended(_) => false,
+        CompactStage::Waiting(_) | CompactStage::Ended(_) => false,
     }
 }
 
@@ -34,18 +35,23 @@ fn put_in_hand(
     alloc: Global,
     cpu: u8,
     input: &Input,
-    stage: &mut KeptStage,
+    stage: &mut CompactStage,
 ) -> Result<(), AllocError>
-    ensures { OnOk result (HasRoom input.now (kept_stage stage.new)) }
+    ensures { OnOk result (HasRoom input.now (compact_stage stage.new)) }
 {
     let state = Cpu::new(cpu, input.copy(alloc)?);
-    *stage = KeptStage::InHand(state, 0);
+    *stage = CompactStage::InHand(KeptCpu::of(alloc, &state)?, 0);
     Ok(())
 }
 
 /// A job is in hand, with memory as large as it is given.
-fn make_room(alloc: Global, cpu: u8, input: &Input, stage: &mut KeptStage) -> Result<(), AllocError>
-    ensures { OnOk result (HasRoom input.now (kept_stage stage.new)) }
+fn make_room(
+    alloc: Global,
+    cpu: u8,
+    input: &Input,
+    stage: &mut CompactStage,
+) -> Result<(), AllocError>
+    ensures { OnOk result (HasRoom input.now (compact_stage stage.new)) }
 {
     if has_room(stage, input) {
         return Ok(());
@@ -59,13 +65,13 @@ fn read_hand<'a>(
     alloc: Global,
     cpu: u8,
     input: &Input,
-    stage: &mut KeptStage,
+    stage: &mut CompactStage,
     bytes: &'a [u8],
 ) -> Result<Option<&'a [u8]>, AllocError>
     ensures some { IfOk result (λ o. IfSome o (λ rest.
-        1 ∷ bytes.now ≡ stage_saved (kept_stage stage.new) ++ rest.now)) }
+        1 ∷ bytes.now ≡ stage_saved (compact_stage stage.new) ++ rest.now)) }
     ensures savable { IfOk result (λ o. IfSome o (λ rest.
-        IsSavableStage cpu input.now (kept_stage stage.new))) }
+        IsSavableStage cpu input.now (compact_stage stage.new))) }
     ensures none { IfOk result (λ o. IfNone o ((state : Cpu) (left : ℕ) (more : List ℕ)
         → IsSavableStage cpu input.now (InHand state left)
         → HoldsWhatMayBe (InHand state left)
@@ -77,37 +83,37 @@ fn read_hand<'a>(
     };
     make_room(alloc, cpu, input, stage)?;
     match stage {
-        KeptStage::InHand(state, left) => {
-            state.number = cpu;
-            state.given = input.given;
+        CompactStage::InHand(state, left) => {
+            state.set_job(cpu, input.given);
             *left = words[0];
-            match state.restore(rest) {
+            let behind = state.restore(alloc, rest)?;
+            match behind {
                 Some(rest) => Ok(Some(rest)),
                 None => Ok(None),
             }
         }
-        KeptStage::Waiting(_) | KeptStage::Ended(_) => unreachable!(),
+        CompactStage::Waiting(_) | CompactStage::Ended(_) => unreachable!(),
     }
 }
 
 /// Whether a job waits and is given this.
-fn waits_with(stage: &KeptStage, input: &Input) -> bool
-    ensures { result ≡ true → kept_stage stage.now ≡ Waiting input.now }
+fn waits_with(stage: &CompactStage, input: &Input) -> bool
+    ensures { result ≡ true → compact_stage stage.now ≡ Waiting input.now }
 {
     match stage {
-        KeptStage::Waiting(own) => own.is_same(input),
-        KeptStage::InHand(_, _) | KeptStage::Ended(_) => false,
+        CompactStage::Waiting(own) => own.is_same(input),
+        CompactStage::InHand(_, _) | CompactStage::Ended(_) => false,
     }
 }
 
 /// A stage becomes that of a job that waits and is given this.
-fn wait_with(alloc: Global, input: &Input, stage: &mut KeptStage) -> Result<(), AllocError>
-    ensures { OnOk result (kept_stage stage.new ≡ Waiting input.now) }
+fn wait_with(alloc: Global, input: &Input, stage: &mut CompactStage) -> Result<(), AllocError>
+    ensures { OnOk result (compact_stage stage.new ≡ Waiting input.now) }
 {
     if waits_with(stage, input) {
         return Ok(());
     }
-    *stage = KeptStage::Waiting(input.copy(alloc)?);
+    *stage = CompactStage::Waiting(input.copy(alloc)?);
     Ok(())
 }
 
@@ -118,13 +124,13 @@ fn read_stage<'a>(
     alloc: Global,
     cpu: u8,
     input: &Input,
-    stage: &mut KeptStage,
+    stage: &mut CompactStage,
     bytes: &'a [u8],
 ) -> Result<Option<&'a [u8]>, AllocError>
     ensures some { IfOk result (λ o. IfSome o (λ rest.
-        bytes.now ≡ stage_saved (kept_stage stage.new) ++ rest.now)) }
+        bytes.now ≡ stage_saved (compact_stage stage.new) ++ rest.now)) }
     ensures savable { IfOk result (λ o. IfSome o (λ rest.
-        IsSavableStage cpu input.now (kept_stage stage.new))) }
+        IsSavableStage cpu input.now (compact_stage stage.new))) }
     ensures none { IfOk result (λ o. IfNone o ((other : Stage) (more : List ℕ)
         → IsSavableStage cpu input.now other → HoldsWhatMayBe other
         → bytes.now ≡ stage_saved other ++ more → ⊥)) }
@@ -141,7 +147,7 @@ fn read_stage<'a>(
         1 => read_hand(alloc, cpu, input, stage, rest),
         2 => match read_outcome(rest) {
             Some((outcome, rest)) => {
-                *stage = KeptStage::Ended(outcome);
+                *stage = CompactStage::Ended(outcome);
                 Ok(Some(rest))
             }
             None => Ok(None),
@@ -170,10 +176,10 @@ impl KeptJob {
         self.program = first.program;
         self.budget = first.budget;
         match &first.stage {
-            KeptStage::Waiting(input) => {
+            CompactStage::Waiting(input) => {
                 read_stage(alloc, first.cpu, input, &mut self.stage, bytes)
             }
-            KeptStage::InHand(_, _) | KeptStage::Ended(_) => {
+            CompactStage::InHand(_, _) | CompactStage::Ended(_) => {
                 let nothing = Input::nothing(alloc);
                 read_stage(alloc, first.cpu, &nothing, &mut self.stage, bytes)
             }
