@@ -1,4 +1,4 @@
--- Worlds from which moves lead to one another: turns, ends, and what is so of them.
+-- Worlds from which peers lead to one another: turns, ends, and what is so of them.
 use Rattle.std.proofs.Common.{◌≡◌, ◌∙◌, ℕ, zero, suc, List, inl, inr, refl, sym, ap, subst}
 use Rattle.bpf_cpu.specs.declared.outcome.Outcome.{Outcome}
 use Rattle.bpf_cpu.specs.Task.{Stage, Task, Ended}
@@ -15,50 +15,51 @@ use Rattle.bpf_machine.proofs.PatientLaws.{Richly}
 use Rattle.bpf_alike.specs.Worlds.{AllAlike, ButForDead}
 use Rattle.bpf_equal.specs.Covers.{ButForPlaces}
 use Rattle.bpf_equal.specs.Laws.{PermutedIsAnEquivalence}
+use Rattle.bpf_equal.specs.Peers.{Peer}
 use Rattle.bpf_equal.specs.Permutations.{Permutation}
-use Rattle.bpf_equal.specs.Worlds.{AreNeighbours, AreOneStage, ArePermuted, ArePermutedIn, IsPermuted, Move, turn_permuted}
+use Rattle.bpf_equal.specs.Worlds.{AreNeighbours, AreOneStage, ArePermuted, ArePermutedIn, IsPermuted, turn_permuted}
 use Rattle.bpf_equal.proofs.Back.{inverse, permuted_back}
 use Rattle.bpf_equal.proofs.Carrying.{ahead_too, news, permuted_behind, there}
 use Rattle.bpf_equal.proofs.Partners.{partner_back}
 use Rattle.bpf_equal.proofs.Richer.{are_rich_here, dead_alike, dead_permuted, dead_there, rich_here, rich_permuted}
 use Rattle.bpf_equal.proofs.Turns.{turns_are_permuted}
 
-module _ (moves : List Move) where
+module _ (peers : List Peer) where
   abbrev In : ℕ → World → World → Type 0
-  In = ArePermutedIn moves
+  In = ArePermutedIn peers
 
-  -- ---- moves, and back
-  step_back : (w v : World) → AreNeighbours moves w v → AreNeighbours moves v w
-  step_back w v (i, move, at, inl p) = (i, move, at, inr p)
-  step_back w v (i, move, at, inr p) = (i, move, at, inl p)
+  -- ---- peers, and back
+  step_back : (w v : World) → AreNeighbours peers w v → AreNeighbours peers v w
+  step_back w v (cpus, jobs, is, inl p) = (cpus, jobs, is, inr p)
+  step_back w v (cpus, jobs, is, inr p) = (cpus, jobs, is, inl p)
 
-  again_in : (n : ℕ) (w v u : World) → In n w v → ArePermuted moves v u → ArePermuted moves w u
+  again_in : (n : ℕ) (w v u : World) → In n w v → ArePermuted peers v u → ArePermuted peers w u
   again_in zero w v u same (m, more) = (m, subst (λ (x : World). In m x u) same more)
   again_in (suc n) w v u (mid, step, rest) more = let r = again_in n mid v u rest more in (suc r.0, (mid, step, r.1))
 
-  back_in : (n : ℕ) (w v : World) → In n w v → ArePermuted moves v w
+  back_in : (n : ℕ) (w v : World) → In n w v → ArePermuted peers v w
   back_in zero w v same = (0, sym same)
   back_in (suc n) w v (mid, step, rest) =
       let r = back_in n mid v rest in again_in r.0 v mid w r.1 (1, (w, step_back w mid step, refl))
 
-  pub again : (w v u : World) → ArePermuted moves w v → ArePermuted moves v u → ArePermuted moves w u
+  pub again : (w v u : World) → ArePermuted peers w v → ArePermuted peers v u → ArePermuted peers w u
   again w v u (n, chain) more = again_in n w v u chain more
 
-  pub back : (w v : World) → ArePermuted moves w v → ArePermuted moves v w
+  pub back : (w v : World) → ArePermuted peers w v → ArePermuted peers v w
   back w v (n, chain) = back_in n w v chain
 
   -- a move is one permutation, by which others are neighbours too
   abbrev pub Leads : World → World → Type 0
   Leads w v = (cpus : Permutation) × (jobs : Permutation) × IsPermuted cpus jobs w v
-      × ((a b : World) → IsPermuted cpus jobs a b → AreNeighbours moves a b)
+      × ((a b : World) → IsPermuted cpus jobs a b → AreNeighbours peers a b)
 
-  pub leads : (w v : World) → AreNeighbours moves w v → Leads w v
-  leads w v (i, move, at, inl p) = (move.cpus, move.jobs, p, λ a b q. (i, move, at, inl q))
-  leads w v (i, move, at, inr p) = (
-    inverse move.cpus,
-    inverse move.jobs,
-    permuted_back move.cpus move.jobs v w p,
-    λ a b q. (i, move, at, inr (permuted_back (inverse move.cpus) (inverse move.jobs) a b q)),
+  pub leads : (w v : World) → AreNeighbours peers w v → Leads w v
+  leads w v (cpus, jobs, is, inl p) = (cpus, jobs, p, λ a b q. (cpus, jobs, is, inl q))
+  leads w v (cpus, jobs, is, inr p) = (
+    inverse cpus,
+    inverse jobs,
+    permuted_back cpus jobs v w p,
+    λ a b q. (cpus, jobs, is, inr (permuted_back (inverse cpus) (inverse jobs) a b q)),
   )
 
   -- ---- turns
@@ -92,7 +93,7 @@ module _ (moves : List Move) where
       ended_is : (s : Stage) → AreOneStage (Ended end) s → s ≡ Ended end
       ended_is s e = e
 
-  pub ended_next : (w v : World) → AreNeighbours moves w v → HaveEnded w.jobs → HaveEnded v.jobs
+  pub ended_next : (w v : World) → AreNeighbours peers w v → HaveEnded w.jobs → HaveEnded v.jobs
   ended_next w v step ended j task at =
       let l = leads w v step in
       let p = l.2 in
@@ -137,7 +138,7 @@ module _ (moves : List Move) where
       let r = dead_along equal n x mid.jobs v (dead_alike equal l.0 l.1 w tasks all mid l.2) rest in
       (r.0, (x, l.3 w x (dead_permuted equal l.0 l.1 w tasks all mid l.2), r.1), r.2)
 
-  pub dead_places : AlikeIsAnEquivalence → (P : World → Type 0) (w : World) → ButForDead (ButForPlaces moves P) w → ButForPlaces moves (ButForDead P) w
+  pub dead_places : AlikeIsAnEquivalence → (P : World → Type 0) (w : World) → ButForDead (ButForPlaces peers P) w → ButForPlaces peers (ButForDead P) w
   dead_places equal P w (tasks, all, (v, (n, chain), shown)) =
       let r = dead_along equal n w tasks v all chain in
       (r.0, (n, r.1), (r.2.0, r.2.1, subst P (sym r.2.2) shown))
@@ -157,10 +158,10 @@ module _ (moves : List Move) where
         (with_jobs mid r.0, l.3 (with_jobs w jobs) (with_jobs mid r.0) (rich_permuted l.0 l.1 w mid l.2 r.0 r.1), r.2),
       )
 
-  pub places_richly : (P : World → Type 0) (w : World) → ButForPlaces moves (Richly P) w → Richly (ButForPlaces moves P) w
+  pub places_richly : (P : World → Type 0) (w : World) → ButForPlaces peers (Richly P) w → Richly (ButForPlaces peers P) w
   places_richly P w (v, (n, chain), (tasks, rich, shown)) =
       let r = rich_along n w v tasks chain rich in
       (r.0, r.1, (with_jobs v tasks, (n, r.2), shown))
 
 pub permuted_is_an_equivalence : PermutedIsAnEquivalence
-permuted_is_an_equivalence moves a b c = ((0, refl), back moves a b, again moves a b c)
+permuted_is_an_equivalence peers a b c = ((0, refl), back peers a b, again peers a b c)

@@ -23,13 +23,14 @@ use Rattle.bpf_alike.proofs.AlikeJobs.{all_same as alike_same}
 use Rattle.bpf_alike.proofs.AlikeRicher.{dead_and_rich}
 use Rattle.bpf_equal.specs.Covers.{ButForPlaces, IsClosedPermuted, IsClosedPermutedRichly, KeepsEnds, KeptEndsAreShown}
 use Rattle.bpf_equal.specs.Covers.{PermutedPatientSetsCover, PermutedSetsCover}
-use Rattle.bpf_equal.specs.Worlds.{ArePermuted, ArePermutedIn, Move}
+use Rattle.bpf_equal.specs.Peers.{Peer}
+use Rattle.bpf_equal.specs.Worlds.{ArePermuted, ArePermutedIn}
 use Rattle.bpf_equal.proofs.Chains.{again, back, carried, dead_places, ended_next, ended_there, places_richly, turns_back}
 
 -- ---- what is covered stays so where a world changes places
-module _ (moves : List Move) where
+module _ (peers : List Peer) where
   abbrev pub Places : (World → Type 0) → World → Type 0
-  Places = ButForPlaces moves
+  Places = ButForPlaces peers
 
   abbrev pub Covered : (World → Type 0) → World → Type 0
   Covered P = Places (IsCoveredBy P)
@@ -39,24 +40,24 @@ module _ (moves : List Move) where
 
   carry : (P : World → Type 0) (y : World) → IsCoveredBy (Places P) y → Covered P y
   carry P y (v, headways, (u, (n, chain), shown), same, ahead) =
-      let r = carried moves P n y v u headways chain shown same ahead in (r.0, (n, r.1), r.2)
+      let r = carried peers P n y v u headways chain shown same ahead in (r.0, (n, r.1), r.2)
 
-  again_so : (P : World → Type 0) (w v : World) → ArePermuted moves w v → Places P v → Places P w
-  again_so P w v one (u, two, shown) = (u, again moves w v u one two, shown)
+  again_so : (P : World → Type 0) (w v : World) → ArePermuted peers w v → Places P v → Places P w
+  again_so P w v one (u, two, shown) = (u, again peers w v u one two, shown)
 
   pub ended_but_for_places : (P : World → Type 0) (z : World) → Covered P z → HaveEnded z.jobs → Places P z
-  ended_but_for_places P z (u, (n, chain), covered) ended = (u, (n, chain), ended_has P u covered (ended_there moves n z u chain ended))
+  ended_but_for_places P z (u, (n, chain), covered) ended = (u, (n, chain), ended_has P u covered (ended_there peers n z u chain ended))
 
   module _ (law : WritesAreDetermined) (begins : OneInstructionBegins) (replies : CallsHaveOneReply) where
     -- a turn leads to what is covered by what turns lead to
     pub turn_covered : (P R : World → Type 0) → ((v : World) → P v → R v) → LeadsOn P (Places R) → (w z : World) (c : ℕ) (answer : Turn)
         → IsWorld w → Covered P w → TakesTurn w c answer z → Covered R z
     turn_covered P R stays_so leads w z c answer world (u, (n, chain), covered) taken =
-        let b = turns_back moves n w u chain in
+        let b = turns_back peers n w u chain in
         let r = comes P (Places R) (λ v shown. in_place R v (stays_so v shown)) leads u (b.0 c) covered in
         let t = b.1 c r.0 r.1 r.2 in
         let one = one_turn law begins replies w c answer t.0 z t.1 world taken t.2 in
-        again_so (IsCoveredBy R) z r.1 (n, subst (λ (x : World). ArePermutedIn moves n x r.1) (sym one.worlds) t.3) (carry R r.1 r.3)
+        again_so (IsCoveredBy R) z r.1 (n, subst (λ (x : World). ArePermutedIn peers n x r.1) (sym one.worlds) t.3) (carry R r.1 r.3)
 
     next_world : (w z : World) (c : ℕ) (answer : Turn) → IsWorld w → TakesTurn w c answer z → IsWorld z
     next_world w z c answer world taken = (one_turn law begins replies w c answer answer z z world taken taken).world
@@ -79,7 +80,7 @@ module _ (moves : List Move) where
           let t = rich_turn w jobs c answer z rich taken none in
           let r = turn_covered P (Richly P) (λ v shown. (v.jobs, all_same v.jobs, shown)) leads (with_jobs w jobs) (with_jobs z t.0) c answer
           (rich_world w jobs rich world) covered t.1 in
-          let e = places_richly moves (IsCoveredBy P) (with_jobs z t.0) (r.0, r.1, enriched P r.0 r.2) in
+          let e = places_richly peers (IsCoveredBy P) (with_jobs z t.0) (r.0, r.1, enriched P r.0 r.2) in
           (e.0, rich_again z.jobs t.0 e.0 t.2 e.1, e.2)
 
       run_covered_richly : (cs : List ℕ) (w z : World) → IsWorld w → Richly (Covered P) w → RunsSchedule w cs z → NoneRanOut z.jobs → Richly (Covered P) z
@@ -100,19 +101,19 @@ module _ (moves : List Move) where
       ended_but_for_places P z (subst (λ (ts : List Task). Covered P (with_jobs z ts)) same covered) ended
 
 -- ---- where a list is closed so
-module _ (equal : AlikeIsAnEquivalence) (steps : StepsAreAlike) (one : OneStateIsAlike) (moves : List Move) (kept : List MachineState) where
+module _ (equal : AlikeIsAnEquivalence) (steps : StepsAreAlike) (one : OneStateIsAlike) (peers : List Peer) (kept : List MachineState) where
   abbrev Shown : World → Type 0
   Shown = IsShown kept
 
   abbrev Alike : World → Type 0
   Alike = IsShownAlike kept
 
-  closed_leads : IsClosedPermuted moves kept → (c : ℕ) → LeadsBy Shown (λ h u. ButForPlaces moves Alike u) c
+  closed_leads : IsClosedPermuted peers kept → (c : ℕ) → LeadsBy Shown (λ h u. ButForPlaces peers Alike u) c
   closed_leads closed c v (i, m, at, shows) = let r = closed i m c at in (r.1.0, r.1.1, r.0, r.1.2, r.1.3 v shows, r.1.4, r.2)
 
-  pub permuted_leads : IsClosedPermuted moves kept → LeadsOn Alike (ButForPlaces moves Alike)
+  pub permuted_leads : IsClosedPermuted peers kept → LeadsOn Alike (ButForPlaces peers Alike)
   permuted_leads closed v c shown =
-      let r = leads_alike equal steps one Shown (λ h u. ButForPlaces moves Alike u) c (closed_leads closed c) v shown in (
+      let r = leads_alike equal steps one Shown (λ h u. ButForPlaces peers Alike u) c (closed_leads closed c) v shown in (
         r.0,
         r.1,
         r.2,
@@ -120,16 +121,16 @@ module _ (equal : AlikeIsAnEquivalence) (steps : StepsAreAlike) (one : OneStateI
         r.4,
         r.5,
         λ y seen.
-            let s = dead_places moves equal Alike y (r.6 y seen) in
+            let s = dead_places peers equal Alike y (r.6 y seen) in
             (s.0, s.1, dead_once equal Shown s.0 s.2),
       )
 
-  closed_leads_richly : IsClosedPermutedRichly moves kept → (c : ℕ) → LeadsBy Shown (λ h u. ButForPlaces moves (Richly Alike) u) c
+  closed_leads_richly : IsClosedPermutedRichly peers kept → (c : ℕ) → LeadsBy Shown (λ h u. ButForPlaces peers (Richly Alike) u) c
   closed_leads_richly closed c v (i, m, at, shows) = let r = closed i m c at in (r.1.0, r.1.1, r.0, r.1.2, r.1.3 v shows, r.1.4, r.2)
 
-  pub permuted_leads_richly : IsClosedPermutedRichly moves kept → LeadsOn Alike (ButForPlaces moves (Richly Alike))
+  pub permuted_leads_richly : IsClosedPermutedRichly peers kept → LeadsOn Alike (ButForPlaces peers (Richly Alike))
   permuted_leads_richly closed v c shown =
-      let r = leads_alike equal steps one Shown (λ h u. ButForPlaces moves (Richly Alike) u) c (closed_leads_richly closed c) v shown in (
+      let r = leads_alike equal steps one Shown (λ h u. ButForPlaces peers (Richly Alike) u) c (closed_leads_richly closed c) v shown in (
         r.0,
         r.1,
         r.2,
@@ -137,36 +138,36 @@ module _ (equal : AlikeIsAnEquivalence) (steps : StepsAreAlike) (one : OneStateI
         r.4,
         r.5,
         λ y seen.
-            let s = dead_places moves equal (Richly Alike) y (r.6 y seen) in
+            let s = dead_places peers equal (Richly Alike) y (r.6 y seen) in
             (s.0, s.1, dead_and_rich equal Shown s.0 s.2),
       )
 
   -- an end that is shown but for places and dead registers is shown but for places
-  pub ends_shown : (z : World) → ButForPlaces moves Alike z → HaveEnded z.jobs → ButForPlaces moves Shown z
-  ends_shown z (v, (n, chain), shown) ended = (v, (n, chain), dead_ended equal Shown v shown (ended_there moves n z v chain ended))
+  pub ends_shown : (z : World) → ButForPlaces peers Alike z → HaveEnded z.jobs → ButForPlaces peers Shown z
+  ends_shown z (v, (n, chain), shown) ended = (v, (n, chain), dead_ended equal Shown v shown (ended_there peers n z v chain ended))
 
 pub permuted_sets_cover : AlikeIsAnEquivalence → StepsAreAlike → OneStateIsAlike → WritesAreDetermined → OneInstructionBegins → CallsHaveOneReply
     → PermutedSetsCover
-permuted_sets_cover equal steps one law begins replies moves kept first z schedule closed fresh shown runs =
-    let covered = covered_but_for_places moves law begins replies (IsShownAlike kept) (permuted_leads equal steps one moves kept closed) first z
+permuted_sets_cover equal steps one law begins replies peers kept first z schedule closed fresh shown runs =
+    let covered = covered_but_for_places peers law begins replies (IsShownAlike kept) (permuted_leads equal steps one peers kept closed) first z
     schedule fresh (first.jobs, alike_same equal first.programs first.jobs, shown) runs in
-    (covered, λ ended. ends_shown equal steps one moves kept z (ended_but_for_places moves (IsShownAlike kept) z covered ended) ended)
+    (covered, λ ended. ends_shown equal steps one peers kept z (ended_but_for_places peers (IsShownAlike kept) z covered ended) ended)
 
 pub permuted_patient_sets_cover : AlikeIsAnEquivalence → StepsAreAlike → OneStateIsAlike → WritesAreDetermined → OneInstructionBegins
     → CallsHaveOneReply → PermutedPatientSetsCover
-permuted_patient_sets_cover equal steps one law begins replies moves kept first z schedule closed fresh shown runs none =
-    let covered = covered_richly moves law begins replies (IsShownAlike kept) (permuted_leads_richly equal steps one moves kept closed) first z
+permuted_patient_sets_cover equal steps one law begins replies peers kept first z schedule closed fresh shown runs none =
+    let covered = covered_richly peers law begins replies (IsShownAlike kept) (permuted_leads_richly equal steps one peers kept closed) first z
     schedule fresh (first.jobs, alike_same equal first.programs first.jobs, shown) runs none in
-    (covered, λ ended. ends_shown equal steps one moves kept z (ended_richly moves (IsShownAlike kept) z covered ended) ended)
+    (covered, λ ended. ends_shown equal steps one peers kept z (ended_richly peers (IsShownAlike kept) z covered ended) ended)
 
 -- ---- where ends are kept after each move
-module _ (moves : List Move) (kept : List MachineState) (keeps : KeepsEnds moves kept) where
-  kept_along : (n : ℕ) (v z : World) → ArePermutedIn moves n v z → IsShown kept v → HaveEnded v.jobs → IsShown kept z
+module _ (peers : List Peer) (kept : List MachineState) (keeps : KeepsEnds peers kept) where
+  kept_along : (n : ℕ) (v z : World) → ArePermutedIn peers n v z → IsShown kept v → HaveEnded v.jobs → IsShown kept z
   kept_along zero v z same shown ended = subst (IsShown kept) (sym same) shown
   kept_along (suc n) v z (mid, step, rest) shown ended =
-      kept_along n mid z rest (keeps v mid shown ended step) (ended_next moves v mid step ended)
+      kept_along n mid z rest (keeps v mid shown ended step) (ended_next peers v mid step ended)
 
 pub kept_ends_are_shown : KeptEndsAreShown
-kept_ends_are_shown moves kept z keeps (v, (n, chain), shown) ended =
-    let r = back moves z v (n, chain) in
-    kept_along moves kept keeps r.0 v z r.1 shown (ended_there moves n z v chain ended)
+kept_ends_are_shown peers kept z keeps (v, (n, chain), shown) ended =
+    let r = back peers z v (n, chain) in
+    kept_along peers kept keeps r.0 v z r.1 shown (ended_there peers n z v chain ended)

@@ -11,8 +11,9 @@ use Rattle.bpf_machine.specs.Rounds.{HaveEnded}
 use Rattle.bpf_machine.specs.Schedule.{RunsSchedule, World}
 use Rattle.bpf_machine.proofs.AheadLaws.{equal_lists}
 use Rattle.bpf_equal.specs.Laws.{MovesReachEnds, PermutedEndsAreOne}
+use Rattle.bpf_equal.specs.Peers.{Peer}
 use Rattle.bpf_equal.specs.Permutations.{Permutation}
-use Rattle.bpf_equal.specs.Worlds.{AreNeighbours, AreOneStage, ArePartners, ArePermutedIn, AreSymmetries, IsAsFar, IsPartner, IsPermuted, Move}
+use Rattle.bpf_equal.specs.Worlds.{AreNeighbours, AreOneStage, ArePartners, ArePermutedIn, AreSymmetries, IsAsFar, IsPartner, IsMove, IsPermuted}
 use Rattle.bpf_equal.proofs.Back.{inverse, permuted_back}
 use Rattle.bpf_equal.proofs.Chains.{ended_next}
 use Rattle.bpf_equal.proofs.Turns.{schedules_are_permuted}
@@ -66,7 +67,7 @@ module _ (cpus jobs : Permutation) (w u v : World) (ended : HaveEnded w.jobs) (p
 pub permuted_ends_are_one : PermutedEndsAreOne
 permuted_ends_are_one cpus jobs w u v ended p q = one_end cpus jobs w u v ended p q
 
--- ---- ends that moves lead to are reached
+-- ---- ends that peers lead to are reached
 abbrev IsReached : World → World → Type 0
 IsReached first z = (schedule : List ℕ) × RunsSchedule first schedule z
 
@@ -77,17 +78,17 @@ reached_by cpus jobs first z y stays (schedule, runs) ended p =
     let one = permuted_ends_are_one cpus jobs z r.0 y ended r.2 p in
     (map cpus.to schedule, subst (RunsSchedule first (map cpus.to schedule)) one r.1)
 
-module _ (moves : List Move) (first : World) (stay : AreSymmetries moves first) where
-  reached_next : (z y : World) → IsReached first z → HaveEnded z.jobs → AreNeighbours moves z y → IsReached first y
-  reached_next z y reached ended (i, move, at, inl p) = reached_by move.cpus move.jobs first z y (stay i move at) reached ended p
-  reached_next z y reached ended (i, move, at, inr p) =
-      reached_by (inverse move.cpus) (inverse move.jobs) first z y (permuted_back move.cpus move.jobs first first (stay i move at)) reached ended
-      (permuted_back move.cpus move.jobs y z p)
+module _ (peers : List Peer) (first : World) (stay : AreSymmetries peers first) where
+  reached_next : (z y : World) → IsReached first z → HaveEnded z.jobs → AreNeighbours peers z y → IsReached first y
+  reached_next z y reached ended (cpus, jobs, is, inl p) = reached_by cpus jobs first z y (stay cpus jobs is) reached ended p
+  reached_next z y reached ended (cpus, jobs, is, inr p) =
+      reached_by (inverse cpus) (inverse jobs) first z y (permuted_back cpus jobs first first (stay cpus jobs is)) reached ended
+      (permuted_back cpus jobs y z p)
 
-  pub reached_along : (n : ℕ) (z y : World) → IsReached first z → HaveEnded z.jobs → ArePermutedIn moves n z y → IsReached first y
+  pub reached_along : (n : ℕ) (z y : World) → IsReached first z → HaveEnded z.jobs → ArePermutedIn peers n z y → IsReached first y
   reached_along zero z y reached ended same = subst (IsReached first) (sym same) reached
   reached_along (suc n) z y reached ended (mid, step, rest) =
-      reached_along n mid y (reached_next z mid reached ended step) (ended_next moves z mid step ended) rest
+      reached_along n mid y (reached_next z mid reached ended step) (ended_next peers z mid step ended) rest
 
 pub moves_reach_ends : MovesReachEnds
-moves_reach_ends moves first z y schedule stay runs ended (n, chain) = reached_along moves first stay n z y (schedule, runs) ended chain
+moves_reach_ends peers first z y schedule stay runs ended (n, chain) = reached_along peers first stay n z y (schedule, runs) ended chain

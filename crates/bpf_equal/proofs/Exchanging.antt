@@ -7,8 +7,8 @@ use Rattle.bpf_shared.specs.Store.{Plain}
 use Rattle.bpf_shared.proofs.Puts.{equal_or_not}
 use Rattle.bpf_cpu.specs.Task.{Task}
 use Rattle.bpf_machine.specs.Schedule.{World}
-use Rattle.bpf_equal.specs.Equal.{AreEqual, EqualCpusAreExchanged, IsCounterpart, OutcomesAreExchanged}
-use Rattle.bpf_equal.specs.Permutations.{Permutation, exchanged}
+use Rattle.bpf_equal.specs.Equal.{AreEqual, AreEqualIn, EqualCpusAreExchanged, IsCounterpart, OutcomesAreExchanged}
+use Rattle.bpf_equal.specs.Permutations.{Permutation, StaysBelow, exchanged}
 use Rattle.bpf_equal.specs.Stores.{store_permuted}
 use Rattle.bpf_equal.specs.Worlds.{ArePartners, IsBlind, IsPartner, IsPermuted}
 use Rattle.bpf_equal.proofs.Back.{partners_end_alike}
@@ -61,33 +61,34 @@ module _ (c d : ℕ) where
   pub moved : (x : ℕ) → (E x ≡ x) ⊎ ((x ≡ c) ⊎ (x ≡ d))
   moved x = by_cases (λ x y. (y ≡ x) ⊎ ((x ≡ c) ⊎ (x ≡ d))) (inr (inl refl)) (inr (inr refl)) (λ y ne apart. inl refl) x
 
-module _ (w : World) (c d : ℕ) (jobs : Permutation) (equal : AreEqual w c d jobs) where
-  abbrev cpus : Permutation
-  cpus = exchange c d
-
-  same_store : w.store ≡ store_permuted cpus w.store
+-- ---- a store in which two CPUs are equal
+module _ (s : Plain) (c d : ℕ) (equal : AreEqualIn s c d) where
+  pub same_store : s ≡ store_permuted (exchange c d) s
   same_store =
-      let s = w.store in
       let with_flags : (ℕ → Bool) → (ℕ → ℕ → Bool) → (ℕ → ℕ → Bool) → Plain = λ running held kept. record s
       { running = running; held = held; kept = kept } in
       sym (
       ap (λ (r : ℕ → Bool). with_flags r (λ x. s.held (exchanged c d x)) (λ x. s.kept (exchanged c d x)))
-      (fun_ext (same_through c d s.running equal.store.running))
-      ∙ ap (λ (f : ℕ → ℕ → Bool). with_flags s.running f (λ x. s.kept (exchanged c d x))) (fun_ext (same_through c d s.held equal.store.held))
-      ∙ ap (λ (f : ℕ → ℕ → Bool). with_flags s.running s.held f) (fun_ext (same_through c d s.kept equal.store.kept))
+      (fun_ext (same_through c d s.running equal.running))
+      ∙ ap (λ (f : ℕ → ℕ → Bool). with_flags s.running f (λ x. s.kept (exchanged c d x))) (fun_ext (same_through c d s.held equal.held))
+      ∙ ap (λ (f : ℕ → ℕ → Bool). with_flags s.running s.held f) (fun_ext (same_through c d s.kept equal.kept))
       )
 
-  stays : (k : ℕ) → k < w.store.shape.cpus → (exchanged c d k < w.store.shape.cpus) × (exchanged c d k < w.store.shape.cpus)
+  pub stays : StaysBelow s.shape.cpus (exchange c d)
   stays k inside = elim (equal_or_not k c) [
-    | inl e ↦ both (subst (λ (n : ℕ). n < w.store.shape.cpus) (sym (first_goes c d k e)) equal.store.inside.1)
+    | inl e ↦ both (subst (λ (n : ℕ). n < s.shape.cpus) (sym (first_goes c d k e)) equal.inside.1)
     | inr ne ↦ elim (equal_or_not k d) [
-      | inl f ↦ both (subst (λ (n : ℕ). n < w.store.shape.cpus) (sym (second_goes c d k ne f)) equal.store.inside.0)
-      | inr apart ↦ both (subst (λ (n : ℕ). n < w.store.shape.cpus) (sym (others_stay c d k ne apart)) inside)
+      | inl f ↦ both (subst (λ (n : ℕ). n < s.shape.cpus) (sym (second_goes c d k ne f)) equal.inside.0)
+      | inr apart ↦ both (subst (λ (n : ℕ). n < s.shape.cpus) (sym (others_stay c d k ne apart)) inside)
     ]
   ]
     where
-      both : exchanged c d k < w.store.shape.cpus → (exchanged c d k < w.store.shape.cpus) × (exchanged c d k < w.store.shape.cpus)
+      both : exchanged c d k < s.shape.cpus → (exchanged c d k < s.shape.cpus) × (exchanged c d k < s.shape.cpus)
       both low = (low, low)
+
+module _ (w : World) (c d : ℕ) (jobs : Permutation) (equal : AreEqual w c d jobs) where
+  abbrev cpus : Permutation
+  cpus = exchange c d
 
   abbrev Are : Option Task → Option Task → Type 0
   Are = ArePartners w.store.shape w.programs cpus
@@ -113,12 +114,12 @@ module _ (w : World) (c d : ℕ) (jobs : Permutation) (equal : AreEqual w c d jo
 
   pub exchanged_so : IsPermuted cpus jobs w w
   exchanged_so = record {
-    store = same_store;
+    store = same_store w.store c d equal.store;
     programs = refl;
     each = λ j. partners j (slice_get w.jobs j) refl;
     order = equal.order;
     lists = sym (fun_ext (same_through c d w.lists equal.lists));
-    stays = stays;
+    stays = stays w.store c d equal.store;
   }
 
 pub equal_cpus_are_exchanged : EqualCpusAreExchanged

@@ -11,3 +11,6 @@ pub mod Richer
 pub mod Chains
 pub mod Ending
 pub mod Covering
+pub mod Peering
+pub mod Settling
+pub mod FoundLaws

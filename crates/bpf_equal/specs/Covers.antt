@@ -11,61 +11,62 @@ use Rattle.bpf_machine.specs.Rounds.{HaveEnded}
 use Rattle.bpf_machine.specs.Schedule.{RunsSchedule, World}
 use Rattle.bpf_alike.specs.Covers.{IsCoveredAlike, IsShownAlike}
 use Rattle.bpf_alike.specs.Patient.{IsShownAlikeRichly}
-use Rattle.bpf_equal.specs.Worlds.{AreNeighbours, ArePermuted, Move}
+use Rattle.bpf_equal.specs.Peers.{Peer}
+use Rattle.bpf_equal.specs.Worlds.{AreNeighbours, ArePermuted}
 
--- this is so of a world, but for these moves
-abbrev pub ButForPlaces : List Move → (World → Type 0) → World → Type 0
-ButForPlaces moves P w = (v : World) × ArePermuted moves w v × P v
+-- this is so of a world, but for these peers
+abbrev pub ButForPlaces : List Peer → (World → Type 0) → World → Type 0
+ButForPlaces peers P w = (v : World) × ArePermuted peers w v × P v
 
 -- each CPU's turn from each kept machine leads to what a kept one shows, but for places and dead
 -- registers
-abbrev pub IsClosedPermuted : List Move → List MachineState → Type 0
-IsClosedPermuted moves kept = (i : ℕ) (m : MachineState) (c : ℕ) → slice_get kept i ≡ Some m
+abbrev pub IsClosedPermuted : List Peer → List MachineState → Type 0
+IsClosedPermuted peers kept = (i : ℕ) (m : MachineState) (c : ℕ) → slice_get kept i ≡ Some m
     → (new : MachineState) × TurnsTo m c new
-    × ((w : World) → Shows new w → ButForPlaces moves (IsShownAlike kept) w)
+    × ((w : World) → Shows new w → ButForPlaces peers (IsShownAlike kept) w)
 
 -- and for richer jobs
-abbrev pub IsClosedPermutedRichly : List Move → List MachineState → Type 0
-IsClosedPermutedRichly moves kept = (i : ℕ) (m : MachineState) (c : ℕ) → slice_get kept i ≡ Some m
+abbrev pub IsClosedPermutedRichly : List Peer → List MachineState → Type 0
+IsClosedPermutedRichly peers kept = (i : ℕ) (m : MachineState) (c : ℕ) → slice_get kept i ≡ Some m
     → (new : MachineState) × TurnsTo m c new
-    × ((w : World) → Shows new w → ButForPlaces moves (IsShownAlikeRichly kept) w)
+    × ((w : World) → Shows new w → ButForPlaces peers (IsShownAlikeRichly kept) w)
 
 -- the world is covered, but for places
-abbrev pub IsCoveredPermuted : List Move → List MachineState → World → Type 0
-IsCoveredPermuted moves kept w = ButForPlaces moves (IsCoveredAlike kept) w
+abbrev pub IsCoveredPermuted : List Peer → List MachineState → World → Type 0
+IsCoveredPermuted peers kept w = ButForPlaces peers (IsCoveredAlike kept) w
 
 -- with richer jobs it is
-abbrev pub IsCoveredPermutedRichly : List Move → List MachineState → World → Type 0
-IsCoveredPermutedRichly moves kept w =
-    (jobs : List Task) × AsRich w.jobs jobs × IsCoveredPermuted moves kept (with_jobs w jobs)
+abbrev pub IsCoveredPermutedRichly : List Peer → List MachineState → World → Type 0
+IsCoveredPermutedRichly peers kept w =
+    (jobs : List Task) × AsRich w.jobs jobs × IsCoveredPermuted peers kept (with_jobs w jobs)
 
 -- what a kept machine without work shows, kept ones show after each move
-abbrev pub KeepsEnds : List Move → List MachineState → Type 0
-KeepsEnds moves kept =
-    (w v : World) → IsShown kept w → HaveEnded w.jobs → AreNeighbours moves w v → IsShown kept v
+abbrev pub KeepsEnds : List Peer → List MachineState → Type 0
+KeepsEnds peers kept =
+    (w v : World) → IsShown kept w → HaveEnded w.jobs → AreNeighbours peers w v → IsShown kept v
 
 -- ---- laws
 -- a list that is closed so, and shows the first world, covers all that schedules lead to; and where no
 -- CPU has work left, it shows that but for places
 abbrev pub PermutedSetsCover : Type 0
 PermutedSetsCover =
-    (moves : List Move) (kept : List MachineState) (first z : World) (schedule : List ℕ)
-    → IsClosedPermuted moves kept → IsFresh first → IsShown kept first
+    (peers : List Peer) (kept : List MachineState) (first z : World) (schedule : List ℕ)
+    → IsClosedPermuted peers kept → IsFresh first → IsShown kept first
     → RunsSchedule first schedule z
-    → IsCoveredPermuted moves kept z
-    × (HaveEnded z.jobs → ButForPlaces moves (IsShown kept) z)
+    → IsCoveredPermuted peers kept z
+    × (HaveEnded z.jobs → ButForPlaces peers (IsShown kept) z)
 
 -- one that is closed richly does while no job runs out of budget
 abbrev pub PermutedPatientSetsCover : Type 0
 PermutedPatientSetsCover =
-    (moves : List Move) (kept : List MachineState) (first z : World) (schedule : List ℕ)
-    → IsClosedPermutedRichly moves kept → IsFresh first → IsShown kept first
+    (peers : List Peer) (kept : List MachineState) (first z : World) (schedule : List ℕ)
+    → IsClosedPermutedRichly peers kept → IsFresh first → IsShown kept first
     → RunsSchedule first schedule z → NoneRanOut z.jobs
-    → IsCoveredPermutedRichly moves kept z
-    × (HaveEnded z.jobs → ButForPlaces moves (IsShown kept) z)
+    → IsCoveredPermutedRichly peers kept z
+    × (HaveEnded z.jobs → ButForPlaces peers (IsShown kept) z)
 
--- where ends are kept after each move, what a kept machine shows but for moves, one shows
+-- where ends are kept after each move, what a kept machine shows but for peers, one shows
 abbrev pub KeptEndsAreShown : Type 0
 KeptEndsAreShown =
-    (moves : List Move) (kept : List MachineState) (z : World) → KeepsEnds moves kept
-    → ButForPlaces moves (IsShown kept) z → HaveEnded z.jobs → IsShown kept z
+    (peers : List Peer) (kept : List MachineState) (z : World) → KeepsEnds peers kept
+    → ButForPlaces peers (IsShown kept) z → HaveEnded z.jobs → IsShown kept z

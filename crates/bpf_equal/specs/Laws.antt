@@ -13,10 +13,11 @@ use Rattle.bpf_cpu.specs.Task.{outcome_at}
 use Rattle.bpf_machine.specs.declared.machine.Turn.{Turn}
 use Rattle.bpf_machine.specs.Rounds.{HaveEnded}
 use Rattle.bpf_machine.specs.Schedule.{RunsSchedule, TakesTurn, World}
+use Rattle.bpf_equal.specs.Peers.{Peer}
 use Rattle.bpf_equal.specs.Permutations.{Permutation, StaysBelow}
 use Rattle.bpf_equal.specs.States.{AsksNoMarks, HasNoOwnValues, Marks, marked}
 use Rattle.bpf_equal.specs.Stores.{store_permuted}
-use Rattle.bpf_equal.specs.Worlds.{ArePermuted, AreSymmetries, IsPermuted, Move, turn_permuted}
+use Rattle.bpf_equal.specs.Worlds.{ArePermuted, AreSymmetries, IsPermuted, turn_permuted}
 
 -- a program that asks for no marks makes the same steps with others, where no array has values by CPU
 abbrev pub StepsAreMarked : Type 0
@@ -48,12 +49,12 @@ SchedulesArePermuted =
     → RunsSchedule w schedule z
     → (y : World) × RunsSchedule v (map cpus.to schedule) y × IsPermuted cpus jobs z y
 
--- whatever the moves, to be permuted is reflexive, symmetric and transitive
+-- whatever the peers, to be permuted is reflexive, symmetric and transitive
 abbrev pub PermutedIsAnEquivalence : Type 0
 PermutedIsAnEquivalence =
-    (moves : List Move) (a b c : World) → ArePermuted moves a a
-    × (ArePermuted moves a b → ArePermuted moves b a)
-    × (ArePermuted moves a b → ArePermuted moves b c → ArePermuted moves a c)
+    (peers : List Peer) (a b c : World) → ArePermuted peers a a
+    × (ArePermuted peers a b → ArePermuted peers b a)
+    × (ArePermuted peers a b → ArePermuted peers b c → ArePermuted peers a c)
 
 -- a permuted store is sound
 abbrev pub SoundStoresStaySound : Type 0
@@ -75,6 +76,6 @@ PermutedEndsAreOne =
 -- so moves that leave the first world as it is lead from each end of its schedules to another
 abbrev pub MovesReachEnds : Type 0
 MovesReachEnds =
-    (moves : List Move) (first z y : World) (schedule : List ℕ) → AreSymmetries moves first
-    → RunsSchedule first schedule z → HaveEnded z.jobs → ArePermuted moves z y
+    (peers : List Peer) (first z y : World) (schedule : List ℕ) → AreSymmetries peers first
+    → RunsSchedule first schedule z → HaveEnded z.jobs → ArePermuted peers z y
     → (other : List ℕ) × RunsSchedule first other y

@@ -1,7 +1,11 @@
 pub mod Permutations
 pub mod States
 pub mod Stores
+pub mod Peers
 pub mod Worlds
+pub mod Groups
 pub mod Laws
 pub mod Equal
 pub mod Covers
+pub mod Twins
+pub mod Private

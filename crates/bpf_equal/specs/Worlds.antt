@@ -6,7 +6,8 @@ use Rattle.bpf_cpu.specs.Task.{Stage, Task, Waiting, InHand}
 use Rattle.bpf_machine.specs.declared.machine.Turn.{Turn}
 use Rattle.bpf_machine.specs.declared.machine.Turn.TheVariants as turn
 use Rattle.bpf_machine.specs.Schedule.{World}
-use Rattle.bpf_equal.specs.Permutations.{Permutation, StaysBelow}
+use Rattle.bpf_equal.specs.Peers.{AreOneGroup, Peer}
+use Rattle.bpf_equal.specs.Permutations.{Exchanges, Permutation, StaysBelow}
 use Rattle.bpf_equal.specs.States.{AreOneInput, AreOneState, AsksNoMarks, HasNoOwnValues}
 use Rattle.bpf_equal.specs.Stores.{store_permuted}
 
@@ -60,30 +61,31 @@ pub record IsPermuted (cpus jobs : Permutation) (w v : World) : Type 0 where
   pub stays : StaysBelow w.store.shape.cpus cpus
 
 -- ---- the moves that a search makes
--- permutations of CPUs and of jobs that go together
-pub record Move : Type 0 where
-  pub cpus : Permutation
-  pub jobs : Permutation
+-- permutations of CPUs and of jobs that go together: two equal jobs change places, and so do their CPUs
+abbrev pub IsMove : List Peer → Permutation → Permutation → Type 0
+IsMove peers cpus jobs = (j : ℕ) × (k : ℕ) × (one : Peer) × (other : Peer)
+    × AreOneGroup peers j k one other
+    × Exchanges cpus one.cpu other.cpu × Exchanges jobs j k
 
 -- each of these moves leaves the world as it is
-abbrev pub AreSymmetries : List Move → World → Type 0
-AreSymmetries moves w = (i : ℕ) (move : Move) → slice_get moves i ≡ Some move
-    → IsPermuted move.cpus move.jobs w w
+abbrev pub AreSymmetries : List Peer → World → Type 0
+AreSymmetries peers w =
+    (cpus jobs : Permutation) → IsMove peers cpus jobs → IsPermuted cpus jobs w w
 
 -- one of these moves leads from the one world to the other, or back
-abbrev pub AreNeighbours : List Move → World → World → Type 0
-AreNeighbours moves w v = (i : ℕ) × (move : Move) × (slice_get moves i ≡ Some move)
-    × (IsPermuted move.cpus move.jobs w v ⊎ IsPermuted move.cpus move.jobs v w)
+abbrev pub AreNeighbours : List Peer → World → World → Type 0
+AreNeighbours peers w v = (cpus : Permutation) × (jobs : Permutation) × IsMove peers cpus jobs
+    × (IsPermuted cpus jobs w v ⊎ IsPermuted cpus jobs v w)
 
 -- this many do, one after the other
-abbrev pub ArePermutedIn : List Move → ℕ → World → World → Type 0
-ArePermutedIn moves zero w v = v ≡ w
-ArePermutedIn moves (suc n) w v =
-    (mid : World) × AreNeighbours moves w mid × ArePermutedIn moves n mid v
+abbrev pub ArePermutedIn : List Peer → ℕ → World → World → Type 0
+ArePermutedIn peers zero w v = v ≡ w
+ArePermutedIn peers (suc n) w v =
+    (mid : World) × AreNeighbours peers w mid × ArePermutedIn peers n mid v
 
 -- some
-abbrev pub ArePermuted : List Move → World → World → Type 0
-ArePermuted moves w v = (n : ℕ) × ArePermutedIn moves n w v
+abbrev pub ArePermuted : List Peer → World → World → Type 0
+ArePermuted peers w v = (n : ℕ) × ArePermutedIn peers n w v
 
 -- the answer of a turn, with the job's number there
 abbrev pub turn_permuted : Permutation → Turn → Turn
