@@ -1,5 +1,5 @@
 -- A machine and what it is kept as.
-use Rattle.std.proofs.Common.{◌≡◌, ◌∙◌, ℕ, ◌+◌, ◌<◌, ◌≤◌, ◌⊎◌, true, false, inl, inr, List, [], ◌∷◌, ◌++◌, Option, Some, None, length, drop}
+use Rattle.std.proofs.Common.{◌≡◌, ◌∙◌, ℕ, ◌+◌, ◌<◌, ◌≤◌, ◌⊎◌, true, inl, inr, List, [], ◌∷◌, ◌++◌, Option, Some, None, length, drop}
 use Rattle.std.proofs.Common.{refl, sym, ap, subst, append-nil, arith}
 use Rattle.std.specs.Prelude.{All, IfSome, nat_lt, slice_get, slice_index_or}
 use Rattle.std.proofs.lemmas.Bool.{ltb-true}
@@ -23,7 +23,7 @@ use Rattle.bpf_live.specs.Live.{Table}
 use Rattle.bpf_alike.specs.Covers.{IsKeptAlike}
 use Rattle.bpf_alike.specs.Worlds.{AllAlike, AreLiveTables, table_at}
 use Rattle.bpf_explore.specs.Album.{FitsStock, HasMore, IsKeptAlikeAt, IsNumbered, Stock}
-use Rattle.bpf_explore.specs.Search.{IsTurned, IsIdleAt, Extends}
+use Rattle.bpf_explore.specs.Search.{Alike, IsTurned, IsIdleAt, Extends}
 use Rattle.bpf_explore.specs.Stores.{IsOfShape, no_store}
 use Rattle.bpf_explore.specs.Tuples.{TupleList, tuple_at, with_tuple}
 use Rattle.bpf_explore.specs.Private.States.{AreLoaded, AreOfParts, IsAlikeTuple}
@@ -218,6 +218,9 @@ module _ (h : Shape) (s : Shelf) (m : MachineState) (stores : List Contents) (pa
   pub same_invariant : IsShelf h (with_states s.states) × FitsShelf h (with_states s.states) m
   same_invariant = (same_shelf s (with_states s.states) m.store (grown s.states) h fits.shape is refl, fits_grown s.states refl)
 
+  pub same_machines : machines (with_states s.states) s.states.count ≡ machines s s.states.count
+  same_machines = same_kept s (with_states s.states) m.store (grown s.states) h fits.shape is refl
+
   pub same_adds : AddsOne (machines s s.states.count) m (machines (with_states s.states) s.states.count)
   same_adds = inl (same_kept s (with_states s.states) m.store (grown s.states) h fits.shape is refl)
 
@@ -398,7 +401,7 @@ still_at old new place m at more = ap (λ (ms : List MachineState). slice_get ms
     (slice_get-front old more.0 place (slice_get_within old place m at) ∙ at)
 
 pub turned : (old new : List MachineState) (place cpu : ℕ) (m after : MachineState) → slice_get old place ≡ Some m → Extends old new →
-    TurnsTo m cpu after → IsKeptAlike new after → IsTurned false new place cpu
+    TurnsTo m cpu after → IsKeptAlike new after → IsTurned Alike new place cpu
 turned old new place cpu m after at more turns kept other there =
     let two : Some m ≡ Some other = sym (still_at old new place m at more) ∙ there in
     let same : m ≡ other = cc in

@@ -17,11 +17,10 @@ use Rattle.bpf_machine.specs.Laws.{IsFresh}
 use Rattle.bpf_machine.specs.Listings.{Listing, Never, Due, first_lists, listing_at}
 use Rattle.bpf_machine.specs.Machine.{MachineState, Shows}
 use Rattle.bpf_machine.specs.Schedule.{World}
-use Rattle.bpf_machine.specs.Cover.{IsShown}
 use Rattle.bpf_jobs.specs.Printed.{first_world}
 use Rattle.bpf_explore.specs.Laws.{CoverTellsAll}
 use Rattle.bpf_explore.specs.Outcomes.{Found, AreOutcomes, IsExplored}
-use Rattle.bpf_explore.specs.Search.{CameTo, Extends, is_whole, is_refused}
+use Rattle.bpf_explore.specs.Search.{Alike, CameTo, CameToEnds, CoversAll, Extends, ShowsEnds, is_whole, is_refused}
 use Rattle.bpf_explore.specs.declared.frontier.Extent.{Extent}
 use Rattle.bpf_explore.specs.declared.frontier.Extent.TheVariants.{Whole, Limited, Refused}
 use Rattle.bpf_explore.specs.Stores.{IsOfShape}
@@ -105,8 +104,15 @@ not_whole Whole h = cc
 not_whole Limited h = refl
 not_whole Refused h = refl
 
+-- what covers all shows each end
+shows_ends : (kept : List MachineState) → CoversAll Alike kept → ShowsEnds kept
+shows_ends kept covers w z schedule (fresh, (one, at, here)) runs ended = (covers w z schedule fresh (0, one, at, here) runs).1 ended
+
+pub came_to_ends : (kept : List MachineState) (extent : Extent) (limit : ℕ) → CameTo Alike kept extent limit → CameToEnds kept extent limit
+came_to_ends kept extent limit came = record { ends = λ is. shows_ends kept (came.covers is); met = came.met; short = came.short }
+
 pub explored : CoverTellsAll → (kept : List MachineState) (w : World) (names : Names) (maps : Bool) (answers : List Found) (extent : Extent)
-    (limit : ℕ) → BeginsAt kept w → CameTo false kept extent limit
+    (limit : ℕ) → BeginsAt kept w → CameToEnds kept extent limit
     → ((u : World) → IsFirst kept u → AreOutcomes u names maps answers) →
     (extent ≡ Whole → (i : ℕ) → IsAnsweredAt kept names maps answers i) → AreLed kept → AreApart kept → IsExplored w names maps answers
     (is_whole extent) (is_refused extent) limit (length kept)
@@ -114,8 +120,7 @@ explored law kept w names maps answers extent limit begins came outcomes answere
     let first = begins.1 in
     record {
       outcomes = outcomes w first;
-      complete = λ is. (let shown : IsShown kept w = (0, first.0, first.1, first.2) in
-          law kept w names maps answers (came.covers (whole_of extent is)) begins.0 shown (λ i m at ended. answered (whole_of extent is) i m at ended));
+      complete = λ is. law kept w names maps answers (came.ends (whole_of extent is)) begins (λ i m at ended. answered (whole_of extent is) i m at ended);
       counted = are_reached kept w first led apart;
       met = λ is uncut. came.met (limited_of extent is uncut);
       short = λ is. (not_whole extent is, came.short (refused_of extent is));

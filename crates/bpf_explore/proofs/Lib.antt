@@ -13,6 +13,10 @@ pub mod ApartLaws
 pub mod StopLaws
 pub mod WayLaws
 pub mod TrailLaws
+pub mod SpreadLaws
+pub mod ExchangeLaws
+pub mod PeerLaws
+pub mod CloseLaws
 pub mod AnswerLaws
 pub mod TellLaws
 pub mod DiveLaws
@@ -24,5 +28,7 @@ pub mod TurnedLaws
 pub mod MarkLaws
 pub mod HungLaws
 pub mod ExploreLaws
+pub mod PermutedLaws
 pub mod BeyondLaws
 pub mod PatienceLaws
+pub mod ElsewhereLaws

@@ -1,4 +1,4 @@
--- Where machines cover all schedules, what is printed of them is all that can be printed.
+-- Where machines show each end, what is printed of them is all that can be printed.
 use Rattle.std.proofs.Common.{◌≡◌, ◌∙◌, ℕ, Bool, List, ◌++◌, Some, length, sym, ap, subst}
 use Rattle.std.specs.Prelude.{slice_get}
 use Rattle.bpf_shared.specs.Store.{Plain}
@@ -33,8 +33,8 @@ shown_is_told kept z names maps answers (i, m, at, shows) ended told text stoppe
     (a.0, a.1, a.2, one.0, one.1)
 
 pub cover_tells_all : CoverTellsAll
-cover_tells_all kept w names maps answers covers fresh shown told text stopped (schedule, (z, runs, ended, tells)) =
-    shown_is_told kept z names maps answers ((covers w z schedule fresh shown runs).1 ended) ended told text stopped tells
+cover_tells_all kept w names maps answers ends begins told text stopped (schedule, (z, runs, ended, tells)) =
+    shown_is_told kept z names maps answers (ends w z schedule begins runs ended) ended told text stopped tells
 
 pub patient_tell_all : PatientTellAll
 patient_tell_all kept w names maps answers covers fresh shown told text stopped (schedule, z, runs, ended, none, tells) =

@@ -12,7 +12,7 @@ use Rattle.bpf_machine.specs.Patient.{NoneRanOut}
 use Rattle.bpf_machine.specs.Schedule.{World}
 use Rattle.bpf_explore.specs.Outcomes.{Found}
 use Rattle.bpf_machine.specs.Cover.{IsShown}
-use Rattle.bpf_explore.specs.Search.{CameTo, is_whole, is_refused}
+use Rattle.bpf_explore.specs.Search.{CameTo, Richly, is_whole, is_refused}
 use Rattle.bpf_explore.specs.declared.frontier.Extent.{Extent}
 use Rattle.bpf_explore.specs.declared.frontier.Extent.TheVariants.{Whole}
 use Rattle.bpf_explore.proofs.ExploreLaws.{whole_of, limited_of, refused_of, not_whole}
@@ -130,7 +130,7 @@ none_of_none w hung z none (inr (i, by, at, lies)) = let no : None ≡ Some by =
 
 pub explored_patiently : AlikeCanEnd → PatientTellAll → (kept : List MachineState) (w : World) (names : Names) (maps : Bool)
     (answers : List Found) (extent : Extent) (whole fit all refused : Bool) (limit : ℕ) (hung : List (List (ℕ × ℕ))) (budgets : Budgets) →
-    BeginsAt kept w → CameTo true kept extent limit
+    BeginsAt kept w → CameTo Richly kept extent limit
     → whole ≡ is_whole extent → refused ≡ is_refused extent
     → ((u : World) → IsFirst kept u → ArePatient u names maps answers) → (extent ≡ Whole → fit ≡ true → (i : ℕ) → IsAnsweredAt kept names maps answers i)
     → AllHang kept hung → (whole ≡ true → fit ≡ true → AllLeadOrBeyond kept hung)

@@ -1,5 +1,5 @@
 -- A machine in which a job has its whole budget back is as good as the one before.
-use Rattle.std.proofs.Common.{◌≡◌, ◌∙◌, ℕ, zero, suc, ◌+◌, true, List, [], ◌∷◌, Some, inl, inr, refl, sym, ap, subst}
+use Rattle.std.proofs.Common.{◌≡◌, ◌∙◌, ℕ, zero, suc, ◌+◌, List, [], ◌∷◌, Some, inl, inr, refl, sym, ap, subst}
 use Rattle.std.specs.Prelude.{slice_get}
 use Rattle.bpf_cpu.specs.declared.cpu.Cpu.{Cpu}
 use Rattle.bpf_cpu.specs.Task.{Stage, Task, InHand}
@@ -13,7 +13,7 @@ use Rattle.bpf_alike.specs.Ends.{IsKeptAlikeRichlyAt}
 use Rattle.bpf_machine.specs.Patient.{IsRicher, AsRich, IsRefilled}
 use Rattle.bpf_machine.proofs.PatientLaws.{all_same}
 use Rattle.bpf_explore.specs.Album.{IsKeptAlikeAt}
-use Rattle.bpf_explore.specs.Search.{IsTurned, Extends}
+use Rattle.bpf_explore.specs.Search.{Richly, IsTurned, Extends}
 use Rattle.bpf_explore.proofs.AlbumLaws.{still_at}
 
 rich_set : (jobs : List Task) (j : ℕ) (task : Task) (state : Cpu) (left more : ℕ) → slice_get jobs j ≡ Some task → task.stage ≡ InHand state
@@ -51,7 +51,7 @@ richly_kept kept m new c n refills is w shows =
 
 -- ---- a turn from a kept machine
 pub turned_richly : (old new : List MachineState) (place cpu n : ℕ) (m after refilled : MachineState) → slice_get old place ≡ Some m →
-    Extends old new → TurnsTo m cpu after → IsRefilled after cpu refilled → IsKeptAlikeAt new n refilled → IsTurned true new place cpu
+    Extends old new → TurnsTo m cpu after → IsRefilled after cpu refilled → IsKeptAlikeAt new n refilled → IsTurned Richly new place cpu
 turned_richly old new place cpu n m after refilled at more turns refills kept other there =
     let two : Some m ≡ Some other = sym (still_at old new place m at more) ∙ there in
     let same : m ≡ other = cc in (

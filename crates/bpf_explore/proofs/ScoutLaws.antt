@@ -239,3 +239,11 @@ explorer_still before after old new origins scouts kept stock is = (
   subst (λ (ms : List MachineState). AreOrigins RunsSchedule ms origins) (sym kept) is.0,
   scouts_still false before after old new scouts kept stock is.1,
 )
+
+-- where only what there is of stores and jobs is more
+pub explorer_more : (before after : List MachineState) (old new : Stock) (origins : List Origin) (scouts : List Scout) → after ≡ before
+    → HasMore old new → IsExplorer before old origins scouts → IsExplorer after new origins scouts
+explorer_more before after old new origins scouts kept more is = (
+  subst (λ (ms : List MachineState). AreOrigins RunsSchedule ms origins) (sym kept) is.0,
+  scouts_more old new more before after ([], kept ∙ sym (append-nil before)) false scouts is.1,
+)

@@ -94,13 +94,13 @@ module _ (runs : World → List ℕ → World → Type 0) (join : StayAndJoin ru
 
   -- ---- while more are kept
   module _ (old more : List MachineState) where
-    shown_still : (i : ℕ) (w : World) → IsShownAt old i w → IsShownAt (old ++ more) i w
+    pub shown_still : (i : ℕ) (w : World) → IsShownAt old i w → IsShownAt (old ++ more) i w
     shown_still i w (m, at, shows) = (m, slice_get-front old more i (slice_get_within old i m at) ∙ at, shows)
 
-    shown_before : (i : ℕ) (w : World) → i < length old → IsShownAt (old ++ more) i w → IsShownAt old i w
+    pub shown_before : (i : ℕ) (w : World) → i < length old → IsShownAt (old ++ more) i w → IsShownAt old i w
     shown_before i w inside (m, at, shows) = (m, sym (slice_get-front old more i inside) ∙ at, shows)
 
-    leads_still : (i j : ℕ) (cs : List ℕ) → i < length old → LeadsThrough runs old i cs j → LeadsThrough runs (old ++ more) i cs j
+    pub leads_still : (i j : ℕ) (cs : List ℕ) → i < length old → LeadsThrough runs old i cs j → LeadsThrough runs (old ++ more) i cs j
     leads_still i j cs inside leads w shown = let r = leads w (shown_before i w inside shown) in (r.0, r.1, shown_still j r.0 r.2)
 
     origin_still : (i : ℕ) (o : Origin) → i < length old → IsOrigin runs old i o → IsOrigin runs (old ++ more) i o

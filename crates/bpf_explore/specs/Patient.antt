@@ -17,7 +17,7 @@ use Rattle.bpf_jobs.specs.Printed.{Tells}
 use Rattle.bpf_explore.specs.declared.budgets.Budgets.{Budgets}
 use Rattle.bpf_explore.specs.declared.budgets.Budgets.TheVariants.{Suffice, RunOut}
 use Rattle.bpf_explore.specs.Outcomes.{Found, IsTold}
-use Rattle.bpf_explore.specs.Search.{CoversAll}
+use Rattle.bpf_explore.specs.Search.{CoversAll, Richly}
 use Rattle.bpf_explore.specs.Laws.{IsAnswered}
 
 -- some schedule leads to a machine without work, in which no job is out of budget, and of which this
@@ -114,7 +114,7 @@ pub record IsSearchedPatiently (w : World) (names : Names) (maps : Bool)
 abbrev pub PatientTellAll : Type 0
 PatientTellAll =
     (kept : List MachineState) (w : World) (names : Names) (maps : Bool)
-    (answers : List Found) → CoversAll true kept → IsFresh w → IsShown kept w
+    (answers : List Found) → CoversAll Richly kept → IsFresh w → IsShown kept w
     → ((i : ℕ) (m : MachineState) → slice_get kept i ≡ Some m → HaveEnded m.jobs
     → IsAnswered names maps answers m)
     → HaveAllPatient w names maps answers

@@ -5,6 +5,8 @@ pub mod Album
 pub mod Scouts
 pub mod States
 pub mod Trail
+pub mod Spread
+pub mod Peers
 pub mod Answers
 pub mod Patience
 pub mod Edges
@@ -12,3 +14,4 @@ pub mod Replays
 pub mod Ends
 pub mod Hung
 pub mod Depths
+pub mod Permuted

@@ -1,15 +1,18 @@
 -- The search through the machines that turns lead to, but for registers that are written before they
--- are read; a patient one also but for budgets.
+-- are read; besides, but for places of equal jobs, or for budgets.
 use Rattle.std.specs.Prelude.{◌≡◌, ℕ, zero, suc, ◌<◌, ◌≤◌, Bool, true, false, List, [], ◌∷◌, ◌++◌, Some, length, slice_get}
 use Rattle.bpf_machine.specs.Schedule.{World, RunsSchedule}
 use Rattle.bpf_machine.specs.Rounds.{HaveEnded}
 use Rattle.bpf_machine.specs.Laws.{IsFresh}
-use Rattle.bpf_machine.specs.Machine.{MachineState}
+use Rattle.bpf_machine.specs.Machine.{MachineState, Shows}
 use Rattle.bpf_machine.specs.Hands.{IsFree, NoneWaits}
 use Rattle.bpf_machine.specs.Cover.{TurnsTo, IsShown}
 use Rattle.bpf_machine.specs.Patient.{NoneRanOut}
-use Rattle.bpf_alike.specs.Covers.{IsKeptAlike, IsClosedAlike, IsCoveredAlike}
+use Rattle.bpf_alike.specs.Covers.{IsKeptAlike, IsShownAlike, IsClosedAlike, IsCoveredAlike}
 use Rattle.bpf_alike.specs.Patient.{IsKeptAlikeRichly, IsClosedAlikeRichly, IsCoveredAlikeRichly}
+use Rattle.bpf_equal.specs.declared.peers.Peer.{Peer}
+use Rattle.bpf_equal.specs.Covers.{ButForPlaces, IsClosedPermuted, IsCoveredPermuted}
+use Rattle.bpf_explore.specs.Album.{BeginsAt}
 use Rattle.bpf_explore.specs.declared.frontier.Extent.{Extent}
 use Rattle.bpf_explore.specs.declared.frontier.Extent.TheVariants.{Whole, Limited, Refused}
 
@@ -31,20 +34,28 @@ is_refused Whole = false
 is_refused Limited = false
 is_refused Refused = true
 
--- all that the machine shows, a kept one shows, but for dead registers; of a patient search, and for
--- richer jobs
-abbrev pub IsKept : Bool → List MachineState → MachineState → Type 0
-IsKept false kept m = IsKeptAlike kept m
-IsKept true kept m = IsKeptAlikeRichly kept m
+-- which machines count as kept: those of which a kept one shows all but dead registers; besides, where
+-- equal jobs have changed places; or where jobs are richer
+pub data Manner : Type 0 where
+  Alike : Manner
+  Permuted : List Peer → Manner
+  Richly : Manner
+
+-- all that the machine shows, a kept one shows in this manner
+abbrev pub IsKept : Manner → List MachineState → MachineState → Type 0
+IsKept Alike kept m = IsKeptAlike kept m
+IsKept (Permuted peers) kept m =
+    (w : World) → Shows m w → ButForPlaces peers (IsShownAlike kept) w
+IsKept Richly kept m = IsKeptAlikeRichly kept m
 
 -- the CPU's turn was made from the i-th kept machine, and where it led is kept
-abbrev pub IsTurned : Bool → List MachineState → ℕ → ℕ → Type 0
-IsTurned patient kept i c = (m : MachineState) → slice_get kept i ≡ Some m
-    → (new : MachineState) × TurnsTo m c new × IsKept patient kept new
+abbrev pub IsTurned : Manner → List MachineState → ℕ → ℕ → Type 0
+IsTurned manner kept i c = (m : MachineState) → slice_get kept i ≡ Some m
+    → (new : MachineState) × TurnsTo m c new × IsKept manner kept new
 
 -- so was each CPU's
-abbrev pub IsExpanded : Bool → List MachineState → ℕ → Type 0
-IsExpanded patient kept i = (c : ℕ) → IsTurned patient kept i c
+abbrev pub IsExpanded : Manner → List MachineState → ℕ → Type 0
+IsExpanded manner kept i = (c : ℕ) → IsTurned manner kept i c
 
 -- the CPU has no work in the i-th kept machine
 abbrev pub IsIdleAt : List MachineState → ℕ → ℕ → Type 0
@@ -66,25 +77,42 @@ abbrev pub Extends : List MachineState → List MachineState → Type 0
 Extends old new = (more : List MachineState) × (new ≡ old ++ more)
 
 -- nothing is left to be kept
-abbrev pub IsWhole : Bool → List MachineState → Type 0
-IsWhole false kept = IsClosedAlike kept
-IsWhole true kept = IsClosedAlikeRichly kept
+abbrev pub IsWhole : Manner → List MachineState → Type 0
+IsWhole Alike kept = IsClosedAlike kept
+IsWhole (Permuted peers) kept = IsClosedPermuted peers kept
+IsWhole Richly kept = IsClosedAlikeRichly kept
 
 -- all that schedules lead to from a kept machine before its first turn is covered; and where no CPU
--- has work left, a kept machine shows it. Of a patient search, while no job runs out of budget
-abbrev pub CoversAll : Bool → List MachineState → Type 0
-CoversAll false kept =
+-- has work left, a kept machine shows it: in this manner. With richer jobs, while no job runs out of
+-- budget
+abbrev pub CoversAll : Manner → List MachineState → Type 0
+CoversAll Alike kept =
     (w z : World) (schedule : List ℕ) → IsFresh w → IsShown kept w → RunsSchedule w schedule z
     → IsCoveredAlike kept z × (HaveEnded z.jobs → IsShown kept z)
-CoversAll true kept =
+CoversAll (Permuted peers) kept =
+    (w z : World) (schedule : List ℕ) → IsFresh w → IsShown kept w → RunsSchedule w schedule z
+    → IsCoveredPermuted peers kept z
+    × (HaveEnded z.jobs → ButForPlaces peers (IsShown kept) z)
+CoversAll Richly kept =
     (w z : World) (schedule : List ℕ) → IsFresh w → IsShown kept w → RunsSchedule w schedule z
     → NoneRanOut z.jobs
     → IsCoveredAlikeRichly kept z × (HaveEnded z.jobs → IsShown kept z)
 
 -- the search came this far, where these are kept
-pub record CameTo (patient : Bool) (kept : List MachineState) (extent : Extent) (limit : ℕ) : Type 0
+pub record CameTo (manner : Manner) (kept : List MachineState) (extent : Extent) (limit : ℕ) : Type 0
   where
-    pub whole : extent ≡ Whole → IsWhole patient kept
-    pub covers : extent ≡ Whole → CoversAll patient kept
+    pub whole : extent ≡ Whole → IsWhole manner kept
+    pub covers : extent ≡ Whole → CoversAll manner kept
     pub met : extent ≡ Limited → limit < length kept
     pub short : extent ≡ Refused → length kept ≤ limit
+
+-- each end of each schedule from the first kept machine is shown
+abbrev pub ShowsEnds : List MachineState → Type 0
+ShowsEnds kept = (w z : World) (schedule : List ℕ) → BeginsAt kept w → RunsSchedule w schedule z
+    → HaveEnded z.jobs → IsShown kept z
+
+-- the search came this far, and where nothing was left to be kept, the kept machines show each end
+pub record CameToEnds (kept : List MachineState) (extent : Extent) (limit : ℕ) : Type 0 where
+  pub ends : extent ≡ Whole → ShowsEnds kept
+  pub met : extent ≡ Limited → limit < length kept
+  pub short : extent ≡ Refused → length kept ≤ limit

@@ -10,10 +10,14 @@ ghost use Rattle.bpf_explore.specs.Stores.{IsOfShape, no_store};
 ghost use Rattle.bpf_machine.specs.Parts.{chosen, no_task};
 ghost use Rattle.bpf_explore.specs.Private.Album.{AreKeptUnder, AreNumbersOf, AreOthers, HasEndedOn, IsNumberOf, IsRecalled};
 
+use crate::exchanges::{count_up, exchange_ends};
+use crate::explorer::turns_of;
 use crate::parts::Parts;
 use crate::states::States;
 use crate::stores::{Stores, new_store};
 use bpf_alike::{Merged, live_tables};
+use bpf_equal::{Peer, Twins, find_peers};
+use bpf_live::Live;
 use bpf_machine::{KeptJob, Machine};
 use bpf_shared::StoreShape;
 use std::alloc::{AllocError, Global};
@@ -366,11 +370,16 @@ impl Album {
     ghost use Rattle.bpf_machine.specs.Schedule.{World, RunsSchedule, unrolled};
     ghost use Rattle.bpf_machine.specs.Cover.{TurnsTo, TurnsAhead};
     ghost use Rattle.bpf_machine.specs.Patient.{IsRefilled};
-    ghost use Rattle.bpf_explore.specs.Search.{IsIdleAt};
+    ghost use Rattle.bpf_explore.specs.Search.{IsIdleAt, IsKept, Permuted};
+    ghost use Rattle.bpf_explore.specs.Scouts.{IsTurnAhead};
+    ghost use Rattle.bpf_alike.specs.Worlds.{AreLiveTables, table_at};
+    ghost use Rattle.bpf_equal.specs.Groups.{ArePeers};
+    ghost use Rattle.bpf_explore.specs.Private.Peers.{FitPeers};
     ghost use Rattle.bpf_explore.specs.Stores.{IsOfShape};
     ghost use Rattle.bpf_explore.specs.Album.{ShowsFirst, IsKeptAlikeAt, AreApart, HaveEndedAt, NoneRanOutAt, HaveBudgets, AreKeptUnder, FitsStock, HasMore, IsNumbered};
     ghost use Rattle.bpf_machine.specs.Hands.{OthersStay};
     ghost use Rattle.bpf_explore.specs.Private.Album.{AddsOne, CameBy};
+    ghost use Rattle.bpf_explore.specs.Private.Peers.{AreOfKind, HasJobs, IsExchanged};
 
     /// Nothing is kept yet.
     fn empty(
@@ -431,6 +440,32 @@ impl Album {
         let numbers = behind_first(tuple);
         self.machine
             .restore(self.alloc, store, self.parts.jobs(), numbers)?;
+        Ok(())
+    }
+
+    /// Takes a kept machine to work with whose jobs have all ended, with the ends of two of them
+    /// exchanged.
+    pub(crate) fn exchange_end(
+        &mut self,
+        place: usize,
+        one: usize,
+        other: usize,
+    ) -> Result<(), AllocError>
+        requires place { place < length self.old.kept }
+        requires ended { HaveEndedAt self.old.kept place }
+        requires jobs { HasJobs self.old.kept place one other }
+        ensures ok { OnOk result ((m : MachineState) → slice_get self.old.kept place ≡ Some m
+            → IsExchanged one other m self.new.machine) }
+        ensures same { self.new.kept ≡ self.old.kept }
+        ensures cpus { self.new.cpus ≡ self.old.cpus }
+        ensures stock { self.new.stock ≡ self.old.stock }
+    {
+        let tuple = self.states.tuple(place);
+        let store = self.stores.store(tuple[0] as usize);
+        let parts = self.parts.jobs();
+        let jobs = exchange_ends(self.alloc, parts, behind_first(tuple), one, other)?;
+        let numbers = count_up(self.alloc, jobs.len())?;
+        self.machine.restore(self.alloc, store, &jobs, &numbers)?;
         Ok(())
     }
 
@@ -495,6 +530,116 @@ impl Album {
             .states
             .keep(self.alloc, self.parts.jobs(), &self.room.numbers)?;
         Ok(number)
+    }
+
+    /// The numbers under which the machine's store and jobs are kept are written over those of the room:
+    /// what isn't there yet is kept. It may have come by a CPU's turn.
+    pub(crate) fn enter(
+        &mut self,
+        room: &mut Room,
+        turned: Option<Turned>,
+    ) -> Result<(), AllocError>
+        requires { CameBy self.old.kept turned self.old.machine.jobs }
+        ensures kept { self.new.kept ≡ self.old.kept }
+        ensures numbered { OnOk result
+            (IsNumbered self.new.stock self.new.machine room.new.numbers.items) }
+        ensures same { self.new.machine ≡ self.old.machine }
+        ensures cpus { self.new.cpus ≡ self.old.cpus }
+        ensures more { HasMore self.old.stock self.new.stock }
+    {
+        self.machine.stands();
+        recall(room, &self.states, turned)?;
+        keep_machine(
+            self.alloc,
+            &self.shape,
+            &self.machine,
+            &mut self.stores,
+            &mut self.parts,
+            room,
+        )?;
+        Ok(())
+    }
+
+    /// Makes a CPU's turn from a kept machine, and then the turns of it that no store sees. The numbers of
+    /// the store and jobs that they lead to are written over those of the room. How many were made after
+    /// the first.
+    pub(crate) fn look_ahead(
+        &mut self,
+        room: &mut Room,
+        place: usize,
+        cpu: u8,
+    ) -> Result<u32, AllocError>
+        requires { place < length self.old.kept }
+        ensures kept { self.new.kept ≡ self.old.kept }
+        ensures turn { IfOk result (λ n. IsTurnAhead false self.old.kept self.new.stock place cpu n
+            room.new.numbers.items) }
+        ensures cpus { self.new.cpus ≡ self.old.cpus }
+        ensures more { HasMore self.old.stock self.new.stock }
+    {
+        self.restore(place)?;
+        let made = self.turn_ahead(cpu);
+        let ahead = turns_of(made)?;
+        self.enter(room, Some(Turned { place, cpu }))?;
+        Ok(ahead)
+    }
+
+    /// Whether a kept machine is the one of these numbers, perhaps but for which of its equal jobs is how
+    /// far, and for registers that are written before they are read.
+    pub(crate) fn is_elsewhere(
+        &self,
+        twins: &mut Twins,
+        place: usize,
+        numbers: &[u32],
+    ) -> Result<bool, AllocError>
+        requires place { place < length self.now.kept }
+        requires numbered { (m : MachineState) × IsNumbered self.now.stock m numbers.now }
+        requires peers { ArePeers self.now.stock.shape self.now.stock.programs twins.old.peers.items }
+        requires tables { AreLiveTables self.now.stock.programs (table_at twins.old.tables.items) }
+        ensures peers { twins.new.peers ≡ twins.old.peers }
+        ensures tables { twins.new.tables ≡ twins.old.tables }
+        ensures kept { IfOk result (λ is. is ≡ true → (m : MachineState)
+            → IsNumbered self.now.stock m numbers.now
+            → IsKept (Permuted twins.old.peers.items) self.now.kept m) }
+    {
+        let tuple = self.states.tuple(place);
+        if tuple[0] != numbers[0] {
+            return Ok(false);
+        }
+        let others = behind_first(tuple);
+        let own = behind_first(numbers);
+        let is = twins.are_alike(self.parts.jobs(), own, others)?;
+        Ok(is)
+    }
+
+    /// Which jobs of the first machine are equal.
+    pub(crate) fn peers(&self) -> Result<Vec<Peer>, AllocError>
+        requires { 0 < length self.now.kept }
+        ensures { IfOk result (λ ps. FitPeers self.now.stock self.now.kept ps.items) }
+    {
+        let first = behind_first(self.states.tuple(0));
+        let programs = self.machine.programs();
+        let peers = find_peers(self.alloc, &self.shape, programs, self.parts.jobs(), first)?;
+        Ok(peers)
+    }
+
+    /// By program, the registers that it may read before it writes them.
+    pub(crate) fn tables(&self) -> Result<Vec<Live>, AllocError>
+        ensures { IfOk result (λ ts. AreLiveTables self.now.stock.programs (table_at ts.items)) }
+    {
+        let tables = live_tables(self.alloc, self.machine.programs(), Merged::Alike)?;
+        Ok(tables)
+    }
+
+    /// The kept jobs.
+    pub(crate) fn jobs(&self) -> &[KeptJob] {
+        self.parts.jobs()
+    }
+
+    /// The numbers of a kept machine's store and jobs.
+    pub(crate) fn numbers(&self, place: usize) -> &[u32]
+        requires { place < length self.now.kept }
+    {
+        self.states.tuple(place)
     }
 
     /// Keeps the machine whose store and jobs are there under these numbers, as `keep` does. Under
@@ -602,6 +747,13 @@ impl Album {
         self.stores.apart();
         self.parts.apart();
         self.states.apart();
+    }
+
+    /// Each of them is of the kind that is kept.
+    pub(crate) fn of_kind(&self)
+        ensures { AreOfKind self.now.stock self.now.kept }
+    {
+        let _ = &self.states;
     }
 
     /// Machines of which the first is kept, and then one of those that count as one.

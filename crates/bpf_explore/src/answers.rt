@@ -8,7 +8,7 @@ ghost use Rattle.bpf_explore.specs.Album.{HaveEndedAt};
 ghost use Rattle.bpf_explore.specs.Outcomes.{Found, AreOutcomes, EndsBy};
 ghost use Rattle.bpf_explore.specs.Private.Answers.{AreSorted, IsFirst, AllEnd, KeepsAll, IsPlaceOf, IsAnsweredAt, Gathered};
 
-use crate::explorer::Explorer;
+use crate::spread::Spread;
 use bpf_jobs::{Report, tell};
 use bpf_names::Names;
 use std::alloc::{AllocError, Global};
@@ -104,33 +104,33 @@ fn put_answer(answers: &mut Vec<Answer>, at: usize, answer: Answer) -> Result<()
 /// yet.
 fn tell_ended(
     alloc: Global,
-    explorer: &mut Explorer,
+    spread: &mut Spread,
     names: &Names,
     maps: bool,
     answers: &mut Vec<Answer>,
     place: usize,
 ) -> Result<(), AllocError>
-    requires place { place < length explorer.old.kept }
-    requires ended { HaveEndedAt explorer.old.kept place }
-    requires first { (w : World) × IsFirst explorer.old.kept w }
+    requires place { place < length spread.old.kept }
+    requires ended { HaveEndedAt spread.old.kept place }
+    requires first { (w : World) × IsFirst spread.old.kept w }
     requires sorted { AreSorted answers.old.items }
-    requires ends { (w : World) → IsFirst explorer.old.kept w
+    requires ends { (w : World) → IsFirst spread.old.kept w
         → AllEnd w (names_of names.now) maps answers.old.items }
-    ensures same { explorer.new.kept ≡ explorer.old.kept }
+    ensures same { spread.new.kept ≡ spread.old.kept }
     ensures sorted { OnOk result (AreSorted answers.new.items) }
     ensures keeps { OnOk result (KeepsAll answers.old.items answers.new.items) }
-    ensures ends { OnOk result ((w : World) → IsFirst explorer.old.kept w
+    ensures ends { OnOk result ((w : World) → IsFirst spread.old.kept w
         → AllEnd w (names_of names.now) maps answers.new.items) }
-    ensures answered { OnOk result (IsAnsweredAt explorer.old.kept (names_of names.now)
+    ensures answered { OnOk result (IsAnsweredAt spread.old.kept (names_of names.now)
         maps answers.new.items place) }
 {
-    explorer.leads();
-    explorer.restore(place)?;
-    let Report { text, stopped } = tell(alloc, explorer.machine(), names, maps)?;
+    spread.leads();
+    spread.restore(place)?;
+    let Report { text, stopped } = tell(alloc, spread.machine(), names, maps)?;
     match place_of(answers, text.as_str()) {
         Ok(_) => Ok(()),
         Err(at) => {
-            let by = explorer.way(place)?;
+            let by = spread.way(place)?;
             put_answer(answers, at, Answer { text, stopped, by })?;
             Ok(())
         }
@@ -140,44 +140,44 @@ fn tell_ended(
 /// Puts what is printed of a kept machine among the answers, if it has no work.
 fn tell_at(
     alloc: Global,
-    explorer: &mut Explorer,
+    spread: &mut Spread,
     names: &Names,
     maps: bool,
     answers: &mut Vec<Answer>,
     place: usize,
 ) -> Result<(), AllocError>
-    requires place { place < length explorer.old.kept }
-    requires first { (w : World) × IsFirst explorer.old.kept w }
-    requires gathered { Gathered explorer.old.kept (names_of names.now) maps place
+    requires place { place < length spread.old.kept }
+    requires first { (w : World) × IsFirst spread.old.kept w }
+    requires gathered { Gathered spread.old.kept (names_of names.now) maps place
         answers.old.items }
-    ensures same { explorer.new.kept ≡ explorer.old.kept }
-    ensures gathered { OnOk result (Gathered explorer.old.kept (names_of names.now) maps
+    ensures same { spread.new.kept ≡ spread.old.kept }
+    ensures gathered { OnOk result (Gathered spread.old.kept (names_of names.now) maps
         (place + 1) answers.new.items) }
 {
-    if !explorer.has_ended(place) {
+    if !spread.has_ended(place) {
         return Ok(());
     }
-    tell_ended(alloc, explorer, names, maps, answers, place)?;
+    tell_ended(alloc, spread, names, maps, answers, place)?;
     Ok(())
 }
 
 /// The answers: what is printed of each kept machine without work.
 pub(crate) fn gather(
     alloc: Global,
-    explorer: &mut Explorer,
+    spread: &mut Spread,
     names: &Names,
     maps: bool,
 ) -> Result<Vec<Answer>, AllocError>
-    requires { (w : World) × IsFirst explorer.old.kept w }
-    ensures same { explorer.new.kept ≡ explorer.old.kept }
-    ensures outcomes { IfOk result (λ answers. (w : World) → IsFirst explorer.old.kept w
+    requires { (w : World) × IsFirst spread.old.kept w }
+    ensures same { spread.new.kept ≡ spread.old.kept }
+    ensures outcomes { IfOk result (λ answers. (w : World) → IsFirst spread.old.kept w
         → AreOutcomes w (names_of names.now) maps answers.items) }
-    ensures answered { IfOk result (λ answers. (i : ℕ) → IsAnsweredAt explorer.old.kept
+    ensures answered { IfOk result (λ answers. (i : ℕ) → IsAnsweredAt spread.old.kept
         (names_of names.now) maps answers.items i) }
 {
     let mut answers = Vec::new(alloc);
-    for place in 0..explorer.len() {
-        tell_at(alloc, explorer, names, maps, &mut answers, place)?;
+    for place in 0..spread.len() {
+        tell_at(alloc, spread, names, maps, &mut answers, place)?;
     }
     Ok(answers)
 }

@@ -12,9 +12,9 @@ ghost use Rattle.bpf_explore.specs.Private.Patience.{AllEndPatiently};
 
 use crate::answers::{Answer, place_of};
 use crate::diving::dives_after;
-use crate::explorer::Explorer;
 use crate::patient::PatientExplorer;
 use crate::replays::some_ran_out;
+use crate::spread::Spread;
 use bpf_jobs::{Report, tell};
 use bpf_machine::Machine;
 use bpf_names::Names;
@@ -67,24 +67,24 @@ fn add_answer(answers: &mut Vec<Answer>, answer: Answer) -> Result<(), AllocErro
 /// Puts what dives lead to among the answers.
 pub(crate) fn dive_further(
     alloc: Global,
-    explorer: &mut Explorer,
+    spread: &mut Spread,
     names: &Names,
     maps: bool,
     answers: &mut Vec<Answer>,
 ) -> Result<(), AllocError>
-    requires first { (w : World) × IsFirst explorer.old.kept w }
+    requires first { (w : World) × IsFirst spread.old.kept w }
     requires sorted { AreSorted answers.old.items }
-    requires ends { (w : World) → IsFirst explorer.old.kept w
+    requires ends { (w : World) → IsFirst spread.old.kept w
         → AllEnd w (names_of names.now) maps answers.old.items }
-    ensures same { explorer.new.kept ≡ explorer.old.kept }
+    ensures same { spread.new.kept ≡ spread.old.kept }
     ensures sorted { AreSorted answers.new.items }
     ensures keeps { KeepsAll answers.old.items answers.new.items }
-    ensures ends { (w : World) → IsFirst explorer.old.kept w
+    ensures ends { (w : World) → IsFirst spread.old.kept w
         → AllEnd w (names_of names.now) maps answers.new.items }
 {
-    for number in 0..dives_after(explorer.len()) {
-        let by = explorer.dive(number)?;
-        let Some(report) = tell_end(alloc, explorer.machine(), names, maps)? else {
+    for number in 0..dives_after(spread.len()) {
+        let by = spread.dive(number)?;
+        let Some(report) = tell_end(alloc, spread.machine(), names, maps)? else {
             continue;
         };
         add_answer(answers, Answer::new(report.text, report.stopped, by))?;

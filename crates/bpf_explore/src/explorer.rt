@@ -1,14 +1,18 @@
 //! The search: an album of machines, of each of which it is known how it came about.
 
-ghost use Rattle.std.specs.Prelude.{◌≡◌, ◌++◌, IfOk, OnOk, replicate, reverse};
-ghost use Rattle.bpf_machine.specs.Schedule.{unrolled};
+ghost use Rattle.std.specs.Prelude.{◌≡◌, ◌++◌, ◌<◌, List, IfOk, OnOk, length, replicate, reverse};
+ghost use Rattle.bpf_machine.specs.Machine.{MachineState};
+ghost use Rattle.bpf_machine.specs.Schedule.{RunsSchedule, unrolled};
+ghost use Rattle.bpf_explore.specs.Album.{LeadsFrom};
+ghost use Rattle.bpf_explore.specs.Private.Trail.{AreOrigins};
 
-use crate::album::{Album, Turned, number_of};
+use crate::album::{Album, Room, Turned, number_of};
 use crate::crew::Crew;
 use crate::diving::{Course, dive};
 use crate::frontier::Frontier;
 use crate::room::bytes_of;
 use crate::scouts::Scouts;
+use crate::spread::Spread;
 use bpf_alike::Merged;
 use bpf_machine::Machine;
 use bpf_shared::StoreShape;
@@ -51,6 +55,30 @@ pub(crate) fn push_turns(by: &mut Vec<(u8, u64)>, cpu: u8, turns: u64) -> Result
     Ok(())
 }
 
+/// The turns by which a machine came about from the first: CPUs, each with how many turns it makes before
+/// the next.
+pub(crate) fn way_back(
+    alloc: Global,
+    origins: &[Origin],
+    place: usize,
+) -> Result<Vec<(u8, u64)>, AllocError>
+    requires are { (kept : List MachineState) × AreOrigins RunsSchedule kept origins.now }
+    requires place { place < length origins.now }
+    ensures { IfOk result (λ by. (kept : List MachineState)
+        → AreOrigins RunsSchedule kept origins.now
+        → LeadsFrom kept 0 (unrolled by.items) place) }
+{
+    let mut by = Vec::new(alloc);
+    let mut state = place;
+    while state > 0 {
+        let origin = origins[state];
+        push_turns(&mut by, origin.cpu, origin.ahead as u64 + 1)?;
+        state = origin.from as usize;
+    }
+    by.reverse();
+    Ok(by)
+}
+
 /// An album, and how each of its machines came about.
 #[derive(Drop)]
 pub struct Explorer {
@@ -77,11 +105,12 @@ impl Model for Explorer {
 }
 
 impl Explorer {
-    ghost use Rattle.std.specs.Prelude.{◌≡◌, ◌<◌, true, false, IfOk, OnOk, Some, None, length, slice_get};
+    ghost use Rattle.std.specs.Prelude.{◌≡◌, ◌<◌, true, false, IfOk, IfSome, IfNone, OnOk, Some, None, length, slice_get};
     ghost use Rattle.bpf_machine.specs.Schedule.{unrolled};
     ghost use Rattle.bpf_explore.specs.Stores.{IsOfShape};
-    ghost use Rattle.bpf_explore.specs.Album.{ShowsFirst, AreApart, AreLed, LeadsFrom, HaveEndedAt};
-    ghost use Rattle.bpf_explore.specs.Search.{Extends, IsTurned};
+    ghost use Rattle.bpf_explore.specs.Album.{ShowsFirst, AreApart, AreLed, HasMore, LeadsFrom, HaveEndedAt};
+    ghost use Rattle.bpf_explore.specs.Search.{Alike, Extends, IsIdleAt, IsTurned};
+    ghost use Rattle.bpf_explore.specs.Scouts.{IsTurnAhead};
     ghost use Rattle.bpf_explore.specs.Private.Replays.{IsReplayed};
 
     /// A search of which the first machine is kept.
@@ -149,15 +178,7 @@ impl Explorer {
         requires { place < length self.now.kept }
         ensures { IfOk result (λ by. LeadsFrom self.now.kept 0 (unrolled by.items) place) }
     {
-        let mut by = Vec::new(self.alloc);
-        let mut state = place;
-        while state > 0 {
-            let origin = self.origins[state];
-            push_turns(&mut by, origin.cpu, origin.ahead as u64 + 1)?;
-            state = origin.from as usize;
-        }
-        by.reverse();
-        Ok(by)
+        way_back(self.alloc, &self.origins, place)
     }
 
     /// Makes turns from the first machine, as the dive of this number does. The schedule that they are.
@@ -177,7 +198,7 @@ impl Explorer {
     /// where they led.
     fn make(&mut self, place: usize, cpu: u8) -> Result<(), AllocError>
         requires { place < length self.old.kept }
-        ensures turned { OnOk result (IsTurned false self.new.kept place cpu) }
+        ensures turned { OnOk result (IsTurned Alike self.new.kept place cpu) }
         ensures extends { Extends self.old.kept self.new.kept }
         ensures width { self.new.cpus ≡ self.old.cpus }
     {
@@ -196,7 +217,7 @@ impl Explorer {
     /// made from.
     fn make_unnoted(&mut self, place: usize, cpu: u8) -> Result<(), AllocError>
         requires { place < length self.old.kept }
-        ensures turned { OnOk result (IsTurned false self.new.kept place cpu) }
+        ensures turned { OnOk result (IsTurned Alike self.new.kept place cpu) }
         ensures extends { Extends self.old.kept self.new.kept }
         ensures width { self.new.cpus ≡ self.old.cpus }
     {
@@ -204,6 +225,85 @@ impl Explorer {
             return Ok(());
         }
         self.make(place, cpu)
+    }
+
+    /// What is kept, after the search.
+    pub(crate) fn into_spread(self) -> Spread
+        ensures { result ≡ self }
+    {
+        let Explorer {
+            alloc,
+            album,
+            origins,
+            ..
+        } = self;
+        Spread::new(alloc, album, origins)
+    }
+
+    /// As the album's `look_ahead`, or what a scout has noted of it. `None` where the CPU has no work.
+    pub(crate) fn look(
+        &mut self,
+        room: &mut Room,
+        place: usize,
+        cpu: u8,
+    ) -> Result<Option<u32>, AllocError>
+        requires { place < length self.old.kept }
+        ensures kept { self.new.kept ≡ self.old.kept }
+        ensures turn { IfOk result (λ r. IfSome r (λ n. IsTurnAhead false self.old.kept self.new.stock
+            place cpu n room.new.numbers.items)) }
+        ensures idle { IfOk result (λ r. IfNone r (IsIdleAt self.old.kept place cpu)) }
+        ensures cpus { self.new.cpus ≡ self.old.cpus }
+        ensures more { HasMore self.old.stock self.new.stock }
+    {
+        if let Some(found) = self.scouts.find(place, cpu) {
+            room.numbers.clear();
+            room.numbers.extend_from_slice(self.scouts.numbers(&found))?;
+            return Ok(Some(found.note.ahead));
+        }
+        if !self.album.has_work(place, cpu) {
+            return Ok(None);
+        }
+        let ahead = self.album.look_ahead(room, place, cpu)?;
+        Ok(Some(ahead))
+    }
+
+    /// Keeps where a CPU's turn from a kept machine led, with n turns after it that no store sees, under
+    /// its numbers.
+    pub(crate) fn keep_turn(
+        &mut self,
+        place: usize,
+        cpu: u8,
+        ahead: u32,
+        numbers: &[u32],
+    ) -> Result<usize, AllocError>
+        requires place { place < length self.old.kept }
+        requires turn { IsTurnAhead false self.old.kept self.old.stock place cpu ahead numbers.now }
+        ensures turned { OnOk result (IsTurned Alike self.new.kept place cpu) }
+        ensures extends { Extends self.old.kept self.new.kept }
+        ensures cpus { self.new.cpus ≡ self.old.cpus }
+        ensures stock { self.new.stock ≡ self.old.stock }
+    {
+        let from = number_of(place)?;
+        self.origins.push(Origin { from, ahead, cpu })?;
+        let kept = self.album.keep_numbered(numbers);
+        self.origins.truncate(self.album.len());
+        let number = kept?;
+        Ok(number)
+    }
+
+    /// Has a crew make turns ahead, from this kept machine on, where that is worth it.
+    pub(crate) fn send_ahead<C: Crew>(&mut self, crew: &C, place: usize)
+        requires { C.can }
+        ensures { self.new ≡ self.old }
+    {
+        self.scouts.send(crew, &self.album, false, place);
+    }
+
+    /// The album.
+    pub(crate) fn album(&self) -> &Album
+        ensures { result.now ≡ self.now }
+    {
+        &self.album
     }
 
     /// A schedule leads to each of them.
@@ -222,11 +322,11 @@ impl Explorer {
 }
 
 impl Frontier for Explorer {
-    ghost use Rattle.std.specs.Prelude.{false};
+    ghost use Rattle.bpf_explore.specs.Search.{Alike};
 
     ghost kept = { λ e. e.kept };
 
-    ghost is_patient = { λ e. false };
+    ghost manner = { λ e. Alike };
 
     ghost width = { λ e. e.cpus };
 
@@ -261,6 +361,6 @@ impl Frontier for Explorer {
     }
 
     fn prepare<C: Crew>(&mut self, crew: &C, place: usize) {
-        self.scouts.send(crew, &self.album, false, place);
+        self.send_ahead(crew, place);
     }
 }

@@ -8,7 +8,7 @@ ghost use Rattle.bpf_jobs.specs.Printed.{first_of};
 ghost use Rattle.bpf_explore.specs.Album.{BeginsAt};
 ghost use Rattle.bpf_explore.specs.Outcomes.{AreOutcomes, IsExplored};
 ghost use Rattle.bpf_explore.specs.Patient.{ArePatient, IsSearchedPatiently};
-ghost use Rattle.bpf_explore.specs.Search.{CameTo, rows_of};
+ghost use Rattle.bpf_explore.specs.Search.{CameTo, CameToEnds, Permuted, Richly, rows_of};
 ghost use Rattle.bpf_explore.specs.Private.Answers.{IsAnsweredAt, IsFirst, StartsFresh};
 ghost use Rattle.bpf_explore.specs.Private.Edges.{AreTurns};
 ghost use Rattle.bpf_explore.specs.Private.Hung.{AllHang, AllLeadOrBeyond};
@@ -18,13 +18,14 @@ use crate::answers::{Answer, gather};
 use crate::budgets::{Budgets, judge_budgets};
 use crate::crew::Crew;
 use crate::dives::{dive_further, dive_patiently};
-use crate::explorer::Explorer;
 use crate::frontier::{Extent, explore};
 use crate::hung::{Hung, gather_hung};
 use crate::observer::Observer;
-use crate::opening::{Scope, patient_search_of, search_of};
+use crate::opening::{Scope, patient_search_of, permuted_search_of};
 use crate::patience::{both, gather_patiently};
 use crate::patient::PatientExplorer;
+use crate::permuted::PermutedExplorer;
+use crate::spread::Spread;
 use crate::turns::Turns;
 use bpf_cpu::Setup;
 use bpf_names::Names;
@@ -47,7 +48,7 @@ pub struct Explored {
 /// limit, of where dives lead. A dive only adds answers, so one that is refused memory is passed over.
 fn find_answers(
     alloc: Global,
-    explorer: &mut Explorer,
+    explorer: &mut Spread,
     names: &Names,
     maps: bool,
     extent: Extent,
@@ -70,14 +71,14 @@ fn find_answers(
 /// What a search found that came this far.
 fn conclude(
     alloc: Global,
-    explorer: &mut Explorer,
+    explorer: &mut Spread,
     names: &Names,
     maps: bool,
     extent: Extent,
 ) -> Result<Explored, AllocError>
     requires { (w : World) × IsFirst explorer.old.kept w }
     ensures { IfOk result (λ e. (w : World) (limit : ℕ) → BeginsAt explorer.old.kept w
-        → CameTo false explorer.old.kept extent limit
+        → CameToEnds explorer.old.kept extent limit
         → IsExplored w (names_of names.now) maps e.answers.items e.all e.refused limit
         e.states) }
 {
@@ -92,6 +93,23 @@ fn conclude(
         refused: extent.is_refused(),
         states,
     })
+}
+
+/// What a search found that came this far, and how far it is then: where it left nothing out, ends are
+/// kept in all places that equal jobs may have.
+fn close_ends(explorer: PermutedExplorer, extent: Extent, limit: usize) -> (Spread, Extent)
+    requires { StartsFresh explorer.found.kept }
+    ensures begins { (w : World) → BeginsAt explorer.found.kept w → BeginsAt result.0.kept w }
+    ensures ends { CameTo (Permuted explorer.peers) explorer.found.kept extent limit
+        → CameToEnds result.0.kept result.1 limit }
+{
+    bpf_equal::laws::kept_ends_are_shown();
+    let (mut spread, peers) = explorer.into_spread();
+    if !extent.is_whole() {
+        return (spread, extent);
+    }
+    let closed = spread.close(&peers, limit);
+    (spread, closed)
 }
 
 /// Searches through all schedules of jobs over a new store whose maps, and then arrays, have these
@@ -110,9 +128,10 @@ pub fn explore_jobs<C: Crew, O: Observer>(
     ensures { IfOk result (λ e. IsExplored (first_of setup)
         (names_of names.now) maps e.answers.items e.all e.refused scope.entry.limit e.states) }
 {
-    let mut explorer = search_of(alloc, setup, scope.merged)?;
-    let extent = explore(&mut explorer, scope.crew, scope.limit, observer);
-    conclude(alloc, &mut explorer, names, maps, extent)
+    let mut explorer = permuted_search_of(alloc, setup, scope.merged)?;
+    let came = explore(&mut explorer, scope.crew, scope.limit, observer);
+    let (mut spread, extent) = close_ends(explorer, came, scope.limit);
+    conclude(alloc, &mut spread, names, maps, extent)
 }
 
 /// What jobs may reach, but for how many steps are left of budgets.
@@ -247,7 +266,7 @@ fn conclude_patiently(
     requires made { extent ≡ Extent.Whole
         → explorer.old.made ≡ rows_of explorer.old.cpus (length explorer.old.kept) }
     ensures { IfOk result (λ e. (w : World) (limit : ℕ) → BeginsAt explorer.old.kept w
-        → CameTo true explorer.old.kept extent limit
+        → CameTo Richly explorer.old.kept extent limit
         → IsSearchedPatiently w (names_of names.now) maps e.answers.items e.all e.refused
         limit e.states e.hung.items e.budgets) }
 {

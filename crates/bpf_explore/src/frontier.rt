@@ -1,8 +1,8 @@
 //! The search: turns are made from each kept machine, and what is new is kept.
 
-ghost use Rattle.std.specs.Prelude.{◌≡◌, ◌<◌, ◌≤◌, ◌++◌, ◌∷◌, [], ℕ, Bool, List, true, false, OnOk, OnErr, length};
+ghost use Rattle.std.specs.Prelude.{◌≡◌, ◌<◌, ◌≤◌, ◌++◌, ◌∷◌, [], ℕ, List, OnOk, OnErr, length};
 ghost use Rattle.bpf_machine.specs.Machine.{MachineState};
-ghost use Rattle.bpf_explore.specs.Search.{IsTurned, IsExpanded, IsIdleAt, Extends, IsWhole, CoversAll, row_of, rows_of};
+ghost use Rattle.bpf_explore.specs.Search.{Manner, IsTurned, IsExpanded, IsIdleAt, Extends, IsWhole, CoversAll, row_of, rows_of};
 
 use crate::crew::Crew;
 use crate::observer::{Observer, tell};
@@ -49,10 +49,10 @@ pub trait Frontier {
     /// The kept machines, by their numbers.
     ghost kept: { Self → List MachineState };
 
-    /// The search is patient: a machine counts as kept also where only one is kept that has more
-    /// steps left of its budgets. In any search it does where one is kept that is alike but for
-    /// registers that are written before they are read.
-    ghost is_patient: { Self → Bool };
+    /// Which machines count as kept. In any search those do of which one is kept that is alike but
+    /// for registers that are written before they are read; in some besides those where equal jobs
+    /// have changed places, or those of which one is kept that has more steps left of its budgets.
+    ghost manner: { Self → Manner };
 
     /// How many CPUs there are.
     ghost width: { Self → ℕ };
@@ -80,13 +80,13 @@ pub trait Frontier {
     /// the machine that they lead to, unless it counts as kept already.
     fn turn(&mut self, place: usize, cpu: u8) -> Result<(), AllocError>
         requires { place < length (kept self.old) }
-        ensures turned { OnOk result (IsTurned (is_patient self.new) (kept self.new) place cpu) }
+        ensures turned { OnOk result (IsTurned (manner self.new) (kept self.new) place cpu) }
         ensures made { OnOk result ((turns : List (ℕ × ℕ)) → has_made self.old turns
             → has_made self.new (turns ++ (place, cpu) ∷ [])) }
         ensures refused { OnErr result (was_refused self.new) }
         ensures extends { Extends (kept self.old) (kept self.new) }
         ensures width { width self.new ≡ width self.old }
-        ensures same { is_patient self.new ≡ is_patient self.old };
+        ensures same { manner self.new ≡ manner self.old };
 
     /// Has a crew make turns ahead, from this kept machine on, where that is worth it. It keeps
     /// nothing: only `turn` does.
@@ -95,20 +95,20 @@ pub trait Frontier {
         ensures kept { kept self.new ≡ kept self.old }
         ensures made { (turns : List (ℕ × ℕ)) → has_made self.old turns → has_made self.new turns }
         ensures width { width self.new ≡ width self.old }
-        ensures same { is_patient self.new ≡ is_patient self.old };
+        ensures same { manner self.new ≡ manner self.old };
 }
 
 /// Makes the turn of each CPU from a kept machine.
 fn expand<F: Frontier>(frontier: &mut F, place: usize) -> Result<(), AllocError>
     requires { place < length (F.kept frontier.old) }
     ensures expanded { OnOk result
-        (IsExpanded (F.is_patient frontier.new) (F.kept frontier.new) place) }
+        (IsExpanded (F.manner frontier.new) (F.kept frontier.new) place) }
     ensures made { OnOk result ((turns : List (ℕ × ℕ)) → F.has_made frontier.old turns
         → F.has_made frontier.new (turns ++ row_of place (F.width frontier.old))) }
     ensures refused { OnErr result (F.was_refused frontier.new) }
     ensures extends { Extends (F.kept frontier.old) (F.kept frontier.new) }
     ensures width { F.width frontier.new ≡ F.width frontier.old }
-    ensures same { F.is_patient frontier.new ≡ F.is_patient frontier.old }
+    ensures same { F.manner frontier.new ≡ F.manner frontier.old }
 {
     for cpu in 0..frontier.cpus() {
         frontier.turn(place, cpu)?;
@@ -121,13 +121,13 @@ fn advance<F: Frontier, C: Crew>(frontier: &mut F, crew: &C, place: usize) -> Re
     requires can { C.can }
     requires place { place < length (F.kept frontier.old) }
     ensures expanded { OnOk result
-        (IsExpanded (F.is_patient frontier.new) (F.kept frontier.new) place) }
+        (IsExpanded (F.manner frontier.new) (F.kept frontier.new) place) }
     ensures made { OnOk result ((turns : List (ℕ × ℕ)) → F.has_made frontier.old turns
         → F.has_made frontier.new (turns ++ row_of place (F.width frontier.old))) }
     ensures refused { OnErr result (F.was_refused frontier.new) }
     ensures extends { Extends (F.kept frontier.old) (F.kept frontier.new) }
     ensures width { F.width frontier.new ≡ F.width frontier.old }
-    ensures same { F.is_patient frontier.new ≡ F.is_patient frontier.old }
+    ensures same { F.manner frontier.new ≡ F.manner frontier.old }
 {
     frontier.prepare(crew, place);
     expand(frontier, place)?;
@@ -135,7 +135,7 @@ fn advance<F: Frontier, C: Crew>(frontier: &mut F, crew: &C, place: usize) -> Re
 }
 
 /// How far a search came that was refused memory, where n are kept.
-fn cut_short(count: usize, limit: usize) -> Extent
+pub(crate) fn cut_short(count: usize, limit: usize) -> Extent
     ensures part { result ≡ Extent.Whole → ⊥ }
     ensures met { result ≡ Extent.Limited → limit < count }
     ensures short { result ≡ Extent.Refused → count ≤ limit }
@@ -158,19 +158,20 @@ pub fn explore<F: Frontier, C: Crew, O: Observer>(
 ) -> Extent
     requires { C.can }
     ensures whole { result ≡ Extent.Whole
-        → IsWhole (F.is_patient frontier.new) (F.kept frontier.new) }
+        → IsWhole (F.manner frontier.new) (F.kept frontier.new) }
     ensures covers { result ≡ Extent.Whole
-        → CoversAll (F.is_patient frontier.new) (F.kept frontier.new) }
+        → CoversAll (F.manner frontier.new) (F.kept frontier.new) }
     ensures made { result ≡ Extent.Whole → F.has_made frontier.old []
         → F.has_made frontier.new (rows_of (F.width frontier.new) (length (F.kept frontier.new))) }
     ensures met { result ≡ Extent.Limited → limit < length (F.kept frontier.new) }
     ensures refused { result ≡ Extent.Refused → F.was_refused frontier.new }
     ensures short { result ≡ Extent.Refused → length (F.kept frontier.new) ≤ limit }
     ensures extends { Extends (F.kept frontier.old) (F.kept frontier.new) }
-    ensures same { F.is_patient frontier.new ≡ F.is_patient frontier.old }
+    ensures same { F.manner frontier.new ≡ F.manner frontier.old }
 {
     bpf_alike::laws::alike_sets_cover();
     bpf_alike::laws::alike_patient_sets_cover();
+    bpf_equal::laws::permuted_sets_cover();
     let mut next = 0;
     while next < frontier.count() {
         if frontier.count() > limit {

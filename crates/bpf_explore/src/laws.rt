@@ -4,7 +4,7 @@
 ghost use Rattle.bpf_explore.specs.Laws.{CoverTellsAll};
 ghost use Rattle.bpf_explore.specs.Patient.{PatientTellAll};
 
-/// Where kept machines cover all schedules and are printed, no outcome is left out.
+/// Where kept machines show each end and are printed, no outcome is left out.
 pub fn cover_tells_all()
     ensures { CoverTellsAll }
 {}

@@ -10,6 +10,7 @@ ghost use Rattle.bpf_explore.specs.Stores.{IsOfShape};
 use crate::crew::Crew;
 use crate::explorer::Explorer;
 use crate::patient::PatientExplorer;
+use crate::permuted::PermutedExplorer;
 use bpf_alike::Merged;
 use bpf_cpu::Setup;
 use bpf_jobs::make_machine;
@@ -48,6 +49,21 @@ pub fn search_of(alloc: Global, setup: Setup, merged: Merged) -> Result<Explorer
 {
     let (shape, machine) = first_machine(alloc, setup)?;
     Explorer::new(alloc, shape, machine, merged)
+}
+
+/// A search that begins with the machine of jobs, in which equal jobs count as one where states are
+/// merged. Out of memory is the only refusal.
+pub(crate) fn permuted_search_of(
+    alloc: Global,
+    setup: Setup,
+    merged: Merged,
+) -> Result<PermutedExplorer, AllocError>
+    requires { IsRunnable setup }
+    ensures { IfOk result (λ p. BeginsAt p.found.kept (first_of setup)) }
+{
+    let explorer = search_of(alloc, setup, merged)?;
+    let permuted = PermutedExplorer::new(alloc, explorer, merged)?;
+    Ok(permuted)
 }
 
 /// A patient search that begins with the machine of jobs, and has made no turn. Out of memory is the

@@ -8,7 +8,7 @@ ghost use Rattle.bpf_explore.specs.Private.Kept.{part_at, ArePartsApart};
 
 use crate::room::bytes_of;
 use crate::slots::{note, room_for, slot_of};
-use bpf_machine::{KeptJob, Machine};
+use bpf_machine::{KeptJob, Machine, bytes_of_jobs};
 use std::alloc::{AllocError, Global};
 use std::marker::Model;
 
@@ -51,10 +51,12 @@ impl Parts {
         &self.kept
     }
 
-    /// How many bytes of memory they take, but for contexts.
+    /// How many bytes of memory they take, but for contexts and packets.
     pub fn bytes(&self) -> usize {
         let slots = bytes_of(&self.slots, size_of::<u32>());
-        bytes_of(&self.kept, size_of::<KeptJob>()).saturating_add(slots)
+        bytes_of(&self.kept, size_of::<KeptJob>())
+            .saturating_add(bytes_of_jobs(&self.kept))
+            .saturating_add(slots)
     }
 
     /// No job is kept twice.

@@ -57,7 +57,7 @@ impl PatientExplorer {
     ghost use Rattle.std.specs.Prelude.{◌≡◌, ◌<◌, ◌≤◌, ◌++◌, ◌∷◌, List, ℕ, true, false, [], IfOk, OnOk, Some, None, length, slice_get};
     ghost use Rattle.bpf_machine.specs.Machine.{Shows};
     ghost use Rattle.bpf_machine.specs.Schedule.{World, RunsSchedule, unrolled};
-    ghost use Rattle.bpf_explore.specs.Search.{Extends, IsIdleAt, IsTurned, rows_of};
+    ghost use Rattle.bpf_explore.specs.Search.{Richly, Extends, IsIdleAt, IsTurned, rows_of};
     ghost use Rattle.bpf_explore.specs.Stores.{IsOfShape};
     ghost use Rattle.bpf_explore.specs.Album.{ShowsFirst, AreApart, AreLedFreely, LeadsFreely, HaveEndedAt, NoneRanOutAt, HaveBudgets, HaveWholeBudgets};
     ghost use Rattle.bpf_explore.specs.Private.Edges.{AreTurns};
@@ -214,7 +214,7 @@ impl PatientExplorer {
     /// where they led.
     fn make(&mut self, place: usize, cpu: u8) -> Result<(), AllocError>
         requires { place < length self.old.kept }
-        ensures turned { OnOk result (IsTurned true self.new.kept place cpu) }
+        ensures turned { OnOk result (IsTurned Richly self.new.kept place cpu) }
         ensures made { OnOk result ((turns : List (ℕ × ℕ)) → self.old.made ≡ turns
             → self.new.made ≡ turns ++ (place, cpu) ∷ []) }
         ensures extends { Extends self.old.kept self.new.kept }
@@ -243,7 +243,7 @@ impl PatientExplorer {
     fn stay(&mut self, place: usize, cpu: u8) -> Result<(), AllocError>
         requires there { place < length self.old.kept }
         requires idle { IsIdleAt self.old.kept place cpu }
-        ensures turned { OnOk result (IsTurned true self.new.kept place cpu) }
+        ensures turned { OnOk result (IsTurned Richly self.new.kept place cpu) }
         ensures made { OnOk result ((turns : List (ℕ × ℕ)) → self.old.made ≡ turns
             → self.new.made ≡ turns ++ (place, cpu) ∷ []) }
         ensures extends { Extends self.old.kept self.new.kept }
@@ -262,7 +262,7 @@ impl PatientExplorer {
     /// Makes a turn that no scout has noted.
     fn make_unnoted(&mut self, place: usize, cpu: u8) -> Result<(), AllocError>
         requires { place < length self.old.kept }
-        ensures turned { OnOk result (IsTurned true self.new.kept place cpu) }
+        ensures turned { OnOk result (IsTurned Richly self.new.kept place cpu) }
         ensures made { OnOk result ((turns : List (ℕ × ℕ)) → self.old.made ≡ turns
             → self.new.made ≡ turns ++ (place, cpu) ∷ []) }
         ensures extends { Extends self.old.kept self.new.kept }
@@ -299,11 +299,12 @@ impl PatientExplorer {
 }
 
 impl Frontier for PatientExplorer {
-    ghost use Rattle.std.specs.Prelude.{◌≡◌, true};
+    ghost use Rattle.std.specs.Prelude.{◌≡◌};
+    ghost use Rattle.bpf_explore.specs.Search.{Richly};
 
     ghost kept = { λ e. e.kept };
 
-    ghost is_patient = { λ e. true };
+    ghost manner = { λ e. Richly };
 
     ghost width = { λ e. e.cpus };
 

@@ -13,7 +13,7 @@ use Rattle.bpf_races.proofs.RaceFree.{free_parts, is_race_free_so}
 use Rattle.bpf_x86.specs.Laws.{FirstsFit, TurningRaceFreeIsSame}
 use Rattle.bpf_races.specs.Parts.{IsLeftOut}
 use Rattle.bpf_explore.specs.Album.{BeginsAt, AreApart, AreLed}
-use Rattle.bpf_explore.specs.Search.{CameTo, is_whole, is_refused}
+use Rattle.bpf_explore.specs.Search.{CameTo, Alike, Richly, is_whole, is_refused}
 use Rattle.bpf_explore.specs.declared.frontier.Extent.{Extent}
 use Rattle.bpf_explore.specs.declared.frontier.Extent.TheVariants.{Whole}
 use Rattle.bpf_explore.proofs.ExploreLaws.{whole_of, limited_of, not_whole}
@@ -41,7 +41,7 @@ module _ (kept : List MachineState) (w : World) (sync : List Part) (races : List
       cc
   cut_short false h is = refl
 
-  pub are_races : AlikeRacesAreKept → AlikeSetsHaveTurns → TurningRaceFreeIsSame → CameTo false kept extent limit → AreLed kept → AreApart
+  pub are_races : AlikeRacesAreKept → AlikeSetsHaveTurns → TurningRaceFreeIsSame → CameTo Alike kept extent limit → AreLed kept → AreApart
       kept → told ≡ true → (all ≡ false → (whole ≡ false) ⊎ (told ≡ false))
       → AreRaces false w sync races all refused limit
   are_races law turns x86 came led apart sure split = record {
@@ -68,7 +68,7 @@ module _ (kept : List MachineState) (w : World) (sync : List Part) (races : List
           (law kept w z schedule (came.whole (whole_then (joined is).0)) begins.0 (0, begins.1.0, begins.1.1, begins.1.2) runs pair.one
           pair.other b race)
 
-  pub are_races_patiently : AlikePatientRacesAreKept → AlikePatientSetsHaveTurns → TurningRaceFreeIsSame → CameTo true kept extent limit →
+  pub are_races_patiently : AlikePatientRacesAreKept → AlikePatientSetsHaveTurns → TurningRaceFreeIsSame → CameTo Richly kept extent limit →
       AreRaces true w sync races all refused limit
   are_races_patiently law turns x86 came = record {
     same = λ free. (let whole_it = (free_parts sync races all free).0 in

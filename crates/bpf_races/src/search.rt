@@ -5,7 +5,7 @@ ghost use Rattle.bpf_cpu.specs.Setup.{IsRunnable};
 ghost use Rattle.bpf_machine.specs.Schedule.{World};
 ghost use Rattle.bpf_jobs.specs.Printed.{first_of};
 ghost use Rattle.bpf_explore.specs.Album.{BeginsAt};
-ghost use Rattle.bpf_explore.specs.Search.{CameTo};
+ghost use Rattle.bpf_explore.specs.Search.{CameTo, Alike, Richly};
 ghost use Rattle.bpf_x86.specs.Laws.{FirstsFit};
 ghost use Rattle.bpf_races.specs.Races.{AreRaces};
 
@@ -73,7 +73,7 @@ fn conclude(
 ) -> Result<Races, AllocError>
     ensures { IfOk result (λ r. (w : World) (limit : ℕ) → FirstsFit w.programs
         → BeginsAt explorer.old.kept w
-        → CameTo false explorer.old.kept extent limit
+        → CameTo Alike explorer.old.kept extent limit
         → AreRaces false w sync.now r.list.items r.all r.refused limit) }
 {
     bpf_alike::laws::alike_races_are_kept();
@@ -100,7 +100,7 @@ fn conclude_patiently(
 ) -> Result<Races, AllocError>
     ensures { IfOk result (λ r. (w : World) (limit : ℕ) → FirstsFit w.programs
         → BeginsAt explorer.old.kept w
-        → CameTo true explorer.old.kept extent limit
+        → CameTo Richly explorer.old.kept extent limit
         → AreRaces true w sync.now r.list.items r.all r.refused limit) }
 {
     bpf_alike::laws::alike_patient_races_are_kept();

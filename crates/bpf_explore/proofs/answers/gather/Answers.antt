@@ -10,7 +10,7 @@ use Rattle.bpf_explore.proofs.answers.gather.Goals as goal
 pub loop-place-init : goal.loop-place-init
 loop-place-init c =
     let names = names_of c.args.names.now in
-    let kept = c.args.explorer.now.kept in
+    let kept = c.args.spread.now.kept in
     (refl, subst (λ (answers : List Found). Gathered kept names c.args.maps 0 answers) (sym c.new-answers.ensures.items) (none_gathered kept names c.args.maps))
 
 pub tell_at-requires : goal.tell_at-requires
@@ -44,5 +44,5 @@ returns-clause-outcomes c w first = record { each = c.loop-place.invariant.1.end
 
 pub returns-clause-answered : goal.returns-clause-answered
 returns-clause-answered c =
-    all_gathered c.args.explorer.now.kept (names_of c.args.names.now) c.args.maps c.loop-place.place c.loop-place.answers.items
+    all_gathered c.args.spread.now.kept (names_of c.args.names.now) c.args.maps c.loop-place.place c.loop-place.answers.items
     (omega arith) c.loop-place.invariant.1

@@ -7,7 +7,7 @@ use Rattle.bpf_explore.proofs.answers.tell_at.Goals as goal
 pub returns-then-not-has_ended-clause-gathered : goal.returns-then-not-has_ended-clause-gathered
 returns-then-not-has_ended-clause-gathered c =
     let names = names_of c.args.names.now in
-    let kept = c.args.explorer.now.kept in
+    let kept = c.args.spread.now.kept in
     let answers = c.args.answers.now.items in
     more_gathered kept names c.args.maps c.args.place answers answers c.requires.gathered c.requires.gathered.sorted (none_lost answers)
     c.requires.gathered.ends
@@ -25,7 +25,7 @@ tell_ended-requires c = record {
 pub returns-clause-gathered : goal.returns-clause-gathered
 returns-clause-gathered c =
     let names = names_of c.args.names.now in
-    let kept = c.args.explorer.now.kept in
+    let kept = c.args.spread.now.kept in
     let e = c.in_ok-tell_ended.ensures in
     more_gathered kept names c.args.maps c.args.place c.args.answers.now.items c.tell_ended.new.answers.items c.requires.gathered e.sorted
     e.keeps e.ends e.answered

@@ -17,7 +17,7 @@ pub returns-in-Ok-clause-answered : goal.returns-in-Ok-clause-answered
 returns-in-Ok-clause-answered c =
     let names = names_of c.args.names.now in
     let maps = c.args.maps in
-    let kept = c.args.explorer.now.kept in
+    let kept = c.args.spread.now.kept in
     let m = c.restore.new.self.machine in
     let text = string_bytes c.in_ok-text.field-0.text in
     let stopped = c.in_ok-text.field-0.stopped in
@@ -47,7 +47,7 @@ pub returns-in_ok-put_answer-in-Err-clause-ends : goal.returns-in_ok-put_answer-
 returns-in_ok-put_answer-in-Err-clause-ends c w first =
     let names = names_of c.args.names.now in
     let maps = c.args.maps in
-    let kept = c.args.explorer.now.kept in
+    let kept = c.args.spread.now.kept in
     let m = c.restore.new.self.machine in
     let text = string_bytes c.in_ok-text.field-0.text in
     let stopped = c.in_ok-text.field-0.stopped in
@@ -64,7 +64,7 @@ pub returns-in_ok-put_answer-in-Err-clause-answered : goal.returns-in_ok-put_ans
 returns-in_ok-put_answer-in-Err-clause-answered c =
     let names = names_of c.args.names.now in
     let maps = c.args.maps in
-    let kept = c.args.explorer.now.kept in
+    let kept = c.args.spread.now.kept in
     let m = c.restore.new.self.machine in
     let text = string_bytes c.in_ok-text.field-0.text in
     let stopped = c.in_ok-text.field-0.stopped in

@@ -1,4 +1,4 @@
-use Rattle.std.proofs.Common.{ℕ, true}
+use Rattle.std.proofs.Common.{ℕ}
 use Rattle.std.proofs.lemmas.Result.{IfOk-weaker}
 use Rattle.bpf_names.specs.Names.{names_of}
 use Rattle.bpf_machine.specs.Schedule.{World}
@@ -6,7 +6,7 @@ use Rattle.bpf_jobs.specs.Printed.{first_of}
 use Rattle.bpf_explore.specs.declared.exploring.ExploredPatiently.{ExploredPatiently}
 use Rattle.bpf_explore.specs.Album.{BeginsAt}
 use Rattle.bpf_explore.specs.Patient.{IsSearchedPatiently}
-use Rattle.bpf_explore.specs.Search.{CameTo}
+use Rattle.bpf_explore.specs.Search.{CameTo, Richly}
 use Rattle.bpf_explore.proofs.ExploreLaws.{still_begins, starts_fresh}
 use Rattle.bpf_explore.proofs.exploring.search_patiently.Goals as goal
 
@@ -28,14 +28,14 @@ returns g c =
     let kept = c.explore-extent.new.frontier.kept in
     let extent = c.explore-extent.result in
     let begins : BeginsAt kept w = still_begins c.in_ok-explorer.explorer.kept kept w c.in_ok-explorer.ensures.begins c.explore-extent.ensures.extends in
-    let came : CameTo true kept extent limit = record {
+    let came : CameTo Richly kept extent limit = record {
       whole = c.explore-extent.ensures.whole;
       covers = c.explore-extent.ensures.covers;
       met = c.explore-extent.ensures.met;
       short = c.explore-extent.ensures.short;
     } in
     IfOk-weaker c.conclude_patiently.result
-    (λ (e : ExploredPatiently). (v : World) (n : ℕ) → BeginsAt kept v → CameTo true kept extent n → IsSearchedPatiently v names maps
+    (λ (e : ExploredPatiently). (v : World) (n : ℕ) → BeginsAt kept v → CameTo Richly kept extent n → IsSearchedPatiently v names maps
     e.answers.items e.all e.refused n e.states e.hung.items e.budgets)
     (λ (e : ExploredPatiently). IsSearchedPatiently w names maps e.answers.items e.all e.refused limit e.states e.hung.items e.budgets)
     (λ e found. found w limit begins came) c.conclude_patiently.ensures

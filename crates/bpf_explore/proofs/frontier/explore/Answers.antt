@@ -7,7 +7,7 @@ use Rattle.bpf_explore.proofs.frontier.explore.Goals as goal
 pub loop-next-init : goal.loop-next-init
 loop-next-init g c =
     let frontier = c.args.frontier.now in record {
-      far = none_expanded (g.F.Frontier.is_patient frontier) (g.F.Frontier.kept frontier);
+      far = none_expanded (g.F.Frontier.manner frontier) (g.F.Frontier.kept frontier);
       made = λ is. is;
       width = refl;
     }
@@ -15,14 +15,14 @@ loop-next-init g c =
 pub loop-next-preserved : goal.loop-next-preserved
 loop-next-preserved g c =
     let kept = g.F.Frontier.kept in
-    let is_patient = g.F.Frontier.is_patient in
+    let manner = g.F.Frontier.manner in
     let has_made = g.F.Frontier.has_made in
     let width = g.F.Frontier.width in
     let inv = c.loop-next.invariant in
     let first = c.args.frontier.now in
     let next = c.loop-next.next in
     let new = c.advance.new.frontier in record {
-      far = next_expanded (is_patient first) (is_patient c.loop-next.frontier) (is_patient new) (kept first) (kept c.loop-next.frontier)
+      far = next_expanded (manner first) (manner c.loop-next.frontier) (manner new) (kept first) (kept c.loop-next.frontier)
           (kept new) next inv.far (omega arith) c.advance.ensures.extends c.advance.ensures.same c.in-Ok.ensures.expanded;
       made = λ is. subst (has_made new) (one_more_row (width first) next)
           (subst (λ (n : ℕ). has_made new (rows_of (width first) next ++ row_of next n)) inv.width
@@ -33,16 +33,17 @@ loop-next-preserved g c =
 pub returns-clause-whole : goal.returns-clause-whole
 returns-clause-whole g c all =
     let kept = g.F.Frontier.kept in
-    let is_patient = g.F.Frontier.is_patient in
-    all_expanded (is_patient c.args.frontier.now) (is_patient c.loop-next.frontier) (kept c.args.frontier.now) (kept c.loop-next.frontier)
+    let manner = g.F.Frontier.manner in
+    all_expanded (manner c.args.frontier.now) (manner c.loop-next.frontier) (kept c.args.frontier.now) (kept c.loop-next.frontier)
     c.loop-next.next (omega arith) c.loop-next.invariant.far
 
 pub returns-clause-covers : goal.returns-clause-covers
 returns-clause-covers g c all =
     let kept = g.F.Frontier.kept in
-    let is_patient = g.F.Frontier.is_patient in
-    covers_all c.alike_sets_cover.ensures c.alike_patient_sets_cover.ensures (is_patient c.loop-next.frontier) (kept c.loop-next.frontier)
-    (all_expanded (is_patient c.args.frontier.now) (is_patient c.loop-next.frontier) (kept c.args.frontier.now) (kept c.loop-next.frontier)
+    let manner = g.F.Frontier.manner in
+    covers_all c.alike_sets_cover.ensures c.alike_patient_sets_cover.ensures c.permuted_sets_cover.ensures (manner c.loop-next.frontier)
+    (kept c.loop-next.frontier)
+    (all_expanded (manner c.args.frontier.now) (manner c.loop-next.frontier) (kept c.args.frontier.now) (kept c.loop-next.frontier)
     c.loop-next.next (omega arith) c.loop-next.invariant.far)
 
 pub returns-clause-made : goal.returns-clause-made

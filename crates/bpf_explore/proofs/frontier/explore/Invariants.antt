@@ -6,11 +6,11 @@ use Rattle.bpf_explore.proofs.frontier.explore.Given as goal
 abbrev pub invariant-loop-next : goal.invariant-loop-next
 invariant-loop-next g l =
     let kept = g.F.Frontier.kept in
-    let is_patient = g.F.Frontier.is_patient in
+    let manner = g.F.Frontier.manner in
     let has_made = g.F.Frontier.has_made in
     let width = g.F.Frontier.width in
     record {
-      far : ExpandedSoFar (is_patient l.fn.frontier) (kept l.fn.frontier) l.next (is_patient l.frontier) (kept l.frontier);
+      far : ExpandedSoFar (manner l.fn.frontier) (kept l.fn.frontier) l.next (manner l.frontier) (kept l.frontier);
       made : has_made l.fn.frontier [] → has_made l.frontier (rows_of (width l.fn.frontier) l.next);
       width : width l.frontier ≡ width l.fn.frontier;
     }

@@ -1,9 +1,9 @@
-use Rattle.std.proofs.Common.{true, ◌≡◌, ◌∙◌, ◌<◌, ◌/◌, ◌%◌, ℕ, List, length, map, refl, sym, ap, subst, arith}
+use Rattle.std.proofs.Common.{◌≡◌, ◌∙◌, ◌<◌, ◌/◌, ◌%◌, ℕ, List, length, map, refl, sym, ap, subst, arith}
 use Rattle.std.specs.Prelude.{vec_len}
 use Rattle.bpf_explore.specs.declared.turns.Arrival.{Arrival}
 use Rattle.bpf_explore.specs.declared.turns.Edge.{Edge}
 use Rattle.bpf_explore.specs.Album.{PatientState}
-use Rattle.bpf_explore.specs.Search.{IsIdleAt, IsTurned}
+use Rattle.bpf_explore.specs.Search.{Richly, IsIdleAt, IsTurned}
 use Rattle.bpf_explore.specs.Private.Edges.{edges_of, turn_of}
 use Rattle.bpf_explore.proofs.EdgeLaws.{idle_edge, one_more_placed}
 use Rattle.bpf_explore.proofs.RowLaws.{one_more_made_next}
@@ -44,8 +44,8 @@ invariant_of-self-2 c =
 
 pub returns-clause-turned : goal.returns-clause-turned
 returns-clause-turned c =
-    let idle = idle_turned true c.args.self.now.kept c.args.place c.args.cpu c.requires.idle in
-    subst (λ (a : PatientState). IsTurned true a.kept c.args.place c.args.cpu) (sym c.self.view_is) idle
+    let idle = idle_turned Richly c.args.self.now.kept c.args.place c.args.cpu c.requires.idle in
+    subst (λ (a : PatientState). IsTurned Richly a.kept c.args.place c.args.cpu) (sym c.self.view_is) idle
 
 pub returns-clause-made : goal.returns-clause-made
 returns-clause-made c turns made =
