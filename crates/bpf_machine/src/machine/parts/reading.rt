@@ -1,5 +1,5 @@
-//! Kept jobs from bytes. Each is read into the one that is in its place, so that a state that
-//! is in hand there is written over: to make one costs more than to read it.
+//! Kept jobs from bytes, each into the one that is in its place. A state in hand is read
+//! through a whole state of its CPU, for which memory is taken.
 
 ghost use Rattle.std.specs.Prelude.{◌≡◌, ◌≤◌, true, List, ◌∷◌, ◌++◌, ℕ, All, OnOk, IfOk, IfSome, IfNone, length};
 ghost use Rattle.bpf_cpu.specs.declared.cpu.Cpu.{Cpu};
@@ -189,7 +189,7 @@ impl KeptJob {
 
 /// Jobs become those that these which waited are, whose saved forms the bytes begin with, one
 /// after the other; what comes after them. `None` where none of their stages have such forms, and
-/// then they may be any. No memory is taken where each that is to be in hand is so already.
+/// then they may be any. `AllocError` where memory for one ran out.
 pub fn read_jobs<'a>(
     alloc: Global,
     first: &[KeptJob],
