@@ -71,7 +71,7 @@ module _ (equal : AlikeIsAnEquivalence) (steps : StepsAreAlike) (w : World) (job
 
 -- a race in a world that is covered is one in what a kept machine shows
 module _ (equal : AlikeIsAnEquivalence) (steps : StepsAreAlike) (begins : OneInstructionBegins) (kept : List MachineState) where
-  covered_race : (z : World) (one other : Stand) (b : ℕ) → IsCoveredBy (IsShownAlike kept) z → IsRace z one other b → IsRaceKept kept z one other b
+  pub covered_race : (z : World) (one other : Stand) (b : ℕ) → IsCoveredBy (IsShownAlike kept) z → IsRace z one other b → IsRaceKept kept z one other b
   covered_race z one other b (v, headways, (jobs, all, shown), same, ahead) race =
       let held = race_is_kept begins z v headways same ahead one other b race in
       (with_jobs v jobs, shown, held.0, race_alike equal steps v jobs all one other b held.1)

@@ -22,7 +22,7 @@ use Rattle.bpf_alike.proofs.AlikeAhead.{dead_ended, dead_once, leads_alike}
 use Rattle.bpf_alike.proofs.AlikeJobs.{all_same as alike_same}
 use Rattle.bpf_alike.proofs.AlikeRicher.{dead_and_rich}
 use Rattle.bpf_equal.specs.Covers.{ButForPlaces, IsClosedPermuted, IsClosedPermutedRichly, KeepsEnds, KeptEndsAreShown}
-use Rattle.bpf_equal.specs.Covers.{PermutedPatientSetsCover, PermutedSetsCover}
+use Rattle.bpf_equal.specs.Covers.{PermutedPatientSetsCover, PermutedSetsCover, PermutedSetsHaveTurns}
 use Rattle.bpf_equal.specs.Peers.{Peer}
 use Rattle.bpf_equal.specs.Worlds.{ArePermuted, ArePermutedIn}
 use Rattle.bpf_equal.proofs.Chains.{again, back, carried, dead_places, ended_next, ended_there, places_richly, turns_back}
@@ -47,6 +47,14 @@ module _ (peers : List Peer) where
 
   pub ended_but_for_places : (P : World → Type 0) (z : World) → Covered P z → HaveEnded z.jobs → Places P z
   ended_but_for_places P z (u, (n, chain), covered) ended = (u, (n, chain), ended_has P u covered (ended_there peers n z u chain ended))
+
+  -- a turn comes of each CPU
+  pub next_turn : (P : World → Type 0) → LeadsOn P (Places P) → (w : World) (c : ℕ) → Covered P w → (answer : Turn) × (y : World) × TakesTurn w c answer y
+  next_turn P leads w c (u, (n, chain), covered) =
+      let b = turns_back peers n w u chain in
+      let r = comes P (Places P) (in_place P) leads u (b.0 c) covered in
+      let t = b.1 c r.0 r.1 r.2 in
+      (t.0, t.1, t.2)
 
   module _ (law : WritesAreDetermined) (begins : OneInstructionBegins) (replies : CallsHaveOneReply) where
     -- a turn leads to what is covered by what turns lead to
@@ -146,12 +154,26 @@ module _ (equal : AlikeIsAnEquivalence) (steps : StepsAreAlike) (one : OneStateI
   pub ends_shown : (z : World) → ButForPlaces peers Alike z → HaveEnded z.jobs → ButForPlaces peers Shown z
   ends_shown z (v, (n, chain), shown) ended = (v, (n, chain), dead_ended equal Shown v shown (ended_there peers n z v chain ended))
 
+-- what a schedule leads to is covered
+module _ (equal : AlikeIsAnEquivalence) (steps : StepsAreAlike) (one : OneStateIsAlike) (law : WritesAreDetermined) (begins : OneInstructionBegins)
+    (replies : CallsHaveOneReply) (peers : List Peer) (kept : List MachineState) (closed : IsClosedPermuted peers kept) where
+  pub covered_permuted : (first z : World) (schedule : List ℕ) → IsFresh first → IsShown kept first → RunsSchedule first schedule z
+      → Covered peers (IsShownAlike kept) z
+  covered_permuted first z schedule fresh shown runs =
+      covered_but_for_places peers law begins replies (IsShownAlike kept) (permuted_leads equal steps one peers kept closed) first z schedule fresh
+      (first.jobs, alike_same equal first.programs first.jobs, shown) runs
+
 pub permuted_sets_cover : AlikeIsAnEquivalence → StepsAreAlike → OneStateIsAlike → WritesAreDetermined → OneInstructionBegins → CallsHaveOneReply
     → PermutedSetsCover
 permuted_sets_cover equal steps one law begins replies peers kept first z schedule closed fresh shown runs =
-    let covered = covered_but_for_places peers law begins replies (IsShownAlike kept) (permuted_leads equal steps one peers kept closed) first z
-    schedule fresh (first.jobs, alike_same equal first.programs first.jobs, shown) runs in
+    let covered = covered_permuted equal steps one law begins replies peers kept closed first z schedule fresh shown runs in
     (covered, λ ended. ends_shown equal steps one peers kept z (ended_but_for_places peers (IsShownAlike kept) z covered ended) ended)
+
+pub permuted_sets_have_turns : AlikeIsAnEquivalence → StepsAreAlike → OneStateIsAlike → WritesAreDetermined → OneInstructionBegins
+    → CallsHaveOneReply → PermutedSetsHaveTurns
+permuted_sets_have_turns equal steps one law begins replies peers kept first z schedule c closed fresh shown runs =
+    next_turn peers (IsShownAlike kept) (permuted_leads equal steps one peers kept closed) z c
+    (covered_permuted equal steps one law begins replies peers kept closed first z schedule fresh shown runs)
 
 pub permuted_patient_sets_cover : AlikeIsAnEquivalence → StepsAreAlike → OneStateIsAlike → WritesAreDetermined → OneInstructionBegins
     → CallsHaveOneReply → PermutedPatientSetsCover

@@ -61,6 +61,25 @@ module _ (c d : ℕ) where
   pub moved : (x : ℕ) → (E x ≡ x) ⊎ ((x ≡ c) ⊎ (x ≡ d))
   moved x = by_cases (λ x y. (y ≡ x) ⊎ ((x ≡ c) ⊎ (x ≡ d))) (inr (inl refl)) (inr (inr refl)) (λ y ne apart. inl refl) x
 
+-- the two are exchanged the other way round too
+pub either_way : (c d x : ℕ) → exchanged c d x ≡ exchanged d c x
+either_way c d x = elim (equal_or_not x c) [
+  | inl is_c ↦ elim (equal_or_not x d) [
+    | inl is_d ↦ first_goes c d x is_c ∙ (sym is_d ∙ is_c) ∙ sym (first_goes d c x is_d)
+    | inr not_d ↦ first_goes c d x is_c ∙ sym (second_goes d c x not_d is_c)
+  ]
+  | inr not_c ↦ elim (equal_or_not x d) [
+    | inl is_d ↦ second_goes c d x not_c is_d ∙ sym (first_goes d c x is_d)
+    | inr not_d ↦ others_stay c d x not_c not_d ∙ sym (others_stay d c x not_d not_c)
+  ]
+]
+
+pub exchanged_itself : (c x : ℕ) → exchanged c c x ≡ x
+exchanged_itself c x = elim (equal_or_not x c) [
+  | inl is ↦ first_goes c c x is ∙ sym is
+  | inr ne ↦ others_stay c c x ne ne
+]
+
 -- ---- a store in which two CPUs are equal
 module _ (s : Plain) (c d : ℕ) (equal : AreEqualIn s c d) where
   pub same_store : s ≡ store_permuted (exchange c d) s

@@ -11,6 +11,7 @@ pub mod Richer
 pub mod Chains
 pub mod Ending
 pub mod Covering
+pub mod Racing
 pub mod Peering
 pub mod Settling
 pub mod FoundLaws

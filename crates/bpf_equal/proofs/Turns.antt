@@ -46,11 +46,11 @@ module _ (h : Shape) (programs : List Loaded) (cpus : Permutation) (task new : T
   abbrev Both : Cpu → Cpu → Type 0
   Both = Follows h programs cpus task new
 
-  same_pc : (state other : Cpu) → Both state other → other.pc ≡ state.pc
+  pub same_pc : (state other : Cpu) → Both state other → other.pc ≡ state.pc
   same_pc state other (inl same) = ap (λ (c : Cpu). c.pc) same.1
   same_pc state other (inr one) = ap (λ (c : Cpu). c.pc) one.1
 
-  step_there : (shape : Shape) (program : Loaded) (old other last : Cpu) (events : List Event) (answer : Progress) → h ≡ shape
+  pub step_there : (shape : Shape) (program : Loaded) (old other last : Cpu) (events : List Event) (answer : Progress) → h ≡ shape
       → slice_get programs task.program ≡ Some program → Both old other → Step shape program old events answer last
       → (next : Cpu) × Step shape program other events answer next × Both last next
   step_there shape program old other last events answer same loaded (inl (cpu, one)) step =
@@ -62,7 +62,7 @@ module _ (h : Shape) (programs : List Loaded) (cpus : Permutation) (task new : T
     inr (blind, refl),
   )
 
-  history_there : (c : ℕ) (s t : Plain) (events : List Event) → StaysBelow s.shape.cpus cpus → PlainlyLegal s (map (entry c) events) t
+  pub history_there : (c : ℕ) (s t : Plain) (events : List Event) → StaysBelow s.shape.cpus cpus → PlainlyLegal s (map (entry c) events) t
       → PlainlyLegal (store_permuted cpus s) (map (entry (cpus.to c)) events) (store_permuted cpus t)
   history_there c s t [] stays same = ap (store_permuted cpus) same
   history_there c s t (e ∷ es) stays (m, allowed, rest) = (

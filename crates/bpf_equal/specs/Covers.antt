@@ -2,13 +2,14 @@
 -- for registers that are written before they are read.
 use Rattle.std.specs.Prelude.{◌≡◌, ℕ, List, Some, slice_get}
 use Rattle.bpf_cpu.specs.Task.{Task}
+use Rattle.bpf_machine.specs.declared.machine.Turn.{Turn}
 use Rattle.bpf_machine.specs.Cover.{IsShown, TurnsTo}
 use Rattle.bpf_machine.specs.Headways.{with_jobs}
 use Rattle.bpf_machine.specs.Laws.{IsFresh}
 use Rattle.bpf_machine.specs.Machine.{MachineState, Shows}
 use Rattle.bpf_machine.specs.Patient.{AsRich, NoneRanOut}
 use Rattle.bpf_machine.specs.Rounds.{HaveEnded}
-use Rattle.bpf_machine.specs.Schedule.{RunsSchedule, World}
+use Rattle.bpf_machine.specs.Schedule.{RunsSchedule, TakesTurn, World}
 use Rattle.bpf_alike.specs.Covers.{IsCoveredAlike, IsShownAlike}
 use Rattle.bpf_alike.specs.Patient.{IsShownAlikeRichly}
 use Rattle.bpf_equal.specs.Peers.{Peer}
@@ -55,6 +56,13 @@ PermutedSetsCover =
     → RunsSchedule first schedule z
     → IsCoveredPermuted peers kept z
     × (HaveEnded z.jobs → ButForPlaces peers (IsShown kept) z)
+
+-- each CPU has its next turn there
+abbrev pub PermutedSetsHaveTurns : Type 0
+PermutedSetsHaveTurns =
+    (peers : List Peer) (kept : List MachineState) (first z : World) (schedule : List ℕ) (c : ℕ)
+    → IsClosedPermuted peers kept → IsFresh first → IsShown kept first
+    → RunsSchedule first schedule z → (answer : Turn) × (y : World) × TakesTurn z c answer y
 
 -- one that is closed richly does while no job runs out of budget
 abbrev pub PermutedPatientSetsCover : Type 0

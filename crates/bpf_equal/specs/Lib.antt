@@ -7,5 +7,6 @@ pub mod Groups
 pub mod Laws
 pub mod Equal
 pub mod Covers
+pub mod Races
 pub mod Twins
 pub mod Private

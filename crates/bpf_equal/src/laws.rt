@@ -2,9 +2,10 @@
 //! jobs, as promises to the crates above.
 //!
 //! These functions do nothing: their contracts are the laws, which a proof cites.
-ghost use Rattle.bpf_equal.specs.Covers.{KeptEndsAreShown, PermutedPatientSetsCover, PermutedSetsCover};
+ghost use Rattle.bpf_equal.specs.Covers.{KeptEndsAreShown, PermutedPatientSetsCover, PermutedSetsCover, PermutedSetsHaveTurns};
 ghost use Rattle.bpf_equal.specs.Equal.{EqualCpusAreExchanged, OutcomesAreExchanged};
 ghost use Rattle.bpf_equal.specs.Laws.{EventsArePermuted, MovesReachEnds, PartnersEndAlike, PermutedEndsAreOne, PermutedIsAnEquivalence, SchedulesArePermuted, SoundStoresStaySound, StepsAreMarked, TurnsArePermuted};
+ghost use Rattle.bpf_equal.specs.Races.{PermutedRacesAreKept, RacesAreExchanged};
 
 /// A program that asks for no marks makes the same steps with others.
 pub fn steps_are_marked()
@@ -84,6 +85,35 @@ pub fn permuted_patient_sets_cover()
     bpf_loader::laws::one_instruction_begins();
     bpf_shared::laws::calls_have_one_reply();
 }
+
+/// In all that schedules lead to, each CPU has its next turn.
+pub fn permuted_sets_have_turns()
+    ensures { PermutedSetsHaveTurns }
+{
+    bpf_live::laws::alike_is_an_equivalence();
+    bpf_live::laws::steps_are_alike();
+    bpf_live::laws::one_state_is_alike();
+    bpf_mem::laws::writes_are_determined();
+    bpf_loader::laws::one_instruction_begins();
+    bpf_shared::laws::calls_have_one_reply();
+}
+
+/// Each race there is one in what such a list shows, but for places.
+pub fn permuted_races_are_kept()
+    ensures { PermutedRacesAreKept }
+{
+    bpf_live::laws::alike_is_an_equivalence();
+    bpf_live::laws::steps_are_alike();
+    bpf_live::laws::one_state_is_alike();
+    bpf_mem::laws::writes_are_determined();
+    bpf_loader::laws::one_instruction_begins();
+    bpf_shared::laws::calls_have_one_reply();
+}
+
+/// A race of a schedule comes with that of the schedule with two equal CPUs exchanged.
+pub fn races_are_exchanged()
+    ensures { RacesAreExchanged }
+{}
 
 /// Where ends are kept in all their places, each end is shown.
 pub fn kept_ends_are_shown()
