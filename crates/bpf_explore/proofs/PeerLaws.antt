@@ -31,15 +31,16 @@ use Rattle.bpf_equal.specs.Equal.{AreEqual, IsCounterpart}
 use Rattle.bpf_equal.specs.Groups.{AreEquallyFresh, AreJobsOf, ArePeers, IsJobOf}
 use Rattle.bpf_equal.specs.Peers.{AreOneGroup}
 use Rattle.bpf_equal.specs.Permutations.{Exchanges, Permutation, exchanged}
+use Rattle.bpf_equal.specs.Races.{StaysExchanged}
 use Rattle.bpf_equal.specs.Stores.{store_permuted}
 use Rattle.bpf_equal.specs.Covers.{KeepsEnds}
 use Rattle.bpf_equal.specs.Worlds.{AreOneStage, ArePartners, IsAsFar, IsBlind, IsPermuted}
 use Rattle.bpf_equal.proofs.Back.{inverse, permuted_back}
 use Rattle.bpf_equal.proofs.Turns.{schedules_are_permuted}
-use Rattle.bpf_equal.proofs.Exchanging.{exchange, exchanged_so, first_goes, moved, others_stay, second_goes, twice}
-use Rattle.bpf_explore.specs.Album.{AreLed, HaveEndedAt, IsShownAt, LeadsFrom, Stock}
+use Rattle.bpf_equal.proofs.Exchanging.{either_way, exchange, exchanged_so, first_goes, moved, others_stay, second_goes, twice}
+use Rattle.bpf_explore.specs.Album.{AreLed, BeginsAt, HaveEndedAt, IsShownAt, LeadsFrom, Stock}
 use Rattle.bpf_explore.specs.Private.Answers.{IsFirst}
-use Rattle.bpf_explore.specs.Private.Peers.{AreOfKind, CanExchange, IsExchanged, IsKeptExchanged, IsOfKind}
+use Rattle.bpf_explore.specs.Private.Peers.{AreOfKind, CanExchange, FitPeers, IsExchanged, IsKeptExchanged, IsOfKind}
 use Rattle.bpf_explore.proofs.ExchangeLaws.{exchanged_beyond, exchanged_within, none_past}
 
 -- ---- what turns leave of jobs: their CPUs, programs and budgets
@@ -118,15 +119,6 @@ pub second_back : (c d : ℕ) → exchanged c d d ≡ c
 second_back c d = elim (equal_or_not d c) [
   | inl e ↦ first_goes c d d e ∙ e
   | inr ne ↦ second_goes c d d ne refl
-]
-
-pub either_way : (c d x : ℕ) → exchanged c d x ≡ exchanged d c x
-either_way c d x = elim (equal_or_not x c) [
-  | inl e ↦ first_goes c d x e ∙ sym (ap (exchanged d c) e ∙ second_back d c)
-  | inr ne ↦ elim (equal_or_not x d) [
-    | inl f ↦ second_goes c d x ne f ∙ sym (first_goes d c x f)
-    | inr apart ↦ others_stay c d x ne apart ∙ sym (others_stay d c x apart ne)
-  ]
 ]
 
 past_none : (tasks : List Task) (i : ℕ) → slice_get tasks i ≡ None → length tasks ≤ i
@@ -517,3 +509,17 @@ module _ (stock : Stock) (kept : List MachineState) (peers : List Peer) (can : C
     keeps_ends w v shown ended (cpus, places, (j, k, one, other, group, on_cpus, on_jobs), inr p) =
         any_way w v (inverse cpus) (inverse places) j k one other shown ended group (λ x. ((on_cpus x).1, (on_cpus x).0))
         (λ x. ((on_jobs x).1, (on_jobs x).0)) (permuted_back cpus places v w p)
+
+-- ---- the first machine
+pub equal_stay : (stock : Stock) (kept : List MachineState) (peers : List Peer) → FitPeers stock kept peers → AreOfKind stock kept → AreLed kept
+    → (w : World) → BeginsAt kept w → StaysExchanged peers w
+equal_stay stock kept peers fit kinds led w begins c d (j, k, one, other, less, group, is_c, is_d) =
+    let can : CanExchange stock kept peers = record { fit = fit; fresh = (w, begins.0, begins.1) } in
+    let apart : j ≢ k = λ e. omega (arith, e, less) in
+    let stays = symmetric stock kept peers can kinds led w begins.1 j k one other group apart in (
+      exchange c d,
+      exchange j k,
+      λ x. (refl, refl),
+      subst (λ (n : ℕ). IsPermuted (exchange n d) (exchange j k) w w) is_c
+          (subst (λ (n : ℕ). IsPermuted (exchange one.cpu n) (exchange j k) w w) is_d stays),
+    )

@@ -12,6 +12,7 @@ use Rattle.bpf_machine.specs.Parts.{CanStand, chosen}
 use Rattle.bpf_machine.specs.Patient.{NoneRanOut, AreRefilled}
 use Rattle.bpf_machine.specs.Ends.{RunsFreely}
 use Rattle.bpf_alike.specs.Ends.{IsShownAlikeAt}
+use Rattle.bpf_equal.specs.declared.peers.Peer.{Peer}
 use Rattle.bpf_explore.specs.Stores.{IsOfShape, no_store}
 
 -- stores of one shape and jobs of these programs, each under its number. A machine is kept as this many
@@ -73,6 +74,11 @@ pub record PatientState : Type 0 where
   pub kept : List MachineState
   pub cpus : ℕ
   pub made : List (ℕ × ℕ)
+
+-- what is kept, and which jobs are equal
+pub record PermutedState : Type 0 where
+  pub found : AlbumState
+  pub peers : List Peer
 
 -- the first of them shows all that the machine shows
 abbrev pub ShowsFirst : List MachineState → MachineState → Type 0

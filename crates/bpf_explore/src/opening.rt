@@ -53,7 +53,7 @@ pub fn search_of(alloc: Global, setup: Setup, merged: Merged) -> Result<Explorer
 
 /// A search that begins with the machine of jobs, in which equal jobs count as one where states are
 /// merged. Out of memory is the only refusal.
-pub(crate) fn permuted_search_of(
+pub fn permuted_search_of(
     alloc: Global,
     setup: Setup,
     merged: Merged,

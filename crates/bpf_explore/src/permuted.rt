@@ -72,7 +72,8 @@ pub struct PermutedExplorer {
 }
 
 impl Model for PermutedExplorer {
-    ghost use Rattle.bpf_explore.specs.Private.Permuted.{AreTwins, PermutedState};
+    ghost use Rattle.bpf_explore.specs.Album.{PermutedState};
+    ghost use Rattle.bpf_explore.specs.Private.Permuted.{AreTwins};
 
     ghost Value = { PermutedState };
 
@@ -84,6 +85,9 @@ impl Model for PermutedExplorer {
 
 impl PermutedExplorer {
     ghost use Rattle.std.specs.Prelude.{◌≡◌, ◌<◌, IfOk, length};
+    ghost use Rattle.bpf_machine.specs.Schedule.{World};
+    ghost use Rattle.bpf_equal.specs.Races.{StaysExchanged};
+    ghost use Rattle.bpf_explore.specs.Album.{BeginsAt};
     ghost use Rattle.bpf_explore.specs.Private.Peers.{FitPeers};
 
     /// The same search, in which equal jobs are looked for where states are merged.
@@ -112,6 +116,17 @@ impl PermutedExplorer {
         ensures fit { FitPeers self.found.stock self.found.kept self.peers }
     {
         (self.explorer.into_spread(), self.twins.into_peers())
+    }
+
+    /// The search, and the equal jobs: the first machine stays as it is where two of them change places.
+    pub fn into_parts(self) -> (Explorer, Vec<Peer>)
+        ensures found { result.0 ≡ self.found }
+        ensures peers { result.1.items ≡ self.peers }
+        ensures stays { (w : World) → BeginsAt self.found.kept w → StaysExchanged self.peers w }
+    {
+        self.explorer.leads();
+        self.explorer.album().of_kind();
+        (self.explorer, self.twins.into_peers())
     }
 }
 

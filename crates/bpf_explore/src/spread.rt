@@ -23,7 +23,7 @@ pub(crate) struct Swap {
 }
 
 /// The CPU of this number, where two change places.
-fn exchange(cpu: u8, one: u8, other: u8) -> u8
+pub fn exchange(cpu: u8, one: u8, other: u8) -> u8
     ensures { result ≡ exchanged one other cpu }
 {
     if cpu == one {
@@ -36,7 +36,7 @@ fn exchange(cpu: u8, one: u8, other: u8) -> u8
 }
 
 /// Has two CPUs change places in a schedule.
-fn exchange_turns(by: &mut [(u8, u64)], one: u8, other: u8)
+pub fn exchange_turns(by: &mut [(u8, u64)], one: u8, other: u8)
     ensures { unrolled by.new ≡ map (exchanged one other) (unrolled by.old) }
 {
     for place in 0..by.len() {

@@ -163,7 +163,7 @@ pub record KeptSoFar (exact : Type 0) (kept : List MachineState) (sync : List Pa
 pub kept_begins : (exact : Type 0) (kept : List MachineState) (sync : List Part) → KeptSoFar exact kept sync 0 kept [] true
 kept_begins exact kept sync = record { same = refl; gathered = none_gathered kept sync; listed = λ is i less. absurd (omega arith); sure = λ e. refl }
 
-at_still : (kept : List MachineState) (old new : List RaceFound) (sync : List Part) (i : ℕ) → Keeps old new → AreListedAt kept old sync i →
+pub at_still : (kept : List MachineState) (old new : List RaceFound) (sync : List Part) (i : ℕ) → Keeps old new → AreListedAt kept old sync i →
     AreListedAt kept new sync i
 at_still kept old new sync i keeps listed m at w shows pair b order race = elim (listed m at w shows pair b order race) [
   | inl (one, among, pairs, maps, key) ↦ inl (one, keeps one among, pairs, maps, key)

@@ -9,5 +9,6 @@ pub mod Nexts
 pub mod GatherLaws
 pub mod WithinLaws
 pub mod RaceFree
+pub mod ExchangingLaws
 pub mod Searching
 pub mod ArrayKeys

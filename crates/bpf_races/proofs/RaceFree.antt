@@ -36,7 +36,7 @@ and_turned true false h = refl
 and_turned false true h = refl
 and_turned false false h = refl
 
-turned : (z : World) (one other : Stand) (b : ℕ) → IsRace z one other b → IsRace z other one b
+pub turned : (z : World) (one other : Stand) (b : ℕ) → IsRace z one other b → IsRace z other one b
 turned z one other b race = record {
   apart = λ e. race.apart (sym e);
   first = race.second;

@@ -4,21 +4,26 @@ use Rattle.bpf_machine.specs.Machine.{MachineState}
 use Rattle.bpf_machine.specs.Race.{IsRaceKept}
 use Rattle.bpf_machine.specs.Schedule.{World}
 use Rattle.bpf_shared.specs.Store.{Plain}
-use Rattle.bpf_alike.specs.Covers.{AlikeRacesAreKept, AlikeSetsHaveTurns}
 use Rattle.bpf_alike.specs.Patient.{AlikePatientRacesAreKept, AlikePatientSetsHaveTurns}
+use Rattle.bpf_equal.specs.Covers.{PermutedSetsHaveTurns}
+use Rattle.bpf_equal.specs.declared.peers.Peer.{Peer}
+use Rattle.bpf_equal.specs.Races.{PermutedRacesAreKept}
 use Rattle.bpf_races.specs.declared.found.Pair.{Pair}
 use Rattle.bpf_races.specs.declared.sync.Part.{Part}
-use Rattle.bpf_races.specs.Races.{RaceFound, HaveAllRaces, AreRaces, IsTold}
+use Rattle.bpf_races.specs.Races.{RaceFound, AreOnce, HaveAllRaces, AreRaces, IsTold}
 use Rattle.bpf_races.proofs.RaceFree.{free_parts, is_race_free_so}
 use Rattle.bpf_x86.specs.Laws.{FirstsFit, TurningRaceFreeIsSame}
 use Rattle.bpf_races.specs.Parts.{IsLeftOut}
 use Rattle.bpf_explore.specs.Album.{BeginsAt, AreApart, AreLed}
-use Rattle.bpf_explore.specs.Search.{CameTo, Alike, Richly, is_whole, is_refused}
+use Rattle.bpf_explore.specs.Search.{CameTo, Permuted, Richly, is_whole, is_refused}
 use Rattle.bpf_explore.specs.declared.frontier.Extent.{Extent}
 use Rattle.bpf_explore.specs.declared.frontier.Extent.TheVariants.{Whole}
 use Rattle.bpf_explore.proofs.ExploreLaws.{whole_of, limited_of, not_whole}
 use Rattle.bpf_explore.proofs.TrailLaws.{are_reached}
+use Rattle.bpf_races.specs.Private.Exchanging.{AreAllBy, AreClosed, Grows}
 use Rattle.bpf_races.specs.Private.Searching.{Gathered, AreListedAt}
+use Rattle.bpf_races.proofs.ExchangingLaws.{grows_keeps, told_elsewhere}
+use Rattle.bpf_races.proofs.GatherLaws.{at_still}
 
 -- a race in what a kept machine shows is printed
 kept_listed : (kept : List MachineState) (races : List RaceFound) (sync : List Part) → ((i : ℕ) → AreListedAt kept races sync i) →
@@ -28,7 +33,7 @@ kept_listed kept races sync listed z pair b order (v, (i, m, at, shows), store, 
     (λ (s : Plain). IsTold races s pair b ⊎ IsLeftOut sync b) store (listed i m at v shows pair b order race)
 
 module _ (kept : List MachineState) (w : World) (sync : List Part) (races : List RaceFound) (extent : Extent) (limit : ℕ)
-    (whole refused told all : Bool) (fits : FirstsFit w.programs) (begins : BeginsAt kept w) (gathered : Gathered kept sync races)
+    (whole refused told all : Bool) (fits : FirstsFit w.programs) (begins : BeginsAt kept w) (by_itself : AreAllBy w sync races) (once : AreOnce races)
     (listed : told ≡ true → (i : ℕ) → AreListedAt kept races sync i) (joined : all ≡ true → (whole ≡ true) × (told ≡ true))
     (is_so : whole ≡ is_whole extent) (cut : refused ≡ is_refused extent) where
   whole_then : whole ≡ true → extent ≡ Whole
@@ -41,12 +46,12 @@ module _ (kept : List MachineState) (w : World) (sync : List Part) (races : List
       cc
   cut_short false h is = refl
 
-  pub are_races : AlikeRacesAreKept → AlikeSetsHaveTurns → TurningRaceFreeIsSame → CameTo Alike kept extent limit → AreLed kept → AreApart
-      kept → told ≡ true → (all ≡ false → (whole ≡ false) ⊎ (told ≡ false))
+  pub are_races : PermutedRacesAreKept → PermutedSetsHaveTurns → TurningRaceFreeIsSame → (peers : List Peer) → AreClosed peers races
+      → CameTo (Permuted peers) kept extent limit → AreLed kept → AreApart kept → told ≡ true → (all ≡ false → (whole ≡ false) ⊎ (told ≡ false))
       → AreRaces false w sync races all refused limit
-  are_races law turns x86 came led apart sure split = record {
+  are_races law turns x86 peers closed came led apart sure split = record {
     same = λ free. (let whole_it = (free_parts sync races all free).0 in
-        x86 false w fits begins.0 (λ schedule z runs c. turns kept w z schedule c (came.whole (whole_then (joined whole_it).0)) begins.0
+        x86 false w fits begins.0 (λ schedule z runs c. turns peers kept w z schedule c (came.whole (whole_then (joined whole_it).0)) begins.0
         (0, begins.1.0, begins.1.1, begins.1.2) runs) (is_race_free_so false w sync races all complete free));
     met = λ exact is uncut. (
       length kept,
@@ -57,15 +62,15 @@ module _ (kept : List MachineState) (w : World) (sync : List Part) (races : List
       ],
     );
     short = cut_short all (λ is. (joined is).0);
-    each = λ race there. gathered.each race there w begins.1;
-    once = gathered.once;
+    each = by_itself;
+    once = once;
     complete = complete;
   }
     where
       complete : all ≡ true → HaveAllRaces false w sync races
       complete is schedule z runs pair b order race =
-          kept_listed kept races sync (listed (joined is).1) z pair b order
-          (law kept w z schedule (came.whole (whole_then (joined is).0)) begins.0 (0, begins.1.0, begins.1.1, begins.1.2) runs pair.one
+          told_elsewhere peers kept races sync (listed (joined is).1) closed z pair b order race.apart
+          (law peers kept w z schedule (came.whole (whole_then (joined is).0)) begins.0 (0, begins.1.0, begins.1.1, begins.1.2) runs pair.one
           pair.other b race)
 
   pub are_races_patiently : AlikePatientRacesAreKept → AlikePatientSetsHaveTurns → TurningRaceFreeIsSame → CameTo Richly kept extent limit →
@@ -76,8 +81,8 @@ module _ (kept : List MachineState) (w : World) (sync : List Part) (races : List
         (0, begins.1.0, begins.1.1, begins.1.2) runs none) (is_race_free_so true w sync races all complete free));
     met = λ exact. cc;
     short = cut_short all (λ is. (joined is).0);
-    each = λ race there. gathered.each race there w begins.1;
-    once = gathered.once;
+    each = by_itself;
+    once = once;
     complete = complete;
   }
     where
@@ -86,3 +91,12 @@ module _ (kept : List MachineState) (w : World) (sync : List Part) (races : List
           kept_listed kept races sync (listed (joined is).1) z pair b order
           (law kept w z schedule (came.whole (whole_then (joined is).0)) begins.0 (0, begins.1.0, begins.1.1, begins.1.2) runs none
           pair.one pair.other b race)
+
+-- ---- races that are gathered, and those with equal CPUs exchanged
+pub all_by : (kept : List MachineState) (sync : List Part) (races : List RaceFound) (w : World) → Gathered kept sync races → BeginsAt kept w
+    → AreAllBy w sync races
+all_by kept sync races w gathered begins race there = gathered.each race there w begins.1
+
+pub still_listed : (peers : List Peer) (kept : List MachineState) (sync : List Part) (old new : List RaceFound) → Grows peers old new
+    → ((i : ℕ) → AreListedAt kept old sync i) → (i : ℕ) → AreListedAt kept new sync i
+still_listed peers kept sync old new grows listed i = at_still kept old new sync i (grows_keeps peers old new grows) (listed i)

@@ -4,3 +4,4 @@ pub mod Clashes
 pub mod Parts
 pub mod Searching
 pub mod Within
+pub mod Exchanging

@@ -47,7 +47,7 @@ fn copy_key(alloc: Global, key: &Option<Vec<u8>>) -> Result<Option<Vec<u8>>, All
 }
 
 /// A copy of a race, with this schedule.
-fn with_way(alloc: Global, race: &Race, by: Vec<(u8, u64)>) -> Result<Race, AllocError>
+pub(crate) fn with_way(alloc: Global, race: &Race, by: Vec<(u8, u64)>) -> Result<Race, AllocError>
     ensures { IfOk result (λ new. new ≡ record race.now { by = by.items }) }
 {
     let key = copy_key(alloc, &race.key)?;

@@ -3,6 +3,7 @@
 
 mod access;
 mod clash;
+mod exchanging;
 mod found;
 mod gathering;
 pub mod laws;

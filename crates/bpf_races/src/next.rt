@@ -146,7 +146,7 @@ pub(crate) fn copy_bytes(alloc: Global, bytes: &[u8]) -> Result<Vec<u8>, AllocEr
     Ok(copy)
 }
 
-/// Tells what CPUs' next steps touch.
+/// Finds what CPUs' next steps touch.
 #[derive(Drop)]
 pub struct Watcher {
     alloc: Global,

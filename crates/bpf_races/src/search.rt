@@ -5,10 +5,11 @@ ghost use Rattle.bpf_cpu.specs.Setup.{IsRunnable};
 ghost use Rattle.bpf_machine.specs.Schedule.{World};
 ghost use Rattle.bpf_jobs.specs.Printed.{first_of};
 ghost use Rattle.bpf_explore.specs.Album.{BeginsAt};
-ghost use Rattle.bpf_explore.specs.Search.{CameTo, Alike, Richly};
+ghost use Rattle.bpf_explore.specs.Search.{CameTo, Permuted, Richly};
 ghost use Rattle.bpf_x86.specs.Laws.{FirstsFit};
 ghost use Rattle.bpf_races.specs.Races.{AreRaces};
 
+use crate::exchanging::exchange_races;
 use crate::found::Race;
 use crate::gathering::{both, gather_races};
 use crate::next::Watcher;
@@ -16,7 +17,8 @@ use crate::sync::Part;
 use bpf_alike::Merged;
 use bpf_cpu::Setup;
 use bpf_explore::{
-    Crew, Explorer, Extent, Observer, PatientExplorer, Scope, explore, patient_search_of, search_of,
+    Crew, Extent, Observer, PatientExplorer, PermutedExplorer, Scope, explore, patient_search_of,
+    permuted_search_of,
 };
 use bpf_plain::copy_shape;
 use bpf_shared::StoreShape;
@@ -39,13 +41,17 @@ fn make_watcher(alloc: Global, shape: &StoreShape) -> Result<Watcher, AllocError
     Watcher::new(alloc, copy)
 }
 
-/// A search that begins with the machine of jobs, and one for its machines.
-fn begin(alloc: Global, setup: Setup, merged: Merged) -> Result<(Watcher, Explorer), AllocError>
+/// A search that begins with the machine of jobs, and what watches its machines.
+fn begin(
+    alloc: Global,
+    setup: Setup,
+    merged: Merged,
+) -> Result<(Watcher, PermutedExplorer), AllocError>
     requires { IsRunnable setup }
-    ensures { IfOk result (λ r. BeginsAt r.1.kept (first_of setup)) }
+    ensures { IfOk result (λ r. BeginsAt r.1.found.kept (first_of setup)) }
 {
     let watcher = make_watcher(alloc, &setup.shape)?;
-    let explorer = search_of(alloc, setup, merged)?;
+    let explorer = permuted_search_of(alloc, setup, merged)?;
     Ok((watcher, explorer))
 }
 
@@ -63,25 +69,28 @@ fn begin_patiently(
     Ok((watcher, explorer))
 }
 
-/// The races of the machines that a search keeps which came this far.
+/// The races of the machines that a search keeps which came this far, and those with equal CPUs
+/// exchanged.
 fn conclude(
     alloc: Global,
-    explorer: &mut Explorer,
+    explorer: PermutedExplorer,
     watcher: &mut Watcher,
     sync: &[Part],
     extent: Extent,
 ) -> Result<Races, AllocError>
     ensures { IfOk result (λ r. (w : World) (limit : ℕ) → FirstsFit w.programs
-        → BeginsAt explorer.old.kept w
-        → CameTo Alike explorer.old.kept extent limit
+        → BeginsAt explorer.found.kept w
+        → CameTo (Permuted explorer.peers) explorer.found.kept extent limit
         → AreRaces false w sync.now r.list.items r.all r.refused limit) }
 {
-    bpf_alike::laws::alike_races_are_kept();
-    bpf_alike::laws::alike_sets_have_turns();
+    bpf_equal::laws::permuted_races_are_kept();
+    bpf_equal::laws::permuted_sets_have_turns();
     bpf_x86::laws::turning_race_free_is_same();
-    explorer.leads();
-    explorer.apart();
-    let (list, listed) = gather_races(alloc, explorer, watcher, sync)?;
+    let (mut found, peers) = explorer.into_parts();
+    found.leads();
+    found.apart();
+    let (mut list, listed) = gather_races(alloc, &mut found, watcher, sync)?;
+    exchange_races(alloc, &peers, &mut list)?;
     let all = both(extent.is_whole(), listed);
     Ok(Races {
         list,
@@ -118,7 +127,9 @@ fn conclude_patiently(
 /// Searches through all schedules of jobs over a new store, until no state is new, more are kept than
 /// the limit or memory is refused to the search, for races at bytes that aren't left out.
 /// Refused means out of memory before or after it; cases that never come count as such, but no
-/// contract rules them out. The observer learns meanwhile how far the search is.
+/// contract rules them out. The observer learns meanwhile how far the search is. Where states are merged,
+/// machines that differ only in which of several equal CPUs is how far count as one, and each race is
+/// found with these exchanged too.
 pub fn find_races<C: Crew, O: Observer>(
     alloc: Global,
     setup: Setup,
@@ -134,7 +145,7 @@ pub fn find_races<C: Crew, O: Observer>(
     bpf_x86::firsts_fit(&setup.programs);
     let (mut watcher, mut explorer) = begin(alloc, setup, scope.merged)?;
     let extent = explore(&mut explorer, scope.crew, scope.limit, observer);
-    conclude(alloc, &mut explorer, &mut watcher, sync, extent)
+    conclude(alloc, explorer, &mut watcher, sync, extent)
 }
 
 /// Searches likewise through what schedules lead to while no job runs out of budget: machines that

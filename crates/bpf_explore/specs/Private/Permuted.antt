@@ -4,13 +4,8 @@ use Rattle.bpf_live.specs.Live.{Table}
 use Rattle.bpf_machine.specs.Machine.{MachineState}
 use Rattle.bpf_alike.specs.Worlds.{AreLiveTables, table_at}
 use Rattle.bpf_equal.specs.declared.peers.Peer.{Peer}
-use Rattle.bpf_explore.specs.Album.{AlbumState, Stock}
+use Rattle.bpf_explore.specs.Album.{Stock}
 use Rattle.bpf_explore.specs.Private.Peers.{FitPeers}
-
--- what is found, and which jobs are equal
-pub record PermutedState : Type 0 where
-  pub found : AlbumState
-  pub peers : List Peer
 
 -- the equal jobs are those of what is kept, and the tables are right for its programs
 pub record AreTwins (stock : Stock) (kept : List MachineState) (peers : List Peer)

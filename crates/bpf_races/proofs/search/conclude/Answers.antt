@@ -1,12 +1,30 @@
-use Rattle.std.proofs.Common.{refl}
-use Rattle.bpf_races.proofs.Searching.{are_races}
+use Rattle.std.proofs.Common.{◌≡◌, ◌∙◌, List, refl, sym, subst}
+use Rattle.bpf_equal.specs.declared.peers.Peer.{Peer}
+use Rattle.bpf_equal.specs.Races.{StaysExchanged}
+use Rattle.bpf_explore.specs.Album.{AlbumState, BeginsAt}
+use Rattle.bpf_explore.specs.Search.{CameTo, Permuted}
+use Rattle.bpf_races.proofs.Searching.{all_by, are_races, still_listed}
 use Rattle.bpf_races.proofs.search.conclude.Goals as goal
 
 pub returns : goal.returns
 returns c w limit fits begins came =
+    let own = c.args.explorer in
+    let sync = c.args.sync.now in
+    let extent = c.args.extent in
+    let parts = c.into_parts-found.ensures in
+    let found = c.into_parts-found.result.0 in
+    let peers = c.deref.result.now in
+    let are : peers ≡ own.peers = c.deref.ensures.value ∙ parts.peers in
+    let first = subst (λ (a : AlbumState). BeginsAt a.kept w) (sym parts.found) begins in
+    let stays = subst (λ (ps : List Peer). StaysExchanged ps w) (sym are) (parts.stays w begins) in
+    let came_so = subst (λ (ps : List Peer). CameTo (Permuted ps) found.kept extent limit) (sym are)
+    (subst (λ (a : AlbumState). CameTo (Permuted own.peers) a.kept extent limit) (sym parts.found) came) in
     let listed = c.in_ok-list.ensures in
-    are_races c.args.explorer.now.kept w c.args.sync.now c.in_ok-list.list.items c.args.extent limit c.is_whole.result c.is_refused.result
-    c.in_ok-list.listed c.both-all.result fits begins
-    listed.gathered listed.listed c.both-all.ensures.both c.is_whole.ensures c.is_refused.ensures c.alike_races_are_kept.ensures
-    c.alike_sets_have_turns.ensures c.turning_race_free_is_same.ensures came c.leads.ensures c.apart.ensures (listed.exact refl)
-    c.both-all.ensures.not
+    let old = c.in_ok-list.list.items in
+    let new = c.exchange_races.new.races.items in
+    let grows = c.in_ok-exchange_races.ensures.grows in
+    are_races found.kept w sync new extent limit c.is_whole.result c.is_refused.result c.in_ok-list.listed c.both-all.result fits first
+    (grows.each w sync stays (all_by found.kept sync old w listed.gathered first)) (grows.once listed.gathered.once)
+    (λ is. still_listed peers found.kept sync old new grows (listed.listed is)) c.both-all.ensures.both c.is_whole.ensures c.is_refused.ensures
+    c.permuted_races_are_kept.ensures c.permuted_sets_have_turns.ensures c.turning_race_free_is_same.ensures peers
+    c.in_ok-exchange_races.ensures.closed came_so c.leads.ensures c.apart.ensures (listed.exact refl) c.both-all.ensures.not

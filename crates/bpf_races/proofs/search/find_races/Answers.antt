@@ -3,7 +3,7 @@ use Rattle.std.proofs.lemmas.Result.{IfOk-weaker}
 use Rattle.bpf_machine.specs.Schedule.{World}
 use Rattle.bpf_jobs.specs.Printed.{first_of}
 use Rattle.bpf_explore.specs.Album.{BeginsAt}
-use Rattle.bpf_explore.specs.Search.{CameTo, Alike}
+use Rattle.bpf_explore.specs.Search.{CameTo, Permuted}
 use Rattle.bpf_explore.proofs.ExploreLaws.{still_begins}
 use Rattle.bpf_x86.specs.Laws.{FirstsFit}
 use Rattle.bpf_races.specs.declared.search.Races.{Races}
@@ -16,11 +16,13 @@ returns g c =
     let sync = c.args.sync.now in
     let limit = c.args.scope.limit in
     let fits : FirstsFit w.programs = subst FirstsFit c.deref.ensures.value c.firsts_fit.ensures in
-    let kept = c.explore-extent.new.frontier.kept in
+    let kept = c.explore-extent.new.frontier.found.kept in
+    let peers = c.explore-extent.new.frontier.peers in
     let extent = c.explore-extent.result in
     let searched = c.explore-extent.ensures in
-    let begins : BeginsAt kept w = still_begins c.in_ok-watcher.explorer.kept kept w c.in_ok-watcher.ensures searched.extends in
-    let came : CameTo Alike kept extent limit = record { whole = searched.whole; covers = searched.covers; met = searched.met; short = searched.short } in
-    IfOk-weaker c.conclude.result (λ (r : Races). (v : World) (n : ℕ) → FirstsFit v.programs → BeginsAt kept v → CameTo Alike kept extent n
+    let begins : BeginsAt kept w = still_begins c.in_ok-watcher.explorer.found.kept kept w c.in_ok-watcher.ensures searched.extends in
+    let came : CameTo (Permuted peers) kept extent limit = record
+    { whole = searched.whole; covers = searched.covers; met = searched.met; short = searched.short } in
+    IfOk-weaker c.conclude.result (λ (r : Races). (v : World) (n : ℕ) → FirstsFit v.programs → BeginsAt kept v → CameTo (Permuted peers) kept extent n
     → AreRaces false v sync r.list.items r.all r.refused n) (λ (r : Races). AreRaces false w sync r.list.items r.all r.refused limit)
     (λ r found. found w limit fits begins came) c.conclude.ensures

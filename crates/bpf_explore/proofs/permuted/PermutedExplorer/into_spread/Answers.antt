@@ -1,7 +1,7 @@
 use Rattle.std.proofs.Common.{◌∙◌, Vec, Global, ap, subst}
 use Rattle.bpf_equal.specs.declared.peers.Peer.{Peer}
 use Rattle.bpf_explore.specs.Private.Peers.{FitPeers}
-use Rattle.bpf_explore.specs.Private.Permuted.{PermutedState}
+use Rattle.bpf_explore.specs.Album.{PermutedState}
 use Rattle.bpf_explore.proofs.permuted.PermutedExplorer.into_spread.Goals as goal
 
 pub returns-clause-spread : goal.returns-clause-spread

@@ -1,6 +1,6 @@
 use Rattle.std.proofs.Common.{◌∙◌, ap, subst}
 use Rattle.bpf_explore.specs.Search.{IsIdleAt}
-use Rattle.bpf_explore.specs.Private.Permuted.{PermutedState}
+use Rattle.bpf_explore.specs.Album.{PermutedState}
 use Rattle.bpf_explore.proofs.permuted.PermutedExplorerFrontier.cpus.Goals as goal
 
 pub returns-clause-width : goal.returns-clause-width

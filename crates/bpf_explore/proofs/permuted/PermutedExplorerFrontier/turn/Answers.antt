@@ -1,8 +1,7 @@
 use Rattle.std.proofs.Common.{◌≡◌, ◌<◌, ℕ, List, Vec, Global, false, length, ap, sym, subst, arith}
 use Rattle.bpf_machine.specs.Machine.{MachineState}
-use Rattle.bpf_explore.specs.Album.{IsNumbered}
+use Rattle.bpf_explore.specs.Album.{IsNumbered, PermutedState}
 use Rattle.bpf_explore.specs.Scouts.{IsTurnAhead}
-use Rattle.bpf_explore.specs.Private.Permuted.{PermutedState}
 use Rattle.bpf_equal.specs.declared.peers.Peer.{Peer}
 use Rattle.bpf_explore.specs.Search.{IsIdleAt, IsTurned, Permuted}
 use Rattle.bpf_explore.proofs.SearchLaws.{idle_turned}
