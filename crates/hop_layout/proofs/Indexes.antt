@@ -1,10 +1,12 @@
 -- In closed form, for the code that computes where a word is.
 use Rattle.std.proofs.Common.{sym, [], ◌++◌, Some, ◌≡◌, ℕ, zero, suc, ◌+◌, ◌*◌, ◌<◌, true, ◌&&◌, List, ◌∷◌, length, ap, ◌∙◌, arith, nat_lt}
+use Rattle.std.specs.Prelude.{slice_get}
+use Rattle.std.proofs.Math.ListN.{set}
 use Rattle.std.proofs.lemmas.Bool.Decides.{nat_tests}
 use Rattle.std.proofs.lemmas.Bool.{and_parts}
 use native.Mathlib.Decide.{dec_lt}
 use mathlib.Core.Logic.{dite}
-use Rattle.bpf_base.proofs.Lists.{slice_get-append, slice_get-front}
+use Rattle.bpf_base.proofs.Lists.{slice_get-append, slice_get-front, slice_get-set_other, slice_get-set_same}
 use Rattle.hop_layout.specs.declared.index.Bases.{Bases}
 use Rattle.hop_layout.specs.Private.Index.{bases, bases_from, end_from, AreBases, AreArrayBases}
 use Rattle.bpf_shared.specs.declared.shapes.MapShape.{MapShape}
@@ -138,10 +140,12 @@ end_at h m start e =
     ∙ (sym (at_next h m) ∙ ap (λ (n : ℕ). at h (KeyCount n)) (let z : suc m ≡ m + 1 = omega arith in z))
 
 -- one map more
-pub one_more : (h : Shape) (n : ℕ) (bs : List Bases) (b : Bases) → length bs ≡ n → b ≡ bases h n → AreBases h n bs → AreBases h (n + 1) (bs ++ b ∷ [])
-one_more h n bs b len is old m less = dite (dec_lt m n)
-    (λ (l : m < n). slice_get-front bs (b ∷ []) m (omega arith) ∙ old m l)
-    (λ nl. let e : m ≡ n = grind arith in slice_get-append bs (b ∷ []) 0 m (omega arith) ∙ (ap Some is ∙ ap (λ (k : ℕ). Some (bases h k)) (sym e)))
+pub one_more : (h : Shape) (n : ℕ) (bs : List Bases) (b : Bases) → n < length bs → b ≡ bases h n → AreBases h n bs → AreBases h (n + 1) (set bs n b)
+one_more h n bs b room is old m less = dite (dec_lt m n)
+    (λ (l : m < n). slice_get-set_other bs n m b (λ e. omega arith) ∙ old m l)
+    (λ nl.
+    let e : m ≡ n = grind arith in
+    ap (slice_get (set bs n b)) e ∙ (slice_get-set_same bs n b room ∙ (ap Some is ∙ ap (λ (k : ℕ). Some (bases h k)) (sym e))))
 
 -- one array more
 pub one_array_more : (h : Shape) (n : ℕ) (starts : List ℕ) (start : ℕ) → length starts ≡ n → start ≡ at h (FixedWord n 0) → AreArrayBases h

@@ -25,11 +25,24 @@ struct Bases {
     first: u32,
 }
 
+// Of no map.
+const NO_BASES: Bases = Bases {
+    start: 0,
+    segments: 0,
+    links: 0,
+    keys: 0,
+    values: 0,
+    key_words: 0,
+    value_words: 0,
+    first: 0,
+};
+
 /// Where the words of a store are. It is seen as what the store was given when it was made.
 #[derive(Drop)]
 pub struct Index {
     about: About,
-    maps: Vec<Bases>,
+    // by map, of which there are at most 16: in line, so that a base is one load
+    maps: [Bases; 16],
     arrays: Vec<u32>,
     words: usize,
 }
@@ -42,7 +55,7 @@ impl Model for Index {
 
     ghost view = { λ i. i.about };
 
-    ghost invariant = { λ i. IsIndex i.about.shape i.maps.items i.arrays.items i.words };
+    ghost invariant = { λ i. IsIndex i.about.shape i.maps i.arrays.items i.words };
 }
 
 // How many words are left of a line of eight after n.
@@ -192,11 +205,12 @@ impl Index {
     pub fn new(alloc: Global, about: About) -> Result<Index, AllocError>
         ensures { IfOk result (λ i. i ≡ about) }
     {
-        let mut maps = Vec::new(alloc);
+        let mut maps = [NO_BASES; 16];
         let mut start = 8 * u32::from(about.shape.cpus());
-        for shape in about.shape.maps() {
-            let (bases, end) = lay_out(start, shape);
-            maps.push(bases)?;
+        let shapes = about.shape.maps();
+        'maps: for map in 0..shapes.len() {
+            let (bases, end) = lay_out(start, &shapes[map]);
+            maps[map] = bases;
             start = end;
         }
         let (arrays, end) = lay_out_arrays(alloc, &about.shape, start)?;

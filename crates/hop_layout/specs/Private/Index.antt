@@ -1,5 +1,5 @@
 -- Where the words of each map begin, by their kinds, and those of each array.
-use Rattle.std.specs.Prelude.{◌≡◌, ℕ, ◌+◌, ◌*◌, ◌<◌, List, length, slice_get, Some}
+use Rattle.std.specs.Prelude.{◌≡◌, ℕ, ◌+◌, ◌*◌, ◌<◌, ◌≤◌, List, length, slice_get, Some}
 use Rattle.bpf_shared.specs.declared.shapes.MapShape.{MapShape}
 use Rattle.bpf_shared.specs.Shape.{Shape, elements}
 use Rattle.hop_layout.specs.declared.index.Bases.{Bases}
@@ -27,6 +27,7 @@ abbrev pub AreArrayBases : Shape → ℕ → List ℕ → Type 0
 AreArrayBases h n starts = (a : ℕ) → a < n → slice_get starts a ≡ Some (at h (FixedWord a 0))
 
 pub record IsIndex (h : Shape) (bs : List Bases) (starts : List ℕ) (words : ℕ) : Type 0 where
+  pub few : length h.maps ≤ 16
   pub each : AreBases h (length h.maps) bs
   pub arrays : AreArrayBases h (length h.arrays) starts
   pub whole : words ≡ size h
