@@ -130,6 +130,7 @@ fn has_bit(bits: u64, place: u32) -> bool
 
 // A free element among the 64 of a word, or none where each was seen not free. Each try clears a
 // bit of those that were set at each look.
+#[inline(always)]
 fn claim_in(lane: &mut Lane, table: &HopTable, map: u8, word: u32, count: u32) -> Option<Element>
     requires table { lane.old.table ≡ table.now.id }
     requires map { map < length table.now.about.shape.maps }

@@ -419,6 +419,7 @@ impl<'a> LockedWords<'a> {
     }
 
     /// A word of the segment that is born when this one splits.
+    #[inline(always)]
     pub(crate) fn read_beside(&mut self, place: Place) -> u64
         requires there { is_place self.old.about.shape place ≡ true }
         requires beside { IsGuardedBeside self.old.known place }
@@ -429,6 +430,7 @@ impl<'a> LockedWords<'a> {
     }
 
     /// Writes a word of that segment.
+    #[inline(always)]
     pub(crate) fn write_beside(&mut self, place: Place, number: u64)
         requires there { is_place self.old.about.shape place ≡ true }
         requires beside { IsWordBeside self.old.known place }
@@ -537,8 +539,9 @@ impl<'a> LockedWords<'a> {
         bytes
     }
 
-    /// The home of an element's key.
-    pub(crate) fn home_of_key(&mut self, element: u32) -> u32
+    // The home of an element's key of any size, out of line: who hashes one word clears no buffer.
+    #[inline(never)]
+    fn home_of_bytes(&mut self, element: u32) -> u32
         requires inside { element < elements_of (shape_at self.old.about self.old.map) }
         requires known { knows self.old.known self.old.map element ≡ true }
         ensures home { let g = shape_at self.old.about self.old.map in
@@ -552,6 +555,30 @@ impl<'a> LockedWords<'a> {
         let size = shape.key as usize;
         let bytes = self.key_bytes(element, size);
         home(&bytes[..size], seed, shape.mask)
+    }
+
+    /// The home of an element's key. A key of one whole word is hashed as it was read.
+    pub(crate) fn home_of_key(&mut self, element: u32) -> u32
+        requires inside { element < elements_of (shape_at self.old.about self.old.map) }
+        requires known { knows self.old.known self.old.map element ≡ true }
+        ensures home { let g = shape_at self.old.about self.old.map in
+            result ≡ home_of (spelled_key self.old.about self.old.map
+            (image self.old.about (lock_of self.old.known).copy) element)
+            self.old.about.seed g.mask }
+        ensures same { self.new ≡ self.old }
+    {
+        let shape = self.shape();
+        let seed = self.seed();
+        if shape.key == 8 {
+            let place = Place::KeyWord {
+                map: self.map,
+                element,
+                word: 0,
+            };
+            let bytes = self.read(place).to_le_bytes();
+            return home(&bytes, seed, shape.mask);
+        }
+        self.home_of_bytes(element)
     }
 }
 

@@ -9,6 +9,7 @@ use crate::places::place_at;
 use crate::words::SegWords;
 
 /// Puts an item so far after its home bucket.
+#[inline(always)]
 pub(crate) fn put_item<S: SegWords>(words: &mut S, bucket: usize, distance: usize, element: u32)
     requires bucket { bucket < 64 }
     requires near { distance < 32 }
@@ -21,6 +22,7 @@ pub(crate) fn put_item<S: SegWords>(words: &mut S, bucket: usize, distance: usiz
 }
 
 /// Takes away the item so far after the bucket.
+#[inline(always)]
 pub(crate) fn take_item<S: SegWords>(words: &mut S, bucket: usize, distance: usize)
     requires bucket { bucket < 64 }
     requires near { distance < 32 }

@@ -16,6 +16,7 @@ use std::marker::Brand;
 
 impl Lane {
     /// Reads a word of the segment that is born when the locked one splits.
+    #[inline(always)]
     pub fn read_beside(&mut self, table: &HopTable, place: Place) -> u64
         requires table { self.old.table ≡ table.now.id }
         requires there { is_place table.now.about.shape place ≡ true }
@@ -29,6 +30,7 @@ impl Lane {
     }
 
     /// Writes a word of the segment that is born when the locked one splits.
+    #[inline(always)]
     pub fn write_beside(&mut self, table: &HopTable, place: Place, number: u64)
         requires table { self.old.table ≡ table.now.id }
         requires there { is_place table.now.about.shape place ≡ true }
